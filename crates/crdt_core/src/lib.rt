@@ -1,0 +1,12 @@
+//! Objects, operations and values: what every kind of replicated data type is made of.
+#![tactic(auto)]
+
+mod kind;
+mod object;
+mod operation;
+mod value;
+
+pub use kind::Kind;
+pub use object::{Field, ObjectId};
+pub use operation::{Act, Op};
+pub use value::Value;

@@ -1,0 +1,51 @@
+ghost use Rattle.std.specs.Prelude.{◌≡◌, ◌++◌, [], ◌∷◌, OnOk, OnErr};
+
+use std::alloc::{AllocError, Global};
+use std::marker::Model;
+
+/// A list, which contracts see as the list of its members.
+#[derive(Debug, Drop)]
+pub struct ListOf<T> {
+    items: Vec<T>,
+}
+
+impl<T> Model for ListOf<T> {
+    ghost use Rattle.std.specs.Prelude.{List};
+
+    ghost Value = { List T };
+
+    ghost view = { λ l. l.items.items };
+}
+
+impl<T> ListOf<T> {
+    /// The empty list. Takes no memory.
+    pub fn new(alloc: Global) -> ListOf<T>
+        ensures { result ≡ [] }
+    {
+        ListOf {
+            items: Vec::new(alloc),
+        }
+    }
+
+    /// The members, in order.
+    pub fn as_slice(&self) -> &[T]
+        ensures { result.now ≡ self.now }
+    {
+        self.items.as_slice()
+    }
+}
+
+impl<T: Drop> ListOf<T> {
+    /// Adds a member at the end.
+    ///
+    /// # Errors
+    ///
+    /// `AllocError` where memory runs out. The list is as before then, and the member is dropped.
+    pub fn push(&mut self, x: T) -> Result<(), AllocError>
+        ensures ok { OnOk result (self.new ≡ self.old ++ x ∷ []) }
+        ensures err { OnErr result (self.new ≡ self.old) }
+    {
+        self.items.push(x)?;
+        Ok(())
+    }
+}

@@ -1,0 +1,21 @@
+/// A partition of a site. Sites and partitions are numbered from 1.
+#[derive(Clone, Copy, Debug, PartialEq, Eq, PartialOrd, Ord, Hash)]
+pub struct PartId {
+    pub site: u8,
+    pub part: u8,
+}
+
+/// A transaction: the partition where it began, and the time in ticks that was drawn for it there.
+#[derive(Clone, Copy, Debug, PartialEq, Eq, PartialOrd, Ord, Hash)]
+pub struct TxId {
+    pub site: u8,
+    pub part: u8,
+    pub time: u64,
+}
+
+/// One update of a transaction. Updates are numbered from 1.
+#[derive(Clone, Copy, Debug, PartialEq, Eq, PartialOrd, Ord, Hash)]
+pub struct Dot {
+    pub tx: TxId,
+    pub index: u16,
+}
