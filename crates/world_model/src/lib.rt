@@ -1,0 +1,8 @@
+//! The commands of a script and the steps that answer them: the model that a run of the store is checked against.
+#![tactic(auto)]
+
+mod command;
+mod step;
+
+pub use command::Command;
+pub use step::Step;
