@@ -52,8 +52,9 @@ Replies run (command.Begin name part) steps = (t : TxId) × (s : List ℕ) × (h
 Replies run (command.Read name o) steps = (value : Value) × (steps ≡ step.Value name o value ∷ [])
 Replies run (command.Update name o op) steps = (stamp : Option ℕ) × (is_some stamp ≡ is_stamped (reached o.kind op.path) op.act) × (steps ≡ step.Updated name o stamp ∷ [])
 Replies run (command.Commit name None) steps = Commits run name (transaction run name) steps
--- a commit that stops after some steps isn't built
+-- a commit that stops after some steps isn't built, nor are the other commands
 Replies run (command.Commit name (Some k)) steps = ⊥
+Replies run other steps = ⊥
 
 -- a refusal as the program shows it: those that aren't built yet have one line
 abbrev pub shown : Step → Step

@@ -86,6 +86,8 @@ refusals run (command.Commit name steps) =
     ∷ without_transaction run name
     ∷ (is_at_end run (transaction run name), step.TimeEnd)
     ∷ []
+-- the other commands aren't built yet
+refusals run other = (true, step.Unbuilt) ∷ []
 
 abbrev pub first_due : List (Bool × Step) → Option Step
 first_due [] = None
