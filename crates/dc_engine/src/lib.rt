@@ -4,6 +4,7 @@
 mod responder;
 mod sink;
 mod source;
+mod store;
 
 pub use sink::Sink;
 pub use source::{Failed, Source};
