@@ -1,1 +1,9 @@
+pub mod Confluence
+pub mod Fits
+pub mod History
+pub mod Kinds
+pub mod Law
+pub mod Placing
+pub mod Same
 pub mod Seen
+pub mod Stamps

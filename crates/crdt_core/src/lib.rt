@@ -1,11 +1,15 @@
 //! Objects, operations and values: what every kind of replicated data type is made of.
 #![tactic(auto)]
 
+mod crdt;
+mod error;
 mod kind;
 mod object;
 mod operation;
 mod value;
 
+pub use crdt::Crdt;
+pub use error::GenError;
 pub use kind::Kind;
 pub use object::{Field, ObjectId};
 pub use operation::{Act, Op};
