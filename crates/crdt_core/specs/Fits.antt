@@ -1,10 +1,11 @@
 -- Which operations a kind has.
-use Rattle.std.specs.Prelude.{ℕ, nat_le, Bool, true, false, ◌&&◌, List, [], ◌∷◌, length}
+use Rattle.std.specs.Prelude.{ℕ, nat_le, Bool, true, false, ◌&&◌, ◌||◌, List, [], ◌∷◌, length}
 use Rattle.crdt_core.specs.declared.kind.Kind.{Kind}
 use Rattle.crdt_core.specs.declared.kind.Kind.TheVariants.{CounterPn, CounterFat, SetGo, SetAw, SetRw, FlagEw, FlagDw, RegisterLww, RegisterMv, MapGo, MapRr}
 use Rattle.crdt_core.specs.declared.object.Field.{Field}
 use Rattle.crdt_core.specs.declared.operation.Act.{Act}
-use Rattle.crdt_core.specs.declared.operation.Act.TheVariants.{Increment, Decrement, Add, Remove, Reset, Enable, Disable, Assign, DropField}
+use Rattle.crdt_core.specs.declared.operation.Act.TheVariants.{Increment, Decrement, Add, Remove, Enable, Disable, DropField}
+use Rattle.crdt_core.specs.Seen.{is_reset, is_assign}
 
 -- the kinds of the fields of a map
 abbrev pub stands_in : Kind → Kind → Bool
@@ -18,36 +19,46 @@ stands_in MapRr RegisterMv = true
 stands_in MapRr MapRr = true
 stands_in _ k = false
 
+-- an act that names at least one element
 abbrev pub names_some : List (List ℕ) → Bool
 names_some [] = false
 names_some (x ∷ xs) = true
 
+abbrev pub is_amount : Act → Bool
+is_amount (Increment n) = true
+is_amount (Decrement n) = true
+is_amount _ = false
+
+abbrev pub is_add : Act → Bool
+is_add (Add xs) = names_some xs
+is_add _ = false
+
+abbrev pub is_remove : Act → Bool
+is_remove (Remove xs) = names_some xs
+is_remove _ = false
+
+abbrev pub is_switch : Act → Bool
+is_switch Enable = true
+is_switch Disable = true
+is_switch _ = false
+
+abbrev pub is_drop : Act → Bool
+is_drop (DropField f) = stands_in MapRr f.kind
+is_drop _ = false
+
 -- the acts of a kind
 abbrev pub allows : Kind → Act → Bool
-allows CounterPn (Increment n) = true
-allows CounterPn (Decrement n) = true
-allows CounterFat (Increment n) = true
-allows CounterFat (Decrement n) = true
-allows CounterFat Reset = true
-allows SetGo (Add xs) = names_some xs
-allows SetAw (Add xs) = names_some xs
-allows SetAw (Remove xs) = names_some xs
-allows SetAw Reset = true
-allows SetRw (Add xs) = names_some xs
-allows SetRw (Remove xs) = names_some xs
-allows SetRw Reset = true
-allows FlagEw Enable = true
-allows FlagEw Disable = true
-allows FlagEw Reset = true
-allows FlagDw Enable = true
-allows FlagDw Disable = true
-allows FlagDw Reset = true
-allows RegisterLww (Assign x) = true
-allows RegisterMv (Assign x) = true
-allows RegisterMv Reset = true
-allows MapRr (DropField f) = stands_in MapRr f.kind
-allows MapRr Reset = true
-allows _ a = false
+allows CounterPn a = is_amount a
+allows CounterFat a = is_amount a || is_reset a
+allows SetGo a = is_add a
+allows SetAw a = is_add a || (is_remove a || is_reset a)
+allows SetRw a = is_add a || (is_remove a || is_reset a)
+allows FlagEw a = is_switch a || is_reset a
+allows FlagDw a = is_switch a || is_reset a
+allows RegisterLww a = is_assign a
+allows RegisterMv a = is_assign a || is_reset a
+allows MapGo a = false
+allows MapRr a = is_drop a || is_reset a
 
 -- each field may stand in the map around it, and the act is one of what the path leads to
 abbrev pub leads_to : Kind → List Field → Act → Bool

@@ -5,7 +5,7 @@ use Rattle.site_vector.specs.declared.ids.Dot.{Dot}
 use Rattle.site_vector.specs.Ids.{same_dot}
 use Rattle.crdt_core.specs.declared.object.Field.{Field}
 use Rattle.crdt_core.specs.declared.operation.Act.{Act}
-use Rattle.crdt_core.specs.declared.operation.Act.TheVariants.{Reset}
+use Rattle.crdt_core.specs.declared.operation.Act.TheVariants.{Reset, Assign}
 
 pub record Update : Type 0 where
   -- its transaction, and its number there
@@ -30,6 +30,10 @@ has_dot us d = list_any (λ u. same_dot u.dot d) us
 abbrev pub is_reset : Act → Bool
 is_reset Reset = true
 is_reset _ = false
+
+abbrev pub is_assign : Act → Bool
+is_assign (Assign x) = true
+is_assign _ = false
 
 -- no reset of the list has seen it
 abbrev pub is_live : List Update → Update → Bool

@@ -2,18 +2,12 @@
 use Rattle.std.specs.Prelude.{ℕ, ◌+◌, ◌-◌, ◌^◌, max, min, Bool, true, false, ◌&&◌, List, [], ◌∷◌, filter, Option, Some, None, if◌then◌else◌}
 use Rattle.crdt_core.specs.declared.kind.Kind.{Kind}
 use Rattle.crdt_core.specs.declared.kind.Kind.TheVariants.{RegisterLww}
-use Rattle.crdt_core.specs.declared.operation.Act.{Act}
-use Rattle.crdt_core.specs.declared.operation.Act.TheVariants.{Assign}
 use Rattle.crdt_core.specs.Kinds.{same_kind, same_path, kind_at}
-use Rattle.crdt_core.specs.Seen.{Update, sees}
+use Rattle.crdt_core.specs.Seen.{Update, sees, is_assign}
 
 -- where stamps stay
 abbrev pub last_stamp : ℕ
 last_stamp = 2 ^ 63 - 1
-
-abbrev pub is_assign : Act → Bool
-is_assign (Assign x) = true
-is_assign _ = false
 
 abbrev pub one_more : Option ℕ → ℕ
 one_more None = 0
