@@ -3,6 +3,8 @@ pub mod Fits
 pub mod History
 pub mod Kinds
 pub mod Law
+pub mod Leaves
+pub mod Live
 pub mod Placing
 pub mod Same
 pub mod Seen
