@@ -1,3 +1,12 @@
 pub mod Seen
+pub mod Live
+pub mod Kinds
 pub mod Objects
 pub mod Placing
+pub mod Fits
+pub mod Same
+pub mod Stamps
+pub mod History
+pub mod Law
+pub mod Leaves
+pub mod Confluence

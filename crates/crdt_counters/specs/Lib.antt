@@ -1,0 +1,4 @@
+pub mod CounterPn
+pub mod Meaning
+pub mod PnLaw
+pub mod Totals

@@ -1,0 +1,7 @@
+//! Counters: one whose updates stay, and one whose updates a reset undoes.
+#![tactic(auto)]
+
+mod amounts;
+mod counter_pn;
+
+pub use counter_pn::CounterPn;
