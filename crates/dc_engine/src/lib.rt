@@ -2,6 +2,7 @@
 #![tactic(auto)]
 
 mod responder;
+mod sessions;
 mod sink;
 mod source;
 mod store;
