@@ -1,0 +1,9 @@
+//! The engine of the data centre: it plays a script from a source of bytes to a sink of bytes.
+#![tactic(auto)]
+
+mod responder;
+mod sink;
+mod source;
+
+pub use sink::Sink;
+pub use source::{Failed, Source};
