@@ -1,2 +1,5 @@
+pub mod Blocks
 pub mod Causes
+pub mod Lines
+pub mod Played
 pub mod Replies
