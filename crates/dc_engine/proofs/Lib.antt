@@ -1,3 +1,6 @@
+pub mod Lengths
 pub mod Moves
+pub mod Numbers
 pub mod Reading
 pub mod Takes
+pub mod Words

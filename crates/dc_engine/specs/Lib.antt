@@ -1,5 +1,6 @@
 pub mod Blocks
 pub mod Causes
+pub mod Grammar
 pub mod Lines
 pub mod Played
 pub mod Replies
