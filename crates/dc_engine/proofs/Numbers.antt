@@ -1,5 +1,5 @@
 -- The numbers that words spell.
-use Rattle.std.proofs.Common.{◌≡◌, ◌≢◌, ℕ, ◌+◌, ◌^◌, ◌<◌, ◌≤◌, ℤ, Bool, true, false, ◌&&◌, ◌==◌, nat_lt, cond, List, [], ◌∷◌, length, slice_index, Option, Some, None, Result, Ok, Err, option_and_then, codes, refl, ap, sym, ◌∙◌, subst, inl, inr, ◌⊎◌, lit<, arith}
+use Rattle.std.proofs.Common.{◌≡◌, ◌≢◌, ℕ, ◌^◌, ◌<◌, ◌≤◌, Bool, true, false, ◌&&◌, ◌==◌, nat_lt, List, [], ◌∷◌, slice_index, Some, None, Result, Ok, Err, option_and_then, codes, refl, ap, sym, ◌∙◌, inl, inr, ◌⊎◌, lit<, arith}
 use Rattle.std.specs.Fmt.{decimal}
 use Rattle.std.specs.Str.{bytes_eq}
 use Rattle.std.specs.Str.Parse.{digits_value, AllDigits, ParsesUnsigned}
@@ -26,10 +26,11 @@ number_cases word =
     let n = digits_value 10 word in
     let test : Bool = nat_lt n (2 ^ 48) && bytes_eq word (decimal n) in
     elim (cases_Bool test) [
-      inl passes ↦
-        let parts = and_parts (nat_lt n (2 ^ 48)) (bytes_eq word (decimal n)) passes in
-        inr (record { n = n; small = ltb-true n (2 ^ 48) parts.0; written = (bytes_eq-Decides word (decimal n)).0 parts.1; given = cond-true test (Some n) None passes })
-    | inr fails ↦ inl (cond-false test (Some n) None fails) ]
+      | inl passes ↦
+          let parts = and_parts (nat_lt n (2 ^ 48)) (bytes_eq word (decimal n)) passes in
+          inr (record { n = n; small = ltb-true n (2 ^ 48) parts.0; written = (bytes_eq-Decides word (decimal n)).0 parts.1; given = cond-true test (Some n) None passes })
+      | inr fails ↦ inl (cond-false test (Some n) None fails)
+    ]
 
 pub number_of-decimal : (word : List ℕ) → digits_value 10 word < 2 ^ 48 → word ≡ decimal (digits_value 10 word) → number_of word ≡ Some (digits_value 10 word)
 number_of-decimal word small e =
@@ -44,16 +45,19 @@ number_of-zero word e = rw e (number_of-decimal (codes "0") (lit< tt) (sym (deci
 pub number_of-odd : (word : List ℕ) → word ≢ codes "0" → slice_index word 0 < 49 → number_of word ≡ None
 number_of-odd word other low =
     elim (number_cases word) [
-      inl none ↦ none
-    | inr s ↦ elim (cases_eq s.n 0) [
-        inl z ↦ absurd (other (s.written ∙ ap decimal z ∙ decimal_digit 0 (lit< tt)))
-      | inr nz ↦ let high : 48 < slice_index word 0 = rw s.written (first_decimal s.n (omega arith) (omega arith)) in absurd (omega arith) ] ]
+      | inl none ↦ none
+      | inr s ↦ elim (cases_eq s.n 0) [
+        | inl z ↦ absurd (other (s.written ∙ ap decimal z ∙ decimal_digit 0 (lit< tt)))
+        | inr nz ↦ let high : 48 < slice_index word 0 = rw s.written (first_decimal s.n (omega arith) (omega arith)) in absurd (omega arith)
+      ]
+    ]
 
 pub number_of-err : {E : Type 0} (word : List ℕ) (r : Result ℕ E) (d : E) → ParsesUnsigned 64 10 word r → r ≡ Err d → number_of word ≡ None
 number_of-err word r d h e =
     elim (number_cases word) [
-      inl none ↦ none
-    | inr s ↦ let ok = parse-decimal 64 s.n word r (omega arith) (omega arith) s.written h in cc ]
+      | inl none ↦ none
+      | inr s ↦ let ok = parse-decimal 64 s.n word r (omega arith) (omega arith) s.written h in cc
+    ]
 
 read_back : {E : Type 0} (word : List ℕ) (r : Result ℕ E) (n : ℕ) → ParsesUnsigned 64 10 word r → r ≡ Ok n → 48 < slice_index word 0 → (n ≡ digits_value 10 word) × (word ≡ decimal (digits_value 10 word)) × (n < 2 ^ 64)
 read_back word r n h e high =
@@ -69,10 +73,10 @@ pub number_of-high : {E : Type 0} (word : List ℕ) (r : Result ℕ E) (n : ℕ)
 number_of-high word r n h e high large =
     let back = read_back word r n h e high in
     cond-false (nat_lt (digits_value 10 word) (2 ^ 48) && bytes_eq word (decimal (digits_value 10 word))) (Some (digits_value 10 word)) None
-      (let over : nat_lt (digits_value 10 word) (2 ^ 48) ≡ false = le-ltb (digits_value 10 word) (2 ^ 48) (omega arith) in rw over refl)
+    (let over : nat_lt (digits_value 10 word) (2 ^ 48) ≡ false = le-ltb (digits_value 10 word) (2 ^ 48) (omega arith) in rw over refl)
 
 pub integer_of-plain : (word : List ℕ) → ((rest : List ℕ) → word ≢ 45 ∷ rest) → integer_of word ≡ option_and_then amount_above (number_of word)
 integer_of-plain [] plain = rw (number_of-odd [] (λ e. cc) (lit< tt)) refl
 integer_of-plain (b ∷ word) plain =
     cond-false (b == 45) (option_and_then amount_below (number_of word)) (option_and_then amount_above (number_of (b ∷ word)))
-      (elim (cases_eq b 45) [ inl e ↦ absurd (plain word (ap (λ c. c ∷ word) e)) | inr ne ↦ grind (arith, nat_tests) ])
+    (elim (cases_eq b 45) [ inl e ↦ absurd (plain word (ap (λ c. c ∷ word) e)) | inr ne ↦ grind (arith, nat_tests) ])

@@ -1,9 +1,9 @@
 -- The words of a line, and its bytes.
-use Rattle.std.proofs.Common.{◌≡◌, ℕ, ◌+◌, ◌<◌, Bool, true, false, ◌==◌, ◌||◌, not, cond, List, [], ◌∷◌, length, slice_index, Option, Some, None, IfSome, IfNone, refl, ap, sym, ◌∙◌, zero, suc, lit<, arith}
+use Rattle.std.proofs.Common.{◌≡◌, ℕ, ◌+◌, ◌<◌, Bool, true, false, ◌==◌, ◌||◌, not, cond, List, [], ◌∷◌, length, slice_index, Option, Some, None, IfSome, IfNone, refl, ap, zero, suc, lit<, arith}
 use Rattle.std.specs.Option.{MatchOption}
-use Rattle.std.specs.List.{list_all, position_or_len, before_first, after_first, slice_split, onto_first}
+use Rattle.std.specs.List.{position_or_len, onto_first}
 use Rattle.std.specs.Str.{IsUtf8}
-use Rattle.std.proofs.lemmas.Bool.{and_parts, cases_Bool, cond-true}
+use Rattle.std.proofs.lemmas.Bool.{and_parts, cond-true}
 use Rattle.std.proofs.lemmas.Bool.Decides.{nat_tests}
 use Rattle.std.proofs.lemmas.List.Splits.{slice_split_first, length-slice_split}
 use Rattle.std.proofs.lemmas.Str.{IsUtf8-from_ascii}

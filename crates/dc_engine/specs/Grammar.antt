@@ -70,9 +70,9 @@ read_of other = None
 -- `increment INT` and `decrement INT`
 abbrev pub act_of : List ℕ → List ℕ → Option Act
 act_of act amount =
-  if bytes_eq act (codes "increment") then option_map Increment (integer_of amount)
-  else if bytes_eq act (codes "decrement") then option_map Decrement (integer_of amount)
-  else None
+    if bytes_eq act (codes "increment") then option_map Increment (integer_of amount)
+    else if bytes_eq act (codes "decrement") then option_map Decrement (integer_of amount)
+    else None
 
 abbrev pub update_with : List ℕ → Option ObjectId → Option Act → Option Command
 update_with name (Some object) (Some act) = Some (command.Update name object (record { path = []; act = act }))
@@ -92,14 +92,14 @@ commit_of other = None
 abbrev pub spelled : List (List ℕ) → Option Command
 spelled [] = None
 spelled (name ∷ words) =
-  if bytes_eq name (codes "cluster") then cluster_of words
-  else if bytes_eq name (codes "clock") then clock_of words
-  else if bytes_eq name (codes "session") then session_of words
-  else if bytes_eq name (codes "begin") then begin_of words
-  else if bytes_eq name (codes "read") then read_of words
-  else if bytes_eq name (codes "update") then update_of words
-  else if bytes_eq name (codes "commit") then commit_of words
-  else None
+    if bytes_eq name (codes "cluster") then cluster_of words
+    else if bytes_eq name (codes "clock") then clock_of words
+    else if bytes_eq name (codes "session") then session_of words
+    else if bytes_eq name (codes "begin") then begin_of words
+    else if bytes_eq name (codes "read") then read_of words
+    else if bytes_eq name (codes "update") then update_of words
+    else if bytes_eq name (codes "commit") then commit_of words
+    else None
 
 -- only bytes of bare words, and spaces
 abbrev pub is_plain : List ℕ → Bool

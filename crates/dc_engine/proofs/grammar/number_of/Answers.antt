@@ -1,4 +1,4 @@
-use Rattle.std.proofs.Common.{rules, ◌≡◌, ◌≢◌, ◌<◌, slice_index, codes, sym, arith}
+use Rattle.std.proofs.Common.{rules, ◌≡◌, ◌≢◌, codes, sym, arith}
 use Rattle.std.proofs.lemmas.Slice.Eq.{bytes_eq-Decides}
 use Rattle.dc_engine.proofs.Numbers.{number_of-zero, number_of-odd, number_of-ok, number_of-err}
 use Rattle.dc_engine.proofs.grammar.number_of.Goals as goal
