@@ -16,17 +16,19 @@ use Rattle.world_model.specs.declared.command.Command.TheVariants as command
 abbrev pub is_bare : ℕ → Bool
 is_bare b = is_ascii_alphanumeric b || b == 95 || b == 45 || b == 46
 
--- what stands between single spaces
+-- what stands between one space and the next: two spaces in a row have an empty word between them
 abbrev pub words_of : List ℕ → List (List ℕ)
 words_of line = slice_split (λ b. b == 32) line
 
+-- a word that names something has 1 to 256 bytes
 abbrev pub is_name : List ℕ → Bool
 is_name word = nat_lt 0 (length word) && nat_lt (length word) 257
 
--- the number below 2^48 whose decimal digits these are, the first of them no 0 but in `0`
+-- the number below 2^48 whose decimal digits, without a leading zero, these are
 abbrev pub number_of : List ℕ → Option ℕ
 number_of word = let n = digits_value 10 word in if nat_lt n (2 ^ 48) && bytes_eq word (decimal n) then Some n else None
 
+-- what a minus makes of it
 abbrev pub amount_below : ℕ → Option ℤ
 amount_below n = if nat_lt 0 n && nat_lt n (2 ^ 31 + 1) then Some (neg_ℤ (pos n)) else None
 
@@ -74,6 +76,7 @@ act_of act amount =
     else if bytes_eq act (codes "decrement") then option_map Decrement (integer_of amount)
     else None
 
+-- the update, where there are both an object and an act
 abbrev pub update_with : List ℕ → Option ObjectId → Option Act → Option Command
 update_with name (Some object) (Some act) = Some (command.Update name object (record { path = []; act = act }))
 update_with name object act = None

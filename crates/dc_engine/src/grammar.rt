@@ -8,8 +8,8 @@ use std::alloc::{AllocError, Global};
 use std::str;
 use world_model::Command;
 
-/// The clock's readings in a script are below this.
-const READINGS_END: u64 = 1 << 48;
+/// Numbers in a script are below this.
+const NUMBERS_END: u64 = 1 << 48;
 
 /// Whether the byte may stand in a bare word.
 fn is_bare(b: u8) -> bool
@@ -81,7 +81,7 @@ fn number_of(word: &str) -> Option<u64>
         return None;
     }
     match word.parse::<u64>() {
-        Ok(n) if n < READINGS_END => Some(n),
+        Ok(n) if n < NUMBERS_END => Some(n),
         _ => None,
     }
 }
@@ -299,5 +299,97 @@ pub(crate) fn command_of_line(alloc: Global, line: &[u8]) -> Result<Option<Comma
     match str::from_utf8(line) {
         Ok(text) => spelled(alloc, text),
         Err(_) => Ok(None),
+    }
+}
+
+#[cfg(test)]
+mod tests {
+    use super::command_of_line;
+    use std::test::Fail;
+
+    #[test]
+    fn reads_the_forms(rt: HostRuntime) -> Result<(), Fail> {
+        let cases = [
+            ("cluster 1 1", "Some(Cluster { sites: 1, parts: 1 })"),
+            (
+                "clock 1.1 281474976710655",
+                "Some(Clock { part: PartId { site: 1, part: 1 }, n: 281474976710655 })",
+            ),
+            (
+                "clock 1.1 0",
+                "Some(Clock { part: PartId { site: 1, part: 1 }, n: 0 })",
+            ),
+            (
+                "session a_b-c.D9 1",
+                "Some(Session { name: Text { text: \"a_b-c.D9\" }, site: 1 })",
+            ),
+            (
+                "begin a",
+                "Some(Begin { name: Text { text: \"a\" }, part: None })",
+            ),
+            (
+                "read a k counter_pn",
+                "Some(Read { name: Text { text: \"a\" }, object: ObjectId { bucket: Text { text: \"\" }, key: Text { text: \"k\" }, kind: CounterPn } })",
+            ),
+            (
+                "update a k counter_pn increment 2147483647",
+                "Some(Update { name: Text { text: \"a\" }, object: ObjectId { bucket: Text { text: \"\" }, key: Text { text: \"k\" }, kind: CounterPn }, op: Op { path: ListOf { items: [] }, act: Increment(2147483647) } })",
+            ),
+            (
+                "update a k counter_pn decrement -2147483648",
+                "Some(Update { name: Text { text: \"a\" }, object: ObjectId { bucket: Text { text: \"\" }, key: Text { text: \"k\" }, kind: CounterPn }, op: Op { path: ListOf { items: [] }, act: Decrement(-2147483648) } })",
+            ),
+            (
+                "commit a",
+                "Some(Commit { name: Text { text: \"a\" }, steps: None })",
+            ),
+            ("", "None"),
+            ("begin", "None"),
+            ("begin ", "None"),
+            (" begin a", "None"),
+            ("begin  a", "None"),
+            ("begin a ", "None"),
+            ("begin\ta", "None"),
+            ("begin a\r", "None"),
+            ("begin a\0", "None"),
+            ("begin \"a\"", "None"),
+            ("begin \u{e9}", "None"),
+            ("begin a 1.1", "None"),
+            ("Begin a", "None"),
+            ("cluster 1 2", "None"),
+            ("clock 1.2 5", "None"),
+            ("clock 1.1 281474976710656", "None"),
+            ("clock 1.1 18446744073709551621", "None"),
+            ("clock 1.1 05", "None"),
+            ("clock 1.1 +5", "None"),
+            ("clock 1.1 -5", "None"),
+            ("session a 2", "None"),
+            ("read a k set_aw", "None"),
+            ("update a k counter_pn increment 2147483648", "None"),
+            ("update a k counter_pn decrement -2147483649", "None"),
+            ("update a k counter_pn increment -0", "None"),
+            ("update a k counter_pn increment -05", "None"),
+            ("update a k counter_pn increment --5", "None"),
+            ("update a k counter_pn reset", "None"),
+            ("commit a 1", "None"),
+        ];
+        for (line, want) in cases {
+            let command = command_of_line(rt.alloc(), line.as_bytes())?;
+            let text = format!(in rt.alloc(); "{command:?}")?;
+            assert_eq!(rt; text.as_str(), want, "at {line}");
+        }
+        Ok(())
+    }
+
+    #[test]
+    fn reads_names_of_up_to_256_bytes(rt: HostRuntime) -> Result<(), Fail> {
+        let mut line = String::from_str(rt.alloc(), "begin ")?;
+        for _ in 0..256 {
+            line.push('a')?;
+        }
+        assert!(rt; command_of_line(rt.alloc(), line.as_bytes())?.is_some());
+        line.push('a')?;
+        assert!(rt; command_of_line(rt.alloc(), line.as_bytes())?.is_none());
+        Ok(())
     }
 }
