@@ -4,3 +4,5 @@ pub mod Numbers
 pub mod Reading
 pub mod Takes
 pub mod Words
+pub mod Writing
+pub mod Progress

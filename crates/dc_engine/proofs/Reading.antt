@@ -86,3 +86,7 @@ ends_of bytes (Some at) f = record {
 pub no_end_of : (bytes : List ℕ) (r : Option ℕ) → IsFirstByte (is_byte 10) bytes r → IfNone r (HasNoEnd bytes)
 no_end_of bytes None f = subst HasNoEnd (take_all (length bytes) bytes (omega arith)) (no_end bytes (length bytes) (omega arith) (λ k lt e. f k (omega arith) lt (eq-eqb _ _ e)))
 no_end_of bytes (Some at) f = tt
+
+-- the lines whose LF was read stand first, whatever comes
+pub stands-first : (read more : List ℕ) (lines : List (List ℕ)) (pending : List ℕ) → Stands read lines pending → (later : List (List ℕ)) × (lines_of (read ++ more) ≡ lines ++ later)
+stands-first read more lines pending s = (prefixed pending (lines_of more), s.whole more)

@@ -1,5 +1,6 @@
 -- How a script is read block by block.
-use Rattle.std.specs.Prelude.{◌≡◌, ◌≢◌, ℕ, ◌+◌, ◌<◌, List, [], ◌∷◌, ◌++◌, length, take, drop, ⊤}
+use Rattle.std.specs.Prelude.{◌≡◌, ◌≢◌, ℕ, ◌+◌, ◌<◌, Bool, true, false, List, [], ◌∷◌, ◌++◌, length, take, drop, Option, ⊤}
+use Rattle.std.specs.Io.KnownBytes.{Appends, Consumes, IsAtEnd}
 use Rattle.dc_engine.specs.Lines.{onto, lines_of, onto_first, ended_lines}
 
 -- no byte is a LF
@@ -50,3 +51,50 @@ pub record MovesPart {M : Type 0} (reached : M → List (List ℕ) → List ℕ 
   pub new_kept : List ℕ
   pub split : fresh ≡ done ++ later
   pub moves : Moves reached old new done old_kept new_kept old_out new_out
+
+-- a front of the bytes was written
+abbrev pub AppendsPart : Option (List ℕ) → Option (List ℕ) → List ℕ → Type 0
+AppendsPart before after bytes = (n : ℕ) × Appends before after (take n bytes)
+
+-- fresh bytes lead from one state to another, and the replies were written
+pub record Writes {M : Type 0} (reached : M → List (List ℕ) → List ℕ → Type 0) (old new : M) (fresh old_kept new_kept : List ℕ) (before after : Option (List ℕ)) : Type 0 where
+  pub reply : List ℕ
+  pub to_sink : Appends before after reply
+  pub moved : (read bytes : List ℕ) → At reached old read old_kept bytes → At reached new (read ++ fresh) new_kept (bytes ++ reply)
+
+-- a front of the fresh bytes does, and a front of the replies was written
+pub record WritesPart {M : Type 0} (reached : M → List (List ℕ) → List ℕ → Type 0) (old : M) (fresh old_kept : List ℕ) (before after : Option (List ℕ)) : Type 0 where
+  pub new : M
+  pub done : List ℕ
+  pub later : List ℕ
+  pub new_kept : List ℕ
+  pub split : fresh ≡ done ++ later
+  pub reply : List ℕ
+  pub to_sink : AppendsPart before after reply
+  pub moved : (read bytes : List ℕ) → At reached old read old_kept bytes → At reached new (read ++ done) new_kept (bytes ++ reply)
+
+-- at the end of the input all lines are answered, and the last reply was written
+pub record Ends {M : Type 0} (reached : M → List (List ℕ) → List ℕ → Type 0) (old : M) (kept : List ℕ) (before after : Option (List ℕ)) : Type 0 where
+  pub new : M
+  pub reply : List ℕ
+  pub to_sink : Appends before after reply
+  pub moved : (read bytes : List ℕ) → At reached old read kept bytes → reached new (lines_of read) (bytes ++ reply)
+
+-- a state has answered the first lines of the bytes read
+pub record AnswersFirst {M : Type 0} (reached : M → List (List ℕ) → List ℕ → Type 0) (m : M) (read bytes : List ℕ) : Type 0 where
+  pub lines : List (List ℕ)
+  pub later : List (List ℕ)
+  pub split : lines_of read ≡ lines ++ later
+  pub replied : reached m lines bytes
+
+-- at the end of the input a front of the last reply was written
+pub record EndsPart {M : Type 0} (reached : M → List (List ℕ) → List ℕ → Type 0) (old : M) (kept : List ℕ) (before after : Option (List ℕ)) : Type 0 where
+  pub new : M
+  pub reply : List ℕ
+  pub to_sink : AppendsPart before after reply
+  pub moved : (read bytes : List ℕ) → At reached old read kept bytes → AnswersFirst reached new read (bytes ++ reply)
+
+-- one byte more was taken, or the end was met
+abbrev pub TakesOne : Option (List ℕ) → Option (List ℕ) → Bool → Type 0
+TakesOne left rest true = (next : ℕ) × Consumes left rest (next ∷ [])
+TakesOne left rest false = Consumes left rest [] × IsAtEnd rest
