@@ -5,4 +5,5 @@ pub mod Lines
 pub mod Played
 pub mod Replies
 pub mod Stored
-pub mod Kept
+pub mod Machine
+pub mod SessionTable

@@ -6,6 +6,7 @@ mod fault;
 mod grammar;
 mod kept;
 mod lines;
+mod machine;
 mod responder;
 mod sessions;
 mod sink;

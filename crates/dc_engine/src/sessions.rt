@@ -1,6 +1,6 @@
 ghost use Rattle.std.specs.Prelude.{◌≡◌, ◌++◌, ◌∷◌, [], ℕ, ◌+◌, List, Option, Some, None, OnOk, IfOk, length, is_some, true, if◌then◌else◌};
 ghost use Rattle.std.specs.Str.{bytes_eq};
-ghost use Rattle.dc_engine.specs.Kept.{session};
+ghost use Rattle.dc_engine.specs.SessionTable.{session};
 ghost use Rattle.dc_engine.specs.declared.sessions.Change.{Change};
 
 use crdt_core::ObjectId;
