@@ -2,3 +2,4 @@ pub mod Entries
 pub mod Ids
 pub mod Order
 pub mod Vector
+pub mod VectorLaws
