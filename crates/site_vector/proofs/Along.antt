@@ -1,5 +1,5 @@
 -- Going along two vectors entry by entry, and the zeros past their width.
-use Rattle.std.proofs.Common.{◌≡◌, ℕ, zero, suc, ◌+◌, ◌-◌, ◌<◌, ◌≤◌, max, min, List, [], ◌∷◌, ◌++◌, length, get_or, set, take, drop, replicate, refl, sym, ap, subst, ◌∙◌, add-one, take_all, arith}
+use Rattle.std.proofs.Common.{◌≡◌, ℕ, zero, suc, ◌+◌, ◌-◌, ◌<◌, ◌≤◌, max, min, List, [], ◌∷◌, ◌++◌, length, get_or, set, take, drop, replicate, refl, sym, ap, ◌∙◌, add-one, take_all, arith}
 use Rattle.std.proofs.lemmas.List.{length-take-le, take_more_set}
 use Rattle.site_vector.specs.Vector.{join, meet}
 use Rattle.site_vector.specs.Entries.{IsPadded}

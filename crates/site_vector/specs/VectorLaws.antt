@@ -186,6 +186,7 @@ order_extends_le u v e h other =
   where
     below : {a b : ℕ} → a ≤ b → (b ≤ a → ⊥) → a < b
     below {a} {b} most apart = grind arith
+
     less : (a b : ℕ) → a < b → nat_cmp a b ≡ Less
     less a b lt = grind (arith, nat_tests)
 

@@ -10,5 +10,4 @@ pub fn law_order()
     ensures total { IsTotalOrder order }
     ensures exact { (u v : List ℕ) → order u v ≡ Equal → u ≡ v }
     ensures extends { (u v : List ℕ) → length u ≡ length v → le u v ≡ true → (u ≡ v → ⊥) → order u v ≡ Less }
-{
-}
+{}

@@ -8,3 +8,6 @@ mod vector;
 pub use ids::{Dot, PartId, TxId};
 pub use laws::law_order;
 pub use vector::VTime;
+
+#[cfg(test)]
+mod tests;

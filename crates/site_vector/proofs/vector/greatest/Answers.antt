@@ -1,4 +1,4 @@
-use Rattle.std.proofs.Common.{◌≡◌, ◌+◌, length, get_or, set, max, take, sym, ◌∙◌, length-set, arith}
+use Rattle.std.proofs.Common.{◌+◌, max, take, sym, ◌∙◌, length-set, arith}
 use Rattle.site_vector.proofs.Along.{along_set, along_whole, join_along}
 use Rattle.site_vector.proofs.vector.greatest.Goals as goal
 

@@ -1,4 +1,4 @@
-use Rattle.std.proofs.Common.{◌≡◌, ◌+◌, length, get_or, set, min, take, sym, ◌∙◌, length-set, arith}
+use Rattle.std.proofs.Common.{◌+◌, min, take, sym, ◌∙◌, length-set, arith}
 use Rattle.site_vector.proofs.Along.{along_set, along_whole, meet_along}
 use Rattle.site_vector.proofs.vector.least.Goals as goal
 

@@ -1,6 +1,4 @@
-use Rattle.std.proofs.Common.{◌≡◌, ℕ, length, max, take, refl, sym, ap, subst, ◌∙◌, arith}
-use Rattle.site_vector.specs.Vector.{join}
-use Rattle.site_vector.specs.Entries.{IsPadded}
+use Rattle.std.proofs.Common.{◌≡◌, length, max, take, refl, sym, ap, ◌∙◌}
 use Rattle.site_vector.proofs.Along.{along, along_padded, along_view, same_width, join_along}
 use Rattle.site_vector.proofs.vector.VTime.join.Goals as goal
 

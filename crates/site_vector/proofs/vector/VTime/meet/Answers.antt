@@ -1,6 +1,4 @@
-use Rattle.std.proofs.Common.{◌≡◌, ℕ, length, min, take, refl, sym, ap, subst, ◌∙◌, arith}
-use Rattle.site_vector.specs.Vector.{meet}
-use Rattle.site_vector.specs.Entries.{IsPadded}
+use Rattle.std.proofs.Common.{◌≡◌, length, min, take, refl, sym, ap, ◌∙◌}
 use Rattle.site_vector.proofs.Along.{along, along_padded, along_view, same_width, meet_along}
 use Rattle.site_vector.proofs.vector.VTime.meet.Goals as goal
 
