@@ -1,5 +1,5 @@
 -- How values are spelled as bytes.
-use Rattle.std.specs.Prelude.{◌≡◌, ℕ, ◌+◌, ◌^◌, ◌≤◌, Bool, true, ◌&&◌, nat_lt, nat_le, List, [], ◌∷◌, ◌++◌, length, drop, Option, Some, None}
+use Rattle.std.specs.Prelude.{◌≡◌, ℕ, ◌+◌, ◌^◌, ◌≤◌, Bool, true, ◌&&◌, nat_lt, nat_le, List, [], ◌∷◌, ◌++◌, length, take, drop, Option, Some, None}
 use Rattle.std.specs.List.{flat_map, list_all}
 use Rattle.std.specs.Str.{is_utf8}
 use Rattle.std.specs.Ordering.{is_lt}
@@ -51,3 +51,12 @@ pub record Spans (bytes : List ℕ) (at : ℕ) (spelling : List ℕ) (end : ℕ)
   pub stands : drop at bytes ≡ spelling ++ drop end bytes
   pub long : end ≡ at + length spelling
   pub within : end ≤ length bytes
+
+-- what was there stands at the front still
+pub record Keeps (old new : List ℕ) : Type 0 where
+  pub front : take (length old) new ≡ old
+
+abbrev pub last_of : {V : Type 0} → List V → Option V
+last_of [] = None
+last_of (v ∷ []) = Some v
+last_of (v ∷ w ∷ vs) = last_of (w ∷ vs)

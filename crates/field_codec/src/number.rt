@@ -1,4 +1,4 @@
-ghost use Rattle.std.specs.Prelude.{◌≡◌, ◌≤◌, ◌++◌, length, OnOk, OnErr};
+ghost use Rattle.std.specs.Prelude.{◌≡◌, ◌≤◌, ◌++◌, length, OnOk, OnErr, IfOk};
 ghost use Rattle.field_codec.specs.Spelling.{number};
 ghost use Rattle.field_codec.specs.Reading.{number_at};
 
@@ -67,7 +67,8 @@ pub fn put_u64(out: &mut Vec<u8>, n: u64) -> Result<(), AllocError>
 /// `Short` at the place where the bytes end there.
 pub fn take_u8(bytes: &[u8], at: usize) -> Result<(u8, usize), TakeError>
     requires { at ≤ length bytes.now }
-    ensures { result ≡ number_at 1 bytes.now at }
+    ensures answer { result ≡ number_at 1 bytes.now at }
+    ensures within { IfOk result (λ x. x.1 ≤ length bytes.now) }
 {
     if bytes.len() - at < 1 {
         return Err(TakeError::Short { at });
@@ -82,7 +83,8 @@ pub fn take_u8(bytes: &[u8], at: usize) -> Result<(u8, usize), TakeError>
 /// `Short` at the place where the bytes end before.
 pub fn take_u16(bytes: &[u8], at: usize) -> Result<(u16, usize), TakeError>
     requires { at ≤ length bytes.now }
-    ensures { result ≡ number_at 2 bytes.now at }
+    ensures answer { result ≡ number_at 2 bytes.now at }
+    ensures within { IfOk result (λ x. x.1 ≤ length bytes.now) }
 {
     if bytes.len() - at < 2 {
         return Err(TakeError::Short { at });
@@ -97,7 +99,8 @@ pub fn take_u16(bytes: &[u8], at: usize) -> Result<(u16, usize), TakeError>
 /// `Short` at the place where the bytes end before.
 pub fn take_u32(bytes: &[u8], at: usize) -> Result<(u32, usize), TakeError>
     requires { at ≤ length bytes.now }
-    ensures { result ≡ number_at 4 bytes.now at }
+    ensures answer { result ≡ number_at 4 bytes.now at }
+    ensures within { IfOk result (λ x. x.1 ≤ length bytes.now) }
 {
     if bytes.len() - at < 4 {
         return Err(TakeError::Short { at });
@@ -112,7 +115,8 @@ pub fn take_u32(bytes: &[u8], at: usize) -> Result<(u32, usize), TakeError>
 /// `Short` at the place where the bytes end before.
 pub fn take_u64(bytes: &[u8], at: usize) -> Result<(u64, usize), TakeError>
     requires { at ≤ length bytes.now }
-    ensures { result ≡ number_at 8 bytes.now at }
+    ensures answer { result ≡ number_at 8 bytes.now at }
+    ensures within { IfOk result (λ x. x.1 ≤ length bytes.now) }
 {
     if bytes.len() - at < 8 {
         return Err(TakeError::Short { at });

@@ -1,4 +1,4 @@
-ghost use Rattle.std.specs.Prelude.{◌≡◌, ◌≤◌, ◌<◌, ℕ, List, Bool, Some, None, IfOk, IfSome, IfNone, OnOk, length, nat_eq};
+ghost use Rattle.std.specs.Prelude.{◌≡◌, ◌≤◌, ◌<◌, ◌++◌, ℕ, List, Bool, Some, None, IfOk, IfSome, IfNone, OnOk, OnErr, length, nat_eq};
 ghost use Rattle.std.specs.Str.{bytes_eq};
 ghost use Rattle.std.specs.Ordering.{nat_cmp, as_partial_cmp};
 ghost use Rattle.std.specs.Cmp.Lexicographic.{slice_cmp};
@@ -6,7 +6,10 @@ ghost use Rattle.std.specs.Cmp.Rules.{comparing, hashing};
 ghost use Rattle.std.specs.Hash as fed;
 ghost use Rattle.std.specs.Cmp.{partial_order_from_own_ties};
 ghost use Rattle.std.proofs.Common.{rules};
+ghost use Rattle.field_codec.specs.Spelling.{text as spelled};
+ghost use Rattle.field_codec.specs.Reading.{Gives, text_at, bytes_at};
 
+use crate::{put_u16, take_u16, TakeError};
 use std::alloc::{AllocError, Global};
 use std::cmp::Ordering;
 use std::hash::{Hash, Hasher};
@@ -67,6 +70,69 @@ impl Text {
     {
         let text = String::from_str(alloc, self.text.as_str())?;
         Ok(Text { text })
+    }
+}
+
+/// Appends the length in two bytes, and the bytes.
+///
+/// # Errors
+///
+/// `AllocError` where memory runs out. `out` is as before then.
+pub fn put_text(out: &mut Vec<u8>, t: &Text) -> Result<(), AllocError>
+    ensures ok { OnOk result (out.new.items ≡ out.old.items ++ spelled t.now) }
+    ensures err { OnErr result (out.new.items ≡ out.old.items) }
+{
+    let start = out.len();
+    let text = t.as_str();
+    put_u16(out, text.len() as u16)?;
+    if let Err(error) = out.extend_from_slice(text.as_bytes()) {
+        out.truncate(start);
+        return Err(error);
+    }
+    Ok(())
+}
+
+/// The text at a place, and the place after it.
+///
+/// # Errors
+///
+/// `Short` at the place of the length or of the bytes where the one or the other is cut off, `Bad` at
+/// the place of the length where it is more than 256, and at that of the bytes where they aren't UTF-8.
+#[tactic(auto, unfolding(crate::specs::Reading::text_at))]
+pub fn take_text(alloc: Global, bytes: &[u8], at: usize) -> Result<(Text, usize), TakeError>
+    requires { at ≤ length bytes.now }
+    ensures answer { Gives result (text_at bytes.now at) }
+    ensures within { IfOk result (λ x. x.1 ≤ length bytes.now) }
+{
+    let (len, start) = take_u16(bytes, at)?;
+    let len = len as usize;
+    if len > MOST_BYTES {
+        return Err(TakeError::Bad { at });
+    }
+    take_bytes(alloc, len, bytes, start)
+}
+
+#[tactic(auto, unfolding(crate::specs::Reading::bytes_at))]
+fn take_bytes(
+    alloc: Global,
+    len: usize,
+    bytes: &[u8],
+    at: usize,
+) -> Result<(Text, usize), TakeError>
+    requires within { at ≤ length bytes.now }
+    requires most { len ≤ 256 }
+    ensures answer { Gives result (bytes_at len bytes.now at) }
+    ensures within { IfOk result (λ x. x.1 ≤ length bytes.now) }
+{
+    if bytes.len() - at < len {
+        return Err(TakeError::Short { at });
+    }
+    match str::from_utf8(&bytes[at..at + len]) {
+        Ok(s) => {
+            let text = String::from_str(alloc, s)?;
+            Ok((Text { text }, at + len))
+        }
+        Err(_) => Err(TakeError::Bad { at }),
     }
 }
 
