@@ -1,3 +1,4 @@
-pub mod Spelling
-pub mod Reading
+pub mod FormLaws
 pub mod Lawful
+pub mod Reading
+pub mod Spelling
