@@ -1,5 +1,5 @@
 -- Numbers, texts and lists are forms; and what serves to show it of a form of several fields.
-use Rattle.std.specs.Prelude.{◌≡◌, ℕ, zero, suc, ◌+◌, ◌^◌, ◌<◌, ◌≤◌, Bool, true, false, ◌&&◌, cond, nat_lt, nat_le, List, [], ◌∷◌, ◌++◌, length, take, drop, slice_index, Option, Some, None, Result, Ok, Err, refl}
+use Rattle.std.specs.Prelude.{◌≡◌, ℕ, zero, suc, ◌+◌, ◌*◌, ◌%◌, ◌^◌, ◌<◌, ◌≤◌, Bool, true, false, ◌&&◌, cond, nat_lt, nat_le, List, [], ◌∷◌, ◌++◌, length, take, drop, slice_index, Option, Some, None, Result, Ok, Err, refl}
 use Rattle.std.proofs.Common.{sym, ap, subst, ◌∙◌, append_assoc, length-append, arith}
 use Rattle.std.specs.List.{flat_map, list_all}
 use Rattle.std.specs.Str.{is_utf8}
@@ -80,7 +80,7 @@ pub spans_first : (bytes xs ys : List ℕ) (at end : ℕ) → Spans bytes at (xs
 spans_first bytes xs ys at end p =
     let whole : drop at bytes ≡ xs ++ (ys ++ drop end bytes) = p.stands ∙ append_assoc xs ys (drop end bytes) in
     record {
-      stands = whole ∙ ap (λ l. xs ++ l) (sym (sym (drop-drop at (length xs) bytes) ∙ ap (drop (length xs)) whole ∙ drop_at xs (ys ++ drop end bytes) (length xs) refl));
+      stands = whole ∙ ap (λ l. xs ++ l) (sym (sym (drop-drop (length xs) at bytes) ∙ ap (drop (length xs)) whole ∙ drop_at xs (ys ++ drop end bytes) (length xs) refl));
       long = refl;
       within = omega (arith, p.long, p.within, length-append xs ys);
     }
@@ -89,7 +89,7 @@ pub spans_second : (bytes xs ys : List ℕ) (at end : ℕ) → Spans bytes at (x
 spans_second bytes xs ys at end p =
     let whole : drop at bytes ≡ xs ++ (ys ++ drop end bytes) = p.stands ∙ append_assoc xs ys (drop end bytes) in
     record {
-      stands = sym (drop-drop at (length xs) bytes) ∙ ap (drop (length xs)) whole ∙ drop_at xs (ys ++ drop end bytes) (length xs) refl;
+      stands = sym (drop-drop (length xs) at bytes) ∙ ap (drop (length xs)) whole ∙ drop_at xs (ys ++ drop end bytes) (length xs) refl;
       long = omega (arith, p.long, length-append xs ys);
       within = p.within;
     }
@@ -124,7 +124,7 @@ module _ (n : ℕ) (width : IsWidth n) where
       let same : big_bytes n (big_number n (drop at bytes)) ≡ take n (drop at bytes) =
           ap (big_bytes n) (sym (big_from-take 0 n n (drop at bytes) (omega arith))) ∙ width.back (take n (drop at bytes)) front (IsBytes-take n (drop at bytes) (IsBytes-drop at bytes fits)) in
       record {
-        stands = sym (take-append-drop n (drop at bytes)) ∙ ap (λ l. l ++ drop n (drop at bytes)) (sym same) ∙ ap (λ l. big_bytes n (big_number n (drop at bytes)) ++ l) (drop-drop at n bytes);
+        stands = sym (take-append-drop n (drop at bytes)) ∙ ap (λ l. l ++ drop n (drop at bytes)) (sym same) ∙ ap (λ l. big_bytes n (big_number n (drop at bytes)) ++ l) (drop-drop n at bytes);
         long = omega (arith, length-bytes_high_first n (big_number n (drop at bytes)));
         within = le;
       }
@@ -142,4 +142,116 @@ module _ (n : ℕ) (width : IsWidth n) where
         let same : big_number n (drop at bytes) ≡ v = ap (big_number n) spans.stands ∙ big_number-reads_back n v (drop end bytes) (lt_from v (256 ^ n) good) in
         rw (le, same, sym to) refl;
     fit = λ v good. good;
+  }
+
+-- ---- texts
+
+bytes_found : (n : ℕ) (bytes : List ℕ) (at : ℕ) (t : List ℕ) (end : ℕ) → at ≤ length bytes → bytes_at n bytes at ≡ Ok (t, end) → (length t ≡ n) × (is_utf8 t ≡ true) × Spans bytes at t end
+unfolding bytes_at
+bytes_found n bytes at t end within h =
+    let s = take n (drop at bytes) in
+    let g = guard_ok (nat_le (at + n) (length bytes)) (cond (is_utf8 s) (Ok (s, at + n)) (Err (Bad at))) (Short at) (t, end) h in
+    let u = guard_ok (is_utf8 s) (Ok (s, at + n)) (Bad at) (t, end) g.1 in
+    let le = le_from (at + n) (length bytes) g.0 in
+    let front : length s ≡ n = length-take-le n (drop at bytes) (omega (arith, length-drop at bytes)) in
+    let spans : Spans bytes at s (at + n) = record {
+      stands = sym (take-append-drop n (drop at bytes)) ∙ ap (λ l. s ++ l) (drop-drop n at bytes);
+      long = omega (arith, front);
+      within = le;
+    } in
+    subst (λ (x : List ℕ × ℕ). (length x.0 ≡ n) × (is_utf8 x.0 ≡ true) × Spans bytes at x.0 x.1) (ok_is (s, at + n) (t, end) u.1) (front, u.0, spans)
+
+bytes_again : (bytes : List ℕ) (at : ℕ) (t : List ℕ) (end : ℕ) → is_utf8 t ≡ true → Spans bytes at t end → bytes_at (length t) bytes at ≡ Ok (t, end)
+unfolding bytes_at
+bytes_again bytes at t end good spans =
+    let le = le_holds (at + length t) (length bytes) (omega (arith, spans.long, spans.within)) in
+    let same : take (length t) (drop at bytes) ≡ t = ap (take (length t)) spans.stands ∙ take_at t (drop end bytes) (length t) refl in
+    rw (le, same, good, sym spans.long) refl
+
+pub text_form : IsForm is_text is_text text text_at
+unfolding text_at
+text_form = record {
+  found = λ bytes at t end fits within h.
+      let a = bind_ok (number_at 2 bytes at) (λ n. cond (nat_le n.0 256) (bytes_at n.0 bytes n.1) (Err (Bad at))) (t, end) h in
+      let n = (number_form 2 width2).found bytes at a.0.0 a.0.1 fits within a.1 in
+      let g = guard_ok (nat_le a.0.0 256) (bytes_at a.0.0 bytes a.0.1) (Bad at) (t, end) a.2 in
+      let b = bytes_found a.0.0 bytes a.0.1 t end n.1.within g.1 in
+      (and_true (nat_le (length t) 256) (is_utf8 t) (ap (λ k. nat_le k 256) b.0 ∙ g.0) b.1,
+      spans_join bytes (number 2 (length t)) t at a.0.1 end (subst (λ k. Spans bytes at (number 2 k) a.0.1) (sym b.0) n.1) b.2);
+  again = λ bytes at t end good spans.
+      let p = both_true (nat_le (length t) 256) (is_utf8 t) good in
+      let most = le_from (length t) 256 p.0 in
+      let len = number 2 (length t) in
+      let first = (number_form 2 width2).again bytes at (length t) (at + length len) (lt_holds (length t) (256 ^ 2) (omega (arith, most))) (spans_first bytes len t at end spans) in
+      let second = bytes_again bytes (at + length len) t end p.1 (spans_second bytes len t at end spans) in
+      ap (λ r. r >>= λ n. cond (nat_le n.0 256) (bytes_at n.0 bytes n.1) (Err (Bad at))) first
+      ∙ ap (λ b. cond b (bytes_at (length t) bytes (at + length len)) (Err (Bad at))) p.0
+      ∙ second;
+  fit = λ t good. good;
+}
+
+-- ---- lists
+
+module _ {V : Type 0} (follows : V → V → Bool) (fits is_spelled : V → Bool) (spelling : V → List ℕ) (reading : List ℕ → ℕ → Read V) (member : IsForm fits is_spelled spelling reading) where
+  record Listed (before : Option V) (n : ℕ) (bytes : List ℕ) (at : ℕ) (vs : List V) (end : ℕ) : Type 0 where
+    ordered : are_in_order follows before vs ≡ true
+    spelled : list_all is_spelled vs ≡ true
+    count : length vs ≡ n
+    spans : Spans bytes at (flat_map spelling vs) end
+
+  members_found : (n : ℕ) (before : Option V) (bytes : List ℕ) (at : ℕ) (vs : List V) (end : ℕ) → IsBytes bytes → at ≤ length bytes → members_at follows reading before n bytes at ≡ Ok (vs, end) → Listed before n bytes at vs end
+  unfolding members_at
+  members_found zero before bytes at vs end fits within h =
+      subst (λ (x : List V × ℕ). Listed before 0 bytes at x.0 x.1) (ok_is ([], at) (vs, end) h) (record { ordered = refl; spelled = refl; count = refl; spans = spans_none bytes at within })
+  members_found (suc n) before bytes at vs end fits within h =
+      let rest : V × ℕ → Read (List V) = λ first. cond (may_follow follows before first.0) (members_at follows reading (Some first.0) n bytes first.1) (Err (Bad at)) in
+      let a = bind_ok (reading bytes at) (λ first. rest first >>= λ others. Ok (first.0 ∷ others.0, others.1)) (vs, end) h in
+      let b = bind_ok (rest a.0) (λ others. Ok (a.0.0 ∷ others.0, others.1)) (vs, end) a.2 in
+      let g = guard_ok (may_follow follows before a.0.0) (members_at follows reading (Some a.0.0) n bytes a.0.1) (Bad at) b.0 b.1 in
+      let first = member.found bytes at a.0.0 a.0.1 fits within a.1 in
+      let others = members_found n (Some a.0.0) bytes a.0.1 b.0.0 b.0.1 fits first.1.within g.1 in
+      subst (λ (x : List V × ℕ). Listed before (suc n) bytes at x.0 x.1) (ok_is (a.0.0 ∷ b.0.0, b.0.1) (vs, end) b.2) (record {
+        ordered = and_true (may_follow follows before a.0.0) (are_in_order follows (Some a.0.0) b.0.0) g.0 others.ordered;
+        spelled = and_true (is_spelled a.0.0) (list_all is_spelled b.0.0) first.0 others.spelled;
+        count = ap suc others.count;
+        spans = subst (λ l. Spans bytes at l b.0.1) (sym (flat_map-cons spelling a.0.0 b.0.0)) (spans_join bytes (spelling a.0.0) (flat_map spelling b.0.0) at a.0.1 b.0.1 first.1 others.spans);
+      })
+
+  members_again : (vs : List V) (before : Option V) (bytes : List ℕ) (at : ℕ) (end : ℕ) → are_in_order follows before vs ≡ true → list_all is_spelled vs ≡ true → Spans bytes at (flat_map spelling vs) end → members_at follows reading before (length vs) bytes at ≡ Ok (vs, end)
+  unfolding members_at
+  members_again [] before bytes at end ordered spelled spans = let e : at ≡ end = omega (arith, spans.long) in ap (λ k. Ok ([], k)) e
+  members_again (v ∷ vs) before bytes at end ordered spelled spans =
+      let o = both_true (may_follow follows before v) (are_in_order follows (Some v) vs) ordered in
+      let s = both_true (is_spelled v) (list_all is_spelled vs) spelled in
+      let parts : Spans bytes at (spelling v ++ flat_map spelling vs) end = subst (λ l. Spans bytes at l end) (flat_map-cons spelling v vs) spans in
+      let mid = at + length (spelling v) in
+      let first = member.again bytes at v mid s.0 (spans_first bytes (spelling v) (flat_map spelling vs) at end parts) in
+      let others = members_again vs (Some v) bytes mid end o.1 s.1 (spans_second bytes (spelling v) (flat_map spelling vs) at end parts) in
+      rw (first, o.0, others) refl
+
+  all_fit : (vs : List V) → list_all is_spelled vs ≡ true → list_all fits vs ≡ true
+  all_fit [] h = refl
+  all_fit (v ∷ vs) h = let p = both_true (is_spelled v) (list_all is_spelled vs) h in and_true (fits v) (list_all fits vs) (member.fit v p.0) (all_fit vs p.1)
+
+  pub list_form : IsForm (are_members follows fits) (is_list follows is_spelled) (list spelling) (list_at follows reading)
+  unfolding list_at
+  list_form = record {
+    found = λ bytes at vs end fits within h.
+        let a = bind_ok (number_at 4 bytes at) (λ n. members_at follows reading None n.0 bytes n.1) (vs, end) h in
+        let n = (number_form 4 width4).found bytes at a.0.0 a.0.1 fits within a.1 in
+        let m = members_found a.0.0 None bytes a.0.1 vs end fits n.1.within a.2 in
+        let ordered = and_true (are_in_order follows None vs) (list_all is_spelled vs) m.ordered m.spelled in
+        (and_true (is_number 4 (length vs)) (are_members follows is_spelled vs) (ap (is_number 4) m.count ∙ n.0) ordered,
+        spans_join bytes (number 4 (length vs)) (flat_map spelling vs) at a.0.1 end (subst (λ k. Spans bytes at (number 4 k) a.0.1) (sym m.count) n.1) m.spans);
+    again = λ bytes at vs end good spans.
+        let p = both_true (is_number 4 (length vs)) (are_members follows is_spelled vs) good in
+        let q = both_true (are_in_order follows None vs) (list_all is_spelled vs) p.1 in
+        let count = number 4 (length vs) in
+        let first = (number_form 4 width4).again bytes at (length vs) (at + length count) p.0 (spans_first bytes count (flat_map spelling vs) at end spans) in
+        let second = members_again vs None bytes (at + length count) end q.0 q.1 (spans_second bytes count (flat_map spelling vs) at end spans) in
+        ap (λ r. r >>= λ n. members_at follows reading None n.0 bytes n.1) first ∙ second;
+    fit = λ vs good.
+        let p = both_true (is_number 4 (length vs)) (are_members follows is_spelled vs) good in
+        let q = both_true (are_in_order follows None vs) (list_all is_spelled vs) p.1 in
+        and_true (are_in_order follows None vs) (list_all fits vs) q.0 (all_fit vs q.1);
   }
