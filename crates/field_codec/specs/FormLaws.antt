@@ -1,7 +1,13 @@
 -- Numbers, texts and lists are forms; and what serves to show it of a form of several fields.
-use Rattle.std.specs.Prelude.{◌≡◌, ℕ, zero, suc, ◌+◌, ◌*◌, ◌%◌, ◌^◌, ◌<◌, ◌≤◌, Bool, true, false, ◌&&◌, cond, nat_lt, nat_le, List, [], ◌∷◌, ◌++◌, length, take, drop, slice_index, Option, Some, None, Result, Ok, Err, refl}
+use Rattle.std.specs.Prelude.{◌≡◌, ℕ, zero, suc, ◌+◌, ◌*◌, ◌%◌, ◌^◌, ◌<◌, ◌≤◌, Bool, true, false, ◌&&◌, cond, eqb, nat_lt, nat_le, List, [], ◌∷◌, ◌++◌, length, take, drop, slice_index, Option, Some, None, Result, Ok, Err, refl}
 use Rattle.std.proofs.Common.{sym, ap, subst, ◌∙◌, append_assoc, length-append, arith}
-use Rattle.std.specs.List.{flat_map, list_all}
+use Rattle.std.specs.List.{flat_map, list_all, AllByRecursion}
+use Rattle.std.specs.List.Sorted.{IsStrictlySortedBy}
+use Rattle.std.specs.declared.cmp.Ordering.{Ordering}
+use Rattle.std.specs.declared.cmp.Ordering.TheVariants.{Less, Equal, Greater}
+use Rattle.std.specs.Ordering.{is_lt}
+use Rattle.std.specs.Cmp.{IsTotalOrder}
+use Rattle.std.proofs.lemmas.Bool.{eqb-true, eq-eqb}
 use Rattle.std.specs.Str.{is_utf8}
 use Rattle.std.specs.Int.{w16, w32, w64, from_be_bytes}
 use Rattle.std.proofs.lemmas.Bool.Decides.{nat_tests}
@@ -12,8 +18,8 @@ use Rattle.byteorder.specs.Endian.{big_number, big_bytes}
 use Rattle.byteorder.specs.Numbers.{length-bytes_high_first, big_number-reads_back, big_from-lt, big_from-take}
 use Rattle.field_codec.specs.declared.error.TakeError.{TakeError}
 use Rattle.field_codec.specs.declared.error.TakeError.TheVariants.{Short, Bad}
-use Rattle.field_codec.specs.Spelling.{number, is_number, text, is_text, list, may_follow, are_in_order, are_members, is_list, Spans}
-use Rattle.field_codec.specs.Reading.{Read, ◌>>=◌, number_at, bytes_at, text_at, members_at, list_at}
+use Rattle.field_codec.specs.Spelling.{number, is_number, text, is_text, list, may_follow, are_in_order, are_members, is_list, is_below, Spans}
+use Rattle.field_codec.specs.Reading.{Read, ◌>>=◌, number_at, bytes_at, text_at, members_at, list_at, checked_at, then_at, mapped_at}
 use Rattle.field_codec.specs.Lawful.{IsBytes, IsForm}
 
 -- ---- tests and steps
@@ -255,3 +261,110 @@ module _ {V : Type 0} (follows : V → V → Bool) (fits is_spelled : V → Bool
         let q = both_true (are_in_order follows None vs) (list_all is_spelled vs) p.1 in
         and_true (are_in_order follows None vs) (list_all fits vs) q.0 (all_fit vs q.1);
   }
+
+  -- n members, which no count stands before
+  pub members_form : (n : ℕ) → IsForm (λ vs. eqb (length vs) n && are_members follows fits vs) (λ vs. eqb (length vs) n && are_members follows is_spelled vs) (flat_map spelling) (members_at follows reading None n)
+  members_form n = record {
+    found = λ bytes at vs end fits within h.
+        let m = members_found n None bytes at vs end fits within h in
+        (and_true (eqb (length vs) n) (are_members follows is_spelled vs) (eq-eqb (length vs) n m.count) (and_true (are_in_order follows None vs) (list_all is_spelled vs) m.ordered m.spelled), m.spans);
+    again = λ bytes at vs end good spans.
+        let p = both_true (eqb (length vs) n) (are_members follows is_spelled vs) good in
+        let q = both_true (are_in_order follows None vs) (list_all is_spelled vs) p.1 in
+        subst (λ k. members_at follows reading None k bytes at ≡ Ok (vs, end)) (eqb-true (length vs) n p.0) (members_again vs None bytes at end q.0 q.1 spans);
+    fit = λ vs good.
+        let p = both_true (eqb (length vs) n) (are_members follows is_spelled vs) good in
+        let q = both_true (are_in_order follows None vs) (list_all is_spelled vs) p.1 in
+        and_true (eqb (length vs) n) (are_members follows fits vs) p.0 (and_true (are_in_order follows None vs) (list_all fits vs) q.0 (all_fit vs q.1));
+  }
+
+-- ---- a test, two in turn, and values made of others
+
+pub checked_form : {V : Type 0} (test fits is_spelled : V → Bool) (spelling : V → List ℕ) (reading : List ℕ → ℕ → Read V) → IsForm fits is_spelled spelling reading
+    → IsForm (λ v. test v && fits v) (λ v. test v && is_spelled v) spelling (checked_at test reading)
+checked_form {V} test fits is_spelled spelling reading form = record {
+  found = λ bytes at v end ok within h.
+      let a = bind_ok (reading bytes at) (λ x. cond (test x.0) (Ok x) (Err (Bad at))) (v, end) h in
+      let g = guard_ok (test a.0.0) (Ok a.0) (Bad at) (v, end) a.2 in
+      let f = form.found bytes at a.0.0 a.0.1 ok within a.1 in
+      subst (λ (x : V × ℕ). ((test x.0 && is_spelled x.0) ≡ true) × Spans bytes at (spelling x.0) x.1) (ok_is a.0 (v, end) g.1) (and_true (test a.0.0) (is_spelled a.0.0) g.0 f.0, f.1);
+  again = λ bytes at v end good spans.
+      let p = both_true (test v) (is_spelled v) good in
+      ap (λ r. r >>= λ x. cond (test x.0) (Ok x) (Err (Bad at))) (form.again bytes at v end p.1 spans) ∙ ap (λ b. cond b (Ok (v, end)) (Err (Bad at))) p.0;
+  fit = λ v good. let p = both_true (test v) (is_spelled v) good in and_true (test v) (fits v) p.0 (form.fit v p.1);
+}
+
+pub then_form : {V W : Type 0} (fits1 spelled1 : V → Bool) (spelling1 : V → List ℕ) (reading1 : List ℕ → ℕ → Read V) (fits2 spelled2 : V → W → Bool) (spelling2 : V → W → List ℕ) (reading2 : V → List ℕ → ℕ → Read W)
+    → IsForm fits1 spelled1 spelling1 reading1 → ((v : V) → spelled1 v ≡ true → IsForm (fits2 v) (spelled2 v) (spelling2 v) (reading2 v))
+    → IsForm (λ x. fits1 x.0 && fits2 x.0 x.1) (λ x. spelled1 x.0 && spelled2 x.0 x.1) (λ x. spelling1 x.0 ++ spelling2 x.0 x.1) (then_at reading1 reading2)
+then_form {V} {W} fits1 spelled1 spelling1 reading1 fits2 spelled2 spelling2 reading2 form1 form2 = record {
+  found = λ bytes at x end ok within h.
+      let a = bind_ok (reading1 bytes at) (λ v. reading2 v.0 bytes v.1 >>= λ w. Ok ((v.0, w.0), w.1)) (x, end) h in
+      let b = bind_ok (reading2 a.0.0 bytes a.0.1) (λ w. Ok ((a.0.0, w.0), w.1)) (x, end) a.2 in
+      let f = form1.found bytes at a.0.0 a.0.1 ok within a.1 in
+      let g = (form2 a.0.0 f.0).found bytes a.0.1 b.0.0 b.0.1 ok f.1.within b.1 in
+      subst (λ (y : (V × W) × ℕ). ((spelled1 y.0.0 && spelled2 y.0.0 y.0.1) ≡ true) × Spans bytes at (spelling1 y.0.0 ++ spelling2 y.0.0 y.0.1) y.1)
+        (ok_is ((a.0.0, b.0.0), b.0.1) (x, end) b.2)
+        (and_true (spelled1 a.0.0) (spelled2 a.0.0 b.0.0) f.0 g.0, spans_join bytes (spelling1 a.0.0) (spelling2 a.0.0 b.0.0) at a.0.1 b.0.1 f.1 g.1);
+  again = λ bytes at x end good spans.
+      let p = both_true (spelled1 x.0) (spelled2 x.0 x.1) good in
+      let mid = at + length (spelling1 x.0) in
+      let first = form1.again bytes at x.0 mid p.0 (spans_first bytes (spelling1 x.0) (spelling2 x.0 x.1) at end spans) in
+      let second = (form2 x.0 p.0).again bytes mid x.1 end p.1 (spans_second bytes (spelling1 x.0) (spelling2 x.0 x.1) at end spans) in
+      ap (λ r. r >>= λ v. reading2 v.0 bytes v.1 >>= λ w. Ok ((v.0, w.0), w.1)) first ∙ ap (λ r. r >>= λ w. Ok ((x.0, w.0), w.1)) second;
+  fit = λ x good. let p = both_true (spelled1 x.0) (spelled2 x.0 x.1) good in and_true (fits1 x.0) (fits2 x.0 x.1) (form1.fit x.0 p.0) ((form2 x.0 p.0).fit x.1 p.1);
+}
+
+-- parts: what a value is made of
+pub mapped_form : {V W : Type 0} (made : V → W) (parts : W → V) (fits is_spelled : V → Bool) (spelling : V → List ℕ) (reading : List ℕ → ℕ → Read V)
+    → ((w : W) → made (parts w) ≡ w) → ((v : V) → is_spelled v ≡ true → parts (made v) ≡ v) → IsForm fits is_spelled spelling reading
+    → IsForm (λ w. fits (parts w)) (λ w. is_spelled (parts w)) (λ w. spelling (parts w)) (mapped_at made reading)
+mapped_form {V} {W} made parts fits is_spelled spelling reading back forth form = record {
+  found = λ bytes at w end ok within h.
+      let a = bind_ok (reading bytes at) (λ v. Ok (made v.0, v.1)) (w, end) h in
+      let f = form.found bytes at a.0.0 a.0.1 ok within a.1 in
+      let e = sym (forth a.0.0 f.0) in
+      subst (λ (y : W × ℕ). (is_spelled (parts y.0) ≡ true) × Spans bytes at (spelling (parts y.0)) y.1) (ok_is (made a.0.0, a.0.1) (w, end) a.2)
+        (ap is_spelled (sym e) ∙ f.0, subst (λ v. Spans bytes at (spelling v) a.0.1) e f.1);
+  again = λ bytes at w end good spans.
+      ap (λ r. r >>= λ v. Ok (made v.0, v.1)) (form.again bytes at (parts w) end good spans) ∙ ap (λ x. Ok (x, end)) (back w);
+  fit = λ w good. form.fit (parts w) good;
+}
+
+-- ---- ascending lists
+
+module _ {V : Type 0} {order : V → V → Ordering} (o : IsTotalOrder order) where
+  below_is : (v w : V) → is_below order v w ≡ true → order v w ≡ Less
+  below_is v w h = at (order v w) h
+    where
+      at : (r : Ordering) → is_lt r ≡ true → r ≡ Less
+      at Less h = refl
+      at Equal h = absurd cc
+      at Greater h = absurd cc
+
+  all_above : (v w : V) (vs : List V) → order v w ≡ Less → AllByRecursion (λ u. order w u ≡ Less) vs → AllByRecursion (λ u. order v u ≡ Less) vs
+  all_above v w [] h a = tt
+  all_above v w (u ∷ vs) h a = (o.trans v w u h a.0, all_above v w vs h a.1)
+
+  rising : (v : V) (vs : List V) → are_in_order (is_below order) (Some v) vs ≡ true → AllByRecursion (λ u. order v u ≡ Less) vs × IsStrictlySortedBy order vs
+  unfolding IsStrictlySortedBy
+  rising v [] h = (tt, tt)
+  rising v (w ∷ vs) h =
+      let p = both_true (is_below order v w) (are_in_order (is_below order) (Some w) vs) h in
+      let first = below_is v w p.0 in
+      let rest = rising w vs p.1 in
+      ((first, all_above v w vs first rest.0), rest)
+
+  pub sorted_from_order : (vs : List V) → are_in_order (is_below order) None vs ≡ true → IsStrictlySortedBy order vs
+  unfolding IsStrictlySortedBy
+  sorted_from_order [] h = tt
+  sorted_from_order (v ∷ vs) h = rising v vs h
+
+  after_first : (v : V) (vs : List V) → IsStrictlySortedBy order (v ∷ vs) → are_in_order (is_below order) (Some v) vs ≡ true
+  unfolding IsStrictlySortedBy
+  after_first v [] s = refl
+  after_first v (w ∷ vs) s = and_true (is_below order v w) (are_in_order (is_below order) (Some w) vs) (ap is_lt s.0.0) (after_first w vs s.1)
+
+  pub order_from_sorted : (vs : List V) → IsStrictlySortedBy order vs → are_in_order (is_below order) None vs ≡ true
+  order_from_sorted [] s = refl
+  order_from_sorted (v ∷ vs) s = after_first v vs s

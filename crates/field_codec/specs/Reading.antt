@@ -50,3 +50,22 @@ unfoldable pub list_at : {V : Type 0} → (V → V → Bool) → (List ℕ → �
 list_at follows reading bytes at = do
   n ← number_at 4 bytes at
   members_at follows reading None n.0 bytes n.1
+
+-- a value that is to pass a test
+abbrev pub checked_at : {V : Type 0} → (V → Bool) → (List ℕ → ℕ → Read V) → List ℕ → ℕ → Read V
+checked_at test reading bytes at = do
+  v ← reading bytes at
+  if test v.0 then Ok v else Err (Bad at)
+
+-- a value, and then another whose form the first may decide
+abbrev pub then_at : {V W : Type 0} → (List ℕ → ℕ → Read V) → (V → List ℕ → ℕ → Read W) → List ℕ → ℕ → Read (V × W)
+then_at first second bytes at = do
+  v ← first bytes at
+  w ← second v.0 bytes v.1
+  Ok ((v.0, w.0), w.1)
+
+-- a value made of what is read
+abbrev pub mapped_at : {V W : Type 0} → (V → W) → (List ℕ → ℕ → Read V) → List ℕ → ℕ → Read W
+mapped_at made reading bytes at = do
+  v ← reading bytes at
+  Ok (made v.0, v.1)
