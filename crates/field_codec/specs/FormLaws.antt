@@ -128,7 +128,7 @@ module _ (n : ℕ) (width : IsWidth n) where
   taken bytes at fits le =
       let front : length (take n (drop at bytes)) ≡ n = length-take-le n (drop at bytes) (omega (arith, length-drop at bytes)) in
       let same : big_bytes n (big_number n (drop at bytes)) ≡ take n (drop at bytes) =
-          ap (big_bytes n) (sym (big_from-take 0 n n (drop at bytes) (omega arith))) ∙ width.back (take n (drop at bytes)) front (IsBytes-take n (drop at bytes) (IsBytes-drop at bytes fits)) in
+      ap (big_bytes n) (sym (big_from-take 0 n n (drop at bytes) (omega arith))) ∙ width.back (take n (drop at bytes)) front (IsBytes-take n (drop at bytes) (IsBytes-drop at bytes fits)) in
       record {
         stands = sym (take-append-drop n (drop at bytes)) ∙ ap (λ l. l ++ drop n (drop at bytes)) (sym same) ∙ ap (λ l. big_bytes n (big_number n (drop at bytes)) ++ l) (drop-drop n at bytes);
         long = omega (arith, length-bytes_high_first n (big_number n (drop at bytes)));
@@ -181,9 +181,10 @@ text_form = record {
       let a = bind_ok (number_at 2 bytes at) (λ n. cond (nat_le n.0 256) (bytes_at n.0 bytes n.1) (Err (Bad at))) (t, end) h in
       let n = (number_form 2 width2).found bytes at a.0.0 a.0.1 fits within a.1 in
       let g = guard_ok (nat_le a.0.0 256) (bytes_at a.0.0 bytes a.0.1) (Bad at) (t, end) a.2 in
-      let b = bytes_found a.0.0 bytes a.0.1 t end n.1.within g.1 in
-      (and_true (nat_le (length t) 256) (is_utf8 t) (ap (λ k. nat_le k 256) b.0 ∙ g.0) b.1,
-      spans_join bytes (number 2 (length t)) t at a.0.1 end (subst (λ k. Spans bytes at (number 2 k) a.0.1) (sym b.0) n.1) b.2);
+      let b = bytes_found a.0.0 bytes a.0.1 t end n.1.within g.1 in (
+        and_true (nat_le (length t) 256) (is_utf8 t) (ap (λ k. nat_le k 256) b.0 ∙ g.0) b.1,
+        spans_join bytes (number 2 (length t)) t at a.0.1 end (subst (λ k. Spans bytes at (number 2 k) a.0.1) (sym b.0) n.1) b.2,
+      );
   again = λ bytes at t end good spans.
       let p = both_true (nat_le (length t) 256) (is_utf8 t) good in
       let most = le_from (length t) 256 p.0 in
@@ -246,9 +247,10 @@ module _ {V : Type 0} (follows : V → V → Bool) (fits is_spelled : V → Bool
         let a = bind_ok (number_at 4 bytes at) (λ n. members_at follows reading None n.0 bytes n.1) (vs, end) h in
         let n = (number_form 4 width4).found bytes at a.0.0 a.0.1 fits within a.1 in
         let m = members_found a.0.0 None bytes a.0.1 vs end fits n.1.within a.2 in
-        let ordered = and_true (are_in_order follows None vs) (list_all is_spelled vs) m.ordered m.spelled in
-        (and_true (is_number 4 (length vs)) (are_members follows is_spelled vs) (ap (is_number 4) m.count ∙ n.0) ordered,
-        spans_join bytes (number 4 (length vs)) (flat_map spelling vs) at a.0.1 end (subst (λ k. Spans bytes at (number 4 k) a.0.1) (sym m.count) n.1) m.spans);
+        let ordered = and_true (are_in_order follows None vs) (list_all is_spelled vs) m.ordered m.spelled in (
+          and_true (is_number 4 (length vs)) (are_members follows is_spelled vs) (ap (is_number 4) m.count ∙ n.0) ordered,
+          spans_join bytes (number 4 (length vs)) (flat_map spelling vs) at a.0.1 end (subst (λ k. Spans bytes at (number 4 k) a.0.1) (sym m.count) n.1) m.spans,
+        );
     again = λ bytes at vs end good spans.
         let p = both_true (is_number 4 (length vs)) (are_members follows is_spelled vs) good in
         let q = both_true (are_in_order follows None vs) (list_all is_spelled vs) p.1 in
@@ -304,8 +306,8 @@ then_form {V} {W} fits1 spelled1 spelling1 reading1 fits2 spelled2 spelling2 rea
       let f = form1.found bytes at a.0.0 a.0.1 ok within a.1 in
       let g = (form2 a.0.0 f.0).found bytes a.0.1 b.0.0 b.0.1 ok f.1.within b.1 in
       subst (λ (y : (V × W) × ℕ). ((spelled1 y.0.0 && spelled2 y.0.0 y.0.1) ≡ true) × Spans bytes at (spelling1 y.0.0 ++ spelling2 y.0.0 y.0.1) y.1)
-        (ok_is ((a.0.0, b.0.0), b.0.1) (x, end) b.2)
-        (and_true (spelled1 a.0.0) (spelled2 a.0.0 b.0.0) f.0 g.0, spans_join bytes (spelling1 a.0.0) (spelling2 a.0.0 b.0.0) at a.0.1 b.0.1 f.1 g.1);
+      (ok_is ((a.0.0, b.0.0), b.0.1) (x, end) b.2)
+      (and_true (spelled1 a.0.0) (spelled2 a.0.0 b.0.0) f.0 g.0, spans_join bytes (spelling1 a.0.0) (spelling2 a.0.0 b.0.0) at a.0.1 b.0.1 f.1 g.1);
   again = λ bytes at x end good spans.
       let p = both_true (spelled1 x.0) (spelled2 x.0 x.1) good in
       let mid = at + length (spelling1 x.0) in
@@ -325,7 +327,7 @@ mapped_form {V} {W} made parts fits is_spelled spelling reading back forth form 
       let f = form.found bytes at a.0.0 a.0.1 ok within a.1 in
       let e = sym (forth a.0.0 f.0) in
       subst (λ (y : W × ℕ). (is_spelled (parts y.0) ≡ true) × Spans bytes at (spelling (parts y.0)) y.1) (ok_is (made a.0.0, a.0.1) (w, end) a.2)
-        (ap is_spelled (sym e) ∙ f.0, subst (λ v. Spans bytes at (spelling v) a.0.1) e f.1);
+      (ap is_spelled (sym e) ∙ f.0, subst (λ v. Spans bytes at (spelling v) a.0.1) e f.1);
   again = λ bytes at w end good spans.
       ap (λ r. r >>= λ v. Ok (made v.0, v.1)) (form.again bytes at (parts w) end good spans) ∙ ap (λ x. Ok (x, end)) (back w);
   fit = λ w good. form.fit (parts w) good;

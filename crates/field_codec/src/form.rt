@@ -63,5 +63,4 @@ pub trait Form {
 #[tactic(auto, using(crate::proofs::Forms::prefix_free))]
 pub fn law_prefix_free<F: Form>(form: &F)
     ensures { IsPrefixFree (F.is_spelled form.now) (F.spelling form.now) }
-{
-}
+{}

@@ -3,7 +3,7 @@ ghost use Rattle.field_codec.specs.Spelling.{list, are_members, is_list, last_of
 ghost use Rattle.field_codec.specs.Reading.{Gives, list_at, members_at};
 
 use crate::form::Form;
-use crate::{put_u32, take_u32, ListOf, TakeError};
+use crate::{ListOf, TakeError, put_u32, take_u32};
 use std::alloc::{AllocError, Global};
 
 /// Appends the count in four bytes, and the members.
@@ -29,11 +29,7 @@ pub fn put_list<F: Form>(
     put
 }
 
-fn put_members<F: Form>(
-    form: &F,
-    out: &mut Vec<u8>,
-    members: &[F::Value],
-) -> Result<(), AllocError>
+fn put_members<F: Form>(form: &F, out: &mut Vec<u8>, members: &[F::Value]) -> Result<(), AllocError>
     requires { are_members (F.follows form.now) (F.fits form.now) members.now ≡ true }
     ensures spelled { OnOk result (is_list (F.follows form.now) (F.is_spelled form.now) members.now ≡ true) }
     ensures ok { OnOk result (out.new.items ≡ out.old.items ++ list (F.spelling form.now) members.now) }

@@ -6,10 +6,11 @@ ghost use Rattle.std.specs.Cmp.Rules.{comparing, hashing};
 ghost use Rattle.std.specs.Hash as fed;
 ghost use Rattle.std.specs.Cmp.{partial_order_from_own_ties};
 ghost use Rattle.std.proofs.Common.{rules};
-ghost use Rattle.field_codec.specs.Spelling.{text as spelled};
+ghost use Rattle.field_codec.specs.Spelling.{text as spelled, is_text, is_below};
+ghost use Rattle.field_codec.specs.FormLaws.{text_form};
 ghost use Rattle.field_codec.specs.Reading.{Gives, text_at, bytes_at};
 
-use crate::{put_u16, take_u16, TakeError};
+use crate::{Form, TakeError, put_u16, take_u16};
 use std::alloc::{AllocError, Global};
 use std::cmp::Ordering;
 use std::hash::{Hash, Hasher};
@@ -182,4 +183,36 @@ impl Hash for Text {
     fn hash<H: Hasher>(&self, state: &mut H) {
         self.as_str().hash(state);
     }
+}
+
+/// The form of texts. Lists of them ascend by their bytes.
+#[derive(Clone, Copy, Debug)]
+pub struct TextForm;
+
+impl Form for TextForm {
+    type Value = Text;
+
+    ghost fits = { λ _ t. is_text t };
+
+    ghost is_spelled = { λ _ t. is_text t };
+
+    ghost spelling = { λ _ t. spelled t };
+
+    ghost reading = { λ _ bytes at. text_at bytes at };
+
+    ghost follows = { λ _ before t. is_below (slice_cmp nat_cmp) before t };
+
+    fn put(&self, out: &mut Vec<u8>, value: &Text) -> Result<(), AllocError> {
+        put_text(out, value)
+    }
+
+    fn take(&self, alloc: Global, bytes: &[u8], at: usize) -> Result<(Text, usize), TakeError> {
+        take_text(alloc, bytes, at)
+    }
+
+    fn may_follow(&self, before: &Text, value: &Text) -> bool {
+        before < value
+    }
+
+    ghost laws = { λ _. text_form };
 }
