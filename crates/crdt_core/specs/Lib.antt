@@ -1,10 +1,13 @@
 pub mod Confluence
 pub mod Fits
 pub mod History
+pub mod Kept
+pub mod KeptLaw
 pub mod Kinds
 pub mod Law
 pub mod Leaves
 pub mod Live
+pub mod MapLists
 pub mod Placing
 pub mod Same
 pub mod Seen
