@@ -10,5 +10,6 @@ pub mod Live
 pub mod MapLists
 pub mod Placing
 pub mod Same
+pub mod DotSet
 pub mod Seen
 pub mod Stamps

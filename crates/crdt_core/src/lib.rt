@@ -3,6 +3,7 @@
 
 mod crdt;
 mod error;
+mod dots;
 mod kind;
 mod object;
 mod operation;
@@ -13,6 +14,7 @@ mod value;
 
 pub use crdt::Crdt;
 pub use error::GenError;
+pub use dots::Dots;
 pub use kind::Kind;
 pub use object::{Field, ObjectId};
 pub use operation::{Act, Op};
