@@ -1,20 +1,16 @@
 -- What is kept of updates that later ones undo: a value at each dot.
 use Rattle.std.specs.Prelude.{ℕ, Bool, true, false, cond, not, List, [], ◌∷◌, Option, Some, None, is_some}
-use Rattle.std.specs.List.{list_any}
 use Rattle.std.specs.FinMap.{FinMap, empty, insert, retain_keys, get, keys}
 use Rattle.site_vector.specs.declared.ids.Dot.{Dot}
-use Rattle.site_vector.specs.Ids.{same_dot}
 use Rattle.site_vector.specs.Order.{dot_cmp}
+use Rattle.crdt_core.specs.DotSet.{has_dot}
 
 abbrev pub KeptAt : Type 0 → Type 0
 KeptAt V = FinMap dot_cmp V
 
-abbrev pub listed : List Dot → Dot → Bool
-listed dots d = list_any (λ x. same_dot x d) dots
-
 -- with these dots taken out
 abbrev pub without : {V : Type 0} → KeptAt V → List Dot → KeptAt V
-without m dots = retain_keys m (λ d. not (listed dots d))
+without m dots = retain_keys m (λ d. not (has_dot dots d))
 
 -- with a value put at a dot
 abbrev pub with_own : {V : Type 0} → KeptAt V → Dot → Option V → KeptAt V

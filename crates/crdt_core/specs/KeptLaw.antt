@@ -34,7 +34,7 @@ module _ {V : Type 0} (puts : Update → Option V) (takes : Update → Bool) whe
   abbrev pub left : (Dot → Bool) → List Update → Dot → Option V
   left p us q = cond (p q && not (taken p us q)) (put_at us q) None
 
-  new_put : (us : List Update) (q : Dot) → has_dot us q ≡ false → put_at us q ≡ None
+  pub new_put : (us : List Update) (q : Dot) → has_dot us q ≡ false → put_at us q ≡ None
   new_put [] q h = refl
   new_put (u ∷ us) q h =
       elim (same_dot u.dot q) as (λ b. same_dot u.dot q ≡ b → (b || has_dot us q) ≡ false → given b (puts u) (put_at us q) ≡ None) [
@@ -53,7 +53,7 @@ module _ {V : Type 0} (puts : Update → Option V) (takes : Update → Bool) whe
       (λ later. or_right (r u.dot && (takes u && sees u q)) _ (more_taken p r more us q later))
       (or_cases (p u.dot && (takes u && sees u q)) (taken p us q) h)
 
-none_either : {V : Type 0} (b : Bool) (o : Option V) → o ≡ None → cond b o None ≡ None
+pub none_either : {V : Type 0} (b : Bool) (o : Option V) → o ≡ None → cond b o None ≡ None
 none_either true o h = h
 none_either false o h = refl
 

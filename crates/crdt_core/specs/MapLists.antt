@@ -134,9 +134,13 @@ module _ {K X : Type 0} {R : K → K → Ordering} (o : IsTotalOrder R) (same : 
       let w = found e.0 e.1 fs (sym (h e.0) ∙ ap (λ b. cond b (Some e.1) (find R e.0 es)) (itself o e.0)) in
       let front = w.0 in
       let back = w.1 in
-      let less = without_distinct e front back (subst (IsDistinct R) w.2 g) in
-      (front, back, w.2, same_finds es (front ++ back) d.1 less.0 (λ q.
-      elim (eq_by_cmp R q e.0) as (λ b. eq_by_cmp R q e.0 ≡ b → find R q es ≡ find R q (front ++ back)) [
-        | true ↦ λ t. let k = same q e.0 ((Equal-is (R q e.0)).0 t) in ap (λ x. find R x es) k ∙ d.0 ∙ sym (ap (λ x. find R x (front ++ back)) k ∙ less.1)
-        | false ↦ λ t. sym (ap (λ b. cond b (Some e.1) (find R q es)) t) ∙ h q ∙ ap (find R q) w.2 ∙ past q e front back t
-      ] refl))
+      let less = without_distinct e front back (subst (IsDistinct R) w.2 g) in (
+        front,
+        back,
+        w.2,
+        same_finds es (front ++ back) d.1 less.0 (λ q.
+            elim (eq_by_cmp R q e.0) as (λ b. eq_by_cmp R q e.0 ≡ b → find R q es ≡ find R q (front ++ back)) [
+              | true ↦ λ t. let k = same q e.0 ((Equal-is (R q e.0)).0 t) in ap (λ x. find R x es) k ∙ d.0 ∙ sym (ap (λ x. find R x (front ++ back)) k ∙ less.1)
+              | false ↦ λ t. sym (ap (λ b. cond b (Some e.1) (find R q es)) t) ∙ h q ∙ ap (find R q) w.2 ∙ past q e front back t
+            ] refl),
+      )

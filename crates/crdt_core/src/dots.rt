@@ -35,6 +35,14 @@ impl Dots {
         }
     }
 
+    /// The set of these updates.
+    pub(crate) fn of_ascending(items: Vec<Dot>) -> Dots
+        requires { IsAscending items.items }
+        ensures { result ≡ items.items }
+    {
+        Dots { items }
+    }
+
     /// The updates, in ascending order.
     pub fn as_slice(&self) -> &[Dot]
         ensures value { result.now ≡ self.now }
