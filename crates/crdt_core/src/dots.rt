@@ -51,6 +51,18 @@ impl Dots {
         self.items.as_slice()
     }
 
+    /// An equal set.
+    ///
+    /// # Errors
+    ///
+    /// `AllocError` where memory runs out.
+    pub fn copy(&self, alloc: Global) -> Result<Dots, AllocError>
+        ensures { IfOk result (λ d. d ≡ self.now) }
+    {
+        let items = Vec::from_slice(alloc, self.as_slice())?;
+        Ok(Dots { items })
+    }
+
     /// Whether the update is one of them.
     pub fn contains(&self, dot: Dot) -> bool
         ensures { result ≡ has_dot self.now dot }

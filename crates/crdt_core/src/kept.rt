@@ -9,6 +9,7 @@ use crate::{Copied, Dots};
 use site_vector::Dot;
 use std::alloc::{AllocError, Global};
 use std::collections::BTreeMap;
+use std::collections::btree_map::Iter;
 use std::marker::Model;
 
 /// Values that updates put, each at the dot of its update, as long as no later update takes it out.
@@ -38,6 +39,14 @@ impl<V> Kept<V> {
         Kept {
             entries: BTreeMap::new(alloc),
         }
+    }
+
+    /// The values with their dots, in the order of the dots.
+    pub fn iter(&self) -> Iter<'_, Dot, V>
+        ensures rest { result ≡ map.entries self.now }
+        ensures runs { ShowsInOrder (deref_pair {K = Dot} {X = V}) }
+    {
+        self.entries.iter()
     }
 
     /// Whether nothing is kept.

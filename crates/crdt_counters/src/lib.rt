@@ -2,6 +2,8 @@
 #![tactic(auto)]
 
 mod amounts;
+mod counter_fat;
 mod counter_pn;
 
+pub use counter_fat::{CounterFat, FatEffect};
 pub use counter_pn::CounterPn;
