@@ -1,2 +1,3 @@
 pub mod DotSet
 pub mod Sorted
+pub mod Trees

@@ -35,12 +35,32 @@ impl Dots {
         }
     }
 
+    /// The set of these updates.
+    pub(crate) fn of_ascending(items: Vec<Dot>) -> Dots
+        requires { IsAscending items.items }
+        ensures { result ≡ items.items }
+    {
+        Dots { items }
+    }
+
     /// The updates, in ascending order.
     pub fn as_slice(&self) -> &[Dot]
         ensures value { result.now ≡ self.now }
         ensures ascending { IsAscending self.now }
     {
         self.items.as_slice()
+    }
+
+    /// An equal set.
+    ///
+    /// # Errors
+    ///
+    /// `AllocError` where memory runs out.
+    pub fn copy(&self, alloc: Global) -> Result<Dots, AllocError>
+        ensures { IfOk result (λ d. d ≡ self.now) }
+    {
+        let items = Vec::from_slice(alloc, self.as_slice())?;
+        Ok(Dots { items })
     }
 
     /// Whether the update is one of them.

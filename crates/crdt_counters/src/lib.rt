@@ -1,0 +1,9 @@
+//! Counters: one whose updates stay, and one whose updates a reset undoes.
+#![tactic(auto)]
+
+mod amounts;
+mod counter_fat;
+mod counter_pn;
+
+pub use counter_fat::{CounterFat, FatEffect};
+pub use counter_pn::CounterPn;
