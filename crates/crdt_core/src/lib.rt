@@ -1,8 +1,11 @@
 //! Objects, operations and values: what every kind of replicated data type is made of.
 #![tactic(auto)]
 
+mod copied;
 mod crdt;
+mod dots;
 mod error;
+mod kept;
 mod kind;
 mod object;
 mod operation;
@@ -11,8 +14,11 @@ mod replay;
 mod table;
 mod value;
 
+pub use copied::Copied;
 pub use crdt::Crdt;
+pub use dots::Dots;
 pub use error::GenError;
+pub use kept::Kept;
 pub use kind::Kind;
 pub use object::{Field, ObjectId};
 pub use operation::{Act, Op};

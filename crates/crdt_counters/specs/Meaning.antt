@@ -13,9 +13,13 @@ amount (Increment n) = n
 amount (Decrement n) = neg_ℤ n
 amount _ = pos 0
 
+-- the sum of what each member counts
+abbrev pub total_by : {A : Type 0} → (A → ℤ) → List A → ℤ
+total_by f [] = pos 0
+total_by f (x ∷ xs) = total_by f xs +ℤ f x
+
 abbrev pub total : List Update → ℤ
-total [] = pos 0
-total (u ∷ us) = total us +ℤ amount u.act
+total us = total_by (λ u. amount u.act) us
 
 -- the sum of the live amounts, as 128 bits hold it
 abbrev pub counter_meaning : Kind → List Update → Value
