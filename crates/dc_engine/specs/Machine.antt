@@ -19,15 +19,11 @@ use Rattle.dc_engine.specs.declared.machine.Machine.{Machine}
 use Rattle.dc_engine.specs.declared.sessions.Change.{Change}
 use Rattle.dc_engine.specs.declared.store.Committed.{Committed}
 use Rattle.dc_engine.specs.SessionTable.{session}
-use Rattle.dc_engine.specs.Stored.{stored, committed_of, sum_upto, own_sum}
+use Rattle.dc_engine.specs.Stored.{stored, committed_of, sum_upto, own_sum, transaction_at}
 
 -- the one partition
 abbrev pub one : PartId
 one = record { site = 1; part = 1 }
-
--- the transaction that began there at a time
-abbrev pub tx_at : ℕ → TxId
-tx_at time = record { site = 1; part = 1; time = time }
 
 abbrev pub session_in : Machine → List ℕ → Option (Option (ℕ × List Change))
 session_in m who = session m.sessions.entries who
@@ -82,14 +78,17 @@ pub record IsMachine (m : Machine) (made : Bool) (now : ℕ) (sessions : List �
 abbrev pub with_session : Machine → List ℕ → Option (ℕ × List Change) → List ℕ → Option (Option (ℕ × List Change))
 with_session m name t who = if bytes_eq name who then Some t else session_in m who
 
+abbrev pub CommitsChanges : Machine → List ℕ → ℕ × List Change → List Step → Machine → Type 0
+CommitsChanges old name t steps new =
+    let time = old.now + 1 in
+    (steps ≡ step.Prepared one (transaction_at t.0) time ∷ step.Decided one (transaction_at t.0) (time ∷ []) ∷ step.Ended name ∷ [])
+    × IsMachine new old.made time (with_session old name None) (length old.sessions.entries) (λ o. stored old.store.entries o ++ committed_of (transaction_at t.0) time 1 t.1 o)
+
 abbrev pub DoesCommit : Machine → List ℕ → ℕ × List Change → List Change → List Step → Machine → Type 0
 DoesCommit old name t [] steps new =
     (steps ≡ step.Ended name ∷ [])
     × IsMachine new old.made old.now (with_session old name None) (length old.sessions.entries) (stored old.store.entries)
-DoesCommit old name t (c ∷ cs) steps new =
-    let time = old.now + 1 in
-    (steps ≡ step.Prepared one (tx_at t.0) time ∷ step.Decided one (tx_at t.0) (time ∷ []) ∷ step.Ended name ∷ [])
-    × IsMachine new old.made time (with_session old name None) (length old.sessions.entries) (λ o. stored old.store.entries o ++ committed_of (tx_at t.0) time 1 t.1 o)
+DoesCommit old name t (c ∷ cs) steps new = CommitsChanges old name t steps new
 
 -- what a command does that isn't refused
 abbrev pub Does : Machine → Command → List Step → Machine → Type 0
@@ -99,7 +98,7 @@ Does old (command.Session name site) steps new =
     (steps ≡ step.MadeSession name site ∷ [])
     × IsMachine new old.made old.now (with_session old name None) (length old.sessions.entries + 1) (stored old.store.entries)
 Does old (command.Begin name part) steps new =
-    (steps ≡ step.Began name (tx_at (old.now + 1)) ((old.now + 1) ∷ []) ∷ [])
+    (steps ≡ step.Began name (transaction_at (old.now + 1)) ((old.now + 1) ∷ []) ∷ [])
     × IsMachine new old.made (old.now + 1) (with_session old name (Some (old.now + 1, []))) (length old.sessions.entries) (stored old.store.entries)
 Does old (command.Read name o) steps new =
     (t : ℕ × List Change) × (session_in old name ≡ Some (Some t))

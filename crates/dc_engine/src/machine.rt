@@ -1,10 +1,12 @@
-ghost use Rattle.std.specs.Prelude.{◌≡◌, ◌≤◌, ◌^◌, ℕ, List, [], ◌∷◌, length, Option, Some, None, false, true, IfOk, IfSome};
-ghost use Rattle.world_model.specs.Refusals.{is_built, last_time};
+ghost use Rattle.std.specs.Prelude.{◌≡◌, ◌≤◌, ◌<◌, ◌^◌, ℕ, List, [], ◌∷◌, length, Option, Some, None, false, true, IfOk, ◌+ℤ◌};
+
+ghost use Rattle.std.specs.Int.{int_wrap, w128};
+ghost use Rattle.dc_engine.specs.Stored.{stored, sum_upto, own_sum, transaction_at};
 
 use crate::sessions::{Change, Sessions, Transaction, close, create, note, open};
 use crate::store::{Store, add_own, add_visible, store_all};
 use crdt_core::{Act, Kind, ObjectId, Op, Value};
-use crdt_counters::CounterPn;
+use crdt_counters::amount_of;
 use field_codec::Text;
 use indexmap::IndexMap;
 use site_vector::{PartId, TxId, VTime};
@@ -35,6 +37,12 @@ pub(crate) struct Machine {
 }
 
 impl Machine {
+    ghost use Rattle.std.specs.Prelude.{◌≡◌, ◌≤◌, ◌<◌, ◌^◌, ℕ, List, [], ◌∷◌, length, Option, Some, None, false, true, IfOk};
+    ghost use Rattle.site_vector.specs.declared.ids.PartId.{PartId};
+    ghost use Rattle.world_model.specs.Refusals.{is_built};
+    ghost use Rattle.dc_engine.specs.declared.sessions.Change.{Change};
+    ghost use Rattle.dc_engine.specs.Machine.{Acts, CommitsChanges, session_in};
+
     /// A machine before any command. Takes no memory.
     pub(crate) fn new(alloc: Global) -> Machine
         ensures made { result.made ≡ false }
@@ -195,6 +203,63 @@ impl Machine {
             }
         }
     }
+
+    /// Commits a transaction that has changes, of a session that is open.
+    fn commit_changes(&mut self, name: Text) -> Result<Vec<Step>, AllocError>
+        requires room { self.old.now < 2 ^ 62 }
+        ensures { (t : ℕ × List Change) → session_in self.old name ≡ Some (Some t) → IfOk result (λ lines. CommitsChanges self.old name t lines.items self.new) }
+    {
+        let alloc = self.alloc;
+        let mut steps = Vec::new(alloc);
+        if let Some(transaction) = close(&mut self.sessions, &name) {
+            let tx = tx_at(transaction.time());
+            let time = self.now + 1;
+            self.now = time;
+            store_all(&mut self.store, alloc, tx, time, transaction.changes())?;
+            let part = ONE;
+            steps.push(Step::Prepared { part, tx, time })?;
+            let c = vector_at(time);
+            steps.push(Step::Decided { part, tx, c })?;
+            steps.push(Step::Ended { name })?;
+        }
+        Ok(steps)
+    }
+}
+
+/// The transaction that began at a time.
+fn tx_at(time: u64) -> TxId
+    ensures { result ≡ transaction_at time }
+{
+    TxId {
+        site: 1,
+        part: 1,
+        time,
+    }
+}
+
+/// The vector of one site at a time.
+fn vector_at(time: u64) -> VTime
+    ensures { result ≡ time ∷ [] }
+{
+    VTime::zero(1).with(1, time)
+}
+
+/// What a transaction reads of an object: what had committed when it began, and its own changes.
+fn value_of(
+    alloc: Global,
+    store: &Store,
+    transaction: &Transaction,
+    object: &ObjectId,
+) -> Result<Value, AllocError>
+    ensures { IfOk result (λ v. v ≡ Value.Int (int_wrap w128 (sum_upto transaction.now.0 (stored store.now.entries object.now) +ℤ own_sum object.now transaction.now.1))) }
+{
+    let mut total = 0;
+    let time = transaction.time();
+    if let Some(updates) = store.get(object) {
+        add_visible(alloc, &mut total, updates, time)?;
+    }
+    add_own(alloc, &mut total, tx_at(time), transaction.changes(), object)?;
+    Ok(Value::Int(total))
 }
 
 /// One line.
