@@ -36,11 +36,11 @@ pub record Leaves (run : Run) (e : Line) : Type 0 where
   pub changed : (t : TxId) → in_history run t ≡ true → changes (e ∷ run) t ≡ changes run t
   pub beyond : (t u : TxId) → is_begun run t ≡ true → in_history run u ≡ false → decides e.step u ≡ true → le (commit_vector (e ∷ run) u) (snapshot run t) ≡ false
 
-abbrev EachIs : (TxId → Bool) → List TxId → Type 0
+abbrev pub EachIs : (TxId → Bool) → List TxId → Type 0
 EachIs p [] = Unit {0}
 EachIs p (t ∷ ts) = (p t ≡ true) × EachIs p ts
 
-each_weaker : (p q : TxId → Bool) → ((t : TxId) → p t ≡ true → q t ≡ true) → (ts : List TxId) → EachIs p ts → EachIs q ts
+pub each_weaker : (p q : TxId → Bool) → ((t : TxId) → p t ≡ true → q t ≡ true) → (ts : List TxId) → EachIs p ts → EachIs q ts
 each_weaker p q f [] h = tt
 each_weaker p q f (t ∷ ts) h = (f t h.0, each_weaker p q f ts h.1)
 
@@ -68,7 +68,7 @@ module _ (run : Run) (e : Line) (begun : AreBegun run) (leaves : Leaves run e) w
   abbrev more : Run
   more = e ∷ run
 
-  vector_same : (t : TxId) → in_history run t ≡ true → commit_vector more t ≡ commit_vector run t
+  pub vector_same : (t : TxId) → in_history run t ≡ true → commit_vector more t ≡ commit_vector run t
   vector_same t h = ap (λ v. replaced v t.site (commit_time more t)) (leaves.snapshots t (begun t h)) ∙ ap (λ n. replaced (snapshot run t) t.site n) (leaves.times t h)
 
   -- what a snapshot so far sees stays
