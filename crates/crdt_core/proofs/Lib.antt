@@ -1,3 +1,4 @@
 pub mod DotSet
+pub mod FormSteps
 pub mod Sorted
 pub mod Trees

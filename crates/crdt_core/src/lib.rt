@@ -3,8 +3,10 @@
 
 mod copied;
 mod crdt;
+mod dot_forms;
 mod dots;
 mod error;
+mod forms;
 mod kept;
 mod kind;
 mod object;
@@ -16,8 +18,10 @@ mod value;
 
 pub use copied::Copied;
 pub use crdt::Crdt;
+pub use dot_forms::{put_dots, take_dots, DotForm};
 pub use dots::Dots;
 pub use error::GenError;
+pub use forms::{put_dot, put_kind, put_tx, take_dot, take_kind, take_tx};
 pub use kept::Kept;
 pub use kind::Kind;
 pub use object::{Field, ObjectId};
