@@ -137,6 +137,8 @@ pub(crate) fn take_small(
     requires { at ≤ length bytes.now }
     ensures answer { result ≡ between_at 1 least most bytes.now at }
     ensures within { IfOk result (λ x. x.1 ≤ length bytes.now) }
+    ensures low { IfOk result (λ x. least ≤ x.0) }
+    ensures high { IfOk result (λ x. x.0 ≤ most) }
 {
     let (n, end) = take_u8(bytes, at)?;
     if n < least || n > most {
