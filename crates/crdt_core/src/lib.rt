@@ -26,3 +26,6 @@ pub use placing::partition_of;
 pub use replay::{state_after, value_after};
 pub use table::{fits, fits_at, reads_state, stands_in};
 pub use value::Value;
+
+#[cfg(test)]
+mod tests;
