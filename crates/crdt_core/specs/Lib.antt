@@ -17,5 +17,6 @@ pub mod Placing
 pub mod Same
 pub mod Seen
 pub mod Stamps
+pub mod Texts
 pub mod Wins
 pub mod WinsLaw
