@@ -1,11 +1,11 @@
 -- What sets from which elements can be removed keep: of each element, what no later update has taken out.
-use Rattle.std.specs.Prelude.{ℕ, Bool, true, false, cond, not, ◌==◌, List, [], ◌∷◌, map, filter, Option, unwrap_or}
+use Rattle.std.specs.Prelude.{ℕ, Bool, true, false, not, ◌&&◌, cond, ◌==◌, List, [], ◌∷◌, map, filter, Option, unwrap_or}
 use Rattle.std.specs.List.{list_any}
 use Rattle.std.specs.FinMap.{FinMap, empty, insert, remove, get, keys, entries, len}
 use Rattle.site_vector.specs.declared.ids.Dot.{Dot}
 use Rattle.crdt_core.specs.Texts.{text_cmp, same_text}
 use Rattle.crdt_core.specs.DotSet.{has_dot}
-use Rattle.crdt_core.specs.Kept.{KeptAt, kept_step, dots_of, is_kept}
+use Rattle.crdt_core.specs.Kept.{KeptAt, kept_step, dots_of, is_kept, has_marked, has_unmarked}
 use Rattle.crdt_sets.specs.declared.named.Named.{Named}
 
 abbrev pub Elements : Type 0
@@ -41,9 +41,7 @@ names_dot ns d = list_any (λ n. has_dot n.dots d) ns
 abbrev pub keeps_dot : Elements → Dot → Bool
 keeps_dot m d = list_any (λ e. is_kept e.1 d) (entries m)
 
--- something marked, something not marked
-abbrev pub has_marked : KeptAt Bool → Bool
-has_marked k = list_any (λ e. e.1) (entries k)
-
-abbrev pub has_unmarked : KeptAt Bool → Bool
-has_unmarked k = list_any (λ e. not e.1) (entries k)
+-- the elements that are shown: those that are marked, and where removes win, those alone that nothing unmarked is kept of
+abbrev pub shows : Bool → KeptAt Bool → Bool
+shows false k = has_marked k
+shows true k = has_marked k && not (has_unmarked k)

@@ -24,7 +24,7 @@ use Rattle.crdt_core.specs.Leaves.{IsLeaf, same_kind_is, no_stamp_due}
 use Rattle.crdt_core.specs.Confluence.{confluence, any_same}
 use Rattle.crdt_core.specs.Texts.{text_cmp, same_text, same_text_is, is_in, ascending, in_ascending, same_ascending, in_filter, ascending_sorted}
 use Rattle.crdt_core.specs.MapLists.{IsDistinct, distinct_entries}
-use Rattle.crdt_core.specs.Kept.{KeptAt, kept_step, is_kept}
+use Rattle.crdt_core.specs.Kept.{KeptAt, kept_step, is_kept, has_marked, has_unmarked}
 use Rattle.crdt_core.specs.KeptSteps.{get-kept_step}
 use Rattle.crdt_core.specs.KeptLaw.{given, left, kept_after}
 use Rattle.crdt_core.specs.KeptKinds.{pairs, stays, holding, any_pairs, kept_entries}
@@ -33,9 +33,9 @@ use Rattle.crdt_core.specs.Wins.{lives, add_wins, remove_wins}
 use Rattle.crdt_core.specs.WinsLaw.{undoes, add_stays, remove_stays}
 use Rattle.crdt_sets.specs.Meaning.{adds, removes, added, aw_meaning, rw_meaning}
 use Rattle.crdt_sets.specs.MeaningLaws.{in_added, aw_orderless, rw_orderless}
-use Rattle.crdt_sets.specs.Elements.{Elements, at, take_named, named_at, passing, names_dot, keeps_dot, has_marked, has_unmarked}
+use Rattle.crdt_sets.specs.Elements.{Elements, at, take_named, named_at, passing, names_dot, keeps_dot, shows}
 use Rattle.crdt_sets.specs.ElementSteps.{lists, dots_at, at-take_named, take_swaps, take_held, keeps_none, at_none, names_kept, lists_named, dots_named}
-use Rattle.crdt_sets.specs.Sets.{aw_has, rw_has, named_of, aw_own, rw_own, aw_step, rw_step, set_made, kind_made, aw_value, is_held, rw_value, no_stamp, set_names}
+use Rattle.crdt_sets.specs.Sets.{aw_has, rw_has, named_of, aw_own, rw_own, aw_step, rw_step, set_made, kind_made, aw_value, rw_value, no_stamp, set_names}
 use Rattle.crdt_sets.specs.declared.named.Named.{Named}
 use Rattle.crdt_sets.specs.declared.effect.SetEffect.{SetEffect}
 
@@ -193,7 +193,7 @@ aw_at k us h x =
     let kept = kept_after empty aw_step (made_by kind_made k) (λ u. aw_given x u.act) (takes x) (λ s q. get (at s x) q) (none_at x) (λ s r u q. aw_sees s r u.dot u.act x q) us h in
     kept_any x (aw_given x) (λ b. b) (adds x) (aw_marks x) us h _ kept ∙ add_stays (adds x) (removes x) us h
 
-rw_at : (k : Kind) (us : List Update) → IsHistory us → (x : List ℕ) → is_held (at (state_after empty rw_step (made_by kind_made k) us) x) ≡ remove_wins (adds x) (removes x) us
+rw_at : (k : Kind) (us : List Update) → IsHistory us → (x : List ℕ) → shows true (at (state_after empty rw_step (made_by kind_made k) us) x) ≡ remove_wins (adds x) (removes x) us
 rw_at k us h x =
     let kept = kept_after empty rw_step (made_by kind_made k) (λ u. rw_given x u.act) (takes x) (λ s q. get (at s x) q) (none_at x) (λ s r u q. rw_sees s r u.dot u.act x q) us h in
     (λ i. kept_any x (rw_given x) (λ b. b) (adds x) (rw_marks x) us h _ kept i && not (kept_any x (rw_given x) not (removes x) (rw_unmarks x) us h _ kept i)) ∙ remove_stays (adds x) (removes x) us h
@@ -260,10 +260,10 @@ marks_none : has_marked empty ≡ false
 marks_none = no_any (λ e. e.1) (entries empty) (sym (len-entries empty) ∙ len-empty dot_cmp Bool)
 
 aw_means : (k : Kind) (us : List Update) → IsHistory us → aw_value (state_after empty aw_step (made_by kind_made k) us) ≡ aw_meaning k us
-aw_means k us h = ap Words (shown has_marked marks_none (λ x. add_wins (adds x) (removes x) us) us _ (aw_at k us h) (aw_some us))
+aw_means k us h = ap Words (shown (shows false) marks_none (λ x. add_wins (adds x) (removes x) us) us _ (aw_at k us h) (aw_some us))
 
 rw_means : (k : Kind) (us : List Update) → IsHistory us → rw_value (state_after empty rw_step (made_by kind_made k) us) ≡ rw_meaning k us
-rw_means k us h = ap Words (shown is_held (ap (λ b. b && not (has_unmarked empty)) marks_none) (λ x. remove_wins (adds x) (removes x) us) us _ (rw_at k us h) (rw_some us))
+rw_means k us h = ap Words (shown (shows true) (ap (λ b. b && not (has_unmarked empty)) marks_none) (λ x. remove_wins (adds x) (removes x) us) us _ (rw_at k us h) (rw_some us))
 
 aw_leaf : IsLeaf SetAw
 aw_leaf l = refl

@@ -1,5 +1,5 @@
 -- The states and effects of sets from which elements can be removed.
-use Rattle.std.specs.Prelude.{ℕ, Bool, true, false, not, ◌&&◌, List, [], Option, Some, None}
+use Rattle.std.specs.Prelude.{ℕ, Bool, true, false, List, [], Option, Some, None}
 use Rattle.std.specs.FinMap.{keys}
 use Rattle.site_vector.specs.declared.ids.Dot.{Dot}
 use Rattle.crdt_core.specs.declared.kind.Kind.{Kind}
@@ -11,8 +11,7 @@ use Rattle.crdt_core.specs.declared.value.Value.{Value}
 use Rattle.crdt_core.specs.declared.value.Value.TheVariants.{Words}
 use Rattle.crdt_core.specs.Kinds.{same_kind}
 use Rattle.crdt_core.specs.Texts.{ascending}
-use Rattle.crdt_core.specs.Kept.{KeptAt}
-use Rattle.crdt_sets.specs.Elements.{Elements, take_named, named_at, passing, names_dot, has_marked, has_unmarked}
+use Rattle.crdt_sets.specs.Elements.{Elements, take_named, named_at, passing, names_dot, shows}
 use Rattle.crdt_sets.specs.declared.named.Named.{Named}
 use Rattle.crdt_sets.specs.declared.effect.SetEffect.{SetEffect}
 use Rattle.crdt_sets.specs.declared.effect.SetEffect.TheVariants.{Add, Remove, Reset}
@@ -55,13 +54,10 @@ abbrev pub kind_made : Kind → Elements → List Field → Act → ℕ → SetE
 kind_made k m p a now = set_made m a
 
 abbrev pub aw_value : Elements → Value
-aw_value m = Words (passing has_marked m)
-
-abbrev pub is_held : KeptAt Bool → Bool
-is_held k = has_marked k && not (has_unmarked k)
+aw_value m = Words (passing (shows false) m)
 
 abbrev pub rw_value : Elements → Value
-rw_value m = Words (passing is_held m)
+rw_value m = Words (passing (shows true) m)
 
 abbrev pub no_stamp : SetEffect → Option ℕ
 no_stamp e = None
