@@ -132,3 +132,30 @@ module _ {V E : Type 0} (make : KeptAt V → Update → E) (out : E → List Dot
   -- the state after a history has the entries that stay
   pub state_entries : (us : List Update) → IsHistory us → Same (entries (state_after empty step make us)) (pairs puts (filter (stays takes us) us))
   state_entries us h = kept_entries puts takes us h (state_after empty step make us) (kept_after empty step make puts takes (λ s q. get s q) (λ q. get-empty dot_cmp q) at_step us h)
+
+-- what is put passes a test
+abbrev pub holding : {V : Type 0} → (V → Bool) → Option V → Bool
+holding t None = false
+holding t (Some v) = t v
+
+any_with : {V : Type 0} (t : V → Bool) (d : Dot) (own : Option V) (rest : List (Dot × V)) → list_any (λ e. t e.1) (with_pair d own rest) ≡ (holding t own || list_any (λ e. t e.1) rest)
+any_with t d None rest = refl
+any_with t d (Some v) rest = refl
+
+and_itself : (a : Bool) → a ≡ (a && true)
+and_itself true = refl
+and_itself false = refl
+
+and_never : (a : Bool) → false ≡ (a && false)
+and_never true = refl
+and_never false = refl
+
+-- a test of what stays is one of the updates that put it
+pub any_pairs : {V : Type 0} (t : V → Bool) (puts : Update → Option V) (k : Update → Bool) (us : List Update) → list_any (λ e. t e.1) (pairs puts (filter k us)) ≡ list_any (λ u. holding t (puts u) && k u) us
+any_pairs t puts k [] = refl
+any_pairs t puts k (u ∷ us) =
+    let rest = any_pairs t puts k us in
+    elim (k u) as (λ b. list_any (λ e. t e.1) (pairs puts (cond b (u ∷ filter k us) (filter k us))) ≡ ((holding t (puts u) && b) || list_any (λ u. holding t (puts u) && k u) us)) [
+      | true ↦ any_with t u.dot (puts u) (pairs puts (filter k us)) ∙ (λ i. and_itself (holding t (puts u)) i || rest i)
+      | false ↦ rest ∙ ap (λ b. b || list_any (λ u. holding t (puts u) && k u) us) (and_never (holding t (puts u)))
+    ]

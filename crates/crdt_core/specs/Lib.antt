@@ -19,5 +19,6 @@ pub mod Seen
 pub mod Spelled
 pub mod SpelledLaws
 pub mod Stamps
+pub mod Texts
 pub mod Wins
 pub mod WinsLaw

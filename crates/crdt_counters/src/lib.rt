@@ -7,3 +7,6 @@ mod counter_pn;
 
 pub use counter_fat::{CounterFat, FatEffect};
 pub use counter_pn::CounterPn;
+
+#[cfg(test)]
+mod tests;
