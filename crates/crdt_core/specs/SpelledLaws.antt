@@ -27,9 +27,9 @@ between_form width least most w small =
     let test = is_between least most in
     let law = checked_form test (is_number width) (is_number width) (number width) (number_at width) (number_form width w) in
     let fits : (n : ℕ) → test n ≡ true → (test n && is_number width n) ≡ true = λ n h.
-        let p = both_true (nat_le least n) (nat_le n most) h in
-        let up = le_from n most p.1 in
-        and_true (test n) (is_number width n) h (lt_holds n (256 ^ width) (omega arith)) in
+    let p = both_true (nat_le least n) (nat_le n most) h in
+    let up = le_from n most p.1 in
+    and_true (test n) (is_number width n) h (lt_holds n (256 ^ width) (omega arith)) in
     record {
       found = λ bytes at n end ok within h. let f = law.found bytes at n end ok within h in ((both_true (test n) (is_number width n) f.0).0, f.1);
       again = λ bytes at n end good spans. law.again bytes at n end (fits n good) spans;
@@ -75,11 +75,11 @@ vector_form =
     let entries = λ (n : ℕ). members_form any (is_number 8) (is_number 8) (number 8) (number_at 8) (number_form 8 width8) n in
     let whole = then_form (is_between 1 8) (is_between 1 8) (number 1) (between_at 1 1 8) (λ n vs. eqb (length vs) n && are_members any (is_number 8) vs) (λ n vs. eqb (length vs) n && are_members any (is_number 8) vs) (λ _. flat_map (number 8)) (λ n. members_at any (number_at 8) None n) (between_form 1 1 8 width1 (omega arith)) (λ n _. entries n) in
     let forth : (x : ℕ × List ℕ) → (is_between 1 8 x.0 && (eqb (length x.1) x.0 && are_members any (is_number 8) x.1)) ≡ true → (length x.1, x.1) ≡ x = λ x h.
-        let p = both_true (is_between 1 8 x.0) (eqb (length x.1) x.0 && are_members any (is_number 8) x.1) h in
-        let q = both_true (eqb (length x.1) x.0) (are_members any (is_number 8) x.1) p.1 in
-        ap (λ n. (n, x.1)) (eqb-true (length x.1) x.0 q.0) in
+    let p = both_true (is_between 1 8 x.0) (eqb (length x.1) x.0 && are_members any (is_number 8) x.1) h in
+    let q = both_true (eqb (length x.1) x.0) (are_members any (is_number 8) x.1) p.1 in
+    ap (λ n. (n, x.1)) (eqb-true (length x.1) x.0 q.0) in
     let told : (v : List ℕ) → (is_between 1 8 (length v) && (eqb (length v) (length v) && are_members any (is_number 8) v)) ≡ is_vector v = λ v.
-        ap (λ b. is_between 1 8 (length v) && (b && are_members any (is_number 8) v)) (eq-eqb (length v) (length v) refl) ∙ ap (λ b. is_between 1 8 (length v) && (b && list_all (is_number 8) v)) (in_any_order None v) in
+    ap (λ b. is_between 1 8 (length v) && (b && are_members any (is_number 8) v)) (eq-eqb (length v) (length v) refl) ∙ ap (λ b. is_between 1 8 (length v) && (b && list_all (is_number 8) v)) (in_any_order None v) in
     retold _ _ is_vector vector _ told (mapped_form (λ (x : ℕ × List ℕ). x.1) (λ v. (length v, v)) _ _ _ _ (λ _. refl) forth whole)
 
 -- ---- kinds and objects
@@ -134,8 +134,8 @@ pub kind_form : IsForm (λ _. true) (λ _. true) kind kind_at
 unfolding kind_at
 kind_form =
     let forth : (n : ℕ) → is_between 1 11 n ≡ true → kind_code (coded_kind n) ≡ n = λ n h.
-        let p = both_true (nat_le 1 n) (nat_le n 11) h in
-        code_back n (le_from 1 n p.0) (le_from n 11 p.1) in
+    let p = both_true (nat_le 1 n) (nat_le n 11) h in
+    code_back n (le_from 1 n p.0) (le_from n 11 p.1) in
     retold _ _ (λ _. true) kind _ is_code (mapped_form coded_kind kind_code _ _ _ _ coded_back forth (between_form 1 1 11 width1 (omega arith)))
 
 and_this : (b : Bool) → (b && true) ≡ b

@@ -6,8 +6,8 @@ ghost use Rattle.crdt_core.specs.DotSet.{IsAscending};
 ghost use Rattle.crdt_core.specs.Spelled.{is_dot, dot, dot_at, are_dots, is_dots, dots, dots_at};
 ghost use Rattle.crdt_core.specs.SpelledLaws.{dot_form};
 
-use crate::{put_dot, take_dot, Dots};
-use field_codec::{put_list, take_list, Form, ListOf, TakeError};
+use crate::{Dots, put_dot, take_dot};
+use field_codec::{Form, ListOf, TakeError, put_list, take_list};
 use site_vector::Dot;
 use std::alloc::{AllocError, Global};
 
@@ -85,11 +85,7 @@ pub fn take_dots(alloc: Global, bytes: &[u8], at: usize) -> Result<(Dots, usize)
     Ok((Dots::of_ascending(list.into_vec()), end))
 }
 
-fn take_ascending(
-    alloc: Global,
-    bytes: &[u8],
-    at: usize,
-) -> Result<(ListOf<Dot>, usize), TakeError>
+fn take_ascending(alloc: Global, bytes: &[u8], at: usize) -> Result<(ListOf<Dot>, usize), TakeError>
     requires { at ≤ length bytes.now }
     ensures answer { Gives result (dots_at bytes.now at) }
     ensures ascending { IfOk result (λ x. IsAscending x.0) }

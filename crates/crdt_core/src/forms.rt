@@ -3,7 +3,7 @@ ghost use Rattle.field_codec.specs.Reading.{Gives};
 ghost use Rattle.crdt_core.specs.Spelled.{between_at, is_tx, tx as tx_spelling, tx_at, is_dot, dot as dot_spelling, dot_at, kind as kind_spelling, kind_at};
 
 use crate::Kind;
-use field_codec::{put_u8, take_u16, take_u64, take_u8, TakeError};
+use field_codec::{TakeError, put_u8, take_u8, take_u16, take_u64};
 use site_vector::{Dot, TxId};
 use std::alloc::AllocError;
 

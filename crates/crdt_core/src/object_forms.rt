@@ -3,8 +3,8 @@ ghost use Rattle.field_codec.specs.Spelling.{Keeps};
 ghost use Rattle.field_codec.specs.Reading.{Gives};
 ghost use Rattle.crdt_core.specs.Spelled.{object, object_at};
 
-use crate::{put_kind, take_kind, Crdt, ObjectId};
-use field_codec::{put_text, take_text, TakeError};
+use crate::{Crdt, ObjectId, put_kind, take_kind};
+use field_codec::{TakeError, put_text, take_text};
 use std::alloc::{AllocError, Global};
 
 /// Appends the bucket, the key and the code of the kind.

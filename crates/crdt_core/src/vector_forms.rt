@@ -4,7 +4,7 @@ ghost use Rattle.field_codec.specs.Reading.{number_at, members_at};
 ghost use Rattle.crdt_core.specs.Spelled.{vector, vector_at};
 
 use crate::forms::take_small;
-use field_codec::{put_u64, put_u8, take_u64, TakeError};
+use field_codec::{TakeError, put_u8, put_u64, take_u64};
 use site_vector::VTime;
 use std::alloc::AllocError;
 
