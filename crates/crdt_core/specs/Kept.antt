@@ -1,6 +1,7 @@
 -- What is kept of updates that later ones undo: a value at each dot.
 use Rattle.std.specs.Prelude.{ℕ, Bool, true, false, cond, not, List, [], ◌∷◌, Option, Some, None, is_some}
-use Rattle.std.specs.FinMap.{FinMap, empty, insert, retain_keys, get, keys}
+use Rattle.std.specs.List.{list_any}
+use Rattle.std.specs.FinMap.{FinMap, insert, retain_keys, get, keys, entries}
 use Rattle.site_vector.specs.declared.ids.Dot.{Dot}
 use Rattle.site_vector.specs.Order.{dot_cmp}
 use Rattle.crdt_core.specs.DotSet.{has_dot}
@@ -31,3 +32,10 @@ dots_if b m = cond b (keys m) []
 
 abbrev pub is_kept : {V : Type 0} → KeptAt V → Dot → Bool
 is_kept m d = is_some (get m d)
+
+-- something marked, something not marked
+abbrev pub has_marked : KeptAt Bool → Bool
+has_marked m = list_any (λ e. e.1) (entries m)
+
+abbrev pub has_unmarked : KeptAt Bool → Bool
+has_unmarked m = list_any (λ e. not e.1) (entries m)

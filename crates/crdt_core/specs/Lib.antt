@@ -18,5 +18,8 @@ pub mod Law
 pub mod Leaves
 pub mod MapLists
 pub mod Members
+pub mod Spelled
+pub mod SpelledLaws
+pub mod Texts
 pub mod Wins
 pub mod WinsLaw

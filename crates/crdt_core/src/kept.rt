@@ -3,7 +3,7 @@ ghost use Rattle.std.specs.FinMap as map;
 ghost use Rattle.std.specs.Map.Iter.{ShowsInOrder, deref_pair};
 ghost use Rattle.site_vector.specs.declared.ids.Dot.{Dot};
 ghost use Rattle.site_vector.specs.Order.{dot_cmp};
-ghost use Rattle.crdt_core.specs.Kept.{without, dots_of};
+ghost use Rattle.crdt_core.specs.Kept.{without, dots_of, has_marked, has_unmarked};
 
 use crate::{Copied, Dots};
 use site_vector::Dot;
@@ -86,6 +86,22 @@ impl<V: Drop> Kept<V> {
         ensures { self.new ≡ without self.old dots.now }
     {
         take_each(&mut self.entries, dots);
+    }
+}
+
+impl Kept<bool> {
+    /// Whether a mark is kept.
+    pub fn has_marked(&self) -> bool
+        ensures { result ≡ has_marked self.now }
+    {
+        self.iter().any(|entry| *entry.1)
+    }
+
+    /// Whether something is kept without a mark.
+    pub fn has_unmarked(&self) -> bool
+        ensures { result ≡ has_unmarked self.now }
+    {
+        self.iter().any(|entry| !*entry.1)
     }
 }
 

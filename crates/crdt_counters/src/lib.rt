@@ -8,3 +8,6 @@ mod counter_pn;
 pub use counter_fat::{CounterFat, FatEffect};
 pub use amounts::amount_of;
 pub use counter_pn::CounterPn;
+
+#[cfg(test)]
+mod tests;

@@ -20,7 +20,7 @@ use Rattle.crdt_core.specs.Kept.{KeptAt, dots_if, is_kept}
 use Rattle.crdt_core.specs.KeptKinds.{pairs, stays, holding, any_pairs, kept_keeps_steps, state_entries}
 use Rattle.crdt_core.specs.WinsLaw.{undoes, add_stays, remove_stays, add_wins_same, remove_wins_same}
 use Rattle.crdt_flags.specs.Meaning.{enables, disables, ew_meaning, dw_meaning}
-use Rattle.crdt_flags.specs.Flags.{ew_has, dw_has, flag_out, ew_own, dw_own, ew_step, dw_step, flag_made, kind_made, is_on, is_off, ew_value, dw_value, no_stamp, flag_names}
+use Rattle.crdt_flags.specs.Flags.{ew_has, dw_has, flag_out, ew_own, dw_own, ew_step, dw_step, flag_made, kind_made, ew_value, dw_value, no_stamp, flag_names}
 use Rattle.crdt_flags.specs.declared.effect.FlagEffect.{FlagEffect}
 
 -- what an act puts at its dot

@@ -1,7 +1,5 @@
 -- The states and effects of flags.
 use Rattle.std.specs.Prelude.{ℕ, Bool, true, false, not, ◌&&◌, List, [], Option, Some, None}
-use Rattle.std.specs.List.{list_any}
-use Rattle.std.specs.FinMap.{entries}
 use Rattle.site_vector.specs.declared.ids.Dot.{Dot}
 use Rattle.crdt_core.specs.declared.kind.Kind.{Kind}
 use Rattle.crdt_core.specs.declared.kind.Kind.TheVariants.{FlagEw, FlagDw}
@@ -12,7 +10,7 @@ use Rattle.crdt_core.specs.declared.value.Value.{Value}
 use Rattle.crdt_core.specs.declared.value.Value.TheVariants.{Flag}
 use Rattle.crdt_core.specs.Kinds.{same_kind}
 use Rattle.crdt_core.specs.DotSet.{has_dot}
-use Rattle.crdt_core.specs.Kept.{KeptAt, kept_step, dots_of}
+use Rattle.crdt_core.specs.Kept.{KeptAt, kept_step, dots_of, has_marked, has_unmarked}
 use Rattle.crdt_flags.specs.declared.effect.FlagEffect.{FlagEffect}
 use Rattle.crdt_flags.specs.declared.effect.FlagEffect.TheVariants.{Enable, Disable, Reset}
 
@@ -54,17 +52,11 @@ flag_made s _ = Reset []
 abbrev pub kind_made : Kind → KeptAt Bool → List Field → Act → ℕ → FlagEffect
 kind_made k s p a now = flag_made s a
 
-abbrev pub is_on : KeptAt Bool → Bool
-is_on s = list_any (λ e. e.1) (entries s)
-
-abbrev pub is_off : KeptAt Bool → Bool
-is_off s = list_any (λ e. not e.1) (entries s)
-
 abbrev pub ew_value : KeptAt Bool → Value
-ew_value s = Flag (is_on s)
+ew_value s = Flag (has_marked s)
 
 abbrev pub dw_value : KeptAt Bool → Value
-dw_value s = Flag (is_on s && not (is_off s))
+dw_value s = Flag (has_marked s && not (has_unmarked s))
 
 abbrev pub no_stamp : FlagEffect → Option ℕ
 no_stamp e = None

@@ -1,5 +1,5 @@
-ghost use Rattle.std.specs.Prelude.{◌≡◌, not, IfOk};
-ghost use Rattle.crdt_flags.specs.Flags.{flag_made, is_on, is_off};
+ghost use Rattle.std.specs.Prelude.{◌≡◌, IfOk};
+ghost use Rattle.crdt_flags.specs.Flags.{flag_made};
 
 use crdt_core::{Act, Dots, Kept};
 use std::alloc::{AllocError, Global};
@@ -46,18 +46,4 @@ pub fn effect_of(alloc: Global, act: &Act, kept: &Kept<bool>) -> Result<FlagEffe
         Act::Reset => Ok(FlagEffect::Reset(kept.dots(alloc)?)),
         _ => Ok(FlagEffect::Reset(Dots::new(alloc))),
     }
-}
-
-/// Whether an enable is kept.
-pub fn has_enable(kept: &Kept<bool>) -> bool
-    ensures { result ≡ is_on kept.now }
-{
-    kept.iter().any(|entry| *entry.1)
-}
-
-/// Whether a disable is kept.
-pub fn has_disable(kept: &Kept<bool>) -> bool
-    ensures { result ≡ is_off kept.now }
-{
-    kept.iter().any(|entry| !*entry.1)
 }

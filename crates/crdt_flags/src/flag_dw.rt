@@ -6,7 +6,7 @@ ghost use Rattle.crdt_flags.specs.Flags.{dw_has, dw_step, dw_value, kind_made, n
 ghost use Rattle.crdt_flags.specs.FlagLaws.{dw_law};
 
 use crate::FlagEffect;
-use crate::effect::{effect_of, has_disable, has_enable};
+use crate::effect::effect_of;
 use crdt_core::{Act, Crdt, Field, GenError, Kept, Kind, Op, Value, fits_at, reads_state};
 use site_vector::Dot;
 use std::alloc::{AllocError, Global};
@@ -103,6 +103,6 @@ impl Crdt for FlagDw {
     }
 
     fn value(alloc: Global, state: &Kept<bool>) -> Result<Value, AllocError> {
-        Ok(Value::Flag(has_enable(state) && !has_disable(state)))
+        Ok(Value::Flag(state.has_marked() && !state.has_unmarked()))
     }
 }

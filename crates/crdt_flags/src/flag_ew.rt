@@ -6,7 +6,7 @@ ghost use Rattle.crdt_flags.specs.Flags.{ew_has, ew_step, ew_value, kind_made, n
 ghost use Rattle.crdt_flags.specs.FlagLaws.{ew_law};
 
 use crate::FlagEffect;
-use crate::effect::{effect_of, has_enable};
+use crate::effect::effect_of;
 use crdt_core::{Act, Crdt, Field, GenError, Kept, Kind, Op, Value, fits_at, reads_state};
 use site_vector::Dot;
 use std::alloc::{AllocError, Global};
@@ -99,6 +99,6 @@ impl Crdt for FlagEw {
     }
 
     fn value(alloc: Global, state: &Kept<bool>) -> Result<Value, AllocError> {
-        Ok(Value::Flag(has_enable(state)))
+        Ok(Value::Flag(state.has_marked()))
     }
 }

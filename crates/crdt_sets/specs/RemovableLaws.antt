@@ -1,0 +1,292 @@
+-- The sets from which elements can be removed keep the law of a kind.
+use Rattle.std.proofs.Common.{◌≡◌, ℕ, Bool, true, false, cond, not, ◌&&◌, ◌||◌, List, [], ◌∷◌, ◌++◌, Option, Some, None, refl, sym, ap, ◌∙◌, subst, length, arith}
+use Rattle.std.specs.Prelude.{map, filter, is_some, unwrap_or}
+use Rattle.std.specs.List.{list_any}
+use Rattle.std.specs.Ordering.{is_lt}
+use Rattle.std.proofs.lemmas.Bool.{true≢false, false≢true, and_parts, or_parts, or_from, cases_Bool}
+use Rattle.std.specs.FinMap.{FinMap, empty, get, find, keys, entries, entries_sorted, is_sorted, get-empty, get-entries, contains_key-keys, len-entries, len-empty}
+use Rattle.std.specs.FinMap.Entries.{below_all}
+use Rattle.site_vector.specs.declared.ids.Dot.{Dot}
+use Rattle.site_vector.specs.Ids.{same_dot}
+use Rattle.site_vector.specs.Order.{dot_cmp}
+use Rattle.crdt_core.specs.declared.kind.Kind.{Kind}
+use Rattle.crdt_core.specs.declared.kind.Kind.TheVariants.{SetAw, SetRw, RegisterLww}
+use Rattle.crdt_core.specs.declared.operation.Act.{Act}
+use Rattle.crdt_core.specs.declared.operation.Act.TheVariants as act
+use Rattle.crdt_core.specs.declared.value.Value.TheVariants.{Words}
+use Rattle.crdt_core.specs.Kinds.{same_kind, reads_state}
+use Rattle.crdt_core.specs.Same.{Same}
+use Rattle.crdt_core.specs.DotSet.{has_dot}
+use Rattle.crdt_core.specs.Seen.{Update, sees, is_live}
+use Rattle.crdt_core.specs.History.{IsHistory, state_after}
+use Rattle.crdt_core.specs.Law.{KeepsSteps, KeepsLaw, made_by}
+use Rattle.crdt_core.specs.Leaves.{IsLeaf, same_kind_is, no_stamp_due}
+use Rattle.crdt_core.specs.Confluence.{confluence, any_same}
+use Rattle.crdt_core.specs.Texts.{text_cmp, same_text, same_text_is, is_in, ascending, in_ascending, same_ascending, in_filter, ascending_sorted}
+use Rattle.crdt_core.specs.MapLists.{IsDistinct, distinct_entries}
+use Rattle.crdt_core.specs.Kept.{KeptAt, kept_step, is_kept, has_marked, has_unmarked}
+use Rattle.crdt_core.specs.KeptSteps.{get-kept_step}
+use Rattle.crdt_core.specs.KeptLaw.{given, left, kept_after}
+use Rattle.crdt_core.specs.KeptKinds.{pairs, stays, holding, any_pairs, kept_entries}
+use Rattle.crdt_core.specs.Members.{one_of, any_of}
+use Rattle.crdt_core.specs.Wins.{lives, add_wins, remove_wins}
+use Rattle.crdt_core.specs.WinsLaw.{undoes, add_stays, remove_stays}
+use Rattle.crdt_sets.specs.Meaning.{adds, removes, added, aw_meaning, rw_meaning}
+use Rattle.crdt_sets.specs.MeaningLaws.{in_added, aw_orderless, rw_orderless}
+use Rattle.crdt_sets.specs.Elements.{Elements, at, take_named, named_at, passing, names_dot, keeps_dot, shows}
+use Rattle.crdt_sets.specs.ElementSteps.{lists, dots_at, at-take_named, take_swaps, take_held, keeps_none, at_none, names_kept, lists_named, dots_named}
+use Rattle.crdt_sets.specs.Sets.{aw_has, rw_has, named_of, aw_own, rw_own, aw_step, rw_step, set_made, kind_made, aw_value, rw_value, no_stamp, set_names}
+use Rattle.crdt_sets.specs.declared.named.Named.{Named}
+use Rattle.crdt_sets.specs.declared.effect.SetEffect.{SetEffect}
+
+-- what an act puts of an element
+abbrev aw_given : List ℕ → Act → Option Bool
+aw_given x (act.Add xs) = cond (is_in xs x) (Some true) None
+aw_given x _ = None
+
+abbrev rw_given : List ℕ → Act → Option Bool
+rw_given x (act.Add xs) = cond (is_in xs x) (Some true) None
+rw_given x (act.Remove xs) = cond (is_in xs x) (Some false) None
+rw_given x _ = None
+
+abbrev takes : List ℕ → Update → Bool
+takes x u = undoes (adds x) (removes x) u.act
+
+-- a step as each element sees it
+at_named : (s r : Elements) (xs : List (List ℕ)) (d : Dot) (own : Option Bool) (x : List ℕ) (q : Dot) → get (at (take_named s d own (named_at r xs)) x) q ≡ cond (is_in xs x) (given (same_dot d q) own (cond (is_in xs x && is_kept (at r x) q) None (get (at s x) q))) (get (at s x) q)
+at_named s r xs d own x q =
+    ap (λ k. get k q) (at-take_named (named_at r xs) s d own x ∙ ap (λ b. cond b (kept_step (at s x) d (dots_at (named_at r xs) x) own) (at s x)) (lists_named r xs x))
+    ∙ elim (is_in xs x) as (λ b. get (cond b (kept_step (at s x) d (dots_at (named_at r xs) x) own) (at s x)) q ≡ cond b (given (same_dot d q) own (cond (has_dot (dots_at (named_at r xs) x) q) None (get (at s x) q))) (get (at s x) q)) [
+      | true ↦ get-kept_step (at s x) d (dots_at (named_at r xs) x) own q
+      | false ↦ refl
+    ]
+    ∙ ap (λ c. cond (is_in xs x) (given (same_dot d q) own (cond c None (get (at s x) q))) (get (at s x) q)) (dots_named r xs x q)
+
+add_case : (b l k : Bool) (o : Option Bool) → cond l (given b (Some true) (cond (l && k) None o)) o ≡ given b (cond l (Some true) None) (cond ((l || (false || false)) && k) None o)
+add_case b true k o = refl
+add_case true false k o = refl
+add_case false false k o = refl
+
+remove_case : (b l k : Bool) (own : Option Bool) (o : Option Bool) → cond l (given b own (cond (l && k) None o)) o ≡ given b (cond l own None) (cond ((false || (l || false)) && k) None o)
+remove_case b true k own o = refl
+remove_case true false k own o = refl
+remove_case false false k own o = refl
+
+reset_case : (b l k : Bool) (o : Option Bool) → (l ≡ false → k ≡ false) → cond l (given b None (cond (l && k) None o)) o ≡ given b None (cond k None o)
+reset_case true true k o f = refl
+reset_case false true k o f = refl
+reset_case true false k o f = ap (λ c. cond c None o) (sym (f refl))
+reset_case false false k o f = ap (λ c. cond c None o) (sym (f refl))
+
+other_case : (b : Bool) (o : Option Bool) → o ≡ given b None o
+other_case true o = refl
+other_case false o = refl
+
+none_kept : (r : Elements) (x : List ℕ) (q : Dot) (o : Option (KeptAt Bool)) → is_some o ≡ false → is_kept (unwrap_or o empty) q ≡ false
+none_kept r x q None h = ap is_some (get-empty dot_cmp q)
+none_kept r x q (Some k) h = absurd (true≢false h)
+
+-- a key that doesn't stand keeps nothing
+absent : (r : Elements) (x : List ℕ) (q : Dot) → is_in (keys r) x ≡ false → is_kept (at r x) q ≡ false
+absent r x q h = none_kept r x q (get r x) (contains_key-keys r x ∙ h)
+
+nothing : (l : Bool) (o : Option Bool) → o ≡ None → cond l o None ≡ None
+nothing true o h = h
+nothing false o h = refl
+
+aw_sees : (s r : Elements) (d : Dot) (a : Act) (x : List ℕ) (q : Dot) → get (at (aw_step s d (set_made r a)) x) q ≡ given (same_dot d q) (aw_given x a) (cond (undoes (adds x) (removes x) a && is_some (get (at r x) q)) None (get (at s x) q))
+aw_sees s r d (act.Add xs) x q =
+    at_named s r (ascending xs) d (Some true) x q
+    ∙ ap (λ l. cond l (given (same_dot d q) (Some true) (cond (l && is_kept (at r x) q) None (get (at s x) q))) (get (at s x) q)) (in_ascending xs x)
+    ∙ add_case (same_dot d q) (is_in xs x) (is_kept (at r x) q) (get (at s x) q)
+aw_sees s r d (act.Remove xs) x q =
+    at_named s r (ascending xs) d None x q
+    ∙ ap (λ l. cond l (given (same_dot d q) None (cond (l && is_kept (at r x) q) None (get (at s x) q))) (get (at s x) q)) (in_ascending xs x)
+    ∙ remove_case (same_dot d q) (is_in xs x) (is_kept (at r x) q) None (get (at s x) q)
+    ∙ ap (λ own. given (same_dot d q) own (cond ((false || (is_in xs x || false)) && is_kept (at r x) q) None (get (at s x) q))) (nothing (is_in xs x) None refl)
+aw_sees s r d act.Reset x q =
+    at_named s r (keys r) d None x q
+    ∙ reset_case (same_dot d q) (is_in (keys r) x) (is_kept (at r x) q) (get (at s x) q) (absent r x q)
+aw_sees s r d _ x q = other_case (same_dot d q) (get (at s x) q)
+
+rw_sees : (s r : Elements) (d : Dot) (a : Act) (x : List ℕ) (q : Dot) → get (at (rw_step s d (set_made r a)) x) q ≡ given (same_dot d q) (rw_given x a) (cond (undoes (adds x) (removes x) a && is_some (get (at r x) q)) None (get (at s x) q))
+rw_sees s r d (act.Add xs) x q =
+    at_named s r (ascending xs) d (Some true) x q
+    ∙ ap (λ l. cond l (given (same_dot d q) (Some true) (cond (l && is_kept (at r x) q) None (get (at s x) q))) (get (at s x) q)) (in_ascending xs x)
+    ∙ add_case (same_dot d q) (is_in xs x) (is_kept (at r x) q) (get (at s x) q)
+rw_sees s r d (act.Remove xs) x q =
+    at_named s r (ascending xs) d (Some false) x q
+    ∙ ap (λ l. cond l (given (same_dot d q) (Some false) (cond (l && is_kept (at r x) q) None (get (at s x) q))) (get (at s x) q)) (in_ascending xs x)
+    ∙ remove_case (same_dot d q) (is_in xs x) (is_kept (at r x) q) (Some false) (get (at s x) q)
+rw_sees s r d act.Reset x q =
+    at_named s r (keys r) d None x q
+    ∙ reset_case (same_dot d q) (is_in (keys r) x) (is_kept (at r x) q) (get (at s x) q) (absent r x q)
+rw_sees s r d _ x q = other_case (same_dot d q) (get (at s x) q)
+
+names_held : (s : Elements) (a : Act) (q : Dot) → names_dot (named_of (set_made s a)) q ≡ true → keeps_dot s q ≡ true
+names_held s (act.Add xs) q h = names_kept s (ascending xs) q h
+names_held s (act.Remove xs) q h = names_kept s (ascending xs) q h
+names_held s act.Reset q h = names_kept s (keys s) q h
+names_held s _ q h = absurd (false≢true h)
+
+aw_steps : (k : Kind) → KeepsSteps empty aw_step (made_by kind_made k) set_names keeps_dot
+aw_steps k = record {
+  swaps = λ s a b d e apart na nb. take_swaps s d e (named_of a) (named_of b) (aw_own a) (aw_own b) apart na nb;
+  named = λ s u d h. names_held s u.act d h;
+  held = λ s d e x h. take_held s d (aw_own e) (named_of e) x h;
+  none_held = keeps_none;
+}
+
+rw_steps : (k : Kind) → KeepsSteps empty rw_step (made_by kind_made k) set_names keeps_dot
+rw_steps k = record {
+  swaps = λ s a b d e apart na nb. take_swaps s d e (named_of a) (named_of b) (rw_own a) (rw_own b) apart na nb;
+  named = λ s u d h. names_held s u.act d h;
+  held = λ s d e x h. take_held s d (rw_own e) (named_of e) x h;
+  none_held = keeps_none;
+}
+
+by_act : (given_by : Act → Option Bool) (t : Bool → Bool) (acts : Act → Bool) (k : Update → Bool) → ((a : Act) → holding t (given_by a) ≡ acts a) → (vs : List Update) → list_any (λ u. holding t (given_by u.act) && k u) vs ≡ list_any (λ u. acts u.act && k u) vs
+by_act given_by t acts k is [] = refl
+by_act given_by t acts k is (v ∷ vs) = λ i. (is v.act i && k v) || by_act given_by t acts k is vs i
+
+-- whether a test holds of something kept of an element
+kept_any : (x : List ℕ) (given_by : Act → Option Bool) (t : Bool → Bool) (acts : Act → Bool) → ((a : Act) → holding t (given_by a) ≡ acts a) → (us : List Update) → IsHistory us → (m : KeptAt Bool)
+    → ((q : Dot) → get m q ≡ left (λ u. given_by u.act) (takes x) (λ _. true) us q) → list_any (λ e. t e.1) (entries m) ≡ list_any (λ u. acts u.act && stays (takes x) us u) us
+kept_any x given_by t acts is us h m k =
+    any_same (λ e. t e.1) _ _ (kept_entries (λ u. given_by u.act) (takes x) us h m k) ∙ any_pairs t (λ u. given_by u.act) (stays (takes x) us) us ∙ by_act given_by t acts (stays (takes x) us) is us
+
+marks : (l : Bool) → holding (λ b. b) (cond l (Some true) None) ≡ l
+marks true = refl
+marks false = refl
+
+no_marks : (l : Bool) → holding not (cond l (Some true) None) ≡ false
+no_marks true = refl
+no_marks false = refl
+
+unmarks : (l : Bool) → holding not (cond l (Some false) None) ≡ l
+unmarks true = refl
+unmarks false = refl
+
+no_unmarks : (l : Bool) → holding (λ b. b) (cond l (Some false) None) ≡ false
+no_unmarks true = refl
+no_unmarks false = refl
+
+aw_marks : (x : List ℕ) (a : Act) → holding (λ b. b) (aw_given x a) ≡ adds x a
+aw_marks x (act.Add xs) = marks (is_in xs x)
+aw_marks x _ = refl
+
+rw_marks : (x : List ℕ) (a : Act) → holding (λ b. b) (rw_given x a) ≡ adds x a
+rw_marks x (act.Add xs) = marks (is_in xs x)
+rw_marks x (act.Remove xs) = no_unmarks (is_in xs x)
+rw_marks x _ = refl
+
+rw_unmarks : (x : List ℕ) (a : Act) → holding not (rw_given x a) ≡ removes x a
+rw_unmarks x (act.Add xs) = no_marks (is_in xs x)
+rw_unmarks x (act.Remove xs) = unmarks (is_in xs x)
+rw_unmarks x _ = refl
+
+none_at : (x : List ℕ) (q : Dot) → get (at empty x) q ≡ None
+none_at x q = ap (λ (k : KeptAt Bool). get k q) (at_none x) ∙ get-empty dot_cmp q
+
+aw_at : (k : Kind) (us : List Update) → IsHistory us → (x : List ℕ) → has_marked (at (state_after empty aw_step (made_by kind_made k) us) x) ≡ add_wins (adds x) (removes x) us
+aw_at k us h x =
+    let kept = kept_after empty aw_step (made_by kind_made k) (λ u. aw_given x u.act) (takes x) (λ s q. get (at s x) q) (none_at x) (λ s r u q. aw_sees s r u.dot u.act x q) us h in
+    kept_any x (aw_given x) (λ b. b) (adds x) (aw_marks x) us h _ kept ∙ add_stays (adds x) (removes x) us h
+
+rw_at : (k : Kind) (us : List Update) → IsHistory us → (x : List ℕ) → shows true (at (state_after empty rw_step (made_by kind_made k) us) x) ≡ remove_wins (adds x) (removes x) us
+rw_at k us h x =
+    let kept = kept_after empty rw_step (made_by kind_made k) (λ u. rw_given x u.act) (takes x) (λ s q. get (at s x) q) (none_at x) (λ s r u q. rw_sees s r u.dot u.act x q) us h in
+    (λ i. kept_any x (rw_given x) (λ b. b) (adds x) (rw_marks x) us h _ kept i && not (kept_any x (rw_given x) not (removes x) (rw_unmarks x) us h _ kept i)) ∙ remove_stays (adds x) (removes x) us h
+
+-- a test of what stands at a key
+abbrev tests : (KeptAt Bool → Bool) → Option (KeptAt Bool) → Bool
+tests test None = false
+tests test (Some k) = test k
+
+not_there : (test : KeptAt Bool → Bool) (es : List (List ℕ × KeptAt Bool)) (x : List ℕ) → find text_cmp x es ≡ None → is_in (map (λ e. e.0) (filter (λ e. test e.1) es)) x ≡ false
+not_there test [] x h = refl
+not_there test (e ∷ es) x h =
+    elim (same_text x e.0) as (λ b. same_text x e.0 ≡ b → cond b (Some e.1) (find text_cmp x es) ≡ None → is_in (map (λ e. e.0) (cond (test e.1) (e ∷ filter (λ e. test e.1) es) (filter (λ e. test e.1) es))) x ≡ false) [
+      | true ↦ λ s k. absurd (true≢false (ap is_some k))
+      | false ↦ λ s k. elim (test e.1) as (λ b. is_in (map (λ e. e.0) (cond b (e ∷ filter (λ e. test e.1) es) (filter (λ e. test e.1) es))) x ≡ false) [
+        | true ↦ or_from _ _ s (not_there test es x k)
+        | false ↦ not_there test es x k
+      ]
+    ] refl h
+
+there : (test : KeptAt Bool → Bool) (es : List (List ℕ × KeptAt Bool)) → IsDistinct text_cmp es → (x : List ℕ) → is_in (map (λ e. e.0) (filter (λ e. test e.1) es)) x ≡ tests test (find text_cmp x es)
+there test [] d x = refl
+there test (e ∷ es) d x =
+    elim (same_text x e.0) as (λ b. same_text x e.0 ≡ b → is_in (map (λ e. e.0) (cond (test e.1) (e ∷ filter (λ e. test e.1) es) (filter (λ e. test e.1) es))) x ≡ tests test (cond b (Some e.1) (find text_cmp x es))) [
+      | true ↦ λ s. let none = not_there test es x (ap (λ y. find text_cmp y es) (same_text_is x e.0 s) ∙ d.0) in
+          elim (test e.1) as (λ b. is_in (map (λ e. e.0) (cond b (e ∷ filter (λ e. test e.1) es) (filter (λ e. test e.1) es))) x ≡ b) [ true ↦ ap (λ c. c || is_in (map (λ e. e.0) (filter (λ e. test e.1) es)) x) s | false ↦ none ]
+      | false ↦ λ s. let rest = there test es d.1 x in
+          elim (test e.1) as (λ b. is_in (map (λ e. e.0) (cond b (e ∷ filter (λ e. test e.1) es) (filter (λ e. test e.1) es))) x ≡ tests test (find text_cmp x es)) [ true ↦ ap (λ c. c || is_in (map (λ e. e.0) (filter (λ e. test e.1) es)) x) s ∙ rest | false ↦ rest ]
+    ] refl
+
+tests_is : (test : KeptAt Bool → Bool) → test empty ≡ false → (o : Option (KeptAt Bool)) → tests test o ≡ test (unwrap_or o empty)
+tests_is test h None = sym h
+tests_is test h (Some k) = refl
+
+-- an element passes by what is kept of it
+in_passing : (test : KeptAt Bool → Bool) → test empty ≡ false → (m : Elements) (x : List ℕ) → is_in (passing test m) x ≡ test (at m x)
+in_passing test h m x = there test (entries m) (distinct_entries m) x ∙ ap (tests test) (sym (get-entries m x)) ∙ tests_is test h (get m x)
+
+both_hold : (a b : Bool) → (b ≡ true → a ≡ true) → b ≡ (a && b)
+both_hold true b f = refl
+both_hold false true f = sym (f refl)
+both_hold false false f = refl
+
+shown : (test : KeptAt Bool → Bool) → test empty ≡ false → (p : List ℕ → Bool) (us : List Update) (m : Elements) → ((x : List ℕ) → test (at m x) ≡ p x) → ((x : List ℕ) → p x ≡ true → is_in (added us) x ≡ true) → passing test m ≡ ascending (filter p (added us))
+shown test h p us m is some =
+    sym (ascending_sorted (λ e. test e.1) (entries m) (entries_sorted m))
+    ∙ same_ascending _ _ (λ x. in_passing test h m x ∙ is x ∙ both_hold (is_in (added us) x) (p x) (some x) ∙ sym (in_filter p (added us) x))
+
+aw_some : (us : List Update) (x : List ℕ) → add_wins (adds x) (removes x) us ≡ true → is_in (added us) x ≡ true
+aw_some us x e =
+    let w = one_of (λ a. lives (adds x) us a && not (list_any (λ r. lives (removes x) us r && sees r a.dot) us)) us e in
+    in_added us x ∙ any_of (λ u. adds x u.act) us w.0 w.1 (and_parts (adds x w.0.act) (is_live us w.0) (and_parts (lives (adds x) us w.0) _ w.2).0).0
+
+rw_some : (us : List Update) (x : List ℕ) → remove_wins (adds x) (removes x) us ≡ true → is_in (added us) x ≡ true
+rw_some us x e =
+    let w = one_of (lives (adds x) us) us (and_parts (list_any (lives (adds x) us) us) _ e).0 in
+    in_added us x ∙ any_of (λ u. adds x u.act) us w.0 w.1 (and_parts (adds x w.0.act) (is_live us w.0) w.2).0
+
+no_any : {A : Type 0} (t : A → Bool) (xs : List A) → length xs ≡ 0 → list_any t xs ≡ false
+no_any t [] h = refl
+no_any t (x ∷ xs) h = absurd (omega arith)
+
+marks_none : has_marked empty ≡ false
+marks_none = no_any (λ e. e.1) (entries empty) (sym (len-entries empty) ∙ len-empty dot_cmp Bool)
+
+aw_means : (k : Kind) (us : List Update) → IsHistory us → aw_value (state_after empty aw_step (made_by kind_made k) us) ≡ aw_meaning k us
+aw_means k us h = ap Words (shown (shows false) marks_none (λ x. add_wins (adds x) (removes x) us) us _ (aw_at k us h) (aw_some us))
+
+rw_means : (k : Kind) (us : List Update) → IsHistory us → rw_value (state_after empty rw_step (made_by kind_made k) us) ≡ rw_meaning k us
+rw_means k us h = ap Words (shown (shows true) (ap (λ b. b && not (has_unmarked empty)) marks_none) (λ x. remove_wins (adds x) (removes x) us) us _ (rw_at k us h) (rw_some us))
+
+aw_leaf : IsLeaf SetAw
+aw_leaf l = refl
+
+rw_leaf : IsLeaf SetRw
+rw_leaf l = refl
+
+pub aw_law : KeepsLaw aw_has (λ k p. false) (λ k. empty) aw_step kind_made aw_value no_stamp aw_meaning set_names keeps_dot
+aw_law = record {
+  means = λ k us has h fit stamped. aw_means k us h;
+  stamps = λ k u us has h fit stamped. no_stamp_due (λ k p. false) k (subst IsLeaf (sym (same_kind_is k SetAw has)) aw_leaf) (ap (λ l. same_kind l RegisterLww) (same_kind_is k SetAw has)) u us fit;
+  confluent = λ k us vs has. confluence empty aw_step (made_by kind_made k) set_names keeps_dot (aw_steps k) us vs;
+  orderless = λ k us vs has s. aw_orderless k us vs s;
+  unread = λ k s t p a n has r. absurd (true≢false (sym (ap reads_state (same_kind_is k SetAw has)) ∙ r));
+  steps = λ k has. aw_steps k;
+}
+
+pub rw_law : KeepsLaw rw_has (λ k p. false) (λ k. empty) rw_step kind_made rw_value no_stamp rw_meaning set_names keeps_dot
+rw_law = record {
+  means = λ k us has h fit stamped. rw_means k us h;
+  stamps = λ k u us has h fit stamped. no_stamp_due (λ k p. false) k (subst IsLeaf (sym (same_kind_is k SetRw has)) rw_leaf) (ap (λ l. same_kind l RegisterLww) (same_kind_is k SetRw has)) u us fit;
+  confluent = λ k us vs has. confluence empty rw_step (made_by kind_made k) set_names keeps_dot (rw_steps k) us vs;
+  orderless = λ k us vs has s. rw_orderless k us vs s;
+  unread = λ k s t p a n has r. absurd (true≢false (sym (ap reads_state (same_kind_is k SetRw has)) ∙ r));
+  steps = λ k has. rw_steps k;
+}
