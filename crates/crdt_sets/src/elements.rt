@@ -2,7 +2,7 @@ ghost use Rattle.std.specs.Prelude.{◌≡◌, ◌++◌, Option, Bool, OnOk, IfO
 ghost use Rattle.std.specs.FinMap as map;
 ghost use Rattle.crdt_core.specs.Texts.{text_cmp};
 ghost use Rattle.crdt_core.specs.Kept.{kept_step, dots_of};
-ghost use Rattle.crdt_sets.specs.Elements as elements;
+ghost use Rattle.crdt_sets.specs.Elements as spec;
 
 use crate::Named;
 use crdt_core::{Dots, Kept};
@@ -56,7 +56,7 @@ impl Elements {
         own: Option<bool>,
         named: &[Named],
     ) -> Result<(), AllocError>
-        ensures { OnOk result (self.new ≡ elements.take_named self.old dot own named.now) }
+        ensures { OnOk result (self.new ≡ spec.take_named self.old dot own named.now) }
     {
         take_each(alloc, &mut self.elements, dot, own, named)
     }
@@ -67,7 +67,7 @@ impl Elements {
     ///
     /// `AllocError` where memory runs out.
     pub fn named_at(&self, alloc: Global, texts: &[Text]) -> Result<ListOf<Named>, AllocError>
-        ensures { IfOk result (λ l. l ≡ elements.named_at self.now texts.now) }
+        ensures { IfOk result (λ l. l ≡ spec.named_at self.now texts.now) }
     {
         named_in(alloc, &self.elements, texts)
     }
@@ -89,7 +89,7 @@ impl Elements {
     ///
     /// `AllocError` where memory runs out.
     pub fn shown(&self, alloc: Global, removes_win: bool) -> Result<ListOf<Text>, AllocError>
-        ensures { IfOk result (λ l. l ≡ elements.passing (elements.shows removes_win) self.now) }
+        ensures { IfOk result (λ l. l ≡ spec.passing (spec.shows removes_win) self.now) }
     {
         shown_in(alloc, &self.elements, removes_win)
     }
@@ -114,7 +114,7 @@ fn take_each(
     own: Option<bool>,
     named: &[Named],
 ) -> Result<(), AllocError>
-    ensures { OnOk result (map.from_entries {R = text_cmp} elements.new.entries ≡ elements.take_named (map.from_entries elements.old.entries) dot own named.now) }
+    ensures { OnOk result (map.from_entries {R = text_cmp} elements.new.entries ≡ spec.take_named (map.from_entries elements.old.entries) dot own named.now) }
 {
     for one in named {
         take_one(alloc, elements, dot, own, one)?;
@@ -129,7 +129,7 @@ fn take_one(
     own: Option<bool>,
     named: &Named,
 ) -> Result<(), AllocError>
-    ensures { OnOk result (map.from_entries {R = text_cmp} elements.new.entries ≡ elements.take_one (map.from_entries elements.old.entries) dot own named.now) }
+    ensures { OnOk result (map.from_entries {R = text_cmp} elements.new.entries ≡ spec.take_one (map.from_entries elements.old.entries) dot own named.now) }
 {
     let mut kept = taken(alloc, elements, &named.text);
     step(&mut kept, dot, own, named.dots.as_slice())?;
@@ -138,7 +138,7 @@ fn take_one(
 
 /// What is kept of an element, which no longer stands.
 fn taken(alloc: Global, elements: &mut BTreeMap<Text, Kept<bool>>, text: &Text) -> Kept<bool>
-    ensures kept { result ≡ elements.at (map.from_entries elements.old.entries) text.now }
+    ensures kept { result ≡ spec.at (map.from_entries elements.old.entries) text.now }
     ensures gone { map.from_entries {R = text_cmp} elements.new.entries ≡ map.remove (map.from_entries elements.old.entries) text.now }
 {
     match elements.remove(text) {
@@ -164,7 +164,7 @@ fn put_back(
     text: &Text,
     kept: Kept<bool>,
 ) -> Result<(), AllocError>
-    ensures { (m : elements.Elements) → map.from_entries elements.old.entries ≡ map.remove m text.now → OnOk result (map.from_entries elements.new.entries ≡ elements.put_back m text.now kept) }
+    ensures { (m : spec.Elements) → map.from_entries elements.old.entries ≡ map.remove m text.now → OnOk result (map.from_entries elements.new.entries ≡ spec.put_back m text.now kept) }
 {
     if kept.is_empty() {
         return Ok(());
@@ -178,7 +178,7 @@ fn named_in(
     elements: &BTreeMap<Text, Kept<bool>>,
     texts: &[Text],
 ) -> Result<ListOf<Named>, AllocError>
-    ensures { IfOk result (λ l. l ≡ elements.named_at (map.from_entries elements.now.entries) texts.now) }
+    ensures { IfOk result (λ l. l ≡ spec.named_at (map.from_entries elements.now.entries) texts.now) }
 {
     let mut named = ListOf::new(alloc);
     for text in texts {
@@ -195,7 +195,7 @@ fn dots_in(
     elements: &BTreeMap<Text, Kept<bool>>,
     text: &Text,
 ) -> Result<Dots, AllocError>
-    ensures { IfOk result (λ d. d ≡ dots_of (elements.at (map.from_entries elements.now.entries) text.now)) }
+    ensures { IfOk result (λ d. d ≡ dots_of (spec.at (map.from_entries elements.now.entries) text.now)) }
 {
     match elements.get(text) {
         Some(kept) => kept.dots(alloc),
@@ -221,7 +221,7 @@ fn shown_in(
     elements: &BTreeMap<Text, Kept<bool>>,
     removes_win: bool,
 ) -> Result<ListOf<Text>, AllocError>
-    ensures { IfOk result (λ l. l ≡ elements.passing (elements.shows removes_win) (map.from_entries elements.now.entries)) }
+    ensures { IfOk result (λ l. l ≡ spec.passing (spec.shows removes_win) (map.from_entries elements.now.entries)) }
 {
     let mut texts = ListOf::new(alloc);
     for (text, kept) in elements.iter() {
@@ -233,7 +233,7 @@ fn shown_in(
 }
 
 fn shows(removes_win: bool, kept: &Kept<bool>) -> bool
-    ensures { result ≡ elements.shows removes_win kept.now }
+    ensures { result ≡ spec.shows removes_win kept.now }
 {
     if removes_win {
         kept.has_marked() && !kept.has_unmarked()
