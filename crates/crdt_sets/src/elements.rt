@@ -132,7 +132,7 @@ fn take_one(
     ensures { OnOk result (map.from_entries {R = text_cmp} elements.new.entries ≡ spec.take_one (map.from_entries elements.old.entries) dot own named.now) }
 {
     let mut kept = taken(alloc, elements, &named.text);
-    step(&mut kept, dot, own, named.dots.as_slice())?;
+    step(alloc, &mut kept, dot, own, named.dots.as_slice())?;
     put_back(alloc, elements, &named.text, kept)
 }
 
@@ -147,7 +147,13 @@ fn taken(alloc: Global, elements: &mut BTreeMap<Text, Kept<bool>>, text: &Text) 
     }
 }
 
-fn step(kept: &mut Kept<bool>, dot: Dot, own: Option<bool>, dots: &[Dot]) -> Result<(), AllocError>
+fn step(
+    alloc: Global,
+    kept: &mut Kept<bool>,
+    dot: Dot,
+    own: Option<bool>,
+    dots: &[Dot],
+) -> Result<(), AllocError>
     ensures { OnOk result (kept.new ≡ kept_step kept.old dot dots.now own) }
 {
     kept.take_out(dots);

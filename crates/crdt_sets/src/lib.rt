@@ -16,3 +16,6 @@ pub use set_aw::SetAw;
 pub use set_go::SetGo;
 pub use set_rw::SetRw;
 pub use texts::TextSet;
+
+#[cfg(test)]
+mod tests;
