@@ -5,7 +5,9 @@ use Rattle.std.specs.List.Sorted.{IsSearchInRange, IsBinarySearchResult}
 use Rattle.std.specs.Ordering.{eq_by_cmp}
 use Rattle.site_vector.specs.declared.ids.Dot.{Dot}
 use Rattle.site_vector.specs.Order.{dot_cmp, dot_cmp_total, same_dot_ties}
-use Rattle.crdt_core.specs.DotSet.{has_dot, with_dot, IsAscending}
+use Rattle.std.specs.Prelude.{not}
+use Rattle.std.proofs.lemmas.List.Kept.{IsStrictlySortedBy-filter}
+use Rattle.crdt_core.specs.DotSet.{has_dot, with_dot, without, IsAscending}
 use Rattle.crdt_core.proofs.Sorted.{searched, has_insert, gap_lacks, gap_insert, sorted_insert, sorted_none}
 
 pub has_dot_ties : (ds : List Dot) (d : Dot) → has_dot ds d ≡ list_any (eq_by_cmp dot_cmp d) ds
@@ -31,3 +33,6 @@ ascending_with ds d up = sorted_insert dot_cmp_total d ds up
 
 pub ascending_none : IsAscending []
 ascending_none = sorted_none dot_cmp
+
+pub ascending_without : (ds gone : List Dot) → IsAscending ds → IsAscending (without ds gone)
+ascending_without ds gone up = IsStrictlySortedBy-filter dot_cmp (λ d. not (has_dot gone d)) ds up

@@ -16,6 +16,8 @@ pub mod Members
 pub mod Placing
 pub mod Same
 pub mod Seen
+pub mod Spelled
+pub mod SpelledLaws
 pub mod Stamps
 pub mod Texts
 pub mod Wins

@@ -1,6 +1,6 @@
 ghost use Rattle.std.specs.Prelude.{◌≡◌, ◌≤◌, Bool, true, false, [], IfOk, IfErr, OnOk, OnErr, length};
 ghost use Rattle.std.specs.List.{insert};
-ghost use Rattle.crdt_core.specs.DotSet.{has_dot, with_dot, IsAscending};
+ghost use Rattle.crdt_core.specs.DotSet.{has_dot, with_dot, without, IsAscending};
 
 use site_vector::Dot;
 use std::alloc::{AllocError, Global};
@@ -81,6 +81,21 @@ impl Dots {
     {
         put(&mut self.items, dot)
     }
+
+    /// Takes out the updates of another set. Takes no memory.
+    pub fn remove_all(&mut self, gone: &Dots)
+        ensures { self.new ≡ without self.old gone.now }
+    {
+        drop_gone(&mut self.items, gone);
+    }
+}
+
+fn drop_gone(items: &mut Vec<Dot>, gone: &Dots)
+    requires { IsAscending items.old.items }
+    ensures kept { items.new.items ≡ without items.old.items gone.now }
+    ensures ascending { IsAscending items.new.items }
+{
+    items.retain(|dot| !gone.contains(*dot));
 }
 
 /// Where the update is, or where it would go.

@@ -1,6 +1,6 @@
 use super::*;
-use field_codec::{ListOf, Text};
-use site_vector::{Dot, TxId};
+use field_codec::{ListOf, TakeError, Text};
+use site_vector::{Dot, TxId, VTime};
 use std::alloc::Global;
 use std::test::*;
 
@@ -84,5 +84,50 @@ fn what_is_kept(rt: HostRuntime) -> Result<(), Fail> {
     kept.take_out(dots.copy(alloc)?.as_slice());
     assert!(rt; kept.is_empty());
     assert_eq!(rt; copied.iter().count(), 2);
+    Ok(())
+}
+
+#[test]
+fn forms_of_updates(rt: HostRuntime) -> Result<(), Fail> {
+    let bytes = [
+        0, 0, 0, 2, 1, 2, 0, 0, 0, 0, 0, 0, 0, 101, 0, 1, 1, 2, 0, 0, 0, 0, 0, 0, 0, 101, 1, 0,
+    ];
+    let (dots, end) = take_dots(rt.alloc(), &bytes, 0).ok().ok_or("two updates")?;
+    assert_eq!(rt; dots.as_slice().len(), 2);
+    assert_eq!(rt; end, 28);
+    let part_seventeen = [1, 17, 0, 0, 0, 0, 0, 0, 0, 101, 0, 1];
+    assert_eq!(rt; take_dot(&part_seventeen, 0), Err(TakeError::Bad { at: 1 }));
+    assert_eq!(rt; take_tx(&bytes[..13], 4), Err(TakeError::Short { at: 6 }));
+    let twice = [
+        0, 0, 0, 2, 1, 2, 0, 0, 0, 0, 0, 0, 0, 101, 0, 1, 1, 2, 0, 0, 0, 0, 0, 0, 0, 101, 0, 1,
+    ];
+    assert!(rt;
+        matches!(
+            take_dots(rt.alloc(), &twice, 0),
+            Err(TakeError::Bad { at: 16 })
+        )
+    );
+    Ok(())
+}
+
+#[test]
+fn forms_of_vectors(rt: HostRuntime) -> Result<(), Fail> {
+    let mut out = Vec::new(rt.alloc());
+    put_vector(&mut out, &VTime::zero(2).with(1, 258))?;
+    let bytes = [2, 0, 0, 0, 0, 0, 0, 1, 2, 0, 0, 0, 0, 0, 0, 0, 0];
+    assert_eq!(rt; out.as_slice(), bytes.as_slice());
+    let (v, end) = take_vector(&bytes, 0).ok().ok_or("a vector")?;
+    assert_eq!(rt; v.sum(), 258);
+    assert_eq!(rt; end, 17);
+    assert!(rt; matches!(take_vector(&[9, 0], 0), Err(TakeError::Bad { at: 0 })));
+    Ok(())
+}
+
+#[test]
+fn forms_of_objects(rt: HostRuntime) -> Result<(), Fail> {
+    let mut out = Vec::new(rt.alloc());
+    put_object(&mut out, &object(rt.alloc(), "", "k")?)?;
+    assert_eq!(rt; out.as_slice(), [0, 0, 0, 1, 107, 1].as_slice());
+    assert_eq!(rt; take_kind(&[12], 0), Err(TakeError::Bad { at: 0 }));
     Ok(())
 }

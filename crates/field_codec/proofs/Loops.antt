@@ -1,10 +1,10 @@
 -- Reading and writing members one after the other, as a loop does.
-use Rattle.std.proofs.Common.{◌≡◌, ℕ, zero, suc, ◌+◌, ◌-◌, ◌<◌, ◌≤◌, Bool, true, false, ◌&&◌, cond, List, [], ◌∷◌, ◌++◌, length, get_or, take, drop, Option, Some, None, Result, Ok, Err, refl, sym, ap, subst, ◌∙◌, append_assoc, arith}
+use Rattle.std.proofs.Common.{◌≡◌, ℕ, suc, ◌+◌, ◌-◌, ◌<◌, ◌≤◌, Bool, true, false, List, [], ◌∷◌, ◌++◌, length, Option, Some, Ok, Err, refl, sym, ap, ◌∙◌, append_assoc, arith}
 use Rattle.std.specs.List.{slice_get}
 use Rattle.std.proofs.lemmas.List.{append-nil}
 use Rattle.field_codec.specs.declared.error.TakeError.{TakeError}
 use Rattle.field_codec.specs.declared.error.TakeError.TheVariants.{Short, Bad, NoMemory}
-use Rattle.field_codec.specs.Spelling.{may_follow, last_of, Keeps}
+use Rattle.field_codec.specs.Spelling.{may_follow, last_of}
 use Rattle.field_codec.specs.Reading.{Read, ◌>>=◌, Gives, members_at}
 
 module _ {V : Type 0} where

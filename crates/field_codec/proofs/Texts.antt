@@ -1,13 +1,12 @@
 -- The bytes of a text, read at a place.
-use Rattle.std.proofs.Common.{◌≡◌, ℕ, ◌+◌, ◌-◌, ◌≤◌, Bool, true, false, cond, leb, List, length, take, drop, Ok, Err, refl, sym, ap, subst, ◌∙◌, arith}
+use Rattle.std.proofs.Common.{◌≡◌, ℕ, ◌+◌, ◌-◌, ◌≤◌, Bool, true, false, List, length, take, drop, Ok, Err, refl, sym, ap, subst, arith}
 use Rattle.std.specs.Prelude.{nat_le}
 use Rattle.std.specs.List.{slice_range}
 use Rattle.std.specs.Str.{IsUtf8, is_utf8}
 use Rattle.std.proofs.lemmas.Str.{IsUtf8-from_is_utf8, is_utf8-from_IsUtf8}
 use Rattle.std.proofs.lemmas.Bool.Decides.{nat_tests}
-use Rattle.field_codec.specs.declared.error.TakeError.{TakeError}
-use Rattle.field_codec.specs.declared.error.TakeError.TheVariants.{Short, Bad}
-use Rattle.field_codec.specs.Reading.{Read, bytes_at}
+use Rattle.field_codec.specs.declared.error.TakeError.TheVariants.{Bad}
+use Rattle.field_codec.specs.Reading.{bytes_at}
 
 holds : (n m : ℕ) → n ≤ m → nat_le n m ≡ true
 holds n m h = grind (arith, nat_tests)

@@ -1,4 +1,4 @@
-use Rattle.std.proofs.Common.{sym, ap, ◌∙◌}
+use Rattle.std.proofs.Common.{ap, ◌∙◌}
 use Rattle.field_codec.specs.Spelling.{may_follow}
 use Rattle.field_codec.proofs.Loops.{last_is}
 use Rattle.field_codec.proofs.members.goes_on.Goals as goal

@@ -1,6 +1,6 @@
-use Rattle.std.proofs.Common.{◌≡◌, ◌++◌, true, length, take}
+use Rattle.std.proofs.Common.{◌≡◌, ◌++◌, true, take}
 use Rattle.std.specs.List.{flat_map, list_all}
-use Rattle.field_codec.specs.Spelling.{number, Keeps}
+use Rattle.field_codec.specs.Spelling.{number}
 use Rattle.field_codec.proofs.members.put_members.Given as goal
 
 abbrev pub invariant-loop-member : goal.invariant-loop-member

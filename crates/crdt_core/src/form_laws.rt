@@ -1,0 +1,22 @@
+ghost use Rattle.std.specs.Prelude.{Bool, true};
+ghost use Rattle.field_codec.specs.Spelling.{are_members, is_below};
+ghost use Rattle.field_codec.specs.Lawful.{IsForm, IsPrefixFree};
+ghost use Rattle.site_vector.specs.Order.{dot_cmp};
+ghost use Rattle.crdt_core.specs.declared.kind.Kind.{Kind};
+ghost use Rattle.crdt_core.specs.Spelled.{is_tx, tx, tx_at, is_dot, dot, dot_at, is_dots, dots, dots_at, is_vector, vector, vector_at, kind, kind_at, is_object, object, object_at};
+
+/// Reading answers each of these and the place after it exactly where its spelling stands at the place,
+/// and no spelling begins that of another.
+pub fn law_forms()
+    ensures transactions { IsForm is_tx is_tx tx tx_at }
+    ensures updates { IsForm is_dot is_dot dot dot_at }
+    ensures sets { IsForm (are_members (is_below dot_cmp) is_dot) is_dots dots dots_at }
+    ensures vectors { IsForm is_vector is_vector vector vector_at }
+    ensures kinds { IsForm (λ _. true) (λ _. true) kind kind_at }
+    ensures objects { (has : Kind → Bool) → IsForm (is_object has) (is_object has) object (object_at has) }
+    ensures transactions_apart { IsPrefixFree is_tx tx }
+    ensures updates_apart { IsPrefixFree is_dot dot }
+    ensures sets_apart { IsPrefixFree is_dots dots }
+    ensures vectors_apart { IsPrefixFree is_vector vector }
+    ensures objects_apart { (has : Kind → Bool) → IsPrefixFree (is_object has) object }
+{}
