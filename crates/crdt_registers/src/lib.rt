@@ -1,0 +1,6 @@
+//! Registers: one that the last writer wins.
+#![tactic(auto)]
+
+mod assigned;
+
+pub use assigned::{Assigned, Stamped};
