@@ -9,7 +9,8 @@ use Rattle.crdt_core.specs.declared.operation.Act.{Act}
 use Rattle.crdt_core.specs.declared.operation.Act.TheVariants.{Assign}
 use Rattle.crdt_core.specs.Kinds.{same_kind}
 use Rattle.crdt_core.specs.Stamps.{last_stamp}
-use Rattle.crdt_registers.specs.Later.{later}
+use Rattle.std.specs.Ordering.{is_lt}
+use Rattle.crdt_registers.specs.Later.{later, stamped_cmp}
 use Rattle.crdt_registers.specs.declared.assigned.Stamped.{Stamped}
 use Rattle.crdt_registers.specs.declared.assigned.Assigned.{Assigned}
 
@@ -40,3 +41,8 @@ lww_names e d = false
 abbrev pub lww_holds : Option Stamped → Dot → Bool
 lww_holds None d = false
 lww_holds (Some a) d = same_dot a.dot d
+
+-- the assign that stands is later than this one
+abbrev pub stands : Option Stamped → Dot → Assigned → Bool
+stands None d e = false
+stands (Some a) d e = is_lt (stamped_cmp (record { stamp = e.stamp; dot = d; text = e.text }) a)

@@ -2,5 +2,10 @@
 #![tactic(auto)]
 
 mod assigned;
+mod register_lww;
 
 pub use assigned::{Assigned, Stamped};
+pub use register_lww::RegisterLww;
+
+#[cfg(test)]
+mod tests;
