@@ -6,3 +6,4 @@ pub mod MeaningLaws
 pub mod RemovableLaws
 pub mod SetGo
 pub mod Sets
+pub mod TextCode

@@ -2,7 +2,20 @@
 #![tactic(auto)]
 
 mod effect;
+mod elements;
 mod named;
+mod set_aw;
+mod set_go;
+mod set_rw;
+mod texts;
 
 pub use effect::SetEffect;
+pub use elements::Elements;
 pub use named::Named;
+pub use set_aw::SetAw;
+pub use set_go::SetGo;
+pub use set_rw::SetRw;
+pub use texts::TextSet;
+
+#[cfg(test)]
+mod tests;

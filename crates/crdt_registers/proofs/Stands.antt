@@ -1,0 +1,17 @@
+-- One assign more, as the code finds it.
+use Rattle.std.proofs.Common.{◌≡◌, Bool, true, false, cond, Option, Some, None, refl, sym, ap}
+use Rattle.std.specs.Ordering.{is_lt}
+use Rattle.std.proofs.lemmas.Bool.{false≢true}
+use Rattle.site_vector.specs.declared.ids.Dot.{Dot}
+use Rattle.crdt_registers.specs.Later.{stamped_cmp}
+use Rattle.crdt_registers.specs.RegisterLww.{lww_step, stands}
+use Rattle.crdt_registers.specs.declared.assigned.Stamped.{Stamped}
+use Rattle.crdt_registers.specs.declared.assigned.Assigned.{Assigned}
+
+pub step_stays : (s : Option Stamped) (d : Dot) (e : Assigned) → stands s d e ≡ true → s ≡ lww_step s d e
+step_stays None d e h = absurd (false≢true h)
+step_stays (Some a) d e h = sym (ap (λ b. Some (cond b a (record { stamp = e.stamp; dot = d; text = e.text }))) h)
+
+pub step_taken : (s : Option Stamped) (d : Dot) (e : Assigned) → stands s d e ≡ false → Some (record { stamp = e.stamp; dot = d; text = e.text }) ≡ lww_step s d e
+step_taken None d e h = refl
+step_taken (Some a) d e h = sym (ap (λ b. Some (cond b a (record { stamp = e.stamp; dot = d; text = e.text }))) h)

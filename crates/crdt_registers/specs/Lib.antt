@@ -1,0 +1,4 @@
+pub mod Later
+pub mod LwwLaw
+pub mod Meaning
+pub mod RegisterLww

@@ -1,0 +1,27 @@
+-- What registers mean.
+use Rattle.std.specs.Prelude.{ℕ, List, [], ◌∷◌, Option, Some, None, unwrap_or}
+use Rattle.crdt_core.specs.declared.kind.Kind.{Kind}
+use Rattle.crdt_core.specs.declared.operation.Act.{Act}
+use Rattle.crdt_core.specs.declared.operation.Act.TheVariants.{Assign}
+use Rattle.crdt_core.specs.declared.value.Value.{Value}
+use Rattle.crdt_core.specs.declared.value.Value.TheVariants.{Word}
+use Rattle.site_vector.specs.declared.ids.Dot.{Dot}
+use Rattle.crdt_core.specs.Seen.{Update}
+use Rattle.crdt_registers.specs.Later.{later}
+use Rattle.crdt_registers.specs.declared.assigned.Stamped.{Stamped}
+
+abbrev pub assigned : ℕ → Dot → Act → Option Stamped
+assigned n d (Assign x) = Some (record { stamp = n; dot = d; text = x })
+assigned n d _ = None
+
+-- the assign with the greatest stamp, then the greatest dot
+abbrev pub last_assign : List Update → Option Stamped
+last_assign [] = None
+last_assign (u ∷ us) = later (assigned (unwrap_or u.stamp 0) u.dot u.act) (last_assign us)
+
+abbrev pub word_of : Option Stamped → Value
+word_of None = Word []
+word_of (Some a) = Word a.text
+
+abbrev pub lww_meaning : Kind → List Update → Value
+lww_meaning k us = word_of (last_assign us)

@@ -1,0 +1,145 @@
+ghost use Rattle.std.specs.Prelude.{◌≡◌, ◌+◌, min, max, false, None};
+ghost use Rattle.crdt_core.specs.Stamps.{last_stamp};
+ghost use Rattle.crdt_registers.specs.Meaning.{lww_meaning, word_of};
+ghost use Rattle.crdt_registers.specs.RegisterLww.{lww_has, lww_step, lww_made, lww_stamp, lww_names, lww_holds, above, stands};
+ghost use Rattle.crdt_registers.specs.LwwLaw.{lww_law};
+
+use crate::assigned::{empty_text, is_before, text_of};
+use crate::{Assigned, Stamped};
+use crdt_core::{Act, Crdt, Field, GenError, Kind, Op, Value, fits_at, reads_state};
+use site_vector::Dot;
+use std::alloc::{AllocError, Global};
+
+/// Where stamps stay.
+const LAST_STAMP: u64 = (1 << 63) - 1;
+
+/// The register that the last writer wins: a state is the assign with the greatest stamp, or else the greatest dot.
+pub struct RegisterLww;
+
+impl Crdt for RegisterLww {
+    type State = Option<Stamped>;
+
+    type Effect = Assigned;
+
+    ghost has = { lww_has };
+
+    ghost too_deep = { λ k p. false };
+
+    ghost initial = { λ k. None };
+
+    ghost step = { lww_step };
+
+    ghost made = { lww_made };
+
+    ghost value_of = { word_of };
+
+    ghost stamp_of = { lww_stamp };
+
+    ghost meaning = { lww_meaning };
+
+    ghost names = { lww_names };
+
+    ghost holds = { lww_holds };
+
+    ghost laws = { lww_law };
+
+    fn has(kind: Kind) -> bool {
+        kind == Kind::RegisterLww
+    }
+
+    fn empty(alloc: Global, kind: Kind) -> Result<Option<Stamped>, AllocError> {
+        Ok(None)
+    }
+
+    fn needs_state(kind: Kind, op: &Op) -> bool {
+        reads_state(kind)
+    }
+
+    fn generate(
+        alloc: Global,
+        kind: Kind,
+        path: &[Field],
+        act: &Act,
+        state: &Option<Stamped>,
+        now: u64,
+    ) -> Result<Assigned, GenError> {
+        if !fits_at(kind, path, act) {
+            return Err(GenError::BadOp);
+        }
+        let text = text_of(alloc, act)?;
+        Ok(Assigned {
+            stamp: next_stamp(state, now),
+            text,
+        })
+    }
+
+    fn stamp(effect: &Assigned) -> Option<u64> {
+        Some(effect.stamp)
+    }
+
+    #[tactic(auto, using(crate::proofs::Stands::step_stays, crate::proofs::Stands::step_taken))]
+    fn apply(
+        alloc: Global,
+        state: &mut Option<Stamped>,
+        dot: Dot,
+        effect: &Assigned,
+    ) -> Result<(), AllocError> {
+        if stays(state, dot, effect) {
+            return Ok(());
+        }
+        let text = effect.text.copy(alloc)?;
+        *state = Some(Stamped {
+            stamp: effect.stamp,
+            dot,
+            text,
+        });
+        Ok(())
+    }
+
+    fn copy(alloc: Global, state: &Option<Stamped>) -> Result<Option<Stamped>, AllocError> {
+        match state {
+            Some(assign) => Ok(Some(assign.copy(alloc)?)),
+            None => Ok(None),
+        }
+    }
+
+    fn copy_effect(alloc: Global, effect: &Assigned) -> Result<Assigned, AllocError> {
+        effect.copy(alloc)
+    }
+
+    fn value(alloc: Global, state: &Option<Stamped>) -> Result<Value, AllocError> {
+        match state {
+            Some(assign) => Ok(Value::Word(assign.text.copy(alloc)?)),
+            None => Ok(Value::Word(empty_text(alloc)?)),
+        }
+    }
+}
+
+/// The stamp of an assign to this register at a clock value in ticks.
+fn next_stamp(state: &Option<Stamped>, now: u64) -> u64
+    ensures { result ≡ min last_stamp (above now state.now) }
+{
+    match state {
+        Some(assign) => stamp_after(assign.stamp, now),
+        None => LAST_STAMP.min(now),
+    }
+}
+
+fn stamp_after(stamp: u64, now: u64) -> u64
+    ensures { result ≡ min last_stamp (max (stamp + 1) now) }
+{
+    if stamp >= LAST_STAMP {
+        return LAST_STAMP;
+    }
+    LAST_STAMP.min(now.max(stamp + 1))
+}
+
+/// Whether the assign that stands is later than this one.
+fn stays(state: &Option<Stamped>, dot: Dot, effect: &Assigned) -> bool
+    ensures { result ≡ stands state.now dot effect.now }
+{
+    match state {
+        Some(assign) => is_before(effect, dot, assign),
+        None => false,
+    }
+}

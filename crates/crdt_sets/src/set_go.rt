@@ -1,0 +1,105 @@
+ghost use Rattle.std.specs.Prelude.{◌≡◌, false, IfOk};
+ghost use Rattle.std.specs.FinMap.{empty};
+ghost use Rattle.crdt_core.specs.Texts.{ascending};
+ghost use Rattle.crdt_sets.specs.Meaning.{go_meaning, added_by};
+ghost use Rattle.crdt_sets.specs.SetGo.{go_has, go_step, go_made, go_value, go_stamp, go_names, go_holds};
+ghost use Rattle.crdt_sets.specs.GoLaw.{go_law};
+
+use crate::TextSet;
+use crate::texts::{copy_set, copy_texts, in_order, insert_each};
+use crdt_core::{Act, Crdt, Field, GenError, Kind, Op, Value, fits_at, reads_state};
+use field_codec::{ListOf, Text};
+use site_vector::Dot;
+use std::alloc::{AllocError, Global};
+
+/// The set that only grows. An effect is the elements that it adds, each once, in order.
+pub struct SetGo;
+
+impl Crdt for SetGo {
+    type State = TextSet;
+
+    type Effect = ListOf<Text>;
+
+    ghost has = { go_has };
+
+    ghost too_deep = { λ k p. false };
+
+    ghost initial = { λ k. empty };
+
+    ghost step = { go_step };
+
+    ghost made = { go_made };
+
+    ghost value_of = { go_value };
+
+    ghost stamp_of = { go_stamp };
+
+    ghost meaning = { go_meaning };
+
+    ghost names = { go_names };
+
+    ghost holds = { go_holds };
+
+    ghost laws = { go_law };
+
+    fn has(kind: Kind) -> bool {
+        kind == Kind::SetGo
+    }
+
+    fn empty(alloc: Global, kind: Kind) -> Result<TextSet, AllocError> {
+        Ok(TextSet::new(alloc))
+    }
+
+    fn needs_state(kind: Kind, op: &Op) -> bool {
+        reads_state(kind)
+    }
+
+    fn generate(
+        alloc: Global,
+        kind: Kind,
+        path: &[Field],
+        act: &Act,
+        state: &TextSet,
+        now: u64,
+    ) -> Result<ListOf<Text>, GenError> {
+        if !fits_at(kind, path, act) {
+            return Err(GenError::BadOp);
+        }
+        Ok(adds_of(alloc, act)?)
+    }
+
+    fn stamp(effect: &ListOf<Text>) -> Option<u64> {
+        None
+    }
+
+    fn apply(
+        alloc: Global,
+        state: &mut TextSet,
+        dot: Dot,
+        effect: &ListOf<Text>,
+    ) -> Result<(), AllocError> {
+        insert_each(alloc, state, effect.as_slice())
+    }
+
+    fn copy(alloc: Global, state: &TextSet) -> Result<TextSet, AllocError> {
+        copy_set(alloc, state)
+    }
+
+    fn copy_effect(alloc: Global, effect: &ListOf<Text>) -> Result<ListOf<Text>, AllocError> {
+        copy_texts(alloc, effect.as_slice())
+    }
+
+    fn value(alloc: Global, state: &TextSet) -> Result<Value, AllocError> {
+        Ok(Value::Words(state.to_list(alloc)?))
+    }
+}
+
+/// What an act adds, each text once, in order.
+fn adds_of(alloc: Global, act: &Act) -> Result<ListOf<Text>, AllocError>
+    ensures { IfOk result (λ l. l ≡ ascending (added_by act.now)) }
+{
+    match act {
+        Act::Add(texts) => in_order(alloc, texts.as_slice()),
+        _ => in_order(alloc, &[]),
+    }
+}

@@ -1,0 +1,98 @@
+ghost use Rattle.std.specs.Prelude.{◌≡◌, false};
+ghost use Rattle.std.specs.FinMap.{empty};
+ghost use Rattle.crdt_sets.specs.Meaning.{rw_meaning};
+ghost use Rattle.crdt_sets.specs.Elements.{keeps_dot};
+ghost use Rattle.crdt_sets.specs.Sets.{rw_has, rw_step, rw_value, kind_made, no_stamp, set_names};
+ghost use Rattle.crdt_sets.specs.RemovableLaws.{rw_law};
+
+use crate::effect::effect_of;
+use crate::{Elements, SetEffect};
+use crdt_core::{Act, Crdt, Field, GenError, Kind, Op, Value, fits_at, reads_state};
+use site_vector::Dot;
+use std::alloc::{AllocError, Global};
+
+/// The set where a remove wins over an add that hasn't seen it.
+pub struct SetRw;
+
+impl Crdt for SetRw {
+    type State = Elements;
+
+    type Effect = SetEffect;
+
+    ghost has = { rw_has };
+
+    ghost too_deep = { λ k p. false };
+
+    ghost initial = { λ k. empty };
+
+    ghost step = { rw_step };
+
+    ghost made = { kind_made };
+
+    ghost value_of = { rw_value };
+
+    ghost stamp_of = { no_stamp };
+
+    ghost meaning = { rw_meaning };
+
+    ghost names = { set_names };
+
+    ghost holds = { keeps_dot };
+
+    ghost laws = { rw_law };
+
+    fn has(kind: Kind) -> bool {
+        kind == Kind::SetRw
+    }
+
+    fn empty(alloc: Global, kind: Kind) -> Result<Elements, AllocError> {
+        Ok(Elements::new(alloc))
+    }
+
+    fn needs_state(kind: Kind, op: &Op) -> bool {
+        reads_state(kind)
+    }
+
+    fn generate(
+        alloc: Global,
+        kind: Kind,
+        path: &[Field],
+        act: &Act,
+        state: &Elements,
+        now: u64,
+    ) -> Result<SetEffect, GenError> {
+        if !fits_at(kind, path, act) {
+            return Err(GenError::BadOp);
+        }
+        Ok(effect_of(alloc, act, state)?)
+    }
+
+    fn stamp(effect: &SetEffect) -> Option<u64> {
+        None
+    }
+
+    fn apply(
+        alloc: Global,
+        state: &mut Elements,
+        dot: Dot,
+        effect: &SetEffect,
+    ) -> Result<(), AllocError> {
+        match effect {
+            SetEffect::Add(named) => state.take_named(alloc, dot, Some(true), named.as_slice()),
+            SetEffect::Remove(named) => state.take_named(alloc, dot, Some(false), named.as_slice()),
+            SetEffect::Reset(named) => state.take_named(alloc, dot, None, named.as_slice()),
+        }
+    }
+
+    fn copy(alloc: Global, state: &Elements) -> Result<Elements, AllocError> {
+        state.copy(alloc)
+    }
+
+    fn copy_effect(alloc: Global, effect: &SetEffect) -> Result<SetEffect, AllocError> {
+        effect.copy(alloc)
+    }
+
+    fn value(alloc: Global, state: &Elements) -> Result<Value, AllocError> {
+        Ok(Value::Words(state.shown(alloc, true)?))
+    }
+}
