@@ -1,0 +1,2 @@
+//! The text of a reply line.
+#![tactic(auto)]
