@@ -1,0 +1,2 @@
+pub mod DotSet
+pub mod Sorted

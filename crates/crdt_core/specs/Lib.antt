@@ -1,1 +1,2 @@
+pub mod DotSet
 pub mod Seen
