@@ -1,2 +1,4 @@
 pub mod DotSet
 pub mod Seen
+pub mod Objects
+pub mod Placing

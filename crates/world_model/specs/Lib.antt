@@ -1,0 +1,13 @@
+pub mod Run
+pub mod Cluster
+pub mod Clock
+pub mod Sessions
+pub mod Fresh
+pub mod History
+pub mod Updates
+pub mod Reads
+pub mod Commit
+pub mod Refusals
+pub mod Answers
+pub mod Causes
+pub mod Lawful

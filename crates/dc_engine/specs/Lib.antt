@@ -1,0 +1,3 @@
+pub mod Causes
+pub mod Replies
+pub mod Stored

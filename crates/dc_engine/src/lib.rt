@@ -1,0 +1,10 @@
+//! The engine of the data centre: it plays a script from a source of bytes to a sink of bytes.
+#![tactic(auto)]
+
+mod responder;
+mod sink;
+mod source;
+mod store;
+
+pub use sink::Sink;
+pub use source::{Failed, Source};
