@@ -1,20 +1,10 @@
--- How places, transactions, vectors, texts and objects are written in a reply.
+-- How vectors, texts and objects are written in a reply.
 use Rattle.std.specs.Prelude.{ℕ, List, [], ◌∷◌, ◌++◌, if◌then◌else◌, codes, decimal}
 use Rattle.std.specs.List.{join_by}
-use Rattle.site_vector.specs.declared.ids.PartId.{PartId}
-use Rattle.site_vector.specs.declared.ids.TxId.{TxId}
 use Rattle.crdt_core.specs.declared.object.ObjectId.{ObjectId}
 use Rattle.json.specs.Print.{quoted}
 use Rattle.script_words.specs.Bare.{is_bare}
 use Rattle.script_words.specs.Kinds.{kind_name}
-
--- as 1.2
-abbrev pub part_text : PartId → List ℕ
-part_text p = decimal p.site ++ codes "." ++ decimal p.part
-
--- as 1.2#101
-abbrev pub tx_text : TxId → List ℕ
-tx_text t = decimal t.site ++ codes "." ++ decimal t.part ++ codes "#" ++ decimal t.time
 
 -- the entries in the order of the sites, as [101,0,7]
 abbrev pub vector_text : List ℕ → List ℕ

@@ -4,7 +4,8 @@ use Rattle.std.specs.List.{join_by}
 use Rattle.site_vector.specs.declared.ids.TxId.{TxId}
 use Rattle.world_model.specs.declared.step.Step.{Step}
 use Rattle.world_model.specs.declared.step.Step.TheVariants as step
-use Rattle.reply_text.specs.Places.{part_text, tx_text, vector_text, word_text, object_text, message_text, report_text, interval_text}
+use Rattle.site_vector.specs.Printed.{part_text, tx_text}
+use Rattle.reply_text.specs.Places.{vector_text, word_text, object_text, message_text, report_text, interval_text}
 use Rattle.reply_text.specs.Values.{value_text}
 
 abbrev pub line_feed : ℕ

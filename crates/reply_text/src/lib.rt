@@ -1,2 +1,10 @@
 //! The text of a reply line.
 #![tactic(auto)]
+
+mod restarted;
+mod shapes;
+mod step;
+mod value;
+mod words;
+
+pub use step::line;

@@ -1,8 +1,7 @@
-use Rattle.std.proofs.Common.{rules, ◌≡◌, ◌∷◌, ◌++◌, ap, ◌∙◌, codes}
-use Rattle.json.specs.Print.{quoted}
-use Rattle.reply_text.proofs.Joined.{joined_more}
+use Rattle.std.proofs.Common.{arith, rules}
+use Rattle.reply_text.proofs.Joined.{array_more}
 use Rattle.reply_text.proofs.value.array.Goals as goal
 
--- src/value.rt:36:5
 pub loop-i-preserved : goal.loop-i-preserved
-loop-i-preserved c = rw (c.in_ok-put_item.ensures, c.loop-i.invariant) ?
+loop-i-preserved c =
+    array_more c.args.words.now c.loop-i.i c.index-words-i.result _ _ _ (omega arith) c.index-words-i.is c.loop-i.invariant (search rules) c.in_ok-put_item.ensures
