@@ -8,3 +8,6 @@ mod value;
 mod words;
 
 pub use step::line;
+
+#[cfg(test)]
+mod tests;

@@ -23,21 +23,21 @@ pub fn kind_name(kind: Kind) -> &'static str
 }
 
 /// The kind of this name.
-pub fn kind_named(name: &str) -> Option<Kind>
+pub fn kind_named(name: &[u8]) -> Option<Kind>
     ensures { result ≡ kinds.kind_named name.now }
 {
     match name {
-        "counter_pn" => Some(Kind::CounterPn),
-        "counter_fat" => Some(Kind::CounterFat),
-        "set_go" => Some(Kind::SetGo),
-        "set_aw" => Some(Kind::SetAw),
-        "set_rw" => Some(Kind::SetRw),
-        "flag_ew" => Some(Kind::FlagEw),
-        "flag_dw" => Some(Kind::FlagDw),
-        "register_lww" => Some(Kind::RegisterLww),
-        "register_mv" => Some(Kind::RegisterMv),
-        "map_go" => Some(Kind::MapGo),
-        "map_rr" => Some(Kind::MapRr),
+        b"counter_pn" => Some(Kind::CounterPn),
+        b"counter_fat" => Some(Kind::CounterFat),
+        b"set_go" => Some(Kind::SetGo),
+        b"set_aw" => Some(Kind::SetAw),
+        b"set_rw" => Some(Kind::SetRw),
+        b"flag_ew" => Some(Kind::FlagEw),
+        b"flag_dw" => Some(Kind::FlagDw),
+        b"register_lww" => Some(Kind::RegisterLww),
+        b"register_mv" => Some(Kind::RegisterMv),
+        b"map_go" => Some(Kind::MapGo),
+        b"map_rr" => Some(Kind::MapRr),
         _ => None,
     }
 }
