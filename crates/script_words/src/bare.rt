@@ -1,4 +1,5 @@
 ghost use Rattle.std.specs.Prelude.{◌≡◌};
+ghost use Rattle.std.specs.Str.{bytes_eq};
 ghost use Rattle.script_words.specs.Bare as bare;
 
 /// Whether the byte may stand in a bare word: an ASCII letter or digit, `_`, `-` or `.`.
@@ -18,4 +19,11 @@ pub fn is_bare(text: &[u8]) -> bool
         }
     }
     !text.is_empty()
+}
+
+/// Whether the bytes are those of the name.
+pub fn spells(bytes: &[u8], name: &str) -> bool
+    ensures { result ≡ bytes_eq bytes.now name.now }
+{
+    bytes == name.as_bytes()
 }

@@ -1,6 +1,7 @@
 ghost use Rattle.std.specs.Prelude.{◌≡◌};
 ghost use Rattle.script_words.specs.Kinds as kinds;
 
+use crate::bare::spells;
 use crdt_core::Kind;
 
 /// The name of the kind.
@@ -26,18 +27,38 @@ pub fn kind_name(kind: Kind) -> &'static str
 pub fn kind_named(name: &[u8]) -> Option<Kind>
     ensures { result ≡ kinds.kind_named name.now }
 {
-    match name {
-        b"counter_pn" => Some(Kind::CounterPn),
-        b"counter_fat" => Some(Kind::CounterFat),
-        b"set_go" => Some(Kind::SetGo),
-        b"set_aw" => Some(Kind::SetAw),
-        b"set_rw" => Some(Kind::SetRw),
-        b"flag_ew" => Some(Kind::FlagEw),
-        b"flag_dw" => Some(Kind::FlagDw),
-        b"register_lww" => Some(Kind::RegisterLww),
-        b"register_mv" => Some(Kind::RegisterMv),
-        b"map_go" => Some(Kind::MapGo),
-        b"map_rr" => Some(Kind::MapRr),
-        _ => None,
+    if spells(name, "counter_pn") {
+        return Some(Kind::CounterPn);
     }
+    if spells(name, "counter_fat") {
+        return Some(Kind::CounterFat);
+    }
+    if spells(name, "set_go") {
+        return Some(Kind::SetGo);
+    }
+    if spells(name, "set_aw") {
+        return Some(Kind::SetAw);
+    }
+    if spells(name, "set_rw") {
+        return Some(Kind::SetRw);
+    }
+    if spells(name, "flag_ew") {
+        return Some(Kind::FlagEw);
+    }
+    if spells(name, "flag_dw") {
+        return Some(Kind::FlagDw);
+    }
+    if spells(name, "register_lww") {
+        return Some(Kind::RegisterLww);
+    }
+    if spells(name, "register_mv") {
+        return Some(Kind::RegisterMv);
+    }
+    if spells(name, "map_go") {
+        return Some(Kind::MapGo);
+    }
+    if spells(name, "map_rr") {
+        return Some(Kind::MapRr);
+    }
+    None
 }
