@@ -7,7 +7,7 @@ use std::alloc::{AllocError, Global};
 
 /// What was done, one for each line of a reply. `S` stands for the session `name`, `P` for `part`, `T` for
 /// `tx`, `O` for `object`, and `[s]` for the entries of a vector.
-#[derive(Drop)]
+#[derive(Debug, Drop)]
 pub enum Step {
     /// `cluster D N`
     MadeCluster {

@@ -1,0 +1,49 @@
+-- What stands before stays, and a restart's line in parts.
+use Rattle.std.proofs.Common.{◌≡◌, ℕ, List, [], ◌∷◌, ◌++◌, length, take, sym, ap, ◌∙◌, append_assoc, Option, Some, None, codes, decimal, refl, ◌+◌, ◌<◌, get_or}
+use Rattle.std.specs.List.{flat_map, join_by}
+use Rattle.std.proofs.lemmas.Grind.{flat_map-append}
+use Rattle.std.proofs.lemmas.List.{append-nil, flat_map_more, take_more}
+use Rattle.std.proofs.Math.Seq.{take-append_seam}
+use Rattle.site_vector.specs.declared.ids.PartId.{PartId}
+use Rattle.site_vector.specs.declared.ids.TxId.{TxId}
+use Rattle.site_vector.specs.Printed.{part_text, tx_text}
+use Rattle.reply_text.specs.Places.{vector_text}
+use Rattle.reply_text.specs.Text.{decided_words, pending_words}
+use Rattle.reply_text.specs.Updated.{decided_text, pending_text, restarted_text}
+use Rattle.reply_text.specs.Words.{Begins}
+
+pub front_kept : (a b : List ℕ) → Begins a b → take (length a) b ≡ a
+front_kept a b h = ap (λ s. take (length a) s) h.is ∙ take-append_seam a h.rest
+
+abbrev spaced : List (List ℕ) → List ℕ
+spaced = flat_map (λ w. codes " " ++ w)
+
+spaced-decided : (decided : Option TxId) → spaced (decided_words decided) ≡ decided_text decided
+spaced-decided None = refl
+spaced-decided (Some t) = append-nil (codes " decided " ++ tx_text t)
+
+pending_parts : (t d r : List ℕ) → codes " pending" ++ ((codes " " ++ t) ++ ((codes " " ++ d) ++ r)) ≡ (codes " pending " ++ t ++ codes " " ++ d) ++ r
+pending_parts t d r = simp append_assoc
+
+spaced-pending : (pending : List (TxId × ℕ)) → spaced (pending_words pending) ≡ flat_map pending_text pending
+spaced-pending [] = refl
+spaced-pending (p ∷ ps) = pending_parts (tx_text p.0) (decimal p.1) (spaced (pending_words ps)) ∙ ap (λ s. pending_text p ++ s) (spaced-pending ps)
+
+-- one pending transaction more
+pub pending_more : (ps : List (TxId × ℕ)) (i : ℕ) (d : TxId × ℕ) (start old new : List ℕ) → i < length ps → old ≡ start ++ flat_map pending_text (take i ps) → new ≡ old ++ pending_text (get_or ps i d) → new ≡ start ++ flat_map pending_text (take (i + 1) ps)
+pending_more ps i d start old new within is_old is_new =
+    is_new ∙ ap (λ o. o ++ pending_text (get_or ps i d)) is_old ∙ flat_map_more pending_text start (take i ps) (get_or ps i d) ∙ ap (λ qs. start ++ flat_map pending_text qs) (sym (take_more ps i d within))
+
+restarted_parts : (a w s p n v d r e : List ℕ) → (((a ++ (w ++ ((s ++ p) ++ ((s ++ n) ++ ((s ++ v) ++ []))))) ++ d) ++ r) ++ e ≡ a ++ ((w ++ ((s ++ p) ++ ((s ++ n) ++ ((s ++ v) ++ (d ++ r))))) ++ e)
+restarted_parts a w s p n v d r e = simp (append_assoc, append-nil)
+
+-- the line of a restart is its first words, and what the other parts add
+pub restarted_is : (part : PartId) (now : ℕ) (bounds : List ℕ) (decided : Option TxId) (pending : List (TxId × ℕ)) (a b c d e : List ℕ)
+    → b ≡ a ++ join_by (λ w. w) (codes " ") (codes "restarted" ∷ part_text part ∷ decimal now ∷ vector_text bounds ∷ []) → c ≡ b ++ decided_text decided → d ≡ c ++ flat_map pending_text pending → e ≡ d ++ 10 ∷ []
+    → e ≡ a ++ restarted_text part now bounds decided pending
+restarted_is part now bounds decided pending a b c d e is_b is_c is_d is_e =
+    let tail : spaced (decided_words decided ++ pending_words pending) ≡ decided_text decided ++ flat_map pending_text pending =
+    flat_map-append (λ w. codes " " ++ w) (decided_words decided) (pending_words pending) ∙ ap (λ s. s ++ spaced (pending_words pending)) (spaced-decided decided) ∙ ap (λ s. decided_text decided ++ s) (spaced-pending pending) in
+    is_e ∙ ap (λ s. s ++ 10 ∷ []) (is_d ∙ ap (λ s. s ++ flat_map pending_text pending) (is_c ∙ ap (λ s. s ++ decided_text decided) is_b))
+    ∙ restarted_parts a (codes "restarted") (codes " ") (part_text part) (decimal now) (vector_text bounds) (decided_text decided) (flat_map pending_text pending) (10 ∷ [])
+    ∙ ap (λ s. a ++ ((codes "restarted" ++ ((codes " " ++ part_text part) ++ ((codes " " ++ decimal now) ++ ((codes " " ++ vector_text bounds) ++ s)))) ++ 10 ∷ [])) (sym tail)

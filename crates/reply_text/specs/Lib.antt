@@ -1,0 +1,6 @@
+pub mod Places
+pub mod Values
+pub mod Texts
+pub mod Text
+pub mod Words
+pub mod Updated

@@ -1,0 +1,13 @@
+//! The text of a reply line.
+#![tactic(auto)]
+
+mod restarted;
+mod shapes;
+mod step;
+mod value;
+mod words;
+
+pub use step::line;
+
+#[cfg(test)]
+mod tests;

@@ -1,0 +1,396 @@
+ghost use Rattle.std.specs.Prelude.{◌≡◌, ◌++◌, ◌∷◌, [], codes, decimal, OnOk, OnErr};
+ghost use Rattle.site_vector.specs.Printed.{part_text, tx_text};
+ghost use Rattle.reply_text.specs.Places.{vector_text, word_text, object_text, message_text, report_text, interval_text};
+ghost use Rattle.reply_text.specs.Values.{value_text};
+ghost use Rattle.reply_text.specs.Text.{line_of};
+ghost use Rattle.reply_text.specs.Updated.{updated_text};
+ghost use Rattle.reply_text.specs.Words.{Begins};
+
+use crate::words::{Word, put_line};
+use crdt_core::{ObjectId, Value};
+use field_codec::Text;
+use site_vector::{PartId, TxId, VTime};
+use std::alloc::{AllocError, Global};
+
+/// Adds a line of these words.
+pub fn put_number_number<'x>(
+    alloc: Global,
+    out: &mut Vec<u8>,
+    name: &'x str,
+    n: u64,
+    m: u64,
+) -> Result<(), AllocError>
+    ensures ok { OnOk result (out.new.items ≡ out.old.items ++ line_of (name.now ∷ decimal n ∷ decimal m ∷ [])) }
+    ensures err { OnErr result (Begins out.old.items out.new.items) }
+{
+    put_line(
+        alloc,
+        out,
+        &[Word::Name(name), Word::Number(n), Word::Number(m)],
+    )
+}
+
+/// Adds a line of these words.
+pub fn put_part_number<'x>(
+    alloc: Global,
+    out: &mut Vec<u8>,
+    name: &'x str,
+    part: PartId,
+    n: u64,
+) -> Result<(), AllocError>
+    ensures ok { OnOk result (out.new.items ≡ out.old.items ++ line_of (name.now ∷ part_text part ∷ decimal n ∷ [])) }
+    ensures err { OnErr result (Begins out.old.items out.new.items) }
+{
+    put_line(
+        alloc,
+        out,
+        &[Word::Name(name), Word::Part(part), Word::Number(n)],
+    )
+}
+
+/// Adds a line of these words.
+pub fn put_text_number<'x>(
+    alloc: Global,
+    out: &mut Vec<u8>,
+    name: &'x str,
+    text: &'x Text,
+    n: u64,
+) -> Result<(), AllocError>
+    ensures ok { OnOk result (out.new.items ≡ out.old.items ++ line_of (name.now ∷ word_text text.now ∷ decimal n ∷ [])) }
+    ensures err { OnErr result (Begins out.old.items out.new.items) }
+{
+    put_line(
+        alloc,
+        out,
+        &[Word::Name(name), Word::Text(text), Word::Number(n)],
+    )
+}
+
+/// Adds a line of these words.
+pub fn put_one_text<'x>(
+    alloc: Global,
+    out: &mut Vec<u8>,
+    name: &'x str,
+    text: &'x Text,
+) -> Result<(), AllocError>
+    ensures ok { OnOk result (out.new.items ≡ out.old.items ++ line_of (name.now ∷ word_text text.now ∷ [])) }
+    ensures err { OnErr result (Begins out.old.items out.new.items) }
+{
+    put_line(alloc, out, &[Word::Name(name), Word::Text(text)])
+}
+
+/// Adds a line of these words.
+pub fn put_text_tx_vector<'x>(
+    alloc: Global,
+    out: &mut Vec<u8>,
+    name: &'x str,
+    text: &'x Text,
+    tx: TxId,
+    v: &'x VTime,
+) -> Result<(), AllocError>
+    ensures ok { OnOk result (out.new.items ≡ out.old.items ++ line_of (name.now ∷ word_text text.now ∷ tx_text tx ∷ vector_text v.now ∷ [])) }
+    ensures err { OnErr result (Begins out.old.items out.new.items) }
+{
+    put_line(
+        alloc,
+        out,
+        &[
+            Word::Name(name),
+            Word::Text(text),
+            Word::Tx(tx),
+            Word::Vector(v),
+        ],
+    )
+}
+
+/// Adds a line of these words.
+pub fn put_text_object_value<'x>(
+    alloc: Global,
+    out: &mut Vec<u8>,
+    name: &'x str,
+    text: &'x Text,
+    object: &'x ObjectId,
+    value: &'x Value,
+) -> Result<(), AllocError>
+    ensures ok { OnOk result (out.new.items ≡ out.old.items ++ line_of (name.now ∷ word_text text.now ∷ object_text object.now ∷ value_text value.now ∷ [])) }
+    ensures err { OnErr result (Begins out.old.items out.new.items) }
+{
+    put_line(
+        alloc,
+        out,
+        &[
+            Word::Name(name),
+            Word::Text(text),
+            Word::Object(object),
+            Word::Value(value),
+        ],
+    )
+}
+
+/// Adds a line of these words.
+pub fn put_part_tx_number<'x>(
+    alloc: Global,
+    out: &mut Vec<u8>,
+    name: &'x str,
+    part: PartId,
+    tx: TxId,
+    n: u64,
+) -> Result<(), AllocError>
+    ensures ok { OnOk result (out.new.items ≡ out.old.items ++ line_of (name.now ∷ part_text part ∷ tx_text tx ∷ decimal n ∷ [])) }
+    ensures err { OnErr result (Begins out.old.items out.new.items) }
+{
+    put_line(
+        alloc,
+        out,
+        &[
+            Word::Name(name),
+            Word::Part(part),
+            Word::Tx(tx),
+            Word::Number(n),
+        ],
+    )
+}
+
+/// Adds a line of these words.
+pub fn put_part_tx_vector<'x>(
+    alloc: Global,
+    out: &mut Vec<u8>,
+    name: &'x str,
+    part: PartId,
+    tx: TxId,
+    v: &'x VTime,
+) -> Result<(), AllocError>
+    ensures ok { OnOk result (out.new.items ≡ out.old.items ++ line_of (name.now ∷ part_text part ∷ tx_text tx ∷ vector_text v.now ∷ [])) }
+    ensures err { OnErr result (Begins out.old.items out.new.items) }
+{
+    put_line(
+        alloc,
+        out,
+        &[
+            Word::Name(name),
+            Word::Part(part),
+            Word::Tx(tx),
+            Word::Vector(v),
+        ],
+    )
+}
+
+/// Adds a line of these words.
+pub fn put_part_tx<'x>(
+    alloc: Global,
+    out: &mut Vec<u8>,
+    name: &'x str,
+    part: PartId,
+    tx: TxId,
+) -> Result<(), AllocError>
+    ensures ok { OnOk result (out.new.items ≡ out.old.items ++ line_of (name.now ∷ part_text part ∷ tx_text tx ∷ [])) }
+    ensures err { OnErr result (Begins out.old.items out.new.items) }
+{
+    put_line(
+        alloc,
+        out,
+        &[Word::Name(name), Word::Part(part), Word::Tx(tx)],
+    )
+}
+
+/// Adds a line of these words.
+pub fn put_one_part<'x>(
+    alloc: Global,
+    out: &mut Vec<u8>,
+    name: &'x str,
+    part: PartId,
+) -> Result<(), AllocError>
+    ensures ok { OnOk result (out.new.items ≡ out.old.items ++ line_of (name.now ∷ part_text part ∷ [])) }
+    ensures err { OnErr result (Begins out.old.items out.new.items) }
+{
+    put_line(alloc, out, &[Word::Name(name), Word::Part(part)])
+}
+
+/// Adds a line of these words.
+pub fn put_message_number<'x>(
+    alloc: Global,
+    out: &mut Vec<u8>,
+    name: &'x str,
+    number: u64,
+    n: u64,
+) -> Result<(), AllocError>
+    ensures ok { OnOk result (out.new.items ≡ out.old.items ++ line_of (name.now ∷ message_text number ∷ decimal n ∷ [])) }
+    ensures err { OnErr result (Begins out.old.items out.new.items) }
+{
+    put_line(
+        alloc,
+        out,
+        &[Word::Name(name), Word::Message(number), Word::Number(n)],
+    )
+}
+
+/// Adds a line of these words.
+pub fn put_message<'x>(
+    alloc: Global,
+    out: &mut Vec<u8>,
+    name: &'x str,
+    number: u64,
+) -> Result<(), AllocError>
+    ensures ok { OnOk result (out.new.items ≡ out.old.items ++ line_of (name.now ∷ message_text number ∷ [])) }
+    ensures err { OnErr result (Begins out.old.items out.new.items) }
+{
+    put_line(alloc, out, &[Word::Name(name), Word::Message(number)])
+}
+
+/// Adds a line of these words.
+pub fn put_report<'x>(
+    alloc: Global,
+    out: &mut Vec<u8>,
+    name: &'x str,
+    number: u64,
+) -> Result<(), AllocError>
+    ensures ok { OnOk result (out.new.items ≡ out.old.items ++ line_of (name.now ∷ report_text number ∷ [])) }
+    ensures err { OnErr result (Begins out.old.items out.new.items) }
+{
+    put_line(alloc, out, &[Word::Name(name), Word::Report(number)])
+}
+
+/// Adds a line of these words.
+pub fn put_report_part_vector<'x>(
+    alloc: Global,
+    out: &mut Vec<u8>,
+    name: &'x str,
+    number: u64,
+    part: PartId,
+    v: &'x VTime,
+) -> Result<(), AllocError>
+    ensures ok { OnOk result (out.new.items ≡ out.old.items ++ line_of (name.now ∷ report_text number ∷ part_text part ∷ vector_text v.now ∷ [])) }
+    ensures err { OnErr result (Begins out.old.items out.new.items) }
+{
+    put_line(
+        alloc,
+        out,
+        &[
+            Word::Name(name),
+            Word::Report(number),
+            Word::Part(part),
+            Word::Vector(v),
+        ],
+    )
+}
+
+/// Adds a line of these words.
+pub fn put_part_number_number<'x>(
+    alloc: Global,
+    out: &mut Vec<u8>,
+    name: &'x str,
+    part: PartId,
+    n: u64,
+    m: u64,
+) -> Result<(), AllocError>
+    ensures ok { OnOk result (out.new.items ≡ out.old.items ++ line_of (name.now ∷ part_text part ∷ decimal n ∷ decimal m ∷ [])) }
+    ensures err { OnErr result (Begins out.old.items out.new.items) }
+{
+    put_line(
+        alloc,
+        out,
+        &[
+            Word::Name(name),
+            Word::Part(part),
+            Word::Number(n),
+            Word::Number(m),
+        ],
+    )
+}
+
+/// Adds a line of these words.
+pub fn put_name<'x>(alloc: Global, out: &mut Vec<u8>, name: &'x str) -> Result<(), AllocError>
+    ensures ok { OnOk result (out.new.items ≡ out.old.items ++ line_of (name.now ∷ [])) }
+    ensures err { OnErr result (Begins out.old.items out.new.items) }
+{
+    put_line(alloc, out, &[Word::Name(name)])
+}
+
+/// Adds a line of these words.
+pub fn put_one_tx<'x>(
+    alloc: Global,
+    out: &mut Vec<u8>,
+    name: &'x str,
+    tx: TxId,
+) -> Result<(), AllocError>
+    ensures ok { OnOk result (out.new.items ≡ out.old.items ++ line_of (name.now ∷ tx_text tx ∷ [])) }
+    ensures err { OnErr result (Begins out.old.items out.new.items) }
+{
+    put_line(alloc, out, &[Word::Name(name), Word::Tx(tx)])
+}
+
+/// Adds a line of these words.
+pub fn put_one_number<'x>(
+    alloc: Global,
+    out: &mut Vec<u8>,
+    name: &'x str,
+    n: u64,
+) -> Result<(), AllocError>
+    ensures ok { OnOk result (out.new.items ≡ out.old.items ++ line_of (name.now ∷ decimal n ∷ [])) }
+    ensures err { OnErr result (Begins out.old.items out.new.items) }
+{
+    put_line(alloc, out, &[Word::Name(name), Word::Number(n)])
+}
+
+/// Adds the line of a sent message.
+pub fn put_sent(
+    alloc: Global,
+    out: &mut Vec<u8>,
+    number: u64,
+    part: PartId,
+    to: u8,
+    lo: u64,
+    hi: u64,
+    count: u64,
+) -> Result<(), AllocError>
+    ensures ok { OnOk result (out.new.items ≡ out.old.items ++ line_of (codes "sent" ∷ message_text number ∷ part_text part ∷ decimal to ∷ interval_text lo hi ∷ decimal count ∷ [])) }
+    ensures err { OnErr result (Begins out.old.items out.new.items) }
+{
+    put_line(
+        alloc,
+        out,
+        &[
+            Word::Name("sent"),
+            Word::Message(number),
+            Word::Part(part),
+            Word::Number(to as u64),
+            Word::Interval(lo, hi),
+            Word::Number(count),
+        ],
+    )
+}
+
+/// Adds the line of an update, with the stamp where there is one.
+pub fn put_updated<'x>(
+    alloc: Global,
+    out: &mut Vec<u8>,
+    name: &'x Text,
+    object: &'x ObjectId,
+    stamp: Option<u64>,
+) -> Result<(), AllocError>
+    ensures ok { OnOk result (out.new.items ≡ out.old.items ++ updated_text name.now object.now stamp) }
+    ensures err { OnErr result (Begins out.old.items out.new.items) }
+{
+    match stamp {
+        None => put_line(
+            alloc,
+            out,
+            &[
+                Word::Name("updated"),
+                Word::Text(name),
+                Word::Object(object),
+            ],
+        ),
+        Some(n) => put_line(
+            alloc,
+            out,
+            &[
+                Word::Name("updated"),
+                Word::Text(name),
+                Word::Object(object),
+                Word::Name("stamp"),
+                Word::Number(n),
+            ],
+        ),
+    }
+}

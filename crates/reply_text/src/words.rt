@@ -1,0 +1,219 @@
+#![tactic(auto, using(crate::specs::Words::begins_same, crate::specs::Words::begins_after))]
+
+ghost use Rattle.std.specs.Prelude.{◌≡◌, ◌++◌, if◌then◌else◌, [], ◌∷◌, codes, decimal, OnOk, OnErr};
+ghost use Rattle.std.specs.List.{join_by};
+ghost use Rattle.reply_text.specs.Values.{value_text};
+ghost use Rattle.site_vector.specs.Printed.{part_text, tx_text};
+ghost use Rattle.reply_text.specs.Places.{vector_text, word_text, object_text, bucket_text, interval_text};
+ghost use Rattle.reply_text.specs.Words.{text_of_word, words_text, Begins};
+
+use crate::value::{quote, value_string};
+use crdt_core::{ObjectId, Value};
+use field_codec::Text;
+use itoa::Buffer;
+use script_words::{is_bare, kind_name};
+use site_vector::{PartId, TxId, VTime};
+use std::alloc::{AllocError, Global};
+
+/// A word of a reply, with what it names borrowed from the step.
+#[derive(Clone, Copy, Debug)]
+pub enum Word<'a> {
+    /// As it stands.
+    Name(&'a str),
+    Number(u64),
+    Part(PartId),
+    Tx(TxId),
+    Vector(&'a VTime),
+    Text(&'a Text),
+    Object(&'a ObjectId),
+    Value(&'a Value),
+    /// The number of a message.
+    Message(u64),
+    /// The number of a report.
+    Report(u64),
+    /// The times above the first up to the second.
+    Interval(u64, u64),
+}
+
+/// Adds the bytes.
+pub fn put(out: &mut Vec<u8>, bytes: &[u8]) -> Result<(), AllocError>
+    ensures ok { OnOk result (out.new.items ≡ out.old.items ++ bytes.now) }
+    ensures err { OnErr result (Begins out.old.items out.new.items) }
+{
+    out.extend_from_slice(bytes)
+}
+
+/// Adds the bytes, where something stands before.
+fn put_if(out: &mut Vec<u8>, later: bool, bytes: &[u8]) -> Result<(), AllocError>
+    ensures ok { OnOk result (out.new.items ≡ out.old.items ++ (if later then bytes.now else [])) }
+    ensures err { OnErr result (Begins out.old.items out.new.items) }
+{
+    if later {
+        return put(out, bytes);
+    }
+    Ok(())
+}
+
+fn put_number(out: &mut Vec<u8>, n: u64) -> Result<(), AllocError>
+    ensures ok { OnOk result (out.new.items ≡ out.old.items ++ decimal n) }
+    ensures err { OnErr result (Begins out.old.items out.new.items) }
+{
+    put(out, Buffer::new().format(n).as_bytes())
+}
+
+fn put_part(out: &mut Vec<u8>, part: PartId) -> Result<(), AllocError>
+    ensures ok { OnOk result (out.new.items ≡ out.old.items ++ part_text part) }
+    ensures err { OnErr result (Begins out.old.items out.new.items) }
+{
+    put_number(out, part.site as u64)?;
+    put(out, b".")?;
+    put_number(out, part.part as u64)
+}
+
+fn put_tx(out: &mut Vec<u8>, tx: TxId) -> Result<(), AllocError>
+    ensures ok { OnOk result (out.new.items ≡ out.old.items ++ tx_text tx) }
+    ensures err { OnErr result (Begins out.old.items out.new.items) }
+{
+    put_number(out, tx.site as u64)?;
+    put(out, b".")?;
+    put_number(out, tx.part as u64)?;
+    put(out, b"#")?;
+    put_number(out, tx.time)
+}
+
+/// Adds a time, after a comma where something stands before.
+fn put_time(out: &mut Vec<u8>, later: bool, time: u64) -> Result<(), AllocError>
+    ensures ok { OnOk result (out.new.items ≡ out.old.items ++ ((if later then codes "," else []) ++ decimal time)) }
+    ensures err { OnErr result (Begins out.old.items out.new.items) }
+{
+    put_if(out, later, b",")?;
+    put_number(out, time)
+}
+
+/// Adds the times with a comma between neighbors.
+fn put_times(out: &mut Vec<u8>, times: &[u64]) -> Result<(), AllocError>
+    ensures ok { OnOk result (out.new.items ≡ out.old.items ++ join_by decimal (codes ",") times.now) }
+    ensures err { OnErr result (Begins out.old.items out.new.items) }
+{
+    for (i, time) in times.iter().enumerate() {
+        put_time(out, i > 0, *time)?;
+    }
+    Ok(())
+}
+
+fn put_vector(out: &mut Vec<u8>, v: &VTime) -> Result<(), AllocError>
+    ensures ok { OnOk result (out.new.items ≡ out.old.items ++ vector_text v.now) }
+    ensures err { OnErr result (Begins out.old.items out.new.items) }
+{
+    put(out, b"[")?;
+    put_times(out, v.as_slice())?;
+    put(out, b"]")
+}
+
+/// Adds a text, bare where it may be, and else as JSON writes it.
+fn put_text(alloc: Global, out: &mut Vec<u8>, text: &Text) -> Result<(), AllocError>
+    ensures ok { OnOk result (out.new.items ≡ out.old.items ++ word_text text.now) }
+    ensures err { OnErr result (Begins out.old.items out.new.items) }
+{
+    let text = text.as_str();
+    if is_bare(text.as_bytes()) {
+        return put(out, text.as_bytes());
+    }
+    put(out, quote(alloc, text)?.as_bytes())
+}
+
+/// Adds a space, an at sign and the bucket, where it isn't empty.
+fn put_bucket(alloc: Global, out: &mut Vec<u8>, bucket: &Text) -> Result<(), AllocError>
+    ensures ok { OnOk result (out.new.items ≡ out.old.items ++ bucket_text bucket.now) }
+    ensures err { OnErr result (Begins out.old.items out.new.items) }
+{
+    if bucket.as_str().is_empty() {
+        return Ok(());
+    }
+    put(out, b" @")?;
+    put_text(alloc, out, bucket)
+}
+
+fn put_object(alloc: Global, out: &mut Vec<u8>, object: &ObjectId) -> Result<(), AllocError>
+    ensures ok { OnOk result (out.new.items ≡ out.old.items ++ object_text object.now) }
+    ensures err { OnErr result (Begins out.old.items out.new.items) }
+{
+    put_text(alloc, out, &object.key)?;
+    put(out, b" ")?;
+    put(out, kind_name(object.kind).as_bytes())?;
+    put_bucket(alloc, out, &object.bucket)
+}
+
+fn put_value(alloc: Global, out: &mut Vec<u8>, value: &Value) -> Result<(), AllocError>
+    ensures ok { OnOk result (out.new.items ≡ out.old.items ++ value_text value.now) }
+    ensures err { OnErr result (Begins out.old.items out.new.items) }
+{
+    put(out, value_string(alloc, value)?.as_bytes())
+}
+
+fn put_numbered(out: &mut Vec<u8>, letter: &[u8], n: u64) -> Result<(), AllocError>
+    ensures ok { OnOk result (out.new.items ≡ out.old.items ++ (letter.now ++ decimal n)) }
+    ensures err { OnErr result (Begins out.old.items out.new.items) }
+{
+    put(out, letter)?;
+    put_number(out, n)
+}
+
+fn put_interval(out: &mut Vec<u8>, lo: u64, hi: u64) -> Result<(), AllocError>
+    ensures ok { OnOk result (out.new.items ≡ out.old.items ++ interval_text lo hi) }
+    ensures err { OnErr result (Begins out.old.items out.new.items) }
+{
+    put(out, b"(")?;
+    put_number(out, lo)?;
+    put(out, b",")?;
+    put_number(out, hi)?;
+    put(out, b"]")
+}
+
+fn put_word(alloc: Global, out: &mut Vec<u8>, word: &Word) -> Result<(), AllocError>
+    ensures ok { OnOk result (out.new.items ≡ out.old.items ++ text_of_word word.now) }
+    ensures err { OnErr result (Begins out.old.items out.new.items) }
+{
+    match word {
+        Word::Name(name) => put(out, name.as_bytes()),
+        Word::Number(n) => put_number(out, *n),
+        Word::Part(part) => put_part(out, *part),
+        Word::Tx(tx) => put_tx(out, *tx),
+        Word::Vector(v) => put_vector(out, v),
+        Word::Text(text) => put_text(alloc, out, text),
+        Word::Object(object) => put_object(alloc, out, object),
+        Word::Value(value) => put_value(alloc, out, value),
+        Word::Message(n) => put_numbered(out, b"m", *n),
+        Word::Report(n) => put_numbered(out, b"g", *n),
+        Word::Interval(lo, hi) => put_interval(out, *lo, *hi),
+    }
+}
+
+/// Adds a word, after a space where something stands before.
+fn put_next(alloc: Global, out: &mut Vec<u8>, later: bool, word: &Word) -> Result<(), AllocError>
+    ensures ok { OnOk result (out.new.items ≡ out.old.items ++ ((if later then codes " " else []) ++ text_of_word word.now)) }
+    ensures err { OnErr result (Begins out.old.items out.new.items) }
+{
+    put_if(out, later, b" ")?;
+    put_word(alloc, out, word)
+}
+
+/// Adds the words with a space between neighbors.
+pub fn put_words(alloc: Global, out: &mut Vec<u8>, words: &[Word]) -> Result<(), AllocError>
+    ensures ok { OnOk result (out.new.items ≡ out.old.items ++ words_text words.now) }
+    ensures err { OnErr result (Begins out.old.items out.new.items) }
+{
+    for (i, word) in words.iter().enumerate() {
+        put_next(alloc, out, i > 0, word)?;
+    }
+    Ok(())
+}
+
+/// Adds the words with a space between neighbors, and a line feed.
+pub fn put_line(alloc: Global, out: &mut Vec<u8>, words: &[Word]) -> Result<(), AllocError>
+    ensures ok { OnOk result (out.new.items ≡ out.old.items ++ (words_text words.now ++ 10 ∷ [])) }
+    ensures err { OnErr result (Begins out.old.items out.new.items) }
+{
+    put_words(alloc, out, words)?;
+    put(out, b"\n")
+}

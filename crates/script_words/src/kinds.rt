@@ -1,0 +1,64 @@
+ghost use Rattle.std.specs.Prelude.{◌≡◌};
+ghost use Rattle.script_words.specs.Kinds as kinds;
+
+use crate::bare::spells;
+use crdt_core::Kind;
+
+/// The name of the kind.
+pub fn kind_name(kind: Kind) -> &'static str
+    ensures { result.now ≡ kinds.kind_name kind }
+{
+    match kind {
+        Kind::CounterPn => "counter_pn",
+        Kind::CounterFat => "counter_fat",
+        Kind::SetGo => "set_go",
+        Kind::SetAw => "set_aw",
+        Kind::SetRw => "set_rw",
+        Kind::FlagEw => "flag_ew",
+        Kind::FlagDw => "flag_dw",
+        Kind::RegisterLww => "register_lww",
+        Kind::RegisterMv => "register_mv",
+        Kind::MapGo => "map_go",
+        Kind::MapRr => "map_rr",
+    }
+}
+
+/// The kind of this name.
+pub fn kind_named(name: &[u8]) -> Option<Kind>
+    ensures { result ≡ kinds.kind_named name.now }
+{
+    if spells(name, "counter_pn") {
+        return Some(Kind::CounterPn);
+    }
+    if spells(name, "counter_fat") {
+        return Some(Kind::CounterFat);
+    }
+    if spells(name, "set_go") {
+        return Some(Kind::SetGo);
+    }
+    if spells(name, "set_aw") {
+        return Some(Kind::SetAw);
+    }
+    if spells(name, "set_rw") {
+        return Some(Kind::SetRw);
+    }
+    if spells(name, "flag_ew") {
+        return Some(Kind::FlagEw);
+    }
+    if spells(name, "flag_dw") {
+        return Some(Kind::FlagDw);
+    }
+    if spells(name, "register_lww") {
+        return Some(Kind::RegisterLww);
+    }
+    if spells(name, "register_mv") {
+        return Some(Kind::RegisterMv);
+    }
+    if spells(name, "map_go") {
+        return Some(Kind::MapGo);
+    }
+    if spells(name, "map_rr") {
+        return Some(Kind::MapRr);
+    }
+    None
+}
