@@ -1,3 +1,4 @@
 pub mod Entries
 pub mod Ids
+pub mod Order
 pub mod Vector
