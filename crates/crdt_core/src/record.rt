@@ -1,0 +1,72 @@
+use crate::ObjectId;
+use field_codec::ListOf;
+use site_vector::{TxId, VTime};
+
+/// One update of a transaction, as it is stored and sent: the effect `E` that it was generated to.
+#[derive(Drop)]
+pub struct Upd<E> {
+    pub object: ObjectId,
+    /// The number of the update in its transaction, from 1 to 256.
+    pub index: u16,
+    pub effect: E,
+}
+
+/// What a committed transaction changed at one partition.
+#[derive(Drop)]
+pub struct Part<E> {
+    pub tx: TxId,
+    /// The commit vector.
+    pub c: VTime,
+    /// Ascending by number.
+    pub updates: ListOf<Upd<E>>,
+}
+
+/// A stretch of a partition's stream to the partition with its number at another site: all parts of the sender's site
+/// whose commit time is above `lo` and at most `hi`.
+#[derive(Drop)]
+pub struct Message<E> {
+    /// The sender's site.
+    pub from: u8,
+    /// The receiver's site.
+    pub to: u8,
+    /// The number of both partitions.
+    pub part: u8,
+    pub lo: u64,
+    pub hi: u64,
+    /// Ascending by commit time, and then by transaction.
+    pub parts: ListOf<Part<E>>,
+}
+
+/// A record of a partition's log.
+#[derive(Drop)]
+pub enum Record<E> {
+    /// The clock shows no time above `ceil` before the next lease.
+    Lease {
+        ceil: u64,
+    },
+    /// A vote for a transaction, at a time: its snapshot, the number of its lead, and what it changes here.
+    Prepare {
+        tx: TxId,
+        lead: u8,
+        time: u64,
+        s: VTime,
+        updates: ListOf<Upd<E>>,
+    },
+    /// The commit point, at the lead, with the commit vector.
+    Decide {
+        tx: TxId,
+        c: VTime,
+    },
+    /// The commit at another participant.
+    Finish {
+        tx: TxId,
+        c: VTime,
+    },
+    Abort {
+        tx: TxId,
+    },
+    /// What a message brought that was not here yet.
+    Batch {
+        message: Message<E>,
+    },
+}

@@ -1,0 +1,74 @@
+-- What a lawful run of the world is.
+use Rattle.std.specs.Prelude.{◌≡◌, ℕ, ◌+◌, ◌<◌, ◌≤◌, leb, ltb, max, Bool, true, false, ◌&&◌, List, [], ◌∷◌, ⊤}
+use Rattle.site_vector.specs.declared.ids.PartId.{PartId}
+use Rattle.site_vector.specs.declared.ids.TxId.{TxId}
+use Rattle.site_vector.specs.Vector.{le, entry}
+use Rattle.crdt_core.specs.declared.object.ObjectId.{ObjectId}
+use Rattle.crdt_core.specs.declared.record.Part.{Part}
+use Rattle.crdt_core.specs.declared.record.Message.{Message}
+use Rattle.world_model.specs.Log.{touches, lists}
+use Rattle.world_model.specs.Event.{Event, Ticked, Began, Updated, Read, Prepared, Sent, Restarted, Entry, EventsAre, is_decided, time_of, was_aborted, shown, missed}
+use Rattle.world_model.specs.Partition.{Kinds, state_read, Ascends, fold_cmp, stream_cmp, AreParts, names_pending}
+use Rattle.world_model.specs.Plan.{Plan, takes_part, changes_at, commit_vector}
+
+module _ {E : Type 0} where
+  -- the visible set of a vector: t is in it
+  abbrev pub sees_tx : Plan E → List (Entry E) → List ℕ → TxId → Bool
+  sees_tx plan run s t = is_decided run t && le (commit_vector plan run t) s
+
+  -- a read at p of o under s folded exactly the parts of the whole run's visible set that update o, in fold order
+  pub record IsRightFold (plan : Plan E) (run : List (Entry E)) (p : PartId) (s : List ℕ) (o : ObjectId) (read : List (Part E)) : Type 0 where
+    pub order : Ascends fold_cmp read
+    pub members : (u : TxId) → lists read u ≡ (is_decided run u && (touches (changes_at plan p u) o && le (commit_vector plan run u) s))
+    pub exact : AreParts (commit_vector plan run) (changes_at plan p) read
+
+  -- a message from p has exactly the parts of the whole run with a commit time in its stretch, as they are
+  pub record IsExact (plan : Plan E) (run : List (Entry E)) (p : PartId) (m : Message E) : Type 0 where
+    pub order : Ascends (stream_cmp p.site) m.parts
+    pub members : (u : TxId) → lists m.parts u ≡ (is_decided run u && (takes_part plan u p && (ltb m.lo (time_of run u) && leb (time_of run u) m.hi)))
+    pub exact : AreParts (commit_vector plan run) (λ u. plan.updates u p) m.parts
+
+  -- times shown never fall; a restart shows at most 1,000 more than was shown or would have been
+  abbrev pub ClockIs : List (Entry E) → PartId → Event E → Type 0
+  ClockIs run p (Ticked r n) = n ≡ max r (shown run p)
+  ClockIs run p (Began who dep t s) = t.time ≡ shown run p + 1
+  ClockIs run p (Prepared t s l w n) = n ≡ shown run p + 1
+  ClockIs run p (Restarted n b named listed) = (shown run p ≤ n) × (n ≤ 1000 + max (shown run p) (missed run p))
+  ClockIs run p other = ⊤
+
+  abbrev pub ClocksAre : List (Entry E) → Type 0
+  ClocksAre [] = ⊤
+  ClocksAre (e ∷ run) = ClockIs run e.at e.event × ClocksAre run
+
+  -- no restart lists a decided transaction as pending at its lead
+  abbrev pub KeepsIs : Plan E → List (Entry E) → PartId → Event E → Type 0
+  KeepsIs plan run p (Restarted n b named listed) = (t : TxId) → is_decided run t ≡ true → plan.lead t ≡ p → names_pending listed t ≡ false
+  KeepsIs plan run p other = ⊤
+
+  abbrev pub KeepsDecided : Plan E → List (Entry E) → Type 0
+  KeepsDecided plan [] = ⊤
+  KeepsDecided plan (e ∷ run) = KeepsIs plan run e.at e.event × KeepsDecided plan run
+
+  -- a value is that of the parts that were read and the transaction's own updates
+  abbrev pub IsRight : {S : Type 0} → Kinds S E → Plan E → List (Entry E) → PartId → Event E → Type 0
+  IsRight kinds plan run p (Read t s o own read value) = IsRightFold plan run p s o read × (value ≡ kinds.value_of (state_read kinds o t own read))
+  IsRight kinds plan run p (Updated t s o own op read u stamp) = kinds.reads_state o.kind ≡ true → IsRightFold plan run p s o read
+  IsRight kinds plan run p (Sent asked m) = IsExact plan run p m
+  IsRight kinds plan run p other = ⊤
+
+  -- a snapshot holds what its session depended on
+  abbrev pub HoldsPast : PartId → Event E → Type 0
+  HoldsPast p (Began who dep t s) = le dep s ≡ true
+  HoldsPast p other = ⊤
+
+  pub record IsLawfulWorld {S : Type 0} (kinds : Kinds S E) (plan : Plan E) (run : List (Entry E)) : Type 0 where
+    -- reads, updates that read, and messages, in the whole run
+    pub right : EventsAre (IsRight kinds plan run) run
+    pub clock : ClocksAre run
+    pub past : EventsAre HoldsPast run
+    pub decided_stay : KeepsDecided plan run
+    -- what was aborted anywhere is never decided
+    pub fate : (t : TxId) (p : PartId) → was_aborted run t p ≡ true → is_decided run t ≡ false
+    pub strict : (t : TxId) → is_decided run t ≡ true → entry (plan.snapshot t) t.site < time_of run t
+    -- visible sets are closed
+    pub closed : (s : List ℕ) (t u : TxId) → sees_tx plan run s t ≡ true → sees_tx plan run (plan.snapshot t) u ≡ true → sees_tx plan run s u ≡ true
