@@ -1,1 +1,5 @@
 pub mod Names
+pub mod Parts
+pub mod Moves
+pub mod Leases
+pub mod Fate
