@@ -158,7 +158,7 @@ module _ {E : Type 0} where
         go old (Abort u) b ih k = or_right _ _ (ih k)
 
     -- a prepare that was tried is not prepared now
-    not_again : (q : PartId) (u t : TxId) (s : List ℕ) (l : ℕ) (w : List (Upd E)) → q ≡ at → MayPrepare plan run at u s l w → tried run t q ≡ true → same_tx u t ≡ false
+    pub not_again : (q : PartId) (u t : TxId) (s : List ℕ) (l : ℕ) (w : List (Upd E)) → q ≡ at → MayPrepare plan run at u s l w → tried run t q ≡ true → same_tx u t ≡ false
     not_again q u t s l w e m h = false_from_ne_true _ (λ k. clash h (subst₂ (λ x y. tried run x y ≡ false) (same_tx_is u t k) (sym e) m.fresh))
 
     same_time : (q : PartId) (old : List (Record E)) (r : Record E) (t : TxId) → Because plan run before (after q).up at event q old r → voted run t q ≡ true → prepare_time (r ∷ old) t ≡ prepare_time old t

@@ -3,3 +3,5 @@ pub mod Parts
 pub mod Moves
 pub mod Leases
 pub mod Fate
+pub mod Later
+pub mod Intervals
