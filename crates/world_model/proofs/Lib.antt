@@ -5,3 +5,4 @@ pub mod Leases
 pub mod Fate
 pub mod Later
 pub mod Intervals
+pub mod Completeness

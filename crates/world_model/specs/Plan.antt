@@ -11,7 +11,7 @@ use Rattle.crdt_core.specs.Objects.{same_object}
 use Rattle.crdt_core.specs.Placing.{place_of}
 use Rattle.world_model.specs.Log.{touches, pending, committed}
 use Rattle.world_model.specs.Event.{Event, Ticked, Began, Updated, Read, Prepared, Decided, Finished, Aborted, Sent, Took, Reported, Heard, Entry, attempt, tried, voted, decide_tried, gave_up, is_decided, time_of, WasShown}
-use Rattle.world_model.specs.Partition.{Kinds, PartState, new_part, PartStep}
+use Rattle.world_model.specs.Partition.{Kinds, PartState, IsOther, new_part, PartStep}
 
 abbrev pub is_some_update : {E : Type 0} → List (Upd E) → Bool
 is_some_update [] = false
@@ -118,8 +118,7 @@ module _ {E : Type 0} where
 
   -- a message is taken that was sent to here
   pub record MayTake (plan : Plan E) (run : List (Entry E)) (p : PartId) (m : Message E) : Type 0 where
-    pub least : 1 ≤ m.from
-    pub away : m.from ≢ p.site
+    pub from : IsOther plan.sites p.site m.from
     pub to : m.to ≡ p.site
     pub part : m.part ≡ p.part
     pub asked : Option ℕ
