@@ -35,7 +35,7 @@ module _ {E : Type 0} where
 
   -- a vector at the own site is the commit time
   pub at_own : (plan : Plan E) (t : TxId) (p : PartId) (c : ℕ) → takes_part plan t p ≡ true → entry (vector_at plan t c) t.site ≡ c
-  at_own plan t p c h = entry_same (plan.snapshot t) t.site c (plan.least t p h) (plan.most t p h)
+  at_own plan t p c h = entry_same (plan.snapshot t) t.site c (plan.least t p h) (plan.entered t p h)
 
   module _ (plan : Plan E) (run : List (Entry E)) (parts : PartId → PartState E) (f : Fate plan run parts) where
     pub full_now : (t : TxId) → is_decided run t ≡ true → Full plan run t

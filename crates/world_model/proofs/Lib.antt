@@ -6,3 +6,4 @@ pub mod Fate
 pub mod Later
 pub mod Intervals
 pub mod Completeness
+pub mod AnsweredReads

@@ -26,10 +26,11 @@ pub record Plan (E : Type 0) : Type 0 where
   pub lead : TxId → PartId
   -- in order
   pub updates : TxId → PartId → List (Upd E)
-  -- a transaction updates at its own site, which has an entry in its snapshot
+  -- a transaction updates at its own site, which its snapshot has an entry for
   pub at_home : (t : TxId) (p : PartId) → is_some_update (updates t p) ≡ true → p.site ≡ t.site
   pub least : (t : TxId) (p : PartId) → is_some_update (updates t p) ≡ true → 1 ≤ t.site
-  pub most : (t : TxId) (p : PartId) → is_some_update (updates t p) ≡ true → t.site ≤ length (snapshot t)
+  pub most : (t : TxId) (p : PartId) → is_some_update (updates t p) ≡ true → t.site ≤ sites
+  pub entered : (t : TxId) (p : PartId) → is_some_update (updates t p) ≡ true → t.site ≤ length (snapshot t)
 
 pub record IsPlace (sites parts : ℕ) (p : PartId) : Type 0 where
   pub least_site : 1 ≤ p.site

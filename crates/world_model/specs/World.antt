@@ -34,22 +34,29 @@ module _ {E : Type 0} where
   snapshot_of [] t = []
   snapshot_of (e ∷ run) t = if is_begin e.event t then begin_vector e.event else snapshot_of run t
 
-  -- p is of t's site, which t's snapshot has an entry for
-  abbrev pub is_own : List (Entry E) → TxId → PartId → Bool
-  is_own run t p = p.site == t.site && (leb 1 t.site && leb t.site (length (snapshot_of run t)))
+  -- p is of t's site, which is one of the cluster and which t's snapshot has an entry for
+  abbrev pub is_own : ℕ → List (Entry E) → TxId → PartId → Bool
+  is_own sites run t p = p.site == t.site && (leb 1 t.site && (leb t.site sites && leb t.site (length (snapshot_of run t))))
 
-  abbrev pub changes_of : List (Entry E) → TxId → PartId → List (Upd E)
-  changes_of run t p = if is_own run t p then updates_at run t p else []
+  abbrev pub changes_of : ℕ → List (Entry E) → TxId → PartId → List (Upd E)
+  changes_of sites run t p = if is_own sites run t p then updates_at run t p else []
 
   -- the participants: the partitions of its site where it changed something, in ascending order; the first is the lead
-  abbrev pub participants_of : ℕ → List (Entry E) → TxId → List PartId
-  participants_of parts run t = filter (λ p. is_some_update (changes_of run t p)) (partitions t.site 1 parts)
+  abbrev pub participants_of : ℕ → ℕ → List (Entry E) → TxId → List PartId
+  participants_of sites parts run t = filter (λ p. is_some_update (changes_of sites run t p)) (partitions t.site 1 parts)
 
-  abbrev pub lead_of : ℕ → List (Entry E) → TxId → PartId
-  lead_of parts run t = first_of (home t) (participants_of parts run t)
+  abbrev pub lead_of : ℕ → ℕ → List (Entry E) → TxId → PartId
+  lead_of sites parts run t = first_of (home t) (participants_of sites parts run t)
 
-  pub changed_own : (run : List (Entry E)) (t : TxId) (p : PartId) → is_some_update (changes_of run t p) ≡ true → is_own run t p ≡ true
-  changed_own run t p = elim (is_own run t p) as (λ b. is_some_update (cond b (updates_at run t p) []) ≡ true → b ≡ true) [ true ↦ λ h i. true | false ↦ λ h. h ]
+  changed_own : (sites : ℕ) (run : List (Entry E)) (t : TxId) (p : PartId) → is_some_update (changes_of sites run t p) ≡ true → is_own sites run t p ≡ true
+  changed_own sites run t p = elim (is_own sites run t p) as (λ b. is_some_update (cond b (updates_at run t p) []) ≡ true → b ≡ true) [ true ↦ λ h i. true | false ↦ λ h. h ]
+
+  pub own_parts : (sites : ℕ) (run : List (Entry E)) (t : TxId) (p : PartId) → is_some_update (changes_of sites run t p) ≡ true → ((p.site == t.site) ≡ true) × (leb 1 t.site ≡ true) × (leb t.site sites ≡ true) × (leb t.site (length (snapshot_of run t)) ≡ true)
+  own_parts sites run t p h =
+      let a = and_parts (p.site == t.site) _ (changed_own sites run t p h) in
+      let b = and_parts (leb 1 t.site) _ a.1 in
+      let c = and_parts (leb t.site sites) _ b.1 in
+      (a.0, b.0, c.0, c.1)
 
   -- what the transactions of these events are
   abbrev pub plan_of : ℕ → ℕ → List (Entry E) → Plan E
@@ -57,11 +64,12 @@ module _ {E : Type 0} where
     sites = sites;
     parts = parts;
     snapshot = λ t. snapshot_of run t;
-    lead = λ t. lead_of parts run t;
-    updates = λ t p. changes_of run t p;
-    at_home = λ t p h. eqb-true _ _ (and_parts (p.site == t.site) _ (changed_own run t p h)).0;
-    least = λ t p h. leb-true _ _ (and_parts (leb 1 t.site) _ (and_parts (p.site == t.site) _ (changed_own run t p h)).1).0;
-    most = λ t p h. leb-true _ _ (and_parts (leb 1 t.site) _ (and_parts (p.site == t.site) _ (changed_own run t p h)).1).1;
+    lead = λ t. lead_of sites parts run t;
+    updates = λ t p. changes_of sites run t p;
+    at_home = λ t p h. eqb-true _ _ (own_parts sites run t p h).0;
+    least = λ t p h. leb-true _ _ (own_parts sites run t p h).1;
+    most = λ t p h. leb-true _ _ (own_parts sites run t p h).2;
+    entered = λ t p h. leb-true _ _ (own_parts sites run t p h).3;
   }
 
   -- an update comes before any prepare, and bears the next number
