@@ -200,5 +200,5 @@ module _ {E : Type 0} where
   answered_event kinds plan run before after f g at place (Updated t s o own op read u stamp) st al = λ h.
       let r = right_now plan run before after f g at place t s o own read (Updated t s o own op read u stamp) st.0 (st.1.ready h) (st.1.fold h) al in
       answered_now plan run before after f g at place t s o own read (Updated t s o own op read u stamp) st.0 (st.1.ready h) (st.1.fold h) al
-          (ap (λ p. p.now) (sym st.2)) (λ l i. subst (λ p. Image p l) st.2 i) (record { order = r.order; members = r.members; exact = r.exact }) (λ u. refl)
+      (ap (λ p. p.now) (sym st.2)) (λ l i. subst (λ p. Image p l) st.2 i) (record { order = r.order; members = r.members; exact = r.exact }) (λ u. refl)
   answered_event kinds plan run before after f g at place event st al = tt

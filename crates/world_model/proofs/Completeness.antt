@@ -22,12 +22,12 @@ use Rattle.world_model.proofs.Fate.{Fate}
 use Rattle.world_model.proofs.Later.{at_own}
 use Rattle.world_model.proofs.Intervals.{Intervals, sent_more, shown_sent, shown_has, events_map, above_sent, same_time, same_commit, exact_step}
 
-zeros_at : (n i : ℕ) → slice_index (replicate n 0) i ≡ 0
+pub zeros_at : (n i : ℕ) → slice_index (replicate n 0) i ≡ 0
 zeros_at zero i = refl
 zeros_at (suc n) zero = refl
 zeros_at (suc n) (suc i) = zeros_at n i
 
-rows_at : (m n i k : ℕ) → slice_index (slice_index_or (replicate m (replicate n 0)) i []) k ≡ 0
+pub rows_at : (m n i k : ℕ) → slice_index (slice_index_or (replicate m (replicate n 0)) i []) k ≡ 0
 rows_at zero n i k = refl
 rows_at (suc m) n zero k = zeros_at n k
 rows_at (suc m) n (suc i) k = rows_at m n i k

@@ -7,3 +7,5 @@ pub mod Later
 pub mod Intervals
 pub mod Completeness
 pub mod AnsweredReads
+pub mod Kept
+pub mod Whole

@@ -49,10 +49,10 @@ module _ {E : Type 0} where
   KeepsDecided plan [] = ⊤
   KeepsDecided plan (e ∷ run) = KeepsIs plan run e.at e.event × KeepsDecided plan run
 
-  -- a value is that of the parts that were read and the transaction's own updates
+  -- reads are under the transaction's snapshot, and a value is that of the parts that were read and of its own updates
   abbrev pub IsRight : {S : Type 0} → Kinds S E → Plan E → List (Entry E) → PartId → Event E → Type 0
-  IsRight kinds plan run p (Read t s o own read value) = IsRightFold plan run p s o read × (value ≡ kinds.value_of (state_read kinds o t own read))
-  IsRight kinds plan run p (Updated t s o own op read u stamp) = kinds.reads_state o.kind ≡ true → IsRightFold plan run p s o read
+  IsRight kinds plan run p (Read t s o own read value) = (s ≡ plan.snapshot t) × IsRightFold plan run p s o read × (value ≡ kinds.value_of (state_read kinds o t own read))
+  IsRight kinds plan run p (Updated t s o own op read u stamp) = (s ≡ plan.snapshot t) × (kinds.reads_state o.kind ≡ true → IsRightFold plan run p s o read)
   IsRight kinds plan run p (Sent asked m) = IsExact plan run p m
   IsRight kinds plan run p other = ⊤
 
