@@ -1,22 +1,22 @@
 -- The law of the world under one plan: every part holds at the start and is kept by each step.
-use Rattle.std.proofs.Common.{◌≡◌, ◌≢◌, ⊎_elim, inl, ℕ, zero, suc, ◌+◌, ◌-◌, ◌<◌, ◌≤◌, max, Bool, true, false, List, [], ◌∷◌, length, Option, refl, sym, ◌∙◌, ap, subst, arith, le_refl, le_trans, le_of_lt}
+use Rattle.std.proofs.Common.{◌||◌, ◌≡◌, ◌≢◌, ⊎_elim, inl, ℕ, zero, suc, ◌+◌, ◌-◌, ◌<◌, ◌≤◌, max, Bool, true, false, List, [], ◌∷◌, length, Option, refl, sym, ◌∙◌, ap, subst, arith, le_refl, le_trans, le_of_lt}
 use Rattle.std.specs.Prelude.{⊤, slice_index}
-use Rattle.std.proofs.lemmas.Bool.{cases_Bool, cases_eq, cases_lt, and_from, and_parts, and_right, false_from_ne_true}
+use Rattle.std.proofs.lemmas.Bool.{cases_Bool, cases_eq, cases_lt, and_from, and_parts, and_right, or_parts, false_from_ne_true}
 use Rattle.site_vector.specs.declared.ids.PartId.{PartId}
 use Rattle.site_vector.specs.declared.ids.TxId.{TxId}
 use Rattle.site_vector.specs.Vector.{le, entry}
 use Rattle.crdt_core.specs.declared.record.Message.{Message}
 use Rattle.crdt_core.specs.declared.record.Record.{Record}
 use Rattle.world_model.specs.Log.{ceiling, prepared, committed, aborted, decided, pending, taken, bound}
-use Rattle.world_model.specs.Event.{Event, Began, Updated, Read, Sent, Restarted, Entry, attempt, is_decided, time_of, sent, WasShown, EventsAre}
+use Rattle.world_model.specs.Event.{AskRead, AskUpdate, AskPrepare, AskFinish, ClockBehind, IsGone, Refused, shown, Event, Began, Updated, Read, Sent, Restarted, Entry, attempt, is_decided, time_of, sent, WasShown, EventsAre}
 use Rattle.world_model.specs.Partition.{Kinds, PartState, Image, IsOther, IsBegin, end_of_time, vector_of, new_part, PartStep}
-use Rattle.world_model.specs.Plan.{Plan, home, takes_part, vector_at, commit_vector, IsAllowed, IsPlanned, WorldStep, IsRun}
-use Rattle.world_model.specs.WorldLaw.{sees_tx, IsExact, IsRight, ClocksAre, HoldsPast, KeepsIs, KeepsDecided, IsLawfulWorld}
+use Rattle.world_model.specs.Plan.{Plan, home, takes_part, vector_at, commit_vector, IsAllowed, IsSession, IsPlanned, WorldStep, IsRun}
+use Rattle.world_model.specs.WorldLaw.{sees_tx, IsExact, IsRight, ClocksAre, HoldsPast, KeepsIs, KeepsDecided, HasCauseAt, HaveCausesAt, IsLawfulWorld}
 use Rattle.world_model.proofs.Names.{clash, off, le_from, le_onward, le_raised}
 use Rattle.world_model.proofs.Moves.{moved, image_log}
 use Rattle.world_model.proofs.Fate.{Fate, fate_step}
 use Rattle.world_model.proofs.Leases.{Clock, Leases, leases_step, rises, one_image, clock_event}
-use Rattle.world_model.proofs.Later.{never_aborted, full_now, vote_in_time}
+use Rattle.world_model.proofs.Later.{never_aborted, full_now, prepared_now, pending_from, vote_in_time}
 use Rattle.world_model.proofs.Intervals.{Intervals, intervals_step, exact_now, shown_sent, shown_has, events_map}
 use Rattle.world_model.proofs.Completeness.{IsBacked, Bounds, bounds_step, zeros_at, rows_at}
 use Rattle.world_model.proofs.AnsweredReads.{IsAnswered, answered_events, answered_event}
@@ -63,6 +63,7 @@ module _ {E : Type 0} where
     pub clock : ClocksAre run
     pub past : EventsAre HoldsPast run
     pub decided_stay : KeepsDecided plan run
+    pub causes : HaveCausesAt plan run
 
   empty_image : (sites parts : ℕ) (p : PartState E) (m : List (Record E)) → p ≡ new_part sites parts → Image p m → m ≡ []
   empty_image sites parts p m e i = subst (λ x. Image x m) e i
@@ -102,6 +103,7 @@ module _ {E : Type 0} where
         clock = tt;
         past = tt;
         decided_stay = tt;
+        causes = tt;
       }
 
   keeps_event : {S : Type 0} (kinds : Kinds S E) (plan : Plan E) (run : List (Entry E)) (before : PartId → PartState E) (at : PartId) (q : PartState E) → Fate plan run before → (event : Event E) → PartStep kinds plan.sites plan.parts at (before at) event q → KeepsIs plan run at event
@@ -131,6 +133,24 @@ module _ {E : Type 0} where
   under_event plan run before at (Updated t s o own op read u stamp) p al = shown_has (IsPlanned plan) run (home t) (Began al.who al.dependency t s) p al.begun
   under_event plan run before at event p al = tt
 
+  -- under a begun snapshot that the clock has not reached
+  clock_cause : (plan : Plan E) (run : List (Entry E)) (before : PartId → PartState E) (at : PartId) (t : TxId) (s : List ℕ) (n : ℕ) → Leases run before → EventsAre (IsPlanned plan) run → IsSession run at t s → n ≡ (before at).now → n < entry s at.site → (n ≡ shown run at) × (n < entry (plan.snapshot t) at.site)
+  clock_cause plan run before at t s n l p al e h = (e ∙ (l.clock at).now, subst (λ x. n < entry x at.site) (shown_has (IsPlanned plan) run (home t) (Began al.who al.dependency t s) p al.begun) h)
+
+  never_gone : (plan : Plan E) (run : List (Entry E)) (before : PartId → PartState E) (at : PartId) (t : TxId) → Fate plan run before → is_decided run t ≡ true → takes_part plan t at ≡ true → (pending (before at).log t || committed (before at).log t) ≡ false → ⊥
+  never_gone plan run before at t f d u h =
+      let log = (before at).log in
+      let ps = or_parts (pending log t) (committed log t) h in
+      let p = prepared_now plan run before f at log t (image_log (before at)) d u in
+      clash (pending_from log t p.0 ps.1 (never_aborted plan run before f at log t (image_log (before at)) d)) ps.0
+
+  cause_event : {S : Type 0} (kinds : Kinds S E) (plan : Plan E) (run : List (Entry E)) (before : PartId → PartState E) (q : PartState E) (at : PartId) (event : Event E) → Fate plan run before → Leases run before → EventsAre (IsPlanned plan) run → IsAllowed plan run before at (attempt event) → PartStep kinds plan.sites plan.parts at (before at) event q → HasCauseAt plan run at event
+  cause_event kinds plan run before q at (Refused (AskRead t s o own) (ClockBehind n)) f l p al st = clock_cause plan run before at t s n l p al st.0.1.0 st.0.1.1
+  cause_event kinds plan run before q at (Refused (AskUpdate t s o own op) (ClockBehind n)) f l p al st = clock_cause plan run before at t s n l p al st.0.1.1 st.0.1.2
+  cause_event kinds plan run before q at (Refused (AskPrepare t s y w) (ClockBehind n)) f l p al st = clock_cause plan run before at t s n l p al st.0.1.0 st.0.1.1
+  cause_event kinds plan run before q at (Refused (AskFinish t c) IsGone) f l p al st = never_gone plan run before at t f al.0 al.1 st.0.1
+  cause_event kinds plan run before q at event f l p al st = tt
+
   step : {S : Type 0} (kinds : Kinds S E) (plan : Plan E) (run : List (Entry E)) (before after : PartId → PartState E) (at : PartId) (event : Event E) → WorldStep kinds plan run before (record { at = at; event = event }) after → IsPlanned plan at event → Kept kinds plan run before → Kept kinds plan ((record { at = at; event = event }) ∷ run) after
   step kinds plan run before after at event w planned k =
       let next : List (Entry E) = (record { at = at; event = event }) ∷ run in
@@ -152,6 +172,7 @@ module _ {E : Type 0} where
         clock = (clock_event kinds plan.sites plan.parts at run at (before at) (after at) event (k.leases.clock at) w.step, k.clock);
         past = (past_event kinds plan.sites plan.parts at (before at) (after at) event w.step, k.past);
         decided_stay = (keeps_event kinds plan run before at (after at) k.fate event w.step, k.decided_stay);
+        causes = (cause_event kinds plan run before (after at) at event k.fate k.leases k.planned w.allowed w.step, k.causes);
       }
 
   kept : {S : Type 0} (kinds : Kinds S E) (plan : Plan E) (run : List (Entry E)) (parts : PartId → PartState E) → IsRun kinds plan run parts → Kept kinds plan run parts
@@ -187,6 +208,7 @@ module _ {E : Type 0} where
     clock = k.clock;
     past = k.past;
     decided_stay = k.decided_stay;
+    causes = k.causes;
     fate = λ t p a. false_from_ne_true _ (λ h. clash (k.fate.aborted_stays p (parts p).log t (image_log (parts p)) a) (never_aborted plan run parts k.fate p (parts p).log t (image_log (parts p)) h));
     strict = strict plan run parts k.fate;
     closed = closed plan run (strict plan run parts k.fate);

@@ -13,7 +13,7 @@ use Rattle.crdt_core.specs.declared.record.Message.{Message}
 use Rattle.crdt_core.specs.declared.record.Record.{Record}
 use Rattle.crdt_core.specs.declared.record.Record.TheVariants.{Lease, Prepare, Decide, Finish, Abort, Batch}
 use Rattle.world_model.specs.Log.{prepared, prepare_time, prepared_changes, decided, committed, committed_at, aborted, pending, last_decided, taken, taken_at, taken_changes, bound, ceiling, grown, IsImage}
-use Rattle.world_model.specs.Event.{Event, Ticked, Began, Updated, Read, Prepared, Decided, Finished, Aborted, Sent, Took, Reported, Heard, Crashed, Restarted, Cut, Entry, attempt, is_prepare, is_decide, is_abort, is_named, shows_decided, tried, voted, time_shown}
+use Rattle.world_model.specs.Event.{Ask, Refusal, Refused, Event, Ticked, Began, Updated, Read, Prepared, Decided, Finished, Aborted, Sent, Took, Reported, Heard, Crashed, Restarted, Cut, Entry, attempt, is_prepare, is_decide, is_abort, is_named, shows_decided, tried, voted, time_shown}
 use Rattle.world_model.specs.Partition.{Kinds, PartState, Image, end_of_time, lease_for, above, batch_of, records, MayDo, done, down, cut, PartStep}
 use Rattle.world_model.specs.Plan.{Plan, IsAllowed, MayPrepare, MayDecide, MayFinish, MayAbort, MayTake}
 use Rattle.world_model.proofs.Names.{clash, off, part_cases}
@@ -173,6 +173,7 @@ module _ {E : Type 0} where
       recorded up at event (Heard q b stable) new h s m al d i = no_lease up at event new h i
       recorded up at event Crashed new h s m al d i = absurd m
       recorded up at event (Restarted n b named listed) new h s m al d i = absurd m
+      recorded up at event (Refused asked why) new h s m al d i = absurd m
       recorded up at event (Cut a) new h s m al d i = absurd m
 
   module _ {S : Type 0} (kinds : Kinds S E) (plan : Plan E) (run : List (Entry E)) (before after : PartId → PartState E) (at : PartId) where
@@ -212,6 +213,9 @@ module _ {E : Type 0} where
           downs = λ t k l. inl (ap (λ o. is_named o t) s.last ∙ named_by (last_decided (after at).log) t l);
         }
 
+    here_refused : (asked : Ask E) (why : Refusal) → Step (Refused asked why) → Here (Refused asked why)
+    here_refused asked why s new i = same_part_image plan run before (after at).up at (Refused asked why) at new (ap (λ p. p.up) s.1) (subst (λ p. Image p new) s.1 i)
+
     here : (event : Event E) → IsAllowed plan run before at (attempt event) → Step event → Here event
     here (Ticked r n) al s = here_done (Ticked r n) refl (λ t k. off k) s.0 s.1 al s.2
     here (Began who dep t v) al s = here_done (Began who dep t v) refl (λ t k. off k) s.0 s.1 al s.2
@@ -228,6 +232,7 @@ module _ {E : Type 0} where
     here (Cut what) al s = here_cut what s.0 s.1 al s.2
     here Crashed al s = here_crashed s
     here (Restarted n b named listed) al s = here_restarted n b named listed s
+    here (Refused asked why) al s = here_refused asked why s
 
     everywhere : (event : Event E) → IsAllowed plan run before at (attempt event) → Step event → ((q : PartId) → q ≢ at → after q ≡ before q) → (q : PartId) (new : List (Record E)) → Image (after q) new → Changed plan run before (after q).up at event q new
     everywhere event al s others q new i = ⊎_elim

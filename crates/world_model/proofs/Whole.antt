@@ -11,14 +11,15 @@ use Rattle.crdt_core.specs.declared.record.Upd.{Upd}
 use Rattle.crdt_core.specs.declared.record.Record.{Record}
 use Rattle.world_model.specs.Commit.{partitions}
 use Rattle.world_model.specs.Log.{ceiling, prepared, pending, committed}
-use Rattle.world_model.specs.Event.{Event, Ticked, Began, Updated, Read, Prepared, Decided, Finished, Aborted, Took, Heard, Cut, Entry, attempt, is_prepare, tried, voted, shown, shown_after, missed, time_of, is_decided, WasShown}
+use Rattle.world_model.specs.Event.{AskFinish, AskTake, Refused, Event, Ticked, Began, Updated, Read, Prepared, Decided, Finished, Aborted, Took, Heard, Cut, Entry, attempt, is_prepare, tried, voted, shown, shown_after, missed, time_of, is_decided, WasShown}
 use Rattle.world_model.specs.Partition.{Kinds, PartState, Image, end_of_time, new_part, PartStep, MayDo}
 use Rattle.world_model.specs.Plan.{Plan, is_some_update, home, takes_part, vector_at, commit_vector, updates_at, change_by, IsAllowed, IsAsked, IsPlanned, TellsAborted, WorldStep, IsRun}
 use Rattle.world_model.specs.World.{is_begin, begin_vector, begun, snapshot_of, is_own, changes_of, first_of, lead_of, own_parts, plan_of, IsNew, IsWorldRun, LawWorld}
 use Rattle.world_model.specs.WorldLaw.{IsLawfulWorld}
 use Rattle.world_model.proofs.Names.{clash, off}
 use Rattle.world_model.proofs.Moves.{image_log}
-use Rattle.world_model.proofs.Fate.{pending_parts}
+use Rattle.world_model.proofs.Fate.{pending_parts, voted_tried}
+use Rattle.world_model.proofs.Later.{full_now}
 use Rattle.world_model.proofs.Leases.{Clock, Leases, leases_step, rises}
 use Rattle.world_model.proofs.Kept.{Kept, law_plan, law_kept}
 
@@ -211,8 +212,8 @@ module _ {E : Type 0} where
   end_known kinds sites parts id p q (Cut a) t s h = may_known kinds sites parts id p a t s.1 h
   end_known kinds sites parts id p q a t s h = off h
 
-  allowed_too : (sites parts : ℕ) (run whole : List (Entry E)) (e : Entry E) (state : PartId → PartState E) (a : Event E) → ((t : TxId) → (is_prepare a t || is_end a t) ≡ true → Agree (plan_of sites parts (e ∷ run)) (plan_of sites parts whole) t) → IsAllowed (plan_of sites parts (e ∷ run)) run state e.at a → IsAllowed (plan_of sites parts whole) run state e.at a
-  allowed_too sites parts run whole e state (Prepared t s l w n) agr al =
+  allowed_too : (sites parts : ℕ) (run whole : List (Entry E)) (e : Entry E) (state : PartId → PartState E) (a : Event E) → ((t : TxId) → (is_prepare a t || is_end a t) ≡ true → Agree (plan_of sites parts (e ∷ run)) (plan_of sites parts whole) t) → ((t : TxId) → is_decided run t ≡ true → Agree (plan_of sites parts (e ∷ run)) (plan_of sites parts whole) t) → IsAllowed (plan_of sites parts (e ∷ run)) run state e.at a → IsAllowed (plan_of sites parts whole) run state e.at a
+  allowed_too sites parts run whole e state (Prepared t s l w n) agr past al =
       let g = agr t (or_left (same_tx t t) false (same_tx_refl t)) in record {
         fresh = al.fresh;
         after_lead = λ ne. subst (λ x. voted run t x ≡ true) (sym g.lead) (al.after_lead (λ k. ne (k ∙ sym g.lead)));
@@ -221,7 +222,7 @@ module _ {E : Type 0} where
         lead = al.lead ∙ ap (λ p. p.part) (sym g.lead);
         changes = al.changes ∙ sym (g.updates e.at);
       }
-  allowed_too sites parts run whole e state (Decided t c) agr al =
+  allowed_too sites parts run whole e state (Decided t c) agr past al =
       let g = agr t (same_tx_refl t) in record {
         lead = al.lead ∙ sym g.lead;
         here = al.here;
@@ -229,20 +230,22 @@ module _ {E : Type 0} where
         kept = al.kept;
         vector = al.vector ∙ agree_vector (plan_of sites parts (e ∷ run)) (plan_of sites parts whole) run t g;
       }
-  allowed_too sites parts run whole e state (Finished t c) agr al =
+  allowed_too sites parts run whole e state (Finished t c) agr past al =
       let g = agr t (same_tx_refl t) in record {
         decided = al.decided;
         vector = al.vector ∙ agree_vector (plan_of sites parts (e ∷ run)) (plan_of sites parts whole) run t g;
       }
-  allowed_too sites parts run whole e state (Aborted t true) agr al = al
-  allowed_too sites parts run whole e state (Aborted t false) agr al =
+  allowed_too sites parts run whole e state (Aborted t true) agr past al = al
+  allowed_too sites parts run whole e state (Aborted t false) agr past al =
       let g = agr t (same_tx_refl t) in
       ⊎_elim (λ (k : e.at ≡ lead_of sites parts (e ∷ run) t). inl (k ∙ sym g.lead)) (λ (k : TellsAborted (state (lead_of sites parts (e ∷ run) t)) t). inr (subst (λ x. TellsAborted (state x) t) (sym g.lead) k)) al
-  allowed_too sites parts run whole e state (Read t s o own read value) agr al = record { site = al.site; who = al.who; dependency = al.dependency; begun = al.begun; place = al.place; earlier = al.earlier }
-  allowed_too sites parts run whole e state (Updated t s o own op read u stamp) agr al = record { site = al.site; who = al.who; dependency = al.dependency; begun = al.begun; place = al.place; earlier = al.earlier }
-  allowed_too sites parts run whole e state (Took m) agr al = record { from = al.from; to = al.to; part = al.part; asked = al.asked; shown = al.shown }
-  allowed_too sites parts run whole e state (Heard q b stable) agr al = record { least = al.least; most = al.most; shown = al.shown }
-  allowed_too sites parts run whole e state a agr al = al
+  allowed_too sites parts run whole e state (Read t s o own read value) agr past al = record { site = al.site; who = al.who; dependency = al.dependency; begun = al.begun; place = al.place; earlier = al.earlier }
+  allowed_too sites parts run whole e state (Updated t s o own op read u stamp) agr past al = record { site = al.site; who = al.who; dependency = al.dependency; begun = al.begun; place = al.place; earlier = al.earlier }
+  allowed_too sites parts run whole e state (Took m) agr past al = record { from = al.from; to = al.to; part = al.part; asked = al.asked; shown = al.shown }
+  allowed_too sites parts run whole e state (Heard q b stable) agr past al = record { least = al.least; most = al.most; shown = al.shown }
+  allowed_too sites parts run whole e state (Refused (AskFinish t c) why) agr past al = (al.0, ap is_some_update ((past t al.0).updates e.at) ∙ al.1)
+  allowed_too sites parts run whole e state (Refused (AskTake m) why) agr past al = record { from = al.from; to = al.to; part = al.part; asked = al.asked; shown = al.shown }
+  allowed_too sites parts run whole e state a agr past al = al
 
   planned_too : (sites parts : ℕ) (run whole : List (Entry E)) (at : PartId) (a : Event E) → AllFresh whole → IsSuffix ((record { at = at; event = a }) ∷ run) whole → IsPlanned (plan_of sites parts whole) at a
   planned_too sites parts run whole at (Began who dep t s) f suf =
@@ -261,7 +264,8 @@ module _ {E : Type 0} where
       let known : (t : TxId) → (pending log t || committed log t) ≡ true → prepared log t ≡ true = λ t h. ⊎_elim
       (λ (x : pending log t ≡ true). (pending_parts log t x).prepared)
       (λ (x : committed log t ≡ true). k.fate.first e.at log t (image_log (before e.at)) x)
-      (or_cases _ _ h) in (
+      (or_cases _ _ h) in
+      let lead_tried : (t : TxId) → is_decided run t ≡ true → tried run t (lead_of sites parts run t) ≡ true = λ t d. voted_tried run t (lead_of sites parts run t) (full_now (plan_of sites parts run) run before k.fate t d).lead in (
         before,
         fits kinds sites parts run before r.1 whole f (suffix_tail e run whole s),
         record {
@@ -271,6 +275,9 @@ module _ {E : Type 0} where
               (λ (x : is_prepare (attempt e.event) t ≡ true). or_left _ _ (and_from _ _ (same_part_refl e.at) x))
               (λ (x : is_end (attempt e.event) t ≡ true). or_right _ _ (k.fate.was_tried e.at log t (image_log (before e.at)) (known t (end_known kinds sites parts e.at (before e.at) (state e.at) e.event t r.2.step x))))
               (or_cases _ _ h)))
+              (λ t d. agree sites parts (e ∷ run) whole t (lead_of sites parts run t) f s
+              (or_right _ _ (tried_begun kinds sites parts run before t (lead_of sites parts run t) r.1 (lead_tried t d)))
+              (or_right _ _ (lead_tried t d)))
               r.2.allowed;
           step = r.2.step;
           others = r.2.others;

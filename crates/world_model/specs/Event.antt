@@ -10,6 +10,37 @@ use Rattle.crdt_core.specs.declared.record.Upd.{Upd}
 use Rattle.crdt_core.specs.declared.record.Part.{Part}
 use Rattle.crdt_core.specs.declared.record.Message.{Message}
 
+-- a call that is refused
+pub data Ask (E : Type 0) : Type 0 where
+  AskTick : (reading : ℕ) → Ask E
+  AskBegin : (who dependency : List ℕ) → Ask E
+  AskRead : (tx : TxId) (s : List ℕ) (object : ObjectId) (own : List (Upd E)) → Ask E
+  AskUpdate : (tx : TxId) (s : List ℕ) (object : ObjectId) (own : List (Upd E)) (op : Op) → Ask E
+  AskPrepare : (tx : TxId) (s : List ℕ) (lead : ℕ) (updates : List (Upd E)) → Ask E
+  AskDecide : (tx : TxId) (c : List ℕ) → Ask E
+  AskFinish : (tx : TxId) (c : List ℕ) → Ask E
+  AskAbort : (tx : TxId) → Ask E
+  AskMessage : (to : ℕ) → Ask E
+  AskTake : (message : Message E) → Ask E
+  AskReport : Ask E
+  AskHear : (part : ℕ) (bounds : List ℕ) → Ask E
+
+-- why
+pub data Refusal : Type 0 where
+  IsDown : Refusal
+  -- the clock, at this value, has not reached the snapshot
+  ClockBehind : (now : ℕ) → Refusal
+  -- a transaction, prepared at this time, may belong to the snapshot
+  TxPending : (tx : TxId) (time : ℕ) → Refusal
+  -- the stable entry of this site is below what the session depends on
+  StableBehind : (site have : ℕ) → Refusal
+  ClockAtEnd : Refusal
+  -- the transaction isn't in a state that the call needs
+  IsGone : Refusal
+  -- the receiver has this bound: the message starts above it, or ends at or below it
+  HasGap : (have : ℕ) → Refusal
+  IsRepeat : (have : ℕ) → Refusal
+
 -- a call of a partition, with what it was handed and what it answered, or a crash
 pub data Event (E : Type 0) : Type 0 where
   Ticked : (reading now : ℕ) → Event E
@@ -31,6 +62,7 @@ pub data Event (E : Type 0) : Type 0 where
   Heard : (part : ℕ) (bounds stable : List ℕ) → Event E
   Crashed : Event E
   Restarted : (now : ℕ) (bounds : List ℕ) (named : Option TxId) (listed : List (TxId × ℕ)) → Event E
+  Refused : (asked : Ask E) (why : Refusal) → Event E
   -- a crash inside the call that would have done this
   Cut : (what : Event E) → Event E
 
@@ -60,6 +92,7 @@ module _ {E : Type 0} where
   attempt (Heard q b stable) = Heard q b stable
   attempt Crashed = Crashed
   attempt (Restarted n b named listed) = Restarted n b named listed
+  attempt (Refused asked why) = Refused asked why
 
   abbrev pub is_prepare : Event E → TxId → Bool
   is_prepare (Prepared u s l w n) t = same_tx u t

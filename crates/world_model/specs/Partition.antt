@@ -22,7 +22,7 @@ use Rattle.crdt_core.specs.declared.record.Record.{Record}
 use Rattle.crdt_core.specs.declared.record.Record.TheVariants.{Lease, Prepare, Decide, Finish, Abort, Batch}
 use Rattle.crdt_core.specs.Objects.{same_object}
 use Rattle.world_model.specs.Log.{touches, lists, vector_in, changes_in, ceiling, prepare_time, prepared_changes, committed, committed_at, pending, last_decided, bound, holds, held_at, held_changes, grown, IsImage}
-use Rattle.world_model.specs.Event.{Event, Ticked, Began, Updated, Read, Prepared, Decided, Finished, Aborted, Sent, Took, Reported, Heard, Crashed, Restarted, Cut}
+use Rattle.world_model.specs.Event.{Ask, AskBegin, AskRead, AskUpdate, AskPrepare, AskDecide, AskFinish, AskAbort, AskTake, Refusal, IsDown, ClockBehind, TxPending, StableBehind, ClockAtEnd, IsGone, HasGap, IsRepeat, Event, Refused, Ticked, Began, Updated, Read, Prepared, Decided, Finished, Aborted, Sent, Took, Reported, Heard, Crashed, Restarted, Cut}
 
 -- the last time that a clock may show
 abbrev pub end_of_time : ℕ
@@ -265,6 +265,48 @@ module _ {E : Type 0} where
   AreTimed log [] = ⊤
   AreTimed log (x ∷ xs) = (x.1 ≡ prepare_time log x.0) × AreTimed log xs
 
+  -- the least other site whose stable entry is below what the session depends on
+  pub record IsStableBehind (sites parts : ℕ) (id : PartId) (p : PartState E) (dependency : List ℕ) (j n : ℕ) : Type 0 where
+    pub other : IsOther sites id.site j
+    pub have : n ≡ stable_entry parts id p j
+    pub behind : n < entry dependency j
+    pub least : (i : ℕ) → IsOther sites id.site i → stable_entry parts id p i < entry dependency i → j ≤ i
+
+  -- no site's stable entry is
+  abbrev pub IsStableEnough : ℕ → ℕ → PartId → PartState E → List ℕ → Type 0
+  IsStableEnough sites parts id p dependency = (j : ℕ) → IsOther sites id.site j → entry dependency j ≤ stable_entry parts id p j
+
+  -- the first pending transaction, by prepare time and id, that changes the object and may belong to the snapshot
+  pub record IsTxPending (id : PartId) (p : PartState E) (s : List ℕ) (o : ObjectId) (u : TxId) (n : ℕ) : Type 0 where
+    pub clock : entry s id.site ≤ p.now
+    pub waiting : pending p.log u ≡ true
+    pub changes : touches (prepared_changes p.log u) o ≡ true
+    pub time : n ≡ prepare_time p.log u
+    pub early : n ≤ entry s id.site
+    pub first : (w : TxId) → pending p.log w ≡ true → touches (prepared_changes p.log w) o ≡ true → pending_cmp (w, prepare_time p.log w) (u, n) ≢ Less
+
+  -- exactly when a call of a partition that is up is refused, and why
+  abbrev pub IsDue : {S : Type 0} → Kinds S E → ℕ → ℕ → PartId → PartState E → Ask E → Refusal → Type 0
+  IsDue kinds sites parts id p (AskBegin who dep) (StableBehind j n) = IsStableBehind sites parts id p dep j n
+  IsDue kinds sites parts id p (AskBegin who dep) ClockAtEnd = IsStableEnough sites parts id p dep × (p.now ≡ end_of_time)
+  IsDue kinds sites parts id p (AskRead t s o own) (ClockBehind n) = (n ≡ p.now) × (n < entry s id.site)
+  IsDue kinds sites parts id p (AskRead t s o own) (TxPending u n) = IsTxPending id p s o u n
+  IsDue kinds sites parts id p (AskUpdate t s o own op) (ClockBehind n) = (kinds.reads_state o.kind ≡ true) × (n ≡ p.now) × (n < entry s id.site)
+  IsDue kinds sites parts id p (AskUpdate t s o own op) (TxPending u n) = (kinds.reads_state o.kind ≡ true) × IsTxPending id p s o u n
+  IsDue kinds sites parts id p (AskPrepare t s l w) (ClockBehind n) = (n ≡ p.now) × (n < entry s id.site)
+  IsDue kinds sites parts id p (AskPrepare t s l w) ClockAtEnd = (entry s id.site ≤ p.now) × (p.now ≡ end_of_time)
+  IsDue kinds sites parts id p (AskDecide t c) IsGone = (pending p.log t || committed p.log t) ≡ false
+  IsDue kinds sites parts id p (AskFinish t c) IsGone = (pending p.log t || committed p.log t) ≡ false
+  IsDue kinds sites parts id p (AskAbort t) IsGone = pending p.log t ≡ false
+  IsDue kinds sites parts id p (AskTake m) (HasGap n) = (n ≡ entry p.bounds m.from) × (n < m.lo)
+  IsDue kinds sites parts id p (AskTake m) (IsRepeat n) = (n ≡ entry p.bounds m.from) × (m.lo ≤ n) × (m.hi ≤ n)
+  IsDue kinds sites parts id p asked why = ⊥
+
+  -- down is first of all
+  abbrev pub IsRefused : {S : Type 0} → Kinds S E → ℕ → ℕ → PartId → PartState E → Ask E → Refusal → Type 0
+  IsRefused kinds sites parts id p asked IsDown = p.up ≡ false
+  IsRefused kinds sites parts id p asked why = (p.up ≡ true) × IsDue kinds sites parts id p asked why
+
   -- a restart reads the log again and forgets the rest
   pub record IsRestart (sites parts : ℕ) (id : PartId) (p : PartState E) (n : ℕ) (b : List ℕ) (named : Option TxId) (listed : List (TxId × ℕ)) (q : PartState E) : Type 0 where
     pub down : p.up ≡ false
@@ -288,6 +330,7 @@ module _ {E : Type 0} where
   PartStep kinds sites parts id p (Cut what) q = (p.up ≡ true) × MayDo kinds sites parts id p what × (q ≡ cut p what)
   PartStep kinds sites parts id p Crashed q = (p.up ≡ true) × (q ≡ down p p.torn)
   PartStep kinds sites parts id p (Restarted n b named listed) q = IsRestart sites parts id p n b named listed q
+  PartStep kinds sites parts id p (Refused asked why) q = IsRefused kinds sites parts id p asked why × (q ≡ p)
   PartStep kinds sites parts id p e q = (p.up ≡ true) × MayDo kinds sites parts id p e × (q ≡ done p e)
 
 abbrev pub new_part : {E : Type 0} → ℕ → ℕ → PartState E

@@ -10,7 +10,7 @@ use Rattle.crdt_core.specs.declared.record.Message.{Message}
 use Rattle.crdt_core.specs.Objects.{same_object}
 use Rattle.crdt_core.specs.Placing.{place_of}
 use Rattle.world_model.specs.Log.{touches, pending, committed}
-use Rattle.world_model.specs.Event.{Event, Ticked, Began, Updated, Read, Prepared, Decided, Finished, Aborted, Sent, Took, Reported, Heard, Entry, attempt, tried, voted, decide_tried, gave_up, is_decided, time_of, WasShown}
+use Rattle.world_model.specs.Event.{Ask, AskRead, AskUpdate, AskPrepare, AskFinish, AskTake, Refused, Event, Ticked, Began, Updated, Read, Prepared, Decided, Finished, Aborted, Sent, Took, Reported, Heard, Entry, attempt, tried, voted, decide_tried, gave_up, is_decided, time_of, WasShown}
 use Rattle.world_model.specs.Partition.{Kinds, PartState, IsOther, new_part, PartStep}
 
 abbrev pub is_some_update : {E : Type 0} → List (Upd E) → Bool
@@ -131,6 +131,22 @@ module _ {E : Type 0} where
     pub most : q ≤ plan.parts
     pub shown : WasShown run (record { site = p.site; part = q }) (Reported b)
 
+  -- a session asks for t under the snapshot that t began with
+  pub record IsSession (run : List (Entry E)) (p : PartId) (t : TxId) (s : List ℕ) : Type 0 where
+    pub site : p.site ≡ t.site
+    pub who : List ℕ
+    pub dependency : List ℕ
+    pub begun : WasShown run (home t) (Began who dependency t s)
+
+  -- who asks for what is refused
+  abbrev pub MayAsk : Plan E → List (Entry E) → PartId → Ask E → Type 0
+  MayAsk plan run p (AskRead t s o own) = IsSession run p t s
+  MayAsk plan run p (AskUpdate t s o own op) = IsSession run p t s
+  MayAsk plan run p (AskPrepare t s l w) = IsSession run p t s
+  MayAsk plan run p (AskFinish t c) = (is_decided run t ≡ true) × (takes_part plan t p ≡ true)
+  MayAsk plan run p (AskTake m) = MayTake plan run p m
+  MayAsk plan run p other = ⊤
+
   -- what sessions hold, the lead tells, and messages and reports bring
   abbrev pub IsAllowed : Plan E → List (Entry E) → (PartId → PartState E) → PartId → Event E → Type 0
   IsAllowed plan run parts at (Updated t s o own op read u stamp) = IsAsked plan run at t s o own
@@ -141,6 +157,7 @@ module _ {E : Type 0} where
   IsAllowed plan run parts at (Aborted t own) = MayAbort plan run parts at t own
   IsAllowed plan run parts at (Took m) = MayTake plan run at m
   IsAllowed plan run parts at (Heard q b stable) = MayHear plan run at q b
+  IsAllowed plan run parts at (Refused asked why) = MayAsk plan run at asked
   IsAllowed plan run parts at other = ⊤
 
   -- what the plan says of a transaction that began, and of its updates

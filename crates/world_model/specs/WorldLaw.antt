@@ -7,7 +7,7 @@ use Rattle.crdt_core.specs.declared.object.ObjectId.{ObjectId}
 use Rattle.crdt_core.specs.declared.record.Part.{Part}
 use Rattle.crdt_core.specs.declared.record.Message.{Message}
 use Rattle.world_model.specs.Log.{touches, lists}
-use Rattle.world_model.specs.Event.{Event, Ticked, Began, Updated, Read, Prepared, Sent, Restarted, Entry, EventsAre, is_decided, time_of, was_aborted, shown, missed}
+use Rattle.world_model.specs.Event.{AskRead, AskUpdate, AskPrepare, AskFinish, ClockBehind, IsGone, Refused, Event, Ticked, Began, Updated, Read, Prepared, Sent, Restarted, Entry, EventsAre, is_decided, time_of, was_aborted, shown, missed}
 use Rattle.world_model.specs.Partition.{Kinds, state_read, Ascends, fold_cmp, stream_cmp, AreParts, names_pending}
 use Rattle.world_model.specs.Plan.{Plan, takes_part, changes_at, commit_vector}
 
@@ -49,6 +49,18 @@ module _ {E : Type 0} where
   KeepsDecided plan [] = ⊤
   KeepsDecided plan (e ∷ run) = KeepsIs plan run e.at e.event × KeepsDecided plan run
 
+  -- a wait for the clock shows the last value shown, which the transaction's snapshot exceeds; a finish is never refused but where the partition is down
+  abbrev pub HasCauseAt : Plan E → List (Entry E) → PartId → Event E → Type 0
+  HasCauseAt plan run p (Refused (AskRead t s o own) (ClockBehind n)) = (n ≡ shown run p) × (n < entry (plan.snapshot t) p.site)
+  HasCauseAt plan run p (Refused (AskUpdate t s o own op) (ClockBehind n)) = (n ≡ shown run p) × (n < entry (plan.snapshot t) p.site)
+  HasCauseAt plan run p (Refused (AskPrepare t s l w) (ClockBehind n)) = (n ≡ shown run p) × (n < entry (plan.snapshot t) p.site)
+  HasCauseAt plan run p (Refused (AskFinish t c) IsGone) = ⊥
+  HasCauseAt plan run p other = ⊤
+
+  abbrev pub HaveCausesAt : Plan E → List (Entry E) → Type 0
+  HaveCausesAt plan [] = ⊤
+  HaveCausesAt plan (e ∷ run) = HasCauseAt plan run e.at e.event × HaveCausesAt plan run
+
   -- reads are under the transaction's snapshot, and a value is that of the parts that were read and of its own updates
   abbrev pub IsRight : {S : Type 0} → Kinds S E → Plan E → List (Entry E) → PartId → Event E → Type 0
   IsRight kinds plan run p (Read t s o own read value) = (s ≡ plan.snapshot t) × IsRightFold plan run p s o read × (value ≡ kinds.value_of (state_read kinds o t own read))
@@ -67,6 +79,7 @@ module _ {E : Type 0} where
     pub clock : ClocksAre run
     pub past : EventsAre HoldsPast run
     pub decided_stay : KeepsDecided plan run
+    pub causes : HaveCausesAt plan run
     -- what was aborted anywhere is never decided
     pub fate : (t : TxId) (p : PartId) → was_aborted run t p ≡ true → is_decided run t ≡ false
     pub strict : (t : TxId) → is_decided run t ≡ true → entry (plan.snapshot t) t.site < time_of run t
