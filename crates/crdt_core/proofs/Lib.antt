@@ -1,0 +1,3 @@
+pub mod DotSet
+pub mod Sorted
+pub mod Trees

@@ -1,12 +1,13 @@
--- At which partition of a site an object stands.
-use Rattle.std.specs.Prelude.{ℕ, ◌+◌, ◌*◌, ◌%◌, ◌^◌, List, [], ◌∷◌, ◌++◌}
-use Rattle.crdt_core.specs.declared.object.ObjectId.{ObjectId}
+-- The partition of an object.
+use Rattle.std.specs.Prelude.{ℕ, ◌+◌, ◌*◌, ◌%◌, List, ◌∷◌, ◌++◌}
+use Rattle.std.specs.List.{fold}
 
--- each byte moves the sum on
+abbrev pub one_byte : ℕ → ℕ → ℕ
+one_byte h b = (31 * h + b) % 65536
+
 abbrev pub hashed : ℕ → List ℕ → ℕ
-hashed h [] = h
-hashed h (b ∷ bytes) = hashed ((31 * h + b) % 2 ^ 16) bytes
+hashed h bytes = fold one_byte h bytes
 
--- found from the bucket and the key, with a zero byte between them; partitions are numbered from 1 to n
-abbrev pub place_of : ObjectId → ℕ → ℕ
-place_of o n = 1 + hashed 7 (o.bucket ++ 0 ∷ o.key) % n
+-- of n partitions, by the bytes of bucket and key with a zero byte between them
+abbrev pub place_of : List ℕ → List ℕ → ℕ → ℕ
+place_of bucket key n = 1 + hashed 7 (bucket ++ 0 ∷ key) % n

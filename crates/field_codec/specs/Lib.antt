@@ -1,0 +1,4 @@
+pub mod FormLaws
+pub mod Lawful
+pub mod Reading
+pub mod Spelling

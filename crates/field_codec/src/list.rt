@@ -27,6 +27,13 @@ impl<T> ListOf<T> {
         }
     }
 
+    /// The vector of the members.
+    pub fn into_vec(self) -> Vec<T>
+        ensures { result.items ≡ self }
+    {
+        self.items
+    }
+
     /// The members, in order.
     pub fn as_slice(&self) -> &[T]
         ensures { result.now ≡ self.now }

@@ -1,4 +1,4 @@
-ghost use Rattle.std.specs.Prelude.{◌≡◌, ◌≤◌, ◌<◌, ℕ, List, Bool, Some, None, IfOk, IfSome, IfNone, OnOk, length, nat_eq};
+ghost use Rattle.std.specs.Prelude.{◌≡◌, ◌≤◌, ◌<◌, ◌++◌, ℕ, List, Bool, Some, None, IfOk, IfSome, IfNone, OnOk, OnErr, length, nat_eq};
 ghost use Rattle.std.specs.Str.{bytes_eq};
 ghost use Rattle.std.specs.Ordering.{nat_cmp, as_partial_cmp};
 ghost use Rattle.std.specs.Cmp.Lexicographic.{slice_cmp};
@@ -6,7 +6,11 @@ ghost use Rattle.std.specs.Cmp.Rules.{comparing, hashing};
 ghost use Rattle.std.specs.Hash as fed;
 ghost use Rattle.std.specs.Cmp.{partial_order_from_own_ties};
 ghost use Rattle.std.proofs.Common.{rules};
+ghost use Rattle.field_codec.specs.Spelling.{text as spelled, is_text, is_below};
+ghost use Rattle.field_codec.specs.FormLaws.{text_form};
+ghost use Rattle.field_codec.specs.Reading.{Gives, text_at, bytes_at};
 
+use crate::{Form, TakeError, put_u16, take_u16};
 use std::alloc::{AllocError, Global};
 use std::cmp::Ordering;
 use std::hash::{Hash, Hasher};
@@ -70,6 +74,69 @@ impl Text {
     }
 }
 
+/// Appends the length in two bytes, and the bytes.
+///
+/// # Errors
+///
+/// `AllocError` where memory runs out. `out` is as before then.
+pub fn put_text(out: &mut Vec<u8>, t: &Text) -> Result<(), AllocError>
+    ensures ok { OnOk result (out.new.items ≡ out.old.items ++ spelled t.now) }
+    ensures err { OnErr result (out.new.items ≡ out.old.items) }
+{
+    let start = out.len();
+    let text = t.as_str();
+    put_u16(out, text.len() as u16)?;
+    if let Err(error) = out.extend_from_slice(text.as_bytes()) {
+        out.truncate(start);
+        return Err(error);
+    }
+    Ok(())
+}
+
+/// The text at a place, and the place after it.
+///
+/// # Errors
+///
+/// `Short` at the place of the length or of the bytes where the one or the other is cut off, `Bad` at
+/// the place of the length where it is more than 256, and at that of the bytes where they aren't UTF-8.
+#[tactic(auto, unfolding(crate::specs::Reading::text_at))]
+pub fn take_text(alloc: Global, bytes: &[u8], at: usize) -> Result<(Text, usize), TakeError>
+    requires { at ≤ length bytes.now }
+    ensures answer { Gives result (text_at bytes.now at) }
+    ensures within { IfOk result (λ x. x.1 ≤ length bytes.now) }
+{
+    let (len, start) = take_u16(bytes, at)?;
+    let len = len as usize;
+    if len > MOST_BYTES {
+        return Err(TakeError::Bad { at });
+    }
+    take_bytes(alloc, len, bytes, start)
+}
+
+#[tactic(auto, unfolding(crate::specs::Reading::bytes_at))]
+fn take_bytes(
+    alloc: Global,
+    len: usize,
+    bytes: &[u8],
+    at: usize,
+) -> Result<(Text, usize), TakeError>
+    requires within { at ≤ length bytes.now }
+    requires most { len ≤ 256 }
+    ensures answer { Gives result (bytes_at len bytes.now at) }
+    ensures within { IfOk result (λ x. x.1 ≤ length bytes.now) }
+{
+    if bytes.len() - at < len {
+        return Err(TakeError::Short { at });
+    }
+    match str::from_utf8(&bytes[at..at + len]) {
+        Ok(s) => {
+            let text = String::from_str(alloc, s)?;
+            Ok((Text { text }, at + len))
+        }
+        Err(_) => Err(TakeError::Bad { at }),
+    }
+}
+
 impl PartialEq for Text {
     ghost eq = { bytes_eq };
 
@@ -116,4 +183,36 @@ impl Hash for Text {
     fn hash<H: Hasher>(&self, state: &mut H) {
         self.as_str().hash(state);
     }
+}
+
+/// The form of texts. Lists of them ascend by their bytes.
+#[derive(Clone, Copy, Debug)]
+pub struct TextForm;
+
+impl Form for TextForm {
+    type Value = Text;
+
+    ghost fits = { λ _ t. is_text t };
+
+    ghost is_spelled = { λ _ t. is_text t };
+
+    ghost spelling = { λ _ t. spelled t };
+
+    ghost reading = { λ _ bytes at. text_at bytes at };
+
+    ghost follows = { λ _ before t. is_below (slice_cmp nat_cmp) before t };
+
+    fn put(&self, out: &mut Vec<u8>, value: &Text) -> Result<(), AllocError> {
+        put_text(out, value)
+    }
+
+    fn take(&self, alloc: Global, bytes: &[u8], at: usize) -> Result<(Text, usize), TakeError> {
+        take_text(alloc, bytes, at)
+    }
+
+    fn may_follow(&self, before: &Text, value: &Text) -> bool {
+        before < value
+    }
+
+    ghost laws = { λ _. text_form };
 }

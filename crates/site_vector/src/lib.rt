@@ -2,7 +2,12 @@
 #![tactic(auto)]
 
 mod ids;
+mod laws;
 mod vector;
 
 pub use ids::{Dot, PartId, TxId};
+pub use laws::law_order;
 pub use vector::VTime;
+
+#[cfg(test)]
+mod tests;

@@ -4,9 +4,9 @@ use Rattle.site_vector.specs.declared.ids.PartId.{PartId}
 use Rattle.site_vector.specs.declared.ids.TxId.{TxId}
 use Rattle.crdt_core.specs.declared.kind.Kind.{Kind}
 use Rattle.crdt_core.specs.declared.kind.Kind.TheVariants as kind
-use Rattle.crdt_core.specs.declared.object.Field.{Field}
 use Rattle.crdt_core.specs.declared.operation.Act.{Act}
 use Rattle.crdt_core.specs.declared.operation.Act.TheVariants as act
+use Rattle.crdt_core.specs.Kinds.{kind_at}
 use Rattle.crdt_core.specs.declared.value.Value.{Value}
 use Rattle.world_model.specs.declared.command.Command.{Command}
 use Rattle.world_model.specs.declared.command.Command.TheVariants as command
@@ -17,11 +17,6 @@ use Rattle.world_model.specs.Clock.{home}
 use Rattle.world_model.specs.Sessions.{transaction}
 use Rattle.world_model.specs.Commit.{participants}
 use Rattle.world_model.specs.Refusals.{refusal, begin_part}
-
--- the kind of the field that a path leads to, from this kind
-abbrev pub reached : Kind → List Field → Kind
-reached k [] = k
-reached k (f ∷ fs) = reached f.kind fs
 
 -- an assign to a register that the last writer wins
 abbrev pub is_stamped : Kind → Act → Bool
@@ -50,7 +45,7 @@ Replies run (command.Clock p n) steps = (now : ℕ) × (steps ≡ step.Ticked p 
 Replies run (command.Session name site) steps = steps ≡ step.MadeSession name site ∷ []
 Replies run (command.Begin name part) steps = (t : TxId) × (s : List ℕ) × (home t ≡ begin_part run name part) × (steps ≡ step.Began name t s ∷ [])
 Replies run (command.Read name o) steps = (value : Value) × (steps ≡ step.Value name o value ∷ [])
-Replies run (command.Update name o op) steps = (stamp : Option ℕ) × (is_some stamp ≡ is_stamped (reached o.kind op.path) op.act) × (steps ≡ step.Updated name o stamp ∷ [])
+Replies run (command.Update name o op) steps = (stamp : Option ℕ) × (is_some stamp ≡ is_stamped (kind_at o.kind op.path) op.act) × (steps ≡ step.Updated name o stamp ∷ [])
 Replies run (command.Commit name None) steps = Commits run name (transaction run name) steps
 -- a commit that stops after some steps isn't built, nor are the other commands
 Replies run (command.Commit name (Some k)) steps = ⊥

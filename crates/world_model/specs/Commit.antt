@@ -20,7 +20,7 @@ partitions site first (suc n) = (record { site = site; part = first }) ∷ parti
 
 -- t updated an object that stands at this partition
 abbrev pub takes_part : Run → TxId → PartId → Bool
-takes_part run t p = list_any (λ c. place_of c.object (parts_of run) == p.part) (changes run t)
+takes_part run t p = list_any (λ c. place_of c.object.bucket c.object.key (parts_of run) == p.part) (changes run t)
 
 -- the partitions of its site where t updated something, in ascending order; the first is the lead
 abbrev pub participants : Run → TxId → List PartId

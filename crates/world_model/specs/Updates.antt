@@ -2,6 +2,7 @@
 use Rattle.std.specs.Prelude.{◌≡◌, ℕ, ◌+◌, Bool, true, false, ◌&&◌, ◌||◌, nat_lt, List, [], ◌∷◌, ◌++◌, filter, Option, None, Some, if◌then◌else◌}
 use Rattle.std.specs.List.{flat_map}
 use Rattle.std.specs.Str.{bytes_eq}
+use Rattle.site_vector.specs.declared.ids.PartId.{PartId}
 use Rattle.site_vector.specs.declared.ids.TxId.{TxId}
 use Rattle.site_vector.specs.declared.ids.Dot.{Dot}
 use Rattle.site_vector.specs.Ids.{same_tx}
@@ -9,11 +10,14 @@ use Rattle.crdt_core.specs.declared.object.ObjectId.{ObjectId}
 use Rattle.crdt_core.specs.declared.operation.Op.{Op}
 use Rattle.crdt_core.specs.Seen.{Update}
 use Rattle.crdt_core.specs.Objects.{same_object}
+use Rattle.crdt_core.specs.Placing.{place_of}
 use Rattle.world_model.specs.declared.command.Command.{Command}
 use Rattle.world_model.specs.declared.command.Command.TheVariants as command
 use Rattle.world_model.specs.declared.step.Step.{Step}
 use Rattle.world_model.specs.declared.step.Step.TheVariants as step
 use Rattle.world_model.specs.Run.{Run}
+use Rattle.world_model.specs.Cluster.{parts_of}
+use Rattle.world_model.specs.Clock.{now}
 use Rattle.world_model.specs.Sessions.{transaction}
 use Rattle.world_model.specs.History.{precedes, history}
 
@@ -26,18 +30,24 @@ pub record Change : Type 0 where
   pub object : ObjectId
   pub op : Op
   pub stamp : Option ℕ
+  -- the time of the object's partition
+  pub now : ℕ
 
-abbrev operation : Option Command → Option Op
+abbrev pub operation : Option Command → Option Op
 operation (Some (command.Update name object op)) = Some op
 operation other = None
 
-abbrev changed : ObjectId → Option ℕ → Option Op → List Change
-changed object stamp None = []
-changed object stamp (Some op) = (record { object = object; op = op; stamp = stamp }) ∷ []
+abbrev pub changed : ObjectId → Option ℕ → ℕ → Option Op → List Change
+changed object stamp time None = []
+changed object stamp time (Some op) = (record { object = object; op = op; stamp = stamp; now = time }) ∷ []
+
+-- the partition of t's site where an object stands
+abbrev pub partition_of : Run → TxId → ObjectId → PartId
+partition_of run t o = record { site = t.site; part = place_of o.bucket o.key (parts_of run) }
 
 -- the update of t that a line shows
 abbrev pub change_of : Run → Option Command → Step → TxId → List Change
-change_of run asked (step.Updated name object stamp) t = if is_tx (transaction run name) t then changed object stamp (operation asked) else []
+change_of run asked (step.Updated name object stamp) t = if is_tx (transaction run name) t then changed object stamp (now run (partition_of run t object)) (operation asked) else []
 change_of run asked other t = []
 
 -- the updates of t, in order
@@ -56,6 +66,7 @@ update_of run t index change = record {
   path = change.op.path;
   act = change.op.act;
   stamp = change.stamp;
+  now = change.now;
   saw = λ d. has_seen run t index d;
 }
 

@@ -1,0 +1,135 @@
+ghost use Rattle.std.specs.Prelude.{◌≡◌, ◌↔◌, ℕ, List, Bool, true, false, Option, IsTrue, OnOk, IfOk};
+ghost use Rattle.site_vector.specs.declared.ids.Dot.{Dot};
+ghost use Rattle.crdt_core.specs.declared.kind.Kind.{Kind};
+ghost use Rattle.crdt_core.specs.declared.object.Field.{Field};
+ghost use Rattle.crdt_core.specs.declared.operation.Act.{Act};
+ghost use Rattle.crdt_core.specs.declared.value.Value.{Value};
+ghost use Rattle.crdt_core.specs.Seen.{Update};
+ghost use Rattle.crdt_core.specs.Kinds.{reads_state};
+ghost use Rattle.crdt_core.specs.Fits.{fits};
+ghost use Rattle.crdt_core.specs.Law.{KeepsLaw};
+
+use crate::{Act, Field, GenError, Kind, Op, Value};
+use site_vector::Dot;
+use std::alloc::{AllocError, Global};
+
+/// A type whose replicas exchange effects of updates (operation-based replicated data types, as in AntidoteDB's library).
+///
+/// An update's effect is generated on the state that the update has seen, and applied to every replica, in any order that
+/// applies causes before what has seen them. The ghost member `laws` is the law of a kind: what a replica shows then is the
+/// meaning of the updates, whatever the order was.
+pub trait Crdt {
+    type State: Drop;
+
+    type Effect: Drop;
+
+    /// Whether the type has the kind.
+    ghost has: { Kind → Bool };
+
+    /// Whether the path leads through maps to a kind that the inner type lacks.
+    ghost too_deep: { Kind → List Field → Bool };
+
+    /// The state of no update.
+    ghost initial: { Kind → Self.State };
+
+    /// The state once an effect is applied.
+    ghost step: { Self.State → Dot → Self.Effect → Self.State };
+
+    /// The effect of an act at a path, generated on a state at a clock value.
+    ghost made: { Kind → Self.State → List Field → Act → ℕ → Self.Effect };
+
+    /// What a state shows.
+    ghost value_of: { Self.State → Value };
+
+    /// The stamp of an effect.
+    ghost stamp_of: { Self.Effect → Option ℕ };
+
+    /// What updates mean, by which of them have seen which alone.
+    ghost meaning: { Kind → List Update → Value };
+
+    /// Whether the dot stands in the effect's bytes.
+    ghost names: { Self.Effect → Dot → Bool };
+
+    /// Whether the dot is kept in the state.
+    ghost holds: { Self.State → Dot → Bool };
+
+    /// The law of a kind.
+    ghost laws: { KeepsLaw has too_deep initial step made value_of stamp_of meaning names holds };
+
+    /// Whether the type has the kind. Takes no memory.
+    fn has(kind: Kind) -> bool
+        ensures { result ≡ has kind };
+
+    /// The state of no update of an object of the kind.
+    ///
+    /// # Errors
+    ///
+    /// `AllocError` where memory runs out.
+    fn empty(alloc: Global, kind: Kind) -> Result<Self::State, AllocError>
+        ensures { IfOk result (λ s. s ≡ initial kind) };
+
+    /// Whether the operation's effect depends on the state: false exactly for `CounterPn` and `SetGo`. Takes no memory.
+    fn needs_state(kind: Kind, op: &Op) -> bool
+        ensures { result ≡ reads_state kind };
+
+    /// The effect of an act at a path, on the state that was read, at a clock value in ticks.
+    ///
+    /// # Errors
+    ///
+    /// `TooDeep` exactly where the path leads through maps to a field whose kind the inner type lacks, `BadOp` exactly where
+    /// the operation isn't one of the kind and `TooDeep` isn't due, `NoMemory` where memory runs out.
+    fn generate(
+        alloc: Global,
+        kind: Kind,
+        path: &[Field],
+        act: &Act,
+        state: &Self::State,
+        now: u64,
+    ) -> Result<Self::Effect, GenError>
+        requires { IsTrue (has kind) }
+        ensures made { IfOk result (λ e. e ≡ made kind state.now path.now act.now now) }
+        ensures fitting { OnOk result ((fits kind path.now act.now ≡ true) × (too_deep kind path.now ≡ false)) }
+        ensures too_deep { (result ≡ Err GenError.TooDeep) ↔ (too_deep kind path.now ≡ true) }
+        ensures bad_op { (result ≡ Err GenError.BadOp) ↔ ((fits kind path.now act.now ≡ false) × (too_deep kind path.now ≡ false)) };
+
+    /// The stamp of an assign to a `RegisterLww`, else `None`. Takes no memory.
+    fn stamp(effect: &Self::Effect) -> Option<u64>
+        ensures { result ≡ stamp_of effect.now };
+
+    /// Applies the effect of the update with this dot.
+    ///
+    /// # Errors
+    ///
+    /// `AllocError` where memory runs out. The state may only be dropped then.
+    fn apply(
+        alloc: Global,
+        state: &mut Self::State,
+        dot: Dot,
+        effect: &Self::Effect,
+    ) -> Result<(), AllocError>
+        ensures { OnOk result (state.new ≡ step state.old dot effect.now) };
+
+    /// An equal state.
+    ///
+    /// # Errors
+    ///
+    /// `AllocError` where memory runs out.
+    fn copy(alloc: Global, state: &Self::State) -> Result<Self::State, AllocError>
+        ensures { IfOk result (λ s. s ≡ state.now) };
+
+    /// An equal effect.
+    ///
+    /// # Errors
+    ///
+    /// `AllocError` where memory runs out.
+    fn copy_effect(alloc: Global, effect: &Self::Effect) -> Result<Self::Effect, AllocError>
+        ensures { IfOk result (λ e. e ≡ effect.now) };
+
+    /// What the state shows.
+    ///
+    /// # Errors
+    ///
+    /// `AllocError` where memory runs out.
+    fn value(alloc: Global, state: &Self::State) -> Result<Value, AllocError>
+        ensures { IfOk result (λ v. v ≡ value_of state.now) };
+}

@@ -1,0 +1,6 @@
+pub mod CounterFat
+pub mod CounterPn
+pub mod FatLaw
+pub mod Meaning
+pub mod PnLaw
+pub mod Totals

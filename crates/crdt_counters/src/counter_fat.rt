@@ -1,0 +1,116 @@
+ghost use Rattle.std.specs.Prelude.{◌≡◌, pos, false, IfOk, OnOk};
+ghost use Rattle.std.specs.FinMap.{empty};
+ghost use Rattle.crdt_core.specs.Kept.{is_kept};
+ghost use Rattle.crdt_counters.specs.Meaning.{counter_meaning};
+ghost use Rattle.crdt_counters.specs.CounterPn.{no_stamp};
+ghost use Rattle.crdt_counters.specs.CounterFat.{fat_has, fat_step, fat_made, fat_value, fat_names};
+ghost use Rattle.crdt_counters.specs.FatLaw.{fat_law};
+
+use crate::amounts::{amount_of, total_of};
+use crdt_core::{Act, Crdt, Dots, Field, GenError, Kept, Kind, Op, Value, fits_at, reads_state};
+use site_vector::Dot;
+use std::alloc::{AllocError, Global};
+
+/// What an update of a `CounterFat` does.
+#[derive(Drop)]
+pub enum FatEffect {
+    /// Puts an amount from -2^31 to 2^31 at its dot.
+    Amount(i64),
+    /// Takes out the amounts at these dots.
+    Reset(Dots),
+}
+
+/// The counter whose updates a reset undoes: a state is the amounts that no reset has taken, each at its dot.
+pub struct CounterFat;
+
+impl Crdt for CounterFat {
+    type State = Kept<i64>;
+
+    type Effect = FatEffect;
+
+    ghost has = { fat_has };
+
+    ghost too_deep = { λ k p. false };
+
+    ghost initial = { λ k. empty };
+
+    ghost step = { fat_step };
+
+    ghost made = { fat_made };
+
+    ghost value_of = { fat_value };
+
+    ghost stamp_of = { no_stamp };
+
+    ghost meaning = { counter_meaning };
+
+    ghost names = { fat_names };
+
+    ghost holds = { is_kept };
+
+    ghost laws = { fat_law };
+
+    fn has(kind: Kind) -> bool {
+        kind == Kind::CounterFat
+    }
+
+    fn empty(alloc: Global, kind: Kind) -> Result<Kept<i64>, AllocError> {
+        Ok(Kept::new(alloc))
+    }
+
+    fn needs_state(kind: Kind, op: &Op) -> bool {
+        reads_state(kind)
+    }
+
+    fn generate(
+        alloc: Global,
+        kind: Kind,
+        path: &[Field],
+        act: &Act,
+        state: &Kept<i64>,
+        now: u64,
+    ) -> Result<FatEffect, GenError> {
+        if !fits_at(kind, path, act) {
+            return Err(GenError::BadOp);
+        }
+        match act {
+            Act::Reset => Ok(FatEffect::Reset(state.dots(alloc)?)),
+            _ => Ok(FatEffect::Amount(amount_of(act))),
+        }
+    }
+
+    fn stamp(effect: &FatEffect) -> Option<u64> {
+        None
+    }
+
+    #[tactic(auto, using(crdt_core::specs::KeptSteps::without_none))]
+    fn apply(
+        alloc: Global,
+        state: &mut Kept<i64>,
+        dot: Dot,
+        effect: &FatEffect,
+    ) -> Result<(), AllocError> {
+        match effect {
+            FatEffect::Amount(amount) => state.put(dot, *amount),
+            FatEffect::Reset(dots) => {
+                state.take_out(dots.as_slice());
+                Ok(())
+            }
+        }
+    }
+
+    fn copy(alloc: Global, state: &Kept<i64>) -> Result<Kept<i64>, AllocError> {
+        state.copy(alloc)
+    }
+
+    fn copy_effect(alloc: Global, effect: &FatEffect) -> Result<FatEffect, AllocError> {
+        match effect {
+            FatEffect::Amount(amount) => Ok(FatEffect::Amount(*amount)),
+            FatEffect::Reset(dots) => Ok(FatEffect::Reset(dots.copy(alloc)?)),
+        }
+    }
+
+    fn value(alloc: Global, state: &Kept<i64>) -> Result<Value, AllocError> {
+        Ok(Value::Int(total_of(state)))
+    }
+}

@@ -1,0 +1,88 @@
+ghost use Rattle.std.specs.Prelude.{◌≡◌, pos, false};
+ghost use Rattle.crdt_counters.specs.Meaning.{counter_meaning};
+ghost use Rattle.crdt_counters.specs.CounterPn.{pn_has, pn_step, pn_made, pn_value, no_stamp, names_none, holds_none};
+ghost use Rattle.crdt_counters.specs.PnLaw.{pn_law};
+
+use crate::amounts::{amount_of, sum};
+use crdt_core::{Act, Crdt, Field, GenError, Kind, Op, Value, fits_at, reads_state};
+use site_vector::Dot;
+use std::alloc::{AllocError, Global};
+
+/// The counter whose updates stay: a state is the sum of all amounts, in 128 bits, and an effect an amount from
+/// -2^31 to 2^31.
+pub struct CounterPn;
+
+impl Crdt for CounterPn {
+    type State = i128;
+
+    type Effect = i64;
+
+    ghost has = { pn_has };
+
+    ghost too_deep = { λ k p. false };
+
+    ghost initial = { λ k. pos 0 };
+
+    ghost step = { pn_step };
+
+    ghost made = { pn_made };
+
+    ghost value_of = { pn_value };
+
+    ghost stamp_of = { no_stamp };
+
+    ghost meaning = { counter_meaning };
+
+    ghost names = { names_none };
+
+    ghost holds = { holds_none };
+
+    ghost laws = { pn_law };
+
+    fn has(kind: Kind) -> bool {
+        kind == Kind::CounterPn
+    }
+
+    fn empty(alloc: Global, kind: Kind) -> Result<i128, AllocError> {
+        Ok(0)
+    }
+
+    fn needs_state(kind: Kind, op: &Op) -> bool {
+        reads_state(kind)
+    }
+
+    fn generate(
+        alloc: Global,
+        kind: Kind,
+        path: &[Field],
+        act: &Act,
+        state: &i128,
+        now: u64,
+    ) -> Result<i64, GenError> {
+        if !fits_at(kind, path, act) {
+            return Err(GenError::BadOp);
+        }
+        Ok(amount_of(act))
+    }
+
+    fn stamp(effect: &i64) -> Option<u64> {
+        None
+    }
+
+    fn apply(alloc: Global, state: &mut i128, dot: Dot, effect: &i64) -> Result<(), AllocError> {
+        *state = sum(*state, *effect);
+        Ok(())
+    }
+
+    fn copy(alloc: Global, state: &i128) -> Result<i128, AllocError> {
+        Ok(*state)
+    }
+
+    fn copy_effect(alloc: Global, effect: &i64) -> Result<i64, AllocError> {
+        Ok(*effect)
+    }
+
+    fn value(alloc: Global, state: &i128) -> Result<Value, AllocError> {
+        Ok(Value::Int(*state))
+    }
+}

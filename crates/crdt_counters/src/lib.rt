@@ -1,0 +1,10 @@
+//! Counters: one whose updates stay, and one whose updates a reset undoes.
+#![tactic(auto)]
+
+mod amounts;
+mod counter_fat;
+mod counter_pn;
+
+pub use counter_fat::{CounterFat, FatEffect};
+pub use amounts::amount_of;
+pub use counter_pn::CounterPn;

@@ -1,0 +1,10 @@
+pub mod Lengths
+pub mod Moves
+pub mod Numbers
+pub mod Objects
+pub mod Progress
+pub mod Reading
+pub mod Sums
+pub mod Takes
+pub mod Words
+pub mod Writing

@@ -1,0 +1,153 @@
+-- What was read and written so far, block by block.
+use Rattle.std.proofs.Common.{◌≡◌, ℕ, ◌+◌, ◌-◌, ◌≤◌, Bool, true, false, List, [], ◌∷◌, ◌++◌, Option, Some, None, length, take, refl, sym, ap, ◌∙◌, subst, arith, append_assoc, length-append}
+use Rattle.std.proofs.lemmas.List.{append-nil, take_all}
+use Rattle.std.proofs.Math.Seq.{take-append-add}
+use Rattle.std.specs.Io.KnownBytes.{Appends, Consumes, Keeps, IsAtEnd}
+use Rattle.dc_engine.specs.Lines.{lines_of, ended_lines}
+use Rattle.dc_engine.specs.Replies.{Replies}
+use Rattle.dc_engine.specs.Played.{Played, PlayedEnded, PlayedTooLong, PlayedPart, AreFirst}
+use Rattle.dc_engine.specs.Blocks.{At, AppendsPart, Writes, WritesPart, Ends, EndsPart, AnswersFirst, TakesOne}
+use Rattle.dc_engine.proofs.Reading.{stands_start, stands-ended, stands-first}
+use Rattle.dc_engine.proofs.Writing.{written_none, appends_more, on_err}
+
+-- all blocks so far were answered; so many bytes may still be read
+pub record Progress {M : Type 0} (reached : M → List (List ℕ) → List ℕ → Type 0) (m : M) (input left before after : Option (List ℕ)) (kept : List ℕ) (room : ℕ) : Type 0 where
+  pub read : List ℕ
+  pub written : List ℕ
+  pub from_source : Consumes input left read
+  pub count : length read + room ≡ 67108864
+  pub to_sink : Appends before after written
+  pub at : At reached m read kept written
+
+taken_none : (input : Option (List ℕ)) → Consumes input input []
+taken_none None = tt
+taken_none (Some xs) = refl
+
+taken_more : (o p q : Option (List ℕ)) (xs ys : List ℕ) → Consumes o p xs → Consumes p q ys → Consumes o q (xs ++ ys)
+taken_more None p q xs ys a b = tt
+taken_more (Some o) None q xs ys a b = absurd a
+taken_more (Some o) (Some p) None xs ys a b = b
+taken_more (Some o) (Some p) (Some q) xs ys a b = a ∙ ap (λ s. xs ++ s) b ∙ sym (append_assoc xs ys q)
+
+taken_kept : (o p q : Option (List ℕ)) (xs : List ℕ) → Consumes o p xs → Keeps p q → Consumes o q xs
+taken_kept None p q xs a b = tt
+taken_kept (Some o) None q xs a b = absurd a
+taken_kept (Some o) (Some p) None xs a b = b
+taken_kept (Some o) (Some p) (Some q) xs a b = a ∙ ap (λ s. xs ++ s) (sym b)
+
+written_part : (o p q : Option (List ℕ)) (xs ys : List ℕ) → Appends o p xs → (a : AppendsPart p q ys) → Appends o q (take (length xs + a.0) (xs ++ ys))
+written_part o p q xs ys w a = appends_more o p q xs (take a.0 ys) (take (length xs + a.0) (xs ++ ys)) w a.1 (take-append-add xs ys a.0)
+
+first_of_input : (input left : Option (List ℕ)) (read : List ℕ) (lines : List (List ℕ)) → ((more : List ℕ) → (later : List (List ℕ)) × (lines_of (read ++ more) ≡ lines ++ later)) → Consumes input left read → AreFirst lines input
+first_of_input None left read lines f c = tt
+first_of_input (Some xs) None read lines f c = absurd c
+first_of_input (Some xs) (Some ys) read lines f c = ((f ys).0, ap lines_of c ∙ (f ys).1)
+
+first_at_end : (input left : Option (List ℕ)) (read : List ℕ) (lines later : List (List ℕ)) → lines_of read ≡ lines ++ later → Consumes input left read → IsAtEnd left → AreFirst lines input
+first_at_end None left read lines later f c e = tt
+first_at_end (Some xs) None read lines later f c e = absurd c
+first_at_end (Some xs) (Some ys) read lines later f c e = (later, ap lines_of (c ∙ ap (λ s. read ++ s) e ∙ append-nil read) ∙ f)
+
+module _ {M : Type 0} (reached : M → List (List ℕ) → List ℕ → Type 0) where
+  pub progress_start : (m : M) (input before : Option (List ℕ)) → reached m [] [] → Progress reached m input input before before [] 67108864
+  progress_start m input before r = record {
+    read = [];
+    written = [];
+    from_source = taken_none input;
+    count = refl;
+    to_sink = written_none before;
+    at = record { lines = []; pending = []; stands = stands_start; is_kept = refl; replied = r };
+  }
+
+  pub progress_more : (m new : M) (input left rest before mid after : Option (List ℕ)) (kept new_kept piece : List ℕ) (room n : ℕ) →
+      Progress reached m input left before mid kept room → Consumes left rest piece → length piece ≡ n → n ≤ room → Writes reached m new piece kept new_kept mid after →
+      Progress reached new input rest before after new_kept (room - n)
+  progress_more m new input left rest before mid after kept new_kept piece room n p c e le w = record {
+    read = p.read ++ piece;
+    written = p.written ++ w.reply;
+    from_source = taken_more input left rest p.read piece p.from_source c;
+    count = omega (arith, length-append p.read piece, p.count);
+    to_sink = appends_more before mid after p.written w.reply (p.written ++ w.reply) p.to_sink w.to_sink refl;
+    at = w.moved p.read p.written p.at;
+  }
+
+  pub progress_end : (m : M) (input left rest before mid after : Option (List ℕ)) (kept : List ℕ) (room : ℕ) →
+      Progress reached m input left before mid kept room → Consumes left rest [] → IsAtEnd rest → Ends reached m kept mid after → Played (Replies reached) input rest before after
+  progress_end m input left rest before mid after kept room p c e w = record {
+    read = p.read;
+    written = p.written ++ w.reply;
+    from_source = subst (Consumes input rest) (append-nil p.read) (taken_more input left rest p.read [] p.from_source c);
+    at_end = e;
+    fits = omega (arith, p.count);
+    to_sink = appends_more before mid after p.written w.reply (p.written ++ w.reply) p.to_sink w.to_sink refl;
+    replied = (w.new, w.moved p.read p.written p.at);
+  }
+
+  ended : (m : M) (read kept bytes : List ℕ) → At reached m read kept bytes → Replies reached (ended_lines read) bytes
+  ended m read kept bytes a = (m, subst (λ l. reached m l bytes) (sym (stands-ended read a.lines a.pending a.stands)) a.replied)
+
+  pub progress_fault : (m : M) (input left rest before after : Option (List ℕ)) (kept : List ℕ) (room : ℕ) →
+      Progress reached m input left before after kept room → Keeps left rest → PlayedEnded (Replies reached) input rest before after
+  progress_fault m input left rest before after kept room p k = record {
+    read = p.read;
+    written = p.written;
+    from_source = taken_kept input left rest p.read p.from_source k;
+    fits = omega (arith, p.count);
+    to_sink = p.to_sink;
+    replied = ended m p.read kept p.written p.at;
+  }
+
+  pub progress_too_long : (m : M) (input left rest before after : Option (List ℕ)) (kept : List ℕ) (room : ℕ) →
+      Progress reached m input left before after kept room → room ≤ 0 → TakesOne left rest true → PlayedTooLong (Replies reached) input rest before after
+  progress_too_long m input left rest before after kept room p z t = record {
+    read = p.read;
+    next = t.0;
+    written = p.written;
+    from_source = taken_more input left rest p.read (t.0 ∷ []) p.from_source t.1;
+    full = omega (arith, p.count);
+    to_sink = p.to_sink;
+    replied = ended m p.read kept p.written p.at;
+  }
+
+  pub progress_part : (m : M) (input left before after : Option (List ℕ)) (kept : List ℕ) (room : ℕ) → Progress reached m input left before after kept room → PlayedPart (Replies reached) input before after
+  progress_part m input left before after kept room p = record {
+    lines = p.at.lines;
+    bytes = p.written;
+    count = length p.written;
+    are_first = first_of_input input left p.read p.at.lines (λ more. stands-first p.read more p.at.lines p.at.pending p.at.stands) p.from_source;
+    replied = (m, p.at.replied);
+    to_sink = subst (Appends before after) (sym (take_all (length p.written) p.written (omega arith))) p.to_sink;
+  }
+
+  pub part_none : (m : M) (input before : Option (List ℕ)) → reached m [] [] → PlayedPart (Replies reached) input before before
+  part_none m input before r = progress_part m input input before before [] 67108864 (progress_start m input before r)
+
+  pub part_block : (m : M) (input left rest before mid after : Option (List ℕ)) (kept piece : List ℕ) (room : ℕ) →
+      Progress reached m input left before mid kept room → Consumes left rest piece → WritesPart reached m piece kept mid after → PlayedPart (Replies reached) input before after
+  part_block m input left rest before mid after kept piece room p c w =
+      let at = w.moved p.read p.written p.at in
+      let all : Consumes input rest (p.read ++ piece) = taken_more input left rest p.read piece p.from_source c in
+      record {
+        lines = at.lines;
+        bytes = p.written ++ w.reply;
+        count = length p.written + w.to_sink.0;
+        are_first = first_of_input input rest (p.read ++ piece) at.lines
+            (λ more. let first = stands-first (p.read ++ w.done) (w.later ++ more) at.lines at.pending at.stands in
+            (first.0, ap lines_of (ap (λ s. (p.read ++ s) ++ more) w.split ∙ ap (λ s. s ++ more) (sym (append_assoc p.read w.done w.later)) ∙ append_assoc (p.read ++ w.done) w.later more) ∙ first.1)) all;
+        replied = (w.new, at.replied);
+        to_sink = written_part before mid after p.written w.reply p.to_sink w.to_sink;
+      }
+
+  pub part_end : (m : M) (input left rest before mid after : Option (List ℕ)) (kept : List ℕ) (room : ℕ) →
+      Progress reached m input left before mid kept room → Consumes left rest [] → IsAtEnd rest → EndsPart reached m kept mid after → PlayedPart (Replies reached) input before after
+  part_end m input left rest before mid after kept room p c e w =
+      let first = w.moved p.read p.written p.at in
+      let all : Consumes input rest p.read = subst (Consumes input rest) (append-nil p.read) (taken_more input left rest p.read [] p.from_source c) in
+      record {
+        lines = first.lines;
+        bytes = p.written ++ w.reply;
+        count = length p.written + w.to_sink.0;
+        are_first = first_at_end input rest p.read first.lines first.later first.split all e;
+        replied = (w.new, first.replied);
+        to_sink = written_part before mid after p.written w.reply p.to_sink w.to_sink;
+      }

@@ -1,0 +1,100 @@
+-- How a script is read block by block.
+use Rattle.std.specs.Prelude.{◌≡◌, ◌≢◌, ℕ, ◌+◌, ◌<◌, Bool, true, false, List, [], ◌∷◌, ◌++◌, length, take, drop, Option, ⊤}
+use Rattle.std.specs.Io.KnownBytes.{Appends, Consumes, IsAtEnd}
+use Rattle.dc_engine.specs.Lines.{onto, lines_of, onto_first, ended_lines}
+
+-- no byte is a LF
+abbrev pub HasNoEnd : List ℕ → Type 0
+HasNoEnd [] = ⊤
+HasNoEnd (b ∷ bytes) = (b ≢ 10) × HasNoEnd bytes
+
+-- bytes at the front of the first line, which they begin where there is none
+abbrev pub prefixed : List ℕ → List (List ℕ) → List (List ℕ)
+prefixed [] lines = lines
+prefixed (b ∷ bytes) lines = onto b (prefixed bytes lines)
+
+-- bytes at the front of the first line, where there is one
+abbrev pub prefixed_first : List ℕ → List (List ℕ) → List (List ℕ)
+prefixed_first [] lines = lines
+prefixed_first (b ∷ bytes) lines = onto_first b (prefixed_first bytes lines)
+
+-- the first LF stands at this place
+pub record EndsAt (bytes : List ℕ) (at : ℕ) : Type 0 where
+  pub within : at < length bytes
+  pub none_before : HasNoEnd (take at bytes)
+  pub here : drop at bytes ≡ 10 ∷ drop (at + 1) bytes
+
+-- the bytes read are these lines, each with its LF, and then a line that is pending, of which more may come
+pub record Stands (read : List ℕ) (lines : List (List ℕ)) (pending : List ℕ) : Type 0 where
+  pub ended : (more : List ℕ) → ended_lines (read ++ more) ≡ lines ++ prefixed_first pending (ended_lines more)
+  pub whole : (more : List ℕ) → lines_of (read ++ more) ≡ lines ++ prefixed pending (lines_of more)
+
+-- m has answered the lines whose LF was read with these bytes, and of the pending line this is kept
+pub record At {M : Type 0} (reached : M → List (List ℕ) → List ℕ → Type 0) (m : M) (read kept bytes : List ℕ) : Type 0 where
+  pub lines : List (List ℕ)
+  pub pending : List ℕ
+  pub stands : Stands read lines pending
+  pub is_kept : kept ≡ take 4098 pending
+  pub replied : reached m lines bytes
+
+-- fresh bytes lead from one state to another, and add a reply
+pub record Moves {M : Type 0} (reached : M → List (List ℕ) → List ℕ → Type 0) (old new : M) (fresh old_kept new_kept old_out new_out : List ℕ) : Type 0 where
+  pub reply : List ℕ
+  pub appended : new_out ≡ old_out ++ reply
+  pub moved : (read bytes : List ℕ) → At reached old read old_kept bytes → At reached new (read ++ fresh) new_kept (bytes ++ reply)
+
+-- a front of the fresh bytes does
+pub record MovesPart {M : Type 0} (reached : M → List (List ℕ) → List ℕ → Type 0) (old : M) (fresh old_kept old_out new_out : List ℕ) : Type 0 where
+  pub new : M
+  pub done : List ℕ
+  pub later : List ℕ
+  pub new_kept : List ℕ
+  pub split : fresh ≡ done ++ later
+  pub moves : Moves reached old new done old_kept new_kept old_out new_out
+
+-- a front of the bytes was written
+abbrev pub AppendsPart : Option (List ℕ) → Option (List ℕ) → List ℕ → Type 0
+AppendsPart before after bytes = (n : ℕ) × Appends before after (take n bytes)
+
+-- fresh bytes lead from one state to another, and the replies were written
+pub record Writes {M : Type 0} (reached : M → List (List ℕ) → List ℕ → Type 0) (old new : M) (fresh old_kept new_kept : List ℕ) (before after : Option (List ℕ)) : Type 0 where
+  pub reply : List ℕ
+  pub to_sink : Appends before after reply
+  pub moved : (read bytes : List ℕ) → At reached old read old_kept bytes → At reached new (read ++ fresh) new_kept (bytes ++ reply)
+
+-- a front of the fresh bytes does, and a front of the replies was written
+pub record WritesPart {M : Type 0} (reached : M → List (List ℕ) → List ℕ → Type 0) (old : M) (fresh old_kept : List ℕ) (before after : Option (List ℕ)) : Type 0 where
+  pub new : M
+  pub done : List ℕ
+  pub later : List ℕ
+  pub new_kept : List ℕ
+  pub split : fresh ≡ done ++ later
+  pub reply : List ℕ
+  pub to_sink : AppendsPart before after reply
+  pub moved : (read bytes : List ℕ) → At reached old read old_kept bytes → At reached new (read ++ done) new_kept (bytes ++ reply)
+
+-- at the end of the input all lines are answered, and the last reply was written
+pub record Ends {M : Type 0} (reached : M → List (List ℕ) → List ℕ → Type 0) (old : M) (kept : List ℕ) (before after : Option (List ℕ)) : Type 0 where
+  pub new : M
+  pub reply : List ℕ
+  pub to_sink : Appends before after reply
+  pub moved : (read bytes : List ℕ) → At reached old read kept bytes → reached new (lines_of read) (bytes ++ reply)
+
+-- a state has answered the first lines of the bytes read
+pub record AnswersFirst {M : Type 0} (reached : M → List (List ℕ) → List ℕ → Type 0) (m : M) (read bytes : List ℕ) : Type 0 where
+  pub lines : List (List ℕ)
+  pub later : List (List ℕ)
+  pub split : lines_of read ≡ lines ++ later
+  pub replied : reached m lines bytes
+
+-- at the end of the input a front of the last reply was written
+pub record EndsPart {M : Type 0} (reached : M → List (List ℕ) → List ℕ → Type 0) (old : M) (kept : List ℕ) (before after : Option (List ℕ)) : Type 0 where
+  pub new : M
+  pub reply : List ℕ
+  pub to_sink : AppendsPart before after reply
+  pub moved : (read bytes : List ℕ) → At reached old read kept bytes → AnswersFirst reached new read (bytes ++ reply)
+
+-- one byte more was taken, or the end was met
+abbrev pub TakesOne : Option (List ℕ) → Option (List ℕ) → Bool → Type 0
+TakesOne left rest true = (next : ℕ) × Consumes left rest (next ∷ [])
+TakesOne left rest false = Consumes left rest [] × IsAtEnd rest

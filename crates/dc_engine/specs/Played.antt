@@ -1,0 +1,48 @@
+-- What the bytes written have to do with the bytes read, where source and sink tell them.
+-- `replies lines bytes` says that these bytes are the replies to these lines.
+use Rattle.std.specs.Prelude.{◌≡◌, ℕ, ◌≤◌, List, [], ◌∷◌, ◌++◌, length, take, Option, None, Some, ⊤}
+use Rattle.std.specs.Io.KnownBytes.{Appends, Consumes, IsAtEnd}
+use Rattle.dc_engine.specs.Lines.{lines_of, ended_lines}
+
+-- the whole input was read, and the replies to its lines were written
+pub record Played (replies : List (List ℕ) → List ℕ → Type 0) (input left before after : Option (List ℕ)) : Type 0 where
+  pub read : List ℕ
+  pub written : List ℕ
+  pub from_source : Consumes input left read
+  pub at_end : IsAtEnd left
+  pub fits : length read ≤ 67108864
+  pub to_sink : Appends before after written
+  pub replied : replies (lines_of read) written
+
+-- the replies to the lines whose LF was read were written
+pub record PlayedEnded (replies : List (List ℕ) → List ℕ → Type 0) (input left before after : Option (List ℕ)) : Type 0 where
+  pub read : List ℕ
+  pub written : List ℕ
+  pub from_source : Consumes input left read
+  pub fits : length read ≤ 67108864
+  pub to_sink : Appends before after written
+  pub replied : replies (ended_lines read) written
+
+-- as many bytes as may be were read, and one more: the replies to the lines whose LF is among the first ones were written
+pub record PlayedTooLong (replies : List (List ℕ) → List ℕ → Type 0) (input left before after : Option (List ℕ)) : Type 0 where
+  pub read : List ℕ
+  pub next : ℕ
+  pub written : List ℕ
+  pub from_source : Consumes input left (read ++ next ∷ [])
+  pub full : length read ≡ 67108864
+  pub to_sink : Appends before after written
+  pub replied : replies (ended_lines read) written
+
+-- these lines stand at the front of the input's
+abbrev pub AreFirst : List (List ℕ) → Option (List ℕ) → Type 0
+AreFirst lines None = ⊤
+AreFirst lines (Some input) = (later : List (List ℕ)) × (lines_of input ≡ lines ++ later)
+
+-- a front of the replies to a front of the lines was written
+pub record PlayedPart (replies : List (List ℕ) → List ℕ → Type 0) (input before after : Option (List ℕ)) : Type 0 where
+  pub lines : List (List ℕ)
+  pub bytes : List ℕ
+  pub count : ℕ
+  pub are_first : AreFirst lines input
+  pub replied : replies lines bytes
+  pub to_sink : Appends before after (take count bytes)

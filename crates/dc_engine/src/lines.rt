@@ -1,0 +1,61 @@
+ghost use Rattle.std.specs.Prelude.{◌≡◌, ◌++◌, ◌∷◌, [], length, take, IfSome, IfNone, OnOk, OnErr};
+ghost use Rattle.dc_engine.specs.Replies.{AnswersLine};
+ghost use Rattle.dc_engine.specs.Blocks.{HasNoEnd, EndsAt, Moves, MovesPart};
+
+use crate::kept::Kept;
+use crate::responder::{KEPT, Responder};
+use memchr::memchr;
+use std::alloc::AllocError;
+use std::cmp::min;
+
+/// Where the first LF stands.
+#[tactic(auto, using(crate::proofs::Reading::ends_of, crate::proofs::Reading::no_end_of))]
+fn line_end(bytes: &[u8]) -> Option<usize>
+    ensures found { IfSome result (EndsAt bytes.now) }
+    ensures none { IfNone result (HasNoEnd bytes.now) }
+{
+    memchr(b'\n', bytes)
+}
+
+/// Answers the line that begins with what is kept and ends with this piece. Nothing is kept then.
+#[tactic(auto, using(crate::proofs::Moves::answers_front))]
+fn answer_line<R: Responder>(
+    responder: &mut R,
+    piece: &[u8],
+    kept: &mut Kept,
+    out: &mut Vec<u8>,
+) -> Result<(), AllocError>
+    ensures ok { OnOk result (AnswersLine R.reached responder.old responder.new (take 4098 (kept.old ++ piece.now)) out.old.items out.new.items) }
+    ensures none_kept { OnOk result (kept.new ≡ []) }
+    ensures err { OnErr result (out.new.items ≡ out.old.items) }
+{
+    if kept.is_empty() {
+        responder.answer(&piece[..min(KEPT, piece.len())], out)?;
+        return Ok(());
+    }
+    kept.extend(piece)?;
+    responder.answer(kept.as_slice(), out)?;
+    kept.clear();
+    Ok(())
+}
+
+/// Answers each line that ends in the block, in place, and keeps what stands behind the last LF.
+#[tactic(auto, using(crate::proofs::Moves::moves_start, crate::proofs::Moves::moves_part))]
+pub(crate) fn answer_lines<R: Responder>(
+    responder: &mut R,
+    block: &[u8],
+    kept: &mut Kept,
+    out: &mut Vec<u8>,
+) -> Result<(), AllocError>
+    ensures ok { OnOk result (Moves R.reached responder.old responder.new block.now kept.old kept.new out.old.items out.new.items) }
+    ensures err { OnErr result (MovesPart R.reached responder.old block.now kept.old out.old.items out.new.items) }
+{
+    let mut rest = block;
+    while let Some(end) = line_end(rest) {
+        let (piece, more) = rest.split_at(end);
+        answer_line(responder, piece, kept, out)?;
+        rest = &more[1..];
+    }
+    kept.extend(rest)?;
+    Ok(())
+}

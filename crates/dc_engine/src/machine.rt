@@ -1,0 +1,272 @@
+ghost use Rattle.std.specs.Prelude.{◌≡◌, ◌≤◌, ◌<◌, ◌^◌, ℕ, List, [], ◌∷◌, length, Option, Some, None, false, true, IfOk, ◌+ℤ◌};
+
+ghost use Rattle.std.specs.Int.{int_wrap, w128};
+ghost use Rattle.dc_engine.specs.Stored.{stored, sum_upto, own_sum, transaction_at};
+
+use crate::sessions::{Change, Sessions, Transaction, close, create, note, open};
+use crate::store::{Store, add_own, add_visible, store_all};
+use crdt_core::{Act, Kind, ObjectId, Op, Value};
+use crdt_counters::amount_of;
+use field_codec::Text;
+use indexmap::IndexMap;
+use site_vector::{PartId, TxId, VTime};
+use std::alloc::{AllocError, Global};
+use world_model::{Command, Step};
+
+/// The greatest time in ticks that a clock shows.
+const LAST_TIME: u64 = 1 << 62;
+
+/// The most sessions at one time.
+const MOST_SESSIONS: usize = 64;
+
+/// The most updates of a transaction.
+const MOST_UPDATES: usize = 256;
+
+/// The one partition of the one site.
+const ONE: PartId = PartId { site: 1, part: 1 };
+
+/// The machine that answers commands: one partition, its sessions, and the updates that committed there.
+#[derive(Drop)]
+pub(crate) struct Machine {
+    alloc: Global,
+    made: bool,
+    now: u64,
+    sessions: Sessions,
+    store: Store,
+    ghost in_range: { now ≤ 2 ^ 62 },
+}
+
+impl Machine {
+    ghost use Rattle.std.specs.Prelude.{◌≡◌, ◌≤◌, ◌<◌, ◌^◌, ℕ, List, [], ◌∷◌, length, Option, Some, None, false, true, IfOk};
+    ghost use Rattle.site_vector.specs.declared.ids.PartId.{PartId};
+    ghost use Rattle.world_model.specs.Refusals.{is_built};
+    ghost use Rattle.dc_engine.specs.declared.sessions.Change.{Change};
+    ghost use Rattle.dc_engine.specs.Machine.{Acts, CommitsChanges, session_in};
+
+    /// A machine before any command. Takes no memory.
+    pub(crate) fn new(alloc: Global) -> Machine
+        ensures made { result.made ≡ false }
+        ensures now { result.now ≡ 0 }
+        ensures sessions { result.sessions.entries ≡ [] }
+        ensures store { result.store.entries ≡ [] }
+    {
+        Machine {
+            alloc,
+            made: false,
+            now: 0,
+            sessions: IndexMap::new(alloc),
+            store: IndexMap::new(alloc),
+        }
+    }
+
+    /// Answers a command that is built.
+    pub(crate) fn act(&mut self, command: Command) -> Result<Vec<Step>, AllocError>
+        requires { is_built command ≡ true }
+        ensures { IfOk result (λ steps. Acts self.old command steps.items self.new) }
+    {
+        match command {
+            Command::Cluster { sites, parts } => self.make_cluster(sites, parts),
+            Command::Clock { part, n } => self.read_clock(part, n),
+            Command::Session { name, site } => self.make_session(name, site),
+            Command::Begin { name, part } => self.begin(name, part),
+            Command::Read { name, object } => self.read(name, object),
+            Command::Update { name, object, op } => self.update(name, object, op),
+            Command::Commit { name, steps } => self.commit(name, steps),
+            _ => Ok(Vec::new(self.alloc)),
+        }
+    }
+
+    fn make_cluster(&mut self, sites: u8, parts: u8) -> Result<Vec<Step>, AllocError>
+        ensures { IfOk result (λ steps. Acts self.old (Command.Cluster sites parts) steps.items self.new) }
+    {
+        if self.made {
+            return only(self.alloc, Step::Unbuilt);
+        }
+        self.made = true;
+        only(self.alloc, Step::MadeCluster { sites, parts })
+    }
+
+    fn read_clock(&mut self, part: PartId, n: u64) -> Result<Vec<Step>, AllocError>
+        requires { n < 2 ^ 48 }
+        ensures { IfOk result (λ steps. Acts self.old (Command.Clock part n) steps.items self.new) }
+    {
+        if !self.made {
+            return only(self.alloc, Step::NoCluster);
+        }
+        if part != ONE {
+            return only(self.alloc, Step::Unbuilt);
+        }
+        self.now = n.max(self.now);
+        let now = self.now;
+        only(self.alloc, Step::Ticked { part, now })
+    }
+
+    fn make_session(&mut self, name: Text, site: u8) -> Result<Vec<Step>, AllocError>
+        ensures { IfOk result (λ steps. Acts self.old (Command.Session name site) steps.items self.new) }
+    {
+        if !self.made {
+            return only(self.alloc, Step::NoCluster);
+        }
+        if site != 1 || self.sessions.contains_key(&name) || self.sessions.len() == MOST_SESSIONS {
+            return only(self.alloc, Step::Unbuilt);
+        }
+        let key = name.copy(self.alloc)?;
+        create(&mut self.sessions, key)?;
+        only(self.alloc, Step::MadeSession { name, site })
+    }
+
+    fn begin(&mut self, name: Text, part: Option<PartId>) -> Result<Vec<Step>, AllocError>
+        ensures { IfOk result (λ steps. Acts self.old (Command.Begin name part) steps.items self.new) }
+    {
+        if !self.made {
+            return only(self.alloc, Step::NoCluster);
+        }
+        match self.sessions.get(&name) {
+            None => only(self.alloc, Step::NoSession),
+            Some(Some(_)) => only(self.alloc, Step::Unbuilt),
+            Some(None) => self.begin_idle(name),
+        }
+    }
+
+    /// Begins a transaction of a session that is idle.
+    fn begin_idle(&mut self, name: Text) -> Result<Vec<Step>, AllocError>
+        requires made { self.old.made ≡ true }
+        requires idle { session_in self.old name ≡ Some None }
+        ensures { (part : Option PartId) → IfOk result (λ steps. Acts self.old (Command.Begin name part) steps.items self.new) }
+    {
+        if self.now == LAST_TIME {
+            return only(self.alloc, Step::Unbuilt);
+        }
+        let time = self.now + 1;
+        self.now = time;
+        open(&mut self.sessions, &name, Transaction::new(self.alloc, time));
+        let tx = tx_at(time);
+        let s = vector_at(time);
+        only(self.alloc, Step::Began { name, tx, s })
+    }
+
+    fn read(&mut self, name: Text, object: ObjectId) -> Result<Vec<Step>, AllocError>
+        ensures { IfOk result (λ steps. Acts self.old (Command.Read name object) steps.items self.new) }
+    {
+        if !self.made {
+            return only(self.alloc, Step::NoCluster);
+        }
+        match self.sessions.get(&name) {
+            None => only(self.alloc, Step::NoSession),
+            Some(None) => only(self.alloc, Step::NoTxn),
+            Some(Some(transaction)) => {
+                let value = value_of(self.alloc, &self.store, transaction, &object)?;
+                only(self.alloc, Step::Value { name, object, value })
+            }
+        }
+    }
+
+    fn update(&mut self, name: Text, object: ObjectId, op: Op) -> Result<Vec<Step>, AllocError>
+        ensures { IfOk result (λ steps. Acts self.old (Command.Update name object op) steps.items self.new) }
+    {
+        if !self.made {
+            return only(self.alloc, Step::NoCluster);
+        }
+        match self.sessions.get(&name) {
+            None => only(self.alloc, Step::NoSession),
+            Some(None) => only(self.alloc, Step::NoTxn),
+            Some(Some(transaction)) => {
+                if transaction.changes().len() == MOST_UPDATES {
+                    return only(self.alloc, Step::Unbuilt);
+                }
+                let key = object.copy(self.alloc)?;
+                let effect = amount_of(&op.act);
+                note(&mut self.sessions, &name, Change { object: key, effect })?;
+                only(self.alloc, Step::Updated { name, object, stamp: None })
+            }
+        }
+    }
+
+    fn commit(&mut self, name: Text, steps: Option<u64>) -> Result<Vec<Step>, AllocError>
+        ensures { IfOk result (λ lines. Acts self.old (Command.Commit name steps) lines.items self.new) }
+    {
+        if !self.made {
+            return only(self.alloc, Step::NoCluster);
+        }
+        match self.sessions.get(&name) {
+            None => only(self.alloc, Step::NoSession),
+            Some(None) => only(self.alloc, Step::NoTxn),
+            Some(Some(transaction)) => {
+                if transaction.changes().is_empty() {
+                    close(&mut self.sessions, &name);
+                    return only(self.alloc, Step::Ended { name });
+                }
+                if self.now == LAST_TIME {
+                    return only(self.alloc, Step::Unbuilt);
+                }
+                self.commit_changes(name)
+            }
+        }
+    }
+
+    /// Commits a transaction that has changes, of a session that is open.
+    fn commit_changes(&mut self, name: Text) -> Result<Vec<Step>, AllocError>
+        requires room { self.old.now < 2 ^ 62 }
+        ensures { (t : ℕ × List Change) → session_in self.old name ≡ Some (Some t) → IfOk result (λ lines. CommitsChanges self.old name t lines.items self.new) }
+    {
+        let alloc = self.alloc;
+        let mut steps = Vec::new(alloc);
+        if let Some(transaction) = close(&mut self.sessions, &name) {
+            let tx = tx_at(transaction.time());
+            let time = self.now + 1;
+            self.now = time;
+            store_all(&mut self.store, alloc, tx, time, transaction.changes())?;
+            let part = ONE;
+            steps.push(Step::Prepared { part, tx, time })?;
+            let c = vector_at(time);
+            steps.push(Step::Decided { part, tx, c })?;
+            steps.push(Step::Ended { name })?;
+        }
+        Ok(steps)
+    }
+}
+
+/// The transaction that began at a time.
+fn tx_at(time: u64) -> TxId
+    ensures { result ≡ transaction_at time }
+{
+    TxId {
+        site: 1,
+        part: 1,
+        time,
+    }
+}
+
+/// The vector of one site at a time.
+fn vector_at(time: u64) -> VTime
+    ensures { result ≡ time ∷ [] }
+{
+    VTime::zero(1).with(1, time)
+}
+
+/// What a transaction reads of an object: what had committed when it began, and its own changes.
+fn value_of(
+    alloc: Global,
+    store: &Store,
+    transaction: &Transaction,
+    object: &ObjectId,
+) -> Result<Value, AllocError>
+    ensures { IfOk result (λ v. v ≡ Value.Int (int_wrap w128 (sum_upto transaction.now.0 (stored store.now.entries object.now) +ℤ own_sum object.now transaction.now.1))) }
+{
+    let mut total = 0;
+    let time = transaction.time();
+    if let Some(updates) = store.get(object) {
+        add_visible(alloc, &mut total, updates, time)?;
+    }
+    add_own(alloc, &mut total, tx_at(time), transaction.changes(), object)?;
+    Ok(Value::Int(total))
+}
+
+/// One line.
+fn only(alloc: Global, step: Step) -> Result<Vec<Step>, AllocError>
+    ensures { IfOk result (λ steps. steps.items ≡ step ∷ []) }
+{
+    let mut steps = Vec::new(alloc);
+    steps.push(step)?;
+    Ok(steps)
+}

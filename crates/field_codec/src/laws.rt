@@ -1,0 +1,22 @@
+ghost use Rattle.field_codec.specs.Spelling.{number, is_number, text, is_text, list, are_members, is_list};
+ghost use Rattle.field_codec.specs.Reading.{number_at, text_at, list_at};
+ghost use Rattle.field_codec.specs.Lawful.{IsForm, IsPrefixFree};
+
+use crate::Form;
+
+/// Reading answers a number or a text and the place after it exactly where its spelling stands at the
+/// place, and no spelling of a text begins that of another.
+pub fn law_fields()
+    ensures number8 { IsForm (is_number 1) (is_number 1) (number 1) (number_at 1) }
+    ensures number16 { IsForm (is_number 2) (is_number 2) (number 2) (number_at 2) }
+    ensures number32 { IsForm (is_number 4) (is_number 4) (number 4) (number_at 4) }
+    ensures number64 { IsForm (is_number 8) (is_number 8) (number 8) (number_at 8) }
+    ensures texts { IsForm is_text is_text text text_at }
+    ensures apart { IsPrefixFree is_text text }
+{}
+
+/// The same of the lists of each form's values, as `put_list` and `take_list` spell and read them.
+pub fn law_list<F: Form>(form: &F)
+    ensures form { IsForm (are_members (F.follows form.now) (F.fits form.now)) (is_list (F.follows form.now) (F.is_spelled form.now)) (list (F.spelling form.now)) (list_at (F.follows form.now) (F.reading form.now)) }
+    ensures apart { IsPrefixFree (is_list (F.follows form.now) (F.is_spelled form.now)) (list (F.spelling form.now)) }
+{}
