@@ -87,7 +87,7 @@ module _ {E : Type 0} where
     pub who : List ℕ
     pub dependency : List ℕ
     pub begun : WasShown run (home t) (Began who dependency t s)
-    pub place : place_of o plan.parts ≡ p.part
+    pub place : place_of o.bucket o.key plan.parts ≡ p.part
     pub earlier : own ≡ filter (λ u. same_object u.object o) (updates_at run t p)
 
   -- a prepare is asked once of each participant, the lead first, with all that the transaction changed there
