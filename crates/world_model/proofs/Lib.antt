@@ -9,3 +9,4 @@ pub mod Completeness
 pub mod AnsweredReads
 pub mod Kept
 pub mod Whole
+pub mod Folds
