@@ -6,6 +6,7 @@ use Rattle.site_vector.specs.declared.ids.PartId.{PartId}
 use Rattle.site_vector.specs.declared.ids.TxId.{TxId}
 use Rattle.site_vector.specs.Vector.{le, entry}
 use Rattle.crdt_core.specs.declared.object.ObjectId.{ObjectId}
+use Rattle.crdt_core.specs.Kinds.{reads_state}
 use Rattle.crdt_core.specs.declared.record.Upd.{Upd}
 use Rattle.crdt_core.specs.declared.record.Part.{Part}
 use Rattle.crdt_core.specs.declared.record.Record.{Record}
@@ -43,7 +44,7 @@ module _ {E : Type 0} where
 
   abbrev pub IsAnswered : {S : Type 0} → Kinds S E → Plan E → List (Entry E) → (PartId → PartState E) → PartId → Event E → Type 0
   IsAnswered kinds plan run parts p (Read t s o own read value) = Answered plan run parts p s o read × (value ≡ kinds.value_of (state_read kinds o t own read))
-  IsAnswered kinds plan run parts p (Updated t s o own op read u stamp) = kinds.reads_state o.kind ≡ true → Answered plan run parts p s o read
+  IsAnswered kinds plan run parts p (Updated t s o own op read u stamp) = reads_state o.kind ≡ true → Answered plan run parts p s o read
   IsAnswered kinds plan run parts p event = ⊤
 
   module _ {S : Type 0} (kinds : Kinds S E) (plan : Plan E) (run : List (Entry E)) (before after : PartId → PartState E) (at : PartId) (event : Event E) (st : PartStep kinds plan.sites plan.parts at (before at) event (after at)) (mv : Move plan run before after at event) (f : Fate plan run before) (f' : Fate plan ((record { at = at; event = event }) ∷ run) after) (rise : (q : PartId) → (before q).now ≤ (after q).now) (iv : Intervals plan run before) where
@@ -195,7 +196,7 @@ module _ {E : Type 0} where
       let r = right_now plan run before after f g at place t s o own read (Read t s o own read value) st.0 st.1.0 st.1.1 al in (
         answered_now plan run before after f g at place t s o own read (Read t s o own read value) st.0 st.1.0 st.1.1 al
             (ap (λ p. p.now) (sym st.2)) (λ l i. subst (λ p. Image p l) st.2 i) (record { order = r.order; members = r.members; exact = r.exact }) (λ u. refl),
-        st.1.2,
+        st.1.3,
       )
   answered_event kinds plan run before after f g at place (Updated t s o own op read u stamp) st al = λ h.
       let r = right_now plan run before after f g at place t s o own read (Updated t s o own op read u stamp) st.0 (st.1.ready h) (st.1.fold h) al in

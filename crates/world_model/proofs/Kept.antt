@@ -11,10 +11,13 @@ use Rattle.world_model.specs.Log.{ceiling, prepared, committed, aborted, decided
 use Rattle.world_model.specs.Event.{AskRead, AskUpdate, AskPrepare, AskFinish, ClockBehind, IsGone, Refused, shown, Event, Began, Updated, Read, Sent, Restarted, Entry, attempt, is_decided, time_of, sent, WasShown, EventsAre}
 use Rattle.world_model.specs.Partition.{Kinds, PartState, Image, IsOther, IsBegin, end_of_time, vector_of, new_part, PartStep}
 use Rattle.world_model.specs.Plan.{Plan, home, takes_part, vector_at, commit_vector, IsAllowed, IsSession, IsPlanned, WorldStep, IsRun}
-use Rattle.world_model.specs.WorldLaw.{sees_tx, IsExact, IsRight, ClocksAre, HoldsPast, KeepsIs, KeepsDecided, HasCauseAt, HaveCausesAt, IsLawfulWorld}
+use Rattle.world_model.specs.WorldLaw.{sees_tx, IsExact, IsRight, ClocksAre, HoldsPast, KeepsIs, KeepsDecided, HasCauseAt, HaveCausesAt}
+use Rattle.world_model.specs.Meaning.{HaveMeaning}
+use Rattle.world_model.specs.LawfulWorld.{IsLawfulWorld}
+use Rattle.world_model.proofs.Histories.{Facts}
 use Rattle.world_model.proofs.Names.{clash, off, le_from, le_onward, le_raised}
 use Rattle.world_model.proofs.Moves.{moved, image_log}
-use Rattle.world_model.proofs.Fate.{Fate, fate_step}
+use Rattle.world_model.proofs.Fate.{Fate, fate_step, voted_tried}
 use Rattle.world_model.proofs.Leases.{Clock, Leases, leases_step, rises, one_image, clock_event}
 use Rattle.world_model.proofs.Later.{never_aborted, full_now, prepared_now, pending_from, vote_in_time}
 use Rattle.world_model.proofs.Intervals.{Intervals, intervals_step, exact_now, shown_sent, shown_has, events_map}
@@ -202,9 +205,25 @@ module _ {E : Type 0} where
   pub law_plan : {S : Type 0} (kinds : Kinds S E) (plan : Plan E) (run : List (Entry E)) (parts : PartId → PartState E) → IsRun kinds plan run parts → Kept kinds plan run parts
   law_plan kinds plan run parts r = kept kinds plan run parts r
 
-  pub law_kept : {S : Type 0} (kinds : Kinds S E) (plan : Plan E) (run : List (Entry E)) (parts : PartId → PartState E) → Kept kinds plan run parts → IsLawfulWorld kinds plan run
-  law_kept kinds plan run parts k = record {
-    right = right_events kinds plan run parts run k.reads k.bounds.events k.under;
+  pub right_all : {S : Type 0} (kinds : Kinds S E) (plan : Plan E) (run : List (Entry E)) (parts : PartId → PartState E) → Kept kinds plan run parts → EventsAre (IsRight kinds plan run) run
+  right_all kinds plan run parts k = right_events kinds plan run parts run k.reads k.bounds.events k.under
+
+  -- a decided transaction took part at its lead
+  decided_part : (plan : Plan E) (run : List (Entry E)) (parts : PartId → PartState E) → Fate plan run parts → (t : TxId) → is_decided run t ≡ true → takes_part plan t (plan.lead t) ≡ true
+  decided_part plan run parts f t h = f.part (plan.lead t) t (voted_tried run t (plan.lead t) (full_now plan run parts f t h).lead)
+
+  pub facts_of : {S : Type 0} (kinds : Kinds S E) (plan : Plan E) (run : List (Entry E)) (parts : PartId → PartState E) → Kept kinds plan run parts → Facts plan run
+  facts_of kinds plan run parts k = record {
+    strict = strict plan run parts k.fate;
+    least = λ t h. plan.least t (plan.lead t) (decided_part plan run parts k.fate t h);
+    entered = λ t h. plan.entered t (plan.lead t) (decided_part plan run parts k.fate t h);
+    closed = closed plan run (strict plan run parts k.fate);
+  }
+
+  pub law_kept : {S : Type 0} (kinds : Kinds S E) (plan : Plan E) (run : List (Entry E)) (parts : PartId → PartState E) → Kept kinds plan run parts → HaveMeaning kinds plan run run → IsLawfulWorld kinds plan run
+  law_kept kinds plan run parts k meant = record {
+    right = right_all kinds plan run parts k;
+    meant = meant;
     clock = k.clock;
     past = k.past;
     decided_stay = k.decided_stay;

@@ -7,6 +7,9 @@ pub mod Later
 pub mod Intervals
 pub mod Completeness
 pub mod AnsweredReads
-pub mod Kept
-pub mod Whole
 pub mod Folds
+pub mod Histories
+pub mod Kept
+pub mod Meanings
+pub mod Stories
+pub mod Whole

@@ -15,13 +15,14 @@ use Rattle.world_model.specs.Event.{AskFinish, AskTake, Refused, Event, Ticked, 
 use Rattle.world_model.specs.Partition.{Kinds, PartState, Image, end_of_time, new_part, PartStep, MayDo}
 use Rattle.world_model.specs.Plan.{Plan, is_some_update, home, takes_part, vector_at, commit_vector, updates_at, change_by, IsAllowed, IsAsked, IsPlanned, TellsAborted, WorldStep, IsRun}
 use Rattle.world_model.specs.World.{is_begin, begin_vector, begun, snapshot_of, is_own, changes_of, first_of, lead_of, own_parts, plan_of, IsNew, IsWorldRun, LawWorld}
-use Rattle.world_model.specs.WorldLaw.{IsLawfulWorld}
+use Rattle.world_model.specs.LawfulWorld.{IsLawfulWorld}
 use Rattle.world_model.proofs.Names.{clash, off}
 use Rattle.world_model.proofs.Moves.{image_log}
 use Rattle.world_model.proofs.Fate.{pending_parts, voted_tried}
 use Rattle.world_model.proofs.Later.{full_now}
 use Rattle.world_model.proofs.Leases.{Clock, Leases, leases_step, rises}
-use Rattle.world_model.proofs.Kept.{Kept, law_plan, law_kept}
+use Rattle.world_model.proofs.Kept.{Kept, law_plan, right_all, facts_of, law_kept}
+use Rattle.world_model.proofs.Stories.{stories, meanings, planned_changes}
 
 or_none : (x y : Bool) → x ≡ false → (x || y) ≡ y
 or_none true y e = absurd (clash refl e)
@@ -286,4 +287,11 @@ module _ {E : Type 0} where
       )
 
   pub law_world : {S : Type 0} (kinds : Kinds S E) (sites parts : ℕ) (run : List (Entry E)) (state : PartId → PartState E) → IsWorldRun kinds sites parts run state → IsLawfulWorld kinds (plan_of sites parts run) run
-  law_world kinds sites parts run state r = law_kept kinds (plan_of sites parts run) run state (law_plan kinds (plan_of sites parts run) run state (fits kinds sites parts run state r run (all_fresh kinds sites parts run state r) (suffix_all run)))
+  law_world kinds sites parts run state r =
+      let plan = plan_of sites parts run in
+      let k = law_plan kinds plan run state (fits kinds sites parts run state r run (all_fresh kinds sites parts run state r) (suffix_all run)) in
+      let right = right_all kinds plan run state k in
+      law_kept kinds plan run state k (meanings kinds plan run (facts_of kinds plan run state k)
+          (stories kinds plan run sites parts (world_leases kinds sites parts) run state r right)
+          (planned_changes sites parts run)
+          sites parts (world_leases kinds sites parts) run state r right)

@@ -16,4 +16,6 @@ pub mod Causes
 pub mod Lawful
 pub mod Plan
 pub mod WorldLaw
+pub mod Meaning
+pub mod LawfulWorld
 pub mod World

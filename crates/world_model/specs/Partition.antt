@@ -1,5 +1,5 @@
 -- The state of a partition, and what each of its calls may answer and leave.
-use Rattle.std.specs.Prelude.{◌≡◌, ◌≢◌, ◌⊎◌, ℕ, zero, suc, ◌+◌, ◌-◌, ◌^◌, ◌<◌, ◌≤◌, max, min, leb, ltb, Bool, true, false, ◌&&◌, ◌||◌, ◌==◌, if◌then◌else◌, List, [], ◌∷◌, ◌++◌, length, replicate, filter, map, Option, None, Some, slice_index_or, slice_set, ⊤}
+use Rattle.std.specs.Prelude.{◌≡◌, ◌≢◌, ◌⊎◌, ℕ, zero, suc, ◌+◌, ◌-◌, ◌^◌, ◌<◌, ◌≤◌, max, min, leb, ltb, Bool, true, false, not, ◌&&◌, ◌||◌, ◌==◌, if◌then◌else◌, List, [], ◌∷◌, ◌++◌, length, replicate, filter, map, Option, None, Some, slice_index_or, slice_set, ⊤}
 use Rattle.std.specs.Ordering.{nat_cmp, ordering_then}
 use Rattle.std.specs.declared.cmp.Ordering.{Ordering}
 use Rattle.std.specs.declared.cmp.Ordering.TheVariants.{Less}
@@ -21,6 +21,11 @@ use Rattle.crdt_core.specs.declared.record.Message.{Message}
 use Rattle.crdt_core.specs.declared.record.Record.{Record}
 use Rattle.crdt_core.specs.declared.record.Record.TheVariants.{Lease, Prepare, Decide, Finish, Abort, Batch}
 use Rattle.crdt_core.specs.Objects.{same_object}
+use Rattle.crdt_core.specs.Kinds.{reads_state}
+use Rattle.crdt_core.specs.Fits.{fits}
+use Rattle.crdt_core.specs.Seen.{Update}
+use Rattle.crdt_core.specs.History.{folded}
+use Rattle.crdt_core.specs.Law.{KeepsLaw}
 use Rattle.world_model.specs.Log.{touches, lists, vector_in, changes_in, ceiling, prepare_time, prepared_changes, committed, committed_at, pending, last_decided, bound, holds, held_at, held_changes, grown, IsImage}
 use Rattle.world_model.specs.Event.{Ask, AskBegin, AskRead, AskUpdate, AskPrepare, AskDecide, AskFinish, AskAbort, AskTake, Refusal, IsDown, ClockBehind, TxPending, StableBehind, ClockAtEnd, IsGone, HasGap, IsRepeat, Event, Refused, Ticked, Began, Updated, Read, Prepared, Decided, Finished, Aborted, Sent, Took, Reported, Heard, Crashed, Restarted, Cut}
 
@@ -28,14 +33,19 @@ use Rattle.world_model.specs.Event.{Ask, AskBegin, AskRead, AskUpdate, AskPrepar
 abbrev pub end_of_time : ℕ
 end_of_time = 2 ^ 62
 
--- what the kinds of objects do: the trait `Crdt` of whoever stores them
+-- what the kinds of objects do, under the law of a kind: the trait `Crdt` of whoever stores them
 pub record Kinds (S E : Type 0) : Type 0 where
+  pub has : Kind → Bool
+  pub too_deep : Kind → List Field → Bool
   pub initial : Kind → S
   pub step : S → Dot → E → S
   pub made : Kind → S → List Field → Act → ℕ → E
   pub value_of : S → Value
   pub stamp_of : E → Option ℕ
-  pub reads_state : Kind → Bool
+  pub meaning : Kind → List Update → Value
+  pub names : E → Dot → Bool
+  pub holds : S → Dot → Bool
+  pub laws : KeepsLaw has too_deep initial step made value_of stamp_of meaning names holds
 
 -- all else is told by the log. While it is up, `torn` is empty; while it is down, a restart finds an image of both
 pub record PartState (E : Type 0) : Type 0 where
@@ -151,17 +161,15 @@ module _ {E : Type 0} where
   effects_of o older [] = older
   effects_of o older (x ∷ xs) = effects_of o (effects_from o x.tx older x.updates) xs
 
-  abbrev pub folded : {S : Type 0} → Kinds S E → Kind → List (Dot × E) → S
-  folded kinds k [] = kinds.initial k
-  folded kinds k (e ∷ es) = kinds.step (folded kinds k es) e.0 e.1
-
   -- the state that a read finds: the parts' updates of the object, and then the transaction's own
   abbrev pub state_read : {S : Type 0} → Kinds S E → ObjectId → TxId → List (Upd E) → List (Part E) → S
-  state_read kinds o t own read = folded kinds o.kind (effects_from o t (effects_of o [] read) own)
+  state_read kinds o t own read = folded (kinds.initial o.kind) kinds.step (effects_from o t (effects_of o [] read) own)
 
   pub record IsUpdate {S : Type 0} (kinds : Kinds S E) (id : PartId) (p : PartState E) (t : TxId) (s : List ℕ) (o : ObjectId) (own : List (Upd E)) (op : Op) (read : List (Part E)) (u : Upd E) (stamp : Option ℕ) : Type 0 where
-    pub ready : kinds.reads_state o.kind ≡ true → IsReady id p s o
-    pub fold : kinds.reads_state o.kind ≡ true → IsFold p.log s o read
+    pub ready : reads_state o.kind ≡ true → IsReady id p s o
+    pub fold : reads_state o.kind ≡ true → IsFold p.log s o read
+    pub known : kinds.has o.kind ≡ true
+    pub fits : (fits o.kind op.path op.act && not (kinds.too_deep o.kind op.path)) ≡ true
     pub object : u.object ≡ o
     pub effect : u.effect ≡ kinds.made o.kind (state_read kinds o t own read) op.path op.act p.now
     pub stamped : stamp ≡ kinds.stamp_of u.effect
@@ -250,7 +258,7 @@ module _ {E : Type 0} where
   MayDo kinds sites parts id p (Ticked r n) = (n ≡ max r p.now) × (r ≤ end_of_time)
   MayDo kinds sites parts id p (Began who dep t s) = IsBegin sites parts id p dep t s
   MayDo kinds sites parts id p (Updated t s o own op read u stamp) = IsUpdate kinds id p t s o own op read u stamp
-  MayDo kinds sites parts id p (Read t s o own read value) = IsReady id p s o × IsFold p.log s o read × (value ≡ kinds.value_of (state_read kinds o t own read))
+  MayDo kinds sites parts id p (Read t s o own read value) = IsReady id p s o × IsFold p.log s o read × (kinds.has o.kind ≡ true) × (value ≡ kinds.value_of (state_read kinds o t own read))
   MayDo kinds sites parts id p (Prepared t s l w n) = (entry s id.site ≤ p.now) × (n ≡ p.now + 1) × (p.now < end_of_time)
   MayDo kinds sites parts id p (Decided t c) = (pending p.log t || committed p.log t) ≡ true
   MayDo kinds sites parts id p (Finished t c) = (pending p.log t || committed p.log t) ≡ true
@@ -291,8 +299,8 @@ module _ {E : Type 0} where
   IsDue kinds sites parts id p (AskBegin who dep) ClockAtEnd = IsStableEnough sites parts id p dep × (p.now ≡ end_of_time)
   IsDue kinds sites parts id p (AskRead t s o own) (ClockBehind n) = (n ≡ p.now) × (n < entry s id.site)
   IsDue kinds sites parts id p (AskRead t s o own) (TxPending u n) = IsTxPending id p s o u n
-  IsDue kinds sites parts id p (AskUpdate t s o own op) (ClockBehind n) = (kinds.reads_state o.kind ≡ true) × (n ≡ p.now) × (n < entry s id.site)
-  IsDue kinds sites parts id p (AskUpdate t s o own op) (TxPending u n) = (kinds.reads_state o.kind ≡ true) × IsTxPending id p s o u n
+  IsDue kinds sites parts id p (AskUpdate t s o own op) (ClockBehind n) = (reads_state o.kind ≡ true) × (n ≡ p.now) × (n < entry s id.site)
+  IsDue kinds sites parts id p (AskUpdate t s o own op) (TxPending u n) = (reads_state o.kind ≡ true) × IsTxPending id p s o u n
   IsDue kinds sites parts id p (AskPrepare t s l w) (ClockBehind n) = (n ≡ p.now) × (n < entry s id.site)
   IsDue kinds sites parts id p (AskPrepare t s l w) ClockAtEnd = (entry s id.site ≤ p.now) × (p.now ≡ end_of_time)
   IsDue kinds sites parts id p (AskDecide t c) IsGone = (pending p.log t || committed p.log t) ≡ false

@@ -10,7 +10,7 @@ use Rattle.world_model.specs.Commit.{partitions}
 use Rattle.world_model.specs.Event.{Event, Began, Updated, Entry, tried}
 use Rattle.world_model.specs.Partition.{Kinds, PartState, new_part}
 use Rattle.world_model.specs.Plan.{Plan, is_some_update, home, updates_at, update_count, WorldStep}
-use Rattle.world_model.specs.WorldLaw.{IsLawfulWorld}
+use Rattle.world_model.specs.LawfulWorld.{IsLawfulWorld}
 
 abbrev pub first_of : PartId → List PartId → PartId
 first_of p [] = p

@@ -1,9 +1,10 @@
--- What a lawful run of the world is.
+-- What the events of a lawful run of the world show.
 use Rattle.std.specs.Prelude.{◌≡◌, ℕ, ◌+◌, ◌<◌, ◌≤◌, leb, ltb, max, Bool, true, false, ◌&&◌, List, [], ◌∷◌, ⊤}
 use Rattle.site_vector.specs.declared.ids.PartId.{PartId}
 use Rattle.site_vector.specs.declared.ids.TxId.{TxId}
 use Rattle.site_vector.specs.Vector.{le, entry}
 use Rattle.crdt_core.specs.declared.object.ObjectId.{ObjectId}
+use Rattle.crdt_core.specs.Kinds.{reads_state}
 use Rattle.crdt_core.specs.declared.record.Part.{Part}
 use Rattle.crdt_core.specs.declared.record.Message.{Message}
 use Rattle.world_model.specs.Log.{touches, lists}
@@ -64,7 +65,7 @@ module _ {E : Type 0} where
   -- reads are under the transaction's snapshot, and a value is that of the parts that were read and of its own updates
   abbrev pub IsRight : {S : Type 0} → Kinds S E → Plan E → List (Entry E) → PartId → Event E → Type 0
   IsRight kinds plan run p (Read t s o own read value) = (s ≡ plan.snapshot t) × IsRightFold plan run p s o read × (value ≡ kinds.value_of (state_read kinds o t own read))
-  IsRight kinds plan run p (Updated t s o own op read u stamp) = (s ≡ plan.snapshot t) × (kinds.reads_state o.kind ≡ true → IsRightFold plan run p s o read)
+  IsRight kinds plan run p (Updated t s o own op read u stamp) = (s ≡ plan.snapshot t) × (reads_state o.kind ≡ true → IsRightFold plan run p s o read)
   IsRight kinds plan run p (Sent asked m) = IsExact plan run p m
   IsRight kinds plan run p other = ⊤
 
@@ -72,16 +73,3 @@ module _ {E : Type 0} where
   abbrev pub HoldsPast : PartId → Event E → Type 0
   HoldsPast p (Began who dep t s) = le dep s ≡ true
   HoldsPast p other = ⊤
-
-  pub record IsLawfulWorld {S : Type 0} (kinds : Kinds S E) (plan : Plan E) (run : List (Entry E)) : Type 0 where
-    -- reads, updates that read, and messages, in the whole run
-    pub right : EventsAre (IsRight kinds plan run) run
-    pub clock : ClocksAre run
-    pub past : EventsAre HoldsPast run
-    pub decided_stay : KeepsDecided plan run
-    pub causes : HaveCausesAt plan run
-    -- what was aborted anywhere is never decided
-    pub fate : (t : TxId) (p : PartId) → was_aborted run t p ≡ true → is_decided run t ≡ false
-    pub strict : (t : TxId) → is_decided run t ≡ true → entry (plan.snapshot t) t.site < time_of run t
-    -- visible sets are closed
-    pub closed : (s : List ℕ) (t u : TxId) → sees_tx plan run s t ≡ true → sees_tx plan run (plan.snapshot t) u ≡ true → sees_tx plan run s u ≡ true
