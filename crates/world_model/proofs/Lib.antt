@@ -9,7 +9,9 @@ pub mod Completeness
 pub mod AnsweredReads
 pub mod Folds
 pub mod Histories
+pub mod CausalStores
 pub mod Kept
 pub mod Meanings
 pub mod Stories
 pub mod Whole
+pub mod Example

@@ -22,6 +22,7 @@ use Rattle.world_model.proofs.Fate.{pending_parts, voted_tried}
 use Rattle.world_model.proofs.Later.{full_now}
 use Rattle.world_model.proofs.Leases.{Clock, Leases, leases_step, rises}
 use Rattle.world_model.proofs.Kept.{Kept, law_plan, right_all, facts_of, law_kept}
+use Rattle.world_model.proofs.CausalStores.{causal_stores}
 use Rattle.world_model.proofs.Stories.{stories, meanings, planned_changes}
 
 or_none : (x y : Bool) → x ≡ false → (x || y) ≡ y
@@ -291,7 +292,7 @@ module _ {E : Type 0} where
       let plan = plan_of sites parts run in
       let k = law_plan kinds plan run state (fits kinds sites parts run state r run (all_fresh kinds sites parts run state r) (suffix_all run)) in
       let right = right_all kinds plan run state k in
-      law_kept kinds plan run state k (meanings kinds plan run (facts_of kinds plan run state k)
-          (stories kinds plan run sites parts (world_leases kinds sites parts) run state r right)
-          (planned_changes sites parts run)
-          sites parts (world_leases kinds sites parts) run state r right)
+      let facts = facts_of kinds plan run state k in
+      let made = stories kinds plan run sites parts (world_leases kinds sites parts) run state r right in
+      let all = planned_changes sites parts run in
+      law_kept kinds plan run state k (meanings kinds plan run facts made all sites parts (world_leases kinds sites parts) run state r right) (causal_stores kinds plan run made all)

@@ -7,13 +7,15 @@ use Rattle.world_model.specs.Event.{Entry, EventsAre, is_decided, time_of, was_a
 use Rattle.world_model.specs.Partition.{Kinds}
 use Rattle.world_model.specs.Plan.{Plan}
 use Rattle.world_model.specs.WorldLaw.{sees_tx, IsRight, ClocksAre, HoldsPast, KeepsDecided, HaveCausesAt}
-use Rattle.world_model.specs.Meaning.{HaveMeaning}
+use Rattle.world_model.specs.Meaning.{HaveMeaning, AreCausal}
 
 pub record IsLawfulWorld {S E : Type 0} (kinds : Kinds S E) (plan : Plan E) (run : List (Entry E)) : Type 0 where
   -- reads, updates that read, and messages, in the whole run
   pub right : EventsAre (IsRight kinds plan run) run
   -- each value is the meaning of what is read, and each stamp is due by it
   pub meant : HaveMeaning kinds plan run run
+  -- so whatever is stored or sent names only what its transaction has seen
+  pub causal : (t : TxId) (p : PartId) → AreCausal kinds plan run t (plan.updates t p)
   pub clock : ClocksAre run
   pub past : EventsAre HoldsPast run
   pub decided_stay : KeepsDecided plan run

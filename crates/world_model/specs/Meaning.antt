@@ -71,3 +71,8 @@ module _ {E : Type 0} where
   abbrev pub HaveMeaning : {S : Type 0} → Kinds S E → Plan E → List (Entry E) → List (Entry E) → Type 0
   HaveMeaning kinds plan whole [] = ⊤
   HaveMeaning kinds plan whole (e ∷ run) = HasMeaning kinds plan whole run e.at e.event × HaveMeaning kinds plan whole run
+
+  -- the effects of t name only updates of transactions that precede it, and its own
+  abbrev pub AreCausal : {S : Type 0} → Kinds S E → Plan E → List (Entry E) → TxId → List (Upd E) → Type 0
+  AreCausal kinds plan run t [] = ⊤
+  AreCausal kinds plan run t (u ∷ us) = ((d : Dot) → kinds.names u.effect d ≡ true → (sees_tx plan run (plan.snapshot t) d.tx || same_tx d.tx t) ≡ true) × AreCausal kinds plan run t us
