@@ -61,7 +61,7 @@ module _ {E : Type 0} where
   decided_committed (Finish u c ∷ log) t h = or_right _ _ (decided_committed log t h)
   decided_committed (Abort u ∷ log) t h = decided_committed log t h
 
-  more_prepared : (r : Record E) (old : List (Record E)) (t : TxId) → prepared old t ≡ true → prepared (r ∷ old) t ≡ true
+  pub more_prepared : (r : Record E) (old : List (Record E)) (t : TxId) → prepared old t ≡ true → prepared (r ∷ old) t ≡ true
   more_prepared (Lease n) old t h = h
   more_prepared (Batch x) old t h = h
   more_prepared (Prepare u l n s w) old t h = or_right _ _ h

@@ -11,6 +11,7 @@ pub mod Folds
 pub mod Histories
 pub mod CausalStores
 pub mod Kept
+pub mod Shows
 pub mod Meanings
 pub mod Stories
 pub mod Whole

@@ -23,6 +23,7 @@ use Rattle.world_model.proofs.Later.{full_now}
 use Rattle.world_model.proofs.Leases.{Clock, Leases, leases_step, rises}
 use Rattle.world_model.proofs.Kept.{Kept, law_plan, right_all, facts_of, law_kept}
 use Rattle.world_model.proofs.CausalStores.{causal_stores}
+use Rattle.world_model.proofs.Shows.{show_events}
 use Rattle.world_model.proofs.Stories.{stories, meanings, planned_changes}
 
 or_none : (x y : Bool) → x ≡ false → (x || y) ≡ y
@@ -290,9 +291,10 @@ module _ {E : Type 0} where
   pub law_world : {S : Type 0} (kinds : Kinds S E) (sites parts : ℕ) (run : List (Entry E)) (state : PartId → PartState E) → IsWorldRun kinds sites parts run state → IsLawfulWorld kinds (plan_of sites parts run) run
   law_world kinds sites parts run state r =
       let plan = plan_of sites parts run in
-      let k = law_plan kinds plan run state (fits kinds sites parts run state r run (all_fresh kinds sites parts run state r) (suffix_all run)) in
+      let under = fits kinds sites parts run state r run (all_fresh kinds sites parts run state r) (suffix_all run) in
+      let k = law_plan kinds plan run state under in
       let right = right_all kinds plan run state k in
       let facts = facts_of kinds plan run state k in
       let made = stories kinds plan run sites parts (world_leases kinds sites parts) run state r right in
       let all = planned_changes sites parts run in
-      law_kept kinds plan run state k (meanings kinds plan run facts made all sites parts (world_leases kinds sites parts) run state r right) (causal_stores kinds plan run made all)
+      law_kept kinds plan run state k (meanings kinds plan run facts made all sites parts (world_leases kinds sites parts) run state r right) (causal_stores kinds plan run made all) (show_events kinds plan run state under)

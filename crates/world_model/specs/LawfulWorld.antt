@@ -7,6 +7,7 @@ use Rattle.world_model.specs.Event.{Entry, EventsAre, is_decided, time_of, was_a
 use Rattle.world_model.specs.Partition.{Kinds}
 use Rattle.world_model.specs.Plan.{Plan}
 use Rattle.world_model.specs.WorldLaw.{sees_tx, IsRight, ClocksAre, HoldsPast, KeepsDecided, HaveCausesAt}
+use Rattle.world_model.specs.Shown.{ShowAt}
 use Rattle.world_model.specs.Meaning.{HaveMeaning, AreCausal}
 
 pub record IsLawfulWorld {S E : Type 0} (kinds : Kinds S E) (plan : Plan E) (run : List (Entry E)) : Type 0 where
@@ -20,6 +21,8 @@ pub record IsLawfulWorld {S E : Type 0} (kinds : Kinds S E) (plan : Plan E) (run
   pub past : EventsAre HoldsPast run
   pub decided_stay : KeepsDecided plan run
   pub causes : HaveCausesAt plan run
+  -- messages, takes, reports and waits show the bounds and what is pending, as earlier events do
+  pub shown : ShowAt plan run
   -- what was aborted anywhere is never decided
   pub fate : (t : TxId) (p : PartId) → was_aborted run t p ≡ true → is_decided run t ≡ false
   pub strict : (t : TxId) → is_decided run t ≡ true → entry (plan.snapshot t) t.site < time_of run t

@@ -17,5 +17,6 @@ pub mod Lawful
 pub mod Plan
 pub mod WorldLaw
 pub mod Meaning
+pub mod Shown
 pub mod LawfulWorld
 pub mod World
