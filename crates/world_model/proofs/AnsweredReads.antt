@@ -1,5 +1,5 @@
 -- The part answered reads: what a read left out comes too late for it.
-use Rattle.std.proofs.Common.{◌≡◌, ◌≢◌, ◌⊎◌, ⊎_elim, inl, inr, ℕ, ◌-◌, ◌<◌, ◌≤◌, Bool, true, false, ◌&&◌, ◌||◌, List, [], ◌∷◌, refl, sym, ap, ◌∙◌, subst, subst₂, arith, le_trans}
+use Rattle.std.proofs.Common.{◌≡◌, ◌⊎◌, ⊎_elim, inl, inr, ℕ, ◌-◌, ◌<◌, ◌≤◌, Bool, true, false, ◌&&◌, List, [], ◌∷◌, refl, sym, ap, ◌∙◌, subst, arith, le_trans}
 use Rattle.std.specs.Prelude.{⊤}
 use Rattle.std.proofs.lemmas.Bool.{cases_eq, cases_Bool, or_left, or_right, or_from, or_cases, and_left, and_parts, cond-true, cond-false}
 use Rattle.site_vector.specs.declared.ids.PartId.{PartId}
@@ -12,16 +12,16 @@ use Rattle.crdt_core.specs.declared.record.Part.{Part}
 use Rattle.crdt_core.specs.declared.record.Record.{Record}
 use Rattle.world_model.specs.Log.{touches, lists, prepared, prepare_time, prepared_changes, committed, committed_at, aborted, pending, taken, taken_at, taken_changes, holds, held_at, held_changes}
 use Rattle.world_model.specs.Event.{Event, Began, Updated, Read, Entry, attempt, is_decided, time_of, sent}
-use Rattle.world_model.specs.Partition.{Kinds, PartState, Image, IsOther, IsReady, IsFold, AreParts, PartStep, state_read}
+use Rattle.world_model.specs.Partition.{Kinds, PartState, Image, IsOther, IsReady, IsFold, PartStep, state_read}
 use Rattle.world_model.specs.Plan.{Plan, IsPlace, takes_part, twin, home, changes_at, vector_at, commit_vector, is_some_update, IsAllowed, IsAsked}
 use Rattle.world_model.specs.WorldLaw.{IsRightFold}
-use Rattle.world_model.proofs.Names.{clash, off, le_at}
+use Rattle.world_model.proofs.Names.{clash, le_at}
 use Rattle.world_model.proofs.Parts.{parts_map}
 use Rattle.world_model.proofs.Moves.{Move, image_log}
 use Rattle.world_model.proofs.Fate.{Fate, pending_parts}
-use Rattle.world_model.proofs.Later.{at_own, home_here, IsLater, Later, later_now, waited, in_log, later_step, too_late}
+use Rattle.world_model.proofs.Later.{at_own, home_here, Later, later_now, waited, in_log, later_step, too_late}
 use Rattle.world_model.proofs.Intervals.{Intervals, sent_more, shown_has, none, above_sent, same_commit}
-use Rattle.world_model.proofs.Completeness.{Complete, IsBacked, Bounds, numbered}
+use Rattle.world_model.proofs.Completeness.{Complete, IsBacked, Bounds}
 
 -- the test of one transaction, at equal parts
 same_test : (s : List ℕ) (h k x y : Bool) (v w : List ℕ) → h ≡ k → x ≡ y → v ≡ w → (h && (x && le v s)) ≡ (k && (y && le w s))

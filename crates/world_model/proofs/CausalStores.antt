@@ -1,6 +1,6 @@
 -- The part causal stores: an effect names only updates that its transaction has seen.
 use Rattle.std.proofs.Common.{◌≡◌, ◌⊎◌, ⊎_elim, inl, inr, ℕ, cond, Bool, true, false, ◌&&◌, ◌||◌, List, [], ◌∷◌, ◌++◌, refl, sym, ap, ◌∙◌, subst}
-use Rattle.std.specs.Prelude.{⊤, map}
+use Rattle.std.specs.Prelude.{map}
 use Rattle.std.specs.List.{list_any}
 use Rattle.std.proofs.lemmas.Bool.{cases_Bool, or_left, or_right, or_cases, and_from, and_parts}
 use Rattle.site_vector.specs.declared.ids.PartId.{PartId}
@@ -14,7 +14,6 @@ use Rattle.crdt_core.specs.declared.record.Upd.{Upd}
 use Rattle.crdt_core.specs.declared.record.Part.{Part}
 use Rattle.crdt_core.specs.Kinds.{reads_state}
 use Rattle.crdt_core.specs.Objects.{same_object}
-use Rattle.crdt_core.specs.Seen.{Update}
 use Rattle.crdt_core.specs.History.{folded}
 use Rattle.world_model.specs.Log.{touches, lists}
 use Rattle.world_model.specs.Event.{Entry, is_decided}

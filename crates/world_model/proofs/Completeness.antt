@@ -1,18 +1,17 @@
 -- The parts completeness, heard bounds and coverage: what lies up to a bound that a partition ever had is held in every image.
-use Rattle.std.proofs.Common.{◌≡◌, ◌≢◌, ◌⊎◌, ⊎_elim, inl, inr, ℕ, zero, suc, ◌-◌, ◌<◌, ◌≤◌, ltb, leb, max, Bool, true, false, ◌&&◌, ◌||◌, List, [], ◌∷◌, Option, refl, sym, ap, ◌∙◌, subst, subst₂, arith, le_trans, le_refl}
+use Rattle.std.proofs.Common.{◌≡◌, ◌≢◌, ⊎_elim, ℕ, zero, suc, ◌-◌, ◌<◌, ◌≤◌, max, Bool, true, false, ◌&&◌, ◌||◌, List, [], ◌∷◌, Option, refl, sym, ap, ◌∙◌, subst, subst₂, arith, le_trans}
 use Rattle.std.specs.Prelude.{⊤, ◌==◌, replicate, slice_index, slice_index_or}
-use Rattle.std.proofs.lemmas.Bool.{cases_Bool, cases_lt, or_left, or_right, or_cases, and_from, and_parts, le-leb, lt-ltb, ltb-true, eqb-true, cond-true, cond-false}
+use Rattle.std.proofs.lemmas.Bool.{cases_Bool, cases_lt, or_left, or_right, or_cases, and_from, and_parts, le-leb, lt-ltb, eqb-true, cond-true, cond-false}
 use Rattle.site_vector.specs.declared.ids.PartId.{PartId}
 use Rattle.site_vector.specs.declared.ids.TxId.{TxId}
 use Rattle.site_vector.specs.Vector.{entry, join, replaced}
-use Rattle.crdt_core.specs.declared.record.Upd.{Upd}
 use Rattle.crdt_core.specs.declared.record.Part.{Part}
 use Rattle.crdt_core.specs.declared.record.Message.{Message}
 use Rattle.crdt_core.specs.declared.record.Record.{Record}
 use Rattle.crdt_core.specs.declared.record.Record.TheVariants.{Lease, Prepare, Decide, Finish, Abort, Batch}
 use Rattle.world_model.specs.Log.{lists, vector_in, changes_in, taken, taken_at, taken_changes, bound, grown, IsImage}
-use Rattle.world_model.specs.Event.{Refused, Event, Ticked, Began, Updated, Read, Prepared, Decided, Finished, Aborted, Sent, Took, Reported, Heard, Crashed, Restarted, Cut, Entry, attempt, is_decided, time_of, sent, WasShown, EventsAre}
-use Rattle.world_model.specs.Partition.{Kinds, PartState, Image, IsOther, AreParts, IsBegin, above, batch_of, known, stable_entry, vector_of, lowest, done, PartStep}
+use Rattle.world_model.specs.Event.{Refused, Event, Ticked, Began, Updated, Read, Prepared, Decided, Finished, Aborted, Sent, Took, Reported, Heard, Crashed, Restarted, Cut, Entry, attempt, is_decided, time_of, sent, EventsAre}
+use Rattle.world_model.specs.Partition.{Kinds, PartState, Image, IsOther, AreParts, IsBegin, above, batch_of, known, vector_of, done, PartStep}
 use Rattle.world_model.specs.Plan.{Plan, takes_part, twin, changes_at, vector_at, commit_vector, IsAllowed, MayTake, MayHear}
 use Rattle.world_model.specs.WorldLaw.{IsExact}
 use Rattle.world_model.proofs.Names.{clash, off, part_cases, entry_cases, vectors_cases, join_below, lowest_below}
@@ -20,7 +19,7 @@ use Rattle.world_model.proofs.Parts.{parts_vector, parts_changes, lists_above, a
 use Rattle.world_model.proofs.Moves.{Because, IsCut, Move, image_log}
 use Rattle.world_model.proofs.Fate.{Fate}
 use Rattle.world_model.proofs.Later.{at_own}
-use Rattle.world_model.proofs.Intervals.{Intervals, sent_more, shown_sent, shown_has, events_map, above_sent, same_time, same_commit, exact_step}
+use Rattle.world_model.proofs.Intervals.{Intervals, sent_more, shown_sent, shown_has, events_map, above_sent, same_time, exact_step}
 
 pub zeros_at : (n i : ℕ) → slice_index (replicate n 0) i ≡ 0
 zeros_at zero i = refl

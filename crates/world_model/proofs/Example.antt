@@ -1,29 +1,26 @@
 -- A run of the world with any kinds that have counters: a decide that a crash cut off was done, and both sites see it.
-use Rattle.std.proofs.Common.{◌≡◌, ◌≢◌, ◌⊎◌, ⊎_elim, inl, inr, ℕ, zero, suc, ◌+◌, ◌<◌, ◌≤◌, cond, leb, ltb, max, Bool, true, false, not, ◌&&◌, ◌||◌, List, [], ◌∷◌, Option, None, Some, refl, sym, ap, ◌∙◌, subst, arith, lit≤, lit<, le_refl}
-use Rattle.std.specs.Prelude.{⊤, ◌==◌, if◌then◌else◌, pos}
-use Rattle.std.proofs.lemmas.Bool.{cases_Bool, cond-false, cond-true, and_parts, and_from, or_from, and_left, and_right}
+use Rattle.std.proofs.Common.{◌≡◌, ◌≢◌, ⊎_elim, inl, inr, ℕ, ◌≤◌, cond, leb, ltb, Bool, true, false, not, ◌&&◌, ◌||◌, List, [], ◌∷◌, None, Some, refl, sym, subst, arith, lit≤, lit<, le_refl}
+use Rattle.std.specs.Prelude.{if◌then◌else◌, pos}
+use Rattle.std.proofs.lemmas.Bool.{cases_Bool, cond-false, or_from, and_right}
 use Rattle.site_vector.specs.declared.ids.PartId.{PartId}
 use Rattle.site_vector.specs.declared.ids.TxId.{TxId}
 use Rattle.site_vector.specs.Ids.{same_part, same_tx}
 use Rattle.site_vector.specs.Order.{same_part_is}
 use Rattle.site_vector.specs.Vector.{le, entry}
-use Rattle.crdt_core.specs.declared.kind.Kind.{Kind}
 use Rattle.crdt_core.specs.declared.kind.Kind.TheVariants.{CounterPn}
 use Rattle.crdt_core.specs.declared.object.ObjectId.{ObjectId}
 use Rattle.crdt_core.specs.declared.operation.Op.{Op}
-use Rattle.crdt_core.specs.declared.operation.Act.{Act}
 use Rattle.crdt_core.specs.declared.operation.Act.TheVariants.{Increment}
 use Rattle.crdt_core.specs.declared.value.Value.{Value}
 use Rattle.crdt_core.specs.declared.record.Upd.{Upd}
 use Rattle.crdt_core.specs.declared.record.Part.{Part}
 use Rattle.crdt_core.specs.declared.record.Message.{Message}
-use Rattle.crdt_core.specs.declared.record.Record.{Record}
 use Rattle.crdt_core.specs.declared.record.Record.TheVariants.{Decide}
-use Rattle.world_model.specs.Log.{touches, lists, pending, prepare_time, bound}
+use Rattle.world_model.specs.Log.{touches, bound}
 use Rattle.world_model.specs.Event.{Event, Began, Updated, Read, Prepared, Decided, Sent, Took, Reported, Heard, Restarted, Refused, Cut, Entry, AskTake, AskRead, IsRepeat, ClockBehind, voted}
-use Rattle.world_model.specs.Partition.{Kinds, PartState, IsOther, IsOwnBound, stable_entry, new_part, done, cut, state_read, PartStep}
-use Rattle.world_model.specs.Plan.{Plan, is_some_update, IsPlace, takes_part, WorldStep}
-use Rattle.world_model.specs.World.{plan_of, is_own, IsNew, IsWorldRun}
+use Rattle.world_model.specs.Partition.{Kinds, PartState, IsOther, IsOwnBound, stable_entry, new_part, done, cut, state_read}
+use Rattle.world_model.specs.Plan.{is_some_update, IsPlace, takes_part}
+use Rattle.world_model.specs.World.{plan_of, is_own, IsWorldRun}
 use Rattle.world_model.specs.LawfulWorld.{IsLawfulWorld}
 use Rattle.world_model.proofs.Names.{clash, off, part_other}
 use Rattle.world_model.proofs.Whole.{law_world}
@@ -213,36 +210,56 @@ module _ {S E : Type 0} (kinds : Kinds S E) (known : kinds.has CounterPn ≡ tru
   r4 = entry_at here e4 ∷ r3
 
   run1 : IsWorldRun kinds 2 1 r1 p1
-  run1 = (p0, (λ p. refl), record {
-    place = place_here;
-    allowed = tt;
-    step = (refl, record { early = lit< tt; named = refl; handed = refl; width = refl; own = refl; stable = λ j o. subst (λ i. entry snapshot1 i ≡ stable_entry 1 here (p0 here) i) (sym (other_of_first j o)) refl; waited = λ j o. subst (λ i. entry (0 ∷ 0 ∷ []) i ≤ entry snapshot1 i) (sym (other_of_first j o)) (le_refl 0) }, refl);
-    others = others p0 here (done (p0 here) e1);
-  }, tt)
+  run1 = (
+    p0,
+    (λ p. refl),
+    record {
+      place = place_here;
+      allowed = tt;
+      step = (refl, record { early = lit< tt; named = refl; handed = refl; width = refl; own = refl; stable = λ j o. subst (λ i. entry snapshot1 i ≡ stable_entry 1 here (p0 here) i) (sym (other_of_first j o)) refl; waited = λ j o. subst (λ i. entry (0 ∷ 0 ∷ []) i ≤ entry snapshot1 i) (sym (other_of_first j o)) (le_refl 0) }, refl);
+      others = others p0 here (done (p0 here) e1);
+    },
+    tt,
+  )
 
   run2 : IsWorldRun kinds 2 1 r2 p2
-  run2 = (p1, run1, record {
-    place = place_here;
-    allowed = record { site = refl; who = []; dependency = 0 ∷ 0 ∷ []; begun = inl (refl, refl); place = refl; earlier = refl };
-    step = (refl, record { ready = λ h. off h; fold = λ h. off h; known = known; fits = rw shallow refl; object = refl; effect = refl; stamped = refl }, refl);
-    others = others p1 here (done (p1 here) e2);
-  }, record { early = λ p. or_from _ _ (and_right (same_part here p) false refl) refl; number = refl })
+  run2 = (
+    p1,
+    run1,
+    record {
+      place = place_here;
+      allowed = record { site = refl; who = []; dependency = 0 ∷ 0 ∷ []; begun = inl (refl, refl); place = refl; earlier = refl };
+      step = (refl, record { ready = λ h. off h; fold = λ h. off h; known = known; fits = rw shallow refl; object = refl; effect = refl; stamped = refl }, refl);
+      others = others p1 here (done (p1 here) e2);
+    },
+    record { early = λ p. or_from _ _ (and_right (same_part here p) false refl) refl; number = refl },
+  )
 
   run3 : IsWorldRun kinds 2 1 r3 p3
-  run3 = (p2, run2, record {
-    place = place_here;
-    allowed = record { fresh = refl; after_lead = λ ne. absurd (ne refl); takes = refl; snapshot = refl; lead = refl; changes = refl };
-    step = (refl, (lit≤ tt, refl, lit< tt), refl);
-    others = others p2 here (done (p2 here) e3);
-  }, tt)
+  run3 = (
+    p2,
+    run2,
+    record {
+      place = place_here;
+      allowed = record { fresh = refl; after_lead = λ ne. absurd (ne refl); takes = refl; snapshot = refl; lead = refl; changes = refl };
+      step = (refl, (lit≤ tt, refl, lit< tt), refl);
+      others = others p2 here (done (p2 here) e3);
+    },
+    tt,
+  )
 
   run4 : IsWorldRun kinds 2 1 r4 p4
-  run4 = (p3, run3, record {
-    place = place_here;
-    allowed = record { lead = refl; here = refl; all = all_voted; kept = refl; vector = refl };
-    step = (refl, refl, refl);
-    others = others p3 here (cut (p3 here) (Decided first vector1));
-  }, tt)
+  run4 = (
+    p3,
+    run3,
+    record {
+      place = place_here;
+      allowed = record { lead = refl; here = refl; all = all_voted; kept = refl; vector = refl };
+      step = (refl, refl, refl);
+      others = others p3 here (cut (p3 here) (Decided first vector1));
+    },
+    tt,
+  )
     where
       all_voted : (q : PartId) → takes_part (plan_of 2 1 r4) first q ≡ true → voted r3 first q ≡ true
       all_voted q h = ⊎_elim
@@ -284,104 +301,154 @@ module _ {S E : Type 0} (kinds : Kinds S E) (known : kinds.has CounterPn ≡ tru
   own_bound = record { most = le_refl 1001; below = λ u h. clash h (none_left (same_tx first u)); reached = inl refl }
 
   run5 : IsWorldRun kinds 2 1 r5 p5
-  run5 = (p4, run4, record {
-    place = place_here;
-    allowed = tt;
-    step = record {
-      down = refl;
-      found = inr refl;
-      up = refl;
-      whole = refl;
-      clock = refl;
-      width = refl;
-      bounds = λ j o. subst (λ i. entry again.bounds i ≡ bound again.log i) (sym (other_of_first j o)) refl;
-      heard = refl;
-      sent = refl;
-      shown = refl;
-      shown_bounds = record { width = refl; own = own_bound; others = λ j o. subst (λ i. entry (1001 ∷ 0 ∷ []) i ≡ entry again.bounds i) (sym (other_of_first j o)) refl };
-      last = refl;
-      members = λ t. sym (none_left (same_tx first t));
-      timed = tt;
-      order = tt;
-    };
-    others = others p4 here again;
-  }, tt)
+  run5 = (
+    p4,
+    run4,
+    record {
+      place = place_here;
+      allowed = tt;
+      step = record {
+        down = refl;
+        found = inr refl;
+        up = refl;
+        whole = refl;
+        clock = refl;
+        width = refl;
+        bounds = λ j o. subst (λ i. entry again.bounds i ≡ bound again.log i) (sym (other_of_first j o)) refl;
+        heard = refl;
+        sent = refl;
+        shown = refl;
+        shown_bounds = record { width = refl; own = own_bound; others = λ j o. subst (λ i. entry (1001 ∷ 0 ∷ []) i ≡ entry again.bounds i) (sym (other_of_first j o)) refl };
+        last = refl;
+        members = λ t. sym (none_left (same_tx first t));
+        timed = tt;
+        order = tt;
+      };
+      others = others p4 here again;
+    },
+    tt,
+  )
 
   run6 : IsWorldRun kinds 2 1 r6 p6
-  run6 = (p5, run5, record {
-    place = place_here;
-    allowed = tt;
-    step = (refl, record { from = refl; part = refl; to = second_of_first; lo = refl; hi = own_bound; order = (tt, tt); members = λ u. in_stretch (same_tx first u); exact = ((refl, refl), tt) }, refl);
-    others = others p5 here (done (p5 here) e6);
-  }, tt)
+  run6 = (
+    p5,
+    run5,
+    record {
+      place = place_here;
+      allowed = tt;
+      step = (refl, record { from = refl; part = refl; to = second_of_first; lo = refl; hi = own_bound; order = (tt, tt); members = λ u. in_stretch (same_tx first u); exact = ((refl, refl), tt) }, refl);
+      others = others p5 here (done (p5 here) e6);
+    },
+    tt,
+  )
 
   run7 : IsWorldRun kinds 2 1 r7 p7
-  run7 = (p6, run6, record {
-    place = place_there;
-    allowed = record { from = first_of_second; to = refl; part = refl; asked = None; shown = inl (refl, refl) };
-    step = (refl, (le_refl 0, lit< tt), refl);
-    others = others p6 there (done (p6 there) e7);
-  }, tt)
+  run7 = (
+    p6,
+    run6,
+    record {
+      place = place_there;
+      allowed = record { from = first_of_second; to = refl; part = refl; asked = None; shown = inl (refl, refl) };
+      step = (refl, (le_refl 0, lit< tt), refl);
+      others = others p6 there (done (p6 there) e7);
+    },
+    tt,
+  )
 
   run8 : IsWorldRun kinds 2 1 r8 p7
-  run8 = (p7, run7, record {
-    place = place_there;
-    allowed = record { from = first_of_second; to = refl; part = refl; asked = None; shown = inr (inl (refl, refl)) };
-    step = ((refl, (refl, lit≤ tt, le_refl 1001)), refl);
-    others = λ q ne. refl;
-  }, tt)
+  run8 = (
+    p7,
+    run7,
+    record {
+      place = place_there;
+      allowed = record { from = first_of_second; to = refl; part = refl; asked = None; shown = inr (inl (refl, refl)) };
+      step = ((refl, (refl, lit≤ tt, le_refl 1001)), refl);
+      others = λ q ne. refl;
+    },
+    tt,
+  )
 
   run9 : IsWorldRun kinds 2 1 r9 p9
-  run9 = (p7, run8, record {
-    place = place_there;
-    allowed = tt;
-    step = (refl, record { width = refl; own = record { most = le_refl 0; below = λ u h. off h; reached = inl refl }; others = λ j o. subst (λ i. entry (1001 ∷ 0 ∷ []) i ≡ entry (p7 there).bounds i) (sym (other_of_second j o)) refl }, refl);
-    others = others p7 there (done (p7 there) e9);
-  }, tt)
+  run9 = (
+    p7,
+    run8,
+    record {
+      place = place_there;
+      allowed = tt;
+      step = (refl, record { width = refl; own = record { most = le_refl 0; below = λ u h. off h; reached = inl refl }; others = λ j o. subst (λ i. entry (1001 ∷ 0 ∷ []) i ≡ entry (p7 there).bounds i) (sym (other_of_second j o)) refl }, refl);
+      others = others p7 there (done (p7 there) e9);
+    },
+    tt,
+  )
 
   run10 : IsWorldRun kinds 2 1 r10 p10
-  run10 = (p9, run9, record {
-    place = place_there;
-    allowed = record { least = lit≤ tt; most = lit≤ tt; shown = inl (refl, refl) };
-    step = (refl, record { width = refl; others = λ j o. subst (λ i. entry (1001 ∷ 0 ∷ []) i ≡ stable_entry 1 there (done (p9 there) e10) i) (sym (other_of_second j o)) refl }, refl);
-    others = others p9 there (done (p9 there) e10);
-  }, tt)
+  run10 = (
+    p9,
+    run9,
+    record {
+      place = place_there;
+      allowed = record { least = lit≤ tt; most = lit≤ tt; shown = inl (refl, refl) };
+      step = (refl, record { width = refl; others = λ j o. subst (λ i. entry (1001 ∷ 0 ∷ []) i ≡ stable_entry 1 there (done (p9 there) e10) i) (sym (other_of_second j o)) refl }, refl);
+      others = others p9 there (done (p9 there) e10);
+    },
+    tt,
+  )
 
   run11 : IsWorldRun kinds 2 1 r11 p11
-  run11 = (p10, run10, record {
-    place = place_there;
-    allowed = tt;
-    step = (refl, record { early = lit< tt; named = refl; handed = refl; width = refl; own = refl; stable = λ j o. subst (λ i. entry snapshot2 i ≡ stable_entry 1 there (p10 there) i) (sym (other_of_second j o)) refl; waited = λ j o. subst (λ i. entry vector1 i ≤ entry snapshot2 i) (sym (other_of_second j o)) (lit≤ tt) }, refl);
-    others = others p10 there (done (p10 there) e11);
-  }, tt)
+  run11 = (
+    p10,
+    run10,
+    record {
+      place = place_there;
+      allowed = tt;
+      step = (refl, record { early = lit< tt; named = refl; handed = refl; width = refl; own = refl; stable = λ j o. subst (λ i. entry snapshot2 i ≡ stable_entry 1 there (p10 there) i) (sym (other_of_second j o)) refl; waited = λ j o. subst (λ i. entry vector1 i ≤ entry snapshot2 i) (sym (other_of_second j o)) (lit≤ tt) }, refl);
+      others = others p10 there (done (p10 there) e11);
+    },
+    tt,
+  )
 
   seen_there : (b : Bool) → (b || false) ≡ (((b || false) || false) && (touches (cond (b || false) (cond b (change ∷ []) []) []) counter && le (cond (b || false) (cond b vector1 []) []) snapshot2))
   seen_there true = refl
   seen_there false = refl
 
   run12 : IsWorldRun kinds 2 1 r12 p12
-  run12 = (p11, run11, record {
-    place = place_there;
-    allowed = record { site = refl; who = []; dependency = vector1; begun = inl (refl, refl); place = refl; earlier = refl };
-    step = (refl, (record { clock = le_refl 1; free = λ u h. off h }, record { order = (tt, tt); members = λ u. seen_there (same_tx first u); exact = ((refl, refl), tt) }, known, refl), refl);
-    others = others p11 there (done (p11 there) e12);
-  }, tt)
+  run12 = (
+    p11,
+    run11,
+    record {
+      place = place_there;
+      allowed = record { site = refl; who = []; dependency = vector1; begun = inl (refl, refl); place = refl; earlier = refl };
+      step = (refl, (record { clock = le_refl 1; free = λ u h. off h }, record { order = (tt, tt); members = λ u. seen_there (same_tx first u); exact = ((refl, refl), tt) }, known, refl), refl);
+      others = others p11 there (done (p11 there) e12);
+    },
+    tt,
+  )
 
   run13 : IsWorldRun kinds 2 1 r13 p13
-  run13 = (p12, run12, record {
-    place = place_there;
-    allowed = tt;
-    step = (refl, record { early = lit< tt; named = refl; handed = refl; width = refl; own = refl; stable = λ j o. subst (λ i. entry snapshot3 i ≡ stable_entry 1 there (p12 there) i) (sym (other_of_second j o)) refl; waited = λ j o. subst (λ i. entry (0 ∷ 5000 ∷ []) i ≤ entry snapshot3 i) (sym (other_of_second j o)) (lit≤ tt) }, refl);
-    others = others p12 there (done (p12 there) e13);
-  }, tt)
+  run13 = (
+    p12,
+    run12,
+    record {
+      place = place_there;
+      allowed = tt;
+      step = (refl, record { early = lit< tt; named = refl; handed = refl; width = refl; own = refl; stable = λ j o. subst (λ i. entry snapshot3 i ≡ stable_entry 1 there (p12 there) i) (sym (other_of_second j o)) refl; waited = λ j o. subst (λ i. entry (0 ∷ 5000 ∷ []) i ≤ entry snapshot3 i) (sym (other_of_second j o)) (lit≤ tt) }, refl);
+      others = others p12 there (done (p12 there) e13);
+    },
+    tt,
+  )
 
   run14 : IsWorldRun kinds 2 1 r14 p13
-  run14 = (p13, run13, record {
-    place = place_there;
-    allowed = record { site = refl; who = []; dependency = 0 ∷ 5000 ∷ []; begun = inl (refl, refl) };
-    step = ((refl, (refl, lit< tt)), refl);
-    others = λ q ne. refl;
-  }, tt)
+  run14 = (
+    p13,
+    run13,
+    record {
+      place = place_there;
+      allowed = record { site = refl; who = []; dependency = 0 ∷ 5000 ∷ []; begun = inl (refl, refl) };
+      step = ((refl, (refl, lit< tt)), refl);
+      others = λ q ne. refl;
+    },
+    tt,
+  )
 
   -- the read at the other site sees what the crash nearly took, and is right in the whole run
   is_lawful : IsLawfulWorld kinds (plan_of 2 1 r14) r14

@@ -1,22 +1,22 @@
 -- The fold order: parts in it are one list, and causes come before what they have caused.
-use Rattle.std.proofs.Common.{◌≡◌, ⊎_elim, ℕ, zero, suc, ◌+◌, ◌<◌, ◌≤◌, cond, leb, Bool, true, false, ◌&&◌, ◌||◌, List, [], ◌∷◌, ◌++◌, length, refl, sym, ap, ◌∙◌, subst, arith, le_trans}
-use Rattle.std.specs.Prelude.{⊤, filter, slice_index, slice_set}
+use Rattle.std.proofs.Common.{◌≡◌, ⊎_elim, ℕ, zero, suc, ◌<◌, ◌≤◌, cond, leb, Bool, true, false, ◌&&◌, ◌||◌, List, [], ◌∷◌, ◌++◌, length, refl, sym, ap, ◌∙◌, subst, arith}
+use Rattle.std.specs.Prelude.{filter, slice_index, slice_set}
 use Rattle.std.specs.Cmp.{IsTotalOrder, nat_cmp_is}
 use Rattle.std.specs.declared.cmp.Ordering.{Ordering}
-use Rattle.std.specs.declared.cmp.Ordering.TheVariants.{Less, Equal, Greater}
+use Rattle.std.specs.declared.cmp.Ordering.TheVariants.{Less, Equal}
 use Rattle.std.specs.Ordering.{nat_cmp, ordering_then}
 use Rattle.std.proofs.lemmas.Cmp.{nat_cmp_total, on_total, then_total, tied_itself}
-use Rattle.std.proofs.lemmas.Bool.{cases_Bool, or_left, or_right, or_cases, or_from, and_left, and_right, and_parts, cond-true, cond-false, leb-true, false_from_ne_true}
+use Rattle.std.proofs.lemmas.Bool.{cases_Bool, or_left, or_right, or_cases, and_right, and_parts, leb-true, false_from_ne_true}
 use Rattle.site_vector.specs.declared.ids.TxId.{TxId}
 use Rattle.site_vector.specs.Ids.{same_tx}
-use Rattle.site_vector.specs.Order.{tx_cmp, tx_cmp_total, same_tx_is, same_tx_refl, same_tx_symm}
+use Rattle.site_vector.specs.Order.{tx_cmp, tx_cmp_total, same_tx_is, same_tx_refl}
 use Rattle.site_vector.specs.Vector.{le, sum}
 use Rattle.site_vector.specs.VectorLaws.{sum_cons}
 use Rattle.crdt_core.specs.declared.record.Upd.{Upd}
 use Rattle.crdt_core.specs.declared.record.Part.{Part}
 use Rattle.world_model.specs.Log.{lists}
 use Rattle.world_model.specs.Partition.{Precede, Ascends, fold_cmp, AreParts}
-use Rattle.world_model.proofs.Names.{clash, off}
+use Rattle.world_model.proofs.Names.{off}
 
 less_not_equal : Less ≡ Equal → ⊥
 less_not_equal e = absurd (cc e)
@@ -83,12 +83,12 @@ module _ {E : Type 0} (f : TxId → List ℕ) (g : TxId → List (Upd E)) where
   one_fold (x ∷ xs) [] p q h k s = off (sym (s x.tx) ∙ or_left _ _ (same_tx_refl x.tx))
   one_fold (x ∷ xs) (y ∷ ys) p q h k s =
       let same : x.tx ≡ y.tx = ⊎_elim
-          (λ (e : same_tx y.tx x.tx ≡ true). sym (same_tx_is y.tx x.tx e))
-          (λ (e : lists ys x.tx ≡ true). ⊎_elim
-          (λ (d : same_tx x.tx y.tx ≡ true). same_tx_is x.tx y.tx d)
-          (λ (d : lists xs y.tx ≡ true). absurd (before_back f x.tx y.tx (precede_lists x xs y.tx p.0.0 p.1 h.0 d) (precede_lists y ys x.tx q.0.0 q.1 k.0 e)))
-          (or_cases _ _ (s y.tx ∙ or_left _ _ (same_tx_refl y.tx))))
-          (or_cases _ _ (sym (s x.tx) ∙ or_left _ _ (same_tx_refl x.tx))) in
+      (λ (e : same_tx y.tx x.tx ≡ true). sym (same_tx_is y.tx x.tx e))
+      (λ (e : lists ys x.tx ≡ true). ⊎_elim
+      (λ (d : same_tx x.tx y.tx ≡ true). same_tx_is x.tx y.tx d)
+      (λ (d : lists xs y.tx ≡ true). absurd (before_back f x.tx y.tx (precede_lists x xs y.tx p.0.0 p.1 h.0 d) (precede_lists y ys x.tx q.0.0 q.1 k.0 e)))
+      (or_cases _ _ (s y.tx ∙ or_left _ _ (same_tx_refl y.tx))))
+      (or_cases _ _ (sym (s x.tx) ∙ or_left _ _ (same_tx_refl x.tx))) in
       let head : x ≡ y = part_one x y same p.0 q.0 in
       let k' : Precede fold_cmp x ys = subst (λ z. Precede fold_cmp z ys) (sym head) k.0 in
       let s' : (w : TxId) → (same_tx x.tx w || lists xs w) ≡ (same_tx x.tx w || lists ys w) = λ w. s w ∙ ap (λ z. same_tx z.tx w || lists ys w) (sym head) in

@@ -1,34 +1,33 @@
 -- The updates that a read folds are a history of their kind, and the effects that are stored are its effects.
-use Rattle.std.proofs.Common.{◌≡◌, ◌≢◌, ◌⊎◌, ⊎_elim, inl, inr, ℕ, ◌+◌, ◌-◌, ◌<◌, ◌≤◌, cond, ltb, Bool, true, false, ◌&&◌, ◌||◌, not, List, [], ◌∷◌, ◌++◌, length, Option, refl, sym, ap, ◌∙◌, subst, subst₂, arith, append-nil, append_assoc}
+use Rattle.std.proofs.Common.{◌≡◌, ◌⊎◌, ⊎_elim, inl, inr, ℕ, ◌-◌, ◌<◌, ◌≤◌, cond, ltb, Bool, true, false, ◌&&◌, ◌||◌, not, List, [], ◌∷◌, ◌++◌, length, refl, sym, ap, ◌∙◌, subst, arith, append-nil, append_assoc}
 use Rattle.std.specs.Prelude.{⊤, ◌==◌, filter, map}
 use Rattle.std.specs.declared.cmp.Ordering.TheVariants.{Less}
-use Rattle.std.specs.List.{list_any, list_all}
+use Rattle.std.specs.List.{list_any}
 use Rattle.std.proofs.lemmas.List.Folds.{list_any-append}
-use Rattle.std.proofs.lemmas.Bool.{cases_Bool, or_left, or_right, or_cases, or_from, and_left, and_right, and_from, and_parts, cond-true, cond-false, ltb-true, lt-ltb, le-ltb, eqb-true, eq-eqb, ne_eqb, false_from_ne_true}
+use Rattle.std.proofs.lemmas.Bool.{cases_Bool, or_left, or_right, or_cases, or_from, and_left, and_right, and_from, and_parts, cond-true, cond-false, ltb-true, lt-ltb, le-ltb, eq-eqb, ne_eqb, false_from_ne_true}
 use Rattle.site_vector.specs.declared.ids.PartId.{PartId}
 use Rattle.site_vector.specs.declared.ids.TxId.{TxId}
 use Rattle.site_vector.specs.declared.ids.Dot.{Dot}
 use Rattle.site_vector.specs.Ids.{same_tx, same_dot}
 use Rattle.site_vector.specs.Order.{same_tx_is, same_tx_refl, same_tx_symm}
 use Rattle.site_vector.specs.Vector.{le, entry}
-use Rattle.crdt_core.specs.declared.kind.Kind.{Kind}
 use Rattle.crdt_core.specs.declared.object.ObjectId.{ObjectId}
 use Rattle.crdt_core.specs.declared.record.Upd.{Upd}
 use Rattle.crdt_core.specs.declared.record.Part.{Part}
 use Rattle.crdt_core.specs.Kinds.{reads_state}
 use Rattle.crdt_core.specs.Fits.{fits}
 use Rattle.crdt_core.specs.Objects.{same_object, same_object-true, same_object-refl}
-use Rattle.crdt_core.specs.Seen.{Update, sees, has_dot}
-use Rattle.crdt_core.specs.History.{IsClosed, IsNext, IsHistory, IsStamped, folded, seen_by, effects, effect_after, state_after}
+use Rattle.crdt_core.specs.Seen.{Update, sees}
+use Rattle.crdt_core.specs.History.{IsClosed, IsNext, IsHistory, IsStamped, folded, seen_by, effects, effect_after}
 use Rattle.crdt_core.specs.Law.{made_by, all_fit}
 use Rattle.world_model.specs.Log.{touches, lists}
 use Rattle.world_model.specs.Event.{Entry, is_decided, time_of}
 use Rattle.world_model.specs.Partition.{Kinds, Ascends, fold_cmp, AreParts, effects_from, effects_of, state_read}
-use Rattle.world_model.specs.Plan.{Plan, twin, takes_part, changes_at, commit_vector}
+use Rattle.world_model.specs.Plan.{Plan, changes_at, commit_vector}
 use Rattle.world_model.specs.WorldLaw.{sees_tx, IsRightFold}
-use Rattle.world_model.specs.Meaning.{Asked, has_seen, update_of, updates_from, updates_of}
-use Rattle.world_model.proofs.Names.{clash, off, le_at, entry_same}
-use Rattle.world_model.proofs.Folds.{sum_le, sum_raised, before, before_self, before_back, before_sum, one_fold, filter_parts, filter_ascends, filter_lists, lists_append, front_before, before_front, parts_front, ascends_front}
+use Rattle.world_model.specs.Meaning.{Asked, has_seen, update_of, updates_from}
+use Rattle.world_model.proofs.Names.{clash, le_at, entry_same}
+use Rattle.world_model.proofs.Folds.{sum_le, sum_raised, before, before_sum, one_fold, filter_parts, filter_ascends, filter_lists}
 
 abbrev pub EachUpdate : (Update → Type 0) → List Update → Type 0
 EachUpdate P [] = ⊤
@@ -182,9 +181,9 @@ module _ {E : Type 0} where
         old_closed v x s d k = ⊎_elim
             (λ (q : lists done v.dot.tx ≡ true).
             let saw_v : sees_tx plan run (plan.snapshot t) v.dot.tx ≡ true = ⊎_elim
-                (λ (y : sees_tx plan run (plan.snapshot t) v.dot.tx ≡ true). y)
-                (λ (y : (same_tx v.dot.tx t && ltb v.dot.index a.change.index) ≡ true). clash (and_parts _ _ y).0 (r.apart v.dot.tx q))
-                (or_cases _ _ s) in
+            (λ (y : sees_tx plan run (plan.snapshot t) v.dot.tx ≡ true). y)
+            (λ (y : (same_tx v.dot.tx t && ltb v.dot.index a.change.index) ≡ true). clash (and_parts _ _ y).0 (r.apart v.dot.tx q))
+            (or_cases _ _ s) in
             or_left _ _ (⊎_elim
             (λ (y : sees_tx plan run (plan.snapshot v.dot.tx) d.tx ≡ true). facts.closed (plan.snapshot t) v.dot.tx d.tx saw_v y)
             (λ (y : (same_tx d.tx v.dot.tx && ltb d.index v.dot.index) ≡ true). subst (λ z. sees_tx plan run (plan.snapshot t) z ≡ true) (sym (same_tx_is d.tx v.dot.tx (and_parts _ _ y).0)) saw_v)
@@ -273,8 +272,8 @@ module _ {E : Type 0} where
       told_asks done t r [] earlier h m x = subst (λ l. Told done t l h) (sym (append-nil earlier)) x
       told_asks done t r (a ∷ asks) earlier h m x =
           let one : Told done t (earlier ++ a.change ∷ []) (cond (same_object a.change.object o) (update_of plan run t a ∷ h) h) = ⊎_elim
-              (λ (k : same_object a.change.object o ≡ true). subst (Told done t (earlier ++ a.change ∷ [])) (sym (cond-true _ (update_of plan run t a ∷ h) h k)) (told_more done t earlier r a m.0.above m.0 (same_object-true a.change.object o k) h x))
-              (λ (k : same_object a.change.object o ≡ false). subst (Told done t (earlier ++ a.change ∷ [])) (sym (cond-false _ (update_of plan run t a ∷ h) h k)) (told_other done t earlier r a m.0.above k h x))
-              (cases_Bool (same_object a.change.object o)) in
+          (λ (k : same_object a.change.object o ≡ true). subst (Told done t (earlier ++ a.change ∷ [])) (sym (cond-true _ (update_of plan run t a ∷ h) h k)) (told_more done t earlier r a m.0.above m.0 (same_object-true a.change.object o k) h x))
+          (λ (k : same_object a.change.object o ≡ false). subst (Told done t (earlier ++ a.change ∷ [])) (sym (cond-false _ (update_of plan run t a ∷ h) h k)) (told_other done t earlier r a m.0.above k h x))
+          (cases_Bool (same_object a.change.object o)) in
           subst (λ l. Told done t l (updates_from plan run o t h (a ∷ asks))) (append_assoc earlier (a.change ∷ []) (map (λ y. y.change) asks))
           (told_asks done t r asks (earlier ++ a.change ∷ []) (cond (same_object a.change.object o) (update_of plan run t a ∷ h) h) m.1 one)

@@ -1,5 +1,5 @@
 -- The part intervals: what a message left out comes later, so a message sent stays exact.
-use Rattle.std.proofs.Common.{◌≡◌, ◌≢◌, ◌⊎◌, ⊎_elim, inl, inr, ℕ, ◌<◌, ◌≤◌, leb, ltb, max, Bool, true, false, ◌&&◌, List, [], ◌∷◌, Option, refl, sym, ap, ◌∙◌, subst, subst₂, arith, le_refl, le_trans}
+use Rattle.std.proofs.Common.{◌≡◌, ◌⊎◌, ⊎_elim, inl, inr, ℕ, ◌<◌, ◌≤◌, leb, ltb, Bool, true, false, ◌&&◌, List, [], ◌∷◌, Option, refl, sym, ap, ◌∙◌, subst, subst₂, arith, le_refl, le_trans}
 use Rattle.std.proofs.lemmas.Bool.{cases_Bool, or_right, and_left, and_parts, leb-true, cond-true, cond-false, cond_both}
 use Rattle.site_vector.specs.declared.ids.PartId.{PartId}
 use Rattle.site_vector.specs.declared.ids.TxId.{TxId}
@@ -8,9 +8,9 @@ use Rattle.site_vector.specs.Order.{same_part_refl}
 use Rattle.site_vector.specs.Vector.{entry}
 use Rattle.crdt_core.specs.declared.record.Message.{Message}
 use Rattle.crdt_core.specs.declared.record.Record.{Record}
-use Rattle.world_model.specs.Log.{lists, committed_at, prepared, prepare_time, prepared_changes, committed, aborted}
+use Rattle.world_model.specs.Log.{committed_at, prepared, prepare_time, prepared_changes, committed, aborted}
 use Rattle.world_model.specs.Event.{Event, Sent, Entry, is_decided, time_of, sent_after, sent, WasShown, EventsAre}
-use Rattle.world_model.specs.Partition.{Kinds, PartState, Image, PartStep, IsMessage, stream_cmp}
+use Rattle.world_model.specs.Partition.{Kinds, PartState, Image, PartStep, IsMessage}
 use Rattle.world_model.specs.Plan.{Plan, takes_part, vector_at, commit_vector}
 use Rattle.world_model.specs.WorldLaw.{IsExact}
 use Rattle.world_model.proofs.Names.{part_cases, part_same, part_other}

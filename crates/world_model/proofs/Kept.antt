@@ -1,16 +1,16 @@
 -- The law of the world under one plan: every part holds at the start and is kept by each step.
-use Rattle.std.proofs.Common.{◌||◌, ◌≡◌, ◌≢◌, ⊎_elim, inl, ℕ, zero, suc, ◌+◌, ◌-◌, ◌<◌, ◌≤◌, max, Bool, true, false, List, [], ◌∷◌, length, Option, refl, sym, ◌∙◌, ap, subst, arith, le_refl, le_trans, le_of_lt}
+use Rattle.std.proofs.Common.{◌||◌, ◌≡◌, ⊎_elim, inl, ℕ, zero, suc, ◌+◌, ◌-◌, ◌<◌, ◌≤◌, max, true, false, List, [], ◌∷◌, length, Option, refl, sym, ◌∙◌, ap, subst, arith, le_refl, le_of_lt}
 use Rattle.std.specs.Prelude.{⊤, slice_index}
-use Rattle.std.proofs.lemmas.Bool.{cases_Bool, cases_eq, cases_lt, and_from, and_parts, and_right, or_parts, false_from_ne_true}
+use Rattle.std.proofs.lemmas.Bool.{cases_eq, cases_lt, and_from, and_parts, and_right, or_parts, false_from_ne_true}
 use Rattle.site_vector.specs.declared.ids.PartId.{PartId}
 use Rattle.site_vector.specs.declared.ids.TxId.{TxId}
 use Rattle.site_vector.specs.Vector.{le, entry}
 use Rattle.crdt_core.specs.declared.record.Message.{Message}
 use Rattle.crdt_core.specs.declared.record.Record.{Record}
 use Rattle.world_model.specs.Log.{ceiling, prepared, committed, aborted, decided, pending, taken, bound}
-use Rattle.world_model.specs.Event.{AskRead, AskUpdate, AskPrepare, AskFinish, ClockBehind, IsGone, Refused, shown, Event, Began, Updated, Read, Sent, Restarted, Entry, attempt, is_decided, time_of, sent, WasShown, EventsAre}
+use Rattle.world_model.specs.Event.{AskRead, AskUpdate, AskPrepare, AskFinish, ClockBehind, IsGone, Refused, shown, Event, Began, Updated, Read, Sent, Restarted, Entry, attempt, is_decided, time_of, sent, EventsAre}
 use Rattle.world_model.specs.Partition.{Kinds, PartState, Image, IsOther, IsBegin, end_of_time, vector_of, new_part, PartStep}
-use Rattle.world_model.specs.Plan.{Plan, home, takes_part, vector_at, commit_vector, IsAllowed, IsSession, IsPlanned, WorldStep, IsRun}
+use Rattle.world_model.specs.Plan.{Plan, home, takes_part, commit_vector, IsAllowed, IsSession, IsPlanned, WorldStep, IsRun}
 use Rattle.world_model.specs.WorldLaw.{sees_tx, IsExact, IsRight, ClocksAre, HoldsPast, KeepsIs, KeepsDecided, HasCauseAt, HaveCausesAt}
 use Rattle.world_model.specs.Shown.{ShowAt}
 use Rattle.world_model.specs.Meaning.{HaveMeaning, AreCausal}

@@ -1,5 +1,5 @@
 -- The part leases: no clock value was shown above the last ceiling of any image, and the clock law.
-use Rattle.std.proofs.Common.{◌≡◌, Bool, ◌≢◌, ◌⊎◌, ⊎_elim, inl, inr, ℕ, ◌+◌, ◌<◌, ◌≤◌, leb, ltb, max, min, cond, true, false, ◌&&◌, List, [], ◌∷◌, ◌++◌, Option, refl, sym, ap, ◌∙◌, subst, arith, le_refl, le_of_eq, le_trans, subst₂}
+use Rattle.std.proofs.Common.{◌≡◌, Bool, ◌≢◌, ◌⊎◌, ⊎_elim, inl, inr, ℕ, ◌+◌, ◌<◌, ◌≤◌, leb, max, min, cond, true, false, List, [], ◌∷◌, ◌++◌, refl, sym, ap, ◌∙◌, subst, arith, le_of_eq, subst₂}
 use Rattle.std.proofs.lemmas.Bool.{cases_Bool, cond_both, cond-true, cond-false, leb-true, leb-false}
 use Rattle.site_vector.specs.declared.ids.PartId.{PartId}
 use Rattle.site_vector.specs.declared.ids.TxId.{TxId}
@@ -13,8 +13,7 @@ use Rattle.crdt_core.specs.declared.record.Record.{Record}
 use Rattle.crdt_core.specs.declared.record.Record.TheVariants.{Lease, Prepare, Decide, Finish, Abort, Batch}
 use Rattle.world_model.specs.Log.{ceiling, pending, grown, IsImage}
 use Rattle.world_model.specs.Event.{Refused, Event, Ticked, Began, Updated, Read, Prepared, Decided, Finished, Aborted, Sent, Took, Reported, Heard, Crashed, Restarted, Cut, Entry, shown_after, shown, missed_after, missed}
-use Rattle.world_model.specs.Partition.{Kinds, PartState, Image, end_of_time, lease_for, above, batch_of, records, now_after, MayDo, done, cut, down, PartStep}
-use Rattle.world_model.specs.Plan.{Plan}
+use Rattle.world_model.specs.Partition.{Kinds, PartState, Image, end_of_time, lease_for, above, batch_of, records, now_after, MayDo, done, cut, PartStep}
 use Rattle.world_model.specs.WorldLaw.{ClockIs}
 use Rattle.world_model.proofs.Names.{clash, part_cases, part_other}
 use Rattle.world_model.proofs.Moves.{image_log, grown_image, grown_last}

@@ -1,36 +1,28 @@
 -- Values are the meaning of what is read, and stamps are due by it: by the law of a kind, over the fold order.
-use Rattle.std.proofs.Common.{◌≡◌, ◌⊎◌, ⊎_elim, inl, ℕ, ◌+◌, ◌<◌, ◌≤◌, cond, Bool, true, false, ◌&&◌, ◌||◌, List, [], ◌∷◌, ◌++◌, length, refl, sym, ap, ◌∙◌, subst, subst₂, arith, append-nil, append_assoc, le_refl}
-use Rattle.std.specs.Prelude.{⊤, ◌==◌, filter, map, Option}
-use Rattle.std.specs.List.{list_any}
+use Rattle.std.proofs.Common.{◌≡◌, ⊎_elim, inl, ℕ, true, ◌&&◌, List, [], ◌∷◌, ◌++◌, refl, sym, ap, ◌∙◌, subst, append-nil, append_assoc}
+use Rattle.std.specs.Prelude.{map}
 use Rattle.std.specs.declared.cmp.Ordering.TheVariants.{Less}
-use Rattle.std.proofs.lemmas.List.Folds.{list_any-append}
-use Rattle.std.proofs.lemmas.Bool.{cases_Bool, or_left, or_right, or_cases, and_from, and_parts, cond-true, cond-false, eqb-true, false_from_ne_true}
+use Rattle.std.proofs.lemmas.Bool.{or_left, or_right, and_from, and_parts, false_from_ne_true}
 use Rattle.site_vector.specs.declared.ids.PartId.{PartId}
 use Rattle.site_vector.specs.declared.ids.TxId.{TxId}
-use Rattle.site_vector.specs.declared.ids.Dot.{Dot}
-use Rattle.site_vector.specs.Ids.{same_part, same_tx}
-use Rattle.site_vector.specs.Order.{same_part_is, same_part_refl, same_tx_is, same_tx_refl}
+use Rattle.site_vector.specs.Ids.{same_tx}
+use Rattle.site_vector.specs.Order.{same_tx_is, same_tx_refl}
 use Rattle.site_vector.specs.Vector.{le}
 use Rattle.crdt_core.specs.declared.object.ObjectId.{ObjectId}
-use Rattle.crdt_core.specs.declared.operation.Op.{Op}
 use Rattle.crdt_core.specs.declared.record.Upd.{Upd}
 use Rattle.crdt_core.specs.declared.record.Part.{Part}
-use Rattle.crdt_core.specs.Kinds.{reads_state}
-use Rattle.crdt_core.specs.Objects.{same_object, same_object-refl}
 use Rattle.crdt_core.specs.Seen.{Update}
-use Rattle.crdt_core.specs.History.{folded, state_after}
+use Rattle.crdt_core.specs.History.{folded}
 use Rattle.crdt_core.specs.Stamps.{stamp_due}
 use Rattle.world_model.specs.Log.{touches, lists}
-use Rattle.world_model.specs.Event.{Event, Updated, Read, Entry, is_decided, time_of, shown, EventsAre, attempt}
-use Rattle.world_model.specs.Partition.{Kinds, PartState, Ascends, fold_cmp, AreParts, effects_from, effects_of, state_read, PartStep, IsUpdate}
-use Rattle.world_model.specs.Plan.{Plan, is_some_update, IsAsked, IsAllowed, twin, takes_part, changes_at, commit_vector, change_by, updates_at, update_count}
-use Rattle.world_model.specs.WorldLaw.{sees_tx, IsRightFold, IsRight}
-use Rattle.world_model.specs.Meaning.{Asked, asked_by, asked_at, has_seen, update_of, updates_from, updates_of, read_by, HasMeaning, HaveMeaning}
-use Rattle.world_model.specs.World.{plan_of, IsNew, IsWorldRun}
+use Rattle.world_model.specs.Event.{Entry, is_decided}
+use Rattle.world_model.specs.Partition.{Kinds, state_read}
+use Rattle.world_model.specs.Plan.{Plan, is_some_update, twin, takes_part, changes_at, commit_vector}
+use Rattle.world_model.specs.WorldLaw.{sees_tx, IsRightFold}
+use Rattle.world_model.specs.Meaning.{Asked, asked_at, update_of, updates_from, updates_of}
 use Rattle.world_model.proofs.Names.{clash, off}
-use Rattle.world_model.proofs.Leases.{Leases}
 use Rattle.world_model.proofs.Folds.{before, before_self, before_back, lists_append, front_before, before_front, parts_front, parts_back, ascends_front}
-use Rattle.world_model.proofs.Histories.{Facts, IsMade, AreMade, has_index, EachUpdate, each_map, Ready, IsOld, Told, of_snoc, no_self, seen_before, told_asks, told_more, effect_is}
+use Rattle.world_model.proofs.Histories.{Facts, IsMade, AreMade, has_index, each_map, Ready, IsOld, Told, of_snoc, no_self, seen_before, told_asks, told_more, effect_is}
 
 module _ {E : Type 0} where
   -- what a partition and its twins call made is the same

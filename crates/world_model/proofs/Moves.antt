@@ -1,7 +1,7 @@
 -- What a step makes of what a restart may find: each image after it tells what an image before it and at most one record more tell.
-use Rattle.std.proofs.Common.{◌≡◌, ◌≢◌, ◌⊎◌, ⊎_elim, inl, inr, ℕ, ◌+◌, ◌<◌, ◌≤◌, ◌^◌, min, leb, ltb, cond, Bool, true, false, ◌&&◌, ◌||◌, List, [], ◌∷◌, ◌++◌, Option, Some, refl, sym, ap, ◌∙◌, subst, arith, append-nil}
+use Rattle.std.proofs.Common.{◌≡◌, ◌≢◌, ◌⊎◌, ⊎_elim, inl, inr, ℕ, ◌+◌, ◌<◌, ◌≤◌, min, leb, cond, Bool, true, false, ◌||◌, List, [], ◌∷◌, ◌++◌, Option, Some, refl, sym, ap, ◌∙◌, subst, arith, append-nil}
 use Rattle.std.specs.Prelude.{⊤}
-use Rattle.std.proofs.lemmas.Bool.{cases_eq, cases_Bool, or_left, or_cases, cond-true, cond-false}
+use Rattle.std.proofs.lemmas.Bool.{cases_Bool, or_left, or_cases, cond-true}
 use Rattle.site_vector.specs.declared.ids.PartId.{PartId}
 use Rattle.site_vector.specs.declared.ids.TxId.{TxId}
 use Rattle.site_vector.specs.Ids.{same_tx}
@@ -13,8 +13,8 @@ use Rattle.crdt_core.specs.declared.record.Message.{Message}
 use Rattle.crdt_core.specs.declared.record.Record.{Record}
 use Rattle.crdt_core.specs.declared.record.Record.TheVariants.{Lease, Prepare, Decide, Finish, Abort, Batch}
 use Rattle.world_model.specs.Log.{prepared, prepare_time, prepared_changes, decided, committed, committed_at, aborted, pending, last_decided, taken, taken_at, taken_changes, bound, ceiling, grown, IsImage}
-use Rattle.world_model.specs.Event.{Ask, Refusal, Refused, Event, Ticked, Began, Updated, Read, Prepared, Decided, Finished, Aborted, Sent, Took, Reported, Heard, Crashed, Restarted, Cut, Entry, attempt, is_prepare, is_decide, is_abort, is_named, shows_decided, tried, voted, time_shown}
-use Rattle.world_model.specs.Partition.{Kinds, PartState, Image, end_of_time, lease_for, above, batch_of, records, MayDo, done, down, cut, PartStep}
+use Rattle.world_model.specs.Event.{Ask, Refusal, Refused, Event, Ticked, Began, Updated, Read, Prepared, Decided, Finished, Aborted, Sent, Took, Reported, Heard, Crashed, Restarted, Cut, Entry, attempt, is_prepare, is_decide, is_abort, is_named, shows_decided, time_shown}
+use Rattle.world_model.specs.Partition.{Kinds, PartState, Image, end_of_time, lease_for, above, batch_of, records, MayDo, done, cut, PartStep}
 use Rattle.world_model.specs.Plan.{Plan, IsAllowed, MayPrepare, MayDecide, MayFinish, MayAbort, MayTake}
 use Rattle.world_model.proofs.Names.{clash, off, part_cases}
 

@@ -1,7 +1,6 @@
 -- Lists of parts that have the vectors and changes which their transactions have.
-use Rattle.std.proofs.Common.{◌≡◌, ⊎_elim, ℕ, ltb, cond, Bool, true, false, ◌&&◌, ◌||◌, List, [], ◌∷◌, refl, sym, ap, ◌∙◌, subst}
-use Rattle.std.specs.Prelude.{⊤}
-use Rattle.std.proofs.lemmas.Bool.{cases_Bool, or_left, or_right, or_cases, or_from, and_left, and_right, cond-true, cond-false}
+use Rattle.std.proofs.Common.{◌≡◌, ⊎_elim, ℕ, ltb, cond, true, false, ◌&&◌, List, [], ◌∷◌, refl, sym, ap, ◌∙◌, subst}
+use Rattle.std.proofs.lemmas.Bool.{cases_Bool, or_left, or_right, or_cases, and_right, cond-true, cond-false}
 use Rattle.site_vector.specs.declared.ids.TxId.{TxId}
 use Rattle.site_vector.specs.Ids.{same_tx}
 use Rattle.site_vector.specs.Order.{same_tx_is, same_tx_refl}

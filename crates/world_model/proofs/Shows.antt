@@ -1,13 +1,13 @@
 -- The events of a run show the bounds of each partition that is up, and what is pending there.
-use Rattle.std.proofs.Common.{◌≡◌, ◌≢◌, ◌⊎◌, ⊎_elim, inl, inr, ℕ, ◌+◌, ◌-◌, ◌<◌, ◌≤◌, cond, leb, min, Bool, true, false, not, ◌&&◌, ◌||◌, List, [], ◌∷◌, ◌++◌, length, Option, refl, sym, ap, ◌∙◌, subst, subst₂, arith}
-use Rattle.std.specs.Prelude.{⊤, ◌==◌, replicate}
+use Rattle.std.proofs.Common.{◌≡◌, ◌≢◌, ⊎_elim, inl, inr, ℕ, ◌+◌, ◌-◌, ◌<◌, ◌≤◌, cond, leb, min, Bool, true, false, not, ◌&&◌, ◌||◌, List, [], ◌∷◌, length, refl, sym, ap, ◌∙◌, subst, arith}
+use Rattle.std.specs.Prelude.{◌==◌}
 use Rattle.std.specs.declared.cmp.Ordering.TheVariants.{Less}
-use Rattle.std.proofs.lemmas.Bool.{cases_Bool, or_left, or_right, or_cases, and_right, and_parts, cond_both, cond-true, cond-false, eqb-true, eq-eqb, ne_eqb, false_from_ne_true}
+use Rattle.std.proofs.lemmas.Bool.{cases_Bool, or_cases, and_right, and_parts, cond_both, cond-true, cond-false, eqb-true, eq-eqb, false_from_ne_true}
 use Rattle.std.proofs.lemmas.List.{length-replicate}
 use Rattle.site_vector.specs.declared.ids.PartId.{PartId}
 use Rattle.site_vector.specs.declared.ids.TxId.{TxId}
 use Rattle.site_vector.specs.Ids.{same_part, same_tx}
-use Rattle.site_vector.specs.Order.{same_part_refl, same_tx_is, same_tx_refl}
+use Rattle.site_vector.specs.Order.{same_part_refl, same_tx_is}
 use Rattle.site_vector.specs.Vector.{entry, replaced}
 use Rattle.site_vector.specs.VectorLaws.{length_replaced}
 use Rattle.crdt_core.specs.declared.object.ObjectId.{ObjectId}
@@ -17,16 +17,16 @@ use Rattle.crdt_core.specs.declared.record.Record.TheVariants.{Lease, Prepare, D
 use Rattle.crdt_core.specs.declared.record.Part.{Part}
 use Rattle.crdt_core.specs.declared.record.Message.{Message}
 use Rattle.world_model.specs.Log.{touches, prepared, prepare_time, prepared_changes, committed, aborted, pending, ceiling, grown}
-use Rattle.world_model.specs.Event.{AskRead, AskUpdate, AskTake, TxPending, HasGap, IsRepeat, Event, Ticked, Began, Updated, Read, Prepared, Decided, Finished, Aborted, Sent, Took, Reported, Heard, Crashed, Restarted, Refused, Cut, Entry, attempt, tried, shown}
-use Rattle.world_model.specs.Partition.{Kinds, PartState, Image, IsOther, IsOwnBound, IsTxPending, AreTimed, names_pending, pending_cmp, end_of_time, lease_for, above, batch_of, new_part, done, PartStep}
-use Rattle.world_model.specs.Plan.{Plan, IsAllowed, WorldStep, IsRun}
+use Rattle.world_model.specs.Event.{AskRead, AskUpdate, AskTake, TxPending, HasGap, IsRepeat, Event, Ticked, Began, Updated, Read, Prepared, Decided, Finished, Aborted, Sent, Took, Reported, Heard, Crashed, Restarted, Refused, Cut, Entry, attempt, tried}
+use Rattle.world_model.specs.Partition.{Kinds, PartState, Image, IsOther, IsOwnBound, IsTxPending, AreTimed, names_pending, pending_cmp, end_of_time, lease_for, above, batch_of, new_part, PartStep}
+use Rattle.world_model.specs.Plan.{Plan, IsAllowed, IsRun}
 use Rattle.world_model.specs.Shown.{listed_time, bound_after, bound_shown, pending_after, pending_shown, time_after, pending_time, IsOwnBoundAt, IsFirstPending, ShowsAt, ShowAt}
 use Rattle.world_model.proofs.Names.{clash, off, part_cases, part_other, entry_same, entry_cases}
 use Rattle.world_model.proofs.Moves.{Because, Move, moved, image_log, grown_last}
 use Rattle.world_model.proofs.Leases.{Leases}
 use Rattle.world_model.proofs.Fate.{Fate, pending_parts, more_prepared}
 use Rattle.world_model.proofs.Completeness.{zeros_at}
-use Rattle.world_model.proofs.Kept.{Kept, law_plan}
+use Rattle.world_model.proofs.Kept.{law_plan}
 
 new_pending : (s p c a : Bool) → (s ≡ true → p ≡ false) → (c ≡ true → p ≡ true) → (a ≡ true → p ≡ true) → ((s || p) && not (c || a)) ≡ (s || (p && not (c || a)))
 new_pending true true c a h k l = clash refl (h refl)
@@ -115,9 +115,9 @@ module _ {E : Type 0} where
         let e : (after at).log ≡ Prepare u l n s w ∷ old = ap (λ p. p.log) st.2 ∙ grown_last log (lease_for log n) (Prepare u l n s w) in
         let fresh : (t : TxId) → same_tx u t ≡ true → prepared log t ≡ false = λ t k. false_from_ne_true _ (λ p. clash (subst (λ y. tried run y at ≡ true) (sym (same_tx_is u t k)) (f.was_tried at log t (image_log (before at)) p)) al.fresh) in
         let told : (t : TxId) → pending (Prepare u l n s w ∷ old) t ≡ (same_tx u t || pending log t) = λ t.
-            cond_both (leb n (ceiling log)) [] (Lease (min (n + 1000) end_of_time) ∷ []) (λ rs. pending (Prepare u l n s w ∷ grown log rs) t ≡ (same_tx u t || pending log t))
-            (λ x. new_pending (same_tx u t) (prepared log t) (committed log t) (aborted log t) (fresh t) (λ c. f.first at log t (image_log (before at)) c) (λ a. h.first at log t (image_log (before at)) a))
-            (λ x. new_pending (same_tx u t) (prepared log t) (committed log t) (aborted log t) (fresh t) (λ c. f.first at log t (image_log (before at)) c) (λ a. h.first at log t (image_log (before at)) a)) in record {
+        cond_both (leb n (ceiling log)) [] (Lease (min (n + 1000) end_of_time) ∷ []) (λ rs. pending (Prepare u l n s w ∷ grown log rs) t ≡ (same_tx u t || pending log t))
+        (λ x. new_pending (same_tx u t) (prepared log t) (committed log t) (aborted log t) (fresh t) (λ c. f.first at log t (image_log (before at)) c) (λ a. h.first at log t (image_log (before at)) a))
+        (λ x. new_pending (same_tx u t) (prepared log t) (committed log t) (aborted log t) (fresh t) (λ c. f.first at log t (image_log (before at)) c) (λ a. h.first at log t (image_log (before at)) a)) in record {
           width = λ x. ap (λ p. length p.bounds) st.2 ∙ h.width at st.0;
           bounds = λ j x o. ap (λ p. entry p.bounds j) st.2 ∙ h.bounds at j st.0 o;
           waiting = λ t x. ap (λ y. pending y t) e ∙ told t ∙ ap (λ b. same_tx u t || b) (h.waiting at t st.0);

@@ -1,15 +1,14 @@
 -- Every update of a run was generated on what it has seen, and every value is the meaning of what is read.
-use Rattle.std.proofs.Common.{◌≡◌, ◌⊎◌, ⊎_elim, inl, ℕ, ◌+◌, ◌<◌, ◌≤◌, cond, leb, Bool, true, false, not, ◌&&◌, ◌||◌, List, [], ◌∷◌, ◌++◌, length, refl, sym, ap, ◌∙◌, subst, subst₂, arith, append-nil, append_assoc}
-use Rattle.std.specs.Prelude.{⊤, ◌==◌, filter, map, Option}
-use Rattle.std.specs.List.{list_any}
+use Rattle.std.proofs.Common.{◌≡◌, ⊎_elim, ℕ, ◌+◌, ◌≤◌, cond, Bool, true, false, not, ◌&&◌, ◌||◌, List, [], ◌∷◌, ◌++◌, length, refl, sym, ap, ◌∙◌, subst, arith, append-nil, append_assoc}
+use Rattle.std.specs.Prelude.{◌==◌, filter, map, Option}
 use Rattle.std.proofs.lemmas.List.{map-append}
 use Rattle.std.proofs.lemmas.List.Folds.{list_any-append}
-use Rattle.std.proofs.lemmas.Bool.{cases_Bool, or_left, or_right, or_cases, and_from, and_parts, cond-true, cond-false, eqb-true}
+use Rattle.std.proofs.lemmas.Bool.{cases_Bool, or_cases, and_from, cond-true, cond-false, eqb-true}
 use Rattle.site_vector.specs.declared.ids.PartId.{PartId}
 use Rattle.site_vector.specs.declared.ids.TxId.{TxId}
 use Rattle.site_vector.specs.declared.ids.Dot.{Dot}
 use Rattle.site_vector.specs.Ids.{same_part, same_tx}
-use Rattle.site_vector.specs.Order.{same_part_is, same_tx_is, same_tx_refl}
+use Rattle.site_vector.specs.Order.{same_part_is, same_tx_is}
 use Rattle.crdt_core.specs.declared.object.ObjectId.{ObjectId}
 use Rattle.crdt_core.specs.declared.operation.Op.{Op}
 use Rattle.crdt_core.specs.declared.record.Upd.{Upd}
@@ -23,9 +22,9 @@ use Rattle.world_model.specs.Event.{Event, Updated, Read, Entry, shown, EventsAr
 use Rattle.world_model.specs.Partition.{Kinds, PartState, effects_from, effects_of, state_read, PartStep}
 use Rattle.world_model.specs.Plan.{Plan, is_some_update, takes_part, IsAllowed, change_by, updates_at, update_count}
 use Rattle.world_model.specs.WorldLaw.{IsRightFold, IsRight}
-use Rattle.world_model.specs.Meaning.{Asked, asked_by, asked_at, update_of, updates_of, updates_from, read_by, HasMeaning, HaveMeaning}
+use Rattle.world_model.specs.Meaning.{Asked, asked_by, asked_at, read_by, HasMeaning, HaveMeaning}
 use Rattle.world_model.specs.World.{plan_of, own_parts, is_own, changes_of, IsNew, IsWorldRun}
-use Rattle.world_model.proofs.Names.{clash, off}
+use Rattle.world_model.proofs.Names.{off}
 use Rattle.world_model.proofs.Leases.{Leases}
 use Rattle.world_model.proofs.Histories.{Facts, IsMade, AreMade, has_index}
 use Rattle.world_model.proofs.Meanings.{told_read, value_is, stamp_is}
@@ -96,7 +95,7 @@ module _ {E : Type 0} where
     made_now sites parts run before at q u s o own op read x stamp near l w al st new right =
         let e : o ≡ x.object = sym st.1.object in
         let same : state_read kinds o u own read ≡ state_read kinds o u (map (λ a. a.change) (asked_at run u at)) read =
-            ap (λ us. state_read kinds o u us read) al.earlier ∙ ap (λ es. folded (kinds.initial o.kind) kinds.step es) (own_only o u (updates_at run u at) (effects_of o [] read)) ∙ ap (λ us. state_read kinds o u us read) (sym (asked_changes run u at)) in record {
+        ap (λ us. state_read kinds o u us read) al.earlier ∙ ap (λ es. folded (kinds.initial o.kind) kinds.step es) (own_only o u (updates_at run u at) (effects_of o [] read)) ∙ ap (λ us. state_read kinds o u us read) (sym (asked_changes run u at)) in record {
           known = subst (λ y. kinds.has y.kind ≡ true) e st.1.known;
           fits = subst (λ y. (fits y.kind op.path op.act && not (kinds.too_deep y.kind op.path)) ≡ true) e st.1.fits;
           stamped = st.1.stamped;
@@ -146,8 +145,8 @@ module _ {E : Type 0} where
       meaning_event sites parts run before at q (Updated t s o own op read x stamp) near l w al st new right m = λ h.
           let r = subst (λ v. IsRightFold plan whole at v o read) right.0 (right.1 h) in
           stamp_is kinds plan whole facts at o t read (map (λ a. a.change) (asked_at run t at)) (read_by plan whole run at o t read) (record { change = x; op = op; stamp = stamp; now = shown run at }) r st.1.known
-              (made_now sites parts run before at q t s o own op read x stamp near l w al st new right) st.1.object
-              (told_read kinds plan whole facts at o made all (touching o) t read r (asked_at run t at) (m t))
+          (made_now sites parts run before at q t s o own op read x stamp near l w al st new right) st.1.object
+          (told_read kinds plan whole facts at o made all (touching o) t read r (asked_at run t at) (m t))
       meaning_event sites parts run before at q event near l w al st new right m = tt
 
       pub meanings : (sites parts : ℕ) → ((run : List (Entry E)) (state : PartId → PartState E) → IsWorldRun kinds sites parts run state → Leases run state) → (run : List (Entry E)) (state : PartId → PartState E) → IsWorldRun kinds sites parts run state → EventsAre (IsRight kinds plan whole) run → HaveMeaning kinds plan whole run

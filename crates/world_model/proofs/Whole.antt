@@ -1,20 +1,19 @@
 -- A run by what its own events say is one under the plan of the whole run.
 use Rattle.std.proofs.Common.{◌≡◌, ◌⊎◌, ⊎_elim, inl, inr, ℕ, ◌+◌, ◌≤◌, cond, leb, Bool, true, false, ◌&&◌, ◌||◌, List, [], ◌∷◌, ◌++◌, length, refl, sym, ap, ◌∙◌, subst, subst₂, arith, le_trans, le_of_eq, append-nil}
 use Rattle.std.specs.Prelude.{⊤, ◌==◌, filter}
-use Rattle.std.proofs.lemmas.Bool.{cases_Bool, or_left, or_right, or_cases, and_from, and_parts, and_right, cond-true, cond-false, false_from_ne_true, leb-true}
+use Rattle.std.proofs.lemmas.Bool.{cases_Bool, or_left, or_right, or_cases, and_from, and_parts, cond-true, cond-false, false_from_ne_true, leb-true}
 use Rattle.site_vector.specs.declared.ids.PartId.{PartId}
 use Rattle.site_vector.specs.declared.ids.TxId.{TxId}
 use Rattle.site_vector.specs.Ids.{same_part, same_tx}
 use Rattle.site_vector.specs.Order.{same_part_refl, same_tx_is, same_tx_refl}
 use Rattle.site_vector.specs.Vector.{replaced}
 use Rattle.crdt_core.specs.declared.record.Upd.{Upd}
-use Rattle.crdt_core.specs.declared.record.Record.{Record}
 use Rattle.world_model.specs.Commit.{partitions}
 use Rattle.world_model.specs.Log.{ceiling, prepared, pending, committed}
-use Rattle.world_model.specs.Event.{AskFinish, AskTake, Refused, Event, Ticked, Began, Updated, Read, Prepared, Decided, Finished, Aborted, Took, Heard, Cut, Entry, attempt, is_prepare, tried, voted, shown, shown_after, missed, time_of, is_decided, WasShown}
-use Rattle.world_model.specs.Partition.{Kinds, PartState, Image, end_of_time, new_part, PartStep, MayDo}
-use Rattle.world_model.specs.Plan.{Plan, is_some_update, home, takes_part, vector_at, commit_vector, updates_at, change_by, IsAllowed, IsAsked, IsPlanned, TellsAborted, WorldStep, IsRun}
-use Rattle.world_model.specs.World.{is_begin, begin_vector, begun, snapshot_of, is_own, changes_of, first_of, lead_of, own_parts, plan_of, IsNew, IsWorldRun, LawWorld}
+use Rattle.world_model.specs.Event.{AskFinish, AskTake, Refused, Event, Began, Updated, Read, Prepared, Decided, Finished, Aborted, Took, Heard, Cut, Entry, attempt, is_prepare, tried, voted, shown, shown_after, time_of, is_decided, WasShown}
+use Rattle.world_model.specs.Partition.{Kinds, PartState, end_of_time, PartStep, MayDo}
+use Rattle.world_model.specs.Plan.{Plan, is_some_update, home, takes_part, commit_vector, updates_at, change_by, IsAllowed, IsPlanned, TellsAborted, IsRun}
+use Rattle.world_model.specs.World.{is_begin, begin_vector, begun, snapshot_of, changes_of, first_of, lead_of, own_parts, plan_of, IsNew, IsWorldRun}
 use Rattle.world_model.specs.LawfulWorld.{IsLawfulWorld}
 use Rattle.world_model.proofs.Names.{clash, off}
 use Rattle.world_model.proofs.Moves.{image_log}

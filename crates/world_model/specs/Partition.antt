@@ -1,5 +1,5 @@
 -- The state of a partition, and what each of its calls may answer and leave.
-use Rattle.std.specs.Prelude.{◌≡◌, ◌≢◌, ◌⊎◌, ℕ, zero, suc, ◌+◌, ◌-◌, ◌^◌, ◌<◌, ◌≤◌, max, min, leb, ltb, Bool, true, false, not, ◌&&◌, ◌||◌, ◌==◌, if◌then◌else◌, List, [], ◌∷◌, ◌++◌, length, replicate, filter, map, Option, None, Some, slice_index_or, slice_set, ⊤}
+use Rattle.std.specs.Prelude.{◌≡◌, ◌≢◌, ◌⊎◌, ℕ, zero, suc, ◌+◌, ◌-◌, ◌^◌, ◌<◌, ◌≤◌, max, min, leb, ltb, Bool, true, false, not, ◌&&◌, ◌||◌, ◌==◌, if◌then◌else◌, List, [], ◌∷◌, ◌++◌, length, replicate, Option, None, Some, slice_index_or, slice_set, ⊤}
 use Rattle.std.specs.Ordering.{nat_cmp, ordering_then}
 use Rattle.std.specs.declared.cmp.Ordering.{Ordering}
 use Rattle.std.specs.declared.cmp.Ordering.TheVariants.{Less}
@@ -26,7 +26,7 @@ use Rattle.crdt_core.specs.Fits.{fits}
 use Rattle.crdt_core.specs.Seen.{Update}
 use Rattle.crdt_core.specs.History.{folded}
 use Rattle.crdt_core.specs.Law.{KeepsLaw}
-use Rattle.world_model.specs.Log.{touches, lists, vector_in, changes_in, ceiling, prepare_time, prepared_changes, committed, committed_at, pending, last_decided, bound, holds, held_at, held_changes, grown, IsImage}
+use Rattle.world_model.specs.Log.{touches, lists, ceiling, prepare_time, prepared_changes, committed, committed_at, pending, last_decided, bound, holds, held_at, held_changes, grown, IsImage}
 use Rattle.world_model.specs.Event.{Ask, AskBegin, AskRead, AskUpdate, AskPrepare, AskDecide, AskFinish, AskAbort, AskTake, Refusal, IsDown, ClockBehind, TxPending, StableBehind, ClockAtEnd, IsGone, HasGap, IsRepeat, Event, Refused, Ticked, Began, Updated, Read, Prepared, Decided, Finished, Aborted, Sent, Took, Reported, Heard, Crashed, Restarted, Cut}
 
 -- the last time that a clock may show

@@ -1,16 +1,16 @@
 -- What the transactions of a run are, and which events sessions, leads, messages and reports allow.
-use Rattle.std.specs.Prelude.{◌≡◌, ◌≢◌, ◌⊎◌, ℕ, ◌+◌, ◌≤◌, Bool, true, false, not, ◌&&◌, if◌then◌else◌, List, [], ◌∷◌, ◌++◌, length, filter, Option, ⊤}
+use Rattle.std.specs.Prelude.{◌≡◌, ◌≢◌, ◌⊎◌, ℕ, ◌+◌, ◌≤◌, Bool, true, false, if◌then◌else◌, List, [], ◌∷◌, ◌++◌, length, filter, Option, ⊤}
 use Rattle.site_vector.specs.declared.ids.PartId.{PartId}
 use Rattle.site_vector.specs.declared.ids.TxId.{TxId}
 use Rattle.site_vector.specs.Ids.{same_part, same_tx}
-use Rattle.site_vector.specs.Vector.{le, replaced}
+use Rattle.site_vector.specs.Vector.{replaced}
 use Rattle.crdt_core.specs.declared.object.ObjectId.{ObjectId}
 use Rattle.crdt_core.specs.declared.record.Upd.{Upd}
 use Rattle.crdt_core.specs.declared.record.Message.{Message}
 use Rattle.crdt_core.specs.Objects.{same_object}
 use Rattle.crdt_core.specs.Placing.{place_of}
-use Rattle.world_model.specs.Log.{touches, pending, committed}
-use Rattle.world_model.specs.Event.{Ask, AskRead, AskUpdate, AskPrepare, AskFinish, AskTake, Refused, Event, Ticked, Began, Updated, Read, Prepared, Decided, Finished, Aborted, Sent, Took, Reported, Heard, Entry, attempt, tried, voted, decide_tried, gave_up, is_decided, time_of, WasShown}
+use Rattle.world_model.specs.Log.{pending, committed}
+use Rattle.world_model.specs.Event.{Ask, AskRead, AskUpdate, AskPrepare, AskFinish, AskTake, Refused, Event, Began, Updated, Read, Prepared, Decided, Finished, Aborted, Sent, Took, Reported, Heard, Entry, attempt, tried, voted, decide_tried, gave_up, is_decided, time_of, WasShown}
 use Rattle.world_model.specs.Partition.{Kinds, PartState, IsOther, new_part, PartStep}
 
 abbrev pub is_some_update : {E : Type 0} → List (Upd E) → Bool

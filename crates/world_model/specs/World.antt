@@ -1,7 +1,6 @@
 -- Runs of the world whose transactions are what their own events say.
 use Rattle.std.specs.Prelude.{◌≡◌, ℕ, ◌+◌, leb, Bool, true, false, ◌&&◌, ◌||◌, ◌==◌, if◌then◌else◌, cond, List, [], ◌∷◌, length, filter, ⊤}
-use Rattle.std.proofs.lemmas.Bool.{and_parts, eqb-true, leb-true, true≢false}
-use Rattle.std.proofs.Common.{sym}
+use Rattle.std.proofs.lemmas.Bool.{and_parts, eqb-true, leb-true}
 use Rattle.site_vector.specs.declared.ids.PartId.{PartId}
 use Rattle.site_vector.specs.declared.ids.TxId.{TxId}
 use Rattle.site_vector.specs.Ids.{same_tx}

@@ -8,7 +8,7 @@ use Rattle.crdt_core.specs.Kinds.{reads_state}
 use Rattle.crdt_core.specs.declared.record.Part.{Part}
 use Rattle.crdt_core.specs.declared.record.Message.{Message}
 use Rattle.world_model.specs.Log.{touches, lists}
-use Rattle.world_model.specs.Event.{AskRead, AskUpdate, AskPrepare, AskFinish, ClockBehind, IsGone, Refused, Event, Ticked, Began, Updated, Read, Prepared, Sent, Restarted, Entry, EventsAre, is_decided, time_of, was_aborted, shown, missed}
+use Rattle.world_model.specs.Event.{AskRead, AskUpdate, AskPrepare, AskFinish, ClockBehind, IsGone, Refused, Event, Ticked, Began, Updated, Read, Prepared, Sent, Restarted, Entry, is_decided, time_of, shown, missed}
 use Rattle.world_model.specs.Partition.{Kinds, state_read, Ascends, fold_cmp, stream_cmp, AreParts, names_pending}
 use Rattle.world_model.specs.Plan.{Plan, takes_part, changes_at, commit_vector}
 
