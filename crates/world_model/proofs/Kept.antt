@@ -13,6 +13,7 @@ use Rattle.world_model.specs.Partition.{Kinds, PartState, Image, IsOther, IsBegi
 use Rattle.world_model.specs.Plan.{Plan, home, takes_part, commit_vector, IsAllowed, IsSession, IsPlanned, WorldStep, IsRun}
 use Rattle.world_model.specs.WorldLaw.{sees_tx, IsExact, IsRight, ClocksAre, HoldsPast, KeepsIs, KeepsDecided, HasCauseAt, HaveCausesAt}
 use Rattle.world_model.specs.Shown.{ShowAt}
+use Rattle.world_model.specs.Stable.{AreFresh}
 use Rattle.world_model.specs.Meaning.{HaveMeaning, AreCausal}
 use Rattle.world_model.specs.LawfulWorld.{IsLawfulWorld}
 use Rattle.world_model.proofs.Histories.{Facts}
@@ -221,8 +222,8 @@ module _ {E : Type 0} where
     closed = closed plan run (strict plan run parts k.fate);
   }
 
-  pub law_kept : {S : Type 0} (kinds : Kinds S E) (plan : Plan E) (run : List (Entry E)) (parts : PartId → PartState E) → Kept kinds plan run parts → HaveMeaning kinds plan run run → ((t : TxId) (p : PartId) → AreCausal kinds plan run t (plan.updates t p)) → ShowAt plan run → IsLawfulWorld kinds plan run
-  law_kept kinds plan run parts k meant causal shown = record {
+  pub law_kept : {S : Type 0} (kinds : Kinds S E) (plan : Plan E) (run : List (Entry E)) (parts : PartId → PartState E) → Kept kinds plan run parts → HaveMeaning kinds plan run run → ((t : TxId) (p : PartId) → AreCausal kinds plan run t (plan.updates t p)) → ShowAt plan run → AreFresh plan run → IsLawfulWorld kinds plan run
+  law_kept kinds plan run parts k meant causal shown fresh = record {
     right = right_all kinds plan run parts k;
     meant = meant;
     causal = causal;
@@ -231,6 +232,7 @@ module _ {E : Type 0} where
     decided_stay = k.decided_stay;
     causes = k.causes;
     shown = shown;
+    fresh = fresh;
     fate = λ t p a. false_from_ne_true _ (λ h. clash (k.fate.aborted_stays p (parts p).log t (image_log (parts p)) a) (never_aborted plan run parts k.fate p (parts p).log t (image_log (parts p)) h));
     strict = strict plan run parts k.fate;
     closed = closed plan run (strict plan run parts k.fate);

@@ -12,6 +12,7 @@ pub mod Histories
 pub mod CausalStores
 pub mod Kept
 pub mod Shows
+pub mod Hears
 pub mod Meanings
 pub mod Stories
 pub mod Whole

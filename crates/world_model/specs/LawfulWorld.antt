@@ -8,6 +8,7 @@ use Rattle.world_model.specs.Partition.{Kinds}
 use Rattle.world_model.specs.Plan.{Plan}
 use Rattle.world_model.specs.WorldLaw.{sees_tx, IsRight, ClocksAre, HoldsPast, KeepsDecided, HaveCausesAt}
 use Rattle.world_model.specs.Shown.{ShowAt}
+use Rattle.world_model.specs.Stable.{AreFresh}
 use Rattle.world_model.specs.Meaning.{HaveMeaning, AreCausal}
 
 pub record IsLawfulWorld {S E : Type 0} (kinds : Kinds S E) (plan : Plan E) (run : List (Entry E)) : Type 0 where
@@ -23,6 +24,8 @@ pub record IsLawfulWorld {S E : Type 0} (kinds : Kinds S E) (plan : Plan E) (run
   pub causes : HaveCausesAt plan run
   -- messages, takes, reports and waits show the bounds and what is pending, as earlier events do
   pub shown : ShowAt plan run
+  -- snapshots have the stable entries, by the reports that were heard
+  pub fresh : AreFresh plan run
   -- what was aborted anywhere is never decided
   pub fate : (t : TxId) (p : PartId) → was_aborted run t p ≡ true → is_decided run t ≡ false
   pub strict : (t : TxId) → is_decided run t ≡ true → entry (plan.snapshot t) t.site < time_of run t

@@ -18,5 +18,6 @@ pub mod Plan
 pub mod WorldLaw
 pub mod Meaning
 pub mod Shown
+pub mod Stable
 pub mod LawfulWorld
 pub mod World
