@@ -8,10 +8,11 @@ use Rattle.site_vector.specs.Vector.{le, entry}
 use Rattle.crdt_core.specs.declared.record.Message.{Message}
 use Rattle.crdt_core.specs.declared.record.Record.{Record}
 use Rattle.world_model.specs.Log.{ceiling, prepared, committed, aborted, decided, pending, taken, bound}
-use Rattle.world_model.specs.Event.{AskRead, AskUpdate, AskPrepare, AskFinish, ClockBehind, IsGone, Refused, shown, Event, Began, Updated, Read, Sent, Restarted, Entry, attempt, is_decided, time_of, sent, EventsAre}
+use Rattle.world_model.specs.Event.{AskRead, AskUpdate, AskPrepare, AskBegin, AskFinish, ClockBehind, ClockAtEnd, IsGone, Refused, shown, Event, Began, Updated, Read, Sent, Restarted, Entry, attempt, is_decided, time_of, sent, EventsAre}
 use Rattle.world_model.specs.Partition.{Kinds, PartState, Image, IsOther, IsBegin, end_of_time, vector_of, new_part, PartStep}
 use Rattle.world_model.specs.Plan.{Plan, home, takes_part, commit_vector, IsAllowed, IsSession, IsPlanned, WorldStep, IsRun}
 use Rattle.world_model.specs.WorldLaw.{sees_tx, IsExact, IsRight, ClocksAre, HoldsPast, KeepsIs, KeepsDecided, HasCauseAt, HaveCausesAt}
+use Rattle.world_model.specs.Downs.{AnswerAsUp}
 use Rattle.world_model.specs.Shown.{ShowAt}
 use Rattle.world_model.specs.Stable.{AreFresh}
 use Rattle.world_model.specs.Meaning.{HaveMeaning, AreCausal}
@@ -153,6 +154,9 @@ module _ {E : Type 0} where
   cause_event kinds plan run before q at (Refused (AskRead t s o own) (ClockBehind n)) f l p al st = clock_cause plan run before at t s n l p al st.0.1.0 st.0.1.1
   cause_event kinds plan run before q at (Refused (AskUpdate t s o own op) (ClockBehind n)) f l p al st = clock_cause plan run before at t s n l p al st.0.1.1 st.0.1.2
   cause_event kinds plan run before q at (Refused (AskPrepare t s y w) (ClockBehind n)) f l p al st = clock_cause plan run before at t s n l p al st.0.1.0 st.0.1.1
+  cause_event kinds plan run before q at (Refused (AskBegin who dep) ClockAtEnd) f l p al st = sym (l.clock at).now ∙ st.0.1.1
+  cause_event kinds plan run before q at (Refused (AskPrepare t s y w) ClockAtEnd) f l p al st = sym (l.clock at).now ∙ st.0.1.1
+  cause_event kinds plan run before q at (Refused asked ClockAtEnd) f l p al st = absurd st.0.1
   cause_event kinds plan run before q at (Refused (AskFinish t c) IsGone) f l p al st = never_gone plan run before at t f al.0 al.1 st.0.1
   cause_event kinds plan run before q at event f l p al st = tt
 
@@ -222,8 +226,8 @@ module _ {E : Type 0} where
     closed = closed plan run (strict plan run parts k.fate);
   }
 
-  pub law_kept : {S : Type 0} (kinds : Kinds S E) (plan : Plan E) (run : List (Entry E)) (parts : PartId → PartState E) → Kept kinds plan run parts → HaveMeaning kinds plan run run → ((t : TxId) (p : PartId) → AreCausal kinds plan run t (plan.updates t p)) → ShowAt plan run → AreFresh plan run → IsLawfulWorld kinds plan run
-  law_kept kinds plan run parts k meant causal shown fresh = record {
+  pub law_kept : {S : Type 0} (kinds : Kinds S E) (plan : Plan E) (run : List (Entry E)) (parts : PartId → PartState E) → Kept kinds plan run parts → HaveMeaning kinds plan run run → ((t : TxId) (p : PartId) → AreCausal kinds plan run t (plan.updates t p)) → ShowAt plan run → AreFresh plan run → AnswerAsUp run → IsLawfulWorld kinds plan run
+  law_kept kinds plan run parts k meant causal shown fresh downs = record {
     right = right_all kinds plan run parts k;
     meant = meant;
     causal = causal;
@@ -233,6 +237,7 @@ module _ {E : Type 0} where
     causes = k.causes;
     shown = shown;
     fresh = fresh;
+    downs = downs;
     fate = λ t p a. false_from_ne_true _ (λ h. clash (k.fate.aborted_stays p (parts p).log t (image_log (parts p)) a) (never_aborted plan run parts k.fate p (parts p).log t (image_log (parts p)) h));
     strict = strict plan run parts k.fate;
     closed = closed plan run (strict plan run parts k.fate);

@@ -13,6 +13,7 @@ pub mod CausalStores
 pub mod Kept
 pub mod Shows
 pub mod Hears
+pub mod Ups
 pub mod Meanings
 pub mod Stories
 pub mod Whole

@@ -24,6 +24,7 @@ use Rattle.world_model.proofs.Kept.{Kept, law_plan, right_all, facts_of, law_kep
 use Rattle.world_model.proofs.CausalStores.{causal_stores}
 use Rattle.world_model.proofs.Shows.{show_events}
 use Rattle.world_model.proofs.Hears.{fresh_events}
+use Rattle.world_model.proofs.Ups.{answer_up}
 use Rattle.world_model.proofs.Stories.{stories, meanings, planned_changes}
 
 or_none : (x y : Bool) → x ≡ false → (x || y) ≡ y
@@ -297,4 +298,4 @@ module _ {E : Type 0} where
       let facts = facts_of kinds plan run state k in
       let made = stories kinds plan run sites parts (world_leases kinds sites parts) run state r right in
       let all = planned_changes sites parts run in
-      law_kept kinds plan run state k (meanings kinds plan run facts made all sites parts (world_leases kinds sites parts) run state r right) (causal_stores kinds plan run made all) (show_events kinds plan run state under) (fresh_events kinds plan run state under)
+      law_kept kinds plan run state k (meanings kinds plan run facts made all sites parts (world_leases kinds sites parts) run state r right) (causal_stores kinds plan run made all) (show_events kinds plan run state under) (fresh_events kinds plan run state under) (answer_up kinds plan run state under)

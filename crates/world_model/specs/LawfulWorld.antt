@@ -7,6 +7,7 @@ use Rattle.world_model.specs.Event.{Entry, EventsAre, is_decided, time_of, was_a
 use Rattle.world_model.specs.Partition.{Kinds}
 use Rattle.world_model.specs.Plan.{Plan}
 use Rattle.world_model.specs.WorldLaw.{sees_tx, IsRight, ClocksAre, HoldsPast, KeepsDecided, HaveCausesAt}
+use Rattle.world_model.specs.Downs.{AnswerAsUp}
 use Rattle.world_model.specs.Shown.{ShowAt}
 use Rattle.world_model.specs.Stable.{AreFresh}
 use Rattle.world_model.specs.Meaning.{HaveMeaning, AreCausal}
@@ -22,6 +23,7 @@ pub record IsLawfulWorld {S E : Type 0} (kinds : Kinds S E) (plan : Plan E) (run
   pub past : EventsAre HoldsPast run
   pub decided_stay : KeepsDecided plan run
   pub causes : HaveCausesAt plan run
+  pub downs : AnswerAsUp run
   -- messages, takes, reports and waits show the bounds and what is pending, as earlier events do
   pub shown : ShowAt plan run
   -- snapshots have the stable entries, by the reports that were heard

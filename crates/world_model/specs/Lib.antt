@@ -19,5 +19,6 @@ pub mod WorldLaw
 pub mod Meaning
 pub mod Shown
 pub mod Stable
+pub mod Downs
 pub mod LawfulWorld
 pub mod World

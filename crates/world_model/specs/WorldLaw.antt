@@ -8,8 +8,8 @@ use Rattle.crdt_core.specs.Kinds.{reads_state}
 use Rattle.crdt_core.specs.declared.record.Part.{Part}
 use Rattle.crdt_core.specs.declared.record.Message.{Message}
 use Rattle.world_model.specs.Log.{touches, lists}
-use Rattle.world_model.specs.Event.{AskRead, AskUpdate, AskPrepare, AskFinish, ClockBehind, IsGone, Refused, Event, Ticked, Began, Updated, Read, Prepared, Sent, Restarted, Entry, is_decided, time_of, shown, missed}
-use Rattle.world_model.specs.Partition.{Kinds, state_read, Ascends, fold_cmp, stream_cmp, AreParts, names_pending}
+use Rattle.world_model.specs.Event.{AskRead, AskUpdate, AskPrepare, AskFinish, ClockBehind, ClockAtEnd, IsGone, Refused, Event, Ticked, Began, Updated, Read, Prepared, Sent, Restarted, Entry, is_decided, time_of, shown, missed}
+use Rattle.world_model.specs.Partition.{end_of_time, Kinds, state_read, Ascends, fold_cmp, stream_cmp, AreParts, names_pending}
 use Rattle.world_model.specs.Plan.{Plan, takes_part, changes_at, commit_vector}
 
 module _ {E : Type 0} where
@@ -55,6 +55,7 @@ module _ {E : Type 0} where
   HasCauseAt plan run p (Refused (AskRead t s o own) (ClockBehind n)) = (n ≡ shown run p) × (n < entry (plan.snapshot t) p.site)
   HasCauseAt plan run p (Refused (AskUpdate t s o own op) (ClockBehind n)) = (n ≡ shown run p) × (n < entry (plan.snapshot t) p.site)
   HasCauseAt plan run p (Refused (AskPrepare t s l w) (ClockBehind n)) = (n ≡ shown run p) × (n < entry (plan.snapshot t) p.site)
+  HasCauseAt plan run p (Refused asked ClockAtEnd) = shown run p ≡ end_of_time
   HasCauseAt plan run p (Refused (AskFinish t c) IsGone) = ⊥
   HasCauseAt plan run p other = ⊤
 
