@@ -1,20 +1,18 @@
 -- The events of a run show what each partition that is up has heard, so each begin's snapshot is fresh.
-use Rattle.std.proofs.Common.{◌≡◌, ◌≢◌, ◌⊎◌, ⊎_elim, inl, inr, ℕ, zero, suc, ◌+◌, ◌-◌, ◌<◌, ◌≤◌, max, min, cond, Bool, true, false, List, [], ◌∷◌, length, Option, refl, sym, ap, ◌∙◌, subst, subst₂, arith}
-use Rattle.std.specs.Prelude.{⊤, ◌==◌, replicate, slice_index, slice_index_or, slice_set}
+use Rattle.std.proofs.Common.{◌≡◌, ◌≢◌, ⊎_elim, ℕ, zero, suc, ◌-◌, ◌<◌, ◌≤◌, max, min, cond, true, false, List, [], ◌∷◌, length, refl, sym, ap, ◌∙◌, subst, arith}
+use Rattle.std.specs.Prelude.{⊤, ◌==◌, replicate, slice_index, slice_set}
 use Rattle.std.proofs.lemmas.Bool.{cases_Bool, cond-true, cond-false, eqb-true, eq-eqb}
 use Rattle.std.proofs.lemmas.List.{length-replicate, length-set, get_or-replicate, get_or-set_same, get_or-set_other}
 use Rattle.site_vector.specs.declared.ids.PartId.{PartId}
-use Rattle.site_vector.specs.declared.ids.TxId.{TxId}
 use Rattle.site_vector.specs.Ids.{same_part}
 use Rattle.site_vector.specs.Order.{same_part_refl}
 use Rattle.site_vector.specs.Vector.{entry, join}
 use Rattle.site_vector.specs.VectorLaws.{length_join}
 use Rattle.world_model.specs.Event.{AskBegin, StableBehind, Event, Ticked, Began, Updated, Read, Prepared, Decided, Finished, Aborted, Sent, Took, Reported, Heard, Crashed, Restarted, Refused, Cut, Entry, attempt, EventsAre}
-use Rattle.world_model.specs.Partition.{Kinds, PartState, IsOther, IsBegin, known, stable_entry, lowest, vector_of, new_part, done, PartStep}
-use Rattle.world_model.specs.Plan.{Plan, IsAllowed, WorldStep, IsRun}
-use Rattle.world_model.specs.Shown.{bound_shown}
+use Rattle.world_model.specs.Partition.{Kinds, PartState, IsOther, known, stable_entry, lowest, vector_of, new_part, PartStep}
+use Rattle.world_model.specs.Plan.{Plan, IsAllowed, IsRun}
 use Rattle.world_model.specs.Stable.{heard_from, heard_shown, known_shown, stable_shown, IsFreshAt, AreFresh}
-use Rattle.world_model.proofs.Names.{clash, off, part_cases, part_other}
+use Rattle.world_model.proofs.Names.{clash, part_cases, part_other}
 use Rattle.world_model.proofs.Intervals.{shown_has}
 use Rattle.world_model.proofs.Completeness.{numbered, rows_at}
 use Rattle.world_model.proofs.Shows.{Shown, shown_run}
