@@ -24,7 +24,9 @@ pub use kind::Kind;
 pub use object::{Field, ObjectId};
 pub use operation::{Act, Op};
 pub use placing::partition_of;
-pub use record::{Message, Part, Record, Upd};
+pub use record::{
+    Message, Part, Record, Upd, copy_message, copy_part, copy_parts, copy_update, copy_updates,
+};
 pub use replay::{state_after, value_after};
 pub use table::{fits, fits_at, reads_state, stands_in};
 pub use value::Value;

@@ -1,6 +1,9 @@
-use crate::ObjectId;
+ghost use Rattle.std.specs.Prelude.{◌≡◌, IfOk};
+
+use crate::{Crdt, ObjectId};
 use field_codec::ListOf;
 use site_vector::{TxId, VTime};
+use std::alloc::{AllocError, Global};
 
 /// One update of a transaction, as it is stored and sent: the effect `E` that it was generated to.
 #[derive(Drop)]
@@ -69,4 +72,101 @@ pub enum Record<E> {
     Batch {
         message: Message<E>,
     },
+}
+
+/// An equal update.
+///
+/// # Errors
+///
+/// `AllocError` where memory runs out.
+pub fn copy_update<C: Crdt>(
+    alloc: Global,
+    update: &Upd<C::Effect>,
+) -> Result<Upd<C::Effect>, AllocError>
+    ensures { IfOk result (λ u. u ≡ update.now) }
+{
+    let object = update.object.copy(alloc)?;
+    let effect = C::copy_effect(alloc, &update.effect)?;
+    Ok(Upd {
+        object,
+        index: update.index,
+        effect,
+    })
+}
+
+/// An equal list of updates.
+///
+/// # Errors
+///
+/// `AllocError` where memory runs out.
+pub fn copy_updates<C: Crdt>(
+    alloc: Global,
+    updates: &[Upd<C::Effect>],
+) -> Result<ListOf<Upd<C::Effect>>, AllocError>
+    ensures { IfOk result (λ l. l ≡ updates.now) }
+{
+    let mut all = ListOf::new(alloc);
+    for update in updates {
+        all.push(copy_update::<C>(alloc, update)?)?;
+    }
+    Ok(all)
+}
+
+/// An equal part.
+///
+/// # Errors
+///
+/// `AllocError` where memory runs out.
+pub fn copy_part<C: Crdt>(
+    alloc: Global,
+    part: &Part<C::Effect>,
+) -> Result<Part<C::Effect>, AllocError>
+    ensures { IfOk result (λ p. p ≡ part.now) }
+{
+    let updates = copy_updates::<C>(alloc, part.updates.as_slice())?;
+    Ok(Part {
+        tx: part.tx,
+        c: part.c,
+        updates,
+    })
+}
+
+/// An equal list of parts.
+///
+/// # Errors
+///
+/// `AllocError` where memory runs out.
+pub fn copy_parts<C: Crdt>(
+    alloc: Global,
+    parts: &[Part<C::Effect>],
+) -> Result<ListOf<Part<C::Effect>>, AllocError>
+    ensures { IfOk result (λ l. l ≡ parts.now) }
+{
+    let mut all = ListOf::new(alloc);
+    for part in parts {
+        all.push(copy_part::<C>(alloc, part)?)?;
+    }
+    Ok(all)
+}
+
+/// An equal message.
+///
+/// # Errors
+///
+/// `AllocError` where memory runs out.
+pub fn copy_message<C: Crdt>(
+    alloc: Global,
+    message: &Message<C::Effect>,
+) -> Result<Message<C::Effect>, AllocError>
+    ensures { IfOk result (λ m. m ≡ message.now) }
+{
+    let parts = copy_parts::<C>(alloc, message.parts.as_slice())?;
+    Ok(Message {
+        from: message.from,
+        to: message.to,
+        part: message.part,
+        lo: message.lo,
+        hi: message.hi,
+        parts,
+    })
 }
