@@ -14,6 +14,7 @@ mod object;
 mod object_forms;
 mod operation;
 mod placing;
+mod record;
 mod replay;
 mod table;
 mod value;
@@ -32,6 +33,9 @@ pub use object::{Field, ObjectId};
 pub use object_forms::{put_object, take_object};
 pub use operation::{Act, Op};
 pub use placing::partition_of;
+pub use record::{
+    Message, Part, Record, Upd, copy_message, copy_part, copy_parts, copy_update, copy_updates,
+};
 pub use replay::{state_after, value_after};
 pub use table::{fits, fits_at, reads_state, stands_in};
 pub use value::Value;

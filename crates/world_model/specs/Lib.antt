@@ -1,4 +1,7 @@
 pub mod Run
+pub mod Log
+pub mod Event
+pub mod Partition
 pub mod Cluster
 pub mod Clock
 pub mod Sessions
@@ -11,3 +14,11 @@ pub mod Refusals
 pub mod Answers
 pub mod Causes
 pub mod Lawful
+pub mod Plan
+pub mod WorldLaw
+pub mod Meaning
+pub mod Shown
+pub mod Stable
+pub mod Downs
+pub mod LawfulWorld
+pub mod World

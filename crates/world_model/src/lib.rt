@@ -3,6 +3,8 @@
 
 mod command;
 mod step;
+mod world;
 
 pub use command::Command;
 pub use step::Step;
+pub use world::law_world;

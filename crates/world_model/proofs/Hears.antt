@@ -1,0 +1,166 @@
+-- The events of a run show what each partition that is up has heard, so each begin's snapshot is fresh.
+use Rattle.std.proofs.Common.{◌≡◌, ◌≢◌, ⊎_elim, ℕ, zero, suc, ◌-◌, ◌<◌, ◌≤◌, max, min, cond, true, false, List, [], ◌∷◌, length, refl, sym, ap, ◌∙◌, subst, arith}
+use Rattle.std.specs.Prelude.{⊤, ◌==◌, replicate, slice_index, slice_set}
+use Rattle.std.proofs.lemmas.Bool.{cases_Bool, cond-true, cond-false, eqb-true, eq-eqb}
+use Rattle.std.proofs.lemmas.List.{length-replicate, length-set, get_or-replicate, get_or-set_same, get_or-set_other}
+use Rattle.site_vector.specs.declared.ids.PartId.{PartId}
+use Rattle.site_vector.specs.Ids.{same_part}
+use Rattle.site_vector.specs.Order.{same_part_refl}
+use Rattle.site_vector.specs.Vector.{entry, join}
+use Rattle.site_vector.specs.VectorLaws.{length_join}
+use Rattle.world_model.specs.Event.{AskBegin, StableBehind, Event, Ticked, Began, Updated, Read, Prepared, Decided, Finished, Aborted, Sent, Took, Reported, Heard, Crashed, Restarted, Refused, Cut, Entry, attempt, EventsAre}
+use Rattle.world_model.specs.Partition.{Kinds, PartState, IsOther, known, stable_entry, lowest, vector_of, new_part, PartStep}
+use Rattle.world_model.specs.Plan.{Plan, IsAllowed, IsRun}
+use Rattle.world_model.specs.Stable.{heard_from, heard_shown, known_shown, stable_shown, IsFreshAt, AreFresh}
+use Rattle.world_model.proofs.Names.{clash, part_cases, part_other}
+use Rattle.world_model.proofs.Intervals.{shown_has}
+use Rattle.world_model.proofs.Completeness.{numbered, rows_at}
+use Rattle.world_model.proofs.Shows.{Shown, shown_run}
+
+join_at : (u v : List ℕ) (i : ℕ) → length u ≡ length v → slice_index (join u v) i ≡ max (slice_index u i) (slice_index v i)
+join_at [] [] i e = omega arith
+join_at [] (m ∷ v) i e = absurd (omega arith)
+join_at (n ∷ u) [] i e = absurd (omega arith)
+join_at (n ∷ u) (m ∷ v) zero e = refl
+join_at (n ∷ u) (m ∷ v) (suc i) e = join_at u v i (omega arith)
+
+lowest_same : (f g : ℕ → ℕ) (n : ℕ) → ((q : ℕ) → 1 ≤ q → q ≤ n → f q ≡ g q) → lowest f n ≡ lowest g n
+lowest_same f g zero h = refl
+lowest_same f g (suc zero) h = h 1 (omega arith) (omega arith)
+lowest_same f g (suc (suc n)) h =
+    let a = h (suc (suc n)) (omega arith) (omega arith) in
+    let b = lowest_same f g (suc n) (λ q x y. h q x (omega arith)) in
+    λ i. min (a i) (b i)
+
+module _ {E : Type 0} where
+  abbrev IsWide : Plan E → PartId → Event E → Type 0
+  IsWide plan p (Reported b) = length b ≡ plan.sites
+  IsWide plan p event = ⊤
+
+  pub record Hears (plan : Plan E) (run : List (Entry E)) (parts : PartId → PartState E) : Type 0 where
+    pub count : (p : PartId) → (parts p).up ≡ true → length (parts p).heard ≡ plan.parts
+    pub rows : (p : PartId) (q : ℕ) → (parts p).up ≡ true → 1 ≤ q → q ≤ plan.parts → length (vector_of (parts p).heard q) ≡ plan.sites
+    pub told : (p : PartId) (q j : ℕ) → (parts p).up ≡ true → 1 ≤ q → q ≤ plan.parts → entry (vector_of (parts p).heard q) j ≡ heard_shown run p q j
+    pub wide : EventsAre (IsWide plan) run
+
+  -- what was heard at the partition of a step
+  record HeardHere (plan : Plan E) (run : List (Entry E)) (at : PartId) (event : Event E) (p : PartState E) : Type 0 where
+    pub count : p.up ≡ true → length p.heard ≡ plan.parts
+    pub rows : (q : ℕ) → p.up ≡ true → 1 ≤ q → q ≤ plan.parts → length (vector_of p.heard q) ≡ plan.sites
+    pub told : (q j : ℕ) → p.up ≡ true → 1 ≤ q → q ≤ plan.parts → entry (vector_of p.heard q) j ≡ heard_from q j (heard_shown run at q j) event
+
+  module _ {S : Type 0} (kinds : Kinds S E) (plan : Plan E) (run : List (Entry E)) (before after : PartId → PartState E) (at : PartId) (h : Hears plan run before) where
+    same_heard : (event : Event E) → (before at).up ≡ true → ((q j : ℕ) → heard_from q j (heard_shown run at q j) event ≡ heard_shown run at q j) → (after at).heard ≡ (before at).heard → HeardHere plan run at event (after at)
+    same_heard event up eq e = record {
+      count = λ u. ap length e ∙ h.count at up;
+      rows = λ q u a b. ap (λ x. length (vector_of x q)) e ∙ h.rows at q up a b;
+      told = λ q j u a b. ap (λ x. entry (vector_of x q) j) e ∙ h.told at q j up a b ∙ sym (eq q j);
+    }
+
+    down_heard : (event : Event E) → (after at).up ≡ false → HeardHere plan run at event (after at)
+    down_heard event d = record { count = λ u. clash u d; rows = λ q u a b. clash u d; told = λ q j u a b. clash u d }
+
+    new_heard : (k : ℕ) (b stable : List ℕ) → IsAllowed plan run before at (Heard k b stable) → PartStep kinds plan.sites plan.parts at (before at) (Heard k b stable) (after at) → HeardHere plan run at (Heard k b stable) (after at)
+    new_heard k b stable al st =
+        let old = (before at).heard in
+        let joined = join (vector_of old k) b in
+        let in_row = h.rows at k st.0 al.least al.most in
+        let in_report : length b ≡ plan.sites = shown_has (IsWide plan) run (numbered at k) (Reported b) h.wide al.shown in
+        let even : length (vector_of old k) ≡ length b = in_row ∙ sym in_report in
+        let long = h.count at st.0 in
+        let lk = al.least in
+        let mk = al.most in
+        let mine : vector_of (slice_set old (k - 1) joined) k ≡ joined = get_or-set_same old (k - 1) joined [] (omega arith) in
+        let apart : (q : ℕ) → 1 ≤ q → (k == q) ≡ false → vector_of (slice_set old (k - 1) joined) q ≡ vector_of old q = λ q a e. get_or-set_other old (k - 1) (q - 1) joined [] (λ x. let same : k ≡ q = omega arith in clash (eq-eqb k q same) e) in record {
+          count = λ u. ap (λ p. length p.heard) st.2 ∙ length-set old (k - 1) joined ∙ long;
+          rows = λ q u a c. ap (λ p. length (vector_of p.heard q)) st.2 ∙ ⊎_elim
+              (λ (e : (k == q) ≡ true). subst (λ x. length (vector_of (slice_set old (k - 1) joined) x) ≡ plan.sites) (eqb-true k q e) (ap length mine ∙ length_join (vector_of old k) b even ∙ in_row))
+              (λ (e : (k == q) ≡ false). ap length (apart q a e) ∙ h.rows at q st.0 a c)
+              (cases_Bool (k == q));
+          told = λ q j u a c. ap (λ p. entry (vector_of p.heard q) j) st.2 ∙ ⊎_elim
+              (λ (e : (k == q) ≡ true). subst (λ x. entry (vector_of (slice_set old (k - 1) joined) x) j ≡ max (heard_shown run at x j) (entry b j)) (eqb-true k q e) (ap (λ v. entry v j) mine ∙ join_at (vector_of old k) b (j - 1) even ∙ ap (λ n. max n (entry b j)) (h.told at k j st.0 lk mk)) ∙ sym (cond-true _ (max (heard_shown run at q j) (entry b j)) (heard_shown run at q j) e))
+              (λ (e : (k == q) ≡ false). ap (λ v. entry v j) (apart q a e) ∙ h.told at q j st.0 a c ∙ sym (cond-false _ (max (heard_shown run at q j) (entry b j)) (heard_shown run at q j) e))
+              (cases_Bool (k == q));
+        }
+
+    heard_here : (event : Event E) → IsAllowed plan run before at (attempt event) → PartStep kinds plan.sites plan.parts at (before at) event (after at) → HeardHere plan run at event (after at)
+    heard_here (Heard k b stable) al st = new_heard k b stable al st
+    heard_here (Restarted n b named listed) al st = record {
+      count = λ u. ap length st.heard ∙ length-replicate plan.parts (replicate plan.sites 0);
+      rows = λ q u a c. ap (λ x. length (vector_of x q)) st.heard ∙ ap length (get_or-replicate plan.parts (q - 1) (replicate plan.sites 0) [] (omega arith)) ∙ length-replicate plan.sites 0;
+      told = λ q j u a c. ap (λ x. entry (vector_of x q) j) st.heard ∙ rows_at plan.parts plan.sites (q - 1) (j - 1);
+    }
+    heard_here (Refused asked why) al st = record {
+      count = λ u. ap (λ p. length p.heard) st.1 ∙ h.count at (sym (ap (λ p. p.up) st.1) ∙ u);
+      rows = λ q u a b. ap (λ p. length (vector_of p.heard q)) st.1 ∙ h.rows at q (sym (ap (λ p. p.up) st.1) ∙ u) a b;
+      told = λ q j u a b. ap (λ p. entry (vector_of p.heard q) j) st.1 ∙ h.told at q j (sym (ap (λ p. p.up) st.1) ∙ u) a b;
+    }
+    heard_here (Cut a) al st = down_heard (Cut a) (ap (λ p. p.up) st.2)
+    heard_here Crashed al st = down_heard Crashed (ap (λ p. p.up) st.1)
+    heard_here (Ticked r n) al st = same_heard (Ticked r n) st.0 (λ q j. refl) (ap (λ p. p.heard) st.2)
+    heard_here (Began who dep t s) al st = same_heard (Began who dep t s) st.0 (λ q j. refl) (ap (λ p. p.heard) st.2)
+    heard_here (Updated t s o own op read x stamp) al st = same_heard (Updated t s o own op read x stamp) st.0 (λ q j. refl) (ap (λ p. p.heard) st.2)
+    heard_here (Read t s o own read value) al st = same_heard (Read t s o own read value) st.0 (λ q j. refl) (ap (λ p. p.heard) st.2)
+    heard_here (Prepared t s l w n) al st = same_heard (Prepared t s l w n) st.0 (λ q j. refl) (ap (λ p. p.heard) st.2)
+    heard_here (Decided t c) al st = same_heard (Decided t c) st.0 (λ q j. refl) (ap (λ p. p.heard) st.2)
+    heard_here (Finished t c) al st = same_heard (Finished t c) st.0 (λ q j. refl) (ap (λ p. p.heard) st.2)
+    heard_here (Aborted t own) al st = same_heard (Aborted t own) st.0 (λ q j. refl) (ap (λ p. p.heard) st.2)
+    heard_here (Sent asked m) al st = same_heard (Sent asked m) st.0 (λ q j. refl) (ap (λ p. p.heard) st.2)
+    heard_here (Took m) al st = same_heard (Took m) st.0 (λ q j. refl) (ap (λ p. p.heard) st.2)
+    heard_here (Reported b) al st = same_heard (Reported b) st.0 (λ q j. refl) (ap (λ p. p.heard) st.2)
+
+    wide_event : (event : Event E) → PartStep kinds plan.sites plan.parts at (before at) event (after at) → IsWide plan at event
+    wide_event (Reported b) st = st.1.width
+    wide_event event st = tt
+
+    hears_step : (event : Event E) → IsAllowed plan run before at (attempt event) → PartStep kinds plan.sites plan.parts at (before at) event (after at) → ((q : PartId) → q ≢ at → after q ≡ before q) → Hears plan ((record { at = at; event = event }) ∷ run) after
+    hears_step event al st others =
+        let x = heard_here event al st in
+        let old = λ (p : PartId) (ne : at ≡ p → ⊥). others p (λ e. ne (sym e)) in record {
+          count = λ p u. ⊎_elim
+              (λ (e : at ≡ p). subst (λ y. (after y).up ≡ true → length (after y).heard ≡ plan.parts) e x.count u)
+              (λ (ne : at ≡ p → ⊥). ap (λ y. length y.heard) (old p ne) ∙ h.count p (ap (λ y. y.up) (sym (old p ne)) ∙ u))
+              (part_cases at p);
+          rows = λ p q u a b. ⊎_elim
+              (λ (e : at ≡ p). subst (λ y. (after y).up ≡ true → length (vector_of (after y).heard q) ≡ plan.sites) e (λ v. x.rows q v a b) u)
+              (λ (ne : at ≡ p → ⊥). ap (λ y. length (vector_of y.heard q)) (old p ne) ∙ h.rows p q (ap (λ y. y.up) (sym (old p ne)) ∙ u) a b)
+              (part_cases at p);
+          told = λ p q j u a b. ⊎_elim
+              (λ (e : at ≡ p). subst (λ y. (after y).up ≡ true → entry (vector_of (after y).heard q) j ≡ heard_from q j (heard_shown run y q j) event) e (λ v. x.told q j v a b) u ∙ sym (cond-true _ _ _ (subst (λ y. same_part at y ≡ true) e (same_part_refl at))))
+              (λ (ne : at ≡ p → ⊥). ap (λ y. entry (vector_of y.heard q) j) (old p ne) ∙ h.told p q j (ap (λ y. y.up) (sym (old p ne)) ∙ u) a b ∙ sym (cond-false _ _ _ (part_other at p ne)))
+              (part_cases at p);
+          wide = (wide_event event st, h.wide);
+        }
+
+    -- what it knows, and so its stable entries, are shown
+    stable_is : Shown plan run before → (before at).up ≡ true → (j : ℕ) → IsOther plan.sites at.site j → stable_entry plan.parts at (before at) j ≡ stable_shown plan.parts run at j
+    stable_is w up j o = lowest_same (known at (before at) j) (known_shown run at j) plan.parts (λ q a b. λ i. cond (at.part == q) (w.bounds at j up o i) (h.told at q j up a b i))
+
+    fresh_event : (event : Event E) (q : PartState E) → Shown plan run before → PartStep kinds plan.sites plan.parts at (before at) event q → IsFreshAt plan run at event
+    fresh_event (Began who dep t s) q w st = λ j o. st.1.stable j o ∙ stable_is w st.0 j o
+    fresh_event (Refused (AskBegin who dep) (StableBehind j n)) q w st = record {
+      other = st.0.1.other;
+      have = st.0.1.have ∙ stable_is w st.0.0 j st.0.1.other;
+      behind = st.0.1.behind;
+      least = λ i o l. st.0.1.least i o (subst (λ x. x < entry dep i) (sym (stable_is w st.0.0 i o)) l);
+    }
+    fresh_event event q w st = tt
+
+  hears_start : (plan : Plan E) (parts : PartId → PartState E) → ((p : PartId) → parts p ≡ new_part plan.sites plan.parts) → Hears plan [] parts
+  hears_start plan parts r = record {
+    count = λ p u. ap (λ x. length x.heard) (r p) ∙ length-replicate plan.parts (replicate plan.sites 0);
+    rows = λ p q u a c. ap (λ x. length (vector_of x.heard q)) (r p) ∙ ap length (get_or-replicate plan.parts (q - 1) (replicate plan.sites 0) [] (omega arith)) ∙ length-replicate plan.sites 0;
+    told = λ p q j u a c. ap (λ x. entry (vector_of x.heard q) j) (r p) ∙ rows_at plan.parts plan.sites (q - 1) (j - 1);
+    wide = tt;
+  }
+
+  hears_run : {S : Type 0} (kinds : Kinds S E) (plan : Plan E) (run : List (Entry E)) (parts : PartId → PartState E) → IsRun kinds plan run parts → Hears plan run parts
+  hears_run kinds plan [] parts r = hears_start plan parts r
+  hears_run kinds plan (e ∷ run) parts r = hears_step kinds plan run r.0 parts e.at (hears_run kinds plan run r.0 r.1) e.event r.2.allowed r.2.step r.2.others
+
+  pub fresh_events : {S : Type 0} (kinds : Kinds S E) (plan : Plan E) (run : List (Entry E)) (parts : PartId → PartState E) → IsRun kinds plan run parts → AreFresh plan run
+  fresh_events kinds plan [] parts r = tt
+  fresh_events kinds plan (e ∷ run) parts r = (
+    fresh_event kinds plan run r.0 parts e.at (hears_run kinds plan run r.0 r.1) e.event (parts e.at) (shown_run kinds plan run r.0 r.1) r.2.step,
+    fresh_events kinds plan run r.0 r.1,
+  )

@@ -1,0 +1,301 @@
+-- A run by what its own events say is one under the plan of the whole run.
+use Rattle.std.proofs.Common.{◌≡◌, ◌⊎◌, ⊎_elim, inl, inr, ℕ, ◌+◌, ◌≤◌, cond, leb, Bool, true, false, ◌&&◌, ◌||◌, List, [], ◌∷◌, ◌++◌, length, refl, sym, ap, ◌∙◌, subst, subst₂, arith, le_trans, le_of_eq, append-nil}
+use Rattle.std.specs.Prelude.{⊤, ◌==◌, filter}
+use Rattle.std.proofs.lemmas.Bool.{cases_Bool, or_left, or_right, or_cases, and_from, and_parts, cond-true, cond-false, false_from_ne_true, leb-true}
+use Rattle.site_vector.specs.declared.ids.PartId.{PartId}
+use Rattle.site_vector.specs.declared.ids.TxId.{TxId}
+use Rattle.site_vector.specs.Ids.{same_part, same_tx}
+use Rattle.site_vector.specs.Order.{same_part_refl, same_tx_is, same_tx_refl}
+use Rattle.site_vector.specs.Vector.{replaced}
+use Rattle.crdt_core.specs.declared.record.Upd.{Upd}
+use Rattle.world_model.specs.Commit.{partitions}
+use Rattle.world_model.specs.Log.{ceiling, prepared, pending, committed}
+use Rattle.world_model.specs.Event.{AskFinish, AskTake, Refused, Event, Began, Updated, Read, Prepared, Decided, Finished, Aborted, Took, Heard, Cut, Entry, attempt, is_prepare, tried, voted, shown, shown_after, time_of, is_decided, WasShown}
+use Rattle.world_model.specs.Partition.{Kinds, PartState, end_of_time, PartStep, MayDo}
+use Rattle.world_model.specs.Plan.{Plan, is_some_update, home, takes_part, commit_vector, updates_at, change_by, IsAllowed, IsPlanned, TellsAborted, IsRun}
+use Rattle.world_model.specs.World.{is_begin, begin_vector, begun, snapshot_of, changes_of, first_of, lead_of, own_parts, plan_of, IsNew, IsWorldRun}
+use Rattle.world_model.specs.LawfulWorld.{IsLawfulWorld}
+use Rattle.world_model.proofs.Names.{clash, off}
+use Rattle.world_model.proofs.Moves.{image_log}
+use Rattle.world_model.proofs.Fate.{pending_parts, voted_tried}
+use Rattle.world_model.proofs.Later.{full_now}
+use Rattle.world_model.proofs.Leases.{Clock, Leases, leases_step, rises}
+use Rattle.world_model.proofs.Kept.{Kept, law_plan, right_all, facts_of, law_kept}
+use Rattle.world_model.proofs.CausalStores.{causal_stores}
+use Rattle.world_model.proofs.Shows.{show_events}
+use Rattle.world_model.proofs.Hears.{fresh_events}
+use Rattle.world_model.proofs.Ups.{answer_up}
+use Rattle.world_model.proofs.Stories.{stories, meanings, planned_changes}
+
+or_none : (x y : Bool) → x ≡ false → (x || y) ≡ y
+or_none true y e = absurd (clash refl e)
+or_none false y e = refl
+
+module _ {E : Type 0} where
+  abbrev IsSuffix : List (Entry E) → List (Entry E) → Type 0
+  IsSuffix run [] = run ≡ []
+  IsSuffix run (e ∷ whole) = (run ≡ e ∷ whole) ⊎ IsSuffix run whole
+
+  same_suffix : (run whole : List (Entry E)) → run ≡ whole → IsSuffix run whole
+  same_suffix run [] k = k
+  same_suffix run (y ∷ whole) k = inl k
+
+  suffix_tail : (e : Entry E) (run whole : List (Entry E)) → IsSuffix (e ∷ run) whole → IsSuffix run whole
+  suffix_tail e run [] h = absurd (cc h)
+  suffix_tail e run (x ∷ whole) h = inr (⊎_elim (λ (k : (e ∷ run) ≡ (x ∷ whole)). same_suffix run whole (cc k)) (λ (k : IsSuffix (e ∷ run) whole). suffix_tail e run whole k) h)
+
+  suffix_all : (run : List (Entry E)) → IsSuffix run run
+  suffix_all [] = refl
+  suffix_all (e ∷ run) = inl refl
+
+  -- clocks, first of all: no id is drawn twice
+  world_leases : {S : Type 0} (kinds : Kinds S E) (sites parts : ℕ) (run : List (Entry E)) (state : PartId → PartState E) → IsWorldRun kinds sites parts run state → Leases run state
+  world_leases kinds sites parts [] state r = record { clock = λ q. subst (λ x. Clock x 0 0) (sym (r q)) (record { whole = λ u. refl; now = refl; below = λ m i. omega arith; room = λ m i. subst (λ x. ceiling x ≤ 1000) (sym i) (omega arith); capped = λ m i. subst (λ x. ceiling x ≤ end_of_time) (sym i) (omega arith) }) }
+  world_leases kinds sites parts (e ∷ run) state r = leases_step kinds sites parts run r.0 state e.at e.event r.2.step r.2.others (world_leases kinds sites parts run r.0 r.1)
+
+  shown_rises : {S : Type 0} (kinds : Kinds S E) (sites parts : ℕ) (e : Entry E) (run : List (Entry E)) (state : PartId → PartState E) → IsWorldRun kinds sites parts (e ∷ run) state → (p : PartId) → shown run p ≤ shown (e ∷ run) p
+  shown_rises kinds sites parts e run state r p =
+      let l = world_leases kinds sites parts run r.0 r.1 in
+      let m = world_leases kinds sites parts (e ∷ run) state r in
+      subst₂ (λ x y. x ≤ y) ((l.clock p).now) ((m.clock p).now) (rises kinds sites parts run r.0 state e.at e.event r.2.step r.2.others l p)
+
+  begin_shown : {S : Type 0} (kinds : Kinds S E) (sites parts : ℕ) (run : List (Entry E)) (at : PartId) (p q : PartState E) (event : Event E) (t : TxId) → PartStep kinds sites parts at p event q → is_begin event t ≡ true → (home t ≡ at) × (t.time ≡ p.now + 1)
+  begin_shown kinds sites parts run at p q (Began who dep u s) t st h = subst (λ x. (home x ≡ at) × (x.time ≡ p.now + 1)) (same_tx_is u t h) (ap home st.1.named, ap (λ x. x.time) st.1.named)
+  begin_shown kinds sites parts run at p q event t st h = off h
+
+  begin_time : (event : Event E) (t : TxId) (old : ℕ) → is_begin event t ≡ true → shown_after old event ≡ t.time
+  begin_time (Began who dep u s) t old h = ap (λ x. x.time) (same_tx_is u t h)
+  begin_time event t old h = off h
+
+  begun_time : {S : Type 0} (kinds : Kinds S E) (sites parts : ℕ) (run : List (Entry E)) (state : PartId → PartState E) → IsWorldRun kinds sites parts run state → (t : TxId) → begun run t ≡ true → t.time ≤ shown run (home t)
+  begun_time kinds sites parts [] state r t h = off h
+  begun_time kinds sites parts (e ∷ run) state r t h = ⊎_elim
+      (λ (k : is_begin e.event t ≡ true).
+      let x = begin_shown kinds sites parts run e.at (r.0 e.at) (state e.at) e.event t r.2.step k in
+      let same : same_part e.at (home t) ≡ true = subst (λ p. same_part p (home t) ≡ true) x.0 (same_part_refl (home t)) in
+      le_of_eq (sym (cond-true _ _ _ same ∙ begin_time e.event t (shown run (home t)) k)))
+      (λ (k : begun run t ≡ true). le_trans (begun_time kinds sites parts run r.0 r.1 t k) (shown_rises kinds sites parts e run state r (home t)))
+      (or_cases _ _ h)
+
+  -- an id begins once, and is updated after that and before any prepare
+  abbrev IsFresh : List (Entry E) → Event E → Type 0
+  IsFresh run (Began who dep t s) = begun run t ≡ false
+  IsFresh run (Updated t s o own op read u stamp) = (begun run t ≡ true) × ((p : PartId) → tried run t p ≡ false)
+  IsFresh run event = ⊤
+
+  shown_begun : (run : List (Entry E)) (p : PartId) (who dep : List ℕ) (t : TxId) (s : List ℕ) → WasShown run p (Began who dep t s) → begun run t ≡ true
+  shown_begun [] p who dep t s w = absurd w
+  shown_begun (e ∷ run) p who dep t s w = ⊎_elim
+      (λ (x : (e.at ≡ p) × (e.event ≡ Began who dep t s)). or_left _ _ (ap (λ a. is_begin a t) x.1 ∙ same_tx_refl t))
+      (λ (x : WasShown run p (Began who dep t s)). or_right _ _ (shown_begun run p who dep t s x))
+      w
+
+  AllFresh : List (Entry E) → Type 0
+  AllFresh [] = ⊤
+  AllFresh (e ∷ run) = IsFresh run e.event × AllFresh run
+
+  fresh_event : {S : Type 0} (kinds : Kinds S E) (sites parts : ℕ) (plan : Plan E) (run : List (Entry E)) (before : PartId → PartState E) (at : PartId) (q : PartState E) (event : Event E) → IsWorldRun kinds sites parts run before → IsAllowed plan run before at (attempt event) → PartStep kinds sites parts at (before at) event q → IsNew run event → IsFresh run event
+  fresh_event kinds sites parts plan run before at q (Began who dep t s) r al st n = false_from_ne_true _ (λ b.
+      let x = begin_shown kinds sites parts run at (before at) q (Began who dep t s) t st (same_tx_refl t) in
+      let l = ((world_leases kinds sites parts run before r).clock at).now in
+      let k : t.time ≤ shown run at = subst (λ p. t.time ≤ shown run p) x.0 (begun_time kinds sites parts run before r t b) in
+      let e = x.1 in
+      absurd (omega arith))
+  fresh_event kinds sites parts plan run before at q (Updated t s o own op read u stamp) r al st n = (shown_begun run (home t) al.who al.dependency t s al.begun, n.early)
+  fresh_event kinds sites parts plan run before at q event r al st n = tt
+
+  all_fresh : {S : Type 0} (kinds : Kinds S E) (sites parts : ℕ) (run : List (Entry E)) (state : PartId → PartState E) → IsWorldRun kinds sites parts run state → AllFresh run
+  unfolding AllFresh
+  all_fresh kinds sites parts [] state r = tt
+  all_fresh kinds sites parts (e ∷ run) state r = (fresh_event kinds sites parts (plan_of sites parts (e ∷ run)) run r.0 e.at (state e.at) e.event r.1 r.2.allowed r.2.step r.3, all_fresh kinds sites parts run r.0 r.1)
+
+  fresh_begin : (run : List (Entry E)) (a : Event E) (t : TxId) → IsFresh run a → begun run t ≡ true → is_begin a t ≡ false
+  fresh_begin run (Began who dep u s) t f b = false_from_ne_true _ (λ e. clash b (subst (λ x. begun run x ≡ false) (same_tx_is u t e) f))
+  fresh_begin run a t f b = refl
+
+  fresh_update : (run : List (Entry E)) (a : Event E) (t : TxId) (q : PartId) → IsFresh run a → tried run t q ≡ true → change_by a t ≡ []
+  fresh_update run (Updated u s o own op read x stamp) t q f b = cond-false _ _ _ (false_from_ne_true _ (λ e. clash b (subst (λ y. tried run y q ≡ false) (same_tx_is u t e) (f.1 q))))
+  fresh_update run a t q f b = refl
+
+  record SameBegin (run whole : List (Entry E)) (t : TxId) : Type 0 where
+    pub begun : begun whole t ≡ true
+    pub snapshot : snapshot_of whole t ≡ snapshot_of run t
+
+  same_begin : (run whole : List (Entry E)) (t : TxId) → AllFresh whole → IsSuffix run whole → begun run t ≡ true → SameBegin run whole t
+  unfolding AllFresh
+  same_begin run [] t f s b = off (subst (λ x. begun x t ≡ true) s b)
+  same_begin run (e ∷ whole) t f s b = ⊎_elim
+      (λ (k : run ≡ e ∷ whole). subst (λ x. SameBegin run x t) k (record { begun = b; snapshot = refl }))
+      (λ (k : IsSuffix run whole).
+      let i = same_begin run whole t f.1 k b in
+      let n = fresh_begin whole e.event t f.0 i.begun in record {
+        begun = or_right _ _ i.begun;
+        snapshot = cond-false _ _ _ n ∙ i.snapshot;
+      })
+      s
+
+  record SameUpdates (run whole : List (Entry E)) (t : TxId) (q : PartId) : Type 0 where
+    pub tried : tried whole t q ≡ true
+    pub updates : (p : PartId) → updates_at whole t p ≡ updates_at run t p
+
+  no_more : (b : Bool) (xs ys : List (Upd E)) → ys ≡ [] → xs ++ cond b ys [] ≡ xs
+  no_more true xs ys e = ap (λ l. xs ++ l) e ∙ append-nil xs
+  no_more false xs ys e = append-nil xs
+
+  same_updates : (run whole : List (Entry E)) (t : TxId) (q : PartId) → AllFresh whole → IsSuffix run whole → tried run t q ≡ true → SameUpdates run whole t q
+  unfolding AllFresh
+  same_updates run [] t q f s b = off (subst (λ x. tried x t q ≡ true) s b)
+  same_updates run (e ∷ whole) t q f s b = ⊎_elim
+      (λ (k : run ≡ e ∷ whole). subst (λ x. SameUpdates run x t q) k (record { tried = b; updates = λ p. refl }))
+      (λ (k : IsSuffix run whole).
+      let i = same_updates run whole t q f.1 k b in
+      let n = fresh_update whole e.event t q f.0 i.tried in record {
+        tried = or_right _ _ i.tried;
+        updates = λ p. no_more (same_part e.at p) (updates_at whole t p) (change_by e.event t) n ∙ i.updates p;
+      })
+      s
+
+  -- who has a snapshot has begun
+  snapshot_begun : (run : List (Entry E)) (t : TxId) → 1 ≤ length (snapshot_of run t) → begun run t ≡ true
+  snapshot_begun [] t h = absurd (omega arith)
+  snapshot_begun (e ∷ run) t h = ⊎_elim
+      (λ (k : is_begin e.event t ≡ true). or_left _ _ k)
+      (λ (k : is_begin e.event t ≡ false). or_right _ _ (snapshot_begun run t (subst (λ l. 1 ≤ length l) (cond-false _ (begin_vector e.event) (snapshot_of run t) k) h)))
+      (cases_Bool (is_begin e.event t))
+
+  part_begun : (sites : ℕ) (run : List (Entry E)) (t : TxId) (p : PartId) → is_some_update (changes_of sites run t p) ≡ true → begun run t ≡ true
+  part_begun sites run t p h = let o = own_parts sites run t p h in snapshot_begun run t (le_trans (leb-true _ _ o.1) (leb-true _ _ o.3))
+
+  prepare_takes : (plan : Plan E) (run : List (Entry E)) (parts : PartId → PartState E) (at : PartId) (a : Event E) (t : TxId) → IsAllowed plan run parts at a → is_prepare a t ≡ true → takes_part plan t at ≡ true
+  prepare_takes plan run parts at (Prepared u s l w n) t al h = subst (λ x. takes_part plan x at ≡ true) (same_tx_is u t h) al.takes
+  prepare_takes plan run parts at a t al h = off h
+
+  tried_begun : {S : Type 0} (kinds : Kinds S E) (sites parts : ℕ) (run : List (Entry E)) (state : PartId → PartState E) (t : TxId) (q : PartId) → IsWorldRun kinds sites parts run state → tried run t q ≡ true → begun run t ≡ true
+  tried_begun kinds sites parts [] state t q r h = off h
+  tried_begun kinds sites parts (e ∷ run) state t q r h = ⊎_elim
+      (λ (k : (same_part e.at q && is_prepare (attempt e.event) t) ≡ true).
+      part_begun sites (e ∷ run) t e.at (prepare_takes (plan_of sites parts (e ∷ run)) run r.0 e.at (attempt e.event) t r.2.allowed (and_parts (same_part e.at q) _ k).1))
+      (λ (k : tried run t q ≡ true). or_right _ _ (tried_begun kinds sites parts run r.0 t q r.1 k))
+      (or_cases _ _ h)
+
+  -- the two plans agree on t
+  record Agree (p w : Plan E) (t : TxId) : Type 0 where
+    pub snapshot : w.snapshot t ≡ p.snapshot t
+    pub updates : (q : PartId) → w.updates t q ≡ p.updates t q
+    pub lead : w.lead t ≡ p.lead t
+
+  agree : (sites parts : ℕ) (run whole : List (Entry E)) (t : TxId) (q : PartId) → AllFresh whole → IsSuffix run whole → begun run t ≡ true → tried run t q ≡ true → Agree (plan_of sites parts run) (plan_of sites parts whole) t
+  agree sites parts run whole t q f s b h =
+      let x = same_begin run whole t f s b in
+      let y = same_updates run whole t q f s h in
+      let same : (p : PartId) → changes_of sites whole t p ≡ changes_of sites run t p = λ p. λ i. cond (p.site == t.site && (leb 1 t.site && (leb t.site sites && leb t.site (length (x.snapshot i))))) (y.updates p i) [] in record {
+        snapshot = x.snapshot;
+        updates = same;
+        lead = λ i. first_of (home t) (filter (λ p. is_some_update (same p i)) (partitions t.site 1 parts));
+      }
+
+  agree_vector : (p w : Plan E) (run : List (Entry E)) (t : TxId) → Agree p w t → commit_vector p run t ≡ commit_vector w run t
+  agree_vector p w run t a = ap (λ v. replaced v t.site (time_of run t)) (sym a.snapshot)
+
+  abbrev is_end : Event E → TxId → Bool
+  is_end (Decided u c) t = same_tx u t
+  is_end (Finished u c) t = same_tx u t
+  is_end (Aborted u own) t = same_tx u t
+  is_end other t = false
+
+  may_known : {S : Type 0} (kinds : Kinds S E) (sites parts : ℕ) (id : PartId) (p : PartState E) (a : Event E) (t : TxId) → MayDo kinds sites parts id p a → is_end a t ≡ true → (pending p.log t || committed p.log t) ≡ true
+  may_known kinds sites parts id p (Decided u c) t m h = subst (λ x. (pending p.log x || committed p.log x) ≡ true) (same_tx_is u t h) m
+  may_known kinds sites parts id p (Finished u c) t m h = subst (λ x. (pending p.log x || committed p.log x) ≡ true) (same_tx_is u t h) m
+  may_known kinds sites parts id p (Aborted u own) t m h = or_left _ _ (subst (λ x. pending p.log x ≡ true) (same_tx_is u t h) m)
+  may_known kinds sites parts id p a t m h = off h
+
+  end_known : {S : Type 0} (kinds : Kinds S E) (sites parts : ℕ) (id : PartId) (p q : PartState E) (a : Event E) (t : TxId) → PartStep kinds sites parts id p a q → is_end (attempt a) t ≡ true → (pending p.log t || committed p.log t) ≡ true
+  end_known kinds sites parts id p q (Decided u c) t s h = may_known kinds sites parts id p (Decided u c) t s.1 h
+  end_known kinds sites parts id p q (Finished u c) t s h = may_known kinds sites parts id p (Finished u c) t s.1 h
+  end_known kinds sites parts id p q (Aborted u own) t s h = may_known kinds sites parts id p (Aborted u own) t s.1 h
+  end_known kinds sites parts id p q (Cut a) t s h = may_known kinds sites parts id p a t s.1 h
+  end_known kinds sites parts id p q a t s h = off h
+
+  allowed_too : (sites parts : ℕ) (run whole : List (Entry E)) (e : Entry E) (state : PartId → PartState E) (a : Event E) → ((t : TxId) → (is_prepare a t || is_end a t) ≡ true → Agree (plan_of sites parts (e ∷ run)) (plan_of sites parts whole) t) → ((t : TxId) → is_decided run t ≡ true → Agree (plan_of sites parts (e ∷ run)) (plan_of sites parts whole) t) → IsAllowed (plan_of sites parts (e ∷ run)) run state e.at a → IsAllowed (plan_of sites parts whole) run state e.at a
+  allowed_too sites parts run whole e state (Prepared t s l w n) agr past al =
+      let g = agr t (or_left (same_tx t t) false (same_tx_refl t)) in record {
+        fresh = al.fresh;
+        after_lead = λ ne. subst (λ x. voted run t x ≡ true) (sym g.lead) (al.after_lead (λ k. ne (k ∙ sym g.lead)));
+        takes = ap is_some_update (g.updates e.at) ∙ al.takes;
+        snapshot = al.snapshot ∙ sym g.snapshot;
+        lead = al.lead ∙ ap (λ p. p.part) (sym g.lead);
+        changes = al.changes ∙ sym (g.updates e.at);
+      }
+  allowed_too sites parts run whole e state (Decided t c) agr past al =
+      let g = agr t (same_tx_refl t) in record {
+        lead = al.lead ∙ sym g.lead;
+        here = al.here;
+        all = λ q h. al.all q (ap is_some_update (sym (g.updates q)) ∙ h);
+        kept = al.kept;
+        vector = al.vector ∙ agree_vector (plan_of sites parts (e ∷ run)) (plan_of sites parts whole) run t g;
+      }
+  allowed_too sites parts run whole e state (Finished t c) agr past al =
+      let g = agr t (same_tx_refl t) in record {
+        decided = al.decided;
+        vector = al.vector ∙ agree_vector (plan_of sites parts (e ∷ run)) (plan_of sites parts whole) run t g;
+      }
+  allowed_too sites parts run whole e state (Aborted t true) agr past al = al
+  allowed_too sites parts run whole e state (Aborted t false) agr past al =
+      let g = agr t (same_tx_refl t) in
+      ⊎_elim (λ (k : e.at ≡ lead_of sites parts (e ∷ run) t). inl (k ∙ sym g.lead)) (λ (k : TellsAborted (state (lead_of sites parts (e ∷ run) t)) t). inr (subst (λ x. TellsAborted (state x) t) (sym g.lead) k)) al
+  allowed_too sites parts run whole e state (Read t s o own read value) agr past al = record { site = al.site; who = al.who; dependency = al.dependency; begun = al.begun; place = al.place; earlier = al.earlier }
+  allowed_too sites parts run whole e state (Updated t s o own op read u stamp) agr past al = record { site = al.site; who = al.who; dependency = al.dependency; begun = al.begun; place = al.place; earlier = al.earlier }
+  allowed_too sites parts run whole e state (Took m) agr past al = record { from = al.from; to = al.to; part = al.part; asked = al.asked; shown = al.shown }
+  allowed_too sites parts run whole e state (Heard q b stable) agr past al = record { least = al.least; most = al.most; shown = al.shown }
+  allowed_too sites parts run whole e state (Refused (AskFinish t c) why) agr past al = (al.0, ap is_some_update ((past t al.0).updates e.at) ∙ al.1)
+  allowed_too sites parts run whole e state (Refused (AskTake m) why) agr past al = record { from = al.from; to = al.to; part = al.part; asked = al.asked; shown = al.shown }
+  allowed_too sites parts run whole e state a agr past al = al
+
+  planned_too : (sites parts : ℕ) (run whole : List (Entry E)) (at : PartId) (a : Event E) → AllFresh whole → IsSuffix ((record { at = at; event = a }) ∷ run) whole → IsPlanned (plan_of sites parts whole) at a
+  planned_too sites parts run whole at (Began who dep t s) f suf =
+      let x = same_begin ((record { at = at; event = Began who dep t s }) ∷ run) whole t f suf (or_left (same_tx t t) (begun run t) (same_tx_refl t)) in
+      sym (x.snapshot ∙ cond-true (same_tx t t) s (snapshot_of run t) (same_tx_refl t))
+  planned_too sites parts run whole at a f suf = tt
+
+  -- a run by the rules on what came before is a run under the plan of the whole
+  fits : {S : Type 0} (kinds : Kinds S E) (sites parts : ℕ) (run : List (Entry E)) (state : PartId → PartState E) → IsWorldRun kinds sites parts run state → (whole : List (Entry E)) → AllFresh whole → IsSuffix run whole → IsRun kinds (plan_of sites parts whole) run state
+  fits kinds sites parts [] state r whole f s = r
+  fits kinds sites parts (e ∷ run) state r whole f s =
+      let before = r.0 in
+      let k : Kept kinds (plan_of sites parts run) run before = law_plan kinds (plan_of sites parts run) run before (fits kinds sites parts run before r.1 run (all_fresh kinds sites parts run before r.1) (suffix_all run)) in
+      let log = (before e.at).log in
+      let of_tried : (t : TxId) → tried (e ∷ run) t e.at ≡ true → Agree (plan_of sites parts (e ∷ run)) (plan_of sites parts whole) t = λ t h. agree sites parts (e ∷ run) whole t e.at f s (tried_begun kinds sites parts (e ∷ run) state t e.at r h) h in
+      let known : (t : TxId) → (pending log t || committed log t) ≡ true → prepared log t ≡ true = λ t h. ⊎_elim
+      (λ (x : pending log t ≡ true). (pending_parts log t x).prepared)
+      (λ (x : committed log t ≡ true). k.fate.first e.at log t (image_log (before e.at)) x)
+      (or_cases _ _ h) in
+      let lead_tried : (t : TxId) → is_decided run t ≡ true → tried run t (lead_of sites parts run t) ≡ true = λ t d. voted_tried run t (lead_of sites parts run t) (full_now (plan_of sites parts run) run before k.fate t d).lead in (
+        before,
+        fits kinds sites parts run before r.1 whole f (suffix_tail e run whole s),
+        record {
+          place = record { least_site = r.2.place.least_site; most_site = r.2.place.most_site; least_part = r.2.place.least_part; most_part = r.2.place.most_part };
+          allowed = allowed_too sites parts run whole e before (attempt e.event)
+              (λ t h. of_tried t (⊎_elim
+              (λ (x : is_prepare (attempt e.event) t ≡ true). or_left _ _ (and_from _ _ (same_part_refl e.at) x))
+              (λ (x : is_end (attempt e.event) t ≡ true). or_right _ _ (k.fate.was_tried e.at log t (image_log (before e.at)) (known t (end_known kinds sites parts e.at (before e.at) (state e.at) e.event t r.2.step x))))
+              (or_cases _ _ h)))
+              (λ t d. agree sites parts (e ∷ run) whole t (lead_of sites parts run t) f s
+              (or_right _ _ (tried_begun kinds sites parts run before t (lead_of sites parts run t) r.1 (lead_tried t d)))
+              (or_right _ _ (lead_tried t d)))
+              r.2.allowed;
+          step = r.2.step;
+          others = r.2.others;
+        },
+        planned_too sites parts run whole e.at e.event f s,
+      )
+
+  pub law_world : {S : Type 0} (kinds : Kinds S E) (sites parts : ℕ) (run : List (Entry E)) (state : PartId → PartState E) → IsWorldRun kinds sites parts run state → IsLawfulWorld kinds (plan_of sites parts run) run
+  law_world kinds sites parts run state r =
+      let plan = plan_of sites parts run in
+      let under = fits kinds sites parts run state r run (all_fresh kinds sites parts run state r) (suffix_all run) in
+      let k = law_plan kinds plan run state under in
+      let right = right_all kinds plan run state k in
+      let facts = facts_of kinds plan run state k in
+      let made = stories kinds plan run sites parts (world_leases kinds sites parts) run state r right in
+      let all = planned_changes sites parts run in
+      law_kept kinds plan run state k (meanings kinds plan run facts made all sites parts (world_leases kinds sites parts) run state r right) (causal_stores kinds plan run made all) (show_events kinds plan run state under) (fresh_events kinds plan run state under) (answer_up kinds plan run state under)

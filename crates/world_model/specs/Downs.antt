@@ -1,0 +1,27 @@
+-- Which partitions are down, by what a run shows.
+use Rattle.std.specs.Prelude.{◌≡◌, Bool, true, false, if◌then◌else◌, List, [], ◌∷◌, ⊤}
+use Rattle.site_vector.specs.declared.ids.PartId.{PartId}
+use Rattle.site_vector.specs.Ids.{same_part}
+use Rattle.world_model.specs.Event.{IsDown, Event, Crashed, Restarted, Refused, Cut, Entry}
+
+module _ {E : Type 0} where
+  abbrev pub down_after : Bool → Event E → Bool
+  down_after old (Cut what) = true
+  down_after old Crashed = true
+  down_after old (Restarted n b named listed) = false
+  down_after old other = old
+
+  -- it crashed, and has not restarted since
+  abbrev pub is_down : List (Entry E) → PartId → Bool
+  is_down [] p = false
+  is_down (e ∷ run) p = if same_part e.at p then down_after (is_down run p) e.event else is_down run p
+
+  -- a partition that is down restarts, or says that it is down; one that is up does neither
+  abbrev pub AnswersAsUp : List (Entry E) → PartId → Event E → Type 0
+  AnswersAsUp run p (Restarted n b named listed) = is_down run p ≡ true
+  AnswersAsUp run p (Refused asked IsDown) = is_down run p ≡ true
+  AnswersAsUp run p other = is_down run p ≡ false
+
+  abbrev pub AnswerAsUp : List (Entry E) → Type 0
+  AnswerAsUp [] = ⊤
+  AnswerAsUp (e ∷ run) = AnswersAsUp run e.at e.event × AnswerAsUp run

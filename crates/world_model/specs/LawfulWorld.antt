@@ -1,0 +1,35 @@
+-- What a lawful run of the world is.
+use Rattle.std.specs.Prelude.{◌≡◌, ℕ, ◌<◌, true, false, List}
+use Rattle.site_vector.specs.declared.ids.PartId.{PartId}
+use Rattle.site_vector.specs.declared.ids.TxId.{TxId}
+use Rattle.site_vector.specs.Vector.{entry}
+use Rattle.world_model.specs.Event.{Entry, EventsAre, is_decided, time_of, was_aborted}
+use Rattle.world_model.specs.Partition.{Kinds}
+use Rattle.world_model.specs.Plan.{Plan}
+use Rattle.world_model.specs.WorldLaw.{sees_tx, IsRight, ClocksAre, HoldsPast, KeepsDecided, HaveCausesAt}
+use Rattle.world_model.specs.Downs.{AnswerAsUp}
+use Rattle.world_model.specs.Shown.{ShowAt}
+use Rattle.world_model.specs.Stable.{AreFresh}
+use Rattle.world_model.specs.Meaning.{HaveMeaning, AreCausal}
+
+pub record IsLawfulWorld {S E : Type 0} (kinds : Kinds S E) (plan : Plan E) (run : List (Entry E)) : Type 0 where
+  -- reads, updates that read, and messages, in the whole run
+  pub right : EventsAre (IsRight kinds plan run) run
+  -- each value is the meaning of what is read, and each stamp is due by it
+  pub meant : HaveMeaning kinds plan run run
+  -- so whatever is stored or sent names only what its transaction has seen
+  pub causal : (t : TxId) (p : PartId) → AreCausal kinds plan run t (plan.updates t p)
+  pub clock : ClocksAre run
+  pub past : EventsAre HoldsPast run
+  pub decided_stay : KeepsDecided plan run
+  pub causes : HaveCausesAt plan run
+  pub downs : AnswerAsUp run
+  -- messages, takes, reports and waits show the bounds and what is pending, as earlier events do
+  pub shown : ShowAt plan run
+  -- snapshots have the stable entries, by the reports that were heard
+  pub fresh : AreFresh plan run
+  -- what was aborted anywhere is never decided
+  pub fate : (t : TxId) (p : PartId) → was_aborted run t p ≡ true → is_decided run t ≡ false
+  pub strict : (t : TxId) → is_decided run t ≡ true → entry (plan.snapshot t) t.site < time_of run t
+  -- visible sets are closed
+  pub closed : (s : List ℕ) (t u : TxId) → sees_tx plan run s t ≡ true → sees_tx plan run (plan.snapshot t) u ≡ true → sees_tx plan run s u ≡ true

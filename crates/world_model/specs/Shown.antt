@@ -1,0 +1,81 @@
+-- What the events of a run show of a partition: its bounds, and what is pending there.
+use Rattle.std.specs.Prelude.{◌≡◌, ◌≢◌, ◌⊎◌, ℕ, ◌+◌, ◌<◌, ◌≤◌, Bool, true, false, not, ◌&&◌, ◌||◌, ◌==◌, if◌then◌else◌, List, [], ◌∷◌, ⊤}
+use Rattle.std.specs.declared.cmp.Ordering.TheVariants.{Less}
+use Rattle.site_vector.specs.declared.ids.PartId.{PartId}
+use Rattle.site_vector.specs.declared.ids.TxId.{TxId}
+use Rattle.site_vector.specs.Ids.{same_part, same_tx}
+use Rattle.site_vector.specs.Vector.{entry}
+use Rattle.crdt_core.specs.declared.object.ObjectId.{ObjectId}
+use Rattle.world_model.specs.Log.{touches}
+use Rattle.world_model.specs.Event.{AskRead, AskUpdate, AskTake, TxPending, HasGap, IsRepeat, Event, Prepared, Decided, Finished, Aborted, Sent, Took, Reported, Restarted, Refused, Entry, shown}
+use Rattle.world_model.specs.Partition.{IsOther, names_pending, pending_cmp}
+use Rattle.world_model.specs.Plan.{Plan}
+
+-- the time of t in such a list
+abbrev pub listed_time : List (TxId × ℕ) → TxId → ℕ
+listed_time [] t = 0
+listed_time (x ∷ xs) t = if same_tx x.0 t then x.1 else listed_time xs t
+
+module _ {E : Type 0} where
+  -- the bound for site j: the end of the last message taken from there, or what a later restart showed
+  abbrev pub bound_after : ℕ → ℕ → Event E → ℕ
+  bound_after j old (Took m) = if m.from == j then m.hi else old
+  bound_after j old (Restarted n b named listed) = entry b j
+  bound_after j old other = old
+
+  abbrev pub bound_shown : List (Entry E) → PartId → ℕ → ℕ
+  bound_shown [] p j = 0
+  bound_shown (e ∷ run) p j = if same_part e.at p then bound_after j (bound_shown run p j) e.event else bound_shown run p j
+
+  -- a prepare adds t, a decide, finish or abort removes it, a restart tells anew
+  abbrev pub pending_after : TxId → Bool → Event E → Bool
+  pending_after t old (Prepared u s l w n) = same_tx u t || old
+  pending_after t old (Decided u c) = not (same_tx u t) && old
+  pending_after t old (Finished u c) = not (same_tx u t) && old
+  pending_after t old (Aborted u own) = not (same_tx u t) && old
+  pending_after t old (Restarted n b named listed) = names_pending listed t
+  pending_after t old other = old
+
+  abbrev pub pending_shown : List (Entry E) → PartId → TxId → Bool
+  pending_shown [] p t = false
+  pending_shown (e ∷ run) p t = if same_part e.at p then pending_after t (pending_shown run p t) e.event else pending_shown run p t
+
+  abbrev pub time_after : TxId → ℕ → Event E → ℕ
+  time_after t old (Prepared u s l w n) = if same_tx u t then n else old
+  time_after t old (Restarted n b named listed) = listed_time listed t
+  time_after t old other = old
+
+  abbrev pub pending_time : List (Entry E) → PartId → TxId → ℕ
+  pending_time [] p t = 0
+  pending_time (e ∷ run) p t = if same_part e.at p then time_after t (pending_time run p t) e.event else pending_time run p t
+
+  -- the own bound, by what was shown
+  pub record IsOwnBoundAt (run : List (Entry E)) (p : PartId) (b : ℕ) : Type 0 where
+    pub most : b ≤ shown run p
+    pub below : (u : TxId) → pending_shown run p u ≡ true → b < pending_time run p u
+    pub reached : (b ≡ shown run p) ⊎ ((u : TxId) × (pending_shown run p u ≡ true) × (pending_time run p u ≡ b + 1))
+
+  -- the first that is pending, by prepare time and id, changes the object and may belong to the snapshot of t
+  pub record IsFirstPending (plan : Plan E) (run : List (Entry E)) (p : PartId) (s : List ℕ) (o : ObjectId) (u : TxId) (n : ℕ) : Type 0 where
+    pub clock : entry s p.site ≤ shown run p
+    pub waiting : pending_shown run p u ≡ true
+    pub changes : touches (plan.updates u p) o ≡ true
+    pub time : n ≡ pending_time run p u
+    pub early : n ≤ entry s p.site
+    pub first : (w : TxId) → pending_shown run p w ≡ true → touches (plan.updates w p) o ≡ true → pending_cmp (w, pending_time run p w) (u, n) ≢ Less
+
+  -- what an event shows of bounds and of what is pending
+  abbrev pub ShowsAt : Plan E → List (Entry E) → PartId → Event E → Type 0
+  ShowsAt plan run p (Sent asked m) = IsOwnBoundAt run p m.hi
+  ShowsAt plan run p (Took m) = (m.lo ≤ bound_shown run p m.from) × (bound_shown run p m.from < m.hi)
+  ShowsAt plan run p (Reported b) = IsOwnBoundAt run p (entry b p.site) × ((j : ℕ) → IsOther plan.sites p.site j → entry b j ≡ bound_shown run p j)
+  ShowsAt plan run p (Aborted t own) = pending_shown run p t ≡ true
+  ShowsAt plan run p (Refused (AskRead t s o own) (TxPending u n)) = IsFirstPending plan run p s o u n
+  ShowsAt plan run p (Refused (AskUpdate t s o own op) (TxPending u n)) = IsFirstPending plan run p s o u n
+  ShowsAt plan run p (Refused (AskTake m) (HasGap n)) = (n ≡ bound_shown run p m.from) × (n < m.lo)
+  ShowsAt plan run p (Refused (AskTake m) (IsRepeat n)) = (n ≡ bound_shown run p m.from) × (m.lo ≤ n) × (m.hi ≤ n)
+  ShowsAt plan run p other = ⊤
+
+  abbrev pub ShowAt : Plan E → List (Entry E) → Type 0
+  ShowAt plan [] = ⊤
+  ShowAt plan (e ∷ run) = ShowsAt plan run e.at e.event × ShowAt plan run

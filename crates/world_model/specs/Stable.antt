@@ -1,0 +1,43 @@
+-- Fresh snapshots: the stable entries of a partition, by what a run shows.
+use Rattle.std.specs.Prelude.{◌≡◌, ℕ, ◌<◌, ◌≤◌, max, ◌==◌, if◌then◌else◌, List, [], ◌∷◌, ⊤}
+use Rattle.site_vector.specs.declared.ids.PartId.{PartId}
+use Rattle.site_vector.specs.Ids.{same_part}
+use Rattle.site_vector.specs.Vector.{entry}
+use Rattle.world_model.specs.Event.{AskBegin, StableBehind, Event, Began, Heard, Restarted, Refused, Entry}
+use Rattle.world_model.specs.Partition.{IsOther, lowest}
+use Rattle.world_model.specs.Plan.{Plan}
+use Rattle.world_model.specs.Shown.{bound_shown}
+
+module _ {E : Type 0} where
+  -- the greatest entry for site j in the reports of partition q that were heard since the last restart
+  abbrev pub heard_from : ℕ → ℕ → ℕ → Event E → ℕ
+  heard_from q j old (Heard k b stable) = if k == q then max old (entry b j) else old
+  heard_from q j old (Restarted n b named listed) = 0
+  heard_from q j old other = old
+
+  abbrev pub heard_shown : List (Entry E) → PartId → ℕ → ℕ → ℕ
+  heard_shown [] p q j = 0
+  heard_shown (e ∷ run) p q j = if same_part e.at p then heard_from q j (heard_shown run p q j) e.event else heard_shown run p q j
+
+  -- what p knows of how far partition q of its site has come with site j: its own bound, or what it heard
+  abbrev pub known_shown : List (Entry E) → PartId → ℕ → ℕ → ℕ
+  known_shown run p j q = if p.part == q then bound_shown run p j else heard_shown run p q j
+
+  abbrev pub stable_shown : ℕ → List (Entry E) → PartId → ℕ → ℕ
+  stable_shown parts run p j = lowest (known_shown run p j) parts
+
+  -- the least other site whose stable entry is below what the session depends on
+  pub record IsBehindAt (plan : Plan E) (run : List (Entry E)) (p : PartId) (dependency : List ℕ) (j n : ℕ) : Type 0 where
+    pub other : IsOther plan.sites p.site j
+    pub have : n ≡ stable_shown plan.parts run p j
+    pub behind : n < entry dependency j
+    pub least : (i : ℕ) → IsOther plan.sites p.site i → stable_shown plan.parts run p i < entry dependency i → j ≤ i
+
+  abbrev pub IsFreshAt : Plan E → List (Entry E) → PartId → Event E → Type 0
+  IsFreshAt plan run p (Began who dep t s) = (j : ℕ) → IsOther plan.sites p.site j → entry s j ≡ stable_shown plan.parts run p j
+  IsFreshAt plan run p (Refused (AskBegin who dep) (StableBehind j n)) = IsBehindAt plan run p dep j n
+  IsFreshAt plan run p other = ⊤
+
+  abbrev pub AreFresh : Plan E → List (Entry E) → Type 0
+  AreFresh plan [] = ⊤
+  AreFresh plan (e ∷ run) = IsFreshAt plan run e.at e.event × AreFresh plan run
