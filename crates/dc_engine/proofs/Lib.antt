@@ -1,5 +1,6 @@
 pub mod Moves
-pub mod Reading
+pub mod Standing
 pub mod Takes
-pub mod Writing
+pub mod Written
 pub mod Progress
+pub mod StandIn

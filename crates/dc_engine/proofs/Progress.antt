@@ -10,8 +10,8 @@ use Rattle.dc_engine.specs.declared.fault.Fault.{Fault}
 use Rattle.dc_engine.specs.declared.fault.Fault.TheVariants as fault
 use Rattle.dc_engine.specs.Played.{Played, PlayedEnded, PlayedTooLong, PlayedPart, AreFirst}
 use Rattle.dc_engine.specs.Blocks.{Progress, Stopped, GoesOn, At, AppendsPart, Writes, WritesPart, Ends, EndsPart, AnswersFirst, TakesOne}
-use Rattle.dc_engine.proofs.Reading.{stands_start, stands-ended, stands-first}
-use Rattle.dc_engine.proofs.Writing.{written_none, appends_more, on_err}
+use Rattle.dc_engine.proofs.Standing.{stands_start, stands-ended, stands-first}
+use Rattle.dc_engine.proofs.Written.{written_none, appends_more, on_err}
 
 taken_none : (input : Option (List ℕ)) → Consumes input input []
 taken_none None = tt

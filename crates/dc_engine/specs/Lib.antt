@@ -3,3 +3,5 @@ pub mod Causes
 pub mod Lines
 pub mod Played
 pub mod Replies
+pub mod StandIn
+pub mod Status

@@ -54,7 +54,7 @@ fn has_more<S: Source>(source: &mut S) -> Result<bool, Fault>
 }
 
 /// Writes all bytes.
-#[tactic(auto, using(crate::proofs::Writing::written_more, crate::proofs::Writing::written_none, crate::proofs::Writing::part_of))]
+#[tactic(auto, using(crate::proofs::Written::written_more, crate::proofs::Written::written_none, crate::proofs::Written::part_of))]
 fn write_all<K: Sink>(sink: &mut K, bytes: &[u8]) -> Result<(), Fault>
     ensures later { K.faults sink.old ≤ K.faults sink.new }
     ensures cause { IfErr result (λ e. (e ≡ Fault.Write) × Rose (K.faults sink.old) (K.faults sink.new)) }
@@ -72,7 +72,7 @@ fn write_all<K: Sink>(sink: &mut K, bytes: &[u8]) -> Result<(), Fault>
 }
 
 /// Answers the lines that end in the block and writes their replies, those before a want of memory too.
-#[tactic(auto, using(crate::proofs::Writing::writes_all))]
+#[tactic(auto, using(crate::proofs::Written::writes_all))]
 fn answer_block<K: Sink, R: Responder>(
     sink: &mut K,
     responder: &mut R,
@@ -100,7 +100,7 @@ fn answer_block<K: Sink, R: Responder>(
 }
 
 /// Answers a last line that has no LF, and writes the reply.
-#[tactic(auto, using(crate::proofs::Writing::ends_none, crate::proofs::Writing::ends_line, crate::proofs::Writing::ends_front, crate::proofs::Writing::ends_before))]
+#[tactic(auto, using(crate::proofs::Written::ends_none, crate::proofs::Written::ends_line, crate::proofs::Written::ends_front, crate::proofs::Written::ends_before))]
 fn answer_end<K: Sink, R: Responder>(
     sink: &mut K,
     responder: &mut R,

@@ -2,12 +2,21 @@
 #![tactic(auto)]
 
 mod blocks;
+mod edge;
 mod fault;
 mod kept;
 mod lines;
 mod responder;
+mod script;
 mod sink;
 mod source;
+mod stand_in;
+mod status;
+mod top;
+mod words;
 
+pub use edge::{Reading, Writing};
 pub use sink::Sink;
 pub use source::{Failed, Source};
+pub use status::Status;
+pub use top::{play, run};
