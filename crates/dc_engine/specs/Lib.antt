@@ -5,3 +5,4 @@ pub mod Played
 pub mod Replies
 pub mod StandIn
 pub mod Status
+pub mod Words

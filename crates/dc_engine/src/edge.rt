@@ -22,10 +22,11 @@ impl<R: Read + Drop> Source for Reading<R> {
     ghost faults = { λ s. s.faults };
 
     fn read(&mut self, buf: &mut [u8]) -> Result<usize, Failed> {
+        let faults = self.faults;
         match self.inner.read(buf) {
             Ok(count) => Ok(count),
             Err(_) => {
-                self.faults = self.faults.saturating_add(1);
+                self.faults = faults.saturating_add(1);
                 Err(Failed)
             }
         }
@@ -51,14 +52,15 @@ impl<W: Write + Drop> Sink for Writing<W> {
     ghost faults = { λ s. s.faults };
 
     fn write(&mut self, bytes: &[u8]) -> Result<usize, Failed> {
+        let faults = self.faults;
         match self.inner.write(bytes) {
             Ok(0) => {
-                self.faults = self.faults.saturating_add(1);
+                self.faults = faults.saturating_add(1);
                 Err(Failed)
             }
             Ok(count) => Ok(count),
             Err(_) => {
-                self.faults = self.faults.saturating_add(1);
+                self.faults = faults.saturating_add(1);
                 Err(Failed)
             }
         }

@@ -32,6 +32,7 @@ pub(crate) fn play_script<S: Source, K: Sink, R: Responder>(
     ensures write_cause { result ≡ Status.WRITE_FAULT → Rose (K.faults sink.old) (K.faults sink.new) }
     ensures no_memory { result ≡ Status.NO_MEMORY → PlayedPart (Replies R.reached) (S.left source.old) (K.held sink.old) (K.held sink.new) }
     ensures too_long { result ≡ Status.TOO_LONG → PlayedTooLong 67108864 (Replies R.reached) (S.left source.old) (S.left source.new) (K.held sink.old) (K.held sink.new) }
+    ensures not_usage { result ≢ Status.USAGE }
     ensures named { (result ≡ Status.DONE) ⊎ (result ≡ Status.READ_FAULT) ⊎ (result ≡ Status.WRITE_FAULT) ⊎ (result ≡ Status.NO_MEMORY) ⊎ (result ≡ Status.TOO_LONG) }
 {
     match play_blocks(alloc, BLOCK, MOST_BYTES, source, sink, responder) {

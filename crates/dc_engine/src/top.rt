@@ -1,6 +1,7 @@
-ghost use Rattle.std.specs.Prelude.{◌≡◌, ◌≢◌, ◌↔◌, ◌∷◌, [], codes, map};
+ghost use Rattle.std.specs.Prelude.{◌≡◌, ◌≢◌, ◌↔◌, false, map};
 ghost use Rattle.std.specs.Io.KnownBytes.{Keeps};
 ghost use Rattle.dc_engine.specs.Causes.{Rose};
+ghost use Rattle.dc_engine.specs.Words.{asks_play};
 
 use crate::script::play_script;
 use crate::sink::Sink;
@@ -12,6 +13,7 @@ use std::alloc::Global;
 
 /// Plays a script from the source to the sink.
 pub fn play<S: Source, K: Sink>(alloc: Global, source: &mut S, sink: &mut K) -> Status
+    ensures not_usage { result ≢ Status.USAGE }
     ensures read_cause { result ≡ Status.READ_FAULT → Rose (S.faults source.old) (S.faults source.new) }
     ensures write_cause { result ≡ Status.WRITE_FAULT → Rose (K.faults sink.old) (K.faults sink.new) }
 {
@@ -25,7 +27,7 @@ pub fn run<S: Source, K: Sink>(
     source: &mut S,
     sink: &mut K,
 ) -> Status
-    ensures usage { (result ≡ Status.USAGE) ↔ (map (λ word. word.now) words.now ≢ codes "play" ∷ []) }
+    ensures usage { (result ≡ Status.USAGE) ↔ (asks_play (map (λ word. word.now) words.now) ≡ false) }
     ensures read_nothing { result ≡ Status.USAGE → source.new ≡ source.old }
     ensures written_nothing { result ≡ Status.USAGE → sink.new ≡ sink.old }
     ensures read_cause { result ≡ Status.READ_FAULT → Rose (S.faults source.old) (S.faults source.new) }
