@@ -1,6 +1,7 @@
 pub mod Blocks
 pub mod Causes
 pub mod Lines
+pub mod Memory
 pub mod Played
 pub mod Replies
 pub mod StandIn

@@ -6,6 +6,7 @@ mod edge;
 mod fault;
 mod kept;
 mod lines;
+mod memory;
 mod responder;
 mod script;
 mod sink;
@@ -16,6 +17,7 @@ mod top;
 mod words;
 
 pub use edge::{Reading, Writing};
+pub use memory::{Calls, SliceSource, VecSink};
 pub use sink::Sink;
 pub use source::{Failed, Source};
 pub use status::Status;
