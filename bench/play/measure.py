@@ -15,13 +15,25 @@ PROGRAM = sys.argv[1] if len(sys.argv) > 1 else os.path.join(HERE, "../../crates
 LINES = int(sys.argv[2]) if len(sys.argv) > 2 else 1_000_000
 
 
+def peak_of(pid):
+    """The peak so far, in KiB, as the kernel tells it. The usage that wait4 gives counts this script's own memory."""
+    with open("/proc/%d/status" % pid) as status:
+        for line in status:
+            if line.startswith("VmHWM:"):
+                return int(line.split()[1])
+    return 0
+
+
 def measure(script, replies):
     with open(script, "rb") as source, open(replies, "wb") as sink:
         start = time.monotonic()
         child = subprocess.Popen([PROGRAM, "play"], stdin=source, stdout=sink)
-        _, status, usage = os.wait4(child.pid, 0)
+        peak = 0
+        while child.poll() is None:
+            peak = max(peak, peak_of(child.pid))
+            time.sleep(0.001)
         seconds = time.monotonic() - start
-    return os.waitstatus_to_exitcode(status), seconds, usage.ru_maxrss
+    return child.returncode, seconds, peak
 
 
 def main():
