@@ -13,6 +13,8 @@ mod sink;
 mod source;
 mod stand_in;
 mod status;
+#[cfg(test)]
+mod tests;
 mod top;
 mod words;
 
