@@ -3,7 +3,7 @@ use Rattle.std.proofs.Common.{◌≡◌, ◌≢◌, ℕ, zero, suc, ◌+◌, ◌
 use Rattle.std.proofs.lemmas.List.{append-nil, take-append-drop, take_all}
 use Rattle.dc_engine.specs.Replies.{AnswersLine}
 use Rattle.dc_engine.specs.Blocks.{HasNoEnd, EndsAt, Stands, At, Moves, MovesPart}
-use Rattle.dc_engine.proofs.Reading.{stands_piece, stands_end}
+use Rattle.dc_engine.proofs.Standing.{stands_piece, stands_end}
 use Rattle.dc_engine.proofs.Takes.{take-cut, front_of, rest_of}
 
 -- all fresh bytes but the rest were moved by

@@ -1,23 +1,17 @@
 -- What was read and written so far, block by block.
-use Rattle.std.proofs.Common.{◌≡◌, ℕ, ◌+◌, ◌-◌, ◌≤◌, Bool, true, false, List, [], ◌∷◌, ◌++◌, Option, Some, None, length, take, refl, sym, ap, ◌∙◌, subst, arith, append_assoc, length-append}
-use Rattle.std.proofs.lemmas.List.{append-nil, take_all}
+use Rattle.std.specs.Prelude.{Ok}
+use Rattle.std.proofs.Common.{◌≡◌, ◌≢◌, ℕ, zero, suc, ◌+◌, ◌-◌, ◌≤◌, Bool, true, false, List, [], ◌∷◌, ◌++◌, Option, Some, None, length, take, refl, sym, ap, zero-add, ◌∙◌, subst, arith, append_assoc, length-append}
+use Rattle.std.proofs.lemmas.List.{append-nil, take_all, length-take-le}
 use Rattle.std.proofs.Math.Seq.{take-append-add}
 use Rattle.std.specs.Io.KnownBytes.{Appends, Consumes, Keeps, IsAtEnd}
 use Rattle.dc_engine.specs.Lines.{lines_of, ended_lines}
 use Rattle.dc_engine.specs.Replies.{Replies}
+use Rattle.dc_engine.specs.declared.fault.Fault.{Fault}
+use Rattle.dc_engine.specs.declared.fault.Fault.TheVariants as fault
 use Rattle.dc_engine.specs.Played.{Played, PlayedEnded, PlayedTooLong, PlayedPart, AreFirst}
-use Rattle.dc_engine.specs.Blocks.{At, AppendsPart, Writes, WritesPart, Ends, EndsPart, AnswersFirst, TakesOne}
-use Rattle.dc_engine.proofs.Reading.{stands_start, stands-ended, stands-first}
-use Rattle.dc_engine.proofs.Writing.{written_none, appends_more, on_err}
-
--- all blocks so far were answered; so many bytes may still be read
-pub record Progress {M : Type 0} (reached : M → List (List ℕ) → List ℕ → Type 0) (m : M) (input left before after : Option (List ℕ)) (kept : List ℕ) (room : ℕ) : Type 0 where
-  pub read : List ℕ
-  pub written : List ℕ
-  pub from_source : Consumes input left read
-  pub count : length read + room ≡ 67108864
-  pub to_sink : Appends before after written
-  pub at : At reached m read kept written
+use Rattle.dc_engine.specs.Blocks.{Progress, Stopped, GoesOn, At, AppendsPart, Writes, WritesPart, Ends, EndsPart, AnswersFirst, TakesOne}
+use Rattle.dc_engine.proofs.Standing.{stands_start, stands-ended, stands-first}
+use Rattle.dc_engine.proofs.Written.{written_none, appends_more, on_err}
 
 taken_none : (input : Option (List ℕ)) → Consumes input input []
 taken_none None = tt
@@ -48,20 +42,20 @@ first_at_end None left read lines later f c e = tt
 first_at_end (Some xs) None read lines later f c e = absurd c
 first_at_end (Some xs) (Some ys) read lines later f c e = (later, ap lines_of (c ∙ ap (λ s. read ++ s) e ∙ append-nil read) ∙ f)
 
-module _ {M : Type 0} (reached : M → List (List ℕ) → List ℕ → Type 0) where
-  pub progress_start : (m : M) (input before : Option (List ℕ)) → reached m [] [] → Progress reached m input input before before [] 67108864
+module _ {M : Type 0} (most : ℕ) (reached : M → List (List ℕ) → List ℕ → Type 0) where
+  pub progress_start : (m : M) (input before : Option (List ℕ)) → reached m [] [] → Progress most reached m input input before before [] most
   progress_start m input before r = record {
     read = [];
     written = [];
     from_source = taken_none input;
-    count = refl;
+    count = zero-add most;
     to_sink = written_none before;
     at = record { lines = []; pending = []; stands = stands_start; is_kept = refl; replied = r };
   }
 
   pub progress_more : (m new : M) (input left rest before mid after : Option (List ℕ)) (kept new_kept piece : List ℕ) (room n : ℕ) →
-      Progress reached m input left before mid kept room → Consumes left rest piece → length piece ≡ n → n ≤ room → Writes reached m new piece kept new_kept mid after →
-      Progress reached new input rest before after new_kept (room - n)
+      Progress most reached m input left before mid kept room → Consumes left rest piece → length piece ≡ n → n ≤ room → Writes reached m new piece kept new_kept mid after →
+      Progress most reached new input rest before after new_kept (room - n)
   progress_more m new input left rest before mid after kept new_kept piece room n p c e le w = record {
     read = p.read ++ piece;
     written = p.written ++ w.reply;
@@ -72,7 +66,7 @@ module _ {M : Type 0} (reached : M → List (List ℕ) → List ℕ → Type 0) 
   }
 
   pub progress_end : (m : M) (input left rest before mid after : Option (List ℕ)) (kept : List ℕ) (room : ℕ) →
-      Progress reached m input left before mid kept room → Consumes left rest [] → IsAtEnd rest → Ends reached m kept mid after → Played (Replies reached) input rest before after
+      Progress most reached m input left before mid kept room → Consumes left rest [] → IsAtEnd rest → Ends reached m kept mid after → Played most (Replies reached) input rest before after
   progress_end m input left rest before mid after kept room p c e w = record {
     read = p.read;
     written = p.written ++ w.reply;
@@ -87,7 +81,7 @@ module _ {M : Type 0} (reached : M → List (List ℕ) → List ℕ → Type 0) 
   ended m read kept bytes a = (m, subst (λ l. reached m l bytes) (sym (stands-ended read a.lines a.pending a.stands)) a.replied)
 
   pub progress_fault : (m : M) (input left rest before after : Option (List ℕ)) (kept : List ℕ) (room : ℕ) →
-      Progress reached m input left before after kept room → Keeps left rest → PlayedEnded (Replies reached) input rest before after
+      Progress most reached m input left before after kept room → Keeps left rest → PlayedEnded most (Replies reached) input rest before after
   progress_fault m input left rest before after kept room p k = record {
     read = p.read;
     written = p.written;
@@ -98,7 +92,7 @@ module _ {M : Type 0} (reached : M → List (List ℕ) → List ℕ → Type 0) 
   }
 
   pub progress_too_long : (m : M) (input left rest before after : Option (List ℕ)) (kept : List ℕ) (room : ℕ) →
-      Progress reached m input left before after kept room → room ≤ 0 → TakesOne left rest true → PlayedTooLong (Replies reached) input rest before after
+      Progress most reached m input left before after kept room → room ≤ 0 → TakesOne left rest true → PlayedTooLong most (Replies reached) input rest before after
   progress_too_long m input left rest before after kept room p z t = record {
     read = p.read;
     next = t.0;
@@ -109,7 +103,7 @@ module _ {M : Type 0} (reached : M → List (List ℕ) → List ℕ → Type 0) 
     replied = ended m p.read kept p.written p.at;
   }
 
-  pub progress_part : (m : M) (input left before after : Option (List ℕ)) (kept : List ℕ) (room : ℕ) → Progress reached m input left before after kept room → PlayedPart (Replies reached) input before after
+  pub progress_part : (m : M) (input left before after : Option (List ℕ)) (kept : List ℕ) (room : ℕ) → Progress most reached m input left before after kept room → PlayedPart (Replies reached) input before after
   progress_part m input left before after kept room p = record {
     lines = p.at.lines;
     bytes = p.written;
@@ -120,10 +114,10 @@ module _ {M : Type 0} (reached : M → List (List ℕ) → List ℕ → Type 0) 
   }
 
   pub part_none : (m : M) (input before : Option (List ℕ)) → reached m [] [] → PlayedPart (Replies reached) input before before
-  part_none m input before r = progress_part m input input before before [] 67108864 (progress_start m input before r)
+  part_none m input before r = progress_part m input input before before [] most (progress_start m input before r)
 
   pub part_block : (m : M) (input left rest before mid after : Option (List ℕ)) (kept piece : List ℕ) (room : ℕ) →
-      Progress reached m input left before mid kept room → Consumes left rest piece → WritesPart reached m piece kept mid after → PlayedPart (Replies reached) input before after
+      Progress most reached m input left before mid kept room → Consumes left rest piece → WritesPart reached m piece kept mid after → PlayedPart (Replies reached) input before after
   part_block m input left rest before mid after kept piece room p c w =
       let at = w.moved p.read p.written p.at in
       let all : Consumes input rest (p.read ++ piece) = taken_more input left rest p.read piece p.from_source c in
@@ -139,7 +133,7 @@ module _ {M : Type 0} (reached : M → List (List ℕ) → List ℕ → Type 0) 
       }
 
   pub part_end : (m : M) (input left rest before mid after : Option (List ℕ)) (kept : List ℕ) (room : ℕ) →
-      Progress reached m input left before mid kept room → Consumes left rest [] → IsAtEnd rest → EndsPart reached m kept mid after → PlayedPart (Replies reached) input before after
+      Progress most reached m input left before mid kept room → Consumes left rest [] → IsAtEnd rest → EndsPart reached m kept mid after → PlayedPart (Replies reached) input before after
   part_end m input left rest before mid after kept room p c e w =
       let first = w.moved p.read p.written p.at in
       let all : Consumes input rest p.read = subst (Consumes input rest) (append-nil p.read) (taken_more input left rest p.read [] p.from_source c) in
@@ -151,3 +145,31 @@ module _ {M : Type 0} (reached : M → List (List ℕ) → List ℕ → Type 0) 
         replied = (w.new, first.replied);
         to_sink = written_part before mid after p.written w.reply p.to_sink w.to_sink;
       }
+
+  pub stopped_read : (e : Fault) (input left before after : Option (List ℕ)) → e ≡ fault.Read → PlayedEnded most (Replies reached) input left before after → Stopped most reached input left before after e
+  stopped_read e input left before after h p = subst (Stopped most reached input left before after) (sym h) p
+
+  pub stopped_part : (e : Fault) (input left before after : Option (List ℕ)) → (e ≢ fault.Read) × (e ≢ fault.TooLong) → PlayedPart (Replies reached) input before after → Stopped most reached input left before after e
+  stopped_part fault.Read input left before after h p = absurd (h.0 refl)
+  stopped_part fault.Write input left before after h p = p
+  stopped_part fault.NoMemory input left before after h p = p
+  stopped_part fault.TooLong input left before after h p = absurd (h.1 refl)
+
+  pub goes_on : (m new : M) (input left rest before mid after : Option (List ℕ)) (kept new_kept block : List ℕ) (room count : ℕ) →
+      Progress most reached m input left before mid kept room → Consumes left rest (take count block) → count ≤ length block → count ≤ room → (count ≡ 0 → ⊥) → Writes reached m new (take count block) kept new_kept mid after →
+      GoesOn most reached new input rest before after new_kept room (Ok count)
+  goes_on m new input left rest before mid after kept new_kept block room zero p c l r n w = absurd (n refl)
+  goes_on m new input left rest before mid after kept new_kept block room (suc count) p c l r n w =
+      (r, progress_more m new input left rest before mid after kept new_kept (take (suc count) block) room (suc count) p c (length-take-le (suc count) block l) r w)
+
+  pub room_for : (m : M) (input left before after : Option (List ℕ)) (kept : List ℕ) (room count : ℕ) → GoesOn most reached m input left before after kept room (Ok count) → count ≤ room
+  room_for m input left before after kept room zero h = omega arith
+  room_for m input left before after kept room (suc count) h = h.0
+
+  pub goes_on_end : (m : M) (input left before after : Option (List ℕ)) (kept : List ℕ) (room count : ℕ) → GoesOn most reached m input left before after kept room (Ok count) → count ≡ 0 → Played most (Replies reached) input left before after
+  goes_on_end m input left before after kept room zero h e = h
+  goes_on_end m input left before after kept room (suc count) h e = absurd (omega arith)
+
+  pub goes_on_more : (m : M) (input left before after : Option (List ℕ)) (kept : List ℕ) (room count : ℕ) → GoesOn most reached m input left before after kept room (Ok count) → (count ≡ 0 → ⊥) → Progress most reached m input left before after kept (room - count)
+  goes_on_more m input left before after kept room zero h e = absurd (e refl)
+  goes_on_more m input left before after kept room (suc count) h e = h.1

@@ -1,6 +1,10 @@
 -- How a script is read block by block.
-use Rattle.std.specs.Prelude.{◌≡◌, ◌≢◌, ℕ, ◌+◌, ◌<◌, Bool, true, false, List, [], ◌∷◌, ◌++◌, length, take, drop, Option, ⊤}
+use Rattle.std.specs.Prelude.{◌≡◌, ◌≢◌, ℕ, zero, suc, ◌+◌, ◌-◌, ◌<◌, ◌≤◌, Result, Ok, Err, Bool, true, false, List, [], ◌∷◌, ◌++◌, length, take, drop, Option, ⊤}
 use Rattle.std.specs.Io.KnownBytes.{Appends, Consumes, IsAtEnd}
+use Rattle.dc_engine.specs.Replies.{Replies}
+use Rattle.dc_engine.specs.Played.{Played, PlayedEnded, PlayedTooLong, PlayedPart}
+use Rattle.dc_engine.specs.declared.fault.Fault.{Fault}
+use Rattle.dc_engine.specs.declared.fault.Fault.TheVariants as fault
 use Rattle.dc_engine.specs.Lines.{onto, lines_of, onto_first, ended_lines}
 
 -- no byte is a LF
@@ -98,3 +102,30 @@ pub record EndsPart {M : Type 0} (reached : M → List (List ℕ) → List ℕ �
 abbrev pub TakesOne : Option (List ℕ) → Option (List ℕ) → Bool → Type 0
 TakesOne left rest true = (next : ℕ) × Consumes left rest (next ∷ [])
 TakesOne left rest false = Consumes left rest [] × IsAtEnd rest
+
+-- all blocks so far were answered; so many bytes may still be read
+pub record Progress {M : Type 0} (most : ℕ) (reached : M → List (List ℕ) → List ℕ → Type 0) (m : M) (input left before after : Option (List ℕ)) (kept : List ℕ) (room : ℕ) : Type 0 where
+  pub read : List ℕ
+  pub written : List ℕ
+  pub from_source : Consumes input left read
+  pub count : length read + room ≡ most
+  pub to_sink : Appends before after written
+  pub at : At reached m read kept written
+
+-- how a script is left at a fault
+abbrev pub Stopped : {M : Type 0} → ℕ → (M → List (List ℕ) → List ℕ → Type 0) → Option (List ℕ) → Option (List ℕ) → Option (List ℕ) → Option (List ℕ) → Fault → Type 0
+Stopped most reached input left before after fault.Read = PlayedEnded most (Replies reached) input left before after
+Stopped most reached input left before after fault.TooLong = PlayedTooLong most (Replies reached) input left before after
+Stopped most reached input left before after fault.Write = PlayedPart (Replies reached) input before after
+Stopped most reached input left before after fault.NoMemory = PlayedPart (Replies reached) input before after
+
+-- a script is played to its end, or left at a fault
+abbrev pub Finished : {M T : Type 0} → ℕ → (M → List (List ℕ) → List ℕ → Type 0) → Option (List ℕ) → Option (List ℕ) → Option (List ℕ) → Option (List ℕ) → Result T Fault → Type 0
+Finished most reached input left before after (Ok done) = Played most (Replies reached) input left before after
+Finished most reached input left before after (Err e) = Stopped most reached input left before after e
+
+-- the script goes on by a block of so many bytes, or is played to its end where there are none, or is left at a fault
+abbrev pub GoesOn : {M : Type 0} → ℕ → (M → List (List ℕ) → List ℕ → Type 0) → M → Option (List ℕ) → Option (List ℕ) → Option (List ℕ) → Option (List ℕ) → List ℕ → ℕ → Result ℕ Fault → Type 0
+GoesOn most reached m input left before after kept room (Ok zero) = Played most (Replies reached) input left before after
+GoesOn most reached m input left before after kept room (Ok (suc n)) = (suc n ≤ room) × Progress most reached m input left before after kept (room - suc n)
+GoesOn most reached m input left before after kept room (Err e) = Stopped most reached input left before after e

@@ -3,8 +3,6 @@ use Rattle.std.specs.Prelude.{◌≡◌, ℕ, ◌+◌, ◌^◌, max, Bool, true,
 use Rattle.std.specs.Str.{bytes_eq}
 use Rattle.std.specs.Int.{int_wrap, w128}
 use Rattle.std.specs.Prelude.{◌+ℤ◌}
-use Rattle.site_vector.specs.declared.ids.PartId.{PartId}
-use Rattle.site_vector.specs.declared.ids.TxId.{TxId}
 use Rattle.site_vector.specs.Ids.{same_part}
 use Rattle.crdt_core.specs.declared.object.ObjectId.{ObjectId}
 use Rattle.crdt_core.specs.declared.operation.Act.{Act}
@@ -20,11 +18,8 @@ use Rattle.dc_engine.specs.declared.machine.Machine.{Machine}
 use Rattle.dc_engine.specs.declared.sessions.Change.{Change}
 use Rattle.dc_engine.specs.declared.store.Committed.{Committed}
 use Rattle.dc_engine.specs.SessionTable.{session}
-use Rattle.dc_engine.specs.Stored.{stored, committed_of, sum_upto, own_sum, transaction_at}
-
--- the one partition
-abbrev pub one : PartId
-one = record { site = 1; part = 1 }
+use Rattle.dc_engine.specs.Stored.{stored, committed_of, sum_upto, own_sum}
+use Rattle.dc_engine.specs.State.{one, transaction_at}
 
 abbrev pub session_in : Machine → List ℕ → Option (Option (ℕ × List Change))
 session_in m who = session m.sessions.entries who
@@ -126,3 +121,8 @@ Acts old c steps new = ActsBy old c steps new (first_due (dues old c))
 -- the machine answers a command
 abbrev pub AnswersAny : Machine → Command → List Step → Machine → Type 0
 AnswersAny old c steps new = ActsBy old c steps new (first_due ((not (is_built c), step.Unbuilt) ∷ dues old c))
+
+-- the machine answers a line that spells this command, or none
+abbrev pub AnswersSpelled : Machine → Option Command → List Step → Machine → Type 0
+AnswersSpelled old None steps new = (steps ≡ step.Unbuilt ∷ []) × (new ≡ old)
+AnswersSpelled old (Some c) steps new = AnswersAny old c steps new

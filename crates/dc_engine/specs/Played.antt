@@ -5,31 +5,31 @@ use Rattle.std.specs.Io.KnownBytes.{Appends, Consumes, IsAtEnd}
 use Rattle.dc_engine.specs.Lines.{lines_of, ended_lines}
 
 -- the whole input was read, and the replies to its lines were written
-pub record Played (replies : List (List ℕ) → List ℕ → Type 0) (input left before after : Option (List ℕ)) : Type 0 where
+pub record Played (most : ℕ) (replies : List (List ℕ) → List ℕ → Type 0) (input left before after : Option (List ℕ)) : Type 0 where
   pub read : List ℕ
   pub written : List ℕ
   pub from_source : Consumes input left read
   pub at_end : IsAtEnd left
-  pub fits : length read ≤ 67108864
+  pub fits : length read ≤ most
   pub to_sink : Appends before after written
   pub replied : replies (lines_of read) written
 
 -- the replies to the lines whose LF was read were written
-pub record PlayedEnded (replies : List (List ℕ) → List ℕ → Type 0) (input left before after : Option (List ℕ)) : Type 0 where
+pub record PlayedEnded (most : ℕ) (replies : List (List ℕ) → List ℕ → Type 0) (input left before after : Option (List ℕ)) : Type 0 where
   pub read : List ℕ
   pub written : List ℕ
   pub from_source : Consumes input left read
-  pub fits : length read ≤ 67108864
+  pub fits : length read ≤ most
   pub to_sink : Appends before after written
   pub replied : replies (ended_lines read) written
 
 -- as many bytes as may be were read, and one more: the replies to the lines whose LF is among the first ones were written
-pub record PlayedTooLong (replies : List (List ℕ) → List ℕ → Type 0) (input left before after : Option (List ℕ)) : Type 0 where
+pub record PlayedTooLong (most : ℕ) (replies : List (List ℕ) → List ℕ → Type 0) (input left before after : Option (List ℕ)) : Type 0 where
   pub read : List ℕ
   pub next : ℕ
   pub written : List ℕ
   pub from_source : Consumes input left (read ++ next ∷ [])
-  pub full : length read ≡ 67108864
+  pub full : length read ≡ most
   pub to_sink : Appends before after written
   pub replied : replies (ended_lines read) written
 

@@ -16,10 +16,6 @@ updates_in (Some v) = v.items
 abbrev pub stored : List (ObjectId × Vec Committed) → ObjectId → List Committed
 stored entries o = updates_in (lookup (same_object o) entries)
 
--- the transaction that began at the one partition at a time
-abbrev pub transaction_at : ℕ → TxId
-transaction_at time = record { site = 1; part = 1; time = time }
-
 -- what a commit stores of an object, where the changes are numbered from `index`
 abbrev pub committed_of : TxId → ℕ → ℕ → List Change → ObjectId → List Committed
 committed_of t time index [] o = []

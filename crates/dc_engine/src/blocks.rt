@@ -1,9 +1,9 @@
-ghost use Rattle.std.specs.Prelude.{◌≡◌, ◌≢◌, ◌≤◌, ◌<◌, ◌+◌, ◌-◌, ◌^◌, [], length, take, IfOk, IfErr, OnOk, OnErr, Err};
+ghost use Rattle.std.specs.Prelude.{ℕ, List, Option, ◌≡◌, ◌≢◌, ◌≤◌, ◌<◌, ◌+◌, ◌-◌, ◌^◌, [], length, take, IfOk, IfErr, OnOk, OnErr, Err};
 ghost use Rattle.std.specs.Io.KnownBytes.{Appends, Consumes, Keeps, IsAtEnd};
 ghost use Rattle.dc_engine.specs.Causes.{Rose};
 ghost use Rattle.dc_engine.specs.Replies.{Replies};
 ghost use Rattle.dc_engine.specs.Played.{Played, PlayedEnded, PlayedTooLong, PlayedPart};
-ghost use Rattle.dc_engine.specs.Blocks.{AppendsPart, Writes, WritesPart, Ends, EndsPart, TakesOne};
+ghost use Rattle.dc_engine.specs.Blocks.{AppendsPart, Writes, WritesPart, Ends, EndsPart, TakesOne, Progress, GoesOn, Finished};
 
 use crate::fault::Fault;
 use crate::kept::Kept;
@@ -13,12 +13,6 @@ use crate::sink::Sink;
 use crate::source::{Failed, Source};
 use std::alloc::{AllocError, Global};
 use std::cmp::min;
-
-/// How many bytes are read at a time, if they are there.
-const BLOCK: usize = 65_536;
-
-/// The most bytes of a script.
-const MOST_BYTES: usize = 67_108_864;
 
 /// So many bytes that are 0.
 fn zeros(alloc: Global, count: usize) -> Result<Vec<u8>, AllocError>
@@ -60,7 +54,7 @@ fn has_more<S: Source>(source: &mut S) -> Result<bool, Fault>
 }
 
 /// Writes all bytes.
-#[tactic(auto, using(crate::proofs::Writing::written_more, crate::proofs::Writing::written_none, crate::proofs::Writing::part_of))]
+#[tactic(auto, using(crate::proofs::Written::written_more, crate::proofs::Written::written_none, crate::proofs::Written::part_of))]
 fn write_all<K: Sink>(sink: &mut K, bytes: &[u8]) -> Result<(), Fault>
     ensures later { K.faults sink.old ≤ K.faults sink.new }
     ensures cause { IfErr result (λ e. (e ≡ Fault.Write) × Rose (K.faults sink.old) (K.faults sink.new)) }
@@ -78,7 +72,7 @@ fn write_all<K: Sink>(sink: &mut K, bytes: &[u8]) -> Result<(), Fault>
 }
 
 /// Answers the lines that end in the block and writes their replies, those before a want of memory too.
-#[tactic(auto, using(crate::proofs::Writing::writes_all))]
+#[tactic(auto, using(crate::proofs::Written::writes_all))]
 fn answer_block<K: Sink, R: Responder>(
     sink: &mut K,
     responder: &mut R,
@@ -106,7 +100,7 @@ fn answer_block<K: Sink, R: Responder>(
 }
 
 /// Answers a last line that has no LF, and writes the reply.
-#[tactic(auto, using(crate::proofs::Writing::ends_none, crate::proofs::Writing::ends_line, crate::proofs::Writing::ends_front, crate::proofs::Writing::ends_before))]
+#[tactic(auto, using(crate::proofs::Written::ends_none, crate::proofs::Written::ends_line, crate::proofs::Written::ends_front, crate::proofs::Written::ends_before))]
 fn answer_end<K: Sink, R: Responder>(
     sink: &mut K,
     responder: &mut R,
@@ -126,4 +120,103 @@ fn answer_end<K: Sink, R: Responder>(
     responder.answer(kept.as_slice(), out)?;
     write_all(sink, out)?;
     Ok(())
+}
+
+/// What is kept of a line whose end hasn't come, and the replies that are to be written.
+#[derive(Drop)]
+struct Buffers {
+    kept: Kept,
+    out: Vec<u8>,
+}
+
+/// Reads a block of at most as many bytes as there is room for, answers it and writes the replies. 0 bytes are the end.
+fn play_block<S: Source, K: Sink, R: Responder>(
+    source: &mut S,
+    sink: &mut K,
+    responder: &mut R,
+    block: &mut [u8],
+    room: usize,
+    buffers: &mut Buffers,
+) -> Result<usize, Fault>
+    requires size { 0 < length block.old }
+    requires some { 0 < room }
+    ensures read_later { S.faults source.old ≤ S.faults source.new }
+    ensures write_later { K.faults sink.old ≤ K.faults sink.new }
+    ensures read_cause { result ≡ Err Fault.Read → Rose (S.faults source.old) (S.faults source.new) }
+    ensures write_cause { result ≡ Err Fault.Write → Rose (K.faults sink.old) (K.faults sink.new) }
+    ensures goes_on { (most : ℕ) (input before : Option (List ℕ)) → Progress most R.reached responder.old input (S.left source.old) before (K.held sink.old) buffers.old.kept room → GoesOn most R.reached responder.new input (S.left source.new) before (K.held sink.new) buffers.new.kept room result }
+{
+    let count = match read_block(source, block, room) {
+        Ok(count) => count,
+        Err(fault) => return Err(fault),
+    };
+    if count == 0 {
+        return match answer_end(sink, responder, &buffers.kept, &mut buffers.out) {
+            Ok(()) => Ok(0),
+            Err(fault) => Err(fault),
+        };
+    }
+    let Buffers { kept, out } = buffers;
+    match answer_block(sink, responder, &block[..count], kept, out) {
+        Ok(()) => Ok(count),
+        Err(fault) => Err(fault),
+    }
+}
+
+/// Answers the last line where no byte more comes.
+fn play_end<S: Source, K: Sink, R: Responder>(
+    source: &mut S,
+    sink: &mut K,
+    responder: &mut R,
+    buffers: &mut Buffers,
+) -> Result<(), Fault>
+    ensures read_later { S.faults source.old ≤ S.faults source.new }
+    ensures write_later { K.faults sink.old ≤ K.faults sink.new }
+    ensures read_cause { result ≡ Err Fault.Read → Rose (S.faults source.old) (S.faults source.new) }
+    ensures write_cause { result ≡ Err Fault.Write → Rose (K.faults sink.old) (K.faults sink.new) }
+    ensures finished { (most : ℕ) (input before : Option (List ℕ)) → Progress most R.reached responder.old input (S.left source.old) before (K.held sink.old) buffers.old.kept 0 → Finished most R.reached input (S.left source.new) before (K.held sink.new) result }
+{
+    match has_more(source) {
+        Ok(true) => Err(Fault::TooLong),
+        Ok(false) => match answer_end(sink, responder, &buffers.kept, &mut buffers.out) {
+            Ok(()) => Ok(()),
+            Err(fault) => Err(fault),
+        },
+        Err(fault) => Err(fault),
+    }
+}
+
+/// Plays a script of at most `most` bytes, and writes the replies to a block of at most `size` bytes before it reads on.
+pub(crate) fn play_blocks<S: Source, K: Sink, R: Responder>(
+    alloc: Global,
+    size: usize,
+    most: usize,
+    source: &mut S,
+    sink: &mut K,
+    responder: &mut R,
+) -> Result<(), Fault>
+    requires fresh { R.reached responder.old [] [] }
+    requires some { 0 < size }
+    ensures finished { Finished most R.reached (S.left source.old) (S.left source.new) (K.held sink.old) (K.held sink.new) result }
+    ensures read_cause { result ≡ Err Fault.Read → Rose (S.faults source.old) (S.faults source.new) }
+    ensures write_cause { result ≡ Err Fault.Write → Rose (K.faults sink.old) (K.faults sink.new) }
+{
+    let mut block = match zeros(alloc, size) {
+        Ok(block) => block,
+        Err(AllocError) => return Err(Fault::NoMemory),
+    };
+    let block = block.as_mut_slice();
+    let mut buffers = Buffers {
+        kept: Kept::new(alloc),
+        out: Vec::new(alloc),
+    };
+    let mut room = most;
+    while room > 0 {
+        match play_block(source, sink, responder, block, room, &mut buffers) {
+            Ok(0) => return Ok(()),
+            Ok(count) => room -= count,
+            Err(fault) => return Err(fault),
+        }
+    }
+    play_end(source, sink, responder, &mut buffers)
 }

@@ -2,16 +2,28 @@
 #![tactic(auto)]
 
 mod blocks;
+mod edge;
 mod fault;
 mod grammar;
 mod kept;
 mod lines;
 mod machine;
+mod memory;
 mod responder;
+mod script;
 mod sessions;
 mod sink;
 mod source;
+mod status;
 mod store;
+#[cfg(test)]
+mod tests;
+mod top;
+mod words;
 
+pub use edge::{Reading, Writing};
+pub use memory::{Calls, SliceSource, VecSink};
 pub use sink::Sink;
 pub use source::{Failed, Source};
+pub use status::Status;
+pub use top::{play, run};

@@ -9,7 +9,7 @@ use std::alloc::AllocError;
 use std::cmp::min;
 
 /// Where the first LF stands.
-#[tactic(auto, using(crate::proofs::Reading::ends_of, crate::proofs::Reading::no_end_of))]
+#[tactic(auto, using(crate::proofs::Standing::ends_of, crate::proofs::Standing::no_end_of))]
 fn line_end(bytes: &[u8]) -> Option<usize>
     ensures found { IfSome result (EndsAt bytes.now) }
     ensures none { IfNone result (HasNoEnd bytes.now) }

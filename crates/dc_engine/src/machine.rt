@@ -1,16 +1,22 @@
-ghost use Rattle.std.specs.Prelude.{◌≡◌, ◌≤◌, ◌<◌, ◌^◌, ℕ, List, [], ◌∷◌, length, Option, Some, None, false, true, IfOk, ◌+ℤ◌};
+ghost use Rattle.std.specs.Prelude.{◌≡◌, ◌≤◌, ◌<◌, ◌^◌, ℕ, List, [], ◌∷◌, ◌++◌, length, take, Option, Some, None, false, true, IfOk, OnOk, OnErr, ◌+ℤ◌};
+ghost use Rattle.std.specs.List.{flat_map};
 
 ghost use Rattle.std.specs.Int.{int_wrap, w128};
 ghost use Rattle.world_model.specs.Refusals.{is_built as is_built_lem, is_amount as is_amount_lem};
 ghost use Rattle.crdt_counters.specs.Meaning.{amount};
-ghost use Rattle.dc_engine.specs.Stored.{stored, sum_upto, own_sum, transaction_at};
+ghost use Rattle.dc_engine.specs.Stored.{stored, sum_upto, own_sum};
+ghost use Rattle.dc_engine.specs.State.{transaction_at};
+ghost use Rattle.reply_text.specs.Text.{text_of};
 
+use crate::grammar::command_of_line;
+use crate::responder::Responder;
 use crate::sessions::{Change, Sessions, Transaction, close, create, note, open};
 use crate::store::{Store, add_own, add_stored, store_all};
 use crdt_core::{Act, Kind, ObjectId, Op, Value};
 use crdt_counters::amount_of;
 use field_codec::Text;
 use indexmap::IndexMap;
+use reply_text::line;
 use site_vector::{PartId, TxId, VTime};
 use std::alloc::{AllocError, Global};
 use world_model::{Command, Step};
@@ -42,11 +48,14 @@ pub(crate) struct Machine {
 }
 
 impl Machine {
-    ghost use Rattle.std.specs.Prelude.{◌≡◌, ◌≤◌, ◌<◌, ◌^◌, ℕ, List, [], ◌∷◌, length, Option, Some, None, false, true, IfOk};
+    ghost use Rattle.std.specs.Prelude.{◌≡◌, ◌≤◌, ◌<◌, ◌^◌, ℕ, List, [], ◌∷◌, length, take, Option, Some, None, false, true, IfOk, OnOk, OnErr};
+    ghost use Rattle.dc_engine.specs.Grammar.{command_of};
+    ghost use Rattle.dc_engine.specs.Replies.{AnswersLine};
+    ghost use Rattle.dc_engine.specs.Held.{Reached};
     ghost use Rattle.site_vector.specs.declared.ids.PartId.{PartId};
     ghost use Rattle.world_model.specs.Refusals.{is_built};
     ghost use Rattle.dc_engine.specs.declared.sessions.Change.{Change};
-    ghost use Rattle.dc_engine.specs.Machine.{Acts, AnswersAny, CommitsChanges, NotesUpdate, session_in};
+    ghost use Rattle.dc_engine.specs.Machine.{Acts, AnswersAny, AnswersSpelled, CommitsChanges, NotesUpdate, session_in};
 
     /// A machine before any command. Takes no memory.
     pub(crate) fn new(alloc: Global) -> Machine
@@ -64,8 +73,31 @@ impl Machine {
         }
     }
 
+    /// The steps that answer a line of a script.
+    fn steps_of(&mut self, line: &[u8]) -> Result<Vec<Step>, AllocError>
+        ensures { IfOk result (λ steps. AnswersSpelled self.old (command_of line.now) steps.items self.new) }
+    {
+        match command_of_line(self.alloc, line)? {
+            Some(command) => self.answer_command(command),
+            None => only(self.alloc, Step::Unbuilt),
+        }
+    }
+
+    /// Answers a line, and on an error leaves at the end of `out` what was written of it.
+    #[tactic(auto, using(crate::proofs::HeldState::line_answered))]
+    fn write_answer(&mut self, line: &[u8], out: &mut Vec<u8>) -> Result<(), AllocError>
+        ensures ok { OnOk result (AnswersLine Reached self.old self.new line.now out.old.items out.new.items) }
+        ensures err { OnErr result (take (length out.old.items) out.new.items ≡ out.old.items) }
+    {
+        let alloc = self.alloc;
+        match self.steps_of(line) {
+            Ok(steps) => write_lines(alloc, steps.as_slice(), out),
+            Err(error) => Err(error),
+        }
+    }
+
     /// The lines that answer a command.
-    pub(crate) fn answer(&mut self, command: Command) -> Result<Vec<Step>, AllocError>
+    fn answer_command(&mut self, command: Command) -> Result<Vec<Step>, AllocError>
         ensures { IfOk result (λ steps. AnswersAny self.old command steps.items self.new) }
     {
         if !is_built(&command) {
@@ -251,6 +283,34 @@ impl Machine {
         }
         Ok(steps)
     }
+}
+
+impl Responder for Machine {
+    ghost use Rattle.dc_engine.specs.Held.{Reached};
+
+    ghost reached = { Reached };
+
+    fn answer(&mut self, line: &[u8], out: &mut Vec<u8>) -> Result<(), AllocError> {
+        let end = out.len();
+        match self.write_answer(line, out) {
+            Ok(()) => Ok(()),
+            Err(error) => {
+                out.truncate(end);
+                Err(error)
+            }
+        }
+    }
+}
+
+/// Writes the lines of these steps; on an error what was written of them stands behind what was there.
+fn write_lines(alloc: Global, steps: &[Step], out: &mut Vec<u8>) -> Result<(), AllocError>
+    ensures ok { OnOk result (out.new.items ≡ out.old.items ++ flat_map text_of steps.now) }
+    ensures err { OnErr result (take (length out.old.items) out.new.items ≡ out.old.items) }
+{
+    for step in steps {
+        line(alloc, step, out)?;
+    }
+    Ok(())
 }
 
 /// Whether a command is built yet.

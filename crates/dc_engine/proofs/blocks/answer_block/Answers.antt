@@ -1,4 +1,4 @@
-use Rattle.dc_engine.proofs.Writing.{on_err, writes_front, writes_some}
+use Rattle.dc_engine.proofs.Written.{on_err, writes_front, writes_some}
 use Rattle.dc_engine.proofs.blocks.answer_block.Goals as goal
 
 pub returns-in_err-write_all-in-Ok-clause-err : goal.returns-in_err-write_all-in-Ok-clause-err

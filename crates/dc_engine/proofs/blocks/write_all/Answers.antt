@@ -1,6 +1,6 @@
 use Rattle.std.proofs.Common.{arith, length, drop, ◌-◌, length-drop}
 use Rattle.std.proofs.lemmas.List.{take_all}
-use Rattle.dc_engine.proofs.Writing.{written_more}
+use Rattle.dc_engine.proofs.Written.{written_more}
 use Rattle.dc_engine.proofs.blocks.write_all.Goals as goal
 
 pub loop-done-preserved : goal.loop-done-preserved

@@ -1,6 +1,6 @@
 use Rattle.std.proofs.Common.{rules, ◌≡◌, true}
 use Rattle.dc_engine.specs.Grammar.{is_plain}
-use Rattle.dc_engine.proofs.Words.{plain_text}
+use Rattle.dc_engine.proofs.Splitting.{plain_text}
 use Rattle.dc_engine.proofs.grammar.command_of_line.Goals as goal
 
 pub returns-in-Err : goal.returns-in-Err

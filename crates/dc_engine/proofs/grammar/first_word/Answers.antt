@@ -1,4 +1,4 @@
-use Rattle.dc_engine.proofs.Words.{words_cut, first_given, none_given}
+use Rattle.dc_engine.proofs.Splitting.{words_cut, first_given, none_given}
 use Rattle.dc_engine.proofs.grammar.first_word.Goals as goal
 
 pub returns-clause-some : goal.returns-clause-some

@@ -1,5 +1,5 @@
 use Rattle.std.proofs.Common.{length, ap, arith}
-use Rattle.dc_engine.proofs.Words.{some_word}
+use Rattle.dc_engine.proofs.Splitting.{some_word}
 use Rattle.dc_engine.proofs.grammar.one_word.Goals as goal
 
 pub returns-in-Some-clause-none : goal.returns-in-Some-clause-none

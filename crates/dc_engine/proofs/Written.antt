@@ -7,7 +7,7 @@ use Rattle.std.specs.Io.KnownBytes.{Appends}
 use Rattle.dc_engine.specs.Lines.{lines_of}
 use Rattle.dc_engine.specs.Replies.{AnswersLine}
 use Rattle.dc_engine.specs.Blocks.{Stands, At, Moves, MovesPart, AppendsPart, Writes, WritesPart, Ends, EndsPart, AnswersFirst}
-use Rattle.dc_engine.proofs.Reading.{stands-whole, stands-last, stands-first}
+use Rattle.dc_engine.proofs.Standing.{stands-whole, stands-last, stands-first}
 
 take_split : (bytes : List ℕ) (k n : ℕ) → take k bytes ++ take n (drop k bytes) ≡ take (k + n) bytes
 take_split bytes k n = ap (λ s. s ++ take n (drop k bytes)) (sym (take-take k (k + n) bytes (omega arith))) ∙ ap (λ s. take k (take (k + n) bytes) ++ s) (sym (drop-take k n bytes)) ∙ take-append-drop k (take (k + n) bytes)

@@ -1,0 +1,17 @@
+-- What was played, told by another relation between lines and bytes.
+use Rattle.std.proofs.Common.{ℕ, List, Option}
+use Rattle.dc_engine.specs.Played.{Played, PlayedEnded, PlayedTooLong, PlayedPart}
+
+module _ (most : ℕ) (P Q : List (List ℕ) → List ℕ → Type 0) (f : (lines : List (List ℕ)) (bytes : List ℕ) → P lines bytes → Q lines bytes) (input left before after : Option (List ℕ)) where
+  pub played_by : Played most P input left before after → Played most Q input left before after
+  played_by p = record { read = p.read; written = p.written; from_source = p.from_source; at_end = p.at_end; fits = p.fits; to_sink = p.to_sink; replied = f _ _ p.replied }
+
+  pub ended_by : PlayedEnded most P input left before after → PlayedEnded most Q input left before after
+  ended_by p = record { read = p.read; written = p.written; from_source = p.from_source; fits = p.fits; to_sink = p.to_sink; replied = f _ _ p.replied }
+
+  pub too_long_by : PlayedTooLong most P input left before after → PlayedTooLong most Q input left before after
+  too_long_by p = record { read = p.read; next = p.next; written = p.written; from_source = p.from_source; full = p.full; to_sink = p.to_sink; replied = f _ _ p.replied }
+
+module _ (P Q : List (List ℕ) → List ℕ → Type 0) (f : (lines : List (List ℕ)) (bytes : List ℕ) → P lines bytes → Q lines bytes) (input before after : Option (List ℕ)) where
+  pub part_by : PlayedPart P input before after → PlayedPart Q input before after
+  part_by p = record { lines = p.lines; bytes = p.bytes; count = p.count; are_first = p.are_first; replied = f _ _ p.replied; to_sink = p.to_sink }

@@ -1,0 +1,201 @@
+ghost use Rattle.std.specs.Prelude.{◌≡◌, ◌≤◌, ◌<◌, ◌-◌, ◌^◌, [], is_err, length, IfOk, OnOk, OnErr, Err, IsTrue};
+ghost use Rattle.std.specs.Io.{ReadsAtMost, WritesAtMost};
+ghost use Rattle.std.specs.Io.KnownBytes.{ReadConsumes, WriteAppends};
+ghost use Rattle.dc_engine.specs.Causes.{HasCause};
+ghost use Rattle.dc_engine.specs.Memory.{counted, is_listed};
+
+use crate::sink::Sink;
+use crate::source::{Failed, Source};
+use std::alloc::{AllocError, Global};
+use std::cmp::min;
+
+/// The calls of an object in memory: how many were made, which are to fail, and how many failed.
+#[derive(Drop)]
+pub struct Calls {
+    made: u64,
+    failing: Vec<u64>,
+    failed: u64,
+}
+
+impl Calls {
+    /// None made, and none to fail.
+    fn new(alloc: Global) -> Calls
+        ensures made { result.made ≡ 0 }
+        ensures failing { result.failing.items ≡ [] }
+        ensures failed { result.failed ≡ 0 }
+    {
+        Calls {
+            made: 0,
+            failing: Vec::new(alloc),
+            failed: 0,
+        }
+    }
+
+    /// Counts a call, and says whether it is to fail. It counts no fault.
+    fn begin(&mut self) -> bool
+        ensures made { self.new.made ≡ counted self.old.made }
+        ensures listed { result ≡ is_listed self.old.failing.items self.old.made }
+        ensures failing { self.new.failing.items ≡ self.old.failing.items }
+        ensures failed { self.new.failed ≡ self.old.failed }
+        ensures most { self.old.failed ≤ 2 ^ 64 - 1 }
+    {
+        let _failed = self.failed;
+        let made = self.made.saturating_add(1);
+        self.made = made;
+        self.failing.as_slice().contains(&made)
+    }
+
+    /// Counts a fault.
+    fn fail(&mut self)
+        ensures failed { self.new.failed ≡ counted self.old.failed }
+        ensures made { self.new.made ≡ self.old.made }
+        ensures failing { self.new.failing.items ≡ self.old.failing.items }
+    {
+        self.failed = self.failed.saturating_add(1);
+    }
+}
+
+/// The numbers of a slice.
+fn list_of(alloc: Global, calls: &[u64]) -> Result<Vec<u64>, AllocError>
+    ensures { IfOk result (λ v. v.items ≡ calls.now) }
+{
+    Vec::from_slice(alloc, calls)
+}
+
+/// A source that reads a slice.
+#[derive(Drop)]
+pub struct SliceSource<'a> {
+    rest: &'a [u8],
+    calls: Calls,
+}
+
+impl<'a> SliceSource<'a> {
+    /// All these bytes are left. Takes no memory.
+    pub fn new(alloc: Global, bytes: &'a [u8]) -> SliceSource<'a>
+        ensures left { result.rest.now ≡ bytes.now }
+        ensures failing { result.calls.failing.items ≡ [] }
+    {
+        SliceSource {
+            rest: bytes,
+            calls: Calls::new(alloc),
+        }
+    }
+
+    /// From now on exactly the calls of `read` with these numbers fail, counted from 1 since the source was made.
+    ///
+    /// # Errors
+    ///
+    /// `AllocError` where memory runs out. The list is as before then.
+    pub fn fail_at(&mut self, alloc: Global, calls: &[u64]) -> Result<(), AllocError>
+        ensures ok { OnOk result (self.new.calls.failing.items ≡ calls.now) }
+        ensures left { self.new.rest.now ≡ self.old.rest.now }
+    {
+        self.calls.failing = list_of(alloc, calls)?;
+        Ok(())
+    }
+
+    /// The bytes that are left.
+    pub fn left(&self) -> &[u8]
+        ensures { result.now ≡ self.now.rest.now }
+    {
+        self.rest
+    }
+}
+
+impl<'a> Source for SliceSource<'a> {
+    ghost use Rattle.std.specs.Prelude.{Some};
+
+    ghost left = { λ s. Some s.rest.now };
+
+    ghost faults = { λ s. s.calls.failed };
+
+    fn read(&mut self, buf: &mut [u8]) -> Result<usize, Failed>
+        ensures bound { ReadsAtMost result buf.new }
+        ensures bytes { ReadConsumes (Some self.old.rest.now) (Some self.new.rest.now) result buf.new }
+        ensures cause { HasCause self.old.calls.failed self.new.calls.failed result }
+        ensures listed { is_err result ≡ is_listed self.old.calls.failing.items self.old.calls.made }
+    {
+        if self.calls.begin() {
+            self.calls.fail();
+            return Err(Failed);
+        }
+        let count = min(self.rest.len(), buf.len());
+        let (front, back) = self.rest.split_at(count);
+        buf[..count].copy_from_slice(front);
+        self.rest = back;
+        Ok(count)
+    }
+}
+
+/// A sink that holds bytes up to its room.
+#[derive(Drop)]
+pub struct VecSink {
+    held: Vec<u8>,
+    room: usize,
+    calls: Calls,
+}
+
+impl VecSink {
+    /// Nothing is held, and there is room for this many bytes, which is taken now.
+    ///
+    /// # Errors
+    ///
+    /// `AllocError` where memory runs out.
+    pub fn new(alloc: Global, room: usize) -> Result<VecSink, AllocError>
+        ensures held { IfOk result (λ s. s.held.items ≡ []) }
+        ensures room { IfOk result (λ s. s.room ≡ room) }
+        ensures failing { IfOk result (λ s. s.calls.failing.items ≡ []) }
+    {
+        let held = Vec::with_capacity(alloc, room)?;
+        Ok(VecSink {
+            held,
+            room,
+            calls: Calls::new(alloc),
+        })
+    }
+
+    /// From now on the calls of `write` with these numbers fail, counted from 1 since the sink was made, besides those that find no room.
+    ///
+    /// # Errors
+    ///
+    /// `AllocError` where memory runs out. The list is as before then.
+    pub fn fail_at(&mut self, alloc: Global, calls: &[u64]) -> Result<(), AllocError>
+        ensures ok { OnOk result (self.new.calls.failing.items ≡ calls.now) }
+        ensures held { self.new.held.items ≡ self.old.held.items }
+    {
+        self.calls.failing = list_of(alloc, calls)?;
+        Ok(())
+    }
+
+    /// The bytes that are held.
+    pub fn held(&self) -> &[u8]
+        ensures { result.now ≡ self.now.held.items }
+    {
+        self.held.as_slice()
+    }
+}
+
+impl Sink for VecSink {
+    ghost use Rattle.std.specs.Prelude.{Some};
+
+    ghost held = { λ s. Some s.held.items };
+
+    ghost faults = { λ s. s.calls.failed };
+
+    fn write(&mut self, bytes: &[u8]) -> Result<usize, Failed> {
+        if self.calls.begin() {
+            self.calls.fail();
+            return Err(Failed);
+        }
+        let count = min(self.room.saturating_sub(self.held.len()), bytes.len());
+        if count == 0 && !bytes.is_empty() {
+            self.calls.fail();
+            return Err(Failed);
+        }
+        if self.held.extend_from_slice(&bytes[..count]).is_err() {
+            self.calls.fail();
+            return Err(Failed);
+        }
+        Ok(count)
+    }
+}
