@@ -1,3 +1,4 @@
+pub mod Acting
 pub mod Lengths
 pub mod Moves
 pub mod Numbers

@@ -33,3 +33,6 @@ stored_first object key o before same after w a k s h none i =
     stored_more object o before after w a
     (h ∙ ap (λ p. cond (eq-value.it p o) (Some w) (lookup (eq-value.it o) same)) k ∙ ap (λ es. cond (eq-value.it object o) (Some w) (lookup (eq-value.it o) es)) s)
     (i ∙ ap (λ m. updates_in m ++ a ∷ []) (sym none))
+
+pub stored_found : (o : ObjectId) (entries : List (ObjectId × Vec Committed)) (m : Option (Vec Committed)) → m ≡ lookup (eq-value.it o) entries → updates_in m ≡ stored entries o
+stored_found o entries m h = ap updates_in (h ∙ lookup_same o entries)

@@ -1,8 +1,9 @@
 -- Sums of what is stored.
-use Rattle.std.proofs.Common.{arith, add-one, get_or, ◌≡◌, ℕ, ◌+◌, ◌<◌, ◌++◌, ◌∷◌, [], Bool, true, false, List, refl, cond, ap, ◌∙◌, sym, append_assoc, length, take}
+use Rattle.std.proofs.Common.{rules, to_z, of_z, arith, add-one, get_or, ◌≡◌, ℕ, ◌+◌, ◌<◌, ◌++◌, ◌∷◌, [], Bool, true, false, List, refl, cond, ap, ◌∙◌, sym, subst, append_assoc, length, take}
 use Rattle.std.specs.Prelude.{nat_le, ℤ, pos, ◌+ℤ◌, if◌then◌else◌}
 use Rattle.std.specs.Int.{int_wrap, w128}
-use Rattle.std.proofs.lemmas.Int.{ints, int_wrap-add_left}
+use Rattle.std.proofs.lemmas.Int.{ints, int_wrap-add_left, to_z-of_z, SFits-int_wrap, int_wrap_fits}
+use Rattle.std.specs.Prelude.{FitsSigned}
 use Rattle.std.proofs.Math.Seq.{take-suc}
 use Rattle.std.proofs.lemmas.List.{append-nil, length-take-le, get_or_default}
 use Rattle.site_vector.specs.declared.ids.TxId.{TxId}
@@ -62,3 +63,13 @@ committed_more t time i cs c o old before after n e h k =
 pub visible_next : (s i : ℕ) (us : List Committed) (z before after : ℤ) → let u : Committed = get_or us i (record { dot = record { tx = record { site = 0; part = 0; time = 0 }; index = 0 }; time = 0; effect = pos 0 }) in i < length us → before ≡ int_wrap w128 (z +ℤ sum_upto s (take i us))
     → after ≡ (if nat_le u.time s then int_wrap w128 (before +ℤ u.effect) else before) → after ≡ int_wrap w128 (z +ℤ sum_upto s (take (i + 1) us))
 visible_next s i us z before after n h k = visible_more s i us _ z before after n (get_or_default us i _ _ n) h k
+
+-- a total that is read back is the sum
+pub value_sum : (a b first second : ℤ) → first ≡ int_wrap w128 (pos 0 +ℤ a) → ((z : ℤ) → to_z w128 (of_z w128 first) ≡ int_wrap w128 z → second ≡ int_wrap w128 (z +ℤ b)) → to_z w128 (of_z w128 second) ≡ int_wrap w128 (a +ℤ b)
+value_sum a b first second h k =
+    let read : to_z w128 (of_z w128 first) ≡ int_wrap w128 (pos 0 +ℤ a) = to_z-of_z w128 first (subst (FitsSigned w128) (sym h) (SFits-int_wrap w128 (pos 0 +ℤ a))) ∙ h in
+    let e : second ≡ int_wrap w128 (a +ℤ b) = k (pos 0 +ℤ a) read ∙ ap (int_wrap w128) (let f : (pos 0 +ℤ a) +ℤ b ≡ a +ℤ b = omega (arith, ints) in f) in
+    to_z-of_z w128 second (subst (FitsSigned w128) (sym e) (SFits-int_wrap w128 (a +ℤ b))) ∙ e
+
+pub zero_wrapped : pos 0 ≡ int_wrap w128 (pos 0)
+zero_wrapped = sym (int_wrap_fits w128 (pos 0) (search rules))

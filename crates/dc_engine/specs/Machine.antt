@@ -7,6 +7,7 @@ use Rattle.site_vector.specs.declared.ids.PartId.{PartId}
 use Rattle.site_vector.specs.declared.ids.TxId.{TxId}
 use Rattle.site_vector.specs.Ids.{same_part}
 use Rattle.crdt_core.specs.declared.object.ObjectId.{ObjectId}
+use Rattle.crdt_core.specs.declared.operation.Act.{Act}
 use Rattle.crdt_core.specs.declared.value.Value.TheVariants.{Int}
 use Rattle.crdt_counters.specs.Meaning.{amount}
 use Rattle.world_model.specs.declared.command.Command.{Command}
@@ -38,7 +39,7 @@ changes_in None = []
 changes_in (Some None) = []
 changes_in (Some (Some t)) = t.1
 
-abbrev is_some_change : List Change → Bool
+abbrev pub is_some_change : List Change → Bool
 is_some_change [] = false
 is_some_change (c ∷ cs) = true
 
@@ -90,6 +91,11 @@ DoesCommit old name t [] steps new =
     × IsMachine new old.made old.now (with_session old name None) (length old.sessions.entries) (stored old.store.entries)
 DoesCommit old name t (c ∷ cs) steps new = CommitsChanges old name t steps new
 
+abbrev pub NotesUpdate : Machine → List ℕ → ObjectId → Act → ℕ × List Change → List Step → Machine → Type 0
+NotesUpdate old name o act t steps new =
+    (steps ≡ step.Updated name o None ∷ [])
+    × IsMachine new old.made old.now (with_session old name (Some (t.0, t.1 ++ (record { object = o; effect = amount act }) ∷ []))) (length old.sessions.entries) (stored old.store.entries)
+
 -- what a command does that isn't refused
 abbrev pub Does : Machine → Command → List Step → Machine → Type 0
 Does old (command.Cluster sites parts) steps new = (steps ≡ step.MadeCluster sites parts ∷ []) × IsMachine new true old.now (session_in old) (length old.sessions.entries) (stored old.store.entries)
@@ -104,9 +110,7 @@ Does old (command.Read name o) steps new =
     (t : ℕ × List Change) × (session_in old name ≡ Some (Some t))
     × (steps ≡ step.Value name o (Int (int_wrap w128 (sum_upto t.0 (stored old.store.entries o) +ℤ own_sum o t.1))) ∷ []) × (new ≡ old)
 Does old (command.Update name o op) steps new =
-    (t : ℕ × List Change) × (session_in old name ≡ Some (Some t))
-    × (steps ≡ step.Updated name o None ∷ [])
-    × IsMachine new old.made old.now (with_session old name (Some (t.0, t.1 ++ (record { object = o; effect = amount op.act }) ∷ []))) (length old.sessions.entries) (stored old.store.entries)
+    (t : ℕ × List Change) × (session_in old name ≡ Some (Some t)) × NotesUpdate old name o op.act t steps new
 Does old (command.Commit name k) steps new =
     (t : ℕ × List Change) × (session_in old name ≡ Some (Some t)) × DoesCommit old name t t.1 steps new
 Does old other steps new = ⊥
@@ -118,3 +122,7 @@ ActsBy old c steps new (Some refused) = (steps ≡ shown refused ∷ []) × (new
 -- the machine answers a command that is built
 abbrev pub Acts : Machine → Command → List Step → Machine → Type 0
 Acts old c steps new = ActsBy old c steps new (first_due (dues old c))
+
+-- the machine answers a command
+abbrev pub AnswersAny : Machine → Command → List Step → Machine → Type 0
+AnswersAny old c steps new = ActsBy old c steps new (first_due ((not (is_built c), step.Unbuilt) ∷ dues old c))

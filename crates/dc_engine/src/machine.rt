@@ -1,10 +1,12 @@
 ghost use Rattle.std.specs.Prelude.{◌≡◌, ◌≤◌, ◌<◌, ◌^◌, ℕ, List, [], ◌∷◌, length, Option, Some, None, false, true, IfOk, ◌+ℤ◌};
 
 ghost use Rattle.std.specs.Int.{int_wrap, w128};
+ghost use Rattle.world_model.specs.Refusals.{is_built as is_built_lem, is_amount as is_amount_lem};
+ghost use Rattle.crdt_counters.specs.Meaning.{amount};
 ghost use Rattle.dc_engine.specs.Stored.{stored, sum_upto, own_sum, transaction_at};
 
 use crate::sessions::{Change, Sessions, Transaction, close, create, note, open};
-use crate::store::{Store, add_own, add_visible, store_all};
+use crate::store::{Store, add_own, add_stored, store_all};
 use crdt_core::{Act, Kind, ObjectId, Op, Value};
 use crdt_counters::amount_of;
 use field_codec::Text;
@@ -15,6 +17,9 @@ use world_model::{Command, Step};
 
 /// The greatest time in ticks that a clock shows.
 const LAST_TIME: u64 = 1 << 62;
+
+/// Clock readings are below this number.
+const END_OF_READINGS: u64 = 1 << 48;
 
 /// The most sessions at one time.
 const MOST_SESSIONS: usize = 64;
@@ -41,7 +46,7 @@ impl Machine {
     ghost use Rattle.site_vector.specs.declared.ids.PartId.{PartId};
     ghost use Rattle.world_model.specs.Refusals.{is_built};
     ghost use Rattle.dc_engine.specs.declared.sessions.Change.{Change};
-    ghost use Rattle.dc_engine.specs.Machine.{Acts, CommitsChanges, session_in};
+    ghost use Rattle.dc_engine.specs.Machine.{Acts, AnswersAny, CommitsChanges, NotesUpdate, session_in};
 
     /// A machine before any command. Takes no memory.
     pub(crate) fn new(alloc: Global) -> Machine
@@ -59,8 +64,18 @@ impl Machine {
         }
     }
 
+    /// The lines that answer a command.
+    pub(crate) fn answer(&mut self, command: Command) -> Result<Vec<Step>, AllocError>
+        ensures { IfOk result (λ steps. AnswersAny self.old command steps.items self.new) }
+    {
+        if !is_built(&command) {
+            return only(self.alloc, Step::Unbuilt);
+        }
+        self.act(command)
+    }
+
     /// Answers a command that is built.
-    pub(crate) fn act(&mut self, command: Command) -> Result<Vec<Step>, AllocError>
+    fn act(&mut self, command: Command) -> Result<Vec<Step>, AllocError>
         requires { is_built command ≡ true }
         ensures { IfOk result (λ steps. Acts self.old command steps.items self.new) }
     {
@@ -174,12 +189,24 @@ impl Machine {
                 if transaction.changes().len() == MOST_UPDATES {
                     return only(self.alloc, Step::Unbuilt);
                 }
-                let key = object.copy(self.alloc)?;
-                let effect = amount_of(&op.act);
-                note(&mut self.sessions, &name, Change { object: key, effect })?;
-                only(self.alloc, Step::Updated { name, object, stamp: None })
+                self.note_update(name, object, &op.act)
             }
         }
+    }
+
+    /// Notes an update of a session that is open and may make another.
+    fn note_update(
+        &mut self,
+        name: Text,
+        object: ObjectId,
+        act: &Act,
+    ) -> Result<Vec<Step>, AllocError>
+        requires { (t : ℕ × List Change) → session_in self.old name ≡ Some (Some t) → length t.1 < 256 }
+        ensures { (t : ℕ × List Change) → session_in self.old name ≡ Some (Some t) → IfOk result (λ lines. NotesUpdate self.old name object act.now t lines.items self.new) }
+    {
+        let change = change_of(self.alloc, &object, act)?;
+        note(&mut self.sessions, &name, change)?;
+        only(self.alloc, Step::Updated { name, object, stamp: None })
     }
 
     fn commit(&mut self, name: Text, steps: Option<u64>) -> Result<Vec<Step>, AllocError>
@@ -226,6 +253,31 @@ impl Machine {
     }
 }
 
+/// Whether a command is built yet.
+fn is_built(command: &Command) -> bool
+    ensures { result ≡ is_built_lem command.now }
+{
+    match command {
+        Command::Cluster { sites, parts } => *sites == 1 && *parts == 1,
+        Command::Clock { n, .. } => *n < END_OF_READINGS,
+        Command::Session { .. } => true,
+        Command::Begin { part, .. } => part.is_none(),
+        Command::Read { object, .. } => object.kind == Kind::CounterPn,
+        Command::Update { object, op, .. } => {
+            object.kind == Kind::CounterPn && op.path.as_slice().is_empty() && is_amount(&op.act)
+        }
+        Command::Commit { steps, .. } => steps.is_none(),
+        _ => false,
+    }
+}
+
+/// Whether an act changes a counter by an amount.
+fn is_amount(act: &Act) -> bool
+    ensures { result ≡ is_amount_lem act.now }
+{
+    matches!(act, Act::Increment(_) | Act::Decrement(_))
+}
+
 /// The transaction that began at a time.
 fn tx_at(time: u64) -> TxId
     ensures { result ≡ transaction_at time }
@@ -244,6 +296,15 @@ fn vector_at(time: u64) -> VTime
     VTime::zero(1).with(1, time)
 }
 
+/// The change that an act makes.
+fn change_of(alloc: Global, object: &ObjectId, act: &Act) -> Result<Change, AllocError>
+    ensures { IfOk result (λ c. c ≡ record { object = object.now; effect = amount act.now }) }
+{
+    let object = object.copy(alloc)?;
+    let effect = amount_of(act);
+    Ok(Change { object, effect })
+}
+
 /// What a transaction reads of an object: what had committed when it began, and its own changes.
 fn value_of(
     alloc: Global,
@@ -255,9 +316,7 @@ fn value_of(
 {
     let mut total = 0;
     let time = transaction.time();
-    if let Some(updates) = store.get(object) {
-        add_visible(alloc, &mut total, updates, time)?;
-    }
+    add_stored(alloc, &mut total, store, object, time)?;
     add_own(alloc, &mut total, tx_at(time), transaction.changes(), object)?;
     Ok(Value::Int(total))
 }

@@ -1,4 +1,4 @@
-ghost use Rattle.std.specs.Prelude.{◌≡◌, ◌++◌, ◌∷◌, [], ℕ, ◌+◌, List, Option, Some, None, OnOk, IfOk, length, is_some, true, if◌then◌else◌};
+ghost use Rattle.std.specs.Prelude.{◌≡◌, ◌≤◌, ◌<◌, ◌++◌, ◌∷◌, [], ℕ, ◌+◌, List, Option, Some, None, OnOk, IfOk, length, is_some, true, if◌then◌else◌};
 ghost use Rattle.std.specs.Str.{bytes_eq};
 ghost use Rattle.dc_engine.specs.SessionTable.{session};
 ghost use Rattle.dc_engine.specs.declared.sessions.Change.{Change};
@@ -16,7 +16,7 @@ pub(crate) struct Change {
     pub(crate) effect: i64,
 }
 
-/// An open transaction. Contracts see it as its time, in ticks, and its changes in order.
+/// An open transaction, of at most 256 changes. Contracts see it as its time, in ticks, and its changes in order.
 #[derive(Debug, Drop)]
 pub(crate) struct Transaction {
     time: u64,
@@ -24,12 +24,14 @@ pub(crate) struct Transaction {
 }
 
 impl Model for Transaction {
-    ghost use Rattle.std.specs.Prelude.{ℕ, List};
+    ghost use Rattle.std.specs.Prelude.{ℕ, List, ◌≤◌, length};
     ghost use Rattle.dc_engine.specs.declared.sessions.Change.{Change};
 
     ghost Value = { ℕ × List Change };
 
     ghost view = { λ t. (t.time, t.changes.items) };
+
+    ghost invariant = { λ t. length t.changes.items ≤ 256 };
 }
 
 impl Transaction {
@@ -50,12 +52,14 @@ impl Transaction {
     }
 
     pub(crate) fn changes(&self) -> &[Change]
-        ensures { result.now ≡ self.now.1 }
+        ensures value { result.now ≡ self.now.1 }
+        ensures most { length self.now.1 ≤ 256 }
     {
         self.changes.as_slice()
     }
 
     pub(crate) fn push(&mut self, change: Change) -> Result<(), AllocError>
+        requires { length self.old.1 < 256 }
         ensures { OnOk result (self.new ≡ (self.old.0, self.old.1 ++ change ∷ [])) }
     {
         self.changes.push(change)?;
@@ -88,6 +92,7 @@ pub(crate) fn open(sessions: &mut Sessions, name: &Text, transaction: Transactio
 
 /// Adds a change to the transaction of a session that is open.
 pub(crate) fn note(sessions: &mut Sessions, name: &Text, change: Change) -> Result<(), AllocError>
+    requires { (t : ℕ × List Change) → session sessions.old.entries name.now ≡ Some (Some t) → length t.1 < 256 }
     ensures sessions { OnOk result ((t : ℕ × List Change) → session sessions.old.entries name.now ≡ Some (Some t) → (who : List ℕ) → session sessions.new.entries who ≡ (if bytes_eq name.now who then Some (Some (t.0, t.1 ++ change ∷ [])) else session sessions.old.entries who)) }
     ensures count { OnOk result (length sessions.new.entries ≡ length sessions.old.entries) }
 {
@@ -99,6 +104,7 @@ pub(crate) fn note(sessions: &mut Sessions, name: &Text, change: Change) -> Resu
 
 /// Adds a change to a transaction that is open.
 fn add(slot: &mut Option<Transaction>, change: Change) -> Result<(), AllocError>
+    requires { (t : ℕ × List Change) → slot.old ≡ Some t → length t.1 < 256 }
     ensures { OnOk result ((t : ℕ × List Change) → slot.old ≡ Some t → slot.new ≡ Some (t.0, t.1 ++ change ∷ [])) }
 {
     if let Some(transaction) = slot {

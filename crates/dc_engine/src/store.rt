@@ -78,9 +78,25 @@ fn store_change(
     store_update(store, alloc, &change.object, update)
 }
 
+/// Adds to a total the updates of an object that committed up to a time.
+pub(crate) fn add_stored(
+    alloc: Global,
+    total: &mut i128,
+    store: &Store,
+    object: &ObjectId,
+    upto: u64,
+) -> Result<(), AllocError>
+    ensures { OnOk result ((z : ℤ) → total.old ≡ int_wrap w128 z → total.new ≡ int_wrap w128 (z +ℤ sum_upto upto (stored store.now.entries object.now))) }
+{
+    match store.get(object) {
+        Some(updates) => add_visible(alloc, total, updates, upto),
+        None => Ok(()),
+    }
+}
+
 /// Adds to a total the updates that committed up to a time.
 
-pub(crate) fn add_visible(
+fn add_visible(
     alloc: Global,
     total: &mut i128,
     updates: &[Committed],

@@ -18,3 +18,4 @@ pub mod Meanings
 pub mod Stories
 pub mod Whole
 pub mod Example
+pub mod Growth

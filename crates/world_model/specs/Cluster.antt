@@ -14,11 +14,11 @@ has_cluster [] = false
 has_cluster (e ∷ run) = is_cluster e.step || has_cluster run
 
 -- the number of sites that a line makes, where before there were so many
-abbrev sites_after : ℕ → Step → ℕ
+abbrev pub sites_after : ℕ → Step → ℕ
 sites_after old (step.MadeCluster sites parts) = sites
 sites_after old other = old
 
-abbrev parts_after : ℕ → Step → ℕ
+abbrev pub parts_after : ℕ → Step → ℕ
 parts_after old (step.MadeCluster sites parts) = parts
 parts_after old other = old
 

@@ -26,7 +26,7 @@ takes_part run t p = list_any (λ c. place_of c.object.bucket c.object.key (part
 abbrev pub participants : Run → TxId → List PartId
 participants run t = filter (takes_part run t) (partitions t.site 1 (parts_of run))
 
-abbrev prepares : Step → TxId → PartId → Bool
+abbrev pub prepares : Step → TxId → PartId → Bool
 prepares (step.Prepared q u n) t p = same_part q p && same_tx u t
 prepares other t p = false
 

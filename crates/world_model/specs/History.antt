@@ -17,7 +17,7 @@ abbrev pub in_history : Run → TxId → Bool
 in_history [] t = false
 in_history (e ∷ run) t = decides e.step t || in_history run t
 
-abbrev newly_decided : Run → Step → List TxId
+abbrev pub newly_decided : Run → Step → List TxId
 newly_decided run (step.Decided p t c) = if in_history run t then [] else t ∷ []
 newly_decided run other = []
 
@@ -27,7 +27,7 @@ history [] = []
 history (e ∷ run) = newly_decided run e.step ++ history run
 
 -- the snapshot vector of t after a line
-abbrev snapshot_after : TxId → List ℕ → Step → List ℕ
+abbrev pub snapshot_after : TxId → List ℕ → Step → List ℕ
 snapshot_after t old (step.Began name u s) = if same_tx u t then s else old
 snapshot_after t old other = old
 
@@ -37,7 +37,7 @@ snapshot [] t = []
 snapshot (e ∷ run) t = snapshot_after t (snapshot run t) e.step
 
 -- the greatest prepare time of t after a line
-abbrev commit_time_after : TxId → ℕ → Step → ℕ
+abbrev pub commit_time_after : TxId → ℕ → Step → ℕ
 commit_time_after t old (step.Prepared p u n) = if same_tx u t then max n old else old
 commit_time_after t old other = old
 

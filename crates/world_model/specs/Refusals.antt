@@ -1,5 +1,5 @@
 -- The refusal of a command: the first that is due.
-use Rattle.std.specs.Prelude.{ℕ, ◌^◌, Bool, true, false, not, ◌&&◌, ◌||◌, ◌==◌, List, [], ◌∷◌, length, Option, None, Some, is_none, if◌then◌else◌}
+use Rattle.std.specs.Prelude.{ℕ, ◌^◌, Bool, true, false, not, ◌&&◌, ◌||◌, ◌==◌, nat_lt, List, [], ◌∷◌, length, Option, None, Some, is_none, if◌then◌else◌}
 use Rattle.std.specs.Option.{option_map_or}
 use Rattle.std.specs.List.{list_any}
 use Rattle.site_vector.specs.declared.ids.PartId.{PartId}
@@ -29,7 +29,7 @@ is_amount (act.Increment n) = true
 is_amount (act.Decrement n) = true
 is_amount other = false
 
-abbrev is_empty : List Field → Bool
+abbrev pub is_empty : List Field → Bool
 is_empty [] = true
 is_empty (f ∷ fs) = false
 
@@ -38,7 +38,7 @@ abbrev pub last_time : ℕ
 last_time = 2 ^ 62
 
 -- the site of a session, or none of the sites
-abbrev site_or_none : Option ℕ → ℕ
+abbrev pub site_or_none : Option ℕ → ℕ
 site_or_none None = 0
 site_or_none (Some site) = site
 
@@ -47,11 +47,11 @@ abbrev pub begin_part : Run → List ℕ → Option PartId → PartId
 begin_part run name None = record { site = site_or_none (session_site run name); part = 1 }
 begin_part run name (Some p) = p
 
-abbrev is_elsewhere : Run → List ℕ → Option PartId → Bool
+abbrev pub is_elsewhere : Run → List ℕ → Option PartId → Bool
 is_elsewhere run name None = false
 is_elsewhere run name (Some p) = not (p.site == site_or_none (session_site run name))
 
-abbrev lacks_part : Run → Option PartId → Bool
+abbrev pub lacks_part : Run → Option PartId → Bool
 lacks_part run None = false
 lacks_part run (Some p) = not (has_part run p)
 
@@ -64,19 +64,19 @@ abbrev pub is_at_end : Run → Option TxId → Bool
 is_at_end run None = false
 is_at_end run (Some t) = list_any (λ p. now run p == last_time) (participants run t)
 
-abbrev without_cluster : Run → Bool × Step
+abbrev pub without_cluster : Run → Bool × Step
 without_cluster run = (not (has_cluster run), step.NoCluster)
 
-abbrev without_session : Run → List ℕ → Bool × Step
+abbrev pub without_session : Run → List ℕ → Bool × Step
 without_session run name = (not (has_session run name), step.NoSession)
 
-abbrev without_transaction : Run → List ℕ → Bool × Step
+abbrev pub without_transaction : Run → List ℕ → Bool × Step
 without_transaction run name = (not (is_open run name), step.NoTxn)
 
 -- what isn't built yet: all but a cluster of one partition with counters that are incremented and decremented, and whole commits
 abbrev pub is_built : Command → Bool
 is_built (command.Cluster sites parts) = sites == 1 && parts == 1
-is_built (command.Clock p n) = true
+is_built (command.Clock p n) = nat_lt n (2 ^ 48)
 is_built (command.Session name site) = true
 is_built (command.Begin name part) = is_none part
 is_built (command.Read name o) = is_counter o.kind
@@ -84,7 +84,7 @@ is_built (command.Update name o op) = is_counter o.kind && (is_empty op.path && 
 is_built (command.Commit name steps) = is_none steps
 is_built other = false
 
-abbrev unbuilt : Command → Bool × Step
+abbrev pub unbuilt : Command → Bool × Step
 unbuilt c = (not (is_built c), step.Unbuilt)
 
 -- the refusals of a command in their order, each with whether it is due

@@ -20,7 +20,7 @@ is_begun [] t = false
 is_begun (e ∷ run) t = begins e.step t || is_begun run t
 
 -- the site of a session, where it is there
-abbrev site_after : List ℕ → Option ℕ → Step → Option ℕ
+abbrev pub site_after : List ℕ → Option ℕ → Step → Option ℕ
 site_after who old (step.MadeSession name site) = if bytes_eq name who then Some site else old
 site_after who old other = old
 
@@ -32,7 +32,7 @@ abbrev pub has_session : Run → List ℕ → Bool
 has_session run who = is_some (session_site run who)
 
 -- how many sessions there are
-abbrev added_sessions : ℕ → Step → ℕ
+abbrev pub added_sessions : ℕ → Step → ℕ
 added_sessions old (step.MadeSession name site) = old + 1
 added_sessions old other = old
 
@@ -41,7 +41,7 @@ sessions_of [] = 0
 sessions_of (e ∷ run) = added_sessions (sessions_of run) e.step
 
 -- the transaction of a session after a line, where it was `old` before
-abbrev transaction_after : List ℕ → Option TxId → Step → Option TxId
+abbrev pub transaction_after : List ℕ → Option TxId → Step → Option TxId
 transaction_after who old (step.Began name t s) = if bytes_eq name who then Some t else old
 transaction_after who old other = old
 
@@ -51,7 +51,7 @@ transaction [] who = None
 transaction (e ∷ run) who = transaction_after who (transaction run who) e.step
 
 -- a session is open after a line, where it was before
-abbrev open_after : List ℕ → Bool → Step → Bool
+abbrev pub open_after : List ℕ → Bool → Step → Bool
 open_after who old (step.Began name t s) = bytes_eq name who || old
 open_after who old (step.Ended name) = if bytes_eq name who then false else old
 open_after who old other = old
@@ -62,7 +62,7 @@ is_open [] who = false
 is_open (e ∷ run) who = open_after who (is_open run who) e.step
 
 -- t is of the session
-abbrev begins_for : Step → List ℕ → TxId → Bool
+abbrev pub begins_for : Step → List ℕ → TxId → Bool
 begins_for (step.Began name u s) who t = bytes_eq name who && same_tx u t
 begins_for other who t = false
 
@@ -71,7 +71,7 @@ is_of [] who t = false
 is_of (e ∷ run) who t = begins_for e.step who t || is_of run who t
 
 -- what a session depends on after a line
-abbrev dependency_after : Run → List ℕ → List ℕ → Step → List ℕ
+abbrev pub dependency_after : Run → List ℕ → List ℕ → Step → List ℕ
 dependency_after run who old (step.MadeSession name site) = if bytes_eq name who then replicate (sites_of run) 0 else old
 dependency_after run who old (step.Began name t s) = if bytes_eq name who then join old s else old
 dependency_after run who old (step.Decided p t c) = if is_of run who t then join old c else old

@@ -45,15 +45,15 @@ changed object stamp time (Some op) = (record { object = object; op = op; stamp 
 abbrev pub partition_of : Run → TxId → ObjectId → PartId
 partition_of run t o = record { site = t.site; part = place_of o.bucket o.key (parts_of run) }
 
--- the update of t that a line shows
-abbrev pub change_of : Run → Option Command → Step → TxId → List Change
-change_of run asked (step.Updated name object stamp) t = if is_tx (transaction run name) t then changed object stamp (now run (partition_of run t object)) (operation asked) else []
-change_of run asked other t = []
+-- the updates of t after a line, where they were `old` before
+abbrev pub changes_after : Run → Option Command → Step → TxId → List Change → List Change
+changes_after run asked (step.Updated name object stamp) t old = if is_tx (transaction run name) t then old ++ changed object stamp (now run (partition_of run t object)) (operation asked) else old
+changes_after run asked other t old = old
 
 -- the updates of t, in order
 abbrev pub changes : Run → TxId → List Change
 changes [] t = []
-changes (e ∷ run) t = changes run t ++ change_of run e.command e.step t
+changes (e ∷ run) t = changes_after run e.command e.step t (changes run t)
 
 -- one update has seen another where the other's transaction precedes its own, or is its own and numbers the other lower
 abbrev pub has_seen : Run → TxId → ℕ → Dot → Bool
