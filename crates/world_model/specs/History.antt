@@ -6,6 +6,7 @@ use Rattle.site_vector.specs.Vector.{le, replaced}
 use Rattle.world_model.specs.declared.step.Step.{Step}
 use Rattle.world_model.specs.declared.step.Step.TheVariants as step
 use Rattle.world_model.specs.Run.{Run}
+use Rattle.world_model.specs.Sessions.{begins}
 
 -- the line shows that t is decided
 abbrev pub decides : Step → TxId → Bool
