@@ -30,7 +30,7 @@ pub texts_bad : (before : List (List ℕ)) (w : List ℕ) (all rest ws : List (L
 texts_bad before w all rest ws e front is =
     e ∙ ap (λ r. option_map (λ ts. before ++ ts) (texts r)) front ∙ ap (λ x. option_map (λ ts. before ++ ts) (option_and_then (λ t. option_map (λ ts. t ∷ ts) (texts ws)) x)) is
 
-abbrev Path : Type 0
+abbrev pub Path : Type 0
 Path = List Field × List (List ℕ)
 
 no_field_before : (x : Option Path) → x ≡ option_map (λ p. ([] ++ p.0, p.1)) x
@@ -40,18 +40,24 @@ no_field_before (Some p) = refl
 pub path_start : (ws : List (List ℕ)) → path ws ≡ option_map (λ p. ([] ++ p.0, p.1)) (path ws)
 path_start ws = no_field_before (path ws)
 
-field_after : (before : List Field) (f : Field) (x : Option Path) → option_map (λ p. (before ++ p.0, p.1)) (option_map (λ p. (f ∷ p.0, p.1)) x) ≡ option_map (λ p. ((before ++ f ∷ []) ++ p.0, p.1)) x
+abbrev pub onto : List Field → Path → Path
+onto before p = (before ++ p.0, p.1)
+
+abbrev pub onto_first : Field → Path → Path
+onto_first f p = (f ∷ p.0, p.1)
+
+field_after : (before : List Field) (f : Field) (x : Option Path) → option_map (onto before) (option_map (onto_first f) x) ≡ option_map (onto (before ++ f ∷ [])) x
 field_after before f None = refl
 field_after before f (Some p) = ap (λ s. Some (s, p.1)) (sym (append_assoc before (f ∷ []) p.0))
 
-pub path_more : (before : List Field) (f : Field) (n k : List ℕ) (all rest ws : List (List ℕ)) → path all ≡ option_map (λ p. (before ++ p.0, p.1)) (path rest)
-    → path rest ≡ option_and_then (λ f. option_map (λ q. (f ∷ q.0, q.1)) (path ws)) (field n k) → field n k ≡ Some f → path all ≡ option_map (λ p. ((before ++ f ∷ []) ++ p.0, p.1)) (path ws)
+pub path_more : (before : List Field) (f : Field) (n k : List ℕ) (all rest ws : List (List ℕ)) → path all ≡ option_map (onto before) (path rest)
+    → path rest ≡ option_and_then (λ g. option_map (onto_first g) (path ws)) (field n k) → field n k ≡ Some f → path all ≡ option_map (onto (before ++ f ∷ [])) (path ws)
 path_more before f n k all rest ws e front is =
-    e ∙ ap (λ x. option_map (λ p. (before ++ p.0, p.1)) x) (front ∙ ap (λ x. option_and_then (λ f. option_map (λ q. (f ∷ q.0, q.1)) (path ws)) x) is) ∙ field_after before f (path ws)
+    e ∙ ap (option_map (onto before)) (front ∙ ap (option_and_then (λ g. option_map (onto_first g) (path ws))) is) ∙ field_after before f (path ws)
 
-pub path_end : (before : List Field) (all rest : List (List ℕ)) → path all ≡ option_map (λ p. (before ++ p.0, p.1)) (path rest) → path rest ≡ Some ([], rest) → path all ≡ Some (before, rest)
-path_end before all rest e done = e ∙ ap (λ x. option_map (λ p. (before ++ p.0, p.1)) x) done ∙ ap (λ s. Some (s, rest)) (append-nil before)
+pub path_end : (before : List Field) (all rest : List (List ℕ)) → path all ≡ option_map (onto before) (path rest) → path rest ≡ Some ([], rest) → path all ≡ Some (before, rest)
+path_end before all rest e done = e ∙ ap (option_map (onto before)) done ∙ ap (λ (s : List Field). Some (s, rest)) (append-nil before)
 
-pub path_bad : (before : List Field) (n k : List ℕ) (all rest ws : List (List ℕ)) → path all ≡ option_map (λ p. (before ++ p.0, p.1)) (path rest)
-    → path rest ≡ option_and_then (λ f. option_map (λ q. (f ∷ q.0, q.1)) (path ws)) (field n k) → field n k ≡ None → path all ≡ None
-path_bad before n k all rest ws e front is = e ∙ ap (λ x. option_map (λ p. (before ++ p.0, p.1)) x) (front ∙ ap (λ x. option_and_then (λ f. option_map (λ q. (f ∷ q.0, q.1)) (path ws)) x) is)
+pub path_bad : (before : List Field) (n k : List ℕ) (all rest ws : List (List ℕ)) → path all ≡ option_map (onto before) (path rest)
+    → path rest ≡ option_and_then (λ g. option_map (onto_first g) (path ws)) (field n k) → field n k ≡ None → path all ≡ None
+path_bad before n k all rest ws e front is = e ∙ ap (option_map (onto before)) (front ∙ ap (option_and_then (λ g. option_map (onto_first g) (path ws))) is)

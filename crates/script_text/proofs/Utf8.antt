@@ -1,9 +1,9 @@
 -- Which bytes are UTF-8.
-use Rattle.std.proofs.Common.{arith, rules, ap, ◌∙◌, ◌&&◌, not, get_or, Option, Some, None, if◌then◌else◌, ◌≡◌, ◌≢◌, ℕ, List, length, Bool, true, false, ◌==◌, ◌<◌}
+use Rattle.std.proofs.Common.{arith, ap, ◌∙◌, not, Some, None, if◌then◌else◌, ◌≡◌, ℕ, List, length, true, false, ◌==◌, ◌<◌}
 use Rattle.std.specs.Str.{IsUtf8, IsValidUpTo}
 use Rattle.std.specs.Str.Lossy.{utf8_valid_len}
 use Rattle.std.proofs.lemmas.Str.{utf8_valid_len-IsUtf8, utf8_valid_len-IsValidUpTo, IsUtf8-from_ascii}
-use Rattle.std.specs.List.{list_all, All}
+use Rattle.std.specs.List.{list_all}
 use Rattle.std.specs.Cmp.{second_so}
 use Rattle.std.proofs.lemmas.List.Sums.{AllPass-from_list_all}
 use Rattle.std.proofs.lemmas.Str.Ascii.{IsAscii-from_all}

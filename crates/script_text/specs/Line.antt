@@ -1,7 +1,6 @@
 -- What a line of a script reads as.
 use Rattle.std.specs.Prelude.{◌≡◌, ◌≤◌, ◌==◌, ℕ, List, [], ◌∷◌, length, Option, Some, None, option_map, if◌then◌else◌}
 use Rattle.std.specs.Str.{IsUtf8}
-use Rattle.world_model.specs.declared.command.Command.{Command}
 use Rattle.script_text.specs.Split.{words}
 use Rattle.script_text.specs.Grammar.{command_named}
 use Rattle.script_text.specs.declared.Parsed.{Parsed}

@@ -1,5 +1,5 @@
 -- The words of a line: what stands between spaces, where a space within quotes is a byte of its word.
-use Rattle.std.specs.Prelude.{ℕ, zero, suc, Bool, true, false, not, ◌==◌, ◌&&◌, List, [], ◌∷◌, length, if◌then◌else◌}
+use Rattle.std.specs.Prelude.{ℕ, Bool, true, false, ◌==◌, List, [], ◌∷◌, if◌then◌else◌}
 use Rattle.std.specs.List.{filter}
 
 -- where a byte stands: outside of quotes, within them, or after a backslash within them
