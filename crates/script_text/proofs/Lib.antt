@@ -1,0 +1,3 @@
+pub mod Digits
+pub mod Utf8
+pub mod Lists

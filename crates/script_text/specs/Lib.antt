@@ -1,0 +1,9 @@
+pub mod Split
+pub mod Front
+pub mod Numbers
+pub mod Places
+pub mod Texts
+pub mod Grammar
+pub mod Acts
+pub mod Objects
+pub mod Line

@@ -1,0 +1,26 @@
+-- What a line of a script reads as.
+use Rattle.std.specs.Prelude.{◌≡◌, ◌≤◌, ◌==◌, ℕ, List, [], ◌∷◌, length, Option, Some, None, option_map, if◌then◌else◌}
+use Rattle.std.specs.Str.{IsUtf8}
+use Rattle.script_text.specs.Split.{words}
+use Rattle.script_text.specs.Grammar.{command_named}
+use Rattle.script_text.specs.declared.Parsed.{Parsed}
+use Rattle.script_text.specs.declared.Parsed.TheVariants as parsed
+
+abbrev pub hash : ℕ
+hash = 35
+
+-- nothing, where there is no word or the first begins with `#`; else the command that the words spell
+abbrev pub reading : List (List ℕ) → Option Parsed
+reading [] = Some parsed.Nothing
+reading ([] ∷ ws) = None
+reading ((c ∷ w) ∷ ws) = if c == hash then Some parsed.Nothing else option_map parsed.Command (command_named (c ∷ w) ws)
+
+-- a line, without its end: at most 4,096 bytes of UTF-8
+pub record IsLine (line : List ℕ) : Type 0 where
+  pub short : length line ≤ 4096
+  pub utf8 : IsUtf8 line
+
+-- the line reads as this
+pub record Reads (line : List ℕ) (p : Parsed) : Type 0 where
+  pub is_line : IsLine line
+  pub is : reading (words line) ≡ Some p

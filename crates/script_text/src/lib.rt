@@ -1,0 +1,101 @@
+//! The commands of a script: what a line reads as.
+#![tactic(auto)]
+
+ghost use Rattle.std.specs.Prelude.{◌≡◌, List, ℕ, Err, IfOk, None, Some, true, false};
+ghost use Rattle.script_text.specs.declared.Parsed.{Parsed};
+ghost use Rattle.script_text.specs.Line.{IsLine, Reads, reading};
+ghost use Rattle.script_text.specs.Split.{words};
+
+mod act;
+mod commands;
+mod number;
+mod object;
+mod place;
+mod split;
+mod text;
+
+use commands::command;
+use split::next;
+use std::alloc::{AllocError, Global};
+use thiserror::Error;
+use world_model::Command;
+
+/// The most bytes of a line, without its end.
+pub const MOST_BYTES: usize = 4096;
+
+/// Why a line gives no command.
+#[derive(Clone, Copy, Debug, PartialEq, Eq, Error)]
+pub enum ParseError {
+    #[error("the line isn't in the grammar")]
+    Bad,
+    #[error("out of memory")]
+    NoMemory,
+}
+
+impl From<AllocError> for ParseError {
+    ghost use Rattle.script_text.specs.declared.ParseError.{ParseError};
+
+    ghost from_gives = { λ e r. r ≡ ParseError.NoMemory };
+
+    fn from(_error: AllocError) -> ParseError {
+        ParseError::NoMemory
+    }
+}
+
+/// What a line reads as.
+#[derive(Debug, Drop)]
+pub enum Parsed {
+    /// A line without a word, or whose first byte after spaces is `#`.
+    Nothing,
+    Command(Command),
+}
+
+/// Whether the bytes may be a line: at most 4,096, in UTF-8.
+fn is_line(line: &[u8]) -> bool
+    ensures yes { result ≡ true → IsLine line.now }
+    ensures no { result ≡ false → ¬ (IsLine line.now) }
+{
+    if line.len() > MOST_BYTES {
+        return false;
+    }
+    std::str::from_utf8(line).is_ok()
+}
+
+/// What the words of the line read as.
+fn parse_words(alloc: Global, line: &[u8]) -> Result<Parsed, ParseError>
+    ensures ok { IfOk result (λ p. reading (words line.now) ≡ Some p) }
+    ensures bad { result ≡ Err ParseError.Bad → reading (words line.now) ≡ None }
+{
+    let Some((name, rest)) = next(line) else {
+        return Ok(Parsed::Nothing);
+    };
+    match name {
+        [] => Err(ParseError::Bad),
+        [b'#', ..] => Ok(Parsed::Nothing),
+        _ => Ok(Parsed::Command(command(alloc, name, rest)?)),
+    }
+}
+
+/// What a line of a script reads as. The line has no end: no line feed, and no carriage return before one.
+///
+/// # Errors
+///
+/// `Bad` exactly where the line isn't in the grammar (docs/SCRIPT.md): longer than 4,096 bytes, not UTF-8, or
+/// with words that spell no command. `NoMemory` where memory runs out.
+pub fn parse(alloc: Global, line: &[u8]) -> Result<Parsed, ParseError>
+    ensures ok { IfOk result (λ p. Reads line.now p) }
+    ensures bad { result ≡ Err ParseError.Bad → (p : Parsed) → ¬ (Reads line.now p) }
+{
+    if !is_line(line) {
+        return Err(ParseError::Bad);
+    }
+    parse_words(alloc, line)
+}
+
+/// The law of the grammar: it reads at most one command from a line.
+pub fn law_reads_once()
+    ensures { (line : List ℕ) (p q : Parsed) → Reads line p → Reads line q → p ≡ q }
+{}
+
+#[cfg(test)]
+mod tests;

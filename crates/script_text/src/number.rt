@@ -1,0 +1,79 @@
+ghost use Rattle.std.specs.Prelude.{◌≡◌, ◌≤◌, ◌^◌, IfSome};
+ghost use Rattle.script_text.specs.Numbers as numbers;
+
+/// The number that the digits spell, where all are digits and it is at most `top`.
+fn digits(word: &[u8], top: u64) -> Option<u64>
+    requires { top ≤ 2 ^ 62 }
+    ensures value { result ≡ numbers.digits_of top word.now }
+    ensures most { IfSome result (λ n. n ≤ top) }
+{
+    let mut n = 0;
+    for byte in word {
+        if !byte.is_ascii_digit() {
+            return None;
+        }
+        let next = n as u128 * 10 + (*byte - b'0') as u128;
+        if next > top as u128 {
+            return None;
+        }
+        n = next as u64;
+    }
+    Some(n)
+}
+
+/// The numeral's number, where it is at most `top`.
+pub fn numeral(word: &[u8], top: u64) -> Option<u64>
+    requires { top ≤ 2 ^ 62 }
+    ensures value { result ≡ numbers.numeral top word.now }
+    ensures most { IfSome result (λ n. n ≤ top) }
+{
+    match word {
+        [] => None,
+        [_] => digits(word, top),
+        [first, ..] => {
+            if *first == b'0' {
+                return None;
+            }
+            digits(word, top)
+        }
+    }
+}
+
+/// A numeral from `lo` to `hi`.
+pub fn ranged(word: &[u8], lo: u64, hi: u64) -> Option<u64>
+    requires { hi ≤ 2 ^ 62 }
+    ensures value { result ≡ numbers.ranged lo hi word.now }
+    ensures least { IfSome result (λ n. lo ≤ n) }
+    ensures most { IfSome result (λ n. n ≤ hi) }
+{
+    let n = numeral(word, hi)?;
+    if lo <= n {
+        return Some(n);
+    }
+    None
+}
+
+/// A numeral from `lo` to `hi`.
+pub fn small(word: &[u8], lo: u8, hi: u8) -> Option<u8>
+    ensures { result ≡ numbers.ranged lo hi word.now }
+{
+    let n = ranged(word, lo as u64, hi as u64)?;
+    Some(n as u8)
+}
+
+/// A numeral below 2^31, or a minus sign and one from 1 to 2^31.
+pub fn integer(word: &[u8]) -> Option<i32>
+    ensures { result ≡ numbers.integer word.now }
+{
+    match word {
+        [] => None,
+        [b'-', rest @ ..] => {
+            let n = ranged(rest, 1, 1 << 31)?;
+            Some((-(n as i64)) as i32)
+        }
+        _ => {
+            let n = numeral(word, (1 << 31) - 1)?;
+            Some(n as i32)
+        }
+    }
+}

@@ -1,0 +1,121 @@
+ghost use Rattle.std.specs.Prelude.{◌≡◌, ◌+◌, ◌<◌, ◌≤◌, length, take, drop, [], ◌∷◌, Some, None, IfSome, IfNone, option_map};
+ghost use Rattle.script_text.specs.Split.{words, after, ends_word, outside, within, after_backslash};
+ghost use Rattle.script_text.specs.Front.{word_end, IsTrimmed, where_of};
+ghost use Rattle.script_text.specs.Grammar.{one, two};
+
+/// Where a byte stands: outside of quotes, within them, or after a backslash within them.
+#[derive(Clone, Copy, Debug)]
+enum Place {
+    Outside,
+    Within,
+    AfterBackslash,
+}
+
+/// Where the next byte stands.
+fn after_byte(place: Place, byte: u8) -> Place
+    ensures { where_of result ≡ after (where_of place) byte }
+{
+    match place {
+        Place::Outside => {
+            if byte == b'"' {
+                Place::Within
+            } else {
+                Place::Outside
+            }
+        }
+        Place::Within => {
+            if byte == b'"' {
+                Place::Outside
+            } else if byte == b'\\' {
+                Place::AfterBackslash
+            } else {
+                Place::Within
+            }
+        }
+        Place::AfterBackslash => Place::Within,
+    }
+}
+
+/// Whether the byte ends its word.
+fn is_end(place: Place, byte: u8) -> bool
+    ensures { result ≡ ends_word (where_of place) byte }
+{
+    match place {
+        Place::Outside => byte == b' ',
+        Place::Within => false,
+        Place::AfterBackslash => false,
+    }
+}
+
+/// The number of bytes of the word at the front.
+fn end_of_word(bytes: &[u8]) -> usize
+    ensures at { result ≡ word_end outside bytes.now }
+    ensures within { result ≤ length bytes.now }
+{
+    let mut place = Place::Outside;
+    for (i, byte) in bytes.iter().enumerate() {
+        if is_end(place, *byte) {
+            return i;
+        }
+        place = after_byte(place, *byte);
+    }
+    bytes.len()
+}
+
+/// What follows the spaces at the front.
+fn trimmed(bytes: &[u8]) -> &[u8]
+    ensures same { words result.now ≡ words bytes.now }
+    ensures is { IsTrimmed result.now }
+{
+    for (i, byte) in bytes.iter().enumerate() {
+        if *byte != b' ' {
+            return &bytes[i..];
+        }
+    }
+    &bytes[bytes.len()..]
+}
+
+/// The word at the front, and what follows it.
+#[tactic(auto, using(crate::specs::Front::words_front))]
+fn first(bytes: &[u8]) -> (&[u8], &[u8])
+    requires trimmed { IsTrimmed bytes.now }
+    requires some { 0 < length bytes.now }
+    ensures { words bytes.now ≡ result.0.now ∷ words result.1.now }
+{
+    bytes.split_at(end_of_word(bytes))
+}
+
+/// The first word, and what follows it.
+pub fn next(bytes: &[u8]) -> Option<(&[u8], &[u8])>
+    ensures some { IfSome result (λ p. words bytes.now ≡ p.0.now ∷ words p.1.now) }
+    ensures none { IfNone result (words bytes.now ≡ []) }
+{
+    let bytes = trimmed(bytes);
+    if bytes.is_empty() {
+        return None;
+    }
+    Some(first(bytes))
+}
+
+/// The one word, where there is no other.
+pub fn only(bytes: &[u8]) -> Option<&[u8]>
+    ensures { option_map (λ w. w.now) result ≡ one (words bytes.now) }
+{
+    let (first, rest) = next(bytes)?;
+    match next(rest) {
+        None => Some(first),
+        Some(_) => None,
+    }
+}
+
+/// The two words, where there is no other.
+pub fn only_two(bytes: &[u8]) -> Option<(&[u8], &[u8])>
+    ensures { option_map (λ w. (w.0.now, w.1.now)) result ≡ two (words bytes.now) }
+{
+    let (first, rest) = next(bytes)?;
+    let (second, rest) = next(rest)?;
+    match next(rest) {
+        None => Some((first, second)),
+        Some(_) => None,
+    }
+}

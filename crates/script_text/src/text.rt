@@ -1,0 +1,101 @@
+ghost use Rattle.std.specs.Prelude.{◌≡◌, ◌≢◌, [], Err, IfOk, Some, None, string_bytes, option_and_then, true};
+ghost use Rattle.serde_json.specs.Read.{read};
+ghost use Rattle.serde_json.specs.Find.{as_str};
+ghost use Rattle.script_words.specs.Bare.{is_bare};
+ghost use Rattle.script_text.specs.Texts as texts;
+
+use crate::ParseError;
+use field_codec::Text;
+use script_words::is_bare;
+use serde_json::Value;
+use std::alloc::Global;
+
+/// The text that a string of JSON stands for.
+fn string_in(alloc: Global, word: &str) -> Result<String, ParseError>
+    ensures ok { IfOk result (λ s. option_and_then as_str (read word.now) ≡ Some (string_bytes s)) }
+    ensures bad { result ≡ Err ParseError.Bad → option_and_then as_str (read word.now) ≡ None }
+{
+    match Value::from_str(alloc, word) {
+        Ok(Value::String(text)) => Ok(text),
+        Ok(_) => Err(ParseError::Bad),
+        Err(error) => {
+            if error.is_memory() {
+                Err(ParseError::NoMemory)
+            } else {
+                Err(ParseError::Bad)
+            }
+        }
+    }
+}
+
+/// The text that a string of JSON stands for.
+#[tactic(auto, using(crate::proofs::Utf8::string_is, crate::proofs::Utf8::string_none, crate::proofs::Utf8::string_not))]
+fn string(alloc: Global, word: &[u8]) -> Result<String, ParseError>
+    ensures ok { IfOk result (λ s. texts.string_of word.now ≡ Some (string_bytes s)) }
+    ensures bad { result ≡ Err ParseError.Bad → texts.string_of word.now ≡ None }
+{
+    match std::str::from_utf8(word) {
+        Ok(word) => match string_in(alloc, word) {
+            Ok(text) => Ok(text),
+            Err(error) => Err(error),
+        },
+        Err(_) => Err(ParseError::Bad),
+    }
+}
+
+/// The text, where it has at most 256 bytes.
+fn fitting(alloc: Global, text: &str) -> Result<Text, ParseError>
+    ensures ok { IfOk result (λ t. texts.at_most_256 text.now ≡ Some t) }
+    ensures bad { result ≡ Err ParseError.Bad → texts.at_most_256 text.now ≡ None }
+{
+    match Text::of(alloc, text)? {
+        Some(text) => Ok(text),
+        None => Err(ParseError::Bad),
+    }
+}
+
+/// Whether the word begins and ends with a quote.
+fn is_quoted(word: &[u8]) -> bool
+    ensures { result ≡ texts.is_quoted word.now }
+{
+    word.len() >= 2 && word[0] == b'"' && word[word.len() - 1] == b'"'
+}
+
+/// The text of a bare word.
+#[tactic(auto, using(crate::proofs::Utf8::bare_utf8))]
+fn bare(alloc: Global, word: &[u8]) -> Result<Text, ParseError>
+    requires { is_bare word.now ≡ true }
+    ensures ok { IfOk result (λ t. texts.at_most_256 word.now ≡ Some t) }
+    ensures bad { result ≡ Err ParseError.Bad → texts.at_most_256 word.now ≡ None }
+{
+    match std::str::from_utf8(word) {
+        Ok(text) => fitting(alloc, text),
+        Err(_) => Err(ParseError::Bad),
+    }
+}
+
+/// The text that a word stands for, bare or in quotes.
+pub fn text(alloc: Global, word: &[u8]) -> Result<Text, ParseError>
+    ensures ok { IfOk result (λ t. texts.text word.now ≡ Some t) }
+    ensures bad { result ≡ Err ParseError.Bad → texts.text word.now ≡ None }
+{
+    if is_bare(word) {
+        return bare(alloc, word);
+    }
+    if !is_quoted(word) {
+        return Err(ParseError::Bad);
+    }
+    let text = string(alloc, word)?;
+    fitting(alloc, &text)
+}
+
+/// The empty text.
+pub fn empty(alloc: Global) -> Result<Text, ParseError>
+    ensures ok { IfOk result (λ t. t ≡ []) }
+    ensures bad { result ≢ Err ParseError.Bad }
+{
+    match Text::of(alloc, "")? {
+        Some(text) => Ok(text),
+        None => unreachable!(),
+    }
+}
