@@ -5,8 +5,8 @@ mod amounts;
 mod counter_fat;
 mod counter_pn;
 
-pub use counter_fat::{CounterFat, FatEffect};
 pub use amounts::amount_of;
+pub use counter_fat::{CounterFat, FatEffect};
 pub use counter_pn::CounterPn;
 
 #[cfg(test)]

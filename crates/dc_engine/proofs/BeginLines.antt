@@ -74,42 +74,47 @@ begin_line m run number asked name made idle d =
     let new : Open = record { time = n; changes = [] } in
     let below : (dep : List ℕ) → le dep (m.now ∷ []) ≡ true → le dep (n ∷ []) ≡ true = λ dep h. le_trans dep (m.now ∷ []) (n ∷ []) h (le_one m.now n (omega arith)) in
     let later = later_in run e d.are_begun l d.are_later in record {
-      is_made = d.is_made; sites = d.sites; parts = d.parts; time = refl; number_is = d.number_is;
+      is_made = d.is_made;
+      sites = d.sites;
+      parts = d.parts;
+      time = refl;
+      number_is = d.number_is;
       there = λ who. with_cases m name who (Some new) (λ b s. session_site run who ≡ site_if s) (λ k. subst (λ w. session_site run w ≡ Some 1) (same_name name who k) (d.there name ∙ ap site_if idle)) (λ k. d.there who);
       open_is = λ who. with_cases m name who (Some new) (λ b s. (b || is_open run who) ≡ is_open_in s) (λ k. refl) (λ k. d.open_is who);
       current = λ who t h. with_cases m name who (Some new) (λ b s. bytes_eq name who ≡ b → s ≡ Some (Some t) → IsCurrent (e ∷ run) who t)
-        (λ k c q. let same : new ≡ t = cc in subst (IsCurrent (e ∷ run) who) same (record {
-          named = ap (λ b. if b then Some x else transaction run who) c;
-          begun = or_left (same_tx x x) (is_begun run x) (same_tx_refl x);
-          amounts = subst (λ cs. AreAmounts cs []) (sym (d.unbegun x fresh).0) tt;
-          undecided = undecided_in m run x d fresh;
-          unvoted = (d.unbegun x fresh).1;
-        }))
-        (λ k c q. current_in run (e ∷ run) who t (ap (λ b. if b then Some x else transaction run who) c) (λ u b. or_right (same_tx x u) (is_begun run u) b) refl refl refl (d.current who t q)) refl h;
+          (λ k c q. let same : new ≡ t = cc in subst (IsCurrent (e ∷ run) who) same (record {
+            named = ap (λ b. if b then Some x else transaction run who) c;
+            begun = or_left (same_tx x x) (is_begun run x) (same_tx_refl x);
+            amounts = subst (λ cs. AreAmounts cs []) (sym (d.unbegun x fresh).0) tt;
+            undecided = undecided_in m run x d fresh;
+            unvoted = (d.unbegun x fresh).1;
+          }))
+          (λ k c q. current_in run (e ∷ run) who t (ap (λ b. if b then Some x else transaction run who) c) (λ u b. or_right (same_tx x u) (is_begun run u) b) refl refl refl (d.current who t q)) refl h;
       apart = λ who other t u ne p q. with_cases m name who (Some new) (λ b s. bytes_eq name who ≡ b → s ≡ Some (Some t) → t.time ≢ u.time)
-        (λ k c p2. with_cases m name other (Some new) (λ b s. bytes_eq name other ≡ b → s ≡ Some (Some u) → t.time ≢ u.time)
+          (λ k c p2. with_cases m name other (Some new) (λ b s. bytes_eq name other ≡ b → s ≡ Some (Some u) → t.time ≢ u.time)
           (λ j c2 q2. absurd (true≢false (sym ((bytes_eq-Decides who other).1 (sym (same_name name who k) ∙ same_name name other j)) ∙ ne)))
           (λ j c2 q2. let same : n ≡ t.time = ap (λ (o : Open). o.time) (let z : new ≡ t = cc in z) in
-            let cur = d.current other u q2 in let passed : u.time ≤ m.now = (d.ids (transaction_at u.time) cur.begun).passed in λ z. omega arith) refl q)
-        (λ k c p2. with_cases m name other (Some new) (λ b s. bytes_eq name other ≡ b → s ≡ Some (Some u) → t.time ≢ u.time)
+          let cur = d.current other u q2 in let passed : u.time ≤ m.now = (d.ids (transaction_at u.time) cur.begun).passed in λ z. omega arith) refl q)
+          (λ k c p2. with_cases m name other (Some new) (λ b s. bytes_eq name other ≡ b → s ≡ Some (Some u) → t.time ≢ u.time)
           (λ j c2 q2. let same : n ≡ u.time = ap (λ (o : Open). o.time) (let z : new ≡ u = cc in z) in
-            let cur = d.current who t p2 in let passed : t.time ≤ m.now = (d.ids (transaction_at t.time) cur.begun).passed in λ z. omega arith)
+          let cur = d.current who t p2 in let passed : t.time ≤ m.now = (d.ids (transaction_at t.time) cur.begun).passed in λ z. omega arith)
           (λ j c2 q2. d.apart who other t u ne p2 q2) refl q) refl p;
       depends = λ who. elim (bytes_eq name who) as (λ b. le (if b then join (dependency run who) (n ∷ []) else dependency run who) (n ∷ []) ≡ true) [
         | true ↦ join_le (dependency run who) (n ∷ []) (n ∷ []) (below (dependency run who) (d.depends who)) (le_one n n (omega arith))
         | false ↦ below (dependency run who) (d.depends who)
       ];
       ids = λ t b. ⊎_elim
-        (λ (s : same_tx x t ≡ true). subst (IsId (e ∷ run) n) (same_tx_is x t s) (record { at = refl; passed = omega arith; reads = ap (λ c. if c then n ∷ [] else snapshot run x) (same_tx_refl x) }))
-        (λ (o : is_begun run t ≡ true). id_in run (e ∷ run) m.now n t (omega arith) (snapshots t o) (d.ids t o))
-        (or_cases (same_tx x t) (is_begun run t) b);
+          (λ (s : same_tx x t ≡ true). subst (IsId (e ∷ run) n) (same_tx_is x t s) (record { at = refl; passed = omega arith; reads = ap (λ c. if c then n ∷ [] else snapshot run x) (same_tx_refl x) }))
+          (λ (o : is_begun run t ≡ true). id_in run (e ∷ run) m.now n t (omega arith) (snapshots t o) (d.ids t o))
+          (or_cases (same_tx x t) (is_begun run t) b);
       are_begun = λ t h. or_right (same_tx x t) (is_begun run t) (d.are_begun t h);
       are_later = record { above = λ t h. (later t h).0; strictly = λ t h. (later t h).1 };
-      plain = d.plain; sums = same_sums m run e d l;
+      plain = d.plain;
+      sums = same_sums m run e d l;
       unbegun = λ t h. d.unbegun t (false_if (is_begun run t) (λ b. true≢false (sym (or_right (same_tx x t) (is_begun run t) b) ∙ h)));
       laws = laws_more run e d.are_begun l d.laws (quiet_line run asked e.step (ap (λ k. k + 1) (sym d.time))
-        (record { width = sym (d.sites made); own = entry_one (dependency run name) m.now (d.depends name) })
-        (below (dependency run name) (d.depends name)) tt tt tt);
+          (record { width = sym (d.sites made); own = entry_one (dependency run name) m.now (d.depends name) })
+          (below (dependency run name) (d.depends name)) tt tt tt);
     }
 
 amounts_append : (cs : List Change) (ss : List Amount) (c : Change) (a : Amount) → AreAmounts cs ss → c.object ≡ a.0 → amount c.op.act ≡ a.1 → AreAmounts (cs ++ c ∷ []) (ss ++ a ∷ [])
@@ -137,26 +142,31 @@ update_line m run number name o op t fits now_open d =
     let not_here : (u : TxId) → in_history run u ≡ true → same_tx x u ≡ false = λ u h. false_if (same_tx x u) (λ s. true≢false (sym h ∙ subst (λ w. in_history run w ≡ false) (same_tx_is x u s) cur.undecided)) in
     let l : Leaves run e = leaves_plain run e (λ u b. refl) (λ u h. refl) (λ u h. kept u (not_here u h)) (λ u. refl) in
     let later = later_in run e d.are_begun l d.are_later in record {
-      is_made = d.is_made; sites = d.sites; parts = d.parts; time = d.time; number_is = d.number_is;
+      is_made = d.is_made;
+      sites = d.sites;
+      parts = d.parts;
+      time = d.time;
+      number_is = d.number_is;
       there = λ who. with_cases m name who (Some new) (λ b s. session_site run who ≡ site_if s) (λ k. subst (λ w. session_site run w ≡ Some 1) (same_name name who k) (d.there name ∙ ap site_if now_open)) (λ k. d.there who);
       open_is = λ who. with_cases m name who (Some new) (λ b s. is_open run who ≡ is_open_in s) (λ k. subst (λ w. is_open run w ≡ true) (same_name name who k) (d.open_is name ∙ ap is_open_in now_open)) (λ k. d.open_is who);
       current = λ who u h. with_cases m name who (Some new) (λ b s. bytes_eq name who ≡ b → s ≡ Some (Some u) → IsCurrent (e ∷ run) who u)
-        (λ k b q. let same : new ≡ u = cc in subst (IsCurrent (e ∷ run) who) same (record {
-          named = subst (λ w. transaction run w ≡ Some x) (same_name name who k) cur.named;
-          begun = cur.begun;
-          amounts = subst (λ cs. AreAmounts cs new.changes) (sym here) (amounts_append (changes run x) t.changes c (o, amount op.act) cur.amounts refl refl);
-          undecided = cur.undecided;
-          unvoted = cur.unvoted;
-        }))
-        (λ k b q. current_in run (e ∷ run) who u refl (λ w g. g) (kept (transaction_at u.time) (false_if (same_tx x (transaction_at u.time)) (λ s. d.apart name who t u k now_open q (ap (λ (w : TxId). w.time) (same_tx_is x (transaction_at u.time) s))))) refl refl (d.current who u q)) refl h;
+          (λ k b q. let same : new ≡ u = cc in subst (IsCurrent (e ∷ run) who) same (record {
+            named = subst (λ w. transaction run w ≡ Some x) (same_name name who k) cur.named;
+            begun = cur.begun;
+            amounts = subst (λ cs. AreAmounts cs new.changes) (sym here) (amounts_append (changes run x) t.changes c (o, amount op.act) cur.amounts refl refl);
+            undecided = cur.undecided;
+            unvoted = cur.unvoted;
+          }))
+          (λ k b q. current_in run (e ∷ run) who u refl (λ w g. g) (kept (transaction_at u.time) (false_if (same_tx x (transaction_at u.time)) (λ s. d.apart name who t u k now_open q (ap (λ (w : TxId). w.time) (same_tx_is x (transaction_at u.time) s))))) refl refl (d.current who u q)) refl h;
       apart = λ who other v w ne p q. with_cases m name who (Some new) (λ b s. bytes_eq name who ≡ b → s ≡ Some (Some v) → v.time ≢ w.time)
-        (λ k b p2. with_cases m name other (Some new) (λ b s. bytes_eq name other ≡ b → s ≡ Some (Some w) → v.time ≢ w.time)
+          (λ k b p2. with_cases m name other (Some new) (λ b s. bytes_eq name other ≡ b → s ≡ Some (Some w) → v.time ≢ w.time)
           (λ j b2 q2. absurd (true≢false (sym ((bytes_eq-Decides who other).1 (sym (same_name name who k) ∙ same_name name other j)) ∙ ne)))
           (λ j b2 q2. subst (λ n. n ≢ w.time) (ap (λ (o : Open). o.time) (let z : new ≡ v = cc in z)) (d.apart name other t w j now_open q2)) refl q)
-        (λ k b p2. with_cases m name other (Some new) (λ b s. bytes_eq name other ≡ b → s ≡ Some (Some w) → v.time ≢ w.time)
+          (λ k b p2. with_cases m name other (Some new) (λ b s. bytes_eq name other ≡ b → s ≡ Some (Some w) → v.time ≢ w.time)
           (λ j b2 q2. let z : new ≡ w = cc in let f : t.time ≡ w.time = ap (λ (o : Open). o.time) z in λ g. d.apart name who t v k now_open p2 (f ∙ sym g))
           (λ j b2 q2. d.apart who other v w ne p2 q2) refl q) refl p;
-      depends = d.depends; ids = λ u b. id_in run (e ∷ run) m.now m.now u (omega arith) refl (d.ids u b);
+      depends = d.depends;
+      ids = λ u b. id_in run (e ∷ run) m.now m.now u (omega arith) refl (d.ids u b);
       are_begun = d.are_begun;
       are_later = record { above = λ u h. (later u h).0; strictly = λ u h. (later u h).1 };
       plain = λ u. subst ArePlain (sym (gives u)) (elim (same_tx x u) as (λ b. ArePlain (grown b u)) [ true ↦ plain_append (changes run u) _ (d.plain u) fits | false ↦ d.plain u ]);

@@ -120,11 +120,13 @@ module _ (m : State) (run : Run) (number : ℕ) (asked : Option Command) (name :
 
   leaves2 : Leaves run1 decided
   leaves2 = record {
-    snapshots = λ u b. refl; times = λ u h. refl; changed = λ u h. refl;
+    snapshots = λ u b. refl;
+    times = λ u h. refl;
+    changed = λ u h. refl;
     beyond = λ u w b h k.
-      let id = d.ids u b in
-      let p : u.time ≤ m.now = id.passed in
-      ap (λ y. le (commit_vector run2 y) (snapshot run1 u)) (sym (same_tx_is x w k)) ∙ (ap (λ v. le v (snapshot run1 u)) vector1 ∙ (ap (λ v. le (n ∷ []) v) id.reads ∙ not_le_one n u.time (omega arith)));
+        let id = d.ids u b in
+        let p : u.time ≤ m.now = id.passed in
+        ap (λ y. le (commit_vector run2 y) (snapshot run1 u)) (sym (same_tx_is x w k)) ∙ (ap (λ v. le v (snapshot run1 u)) vector1 ∙ (ap (λ v. le (n ∷ []) v) id.reads ∙ not_le_one n u.time (omega arith)));
   }
 
   begun1 : AreBegun run1
@@ -172,7 +174,7 @@ module _ (m : State) (run : Run) (number : ℕ) (asked : Option Command) (name :
       let each2 = each_weaker (in_history run) (in_history run2) (λ u h. or_right (same_tx x u) (in_history run u) h) old each in
       let rest : added_by run3 o v old ≡ m.sum o k = added_by_same run2 over begun2 leaves3 o v old each2 ∙ (added_by_same run1 decided begun1 leaves2 o v old each ∙ (added_by_same run prepared d.are_begun leaves1 o v old each ∙ sym (d.sums o k))) in
       let here : (if le (commit_vector run3 x) v then added o (changes run3 x) else pos 0) ≡ (if nat_le n k then own_sum o t.changes else pos 0) =
-        ap (λ w. if le w v then added o (changes run x) else pos 0) vector1 ∙ (ap (λ b. if b then added o (changes run x) else pos 0) (le_pair n k) ∙ ap (λ z. if nat_le n k then z else pos 0) (added_own o (changes run x) t.changes cur.amounts)) in
+      ap (λ w. if le w v then added o (changes run x) else pos 0) vector1 ∙ (ap (λ b. if b then added o (changes run x) else pos 0) (le_pair n k) ∙ ap (λ z. if nat_le n k then z else pos 0) (added_own o (changes run x) t.changes cur.amounts)) in
       let swap : m.sum o k +ℤ (if nat_le n k then own_sum o t.changes else pos 0) ≡ (if nat_le n k then own_sum o t.changes else pos 0) +ℤ m.sum o k = omega (arith, ints) in
       swap ∙ (ap (λ z. z +ℤ m.sum o k) (sym here) ∙ (ap (λ z. (if le (commit_vector run3 x) v then added o (changes run3 x) else pos 0) +ℤ z) (sym rest) ∙ ap (λ ts. added_by run3 o v ts) (sym listed)))
 
@@ -188,17 +190,22 @@ module _ (m : State) (run : Run) (number : ℕ) (asked : Option Command) (name :
 
   pub commit_lines : Describes (committed m name t) run3
   commit_lines = record {
-    is_made = d.is_made; sites = d.sites; parts = d.parts; time = refl; number_is = d.number_is;
+    is_made = d.is_made;
+    sites = d.sites;
+    parts = d.parts;
+    time = refl;
+    number_is = d.number_is;
     there = λ who. with_cases m name who None (λ b s. session_site run who ≡ site_if s) (λ k. subst (λ w. session_site run w ≡ Some 1) (same_name name who k) (d.there name ∙ ap site_if is_now_open)) (λ k. d.there who);
     open_is = λ who. with_cases m name who None (λ b s. (if b then false else is_open run who) ≡ is_open_in s) (λ k. refl) (λ k. d.open_is who);
     current = λ who u h. with_cases m name who None (λ b s. bytes_eq name who ≡ b → s ≡ Some (Some u) → IsCurrent run3 who u) (λ k b q. cc)
-      (λ k b q. current_in run run3 who u refl (λ w g. g) refl (ap (λ c. c || in_history run (transaction_at u.time)) (other_of who u k q)) (ap (λ c. if c then max n (commit_time run (transaction_at u.time)) else commit_time run (transaction_at u.time)) (other_of who u k q)) (d.current who u q)) refl h;
+        (λ k b q. current_in run run3 who u refl (λ w g. g) refl (ap (λ c. c || in_history run (transaction_at u.time)) (other_of who u k q)) (ap (λ c. if c then max n (commit_time run (transaction_at u.time)) else commit_time run (transaction_at u.time)) (other_of who u k q)) (d.current who u q)) refl h;
     apart = λ who other v w ne p q. d.apart who other v w ne (with_cases m name who None (λ b s. s ≡ Some (Some v) → m.session who ≡ Some (Some v)) (λ k z. cc) (λ k z. z) p) (with_cases m name other None (λ b s. s ≡ Some (Some w) → m.session other ≡ Some (Some w)) (λ k z. cc) (λ k z. z) q);
     depends = λ who. join_below _ (dependency run who) (below (dependency run who) (d.depends who));
     ids = λ u b. id_in run run3 m.now n u (omega arith) refl (d.ids u b);
     are_begun = begun2;
     are_later = record { above = λ u h. (later3 u h).0; strictly = λ u h. (later3 u h).1 };
-    plain = d.plain; sums = sums3;
+    plain = d.plain;
+    sums = sums3;
     unbegun = λ u h. ((d.unbegun u h).0, ap (λ b. if b then max n (commit_time run u) else commit_time run u) (false_if (same_tx x u) (λ s. true≢false (sym (subst (λ w. is_begun run w ≡ true) (same_tx_is x u s) cur.begun) ∙ h))) ∙ (d.unbegun u h).1);
     laws = laws_more run2 over begun2 leaves3 (laws_more run1 decided begun1 leaves2 (laws_more run prepared d.are_begun leaves1 d.laws new1) new2) new3;
   }

@@ -122,9 +122,11 @@ committed_sum n time index t (c ∷ cs) o =
 
 commit_as : (m new : Machine) (name : List ℕ) (t : ℕ × List Change) (cs : List Change) (steps : List Step) → cs ≡ t.1 → machine.DoesCommit m name t cs steps new → DoesCommit (state_of m) name (open_as t) (map amount_in cs) steps (state_of new)
 commit_as m new name t [] steps e h = (h.0, state_is m new (ended (state_of m) name) _ _ _ _ _ h.1 refl refl (λ who. if_as (bytes_eq name who) (Some None) (session_in m who)) refl (λ o n. refl))
-commit_as m new name t (c ∷ cs) steps e h =
-    (h.0, state_is m new (committed (state_of m) name (open_as t)) _ _ _ _ _ h.1 refl refl (λ who. if_as (bytes_eq name who) (Some None) (session_in m who)) refl
-    (λ o n. sum_upto-append n (kept.stored m.store.entries o) _ ∙ ap (λ z. kept.sum_upto n (kept.stored m.store.entries o) +ℤ z) (committed_sum n (m.now + 1) 1 (transaction_at t.0) t.1 o ∙ ap (λ z. if nat_le (m.now + 1) n then z else pos 0) (own_as o t.1))))
+commit_as m new name t (c ∷ cs) steps e h = (
+  h.0,
+  state_is m new (committed (state_of m) name (open_as t)) _ _ _ _ _ h.1 refl refl (λ who. if_as (bytes_eq name who) (Some None) (session_in m who)) refl
+      (λ o n. sum_upto-append n (kept.stored m.store.entries o) _ ∙ ap (λ z. kept.sum_upto n (kept.stored m.store.entries o) +ℤ z) (committed_sum n (m.now + 1) 1 (transaction_at t.0) t.1 o ∙ ap (λ z. if nat_le (m.now + 1) n then z else pos 0) (own_as o t.1))),
+)
 
 does_as : (m new : Machine) (c : Command) (steps : List Step) → machine.Does m c steps new → Does (state_of m) c steps (state_of new)
 does_as m new (command.Cluster sites parts) steps h = (h.0, state_is m new (made_cluster (state_of m)) _ _ _ _ _ h.1 refl refl (λ who. refl) refl (λ o n. refl))
@@ -138,9 +140,13 @@ does_as m new (command.Update name o op) steps h =
     let t = h.0 in
     let more : ℕ × List Change = (t.0, t.1 ++ (record { object = o; effect = amount op.act }) ∷ []) in
     let mapped : map amount_in more.1 ≡ map amount_in t.1 ++ (o, amount op.act) ∷ [] = map-append amount_in t.1 _ in
-    let opened : session_as (Some (Some more)) ≡ Some (Some (record { time = t.0; changes = map amount_in t.1 ++ (o, amount op.act) ∷ [] })) = ap (λ cs. Some (Some (record { time = t.0; changes = cs }))) mapped in
-    (open_as t, ap session_as h.1, h.2.0, state_is m new (updated (state_of m) name (open_as t) (o, amount op.act)) _ _ _ _ _ h.2.1 refl refl
-    (λ who. if_as (bytes_eq name who) (Some (Some more)) (session_in m who) ∙ ap (λ x. if bytes_eq name who then x else session_as (session_in m who)) opened) refl (λ p n. refl))
+    let opened : session_as (Some (Some more)) ≡ Some (Some (record { time = t.0; changes = map amount_in t.1 ++ (o, amount op.act) ∷ [] })) = ap (λ cs. Some (Some (record { time = t.0; changes = cs }))) mapped in (
+      open_as t,
+      ap session_as h.1,
+      h.2.0,
+      state_is m new (updated (state_of m) name (open_as t) (o, amount op.act)) _ _ _ _ _ h.2.1 refl refl
+          (λ who. if_as (bytes_eq name who) (Some (Some more)) (session_in m who) ∙ ap (λ x. if bytes_eq name who then x else session_as (session_in m who)) opened) refl (λ p n. refl),
+    )
 does_as m new (command.Commit name k) steps h = (open_as h.0, ap session_as h.1, commit_as m new name h.0 h.0.1 steps refl h.2)
 does_as m new c steps h = absurd h
 

@@ -18,3 +18,4 @@ pub mod StepLines
 pub mod Sums
 pub mod Takes
 pub mod Written
+pub mod WrittenLines

@@ -99,38 +99,98 @@ id_in run more time later t h s k = record { at = k.at; passed = omega (arith, h
 
 pub quiet : (m : State) (run : Run) (number : ℕ) (asked : Option Command) (s : Step) → is_quiet s ≡ true → Describes m run → IsNewLine run asked s → Describes m (line number asked s ∷ run)
 quiet m run number asked (step.Value name o v) q d n = let e = line number asked (step.Value name o v) in let l = leaves_quiet run number asked (step.Value name o v) q in record {
-  is_made = d.is_made; sites = d.sites; parts = d.parts; time = d.time; number_is = d.number_is; there = d.there; open_is = d.open_is;
+  is_made = d.is_made;
+  sites = d.sites;
+  parts = d.parts;
+  time = d.time;
+  number_is = d.number_is;
+  there = d.there;
+  open_is = d.open_is;
   current = λ who t h. current_in run (e ∷ run) who t refl (λ u b. b) refl refl refl (d.current who t h);
-  apart = d.apart; depends = d.depends; ids = λ t b. id_in run (e ∷ run) m.now m.now t (omega arith) refl (d.ids t b);
-  are_begun = d.are_begun; are_later = record { above = d.are_later.above; strictly = d.are_later.strictly };
-  plain = d.plain; sums = same_sums m run e d l; unbegun = d.unbegun; laws = laws_more run e d.are_begun l d.laws n;
+  apart = d.apart;
+  depends = d.depends;
+  ids = λ t b. id_in run (e ∷ run) m.now m.now t (omega arith) refl (d.ids t b);
+  are_begun = d.are_begun;
+  are_later = record { above = d.are_later.above; strictly = d.are_later.strictly };
+  plain = d.plain;
+  sums = same_sums m run e d l;
+  unbegun = d.unbegun;
+  laws = laws_more run e d.are_begun l d.laws n;
 }
 quiet m run number asked step.NoCluster q d n = let e = line number asked step.NoCluster in let l = leaves_quiet run number asked step.NoCluster q in record {
-  is_made = d.is_made; sites = d.sites; parts = d.parts; time = d.time; number_is = d.number_is; there = d.there; open_is = d.open_is;
+  is_made = d.is_made;
+  sites = d.sites;
+  parts = d.parts;
+  time = d.time;
+  number_is = d.number_is;
+  there = d.there;
+  open_is = d.open_is;
   current = λ who t h. current_in run (e ∷ run) who t refl (λ u b. b) refl refl refl (d.current who t h);
-  apart = d.apart; depends = d.depends; ids = λ t b. id_in run (e ∷ run) m.now m.now t (omega arith) refl (d.ids t b);
-  are_begun = d.are_begun; are_later = record { above = d.are_later.above; strictly = d.are_later.strictly };
-  plain = d.plain; sums = same_sums m run e d l; unbegun = d.unbegun; laws = laws_more run e d.are_begun l d.laws n;
+  apart = d.apart;
+  depends = d.depends;
+  ids = λ t b. id_in run (e ∷ run) m.now m.now t (omega arith) refl (d.ids t b);
+  are_begun = d.are_begun;
+  are_later = record { above = d.are_later.above; strictly = d.are_later.strictly };
+  plain = d.plain;
+  sums = same_sums m run e d l;
+  unbegun = d.unbegun;
+  laws = laws_more run e d.are_begun l d.laws n;
 }
 quiet m run number asked step.NoSession q d n = let e = line number asked step.NoSession in let l = leaves_quiet run number asked step.NoSession q in record {
-  is_made = d.is_made; sites = d.sites; parts = d.parts; time = d.time; number_is = d.number_is; there = d.there; open_is = d.open_is;
+  is_made = d.is_made;
+  sites = d.sites;
+  parts = d.parts;
+  time = d.time;
+  number_is = d.number_is;
+  there = d.there;
+  open_is = d.open_is;
   current = λ who t h. current_in run (e ∷ run) who t refl (λ u b. b) refl refl refl (d.current who t h);
-  apart = d.apart; depends = d.depends; ids = λ t b. id_in run (e ∷ run) m.now m.now t (omega arith) refl (d.ids t b);
-  are_begun = d.are_begun; are_later = record { above = d.are_later.above; strictly = d.are_later.strictly };
-  plain = d.plain; sums = same_sums m run e d l; unbegun = d.unbegun; laws = laws_more run e d.are_begun l d.laws n;
+  apart = d.apart;
+  depends = d.depends;
+  ids = λ t b. id_in run (e ∷ run) m.now m.now t (omega arith) refl (d.ids t b);
+  are_begun = d.are_begun;
+  are_later = record { above = d.are_later.above; strictly = d.are_later.strictly };
+  plain = d.plain;
+  sums = same_sums m run e d l;
+  unbegun = d.unbegun;
+  laws = laws_more run e d.are_begun l d.laws n;
 }
 quiet m run number asked step.NoTxn q d n = let e = line number asked step.NoTxn in let l = leaves_quiet run number asked step.NoTxn q in record {
-  is_made = d.is_made; sites = d.sites; parts = d.parts; time = d.time; number_is = d.number_is; there = d.there; open_is = d.open_is;
+  is_made = d.is_made;
+  sites = d.sites;
+  parts = d.parts;
+  time = d.time;
+  number_is = d.number_is;
+  there = d.there;
+  open_is = d.open_is;
   current = λ who t h. current_in run (e ∷ run) who t refl (λ u b. b) refl refl refl (d.current who t h);
-  apart = d.apart; depends = d.depends; ids = λ t b. id_in run (e ∷ run) m.now m.now t (omega arith) refl (d.ids t b);
-  are_begun = d.are_begun; are_later = record { above = d.are_later.above; strictly = d.are_later.strictly };
-  plain = d.plain; sums = same_sums m run e d l; unbegun = d.unbegun; laws = laws_more run e d.are_begun l d.laws n;
+  apart = d.apart;
+  depends = d.depends;
+  ids = λ t b. id_in run (e ∷ run) m.now m.now t (omega arith) refl (d.ids t b);
+  are_begun = d.are_begun;
+  are_later = record { above = d.are_later.above; strictly = d.are_later.strictly };
+  plain = d.plain;
+  sums = same_sums m run e d l;
+  unbegun = d.unbegun;
+  laws = laws_more run e d.are_begun l d.laws n;
 }
 quiet m run number asked step.Unbuilt q d n = let e = line number asked step.Unbuilt in let l = leaves_quiet run number asked step.Unbuilt q in record {
-  is_made = d.is_made; sites = d.sites; parts = d.parts; time = d.time; number_is = d.number_is; there = d.there; open_is = d.open_is;
+  is_made = d.is_made;
+  sites = d.sites;
+  parts = d.parts;
+  time = d.time;
+  number_is = d.number_is;
+  there = d.there;
+  open_is = d.open_is;
   current = λ who t h. current_in run (e ∷ run) who t refl (λ u b. b) refl refl refl (d.current who t h);
-  apart = d.apart; depends = d.depends; ids = λ t b. id_in run (e ∷ run) m.now m.now t (omega arith) refl (d.ids t b);
-  are_begun = d.are_begun; are_later = record { above = d.are_later.above; strictly = d.are_later.strictly };
-  plain = d.plain; sums = same_sums m run e d l; unbegun = d.unbegun; laws = laws_more run e d.are_begun l d.laws n;
+  apart = d.apart;
+  depends = d.depends;
+  ids = λ t b. id_in run (e ∷ run) m.now m.now t (omega arith) refl (d.ids t b);
+  are_begun = d.are_begun;
+  are_later = record { above = d.are_later.above; strictly = d.are_later.strictly };
+  plain = d.plain;
+  sums = same_sums m run e d l;
+  unbegun = d.unbegun;
+  laws = laws_more run e d.are_begun l d.laws n;
 }
 quiet m run number asked s q d n = off q

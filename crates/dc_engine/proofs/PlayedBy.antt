@@ -1,6 +1,10 @@
 -- What was played, told by another relation between lines and bytes.
 use Rattle.std.proofs.Common.{ℕ, List, Option}
 use Rattle.dc_engine.specs.Played.{Played, PlayedEnded, PlayedTooLong, PlayedPart}
+use Rattle.dc_engine.specs.Replies.{Replies}
+use Rattle.dc_engine.specs.Held.{Reached}
+use Rattle.dc_engine.specs.Answered.{Answered}
+use Rattle.dc_engine.proofs.HeldState.{reached_lawful}
 
 module _ (most : ℕ) (P Q : List (List ℕ) → List ℕ → Type 0) (f : (lines : List (List ℕ)) (bytes : List ℕ) → P lines bytes → Q lines bytes) (input left before after : Option (List ℕ)) where
   pub played_by : Played most P input left before after → Played most Q input left before after
@@ -15,3 +19,18 @@ module _ (most : ℕ) (P Q : List (List ℕ) → List ℕ → Type 0) (f : (line
 module _ (P Q : List (List ℕ) → List ℕ → Type 0) (f : (lines : List (List ℕ)) (bytes : List ℕ) → P lines bytes → Q lines bytes) (input before after : Option (List ℕ)) where
   pub part_by : PlayedPart P input before after → PlayedPart Q input before after
   part_by p = record { lines = p.lines; bytes = p.bytes; count = p.count; are_first = p.are_first; replied = f _ _ p.replied; to_sink = p.to_sink }
+
+lawful_by : (lines : List (List ℕ)) (bytes : List ℕ) → Replies Reached lines bytes → Answered lines bytes
+lawful_by lines bytes r = reached_lawful r.0 lines bytes r.1
+
+pub played_lawful : (most : ℕ) (input left before after : Option (List ℕ)) → Played most (Replies Reached) input left before after → Played most Answered input left before after
+played_lawful most = played_by most (Replies Reached) Answered lawful_by
+
+pub ended_lawful : (most : ℕ) (input left before after : Option (List ℕ)) → PlayedEnded most (Replies Reached) input left before after → PlayedEnded most Answered input left before after
+ended_lawful most = ended_by most (Replies Reached) Answered lawful_by
+
+pub too_long_lawful : (most : ℕ) (input left before after : Option (List ℕ)) → PlayedTooLong most (Replies Reached) input left before after → PlayedTooLong most Answered input left before after
+too_long_lawful most = too_long_by most (Replies Reached) Answered lawful_by
+
+pub part_lawful : (input before after : Option (List ℕ)) → PlayedPart (Replies Reached) input before after → PlayedPart Answered input before after
+part_lawful = part_by (Replies Reached) Answered lawful_by

@@ -306,14 +306,19 @@ module _ (m : State) (run : Run) (number : ℕ) (d : Describes m run) where
       elim (is_built c) as (λ b. is_built c ≡ b → ActsBy m c steps new (first_due ((not b, step.Unbuilt) ∷ dues m c)) → Goes run number (Some c) steps new) [
         | true ↦ λ e h. built_goes c steps new e (ap (λ b. first_due ((not b, step.Unbuilt) ∷ refusals run c)) e) (first_due (dues m c)) refl h
         | false ↦ λ e h.
-          let refused : refusal run c ≡ Some step.Unbuilt = ap (λ b. first_due ((not b, step.Unbuilt) ∷ refusals run c)) e in
-          refused_goes c step.Unbuilt steps new refused (step.Unbuilt, refused, (λ z. cc), (λ z. cc), (λ z. cc)) h.0 h.1
+            let refused : refusal run c ≡ Some step.Unbuilt = ap (λ b. first_due ((not b, step.Unbuilt) ∷ refusals run c)) e in
+            refused_goes c step.Unbuilt steps new refused (step.Unbuilt, refused, (λ z. cc), (λ z. cc), (λ z. cc)) h.0 h.1
       ] refl
 
 -- such a run is lawful
 pub lawful : (m : State) (run : Run) → Describes m run → IsLawful counter_meaning run
 lawful m run d = record {
-  clock = d.laws.clock; fresh = d.laws.fresh; past = d.laws.past; right = d.laws.right; commit = d.laws.commit; causes = d.laws.causes;
+  clock = d.laws.clock;
+  fresh = d.laws.fresh;
+  past = d.laws.past;
+  right = d.laws.right;
+  commit = d.laws.commit;
+  causes = d.laws.causes;
   order = is_strict run d.are_later;
   closed = λ t b. visible_closed run d.are_later (snapshot run t);
 }
@@ -321,9 +326,21 @@ lawful m run d = record {
 -- before any line
 pub begins_empty : Describes start []
 begins_empty = record {
-  is_made = refl; sites = λ h. off h; parts = λ h. off h; time = refl; number_is = refl; there = λ who. refl; open_is = λ who. refl;
-  current = λ who t h. cc; apart = λ who other t u n p q. cc; depends = λ who. refl; ids = λ t b. off b; are_begun = λ t h. off h;
+  is_made = refl;
+  sites = λ h. off h;
+  parts = λ h. off h;
+  time = refl;
+  number_is = refl;
+  there = λ who. refl;
+  open_is = λ who. refl;
+  current = λ who t h. cc;
+  apart = λ who other t u n p q. cc;
+  depends = λ who. refl;
+  ids = λ t b. off b;
+  are_begun = λ t h. off h;
   are_later = record { above = λ t h. off h; strictly = λ t h. off h };
-  plain = λ t. tt; sums = λ o n. refl; unbegun = λ t h. (refl, refl);
+  plain = λ t. tt;
+  sums = λ o n. refl;
+  unbegun = λ t h. (refl, refl);
   laws = record { clock = tt; fresh = tt; past = tt; right = tt; commit = tt; causes = tt };
 }

@@ -73,11 +73,22 @@ pub cluster_line : (m : State) (run : Run) (number : ℕ) (asked : Option Comman
 cluster_line m run number asked d =
     let e = line number asked (step.MadeCluster 1 1) in
     let l = leaves_plain run e (λ t b. refl) (λ t h. refl) (λ t h. refl) (λ u. refl) in record {
-      is_made = refl; sites = λ h. refl; parts = λ h. refl; time = d.time; number_is = d.number_is; there = d.there; open_is = d.open_is;
+      is_made = refl;
+      sites = λ h. refl;
+      parts = λ h. refl;
+      time = d.time;
+      number_is = d.number_is;
+      there = d.there;
+      open_is = d.open_is;
       current = λ who t h. current_in run (e ∷ run) who t refl (λ u b. b) refl refl refl (d.current who t h);
-      apart = d.apart; depends = d.depends; ids = λ t b. id_in run (e ∷ run) m.now m.now t (omega arith) refl (d.ids t b);
-      are_begun = d.are_begun; are_later = record { above = d.are_later.above; strictly = d.are_later.strictly };
-      plain = d.plain; sums = same_sums m run e d l; unbegun = d.unbegun;
+      apart = d.apart;
+      depends = d.depends;
+      ids = λ t b. id_in run (e ∷ run) m.now m.now t (omega arith) refl (d.ids t b);
+      are_begun = d.are_begun;
+      are_later = record { above = d.are_later.above; strictly = d.are_later.strictly };
+      plain = d.plain;
+      sums = same_sums m run e d l;
+      unbegun = d.unbegun;
       laws = laws_more run e d.are_begun l d.laws (quiet_line run asked e.step tt tt tt tt tt tt);
     }
 
@@ -86,12 +97,22 @@ tick_line m run number n d =
     let e = line number (Some (command.Clock one n)) (step.Ticked one (max n m.now)) in
     let l = leaves_plain run e (λ t b. refl) (λ t h. refl) (λ t h. refl) (λ u. refl) in
     let up : m.now ≤ max n m.now = omega arith in record {
-      is_made = d.is_made; sites = d.sites; parts = d.parts; time = refl; number_is = d.number_is; there = d.there; open_is = d.open_is;
+      is_made = d.is_made;
+      sites = d.sites;
+      parts = d.parts;
+      time = refl;
+      number_is = d.number_is;
+      there = d.there;
+      open_is = d.open_is;
       current = λ who t h. current_in run (e ∷ run) who t refl (λ u b. b) refl refl refl (d.current who t h);
-      apart = d.apart; depends = λ who. le_trans (dependency run who) (m.now ∷ []) (max n m.now ∷ []) (d.depends who) (le_one m.now (max n m.now) up);
+      apart = d.apart;
+      depends = λ who. le_trans (dependency run who) (m.now ∷ []) (max n m.now ∷ []) (d.depends who) (le_one m.now (max n m.now) up);
       ids = λ t b. id_in run (e ∷ run) m.now (max n m.now) t up refl (d.ids t b);
-      are_begun = d.are_begun; are_later = record { above = d.are_later.above; strictly = d.are_later.strictly };
-      plain = d.plain; sums = same_sums m run e d l; unbegun = d.unbegun;
+      are_begun = d.are_begun;
+      are_later = record { above = d.are_later.above; strictly = d.are_later.strictly };
+      plain = d.plain;
+      sums = same_sums m run e d l;
+      unbegun = d.unbegun;
       laws = laws_more run e d.are_begun l d.laws (quiet_line run (Some (command.Clock one n)) e.step (ap (λ k. max n k) (sym d.time)) tt tt tt tt tt);
     }
 
@@ -99,15 +120,22 @@ pub session_line : (m : State) (run : Run) (number : ℕ) (asked : Option Comman
 session_line m run number asked name made none d =
     let e = line number asked (step.MadeSession name 1) in
     let l = leaves_plain run e (λ t b. refl) (λ t h. refl) (λ t h. refl) (λ u. refl) in record {
-      is_made = d.is_made; sites = d.sites; parts = d.parts; time = d.time; number_is = ap (λ n. n + 1) d.number_is;
+      is_made = d.is_made;
+      sites = d.sites;
+      parts = d.parts;
+      time = d.time;
+      number_is = ap (λ n. n + 1) d.number_is;
       there = λ who. with_cases m name who None (λ b s. (if b then Some 1 else session_site run who) ≡ site_if s) (λ k. refl) (λ k. d.there who);
       open_is = λ who. with_cases m name who None (λ b s. is_open run who ≡ is_open_in s) (λ k. subst (λ w. is_open run w ≡ false) (same_name name who k) (d.open_is name ∙ ap is_open_in none)) (λ k. d.open_is who);
       current = λ who t h. current_in run (e ∷ run) who t refl (λ u b. b) refl refl refl (d.current who t (with_cases m name who None (λ b s. s ≡ Some (Some t) → m.session who ≡ Some (Some t)) (λ k x. cc) (λ k x. x) h));
       apart = λ who other t u n x y. d.apart who other t u n (with_cases m name who None (λ b s. s ≡ Some (Some t) → m.session who ≡ Some (Some t)) (λ k z. cc) (λ k z. z) x) (with_cases m name other None (λ b s. s ≡ Some (Some u) → m.session other ≡ Some (Some u)) (λ k z. cc) (λ k z. z) y);
       depends = λ who. elim (bytes_eq name who) as (λ b. le (if b then replicate (sites_of run) 0 else dependency run who) (m.now ∷ []) ≡ true) [ true ↦ ap (λ k. le (replicate k 0) (m.now ∷ [])) (d.sites made) ∙ le_one 0 m.now (omega arith) | false ↦ d.depends who ];
       ids = λ t b. id_in run (e ∷ run) m.now m.now t (omega arith) refl (d.ids t b);
-      are_begun = d.are_begun; are_later = record { above = d.are_later.above; strictly = d.are_later.strictly };
-      plain = d.plain; sums = same_sums m run e d l; unbegun = d.unbegun;
+      are_begun = d.are_begun;
+      are_later = record { above = d.are_later.above; strictly = d.are_later.strictly };
+      plain = d.plain;
+      sums = same_sums m run e d l;
+      unbegun = d.unbegun;
       laws = laws_more run e d.are_begun l d.laws (quiet_line run asked e.step tt tt tt tt tt tt);
     }
 
@@ -120,8 +148,8 @@ value_right m run asked name o t s d =
     let k = d.current name t s in
     let tx = transaction_at t.time in
     let sum : m.sum o t.time +ℤ own_sum o t.changes ≡ added_by run o (snapshot run tx) (history run) +ℤ added o (changes run tx) =
-      ap (λ z. z +ℤ own_sum o t.changes) (d.sums o t.time ∙ ap (λ v. added_by run o v (history run)) (sym (d.ids tx k.begun).reads))
-      ∙ ap (λ z. added_by run o (snapshot run tx) (history run) +ℤ z) (sym (added_own o (changes run tx) t.changes k.amounts)) in
+    ap (λ z. z +ℤ own_sum o t.changes) (d.sums o t.time ∙ ap (λ v. added_by run o v (history run)) (sym (d.ids tx k.begun).reads))
+    ∙ ap (λ z. added_by run o (snapshot run tx) (history run) +ℤ z) (sym (added_own o (changes run tx) t.changes k.amounts)) in
     let shown : Int (int_wrap w128 (m.sum o t.time +ℤ own_sum o t.changes)) ≡ counter_meaning o.kind (read_by run run tx o) = ap (λ z. Int (int_wrap w128 z)) (sum ∙ sym (live_read run tx o d.plain)) in
     subst (λ u. IsMeant counter_meaning run run u o (Int (int_wrap w128 (m.sum o t.time +ℤ own_sum o t.changes)))) (sym k.named) shown
 
@@ -134,14 +162,21 @@ pub ended_line : (m : State) (run : Run) (number : ℕ) (asked : Option Command)
 ended_line m run number asked name t some d =
     let e = line number asked (step.Ended name) in
     let l = leaves_plain run e (λ t b. refl) (λ t h. refl) (λ t h. refl) (λ u. refl) in record {
-      is_made = d.is_made; sites = d.sites; parts = d.parts; time = d.time; number_is = d.number_is;
+      is_made = d.is_made;
+      sites = d.sites;
+      parts = d.parts;
+      time = d.time;
+      number_is = d.number_is;
       there = λ who. with_cases m name who None (λ b s. session_site run who ≡ site_if s) (λ k. subst (λ w. session_site run w ≡ Some 1) (same_name name who k) (d.there name ∙ ap site_if some)) (λ k. d.there who);
       open_is = λ who. with_cases m name who None (λ b s. (if b then false else is_open run who) ≡ is_open_in s) (λ k. refl) (λ k. d.open_is who);
       current = λ who t h. current_in run (e ∷ run) who t refl (λ u b. b) refl refl refl (d.current who t (with_cases m name who None (λ b s. s ≡ Some (Some t) → m.session who ≡ Some (Some t)) (λ k x. cc) (λ k x. x) h));
       apart = λ who other t u n x y. d.apart who other t u n (with_cases m name who None (λ b s. s ≡ Some (Some t) → m.session who ≡ Some (Some t)) (λ k z. cc) (λ k z. z) x) (with_cases m name other None (λ b s. s ≡ Some (Some u) → m.session other ≡ Some (Some u)) (λ k z. cc) (λ k z. z) y);
       depends = d.depends;
       ids = λ t b. id_in run (e ∷ run) m.now m.now t (omega arith) refl (d.ids t b);
-      are_begun = d.are_begun; are_later = record { above = d.are_later.above; strictly = d.are_later.strictly };
-      plain = d.plain; sums = same_sums m run e d l; unbegun = d.unbegun;
+      are_begun = d.are_begun;
+      are_later = record { above = d.are_later.above; strictly = d.are_later.strictly };
+      plain = d.plain;
+      sums = same_sums m run e d l;
+      unbegun = d.unbegun;
       laws = laws_more run e d.are_begun l d.laws (quiet_line run asked e.step tt tt tt tt tt tt);
     }

@@ -1,6 +1,5 @@
 ghost use Rattle.std.specs.Prelude.{◌≡◌, ◌≤◌, ◌<◌, ◌^◌, ℕ, List, [], ◌∷◌, ◌++◌, length, take, Option, Some, None, false, true, IfOk, OnOk, OnErr, ◌+ℤ◌};
 ghost use Rattle.std.specs.List.{flat_map};
-
 ghost use Rattle.std.specs.Int.{int_wrap, w128};
 ghost use Rattle.world_model.specs.Refusals.{is_built as is_built_lem, is_amount as is_amount_lem};
 ghost use Rattle.crdt_counters.specs.Meaning.{amount};
@@ -186,7 +185,11 @@ impl Machine {
         }
         let time = self.now + 1;
         self.now = time;
-        open(&mut self.sessions, &name, Transaction::new(self.alloc, time));
+        open(
+            &mut self.sessions,
+            &name,
+            Transaction::new(self.alloc, time),
+        );
         let tx = tx_at(time);
         let s = vector_at(time);
         only(self.alloc, Step::Began { name, tx, s })
@@ -203,7 +206,14 @@ impl Machine {
             Some(None) => only(self.alloc, Step::NoTxn),
             Some(Some(transaction)) => {
                 let value = value_of(self.alloc, &self.store, transaction, &object)?;
-                only(self.alloc, Step::Value { name, object, value })
+                only(
+                    self.alloc,
+                    Step::Value {
+                        name,
+                        object,
+                        value,
+                    },
+                )
             }
         }
     }
@@ -238,7 +248,14 @@ impl Machine {
     {
         let change = change_of(self.alloc, &object, act)?;
         note(&mut self.sessions, &name, change)?;
-        only(self.alloc, Step::Updated { name, object, stamp: None })
+        only(
+            self.alloc,
+            Step::Updated {
+                name,
+                object,
+                stamp: None,
+            },
+        )
     }
 
     fn commit(&mut self, name: Text, steps: Option<u64>) -> Result<Vec<Step>, AllocError>
@@ -377,7 +394,13 @@ fn value_of(
     let mut total = 0;
     let time = transaction.time();
     add_stored(alloc, &mut total, store, object, time)?;
-    add_own(alloc, &mut total, tx_at(time), transaction.changes(), object)?;
+    add_own(
+        alloc,
+        &mut total,
+        tx_at(time),
+        transaction.changes(),
+        object,
+    )?;
     Ok(Value::Int(total))
 }
 

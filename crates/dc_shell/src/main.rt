@@ -2,7 +2,7 @@
 #![tactic(auto)]
 
 use dc_engine::{Reading, Status, Writing, run};
-use std::alloc::{AllocError, Global};
+use std::alloc::AllocError;
 use std::process::ExitCode;
 use std::{env, io};
 
@@ -15,15 +15,20 @@ fn words_of(rt: &HostRuntime) -> io::Result<Vec<String>> {
     Ok(words)
 }
 
-fn main(rt: HostRuntime) -> io::Result<ExitCode> {
-    let words = words_of(&rt)?;
+/// Runs what these words ask for.
+fn run_words(rt: &HostRuntime, words: &[String]) -> Result<Status, AllocError> {
     let mut texts = Vec::new(rt.alloc());
-    for word in &words {
+    for word in words {
         texts.push(word.as_str())?;
     }
     let mut source = Reading::new(rt.stdin());
     let mut sink = Writing::new(rt.stdout());
-    let status = run(rt.alloc(), &texts, &mut source, &mut sink);
+    Ok(run(rt.alloc(), &texts, &mut source, &mut sink))
+}
+
+fn main(rt: HostRuntime) -> io::Result<ExitCode> {
+    let words = words_of(&rt)?;
+    let status = run_words(&rt, &words).unwrap_or(Status::NO_MEMORY);
     if let Some(text) = status.text() {
         eprintln!(rt; "{text}")?;
     }

@@ -177,9 +177,9 @@ pub is_strict : (run : Run) → AreLater run → IsStrictOrder run
 is_strict run h = record {
   irreflexive = λ t. not_both (in_history run t) (le (commit_vector run t) (snapshot run t)) (h.strictly t);
   transitive = λ t u w tu hu uw.
-    let a = and_parts (in_history run t) (le (commit_vector run t) (snapshot run u)) tu in
-    let b = and_parts (in_history run u) (le (commit_vector run u) (snapshot run w)) uw in
-    and_from _ _ a.0 (le_trans (commit_vector run t) (snapshot run u) (snapshot run w) a.1 (le_trans (snapshot run u) (commit_vector run u) (snapshot run w) (h.above u hu) b.1));
+      let a = and_parts (in_history run t) (le (commit_vector run t) (snapshot run u)) tu in
+      let b = and_parts (in_history run u) (le (commit_vector run u) (snapshot run w)) uw in
+      and_from _ _ a.0 (le_trans (commit_vector run t) (snapshot run u) (snapshot run w) a.1 (le_trans (snapshot run u) (commit_vector run u) (snapshot run w) (h.above u hu) b.1));
 }
 
 -- and every visible set is closed

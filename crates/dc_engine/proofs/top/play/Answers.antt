@@ -1,0 +1,19 @@
+use Rattle.dc_engine.proofs.HeldState.{reached_none}
+use Rattle.dc_engine.proofs.PlayedBy.{played_lawful, ended_lawful, too_long_lawful, part_lawful}
+use Rattle.dc_engine.proofs.top.play.Goals as goal
+
+pub play_script-requires : goal.play_script-requires
+play_script-requires g c = let e = c.new-machine.ensures in reached_none c.new-machine.result e.made e.now e.sessions e.store
+
+pub returns : goal.returns
+returns g c = let e = c.play_script.ensures in record {
+  done = λ h. played_lawful _ _ _ _ _ (e.done h);
+  read_fault = λ h. ended_lawful _ _ _ _ _ (e.read_fault h);
+  read_cause = e.read_cause;
+  write_fault = λ h. part_lawful _ _ _ (e.write_fault h);
+  write_cause = e.write_cause;
+  no_memory = λ h. part_lawful _ _ _ (e.no_memory h);
+  too_long = λ h. too_long_lawful _ _ _ _ _ (e.too_long h);
+  not_usage = e.not_usage;
+  named = e.named;
+}
