@@ -1,7 +1,7 @@
 # make test: the gate. It proves every crate, tries the must-fail edits, and runs the tests and the program.
 # make play SCRIPT=examples/plain_path.script: proves the program and plays the script.
 # make try SCRIPT=..: plays the script in seconds, before any proof.
-# make bench: measures the play on a generated script.
+# make bench: measures the play on a generated script, and how fast lines are parsed and printed.
 SCRIPT ?= examples/plain_path.script
 HERE := $(CURDIR)
 
@@ -19,3 +19,5 @@ try:
 bench:
 	@cd crates/dc_shell && rt run -- play < $(HERE)/examples/plain_path.script > /dev/null
 	python3 bench/play/measure.py
+	@cd crates/text_bench && rt run -- line 2 < stdin > /dev/null
+	python3 bench/text/measure.py
