@@ -34,6 +34,37 @@ fn parse_script(alloc: Global, script: &[u8]) -> Result<u64, AllocError> {
     Ok(commands)
 }
 
+/// A step with the words of a command about messages and logs.
+fn step_between_sites(command: Command) -> Option<Step> {
+    let bounds = VTime::zero(3);
+    match command {
+        Command::Send {
+            part,
+            site,
+            from: _,
+        } => {
+            Some(Step::Sent {
+                number: 1,
+                part,
+                to: site,
+                lo: 0,
+                hi: 2_000,
+                count: 1,
+            })
+        }
+        Command::Deliver { number } => Some(Step::Took { number, hi: 2_000 }),
+        Command::Report { part } => {
+            Some(Step::Reported {
+                number: 1,
+                part,
+                bounds,
+            })
+        }
+        Command::Settle { part } => Some(Step::Settled { part }),
+        _ => None,
+    }
+}
+
 /// A step with the words of the command, of the kind that answers it.
 fn step_of(command: Command) -> Option<Step> {
     let tx = TxId {
@@ -69,8 +100,7 @@ fn step_of(command: Command) -> Option<Step> {
             })
         }
         Command::Commit { name, steps: _ } => Some(Step::Ended { name }),
-        Command::Settle { part } => Some(Step::Settled { part }),
-        _ => None,
+        _ => step_between_sites(command),
     }
 }
 
