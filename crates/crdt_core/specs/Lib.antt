@@ -1,10 +1,12 @@
 pub mod Seen
 pub mod Live
+pub mod Blank
 pub mod Confluence
 pub mod DotCode
 pub mod DotSet
 pub mod Fits
 pub mod History
+pub mod InMaps
 pub mod Kept
 pub mod KeptKinds
 pub mod KeptLaw

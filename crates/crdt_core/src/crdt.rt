@@ -7,6 +7,7 @@ ghost use Rattle.crdt_core.specs.declared.value.Value.{Value};
 ghost use Rattle.crdt_core.specs.Seen.{Update};
 ghost use Rattle.crdt_core.specs.Kinds.{reads_state};
 ghost use Rattle.crdt_core.specs.Fits.{fits};
+ghost use Rattle.crdt_core.specs.InMaps.{KeepsInMaps};
 ghost use Rattle.crdt_core.specs.Law.{KeepsLaw};
 
 use crate::{Act, Field, GenError, Kind, Op, Value};
@@ -56,6 +57,12 @@ pub trait Crdt {
     /// The law of a kind.
     ghost laws: { KeepsLaw has too_deep initial step made value_of stamp_of meaning names holds };
 
+    /// Whether nothing is left in the state that a reset could undo.
+    ghost is_blank: { Self.State → Bool };
+
+    /// What a map around the kind needs of it.
+    ghost in_maps: { KeepsInMaps has too_deep initial step made is_blank };
+
     /// Whether the type has the kind. Takes no memory.
     fn has(kind: Kind) -> bool
         ensures { result ≡ has kind };
@@ -71,6 +78,10 @@ pub trait Crdt {
     /// Whether the operation's effect depends on the state: false exactly for `CounterPn` and `SetGo`. Takes no memory.
     fn needs_state(kind: Kind, op: &Op) -> bool
         ensures { result ≡ reads_state kind };
+
+    /// Whether nothing is left of updates in the state, as in the state of no update: a reset would undo nothing. Takes no memory.
+    fn is_blank(state: &Self::State) -> bool
+        ensures { result ≡ is_blank state.now };
 
     /// The effect of an act at a path, on the state that was read, at a clock value in ticks.
     ///

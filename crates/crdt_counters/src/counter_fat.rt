@@ -1,10 +1,10 @@
 ghost use Rattle.std.specs.Prelude.{◌≡◌, pos, false, IfOk, OnOk};
 ghost use Rattle.std.specs.FinMap.{empty};
-ghost use Rattle.crdt_core.specs.Kept.{is_kept};
+ghost use Rattle.crdt_core.specs.Kept.{is_kept, keeps_none};
 ghost use Rattle.crdt_counters.specs.Meaning.{counter_meaning};
 ghost use Rattle.crdt_counters.specs.CounterPn.{no_stamp};
 ghost use Rattle.crdt_counters.specs.CounterFat.{fat_has, fat_step, fat_made, fat_value, fat_names};
-ghost use Rattle.crdt_counters.specs.FatLaw.{fat_law};
+ghost use Rattle.crdt_counters.specs.FatLaw.{fat_law, fat_in_maps};
 
 use crate::amounts::{amount_of, total_of};
 use crdt_core::{Act, Crdt, Dots, Field, GenError, Kept, Kind, Op, Value, fits_at, reads_state};
@@ -50,6 +50,10 @@ impl Crdt for CounterFat {
 
     ghost laws = { fat_law };
 
+    ghost is_blank = { keeps_none };
+
+    ghost in_maps = { fat_in_maps };
+
     fn has(kind: Kind) -> bool {
         kind == Kind::CounterFat
     }
@@ -60,6 +64,10 @@ impl Crdt for CounterFat {
 
     fn needs_state(kind: Kind, op: &Op) -> bool {
         reads_state(kind)
+    }
+
+    fn is_blank(state: &Kept<i64>) -> bool {
+        state.is_empty()
     }
 
     fn generate(

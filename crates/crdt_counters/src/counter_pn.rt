@@ -1,7 +1,7 @@
 ghost use Rattle.std.specs.Prelude.{◌≡◌, pos, false};
 ghost use Rattle.crdt_counters.specs.Meaning.{counter_meaning};
-ghost use Rattle.crdt_counters.specs.CounterPn.{pn_has, pn_step, pn_made, pn_value, no_stamp, names_none, holds_none};
-ghost use Rattle.crdt_counters.specs.PnLaw.{pn_law};
+ghost use Rattle.crdt_counters.specs.CounterPn.{is_zero, pn_has, pn_step, pn_made, pn_value, no_stamp, names_none, holds_none};
+ghost use Rattle.crdt_counters.specs.PnLaw.{pn_law, pn_in_maps};
 
 use crate::amounts::{amount_of, sum};
 use crdt_core::{Act, Crdt, Field, GenError, Kind, Op, Value, fits_at, reads_state};
@@ -39,6 +39,10 @@ impl Crdt for CounterPn {
 
     ghost laws = { pn_law };
 
+    ghost is_blank = { is_zero };
+
+    ghost in_maps = { pn_in_maps };
+
     fn has(kind: Kind) -> bool {
         kind == Kind::CounterPn
     }
@@ -49,6 +53,10 @@ impl Crdt for CounterPn {
 
     fn needs_state(kind: Kind, op: &Op) -> bool {
         reads_state(kind)
+    }
+
+    fn is_blank(state: &i128) -> bool {
+        *state == 0
     }
 
     fn generate(

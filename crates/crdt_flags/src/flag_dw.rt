@@ -1,9 +1,9 @@
 ghost use Rattle.std.specs.Prelude.{◌≡◌, false};
 ghost use Rattle.std.specs.FinMap.{empty};
-ghost use Rattle.crdt_core.specs.Kept.{is_kept};
+ghost use Rattle.crdt_core.specs.Kept.{is_kept, keeps_none};
 ghost use Rattle.crdt_flags.specs.Meaning.{dw_meaning};
 ghost use Rattle.crdt_flags.specs.Flags.{dw_has, dw_step, dw_value, kind_made, no_stamp, flag_names};
-ghost use Rattle.crdt_flags.specs.FlagLaws.{dw_law};
+ghost use Rattle.crdt_flags.specs.FlagLaws.{dw_law, dw_in_maps};
 
 use crate::FlagEffect;
 use crate::effect::effect_of;
@@ -42,6 +42,10 @@ impl Crdt for FlagDw {
 
     ghost laws = { dw_law };
 
+    ghost is_blank = { keeps_none };
+
+    ghost in_maps = { dw_in_maps };
+
     fn has(kind: Kind) -> bool {
         kind == Kind::FlagDw
     }
@@ -52,6 +56,10 @@ impl Crdt for FlagDw {
 
     fn needs_state(kind: Kind, op: &Op) -> bool {
         reads_state(kind)
+    }
+
+    fn is_blank(state: &Kept<bool>) -> bool {
+        state.is_empty()
     }
 
     fn generate(

@@ -1,9 +1,9 @@
 ghost use Rattle.std.specs.Prelude.{◌≡◌, false};
 ghost use Rattle.std.specs.FinMap.{empty};
-ghost use Rattle.crdt_core.specs.Kept.{is_kept};
+ghost use Rattle.crdt_core.specs.Kept.{is_kept, keeps_none};
 ghost use Rattle.crdt_flags.specs.Meaning.{ew_meaning};
 ghost use Rattle.crdt_flags.specs.Flags.{ew_has, ew_step, ew_value, kind_made, no_stamp, flag_names};
-ghost use Rattle.crdt_flags.specs.FlagLaws.{ew_law};
+ghost use Rattle.crdt_flags.specs.FlagLaws.{ew_law, ew_in_maps};
 
 use crate::FlagEffect;
 use crate::effect::effect_of;
@@ -42,6 +42,10 @@ impl Crdt for FlagEw {
 
     ghost laws = { ew_law };
 
+    ghost is_blank = { keeps_none };
+
+    ghost in_maps = { ew_in_maps };
+
     fn has(kind: Kind) -> bool {
         kind == Kind::FlagEw
     }
@@ -52,6 +56,10 @@ impl Crdt for FlagEw {
 
     fn needs_state(kind: Kind, op: &Op) -> bool {
         reads_state(kind)
+    }
+
+    fn is_blank(state: &Kept<bool>) -> bool {
+        state.is_empty()
     }
 
     fn generate(

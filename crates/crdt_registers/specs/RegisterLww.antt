@@ -1,5 +1,5 @@
 -- The states and effects of the register that the last writer wins.
-use Rattle.std.specs.Prelude.{ℕ, ◌+◌, max, min, Bool, true, false, List, [], Option, Some, None}
+use Rattle.std.specs.Prelude.{ℕ, ◌+◌, max, min, Bool, true, false, List, [], Option, Some, None, not, is_some}
 use Rattle.site_vector.specs.declared.ids.Dot.{Dot}
 use Rattle.site_vector.specs.Ids.{same_dot}
 use Rattle.crdt_core.specs.declared.kind.Kind.{Kind}
@@ -16,6 +16,9 @@ use Rattle.crdt_registers.specs.declared.assigned.Assigned.{Assigned}
 
 abbrev pub lww_has : Kind → Bool
 lww_has k = same_kind k RegisterLww
+
+abbrev pub unassigned : Option Stamped → Bool
+unassigned s = not (is_some s)
 
 abbrev pub lww_step : Option Stamped → Dot → Assigned → Option Stamped
 lww_step s d e = later (Some (record { stamp = e.stamp; dot = d; text = e.text })) s

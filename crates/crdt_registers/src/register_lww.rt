@@ -1,8 +1,8 @@
 ghost use Rattle.std.specs.Prelude.{◌≡◌, ◌+◌, min, max, false, None};
 ghost use Rattle.crdt_core.specs.Stamps.{last_stamp};
 ghost use Rattle.crdt_registers.specs.Meaning.{lww_meaning, word_of};
-ghost use Rattle.crdt_registers.specs.RegisterLww.{lww_has, lww_step, lww_made, lww_stamp, lww_names, lww_holds, above, stands};
-ghost use Rattle.crdt_registers.specs.LwwLaw.{lww_law};
+ghost use Rattle.crdt_registers.specs.RegisterLww.{unassigned, lww_has, lww_step, lww_made, lww_stamp, lww_names, lww_holds, above, stands};
+ghost use Rattle.crdt_registers.specs.LwwLaw.{lww_law, lww_in_maps};
 
 use crate::assigned::{empty_text, is_before, text_of};
 use crate::{Assigned, Stamped};
@@ -43,6 +43,10 @@ impl Crdt for RegisterLww {
 
     ghost laws = { lww_law };
 
+    ghost is_blank = { unassigned };
+
+    ghost in_maps = { lww_in_maps };
+
     fn has(kind: Kind) -> bool {
         kind == Kind::RegisterLww
     }
@@ -53,6 +57,10 @@ impl Crdt for RegisterLww {
 
     fn needs_state(kind: Kind, op: &Op) -> bool {
         reads_state(kind)
+    }
+
+    fn is_blank(state: &Option<Stamped>) -> bool {
+        state.is_none()
     }
 
     fn generate(

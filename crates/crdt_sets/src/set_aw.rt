@@ -1,9 +1,9 @@
 ghost use Rattle.std.specs.Prelude.{◌≡◌, false};
 ghost use Rattle.std.specs.FinMap.{empty};
 ghost use Rattle.crdt_sets.specs.Meaning.{aw_meaning};
-ghost use Rattle.crdt_sets.specs.Elements.{keeps_dot};
+ghost use Rattle.crdt_sets.specs.Elements.{keeps_dot, lacks_all};
 ghost use Rattle.crdt_sets.specs.Sets.{aw_has, aw_step, aw_value, kind_made, no_stamp, set_names};
-ghost use Rattle.crdt_sets.specs.RemovableLaws.{aw_law};
+ghost use Rattle.crdt_sets.specs.RemovableLaws.{aw_law, aw_in_maps};
 
 use crate::effect::effect_of;
 use crate::{Elements, SetEffect};
@@ -41,6 +41,10 @@ impl Crdt for SetAw {
 
     ghost laws = { aw_law };
 
+    ghost is_blank = { lacks_all };
+
+    ghost in_maps = { aw_in_maps };
+
     fn has(kind: Kind) -> bool {
         kind == Kind::SetAw
     }
@@ -51,6 +55,10 @@ impl Crdt for SetAw {
 
     fn needs_state(kind: Kind, op: &Op) -> bool {
         reads_state(kind)
+    }
+
+    fn is_blank(state: &Elements) -> bool {
+        state.is_empty()
     }
 
     fn generate(

@@ -2,8 +2,8 @@ ghost use Rattle.std.specs.Prelude.{◌≡◌, false, IfOk};
 ghost use Rattle.std.specs.FinMap.{empty};
 ghost use Rattle.crdt_core.specs.Texts.{ascending};
 ghost use Rattle.crdt_sets.specs.Meaning.{go_meaning, added_by};
-ghost use Rattle.crdt_sets.specs.SetGo.{go_has, go_step, go_made, go_value, go_stamp, go_names, go_holds};
-ghost use Rattle.crdt_sets.specs.GoLaw.{go_law};
+ghost use Rattle.crdt_sets.specs.SetGo.{has_none, go_has, go_step, go_made, go_value, go_stamp, go_names, go_holds};
+ghost use Rattle.crdt_sets.specs.GoLaw.{go_law, go_in_maps};
 
 use crate::TextSet;
 use crate::texts::{copy_set, copy_texts, in_order, insert_each};
@@ -42,6 +42,10 @@ impl Crdt for SetGo {
 
     ghost laws = { go_law };
 
+    ghost is_blank = { has_none };
+
+    ghost in_maps = { go_in_maps };
+
     fn has(kind: Kind) -> bool {
         kind == Kind::SetGo
     }
@@ -52,6 +56,10 @@ impl Crdt for SetGo {
 
     fn needs_state(kind: Kind, op: &Op) -> bool {
         reads_state(kind)
+    }
+
+    fn is_blank(state: &TextSet) -> bool {
+        state.is_empty()
     }
 
     fn generate(

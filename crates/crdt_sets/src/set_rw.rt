@@ -1,9 +1,9 @@
 ghost use Rattle.std.specs.Prelude.{◌≡◌, false};
 ghost use Rattle.std.specs.FinMap.{empty};
 ghost use Rattle.crdt_sets.specs.Meaning.{rw_meaning};
-ghost use Rattle.crdt_sets.specs.Elements.{keeps_dot};
+ghost use Rattle.crdt_sets.specs.Elements.{keeps_dot, lacks_all};
 ghost use Rattle.crdt_sets.specs.Sets.{rw_has, rw_step, rw_value, kind_made, no_stamp, set_names};
-ghost use Rattle.crdt_sets.specs.RemovableLaws.{rw_law};
+ghost use Rattle.crdt_sets.specs.RemovableLaws.{rw_law, rw_in_maps};
 
 use crate::effect::effect_of;
 use crate::{Elements, SetEffect};
@@ -41,6 +41,10 @@ impl Crdt for SetRw {
 
     ghost laws = { rw_law };
 
+    ghost is_blank = { lacks_all };
+
+    ghost in_maps = { rw_in_maps };
+
     fn has(kind: Kind) -> bool {
         kind == Kind::SetRw
     }
@@ -51,6 +55,10 @@ impl Crdt for SetRw {
 
     fn needs_state(kind: Kind, op: &Op) -> bool {
         reads_state(kind)
+    }
+
+    fn is_blank(state: &Elements) -> bool {
+        state.is_empty()
     }
 
     fn generate(
