@@ -4,6 +4,7 @@ pub mod Blank
 pub mod Confluence
 pub mod DotCode
 pub mod DotSet
+pub mod FieldOrder
 pub mod Fits
 pub mod History
 pub mod InMaps
