@@ -1,3 +1,4 @@
 pub mod FieldSteps
+pub mod MapSteps
 pub mod Maps
 pub mod Meaning
