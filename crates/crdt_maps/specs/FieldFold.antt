@@ -36,7 +36,7 @@ module _ {S E : Type 0} {has : Kind → Bool} {too_deep : Kind → List Field �
   abbrev pub inside : Kind → (Dot → Bool) → List Update → S
   inside l p vs = folded (initial l) step (filter (λ e. p e.0) (effects (initial l) step (made_by made l) vs))
 
-  outer_more : (k : Kind) (p : Dot → Bool) (u : Update) (us : List Update)
+  pub outer_more : (k : Kind) (p : Dot → Bool) (u : Update) (us : List Update)
       → outer k p (u ∷ us) ≡ cond (p u.dot) (map_step has initial step (outer k p us) u.dot (map_made has initial made is_blank k (outer k (sees u) us) u.path u.act u.now)) (outer k p us)
   outer_more k p u us = let e = map_made has initial made is_blank k (outer k (sees u) us) u.path u.act u.now in
       let es = effects empty (map_step has initial step) (made_by (map_made has initial made is_blank) k) us in

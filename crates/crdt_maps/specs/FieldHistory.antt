@@ -38,7 +38,7 @@ pub closed_of_field : (p : Dot → Bool) (f : Field) (us : List Update) → IsCl
 closed_of_field p f [] h = h
 closed_of_field p f (u ∷ us) h = closed_onto p u (inner_op f u.path u.act) _ h.0 (closed_of_field p f us h.1)
 
-next_of_field : (f : Field) (u : Update) (us : List Update) (o : List Field × Act) → IsNext us u → IsNext (of_field f us) (within u o)
+pub next_of_field : (f : Field) (u : Update) (us : List Update) (o : List Field × Act) → IsNext us u → IsNext (of_field f us) (within u o)
 next_of_field f u us o h = record {
   new = any_of_field (λ v. same_dot v.dot u.dot) (λ v. same_dot v.dot u.dot) (λ _ _. refl) f us h.new;
   unseen = any_of_field (λ v. sees v u.dot) (λ v. sees v u.dot) (λ _ _. refl) f us h.unseen;
@@ -104,7 +104,7 @@ module _ (has : Kind → Bool) (too_deep : Kind → List Field → Bool) where
   own_act k a h = (and_parts (nat_le 0 3) _ (and_parts (fits k [] a) _ h).0).1
 
   module _ (shallow : (k : Kind) → too_deep k [] ≡ false) where
-    reset_fits : (f : Field) → stands_in kind.MapRr f.kind ≡ true → inner_fits f.kind [] act.Reset ≡ true
+    pub reset_fits : (f : Field) → stands_in kind.MapRr f.kind ≡ true → inner_fits f.kind [] act.Reset ≡ true
     reset_fits f h = and_from _ _ (and_from _ _ refl (resets_fit f.kind h)) (shown_fit _ (shallow f.kind))
 
     fits_here : (k : Kind) (f g : Field) (u : Update) (p : List Field) (a : Act) (rest : List Update) → outer_fits k (g ∷ p) a ≡ true → list_all (λ v. inner_fits f.kind v.path v.act) rest ≡ true → list_all (λ v. inner_fits f.kind v.path v.act) (with_some (option_map (within u) (cond (same_field g f) (Some (p, a)) None)) rest) ≡ true

@@ -1,7 +1,9 @@
 pub mod FieldFold
 pub mod FieldHistory
+pub mod FieldStamps
 pub mod FieldSteps
 pub mod MapSteps
 pub mod Maps
 pub mod Meaning
 pub mod Picked
+pub mod Presence
