@@ -2,6 +2,7 @@ pub mod FieldFold
 pub mod FieldHistory
 pub mod FieldStamps
 pub mod FieldSteps
+pub mod MapLaws
 pub mod MapSteps
 pub mod Maps
 pub mod Meaning
