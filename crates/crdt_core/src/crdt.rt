@@ -79,6 +79,10 @@ pub trait Crdt {
     fn needs_state(kind: Kind, op: &Op) -> bool
         ensures { result ≡ reads_state kind };
 
+    /// Whether the path leads through maps to a field whose kind the inner type lacks. Takes no memory.
+    fn is_too_deep(kind: Kind, path: &[Field]) -> bool
+        ensures { result ≡ too_deep kind path.now };
+
     /// Whether nothing is left of updates in the state, as in the state of no update: a reset would undo nothing. Takes no memory.
     fn is_blank(state: &Self::State) -> bool
         ensures { result ≡ is_blank state.now };

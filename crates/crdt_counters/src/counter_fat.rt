@@ -66,6 +66,10 @@ impl Crdt for CounterFat {
         reads_state(kind)
     }
 
+    fn is_too_deep(kind: Kind, path: &[Field]) -> bool {
+        false
+    }
+
     fn is_blank(state: &Kept<i64>) -> bool {
         state.is_empty()
     }

@@ -55,6 +55,10 @@ impl Crdt for CounterPn {
         reads_state(kind)
     }
 
+    fn is_too_deep(kind: Kind, path: &[Field]) -> bool {
+        false
+    }
+
     fn is_blank(state: &i128) -> bool {
         *state == 0
     }

@@ -58,6 +58,10 @@ impl Crdt for FlagDw {
         reads_state(kind)
     }
 
+    fn is_too_deep(kind: Kind, path: &[Field]) -> bool {
+        false
+    }
+
     fn is_blank(state: &Kept<bool>) -> bool {
         state.is_empty()
     }

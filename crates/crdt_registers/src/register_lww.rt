@@ -59,6 +59,10 @@ impl Crdt for RegisterLww {
         reads_state(kind)
     }
 
+    fn is_too_deep(kind: Kind, path: &[Field]) -> bool {
+        false
+    }
+
     fn is_blank(state: &Option<Stamped>) -> bool {
         state.is_none()
     }

@@ -58,6 +58,10 @@ impl Crdt for SetGo {
         reads_state(kind)
     }
 
+    fn is_too_deep(kind: Kind, path: &[Field]) -> bool {
+        false
+    }
+
     fn is_blank(state: &TextSet) -> bool {
         state.is_empty()
     }

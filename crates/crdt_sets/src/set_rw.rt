@@ -57,6 +57,10 @@ impl Crdt for SetRw {
         reads_state(kind)
     }
 
+    fn is_too_deep(kind: Kind, path: &[Field]) -> bool {
+        false
+    }
+
     fn is_blank(state: &Elements) -> bool {
         state.is_empty()
     }
