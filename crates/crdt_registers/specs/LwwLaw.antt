@@ -28,8 +28,8 @@ use Rattle.crdt_core.specs.Leaves.{IsLeaf, same_kind_is, first_fits, rest_fits}
 use Rattle.crdt_core.specs.Confluence.{confluence}
 use Rattle.crdt_core.specs.Texts.{text_cmp, text_cmp_total, text_cmp_exact}
 use Rattle.crdt_registers.specs.Later.{stamped_cmp, greater, later}
-use Rattle.crdt_registers.specs.Meaning.{assigned, last_assign, word_of, lww_meaning}
-use Rattle.crdt_registers.specs.RegisterLww.{lww_has, lww_step, above, text_of, lww_made, lww_stamp, lww_names, lww_holds}
+use Rattle.crdt_registers.specs.Meaning.{text_of, assigned, last_assign, word_of, lww_meaning}
+use Rattle.crdt_registers.specs.RegisterLww.{lww_has, lww_step, above, lww_made, lww_stamp, lww_names, lww_holds}
 use Rattle.crdt_registers.specs.declared.assigned.Stamped.{Stamped}
 use Rattle.crdt_registers.specs.declared.assigned.Assigned.{Assigned}
 

@@ -6,11 +6,11 @@ use Rattle.crdt_core.specs.declared.kind.Kind.{Kind}
 use Rattle.crdt_core.specs.declared.kind.Kind.TheVariants.{RegisterLww}
 use Rattle.crdt_core.specs.declared.object.Field.{Field}
 use Rattle.crdt_core.specs.declared.operation.Act.{Act}
-use Rattle.crdt_core.specs.declared.operation.Act.TheVariants.{Assign}
 use Rattle.crdt_core.specs.Kinds.{same_kind}
 use Rattle.crdt_core.specs.Stamps.{last_stamp}
 use Rattle.std.specs.Ordering.{is_lt}
 use Rattle.crdt_registers.specs.Later.{later, stamped_cmp}
+use Rattle.crdt_registers.specs.Meaning.{text_of}
 use Rattle.crdt_registers.specs.declared.assigned.Stamped.{Stamped}
 use Rattle.crdt_registers.specs.declared.assigned.Assigned.{Assigned}
 
@@ -24,10 +24,6 @@ lww_step s d e = later (Some (record { stamp = e.stamp; dot = d; text = e.text }
 abbrev pub above : ℕ → Option Stamped → ℕ
 above now None = now
 above now (Some a) = max (a.stamp + 1) now
-
-abbrev pub text_of : Act → List ℕ
-text_of (Assign x) = x
-text_of _ = []
 
 abbrev pub lww_made : Kind → Option Stamped → List Field → Act → ℕ → Assigned
 lww_made k s p a now = record { stamp = min last_stamp (above now s); text = text_of a }
