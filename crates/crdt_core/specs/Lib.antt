@@ -3,6 +3,7 @@ pub mod Live
 pub mod Confluence
 pub mod DotCode
 pub mod DotSet
+pub mod EffectForm
 pub mod Fits
 pub mod History
 pub mod Kept
@@ -12,6 +13,7 @@ pub mod KeptSteps
 pub mod Kinds
 pub mod Objects
 pub mod Placing
+pub mod Ready
 pub mod Same
 pub mod Stamps
 pub mod Law
