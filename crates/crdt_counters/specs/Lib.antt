@@ -1,3 +1,4 @@
+pub mod EffectForm
 pub mod CounterFat
 pub mod CounterPn
 pub mod FatLaw

@@ -1,9 +1,11 @@
 //! Counters: one whose updates stay, and one whose updates a reset undoes.
 #![tactic(auto)]
 
+mod amount_form;
 mod amounts;
 mod counter_fat;
 mod counter_pn;
+mod fat_form;
 
 pub use amounts::amount_of;
 pub use counter_fat::{CounterFat, FatEffect};

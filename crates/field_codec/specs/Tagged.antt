@@ -1,20 +1,12 @@
 -- Values of several shapes, each behind a tag of one byte.
-use Rattle.std.specs.Prelude.{◌≡◌, ℕ, ◌+◌, Bool, true, false, ◌&&◌, eqb, List, [], ◌++◌, length, Option, Some, None, Ok, refl}
+use Rattle.std.specs.Prelude.{◌≡◌, ℕ, ◌+◌, Bool, true, ◌&&◌, cond, eqb, List, ◌++◌, length, Ok, Err, refl}
 use Rattle.std.proofs.Common.{sym, ap, subst, ◌∙◌}
 use Rattle.std.proofs.lemmas.Bool.{eqb-true, eq-eqb}
+use Rattle.field_codec.specs.declared.error.TakeError.TheVariants.{Bad}
 use Rattle.field_codec.specs.Spelling.{number, is_number, Spans}
 use Rattle.field_codec.specs.Reading.{Read, ◌>>=◌, number_at, checked_at, mapped_at}
 use Rattle.field_codec.specs.Lawful.{IsForm}
-use Rattle.field_codec.specs.FormLaws.{both_true, and_true, ok_is, bind_ok, spans_join, spans_first, spans_second, number_form, width1, checked_form}
-
--- a test of what a value has of a shape, which fails where it has another
-abbrev pub has_shape : {V : Type 0} → (V → Bool) → Option V → Bool
-has_shape test None = false
-has_shape test (Some v) = test v
-
-abbrev pub shape_spelling : {V : Type 0} → (V → List ℕ) → Option V → List ℕ
-shape_spelling spelling None = []
-shape_spelling spelling (Some v) = spelling v
+use Rattle.field_codec.specs.FormLaws.{both_true, and_true, ok_is, bind_ok, guard_ok, spans_join, spans_first, spans_second, number_form, width1, checked_form}
 
 -- a tag that is known, and then what stands behind it
 abbrev pub tagged_at : {W : Type 0} → (ℕ → Bool) → (ℕ → List ℕ → ℕ → Read W) → List ℕ → ℕ → Read W
@@ -22,28 +14,47 @@ tagged_at known reading bytes at = do
   tag ← checked_at known (number_at 1) bytes at
   reading tag.0 bytes tag.1
 
--- parts: what a value of this shape is made of
-pub shape_form : {V W : Type 0} (made : V → W) (parts : W → Option V) (fits is_spelled : V → Bool) (spelling : V → List ℕ) (reading : List ℕ → ℕ → Read V)
-    → ((w : W) (v : V) → parts w ≡ Some v → made v ≡ w) → ((v : V) → parts (made v) ≡ Some v) → IsForm fits is_spelled spelling reading
-    → IsForm (λ w. has_shape fits (parts w)) (λ w. has_shape is_spelled (parts w)) (λ w. shape_spelling spelling (parts w)) (mapped_at made reading)
-shape_form {V} {W} made parts fits is_spelled spelling reading back forth form = record {
+-- the values of one shape, by the form of what they are made of
+pub shape_form : {V W : Type 0} (made : V → W) (fits is_spelled : V → Bool) (spelling : V → List ℕ) (reading : List ℕ → ℕ → Read V) (made_fits made_is_spelled : W → Bool) (made_spelling : W → List ℕ)
+    → ((v : V) → made_fits (made v) ≡ fits v) → ((v : V) → made_is_spelled (made v) ≡ is_spelled v) → ((v : V) → made_spelling (made v) ≡ spelling v)
+    → ((w : W) → made_is_spelled w ≡ true → (v : V) × (made v ≡ w)) → IsForm fits is_spelled spelling reading
+    → IsForm made_fits made_is_spelled made_spelling (mapped_at made reading)
+shape_form {V} {W} made fits is_spelled spelling reading made_fits made_is_spelled made_spelling same_fits same_spelled same_spelling shape form = record {
   found = λ bytes at w end ok within h.
       let a = bind_ok (reading bytes at) (λ v. Ok (made v.0, v.1)) (w, end) h in
       let f = form.found bytes at a.0.0 a.0.1 ok within a.1 in
-      let e = forth a.0.0 in
-      subst (λ (y : W × ℕ). (has_shape is_spelled (parts y.0) ≡ true) × Spans bytes at (shape_spelling spelling (parts y.0)) y.1) (ok_is (made a.0.0, a.0.1) (w, end) a.2)
-      (ap (has_shape is_spelled) e ∙ f.0, subst (λ o. Spans bytes at (shape_spelling spelling o) a.0.1) (sym e) f.1);
-  again = λ bytes at w end good spans. here bytes at w end (parts w) refl good spans;
-  fit = λ w good. fitting (parts w) good;
+      subst (λ (y : W × ℕ). (made_is_spelled y.0 ≡ true) × Spans bytes at (made_spelling y.0) y.1) (ok_is (made a.0.0, a.0.1) (w, end) a.2)
+      (same_spelled a.0.0 ∙ f.0, subst (λ s. Spans bytes at s a.0.1) (sym (same_spelling a.0.0)) f.1);
+  again = λ bytes at w end good spans.
+      let s = shape w good in
+      let spelled = sym (same_spelled s.0) ∙ ap made_is_spelled s.1 ∙ good in
+      let here = subst (λ l. Spans bytes at l end) (sym (ap made_spelling s.1) ∙ same_spelling s.0) spans in
+      ap (λ r. r >>= λ v. Ok (made v.0, v.1)) (form.again bytes at s.0 end spelled here) ∙ ap (λ x. Ok (x, end)) s.1;
+  fit = λ w good.
+      let s = shape w good in
+      ap made_fits (sym s.1) ∙ same_fits s.0 ∙ form.fit s.0 (sym (same_spelled s.0) ∙ ap made_is_spelled s.1 ∙ good);
 }
-  where
-    here : (bytes : List ℕ) (at : ℕ) (w : W) (end : ℕ) (o : Option V) → parts w ≡ o → has_shape is_spelled o ≡ true → Spans bytes at (shape_spelling spelling o) end → mapped_at made reading bytes at ≡ Ok (w, end)
-    here bytes at w end None e good spans = absurd cc
-    here bytes at w end (Some v) e good spans = ap (λ r. r >>= λ x. Ok (made x.0, x.1)) (form.again bytes at v end good spans) ∙ ap (λ x. Ok (x, end)) (back w v e)
 
-    fitting : (o : Option V) → has_shape is_spelled o ≡ true → has_shape fits o ≡ true
-    fitting None good = absurd cc
-    fitting (Some v) good = form.fit v good
+-- values within a test, made of others: parts tells of what
+pub within_form : {V W : Type 0} (made : V → W) (parts : W → V) (test : W → Bool) (fits is_spelled : V → Bool) (spelling : V → List ℕ) (reading : List ℕ → ℕ → Read V)
+    → ((w : W) → test w ≡ true → made (parts w) ≡ w) → ((w : W) → test w ≡ true → is_spelled (parts w) ≡ true) → ((v : V) → is_spelled v ≡ true → parts (made v) ≡ v) → IsForm fits is_spelled spelling reading
+    → IsForm test test (λ w. spelling (parts w)) (checked_at test (mapped_at made reading))
+within_form {V} {W} made parts test fits is_spelled spelling reading back spelled forth form = record {
+  found = λ bytes at w end ok within h.
+      let a = bind_ok (mapped_at made reading bytes at) (λ x. cond (test x.0) (Ok x) (Err (Bad at))) (w, end) h in
+      let g = guard_ok (test a.0.0) (Ok a.0) (Bad at) (w, end) a.2 in
+      let b = bind_ok (reading bytes at) (λ v. Ok (made v.0, v.1)) a.0 a.1 in
+      let f = form.found bytes at b.0.0 b.0.1 ok within b.1 in
+      let e = ok_is (made b.0.0, b.0.1) a.0 b.2 in
+      let here = subst (λ v. Spans bytes at (spelling v) b.0.1) (sym (forth b.0.0 f.0)) f.1 in
+      subst (λ (y : W × ℕ). (test y.0 ≡ true) × Spans bytes at (spelling (parts y.0)) y.1) (ok_is a.0 (w, end) g.1)
+      (g.0, subst (λ (y : W × ℕ). Spans bytes at (spelling (parts y.0)) y.1) e here);
+  again = λ bytes at w end good spans.
+      ap (λ r. (r >>= λ v. Ok (made v.0, v.1)) >>= λ x. cond (test x.0) (Ok x) (Err (Bad at))) (form.again bytes at (parts w) end (spelled w good) spans)
+      ∙ ap (λ x. cond (test x) (Ok (x, end)) (Err (Bad at))) (back w good)
+      ∙ ap (λ b. cond b (Ok (w, end)) (Err (Bad at))) good;
+  fit = λ w good. good;
+}
 
 -- the tag is that of the value's shape
 pub tagged_form : {W : Type 0} (known : ℕ → Bool) (tag : W → ℕ) (fits is_spelled : W → Bool) (spelling : W → List ℕ) (reading : ℕ → List ℕ → ℕ → Read W)
