@@ -1,8 +1,7 @@
 -- The register that keeps the texts of concurrent assigns keeps the law of a kind.
-use Rattle.std.proofs.Common.{◌≡◌, ℕ, Bool, true, false, cond, not, ◌&&◌, ◌||◌, List, [], ◌∷◌, ◌++◌, refl, sym, ap, ◌∙◌, subst, inl, inr, Option, Some, None}
+use Rattle.std.proofs.Common.{◌≡◌, ℕ, Bool, true, false, cond, not, ◌&&◌, List, [], ◌∷◌, ◌++◌, refl, sym, ap, ◌∙◌, subst, inl, inr, Option, Some, None}
 use Rattle.std.specs.Prelude.{filter, map}
-use Rattle.std.specs.List.{list_any}
-use Rattle.std.specs.FinMap.{entries, empty}
+use Rattle.std.specs.FinMap.{empty}
 use Rattle.std.proofs.lemmas.Bool.{true≢false, false≢true, and_parts, and_from, not-true}
 use Rattle.site_vector.specs.declared.ids.Dot.{Dot}
 use Rattle.crdt_core.specs.declared.kind.Kind.{Kind}
@@ -24,9 +23,8 @@ use Rattle.crdt_core.specs.Members.{In, clash, none_of}
 use Rattle.crdt_core.specs.Wins.{lives}
 use Rattle.crdt_core.specs.WinsLaw.{undoes, same_truth, lives_on, stays_lives, stays_if, not_stays, adds_takes, any_by}
 use Rattle.crdt_registers.specs.Meaning.{text_of, remains, mv_meaning}
-use Rattle.crdt_registers.specs.RegisterMv.{mv_has, mv_out, mv_own, mv_step, mv_made_on, mv_made, texts_kept, mv_value, mv_stamp, mv_names}
+use Rattle.crdt_registers.specs.RegisterMv.{mv_has, mv_out, mv_own, mv_step, mv_made_on, mv_made, mv_value, mv_stamp, mv_names}
 use Rattle.crdt_registers.specs.Sorted.{sorted, sorted_same}
-use Rattle.crdt_registers.specs.declared.mv_effect.MvEffect.{MvEffect}
 
 -- no act of a register removes but a reset
 abbrev removes : Act → Bool

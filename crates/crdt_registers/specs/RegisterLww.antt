@@ -1,5 +1,5 @@
 -- The states and effects of the register that the last writer wins.
-use Rattle.std.specs.Prelude.{ℕ, ◌+◌, max, min, Bool, true, false, List, [], Option, Some, None}
+use Rattle.std.specs.Prelude.{ℕ, ◌+◌, max, min, Bool, false, List, Option, Some, None}
 use Rattle.site_vector.specs.declared.ids.Dot.{Dot}
 use Rattle.site_vector.specs.Ids.{same_dot}
 use Rattle.crdt_core.specs.declared.kind.Kind.{Kind}
@@ -25,8 +25,11 @@ abbrev pub above : ℕ → Option Stamped → ℕ
 above now None = now
 above now (Some a) = max (a.stamp + 1) now
 
+abbrev pub lww_made_on : Option Stamped → Act → ℕ → Assigned
+lww_made_on s a now = record { stamp = min last_stamp (above now s); text = text_of a }
+
 abbrev pub lww_made : Kind → Option Stamped → List Field → Act → ℕ → Assigned
-lww_made k s p a now = record { stamp = min last_stamp (above now s); text = text_of a }
+lww_made k s p a now = lww_made_on s a now
 
 abbrev pub lww_stamp : Assigned → Option ℕ
 lww_stamp e = Some e.stamp

@@ -2,7 +2,9 @@
 #![tactic(auto)]
 
 mod assigned;
+mod lww_form;
 mod mv_effect;
+mod mv_form;
 mod register_lww;
 mod register_mv;
 mod texts;

@@ -3,13 +3,16 @@ ghost use Rattle.std.specs.FinMap.{empty};
 ghost use Rattle.crdt_core.specs.Kept.{is_kept};
 ghost use Rattle.crdt_registers.specs.Meaning.{mv_meaning};
 ghost use Rattle.crdt_registers.specs.RegisterMv.{mv_has, mv_step, mv_made, mv_value, mv_stamp, mv_names};
+ghost use Rattle.crdt_registers.specs.EffectForm.{is_of_kind};
+ghost use Rattle.crdt_registers.specs.MvForm.{can_put_mv, is_mv_spelled, mv_spelling, mv_at, mv_spells};
 ghost use Rattle.crdt_registers.specs.MvLaw.{mv_law};
 
 use crate::MvEffect;
 use crate::mv_effect::effect_of;
+use crate::mv_form::MvForm;
 use crate::texts::in_order;
 use crdt_core::{Act, Crdt, Field, GenError, Kept, Kind, Op, Value, fits_at, reads_state};
-use field_codec::Text;
+use field_codec::{Form, TakeError, Text, put_whole};
 use site_vector::Dot;
 use std::alloc::{AllocError, Global};
 
@@ -43,6 +46,18 @@ impl Crdt for RegisterMv {
     ghost holds = { is_kept };
 
     ghost laws = { mv_law };
+
+    ghost is_of = { is_of_kind };
+
+    ghost can_put = { can_put_mv };
+
+    ghost is_spelled = { is_mv_spelled };
+
+    ghost spelling = { mv_spelling };
+
+    ghost reading = { λ k. mv_at };
+
+    ghost spells = { mv_spells mv_has };
 
     fn has(kind: Kind) -> bool {
         kind == Kind::RegisterMv
@@ -102,5 +117,18 @@ impl Crdt for RegisterMv {
 
     fn value(alloc: Global, state: &Kept<Text>) -> Result<Value, AllocError> {
         Ok(Value::Words(in_order(alloc, state)?))
+    }
+
+    fn put_effect(out: &mut Vec<u8>, effect: &MvEffect) -> Result<(), AllocError> {
+        put_whole(&MvForm, out, effect)
+    }
+
+    fn take_effect(
+        alloc: Global,
+        kind: Kind,
+        bytes: &[u8],
+        at: usize,
+    ) -> Result<(MvEffect, usize), TakeError> {
+        MvForm.take(alloc, bytes, at)
     }
 }
