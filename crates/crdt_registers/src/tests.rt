@@ -1,6 +1,6 @@
 use super::*;
-use crdt_core::{Act, Crdt, Kept, Kind, Value};
-use field_codec::Text;
+use crdt_core::{Act, Crdt, Dots, Kept, Kind, Value};
+use field_codec::{TakeError, Text};
 use site_vector::{Dot, TxId};
 use std::alloc::Global;
 use std::test::*;
@@ -117,4 +117,35 @@ fn seen_texts_go(rt: HostRuntime) -> Result<(), Fail> {
     RegisterMv::apply(alloc, &mut state, dot(5), &reset)?;
     assert_eq!(rt; shown(alloc, &state)?.as_str(), "");
     Ok(())
+}
+
+#[test]
+fn effects_as_bytes(rt: HostRuntime) -> Result<(), Fail> {
+    let alloc = rt.alloc();
+    let text = Text::of(alloc, "red")?.ok_or("a short text")?;
+    let last = Assigned { stamp: 7, text };
+    let mut out = Vec::new(alloc);
+    RegisterLww::put_effect(&mut out, &last)?;
+    assert_eq!(rt; out.as_slice(), b"\0\0\0\0\0\0\0\x07\0\x03red".as_slice());
+    let taken = RegisterLww::take_effect(alloc, Kind::RegisterLww, &out, 0);
+    let (taken, end) = taken.ok().ok_or("an assign")?;
+    assert_eq!(rt; (taken.stamp, end), (7, 13));
+    let text = Text::of(alloc, "red")?.ok_or("a short text")?;
+    let dots = Dots::new(alloc);
+    let mut out = Vec::new(alloc);
+    RegisterMv::put_effect(&mut out, &MvEffect::Assign { text, dots })?;
+    assert_eq!(rt; out.as_slice(), b"\0\0\x03red\0\0\0\0".as_slice());
+    let taken = RegisterMv::take_effect(alloc, Kind::RegisterMv, &out, 0);
+    let (_, end) = taken.ok().ok_or("an assign")?;
+    assert_eq!(rt; end, 10);
+    Ok(())
+}
+
+#[test]
+fn refused_bytes(rt: HostRuntime) {
+    let alloc = rt.alloc();
+    let late = RegisterLww::take_effect(alloc, Kind::RegisterLww, b"\x80\0\0\0\0\0\0\0", 0);
+    assert!(rt; matches!(late, Err(TakeError::Bad { at: 0 })));
+    let neither = RegisterMv::take_effect(alloc, Kind::RegisterMv, b"\x01", 0);
+    assert!(rt; matches!(neither, Err(TakeError::Bad { at: 0 })));
 }
