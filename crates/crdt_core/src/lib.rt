@@ -25,7 +25,7 @@ pub use crdt::Crdt;
 pub use dot_forms::{DotForm, put_dots, take_dots};
 pub use dots::Dots;
 pub use error::GenError;
-pub use form_laws::law_forms;
+pub use form_laws::{law_effects, law_forms};
 pub use forms::{put_dot, put_kind, put_tx, take_dot, take_kind, take_small, take_tx};
 pub use kept::Kept;
 pub use kind::Kind;

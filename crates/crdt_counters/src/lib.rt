@@ -5,11 +5,13 @@ mod amount_form;
 mod amounts;
 mod counter_fat;
 mod counter_pn;
+mod exact;
 mod fat_form;
 
 pub use amounts::amount_of;
 pub use counter_fat::{CounterFat, FatEffect};
 pub use counter_pn::CounterPn;
+pub use exact::law_exact_sums;
 
 #[cfg(test)]
 mod tests;
