@@ -4,13 +4,13 @@ use Rattle.std.proofs.Common.{arith}
 use Rattle.field_codec.specs.Spelling.{number, text, is_text}
 use Rattle.field_codec.specs.Reading.{Read, text_at, then_at, mapped_at}
 use Rattle.field_codec.specs.Lawful.{IsForm}
-use Rattle.field_codec.specs.FormLaws.{width8, then_form, mapped_form, both_true}
+use Rattle.field_codec.specs.FormLaws.{any_text_form, width8, then_form, mapped_form, both_true}
 use Rattle.crdt_core.specs.declared.kind.Kind.{Kind}
 use Rattle.crdt_core.specs.Spelled.{is_between, between_at}
 use Rattle.crdt_core.specs.SpelledLaws.{between_form}
 use Rattle.crdt_core.specs.EffectForm.{SpellsEffects}
 use Rattle.crdt_core.specs.Stamps.{last_stamp}
-use Rattle.crdt_registers.specs.EffectForm.{is_of_kind, text_held_form}
+use Rattle.crdt_registers.specs.EffectForm.{is_of_kind}
 use Rattle.crdt_registers.specs.declared.assigned.Assigned.{Assigned}
 
 abbrev pub can_put_lww : Assigned → Bool
@@ -32,7 +32,7 @@ pub lww_form : IsForm can_put_lww is_lww_spelled lww_spelling lww_at
 unfolding lww_at
 lww_form =
     let stamps = is_between 0 last_stamp in
-    let whole = then_form stamps stamps (number 8) (between_at 8 0 last_stamp) (λ _ _. true) (λ _. is_text) (λ _. text) (λ _. text_at) (between_form 8 0 last_stamp width8 (omega arith)) (λ _ _. text_held_form) in
+    let whole = then_form stamps stamps (number 8) (between_at 8 0 last_stamp) (λ _ _. true) (λ _. is_text) (λ _. text) (λ _. text_at) (between_form 8 0 last_stamp width8 (omega arith)) (λ _ _. any_text_form) in
     let law = mapped_form assigned_of (λ e. (e.stamp, e.text)) _ _ _ _ (λ _. refl) (λ _ _. refl) whole in
     record { found = law.found; again = law.again; fit = λ e good. (both_true (stamps e.stamp) (is_text e.text) good).0 }
 

@@ -6,14 +6,14 @@ use Rattle.std.proofs.lemmas.Bool.{false≢true, eqb-true, or_cases}
 use Rattle.field_codec.specs.Spelling.{number, is_number, text, is_text}
 use Rattle.field_codec.specs.Reading.{Read, text_at, then_at, mapped_at}
 use Rattle.field_codec.specs.Lawful.{IsForm}
-use Rattle.field_codec.specs.FormLaws.{then_form}
+use Rattle.field_codec.specs.FormLaws.{any_text_form, then_form}
 use Rattle.field_codec.specs.Tagged.{tagged_at, tagged_form, shape_form}
 use Rattle.site_vector.specs.declared.ids.Dot.{Dot}
 use Rattle.crdt_core.specs.declared.kind.Kind.{Kind}
 use Rattle.crdt_core.specs.Spelled.{are_dots, is_dots, dots, dots_at}
 use Rattle.crdt_core.specs.SpelledLaws.{dots_held_form}
 use Rattle.crdt_core.specs.EffectForm.{SpellsEffects}
-use Rattle.crdt_registers.specs.EffectForm.{is_of_kind, text_held_form}
+use Rattle.crdt_registers.specs.EffectForm.{is_of_kind}
 use Rattle.crdt_registers.specs.RegisterMv.{mv_out}
 use Rattle.crdt_registers.specs.declared.mv_effect.MvEffect.{MvEffect}
 use Rattle.crdt_registers.specs.declared.mv_effect.MvEffect.TheVariants.{Assign, Reset}
@@ -61,7 +61,7 @@ HasForm n = IsForm (λ e. eqb (mv_mark e) n && can_put_mv e) (λ e. eqb (mv_mark
 
 assign_form : HasForm 0
 assign_form =
-    let whole = then_form (λ _. true) is_text text text_at (λ _. are_dots) (λ _. is_dots) (λ _. dots) (λ _. dots_at) text_held_form (λ _ _. dots_held_form) in
+    let whole = then_form (λ _. true) is_text text text_at (λ _. are_dots) (λ _. is_dots) (λ _. dots) (λ _. dots_at) any_text_form (λ _ _. dots_held_form) in
     shape_form assign_of (λ p. are_dots p.1) (λ p. is_text p.0 && is_dots p.1) (λ p. text p.0 ++ dots p.1) (then_at text_at (λ _. dots_at)) _ _ _ (λ p. refl) (λ p. refl) (λ p. refl) assign_shape whole
 
 reset_form : HasForm 2

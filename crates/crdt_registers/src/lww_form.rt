@@ -4,8 +4,7 @@ ghost use Rattle.crdt_registers.specs.LwwForm.{can_put_lww, is_lww_spelled, lww_
 
 use crate::Assigned;
 use crate::register_lww::LAST_STAMP;
-use crate::texts::put_word;
-use field_codec::{Form, TakeError, put_u64, take_text, take_u64};
+use field_codec::{Form, TakeError, put_text, put_u64, take_text, take_u64};
 use std::alloc::{AllocError, Global};
 
 /// The form of assigns to the register that the last writer wins.
@@ -27,7 +26,7 @@ impl Form for LwwForm {
 
     fn put(&self, out: &mut Vec<u8>, value: &Assigned) -> Result<(), AllocError> {
         put_u64(out, value.stamp)?;
-        put_word(out, &value.text)
+        put_text(out, &value.text)
     }
 
     fn take(&self, alloc: Global, bytes: &[u8], at: usize) -> Result<(Assigned, usize), TakeError> {

@@ -5,9 +5,8 @@ ghost use Rattle.crdt_core.specs.Spelled.{are_dots, is_dots, dots as dots_spelli
 ghost use Rattle.crdt_registers.specs.MvForm.{can_put_mv, is_mv_spelled, mv_spelling, mv_rest_at, mv_at, mv_form};
 
 use crate::MvEffect;
-use crate::texts::put_word;
 use crdt_core::{Dots, put_dots, take_dots};
-use field_codec::{Form, TakeError, Text, put_u8, take_text, take_u8};
+use field_codec::{Form, TakeError, Text, put_text, put_u8, take_text, take_u8};
 use std::alloc::{AllocError, Global};
 
 /// The first byte of an assign.
@@ -59,7 +58,7 @@ fn put_assign(out: &mut Vec<u8>, text: &Text, dots: &Dots) -> Result<(), AllocEr
     ensures err { OnErr result (Keeps out.old.items out.new.items) }
 {
     put_u8(out, ASSIGN)?;
-    put_word(out, text)?;
+    put_text(out, text)?;
     put_dots(out, dots)
 }
 

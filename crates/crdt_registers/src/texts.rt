@@ -1,10 +1,9 @@
-ghost use Rattle.std.specs.Prelude.{◌≡◌, ◌++◌, true, OnOk, OnErr, IfOk};
-ghost use Rattle.field_codec.specs.Spelling.{text as text_spelling, is_text};
+ghost use Rattle.std.specs.Prelude.{◌≡◌, IfOk};
 ghost use Rattle.crdt_registers.specs.RegisterMv.{texts_kept};
 ghost use Rattle.crdt_registers.specs.Sorted.{sorted};
 
 use crdt_core::Kept;
-use field_codec::{ListOf, Text, put_text};
+use field_codec::{ListOf, Text};
 use std::alloc::{AllocError, Global};
 
 /// The texts that are kept, in the order of their bytes, equal ones kept.
@@ -39,25 +38,4 @@ fn list_of(alloc: Global, texts: Vec<Text>) -> Result<ListOf<Text>, AllocError>
         list.push(text)?;
     }
     Ok(list)
-}
-
-/// Appends the bytes of a text, each of which has a spelling.
-///
-/// # Errors
-///
-/// `AllocError` where memory runs out. `out` is as before then.
-pub fn put_word(out: &mut Vec<u8>, text: &Text) -> Result<(), AllocError>
-    ensures spelled { OnOk result (is_text text.now ≡ true) }
-    ensures ok { OnOk result (out.new.items ≡ out.old.items ++ text_spelling text.now) }
-    ensures err { OnErr result (out.new.items ≡ out.old.items) }
-{
-    law_text(text);
-    put_text(out, text)
-}
-
-/// Each text has a spelling.
-fn law_text(text: &Text)
-    ensures { is_text text.now ≡ true }
-{
-    let _word = text.as_str();
 }
