@@ -1,3 +1,4 @@
+pub mod EffectForm
 pub mod FieldFold
 pub mod FieldHistory
 pub mod FieldStamps

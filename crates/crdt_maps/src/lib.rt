@@ -3,6 +3,8 @@
 
 mod copies;
 mod effect;
+mod effect_form;
+mod entry_form;
 mod fields;
 mod made;
 mod map_go;

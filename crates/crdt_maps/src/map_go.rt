@@ -2,13 +2,16 @@ ghost use Rattle.std.specs.Prelude.{◌≡◌, IfOk};
 ghost use Rattle.std.specs.FinMap.{empty};
 ghost use Rattle.crdt_maps.specs.Maps.{go_has, map_step, map_made, map_stamp, map_too_deep, map_names, map_holds, go_value, go_blank};
 ghost use Rattle.crdt_maps.specs.Meaning.{go_meaning};
+ghost use Rattle.crdt_maps.specs.EffectForm.{is_of_map, go_can_put, go_is_spelled, go_spelling, go_at, go_spells};
 ghost use Rattle.crdt_maps.specs.MapLaws.{go_law, go_in_maps};
 
+use crate::effect_form::GoForm;
 use crate::made::{effect_of, leads_too_deep};
 use crate::steps::apply_effect;
 use crate::values::members;
 use crate::{Fields, MapEffect, copies};
 use crdt_core::{Act, Crdt, Field, GenError, Kind, Op, Value, fits_at, reads_state};
+use field_codec::{Form, TakeError, put_whole};
 use site_vector::Dot;
 use std::alloc::{AllocError, Global};
 use std::marker::PhantomData;
@@ -44,6 +47,18 @@ impl<I: Crdt> Crdt for MapGo<I> {
     ghost holds = { map_holds I.holds };
 
     ghost laws = { go_law I.laws I.in_maps };
+
+    ghost is_of = { is_of_map };
+
+    ghost can_put = { go_can_put I.has I.is_of I.can_put };
+
+    ghost is_spelled = { go_is_spelled I.has I.is_of I.is_spelled };
+
+    ghost spelling = { go_spelling I.spelling };
+
+    ghost reading = { λ k. go_at I.has I.reading };
+
+    ghost spells = { go_spells I.spells go_has };
 
     ghost is_blank = { go_blank };
 
@@ -115,5 +130,20 @@ impl<I: Crdt> Crdt for MapGo<I> {
 
     fn value(alloc: Global, state: &Fields<I::State>) -> Result<Value, AllocError> {
         Ok(Value::Fields(members::<I>(alloc, state)?))
+    }
+
+    fn put_effect(out: &mut Vec<u8>, effect: &MapEffect<I::Effect>) -> Result<(), AllocError> {
+        let form: GoForm<I> = GoForm { inner: PhantomData };
+        put_whole(&form, out, effect)
+    }
+
+    fn take_effect(
+        alloc: Global,
+        kind: Kind,
+        bytes: &[u8],
+        at: usize,
+    ) -> Result<(MapEffect<I::Effect>, usize), TakeError> {
+        let form: GoForm<I> = GoForm { inner: PhantomData };
+        form.take(alloc, bytes, at)
     }
 }

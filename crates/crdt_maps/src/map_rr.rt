@@ -2,13 +2,16 @@ ghost use Rattle.std.specs.Prelude.{◌≡◌, IfOk};
 ghost use Rattle.std.specs.FinMap.{empty};
 ghost use Rattle.crdt_maps.specs.Maps.{rr_has, map_step, map_made, map_stamp, map_too_deep, map_names, map_holds, rr_value, rr_blank};
 ghost use Rattle.crdt_maps.specs.Meaning.{rr_meaning};
+ghost use Rattle.crdt_maps.specs.EffectForm.{is_of_map, rr_can_put, rr_is_spelled, rr_spelling, rr_at, rr_spells};
 ghost use Rattle.crdt_maps.specs.MapLaws.{rr_law, rr_in_maps};
 
+use crate::effect_form::RrForm;
 use crate::made::{effect_of, leads_too_deep};
 use crate::steps::apply_effect;
 use crate::values::{all_blank, shown};
 use crate::{Fields, MapEffect, copies};
 use crdt_core::{Act, Crdt, Field, GenError, Kind, Op, Value, fits_at, reads_state};
+use field_codec::{Form, TakeError, put_whole};
 use site_vector::Dot;
 use std::alloc::{AllocError, Global};
 use std::marker::PhantomData;
@@ -44,6 +47,18 @@ impl<I: Crdt> Crdt for MapRr<I> {
     ghost holds = { map_holds I.holds };
 
     ghost laws = { rr_law I.laws I.in_maps };
+
+    ghost is_of = { is_of_map };
+
+    ghost can_put = { rr_can_put I.has I.is_of I.can_put I.spelling };
+
+    ghost is_spelled = { rr_is_spelled I.has I.is_of I.is_spelled I.spelling };
+
+    ghost spelling = { rr_spelling I.spelling };
+
+    ghost reading = { λ k. rr_at I.has I.reading };
+
+    ghost spells = { rr_spells I.spells rr_has };
 
     ghost is_blank = { rr_blank I.is_blank };
 
@@ -115,5 +130,20 @@ impl<I: Crdt> Crdt for MapRr<I> {
 
     fn value(alloc: Global, state: &Fields<I::State>) -> Result<Value, AllocError> {
         Ok(Value::Fields(shown::<I>(alloc, state)?))
+    }
+
+    fn put_effect(out: &mut Vec<u8>, effect: &MapEffect<I::Effect>) -> Result<(), AllocError> {
+        let form: RrForm<I> = RrForm { inner: PhantomData };
+        put_whole(&form, out, effect)
+    }
+
+    fn take_effect(
+        alloc: Global,
+        kind: Kind,
+        bytes: &[u8],
+        at: usize,
+    ) -> Result<(MapEffect<I::Effect>, usize), TakeError> {
+        let form: RrForm<I> = RrForm { inner: PhantomData };
+        form.take(alloc, bytes, at)
     }
 }
