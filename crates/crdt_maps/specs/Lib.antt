@@ -9,3 +9,4 @@ pub mod Maps
 pub mod Meaning
 pub mod Picked
 pub mod Presence
+pub mod Ready

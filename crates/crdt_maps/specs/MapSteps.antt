@@ -43,7 +43,7 @@ module _ {K X : Type 0} (R : K → K → Ordering) (t : X → Bool) where
     | Greater ↦ λ h. ⊎_elim (λ here. or_right (t v) _ (or_left (t e.1) _ here)) (λ there. deep_left (t e.1) (t v) (some_of es) (put_some k v es there)) (or_cases (t e.1) _ h)
   ] h
 
-  some_found : (q : K) (v : X) (es : List (K × X)) → find R q es ≡ Some v → t v ≡ true → some_of es ≡ true
+  pub some_found : (q : K) (v : X) (es : List (K × X)) → find R q es ≡ Some v → t v ≡ true → some_of es ≡ true
   some_found q v [] h k = absurd (true≢false (sym (ap is_some h)))
   some_found q v (e ∷ es) h k = elim (eq_by_cmp R q e.0) as (λ b. cond b (Some e.1) (find R q es) ≡ Some v → (t e.1 || some_of es) ≡ true) [
     | true ↦ λ h. or_left (t e.1) _ (ap t (ap (λ o. unwrap_or o v) h) ∙ k)
@@ -125,7 +125,7 @@ module _ {S E : Type 0} {has : Kind → Bool} {too_deep : Kind → List Field �
       all_past xs ys (one m d x.0 x.1) d e apart two.1 ny ∙ ap (λ w. each w d xs) (one_past ys m d e x.0 x.1 apart two.0 ny)
 
   -- what stands at a field holds no dot that the map doesn't hold
-  held_here : (m : FieldMap S) (f : Field) (d : Dot) → has f.kind ≡ true → holds (here m f) d ≡ true → map_holds holds m d ≡ true
+  pub held_here : (m : FieldMap S) (f : Field) (d : Dot) → has f.kind ≡ true → holds (here m f) d ≡ true → map_holds holds m d ≡ true
   held_here m f d known h =
       let w = by_option (λ s. holds s d) (get m f) (initial f.kind) h ((inner.steps f.kind known).none_held d) in
       some_found field_cmp (λ s. holds s d) f w.0 (entries m) (sym (get-entries m f) ∙ w.1) w.2

@@ -1,11 +1,13 @@
 ghost use Rattle.std.specs.Prelude.{◌≡◌, ◌≤◌, ◌++◌, true, length, OnOk, OnErr, IfOk};
-ghost use Rattle.field_codec.specs.Reading.{Gives};
-ghost use Rattle.crdt_maps.specs.EffectForm.{go_can_put, go_is_spelled, go_spelling, go_at, go_form, rr_can_put, rr_is_spelled, rr_spelling, rr_at, rr_form};
+ghost use Rattle.field_codec.specs.Spelling.{number, list, are_members, is_list, Keeps};
+ghost use Rattle.field_codec.specs.Reading.{Gives, list_at};
+ghost use Rattle.crdt_core.specs.declared.kind.Kind.TheVariants.{MapRr};
+ghost use Rattle.crdt_maps.specs.EffectForm.{may_stand, entry, entry_below, can_put_reset, is_reset_spelled, reset_at, go_can_put, go_is_spelled, go_spelling, go_at, go_form, rr_can_put, rr_is_spelled, rr_spelling, rr_at, rr_form};
 
 use crate::MapEffect;
 use crate::entry_form::{ResetForm, put_entry, take_entry};
-use crdt_core::{Crdt, Kind, take_small};
-use field_codec::{Form, TakeError, put_list, put_u8, take_list};
+use crdt_core::{Crdt, Field, Kind, take_small};
+use field_codec::{Form, ListOf, TakeError, put_list, put_u8, take_list};
 use std::alloc::{AllocError, Global};
 use std::marker::PhantomData;
 
@@ -101,11 +103,7 @@ impl<I: Crdt> Form for RrForm<I> {
                 put_u8(out, AT)?;
                 put_entry::<I>(out, field, effect)
             }
-            MapEffect::Resets(resets) => {
-                put_u8(out, RESETS)?;
-                let form: ResetForm<I> = ResetForm { inner: PhantomData };
-                put_list(&form, out, resets.as_slice())
-            }
+            MapEffect::Resets(resets) => put_resets::<I>(out, resets.as_slice()),
         }
     }
 
@@ -125,6 +123,30 @@ impl<I: Crdt> Form for RrForm<I> {
     ghost laws = { λ _. rr_form I.spells };
 }
 
+fn put_resets<I: Crdt>(out: &mut Vec<u8>, resets: &[(Field, I::Effect)]) -> Result<(), AllocError>
+    requires { are_members entry_below (can_put_reset (may_stand MapRr I.has) I.is_of I.can_put I.spelling) resets.now ≡ true }
+    ensures spelled { OnOk result (is_list entry_below (is_reset_spelled (may_stand MapRr I.has) I.is_of I.is_spelled I.spelling) resets.now ≡ true) }
+    ensures ok { OnOk result (out.new.items ≡ out.old.items ++ (number 1 1 ++ list (entry I.spelling) resets.now)) }
+    ensures err { OnErr result (Keeps out.old.items out.new.items) }
+{
+    put_u8(out, RESETS)?;
+    let form: ResetForm<I> = ResetForm { inner: PhantomData };
+    put_list(&form, out, resets)
+}
+
+fn take_resets<I: Crdt>(
+    alloc: Global,
+    bytes: &[u8],
+    at: usize,
+) -> Result<(ListOf<(Field, I::Effect)>, usize), TakeError>
+    requires { at ≤ length bytes.now }
+    ensures answer { Gives result (list_at entry_below (reset_at (may_stand MapRr I.has) I.reading) bytes.now at) }
+    ensures within { IfOk result (λ x. x.1 ≤ length bytes.now) }
+{
+    let form: ResetForm<I> = ResetForm { inner: PhantomData };
+    take_list(&form, alloc, bytes, at)
+}
+
 #[tactic(auto, unfolding(crate::specs::EffectForm::rr_at, crate::specs::EffectForm::rr_rest_at))]
 fn take_rr<I: Crdt>(
     alloc: Global,
@@ -141,7 +163,6 @@ fn take_rr<I: Crdt>(
         let (field, effect) = entry;
         return Ok((MapEffect::At(field, effect), end));
     }
-    let form: ResetForm<I> = ResetForm { inner: PhantomData };
-    let (resets, end) = take_list(&form, alloc, bytes, rest_at)?;
+    let (resets, end) = take_resets::<I>(alloc, bytes, rest_at)?;
     Ok((MapEffect::Resets(resets), end))
 }

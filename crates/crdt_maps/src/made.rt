@@ -1,7 +1,10 @@
-ghost use Rattle.std.specs.Prelude.{◌≡◌, ◌++◌, [], ◌∷◌, false, OnOk, IfOk, IsTrue};
+ghost use Rattle.std.specs.Prelude.{◌≡◌, ◌++◌, [], ◌∷◌, true, false, OnOk, IfOk, IsTrue};
 ghost use Rattle.std.specs.FinMap as map;
 ghost use Rattle.crdt_core.specs.declared.operation.Act.TheVariants.{Reset};
-ghost use Rattle.crdt_maps.specs.Maps.{at, is_undone, resets_of, reset_by, map_made, map_too_deep};
+ghost use Rattle.std.specs.List.{list_all};
+ghost use Rattle.crdt_core.specs.EffectForm.{HoldsSpelled, IsReady};
+ghost use Rattle.crdt_maps.specs.Ready.{can_put_at, is_reset_ready, parts_ready};
+ghost use Rattle.crdt_maps.specs.Maps.{at, is_undone, resets_of, reset_by, map_made, map_too_deep, map_holds};
 
 use crate::{Fields, MapEffect};
 use crdt_core::{Act, Crdt, Field, GenError, Kind, stands_in};
@@ -32,7 +35,8 @@ pub fn effect_of<I: Crdt>(
     now: u64,
 ) -> Result<MapEffect<I::Effect>, AllocError>
     requires { map_too_deep I.has I.too_deep kind path.now ≡ false }
-    ensures { IfOk result (λ e. e ≡ map_made I.has I.initial I.made I.is_blank kind fields.now path.now act.now now) }
+    ensures made { IfOk result (λ e. e ≡ map_made I.has I.initial I.made I.is_blank kind fields.now path.now act.now now) }
+    ensures ready { HoldsSpelled (map_holds I.holds) fields.now → IfOk result (λ e. parts_ready I.is_of I.can_put I.spelling e ≡ true) }
 {
     match path.split_first() {
         Some((field, rest)) => {
@@ -50,7 +54,8 @@ fn own_effect<I: Crdt>(
     fields: &Fields<I::State>,
     now: u64,
 ) -> Result<ListOf<(Field, I::Effect)>, AllocError>
-    ensures { IfOk result (λ l. l ≡ resets_of I.has I.made I.is_blank now (reset_by I.initial fields.now act.now)) }
+    ensures made { IfOk result (λ l. l ≡ resets_of I.has I.made I.is_blank now (reset_by I.initial fields.now act.now)) }
+    ensures ready { HoldsSpelled (map_holds I.holds) fields.now → IfOk result (λ l. list_all (is_reset_ready I.is_of I.can_put I.spelling) l ≡ true) }
 {
     match act {
         Act::Reset => reset_all::<I>(alloc, fields, now),
@@ -64,7 +69,8 @@ fn reset_all<I: Crdt>(
     fields: &Fields<I::State>,
     now: u64,
 ) -> Result<ListOf<(Field, I::Effect)>, AllocError>
-    ensures { IfOk result (λ l. l ≡ resets_of I.has I.made I.is_blank now (map.entries fields.now)) }
+    ensures made { IfOk result (λ l. l ≡ resets_of I.has I.made I.is_blank now (map.entries fields.now)) }
+    ensures ready { HoldsSpelled (map_holds I.holds) fields.now → IfOk result (λ l. list_all (is_reset_ready I.is_of I.can_put I.spelling) l ≡ true) }
 {
     let mut resets = ListOf::new(alloc);
     for (field, state) in fields.iter() {
@@ -79,12 +85,14 @@ fn reset_one<I: Crdt>(
     field: &Field,
     now: u64,
 ) -> Result<ListOf<(Field, I::Effect)>, AllocError>
-    ensures { IfOk result (λ l. l ≡ resets_of I.has I.made I.is_blank now ((field.now, at I.initial fields.now field.now) ∷ [])) }
+    ensures made { IfOk result (λ l. l ≡ resets_of I.has I.made I.is_blank now ((field.now, at I.initial fields.now field.now) ∷ [])) }
+    ensures ready { HoldsSpelled (map_holds I.holds) fields.now → IfOk result (λ l. list_all (is_reset_ready I.is_of I.can_put I.spelling) l ≡ true) }
 {
     let mut resets = ListOf::new(alloc);
-    if let Some(state) = fields.get(field) {
-        push_reset::<I>(alloc, &mut resets, field, state, now)?;
-    }
+    let Some(state) = fields.get(field) else {
+        return Ok(resets);
+    };
+    push_reset::<I>(alloc, &mut resets, field, state, now)?;
     Ok(resets)
 }
 
@@ -96,7 +104,8 @@ fn push_reset<I: Crdt>(
     state: &I::State,
     now: u64,
 ) -> Result<(), AllocError>
-    ensures { OnOk result (resets.new ≡ resets.old ++ resets_of I.has I.made I.is_blank now ((field.now, state.now) ∷ [])) }
+    ensures made { OnOk result (resets.new ≡ resets.old ++ resets_of I.has I.made I.is_blank now ((field.now, state.now) ∷ [])) }
+    ensures ready { HoldsSpelled I.holds state.now → list_all (is_reset_ready I.is_of I.can_put I.spelling) resets.old ≡ true → OnOk result (list_all (is_reset_ready I.is_of I.can_put I.spelling) resets.new ≡ true) }
 {
     if !is_undone::<I>(field, state) {
         return Ok(());
@@ -124,7 +133,8 @@ fn field_effect<I: Crdt>(
     now: u64,
 ) -> Result<I::Effect, AllocError>
     requires { IsTrue (I.has field.now.kind) }
-    ensures { IfOk result (λ e. e ≡ I.made field.now.kind (at I.initial fields.now field.now) path.now act.now now) }
+    ensures made { IfOk result (λ e. e ≡ I.made field.now.kind (at I.initial fields.now field.now) path.now act.now now) }
+    ensures ready { HoldsSpelled (map_holds I.holds) fields.now → IfOk result (λ e. can_put_at I.is_of I.can_put field.now.kind e ≡ true) }
 {
     match fields.get(field) {
         Some(state) => generated::<I>(alloc, field.kind, path, act, state, now),
@@ -145,7 +155,8 @@ fn generated<I: Crdt>(
     now: u64,
 ) -> Result<I::Effect, AllocError>
     requires { IsTrue (I.has kind) }
-    ensures { IfOk result (λ e. e ≡ I.made kind state.now path.now act.now now) }
+    ensures made { IfOk result (λ e. e ≡ I.made kind state.now path.now act.now now) }
+    ensures ready { HoldsSpelled I.holds state.now → IfOk result (λ e. IsReady I.is_of I.can_put I.spelling kind path.now act.now e) }
 {
     match I::generate(alloc, kind, path, act, state, now) {
         Ok(effect) => Ok(effect),
