@@ -121,7 +121,7 @@ module _ {S E : Type 0} {has : Kind → Bool} {too_deep : Kind → List Field �
   counter_pn_unnamed (effect.CounterPn e) d h = h
   counter_pn_unnamed _ d h = refl
 
-  counter_pn_holds : (s : LayerState S) (d : Dot) → holds_none (unwrap_or (counter_pn_state s) (pos 0)) d ≡ true → layer_holds holds s d ≡ true
+  pub counter_pn_holds : (s : LayerState S) (d : Dot) → holds_none (unwrap_or (counter_pn_state s) (pos 0)) d ≡ true → layer_holds holds s d ≡ true
   counter_pn_holds (state.CounterPn s) d h = h
   counter_pn_holds _ d h = absurd (true≢false (sym h ∙ (pn_law.steps kinds.CounterPn refl).none_held d))
 
@@ -129,7 +129,7 @@ module _ {S E : Type 0} {has : Kind → Bool} {too_deep : Kind → List Field �
   counter_fat_unnamed (effect.CounterFat e) d h = h
   counter_fat_unnamed _ d h = refl
 
-  counter_fat_holds : (s : LayerState S) (d : Dot) → is_kept (unwrap_or (counter_fat_state s) empty) d ≡ true → layer_holds holds s d ≡ true
+  pub counter_fat_holds : (s : LayerState S) (d : Dot) → is_kept (unwrap_or (counter_fat_state s) empty) d ≡ true → layer_holds holds s d ≡ true
   counter_fat_holds (state.CounterFat s) d h = h
   counter_fat_holds _ d h = absurd (true≢false (sym h ∙ (fat_law.steps kinds.CounterFat refl).none_held d))
 
@@ -137,7 +137,7 @@ module _ {S E : Type 0} {has : Kind → Bool} {too_deep : Kind → List Field �
   set_go_unnamed (effect.SetGo e) d h = h
   set_go_unnamed _ d h = refl
 
-  set_go_holds : (s : LayerState S) (d : Dot) → set.go_holds (unwrap_or (set_go_state s) empty) d ≡ true → layer_holds holds s d ≡ true
+  pub set_go_holds : (s : LayerState S) (d : Dot) → set.go_holds (unwrap_or (set_go_state s) empty) d ≡ true → layer_holds holds s d ≡ true
   set_go_holds (state.SetGo s) d h = h
   set_go_holds _ d h = absurd (true≢false (sym h ∙ (set_go_law.steps kinds.SetGo refl).none_held d))
 
@@ -145,7 +145,7 @@ module _ {S E : Type 0} {has : Kind → Bool} {too_deep : Kind → List Field �
   set_aw_unnamed (effect.SetAw e) d h = h
   set_aw_unnamed _ d h = refl
 
-  set_aw_holds : (s : LayerState S) (d : Dot) → keeps_dot (unwrap_or (set_aw_state s) empty) d ≡ true → layer_holds holds s d ≡ true
+  pub set_aw_holds : (s : LayerState S) (d : Dot) → keeps_dot (unwrap_or (set_aw_state s) empty) d ≡ true → layer_holds holds s d ≡ true
   set_aw_holds (state.SetAw s) d h = h
   set_aw_holds _ d h = absurd (true≢false (sym h ∙ (aw_law.steps kinds.SetAw refl).none_held d))
 
@@ -153,7 +153,7 @@ module _ {S E : Type 0} {has : Kind → Bool} {too_deep : Kind → List Field �
   set_rw_unnamed (effect.SetRw e) d h = h
   set_rw_unnamed _ d h = refl
 
-  set_rw_holds : (s : LayerState S) (d : Dot) → keeps_dot (unwrap_or (set_rw_state s) empty) d ≡ true → layer_holds holds s d ≡ true
+  pub set_rw_holds : (s : LayerState S) (d : Dot) → keeps_dot (unwrap_or (set_rw_state s) empty) d ≡ true → layer_holds holds s d ≡ true
   set_rw_holds (state.SetRw s) d h = h
   set_rw_holds _ d h = absurd (true≢false (sym h ∙ (rw_law.steps kinds.SetRw refl).none_held d))
 
@@ -161,7 +161,7 @@ module _ {S E : Type 0} {has : Kind → Bool} {too_deep : Kind → List Field �
   flag_ew_unnamed (effect.FlagEw e) d h = h
   flag_ew_unnamed _ d h = refl
 
-  flag_ew_holds : (s : LayerState S) (d : Dot) → is_kept (unwrap_or (flag_ew_state s) empty) d ≡ true → layer_holds holds s d ≡ true
+  pub flag_ew_holds : (s : LayerState S) (d : Dot) → is_kept (unwrap_or (flag_ew_state s) empty) d ≡ true → layer_holds holds s d ≡ true
   flag_ew_holds (state.FlagEw s) d h = h
   flag_ew_holds _ d h = absurd (true≢false (sym h ∙ (ew_law.steps kinds.FlagEw refl).none_held d))
 
@@ -169,7 +169,7 @@ module _ {S E : Type 0} {has : Kind → Bool} {too_deep : Kind → List Field �
   flag_dw_unnamed (effect.FlagDw e) d h = h
   flag_dw_unnamed _ d h = refl
 
-  flag_dw_holds : (s : LayerState S) (d : Dot) → is_kept (unwrap_or (flag_dw_state s) empty) d ≡ true → layer_holds holds s d ≡ true
+  pub flag_dw_holds : (s : LayerState S) (d : Dot) → is_kept (unwrap_or (flag_dw_state s) empty) d ≡ true → layer_holds holds s d ≡ true
   flag_dw_holds (state.FlagDw s) d h = h
   flag_dw_holds _ d h = absurd (true≢false (sym h ∙ (dw_law.steps kinds.FlagDw refl).none_held d))
 
@@ -177,7 +177,7 @@ module _ {S E : Type 0} {has : Kind → Bool} {too_deep : Kind → List Field �
   register_lww_unnamed (effect.RegisterLww e) d h = h
   register_lww_unnamed _ d h = refl
 
-  register_lww_holds : (s : LayerState S) (d : Dot) → lww_holds (unwrap_or (register_lww_state s) None) d ≡ true → layer_holds holds s d ≡ true
+  pub register_lww_holds : (s : LayerState S) (d : Dot) → lww_holds (unwrap_or (register_lww_state s) None) d ≡ true → layer_holds holds s d ≡ true
   register_lww_holds (state.RegisterLww s) d h = h
   register_lww_holds _ d h = absurd (true≢false (sym h ∙ (lww_law.steps kinds.RegisterLww refl).none_held d))
 
@@ -185,7 +185,7 @@ module _ {S E : Type 0} {has : Kind → Bool} {too_deep : Kind → List Field �
   register_mv_unnamed (effect.RegisterMv e) d h = h
   register_mv_unnamed _ d h = refl
 
-  register_mv_holds : (s : LayerState S) (d : Dot) → is_kept (unwrap_or (register_mv_state s) empty) d ≡ true → layer_holds holds s d ≡ true
+  pub register_mv_holds : (s : LayerState S) (d : Dot) → is_kept (unwrap_or (register_mv_state s) empty) d ≡ true → layer_holds holds s d ≡ true
   register_mv_holds (state.RegisterMv s) d h = h
   register_mv_holds _ d h = absurd (true≢false (sym h ∙ (mv_law.steps kinds.RegisterMv refl).none_held d))
 
@@ -193,7 +193,7 @@ module _ {S E : Type 0} {has : Kind → Bool} {too_deep : Kind → List Field �
   map_go_unnamed (effect.MapGo e) d h = h
   map_go_unnamed _ d h = refl
 
-  map_go_holds : (s : LayerState S) (d : Dot) → (map_holds holds) (unwrap_or (map_go_state s) empty) d ≡ true → layer_holds holds s d ≡ true
+  pub map_go_holds : (s : LayerState S) (d : Dot) → (map_holds holds) (unwrap_or (map_go_state s) empty) d ≡ true → layer_holds holds s d ≡ true
   map_go_holds (state.MapGo s) d h = h
   map_go_holds _ d h = absurd (true≢false (sym h ∙ ((go_law inner owed).steps kinds.MapGo refl).none_held d))
 
@@ -201,7 +201,7 @@ module _ {S E : Type 0} {has : Kind → Bool} {too_deep : Kind → List Field �
   map_rr_unnamed (effect.MapRr e) d h = h
   map_rr_unnamed _ d h = refl
 
-  map_rr_holds : (s : LayerState S) (d : Dot) → (map_holds holds) (unwrap_or (map_rr_state s) empty) d ≡ true → layer_holds holds s d ≡ true
+  pub map_rr_holds : (s : LayerState S) (d : Dot) → (map_holds holds) (unwrap_or (map_rr_state s) empty) d ≡ true → layer_holds holds s d ≡ true
   map_rr_holds (state.MapRr s) d h = h
   map_rr_holds _ d h = absurd (true≢false (sym h ∙ ((rr_law inner owed).steps kinds.MapRr refl).none_held d))
 

@@ -18,7 +18,7 @@ pub fn apply_if<C: Crdt>(
     dot: Dot,
     effect: Option<&C::Effect>,
 ) -> Result<(), AllocError>
-    ensures { OnOk result (state.new ≡ moved C.step state.old dot (option_copied effect)) }
+    ensures { OnOk result (state.new ≡ moved C.step state.old dot (option_copied effect.entry)) }
 {
     match effect {
         Some(effect) => C::apply(alloc, state, dot, effect),
@@ -40,8 +40,8 @@ pub fn made_on<C: Crdt>(
     now: u64,
 ) -> Result<C::Effect, AllocError>
     requires { IsTrue (C.has kind) }
-    ensures made { IfOk result (λ e. e ≡ C.made kind (unwrap_or (option_copied state) (C.initial kind)) path.now act.now now) }
-    ensures ready { HoldsSpelled C.holds (unwrap_or (option_copied state) (C.initial kind)) → IfOk result (λ e. IsReady C.is_of C.can_put C.spelling kind path.now act.now e) }
+    ensures made { IfOk result (λ e. e ≡ C.made kind (unwrap_or (option_copied state.entry) (C.initial kind)) path.now act.now now) }
+    ensures ready { HoldsSpelled C.holds (unwrap_or (option_copied state.entry) (C.initial kind)) → IfOk result (λ e. IsReady C.is_of C.can_put C.spelling kind path.now act.now e) }
 {
     match state {
         Some(state) => generated::<C>(alloc, kind, path, act, state, now),
