@@ -7,11 +7,13 @@ use Rattle.site_vector.specs.declared.ids.TxId.{TxId}
 use Rattle.site_vector.specs.Vector.{le, entry}
 use Rattle.crdt_core.specs.declared.record.Message.{Message}
 use Rattle.crdt_core.specs.declared.record.Record.{Record}
-use Rattle.world_model.specs.Log.{ceiling, prepared, committed, aborted, decided, pending, taken, bound}
+use Rattle.world_model.specs.Log.{end_of_time, ceiling, prepared, committed, aborted, decided, pending, taken, bound}
 use Rattle.world_model.specs.Event.{AskRead, AskUpdate, AskPrepare, AskBegin, AskFinish, ClockBehind, ClockAtEnd, IsGone, Refused, shown, Event, Began, Updated, Read, Sent, Restarted, Entry, attempt, is_decided, time_of, sent, EventsAre}
-use Rattle.world_model.specs.Partition.{Kinds, PartState, Image, IsOther, IsBegin, end_of_time, vector_of, new_part, PartStep}
+use Rattle.world_model.specs.Partition.{Kinds, PartState, Image, IsOther, IsBegin, vector_of, new_part, PartStep}
 use Rattle.world_model.specs.Plan.{Plan, home, takes_part, commit_vector, IsAllowed, IsSession, IsPlanned, WorldStep, IsRun}
-use Rattle.world_model.specs.WorldLaw.{sees_tx, IsExact, IsRight, ClocksAre, HoldsPast, KeepsIs, KeepsDecided, HasCauseAt, HaveCausesAt}
+use Rattle.world_model.specs.WorldLaw.{sees_tx, IsExact, IsRight, ClocksAre, KeepsIs, KeepsDecided, HasCauseAt, HaveCausesAt}
+use Rattle.world_model.specs.Past.{dependency, HoldsPast, KeepPast}
+use Rattle.world_model.specs.Doubt.{SettleDoubts}
 use Rattle.world_model.specs.Downs.{AnswerAsUp}
 use Rattle.world_model.specs.Shown.{ShowAt}
 use Rattle.world_model.specs.Stable.{AreFresh}
@@ -67,7 +69,7 @@ module _ {E : Type 0} where
     pub planned : EventsAre (IsPlanned plan) run
     pub under : EventsAre (IsUnder plan) run
     pub clock : ClocksAre run
-    pub past : EventsAre HoldsPast run
+    pub past : KeepPast plan.sites run
     pub decided_stay : KeepsDecided plan run
     pub causes : HaveCausesAt plan run
 
@@ -116,9 +118,9 @@ module _ {E : Type 0} where
   keeps_event kinds plan run before at q f (Restarted n b named listed) s = λ t k e. s.members t ∙ and_right (prepared q.log t) _ (rw (f.stays q.log t (subst (λ x. Image (before x) q.log) (sym e) s.found) k) refl)
   keeps_event kinds plan run before at q f event s = tt
 
-  past_event : {S : Type 0} (kinds : Kinds S E) (sites parts : ℕ) (at : PartId) (p q : PartState E) (event : Event E) → PartStep kinds sites parts at p event q → HoldsPast at event
-  past_event kinds sites parts at p q (Began who dep t v) s = begin_holds sites parts at p dep t v s.1
-  past_event kinds sites parts at p q event s = tt
+  past_event : {S : Type 0} (kinds : Kinds S E) (plan : Plan E) (run : List (Entry E)) (before : PartId → PartState E) (at : PartId) (q : PartState E) (event : Event E) → IsAllowed plan run before at (attempt event) → PartStep kinds plan.sites plan.parts at (before at) event q → HoldsPast plan.sites run at event
+  past_event kinds plan run before at q (Began who dep t v) al s = (al, subst (λ d. le d v ≡ true) al (begin_holds plan.sites plan.parts at (before at) dep t v s.1))
+  past_event kinds plan run before at q event al s = tt
 
   sent_now : {S : Type 0} (kinds : Kinds S E) (plan : Plan E) (run : List (Entry E)) (before : PartId → PartState E) (q : PartState E) → Fate plan run before → (at : PartId) (event : Event E) (asked : Option ℕ) (m : Message E) → event ≡ Sent asked m → PartStep kinds plan.sites plan.parts at (before at) event q → IsExact plan ((record { at = at; event = event }) ∷ run) at m × (m.hi ≤ sent ((record { at = at; event = event }) ∷ run) at)
   sent_now kinds plan run before q f at event asked m e s = subst (λ a. IsExact plan ((record { at = at; event = a }) ∷ run) at m × (m.hi ≤ sent ((record { at = at; event = a }) ∷ run) at)) (sym e)
@@ -179,7 +181,7 @@ module _ {E : Type 0} where
         planned = (planned, k.planned);
         under = (under_event plan run before at event k.planned w.allowed, k.under);
         clock = (clock_event kinds plan.sites plan.parts at run at (before at) (after at) event (k.leases.clock at) w.step, k.clock);
-        past = (past_event kinds plan.sites plan.parts at (before at) (after at) event w.step, k.past);
+        past = (past_event kinds plan run before at (after at) event w.allowed w.step, k.past);
         decided_stay = (keeps_event kinds plan run before at (after at) k.fate event w.step, k.decided_stay);
         causes = (cause_event kinds plan run before (after at) at event k.fate k.leases k.planned w.allowed w.step, k.causes);
       }
@@ -226,8 +228,8 @@ module _ {E : Type 0} where
     closed = closed plan run (strict plan run parts k.fate);
   }
 
-  pub law_kept : {S : Type 0} (kinds : Kinds S E) (plan : Plan E) (run : List (Entry E)) (parts : PartId → PartState E) → Kept kinds plan run parts → HaveMeaning kinds plan run run → ((t : TxId) (p : PartId) → AreCausal kinds plan run t (plan.updates t p)) → ShowAt plan run → AreFresh plan run → AnswerAsUp run → IsLawfulWorld kinds plan run
-  law_kept kinds plan run parts k meant causal shown fresh downs = record {
+  pub law_kept : {S : Type 0} (kinds : Kinds S E) (plan : Plan E) (run : List (Entry E)) (parts : PartId → PartState E) → Kept kinds plan run parts → HaveMeaning kinds plan run run → ((t : TxId) (p : PartId) → AreCausal kinds plan run t (plan.updates t p)) → ShowAt plan run → AreFresh plan run → AnswerAsUp run → SettleDoubts run → IsLawfulWorld kinds plan run
+  law_kept kinds plan run parts k meant causal shown fresh downs doubts = record {
     right = right_all kinds plan run parts k;
     meant = meant;
     causal = causal;
@@ -238,6 +240,7 @@ module _ {E : Type 0} where
     shown = shown;
     fresh = fresh;
     downs = downs;
+    doubts = doubts;
     fate = λ t p a. false_from_ne_true _ (λ h. clash (k.fate.aborted_stays p (parts p).log t (image_log (parts p)) a) (never_aborted plan run parts k.fate p (parts p).log t (image_log (parts p)) h));
     strict = strict plan run parts k.fate;
     closed = closed plan run (strict plan run parts k.fate);

@@ -11,9 +11,9 @@ use Rattle.crdt_core.specs.declared.record.Part.{Part}
 use Rattle.crdt_core.specs.declared.record.Message.{Message}
 use Rattle.crdt_core.specs.declared.record.Record.{Record}
 use Rattle.crdt_core.specs.declared.record.Record.TheVariants.{Lease, Prepare, Decide, Finish, Abort, Batch}
-use Rattle.world_model.specs.Log.{ceiling, pending, grown, IsImage}
-use Rattle.world_model.specs.Event.{Refused, Event, Ticked, Began, Updated, Read, Prepared, Decided, Finished, Aborted, Sent, Took, Reported, Heard, Crashed, Restarted, Cut, Entry, shown_after, shown, missed_after, missed}
-use Rattle.world_model.specs.Partition.{Kinds, PartState, Image, end_of_time, lease_for, above, batch_of, records, now_after, MayDo, done, cut, PartStep}
+use Rattle.world_model.specs.Log.{end_of_time, ceiling, pending, grown, IsImage}
+use Rattle.world_model.specs.Event.{Refused, Event, Ticked, Began, Updated, Read, Prepared, Decided, Finished, Aborted, Sent, Took, Reported, Heard, Crashed, Restarted, Opened, Cut, Entry, shown_after, shown, missed_after, missed}
+use Rattle.world_model.specs.Partition.{Kinds, PartState, Image, lease_for, above, batch_of, records, now_after, MayDo, done, cut, PartStep}
 use Rattle.world_model.specs.WorldLaw.{ClockIs}
 use Rattle.world_model.proofs.Names.{clash, part_cases, part_other}
 use Rattle.world_model.proofs.Moves.{image_log, grown_image, grown_last}
@@ -154,6 +154,7 @@ module _ {E : Type 0} where
     turns p last skipped Crashed c m = absurd m
     turns p last skipped (Restarted n b named listed) c m = absurd m
     turns p last skipped (Refused asked why) c m = absurd m
+    turns p last skipped (Opened who) c m = absurd m
     turns p last skipped (Cut a) c m = absurd m
 
     done_clock : (p : PartState E) (last skipped : ℕ) (a : Event E) → Turns p a last skipped → Clock (done p a) (shown_after last a) (missed_after skipped a)
@@ -190,6 +191,7 @@ module _ {E : Type 0} where
           capped = λ m i. subst (λ x. ceiling x ≤ end_of_time) (sym (one m i)) (c.capped q.log s.found);
         }
     step_clock p q last skipped (Refused asked why) c s = subst (λ x. Clock x last skipped) (sym s.1) c
+    step_clock p q last skipped (Opened who) c s = subst (λ x. Clock x last skipped) (sym s) c
     step_clock p q last skipped (Ticked r n) c s = done_step p q last skipped (Ticked r n) c s
     step_clock p q last skipped (Began who dep t v) c s = done_step p q last skipped (Began who dep t v) c s
     step_clock p q last skipped (Updated t v o own op read u stamp) c s = done_step p q last skipped (Updated t v o own op read u stamp) c s
@@ -212,6 +214,7 @@ module _ {E : Type 0} where
     rises_at p q last skipped Crashed c s = le_of_eq (sym (ap (λ x. x.now) s.1))
     rises_at p q last skipped (Restarted n b named listed) c s = subst (λ x. p.now ≤ x) (sym s.clock) (c.below q.log s.found)
     rises_at p q last skipped (Refused asked why) c s = le_of_eq (sym (ap (λ x. x.now) s.1))
+    rises_at p q last skipped (Opened who) c s = le_of_eq (sym (ap (λ x. x.now) s))
     rises_at p q last skipped (Ticked r n) c s = done_rises p q last skipped (Ticked r n) c s
     rises_at p q last skipped (Began who dep t v) c s = done_rises p q last skipped (Began who dep t v) c s
     rises_at p q last skipped (Updated t v o own op read u stamp) c s = done_rises p q last skipped (Updated t v o own op read u stamp) c s

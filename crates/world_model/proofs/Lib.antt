@@ -14,6 +14,7 @@ pub mod CausalStores
 pub mod Kept
 pub mod Shows
 pub mod Hears
+pub mod Doubts
 pub mod Ups
 pub mod Meanings
 pub mod Stories

@@ -2,7 +2,7 @@
 use Rattle.std.proofs.Common.{◌≡◌, ◌≢◌, ⊎_elim, inl, inr, ℕ, ◌+◌, ◌-◌, ◌<◌, ◌≤◌, cond, leb, min, Bool, true, false, not, ◌&&◌, ◌||◌, List, [], ◌∷◌, length, refl, sym, ap, ◌∙◌, subst, arith}
 use Rattle.std.specs.Prelude.{◌==◌}
 use Rattle.std.specs.declared.cmp.Ordering.TheVariants.{Less}
-use Rattle.std.proofs.lemmas.Bool.{cases_Bool, or_cases, and_right, and_parts, cond_both, cond-true, cond-false, eqb-true, eq-eqb, false_from_ne_true}
+use Rattle.std.proofs.lemmas.Bool.{cases_Bool, or_cases, and_from, and_right, and_parts, not-true, cond_both, cond-true, cond-false, eqb-true, eq-eqb, false_from_ne_true}
 use Rattle.std.proofs.lemmas.List.{length-replicate}
 use Rattle.site_vector.specs.declared.ids.PartId.{PartId}
 use Rattle.site_vector.specs.declared.ids.TxId.{TxId}
@@ -16,15 +16,16 @@ use Rattle.crdt_core.specs.declared.record.Record.{Record}
 use Rattle.crdt_core.specs.declared.record.Record.TheVariants.{Lease, Prepare, Decide, Finish, Abort, Batch}
 use Rattle.crdt_core.specs.declared.record.Part.{Part}
 use Rattle.crdt_core.specs.declared.record.Message.{Message}
-use Rattle.world_model.specs.Log.{touches, prepared, prepare_time, prepared_changes, committed, aborted, pending, ceiling, grown}
-use Rattle.world_model.specs.Event.{AskRead, AskUpdate, AskTake, TxPending, HasGap, IsRepeat, Event, Ticked, Began, Updated, Read, Prepared, Decided, Finished, Aborted, Sent, Took, Reported, Heard, Crashed, Restarted, Refused, Cut, Entry, attempt, tried}
-use Rattle.world_model.specs.Partition.{Kinds, PartState, Image, IsOther, IsOwnBound, IsTxPending, AreTimed, names_pending, pending_cmp, end_of_time, lease_for, above, batch_of, new_part, PartStep}
-use Rattle.world_model.specs.Plan.{Plan, IsAllowed, IsRun}
-use Rattle.world_model.specs.Shown.{listed_time, bound_after, bound_shown, pending_after, pending_shown, time_after, pending_time, IsOwnBoundAt, IsFirstPending, ShowsAt, ShowAt}
+use Rattle.world_model.specs.Log.{end_of_time, touches, prepared, prepare_time, prepared_changes, committed, aborted, pending, ceiling, grown}
+use Rattle.world_model.specs.Event.{AskRead, AskUpdate, AskDecide, AskAbort, AskTake, TxPending, IsGone, HasGap, IsRepeat, Event, Ticked, Began, Updated, Read, Prepared, Decided, Finished, Aborted, Sent, Took, Reported, Heard, Crashed, Restarted, Refused, Opened, Cut, Entry, attempt, tried, is_decided}
+use Rattle.world_model.specs.Partition.{Kinds, PartState, Image, IsOther, IsOwnBound, IsTxPending, AreTimed, names_pending, pending_cmp, lease_for, above, batch_of, new_part, PartStep}
+use Rattle.world_model.specs.Plan.{Plan, takes_part, IsAllowed, IsRun}
+use Rattle.world_model.specs.Shown.{listed_time, bound_after, bound_shown, pending_after, pending_shown, time_after, pending_time, committed_shown, IsOwnBoundAt, IsFirstPending, ShowsAt, ShowAt}
 use Rattle.world_model.proofs.Names.{clash, off, part_cases, part_other, entry_same, entry_cases}
 use Rattle.world_model.proofs.Moves.{Because, Move, moved, image_log, grown_last}
 use Rattle.world_model.proofs.Leases.{Leases}
 use Rattle.world_model.proofs.Fate.{Fate, pending_parts, more_prepared}
+use Rattle.world_model.proofs.Later.{in_log, takes, prepared_now, never_aborted, pending_from}
 use Rattle.world_model.proofs.Completeness.{zeros_at}
 use Rattle.world_model.proofs.Kept.{law_plan}
 
@@ -35,7 +36,7 @@ new_pending true false false true h k l = off (l refl)
 new_pending true false false false h k l = refl
 new_pending false p c a h k l = refl
 
-less_pending : (s p c a : Bool) → (p && not ((s || c) || a)) ≡ (not s && (p && not (c || a)))
+pub less_pending : (s p c a : Bool) → (p && not ((s || c) || a)) ≡ (not s && (p && not (c || a)))
 less_pending true p c a = and_right p false refl
 less_pending false p c a = refl
 
@@ -180,6 +181,13 @@ module _ {E : Type 0} where
       time = λ t x k. ap (λ p. prepare_time p.log t) st.1 ∙ h.time at t (sym (ap (λ p. p.up) st.1) ∙ x) (ap (λ p. pending p.log t) (sym st.1) ∙ k);
     }
 
+    here (Opened who) al st = record {
+      width = λ x. ap (λ p. length p.bounds) st ∙ h.width at (sym (ap (λ p. p.up) st) ∙ x);
+      bounds = λ j x o. ap (λ p. entry p.bounds j) st ∙ h.bounds at j (sym (ap (λ p. p.up) st) ∙ x) o;
+      waiting = λ t x. ap (λ p. pending p.log t) st ∙ h.waiting at t (sym (ap (λ p. p.up) st) ∙ x);
+      time = λ t x k. ap (λ p. prepare_time p.log t) st ∙ h.time at t (sym (ap (λ p. p.up) st) ∙ x) (ap (λ p. pending p.log t) (sym st) ∙ k);
+    }
+
     first_step : (event : Event E) → Move plan run before after at event → (q : PartId) (new : List (Record E)) (t : TxId) → Image (after q) new → aborted new t ≡ true → prepared new t ≡ true
     first_step event mv q new t i k = let c = mv.changed q new i in c.told.prepared t ∙ more_prepared c.more c.old t (go c.old c.more c.because (λ x. h.first q c.old t c.was x) (sym (c.told.aborted t) ∙ k))
       where
@@ -220,7 +228,7 @@ module _ {E : Type 0} where
       seen : (u : TxId) → pending_shown run at u ≡ true → pending (before at).log u ≡ true
       seen u k = h.waiting at u up ∙ k
 
-      own_bound : (b : ℕ) → IsOwnBound (before at).now (before at).log b → IsOwnBoundAt run at b
+      pub own_bound : (b : ℕ) → IsOwnBound (before at).now (before at).log b → IsOwnBoundAt run at b
       own_bound b o = record {
         most = subst (λ n. b ≤ n) (l.clock at).now o.most;
         below = λ u k. subst (λ n. b < n) (h.time at u up (seen u k)) (o.below u (seen u k));
@@ -242,11 +250,33 @@ module _ {E : Type 0} where
             first = λ w k y. let q = seen w k in subst (λ m. pending_cmp (w, m) (u, n) ≢ Less) (h.time at w up q) (x.first w q (subst (λ z. touches z o ≡ true) (sym (same w q)) y));
           }
 
+    -- what is committed here is shown to be
+    committed_is : (before at).up ≡ true → (t : TxId) → committed (before at).log t ≡ committed_shown plan run at t
+    committed_is up t =
+        let log = (before at).log in ⊎_elim
+        (λ (c : committed log t ≡ true).
+        let gone : pending_shown run at t ≡ false = sym (h.waiting at t up) ∙ and_right (prepared log t) _ (ap (λ b. not (b || aborted log t)) c) in
+        c ∙ sym (and_from _ _ (takes plan run before f at t c) (and_from _ _ (in_log plan run before f at 0 up t c) (ap not gone))))
+        (λ (c : committed log t ≡ false). c ∙ sym (false_from_ne_true _ (λ k.
+        let a = and_parts (takes_part plan t at) _ k in
+        let b = and_parts (is_decided run t) _ a.1 in
+        let i = image_log (before at) in
+        let w = pending_from log t (prepared_now plan run before f at log t i b.0 a.0).0 c (never_aborted plan run before f at log t i b.0) in
+        clash (sym (h.waiting at t up) ∙ w) (not-true (pending_shown run at t) b.1))))
+        (cases_Bool (committed log t))
+
+    known_is : (before at).up ≡ true → (t : TxId) → (pending (before at).log t || committed (before at).log t) ≡ (pending_shown run at t || committed_shown plan run at t)
+    known_is up t = λ i. (h.waiting at t up i || committed_is up t i)
+
     shows_event : (event : Event E) (q : PartState E) → Leases run before → IsAllowed plan run before at (attempt event) → PartStep kinds plan.sites plan.parts at (before at) event q → ShowsAt plan run at event
     shows_event (Sent asked m) q l al st = own_bound st.0 l m.hi st.1.hi
     shows_event (Took m) q l al st = let e = h.bounds at m.from st.0 al.from in (subst (λ n. m.lo ≤ n) e st.1.0, subst (λ n. n < m.hi) e st.1.1)
     shows_event (Reported b) q l al st = (own_bound st.0 l (entry b at.site) st.1.own, λ j o. st.1.others j o ∙ h.bounds at j st.0 o)
+    shows_event (Decided t c) q l al st = sym (known_is st.0 t) ∙ st.1
+    shows_event (Finished t c) q l al st = sym (known_is st.0 t) ∙ st.1
     shows_event (Aborted t own) q l al st = sym (h.waiting at t st.0) ∙ st.1
+    shows_event (Refused (AskDecide t c) IsGone) q l al st = sym (known_is st.0.0 t) ∙ st.0.1
+    shows_event (Refused (AskAbort t) IsGone) q l al st = sym (h.waiting at t st.0.0) ∙ st.0.1
     shows_event (Refused (AskRead t s o own) (TxPending u n)) q l al st = first_pending st.0.0 l s o u n st.0.1
     shows_event (Refused (AskUpdate t s o own op) (TxPending u n)) q l al st = first_pending st.0.0 l s o u n st.0.1.1
     shows_event (Refused (AskTake m) (HasGap n)) q l al st = (st.0.1.0 ∙ h.bounds at m.from st.0.0 al.from, st.0.1.1)

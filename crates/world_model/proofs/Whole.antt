@@ -9,9 +9,9 @@ use Rattle.site_vector.specs.Order.{same_part_refl, same_tx_is, same_tx_refl}
 use Rattle.site_vector.specs.Vector.{replaced}
 use Rattle.crdt_core.specs.declared.record.Upd.{Upd}
 use Rattle.world_model.specs.Commit.{partitions}
-use Rattle.world_model.specs.Log.{ceiling, prepared, pending, committed}
+use Rattle.world_model.specs.Log.{end_of_time, ceiling, prepared, pending, committed}
 use Rattle.world_model.specs.Event.{AskFinish, AskTake, Refused, Event, Began, Updated, Read, Prepared, Decided, Finished, Aborted, Took, Heard, Cut, Entry, attempt, is_prepare, tried, voted, shown, shown_after, time_of, is_decided, WasShown}
-use Rattle.world_model.specs.Partition.{Kinds, PartState, end_of_time, PartStep, MayDo}
+use Rattle.world_model.specs.Partition.{Kinds, PartState, PartStep, MayDo}
 use Rattle.world_model.specs.Plan.{Plan, is_some_update, home, takes_part, commit_vector, updates_at, change_by, IsAllowed, IsPlanned, TellsAborted, IsRun}
 use Rattle.world_model.specs.World.{is_begin, begin_vector, begun, snapshot_of, changes_of, first_of, lead_of, own_parts, plan_of, IsNew, IsWorldRun}
 use Rattle.world_model.specs.LawfulWorld.{IsLawfulWorld}
@@ -25,6 +25,7 @@ use Rattle.world_model.proofs.CausalStores.{causal_stores}
 use Rattle.world_model.proofs.Shows.{show_events}
 use Rattle.world_model.proofs.Hears.{fresh_events}
 use Rattle.world_model.proofs.Ups.{answer_up}
+use Rattle.world_model.proofs.Doubts.{settle_doubts}
 use Rattle.world_model.proofs.Stories.{stories, meanings, planned_changes}
 
 or_none : (x y : Bool) → x ≡ false → (x || y) ≡ y
@@ -298,4 +299,4 @@ module _ {E : Type 0} where
       let facts = facts_of kinds plan run state k in
       let made = stories kinds plan run sites parts (world_leases kinds sites parts) run state r right in
       let all = planned_changes sites parts run in
-      law_kept kinds plan run state k (meanings kinds plan run facts made all sites parts (world_leases kinds sites parts) run state r right) (causal_stores kinds plan run made all) (show_events kinds plan run state under) (fresh_events kinds plan run state under) (answer_up kinds plan run state under)
+      law_kept kinds plan run state k (meanings kinds plan run facts made all sites parts (world_leases kinds sites parts) run state r right) (causal_stores kinds plan run made all) (show_events kinds plan run state under) (fresh_events kinds plan run state under) (answer_up kinds plan run state under) (settle_doubts kinds plan run state under)

@@ -2,7 +2,7 @@
 use Rattle.std.specs.Prelude.{◌≡◌, Bool, true, false, if◌then◌else◌, List, [], ◌∷◌, ⊤}
 use Rattle.site_vector.specs.declared.ids.PartId.{PartId}
 use Rattle.site_vector.specs.Ids.{same_part}
-use Rattle.world_model.specs.Event.{IsDown, Event, Crashed, Restarted, Refused, Cut, Entry}
+use Rattle.world_model.specs.Event.{AskRestart, IsDown, IsDamaged, Event, Crashed, Restarted, Refused, Opened, Cut, Entry}
 
 module _ {E : Type 0} where
   abbrev pub down_after : Bool → Event E → Bool
@@ -20,6 +20,8 @@ module _ {E : Type 0} where
   abbrev pub AnswersAsUp : List (Entry E) → PartId → Event E → Type 0
   AnswersAsUp run p (Restarted n b named listed) = is_down run p ≡ true
   AnswersAsUp run p (Refused asked IsDown) = is_down run p ≡ true
+  AnswersAsUp run p (Refused AskRestart (IsDamaged at)) = is_down run p ≡ true
+  AnswersAsUp run p (Opened who) = ⊤
   AnswersAsUp run p other = is_down run p ≡ false
 
   abbrev pub AnswerAsUp : List (Entry E) → Type 0

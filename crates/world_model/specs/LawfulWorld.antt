@@ -6,7 +6,9 @@ use Rattle.site_vector.specs.Vector.{entry}
 use Rattle.world_model.specs.Event.{Entry, EventsAre, is_decided, time_of, was_aborted}
 use Rattle.world_model.specs.Partition.{Kinds}
 use Rattle.world_model.specs.Plan.{Plan}
-use Rattle.world_model.specs.WorldLaw.{sees_tx, IsRight, ClocksAre, HoldsPast, KeepsDecided, HaveCausesAt}
+use Rattle.world_model.specs.WorldLaw.{sees_tx, IsRight, ClocksAre, KeepsDecided, HaveCausesAt}
+use Rattle.world_model.specs.Past.{KeepPast}
+use Rattle.world_model.specs.Doubt.{SettleDoubts}
 use Rattle.world_model.specs.Downs.{AnswerAsUp}
 use Rattle.world_model.specs.Shown.{ShowAt}
 use Rattle.world_model.specs.Stable.{AreFresh}
@@ -20,8 +22,10 @@ pub record IsLawfulWorld {S E : Type 0} (kinds : Kinds S E) (plan : Plan E) (run
   -- so whatever is stored or sent names only what its transaction has seen
   pub causal : (t : TxId) (p : PartId) → AreCausal kinds plan run t (plan.updates t p)
   pub clock : ClocksAre run
-  pub past : EventsAre HoldsPast run
+  pub past : KeepPast plan.sites run
   pub decided_stay : KeepsDecided plan run
+  -- after a decide that was cut off the lead's restart says which of two it was
+  pub doubts : SettleDoubts run
   pub causes : HaveCausesAt plan run
   pub downs : AnswerAsUp run
   -- messages, takes, reports and waits show the bounds and what is pending, as earlier events do

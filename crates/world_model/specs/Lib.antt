@@ -1,6 +1,8 @@
 pub mod Run
 pub mod Log
 pub mod Event
+pub mod Past
+pub mod Fitting
 pub mod Partition
 pub mod Cluster
 pub mod Clock
@@ -20,5 +22,6 @@ pub mod Meaning
 pub mod Shown
 pub mod Stable
 pub mod Downs
+pub mod Doubt
 pub mod LawfulWorld
 pub mod World

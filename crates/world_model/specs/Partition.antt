@@ -1,5 +1,5 @@
 -- The state of a partition, and what each of its calls may answer and leave.
-use Rattle.std.specs.Prelude.{◌≡◌, ◌≢◌, ◌⊎◌, ℕ, zero, suc, ◌+◌, ◌-◌, ◌^◌, ◌<◌, ◌≤◌, max, min, leb, ltb, Bool, true, false, not, ◌&&◌, ◌||◌, ◌==◌, if◌then◌else◌, List, [], ◌∷◌, ◌++◌, length, replicate, Option, None, Some, slice_index_or, slice_set, ⊤}
+use Rattle.std.specs.Prelude.{◌≡◌, ◌≢◌, ◌⊎◌, ℕ, zero, suc, ◌+◌, ◌-◌, ◌<◌, ◌≤◌, max, min, leb, ltb, Bool, true, false, not, ◌&&◌, ◌||◌, ◌==◌, if◌then◌else◌, List, [], ◌∷◌, ◌++◌, length, replicate, Option, None, Some, slice_index_or, slice_set, ⊤}
 use Rattle.std.specs.Ordering.{nat_cmp, ordering_then}
 use Rattle.std.specs.declared.cmp.Ordering.{Ordering}
 use Rattle.std.specs.declared.cmp.Ordering.TheVariants.{Less}
@@ -26,12 +26,9 @@ use Rattle.crdt_core.specs.Fits.{fits}
 use Rattle.crdt_core.specs.Seen.{Update}
 use Rattle.crdt_core.specs.History.{folded}
 use Rattle.crdt_core.specs.Law.{KeepsLaw}
-use Rattle.world_model.specs.Log.{touches, lists, ceiling, prepare_time, prepared_changes, committed, committed_at, pending, last_decided, bound, holds, held_at, held_changes, grown, IsImage}
-use Rattle.world_model.specs.Event.{Ask, AskBegin, AskRead, AskUpdate, AskPrepare, AskDecide, AskFinish, AskAbort, AskTake, Refusal, IsDown, ClockBehind, TxPending, StableBehind, ClockAtEnd, IsGone, HasGap, IsRepeat, Event, Refused, Ticked, Began, Updated, Read, Prepared, Decided, Finished, Aborted, Sent, Took, Reported, Heard, Crashed, Restarted, Cut}
-
--- the last time that a clock may show
-abbrev pub end_of_time : ℕ
-end_of_time = 2 ^ 62
+use Rattle.world_model.specs.Log.{end_of_time, touches, lists, ceiling, prepare_time, prepared_changes, committed, committed_at, pending, last_decided, bound, holds, held_at, held_changes, grown, IsImage}
+use Rattle.world_model.specs.Event.{Ask, AskBegin, AskRead, AskUpdate, AskPrepare, AskDecide, AskFinish, AskAbort, AskTake, AskRestart, Refusal, IsDown, ClockBehind, TxPending, StableBehind, ClockAtEnd, IsGone, HasGap, IsRepeat, IsDamaged, Event, Refused, Ticked, Began, Updated, Read, Prepared, Decided, Finished, Aborted, Sent, Took, Reported, Heard, Crashed, Restarted, Opened, Cut}
+use Rattle.world_model.specs.Fitting.{unfit}
 
 -- what the kinds of objects do, under the law of a kind: the trait `Crdt` of whoever stores them
 pub record Kinds (S E : Type 0) : Type 0 where
@@ -89,6 +86,13 @@ lowest known (suc (suc n)) = min (known (suc (suc n))) (lowest known (suc n))
 -- the pending transactions with their prepare times, in the order of time and transaction
 abbrev pub pending_cmp : TxId × ℕ → TxId × ℕ → Ordering
 pending_cmp x y = ordering_then (nat_cmp x.1 y.1) (tx_cmp x.0 y.0)
+
+-- what a partition answers when it is asked for the fate of a transaction
+pub data Fate : Type 0 where
+  ToldPending : Fate
+  ToldCommitted : (c : List ℕ) → Fate
+  ToldAborted : Fate
+  ToldDown : Fate
 
 abbrev pub names_pending : List (TxId × ℕ) → TxId → Bool
 names_pending [] t = false
@@ -248,10 +252,16 @@ module _ {E : Type 0} where
   abbrev pub cut : PartState E → Event E → PartState E
   cut p e = down p (records p e)
 
+  -- what a partition tells of a transaction of its site: its lead's word is its fate
+  abbrev pub fate_of : PartState E → TxId → Fate
+  fate_of p t = if p.up then (if pending p.log t then ToldPending else (if committed p.log t then ToldCommitted (committed_at p.log t) else ToldAborted)) else ToldDown
+
   -- the stable entries that a partition tells when it has heard a report
   pub record IsStable (sites parts : ℕ) (id : PartId) (p : PartState E) (stable : List ℕ) : Type 0 where
     pub width : length stable ≡ sites
     pub others : (j : ℕ) → IsOther sites id.site j → entry stable j ≡ stable_entry parts id p j
+    -- of its own site it knows its own bound, and what it heard of the others
+    pub own : (b : ℕ) × IsOwnBound p.now p.log b × (entry stable id.site ≡ lowest (λ q. if id.part == q then b else entry (vector_of p.heard q) id.site) parts)
 
   -- when a call of a partition answers this
   abbrev pub MayDo : {S : Type 0} → Kinds S E → ℕ → ℕ → PartId → PartState E → Event E → Type 0
@@ -310,15 +320,24 @@ module _ {E : Type 0} where
   IsDue kinds sites parts id p (AskTake m) (IsRepeat n) = (n ≡ entry p.bounds m.from) × (m.lo ≤ n) × (m.hi ≤ n)
   IsDue kinds sites parts id p asked why = ⊥
 
+  -- what a restart found isn't the partition's
+  pub record IsUnfit (sites parts : ℕ) (id : PartId) (p : PartState E) (at : ℕ) : Type 0 where
+    pub down : p.up ≡ false
+    pub log : List (Record E)
+    pub found : Image p log
+    pub first : unfit sites parts id log ≡ Some at
+
   -- down is first of all
   abbrev pub IsRefused : {S : Type 0} → Kinds S E → ℕ → ℕ → PartId → PartState E → Ask E → Refusal → Type 0
   IsRefused kinds sites parts id p asked IsDown = p.up ≡ false
+  IsRefused kinds sites parts id p AskRestart (IsDamaged at) = IsUnfit sites parts id p at
   IsRefused kinds sites parts id p asked why = (p.up ≡ true) × IsDue kinds sites parts id p asked why
 
   -- a restart reads the log again and forgets the rest
   pub record IsRestart (sites parts : ℕ) (id : PartId) (p : PartState E) (n : ℕ) (b : List ℕ) (named : Option TxId) (listed : List (TxId × ℕ)) (q : PartState E) : Type 0 where
     pub down : p.up ≡ false
     pub found : Image p q.log
+    pub fits : unfit sites parts id q.log ≡ None
     pub up : q.up ≡ true
     pub whole : q.torn ≡ []
     pub clock : q.now ≡ ceiling q.log
@@ -338,6 +357,7 @@ module _ {E : Type 0} where
   PartStep kinds sites parts id p (Cut what) q = (p.up ≡ true) × MayDo kinds sites parts id p what × (q ≡ cut p what)
   PartStep kinds sites parts id p Crashed q = (p.up ≡ true) × (q ≡ down p p.torn)
   PartStep kinds sites parts id p (Restarted n b named listed) q = IsRestart sites parts id p n b named listed q
+  PartStep kinds sites parts id p (Opened who) q = q ≡ p
   PartStep kinds sites parts id p (Refused asked why) q = IsRefused kinds sites parts id p asked why × (q ≡ p)
   PartStep kinds sites parts id p e q = (p.up ≡ true) × MayDo kinds sites parts id p e × (q ≡ done p e)
 

@@ -7,9 +7,9 @@ use Rattle.crdt_core.specs.declared.object.ObjectId.{ObjectId}
 use Rattle.crdt_core.specs.Kinds.{reads_state}
 use Rattle.crdt_core.specs.declared.record.Part.{Part}
 use Rattle.crdt_core.specs.declared.record.Message.{Message}
-use Rattle.world_model.specs.Log.{touches, lists}
+use Rattle.world_model.specs.Log.{end_of_time, touches, lists}
 use Rattle.world_model.specs.Event.{AskRead, AskUpdate, AskPrepare, AskFinish, ClockBehind, ClockAtEnd, IsGone, Refused, Event, Ticked, Began, Updated, Read, Prepared, Sent, Restarted, Entry, is_decided, time_of, shown, missed}
-use Rattle.world_model.specs.Partition.{end_of_time, Kinds, state_read, Ascends, fold_cmp, stream_cmp, AreParts, names_pending}
+use Rattle.world_model.specs.Partition.{Kinds, state_read, Ascends, fold_cmp, stream_cmp, AreParts, names_pending}
 use Rattle.world_model.specs.Plan.{Plan, takes_part, changes_at, commit_vector}
 
 module _ {E : Type 0} where
@@ -69,8 +69,3 @@ module _ {E : Type 0} where
   IsRight kinds plan run p (Updated t s o own op read u stamp) = (s ≡ plan.snapshot t) × (reads_state o.kind ≡ true → IsRightFold plan run p s o read)
   IsRight kinds plan run p (Sent asked m) = IsExact plan run p m
   IsRight kinds plan run p other = ⊤
-
-  -- a snapshot holds what its session depended on
-  abbrev pub HoldsPast : PartId → Event E → Type 0
-  HoldsPast p (Began who dep t s) = le dep s ≡ true
-  HoldsPast p other = ⊤
