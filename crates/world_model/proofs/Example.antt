@@ -477,4 +477,4 @@ module _ {S E : Type 0} (kinds : Kinds S E) (known : kinds.has CounterPn ≡ tru
 
   -- the read at the other site sees what the crash nearly took, and is right in the whole run
   is_lawful : IsLawfulWorld kinds (plan_of 2 1 r12) r12
-  is_lawful = law_world kinds 2 1 r12 p12 run12
+  is_lawful = (law_world kinds 2 1 r12 p12 run12).0

@@ -15,6 +15,7 @@ pub mod Kept
 pub mod Shows
 pub mod Hears
 pub mod Doubts
+pub mod LogsLeft
 pub mod Ups
 pub mod Meanings
 pub mod Stories

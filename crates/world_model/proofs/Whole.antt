@@ -15,6 +15,7 @@ use Rattle.world_model.specs.Partition.{Kinds, PartState, PartStep, MayDo}
 use Rattle.world_model.specs.Plan.{Plan, is_some_update, home, takes_part, commit_vector, updates_at, change_by, IsAllowed, IsPlanned, TellsAborted, IsRun}
 use Rattle.world_model.specs.World.{is_begin, begin_vector, begun, snapshot_of, changes_of, first_of, lead_of, own_parts, plan_of, IsNew, IsWorldRun}
 use Rattle.world_model.specs.LawfulWorld.{IsLawfulWorld}
+use Rattle.world_model.specs.Logs.{LeavesLogs}
 use Rattle.world_model.proofs.Names.{clash, off}
 use Rattle.world_model.proofs.Moves.{image_log}
 use Rattle.world_model.proofs.Fate.{pending_parts, voted_tried}
@@ -26,6 +27,7 @@ use Rattle.world_model.proofs.Shows.{show_events}
 use Rattle.world_model.proofs.Hears.{fresh_events}
 use Rattle.world_model.proofs.Ups.{answer_up}
 use Rattle.world_model.proofs.Doubts.{settle_doubts}
+use Rattle.world_model.proofs.LogsLeft.{logs_left}
 use Rattle.world_model.proofs.Stories.{stories, meanings, planned_changes}
 
 or_none : (x y : Bool) → x ≡ false → (x || y) ≡ y
@@ -290,7 +292,7 @@ module _ {E : Type 0} where
         planned_too sites parts run whole e.at e.event f s,
       )
 
-  pub law_world : {S : Type 0} (kinds : Kinds S E) (sites parts : ℕ) (run : List (Entry E)) (state : PartId → PartState E) → IsWorldRun kinds sites parts run state → IsLawfulWorld kinds (plan_of sites parts run) run
+  pub law_world : {S : Type 0} (kinds : Kinds S E) (sites parts : ℕ) (run : List (Entry E)) (state : PartId → PartState E) → IsWorldRun kinds sites parts run state → IsLawfulWorld kinds (plan_of sites parts run) run × LeavesLogs sites run state
   law_world kinds sites parts run state r =
       let plan = plan_of sites parts run in
       let under = fits kinds sites parts run state r run (all_fresh kinds sites parts run state r) (suffix_all run) in
@@ -299,4 +301,4 @@ module _ {E : Type 0} where
       let facts = facts_of kinds plan run state k in
       let made = stories kinds plan run sites parts (world_leases kinds sites parts) run state r right in
       let all = planned_changes sites parts run in
-      law_kept kinds plan run state k (meanings kinds plan run facts made all sites parts (world_leases kinds sites parts) run state r right) (causal_stores kinds plan run made all) (show_events kinds plan run state under) (fresh_events kinds plan run state under) (answer_up kinds plan run state under) (settle_doubts kinds plan run state under)
+      (law_kept kinds plan run state k (meanings kinds plan run facts made all sites parts (world_leases kinds sites parts) run state r right) (causal_stores kinds plan run made all) (show_events kinds plan run state under) (fresh_events kinds plan run state under) (answer_up kinds plan run state under) (settle_doubts kinds plan run state under), logs_left kinds plan run state under)

@@ -20,6 +20,7 @@ pub mod Plan
 pub mod WorldLaw
 pub mod Meaning
 pub mod Shown
+pub mod Logs
 pub mod Stable
 pub mod Downs
 pub mod Doubt

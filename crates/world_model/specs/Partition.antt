@@ -202,19 +202,19 @@ module _ {E : Type 0} where
   batch_of m b [] = []
   batch_of m b (x ∷ xs) = Batch (record { from = m.from; to = m.to; part = m.part; lo = b; hi = m.hi; parts = x ∷ xs }) ∷ []
 
-  abbrev pub batch_for : PartState E → Message E → List (Record E)
-  batch_for p m = batch_of m (entry p.bounds m.from) (above m.from (entry p.bounds m.from) m.parts)
+  -- the records that an event adds to a log, where its partition has these bounds
+  abbrev pub written : List (Record E) → (ℕ → ℕ) → Event E → List (Record E)
+  written log bounds (Ticked r n) = lease_for log n
+  written log bounds (Began who dep t s) = lease_for log t.time
+  written log bounds (Prepared t s l w n) = lease_for log n ++ Prepare t l n s w ∷ []
+  written log bounds (Decided t c) = if pending log t then Decide t c ∷ [] else []
+  written log bounds (Finished t c) = if pending log t then Finish t c ∷ [] else []
+  written log bounds (Aborted t own) = Abort t ∷ []
+  written log bounds (Took m) = batch_of m (bounds m.from) (above m.from (bounds m.from) m.parts)
+  written log bounds other = []
 
-  -- the records that an event adds
   abbrev pub records : PartState E → Event E → List (Record E)
-  records p (Ticked r n) = lease_for p.log n
-  records p (Began who dep t s) = lease_for p.log t.time
-  records p (Prepared t s l w n) = lease_for p.log n ++ Prepare t l n s w ∷ []
-  records p (Decided t c) = if pending p.log t then Decide t c ∷ [] else []
-  records p (Finished t c) = if pending p.log t then Finish t c ∷ [] else []
-  records p (Aborted t own) = Abort t ∷ []
-  records p (Took m) = batch_for p m
-  records p other = []
+  records p e = written p.log (λ j. entry p.bounds j) e
 
   abbrev pub now_after : ℕ → Event E → ℕ
   now_after now (Ticked r n) = n
