@@ -8,17 +8,11 @@ use Rattle.site_vector.specs.Vector.{le, entry}
 use Rattle.crdt_core.specs.declared.record.Message.{Message}
 use Rattle.crdt_core.specs.declared.record.Record.{Record}
 use Rattle.world_model.specs.Log.{end_of_time, ceiling, prepared, committed, aborted, decided, pending, taken, bound}
-use Rattle.world_model.specs.Event.{AskRead, AskUpdate, AskPrepare, AskBegin, AskFinish, ClockBehind, ClockAtEnd, IsGone, Refused, shown, Event, Began, Updated, Read, Sent, Restarted, Entry, attempt, is_decided, time_of, sent, EventsAre}
+use Rattle.world_model.specs.Event.{AskRead, AskUpdate, AskPrepare, AskBegin, AskFinish, ClockBehind, ClockAtEnd, IsGone, Refused, shown, Event, Began, Updated, Read, Sent, Restarted, Entry, attempt, was_aborted, is_decided, time_of, sent, EventsAre}
 use Rattle.world_model.specs.Partition.{Kinds, PartState, Image, IsOther, IsBegin, vector_of, new_part, PartStep}
 use Rattle.world_model.specs.Plan.{Plan, home, takes_part, commit_vector, IsAllowed, IsSession, IsPlanned, WorldStep, IsRun}
 use Rattle.world_model.specs.WorldLaw.{sees_tx, IsExact, IsRight, ClocksAre, KeepsIs, KeepsDecided, HasCauseAt, HaveCausesAt}
 use Rattle.world_model.specs.Past.{dependency, HoldsPast, KeepPast}
-use Rattle.world_model.specs.Doubt.{SettleDoubts}
-use Rattle.world_model.specs.Downs.{AnswerAsUp}
-use Rattle.world_model.specs.Shown.{ShowAt}
-use Rattle.world_model.specs.Stable.{AreFresh}
-use Rattle.world_model.specs.Meaning.{HaveMeaning, AreCausal}
-use Rattle.world_model.specs.LawfulWorld.{IsLawfulWorld}
 use Rattle.world_model.proofs.Histories.{Facts}
 use Rattle.world_model.proofs.Names.{clash, off, le_from, le_onward, le_raised}
 use Rattle.world_model.proofs.Moves.{moved, image_log}
@@ -130,7 +124,7 @@ module _ {E : Type 0} where
       again st = let x = exact_now plan run before f at asked m st.0 st.1 in record { order = x.order; members = x.members; exact = x.exact }
 
   -- a commit time is above the snapshot
-  strict : (plan : Plan E) (run : List (Entry E)) (parts : PartId → PartState E) → Fate plan run parts → (t : TxId) → is_decided run t ≡ true → entry (plan.snapshot t) t.site < time_of run t
+  pub strict : (plan : Plan E) (run : List (Entry E)) (parts : PartId → PartState E) → Fate plan run parts → (t : TxId) → is_decided run t ≡ true → entry (plan.snapshot t) t.site < time_of run t
   strict plan run parts f t h =
       let l = f.late (plan.lead t) t (full_now plan run parts f t h).lead in
       let v = vote_in_time run t (plan.lead t) in
@@ -204,7 +198,7 @@ module _ {E : Type 0} where
   below_commit : (plan : Plan E) (run : List (Entry E)) (t : TxId) → entry (plan.snapshot t) t.site < time_of run t → le (plan.snapshot t) (commit_vector plan run t) ≡ true
   below_commit plan run t h = le_raised (plan.snapshot t) (t.site - 1) (time_of run t) (le_of_lt h)
 
-  closed : (plan : Plan E) (run : List (Entry E)) → ((t : TxId) → is_decided run t ≡ true → entry (plan.snapshot t) t.site < time_of run t) → (s : List ℕ) (t u : TxId) → sees_tx plan run s t ≡ true → sees_tx plan run (plan.snapshot t) u ≡ true → sees_tx plan run s u ≡ true
+  pub closed : (plan : Plan E) (run : List (Entry E)) → ((t : TxId) → is_decided run t ≡ true → entry (plan.snapshot t) t.site < time_of run t) → (s : List ℕ) (t u : TxId) → sees_tx plan run s t ≡ true → sees_tx plan run (plan.snapshot t) u ≡ true → sees_tx plan run s u ≡ true
   closed plan run h s t u x y =
       let a = and_parts (is_decided run t) _ x in
       let b = and_parts (is_decided run u) _ y in
@@ -228,20 +222,5 @@ module _ {E : Type 0} where
     closed = closed plan run (strict plan run parts k.fate);
   }
 
-  pub law_kept : {S : Type 0} (kinds : Kinds S E) (plan : Plan E) (run : List (Entry E)) (parts : PartId → PartState E) → Kept kinds plan run parts → HaveMeaning kinds plan run run → ((t : TxId) (p : PartId) → AreCausal kinds plan run t (plan.updates t p)) → ShowAt plan run → AreFresh plan run → AnswerAsUp run → SettleDoubts run → IsLawfulWorld kinds plan run
-  law_kept kinds plan run parts k meant causal shown fresh downs doubts = record {
-    right = right_all kinds plan run parts k;
-    meant = meant;
-    causal = causal;
-    clock = k.clock;
-    past = k.past;
-    decided_stay = k.decided_stay;
-    causes = k.causes;
-    shown = shown;
-    fresh = fresh;
-    downs = downs;
-    doubts = doubts;
-    fate = λ t p a. false_from_ne_true _ (λ h. clash (k.fate.aborted_stays p (parts p).log t (image_log (parts p)) a) (never_aborted plan run parts k.fate p (parts p).log t (image_log (parts p)) h));
-    strict = strict plan run parts k.fate;
-    closed = closed plan run (strict plan run parts k.fate);
-  }
+  pub never_both : {S : Type 0} (kinds : Kinds S E) (plan : Plan E) (run : List (Entry E)) (parts : PartId → PartState E) → Kept kinds plan run parts → (t : TxId) (p : PartId) → was_aborted run t p ≡ true → is_decided run t ≡ false
+  never_both kinds plan run parts k t p a = false_from_ne_true _ (λ h. clash (k.fate.aborted_stays p (parts p).log t (image_log (parts p)) a) (never_aborted plan run parts k.fate p (parts p).log t (image_log (parts p)) h))

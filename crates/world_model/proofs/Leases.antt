@@ -235,6 +235,9 @@ module _ {E : Type 0} where
     clock_event run at p q (Prepared t v l w n) c s = s.1.1 ∙ ap (λ x. x + 1) c.now
     clock_event run at p q (Restarted n b named listed) c s =
         let l = c.below q.log s.found in let r = c.room q.log s.found in let e = c.now in let k = s.clock in let j = s.shown in (omega arith, omega arith)
+    clock_event run at p q (Cut (Ticked r n)) c s = s.1.0 ∙ ap (max r) c.now
+    clock_event run at p q (Cut (Began who dep t v)) c s = ap (λ x. x.time) s.1.named ∙ ap (λ x. x + 1) c.now
+    clock_event run at p q (Cut (Prepared t v l w n)) c s = s.1.1 ∙ ap (λ x. x + 1) c.now
     clock_event run at p q a c s = tt
 
   module _ {S : Type 0} (kinds : Kinds S E) (sites count : ℕ) (run : List (Entry E)) (before after : PartId → PartState E) (at : PartId) (event : Event E) (s : PartStep kinds sites count at (before at) event (after at)) (others : (q : PartId) → q ≢ at → after q ≡ before q) (l : Leases run before) where

@@ -15,9 +15,12 @@ pub mod Kept
 pub mod Shows
 pub mod Hears
 pub mod Doubts
+pub mod Voting
 pub mod LogsLeft
 pub mod Ups
 pub mod Meanings
 pub mod Stories
+pub mod LineViews
+pub mod LineLaws
 pub mod Whole
 pub mod Example

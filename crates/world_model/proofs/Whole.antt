@@ -16,18 +16,22 @@ use Rattle.world_model.specs.Plan.{Plan, is_some_update, home, takes_part, commi
 use Rattle.world_model.specs.World.{is_begin, begin_vector, begun, snapshot_of, changes_of, first_of, lead_of, own_parts, plan_of, IsNew, IsWorldRun}
 use Rattle.world_model.specs.LawfulWorld.{IsLawfulWorld}
 use Rattle.world_model.specs.Logs.{LeavesLogs}
+use Rattle.world_model.specs.Lines.{lines_of}
+use Rattle.world_model.specs.LineLaw.{IsLawfulRun}
 use Rattle.world_model.proofs.Names.{clash, off}
 use Rattle.world_model.proofs.Moves.{image_log}
 use Rattle.world_model.proofs.Fate.{pending_parts, voted_tried}
 use Rattle.world_model.proofs.Later.{full_now}
 use Rattle.world_model.proofs.Leases.{Clock, Leases, leases_step, rises}
-use Rattle.world_model.proofs.Kept.{Kept, law_plan, right_all, facts_of, law_kept}
+use Rattle.world_model.proofs.Kept.{Kept, law_plan, right_all, facts_of, strict, closed, never_both}
 use Rattle.world_model.proofs.CausalStores.{causal_stores}
 use Rattle.world_model.proofs.Shows.{show_events}
 use Rattle.world_model.proofs.Hears.{fresh_events}
 use Rattle.world_model.proofs.Ups.{answer_up}
 use Rattle.world_model.proofs.Doubts.{settle_doubts}
+use Rattle.world_model.proofs.Voting.{vote_events, vectors, agreed}
 use Rattle.world_model.proofs.LogsLeft.{logs_left}
+use Rattle.world_model.proofs.LineLaws.{lawful_lines}
 use Rattle.world_model.proofs.Stories.{stories, meanings, planned_changes}
 
 or_none : (x y : Bool) → x ≡ false → (x || y) ≡ y
@@ -292,7 +296,7 @@ module _ {E : Type 0} where
         planned_too sites parts run whole e.at e.event f s,
       )
 
-  pub law_world : {S : Type 0} (kinds : Kinds S E) (sites parts : ℕ) (run : List (Entry E)) (state : PartId → PartState E) → IsWorldRun kinds sites parts run state → IsLawfulWorld kinds (plan_of sites parts run) run × LeavesLogs sites run state
+  pub law_world : {S : Type 0} (kinds : Kinds S E) (sites parts : ℕ) (run : List (Entry E)) (state : PartId → PartState E) → IsWorldRun kinds sites parts run state → IsLawfulWorld kinds (plan_of sites parts run) run × LeavesLogs sites run state × IsLawfulRun sites parts (lines_of run)
   law_world kinds sites parts run state r =
       let plan = plan_of sites parts run in
       let under = fits kinds sites parts run state r run (all_fresh kinds sites parts run state r) (suffix_all run) in
@@ -301,4 +305,24 @@ module _ {E : Type 0} where
       let facts = facts_of kinds plan run state k in
       let made = stories kinds plan run sites parts (world_leases kinds sites parts) run state r right in
       let all = planned_changes sites parts run in
-      (law_kept kinds plan run state k (meanings kinds plan run facts made all sites parts (world_leases kinds sites parts) run state r right) (causal_stores kinds plan run made all) (show_events kinds plan run state under) (fresh_events kinds plan run state under) (answer_up kinds plan run state under) (settle_doubts kinds plan run state under), logs_left kinds plan run state under)
+      let strictly = strict plan run state k.fate in
+      let law : IsLawfulWorld kinds plan run =
+        record {
+          right = right;
+          meant = meanings kinds plan run facts made all sites parts (world_leases kinds sites parts) run state r right;
+          causal = causal_stores kinds plan run made all;
+          clock = k.clock;
+          past = k.past;
+          decided_stay = k.decided_stay;
+          votes = vote_events kinds plan run state under;
+          vectors = vectors kinds plan run state under;
+          agreed = agreed kinds plan run state k;
+          doubts = settle_doubts kinds plan run state under;
+          causes = k.causes;
+          downs = answer_up kinds plan run state under;
+          shown = show_events kinds plan run state under;
+          fresh = fresh_events kinds plan run state under;
+          fate = never_both kinds plan run state k;
+          strict = strictly;
+          closed = closed plan run strictly;
+        } in (law, logs_left kinds plan run state under, lawful_lines kinds sites parts run law)

@@ -8,6 +8,7 @@ use Rattle.world_model.specs.Partition.{Kinds}
 use Rattle.world_model.specs.Plan.{Plan}
 use Rattle.world_model.specs.WorldLaw.{sees_tx, IsRight, ClocksAre, KeepsDecided, HaveCausesAt}
 use Rattle.world_model.specs.Past.{KeepPast}
+use Rattle.world_model.specs.Votes.{KeepVotes, ShowsVector, IsAgreed}
 use Rattle.world_model.specs.Doubt.{SettleDoubts}
 use Rattle.world_model.specs.Downs.{AnswerAsUp}
 use Rattle.world_model.specs.Shown.{ShowAt}
@@ -24,6 +25,9 @@ pub record IsLawfulWorld {S E : Type 0} (kinds : Kinds S E) (plan : Plan E) (run
   pub clock : ClocksAre run
   pub past : KeepPast plan.sites run
   pub decided_stay : KeepsDecided plan run
+  pub votes : KeepVotes plan run
+  pub vectors : EventsAre (ShowsVector plan run) run
+  pub agreed : (t : TxId) → is_decided run t ≡ true → IsAgreed plan run t
   -- after a decide that was cut off the lead's restart says which of two it was
   pub doubts : SettleDoubts run
   pub causes : HaveCausesAt plan run

@@ -24,5 +24,13 @@ pub mod Logs
 pub mod Stable
 pub mod Downs
 pub mod Doubt
+pub mod Votes
 pub mod LawfulWorld
+pub mod Lines
+pub mod LineClock
+pub mod LineHistory
+pub mod LinePast
+pub mod LineFate
+pub mod LineBounds
+pub mod LineLaw
 pub mod World

@@ -11,6 +11,8 @@ use Rattle.world_model.specs.Partition.{Kinds, PartState, new_part}
 use Rattle.world_model.specs.Plan.{Plan, is_some_update, home, updates_at, update_count, WorldStep}
 use Rattle.world_model.specs.LawfulWorld.{IsLawfulWorld}
 use Rattle.world_model.specs.Logs.{LeavesLogs}
+use Rattle.world_model.specs.Lines.{lines_of}
+use Rattle.world_model.specs.LineLaw.{IsLawfulRun}
 
 abbrev pub first_of : PartId → List PartId → PartId
 first_of p [] = p
@@ -86,6 +88,6 @@ module _ {E : Type 0} where
   IsWorldRun kinds sites parts [] state = (p : PartId) → state p ≡ new_part sites parts
   IsWorldRun kinds sites parts (e ∷ run) state = (before : PartId → PartState E) × IsWorldRun kinds sites parts run before × WorldStep kinds (plan_of sites parts (e ∷ run)) run before e state × IsNew run e.event
 
--- any run of the world is lawful, whatever its kinds do, and leaves the logs that its events tell
+-- any run of the world is lawful, whatever its kinds do, leaves the logs that its events tell, and shows the lines of a lawful run
 abbrev pub LawWorld : (S E : Type 0) → Type 0
-LawWorld S E = (kinds : Kinds S E) (sites parts : ℕ) (run : List (Entry E)) (state : PartId → PartState E) → IsWorldRun kinds sites parts run state → IsLawfulWorld kinds (plan_of sites parts run) run × LeavesLogs sites run state
+LawWorld S E = (kinds : Kinds S E) (sites parts : ℕ) (run : List (Entry E)) (state : PartId → PartState E) → IsWorldRun kinds sites parts run state → IsLawfulWorld kinds (plan_of sites parts run) run × LeavesLogs sites run state × IsLawfulRun sites parts (lines_of run)

@@ -8,7 +8,7 @@ use Rattle.crdt_core.specs.Kinds.{reads_state}
 use Rattle.crdt_core.specs.declared.record.Part.{Part}
 use Rattle.crdt_core.specs.declared.record.Message.{Message}
 use Rattle.world_model.specs.Log.{end_of_time, touches, lists}
-use Rattle.world_model.specs.Event.{AskRead, AskUpdate, AskPrepare, AskFinish, ClockBehind, ClockAtEnd, IsGone, Refused, Event, Ticked, Began, Updated, Read, Prepared, Sent, Restarted, Entry, is_decided, time_of, shown, missed}
+use Rattle.world_model.specs.Event.{AskRead, AskUpdate, AskPrepare, AskFinish, ClockBehind, ClockAtEnd, IsGone, Refused, Event, Ticked, Began, Updated, Read, Prepared, Sent, Restarted, Cut, Entry, is_decided, time_of, shown, missed}
 use Rattle.world_model.specs.Partition.{Kinds, state_read, Ascends, fold_cmp, stream_cmp, AreParts, names_pending}
 use Rattle.world_model.specs.Plan.{Plan, takes_part, changes_at, commit_vector}
 
@@ -35,6 +35,10 @@ module _ {E : Type 0} where
   ClockIs run p (Began who dep t s) = t.time ≡ shown run p + 1
   ClockIs run p (Prepared t s l w n) = n ≡ shown run p + 1
   ClockIs run p (Restarted n b named listed) = (shown run p ≤ n) × (n ≤ 1000 + max (shown run p) (missed run p))
+  -- and what a call would have shown that was cut off
+  ClockIs run p (Cut (Ticked r n)) = n ≡ max r (shown run p)
+  ClockIs run p (Cut (Began who dep t s)) = t.time ≡ shown run p + 1
+  ClockIs run p (Cut (Prepared t s l w n)) = n ≡ shown run p + 1
   ClockIs run p other = ⊤
 
   abbrev pub ClocksAre : List (Entry E) → Type 0
