@@ -16,6 +16,7 @@ pub mod Shows
 pub mod Hears
 pub mod Doubts
 pub mod Voting
+pub mod Handing
 pub mod LogsLeft
 pub mod Ups
 pub mod Meanings

@@ -18,9 +18,9 @@ use Rattle.crdt_core.specs.declared.record.Part.{Part}
 use Rattle.crdt_core.specs.declared.record.Message.{Message}
 use Rattle.world_model.specs.Log.{end_of_time, touches, prepared, prepare_time, prepared_changes, committed, aborted, pending, ceiling, grown}
 use Rattle.world_model.specs.Event.{AskRead, AskUpdate, AskDecide, AskAbort, AskTake, TxPending, IsGone, HasGap, IsRepeat, Event, Ticked, Began, Updated, Read, Prepared, Decided, Finished, Aborted, Sent, Took, Reported, Heard, Crashed, Restarted, Refused, Opened, Cut, Entry, attempt, tried, is_decided}
-use Rattle.world_model.specs.Partition.{Kinds, PartState, Image, IsOther, IsOwnBound, IsTxPending, AreTimed, names_pending, pending_cmp, lease_for, above, batch_of, new_part, PartStep}
+use Rattle.world_model.specs.Partition.{Kinds, PartState, Image, IsOther, IsOwnBound, IsReady, IsTxPending, AreTimed, names_pending, pending_cmp, lease_for, above, batch_of, new_part, PartStep}
 use Rattle.world_model.specs.Plan.{Plan, takes_part, IsAllowed, IsRun}
-use Rattle.world_model.specs.Shown.{listed_time, bound_after, bound_shown, pending_after, pending_shown, time_after, pending_time, committed_shown, IsOwnBoundAt, IsFirstPending, ShowsAt, ShowAt}
+use Rattle.world_model.specs.Shown.{listed_time, bound_after, bound_shown, pending_after, pending_shown, time_after, pending_time, committed_shown, IsOwnBoundAt, IsFirstPending, IsReadyAt, ShowsAt, ShowAt}
 use Rattle.world_model.proofs.Names.{clash, off, part_cases, part_other, entry_same, entry_cases}
 use Rattle.world_model.proofs.Moves.{Because, Move, moved, image_log, grown_last}
 use Rattle.world_model.proofs.Leases.{Leases}
@@ -250,6 +250,17 @@ module _ {E : Type 0} where
             first = λ w k y. let q = seen w k in subst (λ m. pending_cmp (w, m) (u, n) ≢ Less) (h.time at w up q) (x.first w q (subst (λ z. touches z o ≡ true) (sym (same w q)) y));
           }
 
+    -- a read that was ready is shown to be
+    ready_is : (up : (before at).up ≡ true) (l : Leases run before) (s : List ℕ) (o : ObjectId) → IsReady at (before at) s o → IsReadyAt plan run at s o
+    ready_is up l s o x =
+        let log = (before at).log in record {
+          clock = subst (λ n. entry s at.site ≤ n) (l.clock at).now x.clock;
+          free = λ u k y.
+              let w : pending log u ≡ true = h.waiting at u up ∙ k in
+              let same : prepared_changes log u ≡ plan.updates u at = f.wrote at log u (image_log (before at)) (pending_parts log u w).prepared in
+              subst (λ n. entry s at.site < n) (h.time at u up w) (x.free u w (subst (λ z. touches z o ≡ true) (sym same) y));
+        }
+
     -- what is committed here is shown to be
     committed_is : (before at).up ≡ true → (t : TxId) → committed (before at).log t ≡ committed_shown plan run at t
     committed_is up t =
@@ -269,6 +280,10 @@ module _ {E : Type 0} where
     known_is up t = λ i. (h.waiting at t up i || committed_is up t i)
 
     shows_event : (event : Event E) (q : PartState E) → Leases run before → IsAllowed plan run before at (attempt event) → PartStep kinds plan.sites plan.parts at (before at) event q → ShowsAt plan run at event
+    shows_event (Began who dep t s) q l al st = subst (λ n. n < end_of_time) (l.clock at).now st.1.early
+    shows_event (Read t s o own read value) q l al st = ready_is st.0 l s o st.1.0
+    shows_event (Updated t s o own op read u stamp) q l al st = λ k. ready_is st.0 l s o (st.1.ready k)
+    shows_event (Prepared t s y w n) q l al st = let e = (l.clock at).now in (al.snapshot, subst (λ k. entry s at.site ≤ k) e st.1.0, subst (λ k. k < end_of_time) e st.1.2)
     shows_event (Sent asked m) q l al st = own_bound st.0 l m.hi st.1.hi
     shows_event (Took m) q l al st = let e = h.bounds at m.from st.0 al.from in (subst (λ n. m.lo ≤ n) e st.1.0, subst (λ n. n < m.hi) e st.1.1)
     shows_event (Reported b) q l al st = (own_bound st.0 l (entry b at.site) st.1.own, λ j o. st.1.others j o ∙ h.bounds at j st.0 o)

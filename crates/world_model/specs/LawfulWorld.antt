@@ -5,9 +5,10 @@ use Rattle.site_vector.specs.declared.ids.TxId.{TxId}
 use Rattle.site_vector.specs.Vector.{entry}
 use Rattle.world_model.specs.Event.{Entry, EventsAre, is_decided, time_of, was_aborted}
 use Rattle.world_model.specs.Partition.{Kinds}
-use Rattle.world_model.specs.Plan.{Plan}
+use Rattle.world_model.specs.Plan.{Plan, updates_at}
 use Rattle.world_model.specs.WorldLaw.{sees_tx, IsRight, ClocksAre, KeepsDecided, HaveCausesAt}
 use Rattle.world_model.specs.Past.{KeepPast}
+use Rattle.world_model.specs.Handed.{AreHanded}
 use Rattle.world_model.specs.Votes.{KeepVotes, ShowsVector, IsAgreed}
 use Rattle.world_model.specs.Doubt.{SettleDoubts}
 use Rattle.world_model.specs.Downs.{AnswerAsUp}
@@ -25,6 +26,9 @@ pub record IsLawfulWorld {S E : Type 0} (kinds : Kinds S E) (plan : Plan E) (run
   pub clock : ClocksAre run
   pub past : KeepPast plan.sites run
   pub decided_stay : KeepsDecided plan run
+  pub handed : AreHanded plan run
+  -- all updates stand in the plan
+  pub planned : (t : TxId) (p : PartId) → plan.updates t p ≡ updates_at run t p
   pub votes : KeepVotes plan run
   pub vectors : EventsAre (ShowsVector plan run) run
   pub agreed : (t : TxId) → is_decided run t ≡ true → IsAgreed plan run t

@@ -25,6 +25,7 @@ pub mod Stable
 pub mod Downs
 pub mod Doubt
 pub mod Votes
+pub mod Handed
 pub mod LawfulWorld
 pub mod Lines
 pub mod LineClock

@@ -43,6 +43,10 @@ pub record IsPlace (sites parts : ℕ) (p : PartId) : Type 0 where
 abbrev pub twin : ℕ → PartId → PartId
 twin site p = record { site = site; part = p.part }
 
+abbrev pub first_of : PartId → List PartId → PartId
+first_of p [] = p
+first_of p (q ∷ qs) = q
+
 -- where a transaction began
 abbrev pub home : TxId → PartId
 home t = record { site = t.site; part = t.part }

@@ -6,8 +6,9 @@ use Rattle.site_vector.specs.declared.ids.TxId.{TxId}
 use Rattle.site_vector.specs.Ids.{same_part, same_tx}
 use Rattle.site_vector.specs.Vector.{entry}
 use Rattle.crdt_core.specs.declared.object.ObjectId.{ObjectId}
-use Rattle.world_model.specs.Log.{touches}
-use Rattle.world_model.specs.Event.{AskRead, AskUpdate, AskDecide, AskAbort, AskTake, TxPending, IsGone, HasGap, IsRepeat, Event, Prepared, Decided, Finished, Aborted, Sent, Took, Reported, Restarted, Refused, Entry, is_decided, shown}
+use Rattle.crdt_core.specs.Kinds.{reads_state}
+use Rattle.world_model.specs.Log.{end_of_time, touches}
+use Rattle.world_model.specs.Event.{Began, Updated, Read, AskRead, AskUpdate, AskDecide, AskAbort, AskTake, TxPending, IsGone, HasGap, IsRepeat, Event, Prepared, Decided, Finished, Aborted, Sent, Took, Reported, Restarted, Refused, Entry, is_decided, shown}
 use Rattle.world_model.specs.Partition.{IsOther, names_pending, pending_cmp}
 use Rattle.world_model.specs.Plan.{Plan, takes_part}
 
@@ -68,8 +69,17 @@ module _ {E : Type 0} where
   abbrev pub committed_shown : Plan E → List (Entry E) → PartId → TxId → Bool
   committed_shown plan run p t = takes_part plan t p && (is_decided run t && not (pending_shown run p t))
 
+  -- no wait was due for a read of the object under s
+  pub record IsReadyAt (plan : Plan E) (run : List (Entry E)) (p : PartId) (s : List ℕ) (o : ObjectId) : Type 0 where
+    pub clock : entry s p.site ≤ shown run p
+    pub free : (u : TxId) → pending_shown run p u ≡ true → touches (plan.updates u p) o ≡ true → entry s p.site < pending_time run p u
+
   -- what an event shows of bounds and of what is pending
   abbrev pub ShowsAt : Plan E → List (Entry E) → PartId → Event E → Type 0
+  ShowsAt plan run p (Began who dep t s) = shown run p < end_of_time
+  ShowsAt plan run p (Read t s o own read value) = IsReadyAt plan run p s o
+  ShowsAt plan run p (Updated t s o own op read u stamp) = reads_state o.kind ≡ true → IsReadyAt plan run p s o
+  ShowsAt plan run p (Prepared t s l w n) = (s ≡ plan.snapshot t) × (entry s p.site ≤ shown run p) × (shown run p < end_of_time)
   ShowsAt plan run p (Sent asked m) = IsOwnBoundAt run p m.hi
   ShowsAt plan run p (Took m) = (m.lo ≤ bound_shown run p m.from) × (bound_shown run p m.from < m.hi)
   ShowsAt plan run p (Reported b) = IsOwnBoundAt run p (entry b p.site) × ((j : ℕ) → IsOther plan.sites p.site j → entry b j ≡ bound_shown run p j)

@@ -8,15 +8,11 @@ use Rattle.crdt_core.specs.declared.record.Upd.{Upd}
 use Rattle.world_model.specs.Commit.{partitions}
 use Rattle.world_model.specs.Event.{Event, Began, Updated, Entry, tried}
 use Rattle.world_model.specs.Partition.{Kinds, PartState, new_part}
-use Rattle.world_model.specs.Plan.{Plan, is_some_update, home, updates_at, update_count, WorldStep}
+use Rattle.world_model.specs.Plan.{Plan, first_of, is_some_update, home, updates_at, update_count, WorldStep}
 use Rattle.world_model.specs.LawfulWorld.{IsLawfulWorld}
 use Rattle.world_model.specs.Logs.{LeavesLogs}
 use Rattle.world_model.specs.Lines.{lines_of}
 use Rattle.world_model.specs.LineLaw.{IsLawfulRun}
-
-abbrev pub first_of : PartId → List PartId → PartId
-first_of p [] = p
-first_of p (q ∷ qs) = q
 
 module _ {E : Type 0} where
   abbrev pub is_begin : Event E → TxId → Bool

@@ -1,0 +1,28 @@
+-- Where steps are made, and what they are handed.
+use Rattle.std.specs.Prelude.{◌≡◌, ℕ, List, [], ◌∷◌, ⊤}
+use Rattle.site_vector.specs.declared.ids.PartId.{PartId}
+use Rattle.site_vector.specs.declared.ids.TxId.{TxId}
+use Rattle.crdt_core.specs.declared.object.ObjectId.{ObjectId}
+use Rattle.crdt_core.specs.Placing.{place_of}
+use Rattle.world_model.specs.Event.{AskTake, Event, Began, Updated, Read, Took, Heard, Refused, Entry}
+use Rattle.world_model.specs.Plan.{Plan, home, MayTake, MayHear}
+
+module _ {E : Type 0} where
+  -- t reads and updates the object where it stands, at its own site
+  pub record IsPlacedAt (plan : Plan E) (p : PartId) (t : TxId) (o : ObjectId) : Type 0 where
+    pub site : p.site ≡ t.site
+    pub part : place_of o.bucket o.key plan.parts ≡ p.part
+
+  -- a begin names its partition; a message that is taken was sent to here, and a report that is heard was made
+  abbrev pub HandedAt : Plan E → List (Entry E) → PartId → Event E → Type 0
+  HandedAt plan run p (Began who dep t s) = home t ≡ p
+  HandedAt plan run p (Read t s o own read value) = IsPlacedAt plan p t o
+  HandedAt plan run p (Updated t s o own op read u stamp) = IsPlacedAt plan p t o × (u.object ≡ o)
+  HandedAt plan run p (Took m) = MayTake plan run p m
+  HandedAt plan run p (Refused (AskTake m) why) = MayTake plan run p m
+  HandedAt plan run p (Heard q b stable) = MayHear plan run p q b
+  HandedAt plan run p other = ⊤
+
+  abbrev pub AreHanded : Plan E → List (Entry E) → Type 0
+  AreHanded plan [] = ⊤
+  AreHanded plan (e ∷ run) = HandedAt plan run e.at e.event × AreHanded plan run
