@@ -17,6 +17,8 @@ pub mod Hears
 pub mod Doubts
 pub mod Voting
 pub mod Handing
+pub mod Sending
+pub mod Resuming
 pub mod LogsLeft
 pub mod Ups
 pub mod Meanings

@@ -49,7 +49,7 @@ not_pending : (s p : Bool) → (s ≡ true → p ≡ false) → p ≡ (not s && 
 not_pending true p h = h refl
 not_pending false p h = refl
 
-listed_is : {E : Type 0} (log : List (Record E)) (xs : List (TxId × ℕ)) (t : TxId) → AreTimed log xs → names_pending xs t ≡ true → listed_time xs t ≡ prepare_time log t
+pub listed_is : {E : Type 0} (log : List (Record E)) (xs : List (TxId × ℕ)) (t : TxId) → AreTimed log xs → names_pending xs t ≡ true → listed_time xs t ≡ prepare_time log t
 listed_is log [] t a h = off h
 listed_is log (x ∷ xs) t a h = ⊎_elim
     (λ (e : same_tx x.0 t ≡ true). cond-true _ x.1 (listed_time xs t) e ∙ a.0 ∙ ap (prepare_time log) (same_tx_is x.0 t e))
@@ -90,7 +90,7 @@ module _ {E : Type 0} where
     pub time : (q : PartId) (t : TxId) → (parts q).up ≡ true → pending (parts q).log t ≡ true → prepare_time (parts q).log t ≡ pending_time run q t
 
   -- what is shown at the partition of a step
-  record Here (plan : Plan E) (run : List (Entry E)) (at : PartId) (event : Event E) (p : PartState E) : Type 0 where
+  pub record Here (plan : Plan E) (run : List (Entry E)) (at : PartId) (event : Event E) (p : PartState E) : Type 0 where
     pub width : p.up ≡ true → length p.bounds ≡ plan.sites
     pub bounds : (j : ℕ) → p.up ≡ true → IsOther plan.sites at.site j → entry p.bounds j ≡ bound_after j (bound_shown run at j) event
     pub waiting : (t : TxId) → p.up ≡ true → pending p.log t ≡ pending_after t (pending_shown run at t) event
@@ -153,7 +153,7 @@ module _ {E : Type 0} where
           time = λ t x k. ap (λ p. prepare_time p.log t) st.2 ∙ batch_time (before at).log m b (above m.from b m.parts) t ∙ h.time at t st.0 (sym (batch_pending (before at).log m b (above m.from b m.parts) t) ∙ (ap (λ p. pending p.log t) (sym st.2) ∙ k));
         }
 
-    here : (event : Event E) → IsAllowed plan run before at (attempt event) → PartStep kinds plan.sites plan.parts at (before at) event (after at) → Here plan run at event (after at)
+    pub here : (event : Event E) → IsAllowed plan run before at (attempt event) → PartStep kinds plan.sites plan.parts at (before at) event (after at) → Here plan run at event (after at)
     here (Ticked r n) al st = plain (Ticked r n) st.0 (λ j. refl) (λ t. refl) (λ t. refl) (ap (λ p. p.bounds) st.2) (λ t. ap (λ p. pending p.log t) st.2 ∙ leased_pending (before at).log n t) (λ t. ap (λ p. prepare_time p.log t) st.2 ∙ leased_time (before at).log n t)
     here (Began who dep u s) al st = plain (Began who dep u s) st.0 (λ j. refl) (λ t. refl) (λ t. refl) (ap (λ p. p.bounds) st.2) (λ t. ap (λ p. pending p.log t) st.2 ∙ leased_pending (before at).log u.time t) (λ t. ap (λ p. prepare_time p.log t) st.2 ∙ leased_time (before at).log u.time t)
     here (Updated u s o own op read x stamp) al st = plain (Updated u s o own op read x stamp) st.0 (λ j. refl) (λ t. refl) (λ t. refl) (ap (λ p. p.bounds) st.2) (λ t. ap (λ p. pending p.log t) st.2) (λ t. ap (λ p. prepare_time p.log t) st.2)

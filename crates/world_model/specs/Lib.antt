@@ -26,6 +26,8 @@ pub mod Downs
 pub mod Doubt
 pub mod Votes
 pub mod Handed
+pub mod Resumed
+pub mod Sends
 pub mod LawfulWorld
 pub mod Lines
 pub mod LineClock
