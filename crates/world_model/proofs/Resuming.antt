@@ -16,11 +16,12 @@ use Rattle.world_model.specs.Log.{end_of_time, ceiling, pending, prepare_time, b
 use Rattle.world_model.specs.Event.{Event, Ticked, Began, Updated, Read, Prepared, Decided, Finished, Aborted, Sent, Took, Reported, Heard, Crashed, Restarted, Refused, Opened, Cut, Entry, attempt}
 use Rattle.world_model.specs.Partition.{Kinds, PartState, Image, IsOther, lease_for, above, batch_of, written, records, done, MayDo, names_pending, PartStep}
 use Rattle.world_model.specs.Plan.{Plan, IsAllowed, IsRun}
-use Rattle.world_model.specs.Shown.{listed_time, bound_shown, pending_after, pending_shown, time_after, pending_time}
+use Rattle.world_model.specs.Shown.{listed_time, bound_after, bound_shown, pending_after, pending_shown, time_after, pending_time}
 use Rattle.world_model.specs.Resumed.{cut_after, cut_call, is_some_part, brings, brought_after, brought, IsAsBefore, IsAsDone, ResumesAt, Resume}
 use Rattle.world_model.proofs.Names.{clash, off, part_cases, part_other}
 use Rattle.world_model.proofs.Moves.{image_log, grown_last}
 use Rattle.world_model.proofs.Fate.{Fate}
+use Rattle.world_model.proofs.Leases.{Leases}
 use Rattle.world_model.proofs.Kept.{law_plan}
 use Rattle.world_model.proofs.Shows.{Shown, shown_run, Here, here, listed_is}
 
@@ -38,15 +39,13 @@ module _ {E : Type 0} where
   alike_leased m log k e = record { pending = λ t. ap (λ x. pending x t) e; time = λ t. ap (λ x. prepare_time x t) e; bound = λ j. ap (λ x. bound x j) e }
 
   -- all records of a call, or none that tells more
-  IsTwo : List (Record E) → List (Record E) → List (Record E) → Type 0
+  abbrev IsTwo : List (Record E) → List (Record E) → List (Record E) → Type 0
   IsTwo log rs m = Alike m log ⊎ (m ≡ grown log rs)
 
   two_none : (log m : List (Record E)) → m ≡ log → IsTwo log [] m
-  unfolding IsTwo
   two_none log m i = inr i
 
   two_one : (log m : List (Record E)) (r : Record E) → IsImage log (r ∷ []) m → IsTwo log (r ∷ []) m
-  unfolding IsTwo
   two_one log m r i = ⊎_elim (λ (e : m ≡ log). inl (alike_same m log e)) (λ (e : m ≡ r ∷ log). inr e) i
 
   two_if : (log m : List (Record E)) (b : Bool) (r : Record E) → IsImage log (cond b (r ∷ []) []) m → IsTwo log (cond b (r ∷ []) []) m
@@ -61,7 +60,6 @@ module _ {E : Type 0} where
       go false i = two_one log m (Lease (min (n + 1000) end_of_time)) i
 
   two_prepare : (log m : List (Record E)) (n : ℕ) (r : Record E) → IsImage log (lease_for log n ++ r ∷ []) m → IsTwo log (lease_for log n ++ r ∷ []) m
-  unfolding IsTwo
   two_prepare log m n r i = go (leb n (ceiling log)) i
     where
       k : ℕ
@@ -129,3 +127,191 @@ module _ {E : Type 0} where
     done_bound (Refused asked why) al k up j h = absurd k
     done_bound (Opened who) al k up j h = absurd k
     done_bound (Cut a) al k up j h = absurd k
+
+  -- what a log tells: so is pending, with such times, and such bounds
+  record Tells (plan : Plan E) (p : PartId) (pend : TxId → Bool) (drawn : TxId → ℕ) (ends : ℕ → ℕ) (m : List (Record E)) : Type 0 where
+    pub waits : (t : TxId) → pending m t ≡ pend t
+    pub since : (t : TxId) → pending m t ≡ true → prepare_time m t ≡ drawn t
+    pub upto : (j : ℕ) → IsOther plan.sites p.site j → bound m j ≡ ends j
+
+  abbrev TellsBefore : Plan E → List (Entry E) → PartId → List (Record E) → Type 0
+  TellsBefore plan run p m = Tells plan p (pending_shown run p) (pending_time run p) (brought run p) m
+
+  abbrev TellsDone : Plan E → List (Entry E) → PartId → Event E → List (Record E) → Type 0
+  TellsDone plan run p what m = Tells plan p (λ t. pending_after t (pending_shown run p t) what) (λ t. time_after t (pending_time run p t) what) (λ j. brought_after run p j (brought run p j) what) m
+
+  abbrev TellsTwo : Plan E → List (Entry E) → PartId → List (Record E) → Type 0
+  TellsTwo plan run p m = TellsBefore plan run p m ⊎ ((what : Event E) × (cut_call run p ≡ Some what) × TellsDone plan run p what m)
+
+  record Resumable (plan : Plan E) (run : List (Entry E)) (parts : PartId → PartState E) : Type 0 where
+    pub up : (p : PartId) → (parts p).up ≡ true → (j : ℕ) → IsOther plan.sites p.site j → bound (parts p).log j ≡ brought run p j
+    pub down : (p : PartId) → (parts p).up ≡ false → (m : List (Record E)) → Image (parts p) m → TellsTwo plan run p m
+
+  -- the later run shows the same of p
+  record SameView (run next : List (Entry E)) (p : PartId) : Type 0 where
+    pub pend : (t : TxId) → pending_shown next p t ≡ pending_shown run p t
+    pub time : (t : TxId) → pending_time next p t ≡ pending_time run p t
+    pub ends : (j : ℕ) → brought next p j ≡ brought run p j
+    pub bound : (j : ℕ) → bound_shown next p j ≡ bound_shown run p j
+
+  brought_same : (run next : List (Entry E)) (p : PartId) → SameView run next p → (j : ℕ) (what : Event E) → brought_after next p j (brought next p j) what ≡ brought_after run p j (brought run p j) what
+  brought_same run next p v j (Took m) = λ i. cond (m.from == j && brings m (v.bound m.from i)) (max m.hi (v.ends j i)) (v.ends j i)
+  brought_same run next p v j (Restarted n b named listed) = refl
+  brought_same run next p v j what = v.ends j
+
+  before_map : (plan : Plan E) (run next : List (Entry E)) (p : PartId) (m : List (Record E)) → SameView run next p → TellsBefore plan run p m → TellsBefore plan next p m
+  before_map plan run next p m v x = record { waits = λ t. x.waits t ∙ sym (v.pend t); since = λ t h. x.since t h ∙ sym (v.time t); upto = λ j o. x.upto j o ∙ sym (v.ends j) }
+
+  done_map : (plan : Plan E) (run next : List (Entry E)) (p : PartId) (what : Event E) (m : List (Record E)) → SameView run next p → TellsDone plan run p what m → TellsDone plan next p what m
+  done_map plan run next p what m v x = record {
+    waits = λ t. x.waits t ∙ ap (λ b. pending_after t b what) (sym (v.pend t));
+    since = λ t h. x.since t h ∙ ap (λ n. time_after t n what) (sym (v.time t));
+    upto = λ j o. x.upto j o ∙ sym (brought_same run next p v j what);
+  }
+
+  two_map : (plan : Plan E) (run next : List (Entry E)) (p : PartId) (m : List (Record E)) → SameView run next p → cut_call next p ≡ cut_call run p → TellsTwo plan run p m → TellsTwo plan next p m
+  two_map plan run next p m v c x = ⊎_elim
+      (λ (y : TellsBefore plan run p m). inl (before_map plan run next p m v y))
+      (λ (y : (what : Event E) × (cut_call run p ≡ Some what) × TellsDone plan run p what m). inr (y.0, c ∙ y.1, done_map plan run next p y.0 m v y.2))
+      x
+
+  -- what an event at p shows nothing of
+  same_view : (run : List (Entry E)) (p : PartId) (event : Event E) → ((t : TxId) → pending_after t (pending_shown run p t) event ≡ pending_shown run p t) → ((t : TxId) → time_after t (pending_time run p t) event ≡ pending_time run p t) → ((j : ℕ) → brought_after run p j (brought run p j) event ≡ brought run p j) → ((j : ℕ) → bound_after j (bound_shown run p j) event ≡ bound_shown run p j) → SameView run ((record { at = p; event = event }) ∷ run) p
+  same_view run p event a b c d =
+      let yes = same_part_refl p in record {
+        pend = λ t. cond-true _ _ _ yes ∙ a t;
+        time = λ t. cond-true _ _ _ yes ∙ b t;
+        ends = λ j. cond-true _ _ _ yes ∙ c j;
+        bound = λ j. cond-true _ _ _ yes ∙ d j;
+      }
+
+  other_view : (run : List (Entry E)) (e : Entry E) (p : PartId) → (e.at ≡ p → ⊥) → SameView run (e ∷ run) p
+  other_view run e p ne =
+      let no = part_other e.at p ne in record {
+        pend = λ t. cond-false _ _ _ no;
+        time = λ t. cond-false _ _ _ no;
+        ends = λ j. cond-false _ _ _ no;
+        bound = λ j. cond-false _ _ _ no;
+      }
+
+  module _ {S : Type 0} (kinds : Kinds S E) (plan : Plan E) (run : List (Entry E)) (before after : PartId → PartState E) (at : PartId) (f : Fate plan run before) (l : Leases run before) (w : Shown plan run before) (h : Resumable plan run before) where
+    -- a partition that is up tells what was shown
+    tells_up : (before at).up ≡ true → (m : List (Record E)) → Alike m (before at).log → TellsBefore plan run at m
+    tells_up up m a = record {
+      waits = λ t. a.pending t ∙ w.waiting at t up;
+      since = λ t k. a.time t ∙ w.time at t up (sym (a.pending t) ∙ k);
+      upto = λ j o. a.bound j ∙ h.up at up j o;
+    }
+
+    tells_done : (what : Event E) → IsAllowed plan run before at (attempt what) → IsAllowed plan run before at what → (before at).up ≡ true → MayDo kinds plan.sites plan.parts at (before at) what → PartStep kinds plan.sites plan.parts at (before at) what (done (before at) what) → (m : List (Record E)) → m ≡ (done (before at) what).log → TellsDone plan run at what m
+    tells_done what al' al up k st m e =
+        let x = here kinds plan run before (λ q. done (before at) what) at f w what al' st in record {
+          waits = λ t. ap (λ y. pending y t) e ∙ x.waiting t refl;
+          since = λ t p. ap (λ y. prepare_time y t) e ∙ x.time t refl (ap (λ y. pending y t) (sym e) ∙ p);
+          upto = λ j o. ap (λ y. bound y j) e ∙ done_bound kinds plan run before at w what al k up j (h.up at up j o);
+        }
+
+    -- what is done may be called done
+    step_done : (what : Event E) → (before at).up ≡ true → MayDo kinds plan.sites plan.parts at (before at) what → PartStep kinds plan.sites plan.parts at (before at) what (done (before at) what)
+    step_done Crashed up k = absurd k
+    step_done (Restarted n b named listed) up k = absurd k
+    step_done (Refused asked why) up k = absurd k
+    step_done (Opened who) up k = absurd k
+    step_done (Cut a) up k = absurd k
+    step_done what up k = (up, k, refl)
+
+    allowed_done : (what : Event E) → MayDo kinds plan.sites plan.parts at (before at) what → IsAllowed plan run before at what → IsAllowed plan run before at (attempt what)
+    allowed_done (Cut a) k al = absurd k
+    allowed_done what k al = al
+
+    abbrev next : Event E → List (Entry E)
+    next event = (record { at = at; event = event }) ∷ run
+
+    cut_here : (what : Event E) → IsAllowed plan run before at what → PartStep kinds plan.sites plan.parts at (before at) (Cut what) (after at) → (m : List (Record E)) → Image (after at) m → TellsTwo plan (next (Cut what)) at m
+    cut_here what al st m i =
+        let v : SameView run (next (Cut what)) at = same_view run at (Cut what) (λ t. refl) (λ t. refl) (λ j. refl) (λ j. refl) in ⊎_elim
+        (λ (x : Alike m (before at).log). inl (before_map plan run (next (Cut what)) at m v (tells_up st.0 m x)))
+        (λ (x : m ≡ grown (before at).log (records (before at) what)). inr (
+          what,
+          cond-true _ _ _ (same_part_refl at),
+          done_map plan run (next (Cut what)) at what m v (tells_done what (allowed_done what st.1 al) al st.0 st.1 (step_done what st.0 st.1) m x),
+        ))
+        (two_images kinds plan.sites plan.parts at (before at) what m st.1 (subst (λ p. Image p m) st.2 i))
+
+    crashed_here : PartStep kinds plan.sites plan.parts at (before at) Crashed (after at) → (m : List (Record E)) → Image (after at) m → TellsTwo plan (next Crashed) at m
+    crashed_here st m i =
+        let v : SameView run (next Crashed) at = same_view run at Crashed (λ t. refl) (λ t. refl) (λ j. refl) (λ j. refl) in
+        let e : m ≡ (before at).log = subst (λ rs. IsImage (before at).log rs m) ((l.clock at).whole st.0) (subst (λ p. Image p m) st.1 i) in
+        inl (before_map plan run (next Crashed) at m v (tells_up st.0 m (alike_same m (before at).log e)))
+
+    stays_here : (event : Event E) → SameView run (next event) at → cut_call (next event) at ≡ cut_call run at → after at ≡ before at → (after at).up ≡ false → (m : List (Record E)) → Image (after at) m → TellsTwo plan (next event) at m
+    stays_here event v c e d m i = two_map plan run (next event) at m v c (h.down at (sym (ap (λ p. p.up) e) ∙ d) m (subst (λ p. Image p m) e i))
+
+    down_here : (event : Event E) → IsAllowed plan run before at (attempt event) → PartStep kinds plan.sites plan.parts at (before at) event (after at) → (after at).up ≡ false → (m : List (Record E)) → Image (after at) m → TellsTwo plan (next event) at m
+    down_here (Cut what) al st d m i = cut_here what al st m i
+    down_here Crashed al st d m i = crashed_here st m i
+    down_here (Restarted n b named listed) al st d m i = clash st.up d
+    down_here (Refused asked why) al st d m i = stays_here (Refused asked why) (same_view run at (Refused asked why) (λ t. refl) (λ t. refl) (λ j. refl) (λ j. refl)) (cond-true _ _ _ (same_part_refl at)) st.1 d m i
+    down_here (Opened who) al st d m i = stays_here (Opened who) (same_view run at (Opened who) (λ t. refl) (λ t. refl) (λ j. refl) (λ j. refl)) (cond-true _ _ _ (same_part_refl at)) st d m i
+    down_here event al st d m i = clash (ap (λ p. p.up) st.2) d
+
+    up_done : (event : Event E) → IsAllowed plan run before at event → (before at).up ≡ true → MayDo kinds plan.sites plan.parts at (before at) event → after at ≡ done (before at) event → (j : ℕ) → IsOther plan.sites at.site j → bound (after at).log j ≡ brought_after run at j (brought run at j) event
+    up_done event al up k e j o = ap (λ p. bound p.log j) e ∙ done_bound kinds plan run before at w event al k up j (h.up at up j o)
+
+    up_here : (event : Event E) → IsAllowed plan run before at (attempt event) → PartStep kinds plan.sites plan.parts at (before at) event (after at) → (after at).up ≡ true → (j : ℕ) → IsOther plan.sites at.site j → bound (after at).log j ≡ brought_after run at j (brought run at j) event
+    up_here (Cut what) al st u j o = clash u (ap (λ p. p.up) st.2)
+    up_here Crashed al st u j o = clash u (ap (λ p. p.up) st.1)
+    up_here (Restarted n b named listed) al st u j o = sym (st.bounds j o) ∙ sym (st.shown_bounds.others j o)
+    up_here (Refused asked why) al st u j o = ap (λ p. bound p.log j) st.1 ∙ h.up at (sym (ap (λ p. p.up) st.1) ∙ u) j o
+    up_here (Opened who) al st u j o = ap (λ p. bound p.log j) st ∙ h.up at (sym (ap (λ p. p.up) st) ∙ u) j o
+    up_here (Ticked r n) al st u j o = up_done (Ticked r n) al st.0 st.1 st.2 j o
+    up_here (Began who dep t s) al st u j o = up_done (Began who dep t s) al st.0 st.1 st.2 j o
+    up_here (Updated t s y own op read x stamp) al st u j o = up_done (Updated t s y own op read x stamp) al st.0 st.1 st.2 j o
+    up_here (Read t s y own read value) al st u j o = up_done (Read t s y own read value) al st.0 st.1 st.2 j o
+    up_here (Prepared t s y c n) al st u j o = up_done (Prepared t s y c n) al st.0 st.1 st.2 j o
+    up_here (Decided t c) al st u j o = up_done (Decided t c) al st.0 st.1 st.2 j o
+    up_here (Finished t c) al st u j o = up_done (Finished t c) al st.0 st.1 st.2 j o
+    up_here (Aborted t own) al st u j o = up_done (Aborted t own) al st.0 st.1 st.2 j o
+    up_here (Sent asked x) al st u j o = up_done (Sent asked x) al st.0 st.1 st.2 j o
+    up_here (Took x) al st u j o = up_done (Took x) al st.0 st.1 st.2 j o
+    up_here (Reported b) al st u j o = up_done (Reported b) al st.0 st.1 st.2 j o
+    up_here (Heard q b stable) al st u j o = up_done (Heard q b stable) al st.0 st.1 st.2 j o
+
+    resumable_step : (event : Event E) → IsAllowed plan run before at (attempt event) → PartStep kinds plan.sites plan.parts at (before at) event (after at) → ((q : PartId) → q ≢ at → after q ≡ before q) → Resumable plan (next event) after
+    resumable_step event al st others =
+        let old = λ (p : PartId) (ne : at ≡ p → ⊥). others p (λ e. ne (sym e)) in record {
+          up = λ p u j o. ⊎_elim
+              (λ (e : at ≡ p). subst (λ y. (after y).up ≡ true → IsOther plan.sites y.site j → bound (after y).log j ≡ brought_after run y j (brought run y j) event) e (λ u' o'. up_here event al st u' j o') u o ∙ sym (cond-true _ _ _ (subst (λ y. same_part at y ≡ true) e (same_part_refl at))))
+              (λ (ne : at ≡ p → ⊥). ap (λ y. bound y.log j) (old p ne) ∙ h.up p (ap (λ y. y.up) (sym (old p ne)) ∙ u) j o ∙ sym (cond-false _ _ _ (part_other at p ne)))
+              (part_cases at p);
+          down = λ p d m i. ⊎_elim
+              (λ (e : at ≡ p). subst (λ y. (after y).up ≡ false → Image (after y) m → TellsTwo plan (next event) y m) e (λ d' i'. down_here event al st d' m i') d i)
+              (λ (ne : at ≡ p → ⊥). two_map plan run (next event) p m (other_view run (record { at = at; event = event }) p ne) (cond-false _ _ _ (part_other at p ne)) (h.down p (ap (λ y. y.up) (sym (old p ne)) ∙ d) m (subst (λ y. Image y m) (old p ne) i)))
+              (part_cases at p);
+        }
+
+    resumes_event : (event : Event E) (q : PartState E) → PartStep kinds plan.sites plan.parts at (before at) event q → ResumesAt plan run at event
+    resumes_event (Restarted n b named listed) q st =
+        let ends : (j : ℕ) → IsOther plan.sites at.site j → entry b j ≡ bound q.log j = λ j o. st.shown_bounds.others j o ∙ st.bounds j o in
+        let times : (t : TxId) → names_pending listed t ≡ true → listed_time listed t ≡ prepare_time q.log t = λ t k. listed_is q.log listed t st.timed k in ⊎_elim
+        (λ (x : TellsBefore plan run at q.log). inl (record { members = λ t. st.members t ∙ x.waits t; times = λ t k. times t k ∙ x.since t (sym (st.members t) ∙ k); bounds = λ j o. ends j o ∙ x.upto j o }))
+        (λ (x : (what : Event E) × (cut_call run at ≡ Some what) × TellsDone plan run at what q.log). inr (x.0, x.1, record { members = λ t. st.members t ∙ x.2.waits t; times = λ t k. times t k ∙ x.2.since t (sym (st.members t) ∙ k); bounds = λ j o. ends j o ∙ x.2.upto j o }))
+        (h.down at st.down q.log st.found)
+    resumes_event event q st = tt
+
+  resumable : {S : Type 0} (kinds : Kinds S E) (plan : Plan E) (run : List (Entry E)) (parts : PartId → PartState E) → IsRun kinds plan run parts → Resumable plan run parts
+  resumable kinds plan [] parts r = record {
+    up = λ p u j o. ap (λ x. bound x.log j) (r p);
+    down = λ p d m i. clash (ap (λ x. x.up) (r p)) d;
+  }
+  resumable kinds plan (e ∷ run) parts r =
+      let k = law_plan kinds plan run r.0 r.1 in
+      resumable_step kinds plan run r.0 parts e.at k.fate k.leases (shown_run kinds plan run r.0 r.1) (resumable kinds plan run r.0 r.1) e.event r.2.allowed r.2.step r.2.others
+
+  pub resume_events : {S : Type 0} (kinds : Kinds S E) (plan : Plan E) (run : List (Entry E)) (parts : PartId → PartState E) → IsRun kinds plan run parts → Resume plan run
+  resume_events kinds plan [] parts r = tt
+  resume_events kinds plan (e ∷ run) parts r =
+      let k = law_plan kinds plan run r.0 r.1 in (
+        resumes_event kinds plan run r.0 parts e.at k.fate k.leases (shown_run kinds plan run r.0 r.1) (resumable kinds plan run r.0 r.1) e.event (parts e.at) r.2.step,
+        resume_events kinds plan run r.0 r.1,
+      )

@@ -31,6 +31,8 @@ use Rattle.world_model.proofs.Ups.{answer_up}
 use Rattle.world_model.proofs.Doubts.{settle_doubts}
 use Rattle.world_model.proofs.Voting.{vote_events, vectors, agreed}
 use Rattle.world_model.proofs.Handing.{handed_events, planned_updates}
+use Rattle.world_model.proofs.Resuming.{resume_events}
+use Rattle.world_model.proofs.Sending.{send_events}
 use Rattle.world_model.proofs.LogsLeft.{logs_left}
 use Rattle.world_model.proofs.LineLaws.{lawful_lines}
 use Rattle.world_model.proofs.Stories.{stories, meanings, planned_changes}
@@ -323,6 +325,8 @@ module _ {E : Type 0} where
           doubts = settle_doubts kinds plan run state under;
           causes = k.causes;
           downs = answer_up kinds plan run state under;
+          resumed = resume_events kinds plan run state under;
+          sends = send_events kinds plan run state under;
           shown = show_events kinds plan run state under;
           fresh = fresh_events kinds plan run state under;
           fate = never_both kinds plan run state k;

@@ -8,6 +8,8 @@ use Rattle.world_model.specs.Partition.{Kinds}
 use Rattle.world_model.specs.Plan.{Plan, updates_at}
 use Rattle.world_model.specs.WorldLaw.{sees_tx, IsRight, ClocksAre, KeepsDecided, HaveCausesAt}
 use Rattle.world_model.specs.Past.{KeepPast}
+use Rattle.world_model.specs.Resumed.{Resume}
+use Rattle.world_model.specs.Sends.{Send}
 use Rattle.world_model.specs.Handed.{AreHanded}
 use Rattle.world_model.specs.Votes.{KeepVotes, ShowsVector, IsAgreed}
 use Rattle.world_model.specs.Doubt.{SettleDoubts}
@@ -36,6 +38,10 @@ pub record IsLawfulWorld {S E : Type 0} (kinds : Kinds S E) (plan : Plan E) (run
   pub doubts : SettleDoubts run
   pub causes : HaveCausesAt plan run
   pub downs : AnswerAsUp run
+  -- a restart lists what was before, where a call that was cut off may have been done
+  pub resumed : Resume plan run
+  -- a message begins where it was asked to, or where the last one ended
+  pub sends : Send plan run
   -- messages, takes, reports and waits show the bounds and what is pending, as earlier events do
   pub shown : ShowAt plan run
   -- snapshots have the stable entries, by the reports that were heard
