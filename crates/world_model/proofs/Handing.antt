@@ -10,7 +10,7 @@ use Rattle.crdt_core.specs.declared.record.Upd.{Upd}
 use Rattle.world_model.specs.Event.{AskTake, Event, Began, Updated, Read, Took, Heard, Refused, Entry, attempt, WasShown}
 use Rattle.world_model.specs.Partition.{Kinds, PartState, PartStep}
 use Rattle.world_model.specs.Plan.{Plan, home, is_some_update, takes_part, change_by, updates_at, IsPlace, IsAllowed, IsRun}
-use Rattle.world_model.specs.Handed.{HandedAt, AreHanded}
+use Rattle.world_model.specs.Handed.{HandedAt, AreHanded, AreNew}
 use Rattle.world_model.specs.World.{is_begin, begin_vector, begun, snapshot_of, is_own, changes_of, plan_of, IsWorldRun}
 use Rattle.world_model.proofs.Names.{off}
 
@@ -91,3 +91,7 @@ module _ {E : Type 0} where
       none [] true k = refl
       none [] false k = refl
       none (u ∷ us) b k = off (sym k)
+
+  pub numbered_events : {S : Type 0} (kinds : Kinds S E) (sites parts : ℕ) (run : List (Entry E)) (state : PartId → PartState E) → IsWorldRun kinds sites parts run state → AreNew run
+  numbered_events kinds sites parts [] state r = tt
+  numbered_events kinds sites parts (e ∷ run) state r = (r.3, numbered_events kinds sites parts run r.0 r.1)

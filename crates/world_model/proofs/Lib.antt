@@ -24,6 +24,7 @@ pub mod Ups
 pub mod Meanings
 pub mod Stories
 pub mod LineViews
+pub mod LineChanges
 pub mod LineLaws
 pub mod Whole
 pub mod Example

@@ -17,7 +17,7 @@ use Rattle.world_model.specs.Event.{Event, Ticked, Began, Updated, Read, Prepare
 use Rattle.world_model.specs.Partition.{Kinds, PartState, Image, IsOther, lease_for, above, batch_of, written, records, done, MayDo, names_pending, PartStep}
 use Rattle.world_model.specs.Plan.{Plan, IsAllowed, IsRun}
 use Rattle.world_model.specs.Shown.{listed_time, bound_after, bound_shown, pending_after, pending_shown, time_after, pending_time}
-use Rattle.world_model.specs.Resumed.{cut_after, cut_call, is_some_part, brings, brought_after, brought, IsAsBefore, IsAsDone, ResumesAt, Resume}
+use Rattle.world_model.specs.Resumed.{is_call, cut_after, cut_call, is_some_part, brings, brought_after, brought, IsAsBefore, IsAsDone, ResumesAt, Resume}
 use Rattle.world_model.proofs.Names.{clash, off, part_cases, part_other}
 use Rattle.world_model.proofs.Moves.{image_log, grown_last}
 use Rattle.world_model.proofs.Fate.{Fate}
@@ -141,7 +141,7 @@ module _ {E : Type 0} where
   TellsDone plan run p what m = Tells plan p (λ t. pending_after t (pending_shown run p t) what) (λ t. time_after t (pending_time run p t) what) (λ j. brought_after run p j (brought run p j) what) m
 
   abbrev TellsTwo : Plan E → List (Entry E) → PartId → List (Record E) → Type 0
-  TellsTwo plan run p m = TellsBefore plan run p m ⊎ ((what : Event E) × (cut_call run p ≡ Some what) × TellsDone plan run p what m)
+  TellsTwo plan run p m = TellsBefore plan run p m ⊎ ((what : Event E) × (cut_call run p ≡ Some what) × (is_call what ≡ true) × TellsDone plan run p what m)
 
   record Resumable (plan : Plan E) (run : List (Entry E)) (parts : PartId → PartState E) : Type 0 where
     pub up : (p : PartId) → (parts p).up ≡ true → (j : ℕ) → IsOther plan.sites p.site j → bound (parts p).log j ≡ brought run p j
@@ -172,7 +172,7 @@ module _ {E : Type 0} where
   two_map : (plan : Plan E) (run next : List (Entry E)) (p : PartId) (m : List (Record E)) → SameView run next p → cut_call next p ≡ cut_call run p → TellsTwo plan run p m → TellsTwo plan next p m
   two_map plan run next p m v c x = ⊎_elim
       (λ (y : TellsBefore plan run p m). inl (before_map plan run next p m v y))
-      (λ (y : (what : Event E) × (cut_call run p ≡ Some what) × TellsDone plan run p what m). inr (y.0, c ∙ y.1, done_map plan run next p y.0 m v y.2))
+      (λ (y : (what : Event E) × (cut_call run p ≡ Some what) × (is_call what ≡ true) × TellsDone plan run p what m). inr (y.0, c ∙ y.1, y.2, done_map plan run next p y.0 m v y.3))
       x
 
   -- what an event at p shows nothing of
@@ -220,6 +220,14 @@ module _ {E : Type 0} where
     step_done (Cut a) up k = absurd k
     step_done what up k = (up, k, refl)
 
+    called : (what : Event E) → MayDo kinds plan.sites plan.parts at (before at) what → is_call what ≡ true
+    called Crashed k = absurd k
+    called (Restarted n b named listed) k = absurd k
+    called (Refused asked why) k = absurd k
+    called (Opened who) k = absurd k
+    called (Cut a) k = absurd k
+    called what k = refl
+
     allowed_done : (what : Event E) → MayDo kinds plan.sites plan.parts at (before at) what → IsAllowed plan run before at what → IsAllowed plan run before at (attempt what)
     allowed_done (Cut a) k al = absurd k
     allowed_done what k al = al
@@ -234,6 +242,7 @@ module _ {E : Type 0} where
         (λ (x : m ≡ grown (before at).log (records (before at) what)). inr (
           what,
           cond-true _ _ _ (same_part_refl at),
+          called what st.1,
           done_map plan run (next (Cut what)) at what m v (tells_done what (allowed_done what st.1 al) al st.0 st.1 (step_done what st.0 st.1) m x),
         ))
         (two_images kinds plan.sites plan.parts at (before at) what m st.1 (subst (λ p. Image p m) st.2 i))
@@ -295,7 +304,7 @@ module _ {E : Type 0} where
         let ends : (j : ℕ) → IsOther plan.sites at.site j → entry b j ≡ bound q.log j = λ j o. st.shown_bounds.others j o ∙ st.bounds j o in
         let times : (t : TxId) → names_pending listed t ≡ true → listed_time listed t ≡ prepare_time q.log t = λ t k. listed_is q.log listed t st.timed k in ⊎_elim
         (λ (x : TellsBefore plan run at q.log). inl (record { members = λ t. st.members t ∙ x.waits t; times = λ t k. times t k ∙ x.since t (sym (st.members t) ∙ k); bounds = λ j o. ends j o ∙ x.upto j o }))
-        (λ (x : (what : Event E) × (cut_call run at ≡ Some what) × TellsDone plan run at what q.log). inr (x.0, x.1, record { members = λ t. st.members t ∙ x.2.waits t; times = λ t k. times t k ∙ x.2.since t (sym (st.members t) ∙ k); bounds = λ j o. ends j o ∙ x.2.upto j o }))
+        (λ (x : (what : Event E) × (cut_call run at ≡ Some what) × (is_call what ≡ true) × TellsDone plan run at what q.log). inr (x.0, x.1, x.2, record { members = λ t. st.members t ∙ x.3.waits t; times = λ t k. times t k ∙ x.3.since t (sym (st.members t) ∙ k); bounds = λ j o. ends j o ∙ x.3.upto j o }))
         (h.down at st.down q.log st.found)
     resumes_event event q st = tt
 

@@ -13,7 +13,8 @@ use Rattle.world_model.specs.Log.{end_of_time, ceiling, prepared, pending, commi
 use Rattle.world_model.specs.Event.{AskFinish, AskTake, Refused, Event, Began, Updated, Read, Prepared, Decided, Finished, Aborted, Took, Heard, Cut, Entry, attempt, is_prepare, tried, voted, shown, shown_after, time_of, is_decided, WasShown}
 use Rattle.world_model.specs.Partition.{Kinds, PartState, PartStep, MayDo}
 use Rattle.world_model.specs.Plan.{Plan, first_of, is_some_update, home, takes_part, commit_vector, updates_at, change_by, IsAllowed, IsPlanned, TellsAborted, IsRun}
-use Rattle.world_model.specs.World.{is_begin, begin_vector, begun, snapshot_of, changes_of, lead_of, own_parts, plan_of, IsNew, IsWorldRun}
+use Rattle.world_model.specs.Handed.{IsNew}
+use Rattle.world_model.specs.World.{is_begin, begin_vector, begun, snapshot_of, changes_of, lead_of, own_parts, plan_of, IsWorldRun}
 use Rattle.world_model.specs.LawfulWorld.{IsLawfulWorld}
 use Rattle.world_model.specs.Logs.{LeavesLogs}
 use Rattle.world_model.specs.Lines.{lines_of}
@@ -30,7 +31,7 @@ use Rattle.world_model.proofs.Hears.{fresh_events}
 use Rattle.world_model.proofs.Ups.{answer_up}
 use Rattle.world_model.proofs.Doubts.{settle_doubts}
 use Rattle.world_model.proofs.Voting.{vote_events, vectors, agreed}
-use Rattle.world_model.proofs.Handing.{handed_events, planned_updates}
+use Rattle.world_model.proofs.Handing.{handed_events, numbered_events, planned_updates}
 use Rattle.world_model.proofs.Resuming.{resume_events}
 use Rattle.world_model.proofs.Sending.{send_events}
 use Rattle.world_model.proofs.LogsLeft.{logs_left}
@@ -318,6 +319,7 @@ module _ {E : Type 0} where
           past = k.past;
           decided_stay = k.decided_stay;
           handed = handed_events kinds plan run state under;
+          numbered = numbered_events kinds sites parts run state r;
           planned = planned_updates kinds sites parts run state r;
           votes = vote_events kinds plan run state under;
           vectors = vectors kinds plan run state under;

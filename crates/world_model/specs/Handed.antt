@@ -1,11 +1,12 @@
 -- Where steps are made, and what they are handed.
-use Rattle.std.specs.Prelude.{◌≡◌, ℕ, List, [], ◌∷◌, ⊤}
+use Rattle.std.specs.Prelude.{◌≡◌, ℕ, ◌+◌, false, List, [], ◌∷◌, ⊤}
 use Rattle.site_vector.specs.declared.ids.PartId.{PartId}
 use Rattle.site_vector.specs.declared.ids.TxId.{TxId}
 use Rattle.crdt_core.specs.declared.object.ObjectId.{ObjectId}
+use Rattle.crdt_core.specs.declared.record.Upd.{Upd}
 use Rattle.crdt_core.specs.Placing.{place_of}
-use Rattle.world_model.specs.Event.{AskTake, Event, Began, Updated, Read, Took, Heard, Refused, Entry}
-use Rattle.world_model.specs.Plan.{Plan, home, MayTake, MayHear}
+use Rattle.world_model.specs.Event.{AskTake, Event, Began, Updated, Read, Took, Heard, Refused, Entry, tried}
+use Rattle.world_model.specs.Plan.{Plan, home, update_count, MayTake, MayHear}
 
 module _ {E : Type 0} where
   -- t reads and updates the object where it stands, at its own site
@@ -22,6 +23,19 @@ module _ {E : Type 0} where
   HandedAt plan run p (Refused (AskTake m) why) = MayTake plan run p m
   HandedAt plan run p (Heard q b stable) = MayHear plan run p q b
   HandedAt plan run p other = ⊤
+
+  -- an update comes before any prepare, and bears the next number
+  pub record IsNewUpdate (run : List (Entry E)) (t : TxId) (u : Upd E) : Type 0 where
+    pub early : (p : PartId) → tried run t p ≡ false
+    pub number : u.index ≡ update_count run t + 1
+
+  abbrev pub IsNew : List (Entry E) → Event E → Type 0
+  IsNew run (Updated t s o own op read u stamp) = IsNewUpdate run t u
+  IsNew run other = ⊤
+
+  abbrev pub AreNew : List (Entry E) → Type 0
+  AreNew [] = ⊤
+  AreNew (e ∷ run) = IsNew run e.event × AreNew run
 
   abbrev pub AreHanded : Plan E → List (Entry E) → Type 0
   AreHanded plan [] = ⊤

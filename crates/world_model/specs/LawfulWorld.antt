@@ -10,7 +10,7 @@ use Rattle.world_model.specs.WorldLaw.{sees_tx, IsRight, ClocksAre, KeepsDecided
 use Rattle.world_model.specs.Past.{KeepPast}
 use Rattle.world_model.specs.Resumed.{Resume}
 use Rattle.world_model.specs.Sends.{Send}
-use Rattle.world_model.specs.Handed.{AreHanded}
+use Rattle.world_model.specs.Handed.{AreHanded, AreNew}
 use Rattle.world_model.specs.Votes.{KeepVotes, ShowsVector, IsAgreed}
 use Rattle.world_model.specs.Doubt.{SettleDoubts}
 use Rattle.world_model.specs.Downs.{AnswerAsUp}
@@ -29,6 +29,7 @@ pub record IsLawfulWorld {S E : Type 0} (kinds : Kinds S E) (plan : Plan E) (run
   pub past : KeepPast plan.sites run
   pub decided_stay : KeepsDecided plan run
   pub handed : AreHanded plan run
+  pub numbered : AreNew run
   -- all updates stand in the plan
   pub planned : (t : TxId) (p : PartId) → plan.updates t p ≡ updates_at run t p
   pub votes : KeepVotes plan run

@@ -35,5 +35,11 @@ pub mod LineHistory
 pub mod LinePast
 pub mod LineFate
 pub mod LineBounds
+pub mod LineUpdates
+pub mod LineCommit
+pub mod LineFates
+pub mod LineFresh
+pub mod LineStreams
+pub mod LineCauses
 pub mod LineLaw
 pub mod World

@@ -6,12 +6,21 @@ use Rattle.site_vector.specs.Ids.{same_part}
 use Rattle.site_vector.specs.Vector.{entry}
 use Rattle.crdt_core.specs.declared.record.Part.{Part}
 use Rattle.crdt_core.specs.declared.record.Message.{Message}
-use Rattle.world_model.specs.Event.{Event, Took, Restarted, Cut, Entry}
+use Rattle.world_model.specs.Event.{Event, Took, Crashed, Restarted, Refused, Opened, Cut, Entry}
 use Rattle.world_model.specs.Partition.{IsOther, names_pending, above}
 use Rattle.world_model.specs.Plan.{Plan}
 use Rattle.world_model.specs.Shown.{listed_time, bound_shown, pending_after, pending_shown, time_after, pending_time}
 
 module _ {E : Type 0} where
+  -- a call of a partition
+  abbrev pub is_call : Event E → Bool
+  is_call Crashed = false
+  is_call (Restarted n b named listed) = false
+  is_call (Refused asked why) = false
+  is_call (Opened who) = false
+  is_call (Cut what) = false
+  is_call other = true
+
   abbrev pub cut_after : Option (Event E) → Event E → Option (Event E)
   cut_after old (Cut what) = Some what
   cut_after old (Restarted n b named listed) = None
@@ -53,7 +62,7 @@ module _ {E : Type 0} where
     pub bounds : (j : ℕ) → IsOther plan.sites p.site j → entry b j ≡ brought_after run p j (brought run p j) what
 
   abbrev pub ResumesAt : Plan E → List (Entry E) → PartId → Event E → Type 0
-  ResumesAt plan run p (Restarted n b named listed) = IsAsBefore plan run p b listed ⊎ ((what : Event E) × (cut_call run p ≡ Some what) × IsAsDone plan run p what b listed)
+  ResumesAt plan run p (Restarted n b named listed) = IsAsBefore plan run p b listed ⊎ ((what : Event E) × (cut_call run p ≡ Some what) × (is_call what ≡ true) × IsAsDone plan run p what b listed)
   ResumesAt plan run p other = ⊤
 
   abbrev pub Resume : Plan E → List (Entry E) → Type 0

@@ -9,6 +9,7 @@ use Rattle.world_model.specs.Commit.{partitions}
 use Rattle.world_model.specs.Event.{Event, Began, Updated, Entry, tried}
 use Rattle.world_model.specs.Partition.{Kinds, PartState, new_part}
 use Rattle.world_model.specs.Plan.{Plan, first_of, is_some_update, home, updates_at, update_count, WorldStep}
+use Rattle.world_model.specs.Handed.{IsNew}
 use Rattle.world_model.specs.LawfulWorld.{IsLawfulWorld}
 use Rattle.world_model.specs.Logs.{LeavesLogs}
 use Rattle.world_model.specs.Lines.{lines_of}
@@ -69,15 +70,6 @@ module _ {E : Type 0} where
     most = λ t p h. leb-true _ _ (own_parts sites run t p h).2;
     entered = λ t p h. leb-true _ _ (own_parts sites run t p h).3;
   }
-
-  -- an update comes before any prepare, and bears the next number
-  pub record IsNewUpdate (run : List (Entry E)) (t : TxId) (u : Upd E) : Type 0 where
-    pub early : (p : PartId) → tried run t p ≡ false
-    pub number : u.index ≡ update_count run t + 1
-
-  abbrev pub IsNew : List (Entry E) → Event E → Type 0
-  IsNew run (Updated t s o own op read u stamp) = IsNewUpdate run t u
-  IsNew run other = ⊤
 
   -- each step is allowed by what the events up to it say
   abbrev pub IsWorldRun : {S : Type 0} → Kinds S E → ℕ → ℕ → List (Entry E) → (PartId → PartState E) → Type 0

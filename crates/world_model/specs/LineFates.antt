@@ -1,0 +1,70 @@
+-- The fate of transactions, over the lines of a run.
+use Rattle.std.specs.Prelude.{◌≡◌, ◌⊎◌, ℕ, ◌+◌, Bool, true, false, not, ◌&&◌, ◌||◌, ◌==◌, if◌then◌else◌, List, [], ◌∷◌, Option, None, Some, ⊤}
+use Rattle.site_vector.specs.declared.ids.PartId.{PartId}
+use Rattle.site_vector.specs.declared.ids.TxId.{TxId}
+use Rattle.site_vector.specs.Ids.{same_part, same_tx}
+use Rattle.site_vector.specs.Vector.{entry}
+use Rattle.world_model.specs.declared.step.Step.{Step}
+use Rattle.world_model.specs.declared.step.Step.TheVariants as step
+use Rattle.world_model.specs.Event.{is_named}
+use Rattle.world_model.specs.Partition.{IsOther, names_pending}
+use Rattle.world_model.specs.Shown.{listed_time}
+use Rattle.world_model.specs.Lines.{Call, Tick, PrepareOf, DecideOf, FinishOf, AbortOf, Line}
+use Rattle.world_model.specs.LineClock.{now}
+use Rattle.world_model.specs.LineHistory.{in_history}
+use Rattle.world_model.specs.LineUpdates.{takes_part, lead}
+use Rattle.world_model.specs.LineFate.{pending, prepare_time, in_doubt}
+
+-- a participant of what is decided so far has it committed, unless it is pending there still
+abbrev pub is_committed_at : List Line → List Line → PartId → TxId → Bool
+is_committed_at whole before p t = takes_part whole t p && (in_history before t && not (pending before p t))
+
+abbrev pub is_known_at : List Line → List Line → PartId → TxId → Bool
+is_known_at whole before p t = pending before p t || is_committed_at whole before p t
+
+-- what is pending once a call was done that a fault of the disk ended
+abbrev pub pending_done : Call → Bool → TxId → Bool
+pending_done (PrepareOf u) old t = same_tx u t || old
+pending_done (DecideOf u) old t = not (same_tx u t) && old
+pending_done (FinishOf u) old t = not (same_tx u t) && old
+pending_done (AbortOf u) old t = not (same_tx u t) && old
+pending_done other old t = old
+
+-- and with which time: a prepare would have drawn the next
+abbrev pub time_done : Call → ℕ → ℕ → TxId → ℕ
+time_done (PrepareOf u) time old t = if same_tx u t then time else old
+time_done other time old t = old
+
+abbrev pub fault_after : ℕ → Option (Call × ℕ) → Call → Step → Option (Call × ℕ)
+fault_after time old call (step.Disk p) = Some (call, time + 1)
+fault_after time old call (step.Unsure t) = Some (call, time + 1)
+fault_after time old call (step.Restarted p n bounds named listed) = None
+fault_after time old call other = old
+
+-- the call at p that a fault of the disk ended, since the last restart, and the time that it would have drawn
+abbrev pub faulted : List Line → PartId → Option (Call × ℕ)
+faulted [] p = None
+faulted (l ∷ ls) p = if same_part l.at p then fault_after (now ls p) (faulted ls p) l.call l.step else faulted ls p
+
+-- all that was pending is listed, with its time
+pub record IsAsBefore (before : List Line) (p : PartId) (listed : List (TxId × ℕ)) : Type 0 where
+  pub members : (t : TxId) → names_pending listed t ≡ pending before p t
+  pub times : (t : TxId) → names_pending listed t ≡ true → listed_time listed t ≡ prepare_time before p t
+
+-- the same, once this call was done, which drew this time
+pub record IsAsDone (before : List Line) (p : PartId) (call : Call) (drawn : ℕ) (listed : List (TxId × ℕ)) : Type 0 where
+  pub members : (t : TxId) → names_pending listed t ≡ pending_done call (pending before p t) t
+  pub times : (t : TxId) → names_pending listed t ≡ true → listed_time listed t ≡ time_done call drawn (prepare_time before p t) t
+
+-- a restart lists what was pending, where one call that ended by a fault may have been done; it lists at its lead nothing
+-- that was decided; and of what it was in doubt it lists or names exactly one
+pub record IsResumed (parts : ℕ) (whole before : List Line) (p : PartId) (named : Option TxId) (listed : List (TxId × ℕ)) : Type 0 where
+  pub list : IsAsBefore before p listed ⊎ ((call : Call) × (drawn : ℕ) × (faulted before p ≡ Some (call, drawn)) × IsAsDone before p call drawn listed)
+  pub decided : (t : TxId) → in_history before t ≡ true → lead parts whole t ≡ p → names_pending listed t ≡ false
+  pub settled : (t : TxId) → in_doubt before p t ≡ true → names_pending listed t ≡ not (is_named named t)
+
+-- what is aborted was pending here, and is never decided
+abbrev pub ShowsFate : ℕ → List Line → List Line → PartId → Call → Step → Type 0
+ShowsFate parts whole before p call (step.Aborted q t) = (pending before p t ≡ true) × (in_history whole t ≡ false)
+ShowsFate parts whole before p call (step.Restarted q n bounds named listed) = IsResumed parts whole before p named listed
+ShowsFate parts whole before p call other = ⊤
