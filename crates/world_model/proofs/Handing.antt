@@ -7,30 +7,35 @@ use Rattle.site_vector.specs.declared.ids.TxId.{TxId}
 use Rattle.site_vector.specs.Ids.{same_part, same_tx}
 use Rattle.site_vector.specs.Order.{same_part_is, same_tx_is, same_tx_refl}
 use Rattle.crdt_core.specs.declared.record.Upd.{Upd}
-use Rattle.world_model.specs.Event.{AskTake, Event, Began, Updated, Read, Took, Heard, Refused, Entry, attempt, WasShown}
+use Rattle.world_model.specs.Event.{AskBegin, AskRead, AskUpdate, AskTake, Event, Began, Updated, Read, Took, Heard, Refused, Entry, attempt, WasShown, EventsAre}
 use Rattle.world_model.specs.Partition.{Kinds, PartState, PartStep}
-use Rattle.world_model.specs.Plan.{Plan, home, is_some_update, takes_part, change_by, updates_at, IsPlace, IsAllowed, IsRun}
+use Rattle.world_model.specs.Plan.{Plan, home, is_some_update, takes_part, change_by, updates_at, IsPlace, IsAllowed, IsPlanned, IsRun}
 use Rattle.world_model.specs.Handed.{HandedAt, AreHanded, AreNew}
 use Rattle.world_model.specs.World.{is_begin, begin_vector, begun, snapshot_of, is_own, changes_of, plan_of, IsWorldRun}
 use Rattle.world_model.proofs.Names.{off}
+use Rattle.world_model.proofs.Intervals.{shown_has}
+use Rattle.world_model.proofs.Kept.{law_plan}
 
 some_more : {E : Type 0} (xs ys : List (Upd E)) → is_some_update (xs ++ ys) ≡ (is_some_update xs || is_some_update ys)
 some_more [] ys = refl
 some_more (x ∷ xs) ys = refl
 
 module _ {E : Type 0} where
-  handed_event : {S : Type 0} (kinds : Kinds S E) (plan : Plan E) (run : List (Entry E)) (before : PartId → PartState E) (at : PartId) (q : PartState E) (event : Event E) → IsAllowed plan run before at (attempt event) → PartStep kinds plan.sites plan.parts at (before at) event q → HandedAt plan run at event
-  handed_event kinds plan run before at q (Began who dep t s) al st = ap home st.1.named
-  handed_event kinds plan run before at q (Read t s o own read value) al st = record { site = al.site; part = al.place }
-  handed_event kinds plan run before at q (Updated t s o own op read u stamp) al st = (record { site = al.site; part = al.place }, st.1.object)
-  handed_event kinds plan run before at q (Took m) al st = al
-  handed_event kinds plan run before at q (Refused (AskTake m) why) al st = al
-  handed_event kinds plan run before at q (Heard k b stable) al st = al
-  handed_event kinds plan run before at q event al st = tt
+  handed_event : {S : Type 0} (kinds : Kinds S E) (plan : Plan E) (run : List (Entry E)) (before : PartId → PartState E) (at : PartId) (q : PartState E) (event : Event E) → EventsAre (IsPlanned plan) run → IsAllowed plan run before at (attempt event) → PartStep kinds plan.sites plan.parts at (before at) event q → HandedAt plan run at event
+  handed_event kinds plan run before at q (Began who dep t s) pl al st = ap home st.1.named
+  handed_event kinds plan run before at q (Read t s o own read value) pl al st = record { site = al.site; part = al.place }
+  handed_event kinds plan run before at q (Updated t s o own op read u stamp) pl al st = (record { site = al.site; part = al.place }, st.1.object)
+  handed_event kinds plan run before at q (Took m) pl al st = al
+  handed_event kinds plan run before at q (Refused (AskTake m) why) pl al st = al
+  handed_event kinds plan run before at q (Refused (AskBegin who dep) why) pl al st = al
+  handed_event kinds plan run before at q (Refused (AskRead t s o own) why) pl al st = shown_has (IsPlanned plan) run (home t) (Began al.who al.dependency t s) pl al.begun
+  handed_event kinds plan run before at q (Refused (AskUpdate t s o own op) why) pl al st = shown_has (IsPlanned plan) run (home t) (Began al.who al.dependency t s) pl al.begun
+  handed_event kinds plan run before at q (Heard k b stable) pl al st = al
+  handed_event kinds plan run before at q event pl al st = tt
 
   pub handed_events : {S : Type 0} (kinds : Kinds S E) (plan : Plan E) (run : List (Entry E)) (parts : PartId → PartState E) → IsRun kinds plan run parts → AreHanded plan run
   handed_events kinds plan [] parts r = tt
-  handed_events kinds plan (e ∷ run) parts r = (handed_event kinds plan run r.0 e.at (parts e.at) e.event r.2.allowed r.2.step, handed_events kinds plan run r.0 r.1)
+  handed_events kinds plan (e ∷ run) parts r = (handed_event kinds plan run r.0 e.at (parts e.at) e.event (law_plan kinds plan run r.0 r.1).planned r.2.allowed r.2.step, handed_events kinds plan run r.0 r.1)
 
   shown_begun : (run : List (Entry E)) (p : PartId) (who dep : List ℕ) (t : TxId) (s : List ℕ) → WasShown run p (Began who dep t s) → begun run t ≡ true
   shown_begun [] p who dep t s w = absurd w

@@ -148,7 +148,7 @@ module _ {E : Type 0} where
 
   cause_event : {S : Type 0} (kinds : Kinds S E) (plan : Plan E) (run : List (Entry E)) (before : PartId → PartState E) (q : PartState E) (at : PartId) (event : Event E) → Fate plan run before → Leases run before → EventsAre (IsPlanned plan) run → IsAllowed plan run before at (attempt event) → PartStep kinds plan.sites plan.parts at (before at) event q → HasCauseAt plan run at event
   cause_event kinds plan run before q at (Refused (AskRead t s o own) (ClockBehind n)) f l p al st = clock_cause plan run before at t s n l p al st.0.1.0 st.0.1.1
-  cause_event kinds plan run before q at (Refused (AskUpdate t s o own op) (ClockBehind n)) f l p al st = clock_cause plan run before at t s n l p al st.0.1.1 st.0.1.2
+  cause_event kinds plan run before q at (Refused (AskUpdate t s o own op) (ClockBehind n)) f l p al st = let c = clock_cause plan run before at t s n l p al st.0.1.1 st.0.1.2 in (st.0.1.0, c.0, c.1)
   cause_event kinds plan run before q at (Refused (AskPrepare t s y w) (ClockBehind n)) f l p al st = clock_cause plan run before at t s n l p al st.0.1.0 st.0.1.1
   cause_event kinds plan run before q at (Refused (AskBegin who dep) ClockAtEnd) f l p al st = sym (l.clock at).now ∙ st.0.1.1
   cause_event kinds plan run before q at (Refused (AskPrepare t s y w) ClockAtEnd) f l p al st = sym (l.clock at).now ∙ st.0.1.1

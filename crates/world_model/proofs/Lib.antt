@@ -17,6 +17,7 @@ pub mod Hears
 pub mod Doubts
 pub mod Voting
 pub mod Handing
+pub mod Answering
 pub mod Sending
 pub mod Resuming
 pub mod LogsLeft
@@ -25,6 +26,7 @@ pub mod Meanings
 pub mod Stories
 pub mod LineViews
 pub mod LineChanges
+pub mod LineFaults
 pub mod LineLaws
 pub mod Whole
 pub mod Example

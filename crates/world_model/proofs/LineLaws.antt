@@ -1,23 +1,53 @@
 -- The lines of a run of the world are a lawful run.
-use Rattle.std.proofs.Common.{◌≡◌, ⊎_elim, ℕ, ◌+◌, ◌<◌, ◌≤◌, max, Bool, true, false, ◌&&◌, List, [], ◌∷◌, refl, sym, ap, ◌∙◌, subst, arith}
-use Rattle.std.specs.Prelude.{⊤}
+use Rattle.std.proofs.Common.{◌≡◌, ◌≢◌, ◌⊎◌, ⊎_elim, inl, inr, ℕ, ◌+◌, ◌<◌, ◌≤◌, max, cond, Bool, true, false, not, ◌&&◌, ◌||◌, List, [], ◌∷◌, Option, Some, refl, sym, ap, ◌∙◌, subst, subst₂, arith}
+use Rattle.std.specs.Prelude.{⊤, ◌==◌, filter}
+use Rattle.std.specs.declared.cmp.Ordering.TheVariants.{Less}
+use Rattle.std.proofs.lemmas.Bool.{or_left, or_right, and_from, false_from_ne_true}
 use Rattle.site_vector.specs.declared.ids.PartId.{PartId}
 use Rattle.site_vector.specs.declared.ids.TxId.{TxId}
+use Rattle.site_vector.specs.Order.{same_tx_refl}
 use Rattle.site_vector.specs.Vector.{le, entry}
-use Rattle.world_model.specs.Event.{IsDown, Event, Ticked, Began, Updated, Read, Prepared, Decided, Finished, Aborted, Sent, Took, Reported, Heard, Crashed, Restarted, Refused, Opened, Cut, Entry, is_decided, shown, missed}
-use Rattle.world_model.specs.Partition.{Kinds}
-use Rattle.world_model.specs.Plan.{Plan, commit_vector}
+use Rattle.crdt_core.specs.declared.object.ObjectId.{ObjectId}
+use Rattle.crdt_core.specs.declared.record.Message.{Message}
+use Rattle.world_model.specs.Log as log
+use Rattle.world_model.specs.Log.{end_of_time}
+use Rattle.world_model.specs.Event.{AskBegin, AskRead, AskUpdate, AskPrepare, AskDecide, AskAbort, AskTake, AskRestart, IsDown, ClockBehind, TxPending, StableBehind, ClockAtEnd, IsGone, HasGap, IsRepeat, IsDamaged, Event, Ticked, Began, Updated, Read, Prepared, Decided, Finished, Aborted, Sent, Took, Reported, Heard, Crashed, Restarted, Refused, Opened, Cut, Entry, EventsAre, WasShown, is_abort, was_aborted, voted, is_decided, shown, missed}
+use Rattle.world_model.specs.Partition.{Kinds, lowest, pending_cmp}
+use Rattle.world_model.specs.Plan.{Plan, first_of, home, twin, is_some_update, takes_part, commit_vector, MayTake}
+use Rattle.world_model.specs.Commit.{partitions}
 use Rattle.world_model.specs.World.{plan_of}
-use Rattle.world_model.specs.WorldLaw.{sees_tx, ClockIs, ClocksAre}
+use Rattle.world_model.specs.WorldLaw.{sees_tx, ClockIs, ClocksAre, KeepsIs, KeepsDecided, HasCauseAt, HaveCausesAt, IsRight}
 use Rattle.world_model.specs.Past as events
+use Rattle.world_model.specs.Downs.{AnswersAsUp, AnswerAsUp}
+use Rattle.world_model.specs.Answering.{IsDueAt, AreDue}
+use Rattle.world_model.specs.Doubt.{SettlesAt, SettleDoubts}
+use Rattle.world_model.specs.Shown.{pending_shown, pending_time, committed_shown, IsReadyAt, IsFirstPending, ShowsAt, ShowAt}
+use Rattle.world_model.specs.Stable.{heard_from, heard_shown, IsBehindAt, IsFreshAt, AreFresh}
+use Rattle.world_model.specs.Votes.{VotesAt, KeepVotes, ShowsVector}
+use Rattle.world_model.specs.Handed.{HandedAt, AreHanded, IsNew, AreNew}
+use Rattle.world_model.specs.Resumed.{is_call, cut_call, IsAsBefore, IsAsDone, ResumesAt, Resume}
+use Rattle.world_model.specs.Sends.{low_of, SendsAt, Send}
 use Rattle.world_model.specs.LawfulWorld.{IsLawfulWorld}
-use Rattle.world_model.specs.Lines.{call_of, step_shown, lines_of}
+use Rattle.world_model.specs.Lines.{Call, Line, EachLine, call_cut, call_of, step_shown, lines_of}
 use Rattle.world_model.specs.LineClock as clock
 use Rattle.world_model.specs.LineHistory as past
 use Rattle.world_model.specs.LinePast as session
-use Rattle.world_model.specs.LineLaw.{IsLawfulRun}
+use Rattle.world_model.specs.LineBounds as bounds
+use Rattle.world_model.specs.LineUpdates as updates
+use Rattle.world_model.specs.LineUpdates.{IsPlaced}
+use Rattle.world_model.specs.LineCommit as commit
+use Rattle.world_model.specs.LineFates as fates
+use Rattle.world_model.specs.LineFresh as fresh
+use Rattle.world_model.specs.LineStreams as streams
+use Rattle.world_model.specs.LineCauses as causes
+use Rattle.world_model.specs.LineLaw.{IsAgreed, IsLawfulRun}
+use Rattle.world_model.proofs.Names.{clash, off, part_same}
+use Rattle.world_model.proofs.Fate.{voted_tried}
+use Rattle.world_model.proofs.Intervals.{events_map}
 use Rattle.world_model.proofs.Histories.{Facts, no_self}
-use Rattle.world_model.proofs.LineViews.{now_is, missed_is, in_history_is, snapshot_is, visible_is, dependency_is}
+use Rattle.world_model.proofs.LineViews.{now_is, missed_is, in_history_is, snapshot_is, vector_is, visible_is, dependency_is, pending_is, prepare_time_is, doubt_is, down_is, bound_is, heard_here, heard_is, stable_is, own_bound_is, was_prepared_is, last_sent_is, sent_line, report_line}
+use Rattle.world_model.proofs.LineChanges.{takes_part_is, touches_is, lead_is}
+use Rattle.world_model.proofs.LineFaults.{IsFault, pend_same, fault_is}
 
 module _ {E : Type 0} where
   clock_line : (run : List (Entry E)) (p : PartId) (event : Event E) → ClocksAre run → ClockIs run p event → clock.ShowsTime (lines_of run) p (call_of event) (step_shown run p event)
@@ -49,6 +79,89 @@ module _ {E : Type 0} where
   past_lines sites [] h = tt
   past_lines sites (e ∷ run) h = (past_line sites run e.at e.event h.0, past_lines sites run h.1)
 
+  placed_line : (plan : Plan E) (run : List (Entry E)) (p : PartId) (event : Event E) → HandedAt plan run p event → IsPlaced plan.parts (lines_of run) p (call_of event) (step_shown run p event)
+  placed_line plan run p (Refused asked IsDown) h = tt
+  placed_line plan run p (Refused asked why) h = tt
+  placed_line plan run p (Cut (Decided t c)) h = tt
+  placed_line plan run p (Cut a) h = tt
+  placed_line plan run p (Began who dep t s) h = h
+  placed_line plan run p (Read t s o own read value) h = (h.site, h.part)
+  placed_line plan run p (Updated t s o own op read u stamp) h = (h.0.site, h.0.part)
+  placed_line plan run p event h = tt
+
+  placed_lines : (plan : Plan E) (run : List (Entry E)) → AreHanded plan run → EachLine (IsPlaced plan.parts) (lines_of run)
+  placed_lines plan [] h = tt
+  placed_lines plan (e ∷ run) h = (placed_line plan run e.at e.event h.0, placed_lines plan run h.1)
+
+  fresh_line : (plan : Plan E) (run : List (Entry E)) (p : PartId) (event : Event E) → events.HoldsPast plan.sites run p event → IsFreshAt plan run p event → ShowsAt plan run p event → fresh.IsFresh plan.sites plan.parts (lines_of run) p (call_of event) (step_shown run p event)
+  fresh_line plan run p (Refused asked IsDown) h f s = tt
+  fresh_line plan run p (Refused asked why) h f s = tt
+  fresh_line plan run p (Cut (Decided t c)) h f s = tt
+  fresh_line plan run p (Cut a) h f s = tt
+  fresh_line plan run p (Began who dep t v) h f s = record {
+    width = f.width;
+    own = f.own ∙ ap (λ d. max t.time (entry d p.site)) (h.0 ∙ sym (dependency_is plan.sites run who));
+    others = λ j o. f.others j o ∙ sym (stable_is plan.parts run p j);
+  }
+  fresh_line plan run p (Heard k b stable) h f s =
+      let same : (q j : ℕ) → heard_from {E = E} q j (heard_shown run p q j) (Heard k b stable) ≡ bounds.heard_after q j (bounds.heard (lines_of run) p q j) (call_of {E = E} (Heard k b stable)) (step_shown run p (Heard k b stable)) = λ q j. sym (ap (λ o. bounds.heard_after q j o (call_of {E = E} (Heard k b stable)) (step_shown run p (Heard k b stable))) (heard_is run p q j) ∙ heard_here run p q j (heard_shown run p q j) (Heard k b stable)) in record {
+        width = f.width;
+        others = λ j o. f.others j o ∙ (λ i. lowest (λ q. cond (p.part == q) (sym (bound_is run p j) i) (same q j i)) plan.parts);
+        own = (f.own.0, own_bound_is run p f.own.0 f.own.1, f.own.2 ∙ (λ i. lowest (λ q. cond (p.part == q) f.own.0 (same q p.site i)) plan.parts));
+      }
+  fresh_line plan run p (Reported b) h f s = record { own = own_bound_is run p (entry b p.site) s.0; others = λ j o. s.1 j o ∙ sym (bound_is run p j) }
+  fresh_line plan run p event h f s = tt
+
+  fresh_lines : (plan : Plan E) (run : List (Entry E)) → events.KeepPast plan.sites run → AreFresh plan run → ShowAt plan run → EachLine (fresh.IsFresh plan.sites plan.parts) (lines_of run)
+  fresh_lines plan [] h f s = tt
+  fresh_lines plan (e ∷ run) h f s = (fresh_line plan run e.at e.event h.0 f.0 s.0, fresh_lines plan run h.1 f.1 s.1)
+
+  handed_line : (plan : Plan E) (run : List (Entry E)) (p : PartId) (m : Message E) → MayTake plan run p m → streams.IsHanded plan.sites (lines_of run) p m.from m.lo m.hi
+  handed_line plan run p m h = record { from = h.from; sent = subst (λ j. streams.WasSent (lines_of run) (twin m.from p) j m.lo m.hi) h.to (sent_line run (twin m.from p) h.asked m h.shown) }
+
+  stream_line : (plan : Plan E) (run : List (Entry E)) (p : PartId) (event : Event E) → HandedAt plan run p event → SendsAt plan run p event → ShowsAt plan run p event → IsDueAt event → streams.IsStream plan.sites (lines_of run) p (call_of event) (step_shown run p event)
+  stream_line plan run p (Sent asked m) h n s d = record { to = n.to; low = n.lo ∙ ap (low_of asked) (sym (last_sent_is run p m.to)); high = own_bound_is run p m.hi s }
+  stream_line plan run p (Took m) h n s d = let e = sym (bound_is run p m.from) in (refl, subst (λ x. m.lo ≤ x) e s.0, subst (λ x. x < m.hi) e s.1, handed_line plan run p m h)
+  stream_line plan run p (Heard k b stable) h n s d = report_line run (record { site = p.site; part = k }) b h.shown
+  stream_line plan run p (Refused (AskTake m) (HasGap k)) h n s d = (s.0 ∙ sym (bound_is run p m.from), s.1, handed_line plan run p m h)
+  stream_line plan run p (Refused (AskTake m) (IsRepeat k)) h n s d = (s.0 ∙ sym (bound_is run p m.from), s.1, s.2, handed_line plan run p m h)
+  stream_line plan run p (Refused asked (HasGap k)) h n s d = off d
+  stream_line plan run p (Refused asked (IsRepeat k)) h n s d = off d
+  stream_line plan run p (Refused asked why) h n s d = tt
+  stream_line plan run p (Cut (Decided t c)) h n s d = tt
+  stream_line plan run p (Cut a) h n s d = tt
+  stream_line plan run p event h n s d = tt
+
+  stream_lines : (plan : Plan E) (run : List (Entry E)) → AreHanded plan run → Send plan run → ShowAt plan run → AreDue run → EachLine (streams.IsStream plan.sites) (lines_of run)
+  stream_lines plan [] h n s d = tt
+  stream_lines plan (e ∷ run) h n s d = (stream_line plan run e.at e.event h.0 n.0 s.0 d.0, stream_lines plan run h.1 n.1 s.1 d.1)
+
+  up_line : (run : List (Entry E)) (p : PartId) (event : Event E) → AnswersAsUp run p event → IsDueAt event → causes.AnswersAsUp (lines_of run) p (call_of event) (step_shown run p event)
+  up_line run p (Refused asked IsDown) h d = down_is run p ∙ h
+  up_line run p (Refused AskRestart (IsDamaged k)) h d = down_is run p ∙ h
+  up_line run p (Refused asked (IsDamaged k)) h d = off d
+  up_line run p (Refused asked why) h d = down_is run p ∙ h
+  up_line run p (Restarted n b named listed) h d = down_is run p ∙ h
+  up_line run p (Opened who) h d = tt
+  up_line run p (Cut (Decided t c)) h d = down_is run p ∙ h
+  up_line run p (Cut a) h d = down_is run p ∙ h
+  up_line run p event h d = down_is run p ∙ h
+
+  up_lines : (run : List (Entry E)) → AnswerAsUp run → AreDue run → EachLine causes.AnswersAsUp (lines_of run)
+  up_lines [] h d = tt
+  up_lines (e ∷ run) h d = (up_line run e.at e.event h.0 d.0, up_lines run h.1 d.1)
+
+  shown_all : (run : List (Entry E)) → EventsAre (WasShown run) run
+  shown_all [] = tt
+  shown_all (e ∷ run) = (inl (refl, refl), events_map (WasShown run) (WasShown (e ∷ run)) (λ p a w. inr w) run (shown_all run))
+
+  aborted_shown : (run : List (Entry E)) (p : PartId) (t : TxId) (own : Bool) → WasShown run p (Aborted t own) → was_aborted run t p ≡ true
+  aborted_shown [] p t own w = absurd w
+  aborted_shown (e ∷ run) p t own w = ⊎_elim
+      (λ (x : (e.at ≡ p) × (e.event ≡ Aborted t own)). or_left _ _ (and_from _ _ (part_same e.at p x.0) (ap (λ a. is_abort a t) x.1 ∙ same_tx_refl t)))
+      (λ (x : WasShown run p (Aborted t own)). or_right _ _ (aborted_shown run p t own x))
+      w
+
   module _ {S : Type 0} (kinds : Kinds S E) (sites parts : ℕ) (run : List (Entry E)) (law : IsLawfulWorld kinds (plan_of sites parts run) run) where
     abbrev plan : Plan E
     plan = plan_of sites parts run
@@ -68,6 +181,149 @@ module _ {E : Type 0} where
       closed = law.closed;
     }
 
+    abbrev ls : List Line
+    ls = lines_of run
+
+    takes_eq : (t : TxId) (p : PartId) → updates.takes_part ls t p ≡ takes_part plan t p
+    takes_eq t p = takes_part_is plan run law.handed law.numbered t p ∙ ap is_some_update (sym (law.planned t p))
+
+    touches_eq : (t : TxId) (p : PartId) (o : ObjectId) → updates.touches ls t p o ≡ log.touches (plan.updates t p) o
+    touches_eq t p o = touches_is plan run law.handed law.numbered t p o ∙ ap (λ us. log.touches us o) (sym (law.planned t p))
+
+    lead_eq : (t : TxId) → updates.lead parts ls t ≡ plan.lead t
+    lead_eq t = lead_is plan run law.handed law.numbered parts t ∙ (λ i. first_of (home t) (filter (λ p. is_some_update (sym (law.planned t p) i)) (partitions t.site 1 parts)))
+
+    vector_eq : (t : TxId) → past.commit_vector ls t ≡ commit_vector plan run t
+    vector_eq t = vector_is run t
+
+    commit_line : (some : List (Entry E)) (p : PartId) (event : Event E) → VotesAt plan some p event → ShowsVector plan run p event → IsNew some event → commit.ShowsCommit parts ls (lines_of some) p (call_of event) (step_shown some p event)
+    commit_line some p (Refused asked IsDown) v c n = tt
+    commit_line some p (Refused asked why) v c n = tt
+    commit_line some p (Cut (Decided t w)) v c n = tt
+    commit_line some p (Cut a) v c n = tt
+    commit_line some p (Prepared t s l w time) v c n = record {
+      member = takes_eq t p ∙ v.takes;
+      once = was_prepared_is some t p ∙ v.fresh;
+      lead_first = λ ne. was_prepared_is some t (updates.lead parts ls t) ∙ subst (λ q. voted some t q ≡ true) (sym (lead_eq t)) (v.after_lead (λ e. ne (e ∙ sym (lead_eq t))));
+    }
+    commit_line some p (Decided t w) v c n = record {
+      at_lead = v.lead ∙ sym (lead_eq t);
+      here = was_prepared_is some t p ∙ v.here;
+      votes = λ q h. was_prepared_is some t q ∙ v.all q (sym (takes_eq t q) ∙ h);
+      shown = c.1 ∙ sym (vector_eq t);
+    }
+    commit_line some p (Updated t s o own op read u stamp) v c n = λ q. was_prepared_is some t q ∙ false_from_ne_true _ (λ h. clash (voted_tried some t q h) (n.early q))
+    commit_line some p (Finished t w) v c n = in_history_is some t ∙ v
+    commit_line some p event v c n = tt
+
+    commit_lines : (some : List (Entry E)) → KeepVotes plan some → EventsAre (ShowsVector plan run) some → AreNew some → EachLine (commit.ShowsCommit parts ls) (lines_of some)
+    commit_lines [] v c n = tt
+    commit_lines (e ∷ some) v c n = (commit_line some e.at e.event v.0 c.0 n.0, commit_lines some v.1 c.1 n.1)
+
+    agreed_lines : (t : TxId) → past.in_history ls t ≡ true → IsAgreed parts ls t
+    agreed_lines t h =
+        let a = law.agreed t (sym (in_history_is run t) ∙ h) in record {
+          at_lead = takes_eq t (updates.lead parts ls t) ∙ subst (λ q. takes_part plan t q ≡ true) (sym (lead_eq t)) a.lead;
+          votes = λ q k. was_prepared_is run t q ∙ a.all q (sym (takes_eq t q) ∙ k);
+        }
+
+    known_eq : (some : List (Entry E)) (p : PartId) (t : TxId) → fates.is_known_at ls (lines_of some) p t ≡ (pending_shown some p t || committed_shown plan some p t)
+    known_eq some p t = λ i. (pending_is some p t i || (takes_eq t p i && (in_history_is some t i && not (pending_is some p t i))))
+
+    resumed_line : (some : List (Entry E)) (p : PartId) (n : ℕ) (b : List ℕ) (named : Option TxId) (listed : List (TxId × ℕ)) → ClocksAre some → ResumesAt plan some p (Restarted n b named listed) → fates.IsAsBefore (lines_of some) p listed ⊎ ((call : Call) × (drawn : ℕ) × (fates.faulted (lines_of some) p ≡ Some (call, drawn)) × fates.IsAsDone (lines_of some) p call drawn listed)
+    resumed_line some p n b named listed cs h = ⊎_elim
+        (λ (x : IsAsBefore plan some p b listed). inl (record { members = λ t. x.members t ∙ sym (pending_is some p t); times = λ t k. x.times t k ∙ sym (prepare_time_is some p t) }))
+        (λ (x : (what : Event E) × (cut_call some p ≡ Some what) × (is_call what ≡ true) × IsAsDone plan some p what b listed).
+        let f = fault_is some cs p x.0 x.2 x.1 in
+        inr (call_cut x.0, f.drawn, f.is, record {
+          members = λ t. x.3.members t ∙ sym (ap (λ o. fates.pending_done (call_cut x.0) o t) (pending_is some p t) ∙ pend_same x.0 (pending_shown some p t) t x.2);
+          times = λ t k. x.3.times t k ∙ sym (ap (λ o. fates.time_done (call_cut x.0) f.drawn o t) (prepare_time_is some p t) ∙ f.time t (pending_time some p t));
+        }))
+        h
+
+    fate_line : (some : List (Entry E)) (p : PartId) (event : Event E) → WasShown run p event → ClocksAre some → ShowsAt plan some p event → ResumesAt plan some p event → KeepsIs plan some p event → SettlesAt some p event → fates.ShowsFate parts ls (lines_of some) p (call_of event) (step_shown some p event)
+    fate_line some p (Refused asked IsDown) w cs s r k d = tt
+    fate_line some p (Refused asked why) w cs s r k d = tt
+    fate_line some p (Cut (Decided t c)) w cs s r k d = tt
+    fate_line some p (Cut a) w cs s r k d = tt
+    fate_line some p (Aborted t own) w cs s r k d = (pending_is some p t ∙ s, in_history_is run t ∙ law.fate t p (aborted_shown run p t own w))
+    fate_line some p (Restarted n b named listed) w cs s r k d = record {
+      list = resumed_line some p n b named listed cs r;
+      decided = λ t h e. k t (sym (in_history_is some t) ∙ h) (sym (lead_eq t) ∙ e);
+      settled = λ t h. d t (sym (doubt_is some p t) ∙ h);
+    }
+    fate_line some p event w cs s r k d = tt
+
+    fate_lines : (some : List (Entry E)) → EventsAre (WasShown run) some → ClocksAre some → ShowAt plan some → Resume plan some → KeepsDecided plan some → SettleDoubts some → EachLine (fates.ShowsFate parts ls) (lines_of some)
+    fate_lines [] w cs s r k d = tt
+    fate_lines (e ∷ some) w cs s r k d = (fate_line some e.at e.event w.0 cs.1 s.0 r.0 k.0 d.0, fate_lines some w.1 cs.1 s.1 r.1 k.1 d.1)
+
+    -- the snapshot of t has this entry
+    entry_eq : (t : TxId) (j : ℕ) → entry (past.snapshot ls t) j ≡ entry (plan.snapshot t) j
+    entry_eq t j = ap (λ v. entry v j) (snapshot_is run t)
+
+    behind_line : (some : List (Entry E)) (p : PartId) (t : TxId) (n : ℕ) → n ≡ shown some p → n < entry (plan.snapshot t) p.site → causes.IsBehind ls (lines_of some) p t n
+    behind_line some p t n e h = (e ∙ sym (now_is some p), subst (λ x. n < x) (sym (entry_eq t p.site)) h)
+
+    ready_line : (some : List (Entry E)) (p : PartId) (t : TxId) (s : List ℕ) (o : ObjectId) → s ≡ plan.snapshot t → IsReadyAt plan some p s o → causes.IsReady ls (lines_of some) p t o
+    ready_line some p t s o e h =
+        let v : entry s p.site ≡ entry (past.snapshot ls t) p.site = ap (λ x. entry x p.site) e ∙ sym (entry_eq t p.site) in record {
+          clock = subst₂ (λ x y. x ≤ y) v (sym (now_is some p)) h.clock;
+          free = λ u k y. subst₂ (λ x z. x < z) v (sym (prepare_time_is some p u)) (h.free u (sym (pending_is some p u) ∙ k) (sym (touches_eq u p o) ∙ y));
+        }
+
+    first_line : (some : List (Entry E)) (p : PartId) (t : TxId) (s : List ℕ) (o : ObjectId) (u : TxId) (n : ℕ) → s ≡ plan.snapshot t → IsFirstPending plan some p s o u n → causes.IsFirstPending ls (lines_of some) p t o u n
+    first_line some p t s o u n e h =
+        let v : entry s p.site ≡ entry (past.snapshot ls t) p.site = ap (λ x. entry x p.site) e ∙ sym (entry_eq t p.site) in record {
+          clock = subst₂ (λ x y. x ≤ y) v (sym (now_is some p)) h.clock;
+          waiting = pending_is some p u ∙ h.waiting;
+          changes = touches_eq u p o ∙ h.changes;
+          time = h.time ∙ sym (prepare_time_is some p u);
+          early = subst (λ x. n ≤ x) v h.early;
+          first = λ w k y. subst (λ m. pending_cmp (w, m) (u, n) ≢ Less) (sym (prepare_time_is some p w)) (h.first w (sym (pending_is some p w) ∙ k) (sym (touches_eq w p o) ∙ y));
+        }
+
+    stable_line : (some : List (Entry E)) (p : PartId) (who dep : List ℕ) (j n : ℕ) → dep ≡ events.dependency sites some who → IsBehindAt plan some p dep j n → causes.IsStableBehind sites parts (lines_of some) p who j n
+    stable_line some p who dep j n e h =
+        let d : dep ≡ session.dependency sites (lines_of some) who = e ∙ sym (dependency_is sites some who) in record {
+          other = h.other;
+          have = h.have ∙ sym (stable_is parts some p j);
+          behind = subst (λ x. n < entry x j) d h.behind;
+          least = λ i o k. h.least i o (subst₂ (λ x y. x < entry y i) (stable_is parts some p i) (sym d) k);
+        }
+
+    cause_line : (some : List (Entry E)) (p : PartId) (event : Event E) → HandedAt plan some p event → IsFreshAt plan some p event → HasCauseAt plan some p event → ShowsAt plan some p event → IsDueAt event → IsRight kinds plan run p event → causes.HasCause sites parts ls (lines_of some) p (call_of event) (step_shown some p event)
+    cause_line some p (Refused (AskRead t s o own) (ClockBehind n)) h f c w d r = behind_line some p t n c.0 c.1
+    cause_line some p (Refused (AskUpdate t s o own op) (ClockBehind n)) h f c w d r = (c.0, behind_line some p t n c.1 c.2)
+    cause_line some p (Refused (AskPrepare t s l us) (ClockBehind n)) h f c w d r = behind_line some p t n c.0 c.1
+    cause_line some p (Refused (AskRead t s o own) (TxPending u n)) h f c w d r = first_line some p t s o u n h w
+    cause_line some p (Refused (AskUpdate t s o own op) (TxPending u n)) h f c w d r = (w.0, first_line some p t s o u n h w.1)
+    cause_line some p (Refused (AskBegin who dep) (StableBehind j n)) h f c w d r = stable_line some p who dep j n h f
+    cause_line some p (Refused (AskDecide t v) IsGone) h f c w d r = (refl, known_eq some p t ∙ w)
+    cause_line some p (Refused (AskAbort t) IsGone) h f c w d r = (refl, pending_is some p t ∙ w)
+    cause_line some p (Refused asked (ClockBehind n)) h f c w d r = off d
+    cause_line some p (Refused asked (TxPending u n)) h f c w d r = off d
+    cause_line some p (Refused asked (StableBehind j n)) h f c w d r = off d
+    cause_line some p (Refused asked IsGone) h f c w d r = off d
+    cause_line some p (Refused asked ClockAtEnd) h f c w d r = now_is some p ∙ c
+    cause_line some p (Refused asked why) h f c w d r = tt
+    cause_line some p (Cut (Decided t v)) h f c w d r = tt
+    cause_line some p (Cut a) h f c w d r = tt
+    cause_line some p (Read t s o own read value) h f c w d r = ready_line some p t s o r.0 w
+    cause_line some p (Updated t s o own op read u stamp) h f c w d r = λ k. ready_line some p t s o r.0 (w k)
+    cause_line some p (Prepared t s l us n) h f c w d r = (
+      subst₂ (λ x y. x ≤ y) (ap (λ x. entry x p.site) w.0 ∙ sym (entry_eq t p.site)) (sym (now_is some p)) w.1,
+      subst (λ x. x < end_of_time) (sym (now_is some p)) w.2,
+    )
+    cause_line some p (Began who dep t s) h f c w d r = subst (λ x. x < end_of_time) (sym (now_is some p)) w
+    cause_line some p (Decided t v) h f c w d r = known_eq some p t ∙ w
+    cause_line some p (Finished t v) h f c w d r = known_eq some p t ∙ w
+    cause_line some p event h f c w d r = tt
+
+    cause_lines : (some : List (Entry E)) → AreHanded plan some → AreFresh plan some → HaveCausesAt plan some → ShowAt plan some → AreDue some → EventsAre (IsRight kinds plan run) some → EachLine (causes.HasCause sites parts ls) (lines_of some)
+    cause_lines [] h f c w d r = tt
+    cause_lines (e ∷ some) h f c w d r = (cause_line some e.at e.event h.0 f.0 c.0 w.0 d.0 r.0, cause_lines some h.1 f.1 c.1 w.1 d.1 r.1)
+
     order_lines : past.IsStrictOrder (lines_of run)
     order_lines = record {
       irreflexive = λ t. precedes_is t t ∙ no_self kinds plan run facts t;
@@ -77,7 +333,15 @@ module _ {E : Type 0} where
     pub lawful_lines : IsLawfulRun sites parts (lines_of run)
     lawful_lines = record {
       clock = clock_lines run law.clock;
+      placed = placed_lines plan run law.handed;
       past = past_lines sites run law.past;
+      fresh = fresh_lines plan run law.past law.fresh law.shown;
+      commit = commit_lines run law.votes law.vectors law.numbered;
+      agreed = agreed_lines;
+      fates = fate_lines run (shown_all run) law.clock law.shown law.resumed law.decided_stay law.doubts;
+      streams = stream_lines plan run law.handed law.sends law.shown law.due;
+      causes = cause_lines run law.handed law.fresh law.causes law.shown law.due law.right;
+      ups = up_lines run law.downs law.due;
       order = order_lines;
       closed = λ t h. closed_lines (past.snapshot (lines_of run) t);
     }

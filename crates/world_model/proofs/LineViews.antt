@@ -1,5 +1,5 @@
 -- What the lines of a run tell is what its events tell.
-use Rattle.std.proofs.Common.{◌≡◌, ⊎_elim, inl, inr, ℕ, ◌+◌, ◌<◌, ◌≤◌, max, cond, Bool, true, false, not, ◌&&◌, ◌||◌, List, [], ◌∷◌, refl, sym, ap, ◌∙◌, subst, arith}
+use Rattle.std.proofs.Common.{◌≡◌, ⊎_elim, inl, inr, ℕ, ◌+◌, ◌<◌, ◌≤◌, max, cond, Bool, true, false, not, ◌&&◌, ◌||◌, List, [], ◌∷◌, length, Option, refl, sym, ap, ◌∙◌, subst, arith}
 use Rattle.std.specs.Prelude.{◌==◌}
 use Rattle.std.specs.Str.{bytes_eq}
 use Rattle.std.proofs.lemmas.Bool.{cases_Bool, cond-true, cond-false}
@@ -8,7 +8,8 @@ use Rattle.site_vector.specs.declared.ids.TxId.{TxId}
 use Rattle.site_vector.specs.Ids.{same_part, same_tx}
 use Rattle.site_vector.specs.Order.{same_part_is}
 use Rattle.site_vector.specs.Vector.{le, entry, join, replaced}
-use Rattle.world_model.specs.Event.{IsDown, Event, Ticked, Began, Updated, Read, Prepared, Decided, Finished, Aborted, Sent, Took, Reported, Heard, Crashed, Restarted, Refused, Opened, Cut, Entry, shows_decided, is_decided, is_prepare, time_shown, time_of, shown_after, shown, missed_after, missed}
+use Rattle.crdt_core.specs.declared.record.Message.{Message}
+use Rattle.world_model.specs.Event.{IsDown, Event, Ticked, Began, Updated, Read, Prepared, Decided, Finished, Aborted, Sent, Took, Reported, Heard, Crashed, Restarted, Refused, Opened, Cut, Entry, shows_decided, is_decided, is_prepare, time_shown, time_of, shown_after, shown, missed_after, missed, voted, WasShown}
 use Rattle.world_model.specs.World.{is_begin, begin_vector, begun, snapshot_of}
 use Rattle.world_model.specs.Past as events
 use Rattle.world_model.specs.WorldLaw.{ClockIs, ClocksAre}
@@ -17,12 +18,15 @@ use Rattle.world_model.specs.Stable.{heard_from, heard_shown, known_shown, stabl
 use Rattle.world_model.specs.Doubt as doubt
 use Rattle.world_model.specs.Downs as downs
 use Rattle.world_model.specs.Partition.{lowest}
-use Rattle.world_model.specs.Lines.{call_of, step_shown, lines_of}
+use Rattle.world_model.specs.Sends as sends
+use Rattle.world_model.specs.Lines.{sent_count, report_count, call_of, step_shown, lines_of}
 use Rattle.world_model.specs.LineClock as clock
 use Rattle.world_model.specs.LineHistory as past
 use Rattle.world_model.specs.LinePast as session
 use Rattle.world_model.specs.LineFate as fate
 use Rattle.world_model.specs.LineBounds as bounds
+use Rattle.world_model.specs.LineCommit as commit
+use Rattle.world_model.specs.LineStreams as streams
 
 none_more : (b : Bool) (old n : ℕ) → max old (cond b n 0) ≡ cond b (max old n) old
 none_more true old n = refl
@@ -177,7 +181,7 @@ module _ {E : Type 0} where
   bound_is [] p j = refl
   bound_is (e ∷ run) p j = λ i. cond (same_part e.at p) ((ap (λ o. bounds.bound_after j o (call_of e.event) (step_shown run e.at e.event)) (bound_is run p j) ∙ bound_here run e.at j (told.bound_shown run p j) e.event) i) (bound_is run p j i)
 
-  heard_here : (run : List (Entry E)) (p : PartId) (q j old : ℕ) (event : Event E) → bounds.heard_after q j old (call_of event) (step_shown run p event) ≡ heard_from q j old event
+  pub heard_here : (run : List (Entry E)) (p : PartId) (q j old : ℕ) (event : Event E) → bounds.heard_after q j old (call_of event) (step_shown run p event) ≡ heard_from q j old event
   heard_here run p q j old (Refused asked IsDown) = refl
   heard_here run p q j old (Refused asked why) = refl
   heard_here run p q j old (Cut (Decided u c)) = refl
@@ -216,3 +220,40 @@ module _ {E : Type 0} where
       cond-true _ _ _ k ∙ subst (λ y. clock.missed_after (clock.now (lines_of run) y) (clock.missed (lines_of run) y) (call_of e.event) (step_shown run e.at e.event) ≡ missed_after (missed run y) e.event) same here ∙ sym (cond-true _ _ _ k))
       (λ (k : same_part e.at p ≡ false). cond-false _ _ _ k ∙ missed_is run h.1 p ∙ sym (cond-false _ _ _ k))
       (cases_Bool (same_part e.at p))
+
+  prepares_here : (run : List (Entry E)) (p : PartId) (t : TxId) (event : Event E) → commit.prepares (step_shown run p event) t ≡ is_prepare event t
+  prepares_here run p t (Refused asked IsDown) = refl
+  prepares_here run p t (Refused asked why) = refl
+  prepares_here run p t (Cut (Decided u c)) = refl
+  prepares_here run p t (Cut a) = refl
+  prepares_here run p t event = refl
+
+  pub was_prepared_is : (run : List (Entry E)) (t : TxId) (p : PartId) → commit.was_prepared (lines_of run) t p ≡ voted run t p
+  was_prepared_is [] t p = refl
+  was_prepared_is (e ∷ run) t p = λ i. ((same_part e.at p && prepares_here run e.at t e.event i) || was_prepared_is run t p i)
+
+  sent_here : (run : List (Entry E)) (p : PartId) (j old : ℕ) (event : Event E) → streams.sent_after j old (step_shown run p event) ≡ sends.sent_after j old event
+  sent_here run p j old (Refused asked IsDown) = refl
+  sent_here run p j old (Refused asked why) = refl
+  sent_here run p j old (Cut (Decided u c)) = refl
+  sent_here run p j old (Cut a) = refl
+  sent_here run p j old event = refl
+
+  pub last_sent_is : (run : List (Entry E)) (p : PartId) (j : ℕ) → streams.last_sent (lines_of run) p j ≡ sends.last_sent run p j
+  last_sent_is [] p j = refl
+  last_sent_is (e ∷ run) p j = λ i. cond (same_part e.at p) ((ap (λ o. streams.sent_after j o (step_shown run e.at e.event)) (last_sent_is run p j) ∙ sent_here run e.at j (sends.last_sent run p j) e.event) i) (last_sent_is run p j i)
+
+  -- what was sent or reported stands in the lines
+  pub sent_line : (run : List (Entry E)) (q : PartId) (asked : Option ℕ) (m : Message E) → WasShown run q (Sent asked m) → streams.WasSent (lines_of run) q m.to m.lo m.hi
+  sent_line [] q asked m w = w
+  sent_line (e ∷ run) q asked m w = ⊎_elim
+      (λ (x : (e.at ≡ q) × (e.event ≡ Sent asked m)). inl (x.0, sent_count run + 1, length m.parts, λ i. step_shown run (x.0 i) (x.1 i)))
+      (λ (x : WasShown run q (Sent asked m)). inr (sent_line run q asked m x))
+      w
+
+  pub report_line : (run : List (Entry E)) (q : PartId) (b : List ℕ) → WasShown run q (Reported b) → streams.WasReported (lines_of run) q b
+  report_line [] q b w = w
+  report_line (e ∷ run) q b w = ⊎_elim
+      (λ (x : (e.at ≡ q) × (e.event ≡ Reported b)). inl (x.0, report_count run + 1, λ i. step_shown run (x.0 i) (x.1 i)))
+      (λ (x : WasShown run q (Reported b)). inr (report_line run q b x))
+      w

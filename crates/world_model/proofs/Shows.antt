@@ -293,7 +293,7 @@ module _ {E : Type 0} where
     shows_event (Refused (AskDecide t c) IsGone) q l al st = sym (known_is st.0.0 t) ∙ st.0.1
     shows_event (Refused (AskAbort t) IsGone) q l al st = sym (h.waiting at t st.0.0) ∙ st.0.1
     shows_event (Refused (AskRead t s o own) (TxPending u n)) q l al st = first_pending st.0.0 l s o u n st.0.1
-    shows_event (Refused (AskUpdate t s o own op) (TxPending u n)) q l al st = first_pending st.0.0 l s o u n st.0.1.1
+    shows_event (Refused (AskUpdate t s o own op) (TxPending u n)) q l al st = (st.0.1.0, first_pending st.0.0 l s o u n st.0.1.1)
     shows_event (Refused (AskTake m) (HasGap n)) q l al st = (st.0.1.0 ∙ h.bounds at m.from st.0.0 al.from, st.0.1.1)
     shows_event (Refused (AskTake m) (IsRepeat n)) q l al st = (st.0.1.0 ∙ h.bounds at m.from st.0.0 al.from, st.0.1.1, st.0.1.2)
     shows_event event q l al st = tt

@@ -23,6 +23,7 @@ pub mod Shown
 pub mod Logs
 pub mod Stable
 pub mod Downs
+pub mod Answering
 pub mod Doubt
 pub mod Votes
 pub mod Handed

@@ -1,14 +1,34 @@
 -- What a lawful run is, over its lines.
 use Rattle.std.specs.Prelude.{◌≡◌, ℕ, true, List}
+use Rattle.site_vector.specs.declared.ids.PartId.{PartId}
 use Rattle.site_vector.specs.declared.ids.TxId.{TxId}
-use Rattle.world_model.specs.Lines.{Line}
+use Rattle.world_model.specs.Lines.{Line, EachLine}
 use Rattle.world_model.specs.LineClock.{FollowsClock}
 use Rattle.world_model.specs.LinePast.{KeepsPast}
-use Rattle.world_model.specs.LineHistory.{visible, snapshot, is_begun, IsClosed, IsStrictOrder}
+use Rattle.world_model.specs.LineHistory.{in_history, visible, snapshot, is_begun, IsClosed, IsStrictOrder}
+use Rattle.world_model.specs.LineUpdates.{takes_part, lead, IsPlaced}
+use Rattle.world_model.specs.LineCommit.{was_prepared, ShowsCommit}
+use Rattle.world_model.specs.LineFates.{ShowsFate}
+use Rattle.world_model.specs.LineFresh.{IsFresh}
+use Rattle.world_model.specs.LineStreams.{IsStream}
+use Rattle.world_model.specs.LineCauses.{HasCause, AnswersAsUp}
+
+-- what is decided, also where only a restart named it, was voted for by all its participants
+pub record IsAgreed (parts : ℕ) (ls : List Line) (t : TxId) : Type 0 where
+  pub at_lead : takes_part ls t (lead parts ls t) ≡ true
+  pub votes : (q : PartId) → takes_part ls t q ≡ true → was_prepared ls t q ≡ true
 
 pub record IsLawfulRun (sites parts : ℕ) (ls : List Line) : Type 0 where
   pub clock : FollowsClock ls
+  pub placed : EachLine (IsPlaced parts) ls
   pub past : KeepsPast sites ls
+  pub fresh : EachLine (IsFresh sites parts) ls
+  pub commit : EachLine (ShowsCommit parts ls) ls
+  pub agreed : (t : TxId) → in_history ls t ≡ true → IsAgreed parts ls t
+  pub fates : EachLine (ShowsFate parts ls) ls
+  pub streams : EachLine (IsStream sites) ls
+  pub causes : EachLine (HasCause sites parts ls) ls
+  pub ups : EachLine AnswersAsUp ls
   pub order : IsStrictOrder ls
   -- what a transaction reads from is closed
   pub closed : (t : TxId) → is_begun ls t ≡ true → IsClosed ls (visible ls (snapshot ls t))

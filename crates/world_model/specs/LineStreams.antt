@@ -42,6 +42,7 @@ pub record IsNext (sites : ℕ) (before : List Line) (p : PartId) (asked : Optio
   pub high : IsOwnBound before p hi
 
 abbrev pub IsStream : ℕ → List Line → PartId → Call → Step → Type 0
+IsStream sites before p call (step.Crashed q) = ⊤
 IsStream sites before p (SendTo site asked) (step.Sent number q to lo hi count) = IsNext sites before p asked to lo hi
 IsStream sites before p (TakeOf site lo hi) (step.Took number end) = (end ≡ hi) × (lo ≤ bound before p site) × (bound before p site < hi) × IsHanded sites before p site lo hi
 IsStream sites before p (TakeOf site lo hi) (step.Gap number n) = (n ≡ bound before p site) × (n < lo) × IsHanded sites before p site lo hi

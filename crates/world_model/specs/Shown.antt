@@ -89,7 +89,7 @@ module _ {E : Type 0} where
   ShowsAt plan run p (Refused (AskDecide t c) IsGone) = (pending_shown run p t || committed_shown plan run p t) ≡ false
   ShowsAt plan run p (Refused (AskAbort t) IsGone) = pending_shown run p t ≡ false
   ShowsAt plan run p (Refused (AskRead t s o own) (TxPending u n)) = IsFirstPending plan run p s o u n
-  ShowsAt plan run p (Refused (AskUpdate t s o own op) (TxPending u n)) = IsFirstPending plan run p s o u n
+  ShowsAt plan run p (Refused (AskUpdate t s o own op) (TxPending u n)) = (reads_state o.kind ≡ true) × IsFirstPending plan run p s o u n
   ShowsAt plan run p (Refused (AskTake m) (HasGap n)) = (n ≡ bound_shown run p m.from) × (n < m.lo)
   ShowsAt plan run p (Refused (AskTake m) (IsRepeat n)) = (n ≡ bound_shown run p m.from) × (m.lo ≤ n) × (m.hi ≤ n)
   ShowsAt plan run p other = ⊤

@@ -57,7 +57,7 @@ module _ {E : Type 0} where
   -- a wait for the clock shows the last value shown, which the transaction's snapshot exceeds; a finish is never refused but where the partition is down
   abbrev pub HasCauseAt : Plan E → List (Entry E) → PartId → Event E → Type 0
   HasCauseAt plan run p (Refused (AskRead t s o own) (ClockBehind n)) = (n ≡ shown run p) × (n < entry (plan.snapshot t) p.site)
-  HasCauseAt plan run p (Refused (AskUpdate t s o own op) (ClockBehind n)) = (n ≡ shown run p) × (n < entry (plan.snapshot t) p.site)
+  HasCauseAt plan run p (Refused (AskUpdate t s o own op) (ClockBehind n)) = (reads_state o.kind ≡ true) × (n ≡ shown run p) × (n < entry (plan.snapshot t) p.site)
   HasCauseAt plan run p (Refused (AskPrepare t s l w) (ClockBehind n)) = (n ≡ shown run p) × (n < entry (plan.snapshot t) p.site)
   HasCauseAt plan run p (Refused asked ClockAtEnd) = shown run p ≡ end_of_time
   HasCauseAt plan run p (Refused (AskFinish t c) IsGone) = ⊥
