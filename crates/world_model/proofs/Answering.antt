@@ -1,12 +1,12 @@
 -- A refusal answers a call that it may answer.
-use Rattle.std.proofs.Common.{◌≡◌, true, List, [], ◌∷◌, refl}
+use Rattle.std.proofs.Common.{◌≡◌, ℕ, true, List, [], ◌∷◌, refl}
 use Rattle.std.specs.Prelude.{⊤}
 use Rattle.site_vector.specs.declared.ids.PartId.{PartId}
-use Rattle.world_model.specs.Event.{AskBegin, AskRead, AskUpdate, AskPrepare, AskDecide, AskFinish, AskAbort, AskTake, AskRestart, IsDown, ClockBehind, TxPending, StableBehind, ClockAtEnd, IsGone, HasGap, IsRepeat, IsDamaged, Event, Refused, Entry}
+use Rattle.world_model.specs.Event.{AskBegin, AskRead, AskUpdate, AskPrepare, AskDecide, AskFinish, AskAbort, AskTake, AskRestart, IsDown, ClockBehind, TxPending, StableBehind, ClockAtEnd, IsGone, HasGap, IsRepeat, IsDamaged, Event, Updated, Read, Refused, Entry, EventsAre}
 use Rattle.world_model.specs.Partition.{Kinds, PartState, PartStep}
 use Rattle.world_model.specs.Plan.{Plan, takes_part, IsRun}
 use Rattle.world_model.specs.WorldLaw.{HasCauseAt, HaveCausesAt}
-use Rattle.world_model.specs.Answering.{IsDueAt, AreDue}
+use Rattle.world_model.specs.Answering.{IsDueAt, AreDue, IsKnown}
 
 module _ {E : Type 0} {S : Type 0} (kinds : Kinds S E) where
   due_event : (plan : Plan E) (run : List (Entry E)) (at : PartId) (p q : PartState E) (event : Event E) → PartStep kinds plan.sites plan.parts at p event q → HasCauseAt plan run at event → IsDueAt event
@@ -31,3 +31,12 @@ module _ {E : Type 0} {S : Type 0} (kinds : Kinds S E) where
   pub due_events : (plan : Plan E) (run : List (Entry E)) (parts : PartId → PartState E) → IsRun kinds plan run parts → HaveCausesAt plan run → AreDue run
   due_events plan [] parts r h = tt
   due_events plan (e ∷ run) parts r h = (due_event plan run e.at (r.0 e.at) (parts e.at) e.event r.2.step h.0, due_events plan run r.0 r.1 h.1)
+
+  known_event : (sites parts : ℕ) (at : PartId) (p q : PartState E) (event : Event E) → PartStep kinds sites parts at p event q → IsKnown kinds at event
+  known_event sites parts at p q (Read t s o own read value) st = st.1.2
+  known_event sites parts at p q (Updated t s o own op read u stamp) st = st.1.known
+  known_event sites parts at p q event st = tt
+
+  pub known_events : (plan : Plan E) (run : List (Entry E)) (parts : PartId → PartState E) → IsRun kinds plan run parts → EventsAre (IsKnown kinds) run
+  known_events plan [] parts r = tt
+  known_events plan (e ∷ run) parts r = (known_event plan.sites plan.parts e.at (r.0 e.at) (parts e.at) e.event r.2.step, known_events plan run r.0 r.1)

@@ -27,6 +27,8 @@ pub mod Stories
 pub mod LineViews
 pub mod LineChanges
 pub mod LineFaults
+pub mod Orders
+pub mod LineReading
 pub mod LineLaws
 pub mod Whole
 pub mod Example

@@ -122,7 +122,7 @@ module _ {E : Type 0} where
       ∙ any_map (to_change p) (λ (c : Change). true) (asked_at run t p)
       ∙ some_asked (asked_at run t p) ∙ ap is_some_update (asked_changes run t p)
 
-  touched : (o : ObjectId) (xs : List (Asked E)) → list_any (λ (a : Asked E). same_object a.change.object o) xs ≡ log.touches (map (λ a. a.change) xs) o
+  pub touched : (o : ObjectId) (xs : List (Asked E)) → list_any (λ (a : Asked E). same_object a.change.object o) xs ≡ log.touches (map (λ a. a.change) xs) o
   touched o [] = refl
   touched o (a ∷ xs) = ap (λ b. same_object a.change.object o || b) (touched o xs)
 

@@ -34,7 +34,7 @@ use Rattle.world_model.proofs.Voting.{vote_events, vectors, agreed}
 use Rattle.world_model.proofs.Handing.{handed_events, numbered_events, planned_updates}
 use Rattle.world_model.proofs.Resuming.{resume_events}
 use Rattle.world_model.proofs.Sending.{send_events}
-use Rattle.world_model.proofs.Answering.{due_events}
+use Rattle.world_model.proofs.Answering.{due_events, known_events}
 use Rattle.world_model.proofs.LogsLeft.{logs_left}
 use Rattle.world_model.proofs.LineLaws.{lawful_lines}
 use Rattle.world_model.proofs.Stories.{stories, meanings, planned_changes}
@@ -327,6 +327,7 @@ module _ {E : Type 0} where
           agreed = agreed kinds plan run state k;
           doubts = settle_doubts kinds plan run state under;
           due = due_events kinds plan run state under k.causes;
+          known = known_events kinds plan run state under;
           causes = k.causes;
           downs = answer_up kinds plan run state under;
           resumed = resume_events kinds plan run state under;

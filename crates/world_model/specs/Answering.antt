@@ -1,6 +1,8 @@
 -- Which refusals may answer which call.
 use Rattle.std.specs.Prelude.{◌≡◌, Bool, true, false, List, [], ◌∷◌, ⊤}
-use Rattle.world_model.specs.Event.{Ask, AskBegin, AskRead, AskUpdate, AskPrepare, AskDecide, AskAbort, AskTake, AskRestart, Refusal, IsDown, ClockBehind, TxPending, StableBehind, ClockAtEnd, IsGone, HasGap, IsRepeat, IsDamaged, Event, Refused, Entry}
+use Rattle.world_model.specs.Event.{Ask, AskBegin, AskRead, AskUpdate, AskPrepare, AskDecide, AskAbort, AskTake, AskRestart, Refusal, IsDown, ClockBehind, TxPending, StableBehind, ClockAtEnd, IsGone, HasGap, IsRepeat, IsDamaged, Event, Updated, Read, Refused, Entry}
+use Rattle.site_vector.specs.declared.ids.PartId.{PartId}
+use Rattle.world_model.specs.Partition.{Kinds}
 
 module _ {E : Type 0} where
   abbrev pub may_answer : Ask E → Refusal → Bool
@@ -23,6 +25,12 @@ module _ {E : Type 0} where
   abbrev pub IsDueAt : Event E → Type 0
   IsDueAt (Refused asked why) = may_answer asked why ≡ true
   IsDueAt other = ⊤
+
+  -- what is read or updated is of a kind that there is
+  abbrev pub IsKnown : {S : Type 0} → Kinds S E → PartId → Event E → Type 0
+  IsKnown kinds p (Read t s o own read value) = kinds.has o.kind ≡ true
+  IsKnown kinds p (Updated t s o own op read u stamp) = kinds.has o.kind ≡ true
+  IsKnown kinds p other = ⊤
 
   abbrev pub AreDue : List (Entry E) → Type 0
   AreDue [] = ⊤

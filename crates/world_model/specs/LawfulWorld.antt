@@ -8,7 +8,7 @@ use Rattle.world_model.specs.Partition.{Kinds}
 use Rattle.world_model.specs.Plan.{Plan, updates_at}
 use Rattle.world_model.specs.WorldLaw.{sees_tx, IsRight, ClocksAre, KeepsDecided, HaveCausesAt}
 use Rattle.world_model.specs.Past.{KeepPast}
-use Rattle.world_model.specs.Answering.{AreDue}
+use Rattle.world_model.specs.Answering.{AreDue, IsKnown}
 use Rattle.world_model.specs.Resumed.{Resume}
 use Rattle.world_model.specs.Sends.{Send}
 use Rattle.world_model.specs.Handed.{AreHanded, AreNew}
@@ -39,6 +39,7 @@ pub record IsLawfulWorld {S E : Type 0} (kinds : Kinds S E) (plan : Plan E) (run
   -- after a decide that was cut off the lead's restart says which of two it was
   pub doubts : SettleDoubts run
   pub due : AreDue run
+  pub known : EventsAre (IsKnown kinds) run
   pub causes : HaveCausesAt plan run
   pub downs : AnswerAsUp run
   -- a restart lists what was before, where a call that was cut off may have been done

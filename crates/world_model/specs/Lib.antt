@@ -42,5 +42,6 @@ pub mod LineFates
 pub mod LineFresh
 pub mod LineStreams
 pub mod LineCauses
+pub mod LineReads
 pub mod LineLaw
 pub mod World
