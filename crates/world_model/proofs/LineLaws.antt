@@ -1,6 +1,7 @@
 -- The lines of a run of the world are a lawful run.
-use Rattle.std.proofs.Common.{◌≡◌, ◌≢◌, ◌⊎◌, ⊎_elim, inl, inr, ℕ, ◌+◌, ◌<◌, ◌≤◌, max, cond, Bool, true, false, not, ◌&&◌, ◌||◌, List, [], ◌∷◌, Option, Some, refl, sym, ap, ◌∙◌, subst, subst₂, arith}
+use Rattle.std.proofs.Common.{◌≡◌, ◌≢◌, ◌⊎◌, ⊎_elim, inl, inr, ℕ, ◌+◌, ◌<◌, ◌≤◌, max, cond, Bool, true, false, not, ◌&&◌, ◌||◌, List, [], ◌∷◌, ◌++◌, length, Option, Some, append-nil, refl, sym, ap, ◌∙◌, subst, subst₂, arith}
 use Rattle.std.specs.Prelude.{⊤, ◌==◌, filter}
+use Rattle.std.specs.List.{flat_map}
 use Rattle.std.specs.declared.cmp.Ordering.TheVariants.{Less}
 use Rattle.std.proofs.lemmas.Bool.{or_left, or_right, and_from, false_from_ne_true}
 use Rattle.site_vector.specs.declared.ids.PartId.{PartId}
@@ -8,7 +9,11 @@ use Rattle.site_vector.specs.declared.ids.TxId.{TxId}
 use Rattle.site_vector.specs.Order.{same_tx_refl}
 use Rattle.site_vector.specs.Vector.{le, entry}
 use Rattle.crdt_core.specs.declared.object.ObjectId.{ObjectId}
+use Rattle.crdt_core.specs.declared.record.Part.{Part}
 use Rattle.crdt_core.specs.declared.record.Message.{Message}
+use Rattle.crdt_core.specs.Seen.{Update}
+use Rattle.crdt_core.specs.Same.{Same}
+use Rattle.crdt_core.specs.Stamps.{stamp_due}
 use Rattle.world_model.specs.Log as log
 use Rattle.world_model.specs.Log.{end_of_time}
 use Rattle.world_model.specs.Event.{AskBegin, AskRead, AskUpdate, AskPrepare, AskDecide, AskAbort, AskTake, AskRestart, IsDown, ClockBehind, TxPending, StableBehind, ClockAtEnd, IsGone, HasGap, IsRepeat, IsDamaged, Event, Ticked, Began, Updated, Read, Prepared, Decided, Finished, Aborted, Sent, Took, Reported, Heard, Crashed, Restarted, Refused, Opened, Cut, Entry, EventsAre, WasShown, is_abort, was_aborted, voted, is_decided, shown, missed}
@@ -16,15 +21,17 @@ use Rattle.world_model.specs.Partition.{Kinds, lowest, pending_cmp}
 use Rattle.world_model.specs.Plan.{Plan, first_of, home, twin, is_some_update, takes_part, commit_vector, MayTake}
 use Rattle.world_model.specs.Commit.{partitions}
 use Rattle.world_model.specs.World.{plan_of}
-use Rattle.world_model.specs.WorldLaw.{sees_tx, ClockIs, ClocksAre, KeepsIs, KeepsDecided, HasCauseAt, HaveCausesAt, IsRight}
+use Rattle.world_model.specs.WorldLaw.{sees_tx, ClockIs, ClocksAre, KeepsIs, KeepsDecided, HasCauseAt, HaveCausesAt, IsRightFold, IsRight}
 use Rattle.world_model.specs.Past as events
 use Rattle.world_model.specs.Downs.{AnswersAsUp, AnswerAsUp}
-use Rattle.world_model.specs.Answering.{IsDueAt, AreDue}
+use Rattle.world_model.specs.Answering.{IsDueAt, AreDue, IsKnown}
 use Rattle.world_model.specs.Doubt.{SettlesAt, SettleDoubts}
 use Rattle.world_model.specs.Shown.{pending_shown, pending_time, committed_shown, IsReadyAt, IsFirstPending, ShowsAt, ShowAt}
 use Rattle.world_model.specs.Stable.{heard_from, heard_shown, IsBehindAt, IsFreshAt, AreFresh}
 use Rattle.world_model.specs.Votes.{VotesAt, KeepVotes, ShowsVector}
-use Rattle.world_model.specs.Handed.{HandedAt, AreHanded, IsNew, AreNew}
+use Rattle.world_model.specs.Handed.{IsPlacedAt, HandedAt, AreHanded, IsNew, AreNew}
+use Rattle.world_model.specs.Meaning as meaning
+use Rattle.world_model.specs.Meaning.{Asked, asked_at}
 use Rattle.world_model.specs.Resumed.{is_call, cut_call, IsAsBefore, IsAsDone, ResumesAt, Resume}
 use Rattle.world_model.specs.Sends.{low_of, SendsAt, Send}
 use Rattle.world_model.specs.LawfulWorld.{IsLawfulWorld}
@@ -36,6 +43,7 @@ use Rattle.world_model.specs.LineBounds as bounds
 use Rattle.world_model.specs.LineUpdates as updates
 use Rattle.world_model.specs.LineUpdates.{IsPlaced}
 use Rattle.world_model.specs.LineCommit as commit
+use Rattle.world_model.specs.LineReads as reads
 use Rattle.world_model.specs.LineFates as fates
 use Rattle.world_model.specs.LineFresh as fresh
 use Rattle.world_model.specs.LineStreams as streams
@@ -46,7 +54,9 @@ use Rattle.world_model.proofs.Fate.{voted_tried}
 use Rattle.world_model.proofs.Intervals.{events_map}
 use Rattle.world_model.proofs.Histories.{Facts, no_self}
 use Rattle.world_model.proofs.LineViews.{now_is, missed_is, in_history_is, snapshot_is, vector_is, visible_is, dependency_is, pending_is, prepare_time_is, doubt_is, down_is, bound_is, heard_here, heard_is, stable_is, own_bound_is, was_prepared_is, last_sent_is, sent_line, report_line}
-use Rattle.world_model.proofs.LineChanges.{takes_part_is, touches_is, lead_is}
+use Rattle.world_model.proofs.LineChanges.{to_change, count_is, takes_part_is, touches_is, lead_is}
+use Rattle.world_model.proofs.Orders.{stamp_same, is_in, in_filter, once_filter}
+use Rattle.world_model.proofs.LineReading.{history_has, history_once, update_is, updates_at_place, updates_is, grows, all_put}
 use Rattle.world_model.proofs.LineFaults.{IsFault, pend_same, fault_is}
 
 module _ {E : Type 0} where
@@ -324,13 +334,59 @@ module _ {E : Type 0} where
     cause_lines [] h f c w d r = tt
     cause_lines (e ∷ some) h f c w d r = (cause_line some e.at e.event h.0 f.0 c.0 w.0 d.0 r.0, cause_lines some h.1 f.1 c.1 w.1 d.1 r.1)
 
+    seen_twice : (b c : Bool) → (b && (b && c)) ≡ (b && c)
+    seen_twice true c = refl
+    seen_twice false c = refl
+
+    -- the transactions that t sees, each once
+    seen_by : (t u : TxId) → is_in (filter (past.visible ls (past.snapshot ls t)) (past.history ls)) u ≡ sees_tx plan run (plan.snapshot t) u
+    seen_by t u =
+        in_filter (past.visible ls (past.snapshot ls t)) (past.history ls) u
+        ∙ ap (λ b. b && past.visible ls (past.snapshot ls t) u) (history_has ls u)
+        ∙ seen_twice (past.in_history ls u) (le (past.commit_vector ls u) (past.snapshot ls t))
+        ∙ precedes_is u t
+
+    -- what t reads at p
+    read_same : (some : List (Entry E)) → AreHanded plan some → AreNew some → (p : PartId) (t : TxId) (o : ObjectId) (part : List (Part E)) → IsPlacedAt plan p t o → IsRightFold plan run p (plan.snapshot t) o part → Same (meaning.read_by plan run some p o t part) (reads.read_by ls (lines_of some) t o)
+    read_same some h n p t o part place fold =
+        let hs = filter (past.visible ls (past.snapshot ls t)) (past.history ls) in
+        let by_tx : TxId → List Update = λ u. updates_at_place sites parts run o u (asked_at run u (twin u.site p)) in
+        let older = meaning.updates_of plan run p o [] part in
+        let put : Same older (flat_map by_tx hs) = all_put sites parts run p o hs (once_filter (past.visible ls (past.snapshot ls t)) (past.history ls) (history_once ls)) (plan.snapshot t) part fold (seen_by t) law.planned in
+        let grown = grows sites parts run o t (asked_at some t p) older (flat_map by_tx hs) [] (subst (Same older) (sym (append-nil (flat_map by_tx hs))) put) in
+        let theirs : flat_map by_tx hs ≡ reads.updates_of ls o (past.visible ls (past.snapshot ls t)) = λ i. flat_map (λ u. sym (updates_is sites parts run run law.handed law.numbered u o (twin u.site p) refl place.part) i) hs in
+        let own : updates_at_place sites parts run o t (asked_at some t p) ++ [] ≡ reads.updates_in ls o t (updates.changes (lines_of some) t) = append-nil (updates_at_place sites parts run o t (asked_at some t p)) ∙ sym (updates_is sites parts run some h n t o p place.site place.part) in
+        subst (Same (meaning.read_by plan run some p o t part)) (λ i. theirs i ++ own i) grown
+
+    right_line : (some : List (Entry E)) → AreHanded plan some → AreNew some → (p : PartId) (event : Event E) → HandedAt plan some p event → IsNew some event → IsRight kinds plan run p event → meaning.HasMeaning kinds plan run some p event → IsKnown kinds p event → reads.IsRight kinds.meaning ls (lines_of some) p (call_of event) (step_shown some p event)
+    right_line some hs ns p (Refused asked IsDown) h n r m k = tt
+    right_line some hs ns p (Refused asked why) h n r m k = tt
+    right_line some hs ns p (Cut (Decided t c)) h n r m k = tt
+    right_line some hs ns p (Cut a) h n r m k = tt
+    right_line some hs ns p (Read t s o own part value) h n r m k =
+        let fold = subst (λ v. IsRightFold plan run p v o part) r.0 r.1 in
+        m ∙ kinds.laws.orderless o.kind (meaning.read_by plan run some p o t part) (reads.read_by ls (lines_of some) t o) k (read_same some hs ns p t o part h fold)
+    right_line some hs ns p (Updated t s o own op part u stamp) h n r m k = λ x.
+        let fold = subst (λ v. IsRightFold plan run p v o part) r.0 (r.1 x) in
+        let a : Asked E = record { change = u; op = op; stamp = stamp; now = shown some p } in
+        let c : updates.Change = record { at = p; now = clock.now (lines_of some) p; object = o; op = op; stamp = stamp; index = length (updates.changes (lines_of some) t) + 1 } in
+        let index : length (updates.changes (lines_of some) t) + 1 ≡ u.index = ap (λ y. y + 1) (count_is some t) ∙ sym n.number in
+        let same : c ≡ to_change p a = λ i. record { at = p; now = now_is some p i; object = sym h.1 i; op = op; stamp = stamp; index = index i } in
+        m x ∙ stamp_same o.kind (meaning.read_by plan run some p o t part) (reads.read_by ls (lines_of some) t o) (meaning.update_of plan run t a) (read_same some hs ns p t o part h.0 fold)
+        ∙ ap (stamp_due o.kind (reads.read_by ls (lines_of some) t o)) (sym (ap (reads.update_of ls t) same ∙ update_is sites parts run t p a))
+    right_line some hs ns p event h n r m k = tt
+
+    right_lines : (some : List (Entry E)) → AreHanded plan some → AreNew some → EventsAre (IsRight kinds plan run) some → meaning.HaveMeaning kinds plan run some → EventsAre (IsKnown kinds) some → EachLine (reads.IsRight kinds.meaning ls) (lines_of some)
+    right_lines [] h n r m k = tt
+    right_lines (e ∷ some) h n r m k = (right_line some h.1 n.1 e.at e.event h.0 n.0 r.0 m.0 k.0, right_lines some h.1 n.1 r.1 m.1 k.1)
+
     order_lines : past.IsStrictOrder (lines_of run)
     order_lines = record {
       irreflexive = λ t. precedes_is t t ∙ no_self kinds plan run facts t;
       transitive = λ t u w h k. closed_lines (past.snapshot (lines_of run) w) t u k h;
     }
 
-    pub lawful_lines : IsLawfulRun sites parts (lines_of run)
+    pub lawful_lines : IsLawfulRun kinds.meaning sites parts (lines_of run)
     lawful_lines = record {
       clock = clock_lines run law.clock;
       placed = placed_lines plan run law.handed;
@@ -338,6 +394,7 @@ module _ {E : Type 0} where
       fresh = fresh_lines plan run law.past law.fresh law.shown;
       commit = commit_lines run law.votes law.vectors law.numbered;
       agreed = agreed_lines;
+      right = right_lines run law.handed law.numbered law.right law.meant law.known;
       fates = fate_lines run (shown_all run) law.clock law.shown law.resumed law.decided_stay law.doubts;
       streams = stream_lines plan run law.handed law.sends law.shown law.due;
       causes = cause_lines run law.handed law.fresh law.causes law.shown law.due law.right;

@@ -121,10 +121,10 @@ module _ {E : Type 0} where
       ∙ filter_map (to_change q) (λ c. same_object c.object o) (asked_at run t q)
 
   module _ (sites parts : ℕ) (whole : List (Entry E)) where
-    abbrev plan : Plan E
+    abbrev pub plan : Plan E
     plan = plan_of sites parts whole
 
-    abbrev ls : List Line
+    abbrev pub ls : List Line
     ls = lines_of whole
 
     precedes_is : (t u : TxId) → past.precedes ls t u ≡ sees_tx plan whole (plan.snapshot u) t
@@ -142,7 +142,7 @@ module _ {E : Type 0} where
     }
 
     -- the updates of o by t, as it was asked for them at q
-    abbrev updates_at_place : ObjectId → TxId → List (Asked E) → List Update
+    abbrev pub updates_at_place : ObjectId → TxId → List (Asked E) → List Update
     updates_at_place o t asks = map (λ a. events.update_of plan whole t a) (filter (λ a. same_object a.change.object o) asks)
 
     pub updates_is : (some : List (Entry E)) → AreHanded plan some → AreNew some → (t : TxId) (o : ObjectId) (q : PartId) → q.site ≡ t.site → place_of o.bucket o.key parts ≡ q.part → reads.updates_in ls o t (changes (lines_of some) t) ≡ updates_at_place o t (asked_at some t q)
@@ -152,7 +152,7 @@ module _ {E : Type 0} where
         ∙ (λ i. map (λ a. update_is t q a i) (filter (λ a. same_object a.change.object o) (asked_at some t q)))
 
     -- what is asked for may be put anywhere
-    grows : (o : ObjectId) (t : TxId) (asks : List (Asked E)) (older front back : List Update) → Same older (front ++ back) → Same (events.updates_from plan whole o t older asks) (front ++ (updates_at_place o t asks ++ back))
+    pub grows : (o : ObjectId) (t : TxId) (asks : List (Asked E)) (older front back : List Update) → Same older (front ++ back) → Same (events.updates_from plan whole o t older asks) (front ++ (updates_at_place o t asks ++ back))
     grows o t [] older front back s = s
     grows o t (a ∷ asks) older front back s =
         let u = events.update_of plan whole t a in ⊎_elim
@@ -169,7 +169,7 @@ module _ {E : Type 0} where
         (cases_Bool (same_object a.change.object o))
 
     module _ (p : PartId) (o : ObjectId) (hs : List TxId) (once : IsOnce hs) where
-      abbrev by_tx : TxId → List Update
+      abbrev pub by_tx : TxId → List Update
       by_tx t = updates_at_place o t (asked_at whole t (twin t.site p))
 
       -- parts that weren't put yet, one after another
