@@ -29,6 +29,7 @@ pub mod LineChanges
 pub mod LineFaults
 pub mod Orders
 pub mod LineReading
+pub mod LineCounts
 pub mod LineLaws
 pub mod Whole
 pub mod Example

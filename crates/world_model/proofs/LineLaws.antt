@@ -1,9 +1,9 @@
 -- The lines of a run of the world are a lawful run.
-use Rattle.std.proofs.Common.{◌≡◌, ◌≢◌, ◌⊎◌, ⊎_elim, inl, inr, ℕ, ◌+◌, ◌<◌, ◌≤◌, max, cond, Bool, true, false, not, ◌&&◌, ◌||◌, List, [], ◌∷◌, ◌++◌, length, Option, Some, append-nil, refl, sym, ap, ◌∙◌, subst, subst₂, arith}
+use Rattle.std.proofs.Common.{◌≡◌, ◌≢◌, ◌⊎◌, ⊎_elim, inl, inr, ℕ, ◌+◌, ◌<◌, ◌≤◌, max, leb, ltb, cond, Bool, true, false, not, ◌&&◌, ◌||◌, List, [], ◌∷◌, ◌++◌, length, Option, Some, append-nil, refl, sym, ap, ◌∙◌, subst, subst₂, arith}
 use Rattle.std.specs.Prelude.{⊤, ◌==◌, filter}
 use Rattle.std.specs.List.{flat_map}
 use Rattle.std.specs.declared.cmp.Ordering.TheVariants.{Less}
-use Rattle.std.proofs.lemmas.Bool.{or_left, or_right, and_from, false_from_ne_true}
+use Rattle.std.proofs.lemmas.Bool.{or_left, or_right, and_from, and_parts, false_from_ne_true}
 use Rattle.site_vector.specs.declared.ids.PartId.{PartId}
 use Rattle.site_vector.specs.declared.ids.TxId.{TxId}
 use Rattle.site_vector.specs.Order.{same_tx_refl}
@@ -15,13 +15,13 @@ use Rattle.crdt_core.specs.Seen.{Update}
 use Rattle.crdt_core.specs.Same.{Same}
 use Rattle.crdt_core.specs.Stamps.{stamp_due}
 use Rattle.world_model.specs.Log as log
-use Rattle.world_model.specs.Log.{end_of_time}
+use Rattle.world_model.specs.Log.{end_of_time, lists}
 use Rattle.world_model.specs.Event.{AskBegin, AskRead, AskUpdate, AskPrepare, AskDecide, AskAbort, AskTake, AskRestart, IsDown, ClockBehind, TxPending, StableBehind, ClockAtEnd, IsGone, HasGap, IsRepeat, IsDamaged, Event, Ticked, Began, Updated, Read, Prepared, Decided, Finished, Aborted, Sent, Took, Reported, Heard, Crashed, Restarted, Refused, Opened, Cut, Entry, EventsAre, WasShown, is_abort, was_aborted, voted, is_decided, shown, missed}
 use Rattle.world_model.specs.Partition.{Kinds, lowest, pending_cmp}
 use Rattle.world_model.specs.Plan.{Plan, first_of, home, twin, is_some_update, takes_part, commit_vector, MayTake}
 use Rattle.world_model.specs.Commit.{partitions}
 use Rattle.world_model.specs.World.{plan_of}
-use Rattle.world_model.specs.WorldLaw.{sees_tx, ClockIs, ClocksAre, KeepsIs, KeepsDecided, HasCauseAt, HaveCausesAt, IsRightFold, IsRight}
+use Rattle.world_model.specs.WorldLaw.{sees_tx, ClockIs, ClocksAre, KeepsIs, KeepsDecided, HasCauseAt, HaveCausesAt, IsRightFold, IsExact, IsRight}
 use Rattle.world_model.specs.Past as events
 use Rattle.world_model.specs.Downs.{AnswersAsUp, AnswerAsUp}
 use Rattle.world_model.specs.Answering.{IsDueAt, AreDue, IsKnown}
@@ -53,9 +53,10 @@ use Rattle.world_model.proofs.Names.{clash, off, part_same}
 use Rattle.world_model.proofs.Fate.{voted_tried}
 use Rattle.world_model.proofs.Intervals.{events_map}
 use Rattle.world_model.proofs.Histories.{Facts, no_self}
-use Rattle.world_model.proofs.LineViews.{now_is, missed_is, in_history_is, snapshot_is, vector_is, visible_is, dependency_is, pending_is, prepare_time_is, doubt_is, down_is, bound_is, heard_here, heard_is, stable_is, own_bound_is, was_prepared_is, last_sent_is, sent_line, report_line}
+use Rattle.world_model.proofs.LineViews.{now_is, missed_is, in_history_is, snapshot_is, commit_time_is, vector_is, visible_is, dependency_is, pending_is, prepare_time_is, doubt_is, down_is, bound_is, heard_here, heard_is, stable_is, own_bound_is, was_prepared_is, last_sent_is, sent_line, report_line}
 use Rattle.world_model.proofs.LineChanges.{to_change, count_is, takes_part_is, touches_is, lead_is}
-use Rattle.world_model.proofs.Orders.{stamp_same, is_in, in_filter, once_filter}
+use Rattle.world_model.proofs.Orders.{stamp_same, is_in, in_filter, once_filter, filter_in}
+use Rattle.world_model.proofs.LineCounts.{parts_counted}
 use Rattle.world_model.proofs.LineReading.{history_has, history_once, update_is, updates_at_place, updates_is, grows, all_put}
 use Rattle.world_model.proofs.LineFaults.{IsFault, pend_same, fault_is}
 
@@ -128,23 +129,6 @@ module _ {E : Type 0} where
 
   handed_line : (plan : Plan E) (run : List (Entry E)) (p : PartId) (m : Message E) → MayTake plan run p m → streams.IsHanded plan.sites (lines_of run) p m.from m.lo m.hi
   handed_line plan run p m h = record { from = h.from; sent = subst (λ j. streams.WasSent (lines_of run) (twin m.from p) j m.lo m.hi) h.to (sent_line run (twin m.from p) h.asked m h.shown) }
-
-  stream_line : (plan : Plan E) (run : List (Entry E)) (p : PartId) (event : Event E) → HandedAt plan run p event → SendsAt plan run p event → ShowsAt plan run p event → IsDueAt event → streams.IsStream plan.sites (lines_of run) p (call_of event) (step_shown run p event)
-  stream_line plan run p (Sent asked m) h n s d = record { to = n.to; low = n.lo ∙ ap (low_of asked) (sym (last_sent_is run p m.to)); high = own_bound_is run p m.hi s }
-  stream_line plan run p (Took m) h n s d = let e = sym (bound_is run p m.from) in (refl, subst (λ x. m.lo ≤ x) e s.0, subst (λ x. x < m.hi) e s.1, handed_line plan run p m h)
-  stream_line plan run p (Heard k b stable) h n s d = report_line run (record { site = p.site; part = k }) b h.shown
-  stream_line plan run p (Refused (AskTake m) (HasGap k)) h n s d = (s.0 ∙ sym (bound_is run p m.from), s.1, handed_line plan run p m h)
-  stream_line plan run p (Refused (AskTake m) (IsRepeat k)) h n s d = (s.0 ∙ sym (bound_is run p m.from), s.1, s.2, handed_line plan run p m h)
-  stream_line plan run p (Refused asked (HasGap k)) h n s d = off d
-  stream_line plan run p (Refused asked (IsRepeat k)) h n s d = off d
-  stream_line plan run p (Refused asked why) h n s d = tt
-  stream_line plan run p (Cut (Decided t c)) h n s d = tt
-  stream_line plan run p (Cut a) h n s d = tt
-  stream_line plan run p event h n s d = tt
-
-  stream_lines : (plan : Plan E) (run : List (Entry E)) → AreHanded plan run → Send plan run → ShowAt plan run → AreDue run → EachLine (streams.IsStream plan.sites) (lines_of run)
-  stream_lines plan [] h n s d = tt
-  stream_lines plan (e ∷ run) h n s d = (stream_line plan run e.at e.event h.0 n.0 s.0 d.0, stream_lines plan run h.1 n.1 s.1 d.1)
 
   up_line : (run : List (Entry E)) (p : PartId) (event : Event E) → AnswersAsUp run p event → IsDueAt event → causes.AnswersAsUp (lines_of run) p (call_of event) (step_shown run p event)
   up_line run p (Refused asked IsDown) h d = down_is run p ∙ h
@@ -380,6 +364,34 @@ module _ {E : Type 0} where
     right_lines [] h n r m k = tt
     right_lines (e ∷ some) h n r m k = (right_line some h.1 n.1 e.at e.event h.0 n.0 r.0 m.0 k.0, right_lines some h.1 n.1 r.1 m.1 k.1)
 
+    -- a message has as many parts as the history has in its stretch
+    count_line : (p : PartId) (m : Message E) → IsExact plan run p m → length m.parts ≡ streams.stream_count ls p m.lo m.hi
+    count_line p m x =
+        let hs = past.history ls in
+        let inside : (t : TxId) → lists m.parts t ≡ true → is_in hs t ≡ true = λ t h. history_has ls t ∙ in_history_is run t ∙ (and_parts (is_decided run t) _ (sym (x.members t) ∙ h)).0 in
+        let same : (t : TxId) → is_in hs t ≡ true → lists m.parts t ≡ (updates.takes_part ls t p && (ltb m.lo (past.commit_time ls t) && leb (past.commit_time ls t) m.hi)) = λ t h.
+        let d : is_decided run t ≡ true = sym (in_history_is run t) ∙ sym (history_has ls t) ∙ h in
+        x.members t ∙ (λ i. d i && (sym (takes_eq t p) i && (ltb m.lo (sym (commit_time_is run t) i) && leb (sym (commit_time_is run t) i) m.hi))) in
+        parts_counted (commit_vector plan run) (λ u. plan.updates u p) p.site hs (history_once ls) m.parts x.exact x.order inside
+        ∙ ap length (filter_in (λ t. lists m.parts t) (λ t. updates.takes_part ls t p && (ltb m.lo (past.commit_time ls t) && leb (past.commit_time ls t) m.hi)) hs same)
+
+    stream_line : (some : List (Entry E)) (p : PartId) (event : Event E) → HandedAt plan some p event → SendsAt plan some p event → ShowsAt plan some p event → IsDueAt event → IsRight kinds plan run p event → streams.IsStream sites ls (lines_of some) p (call_of event) (step_shown some p event)
+    stream_line some p (Sent asked m) h n s d r = record { to = n.to; low = n.lo ∙ ap (low_of asked) (sym (last_sent_is some p m.to)); high = own_bound_is some p m.hi s; parts = count_line p m r }
+    stream_line some p (Took m) h n s d r = let e = sym (bound_is some p m.from) in (refl, subst (λ x. m.lo ≤ x) e s.0, subst (λ x. x < m.hi) e s.1, handed_line plan some p m h)
+    stream_line some p (Heard k b stable) h n s d r = report_line some (record { site = p.site; part = k }) b h.shown
+    stream_line some p (Refused (AskTake m) (HasGap k)) h n s d r = (s.0 ∙ sym (bound_is some p m.from), s.1, handed_line plan some p m h)
+    stream_line some p (Refused (AskTake m) (IsRepeat k)) h n s d r = (s.0 ∙ sym (bound_is some p m.from), s.1, s.2, handed_line plan some p m h)
+    stream_line some p (Refused asked (HasGap k)) h n s d r = off d
+    stream_line some p (Refused asked (IsRepeat k)) h n s d r = off d
+    stream_line some p (Refused asked why) h n s d r = tt
+    stream_line some p (Cut (Decided t c)) h n s d r = tt
+    stream_line some p (Cut a) h n s d r = tt
+    stream_line some p event h n s d r = tt
+
+    stream_lines : (some : List (Entry E)) → AreHanded plan some → Send plan some → ShowAt plan some → AreDue some → EventsAre (IsRight kinds plan run) some → EachLine (streams.IsStream sites ls) (lines_of some)
+    stream_lines [] h n s d r = tt
+    stream_lines (e ∷ some) h n s d r = (stream_line some e.at e.event h.0 n.0 s.0 d.0 r.0, stream_lines some h.1 n.1 s.1 d.1 r.1)
+
     order_lines : past.IsStrictOrder (lines_of run)
     order_lines = record {
       irreflexive = λ t. precedes_is t t ∙ no_self kinds plan run facts t;
@@ -396,7 +408,7 @@ module _ {E : Type 0} where
       agreed = agreed_lines;
       right = right_lines run law.handed law.numbered law.right law.meant law.known;
       fates = fate_lines run (shown_all run) law.clock law.shown law.resumed law.decided_stay law.doubts;
-      streams = stream_lines plan run law.handed law.sends law.shown law.due;
+      streams = stream_lines run law.handed law.sends law.shown law.due law.right;
       causes = cause_lines run law.handed law.fresh law.causes law.shown law.due law.right;
       ups = up_lines run law.downs law.due;
       order = order_lines;

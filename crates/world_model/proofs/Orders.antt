@@ -1,7 +1,8 @@
 -- Lists of transactions each once, and lists with the same members.
-use Rattle.std.proofs.Common.{◌≡◌, ⊎_elim, ℕ, ◌+◌, max, min, cond, Bool, true, false, ◌&&◌, ◌||◌, List, [], ◌∷◌, ◌++◌, Option, None, Some, refl, sym, ap, ◌∙◌, subst, arith}
+use Rattle.std.proofs.Common.{◌≡◌, ⊎_elim, ℕ, ◌+◌, max, min, cond, Bool, true, false, ◌&&◌, ◌||◌, List, [], ◌∷◌, ◌++◌, length, Option, None, Some, refl, sym, ap, ◌∙◌, subst, arith}
 use Rattle.std.specs.Prelude.{⊤, filter, map}
 use Rattle.std.specs.List.{list_any, flat_map}
+use Rattle.std.proofs.lemmas.List.{length-append}
 use Rattle.std.proofs.lemmas.Bool.{cases_Bool, or_left, or_right, or_cases, or_parts, or_from, and_right, cond-true, cond-false, false_from_ne_true}
 use Rattle.site_vector.specs.declared.ids.TxId.{TxId}
 use Rattle.site_vector.specs.Ids.{same_tx}
@@ -160,3 +161,19 @@ map_map h g (x ∷ xs) = ap (λ l. g (h x) ∷ l) (map_map h g xs)
 pub each_append : {A : Type 0} (Q : A → Type 0) (xs ys : List A) → Each Q xs → Each Q ys → Each Q (xs ++ ys)
 each_append Q [] ys h k = k
 each_append Q (x ∷ xs) ys h k = (h.0, each_append Q xs ys h.1 k)
+
+-- the tests need to agree on the members alone
+pub filter_in : (p q : TxId → Bool) (ts : List TxId) → ((t : TxId) → is_in ts t ≡ true → p t ≡ q t) → filter p ts ≡ filter q ts
+filter_in p q [] h = refl
+filter_in p q (t ∷ ts) h =
+    let rest = filter_in p q ts (λ u k. h u (or_right _ _ k)) in
+    let here = h t (or_left _ _ (same_tx_refl t)) in
+    λ i. cond (here i) (t ∷ rest i) (rest i)
+
+-- one more passes
+pub one_longer : (ts : List TxId) (p : TxId → Bool) (x : TxId) → IsOnce ts → is_in ts x ≡ true → p x ≡ false → length (filter (with_one p x) ts) ≡ 1 + length (filter p ts)
+one_longer ts p x once here fresh =
+    let s = inserted ts p x once here fresh in
+    let a = length-append s.front (x ∷ s.back) in
+    let b = length-append s.front s.back in
+    ap length s.after ∙ (let r : length (s.front ++ x ∷ s.back) ≡ 1 + length (s.front ++ s.back) = omega arith in r) ∙ ap (λ l. 1 + length l) (sym s.before)

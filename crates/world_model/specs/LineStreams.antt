@@ -1,5 +1,5 @@
 -- Messages between sites, over the lines of a run.
-use Rattle.std.specs.Prelude.{◌≡◌, ◌⊎◌, ℕ, ◌<◌, ◌≤◌, ◌==◌, if◌then◌else◌, List, [], ◌∷◌, Option, ⊤}
+use Rattle.std.specs.Prelude.{◌≡◌, ◌⊎◌, ℕ, ◌<◌, ◌≤◌, leb, ltb, ◌&&◌, ◌==◌, if◌then◌else◌, List, [], ◌∷◌, length, filter, Option, ⊤}
 use Rattle.site_vector.specs.declared.ids.PartId.{PartId}
 use Rattle.site_vector.specs.Ids.{same_part}
 use Rattle.world_model.specs.declared.step.Step.{Step}
@@ -8,7 +8,13 @@ use Rattle.world_model.specs.Partition.{IsOther}
 use Rattle.world_model.specs.Plan.{twin}
 use Rattle.world_model.specs.Sends.{low_of}
 use Rattle.world_model.specs.Lines.{Call, SendTo, TakeOf, HearOf, Line}
+use Rattle.world_model.specs.LineHistory.{history, commit_time}
+use Rattle.world_model.specs.LineUpdates.{takes_part}
 use Rattle.world_model.specs.LineBounds.{bound, IsOwnBound}
+
+-- how many decided transactions of the whole run updated something at p and have a commit time in this stretch
+abbrev pub stream_count : List Line → PartId → ℕ → ℕ → ℕ
+stream_count whole p lo hi = length (filter (λ t. takes_part whole t p && (ltb lo (commit_time whole t) && leb (commit_time whole t) hi)) (history whole))
 
 -- the end of the last message from p to site j since its last restart
 abbrev pub sent_after : ℕ → ℕ → Step → ℕ
@@ -35,17 +41,18 @@ pub record IsHanded (sites : ℕ) (before : List Line) (p : PartId) (site lo hi 
   pub from : IsOther sites p.site site
   pub sent : WasSent before (twin site p) p.site lo hi
 
--- from where it was asked, or where the last one to the site ended; up to the own bound
-pub record IsNext (sites : ℕ) (before : List Line) (p : PartId) (asked : Option ℕ) (site lo hi : ℕ) : Type 0 where
+-- from where it was asked, or where the last one to the site ended; up to the own bound; all that lies between
+pub record IsNext (sites : ℕ) (whole before : List Line) (p : PartId) (asked : Option ℕ) (site lo hi count : ℕ) : Type 0 where
   pub to : IsOther sites p.site site
   pub low : lo ≡ low_of asked (last_sent before p site)
   pub high : IsOwnBound before p hi
+  pub parts : count ≡ stream_count whole p lo hi
 
-abbrev pub IsStream : ℕ → List Line → PartId → Call → Step → Type 0
-IsStream sites before p call (step.Crashed q) = ⊤
-IsStream sites before p (SendTo site asked) (step.Sent number q to lo hi count) = IsNext sites before p asked to lo hi
-IsStream sites before p (TakeOf site lo hi) (step.Took number end) = (end ≡ hi) × (lo ≤ bound before p site) × (bound before p site < hi) × IsHanded sites before p site lo hi
-IsStream sites before p (TakeOf site lo hi) (step.Gap number n) = (n ≡ bound before p site) × (n < lo) × IsHanded sites before p site lo hi
-IsStream sites before p (TakeOf site lo hi) (step.Dup number n) = (n ≡ bound before p site) × (lo ≤ n) × (hi ≤ n) × IsHanded sites before p site lo hi
-IsStream sites before p (HearOf part bounds) (step.Heard number q stable) = WasReported before (record { site = p.site; part = part }) bounds
-IsStream sites before p call other = ⊤
+abbrev pub IsStream : ℕ → List Line → List Line → PartId → Call → Step → Type 0
+IsStream sites whole before p call (step.Crashed q) = ⊤
+IsStream sites whole before p (SendTo site asked) (step.Sent number q to lo hi count) = IsNext sites whole before p asked to lo hi count
+IsStream sites whole before p (TakeOf site lo hi) (step.Took number end) = (end ≡ hi) × (lo ≤ bound before p site) × (bound before p site < hi) × IsHanded sites before p site lo hi
+IsStream sites whole before p (TakeOf site lo hi) (step.Gap number n) = (n ≡ bound before p site) × (n < lo) × IsHanded sites before p site lo hi
+IsStream sites whole before p (TakeOf site lo hi) (step.Dup number n) = (n ≡ bound before p site) × (lo ≤ n) × (hi ≤ n) × IsHanded sites before p site lo hi
+IsStream sites whole before p (HearOf part bounds) (step.Heard number q stable) = WasReported before (record { site = p.site; part = part }) bounds
+IsStream sites whole before p call other = ⊤
