@@ -229,10 +229,15 @@ module _ {E : Type 0} where
         (λ (x : IsAsBefore plan some p b listed). inl (record { members = λ t. x.members t ∙ sym (pending_is some p t); times = λ t k. x.times t k ∙ sym (prepare_time_is some p t) }))
         (λ (x : (what : Event E) × (cut_call some p ≡ Some what) × (is_call what ≡ true) × IsAsDone plan some p what b listed).
         let f = fault_is some cs p x.0 x.2 x.1 in
-        inr (call_cut x.0, f.drawn, f.is, record {
-          members = λ t. x.3.members t ∙ sym (ap (λ o. fates.pending_done (call_cut x.0) o t) (pending_is some p t) ∙ pend_same x.0 (pending_shown some p t) t x.2);
-          times = λ t k. x.3.times t k ∙ sym (ap (λ o. fates.time_done (call_cut x.0) f.drawn o t) (prepare_time_is some p t) ∙ f.time t (pending_time some p t));
-        }))
+        inr (
+          call_cut x.0,
+          f.drawn,
+          f.is,
+          record {
+            members = λ t. x.3.members t ∙ sym (ap (λ o. fates.pending_done (call_cut x.0) o t) (pending_is some p t) ∙ pend_same x.0 (pending_shown some p t) t x.2);
+            times = λ t k. x.3.times t k ∙ sym (ap (λ o. fates.time_done (call_cut x.0) f.drawn o t) (prepare_time_is some p t) ∙ f.time t (pending_time some p t));
+          },
+        ))
         h
 
     fate_line : (some : List (Entry E)) (p : PartId) (event : Event E) → WasShown run p event → ClocksAre some → ShowsAt plan some p event → ResumesAt plan some p event → KeepsIs plan some p event → SettlesAt some p event → fates.ShowsFate parts ls (lines_of some) p (call_of event) (step_shown some p event)

@@ -204,7 +204,7 @@ module _ {E : Type 0} where
           let next = next_parts (commit_vector plan whole) (changes_at plan p) read (λ t. false) r.exact r.order member (λ t h. refl) in
           let put = parts_put read (λ t. false) [] next (ap (flat_map by_tx) (none_pass hs)) in
           let empty : (t : TxId) → is_in hs t ≡ true → lists read t ≡ false → by_tx t ≡ [] = λ t h k.
-              let v = and_parts (is_decided whole t) _ (sym (all t) ∙ h) in
-              let none : touches (changes_at plan p t) o ≡ false = false_from_ne_true _ (λ y. clash (r.members t ∙ and_from _ _ v.0 (and_from _ _ y v.1)) k) in
-              ap (map (λ a. events.update_of plan whole t a)) (filter_none (λ a. same_object a.change.object o) (asked_at whole t (twin t.site p)) (touched o (asked_at whole t (twin t.site p)) ∙ ap (λ us. touches us o) (asked_changes whole t (twin t.site p) ∙ sym (planned t (twin t.site p))) ∙ none)) in
+          let v = and_parts (is_decided whole t) _ (sym (all t) ∙ h) in
+          let none : touches (changes_at plan p t) o ≡ false = false_from_ne_true _ (λ y. clash (r.members t ∙ and_from _ _ v.0 (and_from _ _ y v.1)) k) in
+          ap (map (λ a. events.update_of plan whole t a)) (filter_none (λ a. same_object a.change.object o) (asked_at whole t (twin t.site p)) (touched o (asked_at whole t (twin t.site p)) ∙ ap (λ us. touches us o) (asked_changes whole t (twin t.site p) ∙ sym (planned t (twin t.site p))) ∙ none)) in
           subst (Same (events.updates_of plan whole p o [] read)) (drop_empty by_tx (λ t. lists read t) hs empty) put

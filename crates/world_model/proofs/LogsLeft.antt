@@ -41,15 +41,18 @@ module _ {E : Type 0} {S : Type 0} (kinds : Kinds S E) (plan : Plan E) (run : Li
       let e : m ≡ log = subst (λ rs. IsImage log rs m) st.whole i in (
         log,
         left at log st.found,
-        (e, record {
-          clock = st.shown ∙ st.clock;
-          others = λ j o. st.shown_bounds.others j o ∙ st.bounds j o;
-          own = subst (λ k. IsOwnBound k log (entry b at.site)) (sym st.shown) st.shown_bounds.own;
-          last = st.last;
-          members = st.members;
-          timed = st.timed;
-          order = st.order;
-        }),
+        (
+          e,
+          record {
+            clock = st.shown ∙ st.clock;
+            others = λ j o. st.shown_bounds.others j o ∙ st.bounds j o;
+            own = subst (λ k. IsOwnBound k log (entry b at.site)) (sym st.shown) st.shown_bounds.own;
+            last = st.last;
+            members = st.members;
+            timed = st.timed;
+            order = st.order;
+          },
+        ),
       )
   left_here (Refused asked why) al st m i = (m, left_same m st.1 i, refl)
   left_here (Opened who) al st m i = (m, left_same m st i, refl)

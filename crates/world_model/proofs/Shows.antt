@@ -180,7 +180,6 @@ module _ {E : Type 0} where
       waiting = λ t x. ap (λ p. pending p.log t) st.1 ∙ h.waiting at t (sym (ap (λ p. p.up) st.1) ∙ x);
       time = λ t x k. ap (λ p. prepare_time p.log t) st.1 ∙ h.time at t (sym (ap (λ p. p.up) st.1) ∙ x) (ap (λ p. pending p.log t) (sym st.1) ∙ k);
     }
-
     here (Opened who) al st = record {
       width = λ x. ap (λ p. length p.bounds) st ∙ h.width at (sym (ap (λ p. p.up) st) ∙ x);
       bounds = λ j x o. ap (λ p. entry p.bounds j) st ∙ h.bounds at j (sym (ap (λ p. p.up) st) ∙ x) o;

@@ -312,29 +312,29 @@ module _ {E : Type 0} where
       let all = planned_changes sites parts run in
       let strictly = strict plan run state k.fate in
       let law : IsLawfulWorld kinds plan run =
-        record {
-          right = right;
-          meant = meanings kinds plan run facts made all sites parts (world_leases kinds sites parts) run state r right;
-          causal = causal_stores kinds plan run made all;
-          clock = k.clock;
-          past = k.past;
-          decided_stay = k.decided_stay;
-          handed = handed_events kinds plan run state under;
-          numbered = numbered_events kinds sites parts run state r;
-          planned = planned_updates kinds sites parts run state r;
-          votes = vote_events kinds plan run state under;
-          vectors = vectors kinds plan run state under;
-          agreed = agreed kinds plan run state k;
-          doubts = settle_doubts kinds plan run state under;
-          due = due_events kinds plan run state under k.causes;
-          known = known_events kinds plan run state under;
-          causes = k.causes;
-          downs = answer_up kinds plan run state under;
-          resumed = resume_events kinds plan run state under;
-          sends = send_events kinds plan run state under;
-          shown = show_events kinds plan run state under;
-          fresh = fresh_events kinds plan run state under;
-          fate = never_both kinds plan run state k;
-          strict = strictly;
-          closed = closed plan run strictly;
-        } in (law, logs_left kinds plan run state under, lawful_lines kinds sites parts run law)
+      record {
+        right = right;
+        meant = meanings kinds plan run facts made all sites parts (world_leases kinds sites parts) run state r right;
+        causal = causal_stores kinds plan run made all;
+        clock = k.clock;
+        past = k.past;
+        decided_stay = k.decided_stay;
+        handed = handed_events kinds plan run state under;
+        numbered = numbered_events kinds sites parts run state r;
+        planned = planned_updates kinds sites parts run state r;
+        votes = vote_events kinds plan run state under;
+        vectors = vectors kinds plan run state under;
+        agreed = agreed kinds plan run state k;
+        doubts = settle_doubts kinds plan run state under;
+        due = due_events kinds plan run state under k.causes;
+        known = known_events kinds plan run state under;
+        causes = k.causes;
+        downs = answer_up kinds plan run state under;
+        resumed = resume_events kinds plan run state under;
+        sends = send_events kinds plan run state under;
+        shown = show_events kinds plan run state under;
+        fresh = fresh_events kinds plan run state under;
+        fate = never_both kinds plan run state k;
+        strict = strictly;
+        closed = closed plan run strictly;
+      } in (law, logs_left kinds plan run state under, lawful_lines kinds sites parts run law)
