@@ -1,6 +1,7 @@
 -- A message has as many parts as lines say.
-use Rattle.std.proofs.Common.{◌≡◌, ⊎_elim, ℕ, ◌+◌, leb, ltb, Bool, true, false, ◌&&◌, ◌||◌, List, [], ◌∷◌, length, refl, sym, ap, ◌∙◌, subst, arith}
+use Rattle.std.proofs.Common.{◌≡◌, ⊎_elim, ℕ, ◌+◌, leb, ltb, cond, Bool, true, false, ◌&&◌, ◌||◌, List, [], ◌∷◌, length, refl, sym, ap, ◌∙◌, subst, arith}
 use Rattle.std.specs.Prelude.{⊤, filter}
+use Rattle.std.specs.List.{list_any}
 use Rattle.std.specs.Cmp.{IsTotalOrder}
 use Rattle.std.specs.declared.cmp.Ordering.{Ordering}
 use Rattle.std.specs.declared.cmp.Ordering.TheVariants.{Less, Equal}
@@ -14,7 +15,8 @@ use Rattle.site_vector.specs.Vector.{entry}
 use Rattle.crdt_core.specs.declared.record.Upd.{Upd}
 use Rattle.crdt_core.specs.declared.record.Part.{Part}
 use Rattle.world_model.specs.Log.{lists}
-use Rattle.world_model.specs.Partition.{Precede, Ascends, stream_cmp, AreParts}
+use Rattle.world_model.specs.Partition.{Precede, Ascends, stream_cmp, AreParts, above}
+use Rattle.world_model.specs.Resumed.{is_some_part}
 use Rattle.world_model.proofs.Names.{clash, off}
 use Rattle.world_model.proofs.Orders.{is_in, IsOnce, with_one, one_longer, none_pass}
 
@@ -38,6 +40,34 @@ stream_self f site t h = less_not_equal (sym h ∙ tied_itself (stream_total f s
   where
     less_not_equal : Less ≡ Equal → ⊥
     less_not_equal e = absurd (cc e)
+
+pub both_ways : (a b : Bool) → (a ≡ true → b ≡ true) → (b ≡ true → a ≡ true) → a ≡ b
+both_ways true b h k = sym (h refl)
+both_ways false true h k = k refl
+both_ways false false h k = refl
+
+-- who passes, and whether someone does
+pub found_in : (ts : List TxId) (p : TxId → Bool) → list_any p ts ≡ true → (t : TxId) × (is_in ts t ≡ true) × (p t ≡ true)
+found_in [] p h = off h
+found_in (t ∷ ts) p h = ⊎_elim
+    (λ (k : p t ≡ true). (t, or_left _ _ (same_tx_refl t), k))
+    (λ (k : list_any p ts ≡ true). let r = found_in ts p k in (r.0, or_right _ _ r.1, r.2))
+    (or_cases _ _ h)
+
+pub any_in : (ts : List TxId) (p : TxId → Bool) (t : TxId) → is_in ts t ≡ true → p t ≡ true → list_any p ts ≡ true
+any_in [] p t h k = off h
+any_in (u ∷ ts) p t h k = ⊎_elim
+    (λ (e : same_tx u t ≡ true). or_left _ _ (subst (λ x. p x ≡ true) (sym (same_tx_is u t e)) k))
+    (λ (e : is_in ts t ≡ true). or_right _ _ (any_in ts p t e k))
+    (or_cases _ _ h)
+
+pub some_above : {E : Type 0} (site b : ℕ) (xs : List (Part E)) → is_some_part (above site b xs) ≡ list_any (λ x. ltb b (entry x.c site)) xs
+some_above site b [] = refl
+some_above site b (x ∷ xs) = go (ltb b (entry x.c site)) (some_above site b xs)
+  where
+    go : (c : Bool) → is_some_part (above site b xs) ≡ list_any (λ y. ltb b (entry y.c site)) xs → is_some_part (cond c (x ∷ above site b xs) (above site b xs)) ≡ (c || list_any (λ y. ltb b (entry y.c site)) xs)
+    go true h = refl
+    go false h = h
 
 module _ {E : Type 0} (f : TxId → List ℕ) (g : TxId → List (Upd E)) (site : ℕ) where
   -- no part comes twice
@@ -67,3 +97,17 @@ module _ {E : Type 0} (f : TxId → List ℕ) (g : TxId → List (Upd E)) (site 
       let put = count_put hs once parts (λ t. false) a b c (λ t h. refl) in
       let none : length (filter (λ (t : TxId). false) hs) ≡ 0 = ap length (none_pass hs) in
       omega arith
+
+  pub part_above : (b : ℕ) (xs : List (Part E)) → AreParts f g xs → (t : TxId) → lists xs t ≡ true → ltb b (entry (f t) site) ≡ true → list_any (λ x. ltb b (entry x.c site)) xs ≡ true
+  part_above b [] a t h k = off h
+  part_above b (x ∷ xs) a t h k = ⊎_elim
+      (λ (e : same_tx x.tx t ≡ true). or_left _ _ (ap (λ v. ltb b (entry v site)) (a.0.0 ∙ ap f (same_tx_is x.tx t e)) ∙ k))
+      (λ (e : lists xs t ≡ true). or_right _ _ (part_above b xs a.1 t e k))
+      (or_cases _ _ h)
+
+  pub above_part : (b : ℕ) (xs : List (Part E)) → AreParts f g xs → list_any (λ x. ltb b (entry x.c site)) xs ≡ true → (t : TxId) × (lists xs t ≡ true) × (ltb b (entry (f t) site) ≡ true)
+  above_part b [] a h = off h
+  above_part b (x ∷ xs) a h = ⊎_elim
+      (λ (k : ltb b (entry x.c site) ≡ true). (x.tx, or_left _ _ (same_tx_refl x.tx), ap (λ v. ltb b (entry v site)) (sym a.0.0) ∙ k))
+      (λ (k : list_any (λ y. ltb b (entry y.c site)) xs ≡ true). let r = above_part b xs a.1 k in (r.0, or_right _ _ r.1, r.2))
+      (or_cases _ _ h)

@@ -3,10 +3,11 @@ use Rattle.std.proofs.Common.{◌≡◌, ◌≢◌, ◌⊎◌, ⊎_elim, inl, in
 use Rattle.std.specs.Prelude.{⊤, ◌==◌, filter}
 use Rattle.std.specs.List.{flat_map}
 use Rattle.std.specs.declared.cmp.Ordering.TheVariants.{Less}
-use Rattle.std.proofs.lemmas.Bool.{or_left, or_right, and_from, and_parts, false_from_ne_true}
+use Rattle.std.proofs.lemmas.Bool.{cases_Bool, cond-true, cond-false, or_left, or_right, and_from, and_parts, ltb-true, lt-ltb, false_from_ne_true}
 use Rattle.site_vector.specs.declared.ids.PartId.{PartId}
 use Rattle.site_vector.specs.declared.ids.TxId.{TxId}
-use Rattle.site_vector.specs.Order.{same_tx_refl}
+use Rattle.site_vector.specs.Ids.{same_part}
+use Rattle.site_vector.specs.Order.{same_part_is, same_tx_refl}
 use Rattle.site_vector.specs.Vector.{le, entry}
 use Rattle.crdt_core.specs.declared.object.ObjectId.{ObjectId}
 use Rattle.crdt_core.specs.declared.record.Part.{Part}
@@ -16,7 +17,7 @@ use Rattle.crdt_core.specs.Same.{Same}
 use Rattle.crdt_core.specs.Stamps.{stamp_due}
 use Rattle.world_model.specs.Log as log
 use Rattle.world_model.specs.Log.{end_of_time, lists}
-use Rattle.world_model.specs.Event.{AskBegin, AskRead, AskUpdate, AskPrepare, AskDecide, AskAbort, AskTake, AskRestart, IsDown, ClockBehind, TxPending, StableBehind, ClockAtEnd, IsGone, HasGap, IsRepeat, IsDamaged, Event, Ticked, Began, Updated, Read, Prepared, Decided, Finished, Aborted, Sent, Took, Reported, Heard, Crashed, Restarted, Refused, Opened, Cut, Entry, EventsAre, WasShown, is_abort, was_aborted, voted, is_decided, shown, missed}
+use Rattle.world_model.specs.Event.{AskBegin, AskRead, AskUpdate, AskPrepare, AskDecide, AskAbort, AskTake, AskRestart, IsDown, ClockBehind, TxPending, StableBehind, ClockAtEnd, IsGone, HasGap, IsRepeat, IsDamaged, Event, Ticked, Began, Updated, Read, Prepared, Decided, Finished, Aborted, Sent, Took, Reported, Heard, Crashed, Restarted, Refused, Opened, Cut, Entry, EventsAre, WasShown, is_abort, was_aborted, voted, is_decided, time_of, shown, missed}
 use Rattle.world_model.specs.Partition.{Kinds, lowest, pending_cmp}
 use Rattle.world_model.specs.Plan.{Plan, first_of, home, twin, is_some_update, takes_part, commit_vector, MayTake}
 use Rattle.world_model.specs.Commit.{partitions}
@@ -26,13 +27,13 @@ use Rattle.world_model.specs.Past as events
 use Rattle.world_model.specs.Downs.{AnswersAsUp, AnswerAsUp}
 use Rattle.world_model.specs.Answering.{IsDueAt, AreDue, IsKnown}
 use Rattle.world_model.specs.Doubt.{SettlesAt, SettleDoubts}
-use Rattle.world_model.specs.Shown.{pending_shown, pending_time, committed_shown, IsReadyAt, IsFirstPending, ShowsAt, ShowAt}
+use Rattle.world_model.specs.Shown.{bound_shown, pending_shown, pending_time, committed_shown, IsReadyAt, IsFirstPending, ShowsAt, ShowAt}
 use Rattle.world_model.specs.Stable.{heard_from, heard_shown, IsBehindAt, IsFreshAt, AreFresh}
 use Rattle.world_model.specs.Votes.{VotesAt, KeepVotes, ShowsVector}
 use Rattle.world_model.specs.Handed.{IsPlacedAt, HandedAt, AreHanded, IsNew, AreNew}
 use Rattle.world_model.specs.Meaning as meaning
 use Rattle.world_model.specs.Meaning.{Asked, asked_at}
-use Rattle.world_model.specs.Resumed.{is_call, cut_call, IsAsBefore, IsAsDone, ResumesAt, Resume}
+use Rattle.world_model.specs.Resumed.{is_call, brings, brought_after, brought, IsTakeable, cut_call, IsAsBefore, IsAsDone, ResumesAt, Resume}
 use Rattle.world_model.specs.Sends.{low_of, SendsAt, Send}
 use Rattle.world_model.specs.LawfulWorld.{IsLawfulWorld}
 use Rattle.world_model.specs.Lines.{Call, Line, EachLine, call_cut, call_of, step_shown, lines_of}
@@ -51,12 +52,13 @@ use Rattle.world_model.specs.LineCauses as causes
 use Rattle.world_model.specs.LineLaw.{IsAgreed, IsLawfulRun}
 use Rattle.world_model.proofs.Names.{clash, off, part_same}
 use Rattle.world_model.proofs.Fate.{voted_tried}
-use Rattle.world_model.proofs.Intervals.{events_map}
+use Rattle.world_model.proofs.Later.{at_own}
+use Rattle.world_model.proofs.Intervals.{shown_has, events_map}
 use Rattle.world_model.proofs.Histories.{Facts, no_self}
 use Rattle.world_model.proofs.LineViews.{now_is, missed_is, in_history_is, snapshot_is, commit_time_is, vector_is, visible_is, dependency_is, pending_is, prepare_time_is, doubt_is, down_is, bound_is, heard_here, heard_is, stable_is, own_bound_is, was_prepared_is, last_sent_is, sent_line, report_line}
 use Rattle.world_model.proofs.LineChanges.{to_change, count_is, takes_part_is, touches_is, lead_is}
 use Rattle.world_model.proofs.Orders.{stamp_same, is_in, in_filter, once_filter, filter_in}
-use Rattle.world_model.proofs.LineCounts.{parts_counted}
+use Rattle.world_model.proofs.LineCounts.{parts_counted, both_ways, found_in, any_in, some_above, part_above, above_part}
 use Rattle.world_model.proofs.LineReading.{history_has, history_once, update_is, updates_at_place, updates_is, grows, all_put}
 use Rattle.world_model.proofs.LineFaults.{IsFault, pend_same, fault_is}
 
@@ -224,38 +226,93 @@ module _ {E : Type 0} where
     known_eq : (some : List (Entry E)) (p : PartId) (t : TxId) → fates.is_known_at ls (lines_of some) p t ≡ (pending_shown some p t || committed_shown plan some p t)
     known_eq some p t = λ i. (pending_is some p t i || (takes_eq t p i && (in_history_is some t i && not (pending_is some p t i))))
 
-    resumed_line : (some : List (Entry E)) (p : PartId) (n : ℕ) (b : List ℕ) (named : Option TxId) (listed : List (TxId × ℕ)) → ClocksAre some → ResumesAt plan some p (Restarted n b named listed) → fates.IsAsBefore (lines_of some) p listed ⊎ ((call : Call) × (drawn : ℕ) × (fates.faulted (lines_of some) p ≡ Some (call, drawn)) × fates.IsAsDone (lines_of some) p call drawn listed)
-    resumed_line some p n b named listed cs h = ⊎_elim
-        (λ (x : IsAsBefore plan some p b listed). inl (record { members = λ t. x.members t ∙ sym (pending_is some p t); times = λ t k. x.times t k ∙ sym (prepare_time_is some p t) }))
-        (λ (x : (what : Event E) × (cut_call some p ≡ Some what) × (is_call what ≡ true) × IsAsDone plan some p what b listed).
+    -- a message that is taken brings a part exactly where lines say so
+    brings_eq : (some : List (Entry E)) (p : PartId) (m : Message E) (have : ℕ) → MayTake plan some p m → m.lo ≤ have → EventsAre (IsRight kinds plan run) some → fates.brings ls p m.from have m.hi ≡ brings m have
+    brings_eq some p m have h low rs =
+        let q = twin m.from p in
+        let x : IsExact plan run q m = shown_has (IsRight kinds plan run) some q (Sent h.asked m) rs h.shown in
+        let test = λ (t : TxId). updates.takes_part ls t q && (ltb have (past.commit_time ls t) && leb (past.commit_time ls t) m.hi) in
+        let own : (t : TxId) → takes_part plan t q ≡ true → entry (commit_vector plan run t) m.from ≡ time_of run t = λ t k. ap (λ j. entry (commit_vector plan run t) j) (plan.at_home t q k) ∙ at_own plan t q (time_of run t) k in
+        let forth : fates.brings ls p m.from have m.hi ≡ true → brings m have ≡ true = λ k.
+        let y = found_in (past.history ls) test k in
+        let a = and_parts (updates.takes_part ls y.0 q) _ y.2 in
+        let b = and_parts (ltb have (past.commit_time ls y.0)) _ a.1 in
+        let d : is_decided run y.0 ≡ true = sym (in_history_is run y.0) ∙ sym (history_has ls y.0) ∙ y.1 in
+        let takes : takes_part plan y.0 q ≡ true = sym (takes_eq y.0 q) ∙ a.0 in
+        let above_have : ltb have (time_of run y.0) ≡ true = ap (ltb have) (sym (commit_time_is run y.0)) ∙ b.0 in
+        let above_low : ltb m.lo (time_of run y.0) ≡ true = (let z = ltb-true have (time_of run y.0) above_have in lt-ltb m.lo (time_of run y.0) (omega arith)) in
+        let upto : leb (time_of run y.0) m.hi ≡ true = ap (λ n. leb n m.hi) (sym (commit_time_is run y.0)) ∙ b.1 in
+        let there : lists m.parts y.0 ≡ true = x.members y.0 ∙ and_from _ _ d (and_from _ _ takes (and_from _ _ above_low upto)) in
+        some_above m.from have m.parts ∙ part_above (commit_vector plan run) (λ u. plan.updates u q) m.from have m.parts x.exact y.0 there (ap (ltb have) (own y.0 takes) ∙ above_have) in
+        let back : brings m have ≡ true → fates.brings ls p m.from have m.hi ≡ true = λ k.
+        let y = above_part (commit_vector plan run) (λ u. plan.updates u q) m.from have m.parts x.exact (sym (some_above m.from have m.parts) ∙ k) in
+        let a = and_parts (is_decided run y.0) _ (sym (x.members y.0) ∙ y.1) in
+        let b = and_parts (takes_part plan y.0 q) _ a.1 in
+        let c = and_parts (ltb m.lo (time_of run y.0)) _ b.1 in
+        any_in (past.history ls) test y.0 (history_has ls y.0 ∙ in_history_is run y.0 ∙ a.0) (and_from _ _ (takes_eq y.0 q ∙ b.0) (and_from _ _ (ap (ltb have) (commit_time_is run y.0) ∙ (ap (ltb have) (sym (own y.0 b.0)) ∙ y.2)) (ap (λ n. leb n m.hi) (commit_time_is run y.0) ∙ c.1))) in
+        both_ways (fates.brings ls p m.from have m.hi) (brings m have) forth back
+
+    brought_done_eq : (some : List (Entry E)) (p : PartId) (j old : ℕ) (what : Event E) → is_call what ≡ true → IsTakeable plan some p what → EventsAre (IsRight kinds plan run) some → fates.brought_done ls (lines_of some) p j old (call_cut what) ≡ brought_after some p j old what
+    brought_done_eq some p j old (Took m) k h rs = λ i. cond (m.from == j && (ap (λ b. fates.brings ls p m.from b m.hi) (bound_is some p m.from) ∙ brings_eq some p m (bound_shown some p m.from) h.0 h.1 rs) i) (max m.hi old) old
+    brought_done_eq some p j old Crashed k h rs = off k
+    brought_done_eq some p j old (Restarted n b named listed) k h rs = off k
+    brought_done_eq some p j old (Refused asked why) k h rs = off k
+    brought_done_eq some p j old (Opened who) k h rs = off k
+    brought_done_eq some p j old (Cut a) k h rs = off k
+    brought_done_eq some p j old what k h rs = refl
+
+    brought_here : (some : List (Entry E)) (p : PartId) (j old : ℕ) (event : Event E) → HandedAt plan some p event → ShowsAt plan some p event → EventsAre (IsRight kinds plan run) some → fates.brought_after ls (lines_of some) p j old (call_of event) (step_shown some p event) ≡ brought_after some p j old event
+    brought_here some p j old (Took m) h s rs = brought_done_eq some p j old (Took m) refl (h, s.0) rs
+    brought_here some p j old (Refused asked IsDown) h s rs = refl
+    brought_here some p j old (Refused asked why) h s rs = refl
+    brought_here some p j old (Cut (Decided t c)) h s rs = refl
+    brought_here some p j old (Cut a) h s rs = refl
+    brought_here some p j old event h s rs = refl
+
+    brought_is : (some : List (Entry E)) → AreHanded plan some → ShowAt plan some → EventsAre (IsRight kinds plan run) some → (p : PartId) (j : ℕ) → fates.brought ls (lines_of some) p j ≡ brought some p j
+    brought_is [] h s rs p j = refl
+    brought_is (e ∷ some) h s rs p j =
+        let rest = brought_is some h.1 s.1 rs.1 p j in ⊎_elim
+        (λ (k : same_part e.at p ≡ true).
+        cond-true _ _ _ k ∙ ap (λ o. fates.brought_after ls (lines_of some) p j o (call_of e.event) (step_shown some e.at e.event)) rest
+        ∙ subst (λ y. fates.brought_after ls (lines_of some) y j (brought some y j) (call_of e.event) (step_shown some e.at e.event) ≡ brought_after some y j (brought some y j) e.event) (same_part_is e.at p k) (brought_here some e.at j (brought some e.at j) e.event h.0 s.0 rs.1)
+        ∙ sym (cond-true _ _ _ k))
+        (λ (k : same_part e.at p ≡ false). cond-false _ _ _ k ∙ rest ∙ sym (cond-false _ _ _ k))
+        (cases_Bool (same_part e.at p))
+
+    resumed_line : (some : List (Entry E)) (p : PartId) (n : ℕ) (b : List ℕ) (named : Option TxId) (listed : List (TxId × ℕ)) → ClocksAre some → ((j : ℕ) → fates.brought ls (lines_of some) p j ≡ brought some p j) → EventsAre (IsRight kinds plan run) some → ResumesAt plan some p (Restarted n b named listed) → fates.IsAsBefore sites ls (lines_of some) p b listed ⊎ ((call : Call) × (drawn : ℕ) × (fates.faulted (lines_of some) p ≡ Some (call, drawn)) × fates.IsAsDone sites ls (lines_of some) p call drawn b listed)
+    resumed_line some p n b named listed cs br rs h = ⊎_elim
+        (λ (x : IsAsBefore plan some p b listed). inl (record { members = λ t. x.members t ∙ sym (pending_is some p t); times = λ t k. x.times t k ∙ sym (prepare_time_is some p t); bounds = λ j o. x.bounds j o ∙ sym (br j) }))
+        (λ (x : (what : Event E) × (cut_call some p ≡ Some what) × (is_call what ≡ true) × IsTakeable plan some p what × IsAsDone plan some p what b listed).
         let f = fault_is some cs p x.0 x.2 x.1 in
         inr (
           call_cut x.0,
           f.drawn,
           f.is,
           record {
-            members = λ t. x.3.members t ∙ sym (ap (λ o. fates.pending_done (call_cut x.0) o t) (pending_is some p t) ∙ pend_same x.0 (pending_shown some p t) t x.2);
-            times = λ t k. x.3.times t k ∙ sym (ap (λ o. fates.time_done (call_cut x.0) f.drawn o t) (prepare_time_is some p t) ∙ f.time t (pending_time some p t));
+            members = λ t. x.4.members t ∙ sym (ap (λ o. fates.pending_done (call_cut x.0) o t) (pending_is some p t) ∙ pend_same x.0 (pending_shown some p t) t x.2);
+            times = λ t k. x.4.times t k ∙ sym (ap (λ o. fates.time_done (call_cut x.0) f.drawn o t) (prepare_time_is some p t) ∙ f.time t (pending_time some p t));
+          bounds = λ j o. x.4.bounds j o ∙ sym (ap (λ y. fates.brought_done ls (lines_of some) p j y (call_cut x.0)) (br j) ∙ brought_done_eq some p j (brought some p j) x.0 x.2 x.3 rs);
           },
         ))
         h
 
-    fate_line : (some : List (Entry E)) (p : PartId) (event : Event E) → WasShown run p event → ClocksAre some → ShowsAt plan some p event → ResumesAt plan some p event → KeepsIs plan some p event → SettlesAt some p event → fates.ShowsFate parts ls (lines_of some) p (call_of event) (step_shown some p event)
-    fate_line some p (Refused asked IsDown) w cs s r k d = tt
-    fate_line some p (Refused asked why) w cs s r k d = tt
-    fate_line some p (Cut (Decided t c)) w cs s r k d = tt
-    fate_line some p (Cut a) w cs s r k d = tt
-    fate_line some p (Aborted t own) w cs s r k d = (pending_is some p t ∙ s, in_history_is run t ∙ law.fate t p (aborted_shown run p t own w))
-    fate_line some p (Restarted n b named listed) w cs s r k d = record {
-      list = resumed_line some p n b named listed cs r;
+    fate_line : (some : List (Entry E)) (p : PartId) (event : Event E) → WasShown run p event → ClocksAre some → ShowsAt plan some p event → ResumesAt plan some p event → KeepsIs plan some p event → SettlesAt some p event → ((j : ℕ) → fates.brought ls (lines_of some) p j ≡ brought some p j) → EventsAre (IsRight kinds plan run) some → fates.ShowsFate sites parts ls (lines_of some) p (call_of event) (step_shown some p event)
+    fate_line some p (Refused asked IsDown) w cs s r k d br rs = tt
+    fate_line some p (Refused asked why) w cs s r k d br rs = tt
+    fate_line some p (Cut (Decided t c)) w cs s r k d br rs = tt
+    fate_line some p (Cut a) w cs s r k d br rs = tt
+    fate_line some p (Aborted t own) w cs s r k d br rs = (pending_is some p t ∙ s, in_history_is run t ∙ law.fate t p (aborted_shown run p t own w))
+    fate_line some p (Restarted n b named listed) w cs s r k d br rs = record {
+      list = resumed_line some p n b named listed cs br rs r;
       decided = λ t h e. k t (sym (in_history_is some t) ∙ h) (sym (lead_eq t) ∙ e);
       settled = λ t h. d t (sym (doubt_is some p t) ∙ h);
     }
-    fate_line some p event w cs s r k d = tt
+    fate_line some p event w cs s r k d br rs = tt
 
-    fate_lines : (some : List (Entry E)) → EventsAre (WasShown run) some → ClocksAre some → ShowAt plan some → Resume plan some → KeepsDecided plan some → SettleDoubts some → EachLine (fates.ShowsFate parts ls) (lines_of some)
-    fate_lines [] w cs s r k d = tt
-    fate_lines (e ∷ some) w cs s r k d = (fate_line some e.at e.event w.0 cs.1 s.0 r.0 k.0 d.0, fate_lines some w.1 cs.1 s.1 r.1 k.1 d.1)
+    fate_lines : (some : List (Entry E)) → EventsAre (WasShown run) some → ClocksAre some → ShowAt plan some → Resume plan some → KeepsDecided plan some → SettleDoubts some → AreHanded plan some → EventsAre (IsRight kinds plan run) some → EachLine (fates.ShowsFate sites parts ls) (lines_of some)
+    fate_lines [] w cs s r k d hs rs = tt
+    fate_lines (e ∷ some) w cs s r k d hs rs = (fate_line some e.at e.event w.0 cs.1 s.0 r.0 k.0 d.0 (brought_is some hs.1 s.1 rs.1 e.at) rs.1, fate_lines some w.1 cs.1 s.1 r.1 k.1 d.1 hs.1 rs.1)
 
     -- the snapshot of t has this entry
     entry_eq : (t : TxId) (j : ℕ) → entry (past.snapshot ls t) j ≡ entry (plan.snapshot t) j
@@ -412,7 +469,7 @@ module _ {E : Type 0} where
       commit = commit_lines run law.votes law.vectors law.numbered;
       agreed = agreed_lines;
       right = right_lines run law.handed law.numbered law.right law.meant law.known;
-      fates = fate_lines run (shown_all run) law.clock law.shown law.resumed law.decided_stay law.doubts;
+      fates = fate_lines run (shown_all run) law.clock law.shown law.resumed law.decided_stay law.doubts law.handed law.right;
       streams = stream_lines run law.handed law.sends law.shown law.due law.right;
       causes = cause_lines run law.handed law.fresh law.causes law.shown law.due law.right;
       ups = up_lines run law.downs law.due;

@@ -1,5 +1,5 @@
 -- What a restart finds tells what was shown before, or what a call that was cut off would have shown.
-use Rattle.std.proofs.Common.{◌≡◌, ◌≢◌, ◌⊎◌, ⊎_elim, inl, inr, ℕ, ◌+◌, ◌-◌, max, min, cond, leb, Bool, true, false, ◌&&◌, List, [], ◌∷◌, ◌++◌, Option, None, Some, refl, sym, ap, ◌∙◌, subst}
+use Rattle.std.proofs.Common.{◌≡◌, ◌≢◌, ◌⊎◌, ⊎_elim, inl, inr, ℕ, ◌+◌, ◌-◌, ◌≤◌, max, min, cond, leb, Bool, true, false, ◌&&◌, List, [], ◌∷◌, ◌++◌, Option, None, Some, refl, sym, ap, ◌∙◌, subst}
 use Rattle.std.specs.Prelude.{⊤, ◌==◌}
 use Rattle.std.proofs.lemmas.Bool.{cases_Bool, cond_both, cond-true, cond-false, and_right}
 use Rattle.site_vector.specs.declared.ids.PartId.{PartId}
@@ -13,11 +13,11 @@ use Rattle.crdt_core.specs.declared.record.Message.{Message}
 use Rattle.crdt_core.specs.declared.record.Record.{Record}
 use Rattle.crdt_core.specs.declared.record.Record.TheVariants.{Lease, Prepare, Decide, Finish, Abort, Batch}
 use Rattle.world_model.specs.Log.{end_of_time, ceiling, pending, prepare_time, bound, grown, IsImage}
-use Rattle.world_model.specs.Event.{Event, Ticked, Began, Updated, Read, Prepared, Decided, Finished, Aborted, Sent, Took, Reported, Heard, Crashed, Restarted, Refused, Opened, Cut, Entry, attempt}
+use Rattle.world_model.specs.Event.{Event, Ticked, Began, Updated, Read, Prepared, Decided, Finished, Aborted, Sent, Took, Reported, Heard, Crashed, Restarted, Refused, Opened, Cut, Entry, attempt, WasShown}
 use Rattle.world_model.specs.Partition.{Kinds, PartState, Image, IsOther, lease_for, above, batch_of, written, records, done, MayDo, names_pending, PartStep}
-use Rattle.world_model.specs.Plan.{Plan, IsAllowed, IsRun}
+use Rattle.world_model.specs.Plan.{Plan, twin, IsAllowed, IsRun}
 use Rattle.world_model.specs.Shown.{listed_time, bound_after, bound_shown, pending_after, pending_shown, time_after, pending_time}
-use Rattle.world_model.specs.Resumed.{is_call, cut_after, cut_call, is_some_part, brings, brought_after, brought, IsAsBefore, IsAsDone, ResumesAt, Resume}
+use Rattle.world_model.specs.Resumed.{is_call, IsTakeable, cut_after, cut_call, is_some_part, brings, brought_after, brought, IsAsBefore, IsAsDone, ResumesAt, Resume}
 use Rattle.world_model.proofs.Names.{clash, off, part_cases, part_other}
 use Rattle.world_model.proofs.Moves.{image_log, grown_last}
 use Rattle.world_model.proofs.Fate.{Fate}
@@ -141,7 +141,7 @@ module _ {E : Type 0} where
   TellsDone plan run p what m = Tells plan p (λ t. pending_after t (pending_shown run p t) what) (λ t. time_after t (pending_time run p t) what) (λ j. brought_after run p j (brought run p j) what) m
 
   abbrev TellsTwo : Plan E → List (Entry E) → PartId → List (Record E) → Type 0
-  TellsTwo plan run p m = TellsBefore plan run p m ⊎ ((what : Event E) × (cut_call run p ≡ Some what) × (is_call what ≡ true) × TellsDone plan run p what m)
+  TellsTwo plan run p m = TellsBefore plan run p m ⊎ ((what : Event E) × (cut_call run p ≡ Some what) × (is_call what ≡ true) × IsTakeable plan run p what × TellsDone plan run p what m)
 
   record Resumable (plan : Plan E) (run : List (Entry E)) (parts : PartId → PartState E) : Type 0 where
     pub up : (p : PartId) → (parts p).up ≡ true → (j : ℕ) → IsOther plan.sites p.site j → bound (parts p).log j ≡ brought run p j
@@ -169,10 +169,14 @@ module _ {E : Type 0} where
     upto = λ j o. x.upto j o ∙ sym (brought_same run next p v j what);
   }
 
-  two_map : (plan : Plan E) (run next : List (Entry E)) (p : PartId) (m : List (Record E)) → SameView run next p → cut_call next p ≡ cut_call run p → TellsTwo plan run p m → TellsTwo plan next p m
-  two_map plan run next p m v c x = ⊎_elim
+  takeable_map : (plan : Plan E) (run next : List (Entry E)) (p : PartId) (what : Event E) → SameView run next p → ((q : PartId) (a : Event E) → WasShown run q a → WasShown next q a) → IsTakeable plan run p what → IsTakeable plan next p what
+  takeable_map plan run next p (Took m) v later x = (record { from = x.0.from; to = x.0.to; part = x.0.part; asked = x.0.asked; shown = later (twin m.from p) (Sent x.0.asked m) x.0.shown }, subst (λ n. m.lo ≤ n) (sym (v.bound m.from)) x.1)
+  takeable_map plan run next p what v later x = tt
+
+  two_map : (plan : Plan E) (run next : List (Entry E)) (p : PartId) (m : List (Record E)) → SameView run next p → ((q : PartId) (a : Event E) → WasShown run q a → WasShown next q a) → cut_call next p ≡ cut_call run p → TellsTwo plan run p m → TellsTwo plan next p m
+  two_map plan run next p m v later c x = ⊎_elim
       (λ (y : TellsBefore plan run p m). inl (before_map plan run next p m v y))
-      (λ (y : (what : Event E) × (cut_call run p ≡ Some what) × (is_call what ≡ true) × TellsDone plan run p what m). inr (y.0, c ∙ y.1, y.2, done_map plan run next p y.0 m v y.3))
+      (λ (y : (what : Event E) × (cut_call run p ≡ Some what) × (is_call what ≡ true) × IsTakeable plan run p what × TellsDone plan run p what m). inr (y.0, c ∙ y.1, y.2, takeable_map plan run next p y.0 v later y.3, done_map plan run next p y.0 m v y.4))
       x
 
   -- what an event at p shows nothing of
@@ -220,6 +224,10 @@ module _ {E : Type 0} where
     step_done (Cut a) up k = absurd k
     step_done what up k = (up, k, refl)
 
+    takeable_now : (what : Event E) → IsAllowed plan run before at what → (before at).up ≡ true → MayDo kinds plan.sites plan.parts at (before at) what → IsTakeable plan run at what
+    takeable_now (Took m) al up k = (al, subst (λ n. m.lo ≤ n) (w.bounds at m.from up al.from) k.0)
+    takeable_now what al up k = tt
+
     called : (what : Event E) → MayDo kinds plan.sites plan.parts at (before at) what → is_call what ≡ true
     called Crashed k = absurd k
     called (Restarted n b named listed) k = absurd k
@@ -243,6 +251,7 @@ module _ {E : Type 0} where
           what,
           cond-true _ _ _ (same_part_refl at),
           called what st.1,
+          takeable_map plan run (next (Cut what)) at what v (λ q a w'. inr w') (takeable_now what al st.0 st.1),
           done_map plan run (next (Cut what)) at what m v (tells_done what (allowed_done what st.1 al) al st.0 st.1 (step_done what st.0 st.1) m x),
         ))
         (two_images kinds plan.sites plan.parts at (before at) what m st.1 (subst (λ p. Image p m) st.2 i))
@@ -254,7 +263,7 @@ module _ {E : Type 0} where
         inl (before_map plan run (next Crashed) at m v (tells_up st.0 m (alike_same m (before at).log e)))
 
     stays_here : (event : Event E) → SameView run (next event) at → cut_call (next event) at ≡ cut_call run at → after at ≡ before at → (after at).up ≡ false → (m : List (Record E)) → Image (after at) m → TellsTwo plan (next event) at m
-    stays_here event v c e d m i = two_map plan run (next event) at m v c (h.down at (sym (ap (λ p. p.up) e) ∙ d) m (subst (λ p. Image p m) e i))
+    stays_here event v c e d m i = two_map plan run (next event) at m v (λ q a x. inr x) c (h.down at (sym (ap (λ p. p.up) e) ∙ d) m (subst (λ p. Image p m) e i))
 
     down_here : (event : Event E) → IsAllowed plan run before at (attempt event) → PartStep kinds plan.sites plan.parts at (before at) event (after at) → (after at).up ≡ false → (m : List (Record E)) → Image (after at) m → TellsTwo plan (next event) at m
     down_here (Cut what) al st d m i = cut_here what al st m i
@@ -295,7 +304,7 @@ module _ {E : Type 0} where
               (part_cases at p);
           down = λ p d m i. ⊎_elim
               (λ (e : at ≡ p). subst (λ y. (after y).up ≡ false → Image (after y) m → TellsTwo plan (next event) y m) e (λ d' i'. down_here event al st d' m i') d i)
-              (λ (ne : at ≡ p → ⊥). two_map plan run (next event) p m (other_view run (record { at = at; event = event }) p ne) (cond-false _ _ _ (part_other at p ne)) (h.down p (ap (λ y. y.up) (sym (old p ne)) ∙ d) m (subst (λ y. Image y m) (old p ne) i)))
+              (λ (ne : at ≡ p → ⊥). two_map plan run (next event) p m (other_view run (record { at = at; event = event }) p ne) (λ q a x. inr x) (cond-false _ _ _ (part_other at p ne)) (h.down p (ap (λ y. y.up) (sym (old p ne)) ∙ d) m (subst (λ y. Image y m) (old p ne) i)))
               (part_cases at p);
         }
 
@@ -304,7 +313,7 @@ module _ {E : Type 0} where
         let ends : (j : ℕ) → IsOther plan.sites at.site j → entry b j ≡ bound q.log j = λ j o. st.shown_bounds.others j o ∙ st.bounds j o in
         let times : (t : TxId) → names_pending listed t ≡ true → listed_time listed t ≡ prepare_time q.log t = λ t k. listed_is q.log listed t st.timed k in ⊎_elim
         (λ (x : TellsBefore plan run at q.log). inl (record { members = λ t. st.members t ∙ x.waits t; times = λ t k. times t k ∙ x.since t (sym (st.members t) ∙ k); bounds = λ j o. ends j o ∙ x.upto j o }))
-        (λ (x : (what : Event E) × (cut_call run at ≡ Some what) × (is_call what ≡ true) × TellsDone plan run at what q.log). inr (x.0, x.1, x.2, record { members = λ t. st.members t ∙ x.3.waits t; times = λ t k. times t k ∙ x.3.since t (sym (st.members t) ∙ k); bounds = λ j o. ends j o ∙ x.3.upto j o }))
+        (λ (x : (what : Event E) × (cut_call run at ≡ Some what) × (is_call what ≡ true) × IsTakeable plan run at what × TellsDone plan run at what q.log). inr (x.0, x.1, x.2, x.3, record { members = λ t. st.members t ∙ x.4.waits t; times = λ t k. times t k ∙ x.4.since t (sym (st.members t) ∙ k); bounds = λ j o. ends j o ∙ x.4.upto j o }))
         (h.down at st.down q.log st.found)
     resumes_event event q st = tt
 

@@ -1,5 +1,6 @@
 -- The fate of transactions, over the lines of a run.
-use Rattle.std.specs.Prelude.{◌≡◌, ◌⊎◌, ℕ, ◌+◌, Bool, true, false, not, ◌&&◌, ◌||◌, ◌==◌, if◌then◌else◌, List, [], ◌∷◌, Option, None, Some, ⊤}
+use Rattle.std.specs.Prelude.{◌≡◌, ◌⊎◌, ℕ, ◌+◌, max, leb, ltb, Bool, true, false, not, ◌&&◌, ◌||◌, ◌==◌, if◌then◌else◌, List, [], ◌∷◌, Option, None, Some, ⊤}
+use Rattle.std.specs.List.{list_any}
 use Rattle.site_vector.specs.declared.ids.PartId.{PartId}
 use Rattle.site_vector.specs.declared.ids.TxId.{TxId}
 use Rattle.site_vector.specs.Ids.{same_part, same_tx}
@@ -9,9 +10,11 @@ use Rattle.world_model.specs.declared.step.Step.TheVariants as step
 use Rattle.world_model.specs.Event.{is_named}
 use Rattle.world_model.specs.Partition.{IsOther, names_pending}
 use Rattle.world_model.specs.Shown.{listed_time}
-use Rattle.world_model.specs.Lines.{Call, Tick, PrepareOf, DecideOf, FinishOf, AbortOf, Line}
+use Rattle.world_model.specs.Lines.{Call, TakeOf, PrepareOf, DecideOf, FinishOf, AbortOf, Line}
 use Rattle.world_model.specs.LineClock.{now}
-use Rattle.world_model.specs.LineHistory.{in_history}
+use Rattle.world_model.specs.LineHistory.{in_history, history, commit_time}
+use Rattle.world_model.specs.LineBounds.{bound}
+use Rattle.world_model.specs.Plan.{twin}
 use Rattle.world_model.specs.LineUpdates.{takes_part, lead}
 use Rattle.world_model.specs.LineFate.{pending, prepare_time, in_doubt}
 
@@ -35,6 +38,25 @@ abbrev pub time_done : Call → ℕ → ℕ → TxId → ℕ
 time_done (PrepareOf u) time old t = if same_tx u t then time else old
 time_done other time old t = old
 
+-- a message of the twin at this site brings a part of the whole run above the bound
+abbrev pub brings : List Line → PartId → ℕ → ℕ → ℕ → Bool
+brings whole p site have hi = list_any (λ t. takes_part whole t (twin site p) && (ltb have (commit_time whole t) && leb (commit_time whole t) hi)) (history whole)
+
+-- the greatest end of a message from site j that brought a part, once this call was done
+abbrev pub brought_done : List Line → List Line → PartId → ℕ → ℕ → Call → ℕ
+brought_done whole ls p j old (TakeOf site lo hi) = if site == j && brings whole p site (bound ls p site) hi then max hi old else old
+brought_done whole ls p j old other = old
+
+abbrev pub brought_after : List Line → List Line → PartId → ℕ → ℕ → Call → Step → ℕ
+brought_after whole ls p j old call (step.Took number end) = brought_done whole ls p j old call
+brought_after whole ls p j old call (step.Restarted q n bounds named listed) = entry bounds j
+brought_after whole ls p j old call other = old
+
+-- the greatest end of a message from site j that brought a part, or what a later restart showed
+abbrev pub brought : List Line → List Line → PartId → ℕ → ℕ
+brought whole [] p j = 0
+brought whole (l ∷ ls) p j = if same_part l.at p then brought_after whole ls p j (brought whole ls p j) l.call l.step else brought whole ls p j
+
 abbrev pub fault_after : ℕ → Option (Call × ℕ) → Call → Step → Option (Call × ℕ)
 fault_after time old call (step.Disk p) = Some (call, time + 1)
 fault_after time old call (step.Unsure t) = Some (call, time + 1)
@@ -46,25 +68,27 @@ abbrev pub faulted : List Line → PartId → Option (Call × ℕ)
 faulted [] p = None
 faulted (l ∷ ls) p = if same_part l.at p then fault_after (now ls p) (faulted ls p) l.call l.step else faulted ls p
 
--- all that was pending is listed, with its time
-pub record IsAsBefore (before : List Line) (p : PartId) (listed : List (TxId × ℕ)) : Type 0 where
+-- all that was pending is listed, with its time, and the bounds are those of messages that brought something
+pub record IsAsBefore (sites : ℕ) (whole before : List Line) (p : PartId) (shown : List ℕ) (listed : List (TxId × ℕ)) : Type 0 where
   pub members : (t : TxId) → names_pending listed t ≡ pending before p t
   pub times : (t : TxId) → names_pending listed t ≡ true → listed_time listed t ≡ prepare_time before p t
+  pub bounds : (j : ℕ) → IsOther sites p.site j → entry shown j ≡ brought whole before p j
 
 -- the same, once this call was done, which drew this time
-pub record IsAsDone (before : List Line) (p : PartId) (call : Call) (drawn : ℕ) (listed : List (TxId × ℕ)) : Type 0 where
+pub record IsAsDone (sites : ℕ) (whole before : List Line) (p : PartId) (call : Call) (drawn : ℕ) (shown : List ℕ) (listed : List (TxId × ℕ)) : Type 0 where
   pub members : (t : TxId) → names_pending listed t ≡ pending_done call (pending before p t) t
   pub times : (t : TxId) → names_pending listed t ≡ true → listed_time listed t ≡ time_done call drawn (prepare_time before p t) t
+  pub bounds : (j : ℕ) → IsOther sites p.site j → entry shown j ≡ brought_done whole before p j (brought whole before p j) call
 
 -- a restart lists what was pending, where one call that ended by a fault may have been done; it lists at its lead nothing
 -- that was decided; and of what it was in doubt it lists or names exactly one
-pub record IsResumed (parts : ℕ) (whole before : List Line) (p : PartId) (named : Option TxId) (listed : List (TxId × ℕ)) : Type 0 where
-  pub list : IsAsBefore before p listed ⊎ ((call : Call) × (drawn : ℕ) × (faulted before p ≡ Some (call, drawn)) × IsAsDone before p call drawn listed)
+pub record IsResumed (sites parts : ℕ) (whole before : List Line) (p : PartId) (bounds : List ℕ) (named : Option TxId) (listed : List (TxId × ℕ)) : Type 0 where
+  pub list : IsAsBefore sites whole before p bounds listed ⊎ ((call : Call) × (drawn : ℕ) × (faulted before p ≡ Some (call, drawn)) × IsAsDone sites whole before p call drawn bounds listed)
   pub decided : (t : TxId) → in_history before t ≡ true → lead parts whole t ≡ p → names_pending listed t ≡ false
   pub settled : (t : TxId) → in_doubt before p t ≡ true → names_pending listed t ≡ not (is_named named t)
 
 -- what is aborted was pending here, and is never decided
-abbrev pub ShowsFate : ℕ → List Line → List Line → PartId → Call → Step → Type 0
-ShowsFate parts whole before p call (step.Aborted q t) = (pending before p t ≡ true) × (in_history whole t ≡ false)
-ShowsFate parts whole before p call (step.Restarted q n bounds named listed) = IsResumed parts whole before p named listed
-ShowsFate parts whole before p call other = ⊤
+abbrev pub ShowsFate : ℕ → ℕ → List Line → List Line → PartId → Call → Step → Type 0
+ShowsFate sites parts whole before p call (step.Aborted q t) = (pending before p t ≡ true) × (in_history whole t ≡ false)
+ShowsFate sites parts whole before p call (step.Restarted q n bounds named listed) = IsResumed sites parts whole before p bounds named listed
+ShowsFate sites parts whole before p call other = ⊤

@@ -32,7 +32,7 @@ pub record IsLawfulRun (meaning : Kind → List Update → Value) (sites parts :
   pub right : EachLine (IsRight meaning ls) ls
   pub commit : EachLine (ShowsCommit parts ls) ls
   pub agreed : (t : TxId) → in_history ls t ≡ true → IsAgreed parts ls t
-  pub fates : EachLine (ShowsFate parts ls) ls
+  pub fates : EachLine (ShowsFate sites parts ls) ls
   pub streams : EachLine (IsStream sites ls) ls
   pub causes : EachLine (HasCause sites parts ls) ls
   pub ups : EachLine AnswersAsUp ls

@@ -1,5 +1,5 @@
 -- What a restart lists: what was before, where a call that was cut off may have been done.
-use Rattle.std.specs.Prelude.{◌≡◌, ◌⊎◌, ℕ, max, Bool, true, false, ◌&&◌, ◌==◌, if◌then◌else◌, List, [], ◌∷◌, Option, None, Some, ⊤}
+use Rattle.std.specs.Prelude.{◌≡◌, ◌⊎◌, ℕ, ◌≤◌, max, Bool, true, false, ◌&&◌, ◌==◌, if◌then◌else◌, List, [], ◌∷◌, Option, None, Some, ⊤}
 use Rattle.site_vector.specs.declared.ids.PartId.{PartId}
 use Rattle.site_vector.specs.declared.ids.TxId.{TxId}
 use Rattle.site_vector.specs.Ids.{same_part}
@@ -8,7 +8,7 @@ use Rattle.crdt_core.specs.declared.record.Part.{Part}
 use Rattle.crdt_core.specs.declared.record.Message.{Message}
 use Rattle.world_model.specs.Event.{Event, Took, Crashed, Restarted, Refused, Opened, Cut, Entry}
 use Rattle.world_model.specs.Partition.{IsOther, names_pending, above}
-use Rattle.world_model.specs.Plan.{Plan}
+use Rattle.world_model.specs.Plan.{Plan, MayTake}
 use Rattle.world_model.specs.Shown.{listed_time, bound_shown, pending_after, pending_shown, time_after, pending_time}
 
 module _ {E : Type 0} where
@@ -49,6 +49,11 @@ module _ {E : Type 0} where
   brought [] p j = 0
   brought (e ∷ run) p j = if same_part e.at p then brought_after run p j (brought run p j) e.event else brought run p j
 
+  -- a take that was cut off was of a message that was sent, and left no gap
+  abbrev pub IsTakeable : Plan E → List (Entry E) → PartId → Event E → Type 0
+  IsTakeable plan run p (Took m) = MayTake plan run p m × (m.lo ≤ bound_shown run p m.from)
+  IsTakeable plan run p other = ⊤
+
   -- all that was pending is listed, with its time, and the bounds are those of messages that brought something
   pub record IsAsBefore (plan : Plan E) (run : List (Entry E)) (p : PartId) (b : List ℕ) (listed : List (TxId × ℕ)) : Type 0 where
     pub members : (t : TxId) → names_pending listed t ≡ pending_shown run p t
@@ -62,7 +67,7 @@ module _ {E : Type 0} where
     pub bounds : (j : ℕ) → IsOther plan.sites p.site j → entry b j ≡ brought_after run p j (brought run p j) what
 
   abbrev pub ResumesAt : Plan E → List (Entry E) → PartId → Event E → Type 0
-  ResumesAt plan run p (Restarted n b named listed) = IsAsBefore plan run p b listed ⊎ ((what : Event E) × (cut_call run p ≡ Some what) × (is_call what ≡ true) × IsAsDone plan run p what b listed)
+  ResumesAt plan run p (Restarted n b named listed) = IsAsBefore plan run p b listed ⊎ ((what : Event E) × (cut_call run p ≡ Some what) × (is_call what ≡ true) × IsTakeable plan run p what × IsAsDone plan run p what b listed)
   ResumesAt plan run p other = ⊤
 
   abbrev pub Resume : Plan E → List (Entry E) → Type 0
