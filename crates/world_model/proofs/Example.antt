@@ -24,7 +24,7 @@ use Rattle.world_model.specs.Plan.{is_some_update, IsPlace, takes_part}
 use Rattle.world_model.specs.World.{plan_of, is_own, IsWorldRun}
 use Rattle.world_model.specs.LawfulWorld.{IsLawfulWorld}
 use Rattle.world_model.proofs.Names.{clash, off, part_other}
-use Rattle.world_model.proofs.Whole.{law_world}
+use Rattle.world_model.proofs.Law.{law_world}
 
 -- one partition at each of two sites
 abbrev here : PartId

@@ -45,7 +45,7 @@ module _ {E : Type 0} where
       w
 
   -- who updates is of the partition's site, and has begun
-  record IsHome (sites : ℕ) (run : List (Entry E)) (t : TxId) (p : PartId) : Type 0 where
+  pub record IsHome (sites : ℕ) (run : List (Entry E)) (t : TxId) (p : PartId) : Type 0 where
     pub site : p.site ≡ t.site
     pub least : 1 ≤ t.site
     pub most : t.site ≤ sites
@@ -61,7 +61,7 @@ module _ {E : Type 0} where
   home_more : (sites : ℕ) (run : List (Entry E)) (e : Entry E) (t : TxId) (p : PartId) → IsHome sites run t p → IsHome sites (e ∷ run) t p
   home_more sites run e t p h = record { site = h.site; least = h.least; most = h.most; begun = or_right _ _ h.begun }
 
-  homes : {S : Type 0} (kinds : Kinds S E) (sites parts : ℕ) (run : List (Entry E)) (state : PartId → PartState E) → IsWorldRun kinds sites parts run state → (t : TxId) (p : PartId) → is_some_update (updates_at run t p) ≡ true → IsHome sites run t p
+  pub homes : {S : Type 0} (kinds : Kinds S E) (sites parts : ℕ) (run : List (Entry E)) (state : PartId → PartState E) → IsWorldRun kinds sites parts run state → (t : TxId) (p : PartId) → is_some_update (updates_at run t p) ≡ true → IsHome sites run t p
   homes kinds sites parts [] state r t p h = off h
   homes kinds sites parts (e ∷ run) state r t p h = home_more sites run e t p (⊎_elim
       (λ (k : is_some_update (updates_at run t p) ≡ true). homes kinds sites parts run r.0 r.1 t p k)
@@ -75,7 +75,7 @@ module _ {E : Type 0} where
   begin_width kinds sites parts at p q (Began who dep u s) t st h = st.1.width
   begin_width kinds sites parts at p q event t st h = off h
 
-  snapshot_width : {S : Type 0} (kinds : Kinds S E) (sites parts : ℕ) (run : List (Entry E)) (state : PartId → PartState E) → IsWorldRun kinds sites parts run state → (t : TxId) → begun run t ≡ true → length (snapshot_of run t) ≡ sites
+  pub snapshot_width : {S : Type 0} (kinds : Kinds S E) (sites parts : ℕ) (run : List (Entry E)) (state : PartId → PartState E) → IsWorldRun kinds sites parts run state → (t : TxId) → begun run t ≡ true → length (snapshot_of run t) ≡ sites
   snapshot_width kinds sites parts [] state r t h = off h
   snapshot_width kinds sites parts (e ∷ run) state r t h = ⊎_elim
       (λ (k : is_begin e.event t ≡ true). ap length (cond-true _ (begin_vector e.event) (snapshot_of run t) k) ∙ begin_width kinds sites parts e.at (r.0 e.at) (state e.at) e.event t r.2.step k)

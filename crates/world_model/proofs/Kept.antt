@@ -23,7 +23,7 @@ use Rattle.world_model.proofs.Intervals.{Intervals, intervals_step, exact_now, s
 use Rattle.world_model.proofs.Completeness.{IsBacked, Bounds, bounds_step, zeros_at, rows_at}
 use Rattle.world_model.proofs.AnsweredReads.{IsAnswered, answered_events, answered_event}
 
-past_end : (v : List ℕ) (i : ℕ) → length v ≤ i → slice_index v i ≡ 0
+pub past_end : (v : List ℕ) (i : ℕ) → length v ≤ i → slice_index v i ≡ 0
 past_end [] i h = refl
 past_end (n ∷ v) zero h = absurd (omega arith)
 past_end (n ∷ v) (suc i) h = past_end v i (omega arith)

@@ -67,7 +67,7 @@ module _ {E : Type 0} where
       ⊎_elim (λ (x : new ≡ Lease (min (n + 1000) end_of_time) ∷ log). inr (leb-false n (ceiling log) e, ap ceiling x)) (λ (x : new ≡ Prepare t l n s w ∷ Lease (min (n + 1000) end_of_time) ∷ log). inr (leb-false n (ceiling log) e, ap ceiling x)) k) j)
       (cases_Bool (leb n (ceiling log)))
 
-  done_ceil : (log : List (Record E)) (n : ℕ) → n ≤ end_of_time → n ≤ ceiling (grown log (lease_for log n))
+  pub done_ceil : (log : List (Record E)) (n : ℕ) → n ≤ end_of_time → n ≤ ceiling (grown log (lease_for log n))
   done_ceil log n b = cond_both (leb n (ceiling log)) [] (Lease (min (n + 1000) end_of_time) ∷ []) (λ rs. n ≤ ceiling (grown log rs)) (λ e. leb-true n (ceiling log) e) (λ e. capped_above n end_of_time b)
     where
       capped_above : (n top : ℕ) → n ≤ top → n ≤ min (n + 1000) top

@@ -31,5 +31,7 @@ pub mod Orders
 pub mod LineReading
 pub mod LineCounts
 pub mod LineLaws
+pub mod Fitted
 pub mod Whole
+pub mod Law
 pub mod Example

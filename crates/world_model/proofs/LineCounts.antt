@@ -71,7 +71,7 @@ some_above site b (x ∷ xs) = go (ltb b (entry x.c site)) (some_above site b xs
 
 module _ {E : Type 0} (f : TxId → List ℕ) (g : TxId → List (Upd E)) (site : ℕ) where
   -- no part comes twice
-  stream_apart : (x : Part E) (ys : List (Part E)) → x.c ≡ f x.tx → AreParts f g ys → Precede (stream_cmp site) x ys → lists ys x.tx ≡ false
+  pub stream_apart : (x : Part E) (ys : List (Part E)) → x.c ≡ f x.tx → AreParts f g ys → Precede (stream_cmp site) x ys → lists ys x.tx ≡ false
   stream_apart x [] a p h = refl
   stream_apart x (y ∷ ys) a p h = or_from _ _
       (false_from_ne_true _ (λ e.

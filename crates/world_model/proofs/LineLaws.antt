@@ -134,7 +134,6 @@ module _ {E : Type 0} where
 
   up_line : (run : List (Entry E)) (p : PartId) (event : Event E) → AnswersAsUp run p event → IsDueAt event → causes.AnswersAsUp (lines_of run) p (call_of event) (step_shown run p event)
   up_line run p (Refused asked IsDown) h d = down_is run p ∙ h
-  up_line run p (Refused AskRestart (IsDamaged k)) h d = down_is run p ∙ h
   up_line run p (Refused asked (IsDamaged k)) h d = off d
   up_line run p (Refused asked why) h d = down_is run p ∙ h
   up_line run p (Restarted n b named listed) h d = down_is run p ∙ h
@@ -361,6 +360,7 @@ module _ {E : Type 0} where
     cause_line some p (Refused asked (TxPending u n)) h f c w d r = off d
     cause_line some p (Refused asked (StableBehind j n)) h f c w d r = off d
     cause_line some p (Refused asked IsGone) h f c w d r = off d
+    cause_line some p (Refused asked (IsDamaged k)) h f c w d r = off d
     cause_line some p (Refused asked ClockAtEnd) h f c w d r = now_is some p ∙ c
     cause_line some p (Refused asked why) h f c w d r = tt
     cause_line some p (Cut (Decided t v)) h f c w d r = tt

@@ -90,7 +90,7 @@ module _ {E : Type 0} where
   two_images kinds sites parts id p a m k i = two_none p.log m i
 
   -- the bound that a log tells after its records
-  batch_bound : (log : List (Record E)) (x : Message E) (b j : ℕ) (xs : List (Part E)) → bound (grown log (batch_of x b xs)) j ≡ cond (x.from == j && is_some_part xs) (max x.hi (bound log j)) (bound log j)
+  pub batch_bound : (log : List (Record E)) (x : Message E) (b j : ℕ) (xs : List (Part E)) → bound (grown log (batch_of x b xs)) j ≡ cond (x.from == j && is_some_part xs) (max x.hi (bound log j)) (bound log j)
   batch_bound log x b j [] = sym (cond-false _ _ _ (and_right (x.from == j) false refl))
   batch_bound log x b j (y ∷ ys) = go (x.from == j)
     where
@@ -98,10 +98,10 @@ module _ {E : Type 0} where
       go true = refl
       go false = refl
 
-  leased_bound : (log : List (Record E)) (n j : ℕ) → bound (grown log (lease_for log n)) j ≡ bound log j
+  pub leased_bound : (log : List (Record E)) (n j : ℕ) → bound (grown log (lease_for log n)) j ≡ bound log j
   leased_bound log n j = cond_both (leb n (ceiling log)) [] (Lease (min (n + 1000) end_of_time) ∷ []) (λ rs. bound (grown log rs) j ≡ bound log j) (λ e. refl) (λ e. refl)
 
-  if_bound : (log : List (Record E)) (c : Bool) (r : Record E) (j : ℕ) → bound (r ∷ log) j ≡ bound log j → bound (grown log (cond c (r ∷ []) [])) j ≡ bound log j
+  pub if_bound : (log : List (Record E)) (c : Bool) (r : Record E) (j : ℕ) → bound (r ∷ log) j ≡ bound log j → bound (grown log (cond c (r ∷ []) [])) j ≡ bound log j
   if_bound log true r j h = h
   if_bound log false r j h = refl
 

@@ -44,7 +44,7 @@ or_none true y e = absurd (clash refl e)
 or_none false y e = refl
 
 module _ {E : Type 0} where
-  abbrev IsSuffix : List (Entry E) → List (Entry E) → Type 0
+  abbrev pub IsSuffix : List (Entry E) → List (Entry E) → Type 0
   IsSuffix run [] = run ≡ []
   IsSuffix run (e ∷ whole) = (run ≡ e ∷ whole) ⊎ IsSuffix run whole
 
@@ -56,12 +56,12 @@ module _ {E : Type 0} where
   suffix_tail e run [] h = absurd (cc h)
   suffix_tail e run (x ∷ whole) h = inr (⊎_elim (λ (k : (e ∷ run) ≡ (x ∷ whole)). same_suffix run whole (cc k)) (λ (k : IsSuffix (e ∷ run) whole). suffix_tail e run whole k) h)
 
-  suffix_all : (run : List (Entry E)) → IsSuffix run run
+  pub suffix_all : (run : List (Entry E)) → IsSuffix run run
   suffix_all [] = refl
   suffix_all (e ∷ run) = inl refl
 
   -- clocks, first of all: no id is drawn twice
-  world_leases : {S : Type 0} (kinds : Kinds S E) (sites parts : ℕ) (run : List (Entry E)) (state : PartId → PartState E) → IsWorldRun kinds sites parts run state → Leases run state
+  pub world_leases : {S : Type 0} (kinds : Kinds S E) (sites parts : ℕ) (run : List (Entry E)) (state : PartId → PartState E) → IsWorldRun kinds sites parts run state → Leases run state
   world_leases kinds sites parts [] state r = record { clock = λ q. subst (λ x. Clock x 0 0) (sym (r q)) (record { whole = λ u. refl; now = refl; below = λ m i. omega arith; room = λ m i. subst (λ x. ceiling x ≤ 1000) (sym i) (omega arith); capped = λ m i. subst (λ x. ceiling x ≤ end_of_time) (sym i) (omega arith) }) }
   world_leases kinds sites parts (e ∷ run) state r = leases_step kinds sites parts run r.0 state e.at e.event r.2.step r.2.others (world_leases kinds sites parts run r.0 r.1)
 
@@ -90,7 +90,7 @@ module _ {E : Type 0} where
       (or_cases _ _ h)
 
   -- an id begins once, and is updated after that and before any prepare
-  abbrev IsFresh : List (Entry E) → Event E → Type 0
+  abbrev pub IsFresh : List (Entry E) → Event E → Type 0
   IsFresh run (Began who dep t s) = begun run t ≡ false
   IsFresh run (Updated t s o own op read u stamp) = (begun run t ≡ true) × ((p : PartId) → tried run t p ≡ false)
   IsFresh run event = ⊤
@@ -102,7 +102,7 @@ module _ {E : Type 0} where
       (λ (x : WasShown run p (Began who dep t s)). or_right _ _ (shown_begun run p who dep t s x))
       w
 
-  AllFresh : List (Entry E) → Type 0
+  pub AllFresh : List (Entry E) → Type 0
   AllFresh [] = ⊤
   AllFresh (e ∷ run) = IsFresh run e.event × AllFresh run
 
@@ -116,7 +116,7 @@ module _ {E : Type 0} where
   fresh_event kinds sites parts plan run before at q (Updated t s o own op read u stamp) r al st n = (shown_begun run (home t) al.who al.dependency t s al.begun, n.early)
   fresh_event kinds sites parts plan run before at q event r al st n = tt
 
-  all_fresh : {S : Type 0} (kinds : Kinds S E) (sites parts : ℕ) (run : List (Entry E)) (state : PartId → PartState E) → IsWorldRun kinds sites parts run state → AllFresh run
+  pub all_fresh : {S : Type 0} (kinds : Kinds S E) (sites parts : ℕ) (run : List (Entry E)) (state : PartId → PartState E) → IsWorldRun kinds sites parts run state → AllFresh run
   unfolding AllFresh
   all_fresh kinds sites parts [] state r = tt
   all_fresh kinds sites parts (e ∷ run) state r = (fresh_event kinds sites parts (plan_of sites parts (e ∷ run)) run r.0 e.at (state e.at) e.event r.1 r.2.allowed r.2.step r.3, all_fresh kinds sites parts run r.0 r.1)
@@ -270,7 +270,7 @@ module _ {E : Type 0} where
   planned_too sites parts run whole at a f suf = tt
 
   -- a run by the rules on what came before is a run under the plan of the whole
-  fits : {S : Type 0} (kinds : Kinds S E) (sites parts : ℕ) (run : List (Entry E)) (state : PartId → PartState E) → IsWorldRun kinds sites parts run state → (whole : List (Entry E)) → AllFresh whole → IsSuffix run whole → IsRun kinds (plan_of sites parts whole) run state
+  pub fits : {S : Type 0} (kinds : Kinds S E) (sites parts : ℕ) (run : List (Entry E)) (state : PartId → PartState E) → IsWorldRun kinds sites parts run state → (whole : List (Entry E)) → AllFresh whole → IsSuffix run whole → IsRun kinds (plan_of sites parts whole) run state
   fits kinds sites parts [] state r whole f s = r
   fits kinds sites parts (e ∷ run) state r whole f s =
       let before = r.0 in
@@ -300,41 +300,3 @@ module _ {E : Type 0} where
         },
         planned_too sites parts run whole e.at e.event f s,
       )
-
-  pub law_world : {S : Type 0} (kinds : Kinds S E) (sites parts : ℕ) (run : List (Entry E)) (state : PartId → PartState E) → IsWorldRun kinds sites parts run state → IsLawfulWorld kinds (plan_of sites parts run) run × LeavesLogs sites run state × IsLawfulRun kinds.meaning sites parts (lines_of run)
-  law_world kinds sites parts run state r =
-      let plan = plan_of sites parts run in
-      let under = fits kinds sites parts run state r run (all_fresh kinds sites parts run state r) (suffix_all run) in
-      let k = law_plan kinds plan run state under in
-      let right = right_all kinds plan run state k in
-      let facts = facts_of kinds plan run state k in
-      let made = stories kinds plan run sites parts (world_leases kinds sites parts) run state r right in
-      let all = planned_changes sites parts run in
-      let strictly = strict plan run state k.fate in
-      let law : IsLawfulWorld kinds plan run =
-      record {
-        right = right;
-        meant = meanings kinds plan run facts made all sites parts (world_leases kinds sites parts) run state r right;
-        causal = causal_stores kinds plan run made all;
-        clock = k.clock;
-        past = k.past;
-        decided_stay = k.decided_stay;
-        handed = handed_events kinds plan run state under;
-        numbered = numbered_events kinds sites parts run state r;
-        planned = planned_updates kinds sites parts run state r;
-        votes = vote_events kinds plan run state under;
-        vectors = vectors kinds plan run state under;
-        agreed = agreed kinds plan run state k;
-        doubts = settle_doubts kinds plan run state under;
-        due = due_events kinds plan run state under k.causes;
-        known = known_events kinds plan run state under;
-        causes = k.causes;
-        downs = answer_up kinds plan run state under;
-        resumed = resume_events kinds plan run state under;
-        sends = send_events kinds plan run state under;
-        shown = show_events kinds plan run state under;
-        fresh = fresh_events kinds plan run state under;
-        fate = never_both kinds plan run state k;
-        strict = strictly;
-        closed = closed plan run strictly;
-      } in (law, logs_left kinds plan run state under, lawful_lines kinds sites parts run law)

@@ -1,4 +1,4 @@
--- Which refusals may answer which call.
+-- Which refusals may answer which call. That a log is damaged answers none: a restart finds what the run wrote.
 use Rattle.std.specs.Prelude.{◌≡◌, Bool, true, false, List, [], ◌∷◌, ⊤}
 use Rattle.world_model.specs.Event.{Ask, AskBegin, AskRead, AskUpdate, AskPrepare, AskDecide, AskAbort, AskTake, AskRestart, Refusal, IsDown, ClockBehind, TxPending, StableBehind, ClockAtEnd, IsGone, HasGap, IsRepeat, IsDamaged, Event, Updated, Read, Refused, Entry}
 use Rattle.site_vector.specs.declared.ids.PartId.{PartId}
@@ -19,7 +19,6 @@ module _ {E : Type 0} where
   may_answer (AskAbort t) IsGone = true
   may_answer (AskTake m) (HasGap n) = true
   may_answer (AskTake m) (IsRepeat n) = true
-  may_answer AskRestart (IsDamaged k) = true
   may_answer asked why = false
 
   abbrev pub IsDueAt : Event E → Type 0

@@ -66,12 +66,13 @@ GoneCause whole before p (DecideOf u) t = (t ≡ u) × (is_known_at whole before
 GoneCause whole before p (AbortOf u) t = (t ≡ u) × (pending before p u ≡ false)
 GoneCause whole before p other t = ⊥
 
--- what each refusal, and each answer that isn't one, tells of causes
+-- a log is never damaged that the run wrote; what each refusal, and each answer that isn't one, tells of causes
 abbrev pub HasCause : ℕ → ℕ → List Line → List Line → PartId → Call → Step → Type 0
 HasCause sites parts whole before p call (step.WaitClock q n) = ClockCause whole before p call n
 HasCause sites parts whole before p call (step.WaitTxn q u n) = PendingCause whole before p call u n
 HasCause sites parts whole before p call (step.WaitStable j n) = StableCause sites parts before p call j n
 HasCause sites parts whole before p call step.TimeEnd = now before p ≡ end_of_time
+HasCause sites parts whole before p call (step.Damaged q at) = ⊥
 HasCause sites parts whole before p call (step.Gone q t) = GoneCause whole before p call t
 HasCause sites parts whole before p (ReadOf t o) (step.Value name object value) = IsReady whole before p t o
 HasCause sites parts whole before p (UpdateOf t o op) (step.Updated name object stamp) = reads_state o.kind ≡ true → IsReady whole before p t o
