@@ -304,6 +304,7 @@ module _ {E : Type 0} where
     fate_line some p (Aborted t own) w cs s r k d br rs = (pending_is some p t ∙ s, in_history_is run t ∙ law.fate t p (aborted_shown run p t own w))
     fate_line some p (Restarted n b named listed) w cs s r k d br rs = record {
       list = resumed_line some p n b named listed cs br rs r;
+      own = s;
       decided = λ t h e. k t (sym (in_history_is some t) ∙ h) (sym (lead_eq t) ∙ e);
       settled = λ t h. d t (sym (doubt_is some p t) ∙ h);
     }

@@ -20,7 +20,7 @@ use Rattle.world_model.specs.Log.{end_of_time, touches, prepared, prepare_time, 
 use Rattle.world_model.specs.Event.{AskRead, AskUpdate, AskDecide, AskAbort, AskTake, TxPending, IsGone, HasGap, IsRepeat, Event, Ticked, Began, Updated, Read, Prepared, Decided, Finished, Aborted, Sent, Took, Reported, Heard, Crashed, Restarted, Refused, Opened, Cut, Entry, attempt, tried, is_decided}
 use Rattle.world_model.specs.Partition.{Kinds, PartState, Image, IsOther, IsOwnBound, IsReady, IsTxPending, AreTimed, names_pending, pending_cmp, lease_for, above, batch_of, new_part, PartStep}
 use Rattle.world_model.specs.Plan.{Plan, takes_part, IsAllowed, IsRun}
-use Rattle.world_model.specs.Shown.{listed_time, bound_after, bound_shown, pending_after, pending_shown, time_after, pending_time, committed_shown, IsOwnBoundAt, IsFirstPending, IsReadyAt, ShowsAt, ShowAt}
+use Rattle.world_model.specs.Shown.{listed_time, bound_after, bound_shown, pending_after, pending_shown, time_after, pending_time, committed_shown, IsOwnBoundOf, IsOwnBoundAt, IsFirstPending, IsReadyAt, ShowsAt, ShowAt}
 use Rattle.world_model.proofs.Names.{clash, off, part_cases, part_other, entry_same, entry_cases}
 use Rattle.world_model.proofs.Moves.{Because, Move, moved, image_log, grown_last}
 use Rattle.world_model.proofs.Leases.{Leases}
@@ -286,6 +286,16 @@ module _ {E : Type 0} where
     shows_event (Sent asked m) q l al st = own_bound st.0 l m.hi st.1.hi
     shows_event (Took m) q l al st = let e = h.bounds at m.from st.0 al.from in (subst (λ n. m.lo ≤ n) e st.1.0, subst (λ n. n < m.hi) e st.1.1)
     shows_event (Reported b) q l al st = (own_bound st.0 l (entry b at.site) st.1.own, λ j o. st.1.others j o ∙ h.bounds at j st.0 o)
+    shows_event (Restarted n b named listed) q l al st =
+        let o = st.shown_bounds.own in
+        let since : (u : TxId) → names_pending listed u ≡ true → prepare_time q.log u ≡ listed_time listed u = λ u k. sym (listed_is q.log listed u st.timed k) in record {
+          most = subst (λ m. entry b at.site ≤ m) (sym st.shown) o.most;
+          below = λ u k. subst (λ m. entry b at.site < m) (since u k) (o.below u (sym (st.members u) ∙ k));
+          reached = ⊎_elim
+              (λ (e : entry b at.site ≡ q.now). inl (e ∙ sym st.shown))
+              (λ (e : (u : TxId) × (pending q.log u ≡ true) × (prepare_time q.log u ≡ entry b at.site + 1)). let k = st.members e.0 ∙ e.1 in inr (e.0, k, sym (since e.0 k) ∙ e.2))
+              o.reached;
+        }
     shows_event (Decided t c) q l al st = sym (known_is st.0 t) ∙ st.1
     shows_event (Finished t c) q l al st = sym (known_is st.0 t) ∙ st.1
     shows_event (Aborted t own) q l al st = sym (h.waiting at t st.0) ∙ st.1

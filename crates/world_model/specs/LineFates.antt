@@ -9,7 +9,7 @@ use Rattle.world_model.specs.declared.step.Step.{Step}
 use Rattle.world_model.specs.declared.step.Step.TheVariants as step
 use Rattle.world_model.specs.Event.{is_named}
 use Rattle.world_model.specs.Partition.{IsOther, names_pending}
-use Rattle.world_model.specs.Shown.{listed_time}
+use Rattle.world_model.specs.Shown.{listed_time, IsOwnBoundOf}
 use Rattle.world_model.specs.Lines.{Call, TakeOf, PrepareOf, DecideOf, FinishOf, AbortOf, Line}
 use Rattle.world_model.specs.LineClock.{now}
 use Rattle.world_model.specs.LineHistory.{in_history, history, commit_time}
@@ -81,14 +81,15 @@ pub record IsAsDone (sites : ℕ) (whole before : List Line) (p : PartId) (call 
   pub bounds : (j : ℕ) → IsOther sites p.site j → entry shown j ≡ brought_done whole before p j (brought whole before p j) call
 
 -- a restart lists what was pending, where one call that ended by a fault may have been done; it lists at its lead nothing
--- that was decided; and of what it was in doubt it lists or names exactly one
-pub record IsResumed (sites parts : ℕ) (whole before : List Line) (p : PartId) (bounds : List ℕ) (named : Option TxId) (listed : List (TxId × ℕ)) : Type 0 where
+-- that was decided; of what it was in doubt it lists or names exactly one; and its own bound is by that list
+pub record IsResumed (sites parts : ℕ) (whole before : List Line) (p : PartId) (time : ℕ) (bounds : List ℕ) (named : Option TxId) (listed : List (TxId × ℕ)) : Type 0 where
   pub list : IsAsBefore sites whole before p bounds listed ⊎ ((call : Call) × (drawn : ℕ) × (faulted before p ≡ Some (call, drawn)) × IsAsDone sites whole before p call drawn bounds listed)
+  pub own : IsOwnBoundOf time listed (entry bounds p.site)
   pub decided : (t : TxId) → in_history before t ≡ true → lead parts whole t ≡ p → names_pending listed t ≡ false
   pub settled : (t : TxId) → in_doubt before p t ≡ true → names_pending listed t ≡ not (is_named named t)
 
 -- what is aborted was pending here, and is never decided
 abbrev pub ShowsFate : ℕ → ℕ → List Line → List Line → PartId → Call → Step → Type 0
 ShowsFate sites parts whole before p call (step.Aborted q t) = (pending before p t ≡ true) × (in_history whole t ≡ false)
-ShowsFate sites parts whole before p call (step.Restarted q n bounds named listed) = IsResumed sites parts whole before p bounds named listed
+ShowsFate sites parts whole before p call (step.Restarted q n bounds named listed) = IsResumed sites parts whole before p n bounds named listed
 ShowsFate sites parts whole before p call other = ⊤

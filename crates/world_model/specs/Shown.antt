@@ -17,6 +17,12 @@ abbrev pub listed_time : List (TxId × ℕ) → TxId → ℕ
 listed_time [] t = 0
 listed_time (x ∷ xs) t = if same_tx x.0 t then x.1 else listed_time xs t
 
+-- the own bound of a partition that restarts at this time with this list
+pub record IsOwnBoundOf (now : ℕ) (listed : List (TxId × ℕ)) (b : ℕ) : Type 0 where
+  pub most : b ≤ now
+  pub below : (u : TxId) → names_pending listed u ≡ true → b < listed_time listed u
+  pub reached : (b ≡ now) ⊎ ((u : TxId) × (names_pending listed u ≡ true) × (listed_time listed u ≡ b + 1))
+
 module _ {E : Type 0} where
   -- the bound for site j: the end of the last message taken from there, or what a later restart showed
   abbrev pub bound_after : ℕ → ℕ → Event E → ℕ
@@ -83,6 +89,7 @@ module _ {E : Type 0} where
   ShowsAt plan run p (Sent asked m) = IsOwnBoundAt run p m.hi
   ShowsAt plan run p (Took m) = (m.lo ≤ bound_shown run p m.from) × (bound_shown run p m.from < m.hi)
   ShowsAt plan run p (Reported b) = IsOwnBoundAt run p (entry b p.site) × ((j : ℕ) → IsOther plan.sites p.site j → entry b j ≡ bound_shown run p j)
+  ShowsAt plan run p (Restarted n b named listed) = IsOwnBoundOf n listed (entry b p.site)
   ShowsAt plan run p (Decided t c) = (pending_shown run p t || committed_shown plan run p t) ≡ true
   ShowsAt plan run p (Finished t c) = (pending_shown run p t || committed_shown plan run p t) ≡ true
   ShowsAt plan run p (Aborted t own) = pending_shown run p t ≡ true
