@@ -36,7 +36,7 @@ use Rattle.world_model.specs.Meaning.{Asked, asked_at}
 use Rattle.world_model.specs.Resumed.{is_call, brings, brought_after, brought, IsTakeable, cut_call, IsAsBefore, IsAsDone, ResumesAt, Resume}
 use Rattle.world_model.specs.Sends.{low_of, SendsAt, Send}
 use Rattle.world_model.specs.LawfulWorld.{IsLawfulWorld}
-use Rattle.world_model.specs.Lines.{Call, Line, EachLine, call_cut, call_of, step_shown, lines_of}
+use Rattle.world_model.specs.Lines.{Call, Line, EachLine, message_number, call_cut, call_of, step_shown, lines_of}
 use Rattle.world_model.specs.LineClock as clock
 use Rattle.world_model.specs.LineHistory as past
 use Rattle.world_model.specs.LinePast as session
@@ -55,7 +55,7 @@ use Rattle.world_model.proofs.Fate.{voted_tried}
 use Rattle.world_model.proofs.Later.{at_own}
 use Rattle.world_model.proofs.Intervals.{shown_has, events_map}
 use Rattle.world_model.proofs.Histories.{Facts, no_self}
-use Rattle.world_model.proofs.LineViews.{now_is, missed_is, in_history_is, snapshot_is, commit_time_is, vector_is, visible_is, dependency_is, pending_is, prepare_time_is, doubt_is, down_is, bound_is, heard_here, heard_is, stable_is, own_bound_is, was_prepared_is, last_sent_is, sent_line, report_line}
+use Rattle.world_model.proofs.LineViews.{now_is, missed_is, in_history_is, snapshot_is, commit_time_is, vector_is, visible_is, dependency_is, pending_is, prepare_time_is, doubt_is, down_is, bound_is, heard_here, heard_is, stable_is, own_bound_is, was_prepared_is, last_sent_is, sent_count_is, report_count_is, sent_line, report_line}
 use Rattle.world_model.proofs.LineChanges.{to_change, count_is, takes_part_is, touches_is, lead_is}
 use Rattle.world_model.proofs.Orders.{stamp_same, is_in, in_filter, once_filter, filter_in}
 use Rattle.world_model.proofs.LineCounts.{parts_counted, both_ways, found_in, any_in, some_above, part_above, above_part}
@@ -129,8 +129,8 @@ module _ {E : Type 0} where
   fresh_lines plan [] h f s = tt
   fresh_lines plan (e ∷ run) h f s = (fresh_line plan run e.at e.event h.0 f.0 s.0, fresh_lines plan run h.1 f.1 s.1)
 
-  handed_line : (plan : Plan E) (run : List (Entry E)) (p : PartId) (m : Message E) → MayTake plan run p m → streams.IsHanded plan.sites (lines_of run) p m.from m.lo m.hi
-  handed_line plan run p m h = record { from = h.from; sent = subst (λ j. streams.WasSent (lines_of run) (twin m.from p) j m.lo m.hi) h.to (sent_line run (twin m.from p) h.asked m h.shown) }
+  handed_line : (plan : Plan E) (run : List (Entry E)) (p : PartId) (m : Message E) → MayTake plan run p m → streams.IsHanded plan.sites (lines_of run) p (message_number run (twin m.from p) m) m.from m.lo m.hi
+  handed_line plan run p m h = record { from = h.from; sent = subst (λ j. streams.WasSent (lines_of run) (twin m.from p) (message_number run (twin m.from p) m) j m.lo m.hi) h.to (sent_line run (twin m.from p) h.asked m h.shown) }
 
   up_line : (run : List (Entry E)) (p : PartId) (event : Event E) → AnswersAsUp run p event → IsDueAt event → causes.AnswersAsUp (lines_of run) p (call_of event) (step_shown run p event)
   up_line run p (Refused asked IsDown) h d = down_is run p ∙ h
@@ -439,8 +439,9 @@ module _ {E : Type 0} where
         ∙ ap length (filter_in (λ t. lists m.parts t) (λ t. updates.takes_part ls t p && (ltb m.lo (past.commit_time ls t) && leb (past.commit_time ls t) m.hi)) hs same)
 
     stream_line : (some : List (Entry E)) (p : PartId) (event : Event E) → HandedAt plan some p event → SendsAt plan some p event → ShowsAt plan some p event → IsDueAt event → IsRight kinds plan run p event → streams.IsStream sites ls (lines_of some) p (call_of event) (step_shown some p event)
-    stream_line some p (Sent asked m) h n s d r = record { to = n.to; low = n.lo ∙ ap (low_of asked) (sym (last_sent_is some p m.to)); high = own_bound_is some p m.hi s; parts = count_line p m r }
+    stream_line some p (Sent asked m) h n s d r = record { row = ap (λ x. x + 1) (sym (sent_count_is some)); to = n.to; low = n.lo ∙ ap (low_of asked) (sym (last_sent_is some p m.to)); high = own_bound_is some p m.hi s; parts = count_line p m r }
     stream_line some p (Took m) h n s d r = let e = sym (bound_is some p m.from) in (refl, subst (λ x. m.lo ≤ x) e s.0, subst (λ x. x < m.hi) e s.1, handed_line plan some p m h)
+    stream_line some p (Reported b) h n s d r = ap (λ x. x + 1) (sym (report_count_is some))
     stream_line some p (Heard k b stable) h n s d r = report_line some (record { site = p.site; part = k }) b h.shown
     stream_line some p (Refused (AskTake m) (HasGap k)) h n s d r = (s.0 ∙ sym (bound_is some p m.from), s.1, handed_line plan some p m h)
     stream_line some p (Refused (AskTake m) (IsRepeat k)) h n s d r = (s.0 ∙ sym (bound_is some p m.from), s.1, s.2, handed_line plan some p m h)

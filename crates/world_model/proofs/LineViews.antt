@@ -2,7 +2,9 @@
 use Rattle.std.proofs.Common.{◌≡◌, ⊎_elim, inl, inr, ℕ, ◌+◌, ◌<◌, ◌≤◌, max, cond, Bool, true, false, not, ◌&&◌, ◌||◌, List, [], ◌∷◌, length, Option, refl, sym, ap, ◌∙◌, subst, arith}
 use Rattle.std.specs.Prelude.{◌==◌}
 use Rattle.std.specs.Str.{bytes_eq}
-use Rattle.std.proofs.lemmas.Bool.{cases_Bool, cond-true, cond-false}
+use Rattle.std.proofs.lemmas.Slice.Eq.{bytes_eq-Decides}
+use Rattle.std.proofs.lemmas.Bool.{cases_Bool, cond-true, cond-false, and_from, and_parts, eqb-true, eq-eqb}
+use Rattle.world_model.proofs.Names.{clash, off, part_same}
 use Rattle.site_vector.specs.declared.ids.PartId.{PartId}
 use Rattle.site_vector.specs.declared.ids.TxId.{TxId}
 use Rattle.site_vector.specs.Ids.{same_part, same_tx}
@@ -19,7 +21,8 @@ use Rattle.world_model.specs.Doubt as doubt
 use Rattle.world_model.specs.Downs as downs
 use Rattle.world_model.specs.Partition.{lowest}
 use Rattle.world_model.specs.Sends as sends
-use Rattle.world_model.specs.Lines.{sent_count, report_count, call_of, step_shown, lines_of}
+use Rattle.world_model.specs.Lines.{is_sent, sent_count, is_report, report_count, has_stretch, message_number, has_bounds, report_number, call_of, step_shown, lines_of}
+use Rattle.world_model.specs.declared.step.Step.TheVariants as step
 use Rattle.world_model.specs.LineClock as clock
 use Rattle.world_model.specs.LineHistory as past
 use Rattle.world_model.specs.LinePast as session
@@ -243,17 +246,69 @@ module _ {E : Type 0} where
   last_sent_is [] p j = refl
   last_sent_is (e ∷ run) p j = λ i. cond (same_part e.at p) ((ap (λ o. streams.sent_after j o (step_shown run e.at e.event)) (last_sent_is run p j) ∙ sent_here run e.at j (sends.last_sent run p j) e.event) i) (last_sent_is run p j i)
 
-  -- what was sent or reported stands in the lines
-  pub sent_line : (run : List (Entry E)) (q : PartId) (asked : Option ℕ) (m : Message E) → WasShown run q (Sent asked m) → streams.WasSent (lines_of run) q m.to m.lo m.hi
+  is_sent_here : (run : List (Entry E)) (p : PartId) (event : Event E) → streams.is_sent (step_shown run p event) ≡ is_sent event
+  is_sent_here run p (Refused asked IsDown) = refl
+  is_sent_here run p (Refused asked why) = refl
+  is_sent_here run p (Cut (Decided u c)) = refl
+  is_sent_here run p (Cut a) = refl
+  is_sent_here run p event = refl
+
+  pub sent_count_is : (run : List (Entry E)) → streams.sent_count (lines_of run) ≡ sent_count run
+  sent_count_is [] = refl
+  sent_count_is (e ∷ run) = λ i. cond (is_sent_here run e.at e.event i) (sent_count_is run i + 1) (sent_count_is run i)
+
+  is_report_here : (run : List (Entry E)) (p : PartId) (event : Event E) → streams.is_report (step_shown run p event) ≡ is_report event
+  is_report_here run p (Refused asked IsDown) = refl
+  is_report_here run p (Refused asked why) = refl
+  is_report_here run p (Cut (Decided u c)) = refl
+  is_report_here run p (Cut a) = refl
+  is_report_here run p event = refl
+
+  pub report_count_is : (run : List (Entry E)) → streams.report_count (lines_of run) ≡ report_count run
+  report_count_is [] = refl
+  report_count_is (e ∷ run) = λ i. cond (is_report_here run e.at e.event i) (report_count_is run i + 1) (report_count_is run i)
+
+  -- a message with the stretch of m
+  stretch_line : (run : List (Entry E)) (q : PartId) (event : Event E) (m : Message E) → has_stretch event m ≡ true → (count : ℕ) × (step_shown run q event ≡ step.Sent (sent_count run + 1) q m.to m.lo m.hi count)
+  stretch_line run q (Sent asked x) m h =
+      let a = and_parts (x.to == m.to) _ h in
+      let b = and_parts (x.lo == m.lo) (x.hi == m.hi) a.1 in
+      let to = eqb-true x.to m.to a.0 in
+      let lo = eqb-true x.lo m.lo b.0 in
+      let hi = eqb-true x.hi m.hi b.1 in
+      (length x.parts, λ i. step.Sent (sent_count run + 1) q (to i) (lo i) (hi i) (length x.parts))
+  stretch_line run q event m h = off h
+
+  -- what was sent or reported stands in the lines, with its number
+  pub sent_line : (run : List (Entry E)) (q : PartId) (asked : Option ℕ) (m : Message E) → WasShown run q (Sent asked m) → streams.WasSent (lines_of run) q (message_number run q m) m.to m.lo m.hi
   sent_line [] q asked m w = w
   sent_line (e ∷ run) q asked m w = ⊎_elim
-      (λ (x : (e.at ≡ q) × (e.event ≡ Sent asked m)). inl (x.0, sent_count run + 1, length m.parts, λ i. step_shown run (x.0 i) (x.1 i)))
+      (λ (k : (same_part e.at q && has_stretch e.event m) ≡ true).
+      let ks = and_parts (same_part e.at q) _ k in
+      let s = same_part_is e.at q ks.0 in
+      let x = stretch_line run e.at e.event m ks.1 in
+      subst (λ n. streams.WasSent (lines_of (e ∷ run)) q n m.to m.lo m.hi) (sym (cond-true _ (sent_count run + 1) (message_number run q m) k)) (inl (s, x.0, x.1 ∙ ap (λ y. step.Sent (sent_count run + 1) y m.to m.lo m.hi x.0) s)))
+      (λ (k : (same_part e.at q && has_stretch e.event m) ≡ false).
+      subst (λ n. streams.WasSent (lines_of (e ∷ run)) q n m.to m.lo m.hi) (sym (cond-false _ (sent_count run + 1) (message_number run q m) k)) (⊎_elim
+      (λ (x : (e.at ≡ q) × (e.event ≡ Sent asked m)). clash (and_from _ _ (part_same e.at q x.0) (ap (λ a. has_stretch a m) x.1 ∙ and_from _ _ (eq-eqb m.to m.to refl) (and_from _ _ (eq-eqb m.lo m.lo refl) (eq-eqb m.hi m.hi refl)))) k)
       (λ (x : WasShown run q (Sent asked m)). inr (sent_line run q asked m x))
-      w
+      w))
+      (cases_Bool (same_part e.at q && has_stretch e.event m))
 
-  pub report_line : (run : List (Entry E)) (q : PartId) (b : List ℕ) → WasShown run q (Reported b) → streams.WasReported (lines_of run) q b
+  bounds_line : (run : List (Entry E)) (q : PartId) (event : Event E) (b : List ℕ) → has_bounds event b ≡ true → step_shown run q event ≡ step.Reported (report_count run + 1) q b
+  bounds_line run q (Reported x) b h = ap (λ y. step.Reported (report_count run + 1) q y) ((bytes_eq-Decides x b).0 h)
+  bounds_line run q event b h = off h
+
+  pub report_line : (run : List (Entry E)) (q : PartId) (b : List ℕ) → WasShown run q (Reported b) → streams.WasReported (lines_of run) q (report_number run q b) b
   report_line [] q b w = w
   report_line (e ∷ run) q b w = ⊎_elim
-      (λ (x : (e.at ≡ q) × (e.event ≡ Reported b)). inl (x.0, report_count run + 1, λ i. step_shown run (x.0 i) (x.1 i)))
+      (λ (k : (same_part e.at q && has_bounds e.event b) ≡ true).
+      let ks = and_parts (same_part e.at q) _ k in
+      let s = same_part_is e.at q ks.0 in
+      subst (λ n. streams.WasReported (lines_of (e ∷ run)) q n b) (sym (cond-true _ (report_count run + 1) (report_number run q b) k)) (inl (s, bounds_line run e.at e.event b ks.1 ∙ ap (λ y. step.Reported (report_count run + 1) y b) s)))
+      (λ (k : (same_part e.at q && has_bounds e.event b) ≡ false).
+      subst (λ n. streams.WasReported (lines_of (e ∷ run)) q n b) (sym (cond-false _ (report_count run + 1) (report_number run q b) k)) (⊎_elim
+      (λ (x : (e.at ≡ q) × (e.event ≡ Reported b)). clash (and_from _ _ (part_same e.at q x.0) (ap (λ a. has_bounds a b) x.1 ∙ (bytes_eq-Decides b b).1 refl)) k)
       (λ (x : WasShown run q (Reported b)). inr (report_line run q b x))
-      w
+      w))
+      (cases_Bool (same_part e.at q && has_bounds e.event b))

@@ -1,5 +1,5 @@
 -- Messages between sites, over the lines of a run.
-use Rattle.std.specs.Prelude.{◌≡◌, ◌⊎◌, ℕ, ◌<◌, ◌≤◌, leb, ltb, ◌&&◌, ◌==◌, if◌then◌else◌, List, [], ◌∷◌, length, filter, Option, ⊤}
+use Rattle.std.specs.Prelude.{◌≡◌, ◌⊎◌, ℕ, ◌+◌, Bool, true, false, ◌<◌, ◌≤◌, leb, ltb, ◌&&◌, ◌==◌, if◌then◌else◌, List, [], ◌∷◌, length, filter, Option, ⊤}
 use Rattle.site_vector.specs.declared.ids.PartId.{PartId}
 use Rattle.site_vector.specs.Ids.{same_part}
 use Rattle.world_model.specs.declared.step.Step.{Step}
@@ -26,23 +26,41 @@ abbrev pub last_sent : List Line → PartId → ℕ → ℕ
 last_sent [] p j = 0
 last_sent (l ∷ ls) p j = if same_part l.at p then sent_after j (last_sent ls p j) l.step else last_sent ls p j
 
--- a line at q shows a message to this site, of this stretch
-abbrev pub WasSent : List Line → PartId → ℕ → ℕ → ℕ → Type 0
-WasSent [] q to lo hi = ⊥
-WasSent (l ∷ ls) q to lo hi = ((l.at ≡ q) × (number : ℕ) × (count : ℕ) × (l.step ≡ step.Sent number q to lo hi count)) ⊎ WasSent ls q to lo hi
+abbrev pub is_sent : Step → Bool
+is_sent (step.Sent number p to lo hi count) = true
+is_sent other = false
 
--- a line at q shows a report of these bounds
-abbrev pub WasReported : List Line → PartId → List ℕ → Type 0
-WasReported [] q bounds = ⊥
-WasReported (l ∷ ls) q bounds = ((l.at ≡ q) × (number : ℕ) × (l.step ≡ step.Reported number q bounds)) ⊎ WasReported ls q bounds
+-- how many messages the lines show, and how many reports: each row is numbered from 1
+abbrev pub sent_count : List Line → ℕ
+sent_count [] = 0
+sent_count (l ∷ ls) = if is_sent l.step then sent_count ls + 1 else sent_count ls
+
+abbrev pub is_report : Step → Bool
+is_report (step.Reported number p bounds) = true
+is_report other = false
+
+abbrev pub report_count : List Line → ℕ
+report_count [] = 0
+report_count (l ∷ ls) = if is_report l.step then report_count ls + 1 else report_count ls
+
+-- a line at q shows a message of this number to this site, of this stretch
+abbrev pub WasSent : List Line → PartId → ℕ → ℕ → ℕ → ℕ → Type 0
+WasSent [] q number to lo hi = ⊥
+WasSent (l ∷ ls) q number to lo hi = ((l.at ≡ q) × (count : ℕ) × (l.step ≡ step.Sent number q to lo hi count)) ⊎ WasSent ls q number to lo hi
+
+-- a line at q shows a report of this number, of these bounds
+abbrev pub WasReported : List Line → PartId → ℕ → List ℕ → Type 0
+WasReported [] q number bounds = ⊥
+WasReported (l ∷ ls) q number bounds = ((l.at ≡ q) × (l.step ≡ step.Reported number q bounds)) ⊎ WasReported ls q number bounds
 
 -- a message that was handed was sent to here
-pub record IsHanded (sites : ℕ) (before : List Line) (p : PartId) (site lo hi : ℕ) : Type 0 where
+pub record IsHanded (sites : ℕ) (before : List Line) (p : PartId) (number site lo hi : ℕ) : Type 0 where
   pub from : IsOther sites p.site site
-  pub sent : WasSent before (twin site p) p.site lo hi
+  pub sent : WasSent before (twin site p) number p.site lo hi
 
 -- from where it was asked, or where the last one to the site ended; up to the own bound; all that lies between
-pub record IsNext (sites : ℕ) (whole before : List Line) (p : PartId) (asked : Option ℕ) (site lo hi count : ℕ) : Type 0 where
+pub record IsNext (sites : ℕ) (whole before : List Line) (p : PartId) (asked : Option ℕ) (number site lo hi count : ℕ) : Type 0 where
+  pub row : number ≡ sent_count before + 1
   pub to : IsOther sites p.site site
   pub low : lo ≡ low_of asked (last_sent before p site)
   pub high : IsOwnBound before p hi
@@ -50,9 +68,10 @@ pub record IsNext (sites : ℕ) (whole before : List Line) (p : PartId) (asked :
 
 abbrev pub IsStream : ℕ → List Line → List Line → PartId → Call → Step → Type 0
 IsStream sites whole before p call (step.Crashed q) = ⊤
-IsStream sites whole before p (SendTo site asked) (step.Sent number q to lo hi count) = IsNext sites whole before p asked to lo hi count
-IsStream sites whole before p (TakeOf site lo hi) (step.Took number end) = (end ≡ hi) × (lo ≤ bound before p site) × (bound before p site < hi) × IsHanded sites before p site lo hi
-IsStream sites whole before p (TakeOf site lo hi) (step.Gap number n) = (n ≡ bound before p site) × (n < lo) × IsHanded sites before p site lo hi
-IsStream sites whole before p (TakeOf site lo hi) (step.Dup number n) = (n ≡ bound before p site) × (lo ≤ n) × (hi ≤ n) × IsHanded sites before p site lo hi
-IsStream sites whole before p (HearOf part bounds) (step.Heard number q stable) = WasReported before (record { site = p.site; part = part }) bounds
+IsStream sites whole before p (SendTo site asked) (step.Sent number q to lo hi count) = IsNext sites whole before p asked number to lo hi count
+IsStream sites whole before p (TakeOf site lo hi) (step.Took number end) = (end ≡ hi) × (lo ≤ bound before p site) × (bound before p site < hi) × IsHanded sites before p number site lo hi
+IsStream sites whole before p (TakeOf site lo hi) (step.Gap number n) = (n ≡ bound before p site) × (n < lo) × IsHanded sites before p number site lo hi
+IsStream sites whole before p (TakeOf site lo hi) (step.Dup number n) = (n ≡ bound before p site) × (lo ≤ n) × (hi ≤ n) × IsHanded sites before p number site lo hi
+IsStream sites whole before p (HearOf part bounds) (step.Heard number q stable) = WasReported before (record { site = p.site; part = part }) number bounds
+IsStream sites whole before p call (step.Reported number q bounds) = number ≡ report_count before + 1
 IsStream sites whole before p call other = ⊤
