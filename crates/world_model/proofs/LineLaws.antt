@@ -33,7 +33,7 @@ use Rattle.world_model.specs.Votes.{VotesAt, KeepVotes, ShowsVector}
 use Rattle.world_model.specs.Handed.{IsPlacedAt, HandedAt, AreHanded, IsNew, AreNew}
 use Rattle.world_model.specs.Meaning as meaning
 use Rattle.world_model.specs.Meaning.{Asked, asked_at}
-use Rattle.world_model.specs.Resumed.{is_call, brings, brought_after, brought, IsTakeable, cut_call, IsAsBefore, IsAsDone, ResumesAt, Resume}
+use Rattle.world_model.specs.Resumed.{is_call, brings, brought_after, brought, decided_after, last_shown, IsTakeable, cut_call, IsAsBefore, IsAsDone, ResumesAt, Resume}
 use Rattle.world_model.specs.Sends.{low_of, SendsAt, Send}
 use Rattle.world_model.specs.LawfulWorld.{IsLawfulWorld}
 use Rattle.world_model.specs.Lines.{Call, Line, EachLine, message_number, call_cut, call_of, step_shown, lines_of}
@@ -55,7 +55,7 @@ use Rattle.world_model.proofs.Fate.{voted_tried}
 use Rattle.world_model.proofs.Later.{at_own}
 use Rattle.world_model.proofs.Intervals.{shown_has, events_map}
 use Rattle.world_model.proofs.Histories.{Facts, no_self}
-use Rattle.world_model.proofs.LineViews.{now_is, missed_is, in_history_is, snapshot_is, commit_time_is, vector_is, visible_is, dependency_is, pending_is, prepare_time_is, doubt_is, down_is, bound_is, heard_here, heard_is, stable_is, own_bound_is, was_prepared_is, last_sent_is, sent_count_is, report_count_is, sent_line, report_line}
+use Rattle.world_model.proofs.LineViews.{now_is, missed_is, in_history_is, snapshot_is, commit_time_is, vector_is, visible_is, dependency_is, pending_is, prepare_time_is, doubt_is, down_is, last_is, bound_is, heard_here, heard_is, stable_is, own_bound_is, was_prepared_is, last_sent_is, sent_count_is, report_count_is, sent_line, report_line}
 use Rattle.world_model.proofs.LineChanges.{to_change, count_is, takes_part_is, touches_is, lead_is}
 use Rattle.world_model.proofs.Orders.{stamp_same, is_in, in_filter, once_filter, filter_in}
 use Rattle.world_model.proofs.LineCounts.{parts_counted, both_ways, found_in, any_in, some_above, part_above, above_part}
@@ -279,10 +279,19 @@ module _ {E : Type 0} where
         (λ (k : same_part e.at p ≡ false). cond-false _ _ _ k ∙ rest ∙ sym (cond-false _ _ _ k))
         (cases_Bool (same_part e.at p))
 
-    resumed_line : (some : List (Entry E)) (p : PartId) (n : ℕ) (b : List ℕ) (named : Option TxId) (listed : List (TxId × ℕ)) → ClocksAre some → ((j : ℕ) → fates.brought ls (lines_of some) p j ≡ brought some p j) → EventsAre (IsRight kinds plan run) some → ResumesAt plan some p (Restarted n b named listed) → fates.IsAsBefore sites ls (lines_of some) p b listed ⊎ ((call : Call) × (drawn : ℕ) × (fates.faulted (lines_of some) p ≡ Some (call, drawn)) × fates.IsAsDone sites ls (lines_of some) p call drawn b listed)
+    last_done_eq : (some : List (Entry E)) (p : PartId) (what : Event E) → is_call what ≡ true → fates.decided_done (lines_of some) p (fates.last_decided (lines_of some) p) (call_cut what) ≡ decided_after some p (last_shown some p) what
+    last_done_eq some p (Decided t c) k = λ i. cond (pending_is some p t i) (Some t) (last_is some p i)
+    last_done_eq some p Crashed k = off k
+    last_done_eq some p (Restarted n b named listed) k = off k
+    last_done_eq some p (Refused asked why) k = off k
+    last_done_eq some p (Opened who) k = off k
+    last_done_eq some p (Cut a) k = off k
+    last_done_eq some p what k = last_is some p
+
+    resumed_line : (some : List (Entry E)) (p : PartId) (n : ℕ) (b : List ℕ) (named : Option TxId) (listed : List (TxId × ℕ)) → ClocksAre some → ((j : ℕ) → fates.brought ls (lines_of some) p j ≡ brought some p j) → EventsAre (IsRight kinds plan run) some → ResumesAt plan some p (Restarted n b named listed) → fates.IsAsBefore sites ls (lines_of some) p b named listed ⊎ ((call : Call) × (drawn : ℕ) × (fates.faulted (lines_of some) p ≡ Some (call, drawn)) × fates.IsAsDone sites ls (lines_of some) p call drawn b named listed)
     resumed_line some p n b named listed cs br rs h = ⊎_elim
-        (λ (x : IsAsBefore plan some p b listed). inl (record { members = λ t. x.members t ∙ sym (pending_is some p t); times = λ t k. x.times t k ∙ sym (prepare_time_is some p t); bounds = λ j o. x.bounds j o ∙ sym (br j) }))
-        (λ (x : (what : Event E) × (cut_call some p ≡ Some what) × (is_call what ≡ true) × IsTakeable plan some p what × IsAsDone plan some p what b listed).
+        (λ (x : IsAsBefore plan some p b named listed). inl (record { members = λ t. x.members t ∙ sym (pending_is some p t); times = λ t k. x.times t k ∙ sym (prepare_time_is some p t); bounds = λ j o. x.bounds j o ∙ sym (br j); last = x.last ∙ sym (last_is some p) }))
+        (λ (x : (what : Event E) × (cut_call some p ≡ Some what) × (is_call what ≡ true) × IsTakeable plan some p what × IsAsDone plan some p what b named listed).
         let f = fault_is some cs p x.0 x.2 x.1 in
         inr (
           call_cut x.0,
@@ -292,6 +301,7 @@ module _ {E : Type 0} where
             members = λ t. x.4.members t ∙ sym (ap (λ o. fates.pending_done (call_cut x.0) o t) (pending_is some p t) ∙ pend_same x.0 (pending_shown some p t) t x.2);
             times = λ t k. x.4.times t k ∙ sym (ap (λ o. fates.time_done (call_cut x.0) f.drawn o t) (prepare_time_is some p t) ∙ f.time t (pending_time some p t));
           bounds = λ j o. x.4.bounds j o ∙ sym (ap (λ y. fates.brought_done ls (lines_of some) p j y (call_cut x.0)) (br j) ∙ brought_done_eq some p j (brought some p j) x.0 x.2 x.3 rs);
+          last = x.4.last ∙ sym (last_done_eq some p x.0 x.2);
           },
         ))
         h

@@ -1,5 +1,5 @@
 -- What the lines of a run tell is what its events tell.
-use Rattle.std.proofs.Common.{◌≡◌, ⊎_elim, inl, inr, ℕ, ◌+◌, ◌<◌, ◌≤◌, max, cond, Bool, true, false, not, ◌&&◌, ◌||◌, List, [], ◌∷◌, length, Option, refl, sym, ap, ◌∙◌, subst, arith}
+use Rattle.std.proofs.Common.{◌≡◌, ⊎_elim, inl, inr, ℕ, ◌+◌, ◌<◌, ◌≤◌, max, cond, Bool, true, false, not, ◌&&◌, ◌||◌, List, [], ◌∷◌, length, Option, Some, refl, sym, ap, ◌∙◌, subst, arith}
 use Rattle.std.specs.Prelude.{◌==◌}
 use Rattle.std.specs.Str.{bytes_eq}
 use Rattle.std.proofs.lemmas.Slice.Eq.{bytes_eq-Decides}
@@ -27,6 +27,8 @@ use Rattle.world_model.specs.LineClock as clock
 use Rattle.world_model.specs.LineHistory as past
 use Rattle.world_model.specs.LinePast as session
 use Rattle.world_model.specs.LineFate as fate
+use Rattle.world_model.specs.LineFates as fates
+use Rattle.world_model.specs.Resumed as resumed
 use Rattle.world_model.specs.LineBounds as bounds
 use Rattle.world_model.specs.LineCommit as commit
 use Rattle.world_model.specs.LineStreams as streams
@@ -172,6 +174,18 @@ module _ {E : Type 0} where
   pub down_is : (run : List (Entry E)) (p : PartId) → fate.is_down (lines_of run) p ≡ downs.is_down run p
   down_is [] p = refl
   down_is (e ∷ run) p = λ i. cond (same_part e.at p) ((ap (λ o. fate.down_after o (step_shown run e.at e.event)) (down_is run p) ∙ down_here run e.at (downs.is_down run p) e.event) i) (down_is run p i)
+
+  last_here : (run : List (Entry E)) (p q : PartId) (old : Option TxId) (event : Event E) → fates.decided_after (lines_of run) p old (step_shown run q event) ≡ resumed.decided_after run p old event
+  last_here run p q old (Refused asked IsDown) = refl
+  last_here run p q old (Refused asked why) = refl
+  last_here run p q old (Cut (Decided u c)) = refl
+  last_here run p q old (Cut a) = refl
+  last_here run p q old (Decided u c) = λ i. cond (pending_is run p u i) (Some u) old
+  last_here run p q old event = refl
+
+  pub last_is : (run : List (Entry E)) (p : PartId) → fates.last_decided (lines_of run) p ≡ resumed.last_shown run p
+  last_is [] p = refl
+  last_is (e ∷ run) p = λ i. cond (same_part e.at p) ((ap (λ o. fates.decided_after (lines_of run) p o (step_shown run e.at e.event)) (last_is run p) ∙ last_here run p e.at (resumed.last_shown run p) e.event) i) (last_is run p i)
 
   bound_here : (run : List (Entry E)) (p : PartId) (j old : ℕ) (event : Event E) → bounds.bound_after j old (call_of event) (step_shown run p event) ≡ told.bound_after j old event
   bound_here run p j old (Refused asked IsDown) = refl

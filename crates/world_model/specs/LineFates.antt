@@ -57,6 +57,20 @@ abbrev pub brought : List Line → List Line → PartId → ℕ → ℕ
 brought whole [] p j = 0
 brought whole (l ∷ ls) p j = if same_part l.at p then brought_after whole ls p j (brought whole ls p j) l.call l.step else brought whole ls p j
 
+-- the last decide of p that was done, of what was pending, or what a later restart named; once this call was done
+abbrev pub decided_done : List Line → PartId → Option TxId → Call → Option TxId
+decided_done ls p old (DecideOf t) = if pending ls p t then Some t else old
+decided_done ls p old other = old
+
+abbrev pub decided_after : List Line → PartId → Option TxId → Step → Option TxId
+decided_after ls p old (step.Decided q t c) = if pending ls p t then Some t else old
+decided_after ls p old (step.Restarted q n bounds named listed) = named
+decided_after ls p old other = old
+
+abbrev pub last_decided : List Line → PartId → Option TxId
+last_decided [] p = None
+last_decided (l ∷ ls) p = if same_part l.at p then decided_after ls p (last_decided ls p) l.step else last_decided ls p
+
 abbrev pub fault_after : ℕ → Option (Call × ℕ) → Call → Step → Option (Call × ℕ)
 fault_after time old call (step.Disk p) = Some (call, time + 1)
 fault_after time old call (step.Unsure t) = Some (call, time + 1)
@@ -69,21 +83,23 @@ faulted [] p = None
 faulted (l ∷ ls) p = if same_part l.at p then fault_after (now ls p) (faulted ls p) l.call l.step else faulted ls p
 
 -- all that was pending is listed, with its time, and the bounds are those of messages that brought something
-pub record IsAsBefore (sites : ℕ) (whole before : List Line) (p : PartId) (shown : List ℕ) (listed : List (TxId × ℕ)) : Type 0 where
+pub record IsAsBefore (sites : ℕ) (whole before : List Line) (p : PartId) (shown : List ℕ) (named : Option TxId) (listed : List (TxId × ℕ)) : Type 0 where
   pub members : (t : TxId) → names_pending listed t ≡ pending before p t
   pub times : (t : TxId) → names_pending listed t ≡ true → listed_time listed t ≡ prepare_time before p t
   pub bounds : (j : ℕ) → IsOther sites p.site j → entry shown j ≡ brought whole before p j
+  pub last : named ≡ last_decided before p
 
 -- the same, once this call was done, which drew this time
-pub record IsAsDone (sites : ℕ) (whole before : List Line) (p : PartId) (call : Call) (drawn : ℕ) (shown : List ℕ) (listed : List (TxId × ℕ)) : Type 0 where
+pub record IsAsDone (sites : ℕ) (whole before : List Line) (p : PartId) (call : Call) (drawn : ℕ) (shown : List ℕ) (named : Option TxId) (listed : List (TxId × ℕ)) : Type 0 where
   pub members : (t : TxId) → names_pending listed t ≡ pending_done call (pending before p t) t
   pub times : (t : TxId) → names_pending listed t ≡ true → listed_time listed t ≡ time_done call drawn (prepare_time before p t) t
   pub bounds : (j : ℕ) → IsOther sites p.site j → entry shown j ≡ brought_done whole before p j (brought whole before p j) call
+  pub last : named ≡ decided_done before p (last_decided before p) call
 
 -- a restart lists what was pending, where one call that ended by a fault may have been done; it lists at its lead nothing
 -- that was decided; of what it was in doubt it lists or names exactly one; and its own bound is by that list
 pub record IsResumed (sites parts : ℕ) (whole before : List Line) (p : PartId) (time : ℕ) (bounds : List ℕ) (named : Option TxId) (listed : List (TxId × ℕ)) : Type 0 where
-  pub list : IsAsBefore sites whole before p bounds listed ⊎ ((call : Call) × (drawn : ℕ) × (faulted before p ≡ Some (call, drawn)) × IsAsDone sites whole before p call drawn bounds listed)
+  pub list : IsAsBefore sites whole before p bounds named listed ⊎ ((call : Call) × (drawn : ℕ) × (faulted before p ≡ Some (call, drawn)) × IsAsDone sites whole before p call drawn bounds named listed)
   pub own : IsOwnBoundOf time listed (entry bounds p.site)
   pub decided : (t : TxId) → in_history before t ≡ true → lead parts whole t ≡ p → names_pending listed t ≡ false
   pub settled : (t : TxId) → in_doubt before p t ≡ true → names_pending listed t ≡ not (is_named named t)

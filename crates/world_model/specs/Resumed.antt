@@ -6,7 +6,7 @@ use Rattle.site_vector.specs.Ids.{same_part}
 use Rattle.site_vector.specs.Vector.{entry}
 use Rattle.crdt_core.specs.declared.record.Part.{Part}
 use Rattle.crdt_core.specs.declared.record.Message.{Message}
-use Rattle.world_model.specs.Event.{Event, Took, Crashed, Restarted, Refused, Opened, Cut, Entry}
+use Rattle.world_model.specs.Event.{Event, Decided, Took, Crashed, Restarted, Refused, Opened, Cut, Entry}
 use Rattle.world_model.specs.Partition.{IsOther, names_pending, above}
 use Rattle.world_model.specs.Plan.{Plan, MayTake}
 use Rattle.world_model.specs.Shown.{listed_time, bound_shown, pending_after, pending_shown, time_after, pending_time}
@@ -49,25 +49,37 @@ module _ {E : Type 0} where
   brought [] p j = 0
   brought (e ∷ run) p j = if same_part e.at p then brought_after run p j (brought run p j) e.event else brought run p j
 
+  -- the last decide of p that was done, of what was pending, or what a later restart named
+  abbrev pub decided_after : List (Entry E) → PartId → Option TxId → Event E → Option TxId
+  decided_after run p old (Decided t c) = if pending_shown run p t then Some t else old
+  decided_after run p old (Restarted n b named listed) = named
+  decided_after run p old other = old
+
+  abbrev pub last_shown : List (Entry E) → PartId → Option TxId
+  last_shown [] p = None
+  last_shown (e ∷ run) p = if same_part e.at p then decided_after run p (last_shown run p) e.event else last_shown run p
+
   -- a take that was cut off was of a message that was sent, and left no gap
   abbrev pub IsTakeable : Plan E → List (Entry E) → PartId → Event E → Type 0
   IsTakeable plan run p (Took m) = MayTake plan run p m × (m.lo ≤ bound_shown run p m.from)
   IsTakeable plan run p other = ⊤
 
   -- all that was pending is listed, with its time, and the bounds are those of messages that brought something
-  pub record IsAsBefore (plan : Plan E) (run : List (Entry E)) (p : PartId) (b : List ℕ) (listed : List (TxId × ℕ)) : Type 0 where
+  pub record IsAsBefore (plan : Plan E) (run : List (Entry E)) (p : PartId) (b : List ℕ) (named : Option TxId) (listed : List (TxId × ℕ)) : Type 0 where
     pub members : (t : TxId) → names_pending listed t ≡ pending_shown run p t
     pub times : (t : TxId) → names_pending listed t ≡ true → listed_time listed t ≡ pending_time run p t
     pub bounds : (j : ℕ) → IsOther plan.sites p.site j → entry b j ≡ brought run p j
+    pub last : named ≡ last_shown run p
 
   -- the same, once this call was done
-  pub record IsAsDone (plan : Plan E) (run : List (Entry E)) (p : PartId) (what : Event E) (b : List ℕ) (listed : List (TxId × ℕ)) : Type 0 where
+  pub record IsAsDone (plan : Plan E) (run : List (Entry E)) (p : PartId) (what : Event E) (b : List ℕ) (named : Option TxId) (listed : List (TxId × ℕ)) : Type 0 where
     pub members : (t : TxId) → names_pending listed t ≡ pending_after t (pending_shown run p t) what
     pub times : (t : TxId) → names_pending listed t ≡ true → listed_time listed t ≡ time_after t (pending_time run p t) what
     pub bounds : (j : ℕ) → IsOther plan.sites p.site j → entry b j ≡ brought_after run p j (brought run p j) what
+    pub last : named ≡ decided_after run p (last_shown run p) what
 
   abbrev pub ResumesAt : Plan E → List (Entry E) → PartId → Event E → Type 0
-  ResumesAt plan run p (Restarted n b named listed) = IsAsBefore plan run p b listed ⊎ ((what : Event E) × (cut_call run p ≡ Some what) × (is_call what ≡ true) × IsTakeable plan run p what × IsAsDone plan run p what b listed)
+  ResumesAt plan run p (Restarted n b named listed) = IsAsBefore plan run p b named listed ⊎ ((what : Event E) × (cut_call run p ≡ Some what) × (is_call what ≡ true) × IsTakeable plan run p what × IsAsDone plan run p what b named listed)
   ResumesAt plan run p other = ⊤
 
   abbrev pub Resume : Plan E → List (Entry E) → Type 0
