@@ -1,6 +1,9 @@
--- A run of the world with any kinds that have counters: a decide that a crash cut off was done, and both sites see it.
+-- A run of the world with any kinds that have counters: a read waits for a vote, a decide that a crash cut off was done, one message
+-- is lost and one repeated, a session moves, and reads at the other site what the crash nearly took.
 use Rattle.std.proofs.Common.{◌≡◌, ◌≢◌, ⊎_elim, inl, inr, ℕ, ◌≤◌, cond, leb, ltb, Bool, true, false, not, ◌&&◌, ◌||◌, List, [], ◌∷◌, None, Some, refl, sym, subst, arith, lit≤, lit<, le_refl}
-use Rattle.std.specs.Prelude.{if◌then◌else◌, pos}
+use Rattle.std.specs.Prelude.{if◌then◌else◌, pos, map, reverse}
+use Rattle.world_model.specs.declared.step.Step.TheVariants as step
+use Rattle.world_model.specs.Lines.{lines_of}
 use Rattle.std.specs.declared.cmp.Ordering.TheVariants.{Less}
 use Rattle.std.proofs.lemmas.Bool.{cases_Bool, cond-false, or_from, and_right}
 use Rattle.site_vector.specs.declared.ids.PartId.{PartId}
@@ -89,6 +92,10 @@ in_stretch : (b : Bool) → (b || false) ≡ ((b || false) && (ltb 0 (entry (con
 in_stretch true = refl
 in_stretch false = refl
 
+past_stretch : (b : Bool) → false ≡ ((b || false) && (ltb 1001 (entry (cond b vector1 []) 1) && leb (entry (cond b vector1 []) 1) 1001))
+past_stretch true = refl
+past_stretch false = refl
+
 second_of_first : IsOther 2 1 2
 second_of_first = record { least = lit≤ tt; most = lit≤ tt; apart = λ e. absurd (omega arith) }
 
@@ -145,6 +152,13 @@ module _ {S E : Type 0} (kinds : Kinds S E) (known : kinds.has CounterPn ≡ tru
   abbrev e6 : Event E
   e6 = Sent None message
 
+  -- a message that nobody takes
+  abbrev lost : Message E
+  lost = record { from = 1; to = 2; part = 1; lo = 1001; hi = 1001; parts = [] }
+
+  abbrev e6a : Event E
+  e6a = Sent None lost
+
   abbrev e7 : Event E
   e7 = Took message
 
@@ -193,8 +207,11 @@ module _ {S E : Type 0} (kinds : Kinds S E) (known : kinds.has CounterPn ≡ tru
   abbrev p6 : PartId → PartState E
   p6 = put p5 here (done (p5 here) e6)
 
+  abbrev p6a : PartId → PartState E
+  p6a = put p6 here (done (p6 here) e6a)
+
   abbrev p7 : PartId → PartState E
-  p7 = put p6 there (done (p6 there) e7)
+  p7 = put p6a there (done (p6a there) e7)
 
   abbrev p9 : PartId → PartState E
   p9 = put p7 there (done (p7 there) e9)
@@ -329,8 +346,11 @@ module _ {S E : Type 0} (kinds : Kinds S E) (known : kinds.has CounterPn ≡ tru
   abbrev r6 : List (Entry E)
   r6 = entry_at here e6 ∷ r5
 
+  abbrev r6a : List (Entry E)
+  r6a = entry_at here e6a ∷ r6
+
   abbrev r7 : List (Entry E)
-  r7 = entry_at there e7 ∷ r6
+  r7 = entry_at there e7 ∷ r6a
 
   abbrev r8 : List (Entry E)
   r8 = entry_at there e8 ∷ r7
@@ -393,15 +413,28 @@ module _ {S E : Type 0} (kinds : Kinds S E) (known : kinds.has CounterPn ≡ tru
     tt,
   )
 
-  run7 : IsWorldRun kinds 2 1 r7 p7
-  run7 = (
+  run6a : IsWorldRun kinds 2 1 r6a p6a
+  run6a = (
     p6,
     run6,
     record {
+      place = place_here;
+      allowed = tt;
+      step = (refl, record { from = refl; part = refl; to = second_of_first; lo = refl; hi = own_bound; order = tt; members = λ u. past_stretch (same_tx first u); exact = tt }, refl);
+      others = others p6 here (done (p6 here) e6a);
+    },
+    tt,
+  )
+
+  run7 : IsWorldRun kinds 2 1 r7 p7
+  run7 = (
+    p6a,
+    run6a,
+    record {
       place = place_there;
-      allowed = record { from = first_of_second; to = refl; part = refl; asked = None; shown = inl (refl, refl) };
+      allowed = record { from = first_of_second; to = refl; part = refl; asked = None; shown = inr (inl (refl, refl)) };
       step = (refl, (le_refl 0, lit< tt), refl);
-      others = others p6 there (done (p6 there) e7);
+      others = others p6a there (done (p6a there) e7);
     },
     tt,
   )
@@ -412,7 +445,7 @@ module _ {S E : Type 0} (kinds : Kinds S E) (known : kinds.has CounterPn ≡ tru
     run7,
     record {
       place = place_there;
-      allowed = record { from = first_of_second; to = refl; part = refl; asked = None; shown = inr (inl (refl, refl)) };
+      allowed = record { from = first_of_second; to = refl; part = refl; asked = None; shown = inr (inr (inl (refl, refl))) };
       step = ((refl, (refl, lit≤ tt, le_refl 1001)), refl);
       others = λ q ne. refl;
     },
@@ -478,3 +511,24 @@ module _ {S E : Type 0} (kinds : Kinds S E) (known : kinds.has CounterPn ≡ tru
   -- the read at the other site sees what the crash nearly took, and is right in the whole run
   is_lawful : IsLawfulWorld kinds (plan_of 2 1 r12) r12
   is_lawful = (law_world kinds 2 1 r12 p12 run12).0
+
+  -- what the run shows, the first line first
+  shown : reverse (map (λ l. l.step) (lines_of r12)) ≡
+      step.Began ann first snapshot1
+      ∷ step.Updated ann counter (kinds.stamp_of change.effect)
+      ∷ step.Prepared here first 2
+      ∷ step.MadeSession ben 1
+      ∷ step.Began ben waiting snapshot3
+      ∷ step.WaitTxn here first 2
+      ∷ step.Unsure first
+      ∷ step.Restarted here 1001 (1001 ∷ 0 ∷ []) (Some first) []
+      ∷ step.Sent 1 here 2 0 1001 1
+      ∷ step.Sent 2 here 2 1001 1001 0
+      ∷ step.Took 1 1001
+      ∷ step.Dup 1 1001
+      ∷ step.Reported 1 there (1001 ∷ 0 ∷ [])
+      ∷ step.Heard 1 there (1001 ∷ 0 ∷ [])
+      ∷ step.Began ann moved snapshot2
+      ∷ step.Value ann counter seen
+      ∷ []
+  shown = refl
