@@ -1,6 +1,7 @@
 -- Steps are made where they must be, and with what was shown.
 use Rattle.std.proofs.Common.{◌≡◌, ◌⊎◌, ⊎_elim, inl, inr, ℕ, ◌≤◌, cond, leb, Bool, true, false, ◌&&◌, ◌||◌, List, [], ◌∷◌, ◌++◌, length, refl, sym, ap, ◌∙◌, subst, le_of_eq}
 use Rattle.std.specs.Prelude.{⊤, ◌==◌}
+use Rattle.std.proofs.lemmas.Slice.Eq.{bytes_eq-Decides}
 use Rattle.std.proofs.lemmas.Bool.{cases_Bool, or_left, or_right, or_cases, and_from, cond-true, cond-false, eq-eqb, le-leb}
 use Rattle.site_vector.specs.declared.ids.PartId.{PartId}
 use Rattle.site_vector.specs.declared.ids.TxId.{TxId}
@@ -10,6 +11,7 @@ use Rattle.crdt_core.specs.declared.record.Upd.{Upd}
 use Rattle.world_model.specs.Event.{AskBegin, AskRead, AskUpdate, AskTake, Event, Began, Updated, Read, Took, Heard, Refused, Entry, attempt, WasShown, EventsAre}
 use Rattle.world_model.specs.Partition.{Kinds, PartState, PartStep}
 use Rattle.world_model.specs.Plan.{Plan, home, is_some_update, takes_part, change_by, updates_at, IsPlace, IsAllowed, IsPlanned, IsRun}
+use Rattle.world_model.specs.Past.{begins_for, is_of}
 use Rattle.world_model.specs.Handed.{HandedAt, AreHanded, AreNew}
 use Rattle.world_model.specs.World.{is_begin, begin_vector, begun, snapshot_of, is_own, changes_of, plan_of, IsWorldRun}
 use Rattle.world_model.proofs.Names.{off}
@@ -21,10 +23,18 @@ some_more [] ys = refl
 some_more (x ∷ xs) ys = refl
 
 module _ {E : Type 0} where
+  -- a session that was shown to begin t
+  shown_of : (run : List (Entry E)) (p : PartId) (who dep : List ℕ) (t : TxId) (s : List ℕ) → WasShown run p (Began who dep t s) → is_of run who t ≡ true
+  shown_of [] p who dep t s w = absurd w
+  shown_of (e ∷ run) p who dep t s w = ⊎_elim
+      (λ (x : (e.at ≡ p) × (e.event ≡ Began who dep t s)). or_left _ _ (ap (λ a. begins_for a who t) x.1 ∙ and_from _ _ ((bytes_eq-Decides who who).1 refl) (same_tx_refl t)))
+      (λ (x : WasShown run p (Began who dep t s)). or_right _ _ (shown_of run p who dep t s x))
+      w
+
   handed_event : {S : Type 0} (kinds : Kinds S E) (plan : Plan E) (run : List (Entry E)) (before : PartId → PartState E) (at : PartId) (q : PartState E) (event : Event E) → EventsAre (IsPlanned plan) run → IsAllowed plan run before at (attempt event) → PartStep kinds plan.sites plan.parts at (before at) event q → HandedAt plan run at event
   handed_event kinds plan run before at q (Began who dep t s) pl al st = ap home st.1.named
-  handed_event kinds plan run before at q (Read t s o own read value) pl al st = record { site = al.site; part = al.place }
-  handed_event kinds plan run before at q (Updated t s o own op read u stamp) pl al st = (record { site = al.site; part = al.place }, st.1.object)
+  handed_event kinds plan run before at q (Read t s o own read value) pl al st = record { site = al.site; part = al.place; who = al.who; begun = shown_of run (home t) al.who al.dependency t s al.begun }
+  handed_event kinds plan run before at q (Updated t s o own op read u stamp) pl al st = (record { site = al.site; part = al.place; who = al.who; begun = shown_of run (home t) al.who al.dependency t s al.begun }, st.1.object)
   handed_event kinds plan run before at q (Took m) pl al st = al
   handed_event kinds plan run before at q (Refused (AskTake m) why) pl al st = al
   handed_event kinds plan run before at q (Refused (AskBegin who dep) why) pl al st = al

@@ -3,10 +3,12 @@ use Rattle.std.proofs.Common.{◌≡◌, ◌≢◌, ◌⊎◌, ⊎_elim, inl, in
 use Rattle.std.specs.Prelude.{⊤, ◌==◌, filter}
 use Rattle.std.specs.List.{flat_map}
 use Rattle.std.specs.declared.cmp.Ordering.TheVariants.{Less}
-use Rattle.std.proofs.lemmas.Bool.{cases_Bool, cond-true, cond-false, or_left, or_right, and_from, and_parts, ltb-true, lt-ltb, false_from_ne_true}
+use Rattle.std.proofs.lemmas.Bool.{cases_Bool, cond-true, cond-false, or_left, or_right, or_cases, and_from, and_parts, ltb-true, lt-ltb, false_from_ne_true}
 use Rattle.site_vector.specs.declared.ids.PartId.{PartId}
 use Rattle.site_vector.specs.declared.ids.TxId.{TxId}
-use Rattle.site_vector.specs.Ids.{same_part}
+use Rattle.std.specs.Str.{bytes_eq}
+use Rattle.std.proofs.lemmas.Slice.Eq.{bytes_eq-Decides}
+use Rattle.site_vector.specs.Ids.{same_part, same_tx}
 use Rattle.site_vector.specs.Order.{same_part_is, same_tx_refl}
 use Rattle.site_vector.specs.Vector.{le, entry}
 use Rattle.crdt_core.specs.declared.object.ObjectId.{ObjectId}
@@ -36,7 +38,7 @@ use Rattle.world_model.specs.Meaning.{Asked, asked_at}
 use Rattle.world_model.specs.Resumed.{is_call, brings, brought_after, brought, decided_after, last_shown, IsTakeable, cut_call, IsAsBefore, IsAsDone, ResumesAt, Resume}
 use Rattle.world_model.specs.Sends.{low_of, SendsAt, Send}
 use Rattle.world_model.specs.LawfulWorld.{IsLawfulWorld}
-use Rattle.world_model.specs.Lines.{Call, Line, EachLine, message_number, call_cut, call_of, step_shown, lines_of}
+use Rattle.world_model.specs.Lines.{Call, Line, EachLine, session_after, session_of, message_number, call_cut, call_of, step_shown, lines_of}
 use Rattle.world_model.specs.LineClock as clock
 use Rattle.world_model.specs.LineHistory as past
 use Rattle.world_model.specs.LinePast as session
@@ -45,6 +47,7 @@ use Rattle.world_model.specs.LineUpdates as updates
 use Rattle.world_model.specs.LineUpdates.{IsPlaced}
 use Rattle.world_model.specs.LineCommit as commit
 use Rattle.world_model.specs.LineReads as reads
+use Rattle.world_model.specs.LineAnswers as answers
 use Rattle.world_model.specs.LineFates as fates
 use Rattle.world_model.specs.LineFresh as fresh
 use Rattle.world_model.specs.LineStreams as streams
@@ -55,7 +58,7 @@ use Rattle.world_model.proofs.Fate.{voted_tried}
 use Rattle.world_model.proofs.Later.{at_own}
 use Rattle.world_model.proofs.Intervals.{shown_has, events_map}
 use Rattle.world_model.proofs.Histories.{Facts, no_self}
-use Rattle.world_model.proofs.LineViews.{now_is, missed_is, in_history_is, snapshot_is, commit_time_is, vector_is, visible_is, dependency_is, pending_is, prepare_time_is, doubt_is, down_is, last_is, bound_is, heard_here, heard_is, stable_is, own_bound_is, was_prepared_is, last_sent_is, sent_count_is, report_count_is, sent_line, report_line}
+use Rattle.world_model.proofs.LineViews.{now_is, missed_is, in_history_is, snapshot_is, commit_time_is, vector_is, visible_is, is_of_is, dependency_is, pending_is, prepare_time_is, doubt_is, down_is, last_is, bound_is, heard_here, heard_is, stable_is, own_bound_is, was_prepared_is, last_sent_is, sent_count_is, report_count_is, sent_line, report_line}
 use Rattle.world_model.proofs.LineChanges.{to_change, count_is, takes_part_is, touches_is, lead_is}
 use Rattle.world_model.proofs.Orders.{stamp_same, is_in, in_filter, once_filter, filter_in}
 use Rattle.world_model.proofs.LineCounts.{parts_counted, both_ways, found_in, any_in, some_above, part_above, above_part}
@@ -131,6 +134,47 @@ module _ {E : Type 0} where
 
   handed_line : (plan : Plan E) (run : List (Entry E)) (p : PartId) (m : Message E) → MayTake plan run p m → streams.IsHanded plan.sites (lines_of run) p (message_number run (twin m.from p) m) m.from m.lo m.hi
   handed_line plan run p m h = record { from = h.from; sent = subst (λ j. streams.WasSent (lines_of run) (twin m.from p) (message_number run (twin m.from p) m) j m.lo m.hi) h.to (sent_line run (twin m.from p) h.asked m h.shown) }
+
+  -- who began t is its session
+  session_has : (run : List (Entry E)) (who : List ℕ) (t : TxId) → events.is_of run who t ≡ true → events.is_of run (session_of run t) t ≡ true
+  session_has [] who t h = h
+  session_has (e ∷ run) who t h = session_step e.event run who t h (session_has run who t)
+    where
+      session_step : (event : Event E) (run : List (Entry E)) (who : List ℕ) (t : TxId) → (events.begins_for event who t || events.is_of run who t) ≡ true → (events.is_of run who t ≡ true → events.is_of run (session_of run t) t ≡ true) → (events.begins_for event (session_after t (session_of run t) event) t || events.is_of run (session_after t (session_of run t) event) t) ≡ true
+      session_step (Began name dep u s) run who t h ih = ⊎_elim
+          (λ (k : same_tx u t ≡ true). or_left _ _ (subst (λ y. (bytes_eq name y && same_tx u t) ≡ true) (sym (cond-true _ name (session_of run t) k)) (and_from _ _ ((bytes_eq-Decides name name).1 refl) k)))
+          (λ (k : same_tx u t ≡ false).
+          let rest : events.is_of run who t ≡ true = ⊎_elim (λ (x : (bytes_eq name who && same_tx u t) ≡ true). clash (and_parts (bytes_eq name who) _ x).1 k) (λ (x : events.is_of run who t ≡ true). x) (or_cases _ _ h) in
+          or_right _ _ (subst (λ y. events.is_of run y t ≡ true) (sym (cond-false _ name (session_of run t) k)) (ih rest)))
+          (cases_Bool (same_tx u t))
+      session_step event run who t h ih = ih h
+
+  answer_line : (plan : Plan E) (run : List (Entry E)) (p : PartId) (event : Event E) → HandedAt plan run p event → IsDueAt event → answers.IsAnswer (lines_of run) p (call_of event) (step_shown run p event)
+  answer_line plan run p (Refused asked IsDown) h d = refl
+  answer_line plan run p (Refused (AskTake m) (HasGap n)) h d = tt
+  answer_line plan run p (Refused (AskTake m) (IsRepeat n)) h d = tt
+  answer_line plan run p (Refused (AskBegin who dep) ClockAtEnd) h d = tt
+  answer_line plan run p (Refused (AskPrepare t s l w) ClockAtEnd) h d = tt
+  answer_line plan run p (Refused asked (ClockBehind n)) h d = refl
+  answer_line plan run p (Refused asked (TxPending u n)) h d = refl
+  answer_line plan run p (Refused asked (StableBehind j n)) h d = tt
+  answer_line plan run p (Refused asked IsGone) h d = refl
+  answer_line plan run p (Refused asked why) h d = off d
+  answer_line plan run p (Read t s o own read value) h d = (refl, is_of_is run (session_of run t) t ∙ session_has run h.who t h.begun)
+  answer_line plan run p (Updated t s o own op read u stamp) h d = (refl, is_of_is run (session_of run t) t ∙ session_has run h.0.who t h.0.begun)
+  answer_line plan run p (Prepared t s l w n) h d = (refl, refl)
+  answer_line plan run p (Decided t c) h d = (refl, refl)
+  answer_line plan run p (Finished t c) h d = (refl, refl)
+  answer_line plan run p (Aborted t own) h d = (refl, refl)
+  answer_line plan run p (Sent asked m) h d = (refl, refl)
+  answer_line plan run p (Took m) h d = tt
+  answer_line plan run p (Cut (Decided t c)) h d = refl
+  answer_line plan run p (Cut a) h d = refl
+  answer_line plan run p event h d = refl
+
+  answer_lines : (plan : Plan E) (run : List (Entry E)) → AreHanded plan run → AreDue run → EachLine answers.IsAnswer (lines_of run)
+  answer_lines plan [] h d = tt
+  answer_lines plan (e ∷ run) h d = (answer_line plan run e.at e.event h.0 d.0, answer_lines plan run h.1 d.1)
 
   up_line : (run : List (Entry E)) (p : PartId) (event : Event E) → AnswersAsUp run p event → IsDueAt event → causes.AnswersAsUp (lines_of run) p (call_of event) (step_shown run p event)
   up_line run p (Refused asked IsDown) h d = down_is run p ∙ h
@@ -404,7 +448,7 @@ module _ {E : Type 0} where
         ∙ precedes_is u t
 
     -- what t reads at p
-    read_same : (some : List (Entry E)) → AreHanded plan some → AreNew some → (p : PartId) (t : TxId) (o : ObjectId) (part : List (Part E)) → IsPlacedAt plan p t o → IsRightFold plan run p (plan.snapshot t) o part → Same (meaning.read_by plan run some p o t part) (reads.read_by ls (lines_of some) t o)
+    read_same : (some : List (Entry E)) → AreHanded plan some → AreNew some → (p : PartId) (t : TxId) (o : ObjectId) (part : List (Part E)) → IsPlacedAt plan some p t o → IsRightFold plan run p (plan.snapshot t) o part → Same (meaning.read_by plan run some p o t part) (reads.read_by ls (lines_of some) t o)
     read_same some h n p t o part place fold =
         let hs = filter (past.visible ls (past.snapshot ls t)) (past.history ls) in
         let by_tx : TxId → List Update = λ u. updates_at_place sites parts run o u (asked_at run u (twin u.site p)) in
@@ -474,6 +518,7 @@ module _ {E : Type 0} where
 
     pub lawful_lines : IsLawfulRun kinds.meaning sites parts (lines_of run)
     lawful_lines = record {
+      answers = answer_lines plan run law.handed law.due;
       clock = clock_lines run law.clock;
       placed = placed_lines plan run law.handed;
       past = past_lines sites run law.past;

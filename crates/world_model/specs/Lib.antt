@@ -43,5 +43,6 @@ pub mod LineFresh
 pub mod LineStreams
 pub mod LineCauses
 pub mod LineReads
+pub mod LineAnswers
 pub mod LineLaw
 pub mod World

@@ -12,6 +12,7 @@ use Rattle.world_model.specs.LineHistory.{in_history, visible, snapshot, is_begu
 use Rattle.world_model.specs.LineUpdates.{takes_part, lead, IsPlaced}
 use Rattle.world_model.specs.LineCommit.{was_prepared, ShowsCommit}
 use Rattle.world_model.specs.LineReads.{IsRight}
+use Rattle.world_model.specs.LineAnswers.{IsAnswer}
 use Rattle.world_model.specs.LineFates.{ShowsFate}
 use Rattle.world_model.specs.LineFresh.{IsFresh}
 use Rattle.world_model.specs.LineStreams.{IsStream}
@@ -24,6 +25,7 @@ pub record IsAgreed (parts : ℕ) (ls : List Line) (t : TxId) : Type 0 where
 
 -- the lines show one causally consistent history, where kinds have these meanings
 pub record IsLawfulRun (meaning : Kind → List Update → Value) (sites parts : ℕ) (ls : List Line) : Type 0 where
+  pub answers : EachLine IsAnswer ls
   pub clock : FollowsClock ls
   pub placed : EachLine (IsPlaced parts) ls
   pub past : KeepsPast sites ls

@@ -44,14 +44,14 @@ EachLine P [] = ⊤
 EachLine P (l ∷ ls) = P ls l.at l.call l.step × EachLine P ls
 
 module _ {E : Type 0} where
+  abbrev pub session_after : TxId → List ℕ → Event E → List ℕ
+  session_after t old (Began who dep u s) = if same_tx u t then who else old
+  session_after t old other = old
+
   -- the session of t: who began it
   abbrev pub session_of : List (Entry E) → TxId → List ℕ
   session_of [] t = []
   session_of (e ∷ run) t = session_after t (session_of run t) e.event
-    where
-      session_after : TxId → List ℕ → Event E → List ℕ
-      session_after t old (Began who dep u s) = if same_tx u t then who else old
-      session_after t old other = old
 
   abbrev pub is_sent : Event E → Bool
   is_sent (Sent asked m) = true
