@@ -8,7 +8,7 @@ use Rattle.site_vector.specs.Ids.{same_part}
 use Rattle.site_vector.specs.Order.{same_part_refl}
 use Rattle.site_vector.specs.Vector.{entry, join}
 use Rattle.site_vector.specs.VectorLaws.{length_join}
-use Rattle.world_model.specs.Event.{AskBegin, StableBehind, Event, Ticked, Began, Updated, Read, Prepared, Decided, Finished, Aborted, Sent, Took, Reported, Heard, Crashed, Restarted, Refused, Opened, Cut, Entry, attempt, EventsAre}
+use Rattle.world_model.specs.Event.{AskBegin, StableBehind, ClockAtEnd, Event, Ticked, Began, Updated, Read, Prepared, Decided, Finished, Aborted, Sent, Took, Reported, Heard, Crashed, Restarted, Refused, Opened, Cut, Entry, attempt, EventsAre}
 use Rattle.world_model.specs.Partition.{Kinds, PartState, IsOther, known, stable_entry, lowest, vector_of, new_part, done, PartStep}
 use Rattle.world_model.specs.Plan.{Plan, IsAllowed, IsRun}
 use Rattle.world_model.specs.Shown.{bound_shown}
@@ -162,6 +162,7 @@ module _ {E : Type 0} where
     fresh_event : (event : Event E) → Fate plan run before → Leases run before → Shown plan run before → IsAllowed plan run before at (attempt event) → PartStep kinds plan.sites plan.parts at (before at) event (after at) → IsFreshAt plan run at event
     fresh_event (Began who dep t s) f l w al st = record { width = st.1.width; own = st.1.own; others = λ j o. st.1.stable j o ∙ stable_is w st.0 j o }
     fresh_event (Heard k b stable) f l w al st = stable_told k b stable f l w al st
+    fresh_event (Refused (AskBegin who dep) ClockAtEnd) f lease w al st = λ j o. subst (λ n. entry dep j ≤ n) (stable_is w st.0.0 j o) (st.0.1.0 j o)
     fresh_event (Refused (AskBegin who dep) (StableBehind j n)) f lease w al st = record {
       other = st.0.1.other;
       have = st.0.1.have ∙ stable_is w st.0.0 j st.0.1.other;

@@ -416,7 +416,9 @@ module _ {E : Type 0} where
     cause_line some p (Refused asked (StableBehind j n)) h f c w d r = off d
     cause_line some p (Refused asked IsGone) h f c w d r = off d
     cause_line some p (Refused asked (IsDamaged k)) h f c w d r = off d
-    cause_line some p (Refused asked ClockAtEnd) h f c w d r = now_is some p ∙ c
+    cause_line some p (Refused (AskBegin who dep) ClockAtEnd) h f c w d r = (now_is some p ∙ c, λ j o. subst₂ (λ x y. entry x j ≤ y) (h ∙ sym (dependency_is sites some who)) (sym (stable_is parts some p j)) (f j o))
+    cause_line some p (Refused (AskPrepare t s l us) ClockAtEnd) h f c w d r = (now_is some p ∙ c.1, subst₂ (λ x y. x ≤ y) (sym (entry_eq t p.site)) (sym (now_is some p)) c.0)
+    cause_line some p (Refused asked ClockAtEnd) h f c w d r = off d
     cause_line some p (Refused asked why) h f c w d r = tt
     cause_line some p (Cut (Decided t v)) h f c w d r = tt
     cause_line some p (Cut a) h f c w d r = tt

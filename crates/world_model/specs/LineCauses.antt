@@ -60,6 +60,12 @@ abbrev pub StableCause : ℕ → ℕ → List Line → PartId → Call → ℕ �
 StableCause sites parts before p (Begin who) j n = IsStableBehind sites parts before p who j n
 StableCause sites parts before p other j n = ⊥
 
+-- the end of time, where nothing else is due: of a begin and of a prepare
+abbrev pub TimeCause : ℕ → ℕ → List Line → List Line → PartId → Call → Type 0
+TimeCause sites parts whole before p (Begin who) = (now before p ≡ end_of_time) × ((j : ℕ) → IsOther sites p.site j → entry (dependency sites before who) j ≤ stable_entry parts before p j)
+TimeCause sites parts whole before p (PrepareOf t) = (now before p ≡ end_of_time) × (entry (snapshot whole t) p.site ≤ now before p)
+TimeCause sites parts whole before p other = ⊥
+
 -- a finish is never refused so
 abbrev pub GoneCause : List Line → List Line → PartId → Call → TxId → Type 0
 GoneCause whole before p (DecideOf u) t = (t ≡ u) × (is_known_at whole before p u ≡ false)
@@ -71,7 +77,7 @@ abbrev pub HasCause : ℕ → ℕ → List Line → List Line → PartId → Cal
 HasCause sites parts whole before p call (step.WaitClock q n) = ClockCause whole before p call n
 HasCause sites parts whole before p call (step.WaitTxn q u n) = PendingCause whole before p call u n
 HasCause sites parts whole before p call (step.WaitStable j n) = StableCause sites parts before p call j n
-HasCause sites parts whole before p call step.TimeEnd = now before p ≡ end_of_time
+HasCause sites parts whole before p call step.TimeEnd = TimeCause sites parts whole before p call
 HasCause sites parts whole before p call (step.Damaged q at) = ⊥
 HasCause sites parts whole before p call (step.Gone q t) = GoneCause whole before p call t
 HasCause sites parts whole before p (ReadOf t o) (step.Value name object value) = IsReady whole before p t o

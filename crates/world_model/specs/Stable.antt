@@ -4,7 +4,7 @@ use Rattle.site_vector.specs.declared.ids.PartId.{PartId}
 use Rattle.site_vector.specs.declared.ids.TxId.{TxId}
 use Rattle.site_vector.specs.Ids.{same_part}
 use Rattle.site_vector.specs.Vector.{entry}
-use Rattle.world_model.specs.Event.{AskBegin, StableBehind, Event, Began, Heard, Restarted, Refused, Entry}
+use Rattle.world_model.specs.Event.{AskBegin, StableBehind, ClockAtEnd, Event, Began, Heard, Restarted, Refused, Entry}
 use Rattle.world_model.specs.Partition.{IsOther, lowest}
 use Rattle.world_model.specs.Plan.{Plan}
 use Rattle.world_model.specs.Shown.{bound_shown, IsOwnBoundAt}
@@ -49,6 +49,7 @@ module _ {E : Type 0} where
   abbrev pub IsFreshAt : Plan E → List (Entry E) → PartId → Event E → Type 0
   IsFreshAt plan run p (Began who dep t s) = IsSnapshotAt plan run p dep t s
   IsFreshAt plan run p (Heard k b stable) = IsStableAt plan run p (λ q j. heard_from q j (heard_shown run p q j) (Heard k b stable)) stable
+  IsFreshAt plan run p (Refused (AskBegin who dep) ClockAtEnd) = (j : ℕ) → IsOther plan.sites p.site j → entry dep j ≤ stable_shown plan.parts run p j
   IsFreshAt plan run p (Refused (AskBegin who dep) (StableBehind j n)) = IsBehindAt plan run p dep j n
   IsFreshAt plan run p other = ⊤
 

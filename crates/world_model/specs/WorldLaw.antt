@@ -59,6 +59,7 @@ module _ {E : Type 0} where
   HasCauseAt plan run p (Refused (AskRead t s o own) (ClockBehind n)) = (n ≡ shown run p) × (n < entry (plan.snapshot t) p.site)
   HasCauseAt plan run p (Refused (AskUpdate t s o own op) (ClockBehind n)) = (reads_state o.kind ≡ true) × (n ≡ shown run p) × (n < entry (plan.snapshot t) p.site)
   HasCauseAt plan run p (Refused (AskPrepare t s l w) (ClockBehind n)) = (n ≡ shown run p) × (n < entry (plan.snapshot t) p.site)
+  HasCauseAt plan run p (Refused (AskPrepare t s l w) ClockAtEnd) = (entry (plan.snapshot t) p.site ≤ shown run p) × (shown run p ≡ end_of_time)
   HasCauseAt plan run p (Refused asked ClockAtEnd) = shown run p ≡ end_of_time
   HasCauseAt plan run p (Refused (AskFinish t c) IsGone) = ⊥
   HasCauseAt plan run p other = ⊤
