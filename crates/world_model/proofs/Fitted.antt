@@ -346,10 +346,10 @@ module _ {E S : Type 0} (kinds : Kinds S E) (plan : Plan E) (pf : PlanFits plan)
             let takes = k.fate.part at t (k.fate.was_tried at log t i parts.prepared) in
             let known = lead_good plan at log t good_log parts.prepared in
             let away : prepared_lead log t ≡ at.part → ⊥ = λ e.
-                let lead_takes = k.fate.part (plan.lead t) t (voted_tried run t (plan.lead t) all.lead) in
-                let site : (plan.lead t).site ≡ at.site = plan.at_home t (plan.lead t) lead_takes ∙ sym (plan.at_home t at takes) in
-                let same : plan.lead t ≡ at = λ j. record { site = site j; part = (sym known.0 ∙ e) j } in
-                clash (k.fate.stays log t (subst (λ q. Image (before q) log) (sym same) i) al.decided) parts.committed in
+            let lead_takes = k.fate.part (plan.lead t) t (voted_tried run t (plan.lead t) all.lead) in
+            let site : (plan.lead t).site ≡ at.site = plan.at_home t (plan.lead t) lead_takes ∙ sym (plan.at_home t at takes) in
+            let same : plan.lead t ≡ at = λ j. record { site = site j; part = (sym known.0 ∙ e) j } in
+            clash (k.fate.stays log t (subst (λ q. Image (before q) log) (sym same) i) al.decided) parts.committed in
             (and_from _ _ p (and_from _ _ (ap not (false_from_ne_true _ (λ e. away (eqb-true (prepared_lead log t) at.part e)))) (commit_fits t c p (all.all at takes) al.vector)), tt, tt)
 
     batch_good : (m : Message E) → MayTake plan run at m → MayDo kinds plan.sites plan.parts at (before at) (Took m) → (before at).up ≡ true → (xs : List (Part E)) → above m.from (entry (before at).bounds m.from) m.parts ≡ xs → GoodAfter plan at log (batch_of m (entry (before at).bounds m.from) xs)
@@ -371,34 +371,34 @@ module _ {E S : Type 0} (kinds : Kinds S E) (plan : Plan E) (pf : PlanFits plan)
         let own : (t : TxId) → lists m.parts t ≡ true → entry (vec t) m.from ≡ time_of run t = λ t h. ap (entry (vec t)) (plan.at_home t q (takes t h)) ∙ at_own plan t q (time_of run t) (takes t h) in
         let upto : (t : TxId) → lists m.parts t ≡ true → leb (entry (vec t) m.from) m.hi ≡ true = λ t h. ap (λ n. leb n m.hi) (own t h) ∙ (and_parts (ltb m.lo (time_of run t)) _ (and_parts (takes_part plan t q) _ (and_parts (is_decided run t) _ (sym (x.members t) ∙ h)).1).1).1 in
         let part : (t : TxId) → lists (y ∷ ys) t ≡ true → (t.site == m.from && (is_vector plan.sites (vec t) && (stand_at plan.parts at.part (ups t) && (ltb b (entry (vec t) m.from) && leb (entry (vec t) m.from) m.hi)))) ≡ true = λ t h.
-            let h0 = facts t h in
-            let u = takes t h0.0 in
-            and_from _ _ (eq-eqb t.site m.from (sym (plan.at_home t q u)))
-            (and_from _ _ (is_vector_from plan.sites (vec t) (length_replaced (plan.snapshot t) t.site (time_of run t) ∙ pf.width t q u) (low_set (plan.snapshot t) (t.site - 1) (time_of run t) (pf.low t) (g.times t)))
-            (and_from _ _ (pf.stand t q) (and_from _ _ h0.1 (upto t h0.0)))) in
+        let h0 = facts t h in
+        let u = takes t h0.0 in
+        and_from _ _ (eq-eqb t.site m.from (sym (plan.at_home t q u)))
+        (and_from _ _ (is_vector_from plan.sites (vec t) (length_replaced (plan.snapshot t) t.site (time_of run t) ∙ pf.width t q u) (low_set (plan.snapshot t) (t.site - 1) (time_of run t) (pf.low t) (g.times t)))
+        (and_from _ _ (pf.stand t q) (and_from _ _ h0.1 (upto t h0.0)))) in
         let test = λ (t : TxId) (c : List ℕ) (us : List (Upd E)). t.site == m.from && (is_vector plan.sites c && (stand_at plan.parts m.part us && (ltb b (entry c m.from) && leb (entry c m.from) m.hi))) in
         let all_fit : list_all (fits_part plan.sites plan.parts m') (y ∷ ys) ≡ true = all_parts vec ups test (y ∷ ys) exact (λ t h. ap (λ n. t.site == m.from && (is_vector plan.sites (vec t) && (stand_at plan.parts n (ups t) && (ltb b (entry (vec t) m.from) && leb (entry (vec t) m.from) m.hi)))) al.part ∙ part t h) in
         let apart : are_apart (y ∷ ys) ≡ true = ap are_apart (sym e) ∙ apart_above m.from b m.parts (stream_parts vec ups m.from m.parts x.exact x.order) in
         let fresh : (t : TxId) → lists (y ∷ ys) t ≡ true → is_named_in log t ≡ false = λ t h. false_from_ne_true _ (λ n.
-            let h0 = facts t h in
-            let u = takes t h0.0 in
-            let site = plan.at_home t q u in
-            let z = taken_good plan at log t good_log n (λ s. al.from.apart (site ∙ s)) in
-            let t0 = k.bounds.from at log t (image_log (before at)) z.here in
-            let w : entry (vec t) m.from ≤ bound log m.from = subst₂ (λ c j. entry c j ≤ bound log j) t0.time (sym site) z.upto in
-            let v = g.bounds at up m.from al.from in
-            let d = ltb-true b (entry (vec t) m.from) h0.1 in
-            absurd (omega arith)) in (
+        let h0 = facts t h in
+        let u = takes t h0.0 in
+        let site = plan.at_home t q u in
+        let z = taken_good plan at log t good_log n (λ s. al.from.apart (site ∙ s)) in
+        let t0 = k.bounds.from at log t (image_log (before at)) z.here in
+        let w : entry (vec t) m.from ≤ bound log m.from = subst₂ (λ c j. entry c j ≤ bound log j) t0.time (sym site) z.upto in
+        let v = g.bounds at up m.from al.from in
+        let d = ltb-true b (entry (vec t) m.from) h0.1 in
+        absurd (omega arith)) in (
           and_from _ _
-          (and_from _ _ (ap not (false_from_ne_true _ (λ s. al.from.apart (eqb-true m.from at.site s))))
-          (and_from _ _ (le-leb 1 m.from al.from.least)
-          (and_from _ _ (le-leb m.from plan.sites al.from.most)
-          (and_from _ _ (eq-eqb m.to at.site al.to)
-          (and_from _ _ (eq-eqb m.part at.part al.part)
-          (and_from _ _ (le-leb b end_of_time (omega arith))
-          (and_from _ _ (le-leb m.hi end_of_time sent_low)
-          (and_from _ _ all_fit apart))))))))
-          (and_from _ _ (le-leb (bound log m.from) b (g.bounds at up m.from al.from)) (all_parts vec ups (λ t c us. not (is_named_in log t)) (y ∷ ys) exact (λ t h. ap not (fresh t h)))),
+              (and_from _ _ (ap not (false_from_ne_true _ (λ s. al.from.apart (eqb-true m.from at.site s))))
+              (and_from _ _ (le-leb 1 m.from al.from.least)
+              (and_from _ _ (le-leb m.from plan.sites al.from.most)
+              (and_from _ _ (eq-eqb m.to at.site al.to)
+              (and_from _ _ (eq-eqb m.part at.part al.part)
+              (and_from _ _ (le-leb b end_of_time (omega arith))
+              (and_from _ _ (le-leb m.hi end_of_time sent_low)
+              (and_from _ _ all_fit apart))))))))
+              (and_from _ _ (le-leb (bound log m.from) b (g.bounds at up m.from al.from)) (all_parts vec ups (λ t c us. not (is_named_in log t)) (y ∷ ys) exact (λ t h. ap not (fresh t h)))),
           tt,
           tt,
         )
@@ -459,9 +459,9 @@ module _ {E S : Type 0} (kinds : Kinds S E) (plan : Plan E) (pf : PlanFits plan)
         (λ (k : (m.from == j) ≡ false).
         let none : bound (after at).log j ≡ bound log j = e ∙ cond-false _ (max m.hi (bound log j)) (bound log j) (λ i. (k i && is_some_part xs)) in
         let here : entry (replaced (before at).bounds m.from m.hi) j ≡ entry (before at).bounds j = ⊎_elim
-            (λ (y : entry (replaced (before at).bounds m.from m.hi) j ≡ entry (before at).bounds j). y)
-            (λ (y : (j - 1 ≡ m.from - 1) × (entry (replaced (before at).bounds m.from m.hi) j ≡ m.hi)). let a = y.0 in let c = o.least in let d = al.from.least in let same : m.from ≡ j = omega arith in clash (eq-eqb m.from j same) k)
-            (entry_cases (before at).bounds m.from m.hi j) in
+        (λ (y : entry (replaced (before at).bounds m.from m.hi) j ≡ entry (before at).bounds j). y)
+        (λ (y : (j - 1 ≡ m.from - 1) × (entry (replaced (before at).bounds m.from m.hi) j ≡ m.hi)). let a = y.0 in let c = o.least in let d = al.from.least in let same : m.from ≡ j = omega arith in clash (eq-eqb m.from j same) k)
+        (entry_cases (before at).bounds m.from m.hi j) in
         subst₂ (λ x y. x ≤ y) (sym none) (sym (v ∙ here)) old)
         (cases_Bool (m.from == j))
       where

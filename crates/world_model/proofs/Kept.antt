@@ -152,8 +152,8 @@ module _ {E : Type 0} where
   cause_event kinds plan run before q at (Refused (AskPrepare t s y w) (ClockBehind n)) f l p al st = clock_cause plan run before at t s n l p al st.0.1.0 st.0.1.1
   cause_event kinds plan run before q at (Refused (AskBegin who dep) ClockAtEnd) f l p al st = sym (l.clock at).now ∙ st.0.1.1
   cause_event kinds plan run before q at (Refused (AskPrepare t s y w) ClockAtEnd) f l p al st = (
-      subst (λ v. entry v at.site ≤ shown run at) (shown_has (IsPlanned plan) run (home t) (Began al.who al.dependency t s) p al.begun) (subst (λ n. entry s at.site ≤ n) (l.clock at).now st.0.1.0),
-      sym (l.clock at).now ∙ st.0.1.1,
+    subst (λ v. entry v at.site ≤ shown run at) (shown_has (IsPlanned plan) run (home t) (Began al.who al.dependency t s) p al.begun) (subst (λ n. entry s at.site ≤ n) (l.clock at).now st.0.1.0),
+    sym (l.clock at).now ∙ st.0.1.1,
   )
   cause_event kinds plan run before q at (Refused asked ClockAtEnd) f l p al st = absurd st.0.1
   cause_event kinds plan run before q at (Refused (AskFinish t c) IsGone) f l p al st = never_gone plan run before at t f al.0 al.1 st.0.1

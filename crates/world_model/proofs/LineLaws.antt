@@ -344,8 +344,8 @@ module _ {E : Type 0} where
           record {
             members = λ t. x.4.members t ∙ sym (ap (λ o. fates.pending_done (call_cut x.0) o t) (pending_is some p t) ∙ pend_same x.0 (pending_shown some p t) t x.2);
             times = λ t k. x.4.times t k ∙ sym (ap (λ o. fates.time_done (call_cut x.0) f.drawn o t) (prepare_time_is some p t) ∙ f.time t (pending_time some p t));
-          bounds = λ j o. x.4.bounds j o ∙ sym (ap (λ y. fates.brought_done ls (lines_of some) p j y (call_cut x.0)) (br j) ∙ brought_done_eq some p j (brought some p j) x.0 x.2 x.3 rs);
-          last = x.4.last ∙ sym (last_done_eq some p x.0 x.2);
+            bounds = λ j o. x.4.bounds j o ∙ sym (ap (λ y. fates.brought_done ls (lines_of some) p j y (call_cut x.0)) (br j) ∙ brought_done_eq some p j (brought some p j) x.0 x.2 x.3 rs);
+            last = x.4.last ∙ sym (last_done_eq some p x.0 x.2);
           },
         ))
         h
