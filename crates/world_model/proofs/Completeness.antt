@@ -250,7 +250,7 @@ module _ {E : Type 0} where
         subst₂ (λ y z. Complete plan next after at y z) same (sym (e ∙ x.1)) (up_took m al st))
         (entry_cases (before at).bounds m.from m.hi j)
     up_here (Cut a) al st j up ne = clash up (ap (λ p. p.up) st.2)
-    up_here Crashed al st j up ne = clash up (ap (λ p. p.up) st.1)
+    up_here Crashed al st j up ne = clash up (ap (λ p. p.up) st)
     up_here (Restarted n b named listed) al st j up ne =
         let one = λ (m : List (Record E)) (im : Image (after at) m). subst (λ rs. IsImage (after at).log rs m) st.whole im in
         let l = logged_step at j (after at).log (image_log (after at)) ne in
@@ -301,7 +301,7 @@ module _ {E : Type 0} where
         subst (λ y. Complete plan next after (numbered at q) j (entry y j)) (sym (e ∙ x.1)) (subst (λ z. Complete plan next after (numbered at z) j (entry (join (vector_of (before at).heard k) b) j)) same (heard_joined k b j st.0 al ne)))
         (vectors_cases (before at).heard k q (join (vector_of (before at).heard k) b))
     heard_here (Cut a) al st q j up l ne = clash up (ap (λ p. p.up) st.2)
-    heard_here Crashed al st q j up l ne = clash up (ap (λ p. p.up) st.1)
+    heard_here Crashed al st q j up l ne = clash up (ap (λ p. p.up) st)
     heard_here (Restarted n b named listed) al st q j up l ne = complete_zero (numbered at q) j _ (ap (λ x. entry (vector_of x q) j) st.heard ∙ rows_at plan.parts plan.sites (q - 1) (j - 1))
     heard_here (Refused asked why) al st q j up l ne = heard_same q j (sym (ap (λ p. p.up) st.1) ∙ up) (ap (λ p. p.heard) st.1) l ne
     heard_here (Opened who) al st q j up l ne = heard_same q j (sym (ap (λ p. p.up) st) ∙ up) (ap (λ p. p.heard) st) l ne

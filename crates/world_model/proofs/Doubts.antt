@@ -61,7 +61,7 @@ module _ {E : Type 0} where
     here : (event : Event E) → PartStep kinds plan.sites plan.parts at (before at) event (after at) → (t : TxId) → doubt_after run t (in_doubt run at t) event ≡ true → Doubtful (after at) t
     here (Cut (Decided u c)) st t h = cut_here u c st t h
     here (Cut a) st t h = clash st.0 (d.down at t h)
-    here Crashed st t h = clash st.0 (d.down at t h)
+    here Crashed st t h = record { down = ap (λ p. p.up) st; either = λ m i. d.either at t m (subst (λ p. Image p m) st i) h }
     here (Restarted n b named listed) st t h = off h
     here (Refused asked why) st t h = stays_here t h st.1
     here (Opened who) st t h = stays_here t h st

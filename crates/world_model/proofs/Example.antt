@@ -379,7 +379,6 @@ module _ {S E : Type 0} (kinds : Kinds S E) (known : kinds.has CounterPn ≡ tru
       place = place_here;
       allowed = tt;
       step = record {
-        down = refl;
         found = inr refl;
         fits = refl;
         up = refl;

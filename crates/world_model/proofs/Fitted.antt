@@ -421,7 +421,7 @@ module _ {E S : Type 0} (kinds : Kinds S E) (plan : Plan E) (pf : PlanFits plan)
 
     logs_here : (event : Event E) → IsAllowed plan run before at (attempt event) → PartStep kinds plan.sites plan.parts at (before at) event (after at) → (m : List (Record E)) → Image (after at) m → AreGood plan at m
     logs_here (Cut what) al st m i = image_good plan at log (records (before at) what) m good_log (records_good what al st.1 st.0) (subst (λ p. Image p m) st.2 i)
-    logs_here Crashed al st m i = g.logs at m (subst (λ p. Image p m) st.1 i)
+    logs_here Crashed al st m i = g.logs at m (subst (λ p. Image p m) st i)
     logs_here (Restarted n b named listed) al st m i = subst (AreGood plan at) (sym (subst (λ rs. IsImage (after at).log rs m) st.whole i)) (g.logs at (after at).log st.found)
     logs_here (Refused asked why) al st m i = g.logs at m (subst (λ p. Image p m) st.1 i)
     logs_here (Opened who) al st m i = g.logs at m (subst (λ p. Image p m) st i)
@@ -471,7 +471,7 @@ module _ {E S : Type 0} (kinds : Kinds S E) (plan : Plan E) (pf : PlanFits plan)
 
     bounds_here : (w : Shown plan run before) (event : Event E) → IsAllowed plan run before at (attempt event) → PartStep kinds plan.sites plan.parts at (before at) event (after at) → (after at).up ≡ true → (j : ℕ) → IsOther plan.sites at.site j → bound (after at).log j ≤ entry (after at).bounds j
     bounds_here w (Cut what) al st u j o = clash u (ap (λ p. p.up) st.2)
-    bounds_here w Crashed al st u j o = clash u (ap (λ p. p.up) st.1)
+    bounds_here w Crashed al st u j o = clash u (ap (λ p. p.up) st)
     bounds_here w (Restarted n b named listed) al st u j o = let e = st.bounds j o in omega arith
     bounds_here w (Refused asked why) al st u j o = subst (λ p. bound p.log j ≤ entry p.bounds j) (sym st.1) (g.bounds at (sym (ap (λ p. p.up) st.1) ∙ u) j o)
     bounds_here w (Opened who) al st u j o = subst (λ p. bound p.log j ≤ entry p.bounds j) (sym st) (g.bounds at (sym (ap (λ p. p.up) st) ∙ u) j o)

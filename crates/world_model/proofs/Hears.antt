@@ -105,7 +105,7 @@ module _ {E : Type 0} where
       told = λ q j u a b. ap (λ p. entry (vector_of p.heard q) j) st ∙ h.told at q j (sym (ap (λ p. p.up) st) ∙ u) a b;
     }
     heard_here (Cut a) al st = down_heard (Cut a) (ap (λ p. p.up) st.2)
-    heard_here Crashed al st = down_heard Crashed (ap (λ p. p.up) st.1)
+    heard_here Crashed al st = down_heard Crashed (ap (λ p. p.up) st)
     heard_here (Ticked r n) al st = same_heard (Ticked r n) st.0 (λ q j. refl) (ap (λ p. p.heard) st.2)
     heard_here (Began who dep t s) al st = same_heard (Began who dep t s) st.0 (λ q j. refl) (ap (λ p. p.heard) st.2)
     heard_here (Updated t s o own op read x stamp) al st = same_heard (Updated t s o own op read x stamp) st.0 (λ q j. refl) (ap (λ p. p.heard) st.2)

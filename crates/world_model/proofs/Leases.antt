@@ -180,7 +180,7 @@ module _ {E : Type 0} where
 
     step_clock : (p q : PartState E) (last skipped : ℕ) (a : Event E) → Clock p last skipped → PartStep kinds sites count id p a q → Clock q (shown_after last a) (missed_after skipped a)
     step_clock p q last skipped (Cut a) c s = subst (λ x. Clock x (shown_after last (Cut a)) (missed_after skipped (Cut a))) (sym s.2) (cut_clock p last skipped a c (turns p last skipped a c s.1))
-    step_clock p q last skipped Crashed c s = subst (λ x. Clock x last skipped) (sym s.1) (record { whole = λ u. absurd (clash u refl); now = c.now; below = c.below; room = c.room; capped = c.capped })
+    step_clock p q last skipped Crashed c s = subst (λ x. Clock x last skipped) (sym s) (record { whole = λ u. absurd (clash u refl); now = c.now; below = c.below; room = c.room; capped = c.capped })
     step_clock p q last skipped (Restarted n b named listed) c s =
         let one = λ (m : List (Record E)) (i : Image q m). subst (λ rs. IsImage q.log rs m) s.whole i in
         let r = c.room q.log s.found in record {
@@ -211,7 +211,7 @@ module _ {E : Type 0} where
     -- a clock never falls
     rises_at : (p q : PartState E) (last skipped : ℕ) (a : Event E) → Clock p last skipped → PartStep kinds sites count id p a q → p.now ≤ q.now
     rises_at p q last skipped (Cut a) c s = le_of_eq (sym (ap (λ x. x.now) s.2))
-    rises_at p q last skipped Crashed c s = le_of_eq (sym (ap (λ x. x.now) s.1))
+    rises_at p q last skipped Crashed c s = le_of_eq (sym (ap (λ x. x.now) s))
     rises_at p q last skipped (Restarted n b named listed) c s = subst (λ x. p.now ≤ x) (sym s.clock) (c.below q.log s.found)
     rises_at p q last skipped (Refused asked why) c s = le_of_eq (sym (ap (λ x. x.now) s.1))
     rises_at p q last skipped (Opened who) c s = le_of_eq (sym (ap (λ x. x.now) s))

@@ -180,7 +180,8 @@ module _ {E : Type 0} where
   up_line run p (Refused asked IsDown) h d = down_is run p ∙ h
   up_line run p (Refused asked (IsDamaged k)) h d = off d
   up_line run p (Refused asked why) h d = down_is run p ∙ h
-  up_line run p (Restarted n b named listed) h d = down_is run p ∙ h
+  up_line run p (Restarted n b named listed) h d = tt
+  up_line run p Crashed h d = tt
   up_line run p (Opened who) h d = tt
   up_line run p (Cut (Decided t c)) h d = down_is run p ∙ h
   up_line run p (Cut a) h d = down_is run p ∙ h

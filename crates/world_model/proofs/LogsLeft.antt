@@ -35,7 +35,7 @@ module _ {E : Type 0} {S : Type 0} (kinds : Kinds S E) (plan : Plan E) (run : Li
 
   left_here : (event : Event E) → IsAllowed plan run before at (attempt event) → PartStep kinds plan.sites plan.parts at (before at) event (after at) → (m : List (Record E)) → Image (after at) m → Left event m
   left_here (Cut a) al st m i = ((before at).log, left_log, subst (λ rs. IsImage (before at).log rs m) (same_written a al st.0) (subst (λ p. Image p m) st.2 i))
-  left_here Crashed al st m i = (m, left at m (subst (λ p. Image p m) st.1 i), refl)
+  left_here Crashed al st m i = (m, left at m (subst (λ p. Image p m) st i), refl)
   left_here (Restarted n b named listed) al st m i =
       let log = (after at).log in
       let e : m ≡ log = subst (λ rs. IsImage log rs m) st.whole i in (

@@ -196,11 +196,11 @@ module _ {E : Type 0} where
     here_crashed : Step Crashed → Here Crashed
     here_crashed s new i = record {
       old = new;
-      was = subst (λ p. Image p new) s.1 i;
+      was = subst (λ p. Image p new) s i;
       more = Lease 0;
       told = told_log new;
       because = tt;
-      downs = λ t k _. clash s.0 k;
+      downs = λ t k l. inr (ap (λ p. p.up) s, l);
     }
 
     here_restarted : (n : ℕ) (b : List ℕ) (named : Option TxId) (listed : List (TxId × ℕ)) → Step (Restarted n b named listed) → Here (Restarted n b named listed)

@@ -305,11 +305,17 @@ module _ {E : Type 0} where
         ))
         (two_images kinds plan.sites plan.parts at (before at) what m st.1 (subst (λ p. Image p m) st.2 i))
 
+    -- whatever may be found, be it up or down
+    tells_any : (m : List (Record E)) → Image (before at) m → TellsTwo plan run at m
+    tells_any m i = ⊎_elim
+        (λ (u : (before at).up ≡ true). inl (tells_up u m (alike_same m (before at).log (subst (λ rs. IsImage (before at).log rs m) ((l.clock at).whole u) i))))
+        (λ (d : (before at).up ≡ false). h.down at d m i)
+        (cases_Bool (before at).up)
+
     crashed_here : PartStep kinds plan.sites plan.parts at (before at) Crashed (after at) → (m : List (Record E)) → Image (after at) m → TellsTwo plan (next Crashed) at m
     crashed_here st m i =
         let v : SameView run (next Crashed) at = same_view run at Crashed (λ t. refl) (λ t. refl) (λ j. refl) (λ j. refl) refl in
-        let e : m ≡ (before at).log = subst (λ rs. IsImage (before at).log rs m) ((l.clock at).whole st.0) (subst (λ p. Image p m) st.1 i) in
-        inl (before_map plan run (next Crashed) at m v (tells_up st.0 m (alike_same m (before at).log e)))
+        two_map plan run (next Crashed) at m v (λ q a x. inr x) (cond-true _ _ _ (same_part_refl at)) (tells_any m (subst (λ p. Image p m) st i))
 
     stays_here : (event : Event E) → SameView run (next event) at → cut_call (next event) at ≡ cut_call run at → after at ≡ before at → (after at).up ≡ false → (m : List (Record E)) → Image (after at) m → TellsTwo plan (next event) at m
     stays_here event v c e d m i = two_map plan run (next event) at m v (λ q a x. inr x) c (h.down at (sym (ap (λ p. p.up) e) ∙ d) m (subst (λ p. Image p m) e i))
@@ -327,7 +333,7 @@ module _ {E : Type 0} where
 
     last_here : (event : Event E) → PartStep kinds plan.sites plan.parts at (before at) event (after at) → (after at).up ≡ true → last_decided (after at).log ≡ decided_after run at (last_shown run at) event
     last_here (Cut what) st u = clash u (ap (λ p. p.up) st.2)
-    last_here Crashed st u = clash u (ap (λ p. p.up) st.1)
+    last_here Crashed st u = clash u (ap (λ p. p.up) st)
     last_here (Restarted n b named listed) st u = sym st.last
     last_here (Refused asked why) st u = ap (λ p. last_decided p.log) st.1 ∙ h.decided at (sym (ap (λ p. p.up) st.1) ∙ u)
     last_here (Opened who) st u = ap (λ p. last_decided p.log) st ∙ h.decided at (sym (ap (λ p. p.up) st) ∙ u)
@@ -349,7 +355,7 @@ module _ {E : Type 0} where
 
     up_here : (event : Event E) → IsAllowed plan run before at (attempt event) → PartStep kinds plan.sites plan.parts at (before at) event (after at) → (after at).up ≡ true → (j : ℕ) → IsOther plan.sites at.site j → bound (after at).log j ≡ brought_after run at j (brought run at j) event
     up_here (Cut what) al st u j o = clash u (ap (λ p. p.up) st.2)
-    up_here Crashed al st u j o = clash u (ap (λ p. p.up) st.1)
+    up_here Crashed al st u j o = clash u (ap (λ p. p.up) st)
     up_here (Restarted n b named listed) al st u j o = sym (st.bounds j o) ∙ sym (st.shown_bounds.others j o)
     up_here (Refused asked why) al st u j o = ap (λ p. bound p.log j) st.1 ∙ h.up at (sym (ap (λ p. p.up) st.1) ∙ u) j o
     up_here (Opened who) al st u j o = ap (λ p. bound p.log j) st ∙ h.up at (sym (ap (λ p. p.up) st) ∙ u) j o
@@ -389,7 +395,7 @@ module _ {E : Type 0} where
         let times : (t : TxId) → names_pending listed t ≡ true → listed_time listed t ≡ prepare_time q.log t = λ t k. listed_is q.log listed t st.timed k in ⊎_elim
         (λ (x : TellsBefore plan run at q.log). inl (record { members = λ t. st.members t ∙ x.waits t; times = λ t k. times t k ∙ x.since t (sym (st.members t) ∙ k); bounds = λ j o. ends j o ∙ x.upto j o; last = st.last ∙ x.decided }))
         (λ (x : (what : Event E) × (cut_call run at ≡ Some what) × (is_call what ≡ true) × IsTakeable plan run at what × TellsDone plan run at what q.log). inr (x.0, x.1, x.2, x.3, record { members = λ t. st.members t ∙ x.4.waits t; times = λ t k. times t k ∙ x.4.since t (sym (st.members t) ∙ k); bounds = λ j o. ends j o ∙ x.4.upto j o; last = st.last ∙ x.4.decided }))
-        (h.down at st.down q.log st.found)
+        (tells_any q.log st.found)
     resumes_event event q st = tt
 
   resumable : {S : Type 0} (kinds : Kinds S E) (plan : Plan E) (run : List (Entry E)) (parts : PartId → PartState E) → IsRun kinds plan run parts → Resumable plan run parts

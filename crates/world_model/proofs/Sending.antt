@@ -53,7 +53,7 @@ module _ {E : Type 0} where
     here : (event : Event E) → PartStep kinds plan.sites plan.parts at (before at) event (after at) → SentHere plan run at event (after at)
     here (Sent asked m) st = sent_here asked m st
     here (Cut a) st = gone_down (Cut a) (ap (λ p. p.up) st.2)
-    here Crashed st = gone_down Crashed (ap (λ p. p.up) st.1)
+    here Crashed st = gone_down Crashed (ap (λ p. p.up) st)
     here (Restarted n b named listed) st = record { width = λ u. ap length st.sent ∙ length-replicate plan.sites 0; last = λ j u o. ap (λ v. entry v j) st.sent ∙ zeros_at plan.sites (j - 1) }
     here (Refused asked why) st = record { width = λ u. ap (λ p. length p.sent) st.1 ∙ h.width at (sym (ap (λ p. p.up) st.1) ∙ u); last = λ j u o. ap (λ p. entry p.sent j) st.1 ∙ h.last at j (sym (ap (λ p. p.up) st.1) ∙ u) o }
     here (Opened who) st = record { width = λ u. ap (λ p. length p.sent) st ∙ h.width at (sym (ap (λ p. p.up) st) ∙ u); last = λ j u o. ap (λ p. entry p.sent j) st ∙ h.last at j (sym (ap (λ p. p.up) st) ∙ u) o }

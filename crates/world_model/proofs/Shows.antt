@@ -167,7 +167,7 @@ module _ {E : Type 0} where
     here (Reported b) al st = plain (Reported b) st.0 (λ j. refl) (λ t. refl) (λ t. refl) (ap (λ p. p.bounds) st.2) (λ t. ap (λ p. pending p.log t) st.2) (λ t. ap (λ p. prepare_time p.log t) st.2)
     here (Heard q b stable) al st = plain (Heard q b stable) st.0 (λ j. refl) (λ t. refl) (λ t. refl) (ap (λ p. p.bounds) st.2) (λ t. ap (λ p. pending p.log t) st.2) (λ t. ap (λ p. prepare_time p.log t) st.2)
     here (Cut a) al st = gone_down (Cut a) (ap (λ p. p.up) st.2)
-    here Crashed al st = gone_down Crashed (ap (λ p. p.up) st.1)
+    here Crashed al st = gone_down Crashed (ap (λ p. p.up) st)
     here (Restarted n b named listed) al st = record {
       width = λ x. st.width;
       bounds = λ j x o. sym (st.shown_bounds.others j o);

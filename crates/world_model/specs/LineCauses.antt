@@ -88,9 +88,11 @@ HasCause sites parts whole before p call (step.Decided q t c) = is_known_at whol
 HasCause sites parts whole before p call (step.Finished q t) = is_known_at whole before p t ≡ true
 HasCause sites parts whole before p call other = ⊤
 
--- a partition that crashed restarts, or says that it is down; one that is up does neither. To make a session needs none
+-- a partition that crashed says that it is down until it restarts; one that is up never does. Both may crash and restart, and to
+-- make a session needs none
 abbrev pub AnswersAsUp : List Line → PartId → Call → Step → Type 0
-AnswersAsUp before p call (step.Restarted q n bounds named listed) = is_down before p ≡ true
+AnswersAsUp before p call (step.Restarted q n bounds named listed) = ⊤
+AnswersAsUp before p call (step.Crashed q) = ⊤
 AnswersAsUp before p call (step.Down q) = is_down before p ≡ true
 AnswersAsUp before p call (step.Damaged q at) = is_down before p ≡ true
 AnswersAsUp before p call (step.MadeSession name site) = ⊤

@@ -333,9 +333,8 @@ module _ {E : Type 0} where
   IsRefused kinds sites parts id p AskRestart (IsDamaged at) = IsUnfit sites parts id p at
   IsRefused kinds sites parts id p asked why = (p.up ≡ true) × IsDue kinds sites parts id p asked why
 
-  -- a restart reads the log again and forgets the rest
+  -- a restart reads the log again and forgets the rest; one that is up acts as if it had crashed
   pub record IsRestart (sites parts : ℕ) (id : PartId) (p : PartState E) (n : ℕ) (b : List ℕ) (named : Option TxId) (listed : List (TxId × ℕ)) (q : PartState E) : Type 0 where
-    pub down : p.up ≡ false
     pub found : Image p q.log
     pub fits : unfit sites parts id q.log ≡ None
     pub up : q.up ≡ true
@@ -355,7 +354,8 @@ module _ {E : Type 0} where
   -- a step of one partition: the relation of its calls
   abbrev pub PartStep : {S : Type 0} → Kinds S E → ℕ → ℕ → PartId → PartState E → Event E → PartState E → Type 0
   PartStep kinds sites parts id p (Cut what) q = (p.up ≡ true) × MayDo kinds sites parts id p what × (q ≡ cut p what)
-  PartStep kinds sites parts id p Crashed q = (p.up ≡ true) × (q ≡ down p p.torn)
+  -- also where it is down already
+  PartStep kinds sites parts id p Crashed q = q ≡ down p p.torn
   PartStep kinds sites parts id p (Restarted n b named listed) q = IsRestart sites parts id p n b named listed q
   PartStep kinds sites parts id p (Opened who) q = q ≡ p
   PartStep kinds sites parts id p (Refused asked why) q = IsRefused kinds sites parts id p asked why × (q ≡ p)
