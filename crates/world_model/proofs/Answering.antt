@@ -2,7 +2,7 @@
 use Rattle.std.proofs.Common.{◌≡◌, ℕ, true, List, [], ◌∷◌, None, Some, refl, sym, ◌∙◌}
 use Rattle.std.specs.Prelude.{⊤}
 use Rattle.site_vector.specs.declared.ids.PartId.{PartId}
-use Rattle.world_model.specs.Event.{AskBegin, AskRead, AskUpdate, AskPrepare, AskDecide, AskFinish, AskAbort, AskTake, AskRestart, IsDown, ClockBehind, TxPending, StableBehind, ClockAtEnd, IsGone, HasGap, IsRepeat, IsDamaged, Event, Updated, Read, Refused, Entry, EventsAre}
+use Rattle.world_model.specs.Event.{AskBegin, AskRead, AskUpdate, AskPrepare, AskDecide, AskFinish, AskAbort, AskTake, AskRestart, IsDown, ClockBehind, TxPending, StableBehind, ClockAtEnd, IsGone, HasGap, IsRepeat, IsBadOp, IsDamaged, Event, Updated, Read, Refused, Entry, EventsAre}
 use Rattle.crdt_core.specs.declared.record.Record.{Record}
 use Rattle.world_model.specs.Fitting.{unfit}
 use Rattle.world_model.specs.Partition.{Kinds, PartState, Image, PartStep}
@@ -28,6 +28,7 @@ module _ {E : Type 0} {S : Type 0} (kinds : Kinds S E) where
   due_event plan run at p q (Refused (AskDecide t c) IsGone) fit st h = refl
   due_event plan run at p q (Refused (AskAbort t) IsGone) fit st h = refl
   due_event plan run at p q (Refused (AskFinish t c) IsGone) fit st h = absurd h
+  due_event plan run at p q (Refused (AskUpdate t s o own op) IsBadOp) fit st h = refl
   due_event plan run at p q (Refused (AskTake m) (HasGap n)) fit st h = refl
   due_event plan run at p q (Refused (AskTake m) (IsRepeat n)) fit st h = refl
   due_event plan run at p q (Refused AskRestart (IsDamaged k)) fit st h = absurd (none_some k (sym (fit st.0.log st.0.found) ∙ st.0.first))
@@ -40,7 +41,10 @@ module _ {E : Type 0} {S : Type 0} (kinds : Kinds S E) where
 
   known_event : (sites parts : ℕ) (at : PartId) (p q : PartState E) (event : Event E) → PartStep kinds sites parts at p event q → IsKnown kinds at event
   known_event sites parts at p q (Read t s o own read value) st = st.1.2
-  known_event sites parts at p q (Updated t s o own op read u stamp) st = st.1.known
+  known_event sites parts at p q (Updated t s o own op read u stamp) st = (st.1.known, st.1.fits)
+  known_event sites parts at p q (Refused (AskUpdate t s o own op) IsBadOp) st = st.0.1
+  known_event sites parts at p q (Refused (AskUpdate t s o own op) (ClockBehind n)) st = st.0.1.3
+  known_event sites parts at p q (Refused (AskUpdate t s o own op) (TxPending u n)) st = st.0.1.2
   known_event sites parts at p q event st = tt
 
   pub known_events : (plan : Plan E) (run : List (Entry E)) (parts : PartId → PartState E) → IsRun kinds plan run parts → EventsAre (IsKnown kinds) run

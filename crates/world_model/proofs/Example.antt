@@ -512,7 +512,7 @@ module _ {S E : Type 0} (kinds : Kinds S E) (known : kinds.has CounterPn ≡ tru
   is_lawful : IsLawfulWorld kinds (plan_of 2 1 r12) r12
   is_lawful = (law_world kinds 2 1 r12 p12 run12).0
 
-  lines_are_lawful : IsLawfulRun kinds.meaning 2 1 (lines_of r12)
+  lines_are_lawful : IsLawfulRun kinds.too_deep kinds.meaning 2 1 (lines_of r12)
   lines_are_lawful = (law_world kinds 2 1 r12 p12 run12).2
 
   -- what the run shows, the first line first

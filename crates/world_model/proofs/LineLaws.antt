@@ -19,7 +19,7 @@ use Rattle.crdt_core.specs.Same.{Same}
 use Rattle.crdt_core.specs.Stamps.{stamp_due}
 use Rattle.world_model.specs.Log as log
 use Rattle.world_model.specs.Log.{end_of_time, lists}
-use Rattle.world_model.specs.Event.{AskBegin, AskRead, AskUpdate, AskPrepare, AskDecide, AskAbort, AskTake, AskRestart, IsDown, ClockBehind, TxPending, StableBehind, ClockAtEnd, IsGone, HasGap, IsRepeat, IsDamaged, Event, Ticked, Began, Updated, Read, Prepared, Decided, Finished, Aborted, Sent, Took, Reported, Heard, Crashed, Restarted, Refused, Opened, Cut, Entry, EventsAre, WasShown, is_abort, was_aborted, voted, is_decided, time_of, shown, missed}
+use Rattle.world_model.specs.Event.{AskBegin, AskRead, AskUpdate, AskPrepare, AskDecide, AskAbort, AskTake, AskRestart, IsDown, ClockBehind, TxPending, StableBehind, ClockAtEnd, IsGone, HasGap, IsRepeat, IsBadOp, IsDamaged, Event, Ticked, Began, Updated, Read, Prepared, Decided, Finished, Aborted, Sent, Took, Reported, Heard, Crashed, Restarted, Refused, Opened, Cut, Entry, EventsAre, WasShown, is_abort, was_aborted, voted, is_decided, time_of, shown, missed}
 use Rattle.world_model.specs.Partition.{Kinds, lowest, pending_cmp}
 use Rattle.world_model.specs.Plan.{Plan, first_of, home, twin, is_some_update, takes_part, commit_vector, MayTake}
 use Rattle.world_model.specs.Commit.{partitions}
@@ -48,6 +48,7 @@ use Rattle.world_model.specs.LineUpdates.{IsPlaced}
 use Rattle.world_model.specs.LineCommit as commit
 use Rattle.world_model.specs.LineReads as reads
 use Rattle.world_model.specs.LineAnswers as answers
+use Rattle.world_model.specs.LineOps as ops
 use Rattle.world_model.specs.LineFates as fates
 use Rattle.world_model.specs.LineFresh as fresh
 use Rattle.world_model.specs.LineStreams as streams
@@ -153,6 +154,7 @@ module _ {E : Type 0} where
   answer_line plan run p (Refused asked IsDown) h d = refl
   answer_line plan run p (Refused (AskTake m) (HasGap n)) h d = tt
   answer_line plan run p (Refused (AskTake m) (IsRepeat n)) h d = tt
+  answer_line plan run p (Refused (AskUpdate t s o own op) IsBadOp) h d = tt
   answer_line plan run p (Refused (AskBegin who dep) ClockAtEnd) h d = tt
   answer_line plan run p (Refused (AskPrepare t s l w) ClockAtEnd) h d = tt
   answer_line plan run p (Refused asked (ClockBehind n)) h d = refl
@@ -175,6 +177,21 @@ module _ {E : Type 0} where
   answer_lines : (plan : Plan E) (run : List (Entry E)) → AreHanded plan run → AreDue run → EachLine answers.IsAnswer (lines_of run)
   answer_lines plan [] h d = tt
   answer_lines plan (e ∷ run) h d = (answer_line plan run e.at e.event h.0 d.0, answer_lines plan run h.1 d.1)
+
+  op_line : {S : Type 0} (kinds : Kinds S E) (run : List (Entry E)) (p : PartId) (event : Event E) → IsKnown kinds p event → ops.HasOp kinds.too_deep (lines_of run) p (call_of event) (step_shown run p event)
+  op_line kinds run p (Updated t s o own op read u stamp) k = k.1
+  op_line kinds run p (Refused (AskUpdate t s o own op) IsBadOp) k = k
+  op_line kinds run p (Refused (AskUpdate t s o own op) (ClockBehind n)) k = k
+  op_line kinds run p (Refused (AskUpdate t s o own op) (TxPending u n)) k = k
+  op_line kinds run p (Refused asked IsDown) k = tt
+  op_line kinds run p (Refused asked why) k = tt
+  op_line kinds run p (Cut (Decided t c)) k = tt
+  op_line kinds run p (Cut a) k = tt
+  op_line kinds run p event k = tt
+
+  op_lines : {S : Type 0} (kinds : Kinds S E) (run : List (Entry E)) → EventsAre (IsKnown kinds) run → EachLine (ops.HasOp kinds.too_deep) (lines_of run)
+  op_lines kinds [] k = tt
+  op_lines kinds (e ∷ run) k = (op_line kinds run e.at e.event k.0, op_lines kinds run k.1)
 
   up_line : (run : List (Entry E)) (p : PartId) (event : Event E) → AnswersAsUp run p event → IsDueAt event → causes.AnswersAsUp (lines_of run) p (call_of event) (step_shown run p event)
   up_line run p (Refused asked IsDown) h d = down_is run p ∙ h
@@ -519,7 +536,7 @@ module _ {E : Type 0} where
       transitive = λ t u w h k. closed_lines (past.snapshot (lines_of run) w) t u k h;
     }
 
-    pub lawful_lines : IsLawfulRun kinds.meaning sites parts (lines_of run)
+    pub lawful_lines : IsLawfulRun kinds.too_deep kinds.meaning sites parts (lines_of run)
     lawful_lines = record {
       answers = answer_lines plan run law.handed law.due;
       clock = clock_lines run law.clock;
@@ -532,6 +549,7 @@ module _ {E : Type 0} where
       fates = fate_lines run (shown_all run) law.clock law.shown law.resumed law.decided_stay law.doubts law.handed law.right;
       streams = stream_lines run law.handed law.sends law.shown law.due law.right;
       causes = cause_lines run law.handed law.fresh law.causes law.shown law.due law.right;
+      ops = op_lines kinds run law.known;
       ups = up_lines run law.downs law.due;
       order = order_lines;
       closed = λ t h. closed_lines (past.snapshot (lines_of run) t);

@@ -41,6 +41,8 @@ pub data Refusal : Type 0 where
   -- the receiver has this bound: the message starts above it, or ends at or below it
   HasGap : (have : ℕ) → Refusal
   IsRepeat : (have : ℕ) → Refusal
+  -- the operation isn't one of the kind, or leads deeper than the type reaches
+  IsBadOp : Refusal
   -- the record with this number, from 0, isn't one of the partition's
   IsDamaged : (at : ℕ) → Refusal
 

@@ -44,5 +44,6 @@ pub mod LineStreams
 pub mod LineCauses
 pub mod LineReads
 pub mod LineAnswers
+pub mod LineOps
 pub mod LineLaw
 pub mod World

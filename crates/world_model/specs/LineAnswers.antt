@@ -32,6 +32,7 @@ IsAnswer before p Open (step.MadeSession name site) = site ≡ p.site
 IsAnswer before p call (step.WaitClock q n) = q ≡ p
 IsAnswer before p call (step.WaitTxn q u n) = q ≡ p
 IsAnswer before p call (step.WaitStable j n) = ⊤
+IsAnswer before p (UpdateOf t o op) step.BadOp = ⊤
 IsAnswer before p (Begin who) step.TimeEnd = ⊤
 IsAnswer before p (PrepareOf t) step.TimeEnd = ⊤
 IsAnswer before p call (step.Gone q t) = q ≡ p

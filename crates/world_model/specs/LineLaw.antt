@@ -1,8 +1,9 @@
 -- What a lawful run is, over its lines.
-use Rattle.std.specs.Prelude.{◌≡◌, ℕ, true, List}
+use Rattle.std.specs.Prelude.{◌≡◌, ℕ, Bool, true, List}
 use Rattle.site_vector.specs.declared.ids.PartId.{PartId}
 use Rattle.site_vector.specs.declared.ids.TxId.{TxId}
 use Rattle.crdt_core.specs.declared.kind.Kind.{Kind}
+use Rattle.crdt_core.specs.declared.object.Field.{Field}
 use Rattle.crdt_core.specs.declared.value.Value.{Value}
 use Rattle.crdt_core.specs.Seen.{Update}
 use Rattle.world_model.specs.Lines.{Line, EachLine}
@@ -13,6 +14,7 @@ use Rattle.world_model.specs.LineUpdates.{takes_part, lead, IsPlaced}
 use Rattle.world_model.specs.LineCommit.{was_prepared, ShowsCommit}
 use Rattle.world_model.specs.LineReads.{IsRight}
 use Rattle.world_model.specs.LineAnswers.{IsAnswer}
+use Rattle.world_model.specs.LineOps.{HasOp}
 use Rattle.world_model.specs.LineFates.{ShowsFate}
 use Rattle.world_model.specs.LineFresh.{IsFresh}
 use Rattle.world_model.specs.LineStreams.{IsStream}
@@ -23,8 +25,8 @@ pub record IsAgreed (parts : ℕ) (ls : List Line) (t : TxId) : Type 0 where
   pub at_lead : takes_part ls t (lead parts ls t) ≡ true
   pub votes : (q : PartId) → takes_part ls t q ≡ true → was_prepared ls t q ≡ true
 
--- the lines show one causally consistent history, where kinds have these meanings
-pub record IsLawfulRun (meaning : Kind → List Update → Value) (sites parts : ℕ) (ls : List Line) : Type 0 where
+-- the lines show one causally consistent history, where kinds have these meanings, and objects reach so deep
+pub record IsLawfulRun (too_deep : Kind → List Field → Bool) (meaning : Kind → List Update → Value) (sites parts : ℕ) (ls : List Line) : Type 0 where
   pub answers : EachLine IsAnswer ls
   pub clock : FollowsClock ls
   pub placed : EachLine (IsPlaced parts) ls
@@ -37,6 +39,7 @@ pub record IsLawfulRun (meaning : Kind → List Update → Value) (sites parts :
   pub fates : EachLine (ShowsFate sites parts ls) ls
   pub streams : EachLine (IsStream sites ls) ls
   pub causes : EachLine (HasCause sites parts ls) ls
+  pub ops : EachLine (HasOp too_deep) ls
   pub ups : EachLine AnswersAsUp ls
   pub order : IsStrictOrder ls
   -- what a transaction reads from is closed

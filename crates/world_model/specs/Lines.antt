@@ -9,7 +9,7 @@ use Rattle.crdt_core.specs.declared.operation.Op.{Op}
 use Rattle.crdt_core.specs.declared.record.Message.{Message}
 use Rattle.world_model.specs.declared.step.Step.{Step}
 use Rattle.world_model.specs.declared.step.Step.TheVariants as step
-use Rattle.world_model.specs.Event.{Ask, AskTick, AskBegin, AskRead, AskUpdate, AskPrepare, AskDecide, AskFinish, AskAbort, AskMessage, AskTake, AskReport, AskHear, AskRestart, Refusal, IsDown, ClockBehind, TxPending, StableBehind, ClockAtEnd, IsGone, HasGap, IsRepeat, IsDamaged, Event, Ticked, Began, Updated, Read, Prepared, Decided, Finished, Aborted, Sent, Took, Reported, Heard, Crashed, Restarted, Refused, Opened, Cut, Entry}
+use Rattle.world_model.specs.Event.{Ask, AskTick, AskBegin, AskRead, AskUpdate, AskPrepare, AskDecide, AskFinish, AskAbort, AskMessage, AskTake, AskReport, AskHear, AskRestart, Refusal, IsDown, ClockBehind, TxPending, StableBehind, ClockAtEnd, IsGone, HasGap, IsRepeat, IsBadOp, IsDamaged, Event, Ticked, Began, Updated, Read, Prepared, Decided, Finished, Aborted, Sent, Took, Reported, Heard, Crashed, Restarted, Refused, Opened, Cut, Entry}
 use Rattle.world_model.specs.Plan.{twin}
 
 -- what a partition was asked: a run of the world holds no commands
@@ -151,6 +151,7 @@ module _ {E : Type 0} where
   refusal_shown run p asked IsGone = step.Gone p (tx_asked asked)
   refusal_shown run p asked (HasGap n) = step.Gap (number_asked run p asked) n
   refusal_shown run p asked (IsRepeat n) = step.Dup (number_asked run p asked) n
+  refusal_shown run p asked IsBadOp = step.BadOp
   refusal_shown run p asked (IsDamaged k) = step.Damaged p k
 
   -- a call that was cut off: a decide leaves its transaction in doubt

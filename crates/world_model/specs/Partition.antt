@@ -27,7 +27,7 @@ use Rattle.crdt_core.specs.Seen.{Update}
 use Rattle.crdt_core.specs.History.{folded}
 use Rattle.crdt_core.specs.Law.{KeepsLaw}
 use Rattle.world_model.specs.Log.{end_of_time, touches, lists, ceiling, prepare_time, prepared_changes, committed, committed_at, pending, last_decided, bound, holds, held_at, held_changes, grown, IsImage}
-use Rattle.world_model.specs.Event.{Ask, AskBegin, AskRead, AskUpdate, AskPrepare, AskDecide, AskFinish, AskAbort, AskTake, AskRestart, Refusal, IsDown, ClockBehind, TxPending, StableBehind, ClockAtEnd, IsGone, HasGap, IsRepeat, IsDamaged, Event, Refused, Ticked, Began, Updated, Read, Prepared, Decided, Finished, Aborted, Sent, Took, Reported, Heard, Crashed, Restarted, Opened, Cut}
+use Rattle.world_model.specs.Event.{Ask, AskBegin, AskRead, AskUpdate, AskPrepare, AskDecide, AskFinish, AskAbort, AskTake, AskRestart, Refusal, IsDown, ClockBehind, TxPending, StableBehind, ClockAtEnd, IsGone, HasGap, IsRepeat, IsBadOp, IsDamaged, Event, Refused, Ticked, Began, Updated, Read, Prepared, Decided, Finished, Aborted, Sent, Took, Reported, Heard, Crashed, Restarted, Opened, Cut}
 use Rattle.world_model.specs.Fitting.{unfit}
 
 -- what the kinds of objects do, under the law of a kind: the trait `Crdt` of whoever stores them
@@ -309,8 +309,9 @@ module _ {E : Type 0} where
   IsDue kinds sites parts id p (AskBegin who dep) ClockAtEnd = IsStableEnough sites parts id p dep × (p.now ≡ end_of_time)
   IsDue kinds sites parts id p (AskRead t s o own) (ClockBehind n) = (n ≡ p.now) × (n < entry s id.site)
   IsDue kinds sites parts id p (AskRead t s o own) (TxPending u n) = IsTxPending id p s o u n
-  IsDue kinds sites parts id p (AskUpdate t s o own op) (ClockBehind n) = (reads_state o.kind ≡ true) × (n ≡ p.now) × (n < entry s id.site)
-  IsDue kinds sites parts id p (AskUpdate t s o own op) (TxPending u n) = (reads_state o.kind ≡ true) × IsTxPending id p s o u n
+  IsDue kinds sites parts id p (AskUpdate t s o own op) IsBadOp = (fits o.kind op.path op.act && not (kinds.too_deep o.kind op.path)) ≡ false
+  IsDue kinds sites parts id p (AskUpdate t s o own op) (ClockBehind n) = (reads_state o.kind ≡ true) × (n ≡ p.now) × (n < entry s id.site) × ((fits o.kind op.path op.act && not (kinds.too_deep o.kind op.path)) ≡ true)
+  IsDue kinds sites parts id p (AskUpdate t s o own op) (TxPending u n) = (reads_state o.kind ≡ true) × IsTxPending id p s o u n × ((fits o.kind op.path op.act && not (kinds.too_deep o.kind op.path)) ≡ true)
   IsDue kinds sites parts id p (AskPrepare t s l w) (ClockBehind n) = (n ≡ p.now) × (n < entry s id.site)
   IsDue kinds sites parts id p (AskPrepare t s l w) ClockAtEnd = (entry s id.site ≤ p.now) × (p.now ≡ end_of_time)
   IsDue kinds sites parts id p (AskDecide t c) IsGone = (pending p.log t || committed p.log t) ≡ false
