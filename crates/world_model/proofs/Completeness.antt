@@ -10,7 +10,7 @@ use Rattle.crdt_core.specs.declared.record.Message.{Message}
 use Rattle.crdt_core.specs.declared.record.Record.{Record}
 use Rattle.crdt_core.specs.declared.record.Record.TheVariants.{Lease, Prepare, Decide, Finish, Abort, Batch}
 use Rattle.world_model.specs.Log.{lists, vector_in, changes_in, taken, taken_at, taken_changes, bound, grown, IsImage}
-use Rattle.world_model.specs.Event.{Refused, Event, Ticked, Began, Updated, Read, Prepared, Decided, Finished, Aborted, Sent, Took, Reported, Heard, Crashed, Restarted, Cut, Entry, attempt, is_decided, time_of, sent, EventsAre}
+use Rattle.world_model.specs.Event.{Refused, Event, Ticked, Began, Updated, Read, Prepared, Decided, Finished, Aborted, Sent, Took, Reported, Heard, Crashed, Restarted, Opened, Cut, Entry, attempt, is_decided, time_of, sent, EventsAre}
 use Rattle.world_model.specs.Partition.{Kinds, PartState, Image, IsOther, AreParts, IsBegin, above, batch_of, known, vector_of, done, PartStep}
 use Rattle.world_model.specs.Plan.{Plan, takes_part, twin, changes_at, vector_at, commit_vector, IsAllowed, MayTake, MayHear}
 use Rattle.world_model.specs.WorldLaw.{IsExact}
@@ -250,7 +250,7 @@ module _ {E : Type 0} where
         subst₂ (λ y z. Complete plan next after at y z) same (sym (e ∙ x.1)) (up_took m al st))
         (entry_cases (before at).bounds m.from m.hi j)
     up_here (Cut a) al st j up ne = clash up (ap (λ p. p.up) st.2)
-    up_here Crashed al st j up ne = clash up (ap (λ p. p.up) st.1)
+    up_here Crashed al st j up ne = clash up (ap (λ p. p.up) st)
     up_here (Restarted n b named listed) al st j up ne =
         let one = λ (m : List (Record E)) (im : Image (after at) m). subst (λ rs. IsImage (after at).log rs m) st.whole im in
         let l = logged_step at j (after at).log (image_log (after at)) ne in
@@ -259,6 +259,7 @@ module _ {E : Type 0} where
           held = λ m t im h q u le. subst (λ x. taken x t ≡ true) (sym (one m im)) (l.held t h q u le);
         })
     up_here (Refused asked why) al st j up ne = up_same j (sym (ap (λ p. p.up) st.1) ∙ up) (ap (λ p. entry p.bounds j) st.1) ne
+    up_here (Opened who) al st j up ne = up_same j (sym (ap (λ p. p.up) st) ∙ up) (ap (λ p. entry p.bounds j) st) ne
     up_here (Ticked r n) al st j up ne = up_same j st.0 (ap (λ p. entry p.bounds j) st.2) ne
     up_here (Began who dep t c) al st j up ne = up_same j st.0 (ap (λ p. entry p.bounds j) st.2) ne
     up_here (Updated t c o own op read u stamp) al st j up ne = up_same j st.0 (ap (λ p. entry p.bounds j) st.2) ne
@@ -300,9 +301,10 @@ module _ {E : Type 0} where
         subst (λ y. Complete plan next after (numbered at q) j (entry y j)) (sym (e ∙ x.1)) (subst (λ z. Complete plan next after (numbered at z) j (entry (join (vector_of (before at).heard k) b) j)) same (heard_joined k b j st.0 al ne)))
         (vectors_cases (before at).heard k q (join (vector_of (before at).heard k) b))
     heard_here (Cut a) al st q j up l ne = clash up (ap (λ p. p.up) st.2)
-    heard_here Crashed al st q j up l ne = clash up (ap (λ p. p.up) st.1)
+    heard_here Crashed al st q j up l ne = clash up (ap (λ p. p.up) st)
     heard_here (Restarted n b named listed) al st q j up l ne = complete_zero (numbered at q) j _ (ap (λ x. entry (vector_of x q) j) st.heard ∙ rows_at plan.parts plan.sites (q - 1) (j - 1))
     heard_here (Refused asked why) al st q j up l ne = heard_same q j (sym (ap (λ p. p.up) st.1) ∙ up) (ap (λ p. p.heard) st.1) l ne
+    heard_here (Opened who) al st q j up l ne = heard_same q j (sym (ap (λ p. p.up) st) ∙ up) (ap (λ p. p.heard) st) l ne
     heard_here (Ticked r n) al st q j up l ne = heard_same q j st.0 (ap (λ p. p.heard) st.2) l ne
     heard_here (Began who dep t c) al st q j up l ne = heard_same q j st.0 (ap (λ p. p.heard) st.2) l ne
     heard_here (Updated t c o own op read u stamp) al st q j up l ne = heard_same q j st.0 (ap (λ p. p.heard) st.2) l ne

@@ -1,11 +1,16 @@
--- A run of the world with any kinds that have counters: a decide that a crash cut off was done, and both sites see it.
+-- A run of the world with any kinds that have counters: a read waits for a vote, a decide that a crash cut off was done, one message
+-- is lost and one repeated, a session moves, and reads at the other site what the crash nearly took.
 use Rattle.std.proofs.Common.{◌≡◌, ◌≢◌, ⊎_elim, inl, inr, ℕ, ◌≤◌, cond, leb, ltb, Bool, true, false, not, ◌&&◌, ◌||◌, List, [], ◌∷◌, None, Some, refl, sym, subst, arith, lit≤, lit<, le_refl}
-use Rattle.std.specs.Prelude.{if◌then◌else◌, pos}
+use Rattle.std.specs.Prelude.{if◌then◌else◌, pos, map, reverse}
+use Rattle.world_model.specs.declared.step.Step.TheVariants as step
+use Rattle.world_model.specs.Lines.{lines_of}
+use Rattle.world_model.specs.LineLaw.{IsLawfulRun}
+use Rattle.std.specs.declared.cmp.Ordering.TheVariants.{Less}
 use Rattle.std.proofs.lemmas.Bool.{cases_Bool, cond-false, or_from, and_right}
 use Rattle.site_vector.specs.declared.ids.PartId.{PartId}
 use Rattle.site_vector.specs.declared.ids.TxId.{TxId}
 use Rattle.site_vector.specs.Ids.{same_part, same_tx}
-use Rattle.site_vector.specs.Order.{same_part_is}
+use Rattle.site_vector.specs.Order.{same_part_is, same_tx_is}
 use Rattle.site_vector.specs.Vector.{le, entry}
 use Rattle.crdt_core.specs.declared.kind.Kind.TheVariants.{CounterPn}
 use Rattle.crdt_core.specs.declared.object.ObjectId.{ObjectId}
@@ -16,14 +21,14 @@ use Rattle.crdt_core.specs.declared.record.Upd.{Upd}
 use Rattle.crdt_core.specs.declared.record.Part.{Part}
 use Rattle.crdt_core.specs.declared.record.Message.{Message}
 use Rattle.crdt_core.specs.declared.record.Record.TheVariants.{Decide}
-use Rattle.world_model.specs.Log.{touches, bound}
-use Rattle.world_model.specs.Event.{Event, Began, Updated, Read, Prepared, Decided, Sent, Took, Reported, Heard, Restarted, Refused, Cut, Entry, AskTake, AskRead, IsRepeat, ClockBehind, voted}
-use Rattle.world_model.specs.Partition.{Kinds, PartState, IsOther, IsOwnBound, stable_entry, new_part, done, cut, state_read}
+use Rattle.world_model.specs.Log.{touches, prepare_time, pending, bound}
+use Rattle.world_model.specs.Event.{Event, Began, Updated, Read, Prepared, Decided, Sent, Took, Reported, Heard, Restarted, Refused, Opened, Cut, Entry, AskTake, AskRead, IsRepeat, TxPending, voted}
+use Rattle.world_model.specs.Partition.{Kinds, PartState, IsOther, IsOwnBound, stable_entry, pending_cmp, new_part, done, cut, state_read}
 use Rattle.world_model.specs.Plan.{is_some_update, IsPlace, takes_part}
 use Rattle.world_model.specs.World.{plan_of, is_own, IsWorldRun}
 use Rattle.world_model.specs.LawfulWorld.{IsLawfulWorld}
 use Rattle.world_model.proofs.Names.{clash, off, part_other}
-use Rattle.world_model.proofs.Whole.{law_world}
+use Rattle.world_model.proofs.Law.{law_world}
 
 -- one partition at each of two sites
 abbrev here : PartId
@@ -38,15 +43,15 @@ counter = record { bucket = 98 ∷ []; key = 107 ∷ []; kind = CounterPn }
 abbrev more : Op
 more = record { path = []; act = Increment (pos 1) }
 
--- of the first site; of a session that moved from there to the second; of one that is ahead of the clock
+-- of the first site; of a session that waits there; of the first session, once it moved to the second site
 abbrev first : TxId
 first = record { site = 1; part = 1; time = 1 }
 
+abbrev waiting : TxId
+waiting = record { site = 1; part = 1; time = 3 }
+
 abbrev moved : TxId
 moved = record { site = 2; part = 1; time = 1 }
-
-abbrev ahead : TxId
-ahead = record { site = 2; part = 1; time = 2 }
 
 abbrev snapshot1 : List ℕ
 snapshot1 = 1 ∷ 0 ∷ []
@@ -58,7 +63,14 @@ abbrev snapshot2 : List ℕ
 snapshot2 = 1001 ∷ 1 ∷ []
 
 abbrev snapshot3 : List ℕ
-snapshot3 = 1001 ∷ 5000 ∷ []
+snapshot3 = 3 ∷ 0 ∷ []
+
+-- two sessions
+abbrev ann : List ℕ
+ann = 97 ∷ []
+
+abbrev ben : List ℕ
+ben = 98 ∷ []
 
 -- the other of two sites
 other_of_first : (j : ℕ) → IsOther 2 1 j → j ≡ 2
@@ -80,6 +92,10 @@ none_left false = refl
 in_stretch : (b : Bool) → (b || false) ≡ ((b || false) && (ltb 0 (entry (cond b vector1 []) 1) && leb (entry (cond b vector1 []) 1) 1001))
 in_stretch true = refl
 in_stretch false = refl
+
+past_stretch : (b : Bool) → false ≡ ((b || false) && (ltb 1001 (entry (cond b vector1 []) 1) && leb (entry (cond b vector1 []) 1) 1001))
+past_stretch true = refl
+past_stretch false = refl
 
 second_of_first : IsOther 2 1 2
 second_of_first = record { least = lit≤ tt; most = lit≤ tt; apart = λ e. absurd (omega arith) }
@@ -111,13 +127,22 @@ module _ {S E : Type 0} (kinds : Kinds S E) (known : kinds.has CounterPn ≡ tru
   message = record { from = 1; to = 2; part = 1; lo = 0; hi = 1001; parts = part ∷ [] }
 
   abbrev e1 : Event E
-  e1 = Began [] (0 ∷ 0 ∷ []) first snapshot1
+  e1 = Began ann (0 ∷ 0 ∷ []) first snapshot1
 
   abbrev e2 : Event E
   e2 = Updated first snapshot1 counter [] more [] change (kinds.stamp_of change.effect)
 
   abbrev e3 : Event E
   e3 = Prepared first snapshot1 1 (change ∷ []) 2
+
+  abbrev e3a : Event E
+  e3a = Opened ben
+
+  abbrev e3b : Event E
+  e3b = Began ben (0 ∷ 0 ∷ []) waiting snapshot3
+
+  abbrev e3c : Event E
+  e3c = Refused (AskRead waiting snapshot3 counter []) (TxPending first 2)
 
   abbrev e4 : Event E
   e4 = Cut (Decided first vector1)
@@ -127,6 +152,13 @@ module _ {S E : Type 0} (kinds : Kinds S E) (known : kinds.has CounterPn ≡ tru
 
   abbrev e6 : Event E
   e6 = Sent None message
+
+  -- a message that nobody takes
+  abbrev lost : Message E
+  lost = record { from = 1; to = 2; part = 1; lo = 1001; hi = 1001; parts = [] }
+
+  abbrev e6a : Event E
+  e6a = Sent None lost
 
   abbrev e7 : Event E
   e7 = Took message
@@ -141,19 +173,13 @@ module _ {S E : Type 0} (kinds : Kinds S E) (known : kinds.has CounterPn ≡ tru
   e10 = Heard 1 (1001 ∷ 0 ∷ []) (1001 ∷ 0 ∷ [])
 
   abbrev e11 : Event E
-  e11 = Began [] vector1 moved snapshot2
+  e11 = Began ann snapshot1 moved snapshot2
 
   abbrev seen : Value
   seen = kinds.value_of (state_read kinds counter moved [] (part ∷ []))
 
   abbrev e12 : Event E
   e12 = Read moved snapshot2 counter [] (part ∷ []) seen
-
-  abbrev e13 : Event E
-  e13 = Began [] (0 ∷ 5000 ∷ []) ahead snapshot3
-
-  abbrev e14 : Event E
-  e14 = Refused (AskRead ahead snapshot3 counter []) (ClockBehind 2)
 
   abbrev p0 : PartId → PartState E
   p0 q = new_part 2 1
@@ -167,11 +193,14 @@ module _ {S E : Type 0} (kinds : Kinds S E) (known : kinds.has CounterPn ≡ tru
   abbrev p3 : PartId → PartState E
   p3 = put p2 here (done (p2 here) e3)
 
+  abbrev p3b : PartId → PartState E
+  p3b = put p3 here (done (p3 here) e3b)
+
   abbrev p4 : PartId → PartState E
-  p4 = put p3 here (cut (p3 here) (Decided first vector1))
+  p4 = put p3b here (cut (p3b here) (Decided first vector1))
 
   abbrev again : PartState E
-  again = record { up = true; now = 1001; log = Decide first vector1 ∷ (p3 here).log; torn = []; bounds = 0 ∷ 0 ∷ []; heard = (0 ∷ 0 ∷ []) ∷ []; sent = 0 ∷ 0 ∷ [] }
+  again = record { up = true; now = 1001; log = Decide first vector1 ∷ (p3b here).log; torn = []; bounds = 0 ∷ 0 ∷ []; heard = (0 ∷ 0 ∷ []) ∷ []; sent = 0 ∷ 0 ∷ [] }
 
   abbrev p5 : PartId → PartState E
   p5 = put p4 here again
@@ -179,8 +208,11 @@ module _ {S E : Type 0} (kinds : Kinds S E) (known : kinds.has CounterPn ≡ tru
   abbrev p6 : PartId → PartState E
   p6 = put p5 here (done (p5 here) e6)
 
+  abbrev p6a : PartId → PartState E
+  p6a = put p6 here (done (p6 here) e6a)
+
   abbrev p7 : PartId → PartState E
-  p7 = put p6 there (done (p6 there) e7)
+  p7 = put p6a there (done (p6a there) e7)
 
   abbrev p9 : PartId → PartState E
   p9 = put p7 there (done (p7 there) e9)
@@ -194,9 +226,6 @@ module _ {S E : Type 0} (kinds : Kinds S E) (known : kinds.has CounterPn ≡ tru
   abbrev p12 : PartId → PartState E
   p12 = put p11 there (done (p11 there) e12)
 
-  abbrev p13 : PartId → PartState E
-  p13 = put p12 there (done (p12 there) e13)
-
   abbrev r1 : List (Entry E)
   r1 = entry_at here e1 ∷ []
 
@@ -206,8 +235,17 @@ module _ {S E : Type 0} (kinds : Kinds S E) (known : kinds.has CounterPn ≡ tru
   abbrev r3 : List (Entry E)
   r3 = entry_at here e3 ∷ r2
 
+  abbrev r3a : List (Entry E)
+  r3a = entry_at here e3a ∷ r3
+
+  abbrev r3b : List (Entry E)
+  r3b = entry_at here e3b ∷ r3a
+
+  abbrev r3c : List (Entry E)
+  r3c = entry_at here e3c ∷ r3b
+
   abbrev r4 : List (Entry E)
-  r4 = entry_at here e4 ∷ r3
+  r4 = entry_at here e4 ∷ r3c
 
   run1 : IsWorldRun kinds 2 1 r1 p1
   run1 = (
@@ -215,7 +253,7 @@ module _ {S E : Type 0} (kinds : Kinds S E) (known : kinds.has CounterPn ≡ tru
     (λ p. refl),
     record {
       place = place_here;
-      allowed = tt;
+      allowed = refl;
       step = (refl, record { early = lit< tt; named = refl; handed = refl; width = refl; own = refl; stable = λ j o. subst (λ i. entry snapshot1 i ≡ stable_entry 1 here (p0 here) i) (sym (other_of_first j o)) refl; waited = λ j o. subst (λ i. entry (0 ∷ 0 ∷ []) i ≤ entry snapshot1 i) (sym (other_of_first j o)) (le_refl 0) }, refl);
       others = others p0 here (done (p0 here) e1);
     },
@@ -228,7 +266,7 @@ module _ {S E : Type 0} (kinds : Kinds S E) (known : kinds.has CounterPn ≡ tru
     run1,
     record {
       place = place_here;
-      allowed = record { site = refl; who = []; dependency = 0 ∷ 0 ∷ []; begun = inl (refl, refl); place = refl; earlier = refl };
+      allowed = record { site = refl; who = ann; dependency = 0 ∷ 0 ∷ []; begun = inl (refl, refl); place = refl; earlier = refl };
       step = (refl, record { ready = λ h. off h; fold = λ h. off h; known = known; fits = rw shallow refl; object = refl; effect = refl; stamped = refl }, refl);
       others = others p1 here (done (p1 here) e2);
     },
@@ -248,22 +286,58 @@ module _ {S E : Type 0} (kinds : Kinds S E) (known : kinds.has CounterPn ≡ tru
     tt,
   )
 
+  run3a : IsWorldRun kinds 2 1 r3a p3
+  run3a = (p3, run3, record { place = place_here; allowed = tt; step = refl; others = λ q ne. refl }, tt)
+
+  run3b : IsWorldRun kinds 2 1 r3b p3b
+  run3b = (
+    p3,
+    run3a,
+    record {
+      place = place_here;
+      allowed = refl;
+      step = (refl, record { early = lit< tt; named = refl; handed = refl; width = refl; own = refl; stable = λ j o. subst (λ i. entry snapshot3 i ≡ stable_entry 1 here (p3 here) i) (sym (other_of_first j o)) refl; waited = λ j o. subst (λ i. entry (0 ∷ 0 ∷ []) i ≤ entry snapshot3 i) (sym (other_of_first j o)) (le_refl 0) }, refl);
+      others = others p3 here (done (p3 here) e3b);
+    },
+    tt,
+  )
+
+  -- the only one that is pending is the first
+  first_alone : (w : TxId) → pending (p3b here).log w ≡ true → pending_cmp (w, prepare_time (p3b here).log w) (first, 2) ≢ Less
+  first_alone w h = ⊎_elim
+      (λ (e : same_tx first w ≡ true). subst (λ x. pending_cmp (x, prepare_time (p3b here).log x) (first, 2) ≢ Less) (same_tx_is first w e) (λ l. absurd (cc l)))
+      (λ (e : same_tx first w ≡ false). clash h (rw e refl))
+      (cases_Bool (same_tx first w))
+
+  run3c : IsWorldRun kinds 2 1 r3c p3b
+  run3c = (
+    p3b,
+    run3b,
+    record {
+      place = place_here;
+      allowed = record { site = refl; who = ben; dependency = 0 ∷ 0 ∷ []; begun = inl (refl, refl) };
+      step = ((refl, record { clock = le_refl 3; waiting = refl; changes = refl; time = refl; early = lit≤ tt; first = λ w h k. first_alone w h }), refl);
+      others = λ q ne. refl;
+    },
+    tt,
+  )
+
   run4 : IsWorldRun kinds 2 1 r4 p4
   run4 = (
-    p3,
-    run3,
+    p3b,
+    run3c,
     record {
       place = place_here;
       allowed = record { lead = refl; here = refl; all = all_voted; kept = refl; vector = refl };
       step = (refl, refl, refl);
-      others = others p3 here (cut (p3 here) (Decided first vector1));
+      others = others p3b here (cut (p3b here) (Decided first vector1));
     },
     tt,
   )
     where
-      all_voted : (q : PartId) → takes_part (plan_of 2 1 r4) first q ≡ true → voted r3 first q ≡ true
+      all_voted : (q : PartId) → takes_part (plan_of 2 1 r4) first q ≡ true → voted r3c first q ≡ true
       all_voted q h = ⊎_elim
-          (λ (e : same_part here q ≡ true). subst (λ x. voted r3 first x ≡ true) (same_part_is here q e) refl)
+          (λ (e : same_part here q ≡ true). subst (λ x. voted r3c first x ≡ true) (same_part_is here q e) refl)
           (λ (e : same_part here q ≡ false). let k = rw e at h in clash k (no_updates E (is_own 2 r4 first q)))
           (cases_Bool (same_part here q))
 
@@ -273,8 +347,11 @@ module _ {S E : Type 0} (kinds : Kinds S E) (known : kinds.has CounterPn ≡ tru
   abbrev r6 : List (Entry E)
   r6 = entry_at here e6 ∷ r5
 
+  abbrev r6a : List (Entry E)
+  r6a = entry_at here e6a ∷ r6
+
   abbrev r7 : List (Entry E)
-  r7 = entry_at there e7 ∷ r6
+  r7 = entry_at there e7 ∷ r6a
 
   abbrev r8 : List (Entry E)
   r8 = entry_at there e8 ∷ r7
@@ -291,12 +368,6 @@ module _ {S E : Type 0} (kinds : Kinds S E) (known : kinds.has CounterPn ≡ tru
   abbrev r12 : List (Entry E)
   r12 = entry_at there e12 ∷ r11
 
-  abbrev r13 : List (Entry E)
-  r13 = entry_at there e13 ∷ r12
-
-  abbrev r14 : List (Entry E)
-  r14 = entry_at there e14 ∷ r13
-
   own_bound : IsOwnBound 1001 again.log 1001
   own_bound = record { most = le_refl 1001; below = λ u h. clash h (none_left (same_tx first u)); reached = inl refl }
 
@@ -308,8 +379,8 @@ module _ {S E : Type 0} (kinds : Kinds S E) (known : kinds.has CounterPn ≡ tru
       place = place_here;
       allowed = tt;
       step = record {
-        down = refl;
         found = inr refl;
+        fits = refl;
         up = refl;
         whole = refl;
         clock = refl;
@@ -342,15 +413,28 @@ module _ {S E : Type 0} (kinds : Kinds S E) (known : kinds.has CounterPn ≡ tru
     tt,
   )
 
-  run7 : IsWorldRun kinds 2 1 r7 p7
-  run7 = (
+  run6a : IsWorldRun kinds 2 1 r6a p6a
+  run6a = (
     p6,
     run6,
     record {
+      place = place_here;
+      allowed = tt;
+      step = (refl, record { from = refl; part = refl; to = second_of_first; lo = refl; hi = own_bound; order = tt; members = λ u. past_stretch (same_tx first u); exact = tt }, refl);
+      others = others p6 here (done (p6 here) e6a);
+    },
+    tt,
+  )
+
+  run7 : IsWorldRun kinds 2 1 r7 p7
+  run7 = (
+    p6a,
+    run6a,
+    record {
       place = place_there;
-      allowed = record { from = first_of_second; to = refl; part = refl; asked = None; shown = inl (refl, refl) };
+      allowed = record { from = first_of_second; to = refl; part = refl; asked = None; shown = inr (inl (refl, refl)) };
       step = (refl, (le_refl 0, lit< tt), refl);
-      others = others p6 there (done (p6 there) e7);
+      others = others p6a there (done (p6a there) e7);
     },
     tt,
   )
@@ -361,7 +445,7 @@ module _ {S E : Type 0} (kinds : Kinds S E) (known : kinds.has CounterPn ≡ tru
     run7,
     record {
       place = place_there;
-      allowed = record { from = first_of_second; to = refl; part = refl; asked = None; shown = inr (inl (refl, refl)) };
+      allowed = record { from = first_of_second; to = refl; part = refl; asked = None; shown = inr (inr (inl (refl, refl))) };
       step = ((refl, (refl, lit≤ tt, le_refl 1001)), refl);
       others = λ q ne. refl;
     },
@@ -388,7 +472,7 @@ module _ {S E : Type 0} (kinds : Kinds S E) (known : kinds.has CounterPn ≡ tru
     record {
       place = place_there;
       allowed = record { least = lit≤ tt; most = lit≤ tt; shown = inl (refl, refl) };
-      step = (refl, record { width = refl; others = λ j o. subst (λ i. entry (1001 ∷ 0 ∷ []) i ≡ stable_entry 1 there (done (p9 there) e10) i) (sym (other_of_second j o)) refl }, refl);
+      step = (refl, record { width = refl; own = (0, record { most = le_refl 0; below = λ u h. off h; reached = inl refl }, refl); others = λ j o. subst (λ i. entry (1001 ∷ 0 ∷ []) i ≡ stable_entry 1 there (done (p9 there) e10) i) (sym (other_of_second j o)) refl }, refl);
       others = others p9 there (done (p9 there) e10);
     },
     tt,
@@ -400,8 +484,8 @@ module _ {S E : Type 0} (kinds : Kinds S E) (known : kinds.has CounterPn ≡ tru
     run10,
     record {
       place = place_there;
-      allowed = tt;
-      step = (refl, record { early = lit< tt; named = refl; handed = refl; width = refl; own = refl; stable = λ j o. subst (λ i. entry snapshot2 i ≡ stable_entry 1 there (p10 there) i) (sym (other_of_second j o)) refl; waited = λ j o. subst (λ i. entry vector1 i ≤ entry snapshot2 i) (sym (other_of_second j o)) (lit≤ tt) }, refl);
+      allowed = refl;
+      step = (refl, record { early = lit< tt; named = refl; handed = refl; width = refl; own = refl; stable = λ j o. subst (λ i. entry snapshot2 i ≡ stable_entry 1 there (p10 there) i) (sym (other_of_second j o)) refl; waited = λ j o. subst (λ i. entry snapshot1 i ≤ entry snapshot2 i) (sym (other_of_second j o)) (lit≤ tt) }, refl);
       others = others p10 there (done (p10 there) e11);
     },
     tt,
@@ -417,39 +501,37 @@ module _ {S E : Type 0} (kinds : Kinds S E) (known : kinds.has CounterPn ≡ tru
     run11,
     record {
       place = place_there;
-      allowed = record { site = refl; who = []; dependency = vector1; begun = inl (refl, refl); place = refl; earlier = refl };
+      allowed = record { site = refl; who = ann; dependency = snapshot1; begun = inl (refl, refl); place = refl; earlier = refl };
       step = (refl, (record { clock = le_refl 1; free = λ u h. off h }, record { order = (tt, tt); members = λ u. seen_there (same_tx first u); exact = ((refl, refl), tt) }, known, refl), refl);
       others = others p11 there (done (p11 there) e12);
     },
     tt,
   )
 
-  run13 : IsWorldRun kinds 2 1 r13 p13
-  run13 = (
-    p12,
-    run12,
-    record {
-      place = place_there;
-      allowed = tt;
-      step = (refl, record { early = lit< tt; named = refl; handed = refl; width = refl; own = refl; stable = λ j o. subst (λ i. entry snapshot3 i ≡ stable_entry 1 there (p12 there) i) (sym (other_of_second j o)) refl; waited = λ j o. subst (λ i. entry (0 ∷ 5000 ∷ []) i ≤ entry snapshot3 i) (sym (other_of_second j o)) (lit≤ tt) }, refl);
-      others = others p12 there (done (p12 there) e13);
-    },
-    tt,
-  )
-
-  run14 : IsWorldRun kinds 2 1 r14 p13
-  run14 = (
-    p13,
-    run13,
-    record {
-      place = place_there;
-      allowed = record { site = refl; who = []; dependency = 0 ∷ 5000 ∷ []; begun = inl (refl, refl) };
-      step = ((refl, (refl, lit< tt)), refl);
-      others = λ q ne. refl;
-    },
-    tt,
-  )
-
   -- the read at the other site sees what the crash nearly took, and is right in the whole run
-  is_lawful : IsLawfulWorld kinds (plan_of 2 1 r14) r14
-  is_lawful = law_world kinds 2 1 r14 p13 run14
+  is_lawful : IsLawfulWorld kinds (plan_of 2 1 r12) r12
+  is_lawful = (law_world kinds 2 1 r12 p12 run12).0
+
+  lines_are_lawful : IsLawfulRun kinds.too_deep kinds.meaning 2 1 (lines_of r12)
+  lines_are_lawful = (law_world kinds 2 1 r12 p12 run12).2
+
+  -- what the run shows, the first line first
+  shown : reverse (map (λ l. l.step) (lines_of r12)) ≡
+      step.Began ann first snapshot1
+      ∷ step.Updated ann counter (kinds.stamp_of change.effect)
+      ∷ step.Prepared here first 2
+      ∷ step.MadeSession ben 1
+      ∷ step.Began ben waiting snapshot3
+      ∷ step.WaitTxn here first 2
+      ∷ step.Unsure first
+      ∷ step.Restarted here 1001 (1001 ∷ 0 ∷ []) (Some first) []
+      ∷ step.Sent 1 here 2 0 1001 1
+      ∷ step.Sent 2 here 2 1001 1001 0
+      ∷ step.Took 1 1001
+      ∷ step.Dup 1 1001
+      ∷ step.Reported 1 there (1001 ∷ 0 ∷ [])
+      ∷ step.Heard 1 there (1001 ∷ 0 ∷ [])
+      ∷ step.Began ann moved snapshot2
+      ∷ step.Value ann counter seen
+      ∷ []
+  shown = refl

@@ -8,14 +8,18 @@ use Rattle.site_vector.specs.Ids.{same_part}
 use Rattle.site_vector.specs.Order.{same_part_refl}
 use Rattle.site_vector.specs.Vector.{entry, join}
 use Rattle.site_vector.specs.VectorLaws.{length_join}
-use Rattle.world_model.specs.Event.{AskBegin, StableBehind, Event, Ticked, Began, Updated, Read, Prepared, Decided, Finished, Aborted, Sent, Took, Reported, Heard, Crashed, Restarted, Refused, Cut, Entry, attempt, EventsAre}
-use Rattle.world_model.specs.Partition.{Kinds, PartState, IsOther, known, stable_entry, lowest, vector_of, new_part, PartStep}
+use Rattle.world_model.specs.Event.{AskBegin, StableBehind, ClockAtEnd, Event, Ticked, Began, Updated, Read, Prepared, Decided, Finished, Aborted, Sent, Took, Reported, Heard, Crashed, Restarted, Refused, Opened, Cut, Entry, attempt, EventsAre}
+use Rattle.world_model.specs.Partition.{Kinds, PartState, IsOther, known, stable_entry, lowest, vector_of, new_part, done, PartStep}
 use Rattle.world_model.specs.Plan.{Plan, IsAllowed, IsRun}
-use Rattle.world_model.specs.Stable.{heard_from, heard_shown, known_shown, stable_shown, IsFreshAt, AreFresh}
+use Rattle.world_model.specs.Shown.{bound_shown}
+use Rattle.world_model.specs.Stable.{heard_from, heard_shown, known_shown, stable_shown, IsStableAt, IsFreshAt, AreFresh}
 use Rattle.world_model.proofs.Names.{clash, part_cases, part_other}
 use Rattle.world_model.proofs.Intervals.{shown_has}
 use Rattle.world_model.proofs.Completeness.{numbered, rows_at}
-use Rattle.world_model.proofs.Shows.{Shown, shown_run}
+use Rattle.world_model.proofs.Leases.{Leases}
+use Rattle.world_model.proofs.Fate.{Fate}
+use Rattle.world_model.proofs.Kept.{law_plan}
+use Rattle.world_model.proofs.Shows.{Shown, shown_run, own_bound}
 
 join_at : (u v : List ℕ) (i : ℕ) → length u ≡ length v → slice_index (join u v) i ≡ max (slice_index u i) (slice_index v i)
 join_at [] [] i e = omega arith
@@ -95,8 +99,13 @@ module _ {E : Type 0} where
       rows = λ q u a b. ap (λ p. length (vector_of p.heard q)) st.1 ∙ h.rows at q (sym (ap (λ p. p.up) st.1) ∙ u) a b;
       told = λ q j u a b. ap (λ p. entry (vector_of p.heard q) j) st.1 ∙ h.told at q j (sym (ap (λ p. p.up) st.1) ∙ u) a b;
     }
+    heard_here (Opened who) al st = record {
+      count = λ u. ap (λ p. length p.heard) st ∙ h.count at (sym (ap (λ p. p.up) st) ∙ u);
+      rows = λ q u a b. ap (λ p. length (vector_of p.heard q)) st ∙ h.rows at q (sym (ap (λ p. p.up) st) ∙ u) a b;
+      told = λ q j u a b. ap (λ p. entry (vector_of p.heard q) j) st ∙ h.told at q j (sym (ap (λ p. p.up) st) ∙ u) a b;
+    }
     heard_here (Cut a) al st = down_heard (Cut a) (ap (λ p. p.up) st.2)
-    heard_here Crashed al st = down_heard Crashed (ap (λ p. p.up) st.1)
+    heard_here Crashed al st = down_heard Crashed (ap (λ p. p.up) st)
     heard_here (Ticked r n) al st = same_heard (Ticked r n) st.0 (λ q j. refl) (ap (λ p. p.heard) st.2)
     heard_here (Began who dep t s) al st = same_heard (Began who dep t s) st.0 (λ q j. refl) (ap (λ p. p.heard) st.2)
     heard_here (Updated t s o own op read x stamp) al st = same_heard (Updated t s o own op read x stamp) st.0 (λ q j. refl) (ap (λ p. p.heard) st.2)
@@ -136,15 +145,31 @@ module _ {E : Type 0} where
     stable_is : Shown plan run before → (before at).up ≡ true → (j : ℕ) → IsOther plan.sites at.site j → stable_entry plan.parts at (before at) j ≡ stable_shown plan.parts run at j
     stable_is w up j o = lowest_same (known at (before at) j) (known_shown run at j) plan.parts (λ q a b. λ i. cond (at.part == q) (w.bounds at j up o i) (h.told at q j up a b i))
 
-    fresh_event : (event : Event E) (q : PartState E) → Shown plan run before → PartStep kinds plan.sites plan.parts at (before at) event q → IsFreshAt plan run at event
-    fresh_event (Began who dep t s) q w st = λ j o. st.1.stable j o ∙ stable_is w st.0 j o
-    fresh_event (Refused (AskBegin who dep) (StableBehind j n)) q w st = record {
+    -- what is told once a report was heard
+    stable_told : (k : ℕ) (b stable : List ℕ) → Fate plan run before → Leases run before → Shown plan run before → IsAllowed plan run before at (Heard k b stable) → PartStep kinds plan.sites plan.parts at (before at) (Heard k b stable) (after at) → IsStableAt plan run at (λ q j. heard_from {E = E} q j (heard_shown run at q j) (Heard k b stable)) stable
+    stable_told k b stable f l w al st =
+        let x = new_heard k b stable al st in
+        let same : (q j : ℕ) → 1 ≤ q → q ≤ plan.parts → entry (vector_of (done (before at) (Heard k b stable)).heard q) j ≡ heard_from {E = E} q j (heard_shown run at q j) (Heard k b stable) = λ q j a c. sym (ap (λ p. entry (vector_of p.heard q) j) st.2) ∙ x.told q j (ap (λ p. p.up) st.2) a c in record {
+          width = st.1.width;
+          others = λ j o. st.1.others j o ∙ lowest_same (known at (done (before at) (Heard k b stable)) j) (λ q. cond (at.part == q) (bound_shown run at j) (heard_from {E = E} q j (heard_shown run at q j) (Heard k b stable))) plan.parts (λ q a c. λ i. cond (at.part == q) (w.bounds at j st.0 o i) (same q j a c i));
+          own = (
+            st.1.own.0,
+            own_bound kinds plan run before after at f w st.0 l st.1.own.0 st.1.own.1,
+            st.1.own.2 ∙ lowest_same (λ q. cond (at.part == q) st.1.own.0 (entry (vector_of (done (before at) (Heard k b stable)).heard q) at.site)) (λ q. cond (at.part == q) st.1.own.0 (heard_from {E = E} q at.site (heard_shown run at q at.site) (Heard k b stable))) plan.parts (λ q a c. λ i. cond (at.part == q) st.1.own.0 (same q at.site a c i)),
+          );
+        }
+
+    fresh_event : (event : Event E) → Fate plan run before → Leases run before → Shown plan run before → IsAllowed plan run before at (attempt event) → PartStep kinds plan.sites plan.parts at (before at) event (after at) → IsFreshAt plan run at event
+    fresh_event (Began who dep t s) f l w al st = record { width = st.1.width; own = st.1.own; others = λ j o. st.1.stable j o ∙ stable_is w st.0 j o }
+    fresh_event (Heard k b stable) f l w al st = stable_told k b stable f l w al st
+    fresh_event (Refused (AskBegin who dep) ClockAtEnd) f lease w al st = λ j o. subst (λ n. entry dep j ≤ n) (stable_is w st.0.0 j o) (st.0.1.0 j o)
+    fresh_event (Refused (AskBegin who dep) (StableBehind j n)) f lease w al st = record {
       other = st.0.1.other;
       have = st.0.1.have ∙ stable_is w st.0.0 j st.0.1.other;
       behind = st.0.1.behind;
       least = λ i o l. st.0.1.least i o (subst (λ x. x < entry dep i) (sym (stable_is w st.0.0 i o)) l);
     }
-    fresh_event event q w st = tt
+    fresh_event event f l w al st = tt
 
   hears_start : (plan : Plan E) (parts : PartId → PartState E) → ((p : PartId) → parts p ≡ new_part plan.sites plan.parts) → Hears plan [] parts
   hears_start plan parts r = record {
@@ -161,6 +186,6 @@ module _ {E : Type 0} where
   pub fresh_events : {S : Type 0} (kinds : Kinds S E) (plan : Plan E) (run : List (Entry E)) (parts : PartId → PartState E) → IsRun kinds plan run parts → AreFresh plan run
   fresh_events kinds plan [] parts r = tt
   fresh_events kinds plan (e ∷ run) parts r = (
-    fresh_event kinds plan run r.0 parts e.at (hears_run kinds plan run r.0 r.1) e.event (parts e.at) (shown_run kinds plan run r.0 r.1) r.2.step,
+    (let k = law_plan kinds plan run r.0 r.1 in fresh_event kinds plan run r.0 parts e.at (hears_run kinds plan run r.0 r.1) e.event k.fate k.leases (shown_run kinds plan run r.0 r.1) r.2.allowed r.2.step),
     fresh_events kinds plan run r.0 r.1,
   )

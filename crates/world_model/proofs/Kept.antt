@@ -7,16 +7,12 @@ use Rattle.site_vector.specs.declared.ids.TxId.{TxId}
 use Rattle.site_vector.specs.Vector.{le, entry}
 use Rattle.crdt_core.specs.declared.record.Message.{Message}
 use Rattle.crdt_core.specs.declared.record.Record.{Record}
-use Rattle.world_model.specs.Log.{ceiling, prepared, committed, aborted, decided, pending, taken, bound}
-use Rattle.world_model.specs.Event.{AskRead, AskUpdate, AskPrepare, AskBegin, AskFinish, ClockBehind, ClockAtEnd, IsGone, Refused, shown, Event, Began, Updated, Read, Sent, Restarted, Entry, attempt, is_decided, time_of, sent, EventsAre}
-use Rattle.world_model.specs.Partition.{Kinds, PartState, Image, IsOther, IsBegin, end_of_time, vector_of, new_part, PartStep}
+use Rattle.world_model.specs.Log.{end_of_time, ceiling, prepared, committed, aborted, decided, pending, taken, bound}
+use Rattle.world_model.specs.Event.{AskRead, AskUpdate, AskPrepare, AskBegin, AskFinish, ClockBehind, ClockAtEnd, IsGone, Refused, shown, Event, Began, Updated, Read, Sent, Restarted, Entry, attempt, was_aborted, is_decided, time_of, sent, EventsAre}
+use Rattle.world_model.specs.Partition.{Kinds, PartState, Image, IsOther, IsBegin, vector_of, new_part, PartStep}
 use Rattle.world_model.specs.Plan.{Plan, home, takes_part, commit_vector, IsAllowed, IsSession, IsPlanned, WorldStep, IsRun}
-use Rattle.world_model.specs.WorldLaw.{sees_tx, IsExact, IsRight, ClocksAre, HoldsPast, KeepsIs, KeepsDecided, HasCauseAt, HaveCausesAt}
-use Rattle.world_model.specs.Downs.{AnswerAsUp}
-use Rattle.world_model.specs.Shown.{ShowAt}
-use Rattle.world_model.specs.Stable.{AreFresh}
-use Rattle.world_model.specs.Meaning.{HaveMeaning, AreCausal}
-use Rattle.world_model.specs.LawfulWorld.{IsLawfulWorld}
+use Rattle.world_model.specs.WorldLaw.{sees_tx, IsExact, IsRight, ClocksAre, KeepsIs, KeepsDecided, HasCauseAt, HaveCausesAt}
+use Rattle.world_model.specs.Past.{dependency, HoldsPast, KeepPast}
 use Rattle.world_model.proofs.Histories.{Facts}
 use Rattle.world_model.proofs.Names.{clash, off, le_from, le_onward, le_raised}
 use Rattle.world_model.proofs.Moves.{moved, image_log}
@@ -27,7 +23,7 @@ use Rattle.world_model.proofs.Intervals.{Intervals, intervals_step, exact_now, s
 use Rattle.world_model.proofs.Completeness.{IsBacked, Bounds, bounds_step, zeros_at, rows_at}
 use Rattle.world_model.proofs.AnsweredReads.{IsAnswered, answered_events, answered_event}
 
-past_end : (v : List ℕ) (i : ℕ) → length v ≤ i → slice_index v i ≡ 0
+pub past_end : (v : List ℕ) (i : ℕ) → length v ≤ i → slice_index v i ≡ 0
 past_end [] i h = refl
 past_end (n ∷ v) zero h = absurd (omega arith)
 past_end (n ∷ v) (suc i) h = past_end v i (omega arith)
@@ -67,7 +63,7 @@ module _ {E : Type 0} where
     pub planned : EventsAre (IsPlanned plan) run
     pub under : EventsAre (IsUnder plan) run
     pub clock : ClocksAre run
-    pub past : EventsAre HoldsPast run
+    pub past : KeepPast plan.sites run
     pub decided_stay : KeepsDecided plan run
     pub causes : HaveCausesAt plan run
 
@@ -116,9 +112,9 @@ module _ {E : Type 0} where
   keeps_event kinds plan run before at q f (Restarted n b named listed) s = λ t k e. s.members t ∙ and_right (prepared q.log t) _ (rw (f.stays q.log t (subst (λ x. Image (before x) q.log) (sym e) s.found) k) refl)
   keeps_event kinds plan run before at q f event s = tt
 
-  past_event : {S : Type 0} (kinds : Kinds S E) (sites parts : ℕ) (at : PartId) (p q : PartState E) (event : Event E) → PartStep kinds sites parts at p event q → HoldsPast at event
-  past_event kinds sites parts at p q (Began who dep t v) s = begin_holds sites parts at p dep t v s.1
-  past_event kinds sites parts at p q event s = tt
+  past_event : {S : Type 0} (kinds : Kinds S E) (plan : Plan E) (run : List (Entry E)) (before : PartId → PartState E) (at : PartId) (q : PartState E) (event : Event E) → IsAllowed plan run before at (attempt event) → PartStep kinds plan.sites plan.parts at (before at) event q → HoldsPast plan.sites run at event
+  past_event kinds plan run before at q (Began who dep t v) al s = (al, subst (λ d. le d v ≡ true) al (begin_holds plan.sites plan.parts at (before at) dep t v s.1))
+  past_event kinds plan run before at q event al s = tt
 
   sent_now : {S : Type 0} (kinds : Kinds S E) (plan : Plan E) (run : List (Entry E)) (before : PartId → PartState E) (q : PartState E) → Fate plan run before → (at : PartId) (event : Event E) (asked : Option ℕ) (m : Message E) → event ≡ Sent asked m → PartStep kinds plan.sites plan.parts at (before at) event q → IsExact plan ((record { at = at; event = event }) ∷ run) at m × (m.hi ≤ sent ((record { at = at; event = event }) ∷ run) at)
   sent_now kinds plan run before q f at event asked m e s = subst (λ a. IsExact plan ((record { at = at; event = a }) ∷ run) at m × (m.hi ≤ sent ((record { at = at; event = a }) ∷ run) at)) (sym e)
@@ -128,7 +124,7 @@ module _ {E : Type 0} where
       again st = let x = exact_now plan run before f at asked m st.0 st.1 in record { order = x.order; members = x.members; exact = x.exact }
 
   -- a commit time is above the snapshot
-  strict : (plan : Plan E) (run : List (Entry E)) (parts : PartId → PartState E) → Fate plan run parts → (t : TxId) → is_decided run t ≡ true → entry (plan.snapshot t) t.site < time_of run t
+  pub strict : (plan : Plan E) (run : List (Entry E)) (parts : PartId → PartState E) → Fate plan run parts → (t : TxId) → is_decided run t ≡ true → entry (plan.snapshot t) t.site < time_of run t
   strict plan run parts f t h =
       let l = f.late (plan.lead t) t (full_now plan run parts f t h).lead in
       let v = vote_in_time run t (plan.lead t) in
@@ -152,10 +148,13 @@ module _ {E : Type 0} where
 
   cause_event : {S : Type 0} (kinds : Kinds S E) (plan : Plan E) (run : List (Entry E)) (before : PartId → PartState E) (q : PartState E) (at : PartId) (event : Event E) → Fate plan run before → Leases run before → EventsAre (IsPlanned plan) run → IsAllowed plan run before at (attempt event) → PartStep kinds plan.sites plan.parts at (before at) event q → HasCauseAt plan run at event
   cause_event kinds plan run before q at (Refused (AskRead t s o own) (ClockBehind n)) f l p al st = clock_cause plan run before at t s n l p al st.0.1.0 st.0.1.1
-  cause_event kinds plan run before q at (Refused (AskUpdate t s o own op) (ClockBehind n)) f l p al st = clock_cause plan run before at t s n l p al st.0.1.1 st.0.1.2
+  cause_event kinds plan run before q at (Refused (AskUpdate t s o own op) (ClockBehind n)) f l p al st = let c = clock_cause plan run before at t s n l p al st.0.1.1 st.0.1.2 in (st.0.1.0, c.0, c.1)
   cause_event kinds plan run before q at (Refused (AskPrepare t s y w) (ClockBehind n)) f l p al st = clock_cause plan run before at t s n l p al st.0.1.0 st.0.1.1
   cause_event kinds plan run before q at (Refused (AskBegin who dep) ClockAtEnd) f l p al st = sym (l.clock at).now ∙ st.0.1.1
-  cause_event kinds plan run before q at (Refused (AskPrepare t s y w) ClockAtEnd) f l p al st = sym (l.clock at).now ∙ st.0.1.1
+  cause_event kinds plan run before q at (Refused (AskPrepare t s y w) ClockAtEnd) f l p al st = (
+    subst (λ v. entry v at.site ≤ shown run at) (shown_has (IsPlanned plan) run (home t) (Began al.who al.dependency t s) p al.begun) (subst (λ n. entry s at.site ≤ n) (l.clock at).now st.0.1.0),
+    sym (l.clock at).now ∙ st.0.1.1,
+  )
   cause_event kinds plan run before q at (Refused asked ClockAtEnd) f l p al st = absurd st.0.1
   cause_event kinds plan run before q at (Refused (AskFinish t c) IsGone) f l p al st = never_gone plan run before at t f al.0 al.1 st.0.1
   cause_event kinds plan run before q at event f l p al st = tt
@@ -179,7 +178,7 @@ module _ {E : Type 0} where
         planned = (planned, k.planned);
         under = (under_event plan run before at event k.planned w.allowed, k.under);
         clock = (clock_event kinds plan.sites plan.parts at run at (before at) (after at) event (k.leases.clock at) w.step, k.clock);
-        past = (past_event kinds plan.sites plan.parts at (before at) (after at) event w.step, k.past);
+        past = (past_event kinds plan run before at (after at) event w.allowed w.step, k.past);
         decided_stay = (keeps_event kinds plan run before at (after at) k.fate event w.step, k.decided_stay);
         causes = (cause_event kinds plan run before (after at) at event k.fate k.leases k.planned w.allowed w.step, k.causes);
       }
@@ -202,7 +201,7 @@ module _ {E : Type 0} where
   below_commit : (plan : Plan E) (run : List (Entry E)) (t : TxId) → entry (plan.snapshot t) t.site < time_of run t → le (plan.snapshot t) (commit_vector plan run t) ≡ true
   below_commit plan run t h = le_raised (plan.snapshot t) (t.site - 1) (time_of run t) (le_of_lt h)
 
-  closed : (plan : Plan E) (run : List (Entry E)) → ((t : TxId) → is_decided run t ≡ true → entry (plan.snapshot t) t.site < time_of run t) → (s : List ℕ) (t u : TxId) → sees_tx plan run s t ≡ true → sees_tx plan run (plan.snapshot t) u ≡ true → sees_tx plan run s u ≡ true
+  pub closed : (plan : Plan E) (run : List (Entry E)) → ((t : TxId) → is_decided run t ≡ true → entry (plan.snapshot t) t.site < time_of run t) → (s : List ℕ) (t u : TxId) → sees_tx plan run s t ≡ true → sees_tx plan run (plan.snapshot t) u ≡ true → sees_tx plan run s u ≡ true
   closed plan run h s t u x y =
       let a = and_parts (is_decided run t) _ x in
       let b = and_parts (is_decided run u) _ y in
@@ -226,19 +225,5 @@ module _ {E : Type 0} where
     closed = closed plan run (strict plan run parts k.fate);
   }
 
-  pub law_kept : {S : Type 0} (kinds : Kinds S E) (plan : Plan E) (run : List (Entry E)) (parts : PartId → PartState E) → Kept kinds plan run parts → HaveMeaning kinds plan run run → ((t : TxId) (p : PartId) → AreCausal kinds plan run t (plan.updates t p)) → ShowAt plan run → AreFresh plan run → AnswerAsUp run → IsLawfulWorld kinds plan run
-  law_kept kinds plan run parts k meant causal shown fresh downs = record {
-    right = right_all kinds plan run parts k;
-    meant = meant;
-    causal = causal;
-    clock = k.clock;
-    past = k.past;
-    decided_stay = k.decided_stay;
-    causes = k.causes;
-    shown = shown;
-    fresh = fresh;
-    downs = downs;
-    fate = λ t p a. false_from_ne_true _ (λ h. clash (k.fate.aborted_stays p (parts p).log t (image_log (parts p)) a) (never_aborted plan run parts k.fate p (parts p).log t (image_log (parts p)) h));
-    strict = strict plan run parts k.fate;
-    closed = closed plan run (strict plan run parts k.fate);
-  }
+  pub never_both : {S : Type 0} (kinds : Kinds S E) (plan : Plan E) (run : List (Entry E)) (parts : PartId → PartState E) → Kept kinds plan run parts → (t : TxId) (p : PartId) → was_aborted run t p ≡ true → is_decided run t ≡ false
+  never_both kinds plan run parts k t p a = false_from_ne_true _ (λ h. clash (k.fate.aborted_stays p (parts p).log t (image_log (parts p)) a) (never_aborted plan run parts k.fate p (parts p).log t (image_log (parts p)) h))

@@ -11,9 +11,9 @@ use Rattle.crdt_core.specs.declared.record.Part.{Part}
 use Rattle.crdt_core.specs.declared.record.Message.{Message}
 use Rattle.crdt_core.specs.declared.record.Record.{Record}
 use Rattle.crdt_core.specs.declared.record.Record.TheVariants.{Lease, Prepare, Decide, Finish, Abort, Batch}
-use Rattle.world_model.specs.Log.{ceiling, pending, grown, IsImage}
-use Rattle.world_model.specs.Event.{Refused, Event, Ticked, Began, Updated, Read, Prepared, Decided, Finished, Aborted, Sent, Took, Reported, Heard, Crashed, Restarted, Cut, Entry, shown_after, shown, missed_after, missed}
-use Rattle.world_model.specs.Partition.{Kinds, PartState, Image, end_of_time, lease_for, above, batch_of, records, now_after, MayDo, done, cut, PartStep}
+use Rattle.world_model.specs.Log.{end_of_time, ceiling, pending, grown, IsImage}
+use Rattle.world_model.specs.Event.{Refused, Event, Ticked, Began, Updated, Read, Prepared, Decided, Finished, Aborted, Sent, Took, Reported, Heard, Crashed, Restarted, Opened, Cut, Entry, shown_after, shown, missed_after, missed}
+use Rattle.world_model.specs.Partition.{Kinds, PartState, Image, lease_for, above, batch_of, records, now_after, MayDo, done, cut, PartStep}
 use Rattle.world_model.specs.WorldLaw.{ClockIs}
 use Rattle.world_model.proofs.Names.{clash, part_cases, part_other}
 use Rattle.world_model.proofs.Moves.{image_log, grown_image, grown_last}
@@ -67,7 +67,7 @@ module _ {E : Type 0} where
       ⊎_elim (λ (x : new ≡ Lease (min (n + 1000) end_of_time) ∷ log). inr (leb-false n (ceiling log) e, ap ceiling x)) (λ (x : new ≡ Prepare t l n s w ∷ Lease (min (n + 1000) end_of_time) ∷ log). inr (leb-false n (ceiling log) e, ap ceiling x)) k) j)
       (cases_Bool (leb n (ceiling log)))
 
-  done_ceil : (log : List (Record E)) (n : ℕ) → n ≤ end_of_time → n ≤ ceiling (grown log (lease_for log n))
+  pub done_ceil : (log : List (Record E)) (n : ℕ) → n ≤ end_of_time → n ≤ ceiling (grown log (lease_for log n))
   done_ceil log n b = cond_both (leb n (ceiling log)) [] (Lease (min (n + 1000) end_of_time) ∷ []) (λ rs. n ≤ ceiling (grown log rs)) (λ e. leb-true n (ceiling log) e) (λ e. capped_above n end_of_time b)
     where
       capped_above : (n top : ℕ) → n ≤ top → n ≤ min (n + 1000) top
@@ -154,6 +154,7 @@ module _ {E : Type 0} where
     turns p last skipped Crashed c m = absurd m
     turns p last skipped (Restarted n b named listed) c m = absurd m
     turns p last skipped (Refused asked why) c m = absurd m
+    turns p last skipped (Opened who) c m = absurd m
     turns p last skipped (Cut a) c m = absurd m
 
     done_clock : (p : PartState E) (last skipped : ℕ) (a : Event E) → Turns p a last skipped → Clock (done p a) (shown_after last a) (missed_after skipped a)
@@ -179,7 +180,7 @@ module _ {E : Type 0} where
 
     step_clock : (p q : PartState E) (last skipped : ℕ) (a : Event E) → Clock p last skipped → PartStep kinds sites count id p a q → Clock q (shown_after last a) (missed_after skipped a)
     step_clock p q last skipped (Cut a) c s = subst (λ x. Clock x (shown_after last (Cut a)) (missed_after skipped (Cut a))) (sym s.2) (cut_clock p last skipped a c (turns p last skipped a c s.1))
-    step_clock p q last skipped Crashed c s = subst (λ x. Clock x last skipped) (sym s.1) (record { whole = λ u. absurd (clash u refl); now = c.now; below = c.below; room = c.room; capped = c.capped })
+    step_clock p q last skipped Crashed c s = subst (λ x. Clock x last skipped) (sym s) (record { whole = λ u. absurd (clash u refl); now = c.now; below = c.below; room = c.room; capped = c.capped })
     step_clock p q last skipped (Restarted n b named listed) c s =
         let one = λ (m : List (Record E)) (i : Image q m). subst (λ rs. IsImage q.log rs m) s.whole i in
         let r = c.room q.log s.found in record {
@@ -190,6 +191,7 @@ module _ {E : Type 0} where
           capped = λ m i. subst (λ x. ceiling x ≤ end_of_time) (sym (one m i)) (c.capped q.log s.found);
         }
     step_clock p q last skipped (Refused asked why) c s = subst (λ x. Clock x last skipped) (sym s.1) c
+    step_clock p q last skipped (Opened who) c s = subst (λ x. Clock x last skipped) (sym s) c
     step_clock p q last skipped (Ticked r n) c s = done_step p q last skipped (Ticked r n) c s
     step_clock p q last skipped (Began who dep t v) c s = done_step p q last skipped (Began who dep t v) c s
     step_clock p q last skipped (Updated t v o own op read u stamp) c s = done_step p q last skipped (Updated t v o own op read u stamp) c s
@@ -209,9 +211,10 @@ module _ {E : Type 0} where
     -- a clock never falls
     rises_at : (p q : PartState E) (last skipped : ℕ) (a : Event E) → Clock p last skipped → PartStep kinds sites count id p a q → p.now ≤ q.now
     rises_at p q last skipped (Cut a) c s = le_of_eq (sym (ap (λ x. x.now) s.2))
-    rises_at p q last skipped Crashed c s = le_of_eq (sym (ap (λ x. x.now) s.1))
+    rises_at p q last skipped Crashed c s = le_of_eq (sym (ap (λ x. x.now) s))
     rises_at p q last skipped (Restarted n b named listed) c s = subst (λ x. p.now ≤ x) (sym s.clock) (c.below q.log s.found)
     rises_at p q last skipped (Refused asked why) c s = le_of_eq (sym (ap (λ x. x.now) s.1))
+    rises_at p q last skipped (Opened who) c s = le_of_eq (sym (ap (λ x. x.now) s))
     rises_at p q last skipped (Ticked r n) c s = done_rises p q last skipped (Ticked r n) c s
     rises_at p q last skipped (Began who dep t v) c s = done_rises p q last skipped (Began who dep t v) c s
     rises_at p q last skipped (Updated t v o own op read u stamp) c s = done_rises p q last skipped (Updated t v o own op read u stamp) c s
@@ -232,6 +235,9 @@ module _ {E : Type 0} where
     clock_event run at p q (Prepared t v l w n) c s = s.1.1 ∙ ap (λ x. x + 1) c.now
     clock_event run at p q (Restarted n b named listed) c s =
         let l = c.below q.log s.found in let r = c.room q.log s.found in let e = c.now in let k = s.clock in let j = s.shown in (omega arith, omega arith)
+    clock_event run at p q (Cut (Ticked r n)) c s = s.1.0 ∙ ap (max r) c.now
+    clock_event run at p q (Cut (Began who dep t v)) c s = ap (λ x. x.time) s.1.named ∙ ap (λ x. x + 1) c.now
+    clock_event run at p q (Cut (Prepared t v l w n)) c s = s.1.1 ∙ ap (λ x. x + 1) c.now
     clock_event run at p q a c s = tt
 
   module _ {S : Type 0} (kinds : Kinds S E) (sites count : ℕ) (run : List (Entry E)) (before after : PartId → PartState E) (at : PartId) (event : Event E) (s : PartStep kinds sites count at (before at) event (after at)) (others : (q : PartId) → q ≢ at → after q ≡ before q) (l : Leases run before) where

@@ -12,9 +12,9 @@ use Rattle.crdt_core.specs.declared.record.Part.{Part}
 use Rattle.crdt_core.specs.declared.record.Message.{Message}
 use Rattle.crdt_core.specs.declared.record.Record.{Record}
 use Rattle.crdt_core.specs.declared.record.Record.TheVariants.{Lease, Prepare, Decide, Finish, Abort, Batch}
-use Rattle.world_model.specs.Log.{prepared, prepare_time, prepared_changes, decided, committed, committed_at, aborted, pending, last_decided, taken, taken_at, taken_changes, bound, ceiling, grown, IsImage}
-use Rattle.world_model.specs.Event.{Ask, Refusal, Refused, Event, Ticked, Began, Updated, Read, Prepared, Decided, Finished, Aborted, Sent, Took, Reported, Heard, Crashed, Restarted, Cut, Entry, attempt, is_prepare, is_decide, is_abort, is_named, shows_decided, time_shown}
-use Rattle.world_model.specs.Partition.{Kinds, PartState, Image, end_of_time, lease_for, above, batch_of, records, MayDo, done, cut, PartStep}
+use Rattle.world_model.specs.Log.{end_of_time, prepared, prepare_time, prepared_changes, decided, committed, committed_at, aborted, pending, last_decided, taken, taken_at, taken_changes, bound, ceiling, grown, IsImage}
+use Rattle.world_model.specs.Event.{Ask, Refusal, Refused, Event, Ticked, Began, Updated, Read, Prepared, Decided, Finished, Aborted, Sent, Took, Reported, Heard, Crashed, Restarted, Opened, Cut, Entry, attempt, is_prepare, is_decide, is_abort, is_named, shows_decided, time_shown}
+use Rattle.world_model.specs.Partition.{Kinds, PartState, Image, lease_for, above, batch_of, records, MayDo, done, cut, PartStep}
 use Rattle.world_model.specs.Plan.{Plan, IsAllowed, MayPrepare, MayDecide, MayFinish, MayAbort, MayTake}
 use Rattle.world_model.proofs.Names.{clash, off, part_cases}
 
@@ -174,6 +174,7 @@ module _ {E : Type 0} where
       recorded up at event Crashed new h s m al d i = absurd m
       recorded up at event (Restarted n b named listed) new h s m al d i = absurd m
       recorded up at event (Refused asked why) new h s m al d i = absurd m
+      recorded up at event (Opened who) new h s m al d i = absurd m
       recorded up at event (Cut a) new h s m al d i = absurd m
 
   module _ {S : Type 0} (kinds : Kinds S E) (plan : Plan E) (run : List (Entry E)) (before after : PartId → PartState E) (at : PartId) where
@@ -195,11 +196,11 @@ module _ {E : Type 0} where
     here_crashed : Step Crashed → Here Crashed
     here_crashed s new i = record {
       old = new;
-      was = subst (λ p. Image p new) s.1 i;
+      was = subst (λ p. Image p new) s i;
       more = Lease 0;
       told = told_log new;
       because = tt;
-      downs = λ t k _. clash s.0 k;
+      downs = λ t k l. inr (ap (λ p. p.up) s, l);
     }
 
     here_restarted : (n : ℕ) (b : List ℕ) (named : Option TxId) (listed : List (TxId × ℕ)) → Step (Restarted n b named listed) → Here (Restarted n b named listed)
@@ -233,6 +234,7 @@ module _ {E : Type 0} where
     here Crashed al s = here_crashed s
     here (Restarted n b named listed) al s = here_restarted n b named listed s
     here (Refused asked why) al s = here_refused asked why s
+    here (Opened who) al s = λ new i. same_part_image plan run before (after at).up at (Opened who) at new (ap (λ p. p.up) s) (subst (λ p. Image p new) s i)
 
     everywhere : (event : Event E) → IsAllowed plan run before at (attempt event) → Step event → ((q : PartId) → q ≢ at → after q ≡ before q) → (q : PartId) (new : List (Record E)) → Image (after q) new → Changed plan run before (after q).up at event q new
     everywhere event al s others q new i = ⊎_elim

@@ -2,7 +2,7 @@
 use Rattle.std.proofs.Common.{◌≡◌, ◌≢◌, ⊎_elim, inl, inr, ℕ, ◌+◌, ◌-◌, ◌<◌, ◌≤◌, cond, leb, min, Bool, true, false, not, ◌&&◌, ◌||◌, List, [], ◌∷◌, length, refl, sym, ap, ◌∙◌, subst, arith}
 use Rattle.std.specs.Prelude.{◌==◌}
 use Rattle.std.specs.declared.cmp.Ordering.TheVariants.{Less}
-use Rattle.std.proofs.lemmas.Bool.{cases_Bool, or_cases, and_right, and_parts, cond_both, cond-true, cond-false, eqb-true, eq-eqb, false_from_ne_true}
+use Rattle.std.proofs.lemmas.Bool.{cases_Bool, or_cases, and_from, and_right, and_parts, not-true, cond_both, cond-true, cond-false, eqb-true, eq-eqb, false_from_ne_true}
 use Rattle.std.proofs.lemmas.List.{length-replicate}
 use Rattle.site_vector.specs.declared.ids.PartId.{PartId}
 use Rattle.site_vector.specs.declared.ids.TxId.{TxId}
@@ -16,15 +16,16 @@ use Rattle.crdt_core.specs.declared.record.Record.{Record}
 use Rattle.crdt_core.specs.declared.record.Record.TheVariants.{Lease, Prepare, Decide, Finish, Abort, Batch}
 use Rattle.crdt_core.specs.declared.record.Part.{Part}
 use Rattle.crdt_core.specs.declared.record.Message.{Message}
-use Rattle.world_model.specs.Log.{touches, prepared, prepare_time, prepared_changes, committed, aborted, pending, ceiling, grown}
-use Rattle.world_model.specs.Event.{AskRead, AskUpdate, AskTake, TxPending, HasGap, IsRepeat, Event, Ticked, Began, Updated, Read, Prepared, Decided, Finished, Aborted, Sent, Took, Reported, Heard, Crashed, Restarted, Refused, Cut, Entry, attempt, tried}
-use Rattle.world_model.specs.Partition.{Kinds, PartState, Image, IsOther, IsOwnBound, IsTxPending, AreTimed, names_pending, pending_cmp, end_of_time, lease_for, above, batch_of, new_part, PartStep}
-use Rattle.world_model.specs.Plan.{Plan, IsAllowed, IsRun}
-use Rattle.world_model.specs.Shown.{listed_time, bound_after, bound_shown, pending_after, pending_shown, time_after, pending_time, IsOwnBoundAt, IsFirstPending, ShowsAt, ShowAt}
+use Rattle.world_model.specs.Log.{end_of_time, touches, prepared, prepare_time, prepared_changes, committed, aborted, pending, ceiling, grown}
+use Rattle.world_model.specs.Event.{AskRead, AskUpdate, AskDecide, AskAbort, AskTake, TxPending, IsGone, HasGap, IsRepeat, Event, Ticked, Began, Updated, Read, Prepared, Decided, Finished, Aborted, Sent, Took, Reported, Heard, Crashed, Restarted, Refused, Opened, Cut, Entry, attempt, tried, is_decided}
+use Rattle.world_model.specs.Partition.{Kinds, PartState, Image, IsOther, IsOwnBound, IsReady, IsTxPending, AreTimed, names_pending, pending_cmp, lease_for, above, batch_of, new_part, PartStep}
+use Rattle.world_model.specs.Plan.{Plan, takes_part, IsAllowed, IsRun}
+use Rattle.world_model.specs.Shown.{listed_time, bound_after, bound_shown, pending_after, pending_shown, time_after, pending_time, committed_shown, IsOwnBoundOf, IsOwnBoundAt, IsFirstPending, IsReadyAt, ShowsAt, ShowAt}
 use Rattle.world_model.proofs.Names.{clash, off, part_cases, part_other, entry_same, entry_cases}
 use Rattle.world_model.proofs.Moves.{Because, Move, moved, image_log, grown_last}
 use Rattle.world_model.proofs.Leases.{Leases}
 use Rattle.world_model.proofs.Fate.{Fate, pending_parts, more_prepared}
+use Rattle.world_model.proofs.Later.{in_log, takes, prepared_now, never_aborted, pending_from}
 use Rattle.world_model.proofs.Completeness.{zeros_at}
 use Rattle.world_model.proofs.Kept.{law_plan}
 
@@ -35,7 +36,7 @@ new_pending true false false true h k l = off (l refl)
 new_pending true false false false h k l = refl
 new_pending false p c a h k l = refl
 
-less_pending : (s p c a : Bool) → (p && not ((s || c) || a)) ≡ (not s && (p && not (c || a)))
+pub less_pending : (s p c a : Bool) → (p && not ((s || c) || a)) ≡ (not s && (p && not (c || a)))
 less_pending true p c a = and_right p false refl
 less_pending false p c a = refl
 
@@ -48,7 +49,7 @@ not_pending : (s p : Bool) → (s ≡ true → p ≡ false) → p ≡ (not s && 
 not_pending true p h = h refl
 not_pending false p h = refl
 
-listed_is : {E : Type 0} (log : List (Record E)) (xs : List (TxId × ℕ)) (t : TxId) → AreTimed log xs → names_pending xs t ≡ true → listed_time xs t ≡ prepare_time log t
+pub listed_is : {E : Type 0} (log : List (Record E)) (xs : List (TxId × ℕ)) (t : TxId) → AreTimed log xs → names_pending xs t ≡ true → listed_time xs t ≡ prepare_time log t
 listed_is log [] t a h = off h
 listed_is log (x ∷ xs) t a h = ⊎_elim
     (λ (e : same_tx x.0 t ≡ true). cond-true _ x.1 (listed_time xs t) e ∙ a.0 ∙ ap (prepare_time log) (same_tx_is x.0 t e))
@@ -89,7 +90,7 @@ module _ {E : Type 0} where
     pub time : (q : PartId) (t : TxId) → (parts q).up ≡ true → pending (parts q).log t ≡ true → prepare_time (parts q).log t ≡ pending_time run q t
 
   -- what is shown at the partition of a step
-  record Here (plan : Plan E) (run : List (Entry E)) (at : PartId) (event : Event E) (p : PartState E) : Type 0 where
+  pub record Here (plan : Plan E) (run : List (Entry E)) (at : PartId) (event : Event E) (p : PartState E) : Type 0 where
     pub width : p.up ≡ true → length p.bounds ≡ plan.sites
     pub bounds : (j : ℕ) → p.up ≡ true → IsOther plan.sites at.site j → entry p.bounds j ≡ bound_after j (bound_shown run at j) event
     pub waiting : (t : TxId) → p.up ≡ true → pending p.log t ≡ pending_after t (pending_shown run at t) event
@@ -152,7 +153,7 @@ module _ {E : Type 0} where
           time = λ t x k. ap (λ p. prepare_time p.log t) st.2 ∙ batch_time (before at).log m b (above m.from b m.parts) t ∙ h.time at t st.0 (sym (batch_pending (before at).log m b (above m.from b m.parts) t) ∙ (ap (λ p. pending p.log t) (sym st.2) ∙ k));
         }
 
-    here : (event : Event E) → IsAllowed plan run before at (attempt event) → PartStep kinds plan.sites plan.parts at (before at) event (after at) → Here plan run at event (after at)
+    pub here : (event : Event E) → IsAllowed plan run before at (attempt event) → PartStep kinds plan.sites plan.parts at (before at) event (after at) → Here plan run at event (after at)
     here (Ticked r n) al st = plain (Ticked r n) st.0 (λ j. refl) (λ t. refl) (λ t. refl) (ap (λ p. p.bounds) st.2) (λ t. ap (λ p. pending p.log t) st.2 ∙ leased_pending (before at).log n t) (λ t. ap (λ p. prepare_time p.log t) st.2 ∙ leased_time (before at).log n t)
     here (Began who dep u s) al st = plain (Began who dep u s) st.0 (λ j. refl) (λ t. refl) (λ t. refl) (ap (λ p. p.bounds) st.2) (λ t. ap (λ p. pending p.log t) st.2 ∙ leased_pending (before at).log u.time t) (λ t. ap (λ p. prepare_time p.log t) st.2 ∙ leased_time (before at).log u.time t)
     here (Updated u s o own op read x stamp) al st = plain (Updated u s o own op read x stamp) st.0 (λ j. refl) (λ t. refl) (λ t. refl) (ap (λ p. p.bounds) st.2) (λ t. ap (λ p. pending p.log t) st.2) (λ t. ap (λ p. prepare_time p.log t) st.2)
@@ -166,7 +167,7 @@ module _ {E : Type 0} where
     here (Reported b) al st = plain (Reported b) st.0 (λ j. refl) (λ t. refl) (λ t. refl) (ap (λ p. p.bounds) st.2) (λ t. ap (λ p. pending p.log t) st.2) (λ t. ap (λ p. prepare_time p.log t) st.2)
     here (Heard q b stable) al st = plain (Heard q b stable) st.0 (λ j. refl) (λ t. refl) (λ t. refl) (ap (λ p. p.bounds) st.2) (λ t. ap (λ p. pending p.log t) st.2) (λ t. ap (λ p. prepare_time p.log t) st.2)
     here (Cut a) al st = gone_down (Cut a) (ap (λ p. p.up) st.2)
-    here Crashed al st = gone_down Crashed (ap (λ p. p.up) st.1)
+    here Crashed al st = gone_down Crashed (ap (λ p. p.up) st)
     here (Restarted n b named listed) al st = record {
       width = λ x. st.width;
       bounds = λ j x o. sym (st.shown_bounds.others j o);
@@ -178,6 +179,12 @@ module _ {E : Type 0} where
       bounds = λ j x o. ap (λ p. entry p.bounds j) st.1 ∙ h.bounds at j (sym (ap (λ p. p.up) st.1) ∙ x) o;
       waiting = λ t x. ap (λ p. pending p.log t) st.1 ∙ h.waiting at t (sym (ap (λ p. p.up) st.1) ∙ x);
       time = λ t x k. ap (λ p. prepare_time p.log t) st.1 ∙ h.time at t (sym (ap (λ p. p.up) st.1) ∙ x) (ap (λ p. pending p.log t) (sym st.1) ∙ k);
+    }
+    here (Opened who) al st = record {
+      width = λ x. ap (λ p. length p.bounds) st ∙ h.width at (sym (ap (λ p. p.up) st) ∙ x);
+      bounds = λ j x o. ap (λ p. entry p.bounds j) st ∙ h.bounds at j (sym (ap (λ p. p.up) st) ∙ x) o;
+      waiting = λ t x. ap (λ p. pending p.log t) st ∙ h.waiting at t (sym (ap (λ p. p.up) st) ∙ x);
+      time = λ t x k. ap (λ p. prepare_time p.log t) st ∙ h.time at t (sym (ap (λ p. p.up) st) ∙ x) (ap (λ p. pending p.log t) (sym st) ∙ k);
     }
 
     first_step : (event : Event E) → Move plan run before after at event → (q : PartId) (new : List (Record E)) (t : TxId) → Image (after q) new → aborted new t ≡ true → prepared new t ≡ true
@@ -220,7 +227,7 @@ module _ {E : Type 0} where
       seen : (u : TxId) → pending_shown run at u ≡ true → pending (before at).log u ≡ true
       seen u k = h.waiting at u up ∙ k
 
-      own_bound : (b : ℕ) → IsOwnBound (before at).now (before at).log b → IsOwnBoundAt run at b
+      pub own_bound : (b : ℕ) → IsOwnBound (before at).now (before at).log b → IsOwnBoundAt run at b
       own_bound b o = record {
         most = subst (λ n. b ≤ n) (l.clock at).now o.most;
         below = λ u k. subst (λ n. b < n) (h.time at u up (seen u k)) (o.below u (seen u k));
@@ -242,13 +249,60 @@ module _ {E : Type 0} where
             first = λ w k y. let q = seen w k in subst (λ m. pending_cmp (w, m) (u, n) ≢ Less) (h.time at w up q) (x.first w q (subst (λ z. touches z o ≡ true) (sym (same w q)) y));
           }
 
+    -- a read that was ready is shown to be
+    ready_is : (up : (before at).up ≡ true) (l : Leases run before) (s : List ℕ) (o : ObjectId) → IsReady at (before at) s o → IsReadyAt plan run at s o
+    ready_is up l s o x =
+        let log = (before at).log in record {
+          clock = subst (λ n. entry s at.site ≤ n) (l.clock at).now x.clock;
+          free = λ u k y.
+              let w : pending log u ≡ true = h.waiting at u up ∙ k in
+              let same : prepared_changes log u ≡ plan.updates u at = f.wrote at log u (image_log (before at)) (pending_parts log u w).prepared in
+              subst (λ n. entry s at.site < n) (h.time at u up w) (x.free u w (subst (λ z. touches z o ≡ true) (sym same) y));
+        }
+
+    -- what is committed here is shown to be
+    committed_is : (before at).up ≡ true → (t : TxId) → committed (before at).log t ≡ committed_shown plan run at t
+    committed_is up t =
+        let log = (before at).log in ⊎_elim
+        (λ (c : committed log t ≡ true).
+        let gone : pending_shown run at t ≡ false = sym (h.waiting at t up) ∙ and_right (prepared log t) _ (ap (λ b. not (b || aborted log t)) c) in
+        c ∙ sym (and_from _ _ (takes plan run before f at t c) (and_from _ _ (in_log plan run before f at 0 up t c) (ap not gone))))
+        (λ (c : committed log t ≡ false). c ∙ sym (false_from_ne_true _ (λ k.
+        let a = and_parts (takes_part plan t at) _ k in
+        let b = and_parts (is_decided run t) _ a.1 in
+        let i = image_log (before at) in
+        let w = pending_from log t (prepared_now plan run before f at log t i b.0 a.0).0 c (never_aborted plan run before f at log t i b.0) in
+        clash (sym (h.waiting at t up) ∙ w) (not-true (pending_shown run at t) b.1))))
+        (cases_Bool (committed log t))
+
+    known_is : (before at).up ≡ true → (t : TxId) → (pending (before at).log t || committed (before at).log t) ≡ (pending_shown run at t || committed_shown plan run at t)
+    known_is up t = λ i. (h.waiting at t up i || committed_is up t i)
+
     shows_event : (event : Event E) (q : PartState E) → Leases run before → IsAllowed plan run before at (attempt event) → PartStep kinds plan.sites plan.parts at (before at) event q → ShowsAt plan run at event
+    shows_event (Began who dep t s) q l al st = subst (λ n. n < end_of_time) (l.clock at).now st.1.early
+    shows_event (Read t s o own read value) q l al st = ready_is st.0 l s o st.1.0
+    shows_event (Updated t s o own op read u stamp) q l al st = λ k. ready_is st.0 l s o (st.1.ready k)
+    shows_event (Prepared t s y w n) q l al st = let e = (l.clock at).now in (al.snapshot, subst (λ k. entry s at.site ≤ k) e st.1.0, subst (λ k. k < end_of_time) e st.1.2)
     shows_event (Sent asked m) q l al st = own_bound st.0 l m.hi st.1.hi
     shows_event (Took m) q l al st = let e = h.bounds at m.from st.0 al.from in (subst (λ n. m.lo ≤ n) e st.1.0, subst (λ n. n < m.hi) e st.1.1)
     shows_event (Reported b) q l al st = (own_bound st.0 l (entry b at.site) st.1.own, λ j o. st.1.others j o ∙ h.bounds at j st.0 o)
+    shows_event (Restarted n b named listed) q l al st =
+        let o = st.shown_bounds.own in
+        let since : (u : TxId) → names_pending listed u ≡ true → prepare_time q.log u ≡ listed_time listed u = λ u k. sym (listed_is q.log listed u st.timed k) in record {
+          most = subst (λ m. entry b at.site ≤ m) (sym st.shown) o.most;
+          below = λ u k. subst (λ m. entry b at.site < m) (since u k) (o.below u (sym (st.members u) ∙ k));
+          reached = ⊎_elim
+              (λ (e : entry b at.site ≡ q.now). inl (e ∙ sym st.shown))
+              (λ (e : (u : TxId) × (pending q.log u ≡ true) × (prepare_time q.log u ≡ entry b at.site + 1)). let k = st.members e.0 ∙ e.1 in inr (e.0, k, sym (since e.0 k) ∙ e.2))
+              o.reached;
+        }
+    shows_event (Decided t c) q l al st = sym (known_is st.0 t) ∙ st.1
+    shows_event (Finished t c) q l al st = sym (known_is st.0 t) ∙ st.1
     shows_event (Aborted t own) q l al st = sym (h.waiting at t st.0) ∙ st.1
+    shows_event (Refused (AskDecide t c) IsGone) q l al st = sym (known_is st.0.0 t) ∙ st.0.1
+    shows_event (Refused (AskAbort t) IsGone) q l al st = sym (h.waiting at t st.0.0) ∙ st.0.1
     shows_event (Refused (AskRead t s o own) (TxPending u n)) q l al st = first_pending st.0.0 l s o u n st.0.1
-    shows_event (Refused (AskUpdate t s o own op) (TxPending u n)) q l al st = first_pending st.0.0 l s o u n st.0.1.1
+    shows_event (Refused (AskUpdate t s o own op) (TxPending u n)) q l al st = (st.0.1.0, first_pending st.0.0 l s o u n st.0.1.1)
     shows_event (Refused (AskTake m) (HasGap n)) q l al st = (st.0.1.0 ∙ h.bounds at m.from st.0.0 al.from, st.0.1.1)
     shows_event (Refused (AskTake m) (IsRepeat n)) q l al st = (st.0.1.0 ∙ h.bounds at m.from st.0.0 al.from, st.0.1.1, st.0.1.2)
     shows_event event q l al st = tt

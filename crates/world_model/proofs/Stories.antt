@@ -23,7 +23,8 @@ use Rattle.world_model.specs.Partition.{Kinds, PartState, effects_from, effects_
 use Rattle.world_model.specs.Plan.{Plan, is_some_update, takes_part, IsAllowed, change_by, updates_at, update_count}
 use Rattle.world_model.specs.WorldLaw.{IsRightFold, IsRight}
 use Rattle.world_model.specs.Meaning.{Asked, asked_by, asked_at, read_by, HasMeaning, HaveMeaning}
-use Rattle.world_model.specs.World.{plan_of, own_parts, is_own, changes_of, IsNew, IsWorldRun}
+use Rattle.world_model.specs.Handed.{IsNew}
+use Rattle.world_model.specs.World.{plan_of, own_parts, is_own, changes_of, IsWorldRun}
 use Rattle.world_model.proofs.Names.{off}
 use Rattle.world_model.proofs.Leases.{Leases}
 use Rattle.world_model.proofs.Histories.{Facts, IsMade, AreMade, has_index}

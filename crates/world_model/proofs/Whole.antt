@@ -9,22 +9,34 @@ use Rattle.site_vector.specs.Order.{same_part_refl, same_tx_is, same_tx_refl}
 use Rattle.site_vector.specs.Vector.{replaced}
 use Rattle.crdt_core.specs.declared.record.Upd.{Upd}
 use Rattle.world_model.specs.Commit.{partitions}
-use Rattle.world_model.specs.Log.{ceiling, prepared, pending, committed}
+use Rattle.world_model.specs.Log.{end_of_time, ceiling, prepared, pending, committed}
 use Rattle.world_model.specs.Event.{AskFinish, AskTake, Refused, Event, Began, Updated, Read, Prepared, Decided, Finished, Aborted, Took, Heard, Cut, Entry, attempt, is_prepare, tried, voted, shown, shown_after, time_of, is_decided, WasShown}
-use Rattle.world_model.specs.Partition.{Kinds, PartState, end_of_time, PartStep, MayDo}
-use Rattle.world_model.specs.Plan.{Plan, is_some_update, home, takes_part, commit_vector, updates_at, change_by, IsAllowed, IsPlanned, TellsAborted, IsRun}
-use Rattle.world_model.specs.World.{is_begin, begin_vector, begun, snapshot_of, changes_of, first_of, lead_of, own_parts, plan_of, IsNew, IsWorldRun}
+use Rattle.world_model.specs.Partition.{Kinds, PartState, PartStep, MayDo}
+use Rattle.world_model.specs.Plan.{Plan, first_of, is_some_update, home, takes_part, commit_vector, updates_at, change_by, IsAllowed, IsPlanned, TellsAborted, IsRun}
+use Rattle.world_model.specs.Handed.{IsNew}
+use Rattle.world_model.specs.World.{is_begin, begin_vector, begun, snapshot_of, changes_of, lead_of, own_parts, plan_of, IsWorldRun}
 use Rattle.world_model.specs.LawfulWorld.{IsLawfulWorld}
+use Rattle.world_model.specs.Logs.{LeavesLogs}
+use Rattle.world_model.specs.Lines.{lines_of}
+use Rattle.world_model.specs.LineLaw.{IsLawfulRun}
 use Rattle.world_model.proofs.Names.{clash, off}
 use Rattle.world_model.proofs.Moves.{image_log}
 use Rattle.world_model.proofs.Fate.{pending_parts, voted_tried}
 use Rattle.world_model.proofs.Later.{full_now}
 use Rattle.world_model.proofs.Leases.{Clock, Leases, leases_step, rises}
-use Rattle.world_model.proofs.Kept.{Kept, law_plan, right_all, facts_of, law_kept}
+use Rattle.world_model.proofs.Kept.{Kept, law_plan, right_all, facts_of, strict, closed, never_both}
 use Rattle.world_model.proofs.CausalStores.{causal_stores}
 use Rattle.world_model.proofs.Shows.{show_events}
 use Rattle.world_model.proofs.Hears.{fresh_events}
 use Rattle.world_model.proofs.Ups.{answer_up}
+use Rattle.world_model.proofs.Doubts.{settle_doubts}
+use Rattle.world_model.proofs.Voting.{vote_events, vectors, agreed}
+use Rattle.world_model.proofs.Handing.{handed_events, numbered_events, planned_updates}
+use Rattle.world_model.proofs.Resuming.{resume_events}
+use Rattle.world_model.proofs.Sending.{send_events}
+use Rattle.world_model.proofs.Answering.{due_events, known_events}
+use Rattle.world_model.proofs.LogsLeft.{logs_left}
+use Rattle.world_model.proofs.LineLaws.{lawful_lines}
 use Rattle.world_model.proofs.Stories.{stories, meanings, planned_changes}
 
 or_none : (x y : Bool) → x ≡ false → (x || y) ≡ y
@@ -32,7 +44,7 @@ or_none true y e = absurd (clash refl e)
 or_none false y e = refl
 
 module _ {E : Type 0} where
-  abbrev IsSuffix : List (Entry E) → List (Entry E) → Type 0
+  abbrev pub IsSuffix : List (Entry E) → List (Entry E) → Type 0
   IsSuffix run [] = run ≡ []
   IsSuffix run (e ∷ whole) = (run ≡ e ∷ whole) ⊎ IsSuffix run whole
 
@@ -44,12 +56,12 @@ module _ {E : Type 0} where
   suffix_tail e run [] h = absurd (cc h)
   suffix_tail e run (x ∷ whole) h = inr (⊎_elim (λ (k : (e ∷ run) ≡ (x ∷ whole)). same_suffix run whole (cc k)) (λ (k : IsSuffix (e ∷ run) whole). suffix_tail e run whole k) h)
 
-  suffix_all : (run : List (Entry E)) → IsSuffix run run
+  pub suffix_all : (run : List (Entry E)) → IsSuffix run run
   suffix_all [] = refl
   suffix_all (e ∷ run) = inl refl
 
   -- clocks, first of all: no id is drawn twice
-  world_leases : {S : Type 0} (kinds : Kinds S E) (sites parts : ℕ) (run : List (Entry E)) (state : PartId → PartState E) → IsWorldRun kinds sites parts run state → Leases run state
+  pub world_leases : {S : Type 0} (kinds : Kinds S E) (sites parts : ℕ) (run : List (Entry E)) (state : PartId → PartState E) → IsWorldRun kinds sites parts run state → Leases run state
   world_leases kinds sites parts [] state r = record { clock = λ q. subst (λ x. Clock x 0 0) (sym (r q)) (record { whole = λ u. refl; now = refl; below = λ m i. omega arith; room = λ m i. subst (λ x. ceiling x ≤ 1000) (sym i) (omega arith); capped = λ m i. subst (λ x. ceiling x ≤ end_of_time) (sym i) (omega arith) }) }
   world_leases kinds sites parts (e ∷ run) state r = leases_step kinds sites parts run r.0 state e.at e.event r.2.step r.2.others (world_leases kinds sites parts run r.0 r.1)
 
@@ -78,7 +90,7 @@ module _ {E : Type 0} where
       (or_cases _ _ h)
 
   -- an id begins once, and is updated after that and before any prepare
-  abbrev IsFresh : List (Entry E) → Event E → Type 0
+  abbrev pub IsFresh : List (Entry E) → Event E → Type 0
   IsFresh run (Began who dep t s) = begun run t ≡ false
   IsFresh run (Updated t s o own op read u stamp) = (begun run t ≡ true) × ((p : PartId) → tried run t p ≡ false)
   IsFresh run event = ⊤
@@ -90,7 +102,7 @@ module _ {E : Type 0} where
       (λ (x : WasShown run p (Began who dep t s)). or_right _ _ (shown_begun run p who dep t s x))
       w
 
-  AllFresh : List (Entry E) → Type 0
+  pub AllFresh : List (Entry E) → Type 0
   AllFresh [] = ⊤
   AllFresh (e ∷ run) = IsFresh run e.event × AllFresh run
 
@@ -104,7 +116,7 @@ module _ {E : Type 0} where
   fresh_event kinds sites parts plan run before at q (Updated t s o own op read u stamp) r al st n = (shown_begun run (home t) al.who al.dependency t s al.begun, n.early)
   fresh_event kinds sites parts plan run before at q event r al st n = tt
 
-  all_fresh : {S : Type 0} (kinds : Kinds S E) (sites parts : ℕ) (run : List (Entry E)) (state : PartId → PartState E) → IsWorldRun kinds sites parts run state → AllFresh run
+  pub all_fresh : {S : Type 0} (kinds : Kinds S E) (sites parts : ℕ) (run : List (Entry E)) (state : PartId → PartState E) → IsWorldRun kinds sites parts run state → AllFresh run
   unfolding AllFresh
   all_fresh kinds sites parts [] state r = tt
   all_fresh kinds sites parts (e ∷ run) state r = (fresh_event kinds sites parts (plan_of sites parts (e ∷ run)) run r.0 e.at (state e.at) e.event r.1 r.2.allowed r.2.step r.3, all_fresh kinds sites parts run r.0 r.1)
@@ -258,7 +270,7 @@ module _ {E : Type 0} where
   planned_too sites parts run whole at a f suf = tt
 
   -- a run by the rules on what came before is a run under the plan of the whole
-  fits : {S : Type 0} (kinds : Kinds S E) (sites parts : ℕ) (run : List (Entry E)) (state : PartId → PartState E) → IsWorldRun kinds sites parts run state → (whole : List (Entry E)) → AllFresh whole → IsSuffix run whole → IsRun kinds (plan_of sites parts whole) run state
+  pub fits : {S : Type 0} (kinds : Kinds S E) (sites parts : ℕ) (run : List (Entry E)) (state : PartId → PartState E) → IsWorldRun kinds sites parts run state → (whole : List (Entry E)) → AllFresh whole → IsSuffix run whole → IsRun kinds (plan_of sites parts whole) run state
   fits kinds sites parts [] state r whole f s = r
   fits kinds sites parts (e ∷ run) state r whole f s =
       let before = r.0 in
@@ -288,14 +300,3 @@ module _ {E : Type 0} where
         },
         planned_too sites parts run whole e.at e.event f s,
       )
-
-  pub law_world : {S : Type 0} (kinds : Kinds S E) (sites parts : ℕ) (run : List (Entry E)) (state : PartId → PartState E) → IsWorldRun kinds sites parts run state → IsLawfulWorld kinds (plan_of sites parts run) run
-  law_world kinds sites parts run state r =
-      let plan = plan_of sites parts run in
-      let under = fits kinds sites parts run state r run (all_fresh kinds sites parts run state r) (suffix_all run) in
-      let k = law_plan kinds plan run state under in
-      let right = right_all kinds plan run state k in
-      let facts = facts_of kinds plan run state k in
-      let made = stories kinds plan run sites parts (world_leases kinds sites parts) run state r right in
-      let all = planned_changes sites parts run in
-      law_kept kinds plan run state k (meanings kinds plan run facts made all sites parts (world_leases kinds sites parts) run state r right) (causal_stores kinds plan run made all) (show_events kinds plan run state under) (fresh_events kinds plan run state under) (answer_up kinds plan run state under)

@@ -2,7 +2,7 @@
 use Rattle.std.specs.Prelude.{◌≡◌, Bool, true, false, if◌then◌else◌, List, [], ◌∷◌, ⊤}
 use Rattle.site_vector.specs.declared.ids.PartId.{PartId}
 use Rattle.site_vector.specs.Ids.{same_part}
-use Rattle.world_model.specs.Event.{IsDown, Event, Crashed, Restarted, Refused, Cut, Entry}
+use Rattle.world_model.specs.Event.{AskRestart, IsDown, IsDamaged, Event, Crashed, Restarted, Refused, Opened, Cut, Entry}
 
 module _ {E : Type 0} where
   abbrev pub down_after : Bool → Event E → Bool
@@ -16,10 +16,13 @@ module _ {E : Type 0} where
   is_down [] p = false
   is_down (e ∷ run) p = if same_part e.at p then down_after (is_down run p) e.event else is_down run p
 
-  -- a partition that is down restarts, or says that it is down; one that is up does neither
+  -- a partition that is down answers nothing but that, until it restarts; one that is up never does. Both may crash and restart
   abbrev pub AnswersAsUp : List (Entry E) → PartId → Event E → Type 0
-  AnswersAsUp run p (Restarted n b named listed) = is_down run p ≡ true
+  AnswersAsUp run p (Restarted n b named listed) = ⊤
+  AnswersAsUp run p Crashed = ⊤
   AnswersAsUp run p (Refused asked IsDown) = is_down run p ≡ true
+  AnswersAsUp run p (Refused AskRestart (IsDamaged at)) = is_down run p ≡ true
+  AnswersAsUp run p (Opened who) = ⊤
   AnswersAsUp run p other = is_down run p ≡ false
 
   abbrev pub AnswerAsUp : List (Entry E) → Type 0

@@ -24,6 +24,7 @@ pub data Ask (E : Type 0) : Type 0 where
   AskTake : (message : Message E) → Ask E
   AskReport : Ask E
   AskHear : (part : ℕ) (bounds : List ℕ) → Ask E
+  AskRestart : Ask E
 
 -- why
 pub data Refusal : Type 0 where
@@ -40,6 +41,10 @@ pub data Refusal : Type 0 where
   -- the receiver has this bound: the message starts above it, or ends at or below it
   HasGap : (have : ℕ) → Refusal
   IsRepeat : (have : ℕ) → Refusal
+  -- the operation isn't one of the kind, or leads deeper than the type reaches
+  IsBadOp : Refusal
+  -- the record with this number, from 0, isn't one of the partition's
+  IsDamaged : (at : ℕ) → Refusal
 
 -- a call of a partition, with what it was handed and what it answered, or a crash
 pub data Event (E : Type 0) : Type 0 where
@@ -63,6 +68,8 @@ pub data Event (E : Type 0) : Type 0 where
   Crashed : Event E
   Restarted : (now : ℕ) (bounds : List ℕ) (named : Option TxId) (listed : List (TxId × ℕ)) → Event E
   Refused : (asked : Ask E) (why : Refusal) → Event E
+  -- a session is opened under this name, or opened anew; no call of a partition
+  Opened : (who : List ℕ) → Event E
   -- a crash inside the call that would have done this
   Cut : (what : Event E) → Event E
 
@@ -93,6 +100,7 @@ module _ {E : Type 0} where
   attempt Crashed = Crashed
   attempt (Restarted n b named listed) = Restarted n b named listed
   attempt (Refused asked why) = Refused asked why
+  attempt (Opened who) = Opened who
 
   abbrev pub is_prepare : Event E → TxId → Bool
   is_prepare (Prepared u s l w n) t = same_tx u t

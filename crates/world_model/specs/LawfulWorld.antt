@@ -5,8 +5,15 @@ use Rattle.site_vector.specs.declared.ids.TxId.{TxId}
 use Rattle.site_vector.specs.Vector.{entry}
 use Rattle.world_model.specs.Event.{Entry, EventsAre, is_decided, time_of, was_aborted}
 use Rattle.world_model.specs.Partition.{Kinds}
-use Rattle.world_model.specs.Plan.{Plan}
-use Rattle.world_model.specs.WorldLaw.{sees_tx, IsRight, ClocksAre, HoldsPast, KeepsDecided, HaveCausesAt}
+use Rattle.world_model.specs.Plan.{Plan, updates_at}
+use Rattle.world_model.specs.WorldLaw.{sees_tx, IsRight, ClocksAre, KeepsDecided, HaveCausesAt}
+use Rattle.world_model.specs.Past.{KeepPast}
+use Rattle.world_model.specs.Answering.{AreDue, IsKnown}
+use Rattle.world_model.specs.Resumed.{Resume}
+use Rattle.world_model.specs.Sends.{Send}
+use Rattle.world_model.specs.Handed.{AreHanded, AreNew}
+use Rattle.world_model.specs.Votes.{KeepVotes, ShowsVector, IsAgreed}
+use Rattle.world_model.specs.Doubt.{SettleDoubts}
 use Rattle.world_model.specs.Downs.{AnswerAsUp}
 use Rattle.world_model.specs.Shown.{ShowAt}
 use Rattle.world_model.specs.Stable.{AreFresh}
@@ -20,10 +27,25 @@ pub record IsLawfulWorld {S E : Type 0} (kinds : Kinds S E) (plan : Plan E) (run
   -- so whatever is stored or sent names only what its transaction has seen
   pub causal : (t : TxId) (p : PartId) → AreCausal kinds plan run t (plan.updates t p)
   pub clock : ClocksAre run
-  pub past : EventsAre HoldsPast run
+  pub past : KeepPast plan.sites run
   pub decided_stay : KeepsDecided plan run
+  pub handed : AreHanded plan run
+  pub numbered : AreNew run
+  -- all updates stand in the plan
+  pub planned : (t : TxId) (p : PartId) → plan.updates t p ≡ updates_at run t p
+  pub votes : KeepVotes plan run
+  pub vectors : EventsAre (ShowsVector plan run) run
+  pub agreed : (t : TxId) → is_decided run t ≡ true → IsAgreed plan run t
+  -- after a decide that was cut off the lead's restart says which of two it was
+  pub doubts : SettleDoubts run
+  pub due : AreDue run
+  pub known : EventsAre (IsKnown kinds) run
   pub causes : HaveCausesAt plan run
   pub downs : AnswerAsUp run
+  -- a restart lists what was before, where a call that was cut off may have been done
+  pub resumed : Resume plan run
+  -- a message begins where it was asked to, or where the last one ended
+  pub sends : Send plan run
   -- messages, takes, reports and waits show the bounds and what is pending, as earlier events do
   pub shown : ShowAt plan run
   -- snapshots have the stable entries, by the reports that were heard

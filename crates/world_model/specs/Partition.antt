@@ -1,5 +1,5 @@
 -- The state of a partition, and what each of its calls may answer and leave.
-use Rattle.std.specs.Prelude.{◌≡◌, ◌≢◌, ◌⊎◌, ℕ, zero, suc, ◌+◌, ◌-◌, ◌^◌, ◌<◌, ◌≤◌, max, min, leb, ltb, Bool, true, false, not, ◌&&◌, ◌||◌, ◌==◌, if◌then◌else◌, List, [], ◌∷◌, ◌++◌, length, replicate, Option, None, Some, slice_index_or, slice_set, ⊤}
+use Rattle.std.specs.Prelude.{◌≡◌, ◌≢◌, ◌⊎◌, ℕ, zero, suc, ◌+◌, ◌-◌, ◌<◌, ◌≤◌, max, min, leb, ltb, Bool, true, false, not, ◌&&◌, ◌||◌, ◌==◌, if◌then◌else◌, List, [], ◌∷◌, ◌++◌, length, replicate, Option, None, Some, slice_index_or, slice_set, ⊤}
 use Rattle.std.specs.Ordering.{nat_cmp, ordering_then}
 use Rattle.std.specs.declared.cmp.Ordering.{Ordering}
 use Rattle.std.specs.declared.cmp.Ordering.TheVariants.{Less}
@@ -26,12 +26,9 @@ use Rattle.crdt_core.specs.Fits.{fits}
 use Rattle.crdt_core.specs.Seen.{Update}
 use Rattle.crdt_core.specs.History.{folded}
 use Rattle.crdt_core.specs.Law.{KeepsLaw}
-use Rattle.world_model.specs.Log.{touches, lists, ceiling, prepare_time, prepared_changes, committed, committed_at, pending, last_decided, bound, holds, held_at, held_changes, grown, IsImage}
-use Rattle.world_model.specs.Event.{Ask, AskBegin, AskRead, AskUpdate, AskPrepare, AskDecide, AskFinish, AskAbort, AskTake, Refusal, IsDown, ClockBehind, TxPending, StableBehind, ClockAtEnd, IsGone, HasGap, IsRepeat, Event, Refused, Ticked, Began, Updated, Read, Prepared, Decided, Finished, Aborted, Sent, Took, Reported, Heard, Crashed, Restarted, Cut}
-
--- the last time that a clock may show
-abbrev pub end_of_time : ℕ
-end_of_time = 2 ^ 62
+use Rattle.world_model.specs.Log.{end_of_time, touches, lists, ceiling, prepare_time, prepared_changes, committed, committed_at, pending, last_decided, bound, holds, held_at, held_changes, grown, IsImage}
+use Rattle.world_model.specs.Event.{Ask, AskBegin, AskRead, AskUpdate, AskPrepare, AskDecide, AskFinish, AskAbort, AskTake, AskRestart, Refusal, IsDown, ClockBehind, TxPending, StableBehind, ClockAtEnd, IsGone, HasGap, IsRepeat, IsBadOp, IsDamaged, Event, Refused, Ticked, Began, Updated, Read, Prepared, Decided, Finished, Aborted, Sent, Took, Reported, Heard, Crashed, Restarted, Opened, Cut}
+use Rattle.world_model.specs.Fitting.{unfit}
 
 -- what the kinds of objects do, under the law of a kind: the trait `Crdt` of whoever stores them
 pub record Kinds (S E : Type 0) : Type 0 where
@@ -89,6 +86,13 @@ lowest known (suc (suc n)) = min (known (suc (suc n))) (lowest known (suc n))
 -- the pending transactions with their prepare times, in the order of time and transaction
 abbrev pub pending_cmp : TxId × ℕ → TxId × ℕ → Ordering
 pending_cmp x y = ordering_then (nat_cmp x.1 y.1) (tx_cmp x.0 y.0)
+
+-- what a partition answers when it is asked for the fate of a transaction
+pub data Fate : Type 0 where
+  ToldPending : Fate
+  ToldCommitted : (c : List ℕ) → Fate
+  ToldAborted : Fate
+  ToldDown : Fate
 
 abbrev pub names_pending : List (TxId × ℕ) → TxId → Bool
 names_pending [] t = false
@@ -198,19 +202,19 @@ module _ {E : Type 0} where
   batch_of m b [] = []
   batch_of m b (x ∷ xs) = Batch (record { from = m.from; to = m.to; part = m.part; lo = b; hi = m.hi; parts = x ∷ xs }) ∷ []
 
-  abbrev pub batch_for : PartState E → Message E → List (Record E)
-  batch_for p m = batch_of m (entry p.bounds m.from) (above m.from (entry p.bounds m.from) m.parts)
+  -- the records that an event adds to a log, where its partition has these bounds
+  abbrev pub written : List (Record E) → (ℕ → ℕ) → Event E → List (Record E)
+  written log bounds (Ticked r n) = lease_for log n
+  written log bounds (Began who dep t s) = lease_for log t.time
+  written log bounds (Prepared t s l w n) = lease_for log n ++ Prepare t l n s w ∷ []
+  written log bounds (Decided t c) = if pending log t then Decide t c ∷ [] else []
+  written log bounds (Finished t c) = if pending log t then Finish t c ∷ [] else []
+  written log bounds (Aborted t own) = Abort t ∷ []
+  written log bounds (Took m) = batch_of m (bounds m.from) (above m.from (bounds m.from) m.parts)
+  written log bounds other = []
 
-  -- the records that an event adds
   abbrev pub records : PartState E → Event E → List (Record E)
-  records p (Ticked r n) = lease_for p.log n
-  records p (Began who dep t s) = lease_for p.log t.time
-  records p (Prepared t s l w n) = lease_for p.log n ++ Prepare t l n s w ∷ []
-  records p (Decided t c) = if pending p.log t then Decide t c ∷ [] else []
-  records p (Finished t c) = if pending p.log t then Finish t c ∷ [] else []
-  records p (Aborted t own) = Abort t ∷ []
-  records p (Took m) = batch_for p m
-  records p other = []
+  records p e = written p.log (λ j. entry p.bounds j) e
 
   abbrev pub now_after : ℕ → Event E → ℕ
   now_after now (Ticked r n) = n
@@ -248,10 +252,16 @@ module _ {E : Type 0} where
   abbrev pub cut : PartState E → Event E → PartState E
   cut p e = down p (records p e)
 
+  -- what a partition tells of a transaction of its site: its lead's word is its fate
+  abbrev pub fate_of : PartState E → TxId → Fate
+  fate_of p t = if p.up then (if pending p.log t then ToldPending else (if committed p.log t then ToldCommitted (committed_at p.log t) else ToldAborted)) else ToldDown
+
   -- the stable entries that a partition tells when it has heard a report
   pub record IsStable (sites parts : ℕ) (id : PartId) (p : PartState E) (stable : List ℕ) : Type 0 where
     pub width : length stable ≡ sites
     pub others : (j : ℕ) → IsOther sites id.site j → entry stable j ≡ stable_entry parts id p j
+    -- of its own site it knows its own bound, and what it heard of the others
+    pub own : (b : ℕ) × IsOwnBound p.now p.log b × (entry stable id.site ≡ lowest (λ q. if id.part == q then b else entry (vector_of p.heard q) id.site) parts)
 
   -- when a call of a partition answers this
   abbrev pub MayDo : {S : Type 0} → Kinds S E → ℕ → ℕ → PartId → PartState E → Event E → Type 0
@@ -299,8 +309,9 @@ module _ {E : Type 0} where
   IsDue kinds sites parts id p (AskBegin who dep) ClockAtEnd = IsStableEnough sites parts id p dep × (p.now ≡ end_of_time)
   IsDue kinds sites parts id p (AskRead t s o own) (ClockBehind n) = (n ≡ p.now) × (n < entry s id.site)
   IsDue kinds sites parts id p (AskRead t s o own) (TxPending u n) = IsTxPending id p s o u n
-  IsDue kinds sites parts id p (AskUpdate t s o own op) (ClockBehind n) = (reads_state o.kind ≡ true) × (n ≡ p.now) × (n < entry s id.site)
-  IsDue kinds sites parts id p (AskUpdate t s o own op) (TxPending u n) = (reads_state o.kind ≡ true) × IsTxPending id p s o u n
+  IsDue kinds sites parts id p (AskUpdate t s o own op) IsBadOp = (fits o.kind op.path op.act && not (kinds.too_deep o.kind op.path)) ≡ false
+  IsDue kinds sites parts id p (AskUpdate t s o own op) (ClockBehind n) = (reads_state o.kind ≡ true) × (n ≡ p.now) × (n < entry s id.site) × ((fits o.kind op.path op.act && not (kinds.too_deep o.kind op.path)) ≡ true)
+  IsDue kinds sites parts id p (AskUpdate t s o own op) (TxPending u n) = (reads_state o.kind ≡ true) × IsTxPending id p s o u n × ((fits o.kind op.path op.act && not (kinds.too_deep o.kind op.path)) ≡ true)
   IsDue kinds sites parts id p (AskPrepare t s l w) (ClockBehind n) = (n ≡ p.now) × (n < entry s id.site)
   IsDue kinds sites parts id p (AskPrepare t s l w) ClockAtEnd = (entry s id.site ≤ p.now) × (p.now ≡ end_of_time)
   IsDue kinds sites parts id p (AskDecide t c) IsGone = (pending p.log t || committed p.log t) ≡ false
@@ -310,15 +321,23 @@ module _ {E : Type 0} where
   IsDue kinds sites parts id p (AskTake m) (IsRepeat n) = (n ≡ entry p.bounds m.from) × (m.lo ≤ n) × (m.hi ≤ n)
   IsDue kinds sites parts id p asked why = ⊥
 
+  -- what a restart found isn't the partition's
+  pub record IsUnfit (sites parts : ℕ) (id : PartId) (p : PartState E) (at : ℕ) : Type 0 where
+    pub down : p.up ≡ false
+    pub log : List (Record E)
+    pub found : Image p log
+    pub first : unfit sites parts id log ≡ Some at
+
   -- down is first of all
   abbrev pub IsRefused : {S : Type 0} → Kinds S E → ℕ → ℕ → PartId → PartState E → Ask E → Refusal → Type 0
   IsRefused kinds sites parts id p asked IsDown = p.up ≡ false
+  IsRefused kinds sites parts id p AskRestart (IsDamaged at) = IsUnfit sites parts id p at
   IsRefused kinds sites parts id p asked why = (p.up ≡ true) × IsDue kinds sites parts id p asked why
 
-  -- a restart reads the log again and forgets the rest
+  -- a restart reads the log again and forgets the rest; one that is up acts as if it had crashed
   pub record IsRestart (sites parts : ℕ) (id : PartId) (p : PartState E) (n : ℕ) (b : List ℕ) (named : Option TxId) (listed : List (TxId × ℕ)) (q : PartState E) : Type 0 where
-    pub down : p.up ≡ false
     pub found : Image p q.log
+    pub fits : unfit sites parts id q.log ≡ None
     pub up : q.up ≡ true
     pub whole : q.torn ≡ []
     pub clock : q.now ≡ ceiling q.log
@@ -336,8 +355,10 @@ module _ {E : Type 0} where
   -- a step of one partition: the relation of its calls
   abbrev pub PartStep : {S : Type 0} → Kinds S E → ℕ → ℕ → PartId → PartState E → Event E → PartState E → Type 0
   PartStep kinds sites parts id p (Cut what) q = (p.up ≡ true) × MayDo kinds sites parts id p what × (q ≡ cut p what)
-  PartStep kinds sites parts id p Crashed q = (p.up ≡ true) × (q ≡ down p p.torn)
+  -- also where it is down already
+  PartStep kinds sites parts id p Crashed q = q ≡ down p p.torn
   PartStep kinds sites parts id p (Restarted n b named listed) q = IsRestart sites parts id p n b named listed q
+  PartStep kinds sites parts id p (Opened who) q = q ≡ p
   PartStep kinds sites parts id p (Refused asked why) q = IsRefused kinds sites parts id p asked why × (q ≡ p)
   PartStep kinds sites parts id p e q = (p.up ≡ true) × MayDo kinds sites parts id p e × (q ≡ done p e)
 

@@ -10,7 +10,8 @@ use Rattle.crdt_core.specs.declared.record.Message.{Message}
 use Rattle.crdt_core.specs.Objects.{same_object}
 use Rattle.crdt_core.specs.Placing.{place_of}
 use Rattle.world_model.specs.Log.{pending, committed}
-use Rattle.world_model.specs.Event.{Ask, AskRead, AskUpdate, AskPrepare, AskFinish, AskTake, Refused, Event, Began, Updated, Read, Prepared, Decided, Finished, Aborted, Sent, Took, Reported, Heard, Entry, attempt, tried, voted, decide_tried, gave_up, is_decided, time_of, WasShown}
+use Rattle.world_model.specs.Event.{Ask, AskBegin, AskRead, AskUpdate, AskPrepare, AskFinish, AskTake, Refused, Event, Began, Updated, Read, Prepared, Decided, Finished, Aborted, Sent, Took, Reported, Heard, Entry, attempt, tried, voted, decide_tried, gave_up, is_decided, time_of, WasShown}
+use Rattle.world_model.specs.Past.{dependency}
 use Rattle.world_model.specs.Partition.{Kinds, PartState, IsOther, new_part, PartStep}
 
 abbrev pub is_some_update : {E : Type 0} → List (Upd E) → Bool
@@ -41,6 +42,10 @@ pub record IsPlace (sites parts : ℕ) (p : PartId) : Type 0 where
 -- the partition of a site with the number of p
 abbrev pub twin : ℕ → PartId → PartId
 twin site p = record { site = site; part = p.part }
+
+abbrev pub first_of : PartId → List PartId → PartId
+first_of p [] = p
+first_of p (q ∷ qs) = q
 
 -- where a transaction began
 abbrev pub home : TxId → PartId
@@ -140,6 +145,7 @@ module _ {E : Type 0} where
 
   -- who asks for what is refused
   abbrev pub MayAsk : Plan E → List (Entry E) → PartId → Ask E → Type 0
+  MayAsk plan run p (AskBegin who dep) = dep ≡ dependency plan.sites run who
   MayAsk plan run p (AskRead t s o own) = IsSession run p t s
   MayAsk plan run p (AskUpdate t s o own op) = IsSession run p t s
   MayAsk plan run p (AskPrepare t s l w) = IsSession run p t s
@@ -149,6 +155,7 @@ module _ {E : Type 0} where
 
   -- what sessions hold, the lead tells, and messages and reports bring
   abbrev pub IsAllowed : Plan E → List (Entry E) → (PartId → PartState E) → PartId → Event E → Type 0
+  IsAllowed plan run parts at (Began who dep t s) = dep ≡ dependency plan.sites run who
   IsAllowed plan run parts at (Updated t s o own op read u stamp) = IsAsked plan run at t s o own
   IsAllowed plan run parts at (Read t s o own read value) = IsAsked plan run at t s o own
   IsAllowed plan run parts at (Prepared t s l w n) = MayPrepare plan run at t s l w

@@ -6,15 +6,22 @@ use Rattle.site_vector.specs.declared.ids.TxId.{TxId}
 use Rattle.site_vector.specs.Ids.{same_part, same_tx}
 use Rattle.site_vector.specs.Vector.{entry}
 use Rattle.crdt_core.specs.declared.object.ObjectId.{ObjectId}
-use Rattle.world_model.specs.Log.{touches}
-use Rattle.world_model.specs.Event.{AskRead, AskUpdate, AskTake, TxPending, HasGap, IsRepeat, Event, Prepared, Decided, Finished, Aborted, Sent, Took, Reported, Restarted, Refused, Entry, shown}
+use Rattle.crdt_core.specs.Kinds.{reads_state}
+use Rattle.world_model.specs.Log.{end_of_time, touches}
+use Rattle.world_model.specs.Event.{Began, Updated, Read, AskRead, AskUpdate, AskDecide, AskAbort, AskTake, TxPending, IsGone, HasGap, IsRepeat, Event, Prepared, Decided, Finished, Aborted, Sent, Took, Reported, Restarted, Refused, Entry, is_decided, shown}
 use Rattle.world_model.specs.Partition.{IsOther, names_pending, pending_cmp}
-use Rattle.world_model.specs.Plan.{Plan}
+use Rattle.world_model.specs.Plan.{Plan, takes_part}
 
 -- the time of t in such a list
 abbrev pub listed_time : List (TxId × ℕ) → TxId → ℕ
 listed_time [] t = 0
 listed_time (x ∷ xs) t = if same_tx x.0 t then x.1 else listed_time xs t
+
+-- the own bound of a partition that restarts at this time with this list
+pub record IsOwnBoundOf (now : ℕ) (listed : List (TxId × ℕ)) (b : ℕ) : Type 0 where
+  pub most : b ≤ now
+  pub below : (u : TxId) → names_pending listed u ≡ true → b < listed_time listed u
+  pub reached : (b ≡ now) ⊎ ((u : TxId) × (names_pending listed u ≡ true) × (listed_time listed u ≡ b + 1))
 
 module _ {E : Type 0} where
   -- the bound for site j: the end of the last message taken from there, or what a later restart showed
@@ -64,14 +71,32 @@ module _ {E : Type 0} where
     pub early : n ≤ entry s p.site
     pub first : (w : TxId) → pending_shown run p w ≡ true → touches (plan.updates w p) o ≡ true → pending_cmp (w, pending_time run p w) (u, n) ≢ Less
 
+  -- a participant of what is decided so far has it committed, unless it is pending there still
+  abbrev pub committed_shown : Plan E → List (Entry E) → PartId → TxId → Bool
+  committed_shown plan run p t = takes_part plan t p && (is_decided run t && not (pending_shown run p t))
+
+  -- no wait was due for a read of the object under s
+  pub record IsReadyAt (plan : Plan E) (run : List (Entry E)) (p : PartId) (s : List ℕ) (o : ObjectId) : Type 0 where
+    pub clock : entry s p.site ≤ shown run p
+    pub free : (u : TxId) → pending_shown run p u ≡ true → touches (plan.updates u p) o ≡ true → entry s p.site < pending_time run p u
+
   -- what an event shows of bounds and of what is pending
   abbrev pub ShowsAt : Plan E → List (Entry E) → PartId → Event E → Type 0
+  ShowsAt plan run p (Began who dep t s) = shown run p < end_of_time
+  ShowsAt plan run p (Read t s o own read value) = IsReadyAt plan run p s o
+  ShowsAt plan run p (Updated t s o own op read u stamp) = reads_state o.kind ≡ true → IsReadyAt plan run p s o
+  ShowsAt plan run p (Prepared t s l w n) = (s ≡ plan.snapshot t) × (entry s p.site ≤ shown run p) × (shown run p < end_of_time)
   ShowsAt plan run p (Sent asked m) = IsOwnBoundAt run p m.hi
   ShowsAt plan run p (Took m) = (m.lo ≤ bound_shown run p m.from) × (bound_shown run p m.from < m.hi)
   ShowsAt plan run p (Reported b) = IsOwnBoundAt run p (entry b p.site) × ((j : ℕ) → IsOther plan.sites p.site j → entry b j ≡ bound_shown run p j)
+  ShowsAt plan run p (Restarted n b named listed) = IsOwnBoundOf n listed (entry b p.site)
+  ShowsAt plan run p (Decided t c) = (pending_shown run p t || committed_shown plan run p t) ≡ true
+  ShowsAt plan run p (Finished t c) = (pending_shown run p t || committed_shown plan run p t) ≡ true
   ShowsAt plan run p (Aborted t own) = pending_shown run p t ≡ true
+  ShowsAt plan run p (Refused (AskDecide t c) IsGone) = (pending_shown run p t || committed_shown plan run p t) ≡ false
+  ShowsAt plan run p (Refused (AskAbort t) IsGone) = pending_shown run p t ≡ false
   ShowsAt plan run p (Refused (AskRead t s o own) (TxPending u n)) = IsFirstPending plan run p s o u n
-  ShowsAt plan run p (Refused (AskUpdate t s o own op) (TxPending u n)) = IsFirstPending plan run p s o u n
+  ShowsAt plan run p (Refused (AskUpdate t s o own op) (TxPending u n)) = (reads_state o.kind ≡ true) × IsFirstPending plan run p s o u n
   ShowsAt plan run p (Refused (AskTake m) (HasGap n)) = (n ≡ bound_shown run p m.from) × (n < m.lo)
   ShowsAt plan run p (Refused (AskTake m) (IsRepeat n)) = (n ≡ bound_shown run p m.from) × (m.lo ≤ n) × (m.hi ≤ n)
   ShowsAt plan run p other = ⊤

@@ -1,12 +1,13 @@
 -- Fresh snapshots: the stable entries of a partition, by what a run shows.
-use Rattle.std.specs.Prelude.{◌≡◌, ℕ, ◌<◌, ◌≤◌, max, ◌==◌, if◌then◌else◌, List, [], ◌∷◌, ⊤}
+use Rattle.std.specs.Prelude.{◌≡◌, ℕ, ◌<◌, ◌≤◌, max, ◌==◌, if◌then◌else◌, List, [], ◌∷◌, length, ⊤}
 use Rattle.site_vector.specs.declared.ids.PartId.{PartId}
+use Rattle.site_vector.specs.declared.ids.TxId.{TxId}
 use Rattle.site_vector.specs.Ids.{same_part}
 use Rattle.site_vector.specs.Vector.{entry}
-use Rattle.world_model.specs.Event.{AskBegin, StableBehind, Event, Began, Heard, Restarted, Refused, Entry}
+use Rattle.world_model.specs.Event.{AskBegin, StableBehind, ClockAtEnd, Event, Began, Heard, Restarted, Refused, Entry}
 use Rattle.world_model.specs.Partition.{IsOther, lowest}
 use Rattle.world_model.specs.Plan.{Plan}
-use Rattle.world_model.specs.Shown.{bound_shown}
+use Rattle.world_model.specs.Shown.{bound_shown, IsOwnBoundAt}
 
 module _ {E : Type 0} where
   -- the greatest entry for site j in the reports of partition q that were heard since the last restart
@@ -33,8 +34,22 @@ module _ {E : Type 0} where
     pub behind : n < entry dependency j
     pub least : (i : ℕ) → IsOther plan.sites p.site i → stable_shown plan.parts run p i < entry dependency i → j ≤ i
 
+  -- the entries that p tells, once it has heard so much: for its own site by its own bound
+  pub record IsStableAt (plan : Plan E) (run : List (Entry E)) (p : PartId) (heard : ℕ → ℕ → ℕ) (stable : List ℕ) : Type 0 where
+    pub width : length stable ≡ plan.sites
+    pub others : (j : ℕ) → IsOther plan.sites p.site j → entry stable j ≡ lowest (λ q. if p.part == q then bound_shown run p j else heard q j) plan.parts
+    pub own : (b : ℕ) × IsOwnBoundAt run p b × (entry stable p.site ≡ lowest (λ q. if p.part == q then b else heard q p.site) plan.parts)
+
+  -- a snapshot has an entry for each site: the stable one for another, and for the own the greater of the drawn time and the dependency's
+  pub record IsSnapshotAt (plan : Plan E) (run : List (Entry E)) (p : PartId) (dependency : List ℕ) (t : TxId) (s : List ℕ) : Type 0 where
+    pub width : length s ≡ plan.sites
+    pub own : entry s p.site ≡ max t.time (entry dependency p.site)
+    pub others : (j : ℕ) → IsOther plan.sites p.site j → entry s j ≡ stable_shown plan.parts run p j
+
   abbrev pub IsFreshAt : Plan E → List (Entry E) → PartId → Event E → Type 0
-  IsFreshAt plan run p (Began who dep t s) = (j : ℕ) → IsOther plan.sites p.site j → entry s j ≡ stable_shown plan.parts run p j
+  IsFreshAt plan run p (Began who dep t s) = IsSnapshotAt plan run p dep t s
+  IsFreshAt plan run p (Heard k b stable) = IsStableAt plan run p (λ q j. heard_from q j (heard_shown run p q j) (Heard k b stable)) stable
+  IsFreshAt plan run p (Refused (AskBegin who dep) ClockAtEnd) = (j : ℕ) → IsOther plan.sites p.site j → entry dep j ≤ stable_shown plan.parts run p j
   IsFreshAt plan run p (Refused (AskBegin who dep) (StableBehind j n)) = IsBehindAt plan run p dep j n
   IsFreshAt plan run p other = ⊤
 

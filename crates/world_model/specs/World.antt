@@ -8,12 +8,12 @@ use Rattle.crdt_core.specs.declared.record.Upd.{Upd}
 use Rattle.world_model.specs.Commit.{partitions}
 use Rattle.world_model.specs.Event.{Event, Began, Updated, Entry, tried}
 use Rattle.world_model.specs.Partition.{Kinds, PartState, new_part}
-use Rattle.world_model.specs.Plan.{Plan, is_some_update, home, updates_at, update_count, WorldStep}
+use Rattle.world_model.specs.Plan.{Plan, first_of, is_some_update, home, updates_at, update_count, WorldStep}
+use Rattle.world_model.specs.Handed.{IsNew}
 use Rattle.world_model.specs.LawfulWorld.{IsLawfulWorld}
-
-abbrev pub first_of : PartId → List PartId → PartId
-first_of p [] = p
-first_of p (q ∷ qs) = q
+use Rattle.world_model.specs.Logs.{LeavesLogs}
+use Rattle.world_model.specs.Lines.{lines_of}
+use Rattle.world_model.specs.LineLaw.{IsLawfulRun}
 
 module _ {E : Type 0} where
   abbrev pub is_begin : Event E → TxId → Bool
@@ -71,20 +71,11 @@ module _ {E : Type 0} where
     entered = λ t p h. leb-true _ _ (own_parts sites run t p h).3;
   }
 
-  -- an update comes before any prepare, and bears the next number
-  pub record IsNewUpdate (run : List (Entry E)) (t : TxId) (u : Upd E) : Type 0 where
-    pub early : (p : PartId) → tried run t p ≡ false
-    pub number : u.index ≡ update_count run t + 1
-
-  abbrev pub IsNew : List (Entry E) → Event E → Type 0
-  IsNew run (Updated t s o own op read u stamp) = IsNewUpdate run t u
-  IsNew run other = ⊤
-
   -- each step is allowed by what the events up to it say
   abbrev pub IsWorldRun : {S : Type 0} → Kinds S E → ℕ → ℕ → List (Entry E) → (PartId → PartState E) → Type 0
   IsWorldRun kinds sites parts [] state = (p : PartId) → state p ≡ new_part sites parts
   IsWorldRun kinds sites parts (e ∷ run) state = (before : PartId → PartState E) × IsWorldRun kinds sites parts run before × WorldStep kinds (plan_of sites parts (e ∷ run)) run before e state × IsNew run e.event
 
--- any run of the world is lawful, whatever its kinds do
+-- any run of the world is lawful, whatever its kinds do, leaves the logs that its events tell, and shows the lines of a lawful run
 abbrev pub LawWorld : (S E : Type 0) → Type 0
-LawWorld S E = (kinds : Kinds S E) (sites parts : ℕ) (run : List (Entry E)) (state : PartId → PartState E) → IsWorldRun kinds sites parts run state → IsLawfulWorld kinds (plan_of sites parts run) run
+LawWorld S E = (kinds : Kinds S E) (sites parts : ℕ) (run : List (Entry E)) (state : PartId → PartState E) → IsWorldRun kinds sites parts run state → IsLawfulWorld kinds (plan_of sites parts run) run × LeavesLogs sites run state × IsLawfulRun kinds.too_deep kinds.meaning sites parts (lines_of run)

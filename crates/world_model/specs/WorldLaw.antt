@@ -7,9 +7,9 @@ use Rattle.crdt_core.specs.declared.object.ObjectId.{ObjectId}
 use Rattle.crdt_core.specs.Kinds.{reads_state}
 use Rattle.crdt_core.specs.declared.record.Part.{Part}
 use Rattle.crdt_core.specs.declared.record.Message.{Message}
-use Rattle.world_model.specs.Log.{touches, lists}
-use Rattle.world_model.specs.Event.{AskRead, AskUpdate, AskPrepare, AskFinish, ClockBehind, ClockAtEnd, IsGone, Refused, Event, Ticked, Began, Updated, Read, Prepared, Sent, Restarted, Entry, is_decided, time_of, shown, missed}
-use Rattle.world_model.specs.Partition.{end_of_time, Kinds, state_read, Ascends, fold_cmp, stream_cmp, AreParts, names_pending}
+use Rattle.world_model.specs.Log.{end_of_time, touches, lists}
+use Rattle.world_model.specs.Event.{AskRead, AskUpdate, AskPrepare, AskFinish, ClockBehind, ClockAtEnd, IsGone, Refused, Event, Ticked, Began, Updated, Read, Prepared, Sent, Restarted, Cut, Entry, is_decided, time_of, shown, missed}
+use Rattle.world_model.specs.Partition.{Kinds, state_read, Ascends, fold_cmp, stream_cmp, AreParts, names_pending}
 use Rattle.world_model.specs.Plan.{Plan, takes_part, changes_at, commit_vector}
 
 module _ {E : Type 0} where
@@ -35,6 +35,10 @@ module _ {E : Type 0} where
   ClockIs run p (Began who dep t s) = t.time ≡ shown run p + 1
   ClockIs run p (Prepared t s l w n) = n ≡ shown run p + 1
   ClockIs run p (Restarted n b named listed) = (shown run p ≤ n) × (n ≤ 1000 + max (shown run p) (missed run p))
+  -- and what a call would have shown that was cut off
+  ClockIs run p (Cut (Ticked r n)) = n ≡ max r (shown run p)
+  ClockIs run p (Cut (Began who dep t s)) = t.time ≡ shown run p + 1
+  ClockIs run p (Cut (Prepared t s l w n)) = n ≡ shown run p + 1
   ClockIs run p other = ⊤
 
   abbrev pub ClocksAre : List (Entry E) → Type 0
@@ -53,8 +57,9 @@ module _ {E : Type 0} where
   -- a wait for the clock shows the last value shown, which the transaction's snapshot exceeds; a finish is never refused but where the partition is down
   abbrev pub HasCauseAt : Plan E → List (Entry E) → PartId → Event E → Type 0
   HasCauseAt plan run p (Refused (AskRead t s o own) (ClockBehind n)) = (n ≡ shown run p) × (n < entry (plan.snapshot t) p.site)
-  HasCauseAt plan run p (Refused (AskUpdate t s o own op) (ClockBehind n)) = (n ≡ shown run p) × (n < entry (plan.snapshot t) p.site)
+  HasCauseAt plan run p (Refused (AskUpdate t s o own op) (ClockBehind n)) = (reads_state o.kind ≡ true) × (n ≡ shown run p) × (n < entry (plan.snapshot t) p.site)
   HasCauseAt plan run p (Refused (AskPrepare t s l w) (ClockBehind n)) = (n ≡ shown run p) × (n < entry (plan.snapshot t) p.site)
+  HasCauseAt plan run p (Refused (AskPrepare t s l w) ClockAtEnd) = (entry (plan.snapshot t) p.site ≤ shown run p) × (shown run p ≡ end_of_time)
   HasCauseAt plan run p (Refused asked ClockAtEnd) = shown run p ≡ end_of_time
   HasCauseAt plan run p (Refused (AskFinish t c) IsGone) = ⊥
   HasCauseAt plan run p other = ⊤
@@ -69,8 +74,3 @@ module _ {E : Type 0} where
   IsRight kinds plan run p (Updated t s o own op read u stamp) = (s ≡ plan.snapshot t) × (reads_state o.kind ≡ true → IsRightFold plan run p s o read)
   IsRight kinds plan run p (Sent asked m) = IsExact plan run p m
   IsRight kinds plan run p other = ⊤
-
-  -- a snapshot holds what its session depended on
-  abbrev pub HoldsPast : PartId → Event E → Type 0
-  HoldsPast p (Began who dep t s) = le dep s ≡ true
-  HoldsPast p other = ⊤

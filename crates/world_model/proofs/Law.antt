@@ -1,0 +1,212 @@
+-- The law of the world: what every run keeps.
+use Rattle.std.proofs.Common.{◌≡◌, ⊎_elim, ℕ, zero, suc, ◌+◌, ◌-◌, ◌<◌, ◌≤◌, max, cond, Bool, true, false, ◌&&◌, ◌||◌, List, [], ◌∷◌, ◌++◌, length, refl, sym, ap, ◌∙◌, subst, arith, le_trans}
+use Rattle.std.specs.Prelude.{⊤, ◌==◌, slice_index, replicate}
+use Rattle.std.specs.List.{list_all}
+use Rattle.std.specs.Str.{bytes_eq}
+use Rattle.std.proofs.lemmas.List.Folds.{list_all-append}
+use Rattle.std.proofs.lemmas.Bool.{cases_Bool, cases_eq, cases_lt, or_cases, and_from, cond-true, cond-false, eq-eqb}
+use Rattle.site_vector.specs.declared.ids.PartId.{PartId}
+use Rattle.site_vector.specs.declared.ids.TxId.{TxId}
+use Rattle.site_vector.specs.Ids.{same_part, same_tx}
+use Rattle.site_vector.specs.Order.{same_part_is, same_tx_is, same_tx_refl}
+use Rattle.site_vector.specs.Vector.{entry, join}
+use Rattle.crdt_core.specs.declared.record.Upd.{Upd}
+use Rattle.crdt_core.specs.Placing.{place_of}
+use Rattle.world_model.specs.Log.{end_of_time}
+use Rattle.world_model.specs.Fitting.{stand_at}
+use Rattle.world_model.specs.Past.{is_of, dependency_after, dependency}
+use Rattle.world_model.specs.Event.{Event, Began, Updated, Prepared, Decided, Opened, Entry, attempt, is_prepare, time_shown, time_of, sent}
+use Rattle.world_model.specs.Partition.{Kinds, PartState, IsOther, IsBegin, PartStep}
+use Rattle.world_model.specs.Plan.{Plan, home, twin, is_some_update, takes_part, change_by, updates_at, commit_vector, IsPlace, IsAllowed}
+use Rattle.world_model.specs.Handed.{HandedAt, AreHanded}
+use Rattle.world_model.specs.World.{is_begin, begin_vector, begun, snapshot_of, plan_of, IsWorldRun}
+use Rattle.world_model.specs.LawfulWorld.{IsLawfulWorld}
+use Rattle.world_model.specs.Logs.{LeavesLogs}
+use Rattle.world_model.specs.Lines.{lines_of}
+use Rattle.world_model.specs.LineLaw.{IsLawfulRun}
+use Rattle.world_model.proofs.Names.{off}
+use Rattle.world_model.proofs.Completeness.{IsBacked, numbered}
+use Rattle.world_model.proofs.Kept.{Kept, law_plan, right_all, facts_of, strict, closed, never_both, past_end}
+use Rattle.world_model.proofs.CausalStores.{causal_stores}
+use Rattle.world_model.proofs.Shows.{show_events}
+use Rattle.world_model.proofs.Hears.{fresh_events}
+use Rattle.world_model.proofs.Ups.{answer_up}
+use Rattle.world_model.proofs.Doubts.{settle_doubts}
+use Rattle.world_model.proofs.Voting.{vote_events, vectors, agreed}
+use Rattle.world_model.proofs.Handing.{IsHome, homes, snapshot_width, handed_events, numbered_events, planned_updates}
+use Rattle.world_model.proofs.Resuming.{resume_events}
+use Rattle.world_model.proofs.Sending.{send_events}
+use Rattle.world_model.proofs.Answering.{due_events, known_events}
+use Rattle.world_model.proofs.LogsLeft.{logs_left}
+use Rattle.world_model.proofs.LineLaws.{lawful_lines}
+use Rattle.world_model.proofs.Stories.{stories, meanings, planned_changes}
+use Rattle.world_model.proofs.Fitted.{IsLow, low_zero, low_join, low_set, PlanFits, Good, now_low, good_run, least_first}
+use Rattle.world_model.proofs.Whole.{IsSuffix, suffix_all, AllFresh, all_fresh, world_leases, fits}
+
+low_if : (b : Bool) (u v : List ℕ) → IsLow u → IsLow v → IsLow (cond b u v)
+low_if true u v a b = a
+low_if false u v a b = b
+
+low_none : IsLow []
+low_none i = omega arith
+
+module _ {E : Type 0} where
+  -- what is kept under the run's own plan
+  kept_here : {S : Type 0} (kinds : Kinds S E) (sites parts : ℕ) (run : List (Entry E)) (state : PartId → PartState E) → IsWorldRun kinds sites parts run state → Kept kinds (plan_of sites parts run) run state
+  kept_here kinds sites parts run state r = law_plan kinds (plan_of sites parts run) run state (fits kinds sites parts run state r run (all_fresh kinds sites parts run state r) (suffix_all run))
+
+  record Lows (sites : ℕ) (run : List (Entry E)) : Type 0 where
+    pub snaps : (t : TxId) → IsLow (snapshot_of run t)
+    pub deps : (who : List ℕ) → IsLow (dependency sites run who)
+    pub times : (t : TxId) → time_of run t ≤ end_of_time
+
+  -- no commit time is past the end
+  draw_low : {S : Type 0} (kinds : Kinds S E) (sites parts : ℕ) (at : PartId) (p q : PartState E) (event : Event E) (t : TxId) (old : ℕ) → PartStep kinds sites parts at p event q → old ≤ end_of_time → cond (is_prepare event t) (max (time_shown event) old) old ≤ end_of_time
+  draw_low kinds sites parts at p q (Prepared u s l w n) t old st h = go (same_tx u t)
+    where
+      go : (c : Bool) → cond c (max n old) old ≤ end_of_time
+      go true = let a = st.1.1 in let b = st.1.2 in omega arith
+      go false = h
+  draw_low kinds sites parts at p q event t old st h = h
+
+  times_low : {S : Type 0} (kinds : Kinds S E) (sites parts : ℕ) (run : List (Entry E)) (state : PartId → PartState E) → IsWorldRun kinds sites parts run state → (t : TxId) → time_of run t ≤ end_of_time
+  times_low kinds sites parts [] state r t = omega arith
+  times_low kinds sites parts (e ∷ run) state r t = draw_low kinds sites parts e.at (r.0 e.at) (state e.at) e.event t (time_of run t) r.2.step (times_low kinds sites parts run r.0 r.1 t)
+
+  -- a snapshot has no time past the end
+  begin_low : (sites parts : ℕ) (at : PartId) (p : PartState E) (dep : List ℕ) (t : TxId) (s : List ℕ) → IsBegin sites parts at p dep t s → IsLow dep → ((j : ℕ) → IsOther sites at.site j → entry s j ≤ end_of_time) → IsLow s
+  begin_low sites parts at p dep t s b low far i = ⊎_elim
+      (λ (h : i < sites). ⊎_elim
+      (λ (e : i + 1 ≡ at.site).
+      let o : entry s (i + 1) ≡ max t.time (entry dep (i + 1)) = subst (λ j. entry s j ≡ max t.time (entry dep j)) (sym e) b.own in
+      let k : (i + 1) - 1 ≡ i = omega arith in
+      let d : entry dep (i + 1) ≤ end_of_time = low ((i + 1) - 1) in
+      let drawn : t.time ≡ p.now + 1 = ap (λ x. x.time) b.named in
+      let early = b.early in
+      subst (λ j. slice_index s j ≤ end_of_time) k (omega arith))
+      (λ (ne : i + 1 ≡ at.site → ⊥).
+      let other : IsOther sites at.site (i + 1) = record { least = omega arith; most = omega arith; apart = ne } in
+      let k : (i + 1) - 1 ≡ i = omega arith in
+      subst (λ j. slice_index s j ≤ end_of_time) k (far (i + 1) other))
+      (cases_eq (i + 1) at.site))
+      (λ (h : sites ≤ i). let w = b.width in let e = past_end s i (omega arith) in omega arith)
+      (cases_lt i sites)
+
+  vector_low : {S : Type 0} (kinds : Kinds S E) (sites parts : ℕ) (run : List (Entry E)) (before after : PartId → PartState E) (at : PartId) (event : Event E) → IsPlace sites parts at → Lows sites run → IsAllowed (plan_of sites parts ((record { at = at; event = event }) ∷ run)) run before at (attempt event) → PartStep kinds sites parts at (before at) event (after at) → Kept kinds (plan_of sites parts ((record { at = at; event = event }) ∷ run)) ((record { at = at; event = event }) ∷ run) after → IsLow (begin_vector event)
+  vector_low kinds sites parts run before after at (Began who dep t s) place l al st k =
+      let next : List (Entry E) = (record { at = at; event = Began who dep t s }) ∷ run in
+      let plan = plan_of sites parts next in
+      let low : IsLow dep = subst IsLow (sym al) (l.deps who) in
+      begin_low sites parts at (before at) dep t s st.1 low (λ j o.
+      let q : PartId = numbered at at.part in
+      let c = k.bounds.events.0 at.part j place.least_part place.most_part (record { least = o.least; most = o.most; apart = o.apart }) in
+      le_trans c.reached (le_trans (k.intervals.seen (twin j q)) (now_low next after k.leases (twin j q))))
+  vector_low kinds sites parts run before after at event place l al st k = low_none
+
+  dep_low : (sites parts : ℕ) (run : List (Entry E)) (before : PartId → PartState E) (at : PartId) (event : Event E) (who : List ℕ) → Lows sites run → IsAllowed (plan_of sites parts ((record { at = at; event = event }) ∷ run)) run before at (attempt event) → IsLow (begin_vector event) → IsLow (dependency_after sites run who (dependency sites run who) event)
+  dep_low sites parts run before at (Opened name) who l al v = low_if (bytes_eq name who) (replicate sites 0) (dependency sites run who) (low_zero sites) (l.deps who)
+  dep_low sites parts run before at (Began name dep t s) who l al v = low_if (bytes_eq name who) (join (dependency sites run who) s) (dependency sites run who) (low_join (dependency sites run who) s (l.deps who) v) (l.deps who)
+  dep_low sites parts run before at (Decided t c) who l al v =
+      let low : IsLow c = subst IsLow (sym al.vector) (low_set (snapshot_of run t) (t.site - 1) (time_of run t) (l.snaps t) (l.times t)) in
+      low_if (is_of run who t) (join (dependency sites run who) c) (dependency sites run who) (low_join (dependency sites run who) c (l.deps who) low) (l.deps who)
+  dep_low sites parts run before at event who l al v = l.deps who
+
+  lows : {S : Type 0} (kinds : Kinds S E) (sites parts : ℕ) (run : List (Entry E)) (state : PartId → PartState E) → IsWorldRun kinds sites parts run state → Lows sites run
+  lows kinds sites parts [] state r = record { snaps = λ t. low_none; deps = λ who. low_zero sites; times = λ t. omega arith }
+  lows kinds sites parts (e ∷ run) state r =
+      let l = lows kinds sites parts run r.0 r.1 in
+      let place : IsPlace sites parts e.at = record { least_site = r.2.place.least_site; most_site = r.2.place.most_site; least_part = r.2.place.least_part; most_part = r.2.place.most_part } in
+      let k = kept_here kinds sites parts (e ∷ run) state r in
+      let v = vector_low kinds sites parts run r.0 state e.at e.event place l r.2.allowed r.2.step k in record {
+        snaps = λ t. low_if (is_begin e.event t) (begin_vector e.event) (snapshot_of run t) v (l.snaps t);
+        deps = λ who. dep_low sites parts run r.0 e.at e.event who l r.2.allowed v;
+        times = times_low kinds sites parts (e ∷ run) state r;
+      }
+
+  -- who has begun is of a place
+  begin_place : {S : Type 0} (kinds : Kinds S E) (sites parts : ℕ) (at : PartId) (p q : PartState E) (event : Event E) (t : TxId) → IsPlace sites parts at → PartStep kinds sites parts at p event q → is_begin event t ≡ true → (1 ≤ t.part) × (t.part ≤ parts)
+  begin_place kinds sites parts at p q (Began who dep u s) t place st h =
+      let e : u.part ≡ at.part = ap (λ x. x.part) st.1.named in
+      subst (λ y. (1 ≤ y.part) × (y.part ≤ parts)) (same_tx_is u t h) (subst (λ n. (1 ≤ n) × (n ≤ parts)) (sym e) (place.least_part, place.most_part))
+  begin_place kinds sites parts at p q event t place st h = off h
+
+  begun_place : {S : Type 0} (kinds : Kinds S E) (sites parts : ℕ) (run : List (Entry E)) (state : PartId → PartState E) → IsWorldRun kinds sites parts run state → (t : TxId) → begun run t ≡ true → (1 ≤ t.part) × (t.part ≤ parts)
+  begun_place kinds sites parts [] state r t h = off h
+  begun_place kinds sites parts (e ∷ run) state r t h = ⊎_elim
+      (λ (k : is_begin e.event t ≡ true). begin_place kinds sites parts e.at (r.0 e.at) (state e.at) e.event t (record { least_site = r.2.place.least_site; most_site = r.2.place.most_site; least_part = r.2.place.least_part; most_part = r.2.place.most_part }) r.2.step k)
+      (λ (k : begun run t ≡ true). begun_place kinds sites parts run r.0 r.1 t k)
+      (or_cases _ _ h)
+
+  -- updates stand where they were made
+  change_stands : (plan : Plan E) (run : List (Entry E)) (p q : PartId) (event : Event E) (t : TxId) → HandedAt plan run p event → stand_at plan.parts q.part (cond (same_part p q) (change_by event t) []) ≡ true
+  change_stands plan run p q (Updated u s o own op read x stamp) t h = go (same_part p q) (same_tx u t) refl
+    where
+      go : (b c : Bool) → same_part p q ≡ b → stand_at plan.parts q.part (cond b (cond c (x ∷ []) []) []) ≡ true
+      go true true e =
+          let object : place_of x.object.bucket x.object.key plan.parts ≡ q.part = ap (λ y. place_of y.bucket y.key plan.parts) h.1 ∙ h.0.part ∙ ap (λ y. y.part) (same_part_is p q e) in
+          and_from _ _ (eq-eqb (place_of x.object.bucket x.object.key plan.parts) q.part object) refl
+      go true false e = refl
+      go false c e = refl
+  change_stands plan run p q event t h = none (same_part p q)
+    where
+      none : (b : Bool) → stand_at {E = E} plan.parts q.part (cond b [] []) ≡ true
+      none true = refl
+      none false = refl
+
+  updates_stand : (plan : Plan E) (run : List (Entry E)) → AreHanded plan run → (t : TxId) (q : PartId) → stand_at plan.parts q.part (updates_at run t q) ≡ true
+  updates_stand plan [] h t q = refl
+  updates_stand plan (e ∷ run) h t q =
+      list_all-append (λ u. place_of u.object.bucket u.object.key plan.parts == q.part) (updates_at run t q) (cond (same_part e.at q) (change_by e.event t) [])
+      ∙ and_from _ _ (updates_stand plan run h.1 t q) (change_stands plan run e.at q e.event t h.0)
+
+  plan_fits : {S : Type 0} (kinds : Kinds S E) (sites parts : ℕ) (run : List (Entry E)) (state : PartId → PartState E) → IsWorldRun kinds sites parts run state → PlanFits (plan_of sites parts run)
+  plan_fits kinds sites parts run state r =
+      let plan = plan_of sites parts run in
+      let under = fits kinds sites parts run state r run (all_fresh kinds sites parts run state r) (suffix_all run) in
+      let handed = handed_events kinds plan run state under in
+      let planned = planned_updates kinds sites parts run state r in
+      let here : (t : TxId) (q : PartId) → takes_part plan t q ≡ true → IsHome sites run t q = λ t q h. homes kinds sites parts run state r t q (ap is_some_update (sym (planned t q)) ∙ h) in record {
+        width = λ t q h. snapshot_width kinds sites parts run state r t (here t q h).begun;
+        low = (lows kinds sites parts run state r).snaps;
+        part = λ t q h. begun_place kinds sites parts run state r t (here t q h).begun;
+        stand = λ t q. ap (stand_at parts q.part) (planned t q) ∙ updates_stand plan run handed t q;
+        lead = λ t q h a b. least_first t.site 1 parts (home t) q (λ p. takes_part plan t p) (plan.at_home t q h) a (omega arith) h;
+      }
+
+  pub law_world : {S : Type 0} (kinds : Kinds S E) (sites parts : ℕ) (run : List (Entry E)) (state : PartId → PartState E) → IsWorldRun kinds sites parts run state → IsLawfulWorld kinds (plan_of sites parts run) run × LeavesLogs sites run state × IsLawfulRun kinds.too_deep kinds.meaning sites parts (lines_of run)
+  law_world kinds sites parts run state r =
+      let plan = plan_of sites parts run in
+      let under = fits kinds sites parts run state r run (all_fresh kinds sites parts run state r) (suffix_all run) in
+      let k = law_plan kinds plan run state under in
+      let right = right_all kinds plan run state k in
+      let facts = facts_of kinds plan run state k in
+      let made = stories kinds plan run sites parts (world_leases kinds sites parts) run state r right in
+      let all = planned_changes sites parts run in
+      let strictly = strict plan run state k.fate in
+      let law : IsLawfulWorld kinds plan run =
+      record {
+        right = right;
+        meant = meanings kinds plan run facts made all sites parts (world_leases kinds sites parts) run state r right;
+        causal = causal_stores kinds plan run made all;
+        clock = k.clock;
+        past = k.past;
+        decided_stay = k.decided_stay;
+        handed = handed_events kinds plan run state under;
+        numbered = numbered_events kinds sites parts run state r;
+        planned = planned_updates kinds sites parts run state r;
+        votes = vote_events kinds plan run state under;
+        vectors = vectors kinds plan run state under;
+        agreed = agreed kinds plan run state k;
+        doubts = settle_doubts kinds plan run state under;
+        due = due_events kinds plan (plan_fits kinds sites parts run state r) run state under k.causes;
+        known = known_events kinds plan run state under;
+        causes = k.causes;
+        downs = answer_up kinds plan run state under;
+        resumed = resume_events kinds plan run state under;
+        sends = send_events kinds plan run state under;
+        shown = show_events kinds plan run state under;
+        fresh = fresh_events kinds plan run state under;
+        fate = never_both kinds plan run state k;
+        strict = strictly;
+        closed = closed plan run strictly;
+      } in (law, logs_left kinds plan run state under, lawful_lines kinds sites parts run law)

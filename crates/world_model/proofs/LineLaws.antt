@@ -1,0 +1,556 @@
+-- The lines of a run of the world are a lawful run.
+use Rattle.std.proofs.Common.{◌≡◌, ◌≢◌, ◌⊎◌, ⊎_elim, inl, inr, ℕ, ◌+◌, ◌<◌, ◌≤◌, max, leb, ltb, cond, Bool, true, false, not, ◌&&◌, ◌||◌, List, [], ◌∷◌, ◌++◌, length, Option, Some, append-nil, refl, sym, ap, ◌∙◌, subst, subst₂, arith}
+use Rattle.std.specs.Prelude.{⊤, ◌==◌, filter}
+use Rattle.std.specs.List.{flat_map}
+use Rattle.std.specs.declared.cmp.Ordering.TheVariants.{Less}
+use Rattle.std.proofs.lemmas.Bool.{cases_Bool, cond-true, cond-false, or_left, or_right, or_cases, and_from, and_parts, ltb-true, lt-ltb, false_from_ne_true}
+use Rattle.site_vector.specs.declared.ids.PartId.{PartId}
+use Rattle.site_vector.specs.declared.ids.TxId.{TxId}
+use Rattle.std.specs.Str.{bytes_eq}
+use Rattle.std.proofs.lemmas.Slice.Eq.{bytes_eq-Decides}
+use Rattle.site_vector.specs.Ids.{same_part, same_tx}
+use Rattle.site_vector.specs.Order.{same_part_is, same_tx_refl}
+use Rattle.site_vector.specs.Vector.{le, entry}
+use Rattle.crdt_core.specs.declared.object.ObjectId.{ObjectId}
+use Rattle.crdt_core.specs.declared.record.Part.{Part}
+use Rattle.crdt_core.specs.declared.record.Message.{Message}
+use Rattle.crdt_core.specs.Seen.{Update}
+use Rattle.crdt_core.specs.Same.{Same}
+use Rattle.crdt_core.specs.Stamps.{stamp_due}
+use Rattle.world_model.specs.Log as log
+use Rattle.world_model.specs.Log.{end_of_time, lists}
+use Rattle.world_model.specs.Event.{AskBegin, AskRead, AskUpdate, AskPrepare, AskDecide, AskAbort, AskTake, AskRestart, IsDown, ClockBehind, TxPending, StableBehind, ClockAtEnd, IsGone, HasGap, IsRepeat, IsBadOp, IsDamaged, Event, Ticked, Began, Updated, Read, Prepared, Decided, Finished, Aborted, Sent, Took, Reported, Heard, Crashed, Restarted, Refused, Opened, Cut, Entry, EventsAre, WasShown, is_abort, was_aborted, voted, is_decided, time_of, shown, missed}
+use Rattle.world_model.specs.Partition.{Kinds, lowest, pending_cmp}
+use Rattle.world_model.specs.Plan.{Plan, first_of, home, twin, is_some_update, takes_part, commit_vector, MayTake}
+use Rattle.world_model.specs.Commit.{partitions}
+use Rattle.world_model.specs.World.{plan_of}
+use Rattle.world_model.specs.WorldLaw.{sees_tx, ClockIs, ClocksAre, KeepsIs, KeepsDecided, HasCauseAt, HaveCausesAt, IsRightFold, IsExact, IsRight}
+use Rattle.world_model.specs.Past as events
+use Rattle.world_model.specs.Downs.{AnswersAsUp, AnswerAsUp}
+use Rattle.world_model.specs.Answering.{IsDueAt, AreDue, IsKnown}
+use Rattle.world_model.specs.Doubt.{SettlesAt, SettleDoubts}
+use Rattle.world_model.specs.Shown.{bound_shown, pending_shown, pending_time, committed_shown, IsReadyAt, IsFirstPending, ShowsAt, ShowAt}
+use Rattle.world_model.specs.Stable.{heard_from, heard_shown, IsBehindAt, IsFreshAt, AreFresh}
+use Rattle.world_model.specs.Votes.{VotesAt, KeepVotes, ShowsVector}
+use Rattle.world_model.specs.Handed.{IsPlacedAt, HandedAt, AreHanded, IsNew, AreNew}
+use Rattle.world_model.specs.Meaning as meaning
+use Rattle.world_model.specs.Meaning.{Asked, asked_at}
+use Rattle.world_model.specs.Resumed.{is_call, brings, brought_after, brought, decided_after, last_shown, IsTakeable, cut_call, IsAsBefore, IsAsDone, ResumesAt, Resume}
+use Rattle.world_model.specs.Sends.{low_of, SendsAt, Send}
+use Rattle.world_model.specs.LawfulWorld.{IsLawfulWorld}
+use Rattle.world_model.specs.Lines.{Call, Line, EachLine, session_after, session_of, message_number, call_cut, call_of, step_shown, lines_of}
+use Rattle.world_model.specs.LineClock as clock
+use Rattle.world_model.specs.LineHistory as past
+use Rattle.world_model.specs.LinePast as session
+use Rattle.world_model.specs.LineBounds as bounds
+use Rattle.world_model.specs.LineUpdates as updates
+use Rattle.world_model.specs.LineUpdates.{IsPlaced}
+use Rattle.world_model.specs.LineCommit as commit
+use Rattle.world_model.specs.LineReads as reads
+use Rattle.world_model.specs.LineAnswers as answers
+use Rattle.world_model.specs.LineOps as ops
+use Rattle.world_model.specs.LineFates as fates
+use Rattle.world_model.specs.LineFresh as fresh
+use Rattle.world_model.specs.LineStreams as streams
+use Rattle.world_model.specs.LineCauses as causes
+use Rattle.world_model.specs.LineLaw.{IsAgreed, IsLawfulRun}
+use Rattle.world_model.proofs.Names.{clash, off, part_same}
+use Rattle.world_model.proofs.Fate.{voted_tried}
+use Rattle.world_model.proofs.Later.{at_own}
+use Rattle.world_model.proofs.Intervals.{shown_has, events_map}
+use Rattle.world_model.proofs.Histories.{Facts, no_self}
+use Rattle.world_model.proofs.LineViews.{now_is, missed_is, in_history_is, snapshot_is, commit_time_is, vector_is, visible_is, is_of_is, dependency_is, pending_is, prepare_time_is, doubt_is, down_is, last_is, bound_is, heard_here, heard_is, stable_is, own_bound_is, was_prepared_is, last_sent_is, sent_count_is, report_count_is, sent_line, report_line}
+use Rattle.world_model.proofs.LineChanges.{to_change, count_is, takes_part_is, touches_is, lead_is}
+use Rattle.world_model.proofs.Orders.{stamp_same, is_in, in_filter, once_filter, filter_in}
+use Rattle.world_model.proofs.LineCounts.{parts_counted, both_ways, found_in, any_in, some_above, part_above, above_part}
+use Rattle.world_model.proofs.LineReading.{history_has, history_once, update_is, updates_at_place, updates_is, grows, all_put}
+use Rattle.world_model.proofs.LineFaults.{IsFault, pend_same, fault_is}
+
+module _ {E : Type 0} where
+  clock_line : (run : List (Entry E)) (p : PartId) (event : Event E) → ClocksAre run → ClockIs run p event → clock.ShowsTime (lines_of run) p (call_of event) (step_shown run p event)
+  clock_line run p (Refused asked IsDown) cs h = tt
+  clock_line run p (Refused asked why) cs h = tt
+  clock_line run p (Cut (Decided t c)) cs h = tt
+  clock_line run p (Cut a) cs h = tt
+  clock_line run p (Ticked r n) cs h = h ∙ ap (max r) (sym (now_is run p))
+  clock_line run p (Began who dep t s) cs h = h ∙ ap (λ x. x + 1) (sym (now_is run p))
+  clock_line run p (Prepared t s l w n) cs h = h ∙ ap (λ x. x + 1) (sym (now_is run p))
+  clock_line run p (Restarted n b named listed) cs h =
+      let e = sym (now_is run p) in
+      (subst (λ x. x ≤ n) e h.0, subst (λ x. n ≤ 1000 + x) (λ i. max (e i) (sym (missed_is run cs p) i)) h.1)
+  clock_line run p event cs h = tt
+
+  clock_lines : (run : List (Entry E)) → ClocksAre run → clock.FollowsClock (lines_of run)
+  clock_lines [] h = tt
+  clock_lines (e ∷ run) h = (clock_line run e.at e.event h.1 h.0, clock_lines run h.1)
+
+  past_line : (sites : ℕ) (run : List (Entry E)) (p : PartId) (event : Event E) → events.HoldsPast sites run p event → session.HoldsPast sites (lines_of run) p (call_of event) (step_shown run p event)
+  past_line sites run p (Refused asked IsDown) h = tt
+  past_line sites run p (Refused asked why) h = tt
+  past_line sites run p (Cut (Decided t c)) h = tt
+  past_line sites run p (Cut a) h = tt
+  past_line sites run p (Began who dep t s) h = subst (λ d. le d s ≡ true) (sym (dependency_is sites run who)) h.1
+  past_line sites run p event h = tt
+
+  past_lines : (sites : ℕ) (run : List (Entry E)) → events.KeepPast sites run → session.KeepsPast sites (lines_of run)
+  past_lines sites [] h = tt
+  past_lines sites (e ∷ run) h = (past_line sites run e.at e.event h.0, past_lines sites run h.1)
+
+  placed_line : (plan : Plan E) (run : List (Entry E)) (p : PartId) (event : Event E) → HandedAt plan run p event → IsPlaced plan.parts (lines_of run) p (call_of event) (step_shown run p event)
+  placed_line plan run p (Refused asked IsDown) h = tt
+  placed_line plan run p (Refused asked why) h = tt
+  placed_line plan run p (Cut (Decided t c)) h = tt
+  placed_line plan run p (Cut a) h = tt
+  placed_line plan run p (Began who dep t s) h = h
+  placed_line plan run p (Read t s o own read value) h = (h.site, h.part)
+  placed_line plan run p (Updated t s o own op read u stamp) h = (h.0.site, h.0.part)
+  placed_line plan run p event h = tt
+
+  placed_lines : (plan : Plan E) (run : List (Entry E)) → AreHanded plan run → EachLine (IsPlaced plan.parts) (lines_of run)
+  placed_lines plan [] h = tt
+  placed_lines plan (e ∷ run) h = (placed_line plan run e.at e.event h.0, placed_lines plan run h.1)
+
+  fresh_line : (plan : Plan E) (run : List (Entry E)) (p : PartId) (event : Event E) → events.HoldsPast plan.sites run p event → IsFreshAt plan run p event → ShowsAt plan run p event → fresh.IsFresh plan.sites plan.parts (lines_of run) p (call_of event) (step_shown run p event)
+  fresh_line plan run p (Refused asked IsDown) h f s = tt
+  fresh_line plan run p (Refused asked why) h f s = tt
+  fresh_line plan run p (Cut (Decided t c)) h f s = tt
+  fresh_line plan run p (Cut a) h f s = tt
+  fresh_line plan run p (Began who dep t v) h f s = record {
+    width = f.width;
+    own = f.own ∙ ap (λ d. max t.time (entry d p.site)) (h.0 ∙ sym (dependency_is plan.sites run who));
+    others = λ j o. f.others j o ∙ sym (stable_is plan.parts run p j);
+  }
+  fresh_line plan run p (Heard k b stable) h f s =
+      let same : (q j : ℕ) → heard_from {E = E} q j (heard_shown run p q j) (Heard k b stable) ≡ bounds.heard_after q j (bounds.heard (lines_of run) p q j) (call_of {E = E} (Heard k b stable)) (step_shown run p (Heard k b stable)) = λ q j. sym (ap (λ o. bounds.heard_after q j o (call_of {E = E} (Heard k b stable)) (step_shown run p (Heard k b stable))) (heard_is run p q j) ∙ heard_here run p q j (heard_shown run p q j) (Heard k b stable)) in record {
+        width = f.width;
+        others = λ j o. f.others j o ∙ (λ i. lowest (λ q. cond (p.part == q) (sym (bound_is run p j) i) (same q j i)) plan.parts);
+        own = (f.own.0, own_bound_is run p f.own.0 f.own.1, f.own.2 ∙ (λ i. lowest (λ q. cond (p.part == q) f.own.0 (same q p.site i)) plan.parts));
+      }
+  fresh_line plan run p (Reported b) h f s = record { own = own_bound_is run p (entry b p.site) s.0; others = λ j o. s.1 j o ∙ sym (bound_is run p j) }
+  fresh_line plan run p event h f s = tt
+
+  fresh_lines : (plan : Plan E) (run : List (Entry E)) → events.KeepPast plan.sites run → AreFresh plan run → ShowAt plan run → EachLine (fresh.IsFresh plan.sites plan.parts) (lines_of run)
+  fresh_lines plan [] h f s = tt
+  fresh_lines plan (e ∷ run) h f s = (fresh_line plan run e.at e.event h.0 f.0 s.0, fresh_lines plan run h.1 f.1 s.1)
+
+  handed_line : (plan : Plan E) (run : List (Entry E)) (p : PartId) (m : Message E) → MayTake plan run p m → streams.IsHanded plan.sites (lines_of run) p (message_number run (twin m.from p) m) m.from m.lo m.hi
+  handed_line plan run p m h = record { from = h.from; sent = subst (λ j. streams.WasSent (lines_of run) (twin m.from p) (message_number run (twin m.from p) m) j m.lo m.hi) h.to (sent_line run (twin m.from p) h.asked m h.shown) }
+
+  -- who began t is its session
+  session_has : (run : List (Entry E)) (who : List ℕ) (t : TxId) → events.is_of run who t ≡ true → events.is_of run (session_of run t) t ≡ true
+  session_has [] who t h = h
+  session_has (e ∷ run) who t h = session_step e.event run who t h (session_has run who t)
+    where
+      session_step : (event : Event E) (run : List (Entry E)) (who : List ℕ) (t : TxId) → (events.begins_for event who t || events.is_of run who t) ≡ true → (events.is_of run who t ≡ true → events.is_of run (session_of run t) t ≡ true) → (events.begins_for event (session_after t (session_of run t) event) t || events.is_of run (session_after t (session_of run t) event) t) ≡ true
+      session_step (Began name dep u s) run who t h ih = ⊎_elim
+          (λ (k : same_tx u t ≡ true). or_left _ _ (subst (λ y. (bytes_eq name y && same_tx u t) ≡ true) (sym (cond-true _ name (session_of run t) k)) (and_from _ _ ((bytes_eq-Decides name name).1 refl) k)))
+          (λ (k : same_tx u t ≡ false).
+          let rest : events.is_of run who t ≡ true = ⊎_elim (λ (x : (bytes_eq name who && same_tx u t) ≡ true). clash (and_parts (bytes_eq name who) _ x).1 k) (λ (x : events.is_of run who t ≡ true). x) (or_cases _ _ h) in
+          or_right _ _ (subst (λ y. events.is_of run y t ≡ true) (sym (cond-false _ name (session_of run t) k)) (ih rest)))
+          (cases_Bool (same_tx u t))
+      session_step event run who t h ih = ih h
+
+  answer_line : (plan : Plan E) (run : List (Entry E)) (p : PartId) (event : Event E) → HandedAt plan run p event → IsDueAt event → answers.IsAnswer (lines_of run) p (call_of event) (step_shown run p event)
+  answer_line plan run p (Refused asked IsDown) h d = refl
+  answer_line plan run p (Refused (AskTake m) (HasGap n)) h d = tt
+  answer_line plan run p (Refused (AskTake m) (IsRepeat n)) h d = tt
+  answer_line plan run p (Refused (AskUpdate t s o own op) IsBadOp) h d = tt
+  answer_line plan run p (Refused (AskBegin who dep) ClockAtEnd) h d = tt
+  answer_line plan run p (Refused (AskPrepare t s l w) ClockAtEnd) h d = tt
+  answer_line plan run p (Refused asked (ClockBehind n)) h d = refl
+  answer_line plan run p (Refused asked (TxPending u n)) h d = refl
+  answer_line plan run p (Refused asked (StableBehind j n)) h d = tt
+  answer_line plan run p (Refused asked IsGone) h d = refl
+  answer_line plan run p (Refused asked why) h d = off d
+  answer_line plan run p (Read t s o own read value) h d = (refl, is_of_is run (session_of run t) t ∙ session_has run h.who t h.begun)
+  answer_line plan run p (Updated t s o own op read u stamp) h d = (refl, is_of_is run (session_of run t) t ∙ session_has run h.0.who t h.0.begun)
+  answer_line plan run p (Prepared t s l w n) h d = (refl, refl)
+  answer_line plan run p (Decided t c) h d = (refl, refl)
+  answer_line plan run p (Finished t c) h d = (refl, refl)
+  answer_line plan run p (Aborted t own) h d = (refl, refl)
+  answer_line plan run p (Sent asked m) h d = (refl, refl)
+  answer_line plan run p (Took m) h d = tt
+  answer_line plan run p (Cut (Decided t c)) h d = refl
+  answer_line plan run p (Cut a) h d = refl
+  answer_line plan run p event h d = refl
+
+  answer_lines : (plan : Plan E) (run : List (Entry E)) → AreHanded plan run → AreDue run → EachLine answers.IsAnswer (lines_of run)
+  answer_lines plan [] h d = tt
+  answer_lines plan (e ∷ run) h d = (answer_line plan run e.at e.event h.0 d.0, answer_lines plan run h.1 d.1)
+
+  op_line : {S : Type 0} (kinds : Kinds S E) (run : List (Entry E)) (p : PartId) (event : Event E) → IsKnown kinds p event → ops.HasOp kinds.too_deep (lines_of run) p (call_of event) (step_shown run p event)
+  op_line kinds run p (Updated t s o own op read u stamp) k = k.1
+  op_line kinds run p (Refused (AskUpdate t s o own op) IsBadOp) k = k
+  op_line kinds run p (Refused (AskUpdate t s o own op) (ClockBehind n)) k = k
+  op_line kinds run p (Refused (AskUpdate t s o own op) (TxPending u n)) k = k
+  op_line kinds run p (Refused asked IsDown) k = tt
+  op_line kinds run p (Refused asked why) k = tt
+  op_line kinds run p (Cut (Decided t c)) k = tt
+  op_line kinds run p (Cut a) k = tt
+  op_line kinds run p event k = tt
+
+  op_lines : {S : Type 0} (kinds : Kinds S E) (run : List (Entry E)) → EventsAre (IsKnown kinds) run → EachLine (ops.HasOp kinds.too_deep) (lines_of run)
+  op_lines kinds [] k = tt
+  op_lines kinds (e ∷ run) k = (op_line kinds run e.at e.event k.0, op_lines kinds run k.1)
+
+  up_line : (run : List (Entry E)) (p : PartId) (event : Event E) → AnswersAsUp run p event → IsDueAt event → causes.AnswersAsUp (lines_of run) p (call_of event) (step_shown run p event)
+  up_line run p (Refused asked IsDown) h d = down_is run p ∙ h
+  up_line run p (Refused asked (IsDamaged k)) h d = off d
+  up_line run p (Refused asked why) h d = down_is run p ∙ h
+  up_line run p (Restarted n b named listed) h d = tt
+  up_line run p Crashed h d = tt
+  up_line run p (Opened who) h d = tt
+  up_line run p (Cut (Decided t c)) h d = down_is run p ∙ h
+  up_line run p (Cut a) h d = down_is run p ∙ h
+  up_line run p event h d = down_is run p ∙ h
+
+  up_lines : (run : List (Entry E)) → AnswerAsUp run → AreDue run → EachLine causes.AnswersAsUp (lines_of run)
+  up_lines [] h d = tt
+  up_lines (e ∷ run) h d = (up_line run e.at e.event h.0 d.0, up_lines run h.1 d.1)
+
+  shown_all : (run : List (Entry E)) → EventsAre (WasShown run) run
+  shown_all [] = tt
+  shown_all (e ∷ run) = (inl (refl, refl), events_map (WasShown run) (WasShown (e ∷ run)) (λ p a w. inr w) run (shown_all run))
+
+  aborted_shown : (run : List (Entry E)) (p : PartId) (t : TxId) (own : Bool) → WasShown run p (Aborted t own) → was_aborted run t p ≡ true
+  aborted_shown [] p t own w = absurd w
+  aborted_shown (e ∷ run) p t own w = ⊎_elim
+      (λ (x : (e.at ≡ p) × (e.event ≡ Aborted t own)). or_left _ _ (and_from _ _ (part_same e.at p x.0) (ap (λ a. is_abort a t) x.1 ∙ same_tx_refl t)))
+      (λ (x : WasShown run p (Aborted t own)). or_right _ _ (aborted_shown run p t own x))
+      w
+
+  module _ {S : Type 0} (kinds : Kinds S E) (sites parts : ℕ) (run : List (Entry E)) (law : IsLawfulWorld kinds (plan_of sites parts run) run) where
+    abbrev plan : Plan E
+    plan = plan_of sites parts run
+
+    -- t precedes u, as events tell it
+    precedes_is : (t u : TxId) → past.precedes (lines_of run) t u ≡ sees_tx plan run (plan.snapshot u) t
+    precedes_is t u = ap (λ v. past.visible (lines_of run) v t) (snapshot_is run u) ∙ visible_is run (plan.snapshot u) t
+
+    closed_lines : (v : List ℕ) → past.IsClosed (lines_of run) (past.visible (lines_of run) v)
+    closed_lines v t u h k = visible_is run v t ∙ law.closed v u t (sym (visible_is run v u) ∙ h) (sym (precedes_is t u) ∙ k)
+
+    facts : Facts plan run
+    facts = record {
+      strict = law.strict;
+      least = λ t h. plan.least t (plan.lead t) (law.agreed t h).lead;
+      entered = λ t h. plan.entered t (plan.lead t) (law.agreed t h).lead;
+      closed = law.closed;
+    }
+
+    abbrev ls : List Line
+    ls = lines_of run
+
+    takes_eq : (t : TxId) (p : PartId) → updates.takes_part ls t p ≡ takes_part plan t p
+    takes_eq t p = takes_part_is plan run law.handed law.numbered t p ∙ ap is_some_update (sym (law.planned t p))
+
+    touches_eq : (t : TxId) (p : PartId) (o : ObjectId) → updates.touches ls t p o ≡ log.touches (plan.updates t p) o
+    touches_eq t p o = touches_is plan run law.handed law.numbered t p o ∙ ap (λ us. log.touches us o) (sym (law.planned t p))
+
+    lead_eq : (t : TxId) → updates.lead parts ls t ≡ plan.lead t
+    lead_eq t = lead_is plan run law.handed law.numbered parts t ∙ (λ i. first_of (home t) (filter (λ p. is_some_update (sym (law.planned t p) i)) (partitions t.site 1 parts)))
+
+    vector_eq : (t : TxId) → past.commit_vector ls t ≡ commit_vector plan run t
+    vector_eq t = vector_is run t
+
+    commit_line : (some : List (Entry E)) (p : PartId) (event : Event E) → VotesAt plan some p event → ShowsVector plan run p event → IsNew some event → commit.ShowsCommit parts ls (lines_of some) p (call_of event) (step_shown some p event)
+    commit_line some p (Refused asked IsDown) v c n = tt
+    commit_line some p (Refused asked why) v c n = tt
+    commit_line some p (Cut (Decided t w)) v c n = tt
+    commit_line some p (Cut a) v c n = tt
+    commit_line some p (Prepared t s l w time) v c n = record {
+      member = takes_eq t p ∙ v.takes;
+      once = was_prepared_is some t p ∙ v.fresh;
+      lead_first = λ ne. was_prepared_is some t (updates.lead parts ls t) ∙ subst (λ q. voted some t q ≡ true) (sym (lead_eq t)) (v.after_lead (λ e. ne (e ∙ sym (lead_eq t))));
+    }
+    commit_line some p (Decided t w) v c n = record {
+      at_lead = v.lead ∙ sym (lead_eq t);
+      here = was_prepared_is some t p ∙ v.here;
+      votes = λ q h. was_prepared_is some t q ∙ v.all q (sym (takes_eq t q) ∙ h);
+      shown = c.1 ∙ sym (vector_eq t);
+    }
+    commit_line some p (Updated t s o own op read u stamp) v c n = λ q. was_prepared_is some t q ∙ false_from_ne_true _ (λ h. clash (voted_tried some t q h) (n.early q))
+    commit_line some p (Finished t w) v c n = in_history_is some t ∙ v
+    commit_line some p event v c n = tt
+
+    commit_lines : (some : List (Entry E)) → KeepVotes plan some → EventsAre (ShowsVector plan run) some → AreNew some → EachLine (commit.ShowsCommit parts ls) (lines_of some)
+    commit_lines [] v c n = tt
+    commit_lines (e ∷ some) v c n = (commit_line some e.at e.event v.0 c.0 n.0, commit_lines some v.1 c.1 n.1)
+
+    agreed_lines : (t : TxId) → past.in_history ls t ≡ true → IsAgreed parts ls t
+    agreed_lines t h =
+        let a = law.agreed t (sym (in_history_is run t) ∙ h) in record {
+          at_lead = takes_eq t (updates.lead parts ls t) ∙ subst (λ q. takes_part plan t q ≡ true) (sym (lead_eq t)) a.lead;
+          votes = λ q k. was_prepared_is run t q ∙ a.all q (sym (takes_eq t q) ∙ k);
+        }
+
+    known_eq : (some : List (Entry E)) (p : PartId) (t : TxId) → fates.is_known_at ls (lines_of some) p t ≡ (pending_shown some p t || committed_shown plan some p t)
+    known_eq some p t = λ i. (pending_is some p t i || (takes_eq t p i && (in_history_is some t i && not (pending_is some p t i))))
+
+    -- a message that is taken brings a part exactly where lines say so
+    brings_eq : (some : List (Entry E)) (p : PartId) (m : Message E) (have : ℕ) → MayTake plan some p m → m.lo ≤ have → EventsAre (IsRight kinds plan run) some → fates.brings ls p m.from have m.hi ≡ brings m have
+    brings_eq some p m have h low rs =
+        let q = twin m.from p in
+        let x : IsExact plan run q m = shown_has (IsRight kinds plan run) some q (Sent h.asked m) rs h.shown in
+        let test = λ (t : TxId). updates.takes_part ls t q && (ltb have (past.commit_time ls t) && leb (past.commit_time ls t) m.hi) in
+        let own : (t : TxId) → takes_part plan t q ≡ true → entry (commit_vector plan run t) m.from ≡ time_of run t = λ t k. ap (λ j. entry (commit_vector plan run t) j) (plan.at_home t q k) ∙ at_own plan t q (time_of run t) k in
+        let forth : fates.brings ls p m.from have m.hi ≡ true → brings m have ≡ true = λ k.
+        let y = found_in (past.history ls) test k in
+        let a = and_parts (updates.takes_part ls y.0 q) _ y.2 in
+        let b = and_parts (ltb have (past.commit_time ls y.0)) _ a.1 in
+        let d : is_decided run y.0 ≡ true = sym (in_history_is run y.0) ∙ sym (history_has ls y.0) ∙ y.1 in
+        let takes : takes_part plan y.0 q ≡ true = sym (takes_eq y.0 q) ∙ a.0 in
+        let above_have : ltb have (time_of run y.0) ≡ true = ap (ltb have) (sym (commit_time_is run y.0)) ∙ b.0 in
+        let above_low : ltb m.lo (time_of run y.0) ≡ true = (let z = ltb-true have (time_of run y.0) above_have in lt-ltb m.lo (time_of run y.0) (omega arith)) in
+        let upto : leb (time_of run y.0) m.hi ≡ true = ap (λ n. leb n m.hi) (sym (commit_time_is run y.0)) ∙ b.1 in
+        let there : lists m.parts y.0 ≡ true = x.members y.0 ∙ and_from _ _ d (and_from _ _ takes (and_from _ _ above_low upto)) in
+        some_above m.from have m.parts ∙ part_above (commit_vector plan run) (λ u. plan.updates u q) m.from have m.parts x.exact y.0 there (ap (ltb have) (own y.0 takes) ∙ above_have) in
+        let back : brings m have ≡ true → fates.brings ls p m.from have m.hi ≡ true = λ k.
+        let y = above_part (commit_vector plan run) (λ u. plan.updates u q) m.from have m.parts x.exact (sym (some_above m.from have m.parts) ∙ k) in
+        let a = and_parts (is_decided run y.0) _ (sym (x.members y.0) ∙ y.1) in
+        let b = and_parts (takes_part plan y.0 q) _ a.1 in
+        let c = and_parts (ltb m.lo (time_of run y.0)) _ b.1 in
+        any_in (past.history ls) test y.0 (history_has ls y.0 ∙ in_history_is run y.0 ∙ a.0) (and_from _ _ (takes_eq y.0 q ∙ b.0) (and_from _ _ (ap (ltb have) (commit_time_is run y.0) ∙ (ap (ltb have) (sym (own y.0 b.0)) ∙ y.2)) (ap (λ n. leb n m.hi) (commit_time_is run y.0) ∙ c.1))) in
+        both_ways (fates.brings ls p m.from have m.hi) (brings m have) forth back
+
+    brought_done_eq : (some : List (Entry E)) (p : PartId) (j old : ℕ) (what : Event E) → is_call what ≡ true → IsTakeable plan some p what → EventsAre (IsRight kinds plan run) some → fates.brought_done ls (lines_of some) p j old (call_cut what) ≡ brought_after some p j old what
+    brought_done_eq some p j old (Took m) k h rs = λ i. cond (m.from == j && (ap (λ b. fates.brings ls p m.from b m.hi) (bound_is some p m.from) ∙ brings_eq some p m (bound_shown some p m.from) h.0 h.1 rs) i) (max m.hi old) old
+    brought_done_eq some p j old Crashed k h rs = off k
+    brought_done_eq some p j old (Restarted n b named listed) k h rs = off k
+    brought_done_eq some p j old (Refused asked why) k h rs = off k
+    brought_done_eq some p j old (Opened who) k h rs = off k
+    brought_done_eq some p j old (Cut a) k h rs = off k
+    brought_done_eq some p j old what k h rs = refl
+
+    brought_here : (some : List (Entry E)) (p : PartId) (j old : ℕ) (event : Event E) → HandedAt plan some p event → ShowsAt plan some p event → EventsAre (IsRight kinds plan run) some → fates.brought_after ls (lines_of some) p j old (call_of event) (step_shown some p event) ≡ brought_after some p j old event
+    brought_here some p j old (Took m) h s rs = brought_done_eq some p j old (Took m) refl (h, s.0) rs
+    brought_here some p j old (Refused asked IsDown) h s rs = refl
+    brought_here some p j old (Refused asked why) h s rs = refl
+    brought_here some p j old (Cut (Decided t c)) h s rs = refl
+    brought_here some p j old (Cut a) h s rs = refl
+    brought_here some p j old event h s rs = refl
+
+    brought_is : (some : List (Entry E)) → AreHanded plan some → ShowAt plan some → EventsAre (IsRight kinds plan run) some → (p : PartId) (j : ℕ) → fates.brought ls (lines_of some) p j ≡ brought some p j
+    brought_is [] h s rs p j = refl
+    brought_is (e ∷ some) h s rs p j =
+        let rest = brought_is some h.1 s.1 rs.1 p j in ⊎_elim
+        (λ (k : same_part e.at p ≡ true).
+        cond-true _ _ _ k ∙ ap (λ o. fates.brought_after ls (lines_of some) p j o (call_of e.event) (step_shown some e.at e.event)) rest
+        ∙ subst (λ y. fates.brought_after ls (lines_of some) y j (brought some y j) (call_of e.event) (step_shown some e.at e.event) ≡ brought_after some y j (brought some y j) e.event) (same_part_is e.at p k) (brought_here some e.at j (brought some e.at j) e.event h.0 s.0 rs.1)
+        ∙ sym (cond-true _ _ _ k))
+        (λ (k : same_part e.at p ≡ false). cond-false _ _ _ k ∙ rest ∙ sym (cond-false _ _ _ k))
+        (cases_Bool (same_part e.at p))
+
+    last_done_eq : (some : List (Entry E)) (p : PartId) (what : Event E) → is_call what ≡ true → fates.decided_done (lines_of some) p (fates.last_decided (lines_of some) p) (call_cut what) ≡ decided_after some p (last_shown some p) what
+    last_done_eq some p (Decided t c) k = λ i. cond (pending_is some p t i) (Some t) (last_is some p i)
+    last_done_eq some p Crashed k = off k
+    last_done_eq some p (Restarted n b named listed) k = off k
+    last_done_eq some p (Refused asked why) k = off k
+    last_done_eq some p (Opened who) k = off k
+    last_done_eq some p (Cut a) k = off k
+    last_done_eq some p what k = last_is some p
+
+    resumed_line : (some : List (Entry E)) (p : PartId) (n : ℕ) (b : List ℕ) (named : Option TxId) (listed : List (TxId × ℕ)) → ClocksAre some → ((j : ℕ) → fates.brought ls (lines_of some) p j ≡ brought some p j) → EventsAre (IsRight kinds plan run) some → ResumesAt plan some p (Restarted n b named listed) → fates.IsAsBefore sites ls (lines_of some) p b named listed ⊎ ((call : Call) × (drawn : ℕ) × (fates.faulted (lines_of some) p ≡ Some (call, drawn)) × fates.IsAsDone sites ls (lines_of some) p call drawn b named listed)
+    resumed_line some p n b named listed cs br rs h = ⊎_elim
+        (λ (x : IsAsBefore plan some p b named listed). inl (record { members = λ t. x.members t ∙ sym (pending_is some p t); times = λ t k. x.times t k ∙ sym (prepare_time_is some p t); bounds = λ j o. x.bounds j o ∙ sym (br j); last = x.last ∙ sym (last_is some p) }))
+        (λ (x : (what : Event E) × (cut_call some p ≡ Some what) × (is_call what ≡ true) × IsTakeable plan some p what × IsAsDone plan some p what b named listed).
+        let f = fault_is some cs p x.0 x.2 x.1 in
+        inr (
+          call_cut x.0,
+          f.drawn,
+          f.is,
+          record {
+            members = λ t. x.4.members t ∙ sym (ap (λ o. fates.pending_done (call_cut x.0) o t) (pending_is some p t) ∙ pend_same x.0 (pending_shown some p t) t x.2);
+            times = λ t k. x.4.times t k ∙ sym (ap (λ o. fates.time_done (call_cut x.0) f.drawn o t) (prepare_time_is some p t) ∙ f.time t (pending_time some p t));
+            bounds = λ j o. x.4.bounds j o ∙ sym (ap (λ y. fates.brought_done ls (lines_of some) p j y (call_cut x.0)) (br j) ∙ brought_done_eq some p j (brought some p j) x.0 x.2 x.3 rs);
+            last = x.4.last ∙ sym (last_done_eq some p x.0 x.2);
+          },
+        ))
+        h
+
+    fate_line : (some : List (Entry E)) (p : PartId) (event : Event E) → WasShown run p event → ClocksAre some → ShowsAt plan some p event → ResumesAt plan some p event → KeepsIs plan some p event → SettlesAt some p event → ((j : ℕ) → fates.brought ls (lines_of some) p j ≡ brought some p j) → EventsAre (IsRight kinds plan run) some → fates.ShowsFate sites parts ls (lines_of some) p (call_of event) (step_shown some p event)
+    fate_line some p (Refused asked IsDown) w cs s r k d br rs = tt
+    fate_line some p (Refused asked why) w cs s r k d br rs = tt
+    fate_line some p (Cut (Decided t c)) w cs s r k d br rs = tt
+    fate_line some p (Cut a) w cs s r k d br rs = tt
+    fate_line some p (Aborted t own) w cs s r k d br rs = (pending_is some p t ∙ s, in_history_is run t ∙ law.fate t p (aborted_shown run p t own w))
+    fate_line some p (Restarted n b named listed) w cs s r k d br rs = record {
+      list = resumed_line some p n b named listed cs br rs r;
+      own = s;
+      decided = λ t h e. k t (sym (in_history_is some t) ∙ h) (sym (lead_eq t) ∙ e);
+      settled = λ t h. d t (sym (doubt_is some p t) ∙ h);
+    }
+    fate_line some p event w cs s r k d br rs = tt
+
+    fate_lines : (some : List (Entry E)) → EventsAre (WasShown run) some → ClocksAre some → ShowAt plan some → Resume plan some → KeepsDecided plan some → SettleDoubts some → AreHanded plan some → EventsAre (IsRight kinds plan run) some → EachLine (fates.ShowsFate sites parts ls) (lines_of some)
+    fate_lines [] w cs s r k d hs rs = tt
+    fate_lines (e ∷ some) w cs s r k d hs rs = (fate_line some e.at e.event w.0 cs.1 s.0 r.0 k.0 d.0 (brought_is some hs.1 s.1 rs.1 e.at) rs.1, fate_lines some w.1 cs.1 s.1 r.1 k.1 d.1 hs.1 rs.1)
+
+    -- the snapshot of t has this entry
+    entry_eq : (t : TxId) (j : ℕ) → entry (past.snapshot ls t) j ≡ entry (plan.snapshot t) j
+    entry_eq t j = ap (λ v. entry v j) (snapshot_is run t)
+
+    behind_line : (some : List (Entry E)) (p : PartId) (t : TxId) (n : ℕ) → n ≡ shown some p → n < entry (plan.snapshot t) p.site → causes.IsBehind ls (lines_of some) p t n
+    behind_line some p t n e h = (e ∙ sym (now_is some p), subst (λ x. n < x) (sym (entry_eq t p.site)) h)
+
+    ready_line : (some : List (Entry E)) (p : PartId) (t : TxId) (s : List ℕ) (o : ObjectId) → s ≡ plan.snapshot t → IsReadyAt plan some p s o → causes.IsReady ls (lines_of some) p t o
+    ready_line some p t s o e h =
+        let v : entry s p.site ≡ entry (past.snapshot ls t) p.site = ap (λ x. entry x p.site) e ∙ sym (entry_eq t p.site) in record {
+          clock = subst₂ (λ x y. x ≤ y) v (sym (now_is some p)) h.clock;
+          free = λ u k y. subst₂ (λ x z. x < z) v (sym (prepare_time_is some p u)) (h.free u (sym (pending_is some p u) ∙ k) (sym (touches_eq u p o) ∙ y));
+        }
+
+    first_line : (some : List (Entry E)) (p : PartId) (t : TxId) (s : List ℕ) (o : ObjectId) (u : TxId) (n : ℕ) → s ≡ plan.snapshot t → IsFirstPending plan some p s o u n → causes.IsFirstPending ls (lines_of some) p t o u n
+    first_line some p t s o u n e h =
+        let v : entry s p.site ≡ entry (past.snapshot ls t) p.site = ap (λ x. entry x p.site) e ∙ sym (entry_eq t p.site) in record {
+          clock = subst₂ (λ x y. x ≤ y) v (sym (now_is some p)) h.clock;
+          waiting = pending_is some p u ∙ h.waiting;
+          changes = touches_eq u p o ∙ h.changes;
+          time = h.time ∙ sym (prepare_time_is some p u);
+          early = subst (λ x. n ≤ x) v h.early;
+          first = λ w k y. subst (λ m. pending_cmp (w, m) (u, n) ≢ Less) (sym (prepare_time_is some p w)) (h.first w (sym (pending_is some p w) ∙ k) (sym (touches_eq w p o) ∙ y));
+        }
+
+    stable_line : (some : List (Entry E)) (p : PartId) (who dep : List ℕ) (j n : ℕ) → dep ≡ events.dependency sites some who → IsBehindAt plan some p dep j n → causes.IsStableBehind sites parts (lines_of some) p who j n
+    stable_line some p who dep j n e h =
+        let d : dep ≡ session.dependency sites (lines_of some) who = e ∙ sym (dependency_is sites some who) in record {
+          other = h.other;
+          have = h.have ∙ sym (stable_is parts some p j);
+          behind = subst (λ x. n < entry x j) d h.behind;
+          least = λ i o k. h.least i o (subst₂ (λ x y. x < entry y i) (stable_is parts some p i) (sym d) k);
+        }
+
+    cause_line : (some : List (Entry E)) (p : PartId) (event : Event E) → HandedAt plan some p event → IsFreshAt plan some p event → HasCauseAt plan some p event → ShowsAt plan some p event → IsDueAt event → IsRight kinds plan run p event → causes.HasCause sites parts ls (lines_of some) p (call_of event) (step_shown some p event)
+    cause_line some p (Refused (AskRead t s o own) (ClockBehind n)) h f c w d r = behind_line some p t n c.0 c.1
+    cause_line some p (Refused (AskUpdate t s o own op) (ClockBehind n)) h f c w d r = (c.0, behind_line some p t n c.1 c.2)
+    cause_line some p (Refused (AskPrepare t s l us) (ClockBehind n)) h f c w d r = behind_line some p t n c.0 c.1
+    cause_line some p (Refused (AskRead t s o own) (TxPending u n)) h f c w d r = first_line some p t s o u n h w
+    cause_line some p (Refused (AskUpdate t s o own op) (TxPending u n)) h f c w d r = (w.0, first_line some p t s o u n h w.1)
+    cause_line some p (Refused (AskBegin who dep) (StableBehind j n)) h f c w d r = stable_line some p who dep j n h f
+    cause_line some p (Refused (AskDecide t v) IsGone) h f c w d r = (refl, known_eq some p t ∙ w)
+    cause_line some p (Refused (AskAbort t) IsGone) h f c w d r = (refl, pending_is some p t ∙ w)
+    cause_line some p (Refused asked (ClockBehind n)) h f c w d r = off d
+    cause_line some p (Refused asked (TxPending u n)) h f c w d r = off d
+    cause_line some p (Refused asked (StableBehind j n)) h f c w d r = off d
+    cause_line some p (Refused asked IsGone) h f c w d r = off d
+    cause_line some p (Refused asked (IsDamaged k)) h f c w d r = off d
+    cause_line some p (Refused (AskBegin who dep) ClockAtEnd) h f c w d r = (now_is some p ∙ c, λ j o. subst₂ (λ x y. entry x j ≤ y) (h ∙ sym (dependency_is sites some who)) (sym (stable_is parts some p j)) (f j o))
+    cause_line some p (Refused (AskPrepare t s l us) ClockAtEnd) h f c w d r = (now_is some p ∙ c.1, subst₂ (λ x y. x ≤ y) (sym (entry_eq t p.site)) (sym (now_is some p)) c.0)
+    cause_line some p (Refused asked ClockAtEnd) h f c w d r = off d
+    cause_line some p (Refused asked why) h f c w d r = tt
+    cause_line some p (Cut (Decided t v)) h f c w d r = tt
+    cause_line some p (Cut a) h f c w d r = tt
+    cause_line some p (Read t s o own read value) h f c w d r = ready_line some p t s o r.0 w
+    cause_line some p (Updated t s o own op read u stamp) h f c w d r = λ k. ready_line some p t s o r.0 (w k)
+    cause_line some p (Prepared t s l us n) h f c w d r = (
+      subst₂ (λ x y. x ≤ y) (ap (λ x. entry x p.site) w.0 ∙ sym (entry_eq t p.site)) (sym (now_is some p)) w.1,
+      subst (λ x. x < end_of_time) (sym (now_is some p)) w.2,
+    )
+    cause_line some p (Began who dep t s) h f c w d r = subst (λ x. x < end_of_time) (sym (now_is some p)) w
+    cause_line some p (Decided t v) h f c w d r = known_eq some p t ∙ w
+    cause_line some p (Finished t v) h f c w d r = known_eq some p t ∙ w
+    cause_line some p event h f c w d r = tt
+
+    cause_lines : (some : List (Entry E)) → AreHanded plan some → AreFresh plan some → HaveCausesAt plan some → ShowAt plan some → AreDue some → EventsAre (IsRight kinds plan run) some → EachLine (causes.HasCause sites parts ls) (lines_of some)
+    cause_lines [] h f c w d r = tt
+    cause_lines (e ∷ some) h f c w d r = (cause_line some e.at e.event h.0 f.0 c.0 w.0 d.0 r.0, cause_lines some h.1 f.1 c.1 w.1 d.1 r.1)
+
+    seen_twice : (b c : Bool) → (b && (b && c)) ≡ (b && c)
+    seen_twice true c = refl
+    seen_twice false c = refl
+
+    -- the transactions that t sees, each once
+    seen_by : (t u : TxId) → is_in (filter (past.visible ls (past.snapshot ls t)) (past.history ls)) u ≡ sees_tx plan run (plan.snapshot t) u
+    seen_by t u =
+        in_filter (past.visible ls (past.snapshot ls t)) (past.history ls) u
+        ∙ ap (λ b. b && past.visible ls (past.snapshot ls t) u) (history_has ls u)
+        ∙ seen_twice (past.in_history ls u) (le (past.commit_vector ls u) (past.snapshot ls t))
+        ∙ precedes_is u t
+
+    -- what t reads at p
+    read_same : (some : List (Entry E)) → AreHanded plan some → AreNew some → (p : PartId) (t : TxId) (o : ObjectId) (part : List (Part E)) → IsPlacedAt plan some p t o → IsRightFold plan run p (plan.snapshot t) o part → Same (meaning.read_by plan run some p o t part) (reads.read_by ls (lines_of some) t o)
+    read_same some h n p t o part place fold =
+        let hs = filter (past.visible ls (past.snapshot ls t)) (past.history ls) in
+        let by_tx : TxId → List Update = λ u. updates_at_place sites parts run o u (asked_at run u (twin u.site p)) in
+        let older = meaning.updates_of plan run p o [] part in
+        let put : Same older (flat_map by_tx hs) = all_put sites parts run p o hs (once_filter (past.visible ls (past.snapshot ls t)) (past.history ls) (history_once ls)) (plan.snapshot t) part fold (seen_by t) law.planned in
+        let grown = grows sites parts run o t (asked_at some t p) older (flat_map by_tx hs) [] (subst (Same older) (sym (append-nil (flat_map by_tx hs))) put) in
+        let theirs : flat_map by_tx hs ≡ reads.updates_of ls o (past.visible ls (past.snapshot ls t)) = λ i. flat_map (λ u. sym (updates_is sites parts run run law.handed law.numbered u o (twin u.site p) refl place.part) i) hs in
+        let own : updates_at_place sites parts run o t (asked_at some t p) ++ [] ≡ reads.updates_in ls o t (updates.changes (lines_of some) t) = append-nil (updates_at_place sites parts run o t (asked_at some t p)) ∙ sym (updates_is sites parts run some h n t o p place.site place.part) in
+        subst (Same (meaning.read_by plan run some p o t part)) (λ i. theirs i ++ own i) grown
+
+    right_line : (some : List (Entry E)) → AreHanded plan some → AreNew some → (p : PartId) (event : Event E) → HandedAt plan some p event → IsNew some event → IsRight kinds plan run p event → meaning.HasMeaning kinds plan run some p event → IsKnown kinds p event → reads.IsRight kinds.meaning ls (lines_of some) p (call_of event) (step_shown some p event)
+    right_line some hs ns p (Refused asked IsDown) h n r m k = tt
+    right_line some hs ns p (Refused asked why) h n r m k = tt
+    right_line some hs ns p (Cut (Decided t c)) h n r m k = tt
+    right_line some hs ns p (Cut a) h n r m k = tt
+    right_line some hs ns p (Read t s o own part value) h n r m k =
+        let fold = subst (λ v. IsRightFold plan run p v o part) r.0 r.1 in
+        m ∙ kinds.laws.orderless o.kind (meaning.read_by plan run some p o t part) (reads.read_by ls (lines_of some) t o) k (read_same some hs ns p t o part h fold)
+    right_line some hs ns p (Updated t s o own op part u stamp) h n r m k = λ x.
+        let fold = subst (λ v. IsRightFold plan run p v o part) r.0 (r.1 x) in
+        let a : Asked E = record { change = u; op = op; stamp = stamp; now = shown some p } in
+        let c : updates.Change = record { at = p; now = clock.now (lines_of some) p; object = o; op = op; stamp = stamp; index = length (updates.changes (lines_of some) t) + 1 } in
+        let index : length (updates.changes (lines_of some) t) + 1 ≡ u.index = ap (λ y. y + 1) (count_is some t) ∙ sym n.number in
+        let same : c ≡ to_change p a = λ i. record { at = p; now = now_is some p i; object = sym h.1 i; op = op; stamp = stamp; index = index i } in
+        m x ∙ stamp_same o.kind (meaning.read_by plan run some p o t part) (reads.read_by ls (lines_of some) t o) (meaning.update_of plan run t a) (read_same some hs ns p t o part h.0 fold)
+        ∙ ap (stamp_due o.kind (reads.read_by ls (lines_of some) t o)) (sym (ap (reads.update_of ls t) same ∙ update_is sites parts run t p a))
+    right_line some hs ns p event h n r m k = tt
+
+    right_lines : (some : List (Entry E)) → AreHanded plan some → AreNew some → EventsAre (IsRight kinds plan run) some → meaning.HaveMeaning kinds plan run some → EventsAre (IsKnown kinds) some → EachLine (reads.IsRight kinds.meaning ls) (lines_of some)
+    right_lines [] h n r m k = tt
+    right_lines (e ∷ some) h n r m k = (right_line some h.1 n.1 e.at e.event h.0 n.0 r.0 m.0 k.0, right_lines some h.1 n.1 r.1 m.1 k.1)
+
+    -- a message has as many parts as the history has in its stretch
+    count_line : (p : PartId) (m : Message E) → IsExact plan run p m → length m.parts ≡ streams.stream_count ls p m.lo m.hi
+    count_line p m x =
+        let hs = past.history ls in
+        let inside : (t : TxId) → lists m.parts t ≡ true → is_in hs t ≡ true = λ t h. history_has ls t ∙ in_history_is run t ∙ (and_parts (is_decided run t) _ (sym (x.members t) ∙ h)).0 in
+        let same : (t : TxId) → is_in hs t ≡ true → lists m.parts t ≡ (updates.takes_part ls t p && (ltb m.lo (past.commit_time ls t) && leb (past.commit_time ls t) m.hi)) = λ t h.
+        let d : is_decided run t ≡ true = sym (in_history_is run t) ∙ sym (history_has ls t) ∙ h in
+        x.members t ∙ (λ i. d i && (sym (takes_eq t p) i && (ltb m.lo (sym (commit_time_is run t) i) && leb (sym (commit_time_is run t) i) m.hi))) in
+        parts_counted (commit_vector plan run) (λ u. plan.updates u p) p.site hs (history_once ls) m.parts x.exact x.order inside
+        ∙ ap length (filter_in (λ t. lists m.parts t) (λ t. updates.takes_part ls t p && (ltb m.lo (past.commit_time ls t) && leb (past.commit_time ls t) m.hi)) hs same)
+
+    stream_line : (some : List (Entry E)) (p : PartId) (event : Event E) → HandedAt plan some p event → SendsAt plan some p event → ShowsAt plan some p event → IsDueAt event → IsRight kinds plan run p event → streams.IsStream sites ls (lines_of some) p (call_of event) (step_shown some p event)
+    stream_line some p (Sent asked m) h n s d r = record { row = ap (λ x. x + 1) (sym (sent_count_is some)); to = n.to; low = n.lo ∙ ap (low_of asked) (sym (last_sent_is some p m.to)); high = own_bound_is some p m.hi s; parts = count_line p m r }
+    stream_line some p (Took m) h n s d r = let e = sym (bound_is some p m.from) in (refl, subst (λ x. m.lo ≤ x) e s.0, subst (λ x. x < m.hi) e s.1, handed_line plan some p m h)
+    stream_line some p (Reported b) h n s d r = ap (λ x. x + 1) (sym (report_count_is some))
+    stream_line some p (Heard k b stable) h n s d r = report_line some (record { site = p.site; part = k }) b h.shown
+    stream_line some p (Refused (AskTake m) (HasGap k)) h n s d r = (s.0 ∙ sym (bound_is some p m.from), s.1, handed_line plan some p m h)
+    stream_line some p (Refused (AskTake m) (IsRepeat k)) h n s d r = (s.0 ∙ sym (bound_is some p m.from), s.1, s.2, handed_line plan some p m h)
+    stream_line some p (Refused asked (HasGap k)) h n s d r = off d
+    stream_line some p (Refused asked (IsRepeat k)) h n s d r = off d
+    stream_line some p (Refused asked why) h n s d r = tt
+    stream_line some p (Cut (Decided t c)) h n s d r = tt
+    stream_line some p (Cut a) h n s d r = tt
+    stream_line some p event h n s d r = tt
+
+    stream_lines : (some : List (Entry E)) → AreHanded plan some → Send plan some → ShowAt plan some → AreDue some → EventsAre (IsRight kinds plan run) some → EachLine (streams.IsStream sites ls) (lines_of some)
+    stream_lines [] h n s d r = tt
+    stream_lines (e ∷ some) h n s d r = (stream_line some e.at e.event h.0 n.0 s.0 d.0 r.0, stream_lines some h.1 n.1 s.1 d.1 r.1)
+
+    order_lines : past.IsStrictOrder (lines_of run)
+    order_lines = record {
+      irreflexive = λ t. precedes_is t t ∙ no_self kinds plan run facts t;
+      transitive = λ t u w h k. closed_lines (past.snapshot (lines_of run) w) t u k h;
+    }
+
+    pub lawful_lines : IsLawfulRun kinds.too_deep kinds.meaning sites parts (lines_of run)
+    lawful_lines = record {
+      answers = answer_lines plan run law.handed law.due;
+      clock = clock_lines run law.clock;
+      placed = placed_lines plan run law.handed;
+      past = past_lines sites run law.past;
+      fresh = fresh_lines plan run law.past law.fresh law.shown;
+      commit = commit_lines run law.votes law.vectors law.numbered;
+      agreed = agreed_lines;
+      right = right_lines run law.handed law.numbered law.right law.meant law.known;
+      fates = fate_lines run (shown_all run) law.clock law.shown law.resumed law.decided_stay law.doubts law.handed law.right;
+      streams = stream_lines run law.handed law.sends law.shown law.due law.right;
+      causes = cause_lines run law.handed law.fresh law.causes law.shown law.due law.right;
+      ops = op_lines kinds run law.known;
+      ups = up_lines run law.downs law.due;
+      order = order_lines;
+      closed = λ t h. closed_lines (past.snapshot (lines_of run) t);
+    }

@@ -1,0 +1,328 @@
+-- What the lines of a run tell is what its events tell.
+use Rattle.std.proofs.Common.{◌≡◌, ⊎_elim, inl, inr, ℕ, ◌+◌, ◌<◌, ◌≤◌, max, cond, Bool, true, false, not, ◌&&◌, ◌||◌, List, [], ◌∷◌, length, Option, Some, refl, sym, ap, ◌∙◌, subst, arith}
+use Rattle.std.specs.Prelude.{◌==◌}
+use Rattle.std.specs.Str.{bytes_eq}
+use Rattle.std.proofs.lemmas.Slice.Eq.{bytes_eq-Decides}
+use Rattle.std.proofs.lemmas.Bool.{cases_Bool, cond-true, cond-false, and_from, and_parts, eqb-true, eq-eqb}
+use Rattle.world_model.proofs.Names.{clash, off, part_same}
+use Rattle.site_vector.specs.declared.ids.PartId.{PartId}
+use Rattle.site_vector.specs.declared.ids.TxId.{TxId}
+use Rattle.site_vector.specs.Ids.{same_part, same_tx}
+use Rattle.site_vector.specs.Order.{same_part_is}
+use Rattle.site_vector.specs.Vector.{le, entry, join, replaced}
+use Rattle.crdt_core.specs.declared.record.Message.{Message}
+use Rattle.world_model.specs.Event.{IsDown, Event, Ticked, Began, Updated, Read, Prepared, Decided, Finished, Aborted, Sent, Took, Reported, Heard, Crashed, Restarted, Refused, Opened, Cut, Entry, shows_decided, is_decided, is_prepare, time_shown, time_of, shown_after, shown, missed_after, missed, voted, WasShown}
+use Rattle.world_model.specs.World.{is_begin, begin_vector, begun, snapshot_of}
+use Rattle.world_model.specs.Past as events
+use Rattle.world_model.specs.WorldLaw.{ClockIs, ClocksAre}
+use Rattle.world_model.specs.Shown as told
+use Rattle.world_model.specs.Stable.{heard_from, heard_shown, known_shown, stable_shown}
+use Rattle.world_model.specs.Doubt as doubt
+use Rattle.world_model.specs.Downs as downs
+use Rattle.world_model.specs.Partition.{lowest}
+use Rattle.world_model.specs.Sends as sends
+use Rattle.world_model.specs.Lines.{is_sent, sent_count, is_report, report_count, has_stretch, message_number, has_bounds, report_number, call_of, step_shown, lines_of}
+use Rattle.world_model.specs.declared.step.Step.TheVariants as step
+use Rattle.world_model.specs.LineClock as clock
+use Rattle.world_model.specs.LineHistory as past
+use Rattle.world_model.specs.LinePast as session
+use Rattle.world_model.specs.LineFate as fate
+use Rattle.world_model.specs.LineFates as fates
+use Rattle.world_model.specs.Resumed as resumed
+use Rattle.world_model.specs.LineBounds as bounds
+use Rattle.world_model.specs.LineCommit as commit
+use Rattle.world_model.specs.LineStreams as streams
+
+none_more : (b : Bool) (old n : ℕ) → max old (cond b n 0) ≡ cond b (max old n) old
+none_more true old n = refl
+none_more false old n = omega arith
+
+module _ {E : Type 0} where
+  time_here : (run : List (Entry E)) (p : PartId) (old : ℕ) (event : Event E) → clock.time_after old (step_shown run p event) ≡ shown_after old event
+  time_here run p old (Refused asked IsDown) = refl
+  time_here run p old (Refused asked why) = refl
+  time_here run p old (Cut (Decided t c)) = refl
+  time_here run p old (Cut a) = refl
+  time_here run p old event = refl
+
+  pub now_is : (run : List (Entry E)) (p : PartId) → clock.now (lines_of run) p ≡ shown run p
+  now_is [] p = refl
+  now_is (e ∷ run) p = λ i. cond (same_part e.at p) ((ap (λ o. clock.time_after o (step_shown run e.at e.event)) (now_is run p) ∙ time_here run e.at (shown run p) e.event) i) (now_is run p i)
+
+  missed_here : (run : List (Entry E)) (p : PartId) (old : ℕ) (event : Event E) → ClockIs run p event → clock.missed_after (shown run p) old (call_of event) (step_shown run p event) ≡ missed_after old event
+  missed_here run p old (Refused asked IsDown) h = refl
+  missed_here run p old (Refused asked why) h = refl
+  missed_here run p old (Cut (Ticked r n)) h = ap (λ x. max x old) (sym h)
+  missed_here run p old (Cut (Began who dep t s)) h = ap (λ x. max x old) (sym h)
+  missed_here run p old (Cut (Prepared t s l w n)) h = ap (λ x. max x old) (sym h)
+  missed_here run p old (Cut a) h = refl
+  missed_here run p old event h = refl
+
+  decides_here : (run : List (Entry E)) (p : PartId) (t : TxId) (event : Event E) → past.decides (step_shown run p event) t ≡ shows_decided event t
+  decides_here run p t (Refused asked IsDown) = refl
+  decides_here run p t (Refused asked why) = refl
+  decides_here run p t (Cut (Decided u c)) = refl
+  decides_here run p t (Cut a) = refl
+  decides_here run p t event = refl
+
+  pub in_history_is : (run : List (Entry E)) (t : TxId) → past.in_history (lines_of run) t ≡ is_decided run t
+  in_history_is [] t = refl
+  in_history_is (e ∷ run) t = λ i. (decides_here run e.at t e.event i || in_history_is run t i)
+
+  begins_here : (run : List (Entry E)) (p : PartId) (t : TxId) (event : Event E) → past.begins (step_shown run p event) t ≡ is_begin event t
+  begins_here run p t (Refused asked IsDown) = refl
+  begins_here run p t (Refused asked why) = refl
+  begins_here run p t (Cut (Decided u c)) = refl
+  begins_here run p t (Cut a) = refl
+  begins_here run p t event = refl
+
+  pub begun_is : (run : List (Entry E)) (t : TxId) → past.is_begun (lines_of run) t ≡ begun run t
+  begun_is [] t = refl
+  begun_is (e ∷ run) t = λ i. (begins_here run e.at t e.event i || begun_is run t i)
+
+  snapshot_here : (run : List (Entry E)) (p : PartId) (t : TxId) (old : List ℕ) (event : Event E) → past.snapshot_after t old (step_shown run p event) ≡ cond (is_begin event t) (begin_vector event) old
+  snapshot_here run p t old (Refused asked IsDown) = refl
+  snapshot_here run p t old (Refused asked why) = refl
+  snapshot_here run p t old (Cut (Decided u c)) = refl
+  snapshot_here run p t old (Cut a) = refl
+  snapshot_here run p t old event = refl
+
+  pub snapshot_is : (run : List (Entry E)) (t : TxId) → past.snapshot (lines_of run) t ≡ snapshot_of run t
+  snapshot_is [] t = refl
+  snapshot_is (e ∷ run) t = ap (λ o. past.snapshot_after t o (step_shown run e.at e.event)) (snapshot_is run t) ∙ snapshot_here run e.at t (snapshot_of run t) e.event
+
+  commit_time_here : (run : List (Entry E)) (p : PartId) (t : TxId) (old : ℕ) (event : Event E) → past.commit_time_after t old (step_shown run p event) ≡ cond (is_prepare event t) (max (time_shown event) old) old
+  commit_time_here run p t old (Refused asked IsDown) = refl
+  commit_time_here run p t old (Refused asked why) = refl
+  commit_time_here run p t old (Cut (Decided u c)) = refl
+  commit_time_here run p t old (Cut a) = refl
+  commit_time_here run p t old event = refl
+
+  pub commit_time_is : (run : List (Entry E)) (t : TxId) → past.commit_time (lines_of run) t ≡ time_of run t
+  commit_time_is [] t = refl
+  commit_time_is (e ∷ run) t = ap (λ o. past.commit_time_after t o (step_shown run e.at e.event)) (commit_time_is run t) ∙ commit_time_here run e.at t (time_of run t) e.event
+
+  pub vector_is : (run : List (Entry E)) (t : TxId) → past.commit_vector (lines_of run) t ≡ replaced (snapshot_of run t) t.site (time_of run t)
+  vector_is run t = λ i. replaced (snapshot_is run t i) t.site (commit_time_is run t i)
+
+  pub visible_is : (run : List (Entry E)) (v : List ℕ) (t : TxId) → past.visible (lines_of run) v t ≡ (is_decided run t && le (replaced (snapshot_of run t) t.site (time_of run t)) v)
+  visible_is run v t = λ i. (in_history_is run t i && le (vector_is run t i) v)
+
+  begins_for_here : (run : List (Entry E)) (p : PartId) (who : List ℕ) (t : TxId) (event : Event E) → session.begins_for (step_shown run p event) who t ≡ events.begins_for event who t
+  begins_for_here run p who t (Refused asked IsDown) = refl
+  begins_for_here run p who t (Refused asked why) = refl
+  begins_for_here run p who t (Cut (Decided u c)) = refl
+  begins_for_here run p who t (Cut a) = refl
+  begins_for_here run p who t event = refl
+
+  pub is_of_is : (run : List (Entry E)) (who : List ℕ) (t : TxId) → session.is_of (lines_of run) who t ≡ events.is_of run who t
+  is_of_is [] who t = refl
+  is_of_is (e ∷ run) who t = λ i. (begins_for_here run e.at who t e.event i || is_of_is run who t i)
+
+  dependency_here : (sites : ℕ) (run : List (Entry E)) (p : PartId) (who old : List ℕ) (event : Event E) → session.dependency_after sites (lines_of run) who old (step_shown run p event) ≡ events.dependency_after sites run who old event
+  dependency_here sites run p who old (Refused asked IsDown) = refl
+  dependency_here sites run p who old (Refused asked why) = refl
+  dependency_here sites run p who old (Cut (Decided u c)) = refl
+  dependency_here sites run p who old (Cut a) = refl
+  dependency_here sites run p who old (Decided u c) = ap (λ b. cond b (join old c) old) (is_of_is run who u)
+  dependency_here sites run p who old event = refl
+
+  pub dependency_is : (sites : ℕ) (run : List (Entry E)) (who : List ℕ) → session.dependency sites (lines_of run) who ≡ events.dependency sites run who
+  dependency_is sites [] who = refl
+  dependency_is sites (e ∷ run) who = ap (λ o. session.dependency_after sites (lines_of run) who o (step_shown run e.at e.event)) (dependency_is sites run who) ∙ dependency_here sites run e.at who (events.dependency sites run who) e.event
+
+  pending_here : (run : List (Entry E)) (p : PartId) (t : TxId) (old : Bool) (event : Event E) → fate.pending_after t old (step_shown run p event) ≡ told.pending_after t old event
+  pending_here run p t old (Refused asked IsDown) = refl
+  pending_here run p t old (Refused asked why) = refl
+  pending_here run p t old (Cut (Decided u c)) = refl
+  pending_here run p t old (Cut a) = refl
+  pending_here run p t old event = refl
+
+  pub pending_is : (run : List (Entry E)) (p : PartId) (t : TxId) → fate.pending (lines_of run) p t ≡ told.pending_shown run p t
+  pending_is [] p t = refl
+  pending_is (e ∷ run) p t = λ i. cond (same_part e.at p) ((ap (λ o. fate.pending_after t o (step_shown run e.at e.event)) (pending_is run p t) ∙ pending_here run e.at t (told.pending_shown run p t) e.event) i) (pending_is run p t i)
+
+  prepare_time_here : (run : List (Entry E)) (p : PartId) (t : TxId) (old : ℕ) (event : Event E) → fate.prepare_time_after t old (step_shown run p event) ≡ told.time_after t old event
+  prepare_time_here run p t old (Refused asked IsDown) = refl
+  prepare_time_here run p t old (Refused asked why) = refl
+  prepare_time_here run p t old (Cut (Decided u c)) = refl
+  prepare_time_here run p t old (Cut a) = refl
+  prepare_time_here run p t old event = refl
+
+  pub prepare_time_is : (run : List (Entry E)) (p : PartId) (t : TxId) → fate.prepare_time (lines_of run) p t ≡ told.pending_time run p t
+  prepare_time_is [] p t = refl
+  prepare_time_is (e ∷ run) p t = λ i. cond (same_part e.at p) ((ap (λ o. fate.prepare_time_after t o (step_shown run e.at e.event)) (prepare_time_is run p t) ∙ prepare_time_here run e.at t (told.pending_time run p t) e.event) i) (prepare_time_is run p t i)
+
+  doubt_here : (run : List (Entry E)) (p : PartId) (t : TxId) (old : Bool) (event : Event E) → fate.doubt_after (lines_of run) t old (step_shown run p event) ≡ doubt.doubt_after run t old event
+  doubt_here run p t old (Refused asked IsDown) = refl
+  doubt_here run p t old (Refused asked why) = refl
+  doubt_here run p t old (Cut (Decided u c)) = ap (λ b. same_tx u t && not b) (in_history_is run t)
+  doubt_here run p t old (Cut a) = refl
+  doubt_here run p t old event = refl
+
+  pub doubt_is : (run : List (Entry E)) (p : PartId) (t : TxId) → fate.in_doubt (lines_of run) p t ≡ doubt.in_doubt run p t
+  doubt_is [] p t = refl
+  doubt_is (e ∷ run) p t = λ i. cond (same_part e.at p) ((ap (λ o. fate.doubt_after (lines_of run) t o (step_shown run e.at e.event)) (doubt_is run p t) ∙ doubt_here run e.at t (doubt.in_doubt run p t) e.event) i) (doubt_is run p t i)
+
+  down_here : (run : List (Entry E)) (p : PartId) (old : Bool) (event : Event E) → fate.down_after old (step_shown run p event) ≡ downs.down_after old event
+  down_here run p old (Refused asked IsDown) = refl
+  down_here run p old (Refused asked why) = refl
+  down_here run p old (Cut (Decided u c)) = refl
+  down_here run p old (Cut a) = refl
+  down_here run p old event = refl
+
+  pub down_is : (run : List (Entry E)) (p : PartId) → fate.is_down (lines_of run) p ≡ downs.is_down run p
+  down_is [] p = refl
+  down_is (e ∷ run) p = λ i. cond (same_part e.at p) ((ap (λ o. fate.down_after o (step_shown run e.at e.event)) (down_is run p) ∙ down_here run e.at (downs.is_down run p) e.event) i) (down_is run p i)
+
+  last_here : (run : List (Entry E)) (p q : PartId) (old : Option TxId) (event : Event E) → fates.decided_after (lines_of run) p old (step_shown run q event) ≡ resumed.decided_after run p old event
+  last_here run p q old (Refused asked IsDown) = refl
+  last_here run p q old (Refused asked why) = refl
+  last_here run p q old (Cut (Decided u c)) = refl
+  last_here run p q old (Cut a) = refl
+  last_here run p q old (Decided u c) = λ i. cond (pending_is run p u i) (Some u) old
+  last_here run p q old event = refl
+
+  pub last_is : (run : List (Entry E)) (p : PartId) → fates.last_decided (lines_of run) p ≡ resumed.last_shown run p
+  last_is [] p = refl
+  last_is (e ∷ run) p = λ i. cond (same_part e.at p) ((ap (λ o. fates.decided_after (lines_of run) p o (step_shown run e.at e.event)) (last_is run p) ∙ last_here run p e.at (resumed.last_shown run p) e.event) i) (last_is run p i)
+
+  bound_here : (run : List (Entry E)) (p : PartId) (j old : ℕ) (event : Event E) → bounds.bound_after j old (call_of event) (step_shown run p event) ≡ told.bound_after j old event
+  bound_here run p j old (Refused asked IsDown) = refl
+  bound_here run p j old (Refused asked why) = refl
+  bound_here run p j old (Cut (Decided u c)) = refl
+  bound_here run p j old (Cut a) = refl
+  bound_here run p j old event = refl
+
+  pub bound_is : (run : List (Entry E)) (p : PartId) (j : ℕ) → bounds.bound (lines_of run) p j ≡ told.bound_shown run p j
+  bound_is [] p j = refl
+  bound_is (e ∷ run) p j = λ i. cond (same_part e.at p) ((ap (λ o. bounds.bound_after j o (call_of e.event) (step_shown run e.at e.event)) (bound_is run p j) ∙ bound_here run e.at j (told.bound_shown run p j) e.event) i) (bound_is run p j i)
+
+  pub heard_here : (run : List (Entry E)) (p : PartId) (q j old : ℕ) (event : Event E) → bounds.heard_after q j old (call_of event) (step_shown run p event) ≡ heard_from q j old event
+  heard_here run p q j old (Refused asked IsDown) = refl
+  heard_here run p q j old (Refused asked why) = refl
+  heard_here run p q j old (Cut (Decided u c)) = refl
+  heard_here run p q j old (Cut a) = refl
+  heard_here run p q j old (Heard k b stable) = none_more (k == q) old (entry b j)
+  heard_here run p q j old event = refl
+
+  pub heard_is : (run : List (Entry E)) (p : PartId) (q j : ℕ) → bounds.heard (lines_of run) p q j ≡ heard_shown run p q j
+  heard_is [] p q j = refl
+  heard_is (e ∷ run) p q j = λ i. cond (same_part e.at p) ((ap (λ o. bounds.heard_after q j o (call_of e.event) (step_shown run e.at e.event)) (heard_is run p q j) ∙ heard_here run e.at q j (heard_shown run p q j) e.event) i) (heard_is run p q j i)
+
+  pub known_is : (run : List (Entry E)) (p : PartId) (j q : ℕ) → bounds.known (lines_of run) p j q ≡ known_shown run p j q
+  known_is run p j q = λ i. cond (p.part == q) (bound_is run p j i) (heard_is run p q j i)
+
+  pub stable_is : (parts : ℕ) (run : List (Entry E)) (p : PartId) (j : ℕ) → bounds.stable_entry parts (lines_of run) p j ≡ stable_shown parts run p j
+  stable_is parts run p j = λ i. lowest (λ q. known_is run p j q i) parts
+
+  pub own_bound_is : (run : List (Entry E)) (p : PartId) (b : ℕ) → told.IsOwnBoundAt run p b → bounds.IsOwnBound (lines_of run) p b
+  own_bound_is run p b o = record {
+    most = subst (λ n. b ≤ n) (sym (now_is run p)) o.most;
+    below = λ u h. subst (λ n. b < n) (sym (prepare_time_is run p u)) (o.below u (sym (pending_is run p u) ∙ h));
+    reached = ⊎_elim
+        (λ (e : b ≡ shown run p). inl (e ∙ sym (now_is run p)))
+        (λ (e : (u : TxId) × (told.pending_shown run p u ≡ true) × (told.pending_time run p u ≡ b + 1)). inr (e.0, pending_is run p e.0 ∙ e.1, prepare_time_is run p e.0 ∙ e.2))
+        o.reached;
+  }
+
+  -- the missed times need what calls that were cut off would have shown
+  pub missed_is : (run : List (Entry E)) → ClocksAre run → (p : PartId) → clock.missed (lines_of run) p ≡ missed run p
+  missed_is [] h p = refl
+  missed_is (e ∷ run) h p = ⊎_elim
+      (λ (k : same_part e.at p ≡ true).
+      let same = same_part_is e.at p k in
+      let here : clock.missed_after (clock.now (lines_of run) e.at) (clock.missed (lines_of run) e.at) (call_of e.event) (step_shown run e.at e.event) ≡ missed_after (missed run e.at) e.event =
+      (λ i. clock.missed_after (now_is run e.at i) (missed_is run h.1 e.at i) (call_of e.event) (step_shown run e.at e.event)) ∙ missed_here run e.at (missed run e.at) e.event h.0 in
+      cond-true _ _ _ k ∙ subst (λ y. clock.missed_after (clock.now (lines_of run) y) (clock.missed (lines_of run) y) (call_of e.event) (step_shown run e.at e.event) ≡ missed_after (missed run y) e.event) same here ∙ sym (cond-true _ _ _ k))
+      (λ (k : same_part e.at p ≡ false). cond-false _ _ _ k ∙ missed_is run h.1 p ∙ sym (cond-false _ _ _ k))
+      (cases_Bool (same_part e.at p))
+
+  prepares_here : (run : List (Entry E)) (p : PartId) (t : TxId) (event : Event E) → commit.prepares (step_shown run p event) t ≡ is_prepare event t
+  prepares_here run p t (Refused asked IsDown) = refl
+  prepares_here run p t (Refused asked why) = refl
+  prepares_here run p t (Cut (Decided u c)) = refl
+  prepares_here run p t (Cut a) = refl
+  prepares_here run p t event = refl
+
+  pub was_prepared_is : (run : List (Entry E)) (t : TxId) (p : PartId) → commit.was_prepared (lines_of run) t p ≡ voted run t p
+  was_prepared_is [] t p = refl
+  was_prepared_is (e ∷ run) t p = λ i. ((same_part e.at p && prepares_here run e.at t e.event i) || was_prepared_is run t p i)
+
+  sent_here : (run : List (Entry E)) (p : PartId) (j old : ℕ) (event : Event E) → streams.sent_after j old (step_shown run p event) ≡ sends.sent_after j old event
+  sent_here run p j old (Refused asked IsDown) = refl
+  sent_here run p j old (Refused asked why) = refl
+  sent_here run p j old (Cut (Decided u c)) = refl
+  sent_here run p j old (Cut a) = refl
+  sent_here run p j old event = refl
+
+  pub last_sent_is : (run : List (Entry E)) (p : PartId) (j : ℕ) → streams.last_sent (lines_of run) p j ≡ sends.last_sent run p j
+  last_sent_is [] p j = refl
+  last_sent_is (e ∷ run) p j = λ i. cond (same_part e.at p) ((ap (λ o. streams.sent_after j o (step_shown run e.at e.event)) (last_sent_is run p j) ∙ sent_here run e.at j (sends.last_sent run p j) e.event) i) (last_sent_is run p j i)
+
+  is_sent_here : (run : List (Entry E)) (p : PartId) (event : Event E) → streams.is_sent (step_shown run p event) ≡ is_sent event
+  is_sent_here run p (Refused asked IsDown) = refl
+  is_sent_here run p (Refused asked why) = refl
+  is_sent_here run p (Cut (Decided u c)) = refl
+  is_sent_here run p (Cut a) = refl
+  is_sent_here run p event = refl
+
+  pub sent_count_is : (run : List (Entry E)) → streams.sent_count (lines_of run) ≡ sent_count run
+  sent_count_is [] = refl
+  sent_count_is (e ∷ run) = λ i. cond (is_sent_here run e.at e.event i) (sent_count_is run i + 1) (sent_count_is run i)
+
+  is_report_here : (run : List (Entry E)) (p : PartId) (event : Event E) → streams.is_report (step_shown run p event) ≡ is_report event
+  is_report_here run p (Refused asked IsDown) = refl
+  is_report_here run p (Refused asked why) = refl
+  is_report_here run p (Cut (Decided u c)) = refl
+  is_report_here run p (Cut a) = refl
+  is_report_here run p event = refl
+
+  pub report_count_is : (run : List (Entry E)) → streams.report_count (lines_of run) ≡ report_count run
+  report_count_is [] = refl
+  report_count_is (e ∷ run) = λ i. cond (is_report_here run e.at e.event i) (report_count_is run i + 1) (report_count_is run i)
+
+  -- a message with the stretch of m
+  stretch_line : (run : List (Entry E)) (q : PartId) (event : Event E) (m : Message E) → has_stretch event m ≡ true → (count : ℕ) × (step_shown run q event ≡ step.Sent (sent_count run + 1) q m.to m.lo m.hi count)
+  stretch_line run q (Sent asked x) m h =
+      let a = and_parts (x.to == m.to) _ h in
+      let b = and_parts (x.lo == m.lo) (x.hi == m.hi) a.1 in
+      let to = eqb-true x.to m.to a.0 in
+      let lo = eqb-true x.lo m.lo b.0 in
+      let hi = eqb-true x.hi m.hi b.1 in
+      (length x.parts, λ i. step.Sent (sent_count run + 1) q (to i) (lo i) (hi i) (length x.parts))
+  stretch_line run q event m h = off h
+
+  -- what was sent or reported stands in the lines, with its number
+  pub sent_line : (run : List (Entry E)) (q : PartId) (asked : Option ℕ) (m : Message E) → WasShown run q (Sent asked m) → streams.WasSent (lines_of run) q (message_number run q m) m.to m.lo m.hi
+  sent_line [] q asked m w = w
+  sent_line (e ∷ run) q asked m w = ⊎_elim
+      (λ (k : (same_part e.at q && has_stretch e.event m) ≡ true).
+      let ks = and_parts (same_part e.at q) _ k in
+      let s = same_part_is e.at q ks.0 in
+      let x = stretch_line run e.at e.event m ks.1 in
+      subst (λ n. streams.WasSent (lines_of (e ∷ run)) q n m.to m.lo m.hi) (sym (cond-true _ (sent_count run + 1) (message_number run q m) k)) (inl (s, x.0, x.1 ∙ ap (λ y. step.Sent (sent_count run + 1) y m.to m.lo m.hi x.0) s)))
+      (λ (k : (same_part e.at q && has_stretch e.event m) ≡ false).
+      subst (λ n. streams.WasSent (lines_of (e ∷ run)) q n m.to m.lo m.hi) (sym (cond-false _ (sent_count run + 1) (message_number run q m) k)) (⊎_elim
+      (λ (x : (e.at ≡ q) × (e.event ≡ Sent asked m)). clash (and_from _ _ (part_same e.at q x.0) (ap (λ a. has_stretch a m) x.1 ∙ and_from _ _ (eq-eqb m.to m.to refl) (and_from _ _ (eq-eqb m.lo m.lo refl) (eq-eqb m.hi m.hi refl)))) k)
+      (λ (x : WasShown run q (Sent asked m)). inr (sent_line run q asked m x))
+      w))
+      (cases_Bool (same_part e.at q && has_stretch e.event m))
+
+  bounds_line : (run : List (Entry E)) (q : PartId) (event : Event E) (b : List ℕ) → has_bounds event b ≡ true → step_shown run q event ≡ step.Reported (report_count run + 1) q b
+  bounds_line run q (Reported x) b h = ap (λ y. step.Reported (report_count run + 1) q y) ((bytes_eq-Decides x b).0 h)
+  bounds_line run q event b h = off h
+
+  pub report_line : (run : List (Entry E)) (q : PartId) (b : List ℕ) → WasShown run q (Reported b) → streams.WasReported (lines_of run) q (report_number run q b) b
+  report_line [] q b w = w
+  report_line (e ∷ run) q b w = ⊎_elim
+      (λ (k : (same_part e.at q && has_bounds e.event b) ≡ true).
+      let ks = and_parts (same_part e.at q) _ k in
+      let s = same_part_is e.at q ks.0 in
+      subst (λ n. streams.WasReported (lines_of (e ∷ run)) q n b) (sym (cond-true _ (report_count run + 1) (report_number run q b) k)) (inl (s, bounds_line run e.at e.event b ks.1 ∙ ap (λ y. step.Reported (report_count run + 1) y b) s)))
+      (λ (k : (same_part e.at q && has_bounds e.event b) ≡ false).
+      subst (λ n. streams.WasReported (lines_of (e ∷ run)) q n b) (sym (cond-false _ (report_count run + 1) (report_number run q b) k)) (⊎_elim
+      (λ (x : (e.at ≡ q) × (e.event ≡ Reported b)). clash (and_from _ _ (part_same e.at q x.0) (ap (λ a. has_bounds a b) x.1 ∙ (bytes_eq-Decides b b).1 refl)) k)
+      (λ (x : WasShown run q (Reported b)). inr (report_line run q b x))
+      w))
+      (cases_Bool (same_part e.at q && has_bounds e.event b))

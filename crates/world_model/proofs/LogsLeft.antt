@@ -1,0 +1,82 @@
+-- Whatever a restart may find is a log that the run leaves.
+use Rattle.std.proofs.Common.{◌≡◌, ◌≢◌, ⊎_elim, inl, inr, ℕ, true, List, [], ◌∷◌, refl, sym, ap, ◌∙◌, subst}
+use Rattle.site_vector.specs.declared.ids.PartId.{PartId}
+use Rattle.site_vector.specs.Vector.{entry}
+use Rattle.crdt_core.specs.declared.record.Record.{Record}
+use Rattle.world_model.specs.Log.{grown, IsImage}
+use Rattle.world_model.specs.Event.{Event, Ticked, Began, Updated, Read, Prepared, Decided, Finished, Aborted, Sent, Took, Reported, Heard, Crashed, Restarted, Refused, Opened, Cut, Entry, attempt}
+use Rattle.world_model.specs.Partition.{Kinds, PartState, Image, IsOwnBound, above, batch_of, written, done, PartStep}
+use Rattle.world_model.specs.Plan.{Plan, IsAllowed, IsRun}
+use Rattle.world_model.specs.Shown.{bound_shown}
+use Rattle.world_model.specs.Logs.{IsLogAfter, IsLogOf, LeavesLogs}
+use Rattle.world_model.proofs.Names.{part_cases}
+use Rattle.world_model.proofs.Moves.{image_log}
+use Rattle.world_model.proofs.Shows.{Shown, shown_run}
+
+module _ {E : Type 0} {S : Type 0} (kinds : Kinds S E) (plan : Plan E) (run : List (Entry E)) (before after : PartId → PartState E) (at : PartId) (w : Shown plan run before) (left : LeavesLogs plan.sites run before) where
+  -- a log that came of one that the run left
+  abbrev Left : Event E → List (Record E) → Type 0
+  Left event m = (old : List (Record E)) × IsLogOf plan.sites run at old × IsLogAfter plan.sites run at old event m
+
+  -- the records are those that the bounds give which were shown
+  same_written : (a : Event E) → IsAllowed plan run before at a → (before at).up ≡ true → written (before at).log (λ j. entry (before at).bounds j) a ≡ written (before at).log (bound_shown run at) a
+  same_written (Took m) al up = let e = w.bounds at m.from up al.from in λ i. batch_of m (e i) (above m.from (e i) m.parts)
+  same_written a al up = refl
+
+  left_log : IsLogOf plan.sites run at (before at).log
+  left_log = left at (before at).log (image_log (before at))
+
+  left_done : (event : Event E) → IsAllowed plan run before at event → (before at).up ≡ true → after at ≡ done (before at) event → (m : List (Record E)) → Image (after at) m → m ≡ grown (before at).log (written (before at).log (bound_shown run at) event)
+  left_done event al up e m i = subst (λ rs. m ≡ grown (before at).log rs) (same_written event al up) (subst (λ p. Image p m) e i)
+
+  -- the same partition as before
+  left_same : (m : List (Record E)) → after at ≡ before at → Image (after at) m → IsLogOf plan.sites run at m
+  left_same m e i = left at m (subst (λ p. Image p m) e i)
+
+  left_here : (event : Event E) → IsAllowed plan run before at (attempt event) → PartStep kinds plan.sites plan.parts at (before at) event (after at) → (m : List (Record E)) → Image (after at) m → Left event m
+  left_here (Cut a) al st m i = ((before at).log, left_log, subst (λ rs. IsImage (before at).log rs m) (same_written a al st.0) (subst (λ p. Image p m) st.2 i))
+  left_here Crashed al st m i = (m, left at m (subst (λ p. Image p m) st i), refl)
+  left_here (Restarted n b named listed) al st m i =
+      let log = (after at).log in
+      let e : m ≡ log = subst (λ rs. IsImage log rs m) st.whole i in (
+        log,
+        left at log st.found,
+        (
+          e,
+          record {
+            clock = st.shown ∙ st.clock;
+            others = λ j o. st.shown_bounds.others j o ∙ st.bounds j o;
+            own = subst (λ k. IsOwnBound k log (entry b at.site)) (sym st.shown) st.shown_bounds.own;
+            last = st.last;
+            members = st.members;
+            timed = st.timed;
+            order = st.order;
+          },
+        ),
+      )
+  left_here (Refused asked why) al st m i = (m, left_same m st.1 i, refl)
+  left_here (Opened who) al st m i = (m, left_same m st i, refl)
+  left_here (Ticked r n) al st m i = ((before at).log, left_log, left_done (Ticked r n) al st.0 st.2 m i)
+  left_here (Began who dep t s) al st m i = ((before at).log, left_log, left_done (Began who dep t s) al st.0 st.2 m i)
+  left_here (Updated t s o own op read u stamp) al st m i = ((before at).log, left_log, left_done (Updated t s o own op read u stamp) al st.0 st.2 m i)
+  left_here (Read t s o own read value) al st m i = ((before at).log, left_log, left_done (Read t s o own read value) al st.0 st.2 m i)
+  left_here (Prepared t s l c n) al st m i = ((before at).log, left_log, left_done (Prepared t s l c n) al st.0 st.2 m i)
+  left_here (Decided t c) al st m i = ((before at).log, left_log, left_done (Decided t c) al st.0 st.2 m i)
+  left_here (Finished t c) al st m i = ((before at).log, left_log, left_done (Finished t c) al st.0 st.2 m i)
+  left_here (Aborted t own) al st m i = ((before at).log, left_log, left_done (Aborted t own) al st.0 st.2 m i)
+  left_here (Sent asked x) al st m i = ((before at).log, left_log, left_done (Sent asked x) al st.0 st.2 m i)
+  left_here (Took x) al st m i = ((before at).log, left_log, left_done (Took x) al st.0 st.2 m i)
+  left_here (Reported b) al st m i = ((before at).log, left_log, left_done (Reported b) al st.0 st.2 m i)
+  left_here (Heard q b stable) al st m i = ((before at).log, left_log, left_done (Heard q b stable) al st.0 st.2 m i)
+
+  left_step : (event : Event E) → IsAllowed plan run before at (attempt event) → PartStep kinds plan.sites plan.parts at (before at) event (after at) → ((q : PartId) → q ≢ at → after q ≡ before q) → LeavesLogs plan.sites ((record { at = at; event = event }) ∷ run) after
+  left_step event al st others p m i = ⊎_elim
+      (λ (e : at ≡ p).
+      let x = left_here event al st m (subst (λ y. Image (after y) m) (sym e) i) in
+      (x.0, subst (λ y. IsLogOf plan.sites run y x.0) e x.1, inl (e, subst (λ y. IsLogAfter plan.sites run y x.0 event m) e x.2)))
+      (λ (ne : at ≡ p → ⊥). (m, left p m (subst (λ y. Image y m) (others p (λ e. ne (sym e))) i), inr (ne, refl)))
+      (part_cases at p)
+
+pub logs_left : {E S : Type 0} (kinds : Kinds S E) (plan : Plan E) (run : List (Entry E)) (parts : PartId → PartState E) → IsRun kinds plan run parts → LeavesLogs plan.sites run parts
+logs_left kinds plan [] parts r = λ p m i. subst (λ x. Image x m) (r p) i
+logs_left kinds plan (e ∷ run) parts r = left_step kinds plan run r.0 parts e.at (shown_run kinds plan run r.0 r.1) (logs_left kinds plan run r.0 r.1) e.event r.2.allowed r.2.step r.2.others

@@ -1,0 +1,49 @@
+-- Which refusals may answer which call. That a log is damaged answers none: a restart finds what the run wrote.
+use Rattle.std.specs.Prelude.{◌≡◌, Bool, true, false, not, ◌&&◌, List, [], ◌∷◌, ⊤}
+use Rattle.crdt_core.specs.declared.kind.Kind.{Kind}
+use Rattle.crdt_core.specs.declared.object.Field.{Field}
+use Rattle.crdt_core.specs.declared.object.ObjectId.{ObjectId}
+use Rattle.crdt_core.specs.declared.operation.Op.{Op}
+use Rattle.crdt_core.specs.Fits.{fits}
+use Rattle.world_model.specs.Event.{Ask, AskBegin, AskRead, AskUpdate, AskPrepare, AskDecide, AskAbort, AskTake, AskRestart, Refusal, IsDown, ClockBehind, TxPending, StableBehind, ClockAtEnd, IsGone, HasGap, IsRepeat, IsBadOp, IsDamaged, Event, Updated, Read, Refused, Entry}
+use Rattle.site_vector.specs.declared.ids.PartId.{PartId}
+use Rattle.world_model.specs.Partition.{Kinds}
+
+-- the operation is one of the kind, and leads no deeper than the type reaches
+abbrev pub fits_kind : (Kind → List Field → Bool) → ObjectId → Op → Bool
+fits_kind too_deep o op = fits o.kind op.path op.act && not (too_deep o.kind op.path)
+
+module _ {E : Type 0} where
+  abbrev pub may_answer : Ask E → Refusal → Bool
+  may_answer asked IsDown = true
+  may_answer (AskRead t s o own) (ClockBehind n) = true
+  may_answer (AskUpdate t s o own op) (ClockBehind n) = true
+  may_answer (AskPrepare t s l w) (ClockBehind n) = true
+  may_answer (AskRead t s o own) (TxPending u n) = true
+  may_answer (AskUpdate t s o own op) (TxPending u n) = true
+  may_answer (AskBegin who dep) (StableBehind j n) = true
+  may_answer (AskBegin who dep) ClockAtEnd = true
+  may_answer (AskPrepare t s l w) ClockAtEnd = true
+  may_answer (AskDecide t c) IsGone = true
+  may_answer (AskAbort t) IsGone = true
+  may_answer (AskUpdate t s o own op) IsBadOp = true
+  may_answer (AskTake m) (HasGap n) = true
+  may_answer (AskTake m) (IsRepeat n) = true
+  may_answer asked why = false
+
+  abbrev pub IsDueAt : Event E → Type 0
+  IsDueAt (Refused asked why) = may_answer asked why ≡ true
+  IsDueAt other = ⊤
+
+  -- what is read or updated is of a kind that there is; an update's operation is one of the kind, exactly where it isn't refused as none
+  abbrev pub IsKnown : {S : Type 0} → Kinds S E → PartId → Event E → Type 0
+  IsKnown kinds p (Read t s o own read value) = kinds.has o.kind ≡ true
+  IsKnown kinds p (Updated t s o own op read u stamp) = (kinds.has o.kind ≡ true) × (fits_kind kinds.too_deep o op ≡ true)
+  IsKnown kinds p (Refused (AskUpdate t s o own op) IsBadOp) = fits_kind kinds.too_deep o op ≡ false
+  IsKnown kinds p (Refused (AskUpdate t s o own op) (ClockBehind n)) = fits_kind kinds.too_deep o op ≡ true
+  IsKnown kinds p (Refused (AskUpdate t s o own op) (TxPending u n)) = fits_kind kinds.too_deep o op ≡ true
+  IsKnown kinds p other = ⊤
+
+  abbrev pub AreDue : List (Entry E) → Type 0
+  AreDue [] = ⊤
+  AreDue (e ∷ run) = IsDueAt e.event × AreDue run

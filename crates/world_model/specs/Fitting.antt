@@ -1,0 +1,95 @@
+-- Which records fit a partition: those that its own calls may have written.
+use Rattle.std.specs.Prelude.{ℕ, leb, ltb, Bool, true, false, not, ◌&&◌, ◌||◌, ◌==◌, if◌then◌else◌, List, [], ◌∷◌, length, Option, None, Some}
+use Rattle.std.specs.List.{list_all}
+use Rattle.std.specs.Str.{bytes_eq}
+use Rattle.site_vector.specs.declared.ids.PartId.{PartId}
+use Rattle.site_vector.specs.declared.ids.TxId.{TxId}
+use Rattle.site_vector.specs.Ids.{same_tx}
+use Rattle.site_vector.specs.Vector.{entry, replaced}
+use Rattle.crdt_core.specs.declared.record.Upd.{Upd}
+use Rattle.crdt_core.specs.declared.record.Part.{Part}
+use Rattle.crdt_core.specs.declared.record.Message.{Message}
+use Rattle.crdt_core.specs.declared.record.Record.{Record}
+use Rattle.crdt_core.specs.declared.record.Record.TheVariants.{Lease, Prepare, Decide, Finish, Abort, Batch}
+use Rattle.crdt_core.specs.Placing.{place_of}
+use Rattle.world_model.specs.Log.{end_of_time, lists, ceiling, pending, prepare_time, bound}
+
+-- a vector has an entry for each site, and no time past the end
+abbrev pub is_vector : ℕ → List ℕ → Bool
+is_vector sites v = length v == sites && list_all (λ n. leb n end_of_time) v
+
+abbrev pub unfit_next : Option ℕ → Bool → ℕ → Option ℕ
+unfit_next (Some n) fits count = Some n
+unfit_next None fits count = if fits then None else Some count
+
+module _ {E : Type 0} where
+  abbrev pub names_tx : Record E → TxId → Bool
+  names_tx (Lease n) t = false
+  names_tx (Prepare u l n s w) t = same_tx u t
+  names_tx (Decide u c) t = same_tx u t
+  names_tx (Finish u c) t = same_tx u t
+  names_tx (Abort u) t = same_tx u t
+  names_tx (Batch m) t = lists m.parts t
+
+  -- a record of the log names t
+  abbrev pub is_named_in : List (Record E) → TxId → Bool
+  is_named_in [] t = false
+  is_named_in (r ∷ log) t = names_tx r t || is_named_in log t
+
+  -- the lead of t, as its Prepare has it
+  abbrev pub prepared_lead : List (Record E) → TxId → ℕ
+  prepared_lead [] t = 0
+  prepared_lead (Lease n ∷ log) t = prepared_lead log t
+  prepared_lead (Prepare u l n s w ∷ log) t = if same_tx u t then l else prepared_lead log t
+  prepared_lead (Decide u c ∷ log) t = prepared_lead log t
+  prepared_lead (Finish u c ∷ log) t = prepared_lead log t
+  prepared_lead (Abort u ∷ log) t = prepared_lead log t
+  prepared_lead (Batch m ∷ log) t = prepared_lead log t
+
+  -- the snapshot of t, as its Prepare has it
+  abbrev pub prepared_snapshot : List (Record E) → TxId → List ℕ
+  prepared_snapshot [] t = []
+  prepared_snapshot (Lease n ∷ log) t = prepared_snapshot log t
+  prepared_snapshot (Prepare u l n s w ∷ log) t = if same_tx u t then s else prepared_snapshot log t
+  prepared_snapshot (Decide u c ∷ log) t = prepared_snapshot log t
+  prepared_snapshot (Finish u c ∷ log) t = prepared_snapshot log t
+  prepared_snapshot (Abort u ∷ log) t = prepared_snapshot log t
+  prepared_snapshot (Batch m ∷ log) t = prepared_snapshot log t
+
+  -- the objects of these updates stand at the partitions with this number, of so many
+  abbrev pub stand_at : ℕ → ℕ → List (Upd E) → Bool
+  stand_at parts number us = list_all (λ u. place_of u.object.bucket u.object.key parts == number) us
+
+  -- a commit vector of what is prepared: its snapshot, with an own entry that is at least the prepare time
+  abbrev pub fits_commit : ℕ → PartId → List (Record E) → TxId → List ℕ → Bool
+  fits_commit sites id log t c = is_vector sites c && (bytes_eq c (replaced (prepared_snapshot log t) id.site (entry c id.site)) && leb (prepare_time log t) (entry c id.site))
+
+  abbrev pub fits_part : ℕ → ℕ → Message E → Part E → Bool
+  fits_part sites parts m x = x.tx.site == m.from && (is_vector sites x.c && (stand_at parts m.part x.updates && (ltb m.lo (entry x.c m.from) && leb (entry x.c m.from) m.hi)))
+
+  -- no two parts are of one transaction
+  abbrev pub are_apart : List (Part E) → Bool
+  are_apart [] = true
+  are_apart (x ∷ xs) = not (lists xs x.tx) && are_apart xs
+
+  -- a message fits a partition of another site, for whose number it is
+  abbrev pub fits_message : ℕ → ℕ → PartId → Message E → Bool
+  fits_message sites parts id m =
+      not (m.from == id.site) && (leb 1 m.from && (leb m.from sites && (m.to == id.site && (m.part == id.part && (leb m.lo end_of_time && (leb m.hi end_of_time
+      && (list_all (fits_part sites parts m) m.parts && are_apart m.parts)))))))
+
+  -- a record fits a partition after the log that it has
+  abbrev pub fits_record : ℕ → ℕ → PartId → List (Record E) → Record E → Bool
+  fits_record sites parts id log (Lease n) = leb n end_of_time
+  fits_record sites parts id log (Prepare t l n s w) =
+      t.site == id.site && (leb 1 t.part && (leb t.part parts && (not (is_named_in log t) && (leb 1 l && (leb l id.part
+      && (is_vector sites s && (stand_at parts id.part w && (ltb (entry s id.site) n && leb n (ceiling log)))))))))
+  fits_record sites parts id log (Decide t c) = pending log t && (prepared_lead log t == id.part && fits_commit sites id log t c)
+  fits_record sites parts id log (Finish t c) = pending log t && (not (prepared_lead log t == id.part) && fits_commit sites id log t c)
+  fits_record sites parts id log (Abort t) = pending log t
+  fits_record sites parts id log (Batch m) = fits_message sites parts id m && (leb (bound log m.from) m.lo && list_all (λ x. not (is_named_in log x.tx)) m.parts)
+
+  -- the number of the first record that doesn't fit, from 0, the oldest; none where all fit
+  abbrev pub unfit : ℕ → ℕ → PartId → List (Record E) → Option ℕ
+  unfit sites parts id [] = None
+  unfit sites parts id (r ∷ log) = unfit_next (unfit sites parts id log) (fits_record sites parts id log r) (length log)

@@ -1,0 +1,46 @@
+-- What a lawful run is, over its lines.
+use Rattle.std.specs.Prelude.{◌≡◌, ℕ, Bool, true, List}
+use Rattle.site_vector.specs.declared.ids.PartId.{PartId}
+use Rattle.site_vector.specs.declared.ids.TxId.{TxId}
+use Rattle.crdt_core.specs.declared.kind.Kind.{Kind}
+use Rattle.crdt_core.specs.declared.object.Field.{Field}
+use Rattle.crdt_core.specs.declared.value.Value.{Value}
+use Rattle.crdt_core.specs.Seen.{Update}
+use Rattle.world_model.specs.Lines.{Line, EachLine}
+use Rattle.world_model.specs.LineClock.{FollowsClock}
+use Rattle.world_model.specs.LinePast.{KeepsPast}
+use Rattle.world_model.specs.LineHistory.{in_history, visible, snapshot, is_begun, IsClosed, IsStrictOrder}
+use Rattle.world_model.specs.LineUpdates.{takes_part, lead, IsPlaced}
+use Rattle.world_model.specs.LineCommit.{was_prepared, ShowsCommit}
+use Rattle.world_model.specs.LineReads.{IsRight}
+use Rattle.world_model.specs.LineAnswers.{IsAnswer}
+use Rattle.world_model.specs.LineOps.{HasOp}
+use Rattle.world_model.specs.LineFates.{ShowsFate}
+use Rattle.world_model.specs.LineFresh.{IsFresh}
+use Rattle.world_model.specs.LineStreams.{IsStream}
+use Rattle.world_model.specs.LineCauses.{HasCause, AnswersAsUp}
+
+-- what is decided, also where only a restart named it, was voted for by all its participants
+pub record IsAgreed (parts : ℕ) (ls : List Line) (t : TxId) : Type 0 where
+  pub at_lead : takes_part ls t (lead parts ls t) ≡ true
+  pub votes : (q : PartId) → takes_part ls t q ≡ true → was_prepared ls t q ≡ true
+
+-- the lines show one causally consistent history, where kinds have these meanings, and objects reach so deep
+pub record IsLawfulRun (too_deep : Kind → List Field → Bool) (meaning : Kind → List Update → Value) (sites parts : ℕ) (ls : List Line) : Type 0 where
+  pub answers : EachLine IsAnswer ls
+  pub clock : FollowsClock ls
+  pub placed : EachLine (IsPlaced parts) ls
+  pub past : KeepsPast sites ls
+  pub fresh : EachLine (IsFresh sites parts) ls
+  -- each value is the meaning of exactly what its transaction may see in the whole run
+  pub right : EachLine (IsRight meaning ls) ls
+  pub commit : EachLine (ShowsCommit parts ls) ls
+  pub agreed : (t : TxId) → in_history ls t ≡ true → IsAgreed parts ls t
+  pub fates : EachLine (ShowsFate sites parts ls) ls
+  pub streams : EachLine (IsStream sites ls) ls
+  pub causes : EachLine (HasCause sites parts ls) ls
+  pub ops : EachLine (HasOp too_deep) ls
+  pub ups : EachLine AnswersAsUp ls
+  pub order : IsStrictOrder ls
+  -- what a transaction reads from is closed
+  pub closed : (t : TxId) → is_begun ls t ≡ true → IsClosed ls (visible ls (snapshot ls t))

@@ -1,0 +1,35 @@
+-- Where a message begins: as asked, or where the last one to the site ended.
+use Rattle.std.specs.Prelude.{◌≡◌, ℕ, ◌==◌, if◌then◌else◌, List, [], ◌∷◌, Option, None, Some, ⊤}
+use Rattle.site_vector.specs.declared.ids.PartId.{PartId}
+use Rattle.site_vector.specs.Ids.{same_part}
+use Rattle.world_model.specs.Event.{Event, Sent, Restarted, Entry}
+use Rattle.world_model.specs.Partition.{IsOther}
+use Rattle.world_model.specs.Plan.{Plan}
+
+-- the lower end, where a caller says so or not
+abbrev pub low_of : Option ℕ → ℕ → ℕ
+low_of None last = last
+low_of (Some n) last = n
+
+module _ {E : Type 0} where
+  abbrev pub sent_after : ℕ → ℕ → Event E → ℕ
+  sent_after j old (Sent asked m) = if m.to == j then m.hi else old
+  sent_after j old (Restarted n b named listed) = 0
+  sent_after j old other = old
+
+  -- the end of the last message from p to site j since its last restart
+  abbrev pub last_sent : List (Entry E) → PartId → ℕ → ℕ
+  last_sent [] p j = 0
+  last_sent (e ∷ run) p j = if same_part e.at p then sent_after j (last_sent run p j) e.event else last_sent run p j
+
+  pub record StartsAt (plan : Plan E) (run : List (Entry E)) (p : PartId) (asked : Option ℕ) (site low : ℕ) : Type 0 where
+    pub to : IsOther plan.sites p.site site
+    pub lo : low ≡ low_of asked (last_sent run p site)
+
+  abbrev pub SendsAt : Plan E → List (Entry E) → PartId → Event E → Type 0
+  SendsAt plan run p (Sent asked m) = StartsAt plan run p asked m.to m.lo
+  SendsAt plan run p other = ⊤
+
+  abbrev pub Send : Plan E → List (Entry E) → Type 0
+  Send plan [] = ⊤
+  Send plan (e ∷ run) = SendsAt plan run e.at e.event × Send plan run

@@ -1,0 +1,40 @@
+-- Votes and decisions (Clock-SI).
+use Rattle.std.specs.Prelude.{◌≡◌, ◌≢◌, ℕ, true, false, List, [], ◌∷◌, ⊤}
+use Rattle.site_vector.specs.declared.ids.PartId.{PartId}
+use Rattle.site_vector.specs.declared.ids.TxId.{TxId}
+use Rattle.world_model.specs.Event.{Event, Prepared, Decided, Finished, Entry, tried, voted, is_decided}
+use Rattle.world_model.specs.Plan.{Plan, takes_part, commit_vector}
+
+module _ {E : Type 0} where
+  -- a participant votes, once, the lead first
+  pub record IsVote (plan : Plan E) (run : List (Entry E)) (p : PartId) (t : TxId) : Type 0 where
+    pub takes : takes_part plan t p ≡ true
+    pub fresh : voted run t p ≡ false
+    pub after_lead : p ≢ plan.lead t → voted run t (plan.lead t) ≡ true
+
+  -- the lead decides once all participants have voted
+  pub record IsDecision (plan : Plan E) (run : List (Entry E)) (p : PartId) (t : TxId) : Type 0 where
+    pub lead : p ≡ plan.lead t
+    pub here : voted run t p ≡ true
+    pub all : (q : PartId) → takes_part plan t q ≡ true → voted run t q ≡ true
+
+  -- what is finished was decided
+  abbrev pub VotesAt : Plan E → List (Entry E) → PartId → Event E → Type 0
+  VotesAt plan run p (Prepared t s l w n) = IsVote plan run p t
+  VotesAt plan run p (Decided t c) = IsDecision plan run p t
+  VotesAt plan run p (Finished t c) = is_decided run t ≡ true
+  VotesAt plan run p other = ⊤
+
+  abbrev pub KeepVotes : Plan E → List (Entry E) → Type 0
+  KeepVotes plan [] = ⊤
+  KeepVotes plan (e ∷ run) = VotesAt plan run e.at e.event × KeepVotes plan run
+
+  -- a decision shows the commit vector that the transaction has in the whole run
+  abbrev pub ShowsVector : Plan E → List (Entry E) → PartId → Event E → Type 0
+  ShowsVector plan run p (Decided t c) = (is_decided run t ≡ true) × (c ≡ commit_vector plan run t)
+  ShowsVector plan run p other = ⊤
+
+  -- what is decided, also where only a restart named it, was voted for by all who take part
+  pub record IsAgreed (plan : Plan E) (run : List (Entry E)) (t : TxId) : Type 0 where
+    pub lead : takes_part plan t (plan.lead t) ≡ true
+    pub all : (q : PartId) → takes_part plan t q ≡ true → voted run t q ≡ true
