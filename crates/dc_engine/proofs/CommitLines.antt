@@ -42,7 +42,7 @@ use Rattle.world_model.specs.Sessions.{transaction_after}
 use Rattle.world_model.specs.Fresh.{IsSnapshot}
 use Rattle.dc_engine.proofs.NewLine.{IsNewLine, line, laws_more, same_sums, current_in, id_in, quiet, off}
 use Rattle.world_model.specs.Updates.{is_tx, changed, partition_of, changes_after}
-use Rattle.world_model.specs.Refusals.{is_amount}
+use Rattle.crdt_core.specs.Fits.{is_amount}
 use Rattle.dc_engine.proofs.StepLines.{le_one, with_cases, same_name, leaves_plain, later_in, quiet_line}
 use Rattle.std.proofs.lemmas.Bool.{false≢true}
 use Rattle.std.proofs.Math.Bool.{and-true}

@@ -7,6 +7,8 @@ use Rattle.std.proofs.lemmas.Bool.Decides.{nat_tests}
 use Rattle.site_vector.specs.declared.ids.PartId.{PartId}
 use Rattle.site_vector.specs.declared.ids.TxId.{TxId}
 use Rattle.site_vector.specs.Ids.{same_part}
+use Rattle.crdt_core.specs.Fits.{fits}
+use Rattle.crdt_counters.specs.CounterPn.{pn_has}
 use Rattle.crdt_core.specs.Placing.{place_of, hashed}
 use Rattle.world_model.specs.declared.command.Command.{Command}
 use Rattle.world_model.specs.declared.command.Command.TheVariants as command
@@ -121,7 +123,7 @@ module _ (m : State) (run : Run) (d : Describes m run) where
   pub home_is : (name : List ℕ) (t : Option Open) → m.session name ≡ Some t → begin_part run name None ≡ one
   home_is name t e = ap (λ o. begun_at o) (d.there name ∙ ap site_if e)
 
-  pub due_same : (c : Command) → is_built c ≡ true → first_due (refusals run c) ≡ first_due (dues m c)
+  pub due_same : (c : Command) → is_built pn_has c ≡ true → first_due (refusals run c) ≡ first_due (dues m c)
   due_same (command.Cluster sites parts) b = ap (λ x. first_due ((x, step.HasCluster) ∷ [])) d.is_made
   due_same (command.Clock p n) b =
       made_or ((not (has_part run p), step.NoPart) ∷ []) ((not (same_part p one), step.NoPart) ∷ [])
@@ -143,8 +145,9 @@ module _ (m : State) (run : Run) (d : Describes m run) where
   due_same (command.Begin name (Some p)) b = absurd (true≢false (sym b))
   due_same (command.Read name o) b = session_rows name [] [] (λ made u k. refl)
   due_same (command.Update name o op) b =
-      session_rows name ((changes_of run (transaction run name) == 256, step.LimitUpdates) ∷ []) ((length (changes_in (m.session name)) == 256, step.LimitUpdates) ∷ [])
-      (λ made u k. ap (λ n. first_due ((n == 256, step.LimitUpdates) ∷ [])) (count_is name u k))
+      let op_row : Bool × Step = (not (fits o.kind op.path op.act), step.BadOp) in
+      session_rows name (op_row ∷ (changes_of run (transaction run name) == 256, step.LimitUpdates) ∷ []) (op_row ∷ (length (changes_in (m.session name)) == 256, step.LimitUpdates) ∷ [])
+      (λ made u k. ap (λ n. first_due (op_row ∷ (n == 256, step.LimitUpdates) ∷ [])) (count_is name u k))
   due_same (command.Commit name steps) b =
       session_rows name ((is_at_end run (transaction run name), step.TimeEnd) ∷ []) ((is_change (changes_in (m.session name)) && m.now == last_time, step.TimeEnd) ∷ [])
       (λ made u k. ap (λ x. first_due ((x, step.TimeEnd) ∷ [])) (end_is name u made k))

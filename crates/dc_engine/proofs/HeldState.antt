@@ -1,5 +1,5 @@
 -- The machine's answers as those of its state.
-use Rattle.std.proofs.Common.{arith, ◌≡◌, ℕ, ◌+◌, Bool, true, false, not, cond, eqb, ◌&&◌, List, [], ◌∷◌, ◌++◌, length, take, Option, None, Some, refl, sym, ap, ◌∙◌, subst, append_assoc}
+use Rattle.std.proofs.Common.{arith, ◌≡◌, ℕ, ◌+◌, Bool, true, false, not, cond, eqb, ◌&&◌, ◌||◌, List, [], ◌∷◌, ◌++◌, length, take, Option, None, Some, refl, sym, ap, ◌∙◌, subst, append_assoc}
 use Rattle.std.specs.Prelude.{is_some, if◌then◌else◌, nat_le, ◌==◌, max, map, reverse, ℤ, pos, ◌+ℤ◌}
 use Rattle.std.specs.Int.{int_wrap, w128}
 use Rattle.std.specs.List.{flat_map}
@@ -19,25 +19,29 @@ use Rattle.world_model.specs.declared.step.Step.{Step}
 use Rattle.world_model.specs.declared.step.Step.TheVariants as step
 use Rattle.world_model.specs.Run.{Run, Line, lines_of}
 use Rattle.world_model.specs.Refusals.{first_due, is_built, last_time}
-use Rattle.world_model.specs.Answers.{Answers, answered}
+use Rattle.world_model.specs.Answers.{Asked, nothing, unreadable, asks, GoesOn, Answers, answered}
 use Rattle.reply_text.specs.Text.{text_of}
 use Rattle.dc_engine.specs.declared.machine.Machine.{Machine}
 use Rattle.dc_engine.specs.declared.sessions.Change.{Change}
 use Rattle.dc_engine.specs.declared.store.Committed.{Committed}
-use Rattle.dc_engine.specs.Grammar.{command_of}
+use Rattle.crdt_core.specs.Fits.{fits}
+use Rattle.crdt_counters.specs.CounterPn.{pn_has}
+use Rattle.dc_engine.specs.declared.player.Player.{Player}
+use Rattle.dc_engine.specs.Player.{AnswersAsked, ReachedBy}
+use Rattle.dc_engine.specs.Reading.{asked_of, is_unreadable, has_bad}
+use Rattle.dc_engine.proofs.Readings.{asked_of-take, has_bad-more}
 use Rattle.dc_engine.specs.SessionTable.{session}
 use Rattle.dc_engine.specs.Stored as kept
 use Rattle.dc_engine.specs.Machine as machine
-use Rattle.dc_engine.specs.Machine.{session_in, is_some_change, IsMachine, AnswersAny, AnswersSpelled}
+use Rattle.dc_engine.specs.Machine.{session_in, is_some_change, IsMachine, AnswersAny}
 use Rattle.dc_engine.specs.State as state
 use Rattle.dc_engine.specs.State.{State, Open, Amount, one, transaction_at, is_open_in, changes_in, is_change, with_session, own_sum, made_cluster, ticked, made_session, began, updated, ended, committed, Acts, ActsBy, Does, DoesCommit, start}
 use Rattle.dc_engine.specs.Describes.{Describes}
 use Rattle.dc_engine.specs.Held.{amount_in, open_as, session_as, state_of, spelled, Reached}
 use Rattle.dc_engine.specs.Answered.{Answered}
 use Rattle.dc_engine.specs.Replies.{AnswersLine}
-use Rattle.dc_engine.proofs.Lengths.{command_of-take}
 use Rattle.dc_engine.proofs.Sums.{sum_upto-append}
-use Rattle.dc_engine.proofs.RunLines.{Goes, outside, acts_goes, lawful, begins_empty}
+use Rattle.dc_engine.proofs.RunLines.{unread, acts_goes, lawful, begins_empty}
 
 some_as : (s : Option (Option (ℕ × List Change))) → is_some s ≡ is_some (session_as s)
 some_as None = refl
@@ -75,9 +79,10 @@ dues_as m (command.Read name o) =
     ap (λ b. (not m.made, step.NoCluster) ∷ (not b, step.NoSession) ∷ (not (machine.is_open_in (session_in m name)), step.NoTxn) ∷ []) (some_as (session_in m name))
     ∙ ap (λ b. (not m.made, step.NoCluster) ∷ (not (is_some (session_as (session_in m name))), step.NoSession) ∷ (not b, step.NoTxn) ∷ []) (now_open_as (session_in m name))
 dues_as m (command.Update name o op) =
-    ap (λ b. (not m.made, step.NoCluster) ∷ (not b, step.NoSession) ∷ (not (machine.is_open_in (session_in m name)), step.NoTxn) ∷ (length (machine.changes_in (session_in m name)) == 256, step.LimitUpdates) ∷ []) (some_as (session_in m name))
-    ∙ (ap (λ b. (not m.made, step.NoCluster) ∷ (not (is_some (session_as (session_in m name))), step.NoSession) ∷ (not b, step.NoTxn) ∷ (length (machine.changes_in (session_in m name)) == 256, step.LimitUpdates) ∷ []) (now_open_as (session_in m name))
-    ∙ ap (λ n. (not m.made, step.NoCluster) ∷ (not (is_some (session_as (session_in m name))), step.NoSession) ∷ (not (is_open_in (session_as (session_in m name))), step.NoTxn) ∷ (n == 256, step.LimitUpdates) ∷ []) (length_as (session_in m name)))
+    let op_row : Bool × Step = (not (fits o.kind op.path op.act), step.BadOp) in
+    ap (λ b. (not m.made, step.NoCluster) ∷ (not b, step.NoSession) ∷ (not (machine.is_open_in (session_in m name)), step.NoTxn) ∷ op_row ∷ (length (machine.changes_in (session_in m name)) == 256, step.LimitUpdates) ∷ []) (some_as (session_in m name))
+    ∙ (ap (λ b. (not m.made, step.NoCluster) ∷ (not (is_some (session_as (session_in m name))), step.NoSession) ∷ (not b, step.NoTxn) ∷ op_row ∷ (length (machine.changes_in (session_in m name)) == 256, step.LimitUpdates) ∷ []) (now_open_as (session_in m name))
+    ∙ ap (λ n. (not m.made, step.NoCluster) ∷ (not (is_some (session_as (session_in m name))), step.NoSession) ∷ (not (is_open_in (session_as (session_in m name))), step.NoTxn) ∷ op_row ∷ (n == 256, step.LimitUpdates) ∷ []) (length_as (session_in m name)))
 dues_as m (command.Commit name k) =
     ap (λ b. (not m.made, step.NoCluster) ∷ (not b, step.NoSession) ∷ (not (machine.is_open_in (session_in m name)), step.NoTxn) ∷ (is_some_change (machine.changes_in (session_in m name)) && m.now == last_time, step.TimeEnd) ∷ []) (some_as (session_in m name))
     ∙ (ap (λ b. (not m.made, step.NoCluster) ∷ (not (is_some (session_as (session_in m name))), step.NoSession) ∷ (not b, step.NoTxn) ∷ (is_some_change (machine.changes_in (session_in m name)) && m.now == last_time, step.TimeEnd) ∷ []) (now_open_as (session_in m name))
@@ -156,49 +161,85 @@ acts_by m new c steps (Some r) h = (h.0, ap state_of h.1)
 
 acts_as : (m new : Machine) (c : Command) (steps : List Step) → AnswersAny m c steps new → Acts (state_of m) c steps (state_of new)
 acts_as m new c steps h =
-    let due = ap (λ rows. first_due ((not (is_built c), step.Unbuilt) ∷ rows)) (dues_as m c) in
-    subst (ActsBy (state_of m) c steps (state_of new)) due (acts_by m new c steps (first_due ((not (is_built c), step.Unbuilt) ∷ machine.dues m c)) h)
+    let due = ap (λ rows. first_due ((not (is_built pn_has c), step.Unbuilt) ∷ rows)) (dues_as m c) in
+    subst (ActsBy (state_of m) c steps (state_of new)) due (acts_by m new c steps (first_due ((not (is_built pn_has c), step.Unbuilt) ∷ machine.dues m c)) h)
 
--- the machine goes on with the run
-goes_on : (m new : Machine) (run : Run) (number : ℕ) (asked : Option Command) (steps : List Step) → Describes (state_of m) run → AnswersSpelled m asked steps new → Goes run number asked steps (state_of new)
-goes_on m new run number None steps d h = outside (state_of m) (state_of new) run number steps d h.0 (ap state_of h.1)
-goes_on m new run number (Some c) steps d h = acts_goes (state_of m) run number d c steps (state_of new) (acts_as m new c steps h)
+-- the player goes on with the run
+pub record GoesWith (run : Run) (number : ℕ) (asked : Asked) (steps : List Step) (new : State) : Type 0 where
+  pub more : Run
+  pub goes : GoesOn pn_has number run asked more
+  pub describes : Describes new more
+  pub written : lines_of spelled more ≡ lines_of spelled run ++ flat_map text_of steps
 
 lines_more : (number : ℕ) (asked : Option Command) (steps : List Step) (run : Run) → lines_of spelled (answered number asked steps run) ≡ lines_of spelled run ++ flat_map text_of steps
 lines_more number asked [] run = sym (append-nil (lines_of spelled run))
-lines_more number asked (s ∷ steps) run = lines_more number asked steps ((record { number = number; command = asked; step = s }) ∷ run) ∙ append_assoc (lines_of spelled run) (text_of s) (flat_map text_of steps)
+lines_more number asked (s ∷ steps) run = lines_more number asked steps (record { number = number; command = asked; step = s } ∷ run) ∙ append_assoc (lines_of spelled run) (text_of s) (flat_map text_of steps)
 
-script_more : (lines : List (List ℕ)) (whole : List ℕ) → reverse (map command_of (lines ++ whole ∷ [])) ≡ command_of whole ∷ reverse (map command_of lines)
-script_more lines whole = ap reverse (map-append command_of lines (whole ∷ [])) ∙ reverse-append (map command_of lines) (command_of whole ∷ [])
-
-reached_more : (old new : Machine) (whole : List ℕ) (steps : List Step) (lines : List (List ℕ)) (bytes : List ℕ) → AnswersSpelled old (command_of whole) steps new → Reached old lines bytes → Reached new (lines ++ whole ∷ []) (bytes ++ flat_map text_of steps)
-reached_more old new whole steps lines bytes h r =
-    let script = reverse (map command_of lines) in
-    let number = length script + 1 in
-    let g = goes_on old new r.run number (command_of whole) steps r.describes h in record {
-      run = answered number (command_of whole) steps r.run;
+goes_with : (old new : Player) (run : Run) (number : ℕ) (asked : Asked) (steps : List Step) → Describes (state_of old.machine) run → AnswersAsked old asked steps new → GoesWith run number asked steps (state_of new.machine)
+goes_with old new run number nothing steps d h = record {
+  more = run;
+  goes = refl;
+  describes = subst (λ m. Describes (state_of m) run) (sym h.1) d;
+  written = sym (ap (λ l. lines_of spelled run ++ flat_map text_of l) h.0 ∙ append-nil (lines_of spelled run));
+}
+goes_with old new run number unreadable steps d h = record {
+  more = answered number None (step.Bad ∷ []) run;
+  goes = refl;
+  describes = subst (λ m. Describes (state_of m) (answered number None (step.Bad ∷ []) run)) (sym h.1) (unread (state_of old.machine) run number d);
+  written = lines_more number None (step.Bad ∷ []) run ∙ ap (λ l. lines_of spelled run ++ flat_map text_of l) (sym h.0);
+}
+goes_with old new run number (asks c) steps d h =
+    let g = acts_goes (state_of old.machine) run number d c steps (state_of new.machine) (acts_as old.machine new.machine c steps h.0) in record {
+      more = answered number (Some c) steps run;
+      goes = (steps, g.answer, refl);
       describes = g.after;
-      answers = subst (λ s. Answers s (answered number (command_of whole) steps r.run)) (sym (script_more lines whole)) (r.run, steps, r.answers, g.answer, refl);
-      written = ap (λ b. b ++ flat_map text_of steps) r.written ∙ sym (lines_more number (command_of whole) steps r.run);
+      written = lines_more number (Some c) steps run;
+    }
+
+script_more : (lines : List (List ℕ)) (whole : List ℕ) → reverse (map asked_of (lines ++ whole ∷ [])) ≡ asked_of whole ∷ reverse (map asked_of lines)
+script_more lines whole = ap reverse (map-append asked_of lines (whole ∷ [])) ∙ reverse-append (map asked_of lines) (asked_of whole ∷ [])
+
+-- the mark of a line that isn't in the grammar
+marked : (old new : Player) (asked : Asked) (steps : List Step) (b : Bool) → AnswersAsked old asked steps new → b ≡ old.met_bad → (is_unreadable asked || b) ≡ new.met_bad
+marked old new nothing steps b h e = e ∙ sym h.2
+marked old new unreadable steps b h e = sym h.2
+marked old new (asks c) steps b h e = e ∙ sym h.1
+
+reached_more : (old new : Player) (whole : List ℕ) (steps : List Step) (lines : List (List ℕ)) (bytes : List ℕ) → AnswersAsked old (asked_of whole) steps new → ReachedBy old lines bytes → ReachedBy new (lines ++ whole ∷ []) (bytes ++ flat_map text_of steps)
+reached_more old new whole steps lines bytes h r =
+    let was = r.reached in
+    let script = reverse (map asked_of lines) in
+    let g = goes_with old new was.run (length script + 1) (asked_of whole) steps was.describes h in record {
+      reached = record {
+        run = g.more;
+        describes = g.describes;
+        answers = subst (λ s. Answers pn_has s g.more) (sym (script_more lines whole)) (was.run, was.answers, g.goes);
+        written = ap (λ b. b ++ flat_map text_of steps) was.written ∙ sym g.written;
+      };
+      is_bad = has_bad-more lines whole ∙ marked old new (asked_of whole) steps (has_bad lines) h r.is_bad;
     }
 
 -- a line is answered with the text of these steps
-pub line_answered : (old new : Machine) (line : List ℕ) (steps : List Step) (before after : List ℕ) → AnswersSpelled old (command_of line) steps new → after ≡ before ++ flat_map text_of steps → AnswersLine Reached old new line before after
+pub line_answered : (old new : Player) (line : List ℕ) (steps : List Step) (before after : List ℕ) → AnswersAsked old (asked_of line) steps new → after ≡ before ++ flat_map text_of steps → AnswersLine ReachedBy old new line before after
 line_answered old new line steps before after h e = record {
   reply = flat_map text_of steps;
   appended = e;
-  answered = λ whole lines bytes t r. reached_more old new whole steps lines bytes (subst (λ c. AnswersSpelled old c steps new) (sym (ap command_of t) ∙ command_of-take whole) h) r;
+  answered = λ whole lines bytes t r. reached_more old new whole steps lines bytes (subst (λ a. AnswersAsked old a steps new) (sym (ap asked_of t) ∙ asked_of-take whole) h) r;
 }
 
 -- what was reached is a lawful run
 pub reached_lawful : (m : Machine) (lines : List (List ℕ)) (bytes : List ℕ) → Reached m lines bytes → Answered lines bytes
 reached_lawful m lines bytes r = record { run = r.run; answers = r.answers; lawful = lawful (state_of m) r.run r.describes; written = r.written }
 
--- a new machine stands before any line
-pub reached_none : (m : Machine) → m.made ≡ false → m.now ≡ 0 → m.sessions.entries ≡ [] → m.store.entries ≡ [] → Reached m [] []
-reached_none m p q r s = record {
-  run = [];
-  describes = subst (λ t. Describes t []) (sym (same_state (state_of m) start p q (λ who. ap (λ es. session_as (session es who)) r) (ap length r) (λ o n. ap (λ es. kept.sum_upto n (kept.stored es o)) s))) begins_empty;
-  answers = refl;
-  written = refl;
-}
+-- a new player stands before any line
+pub reached_none : (p : Player) → p.machine.made ≡ false → p.machine.now ≡ 0 → p.machine.sessions.entries ≡ [] → p.machine.store.entries ≡ [] → p.met_bad ≡ false → ReachedBy p [] []
+reached_none player p q r s b =
+    let m = player.machine in record {
+      reached = record {
+        run = [];
+        describes = subst (λ t. Describes t []) (sym (same_state (state_of m) start p q (λ who. ap (λ es. session_as (session es who)) r) (ap length r) (λ o n. ap (λ es. kept.sum_upto n (kept.stored es o)) s))) begins_empty;
+        answers = refl;
+        written = refl;
+      };
+      is_bad = sym b;
+    }

@@ -3,16 +3,14 @@ pub mod BeginLines
 pub mod CommitLines
 pub mod DueRows
 pub mod HeldState
-pub mod Lengths
 pub mod Moves
 pub mod NewLine
-pub mod Numbers
 pub mod Objects
 pub mod PlayedBy
 pub mod Progress
 pub mod ReadSums
+pub mod Readings
 pub mod RunLines
-pub mod Splitting
 pub mod Standing
 pub mod StepLines
 pub mod Sums

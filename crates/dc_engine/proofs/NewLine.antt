@@ -18,6 +18,7 @@ use Rattle.crdt_core.specs.declared.object.ObjectId.{ObjectId}
 use Rattle.crdt_core.specs.declared.operation.Op.{Op}
 use Rattle.crdt_core.specs.declared.value.Value.TheVariants.{Int}
 use Rattle.crdt_core.specs.Objects.{same_object}
+use Rattle.crdt_counters.specs.CounterPn.{pn_has}
 use Rattle.crdt_counters.specs.Meaning.{amount, counter_meaning}
 use Rattle.world_model.specs.declared.command.Command.{Command}
 use Rattle.world_model.specs.declared.command.Command.TheVariants as command
@@ -26,7 +27,7 @@ use Rattle.world_model.specs.declared.step.Step.TheVariants as step
 use Rattle.world_model.specs.Run.{Run, Line}
 use Rattle.world_model.specs.Cluster.{has_cluster, sites_of, parts_of}
 use Rattle.world_model.specs.Clock.{now, ShowsTime}
-use Rattle.world_model.specs.Sessions.{is_begun, session_site, transaction, is_open, dependency, HoldsPast}
+use Rattle.world_model.specs.Sessions.{is_begun, session_site, sessions_of, transaction, is_open, dependency, HoldsPast}
 use Rattle.world_model.specs.Fresh.{ShowsSnapshot}
 use Rattle.world_model.specs.History.{decides, in_history, history, snapshot, commit_time, commit_vector}
 use Rattle.world_model.specs.Updates.{Change, changes}
@@ -45,7 +46,7 @@ pub record IsNewLine (run : Run) (asked : Option Command) (s : Step) : Type 0 wh
   pub past : HoldsPast run asked s
   pub right : IsRight counter_meaning run run asked s
   pub commit : ShowsCommit run asked s
-  pub cause : HasCause run asked s
+  pub cause : HasCause pn_has run asked s
 
 pub laws_more : (run : Run) (e : Line) → AreBegun run → Leaves run e → KeepsLaws run → IsNewLine run e.command e.step → KeepsLaws (e ∷ run)
 laws_more run e b l k n = record {
@@ -64,22 +65,62 @@ line number asked s = record { number = number; command = asked; step = s }
 -- a line that changes nothing
 abbrev pub is_quiet : Step → Bool
 is_quiet (step.Value name o v) = true
+is_quiet step.Bad = true
 is_quiet step.NoCluster = true
+is_quiet step.HasCluster = true
+is_quiet step.NoPart = true
 is_quiet step.NoSession = true
+is_quiet step.HasSession = true
 is_quiet step.NoTxn = true
+is_quiet step.HasTxn = true
+is_quiet step.BadOp = true
+is_quiet step.LimitSessions = true
+is_quiet step.LimitUpdates = true
+is_quiet step.TimeEnd = true
 is_quiet step.Unbuilt = true
 is_quiet other = false
 
 pub off : {A : Type 0} → false ≡ true → A
 off h = absurd (true≢false (sym h))
 
-leaves_quiet : (run : Run) (number : ℕ) (asked : Option Command) (s : Step) → is_quiet s ≡ true → Leaves run (line number asked s)
-leaves_quiet run number asked (step.Value name o v) q = record { snapshots = λ t b. refl; times = λ t h. refl; changed = λ t h. refl; beyond = λ t u b n k. off k }
-leaves_quiet run number asked step.NoCluster q = record { snapshots = λ t b. refl; times = λ t h. refl; changed = λ t h. refl; beyond = λ t u b n k. off k }
-leaves_quiet run number asked step.NoSession q = record { snapshots = λ t b. refl; times = λ t h. refl; changed = λ t h. refl; beyond = λ t u b n k. off k }
-leaves_quiet run number asked step.NoTxn q = record { snapshots = λ t b. refl; times = λ t h. refl; changed = λ t h. refl; beyond = λ t u b n k. off k }
-leaves_quiet run number asked step.Unbuilt q = record { snapshots = λ t b. refl; times = λ t h. refl; changed = λ t h. refl; beyond = λ t u b n k. off k }
-leaves_quiet run number asked s q = off q
+-- a line that leaves all as it is
+pub record Keeps (run : Run) (e : Line) : Type 0 where
+  pub cluster : has_cluster (e ∷ run) ≡ has_cluster run
+  pub sites : sites_of (e ∷ run) ≡ sites_of run
+  pub parts : parts_of (e ∷ run) ≡ parts_of run
+  pub time : now (e ∷ run) one ≡ now run one
+  pub number : sessions_of (e ∷ run) ≡ sessions_of run
+  pub there : (who : List ℕ) → session_site (e ∷ run) who ≡ session_site run who
+  pub opened : (who : List ℕ) → is_open (e ∷ run) who ≡ is_open run who
+  pub named : (who : List ℕ) → transaction (e ∷ run) who ≡ transaction run who
+  pub depends : (who : List ℕ) → dependency (e ∷ run) who ≡ dependency run who
+  pub begun : (t : TxId) → is_begun (e ∷ run) t ≡ is_begun run t
+  pub decided : (t : TxId) → in_history (e ∷ run) t ≡ in_history run t
+  pub all : history (e ∷ run) ≡ history run
+  pub snapshots : (t : TxId) → snapshot (e ∷ run) t ≡ snapshot run t
+  pub times : (t : TxId) → commit_time (e ∷ run) t ≡ commit_time run t
+  pub changed : (t : TxId) → changes (e ∷ run) t ≡ changes run t
+  pub none : (t : TxId) → decides e.step t ≡ false
+
+keeps : (run : Run) (number : ℕ) (asked : Option Command) (s : Step) → is_quiet s ≡ true → Keeps run (line number asked s)
+keeps run number asked (step.Value name o v) q = record { cluster = refl; sites = refl; parts = refl; time = refl; number = refl; there = λ w. refl; opened = λ w. refl; named = λ w. refl; depends = λ w. refl; begun = λ t. refl; decided = λ t. refl; all = refl; snapshots = λ t. refl; times = λ t. refl; changed = λ t. refl; none = λ t. refl }
+keeps run number asked step.Bad q = record { cluster = refl; sites = refl; parts = refl; time = refl; number = refl; there = λ w. refl; opened = λ w. refl; named = λ w. refl; depends = λ w. refl; begun = λ t. refl; decided = λ t. refl; all = refl; snapshots = λ t. refl; times = λ t. refl; changed = λ t. refl; none = λ t. refl }
+keeps run number asked step.NoCluster q = record { cluster = refl; sites = refl; parts = refl; time = refl; number = refl; there = λ w. refl; opened = λ w. refl; named = λ w. refl; depends = λ w. refl; begun = λ t. refl; decided = λ t. refl; all = refl; snapshots = λ t. refl; times = λ t. refl; changed = λ t. refl; none = λ t. refl }
+keeps run number asked step.HasCluster q = record { cluster = refl; sites = refl; parts = refl; time = refl; number = refl; there = λ w. refl; opened = λ w. refl; named = λ w. refl; depends = λ w. refl; begun = λ t. refl; decided = λ t. refl; all = refl; snapshots = λ t. refl; times = λ t. refl; changed = λ t. refl; none = λ t. refl }
+keeps run number asked step.NoPart q = record { cluster = refl; sites = refl; parts = refl; time = refl; number = refl; there = λ w. refl; opened = λ w. refl; named = λ w. refl; depends = λ w. refl; begun = λ t. refl; decided = λ t. refl; all = refl; snapshots = λ t. refl; times = λ t. refl; changed = λ t. refl; none = λ t. refl }
+keeps run number asked step.NoSession q = record { cluster = refl; sites = refl; parts = refl; time = refl; number = refl; there = λ w. refl; opened = λ w. refl; named = λ w. refl; depends = λ w. refl; begun = λ t. refl; decided = λ t. refl; all = refl; snapshots = λ t. refl; times = λ t. refl; changed = λ t. refl; none = λ t. refl }
+keeps run number asked step.HasSession q = record { cluster = refl; sites = refl; parts = refl; time = refl; number = refl; there = λ w. refl; opened = λ w. refl; named = λ w. refl; depends = λ w. refl; begun = λ t. refl; decided = λ t. refl; all = refl; snapshots = λ t. refl; times = λ t. refl; changed = λ t. refl; none = λ t. refl }
+keeps run number asked step.NoTxn q = record { cluster = refl; sites = refl; parts = refl; time = refl; number = refl; there = λ w. refl; opened = λ w. refl; named = λ w. refl; depends = λ w. refl; begun = λ t. refl; decided = λ t. refl; all = refl; snapshots = λ t. refl; times = λ t. refl; changed = λ t. refl; none = λ t. refl }
+keeps run number asked step.HasTxn q = record { cluster = refl; sites = refl; parts = refl; time = refl; number = refl; there = λ w. refl; opened = λ w. refl; named = λ w. refl; depends = λ w. refl; begun = λ t. refl; decided = λ t. refl; all = refl; snapshots = λ t. refl; times = λ t. refl; changed = λ t. refl; none = λ t. refl }
+keeps run number asked step.BadOp q = record { cluster = refl; sites = refl; parts = refl; time = refl; number = refl; there = λ w. refl; opened = λ w. refl; named = λ w. refl; depends = λ w. refl; begun = λ t. refl; decided = λ t. refl; all = refl; snapshots = λ t. refl; times = λ t. refl; changed = λ t. refl; none = λ t. refl }
+keeps run number asked step.LimitSessions q = record { cluster = refl; sites = refl; parts = refl; time = refl; number = refl; there = λ w. refl; opened = λ w. refl; named = λ w. refl; depends = λ w. refl; begun = λ t. refl; decided = λ t. refl; all = refl; snapshots = λ t. refl; times = λ t. refl; changed = λ t. refl; none = λ t. refl }
+keeps run number asked step.LimitUpdates q = record { cluster = refl; sites = refl; parts = refl; time = refl; number = refl; there = λ w. refl; opened = λ w. refl; named = λ w. refl; depends = λ w. refl; begun = λ t. refl; decided = λ t. refl; all = refl; snapshots = λ t. refl; times = λ t. refl; changed = λ t. refl; none = λ t. refl }
+keeps run number asked step.TimeEnd q = record { cluster = refl; sites = refl; parts = refl; time = refl; number = refl; there = λ w. refl; opened = λ w. refl; named = λ w. refl; depends = λ w. refl; begun = λ t. refl; decided = λ t. refl; all = refl; snapshots = λ t. refl; times = λ t. refl; changed = λ t. refl; none = λ t. refl }
+keeps run number asked step.Unbuilt q = record { cluster = refl; sites = refl; parts = refl; time = refl; number = refl; there = λ w. refl; opened = λ w. refl; named = λ w. refl; depends = λ w. refl; begun = λ t. refl; decided = λ t. refl; all = refl; snapshots = λ t. refl; times = λ t. refl; changed = λ t. refl; none = λ t. refl }
+keeps run number asked s q = off q
+
+leaves_kept : (run : Run) (e : Line) → Keeps run e → Leaves run e
+leaves_kept run e k = record { snapshots = λ t b. k.snapshots t; times = λ t h. k.times t; changed = λ t h. k.changed t; beyond = λ t u b n d. absurd (true≢false (sym d ∙ k.none u)) }
 
 pub same_sums : (m : State) (run : Run) (e : Line) → Describes m run → Leaves run e → (o : ObjectId) (n : ℕ) → m.sum o n ≡ added_by (e ∷ run) o (n ∷ []) (history run)
 same_sums m run e d l o n = d.sums o n ∙ sym (added_by_same run e d.are_begun l o (n ∷ []) (history run) (history_decided run))
@@ -97,100 +138,32 @@ current_in run more who t tx b cs h v k = record {
 pub id_in : (run more : Run) (time later : ℕ) (t : TxId) → time ≤ later → snapshot more t ≡ snapshot run t → IsId run time t → IsId more later t
 id_in run more time later t h s k = record { at = k.at; passed = omega (arith, h, k.passed); reads = s ∙ k.reads }
 
+kept_line : (m : State) (run : Run) (e : Line) → Keeps run e → Describes m run → IsNewLine run e.command e.step → Describes m (e ∷ run)
+kept_line m run e k d n =
+    let l = leaves_kept run e k in
+    let was : (t : TxId) → in_history (e ∷ run) t ≡ true → in_history run t ≡ true = λ t h. sym (k.decided t) ∙ h in
+    let same : (t : TxId) → in_history run t ≡ true → commit_vector (e ∷ run) t ≡ commit_vector run t = vector_same run e d.are_begun l in record {
+      is_made = k.cluster ∙ d.is_made;
+      sites = λ h. k.sites ∙ d.sites h;
+      parts = λ h. k.parts ∙ d.parts h;
+      time = k.time ∙ d.time;
+      number_is = k.number ∙ d.number_is;
+      there = λ who. k.there who ∙ d.there who;
+      open_is = λ who. k.opened who ∙ d.open_is who;
+      current = λ who t h. current_in run (e ∷ run) who t (k.named who) (λ u b. k.begun u ∙ b) (k.changed (transaction_at t.time)) (k.decided (transaction_at t.time)) (k.times (transaction_at t.time)) (d.current who t h);
+      apart = d.apart;
+      depends = λ who. ap (λ v. le v (m.now ∷ [])) (k.depends who) ∙ d.depends who;
+      ids = λ t b. id_in run (e ∷ run) m.now m.now t (omega arith) (k.snapshots t) (d.ids t (sym (k.begun t) ∙ b));
+      are_begun = λ t h. k.begun t ∙ d.are_begun t (was t h);
+      are_later = record {
+        above = λ t h. ap (λ v. le v (commit_vector (e ∷ run) t)) (k.snapshots t) ∙ (ap (λ v. le (snapshot run t) v) (same t (was t h)) ∙ d.are_later.above t (was t h));
+        strictly = λ t h. ap (λ v. le (commit_vector (e ∷ run) t) v) (k.snapshots t) ∙ (ap (λ v. le v (snapshot run t)) (same t (was t h)) ∙ d.are_later.strictly t (was t h));
+      };
+      plain = λ t. subst ArePlain (sym (k.changed t)) (d.plain t);
+      sums = λ o n. same_sums m run e d l o n ∙ ap (added_by (e ∷ run) o (n ∷ [])) (sym k.all);
+      unbegun = λ t h. let gone = d.unbegun t (sym (k.begun t) ∙ h) in (k.changed t ∙ gone.0, k.times t ∙ gone.1);
+      laws = laws_more run e d.are_begun l d.laws n;
+    }
+
 pub quiet : (m : State) (run : Run) (number : ℕ) (asked : Option Command) (s : Step) → is_quiet s ≡ true → Describes m run → IsNewLine run asked s → Describes m (line number asked s ∷ run)
-quiet m run number asked (step.Value name o v) q d n = let e = line number asked (step.Value name o v) in let l = leaves_quiet run number asked (step.Value name o v) q in record {
-  is_made = d.is_made;
-  sites = d.sites;
-  parts = d.parts;
-  time = d.time;
-  number_is = d.number_is;
-  there = d.there;
-  open_is = d.open_is;
-  current = λ who t h. current_in run (e ∷ run) who t refl (λ u b. b) refl refl refl (d.current who t h);
-  apart = d.apart;
-  depends = d.depends;
-  ids = λ t b. id_in run (e ∷ run) m.now m.now t (omega arith) refl (d.ids t b);
-  are_begun = d.are_begun;
-  are_later = record { above = d.are_later.above; strictly = d.are_later.strictly };
-  plain = d.plain;
-  sums = same_sums m run e d l;
-  unbegun = d.unbegun;
-  laws = laws_more run e d.are_begun l d.laws n;
-}
-quiet m run number asked step.NoCluster q d n = let e = line number asked step.NoCluster in let l = leaves_quiet run number asked step.NoCluster q in record {
-  is_made = d.is_made;
-  sites = d.sites;
-  parts = d.parts;
-  time = d.time;
-  number_is = d.number_is;
-  there = d.there;
-  open_is = d.open_is;
-  current = λ who t h. current_in run (e ∷ run) who t refl (λ u b. b) refl refl refl (d.current who t h);
-  apart = d.apart;
-  depends = d.depends;
-  ids = λ t b. id_in run (e ∷ run) m.now m.now t (omega arith) refl (d.ids t b);
-  are_begun = d.are_begun;
-  are_later = record { above = d.are_later.above; strictly = d.are_later.strictly };
-  plain = d.plain;
-  sums = same_sums m run e d l;
-  unbegun = d.unbegun;
-  laws = laws_more run e d.are_begun l d.laws n;
-}
-quiet m run number asked step.NoSession q d n = let e = line number asked step.NoSession in let l = leaves_quiet run number asked step.NoSession q in record {
-  is_made = d.is_made;
-  sites = d.sites;
-  parts = d.parts;
-  time = d.time;
-  number_is = d.number_is;
-  there = d.there;
-  open_is = d.open_is;
-  current = λ who t h. current_in run (e ∷ run) who t refl (λ u b. b) refl refl refl (d.current who t h);
-  apart = d.apart;
-  depends = d.depends;
-  ids = λ t b. id_in run (e ∷ run) m.now m.now t (omega arith) refl (d.ids t b);
-  are_begun = d.are_begun;
-  are_later = record { above = d.are_later.above; strictly = d.are_later.strictly };
-  plain = d.plain;
-  sums = same_sums m run e d l;
-  unbegun = d.unbegun;
-  laws = laws_more run e d.are_begun l d.laws n;
-}
-quiet m run number asked step.NoTxn q d n = let e = line number asked step.NoTxn in let l = leaves_quiet run number asked step.NoTxn q in record {
-  is_made = d.is_made;
-  sites = d.sites;
-  parts = d.parts;
-  time = d.time;
-  number_is = d.number_is;
-  there = d.there;
-  open_is = d.open_is;
-  current = λ who t h. current_in run (e ∷ run) who t refl (λ u b. b) refl refl refl (d.current who t h);
-  apart = d.apart;
-  depends = d.depends;
-  ids = λ t b. id_in run (e ∷ run) m.now m.now t (omega arith) refl (d.ids t b);
-  are_begun = d.are_begun;
-  are_later = record { above = d.are_later.above; strictly = d.are_later.strictly };
-  plain = d.plain;
-  sums = same_sums m run e d l;
-  unbegun = d.unbegun;
-  laws = laws_more run e d.are_begun l d.laws n;
-}
-quiet m run number asked step.Unbuilt q d n = let e = line number asked step.Unbuilt in let l = leaves_quiet run number asked step.Unbuilt q in record {
-  is_made = d.is_made;
-  sites = d.sites;
-  parts = d.parts;
-  time = d.time;
-  number_is = d.number_is;
-  there = d.there;
-  open_is = d.open_is;
-  current = λ who t h. current_in run (e ∷ run) who t refl (λ u b. b) refl refl refl (d.current who t h);
-  apart = d.apart;
-  depends = d.depends;
-  ids = λ t b. id_in run (e ∷ run) m.now m.now t (omega arith) refl (d.ids t b);
-  are_begun = d.are_begun;
-  are_later = record { above = d.are_later.above; strictly = d.are_later.strictly };
-  plain = d.plain;
-  sums = same_sums m run e d l;
-  unbegun = d.unbegun;
-  laws = laws_more run e d.are_begun l d.laws n;
-}
-quiet m run number asked s q d n = off q
+quiet m run number asked s q d n = kept_line m run (line number asked s) (keeps run number asked s q) d n

@@ -15,7 +15,7 @@ use Rattle.crdt_core.specs.Objects.{same_object}
 use Rattle.crdt_core.specs.Seen.{Update, sees, is_reset, is_live}
 use Rattle.crdt_counters.specs.Meaning.{amount, total, counter_meaning}
 use Rattle.world_model.specs.Run.{Run, Line}
-use Rattle.world_model.specs.Refusals.{is_amount}
+use Rattle.crdt_core.specs.Fits.{is_amount}
 use Rattle.world_model.specs.History.{in_history, history, snapshot, commit_vector, visible}
 use Rattle.world_model.specs.Updates.{Change, changes, update_of, updates_in, updates_of}
 use Rattle.world_model.specs.Reads.{read_by}

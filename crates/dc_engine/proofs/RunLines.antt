@@ -17,7 +17,7 @@ use Rattle.site_vector.specs.VectorLaws.{le_trans, le_entry, join_le}
 use Rattle.crdt_core.specs.declared.object.ObjectId.{ObjectId}
 use Rattle.crdt_core.specs.declared.operation.Op.{Op}
 use Rattle.crdt_core.specs.declared.value.Value.TheVariants.{Int}
-use Rattle.crdt_core.specs.Objects.{same_object}
+use Rattle.crdt_core.specs.Objects.{same_object, same_kind-true}
 use Rattle.crdt_counters.specs.Meaning.{amount, counter_meaning}
 use Rattle.world_model.specs.declared.command.Command.{Command}
 use Rattle.world_model.specs.declared.command.Command.TheVariants as command
@@ -42,7 +42,9 @@ use Rattle.world_model.specs.Sessions.{transaction_after}
 use Rattle.world_model.specs.Fresh.{IsSnapshot}
 use Rattle.dc_engine.proofs.NewLine.{is_quiet, IsNewLine, line, laws_more, same_sums, current_in, id_in, quiet, off}
 use Rattle.world_model.specs.Updates.{is_tx, changed, partition_of, changes_after}
-use Rattle.world_model.specs.Refusals.{is_amount}
+use Rattle.crdt_core.specs.Fits.{is_amount, fits}
+use Rattle.crdt_core.specs.declared.object.Field.{Field}
+use Rattle.crdt_counters.specs.CounterPn.{pn_has}
 use Rattle.dc_engine.proofs.StepLines.{le_one, with_cases, same_name, leaves_plain, later_in, quiet_line}
 use Rattle.std.proofs.lemmas.Bool.{eqb-true}
 use Rattle.std.proofs.Math.Bool.{and-true}
@@ -58,11 +60,10 @@ use Rattle.crdt_core.specs.declared.kind.Kind.TheVariants as kind
 use Rattle.crdt_core.specs.declared.operation.Act.{Act}
 use Rattle.crdt_core.specs.declared.operation.Act.TheVariants as act
 use Rattle.crdt_core.specs.Kinds.{kind_at}
-use Rattle.world_model.specs.Cluster.{has_cluster}
-use Rattle.world_model.specs.Sessions.{has_session}
-use Rattle.world_model.specs.Refusals.{refusal, refusals, first_due, is_built, begin_part, last_time}
-use Rattle.world_model.specs.Answers.{IsAnswer, AnswersBy, Replies, Commits, CommitsAt, shown, answered, is_stamped}
-use Rattle.world_model.specs.Causes.{OfSession, IsUnbuilt}
+use Rattle.world_model.specs.Cluster.{has_site, has_part}
+use Rattle.world_model.specs.Sessions.{has_session, sessions_of}
+use Rattle.world_model.specs.Refusals.{refusal, refusals, unbuilt, first_due, is_built, begin_part, lacks_part, is_elsewhere, changes_of, last_time}
+use Rattle.world_model.specs.Answers.{IsAnswer, AnswersBy, Replies, Commits, CommitsAt, answered, is_stamped}
 use Rattle.world_model.specs.Lawful.{IsLawful}
 use Rattle.world_model.proofs.Growth.{is_strict, visible_closed}
 use Rattle.dc_engine.specs.State.{lacks_cluster, lacks_session, lacks_transaction, changes_in, dues, Acts, ActsBy, Does, DoesCommit, start}
@@ -71,122 +72,168 @@ use Rattle.dc_engine.proofs.StepLines.{cluster_line, tick_line, session_line, va
 use Rattle.dc_engine.proofs.BeginLines.{begin_line, update_line}
 use Rattle.dc_engine.proofs.CommitLines.{commit_lines}
 
-rows_not : (p : Step → Bool) (rows : List (Bool × Step)) → list_all (λ r. not (p r.1)) rows ≡ true → (s : Step) → first_due rows ≡ Some s → p s ≡ true → ⊥
-rows_not p [] h s e k = cc
-rows_not p (r ∷ rows) h s e k =
-    let two = and_parts (not (p r.1)) (list_all (λ r. not (p r.1)) rows) h in
-    elim r.0 as (λ b. (if b then Some r.1 else first_due rows) ≡ Some s → ⊥) [
-      | true ↦ λ q. let same : r.1 ≡ s = cc in true≢false (sym two.0 ∙ ap not (ap p same ∙ k))
-      | false ↦ λ q. rows_not p rows two.1 s q k
-    ] e
+-- where a row is due and none before it is, its step has the property
+abbrev Owe : (Step → Type 0) → List (Bool × Step) → Type 0
+Owe P [] = Unit {0}
+Owe P (r ∷ rows) = (r.0 ≡ true → P r.1) × (r.0 ≡ false → Owe P rows)
 
-abbrev is_no_cluster : Step → Bool
-is_no_cluster step.NoCluster = true
-is_no_cluster other = false
-
-abbrev is_no_session : Step → Bool
-is_no_session step.NoSession = true
-is_no_session other = false
-
-abbrev is_no_transaction : Step → Bool
-is_no_transaction step.NoTxn = true
-is_no_transaction other = false
-
--- the first row decides where no later one shows this step
-first_row : (b : Bool) (s : Step) (p : Step → Bool) (rows : List (Bool × Step)) → p s ≡ true → list_all (λ r. not (p r.1)) rows ≡ true → first_due ((not b, s) ∷ rows) ≡ Some s → b ≡ false
-first_row true s p rows k h e = absurd (rows_not p rows h s e k)
-first_row false s p rows k h e = refl
-
--- a row that shows another step isn't due
-passes : (b : Bool) (r s : Step) (p : Step → Bool) (rows : List (Bool × Step)) → p s ≡ true → p r ≡ false → first_due ((not b, r) ∷ rows) ≡ Some s → (b ≡ true) × (first_due rows ≡ Some s)
-passes true r s p rows k n e = (refl, e)
-passes false r s p rows k n e = let same : r ≡ s = cc in absurd (true≢false (sym k ∙ (ap p (sym same) ∙ n)))
-
-abbrev later_rows : List (Bool × Step) → List (Bool × Step)
-later_rows [] = []
-later_rows (r ∷ rows) = rows
-
-no_cluster_cause : (run : Run) (c : Command) → is_built c ≡ true → first_due (refusals run c) ≡ Some step.NoCluster → has_cluster run ≡ false
-no_cluster_cause run (command.Cluster sites parts) b h = absurd (rows_not is_no_cluster (refusals run (command.Cluster sites parts)) refl step.NoCluster h refl)
-no_cluster_cause run (command.Clock p n) b h = first_row (has_cluster run) step.NoCluster is_no_cluster (later_rows (refusals run (command.Clock p n))) refl refl h
-no_cluster_cause run (command.Session name site) b h = first_row (has_cluster run) step.NoCluster is_no_cluster (later_rows (refusals run (command.Session name site))) refl refl h
-no_cluster_cause run (command.Begin name part) b h = first_row (has_cluster run) step.NoCluster is_no_cluster (later_rows (refusals run (command.Begin name part))) refl refl h
-no_cluster_cause run (command.Read name o) b h = first_row (has_cluster run) step.NoCluster is_no_cluster (later_rows (refusals run (command.Read name o))) refl refl h
-no_cluster_cause run (command.Update name o op) b h = first_row (has_cluster run) step.NoCluster is_no_cluster (later_rows (refusals run (command.Update name o op))) refl refl h
-no_cluster_cause run (command.Commit name k) b h = first_row (has_cluster run) step.NoCluster is_no_cluster (later_rows (refusals run (command.Commit name k))) refl refl h
-no_cluster_cause run c b h = off b
-
-session_cause : (run : Run) (name : List ℕ) (rows : List (Bool × Step)) → list_all (λ r. not (is_no_session r.1)) rows ≡ true
-    → first_due ((not (has_cluster run), step.NoCluster) ∷ (not (has_session run name), step.NoSession) ∷ rows) ≡ Some step.NoSession → (has_cluster run ≡ true) × (has_session run name ≡ false)
-session_cause run name rows l h =
-    let a = passes (has_cluster run) step.NoCluster step.NoSession is_no_session ((not (has_session run name), step.NoSession) ∷ rows) refl refl h in
-    (a.0, first_row (has_session run name) step.NoSession is_no_session rows refl l a.1)
-
-no_session_cause : (run : Run) (c : Command) → is_built c ≡ true → first_due (refusals run c) ≡ Some step.NoSession → (has_cluster run ≡ true) × OfSession (λ name. has_session run name ≡ false) (Some c)
-no_session_cause run (command.Cluster sites parts) b h = absurd (rows_not is_no_session (refusals run (command.Cluster sites parts)) refl step.NoSession h refl)
-no_session_cause run (command.Clock p n) b h = absurd (rows_not is_no_session (refusals run (command.Clock p n)) refl step.NoSession h refl)
-no_session_cause run (command.Session name site) b h = absurd (rows_not is_no_session (refusals run (command.Session name site)) refl step.NoSession h refl)
-no_session_cause run (command.Begin name None) b h = session_cause run name ((is_open run name, step.HasTxn) ∷ (now run (begin_part run name None) == last_time, step.TimeEnd) ∷ []) refl h
-no_session_cause run (command.Begin name (Some p)) b h = off b
-no_session_cause run (command.Read name o) b h = session_cause run name (later_rows (later_rows (refusals run (command.Read name o)))) refl h
-no_session_cause run (command.Update name o op) b h = session_cause run name (later_rows (later_rows (refusals run (command.Update name o op)))) refl h
-no_session_cause run (command.Commit name k) b h = session_cause run name (later_rows (later_rows (refusals run (command.Commit name k)))) refl h
-no_session_cause run c b h = off b
-
-transaction_cause : (run : Run) (name : List ℕ) (rows : List (Bool × Step)) → list_all (λ r. not (is_no_transaction r.1)) rows ≡ true
-    → first_due ((not (has_cluster run), step.NoCluster) ∷ (not (has_session run name), step.NoSession) ∷ (not (is_open run name), step.NoTxn) ∷ rows) ≡ Some step.NoTxn → (has_session run name ≡ true) × (is_open run name ≡ false)
-transaction_cause run name rows l h =
-    let a = passes (has_cluster run) step.NoCluster step.NoTxn is_no_transaction ((not (has_session run name), step.NoSession) ∷ (not (is_open run name), step.NoTxn) ∷ rows) refl refl h in
-    let b = passes (has_session run name) step.NoSession step.NoTxn is_no_transaction ((not (is_open run name), step.NoTxn) ∷ rows) refl refl a.1 in
-    (b.0, first_row (is_open run name) step.NoTxn is_no_transaction rows refl l b.1)
-
-no_transaction_cause : (run : Run) (c : Command) → is_built c ≡ true → first_due (refusals run c) ≡ Some step.NoTxn → OfSession (λ name. (has_session run name ≡ true) × (is_open run name ≡ false)) (Some c)
-no_transaction_cause run (command.Cluster sites parts) b h = absurd (rows_not is_no_transaction (refusals run (command.Cluster sites parts)) refl step.NoTxn h refl)
-no_transaction_cause run (command.Clock p n) b h = absurd (rows_not is_no_transaction (refusals run (command.Clock p n)) refl step.NoTxn h refl)
-no_transaction_cause run (command.Session name site) b h = absurd (rows_not is_no_transaction (refusals run (command.Session name site)) refl step.NoTxn h refl)
-no_transaction_cause run (command.Begin name part) b h = absurd (rows_not is_no_transaction (refusals run (command.Begin name part)) refl step.NoTxn h refl)
-no_transaction_cause run (command.Read name o) b h = transaction_cause run name (later_rows (later_rows (later_rows (refusals run (command.Read name o))))) refl h
-no_transaction_cause run (command.Update name o op) b h = transaction_cause run name (later_rows (later_rows (later_rows (refusals run (command.Update name o op))))) refl h
-no_transaction_cause run (command.Commit name k) b h = transaction_cause run name (later_rows (later_rows (later_rows (refusals run (command.Commit name k))))) refl h
-no_transaction_cause run c b h = off b
-
--- a refusal has its cause
-cause_of : (run : Run) (c : Command) (r : Step) → is_built c ≡ true → first_due (refusals run c) ≡ Some r → refusal run c ≡ Some r → HasCause run (Some c) (shown r)
-cause_of run c step.NoCluster b h e = no_cluster_cause run c b h
-cause_of run c step.NoSession b h e = no_session_cause run c b h
-cause_of run c step.NoTxn b h e = no_transaction_cause run c b h
-cause_of run c r b h e = (r, e, (λ z. cc), (λ z. cc), (λ z. cc))
-
-is_quiet_shown : (r : Step) → is_quiet (shown r) ≡ true
-is_quiet_shown step.NoCluster = refl
-is_quiet_shown step.NoSession = refl
-is_quiet_shown step.NoTxn = refl
-is_quiet_shown r = refl
-
--- a refusal's line has nothing else to keep
-refused_line : (run : Run) (asked : Option Command) (r : Step) → HasCause run asked (shown r) → IsNewLine run asked (shown r)
-refused_line run asked step.NoCluster c = quiet_line run asked step.NoCluster tt tt tt tt c tt
-refused_line run asked step.NoSession c = quiet_line run asked step.NoSession tt tt tt tt c tt
-refused_line run asked step.NoTxn c = quiet_line run asked step.NoTxn tt tt tt tt c tt
-refused_line run asked r c = quiet_line run asked step.Unbuilt tt tt tt tt c tt
-
--- what a command's answer owes to the run
-pub record Goes (run : Run) (number : ℕ) (asked : Option Command) (steps : List Step) (new : State) : Type 0 where
-  pub answer : IsAnswer run asked steps
-  pub after : Describes new (answered number asked steps run)
-
-pub outside : (m new : State) (run : Run) (number : ℕ) (steps : List Step) → Describes m run → steps ≡ step.Unbuilt ∷ [] → new ≡ m → Goes run number None steps new
-outside m new run number steps d s n = subst (λ l. Goes run number None l new) (sym s) (subst (Goes run number None (step.Unbuilt ∷ [])) (sym n) (record {
-  answer = refl;
-  after = quiet m run number None step.Unbuilt refl d (quiet_line run None step.Unbuilt tt tt tt tt tt tt);
-}))
-
-none_due : (r : Bool × Step) (rows : List (Bool × Step)) → first_due (r ∷ rows) ≡ None → (r.0 ≡ false) × (first_due rows ≡ None)
-none_due r rows h = elim r.0 as (λ b. (if b then Some r.1 else first_due rows) ≡ None → (b ≡ false) × (first_due rows ≡ None)) [ true ↦ λ q. cc | false ↦ λ q. (refl, q) ] h
+owed : (P : Step → Type 0) (rows : List (Bool × Step)) → Owe P rows → (s : Step) → first_due rows ≡ Some s → P s
+owed P [] h s e = cc
+owed P (r ∷ rows) h s e =
+    elim r.0 as (λ b. r.0 ≡ b → (if b then Some r.1 else first_due rows) ≡ Some s → P s) [
+      | true ↦ λ k q. let same : r.1 ≡ s = cc in subst P same (h.0 k)
+      | false ↦ λ k q. owed P rows (h.1 k) s q
+    ] refl e
 
 not_false : (b : Bool) → not b ≡ false → b ≡ true
 not_false true h = refl
 not_false false h = absurd (true≢false h)
+
+not_true : (b : Bool) → not b ≡ true → b ≡ false
+not_true true h = absurd (true≢false (sym h))
+not_true false h = refl
+
+-- a refusal's line changes nothing, and has its cause
+pub record IsRefusal (run : Run) (c : Command) (s : Step) : Type 0 where
+  pub changes_none : is_quiet s ≡ true
+  pub is_new : IsNewLine run (Some c) s
+
+abbrev is_refusal : Step → Bool
+is_refusal step.NoCluster = true
+is_refusal step.HasCluster = true
+is_refusal step.NoPart = true
+is_refusal step.NoSession = true
+is_refusal step.HasSession = true
+is_refusal step.NoTxn = true
+is_refusal step.HasTxn = true
+is_refusal step.BadOp = true
+is_refusal step.LimitSessions = true
+is_refusal step.LimitUpdates = true
+is_refusal step.TimeEnd = true
+is_refusal step.Unbuilt = true
+is_refusal other = false
+
+refuses : (run : Run) (c : Command) (s : Step) → is_refusal s ≡ true → HasCause pn_has run (Some c) s → IsRefusal run c s
+refuses run c step.NoCluster q h = record { changes_none = refl; is_new = quiet_line run (Some c) step.NoCluster tt tt tt tt h tt }
+refuses run c step.HasCluster q h = record { changes_none = refl; is_new = quiet_line run (Some c) step.HasCluster tt tt tt tt h tt }
+refuses run c step.NoPart q h = record { changes_none = refl; is_new = quiet_line run (Some c) step.NoPart tt tt tt tt h tt }
+refuses run c step.NoSession q h = record { changes_none = refl; is_new = quiet_line run (Some c) step.NoSession tt tt tt tt h tt }
+refuses run c step.HasSession q h = record { changes_none = refl; is_new = quiet_line run (Some c) step.HasSession tt tt tt tt h tt }
+refuses run c step.NoTxn q h = record { changes_none = refl; is_new = quiet_line run (Some c) step.NoTxn tt tt tt tt h tt }
+refuses run c step.HasTxn q h = record { changes_none = refl; is_new = quiet_line run (Some c) step.HasTxn tt tt tt tt h tt }
+refuses run c step.BadOp q h = record { changes_none = refl; is_new = quiet_line run (Some c) step.BadOp tt tt tt tt h tt }
+refuses run c step.LimitSessions q h = record { changes_none = refl; is_new = quiet_line run (Some c) step.LimitSessions tt tt tt tt h tt }
+refuses run c step.LimitUpdates q h = record { changes_none = refl; is_new = quiet_line run (Some c) step.LimitUpdates tt tt tt tt h tt }
+refuses run c step.TimeEnd q h = record { changes_none = refl; is_new = quiet_line run (Some c) step.TimeEnd tt tt tt tt h tt }
+refuses run c step.Unbuilt q h = record { changes_none = refl; is_new = quiet_line run (Some c) step.Unbuilt tt tt tt tt h tt }
+refuses run c s q h = off q
+
+-- each row has its cause
+module _ (run : Run) where
+  unbuilt_row : (c : Command) → not (is_built pn_has c) ≡ true → IsRefusal run c step.Unbuilt
+  unbuilt_row c h = refuses run c step.Unbuilt refl (not_true (is_built pn_has c) h)
+
+  cluster_row : (c : Command) → not (has_cluster run) ≡ true → IsRefusal run c step.NoCluster
+  cluster_row c h = refuses run c step.NoCluster refl (not_true (has_cluster run) h)
+
+  rows_owed : (c : Command) → Owe (IsRefusal run c) (unbuilt pn_has c ∷ refusals run c)
+  rows_owed (command.Cluster sites parts) = let c = command.Cluster sites parts in (unbuilt_row c, λ b. (λ h. refuses run c step.HasCluster refl h, λ z. tt))
+  rows_owed (command.Clock p n) =
+      let c = command.Clock p n in
+      (unbuilt_row c, λ b. (cluster_row c, λ m. (λ h. refuses run c step.NoPart refl (not_false (has_cluster run) m, not_true (has_part run p) h), λ z. tt)))
+  rows_owed (command.Session name site) =
+      let c = command.Session name site in (
+        unbuilt_row c,
+        λ b. (
+          cluster_row c,
+          λ m. (
+            λ h. refuses run c step.NoPart refl (not_false (has_cluster run) m, not_true (has_site run site) h),
+            λ p. (
+              λ h. refuses run c step.HasSession refl h,
+              λ s.
+                  (λ h. refuses run c step.LimitSessions refl (eqb-true (sessions_of run) 64 h), λ z. tt),
+            ),
+          ),
+        ),
+      )
+  rows_owed (command.Begin name part) =
+      let c = command.Begin name part in (
+        unbuilt_row c,
+        λ b. (
+          cluster_row c,
+          λ m. let made = not_false (has_cluster run) m in (
+            λ h. refuses run c step.NoPart refl (made, or_left (lacks_part run part) (is_elsewhere run name part) h),
+            λ p. (
+              λ h. refuses run c step.NoSession refl (made, not_true (has_session run name) h),
+              λ s. (
+                λ h. refuses run c step.NoPart refl (made, or_right (lacks_part run part) (is_elsewhere run name part) h),
+                λ q. (
+                  λ h. refuses run c step.HasTxn refl h,
+                  λ o.
+                      (λ h. refuses run c step.TimeEnd refl (eqb-true (now run (begin_part run name part)) last_time h), λ z. tt),
+                ),
+              ),
+            ),
+          ),
+        ),
+      )
+  rows_owed (command.Read name o) =
+      let c = command.Read name o in (
+        unbuilt_row c,
+        λ b. (
+          cluster_row c,
+          λ m. (
+            λ h. refuses run c step.NoSession refl (not_false (has_cluster run) m, not_true (has_session run name) h),
+            λ s.
+                (λ h. refuses run c step.NoTxn refl (not_false (has_session run name) s, not_true (is_open run name) h), λ z. tt),
+          ),
+        ),
+      )
+  rows_owed (command.Update name o op) =
+      let c = command.Update name o op in (
+        unbuilt_row c,
+        λ b. (
+          cluster_row c,
+          λ m. (
+            λ h. refuses run c step.NoSession refl (not_false (has_cluster run) m, not_true (has_session run name) h),
+            λ s. (
+              λ h. refuses run c step.NoTxn refl (not_false (has_session run name) s, not_true (is_open run name) h),
+              λ t. (
+                λ h. refuses run c step.BadOp refl (not_true (fits o.kind op.path op.act) h),
+                λ f.
+                    (λ h. refuses run c step.LimitUpdates refl (eqb-true (changes_of run (transaction run name)) 256 h), λ z. tt),
+              ),
+            ),
+          ),
+        ),
+      )
+  rows_owed (command.Commit name k) =
+      let c = command.Commit name k in (
+        unbuilt_row c,
+        λ b. (
+          cluster_row c,
+          λ m. (
+            λ h. refuses run c step.NoSession refl (not_false (has_cluster run) m, not_true (has_session run name) h),
+            λ s. (
+              λ h. refuses run c step.NoTxn refl (not_false (has_session run name) s, not_true (is_open run name) h),
+              λ t.
+                  (λ h. refuses run c step.TimeEnd refl h, λ z. tt),
+            ),
+          ),
+        ),
+      )
+  rows_owed c = (unbuilt_row c, λ b. tt)
+
+-- what a command's answer owes to the run
+pub record Goes (run : Run) (number : ℕ) (c : Command) (steps : List Step) (new : State) : Type 0 where
+  pub answer : IsAnswer pn_has run c steps
+  pub after : Describes new (answered number (Some c) steps run)
+
+pub unread : (m : State) (run : Run) (number : ℕ) → Describes m run → Describes m (answered number None (step.Bad ∷ []) run)
+unread m run number d = quiet m run number None step.Bad refl d (quiet_line run None step.Bad tt tt tt tt refl tt)
+
+none_due : (r : Bool × Step) (rows : List (Bool × Step)) → first_due (r ∷ rows) ≡ None → (r.0 ≡ false) × (first_due rows ≡ None)
+none_due r rows h = elim r.0 as (λ b. (if b then Some r.1 else first_due rows) ≡ None → (b ≡ false) × (first_due rows ≡ None)) [ true ↦ λ q. cc | false ↦ λ q. (refl, q) ] h
 
 idle_is : (o : Option (Option Open)) → is_some o ≡ true → is_open_in o ≡ false → o ≡ Some None
 idle_is None h k = off h
@@ -196,6 +243,12 @@ idle_is (Some (Some t)) h k = absurd (true≢false k)
 gone_is : (o : Option (Option Open)) → is_some o ≡ false → o ≡ None
 gone_is None h = refl
 gone_is (Some t) h = absurd (true≢false h)
+
+-- the operations of the counter are amounts
+amount_fits : (k : Kind) (p : List Field) (a : Act) → pn_has k ≡ true → fits k p a ≡ true → is_amount a ≡ true
+amount_fits k p a h f =
+    let at : List Field → Type 0 = λ q. fits kind.CounterPn q a ≡ true → is_amount a ≡ true in
+    elim p as at [ [] ↦ λ e. e | f ∷ q ↦ λ e. off (and_parts (nat_le (length (f ∷ q)) 3) false e).1 ] (subst (λ l. fits l p a ≡ true) (same_kind-true k kind.CounterPn h) f)
 
 unstamped : (k : Kind) (a : Act) → is_amount a ≡ true → false ≡ is_stamped k a
 unstamped kind.RegisterLww (act.Increment n) h = refl
@@ -208,13 +261,13 @@ numbers_one a b h = let two = and_parts (a == 1) (b == 1) h in (eqb-true a 1 two
 
 -- the answer, where nothing is due
 module _ (m : State) (run : Run) (number : ℕ) (d : Describes m run) where
-  goes_as : (c : Command) (steps shows : List Step) (new next : State) → steps ≡ shows → new ≡ next → Goes run number (Some c) shows next → Goes run number (Some c) steps new
-  goes_as c steps shows new next s n g = subst (λ l. Goes run number (Some c) l new) (sym s) (subst (Goes run number (Some c) shows) (sym n) g)
+  goes_as : (c : Command) (steps shows : List Step) (new next : State) → steps ≡ shows → new ≡ next → Goes run number c shows next → Goes run number c steps new
+  goes_as c steps shows new next s n g = subst (λ l. Goes run number c l new) (sym s) (subst (Goes run number c shows) (sym n) g)
 
-  replies : (c : Command) (steps : List Step) → refusal run c ≡ None → Replies run c steps → IsAnswer run (Some c) steps
+  replies : (c : Command) (steps : List Step) → refusal pn_has run c ≡ None → Replies run c steps → IsAnswer pn_has run c steps
   replies c steps h r = subst (AnswersBy run c steps) (sym h) r
 
-  commit_goes : (name : List ℕ) (t : Open) → m.made ≡ true → m.session name ≡ Some (Some t) → refusal run (command.Commit name None) ≡ None → (cs : List Amount) → cs ≡ t.changes → (steps : List Step) (new : State) → DoesCommit m name t cs steps new → Goes run number (Some (command.Commit name None)) steps new
+  commit_goes : (name : List ℕ) (t : Open) → m.made ≡ true → m.session name ≡ Some (Some t) → refusal pn_has run (command.Commit name None) ≡ None → (cs : List Amount) → cs ≡ t.changes → (steps : List Step) (new : State) → DoesCommit m name t cs steps new → Goes run number (command.Commit name None) steps new
   commit_goes name t made is_now_open none [] e steps new h =
       let cur = d.current name t is_now_open in
       let nobody : participants run (transaction_at t.time) ≡ [] = participants_one run t.time (d.parts made) ∙ ap (λ b. if b then one ∷ [] else []) (any_amounts (changes run (transaction_at t.time)) t.changes cur.amounts ∙ ap is_change (sym e)) in
@@ -234,7 +287,7 @@ module _ (m : State) (run : Run) (number : ℕ) (d : Describes m run) where
         after = commit_lines m run number (Some (command.Commit name None)) name t made is_now_open some d;
       })
 
-  does_goes : (c : Command) (steps : List Step) (new : State) → is_built c ≡ true → refusal run c ≡ None → first_due (dues m c) ≡ None → Does m c steps new → Goes run number (Some c) steps new
+  does_goes : (c : Command) (steps : List Step) (new : State) → is_built pn_has c ≡ true → refusal pn_has run c ≡ None → first_due (dues m c) ≡ None → Does m c steps new → Goes run number c steps new
   does_goes (command.Cluster sites parts) steps new b none due h =
       let ones = numbers_one sites parts b in
       goes_as (command.Cluster sites parts) steps (step.MadeCluster sites parts ∷ []) new (made_cluster m) h.0 h.1 (record {
@@ -277,10 +330,15 @@ module _ (m : State) (run : Run) (number : ℕ) (d : Describes m run) where
         after = value_line m run number (Some (command.Read name o)) name o h.0 h.1 d;
       })
   does_goes (command.Update name o op) steps new b none due h =
-      let fits : is_amount op.act ≡ true = (and_parts _ _ (and_parts _ _ b).1).1 in
+      let limit : List (Bool × Step) = (length (changes_in (m.session name)) == 256, step.LimitUpdates) ∷ [] in
+      let op_row : Bool × Step = (not (fits o.kind op.path op.act), step.BadOp) in
+      let first = none_due (lacks_cluster m) (lacks_session m name ∷ lacks_transaction m name ∷ op_row ∷ limit) due in
+      let second = none_due (lacks_session m name) (lacks_transaction m name ∷ op_row ∷ limit) first.1 in
+      let third = none_due (lacks_transaction m name) (op_row ∷ limit) second.1 in
+      let amounts : is_amount op.act ≡ true = amount_fits o.kind op.path op.act b (not_false (fits o.kind op.path op.act) (none_due op_row limit third.1).0) in
       goes_as (command.Update name o op) steps (step.Updated name o None ∷ []) new (updated m name h.0 (o, amount op.act)) h.2 h.3 (record {
-        answer = replies (command.Update name o op) (step.Updated name o None ∷ []) none (None, unstamped (kind_at o.kind op.path) op.act fits, refl);
-        after = update_line m run number name o op h.0 fits h.1 d;
+        answer = replies (command.Update name o op) (step.Updated name o None ∷ []) none (None, unstamped (kind_at o.kind op.path) op.act amounts, refl);
+        after = update_line m run number name o op h.0 amounts h.1 d;
       })
   does_goes (command.Commit name None) steps new b none due h =
       let first = none_due (lacks_cluster m) (lacks_session m name ∷ lacks_transaction m name ∷ (is_change (changes_in (m.session name)) && m.now == last_time, step.TimeEnd) ∷ []) due in
@@ -288,30 +346,34 @@ module _ (m : State) (run : Run) (number : ℕ) (d : Describes m run) where
   does_goes (command.Commit name (Some k)) steps new b none due h = off b
   does_goes c steps new b none due h = off b
 
-  refused_goes : (c : Command) (r : Step) (steps : List Step) (new : State) → refusal run c ≡ Some r → HasCause run (Some c) (shown r) → steps ≡ shown r ∷ [] → new ≡ m → Goes run number (Some c) steps new
-  refused_goes c r steps new e cause s n = goes_as c steps (shown r ∷ []) new m s n (record {
-    answer = subst (AnswersBy run c (shown r ∷ [])) (sym e) refl;
-    after = quiet m run number (Some c) (shown r) (is_quiet_shown r) d (refused_line run (Some c) r cause);
-  })
+  refused_goes : (c : Command) (r : Step) (steps : List Step) (new : State) → refusal pn_has run c ≡ Some r → steps ≡ r ∷ [] → new ≡ m → Goes run number c steps new
+  refused_goes c r steps new e s n =
+      let is = owed (IsRefusal run c) (unbuilt pn_has c ∷ refusals run c) (rows_owed run c) r e in
+      goes_as c steps (r ∷ []) new m s n (record {
+        answer = subst (AnswersBy run c (r ∷ [])) (sym e) refl;
+        after = quiet m run number (Some c) r is.changes_none d is.is_new;
+      })
 
-  built_goes : (c : Command) (steps : List Step) (new : State) → is_built c ≡ true → refusal run c ≡ first_due (refusals run c) → (r : Option Step) → first_due (dues m c) ≡ r → ActsBy m c steps new r → Goes run number (Some c) steps new
-  built_goes c steps new b e None h a = does_goes c steps new b (e ∙ (due_same m run d c b ∙ h)) h a
-  built_goes c steps new b e (Some r) h a =
-      let due : first_due (refusals run c) ≡ Some r = due_same m run d c b ∙ h in
-      refused_goes c r steps new (e ∙ due) (cause_of run c r b due (e ∙ due)) a.0 a.1
-
-  -- an answer of the machine goes on with the run
-  pub acts_goes : (c : Command) (steps : List Step) (new : State) → Acts m c steps new → Goes run number (Some c) steps new
-  acts_goes c steps new =
-      elim (is_built c) as (λ b. is_built c ≡ b → ActsBy m c steps new (first_due ((not b, step.Unbuilt) ∷ dues m c)) → Goes run number (Some c) steps new) [
-        | true ↦ λ e h. built_goes c steps new e (ap (λ b. first_due ((not b, step.Unbuilt) ∷ refusals run c)) e) (first_due (dues m c)) refl h
-        | false ↦ λ e h.
-            let refused : refusal run c ≡ Some step.Unbuilt = ap (λ b. first_due ((not b, step.Unbuilt) ∷ refusals run c)) e in
-            refused_goes c step.Unbuilt steps new refused (step.Unbuilt, refused, (λ z. cc), (λ z. cc), (λ z. cc)) h.0 h.1
+  -- the same is due where the command is built, and else that it isn't
+  all_due : (c : Command) → refusal pn_has run c ≡ first_due ((not (is_built pn_has c), step.Unbuilt) ∷ dues m c)
+  all_due c =
+      elim (is_built pn_has c) as (λ b. is_built pn_has c ≡ b → first_due ((not b, step.Unbuilt) ∷ refusals run c) ≡ first_due ((not b, step.Unbuilt) ∷ dues m c)) [
+        | true ↦ λ e. due_same m run d c e
+        | false ↦ λ e. refl
       ] refl
 
+  by_due : (c : Command) (steps : List Step) (new : State) (r : Option Step) → first_due ((not (is_built pn_has c), step.Unbuilt) ∷ dues m c) ≡ r → ActsBy m c steps new r → Goes run number c steps new
+  by_due c steps new None e a =
+      let two = none_due (not (is_built pn_has c), step.Unbuilt) (dues m c) e in
+      does_goes c steps new (not_false (is_built pn_has c) two.0) (all_due c ∙ e) two.1 a
+  by_due c steps new (Some r) e a = refused_goes c r steps new (all_due c ∙ e) a.0 a.1
+
+  -- an answer of the machine goes on with the run
+  pub acts_goes : (c : Command) (steps : List Step) (new : State) → Acts m c steps new → Goes run number c steps new
+  acts_goes c steps new a = by_due c steps new (first_due ((not (is_built pn_has c), step.Unbuilt) ∷ dues m c)) refl a
+
 -- such a run is lawful
-pub lawful : (m : State) (run : Run) → Describes m run → IsLawful counter_meaning run
+pub lawful : (m : State) (run : Run) → Describes m run → IsLawful pn_has counter_meaning run
 lawful m run d = record {
   clock = d.laws.clock;
   fresh = d.laws.fresh;

@@ -18,6 +18,7 @@ use Rattle.crdt_core.specs.declared.object.ObjectId.{ObjectId}
 use Rattle.crdt_core.specs.declared.operation.Op.{Op}
 use Rattle.crdt_core.specs.declared.value.Value.TheVariants.{Int}
 use Rattle.crdt_core.specs.Objects.{same_object}
+use Rattle.crdt_counters.specs.CounterPn.{pn_has}
 use Rattle.crdt_counters.specs.Meaning.{amount, counter_meaning}
 use Rattle.world_model.specs.declared.command.Command.{Command}
 use Rattle.world_model.specs.declared.command.Command.TheVariants as command
@@ -66,7 +67,7 @@ later_in run e b l k t h =
     let v = vector_same run e b l t h in
     (ap (λ x. le x (commit_vector (e ∷ run) t)) s ∙ (ap (λ x. le (snapshot run t) x) v ∙ k.above t h), ap (λ x. le (commit_vector (e ∷ run) t) x) s ∙ (ap (λ x. le x (snapshot run t)) v ∙ k.strictly t h))
 
-pub quiet_line : (run : Run) (asked : Option Command) (s : Step) → ShowsTime run asked s → ShowsSnapshot run asked s → HoldsPast run asked s → ShowsCommit run asked s → HasCause run asked s → IsRight counter_meaning run run asked s → IsNewLine run asked s
+pub quiet_line : (run : Run) (asked : Option Command) (s : Step) → ShowsTime run asked s → ShowsSnapshot run asked s → HoldsPast run asked s → ShowsCommit run asked s → HasCause pn_has run asked s → IsRight counter_meaning run run asked s → IsNewLine run asked s
 quiet_line run asked s a b c d e f = record { time = a; snapshot = b; past = c; right = f; commit = d; cause = e }
 
 pub cluster_line : (m : State) (run : Run) (number : ℕ) (asked : Option Command) → Describes m run → Describes (made_cluster m) (line number asked (step.MadeCluster 1 1) ∷ run)

@@ -17,7 +17,8 @@ use Rattle.world_model.specs.Updates.{Change, changes}
 use Rattle.world_model.specs.Reads.{IsRightRead}
 use Rattle.world_model.specs.Commit.{KeepsCommitTime}
 use Rattle.world_model.specs.Causes.{HaveCauses}
-use Rattle.world_model.specs.Refusals.{is_amount}
+use Rattle.crdt_core.specs.Fits.{is_amount}
+use Rattle.crdt_counters.specs.CounterPn.{pn_has}
 use Rattle.world_model.proofs.Growth.{AreBegun, AreLater}
 use Rattle.dc_engine.specs.State.{State, Open, Amount, one, transaction_at, is_open_in}
 
@@ -68,7 +69,7 @@ pub record KeepsLaws (run : Run) : Type 0 where
   pub past : KeepsPast run
   pub right : IsRightRead counter_meaning run
   pub commit : KeepsCommitTime run
-  pub causes : HaveCauses run
+  pub causes : HaveCauses pn_has run
 
 pub record Describes (m : State) (run : Run) : Type 0 where
   pub is_made : has_cluster run ≡ m.made

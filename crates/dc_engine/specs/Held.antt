@@ -6,7 +6,8 @@ use Rattle.world_model.specs.Answers.{Answers}
 use Rattle.reply_text.specs.Text.{text_of}
 use Rattle.dc_engine.specs.declared.machine.Machine.{Machine}
 use Rattle.dc_engine.specs.declared.sessions.Change.{Change}
-use Rattle.dc_engine.specs.Grammar.{command_of}
+use Rattle.crdt_counters.specs.CounterPn.{pn_has}
+use Rattle.dc_engine.specs.Reading.{asked_of}
 use Rattle.dc_engine.specs.Machine.{session_in}
 use Rattle.dc_engine.specs.Stored.{stored, sum_upto}
 use Rattle.dc_engine.specs.State.{State, Open, Amount}
@@ -40,5 +41,5 @@ spelled number step = text_of step
 pub record Reached (m : Machine) (lines : List (List ℕ)) (bytes : List ℕ) : Type 0 where
   pub run : Run
   pub describes : Describes (state_of m) run
-  pub answers : Answers (reverse (map command_of lines)) run
+  pub answers : Answers pn_has (reverse (map asked_of lines)) run
   pub written : bytes ≡ lines_of spelled run

@@ -2,12 +2,13 @@ pub mod Answered
 pub mod Blocks
 pub mod Causes
 pub mod Describes
-pub mod Grammar
 pub mod Held
 pub mod Lines
 pub mod Machine
 pub mod Memory
 pub mod Played
+pub mod Player
+pub mod Reading
 pub mod Replies
 pub mod SessionTable
 pub mod State

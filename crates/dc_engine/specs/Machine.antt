@@ -7,13 +7,14 @@ use Rattle.site_vector.specs.Ids.{same_part}
 use Rattle.crdt_core.specs.declared.object.ObjectId.{ObjectId}
 use Rattle.crdt_core.specs.declared.operation.Act.{Act}
 use Rattle.crdt_core.specs.declared.value.Value.TheVariants.{Int}
+use Rattle.crdt_core.specs.Fits.{fits}
+use Rattle.crdt_counters.specs.CounterPn.{pn_has}
 use Rattle.crdt_counters.specs.Meaning.{amount}
 use Rattle.world_model.specs.declared.command.Command.{Command}
 use Rattle.world_model.specs.declared.command.Command.TheVariants as command
 use Rattle.world_model.specs.declared.step.Step.{Step}
 use Rattle.world_model.specs.declared.step.Step.TheVariants as step
 use Rattle.world_model.specs.Refusals.{first_due, is_built, last_time}
-use Rattle.world_model.specs.Answers.{shown}
 use Rattle.dc_engine.specs.declared.machine.Machine.{Machine}
 use Rattle.dc_engine.specs.declared.sessions.Change.{Change}
 use Rattle.dc_engine.specs.declared.store.Committed.{Committed}
@@ -57,7 +58,7 @@ dues m (command.Begin name part) =
     lacks_cluster m ∷ lacks_session m name ∷ (is_open_in (session_in m name), step.HasTxn) ∷ (m.now == last_time, step.TimeEnd) ∷ []
 dues m (command.Read name o) = lacks_cluster m ∷ lacks_session m name ∷ lacks_transaction m name ∷ []
 dues m (command.Update name o op) =
-    lacks_cluster m ∷ lacks_session m name ∷ lacks_transaction m name ∷ (length (changes_in (session_in m name)) == 256, step.LimitUpdates) ∷ []
+    lacks_cluster m ∷ lacks_session m name ∷ lacks_transaction m name ∷ (not (fits o.kind op.path op.act), step.BadOp) ∷ (length (changes_in (session_in m name)) == 256, step.LimitUpdates) ∷ []
 dues m (command.Commit name steps) =
     lacks_cluster m ∷ lacks_session m name ∷ lacks_transaction m name ∷ (is_some_change (changes_in (session_in m name)) && m.now == last_time, step.TimeEnd) ∷ []
 dues m other = []
@@ -112,7 +113,7 @@ Does old other steps new = ⊥
 
 abbrev pub ActsBy : Machine → Command → List Step → Machine → Option Step → Type 0
 ActsBy old c steps new None = Does old c steps new
-ActsBy old c steps new (Some refused) = (steps ≡ shown refused ∷ []) × (new ≡ old)
+ActsBy old c steps new (Some refused) = (steps ≡ refused ∷ []) × (new ≡ old)
 
 -- the machine answers a command that is built
 abbrev pub Acts : Machine → Command → List Step → Machine → Type 0
@@ -120,9 +121,4 @@ Acts old c steps new = ActsBy old c steps new (first_due (dues old c))
 
 -- the machine answers a command
 abbrev pub AnswersAny : Machine → Command → List Step → Machine → Type 0
-AnswersAny old c steps new = ActsBy old c steps new (first_due ((not (is_built c), step.Unbuilt) ∷ dues old c))
-
--- the machine answers a line that spells this command, or none
-abbrev pub AnswersSpelled : Machine → Option Command → List Step → Machine → Type 0
-AnswersSpelled old None steps new = (steps ≡ step.Unbuilt ∷ []) × (new ≡ old)
-AnswersSpelled old (Some c) steps new = AnswersAny old c steps new
+AnswersAny old c steps new = ActsBy old c steps new (first_due ((not (is_built pn_has c), step.Unbuilt) ∷ dues old c))

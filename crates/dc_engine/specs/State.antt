@@ -9,13 +9,14 @@ use Rattle.crdt_core.specs.declared.object.ObjectId.{ObjectId}
 use Rattle.crdt_core.specs.declared.operation.Act.{Act}
 use Rattle.crdt_core.specs.declared.value.Value.TheVariants.{Int}
 use Rattle.crdt_core.specs.Objects.{same_object}
+use Rattle.crdt_core.specs.Fits.{fits}
+use Rattle.crdt_counters.specs.CounterPn.{pn_has}
 use Rattle.crdt_counters.specs.Meaning.{amount}
 use Rattle.world_model.specs.declared.command.Command.{Command}
 use Rattle.world_model.specs.declared.command.Command.TheVariants as command
 use Rattle.world_model.specs.declared.step.Step.{Step}
 use Rattle.world_model.specs.declared.step.Step.TheVariants as step
 use Rattle.world_model.specs.Refusals.{first_due, is_built, last_time}
-use Rattle.world_model.specs.Answers.{shown}
 
 -- an object, and what is added to it
 abbrev pub Amount : Type 0
@@ -73,7 +74,7 @@ dues m (command.Clock p n) = lacks_cluster m ∷ (not (same_part p one), step.No
 dues m (command.Session name site) = lacks_cluster m ∷ (not (site == 1), step.NoPart) ∷ (is_some (m.session name), step.HasSession) ∷ (m.number == 64, step.LimitSessions) ∷ []
 dues m (command.Begin name part) = lacks_cluster m ∷ lacks_session m name ∷ (is_open_in (m.session name), step.HasTxn) ∷ (m.now == last_time, step.TimeEnd) ∷ []
 dues m (command.Read name o) = lacks_cluster m ∷ lacks_session m name ∷ lacks_transaction m name ∷ []
-dues m (command.Update name o op) = lacks_cluster m ∷ lacks_session m name ∷ lacks_transaction m name ∷ (length (changes_in (m.session name)) == 256, step.LimitUpdates) ∷ []
+dues m (command.Update name o op) = lacks_cluster m ∷ lacks_session m name ∷ lacks_transaction m name ∷ (not (fits o.kind op.path op.act), step.BadOp) ∷ (length (changes_in (m.session name)) == 256, step.LimitUpdates) ∷ []
 dues m (command.Commit name steps) = lacks_cluster m ∷ lacks_session m name ∷ lacks_transaction m name ∷ (is_change (changes_in (m.session name)) && m.now == last_time, step.TimeEnd) ∷ []
 dues m other = []
 
@@ -131,11 +132,11 @@ Does m other steps new = ⊥
 
 abbrev pub ActsBy : State → Command → List Step → State → Option Step → Type 0
 ActsBy m c steps new None = Does m c steps new
-ActsBy m c steps new (Some refused) = (steps ≡ shown refused ∷ []) × (new ≡ m)
+ActsBy m c steps new (Some refused) = (steps ≡ refused ∷ []) × (new ≡ m)
 
 -- the machine answers a command with these lines, and is `new` then
 abbrev pub Acts : State → Command → List Step → State → Type 0
-Acts m c steps new = ActsBy m c steps new (first_due ((not (is_built c), step.Unbuilt) ∷ dues m c))
+Acts m c steps new = ActsBy m c steps new (first_due ((not (is_built pn_has c), step.Unbuilt) ∷ dues m c))
 
 abbrev pub start : State
 start = record { made = false; now = 0; session = λ who. None; number = 0; sum = λ o n. pos 0 }

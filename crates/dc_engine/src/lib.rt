@@ -4,11 +4,12 @@
 mod blocks;
 mod edge;
 mod fault;
-mod grammar;
 mod kept;
 mod lines;
 mod machine;
 mod memory;
+mod player;
+mod reading;
 mod responder;
 mod script;
 mod sessions;

@@ -18,14 +18,14 @@ pub record IsStrictOrder (run : Run) : Type 0 where
   pub irreflexive : (t : TxId) → precedes run t t ≡ false
   pub transitive : (t u w : TxId) → precedes run t u ≡ true → in_history run u ≡ true → precedes run u w ≡ true → precedes run t w ≡ true
 
--- the run shows one causally consistent history, where kinds have these meanings
-pub record IsLawful (meaning : Kind → List Update → Value) (run : Run) : Type 0 where
+-- the run shows one causally consistent history, where the program has these kinds with these meanings
+pub record IsLawful (has : Kind → Bool) (meaning : Kind → List Update → Value) (run : Run) : Type 0 where
   pub clock : FollowsClock run
   pub fresh : IsFresh run
   pub past : KeepsPast run
   pub right : IsRightRead meaning run
   pub commit : KeepsCommitTime run
-  pub causes : HaveCauses run
+  pub causes : HaveCauses has run
   pub order : IsStrictOrder run
   -- what a transaction reads from is closed
   pub closed : (t : TxId) → is_begun run t ≡ true → IsClosed run (visible run (snapshot run t))
