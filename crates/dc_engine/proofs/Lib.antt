@@ -3,6 +3,8 @@ pub mod BeginLines
 pub mod CommitLines
 pub mod DueRows
 pub mod HeldState
+pub mod Logged
+pub mod Told
 pub mod Moves
 pub mod NewLine
 pub mod Objects

@@ -52,7 +52,7 @@ one_each : (p : TxId → Bool) (b : Bool) (t : TxId) → (b ≡ false → p t �
 one_each p true t h = tt
 one_each p false t h = (h refl, tt)
 
-newly_is : (run : Run) (s : Step) (p : TxId → Bool) → ((t : TxId) → in_history run t ≡ false → decides s t ≡ true → p t ≡ true) → EachIs p (newly_decided run s)
+pub newly_is : (run : Run) (s : Step) (p : TxId → Bool) → ((t : TxId) → in_history run t ≡ false → decides s t ≡ true → p t ≡ true) → EachIs p (newly_decided run s)
 newly_is run (step.Decided p t c) q h = one_each q (in_history run t) t (λ n. h t n (same_tx_refl t))
 newly_is run s q h = tt
 
@@ -72,7 +72,7 @@ module _ (run : Run) (e : Line) (begun : AreBegun run) (leaves : Leaves run e) w
   vector_same t h = ap (λ v. replaced v t.site (commit_time more t)) (leaves.snapshots t (begun t h)) ∙ ap (λ n. replaced (snapshot run t) t.site n) (leaves.times t h)
 
   -- what a snapshot so far sees stays
-  seen_by : (t d : TxId) → is_begun run t ≡ true → visible more (snapshot run t) d ≡ visible run (snapshot run t) d
+  pub seen_by : (t d : TxId) → is_begun run t ≡ true → visible more (snapshot run t) d ≡ visible run (snapshot run t) d
   seen_by t d b =
       let now : Bool → Bool → Bool = λ dec his. (dec || his) && le (commit_vector more d) (snapshot run t) in
       elim (in_history run d) as (λ i. in_history run d ≡ i → now (decides e.step d) i ≡ (i && le (commit_vector run d) (snapshot run t))) [
@@ -86,7 +86,7 @@ module _ (run : Run) (e : Line) (begun : AreBegun run) (leaves : Leaves run e) w
   pub sees_same : (t d : TxId) → is_begun run t ≡ true → visible more (snapshot more t) d ≡ visible run (snapshot run t) d
   sees_same t d b = ap (λ v. visible more v d) (leaves.snapshots t b) ∙ seen_by t d b
 
-  update_same : (t : TxId) (index : ℕ) (c : Change) → is_begun run t ≡ true → update_of more t index c ≡ update_of run t index c
+  pub update_same : (t : TxId) (index : ℕ) (c : Change) → is_begun run t ≡ true → update_of more t index c ≡ update_of run t index c
   update_same t index c b =
       let saw : has_seen more t index ≡ has_seen run t index = λ i d. sees_same t d.tx b i || (same_tx d.tx t && nat_lt d.index index) in
       let made : (Dot → Bool) → Update = λ f. record { dot = record { tx = t; index = index }; path = c.op.path; act = c.op.act; stamp = c.stamp; now = c.now; saw = f } in
@@ -113,7 +113,7 @@ module _ (run : Run) (e : Line) (begun : AreBegun run) (leaves : Leaves run e) w
         | false ↦ rest
       ]
 
-  unseen_dropped : (p : TxId → Bool) (ts us : List TxId) → EachIs (λ t. not (p t)) ts → filter p (ts ++ us) ≡ filter p us
+  pub unseen_dropped : (p : TxId → Bool) (ts us : List TxId) → EachIs (λ t. not (p t)) ts → filter p (ts ++ us) ≡ filter p us
   unseen_dropped p [] us h = refl
   unseen_dropped p (t ∷ ts) us h =
       elim (p t) as (λ b. not b ≡ true → cond b (t ∷ filter p (ts ++ us)) (filter p (ts ++ us)) ≡ filter p us) [
