@@ -1,10 +1,8 @@
 -- A line more, and the machine after it.
 use Rattle.std.proofs.Common.{arith, ◌≡◌, ◌≢◌, ◌⊎◌, inl, inr, ⊎_elim, ℕ, suc, ◌+◌, ◌<◌, ◌≤◌, Bool, true, false, not, cond, eqb, leb, ◌&&◌, ◌||◌, List, [], ◌∷◌, ◌++◌, length, Option, None, Some, refl, sym, ap, ◌∙◌, subst}
-use Rattle.std.specs.Prelude.{is_some, if◌then◌else◌, nat_le, ◌==◌, max, ℤ, pos, ◌+ℤ◌}
-use Rattle.std.specs.Int.{int_wrap, w128}
+use Rattle.std.specs.Prelude.{is_some, if◌then◌else◌, nat_le, ◌==◌, max}
 use Rattle.std.specs.Str.{bytes_eq}
 use Rattle.std.specs.List.{list_any, list_all}
-use Rattle.std.proofs.lemmas.Int.{ints}
 use Rattle.std.proofs.lemmas.Bool.{true≢false, or_left, or_right, or_cases, and_parts, and_from, ne_eqb}
 use Rattle.std.proofs.lemmas.Bool.Decides.{nat_tests}
 use Rattle.std.proofs.lemmas.Slice.Eq.{bytes_eq-Decides}
@@ -12,14 +10,11 @@ use Rattle.site_vector.specs.declared.ids.PartId.{PartId}
 use Rattle.site_vector.specs.declared.ids.TxId.{TxId}
 use Rattle.site_vector.specs.Ids.{same_tx, same_part}
 use Rattle.site_vector.specs.Order.{same_tx_is, same_tx_refl}
-use Rattle.site_vector.specs.Vector.{le, join, entry}
+use Rattle.site_vector.specs.Vector.{le, join, entry, replaced}
 use Rattle.site_vector.specs.VectorLaws.{le_trans, le_entry, join_le}
 use Rattle.crdt_core.specs.declared.object.ObjectId.{ObjectId}
 use Rattle.crdt_core.specs.declared.operation.Op.{Op}
-use Rattle.crdt_core.specs.declared.value.Value.TheVariants.{Int}
 use Rattle.crdt_core.specs.Objects.{same_object}
-use Rattle.crdt_counters.specs.CounterPn.{pn_has}
-use Rattle.crdt_counters.specs.Meaning.{amount, counter_meaning}
 use Rattle.world_model.specs.declared.command.Command.{Command}
 use Rattle.world_model.specs.declared.command.Command.TheVariants as command
 use Rattle.world_model.specs.declared.step.Step.{Step}
@@ -32,28 +27,33 @@ use Rattle.world_model.specs.Fresh.{ShowsSnapshot}
 use Rattle.world_model.specs.History.{decides, in_history, history, snapshot, commit_time, commit_vector}
 use Rattle.world_model.specs.Updates.{Change, changes}
 use Rattle.world_model.specs.Reads.{IsRight, read_by}
+use Rattle.world_model.specs.Stamps.{ShowsStamp}
 use Rattle.world_model.specs.Commit.{ShowsCommit}
 use Rattle.world_model.specs.Causes.{HasCause}
-use Rattle.world_model.proofs.Growth.{AreBegun, Leaves, AreLater, EachIs, right_grows, history_decided, vector_same}
-use Rattle.dc_engine.specs.State.{State, Open, Amount, one, transaction_at, is_open_in, with_session, own_sum, made_cluster, ticked, made_session, began, updated, ended, committed}
-use Rattle.dc_engine.specs.Describes.{Describes, KeepsLaws, IsCurrent, IsId, AreAmounts, ArePlain, added, added_by, site_if}
-use Rattle.dc_engine.proofs.ReadSums.{added_by_same, live_read, added_own}
+use Rattle.world_model.proofs.Growth.{AreBegun, Leaves, AreLater, EachIs, right_grows, stamps_grow, history_decided, vector_same}
+use Rattle.dc_engine.specs.ObjectKinds.{Effect, kinds}
+use Rattle.dc_engine.specs.State as state
+use Rattle.dc_engine.specs.State.{State, Open, Entry, one, transaction_at, is_open_in, with_session, made_cluster, ticked, made_session, began, updated, ended, committed, state_read, effect_of, stored_on}
+use Rattle.dc_engine.specs.Describes.{Describes, KeepsLaws, IsCurrent, IsId, SameObjects, Stores, Reads, site_if}
+use Rattle.dc_engine.proofs.StoredRuns.{AreTimes, stores_more, reads_more, reads_are, reads_begun, reads_mean, reads_stored, told_updated, stamp_next, told_committed, timed_on, timed_more}
 
 -- the laws of a new line
 pub record IsNewLine (run : Run) (asked : Option Command) (s : Step) : Type 0 where
   pub time : ShowsTime run asked s
   pub snapshot : ShowsSnapshot run asked s
   pub past : HoldsPast run asked s
-  pub right : IsRight counter_meaning run run asked s
+  pub right : IsRight kinds.meaning run run asked s
+  pub stamp : ShowsStamp run run asked s
   pub commit : ShowsCommit run asked s
-  pub cause : HasCause pn_has run asked s
+  pub cause : HasCause kinds.has run asked s
 
 pub laws_more : (run : Run) (e : Line) → AreBegun run → Leaves run e → KeepsLaws run → IsNewLine run e.command e.step → KeepsLaws (e ∷ run)
 laws_more run e b l k n = record {
   clock = (n.time, k.clock);
   fresh = (n.snapshot, k.fresh);
   past = (n.past, k.past);
-  right = right_grows counter_meaning run e b l k.right n.right;
+  right = right_grows kinds.meaning run e b l k.right n.right;
+  stamps = stamps_grow run e b l k.stamps n.stamp;
   commit = (n.commit, k.commit);
   causes = (n.cause, k.causes);
 }
@@ -122,15 +122,25 @@ keeps run number asked s q = off q
 leaves_kept : (run : Run) (e : Line) → Keeps run e → Leaves run e
 leaves_kept run e k = record { snapshots = λ t b. k.snapshots t; times = λ t h. k.times t; changed = λ t h. k.changed t; beyond = λ t u b n d. absurd (true≢false (sym d ∙ k.none u)) }
 
-pub same_sums : (m : State) (run : Run) (e : Line) → Describes m run → Leaves run e → (o : ObjectId) (n : ℕ) → m.sum o n ≡ added_by (e ∷ run) o (n ∷ []) (history run)
-same_sums m run e d l o n = d.sums o n ∙ sym (added_by_same run e d.are_begun l o (n ∷ []) (history run) (history_decided run))
+-- at one site a vector is a time
+pub times_of : (m : State) (run : Run) → Describes m run → AreTimes run
+times_of m run d t h =
+    let id = d.ids t (d.are_begun t h) in
+    let site : t.site ≡ 1 = ap (λ (u : TxId). u.site) id.at in
+    ap (λ v. replaced v t.site (commit_time run t)) id.reads ∙ ap (λ k. replaced (t.time ∷ []) k (commit_time run t)) site
+
+-- what an open transaction reads stays
+pub reads_in : (m : State) (run : Run) (e : Line) → Describes m run → Leaves run e → (who : List ℕ) (t : Open) → m.session who ≡ Some (Some t) → changes (e ∷ run) (transaction_at t.time) ≡ changes run (transaction_at t.time) → Reads m.stored (e ∷ run) t
+reads_in m run e d l who t h same =
+    let begun = (d.current who t h).begun in
+    reads_more m.stored run e d.are_begun l t begun (d.ids (transaction_at t.time) begun).reads same (d.reads who t h)
 
 pub current_in : (run more : Run) (who : List ℕ) (t : Open) → transaction more who ≡ transaction run who → ((u : TxId) → is_begun run u ≡ true → is_begun more u ≡ true) → changes more (transaction_at t.time) ≡ changes run (transaction_at t.time)
     → in_history more (transaction_at t.time) ≡ in_history run (transaction_at t.time) → commit_time more (transaction_at t.time) ≡ commit_time run (transaction_at t.time) → IsCurrent run who t → IsCurrent more who t
 current_in run more who t tx b cs h v k = record {
   named = tx ∙ k.named;
   begun = b (transaction_at t.time) k.begun;
-  amounts = subst (λ l. AreAmounts l t.changes) (sym cs) k.amounts;
+  objects = subst (λ l. SameObjects l t.changes) (sym cs) k.objects;
   undecided = h ∙ k.undecided;
   unvoted = v ∙ k.unvoted;
 }
@@ -159,8 +169,8 @@ kept_line m run e k d n =
         above = λ t h. ap (λ v. le v (commit_vector (e ∷ run) t)) (k.snapshots t) ∙ (ap (λ v. le (snapshot run t) v) (same t (was t h)) ∙ d.are_later.above t (was t h));
         strictly = λ t h. ap (λ v. le (commit_vector (e ∷ run) t) v) (k.snapshots t) ∙ (ap (λ v. le v (snapshot run t)) (same t (was t h)) ∙ d.are_later.strictly t (was t h));
       };
-      plain = λ t. subst ArePlain (sym (k.changed t)) (d.plain t);
-      sums = λ o n. same_sums m run e d l o n ∙ ap (added_by (e ∷ run) o (n ∷ [])) (sym k.all);
+      stores = stores_more m.stored run e d.are_begun l k.all d.stores;
+      reads = λ who t h. reads_in m run e d l who t h (k.changed (transaction_at t.time));
       unbegun = λ t h. let gone = d.unbegun t (sym (k.begun t) ∙ h) in (k.changed t ∙ gone.0, k.times t ∙ gone.1);
       laws = laws_more run e d.are_begun l d.laws n;
     }

@@ -1,10 +1,8 @@
 -- What the machine answers is a lawful run.
 use Rattle.std.proofs.Common.{arith, ◌≡◌, ◌≢◌, ◌⊎◌, inl, inr, ⊎_elim, ℕ, suc, ◌+◌, ◌<◌, ◌≤◌, Bool, true, false, not, cond, eqb, leb, ◌&&◌, ◌||◌, List, [], ◌∷◌, ◌++◌, length, Option, None, Some, refl, sym, ap, ◌∙◌, subst}
-use Rattle.std.specs.Prelude.{is_some, if◌then◌else◌, nat_le, ◌==◌, max, ℤ, pos, ◌+ℤ◌}
-use Rattle.std.specs.Int.{int_wrap, w128}
+use Rattle.std.specs.Prelude.{is_some, if◌then◌else◌, nat_le, ◌==◌, max}
 use Rattle.std.specs.Str.{bytes_eq}
 use Rattle.std.specs.List.{list_any, list_all}
-use Rattle.std.proofs.lemmas.Int.{ints}
 use Rattle.std.proofs.lemmas.Bool.{true≢false, or_left, or_right, or_cases, and_parts, and_from, ne_eqb}
 use Rattle.std.proofs.lemmas.Bool.Decides.{nat_tests}
 use Rattle.std.proofs.lemmas.Slice.Eq.{bytes_eq-Decides}
@@ -16,9 +14,7 @@ use Rattle.site_vector.specs.Vector.{le, join, entry, replaced}
 use Rattle.site_vector.specs.VectorLaws.{le_trans, le_entry, join_le}
 use Rattle.crdt_core.specs.declared.object.ObjectId.{ObjectId}
 use Rattle.crdt_core.specs.declared.operation.Op.{Op}
-use Rattle.crdt_core.specs.declared.value.Value.TheVariants.{Int}
 use Rattle.crdt_core.specs.Objects.{same_object, same_kind-true}
-use Rattle.crdt_counters.specs.Meaning.{amount, counter_meaning}
 use Rattle.world_model.specs.declared.command.Command.{Command}
 use Rattle.world_model.specs.declared.command.Command.TheVariants as command
 use Rattle.world_model.specs.declared.step.Step.{Step}
@@ -29,22 +25,23 @@ use Rattle.world_model.specs.Clock.{now, ShowsTime}
 use Rattle.world_model.specs.Sessions.{is_begun, session_site, transaction, is_open, dependency, HoldsPast}
 use Rattle.world_model.specs.Fresh.{ShowsSnapshot}
 use Rattle.world_model.specs.History.{decides, in_history, history, snapshot, commit_time, commit_vector}
-use Rattle.world_model.specs.Updates.{Change, changes}
+use Rattle.world_model.specs.Updates.{Change, changes, update_of}
 use Rattle.world_model.specs.Reads.{IsRight, IsMeant, read_by}
 use Rattle.world_model.specs.Commit.{ShowsCommit}
 use Rattle.world_model.specs.Causes.{HasCause}
 use Rattle.world_model.proofs.Growth.{AreBegun, Leaves, AreLater, EachIs, right_grows, history_decided, vector_same}
-use Rattle.dc_engine.specs.State.{State, Open, Amount, one, transaction_at, is_open_in, with_session, own_sum, made_cluster, ticked, made_session, began, updated, ended, committed}
-use Rattle.dc_engine.specs.Describes.{Describes, KeepsLaws, IsCurrent, IsId, AreAmounts, ArePlain, added, added_by, site_if}
-use Rattle.dc_engine.proofs.ReadSums.{added_by_same, live_read, added_own}
+use Rattle.dc_engine.specs.ObjectKinds.{Effect, kinds}
+use Rattle.dc_engine.specs.State as state
+use Rattle.dc_engine.specs.State.{State, Open, Entry, one, transaction_at, is_open_in, with_session, made_cluster, ticked, made_session, began, updated, ended, committed, state_read, effect_of, stored_on}
+use Rattle.dc_engine.specs.Describes.{Describes, KeepsLaws, IsCurrent, IsId, SameObjects, Stores, Reads, site_if}
+use Rattle.dc_engine.proofs.StoredRuns.{AreTimes, stores_more, reads_more, reads_are, reads_begun, reads_mean, reads_stored, told_updated, stamp_next, told_committed, timed_on, timed_more}
 use Rattle.std.specs.Prelude.{replicate}
 use Rattle.world_model.specs.Sessions.{transaction_after}
 use Rattle.world_model.specs.Fresh.{IsSnapshot}
-use Rattle.dc_engine.proofs.NewLine.{is_quiet, IsNewLine, line, laws_more, same_sums, current_in, id_in, quiet, off}
+use Rattle.dc_engine.proofs.NewLine.{is_quiet, IsNewLine, line, laws_more, reads_in, current_in, id_in, quiet, off}
 use Rattle.world_model.specs.Updates.{is_tx, changed, partition_of, changes_after}
-use Rattle.crdt_core.specs.Fits.{is_amount, fits}
+use Rattle.crdt_core.specs.Fits.{fits}
 use Rattle.crdt_core.specs.declared.object.Field.{Field}
-use Rattle.crdt_counters.specs.CounterPn.{pn_has}
 use Rattle.dc_engine.proofs.StepLines.{le_one, with_cases, same_name, leaves_plain, later_in, quiet_line}
 use Rattle.std.proofs.lemmas.Bool.{eqb-true}
 use Rattle.std.proofs.Math.Bool.{and-true}
@@ -52,14 +49,14 @@ use Rattle.world_model.specs.History.{newly_decided}
 use Rattle.world_model.specs.Commit.{participants, was_prepared, IsLead, IsVote, IsDecision}
 use Rattle.world_model.proofs.Growth.{each_weaker}
 use Rattle.dc_engine.specs.State.{is_change}
-use Rattle.dc_engine.proofs.DueRows.{participants_one, any_change, any_amounts}
+use Rattle.dc_engine.proofs.DueRows.{participants_one, any_change, any_objects}
 use Rattle.dc_engine.proofs.StepLines.{not_le_one}
 use Rattle.dc_engine.proofs.BeginLines.{false_if}
 use Rattle.crdt_core.specs.declared.kind.Kind.{Kind}
 use Rattle.crdt_core.specs.declared.kind.Kind.TheVariants as kind
 use Rattle.crdt_core.specs.declared.operation.Act.{Act}
 use Rattle.crdt_core.specs.declared.operation.Act.TheVariants as act
-use Rattle.crdt_core.specs.Kinds.{kind_at}
+use Rattle.crdt_core.specs.Kinds.{kind_at, same_kind}
 use Rattle.world_model.specs.Cluster.{has_site, has_part}
 use Rattle.world_model.specs.Sessions.{has_session, sessions_of}
 use Rattle.world_model.specs.Refusals.{refusal, refusals, unbuilt, first_due, is_built, begin_part, lacks_part, is_elsewhere, changes_of, last_time}
@@ -69,7 +66,11 @@ use Rattle.world_model.proofs.Growth.{is_strict, visible_closed}
 use Rattle.dc_engine.specs.State.{lacks_cluster, lacks_session, lacks_transaction, changes_in, dues, Acts, ActsBy, Does, DoesCommit, start}
 use Rattle.dc_engine.proofs.DueRows.{due_same, home_is}
 use Rattle.dc_engine.proofs.StepLines.{cluster_line, tick_line, session_line, value_line, ended_line}
-use Rattle.dc_engine.proofs.BeginLines.{begin_line, update_line}
+use Rattle.dc_engine.proofs.BeginLines.{begin_line, update_line, stamp_is_due, change_in}
+use Rattle.dc_engine.proofs.ToldRuns.{told_none}
+use Rattle.crdt_core.specs.Seen.{Update, is_assign}
+use Rattle.crdt_core.specs.Stamps.{stamp_due, above_all, assigns_seen, last_stamp}
+use Rattle.std.specs.Prelude.{min}
 use Rattle.dc_engine.proofs.CommitLines.{commit_lines}
 
 -- where a row is due and none before it is, its step has the property
@@ -113,30 +114,30 @@ is_refusal step.TimeEnd = true
 is_refusal step.Unbuilt = true
 is_refusal other = false
 
-refuses : (run : Run) (c : Command) (s : Step) → is_refusal s ≡ true → HasCause pn_has run (Some c) s → IsRefusal run c s
-refuses run c step.NoCluster q h = record { changes_none = refl; is_new = quiet_line run (Some c) step.NoCluster tt tt tt tt h tt }
-refuses run c step.HasCluster q h = record { changes_none = refl; is_new = quiet_line run (Some c) step.HasCluster tt tt tt tt h tt }
-refuses run c step.NoPart q h = record { changes_none = refl; is_new = quiet_line run (Some c) step.NoPart tt tt tt tt h tt }
-refuses run c step.NoSession q h = record { changes_none = refl; is_new = quiet_line run (Some c) step.NoSession tt tt tt tt h tt }
-refuses run c step.HasSession q h = record { changes_none = refl; is_new = quiet_line run (Some c) step.HasSession tt tt tt tt h tt }
-refuses run c step.NoTxn q h = record { changes_none = refl; is_new = quiet_line run (Some c) step.NoTxn tt tt tt tt h tt }
-refuses run c step.HasTxn q h = record { changes_none = refl; is_new = quiet_line run (Some c) step.HasTxn tt tt tt tt h tt }
-refuses run c step.BadOp q h = record { changes_none = refl; is_new = quiet_line run (Some c) step.BadOp tt tt tt tt h tt }
-refuses run c step.LimitSessions q h = record { changes_none = refl; is_new = quiet_line run (Some c) step.LimitSessions tt tt tt tt h tt }
-refuses run c step.LimitUpdates q h = record { changes_none = refl; is_new = quiet_line run (Some c) step.LimitUpdates tt tt tt tt h tt }
-refuses run c step.TimeEnd q h = record { changes_none = refl; is_new = quiet_line run (Some c) step.TimeEnd tt tt tt tt h tt }
-refuses run c step.Unbuilt q h = record { changes_none = refl; is_new = quiet_line run (Some c) step.Unbuilt tt tt tt tt h tt }
+refuses : (run : Run) (c : Command) (s : Step) → is_refusal s ≡ true → HasCause kinds.has run (Some c) s → IsRefusal run c s
+refuses run c step.NoCluster q h = record { changes_none = refl; is_new = quiet_line run (Some c) step.NoCluster tt tt tt tt h tt tt }
+refuses run c step.HasCluster q h = record { changes_none = refl; is_new = quiet_line run (Some c) step.HasCluster tt tt tt tt h tt tt }
+refuses run c step.NoPart q h = record { changes_none = refl; is_new = quiet_line run (Some c) step.NoPart tt tt tt tt h tt tt }
+refuses run c step.NoSession q h = record { changes_none = refl; is_new = quiet_line run (Some c) step.NoSession tt tt tt tt h tt tt }
+refuses run c step.HasSession q h = record { changes_none = refl; is_new = quiet_line run (Some c) step.HasSession tt tt tt tt h tt tt }
+refuses run c step.NoTxn q h = record { changes_none = refl; is_new = quiet_line run (Some c) step.NoTxn tt tt tt tt h tt tt }
+refuses run c step.HasTxn q h = record { changes_none = refl; is_new = quiet_line run (Some c) step.HasTxn tt tt tt tt h tt tt }
+refuses run c step.BadOp q h = record { changes_none = refl; is_new = quiet_line run (Some c) step.BadOp tt tt tt tt h tt tt }
+refuses run c step.LimitSessions q h = record { changes_none = refl; is_new = quiet_line run (Some c) step.LimitSessions tt tt tt tt h tt tt }
+refuses run c step.LimitUpdates q h = record { changes_none = refl; is_new = quiet_line run (Some c) step.LimitUpdates tt tt tt tt h tt tt }
+refuses run c step.TimeEnd q h = record { changes_none = refl; is_new = quiet_line run (Some c) step.TimeEnd tt tt tt tt h tt tt }
+refuses run c step.Unbuilt q h = record { changes_none = refl; is_new = quiet_line run (Some c) step.Unbuilt tt tt tt tt h tt tt }
 refuses run c s q h = off q
 
 -- each row has its cause
 module _ (run : Run) where
-  unbuilt_row : (c : Command) → not (is_built pn_has c) ≡ true → IsRefusal run c step.Unbuilt
-  unbuilt_row c h = refuses run c step.Unbuilt refl (not_true (is_built pn_has c) h)
+  unbuilt_row : (c : Command) → not (is_built kinds.has c) ≡ true → IsRefusal run c step.Unbuilt
+  unbuilt_row c h = refuses run c step.Unbuilt refl (not_true (is_built kinds.has c) h)
 
   cluster_row : (c : Command) → not (has_cluster run) ≡ true → IsRefusal run c step.NoCluster
   cluster_row c h = refuses run c step.NoCluster refl (not_true (has_cluster run) h)
 
-  rows_owed : (c : Command) → Owe (IsRefusal run c) (unbuilt pn_has c ∷ refusals run c)
+  rows_owed : (c : Command) → Owe (IsRefusal run c) (unbuilt kinds.has c ∷ refusals run c)
   rows_owed (command.Cluster sites parts) = let c = command.Cluster sites parts in (unbuilt_row c, λ b. (λ h. refuses run c step.HasCluster refl h, λ z. tt))
   rows_owed (command.Clock p n) =
       let c = command.Clock p n in
@@ -226,11 +227,11 @@ module _ (run : Run) where
 
 -- what a command's answer owes to the run
 pub record Goes (run : Run) (number : ℕ) (c : Command) (steps : List Step) (new : State) : Type 0 where
-  pub answer : IsAnswer pn_has run c steps
+  pub answer : IsAnswer kinds.has run c steps
   pub after : Describes new (answered number (Some c) steps run)
 
 pub unread : (m : State) (run : Run) (number : ℕ) → Describes m run → Describes m (answered number None (step.Bad ∷ []) run)
-unread m run number d = quiet m run number None step.Bad refl d (quiet_line run None step.Bad tt tt tt tt refl tt)
+unread m run number d = quiet m run number None step.Bad refl d (quiet_line run None step.Bad tt tt tt tt refl tt tt)
 
 none_due : (r : Bool × Step) (rows : List (Bool × Step)) → first_due (r ∷ rows) ≡ None → (r.0 ≡ false) × (first_due rows ≡ None)
 none_due r rows h = elim r.0 as (λ b. (if b then Some r.1 else first_due rows) ≡ None → (b ≡ false) × (first_due rows ≡ None)) [ true ↦ λ q. cc | false ↦ λ q. (refl, q) ] h
@@ -244,17 +245,34 @@ gone_is : (o : Option (Option Open)) → is_some o ≡ false → o ≡ None
 gone_is None h = refl
 gone_is (Some t) h = absurd (true≢false h)
 
--- the operations of the counter are amounts
-amount_fits : (k : Kind) (p : List Field) (a : Act) → pn_has k ≡ true → fits k p a ≡ true → is_amount a ≡ true
-amount_fits k p a h f =
-    let at : List Field → Type 0 = λ q. fits kind.CounterPn q a ≡ true → is_amount a ≡ true in
-    elim p as at [ [] ↦ λ e. e | f ∷ q ↦ λ e. off (and_parts (nat_le (length (f ∷ q)) 3) false e).1 ] (subst (λ l. fits l p a ≡ true) (same_kind-true k kind.CounterPn h) f)
+-- exactly an assign to a register that the last writer wins has a stamp
+some_if : (b : Bool) (n : ℕ) → is_some (if b then Some n else None) ≡ b
+some_if true n = refl
+some_if false n = refl
 
-unstamped : (k : Kind) (a : Act) → is_amount a ≡ true → false ≡ is_stamped k a
-unstamped kind.RegisterLww (act.Increment n) h = refl
-unstamped kind.RegisterLww (act.Decrement n) h = refl
-unstamped kind.RegisterLww a h = off h
-unstamped k a h = refl
+none_kind : (b : Bool) → (b && false) ≡ false
+none_kind true = refl
+none_kind false = refl
+
+assigned : (a : Act) → (is_assign a && true) ≡ is_stamped kind.RegisterLww a
+assigned (act.Assign text) = refl
+assigned a = refl
+
+stamped_is : (k : Kind) (a : Act) → (is_assign a && same_kind k kind.RegisterLww) ≡ is_stamped k a
+stamped_is kind.CounterPn a = none_kind (is_assign a)
+stamped_is kind.CounterFat a = none_kind (is_assign a)
+stamped_is kind.SetGo a = none_kind (is_assign a)
+stamped_is kind.SetAw a = none_kind (is_assign a)
+stamped_is kind.SetRw a = none_kind (is_assign a)
+stamped_is kind.FlagEw a = none_kind (is_assign a)
+stamped_is kind.FlagDw a = none_kind (is_assign a)
+stamped_is kind.RegisterLww a = assigned a
+stamped_is kind.RegisterMv a = none_kind (is_assign a)
+stamped_is kind.MapGo a = none_kind (is_assign a)
+stamped_is kind.MapRr a = none_kind (is_assign a)
+
+due_stamped : (k : Kind) (us : List Update) (u : Update) (stamp : Option ℕ) → stamp ≡ stamp_due k us u → is_some stamp ≡ is_stamped (kind_at k u.path) u.act
+due_stamped k us u stamp e = ap is_some e ∙ (some_if (is_assign u.act && same_kind (kind_at k u.path) kind.RegisterLww) (min last_stamp (above_all u.now (assigns_seen u us))) ∙ stamped_is (kind_at k u.path) u.act)
 
 numbers_one : (a b : ℕ) → (a == 1 && b == 1) ≡ true → (a ≡ 1) × (b ≡ 1)
 numbers_one a b h = let two = and_parts (a == 1) (b == 1) h in (eqb-true a 1 two.0, eqb-true b 1 two.1)
@@ -264,13 +282,13 @@ module _ (m : State) (run : Run) (number : ℕ) (d : Describes m run) where
   goes_as : (c : Command) (steps shows : List Step) (new next : State) → steps ≡ shows → new ≡ next → Goes run number c shows next → Goes run number c steps new
   goes_as c steps shows new next s n g = subst (λ l. Goes run number c l new) (sym s) (subst (Goes run number c shows) (sym n) g)
 
-  replies : (c : Command) (steps : List Step) → refusal pn_has run c ≡ None → Replies run c steps → IsAnswer pn_has run c steps
+  replies : (c : Command) (steps : List Step) → refusal kinds.has run c ≡ None → Replies run c steps → IsAnswer kinds.has run c steps
   replies c steps h r = subst (AnswersBy run c steps) (sym h) r
 
-  commit_goes : (name : List ℕ) (t : Open) → m.made ≡ true → m.session name ≡ Some (Some t) → refusal pn_has run (command.Commit name None) ≡ None → (cs : List Amount) → cs ≡ t.changes → (steps : List Step) (new : State) → DoesCommit m name t cs steps new → Goes run number (command.Commit name None) steps new
+  commit_goes : (name : List ℕ) (t : Open) → m.made ≡ true → m.session name ≡ Some (Some t) → refusal kinds.has run (command.Commit name None) ≡ None → (cs : List state.Change) → cs ≡ t.changes → (steps : List Step) (new : State) → DoesCommit m name t cs steps new → Goes run number (command.Commit name None) steps new
   commit_goes name t made is_now_open none [] e steps new h =
       let cur = d.current name t is_now_open in
-      let nobody : participants run (transaction_at t.time) ≡ [] = participants_one run t.time (d.parts made) ∙ ap (λ b. if b then one ∷ [] else []) (any_amounts (changes run (transaction_at t.time)) t.changes cur.amounts ∙ ap is_change (sym e)) in
+      let nobody : participants run (transaction_at t.time) ≡ [] = participants_one run t.time (d.parts made) ∙ ap (λ b. if b then one ∷ [] else []) (any_objects (changes run (transaction_at t.time)) t.changes cur.objects ∙ ap is_change (sym e)) in
       goes_as (command.Commit name None) steps (step.Ended name ∷ []) new (ended m name) h.0 h.1 (record {
         answer = replies (command.Commit name None) (step.Ended name ∷ []) none (subst (λ u. Commits run name u (step.Ended name ∷ [])) (sym cur.named) (subst (λ ps. CommitsAt name (transaction_at t.time) ps (step.Ended name ∷ [])) (sym nobody) refl));
         after = ended_line m run number (Some (command.Commit name None)) name (Some t) is_now_open d;
@@ -280,14 +298,14 @@ module _ (m : State) (run : Run) (number : ℕ) (d : Describes m run) where
       let x = transaction_at t.time in
       let n = m.now + 1 in
       let some : is_change t.changes ≡ true = ap is_change (sym e) in
-      let voter : participants run x ≡ one ∷ [] = participants_one run t.time (d.parts made) ∙ ap (λ b. if b then one ∷ [] else []) (any_amounts (changes run x) t.changes cur.amounts ∙ some) in
+      let voter : participants run x ≡ one ∷ [] = participants_one run t.time (d.parts made) ∙ ap (λ b. if b then one ∷ [] else []) (any_objects (changes run x) t.changes cur.objects ∙ some) in
       let lines = step.Prepared one x n ∷ step.Decided one x (n ∷ []) ∷ step.Ended name ∷ [] in
       goes_as (command.Commit name None) steps lines new (committed m name t) h.0 h.1 (record {
         answer = replies (command.Commit name None) lines none (subst (λ u. Commits run name u lines) (sym cur.named) (subst (λ ps. CommitsAt name x ps lines) (sym voter) (step.Prepared one x n ∷ [], n ∷ [], (n, [], refl, refl), refl)));
         after = commit_lines m run number (Some (command.Commit name None)) name t made is_now_open some d;
       })
 
-  does_goes : (c : Command) (steps : List Step) (new : State) → is_built pn_has c ≡ true → refusal pn_has run c ≡ None → first_due (dues m c) ≡ None → Does m c steps new → Goes run number c steps new
+  does_goes : (c : Command) (steps : List Step) (new : State) → is_built kinds.has c ≡ true → refusal kinds.has run c ≡ None → first_due (dues m c) ≡ None → Does m c steps new → Goes run number c steps new
   does_goes (command.Cluster sites parts) steps new b none due h =
       let ones = numbers_one sites parts b in
       goes_as (command.Cluster sites parts) steps (step.MadeCluster sites parts ∷ []) new (made_cluster m) h.0 h.1 (record {
@@ -324,10 +342,10 @@ module _ (m : State) (run : Run) (number : ℕ) (d : Describes m run) where
       })
   does_goes (command.Begin name (Some p)) steps new b none due h = off b
   does_goes (command.Read name o) steps new b none due h =
-      let v = Int (int_wrap w128 (m.sum o h.0.time +ℤ own_sum o h.0.changes)) in
+      let v = kinds.value_of (state_read m o h.0) in
       goes_as (command.Read name o) steps (step.Value name o v ∷ []) new m h.2 h.3 (record {
         answer = replies (command.Read name o) (step.Value name o v ∷ []) none (v, refl);
-        after = value_line m run number (Some (command.Read name o)) name o h.0 h.1 d;
+        after = value_line m run number (Some (command.Read name o)) name o h.0 b h.1 d;
       })
   does_goes (command.Update name o op) steps new b none due h =
       let limit : List (Bool × Step) = (length (changes_in (m.session name)) == 256, step.LimitUpdates) ∷ [] in
@@ -335,10 +353,14 @@ module _ (m : State) (run : Run) (number : ℕ) (d : Describes m run) where
       let first = none_due (lacks_cluster m) (lacks_session m name ∷ lacks_transaction m name ∷ op_row ∷ limit) due in
       let second = none_due (lacks_session m name) (lacks_transaction m name ∷ op_row ∷ limit) first.1 in
       let third = none_due (lacks_transaction m name) (op_row ∷ limit) second.1 in
-      let amounts : is_amount op.act ≡ true = amount_fits o.kind op.path op.act b (not_false (fits o.kind op.path op.act) (none_due op_row limit third.1).0) in
-      goes_as (command.Update name o op) steps (step.Updated name o None ∷ []) new (updated m name h.0 (o, amount op.act)) h.2 h.3 (record {
-        answer = replies (command.Update name o op) (step.Updated name o None ∷ []) none (None, unstamped (kind_at o.kind op.path) op.act amounts, refl);
-        after = update_line m run number name o op h.0 amounts h.1 d;
+      let fit = not_false (fits o.kind op.path op.act) (none_due op_row limit third.1).0 in
+      let made = not_false m.made first.0 in
+      let effect = effect_of m o op h.0 in
+      let stamp = kinds.stamp_of effect in
+      let due_now = stamp_is_due m run name o op h.0 made b fit h.1 d in
+      goes_as (command.Update name o op) steps (step.Updated name o stamp ∷ []) new (updated m name h.0 (o, effect)) h.2 h.3 (record {
+        answer = replies (command.Update name o op) (step.Updated name o stamp ∷ []) none (stamp, due_stamped o.kind _ (update_of run (transaction_at h.0.time) (1 + length (changes run (transaction_at h.0.time))) (change_in run h.0.time o op stamp)) stamp due_now, refl);
+        after = update_line m run number name o op h.0 made b fit h.1 d;
       })
   does_goes (command.Commit name None) steps new b none due h =
       let first = none_due (lacks_cluster m) (lacks_session m name ∷ lacks_transaction m name ∷ (is_change (changes_in (m.session name)) && m.now == last_time, step.TimeEnd) ∷ []) due in
@@ -346,39 +368,40 @@ module _ (m : State) (run : Run) (number : ℕ) (d : Describes m run) where
   does_goes (command.Commit name (Some k)) steps new b none due h = off b
   does_goes c steps new b none due h = off b
 
-  refused_goes : (c : Command) (r : Step) (steps : List Step) (new : State) → refusal pn_has run c ≡ Some r → steps ≡ r ∷ [] → new ≡ m → Goes run number c steps new
+  refused_goes : (c : Command) (r : Step) (steps : List Step) (new : State) → refusal kinds.has run c ≡ Some r → steps ≡ r ∷ [] → new ≡ m → Goes run number c steps new
   refused_goes c r steps new e s n =
-      let is = owed (IsRefusal run c) (unbuilt pn_has c ∷ refusals run c) (rows_owed run c) r e in
+      let is = owed (IsRefusal run c) (unbuilt kinds.has c ∷ refusals run c) (rows_owed run c) r e in
       goes_as c steps (r ∷ []) new m s n (record {
         answer = subst (AnswersBy run c (r ∷ [])) (sym e) refl;
         after = quiet m run number (Some c) r is.changes_none d is.is_new;
       })
 
   -- the same is due where the command is built, and else that it isn't
-  all_due : (c : Command) → refusal pn_has run c ≡ first_due ((not (is_built pn_has c), step.Unbuilt) ∷ dues m c)
+  all_due : (c : Command) → refusal kinds.has run c ≡ first_due ((not (is_built kinds.has c), step.Unbuilt) ∷ dues m c)
   all_due c =
-      elim (is_built pn_has c) as (λ b. is_built pn_has c ≡ b → first_due ((not b, step.Unbuilt) ∷ refusals run c) ≡ first_due ((not b, step.Unbuilt) ∷ dues m c)) [
+      elim (is_built kinds.has c) as (λ b. is_built kinds.has c ≡ b → first_due ((not b, step.Unbuilt) ∷ refusals run c) ≡ first_due ((not b, step.Unbuilt) ∷ dues m c)) [
         | true ↦ λ e. due_same m run d c e
         | false ↦ λ e. refl
       ] refl
 
-  by_due : (c : Command) (steps : List Step) (new : State) (r : Option Step) → first_due ((not (is_built pn_has c), step.Unbuilt) ∷ dues m c) ≡ r → ActsBy m c steps new r → Goes run number c steps new
+  by_due : (c : Command) (steps : List Step) (new : State) (r : Option Step) → first_due ((not (is_built kinds.has c), step.Unbuilt) ∷ dues m c) ≡ r → ActsBy m c steps new r → Goes run number c steps new
   by_due c steps new None e a =
-      let two = none_due (not (is_built pn_has c), step.Unbuilt) (dues m c) e in
-      does_goes c steps new (not_false (is_built pn_has c) two.0) (all_due c ∙ e) two.1 a
+      let two = none_due (not (is_built kinds.has c), step.Unbuilt) (dues m c) e in
+      does_goes c steps new (not_false (is_built kinds.has c) two.0) (all_due c ∙ e) two.1 a
   by_due c steps new (Some r) e a = refused_goes c r steps new (all_due c ∙ e) a.0 a.1
 
   -- an answer of the machine goes on with the run
   pub acts_goes : (c : Command) (steps : List Step) (new : State) → Acts m c steps new → Goes run number c steps new
-  acts_goes c steps new a = by_due c steps new (first_due ((not (is_built pn_has c), step.Unbuilt) ∷ dues m c)) refl a
+  acts_goes c steps new a = by_due c steps new (first_due ((not (is_built kinds.has c), step.Unbuilt) ∷ dues m c)) refl a
 
 -- such a run is lawful
-pub lawful : (m : State) (run : Run) → Describes m run → IsLawful pn_has counter_meaning run
+pub lawful : (m : State) (run : Run) → Describes m run → IsLawful kinds.has kinds.meaning run
 lawful m run d = record {
   clock = d.laws.clock;
   fresh = d.laws.fresh;
   past = d.laws.past;
   right = d.laws.right;
+  stamps = d.laws.stamps;
   commit = d.laws.commit;
   causes = d.laws.causes;
   order = is_strict run d.are_later;
@@ -401,8 +424,8 @@ begins_empty = record {
   ids = λ t b. off b;
   are_begun = λ t h. off h;
   are_later = record { above = λ t h. off h; strictly = λ t h. off h };
-  plain = λ t. tt;
-  sums = λ o n. refl;
+  stores = record { told = λ o. told_none kinds o.kind; timed = λ o. tt };
+  reads = λ who t h. cc;
   unbegun = λ t h. (refl, refl);
-  laws = record { clock = tt; fresh = tt; past = tt; right = tt; commit = tt; causes = tt };
+  laws = record { clock = tt; fresh = tt; past = tt; right = tt; stamps = tt; commit = tt; causes = tt };
 }

@@ -4,8 +4,10 @@ pub mod Causes
 pub mod Describes
 pub mod Held
 pub mod Lines
+pub mod Logged
 pub mod Machine
 pub mod Memory
+pub mod ObjectKinds
 pub mod Played
 pub mod Player
 pub mod Reading
@@ -14,4 +16,5 @@ pub mod SessionTable
 pub mod State
 pub mod Status
 pub mod Stored
+pub mod Told
 pub mod Words
