@@ -1,4 +1,5 @@
 pub mod Acting
+pub mod Applied
 pub mod BeginLines
 pub mod CommitLines
 pub mod DueRows
@@ -6,14 +7,13 @@ pub mod HeldState
 pub mod LoggedRuns
 pub mod Moves
 pub mod NewLine
-pub mod Objects
+pub mod ObjectKeys
 pub mod PlayedBy
 pub mod Progress
 pub mod Readings
 pub mod RunLines
 pub mod Standing
 pub mod StepLines
-pub mod Sums
 pub mod StoredRuns
 pub mod Takes
 pub mod ToldRuns

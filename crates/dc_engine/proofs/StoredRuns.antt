@@ -105,11 +105,13 @@ upto_sight run v s (x ∷ xs) a =
 
 closed_sight : (run : Run) → AreLater run → (v : List ℕ) (us : List Update) → EachUpdate (IsOf run (in_history run)) us → IsClosed (of_these (visible run v)) us
 closed_sight run later v [] h = tt
-closed_sight run later v (u ∷ us) h =
-    (λ seen d s. ⊎_elim
-    (λ (x : precedes run d.tx u.dot.tx ≡ true). visible_closed run later v d.tx u.dot.tx seen x)
-    (λ (x : (same_tx d.tx u.dot.tx && nat_lt d.index u.dot.index) ≡ true). subst (λ w. visible run v w ≡ true) (sym (same_tx_is d.tx u.dot.tx (and_parts (same_tx d.tx u.dot.tx) (nat_lt d.index u.dot.index) x).0)) seen)
-    (or_cases (precedes run d.tx u.dot.tx) (same_tx d.tx u.dot.tx && nat_lt d.index u.dot.index) (sym (h.0.saw d) ∙ s)), closed_sight run later v us h.1)
+closed_sight run later v (u ∷ us) h = (
+  λ seen d s. ⊎_elim
+      (λ (x : precedes run d.tx u.dot.tx ≡ true). visible_closed run later v d.tx u.dot.tx seen x)
+      (λ (x : (same_tx d.tx u.dot.tx && nat_lt d.index u.dot.index) ≡ true). subst (λ w. visible run v w ≡ true) (sym (same_tx_is d.tx u.dot.tx (and_parts (same_tx d.tx u.dot.tx) (nat_lt d.index u.dot.index) x).0)) seen)
+      (or_cases (precedes run d.tx u.dot.tx) (same_tx d.tx u.dot.tx && nat_lt d.index u.dot.index) (sym (h.0.saw d) ∙ s)),
+  closed_sight run later v us h.1,
+)
 
 abbrev everything : Run → ObjectId → List Update
 everything run o = logged run o (history run)

@@ -1,7 +1,6 @@
 -- What the program promises of the bytes that it writes.
 use Rattle.std.specs.Prelude.{◌≡◌, ℕ, Bool, List, map, reverse}
-use Rattle.crdt_counters.specs.CounterPn.{pn_has}
-use Rattle.crdt_counters.specs.Meaning.{counter_meaning}
+use Rattle.dc_engine.specs.ObjectKinds.{kinds}
 use Rattle.world_model.specs.Run.{Run, lines_of}
 use Rattle.world_model.specs.Answers.{Answers}
 use Rattle.world_model.specs.Lawful.{IsLawful}
@@ -11,8 +10,8 @@ use Rattle.dc_engine.specs.Held.{spelled}
 -- these bytes are the lines of one lawful run that answers these lines of a script, the first first
 pub record Answered (lines : List (List ℕ)) (bytes : List ℕ) : Type 0 where
   pub run : Run
-  pub answers : Answers pn_has (reverse (map asked_of lines)) run
-  pub lawful : IsLawful pn_has counter_meaning run
+  pub answers : Answers kinds.has (reverse (map asked_of lines)) run
+  pub lawful : IsLawful kinds.has kinds.meaning run
   pub written : bytes ≡ lines_of spelled run
 
 -- and `bad` says whether one of these lines isn't in the grammar

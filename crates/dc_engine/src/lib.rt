@@ -8,6 +8,7 @@ mod kept;
 mod lines;
 mod machine;
 mod memory;
+mod objects;
 mod player;
 mod reading;
 mod responder;

@@ -1,15 +1,13 @@
-ghost use Rattle.std.specs.Prelude.{◌≡◌, ◌≤◌, ◌<◌, ◌^◌, ℕ, List, [], ◌∷◌, ◌++◌, length, take, Option, Some, None, false, true, IfOk, OnOk, OnErr, ◌+ℤ◌};
-ghost use Rattle.std.specs.Int.{int_wrap, w128};
+ghost use Rattle.std.specs.Prelude.{◌≡◌, ◌≤◌, ◌<◌, ◌^◌, ℕ, List, [], ◌∷◌, ◌++◌, length, take, Option, Some, None, false, true, IfOk, OnOk, OnErr};
 ghost use Rattle.world_model.specs.Refusals.{is_built as is_built_lem};
-ghost use Rattle.crdt_counters.specs.CounterPn.{pn_has};
-ghost use Rattle.crdt_counters.specs.Meaning.{amount};
-ghost use Rattle.dc_engine.specs.Stored.{stored, sum_upto, own_sum};
+ghost use Rattle.dc_engine.specs.ObjectKinds.{kinds};
+ghost use Rattle.dc_engine.specs.Stored.{state_in};
 ghost use Rattle.dc_engine.specs.State.{transaction_at};
 
+use crate::objects::{Effect, ObjectState, Objects};
 use crate::sessions::{Change, Sessions, Transaction, close, create, note, open};
-use crate::store::{Store, add_own, add_stored, store_all};
-use crdt_core::{Act, Crdt, ObjectId, Op, Value, fits_at};
-use crdt_counters::{CounterPn, amount_of};
+use crate::store::{Store, apply_own, apply_stored, store_all};
+use crdt_core::{Crdt, ObjectId, Op, Value, fits_at};
 use field_codec::Text;
 use indexmap::IndexMap;
 use site_vector::{PartId, TxId, VTime};
@@ -41,7 +39,7 @@ pub(crate) struct Machine {
 
 impl Machine {
     ghost use Rattle.std.specs.Prelude.{◌≡◌, ◌≤◌, ◌<◌, ◌^◌, ℕ, List, [], ◌∷◌, length, take, Option, Some, None, false, true, IfOk, OnOk, OnErr};
-    ghost use Rattle.crdt_counters.specs.CounterPn.{pn_has};
+    ghost use Rattle.dc_engine.specs.ObjectKinds.{kinds};
     ghost use Rattle.dc_engine.specs.Reading.{ReadsBelow};
     ghost use Rattle.site_vector.specs.declared.ids.PartId.{PartId};
     ghost use Rattle.world_model.specs.Refusals.{is_built};
@@ -81,7 +79,7 @@ impl Machine {
 
     /// Answers a command that is built.
     fn act(&mut self, command: Command) -> Result<Vec<Step>, AllocError>
-        requires built { is_built pn_has command ≡ true }
+        requires built { is_built kinds.has command ≡ true }
         requires below { ReadsBelow command }
         ensures { IfOk result (λ steps. Acts self.old command steps.items self.new) }
     {
@@ -200,6 +198,7 @@ impl Machine {
     }
 
     fn update(&mut self, name: Text, object: ObjectId, op: Op) -> Result<Vec<Step>, AllocError>
+        requires { kinds.has object.kind ≡ true }
         ensures { IfOk result (λ steps. Acts self.old (Command.Update name object op) steps.items self.new) }
     {
         if !self.made {
@@ -215,29 +214,38 @@ impl Machine {
                 if transaction.changes().len() == MOST_UPDATES {
                     return only(self.alloc, Step::LimitUpdates);
                 }
-                self.note_update(name, object, &op.act)
+                let effect = effect_of(
+                    self.alloc,
+                    &self.store,
+                    transaction,
+                    &object,
+                    &op,
+                    self.now,
+                )?;
+                self.note_update(name, object, effect)
             }
         }
     }
 
-    /// Notes an update of a session that is open and may make another.
+    /// Notes an update with this effect, of a session that is open and may make another.
     fn note_update(
         &mut self,
         name: Text,
         object: ObjectId,
-        act: &Act,
+        effect: Effect,
     ) -> Result<Vec<Step>, AllocError>
         requires { (t : ℕ × List Change) → session_in self.old name ≡ Some (Some t) → length t.1 < 256 }
-        ensures { (t : ℕ × List Change) → session_in self.old name ≡ Some (Some t) → IfOk result (λ lines. NotesUpdate self.old name object act.now t lines.items self.new) }
+        ensures { (t : ℕ × List Change) → session_in self.old name ≡ Some (Some t) → IfOk result (λ lines. NotesUpdate self.old name object effect t lines.items self.new) }
     {
-        let change = change_of(self.alloc, &object, act)?;
+        let stamp = Objects::stamp(&effect);
+        let change = change_of(self.alloc, &object, effect)?;
         note(&mut self.sessions, &name, change)?;
         only(
             self.alloc,
             Step::Updated {
                 name,
                 object,
-                stamp: None,
+                stamp,
             },
         )
     }
@@ -288,14 +296,14 @@ impl Machine {
 
 /// Whether a command is built yet.
 fn is_built(command: &Command) -> bool
-    ensures { result ≡ is_built_lem pn_has command.now }
+    ensures { result ≡ is_built_lem kinds.has command.now }
 {
     match command {
         Command::Cluster { sites, parts } => *sites == 1 && *parts == 1,
         Command::Clock { .. } | Command::Session { .. } => true,
         Command::Begin { part, .. } => part.is_none(),
         Command::Read { object, .. } | Command::Update { object, .. } => {
-            CounterPn::has(object.kind)
+            Objects::has(object.kind)
         }
         Command::Commit { steps, .. } => steps.is_none(),
         _ => false,
@@ -320,35 +328,68 @@ fn vector_at(time: u64) -> VTime
     VTime::zero(1).with(1, time)
 }
 
-/// The change that an act makes.
-fn change_of(alloc: Global, object: &ObjectId, act: &Act) -> Result<Change, AllocError>
-    ensures { IfOk result (λ c. c ≡ record { object = object.now; effect = amount act.now }) }
+/// A change of an object.
+fn change_of(alloc: Global, object: &ObjectId, effect: Effect) -> Result<Change, AllocError>
+    ensures { IfOk result (λ c. c ≡ record { object = object.now; effect = effect }) }
 {
     let object = object.copy(alloc)?;
-    let effect = amount_of(act);
     Ok(Change { object, effect })
 }
 
-/// What a transaction reads of an object: what had committed when it began, and its own changes.
+/// The state of an object as a transaction reads it: what had committed when it began, and its own changes.
+fn read_state(
+    alloc: Global,
+    store: &Store,
+    transaction: &Transaction,
+    object: &ObjectId,
+) -> Result<ObjectState, AllocError>
+    ensures { IfOk result (λ s. s ≡ state_in store.now.entries object.now (transaction_at transaction.now.0) transaction.now) }
+{
+    let mut state = Objects::empty(alloc, object.kind)?;
+    let time = transaction.time();
+    apply_stored(alloc, &mut state, store, object, time)?;
+    apply_own(
+        alloc,
+        &mut state,
+        tx_at(time),
+        transaction.changes(),
+        object,
+    )?;
+    Ok(state)
+}
+
+/// What a transaction reads of an object.
 fn value_of(
     alloc: Global,
     store: &Store,
     transaction: &Transaction,
     object: &ObjectId,
 ) -> Result<Value, AllocError>
-    ensures { IfOk result (λ v. v ≡ Value.Int (int_wrap w128 (sum_upto transaction.now.0 (stored store.now.entries object.now) +ℤ own_sum object.now transaction.now.1))) }
+    ensures { IfOk result (λ v. v ≡ kinds.value_of (state_in store.now.entries object.now (transaction_at transaction.now.0) transaction.now)) }
 {
-    let mut total = 0;
-    let time = transaction.time();
-    add_stored(alloc, &mut total, store, object, time)?;
-    add_own(
-        alloc,
-        &mut total,
-        tx_at(time),
-        transaction.changes(),
-        object,
-    )?;
-    Ok(Value::Int(total))
+    let state = read_state(alloc, store, transaction, object)?;
+    Objects::value(alloc, &state)
+}
+
+/// The effect of an operation that is one of the kind, on what a transaction reads of the object.
+fn effect_of(
+    alloc: Global,
+    store: &Store,
+    transaction: &Transaction,
+    object: &ObjectId,
+    op: &Op,
+    now: u64,
+) -> Result<Effect, AllocError>
+    requires has { kinds.has object.now.kind ≡ true }
+    ensures { IfOk result (λ e. e ≡ kinds.made object.now.kind (state_in store.now.entries object.now (transaction_at transaction.now.0) transaction.now) op.now.path op.now.act now) }
+{
+    let state = read_state(alloc, store, transaction, object)?;
+    let path = op.path.as_slice();
+    // the operation fits, so that only memory may be wanting
+    match Objects::generate(alloc, object.kind, path, &op.act, &state, now) {
+        Ok(effect) => Ok(effect),
+        Err(_) => Err(AllocError),
+    }
 }
 
 /// One line.

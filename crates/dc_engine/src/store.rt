@@ -1,22 +1,22 @@
-ghost use Rattle.std.specs.Prelude.{◌≡◌, ◌≤◌, nat_le, ◌++◌, ◌∷◌, [], ℤ, ◌+ℤ◌, length, OnOk, if◌then◌else◌};
-ghost use Rattle.std.specs.Int.{int_wrap, w128};
+ghost use Rattle.std.specs.Prelude.{◌≡◌, ◌≤◌, nat_le, ◌++◌, ◌∷◌, [], length, OnOk, if◌then◌else◌};
 ghost use Rattle.crdt_core.specs.declared.object.ObjectId.{ObjectId};
 ghost use Rattle.crdt_core.specs.Objects.{same_object};
-ghost use Rattle.dc_engine.specs.Stored.{stored, committed_of, sum_upto, own_sum};
+ghost use Rattle.dc_engine.specs.ObjectKinds.{kinds};
+ghost use Rattle.dc_engine.specs.Stored.{stored, committed_of, applied_upto, applied_own};
 
+use crate::objects::{Effect, ObjectState, Objects};
 use crate::sessions::Change;
 use crdt_core::{Crdt, ObjectId};
-use crdt_counters::CounterPn;
 use indexmap::IndexMap;
 use site_vector::{Dot, TxId};
 use std::alloc::{AllocError, Global};
 
 /// An update of a committed transaction, with its commit time in ticks.
-#[derive(Debug, Drop)]
+#[derive(Drop)]
 pub(crate) struct Committed {
     pub(crate) dot: Dot,
     pub(crate) time: u64,
-    pub(crate) effect: i64,
+    pub(crate) effect: Effect,
 }
 
 /// The committed updates of each object, in the order of their commits.
@@ -70,92 +70,87 @@ fn store_change(
 ) -> Result<(), AllocError>
     ensures { OnOk result ((o : ObjectId) → stored store.new.entries o ≡ (if same_object change.now.object o then stored store.old.entries o ++ (record { dot = dot; time = time; effect = change.now.effect }) ∷ [] else stored store.old.entries o)) }
 {
-    let update = Committed {
-        dot,
-        time,
-        effect: change.effect,
-    };
+    let effect = Objects::copy_effect(alloc, &change.effect)?;
+    let update = Committed { dot, time, effect };
     store_update(store, alloc, &change.object, update)
 }
 
-/// Adds to a total the updates of an object that committed up to a time.
-pub(crate) fn add_stored(
+/// Applies the updates of an object that committed up to a time.
+pub(crate) fn apply_stored(
     alloc: Global,
-    total: &mut i128,
+    state: &mut ObjectState,
     store: &Store,
     object: &ObjectId,
     upto: u64,
 ) -> Result<(), AllocError>
-    ensures { OnOk result ((z : ℤ) → total.old ≡ int_wrap w128 z → total.new ≡ int_wrap w128 (z +ℤ sum_upto upto (stored store.now.entries object.now))) }
+    ensures { OnOk result (state.new ≡ applied_upto upto state.old (stored store.now.entries object.now)) }
 {
     match store.get(object) {
-        Some(updates) => add_visible(alloc, total, updates, upto),
+        Some(updates) => apply_visible(alloc, state, updates, upto),
         None => Ok(()),
     }
 }
 
-/// Adds to a total the updates that committed up to a time.
-
-fn add_visible(
+/// Applies the updates that committed up to a time.
+fn apply_visible(
     alloc: Global,
-    total: &mut i128,
+    state: &mut ObjectState,
     updates: &[Committed],
     upto: u64,
 ) -> Result<(), AllocError>
-    ensures { OnOk result ((z : ℤ) → total.old ≡ int_wrap w128 z → total.new ≡ int_wrap w128 (z +ℤ sum_upto upto updates.now)) }
+    ensures { OnOk result (state.new ≡ applied_upto upto state.old updates.now) }
 {
     for update in updates {
-        add_if_visible(alloc, total, update, upto)?;
+        apply_if_visible(alloc, state, update, upto)?;
     }
     Ok(())
 }
 
-/// Adds an update to a total where it committed up to a time.
-fn add_if_visible(
+/// Applies an update where it committed up to a time.
+fn apply_if_visible(
     alloc: Global,
-    total: &mut i128,
+    state: &mut ObjectState,
     update: &Committed,
     upto: u64,
 ) -> Result<(), AllocError>
-    ensures { OnOk result (total.new ≡ (if nat_le update.now.time upto then int_wrap w128 (total.old +ℤ update.now.effect) else total.old)) }
+    ensures { OnOk result (state.new ≡ (if nat_le update.now.time upto then kinds.step state.old update.now.dot update.now.effect else state.old)) }
 {
     if update.time <= upto {
-        return CounterPn::apply(alloc, total, update.dot, &update.effect);
+        return Objects::apply(alloc, state, update.dot, &update.effect);
     }
     Ok(())
 }
 
-/// Adds to a total the changes of an object by a transaction that is open.
-
-pub(crate) fn add_own(
+/// Applies the changes of an object by a transaction that is open.
+pub(crate) fn apply_own(
     alloc: Global,
-    total: &mut i128,
+    state: &mut ObjectState,
     tx: TxId,
     changes: &[Change],
     object: &ObjectId,
 ) -> Result<(), AllocError>
     requires { length changes.now ≤ 256 }
-    ensures { OnOk result ((z : ℤ) → total.old ≡ int_wrap w128 z → total.new ≡ int_wrap w128 (z +ℤ own_sum object.now changes.now)) }
+    ensures { OnOk result (state.new ≡ applied_own object.now tx 1 state.old changes.now) }
 {
     for (place, change) in changes.iter().enumerate() {
         let index = place as u16 + 1;
-        add_if_of(alloc, total, Dot { tx, index }, change, object)?;
+        apply_if_of(alloc, state, Dot { tx, index }, change, object)?;
     }
     Ok(())
 }
 
-/// Adds a change to a total where it is of an object.
-fn add_if_of(
+/// Applies a change where it is of an object.
+fn apply_if_of(
     alloc: Global,
-    total: &mut i128,
+    state: &mut ObjectState,
     dot: Dot,
     change: &Change,
     object: &ObjectId,
 ) -> Result<(), AllocError>
-    ensures { OnOk result (total.new ≡ (if same_object change.now.object object.now then int_wrap w128 (total.old +ℤ change.now.effect) else total.old)) }
+    ensures { OnOk result (state.new ≡ (if same_object change.now.object object.now then kinds.step state.old dot change.now.effect else state.old)) }
 {
     if change.object == *object {
-        return CounterPn::apply(alloc, total, dot, &change.effect);
+        return Objects::apply(alloc, state, dot, &change.effect);
     }
     Ok(())
 }

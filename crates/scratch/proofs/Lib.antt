@@ -1,2 +1,9 @@
-pub mod Logged
-pub mod Told
+pub mod LoggedRuns
+pub mod ToldRuns
+pub mod StoredRuns
+pub mod NewLine
+pub mod StepLines
+pub mod DueRows
+pub mod BeginLines
+pub mod CommitLines
+pub mod RunLines

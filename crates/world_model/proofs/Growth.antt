@@ -24,6 +24,12 @@ use Rattle.world_model.specs.History.{decides, in_history, newly_decided, histor
 use Rattle.world_model.specs.Updates.{Change, changes, has_seen, update_of, updates_in, updates_of}
 use Rattle.world_model.specs.Reads.{read_by, IsMeant, IsRight, IsRightRead}
 use Rattle.world_model.specs.Lawful.{IsStrictOrder}
+use Rattle.crdt_core.specs.declared.operation.Op.{Op}
+use Rattle.crdt_core.specs.Stamps.{stamp_due}
+use Rattle.world_model.specs.Clock.{now}
+use Rattle.world_model.specs.Updates.{operation, partition_of}
+use Rattle.world_model.specs.Stamps.{IsDue, ShowsStamp, ShowStamps}
+use Rattle.std.specs.Prelude.{length}
 
 -- what was decided was begun
 abbrev pub AreBegun : Run → Type 0
@@ -162,6 +168,30 @@ module _ (meaning : Kind → List Update → Value) (run : Run) (e : Line) (begu
   -- right reads stay right, and the new line is right where it is so in the run before it
   pub right_grows : IsRightRead meaning run → IsRight meaning run run e.command e.step → IsRightRead meaning (e ∷ run)
   right_grows h new = (is_right_same run (λ u k. k) e.command e.step new, rights_same run (λ u k. k) h)
+
+-- and stamps that were due stay due
+module _ (run : Run) (e : Line) (begun : AreBegun run) (leaves : Leaves run e) where
+  due_same : (before : Run) (o : ObjectId) (stamp : Option ℕ) (op : Option Op) (t : Option TxId) → ((u : TxId) → t ≡ Some u → is_begun run u ≡ true) → IsDue run before t o stamp op → IsDue (e ∷ run) before t o stamp op
+  due_same before o stamp op None h m = absurd m
+  due_same before o stamp None (Some t) h m = absurd m
+  due_same before o stamp (Some op) (Some t) h m =
+      let b = h t refl in
+      let c : Change = record { object = o; op = op; stamp = stamp; now = now before (partition_of before t o) } in
+      let index = 1 + length (changes before t) in
+      m ∙ (ap (λ us. stamp_due o.kind us (update_of run t index c)) (sym (reads_same run e begun leaves before t o b)) ∙ ap (stamp_due o.kind (read_by (e ∷ run) before t o)) (sym (update_same run e begun leaves t index c b)))
+
+  stamp_same : (before : Run) → ((u : TxId) → is_begun before u ≡ true → is_begun run u ≡ true) → (asked : Option Command) (s : Step) → ShowsStamp run before asked s → ShowsStamp (e ∷ run) before asked s
+  stamp_same before sub asked (step.Updated name o stamp) m = due_same before o stamp (operation asked) (transaction before name) (λ u k. sub u (transaction_begun before name u k)) m
+  stamp_same before sub asked s m = m
+
+  stamps_same : (rest : Run) → ((u : TxId) → is_begun rest u ≡ true → is_begun run u ≡ true) → EachLine (ShowsStamp run) rest → EachLine (ShowsStamp (e ∷ run)) rest
+  stamps_same [] sub h = tt
+  stamps_same (f ∷ rest) sub h =
+      let below : (u : TxId) → is_begun rest u ≡ true → is_begun run u ≡ true = λ u k. sub u (or_right (begins f.step u) (is_begun rest u) k) in
+      (stamp_same rest below f.command f.step h.0, stamps_same rest below h.1)
+
+  pub stamps_grow : ShowStamps run → ShowsStamp run run e.command e.step → ShowStamps (e ∷ run)
+  stamps_grow h new = (stamp_same run (λ u k. k) e.command e.step new, stamps_same run (λ u k. k) h)
 
 -- a commit vector is above its snapshot
 pub record AreLater (run : Run) : Type 0 where

@@ -10,6 +10,7 @@ use Rattle.world_model.specs.Sessions.{KeepsPast, is_begun}
 use Rattle.world_model.specs.Fresh.{IsFresh}
 use Rattle.world_model.specs.History.{in_history, precedes, visible, snapshot, IsClosed}
 use Rattle.world_model.specs.Reads.{IsRightRead}
+use Rattle.world_model.specs.Stamps.{ShowStamps}
 use Rattle.world_model.specs.Commit.{KeepsCommitTime}
 use Rattle.world_model.specs.Causes.{HaveCauses}
 
@@ -24,6 +25,7 @@ pub record IsLawful (has : Kind → Bool) (meaning : Kind → List Update → Va
   pub fresh : IsFresh run
   pub past : KeepsPast run
   pub right : IsRightRead meaning run
+  pub stamps : ShowStamps run
   pub commit : KeepsCommitTime run
   pub causes : HaveCauses has run
   pub order : IsStrictOrder run

@@ -28,7 +28,8 @@ use Rattle.world_model.specs.History.{in_history, precedes}
 use Rattle.world_model.specs.Updates.{Change, has_seen, update_of}
 use Rattle.world_model.proofs.Growth.{AreLater}
 use Rattle.world_model.proofs.Histories.{EachUpdate, each_map}
-use Rattle.scratch.proofs.Logged.{IsOf, IsBelow, of_below, not_it, none_dot, none_seen, closed_below}
+use Rattle.scratch.specs.Told as told
+use Rattle.scratch.proofs.LoggedRuns.{IsOf, IsBelow, of_below, not_it, none_dot, none_seen, closed_below}
 
 -- each entry's dot passes
 abbrev pub EachDot : {E : Type 0} → (Dot → Bool) → List (Dot × E) → Type 0
@@ -63,18 +64,14 @@ module _ {S E : Type 0} (kinds : Kinds S E) (k : Kind) where
   abbrev make : S → Update → E
   make s u = made_by kinds.made k s u
 
-  abbrev pub effects_by : List Update → List (Dot × E)
-  effects_by us = effects (kinds.initial k) kinds.step make us
+  abbrev effects_by : List Update → List (Dot × E)
+  effects_by us = told.effects_by kinds k us
 
-  abbrev pub state_by : List (Dot × E) → S
-  state_by es = folded (kinds.initial k) kinds.step es
+  abbrev state_by : List (Dot × E) → S
+  state_by es = told.state_by kinds k es
 
-  -- these are the effects of this history, and each of its updates shows its stamp
-  pub record Told (us : List Update) (es : List (Dot × E)) : Type 0 where
-    pub history : IsHistory us
-    pub fit : all_fit kinds.too_deep k us ≡ true
-    pub stamped : IsStamped (kinds.initial k) kinds.step make kinds.stamp_of us
-    pub stored : effects_by us ≡ es
+  abbrev Told : List Update → List (Dot × E) → Type 0
+  Told us es = told.Told kinds k us es
 
   pub told_none : Told [] []
   told_none = record { history = tt; fit = refl; stamped = tt; stored = refl }

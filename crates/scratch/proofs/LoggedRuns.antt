@@ -1,4 +1,4 @@
--- The updates of an object that a run has decided, the newest first, and those of an open transaction on top of what it sees.
+-- The updates that a run has decided of an object, as the run grows.
 use Rattle.std.proofs.Common.{arith, ◌≡◌, ◌⊎◌, inl, inr, ⊎_elim, ℕ, suc, ◌+◌, ◌<◌, ◌≤◌, Bool, true, false, not, cond, eqb, ltb, ◌&&◌, ◌||◌, List, [], ◌∷◌, ◌++◌, length, Option, None, Some, refl, sym, ap, ◌∙◌, subst, append_assoc}
 use Rattle.std.specs.Prelude.{if◌then◌else◌, nat_lt, filter, ⊤}
 use Rattle.std.specs.List.{list_any, flat_map}
@@ -22,20 +22,7 @@ use Rattle.world_model.specs.History.{decides, in_history, history, snapshot, co
 use Rattle.world_model.specs.Updates.{Change, changes, has_seen, update_of, updates_in, updates_of}
 use Rattle.world_model.proofs.Growth.{AreBegun, Leaves, AreLater, EachIs, history_decided, update_same, sees_same, seen_by, newly_is, unseen_dropped, visible_closed}
 use Rattle.world_model.proofs.Histories.{EachUpdate, each_map}
-
--- the updates of an object among these of t, which are numbered from `index`, on top of older ones
-abbrev pub own_on : Run → ObjectId → TxId → ℕ → List Update → List Change → List Update
-own_on run o t index older [] = older
-own_on run o t index older (c ∷ cs) = own_on run o t (index + 1) (if same_object c.object o then update_of run t index c ∷ older else older) cs
-
--- those of these transactions, of which the newest is the first
-abbrev pub logged : Run → ObjectId → List TxId → List Update
-logged run o [] = []
-logged run o (t ∷ ts) = own_on run o t 1 (logged run o ts) (changes run t)
-
--- those that a vector sees
-abbrev pub seen_of : Run → ObjectId → List ℕ → List Update
-seen_of run o v = logged run o (filter (visible run v) (history run))
+use Rattle.scratch.specs.Logged.{own_on, logged, seen_of}
 
 -- one more change
 pub own_snoc : (run : Run) (o : ObjectId) (t : TxId) (index : ℕ) (older : List Update) (cs : List Change) (c : Change) →
@@ -102,6 +89,22 @@ pub logged_each : (run : Run) (o : ObjectId) (among : TxId → Bool) (ts : List 
 logged_each run o among [] h = tt
 logged_each run o among (t ∷ ts) h =
     own_each (IsOf run among) run o t (λ index c. record { saw = λ d. refl; member = h.0 }) 1 (logged run o ts) (changes run t) (logged_each run o among ts h.1)
+
+-- each is as those below, or of t with a lower number
+pub own_within : (B : Update → Type 0) (run : Run) (o : ObjectId) (t : TxId) (index : ℕ) (older : List Update) (cs : List Change) → EachUpdate (λ v. B v ⊎ ((v.dot.tx ≡ t) × (v.dot.index < index))) older
+    → EachUpdate (λ v. B v ⊎ ((v.dot.tx ≡ t) × (v.dot.index < index + length cs))) (own_on run o t index older cs)
+own_within B run o t index older [] h = subst (λ n. EachUpdate (λ v. B v ⊎ ((v.dot.tx ≡ t) × (v.dot.index < n))) older) (let e : index ≡ index + 0 = omega arith in e) h
+own_within B run o t index older (c ∷ cs) h =
+    let u = update_of run t index c in
+    let up : EachUpdate (λ v. B v ⊎ ((v.dot.tx ≡ t) × (v.dot.index < index + 1))) older =
+    each_map (λ v. B v ⊎ ((v.dot.tx ≡ t) × (v.dot.index < index))) (λ v. B v ⊎ ((v.dot.tx ≡ t) × (v.dot.index < index + 1)))
+    (λ v p. ⊎_elim (λ (b : B v). inl b) (λ (k : (v.dot.tx ≡ t) × (v.dot.index < index)). inr (k.0, let low : v.dot.index < index + 1 = omega (arith, k.1) in low)) p) older h in
+    subst (λ n. EachUpdate (λ v. B v ⊎ ((v.dot.tx ≡ t) × (v.dot.index < n))) (own_on run o t (index + 1) (if same_object c.object o then u ∷ older else older) cs)) (let e : index + 1 + length cs ≡ index + suc (length cs) = omega arith in e)
+    (own_within B run o t (index + 1) (if same_object c.object o then u ∷ older else older) cs
+    (elim (same_object c.object o) as (λ b. EachUpdate (λ v. B v ⊎ ((v.dot.tx ≡ t) × (v.dot.index < index + 1))) (if b then u ∷ older else older)) [
+      | true ↦ (inr (refl, let low : index < index + 1 = omega arith in low), up)
+      | false ↦ up
+    ]))
 
 -- the part whose transactions pass
 abbrev pub of_these : (TxId → Bool) → Dot → Bool

@@ -1,0 +1,72 @@
+-- Updates that are applied one by one, and stored one by one.
+use Rattle.std.proofs.Common.{rules, to_z, of_z, arith, add-one, get_or, ◌≡◌, ℕ, ◌+◌, ◌<◌, ◌++◌, ◌∷◌, [], Bool, true, false, List, refl, cond, ap, ◌∙◌, sym, subst, append_assoc, length, take, drop}
+use Rattle.std.specs.Prelude.{nat_le, pos, if◌then◌else◌, ◌+ℤ◌, FitsSigned}
+use Rattle.std.specs.Int.{w128}
+use Rattle.std.proofs.lemmas.Int.{to_z-of_z, SFits-int_wrap}
+use Rattle.std.proofs.Math.Seq.{take-suc}
+use Rattle.std.proofs.lemmas.List.{append-nil, length-take-le, get_or_default, drop_more}
+use Rattle.site_vector.specs.declared.ids.TxId.{TxId}
+use Rattle.site_vector.specs.declared.ids.Dot.{Dot}
+use Rattle.crdt_core.specs.declared.object.ObjectId.{ObjectId}
+use Rattle.crdt_core.specs.Objects.{same_object}
+use Rattle.dc_engine.specs.ObjectKinds.{ObjectState, Effect, kinds}
+use Rattle.dc_engine.specs.declared.store.Committed.{Committed}
+use Rattle.dc_engine.specs.declared.sessions.Change.{Change}
+use Rattle.dc_engine.specs.Stored.{committed_of, applied_upto, applied_own}
+
+pub committed_of-append : (t : TxId) (time index : ℕ) (cs ds : List Change) (o : ObjectId) → committed_of t time index (cs ++ ds) o ≡ committed_of t time index cs o ++ committed_of t time (index + length cs) ds o
+committed_of-append t time index [] ds o = ap (λ i. committed_of t time i ds o) (let e : index ≡ index + 0 = omega arith in e)
+committed_of-append t time index (c ∷ cs) ds o =
+    let here = if same_object c.object o then (record { dot = record { tx = t; index = index }; time = time; effect = c.effect }) ∷ [] else [] in
+    ap (λ l. here ++ l) (committed_of-append t time (index + 1) cs ds o ∙ ap (λ i. committed_of t time (index + 1) cs o ++ committed_of t time i ds o) (let e : index + 1 + length cs ≡ index + length (c ∷ cs) = omega arith in e))
+    ∙ sym (append_assoc here (committed_of t time (index + 1) cs o) _)
+
+taken : {X : Type 0} (xs : List X) (i : ℕ) (x : X) → i < length xs → x ≡ get_or xs i x → take (i + 1) xs ≡ take i xs ++ x ∷ []
+taken xs i x h e = ap (λ n. take n xs) (add-one i) ∙ (take-suc xs i x h ∙ ap (λ y. take i xs ++ y ∷ []) (sym e))
+
+pub committed_more : (t : TxId) (time i : ℕ) (cs : List Change) (c : Change) (o : ObjectId) (old before after : List Committed) → i < length cs → c ≡ get_or cs i c → before ≡ old ++ committed_of t time 1 (take i cs) o
+    → after ≡ (if same_object c.object o then before ++ (record { dot = record { tx = t; index = i + 1 }; time = time; effect = c.effect }) ∷ [] else before) → after ≡ old ++ committed_of t time 1 (take (i + 1) cs) o
+committed_more t time i cs c o old before after n e h k =
+    let entry : Committed = record { dot = record { tx = t; index = i + 1 }; time = time; effect = c.effect } in
+    let entries : Bool → List Committed = λ b. if b then entry ∷ [] else [] in
+    let more : after ≡ before ++ entries (same_object c.object o) = k ∙ elim (same_object c.object o) as (λ b. (if b then before ++ entry ∷ [] else before) ≡ before ++ entries b) [ true ↦ refl | false ↦ sym (append-nil before) ] in
+    let long : 1 + length (take i cs) ≡ i + 1 = ap (λ m. 1 + m) (length-take-le i cs (omega arith)) ∙ omega arith in
+    let last : committed_of t time (1 + length (take i cs)) (c ∷ []) o ≡ entries (same_object c.object o) =
+    ap (λ m. committed_of t time m (c ∷ []) o) long ∙ append-nil (entries (same_object c.object o)) in
+    more ∙ (ap (λ l. l ++ entries (same_object c.object o)) h ∙ (append_assoc old _ _ ∙ ap (λ l. old ++ l)
+    (ap (λ l. committed_of t time 1 (take i cs) o ++ l) (sym last) ∙ (sym (committed_of-append t time 1 (take i cs) (c ∷ []) o) ∙ ap (λ l. committed_of t time 1 l o) (sym (taken cs i c n e))))))
+
+pub visible_next : (s i : ℕ) (us : List Committed) (before after first : ObjectState) → let u : Committed = get_or us i (record { dot = record { tx = record { site = 0; part = 0; time = 0 }; index = 0 }; time = 0; effect = pos 0 }) in i < length us → first ≡ applied_upto s before (drop i us)
+    → after ≡ (if nat_le u.time s then kinds.step before u.dot u.effect else before) → first ≡ applied_upto s after (drop (i + 1) us)
+visible_next s i us before after first n h k =
+    h ∙ (ap (applied_upto s before) (drop_more us i _ n) ∙ ap (λ st. applied_upto s st (drop (i + 1) us)) (sym k))
+
+pub own_next : (o : ObjectId) (t : TxId) (i : ℕ) (cs : List Change) (c : Change) (before after first : ObjectState) → i < length cs → c ≡ get_or cs i c → first ≡ applied_own o t (i + 1) before (drop i cs)
+    → after ≡ (if same_object c.object o then kinds.step before (record { tx = t; index = i + 1 }) c.effect else before) → first ≡ applied_own o t (i + 1 + 1) after (drop (i + 1) cs)
+own_next o t i cs c before after first n e h k =
+    h ∙ (ap (applied_own o t (i + 1) before) (drop_more cs i c n ∙ ap (λ d. d ∷ drop (i + 1) cs) (sym e)) ∙ ap (λ st. applied_own o t (i + 1 + 1) st (drop (i + 1) cs)) (sym k))
+
+-- the states of the counter have their range
+upto_fits : (s : ℕ) (state : ObjectState) (us : List Committed) → FitsSigned w128 state → FitsSigned w128 (applied_upto s state us)
+upto_fits s state [] h = h
+upto_fits s state (u ∷ us) h =
+    upto_fits s (if nat_le u.time s then kinds.step state u.dot u.effect else state) us
+    (elim (nat_le u.time s) as (λ b. FitsSigned w128 (if b then kinds.step state u.dot u.effect else state)) [ true ↦ SFits-int_wrap w128 (state +ℤ u.effect) | false ↦ h ])
+
+own_fits : (o : ObjectId) (t : TxId) (index : ℕ) (state : ObjectState) (cs : List Change) → FitsSigned w128 state → FitsSigned w128 (applied_own o t index state cs)
+own_fits o t index state [] h = h
+own_fits o t index state (c ∷ cs) h =
+    own_fits o t (index + 1) (if same_object c.object o then kinds.step state (record { tx = t; index = index }) c.effect else state) cs
+    (elim (same_object c.object o) as (λ b. FitsSigned w128 (if b then kinds.step state (record { tx = t; index = index }) c.effect else state)) [ true ↦ SFits-int_wrap w128 (state +ℤ c.effect) | false ↦ h ])
+
+-- so that one which is read back is as it was
+pub read_back : (o : ObjectId) (t : TxId) (time : ℕ) (none first last : ObjectState) (us : List Committed) (cs : List Change) → none ≡ kinds.initial o.kind → first ≡ applied_upto time (to_z w128 (of_z w128 none)) us → last ≡ applied_own o t 1 (to_z w128 (of_z w128 first)) cs
+    → to_z w128 (of_z w128 last) ≡ applied_own o t 1 (applied_upto time (kinds.initial o.kind) us) cs
+read_back o t time none first last us cs e f l =
+    let zero : FitsSigned w128 (kinds.initial o.kind) = search rules in
+    let begun : to_z w128 (of_z w128 none) ≡ kinds.initial o.kind = to_z-of_z w128 none (subst (FitsSigned w128) (sym e) zero) ∙ e in
+    let stored : first ≡ applied_upto time (kinds.initial o.kind) us = f ∙ ap (λ s. applied_upto time s us) begun in
+    let middle : FitsSigned w128 (applied_upto time (kinds.initial o.kind) us) = upto_fits time (kinds.initial o.kind) us zero in
+    let again : to_z w128 (of_z w128 first) ≡ applied_upto time (kinds.initial o.kind) us = to_z-of_z w128 first (subst (FitsSigned w128) (sym stored) middle) ∙ stored in
+    let own : last ≡ applied_own o t 1 (applied_upto time (kinds.initial o.kind) us) cs = l ∙ ap (λ s. applied_own o t 1 s cs) again in
+    to_z-of_z w128 last (subst (FitsSigned w128) (sym own) (own_fits o t 1 (applied_upto time (kinds.initial o.kind) us) cs middle)) ∙ own

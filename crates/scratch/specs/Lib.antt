@@ -1,0 +1,5 @@
+pub mod ObjectKinds
+pub mod Logged
+pub mod Told
+pub mod State
+pub mod Describes
