@@ -1,8 +1,6 @@
 -- Updates that are applied one by one, and stored one by one.
-use Rattle.std.proofs.Common.{rules, to_z, of_z, arith, add-one, get_or, ◌≡◌, ℕ, ◌+◌, ◌<◌, ◌++◌, ◌∷◌, [], Bool, true, false, List, refl, cond, ap, ◌∙◌, sym, subst, append_assoc, length, take, drop}
-use Rattle.std.specs.Prelude.{nat_le, pos, if◌then◌else◌, ◌+ℤ◌, FitsSigned}
-use Rattle.std.specs.Int.{w128}
-use Rattle.std.proofs.lemmas.Int.{to_z-of_z, SFits-int_wrap}
+use Rattle.std.proofs.Common.{arith, add-one, get_or, ◌≡◌, ℕ, ◌+◌, ◌<◌, ◌++◌, ◌∷◌, [], Bool, true, false, List, refl, cond, ap, ◌∙◌, sym, subst, append_assoc, length, take, drop}
+use Rattle.std.specs.Prelude.{nat_le, pos, if◌then◌else◌}
 use Rattle.std.proofs.Math.Seq.{take-suc}
 use Rattle.std.proofs.lemmas.List.{append-nil, length-take-le, get_or_default, drop_more}
 use Rattle.site_vector.specs.declared.ids.TxId.{TxId}
@@ -45,28 +43,3 @@ pub own_next : (o : ObjectId) (t : TxId) (i : ℕ) (cs : List Change) (c : Chang
     → after ≡ (if same_object c.object o then kinds.step before (record { tx = t; index = i + 1 }) c.effect else before) → first ≡ applied_own o t (i + 1 + 1) after (drop (i + 1) cs)
 own_next o t i cs c before after first n e h k =
     h ∙ (ap (applied_own o t (i + 1) before) (drop_more cs i c n ∙ ap (λ d. d ∷ drop (i + 1) cs) (sym e)) ∙ ap (λ st. applied_own o t (i + 1 + 1) st (drop (i + 1) cs)) (sym k))
-
--- the states of the counter have their range
-upto_fits : (s : ℕ) (state : ObjectState) (us : List Committed) → FitsSigned w128 state → FitsSigned w128 (applied_upto s state us)
-upto_fits s state [] h = h
-upto_fits s state (u ∷ us) h =
-    upto_fits s (if nat_le u.time s then kinds.step state u.dot u.effect else state) us
-    (elim (nat_le u.time s) as (λ b. FitsSigned w128 (if b then kinds.step state u.dot u.effect else state)) [ true ↦ SFits-int_wrap w128 (state +ℤ u.effect) | false ↦ h ])
-
-own_fits : (o : ObjectId) (t : TxId) (index : ℕ) (state : ObjectState) (cs : List Change) → FitsSigned w128 state → FitsSigned w128 (applied_own o t index state cs)
-own_fits o t index state [] h = h
-own_fits o t index state (c ∷ cs) h =
-    own_fits o t (index + 1) (if same_object c.object o then kinds.step state (record { tx = t; index = index }) c.effect else state) cs
-    (elim (same_object c.object o) as (λ b. FitsSigned w128 (if b then kinds.step state (record { tx = t; index = index }) c.effect else state)) [ true ↦ SFits-int_wrap w128 (state +ℤ c.effect) | false ↦ h ])
-
--- so that one which is read back is as it was
-pub read_back : (o : ObjectId) (t : TxId) (time : ℕ) (none first last : ObjectState) (us : List Committed) (cs : List Change) → none ≡ kinds.initial o.kind → first ≡ applied_upto time (to_z w128 (of_z w128 none)) us → last ≡ applied_own o t 1 (to_z w128 (of_z w128 first)) cs
-    → to_z w128 (of_z w128 last) ≡ applied_own o t 1 (applied_upto time (kinds.initial o.kind) us) cs
-read_back o t time none first last us cs e f l =
-    let zero : FitsSigned w128 (kinds.initial o.kind) = search rules in
-    let begun : to_z w128 (of_z w128 none) ≡ kinds.initial o.kind = to_z-of_z w128 none (subst (FitsSigned w128) (sym e) zero) ∙ e in
-    let stored : first ≡ applied_upto time (kinds.initial o.kind) us = f ∙ ap (λ s. applied_upto time s us) begun in
-    let middle : FitsSigned w128 (applied_upto time (kinds.initial o.kind) us) = upto_fits time (kinds.initial o.kind) us zero in
-    let again : to_z w128 (of_z w128 first) ≡ applied_upto time (kinds.initial o.kind) us = to_z-of_z w128 first (subst (FitsSigned w128) (sym stored) middle) ∙ stored in
-    let own : last ≡ applied_own o t 1 (applied_upto time (kinds.initial o.kind) us) cs = l ∙ ap (λ s. applied_own o t 1 s cs) again in
-    to_z-of_z w128 last (subst (FitsSigned w128) (sym own) (own_fits o t 1 (applied_upto time (kinds.initial o.kind) us) cs middle)) ∙ own

@@ -4,9 +4,9 @@ ghost use Rattle.dc_engine.specs.ObjectKinds.{kinds};
 ghost use Rattle.dc_engine.specs.Stored.{state_in};
 ghost use Rattle.dc_engine.specs.State.{transaction_at};
 
-use crate::objects::{Effect, ObjectState, Objects};
+use crate::objects::Objects;
 use crate::sessions::{Change, Sessions, Transaction, close, create, note, open};
-use crate::store::{Store, apply_own, apply_stored, store_all};
+use crate::store::{Replica, Store, apply_own, apply_stored, new_replica, store_all};
 use crdt_core::{Crdt, ObjectId, Op, Value, fits_at};
 use field_codec::Text;
 use indexmap::IndexMap;
@@ -214,7 +214,7 @@ impl Machine {
                 if transaction.changes().len() == MOST_UPDATES {
                     return only(self.alloc, Step::LimitUpdates);
                 }
-                let effect = effect_of(
+                let change = change_of(
                     self.alloc,
                     &self.store,
                     transaction,
@@ -222,23 +222,23 @@ impl Machine {
                     &op,
                     self.now,
                 )?;
-                self.note_update(name, object, effect)
+                self.note_update(name, object, change)
             }
         }
     }
 
-    /// Notes an update with this effect, of a session that is open and may make another.
+    /// Notes a change of the object, of a session that is open and may make another.
     fn note_update(
         &mut self,
         name: Text,
         object: ObjectId,
-        effect: Effect,
+        change: Change,
     ) -> Result<Vec<Step>, AllocError>
-        requires { (t : ℕ × List Change) → session_in self.old name ≡ Some (Some t) → length t.1 < 256 }
-        ensures { (t : ℕ × List Change) → session_in self.old name ≡ Some (Some t) → IfOk result (λ lines. NotesUpdate self.old name object effect t lines.items self.new) }
+        requires object { change.object ≡ object }
+        requires room { (t : ℕ × List Change) → session_in self.old name ≡ Some (Some t) → length t.1 < 256 }
+        ensures { (t : ℕ × List Change) → session_in self.old name ≡ Some (Some t) → IfOk result (λ lines. NotesUpdate self.old name object change.effect t lines.items self.new) }
     {
-        let stamp = Objects::stamp(&effect);
-        let change = change_of(self.alloc, &object, effect)?;
+        let stamp = Objects::stamp(&change.effect);
         note(&mut self.sessions, &name, change)?;
         only(
             self.alloc,
@@ -328,34 +328,26 @@ fn vector_at(time: u64) -> VTime
     VTime::zero(1).with(1, time)
 }
 
-/// A change of an object.
-fn change_of(alloc: Global, object: &ObjectId, effect: Effect) -> Result<Change, AllocError>
-    ensures { IfOk result (λ c. c ≡ record { object = object.now; effect = effect }) }
-{
-    let object = object.copy(alloc)?;
-    Ok(Change { object, effect })
-}
-
-/// The state of an object as a transaction reads it: what had committed when it began, and its own changes.
-fn read_state(
+/// An object as a transaction reads it: what had committed when it began, and its own changes.
+fn read_object(
     alloc: Global,
     store: &Store,
     transaction: &Transaction,
     object: &ObjectId,
-) -> Result<ObjectState, AllocError>
-    ensures { IfOk result (λ s. s ≡ state_in store.now.entries object.now (transaction_at transaction.now.0) transaction.now) }
+) -> Result<Replica, AllocError>
+    ensures { IfOk result (λ r. r.state ≡ state_in store.now.entries object.now (transaction_at transaction.now.0) transaction.now) }
 {
-    let mut state = Objects::empty(alloc, object.kind)?;
+    let mut replica = new_replica(alloc, object.kind)?;
     let time = transaction.time();
-    apply_stored(alloc, &mut state, store, object, time)?;
+    apply_stored(alloc, &mut replica, store, object, time)?;
     apply_own(
         alloc,
-        &mut state,
+        &mut replica,
         tx_at(time),
         transaction.changes(),
         object,
     )?;
-    Ok(state)
+    Ok(replica)
 }
 
 /// What a transaction reads of an object.
@@ -367,27 +359,29 @@ fn value_of(
 ) -> Result<Value, AllocError>
     ensures { IfOk result (λ v. v ≡ kinds.value_of (state_in store.now.entries object.now (transaction_at transaction.now.0) transaction.now)) }
 {
-    let state = read_state(alloc, store, transaction, object)?;
-    Objects::value(alloc, &state)
+    let replica = read_object(alloc, store, transaction, object)?;
+    Objects::value(alloc, &replica.state)
 }
 
-/// The effect of an operation that is one of the kind, on what a transaction reads of the object.
-fn effect_of(
+/// The change that an operation of the kind makes, on what a transaction reads of the object.
+fn change_of(
     alloc: Global,
     store: &Store,
     transaction: &Transaction,
     object: &ObjectId,
     op: &Op,
     now: u64,
-) -> Result<Effect, AllocError>
-    requires has { kinds.has object.now.kind ≡ true }
-    ensures { IfOk result (λ e. e ≡ kinds.made object.now.kind (state_in store.now.entries object.now (transaction_at transaction.now.0) transaction.now) op.now.path op.now.act now) }
+) -> Result<Change, AllocError>
+    requires { kinds.has object.now.kind ≡ true }
+    ensures object { IfOk result (λ c. c.object ≡ object.now) }
+    ensures effect { IfOk result (λ c. c.effect ≡ kinds.made object.now.kind (state_in store.now.entries object.now (transaction_at transaction.now.0) transaction.now) op.now.path op.now.act now) }
 {
-    let state = read_state(alloc, store, transaction, object)?;
+    let replica = read_object(alloc, store, transaction, object)?;
+    let object = object.copy(alloc)?;
     let path = op.path.as_slice();
     // the operation fits, so that only memory may be wanting
-    match Objects::generate(alloc, object.kind, path, &op.act, &state, now) {
-        Ok(effect) => Ok(effect),
+    match Objects::generate(alloc, object.kind, path, &op.act, &replica.state, now) {
+        Ok(effect) => Ok(Change { object, effect }),
         Err(_) => Err(AllocError),
     }
 }

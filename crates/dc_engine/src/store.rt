@@ -1,4 +1,4 @@
-ghost use Rattle.std.specs.Prelude.{◌≡◌, ◌≤◌, nat_le, ◌++◌, ◌∷◌, [], length, OnOk, if◌then◌else◌};
+ghost use Rattle.std.specs.Prelude.{◌≡◌, ◌≤◌, nat_le, ◌++◌, ◌∷◌, [], length, IfOk, OnOk, if◌then◌else◌};
 ghost use Rattle.crdt_core.specs.declared.object.ObjectId.{ObjectId};
 ghost use Rattle.crdt_core.specs.Objects.{same_object};
 ghost use Rattle.dc_engine.specs.ObjectKinds.{kinds};
@@ -6,7 +6,7 @@ ghost use Rattle.dc_engine.specs.Stored.{stored, committed_of, applied_upto, app
 
 use crate::objects::{Effect, ObjectState, Objects};
 use crate::sessions::Change;
-use crdt_core::{Crdt, ObjectId};
+use crdt_core::{Crdt, Kind, ObjectId};
 use indexmap::IndexMap;
 use site_vector::{Dot, TxId};
 use std::alloc::{AllocError, Global};
@@ -75,18 +75,32 @@ fn store_change(
     store_update(store, alloc, &change.object, update)
 }
 
+/// A replica of an object: its state once updates were applied.
+#[derive(Drop)]
+pub(crate) struct Replica {
+    pub(crate) state: ObjectState,
+}
+
+/// A replica without updates, of an object of the kind.
+pub(crate) fn new_replica(alloc: Global, kind: Kind) -> Result<Replica, AllocError>
+    ensures { IfOk result (λ r. r.state ≡ kinds.initial kind) }
+{
+    let state = Objects::empty(alloc, kind)?;
+    Ok(Replica { state })
+}
+
 /// Applies the updates of an object that committed up to a time.
 pub(crate) fn apply_stored(
     alloc: Global,
-    state: &mut ObjectState,
+    replica: &mut Replica,
     store: &Store,
     object: &ObjectId,
     upto: u64,
 ) -> Result<(), AllocError>
-    ensures { OnOk result (state.new ≡ applied_upto upto state.old (stored store.now.entries object.now)) }
+    ensures { OnOk result (replica.new.state ≡ applied_upto upto replica.old.state (stored store.now.entries object.now)) }
 {
     match store.get(object) {
-        Some(updates) => apply_visible(alloc, state, updates, upto),
+        Some(updates) => apply_visible(alloc, replica, updates, upto),
         None => Ok(()),
     }
 }
@@ -94,14 +108,14 @@ pub(crate) fn apply_stored(
 /// Applies the updates that committed up to a time.
 fn apply_visible(
     alloc: Global,
-    state: &mut ObjectState,
+    replica: &mut Replica,
     updates: &[Committed],
     upto: u64,
 ) -> Result<(), AllocError>
-    ensures { OnOk result (state.new ≡ applied_upto upto state.old updates.now) }
+    ensures { OnOk result (replica.new.state ≡ applied_upto upto replica.old.state updates.now) }
 {
     for update in updates {
-        apply_if_visible(alloc, state, update, upto)?;
+        apply_if_visible(alloc, replica, update, upto)?;
     }
     Ok(())
 }
@@ -109,14 +123,14 @@ fn apply_visible(
 /// Applies an update where it committed up to a time.
 fn apply_if_visible(
     alloc: Global,
-    state: &mut ObjectState,
+    replica: &mut Replica,
     update: &Committed,
     upto: u64,
 ) -> Result<(), AllocError>
-    ensures { OnOk result (state.new ≡ (if nat_le update.now.time upto then kinds.step state.old update.now.dot update.now.effect else state.old)) }
+    ensures { OnOk result (replica.new.state ≡ (if nat_le update.now.time upto then kinds.step replica.old.state update.now.dot update.now.effect else replica.old.state)) }
 {
     if update.time <= upto {
-        return Objects::apply(alloc, state, update.dot, &update.effect);
+        return Objects::apply(alloc, &mut replica.state, update.dot, &update.effect);
     }
     Ok(())
 }
@@ -124,17 +138,17 @@ fn apply_if_visible(
 /// Applies the changes of an object by a transaction that is open.
 pub(crate) fn apply_own(
     alloc: Global,
-    state: &mut ObjectState,
+    replica: &mut Replica,
     tx: TxId,
     changes: &[Change],
     object: &ObjectId,
 ) -> Result<(), AllocError>
     requires { length changes.now ≤ 256 }
-    ensures { OnOk result (state.new ≡ applied_own object.now tx 1 state.old changes.now) }
+    ensures { OnOk result (replica.new.state ≡ applied_own object.now tx 1 replica.old.state changes.now) }
 {
     for (place, change) in changes.iter().enumerate() {
         let index = place as u16 + 1;
-        apply_if_of(alloc, state, Dot { tx, index }, change, object)?;
+        apply_if_of(alloc, replica, Dot { tx, index }, change, object)?;
     }
     Ok(())
 }
@@ -142,15 +156,15 @@ pub(crate) fn apply_own(
 /// Applies a change where it is of an object.
 fn apply_if_of(
     alloc: Global,
-    state: &mut ObjectState,
+    replica: &mut Replica,
     dot: Dot,
     change: &Change,
     object: &ObjectId,
 ) -> Result<(), AllocError>
-    ensures { OnOk result (state.new ≡ (if same_object change.now.object object.now then kinds.step state.old dot change.now.effect else state.old)) }
+    ensures { OnOk result (replica.new.state ≡ (if same_object change.now.object object.now then kinds.step replica.old.state dot change.now.effect else replica.old.state)) }
 {
     if change.object == *object {
-        return Objects::apply(alloc, state, dot, &change.effect);
+        return Objects::apply(alloc, &mut replica.state, dot, &change.effect);
     }
     Ok(())
 }

@@ -3,4 +3,4 @@ use Rattle.dc_engine.specs.Stored.{applied_upto}
 use Rattle.dc_engine.proofs.store.apply_visible.Given as goal
 
 abbrev pub invariant-loop-update : goal.invariant-loop-update
-invariant-loop-update l = applied_upto l.upto l.fn.state l.updates ≡ applied_upto l.upto l.state (drop l.update-index l.updates)
+invariant-loop-update l = applied_upto l.upto l.fn.replica.state l.updates ≡ applied_upto l.upto l.replica.state (drop l.update-index l.updates)

@@ -1,9 +1,0 @@
-pub mod LoggedRuns
-pub mod ToldRuns
-pub mod StoredRuns
-pub mod NewLine
-pub mod StepLines
-pub mod DueRows
-pub mod BeginLines
-pub mod CommitLines
-pub mod RunLines

@@ -1,5 +1,0 @@
-pub mod ObjectKinds
-pub mod Logged
-pub mod Told
-pub mod State
-pub mod Describes
