@@ -2,6 +2,8 @@ ghost use Rattle.std.specs.Prelude.{◌≡◌, ◌≤◌, ◌<◌, ◌^◌, ℕ,
 ghost use Rattle.world_model.specs.Refusals.{is_built as is_built_lem};
 ghost use Rattle.dc_engine.specs.ObjectKinds.{kinds};
 ghost use Rattle.dc_engine.specs.Stored.{state_in};
+ghost use Rattle.crdt_core.specs.declared.object.Field.{Field};
+ghost use Rattle.crdt_core.specs.declared.operation.Act.{Act};
 ghost use Rattle.dc_engine.specs.State.{transaction_at};
 
 use crate::objects::Objects;
@@ -363,6 +365,25 @@ fn value_of(
     Objects::value(alloc, &replica.state)
 }
 
+/// An object as the effect of an operation depends on it: without updates, where it doesn't depend on them.
+fn object_for(
+    alloc: Global,
+    store: &Store,
+    transaction: &Transaction,
+    object: &ObjectId,
+    op: &Op,
+) -> Result<Replica, AllocError>
+    requires { kinds.has object.now.kind ≡ true }
+    ensures { IfOk result (λ r. (p : List Field) (a : Act) (n : ℕ) → kinds.made object.now.kind r.state p a n ≡ kinds.made object.now.kind (state_in store.now.entries object.now (transaction_at transaction.now.0) transaction.now) p a n) }
+{
+    if Objects::needs_state(object.kind, op) {
+        let replica = read_object(alloc, store, transaction, object)?;
+        return Ok(replica);
+    }
+    let replica = new_replica(alloc, object.kind)?;
+    Ok(replica)
+}
+
 /// The change that an operation of the kind makes, on what a transaction reads of the object.
 fn change_of(
     alloc: Global,
@@ -376,7 +397,7 @@ fn change_of(
     ensures object { IfOk result (λ c. c.object ≡ object.now) }
     ensures effect { IfOk result (λ c. c.effect ≡ kinds.made object.now.kind (state_in store.now.entries object.now (transaction_at transaction.now.0) transaction.now) op.now.path op.now.act now) }
 {
-    let replica = read_object(alloc, store, transaction, object)?;
+    let replica = object_for(alloc, store, transaction, object, op)?;
     let object = object.copy(alloc)?;
     let path = op.path.as_slice();
     // the operation fits, so that only memory may be wanting

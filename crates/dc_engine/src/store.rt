@@ -54,8 +54,8 @@ pub(crate) fn store_all(
     ensures { OnOk result ((o : ObjectId) → stored store.new.entries o ≡ stored store.old.entries o ++ committed_of tx time 1 changes.now o) }
 {
     for (place, change) in changes.iter().enumerate() {
-        let index = place as u16 + 1;
-        store_change(store, alloc, Dot { tx, index }, time, change)?;
+        let number = place as u16 + 1;
+        store_change(store, alloc, Dot { tx, index: number }, time, change)?;
     }
     Ok(())
 }
