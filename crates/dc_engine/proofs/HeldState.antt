@@ -19,7 +19,7 @@ use Rattle.world_model.specs.Answers.{Asked, nothing, unreadable, asks, GoesOn, 
 use Rattle.reply_text.specs.Text.{text_of}
 use Rattle.dc_engine.specs.declared.machine.Machine.{Machine}
 use Rattle.dc_engine.specs.declared.sessions.Change.{Change}
-use Rattle.dc_engine.specs.declared.store.Committed.{Committed}
+use Rattle.dc_engine.specs.declared.history.Committed.{Committed}
 use Rattle.crdt_core.specs.Fits.{fits}
 use Rattle.crdt_core.specs.declared.kind.Kind.{Kind}
 use Rattle.site_vector.specs.declared.ids.Dot.{Dot}
@@ -30,6 +30,7 @@ use Rattle.dc_engine.specs.Player.{AnswersAsked, ReachedBy}
 use Rattle.dc_engine.specs.Reading.{asked_of, is_unreadable, has_bad}
 use Rattle.dc_engine.proofs.Readings.{asked_of-take, has_bad-more}
 use Rattle.dc_engine.specs.SessionTable.{session}
+use Rattle.dc_engine.specs.Kept.{applied_upto}
 use Rattle.dc_engine.specs.Stored as kept
 use Rattle.dc_engine.specs.Machine as machine
 use Rattle.dc_engine.specs.Machine.{session_in, is_some_change, IsMachine, AnswersAny}
@@ -101,11 +102,11 @@ state_is m new next made now number sessions updates h p q r s t =
     same_state (state_of new) next (h.is_made ∙ p) (h.time ∙ q) (λ who. ap session_as (h.session who) ∙ r who) (h.count ∙ s) (λ o. ap (entries_on []) (h.store o) ∙ t o)
 
 -- what is stored is told in the order of the state
-applied_on : (s : ℕ) (k : Kind) (older : List Entry) (us : List Committed) → kept.applied_upto s (state_by kinds k (upto s older)) us ≡ state_by kinds k (upto s (entries_on older us))
+applied_on : (s : ℕ) (k : Kind) (older : List Entry) (us : List Committed) → applied_upto s (state_by kinds k (upto s older)) us ≡ state_by kinds k (upto s (entries_on older us))
 applied_on s k older [] = refl
 applied_on s k older (u ∷ us) =
     let more : List Entry = (u.time, (u.dot, u.effect)) ∷ older in
-    ap (λ st. kept.applied_upto s st us) (elim (nat_le u.time s) as (λ b. (if b then kinds.step (state_by kinds k (upto s older)) u.dot u.effect else state_by kinds k (upto s older)) ≡ state_by kinds k (if b then (u.dot, u.effect) ∷ upto s older else upto s older)) [ true ↦ refl | false ↦ refl ])
+    ap (λ st. applied_upto s st us) (elim (nat_le u.time s) as (λ b. (if b then kinds.step (state_by kinds k (upto s older)) u.dot u.effect else state_by kinds k (upto s older)) ≡ state_by kinds k (if b then (u.dot, u.effect) ∷ upto s older else upto s older)) [ true ↦ refl | false ↦ refl ])
     ∙ applied_on s k more us
 
 own_on_top : (k : Kind) (o : ObjectId) (t : TxId) (index : ℕ) (older : List (Dot × Effect)) (cs : List Change) → kept.applied_own o t index (state_by kinds k older) cs ≡ state_by kinds k (effects_on o t index older (map as_change cs))

@@ -9,7 +9,7 @@ use Rattle.dc_engine.specs.declared.sessions.Change.{Change}
 use Rattle.dc_engine.specs.ObjectKinds.{kinds}
 use Rattle.dc_engine.specs.Reading.{asked_of}
 use Rattle.dc_engine.specs.Machine.{session_in}
-use Rattle.dc_engine.specs.declared.store.Committed.{Committed}
+use Rattle.dc_engine.specs.declared.history.Committed.{Committed}
 use Rattle.dc_engine.specs.Stored.{stored}
 use Rattle.dc_engine.specs.State as state
 use Rattle.dc_engine.specs.State.{State, Open, Entry}

@@ -3,6 +3,7 @@ pub mod Blocks
 pub mod Causes
 pub mod Describes
 pub mod Held
+pub mod Kept
 pub mod Lines
 pub mod Logged
 pub mod Machine

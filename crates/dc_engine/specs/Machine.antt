@@ -13,7 +13,7 @@ use Rattle.world_model.specs.declared.step.Step.TheVariants as step
 use Rattle.world_model.specs.Refusals.{first_due, is_built, last_time}
 use Rattle.dc_engine.specs.declared.machine.Machine.{Machine}
 use Rattle.dc_engine.specs.declared.sessions.Change.{Change}
-use Rattle.dc_engine.specs.declared.store.Committed.{Committed}
+use Rattle.dc_engine.specs.declared.history.Committed.{Committed}
 use Rattle.dc_engine.specs.SessionTable.{session}
 use Rattle.dc_engine.specs.Stored.{stored, committed_of, state_in}
 use Rattle.dc_engine.specs.State.{one, transaction_at}

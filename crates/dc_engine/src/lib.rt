@@ -4,6 +4,7 @@
 mod blocks;
 mod edge;
 mod fault;
+mod history;
 mod kept;
 mod lines;
 mod machine;

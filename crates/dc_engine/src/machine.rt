@@ -6,9 +6,10 @@ ghost use Rattle.crdt_core.specs.declared.object.Field.{Field};
 ghost use Rattle.crdt_core.specs.declared.operation.Act.{Act};
 ghost use Rattle.dc_engine.specs.State.{transaction_at};
 
+use crate::history::{Replica, new_replica};
 use crate::objects::Objects;
 use crate::sessions::{Change, Sessions, Transaction, close, create, note, open};
-use crate::store::{Replica, Store, apply_own, apply_stored, new_replica, store_all};
+use crate::store::{Store, apply_own, store_all, stored_replica};
 use crdt_core::{Crdt, ObjectId, Op, Value, fits_at};
 use field_codec::Text;
 use indexmap::IndexMap;
@@ -339,9 +340,8 @@ fn read_object(
 ) -> Result<Replica, AllocError>
     ensures { IfOk result (λ r. r.state ≡ state_in store.now.entries object.now (transaction_at transaction.now.0) transaction.now) }
 {
-    let mut replica = new_replica(alloc, object.kind)?;
     let time = transaction.time();
-    apply_stored(alloc, &mut replica, store, object, time)?;
+    let mut replica = stored_replica(alloc, store, object, time)?;
     apply_own(
         alloc,
         &mut replica,

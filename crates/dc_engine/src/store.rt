@@ -2,25 +2,19 @@ ghost use Rattle.std.specs.Prelude.{◌≡◌, ◌≤◌, nat_le, ◌++◌, ◌�
 ghost use Rattle.crdt_core.specs.declared.object.ObjectId.{ObjectId};
 ghost use Rattle.crdt_core.specs.Objects.{same_object};
 ghost use Rattle.dc_engine.specs.ObjectKinds.{kinds};
-ghost use Rattle.dc_engine.specs.Stored.{stored, committed_of, applied_upto, applied_own};
+ghost use Rattle.dc_engine.specs.Stored.{stored, committed_of, applied_own};
+ghost use Rattle.dc_engine.specs.Kept.{applied_upto};
 
-use crate::objects::{Effect, ObjectState, Objects};
+use crate::history::{Committed, History, Replica, new_replica};
+use crate::objects::Objects;
 use crate::sessions::Change;
-use crdt_core::{Crdt, Kind, ObjectId};
+use crdt_core::{Crdt, ObjectId};
 use indexmap::IndexMap;
 use site_vector::{Dot, TxId};
 use std::alloc::{AllocError, Global};
 
-/// An update of a committed transaction, with its commit time in ticks.
-#[derive(Drop)]
-pub(crate) struct Committed {
-    pub(crate) dot: Dot,
-    pub(crate) time: u64,
-    pub(crate) effect: Effect,
-}
-
 /// The committed updates of each object, in the order of their commits.
-pub(crate) type Store = IndexMap<ObjectId, Vec<Committed>>;
+pub(crate) type Store = IndexMap<ObjectId, History>;
 
 /// Adds a committed update of an object.
 fn store_update(
@@ -31,13 +25,13 @@ fn store_update(
 ) -> Result<(), AllocError>
     ensures { OnOk result ((o : ObjectId) → stored store.new.entries o ≡ (if same_object object.now o then stored store.old.entries o ++ update ∷ [] else stored store.old.entries o)) }
 {
-    if let Some(updates) = store.get_mut(object) {
-        updates.push(update)?;
+    if let Some(history) = store.get_mut(object) {
+        history.push(alloc, update)?;
         return Ok(());
     }
-    let mut updates = Vec::new(alloc);
-    updates.push(update)?;
-    store.insert(object.copy(alloc)?, updates)?;
+    let mut history = History::new(alloc, object.kind)?;
+    history.push(alloc, update)?;
+    store.insert(object.copy(alloc)?, history)?;
     Ok(())
 }
 
@@ -75,64 +69,19 @@ fn store_change(
     store_update(store, alloc, &change.object, update)
 }
 
-/// A replica of an object: its state once updates were applied.
-#[derive(Drop)]
-pub(crate) struct Replica {
-    pub(crate) state: ObjectState,
-}
-
-/// A replica without updates, of an object of the kind.
-pub(crate) fn new_replica(alloc: Global, kind: Kind) -> Result<Replica, AllocError>
-    ensures { IfOk result (λ r. r.state ≡ kinds.initial kind) }
-{
-    let state = Objects::empty(alloc, kind)?;
-    Ok(Replica { state })
-}
-
-/// Applies the updates of an object that committed up to a time.
-pub(crate) fn apply_stored(
+/// A replica of an object with the updates applied that committed up to a time.
+pub(crate) fn stored_replica(
     alloc: Global,
-    replica: &mut Replica,
     store: &Store,
     object: &ObjectId,
     upto: u64,
-) -> Result<(), AllocError>
-    ensures { OnOk result (replica.new.state ≡ applied_upto upto replica.old.state (stored store.now.entries object.now)) }
+) -> Result<Replica, AllocError>
+    ensures { IfOk result (λ r. r.state ≡ applied_upto upto (kinds.initial object.now.kind) (stored store.now.entries object.now)) }
 {
     match store.get(object) {
-        Some(updates) => apply_visible(alloc, replica, updates, upto),
-        None => Ok(()),
+        Some(history) => history.replica_at(alloc, object.kind, upto),
+        None => new_replica(alloc, object.kind),
     }
-}
-
-/// Applies the updates that committed up to a time.
-fn apply_visible(
-    alloc: Global,
-    replica: &mut Replica,
-    updates: &[Committed],
-    upto: u64,
-) -> Result<(), AllocError>
-    ensures { OnOk result (replica.new.state ≡ applied_upto upto replica.old.state updates.now) }
-{
-    for update in updates {
-        apply_if_visible(alloc, replica, update, upto)?;
-    }
-    Ok(())
-}
-
-/// Applies an update where it committed up to a time.
-fn apply_if_visible(
-    alloc: Global,
-    replica: &mut Replica,
-    update: &Committed,
-    upto: u64,
-) -> Result<(), AllocError>
-    ensures { OnOk result (replica.new.state ≡ (if nat_le update.now.time upto then kinds.step replica.old.state update.now.dot update.now.effect else replica.old.state)) }
-{
-    if update.time <= upto {
-        return Objects::apply(alloc, &mut replica.state, update.dot, &update.effect);
-    }
-    Ok(())
 }
 
 /// Applies the changes of an object by a transaction that is open.

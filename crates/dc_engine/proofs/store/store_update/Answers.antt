@@ -6,7 +6,7 @@ use Rattle.dc_engine.proofs.store.store_update.Goals as goal
 pub returns-in-Some : goal.returns-in-Some
 returns-in-Some c = λ o.
     stored_more _ o _ _ c.push.new.self c.args.update (((c.get_mut.follows.holds c.push.new.self).3 (search rules)).0 o)
-    (c.in_ok-push.ensures.items ∙ ap (λ m. updates_in m ++ c.args.update ∷ []) c.in-Some.ensures.value)
+    (c.in_ok-push.ensures ∙ ap (λ m. updates_in m ++ c.args.update ∷ []) c.in-Some.ensures.value)
 
 pub returns : goal.returns
 returns c = λ o.

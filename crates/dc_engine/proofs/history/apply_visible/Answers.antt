@@ -1,5 +1,5 @@
 use Rattle.dc_engine.proofs.Applied.{visible_next}
-use Rattle.dc_engine.proofs.store.apply_visible.Goals as goal
+use Rattle.dc_engine.proofs.history.apply_visible.Goals as goal
 
 pub loop-update-preserved : goal.loop-update-preserved
 loop-update-preserved c =
