@@ -3,6 +3,7 @@ use Rattle.std.proofs.Common.{arith, ◌≡◌, ℕ, ◌+◌, ◌++◌, ◌∷�
 use Rattle.std.specs.Prelude.{ℤ, Result, Ok, Err, IfOk}
 use Rattle.std.specs.Global.{Vec}
 use Rattle.std.specs.declared.alloc.AllocError.{AllocError}
+use Rattle.crdt_core.specs.Fits.{fits}
 use Rattle.crdt_core.specs.declared.object.ObjectId.{ObjectId}
 use Rattle.crdt_core.specs.declared.operation.Op.{Op}
 use Rattle.world_model.specs.declared.command.Command.{Command}
@@ -12,7 +13,7 @@ use Rattle.world_model.specs.declared.step.Step.TheVariants as step
 use Rattle.world_model.specs.Refusals.{first_due, last_time}
 use Rattle.dc_engine.specs.declared.machine.Machine.{Machine}
 use Rattle.dc_engine.specs.declared.sessions.Change.{Change}
-use Rattle.dc_engine.specs.Machine.{dues, session_in, is_some_change, CommitsChanges, NotesUpdate, DoesCommit, ActsBy, Acts}
+use Rattle.dc_engine.specs.Machine.{effect_at, dues, session_in, is_some_change, CommitsChanges, NotesUpdate, DoesCommit, ActsBy, Acts}
 
 does_commit : (m new : Machine) (name : List ℕ) (t : ℕ × List Change) (changes : List Change) (lines : List Step) → is_some_change changes ≡ true → CommitsChanges m name t lines new → DoesCommit m name t changes lines new
 does_commit m new name t [] lines n h = cc
@@ -23,9 +24,9 @@ commit_acts m new name k t lines made s n e h =
     let due : first_due (dues m (command.Commit name k)) ≡ None = rw made (rw s (rw n (rw e refl))) in
     subst (ActsBy m (command.Commit name k) lines new) (sym due) (t, s, does_commit m new name t t.1 lines n h)
 
-pub update_acts : (m new : Machine) (name : List ℕ) (o : ObjectId) (op : Op) (t : ℕ × List Change) (lines : List Step) → m.made ≡ true → session_in m name ≡ Some (Some t) → eqb (length t.1) 256 ≡ false → NotesUpdate m name o op.act t lines new → Acts m (command.Update name o op) lines new
-update_acts m new name o op t lines made s e h =
-    let due : first_due (dues m (command.Update name o op)) ≡ None = rw made (rw s (rw e refl)) in
+pub update_acts : (m new : Machine) (name : List ℕ) (o : ObjectId) (op : Op) (t : ℕ × List Change) (lines : List Step) → m.made ≡ true → session_in m name ≡ Some (Some t) → fits o.kind op.path op.act ≡ true → eqb (length t.1) 256 ≡ false → NotesUpdate m name o (effect_at m o op t) t lines new → Acts m (command.Update name o op) lines new
+update_acts m new name o op t lines made s f e h =
+    let due : first_due (dues m (command.Update name o op)) ≡ None = rw made (rw s (rw f (rw e refl))) in
     subst (ActsBy m (command.Update name o op) lines new) (sym due) (t, s, h)
 
 pub has_change : (cs : List Change) → false ≡ eqb (length cs) 0 → is_some_change cs ≡ true
@@ -37,7 +38,7 @@ pub commit_ok : (r : Result (Vec Step) AllocError) (m new : Machine) (name : Lis
 commit_ok (Ok v) m new name k t made s n e h = commit_acts m new name k t v.items made s (has_change t.1 n) e h
 commit_ok (Err x) m new name k t made s n e h = tt
 
-pub update_ok : (r : Result (Vec Step) AllocError) (m new : Machine) (name : List ℕ) (o : ObjectId) (op : Op) (t : ℕ × List Change) → m.made ≡ true → session_in m name ≡ Some (Some t) → eqb (length t.1) 256 ≡ false
-    → IfOk r (λ lines. NotesUpdate m name o op.act t lines.items new) → IfOk r (λ lines. Acts m (command.Update name o op) lines.items new)
-update_ok (Ok v) m new name o op t made s e h = update_acts m new name o op t v.items made s e h
-update_ok (Err x) m new name o op t made s e h = tt
+pub update_ok : (r : Result (Vec Step) AllocError) (m new : Machine) (name : List ℕ) (o : ObjectId) (op : Op) (t : ℕ × List Change) → m.made ≡ true → session_in m name ≡ Some (Some t) → fits o.kind op.path op.act ≡ true → eqb (length t.1) 256 ≡ false
+    → IfOk r (λ lines. NotesUpdate m name o (effect_at m o op t) t lines.items new) → IfOk r (λ lines. Acts m (command.Update name o op) lines.items new)
+update_ok (Ok v) m new name o op t made s f e h = update_acts m new name o op t v.items made s f e h
+update_ok (Err x) m new name o op t made s f e h = tt

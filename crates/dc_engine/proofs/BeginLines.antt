@@ -1,10 +1,8 @@
 -- A begin and an update, and the machine after them.
 use Rattle.std.proofs.Common.{arith, ◌≡◌, ◌≢◌, ◌⊎◌, inl, inr, ⊎_elim, ℕ, suc, ◌+◌, ◌<◌, ◌≤◌, Bool, true, false, not, cond, eqb, leb, ◌&&◌, ◌||◌, List, [], ◌∷◌, ◌++◌, length, Option, None, Some, refl, sym, ap, ◌∙◌, subst}
-use Rattle.std.specs.Prelude.{is_some, if◌then◌else◌, nat_le, ◌==◌, max, ℤ, pos, ◌+ℤ◌}
-use Rattle.std.specs.Int.{int_wrap, w128}
+use Rattle.std.specs.Prelude.{is_some, if◌then◌else◌, nat_le, ◌==◌, max}
 use Rattle.std.specs.Str.{bytes_eq}
 use Rattle.std.specs.List.{list_any, list_all}
-use Rattle.std.proofs.lemmas.Int.{ints}
 use Rattle.std.proofs.lemmas.Bool.{true≢false, or_left, or_right, or_cases, and_parts, and_from, ne_eqb}
 use Rattle.std.proofs.lemmas.Bool.Decides.{nat_tests}
 use Rattle.std.proofs.lemmas.Slice.Eq.{bytes_eq-Decides}
@@ -16,9 +14,7 @@ use Rattle.site_vector.specs.Vector.{le, join, entry}
 use Rattle.site_vector.specs.VectorLaws.{le_trans, le_entry, join_le}
 use Rattle.crdt_core.specs.declared.object.ObjectId.{ObjectId}
 use Rattle.crdt_core.specs.declared.operation.Op.{Op}
-use Rattle.crdt_core.specs.declared.value.Value.TheVariants.{Int}
 use Rattle.crdt_core.specs.Objects.{same_object}
-use Rattle.crdt_counters.specs.Meaning.{amount, counter_meaning}
 use Rattle.world_model.specs.declared.command.Command.{Command}
 use Rattle.world_model.specs.declared.command.Command.TheVariants as command
 use Rattle.world_model.specs.declared.step.Step.{Step}
@@ -28,21 +24,29 @@ use Rattle.world_model.specs.Cluster.{has_cluster, sites_of, parts_of}
 use Rattle.world_model.specs.Clock.{now, ShowsTime}
 use Rattle.world_model.specs.Sessions.{is_begun, session_site, transaction, is_open, dependency, HoldsPast}
 use Rattle.world_model.specs.Fresh.{ShowsSnapshot}
-use Rattle.world_model.specs.History.{decides, in_history, history, snapshot, commit_time, commit_vector}
-use Rattle.world_model.specs.Updates.{Change, changes}
+use Rattle.world_model.specs.History.{decides, in_history, history, snapshot, commit_time, commit_vector, visible}
+use Rattle.world_model.specs.Updates.{Change, changes, updates_of, updates_in, update_of}
 use Rattle.world_model.specs.Reads.{IsRight, IsMeant, read_by}
+use Rattle.world_model.specs.Stamps.{ShowsStamp, IsDue}
+use Rattle.crdt_core.specs.Stamps.{stamp_due}
+use Rattle.crdt_core.specs.Placing.{place_of}
+use Rattle.std.proofs.lemmas.Bool.{eqb-true}
+use Rattle.dc_engine.specs.Told.{Told}
+use Rattle.dc_engine.proofs.DueRows.{placed_one}
 use Rattle.world_model.specs.Commit.{ShowsCommit}
 use Rattle.world_model.specs.Causes.{HasCause}
 use Rattle.world_model.proofs.Growth.{AreBegun, Leaves, AreLater, EachIs, right_grows, history_decided, vector_same}
-use Rattle.dc_engine.specs.State.{State, Open, Amount, one, transaction_at, is_open_in, with_session, own_sum, made_cluster, ticked, made_session, began, updated, ended, committed}
-use Rattle.dc_engine.specs.Describes.{Describes, KeepsLaws, IsCurrent, IsId, AreAmounts, ArePlain, added, added_by, site_if}
-use Rattle.dc_engine.proofs.ReadSums.{added_by_same, live_read, added_own}
+use Rattle.dc_engine.specs.ObjectKinds.{Effect, kinds}
+use Rattle.dc_engine.specs.State as state
+use Rattle.dc_engine.specs.State.{State, Open, Entry, one, transaction_at, is_open_in, with_session, made_cluster, ticked, made_session, began, updated, ended, committed, state_read, effect_of, stored_on}
+use Rattle.dc_engine.specs.Describes.{Describes, KeepsLaws, IsCurrent, IsId, SameObjects, Stores, Reads, site_if}
+use Rattle.dc_engine.proofs.StoredRuns.{AreTimes, stores_more, reads_more, reads_are, reads_begun, reads_mean, reads_stored, told_updated, stamp_next, told_committed, timed_on, timed_more}
 use Rattle.std.specs.Prelude.{replicate}
 use Rattle.world_model.specs.Sessions.{transaction_after}
 use Rattle.world_model.specs.Fresh.{IsSnapshot}
-use Rattle.dc_engine.proofs.NewLine.{IsNewLine, line, laws_more, same_sums, current_in, id_in, quiet, off}
+use Rattle.dc_engine.proofs.NewLine.{IsNewLine, line, laws_more, reads_in, times_of, current_in, id_in, quiet, off}
 use Rattle.world_model.specs.Updates.{is_tx, changed, partition_of, changes_after}
-use Rattle.world_model.specs.Refusals.{is_amount}
+use Rattle.crdt_core.specs.Fits.{fits}
 use Rattle.dc_engine.proofs.StepLines.{le_one, with_cases, same_name, leaves_plain, later_in, quiet_line}
 
 pub false_if : (b : Bool) → (b ≡ true → ⊥) → b ≡ false
@@ -73,7 +77,10 @@ begin_line m run number asked name made idle d =
     let l : Leaves run e = leaves_plain run e snapshots (λ t h. refl) (λ t h. refl) (λ u. refl) in
     let new : Open = record { time = n; changes = [] } in
     let below : (dep : List ℕ) → le dep (m.now ∷ []) ≡ true → le dep (n ∷ []) ≡ true = λ dep h. le_trans dep (m.now ∷ []) (n ∷ []) h (le_one m.now n (omega arith)) in
-    let later = later_in run e d.are_begun l d.are_later in record {
+    let later = later_in run e d.are_begun l d.are_later in
+    let below_later : AreLater (e ∷ run) = record { above = λ t h. (later t h).0; strictly = λ t h. (later t h).1 } in
+    let stores = stores_more m.stored run e d.are_begun l refl d.stores in
+    let times : AreTimes (e ∷ run) = λ t h. vector_same run e d.are_begun l t h ∙ times_of m run d t h in record {
       is_made = d.is_made;
       sites = d.sites;
       parts = d.parts;
@@ -85,7 +92,7 @@ begin_line m run number asked name made idle d =
           (λ k c q. let same : new ≡ t = cc in subst (IsCurrent (e ∷ run) who) same (record {
             named = ap (λ b. if b then Some x else transaction run who) c;
             begun = or_left (same_tx x x) (is_begun run x) (same_tx_refl x);
-            amounts = subst (λ cs. AreAmounts cs []) (sym (d.unbegun x fresh).0) tt;
+            objects = subst (λ cs. SameObjects cs []) (sym (d.unbegun x fresh).0) tt;
             undecided = undecided_in m run x d fresh;
             unvoted = (d.unbegun x fresh).1;
           }))
@@ -108,39 +115,69 @@ begin_line m run number asked name made idle d =
           (λ (o : is_begun run t ≡ true). id_in run (e ∷ run) m.now n t (omega arith) (snapshots t o) (d.ids t o))
           (or_cases (same_tx x t) (is_begun run t) b);
       are_begun = λ t h. or_right (same_tx x t) (is_begun run t) (d.are_begun t h);
-      are_later = record { above = λ t h. (later t h).0; strictly = λ t h. (later t h).1 };
-      plain = d.plain;
-      sums = same_sums m run e d l;
+      are_later = below_later;
+      stores = stores;
+      reads = λ who t h. with_cases m name who (Some new) (λ b s. s ≡ Some (Some t) → Reads m.stored (e ∷ run) t)
+          (λ k q. let same : new ≡ t = cc in subst (Reads m.stored (e ∷ run)) same (reads_begun m.stored (e ∷ run) stores below_later times n (d.unbegun x fresh).0))
+          (λ k q. reads_in m run e d l who t q refl) h;
       unbegun = λ t h. d.unbegun t (false_if (is_begun run t) (λ b. true≢false (sym (or_right (same_tx x t) (is_begun run t) b) ∙ h)));
       laws = laws_more run e d.are_begun l d.laws (quiet_line run asked e.step (ap (λ k. k + 1) (sym d.time))
           (record { width = sym (d.sites made); own = entry_one (dependency run name) m.now (d.depends name) })
-          (below (dependency run name) (d.depends name)) tt tt tt);
+          (below (dependency run name) (d.depends name)) tt tt tt tt);
     }
 
-amounts_append : (cs : List Change) (ss : List Amount) (c : Change) (a : Amount) → AreAmounts cs ss → c.object ≡ a.0 → amount c.op.act ≡ a.1 → AreAmounts (cs ++ c ∷ []) (ss ++ a ∷ [])
-amounts_append [] [] c a h o z = (o, z, tt)
-amounts_append [] (b ∷ ss) c a h o z = absurd h
-amounts_append (x ∷ cs) [] c a h o z = absurd h
-amounts_append (x ∷ cs) (b ∷ ss) c a h o z = (h.0, h.1, amounts_append cs ss c a h.2 o z)
+objects_append : (cs : List Change) (ss : List state.Change) (c : Change) (a : state.Change) → SameObjects cs ss → c.object ≡ a.0 → SameObjects (cs ++ c ∷ []) (ss ++ a ∷ [])
+objects_append [] [] c a h o = (o, tt)
+objects_append [] (b ∷ ss) c a h o = absurd h
+objects_append (x ∷ cs) [] c a h o = absurd h
+objects_append (x ∷ cs) (b ∷ ss) c a h o = (h.0, objects_append cs ss c a h.1 o)
 
-plain_append : (cs : List Change) (c : Change) → ArePlain cs → is_amount c.op.act ≡ true → ArePlain (cs ++ c ∷ [])
-plain_append [] c h k = (k, tt)
-plain_append (x ∷ cs) c h k = (h.0, plain_append cs c h.1 k)
+-- the one partition's clock counts
+place_now : (m : State) (run : Run) (t : ℕ) (o : ObjectId) → m.made ≡ true → Describes m run → now run (partition_of run (transaction_at t) o) ≡ m.now
+place_now m run t o made d =
+    let here : place_of o.bucket o.key (parts_of run) ≡ 1 = eqb-true (place_of o.bucket o.key (parts_of run)) 1 (placed_one o.bucket o.key (parts_of run) (d.parts made)) in
+    ap (λ k. now run (record { site = 1; part = k })) here ∙ d.time
 
-pub update_line : (m : State) (run : Run) (number : ℕ) (name : List ℕ) (o : ObjectId) (op : Op) (t : Open) → is_amount op.act ≡ true → m.session name ≡ Some (Some t) → Describes m run
-    → Describes (updated m name t (o, amount op.act)) (line number (Some (command.Update name o op)) (step.Updated name o None) ∷ run)
-update_line m run number name o op t fits now_open d =
+-- the change that an update makes
+abbrev pub change_in : Run → ℕ → ObjectId → Op → Option ℕ → Change
+change_in run t o op stamp = record { object = o; op = op; stamp = stamp; now = now run (partition_of run (transaction_at t) o) }
+
+effect_is : (m : State) (run : Run) (o : ObjectId) (op : Op) (t : Open) → m.made ≡ true → Describes m run → effect_of m o op t ≡ kinds.made o.kind (state_read m o t) op.path op.act (now run (partition_of run (transaction_at t.time) o))
+effect_is m run o op t made d = ap (λ n. kinds.made o.kind (state_read m o t) op.path op.act n) (sym (place_now m run t.time o made d))
+
+-- the stamp that it shows is the one that is due
+pub stamp_is_due : (m : State) (run : Run) (name : List ℕ) (o : ObjectId) (op : Op) (t : Open) → m.made ≡ true → kinds.has o.kind ≡ true → fits o.kind op.path op.act ≡ true → m.session name ≡ Some (Some t) → Describes m run
+    → let x = transaction_at t.time in let stamp = kinds.stamp_of (effect_of m o op t) in stamp ≡ stamp_due o.kind (read_by run run x o) (update_of run x (1 + length (changes run x)) (change_in run t.time o op stamp))
+stamp_is_due m run name o op t made has fit now_open d =
     let cur = d.current name t now_open in
     let x = transaction_at t.time in
-    let c : Change = record { object = o; op = op; stamp = None; now = now run (partition_of run x o) } in
-    let new : Open = record { time = t.time; changes = t.changes ++ (o, amount op.act) ∷ [] } in
-    let e = line number (Some (command.Update name o op)) (step.Updated name o None) in
-    let grown : Bool → TxId → List Change = λ b u. if b then changes run u ++ (record { object = o; op = op; stamp = None; now = now run (partition_of run u o) }) ∷ [] else changes run u in
+    let effect = effect_of m o op t in
+    let c = change_in run t.time o op (kinds.stamp_of effect) in
+    let reads = (d.ids x cur.begun).reads in
+    stamp_next m.stored run d.are_later t cur.undecided reads (d.reads name t now_open) cur.objects o c effect has fit (effect_is m run o op t made d) refl
+    ∙ ap (λ v. stamp_due o.kind (updates_of run o (visible run v) ++ updates_in run o x 1 (changes run x)) (update_of run x (1 + length (changes run x)) c)) (sym reads)
+
+pub update_line : (m : State) (run : Run) (number : ℕ) (name : List ℕ) (o : ObjectId) (op : Op) (t : Open) → m.made ≡ true → kinds.has o.kind ≡ true → fits o.kind op.path op.act ≡ true → m.session name ≡ Some (Some t) → Describes m run
+    → Describes (updated m name t (o, effect_of m o op t)) (line number (Some (command.Update name o op)) (step.Updated name o (kinds.stamp_of (effect_of m o op t))) ∷ run)
+update_line m run number name o op t made has fit now_open d =
+    let cur = d.current name t now_open in
+    let x = transaction_at t.time in
+    let effect = effect_of m o op t in
+    let stamp = kinds.stamp_of effect in
+    let c : Change = change_in run t.time o op stamp in
+    let reads = (d.ids x cur.begun).reads in
+    let new : Open = record { time = t.time; changes = t.changes ++ (o, effect) ∷ [] } in
+    let e = line number (Some (command.Update name o op)) (step.Updated name o stamp) in
+    let grown : Bool → TxId → List Change = λ b u. if b then changes run u ++ (record { object = o; op = op; stamp = stamp; now = now run (partition_of run u o) }) ∷ [] else changes run u in
     let gives : (u : TxId) → changes (e ∷ run) u ≡ grown (same_tx x u) u = λ u. ap (λ w. grown (is_tx w u) u) cur.named in
     let kept : (u : TxId) → same_tx x u ≡ false → changes (e ∷ run) u ≡ changes run u = λ u ne. gives u ∙ ap (λ b. grown b u) ne in
     let here : changes (e ∷ run) x ≡ changes run x ++ c ∷ [] = gives x ∙ ap (λ b. grown b x) (same_tx_refl x) in
     let not_here : (u : TxId) → in_history run u ≡ true → same_tx x u ≡ false = λ u h. false_if (same_tx x u) (λ s. true≢false (sym h ∙ subst (λ w. in_history run w ≡ false) (same_tx_is x u s) cur.undecided)) in
     let l : Leaves run e = leaves_plain run e (λ u b. refl) (λ u h. refl) (λ u h. kept u (not_here u h)) (λ u. refl) in
+    let other : (who : List ℕ) (u : Open) → bytes_eq name who ≡ false → m.session who ≡ Some (Some u) → changes (e ∷ run) (transaction_at u.time) ≡ changes run (transaction_at u.time) =
+    λ who u k q. kept (transaction_at u.time) (false_if (same_tx x (transaction_at u.time)) (λ s. d.apart name who t u k now_open q (ap (λ (w : TxId). w.time) (same_tx_is x (transaction_at u.time) s)))) in
+    let read_new : Reads m.stored (e ∷ run) new = λ p. subst (λ us. Told kinds p.kind us (state.effects_on p x 1 (state.upto t.time (m.stored p)) new.changes)) (sym (reads_are run e d.are_begun l p t.time (changes run x ++ c ∷ []) cur.begun reads here))
+    (told_updated m.stored run d.are_later t cur.undecided reads (d.reads name t now_open) cur.objects o c effect refl fit (effect_is m run o op t made d) refl p) in
     let later = later_in run e d.are_begun l d.are_later in record {
       is_made = d.is_made;
       sites = d.sites;
@@ -153,11 +190,11 @@ update_line m run number name o op t fits now_open d =
           (λ k b q. let same : new ≡ u = cc in subst (IsCurrent (e ∷ run) who) same (record {
             named = subst (λ w. transaction run w ≡ Some x) (same_name name who k) cur.named;
             begun = cur.begun;
-            amounts = subst (λ cs. AreAmounts cs new.changes) (sym here) (amounts_append (changes run x) t.changes c (o, amount op.act) cur.amounts refl refl);
+            objects = subst (λ cs. SameObjects cs new.changes) (sym here) (objects_append (changes run x) t.changes c (o, effect) cur.objects refl);
             undecided = cur.undecided;
             unvoted = cur.unvoted;
           }))
-          (λ k b q. current_in run (e ∷ run) who u refl (λ w g. g) (kept (transaction_at u.time) (false_if (same_tx x (transaction_at u.time)) (λ s. d.apart name who t u k now_open q (ap (λ (w : TxId). w.time) (same_tx_is x (transaction_at u.time) s))))) refl refl (d.current who u q)) refl h;
+          (λ k b q. current_in run (e ∷ run) who u refl (λ w g. g) (other who u k q) refl refl (d.current who u q)) refl h;
       apart = λ who other v w ne p q. with_cases m name who (Some new) (λ b s. bytes_eq name who ≡ b → s ≡ Some (Some v) → v.time ≢ w.time)
           (λ k b p2. with_cases m name other (Some new) (λ b s. bytes_eq name other ≡ b → s ≡ Some (Some w) → v.time ≢ w.time)
           (λ j b2 q2. absurd (true≢false (sym ((bytes_eq-Decides who other).1 (sym (same_name name who k) ∙ same_name name other j)) ∙ ne)))
@@ -169,8 +206,11 @@ update_line m run number name o op t fits now_open d =
       ids = λ u b. id_in run (e ∷ run) m.now m.now u (omega arith) refl (d.ids u b);
       are_begun = d.are_begun;
       are_later = record { above = λ u h. (later u h).0; strictly = λ u h. (later u h).1 };
-      plain = λ u. subst ArePlain (sym (gives u)) (elim (same_tx x u) as (λ b. ArePlain (grown b u)) [ true ↦ plain_append (changes run u) _ (d.plain u) fits | false ↦ d.plain u ]);
-      sums = same_sums m run e d l;
+      stores = stores_more m.stored run e d.are_begun l refl d.stores;
+      reads = λ who u h. with_cases m name who (Some new) (λ b s. bytes_eq name who ≡ b → s ≡ Some (Some u) → Reads m.stored (e ∷ run) u)
+          (λ k b q. let same : new ≡ u = cc in subst (Reads m.stored (e ∷ run)) same read_new)
+          (λ k b q. reads_in m run e d l who u q (other who u k q)) refl h;
       unbegun = λ u h. (kept u (false_if (same_tx x u) (λ s. true≢false (sym (subst (λ w. is_begun run w ≡ true) (same_tx_is x u s) cur.begun) ∙ h))) ∙ (d.unbegun u h).0, (d.unbegun u h).1);
-      laws = laws_more run e d.are_begun l d.laws (quiet_line run (Some (command.Update name o op)) e.step tt tt tt tt tt tt);
+      laws = laws_more run e d.are_begun l d.laws (quiet_line run (Some (command.Update name o op)) e.step tt tt tt tt tt tt
+          (subst (λ w. IsDue run run w o stamp (Some op)) (sym cur.named) (stamp_is_due m run name o op t made has fit now_open d)));
     }

@@ -1,10 +1,8 @@
 -- A whole commit, and the machine after it.
 use Rattle.std.proofs.Common.{arith, ◌≡◌, ◌≢◌, ◌⊎◌, inl, inr, ⊎_elim, ℕ, suc, ◌+◌, ◌<◌, ◌≤◌, Bool, true, false, not, cond, eqb, leb, ◌&&◌, ◌||◌, List, [], ◌∷◌, ◌++◌, length, Option, None, Some, refl, sym, ap, ◌∙◌, subst}
-use Rattle.std.specs.Prelude.{is_some, if◌then◌else◌, nat_le, ◌==◌, max, ℤ, pos, ◌+ℤ◌}
-use Rattle.std.specs.Int.{int_wrap, w128}
+use Rattle.std.specs.Prelude.{is_some, if◌then◌else◌, nat_le, ◌==◌, max}
 use Rattle.std.specs.Str.{bytes_eq}
 use Rattle.std.specs.List.{list_any, list_all}
-use Rattle.std.proofs.lemmas.Int.{ints}
 use Rattle.std.proofs.lemmas.Bool.{true≢false, or_left, or_right, or_cases, and_parts, and_from, ne_eqb}
 use Rattle.std.proofs.lemmas.Bool.Decides.{nat_tests}
 use Rattle.std.proofs.lemmas.Slice.Eq.{bytes_eq-Decides}
@@ -16,9 +14,7 @@ use Rattle.site_vector.specs.Vector.{le, join, entry, replaced}
 use Rattle.site_vector.specs.VectorLaws.{le_trans, le_entry, join_le}
 use Rattle.crdt_core.specs.declared.object.ObjectId.{ObjectId}
 use Rattle.crdt_core.specs.declared.operation.Op.{Op}
-use Rattle.crdt_core.specs.declared.value.Value.TheVariants.{Int}
 use Rattle.crdt_core.specs.Objects.{same_object}
-use Rattle.crdt_counters.specs.Meaning.{amount, counter_meaning}
 use Rattle.world_model.specs.declared.command.Command.{Command}
 use Rattle.world_model.specs.declared.command.Command.TheVariants as command
 use Rattle.world_model.specs.declared.step.Step.{Step}
@@ -34,23 +30,29 @@ use Rattle.world_model.specs.Reads.{IsRight, IsMeant, read_by}
 use Rattle.world_model.specs.Commit.{ShowsCommit}
 use Rattle.world_model.specs.Causes.{HasCause}
 use Rattle.world_model.proofs.Growth.{AreBegun, Leaves, AreLater, EachIs, right_grows, history_decided, vector_same}
-use Rattle.dc_engine.specs.State.{State, Open, Amount, one, transaction_at, is_open_in, with_session, own_sum, made_cluster, ticked, made_session, began, updated, ended, committed}
-use Rattle.dc_engine.specs.Describes.{Describes, KeepsLaws, IsCurrent, IsId, AreAmounts, ArePlain, added, added_by, site_if}
-use Rattle.dc_engine.proofs.ReadSums.{added_by_same, live_read, added_own}
+use Rattle.dc_engine.specs.ObjectKinds.{Effect, kinds}
+use Rattle.dc_engine.specs.State as state
+use Rattle.dc_engine.specs.State.{State, Open, Entry, one, transaction_at, is_open_in, with_session, made_cluster, ticked, made_session, began, updated, ended, committed, state_read, effect_of, stored_on}
+use Rattle.dc_engine.specs.Describes.{Describes, KeepsLaws, IsCurrent, IsId, SameObjects, Stores, Reads, site_if}
+use Rattle.dc_engine.proofs.StoredRuns.{AreTimes, stores_more, reads_more, reads_are, reads_begun, reads_mean, reads_stored, told_updated, stamp_next, told_committed, timed_on, timed_more}
 use Rattle.std.specs.Prelude.{replicate}
 use Rattle.world_model.specs.Sessions.{transaction_after}
 use Rattle.world_model.specs.Fresh.{IsSnapshot}
-use Rattle.dc_engine.proofs.NewLine.{IsNewLine, line, laws_more, same_sums, current_in, id_in, quiet, off}
+use Rattle.dc_engine.proofs.NewLine.{IsNewLine, line, laws_more, reads_in, times_of, current_in, id_in, quiet, off}
 use Rattle.world_model.specs.Updates.{is_tx, changed, partition_of, changes_after}
-use Rattle.world_model.specs.Refusals.{is_amount}
+use Rattle.crdt_core.specs.Fits.{fits}
 use Rattle.dc_engine.proofs.StepLines.{le_one, with_cases, same_name, leaves_plain, later_in, quiet_line}
+use Rattle.std.specs.Prelude.{map}
+use Rattle.dc_engine.specs.Logged.{own_on, logged}
+use Rattle.dc_engine.specs.Told.{Told}
+use Rattle.dc_engine.proofs.LoggedRuns.{own_same, logged_same}
 use Rattle.std.proofs.lemmas.Bool.{false≢true}
 use Rattle.std.proofs.Math.Bool.{and-true}
 use Rattle.world_model.specs.History.{newly_decided}
 use Rattle.world_model.specs.Commit.{participants, was_prepared, IsLead, IsVote, IsDecision}
 use Rattle.world_model.proofs.Growth.{each_weaker}
 use Rattle.dc_engine.specs.State.{is_change}
-use Rattle.dc_engine.proofs.DueRows.{participants_one, any_change, any_amounts}
+use Rattle.dc_engine.proofs.DueRows.{participants_one, any_change, any_objects}
 use Rattle.dc_engine.proofs.StepLines.{not_le_one}
 use Rattle.dc_engine.proofs.BeginLines.{false_if}
 
@@ -98,7 +100,7 @@ module _ (m : State) (run : Run) (number : ℕ) (asked : Option Command) (name :
   apart_from u h = false_if (same_tx x u) (λ s. true≢false (sym h ∙ subst (λ w. in_history run w ≡ false) (same_tx_is x u s) cur.undecided))
 
   voters : participants run x ≡ one ∷ []
-  voters = participants_one run t.time (d.parts made) ∙ ap (λ b. if b then one ∷ [] else []) (any_amounts (changes run x) t.changes cur.amounts ∙ some)
+  voters = participants_one run t.time (d.parts made) ∙ ap (λ b. if b then one ∷ [] else []) (any_objects (changes run x) t.changes cur.objects ∙ some)
 
   leaves1 : Leaves run prepared
   leaves1 = leaves_plain run prepared (λ u b. refl) (λ u h. ap (λ b. if b then max n (commit_time run u) else commit_time run u) (apart_from u h)) (λ u h. refl) (λ u. refl)
@@ -110,7 +112,7 @@ module _ (m : State) (run : Run) (number : ℕ) (asked : Option Command) (name :
   }
 
   new1 : IsNewLine run asked (step.Prepared one x n)
-  new1 = quiet_line run asked (step.Prepared one x n) (ap (λ k. k + 1) (sym d.time)) tt tt vote tt tt
+  new1 = quiet_line run asked (step.Prepared one x n) (ap (λ k. k + 1) (sym d.time)) tt tt vote tt tt tt
 
   time1 : commit_time run1 x ≡ n
   time1 = ap (λ b. if b then max n (commit_time run x) else commit_time run x) (same_tx_refl x) ∙ max_zero n (commit_time run x) cur.unvoted
@@ -140,7 +142,7 @@ module _ (m : State) (run : Run) (number : ℕ) (asked : Option Command) (name :
   }
 
   new2 : IsNewLine run1 asked (step.Decided one x (n ∷ []))
-  new2 = quiet_line run1 asked (step.Decided one x (n ∷ [])) tt tt tt decision tt tt
+  new2 = quiet_line run1 asked (step.Decided one x (n ∷ [])) tt tt tt decision tt tt tt
 
   begun2 : AreBegun run2
   begun2 u h = ⊎_elim (λ (s : same_tx x u ≡ true). subst (λ w. is_begun run w ≡ true) (same_tx_is x u s) cur.begun) (λ (o : in_history run u ≡ true). d.are_begun u o) (or_cases (same_tx x u) (in_history run u) h)
@@ -149,7 +151,7 @@ module _ (m : State) (run : Run) (number : ℕ) (asked : Option Command) (name :
   leaves3 = leaves_plain run2 over (λ u b. refl) (λ u h. refl) (λ u h. refl) (λ u. refl)
 
   new3 : IsNewLine run2 asked (step.Ended name)
-  new3 = quiet_line run2 asked (step.Ended name) tt tt tt tt tt tt
+  new3 = quiet_line run2 asked (step.Ended name) tt tt tt tt tt tt tt
 
   later_here : (le (snapshot run3 x) (commit_vector run3 x) ≡ true) × (le (commit_vector run3 x) (snapshot run3 x) ≡ false)
   later_here =
@@ -166,17 +168,41 @@ module _ (m : State) (run : Run) (number : ℕ) (asked : Option Command) (name :
   listed : history run3 ≡ x ∷ history run
   listed = ap (λ b. (if b then [] else x ∷ []) ++ history run) cur.undecided
 
-  sums3 : (o : ObjectId) (k : ℕ) → m.sum o k +ℤ (if nat_le n k then own_sum o t.changes else pos 0) ≡ added_by run3 o (k ∷ []) (history run3)
-  sums3 o k =
-      let v = k ∷ [] in
-      let old = history run in
-      let each = history_decided run in
-      let each2 = each_weaker (in_history run) (in_history run2) (λ u h. or_right (same_tx x u) (in_history run u) h) old each in
-      let rest : added_by run3 o v old ≡ m.sum o k = added_by_same run2 over begun2 leaves3 o v old each2 ∙ (added_by_same run1 decided begun1 leaves2 o v old each ∙ (added_by_same run prepared d.are_begun leaves1 o v old each ∙ sym (d.sums o k))) in
-      let here : (if le (commit_vector run3 x) v then added o (changes run3 x) else pos 0) ≡ (if nat_le n k then own_sum o t.changes else pos 0) =
-      ap (λ w. if le w v then added o (changes run x) else pos 0) vector1 ∙ (ap (λ b. if b then added o (changes run x) else pos 0) (le_pair n k) ∙ ap (λ z. if nat_le n k then z else pos 0) (added_own o (changes run x) t.changes cur.amounts)) in
-      let swap : m.sum o k +ℤ (if nat_le n k then own_sum o t.changes else pos 0) ≡ (if nat_le n k then own_sum o t.changes else pos 0) +ℤ m.sum o k = omega (arith, ints) in
-      swap ∙ (ap (λ z. z +ℤ m.sum o k) (sym here) ∙ (ap (λ z. (if le (commit_vector run3 x) v then added o (changes run3 x) else pos 0) +ℤ z) (sym rest) ∙ ap (λ ts. added_by run3 o v ts) (sym listed)))
+  each : EachIs (in_history run) (history run)
+  each = history_decided run
+
+  each2 : EachIs (in_history run2) (history run)
+  each2 = each_weaker (in_history run) (in_history run2) (λ u h. or_right (same_tx x u) (in_history run u) h) (history run) each
+
+  reads : snapshot run x ≡ t.time ∷ []
+  reads = (d.ids x cur.begun).reads
+
+  -- what is decided then of an object
+  logged3 : (o : ObjectId) → logged run3 o (history run3) ≡ own_on run o x 1 (logged run o (history run)) (changes run x)
+  logged3 o =
+      let old = logged_same run2 over begun2 leaves3 o (history run) each2 ∙ (logged_same run1 decided begun1 leaves2 o (history run) each ∙ logged_same run prepared d.are_begun leaves1 o (history run) each) in
+      let base = logged run o (history run) in
+      ap (logged run3 o) listed
+      ∙ (ap (λ l. own_on run3 o x 1 l (changes run x)) old
+      ∙ (own_same run2 over begun2 leaves3 o x 1 base (changes run x) cur.begun ∙ (own_same run1 decided begun1 leaves2 o x 1 base (changes run x) cur.begun ∙ own_same run prepared d.are_begun leaves1 o x 1 base (changes run x) cur.begun)))
+
+  abbrev stored3 : ObjectId → List Entry
+  stored3 o = stored_on n o x 1 (m.stored o) t.changes
+
+  stores3 : Stores stored3 run3
+  stores3 = record {
+    told = λ o. subst (λ us. Told kinds o.kind us (map (λ (y : Entry). y.1) (stored3 o))) (sym (logged3 o)) (told_committed m.stored run d.are_later t cur.undecided reads (d.reads name t is_now_open) cur.objects d.stores (times_of m run d) n o);
+    timed = λ o. timed_on run3 n o x 1 (m.stored o) t.changes (sym time1) (or_left (same_tx x x) (in_history run x) (same_tx_refl x)) (timed_more run2 over leaves3 (m.stored o) (timed_more run1 decided leaves2 (m.stored o) (timed_more run prepared leaves1 (m.stored o) (d.stores.timed o))));
+  }
+
+  reads3 : (who : List ℕ) (u : Open) → m.session who ≡ Some (Some u) → Reads stored3 run3 u
+  reads3 who u q =
+      let other = d.current who u q in
+      let id = d.ids (transaction_at u.time) other.begun in
+      let p : u.time ≤ m.now = id.passed in
+      let late : nat_le n u.time ≡ false = let far : u.time < n = omega arith in grind (arith, nat_tests, far) in
+      reads_stored m.stored run3 u n x t.changes late
+      (reads_more m.stored run2 over begun2 leaves3 u other.begun id.reads refl (reads_more m.stored run1 decided begun1 leaves2 u other.begun id.reads refl (reads_more m.stored run prepared d.are_begun leaves1 u other.begun id.reads refl (d.reads who u q))))
 
   other_of : (who : List ℕ) (u : Open) → bytes_eq name who ≡ false → m.session who ≡ Some (Some u) → same_tx x (transaction_at u.time) ≡ false
   other_of who u k q = false_if (same_tx x (transaction_at u.time)) (λ s. d.apart name who t u k is_now_open q (ap (λ (w : TxId). w.time) (same_tx_is x (transaction_at u.time) s)))
@@ -204,8 +230,8 @@ module _ (m : State) (run : Run) (number : ℕ) (asked : Option Command) (name :
     ids = λ u b. id_in run run3 m.now n u (omega arith) refl (d.ids u b);
     are_begun = begun2;
     are_later = record { above = λ u h. (later3 u h).0; strictly = λ u h. (later3 u h).1 };
-    plain = d.plain;
-    sums = sums3;
+    stores = stores3;
+    reads = λ who u h. with_cases m name who None (λ b s. s ≡ Some (Some u) → Reads stored3 run3 u) (λ k q. cc) (λ k q. reads3 who u q) h;
     unbegun = λ u h. ((d.unbegun u h).0, ap (λ b. if b then max n (commit_time run u) else commit_time run u) (false_if (same_tx x u) (λ s. true≢false (sym (subst (λ w. is_begun run w ≡ true) (same_tx_is x u s) cur.begun) ∙ h))) ∙ (d.unbegun u h).1);
     laws = laws_more run2 over begun2 leaves3 (laws_more run1 decided begun1 leaves2 (laws_more run prepared d.are_begun leaves1 d.laws new1) new2) new3;
   }

@@ -7,6 +7,7 @@ use Rattle.std.proofs.lemmas.Bool.Decides.{nat_tests}
 use Rattle.site_vector.specs.declared.ids.PartId.{PartId}
 use Rattle.site_vector.specs.declared.ids.TxId.{TxId}
 use Rattle.site_vector.specs.Ids.{same_part}
+use Rattle.crdt_core.specs.Fits.{fits}
 use Rattle.crdt_core.specs.Placing.{place_of, hashed}
 use Rattle.world_model.specs.declared.command.Command.{Command}
 use Rattle.world_model.specs.declared.command.Command.TheVariants as command
@@ -19,8 +20,10 @@ use Rattle.world_model.specs.Sessions.{session_site, has_session, sessions_of, t
 use Rattle.world_model.specs.Updates.{Change, changes}
 use Rattle.world_model.specs.Commit.{partitions, takes_part, participants}
 use Rattle.world_model.specs.Refusals.{refusals, first_due, is_built, last_time, site_or_none, begin_part, changes_of, is_at_end}
-use Rattle.dc_engine.specs.State.{State, Open, Amount, one, transaction_at, is_open_in, changes_in, is_change, dues}
-use Rattle.dc_engine.specs.Describes.{Describes, AreAmounts, IsCurrent, site_if}
+use Rattle.dc_engine.specs.ObjectKinds.{kinds}
+use Rattle.dc_engine.specs.State as state
+use Rattle.dc_engine.specs.State.{State, Open, one, transaction_at, is_open_in, changes_in, is_change, dues}
+use Rattle.dc_engine.specs.Describes.{Describes, SameObjects, IsCurrent, site_if}
 
 one_number : (n k : ℕ) → k ≡ 1 → (nat_le 1 n && nat_le n k) ≡ (n == 1)
 one_number n k h = grind (arith, nat_tests)
@@ -38,23 +41,23 @@ has_site_if (Some t) = refl
 pub session_is : (m : State) (run : Run) (name : List ℕ) → Describes m run → has_session run name ≡ is_some (m.session name)
 session_is m run name d = ap is_some (d.there name) ∙ has_site_if (m.session name)
 
-pub length_amounts : (cs : List Change) (ss : List Amount) → AreAmounts cs ss → length cs ≡ length ss
-length_amounts [] [] h = refl
-length_amounts [] (a ∷ ss) h = absurd h
-length_amounts (c ∷ cs) [] h = absurd h
-length_amounts (c ∷ cs) (a ∷ ss) h = ap (λ n. suc n) (length_amounts cs ss h.2)
+pub length_objects : (cs : List Change) (ss : List state.Change) → SameObjects cs ss → length cs ≡ length ss
+length_objects [] [] h = refl
+length_objects [] (a ∷ ss) h = absurd h
+length_objects (c ∷ cs) [] h = absurd h
+length_objects (c ∷ cs) (a ∷ ss) h = ap (λ n. suc n) (length_objects cs ss h.1)
 
 abbrev pub any_change : List Change → Bool
 any_change [] = false
 any_change (c ∷ cs) = true
 
-pub any_amounts : (cs : List Change) (ss : List Amount) → AreAmounts cs ss → any_change cs ≡ is_change ss
-any_amounts [] [] h = refl
-any_amounts [] (a ∷ ss) h = absurd h
-any_amounts (c ∷ cs) [] h = absurd h
-any_amounts (c ∷ cs) (a ∷ ss) h = refl
+pub any_objects : (cs : List Change) (ss : List state.Change) → SameObjects cs ss → any_change cs ≡ is_change ss
+any_objects [] [] h = refl
+any_objects [] (a ∷ ss) h = absurd h
+any_objects (c ∷ cs) [] h = absurd h
+any_objects (c ∷ cs) (a ∷ ss) h = refl
 
-placed_one : (bucket key : List ℕ) (n : ℕ) → n ≡ 1 → (place_of bucket key n == 1) ≡ true
+pub placed_one : (bucket key : List ℕ) (n : ℕ) → n ≡ 1 → (place_of bucket key n == 1) ≡ true
 placed_one bucket key n h =
     let e : hashed 7 (bucket ++ 0 ∷ key) % n ≡ 0 = ap (λ k. hashed 7 (bucket ++ 0 ∷ key) % k) h ∙ omega arith in
     ap (λ k. 1 + k == 1) e
@@ -107,7 +110,7 @@ module _ (m : State) (run : Run) (d : Describes m run) where
       (λ made. there_or name below under (λ t e. open_or name t e rows lines (h made)))
 
   count_is : (name : List ℕ) (u : Open) → m.session name ≡ Some (Some u) → changes_of run (transaction run name) ≡ length (changes_in (m.session name))
-  count_is name u e = ap (changes_of run) (d.current name u e).named ∙ (length_amounts _ _ (d.current name u e).amounts ∙ ap (λ o. length (changes_in o)) (sym e))
+  count_is name u e = ap (changes_of run) (d.current name u e).named ∙ (length_objects _ _ (d.current name u e).objects ∙ ap (λ o. length (changes_in o)) (sym e))
 
   end_is : (name : List ℕ) (u : Open) → m.made ≡ true → m.session name ≡ Some (Some u) → is_at_end run (transaction run name) ≡ (is_change (changes_in (m.session name)) && m.now == last_time)
   end_is name u made e =
@@ -115,13 +118,13 @@ module _ (m : State) (run : Run) (d : Describes m run) where
       ap (is_at_end run) k.named
       ∙ (ap (λ ps. list_any (λ p. now run p == last_time) ps) (participants_one run u.time (d.parts made))
       ∙ (at_end_one run (any_change (changes run (transaction_at u.time)))
-      ∙ (ap (λ b. b && now run one == last_time) (any_amounts _ _ k.amounts ∙ ap (λ o. is_change (changes_in o)) (sym e))
+      ∙ (ap (λ b. b && now run one == last_time) (any_objects _ _ k.objects ∙ ap (λ o. is_change (changes_in o)) (sym e))
       ∙ ap (λ n. is_change (changes_in (m.session name)) && n == last_time) d.time)))
 
   pub home_is : (name : List ℕ) (t : Option Open) → m.session name ≡ Some t → begin_part run name None ≡ one
   home_is name t e = ap (λ o. begun_at o) (d.there name ∙ ap site_if e)
 
-  pub due_same : (c : Command) → is_built c ≡ true → first_due (refusals run c) ≡ first_due (dues m c)
+  pub due_same : (c : Command) → is_built kinds.has c ≡ true → first_due (refusals run c) ≡ first_due (dues m c)
   due_same (command.Cluster sites parts) b = ap (λ x. first_due ((x, step.HasCluster) ∷ [])) d.is_made
   due_same (command.Clock p n) b =
       made_or ((not (has_part run p), step.NoPart) ∷ []) ((not (same_part p one), step.NoPart) ∷ [])
@@ -143,8 +146,9 @@ module _ (m : State) (run : Run) (d : Describes m run) where
   due_same (command.Begin name (Some p)) b = absurd (true≢false (sym b))
   due_same (command.Read name o) b = session_rows name [] [] (λ made u k. refl)
   due_same (command.Update name o op) b =
-      session_rows name ((changes_of run (transaction run name) == 256, step.LimitUpdates) ∷ []) ((length (changes_in (m.session name)) == 256, step.LimitUpdates) ∷ [])
-      (λ made u k. ap (λ n. first_due ((n == 256, step.LimitUpdates) ∷ [])) (count_is name u k))
+      let op_row : Bool × Step = (not (fits o.kind op.path op.act), step.BadOp) in
+      session_rows name (op_row ∷ (changes_of run (transaction run name) == 256, step.LimitUpdates) ∷ []) (op_row ∷ (length (changes_in (m.session name)) == 256, step.LimitUpdates) ∷ [])
+      (λ made u k. ap (λ n. first_due (op_row ∷ (n == 256, step.LimitUpdates) ∷ [])) (count_is name u k))
   due_same (command.Commit name steps) b =
       session_rows name ((is_at_end run (transaction run name), step.TimeEnd) ∷ []) ((is_change (changes_in (m.session name)) && m.now == last_time, step.TimeEnd) ∷ [])
       (λ made u k. ap (λ x. first_due ((x, step.TimeEnd) ∷ [])) (end_is name u made k))

@@ -5,7 +5,8 @@ use Rattle.std.proofs.lemmas.List.{append-nil, take_all, length-take-le}
 use Rattle.std.proofs.Math.Seq.{take-append-add}
 use Rattle.std.specs.Io.KnownBytes.{Appends, Consumes, Keeps, IsAtEnd}
 use Rattle.dc_engine.specs.Lines.{lines_of, ended_lines}
-use Rattle.dc_engine.specs.Replies.{Replies}
+use Rattle.dc_engine.specs.Reading.{has_bad}
+use Rattle.dc_engine.specs.Replies.{Replies, RepliesAll}
 use Rattle.dc_engine.specs.declared.fault.Fault.{Fault}
 use Rattle.dc_engine.specs.declared.fault.Fault.TheVariants as fault
 use Rattle.dc_engine.specs.Played.{Played, PlayedEnded, PlayedTooLong, PlayedPart, AreFirst}
@@ -65,16 +66,16 @@ module _ {M : Type 0} (most : ℕ) (reached : M → List (List ℕ) → List ℕ
     at = w.moved p.read p.written p.at;
   }
 
-  pub progress_end : (m : M) (input left rest before mid after : Option (List ℕ)) (kept : List ℕ) (room : ℕ) →
-      Progress most reached m input left before mid kept room → Consumes left rest [] → IsAtEnd rest → Ends reached m kept mid after → Played most (Replies reached) input rest before after
-  progress_end m input left rest before mid after kept room p c e w = record {
+  pub progress_end : (m new : M) (input left rest before mid after : Option (List ℕ)) (kept : List ℕ) (room : ℕ) →
+      Progress most reached m input left before mid kept room → Consumes left rest [] → IsAtEnd rest → Ends reached m new kept mid after → Played most (reached new) input rest before after
+  progress_end m new input left rest before mid after kept room p c e w = record {
     read = p.read;
     written = p.written ++ w.reply;
     from_source = subst (Consumes input rest) (append-nil p.read) (taken_more input left rest p.read [] p.from_source c);
     at_end = e;
     fits = omega (arith, p.count);
     to_sink = appends_more before mid after p.written w.reply (p.written ++ w.reply) p.to_sink w.to_sink refl;
-    replied = (w.new, w.moved p.read p.written p.at);
+    replied = w.moved p.read p.written p.at;
   }
 
   ended : (m : M) (read kept bytes : List ℕ) → At reached m read kept bytes → Replies reached (ended_lines read) bytes
@@ -166,10 +167,23 @@ module _ {M : Type 0} (most : ℕ) (reached : M → List (List ℕ) → List ℕ
   room_for m input left before after kept room zero h = omega arith
   room_for m input left before after kept room (suc count) h = h.0
 
-  pub goes_on_end : (m : M) (input left before after : Option (List ℕ)) (kept : List ℕ) (room count : ℕ) → GoesOn most reached m input left before after kept room (Ok count) → count ≡ 0 → Played most (Replies reached) input left before after
+  pub goes_on_end : (m : M) (input left before after : Option (List ℕ)) (kept : List ℕ) (room count : ℕ) → GoesOn most reached m input left before after kept room (Ok count) → count ≡ 0 → Played most (reached m) input left before after
   goes_on_end m input left before after kept room zero h e = h
   goes_on_end m input left before after kept room (suc count) h e = absurd (omega arith)
 
   pub goes_on_more : (m : M) (input left before after : Option (List ℕ)) (kept : List ℕ) (room count : ℕ) → GoesOn most reached m input left before after kept room (Ok count) → (count ≡ 0 → ⊥) → Progress most reached m input left before after kept (room - count)
   goes_on_more m input left before after kept room zero h e = absurd (e refl)
   goes_on_more m input left before after kept room (suc count) h e = h.1
+
+-- a script that was read to its end, and whether a line of it isn't in the grammar
+pub played_all : {M : Type 0} (most : ℕ) (reached : M → List (List ℕ) → List ℕ → Type 0) (m : M) (bad : Bool) (input left before after : Option (List ℕ)) →
+    Played most (reached m) input left before after → ((lines : List (List ℕ)) (bytes : List ℕ) → reached m lines bytes → has_bad lines ≡ bad) → Played most (RepliesAll reached bad) input left before after
+played_all most reached m bad input left before after p h = record {
+  read = p.read;
+  written = p.written;
+  from_source = p.from_source;
+  at_end = p.at_end;
+  fits = p.fits;
+  to_sink = p.to_sink;
+  replied = record { replied = (m, p.replied); is_bad = h (lines_of p.read) p.written p.replied };
+}

@@ -1,10 +1,8 @@
 -- What the machine answers is a lawful run.
 use Rattle.std.proofs.Common.{arith, ◌≡◌, ◌≢◌, ◌⊎◌, inl, inr, ⊎_elim, ℕ, suc, ◌+◌, ◌<◌, ◌≤◌, Bool, true, false, not, cond, eqb, leb, ◌&&◌, ◌||◌, List, [], ◌∷◌, ◌++◌, length, Option, None, Some, refl, sym, ap, ◌∙◌, subst}
-use Rattle.std.specs.Prelude.{is_some, if◌then◌else◌, nat_le, ◌==◌, max, ℤ, pos, ◌+ℤ◌}
-use Rattle.std.specs.Int.{int_wrap, w128}
+use Rattle.std.specs.Prelude.{is_some, if◌then◌else◌, nat_le, ◌==◌, max}
 use Rattle.std.specs.Str.{bytes_eq}
 use Rattle.std.specs.List.{list_any, list_all}
-use Rattle.std.proofs.lemmas.Int.{ints}
 use Rattle.std.proofs.lemmas.Bool.{true≢false, or_left, or_right, or_cases, and_parts, and_from, ne_eqb}
 use Rattle.std.proofs.lemmas.Bool.Decides.{nat_tests}
 use Rattle.std.proofs.lemmas.Slice.Eq.{bytes_eq-Decides}
@@ -16,9 +14,7 @@ use Rattle.site_vector.specs.Vector.{le, join, entry, replaced}
 use Rattle.site_vector.specs.VectorLaws.{le_trans, le_entry, join_le}
 use Rattle.crdt_core.specs.declared.object.ObjectId.{ObjectId}
 use Rattle.crdt_core.specs.declared.operation.Op.{Op}
-use Rattle.crdt_core.specs.declared.value.Value.TheVariants.{Int}
-use Rattle.crdt_core.specs.Objects.{same_object}
-use Rattle.crdt_counters.specs.Meaning.{amount, counter_meaning}
+use Rattle.crdt_core.specs.Objects.{same_object, same_kind-true}
 use Rattle.world_model.specs.declared.command.Command.{Command}
 use Rattle.world_model.specs.declared.command.Command.TheVariants as command
 use Rattle.world_model.specs.declared.step.Step.{Step}
@@ -29,20 +25,23 @@ use Rattle.world_model.specs.Clock.{now, ShowsTime}
 use Rattle.world_model.specs.Sessions.{is_begun, session_site, transaction, is_open, dependency, HoldsPast}
 use Rattle.world_model.specs.Fresh.{ShowsSnapshot}
 use Rattle.world_model.specs.History.{decides, in_history, history, snapshot, commit_time, commit_vector}
-use Rattle.world_model.specs.Updates.{Change, changes}
+use Rattle.world_model.specs.Updates.{Change, changes, update_of}
 use Rattle.world_model.specs.Reads.{IsRight, IsMeant, read_by}
 use Rattle.world_model.specs.Commit.{ShowsCommit}
 use Rattle.world_model.specs.Causes.{HasCause}
 use Rattle.world_model.proofs.Growth.{AreBegun, Leaves, AreLater, EachIs, right_grows, history_decided, vector_same}
-use Rattle.dc_engine.specs.State.{State, Open, Amount, one, transaction_at, is_open_in, with_session, own_sum, made_cluster, ticked, made_session, began, updated, ended, committed}
-use Rattle.dc_engine.specs.Describes.{Describes, KeepsLaws, IsCurrent, IsId, AreAmounts, ArePlain, added, added_by, site_if}
-use Rattle.dc_engine.proofs.ReadSums.{added_by_same, live_read, added_own}
+use Rattle.dc_engine.specs.ObjectKinds.{Effect, kinds}
+use Rattle.dc_engine.specs.State as state
+use Rattle.dc_engine.specs.State.{State, Open, Entry, one, transaction_at, is_open_in, with_session, made_cluster, ticked, made_session, began, updated, ended, committed, state_read, effect_of, stored_on}
+use Rattle.dc_engine.specs.Describes.{Describes, KeepsLaws, IsCurrent, IsId, SameObjects, Stores, Reads, site_if}
+use Rattle.dc_engine.proofs.StoredRuns.{AreTimes, stores_more, reads_more, reads_are, reads_begun, reads_mean, reads_stored, told_updated, stamp_next, told_committed, timed_on, timed_more}
 use Rattle.std.specs.Prelude.{replicate}
 use Rattle.world_model.specs.Sessions.{transaction_after}
 use Rattle.world_model.specs.Fresh.{IsSnapshot}
-use Rattle.dc_engine.proofs.NewLine.{is_quiet, IsNewLine, line, laws_more, same_sums, current_in, id_in, quiet, off}
+use Rattle.dc_engine.proofs.NewLine.{is_quiet, IsNewLine, line, laws_more, reads_in, current_in, id_in, quiet, off}
 use Rattle.world_model.specs.Updates.{is_tx, changed, partition_of, changes_after}
-use Rattle.world_model.specs.Refusals.{is_amount}
+use Rattle.crdt_core.specs.Fits.{fits}
+use Rattle.crdt_core.specs.declared.object.Field.{Field}
 use Rattle.dc_engine.proofs.StepLines.{le_one, with_cases, same_name, leaves_plain, later_in, quiet_line}
 use Rattle.std.proofs.lemmas.Bool.{eqb-true}
 use Rattle.std.proofs.Math.Bool.{and-true}
@@ -50,143 +49,192 @@ use Rattle.world_model.specs.History.{newly_decided}
 use Rattle.world_model.specs.Commit.{participants, was_prepared, IsLead, IsVote, IsDecision}
 use Rattle.world_model.proofs.Growth.{each_weaker}
 use Rattle.dc_engine.specs.State.{is_change}
-use Rattle.dc_engine.proofs.DueRows.{participants_one, any_change, any_amounts}
+use Rattle.dc_engine.proofs.DueRows.{participants_one, any_change, any_objects}
 use Rattle.dc_engine.proofs.StepLines.{not_le_one}
 use Rattle.dc_engine.proofs.BeginLines.{false_if}
 use Rattle.crdt_core.specs.declared.kind.Kind.{Kind}
 use Rattle.crdt_core.specs.declared.kind.Kind.TheVariants as kind
 use Rattle.crdt_core.specs.declared.operation.Act.{Act}
 use Rattle.crdt_core.specs.declared.operation.Act.TheVariants as act
-use Rattle.crdt_core.specs.Kinds.{kind_at}
-use Rattle.world_model.specs.Cluster.{has_cluster}
-use Rattle.world_model.specs.Sessions.{has_session}
-use Rattle.world_model.specs.Refusals.{refusal, refusals, first_due, is_built, begin_part, last_time}
-use Rattle.world_model.specs.Answers.{IsAnswer, AnswersBy, Replies, Commits, CommitsAt, shown, answered, is_stamped}
-use Rattle.world_model.specs.Causes.{OfSession, IsUnbuilt}
+use Rattle.crdt_core.specs.Kinds.{kind_at, same_kind}
+use Rattle.world_model.specs.Cluster.{has_site, has_part}
+use Rattle.world_model.specs.Sessions.{has_session, sessions_of}
+use Rattle.world_model.specs.Refusals.{refusal, refusals, unbuilt, first_due, is_built, begin_part, lacks_part, is_elsewhere, changes_of, last_time}
+use Rattle.world_model.specs.Answers.{IsAnswer, AnswersBy, Replies, Commits, CommitsAt, answered, is_stamped}
 use Rattle.world_model.specs.Lawful.{IsLawful}
 use Rattle.world_model.proofs.Growth.{is_strict, visible_closed}
 use Rattle.dc_engine.specs.State.{lacks_cluster, lacks_session, lacks_transaction, changes_in, dues, Acts, ActsBy, Does, DoesCommit, start}
 use Rattle.dc_engine.proofs.DueRows.{due_same, home_is}
 use Rattle.dc_engine.proofs.StepLines.{cluster_line, tick_line, session_line, value_line, ended_line}
-use Rattle.dc_engine.proofs.BeginLines.{begin_line, update_line}
+use Rattle.dc_engine.proofs.BeginLines.{begin_line, update_line, stamp_is_due, change_in}
+use Rattle.dc_engine.proofs.ToldRuns.{told_none}
+use Rattle.crdt_core.specs.Seen.{Update, is_assign}
+use Rattle.crdt_core.specs.Stamps.{stamp_due, above_all, assigns_seen, last_stamp}
+use Rattle.std.specs.Prelude.{min}
 use Rattle.dc_engine.proofs.CommitLines.{commit_lines}
 
-rows_not : (p : Step → Bool) (rows : List (Bool × Step)) → list_all (λ r. not (p r.1)) rows ≡ true → (s : Step) → first_due rows ≡ Some s → p s ≡ true → ⊥
-rows_not p [] h s e k = cc
-rows_not p (r ∷ rows) h s e k =
-    let two = and_parts (not (p r.1)) (list_all (λ r. not (p r.1)) rows) h in
-    elim r.0 as (λ b. (if b then Some r.1 else first_due rows) ≡ Some s → ⊥) [
-      | true ↦ λ q. let same : r.1 ≡ s = cc in true≢false (sym two.0 ∙ ap not (ap p same ∙ k))
-      | false ↦ λ q. rows_not p rows two.1 s q k
-    ] e
+-- where a row is due and none before it is, its step has the property
+abbrev Owe : (Step → Type 0) → List (Bool × Step) → Type 0
+Owe P [] = Unit {0}
+Owe P (r ∷ rows) = (r.0 ≡ true → P r.1) × (r.0 ≡ false → Owe P rows)
 
-abbrev is_no_cluster : Step → Bool
-is_no_cluster step.NoCluster = true
-is_no_cluster other = false
-
-abbrev is_no_session : Step → Bool
-is_no_session step.NoSession = true
-is_no_session other = false
-
-abbrev is_no_transaction : Step → Bool
-is_no_transaction step.NoTxn = true
-is_no_transaction other = false
-
--- the first row decides where no later one shows this step
-first_row : (b : Bool) (s : Step) (p : Step → Bool) (rows : List (Bool × Step)) → p s ≡ true → list_all (λ r. not (p r.1)) rows ≡ true → first_due ((not b, s) ∷ rows) ≡ Some s → b ≡ false
-first_row true s p rows k h e = absurd (rows_not p rows h s e k)
-first_row false s p rows k h e = refl
-
--- a row that shows another step isn't due
-passes : (b : Bool) (r s : Step) (p : Step → Bool) (rows : List (Bool × Step)) → p s ≡ true → p r ≡ false → first_due ((not b, r) ∷ rows) ≡ Some s → (b ≡ true) × (first_due rows ≡ Some s)
-passes true r s p rows k n e = (refl, e)
-passes false r s p rows k n e = let same : r ≡ s = cc in absurd (true≢false (sym k ∙ (ap p (sym same) ∙ n)))
-
-abbrev later_rows : List (Bool × Step) → List (Bool × Step)
-later_rows [] = []
-later_rows (r ∷ rows) = rows
-
-no_cluster_cause : (run : Run) (c : Command) → is_built c ≡ true → first_due (refusals run c) ≡ Some step.NoCluster → has_cluster run ≡ false
-no_cluster_cause run (command.Cluster sites parts) b h = absurd (rows_not is_no_cluster (refusals run (command.Cluster sites parts)) refl step.NoCluster h refl)
-no_cluster_cause run (command.Clock p n) b h = first_row (has_cluster run) step.NoCluster is_no_cluster (later_rows (refusals run (command.Clock p n))) refl refl h
-no_cluster_cause run (command.Session name site) b h = first_row (has_cluster run) step.NoCluster is_no_cluster (later_rows (refusals run (command.Session name site))) refl refl h
-no_cluster_cause run (command.Begin name part) b h = first_row (has_cluster run) step.NoCluster is_no_cluster (later_rows (refusals run (command.Begin name part))) refl refl h
-no_cluster_cause run (command.Read name o) b h = first_row (has_cluster run) step.NoCluster is_no_cluster (later_rows (refusals run (command.Read name o))) refl refl h
-no_cluster_cause run (command.Update name o op) b h = first_row (has_cluster run) step.NoCluster is_no_cluster (later_rows (refusals run (command.Update name o op))) refl refl h
-no_cluster_cause run (command.Commit name k) b h = first_row (has_cluster run) step.NoCluster is_no_cluster (later_rows (refusals run (command.Commit name k))) refl refl h
-no_cluster_cause run c b h = off b
-
-session_cause : (run : Run) (name : List ℕ) (rows : List (Bool × Step)) → list_all (λ r. not (is_no_session r.1)) rows ≡ true
-    → first_due ((not (has_cluster run), step.NoCluster) ∷ (not (has_session run name), step.NoSession) ∷ rows) ≡ Some step.NoSession → (has_cluster run ≡ true) × (has_session run name ≡ false)
-session_cause run name rows l h =
-    let a = passes (has_cluster run) step.NoCluster step.NoSession is_no_session ((not (has_session run name), step.NoSession) ∷ rows) refl refl h in
-    (a.0, first_row (has_session run name) step.NoSession is_no_session rows refl l a.1)
-
-no_session_cause : (run : Run) (c : Command) → is_built c ≡ true → first_due (refusals run c) ≡ Some step.NoSession → (has_cluster run ≡ true) × OfSession (λ name. has_session run name ≡ false) (Some c)
-no_session_cause run (command.Cluster sites parts) b h = absurd (rows_not is_no_session (refusals run (command.Cluster sites parts)) refl step.NoSession h refl)
-no_session_cause run (command.Clock p n) b h = absurd (rows_not is_no_session (refusals run (command.Clock p n)) refl step.NoSession h refl)
-no_session_cause run (command.Session name site) b h = absurd (rows_not is_no_session (refusals run (command.Session name site)) refl step.NoSession h refl)
-no_session_cause run (command.Begin name None) b h = session_cause run name ((is_open run name, step.HasTxn) ∷ (now run (begin_part run name None) == last_time, step.TimeEnd) ∷ []) refl h
-no_session_cause run (command.Begin name (Some p)) b h = off b
-no_session_cause run (command.Read name o) b h = session_cause run name (later_rows (later_rows (refusals run (command.Read name o)))) refl h
-no_session_cause run (command.Update name o op) b h = session_cause run name (later_rows (later_rows (refusals run (command.Update name o op)))) refl h
-no_session_cause run (command.Commit name k) b h = session_cause run name (later_rows (later_rows (refusals run (command.Commit name k)))) refl h
-no_session_cause run c b h = off b
-
-transaction_cause : (run : Run) (name : List ℕ) (rows : List (Bool × Step)) → list_all (λ r. not (is_no_transaction r.1)) rows ≡ true
-    → first_due ((not (has_cluster run), step.NoCluster) ∷ (not (has_session run name), step.NoSession) ∷ (not (is_open run name), step.NoTxn) ∷ rows) ≡ Some step.NoTxn → (has_session run name ≡ true) × (is_open run name ≡ false)
-transaction_cause run name rows l h =
-    let a = passes (has_cluster run) step.NoCluster step.NoTxn is_no_transaction ((not (has_session run name), step.NoSession) ∷ (not (is_open run name), step.NoTxn) ∷ rows) refl refl h in
-    let b = passes (has_session run name) step.NoSession step.NoTxn is_no_transaction ((not (is_open run name), step.NoTxn) ∷ rows) refl refl a.1 in
-    (b.0, first_row (is_open run name) step.NoTxn is_no_transaction rows refl l b.1)
-
-no_transaction_cause : (run : Run) (c : Command) → is_built c ≡ true → first_due (refusals run c) ≡ Some step.NoTxn → OfSession (λ name. (has_session run name ≡ true) × (is_open run name ≡ false)) (Some c)
-no_transaction_cause run (command.Cluster sites parts) b h = absurd (rows_not is_no_transaction (refusals run (command.Cluster sites parts)) refl step.NoTxn h refl)
-no_transaction_cause run (command.Clock p n) b h = absurd (rows_not is_no_transaction (refusals run (command.Clock p n)) refl step.NoTxn h refl)
-no_transaction_cause run (command.Session name site) b h = absurd (rows_not is_no_transaction (refusals run (command.Session name site)) refl step.NoTxn h refl)
-no_transaction_cause run (command.Begin name part) b h = absurd (rows_not is_no_transaction (refusals run (command.Begin name part)) refl step.NoTxn h refl)
-no_transaction_cause run (command.Read name o) b h = transaction_cause run name (later_rows (later_rows (later_rows (refusals run (command.Read name o))))) refl h
-no_transaction_cause run (command.Update name o op) b h = transaction_cause run name (later_rows (later_rows (later_rows (refusals run (command.Update name o op))))) refl h
-no_transaction_cause run (command.Commit name k) b h = transaction_cause run name (later_rows (later_rows (later_rows (refusals run (command.Commit name k))))) refl h
-no_transaction_cause run c b h = off b
-
--- a refusal has its cause
-cause_of : (run : Run) (c : Command) (r : Step) → is_built c ≡ true → first_due (refusals run c) ≡ Some r → refusal run c ≡ Some r → HasCause run (Some c) (shown r)
-cause_of run c step.NoCluster b h e = no_cluster_cause run c b h
-cause_of run c step.NoSession b h e = no_session_cause run c b h
-cause_of run c step.NoTxn b h e = no_transaction_cause run c b h
-cause_of run c r b h e = (r, e, (λ z. cc), (λ z. cc), (λ z. cc))
-
-is_quiet_shown : (r : Step) → is_quiet (shown r) ≡ true
-is_quiet_shown step.NoCluster = refl
-is_quiet_shown step.NoSession = refl
-is_quiet_shown step.NoTxn = refl
-is_quiet_shown r = refl
-
--- a refusal's line has nothing else to keep
-refused_line : (run : Run) (asked : Option Command) (r : Step) → HasCause run asked (shown r) → IsNewLine run asked (shown r)
-refused_line run asked step.NoCluster c = quiet_line run asked step.NoCluster tt tt tt tt c tt
-refused_line run asked step.NoSession c = quiet_line run asked step.NoSession tt tt tt tt c tt
-refused_line run asked step.NoTxn c = quiet_line run asked step.NoTxn tt tt tt tt c tt
-refused_line run asked r c = quiet_line run asked step.Unbuilt tt tt tt tt c tt
-
--- what a command's answer owes to the run
-pub record Goes (run : Run) (number : ℕ) (asked : Option Command) (steps : List Step) (new : State) : Type 0 where
-  pub answer : IsAnswer run asked steps
-  pub after : Describes new (answered number asked steps run)
-
-pub outside : (m new : State) (run : Run) (number : ℕ) (steps : List Step) → Describes m run → steps ≡ step.Unbuilt ∷ [] → new ≡ m → Goes run number None steps new
-outside m new run number steps d s n = subst (λ l. Goes run number None l new) (sym s) (subst (Goes run number None (step.Unbuilt ∷ [])) (sym n) (record {
-  answer = refl;
-  after = quiet m run number None step.Unbuilt refl d (quiet_line run None step.Unbuilt tt tt tt tt tt tt);
-}))
-
-none_due : (r : Bool × Step) (rows : List (Bool × Step)) → first_due (r ∷ rows) ≡ None → (r.0 ≡ false) × (first_due rows ≡ None)
-none_due r rows h = elim r.0 as (λ b. (if b then Some r.1 else first_due rows) ≡ None → (b ≡ false) × (first_due rows ≡ None)) [ true ↦ λ q. cc | false ↦ λ q. (refl, q) ] h
+owed : (P : Step → Type 0) (rows : List (Bool × Step)) → Owe P rows → (s : Step) → first_due rows ≡ Some s → P s
+owed P [] h s e = cc
+owed P (r ∷ rows) h s e =
+    elim r.0 as (λ b. r.0 ≡ b → (if b then Some r.1 else first_due rows) ≡ Some s → P s) [
+      | true ↦ λ k q. let same : r.1 ≡ s = cc in subst P same (h.0 k)
+      | false ↦ λ k q. owed P rows (h.1 k) s q
+    ] refl e
 
 not_false : (b : Bool) → not b ≡ false → b ≡ true
 not_false true h = refl
 not_false false h = absurd (true≢false h)
+
+not_true : (b : Bool) → not b ≡ true → b ≡ false
+not_true true h = absurd (true≢false (sym h))
+not_true false h = refl
+
+-- a refusal's line changes nothing, and has its cause
+pub record IsRefusal (run : Run) (c : Command) (s : Step) : Type 0 where
+  pub changes_none : is_quiet s ≡ true
+  pub is_new : IsNewLine run (Some c) s
+
+abbrev is_refusal : Step → Bool
+is_refusal step.NoCluster = true
+is_refusal step.HasCluster = true
+is_refusal step.NoPart = true
+is_refusal step.NoSession = true
+is_refusal step.HasSession = true
+is_refusal step.NoTxn = true
+is_refusal step.HasTxn = true
+is_refusal step.BadOp = true
+is_refusal step.LimitSessions = true
+is_refusal step.LimitUpdates = true
+is_refusal step.TimeEnd = true
+is_refusal step.Unbuilt = true
+is_refusal other = false
+
+refuses : (run : Run) (c : Command) (s : Step) → is_refusal s ≡ true → HasCause kinds.has run (Some c) s → IsRefusal run c s
+refuses run c step.NoCluster q h = record { changes_none = refl; is_new = quiet_line run (Some c) step.NoCluster tt tt tt tt h tt tt }
+refuses run c step.HasCluster q h = record { changes_none = refl; is_new = quiet_line run (Some c) step.HasCluster tt tt tt tt h tt tt }
+refuses run c step.NoPart q h = record { changes_none = refl; is_new = quiet_line run (Some c) step.NoPart tt tt tt tt h tt tt }
+refuses run c step.NoSession q h = record { changes_none = refl; is_new = quiet_line run (Some c) step.NoSession tt tt tt tt h tt tt }
+refuses run c step.HasSession q h = record { changes_none = refl; is_new = quiet_line run (Some c) step.HasSession tt tt tt tt h tt tt }
+refuses run c step.NoTxn q h = record { changes_none = refl; is_new = quiet_line run (Some c) step.NoTxn tt tt tt tt h tt tt }
+refuses run c step.HasTxn q h = record { changes_none = refl; is_new = quiet_line run (Some c) step.HasTxn tt tt tt tt h tt tt }
+refuses run c step.BadOp q h = record { changes_none = refl; is_new = quiet_line run (Some c) step.BadOp tt tt tt tt h tt tt }
+refuses run c step.LimitSessions q h = record { changes_none = refl; is_new = quiet_line run (Some c) step.LimitSessions tt tt tt tt h tt tt }
+refuses run c step.LimitUpdates q h = record { changes_none = refl; is_new = quiet_line run (Some c) step.LimitUpdates tt tt tt tt h tt tt }
+refuses run c step.TimeEnd q h = record { changes_none = refl; is_new = quiet_line run (Some c) step.TimeEnd tt tt tt tt h tt tt }
+refuses run c step.Unbuilt q h = record { changes_none = refl; is_new = quiet_line run (Some c) step.Unbuilt tt tt tt tt h tt tt }
+refuses run c s q h = off q
+
+-- each row has its cause
+module _ (run : Run) where
+  unbuilt_row : (c : Command) → not (is_built kinds.has c) ≡ true → IsRefusal run c step.Unbuilt
+  unbuilt_row c h = refuses run c step.Unbuilt refl (not_true (is_built kinds.has c) h)
+
+  cluster_row : (c : Command) → not (has_cluster run) ≡ true → IsRefusal run c step.NoCluster
+  cluster_row c h = refuses run c step.NoCluster refl (not_true (has_cluster run) h)
+
+  rows_owed : (c : Command) → Owe (IsRefusal run c) (unbuilt kinds.has c ∷ refusals run c)
+  rows_owed (command.Cluster sites parts) = let c = command.Cluster sites parts in (unbuilt_row c, λ b. (λ h. refuses run c step.HasCluster refl h, λ z. tt))
+  rows_owed (command.Clock p n) =
+      let c = command.Clock p n in
+      (unbuilt_row c, λ b. (cluster_row c, λ m. (λ h. refuses run c step.NoPart refl (not_false (has_cluster run) m, not_true (has_part run p) h), λ z. tt)))
+  rows_owed (command.Session name site) =
+      let c = command.Session name site in (
+        unbuilt_row c,
+        λ b. (
+          cluster_row c,
+          λ m. (
+            λ h. refuses run c step.NoPart refl (not_false (has_cluster run) m, not_true (has_site run site) h),
+            λ p. (
+              λ h. refuses run c step.HasSession refl h,
+              λ s.
+                  (λ h. refuses run c step.LimitSessions refl (eqb-true (sessions_of run) 64 h), λ z. tt),
+            ),
+          ),
+        ),
+      )
+  rows_owed (command.Begin name part) =
+      let c = command.Begin name part in (
+        unbuilt_row c,
+        λ b. (
+          cluster_row c,
+          λ m. let made = not_false (has_cluster run) m in (
+            λ h. refuses run c step.NoPart refl (made, or_left (lacks_part run part) (is_elsewhere run name part) h),
+            λ p. (
+              λ h. refuses run c step.NoSession refl (made, not_true (has_session run name) h),
+              λ s. (
+                λ h. refuses run c step.NoPart refl (made, or_right (lacks_part run part) (is_elsewhere run name part) h),
+                λ q. (
+                  λ h. refuses run c step.HasTxn refl h,
+                  λ o.
+                      (λ h. refuses run c step.TimeEnd refl (eqb-true (now run (begin_part run name part)) last_time h), λ z. tt),
+                ),
+              ),
+            ),
+          ),
+        ),
+      )
+  rows_owed (command.Read name o) =
+      let c = command.Read name o in (
+        unbuilt_row c,
+        λ b. (
+          cluster_row c,
+          λ m. (
+            λ h. refuses run c step.NoSession refl (not_false (has_cluster run) m, not_true (has_session run name) h),
+            λ s.
+                (λ h. refuses run c step.NoTxn refl (not_false (has_session run name) s, not_true (is_open run name) h), λ z. tt),
+          ),
+        ),
+      )
+  rows_owed (command.Update name o op) =
+      let c = command.Update name o op in (
+        unbuilt_row c,
+        λ b. (
+          cluster_row c,
+          λ m. (
+            λ h. refuses run c step.NoSession refl (not_false (has_cluster run) m, not_true (has_session run name) h),
+            λ s. (
+              λ h. refuses run c step.NoTxn refl (not_false (has_session run name) s, not_true (is_open run name) h),
+              λ t. (
+                λ h. refuses run c step.BadOp refl (not_true (fits o.kind op.path op.act) h),
+                λ f.
+                    (λ h. refuses run c step.LimitUpdates refl (eqb-true (changes_of run (transaction run name)) 256 h), λ z. tt),
+              ),
+            ),
+          ),
+        ),
+      )
+  rows_owed (command.Commit name k) =
+      let c = command.Commit name k in (
+        unbuilt_row c,
+        λ b. (
+          cluster_row c,
+          λ m. (
+            λ h. refuses run c step.NoSession refl (not_false (has_cluster run) m, not_true (has_session run name) h),
+            λ s. (
+              λ h. refuses run c step.NoTxn refl (not_false (has_session run name) s, not_true (is_open run name) h),
+              λ t.
+                  (λ h. refuses run c step.TimeEnd refl h, λ z. tt),
+            ),
+          ),
+        ),
+      )
+  rows_owed c = (unbuilt_row c, λ b. tt)
+
+-- what a command's answer owes to the run
+pub record Goes (run : Run) (number : ℕ) (c : Command) (steps : List Step) (new : State) : Type 0 where
+  pub answer : IsAnswer kinds.has run c steps
+  pub after : Describes new (answered number (Some c) steps run)
+
+pub unread : (m : State) (run : Run) (number : ℕ) → Describes m run → Describes m (answered number None (step.Bad ∷ []) run)
+unread m run number d = quiet m run number None step.Bad refl d (quiet_line run None step.Bad tt tt tt tt refl tt tt)
+
+none_due : (r : Bool × Step) (rows : List (Bool × Step)) → first_due (r ∷ rows) ≡ None → (r.0 ≡ false) × (first_due rows ≡ None)
+none_due r rows h = elim r.0 as (λ b. (if b then Some r.1 else first_due rows) ≡ None → (b ≡ false) × (first_due rows ≡ None)) [ true ↦ λ q. cc | false ↦ λ q. (refl, q) ] h
 
 idle_is : (o : Option (Option Open)) → is_some o ≡ true → is_open_in o ≡ false → o ≡ Some None
 idle_is None h k = off h
@@ -197,27 +245,50 @@ gone_is : (o : Option (Option Open)) → is_some o ≡ false → o ≡ None
 gone_is None h = refl
 gone_is (Some t) h = absurd (true≢false h)
 
-unstamped : (k : Kind) (a : Act) → is_amount a ≡ true → false ≡ is_stamped k a
-unstamped kind.RegisterLww (act.Increment n) h = refl
-unstamped kind.RegisterLww (act.Decrement n) h = refl
-unstamped kind.RegisterLww a h = off h
-unstamped k a h = refl
+-- exactly an assign to a register that the last writer wins has a stamp
+some_if : (b : Bool) (n : ℕ) → is_some (if b then Some n else None) ≡ b
+some_if true n = refl
+some_if false n = refl
+
+none_kind : (b : Bool) → (b && false) ≡ false
+none_kind true = refl
+none_kind false = refl
+
+assigned : (a : Act) → (is_assign a && true) ≡ is_stamped kind.RegisterLww a
+assigned (act.Assign text) = refl
+assigned a = refl
+
+stamped_is : (k : Kind) (a : Act) → (is_assign a && same_kind k kind.RegisterLww) ≡ is_stamped k a
+stamped_is kind.CounterPn a = none_kind (is_assign a)
+stamped_is kind.CounterFat a = none_kind (is_assign a)
+stamped_is kind.SetGo a = none_kind (is_assign a)
+stamped_is kind.SetAw a = none_kind (is_assign a)
+stamped_is kind.SetRw a = none_kind (is_assign a)
+stamped_is kind.FlagEw a = none_kind (is_assign a)
+stamped_is kind.FlagDw a = none_kind (is_assign a)
+stamped_is kind.RegisterLww a = assigned a
+stamped_is kind.RegisterMv a = none_kind (is_assign a)
+stamped_is kind.MapGo a = none_kind (is_assign a)
+stamped_is kind.MapRr a = none_kind (is_assign a)
+
+due_stamped : (k : Kind) (us : List Update) (u : Update) (stamp : Option ℕ) → stamp ≡ stamp_due k us u → is_some stamp ≡ is_stamped (kind_at k u.path) u.act
+due_stamped k us u stamp e = ap is_some e ∙ (some_if (is_assign u.act && same_kind (kind_at k u.path) kind.RegisterLww) (min last_stamp (above_all u.now (assigns_seen u us))) ∙ stamped_is (kind_at k u.path) u.act)
 
 numbers_one : (a b : ℕ) → (a == 1 && b == 1) ≡ true → (a ≡ 1) × (b ≡ 1)
 numbers_one a b h = let two = and_parts (a == 1) (b == 1) h in (eqb-true a 1 two.0, eqb-true b 1 two.1)
 
 -- the answer, where nothing is due
 module _ (m : State) (run : Run) (number : ℕ) (d : Describes m run) where
-  goes_as : (c : Command) (steps shows : List Step) (new next : State) → steps ≡ shows → new ≡ next → Goes run number (Some c) shows next → Goes run number (Some c) steps new
-  goes_as c steps shows new next s n g = subst (λ l. Goes run number (Some c) l new) (sym s) (subst (Goes run number (Some c) shows) (sym n) g)
+  goes_as : (c : Command) (steps shows : List Step) (new next : State) → steps ≡ shows → new ≡ next → Goes run number c shows next → Goes run number c steps new
+  goes_as c steps shows new next s n g = subst (λ l. Goes run number c l new) (sym s) (subst (Goes run number c shows) (sym n) g)
 
-  replies : (c : Command) (steps : List Step) → refusal run c ≡ None → Replies run c steps → IsAnswer run (Some c) steps
+  replies : (c : Command) (steps : List Step) → refusal kinds.has run c ≡ None → Replies run c steps → IsAnswer kinds.has run c steps
   replies c steps h r = subst (AnswersBy run c steps) (sym h) r
 
-  commit_goes : (name : List ℕ) (t : Open) → m.made ≡ true → m.session name ≡ Some (Some t) → refusal run (command.Commit name None) ≡ None → (cs : List Amount) → cs ≡ t.changes → (steps : List Step) (new : State) → DoesCommit m name t cs steps new → Goes run number (Some (command.Commit name None)) steps new
+  commit_goes : (name : List ℕ) (t : Open) → m.made ≡ true → m.session name ≡ Some (Some t) → refusal kinds.has run (command.Commit name None) ≡ None → (cs : List state.Change) → cs ≡ t.changes → (steps : List Step) (new : State) → DoesCommit m name t cs steps new → Goes run number (command.Commit name None) steps new
   commit_goes name t made is_now_open none [] e steps new h =
       let cur = d.current name t is_now_open in
-      let nobody : participants run (transaction_at t.time) ≡ [] = participants_one run t.time (d.parts made) ∙ ap (λ b. if b then one ∷ [] else []) (any_amounts (changes run (transaction_at t.time)) t.changes cur.amounts ∙ ap is_change (sym e)) in
+      let nobody : participants run (transaction_at t.time) ≡ [] = participants_one run t.time (d.parts made) ∙ ap (λ b. if b then one ∷ [] else []) (any_objects (changes run (transaction_at t.time)) t.changes cur.objects ∙ ap is_change (sym e)) in
       goes_as (command.Commit name None) steps (step.Ended name ∷ []) new (ended m name) h.0 h.1 (record {
         answer = replies (command.Commit name None) (step.Ended name ∷ []) none (subst (λ u. Commits run name u (step.Ended name ∷ [])) (sym cur.named) (subst (λ ps. CommitsAt name (transaction_at t.time) ps (step.Ended name ∷ [])) (sym nobody) refl));
         after = ended_line m run number (Some (command.Commit name None)) name (Some t) is_now_open d;
@@ -227,14 +298,14 @@ module _ (m : State) (run : Run) (number : ℕ) (d : Describes m run) where
       let x = transaction_at t.time in
       let n = m.now + 1 in
       let some : is_change t.changes ≡ true = ap is_change (sym e) in
-      let voter : participants run x ≡ one ∷ [] = participants_one run t.time (d.parts made) ∙ ap (λ b. if b then one ∷ [] else []) (any_amounts (changes run x) t.changes cur.amounts ∙ some) in
+      let voter : participants run x ≡ one ∷ [] = participants_one run t.time (d.parts made) ∙ ap (λ b. if b then one ∷ [] else []) (any_objects (changes run x) t.changes cur.objects ∙ some) in
       let lines = step.Prepared one x n ∷ step.Decided one x (n ∷ []) ∷ step.Ended name ∷ [] in
       goes_as (command.Commit name None) steps lines new (committed m name t) h.0 h.1 (record {
         answer = replies (command.Commit name None) lines none (subst (λ u. Commits run name u lines) (sym cur.named) (subst (λ ps. CommitsAt name x ps lines) (sym voter) (step.Prepared one x n ∷ [], n ∷ [], (n, [], refl, refl), refl)));
         after = commit_lines m run number (Some (command.Commit name None)) name t made is_now_open some d;
       })
 
-  does_goes : (c : Command) (steps : List Step) (new : State) → is_built c ≡ true → refusal run c ≡ None → first_due (dues m c) ≡ None → Does m c steps new → Goes run number (Some c) steps new
+  does_goes : (c : Command) (steps : List Step) (new : State) → is_built kinds.has c ≡ true → refusal kinds.has run c ≡ None → first_due (dues m c) ≡ None → Does m c steps new → Goes run number c steps new
   does_goes (command.Cluster sites parts) steps new b none due h =
       let ones = numbers_one sites parts b in
       goes_as (command.Cluster sites parts) steps (step.MadeCluster sites parts ∷ []) new (made_cluster m) h.0 h.1 (record {
@@ -271,16 +342,25 @@ module _ (m : State) (run : Run) (number : ℕ) (d : Describes m run) where
       })
   does_goes (command.Begin name (Some p)) steps new b none due h = off b
   does_goes (command.Read name o) steps new b none due h =
-      let v = Int (int_wrap w128 (m.sum o h.0.time +ℤ own_sum o h.0.changes)) in
+      let v = kinds.value_of (state_read m o h.0) in
       goes_as (command.Read name o) steps (step.Value name o v ∷ []) new m h.2 h.3 (record {
         answer = replies (command.Read name o) (step.Value name o v ∷ []) none (v, refl);
-        after = value_line m run number (Some (command.Read name o)) name o h.0 h.1 d;
+        after = value_line m run number (Some (command.Read name o)) name o h.0 b h.1 d;
       })
   does_goes (command.Update name o op) steps new b none due h =
-      let fits : is_amount op.act ≡ true = (and_parts _ _ (and_parts _ _ b).1).1 in
-      goes_as (command.Update name o op) steps (step.Updated name o None ∷ []) new (updated m name h.0 (o, amount op.act)) h.2 h.3 (record {
-        answer = replies (command.Update name o op) (step.Updated name o None ∷ []) none (None, unstamped (kind_at o.kind op.path) op.act fits, refl);
-        after = update_line m run number name o op h.0 fits h.1 d;
+      let limit : List (Bool × Step) = (length (changes_in (m.session name)) == 256, step.LimitUpdates) ∷ [] in
+      let op_row : Bool × Step = (not (fits o.kind op.path op.act), step.BadOp) in
+      let first = none_due (lacks_cluster m) (lacks_session m name ∷ lacks_transaction m name ∷ op_row ∷ limit) due in
+      let second = none_due (lacks_session m name) (lacks_transaction m name ∷ op_row ∷ limit) first.1 in
+      let third = none_due (lacks_transaction m name) (op_row ∷ limit) second.1 in
+      let fit = not_false (fits o.kind op.path op.act) (none_due op_row limit third.1).0 in
+      let made = not_false m.made first.0 in
+      let effect = effect_of m o op h.0 in
+      let stamp = kinds.stamp_of effect in
+      let due_now = stamp_is_due m run name o op h.0 made b fit h.1 d in
+      goes_as (command.Update name o op) steps (step.Updated name o stamp ∷ []) new (updated m name h.0 (o, effect)) h.2 h.3 (record {
+        answer = replies (command.Update name o op) (step.Updated name o stamp ∷ []) none (stamp, due_stamped o.kind _ (update_of run (transaction_at h.0.time) (1 + length (changes run (transaction_at h.0.time))) (change_in run h.0.time o op stamp)) stamp due_now, refl);
+        after = update_line m run number name o op h.0 made b fit h.1 d;
       })
   does_goes (command.Commit name None) steps new b none due h =
       let first = none_due (lacks_cluster m) (lacks_session m name ∷ lacks_transaction m name ∷ (is_change (changes_in (m.session name)) && m.now == last_time, step.TimeEnd) ∷ []) due in
@@ -288,35 +368,40 @@ module _ (m : State) (run : Run) (number : ℕ) (d : Describes m run) where
   does_goes (command.Commit name (Some k)) steps new b none due h = off b
   does_goes c steps new b none due h = off b
 
-  refused_goes : (c : Command) (r : Step) (steps : List Step) (new : State) → refusal run c ≡ Some r → HasCause run (Some c) (shown r) → steps ≡ shown r ∷ [] → new ≡ m → Goes run number (Some c) steps new
-  refused_goes c r steps new e cause s n = goes_as c steps (shown r ∷ []) new m s n (record {
-    answer = subst (AnswersBy run c (shown r ∷ [])) (sym e) refl;
-    after = quiet m run number (Some c) (shown r) (is_quiet_shown r) d (refused_line run (Some c) r cause);
-  })
+  refused_goes : (c : Command) (r : Step) (steps : List Step) (new : State) → refusal kinds.has run c ≡ Some r → steps ≡ r ∷ [] → new ≡ m → Goes run number c steps new
+  refused_goes c r steps new e s n =
+      let is = owed (IsRefusal run c) (unbuilt kinds.has c ∷ refusals run c) (rows_owed run c) r e in
+      goes_as c steps (r ∷ []) new m s n (record {
+        answer = subst (AnswersBy run c (r ∷ [])) (sym e) refl;
+        after = quiet m run number (Some c) r is.changes_none d is.is_new;
+      })
 
-  built_goes : (c : Command) (steps : List Step) (new : State) → is_built c ≡ true → refusal run c ≡ first_due (refusals run c) → (r : Option Step) → first_due (dues m c) ≡ r → ActsBy m c steps new r → Goes run number (Some c) steps new
-  built_goes c steps new b e None h a = does_goes c steps new b (e ∙ (due_same m run d c b ∙ h)) h a
-  built_goes c steps new b e (Some r) h a =
-      let due : first_due (refusals run c) ≡ Some r = due_same m run d c b ∙ h in
-      refused_goes c r steps new (e ∙ due) (cause_of run c r b due (e ∙ due)) a.0 a.1
-
-  -- an answer of the machine goes on with the run
-  pub acts_goes : (c : Command) (steps : List Step) (new : State) → Acts m c steps new → Goes run number (Some c) steps new
-  acts_goes c steps new =
-      elim (is_built c) as (λ b. is_built c ≡ b → ActsBy m c steps new (first_due ((not b, step.Unbuilt) ∷ dues m c)) → Goes run number (Some c) steps new) [
-        | true ↦ λ e h. built_goes c steps new e (ap (λ b. first_due ((not b, step.Unbuilt) ∷ refusals run c)) e) (first_due (dues m c)) refl h
-        | false ↦ λ e h.
-            let refused : refusal run c ≡ Some step.Unbuilt = ap (λ b. first_due ((not b, step.Unbuilt) ∷ refusals run c)) e in
-            refused_goes c step.Unbuilt steps new refused (step.Unbuilt, refused, (λ z. cc), (λ z. cc), (λ z. cc)) h.0 h.1
+  -- the same is due where the command is built, and else that it isn't
+  all_due : (c : Command) → refusal kinds.has run c ≡ first_due ((not (is_built kinds.has c), step.Unbuilt) ∷ dues m c)
+  all_due c =
+      elim (is_built kinds.has c) as (λ b. is_built kinds.has c ≡ b → first_due ((not b, step.Unbuilt) ∷ refusals run c) ≡ first_due ((not b, step.Unbuilt) ∷ dues m c)) [
+        | true ↦ λ e. due_same m run d c e
+        | false ↦ λ e. refl
       ] refl
 
+  by_due : (c : Command) (steps : List Step) (new : State) (r : Option Step) → first_due ((not (is_built kinds.has c), step.Unbuilt) ∷ dues m c) ≡ r → ActsBy m c steps new r → Goes run number c steps new
+  by_due c steps new None e a =
+      let two = none_due (not (is_built kinds.has c), step.Unbuilt) (dues m c) e in
+      does_goes c steps new (not_false (is_built kinds.has c) two.0) (all_due c ∙ e) two.1 a
+  by_due c steps new (Some r) e a = refused_goes c r steps new (all_due c ∙ e) a.0 a.1
+
+  -- an answer of the machine goes on with the run
+  pub acts_goes : (c : Command) (steps : List Step) (new : State) → Acts m c steps new → Goes run number c steps new
+  acts_goes c steps new a = by_due c steps new (first_due ((not (is_built kinds.has c), step.Unbuilt) ∷ dues m c)) refl a
+
 -- such a run is lawful
-pub lawful : (m : State) (run : Run) → Describes m run → IsLawful counter_meaning run
+pub lawful : (m : State) (run : Run) → Describes m run → IsLawful kinds.has kinds.meaning run
 lawful m run d = record {
   clock = d.laws.clock;
   fresh = d.laws.fresh;
   past = d.laws.past;
   right = d.laws.right;
+  stamps = d.laws.stamps;
   commit = d.laws.commit;
   causes = d.laws.causes;
   order = is_strict run d.are_later;
@@ -339,8 +424,8 @@ begins_empty = record {
   ids = λ t b. off b;
   are_begun = λ t h. off h;
   are_later = record { above = λ t h. off h; strictly = λ t h. off h };
-  plain = λ t. tt;
-  sums = λ o n. refl;
+  stores = record { told = λ o. told_none kinds o.kind; timed = λ o. tt };
+  reads = λ who t h. cc;
   unbegun = λ t h. (refl, refl);
-  laws = record { clock = tt; fresh = tt; past = tt; right = tt; commit = tt; causes = tt };
+  laws = record { clock = tt; fresh = tt; past = tt; right = tt; stamps = tt; commit = tt; causes = tt };
 }

@@ -1,10 +1,8 @@
 -- Each command's lines, and the machine after them.
 use Rattle.std.proofs.Common.{arith, ◌≡◌, ◌≢◌, ◌⊎◌, inl, inr, ⊎_elim, ℕ, suc, ◌+◌, ◌<◌, ◌≤◌, Bool, true, false, not, cond, eqb, leb, ◌&&◌, ◌||◌, List, [], ◌∷◌, ◌++◌, length, Option, None, Some, refl, sym, ap, ◌∙◌, subst}
-use Rattle.std.specs.Prelude.{is_some, if◌then◌else◌, nat_le, ◌==◌, max, ℤ, pos, ◌+ℤ◌}
-use Rattle.std.specs.Int.{int_wrap, w128}
+use Rattle.std.specs.Prelude.{is_some, if◌then◌else◌, nat_le, ◌==◌, max}
 use Rattle.std.specs.Str.{bytes_eq}
 use Rattle.std.specs.List.{list_any, list_all}
-use Rattle.std.proofs.lemmas.Int.{ints}
 use Rattle.std.proofs.lemmas.Bool.{true≢false, or_left, or_right, or_cases, and_parts, and_from, ne_eqb}
 use Rattle.std.proofs.lemmas.Bool.Decides.{nat_tests}
 use Rattle.std.proofs.lemmas.Slice.Eq.{bytes_eq-Decides}
@@ -16,9 +14,7 @@ use Rattle.site_vector.specs.Vector.{le, join, entry}
 use Rattle.site_vector.specs.VectorLaws.{le_trans, le_entry, join_le}
 use Rattle.crdt_core.specs.declared.object.ObjectId.{ObjectId}
 use Rattle.crdt_core.specs.declared.operation.Op.{Op}
-use Rattle.crdt_core.specs.declared.value.Value.TheVariants.{Int}
 use Rattle.crdt_core.specs.Objects.{same_object}
-use Rattle.crdt_counters.specs.Meaning.{amount, counter_meaning}
 use Rattle.world_model.specs.declared.command.Command.{Command}
 use Rattle.world_model.specs.declared.command.Command.TheVariants as command
 use Rattle.world_model.specs.declared.step.Step.{Step}
@@ -28,19 +24,22 @@ use Rattle.world_model.specs.Cluster.{has_cluster, sites_of, parts_of}
 use Rattle.world_model.specs.Clock.{now, ShowsTime}
 use Rattle.world_model.specs.Sessions.{is_begun, session_site, transaction, is_open, dependency, HoldsPast}
 use Rattle.world_model.specs.Fresh.{ShowsSnapshot}
-use Rattle.world_model.specs.History.{decides, in_history, history, snapshot, commit_time, commit_vector}
-use Rattle.world_model.specs.Updates.{Change, changes}
+use Rattle.world_model.specs.History.{decides, in_history, history, snapshot, commit_time, commit_vector, visible}
+use Rattle.world_model.specs.Updates.{Change, changes, updates_of, updates_in}
 use Rattle.world_model.specs.Reads.{IsRight, IsMeant, read_by}
+use Rattle.world_model.specs.Stamps.{ShowsStamp}
 use Rattle.world_model.specs.Commit.{ShowsCommit}
 use Rattle.world_model.specs.Causes.{HasCause}
 use Rattle.world_model.proofs.Growth.{AreBegun, Leaves, AreLater, EachIs, right_grows, history_decided, vector_same}
-use Rattle.dc_engine.specs.State.{State, Open, Amount, one, transaction_at, is_open_in, with_session, own_sum, made_cluster, ticked, made_session, began, updated, ended, committed}
-use Rattle.dc_engine.specs.Describes.{Describes, KeepsLaws, IsCurrent, IsId, AreAmounts, ArePlain, added, added_by, site_if}
-use Rattle.dc_engine.proofs.ReadSums.{added_by_same, live_read, added_own}
+use Rattle.dc_engine.specs.ObjectKinds.{Effect, kinds}
+use Rattle.dc_engine.specs.State as state
+use Rattle.dc_engine.specs.State.{State, Open, Entry, one, transaction_at, is_open_in, with_session, made_cluster, ticked, made_session, began, updated, ended, committed, state_read, effect_of, stored_on}
+use Rattle.dc_engine.specs.Describes.{Describes, KeepsLaws, IsCurrent, IsId, SameObjects, Stores, Reads, site_if}
+use Rattle.dc_engine.proofs.StoredRuns.{AreTimes, stores_more, reads_more, reads_are, reads_begun, reads_mean, reads_stored, told_updated, stamp_next, told_committed, timed_on, timed_more}
 use Rattle.std.specs.Prelude.{replicate}
 use Rattle.world_model.specs.Sessions.{transaction_after}
 use Rattle.world_model.specs.Fresh.{IsSnapshot}
-use Rattle.dc_engine.proofs.NewLine.{IsNewLine, line, laws_more, same_sums, current_in, id_in, quiet, off}
+use Rattle.dc_engine.proofs.NewLine.{IsNewLine, line, laws_more, reads_in, times_of, current_in, id_in, quiet, off}
 
 pub le_one : (a b : ℕ) → a ≤ b → le (a ∷ []) (b ∷ []) ≡ true
 le_one a b h = grind (arith, nat_tests)
@@ -66,8 +65,8 @@ later_in run e b l k t h =
     let v = vector_same run e b l t h in
     (ap (λ x. le x (commit_vector (e ∷ run) t)) s ∙ (ap (λ x. le (snapshot run t) x) v ∙ k.above t h), ap (λ x. le (commit_vector (e ∷ run) t) x) s ∙ (ap (λ x. le x (snapshot run t)) v ∙ k.strictly t h))
 
-pub quiet_line : (run : Run) (asked : Option Command) (s : Step) → ShowsTime run asked s → ShowsSnapshot run asked s → HoldsPast run asked s → ShowsCommit run asked s → HasCause run asked s → IsRight counter_meaning run run asked s → IsNewLine run asked s
-quiet_line run asked s a b c d e f = record { time = a; snapshot = b; past = c; right = f; commit = d; cause = e }
+pub quiet_line : (run : Run) (asked : Option Command) (s : Step) → ShowsTime run asked s → ShowsSnapshot run asked s → HoldsPast run asked s → ShowsCommit run asked s → HasCause kinds.has run asked s → IsRight kinds.meaning run run asked s → ShowsStamp run run asked s → IsNewLine run asked s
+quiet_line run asked s a b c d e f g = record { time = a; snapshot = b; past = c; right = f; stamp = g; commit = d; cause = e }
 
 pub cluster_line : (m : State) (run : Run) (number : ℕ) (asked : Option Command) → Describes m run → Describes (made_cluster m) (line number asked (step.MadeCluster 1 1) ∷ run)
 cluster_line m run number asked d =
@@ -86,10 +85,10 @@ cluster_line m run number asked d =
       ids = λ t b. id_in run (e ∷ run) m.now m.now t (omega arith) refl (d.ids t b);
       are_begun = d.are_begun;
       are_later = record { above = d.are_later.above; strictly = d.are_later.strictly };
-      plain = d.plain;
-      sums = same_sums m run e d l;
+      stores = stores_more m.stored run e d.are_begun l refl d.stores;
+      reads = λ who t h. reads_in m run e d l who t h refl;
       unbegun = d.unbegun;
-      laws = laws_more run e d.are_begun l d.laws (quiet_line run asked e.step tt tt tt tt tt tt);
+      laws = laws_more run e d.are_begun l d.laws (quiet_line run asked e.step tt tt tt tt tt tt tt);
     }
 
 pub tick_line : (m : State) (run : Run) (number n : ℕ) → Describes m run → Describes (ticked m n) (line number (Some (command.Clock one n)) (step.Ticked one (max n m.now)) ∷ run)
@@ -110,10 +109,10 @@ tick_line m run number n d =
       ids = λ t b. id_in run (e ∷ run) m.now (max n m.now) t up refl (d.ids t b);
       are_begun = d.are_begun;
       are_later = record { above = d.are_later.above; strictly = d.are_later.strictly };
-      plain = d.plain;
-      sums = same_sums m run e d l;
+      stores = stores_more m.stored run e d.are_begun l refl d.stores;
+      reads = λ who t h. reads_in m run e d l who t h refl;
       unbegun = d.unbegun;
-      laws = laws_more run e d.are_begun l d.laws (quiet_line run (Some (command.Clock one n)) e.step (ap (λ k. max n k) (sym d.time)) tt tt tt tt tt);
+      laws = laws_more run e d.are_begun l d.laws (quiet_line run (Some (command.Clock one n)) e.step (ap (λ k. max n k) (sym d.time)) tt tt tt tt tt tt);
     }
 
 pub session_line : (m : State) (run : Run) (number : ℕ) (asked : Option Command) (name : List ℕ) → m.made ≡ true → m.session name ≡ None → Describes m run → Describes (made_session m name) (line number asked (step.MadeSession name 1) ∷ run)
@@ -133,30 +132,24 @@ session_line m run number asked name made none d =
       ids = λ t b. id_in run (e ∷ run) m.now m.now t (omega arith) refl (d.ids t b);
       are_begun = d.are_begun;
       are_later = record { above = d.are_later.above; strictly = d.are_later.strictly };
-      plain = d.plain;
-      sums = same_sums m run e d l;
+      stores = stores_more m.stored run e d.are_begun l refl d.stores;
+      reads = λ who t h. reads_in m run e d l who t (with_cases m name who None (λ b s. s ≡ Some (Some t) → m.session who ≡ Some (Some t)) (λ k x. cc) (λ k x. x) h) refl;
       unbegun = d.unbegun;
-      laws = laws_more run e d.are_begun l d.laws (quiet_line run asked e.step tt tt tt tt tt tt);
+      laws = laws_more run e d.are_begun l d.laws (quiet_line run asked e.step tt tt tt tt tt tt tt);
     }
 
--- what a transaction that is open reads
-pub value_in : State → ObjectId → Open → ℤ
-value_in m o t = int_wrap w128 (m.sum o t.time +ℤ own_sum o t.changes)
-
-pub value_right : (m : State) (run : Run) (asked : Option Command) (name : List ℕ) (o : ObjectId) (t : Open) → m.session name ≡ Some (Some t) → Describes m run → IsRight counter_meaning run run asked (step.Value name o (Int (int_wrap w128 (m.sum o t.time +ℤ own_sum o t.changes))))
-value_right m run asked name o t s d =
+pub value_right : (m : State) (run : Run) (asked : Option Command) (name : List ℕ) (o : ObjectId) (t : Open) → kinds.has o.kind ≡ true → m.session name ≡ Some (Some t) → Describes m run → IsRight kinds.meaning run run asked (step.Value name o (kinds.value_of (state_read m o t)))
+value_right m run asked name o t has s d =
     let k = d.current name t s in
-    let tx = transaction_at t.time in
-    let sum : m.sum o t.time +ℤ own_sum o t.changes ≡ added_by run o (snapshot run tx) (history run) +ℤ added o (changes run tx) =
-    ap (λ z. z +ℤ own_sum o t.changes) (d.sums o t.time ∙ ap (λ v. added_by run o v (history run)) (sym (d.ids tx k.begun).reads))
-    ∙ ap (λ z. added_by run o (snapshot run tx) (history run) +ℤ z) (sym (added_own o (changes run tx) t.changes k.amounts)) in
-    let shown : Int (int_wrap w128 (m.sum o t.time +ℤ own_sum o t.changes)) ≡ counter_meaning o.kind (read_by run run tx o) = ap (λ z. Int (int_wrap w128 z)) (sum ∙ sym (live_read run tx o d.plain)) in
-    subst (λ u. IsMeant counter_meaning run run u o (Int (int_wrap w128 (m.sum o t.time +ℤ own_sum o t.changes)))) (sym k.named) shown
+    let x = transaction_at t.time in
+    let shown : kinds.value_of (state_read m o t) ≡ kinds.meaning o.kind (read_by run run x o) =
+    reads_mean m.stored run t o has (d.reads name t s) ∙ ap (λ v. kinds.meaning o.kind (updates_of run o (visible run v) ++ updates_in run o x 1 (changes run x))) (sym (d.ids x k.begun).reads) in
+    subst (λ u. IsMeant kinds.meaning run run u o (kinds.value_of (state_read m o t))) (sym k.named) shown
 
-pub value_line : (m : State) (run : Run) (number : ℕ) (asked : Option Command) (name : List ℕ) (o : ObjectId) (t : Open) → m.session name ≡ Some (Some t) → Describes m run → Describes m (line number asked (step.Value name o (Int (int_wrap w128 (m.sum o t.time +ℤ own_sum o t.changes)))) ∷ run)
-value_line m run number asked name o t s d =
-    let v = step.Value name o (Int (int_wrap w128 (m.sum o t.time +ℤ own_sum o t.changes))) in
-    quiet m run number asked v refl d (quiet_line run asked v tt tt tt tt tt (value_right m run asked name o t s d))
+pub value_line : (m : State) (run : Run) (number : ℕ) (asked : Option Command) (name : List ℕ) (o : ObjectId) (t : Open) → kinds.has o.kind ≡ true → m.session name ≡ Some (Some t) → Describes m run → Describes m (line number asked (step.Value name o (kinds.value_of (state_read m o t))) ∷ run)
+value_line m run number asked name o t has s d =
+    let v = step.Value name o (kinds.value_of (state_read m o t)) in
+    quiet m run number asked v refl d (quiet_line run asked v tt tt tt tt tt (value_right m run asked name o t has s d) tt)
 
 pub ended_line : (m : State) (run : Run) (number : ℕ) (asked : Option Command) (name : List ℕ) (t : Option Open) → m.session name ≡ Some t → Describes m run → Describes (ended m name) (line number asked (step.Ended name) ∷ run)
 ended_line m run number asked name t some d =
@@ -175,8 +168,8 @@ ended_line m run number asked name t some d =
       ids = λ t b. id_in run (e ∷ run) m.now m.now t (omega arith) refl (d.ids t b);
       are_begun = d.are_begun;
       are_later = record { above = d.are_later.above; strictly = d.are_later.strictly };
-      plain = d.plain;
-      sums = same_sums m run e d l;
+      stores = stores_more m.stored run e d.are_begun l refl d.stores;
+      reads = λ who t h. reads_in m run e d l who t (with_cases m name who None (λ b s. s ≡ Some (Some t) → m.session who ≡ Some (Some t)) (λ k x. cc) (λ k x. x) h) refl;
       unbegun = d.unbegun;
-      laws = laws_more run e d.are_begun l d.laws (quiet_line run asked e.step tt tt tt tt tt tt);
+      laws = laws_more run e d.are_begun l d.laws (quiet_line run asked e.step tt tt tt tt tt tt tt);
     }

@@ -64,9 +64,8 @@ some_pending [] pending h e p = eqb-false 0 0 h refl
 some_pending (c ∷ kept) pending h e p = absurd (omega (arith, ap length (e ∙ ap (take 4098) p)))
 
 pub ends_none : {M : Type 0} (reached : M → List (List ℕ) → List ℕ → Type 0) (m : M) (kept : List ℕ) (before : Option (List ℕ)) →
-    (length kept == 0) ≡ true → Ends reached m kept before before
+    (length kept == 0) ≡ true → Ends reached m m kept before before
 ends_none reached m kept before h = record {
-  new = m;
   reply = [];
   to_sink = written_none before;
   moved = λ read bytes s.
@@ -80,9 +79,8 @@ last_answered reached old new kept out new_out a read bytes h s =
     subst (λ l. reached new l (bytes ++ a.reply)) (sym (stands-last read s.lines s.pending (some_pending kept s.pending h s.is_kept) s.stands)) (a.answered s.pending s.lines bytes (sym s.is_kept) s.replied)
 
 pub ends_line : {M : Type 0} (reached : M → List (List ℕ) → List ℕ → Type 0) (old new : M) (kept out new_out : List ℕ) (before after : Option (List ℕ)) →
-    (length kept == 0) ≡ false → AnswersLine reached old new kept out new_out → out ≡ [] → Appends before after new_out → Ends reached old kept before after
+    (length kept == 0) ≡ false → AnswersLine reached old new kept out new_out → out ≡ [] → Appends before after new_out → Ends reached old new kept before after
 ends_line reached old new kept out new_out before after h a e w = record {
-  new = new;
   reply = a.reply;
   to_sink = subst (Appends before after) (sym (replies_of out new_out a.reply a.appended e)) w;
   moved = λ read bytes s. last_answered reached old new kept out new_out a read bytes h s;

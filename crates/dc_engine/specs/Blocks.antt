@@ -78,8 +78,7 @@ pub record WritesPart {M : Type 0} (reached : M → List (List ℕ) → List ℕ
   pub moved : (read bytes : List ℕ) → At reached old read old_kept bytes → At reached new (read ++ done) new_kept (bytes ++ reply)
 
 -- at the end of the input all lines are answered, and the last reply was written
-pub record Ends {M : Type 0} (reached : M → List (List ℕ) → List ℕ → Type 0) (old : M) (kept : List ℕ) (before after : Option (List ℕ)) : Type 0 where
-  pub new : M
+pub record Ends {M : Type 0} (reached : M → List (List ℕ) → List ℕ → Type 0) (old new : M) (kept : List ℕ) (before after : Option (List ℕ)) : Type 0 where
   pub reply : List ℕ
   pub to_sink : Appends before after reply
   pub moved : (read bytes : List ℕ) → At reached old read kept bytes → reached new (lines_of read) (bytes ++ reply)
@@ -119,13 +118,13 @@ Stopped most reached input left before after fault.TooLong = PlayedTooLong most 
 Stopped most reached input left before after fault.Write = PlayedPart (Replies reached) input before after
 Stopped most reached input left before after fault.NoMemory = PlayedPart (Replies reached) input before after
 
--- a script is played to its end, or left at a fault
-abbrev pub Finished : {M T : Type 0} → ℕ → (M → List (List ℕ) → List ℕ → Type 0) → Option (List ℕ) → Option (List ℕ) → Option (List ℕ) → Option (List ℕ) → Result T Fault → Type 0
-Finished most reached input left before after (Ok done) = Played most (Replies reached) input left before after
-Finished most reached input left before after (Err e) = Stopped most reached input left before after e
+-- a script is played to its end, where m has answered it, or left at a fault
+abbrev pub Finished : {M T : Type 0} → ℕ → (M → List (List ℕ) → List ℕ → Type 0) → M → Option (List ℕ) → Option (List ℕ) → Option (List ℕ) → Option (List ℕ) → Result T Fault → Type 0
+Finished most reached m input left before after (Ok done) = Played most (reached m) input left before after
+Finished most reached m input left before after (Err e) = Stopped most reached input left before after e
 
 -- the script goes on by a block of so many bytes, or is played to its end where there are none, or is left at a fault
 abbrev pub GoesOn : {M : Type 0} → ℕ → (M → List (List ℕ) → List ℕ → Type 0) → M → Option (List ℕ) → Option (List ℕ) → Option (List ℕ) → Option (List ℕ) → List ℕ → ℕ → Result ℕ Fault → Type 0
-GoesOn most reached m input left before after kept room (Ok zero) = Played most (Replies reached) input left before after
+GoesOn most reached m input left before after kept room (Ok zero) = Played most (reached m) input left before after
 GoesOn most reached m input left before after kept room (Ok (suc n)) = (suc n ≤ room) × Progress most reached m input left before after kept (room - suc n)
 GoesOn most reached m input left before after kept room (Err e) = Stopped most reached input left before after e

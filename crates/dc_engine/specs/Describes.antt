@@ -1,12 +1,9 @@
 -- When a run has left the machine as it is.
-use Rattle.std.specs.Prelude.{◌≡◌, ◌≢◌, ◌≤◌, ℕ, ◌+◌, Bool, true, false, ◌&&◌, List, [], ◌∷◌, length, Option, None, Some, if◌then◌else◌, ℤ, pos, ◌+ℤ◌}
+use Rattle.std.specs.Prelude.{map, ◌≡◌, ◌≢◌, ◌≤◌, ℕ, ◌+◌, Bool, true, false, ◌&&◌, List, [], ◌∷◌, length, Option, None, Some, if◌then◌else◌}
 use Rattle.std.specs.Str.{bytes_eq}
 use Rattle.site_vector.specs.declared.ids.TxId.{TxId}
 use Rattle.site_vector.specs.Vector.{le}
 use Rattle.crdt_core.specs.declared.object.ObjectId.{ObjectId}
-use Rattle.crdt_core.specs.declared.operation.Act.{Act}
-use Rattle.crdt_core.specs.Objects.{same_object}
-use Rattle.crdt_counters.specs.Meaning.{amount, counter_meaning}
 use Rattle.world_model.specs.Run.{Run}
 use Rattle.world_model.specs.Cluster.{has_cluster, sites_of, parts_of}
 use Rattle.world_model.specs.Clock.{now, FollowsClock}
@@ -15,39 +12,43 @@ use Rattle.world_model.specs.Fresh.{IsFresh}
 use Rattle.world_model.specs.History.{in_history, history, snapshot, commit_time, commit_vector}
 use Rattle.world_model.specs.Updates.{Change, changes}
 use Rattle.world_model.specs.Reads.{IsRightRead}
+use Rattle.world_model.specs.Stamps.{ShowStamps}
 use Rattle.world_model.specs.Commit.{KeepsCommitTime}
 use Rattle.world_model.specs.Causes.{HaveCauses}
-use Rattle.world_model.specs.Refusals.{is_amount}
+use Rattle.dc_engine.specs.ObjectKinds.{Effect, kinds}
+use Rattle.dc_engine.specs.Logged.{own_on, logged, seen_of}
+use Rattle.dc_engine.specs.Told.{Told}
 use Rattle.world_model.proofs.Growth.{AreBegun, AreLater}
-use Rattle.dc_engine.specs.State.{State, Open, Amount, one, transaction_at, is_open_in}
+use Rattle.dc_engine.specs.State as state
+use Rattle.dc_engine.specs.State.{State, Open, Entry, one, transaction_at, is_open_in, upto, effects_on}
 
--- the changes are these amounts of these objects
-abbrev pub AreAmounts : List Change → List Amount → Type 0
-AreAmounts [] [] = Unit {0}
-AreAmounts [] (a ∷ rest) = ⊥
-AreAmounts (c ∷ cs) [] = ⊥
-AreAmounts (c ∷ cs) (a ∷ rest) = (c.object ≡ a.0) × (amount c.op.act ≡ a.1) × AreAmounts cs rest
+-- the changes are of these objects
+abbrev pub SameObjects : List Change → List state.Change → Type 0
+SameObjects [] [] = Unit {0}
+SameObjects [] (a ∷ rest) = ⊥
+SameObjects (c ∷ cs) [] = ⊥
+SameObjects (c ∷ cs) (a ∷ rest) = (c.object ≡ a.0) × SameObjects cs rest
 
--- each is an amount
-abbrev pub ArePlain : List Change → Type 0
-ArePlain [] = Unit {0}
-ArePlain (c ∷ cs) = (is_amount c.op.act ≡ true) × ArePlain cs
+-- each entry was decided, at its time
+abbrev pub AreTimed : Run → List Entry → Type 0
+AreTimed run [] = Unit {0}
+AreTimed run (x ∷ xs) = ((x.0 ≡ commit_time run x.1.0.tx) × (in_history run x.1.0.tx ≡ true)) × AreTimed run xs
 
--- what these changes add to an object
-abbrev pub added : ObjectId → List Change → ℤ
-added o [] = pos 0
-added o (c ∷ cs) = (if same_object c.object o then amount c.op.act else pos 0) +ℤ added o cs
+-- the entries are the effects of what the run has decided
+pub record Stores (stored : ObjectId → List Entry) (run : Run) : Type 0 where
+  pub told : (o : ObjectId) → Told kinds o.kind (logged run o (history run)) (map (λ (x : Entry). x.1) (stored o))
+  pub timed : (o : ObjectId) → AreTimed run (stored o)
 
--- what these transactions add to an object, of which a vector sees some
-abbrev pub added_by : Run → ObjectId → List ℕ → List TxId → ℤ
-added_by run o v [] = pos 0
-added_by run o v (t ∷ ts) = (if le (commit_vector run t) v then added o (changes run t) else pos 0) +ℤ added_by run o v ts
+-- what an open transaction reads are the effects of what it sees and of its own updates
+abbrev pub Reads : (ObjectId → List Entry) → Run → Open → Type 0
+Reads stored run t = (o : ObjectId) → let x = transaction_at t.time in
+    Told kinds o.kind (own_on run o x 1 (seen_of run o (t.time ∷ [])) (changes run x)) (effects_on o x 1 (upto t.time (stored o)) t.changes)
 
 -- a session's open transaction stands so in the run
 pub record IsCurrent (run : Run) (who : List ℕ) (t : Open) : Type 0 where
   pub named : transaction run who ≡ Some (transaction_at t.time)
   pub begun : is_begun run (transaction_at t.time) ≡ true
-  pub amounts : AreAmounts (changes run (transaction_at t.time)) t.changes
+  pub objects : SameObjects (changes run (transaction_at t.time)) t.changes
   pub undecided : in_history run (transaction_at t.time) ≡ false
   pub unvoted : commit_time run (transaction_at t.time) ≡ 0
 
@@ -66,9 +67,10 @@ pub record KeepsLaws (run : Run) : Type 0 where
   pub clock : FollowsClock run
   pub fresh : IsFresh run
   pub past : KeepsPast run
-  pub right : IsRightRead counter_meaning run
+  pub right : IsRightRead kinds.meaning run
+  pub stamps : ShowStamps run
   pub commit : KeepsCommitTime run
-  pub causes : HaveCauses run
+  pub causes : HaveCauses kinds.has run
 
 pub record Describes (m : State) (run : Run) : Type 0 where
   pub is_made : has_cluster run ≡ m.made
@@ -84,7 +86,7 @@ pub record Describes (m : State) (run : Run) : Type 0 where
   pub ids : (t : TxId) → is_begun run t ≡ true → IsId run m.now t
   pub are_begun : AreBegun run
   pub are_later : AreLater run
-  pub plain : (t : TxId) → ArePlain (changes run t)
-  pub sums : (o : ObjectId) (n : ℕ) → m.sum o n ≡ added_by run o (n ∷ []) (history run)
+  pub stores : Stores m.stored run
+  pub reads : (who : List ℕ) (t : Open) → m.session who ≡ Some (Some t) → Reads m.stored run t
   pub unbegun : (t : TxId) → is_begun run t ≡ false → (changes run t ≡ []) × (commit_time run t ≡ 0)
   pub laws : KeepsLaws run

@@ -1,24 +1,21 @@
 -- What the machine of one partition does with a command.
 use Rattle.std.specs.Prelude.{◌≡◌, ℕ, ◌+◌, ◌^◌, max, Bool, true, false, not, ◌&&◌, ◌==◌, List, [], ◌∷◌, ◌++◌, length, Option, None, Some, is_some, if◌then◌else◌}
 use Rattle.std.specs.Str.{bytes_eq}
-use Rattle.std.specs.Int.{int_wrap, w128}
-use Rattle.std.specs.Prelude.{◌+ℤ◌}
 use Rattle.site_vector.specs.Ids.{same_part}
 use Rattle.crdt_core.specs.declared.object.ObjectId.{ObjectId}
-use Rattle.crdt_core.specs.declared.operation.Act.{Act}
-use Rattle.crdt_core.specs.declared.value.Value.TheVariants.{Int}
-use Rattle.crdt_counters.specs.Meaning.{amount}
+use Rattle.crdt_core.specs.Fits.{fits}
+use Rattle.dc_engine.specs.ObjectKinds.{Effect, ObjectState, kinds}
+use Rattle.crdt_core.specs.declared.operation.Op.{Op}
 use Rattle.world_model.specs.declared.command.Command.{Command}
 use Rattle.world_model.specs.declared.command.Command.TheVariants as command
 use Rattle.world_model.specs.declared.step.Step.{Step}
 use Rattle.world_model.specs.declared.step.Step.TheVariants as step
 use Rattle.world_model.specs.Refusals.{first_due, is_built, last_time}
-use Rattle.world_model.specs.Answers.{shown}
 use Rattle.dc_engine.specs.declared.machine.Machine.{Machine}
 use Rattle.dc_engine.specs.declared.sessions.Change.{Change}
-use Rattle.dc_engine.specs.declared.store.Committed.{Committed}
+use Rattle.dc_engine.specs.declared.history.Committed.{Committed}
 use Rattle.dc_engine.specs.SessionTable.{session}
-use Rattle.dc_engine.specs.Stored.{stored, committed_of, sum_upto, own_sum}
+use Rattle.dc_engine.specs.Stored.{stored, committed_of, state_in}
 use Rattle.dc_engine.specs.State.{one, transaction_at}
 
 abbrev pub session_in : Machine → List ℕ → Option (Option (ℕ × List Change))
@@ -57,7 +54,7 @@ dues m (command.Begin name part) =
     lacks_cluster m ∷ lacks_session m name ∷ (is_open_in (session_in m name), step.HasTxn) ∷ (m.now == last_time, step.TimeEnd) ∷ []
 dues m (command.Read name o) = lacks_cluster m ∷ lacks_session m name ∷ lacks_transaction m name ∷ []
 dues m (command.Update name o op) =
-    lacks_cluster m ∷ lacks_session m name ∷ lacks_transaction m name ∷ (length (changes_in (session_in m name)) == 256, step.LimitUpdates) ∷ []
+    lacks_cluster m ∷ lacks_session m name ∷ lacks_transaction m name ∷ (not (fits o.kind op.path op.act), step.BadOp) ∷ (length (changes_in (session_in m name)) == 256, step.LimitUpdates) ∷ []
 dues m (command.Commit name steps) =
     lacks_cluster m ∷ lacks_session m name ∷ lacks_transaction m name ∷ (is_some_change (changes_in (session_in m name)) && m.now == last_time, step.TimeEnd) ∷ []
 dues m other = []
@@ -86,10 +83,18 @@ DoesCommit old name t [] steps new =
     × IsMachine new old.made old.now (with_session old name None) (length old.sessions.entries) (stored old.store.entries)
 DoesCommit old name t (c ∷ cs) steps new = CommitsChanges old name t steps new
 
-abbrev pub NotesUpdate : Machine → List ℕ → ObjectId → Act → ℕ × List Change → List Step → Machine → Type 0
-NotesUpdate old name o act t steps new =
-    (steps ≡ step.Updated name o None ∷ [])
-    × IsMachine new old.made old.now (with_session old name (Some (t.0, t.1 ++ (record { object = o; effect = amount act }) ∷ []))) (length old.sessions.entries) (stored old.store.entries)
+-- the state of an object as a transaction reads it
+abbrev pub state_at : Machine → ObjectId → ℕ × List Change → ObjectState
+state_at m o t = state_in m.store.entries o (transaction_at t.0) t
+
+-- the effect of an update
+abbrev pub effect_at : Machine → ObjectId → Op → ℕ × List Change → Effect
+effect_at m o op t = kinds.made o.kind (state_at m o t) op.path op.act m.now
+
+abbrev pub NotesUpdate : Machine → List ℕ → ObjectId → Effect → ℕ × List Change → List Step → Machine → Type 0
+NotesUpdate old name o effect t steps new =
+    (steps ≡ step.Updated name o (kinds.stamp_of effect) ∷ [])
+    × IsMachine new old.made old.now (with_session old name (Some (t.0, t.1 ++ (record { object = o; effect = effect }) ∷ []))) (length old.sessions.entries) (stored old.store.entries)
 
 -- what a command does that isn't refused
 abbrev pub Does : Machine → Command → List Step → Machine → Type 0
@@ -103,16 +108,16 @@ Does old (command.Begin name part) steps new =
     × IsMachine new old.made (old.now + 1) (with_session old name (Some (old.now + 1, []))) (length old.sessions.entries) (stored old.store.entries)
 Does old (command.Read name o) steps new =
     (t : ℕ × List Change) × (session_in old name ≡ Some (Some t))
-    × (steps ≡ step.Value name o (Int (int_wrap w128 (sum_upto t.0 (stored old.store.entries o) +ℤ own_sum o t.1))) ∷ []) × (new ≡ old)
+    × (steps ≡ step.Value name o (kinds.value_of (state_at old o t)) ∷ []) × (new ≡ old)
 Does old (command.Update name o op) steps new =
-    (t : ℕ × List Change) × (session_in old name ≡ Some (Some t)) × NotesUpdate old name o op.act t steps new
+    (t : ℕ × List Change) × (session_in old name ≡ Some (Some t)) × NotesUpdate old name o (effect_at old o op t) t steps new
 Does old (command.Commit name k) steps new =
     (t : ℕ × List Change) × (session_in old name ≡ Some (Some t)) × DoesCommit old name t t.1 steps new
 Does old other steps new = ⊥
 
 abbrev pub ActsBy : Machine → Command → List Step → Machine → Option Step → Type 0
 ActsBy old c steps new None = Does old c steps new
-ActsBy old c steps new (Some refused) = (steps ≡ shown refused ∷ []) × (new ≡ old)
+ActsBy old c steps new (Some refused) = (steps ≡ refused ∷ []) × (new ≡ old)
 
 -- the machine answers a command that is built
 abbrev pub Acts : Machine → Command → List Step → Machine → Type 0
@@ -120,9 +125,4 @@ Acts old c steps new = ActsBy old c steps new (first_due (dues old c))
 
 -- the machine answers a command
 abbrev pub AnswersAny : Machine → Command → List Step → Machine → Type 0
-AnswersAny old c steps new = ActsBy old c steps new (first_due ((not (is_built c), step.Unbuilt) ∷ dues old c))
-
--- the machine answers a line that spells this command, or none
-abbrev pub AnswersSpelled : Machine → Option Command → List Step → Machine → Type 0
-AnswersSpelled old None steps new = (steps ≡ step.Unbuilt ∷ []) × (new ≡ old)
-AnswersSpelled old (Some c) steps new = AnswersAny old c steps new
+AnswersAny old c steps new = ActsBy old c steps new (first_due ((not (is_built kinds.has c), step.Unbuilt) ∷ dues old c))

@@ -1,30 +1,34 @@
 -- The machine of one partition: what it is after commands, and what it answers.
-use Rattle.std.specs.Prelude.{◌≡◌, ℕ, ◌+◌, max, Bool, true, false, not, ◌&&◌, ◌==◌, List, [], ◌∷◌, ◌++◌, length, Option, None, Some, is_some, nat_le, if◌then◌else◌, ℤ, pos, ◌+ℤ◌}
+use Rattle.std.specs.Prelude.{◌≡◌, ℕ, ◌+◌, max, Bool, true, false, not, ◌&&◌, ◌==◌, List, [], ◌∷◌, ◌++◌, length, Option, None, Some, is_some, nat_le, if◌then◌else◌}
 use Rattle.std.specs.Str.{bytes_eq}
-use Rattle.std.specs.Int.{int_wrap, w128}
 use Rattle.site_vector.specs.declared.ids.PartId.{PartId}
 use Rattle.site_vector.specs.declared.ids.TxId.{TxId}
 use Rattle.site_vector.specs.Ids.{same_part}
 use Rattle.crdt_core.specs.declared.object.ObjectId.{ObjectId}
-use Rattle.crdt_core.specs.declared.operation.Act.{Act}
-use Rattle.crdt_core.specs.declared.value.Value.TheVariants.{Int}
 use Rattle.crdt_core.specs.Objects.{same_object}
-use Rattle.crdt_counters.specs.Meaning.{amount}
+use Rattle.crdt_core.specs.declared.operation.Op.{Op}
+use Rattle.crdt_core.specs.Fits.{fits}
+use Rattle.crdt_core.specs.History.{folded}
+use Rattle.site_vector.specs.declared.ids.Dot.{Dot}
+use Rattle.dc_engine.specs.ObjectKinds.{ObjectState, Effect, kinds}
 use Rattle.world_model.specs.declared.command.Command.{Command}
 use Rattle.world_model.specs.declared.command.Command.TheVariants as command
 use Rattle.world_model.specs.declared.step.Step.{Step}
 use Rattle.world_model.specs.declared.step.Step.TheVariants as step
 use Rattle.world_model.specs.Refusals.{first_due, is_built, last_time}
-use Rattle.world_model.specs.Answers.{shown}
 
--- an object, and what is added to it
-abbrev pub Amount : Type 0
-Amount = ObjectId × ℤ
+-- an object, and the effect on it
+abbrev pub Change : Type 0
+Change = ObjectId × Effect
 
 -- an open transaction: its time, and its changes in order
 pub record Open : Type 0 where
   pub time : ℕ
-  pub changes : List Amount
+  pub changes : List Change
+
+-- an effect that committed: its time, and its update
+abbrev pub Entry : Type 0
+Entry = ℕ × (Dot × Effect)
 
 pub record State : Type 0 where
   pub made : Bool
@@ -32,8 +36,8 @@ pub record State : Type 0 where
   -- the transaction of a session that is there, where one is open
   pub session : List ℕ → Option (Option Open)
   pub number : ℕ
-  -- the sum of what committed of an object up to a time
-  pub sum : ObjectId → ℕ → ℤ
+  -- what committed of an object, the newest first
+  pub stored : ObjectId → List Entry
 
 -- the one partition
 abbrev pub one : PartId
@@ -48,12 +52,12 @@ is_open_in None = false
 is_open_in (Some None) = false
 is_open_in (Some (Some t)) = true
 
-abbrev pub changes_in : Option (Option Open) → List Amount
+abbrev pub changes_in : Option (Option Open) → List Change
 changes_in None = []
 changes_in (Some None) = []
 changes_in (Some (Some t)) = t.changes
 
-abbrev pub is_change : List Amount → Bool
+abbrev pub is_change : List Change → Bool
 is_change [] = false
 is_change (c ∷ cs) = true
 
@@ -73,7 +77,7 @@ dues m (command.Clock p n) = lacks_cluster m ∷ (not (same_part p one), step.No
 dues m (command.Session name site) = lacks_cluster m ∷ (not (site == 1), step.NoPart) ∷ (is_some (m.session name), step.HasSession) ∷ (m.number == 64, step.LimitSessions) ∷ []
 dues m (command.Begin name part) = lacks_cluster m ∷ lacks_session m name ∷ (is_open_in (m.session name), step.HasTxn) ∷ (m.now == last_time, step.TimeEnd) ∷ []
 dues m (command.Read name o) = lacks_cluster m ∷ lacks_session m name ∷ lacks_transaction m name ∷ []
-dues m (command.Update name o op) = lacks_cluster m ∷ lacks_session m name ∷ lacks_transaction m name ∷ (length (changes_in (m.session name)) == 256, step.LimitUpdates) ∷ []
+dues m (command.Update name o op) = lacks_cluster m ∷ lacks_session m name ∷ lacks_transaction m name ∷ (not (fits o.kind op.path op.act), step.BadOp) ∷ (length (changes_in (m.session name)) == 256, step.LimitUpdates) ∷ []
 dues m (command.Commit name steps) = lacks_cluster m ∷ lacks_session m name ∷ lacks_transaction m name ∷ (is_change (changes_in (m.session name)) && m.now == last_time, step.TimeEnd) ∷ []
 dues m other = []
 
@@ -81,10 +85,31 @@ dues m other = []
 abbrev pub with_session : State → List ℕ → Option Open → List ℕ → Option (Option Open)
 with_session m name t who = if bytes_eq name who then Some t else m.session who
 
--- the sum of what these changes do to an object
-abbrev pub own_sum : ObjectId → List Amount → ℤ
-own_sum o [] = pos 0
-own_sum o (c ∷ cs) = (if same_object c.0 o then c.1 else pos 0) +ℤ own_sum o cs
+-- what committed up to a time
+abbrev pub upto : ℕ → List Entry → List (Dot × Effect)
+upto s [] = []
+upto s (x ∷ xs) = if nat_le x.0 s then x.1 ∷ upto s xs else upto s xs
+
+abbrev pub dot_at : TxId → ℕ → Dot
+dot_at t index = record { tx = t; index = index }
+
+-- the effects on an object among these of t, which are numbered from `index`, on top of older ones
+abbrev pub effects_on : ObjectId → TxId → ℕ → List (Dot × Effect) → List Change → List (Dot × Effect)
+effects_on o t index older [] = older
+effects_on o t index older (c ∷ cs) = effects_on o t (index + 1) (if same_object c.0 o then (dot_at t index, c.1) ∷ older else older) cs
+
+-- the same, stored at a time
+abbrev pub stored_on : ℕ → ObjectId → TxId → ℕ → List Entry → List Change → List Entry
+stored_on time o t index older [] = older
+stored_on time o t index older (c ∷ cs) = stored_on time o t (index + 1) (if same_object c.0 o then (time, (dot_at t index, c.1)) ∷ older else older) cs
+
+-- the state of an object that a transaction reads: what committed before it began, and its own changes on top
+abbrev pub state_read : State → ObjectId → Open → ObjectState
+state_read m o t = folded (kinds.initial o.kind) kinds.step (effects_on o (transaction_at t.time) 1 (upto t.time (m.stored o)) t.changes)
+
+-- the effect of an update
+abbrev pub effect_of : State → ObjectId → Op → Open → Effect
+effect_of m o op t = kinds.made o.kind (state_read m o t) op.path op.act m.now
 
 abbrev pub made_cluster : State → State
 made_cluster m = record m { made = true }
@@ -98,7 +123,7 @@ made_session m name = record m { session = with_session m name None; number = m.
 abbrev pub began : State → List ℕ → State
 began m name = record m { now = m.now + 1; session = with_session m name (Some (record { time = m.now + 1; changes = [] })) }
 
-abbrev pub updated : State → List ℕ → Open → Amount → State
+abbrev pub updated : State → List ℕ → Open → Change → State
 updated m name t a = record m { session = with_session m name (Some (record { time = t.time; changes = t.changes ++ a ∷ [] })) }
 
 abbrev pub ended : State → List ℕ → State
@@ -108,11 +133,11 @@ abbrev pub committed : State → List ℕ → Open → State
 committed m name t = record m {
   now = m.now + 1;
   session = with_session m name None;
-  sum = λ o n. m.sum o n +ℤ (if nat_le (m.now + 1) n then own_sum o t.changes else pos 0);
+  stored = λ o. stored_on (m.now + 1) o (transaction_at t.time) 1 (m.stored o) t.changes;
 }
 
 -- what a commit does with these changes of an open transaction
-abbrev pub DoesCommit : State → List ℕ → Open → List Amount → List Step → State → Type 0
+abbrev pub DoesCommit : State → List ℕ → Open → List Change → List Step → State → Type 0
 DoesCommit m name t [] steps new = (steps ≡ step.Ended name ∷ []) × (new ≡ ended m name)
 DoesCommit m name t (c ∷ cs) steps new =
     let time = m.now + 1 in
@@ -124,18 +149,18 @@ Does m (command.Cluster sites parts) steps new = (steps ≡ step.MadeCluster sit
 Does m (command.Clock p n) steps new = (steps ≡ step.Ticked p (max n m.now) ∷ []) × (new ≡ ticked m n)
 Does m (command.Session name site) steps new = (steps ≡ step.MadeSession name site ∷ []) × (new ≡ made_session m name)
 Does m (command.Begin name part) steps new = (steps ≡ step.Began name (transaction_at (m.now + 1)) ((m.now + 1) ∷ []) ∷ []) × (new ≡ began m name)
-Does m (command.Read name o) steps new = (t : Open) × (m.session name ≡ Some (Some t)) × (steps ≡ step.Value name o (Int (int_wrap w128 (m.sum o t.time +ℤ own_sum o t.changes))) ∷ []) × (new ≡ m)
-Does m (command.Update name o op) steps new = (t : Open) × (m.session name ≡ Some (Some t)) × (steps ≡ step.Updated name o None ∷ []) × (new ≡ updated m name t (o, amount op.act))
+Does m (command.Read name o) steps new = (t : Open) × (m.session name ≡ Some (Some t)) × (steps ≡ step.Value name o (kinds.value_of (state_read m o t)) ∷ []) × (new ≡ m)
+Does m (command.Update name o op) steps new = (t : Open) × (m.session name ≡ Some (Some t)) × (steps ≡ step.Updated name o (kinds.stamp_of (effect_of m o op t)) ∷ []) × (new ≡ updated m name t (o, effect_of m o op t))
 Does m (command.Commit name k) steps new = (t : Open) × (m.session name ≡ Some (Some t)) × DoesCommit m name t t.changes steps new
 Does m other steps new = ⊥
 
 abbrev pub ActsBy : State → Command → List Step → State → Option Step → Type 0
 ActsBy m c steps new None = Does m c steps new
-ActsBy m c steps new (Some refused) = (steps ≡ shown refused ∷ []) × (new ≡ m)
+ActsBy m c steps new (Some refused) = (steps ≡ refused ∷ []) × (new ≡ m)
 
 -- the machine answers a command with these lines, and is `new` then
 abbrev pub Acts : State → Command → List Step → State → Type 0
-Acts m c steps new = ActsBy m c steps new (first_due ((not (is_built c), step.Unbuilt) ∷ dues m c))
+Acts m c steps new = ActsBy m c steps new (first_due ((not (is_built kinds.has c), step.Unbuilt) ∷ dues m c))
 
 abbrev pub start : State
-start = record { made = false; now = 0; session = λ who. None; number = 0; sum = λ o n. pos 0 }
+start = record { made = false; now = 0; session = λ who. None; number = 0; stored = λ o. [] }

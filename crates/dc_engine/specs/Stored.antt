@@ -1,19 +1,20 @@
--- What is stored of objects, and its sums.
-use Rattle.std.specs.Prelude.{ℕ, ◌+◌, nat_le, List, [], ◌∷◌, ◌++◌, Option, None, Some, if◌then◌else◌, ℤ, pos, ◌+ℤ◌}
+-- What is stored of objects, and what a transaction reads of it.
+use Rattle.std.specs.Prelude.{ℕ, ◌+◌, nat_le, List, [], ◌∷◌, ◌++◌, Option, None, Some, if◌then◌else◌}
 use Rattle.std.specs.Map.{lookup}
-use Rattle.std.specs.Global.{Vec}
 use Rattle.site_vector.specs.declared.ids.TxId.{TxId}
 use Rattle.crdt_core.specs.Objects.{same_object}
 use Rattle.crdt_core.specs.declared.object.ObjectId.{ObjectId}
-use Rattle.dc_engine.specs.declared.store.Committed.{Committed}
+use Rattle.dc_engine.specs.Kept.{applied_upto}
+use Rattle.dc_engine.specs.ObjectKinds.{ObjectState, kinds}
+use Rattle.dc_engine.specs.declared.history.Committed.{Committed}
 use Rattle.dc_engine.specs.declared.sessions.Change.{Change}
 
-abbrev pub updates_in : Option (Vec Committed) → List Committed
+abbrev pub updates_in : Option (List Committed) → List Committed
 updates_in None = []
-updates_in (Some v) = v.items
+updates_in (Some us) = us
 
 -- the committed updates of an object
-abbrev pub stored : List (ObjectId × Vec Committed) → ObjectId → List Committed
+abbrev pub stored : List (ObjectId × List Committed) → ObjectId → List Committed
 stored entries o = updates_in (lookup (same_object o) entries)
 
 -- what a commit stores of an object, where the changes are numbered from `index`
@@ -21,12 +22,11 @@ abbrev pub committed_of : TxId → ℕ → ℕ → List Change → ObjectId → 
 committed_of t time index [] o = []
 committed_of t time index (c ∷ cs) o = (if same_object c.object o then (record { dot = record { tx = t; index = index }; time = time; effect = c.effect }) ∷ [] else []) ++ committed_of t time (index + 1) cs o
 
--- the sum of what committed up to a time
-abbrev pub sum_upto : ℕ → List Committed → ℤ
-sum_upto s [] = pos 0
-sum_upto s (u ∷ us) = (if nat_le u.time s then u.effect else pos 0) +ℤ sum_upto s us
+-- a state once these changes of an object by t are applied, which are numbered from `index`
+abbrev pub applied_own : ObjectId → TxId → ℕ → ObjectState → List Change → ObjectState
+applied_own o t index state [] = state
+applied_own o t index state (c ∷ cs) = applied_own o t (index + 1) (if same_object c.object o then kinds.step state (record { tx = t; index = index }) c.effect else state) cs
 
--- the sum of what these changes do to an object
-abbrev pub own_sum : ObjectId → List Change → ℤ
-own_sum o [] = pos 0
-own_sum o (c ∷ cs) = (if same_object c.object o then c.effect else pos 0) +ℤ own_sum o cs
+-- the state of an object as a transaction reads it
+abbrev pub state_in : List (ObjectId × List Committed) → ObjectId → TxId → ℕ × List Change → ObjectState
+state_in entries o tx t = applied_own o tx 1 (applied_upto t.0 (kinds.initial o.kind) (stored entries o)) t.1

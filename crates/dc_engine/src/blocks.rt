@@ -110,7 +110,7 @@ fn answer_end<K: Sink, R: Responder>(
     ensures later { K.faults sink.old ≤ K.faults sink.new }
     ensures cause { result ≡ Err Fault.Write → Rose (K.faults sink.old) (K.faults sink.new) }
     ensures kinds { IfErr result (λ e. (e ≢ Fault.Read) × (e ≢ Fault.TooLong)) }
-    ensures ok { OnOk result (Ends R.reached responder.old kept.now (K.held sink.old) (K.held sink.new)) }
+    ensures ok { OnOk result (Ends R.reached responder.old responder.new kept.now (K.held sink.old) (K.held sink.new)) }
     ensures err { OnErr result (EndsPart R.reached responder.old kept.now (K.held sink.old) (K.held sink.new)) }
 {
     if kept.is_empty() {
@@ -174,7 +174,7 @@ fn play_end<S: Source, K: Sink, R: Responder>(
     ensures write_later { K.faults sink.old ≤ K.faults sink.new }
     ensures read_cause { result ≡ Err Fault.Read → Rose (S.faults source.old) (S.faults source.new) }
     ensures write_cause { result ≡ Err Fault.Write → Rose (K.faults sink.old) (K.faults sink.new) }
-    ensures finished { (most : ℕ) (input before : Option (List ℕ)) → Progress most R.reached responder.old input (S.left source.old) before (K.held sink.old) buffers.old.kept 0 → Finished most R.reached input (S.left source.new) before (K.held sink.new) result }
+    ensures finished { (most : ℕ) (input before : Option (List ℕ)) → Progress most R.reached responder.old input (S.left source.old) before (K.held sink.old) buffers.old.kept 0 → Finished most R.reached responder.new input (S.left source.new) before (K.held sink.new) result }
 {
     match has_more(source) {
         Ok(true) => Err(Fault::TooLong),
@@ -197,7 +197,7 @@ pub(crate) fn play_blocks<S: Source, K: Sink, R: Responder>(
 ) -> Result<(), Fault>
     requires fresh { R.reached responder.old [] [] }
     requires some { 0 < size }
-    ensures finished { Finished most R.reached (S.left source.old) (S.left source.new) (K.held sink.old) (K.held sink.new) result }
+    ensures finished { Finished most R.reached responder.new (S.left source.old) (S.left source.new) (K.held sink.old) (K.held sink.new) result }
     ensures read_cause { result ≡ Err Fault.Read → Rose (S.faults source.old) (S.faults source.new) }
     ensures write_cause { result ≡ Err Fault.Write → Rose (K.faults sink.old) (K.faults sink.new) }
 {

@@ -4,11 +4,14 @@
 mod blocks;
 mod edge;
 mod fault;
-mod grammar;
+mod history;
 mod kept;
 mod lines;
 mod machine;
 mod memory;
+mod objects;
+mod player;
+mod reading;
 mod responder;
 mod script;
 mod sessions;

@@ -1,30 +1,24 @@
-ghost use Rattle.std.specs.Prelude.{◌≡◌, ◌≤◌, ◌<◌, ◌^◌, ℕ, List, [], ◌∷◌, ◌++◌, length, take, Option, Some, None, false, true, IfOk, OnOk, OnErr, ◌+ℤ◌};
-ghost use Rattle.std.specs.List.{flat_map};
-ghost use Rattle.std.specs.Int.{int_wrap, w128};
-ghost use Rattle.world_model.specs.Refusals.{is_built as is_built_lem, is_amount as is_amount_lem};
-ghost use Rattle.crdt_counters.specs.Meaning.{amount};
-ghost use Rattle.dc_engine.specs.Stored.{stored, sum_upto, own_sum};
+ghost use Rattle.std.specs.Prelude.{◌≡◌, ◌≤◌, ◌<◌, ◌^◌, ℕ, List, [], ◌∷◌, ◌++◌, length, take, Option, Some, None, false, true, IfOk, OnOk, OnErr};
+ghost use Rattle.world_model.specs.Refusals.{is_built as is_built_lem};
+ghost use Rattle.dc_engine.specs.ObjectKinds.{kinds};
+ghost use Rattle.dc_engine.specs.Stored.{state_in};
+ghost use Rattle.crdt_core.specs.declared.object.Field.{Field};
+ghost use Rattle.crdt_core.specs.declared.operation.Act.{Act};
 ghost use Rattle.dc_engine.specs.State.{transaction_at};
-ghost use Rattle.reply_text.specs.Text.{text_of};
 
-use crate::grammar::command_of_line;
-use crate::responder::Responder;
+use crate::history::{Replica, new_replica};
+use crate::objects::Objects;
 use crate::sessions::{Change, Sessions, Transaction, close, create, note, open};
-use crate::store::{Store, add_own, add_stored, store_all};
-use crdt_core::{Act, Kind, ObjectId, Op, Value};
-use crdt_counters::amount_of;
+use crate::store::{Store, apply_own, store_all, stored_replica};
+use crdt_core::{Crdt, ObjectId, Op, Value, fits_at};
 use field_codec::Text;
 use indexmap::IndexMap;
-use reply_text::line;
 use site_vector::{PartId, TxId, VTime};
 use std::alloc::{AllocError, Global};
 use world_model::{Command, Step};
 
 /// The greatest time in ticks that a clock shows.
 const LAST_TIME: u64 = 1 << 62;
-
-/// Clock readings are below this number.
-const END_OF_READINGS: u64 = 1 << 48;
 
 /// The most sessions at one time.
 const MOST_SESSIONS: usize = 64;
@@ -48,13 +42,12 @@ pub(crate) struct Machine {
 
 impl Machine {
     ghost use Rattle.std.specs.Prelude.{◌≡◌, ◌≤◌, ◌<◌, ◌^◌, ℕ, List, [], ◌∷◌, length, take, Option, Some, None, false, true, IfOk, OnOk, OnErr};
-    ghost use Rattle.dc_engine.specs.Grammar.{command_of};
-    ghost use Rattle.dc_engine.specs.Replies.{AnswersLine};
-    ghost use Rattle.dc_engine.specs.Held.{Reached};
+    ghost use Rattle.dc_engine.specs.ObjectKinds.{kinds};
+    ghost use Rattle.dc_engine.specs.Reading.{ReadsBelow};
     ghost use Rattle.site_vector.specs.declared.ids.PartId.{PartId};
     ghost use Rattle.world_model.specs.Refusals.{is_built};
     ghost use Rattle.dc_engine.specs.declared.sessions.Change.{Change};
-    ghost use Rattle.dc_engine.specs.Machine.{Acts, AnswersAny, AnswersSpelled, CommitsChanges, NotesUpdate, session_in};
+    ghost use Rattle.dc_engine.specs.Machine.{Acts, AnswersAny, CommitsChanges, NotesUpdate, session_in};
 
     /// A machine before any command. Takes no memory.
     pub(crate) fn new(alloc: Global) -> Machine
@@ -72,31 +65,13 @@ impl Machine {
         }
     }
 
-    /// The steps that answer a line of a script.
-    fn steps_of(&mut self, line: &[u8]) -> Result<Vec<Step>, AllocError>
-        ensures { IfOk result (λ steps. AnswersSpelled self.old (command_of line.now) steps.items self.new) }
-    {
-        match command_of_line(self.alloc, line)? {
-            Some(command) => self.answer_command(command),
-            None => only(self.alloc, Step::Unbuilt),
-        }
-    }
-
-    /// Answers a line, and on an error leaves at the end of `out` what was written of it.
-    #[tactic(auto, using(crate::proofs::HeldState::line_answered))]
-    fn write_answer(&mut self, line: &[u8], out: &mut Vec<u8>) -> Result<(), AllocError>
-        ensures ok { OnOk result (AnswersLine Reached self.old self.new line.now out.old.items out.new.items) }
-        ensures err { OnErr result (take (length out.old.items) out.new.items ≡ out.old.items) }
-    {
-        let alloc = self.alloc;
-        match self.steps_of(line) {
-            Ok(steps) => write_lines(alloc, steps.as_slice(), out),
-            Err(error) => Err(error),
-        }
-    }
-
     /// The lines that answer a command.
-    fn answer_command(&mut self, command: Command) -> Result<Vec<Step>, AllocError>
+    ///
+    /// # Errors
+    ///
+    /// `AllocError` where memory runs out. The machine may only be dropped then.
+    pub(crate) fn answer_command(&mut self, command: Command) -> Result<Vec<Step>, AllocError>
+        requires { ReadsBelow command }
         ensures { IfOk result (λ steps. AnswersAny self.old command steps.items self.new) }
     {
         if !is_built(&command) {
@@ -107,7 +82,8 @@ impl Machine {
 
     /// Answers a command that is built.
     fn act(&mut self, command: Command) -> Result<Vec<Step>, AllocError>
-        requires { is_built command ≡ true }
+        requires built { is_built kinds.has command ≡ true }
+        requires below { ReadsBelow command }
         ensures { IfOk result (λ steps. Acts self.old command steps.items self.new) }
     {
         match command {
@@ -126,7 +102,7 @@ impl Machine {
         ensures { IfOk result (λ steps. Acts self.old (Command.Cluster sites parts) steps.items self.new) }
     {
         if self.made {
-            return only(self.alloc, Step::Unbuilt);
+            return only(self.alloc, Step::HasCluster);
         }
         self.made = true;
         only(self.alloc, Step::MadeCluster { sites, parts })
@@ -140,7 +116,7 @@ impl Machine {
             return only(self.alloc, Step::NoCluster);
         }
         if part != ONE {
-            return only(self.alloc, Step::Unbuilt);
+            return only(self.alloc, Step::NoPart);
         }
         self.now = n.max(self.now);
         let now = self.now;
@@ -153,8 +129,14 @@ impl Machine {
         if !self.made {
             return only(self.alloc, Step::NoCluster);
         }
-        if site != 1 || self.sessions.contains_key(&name) || self.sessions.len() == MOST_SESSIONS {
-            return only(self.alloc, Step::Unbuilt);
+        if site != 1 {
+            return only(self.alloc, Step::NoPart);
+        }
+        if self.sessions.contains_key(&name) {
+            return only(self.alloc, Step::HasSession);
+        }
+        if self.sessions.len() == MOST_SESSIONS {
+            return only(self.alloc, Step::LimitSessions);
         }
         let key = name.copy(self.alloc)?;
         create(&mut self.sessions, key)?;
@@ -169,7 +151,7 @@ impl Machine {
         }
         match self.sessions.get(&name) {
             None => only(self.alloc, Step::NoSession),
-            Some(Some(_)) => only(self.alloc, Step::Unbuilt),
+            Some(Some(_)) => only(self.alloc, Step::HasTxn),
             Some(None) => self.begin_idle(name),
         }
     }
@@ -181,7 +163,7 @@ impl Machine {
         ensures { (part : Option PartId) → IfOk result (λ steps. Acts self.old (Command.Begin name part) steps.items self.new) }
     {
         if self.now == LAST_TIME {
-            return only(self.alloc, Step::Unbuilt);
+            return only(self.alloc, Step::TimeEnd);
         }
         let time = self.now + 1;
         self.now = time;
@@ -219,6 +201,7 @@ impl Machine {
     }
 
     fn update(&mut self, name: Text, object: ObjectId, op: Op) -> Result<Vec<Step>, AllocError>
+        requires { kinds.has object.kind ≡ true }
         ensures { IfOk result (λ steps. Acts self.old (Command.Update name object op) steps.items self.new) }
     {
         if !self.made {
@@ -228,32 +211,44 @@ impl Machine {
             None => only(self.alloc, Step::NoSession),
             Some(None) => only(self.alloc, Step::NoTxn),
             Some(Some(transaction)) => {
-                if transaction.changes().len() == MOST_UPDATES {
-                    return only(self.alloc, Step::Unbuilt);
+                if !fits_at(object.kind, op.path.as_slice(), &op.act) {
+                    return only(self.alloc, Step::BadOp);
                 }
-                self.note_update(name, object, &op.act)
+                if transaction.changes().len() == MOST_UPDATES {
+                    return only(self.alloc, Step::LimitUpdates);
+                }
+                let change = change_of(
+                    self.alloc,
+                    &self.store,
+                    transaction,
+                    &object,
+                    &op,
+                    self.now,
+                )?;
+                self.note_update(name, object, change)
             }
         }
     }
 
-    /// Notes an update of a session that is open and may make another.
+    /// Notes a change of the object, of a session that is open and may make another.
     fn note_update(
         &mut self,
         name: Text,
         object: ObjectId,
-        act: &Act,
+        change: Change,
     ) -> Result<Vec<Step>, AllocError>
-        requires { (t : ℕ × List Change) → session_in self.old name ≡ Some (Some t) → length t.1 < 256 }
-        ensures { (t : ℕ × List Change) → session_in self.old name ≡ Some (Some t) → IfOk result (λ lines. NotesUpdate self.old name object act.now t lines.items self.new) }
+        requires object { change.object ≡ object }
+        requires room { (t : ℕ × List Change) → session_in self.old name ≡ Some (Some t) → length t.1 < 256 }
+        ensures { (t : ℕ × List Change) → session_in self.old name ≡ Some (Some t) → IfOk result (λ lines. NotesUpdate self.old name object change.effect t lines.items self.new) }
     {
-        let change = change_of(self.alloc, &object, act)?;
+        let stamp = Objects::stamp(&change.effect);
         note(&mut self.sessions, &name, change)?;
         only(
             self.alloc,
             Step::Updated {
                 name,
                 object,
-                stamp: None,
+                stamp,
             },
         )
     }
@@ -273,7 +268,7 @@ impl Machine {
                     return only(self.alloc, Step::Ended { name });
                 }
                 if self.now == LAST_TIME {
-                    return only(self.alloc, Step::Unbuilt);
+                    return only(self.alloc, Step::TimeEnd);
                 }
                 self.commit_changes(name)
             }
@@ -302,57 +297,20 @@ impl Machine {
     }
 }
 
-impl Responder for Machine {
-    ghost use Rattle.dc_engine.specs.Held.{Reached};
-
-    ghost reached = { Reached };
-
-    fn answer(&mut self, line: &[u8], out: &mut Vec<u8>) -> Result<(), AllocError> {
-        let end = out.len();
-        match self.write_answer(line, out) {
-            Ok(()) => Ok(()),
-            Err(error) => {
-                out.truncate(end);
-                Err(error)
-            }
-        }
-    }
-}
-
-/// Writes the lines of these steps; on an error what was written of them stands behind what was there.
-fn write_lines(alloc: Global, steps: &[Step], out: &mut Vec<u8>) -> Result<(), AllocError>
-    ensures ok { OnOk result (out.new.items ≡ out.old.items ++ flat_map text_of steps.now) }
-    ensures err { OnErr result (take (length out.old.items) out.new.items ≡ out.old.items) }
-{
-    for step in steps {
-        line(alloc, step, out)?;
-    }
-    Ok(())
-}
-
 /// Whether a command is built yet.
 fn is_built(command: &Command) -> bool
-    ensures { result ≡ is_built_lem command.now }
+    ensures { result ≡ is_built_lem kinds.has command.now }
 {
     match command {
         Command::Cluster { sites, parts } => *sites == 1 && *parts == 1,
-        Command::Clock { n, .. } => *n < END_OF_READINGS,
-        Command::Session { .. } => true,
+        Command::Clock { .. } | Command::Session { .. } => true,
         Command::Begin { part, .. } => part.is_none(),
-        Command::Read { object, .. } => object.kind == Kind::CounterPn,
-        Command::Update { object, op, .. } => {
-            object.kind == Kind::CounterPn && op.path.as_slice().is_empty() && is_amount(&op.act)
+        Command::Read { object, .. } | Command::Update { object, .. } => {
+            Objects::has(object.kind)
         }
         Command::Commit { steps, .. } => steps.is_none(),
         _ => false,
     }
-}
-
-/// Whether an act changes a counter by an amount.
-fn is_amount(act: &Act) -> bool
-    ensures { result ≡ is_amount_lem act.now }
-{
-    matches!(act, Act::Increment(_) | Act::Decrement(_))
 }
 
 /// The transaction that began at a time.
@@ -373,39 +331,84 @@ fn vector_at(time: u64) -> VTime
     VTime::zero(1).with(1, time)
 }
 
-/// The change that an act makes.
-fn change_of(alloc: Global, object: &ObjectId, act: &Act) -> Result<Change, AllocError>
-    ensures { IfOk result (λ c. c ≡ record { object = object.now; effect = amount act.now }) }
+/// An object as a transaction reads it: what had committed when it began, and its own changes.
+fn read_object(
+    alloc: Global,
+    store: &Store,
+    transaction: &Transaction,
+    object: &ObjectId,
+) -> Result<Replica, AllocError>
+    ensures { IfOk result (λ r. r.state ≡ state_in store.now.entries object.now (transaction_at transaction.now.0) transaction.now) }
 {
-    let object = object.copy(alloc)?;
-    let effect = amount_of(act);
-    Ok(Change { object, effect })
+    let time = transaction.time();
+    let mut replica = stored_replica(alloc, store, object, time)?;
+    apply_own(
+        alloc,
+        &mut replica,
+        tx_at(time),
+        transaction.changes(),
+        object,
+    )?;
+    Ok(replica)
 }
 
-/// What a transaction reads of an object: what had committed when it began, and its own changes.
+/// What a transaction reads of an object.
 fn value_of(
     alloc: Global,
     store: &Store,
     transaction: &Transaction,
     object: &ObjectId,
 ) -> Result<Value, AllocError>
-    ensures { IfOk result (λ v. v ≡ Value.Int (int_wrap w128 (sum_upto transaction.now.0 (stored store.now.entries object.now) +ℤ own_sum object.now transaction.now.1))) }
+    ensures { IfOk result (λ v. v ≡ kinds.value_of (state_in store.now.entries object.now (transaction_at transaction.now.0) transaction.now)) }
 {
-    let mut total = 0;
-    let time = transaction.time();
-    add_stored(alloc, &mut total, store, object, time)?;
-    add_own(
-        alloc,
-        &mut total,
-        tx_at(time),
-        transaction.changes(),
-        object,
-    )?;
-    Ok(Value::Int(total))
+    let replica = read_object(alloc, store, transaction, object)?;
+    Objects::value(alloc, &replica.state)
+}
+
+/// An object as the effect of an operation depends on it: without updates, where it doesn't depend on them.
+fn object_for(
+    alloc: Global,
+    store: &Store,
+    transaction: &Transaction,
+    object: &ObjectId,
+    op: &Op,
+) -> Result<Replica, AllocError>
+    requires { kinds.has object.now.kind ≡ true }
+    ensures { IfOk result (λ r. (p : List Field) (a : Act) (n : ℕ) → kinds.made object.now.kind r.state p a n ≡ kinds.made object.now.kind (state_in store.now.entries object.now (transaction_at transaction.now.0) transaction.now) p a n) }
+{
+    if Objects::needs_state(object.kind, op) {
+        let replica = read_object(alloc, store, transaction, object)?;
+        return Ok(replica);
+    }
+    let replica = new_replica(alloc, object.kind)?;
+    Ok(replica)
+}
+
+/// The change that an operation of the kind makes, on what a transaction reads of the object.
+fn change_of(
+    alloc: Global,
+    store: &Store,
+    transaction: &Transaction,
+    object: &ObjectId,
+    op: &Op,
+    now: u64,
+) -> Result<Change, AllocError>
+    requires { kinds.has object.now.kind ≡ true }
+    ensures object { IfOk result (λ c. c.object ≡ object.now) }
+    ensures effect { IfOk result (λ c. c.effect ≡ kinds.made object.now.kind (state_in store.now.entries object.now (transaction_at transaction.now.0) transaction.now) op.now.path op.now.act now) }
+{
+    let replica = object_for(alloc, store, transaction, object, op)?;
+    let object = object.copy(alloc)?;
+    let path = op.path.as_slice();
+    // the operation fits, so that only memory may be wanting
+    match Objects::generate(alloc, object.kind, path, &op.act, &replica.state, now) {
+        Ok(effect) => Ok(Change { object, effect }),
+        Err(_) => Err(AllocError),
+    }
 }
 
 /// One line.
-fn only(alloc: Global, step: Step) -> Result<Vec<Step>, AllocError>
+pub(crate) fn only(alloc: Global, step: Step) -> Result<Vec<Step>, AllocError>
     ensures { IfOk result (λ steps. steps.items ≡ step ∷ []) }
 {
     let mut steps = Vec::new(alloc);

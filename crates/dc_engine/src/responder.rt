@@ -1,4 +1,5 @@
 ghost use Rattle.std.specs.Prelude.{◌≡◌, ℕ, List, OnOk, OnErr};
+ghost use Rattle.dc_engine.specs.Reading.{has_bad};
 ghost use Rattle.dc_engine.specs.Replies.{AnswersLine};
 
 use std::alloc::AllocError;
@@ -19,4 +20,8 @@ pub(crate) trait Responder {
     fn answer(&mut self, line: &[u8], out: &mut Vec<u8>) -> Result<(), AllocError>
         ensures ok { OnOk result (AnswersLine reached self.old self.new line.now out.old.items out.new.items) }
         ensures err { OnErr result (out.new.items ≡ out.old.items) };
+
+    /// Whether one of the lines answered isn't in the grammar.
+    fn has_met_bad(&self) -> bool
+        ensures { (lines : List (List ℕ)) (bytes : List ℕ) → reached self.now lines bytes → has_bad lines ≡ result };
 }

@@ -3,6 +3,7 @@ ghost use Rattle.std.specs.Str.{bytes_eq};
 ghost use Rattle.dc_engine.specs.SessionTable.{session};
 ghost use Rattle.dc_engine.specs.declared.sessions.Change.{Change};
 
+use crate::objects::Effect;
 use crdt_core::ObjectId;
 use field_codec::Text;
 use indexmap::IndexMap;
@@ -10,14 +11,14 @@ use std::alloc::{AllocError, Global};
 use std::marker::Model;
 
 /// An update of an open transaction: the object, and the effect on it.
-#[derive(Debug, Drop)]
+#[derive(Drop)]
 pub(crate) struct Change {
     pub(crate) object: ObjectId,
-    pub(crate) effect: i64,
+    pub(crate) effect: Effect,
 }
 
 /// An open transaction, of at most 256 changes. Contracts see it as its time, in ticks, and its changes in order.
-#[derive(Debug, Drop)]
+#[derive(Drop)]
 pub(crate) struct Transaction {
     time: u64,
     changes: Vec<Change>,

@@ -8,8 +8,11 @@ pub struct Status {
 }
 
 impl Status {
-    /// The input was answered.
+    /// The input was answered, and each of its lines is in the grammar.
     pub const DONE: Status = Status { code: 0 };
+
+    /// The input was answered, and a line of it isn't in the grammar.
+    pub const BAD_LINE: Status = Status { code: 1 };
 
     /// The words are no call.
     pub const USAGE: Status = Status { code: 2 };

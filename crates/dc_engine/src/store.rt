@@ -1,26 +1,20 @@
-ghost use Rattle.std.specs.Prelude.{◌≡◌, ◌≤◌, nat_le, ◌++◌, ◌∷◌, [], ℤ, ◌+ℤ◌, length, OnOk, if◌then◌else◌};
-ghost use Rattle.std.specs.Int.{int_wrap, w128};
+ghost use Rattle.std.specs.Prelude.{◌≡◌, ◌≤◌, nat_le, ◌++◌, ◌∷◌, [], length, IfOk, OnOk, if◌then◌else◌};
 ghost use Rattle.crdt_core.specs.declared.object.ObjectId.{ObjectId};
 ghost use Rattle.crdt_core.specs.Objects.{same_object};
-ghost use Rattle.dc_engine.specs.Stored.{stored, committed_of, sum_upto, own_sum};
+ghost use Rattle.dc_engine.specs.ObjectKinds.{kinds};
+ghost use Rattle.dc_engine.specs.Stored.{stored, committed_of, applied_own};
+ghost use Rattle.dc_engine.specs.Kept.{applied_upto};
 
+use crate::history::{Committed, History, Replica, new_replica};
+use crate::objects::Objects;
 use crate::sessions::Change;
 use crdt_core::{Crdt, ObjectId};
-use crdt_counters::CounterPn;
 use indexmap::IndexMap;
 use site_vector::{Dot, TxId};
 use std::alloc::{AllocError, Global};
 
-/// An update of a committed transaction, with its commit time in ticks.
-#[derive(Debug, Drop)]
-pub(crate) struct Committed {
-    pub(crate) dot: Dot,
-    pub(crate) time: u64,
-    pub(crate) effect: i64,
-}
-
 /// The committed updates of each object, in the order of their commits.
-pub(crate) type Store = IndexMap<ObjectId, Vec<Committed>>;
+pub(crate) type Store = IndexMap<ObjectId, History>;
 
 /// Adds a committed update of an object.
 fn store_update(
@@ -31,13 +25,13 @@ fn store_update(
 ) -> Result<(), AllocError>
     ensures { OnOk result ((o : ObjectId) → stored store.new.entries o ≡ (if same_object object.now o then stored store.old.entries o ++ update ∷ [] else stored store.old.entries o)) }
 {
-    if let Some(updates) = store.get_mut(object) {
-        updates.push(update)?;
+    if let Some(history) = store.get_mut(object) {
+        history.push(alloc, update)?;
         return Ok(());
     }
-    let mut updates = Vec::new(alloc);
-    updates.push(update)?;
-    store.insert(object.copy(alloc)?, updates)?;
+    let mut history = History::new(alloc, object.kind)?;
+    history.push(alloc, update)?;
+    store.insert(object.copy(alloc)?, history)?;
     Ok(())
 }
 
@@ -54,8 +48,8 @@ pub(crate) fn store_all(
     ensures { OnOk result ((o : ObjectId) → stored store.new.entries o ≡ stored store.old.entries o ++ committed_of tx time 1 changes.now o) }
 {
     for (place, change) in changes.iter().enumerate() {
-        let index = place as u16 + 1;
-        store_change(store, alloc, Dot { tx, index }, time, change)?;
+        let number = place as u16 + 1;
+        store_change(store, alloc, Dot { tx, index: number }, time, change)?;
     }
     Ok(())
 }
@@ -70,92 +64,56 @@ fn store_change(
 ) -> Result<(), AllocError>
     ensures { OnOk result ((o : ObjectId) → stored store.new.entries o ≡ (if same_object change.now.object o then stored store.old.entries o ++ (record { dot = dot; time = time; effect = change.now.effect }) ∷ [] else stored store.old.entries o)) }
 {
-    let update = Committed {
-        dot,
-        time,
-        effect: change.effect,
-    };
+    let effect = Objects::copy_effect(alloc, &change.effect)?;
+    let update = Committed { dot, time, effect };
     store_update(store, alloc, &change.object, update)
 }
 
-/// Adds to a total the updates of an object that committed up to a time.
-pub(crate) fn add_stored(
+/// A replica of an object with the updates applied that committed up to a time.
+pub(crate) fn stored_replica(
     alloc: Global,
-    total: &mut i128,
     store: &Store,
     object: &ObjectId,
     upto: u64,
-) -> Result<(), AllocError>
-    ensures { OnOk result ((z : ℤ) → total.old ≡ int_wrap w128 z → total.new ≡ int_wrap w128 (z +ℤ sum_upto upto (stored store.now.entries object.now))) }
+) -> Result<Replica, AllocError>
+    ensures { IfOk result (λ r. r.state ≡ applied_upto upto (kinds.initial object.now.kind) (stored store.now.entries object.now)) }
 {
     match store.get(object) {
-        Some(updates) => add_visible(alloc, total, updates, upto),
-        None => Ok(()),
+        Some(history) => history.replica_at(alloc, object.kind, upto),
+        None => new_replica(alloc, object.kind),
     }
 }
 
-/// Adds to a total the updates that committed up to a time.
-
-fn add_visible(
+/// Applies the changes of an object by a transaction that is open.
+pub(crate) fn apply_own(
     alloc: Global,
-    total: &mut i128,
-    updates: &[Committed],
-    upto: u64,
-) -> Result<(), AllocError>
-    ensures { OnOk result ((z : ℤ) → total.old ≡ int_wrap w128 z → total.new ≡ int_wrap w128 (z +ℤ sum_upto upto updates.now)) }
-{
-    for update in updates {
-        add_if_visible(alloc, total, update, upto)?;
-    }
-    Ok(())
-}
-
-/// Adds an update to a total where it committed up to a time.
-fn add_if_visible(
-    alloc: Global,
-    total: &mut i128,
-    update: &Committed,
-    upto: u64,
-) -> Result<(), AllocError>
-    ensures { OnOk result (total.new ≡ (if nat_le update.now.time upto then int_wrap w128 (total.old +ℤ update.now.effect) else total.old)) }
-{
-    if update.time <= upto {
-        return CounterPn::apply(alloc, total, update.dot, &update.effect);
-    }
-    Ok(())
-}
-
-/// Adds to a total the changes of an object by a transaction that is open.
-
-pub(crate) fn add_own(
-    alloc: Global,
-    total: &mut i128,
+    replica: &mut Replica,
     tx: TxId,
     changes: &[Change],
     object: &ObjectId,
 ) -> Result<(), AllocError>
     requires { length changes.now ≤ 256 }
-    ensures { OnOk result ((z : ℤ) → total.old ≡ int_wrap w128 z → total.new ≡ int_wrap w128 (z +ℤ own_sum object.now changes.now)) }
+    ensures { OnOk result (replica.new.state ≡ applied_own object.now tx 1 replica.old.state changes.now) }
 {
     for (place, change) in changes.iter().enumerate() {
         let index = place as u16 + 1;
-        add_if_of(alloc, total, Dot { tx, index }, change, object)?;
+        apply_if_of(alloc, replica, Dot { tx, index }, change, object)?;
     }
     Ok(())
 }
 
-/// Adds a change to a total where it is of an object.
-fn add_if_of(
+/// Applies a change where it is of an object.
+fn apply_if_of(
     alloc: Global,
-    total: &mut i128,
+    replica: &mut Replica,
     dot: Dot,
     change: &Change,
     object: &ObjectId,
 ) -> Result<(), AllocError>
-    ensures { OnOk result (total.new ≡ (if same_object change.now.object object.now then int_wrap w128 (total.old +ℤ change.now.effect) else total.old)) }
+    ensures { OnOk result (replica.new.state ≡ (if same_object change.now.object object.now then kinds.step replica.old.state dot change.now.effect else replica.old.state)) }
 {
     if change.object == *object {
-        return CounterPn::apply(alloc, total, dot, &change.effect);
+        return Objects::apply(alloc, &mut replica.state, dot, &change.effect);
     }
     Ok(())
 }

@@ -2,24 +2,105 @@
 use crate::memory::{SliceSource, VecSink};
 use crate::status::Status;
 use crate::top::run;
-use std::alloc::AllocError;
+use std::alloc::{AllocError, Global};
 
 /// The status for this script, and the sink with what was written.
 fn played(rt: &HostRuntime, script: &[u8]) -> Result<(Status, VecSink), AllocError> {
     let mut source = SliceSource::new(rt.alloc(), script);
-    let mut sink = VecSink::new(rt.alloc(), 1_000)?;
+    let mut sink = VecSink::new(rt.alloc(), 10_000)?;
     let status = run(rt.alloc(), &["play"], &mut source, &mut sink);
     Ok((status, sink))
 }
 
+/// A text with a piece of it so many times.
+fn repeated(
+    alloc: Global,
+    front: &[u8],
+    piece: &[u8],
+    count: usize,
+    back: &[u8],
+) -> Result<Vec<u8>, AllocError> {
+    let mut text = Vec::from_slice(alloc, front)?;
+    for _ in 0..count {
+        text.extend_from_slice(piece)?;
+    }
+    text.extend_from_slice(back)?;
+    Ok(text)
+}
+
 #[test]
-fn plays_short_scripts(rt: HostRuntime) -> Result<(), AllocError> {
+fn plays_line_ends(rt: HostRuntime) -> Result<(), AllocError> {
+    let (status, sink) = played(&rt, b"cluster 1 1\r\n\n# note\nclock 1.1 5")?;
+    assert_eq!(rt; status, Status::DONE);
+    assert_eq!(rt; sink.held(), b"cluster 1 1\nnow 1.1 5\n".as_slice());
     let (status, sink) = played(&rt, b"")?;
     assert_eq!(rt; status, Status::DONE);
     assert_eq!(rt; sink.held(), b"".as_slice());
     let (status, sink) = played(&rt, b"read a k counter_pn")?;
     assert_eq!(rt; status, Status::DONE);
     assert_eq!(rt; sink.held(), b"no cluster\n".as_slice());
+    let (status, sink) = played(&rt, b"cluster 9 1\n")?;
+    assert_eq!(rt; status, Status::BAD_LINE);
+    assert_eq!(rt; sink.held(), b"bad\n".as_slice());
+    Ok(())
+}
+
+#[test]
+fn refuses_in_order(rt: HostRuntime) -> Result<(), AllocError> {
+    let script =
+        b"begin a\ncluster 1 1\ncluster 1 1\ncluster 2 1\nclock 1.2 5\nsession a 2\nbegin a\nsession a 1\nsession a 1\ncommit a\nbegin a\nbegin a\nupdate a k counter_pn reset\nupdate a k counter_pn increment 2\nread a \"k\" counter_pn\nabort a\ncommit a\n";
+    let replies =
+        b"no cluster\ncluster 1 1\nhas cluster\nlimit unbuilt 1\nno part\nno part\nno session\nsession a 1\nhas session\nno txn\nbegan a 1.1#1 [1]\nhas txn\nbad op\nupdated a k counter_pn\nvalue a k counter_pn 2\nlimit unbuilt 1\nprepared 1.1 1.1#1 2\ndecided 1.1 1.1#1 [2]\nended a\n";
+    let (status, sink) = played(&rt, script)?;
+    assert_eq!(rt; status, Status::DONE);
+    assert_eq!(rt; sink.held(), replies.as_slice());
+    Ok(())
+}
+
+#[test]
+fn reads_lines_of_4096_bytes(rt: HostRuntime) -> Result<(), AllocError> {
+    let script = repeated(rt.alloc(), b"cluster 1 1\nclock 1.1", b" ", 4_086, b"5\n")?;
+    let (status, sink) = played(&rt, script.as_slice())?;
+    assert_eq!(rt; status, Status::DONE);
+    assert_eq!(rt; sink.held(), b"cluster 1 1\nnow 1.1 5\n".as_slice());
+    let script = repeated(rt.alloc(), b"cluster 1 1\nclock 1.1", b" ", 4_087, b"5\n")?;
+    let (status, sink) = played(&rt, script.as_slice())?;
+    assert_eq!(rt; status, Status::BAD_LINE);
+    assert_eq!(rt; sink.held(), b"cluster 1 1\nbad\n".as_slice());
+    Ok(())
+}
+
+#[test]
+fn takes_256_updates(rt: HostRuntime) -> Result<(), AllocError> {
+    let script = repeated(
+        rt.alloc(),
+        b"cluster 1 1\nsession a 1\nbegin a\n",
+        b"update a k counter_pn increment 1\n",
+        257,
+        b"read a k counter_pn\n",
+    )?;
+    let replies = repeated(
+        rt.alloc(),
+        b"cluster 1 1\nsession a 1\nbegan a 1.1#1 [1]\n",
+        b"updated a k counter_pn\n",
+        256,
+        b"limit updates 256\nvalue a k counter_pn 256\n",
+    )?;
+    let (status, sink) = played(&rt, script.as_slice())?;
+    assert_eq!(rt; status, Status::DONE);
+    assert_eq!(rt; sink.held(), replies.as_slice());
+    Ok(())
+}
+
+#[test]
+fn takes_64_mebibytes(rt: HostRuntime) -> Result<(), AllocError> {
+    let script = vec![in rt.alloc(); b'\n'; 67_108_865]?;
+    let (status, sink) = played(&rt, script.as_slice())?;
+    assert_eq!(rt; status, Status::TOO_LONG);
+    assert_eq!(rt; sink.held(), b"".as_slice());
+    let (status, sink) = played(&rt, &script.as_slice()[1..])?;
+    assert_eq!(rt; status, Status::DONE);
+    assert_eq!(rt; sink.held(), b"".as_slice());
     Ok(())
 }
 

@@ -24,6 +24,12 @@ use Rattle.world_model.specs.History.{decides, in_history, newly_decided, histor
 use Rattle.world_model.specs.Updates.{Change, changes, has_seen, update_of, updates_in, updates_of}
 use Rattle.world_model.specs.Reads.{read_by, IsMeant, IsRight, IsRightRead}
 use Rattle.world_model.specs.Lawful.{IsStrictOrder}
+use Rattle.crdt_core.specs.declared.operation.Op.{Op}
+use Rattle.crdt_core.specs.Stamps.{stamp_due}
+use Rattle.world_model.specs.Clock.{now}
+use Rattle.world_model.specs.Updates.{operation, partition_of}
+use Rattle.world_model.specs.Stamps.{IsDue, ShowsStamp, ShowStamps}
+use Rattle.std.specs.Prelude.{length}
 
 -- what was decided was begun
 abbrev pub AreBegun : Run → Type 0
@@ -52,7 +58,7 @@ one_each : (p : TxId → Bool) (b : Bool) (t : TxId) → (b ≡ false → p t �
 one_each p true t h = tt
 one_each p false t h = (h refl, tt)
 
-newly_is : (run : Run) (s : Step) (p : TxId → Bool) → ((t : TxId) → in_history run t ≡ false → decides s t ≡ true → p t ≡ true) → EachIs p (newly_decided run s)
+pub newly_is : (run : Run) (s : Step) (p : TxId → Bool) → ((t : TxId) → in_history run t ≡ false → decides s t ≡ true → p t ≡ true) → EachIs p (newly_decided run s)
 newly_is run (step.Decided p t c) q h = one_each q (in_history run t) t (λ n. h t n (same_tx_refl t))
 newly_is run s q h = tt
 
@@ -72,7 +78,7 @@ module _ (run : Run) (e : Line) (begun : AreBegun run) (leaves : Leaves run e) w
   vector_same t h = ap (λ v. replaced v t.site (commit_time more t)) (leaves.snapshots t (begun t h)) ∙ ap (λ n. replaced (snapshot run t) t.site n) (leaves.times t h)
 
   -- what a snapshot so far sees stays
-  seen_by : (t d : TxId) → is_begun run t ≡ true → visible more (snapshot run t) d ≡ visible run (snapshot run t) d
+  pub seen_by : (t d : TxId) → is_begun run t ≡ true → visible more (snapshot run t) d ≡ visible run (snapshot run t) d
   seen_by t d b =
       let now : Bool → Bool → Bool = λ dec his. (dec || his) && le (commit_vector more d) (snapshot run t) in
       elim (in_history run d) as (λ i. in_history run d ≡ i → now (decides e.step d) i ≡ (i && le (commit_vector run d) (snapshot run t))) [
@@ -86,7 +92,7 @@ module _ (run : Run) (e : Line) (begun : AreBegun run) (leaves : Leaves run e) w
   pub sees_same : (t d : TxId) → is_begun run t ≡ true → visible more (snapshot more t) d ≡ visible run (snapshot run t) d
   sees_same t d b = ap (λ v. visible more v d) (leaves.snapshots t b) ∙ seen_by t d b
 
-  update_same : (t : TxId) (index : ℕ) (c : Change) → is_begun run t ≡ true → update_of more t index c ≡ update_of run t index c
+  pub update_same : (t : TxId) (index : ℕ) (c : Change) → is_begun run t ≡ true → update_of more t index c ≡ update_of run t index c
   update_same t index c b =
       let saw : has_seen more t index ≡ has_seen run t index = λ i d. sees_same t d.tx b i || (same_tx d.tx t && nat_lt d.index index) in
       let made : (Dot → Bool) → Update = λ f. record { dot = record { tx = t; index = index }; path = c.op.path; act = c.op.act; stamp = c.stamp; now = c.now; saw = f } in
@@ -113,7 +119,7 @@ module _ (run : Run) (e : Line) (begun : AreBegun run) (leaves : Leaves run e) w
         | false ↦ rest
       ]
 
-  unseen_dropped : (p : TxId → Bool) (ts us : List TxId) → EachIs (λ t. not (p t)) ts → filter p (ts ++ us) ≡ filter p us
+  pub unseen_dropped : (p : TxId → Bool) (ts us : List TxId) → EachIs (λ t. not (p t)) ts → filter p (ts ++ us) ≡ filter p us
   unseen_dropped p [] us h = refl
   unseen_dropped p (t ∷ ts) us h =
       elim (p t) as (λ b. not b ≡ true → cond b (t ∷ filter p (ts ++ us)) (filter p (ts ++ us)) ≡ filter p us) [
@@ -162,6 +168,30 @@ module _ (meaning : Kind → List Update → Value) (run : Run) (e : Line) (begu
   -- right reads stay right, and the new line is right where it is so in the run before it
   pub right_grows : IsRightRead meaning run → IsRight meaning run run e.command e.step → IsRightRead meaning (e ∷ run)
   right_grows h new = (is_right_same run (λ u k. k) e.command e.step new, rights_same run (λ u k. k) h)
+
+-- and stamps that were due stay due
+module _ (run : Run) (e : Line) (begun : AreBegun run) (leaves : Leaves run e) where
+  due_same : (before : Run) (o : ObjectId) (stamp : Option ℕ) (op : Option Op) (t : Option TxId) → ((u : TxId) → t ≡ Some u → is_begun run u ≡ true) → IsDue run before t o stamp op → IsDue (e ∷ run) before t o stamp op
+  due_same before o stamp op None h m = absurd m
+  due_same before o stamp None (Some t) h m = absurd m
+  due_same before o stamp (Some op) (Some t) h m =
+      let b = h t refl in
+      let c : Change = record { object = o; op = op; stamp = stamp; now = now before (partition_of before t o) } in
+      let index = 1 + length (changes before t) in
+      m ∙ (ap (λ us. stamp_due o.kind us (update_of run t index c)) (sym (reads_same run e begun leaves before t o b)) ∙ ap (stamp_due o.kind (read_by (e ∷ run) before t o)) (sym (update_same run e begun leaves t index c b)))
+
+  stamp_same : (before : Run) → ((u : TxId) → is_begun before u ≡ true → is_begun run u ≡ true) → (asked : Option Command) (s : Step) → ShowsStamp run before asked s → ShowsStamp (e ∷ run) before asked s
+  stamp_same before sub asked (step.Updated name o stamp) m = due_same before o stamp (operation asked) (transaction before name) (λ u k. sub u (transaction_begun before name u k)) m
+  stamp_same before sub asked s m = m
+
+  stamps_same : (rest : Run) → ((u : TxId) → is_begun rest u ≡ true → is_begun run u ≡ true) → EachLine (ShowsStamp run) rest → EachLine (ShowsStamp (e ∷ run)) rest
+  stamps_same [] sub h = tt
+  stamps_same (f ∷ rest) sub h =
+      let below : (u : TxId) → is_begun rest u ≡ true → is_begun run u ≡ true = λ u k. sub u (or_right (begins f.step u) (is_begun rest u) k) in
+      (stamp_same rest below f.command f.step h.0, stamps_same rest below h.1)
+
+  pub stamps_grow : ShowStamps run → ShowsStamp run run e.command e.step → ShowStamps (e ∷ run)
+  stamps_grow h new = (stamp_same run (λ u k. k) e.command e.step new, stamps_same run (λ u k. k) h)
 
 -- a commit vector is above its snapshot
 pub record AreLater (run : Run) : Type 0 where

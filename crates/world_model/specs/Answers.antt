@@ -51,29 +51,34 @@ Replies run (command.Commit name None) steps = Commits run name (transaction run
 Replies run (command.Commit name (Some k)) steps = ⊥
 Replies run other steps = ⊥
 
--- a refusal as the program shows it: those that aren't built yet have one line
-abbrev pub shown : Step → Step
-shown step.NoCluster = step.NoCluster
-shown step.NoSession = step.NoSession
-shown step.NoTxn = step.NoTxn
-shown other = step.Unbuilt
-
 abbrev pub AnswersBy : Run → Command → List Step → Option Step → Type 0
 AnswersBy run c steps None = Replies run c steps
-AnswersBy run c steps (Some refused) = steps ≡ shown refused ∷ []
+AnswersBy run c steps (Some refused) = steps ≡ refused ∷ []
 
--- these lines, the first first, answer a line of the script after this run; none is a line outside the grammar
-abbrev pub IsAnswer : Run → Option Command → List Step → Type 0
-IsAnswer run None steps = steps ≡ step.Unbuilt ∷ []
-IsAnswer run (Some c) steps = AnswersBy run c steps (refusal run c)
+-- these lines, the first first, answer a command after this run, where the program has these kinds
+abbrev pub IsAnswer : (Kind → Bool) → Run → Command → List Step → Type 0
+IsAnswer has run c steps = AnswersBy run c steps (refusal has run c)
 
 -- the run with these lines, the first first
 abbrev pub answered : ℕ → Option Command → List Step → Run → Run
 answered number asked [] run = run
 answered number asked (s ∷ steps) run = answered number asked steps ((record { number = number; command = asked; step = s }) ∷ run)
 
--- the run answers these lines of a script, the last first
-abbrev pub Answers : List (Option Command) → Run → Type 0
-Answers [] run = run ≡ []
-Answers (asked ∷ script) run = (before : Run) × (steps : List Step) × Answers script before × IsAnswer before asked steps
-    × (run ≡ answered (length script + 1) asked steps before)
+-- what a line of a script asks for
+pub data Asked : Type 0 where
+  -- nothing: no word stands there, or a comment
+  nothing : Asked
+  -- the line isn't in the grammar
+  unreadable : Asked
+  asks : Command → Asked
+
+-- the run goes on with the answer to the line of this number
+abbrev pub GoesOn : (Kind → Bool) → ℕ → Run → Asked → Run → Type 0
+GoesOn has number before nothing run = run ≡ before
+GoesOn has number before unreadable run = run ≡ answered number None (step.Bad ∷ []) before
+GoesOn has number before (asks c) run = (steps : List Step) × IsAnswer has before c steps × (run ≡ answered number (Some c) steps before)
+
+-- the run answers these lines of a script, the last first, which are numbered from 1
+abbrev pub Answers : (Kind → Bool) → List Asked → Run → Type 0
+Answers has [] run = run ≡ []
+Answers has (a ∷ script) run = (before : Run) × Answers has script before × GoesOn has (length script + 1) before a run

@@ -11,6 +11,7 @@ pub mod Fresh
 pub mod History
 pub mod Updates
 pub mod Reads
+pub mod Stamps
 pub mod Commit
 pub mod Refusals
 pub mod Answers

@@ -1,13 +1,10 @@
 -- The refusal of a command: the first that is due.
-use Rattle.std.specs.Prelude.{ℕ, ◌^◌, Bool, true, false, not, ◌&&◌, ◌==◌, nat_lt, List, [], ◌∷◌, length, Option, None, Some, is_none, if◌then◌else◌}
+use Rattle.std.specs.Prelude.{ℕ, ◌^◌, Bool, true, false, not, ◌&&◌, ◌==◌, List, [], ◌∷◌, length, Option, None, Some, is_none, if◌then◌else◌}
 use Rattle.std.specs.List.{list_any}
 use Rattle.site_vector.specs.declared.ids.PartId.{PartId}
 use Rattle.site_vector.specs.declared.ids.TxId.{TxId}
 use Rattle.crdt_core.specs.declared.kind.Kind.{Kind}
-use Rattle.crdt_core.specs.declared.kind.Kind.TheVariants as kind
-use Rattle.crdt_core.specs.declared.object.Field.{Field}
-use Rattle.crdt_core.specs.declared.operation.Act.{Act}
-use Rattle.crdt_core.specs.declared.operation.Act.TheVariants as act
+use Rattle.crdt_core.specs.Fits.{fits}
 use Rattle.world_model.specs.declared.command.Command.{Command}
 use Rattle.world_model.specs.declared.command.Command.TheVariants as command
 use Rattle.world_model.specs.declared.step.Step.{Step}
@@ -18,19 +15,6 @@ use Rattle.world_model.specs.Clock.{now}
 use Rattle.world_model.specs.Sessions.{session_site, has_session, sessions_of, transaction, is_open}
 use Rattle.world_model.specs.Updates.{changes}
 use Rattle.world_model.specs.Commit.{participants}
-
-abbrev pub is_counter : Kind → Bool
-is_counter kind.CounterPn = true
-is_counter other = false
-
-abbrev pub is_amount : Act → Bool
-is_amount (act.Increment n) = true
-is_amount (act.Decrement n) = true
-is_amount other = false
-
-abbrev pub is_empty : List Field → Bool
-is_empty [] = true
-is_empty (f ∷ fs) = false
 
 -- the last time that a clock may show
 abbrev pub last_time : ℕ
@@ -72,19 +56,20 @@ without_session run name = (not (has_session run name), step.NoSession)
 abbrev pub without_transaction : Run → List ℕ → Bool × Step
 without_transaction run name = (not (is_open run name), step.NoTxn)
 
--- what isn't built yet: all but a cluster of one partition with counters that are incremented and decremented, and whole commits
-abbrev pub is_built : Command → Bool
-is_built (command.Cluster sites parts) = sites == 1 && parts == 1
-is_built (command.Clock p n) = nat_lt n (2 ^ 48)
-is_built (command.Session name site) = true
-is_built (command.Begin name part) = is_none part
-is_built (command.Read name o) = is_counter o.kind
-is_built (command.Update name o op) = is_counter o.kind && (is_empty op.path && is_amount op.act)
-is_built (command.Commit name steps) = is_none steps
-is_built other = false
+-- all is built but clusters of more than one partition, begins at a named partition, commits that stop after some steps,
+-- objects of kinds that the program doesn't have, and the commands of many sites and partitions
+abbrev pub is_built : (Kind → Bool) → Command → Bool
+is_built has (command.Cluster sites parts) = sites == 1 && parts == 1
+is_built has (command.Clock p n) = true
+is_built has (command.Session name site) = true
+is_built has (command.Begin name part) = is_none part
+is_built has (command.Read name o) = has o.kind
+is_built has (command.Update name o op) = has o.kind
+is_built has (command.Commit name steps) = is_none steps
+is_built has other = false
 
-abbrev pub unbuilt : Command → Bool × Step
-unbuilt c = (not (is_built c), step.Unbuilt)
+abbrev pub unbuilt : (Kind → Bool) → Command → Bool × Step
+unbuilt has c = (not (is_built has c), step.Unbuilt)
 
 -- the refusals of a command in their order, each with whether it is due
 abbrev pub refusals : Run → Command → List (Bool × Step)
@@ -109,6 +94,7 @@ refusals run (command.Update name o op) =
     without_cluster run
     ∷ without_session run name
     ∷ without_transaction run name
+    ∷ (not (fits o.kind op.path op.act), step.BadOp)
     ∷ (changes_of run (transaction run name) == 256, step.LimitUpdates)
     ∷ []
 refusals run (command.Commit name steps) =
@@ -124,5 +110,6 @@ abbrev pub first_due : List (Bool × Step) → Option Step
 first_due [] = None
 first_due (r ∷ rs) = if r.0 then Some r.1 else first_due rs
 
-abbrev pub refusal : Run → Command → Option Step
-refusal run c = first_due (unbuilt c ∷ refusals run c)
+-- the first that is due, where the program has these kinds
+abbrev pub refusal : (Kind → Bool) → Run → Command → Option Step
+refusal has run c = first_due (unbuilt has c ∷ refusals run c)

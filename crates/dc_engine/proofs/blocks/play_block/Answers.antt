@@ -14,7 +14,7 @@ returns-in-Ok-answer_end-clause-goes_on g c =
     let bytes = rw c.if-count-eq0.true at (rw c.in-Ok.is at c.read_block.ensures.bytes) in
     let end = rw c.in-Ok.is at c.read_block.ensures.end in
     let ends = rw c.in-Ok-answer_end.is at c.answer_end.ensures.ok in
-    λ most input before p. progress_end most g.R.Responder.reached _ input (g.S.Source.left c.args.source.now) (g.S.Source.left c.read_block.new.source) before (g.K.Sink.held c.args.sink.now) (g.K.Sink.held c.answer_end.new.sink) _ c.args.room p bytes (end c.if-count-eq0.true c.requires.some c.requires.size) ends
+    λ most input before p. progress_end most g.R.Responder.reached _ c.answer_end.new.responder input (g.S.Source.left c.args.source.now) (g.S.Source.left c.read_block.new.source) before (g.K.Sink.held c.args.sink.now) (g.K.Sink.held c.answer_end.new.sink) _ c.args.room p bytes (end c.if-count-eq0.true c.requires.some c.requires.size) ends
 
 pub returns-in-Err-answer_end-clause-goes_on : goal.returns-in-Err-answer_end-clause-goes_on
 returns-in-Err-answer_end-clause-goes_on g c =

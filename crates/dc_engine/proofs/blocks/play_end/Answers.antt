@@ -13,7 +13,7 @@ returns-in-Ok-clause-finished g c =
     let more = rw c.in-Ok-false.is at c.has_more.ensures.more in
     let taken = rw c.in-Ok-false.field-0-test at more in
     let ends = rw c.in-Ok.is at c.answer_end.ensures.ok in
-    λ most input before p. progress_end most g.R.Responder.reached _ input (g.S.Source.left c.args.source.now) (g.S.Source.left c.has_more.new.source) before (g.K.Sink.held c.args.sink.now) (g.K.Sink.held c.answer_end.new.sink) _ 0 p taken.0 taken.1 ends
+    λ most input before p. progress_end most g.R.Responder.reached _ c.answer_end.new.responder input (g.S.Source.left c.args.source.now) (g.S.Source.left c.has_more.new.source) before (g.K.Sink.held c.args.sink.now) (g.K.Sink.held c.answer_end.new.sink) _ 0 p taken.0 taken.1 ends
 
 pub returns-in-Err-answer_end-clause-finished : goal.returns-in-Err-answer_end-clause-finished
 returns-in-Err-answer_end-clause-finished g c =

@@ -1,5 +1,5 @@
 use Rattle.dc_engine.specs.Stored.{stored}
-use Rattle.dc_engine.proofs.Sums.{committed_more}
+use Rattle.dc_engine.proofs.Applied.{committed_more}
 use Rattle.dc_engine.proofs.store.store_all.Goals as goal
 
 pub loop-place-preserved : goal.loop-place-preserved

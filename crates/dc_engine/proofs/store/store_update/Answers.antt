@@ -1,12 +1,12 @@
 use Rattle.std.proofs.Common.{rules, ap, ◌∙◌, sym, ◌++◌, ◌∷◌, [], refl}
 use Rattle.dc_engine.specs.Stored.{updates_in}
-use Rattle.dc_engine.proofs.Objects.{stored_more, stored_first}
+use Rattle.dc_engine.proofs.ObjectKeys.{stored_more, stored_first}
 use Rattle.dc_engine.proofs.store.store_update.Goals as goal
 
 pub returns-in-Some : goal.returns-in-Some
 returns-in-Some c = λ o.
     stored_more _ o _ _ c.push.new.self c.args.update (((c.get_mut.follows.holds c.push.new.self).3 (search rules)).0 o)
-    (c.in_ok-push.ensures.items ∙ ap (λ m. updates_in m ++ c.args.update ∷ []) c.in-Some.ensures.value)
+    (c.in_ok-push.ensures ∙ ap (λ m. updates_in m ++ c.args.update ∷ []) c.in-Some.ensures.value)
 
 pub returns : goal.returns
 returns c = λ o.

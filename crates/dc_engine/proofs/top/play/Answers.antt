@@ -1,13 +1,14 @@
-use Rattle.dc_engine.proofs.HeldState.{reached_none}
+use Rattle.std.proofs.Common.{true, false}
 use Rattle.dc_engine.proofs.PlayedBy.{played_lawful, ended_lawful, too_long_lawful, part_lawful}
 use Rattle.dc_engine.proofs.top.play.Goals as goal
 
 pub play_script-requires : goal.play_script-requires
-play_script-requires g c = let e = c.new-machine.ensures in reached_none c.new-machine.result e.made e.now e.sessions e.store
+play_script-requires g c = c.new-player.ensures
 
 pub returns : goal.returns
 returns g c = let e = c.play_script.ensures in record {
-  done = λ h. played_lawful _ _ _ _ _ (e.done h);
+  done = λ h. played_lawful _ false _ _ _ _ (e.done h);
+  bad_line = λ h. played_lawful _ true _ _ _ _ (e.bad_line h);
   read_fault = λ h. ended_lawful _ _ _ _ _ (e.read_fault h);
   read_cause = e.read_cause;
   write_fault = λ h. part_lawful _ _ _ (e.write_fault h);

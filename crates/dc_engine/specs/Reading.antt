@@ -1,0 +1,42 @@
+-- What a line of a script asks for.
+use Rattle.std.specs.Prelude.{◌≡◌, ◌<◌, ◌^◌, ℕ, Bool, true, false, ◌&&◌, nat_le, List, length, Option, None, Some, if◌then◌else◌, ⊤}
+use Rattle.std.specs.Io.BufRead.{strip_last}
+use Rattle.std.specs.List.{list_any}
+use Rattle.std.specs.Str.{is_utf8}
+use Rattle.script_text.specs.Line.{reading}
+use Rattle.script_text.specs.Split.{words}
+use Rattle.script_text.specs.declared.Parsed.{Parsed}
+use Rattle.script_text.specs.declared.Parsed.TheVariants as parsed
+use Rattle.world_model.specs.declared.command.Command.{Command}
+use Rattle.world_model.specs.declared.command.Command.TheVariants as command
+use Rattle.world_model.specs.Answers.{Asked, nothing, unreadable, asks}
+
+-- what a line reads as: at most 4,096 bytes of UTF-8, whose words are in the grammar
+abbrev pub reading_of : List ℕ → Option Parsed
+reading_of line = if nat_le (length line) 4096 && is_utf8 line then reading (words line) else None
+
+abbrev pub asked_as : Option Parsed → Asked
+asked_as None = unreadable
+asked_as (Some parsed.Nothing) = nothing
+asked_as (Some (parsed.Command c)) = asks c
+
+-- a line without its LF: one CR at its end counts nothing
+abbrev pub asked_of : List ℕ → Asked
+asked_of line = asked_as (reading_of (strip_last 13 line))
+
+abbrev pub is_unreadable : Asked → Bool
+is_unreadable unreadable = true
+is_unreadable other = false
+
+-- some line isn't in the grammar
+abbrev pub has_bad : List (List ℕ) → Bool
+has_bad lines = list_any (λ line. is_unreadable (asked_of line)) lines
+
+-- a reading of a clock is below 2^48
+abbrev pub ReadsBelow : Command → Type 0
+ReadsBelow (command.Clock p n) = n < 2 ^ 48
+ReadsBelow other = ⊤
+
+abbrev pub AsksBelow : Option Parsed → Type 0
+AsksBelow (Some (parsed.Command c)) = ReadsBelow c
+AsksBelow other = ⊤
