@@ -1,7 +1,7 @@
 -- What is kept of updates that later ones undo: a value at each dot.
-use Rattle.std.specs.Prelude.{ℕ, Bool, true, false, cond, not, List, [], ◌∷◌, Option, Some, None, is_some}
+use Rattle.std.specs.Prelude.{ℕ, Bool, true, false, cond, not, ◌==◌, List, [], ◌∷◌, Option, Some, None, is_some}
 use Rattle.std.specs.List.{list_any}
-use Rattle.std.specs.FinMap.{FinMap, insert, retain_keys, get, keys, entries}
+use Rattle.std.specs.FinMap.{FinMap, insert, retain_keys, get, keys, entries, len}
 use Rattle.site_vector.specs.declared.ids.Dot.{Dot}
 use Rattle.site_vector.specs.Order.{dot_cmp}
 use Rattle.crdt_core.specs.DotSet.{has_dot}
@@ -39,3 +39,6 @@ has_marked m = list_any (λ e. e.1) (entries m)
 
 abbrev pub has_unmarked : KeptAt Bool → Bool
 has_unmarked m = list_any (λ e. not e.1) (entries m)
+
+abbrev pub keeps_none : {V : Type 0} → KeptAt V → Bool
+keeps_none m = len m == 0

@@ -13,10 +13,10 @@ use Rattle.crdt_core.specs.Seen.{Update, is_assign}
 use Rattle.crdt_core.specs.Stamps.{stamp_due, last_stamp, above_all, assigns_seen}
 use Rattle.crdt_core.specs.Law.{all_fit}
 
-abbrev kind_of : ℕ → Kind
+abbrev pub kind_of : ℕ → Kind
 kind_of n = cond (n == 1) CounterPn (cond (n == 2) CounterFat (cond (n == 3) SetGo (cond (n == 4) SetAw (cond (n == 5) SetRw (cond (n == 6) FlagEw (cond (n == 7) FlagDw (cond (n == 8) RegisterLww (cond (n == 9) RegisterMv (cond (n == 10) MapGo MapRr)))))))))
 
-back : (k : Kind) → kind_of (kind_code k) ≡ k
+pub back : (k : Kind) → kind_of (kind_code k) ≡ k
 back CounterPn = refl
 back CounterFat = refl
 back SetGo = refl

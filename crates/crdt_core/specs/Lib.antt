@@ -1,10 +1,14 @@
 pub mod Seen
 pub mod Live
+pub mod Blank
 pub mod Confluence
 pub mod DotCode
 pub mod DotSet
+pub mod EffectForm
+pub mod FieldOrder
 pub mod Fits
 pub mod History
+pub mod InMaps
 pub mod Kept
 pub mod KeptKinds
 pub mod KeptLaw
@@ -12,6 +16,7 @@ pub mod KeptSteps
 pub mod Kinds
 pub mod Objects
 pub mod Placing
+pub mod Ready
 pub mod Same
 pub mod Stamps
 pub mod Law

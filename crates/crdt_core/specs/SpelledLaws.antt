@@ -11,7 +11,7 @@ use Rattle.std.proofs.lemmas.Bool.{eqb-true, eq-eqb}
 use Rattle.field_codec.specs.Spelling.{number, is_number, text, is_text, list, are_in_order, are_members, is_list, is_below}
 use Rattle.field_codec.specs.Reading.{Read, number_at, text_at, list_at, members_at, checked_at, then_at, mapped_at}
 use Rattle.field_codec.specs.Lawful.{IsForm}
-use Rattle.field_codec.specs.FormLaws.{number_form, IsWidth, width1, width2, width8, text_form, list_form, members_form, checked_form, then_form, mapped_form, both_true, and_true, le_from, lt_holds}
+use Rattle.field_codec.specs.FormLaws.{number_form, IsWidth, width1, width2, width8, text_form, list_form, members_form, checked_form, then_form, mapped_form, both_true, and_true, le_from, le_holds, lt_holds}
 use Rattle.site_vector.specs.declared.ids.TxId.{TxId}
 use Rattle.site_vector.specs.declared.ids.Dot.{Dot}
 use Rattle.site_vector.specs.Order.{dot_cmp}
@@ -19,7 +19,7 @@ use Rattle.crdt_core.specs.declared.kind.Kind.{Kind}
 use Rattle.crdt_core.specs.declared.kind.Kind.TheVariants.{CounterPn, CounterFat, SetGo, SetAw, SetRw, FlagEw, FlagDw, RegisterLww, RegisterMv, MapGo, MapRr}
 use Rattle.crdt_core.specs.declared.object.ObjectId.{ObjectId}
 use Rattle.crdt_core.specs.Kinds.{kind_code}
-use Rattle.crdt_core.specs.Spelled.{is_between, between_at, is_tx, tx, tx_of, tx_at, is_dot, dot, dot_of, dot_at, is_dots, dots, dots_at, vector, is_vector, vector_at, kind, coded_kind, kind_at, is_object, object, object_of, object_at}
+use Rattle.crdt_core.specs.Spelled.{is_between, between_at, is_tx, tx, tx_of, tx_at, is_dot, dot, dot_of, dot_at, are_dots, is_dots, dots, dots_at, vector, is_vector, vector_at, kind, coded_kind, kind_at, is_object, object, object_of, object_at}
 
 -- a number within bounds that its bytes can spell
 pub between_form : (width least most : ℕ) → IsWidth width → most < 256 ^ width → IsForm (is_between least most) (is_between least most) (number width) (between_at width least most)
@@ -52,6 +52,14 @@ dot_form =
 
 pub dots_form : IsForm (are_members (is_below dot_cmp) is_dot) is_dots dots dots_at
 dots_form = list_form (is_below dot_cmp) is_dot is_dot dot dot_at dot_form
+
+-- the same for what puts an ascending list: only the bounds of its members are asked for
+pub dots_held_form : IsForm are_dots is_dots dots dots_at
+dots_held_form = record {
+  found = dots_form.found;
+  again = dots_form.again;
+  fit = λ ds good. (both_true (are_in_order (is_below dot_cmp) None ds) (are_dots ds) (dots_form.fit ds good)).1;
+}
 
 -- the same test told otherwise
 retold : {V : Type 0} (fits is_spelled told : V → Bool) (spelling : V → List ℕ) (reading : List ℕ → ℕ → Read V) → ((v : V) → is_spelled v ≡ told v) → IsForm fits is_spelled spelling reading → IsForm told told spelling reading
@@ -172,3 +180,28 @@ kind_refused bytes at n end h out = rw (h, outside n out) refl
 pub kind_fails : (bytes : List ℕ) (at : ℕ) (e : TakeError) → number_at 1 bytes at ≡ Err e → kind_at bytes at ≡ Err e
 unfolding kind_at
 kind_fails bytes at e h = rw h refl
+
+-- ---- a mark of one byte, and what stands behind it whatever the mark is
+
+abbrev pub marked_at : {V W : Type 0} → ℕ → (ℕ × V → W) → (List ℕ → ℕ → Read V) → List ℕ → ℕ → Read W
+marked_at most made reading = mapped_at made (then_at (between_at 1 0 most) (λ _. reading))
+
+abbrev pair : {V : Type 0} → ℕ → V → ℕ × V
+pair n v = (n, v)
+
+pub marked_form : {V W : Type 0} (most : ℕ) → most < 256 → (made : ℕ × V → W) (mark : W → ℕ) (parts : W → V) (fits is_spelled : V → Bool) (spelling : V → List ℕ) (reading : List ℕ → ℕ → Read V)
+    → ((w : W) → made (mark w, parts w) ≡ w) → ((n : ℕ) (v : V) → n ≤ most → (mark (made (n, v)) ≡ n) × (parts (made (n, v)) ≡ v)) → ((w : W) → mark w ≤ most) → IsForm fits is_spelled spelling reading
+    → IsForm (λ w. fits (parts w)) (λ w. is_spelled (parts w)) (λ w. number 1 (mark w) ++ spelling (parts w)) (marked_at most made reading)
+marked_form {V} {W} most small made mark parts fits is_spelled spelling reading back forth within form =
+    let marks = is_between 0 most in
+    let whole = then_form marks marks (number 1) (between_at 1 0 most) (λ _. fits) (λ _. is_spelled) (λ _. spelling) (λ _. reading) (between_form 1 0 most width1 (omega (arith, small))) (λ _ _. form) in
+    let same : (v : ℕ × V) → (marks v.0 && is_spelled v.1) ≡ true → pair (mark (made v)) (parts (made v)) ≡ v = λ v h.
+    let f = forth v.0 v.1 (le_from v.0 most (both_true (nat_le 0 v.0) (nat_le v.0 most) (both_true (marks v.0) (is_spelled v.1) h).0).1) in
+    λ i. (f.0 i, f.1 i) in
+    let law = mapped_form made (λ w. (mark w, parts w)) _ _ _ _ back same whole in
+    let known : (w : W) → marks (mark w) ≡ true = λ w. and_true (nat_le 0 (mark w)) (nat_le (mark w) most) (le_holds 0 (mark w) (omega arith)) (le_holds (mark w) most (within w)) in
+    record {
+      found = λ bytes at w end ok here h. let f = law.found bytes at w end ok here h in ((both_true (marks (mark w)) (is_spelled (parts w)) f.0).1, f.1);
+      again = λ bytes at w end good spans. law.again bytes at w end (and_true (marks (mark w)) (is_spelled (parts w)) (known w) good) spans;
+      fit = λ w good. form.fit (parts w) good;
+    }

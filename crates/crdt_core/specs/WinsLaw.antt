@@ -13,7 +13,7 @@ use Rattle.crdt_core.specs.KeptKinds.{stays}
 use Rattle.crdt_core.specs.Members.{In, any_of, one_of, none_of, clash, all_of, each_of, passes_on, newest}
 use Rattle.crdt_core.specs.Wins.{lives, add_wins, remove_wins}
 
-same_truth : (a b : Bool) → (a ≡ true → b ≡ true) → (b ≡ true → a ≡ true) → a ≡ b
+pub same_truth : (a b : Bool) → (a ≡ true → b ≡ true) → (b ≡ true → a ≡ true) → a ≡ b
 same_truth true true f g = refl
 same_truth true false f g = sym (f refl)
 same_truth false true f g = g refl
@@ -39,24 +39,24 @@ module _ (adds removes : Act → Bool) (us : List Update) (h : IsHistory us) whe
   reset_of u h = one_of (λ r. is_reset r.act && sees r u.dot) us (not-false _ h)
 
   -- who has seen a live update lives
-  lives_on : (u x : Update) → In u us → In x us → is_live us u ≡ true → sees x u.dot ≡ true → is_live us x ≡ true
+  pub lives_on : (u x : Update) → In u us → In x us → is_live us u ≡ true → sees x u.dot ≡ true → is_live us x ≡ true
   lives_on u x i j live see = true_from_ne_false _ (λ f. let w = reset_of x f in let two = and_parts (is_reset w.0.act) (sees w.0 x.dot) w.2 in dead u w.0 w.1 live two.0 (passes_on us h w.0 x w.1 j two.1 u.dot see))
 
-  stays_lives : (u : Update) → stays takes us u ≡ true → is_live us u ≡ true
+  pub stays_lives : (u : Update) → stays takes us u ≡ true → is_live us u ≡ true
   stays_lives u s = ap not (none_of (λ r. is_reset r.act && sees r u.dot) us (λ r i t.
       let two = and_parts (is_reset r.act) (sees r u.dot) t in
       clash (λ r. takes r && sees r u.dot) us r (not-true _ s) i (and_from _ _ (or_right (adds r.act) _ (or_right (removes r.act) _ two.0)) two.1)))
 
   -- a live update that none sees who adds or removes stays
-  stays_if : (u : Update) → is_live us u ≡ true → ((x : Update) → In x us → sees x u.dot ≡ true → adds x.act ≡ true → ⊥) → ((x : Update) → In x us → sees x u.dot ≡ true → removes x.act ≡ true → ⊥) → stays takes us u ≡ true
+  pub stays_if : (u : Update) → is_live us u ≡ true → ((x : Update) → In x us → sees x u.dot ≡ true → adds x.act ≡ true → ⊥) → ((x : Update) → In x us → sees x u.dot ≡ true → removes x.act ≡ true → ⊥) → stays takes us u ≡ true
   stays_if u live no_add no_remove = ap not (none_of (λ r. takes r && sees r u.dot) us (λ x i t.
       let two = and_parts (takes x) (sees x u.dot) t in
       ⊎_elim (no_add x i two.1) (λ rest. ⊎_elim (no_remove x i two.1) (λ reset. dead u x i live reset two.1) (or_cases (removes x.act) (is_reset x.act) rest)) (or_cases (adds x.act) (removes x.act || is_reset x.act) two.0)))
 
-  not_stays : {P : Type 0} (u x : Update) → In x us → stays takes us u ≡ true → sees x u.dot ≡ true → takes x ≡ true → P
+  pub not_stays : {P : Type 0} (u x : Update) → In x us → stays takes us u ≡ true → sees x u.dot ≡ true → takes x ≡ true → P
   not_stays u x i s see t = clash (λ r. takes r && sees r u.dot) us x (not-true _ s) i (and_from _ _ t see)
 
-  adds_takes : (x : Update) → adds x.act ≡ true → takes x ≡ true
+  pub adds_takes : (x : Update) → adds x.act ≡ true → takes x ≡ true
   adds_takes x a = or_left (adds x.act) _ a
 
   removes_takes : (x : Update) → removes x.act ≡ true → takes x ≡ true
@@ -163,7 +163,7 @@ module _ (adds removes : Act → Bool) (us : List Update) (h : IsHistory us) whe
   pub remove_stays : (some_stay adds && not (some_stay removes)) ≡ remove_wins adds removes us
   remove_stays = same_truth _ _ lost_by_stay stay_by_lost
 
-any_by : (p q : Update → Bool) → ((u : Update) → p u ≡ q u) → (us : List Update) → list_any p us ≡ list_any q us
+pub any_by : (p q : Update → Bool) → ((u : Update) → p u ≡ q u) → (us : List Update) → list_any p us ≡ list_any q us
 any_by p q f [] = refl
 any_by p q f (u ∷ us) = λ i. f u i || any_by p q f us i
 

@@ -1,4 +1,5 @@
-ghost use Rattle.std.specs.Prelude.{◌≡◌, ◌↔◌, ℕ, List, Bool, true, false, Option, IsTrue, OnOk, IfOk};
+ghost use Rattle.std.specs.Prelude.{◌≡◌, ◌≤◌, ◌↔◌, ◌++◌, ℕ, List, length, Bool, true, false, Option, IsTrue, OnOk, OnErr, IfOk};
+ghost use Rattle.field_codec.specs.Reading.{Read, Gives};
 ghost use Rattle.site_vector.specs.declared.ids.Dot.{Dot};
 ghost use Rattle.crdt_core.specs.declared.kind.Kind.{Kind};
 ghost use Rattle.crdt_core.specs.declared.object.Field.{Field};
@@ -7,9 +8,12 @@ ghost use Rattle.crdt_core.specs.declared.value.Value.{Value};
 ghost use Rattle.crdt_core.specs.Seen.{Update};
 ghost use Rattle.crdt_core.specs.Kinds.{reads_state};
 ghost use Rattle.crdt_core.specs.Fits.{fits};
+ghost use Rattle.crdt_core.specs.InMaps.{KeepsInMaps};
 ghost use Rattle.crdt_core.specs.Law.{KeepsLaw};
+ghost use Rattle.crdt_core.specs.EffectForm.{SpellsEffects, HoldsSpelled, IsReady};
 
 use crate::{Act, Field, GenError, Kind, Op, Value};
+use field_codec::TakeError;
 use site_vector::Dot;
 use std::alloc::{AllocError, Global};
 
@@ -56,6 +60,30 @@ pub trait Crdt {
     /// The law of a kind.
     ghost laws: { KeepsLaw has too_deep initial step made value_of stamp_of meaning names holds };
 
+    /// Whether nothing is left in the state that a reset could undo.
+    ghost is_blank: { Self.State → Bool };
+
+    /// What a map around the kind needs of it.
+    ghost in_maps: { KeepsInMaps has too_deep initial step made is_blank };
+
+    /// Whether the effect is one of the kind.
+    ghost is_of: { Kind → Self.Effect → Bool };
+
+    /// What `put_effect` takes: an effect whose numbers and updates are within their bounds, its lists in order.
+    ghost can_put: { Self.Effect → Bool };
+
+    /// What has a spelling: of what can be put, that in which no list is too long to be counted.
+    ghost is_spelled: { Self.Effect → Bool };
+
+    /// The bytes of an effect.
+    ghost spelling: { Self.Effect → List ℕ };
+
+    /// What reading an effect of a kind at a place answers.
+    ghost reading: { Kind → List ℕ → ℕ → Read Self.Effect };
+
+    /// Each effect is spelled in one way, and none begins another of its kind.
+    ghost spells: { SpellsEffects has is_of can_put is_spelled spelling reading };
+
     /// Whether the type has the kind. Takes no memory.
     fn has(kind: Kind) -> bool
         ensures { result ≡ has kind };
@@ -71,6 +99,14 @@ pub trait Crdt {
     /// Whether the operation's effect depends on the state: false exactly for `CounterPn` and `SetGo`. Takes no memory.
     fn needs_state(kind: Kind, op: &Op) -> bool
         ensures { result ≡ reads_state kind };
+
+    /// Whether the path leads through maps to a field whose kind the inner type lacks. Takes no memory.
+    fn is_too_deep(kind: Kind, path: &[Field]) -> bool
+        ensures { result ≡ too_deep kind path.now };
+
+    /// Whether nothing is left of updates in the state, as in the state of no update: a reset would undo nothing. Takes no memory.
+    fn is_blank(state: &Self::State) -> bool
+        ensures { result ≡ is_blank state.now };
 
     /// The effect of an act at a path, on the state that was read, at a clock value in ticks.
     ///
@@ -88,6 +124,7 @@ pub trait Crdt {
     ) -> Result<Self::Effect, GenError>
         requires { IsTrue (has kind) }
         ensures made { IfOk result (λ e. e ≡ made kind state.now path.now act.now now) }
+        ensures ready { HoldsSpelled holds state.now → IfOk result (λ e. IsReady is_of can_put spelling kind path.now act.now e) }
         ensures fitting { OnOk result ((fits kind path.now act.now ≡ true) × (too_deep kind path.now ≡ false)) }
         ensures too_deep { (result ≡ Err GenError.TooDeep) ↔ (too_deep kind path.now ≡ true) }
         ensures bad_op { (result ≡ Err GenError.BadOp) ↔ ((fits kind path.now act.now ≡ false) × (too_deep kind path.now ≡ false)) };
@@ -132,4 +169,32 @@ pub trait Crdt {
     /// `AllocError` where memory runs out.
     fn value(alloc: Global, state: &Self::State) -> Result<Value, AllocError>
         ensures { IfOk result (λ v. v ≡ value_of state.now) };
+
+    /// Appends the bytes of the effect.
+    ///
+    /// # Errors
+    ///
+    /// `AllocError` where memory runs out, or where a list has 2^32 members or more. `out` is as before then.
+    fn put_effect(out: &mut Vec<u8>, effect: &Self::Effect) -> Result<(), AllocError>
+        requires { can_put effect.now ≡ true }
+        ensures spelled { OnOk result (is_spelled effect.now ≡ true) }
+        ensures ok { OnOk result (out.new.items ≡ out.old.items ++ spelling effect.now) }
+        ensures err { OnErr result (out.new.items ≡ out.old.items) };
+
+    /// The effect of the kind at a place, and the place after it.
+    ///
+    /// # Errors
+    ///
+    /// The first field that fails: `Short` where it is cut off, `Bad` where it is whole and the form refuses it, each with
+    /// the place of its first byte; `NoMemory` where memory runs out.
+    fn take_effect(
+        alloc: Global,
+        kind: Kind,
+        bytes: &[u8],
+        at: usize,
+    ) -> Result<(Self::Effect, usize), TakeError>
+        requires known { IsTrue (has kind) }
+        requires within { at ≤ length bytes.now }
+        ensures answer { Gives result (reading kind bytes.now at) }
+        ensures end { IfOk result (λ x. x.1 ≤ length bytes.now) };
 }

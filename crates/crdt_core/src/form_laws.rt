@@ -1,9 +1,11 @@
-ghost use Rattle.std.specs.Prelude.{Bool, true};
+ghost use Rattle.std.specs.Prelude.{◌≡◌, ◌&&◌, Bool, true};
 ghost use Rattle.field_codec.specs.Spelling.{are_members, is_below};
 ghost use Rattle.field_codec.specs.Lawful.{IsForm, IsPrefixFree};
 ghost use Rattle.site_vector.specs.Order.{dot_cmp};
 ghost use Rattle.crdt_core.specs.declared.kind.Kind.{Kind};
 ghost use Rattle.crdt_core.specs.Spelled.{is_tx, tx, tx_at, is_dot, dot, dot_at, is_dots, dots, dots_at, is_vector, vector, vector_at, kind, kind_at, is_object, object, object_at};
+
+use crate::Crdt;
 
 /// Reading answers each of these and the place after it exactly where its spelling stands at the place,
 /// and no spelling begins that of another.
@@ -19,4 +21,11 @@ pub fn law_forms()
     ensures sets_apart { IsPrefixFree is_dots dots }
     ensures vectors_apart { IsPrefixFree is_vector vector }
     ensures objects_apart { (has : Kind → Bool) → IsPrefixFree (is_object has) object }
+{}
+
+/// The same of the effects of each kind that a type has: reading answers an effect of the kind and the place after it
+/// exactly where its spelling stands at the place, and no spelling begins that of another of the kind.
+pub fn law_effects<C: Crdt>()
+    ensures form { (k : Kind) → C.has k ≡ true → IsForm (λ e. C.is_of k e && C.can_put e) (λ e. C.is_of k e && C.is_spelled e) C.spelling (C.reading k) }
+    ensures apart { (k : Kind) → C.has k ≡ true → IsPrefixFree (λ e. C.is_of k e && C.is_spelled e) C.spelling }
 {}

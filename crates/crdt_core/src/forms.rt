@@ -128,12 +128,11 @@ pub fn take_kind(bytes: &[u8], at: usize) -> Result<(Kind, usize), TakeError>
 }
 
 /// A number of one byte within bounds, and the place after it.
-pub(crate) fn take_small(
-    bytes: &[u8],
-    at: usize,
-    least: u8,
-    most: u8,
-) -> Result<(u8, usize), TakeError>
+///
+/// # Errors
+///
+/// At the place: `Short` where the bytes end there, `Bad` where the number is out of its bounds.
+pub fn take_small(bytes: &[u8], at: usize, least: u8, most: u8) -> Result<(u8, usize), TakeError>
     requires { at ≤ length bytes.now }
     ensures answer { result ≡ between_at 1 least most bytes.now at }
     ensures within { IfOk result (λ x. x.1 ≤ length bytes.now) }

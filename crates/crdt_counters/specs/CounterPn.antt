@@ -1,5 +1,5 @@
 -- The states and effects of the counter whose updates stay.
-use Rattle.std.specs.Prelude.{ℕ, Bool, true, false, List, Option, None, ℤ, ◌+ℤ◌}
+use Rattle.std.specs.Prelude.{ℕ, Bool, true, false, List, Option, None, ℤ, pos, negsuc, ◌==◌, ◌+ℤ◌}
 use Rattle.std.specs.Int.{int_wrap, w128}
 use Rattle.site_vector.specs.declared.ids.Dot.{Dot}
 use Rattle.crdt_core.specs.declared.kind.Kind.{Kind}
@@ -31,3 +31,7 @@ names_none e d = false
 
 abbrev pub holds_none : ℤ → Dot → Bool
 holds_none s d = false
+
+abbrev pub is_zero : ℤ → Bool
+is_zero (pos n) = n == 0
+is_zero (negsuc n) = false

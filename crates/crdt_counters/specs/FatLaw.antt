@@ -16,9 +16,11 @@ use Rattle.crdt_core.specs.Kinds.{same_kind, reads_state}
 use Rattle.crdt_core.specs.Seen.{Update, is_reset, is_live}
 use Rattle.crdt_core.specs.History.{IsHistory, state_after}
 use Rattle.crdt_core.specs.Law.{KeepsSteps, KeepsLaw, made_by}
+use Rattle.crdt_core.specs.InMaps.{KeepsInMaps}
+use Rattle.crdt_core.specs.Blank.{without_blank, empty_kept}
 use Rattle.crdt_core.specs.Leaves.{IsLeaf, same_kind_is, no_stamp_due}
 use Rattle.crdt_core.specs.Confluence.{confluence}
-use Rattle.crdt_core.specs.Kept.{KeptAt, dots_if, is_kept}
+use Rattle.crdt_core.specs.Kept.{KeptAt, dots_if, is_kept, keeps_none}
 use Rattle.crdt_core.specs.KeptKinds.{pairs, with_pair, kept_keeps_steps, state_entries}
 use Rattle.crdt_counters.specs.Meaning.{amount, total_by, total, counter_meaning}
 use Rattle.crdt_counters.specs.Totals.{total_same, counter_orderless}
@@ -78,4 +80,11 @@ fat_law = record {
   orderless = λ k us vs has. counter_orderless k us vs;
   unread = λ k s t p a n has r. absurd (true≢false (sym (reads k has) ∙ r));
   steps = λ k has. fat_steps k;
+}
+
+pub fat_in_maps : KeepsInMaps fat_has (λ k p. false) (λ k. empty) fat_step fat_made keeps_none
+fat_in_maps = record {
+  first_blank = λ k has. empty_kept ℤ;
+  undoes_none = λ k s t d n has resets blank. without_blank s t blank;
+  shallow = λ k. refl;
 }

@@ -1,3 +1,5 @@
+pub mod EffectForm
+pub mod Exact
 pub mod CounterFat
 pub mod CounterPn
 pub mod FatLaw

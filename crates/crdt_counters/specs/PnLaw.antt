@@ -17,11 +17,13 @@ use Rattle.crdt_core.specs.Fits.{is_amount}
 use Rattle.crdt_core.specs.Seen.{Update, sees, is_reset, is_live}
 use Rattle.crdt_core.specs.History.{IsHistory, state_after}
 use Rattle.crdt_core.specs.Law.{KeepsSteps, KeepsLaw, made_by, all_fit}
+use Rattle.crdt_core.specs.InMaps.{KeepsInMaps}
+use Rattle.crdt_core.specs.Blank.{never_reset}
 use Rattle.crdt_core.specs.Leaves.{IsLeaf, same_kind_is, first_fits, rest_fits, no_stamp_due}
 use Rattle.crdt_core.specs.Confluence.{confluence}
 use Rattle.crdt_counters.specs.Meaning.{amount, total, counter_meaning}
 use Rattle.crdt_counters.specs.Totals.{counter_orderless, nothing_wraps}
-use Rattle.crdt_counters.specs.CounterPn.{pn_has, pn_step, pn_made, pn_value, no_stamp, names_none, holds_none}
+use Rattle.crdt_counters.specs.CounterPn.{is_zero, pn_has, pn_step, pn_made, pn_value, no_stamp, names_none, holds_none}
 
 abbrev deep : Kind → List Field → Bool
 deep k p = false
@@ -69,4 +71,11 @@ pn_law = record {
   orderless = λ k us vs has. counter_orderless k us vs;
   unread = λ k s t p a n has reads. refl;
   steps = λ k has. pn_steps k;
+}
+
+pub pn_in_maps : KeepsInMaps pn_has deep (λ k. pos 0) pn_step pn_made is_zero
+pn_in_maps = record {
+  first_blank = λ k has. refl;
+  undoes_none = λ k s t d n has resets blank. absurd (true≢false (never_reset k CounterPn has refl resets));
+  shallow = λ k. refl;
 }

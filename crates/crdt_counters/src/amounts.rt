@@ -1,13 +1,15 @@
-ghost use Rattle.std.specs.Prelude.{◌≡◌, ◌+ℤ◌};
+ghost use Rattle.std.specs.Prelude.{◌≡◌, ◌+ℤ◌, true};
 ghost use Rattle.std.specs.FinMap.{entries};
 ghost use Rattle.std.specs.Int.{int_wrap, w128};
 ghost use Rattle.crdt_counters.specs.Meaning.{amount, total_by};
+ghost use Rattle.crdt_counters.specs.EffectForm.{is_amount_number};
 
 use crdt_core::{Act, Kept};
 
 /// The amount of an act, 0 where it has none.
 pub fn amount_of(act: &Act) -> i64
-    ensures { result ≡ amount act.now }
+    ensures amount { result ≡ amount act.now }
+    ensures within { is_amount_number result ≡ true }
 {
     match act {
         Act::Increment(amount) => *amount as i64,

@@ -1,13 +1,16 @@
 ghost use Rattle.std.specs.Prelude.{◌≡◌, pos, false, IfOk, OnOk};
 ghost use Rattle.std.specs.FinMap.{empty};
-ghost use Rattle.crdt_core.specs.Kept.{is_kept};
+ghost use Rattle.crdt_core.specs.Kept.{is_kept, keeps_none};
 ghost use Rattle.crdt_counters.specs.Meaning.{counter_meaning};
 ghost use Rattle.crdt_counters.specs.CounterPn.{no_stamp};
 ghost use Rattle.crdt_counters.specs.CounterFat.{fat_has, fat_step, fat_made, fat_value, fat_names};
-ghost use Rattle.crdt_counters.specs.FatLaw.{fat_law};
+ghost use Rattle.crdt_counters.specs.EffectForm.{is_of_kind, can_put_fat, is_fat_spelled, fat_spelling, fat_at, fat_spells};
+ghost use Rattle.crdt_counters.specs.FatLaw.{fat_law, fat_in_maps};
 
 use crate::amounts::{amount_of, total_of};
+use crate::fat_form::FatForm;
 use crdt_core::{Act, Crdt, Dots, Field, GenError, Kept, Kind, Op, Value, fits_at, reads_state};
+use field_codec::{Form, TakeError, put_whole};
 use site_vector::Dot;
 use std::alloc::{AllocError, Global};
 
@@ -50,6 +53,22 @@ impl Crdt for CounterFat {
 
     ghost laws = { fat_law };
 
+    ghost is_blank = { keeps_none };
+
+    ghost in_maps = { fat_in_maps };
+
+    ghost is_of = { is_of_kind };
+
+    ghost can_put = { can_put_fat };
+
+    ghost is_spelled = { is_fat_spelled };
+
+    ghost spelling = { fat_spelling };
+
+    ghost reading = { λ k. fat_at };
+
+    ghost spells = { fat_spells fat_has };
+
     fn has(kind: Kind) -> bool {
         kind == Kind::CounterFat
     }
@@ -60,6 +79,14 @@ impl Crdt for CounterFat {
 
     fn needs_state(kind: Kind, op: &Op) -> bool {
         reads_state(kind)
+    }
+
+    fn is_too_deep(kind: Kind, path: &[Field]) -> bool {
+        false
+    }
+
+    fn is_blank(state: &Kept<i64>) -> bool {
+        state.is_empty()
     }
 
     fn generate(
@@ -112,5 +139,18 @@ impl Crdt for CounterFat {
 
     fn value(alloc: Global, state: &Kept<i64>) -> Result<Value, AllocError> {
         Ok(Value::Int(total_of(state)))
+    }
+
+    fn put_effect(out: &mut Vec<u8>, effect: &FatEffect) -> Result<(), AllocError> {
+        put_whole(&FatForm, out, effect)
+    }
+
+    fn take_effect(
+        alloc: Global,
+        kind: Kind,
+        bytes: &[u8],
+        at: usize,
+    ) -> Result<(FatEffect, usize), TakeError> {
+        FatForm.take(alloc, bytes, at)
     }
 }

@@ -1,10 +1,13 @@
 ghost use Rattle.std.specs.Prelude.{◌≡◌, pos, false};
 ghost use Rattle.crdt_counters.specs.Meaning.{counter_meaning};
-ghost use Rattle.crdt_counters.specs.CounterPn.{pn_has, pn_step, pn_made, pn_value, no_stamp, names_none, holds_none};
-ghost use Rattle.crdt_counters.specs.PnLaw.{pn_law};
+ghost use Rattle.crdt_counters.specs.CounterPn.{pn_has, pn_step, pn_made, pn_value, no_stamp, names_none, holds_none, is_zero};
+ghost use Rattle.crdt_counters.specs.EffectForm.{is_of_kind, is_amount_number, amount_spelling, amount_at, pn_spells};
+ghost use Rattle.crdt_counters.specs.PnLaw.{pn_law, pn_in_maps};
 
+use crate::amount_form::AmountForm;
 use crate::amounts::{amount_of, sum};
 use crdt_core::{Act, Crdt, Field, GenError, Kind, Op, Value, fits_at, reads_state};
+use field_codec::{Form, TakeError, put_whole};
 use site_vector::Dot;
 use std::alloc::{AllocError, Global};
 
@@ -39,6 +42,22 @@ impl Crdt for CounterPn {
 
     ghost laws = { pn_law };
 
+    ghost is_blank = { is_zero };
+
+    ghost in_maps = { pn_in_maps };
+
+    ghost is_of = { is_of_kind };
+
+    ghost can_put = { is_amount_number };
+
+    ghost is_spelled = { is_amount_number };
+
+    ghost spelling = { amount_spelling };
+
+    ghost reading = { λ k. amount_at };
+
+    ghost spells = { pn_spells pn_has };
+
     fn has(kind: Kind) -> bool {
         kind == Kind::CounterPn
     }
@@ -49,6 +68,14 @@ impl Crdt for CounterPn {
 
     fn needs_state(kind: Kind, op: &Op) -> bool {
         reads_state(kind)
+    }
+
+    fn is_too_deep(kind: Kind, path: &[Field]) -> bool {
+        false
+    }
+
+    fn is_blank(state: &i128) -> bool {
+        *state == 0
     }
 
     fn generate(
@@ -84,5 +111,18 @@ impl Crdt for CounterPn {
 
     fn value(alloc: Global, state: &i128) -> Result<Value, AllocError> {
         Ok(Value::Int(*state))
+    }
+
+    fn put_effect(out: &mut Vec<u8>, effect: &i64) -> Result<(), AllocError> {
+        put_whole(&AmountForm, out, effect)
+    }
+
+    fn take_effect(
+        alloc: Global,
+        kind: Kind,
+        bytes: &[u8],
+        at: usize,
+    ) -> Result<(i64, usize), TakeError> {
+        AmountForm.take(alloc, bytes, at)
     }
 }

@@ -1,13 +1,17 @@
 //! Counters: one whose updates stay, and one whose updates a reset undoes.
 #![tactic(auto)]
 
+mod amount_form;
 mod amounts;
 mod counter_fat;
 mod counter_pn;
+mod exact;
+mod fat_form;
 
 pub use amounts::amount_of;
 pub use counter_fat::{CounterFat, FatEffect};
 pub use counter_pn::CounterPn;
+pub use exact::law_exact_sums;
 
 #[cfg(test)]
 mod tests;

@@ -1,5 +1,6 @@
 use super::*;
-use crdt_core::{Act, Crdt, Kind, Value};
+use crdt_core::{Act, Crdt, Dots, Kind, Value};
+use field_codec::TakeError;
 use site_vector::{Dot, TxId};
 use std::alloc::{AllocError, Global};
 use std::test::*;
@@ -68,6 +69,56 @@ fn a_reset_takes_what_it_has_seen(rt: HostRuntime) -> Result<(), Fail> {
         matches!(
             CounterFat::generate(alloc, kind, &[], &Act::Enable, &state, 2),
             Err(_)
+        )
+    );
+    Ok(())
+}
+
+#[test]
+fn bytes_of_amounts(rt: HostRuntime) -> Result<(), Fail> {
+    let alloc = rt.alloc();
+    let kind = Kind::CounterPn;
+    let mut out = Vec::new(alloc);
+    CounterPn::put_effect(&mut out, &258)?;
+    CounterPn::put_effect(&mut out, &-1)?;
+    let bytes = [
+        0, 0, 0, 0, 0, 0, 1, 2, 255, 255, 255, 255, 255, 255, 255, 255,
+    ];
+    assert_eq!(rt; out.as_slice(), bytes.as_slice());
+    assert!(rt; matches!(CounterPn::take_effect(alloc, kind, &bytes, 8), Ok((-1, 16))));
+    let past = [0, 0, 0, 0, 128, 0, 0, 1];
+    assert!(rt;
+        matches!(
+            CounterPn::take_effect(alloc, kind, &past, 0),
+            Err(TakeError::Bad { at: 0 })
+        )
+    );
+    assert!(rt;
+        matches!(
+            CounterPn::take_effect(alloc, kind, &past, 1),
+            Err(TakeError::Short { at: 1 })
+        )
+    );
+    Ok(())
+}
+
+#[test]
+fn bytes_of_resets(rt: HostRuntime) -> Result<(), Fail> {
+    let alloc = rt.alloc();
+    let kind = Kind::CounterFat;
+    let mut out = Vec::new(alloc);
+    CounterFat::put_effect(&mut out, &FatEffect::Reset(Dots::new(alloc)))?;
+    assert_eq!(rt; out.as_slice(), [1, 0, 0, 0, 0].as_slice());
+    let seen = [1, 0, 0, 0, 1, 2, 1, 0, 0, 0, 0, 0, 0, 0, 7, 0, 3];
+    let (reset, end) = CounterFat::take_effect(alloc, kind, &seen, 0)
+        .ok()
+        .ok_or("a reset")?;
+    assert_eq!(rt; end, 17);
+    assert!(rt; matches!(reset, FatEffect::Reset(_)));
+    assert!(rt;
+        matches!(
+            CounterFat::take_effect(alloc, kind, &[2, 0], 0),
+            Err(TakeError::Bad { at: 0 })
         )
     );
     Ok(())

@@ -14,9 +14,11 @@ use Rattle.crdt_core.specs.Same.{Same}
 use Rattle.crdt_core.specs.Seen.{Update, is_reset}
 use Rattle.crdt_core.specs.History.{IsHistory, state_after}
 use Rattle.crdt_core.specs.Law.{KeepsSteps, KeepsLaw, made_by}
+use Rattle.crdt_core.specs.InMaps.{KeepsInMaps}
+use Rattle.crdt_core.specs.Blank.{without_blank, empty_kept}
 use Rattle.crdt_core.specs.Leaves.{IsLeaf, same_kind_is, no_stamp_due}
 use Rattle.crdt_core.specs.Confluence.{confluence, any_same}
-use Rattle.crdt_core.specs.Kept.{KeptAt, dots_if, is_kept}
+use Rattle.crdt_core.specs.Kept.{KeptAt, dots_if, is_kept, keeps_none}
 use Rattle.crdt_core.specs.KeptKinds.{pairs, stays, holding, any_pairs, kept_keeps_steps, state_entries}
 use Rattle.crdt_core.specs.WinsLaw.{undoes, add_stays, remove_stays, add_wins_same, remove_wins_same}
 use Rattle.crdt_flags.specs.Meaning.{enables, disables, ew_meaning, dw_meaning}
@@ -117,4 +119,18 @@ dw_law = record {
   orderless = λ k us vs has s. ap Flag (remove_wins_same enables disables us vs s);
   unread = λ k s t p a n has r. absurd (true≢false (sym (ap reads_state (same_kind_is k FlagDw has)) ∙ r));
   steps = λ k has. dw_steps k;
+}
+
+pub ew_in_maps : KeepsInMaps ew_has (λ k p. false) (λ k. empty) ew_step kind_made keeps_none
+ew_in_maps = record {
+  first_blank = λ k has. empty_kept Bool;
+  undoes_none = λ k s t d n has resets blank. without_blank s t blank;
+  shallow = λ k. refl;
+}
+
+pub dw_in_maps : KeepsInMaps dw_has (λ k p. false) (λ k. empty) dw_step kind_made keeps_none
+dw_in_maps = record {
+  first_blank = λ k has. empty_kept Bool;
+  undoes_none = λ k s t d n has resets blank. without_blank s t blank;
+  shallow = λ k. refl;
 }

@@ -1,3 +1,5 @@
+pub mod EffectForm
 pub mod FlagLaws
 pub mod Flags
 pub mod Meaning
+pub mod Ready

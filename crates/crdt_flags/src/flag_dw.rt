@@ -1,13 +1,16 @@
 ghost use Rattle.std.specs.Prelude.{◌≡◌, false};
 ghost use Rattle.std.specs.FinMap.{empty};
-ghost use Rattle.crdt_core.specs.Kept.{is_kept};
+ghost use Rattle.crdt_core.specs.Kept.{is_kept, keeps_none};
 ghost use Rattle.crdt_flags.specs.Meaning.{dw_meaning};
 ghost use Rattle.crdt_flags.specs.Flags.{dw_has, dw_step, dw_value, kind_made, no_stamp, flag_names};
-ghost use Rattle.crdt_flags.specs.FlagLaws.{dw_law};
+ghost use Rattle.crdt_flags.specs.EffectForm.{is_of_kind, can_put_flag, is_flag_spelled, flag_spelling, flag_at, flag_spells};
+ghost use Rattle.crdt_flags.specs.FlagLaws.{dw_law, dw_in_maps};
 
 use crate::FlagEffect;
 use crate::effect::effect_of;
+use crate::effect_form::FlagForm;
 use crdt_core::{Act, Crdt, Field, GenError, Kept, Kind, Op, Value, fits_at, reads_state};
+use field_codec::{Form, TakeError, put_whole};
 use site_vector::Dot;
 use std::alloc::{AllocError, Global};
 
@@ -42,6 +45,22 @@ impl Crdt for FlagDw {
 
     ghost laws = { dw_law };
 
+    ghost is_blank = { keeps_none };
+
+    ghost in_maps = { dw_in_maps };
+
+    ghost is_of = { is_of_kind };
+
+    ghost can_put = { can_put_flag };
+
+    ghost is_spelled = { is_flag_spelled };
+
+    ghost spelling = { flag_spelling };
+
+    ghost reading = { λ k. flag_at };
+
+    ghost spells = { flag_spells dw_has };
+
     fn has(kind: Kind) -> bool {
         kind == Kind::FlagDw
     }
@@ -52,6 +71,14 @@ impl Crdt for FlagDw {
 
     fn needs_state(kind: Kind, op: &Op) -> bool {
         reads_state(kind)
+    }
+
+    fn is_too_deep(kind: Kind, path: &[Field]) -> bool {
+        false
+    }
+
+    fn is_blank(state: &Kept<bool>) -> bool {
+        state.is_empty()
     }
 
     fn generate(
@@ -104,5 +131,18 @@ impl Crdt for FlagDw {
 
     fn value(alloc: Global, state: &Kept<bool>) -> Result<Value, AllocError> {
         Ok(Value::Flag(state.has_marked() && !state.has_unmarked()))
+    }
+
+    fn put_effect(out: &mut Vec<u8>, effect: &FlagEffect) -> Result<(), AllocError> {
+        put_whole(&FlagForm, out, effect)
+    }
+
+    fn take_effect(
+        alloc: Global,
+        kind: Kind,
+        bytes: &[u8],
+        at: usize,
+    ) -> Result<(FlagEffect, usize), TakeError> {
+        FlagForm.take(alloc, bytes, at)
     }
 }

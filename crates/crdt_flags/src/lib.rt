@@ -2,6 +2,7 @@
 #![tactic(auto)]
 
 mod effect;
+mod effect_form;
 mod flag_dw;
 mod flag_ew;
 

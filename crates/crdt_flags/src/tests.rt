@@ -1,7 +1,8 @@
 ghost use Rattle.std.specs.Prelude.{◌≡◌, true};
 
 use super::*;
-use crdt_core::{Act, Crdt, Kind, Value};
+use crdt_core::{Act, Crdt, Dots, Kind, Value};
+use field_codec::TakeError;
 use site_vector::{Dot, TxId};
 use std::alloc::Global;
 use std::test::*;
@@ -69,5 +70,24 @@ fn a_reset_undoes(rt: HostRuntime) -> Result<(), Fail> {
     FlagDw::apply(alloc, &mut state, dot(3), &reset)?;
     assert!(rt; matches!(FlagDw::value(alloc, &state)?, Value::Flag(false)));
     assert!(rt; state.is_empty());
+    Ok(())
+}
+
+#[test]
+fn bytes_of_flags(rt: HostRuntime) -> Result<(), Fail> {
+    let alloc = rt.alloc();
+    let mut out = Vec::new(alloc);
+    FlagEw::put_effect(&mut out, &FlagEffect::Disable(Dots::new(alloc)))?;
+    assert_eq!(rt; out.as_slice(), [1, 0, 0, 0, 0].as_slice());
+    let on = [0, 0, 0, 0, 1, 2, 1, 0, 0, 0, 0, 0, 0, 0, 7, 0, 3];
+    let (enable, end) = FlagDw::take_effect(alloc, Kind::FlagDw, &on, 0)
+        .ok()
+        .ok_or("an enable")?;
+    assert_eq!(rt; end, 17);
+    assert!(rt; matches!(enable, FlagEffect::Enable(_)));
+    let cut = FlagDw::take_effect(alloc, Kind::FlagDw, &on[..16], 0);
+    assert!(rt; matches!(cut, Err(TakeError::Short { at: 15 })));
+    let mark = FlagDw::take_effect(alloc, Kind::FlagDw, &[3], 0);
+    assert!(rt; matches!(mark, Err(TakeError::Bad { at: 0 })));
     Ok(())
 }

@@ -1,9 +1,7 @@
 -- One assign more, as the code finds it.
-use Rattle.std.proofs.Common.{◌≡◌, Bool, true, false, cond, Option, Some, None, refl, sym, ap}
-use Rattle.std.specs.Ordering.{is_lt}
+use Rattle.std.proofs.Common.{◌≡◌, true, false, cond, Option, Some, None, refl, sym, ap}
 use Rattle.std.proofs.lemmas.Bool.{false≢true}
 use Rattle.site_vector.specs.declared.ids.Dot.{Dot}
-use Rattle.crdt_registers.specs.Later.{stamped_cmp}
 use Rattle.crdt_registers.specs.RegisterLww.{lww_step, stands}
 use Rattle.crdt_registers.specs.declared.assigned.Stamped.{Stamped}
 use Rattle.crdt_registers.specs.declared.assigned.Assigned.{Assigned}

@@ -1,5 +1,5 @@
 -- The later of two assigns.
-use Rattle.std.specs.Prelude.{Bool, cond, Option, Some, None}
+use Rattle.std.specs.Prelude.{cond, Option, Some, None}
 use Rattle.std.specs.declared.cmp.Ordering.{Ordering}
 use Rattle.std.specs.Ordering.{nat_cmp, ordering_then, is_lt}
 use Rattle.site_vector.specs.Order.{dot_cmp}

@@ -1,6 +1,6 @@
 -- The register that the last writer wins keeps the law of a kind.
-use Rattle.std.proofs.Common.{◌≡◌, ℕ, ◌≤◌, ◌<◌, ◌+◌, Bool, true, false, cond, ◌&&◌, ◌||◌, List, [], ◌∷◌, ◌++◌, Option, Some, None, refl, sym, ap, ◌∙◌, subst, arith, ⊎_elim}
-use Rattle.std.specs.Prelude.{filter, max, min, unwrap_or, nat_le, length}
+use Rattle.std.proofs.Common.{◌≡◌, ℕ, ◌≤◌, ◌<◌, ◌+◌, Bool, true, false, cond, ◌&&◌, ◌||◌, List, [], ◌∷◌, ◌++◌, Option, Some, None, refl, sym, ap, ◌∙◌, subst, arith}
+use Rattle.std.specs.Prelude.{filter, max, min, unwrap_or}
 use Rattle.std.specs.declared.cmp.Ordering.{Ordering}
 use Rattle.std.specs.declared.cmp.Ordering.TheVariants.{Less, Equal, Greater}
 use Rattle.std.specs.Ordering.{nat_cmp, ordering_then, ordering_reverse, is_lt}
@@ -9,7 +9,7 @@ use Rattle.std.specs.FinMap.{IsAntisymmetric, nat_cmp-IsAntisymmetric}
 use Rattle.std.proofs.lemmas.Cmp.{on_total, then_total}
 use Rattle.std.proofs.lemmas.Map.Lookups.{exact_pairs, exact_unsigned}
 use Rattle.std.proofs.lemmas.Bool.Decides.{nat_tests}
-use Rattle.std.proofs.lemmas.Bool.{true≢false, false≢true, and_parts, and_from, or_left, or_right}
+use Rattle.std.proofs.lemmas.Bool.{true≢false, false≢true, and_from, or_left, or_right}
 use Rattle.site_vector.specs.declared.ids.Dot.{Dot}
 use Rattle.site_vector.specs.Ids.{same_dot}
 use Rattle.site_vector.specs.Order.{dot_cmp, dot_cmp_total, dot_cmp_exact}
@@ -22,14 +22,16 @@ use Rattle.crdt_core.specs.Kinds.{same_kind, same_path, kind_at, reads_state}
 use Rattle.crdt_core.specs.Same.{Same}
 use Rattle.crdt_core.specs.Seen.{Update, sees, is_assign}
 use Rattle.crdt_core.specs.Stamps.{last_stamp, one_more, above_all, assigns_seen, stamp_due}
-use Rattle.crdt_core.specs.History.{IsHistory, IsStamped, folded, seen_by, effects, effect_after, state_after}
+use Rattle.crdt_core.specs.History.{IsStamped, folded, effects, effect_after, state_after}
 use Rattle.crdt_core.specs.Law.{KeepsSteps, KeepsLaw, made_by, all_fit}
+use Rattle.crdt_core.specs.InMaps.{KeepsInMaps}
+use Rattle.crdt_core.specs.Blank.{never_reset}
 use Rattle.crdt_core.specs.Leaves.{IsLeaf, same_kind_is, first_fits, rest_fits}
 use Rattle.crdt_core.specs.Confluence.{confluence}
 use Rattle.crdt_core.specs.Texts.{text_cmp, text_cmp_total, text_cmp_exact}
 use Rattle.crdt_registers.specs.Later.{stamped_cmp, greater, later}
-use Rattle.crdt_registers.specs.Meaning.{assigned, last_assign, word_of, lww_meaning}
-use Rattle.crdt_registers.specs.RegisterLww.{lww_has, lww_step, above, text_of, lww_made, lww_stamp, lww_names, lww_holds}
+use Rattle.crdt_registers.specs.Meaning.{text_of, assigned, last_assign, word_of, lww_meaning}
+use Rattle.crdt_registers.specs.RegisterLww.{lww_has, lww_step, above, lww_made, lww_stamp, lww_names, lww_holds, unassigned}
 use Rattle.crdt_registers.specs.declared.assigned.Stamped.{Stamped}
 use Rattle.crdt_registers.specs.declared.assigned.Assigned.{Assigned}
 
@@ -213,4 +215,11 @@ lww_law = record {
   orderless = λ k us vs has s. ap word_of (last_same us vs s);
   unread = λ k s t p a n has r. absurd (true≢false (sym (ap reads_state (same_kind_is k RegisterLww has)) ∙ r));
   steps = λ k has. lww_steps k;
+}
+
+pub lww_in_maps : KeepsInMaps lww_has deep (λ k. None) lww_step lww_made unassigned
+lww_in_maps = record {
+  first_blank = λ k has. refl;
+  undoes_none = λ k s t d n has resets blank. absurd (true≢false (never_reset k RegisterLww has refl resets));
+  shallow = λ k. refl;
 }

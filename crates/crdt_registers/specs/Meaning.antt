@@ -1,14 +1,21 @@
 -- What registers mean.
-use Rattle.std.specs.Prelude.{ℕ, List, [], ◌∷◌, Option, Some, None, unwrap_or}
+use Rattle.std.specs.Prelude.{ℕ, Bool, not, ◌&&◌, List, [], ◌∷◌, Option, Some, None, unwrap_or, map, filter}
+use Rattle.std.specs.List.{list_any}
 use Rattle.crdt_core.specs.declared.kind.Kind.{Kind}
 use Rattle.crdt_core.specs.declared.operation.Act.{Act}
 use Rattle.crdt_core.specs.declared.operation.Act.TheVariants.{Assign}
 use Rattle.crdt_core.specs.declared.value.Value.{Value}
-use Rattle.crdt_core.specs.declared.value.Value.TheVariants.{Word}
+use Rattle.crdt_core.specs.declared.value.Value.TheVariants.{Word, Words}
 use Rattle.site_vector.specs.declared.ids.Dot.{Dot}
-use Rattle.crdt_core.specs.Seen.{Update}
+use Rattle.crdt_core.specs.Seen.{Update, sees, is_assign}
+use Rattle.crdt_core.specs.Wins.{lives}
 use Rattle.crdt_registers.specs.Later.{later}
+use Rattle.crdt_registers.specs.Sorted.{sorted}
 use Rattle.crdt_registers.specs.declared.assigned.Stamped.{Stamped}
+
+abbrev pub text_of : Act → List ℕ
+text_of (Assign x) = x
+text_of _ = []
 
 abbrev pub assigned : ℕ → Dot → Act → Option Stamped
 assigned n d (Assign x) = Some (record { stamp = n; dot = d; text = x })
@@ -25,3 +32,11 @@ word_of (Some a) = Word a.text
 
 abbrev pub lww_meaning : Kind → List Update → Value
 lww_meaning k us = word_of (last_assign us)
+
+-- a live assign that no live assign has seen
+abbrev pub remains : List Update → Update → Bool
+remains us u = lives is_assign us u && not (list_any (λ v. lives is_assign us v && sees v u.dot) us)
+
+-- the texts of these assigns, in order, equal ones kept
+abbrev pub mv_meaning : Kind → List Update → Value
+mv_meaning k us = Words (sorted (map (λ u. text_of u.act) (filter (remains us) us)))

@@ -1,7 +1,7 @@
 ghost use Rattle.std.specs.Prelude.{◌≡◌, [], IfOk};
 ghost use Rattle.std.specs.Ordering.{is_lt};
 ghost use Rattle.crdt_registers.specs.Later.{stamped_cmp};
-ghost use Rattle.crdt_registers.specs.RegisterLww.{text_of};
+ghost use Rattle.crdt_registers.specs.Meaning.{text_of};
 
 use crdt_core::Act;
 use field_codec::Text;

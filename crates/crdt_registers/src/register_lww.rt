@@ -1,17 +1,21 @@
-ghost use Rattle.std.specs.Prelude.{◌≡◌, ◌+◌, min, max, false, None};
+ghost use Rattle.std.specs.Prelude.{◌≡◌, ◌+◌, min, max, false, None, IfOk};
 ghost use Rattle.crdt_core.specs.Stamps.{last_stamp};
 ghost use Rattle.crdt_registers.specs.Meaning.{lww_meaning, word_of};
-ghost use Rattle.crdt_registers.specs.RegisterLww.{lww_has, lww_step, lww_made, lww_stamp, lww_names, lww_holds, above, stands};
-ghost use Rattle.crdt_registers.specs.LwwLaw.{lww_law};
+ghost use Rattle.crdt_registers.specs.RegisterLww.{lww_has, lww_step, lww_made_on, lww_made, lww_stamp, lww_names, lww_holds, above, stands, unassigned};
+ghost use Rattle.crdt_registers.specs.EffectForm.{is_of_kind};
+ghost use Rattle.crdt_registers.specs.LwwForm.{can_put_lww, is_lww_spelled, lww_spelling, lww_at, lww_spells};
+ghost use Rattle.crdt_registers.specs.LwwLaw.{lww_law, lww_in_maps};
 
 use crate::assigned::{empty_text, is_before, text_of};
+use crate::lww_form::LwwForm;
 use crate::{Assigned, Stamped};
 use crdt_core::{Act, Crdt, Field, GenError, Kind, Op, Value, fits_at, reads_state};
+use field_codec::{Form, TakeError, put_whole};
 use site_vector::Dot;
 use std::alloc::{AllocError, Global};
 
 /// Where stamps stay.
-const LAST_STAMP: u64 = (1 << 63) - 1;
+pub(crate) const LAST_STAMP: u64 = (1 << 63) - 1;
 
 /// The register that the last writer wins: a state is the assign with the greatest stamp, or else the greatest dot.
 pub struct RegisterLww;
@@ -43,6 +47,22 @@ impl Crdt for RegisterLww {
 
     ghost laws = { lww_law };
 
+    ghost is_blank = { unassigned };
+
+    ghost in_maps = { lww_in_maps };
+
+    ghost is_of = { is_of_kind };
+
+    ghost can_put = { can_put_lww };
+
+    ghost is_spelled = { is_lww_spelled };
+
+    ghost spelling = { lww_spelling };
+
+    ghost reading = { λ k. lww_at };
+
+    ghost spells = { lww_spells lww_has };
+
     fn has(kind: Kind) -> bool {
         kind == Kind::RegisterLww
     }
@@ -53,6 +73,14 @@ impl Crdt for RegisterLww {
 
     fn needs_state(kind: Kind, op: &Op) -> bool {
         reads_state(kind)
+    }
+
+    fn is_too_deep(kind: Kind, path: &[Field]) -> bool {
+        false
+    }
+
+    fn is_blank(state: &Option<Stamped>) -> bool {
+        state.is_none()
     }
 
     fn generate(
@@ -66,11 +94,7 @@ impl Crdt for RegisterLww {
         if !fits_at(kind, path, act) {
             return Err(GenError::BadOp);
         }
-        let text = text_of(alloc, act)?;
-        Ok(Assigned {
-            stamp: next_stamp(state, now),
-            text,
-        })
+        Ok(effect_of(alloc, act, state, now)?)
     }
 
     fn stamp(effect: &Assigned) -> Option<u64> {
@@ -113,6 +137,35 @@ impl Crdt for RegisterLww {
             None => Ok(Value::Word(empty_text(alloc)?)),
         }
     }
+
+    fn put_effect(out: &mut Vec<u8>, effect: &Assigned) -> Result<(), AllocError> {
+        put_whole(&LwwForm, out, effect)
+    }
+
+    fn take_effect(
+        alloc: Global,
+        kind: Kind,
+        bytes: &[u8],
+        at: usize,
+    ) -> Result<(Assigned, usize), TakeError> {
+        LwwForm.take(alloc, bytes, at)
+    }
+}
+
+/// The effect of an assign to this register at a clock value in ticks.
+fn effect_of(
+    alloc: Global,
+    act: &Act,
+    state: &Option<Stamped>,
+    now: u64,
+) -> Result<Assigned, AllocError>
+    ensures { IfOk result (λ e. e ≡ lww_made_on state.now act.now now) }
+{
+    let text = text_of(alloc, act)?;
+    Ok(Assigned {
+        stamp: next_stamp(state, now),
+        text,
+    })
 }
 
 /// The stamp of an assign to this register at a clock value in ticks.

@@ -19,6 +19,10 @@ at m x = unwrap_or (get m x) empty
 abbrev pub put_back : Elements → List ℕ → KeptAt Bool → Elements
 put_back m x k = cond (len k == 0) (remove m x) (insert m x k)
 
+-- no element stands
+abbrev pub lacks_all : Elements → Bool
+lacks_all m = len m == 0
+
 abbrev pub take_one : Elements → Dot → Option Bool → Named → Elements
 take_one m d own n = put_back m n.text (kept_step (at m n.text) d n.dots own)
 

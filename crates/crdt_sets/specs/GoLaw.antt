@@ -1,6 +1,6 @@
 -- The set that only grows keeps the law of a kind.
 use Rattle.std.proofs.Common.{◌≡◌, ℕ, Bool, true, false, cond, ◌&&◌, ◌||◌, List, [], ◌∷◌, ◌++◌, Option, Some, None, refl, sym, ap, ◌∙◌, subst, arith}
-use Rattle.std.specs.Prelude.{map, is_some}
+use Rattle.std.specs.Prelude.{map, is_some, length, ◌==◌}
 use Rattle.std.specs.List.{list_any}
 use Rattle.std.proofs.lemmas.List.Folds.{list_any-append}
 use Rattle.std.proofs.lemmas.Bool.{true≢false, false≢true}
@@ -14,12 +14,14 @@ use Rattle.crdt_core.specs.Kinds.{same_kind}
 use Rattle.crdt_core.specs.Seen.{Update}
 use Rattle.crdt_core.specs.History.{state_after}
 use Rattle.crdt_core.specs.Law.{KeepsSteps, KeepsLaw, made_by}
+use Rattle.crdt_core.specs.InMaps.{KeepsInMaps}
+use Rattle.crdt_core.specs.Blank.{no_keys, empty_none, never_reset}
 use Rattle.crdt_core.specs.Leaves.{IsLeaf, same_kind_is, no_stamp_due}
 use Rattle.crdt_core.specs.Confluence.{confluence}
 use Rattle.crdt_core.specs.Texts.{text_cmp, text_cmp_total, text_cmp_exact, same_text, is_in, marked, ascending, in_ascending, is_marked, nothing_beside}
 use Rattle.crdt_sets.specs.Meaning.{added_by, added, go_meaning}
 use Rattle.crdt_sets.specs.MeaningLaws.{go_orderless}
-use Rattle.crdt_sets.specs.SetGo.{Grown, go_has, with_each, go_step, go_made, go_value, go_stamp, go_names, go_holds}
+use Rattle.crdt_sets.specs.SetGo.{has_none, Grown, go_has, with_each, go_step, go_made, go_value, go_stamp, go_names, go_holds}
 
 abbrev stands : Grown → List ℕ → Bool
 stands s q = is_some (get s q)
@@ -75,4 +77,11 @@ go_law = record {
   orderless = λ k us vs has s. go_orderless k us vs s;
   unread = λ k s t p a n has reads. refl;
   steps = λ k has. go_steps k;
+}
+
+pub go_in_maps : KeepsInMaps go_has (λ k p. false) (λ k. empty) go_step go_made has_none
+go_in_maps = record {
+  first_blank = λ k has. ap (λ (xs : List (List ℕ)). length xs == 0) (no_keys {X = Unit {0}} {R = text_cmp} empty (empty_none text_cmp (Unit {0})));
+  undoes_none = λ k s t d n has resets blank. absurd (true≢false (never_reset k SetGo has refl resets));
+  shallow = λ k. refl;
 }

@@ -1,8 +1,10 @@
+pub mod EffectForm
 pub mod ElementSteps
 pub mod Elements
 pub mod GoLaw
 pub mod Meaning
 pub mod MeaningLaws
+pub mod Ready
 pub mod RemovableLaws
 pub mod SetGo
 pub mod Sets

@@ -20,6 +20,8 @@ use Rattle.crdt_core.specs.DotSet.{has_dot}
 use Rattle.crdt_core.specs.Seen.{Update, sees, is_live}
 use Rattle.crdt_core.specs.History.{IsHistory, state_after}
 use Rattle.crdt_core.specs.Law.{KeepsSteps, KeepsLaw, made_by}
+use Rattle.crdt_core.specs.InMaps.{KeepsInMaps}
+use Rattle.crdt_core.specs.Blank.{no_keys, empty_none}
 use Rattle.crdt_core.specs.Leaves.{IsLeaf, same_kind_is, no_stamp_due}
 use Rattle.crdt_core.specs.Confluence.{confluence, any_same}
 use Rattle.crdt_core.specs.Texts.{text_cmp, same_text, same_text_is, is_in, ascending, in_ascending, same_ascending, in_filter, ascending_sorted}
@@ -33,7 +35,7 @@ use Rattle.crdt_core.specs.Wins.{lives, add_wins, remove_wins}
 use Rattle.crdt_core.specs.WinsLaw.{undoes, add_stays, remove_stays}
 use Rattle.crdt_sets.specs.Meaning.{adds, removes, added, aw_meaning, rw_meaning}
 use Rattle.crdt_sets.specs.MeaningLaws.{in_added, aw_orderless, rw_orderless}
-use Rattle.crdt_sets.specs.Elements.{Elements, at, take_named, named_at, passing, names_dot, keeps_dot, shows}
+use Rattle.crdt_sets.specs.Elements.{Elements, lacks_all, at, take_named, named_at, passing, names_dot, keeps_dot, shows}
 use Rattle.crdt_sets.specs.ElementSteps.{lists, dots_at, at-take_named, take_swaps, take_held, keeps_none, at_none, names_kept, lists_named, dots_named}
 use Rattle.crdt_sets.specs.Sets.{aw_has, rw_has, named_of, aw_own, rw_own, aw_step, rw_step, set_made, kind_made, aw_value, rw_value, no_stamp, set_names}
 use Rattle.crdt_sets.specs.declared.named.Named.{Named}
@@ -289,4 +291,22 @@ rw_law = record {
   orderless = λ k us vs has s. rw_orderless k us vs s;
   unread = λ k s t p a n has r. absurd (true≢false (sym (ap reads_state (same_kind_is k SetRw has)) ∙ r));
   steps = λ k has. rw_steps k;
+}
+
+-- nothing is named where no element stands
+no_named : (s t : Elements) (d : Dot) (own : Option Bool) → lacks_all s ≡ true → take_named t d own (named_at s (keys s)) ≡ t
+no_named s t d own h = ap (λ xs. take_named t d own (named_at s xs)) (no_keys s h)
+
+pub aw_in_maps : KeepsInMaps aw_has (λ k p. false) (λ k. empty) aw_step kind_made lacks_all
+aw_in_maps = record {
+  first_blank = λ k has. empty_none text_cmp (KeptAt Bool);
+  undoes_none = λ k s t d n has resets blank. no_named s t d None blank;
+  shallow = λ k. refl;
+}
+
+pub rw_in_maps : KeepsInMaps rw_has (λ k p. false) (λ k. empty) rw_step kind_made lacks_all
+rw_in_maps = record {
+  first_blank = λ k has. empty_none text_cmp (KeptAt Bool);
+  undoes_none = λ k s t d n has resets blank. no_named s t d None blank;
+  shallow = λ k. refl;
 }

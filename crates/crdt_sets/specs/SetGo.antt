@@ -1,5 +1,5 @@
 -- The states and effects of the set that only grows.
-use Rattle.std.specs.Prelude.{ℕ, Bool, true, false, List, [], ◌∷◌, Option, None}
+use Rattle.std.specs.Prelude.{ℕ, Bool, true, false, List, [], ◌∷◌, Option, None, length, ◌==◌}
 use Rattle.std.specs.FinMap.{FinMap, insert, keys}
 use Rattle.site_vector.specs.declared.ids.Dot.{Dot}
 use Rattle.crdt_core.specs.declared.kind.Kind.{Kind}
@@ -17,6 +17,9 @@ Grown = FinMap text_cmp (Unit {0})
 
 abbrev pub go_has : Kind → Bool
 go_has k = same_kind k SetGo
+
+abbrev pub has_none : Grown → Bool
+has_none s = length (keys s) == 0
 
 -- with each of these texts
 abbrev pub with_each : Grown → List (List ℕ) → Grown

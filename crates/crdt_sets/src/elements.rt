@@ -44,6 +44,13 @@ impl Elements {
         }
     }
 
+    /// Whether no element stands.
+    pub fn is_empty(&self) -> bool
+        ensures { result ≡ spec.lacks_all self.now }
+    {
+        self.elements.len() == 0
+    }
+
     /// Of each named element, takes out what stands at its dots and puts a value at this one, where there is one.
     ///
     /// # Errors

@@ -2,8 +2,10 @@
 #![tactic(auto)]
 
 mod effect;
+mod effect_form;
 mod elements;
 mod named;
+mod named_form;
 mod set_aw;
 mod set_go;
 mod set_rw;

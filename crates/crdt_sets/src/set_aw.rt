@@ -1,13 +1,16 @@
 ghost use Rattle.std.specs.Prelude.{◌≡◌, false};
 ghost use Rattle.std.specs.FinMap.{empty};
 ghost use Rattle.crdt_sets.specs.Meaning.{aw_meaning};
-ghost use Rattle.crdt_sets.specs.Elements.{keeps_dot};
+ghost use Rattle.crdt_sets.specs.Elements.{keeps_dot, lacks_all};
 ghost use Rattle.crdt_sets.specs.Sets.{aw_has, aw_step, aw_value, kind_made, no_stamp, set_names};
-ghost use Rattle.crdt_sets.specs.RemovableLaws.{aw_law};
+ghost use Rattle.crdt_sets.specs.EffectForm.{is_of_kind, can_put_set, is_set_spelled, set_spelling, set_at, set_spells};
+ghost use Rattle.crdt_sets.specs.RemovableLaws.{aw_law, aw_in_maps};
 
 use crate::effect::effect_of;
+use crate::effect_form::SetForm;
 use crate::{Elements, SetEffect};
 use crdt_core::{Act, Crdt, Field, GenError, Kind, Op, Value, fits_at, reads_state};
+use field_codec::{Form, TakeError, put_whole};
 use site_vector::Dot;
 use std::alloc::{AllocError, Global};
 
@@ -41,6 +44,22 @@ impl Crdt for SetAw {
 
     ghost laws = { aw_law };
 
+    ghost is_blank = { lacks_all };
+
+    ghost in_maps = { aw_in_maps };
+
+    ghost is_of = { is_of_kind };
+
+    ghost can_put = { can_put_set };
+
+    ghost is_spelled = { is_set_spelled };
+
+    ghost spelling = { set_spelling };
+
+    ghost reading = { λ k. set_at };
+
+    ghost spells = { set_spells aw_has };
+
     fn has(kind: Kind) -> bool {
         kind == Kind::SetAw
     }
@@ -51,6 +70,14 @@ impl Crdt for SetAw {
 
     fn needs_state(kind: Kind, op: &Op) -> bool {
         reads_state(kind)
+    }
+
+    fn is_too_deep(kind: Kind, path: &[Field]) -> bool {
+        false
+    }
+
+    fn is_blank(state: &Elements) -> bool {
+        state.is_empty()
     }
 
     fn generate(
@@ -94,5 +121,18 @@ impl Crdt for SetAw {
 
     fn value(alloc: Global, state: &Elements) -> Result<Value, AllocError> {
         Ok(Value::Words(state.shown(alloc, false)?))
+    }
+
+    fn put_effect(out: &mut Vec<u8>, effect: &SetEffect) -> Result<(), AllocError> {
+        put_whole(&SetForm, out, effect)
+    }
+
+    fn take_effect(
+        alloc: Global,
+        kind: Kind,
+        bytes: &[u8],
+        at: usize,
+    ) -> Result<(SetEffect, usize), TakeError> {
+        SetForm.take(alloc, bytes, at)
     }
 }

@@ -2,13 +2,14 @@ ghost use Rattle.std.specs.Prelude.{◌≡◌, false, IfOk};
 ghost use Rattle.std.specs.FinMap.{empty};
 ghost use Rattle.crdt_core.specs.Texts.{ascending};
 ghost use Rattle.crdt_sets.specs.Meaning.{go_meaning, added_by};
-ghost use Rattle.crdt_sets.specs.SetGo.{go_has, go_step, go_made, go_value, go_stamp, go_names, go_holds};
-ghost use Rattle.crdt_sets.specs.GoLaw.{go_law};
+ghost use Rattle.crdt_sets.specs.SetGo.{go_has, go_step, go_made, go_value, go_stamp, go_names, go_holds, has_none};
+ghost use Rattle.crdt_sets.specs.EffectForm.{is_of_kind, can_put_texts, are_texts_spelled, texts_spelling, texts_at, go_spells};
+ghost use Rattle.crdt_sets.specs.GoLaw.{go_law, go_in_maps};
 
 use crate::TextSet;
 use crate::texts::{copy_set, copy_texts, in_order, insert_each};
 use crdt_core::{Act, Crdt, Field, GenError, Kind, Op, Value, fits_at, reads_state};
-use field_codec::{ListOf, Text};
+use field_codec::{ListOf, TakeError, Text, TextForm, put_list, take_list};
 use site_vector::Dot;
 use std::alloc::{AllocError, Global};
 
@@ -42,6 +43,22 @@ impl Crdt for SetGo {
 
     ghost laws = { go_law };
 
+    ghost is_blank = { has_none };
+
+    ghost in_maps = { go_in_maps };
+
+    ghost is_of = { is_of_kind };
+
+    ghost can_put = { can_put_texts };
+
+    ghost is_spelled = { are_texts_spelled };
+
+    ghost spelling = { texts_spelling };
+
+    ghost reading = { λ k. texts_at };
+
+    ghost spells = { go_spells go_has };
+
     fn has(kind: Kind) -> bool {
         kind == Kind::SetGo
     }
@@ -52,6 +69,14 @@ impl Crdt for SetGo {
 
     fn needs_state(kind: Kind, op: &Op) -> bool {
         reads_state(kind)
+    }
+
+    fn is_too_deep(kind: Kind, path: &[Field]) -> bool {
+        false
+    }
+
+    fn is_blank(state: &TextSet) -> bool {
+        state.is_empty()
     }
 
     fn generate(
@@ -91,6 +116,24 @@ impl Crdt for SetGo {
 
     fn value(alloc: Global, state: &TextSet) -> Result<Value, AllocError> {
         Ok(Value::Words(state.to_list(alloc)?))
+    }
+
+    fn put_effect(out: &mut Vec<u8>, effect: &ListOf<Text>) -> Result<(), AllocError> {
+        put_list(&TextForm, out, effect.as_slice())
+    }
+
+    #[tactic(auto, unfolding(crate::specs::EffectForm::texts_at))]
+    fn take_effect(
+        alloc: Global,
+        kind: Kind,
+        bytes: &[u8],
+        at: usize,
+    ) -> Result<(ListOf<Text>, usize), TakeError> {
+        let (texts, end) = take_list(&TextForm, alloc, bytes, at)?;
+        if texts.as_slice().is_empty() {
+            return Err(TakeError::Bad { at });
+        }
+        Ok((texts, end))
     }
 }
 

@@ -2,7 +2,7 @@ ghost use Rattle.std.specs.Prelude.{◌≡◌, true};
 
 use super::*;
 use crdt_core::{Act, Crdt, Kind, Value};
-use field_codec::{ListOf, Text};
+use field_codec::{ListOf, TakeError, Text};
 use site_vector::{Dot, TxId};
 use std::alloc::Global;
 use std::test::*;
@@ -114,5 +114,31 @@ fn a_reset_undoes(rt: HostRuntime) -> Result<(), Fail> {
     let reset = SetRw::generate(alloc, Kind::SetRw, &[], &Act::Reset, &state, 1)?;
     SetRw::apply(alloc, &mut state, dot(2), &reset)?;
     assert_eq!(rt; state.texts(alloc)?.as_slice().len(), 0);
+    Ok(())
+}
+
+#[test]
+fn bytes_of_sets(rt: HostRuntime) -> Result<(), Fail> {
+    let alloc = rt.alloc();
+    let mut out = Vec::new(alloc);
+    SetAw::put_effect(&mut out, &SetEffect::Reset(ListOf::new(alloc)))?;
+    assert_eq!(rt; out.as_slice(), [2, 0, 0, 0, 0].as_slice());
+    let add = [0, 0, 0, 0, 2, 0, 1, 97, 0, 0, 0, 0, 0, 1, 98, 0, 0, 0, 0];
+    let (added, end) = SetRw::take_effect(alloc, Kind::SetRw, &add, 0)
+        .ok()
+        .ok_or("an add")?;
+    assert_eq!(rt; end, 19);
+    assert!(rt; matches!(added, SetEffect::Add(_)));
+    let none = SetAw::take_effect(alloc, Kind::SetAw, &[1, 0, 0, 0, 0], 0);
+    assert!(rt; matches!(none, Err(TakeError::Bad { at: 1 })));
+    let twice = [0, 0, 0, 0, 2, 0, 1, 97, 0, 0, 0, 0, 0, 1, 97, 0, 0, 0, 0];
+    let refused = SetAw::take_effect(alloc, Kind::SetAw, &twice, 0);
+    assert!(rt; matches!(refused, Err(TakeError::Bad { at: 12 })));
+    let grown = [0, 0, 0, 1, 0, 1, 97];
+    let (texts, end) = SetGo::take_effect(alloc, Kind::SetGo, &grown, 0)
+        .ok()
+        .ok_or("texts")?;
+    assert_eq!(rt; end, 7);
+    assert_eq!(rt; texts.as_slice().len(), 1);
     Ok(())
 }

@@ -2,7 +2,7 @@ ghost use Rattle.std.specs.Prelude.{◌≡◌, OnOk, IfOk};
 ghost use Rattle.std.specs.FinMap as map;
 ghost use Rattle.std.specs.List.Sorted.{IsStrictlySortedBy};
 ghost use Rattle.crdt_core.specs.Texts.{text_cmp, ascending};
-ghost use Rattle.crdt_sets.specs.SetGo.{with_each};
+ghost use Rattle.crdt_sets.specs.SetGo.{has_none, with_each};
 
 use field_codec::{ListOf, Text};
 use std::alloc::{AllocError, Global};
@@ -47,6 +47,13 @@ impl TextSet {
     {
         self.texts.insert(text)?;
         Ok(())
+    }
+
+    /// Whether no text is in.
+    pub fn is_empty(&self) -> bool
+        ensures { result ≡ has_none self.now }
+    {
+        self.texts.len() == 0
     }
 
     /// The texts, in order.

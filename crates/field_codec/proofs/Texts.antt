@@ -6,6 +6,8 @@ use Rattle.std.specs.Str.{IsUtf8, is_utf8}
 use Rattle.std.proofs.lemmas.Str.{IsUtf8-from_is_utf8, is_utf8-from_IsUtf8}
 use Rattle.std.proofs.lemmas.Bool.Decides.{nat_tests}
 use Rattle.field_codec.specs.declared.error.TakeError.TheVariants.{Bad}
+use Rattle.field_codec.specs.Spelling.{is_text}
+use Rattle.field_codec.specs.FormLaws.{and_true}
 use Rattle.field_codec.specs.Reading.{bytes_at}
 
 holds : (n m : ℕ) → n ≤ m → nat_le n m ≡ true
@@ -29,3 +31,7 @@ bytes_bad n bytes at le u =
     not_true : (b : Bool) → (b ≡ true → ⊥) → b ≡ false
     not_true true h = absurd (h refl)
     not_true false h = refl
+
+-- a text of the program has a spelling
+pub text_spelled : (t s : List ℕ) → s ≡ t → IsUtf8 s → length t ≤ 256 → is_text t ≡ true
+text_spelled t s e u le = and_true _ _ (holds (length t) 256 le) (is_utf8-from_IsUtf8 t (subst IsUtf8 e u))

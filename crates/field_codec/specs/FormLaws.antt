@@ -196,6 +196,10 @@ text_form = record {
   fit = λ t good. good;
 }
 
+-- every text of the program has a spelling, so that to put one asks for nothing
+pub any_text_form : IsForm (λ t. true) is_text text text_at
+any_text_form = record { found = text_form.found; again = text_form.again; fit = λ t good. refl }
+
 -- ---- lists
 
 module _ {V : Type 0} (follows : V → V → Bool) (fits is_spelled : V → Bool) (spelling : V → List ℕ) (reading : List ℕ → ℕ → Read V) (member : IsForm fits is_spelled spelling reading) where

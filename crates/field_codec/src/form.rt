@@ -59,6 +59,25 @@ pub trait Form {
     ghost laws: { (f : Self) → IsForm (fits f) (is_spelled f) (spelling f) (reading f) };
 }
 
+/// Appends the spelling.
+///
+/// # Errors
+///
+/// `AllocError` where memory runs out, or where a list has 2^32 members or more. `out` is as before then.
+pub fn put_whole<F: Form>(form: &F, out: &mut Vec<u8>, value: &F::Value) -> Result<(), AllocError>
+    requires { F.fits form.now value.now ≡ true }
+    ensures spelled { OnOk result (F.is_spelled form.now value.now ≡ true) }
+    ensures ok { OnOk result (out.new.items ≡ out.old.items ++ F.spelling form.now value.now) }
+    ensures err { OnErr result (out.new.items ≡ out.old.items) }
+{
+    let start = out.len();
+    let put = form.put(out, value);
+    if put.is_err() {
+        out.truncate(start);
+    }
+    put
+}
+
 /// No spelling of a value begins that of another, in any form.
 #[tactic(auto, using(crate::proofs::Forms::prefix_free))]
 pub fn law_prefix_free<F: Form>(form: &F)

@@ -10,7 +10,7 @@ mod number;
 mod text;
 
 pub use error::TakeError;
-pub use form::{Form, law_prefix_free};
+pub use form::{Form, law_prefix_free, put_whole};
 pub use laws::{law_fields, law_list};
 pub use list::ListOf;
 pub use members::{put_list, take_list};

@@ -1,4 +1,4 @@
-ghost use Rattle.std.specs.Prelude.{◌≡◌, ◌≤◌, ◌<◌, ◌++◌, ℕ, List, Bool, Some, None, IfOk, IfSome, IfNone, OnOk, OnErr, length, nat_eq};
+ghost use Rattle.std.specs.Prelude.{◌≡◌, ◌≤◌, ◌<◌, ◌++◌, ℕ, List, Bool, true, Some, None, IfOk, IfSome, IfNone, OnOk, OnErr, length, nat_eq};
 ghost use Rattle.std.specs.Str.{bytes_eq};
 ghost use Rattle.std.specs.Ordering.{nat_cmp, as_partial_cmp};
 ghost use Rattle.std.specs.Cmp.Lexicographic.{slice_cmp};
@@ -7,7 +7,7 @@ ghost use Rattle.std.specs.Hash as fed;
 ghost use Rattle.std.specs.Cmp.{partial_order_from_own_ties};
 ghost use Rattle.std.proofs.Common.{rules};
 ghost use Rattle.field_codec.specs.Spelling.{text as spelled, is_text, is_below};
-ghost use Rattle.field_codec.specs.FormLaws.{text_form};
+ghost use Rattle.field_codec.specs.FormLaws.{any_text_form};
 ghost use Rattle.field_codec.specs.Reading.{Gives, text_at, bytes_at};
 
 use crate::{Form, TakeError, put_u16, take_u16};
@@ -79,7 +79,9 @@ impl Text {
 /// # Errors
 ///
 /// `AllocError` where memory runs out. `out` is as before then.
+#[tactic(auto, using(crate::proofs::Texts::text_spelled))]
 pub fn put_text(out: &mut Vec<u8>, t: &Text) -> Result<(), AllocError>
+    ensures text { is_text t.now ≡ true }
     ensures ok { OnOk result (out.new.items ≡ out.old.items ++ spelled t.now) }
     ensures err { OnErr result (out.new.items ≡ out.old.items) }
 {
@@ -192,7 +194,7 @@ pub struct TextForm;
 impl Form for TextForm {
     type Value = Text;
 
-    ghost fits = { λ _ t. is_text t };
+    ghost fits = { λ _ t. true };
 
     ghost is_spelled = { λ _ t. is_text t };
 
@@ -214,5 +216,5 @@ impl Form for TextForm {
         before < value
     }
 
-    ghost laws = { λ _. text_form };
+    ghost laws = { λ _. any_text_form };
 }

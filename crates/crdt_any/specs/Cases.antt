@@ -1,0 +1,126 @@
+-- A state or an effect as that of one kind.
+use Rattle.std.proofs.Common.{◌≡◌, ◌≢◌, ℕ, Bool, true, false, cond, not, ◌&&◌, ◌||◌, List, [], ◌∷◌, Option, Some, None, refl, sym, ap, ◌∙◌, subst}
+use Rattle.std.specs.Prelude.{ℤ, pos}
+use Rattle.site_vector.specs.declared.ids.Dot.{Dot}
+use Rattle.crdt_core.specs.declared.kind.Kind.{Kind}
+use Rattle.crdt_core.specs.declared.kind.Kind.TheVariants as kinds
+use Rattle.crdt_core.specs.declared.object.Field.{Field}
+use Rattle.crdt_core.specs.declared.operation.Act.{Act}
+use Rattle.crdt_core.specs.declared.value.Value.{Value}
+use Rattle.crdt_core.specs.Seen.{Update}
+use Rattle.crdt_core.specs.Kept.{KeptAt, is_kept, keeps_none}
+use Rattle.crdt_counters.specs.declared.counter_fat.FatEffect.{FatEffect}
+use Rattle.crdt_sets.specs.SetGo.{Grown}
+use Rattle.crdt_sets.specs.Elements.{Elements, keeps_dot, lacks_all}
+use Rattle.crdt_sets.specs.declared.effect.SetEffect.{SetEffect}
+use Rattle.crdt_flags.specs.declared.effect.FlagEffect.{FlagEffect}
+use Rattle.crdt_registers.specs.declared.assigned.Stamped.{Stamped}
+use Rattle.crdt_registers.specs.declared.assigned.Assigned.{Assigned}
+use Rattle.crdt_registers.specs.declared.mv_effect.MvEffect.{MvEffect}
+use Rattle.crdt_maps.specs.declared.effect.MapEffect.{MapEffect}
+use Rattle.crdt_any.specs.declared.state.LayerState.{LayerState}
+use Rattle.crdt_any.specs.declared.state.LayerState.TheVariants as state
+use Rattle.crdt_any.specs.declared.effect.LayerEffect.{LayerEffect}
+use Rattle.crdt_any.specs.declared.effect.LayerEffect.TheVariants as effect
+use Rattle.std.specs.FinMap.{empty}
+use Rattle.crdt_counters.specs.Meaning.{counter_meaning}
+use Rattle.crdt_counters.specs.CounterPn.{is_zero, pn_has, pn_step, pn_made, pn_value, no_stamp, names_none, holds_none}
+use Rattle.crdt_counters.specs.CounterFat.{fat_has, fat_step, fat_made, fat_value, fat_names}
+use Rattle.crdt_sets.specs.SetGo as set
+use Rattle.crdt_sets.specs.Sets as sets
+use Rattle.crdt_sets.specs.Meaning.{go_meaning as set_go_meaning, aw_meaning, rw_meaning}
+use Rattle.crdt_flags.specs.Flags as flags
+use Rattle.crdt_flags.specs.Meaning.{ew_meaning, dw_meaning}
+use Rattle.crdt_registers.specs.Meaning.{lww_meaning, mv_meaning, word_of}
+use Rattle.crdt_registers.specs.RegisterLww.{unassigned, lww_has, lww_step, lww_made, lww_stamp, lww_names, lww_holds}
+use Rattle.crdt_registers.specs.RegisterMv.{mv_has, mv_step, mv_made, mv_value, mv_stamp, mv_names}
+use Rattle.crdt_maps.specs.Maps.{FieldMap, go_has, rr_has, map_step, map_made, map_stamp, map_too_deep, map_names, map_holds, go_value, rr_value, go_blank, rr_blank}
+use Rattle.crdt_maps.specs.Meaning.{go_meaning, rr_meaning}
+
+abbrev pub counter_pn_state : {S : Type 0} → LayerState S → Option (ℤ)
+counter_pn_state (state.CounterPn s) = Some s
+counter_pn_state _ = None
+
+abbrev pub counter_pn_effect : {E : Type 0} → LayerEffect E → Option (ℤ)
+counter_pn_effect (effect.CounterPn e) = Some e
+counter_pn_effect _ = None
+
+abbrev pub counter_fat_state : {S : Type 0} → LayerState S → Option (KeptAt ℤ)
+counter_fat_state (state.CounterFat s) = Some s
+counter_fat_state _ = None
+
+abbrev pub counter_fat_effect : {E : Type 0} → LayerEffect E → Option (FatEffect)
+counter_fat_effect (effect.CounterFat e) = Some e
+counter_fat_effect _ = None
+
+abbrev pub set_go_state : {S : Type 0} → LayerState S → Option (Grown)
+set_go_state (state.SetGo s) = Some s
+set_go_state _ = None
+
+abbrev pub set_go_effect : {E : Type 0} → LayerEffect E → Option (List (List ℕ))
+set_go_effect (effect.SetGo e) = Some e
+set_go_effect _ = None
+
+abbrev pub set_aw_state : {S : Type 0} → LayerState S → Option (Elements)
+set_aw_state (state.SetAw s) = Some s
+set_aw_state _ = None
+
+abbrev pub set_aw_effect : {E : Type 0} → LayerEffect E → Option (SetEffect)
+set_aw_effect (effect.SetAw e) = Some e
+set_aw_effect _ = None
+
+abbrev pub set_rw_state : {S : Type 0} → LayerState S → Option (Elements)
+set_rw_state (state.SetRw s) = Some s
+set_rw_state _ = None
+
+abbrev pub set_rw_effect : {E : Type 0} → LayerEffect E → Option (SetEffect)
+set_rw_effect (effect.SetRw e) = Some e
+set_rw_effect _ = None
+
+abbrev pub flag_ew_state : {S : Type 0} → LayerState S → Option (KeptAt Bool)
+flag_ew_state (state.FlagEw s) = Some s
+flag_ew_state _ = None
+
+abbrev pub flag_ew_effect : {E : Type 0} → LayerEffect E → Option (FlagEffect)
+flag_ew_effect (effect.FlagEw e) = Some e
+flag_ew_effect _ = None
+
+abbrev pub flag_dw_state : {S : Type 0} → LayerState S → Option (KeptAt Bool)
+flag_dw_state (state.FlagDw s) = Some s
+flag_dw_state _ = None
+
+abbrev pub flag_dw_effect : {E : Type 0} → LayerEffect E → Option (FlagEffect)
+flag_dw_effect (effect.FlagDw e) = Some e
+flag_dw_effect _ = None
+
+abbrev pub register_lww_state : {S : Type 0} → LayerState S → Option (Option Stamped)
+register_lww_state (state.RegisterLww s) = Some s
+register_lww_state _ = None
+
+abbrev pub register_lww_effect : {E : Type 0} → LayerEffect E → Option (Assigned)
+register_lww_effect (effect.RegisterLww e) = Some e
+register_lww_effect _ = None
+
+abbrev pub register_mv_state : {S : Type 0} → LayerState S → Option (KeptAt (List ℕ))
+register_mv_state (state.RegisterMv s) = Some s
+register_mv_state _ = None
+
+abbrev pub register_mv_effect : {E : Type 0} → LayerEffect E → Option (MvEffect)
+register_mv_effect (effect.RegisterMv e) = Some e
+register_mv_effect _ = None
+
+abbrev pub map_go_state : {S : Type 0} → LayerState S → Option (FieldMap S)
+map_go_state (state.MapGo s) = Some s
+map_go_state _ = None
+
+abbrev pub map_go_effect : {E : Type 0} → LayerEffect E → Option (MapEffect E)
+map_go_effect (effect.MapGo e) = Some e
+map_go_effect _ = None
+
+abbrev pub map_rr_state : {S : Type 0} → LayerState S → Option (FieldMap S)
+map_rr_state (state.MapRr s) = Some s
+map_rr_state _ = None
+
+abbrev pub map_rr_effect : {E : Type 0} → LayerEffect E → Option (MapEffect E)
+map_rr_effect (effect.MapRr e) = Some e
+map_rr_effect _ = None

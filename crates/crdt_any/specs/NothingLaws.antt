@@ -1,0 +1,30 @@
+-- What has no kinds keeps every law.
+use Rattle.std.proofs.Common.{◌≡◌, ℕ, Bool, true, false, List, [], Option, None, refl, sym}
+use Rattle.std.specs.Prelude.{Err}
+use Rattle.std.proofs.lemmas.Bool.{true≢false, false≢true}
+use Rattle.field_codec.specs.declared.error.TakeError.TheVariants.{Bad}
+use Rattle.field_codec.specs.Reading.{Read}
+use Rattle.crdt_core.specs.declared.value.Value.TheVariants.{Flag}
+use Rattle.crdt_core.specs.Law.{KeepsLaw}
+use Rattle.crdt_core.specs.InMaps.{KeepsInMaps}
+use Rattle.crdt_core.specs.EffectForm.{SpellsEffects}
+
+pub nothing_law : KeepsLaw {S = Unit {0}} {E = Unit {0}} (λ k. false) (λ k p. false) (λ k. tt) (λ s d e. tt) (λ k s p a n. tt) (λ s. Flag false) (λ e. None) (λ k us. Flag false) (λ e d. false) (λ s d. false)
+nothing_law = record {
+  means = λ k us has. absurd (false≢true has);
+  stamps = λ k u us has. absurd (false≢true has);
+  confluent = λ k us vs has. absurd (false≢true has);
+  orderless = λ k us vs has. absurd (false≢true has);
+  unread = λ k s t p a n has. absurd (false≢true has);
+  steps = λ k has. absurd (false≢true has);
+}
+
+pub nothing_in_maps : KeepsInMaps {S = Unit {0}} {E = Unit {0}} (λ k. false) (λ k p. false) (λ k. tt) (λ s d e. tt) (λ k s p a n. tt) (λ s. true)
+nothing_in_maps = record {
+  first_blank = λ k has. refl;
+  undoes_none = λ k s t d n has. absurd (false≢true has);
+  shallow = λ k. refl;
+}
+
+pub nothing_spells : SpellsEffects {E = Unit {0}} (λ k. false) (λ k e. true) (λ e. true) (λ e. true) (λ e. []) (λ k bytes at. Err (Bad at))
+nothing_spells = record { form = λ k has. absurd (false≢true has) }

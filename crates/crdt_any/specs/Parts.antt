@@ -1,0 +1,85 @@
+-- A kind that stands among others keeps its law.
+use Rattle.std.proofs.Common.{◌≡◌, ◌≢◌, ℕ, Bool, true, false, cond, not, ◌&&◌, ◌||◌, List, [], ◌∷◌, Option, Some, None, refl, sym, ap, ◌∙◌, subst}
+use Rattle.std.specs.Prelude.{map, filter, unwrap_or}
+use Rattle.std.proofs.lemmas.Bool.{true≢false, or_left}
+use Rattle.site_vector.specs.declared.ids.Dot.{Dot}
+use Rattle.site_vector.specs.Ids.{same_dot}
+use Rattle.crdt_core.specs.declared.kind.Kind.{Kind}
+use Rattle.crdt_core.specs.declared.object.Field.{Field}
+use Rattle.crdt_core.specs.declared.operation.Act.{Act}
+use Rattle.crdt_core.specs.declared.value.Value.{Value}
+use Rattle.crdt_core.specs.Seen.{Update, sees}
+use Rattle.crdt_core.specs.Stamps.{stamp_due}
+use Rattle.crdt_core.specs.History.{IsHistory, IsStamped, folded, seen_by, effects, effect_after, state_after}
+use Rattle.crdt_core.specs.Law.{KeepsLaw, made_by, all_fit}
+use Rattle.crdt_any.specs.Layer.{moved}
+
+-- states and effects that stand for others
+module _ {S E R F : Type 0} (wrap : R → S) (wrap_effect : F → E) (step : S → Dot → E → S) (make : S → Update → E) (start : R) (part_step : R → Dot → F → R) (part_make : R → Update → F)
+    (steps_so : (s : R) (d : Dot) (e : F) → step (wrap s) d (wrap_effect e) ≡ wrap (part_step s d e)) (makes_so : (s : R) (u : Update) → make (wrap s) u ≡ wrap_effect (part_make s u)) where
+  abbrev wrapped : Dot × F → Dot × E
+  wrapped x = (x.0, wrap_effect x.1)
+
+  fold_so : (es : List (Dot × F)) → folded (wrap start) step (map wrapped es) ≡ wrap (folded start part_step es)
+  fold_so [] = refl
+  fold_so (e ∷ es) = ap (λ s. step s e.0 (wrap_effect e.1)) (fold_so es) ∙ steps_so (folded start part_step es) e.0 e.1
+
+  part_so : (p : Dot → Bool) (es : List (Dot × F)) → filter (λ e. p e.0) (map wrapped es) ≡ map wrapped (filter (λ e. p e.0) es)
+  part_so p [] = refl
+  part_so p (e ∷ es) = elim (p e.0) as (λ b. cond b (wrapped e ∷ filter (λ e. p e.0) (map wrapped es)) (filter (λ e. p e.0) (map wrapped es)) ≡ map wrapped (cond b (e ∷ filter (λ e. p e.0) es) (filter (λ e. p e.0) es))) [
+    | true ↦ ap (λ l. wrapped e ∷ l) (part_so p es)
+    | false ↦ part_so p es
+  ]
+
+  made_so : (u : Update) (es : List (Dot × F)) → make (folded (wrap start) step (seen_by u (map wrapped es))) u ≡ wrap_effect (part_make (folded start part_step (seen_by u es)) u)
+  made_so u es = ap (λ l. make (folded (wrap start) step l) u) (part_so (sees u) es) ∙ ap (λ s. make s u) (fold_so (seen_by u es)) ∙ makes_so (folded start part_step (seen_by u es)) u
+
+  effects_so : (us : List Update) → effects (wrap start) step make us ≡ map wrapped (effects start part_step part_make us)
+  effects_so [] = refl
+  effects_so (u ∷ us) =
+      let es = effects start part_step part_make us in
+      (λ i. (u.dot, make (folded (wrap start) step (seen_by u (effects_so us i))) u) ∷ effects_so us i) ∙ ap (λ e. (u.dot, e) ∷ map wrapped es) (made_so u es)
+
+  pub state_so : (us : List Update) → state_after (wrap start) step make us ≡ wrap (state_after start part_step part_make us)
+  state_so us = ap (folded (wrap start) step) (effects_so us) ∙ fold_so (effects start part_step part_make us)
+
+  pub effect_so : (us : List Update) (u : Update) → effect_after (wrap start) step make us u ≡ wrap_effect (effect_after start part_step part_make us u)
+  effect_so us u = ap (λ es. make (folded (wrap start) step (seen_by u es)) u) (effects_so us) ∙ made_so u (effects start part_step part_make us)
+
+  pub stamped_so : (stamp_of : E → Option ℕ) (part_stamp : F → Option ℕ) → ((e : F) → stamp_of (wrap_effect e) ≡ part_stamp e) → (us : List Update) → IsStamped (wrap start) step make stamp_of us → IsStamped start part_step part_make part_stamp us
+  stamped_so stamp_of part_stamp same [] h = h
+  stamped_so stamp_of part_stamp same (u ∷ us) h = (h.0 ∙ ap stamp_of (effect_so us u) ∙ same (effect_after start part_step part_make us u), stamped_so stamp_of part_stamp same us h.1)
+
+module _ {S E R F : Type 0} {has : Kind → Bool} {too_deep : Kind → List Field → Bool} {initial : Kind → R} {part_step : R → Dot → F → R} {made : Kind → R → List Field → Act → ℕ → F} {part_value : R → Value} {part_stamp : F → Option ℕ} {meaning : Kind → List Update → Value} {names : F → Dot → Bool} {holds : R → Dot → Bool} (law : KeepsLaw has too_deep initial part_step made part_value part_stamp meaning names holds)
+    (k : Kind) (known : has k ≡ true) (wrap : R → S) (wrap_effect : F → E) (step : S → Dot → E → S) (make : S → Update → E) (stamp_of : E → Option ℕ)
+    (steps_so : (s : R) (d : Dot) (e : F) → step (wrap s) d (wrap_effect e) ≡ wrap (part_step s d e)) (makes_so : (s : R) (u : Update) → make (wrap s) u ≡ wrap_effect (made_by made k s u)) (stamps_so : (e : F) → stamp_of (wrap_effect e) ≡ part_stamp e) where
+  abbrev Stamped : List Update → Type 0
+  Stamped us = IsStamped (wrap (initial k)) step make stamp_of us
+
+  pub part_means : (value_of : S → Value) → ((s : R) → value_of (wrap s) ≡ part_value s) → (us : List Update) → IsHistory us → all_fit too_deep k us ≡ true → Stamped us → value_of (state_after (wrap (initial k)) step make us) ≡ meaning k us
+  part_means value_of values_so us h fit st =
+      ap value_of (state_so wrap wrap_effect step make (initial k) part_step (made_by made k) steps_so makes_so us)
+      ∙ values_so (state_after (initial k) part_step (made_by made k) us)
+      ∙ law.means k us known h fit (stamped_so wrap wrap_effect step make (initial k) part_step (made_by made k) steps_so makes_so stamp_of part_stamp stamps_so us st)
+
+  pub part_stamps : (u : Update) (us : List Update) → IsHistory (u ∷ us) → all_fit too_deep k (u ∷ us) ≡ true → Stamped us → stamp_of (effect_after (wrap (initial k)) step make us u) ≡ stamp_due k us u
+  part_stamps u us h fit st =
+      ap stamp_of (effect_so wrap wrap_effect step make (initial k) part_step (made_by made k) steps_so makes_so us u)
+      ∙ stamps_so (effect_after (initial k) part_step (made_by made k) us u)
+      ∙ law.stamps k u us known h fit (stamped_so wrap wrap_effect step make (initial k) part_step (made_by made k) steps_so makes_so stamp_of part_stamp stamps_so us st)
+
+-- whether an effect of the kind names a dot; of another kind, it names none
+abbrev pub named_by : {E : Type 0} → (E → Dot → Bool) → Option E → Dot → Bool
+named_by names None d = false
+named_by names (Some e) d = names e d
+
+pub moved_swaps : {S E : Type 0} (step : S → Dot → E → S) (names : E → Dot → Bool) → ((s : S) (a b : E) (d e : Dot) → same_dot d e ≡ false → names a e ≡ false → names b d ≡ false → step (step s d a) e b ≡ step (step s e b) d a)
+    → (s : S) (a b : Option E) (d e : Dot) → same_dot d e ≡ false → named_by names a e ≡ false → named_by names b d ≡ false → moved step (moved step s d a) e b ≡ moved step (moved step s e b) d a
+moved_swaps step names swaps s None b d e apart na nb = refl
+moved_swaps step names swaps s (Some a) None d e apart na nb = refl
+moved_swaps step names swaps s (Some a) (Some b) d e apart na nb = swaps s a b d e apart na nb
+
+pub moved_held : {S E : Type 0} (step : S → Dot → E → S) (holds : S → Dot → Bool) → ((s : S) (d : Dot) (e : E) (x : Dot) → holds (step s d e) x ≡ true → (holds s x || same_dot d x) ≡ true)
+    → (s : S) (d : Dot) (e : Option E) (x : Dot) → holds (moved step s d e) x ≡ true → (holds s x || same_dot d x) ≡ true
+moved_held step holds held s d None x h = or_left (holds s x) (same_dot d x) h
+moved_held step holds held s d (Some e) x h = held s d e x h

@@ -1,0 +1,78 @@
+ghost use Rattle.std.specs.Prelude.{◌≡◌, IfOk};
+ghost use Rattle.crdt_core.specs.EffectForm.{HoldsSpelled, IsReady};
+ghost use Rattle.crdt_any.specs.Layer.{layer_made, layer_holds};
+ghost use Rattle.crdt_any.specs.LayerForm.{layer_is_of, layer_can_put, layer_spelling};
+
+use crate::part::made_on;
+use crate::{LayerEffect, LayerState};
+use crdt_core::{Act, Crdt, Field, Kind};
+use crdt_counters::{CounterFat, CounterPn};
+use crdt_flags::{FlagDw, FlagEw};
+use crdt_maps::{MapGo, MapRr};
+use crdt_registers::{RegisterLww, RegisterMv};
+use crdt_sets::{SetAw, SetGo, SetRw};
+use std::alloc::{AllocError, Global};
+
+/// The effect of an act that the kind has.
+///
+/// # Errors
+///
+/// `AllocError` where memory runs out.
+pub fn effect_of<I: Crdt>(
+    alloc: Global,
+    kind: Kind,
+    path: &[Field],
+    act: &Act,
+    state: &LayerState<I::State>,
+    now: u64,
+) -> Result<LayerEffect<I::Effect>, AllocError>
+    ensures made { IfOk result (λ e. e ≡ layer_made I.has I.initial I.made I.is_blank kind state.now path.now act.now now) }
+    ensures ready { HoldsSpelled (layer_holds I.holds) state.now → IfOk result (λ e. IsReady layer_is_of (layer_can_put I.has I.is_of I.can_put I.spelling) (layer_spelling I.spelling) kind path.now act.now e) }
+{
+    match kind {
+        Kind::CounterPn => {
+            let effect = made_on::<CounterPn>(alloc, kind, path, act, state.counter_pn(), now)?;
+            Ok(LayerEffect::CounterPn(effect))
+        }
+        Kind::CounterFat => {
+            let effect = made_on::<CounterFat>(alloc, kind, path, act, state.counter_fat(), now)?;
+            Ok(LayerEffect::CounterFat(effect))
+        }
+        Kind::SetGo => {
+            let effect = made_on::<SetGo>(alloc, kind, path, act, state.set_go(), now)?;
+            Ok(LayerEffect::SetGo(effect))
+        }
+        Kind::SetAw => {
+            let effect = made_on::<SetAw>(alloc, kind, path, act, state.set_aw(), now)?;
+            Ok(LayerEffect::SetAw(effect))
+        }
+        Kind::SetRw => {
+            let effect = made_on::<SetRw>(alloc, kind, path, act, state.set_rw(), now)?;
+            Ok(LayerEffect::SetRw(effect))
+        }
+        Kind::FlagEw => {
+            let effect = made_on::<FlagEw>(alloc, kind, path, act, state.flag_ew(), now)?;
+            Ok(LayerEffect::FlagEw(effect))
+        }
+        Kind::FlagDw => {
+            let effect = made_on::<FlagDw>(alloc, kind, path, act, state.flag_dw(), now)?;
+            Ok(LayerEffect::FlagDw(effect))
+        }
+        Kind::RegisterLww => {
+            let effect = made_on::<RegisterLww>(alloc, kind, path, act, state.register_lww(), now)?;
+            Ok(LayerEffect::RegisterLww(effect))
+        }
+        Kind::RegisterMv => {
+            let effect = made_on::<RegisterMv>(alloc, kind, path, act, state.register_mv(), now)?;
+            Ok(LayerEffect::RegisterMv(effect))
+        }
+        Kind::MapGo => {
+            let effect = made_on::<MapGo<I>>(alloc, kind, path, act, state.map_go(), now)?;
+            Ok(LayerEffect::MapGo(effect))
+        }
+        Kind::MapRr => {
+            let effect = made_on::<MapRr<I>>(alloc, kind, path, act, state.map_rr(), now)?;
+            Ok(LayerEffect::MapRr(effect))
+        }
+    }
+}

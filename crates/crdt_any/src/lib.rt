@@ -1,0 +1,26 @@
+//! All kinds in one type, with maps to the fourth depth.
+#![tactic(auto)]
+
+mod effect;
+mod generate;
+mod layer;
+mod nothing;
+mod part;
+mod state;
+
+pub use effect::LayerEffect;
+pub use layer::Layer;
+pub use nothing::Nothing;
+pub use state::LayerState;
+
+/// Kinds whose maps have no fields.
+pub type One = Layer<Nothing>;
+
+/// Kinds whose maps have fields of the kinds of `One`.
+pub type Two = Layer<One>;
+
+/// Kinds whose maps have fields of the kinds of `Two`.
+pub type Three = Layer<Two>;
+
+/// The kinds of objects: a path in them has at most three fields.
+pub type Any = Layer<Three>;

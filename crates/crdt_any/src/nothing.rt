@@ -1,0 +1,123 @@
+ghost use Rattle.std.specs.Prelude.{◌≡◌, [], true, false, None, Err};
+ghost use Rattle.field_codec.specs.declared.error.TakeError.TheVariants.{Bad};
+ghost use Rattle.crdt_core.specs.declared.value.Value.TheVariants.{Flag};
+ghost use Rattle.crdt_any.specs.NothingLaws.{nothing_law, nothing_in_maps, nothing_spells};
+
+use crdt_core::{Act, Crdt, Field, GenError, Kind, Op, Value, fits_at, reads_state};
+use field_codec::TakeError;
+use site_vector::Dot;
+use std::alloc::{AllocError, Global};
+
+/// A type without kinds: what the fields of the innermost maps are of.
+pub struct Nothing;
+
+impl Crdt for Nothing {
+    type State = ();
+
+    type Effect = ();
+
+    ghost has = { λ k. false };
+
+    ghost too_deep = { λ k p. false };
+
+    ghost initial = { λ k. tt };
+
+    ghost step = { λ s d e. tt };
+
+    ghost made = { λ k s p a n. tt };
+
+    ghost value_of = { λ s. Flag false };
+
+    ghost stamp_of = { λ e. None };
+
+    ghost meaning = { λ k us. Flag false };
+
+    ghost names = { λ e d. false };
+
+    ghost holds = { λ s d. false };
+
+    ghost laws = { nothing_law };
+
+    ghost is_of = { λ k e. true };
+
+    ghost can_put = { λ e. true };
+
+    ghost is_spelled = { λ e. true };
+
+    ghost spelling = { λ e. [] };
+
+    ghost reading = { λ k bytes at. Err (Bad at) };
+
+    ghost spells = { nothing_spells };
+
+    ghost is_blank = { λ s. true };
+
+    ghost in_maps = { nothing_in_maps };
+
+    fn has(kind: Kind) -> bool {
+        false
+    }
+
+    fn empty(alloc: Global, kind: Kind) -> Result<(), AllocError> {
+        Ok(())
+    }
+
+    fn needs_state(kind: Kind, op: &Op) -> bool {
+        reads_state(kind)
+    }
+
+    fn is_too_deep(kind: Kind, path: &[Field]) -> bool {
+        false
+    }
+
+    fn is_blank(state: &()) -> bool {
+        true
+    }
+
+    fn generate(
+        alloc: Global,
+        kind: Kind,
+        path: &[Field],
+        act: &Act,
+        state: &(),
+        now: u64,
+    ) -> Result<(), GenError> {
+        if !fits_at(kind, path, act) {
+            return Err(GenError::BadOp);
+        }
+        Ok(())
+    }
+
+    fn stamp(effect: &()) -> Option<u64> {
+        None
+    }
+
+    fn apply(alloc: Global, state: &mut (), dot: Dot, effect: &()) -> Result<(), AllocError> {
+        Ok(())
+    }
+
+    fn copy(alloc: Global, state: &()) -> Result<(), AllocError> {
+        Ok(())
+    }
+
+    fn copy_effect(alloc: Global, effect: &()) -> Result<(), AllocError> {
+        Ok(())
+    }
+
+    fn value(alloc: Global, state: &()) -> Result<Value, AllocError> {
+        Ok(Value::Flag(false))
+    }
+
+    fn put_effect(out: &mut Vec<u8>, effect: &()) -> Result<(), AllocError> {
+        Ok(())
+    }
+
+    fn take_effect(
+        alloc: Global,
+        kind: Kind,
+        bytes: &[u8],
+        at: usize,
+    ) -> Result<((), usize), TakeError> {
+        Err(TakeError::Bad { at })
+    }
+}

@@ -1,0 +1,28 @@
+-- The effects that are generated of flags can be put.
+use Rattle.std.proofs.Common.{◌≡◌, Bool, true, false, ℕ, List, [], ◌∷◌, refl, sym, ◌∙◌, ap, subst}
+use Rattle.std.specs.Prelude.{◌==◌, ◌++◌}
+use Rattle.std.proofs.lemmas.Bool.{false≢true}
+use Rattle.crdt_core.specs.declared.kind.Kind.{Kind}
+use Rattle.crdt_core.specs.declared.object.Field.{Field}
+use Rattle.crdt_core.specs.declared.operation.Act.{Act}
+use Rattle.crdt_core.specs.declared.operation.Act.TheVariants as act
+use Rattle.crdt_core.specs.Kept.{KeptAt, is_kept}
+use Rattle.crdt_core.specs.EffectForm.{HoldsSpelled, IsReady, reset_tag, begins_with, asks_reset}
+use Rattle.crdt_core.specs.Ready.{kept_spelled}
+use Rattle.crdt_flags.specs.Flags.{flag_made}
+use Rattle.crdt_flags.specs.EffectForm.{is_of_kind, can_put_flag, flag_spelling}
+
+can_put_made : (s : KeptAt Bool) (a : Act) → HoldsSpelled is_kept s → can_put_flag (flag_made s a) ≡ true
+can_put_made s act.Enable h = kept_spelled s h
+can_put_made s act.Disable h = kept_spelled s h
+can_put_made s act.Reset h = kept_spelled s h
+can_put_made s _ h = refl
+
+reset_made : (s : KeptAt Bool) (p : List Field) (a : Act) → asks_reset p a ≡ true → begins_with 2 (flag_spelling (flag_made s a)) ≡ true
+reset_made s [] act.Reset h = refl
+reset_made s [] _ h = absurd (false≢true h)
+reset_made s (f ∷ p) a h = absurd (false≢true h)
+
+-- for the kinds whose reset is marked by 2, as both flags are
+pub flag_ready : (k : Kind) → reset_tag k ≡ 2 → (s : KeptAt Bool) (p : List Field) (a : Act) → HoldsSpelled is_kept s → IsReady is_of_kind can_put_flag flag_spelling k p a (flag_made s a)
+flag_ready k tag s p a h = (refl, can_put_made s a h, λ asked. subst (λ n. begins_with n (flag_spelling (flag_made s a)) ≡ true) (sym tag) (reset_made s p a asked))

@@ -1,0 +1,278 @@
+-- The bytes of maps' effects: a field with an effect of its kind, or what a reset undoes of each field.
+use Rattle.std.specs.Prelude.{◌≡◌, ℕ, zero, suc, ◌+◌, ◌^◌, ◌<◌, ◌≤◌, ◌==◌, Bool, true, false, ◌&&◌, eqb, nat_le, nat_lt, cond, List, [], ◌∷◌, ◌++◌, length, drop, Ok, Err, if◌then◌else◌, refl}
+use Rattle.std.proofs.Common.{arith, ap, sym, subst, ◌∙◌}
+use Rattle.std.proofs.lemmas.Bool.{true≢false, false≢true, eqb-true, eq-eqb}
+use Rattle.std.proofs.lemmas.Bool.Decides.{nat_tests}
+use Rattle.std.specs.declared.cmp.Ordering.{Ordering}
+use Rattle.field_codec.specs.declared.error.TakeError.TheVariants.{Bad}
+use Rattle.field_codec.specs.Spelling.{number, is_number, text, is_text, list, are_members, is_list, is_below, Spans}
+use Rattle.field_codec.specs.Reading.{Read, ◌>>=◌, number_at, text_at, list_at, checked_at, then_at, mapped_at}
+use Rattle.field_codec.specs.Lawful.{IsForm}
+use Rattle.field_codec.specs.FormLaws.{any_text_form, number_form, width1, list_form, checked_form, then_form, mapped_form, lt_holds, le_from, both_true, and_true, ok_is, bind_ok, guard_ok, spans_first}
+use Rattle.field_codec.specs.Tagged.{tagged_at, tagged_form, shape_form}
+use Rattle.crdt_core.specs.declared.kind.Kind.{Kind}
+use Rattle.crdt_core.specs.declared.kind.Kind.TheVariants as kinds
+use Rattle.crdt_core.specs.declared.object.Field.{Field}
+use Rattle.crdt_core.specs.Fits.{stands_in}
+use Rattle.crdt_core.specs.FieldOrder.{field_cmp}
+use Rattle.crdt_core.specs.Spelled.{is_between, kind, kind_at}
+use Rattle.crdt_core.specs.SpelledLaws.{kind_form}
+use Rattle.crdt_core.specs.EffectForm.{SpellsEffects, reset_tag, begins_with}
+use Rattle.crdt_maps.specs.declared.effect.MapEffect.{MapEffect}
+use Rattle.crdt_maps.specs.declared.effect.MapEffect.TheVariants.{At, Resets}
+
+-- ---- a field: its name, and the code of a kind that may stand in the map and that the inner type has
+
+abbrev pub may_stand : Kind → (Kind → Bool) → Kind → Bool
+may_stand outer has k = stands_in outer k && has k
+
+abbrev pub field : Field → List ℕ
+field f = text f.name ++ kind f.kind
+
+abbrev pub is_field : (Kind → Bool) → Field → Bool
+is_field allowed f = is_text f.name && allowed f.kind
+
+abbrev pub field_of : List ℕ × Kind → Field
+field_of p = record { name = p.0; kind = p.1 }
+
+unfoldable pub field_at : (Kind → Bool) → List ℕ → ℕ → Read Field
+field_at allowed = mapped_at field_of (then_at text_at (λ _. checked_at allowed kind_at))
+
+coded_form : (allowed : Kind → Bool) → IsForm allowed allowed kind (checked_at allowed kind_at)
+coded_form allowed = let law = checked_form allowed (λ _. true) (λ _. true) kind kind_at kind_form in record {
+  found = λ bytes at k end ok within h. let f = law.found bytes at k end ok within h in ((both_true (allowed k) true f.0).0, f.1);
+  again = λ bytes at k end good spans. law.again bytes at k end (and_true (allowed k) true good refl) spans;
+  fit = λ k good. good;
+}
+
+pub field_form : (allowed : Kind → Bool) → IsForm (λ f. allowed f.kind) (is_field allowed) field (field_at allowed)
+unfolding field_at
+field_form allowed =
+    let whole = then_form (λ t. true) is_text text text_at (λ _. allowed) (λ _. allowed) (λ _. kind) (λ _. checked_at allowed kind_at) any_text_form (λ _ _. coded_form allowed) in
+    mapped_form field_of (λ f. (f.name, f.kind)) _ _ _ _ (λ _. refl) (λ _ _. refl) whole
+
+-- ---- a value whose spelling begins with a tag
+
+abbrev pub opened_at : {V : Type 0} → ℕ → (List ℕ → ℕ → Read V) → List ℕ → ℕ → Read V
+opened_at tag reading bytes at = do
+  first ← checked_at (λ n. n == tag) (number_at 1) bytes at
+  v ← reading bytes at
+  if nat_lt at v.1 then Ok v else Err (Bad at)
+
+plus_none : (n : ℕ) → n + 0 ≡ n
+plus_none n = omega arith
+
+not_below : (n : ℕ) → nat_lt n n ≡ false
+not_below n = grind (arith, nat_tests)
+
+after_one : (at end n : ℕ) → end ≡ at + suc n → nat_lt at end ≡ true
+after_one at end n h = let below : at < end = omega (arith, h) in grind (arith, nat_tests)
+
+front_begins : (tag : ℕ) (s rest : List ℕ) (at end : ℕ) → end ≡ at + length s → nat_lt at end ≡ true → begins_with tag (s ++ rest) ≡ true → begins_with tag s ≡ true
+front_begins tag [] rest at end e lt h = let same : end ≡ at = e ∙ plus_none at in absurd (true≢false (sym lt ∙ ap (nat_lt at) same ∙ not_below at))
+front_begins tag (b ∷ s) rest at end e lt h = h
+
+abbrev OpensWith : ℕ → List ℕ → Type 0
+OpensWith tag s = (rest : List ℕ) × (s ≡ tag ∷ rest)
+
+opens_with : (tag : ℕ) (s : List ℕ) → begins_with tag s ≡ true → OpensWith tag s
+opens_with tag [] h = absurd (false≢true h)
+opens_with tag (b ∷ s) h = (s, ap (λ n. n ∷ s) (eqb-true b tag h))
+
+module _ {V : Type 0} (tag : ℕ) (one : number 1 tag ≡ tag ∷ []) (small : is_number 1 tag ≡ true) (fits is_spelled : V → Bool) (spelling : V → List ℕ) (reading : List ℕ → ℕ → Read V) (form : IsForm fits is_spelled spelling reading) where
+  abbrev is_tag : ℕ → Bool
+  is_tag n = n == tag
+
+  tags : IsForm (λ n. is_tag n && is_number 1 n) (λ n. is_tag n && is_number 1 n) (number 1) (checked_at is_tag (number_at 1))
+  tags = checked_form is_tag (is_number 1) (is_number 1) (number 1) (number_at 1) (number_form 1 width1)
+
+  begins_there : (bytes : List ℕ) (at n mid : ℕ) → is_tag n ≡ true → Spans bytes at (number 1 n) mid → begins_with tag (drop at bytes) ≡ true
+  begins_there bytes at n mid same spans =
+      ap (begins_with tag) (spans.stands ∙ ap (λ m. number 1 m ++ drop mid bytes) (eqb-true n tag same) ∙ ap (λ l. l ++ drop mid bytes) one) ∙ eq-eqb tag tag refl
+
+  later : (at end : ℕ) (s rest : List ℕ) → s ≡ tag ∷ rest → end ≡ at + length s → nat_lt at end ≡ true
+  later at end s rest e long = after_one at end (length rest) (long ∙ ap (λ l. at + length l) e)
+
+  pub opened_form : IsForm (λ v. begins_with tag (spelling v) && fits v) (λ v. begins_with tag (spelling v) && is_spelled v) spelling (opened_at tag reading)
+  opened_form = record {
+    found = λ bytes at v end ok within h.
+        let a = bind_ok (checked_at is_tag (number_at 1) bytes at) (λ t. reading bytes at >>= λ x. cond (nat_lt at x.1) (Ok x) (Err (Bad at))) (v, end) h in
+        let t = tags.found bytes at a.0.0 a.0.1 ok within a.1 in
+        let b = bind_ok (reading bytes at) (λ x. cond (nat_lt at x.1) (Ok x) (Err (Bad at))) (v, end) a.2 in
+        let g = guard_ok (nat_lt at b.0.1) (Ok b.0) (Bad at) (v, end) b.2 in
+        let f = form.found bytes at b.0.0 b.0.1 ok within b.1 in
+        let there = begins_there bytes at a.0.0 a.0.1 (both_true (is_tag a.0.0) (is_number 1 a.0.0) t.0).0 t.1 in
+        let begins = front_begins tag (spelling b.0.0) (drop b.0.1 bytes) at b.0.1 f.1.long g.0 (sym (ap (begins_with tag) f.1.stands) ∙ there) in
+        subst (λ (x : V × ℕ). ((begins_with tag (spelling x.0) && is_spelled x.0) ≡ true) × Spans bytes at (spelling x.0) x.1) (ok_is b.0 (v, end) g.1)
+        (and_true (begins_with tag (spelling b.0.0)) (is_spelled b.0.0) begins f.0, f.1);
+    again = λ bytes at v end good spans.
+        let p = both_true (begins_with tag (spelling v)) (is_spelled v) good in
+        let o = opens_with tag (spelling v) p.0 in
+        let whole : Spans bytes at (number 1 tag ++ o.0) end = subst (λ l. Spans bytes at l end) (o.1 ∙ sym (ap (λ l. l ++ o.0) one)) spans in
+        let mid = at + length (number 1 tag) in
+        let first = tags.again bytes at tag mid (and_true (is_tag tag) (is_number 1 tag) (eq-eqb tag tag refl) small) (spans_first bytes (number 1 tag) o.0 at end whole) in
+        ap (λ r. r >>= λ t. reading bytes at >>= λ x. cond (nat_lt at x.1) (Ok x) (Err (Bad at))) first
+        ∙ ap (λ r. r >>= λ x. cond (nat_lt at x.1) (Ok x) (Err (Bad at))) (form.again bytes at v end p.1 spans)
+        ∙ ap (λ b. cond b (Ok (v, end)) (Err (Bad at))) (later at end (spelling v) o.0 o.1 spans.long);
+    fit = λ v good.
+        let p = both_true (begins_with tag (spelling v)) (is_spelled v) good in
+        and_true (begins_with tag (spelling v)) (fits v) p.0 (form.fit v p.1);
+  }
+
+-- the first byte of a reset
+tag_byte : (k : Kind) → number 1 (reset_tag k) ≡ reset_tag k ∷ []
+tag_byte kinds.CounterFat = refl
+tag_byte kinds.MapRr = refl
+tag_byte _ = refl
+
+tag_small : (k : Kind) → is_number 1 (reset_tag k) ≡ true
+tag_small kinds.CounterFat = refl
+tag_small kinds.MapRr = refl
+tag_small _ = refl
+
+-- ---- a field with an effect of its kind, and what a reset undoes of a field
+
+abbrev pub can_put_entry : {E : Type 0} → (Kind → Bool) → (Kind → E → Bool) → (E → Bool) → Field × E → Bool
+can_put_entry allowed is_of can_put x = allowed x.0.kind && (is_of x.0.kind x.1 && can_put x.1)
+
+abbrev pub is_entry_spelled : {E : Type 0} → (Kind → Bool) → (Kind → E → Bool) → (E → Bool) → Field × E → Bool
+is_entry_spelled allowed is_of is_spelled x = is_field allowed x.0 && (is_of x.0.kind x.1 && is_spelled x.1)
+
+abbrev pub entry : {E : Type 0} → (E → List ℕ) → Field × E → List ℕ
+entry spelling x = field x.0 ++ spelling x.1
+
+unfoldable pub entry_at : {E : Type 0} → (Kind → Bool) → (Kind → List ℕ → ℕ → Read E) → List ℕ → ℕ → Read (Field × E)
+entry_at allowed reading = then_at (field_at allowed) (λ f. reading f.kind)
+
+-- a reset begins as those of its kind do
+abbrev pub can_put_reset : {E : Type 0} → (Kind → Bool) → (Kind → E → Bool) → (E → Bool) → (E → List ℕ) → Field × E → Bool
+can_put_reset allowed is_of can_put spelling x = allowed x.0.kind && (begins_with (reset_tag x.0.kind) (spelling x.1) && (is_of x.0.kind x.1 && can_put x.1))
+
+abbrev pub is_reset_spelled : {E : Type 0} → (Kind → Bool) → (Kind → E → Bool) → (E → Bool) → (E → List ℕ) → Field × E → Bool
+is_reset_spelled allowed is_of is_spelled spelling x = is_field allowed x.0 && (begins_with (reset_tag x.0.kind) (spelling x.1) && (is_of x.0.kind x.1 && is_spelled x.1))
+
+unfoldable pub reset_at : {E : Type 0} → (Kind → Bool) → (Kind → List ℕ → ℕ → Read E) → List ℕ → ℕ → Read (Field × E)
+reset_at allowed reading = then_at (field_at allowed) (λ f. opened_at (reset_tag f.kind) (reading f.kind))
+
+-- by field
+abbrev pub entry_below : {E : Type 0} → Field × E → Field × E → Bool
+entry_below x y = is_below field_cmp x.0 y.0
+
+-- ---- effects of a map whose fields stay: a zero, and an entry
+
+abbrev pub go_can_put : {E : Type 0} → (Kind → Bool) → (Kind → E → Bool) → (E → Bool) → MapEffect E → Bool
+go_can_put has is_of can_put (At f e) = can_put_entry (may_stand kinds.MapGo has) is_of can_put (f, e)
+go_can_put has is_of can_put (Resets xs) = false
+
+abbrev pub go_is_spelled : {E : Type 0} → (Kind → Bool) → (Kind → E → Bool) → (E → Bool) → MapEffect E → Bool
+go_is_spelled has is_of is_spelled (At f e) = is_entry_spelled (may_stand kinds.MapGo has) is_of is_spelled (f, e)
+go_is_spelled has is_of is_spelled (Resets xs) = false
+
+abbrev pub go_rest : {E : Type 0} → (E → List ℕ) → MapEffect E → List ℕ
+go_rest spelling (At f e) = entry spelling (f, e)
+go_rest spelling (Resets xs) = []
+
+abbrev pub go_spelling : {E : Type 0} → (E → List ℕ) → MapEffect E → List ℕ
+go_spelling spelling e = number 1 0 ++ go_rest spelling e
+
+abbrev pub at_of : {E : Type 0} → Field × E → MapEffect E
+at_of x = At x.0 x.1
+
+unfoldable pub go_rest_at : {E : Type 0} → (Kind → Bool) → (Kind → List ℕ → ℕ → Read E) → ℕ → List ℕ → ℕ → Read (MapEffect E)
+go_rest_at has reading mark = mapped_at at_of (entry_at (may_stand kinds.MapGo has) reading)
+
+unfoldable pub go_at : {E : Type 0} → (Kind → Bool) → (Kind → List ℕ → ℕ → Read E) → List ℕ → ℕ → Read (MapEffect E)
+go_at has reading = tagged_at (is_between 0 0) (go_rest_at has reading)
+
+-- ---- effects of a map whose fields can be dropped: a zero and an entry, or a one and the resets of fields, ascending
+
+abbrev pub rr_can_put : {E : Type 0} → (Kind → Bool) → (Kind → E → Bool) → (E → Bool) → (E → List ℕ) → MapEffect E → Bool
+rr_can_put has is_of can_put spelling (At f e) = can_put_entry (may_stand kinds.MapRr has) is_of can_put (f, e)
+rr_can_put has is_of can_put spelling (Resets xs) = are_members entry_below (can_put_reset (may_stand kinds.MapRr has) is_of can_put spelling) xs
+
+abbrev pub rr_is_spelled : {E : Type 0} → (Kind → Bool) → (Kind → E → Bool) → (E → Bool) → (E → List ℕ) → MapEffect E → Bool
+rr_is_spelled has is_of is_spelled spelling (At f e) = is_entry_spelled (may_stand kinds.MapRr has) is_of is_spelled (f, e)
+rr_is_spelled has is_of is_spelled spelling (Resets xs) = is_list entry_below (is_reset_spelled (may_stand kinds.MapRr has) is_of is_spelled spelling) xs
+
+abbrev pub rr_mark : {E : Type 0} → MapEffect E → ℕ
+rr_mark (At f e) = 0
+rr_mark (Resets xs) = 1
+
+abbrev pub rr_rest : {E : Type 0} → (E → List ℕ) → MapEffect E → List ℕ
+rr_rest spelling (At f e) = entry spelling (f, e)
+rr_rest spelling (Resets xs) = list (entry spelling) xs
+
+abbrev pub rr_spelling : {E : Type 0} → (E → List ℕ) → MapEffect E → List ℕ
+rr_spelling spelling e = number 1 (rr_mark e) ++ rr_rest spelling e
+
+unfoldable pub rr_rest_at : {E : Type 0} → (Kind → Bool) → (Kind → List ℕ → ℕ → Read E) → ℕ → List ℕ → ℕ → Read (MapEffect E)
+rr_rest_at has reading mark =
+    if mark == 0 then mapped_at at_of (entry_at (may_stand kinds.MapRr has) reading)
+    else mapped_at Resets (list_at entry_below (reset_at (may_stand kinds.MapRr has) reading))
+
+unfoldable pub rr_at : {E : Type 0} → (Kind → Bool) → (Kind → List ℕ → ℕ → Read E) → List ℕ → ℕ → Read (MapEffect E)
+rr_at has reading = tagged_at (is_between 0 1) (rr_rest_at has reading)
+
+-- every effect is one of the kind
+abbrev pub is_of_map : {E : Type 0} → Kind → MapEffect E → Bool
+is_of_map k e = true
+
+in_field : (outer : Kind) (has : Kind → Bool) (f : Field) → is_field (may_stand outer has) f ≡ true → has f.kind ≡ true
+in_field outer has f h = (both_true (stands_in outer f.kind) (has f.kind) (both_true (is_text f.name) (may_stand outer has f.kind) h).1).1
+
+small_tag : (most : ℕ) → most < 256 → (n : ℕ) → is_between 0 most n ≡ true → is_number 1 n ≡ true
+small_tag most few n h = let le = le_from n most (both_true (nat_le 0 n) _ h).1 in lt_holds n (256 ^ 1) (omega (arith, le, few))
+
+module _ {E : Type 0} {has : Kind → Bool} {is_of : Kind → E → Bool} {can_put is_spelled : E → Bool} {spelling : E → List ℕ} {reading : Kind → List ℕ → ℕ → Read E} (spells : SpellsEffects has is_of can_put is_spelled spelling reading) where
+  pub entry_form : (outer : Kind) → IsForm (can_put_entry (may_stand outer has) is_of can_put) (is_entry_spelled (may_stand outer has) is_of is_spelled) (entry spelling) (entry_at (may_stand outer has) reading)
+  unfolding entry_at
+  entry_form outer = let allowed = may_stand outer has in
+      then_form (λ f. allowed f.kind) (is_field allowed) field (field_at allowed) (λ f e. is_of f.kind e && can_put e) (λ f e. is_of f.kind e && is_spelled e) (λ _. spelling) (λ f. reading f.kind) (field_form allowed) (λ f h. spells.form f.kind (in_field outer has f h))
+
+  pub reset_form : (outer : Kind) → IsForm (can_put_reset (may_stand outer has) is_of can_put spelling) (is_reset_spelled (may_stand outer has) is_of is_spelled spelling) (entry spelling) (reset_at (may_stand outer has) reading)
+  unfolding reset_at
+  reset_form outer = let allowed = may_stand outer has in
+      then_form (λ f. allowed f.kind) (is_field allowed) field (field_at allowed)
+      (λ f e. begins_with (reset_tag f.kind) (spelling e) && (is_of f.kind e && can_put e)) (λ f e. begins_with (reset_tag f.kind) (spelling e) && (is_of f.kind e && is_spelled e)) (λ _. spelling) (λ f. opened_at (reset_tag f.kind) (reading f.kind)) (field_form allowed)
+      (λ f h. opened_form (reset_tag f.kind) (tag_byte f.kind) (tag_small f.kind) (λ e. is_of f.kind e && can_put e) (λ e. is_of f.kind e && is_spelled e) spelling (reading f.kind) (spells.form f.kind (in_field outer has f h)))
+
+  go_shape : (e : MapEffect E) → (eqb 0 0 && go_is_spelled has is_of is_spelled e) ≡ true → (x : Field × E) × (at_of x ≡ e)
+  go_shape (At f e) h = ((f, e), refl)
+  go_shape (Resets xs) h = absurd (false≢true h)
+
+  go_rest_form : (n : ℕ) → is_between 0 0 n ≡ true → IsForm (λ e. eqb 0 n && go_can_put has is_of can_put e) (λ e. eqb 0 n && go_is_spelled has is_of is_spelled e) (go_rest spelling) (go_rest_at has reading n)
+  unfolding go_rest_at
+  go_rest_form zero h = shape_form at_of _ _ (entry spelling) _ _ _ _ (λ x. refl) (λ x. refl) (λ x. refl) go_shape (entry_form kinds.MapGo)
+  go_rest_form (suc n) h = let le = le_from (suc n) 0 (both_true (nat_le 0 (suc n)) _ h).1 in absurd (omega arith)
+
+  pub go_form : IsForm (go_can_put has is_of can_put) (go_is_spelled has is_of is_spelled) (go_spelling spelling) (go_at has reading)
+  unfolding go_at
+  go_form = tagged_form (is_between 0 0) (λ _. 0) _ _ (go_rest spelling) (go_rest_at has reading) (λ e. refl) (small_tag 0 (omega arith)) go_rest_form
+
+  rr_at_shape : (e : MapEffect E) → (eqb (rr_mark e) 0 && rr_is_spelled has is_of is_spelled spelling e) ≡ true → (x : Field × E) × (at_of x ≡ e)
+  rr_at_shape (At f e) h = ((f, e), refl)
+  rr_at_shape (Resets xs) h = absurd (false≢true h)
+
+  rr_resets_shape : (e : MapEffect E) → (eqb (rr_mark e) 1 && rr_is_spelled has is_of is_spelled spelling e) ≡ true → (xs : List (Field × E)) × (Resets xs ≡ e)
+  rr_resets_shape (At f e) h = absurd (false≢true h)
+  rr_resets_shape (Resets xs) h = (xs, refl)
+
+  rr_rest_form : (n : ℕ) → is_between 0 1 n ≡ true → IsForm (λ e. eqb (rr_mark e) n && rr_can_put has is_of can_put spelling e) (λ e. eqb (rr_mark e) n && rr_is_spelled has is_of is_spelled spelling e) (rr_rest spelling) (rr_rest_at has reading n)
+  unfolding rr_rest_at
+  rr_rest_form zero h = shape_form at_of _ _ (entry spelling) _ _ _ _ (λ x. refl) (λ x. refl) (λ x. refl) rr_at_shape (entry_form kinds.MapRr)
+  rr_rest_form (suc zero) h = shape_form Resets _ _ (list (entry spelling)) _ _ _ _ (λ xs. refl) (λ xs. refl) (λ xs. refl) rr_resets_shape (list_form entry_below _ _ (entry spelling) (reset_at (may_stand kinds.MapRr has) reading) (reset_form kinds.MapRr))
+  rr_rest_form (suc (suc n)) h = let le = le_from (suc (suc n)) 1 (both_true (nat_le 0 (suc (suc n))) _ h).1 in absurd (omega arith)
+
+  rr_known : (e : MapEffect E) → is_between 0 1 (rr_mark e) ≡ true
+  rr_known (At f e) = refl
+  rr_known (Resets xs) = refl
+
+  pub rr_form : IsForm (rr_can_put has is_of can_put spelling) (rr_is_spelled has is_of is_spelled spelling) (rr_spelling spelling) (rr_at has reading)
+  unfolding rr_at
+  rr_form = tagged_form (is_between 0 1) rr_mark _ _ (rr_rest spelling) (rr_rest_at has reading) rr_known (small_tag 1 (omega arith)) rr_rest_form
+
+  pub go_spells : (of_map : Kind → Bool) → SpellsEffects of_map is_of_map (go_can_put has is_of can_put) (go_is_spelled has is_of is_spelled) (go_spelling spelling) (λ k. go_at has reading)
+  go_spells of_map = record { form = λ k h. go_form }
+
+  pub rr_spells : (of_map : Kind → Bool) → SpellsEffects of_map is_of_map (rr_can_put has is_of can_put spelling) (rr_is_spelled has is_of is_spelled spelling) (rr_spelling spelling) (λ k. rr_at has reading)
+  rr_spells of_map = record { form = λ k h. rr_form }

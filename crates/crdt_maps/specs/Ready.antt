@@ -1,0 +1,159 @@
+-- The effects that are generated of maps can be put, where those of the inner type can.
+use Rattle.std.proofs.Common.{◌≡◌, Bool, true, false, cond, not, ◌&&◌, ◌||◌, ℕ, List, [], ◌∷◌, ◌++◌, refl, sym, ◌∙◌, ap, subst, T, Option, Some, None}
+use Rattle.std.specs.Prelude.{map, filter, ◌==◌, Result, Ok, Err, IfOk}
+use Rattle.std.specs.List.{list_any, list_all}
+use Rattle.std.specs.Ordering.{is_lt}
+use Rattle.std.specs.FinMap.{get, get-entries, entries, entries_sorted, is_sorted}
+use Rattle.std.specs.FinMap.Entries.{below_all}
+use Rattle.std.proofs.lemmas.Bool.{true≢false, false≢true, and_parts, and_from, or_left, or_right}
+use Rattle.site_vector.specs.declared.ids.Dot.{Dot}
+use Rattle.field_codec.specs.Spelling.{are_in_order, are_members, is_below}
+use Rattle.crdt_core.specs.declared.kind.Kind.{Kind}
+use Rattle.crdt_core.specs.declared.kind.Kind.TheVariants as kinds
+use Rattle.crdt_core.specs.declared.object.Field.{Field}
+use Rattle.crdt_core.specs.declared.operation.Act.{Act}
+use Rattle.crdt_core.specs.declared.operation.Act.TheVariants as act
+use Rattle.crdt_core.specs.declared.value.Value.{Value}
+use Rattle.crdt_core.specs.Fits.{stands_in, allows, fits}
+use Rattle.crdt_core.specs.Leaves.{same_kind_is}
+use Rattle.crdt_core.specs.FieldOrder.{field_cmp}
+use Rattle.crdt_core.specs.Seen.{Update}
+use Rattle.crdt_core.specs.Law.{KeepsLaw}
+use Rattle.crdt_core.specs.Spelled.{is_dot}
+use Rattle.crdt_core.specs.EffectForm.{HoldsSpelled, IsReady, reset_tag, begins_with, asks_reset}
+use Rattle.crdt_maps.specs.declared.effect.MapEffect.{MapEffect}
+use Rattle.crdt_maps.specs.declared.effect.MapEffect.TheVariants.{At, Resets}
+use Rattle.crdt_maps.specs.Maps.{FieldMap, at, go_has, rr_has, is_undone, resets_of, reset_by, map_made, map_too_deep, map_holds}
+use Rattle.crdt_maps.specs.FieldHistory.{outer_fits, Enters, enters, own_act}
+use Rattle.crdt_maps.specs.MapSteps.{some_found, held_here}
+use Rattle.crdt_maps.specs.EffectForm.{may_stand, entry_below, can_put_reset, go_can_put, go_spelling, rr_can_put, rr_spelling, is_of_map}
+
+-- an effect of a field that can be put
+abbrev pub can_put_at : {E : Type 0} → (Kind → E → Bool) → (E → Bool) → Kind → E → Bool
+can_put_at is_of can_put k e = is_of k e && can_put e
+
+-- the same of a reset, which begins as those of its kind do
+abbrev pub is_reset_ready : {E : Type 0} → (Kind → E → Bool) → (E → Bool) → (E → List ℕ) → Field × E → Bool
+is_reset_ready is_of can_put spelling x = begins_with (reset_tag x.0.kind) (spelling x.1) && can_put_at is_of can_put x.0.kind x.1
+
+-- so for each part of a map's effect
+abbrev pub parts_ready : {E : Type 0} → (Kind → E → Bool) → (E → Bool) → (E → List ℕ) → MapEffect E → Bool
+parts_ready is_of can_put spelling (At f e) = can_put_at is_of can_put f.kind e
+parts_ready is_of can_put spelling (Resets xs) = list_all (is_reset_ready is_of can_put spelling) xs
+
+-- all that these fields hold has spellings
+abbrev pub AllSpelled : {S : Type 0} → (S → Dot → Bool) → List (Field × S) → Type 0
+AllSpelled holds es = (d : Dot) → list_any (λ e. holds e.1 d) es ≡ true → is_dot d ≡ true
+
+pub first_spelled : {S : Type 0} (holds : S → Dot → Bool) (e : Field × S) (it es : List (Field × S)) → AllSpelled holds it → it ≡ e ∷ es → HoldsSpelled holds e.1
+first_spelled holds e it es h i d k = h d (ap (list_any (λ e. holds e.1 d)) i ∙ or_left (holds e.1 d) _ k)
+
+pub rest_spelled : {S : Type 0} (holds : S → Dot → Bool) (e : Field × S) (it es : List (Field × S)) → AllSpelled holds it → it ≡ e ∷ es → AllSpelled holds es
+rest_spelled holds e it es h i d k = h d (ap (list_any (λ e. holds e.1 d)) i ∙ or_right (holds e.1 d) _ k)
+
+pub field_spelled : {S E : Type 0} {has : Kind → Bool} {too_deep : Kind → List Field → Bool} {initial : Kind → S} {step : S → Dot → E → S} {made : Kind → S → List Field → Act → ℕ → E} {value_of : S → Value} {stamp_of : E → Option ℕ} {meaning : Kind → List Update → Value} {names : E → Dot → Bool} {holds : S → Dot → Bool} → KeepsLaw has too_deep initial step made value_of stamp_of meaning names holds
+    → (m : FieldMap S) (f : Field) → has f.kind ≡ true → HoldsSpelled (map_holds holds) m → HoldsSpelled holds (at initial m f)
+field_spelled inner m f known h d k = h d (held_here inner m f d known k)
+
+-- of what stands at a field
+pub found_spelled : {S : Type 0} (holds : S → Dot → Bool) (m : FieldMap S) (f : Field) (s : S) → get m f ≡ Some s → HoldsSpelled (map_holds holds) m → HoldsSpelled holds s
+found_spelled holds m f s e h d k = h d (some_found field_cmp (λ s. holds s d) f s (entries m) (sym (get-entries m f) ∙ e) k)
+
+-- what can be put of a whole object can be put of a field
+pub ready_at : {E X : Type 0} (is_of : Kind → E → Bool) (can_put : E → Bool) (spelling : E → List ℕ) (k : Kind) (p : List Field) (a : Act) (r : Result E X) → IfOk r (λ e. IsReady is_of can_put spelling k p a e) → IfOk r (λ e. can_put_at is_of can_put k e ≡ true)
+ready_at is_of can_put spelling k p a (Ok e) h = and_from _ _ h.0 h.1
+ready_at is_of can_put spelling k p a (Err x) h = tt
+
+all_both : {A : Type 0} (p q : A → Bool) (xs : List A) → list_all p xs ≡ true → list_all q xs ≡ true → list_all (λ x. p x && q x) xs ≡ true
+all_both p q [] h k = refl
+all_both p q (x ∷ xs) h k =
+    let a = and_parts (p x) (list_all p xs) h in
+    let b = and_parts (q x) (list_all q xs) k in
+    and_from _ _ (and_from _ _ a.0 b.0) (all_both p q xs a.1 b.1)
+
+is_so : (b : Bool) → T b → b ≡ true
+is_so true h = refl
+is_so false h = absurd h
+
+so_is : (b : Bool) → b ≡ true → T b
+so_is b h = subst T (sym h) tt
+
+turned : (a b c : Bool) → (a && (b && c)) ≡ true → (b && a) ≡ true
+turned true true c h = refl
+turned true false c h = h
+turned false b c h = absurd (false≢true h)
+
+module _ {S E : Type 0} (has : Kind → Bool) (initial : Kind → S) (made : Kind → S → List Field → Act → ℕ → E) (is_blank : S → Bool) where
+  abbrev resets : ℕ → List (Field × S) → List (Field × E)
+  resets n es = resets_of has made is_blank n es
+
+  abbrev reset_made : ℕ → Field × S → Field × E
+  reset_made n e = (e.0, made e.0.kind e.1 [] act.Reset n)
+
+  -- resets stand in the order of their fields
+  in_order : (n : ℕ) (before : Field × E) (es : List (Field × S)) → below_all field_cmp before.0 es ≡ true → is_sorted field_cmp es ≡ true → are_in_order entry_below (Some before) (resets n es) ≡ true
+  in_order n before [] below sorted = refl
+  in_order n before (e ∷ es) below sorted =
+      let low = and_parts (is_lt (field_cmp before.0 e.0)) _ below in
+      let two = and_parts (below_all field_cmp e.0 es) _ sorted in
+      elim (is_undone has is_blank e) as (λ b. are_in_order entry_below (Some before) (map (reset_made n) (cond b (e ∷ filter (is_undone has is_blank) es) (filter (is_undone has is_blank) es))) ≡ true) [
+        | true ↦ and_from _ _ low.0 (in_order n (reset_made n e) es two.0 two.1)
+        | false ↦ in_order n before es low.1 two.1
+      ]
+
+  all_in_order : (n : ℕ) (es : List (Field × S)) → is_sorted field_cmp es ≡ true → are_in_order entry_below None (resets n es) ≡ true
+  all_in_order n [] sorted = refl
+  all_in_order n (e ∷ es) sorted =
+      let two = and_parts (below_all field_cmp e.0 es) _ sorted in
+      elim (is_undone has is_blank e) as (λ b. are_in_order entry_below None (map (reset_made n) (cond b (e ∷ filter (is_undone has is_blank) es) (filter (is_undone has is_blank) es))) ≡ true) [
+        | true ↦ in_order n (reset_made n e) es two.0 two.1
+        | false ↦ all_in_order n es two.1
+      ]
+
+  -- and are of kinds that may stand there
+  all_may_stand : (n : ℕ) (es : List (Field × S)) → list_all (λ x. may_stand kinds.MapRr has x.0.kind) (resets n es) ≡ true
+  all_may_stand n [] = refl
+  all_may_stand n (e ∷ es) =
+      elim (is_undone has is_blank e) as (λ b. is_undone has is_blank e ≡ b → list_all (λ x. may_stand kinds.MapRr has x.0.kind) (map (reset_made n) (cond b (e ∷ filter (is_undone has is_blank) es) (filter (is_undone has is_blank) es))) ≡ true) [
+        | true ↦ λ t. and_from _ _ (turned (has e.0.kind) (stands_in kinds.MapRr e.0.kind) (not (is_blank e.1)) t) (all_may_stand n es)
+        | false ↦ λ t. all_may_stand n es
+      ] refl
+
+  acts_sorted : (m : FieldMap S) (a : Act) → is_sorted field_cmp (reset_by initial m a) ≡ true
+  acts_sorted m act.Reset = is_so _ (entries_sorted m)
+  acts_sorted m (act.DropField f) = refl
+  acts_sorted m _ = refl
+
+  module _ (too_deep : Kind → List Field → Bool) (is_of : Kind → E → Bool) (can_put : E → Bool) (spelling : E → List ℕ) where
+    abbrev effect : Kind → FieldMap S → List Field → Act → ℕ → MapEffect E
+    effect k m p a n = map_made has initial made is_blank k m p a n
+
+    entered_ready : (k : Kind) (m : FieldMap S) (f : Field) (p : List Field) (a : Act) (n : ℕ) → outer_fits has too_deep k (f ∷ p) a ≡ true → parts_ready is_of can_put spelling (effect k m (f ∷ p) a n) ≡ true → (may_stand k has f.kind && can_put_at is_of can_put f.kind (made f.kind (at initial m f) p a n)) ≡ true
+    entered_ready k m f p a n fit h = let e = enters has too_deep k f p a fit in and_from _ _ (and_from _ _ e.stands e.known) h
+
+    go_at_ready : (m : FieldMap S) (p : List Field) (a : Act) (n : ℕ) → outer_fits has too_deep kinds.MapGo p a ≡ true → parts_ready is_of can_put spelling (effect kinds.MapGo m p a n) ≡ true → IsReady is_of_map (go_can_put has is_of can_put) (go_spelling spelling) kinds.MapGo p a (effect kinds.MapGo m p a n)
+    go_at_ready m [] a n fit h = absurd (false≢true (own_act has too_deep kinds.MapGo a fit))
+    go_at_ready m (f ∷ p) a n fit h = (refl, entered_ready kinds.MapGo m f p a n fit h, λ asked. absurd (false≢true asked))
+
+    rr_at_ready : (m : FieldMap S) (p : List Field) (a : Act) (n : ℕ) → outer_fits has too_deep kinds.MapRr p a ≡ true → parts_ready is_of can_put spelling (effect kinds.MapRr m p a n) ≡ true → IsReady is_of_map (rr_can_put has is_of can_put spelling) (rr_spelling spelling) kinds.MapRr p a (effect kinds.MapRr m p a n)
+    rr_at_ready m [] a n fit h =
+        let es = reset_by initial m a in
+        (refl, and_from _ _ (all_in_order n es (acts_sorted m a)) (all_both (λ x. may_stand kinds.MapRr has x.0.kind) (is_reset_ready is_of can_put spelling) (resets n es) (all_may_stand n es) h), λ asked. refl)
+    rr_at_ready m (f ∷ p) a n fit h = (refl, entered_ready kinds.MapRr m f p a n fit h, λ asked. absurd (false≢true asked))
+
+    abbrev GoReady : Kind → FieldMap S → List Field → Act → ℕ → Type 0
+    GoReady k m p a n = outer_fits has too_deep k p a ≡ true → parts_ready is_of can_put spelling (effect k m p a n) ≡ true → IsReady is_of_map (go_can_put has is_of can_put) (go_spelling spelling) k p a (effect k m p a n)
+
+    abbrev RrReady : Kind → FieldMap S → List Field → Act → ℕ → Type 0
+    RrReady k m p a n = outer_fits has too_deep k p a ≡ true → parts_ready is_of can_put spelling (effect k m p a n) ≡ true → IsReady is_of_map (rr_can_put has is_of can_put spelling) (rr_spelling spelling) k p a (effect k m p a n)
+
+    -- what is generated of a map can be put
+    pub go_ready : (k : Kind) → go_has k ≡ true → (m : FieldMap S) (p : List Field) (a : Act) (n : ℕ) → fits k p a ≡ true → map_too_deep has too_deep k p ≡ false → (e : MapEffect E) → e ≡ effect k m p a n → parts_ready is_of can_put spelling e ≡ true → IsReady is_of_map (go_can_put has is_of can_put) (go_spelling spelling) k p a e
+    go_ready k is m p a n fit shallow e same h =
+        subst (IsReady is_of_map (go_can_put has is_of can_put) (go_spelling spelling) k p a) (sym same)
+        (subst (λ l. GoReady l m p a n) (sym (same_kind_is k kinds.MapGo is)) (go_at_ready m p a n) (and_from _ _ fit (ap not shallow)) (ap (parts_ready is_of can_put spelling) (sym same) ∙ h))
+
+    pub rr_ready : (k : Kind) → rr_has k ≡ true → (m : FieldMap S) (p : List Field) (a : Act) (n : ℕ) → fits k p a ≡ true → map_too_deep has too_deep k p ≡ false → (e : MapEffect E) → e ≡ effect k m p a n → parts_ready is_of can_put spelling e ≡ true → IsReady is_of_map (rr_can_put has is_of can_put spelling) (rr_spelling spelling) k p a e
+    rr_ready k is m p a n fit shallow e same h =
+        subst (IsReady is_of_map (rr_can_put has is_of can_put spelling) (rr_spelling spelling) k p a) (sym same)
+        (subst (λ l. RrReady l m p a n) (sym (same_kind_is k kinds.MapRr is)) (rr_at_ready m p a n) (and_from _ _ fit (ap not shallow)) (ap (parts_ready is_of can_put spelling) (sym same) ∙ h))

@@ -1,0 +1,11 @@
+use crdt_core::Field;
+use field_codec::ListOf;
+
+/// What an update of a map does, where `E` are the effects of its fields.
+#[derive(Drop)]
+pub enum MapEffect<E> {
+    /// An update of one field.
+    At(Field, E),
+    /// A reset or a drop: what it undoes of each field, ascending by field.
+    Resets(ListOf<(Field, E)>),
+}

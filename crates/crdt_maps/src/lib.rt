@@ -1,0 +1,18 @@
+//! Maps whose fields are of the kinds of an inner type: one whose fields stay, and one whose fields can be dropped.
+#![tactic(auto)]
+
+mod copies;
+mod effect;
+mod effect_form;
+mod entry_form;
+mod fields;
+mod made;
+mod map_go;
+mod map_rr;
+mod steps;
+mod values;
+
+pub use effect::MapEffect;
+pub use fields::Fields;
+pub use map_go::MapGo;
+pub use map_rr::MapRr;

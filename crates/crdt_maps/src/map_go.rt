@@ -1,0 +1,149 @@
+ghost use Rattle.std.specs.Prelude.{◌≡◌, IfOk};
+ghost use Rattle.std.specs.FinMap.{empty};
+ghost use Rattle.crdt_maps.specs.Maps.{go_has, map_step, map_made, map_stamp, map_too_deep, map_names, map_holds, go_value, go_blank};
+ghost use Rattle.crdt_maps.specs.Meaning.{go_meaning};
+ghost use Rattle.crdt_maps.specs.EffectForm.{is_of_map, go_can_put, go_is_spelled, go_spelling, go_at, go_spells};
+ghost use Rattle.crdt_maps.specs.MapLaws.{go_law, go_in_maps};
+
+use crate::effect_form::GoForm;
+use crate::made::{effect_of, leads_too_deep};
+use crate::steps::apply_effect;
+use crate::values::members;
+use crate::{Fields, MapEffect, copies};
+use crdt_core::{Act, Crdt, Field, GenError, Kind, Op, Value, fits_at, reads_state};
+use field_codec::{Form, TakeError, put_whole};
+use site_vector::Dot;
+use std::alloc::{AllocError, Global};
+use std::marker::PhantomData;
+
+/// The map whose fields stay: it shows each field that was updated.
+pub struct MapGo<I: Crdt> {
+    inner: PhantomData<I>,
+}
+
+impl<I: Crdt> Crdt for MapGo<I> {
+    type State = Fields<I::State>;
+
+    type Effect = MapEffect<I::Effect>;
+
+    ghost has = { go_has };
+
+    ghost too_deep = { map_too_deep I.has I.too_deep };
+
+    ghost initial = { λ k. empty };
+
+    ghost step = { map_step I.has I.initial I.step };
+
+    ghost made = { map_made I.has I.initial I.made I.is_blank };
+
+    ghost value_of = { go_value I.value_of };
+
+    ghost stamp_of = { map_stamp I.stamp_of };
+
+    ghost meaning = { go_meaning I.has I.meaning };
+
+    ghost names = { map_names I.has I.names };
+
+    ghost holds = { map_holds I.holds };
+
+    ghost laws = { go_law I.laws I.in_maps };
+
+    ghost is_of = { is_of_map };
+
+    ghost can_put = { go_can_put I.has I.is_of I.can_put };
+
+    ghost is_spelled = { go_is_spelled I.has I.is_of I.is_spelled };
+
+    ghost spelling = { go_spelling I.spelling };
+
+    ghost reading = { λ k. go_at I.has I.reading };
+
+    ghost spells = { go_spells I.spells go_has };
+
+    ghost is_blank = { go_blank };
+
+    ghost in_maps = { go_in_maps I.laws I.in_maps };
+
+    fn has(kind: Kind) -> bool {
+        kind == Kind::MapGo
+    }
+
+    fn empty(alloc: Global, kind: Kind) -> Result<Fields<I::State>, AllocError> {
+        Ok(Fields::new(alloc))
+    }
+
+    fn needs_state(kind: Kind, op: &Op) -> bool {
+        reads_state(kind)
+    }
+
+    fn is_too_deep(kind: Kind, path: &[Field]) -> bool {
+        leads_too_deep::<I>(kind, path)
+    }
+
+    fn is_blank(state: &Fields<I::State>) -> bool {
+        state.is_empty()
+    }
+
+    fn generate(
+        alloc: Global,
+        kind: Kind,
+        path: &[Field],
+        act: &Act,
+        state: &Fields<I::State>,
+        now: u64,
+    ) -> Result<MapEffect<I::Effect>, GenError> {
+        if leads_too_deep::<I>(kind, path) {
+            return Err(GenError::TooDeep);
+        }
+        if !fits_at(kind, path, act) {
+            return Err(GenError::BadOp);
+        }
+        Ok(effect_of::<I>(alloc, kind, path, act, state, now)?)
+    }
+
+    fn stamp(effect: &MapEffect<I::Effect>) -> Option<u64> {
+        match effect {
+            MapEffect::At(_, inner) => I::stamp(inner),
+            MapEffect::Resets(_) => None,
+        }
+    }
+
+    fn apply(
+        alloc: Global,
+        state: &mut Fields<I::State>,
+        dot: Dot,
+        effect: &MapEffect<I::Effect>,
+    ) -> Result<(), AllocError> {
+        apply_effect::<I>(alloc, state, dot, effect)
+    }
+
+    fn copy(alloc: Global, state: &Fields<I::State>) -> Result<Fields<I::State>, AllocError> {
+        copies::copy_fields::<I>(alloc, state)
+    }
+
+    fn copy_effect(
+        alloc: Global,
+        effect: &MapEffect<I::Effect>,
+    ) -> Result<MapEffect<I::Effect>, AllocError> {
+        copies::copy_effect::<I>(alloc, effect)
+    }
+
+    fn value(alloc: Global, state: &Fields<I::State>) -> Result<Value, AllocError> {
+        Ok(Value::Fields(members::<I>(alloc, state)?))
+    }
+
+    fn put_effect(out: &mut Vec<u8>, effect: &MapEffect<I::Effect>) -> Result<(), AllocError> {
+        let form: GoForm<I> = GoForm { inner: PhantomData };
+        put_whole(&form, out, effect)
+    }
+
+    fn take_effect(
+        alloc: Global,
+        kind: Kind,
+        bytes: &[u8],
+        at: usize,
+    ) -> Result<(MapEffect<I::Effect>, usize), TakeError> {
+        let form: GoForm<I> = GoForm { inner: PhantomData };
+        form.take(alloc, bytes, at)
+    }
+}

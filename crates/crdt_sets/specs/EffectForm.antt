@@ -1,0 +1,162 @@
+-- The bytes of sets' effects: elements in ascending order, and where they can be removed, what is done and the dots of each.
+use Rattle.std.specs.Prelude.{◌≡◌, ℕ, zero, suc, ◌^◌, ◌≤◌, ◌==◌, Bool, true, false, ◌&&◌, ◌||◌, eqb, nat_le, List, [], ◌∷◌, ◌++◌, if◌then◌else◌, refl}
+use Rattle.std.proofs.Common.{arith, ap}
+use Rattle.std.proofs.lemmas.Bool.{false≢true}
+use Rattle.std.specs.declared.cmp.Ordering.{Ordering}
+use Rattle.field_codec.specs.Spelling.{number, is_number, text, is_text, list, are_members, is_list, is_below}
+use Rattle.field_codec.specs.Reading.{Read, text_at, list_at, checked_at, then_at, mapped_at}
+use Rattle.field_codec.specs.Lawful.{IsForm}
+use Rattle.field_codec.specs.FormLaws.{any_text_form, list_form, checked_form, then_form, mapped_form, lt_holds, le_from, both_true}
+use Rattle.field_codec.specs.Tagged.{tagged_at, tagged_form, shape_form}
+use Rattle.site_vector.specs.declared.ids.Dot.{Dot}
+use Rattle.crdt_core.specs.declared.kind.Kind.{Kind}
+use Rattle.crdt_core.specs.Texts.{text_cmp}
+use Rattle.crdt_core.specs.Spelled.{is_between, are_dots, is_dots, dots, dots_at}
+use Rattle.crdt_core.specs.SpelledLaws.{dots_held_form}
+use Rattle.crdt_core.specs.EffectForm.{SpellsEffects}
+use Rattle.crdt_sets.specs.declared.named.Named.{Named}
+use Rattle.crdt_sets.specs.declared.effect.SetEffect.{SetEffect}
+use Rattle.crdt_sets.specs.declared.effect.SetEffect.TheVariants.{Add, Remove, Reset}
+
+abbrev pub has_some : {A : Type 0} → List A → Bool
+has_some [] = false
+has_some (x ∷ xs) = true
+
+-- ---- the elements that are added, at least one
+
+abbrev pub can_put_texts : List (List ℕ) → Bool
+can_put_texts ts = has_some ts && are_members (is_below text_cmp) (λ t. true) ts
+
+abbrev pub are_texts_spelled : List (List ℕ) → Bool
+are_texts_spelled ts = has_some ts && is_list (is_below text_cmp) is_text ts
+
+abbrev pub texts_spelling : List (List ℕ) → List ℕ
+texts_spelling ts = list text ts
+
+unfoldable pub texts_at : List ℕ → ℕ → Read (List (List ℕ))
+texts_at = checked_at has_some (list_at (is_below text_cmp) text_at)
+
+pub texts_form : IsForm can_put_texts are_texts_spelled texts_spelling texts_at
+unfolding texts_at
+texts_form = checked_form has_some _ _ _ _ (list_form (is_below text_cmp) (λ t. true) is_text text text_at any_text_form)
+
+-- ---- an element with its dots
+
+abbrev pub named_cmp : Named → Named → Ordering
+named_cmp m n = text_cmp m.text n.text
+
+abbrev pub is_named : Named → Bool
+is_named n = is_text n.text && is_dots n.dots
+
+abbrev pub named : Named → List ℕ
+named n = text n.text ++ dots n.dots
+
+abbrev pub named_of : List ℕ × List Dot → Named
+named_of p = record { text = p.0; dots = p.1 }
+
+unfoldable pub named_at : List ℕ → ℕ → Read Named
+named_at = mapped_at named_of (then_at text_at (λ _. dots_at))
+
+pub named_form : IsForm (λ n. are_dots n.dots) is_named named named_at
+unfolding named_at
+named_form =
+    let whole = then_form (λ t. true) is_text text text_at (λ _. are_dots) (λ _. is_dots) (λ _. dots) (λ _. dots_at) any_text_form (λ _ _. dots_held_form) in
+    mapped_form named_of (λ n. (n.text, n.dots)) _ _ _ _ (λ _. refl) (λ _ _. refl) whole
+
+-- ---- ascending lists of these
+
+abbrev pub can_put_list : List Named → Bool
+can_put_list ns = are_members (is_below named_cmp) (λ n. are_dots n.dots) ns
+
+abbrev pub is_list_spelled : List Named → Bool
+is_list_spelled ns = is_list (is_below named_cmp) is_named ns
+
+abbrev pub list_spelling : List Named → List ℕ
+list_spelling ns = list named ns
+
+abbrev pub named_list_at : List ℕ → ℕ → Read (List Named)
+named_list_at = list_at (is_below named_cmp) named_at
+
+pub named_list_form : IsForm can_put_list is_list_spelled list_spelling named_list_at
+named_list_form = list_form (is_below named_cmp) (λ n. are_dots n.dots) is_named named named_at named_form
+
+pub some_named_form : IsForm (λ ns. has_some ns && can_put_list ns) (λ ns. has_some ns && is_list_spelled ns) list_spelling (checked_at has_some named_list_at)
+some_named_form = checked_form has_some can_put_list is_list_spelled list_spelling named_list_at named_list_form
+
+-- ---- what is done, and the list: that of an add and of a remove isn't empty
+
+abbrev pub set_mark : SetEffect → ℕ
+set_mark (Add ns) = 0
+set_mark (Remove ns) = 1
+set_mark (Reset ns) = 2
+
+abbrev pub can_put_set : SetEffect → Bool
+can_put_set (Add ns) = has_some ns && can_put_list ns
+can_put_set (Remove ns) = has_some ns && can_put_list ns
+can_put_set (Reset ns) = can_put_list ns
+
+abbrev pub is_set_spelled : SetEffect → Bool
+is_set_spelled (Add ns) = has_some ns && is_list_spelled ns
+is_set_spelled (Remove ns) = has_some ns && is_list_spelled ns
+is_set_spelled (Reset ns) = is_list_spelled ns
+
+abbrev pub set_rest : SetEffect → List ℕ
+set_rest (Add ns) = list_spelling ns
+set_rest (Remove ns) = list_spelling ns
+set_rest (Reset ns) = list_spelling ns
+
+abbrev pub set_spelling : SetEffect → List ℕ
+set_spelling e = number 1 (set_mark e) ++ set_rest e
+
+unfoldable pub set_rest_at : ℕ → List ℕ → ℕ → Read SetEffect
+set_rest_at mark =
+    if mark == 0 then mapped_at Add (checked_at has_some named_list_at)
+    else if mark == 1 then mapped_at Remove (checked_at has_some named_list_at)
+    else mapped_at Reset named_list_at
+
+unfoldable pub set_at : List ℕ → ℕ → Read SetEffect
+set_at = tagged_at (is_between 0 2) set_rest_at
+
+add_shape : (e : SetEffect) → (eqb (set_mark e) 0 && is_set_spelled e) ≡ true → (ns : List Named) × (Add ns ≡ e)
+add_shape (Add ns) h = (ns, refl)
+add_shape (Remove ns) h = absurd (false≢true h)
+add_shape (Reset ns) h = absurd (false≢true h)
+
+remove_shape : (e : SetEffect) → (eqb (set_mark e) 1 && is_set_spelled e) ≡ true → (ns : List Named) × (Remove ns ≡ e)
+remove_shape (Add ns) h = absurd (false≢true h)
+remove_shape (Remove ns) h = (ns, refl)
+remove_shape (Reset ns) h = absurd (false≢true h)
+
+reset_shape : (e : SetEffect) → (eqb (set_mark e) 2 && is_set_spelled e) ≡ true → (ns : List Named) × (Reset ns ≡ e)
+reset_shape (Add ns) h = absurd (false≢true h)
+reset_shape (Remove ns) h = absurd (false≢true h)
+reset_shape (Reset ns) h = (ns, refl)
+
+rest_form : (n : ℕ) → is_between 0 2 n ≡ true → IsForm (λ e. eqb (set_mark e) n && can_put_set e) (λ e. eqb (set_mark e) n && is_set_spelled e) set_rest (set_rest_at n)
+unfolding set_rest_at
+rest_form zero h = shape_form Add _ _ list_spelling _ _ _ _ (λ n. refl) (λ n. refl) (λ n. refl) add_shape some_named_form
+rest_form (suc zero) h = shape_form Remove _ _ list_spelling _ _ _ _ (λ n. refl) (λ n. refl) (λ n. refl) remove_shape some_named_form
+rest_form (suc (suc zero)) h = shape_form Reset _ _ list_spelling _ _ _ _ (λ n. refl) (λ n. refl) (λ n. refl) reset_shape named_list_form
+rest_form (suc (suc (suc n))) h = let le = le_from (suc (suc (suc n))) 2 (both_true (nat_le 0 (suc (suc (suc n)))) _ h).1 in absurd (omega arith)
+
+known : (e : SetEffect) → is_between 0 2 (set_mark e) ≡ true
+known (Add n) = refl
+known (Remove n) = refl
+known (Reset ds) = refl
+
+small : (n : ℕ) → is_between 0 2 n ≡ true → is_number 1 n ≡ true
+small n h = let le = le_from n 2 (both_true (nat_le 0 n) _ h).1 in lt_holds n (256 ^ 1) (omega (arith, le))
+
+pub set_form : IsForm can_put_set is_set_spelled set_spelling set_at
+unfolding set_at
+set_form = tagged_form (is_between 0 2) set_mark can_put_set is_set_spelled set_rest set_rest_at known small rest_form
+
+-- every effect is one of the kind
+abbrev pub is_of_kind : {E : Type 0} → Kind → E → Bool
+is_of_kind k e = true
+
+pub go_spells : (has : Kind → Bool) → SpellsEffects has is_of_kind can_put_texts are_texts_spelled texts_spelling (λ k. texts_at)
+go_spells has = record { form = λ k h. texts_form }
+
+pub set_spells : (has : Kind → Bool) → SpellsEffects has is_of_kind can_put_set is_set_spelled set_spelling (λ k. set_at)
+set_spells has = record { form = λ k h. set_form }

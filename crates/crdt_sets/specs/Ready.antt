@@ -1,0 +1,124 @@
+-- The effects that are generated of sets can be put.
+use Rattle.std.proofs.Common.{◌≡◌, Bool, true, false, ◌&&◌, ◌||◌, ℕ, List, [], ◌∷◌, refl, sym, ◌∙◌, ap, subst, Option, Some, None}
+use Rattle.std.specs.Prelude.{◌==◌, ◌++◌, map, nat_le, length}
+use Rattle.std.specs.List.{list_all}
+use Rattle.std.specs.FinMap.{keys}
+use Rattle.std.proofs.lemmas.Bool.{false≢true}
+use Rattle.field_codec.specs.Spelling.{are_in_order, are_members, is_below}
+use Rattle.field_codec.specs.FormLaws.{both_true, and_true}
+use Rattle.site_vector.specs.declared.ids.Dot.{Dot}
+use Rattle.crdt_core.specs.declared.kind.Kind.{Kind}
+use Rattle.crdt_core.specs.declared.kind.Kind.TheVariants.{SetGo, SetAw, SetRw}
+use Rattle.crdt_core.specs.declared.object.Field.{Field}
+use Rattle.crdt_core.specs.declared.operation.Act.{Act}
+use Rattle.crdt_core.specs.declared.operation.Act.TheVariants as act
+use Rattle.crdt_core.specs.Fits.{names_some, allows, fits}
+use Rattle.crdt_core.specs.Leaves.{IsLeaf, fits_leaf}
+use Rattle.crdt_core.specs.KeptSteps.{has_dots_of}
+use Rattle.crdt_core.specs.Kept.{dots_of, is_kept}
+use Rattle.crdt_core.specs.Texts.{text_cmp, is_in, ascending, in_ascending, same_text_itself}
+use Rattle.crdt_core.specs.Spelled.{are_dots}
+use Rattle.crdt_core.specs.EffectForm.{HoldsSpelled, IsReady, reset_tag, begins_with, asks_reset}
+use Rattle.crdt_core.specs.Ready.{keys_in_order, kept_spelled}
+use Rattle.crdt_sets.specs.Elements.{Elements, at, named_at, keeps_dot}
+use Rattle.crdt_sets.specs.ElementSteps.{kept_in}
+use Rattle.crdt_sets.specs.Meaning.{added_by}
+use Rattle.crdt_sets.specs.SetGo.{Grown, go_made, go_holds}
+use Rattle.crdt_sets.specs.Sets.{set_made}
+use Rattle.crdt_sets.specs.declared.named.Named.{Named}
+use Rattle.crdt_sets.specs.EffectForm.{has_some, can_put_texts, texts_spelling, named_cmp, can_put_list, can_put_set, set_spelling, is_of_kind}
+
+-- ---- texts in order, of which there are some
+
+some_of : (xs : List (List ℕ)) (q : List ℕ) → is_in xs q ≡ true → has_some xs ≡ true
+some_of [] q h = absurd (false≢true h)
+some_of (x ∷ xs) q h = refl
+
+some_ascending : (xs : List (List ℕ)) → names_some xs ≡ true → has_some (ascending xs) ≡ true
+some_ascending [] h = absurd (false≢true h)
+some_ascending (x ∷ xs) h = some_of (ascending (x ∷ xs)) x (in_ascending (x ∷ xs) x ∙ ap (λ b. b || is_in xs x) (same_text_itself x))
+
+all_true : {A : Type 0} (xs : List A) → list_all (λ x. true) xs ≡ true
+all_true [] = refl
+all_true (x ∷ xs) = all_true xs
+
+in_order : (xs : List (List ℕ)) → are_in_order (is_below text_cmp) None (ascending xs) ≡ true
+in_order xs = keys_in_order _
+
+-- ---- elements with what is kept of them
+
+named_order : (m : Elements) (before : List ℕ) (xs : List (List ℕ)) → are_in_order (is_below text_cmp) (Some before) xs ≡ true → are_in_order (is_below named_cmp) (Some (record { text = before; dots = dots_of (at m before) })) (named_at m xs) ≡ true
+named_order m before [] h = refl
+named_order m before (x ∷ xs) h =
+    let p = both_true (is_below text_cmp before x) (are_in_order (is_below text_cmp) (Some x) xs) h in
+    and_true (is_below text_cmp before x) _ p.0 (named_order m x xs p.1)
+
+named_ordered : (m : Elements) (xs : List (List ℕ)) → are_in_order (is_below text_cmp) None xs ≡ true → are_in_order (is_below named_cmp) None (named_at m xs) ≡ true
+named_ordered m [] h = refl
+named_ordered m (x ∷ xs) h = named_order m x xs h
+
+named_spelled : (m : Elements) → HoldsSpelled keeps_dot m → (xs : List (List ℕ)) → list_all (λ n. are_dots n.dots) (named_at m xs) ≡ true
+named_spelled m h [] = refl
+named_spelled m h (x ∷ xs) = and_true (are_dots (dots_of (at m x))) _ (kept_spelled (at m x) (λ d k. h d (kept_in m x d k))) (named_spelled m h xs)
+
+list_ready : (m : Elements) → HoldsSpelled keeps_dot m → (xs : List (List ℕ)) → are_in_order (is_below text_cmp) None xs ≡ true → can_put_list (named_at m xs) ≡ true
+list_ready m h xs o = and_true (are_in_order (is_below named_cmp) None (named_at m xs)) _ (named_ordered m xs o) (named_spelled m h xs)
+
+some_named : (m : Elements) (xs : List (List ℕ)) → has_some xs ≡ true → has_some (named_at m xs) ≡ true
+some_named m [] h = absurd (false≢true h)
+some_named m (x ∷ xs) h = refl
+
+some_ready : (m : Elements) → HoldsSpelled keeps_dot m → (xs : List (List ℕ)) → names_some xs ≡ true → (has_some (named_at m (ascending xs)) && can_put_list (named_at m (ascending xs))) ≡ true
+some_ready m h xs some = and_true (has_some (named_at m (ascending xs))) _ (some_named m (ascending xs) (some_ascending xs some)) (list_ready m h (ascending xs) (in_order xs))
+
+-- ---- acts
+
+set_allowed : (m : Elements) → HoldsSpelled keeps_dot m → (a : Act) → allows SetAw a ≡ true → can_put_set (set_made m a) ≡ true
+set_allowed m h (act.Add xs) ok = some_ready m h xs (no_other (names_some xs) ok)
+  where
+    no_other : (b : Bool) → (b || false) ≡ true → b ≡ true
+    no_other true e = refl
+    no_other false e = e
+set_allowed m h (act.Remove xs) ok = some_ready m h xs (no_other (names_some xs) ok)
+  where
+    no_other : (b : Bool) → (b || false) ≡ true → b ≡ true
+    no_other true e = refl
+    no_other false e = e
+set_allowed m h act.Reset ok = list_ready m h (keys m) (keys_in_order m)
+set_allowed m h _ ok = refl
+
+reset_made : (m : Elements) (p : List Field) (a : Act) → asks_reset p a ≡ true → begins_with 2 (set_spelling (set_made m a)) ≡ true
+reset_made m [] act.Reset h = refl
+reset_made m [] _ h = absurd (false≢true h)
+reset_made m (f ∷ p) a h = absurd (false≢true h)
+
+set_ready : (k : Kind) → reset_tag k ≡ 2 → (m : Elements) (p : List Field) (a : Act) → allows SetAw a ≡ true → HoldsSpelled keeps_dot m → IsReady is_of_kind can_put_set set_spelling k p a (set_made m a)
+set_ready k tag m p a ok h = (refl, set_allowed m h a ok, λ asked. subst (λ n. begins_with n (set_spelling (set_made m a)) ≡ true) (sym tag) (reset_made m p a asked))
+
+aw_leaf : IsLeaf SetAw
+aw_leaf l = refl
+
+rw_leaf : IsLeaf SetRw
+rw_leaf l = refl
+
+go_leaf : IsLeaf SetGo
+go_leaf l = refl
+
+pub aw_ready : (k : Kind) → k ≡ SetAw → (m : Elements) (p : List Field) (a : Act) → fits k p a ≡ true → HoldsSpelled keeps_dot m → IsReady is_of_kind can_put_set set_spelling k p a (set_made m a)
+aw_ready k e m p a ok h = set_ready k (ap reset_tag e) m p a (fits_leaf SetAw aw_leaf p a (subst (λ l. fits l p a ≡ true) e ok)).1 h
+
+pub rw_ready : (k : Kind) → k ≡ SetRw → (m : Elements) (p : List Field) (a : Act) → fits k p a ≡ true → HoldsSpelled keeps_dot m → IsReady is_of_kind can_put_set set_spelling k p a (set_made m a)
+rw_ready k e m p a ok h = set_ready k (ap reset_tag e) m p a (fits_leaf SetRw rw_leaf p a (subst (λ l. fits l p a ≡ true) e ok)).1 h
+
+go_allowed : (a : Act) → allows SetGo a ≡ true → (can_put_texts (ascending (added_by a)) ≡ true) × ((p : List Field) → asks_reset p a ≡ true → false ≡ true)
+go_allowed (act.Add xs) ok = (and_true (has_some (ascending xs)) _ (some_ascending xs ok) (and_true (are_in_order (is_below text_cmp) None (ascending xs)) _ (in_order xs) (all_true (ascending xs))), λ p. no_reset p)
+  where
+    no_reset : (p : List Field) → asks_reset p (act.Add xs) ≡ true → false ≡ true
+    no_reset [] h = h
+    no_reset (f ∷ p) h = h
+go_allowed _ ok = absurd (false≢true ok)
+
+pub go_ready : (k : Kind) → k ≡ SetGo → (s : Grown) (p : List Field) (a : Act) (n : ℕ) → fits k p a ≡ true → IsReady is_of_kind can_put_texts texts_spelling k p a (go_made k s p a n)
+go_ready k e s p a n ok =
+    let g = go_allowed a (fits_leaf SetGo go_leaf p a (subst (λ l. fits l p a ≡ true) e ok)).1 in
+    (refl, g.0, λ asked. absurd (false≢true (g.1 p asked)))
