@@ -42,3 +42,11 @@ pub update_ok : (r : Result (Vec Step) AllocError) (m new : Machine) (name : Lis
     → IfOk r (λ lines. NotesUpdate m name o (effect_at m o op t) t lines.items new) → IfOk r (λ lines. Acts m (command.Update name o op) lines.items new)
 update_ok (Ok v) m new name o op t made s f e h = update_acts m new name o op t v.items made s f e h
 update_ok (Err x) m new name o op t made s f e h = tt
+
+-- a transaction that has as many updates as may be
+pub update_limit : (r : Result (Vec Step) AllocError) (m : Machine) (name : List ℕ) (o : ObjectId) (op : Op) (t : ℕ × List Change) → m.made ≡ true → session_in m name ≡ Some (Some t) → fits o.kind op.path op.act ≡ true → eqb (length t.1) 256 ≡ true
+    → IfOk r (λ lines. lines.items ≡ step.LimitUpdates ∷ []) → IfOk r (λ lines. Acts m (command.Update name o op) lines.items m)
+update_limit (Ok v) m name o op t made s f e h =
+    let due : first_due (dues m (command.Update name o op)) ≡ Some step.LimitUpdates = rw made (rw s (rw f (rw e refl))) in
+    subst (ActsBy m (command.Update name o op) v.items m) (sym due) (h, refl)
+update_limit (Err x) m name o op t made s f e h = tt

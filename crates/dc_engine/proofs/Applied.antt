@@ -1,4 +1,7 @@
 -- Updates that are applied one by one, and stored one by one.
+use Rattle.crdt_core.specs.declared.object.Field.{Field}
+use Rattle.crdt_core.specs.declared.operation.Act.{Act}
+use Rattle.crdt_core.specs.Kinds.{reads_state}
 use Rattle.crdt_core.specs.declared.kind.Kind.{Kind}
 use Rattle.std.proofs.lemmas.Bool.Decides.{nat_tests}
 use Rattle.std.proofs.Common.{Option, Some, None, ◌≤◌, arith, add-one, get_or, ◌≡◌, ℕ, ◌+◌, ◌<◌, ◌++◌, ◌∷◌, [], Bool, true, false, List, refl, cond, ap, ◌∙◌, sym, subst, append_assoc, length, take, drop}
@@ -38,10 +41,10 @@ committed_more t time i cs c o old before after n e h k =
     more ∙ (ap (λ l. l ++ entries (same_object c.object o)) h ∙ (append_assoc old _ _ ∙ ap (λ l. old ++ l)
     (ap (λ l. committed_of t time 1 (take i cs) o ++ l) (sym last) ∙ (sym (committed_of-append t time 1 (take i cs) (c ∷ []) o) ∙ ap (λ l. committed_of t time 1 l o) (sym (taken cs i c n e))))))
 
-pub visible_next : (s i : ℕ) (us : List Committed) (before after first : ObjectState) → let u : Committed = get_or us i (record { dot = record { tx = record { site = 0; part = 0; time = 0 }; index = 0 }; time = 0; effect = pos 0 }) in i < length us → first ≡ applied_upto s before (drop i us)
+pub visible_next : (s i : ℕ) (us : List Committed) (u : Committed) (before after first : ObjectState) → i < length us → u ≡ get_or us i u → first ≡ applied_upto s before (drop i us)
     → after ≡ (if nat_le u.time s then kinds.step before u.dot u.effect else before) → first ≡ applied_upto s after (drop (i + 1) us)
-visible_next s i us before after first n h k =
-    h ∙ (ap (applied_upto s before) (drop_more us i _ n) ∙ ap (λ st. applied_upto s st (drop (i + 1) us)) (sym k))
+visible_next s i us u before after first n e h k =
+    h ∙ (ap (applied_upto s before) (drop_more us i u n ∙ ap (λ v. v ∷ drop (i + 1) us) (sym e)) ∙ ap (λ st. applied_upto s st (drop (i + 1) us)) (sym k))
 
 pub own_next : (o : ObjectId) (t : TxId) (i : ℕ) (cs : List Change) (c : Change) (before after first : ObjectState) → i < length cs → c ≡ get_or cs i c → first ≡ applied_own o t (i + 1) before (drop i cs)
     → after ≡ (if same_object c.object o then kinds.step before (record { tx = t; index = i + 1 }) c.effect else before) → first ≡ applied_own o t (i + 1 + 1) after (drop (i + 1) cs)
@@ -87,3 +90,7 @@ kept_more kind latest r s last later us new u h t l k m e =
       is_latest = m ∙ (ap (λ st. kinds.step st u.dot u.effect) was ∙ sym (applied_snoc (kinds.initial kind) us u));
       until = upto_snoc later us u (upto_later last later us h k.until) t;
     })
+
+-- where the effect doesn't depend on the state, any state gives it
+pub made_alike : (k : Kind) (s t : ObjectState) (p : List Field) (a : Act) (n : ℕ) → kinds.has k ≡ true → reads_state k ≡ false → kinds.made k s p a n ≡ kinds.made k t p a n
+made_alike k s t p a n h r = kinds.laws.unread k s t p a n h r

@@ -92,7 +92,7 @@ impl Machine {
             Command::Session { name, site } => self.make_session(name, site),
             Command::Begin { name, part } => self.begin(name, part),
             Command::Read { name, object } => self.read(name, object),
-            Command::Update { name, object, op } => self.update(name, object, op),
+            Command::Update { name, object, op } => self.update(name, object, &op),
             Command::Commit { name, steps } => self.commit(name, steps),
             _ => Ok(Vec::new(self.alloc)),
         }
@@ -200,9 +200,9 @@ impl Machine {
         }
     }
 
-    fn update(&mut self, name: Text, object: ObjectId, op: Op) -> Result<Vec<Step>, AllocError>
+    fn update(&mut self, name: Text, object: ObjectId, op: &Op) -> Result<Vec<Step>, AllocError>
         requires { kinds.has object.kind ≡ true }
-        ensures { IfOk result (λ steps. Acts self.old (Command.Update name object op) steps.items self.new) }
+        ensures { IfOk result (λ steps. Acts self.old (Command.Update name object op.now) steps.items self.new) }
     {
         if !self.made {
             return only(self.alloc, Step::NoCluster);
@@ -222,7 +222,7 @@ impl Machine {
                     &self.store,
                     transaction,
                     &object,
-                    &op,
+                    op,
                     self.now,
                 )?;
                 self.note_update(name, object, change)
@@ -366,6 +366,7 @@ fn value_of(
 }
 
 /// An object as the effect of an operation depends on it: without updates, where it doesn't depend on them.
+#[tactic(auto, using(crate::proofs::Applied::made_alike))]
 fn object_for(
     alloc: Global,
     store: &Store,

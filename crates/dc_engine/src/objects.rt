@@ -1,8 +1,8 @@
+use crdt_any::Any;
 use crdt_core::Crdt;
-use crdt_counters::CounterPn;
 
 /// The kinds of objects that the program has. To the contracts they are the `kinds` of specs/ObjectKinds.
-pub(crate) type Objects = CounterPn;
+pub(crate) type Objects = Any;
 
 /// What an object is, to who reads or updates it.
 pub(crate) type ObjectState = <Objects as Crdt>::State;

@@ -58,6 +58,18 @@ fn refuses_in_order(rt: HostRuntime) -> Result<(), AllocError> {
 }
 
 #[test]
+fn plays_all_kinds(rt: HostRuntime) -> Result<(), AllocError> {
+    let script =
+        b"cluster 1 1\nclock 1.1 100\nsession a 1\nbegin a\nupdate a n counter_fat increment 4\nupdate a n counter_fat reset\nupdate a n counter_fat decrement 1\nread a n counter_fat\nupdate a s set_aw add \"oat milk\" tea\nupdate a s set_aw remove tea\nupdate a m map_rr in items set_aw add tea\nupdate a r register_lww assign x\nupdate a m map_rr in w counter_pn increment 1\ncommit a\nbegin a\nread a s set_aw\nread a m map_rr\nupdate a r register_lww assign y\nread a r register_lww\n";
+    let replies =
+        b"cluster 1 1\nnow 1.1 100\nsession a 1\nbegan a 1.1#101 [101]\nupdated a n counter_fat\nupdated a n counter_fat\nupdated a n counter_fat\nvalue a n counter_fat -1\nupdated a s set_aw\nupdated a s set_aw\nupdated a m map_rr\nupdated a r register_lww stamp 101\nbad op\nprepared 1.1 1.1#101 102\ndecided 1.1 1.1#101 [102]\nended a\nbegan a 1.1#103 [103]\nvalue a s set_aw [\"oat milk\"]\nvalue a m map_rr {\"set_aw:items\":[\"tea\"]}\nupdated a r register_lww stamp 103\nvalue a r register_lww \"y\"\n";
+    let (status, sink) = played(&rt, script)?;
+    assert_eq!(rt; status, Status::DONE);
+    assert_eq!(rt; sink.held(), replies.as_slice());
+    Ok(())
+}
+
+#[test]
 fn reads_lines_of_4096_bytes(rt: HostRuntime) -> Result<(), AllocError> {
     let script = repeated(rt.alloc(), b"cluster 1 1\nclock 1.1", b" ", 4_086, b"5\n")?;
     let (status, sink) = played(&rt, script.as_slice())?;

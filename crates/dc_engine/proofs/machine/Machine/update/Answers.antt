@@ -12,8 +12,8 @@ returns-in_ok-change-in-Some-Some c =
     let m = c.args.self.now in
     let made : m.made ≡ true = search rules in
     let is_open : session_in m c.args.name ≡ Some (Some t) = search rules in
-    let good : fits c.args.object.kind c.args.op.path c.args.op.act ≡ true = search rules in
+    let good : fits c.args.object.kind c.args.op.now.path c.args.op.now.act ≡ true = search rules in
     let room : eqb (length t.1) 256 ≡ false = grind (arith, nat_tests) in
-    let effect : c.in_ok-change-in-Some-Some.change.effect ≡ effect_at m c.args.object c.args.op t = c.in_ok-change-in-Some-Some.ensures.effect in
+    let effect : c.in_ok-change-in-Some-Some.change.effect ≡ effect_at m c.args.object c.args.op.now t = c.in_ok-change-in-Some-Some.ensures.effect in
     let noted = subst (λ e. IfOk c.note_update.result (λ lines. NotesUpdate m c.args.name c.args.object e t lines.items c.note_update.new.self)) effect (c.note_update.ensures t is_open) in
-    update_ok c.note_update.result m c.note_update.new.self c.args.name c.args.object c.args.op t made is_open good room noted
+    update_ok c.note_update.result m c.note_update.new.self c.args.name c.args.object c.args.op.now t made is_open good room noted
