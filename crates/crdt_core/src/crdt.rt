@@ -1,4 +1,4 @@
-ghost use Rattle.std.specs.Prelude.{◌≡◌, ◌≤◌, ◌↔◌, ◌++◌, ℕ, List, length, Bool, true, false, Option, IsTrue, OnOk, OnErr, IfOk};
+ghost use Rattle.std.specs.Prelude.{◌≡◌, ◌≤◌, ◌↔◌, ◌++◌, ℕ, List, length, Bool, true, false, Option, OnOk, OnErr, IfOk};
 ghost use Rattle.field_codec.specs.Reading.{Read, Gives};
 ghost use Rattle.site_vector.specs.declared.ids.Dot.{Dot};
 ghost use Rattle.crdt_core.specs.declared.kind.Kind.{Kind};
@@ -122,9 +122,8 @@ pub trait Crdt {
         state: &Self::State,
         now: u64,
     ) -> Result<Self::Effect, GenError>
-        requires { IsTrue (has kind) }
         ensures made { IfOk result (λ e. e ≡ made kind state.now path.now act.now now) }
-        ensures ready { HoldsSpelled holds state.now → IfOk result (λ e. IsReady is_of can_put spelling kind path.now act.now e) }
+        ensures ready { has kind ≡ true → HoldsSpelled holds state.now → IfOk result (λ e. IsReady is_of can_put spelling kind path.now act.now e) }
         ensures fitting { OnOk result ((fits kind path.now act.now ≡ true) × (too_deep kind path.now ≡ false)) }
         ensures too_deep { (result ≡ Err GenError.TooDeep) ↔ (too_deep kind path.now ≡ true) }
         ensures bad_op { (result ≡ Err GenError.BadOp) ↔ ((fits kind path.now act.now ≡ false) × (too_deep kind path.now ≡ false)) };
@@ -193,8 +192,7 @@ pub trait Crdt {
         bytes: &[u8],
         at: usize,
     ) -> Result<(Self::Effect, usize), TakeError>
-        requires known { IsTrue (has kind) }
-        requires within { at ≤ length bytes.now }
+        requires { at ≤ length bytes.now }
         ensures answer { Gives result (reading kind bytes.now at) }
         ensures end { IfOk result (λ x. x.1 ≤ length bytes.now) };
 }

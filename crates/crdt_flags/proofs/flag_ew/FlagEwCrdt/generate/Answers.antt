@@ -7,4 +7,4 @@ use Rattle.crdt_flags.specs.Ready.{flag_ready}
 use Rattle.crdt_flags.proofs.flag_ew.FlagEwCrdt.generate.Goals as goal
 
 pub returns-clause-ready : goal.returns-clause-ready
-returns-clause-ready c = λ h. subst (IsReady is_of_kind can_put_flag flag_spelling c.args.kind c.args.path.now c.args.act.now) (sym c.in_ok-effect_of.ensures) (flag_ready c.args.kind (ap reset_tag (same_kind_is c.args.kind FlagEw c.requires)) c.args.state.now c.args.path.now c.args.act.now h)
+returns-clause-ready c = λ has h. subst (IsReady is_of_kind can_put_flag flag_spelling c.args.kind c.args.path.now c.args.act.now) (sym c.in_ok-effect_of.ensures) (flag_ready c.args.kind (ap reset_tag (same_kind_is c.args.kind FlagEw has)) c.args.state.now c.args.path.now c.args.act.now h)

@@ -7,4 +7,4 @@ use Rattle.crdt_sets.specs.Ready.{aw_ready}
 use Rattle.crdt_sets.proofs.set_aw.SetAwCrdt.generate.Goals as goal
 
 pub returns-clause-ready : goal.returns-clause-ready
-returns-clause-ready c = λ h. subst (IsReady is_of_kind can_put_set set_spelling c.args.kind c.args.path.now c.args.act.now) (sym c.in_ok-effect_of.ensures) (aw_ready c.args.kind (same_kind_is c.args.kind SetAw c.requires) c.args.state.now c.args.path.now c.args.act.now (search rules) h)
+returns-clause-ready c = λ has h. subst (IsReady is_of_kind can_put_set set_spelling c.args.kind c.args.path.now c.args.act.now) (sym c.in_ok-effect_of.ensures) (aw_ready c.args.kind (same_kind_is c.args.kind SetAw has) c.args.state.now c.args.path.now c.args.act.now (search rules) h)

@@ -7,4 +7,4 @@ use Rattle.crdt_sets.specs.Ready.{go_ready}
 use Rattle.crdt_sets.proofs.set_go.SetGoCrdt.generate.Goals as goal
 
 pub returns-clause-ready : goal.returns-clause-ready
-returns-clause-ready c = λ h. subst (IsReady is_of_kind can_put_texts texts_spelling c.args.kind c.args.path.now c.args.act.now) (sym c.in_ok-adds_of.ensures) (go_ready c.args.kind (same_kind_is c.args.kind SetGo c.requires) c.args.state.now c.args.path.now c.args.act.now c.args.now (search rules))
+returns-clause-ready c = λ has h. subst (IsReady is_of_kind can_put_texts texts_spelling c.args.kind c.args.path.now c.args.act.now) (sym c.in_ok-adds_of.ensures) (go_ready c.args.kind (same_kind_is c.args.kind SetGo has) c.args.state.now c.args.path.now c.args.act.now c.args.now (search rules))
