@@ -59,7 +59,7 @@ use Rattle.dc_engine.proofs.BeginLines.{false_if}
 le_pair : (n k : ℕ) → le (n ∷ []) (k ∷ []) ≡ nat_le n k
 le_pair n k = and-true (nat_le n k)
 
-max_zero : (n k : ℕ) → k ≡ 0 → max n k ≡ n
+pub max_zero : (n k : ℕ) → k ≡ 0 → max n k ≡ n
 max_zero n k h = omega arith
 
 first_is : (q : PartId) (others : List PartId) → one ∷ [] ≡ q ∷ others → one ≡ q

@@ -1,11 +1,10 @@
 -- The machine's answers as those of its state.
-use Rattle.std.proofs.Common.{arith, ◌≡◌, ℕ, ◌+◌, Bool, true, false, not, cond, eqb, ◌&&◌, ◌||◌, List, [], ◌∷◌, ◌++◌, length, take, Option, None, Some, refl, sym, ap, ◌∙◌, subst, append_assoc}
-use Rattle.std.specs.Prelude.{is_some, if◌then◌else◌, nat_le, ◌==◌, max, map, reverse}
+use Rattle.std.proofs.Common.{◌≡◌, ℕ, ◌+◌, Bool, true, false, not, ◌&&◌, ◌||◌, List, [], ◌∷◌, ◌++◌, length, Option, None, Some, refl, sym, ap, ◌∙◌, subst, append_assoc}
+use Rattle.std.specs.Prelude.{is_some, if◌then◌else◌, nat_le, ◌==◌, map, reverse}
 use Rattle.std.specs.List.{flat_map}
 use Rattle.std.specs.Str.{bytes_eq}
 use Rattle.std.proofs.lemmas.List.{reverse-append, map-append, length-map, append-nil}
 use Rattle.site_vector.specs.declared.ids.TxId.{TxId}
-use Rattle.site_vector.specs.Ids.{same_part}
 use Rattle.crdt_core.specs.declared.object.ObjectId.{ObjectId}
 use Rattle.crdt_core.specs.declared.operation.Op.{Op}
 use Rattle.crdt_core.specs.Objects.{same_object}
@@ -13,7 +12,7 @@ use Rattle.world_model.specs.declared.command.Command.{Command}
 use Rattle.world_model.specs.declared.command.Command.TheVariants as command
 use Rattle.world_model.specs.declared.step.Step.{Step}
 use Rattle.world_model.specs.declared.step.Step.TheVariants as step
-use Rattle.world_model.specs.Run.{Run, Line, lines_of}
+use Rattle.world_model.specs.Run.{Run, lines_of}
 use Rattle.world_model.specs.Refusals.{first_due, is_built, last_time}
 use Rattle.world_model.specs.Answers.{Asked, nothing, unreadable, asks, GoesOn, Answers, answered}
 use Rattle.reply_text.specs.Text.{text_of}
@@ -27,8 +26,12 @@ use Rattle.dc_engine.specs.ObjectKinds.{Effect, kinds}
 use Rattle.dc_engine.specs.Told.{state_by}
 use Rattle.dc_engine.specs.declared.player.Player.{Player}
 use Rattle.dc_engine.specs.Player.{AnswersAsked, ReachedBy}
-use Rattle.dc_engine.specs.Reading.{asked_of, is_unreadable, has_bad}
-use Rattle.dc_engine.proofs.Readings.{asked_of-take, has_bad-more}
+use Rattle.std.specs.Prelude.{⊤}
+use Rattle.std.specs.Io.BufRead.{strip_last}
+use Rattle.script_text.specs.declared.Parsed.{Parsed}
+use Rattle.script_text.specs.declared.Parsed.TheVariants as parsed
+use Rattle.dc_engine.specs.Reading.{reading_of, asked_as, asked_of, is_unreadable, has_bad, ReadsBelow, AsksBelow}
+use Rattle.dc_engine.proofs.Readings.{asked_of-take, has_bad-more, reads_below}
 use Rattle.dc_engine.specs.SessionTable.{session}
 use Rattle.dc_engine.specs.Kept.{applied_upto}
 use Rattle.dc_engine.specs.Stored as kept
@@ -37,10 +40,12 @@ use Rattle.dc_engine.specs.Machine.{session_in, is_some_change, IsMachine, Answe
 use Rattle.dc_engine.specs.State as state
 use Rattle.dc_engine.specs.State.{State, Open, Entry, one, transaction_at, is_open_in, changes_in, is_change, with_session, dot_at, upto, effects_on, stored_on, state_read, effect_of, made_cluster, ticked, made_session, began, updated, ended, committed, Acts, ActsBy, Does, DoesCommit, start}
 use Rattle.dc_engine.specs.Describes.{Describes}
+use Rattle.dc_engine.specs.InWorld.{InWorld}
 use Rattle.dc_engine.specs.Held.{as_change, entries_on, open_as, session_as, state_of, spelled, Reached}
 use Rattle.dc_engine.specs.Answered.{Answered}
 use Rattle.dc_engine.specs.Replies.{AnswersLine}
 use Rattle.dc_engine.proofs.RunLines.{unread, acts_goes, lawful, begins_empty}
+use Rattle.dc_engine.proofs.WorldRuns.{world_unread, acts_in, world_empty, lawful_calls}
 
 some_as : (s : Option (Option (ℕ × List Change))) → is_some s ≡ is_some (session_as s)
 some_as None = refl
@@ -180,35 +185,50 @@ acts_as m new c steps h =
     let due = ap (λ rows. first_due ((not (is_built kinds.has c), step.Unbuilt) ∷ rows)) (dues_as m c) in
     subst (ActsBy (state_of m) c steps (state_of new)) due (acts_by m new c steps (first_due ((not (is_built kinds.has c), step.Unbuilt) ∷ machine.dues m c)) h)
 
+-- a reading of a clock that is asked for is in range
+abbrev AsksLess : Asked → Type 0
+AsksLess (asks c) = ReadsBelow c
+AsksLess other = ⊤
+
+asks_less : (o : Option Parsed) → AsksBelow o → AsksLess (asked_as o)
+asks_less None h = tt
+asks_less (Some parsed.Nothing) h = tt
+asks_less (Some (parsed.Command c)) h = h
+
 -- the player goes on with the run
 pub record GoesWith (run : Run) (number : ℕ) (asked : Asked) (steps : List Step) (new : State) : Type 0 where
   pub more : Run
   pub goes : GoesOn kinds.has number run asked more
   pub describes : Describes new more
+  pub world : InWorld new more
   pub written : lines_of spelled more ≡ lines_of spelled run ++ flat_map text_of steps
 
 lines_more : (number : ℕ) (asked : Option Command) (steps : List Step) (run : Run) → lines_of spelled (answered number asked steps run) ≡ lines_of spelled run ++ flat_map text_of steps
 lines_more number asked [] run = sym (append-nil (lines_of spelled run))
 lines_more number asked (s ∷ steps) run = lines_more number asked steps (record { number = number; command = asked; step = s } ∷ run) ∙ append_assoc (lines_of spelled run) (text_of s) (flat_map text_of steps)
 
-goes_with : (old new : Player) (run : Run) (number : ℕ) (asked : Asked) (steps : List Step) → Describes (state_of old.machine) run → AnswersAsked old asked steps new → GoesWith run number asked steps (state_of new.machine)
-goes_with old new run number nothing steps d h = record {
+goes_with : (old new : Player) (run : Run) (number : ℕ) (asked : Asked) (steps : List Step) → AsksLess asked → Describes (state_of old.machine) run → InWorld (state_of old.machine) run → AnswersAsked old asked steps new → GoesWith run number asked steps (state_of new.machine)
+goes_with old new run number nothing steps below d j h = record {
   more = run;
   goes = refl;
   describes = subst (λ m. Describes (state_of m) run) (sym h.1) d;
+  world = subst (λ m. InWorld (state_of m) run) (sym h.1) j;
   written = sym (ap (λ l. lines_of spelled run ++ flat_map text_of l) h.0 ∙ append-nil (lines_of spelled run));
 }
-goes_with old new run number unreadable steps d h = record {
+goes_with old new run number unreadable steps below d j h = record {
   more = answered number None (step.Bad ∷ []) run;
   goes = refl;
   describes = subst (λ m. Describes (state_of m) (answered number None (step.Bad ∷ []) run)) (sym h.1) (unread (state_of old.machine) run number d);
+  world = subst (λ m. InWorld (state_of m) (answered number None (step.Bad ∷ []) run)) (sym h.1) (world_unread (state_of old.machine) run number d j);
   written = lines_more number None (step.Bad ∷ []) run ∙ ap (λ l. lines_of spelled run ++ flat_map text_of l) (sym h.0);
 }
-goes_with old new run number (asks c) steps d h =
-    let g = acts_goes (state_of old.machine) run number d c steps (state_of new.machine) (acts_as old.machine new.machine c steps h.0) in record {
+goes_with old new run number (asks c) steps below d j h =
+    let acts = acts_as old.machine new.machine c steps h.0 in
+    let g = acts_goes (state_of old.machine) run number d c steps (state_of new.machine) acts in record {
       more = answered number (Some c) steps run;
       goes = (steps, g.answer, refl);
       describes = g.after;
+      world = acts_in (state_of old.machine) run number d j c steps (state_of new.machine) below acts;
       written = lines_more number (Some c) steps run;
     }
 
@@ -225,10 +245,11 @@ reached_more : (old new : Player) (whole : List ℕ) (steps : List Step) (lines 
 reached_more old new whole steps lines bytes h r =
     let was = r.reached in
     let script = reverse (map asked_of lines) in
-    let g = goes_with old new was.run (length script + 1) (asked_of whole) steps was.describes h in record {
+    let g = goes_with old new was.run (length script + 1) (asked_of whole) steps (asks_less (reading_of (strip_last 13 whole)) (reads_below (strip_last 13 whole))) was.describes was.world h in record {
       reached = record {
         run = g.more;
         describes = g.describes;
+        world = g.world;
         answers = subst (λ s. Answers kinds.has s g.more) (sym (script_more lines whole)) (was.run, was.answers, g.goes);
         written = ap (λ b. b ++ flat_map text_of steps) was.written ∙ sym g.written;
       };
@@ -245,15 +266,24 @@ line_answered old new line steps before after h e = record {
 
 -- what was reached is a lawful run
 pub reached_lawful : (m : Machine) (lines : List (List ℕ)) (bytes : List ℕ) → Reached m lines bytes → Answered lines bytes
-reached_lawful m lines bytes r = record { run = r.run; answers = r.answers; lawful = lawful (state_of m) r.run r.describes; written = r.written }
+reached_lawful m lines bytes r = record {
+  run = r.run;
+  answers = r.answers;
+  lawful = lawful (state_of m) r.run r.describes;
+  calls = record { events = r.world.world; parts = r.world.parts; is_run = r.world.is_world.is_run; shown = r.world.lines };
+  world = lawful_calls (state_of m) r.run r.world;
+  written = r.written;
+}
 
 -- a new player stands before any line
 pub reached_none : (p : Player) → p.machine.made ≡ false → p.machine.now ≡ 0 → p.machine.sessions.entries ≡ [] → p.machine.store.entries ≡ [] → p.met_bad ≡ false → ReachedBy p [] []
 reached_none player p q r s b =
-    let m = player.machine in record {
+    let m = player.machine in
+    let at_start : state_of m ≡ start = same_state (state_of m) start p q (λ who. ap (λ es. session_as (session es who)) r) (ap length r) (λ o. ap (λ es. entries_on [] (kept.stored es o)) s) in record {
       reached = record {
         run = [];
-        describes = subst (λ t. Describes t []) (sym (same_state (state_of m) start p q (λ who. ap (λ es. session_as (session es who)) r) (ap length r) (λ o. ap (λ es. entries_on [] (kept.stored es o)) s))) begins_empty;
+        describes = subst (λ t. Describes t []) (sym at_start) begins_empty;
+        world = subst (λ t. InWorld t []) (sym at_start) world_empty;
         answers = refl;
         written = refl;
       };

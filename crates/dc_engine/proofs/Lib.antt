@@ -3,11 +3,13 @@ pub mod Applied
 pub mod BeginLines
 pub mod CommitLines
 pub mod DueRows
+pub mod HeldParts
 pub mod HeldState
 pub mod LoggedRuns
 pub mod Moves
 pub mod NewLine
 pub mod ObjectKeys
+pub mod OneLog
 pub mod PlayedBy
 pub mod Progress
 pub mod Readings
@@ -17,5 +19,11 @@ pub mod StepLines
 pub mod StoredRuns
 pub mod Takes
 pub mod ToldRuns
+pub mod WorldCommit
+pub mod WorldLines
+pub mod WorldReads
+pub mod WorldRuns
+pub mod WorldState
+pub mod WorldSteps
 pub mod Written
 pub mod WrittenLines

@@ -74,11 +74,11 @@ use Rattle.std.specs.Prelude.{min}
 use Rattle.dc_engine.proofs.CommitLines.{commit_lines}
 
 -- where a row is due and none before it is, its step has the property
-abbrev Owe : (Step → Type 0) → List (Bool × Step) → Type 0
+abbrev pub Owe : (Step → Type 0) → List (Bool × Step) → Type 0
 Owe P [] = Unit {0}
 Owe P (r ∷ rows) = (r.0 ≡ true → P r.1) × (r.0 ≡ false → Owe P rows)
 
-owed : (P : Step → Type 0) (rows : List (Bool × Step)) → Owe P rows → (s : Step) → first_due rows ≡ Some s → P s
+pub owed : (P : Step → Type 0) (rows : List (Bool × Step)) → Owe P rows → (s : Step) → first_due rows ≡ Some s → P s
 owed P [] h s e = cc
 owed P (r ∷ rows) h s e =
     elim r.0 as (λ b. r.0 ≡ b → (if b then Some r.1 else first_due rows) ≡ Some s → P s) [
@@ -86,11 +86,11 @@ owed P (r ∷ rows) h s e =
       | false ↦ λ k q. owed P rows (h.1 k) s q
     ] refl e
 
-not_false : (b : Bool) → not b ≡ false → b ≡ true
+pub not_false : (b : Bool) → not b ≡ false → b ≡ true
 not_false true h = refl
 not_false false h = absurd (true≢false h)
 
-not_true : (b : Bool) → not b ≡ true → b ≡ false
+pub not_true : (b : Bool) → not b ≡ true → b ≡ false
 not_true true h = absurd (true≢false (sym h))
 not_true false h = refl
 
@@ -233,7 +233,7 @@ pub record Goes (run : Run) (number : ℕ) (c : Command) (steps : List Step) (ne
 pub unread : (m : State) (run : Run) (number : ℕ) → Describes m run → Describes m (answered number None (step.Bad ∷ []) run)
 unread m run number d = quiet m run number None step.Bad refl d (quiet_line run None step.Bad tt tt tt tt refl tt tt)
 
-none_due : (r : Bool × Step) (rows : List (Bool × Step)) → first_due (r ∷ rows) ≡ None → (r.0 ≡ false) × (first_due rows ≡ None)
+pub none_due : (r : Bool × Step) (rows : List (Bool × Step)) → first_due (r ∷ rows) ≡ None → (r.0 ≡ false) × (first_due rows ≡ None)
 none_due r rows h = elim r.0 as (λ b. (if b then Some r.1 else first_due rows) ≡ None → (b ≡ false) × (first_due rows ≡ None)) [ true ↦ λ q. cc | false ↦ λ q. (refl, q) ] h
 
 idle_is : (o : Option (Option Open)) → is_some o ≡ true → is_open_in o ≡ false → o ≡ Some None

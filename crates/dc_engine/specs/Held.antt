@@ -14,6 +14,7 @@ use Rattle.dc_engine.specs.Stored.{stored}
 use Rattle.dc_engine.specs.State as state
 use Rattle.dc_engine.specs.State.{State, Open, Entry}
 use Rattle.dc_engine.specs.Describes.{Describes}
+use Rattle.dc_engine.specs.InWorld.{InWorld}
 
 abbrev pub as_change : Change → state.Change
 as_change c = (c.object, c.effect)
@@ -48,5 +49,6 @@ spelled number step = text_of step
 pub record Reached (m : Machine) (lines : List (List ℕ)) (bytes : List ℕ) : Type 0 where
   pub run : Run
   pub describes : Describes (state_of m) run
+  pub world : InWorld (state_of m) run
   pub answers : Answers kinds.has (reverse (map asked_of lines)) run
   pub written : bytes ≡ lines_of spelled run

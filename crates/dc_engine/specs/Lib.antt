@@ -1,14 +1,17 @@
 pub mod Answered
 pub mod Blocks
+pub mod Calls
 pub mod Causes
 pub mod Describes
 pub mod Held
+pub mod InWorld
 pub mod Kept
 pub mod Lines
 pub mod Logged
 pub mod Machine
 pub mod Memory
 pub mod ObjectKinds
+pub mod OneWorld
 pub mod Played
 pub mod Player
 pub mod Reading
