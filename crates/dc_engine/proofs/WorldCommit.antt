@@ -125,6 +125,7 @@ module _ {S E : Type 0} (kinds : Kinds S E) (world : List (Entry E)) (parts : Pa
     here = voted1;
     all = all_voted;
     kept = w.kept x;
+    once = t.has.undecided;
     vector = sym ((λ i. replaced (t.snapshot i) 1 (time1 i)));
   }
 
@@ -136,10 +137,10 @@ module _ {S E : Type 0} (kinds : Kinds S E) (world : List (Entry E)) (parts : Pa
   }
 
   leaves1 : (k : ℕ) → time ≢ k → Leaves vote (transaction_at k)
-  leaves1 k ne = record { change = refl; prepare = tx_apart time k ne; tries = tx_apart time k ne }
+  leaves1 k ne = record { change = refl; prepare = tx_apart time k ne; tries = tx_apart time k ne; decides = refl }
 
-  leaves2 : (k : ℕ) → Leaves decide (transaction_at k)
-  leaves2 k = record { change = refl; prepare = refl; tries = refl }
+  leaves2 : (k : ℕ) → time ≢ k → Leaves decide (transaction_at k)
+  leaves2 k ne = record { change = refl; prepare = refl; tries = refl; decides = tx_apart time k ne }
 
   pub world_committed : IsWorld kinds world2 parts2 held2 (now + 1)
   world_committed = record {
@@ -153,7 +154,7 @@ module _ {S E : Type 0} (kinds : Kinds S E) (world : List (Entry E)) (parts : Pa
         let old = past_more now n (dependency 1 world other) (omega arith) (w.depends other) in
         past_if (is_of world1 other x) n (join (dependency 1 world other) (n ∷ [])) (dependency 1 world other) (past_join n n (dependency 1 world other) old (omega arith)) old;
     kept = λ u. w.kept u;
-    unborn = λ k h. let ne : time ≢ k = λ e. let f = e in absurd (omega arith) in has_stays world1 decide (transaction_at k) [] (leaves2 k) (has_stays world vote (transaction_at k) [] (leaves1 k ne) (w.unborn k (omega arith)));
+    unborn = λ k h. let ne : time ≢ k = λ e. let f = e in absurd (omega arith) in has_stays world1 decide (transaction_at k) [] (leaves2 k ne) (has_stays world vote (transaction_at k) [] (leaves1 k ne) (w.unborn k (omega arith)));
     unheld = λ k h. either_false (same_tx x (transaction_at k)) (is_held held (transaction_at k)) (tx_apart time k (λ e. let f = e in absurd (omega arith))) (w.unheld k (omega arith));
     elsewhere = λ u q e. nothing_there world1 decide u q e (nothing_there world vote u q e (w.elsewhere u q e));
   }
@@ -163,4 +164,4 @@ module _ {S E : Type 0} (kinds : Kinds S E) (world : List (Entry E)) (parts : Pa
       let begun : (e : Event E) → ((old : List ℕ) → session_after (transaction_at k) old e ≡ old) → is_begin e (transaction_at k) ≡ false → Unbegun e (transaction_at k) = λ e a b. record { session = a; begin = b } in
       let none : (old : List ℕ) → old ≡ old = λ old. refl in
       open_held world2 held held2 other k vs (either_false (same_tx x (transaction_at k)) (is_held held (transaction_at k)) (tx_apart time k ne) o.unheld)
-      (open_stays world1 decide held other k vs (leaves2 k) (begun decide none refl) (open_stays world vote held other k vs (leaves1 k ne) (begun vote none refl) o))
+      (open_stays world1 decide held other k vs (leaves2 k ne) (begun decide none refl) (open_stays world vote held other k vs (leaves1 k ne) (begun vote none refl) o))

@@ -86,7 +86,7 @@ module _ (m : State) (run : Run) (number : ℕ) (d : Describes m run) (j : InWor
         is_world = world_ticked kinds j.world j.parts j.held m.now j.is_world n h;
         lines = lines_more (Some (command.Clock one n)) (step.Ticked one (max n m.now)) (Tick n) (shown (Tick n) (step.Ticked one (max n m.now))) refl refl;
         stored = j.stored;
-        current = λ who t k. open_stays j.world e j.held who t.time (numbered 1 t.changes) (record { change = refl; prepare = refl; tries = refl }) (record { session = λ old. refl; begin = refl }) (j.current who t k);
+        current = λ who t k. open_stays j.world e j.held who t.time (numbered 1 t.changes) (record { change = refl; prepare = refl; tries = refl; decides = refl }) (record { session = λ old. refl; begin = refl }) (j.current who t k);
       }
 
   pub world_session : (name : List ℕ) → InWorld (made_session m name) (line number (Some (command.Session name 1)) (step.MadeSession name 1) ∷ run)
@@ -98,7 +98,7 @@ module _ (m : State) (run : Run) (number : ℕ) (d : Describes m run) (j : InWor
         is_world = world_opened kinds j.world j.parts j.held m.now j.is_world name;
         lines = lines_more (Some (command.Session name 1)) (step.MadeSession name 1) world.Open (shown world.Open (step.MadeSession name 1)) refl refl;
         stored = j.stored;
-        current = λ who t k. open_stays j.world e j.held who t.time (numbered 1 t.changes) (record { change = refl; prepare = refl; tries = refl }) (record { session = λ old. refl; begin = refl }) (j.current who t (were_open name who t k));
+        current = λ who t k. open_stays j.world e j.held who t.time (numbered 1 t.changes) (record { change = refl; prepare = refl; tries = refl; decides = refl }) (record { session = λ old. refl; begin = refl }) (j.current who t (were_open name who t k));
       }
 
   pub world_begin : (name : List ℕ) → m.now < end_of_time → InWorld (began m name) (line number (Some (command.Begin name None)) (step.Began name (transaction_at (m.now + 1)) ((m.now + 1) ∷ [])) ∷ run)
@@ -130,7 +130,7 @@ module _ (m : State) (run : Run) (number : ℕ) (d : Describes m run) (j : InWor
         is_world = world_refused kinds j.world j.parts j.held m.now j.is_world ask why may is;
         lines = lines_more asked s call (shown (world.call_asked ask) (world.refusal_shown j.world one ask why)) c e;
         stored = j.stored;
-        current = λ who t k. open_stays j.world e1 j.held who t.time (numbered 1 t.changes) (record { change = refl; prepare = refl; tries = refl }) (record { session = λ old. refl; begin = refl }) (j.current who t k);
+        current = λ who t k. open_stays j.world e1 j.held who t.time (numbered 1 t.changes) (record { change = refl; prepare = refl; tries = refl; decides = refl }) (record { session = λ old. refl; begin = refl }) (j.current who t k);
       }
 
   -- the clock has come to its end

@@ -78,7 +78,7 @@ module _ {S E : Type 0} (kinds : Kinds S E) (world : List (Entry E)) (parts : Pa
     ordered = w.ordered;
     depends = λ other. w.depends other;
     keeps_own = λ u. refl;
-    leaves = λ n k. record { change = refl; prepare = refl; tries = refl };
+    leaves = λ n k. record { change = refl; prepare = refl; tries = refl; decides = refl };
     unheld = w.unheld;
   })
 
@@ -103,7 +103,7 @@ module _ {S E : Type 0} (kinds : Kinds S E) (world : List (Entry E)) (parts : Pa
     ordered = w.ordered;
     depends = λ other. w.depends other;
     keeps_own = λ u. refl;
-    leaves = λ n k. record { change = ap (λ b. if b then change o op ∷ [] else []) (tx_apart time n (λ e. let f = e in absurd (omega arith))); prepare = refl; tries = refl };
+    leaves = λ n k. record { change = ap (λ b. if b then change o op ∷ [] else []) (tx_apart time n (λ e. let f = e in absurd (omega arith))); prepare = refl; tries = refl; decides = refl };
     unheld = w.unheld;
   })
 
@@ -115,6 +115,7 @@ module _ {S E : Type 0} (kinds : Kinds S E) (world : List (Entry E)) (parts : Pa
       count = (λ i. t.has.count i + length (if same_tx_refl x i then change o op ∷ [] else [])) ∙ length_more us (change o op);
       untried = λ p. or_both _ false (tried world x p) refl (t.has.untried p);
       untimed = t.has.untimed;
+      undecided = t.has.undecided;
     };
     unheld = t.unheld;
     dependency = t.dependency;
@@ -124,7 +125,7 @@ module _ {S E : Type 0} (kinds : Kinds S E) (world : List (Entry E)) (parts : Pa
   }
 
   pub updated_others : (o : ObjectId) (op : Op) (other : List ℕ) (k : ℕ) (vs : List (Upd E)) → time ≢ k → IsOpen world held other k vs → IsOpen (at_one (updating o op) ∷ world) held other k vs
-  updated_others o op other k vs ne h = open_stays world (updating o op) held other k vs (record { change = ap (λ b. if b then change o op ∷ [] else []) (tx_apart time k ne); prepare = refl; tries = refl }) (record { session = λ old. refl; begin = refl }) h
+  updated_others o op other k vs ne h = open_stays world (updating o op) held other k vs (record { change = ap (λ b. if b then change o op ∷ [] else []) (tx_apart time k ne); prepare = refl; tries = refl; decides = refl }) (record { session = λ old. refl; begin = refl }) h
 
   pub read_others : (o : ObjectId) (other : List ℕ) (k : ℕ) (vs : List (Upd E)) → IsOpen world held other k vs → IsOpen (at_one (reading o) ∷ world) held other k vs
-  read_others o other k vs h = open_stays world (reading o) held other k vs (record { change = refl; prepare = refl; tries = refl }) (record { session = λ old. refl; begin = refl }) h
+  read_others o other k vs h = open_stays world (reading o) held other k vs (record { change = refl; prepare = refl; tries = refl; decides = refl }) (record { session = λ old. refl; begin = refl }) h

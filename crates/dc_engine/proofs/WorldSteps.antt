@@ -10,7 +10,7 @@ use Rattle.site_vector.specs.Order.{same_tx_is, same_tx_refl}
 use Rattle.site_vector.specs.Vector.{join, entry}
 use Rattle.crdt_core.specs.declared.record.Upd.{Upd}
 use Rattle.world_model.specs.Log.{end_of_time}
-use Rattle.world_model.specs.Event.{Event, Ask, Refusal, Opened, Ticked, Began, Refused, Entry, attempt, is_prepare, is_own_abort, tried, gave_up, time_of, time_shown}
+use Rattle.world_model.specs.Event.{Event, Ask, Refusal, Opened, Ticked, Began, Refused, Entry, attempt, is_prepare, is_decide, is_own_abort, tried, decide_tried, gave_up, time_of, time_shown}
 use Rattle.world_model.specs.Past.{dependency, dependency_after}
 use Rattle.world_model.specs.Partition.{Kinds, PartState, IsOther, new_part, done, PartStep, IsRefused}
 use Rattle.world_model.specs.Plan.{change_by, updates_at, update_count, IsAllowed, MayAsk}
@@ -56,11 +56,12 @@ module _ {E : Type 0} where
   abbrev pub put : (PartId → PartState E) → PartState E → PartId → PartState E
   put f p q = if same_part q one then p else f q
 
-  -- an event that doesn't update in x, nor asks for its vote
+  -- an event that doesn't update in x, nor asks for its vote or to decide it
   pub record Leaves (e : Event E) (x : TxId) : Type 0 where
     pub change : change_by e x ≡ []
     pub prepare : is_prepare e x ≡ false
     pub tries : is_prepare (attempt e) x ≡ false
+    pub decides : is_decide (attempt e) x ≡ false
 
   pub has_stays : (world : List (Entry E)) (e : Event E) (x : TxId) (us : List (Upd E)) → Leaves e x → Has world x us → Has (at_one e ∷ world) x us
   has_stays world e x us l h = record {
@@ -68,6 +69,7 @@ module _ {E : Type 0} where
     count = ap (λ c. update_count world x + length c) l.change ∙ (let k = h.count in omega arith);
     untried = λ p. or_both (same_part one p) (is_prepare (attempt e) x) (tried world x p) l.tries (h.untried p);
     untimed = ap (λ b. if b then max (time_shown e) (time_of world x) else time_of world x) l.prepare ∙ h.untimed;
+    undecided = either_false (is_decide (attempt e) x) (decide_tried world x) l.decides h.undecided;
   }
 
   -- an event that doesn't begin x
@@ -149,7 +151,7 @@ module _ {S E : Type 0} (kinds : Kinds S E) where
     ordered = tt;
     depends = λ who. record { time = 0; is = refl; most = omega arith };
     kept = λ t. refl;
-    unborn = λ n h. record { updates = refl; count = refl; untried = λ p. refl; untimed = refl };
+    unborn = λ n h. record { updates = refl; count = refl; untried = λ p. refl; untimed = refl; undecided = refl };
     unheld = λ n h. refl;
     elsewhere = λ t q h. refl;
   }
@@ -167,7 +169,7 @@ module _ {S E : Type 0} (kinds : Kinds S E) where
       ordered = w.ordered;
       depends = λ other. past_if (bytes_eq who other) now (0 ∷ []) (dependency 1 world other) (record { time = 0; is = refl; most = omega arith }) (w.depends other);
       keeps_own = λ t. refl;
-      leaves = λ n h. record { change = refl; prepare = refl; tries = refl };
+      leaves = λ n h. record { change = refl; prepare = refl; tries = refl; decides = refl };
       unheld = w.unheld;
     })
 
@@ -183,7 +185,7 @@ module _ {S E : Type 0} (kinds : Kinds S E) where
       ordered = w.ordered;
       depends = λ other. w.depends other;
       keeps_own = λ t. refl;
-      leaves = λ n h. record { change = refl; prepare = refl; tries = refl };
+      leaves = λ n h. record { change = refl; prepare = refl; tries = refl; decides = refl };
       unheld = w.unheld;
     })
 
@@ -199,7 +201,7 @@ module _ {S E : Type 0} (kinds : Kinds S E) where
       ordered = below_more (now + 1) (max r now + 1) held (omega arith) w.ordered;
       depends = λ other. past_more now (max r now) (dependency 1 world other) (omega arith) (w.depends other);
       keeps_own = λ t. refl;
-      leaves = λ n k. record { change = refl; prepare = refl; tries = refl };
+      leaves = λ n k. record { change = refl; prepare = refl; tries = refl; decides = refl };
       unheld = λ n k. w.unheld n (omega arith);
     })
 
@@ -239,7 +241,7 @@ module _ {S E : Type 0} (kinds : Kinds S E) where
               (past_join (now + 1) (now + 1) (dependency 1 world other) (past_more now (now + 1) (dependency 1 world other) (omega arith) (w.depends other)) (omega arith))
               (past_more now (now + 1) (dependency 1 world other) (omega arith) (w.depends other));
           keeps_own = λ t. refl;
-          leaves = λ n k. record { change = refl; prepare = refl; tries = refl };
+          leaves = λ n k. record { change = refl; prepare = refl; tries = refl; decides = refl };
           unheld = λ n k. w.unheld n (omega arith);
         })
 
@@ -247,7 +249,7 @@ module _ {S E : Type 0} (kinds : Kinds S E) where
     pub began_open : (who : List ℕ) → IsOpen (at_one (beginning who) ∷ world) held who (now + 1) []
     began_open who =
         let x = transaction_at (now + 1) in record {
-          has = has_stays world (beginning who) x [] (record { change = refl; prepare = refl; tries = refl }) (w.unborn (now + 1) (omega arith));
+          has = has_stays world (beginning who) x [] (record { change = refl; prepare = refl; tries = refl; decides = refl }) (w.unborn (now + 1) (omega arith));
           unheld = w.unheld (now + 1) (omega arith);
           dependency = dependency 1 world who;
           began = inl (refl, refl);
@@ -259,4 +261,4 @@ module _ {S E : Type 0} (kinds : Kinds S E) where
     pub began_others : (who other : List ℕ) (time : ℕ) (us : List (Upd E)) → time ≤ now → IsOpen world held other time us → IsOpen (at_one (beginning who) ∷ world) held other time us
     began_others who other time us h o =
         let ne = tx_apart (now + 1) time (λ e. let f = e in absurd (omega arith)) in
-        open_stays world (beginning who) held other time us (record { change = refl; prepare = refl; tries = refl }) (record { session = λ old. ap (λ b. if b then who else old) ne; begin = ne }) o
+        open_stays world (beginning who) held other time us (record { change = refl; prepare = refl; tries = refl; decides = refl }) (record { session = λ old. ap (λ b. if b then who else old) ne; begin = ne }) o

@@ -7,7 +7,7 @@ use Rattle.site_vector.specs.Ids.{same_part, same_tx}
 use Rattle.crdt_core.specs.declared.record.Upd.{Upd}
 use Rattle.crdt_core.specs.declared.record.Record.{Record}
 use Rattle.world_model.specs.Log.{end_of_time, pending, taken, aborted, committed, held_at, held_changes}
-use Rattle.world_model.specs.Event.{Began, Entry, tried, gave_up, time_of, WasShown}
+use Rattle.world_model.specs.Event.{Began, Entry, tried, decide_tried, gave_up, time_of, WasShown}
 use Rattle.world_model.specs.Past.{dependency}
 use Rattle.world_model.specs.Partition.{Kinds, PartState}
 use Rattle.world_model.specs.Plan.{updates_at, update_count}
@@ -51,12 +51,13 @@ module _ {E : Type 0} where
     pub commits : (u : TxId) → committed log u ≡ is_held held u
     pub exact : AreHeld (held_at log) (held_changes log) held
 
-  -- x has made these updates, and no one has asked for its vote
+  -- x has made these updates, and no one has asked for its vote, nor to decide it
   pub record Has (world : List (Entry E)) (x : TxId) (us : List (Upd E)) : Type 0 where
     pub updates : updates_at world x one ≡ us
     pub count : update_count world x ≡ length us
     pub untried : (p : PartId) → tried world x p ≡ false
     pub untimed : time_of world x ≡ 0
+    pub undecided : decide_tried world x ≡ false
 
   -- the open transaction of a session
   pub record IsOpen (world : List (Entry E)) (held : List (HeldPart E)) (who : List ℕ) (time : ℕ) (us : List (Upd E)) : Type 0 where

@@ -244,6 +244,7 @@ module _ {E : Type 0} where
         here = al.here;
         all = λ q h. al.all q (ap is_some_update (sym (g.updates q)) ∙ h);
         kept = al.kept;
+        once = al.once;
         vector = al.vector ∙ agree_vector (plan_of sites parts (e ∷ run)) (plan_of sites parts whole) run t g;
       }
   allowed_too sites parts run whole e state (Finished t c) agr past al =

@@ -104,12 +104,13 @@ module _ {E : Type 0} where
     pub lead : l ≡ (plan.lead t).part
     pub changes : w ≡ plan.updates t p
 
-  -- a decide is asked of the lead once all have voted, and not by a session that gave up
+  -- a session asks once to decide: the lead, when all have voted, and not where it gave up
   pub record MayDecide (plan : Plan E) (run : List (Entry E)) (p : PartId) (t : TxId) (c : List ℕ) : Type 0 where
     pub lead : p ≡ plan.lead t
     pub here : voted run t p ≡ true
     pub all : (q : PartId) → takes_part plan t q ≡ true → voted run t q ≡ true
     pub kept : gave_up run t ≡ false
+    pub once : decide_tried run t ≡ false
     pub vector : c ≡ commit_vector plan run t
 
   -- a finish is of a decided transaction
