@@ -1,6 +1,6 @@
 -- After a decide that was cut off, whatever a restart of the lead finds tells one of two.
 use Rattle.std.proofs.Common.{◌≡◌, ◌≢◌, ⊎_elim, ℕ, cond, Bool, true, false, not, ◌&&◌, List, [], ◌∷◌, refl, sym, ap, ◌∙◌, subst}
-use Rattle.std.proofs.lemmas.Bool.{or_cases, and_parts, cond-true, cond-false, not-true, false_from_ne_true}
+use Rattle.std.proofs.lemmas.Bool.{or_cases, cond-true, cond-false, false_from_ne_true}
 use Rattle.site_vector.specs.declared.ids.PartId.{PartId}
 use Rattle.site_vector.specs.declared.ids.TxId.{TxId}
 use Rattle.site_vector.specs.Ids.{same_part, same_tx}
@@ -8,14 +8,14 @@ use Rattle.site_vector.specs.Order.{same_part_refl, same_tx_is}
 use Rattle.crdt_core.specs.declared.record.Record.{Record}
 use Rattle.crdt_core.specs.declared.record.Record.TheVariants.{Decide}
 use Rattle.world_model.specs.Log.{prepared, committed, aborted, pending, last_decided, IsImage}
-use Rattle.world_model.specs.Event.{Event, Decided, Crashed, Restarted, Refused, Opened, Cut, Entry, is_named, is_decided}
+use Rattle.world_model.specs.Event.{Event, Decided, Crashed, Restarted, Refused, Opened, Cut, Entry, attempt, is_named, decide_tried}
 use Rattle.world_model.specs.Partition.{Kinds, PartState, Image, PartStep}
-use Rattle.world_model.specs.Plan.{Plan, IsRun}
+use Rattle.world_model.specs.Plan.{Plan, IsAllowed, IsRun}
 use Rattle.world_model.specs.Doubt.{doubt_after, in_doubt, SettlesAt, SettleDoubts}
 use Rattle.world_model.proofs.Names.{clash, off, part_cases, part_other}
 use Rattle.world_model.proofs.Moves.{last_is_decided}
 use Rattle.world_model.proofs.Fate.{Fate, decided_committed}
-use Rattle.world_model.proofs.Later.{in_log}
+use Rattle.world_model.proofs.Later.{full_now, in_log}
 use Rattle.world_model.proofs.Kept.{law_plan}
 use Rattle.world_model.proofs.Shows.{less_pending}
 
@@ -39,38 +39,38 @@ module _ {E : Type 0} where
   either_after log u t c e = less_pending (same_tx u t) (prepared log t) (committed log t) (aborted log t) ∙ ap (λ b. not b && pending log t) e ∙ ap not (sym e)
 
   module _ {S : Type 0} (kinds : Kinds S E) (plan : Plan E) (run : List (Entry E)) (before after : PartId → PartState E) (at : PartId) (f : Fate plan run before) (d : Doubts run before) where
-    cut_here : (u : TxId) (c : List ℕ) → PartStep kinds plan.sites plan.parts at (before at) (Cut (Decided u c)) (after at) → (t : TxId) → (same_tx u t && not (is_decided run t)) ≡ true → Doubtful (after at) t
-    cut_here u c st t h =
+    -- what is asked to be decided for the first time isn't committed
+    cut_here : (u : TxId) (c : List ℕ) → decide_tried run u ≡ false → PartStep kinds plan.sites plan.parts at (before at) (Cut (Decided u c)) (after at) → (t : TxId) → same_tx u t ≡ true → Doubtful (after at) t
+    cut_here u c once st t h =
         let log = (before at).log in
-        let hs = and_parts (same_tx u t) _ h in
-        let same = same_tx_is u t hs.0 in
-        let open_ : is_decided run t ≡ false = not-true (is_decided run t) hs.1 in
-        let apart : committed log t ≡ false = false_from_ne_true _ (λ k. clash (in_log plan run before f at 0 st.0 t k) open_) in
+        let same = same_tx_is u t h in
+        let first : decide_tried run t ≡ false = subst (λ x. decide_tried run x ≡ false) same once in
+        let apart : committed log t ≡ false = false_from_ne_true _ (λ k. clash (full_now plan run before f t (in_log plan run before f at 0 st.0 t k)).asked first) in
         let waits : pending log t ≡ true = ⊎_elim (λ (k : pending log u ≡ true). subst (λ x. pending log x ≡ true) same k) (λ (k : committed log u ≡ true). clash (subst (λ x. committed log x ≡ true) same k) apart) (or_cases _ _ st.1) in
         let waits_u : pending log u ≡ true = subst (λ x. pending log x ≡ true) (sym same) waits in record {
           down = ap (λ p. p.up) st.2;
           either = λ m i. ⊎_elim
               (λ (k : m ≡ log). subst (λ x. IsEither x t) (sym k) (either_before log t waits apart))
-              (λ (k : m ≡ Decide u c ∷ log). subst (λ x. IsEither x t) (sym k) (either_after log u t c hs.0))
+              (λ (k : m ≡ Decide u c ∷ log). subst (λ x. IsEither x t) (sym k) (either_after log u t c h))
               (subst (λ b. IsImage log (cond b (Decide u c ∷ []) []) m) waits_u (subst (λ p. Image p m) st.2 i));
         }
 
     stays_here : (t : TxId) → in_doubt run at t ≡ true → after at ≡ before at → Doubtful (after at) t
     stays_here t h e = record { down = ap (λ p. p.up) e ∙ d.down at t h; either = λ m i. d.either at t m (subst (λ p. Image p m) e i) h }
 
-    here : (event : Event E) → PartStep kinds plan.sites plan.parts at (before at) event (after at) → (t : TxId) → doubt_after run t (in_doubt run at t) event ≡ true → Doubtful (after at) t
-    here (Cut (Decided u c)) st t h = cut_here u c st t h
-    here (Cut a) st t h = clash st.0 (d.down at t h)
-    here Crashed st t h = record { down = ap (λ p. p.up) st; either = λ m i. d.either at t m (subst (λ p. Image p m) st i) h }
-    here (Restarted n b named listed) st t h = off h
-    here (Refused asked why) st t h = stays_here t h st.1
-    here (Opened who) st t h = stays_here t h st
-    here event st t h = clash st.0 (d.down at t h)
+    here : (event : Event E) → IsAllowed plan run before at (attempt event) → PartStep kinds plan.sites plan.parts at (before at) event (after at) → (t : TxId) → doubt_after t (in_doubt run at t) event ≡ true → Doubtful (after at) t
+    here (Cut (Decided u c)) al st t h = ⊎_elim (λ (k : same_tx u t ≡ true). cut_here u c al.once st t k) (λ (k : in_doubt run at t ≡ true). clash st.0 (d.down at t k)) (or_cases _ _ h)
+    here (Cut a) al st t h = clash st.0 (d.down at t h)
+    here Crashed al st t h = record { down = ap (λ p. p.up) st; either = λ m i. d.either at t m (subst (λ p. Image p m) st i) h }
+    here (Restarted n b named listed) al st t h = off h
+    here (Refused asked why) al st t h = stays_here t h st.1
+    here (Opened who) al st t h = stays_here t h st
+    here event al st t h = clash st.0 (d.down at t h)
 
-    doubts_step : (event : Event E) → PartStep kinds plan.sites plan.parts at (before at) event (after at) → ((q : PartId) → q ≢ at → after q ≡ before q) → Doubts ((record { at = at; event = event }) ∷ run) after
-    doubts_step event st others =
+    doubts_step : (event : Event E) → IsAllowed plan run before at (attempt event) → PartStep kinds plan.sites plan.parts at (before at) event (after at) → ((q : PartId) → q ≢ at → after q ≡ before q) → Doubts ((record { at = at; event = event }) ∷ run) after
+    doubts_step event al st others =
         let at_p : (p : PartId) (t : TxId) → in_doubt ((record { at = at; event = event }) ∷ run) p t ≡ true → Doubtful (after p) t = λ p t h. ⊎_elim
-        (λ (e : at ≡ p). subst (λ y. doubt_after run t (in_doubt run y t) event ≡ true → Doubtful (after y) t) e (here event st t) (sym (cond-true _ _ _ (subst (λ y. same_part at y ≡ true) e (same_part_refl at))) ∙ h))
+        (λ (e : at ≡ p). subst (λ y. doubt_after t (in_doubt run y t) event ≡ true → Doubtful (after y) t) e (here event al st t) (sym (cond-true _ _ _ (subst (λ y. same_part at y ≡ true) e (same_part_refl at))) ∙ h))
         (λ (ne : at ≡ p → ⊥).
         let old = others p (λ e. ne (sym e)) in
         let k : in_doubt run p t ≡ true = sym (cond-false _ _ _ (part_other at p ne)) ∙ h in
@@ -83,7 +83,7 @@ module _ {E : Type 0} where
 
   doubts_run : {S : Type 0} (kinds : Kinds S E) (plan : Plan E) (run : List (Entry E)) (parts : PartId → PartState E) → IsRun kinds plan run parts → Doubts run parts
   doubts_run kinds plan [] parts r = record { down = λ p t h. off h; either = λ p t m i h. off h }
-  doubts_run kinds plan (e ∷ run) parts r = doubts_step kinds plan run r.0 parts e.at (law_plan kinds plan run r.0 r.1).fate (doubts_run kinds plan run r.0 r.1) e.event r.2.step r.2.others
+  doubts_run kinds plan (e ∷ run) parts r = doubts_step kinds plan run r.0 parts e.at (law_plan kinds plan run r.0 r.1).fate (doubts_run kinds plan run r.0 r.1) e.event r.2.allowed r.2.step r.2.others
 
   pub settle_doubts : {S : Type 0} (kinds : Kinds S E) (plan : Plan E) (run : List (Entry E)) (parts : PartId → PartState E) → IsRun kinds plan run parts → SettleDoubts run
   settle_doubts kinds plan [] parts r = tt

@@ -8,7 +8,7 @@ use Rattle.site_vector.specs.declared.ids.TxId.{TxId}
 use Rattle.site_vector.specs.Ids.{same_part, same_tx}
 use Rattle.site_vector.specs.Order.{same_part_is, same_tx_is, same_tx_refl}
 use Rattle.crdt_core.specs.declared.record.Upd.{Upd}
-use Rattle.world_model.specs.Event.{AskBegin, AskRead, AskUpdate, AskTake, Event, Began, Updated, Read, Took, Heard, Refused, Entry, attempt, WasShown, EventsAre}
+use Rattle.world_model.specs.Event.{AskBegin, AskRead, AskUpdate, AskDecide, AskTake, Event, Began, Updated, Read, Took, Heard, Refused, Entry, attempt, WasShown, EventsAre}
 use Rattle.world_model.specs.Partition.{Kinds, PartState, PartStep}
 use Rattle.world_model.specs.Plan.{Plan, home, is_some_update, takes_part, change_by, updates_at, IsPlace, IsAllowed, IsPlanned, IsRun}
 use Rattle.world_model.specs.Past.{begins_for, is_of}
@@ -40,6 +40,7 @@ module _ {E : Type 0} where
   handed_event kinds plan run before at q (Refused (AskBegin who dep) why) pl al st = al
   handed_event kinds plan run before at q (Refused (AskRead t s o own) why) pl al st = shown_has (IsPlanned plan) run (home t) (Began al.who al.dependency t s) pl al.begun
   handed_event kinds plan run before at q (Refused (AskUpdate t s o own op) why) pl al st = shown_has (IsPlanned plan) run (home t) (Began al.who al.dependency t s) pl al.begun
+  handed_event kinds plan run before at q (Refused (AskDecide t c) why) pl al st = al
   handed_event kinds plan run before at q (Heard k b stable) pl al st = al
   handed_event kinds plan run before at q event pl al st = tt
 

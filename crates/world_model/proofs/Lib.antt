@@ -22,12 +22,12 @@ pub mod Sending
 pub mod Resuming
 pub mod LogsLeft
 pub mod Ups
+pub mod Orders
 pub mod Meanings
 pub mod Stories
 pub mod LineViews
 pub mod LineChanges
 pub mod LineFaults
-pub mod Orders
 pub mod LineReading
 pub mod LineCounts
 pub mod LineLaws

@@ -3,7 +3,7 @@ use Rattle.std.proofs.Common.{◌≡◌, ◌≢◌, ◌⊎◌, ⊎_elim, inl, in
 use Rattle.std.specs.Prelude.{⊤, ◌==◌, filter}
 use Rattle.std.specs.List.{flat_map}
 use Rattle.std.specs.declared.cmp.Ordering.TheVariants.{Less}
-use Rattle.std.proofs.lemmas.Bool.{cases_Bool, cond-true, cond-false, or_left, or_right, or_cases, and_from, and_parts, ltb-true, lt-ltb, false_from_ne_true}
+use Rattle.std.proofs.lemmas.Bool.{cases_Bool, cond-true, cond-false, or_left, or_right, or_cases, or_parts, or_from, and_from, and_parts, ltb-true, lt-ltb, eq-eqb, false_from_ne_true}
 use Rattle.site_vector.specs.declared.ids.PartId.{PartId}
 use Rattle.site_vector.specs.declared.ids.TxId.{TxId}
 use Rattle.std.specs.Str.{bytes_eq}
@@ -14,6 +14,8 @@ use Rattle.site_vector.specs.Vector.{le, entry}
 use Rattle.crdt_core.specs.declared.object.ObjectId.{ObjectId}
 use Rattle.crdt_core.specs.declared.record.Part.{Part}
 use Rattle.crdt_core.specs.declared.record.Message.{Message}
+use Rattle.crdt_core.specs.Kinds.{reads_state}
+use Rattle.crdt_core.specs.Fits.{fits}
 use Rattle.crdt_core.specs.Seen.{Update}
 use Rattle.crdt_core.specs.Same.{Same}
 use Rattle.crdt_core.specs.Stamps.{stamp_due}
@@ -31,7 +33,7 @@ use Rattle.world_model.specs.Answering.{IsDueAt, AreDue, IsKnown}
 use Rattle.world_model.specs.Doubt.{SettlesAt, SettleDoubts}
 use Rattle.world_model.specs.Shown.{bound_shown, pending_shown, pending_time, committed_shown, IsReadyAt, IsFirstPending, ShowsAt, ShowAt}
 use Rattle.world_model.specs.Stable.{heard_from, heard_shown, IsBehindAt, IsFreshAt, AreFresh}
-use Rattle.world_model.specs.Votes.{VotesAt, KeepVotes, ShowsVector}
+use Rattle.world_model.specs.Votes.{IsDecision, VotesAt, KeepVotes, ShowsVector}
 use Rattle.world_model.specs.Handed.{IsPlacedAt, HandedAt, AreHanded, IsNew, AreNew}
 use Rattle.world_model.specs.Meaning as meaning
 use Rattle.world_model.specs.Meaning.{Asked, asked_at}
@@ -61,7 +63,7 @@ use Rattle.world_model.proofs.Intervals.{shown_has, events_map}
 use Rattle.world_model.proofs.Histories.{Facts, no_self}
 use Rattle.world_model.proofs.LineViews.{now_is, missed_is, in_history_is, snapshot_is, commit_time_is, vector_is, visible_is, is_of_is, dependency_is, pending_is, prepare_time_is, doubt_is, down_is, last_is, bound_is, heard_here, heard_is, stable_is, own_bound_is, was_prepared_is, last_sent_is, sent_count_is, report_count_is, sent_line, report_line}
 use Rattle.world_model.proofs.LineChanges.{to_change, count_is, takes_part_is, touches_is, lead_is}
-use Rattle.world_model.proofs.Orders.{stamp_same, is_in, in_filter, once_filter, filter_in}
+use Rattle.world_model.proofs.Orders.{stamp_same, none_due, is_in, in_filter, once_filter, filter_in}
 use Rattle.world_model.proofs.LineCounts.{parts_counted, both_ways, found_in, any_in, some_above, part_above, above_part}
 use Rattle.world_model.proofs.LineReading.{history_has, history_once, update_is, updates_at_place, updates_is, grows, all_put}
 use Rattle.world_model.proofs.LineFaults.{IsFault, pend_same, fault_is}
@@ -253,22 +255,24 @@ module _ {E : Type 0} where
     vector_eq : (t : TxId) → past.commit_vector ls t ≡ commit_vector plan run t
     vector_eq t = vector_is run t
 
+    decision_line : (some : List (Entry E)) (p : PartId) (t : TxId) → IsDecision plan some p t → commit.IsDecision parts ls (lines_of some) p t
+    decision_line some p t v = record {
+      at_lead = v.lead ∙ sym (lead_eq t);
+      here = was_prepared_is some t p ∙ v.here;
+      votes = λ q h. was_prepared_is some t q ∙ v.all q (sym (takes_eq t q) ∙ h);
+    }
+
     commit_line : (some : List (Entry E)) (p : PartId) (event : Event E) → VotesAt plan some p event → ShowsVector plan run p event → IsNew some event → commit.ShowsCommit parts ls (lines_of some) p (call_of event) (step_shown some p event)
     commit_line some p (Refused asked IsDown) v c n = tt
     commit_line some p (Refused asked why) v c n = tt
-    commit_line some p (Cut (Decided t w)) v c n = tt
+    commit_line some p (Cut (Decided t w)) v c n = decision_line some p t v
     commit_line some p (Cut a) v c n = tt
     commit_line some p (Prepared t s l w time) v c n = record {
       member = takes_eq t p ∙ v.takes;
       once = was_prepared_is some t p ∙ v.fresh;
       lead_first = λ ne. was_prepared_is some t (updates.lead parts ls t) ∙ subst (λ q. voted some t q ≡ true) (sym (lead_eq t)) (v.after_lead (λ e. ne (e ∙ sym (lead_eq t))));
     }
-    commit_line some p (Decided t w) v c n = record {
-      at_lead = v.lead ∙ sym (lead_eq t);
-      here = was_prepared_is some t p ∙ v.here;
-      votes = λ q h. was_prepared_is some t q ∙ v.all q (sym (takes_eq t q) ∙ h);
-      shown = c.1 ∙ sym (vector_eq t);
-    }
+    commit_line some p (Decided t w) v c n = (decision_line some p t v, c.1 ∙ sym (vector_eq t))
     commit_line some p (Updated t s o own op read u stamp) v c n = λ q. was_prepared_is some t q ∙ false_from_ne_true _ (λ h. clash (voted_tried some t q h) (n.early q))
     commit_line some p (Finished t w) v c n = in_history_is some t ∙ v
     commit_line some p event v c n = tt
@@ -284,8 +288,23 @@ module _ {E : Type 0} where
           votes = λ q k. was_prepared_is run t q ∙ a.all q (sym (takes_eq t q) ∙ k);
         }
 
-    known_eq : (some : List (Entry E)) (p : PartId) (t : TxId) → fates.is_known_at ls (lines_of some) p t ≡ (pending_shown some p t || committed_shown plan some p t)
-    known_eq some p t = λ i. (pending_is some p t i || (takes_eq t p i && (in_history_is some t i && not (pending_is some p t i))))
+    ended_eq : (some : List (Entry E)) (p : PartId) (t : TxId) → fates.is_ended_at ls (lines_of some) p t ≡ committed_shown plan some p t
+    ended_eq some p t = λ i. takes_eq t p i && (in_history_is some t i && not (pending_is some p t i))
+
+    -- nothing is brought to its own site
+    unbrought : (some : List (Entry E)) (p : PartId) (t : TxId) → p.site ≡ t.site → fates.is_brought_to ls (lines_of some) p t ≡ false
+    unbrought some p t s = ap (λ b. not b && (updates.takes_part ls t (twin t.site p) && (past.in_history ls t && leb (past.commit_time ls t) (bounds.bound (lines_of some) p t.site)))) (eq-eqb t.site p.site (sym s))
+
+    known_line : (some : List (Entry E)) (p : PartId) (t : TxId) → (pending_shown some p t || committed_shown plan some p t) ≡ true → fates.is_known_at ls (lines_of some) p t ≡ true
+    known_line some p t h = ⊎_elim
+        (λ (k : pending_shown some p t ≡ true). or_left _ _ (pending_is some p t ∙ k))
+        (λ (k : committed_shown plan some p t ≡ true). or_right _ _ (or_left _ _ (ended_eq some p t ∙ k)))
+        (or_cases _ _ h)
+
+    unknown_line : (some : List (Entry E)) (p : PartId) (t : TxId) → p.site ≡ t.site → (pending_shown some p t || committed_shown plan some p t) ≡ false → fates.is_known_at ls (lines_of some) p t ≡ false
+    unknown_line some p t s h =
+        let n = or_parts (pending_shown some p t) (committed_shown plan some p t) h in
+        or_from _ _ (pending_is some p t ∙ n.0) (or_from _ _ (ended_eq some p t ∙ n.1) (unbrought some p t s))
 
     -- a message that is taken brings a part exactly where lines say so
     brings_eq : (some : List (Entry E)) (p : PartId) (m : Message E) (have : ℕ) → MayTake plan some p m → m.lo ≤ have → EventsAre (IsRight kinds plan run) some → fates.brings ls p m.from have m.hi ≡ brings m have
@@ -427,7 +446,7 @@ module _ {E : Type 0} where
     cause_line some p (Refused (AskRead t s o own) (TxPending u n)) h f c w d r = first_line some p t s o u n h w
     cause_line some p (Refused (AskUpdate t s o own op) (TxPending u n)) h f c w d r = (w.0, first_line some p t s o u n h w.1)
     cause_line some p (Refused (AskBegin who dep) (StableBehind j n)) h f c w d r = stable_line some p who dep j n h f
-    cause_line some p (Refused (AskDecide t v) IsGone) h f c w d r = (refl, known_eq some p t ∙ w)
+    cause_line some p (Refused (AskDecide t v) IsGone) h f c w d r = (refl, unknown_line some p t h w)
     cause_line some p (Refused (AskAbort t) IsGone) h f c w d r = (refl, pending_is some p t ∙ w)
     cause_line some p (Refused asked (ClockBehind n)) h f c w d r = off d
     cause_line some p (Refused asked (TxPending u n)) h f c w d r = off d
@@ -447,8 +466,8 @@ module _ {E : Type 0} where
       subst (λ x. x < end_of_time) (sym (now_is some p)) w.2,
     )
     cause_line some p (Began who dep t s) h f c w d r = subst (λ x. x < end_of_time) (sym (now_is some p)) w
-    cause_line some p (Decided t v) h f c w d r = known_eq some p t ∙ w
-    cause_line some p (Finished t v) h f c w d r = known_eq some p t ∙ w
+    cause_line some p (Decided t v) h f c w d r = known_line some p t w
+    cause_line some p (Finished t v) h f c w d r = known_line some p t w
     cause_line some p event h f c w d r = tt
 
     cause_lines : (some : List (Entry E)) → AreHanded plan some → AreFresh plan some → HaveCausesAt plan some → ShowAt plan some → AreDue some → EventsAre (IsRight kinds plan run) some → EachLine (causes.HasCause sites parts ls) (lines_of some)
@@ -487,13 +506,17 @@ module _ {E : Type 0} where
     right_line some hs ns p (Read t s o own part value) h n r m k =
         let fold = subst (λ v. IsRightFold plan run p v o part) r.0 r.1 in
         m ∙ kinds.laws.orderless o.kind (meaning.read_by plan run some p o t part) (reads.read_by ls (lines_of some) t o) k (read_same some hs ns p t o part h fold)
-    right_line some hs ns p (Updated t s o own op part u stamp) h n r m k = λ x.
-        let fold = subst (λ v. IsRightFold plan run p v o part) r.0 (r.1 x) in
+    right_line some hs ns p (Updated t s o own op part u stamp) h n r m k =
         let a : Asked E = record { change = u; op = op; stamp = stamp; now = shown some p } in
         let c : updates.Change = record { at = p; now = clock.now (lines_of some) p; object = o; op = op; stamp = stamp; index = length (updates.changes (lines_of some) t) + 1 } in
         let index : length (updates.changes (lines_of some) t) + 1 ≡ u.index = ap (λ y. y + 1) (count_is some t) ∙ sym n.number in
         let same : c ≡ to_change p a = λ i. record { at = p; now = now_is some p i; object = sym h.1 i; op = op; stamp = stamp; index = index i } in
-        m x ∙ stamp_same o.kind (meaning.read_by plan run some p o t part) (reads.read_by ls (lines_of some) t o) (meaning.update_of plan run t a) (read_same some hs ns p t o part h.0 fold)
+        let mine = meaning.update_of plan run t a in
+        let fit = (and_parts (fits o.kind op.path op.act) _ k.1).0 in
+        m ∙ ⊎_elim
+        (λ (x : reads_state o.kind ≡ true). stamp_same o.kind (meaning.read_by plan run some p o t part) (reads.read_by ls (lines_of some) t o) mine (read_same some hs ns p t o part h.0 (subst (λ v. IsRightFold plan run p v o part) r.0 (r.1 x))))
+        (λ (x : reads_state o.kind ≡ false). none_due o.kind (meaning.read_by plan run some p o t part) mine x fit ∙ sym (none_due o.kind (reads.read_by ls (lines_of some) t o) mine x fit))
+        (cases_Bool (reads_state o.kind))
         ∙ ap (stamp_due o.kind (reads.read_by ls (lines_of some) t o)) (sym (ap (reads.update_of ls t) same ∙ update_is sites parts run t p a))
     right_line some hs ns p event h n r m k = tt
 

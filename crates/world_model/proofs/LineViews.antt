@@ -153,16 +153,16 @@ module _ {E : Type 0} where
   prepare_time_is [] p t = refl
   prepare_time_is (e ∷ run) p t = λ i. cond (same_part e.at p) ((ap (λ o. fate.prepare_time_after t o (step_shown run e.at e.event)) (prepare_time_is run p t) ∙ prepare_time_here run e.at t (told.pending_time run p t) e.event) i) (prepare_time_is run p t i)
 
-  doubt_here : (run : List (Entry E)) (p : PartId) (t : TxId) (old : Bool) (event : Event E) → fate.doubt_after (lines_of run) t old (step_shown run p event) ≡ doubt.doubt_after run t old event
+  doubt_here : (run : List (Entry E)) (p : PartId) (t : TxId) (old : Bool) (event : Event E) → fate.doubt_after t old (step_shown run p event) ≡ doubt.doubt_after t old event
   doubt_here run p t old (Refused asked IsDown) = refl
   doubt_here run p t old (Refused asked why) = refl
-  doubt_here run p t old (Cut (Decided u c)) = ap (λ b. same_tx u t && not b) (in_history_is run t)
+  doubt_here run p t old (Cut (Decided u c)) = refl
   doubt_here run p t old (Cut a) = refl
   doubt_here run p t old event = refl
 
   pub doubt_is : (run : List (Entry E)) (p : PartId) (t : TxId) → fate.in_doubt (lines_of run) p t ≡ doubt.in_doubt run p t
   doubt_is [] p t = refl
-  doubt_is (e ∷ run) p t = λ i. cond (same_part e.at p) ((ap (λ o. fate.doubt_after (lines_of run) t o (step_shown run e.at e.event)) (doubt_is run p t) ∙ doubt_here run e.at t (doubt.in_doubt run p t) e.event) i) (doubt_is run p t i)
+  doubt_is (e ∷ run) p t = λ i. cond (same_part e.at p) ((ap (λ o. fate.doubt_after t o (step_shown run e.at e.event)) (doubt_is run p t) ∙ doubt_here run e.at t (doubt.in_doubt run p t) e.event) i) (doubt_is run p t i)
 
   down_here : (run : List (Entry E)) (p : PartId) (old : Bool) (event : Event E) → fate.down_after old (step_shown run p event) ≡ downs.down_after old event
   down_here run p old (Refused asked IsDown) = refl

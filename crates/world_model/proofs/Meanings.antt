@@ -1,5 +1,5 @@
 -- Values are the meaning of what is read, and stamps are due by it: by the law of a kind, over the fold order.
-use Rattle.std.proofs.Common.{◌≡◌, ⊎_elim, inl, ℕ, true, ◌&&◌, List, [], ◌∷◌, ◌++◌, refl, sym, ap, ◌∙◌, subst, append-nil, append_assoc}
+use Rattle.std.proofs.Common.{◌≡◌, ⊎_elim, inl, ℕ, true, false, not, ◌&&◌, List, [], ◌∷◌, ◌++◌, refl, sym, ap, ◌∙◌, subst, append-nil, append_assoc}
 use Rattle.std.specs.Prelude.{map}
 use Rattle.std.specs.declared.cmp.Ordering.TheVariants.{Less}
 use Rattle.std.proofs.lemmas.Bool.{or_left, or_right, and_from, and_parts, false_from_ne_true}
@@ -11,6 +11,8 @@ use Rattle.site_vector.specs.Vector.{le}
 use Rattle.crdt_core.specs.declared.object.ObjectId.{ObjectId}
 use Rattle.crdt_core.specs.declared.record.Upd.{Upd}
 use Rattle.crdt_core.specs.declared.record.Part.{Part}
+use Rattle.crdt_core.specs.Kinds.{reads_state}
+use Rattle.crdt_core.specs.Fits.{fits}
 use Rattle.crdt_core.specs.Seen.{Update}
 use Rattle.crdt_core.specs.History.{folded}
 use Rattle.crdt_core.specs.Stamps.{stamp_due}
@@ -21,6 +23,7 @@ use Rattle.world_model.specs.Plan.{Plan, is_some_update, twin, takes_part, chang
 use Rattle.world_model.specs.WorldLaw.{sees_tx, IsRightFold}
 use Rattle.world_model.specs.Meaning.{Asked, asked_at, update_of, updates_from, updates_of}
 use Rattle.world_model.proofs.Names.{clash, off}
+use Rattle.world_model.proofs.Orders.{none_due}
 use Rattle.world_model.proofs.Folds.{before, before_self, before_back, lists_append, front_before, before_front, parts_front, parts_back, ascends_front}
 use Rattle.world_model.proofs.Histories.{Facts, IsMade, AreMade, has_index, each_map, Ready, IsOld, Told, of_snoc, no_self, seen_before, told_asks, told_more, effect_is}
 
@@ -125,6 +128,17 @@ module _ {E : Type 0} where
 
     pub value_is : (t : TxId) (read : List (Part E)) (own : List (Upd E)) (us : List Update) → kinds.has o.kind ≡ true → Told kinds plan run facts p o read t own us → kinds.value_of (state_read kinds o t own read) ≡ kinds.meaning o.kind us
     value_is t read own us known x = ap (λ l. kinds.value_of (folded (kinds.initial o.kind) kinds.step l)) (sym x.stored) ∙ kinds.laws.means o.kind us known x.history x.fit x.stamps
+
+    -- what reads no state has no stamp
+    pub stamp_unread : (t : TxId) (earlier : List (Upd E)) (us : List Update) (a : Asked E) → reads_state o.kind ≡ false → kinds.has o.kind ≡ true → IsMade kinds plan run p t earlier a → a.change.object ≡ o → a.stamp ≡ stamp_due o.kind us (update_of plan run t a)
+    stamp_unread t earlier us a unread known m e =
+        let u : Update = record { dot = record { tx = t; index = a.change.index }; path = a.op.path; act = a.op.act; stamp = a.stamp; now = a.now; saw = λ d. false } in
+        let fit : (fits o.kind a.op.path a.op.act && not (kinds.too_deep o.kind a.op.path)) ≡ true = subst (λ y. (fits y.kind a.op.path a.op.act && not (kinds.too_deep y.kind a.op.path)) ≡ true) e m.fits in
+        let one : fits o.kind a.op.path a.op.act ≡ true = (and_parts (fits o.kind a.op.path a.op.act) _ fit).0 in
+        let made : a.change.effect ≡ kinds.made o.kind (state_read kinds o t earlier m.read) a.op.path a.op.act a.now = subst (λ y. a.change.effect ≡ kinds.made y.kind (state_read kinds y t earlier m.read) a.op.path a.op.act a.now) e m.effect in
+        let alone : kinds.stamp_of (kinds.made o.kind (kinds.initial o.kind) a.op.path a.op.act a.now) ≡ stamp_due o.kind [] u = kinds.laws.stamps o.kind u [] known (record { new = refl; unseen = refl; apart = refl; closed = tt }, tt) (and_from _ _ fit refl) tt in
+        m.stamped ∙ ap kinds.stamp_of (made ∙ kinds.laws.unread o.kind (state_read kinds o t earlier m.read) (kinds.initial o.kind) a.op.path a.op.act a.now known unread)
+        ∙ alone ∙ none_due o.kind [] u unread one ∙ sym (none_due o.kind us (update_of plan run t a) unread one)
 
     pub stamp_is : (t : TxId) (read : List (Part E)) (earlier : List (Upd E)) (us : List Update) (a : Asked E) → IsRightFold plan run p (plan.snapshot t) o read → kinds.has o.kind ≡ true → IsMade kinds plan run p t earlier a → a.change.object ≡ o → Told kinds plan run facts p o read t earlier us → a.stamp ≡ stamp_due o.kind us (update_of plan run t a)
     stamp_is t read earlier us a r known m e x =

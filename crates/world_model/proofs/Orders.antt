@@ -3,13 +3,16 @@ use Rattle.std.proofs.Common.{◌≡◌, ⊎_elim, ℕ, ◌+◌, max, min, cond,
 use Rattle.std.specs.Prelude.{⊤, filter, map}
 use Rattle.std.specs.List.{list_any, flat_map}
 use Rattle.std.proofs.lemmas.List.{length-append}
-use Rattle.std.proofs.lemmas.Bool.{cases_Bool, or_left, or_right, or_cases, or_parts, or_from, and_right, cond-true, cond-false, false_from_ne_true}
+use Rattle.std.proofs.lemmas.Bool.{cases_Bool, or_left, or_right, or_cases, or_parts, or_from, and_right, and_parts, cond-true, cond-false, false_from_ne_true}
 use Rattle.site_vector.specs.declared.ids.TxId.{TxId}
 use Rattle.site_vector.specs.Ids.{same_tx}
 use Rattle.site_vector.specs.Order.{same_tx_is, same_tx_refl}
 use Rattle.crdt_core.specs.declared.kind.Kind.{Kind}
-use Rattle.crdt_core.specs.declared.kind.Kind.TheVariants.{RegisterLww}
-use Rattle.crdt_core.specs.Kinds.{same_kind, same_path, kind_at}
+use Rattle.crdt_core.specs.declared.kind.Kind.TheVariants.{CounterPn, SetGo, RegisterLww}
+use Rattle.crdt_core.specs.declared.object.Field.{Field}
+use Rattle.crdt_core.specs.declared.operation.Act.{Act}
+use Rattle.crdt_core.specs.Fits.{leads_to, fits}
+use Rattle.crdt_core.specs.Kinds.{same_kind, same_path, kind_at, reads_state}
 use Rattle.crdt_core.specs.Seen.{Update, sees, is_assign}
 use Rattle.crdt_core.specs.Stamps.{last_stamp, one_more, above_all, assigns_seen, stamp_due}
 use Rattle.crdt_core.specs.Same.{Same}
@@ -27,6 +30,18 @@ above_same now (u ∷ us) vs s = ap (max (one_more u.stamp)) (above_same now us 
 -- a stamp depends on no order
 pub stamp_same : (k : Kind) (us vs : List Update) (u : Update) → Same us vs → stamp_due k us u ≡ stamp_due k vs u
 stamp_same k us vs u s = ap (λ n. cond (is_assign u.act && same_kind (kind_at k u.path) RegisterLww) (Some (min last_stamp n)) None) (above_same u.now (assigns_seen u us) (assigns_seen u vs) (filter_same (λ v. sees u v.dot && (is_assign v.act && same_path v.path u.path)) us vs s))
+
+-- a kind that reads no state holds no register
+no_register : (k : Kind) (p : List Field) (a : Act) → reads_state k ≡ false → leads_to k p a ≡ true → same_kind (kind_at k p) RegisterLww ≡ false
+no_register CounterPn [] a r h = refl
+no_register CounterPn (f ∷ p) a r h = off h
+no_register SetGo [] a r h = refl
+no_register SetGo (f ∷ p) a r h = off h
+no_register k p a r h = off (sym r)
+
+-- so its updates have no stamp
+pub none_due : (k : Kind) (us : List Update) (u : Update) → reads_state k ≡ false → fits k u.path u.act ≡ true → stamp_due k us u ≡ None
+none_due k us u r h = cond-false _ (Some (min last_stamp (above_all u.now (assigns_seen u us)))) None (and_right (is_assign u.act) _ (no_register k u.path u.act r (and_parts _ (leads_to k u.path u.act) h).1))
 
 abbrev pub is_in : List TxId → TxId → Bool
 is_in ts t = list_any (λ u. same_tx u t) ts

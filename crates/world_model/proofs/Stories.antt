@@ -28,7 +28,7 @@ use Rattle.world_model.specs.World.{plan_of, own_parts, is_own, changes_of, IsWo
 use Rattle.world_model.proofs.Names.{off}
 use Rattle.world_model.proofs.Leases.{Leases}
 use Rattle.world_model.proofs.Histories.{Facts, IsMade, AreMade, has_index}
-use Rattle.world_model.proofs.Meanings.{told_read, value_is, stamp_is}
+use Rattle.world_model.proofs.Meanings.{told_read, value_is, stamp_is, stamp_unread}
 
 module _ {E : Type 0} where
   -- the changes of what was asked are the updates
@@ -143,11 +143,16 @@ module _ {E : Type 0} where
           let r = subst (λ v. IsRightFold plan whole at v o read) right.0 right.1 in
           right.2 ∙ ap kinds.value_of (own_read near run at t s o own read al.earlier)
           ∙ value_is kinds plan whole facts at o t read (map (λ a. a.change) (asked_at run t at)) (read_by plan whole run at o t read) st.1.2 (told_read kinds plan whole facts at o made all (touching o) t read r (asked_at run t at) (m t))
-      meaning_event sites parts run before at q (Updated t s o own op read x stamp) near l w al st new right m = λ h.
+      meaning_event sites parts run before at q (Updated t s o own op read x stamp) near l w al st new right m =
+          let a : Asked E = record { change = x; op = op; stamp = stamp; now = shown run at } in
+          let earlier = map (λ b. b.change) (asked_at run t at) in
+          let us = read_by plan whole run at o t read in
+          let now = made_now sites parts run before at q t s o own op read x stamp near l w al st new right in ⊎_elim
+          (λ (h : reads_state o.kind ≡ true).
           let r = subst (λ v. IsRightFold plan whole at v o read) right.0 (right.1 h) in
-          stamp_is kinds plan whole facts at o t read (map (λ a. a.change) (asked_at run t at)) (read_by plan whole run at o t read) (record { change = x; op = op; stamp = stamp; now = shown run at }) r st.1.known
-          (made_now sites parts run before at q t s o own op read x stamp near l w al st new right) st.1.object
-          (told_read kinds plan whole facts at o made all (touching o) t read r (asked_at run t at) (m t))
+          stamp_is kinds plan whole facts at o t read earlier us a r st.1.known now st.1.object (told_read kinds plan whole facts at o made all (touching o) t read r (asked_at run t at) (m t)))
+          (λ (h : reads_state o.kind ≡ false). stamp_unread kinds plan whole facts at o t earlier us a h st.1.known now st.1.object)
+          (cases_Bool (reads_state o.kind))
       meaning_event sites parts run before at q event near l w al st new right m = tt
 
       pub meanings : (sites parts : ℕ) → ((run : List (Entry E)) (state : PartId → PartState E) → IsWorldRun kinds sites parts run state → Leases run state) → (run : List (Entry E)) (state : PartId → PartState E) → IsWorldRun kinds sites parts run state → EventsAre (IsRight kinds plan whole) run → HaveMeaning kinds plan whole run

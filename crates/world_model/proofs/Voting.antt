@@ -5,7 +5,7 @@ use Rattle.std.proofs.lemmas.Bool.{or_left, or_right, false_from_ne_true}
 use Rattle.site_vector.specs.declared.ids.PartId.{PartId}
 use Rattle.site_vector.specs.declared.ids.TxId.{TxId}
 use Rattle.site_vector.specs.Order.{same_tx_refl}
-use Rattle.world_model.specs.Event.{Event, Prepared, Decided, Finished, Entry, attempt, EventsAre, tried, voted, is_decided}
+use Rattle.world_model.specs.Event.{Event, Prepared, Decided, Finished, Cut, Entry, attempt, EventsAre, tried, voted, is_decided}
 use Rattle.world_model.specs.Partition.{Kinds, PartState, PartStep}
 use Rattle.world_model.specs.Plan.{Plan, takes_part, commit_vector, IsAllowed, IsRun}
 use Rattle.world_model.specs.Votes.{VotesAt, KeepVotes, ShowsVector, IsAgreed}
@@ -21,6 +21,8 @@ module _ {E : Type 0} where
   vote_event : (plan : Plan E) (run : List (Entry E)) (before : PartId → PartState E) (at : PartId) (event : Event E) → IsAllowed plan run before at (attempt event) → VotesAt plan run at event
   vote_event plan run before at (Prepared t s l w n) al = record { takes = al.takes; fresh = false_from_ne_true _ (λ v. clash (voted_tried run t at v) al.fresh); after_lead = al.after_lead }
   vote_event plan run before at (Decided t c) al = record { lead = al.lead; here = al.here; all = al.all }
+  vote_event plan run before at (Cut (Decided t c)) al = record { lead = al.lead; here = al.here; all = al.all }
+  vote_event plan run before at (Cut a) al = tt
   vote_event plan run before at (Finished t c) al = al.decided
   vote_event plan run before at event al = tt
 

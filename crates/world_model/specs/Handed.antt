@@ -5,7 +5,7 @@ use Rattle.site_vector.specs.declared.ids.TxId.{TxId}
 use Rattle.crdt_core.specs.declared.object.ObjectId.{ObjectId}
 use Rattle.crdt_core.specs.declared.record.Upd.{Upd}
 use Rattle.crdt_core.specs.Placing.{place_of}
-use Rattle.world_model.specs.Event.{AskBegin, AskRead, AskUpdate, AskTake, Event, Began, Updated, Read, Took, Heard, Refused, Entry, tried}
+use Rattle.world_model.specs.Event.{AskBegin, AskRead, AskUpdate, AskDecide, AskTake, Event, Began, Updated, Read, Took, Heard, Refused, Entry, tried}
 use Rattle.world_model.specs.Past.{is_of, dependency}
 use Rattle.world_model.specs.Plan.{Plan, home, update_count, MayTake, MayHear}
 
@@ -18,7 +18,7 @@ module _ {E : Type 0} where
     pub who : List ℕ
     pub begun : is_of run who t ≡ true
 
-  -- what is refused was handed what its session holds; a begin names its partition; a message that is taken was sent to here, and a report that is heard was made
+  -- what is refused was handed what its session holds, and a decide is asked at the transaction's site; a begin names its partition; a message that is taken was sent to here, and a report that is heard was made
   abbrev pub HandedAt : Plan E → List (Entry E) → PartId → Event E → Type 0
   HandedAt plan run p (Began who dep t s) = home t ≡ p
   HandedAt plan run p (Read t s o own read value) = IsPlacedAt plan run p t o
@@ -28,6 +28,7 @@ module _ {E : Type 0} where
   HandedAt plan run p (Refused (AskBegin who dep) why) = dep ≡ dependency plan.sites run who
   HandedAt plan run p (Refused (AskRead t s o own) why) = s ≡ plan.snapshot t
   HandedAt plan run p (Refused (AskUpdate t s o own op) why) = s ≡ plan.snapshot t
+  HandedAt plan run p (Refused (AskDecide t c) why) = p.site ≡ t.site
   HandedAt plan run p (Heard q b stable) = MayHear plan run p q b
   HandedAt plan run p other = ⊤
 

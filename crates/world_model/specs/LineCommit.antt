@@ -24,21 +24,22 @@ pub record IsVote (parts : ℕ) (whole before : List Line) (p : PartId) (t : TxI
   pub once : was_prepared before t p ≡ false
   pub lead_first : p ≢ lead parts whole t → was_prepared before t (lead parts whole t) ≡ true
 
--- a decision stands at the lead, after a vote of every participant, and shows the commit vector
-pub record IsDecision (parts : ℕ) (whole before : List Line) (p : PartId) (t : TxId) (c : List ℕ) : Type 0 where
+-- the lead decides, after a vote of every participant
+pub record IsDecision (parts : ℕ) (whole before : List Line) (p : PartId) (t : TxId) : Type 0 where
   pub at_lead : p ≡ lead parts whole t
   pub here : was_prepared before t p ≡ true
   pub votes : (q : PartId) → takes_part whole t q ≡ true → was_prepared before t q ≡ true
-  pub shown : c ≡ commit_vector whole t
 
 -- an update comes before any vote
 abbrev pub IsEarly : List Line → Call → Type 0
 IsEarly before (UpdateOf t o op) = (p : PartId) → was_prepared before t p ≡ false
 IsEarly before other = ⊤
 
+-- a decision shows the commit vector; what is in doubt was asked as a decision is
 abbrev pub ShowsCommit : ℕ → List Line → List Line → PartId → Call → Step → Type 0
 ShowsCommit parts whole before p call (step.Prepared q t n) = IsVote parts whole before p t
-ShowsCommit parts whole before p call (step.Decided q t c) = IsDecision parts whole before p t c
+ShowsCommit parts whole before p call (step.Decided q t c) = IsDecision parts whole before p t × (c ≡ commit_vector whole t)
+ShowsCommit parts whole before p call (step.Unsure t) = IsDecision parts whole before p t
 ShowsCommit parts whole before p call (step.Updated name o stamp) = IsEarly before call
 ShowsCommit parts whole before p call (step.Finished q t) = in_history before t ≡ true
 ShowsCommit parts whole before p call other = ⊤

@@ -8,7 +8,6 @@ use Rattle.world_model.specs.declared.step.Step.TheVariants as step
 use Rattle.world_model.specs.Partition.{names_pending}
 use Rattle.world_model.specs.Shown.{listed_time}
 use Rattle.world_model.specs.Lines.{Line}
-use Rattle.world_model.specs.LineHistory.{in_history}
 
 -- a prepare adds t, a decide, finish or abort removes it, a restart tells anew
 abbrev pub pending_after : TxId → Bool → Step → Bool
@@ -33,15 +32,15 @@ abbrev pub prepare_time : List Line → PartId → TxId → ℕ
 prepare_time [] p t = 0
 prepare_time (l ∷ ls) p t = if same_part l.at p then prepare_time_after t (prepare_time ls p t) l.step else prepare_time ls p t
 
--- p was in doubt of t: t's decide was cut off there, where t wasn't decided yet, and p has not restarted since
-abbrev pub doubt_after : List Line → TxId → Bool → Step → Bool
-doubt_after ls t old (step.Unsure u) = same_tx u t && not (in_history ls t)
-doubt_after ls t old (step.Restarted p n bounds named listed) = false
-doubt_after ls t old other = old
+-- p is in doubt of t: t's decide was cut off there, and p has not restarted since
+abbrev pub doubt_after : TxId → Bool → Step → Bool
+doubt_after t old (step.Unsure u) = same_tx u t || old
+doubt_after t old (step.Restarted p n bounds named listed) = false
+doubt_after t old other = old
 
 abbrev pub in_doubt : List Line → PartId → TxId → Bool
 in_doubt [] p t = false
-in_doubt (l ∷ ls) p t = if same_part l.at p then doubt_after ls t (in_doubt ls p t) l.step else in_doubt ls p t
+in_doubt (l ∷ ls) p t = if same_part l.at p then doubt_after t (in_doubt ls p t) l.step else in_doubt ls p t
 
 -- p crashed or met a fault of its disk, and has no later restart
 abbrev pub down_after : Bool → Step → Bool

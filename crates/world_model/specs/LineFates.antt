@@ -18,10 +18,20 @@ use Rattle.world_model.specs.Plan.{twin}
 use Rattle.world_model.specs.LineUpdates.{takes_part, lead}
 use Rattle.world_model.specs.LineFate.{pending, prepare_time, in_doubt}
 
--- a participant of what is decided so far has it committed, unless it is pending there still
-abbrev pub is_committed_at : List Line → List Line → PartId → TxId → Bool
-is_committed_at whole before p t = takes_part whole t p && (in_history before t && not (pending before p t))
+-- p is a participant of t, which is decided so far and is pending there no more
+abbrev pub is_ended_at : List Line → List Line → PartId → TxId → Bool
+is_ended_at whole before p t = takes_part whole t p && (in_history before t && not (pending before p t))
 
+-- t is of another site and updated something at its partition with p's number, and p took the messages of that site up to t's commit time
+abbrev pub is_brought_to : List Line → List Line → PartId → TxId → Bool
+is_brought_to whole before p t =
+    not (t.site == p.site) && (takes_part whole t (twin t.site p) && (in_history whole t && leb (commit_time whole t) (bound before p t.site)))
+
+-- t is committed at p
+abbrev pub is_committed_at : List Line → List Line → PartId → TxId → Bool
+is_committed_at whole before p t = is_ended_at whole before p t || is_brought_to whole before p t
+
+-- t is pending or committed at p
 abbrev pub is_known_at : List Line → List Line → PartId → TxId → Bool
 is_known_at whole before p t = pending before p t || is_committed_at whole before p t
 

@@ -1,5 +1,5 @@
 -- Right reads, over the lines of a run.
-use Rattle.std.specs.Prelude.{◌≡◌, ℕ, ◌+◌, Bool, true, ◌&&◌, ◌||◌, nat_lt, List, [], ◌∷◌, ◌++◌, length, filter, map, Option, ⊤}
+use Rattle.std.specs.Prelude.{◌≡◌, ℕ, ◌+◌, Bool, ◌&&◌, ◌||◌, nat_lt, List, [], ◌∷◌, ◌++◌, length, filter, map, Option, ⊤}
 use Rattle.std.specs.List.{flat_map}
 use Rattle.site_vector.specs.declared.ids.PartId.{PartId}
 use Rattle.site_vector.specs.declared.ids.TxId.{TxId}
@@ -9,7 +9,6 @@ use Rattle.crdt_core.specs.declared.kind.Kind.{Kind}
 use Rattle.crdt_core.specs.declared.object.ObjectId.{ObjectId}
 use Rattle.crdt_core.specs.declared.operation.Op.{Op}
 use Rattle.crdt_core.specs.declared.value.Value.{Value}
-use Rattle.crdt_core.specs.Kinds.{reads_state}
 use Rattle.crdt_core.specs.Objects.{same_object}
 use Rattle.crdt_core.specs.Seen.{Update}
 use Rattle.crdt_core.specs.Stamps.{stamp_due}
@@ -52,5 +51,5 @@ abbrev pub IsRight : (Kind → List Update → Value) → List Line → List Lin
 IsRight meaning whole before p call (step.Crashed q) = ⊤
 IsRight meaning whole before p (ReadOf t o) (step.Value name object value) = value ≡ meaning o.kind (read_by whole before t o)
 IsRight meaning whole before p (UpdateOf t o op) (step.Updated name object stamp) =
-    reads_state o.kind ≡ true → stamp ≡ stamp_due o.kind (read_by whole before t o) (update_of whole t (record { at = p; now = now before p; object = o; op = op; stamp = stamp; index = length (changes before t) + 1 }))
+    stamp ≡ stamp_due o.kind (read_by whole before t o) (update_of whole t (record { at = p; now = now before p; object = o; op = op; stamp = stamp; index = length (changes before t) + 1 }))
 IsRight meaning whole before p call other = ⊤

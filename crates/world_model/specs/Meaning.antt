@@ -8,7 +8,6 @@ use Rattle.crdt_core.specs.declared.object.ObjectId.{ObjectId}
 use Rattle.crdt_core.specs.declared.operation.Op.{Op}
 use Rattle.crdt_core.specs.declared.record.Upd.{Upd}
 use Rattle.crdt_core.specs.declared.record.Part.{Part}
-use Rattle.crdt_core.specs.Kinds.{reads_state}
 use Rattle.crdt_core.specs.Objects.{same_object}
 use Rattle.crdt_core.specs.Seen.{Update}
 use Rattle.crdt_core.specs.Stamps.{stamp_due}
@@ -62,10 +61,10 @@ module _ {E : Type 0} where
   abbrev pub read_by : Plan E → List (Entry E) → List (Entry E) → PartId → ObjectId → TxId → List (Part E) → List Update
   read_by plan run before p o t read = updates_from plan run o t (updates_of plan run p o [] read) (asked_at before t p)
 
-  -- a value is the meaning of what is read, and a stamp is due by it
+  -- a value is the meaning of what is read, and a stamp is due by it; a kind that reads no state has no stamps, whatever is read
   abbrev pub HasMeaning : {S : Type 0} → Kinds S E → Plan E → List (Entry E) → List (Entry E) → PartId → Event E → Type 0
   HasMeaning kinds plan run before p (Read t s o own read value) = value ≡ kinds.meaning o.kind (read_by plan run before p o t read)
-  HasMeaning kinds plan run before p (Updated t s o own op read u stamp) = reads_state o.kind ≡ true → stamp ≡ stamp_due o.kind (read_by plan run before p o t read) (update_of plan run t (record { change = u; op = op; stamp = stamp; now = shown before p }))
+  HasMeaning kinds plan run before p (Updated t s o own op read u stamp) = stamp ≡ stamp_due o.kind (read_by plan run before p o t read) (update_of plan run t (record { change = u; op = op; stamp = stamp; now = shown before p }))
   HasMeaning kinds plan run before p other = ⊤
 
   abbrev pub HaveMeaning : {S : Type 0} → Kinds S E → Plan E → List (Entry E) → List (Entry E) → Type 0

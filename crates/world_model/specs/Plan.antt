@@ -10,7 +10,7 @@ use Rattle.crdt_core.specs.declared.record.Message.{Message}
 use Rattle.crdt_core.specs.Objects.{same_object}
 use Rattle.crdt_core.specs.Placing.{place_of}
 use Rattle.world_model.specs.Log.{pending, committed}
-use Rattle.world_model.specs.Event.{Ask, AskBegin, AskRead, AskUpdate, AskPrepare, AskFinish, AskTake, Refused, Event, Began, Updated, Read, Prepared, Decided, Finished, Aborted, Sent, Took, Reported, Heard, Entry, attempt, tried, voted, decide_tried, gave_up, is_decided, time_of, WasShown}
+use Rattle.world_model.specs.Event.{Ask, AskBegin, AskRead, AskUpdate, AskPrepare, AskDecide, AskFinish, AskTake, Refused, Event, Began, Updated, Read, Prepared, Decided, Finished, Aborted, Sent, Took, Reported, Heard, Entry, attempt, tried, voted, decide_tried, gave_up, is_decided, time_of, WasShown}
 use Rattle.world_model.specs.Past.{dependency}
 use Rattle.world_model.specs.Partition.{Kinds, PartState, IsOther, new_part, PartStep}
 
@@ -144,12 +144,13 @@ module _ {E : Type 0} where
     pub dependency : List ℕ
     pub begun : WasShown run (home t) (Began who dependency t s)
 
-  -- who asks for what is refused
+  -- who asks for what is refused; a transaction is decided at its own site
   abbrev pub MayAsk : Plan E → List (Entry E) → PartId → Ask E → Type 0
   MayAsk plan run p (AskBegin who dep) = dep ≡ dependency plan.sites run who
   MayAsk plan run p (AskRead t s o own) = IsSession run p t s
   MayAsk plan run p (AskUpdate t s o own op) = IsSession run p t s
   MayAsk plan run p (AskPrepare t s l w) = IsSession run p t s
+  MayAsk plan run p (AskDecide t c) = p.site ≡ t.site
   MayAsk plan run p (AskFinish t c) = (is_decided run t ≡ true) × (takes_part plan t p ≡ true)
   MayAsk plan run p (AskTake m) = MayTake plan run p m
   MayAsk plan run p other = ⊤

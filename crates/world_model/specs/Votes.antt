@@ -2,7 +2,7 @@
 use Rattle.std.specs.Prelude.{◌≡◌, ◌≢◌, ℕ, true, false, List, [], ◌∷◌, ⊤}
 use Rattle.site_vector.specs.declared.ids.PartId.{PartId}
 use Rattle.site_vector.specs.declared.ids.TxId.{TxId}
-use Rattle.world_model.specs.Event.{Event, Prepared, Decided, Finished, Entry, tried, voted, is_decided}
+use Rattle.world_model.specs.Event.{Event, Prepared, Decided, Finished, Cut, Entry, tried, voted, is_decided}
 use Rattle.world_model.specs.Plan.{Plan, takes_part, commit_vector}
 
 module _ {E : Type 0} where
@@ -18,10 +18,11 @@ module _ {E : Type 0} where
     pub here : voted run t p ≡ true
     pub all : (q : PartId) → takes_part plan t q ≡ true → voted run t q ≡ true
 
-  -- what is finished was decided
+  -- a decide that was cut off was asked as one that was done; what is finished was decided
   abbrev pub VotesAt : Plan E → List (Entry E) → PartId → Event E → Type 0
   VotesAt plan run p (Prepared t s l w n) = IsVote plan run p t
   VotesAt plan run p (Decided t c) = IsDecision plan run p t
+  VotesAt plan run p (Cut (Decided t c)) = IsDecision plan run p t
   VotesAt plan run p (Finished t c) = is_decided run t ≡ true
   VotesAt plan run p other = ⊤
 
