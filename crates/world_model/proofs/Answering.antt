@@ -1,13 +1,14 @@
 -- A refusal answers a call that it may answer.
-use Rattle.std.proofs.Common.{◌≡◌, ℕ, true, List, [], ◌∷◌, None, Some, refl, sym, ◌∙◌}
+use Rattle.std.proofs.Common.{◌≡◌, ℕ, true, not, List, [], ◌∷◌, None, Some, refl, sym, ap, ◌∙◌}
 use Rattle.std.specs.Prelude.{⊤}
 use Rattle.site_vector.specs.declared.ids.PartId.{PartId}
-use Rattle.world_model.specs.Event.{AskBegin, AskRead, AskUpdate, AskPrepare, AskDecide, AskFinish, AskAbort, AskTake, AskRestart, IsDown, ClockBehind, TxPending, StableBehind, ClockAtEnd, IsGone, HasGap, IsRepeat, IsBadOp, IsDamaged, Event, Updated, Read, Refused, Entry, EventsAre}
+use Rattle.world_model.specs.Event.{AskBegin, AskRead, AskUpdate, AskPrepare, AskDecide, AskFinish, AskAbort, AskTake, AskRestart, IsDown, ClockBehind, TxPending, StableBehind, ClockAtEnd, IsGone, HasGap, IsRepeat, IsBadOp, IsDamaged, Event, Updated, Read, Crashed, RestartCut, Restarted, Refused, Opened, Cut, Entry, EventsAre}
 use Rattle.crdt_core.specs.declared.record.Record.{Record}
 use Rattle.world_model.specs.Fitting.{unfit}
-use Rattle.world_model.specs.Partition.{Kinds, PartState, Image, PartStep}
+use Rattle.world_model.specs.Partition.{Kinds, PartState, Image, MayDo, PartStep}
 use Rattle.world_model.specs.Plan.{Plan, takes_part, IsRun}
 use Rattle.world_model.specs.WorldLaw.{HasCauseAt, HaveCausesAt}
+use Rattle.world_model.specs.Resumed.{is_call}
 use Rattle.world_model.specs.Answering.{IsDueAt, AreDue, IsKnown}
 use Rattle.world_model.proofs.Fitted.{PlanFits, good_unfit, good_run}
 
@@ -15,8 +16,17 @@ none_some : (k : ℕ) → None ≡ Some k → ⊥
 none_some k e = absurd (cc e)
 
 module _ {E : Type 0} {S : Type 0} (kinds : Kinds S E) where
+  is_called : (sites parts : ℕ) (id : PartId) (p : PartState E) (what : Event E) → MayDo kinds sites parts id p what → is_call what ≡ true
+  is_called sites parts id p Crashed k = absurd k
+  is_called sites parts id p RestartCut k = absurd k
+  is_called sites parts id p (Restarted n b named listed) k = absurd k
+  is_called sites parts id p (Refused asked why) k = absurd k
+  is_called sites parts id p (Opened who) k = absurd k
+  is_called sites parts id p (Cut a) k = absurd k
+  is_called sites parts id p what k = refl
+
   due_event : (plan : Plan E) (run : List (Entry E)) (at : PartId) (p q : PartState E) (event : Event E) → ((log : List (Record E)) → Image p log → unfit plan.sites plan.parts at log ≡ None) → PartStep kinds plan.sites plan.parts at p event q → HasCauseAt plan run at event → IsDueAt event
-  due_event plan run at p q (Refused asked IsDown) fit st h = refl
+  due_event plan run at p q (Refused asked IsDown) fit st h = ap not st.0.1
   due_event plan run at p q (Refused (AskRead t s o own) (ClockBehind n)) fit st h = refl
   due_event plan run at p q (Refused (AskUpdate t s o own op) (ClockBehind n)) fit st h = refl
   due_event plan run at p q (Refused (AskPrepare t s l w) (ClockBehind n)) fit st h = refl
@@ -33,6 +43,7 @@ module _ {E : Type 0} {S : Type 0} (kinds : Kinds S E) where
   due_event plan run at p q (Refused (AskTake m) (IsRepeat n)) fit st h = refl
   due_event plan run at p q (Refused AskRestart (IsDamaged k)) fit st h = absurd (none_some k (sym (fit st.0.log st.0.found) ∙ st.0.first))
   due_event plan run at p q (Refused asked why) fit st h = absurd st.0.1
+  due_event plan run at p q (Cut what) fit st h = is_called plan.sites plan.parts at p what st.1
   due_event plan run at p q event fit st h = tt
 
   pub due_events : (plan : Plan E) → PlanFits plan → (run : List (Entry E)) (parts : PartId → PartState E) → IsRun kinds plan run parts → HaveCausesAt plan run → AreDue run

@@ -10,7 +10,7 @@ use Rattle.crdt_core.specs.declared.record.Message.{Message}
 use Rattle.crdt_core.specs.declared.record.Record.{Record}
 use Rattle.crdt_core.specs.declared.record.Record.TheVariants.{Lease, Prepare, Decide, Finish, Abort, Batch}
 use Rattle.world_model.specs.Log.{lists, vector_in, changes_in, taken, taken_at, taken_changes, bound, grown, IsImage}
-use Rattle.world_model.specs.Event.{Refused, Event, Ticked, Began, Updated, Read, Prepared, Decided, Finished, Aborted, Sent, Took, Reported, Heard, Crashed, Restarted, Opened, Cut, Entry, attempt, is_decided, time_of, sent, EventsAre}
+use Rattle.world_model.specs.Event.{Refused, Event, Ticked, Began, Updated, Read, Prepared, Decided, Finished, Aborted, Sent, Took, Reported, Heard, Crashed, RestartCut, Restarted, Opened, Cut, Entry, attempt, is_decided, time_of, sent, EventsAre}
 use Rattle.world_model.specs.Partition.{Kinds, PartState, Image, IsOther, AreParts, IsBegin, above, batch_of, known, vector_of, done, PartStep}
 use Rattle.world_model.specs.Plan.{Plan, takes_part, twin, changes_at, vector_at, commit_vector, IsAllowed, MayTake, MayHear}
 use Rattle.world_model.specs.WorldLaw.{IsExact}
@@ -251,6 +251,7 @@ module _ {E : Type 0} where
         (entry_cases (before at).bounds m.from m.hi j)
     up_here (Cut a) al st j up ne = clash up (ap (λ p. p.up) st.2)
     up_here Crashed al st j up ne = clash up (ap (λ p. p.up) st)
+    up_here RestartCut al st j up ne = clash up (ap (λ p. p.up) st)
     up_here (Restarted n b named listed) al st j up ne =
         let one = λ (m : List (Record E)) (im : Image (after at) m). subst (λ rs. IsImage (after at).log rs m) st.whole im in
         let l = logged_step at j (after at).log (image_log (after at)) ne in
@@ -302,6 +303,7 @@ module _ {E : Type 0} where
         (vectors_cases (before at).heard k q (join (vector_of (before at).heard k) b))
     heard_here (Cut a) al st q j up l ne = clash up (ap (λ p. p.up) st.2)
     heard_here Crashed al st q j up l ne = clash up (ap (λ p. p.up) st)
+    heard_here RestartCut al st q j up l ne = clash up (ap (λ p. p.up) st)
     heard_here (Restarted n b named listed) al st q j up l ne = complete_zero (numbered at q) j _ (ap (λ x. entry (vector_of x q) j) st.heard ∙ rows_at plan.parts plan.sites (q - 1) (j - 1))
     heard_here (Refused asked why) al st q j up l ne = heard_same q j (sym (ap (λ p. p.up) st.1) ∙ up) (ap (λ p. p.heard) st.1) l ne
     heard_here (Opened who) al st q j up l ne = heard_same q j (sym (ap (λ p. p.up) st) ∙ up) (ap (λ p. p.heard) st) l ne

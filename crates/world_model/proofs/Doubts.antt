@@ -8,7 +8,7 @@ use Rattle.site_vector.specs.Order.{same_part_refl, same_tx_is}
 use Rattle.crdt_core.specs.declared.record.Record.{Record}
 use Rattle.crdt_core.specs.declared.record.Record.TheVariants.{Decide}
 use Rattle.world_model.specs.Log.{prepared, committed, aborted, pending, last_decided, IsImage}
-use Rattle.world_model.specs.Event.{Event, Decided, Crashed, Restarted, Refused, Opened, Cut, Entry, attempt, is_named, decide_tried}
+use Rattle.world_model.specs.Event.{Event, Decided, Crashed, RestartCut, Restarted, Refused, Opened, Cut, Entry, attempt, is_named, decide_tried}
 use Rattle.world_model.specs.Partition.{Kinds, PartState, Image, PartStep}
 use Rattle.world_model.specs.Plan.{Plan, IsAllowed, IsRun}
 use Rattle.world_model.specs.Doubt.{doubt_after, in_doubt, SettlesAt, SettleDoubts}
@@ -62,6 +62,7 @@ module _ {E : Type 0} where
     here (Cut (Decided u c)) al st t h = ⊎_elim (λ (k : same_tx u t ≡ true). cut_here u c al.once st t k) (λ (k : in_doubt run at t ≡ true). clash st.0 (d.down at t k)) (or_cases _ _ h)
     here (Cut a) al st t h = clash st.0 (d.down at t h)
     here Crashed al st t h = record { down = ap (λ p. p.up) st; either = λ m i. d.either at t m (subst (λ p. Image p m) st i) h }
+    here RestartCut al st t h = record { down = ap (λ p. p.up) st; either = λ m i. d.either at t m (subst (λ p. Image p m) st i) h }
     here (Restarted n b named listed) al st t h = off h
     here (Refused asked why) al st t h = stays_here t h st.1
     here (Opened who) al st t h = stays_here t h st

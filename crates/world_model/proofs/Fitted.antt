@@ -20,7 +20,7 @@ use Rattle.crdt_core.specs.declared.record.Record.TheVariants.{Lease, Prepare, D
 use Rattle.crdt_core.specs.Placing.{place_of}
 use Rattle.world_model.specs.Log.{end_of_time, lists, vector_in, ceiling, prepared, prepare_time, committed, aborted, pending, taken, taken_at, bound, grown, IsImage}
 use Rattle.world_model.specs.Fitting.{is_vector, names_tx, is_named_in, prepared_lead, prepared_snapshot, stand_at, fits_commit, fits_part, are_apart, fits_message, fits_record, unfit_next, unfit}
-use Rattle.world_model.specs.Event.{Event, Ticked, Began, Updated, Read, Prepared, Decided, Finished, Aborted, Sent, Took, Reported, Heard, Crashed, Restarted, Refused, Opened, Cut, Entry, attempt, is_prepare, time_shown, tried, voted, is_decided, time_of, sent}
+use Rattle.world_model.specs.Event.{Event, Ticked, Began, Updated, Read, Prepared, Decided, Finished, Aborted, Sent, Took, Reported, Heard, Crashed, RestartCut, Restarted, Refused, Opened, Cut, Entry, attempt, is_prepare, time_shown, tried, voted, is_decided, time_of, sent}
 use Rattle.world_model.specs.Partition.{Kinds, PartState, Image, IsOther, IsBegin, Precede, Ascends, stream_cmp, AreParts, lease_for, above, batch_of, written, records, done, MayDo, new_part, PartStep}
 use Rattle.world_model.specs.Plan.{Plan, first_of, home, twin, is_some_update, takes_part, change_by, updates_at, commit_vector, IsPlace, IsAllowed, MayPrepare, MayDecide, MayFinish, MayTake, IsRun}
 use Rattle.world_model.specs.Commit.{partitions}
@@ -422,6 +422,7 @@ module _ {E S : Type 0} (kinds : Kinds S E) (plan : Plan E) (pf : PlanFits plan)
     logs_here : (event : Event E) → IsAllowed plan run before at (attempt event) → PartStep kinds plan.sites plan.parts at (before at) event (after at) → (m : List (Record E)) → Image (after at) m → AreGood plan at m
     logs_here (Cut what) al st m i = image_good plan at log (records (before at) what) m good_log (records_good what al st.1 st.0) (subst (λ p. Image p m) st.2 i)
     logs_here Crashed al st m i = g.logs at m (subst (λ p. Image p m) st i)
+    logs_here RestartCut al st m i = g.logs at m (subst (λ p. Image p m) st i)
     logs_here (Restarted n b named listed) al st m i = subst (AreGood plan at) (sym (subst (λ rs. IsImage (after at).log rs m) st.whole i)) (g.logs at (after at).log st.found)
     logs_here (Refused asked why) al st m i = g.logs at m (subst (λ p. Image p m) st.1 i)
     logs_here (Opened who) al st m i = g.logs at m (subst (λ p. Image p m) st i)
@@ -472,6 +473,7 @@ module _ {E S : Type 0} (kinds : Kinds S E) (plan : Plan E) (pf : PlanFits plan)
     bounds_here : (w : Shown plan run before) (event : Event E) → IsAllowed plan run before at (attempt event) → PartStep kinds plan.sites plan.parts at (before at) event (after at) → (after at).up ≡ true → (j : ℕ) → IsOther plan.sites at.site j → bound (after at).log j ≤ entry (after at).bounds j
     bounds_here w (Cut what) al st u j o = clash u (ap (λ p. p.up) st.2)
     bounds_here w Crashed al st u j o = clash u (ap (λ p. p.up) st)
+    bounds_here w RestartCut al st u j o = clash u (ap (λ p. p.up) st)
     bounds_here w (Restarted n b named listed) al st u j o = let e = st.bounds j o in omega arith
     bounds_here w (Refused asked why) al st u j o = subst (λ p. bound p.log j ≤ entry p.bounds j) (sym st.1) (g.bounds at (sym (ap (λ p. p.up) st.1) ∙ u) j o)
     bounds_here w (Opened who) al st u j o = subst (λ p. bound p.log j ≤ entry p.bounds j) (sym st) (g.bounds at (sym (ap (λ p. p.up) st) ∙ u) j o)

@@ -44,6 +44,10 @@ module _ {E : Type 0} where
   handed_event kinds plan run before at q (Heard k b stable) pl al st = al
   handed_event kinds plan run before at q event pl al st = tt
 
+  pub place_events : {S : Type 0} (kinds : Kinds S E) (plan : Plan E) (run : List (Entry E)) (parts : PartId → PartState E) → IsRun kinds plan run parts → EventsAre (λ p event. IsPlace plan.sites plan.parts p) run
+  place_events kinds plan [] parts r = tt
+  place_events kinds plan (e ∷ run) parts r = (r.2.place, place_events kinds plan run r.0 r.1)
+
   pub handed_events : {S : Type 0} (kinds : Kinds S E) (plan : Plan E) (run : List (Entry E)) (parts : PartId → PartState E) → IsRun kinds plan run parts → AreHanded plan run
   handed_events kinds plan [] parts r = tt
   handed_events kinds plan (e ∷ run) parts r = (handed_event kinds plan run r.0 e.at (parts e.at) e.event (law_plan kinds plan run r.0 r.1).planned r.2.allowed r.2.step, handed_events kinds plan run r.0 r.1)

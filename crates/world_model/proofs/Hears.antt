@@ -8,7 +8,7 @@ use Rattle.site_vector.specs.Ids.{same_part}
 use Rattle.site_vector.specs.Order.{same_part_refl}
 use Rattle.site_vector.specs.Vector.{entry, join}
 use Rattle.site_vector.specs.VectorLaws.{length_join}
-use Rattle.world_model.specs.Event.{AskBegin, StableBehind, ClockAtEnd, Event, Ticked, Began, Updated, Read, Prepared, Decided, Finished, Aborted, Sent, Took, Reported, Heard, Crashed, Restarted, Refused, Opened, Cut, Entry, attempt, EventsAre}
+use Rattle.world_model.specs.Event.{AskBegin, StableBehind, ClockAtEnd, Event, Ticked, Began, Updated, Read, Prepared, Decided, Finished, Aborted, Sent, Took, Reported, Heard, Crashed, RestartCut, Restarted, Refused, Opened, Cut, Entry, attempt, EventsAre}
 use Rattle.world_model.specs.Partition.{Kinds, PartState, IsOther, known, stable_entry, lowest, vector_of, new_part, done, PartStep}
 use Rattle.world_model.specs.Plan.{Plan, IsAllowed, IsRun}
 use Rattle.world_model.specs.Shown.{bound_shown}
@@ -106,6 +106,7 @@ module _ {E : Type 0} where
     }
     heard_here (Cut a) al st = down_heard (Cut a) (ap (λ p. p.up) st.2)
     heard_here Crashed al st = down_heard Crashed (ap (λ p. p.up) st)
+    heard_here RestartCut al st = down_heard RestartCut (ap (λ p. p.up) st)
     heard_here (Ticked r n) al st = same_heard (Ticked r n) st.0 (λ q j. refl) (ap (λ p. p.heard) st.2)
     heard_here (Began who dep t s) al st = same_heard (Began who dep t s) st.0 (λ q j. refl) (ap (λ p. p.heard) st.2)
     heard_here (Updated t s o own op read x stamp) al st = same_heard (Updated t s o own op read x stamp) st.0 (λ q j. refl) (ap (λ p. p.heard) st.2)

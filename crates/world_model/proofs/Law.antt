@@ -33,7 +33,7 @@ use Rattle.world_model.proofs.Hears.{fresh_events}
 use Rattle.world_model.proofs.Ups.{answer_up}
 use Rattle.world_model.proofs.Doubts.{settle_doubts}
 use Rattle.world_model.proofs.Voting.{vote_events, vectors, agreed}
-use Rattle.world_model.proofs.Handing.{IsHome, homes, snapshot_width, handed_events, numbered_events, planned_updates}
+use Rattle.world_model.proofs.Handing.{IsHome, homes, snapshot_width, place_events, handed_events, numbered_events, planned_updates}
 use Rattle.world_model.proofs.Resuming.{resume_events}
 use Rattle.world_model.proofs.Sending.{send_events}
 use Rattle.world_model.proofs.Answering.{due_events, known_events}
@@ -185,6 +185,7 @@ module _ {E : Type 0} where
       let strictly = strict plan run state k.fate in
       let law : IsLawfulWorld kinds plan run =
       record {
+        places = place_events kinds plan run state under;
         right = right;
         meant = meanings kinds plan run facts made all sites parts (world_leases kinds sites parts) run state r right;
         causal = causal_stores kinds plan run made all;

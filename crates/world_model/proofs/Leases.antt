@@ -12,7 +12,7 @@ use Rattle.crdt_core.specs.declared.record.Message.{Message}
 use Rattle.crdt_core.specs.declared.record.Record.{Record}
 use Rattle.crdt_core.specs.declared.record.Record.TheVariants.{Lease, Prepare, Decide, Finish, Abort, Batch}
 use Rattle.world_model.specs.Log.{end_of_time, ceiling, pending, grown, IsImage}
-use Rattle.world_model.specs.Event.{Refused, Event, Ticked, Began, Updated, Read, Prepared, Decided, Finished, Aborted, Sent, Took, Reported, Heard, Crashed, Restarted, Opened, Cut, Entry, shown_after, shown, missed_after, missed}
+use Rattle.world_model.specs.Event.{Refused, Event, Ticked, Began, Updated, Read, Prepared, Decided, Finished, Aborted, Sent, Took, Reported, Heard, Crashed, RestartCut, Restarted, Opened, Cut, Entry, shown_after, shown, missed_after, missed}
 use Rattle.world_model.specs.Partition.{Kinds, PartState, Image, lease_for, above, batch_of, records, now_after, MayDo, done, cut, PartStep}
 use Rattle.world_model.specs.WorldLaw.{ClockIs}
 use Rattle.world_model.proofs.Names.{clash, part_cases, part_other}
@@ -152,6 +152,7 @@ module _ {E : Type 0} where
     turns p last skipped (Reported b) c m = still p last skipped (Reported b) c refl refl refl refl refl (λ x i. ap ceiling i)
     turns p last skipped (Heard q b stable) c m = still p last skipped (Heard q b stable) c refl refl refl refl refl (λ x i. ap ceiling i)
     turns p last skipped Crashed c m = absurd m
+    turns p last skipped RestartCut c m = absurd m
     turns p last skipped (Restarted n b named listed) c m = absurd m
     turns p last skipped (Refused asked why) c m = absurd m
     turns p last skipped (Opened who) c m = absurd m
@@ -181,6 +182,7 @@ module _ {E : Type 0} where
     step_clock : (p q : PartState E) (last skipped : ℕ) (a : Event E) → Clock p last skipped → PartStep kinds sites count id p a q → Clock q (shown_after last a) (missed_after skipped a)
     step_clock p q last skipped (Cut a) c s = subst (λ x. Clock x (shown_after last (Cut a)) (missed_after skipped (Cut a))) (sym s.2) (cut_clock p last skipped a c (turns p last skipped a c s.1))
     step_clock p q last skipped Crashed c s = subst (λ x. Clock x last skipped) (sym s) (record { whole = λ u. absurd (clash u refl); now = c.now; below = c.below; room = c.room; capped = c.capped })
+    step_clock p q last skipped RestartCut c s = subst (λ x. Clock x last skipped) (sym s) (record { whole = λ u. absurd (clash u refl); now = c.now; below = c.below; room = c.room; capped = c.capped })
     step_clock p q last skipped (Restarted n b named listed) c s =
         let one = λ (m : List (Record E)) (i : Image q m). subst (λ rs. IsImage q.log rs m) s.whole i in
         let r = c.room q.log s.found in record {
@@ -212,6 +214,7 @@ module _ {E : Type 0} where
     rises_at : (p q : PartState E) (last skipped : ℕ) (a : Event E) → Clock p last skipped → PartStep kinds sites count id p a q → p.now ≤ q.now
     rises_at p q last skipped (Cut a) c s = le_of_eq (sym (ap (λ x. x.now) s.2))
     rises_at p q last skipped Crashed c s = le_of_eq (sym (ap (λ x. x.now) s))
+    rises_at p q last skipped RestartCut c s = le_of_eq (sym (ap (λ x. x.now) s))
     rises_at p q last skipped (Restarted n b named listed) c s = subst (λ x. p.now ≤ x) (sym s.clock) (c.below q.log s.found)
     rises_at p q last skipped (Refused asked why) c s = le_of_eq (sym (ap (λ x. x.now) s.1))
     rises_at p q last skipped (Opened who) c s = le_of_eq (sym (ap (λ x. x.now) s))

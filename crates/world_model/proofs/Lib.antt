@@ -12,6 +12,7 @@ pub mod Folds
 pub mod Histories
 pub mod CausalStores
 pub mod Kept
+pub mod Ups
 pub mod Shows
 pub mod Hears
 pub mod Doubts
@@ -21,7 +22,6 @@ pub mod Answering
 pub mod Sending
 pub mod Resuming
 pub mod LogsLeft
-pub mod Ups
 pub mod Orders
 pub mod Meanings
 pub mod Stories

@@ -1,5 +1,5 @@
 -- The updates that lines tell are those that events tell.
-use Rattle.std.proofs.Common.{◌≡◌, ⊎_elim, ℕ, ◌+◌, cond, Bool, true, false, ◌&&◌, ◌||◌, List, [], ◌∷◌, ◌++◌, length, refl, sym, ap, ◌∙◌, subst}
+use Rattle.std.proofs.Common.{◌≡◌, ⊎_elim, ℕ, zero, suc, ◌+◌, cond, Bool, true, false, ◌&&◌, ◌||◌, List, [], ◌∷◌, ◌++◌, length, refl, sym, ap, ◌∙◌, subst}
 use Rattle.std.specs.Prelude.{map, filter}
 use Rattle.std.specs.List.{list_any}
 use Rattle.std.proofs.lemmas.Bool.{cases_Bool, cond-true, cond-false}
@@ -51,6 +51,14 @@ one_length false x = refl
 map_none : {A B : Type 0} (h : A → B) (b : Bool) → map h (cond b [] []) ≡ []
 map_none h true = refl
 map_none h false = refl
+
+-- a lead is of its transaction's site
+pub first_site : (site : ℕ) (d : PartId) (test : PartId → Bool) (first n : ℕ) → d.site ≡ site → (first_of d (filter test (partitions site first n))).site ≡ site
+first_site site d test first zero e = e
+first_site site d test first (suc n) e =
+    let q : PartId = record { site = site; part = first } in
+    let rest = filter test (partitions site (first + 1) n) in
+    elim (test q) as (λ b. (first_of d (cond b (q ∷ rest) rest)).site ≡ site) [ true ↦ refl | false ↦ first_site site d test (first + 1) n e ]
 
 module _ {E : Type 0} where
   -- an update as the lines tell it

@@ -5,7 +5,7 @@ use Rattle.site_vector.specs.declared.ids.PartId.{PartId}
 use Rattle.site_vector.specs.declared.ids.TxId.{TxId}
 use Rattle.site_vector.specs.Ids.{same_part, same_tx}
 use Rattle.site_vector.specs.Order.{same_part_is}
-use Rattle.world_model.specs.Event.{IsDown, Event, Ticked, Began, Updated, Read, Prepared, Decided, Finished, Aborted, Sent, Took, Reported, Heard, Crashed, Restarted, Refused, Opened, Cut, Entry, shown}
+use Rattle.world_model.specs.Event.{IsDown, Event, Ticked, Began, Updated, Read, Prepared, Decided, Finished, Aborted, Sent, Took, Reported, Heard, Crashed, RestartCut, Restarted, Refused, Opened, Cut, Entry, shown}
 use Rattle.world_model.specs.Shown.{pending_after, time_after}
 use Rattle.world_model.specs.WorldLaw.{ClockIs, ClocksAre}
 use Rattle.world_model.specs.Resumed.{is_call, cut_after, cut_call}
@@ -23,6 +23,7 @@ module _ {E : Type 0} where
 
   pub pend_same : (what : Event E) (old : Bool) (t : TxId) → is_call what ≡ true → pending_done (call_cut what) old t ≡ pending_after t old what
   pend_same Crashed old t k = off k
+  pend_same RestartCut old t k = off k
   pend_same (Restarted n b named listed) old t k = off k
   pend_same (Refused asked why) old t k = off k
   pend_same (Opened who) old t k = off k
@@ -31,6 +32,7 @@ module _ {E : Type 0} where
 
   time_same : (run : List (Entry E)) (p : PartId) (what : Event E) (old : ℕ) (t : TxId) → ClockIs run p (Cut what) → is_call what ≡ true → time_done (call_cut what) (now (lines_of run) p + 1) old t ≡ time_after t old what
   time_same run p Crashed old t h k = off k
+  time_same run p RestartCut old t h k = off k
   time_same run p (Restarted n b named listed) old t h k = off k
   time_same run p (Refused asked why) old t h k = off k
   time_same run p (Opened who) old t h k = off k
@@ -38,15 +40,21 @@ module _ {E : Type 0} where
   time_same run p (Prepared u s l w n) old t h k = ap (λ x. cond (same_tx u t) x old) (ap (λ x. x + 1) (now_is run p) ∙ sym h)
   time_same run p what old t h k = refl
 
-  cut_is : (run : List (Entry E)) (p : PartId) (old : Option (Call × ℕ)) (what : Event E) → fault_after (now (lines_of run) p) old (call_of (Cut what)) (step_shown run p (Cut what)) ≡ Some (call_cut what, now (lines_of run) p + 1)
-  cut_is run p old (Decided t c) = refl
-  cut_is run p old what = refl
+  cut_is : (run : List (Entry E)) (p : PartId) (old : Option (Call × ℕ)) (what : Event E) → is_call what ≡ true → fault_after (now (lines_of run) p) old (call_of (Cut what)) (step_shown run p (Cut what)) ≡ Some (call_cut what, now (lines_of run) p + 1)
+  cut_is run p old (Decided t c) k = refl
+  cut_is run p old Crashed k = off k
+  cut_is run p old RestartCut k = off k
+  cut_is run p old (Restarted n b named listed) k = off k
+  cut_is run p old (Refused asked why) k = off k
+  cut_is run p old (Opened who) k = off k
+  cut_is run p old (Cut a) k = off k
+  cut_is run p old what k = refl
 
   fault_here : (run : List (Entry E)) (p : PartId) (event what : Event E) → ClockIs run p event → is_call what ≡ true → cut_after (cut_call run p) event ≡ Some what → (cut_call run p ≡ Some what → IsFault (faulted (lines_of run) p) what) → IsFault (fault_after (now (lines_of run) p) (faulted (lines_of run) p) (call_of event) (step_shown run p event)) what
   fault_here run p (Cut a) what h k c ih =
       let e : a ≡ what = cc c in
       subst (λ x. IsFault (fault_after (now (lines_of run) p) (faulted (lines_of run) p) (call_of (Cut a)) (step_shown run p (Cut a))) x) e
-      (record { drawn = now (lines_of run) p + 1; is = cut_is run p (faulted (lines_of run) p) a; time = λ t old. time_same run p a old t h (ap is_call e ∙ k) })
+      (record { drawn = now (lines_of run) p + 1; is = cut_is run p (faulted (lines_of run) p) a (ap is_call e ∙ k); time = λ t old. time_same run p a old t h (ap is_call e ∙ k) })
   fault_here run p (Restarted n b named listed) what h k c ih = absurd (cc c)
   fault_here run p (Refused asked IsDown) what h k c ih = ih c
   fault_here run p (Refused asked why) what h k c ih = ih c

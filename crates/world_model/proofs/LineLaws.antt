@@ -21,9 +21,9 @@ use Rattle.crdt_core.specs.Same.{Same}
 use Rattle.crdt_core.specs.Stamps.{stamp_due}
 use Rattle.world_model.specs.Log as log
 use Rattle.world_model.specs.Log.{end_of_time, lists}
-use Rattle.world_model.specs.Event.{AskBegin, AskRead, AskUpdate, AskPrepare, AskDecide, AskAbort, AskTake, AskRestart, IsDown, ClockBehind, TxPending, StableBehind, ClockAtEnd, IsGone, HasGap, IsRepeat, IsBadOp, IsDamaged, Event, Ticked, Began, Updated, Read, Prepared, Decided, Finished, Aborted, Sent, Took, Reported, Heard, Crashed, Restarted, Refused, Opened, Cut, Entry, EventsAre, WasShown, is_abort, was_aborted, voted, is_decided, time_of, shown, missed}
+use Rattle.world_model.specs.Event.{Ask, AskBegin, AskRead, AskUpdate, AskPrepare, AskDecide, AskAbort, AskTake, AskRestart, is_restart, IsDown, ClockBehind, TxPending, StableBehind, ClockAtEnd, IsGone, HasGap, IsRepeat, IsBadOp, IsDamaged, Event, Ticked, Began, Updated, Read, Prepared, Decided, Finished, Aborted, Sent, Took, Reported, Heard, Crashed, RestartCut, Restarted, Refused, Opened, Cut, Entry, EventsAre, WasShown, is_abort, was_aborted, voted, is_decided, time_of, shown, missed}
 use Rattle.world_model.specs.Partition.{Kinds, lowest, pending_cmp}
-use Rattle.world_model.specs.Plan.{Plan, first_of, home, twin, is_some_update, takes_part, commit_vector, MayTake}
+use Rattle.world_model.specs.Plan.{Plan, IsPlace, first_of, home, twin, is_some_update, takes_part, commit_vector, MayTake}
 use Rattle.world_model.specs.Commit.{partitions}
 use Rattle.world_model.specs.World.{plan_of}
 use Rattle.world_model.specs.WorldLaw.{sees_tx, ClockIs, ClocksAre, KeepsIs, KeepsDecided, HasCauseAt, HaveCausesAt, IsRightFold, IsExact, IsRight}
@@ -31,7 +31,7 @@ use Rattle.world_model.specs.Past as events
 use Rattle.world_model.specs.Downs.{AnswersAsUp, AnswerAsUp}
 use Rattle.world_model.specs.Answering.{IsDueAt, AreDue, IsKnown}
 use Rattle.world_model.specs.Doubt.{SettlesAt, SettleDoubts}
-use Rattle.world_model.specs.Shown.{bound_shown, pending_shown, pending_time, committed_shown, IsReadyAt, IsFirstPending, ShowsAt, ShowAt}
+use Rattle.world_model.specs.Shown.{bound_shown, pending_shown, pending_time, committed_shown, TellsAbortedAt, MayAbortAt, IsReadyAt, IsFirstPending, ShowsAt, ShowAt}
 use Rattle.world_model.specs.Stable.{heard_from, heard_shown, IsBehindAt, IsFreshAt, AreFresh}
 use Rattle.world_model.specs.Votes.{IsDecision, VotesAt, KeepVotes, ShowsVector}
 use Rattle.world_model.specs.Handed.{IsPlacedAt, HandedAt, AreHanded, IsNew, AreNew}
@@ -40,7 +40,7 @@ use Rattle.world_model.specs.Meaning.{Asked, asked_at}
 use Rattle.world_model.specs.Resumed.{is_call, brings, brought_after, brought, decided_after, last_shown, IsTakeable, cut_call, IsAsBefore, IsAsDone, ResumesAt, Resume}
 use Rattle.world_model.specs.Sends.{low_of, SendsAt, Send}
 use Rattle.world_model.specs.LawfulWorld.{IsLawfulWorld}
-use Rattle.world_model.specs.Lines.{Call, Line, EachLine, session_after, session_of, message_number, call_cut, call_of, step_shown, lines_of}
+use Rattle.world_model.specs.Lines.{Call, Line, EachLine, session_after, session_of, message_number, call_asked, call_cut, call_of, step_shown, lines_of}
 use Rattle.world_model.specs.LineClock as clock
 use Rattle.world_model.specs.LineHistory as past
 use Rattle.world_model.specs.LinePast as session
@@ -51,6 +51,7 @@ use Rattle.world_model.specs.LineCommit as commit
 use Rattle.world_model.specs.LineReads as reads
 use Rattle.world_model.specs.LineAnswers as answers
 use Rattle.world_model.specs.LineOps as ops
+use Rattle.world_model.specs.LineFate.{is_down}
 use Rattle.world_model.specs.LineFates as fates
 use Rattle.world_model.specs.LineFresh as fresh
 use Rattle.world_model.specs.LineStreams as streams
@@ -61,8 +62,8 @@ use Rattle.world_model.proofs.Fate.{voted_tried}
 use Rattle.world_model.proofs.Later.{at_own}
 use Rattle.world_model.proofs.Intervals.{shown_has, events_map}
 use Rattle.world_model.proofs.Histories.{Facts, no_self}
-use Rattle.world_model.proofs.LineViews.{now_is, missed_is, in_history_is, snapshot_is, commit_time_is, vector_is, visible_is, is_of_is, dependency_is, pending_is, prepare_time_is, doubt_is, down_is, last_is, bound_is, heard_here, heard_is, stable_is, own_bound_is, was_prepared_is, last_sent_is, sent_count_is, report_count_is, sent_line, report_line}
-use Rattle.world_model.proofs.LineChanges.{to_change, count_is, takes_part_is, touches_is, lead_is}
+use Rattle.world_model.proofs.LineViews.{now_is, missed_is, in_history_is, snapshot_is, commit_time_is, vector_is, visible_is, is_of_is, dependency_is, pending_is, prepare_time_is, doubt_is, asked_is, down_is, last_is, bound_is, heard_here, heard_is, stable_is, own_bound_is, was_prepared_is, last_sent_is, sent_count_is, report_count_is, sent_line, report_line}
+use Rattle.world_model.proofs.LineChanges.{to_change, count_is, takes_part_is, touches_is, first_site, lead_is}
 use Rattle.world_model.proofs.Orders.{stamp_same, none_due, is_in, in_filter, once_filter, filter_in}
 use Rattle.world_model.proofs.LineCounts.{parts_counted, both_ways, found_in, any_in, some_above, part_above, above_part}
 use Rattle.world_model.proofs.LineReading.{history_has, history_once, update_is, updates_at_place, updates_is, grows, all_put}
@@ -98,6 +99,10 @@ module _ {E : Type 0} where
   past_lines sites [] h = tt
   past_lines sites (e ∷ run) h = (past_line sites run e.at e.event h.0, past_lines sites run h.1)
 
+  place_lines : (plan : Plan E) (run : List (Entry E)) → EventsAre (λ p event. IsPlace plan.sites plan.parts p) run → EachLine (λ before p call step. IsPlace plan.sites plan.parts p) (lines_of run)
+  place_lines plan [] h = tt
+  place_lines plan (e ∷ run) h = (h.0, place_lines plan run h.1)
+
   placed_line : (plan : Plan E) (run : List (Entry E)) (p : PartId) (event : Event E) → HandedAt plan run p event → IsPlaced plan.parts (lines_of run) p (call_of event) (step_shown run p event)
   placed_line plan run p (Refused asked IsDown) h = tt
   placed_line plan run p (Refused asked why) h = tt
@@ -128,7 +133,7 @@ module _ {E : Type 0} where
         others = λ j o. f.others j o ∙ (λ i. lowest (λ q. cond (p.part == q) (sym (bound_is run p j) i) (same q j i)) plan.parts);
         own = (f.own.0, own_bound_is run p f.own.0 f.own.1, f.own.2 ∙ (λ i. lowest (λ q. cond (p.part == q) f.own.0 (same q p.site i)) plan.parts));
       }
-  fresh_line plan run p (Reported b) h f s = record { own = own_bound_is run p (entry b p.site) s.0; others = λ j o. s.1 j o ∙ sym (bound_is run p j) }
+  fresh_line plan run p (Reported b) h f s = record { width = s.0; own = own_bound_is run p (entry b p.site) s.1; others = λ j o. s.2 j o ∙ sym (bound_is run p j) }
   fresh_line plan run p event h f s = tt
 
   fresh_lines : (plan : Plan E) (run : List (Entry E)) → events.KeepPast plan.sites run → AreFresh plan run → ShowAt plan run → EachLine (fresh.IsFresh plan.sites plan.parts) (lines_of run)
@@ -152,8 +157,12 @@ module _ {E : Type 0} where
           (cases_Bool (same_tx u t))
       session_step event run who t h ih = ih h
 
+  refused_up : (asked : Ask E) → not (is_restart asked) ≡ true → answers.needs_up (call_asked asked) ≡ true
+  refused_up AskRestart d = off d
+  refused_up asked d = refl
+
   answer_line : (plan : Plan E) (run : List (Entry E)) (p : PartId) (event : Event E) → HandedAt plan run p event → IsDueAt event → answers.IsAnswer (lines_of run) p (call_of event) (step_shown run p event)
-  answer_line plan run p (Refused asked IsDown) h d = refl
+  answer_line plan run p (Refused asked IsDown) h d = (refl, refused_up asked d)
   answer_line plan run p (Refused (AskTake m) (HasGap n)) h d = tt
   answer_line plan run p (Refused (AskTake m) (IsRepeat n)) h d = tt
   answer_line plan run p (Refused (AskUpdate t s o own op) IsBadOp) h d = tt
@@ -173,7 +182,12 @@ module _ {E : Type 0} where
   answer_line plan run p (Sent asked m) h d = (refl, refl)
   answer_line plan run p (Took m) h d = tt
   answer_line plan run p (Cut (Decided t c)) h d = refl
-  answer_line plan run p (Cut a) h d = refl
+  answer_line plan run p (Cut Crashed) h d = off d
+  answer_line plan run p (Cut (Refused asked why)) h d = off d
+  answer_line plan run p (Cut (Opened who)) h d = off d
+  answer_line plan run p (Cut (Cut a)) h d = off d
+  answer_line plan run p (Cut a) h d = (refl, refl)
+  answer_line plan run p RestartCut h d = (refl, refl)
   answer_line plan run p event h d = refl
 
   answer_lines : (plan : Plan E) (run : List (Entry E)) → AreHanded plan run → AreDue run → EachLine answers.IsAnswer (lines_of run)
@@ -201,8 +215,11 @@ module _ {E : Type 0} where
   up_line run p (Refused asked why) h d = down_is run p ∙ h
   up_line run p (Restarted n b named listed) h d = tt
   up_line run p Crashed h d = tt
+  up_line run p RestartCut h d = tt
   up_line run p (Opened who) h d = tt
   up_line run p (Cut (Decided t c)) h d = down_is run p ∙ h
+  up_line run p (Cut RestartCut) h d = tt
+  up_line run p (Cut (Restarted n b named listed)) h d = tt
   up_line run p (Cut a) h d = down_is run p ∙ h
   up_line run p event h d = down_is run p ∙ h
 
@@ -274,7 +291,7 @@ module _ {E : Type 0} where
     }
     commit_line some p (Decided t w) v c n = (decision_line some p t v, c.1 ∙ sym (vector_eq t))
     commit_line some p (Updated t s o own op read u stamp) v c n = λ q. was_prepared_is some t q ∙ false_from_ne_true _ (λ h. clash (voted_tried some t q h) (n.early q))
-    commit_line some p (Finished t w) v c n = in_history_is some t ∙ v
+    commit_line some p (Finished t w) v c n = (takes_eq t p ∙ v.0, in_history_is some t ∙ v.1)
     commit_line some p event v c n = tt
 
     commit_lines : (some : List (Entry E)) → KeepVotes plan some → EventsAre (ShowsVector plan run) some → AreNew some → EachLine (commit.ShowsCommit parts ls) (lines_of some)
@@ -335,6 +352,7 @@ module _ {E : Type 0} where
     brought_done_eq : (some : List (Entry E)) (p : PartId) (j old : ℕ) (what : Event E) → is_call what ≡ true → IsTakeable plan some p what → EventsAre (IsRight kinds plan run) some → fates.brought_done ls (lines_of some) p j old (call_cut what) ≡ brought_after some p j old what
     brought_done_eq some p j old (Took m) k h rs = λ i. cond (m.from == j && (ap (λ b. fates.brings ls p m.from b m.hi) (bound_is some p m.from) ∙ brings_eq some p m (bound_shown some p m.from) h.0 h.1 rs) i) (max m.hi old) old
     brought_done_eq some p j old Crashed k h rs = off k
+    brought_done_eq some p j old RestartCut k h rs = off k
     brought_done_eq some p j old (Restarted n b named listed) k h rs = off k
     brought_done_eq some p j old (Refused asked why) k h rs = off k
     brought_done_eq some p j old (Opened who) k h rs = off k
@@ -363,6 +381,7 @@ module _ {E : Type 0} where
     last_done_eq : (some : List (Entry E)) (p : PartId) (what : Event E) → is_call what ≡ true → fates.decided_done (lines_of some) p (fates.last_decided (lines_of some) p) (call_cut what) ≡ decided_after some p (last_shown some p) what
     last_done_eq some p (Decided t c) k = λ i. cond (pending_is some p t i) (Some t) (last_is some p i)
     last_done_eq some p Crashed k = off k
+    last_done_eq some p RestartCut k = off k
     last_done_eq some p (Restarted n b named listed) k = off k
     last_done_eq some p (Refused asked why) k = off k
     last_done_eq some p (Opened who) k = off k
@@ -387,15 +406,27 @@ module _ {E : Type 0} where
         ))
         h
 
+    abort_line : (some : List (Entry E)) (p : PartId) (t : TxId) (own : Bool) → MayAbortAt plan some p t own → fates.MayAbort parts ls (lines_of some) p t
+    abort_line some p t true h = inr (inl (asked_is some t ∙ h))
+    abort_line some p t false h = ⊎_elim
+        (λ (e : p ≡ plan.lead t). inl (e ∙ sym (lead_eq t)))
+        (λ (x : TellsAbortedAt plan some t). inr (inr (record {
+          up = subst (λ q. is_down (lines_of some) q ≡ false) (sym (lead_eq t)) (down_is some (plan.lead t) ∙ x.up);
+          unknown = subst (λ q. fates.is_known_at ls (lines_of some) q t ≡ false) (sym (lead_eq t)) (unknown_line some (plan.lead t) t (first_site t.site (home t) (λ q. takes_part plan t q) 1 parts refl) x.unknown);
+        })))
+        h
+
     fate_line : (some : List (Entry E)) (p : PartId) (event : Event E) → WasShown run p event → ClocksAre some → ShowsAt plan some p event → ResumesAt plan some p event → KeepsIs plan some p event → SettlesAt some p event → ((j : ℕ) → fates.brought ls (lines_of some) p j ≡ brought some p j) → EventsAre (IsRight kinds plan run) some → fates.ShowsFate sites parts ls (lines_of some) p (call_of event) (step_shown some p event)
     fate_line some p (Refused asked IsDown) w cs s r k d br rs = tt
     fate_line some p (Refused asked why) w cs s r k d br rs = tt
     fate_line some p (Cut (Decided t c)) w cs s r k d br rs = tt
     fate_line some p (Cut a) w cs s r k d br rs = tt
-    fate_line some p (Aborted t own) w cs s r k d br rs = (pending_is some p t ∙ s, in_history_is run t ∙ law.fate t p (aborted_shown run p t own w))
+    fate_line some p (Aborted t own) w cs s r k d br rs = (pending_is some p t ∙ s.0, in_history_is run t ∙ law.fate t p (aborted_shown run p t own w), abort_line some p t own s.1)
     fate_line some p (Restarted n b named listed) w cs s r k d br rs = record {
       list = resumed_line some p n b named listed cs br rs r;
-      own = s;
+      order = s.1;
+      width = s.0;
+      own = s.2;
       decided = λ t h e. k t (sym (in_history_is some t) ∙ h) (sym (lead_eq t) ∙ e);
       settled = λ t h. d t (sym (doubt_is some p t) ∙ h);
     }
@@ -561,6 +592,7 @@ module _ {E : Type 0} where
 
     pub lawful_lines : IsLawfulRun kinds.too_deep kinds.meaning sites parts (lines_of run)
     lawful_lines = record {
+      places = place_lines plan run law.places;
       answers = answer_lines plan run law.handed law.due;
       clock = clock_lines run law.clock;
       placed = placed_lines plan run law.handed;

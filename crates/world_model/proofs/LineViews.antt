@@ -11,7 +11,7 @@ use Rattle.site_vector.specs.Ids.{same_part, same_tx}
 use Rattle.site_vector.specs.Order.{same_part_is}
 use Rattle.site_vector.specs.Vector.{le, entry, join, replaced}
 use Rattle.crdt_core.specs.declared.record.Message.{Message}
-use Rattle.world_model.specs.Event.{IsDown, Event, Ticked, Began, Updated, Read, Prepared, Decided, Finished, Aborted, Sent, Took, Reported, Heard, Crashed, Restarted, Refused, Opened, Cut, Entry, shows_decided, is_decided, is_prepare, time_shown, time_of, shown_after, shown, missed_after, missed, voted, WasShown}
+use Rattle.world_model.specs.Event.{IsDown, Event, Ticked, Began, Updated, Read, Prepared, Decided, Finished, Aborted, Sent, Took, Reported, Heard, Crashed, RestartCut, Restarted, Refused, Opened, Cut, Entry, attempt, is_decide, decide_tried, shows_decided, is_decided, is_prepare, time_shown, time_of, shown_after, shown, missed_after, missed, voted, WasShown}
 use Rattle.world_model.specs.World.{is_begin, begin_vector, begun, snapshot_of}
 use Rattle.world_model.specs.Past as events
 use Rattle.world_model.specs.WorldLaw.{ClockIs, ClocksAre}
@@ -163,6 +163,17 @@ module _ {E : Type 0} where
   pub doubt_is : (run : List (Entry E)) (p : PartId) (t : TxId) → fate.in_doubt (lines_of run) p t ≡ doubt.in_doubt run p t
   doubt_is [] p t = refl
   doubt_is (e ∷ run) p t = λ i. cond (same_part e.at p) ((ap (λ o. fate.doubt_after t o (step_shown run e.at e.event)) (doubt_is run p t) ∙ doubt_here run e.at t (doubt.in_doubt run p t) e.event) i) (doubt_is run p t i)
+
+  asks_here : (run : List (Entry E)) (p : PartId) (t : TxId) (event : Event E) → fates.asks_decide (step_shown run p event) t ≡ is_decide (attempt event) t
+  asks_here run p t (Refused asked IsDown) = refl
+  asks_here run p t (Refused asked why) = refl
+  asks_here run p t (Cut (Decided u c)) = refl
+  asks_here run p t (Cut a) = refl
+  asks_here run p t event = refl
+
+  pub asked_is : (run : List (Entry E)) (t : TxId) → fates.is_decide_asked (lines_of run) t ≡ decide_tried run t
+  asked_is [] t = refl
+  asked_is (e ∷ run) t = λ i. (asks_here run e.at t e.event i || asked_is run t i)
 
   down_here : (run : List (Entry E)) (p : PartId) (old : Bool) (event : Event E) → fate.down_after old (step_shown run p event) ≡ downs.down_after old event
   down_here run p old (Refused asked IsDown) = refl

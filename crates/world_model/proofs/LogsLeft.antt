@@ -4,7 +4,7 @@ use Rattle.site_vector.specs.declared.ids.PartId.{PartId}
 use Rattle.site_vector.specs.Vector.{entry}
 use Rattle.crdt_core.specs.declared.record.Record.{Record}
 use Rattle.world_model.specs.Log.{grown, IsImage}
-use Rattle.world_model.specs.Event.{Event, Ticked, Began, Updated, Read, Prepared, Decided, Finished, Aborted, Sent, Took, Reported, Heard, Crashed, Restarted, Refused, Opened, Cut, Entry, attempt}
+use Rattle.world_model.specs.Event.{Event, Ticked, Began, Updated, Read, Prepared, Decided, Finished, Aborted, Sent, Took, Reported, Heard, Crashed, RestartCut, Restarted, Refused, Opened, Cut, Entry, attempt}
 use Rattle.world_model.specs.Partition.{Kinds, PartState, Image, IsOwnBound, above, batch_of, written, done, PartStep}
 use Rattle.world_model.specs.Plan.{Plan, IsAllowed, IsRun}
 use Rattle.world_model.specs.Shown.{bound_shown}
@@ -36,6 +36,7 @@ module _ {E : Type 0} {S : Type 0} (kinds : Kinds S E) (plan : Plan E) (run : Li
   left_here : (event : Event E) → IsAllowed plan run before at (attempt event) → PartStep kinds plan.sites plan.parts at (before at) event (after at) → (m : List (Record E)) → Image (after at) m → Left event m
   left_here (Cut a) al st m i = ((before at).log, left_log, subst (λ rs. IsImage (before at).log rs m) (same_written a al st.0) (subst (λ p. Image p m) st.2 i))
   left_here Crashed al st m i = (m, left at m (subst (λ p. Image p m) st i), refl)
+  left_here RestartCut al st m i = (m, left at m (subst (λ p. Image p m) st i), refl)
   left_here (Restarted n b named listed) al st m i =
       let log = (after at).log in
       let e : m ≡ log = subst (λ rs. IsImage log rs m) st.whole i in (

@@ -13,8 +13,8 @@ use Rattle.crdt_core.specs.declared.record.Message.{Message}
 use Rattle.crdt_core.specs.declared.record.Record.{Record}
 use Rattle.crdt_core.specs.declared.record.Record.TheVariants.{Lease, Prepare, Decide, Finish, Abort, Batch}
 use Rattle.world_model.specs.Log.{end_of_time, prepared, prepare_time, prepared_changes, decided, committed, committed_at, aborted, pending, last_decided, taken, taken_at, taken_changes, bound, ceiling, grown, IsImage}
-use Rattle.world_model.specs.Event.{Ask, Refusal, Refused, Event, Ticked, Began, Updated, Read, Prepared, Decided, Finished, Aborted, Sent, Took, Reported, Heard, Crashed, Restarted, Opened, Cut, Entry, attempt, is_prepare, is_decide, is_abort, is_named, shows_decided, time_shown}
-use Rattle.world_model.specs.Partition.{Kinds, PartState, Image, lease_for, above, batch_of, records, MayDo, done, cut, PartStep}
+use Rattle.world_model.specs.Event.{Ask, Refusal, Refused, Event, Ticked, Began, Updated, Read, Prepared, Decided, Finished, Aborted, Sent, Took, Reported, Heard, Crashed, RestartCut, Restarted, Opened, Cut, Entry, attempt, is_prepare, is_decide, is_abort, is_named, shows_decided, time_shown}
+use Rattle.world_model.specs.Partition.{Kinds, PartState, Image, lease_for, above, batch_of, records, MayDo, done, down, cut, PartStep}
 use Rattle.world_model.specs.Plan.{Plan, IsAllowed, MayPrepare, MayDecide, MayFinish, MayAbort, MayTake}
 use Rattle.world_model.proofs.Names.{clash, off, part_cases}
 
@@ -172,6 +172,7 @@ module _ {E : Type 0} where
       recorded up at event (Reported b) new h s m al d i = no_lease up at event new h i
       recorded up at event (Heard q b stable) new h s m al d i = no_lease up at event new h i
       recorded up at event Crashed new h s m al d i = absurd m
+      recorded up at event RestartCut new h s m al d i = absurd m
       recorded up at event (Restarted n b named listed) new h s m al d i = absurd m
       recorded up at event (Refused asked why) new h s m al d i = absurd m
       recorded up at event (Opened who) new h s m al d i = absurd m
@@ -193,8 +194,8 @@ module _ {E : Type 0} where
     here_cut : (what : Event E) → (before at).up ≡ true → MayDo kinds plan.sites plan.parts at (before at) what → IsAllowed plan run before at what → after at ≡ cut (before at) what → Here (Cut what)
     here_cut what h m al e new i = recorded plan run before kinds (after at).up at (Cut what) what new h refl m al (λ t k. inr (ap (λ p. p.up) e)) (subst (λ p. Image p new) e i)
 
-    here_crashed : Step Crashed → Here Crashed
-    here_crashed s new i = record {
+    here_down : (event : Event E) → after at ≡ down (before at) (before at).torn → Here event
+    here_down event s new i = record {
       old = new;
       was = subst (λ p. Image p new) s i;
       more = Lease 0;
@@ -231,7 +232,8 @@ module _ {E : Type 0} where
     here (Reported b) al s = here_done (Reported b) refl (λ t k. off k) s.0 s.1 al s.2
     here (Heard q b stable) al s = here_done (Heard q b stable) refl (λ t k. off k) s.0 s.1 al s.2
     here (Cut what) al s = here_cut what s.0 s.1 al s.2
-    here Crashed al s = here_crashed s
+    here Crashed al s = here_down Crashed s
+    here RestartCut al s = here_down RestartCut s
     here (Restarted n b named listed) al s = here_restarted n b named listed s
     here (Refused asked why) al s = here_refused asked why s
     here (Opened who) al s = λ new i. same_part_image plan run before (after at).up at (Opened who) at new (ap (λ p. p.up) s) (subst (λ p. Image p new) s i)

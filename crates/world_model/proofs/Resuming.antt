@@ -13,7 +13,7 @@ use Rattle.crdt_core.specs.declared.record.Message.{Message}
 use Rattle.crdt_core.specs.declared.record.Record.{Record}
 use Rattle.crdt_core.specs.declared.record.Record.TheVariants.{Lease, Prepare, Decide, Finish, Abort, Batch}
 use Rattle.world_model.specs.Log.{end_of_time, ceiling, pending, prepare_time, last_decided, bound, grown, IsImage}
-use Rattle.world_model.specs.Event.{Event, Ticked, Began, Updated, Read, Prepared, Decided, Finished, Aborted, Sent, Took, Reported, Heard, Crashed, Restarted, Refused, Opened, Cut, Entry, attempt, WasShown}
+use Rattle.world_model.specs.Event.{Event, Ticked, Began, Updated, Read, Prepared, Decided, Finished, Aborted, Sent, Took, Reported, Heard, Crashed, RestartCut, Restarted, Refused, Opened, Cut, Entry, attempt, WasShown}
 use Rattle.world_model.specs.Partition.{Kinds, PartState, Image, IsOther, lease_for, above, batch_of, written, records, done, MayDo, names_pending, PartStep}
 use Rattle.world_model.specs.Plan.{Plan, twin, IsAllowed, IsRun}
 use Rattle.world_model.specs.Shown.{listed_time, bound_after, bound_shown, pending_after, pending_shown, time_after, pending_time}
@@ -124,6 +124,7 @@ module _ {E : Type 0} where
     done_bound (Reported b) al k up j h = h
     done_bound (Heard q b stable) al k up j h = h
     done_bound Crashed al k up j h = absurd k
+    done_bound RestartCut al k up j h = absurd k
     done_bound (Restarted n b named listed) al k up j h = absurd k
     done_bound (Refused asked why) al k up j h = absurd k
     done_bound (Opened who) al k up j h = absurd k
@@ -159,6 +160,7 @@ module _ {E : Type 0} where
     done_last (Reported b) k up h = h
     done_last (Heard q b stable) k up h = h
     done_last Crashed k up h = absurd k
+    done_last RestartCut k up h = absurd k
     done_last (Restarted n b named listed) k up h = absurd k
     done_last (Refused asked why) k up h = absurd k
     done_last (Opened who) k up h = absurd k
@@ -267,6 +269,7 @@ module _ {E : Type 0} where
     -- what is done may be called done
     step_done : (what : Event E) → (before at).up ≡ true → MayDo kinds plan.sites plan.parts at (before at) what → PartStep kinds plan.sites plan.parts at (before at) what (done (before at) what)
     step_done Crashed up k = absurd k
+    step_done RestartCut up k = absurd k
     step_done (Restarted n b named listed) up k = absurd k
     step_done (Refused asked why) up k = absurd k
     step_done (Opened who) up k = absurd k
@@ -279,6 +282,7 @@ module _ {E : Type 0} where
 
     called : (what : Event E) → MayDo kinds plan.sites plan.parts at (before at) what → is_call what ≡ true
     called Crashed k = absurd k
+    called RestartCut k = absurd k
     called (Restarted n b named listed) k = absurd k
     called (Refused asked why) k = absurd k
     called (Opened who) k = absurd k
@@ -317,12 +321,18 @@ module _ {E : Type 0} where
         let v : SameView run (next Crashed) at = same_view run at Crashed (λ t. refl) (λ t. refl) (λ j. refl) (λ j. refl) refl in
         two_map plan run (next Crashed) at m v (λ q a x. inr x) (cond-true _ _ _ (same_part_refl at)) (tells_any m (subst (λ p. Image p m) st i))
 
+    restart_cut_here : PartStep kinds plan.sites plan.parts at (before at) RestartCut (after at) → (m : List (Record E)) → Image (after at) m → TellsTwo plan (next RestartCut) at m
+    restart_cut_here st m i =
+        let v : SameView run (next RestartCut) at = same_view run at RestartCut (λ t. refl) (λ t. refl) (λ j. refl) (λ j. refl) refl in
+        two_map plan run (next RestartCut) at m v (λ q a x. inr x) (cond-true _ _ _ (same_part_refl at)) (tells_any m (subst (λ p. Image p m) st i))
+
     stays_here : (event : Event E) → SameView run (next event) at → cut_call (next event) at ≡ cut_call run at → after at ≡ before at → (after at).up ≡ false → (m : List (Record E)) → Image (after at) m → TellsTwo plan (next event) at m
     stays_here event v c e d m i = two_map plan run (next event) at m v (λ q a x. inr x) c (h.down at (sym (ap (λ p. p.up) e) ∙ d) m (subst (λ p. Image p m) e i))
 
     down_here : (event : Event E) → IsAllowed plan run before at (attempt event) → PartStep kinds plan.sites plan.parts at (before at) event (after at) → (after at).up ≡ false → (m : List (Record E)) → Image (after at) m → TellsTwo plan (next event) at m
     down_here (Cut what) al st d m i = cut_here what al st m i
     down_here Crashed al st d m i = crashed_here st m i
+    down_here RestartCut al st d m i = restart_cut_here st m i
     down_here (Restarted n b named listed) al st d m i = clash st.up d
     down_here (Refused asked why) al st d m i = stays_here (Refused asked why) (same_view run at (Refused asked why) (λ t. refl) (λ t. refl) (λ j. refl) (λ j. refl) refl) (cond-true _ _ _ (same_part_refl at)) st.1 d m i
     down_here (Opened who) al st d m i = stays_here (Opened who) (same_view run at (Opened who) (λ t. refl) (λ t. refl) (λ j. refl) (λ j. refl) refl) (cond-true _ _ _ (same_part_refl at)) st d m i
@@ -334,6 +344,7 @@ module _ {E : Type 0} where
     last_here : (event : Event E) → PartStep kinds plan.sites plan.parts at (before at) event (after at) → (after at).up ≡ true → last_decided (after at).log ≡ decided_after run at (last_shown run at) event
     last_here (Cut what) st u = clash u (ap (λ p. p.up) st.2)
     last_here Crashed st u = clash u (ap (λ p. p.up) st)
+    last_here RestartCut st u = clash u (ap (λ p. p.up) st)
     last_here (Restarted n b named listed) st u = sym st.last
     last_here (Refused asked why) st u = ap (λ p. last_decided p.log) st.1 ∙ h.decided at (sym (ap (λ p. p.up) st.1) ∙ u)
     last_here (Opened who) st u = ap (λ p. last_decided p.log) st ∙ h.decided at (sym (ap (λ p. p.up) st) ∙ u)
@@ -356,6 +367,7 @@ module _ {E : Type 0} where
     up_here : (event : Event E) → IsAllowed plan run before at (attempt event) → PartStep kinds plan.sites plan.parts at (before at) event (after at) → (after at).up ≡ true → (j : ℕ) → IsOther plan.sites at.site j → bound (after at).log j ≡ brought_after run at j (brought run at j) event
     up_here (Cut what) al st u j o = clash u (ap (λ p. p.up) st.2)
     up_here Crashed al st u j o = clash u (ap (λ p. p.up) st)
+    up_here RestartCut al st u j o = clash u (ap (λ p. p.up) st)
     up_here (Restarted n b named listed) al st u j o = sym (st.bounds j o) ∙ sym (st.shown_bounds.others j o)
     up_here (Refused asked why) al st u j o = ap (λ p. bound p.log j) st.1 ∙ h.up at (sym (ap (λ p. p.up) st.1) ∙ u) j o
     up_here (Opened who) al st u j o = ap (λ p. bound p.log j) st ∙ h.up at (sym (ap (λ p. p.up) st) ∙ u) j o

@@ -9,7 +9,7 @@ use Rattle.site_vector.specs.Order.{same_part_refl}
 use Rattle.site_vector.specs.Vector.{entry, replaced}
 use Rattle.site_vector.specs.VectorLaws.{length_replaced}
 use Rattle.crdt_core.specs.declared.record.Message.{Message}
-use Rattle.world_model.specs.Event.{Event, Sent, Crashed, Restarted, Refused, Opened, Cut, Entry}
+use Rattle.world_model.specs.Event.{Event, Sent, Crashed, RestartCut, Restarted, Refused, Opened, Cut, Entry}
 use Rattle.world_model.specs.Partition.{Kinds, PartState, IsOther, new_part, PartStep}
 use Rattle.world_model.specs.Plan.{Plan, IsRun}
 use Rattle.world_model.specs.Sends.{low_of, sent_after, last_sent, SendsAt, Send}
@@ -54,6 +54,7 @@ module _ {E : Type 0} where
     here (Sent asked m) st = sent_here asked m st
     here (Cut a) st = gone_down (Cut a) (ap (λ p. p.up) st.2)
     here Crashed st = gone_down Crashed (ap (λ p. p.up) st)
+    here RestartCut st = gone_down RestartCut (ap (λ p. p.up) st)
     here (Restarted n b named listed) st = record { width = λ u. ap length st.sent ∙ length-replicate plan.sites 0; last = λ j u o. ap (λ v. entry v j) st.sent ∙ zeros_at plan.sites (j - 1) }
     here (Refused asked why) st = record { width = λ u. ap (λ p. length p.sent) st.1 ∙ h.width at (sym (ap (λ p. p.up) st.1) ∙ u); last = λ j u o. ap (λ p. entry p.sent j) st.1 ∙ h.last at j (sym (ap (λ p. p.up) st.1) ∙ u) o }
     here (Opened who) st = record { width = λ u. ap (λ p. length p.sent) st ∙ h.width at (sym (ap (λ p. p.up) st) ∙ u); last = λ j u o. ap (λ p. entry p.sent j) st ∙ h.last at j (sym (ap (λ p. p.up) st) ∙ u) o }

@@ -2,7 +2,7 @@
 use Rattle.std.proofs.Common.{◌≡◌, ◌≢◌, ⊎_elim, inl, inr, ℕ, ◌+◌, ◌-◌, ◌<◌, ◌≤◌, cond, leb, min, Bool, true, false, not, ◌&&◌, ◌||◌, List, [], ◌∷◌, length, refl, sym, ap, ◌∙◌, subst, arith}
 use Rattle.std.specs.Prelude.{◌==◌}
 use Rattle.std.specs.declared.cmp.Ordering.TheVariants.{Less}
-use Rattle.std.proofs.lemmas.Bool.{cases_Bool, or_cases, and_from, and_right, and_parts, not-true, cond_both, cond-true, cond-false, eqb-true, eq-eqb, false_from_ne_true}
+use Rattle.std.proofs.lemmas.Bool.{cases_Bool, or_cases, or_from, and_from, and_right, and_parts, not-true, cond_both, cond-true, cond-false, eqb-true, eq-eqb, false_from_ne_true}
 use Rattle.std.proofs.lemmas.List.{length-replicate}
 use Rattle.site_vector.specs.declared.ids.PartId.{PartId}
 use Rattle.site_vector.specs.declared.ids.TxId.{TxId}
@@ -17,10 +17,11 @@ use Rattle.crdt_core.specs.declared.record.Record.TheVariants.{Lease, Prepare, D
 use Rattle.crdt_core.specs.declared.record.Part.{Part}
 use Rattle.crdt_core.specs.declared.record.Message.{Message}
 use Rattle.world_model.specs.Log.{end_of_time, touches, prepared, prepare_time, prepared_changes, committed, aborted, pending, ceiling, grown}
-use Rattle.world_model.specs.Event.{AskRead, AskUpdate, AskDecide, AskAbort, AskTake, TxPending, IsGone, HasGap, IsRepeat, Event, Ticked, Began, Updated, Read, Prepared, Decided, Finished, Aborted, Sent, Took, Reported, Heard, Crashed, Restarted, Refused, Opened, Cut, Entry, attempt, tried, is_decided}
+use Rattle.world_model.specs.Event.{AskRead, AskUpdate, AskDecide, AskAbort, AskTake, TxPending, IsGone, HasGap, IsRepeat, Event, Ticked, Began, Updated, Read, Prepared, Decided, Finished, Aborted, Sent, Took, Reported, Heard, Crashed, RestartCut, Restarted, Refused, Opened, Cut, Entry, attempt, tried, is_decided}
 use Rattle.world_model.specs.Partition.{Kinds, PartState, Image, IsOther, IsOwnBound, IsReady, IsTxPending, AreTimed, names_pending, pending_cmp, lease_for, above, batch_of, new_part, PartStep}
-use Rattle.world_model.specs.Plan.{Plan, takes_part, IsAllowed, IsRun}
-use Rattle.world_model.specs.Shown.{listed_time, bound_after, bound_shown, pending_after, pending_shown, time_after, pending_time, committed_shown, IsOwnBoundOf, IsOwnBoundAt, IsFirstPending, IsReadyAt, ShowsAt, ShowAt}
+use Rattle.world_model.specs.Plan.{Plan, TellsAborted, MayAbort, takes_part, IsAllowed, IsRun}
+use Rattle.world_model.specs.Downs.{is_down}
+use Rattle.world_model.specs.Shown.{listed_time, bound_after, bound_shown, pending_after, pending_shown, time_after, pending_time, committed_shown, MayAbortAt, IsOwnBoundOf, IsOwnBoundAt, IsFirstPending, IsReadyAt, ShowsAt, ShowAt}
 use Rattle.world_model.proofs.Names.{clash, off, part_cases, part_other, entry_same, entry_cases}
 use Rattle.world_model.proofs.Moves.{Because, Move, moved, image_log, grown_last}
 use Rattle.world_model.proofs.Leases.{Leases}
@@ -28,6 +29,7 @@ use Rattle.world_model.proofs.Fate.{Fate, pending_parts, more_prepared}
 use Rattle.world_model.proofs.Later.{in_log, takes, prepared_now, never_aborted, pending_from}
 use Rattle.world_model.proofs.Completeness.{zeros_at}
 use Rattle.world_model.proofs.Kept.{law_plan}
+use Rattle.world_model.proofs.Ups.{ups}
 
 new_pending : (s p c a : Bool) → (s ≡ true → p ≡ false) → (c ≡ true → p ≡ true) → (a ≡ true → p ≡ true) → ((s || p) && not (c || a)) ≡ (s || (p && not (c || a)))
 new_pending true true c a h k l = clash refl (h refl)
@@ -95,6 +97,25 @@ module _ {E : Type 0} where
     pub bounds : (j : ℕ) → p.up ≡ true → IsOther plan.sites at.site j → entry p.bounds j ≡ bound_after j (bound_shown run at j) event
     pub waiting : (t : TxId) → p.up ≡ true → pending p.log t ≡ pending_after t (pending_shown run at t) event
     pub time : (t : TxId) → p.up ≡ true → pending p.log t ≡ true → prepare_time p.log t ≡ time_after t (pending_time run at t) event
+
+  -- what is committed at a partition that is up is shown to be
+  module _ (plan : Plan E) (run : List (Entry E)) (parts : PartId → PartState E) (f : Fate plan run parts) (h : Shown plan run parts) (q : PartId) (up : (parts q).up ≡ true) (t : TxId) where
+    committed_is : committed (parts q).log t ≡ committed_shown plan run q t
+    committed_is =
+        let log = (parts q).log in ⊎_elim
+        (λ (c : committed log t ≡ true).
+        let gone : pending_shown run q t ≡ false = sym (h.waiting q t up) ∙ and_right (prepared log t) _ (ap (λ b. not (b || aborted log t)) c) in
+        c ∙ sym (and_from _ _ (takes plan run parts f q t c) (and_from _ _ (in_log plan run parts f q 0 up t c) (ap not gone))))
+        (λ (c : committed log t ≡ false). c ∙ sym (false_from_ne_true _ (λ k.
+        let a = and_parts (takes_part plan t q) _ k in
+        let b = and_parts (is_decided run t) _ a.1 in
+        let i = image_log (parts q) in
+        let w = pending_from log t (prepared_now plan run parts f q log t i b.0 a.0).0 c (never_aborted plan run parts f q log t i b.0) in
+        clash (sym (h.waiting q t up) ∙ w) (not-true (pending_shown run q t) b.1))))
+        (cases_Bool (committed log t))
+
+    known_is : (pending (parts q).log t || committed (parts q).log t) ≡ (pending_shown run q t || committed_shown plan run q t)
+    known_is = λ i. (h.waiting q t up i || committed_is i)
 
   module _ {S : Type 0} (kinds : Kinds S E) (plan : Plan E) (run : List (Entry E)) (before after : PartId → PartState E) (at : PartId) (f : Fate plan run before) (h : Shown plan run before) where
     -- an event that shows nothing of these
@@ -168,6 +189,7 @@ module _ {E : Type 0} where
     here (Heard q b stable) al st = plain (Heard q b stable) st.0 (λ j. refl) (λ t. refl) (λ t. refl) (ap (λ p. p.bounds) st.2) (λ t. ap (λ p. pending p.log t) st.2) (λ t. ap (λ p. prepare_time p.log t) st.2)
     here (Cut a) al st = gone_down (Cut a) (ap (λ p. p.up) st.2)
     here Crashed al st = gone_down Crashed (ap (λ p. p.up) st)
+    here RestartCut al st = gone_down RestartCut (ap (λ p. p.up) st)
     here (Restarted n b named listed) al st = record {
       width = λ x. st.width;
       bounds = λ j x o. sym (st.shown_bounds.others j o);
@@ -260,52 +282,49 @@ module _ {E : Type 0} where
               subst (λ n. entry s at.site < n) (h.time at u up w) (x.free u w (subst (λ z. touches z o ≡ true) (sym same) y));
         }
 
-    -- what is committed here is shown to be
-    committed_is : (before at).up ≡ true → (t : TxId) → committed (before at).log t ≡ committed_shown plan run at t
-    committed_is up t =
-        let log = (before at).log in ⊎_elim
-        (λ (c : committed log t ≡ true).
-        let gone : pending_shown run at t ≡ false = sym (h.waiting at t up) ∙ and_right (prepared log t) _ (ap (λ b. not (b || aborted log t)) c) in
-        c ∙ sym (and_from _ _ (takes plan run before f at t c) (and_from _ _ (in_log plan run before f at 0 up t c) (ap not gone))))
-        (λ (c : committed log t ≡ false). c ∙ sym (false_from_ne_true _ (λ k.
-        let a = and_parts (takes_part plan t at) _ k in
-        let b = and_parts (is_decided run t) _ a.1 in
-        let i = image_log (before at) in
-        let w = pending_from log t (prepared_now plan run before f at log t i b.0 a.0).0 c (never_aborted plan run before f at log t i b.0) in
-        clash (sym (h.waiting at t up) ∙ w) (not-true (pending_shown run at t) b.1))))
-        (cases_Bool (committed log t))
+    -- whose word an abort rests on is shown
+    may_abort : ((p : PartId) → (before p).up ≡ not (is_down run p)) → (t : TxId) (own : Bool) → MayAbort plan run before at t own → MayAbortAt plan run at t own
+    may_abort u t true m = m
+    may_abort u t false m = ⊎_elim
+        (λ (e : at ≡ plan.lead t). inl e)
+        (λ (x : TellsAborted (before (plan.lead t)) t). inr (record {
+          up = not-true (is_down run (plan.lead t)) (sym (u (plan.lead t)) ∙ x.up);
+          unknown = sym (known_is plan run before f h (plan.lead t) x.up t) ∙ or_from _ _ x.idle x.uncommitted;
+        }))
+        m
 
-    known_is : (before at).up ≡ true → (t : TxId) → (pending (before at).log t || committed (before at).log t) ≡ (pending_shown run at t || committed_shown plan run at t)
-    known_is up t = λ i. (h.waiting at t up i || committed_is up t i)
-
-    shows_event : (event : Event E) (q : PartState E) → Leases run before → IsAllowed plan run before at (attempt event) → PartStep kinds plan.sites plan.parts at (before at) event q → ShowsAt plan run at event
-    shows_event (Began who dep t s) q l al st = subst (λ n. n < end_of_time) (l.clock at).now st.1.early
-    shows_event (Read t s o own read value) q l al st = ready_is st.0 l s o st.1.0
-    shows_event (Updated t s o own op read u stamp) q l al st = λ k. ready_is st.0 l s o (st.1.ready k)
-    shows_event (Prepared t s y w n) q l al st = let e = (l.clock at).now in (al.snapshot, subst (λ k. entry s at.site ≤ k) e st.1.0, subst (λ k. k < end_of_time) e st.1.2)
-    shows_event (Sent asked m) q l al st = own_bound st.0 l m.hi st.1.hi
-    shows_event (Took m) q l al st = let e = h.bounds at m.from st.0 al.from in (subst (λ n. m.lo ≤ n) e st.1.0, subst (λ n. n < m.hi) e st.1.1)
-    shows_event (Reported b) q l al st = (own_bound st.0 l (entry b at.site) st.1.own, λ j o. st.1.others j o ∙ h.bounds at j st.0 o)
-    shows_event (Restarted n b named listed) q l al st =
+    shows_event : (event : Event E) (q : PartState E) → ((p : PartId) → (before p).up ≡ not (is_down run p)) → Leases run before → IsAllowed plan run before at (attempt event) → PartStep kinds plan.sites plan.parts at (before at) event q → ShowsAt plan run at event
+    shows_event (Began who dep t s) q u l al st = subst (λ n. n < end_of_time) (l.clock at).now st.1.early
+    shows_event (Read t s o own read value) q u l al st = ready_is st.0 l s o st.1.0
+    shows_event (Updated t s o own op read x stamp) q u l al st = λ k. ready_is st.0 l s o (st.1.ready k)
+    shows_event (Prepared t s y w n) q u l al st = let e = (l.clock at).now in (al.snapshot, subst (λ k. entry s at.site ≤ k) e st.1.0, subst (λ k. k < end_of_time) e st.1.2)
+    shows_event (Sent asked m) q u l al st = own_bound st.0 l m.hi st.1.hi
+    shows_event (Took m) q u l al st = let e = h.bounds at m.from st.0 al.from in (subst (λ n. m.lo ≤ n) e st.1.0, subst (λ n. n < m.hi) e st.1.1)
+    shows_event (Reported b) q u l al st = (st.1.width, own_bound st.0 l (entry b at.site) st.1.own, λ j o. st.1.others j o ∙ h.bounds at j st.0 o)
+    shows_event (Restarted n b named listed) q u l al st =
         let o = st.shown_bounds.own in
-        let since : (u : TxId) → names_pending listed u ≡ true → prepare_time q.log u ≡ listed_time listed u = λ u k. sym (listed_is q.log listed u st.timed k) in record {
+        let since : (u : TxId) → names_pending listed u ≡ true → prepare_time q.log u ≡ listed_time listed u = λ u k. sym (listed_is q.log listed u st.timed k) in (
+          st.shown_bounds.width,
+          st.order,
+          record {
           most = subst (λ m. entry b at.site ≤ m) (sym st.shown) o.most;
           below = λ u k. subst (λ m. entry b at.site < m) (since u k) (o.below u (sym (st.members u) ∙ k));
           reached = ⊎_elim
               (λ (e : entry b at.site ≡ q.now). inl (e ∙ sym st.shown))
               (λ (e : (u : TxId) × (pending q.log u ≡ true) × (prepare_time q.log u ≡ entry b at.site + 1)). let k = st.members e.0 ∙ e.1 in inr (e.0, k, sym (since e.0 k) ∙ e.2))
               o.reached;
-        }
-    shows_event (Decided t c) q l al st = sym (known_is st.0 t) ∙ st.1
-    shows_event (Finished t c) q l al st = sym (known_is st.0 t) ∙ st.1
-    shows_event (Aborted t own) q l al st = sym (h.waiting at t st.0) ∙ st.1
-    shows_event (Refused (AskDecide t c) IsGone) q l al st = sym (known_is st.0.0 t) ∙ st.0.1
-    shows_event (Refused (AskAbort t) IsGone) q l al st = sym (h.waiting at t st.0.0) ∙ st.0.1
-    shows_event (Refused (AskRead t s o own) (TxPending u n)) q l al st = first_pending st.0.0 l s o u n st.0.1
-    shows_event (Refused (AskUpdate t s o own op) (TxPending u n)) q l al st = (st.0.1.0, first_pending st.0.0 l s o u n st.0.1.1)
-    shows_event (Refused (AskTake m) (HasGap n)) q l al st = (st.0.1.0 ∙ h.bounds at m.from st.0.0 al.from, st.0.1.1)
-    shows_event (Refused (AskTake m) (IsRepeat n)) q l al st = (st.0.1.0 ∙ h.bounds at m.from st.0.0 al.from, st.0.1.1, st.0.1.2)
-    shows_event event q l al st = tt
+          },
+        )
+    shows_event (Decided t c) q u l al st = sym (known_is plan run before f h at st.0 t) ∙ st.1
+    shows_event (Finished t c) q u l al st = sym (known_is plan run before f h at st.0 t) ∙ st.1
+    shows_event (Aborted t own) q u l al st = (sym (h.waiting at t st.0) ∙ st.1, may_abort u t own al)
+    shows_event (Refused (AskDecide t c) IsGone) q u l al st = sym (known_is plan run before f h at st.0.0 t) ∙ st.0.1
+    shows_event (Refused (AskAbort t) IsGone) q u l al st = sym (h.waiting at t st.0.0) ∙ st.0.1
+    shows_event (Refused (AskRead t s o own) (TxPending x n)) q u l al st = first_pending st.0.0 l s o x n st.0.1
+    shows_event (Refused (AskUpdate t s o own op) (TxPending x n)) q u l al st = (st.0.1.0, first_pending st.0.0 l s o x n st.0.1.1)
+    shows_event (Refused (AskTake m) (HasGap n)) q u l al st = (st.0.1.0 ∙ h.bounds at m.from st.0.0 al.from, st.0.1.1)
+    shows_event (Refused (AskTake m) (IsRepeat n)) q u l al st = (st.0.1.0 ∙ h.bounds at m.from st.0.0 al.from, st.0.1.1, st.0.1.2)
+    shows_event event q u l al st = tt
 
   shown_start : (plan : Plan E) (parts : PartId → PartState E) → ((p : PartId) → parts p ≡ new_part plan.sites plan.parts) → Shown plan [] parts
   shown_start plan parts r = record {
@@ -326,6 +345,6 @@ module _ {E : Type 0} where
   show_events kinds plan [] parts r = tt
   show_events kinds plan (e ∷ run) parts r =
       let k = law_plan kinds plan run r.0 r.1 in (
-        shows_event kinds plan run r.0 parts e.at k.fate (shown_run kinds plan run r.0 r.1) e.event (parts e.at) k.leases r.2.allowed r.2.step,
+        shows_event kinds plan run r.0 parts e.at k.fate (shown_run kinds plan run r.0 r.1) e.event (parts e.at) (ups kinds plan run r.0 r.1) k.leases r.2.allowed r.2.step,
         show_events kinds plan run r.0 r.1,
       )

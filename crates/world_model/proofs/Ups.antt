@@ -4,7 +4,7 @@ use Rattle.std.proofs.lemmas.Bool.{cond-true, cond-false, not-true, not-false}
 use Rattle.site_vector.specs.declared.ids.PartId.{PartId}
 use Rattle.site_vector.specs.Ids.{same_part}
 use Rattle.site_vector.specs.Order.{same_part_refl}
-use Rattle.world_model.specs.Event.{AskRestart, IsDown, IsDamaged, Event, Crashed, Restarted, Refused, Opened, Cut, Entry}
+use Rattle.world_model.specs.Event.{AskRestart, IsDown, IsDamaged, Event, Crashed, RestartCut, Restarted, Refused, Opened, Cut, Entry}
 use Rattle.world_model.specs.Partition.{Kinds, PartState, PartStep}
 use Rattle.world_model.specs.Plan.{Plan, IsRun}
 use Rattle.world_model.specs.Downs.{down_after, is_down, AnswersAsUp, AnswerAsUp}
@@ -14,6 +14,7 @@ module _ {E : Type 0} {S : Type 0} (kinds : Kinds S E) (plan : Plan E) where
   up_after : (at : PartId) (p q : PartState E) (old : Bool) (event : Event E) → p.up ≡ not old → PartStep kinds plan.sites plan.parts at p event q → q.up ≡ not (down_after old event)
   up_after at p q old (Cut what) u st = ap (λ x. x.up) st.2
   up_after at p q old Crashed u st = ap (λ x. x.up) st
+  up_after at p q old RestartCut u st = ap (λ x. x.up) st
   up_after at p q old (Restarted n b named listed) u st = st.up
   up_after at p q old (Refused asked why) u st = ap (λ x. x.up) st.1 ∙ u
   up_after at p q old (Opened who) u st = ap (λ x. x.up) st ∙ u
@@ -22,13 +23,14 @@ module _ {E : Type 0} {S : Type 0} (kinds : Kinds S E) (plan : Plan E) where
   answers_up : (run : List (Entry E)) (at : PartId) (p q : PartState E) (event : Event E) → p.up ≡ not (is_down run at) → PartStep kinds plan.sites plan.parts at p event q → AnswersAsUp run at event
   answers_up run at p q (Restarted n b named listed) u st = tt
   answers_up run at p q Crashed u st = tt
-  answers_up run at p q (Refused asked IsDown) u st = not-false (is_down run at) (sym u ∙ st.0)
+  answers_up run at p q RestartCut u st = tt
+  answers_up run at p q (Refused asked IsDown) u st = not-false (is_down run at) (sym u ∙ st.0.0)
   answers_up run at p q (Refused AskRestart (IsDamaged k)) u st = not-false (is_down run at) (sym u ∙ st.0.down)
   answers_up run at p q (Opened who) u st = tt
   answers_up run at p q (Refused asked why) u st = not-true (is_down run at) (sym u ∙ st.0.0)
   answers_up run at p q event u st = not-true (is_down run at) (sym u ∙ st.0)
 
-  ups : (run : List (Entry E)) (parts : PartId → PartState E) → IsRun kinds plan run parts → (p : PartId) → (parts p).up ≡ not (is_down run p)
+  pub ups : (run : List (Entry E)) (parts : PartId → PartState E) → IsRun kinds plan run parts → (p : PartId) → (parts p).up ≡ not (is_down run p)
   ups [] parts r p = ap (λ x. x.up) (r p)
   ups (e ∷ run) parts r p = ⊎_elim
       (λ (k : e.at ≡ p). subst (λ y. (parts y).up ≡ not (down_after (is_down run y) e.event)) k (up_after e.at (r.0 e.at) (parts e.at) (is_down run e.at) e.event (ups run r.0 r.1 e.at) r.2.step) ∙ ap not (sym (cond-true _ _ _ (subst (λ y. same_part e.at y ≡ true) k (same_part_refl e.at)))))

@@ -1,34 +1,39 @@
 -- Votes and decisions are as the rules have them, and a commit vector stays.
-use Rattle.std.proofs.Common.{◌≡◌, Bool, true, false, List, [], ◌∷◌, refl, sym, ap, ◌∙◌, subst}
+use Rattle.std.proofs.Common.{◌≡◌, ⊎_elim, Bool, true, false, List, [], ◌∷◌, refl, sym, ap, ◌∙◌, subst}
 use Rattle.std.specs.Prelude.{⊤}
-use Rattle.std.proofs.lemmas.Bool.{or_left, or_right, false_from_ne_true}
+use Rattle.std.proofs.lemmas.Bool.{or_left, or_right, or_cases, false_from_ne_true}
 use Rattle.site_vector.specs.declared.ids.PartId.{PartId}
 use Rattle.site_vector.specs.declared.ids.TxId.{TxId}
 use Rattle.site_vector.specs.Order.{same_tx_refl}
+use Rattle.world_model.specs.Log.{prepared, committed, pending}
 use Rattle.world_model.specs.Event.{Event, Prepared, Decided, Finished, Cut, Entry, attempt, EventsAre, tried, voted, is_decided}
 use Rattle.world_model.specs.Partition.{Kinds, PartState, PartStep}
 use Rattle.world_model.specs.Plan.{Plan, takes_part, commit_vector, IsAllowed, IsRun}
 use Rattle.world_model.specs.Votes.{VotesAt, KeepVotes, ShowsVector, IsAgreed}
 use Rattle.world_model.proofs.Names.{clash}
-use Rattle.world_model.proofs.Moves.{moved}
-use Rattle.world_model.proofs.Fate.{Fate, fate_step, voted_tried}
+use Rattle.world_model.proofs.Moves.{moved, image_log}
+use Rattle.world_model.proofs.Fate.{Fate, fate_step, voted_tried, pending_parts}
 use Rattle.world_model.proofs.Leases.{rises, one_image}
 use Rattle.world_model.proofs.Later.{full_now}
 use Rattle.world_model.proofs.Intervals.{same_commit, events_map}
 use Rattle.world_model.proofs.Kept.{Kept, law_plan}
 
 module _ {E : Type 0} where
-  vote_event : (plan : Plan E) (run : List (Entry E)) (before : PartId → PartState E) (at : PartId) (event : Event E) → IsAllowed plan run before at (attempt event) → VotesAt plan run at event
-  vote_event plan run before at (Prepared t s l w n) al = record { takes = al.takes; fresh = false_from_ne_true _ (λ v. clash (voted_tried run t at v) al.fresh); after_lead = al.after_lead }
-  vote_event plan run before at (Decided t c) al = record { lead = al.lead; here = al.here; all = al.all }
-  vote_event plan run before at (Cut (Decided t c)) al = record { lead = al.lead; here = al.here; all = al.all }
-  vote_event plan run before at (Cut a) al = tt
-  vote_event plan run before at (Finished t c) al = al.decided
-  vote_event plan run before at event al = tt
+  vote_event : {S : Type 0} (kinds : Kinds S E) (plan : Plan E) (run : List (Entry E)) (before : PartId → PartState E) (at : PartId) (q : PartState E) (event : Event E) → Fate plan run before → IsAllowed plan run before at (attempt event) → PartStep kinds plan.sites plan.parts at (before at) event q → VotesAt plan run at event
+  vote_event kinds plan run before at q (Prepared t s l w n) f al st = record { takes = al.takes; fresh = false_from_ne_true _ (λ v. clash (voted_tried run t at v) al.fresh); after_lead = al.after_lead }
+  vote_event kinds plan run before at q (Decided t c) f al st = record { lead = al.lead; here = al.here; all = al.all }
+  vote_event kinds plan run before at q (Cut (Decided t c)) f al st = record { lead = al.lead; here = al.here; all = al.all }
+  vote_event kinds plan run before at q (Cut a) f al st = tt
+  vote_event kinds plan run before at q (Finished t c) f al st =
+      let log = (before at).log in
+      let i = image_log (before at) in
+      let here : prepared log t ≡ true = ⊎_elim (λ (k : pending log t ≡ true). (pending_parts log t k).prepared) (λ (k : committed log t ≡ true). f.first at log t i k) (or_cases _ _ st.1) in
+      (f.part at t (f.was_tried at log t i here), al.decided)
+  vote_event kinds plan run before at q event f al st = tt
 
   pub vote_events : {S : Type 0} (kinds : Kinds S E) (plan : Plan E) (run : List (Entry E)) (parts : PartId → PartState E) → IsRun kinds plan run parts → KeepVotes plan run
   vote_events kinds plan [] parts r = tt
-  vote_events kinds plan (e ∷ run) parts r = (vote_event plan run r.0 e.at e.event r.2.allowed, vote_events kinds plan run r.0 r.1)
+  vote_events kinds plan (e ∷ run) parts r = (vote_event kinds plan run r.0 e.at (parts e.at) e.event (law_plan kinds plan run r.0 r.1).fate r.2.allowed r.2.step, vote_events kinds plan run r.0 r.1)
 
   vector_now : (plan : Plan E) (run : List (Entry E)) (before : PartId → PartState E) (at : PartId) (event : Event E) → IsAllowed plan run before at (attempt event) → ShowsVector plan ((record { at = at; event = event }) ∷ run) at event
   vector_now plan run before at (Decided t c) al = (or_left _ _ (same_tx_refl t), al.vector)

@@ -5,9 +5,10 @@ use Rattle.crdt_core.specs.declared.object.Field.{Field}
 use Rattle.crdt_core.specs.declared.object.ObjectId.{ObjectId}
 use Rattle.crdt_core.specs.declared.operation.Op.{Op}
 use Rattle.crdt_core.specs.Fits.{fits}
-use Rattle.world_model.specs.Event.{Ask, AskBegin, AskRead, AskUpdate, AskPrepare, AskDecide, AskAbort, AskTake, AskRestart, Refusal, IsDown, ClockBehind, TxPending, StableBehind, ClockAtEnd, IsGone, HasGap, IsRepeat, IsBadOp, IsDamaged, Event, Updated, Read, Refused, Entry}
+use Rattle.world_model.specs.Event.{Ask, AskBegin, AskRead, AskUpdate, AskPrepare, AskDecide, AskAbort, AskTake, AskRestart, is_restart, Refusal, IsDown, ClockBehind, TxPending, StableBehind, ClockAtEnd, IsGone, HasGap, IsRepeat, IsBadOp, IsDamaged, Event, Updated, Read, Refused, Cut, Entry}
 use Rattle.site_vector.specs.declared.ids.PartId.{PartId}
 use Rattle.world_model.specs.Partition.{Kinds}
+use Rattle.world_model.specs.Resumed.{is_call}
 
 -- the operation is one of the kind, and leads no deeper than the type reaches
 abbrev pub fits_kind : (Kind → List Field → Bool) → ObjectId → Op → Bool
@@ -15,7 +16,7 @@ fits_kind too_deep o op = fits o.kind op.path op.act && not (too_deep o.kind op.
 
 module _ {E : Type 0} where
   abbrev pub may_answer : Ask E → Refusal → Bool
-  may_answer asked IsDown = true
+  may_answer asked IsDown = not (is_restart asked)
   may_answer (AskRead t s o own) (ClockBehind n) = true
   may_answer (AskUpdate t s o own op) (ClockBehind n) = true
   may_answer (AskPrepare t s l w) (ClockBehind n) = true
@@ -31,8 +32,10 @@ module _ {E : Type 0} where
   may_answer (AskTake m) (IsRepeat n) = true
   may_answer asked why = false
 
+  -- what a crash cuts off is a call
   abbrev pub IsDueAt : Event E → Type 0
   IsDueAt (Refused asked why) = may_answer asked why ≡ true
+  IsDueAt (Cut what) = is_call what ≡ true
   IsDueAt other = ⊤
 
   -- what is read or updated is of a kind that there is; an update's operation is one of the kind, exactly where it isn't refused as none

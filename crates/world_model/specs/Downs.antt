@@ -2,12 +2,13 @@
 use Rattle.std.specs.Prelude.{◌≡◌, Bool, true, false, if◌then◌else◌, List, [], ◌∷◌, ⊤}
 use Rattle.site_vector.specs.declared.ids.PartId.{PartId}
 use Rattle.site_vector.specs.Ids.{same_part}
-use Rattle.world_model.specs.Event.{AskRestart, IsDown, IsDamaged, Event, Crashed, Restarted, Refused, Opened, Cut, Entry}
+use Rattle.world_model.specs.Event.{AskRestart, IsDown, IsDamaged, Event, Crashed, RestartCut, Restarted, Refused, Opened, Cut, Entry}
 
 module _ {E : Type 0} where
   abbrev pub down_after : Bool → Event E → Bool
   down_after old (Cut what) = true
   down_after old Crashed = true
+  down_after old RestartCut = true
   down_after old (Restarted n b named listed) = false
   down_after old other = old
 
@@ -20,6 +21,7 @@ module _ {E : Type 0} where
   abbrev pub AnswersAsUp : List (Entry E) → PartId → Event E → Type 0
   AnswersAsUp run p (Restarted n b named listed) = ⊤
   AnswersAsUp run p Crashed = ⊤
+  AnswersAsUp run p RestartCut = ⊤
   AnswersAsUp run p (Refused asked IsDown) = is_down run p ≡ true
   AnswersAsUp run p (Refused AskRestart (IsDamaged at)) = is_down run p ≡ true
   AnswersAsUp run p (Opened who) = ⊤

@@ -1,5 +1,5 @@
 -- What happens at a partition, and what a list of such events shows, the newest first.
-use Rattle.std.specs.Prelude.{◌≡◌, ◌⊎◌, ℕ, max, Bool, false, ◌&&◌, ◌||◌, if◌then◌else◌, List, [], ◌∷◌, Option, None, Some, ⊤}
+use Rattle.std.specs.Prelude.{◌≡◌, ◌⊎◌, ℕ, max, Bool, true, false, ◌&&◌, ◌||◌, if◌then◌else◌, List, [], ◌∷◌, Option, None, Some, ⊤}
 use Rattle.site_vector.specs.declared.ids.PartId.{PartId}
 use Rattle.site_vector.specs.declared.ids.TxId.{TxId}
 use Rattle.site_vector.specs.Ids.{same_part, same_tx}
@@ -46,6 +46,10 @@ pub data Refusal : Type 0 where
   -- the record with this number, from 0, isn't one of the partition's
   IsDamaged : (at : ℕ) → Refusal
 
+abbrev pub is_restart : {E : Type 0} → Ask E → Bool
+is_restart AskRestart = true
+is_restart other = false
+
 -- a call of a partition, with what it was handed and what it answered, or a crash
 pub data Event (E : Type 0) : Type 0 where
   Ticked : (reading now : ℕ) → Event E
@@ -66,6 +70,8 @@ pub data Event (E : Type 0) : Type 0 where
   -- the report of the partition with this number
   Heard : (part : ℕ) (bounds stable : List ℕ) → Event E
   Crashed : Event E
+  -- a crash inside a restart: what may be found stays
+  RestartCut : Event E
   Restarted : (now : ℕ) (bounds : List ℕ) (named : Option TxId) (listed : List (TxId × ℕ)) → Event E
   Refused : (asked : Ask E) (why : Refusal) → Event E
   -- a session is opened under this name, or opened anew; no call of a partition
@@ -98,6 +104,7 @@ module _ {E : Type 0} where
   attempt (Reported b) = Reported b
   attempt (Heard q b stable) = Heard q b stable
   attempt Crashed = Crashed
+  attempt RestartCut = RestartCut
   attempt (Restarted n b named listed) = Restarted n b named listed
   attempt (Refused asked why) = Refused asked why
   attempt (Opened who) = Opened who

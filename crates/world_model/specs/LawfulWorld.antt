@@ -5,7 +5,7 @@ use Rattle.site_vector.specs.declared.ids.TxId.{TxId}
 use Rattle.site_vector.specs.Vector.{entry}
 use Rattle.world_model.specs.Event.{Entry, EventsAre, is_decided, time_of, was_aborted}
 use Rattle.world_model.specs.Partition.{Kinds}
-use Rattle.world_model.specs.Plan.{Plan, updates_at}
+use Rattle.world_model.specs.Plan.{Plan, IsPlace, updates_at}
 use Rattle.world_model.specs.WorldLaw.{sees_tx, IsRight, ClocksAre, KeepsDecided, HaveCausesAt}
 use Rattle.world_model.specs.Past.{KeepPast}
 use Rattle.world_model.specs.Answering.{AreDue, IsKnown}
@@ -20,6 +20,8 @@ use Rattle.world_model.specs.Stable.{AreFresh}
 use Rattle.world_model.specs.Meaning.{HaveMeaning, AreCausal}
 
 pub record IsLawfulWorld {S E : Type 0} (kinds : Kinds S E) (plan : Plan E) (run : List (Entry E)) : Type 0 where
+  -- each step is made at a partition of the cluster
+  pub places : EventsAre (λ p event. IsPlace plan.sites plan.parts p) run
   -- reads, updates that read, and messages, in the whole run
   pub right : EventsAre (IsRight kinds plan run) run
   -- each value is the meaning of what is read, and each stamp is due by it

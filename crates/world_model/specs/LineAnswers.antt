@@ -1,5 +1,5 @@
 -- Each line answers its call, at its place.
-use Rattle.std.specs.Prelude.{◌≡◌, ℕ, Bool, true, List, ⊤}
+use Rattle.std.specs.Prelude.{◌≡◌, ℕ, Bool, true, false, List, ⊤}
 use Rattle.site_vector.specs.declared.ids.PartId.{PartId}
 use Rattle.site_vector.specs.declared.ids.TxId.{TxId}
 use Rattle.world_model.specs.declared.step.Step.{Step}
@@ -7,10 +7,23 @@ use Rattle.world_model.specs.declared.step.Step.TheVariants as step
 use Rattle.world_model.specs.Lines.{Call, Tick, Begin, ReadOf, UpdateOf, PrepareOf, DecideOf, FinishOf, AbortOf, SendTo, TakeOf, Report, HearOf, Crash, Restart, Open, Line}
 use Rattle.world_model.specs.LinePast.{is_of}
 
+-- which calls a partition that is down refuses
+abbrev pub needs_up : Call → Bool
+needs_up Crash = false
+needs_up Restart = false
+needs_up Open = false
+needs_up other = true
+
+-- which calls a fault of the disk may end
+abbrev pub may_fail : Call → Bool
+may_fail Crash = false
+may_fail Open = false
+may_fail other = true
+
 -- a value and an update bear the name of the session that began the transaction; a decide that a fault ended leaves its
 -- transaction in doubt, and every other call shows that its disk failed
 abbrev pub IsAnswer : List Line → PartId → Call → Step → Type 0
-IsAnswer before p call (step.Down q) = q ≡ p
+IsAnswer before p call (step.Down q) = (q ≡ p) × (needs_up call ≡ true)
 IsAnswer before p (Tick reading) (step.Ticked q n) = q ≡ p
 IsAnswer before p (Begin who) (step.Began name t s) = name ≡ who
 IsAnswer before p (ReadOf t o) (step.Value name object value) = (object ≡ o) × (is_of before name t ≡ true)
@@ -38,5 +51,5 @@ IsAnswer before p (PrepareOf t) step.TimeEnd = ⊤
 IsAnswer before p call (step.Gone q t) = q ≡ p
 IsAnswer before p (DecideOf t) (step.Unsure u) = u ≡ t
 IsAnswer before p (DecideOf t) (step.Disk q) = ⊥
-IsAnswer before p call (step.Disk q) = q ≡ p
+IsAnswer before p call (step.Disk q) = (q ≡ p) × (may_fail call ≡ true)
 IsAnswer before p call other = ⊥

@@ -10,7 +10,7 @@ use Rattle.world_model.specs.declared.step.Step.{Step}
 use Rattle.world_model.specs.declared.step.Step.TheVariants as step
 use Rattle.world_model.specs.Log.{end_of_time}
 use Rattle.world_model.specs.Partition.{IsOther, pending_cmp}
-use Rattle.world_model.specs.Lines.{Call, Begin, ReadOf, UpdateOf, PrepareOf, DecideOf, FinishOf, AbortOf, Line}
+use Rattle.world_model.specs.Lines.{Call, Begin, ReadOf, UpdateOf, PrepareOf, DecideOf, FinishOf, AbortOf, Restart, Line}
 use Rattle.world_model.specs.LineClock.{now}
 use Rattle.world_model.specs.LineHistory.{snapshot}
 use Rattle.world_model.specs.LinePast.{dependency}
@@ -93,6 +93,7 @@ HasCause sites parts whole before p call other = ⊤
 abbrev pub AnswersAsUp : List Line → PartId → Call → Step → Type 0
 AnswersAsUp before p call (step.Restarted q n bounds named listed) = ⊤
 AnswersAsUp before p call (step.Crashed q) = ⊤
+AnswersAsUp before p Restart (step.Disk q) = ⊤
 AnswersAsUp before p call (step.Down q) = is_down before p ≡ true
 AnswersAsUp before p call (step.Damaged q at) = is_down before p ≡ true
 AnswersAsUp before p call (step.MadeSession name site) = ⊤

@@ -35,11 +35,11 @@ abbrev pub IsEarly : List Line → Call → Type 0
 IsEarly before (UpdateOf t o op) = (p : PartId) → was_prepared before t p ≡ false
 IsEarly before other = ⊤
 
--- a decision shows the commit vector; what is in doubt was asked as a decision is
+-- a decision shows the commit vector; what is in doubt was asked as a decision is; a participant finishes what is decided so far
 abbrev pub ShowsCommit : ℕ → List Line → List Line → PartId → Call → Step → Type 0
 ShowsCommit parts whole before p call (step.Prepared q t n) = IsVote parts whole before p t
 ShowsCommit parts whole before p call (step.Decided q t c) = IsDecision parts whole before p t × (c ≡ commit_vector whole t)
 ShowsCommit parts whole before p call (step.Unsure t) = IsDecision parts whole before p t
 ShowsCommit parts whole before p call (step.Updated name o stamp) = IsEarly before call
-ShowsCommit parts whole before p call (step.Finished q t) = in_history before t ≡ true
+ShowsCommit parts whole before p call (step.Finished q t) = (takes_part whole t p ≡ true) × (in_history before t ≡ true)
 ShowsCommit parts whole before p call other = ⊤

@@ -1,5 +1,5 @@
 -- The fate of transactions, over the lines of a run.
-use Rattle.std.specs.Prelude.{◌≡◌, ◌⊎◌, ℕ, ◌+◌, max, leb, ltb, Bool, true, false, not, ◌&&◌, ◌||◌, ◌==◌, if◌then◌else◌, List, [], ◌∷◌, Option, None, Some, ⊤}
+use Rattle.std.specs.Prelude.{◌≡◌, ◌⊎◌, ℕ, ◌+◌, max, leb, ltb, Bool, true, false, not, ◌&&◌, ◌||◌, ◌==◌, if◌then◌else◌, List, [], ◌∷◌, length, Option, None, Some, ⊤}
 use Rattle.std.specs.List.{list_any}
 use Rattle.site_vector.specs.declared.ids.PartId.{PartId}
 use Rattle.site_vector.specs.declared.ids.TxId.{TxId}
@@ -8,15 +8,15 @@ use Rattle.site_vector.specs.Vector.{entry}
 use Rattle.world_model.specs.declared.step.Step.{Step}
 use Rattle.world_model.specs.declared.step.Step.TheVariants as step
 use Rattle.world_model.specs.Event.{is_named}
-use Rattle.world_model.specs.Partition.{IsOther, names_pending}
+use Rattle.world_model.specs.Partition.{IsOther, Ascends, names_pending, pending_cmp}
 use Rattle.world_model.specs.Shown.{listed_time, IsOwnBoundOf}
-use Rattle.world_model.specs.Lines.{Call, TakeOf, PrepareOf, DecideOf, FinishOf, AbortOf, Line}
+use Rattle.world_model.specs.Lines.{Call, TakeOf, PrepareOf, DecideOf, FinishOf, AbortOf, Restart, Line}
 use Rattle.world_model.specs.LineClock.{now}
 use Rattle.world_model.specs.LineHistory.{in_history, history, commit_time}
 use Rattle.world_model.specs.LineBounds.{bound}
 use Rattle.world_model.specs.Plan.{twin}
 use Rattle.world_model.specs.LineUpdates.{takes_part, lead}
-use Rattle.world_model.specs.LineFate.{pending, prepare_time, in_doubt}
+use Rattle.world_model.specs.LineFate.{pending, prepare_time, in_doubt, is_down}
 
 -- p is a participant of t, which is decided so far and is pending there no more
 abbrev pub is_ended_at : List Line → List Line → PartId → TxId → Bool
@@ -81,10 +81,12 @@ abbrev pub last_decided : List Line → PartId → Option TxId
 last_decided [] p = None
 last_decided (l ∷ ls) p = if same_part l.at p then decided_after ls p (last_decided ls p) l.step else last_decided ls p
 
+-- a restart that a fault ended changed nothing
 abbrev pub fault_after : ℕ → Option (Call × ℕ) → Call → Step → Option (Call × ℕ)
+fault_after time old call (step.Restarted p n bounds named listed) = None
+fault_after time old Restart (step.Disk p) = old
 fault_after time old call (step.Disk p) = Some (call, time + 1)
 fault_after time old call (step.Unsure t) = Some (call, time + 1)
-fault_after time old call (step.Restarted p n bounds named listed) = None
 fault_after time old call other = old
 
 -- the call at p that a fault of the disk ended, since the last restart, and the time that it would have drawn
@@ -106,16 +108,37 @@ pub record IsAsDone (sites : ℕ) (whole before : List Line) (p : PartId) (call 
   pub bounds : (j : ℕ) → IsOther sites p.site j → entry shown j ≡ brought_done whole before p j (brought whole before p j) call
   pub last : named ≡ decided_done before p (last_decided before p) call
 
--- a restart lists what was pending, where one call that ended by a fault may have been done; it lists at its lead nothing
--- that was decided; of what it was in doubt it lists or names exactly one; and its own bound is by that list
+-- a restart lists what was pending, by prepare time and id, where one call that ended by a fault may have been done; it lists at its
+-- lead nothing that was decided; what was in doubt it lists or names, and not both; and its own bound is by that list
 pub record IsResumed (sites parts : ℕ) (whole before : List Line) (p : PartId) (time : ℕ) (bounds : List ℕ) (named : Option TxId) (listed : List (TxId × ℕ)) : Type 0 where
   pub list : IsAsBefore sites whole before p bounds named listed ⊎ ((call : Call) × (drawn : ℕ) × (faulted before p ≡ Some (call, drawn)) × IsAsDone sites whole before p call drawn bounds named listed)
+  pub order : Ascends pending_cmp listed
+  pub width : length bounds ≡ sites
   pub own : IsOwnBoundOf time listed (entry bounds p.site)
   pub decided : (t : TxId) → in_history before t ≡ true → lead parts whole t ≡ p → names_pending listed t ≡ false
   pub settled : (t : TxId) → in_doubt before p t ≡ true → names_pending listed t ≡ not (is_named named t)
 
+abbrev pub asks_decide : Step → TxId → Bool
+asks_decide (step.Decided q u c) t = same_tx u t
+asks_decide (step.Unsure u) t = same_tx u t
+asks_decide other t = false
+
+-- its session asked to decide t: that was done, or left it in doubt
+abbrev pub is_decide_asked : List Line → TxId → Bool
+is_decide_asked [] t = false
+is_decide_asked (l ∷ ls) t = asks_decide l.step t || is_decide_asked ls t
+
+-- the lead tells that t is aborted: it is up, and t is neither pending nor committed there
+pub record TellsAborted (parts : ℕ) (whole before : List Line) (t : TxId) : Type 0 where
+  pub up : is_down before (lead parts whole t) ≡ false
+  pub unknown : is_known_at whole before (lead parts whole t) t ≡ false
+
+-- p aborts as the lead, or on the word of a session that didn't ask to decide, or on the lead's
+abbrev pub MayAbort : ℕ → List Line → List Line → PartId → TxId → Type 0
+MayAbort parts whole before p t = (p ≡ lead parts whole t) ⊎ ((is_decide_asked before t ≡ false) ⊎ TellsAborted parts whole before t)
+
 -- what is aborted was pending here, and is never decided
 abbrev pub ShowsFate : ℕ → ℕ → List Line → List Line → PartId → Call → Step → Type 0
-ShowsFate sites parts whole before p call (step.Aborted q t) = (pending before p t ≡ true) × (in_history whole t ≡ false)
+ShowsFate sites parts whole before p call (step.Aborted q t) = (pending before p t ≡ true) × (in_history whole t ≡ false) × MayAbort parts whole before p t
 ShowsFate sites parts whole before p call (step.Restarted q n bounds named listed) = IsResumed sites parts whole before p n bounds named listed
 ShowsFate sites parts whole before p call other = ⊤

@@ -24,6 +24,7 @@ pub record IsStable (sites parts : ℕ) (before : List Line) (p : PartId) (known
 
 -- a report shows the bounds, its own site's among them
 pub record ShowsBounds (sites : ℕ) (before : List Line) (p : PartId) (bounds : List ℕ) : Type 0 where
+  pub width : length bounds ≡ sites
   pub own : IsOwnBound before p (entry bounds p.site)
   pub others : (j : ℕ) → IsOther sites p.site j → entry bounds j ≡ bound before p j
 

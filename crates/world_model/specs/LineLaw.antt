@@ -6,6 +6,7 @@ use Rattle.crdt_core.specs.declared.kind.Kind.{Kind}
 use Rattle.crdt_core.specs.declared.object.Field.{Field}
 use Rattle.crdt_core.specs.declared.value.Value.{Value}
 use Rattle.crdt_core.specs.Seen.{Update}
+use Rattle.world_model.specs.Plan.{IsPlace}
 use Rattle.world_model.specs.Lines.{Line, EachLine}
 use Rattle.world_model.specs.LineClock.{FollowsClock}
 use Rattle.world_model.specs.LinePast.{KeepsPast}
@@ -27,6 +28,8 @@ pub record IsAgreed (parts : ℕ) (ls : List Line) (t : TxId) : Type 0 where
 
 -- the lines show one causally consistent history, where kinds have these meanings, and objects reach so deep
 pub record IsLawfulRun (too_deep : Kind → List Field → Bool) (meaning : Kind → List Update → Value) (sites parts : ℕ) (ls : List Line) : Type 0 where
+  -- each line is of a partition of the cluster
+  pub places : EachLine (λ before p call step. IsPlace sites parts p) ls
   pub answers : EachLine IsAnswer ls
   pub clock : FollowsClock ls
   pub placed : EachLine (IsPlaced parts) ls

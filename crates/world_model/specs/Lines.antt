@@ -9,7 +9,7 @@ use Rattle.crdt_core.specs.declared.operation.Op.{Op}
 use Rattle.crdt_core.specs.declared.record.Message.{Message}
 use Rattle.world_model.specs.declared.step.Step.{Step}
 use Rattle.world_model.specs.declared.step.Step.TheVariants as step
-use Rattle.world_model.specs.Event.{Ask, AskTick, AskBegin, AskRead, AskUpdate, AskPrepare, AskDecide, AskFinish, AskAbort, AskMessage, AskTake, AskReport, AskHear, AskRestart, Refusal, IsDown, ClockBehind, TxPending, StableBehind, ClockAtEnd, IsGone, HasGap, IsRepeat, IsBadOp, IsDamaged, Event, Ticked, Began, Updated, Read, Prepared, Decided, Finished, Aborted, Sent, Took, Reported, Heard, Crashed, Restarted, Refused, Opened, Cut, Entry}
+use Rattle.world_model.specs.Event.{Ask, AskTick, AskBegin, AskRead, AskUpdate, AskPrepare, AskDecide, AskFinish, AskAbort, AskMessage, AskTake, AskReport, AskHear, AskRestart, Refusal, IsDown, ClockBehind, TxPending, StableBehind, ClockAtEnd, IsGone, HasGap, IsRepeat, IsBadOp, IsDamaged, Event, Ticked, Began, Updated, Read, Prepared, Decided, Finished, Aborted, Sent, Took, Reported, Heard, Crashed, RestartCut, Restarted, Refused, Opened, Cut, Entry}
 use Rattle.world_model.specs.Plan.{twin}
 
 -- what a partition was asked: a run of the world holds no commands
@@ -117,6 +117,7 @@ module _ {E : Type 0} where
   call_done (Reported b) = Report
   call_done (Heard q b stable) = HearOf q b
   call_done Crashed = Crash
+  call_done RestartCut = Restart
   call_done (Restarted n b named listed) = Restart
   call_done (Opened who) = Open
   call_done (Refused asked why) = call_asked asked
@@ -173,6 +174,7 @@ module _ {E : Type 0} where
   step_shown run p (Reported b) = step.Reported (report_count run + 1) p b
   step_shown run p (Heard q b stable) = step.Heard (report_number run (record { site = p.site; part = q }) b) p stable
   step_shown run p Crashed = step.Crashed p
+  step_shown run p RestartCut = step.Disk p
   step_shown run p (Restarted n b named listed) = step.Restarted p n b named listed
   step_shown run p (Opened who) = step.MadeSession who p.site
   step_shown run p (Refused asked why) = refusal_shown run p asked why

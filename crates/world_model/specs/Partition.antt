@@ -27,7 +27,7 @@ use Rattle.crdt_core.specs.Seen.{Update}
 use Rattle.crdt_core.specs.History.{folded}
 use Rattle.crdt_core.specs.Law.{KeepsLaw}
 use Rattle.world_model.specs.Log.{end_of_time, touches, lists, ceiling, prepare_time, prepared_changes, committed, committed_at, pending, last_decided, bound, holds, held_at, held_changes, grown, IsImage}
-use Rattle.world_model.specs.Event.{Ask, AskBegin, AskRead, AskUpdate, AskPrepare, AskDecide, AskFinish, AskAbort, AskTake, AskRestart, Refusal, IsDown, ClockBehind, TxPending, StableBehind, ClockAtEnd, IsGone, HasGap, IsRepeat, IsBadOp, IsDamaged, Event, Refused, Ticked, Began, Updated, Read, Prepared, Decided, Finished, Aborted, Sent, Took, Reported, Heard, Crashed, Restarted, Opened, Cut}
+use Rattle.world_model.specs.Event.{Ask, AskBegin, AskRead, AskUpdate, AskPrepare, AskDecide, AskFinish, AskAbort, AskTake, AskRestart, is_restart, Refusal, IsDown, ClockBehind, TxPending, StableBehind, ClockAtEnd, IsGone, HasGap, IsRepeat, IsBadOp, IsDamaged, Event, Refused, Ticked, Began, Updated, Read, Prepared, Decided, Finished, Aborted, Sent, Took, Reported, Heard, Crashed, RestartCut, Restarted, Opened, Cut}
 use Rattle.world_model.specs.Fitting.{unfit}
 
 -- what the kinds of objects do, under the law of a kind: the trait `Crdt` of whoever stores them
@@ -328,9 +328,9 @@ module _ {E : Type 0} where
     pub found : Image p log
     pub first : unfit sites parts id log ≡ Some at
 
-  -- down is first of all
+  -- down is first of all, but a restart is never refused so
   abbrev pub IsRefused : {S : Type 0} → Kinds S E → ℕ → ℕ → PartId → PartState E → Ask E → Refusal → Type 0
-  IsRefused kinds sites parts id p asked IsDown = p.up ≡ false
+  IsRefused kinds sites parts id p asked IsDown = (p.up ≡ false) × (is_restart asked ≡ false)
   IsRefused kinds sites parts id p AskRestart (IsDamaged at) = IsUnfit sites parts id p at
   IsRefused kinds sites parts id p asked why = (p.up ≡ true) × IsDue kinds sites parts id p asked why
 
@@ -357,6 +357,7 @@ module _ {E : Type 0} where
   PartStep kinds sites parts id p (Cut what) q = (p.up ≡ true) × MayDo kinds sites parts id p what × (q ≡ cut p what)
   -- also where it is down already
   PartStep kinds sites parts id p Crashed q = q ≡ down p p.torn
+  PartStep kinds sites parts id p RestartCut q = q ≡ down p p.torn
   PartStep kinds sites parts id p (Restarted n b named listed) q = IsRestart sites parts id p n b named listed q
   PartStep kinds sites parts id p (Opened who) q = q ≡ p
   PartStep kinds sites parts id p (Refused asked why) q = IsRefused kinds sites parts id p asked why × (q ≡ p)

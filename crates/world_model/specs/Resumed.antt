@@ -6,7 +6,7 @@ use Rattle.site_vector.specs.Ids.{same_part}
 use Rattle.site_vector.specs.Vector.{entry}
 use Rattle.crdt_core.specs.declared.record.Part.{Part}
 use Rattle.crdt_core.specs.declared.record.Message.{Message}
-use Rattle.world_model.specs.Event.{Event, Decided, Took, Crashed, Restarted, Refused, Opened, Cut, Entry}
+use Rattle.world_model.specs.Event.{Event, Decided, Took, Crashed, RestartCut, Restarted, Refused, Opened, Cut, Entry}
 use Rattle.world_model.specs.Partition.{IsOther, names_pending, above}
 use Rattle.world_model.specs.Plan.{Plan, MayTake}
 use Rattle.world_model.specs.Shown.{listed_time, bound_shown, pending_after, pending_shown, time_after, pending_time}
@@ -15,6 +15,7 @@ module _ {E : Type 0} where
   -- a call of a partition
   abbrev pub is_call : Event E → Bool
   is_call Crashed = false
+  is_call RestartCut = false
   is_call (Restarted n b named listed) = false
   is_call (Refused asked why) = false
   is_call (Opened who) = false

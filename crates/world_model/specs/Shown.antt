@@ -1,5 +1,5 @@
 -- What the events of a run show of a partition: its bounds, and what is pending there.
-use Rattle.std.specs.Prelude.{◌≡◌, ◌≢◌, ◌⊎◌, ℕ, ◌+◌, ◌<◌, ◌≤◌, Bool, true, false, not, ◌&&◌, ◌||◌, ◌==◌, if◌then◌else◌, List, [], ◌∷◌, ⊤}
+use Rattle.std.specs.Prelude.{◌≡◌, ◌≢◌, ◌⊎◌, ℕ, ◌+◌, ◌<◌, ◌≤◌, Bool, true, false, not, ◌&&◌, ◌||◌, ◌==◌, if◌then◌else◌, List, [], ◌∷◌, length, ⊤}
 use Rattle.std.specs.declared.cmp.Ordering.TheVariants.{Less}
 use Rattle.site_vector.specs.declared.ids.PartId.{PartId}
 use Rattle.site_vector.specs.declared.ids.TxId.{TxId}
@@ -8,8 +8,9 @@ use Rattle.site_vector.specs.Vector.{entry}
 use Rattle.crdt_core.specs.declared.object.ObjectId.{ObjectId}
 use Rattle.crdt_core.specs.Kinds.{reads_state}
 use Rattle.world_model.specs.Log.{end_of_time, touches}
-use Rattle.world_model.specs.Event.{Began, Updated, Read, AskRead, AskUpdate, AskDecide, AskAbort, AskTake, TxPending, IsGone, HasGap, IsRepeat, Event, Prepared, Decided, Finished, Aborted, Sent, Took, Reported, Restarted, Refused, Entry, is_decided, shown}
-use Rattle.world_model.specs.Partition.{IsOther, names_pending, pending_cmp}
+use Rattle.world_model.specs.Event.{Began, Updated, Read, AskRead, AskUpdate, AskDecide, AskAbort, AskTake, TxPending, IsGone, HasGap, IsRepeat, Event, Prepared, Decided, Finished, Aborted, Sent, Took, Reported, Restarted, Refused, Entry, decide_tried, is_decided, shown}
+use Rattle.world_model.specs.Downs.{is_down}
+use Rattle.world_model.specs.Partition.{IsOther, Ascends, names_pending, pending_cmp}
 use Rattle.world_model.specs.Plan.{Plan, takes_part}
 
 -- the time of t in such a list
@@ -75,6 +76,16 @@ module _ {E : Type 0} where
   abbrev pub committed_shown : Plan E → List (Entry E) → PartId → TxId → Bool
   committed_shown plan run p t = takes_part plan t p && (is_decided run t && not (pending_shown run p t))
 
+  -- the lead tells that t is aborted: it is up, and t is neither pending nor committed there
+  pub record TellsAbortedAt (plan : Plan E) (run : List (Entry E)) (t : TxId) : Type 0 where
+    pub up : is_down run (plan.lead t) ≡ false
+    pub unknown : (pending_shown run (plan.lead t) t || committed_shown plan run (plan.lead t) t) ≡ false
+
+  -- a session that didn't ask to decide aborts, or the lead does, or others on its word
+  abbrev pub MayAbortAt : Plan E → List (Entry E) → PartId → TxId → Bool → Type 0
+  MayAbortAt plan run p t true = decide_tried run t ≡ false
+  MayAbortAt plan run p t false = (p ≡ plan.lead t) ⊎ TellsAbortedAt plan run t
+
   -- no wait was due for a read of the object under s
   pub record IsReadyAt (plan : Plan E) (run : List (Entry E)) (p : PartId) (s : List ℕ) (o : ObjectId) : Type 0 where
     pub clock : entry s p.site ≤ shown run p
@@ -88,11 +99,11 @@ module _ {E : Type 0} where
   ShowsAt plan run p (Prepared t s l w n) = (s ≡ plan.snapshot t) × (entry s p.site ≤ shown run p) × (shown run p < end_of_time)
   ShowsAt plan run p (Sent asked m) = IsOwnBoundAt run p m.hi
   ShowsAt plan run p (Took m) = (m.lo ≤ bound_shown run p m.from) × (bound_shown run p m.from < m.hi)
-  ShowsAt plan run p (Reported b) = IsOwnBoundAt run p (entry b p.site) × ((j : ℕ) → IsOther plan.sites p.site j → entry b j ≡ bound_shown run p j)
-  ShowsAt plan run p (Restarted n b named listed) = IsOwnBoundOf n listed (entry b p.site)
+  ShowsAt plan run p (Reported b) = (length b ≡ plan.sites) × IsOwnBoundAt run p (entry b p.site) × ((j : ℕ) → IsOther plan.sites p.site j → entry b j ≡ bound_shown run p j)
+  ShowsAt plan run p (Restarted n b named listed) = (length b ≡ plan.sites) × Ascends pending_cmp listed × IsOwnBoundOf n listed (entry b p.site)
   ShowsAt plan run p (Decided t c) = (pending_shown run p t || committed_shown plan run p t) ≡ true
   ShowsAt plan run p (Finished t c) = (pending_shown run p t || committed_shown plan run p t) ≡ true
-  ShowsAt plan run p (Aborted t own) = pending_shown run p t ≡ true
+  ShowsAt plan run p (Aborted t own) = (pending_shown run p t ≡ true) × MayAbortAt plan run p t own
   ShowsAt plan run p (Refused (AskDecide t c) IsGone) = (pending_shown run p t || committed_shown plan run p t) ≡ false
   ShowsAt plan run p (Refused (AskAbort t) IsGone) = pending_shown run p t ≡ false
   ShowsAt plan run p (Refused (AskRead t s o own) (TxPending u n)) = IsFirstPending plan run p s o u n

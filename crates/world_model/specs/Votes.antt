@@ -18,12 +18,12 @@ module _ {E : Type 0} where
     pub here : voted run t p ≡ true
     pub all : (q : PartId) → takes_part plan t q ≡ true → voted run t q ≡ true
 
-  -- a decide that was cut off was asked as one that was done; what is finished was decided
+  -- a decide that was cut off was asked as one that was done; what is finished was decided, and takes part
   abbrev pub VotesAt : Plan E → List (Entry E) → PartId → Event E → Type 0
   VotesAt plan run p (Prepared t s l w n) = IsVote plan run p t
   VotesAt plan run p (Decided t c) = IsDecision plan run p t
   VotesAt plan run p (Cut (Decided t c)) = IsDecision plan run p t
-  VotesAt plan run p (Finished t c) = is_decided run t ≡ true
+  VotesAt plan run p (Finished t c) = (takes_part plan t p ≡ true) × (is_decided run t ≡ true)
   VotesAt plan run p other = ⊤
 
   abbrev pub KeepVotes : Plan E → List (Entry E) → Type 0
