@@ -15,7 +15,7 @@ use Rattle.world_model.specs.Doubt.{doubt_after, in_doubt, SettlesAt, SettleDoub
 use Rattle.world_model.proofs.Names.{clash, off, part_cases, part_other}
 use Rattle.world_model.proofs.Moves.{last_is_decided}
 use Rattle.world_model.proofs.Fate.{Fate, decided_committed}
-use Rattle.world_model.proofs.Later.{full_now, in_log}
+use Rattle.world_model.proofs.Later.{once_pending}
 use Rattle.world_model.proofs.Kept.{law_plan}
 use Rattle.world_model.proofs.Shows.{less_pending}
 
@@ -44,15 +44,14 @@ module _ {E : Type 0} where
     cut_here u c once st t h =
         let log = (before at).log in
         let same = same_tx_is u t h in
-        let first : decide_tried run t ≡ false = subst (λ x. decide_tried run x ≡ false) same once in
-        let apart : committed log t ≡ false = false_from_ne_true _ (λ k. clash (full_now plan run before f t (in_log plan run before f at 0 st.0 t k)).asked first) in
-        let waits : pending log t ≡ true = ⊎_elim (λ (k : pending log u ≡ true). subst (λ x. pending log x ≡ true) same k) (λ (k : committed log u ≡ true). clash (subst (λ x. committed log x ≡ true) same k) apart) (or_cases _ _ st.1) in
-        let waits_u : pending log u ≡ true = subst (λ x. pending log x ≡ true) (sym same) waits in record {
+        let first = once_pending plan run before f at 0 st.0 u once st.1 in
+        let waits : pending log t ≡ true = subst (λ x. pending log x ≡ true) same first.0 in
+        let apart : committed log t ≡ false = subst (λ x. committed log x ≡ false) same first.1 in record {
           down = ap (λ p. p.up) st.2;
           either = λ m i. ⊎_elim
               (λ (k : m ≡ log). subst (λ x. IsEither x t) (sym k) (either_before log t waits apart))
               (λ (k : m ≡ Decide u c ∷ log). subst (λ x. IsEither x t) (sym k) (either_after log u t c h))
-              (subst (λ b. IsImage log (cond b (Decide u c ∷ []) []) m) waits_u (subst (λ p. Image p m) st.2 i));
+              (subst (λ b. IsImage log (cond b (Decide u c ∷ []) []) m) first.0 (subst (λ p. Image p m) st.2 i));
         }
 
     stays_here : (t : TxId) → in_doubt run at t ≡ true → after at ≡ before at → Doubtful (after at) t

@@ -1,5 +1,5 @@
 -- What a bound leaves out comes later: for reads, messages and what rests on them.
-use Rattle.std.proofs.Common.{◌≡◌, ap, ◌⊎◌, ⊎_elim, inl, inr, ℕ, ◌+◌, ◌<◌, ◌≤◌, max, cond, Bool, true, false, ◌&&◌, List, [], ◌∷◌, Some, refl, sym, ◌∙◌, subst, arith}
+use Rattle.std.proofs.Common.{◌≡◌, ap, ◌⊎◌, ⊎_elim, inl, inr, ℕ, ◌+◌, ◌<◌, ◌≤◌, max, cond, Bool, true, false, ◌&&◌, ◌||◌, List, [], ◌∷◌, Some, refl, sym, ◌∙◌, subst, arith}
 use Rattle.std.proofs.lemmas.Bool.{cases_Bool, or_cases, cond-true, cond-false, false_from_ne_true}
 use Rattle.site_vector.specs.declared.ids.PartId.{PartId}
 use Rattle.site_vector.specs.declared.ids.TxId.{TxId}
@@ -8,7 +8,7 @@ use Rattle.site_vector.specs.Vector.{entry}
 use Rattle.crdt_core.specs.declared.record.Record.{Record}
 use Rattle.crdt_core.specs.declared.record.Record.TheVariants.{Lease, Prepare, Decide, Finish, Abort, Batch}
 use Rattle.world_model.specs.Log.{committed_at, prepared, prepare_time, committed, aborted, pending, last_decided}
-use Rattle.world_model.specs.Event.{Event, Entry, is_prepare, tried, gave_up, is_decided, vote, time_of, time_shown}
+use Rattle.world_model.specs.Event.{Event, Entry, is_prepare, tried, decide_tried, gave_up, is_decided, vote, time_of, time_shown}
 use Rattle.world_model.specs.Partition.{PartState, Image}
 use Rattle.world_model.specs.Plan.{Plan, takes_part, vector_at, commit_vector}
 use Rattle.world_model.proofs.Names.{clash, part_cases, entry_same}
@@ -72,6 +72,12 @@ module _ {E : Type 0} where
   module _ (plan : Plan E) (run : List (Entry E)) (parts : PartId → PartState E) (f : Fate plan run parts) (p : PartId) (b : ℕ) (up : (parts p).up ≡ true) where
     pub in_log : (t : TxId) → committed (parts p).log t ≡ true → is_decided run t ≡ true
     in_log t h = ⊎_elim (λ (k : is_decided run t ≡ true). k) (λ (k : ((parts p).up ≡ false) × (last_decided (parts p).log ≡ Some t)). absurd (clash up k.0)) (f.known p (parts p).log t (image_log (parts p)) h)
+
+    -- what is asked to be decided for the first time isn't committed, and so it is pending where it is known
+    pub once_pending : (t : TxId) → decide_tried run t ≡ false → (pending (parts p).log t || committed (parts p).log t) ≡ true → (pending (parts p).log t ≡ true) × (committed (parts p).log t ≡ false)
+    once_pending t once known =
+        let apart : committed (parts p).log t ≡ false = false_from_ne_true _ (λ k. clash (full_now plan run parts f t (in_log t k)).asked once) in
+        (⊎_elim (λ (k : pending (parts p).log t ≡ true). k) (λ (k : committed (parts p).log t ≡ true). clash k apart) (or_cases _ _ known), apart)
 
     pub later_now : (t : TxId) → (pending (parts p).log t ≡ true → b < prepare_time (parts p).log t) → prepared (parts p).log t ≡ true → IsLater run t b (parts p).log
     later_now t w h = let l = (parts p).log in ⊎_elim

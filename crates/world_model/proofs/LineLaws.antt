@@ -3,7 +3,7 @@ use Rattle.std.proofs.Common.{◌≡◌, ◌≢◌, ◌⊎◌, ⊎_elim, inl, in
 use Rattle.std.specs.Prelude.{⊤, ◌==◌, filter}
 use Rattle.std.specs.List.{flat_map}
 use Rattle.std.specs.declared.cmp.Ordering.TheVariants.{Less}
-use Rattle.std.proofs.lemmas.Bool.{cases_Bool, cond-true, cond-false, or_left, or_right, or_cases, or_parts, or_from, and_from, and_parts, ltb-true, lt-ltb, eq-eqb, false_from_ne_true}
+use Rattle.std.proofs.lemmas.Bool.{cases_Bool, cond-true, cond-false, or_left, or_right, or_cases, or_parts, or_from, and_from, and_parts, ltb-true, lt-ltb, le-leb, eq-eqb, false_from_ne_true}
 use Rattle.site_vector.specs.declared.ids.PartId.{PartId}
 use Rattle.site_vector.specs.declared.ids.TxId.{TxId}
 use Rattle.std.specs.Str.{bytes_eq}
@@ -350,7 +350,11 @@ module _ {E : Type 0} where
         both_ways (fates.brings ls p m.from have m.hi) (brings m have) forth back
 
     brought_done_eq : (some : List (Entry E)) (p : PartId) (j old : ℕ) (what : Event E) → is_call what ≡ true → IsTakeable plan some p what → EventsAre (IsRight kinds plan run) some → fates.brought_done ls (lines_of some) p j old (call_cut what) ≡ brought_after some p j old what
-    brought_done_eq some p j old (Took m) k h rs = λ i. cond (m.from == j && (ap (λ b. fates.brings ls p m.from b m.hi) (bound_is some p m.from) ∙ brings_eq some p m (bound_shown some p m.from) h.0 h.1 rs) i) (max m.hi old) old
+    brought_done_eq some p j old (Took m) k h rs =
+        let have = bound_shown some p m.from in
+        let here : (leb m.lo (bounds.bound (lines_of some) p m.from) && fates.brings ls p m.from (bounds.bound (lines_of some) p m.from) m.hi) ≡ brings m have =
+        ap (λ b. leb m.lo b && fates.brings ls p m.from b m.hi) (bound_is some p m.from) ∙ ap (λ b. b && fates.brings ls p m.from have m.hi) (le-leb m.lo have h.1) ∙ brings_eq some p m have h.0 h.1 rs in
+        ap (λ b. cond (m.from == j && b) (max m.hi old) old) here
     brought_done_eq some p j old Crashed k h rs = off k
     brought_done_eq some p j old RestartCut k h rs = off k
     brought_done_eq some p j old (Restarted n b named listed) k h rs = off k
@@ -378,8 +382,8 @@ module _ {E : Type 0} where
         (λ (k : same_part e.at p ≡ false). cond-false _ _ _ k ∙ rest ∙ sym (cond-false _ _ _ k))
         (cases_Bool (same_part e.at p))
 
-    last_done_eq : (some : List (Entry E)) (p : PartId) (what : Event E) → is_call what ≡ true → fates.decided_done (lines_of some) p (fates.last_decided (lines_of some) p) (call_cut what) ≡ decided_after some p (last_shown some p) what
-    last_done_eq some p (Decided t c) k = λ i. cond (pending_is some p t i) (Some t) (last_is some p i)
+    last_done_eq : (some : List (Entry E)) (p : PartId) (what : Event E) → is_call what ≡ true → fates.decided_done (fates.last_decided (lines_of some) p) (call_cut what) ≡ decided_after (last_shown some p) what
+    last_done_eq some p (Decided t c) k = refl
     last_done_eq some p Crashed k = off k
     last_done_eq some p RestartCut k = off k
     last_done_eq some p (Restarted n b named listed) k = off k
@@ -497,7 +501,7 @@ module _ {E : Type 0} where
       subst (λ x. x < end_of_time) (sym (now_is some p)) w.2,
     )
     cause_line some p (Began who dep t s) h f c w d r = subst (λ x. x < end_of_time) (sym (now_is some p)) w
-    cause_line some p (Decided t v) h f c w d r = known_line some p t w
+    cause_line some p (Decided t v) h f c w d r = pending_is some p t ∙ w
     cause_line some p (Finished t v) h f c w d r = known_line some p t w
     cause_line some p event h f c w d r = tt
 

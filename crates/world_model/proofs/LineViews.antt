@@ -186,17 +186,16 @@ module _ {E : Type 0} where
   down_is [] p = refl
   down_is (e ∷ run) p = λ i. cond (same_part e.at p) ((ap (λ o. fate.down_after o (step_shown run e.at e.event)) (down_is run p) ∙ down_here run e.at (downs.is_down run p) e.event) i) (down_is run p i)
 
-  last_here : (run : List (Entry E)) (p q : PartId) (old : Option TxId) (event : Event E) → fates.decided_after (lines_of run) p old (step_shown run q event) ≡ resumed.decided_after run p old event
-  last_here run p q old (Refused asked IsDown) = refl
-  last_here run p q old (Refused asked why) = refl
-  last_here run p q old (Cut (Decided u c)) = refl
-  last_here run p q old (Cut a) = refl
-  last_here run p q old (Decided u c) = λ i. cond (pending_is run p u i) (Some u) old
-  last_here run p q old event = refl
+  last_here : (run : List (Entry E)) (p : PartId) (old : Option TxId) (event : Event E) → fates.decided_after old (step_shown run p event) ≡ resumed.decided_after old event
+  last_here run p old (Refused asked IsDown) = refl
+  last_here run p old (Refused asked why) = refl
+  last_here run p old (Cut (Decided u c)) = refl
+  last_here run p old (Cut a) = refl
+  last_here run p old event = refl
 
   pub last_is : (run : List (Entry E)) (p : PartId) → fates.last_decided (lines_of run) p ≡ resumed.last_shown run p
   last_is [] p = refl
-  last_is (e ∷ run) p = λ i. cond (same_part e.at p) ((ap (λ o. fates.decided_after (lines_of run) p o (step_shown run e.at e.event)) (last_is run p) ∙ last_here run p e.at (resumed.last_shown run p) e.event) i) (last_is run p i)
+  last_is (e ∷ run) p = λ i. cond (same_part e.at p) ((ap (λ o. fates.decided_after o (step_shown run e.at e.event)) (last_is run p) ∙ last_here run e.at (resumed.last_shown run p) e.event) i) (last_is run p i)
 
   bound_here : (run : List (Entry E)) (p : PartId) (j old : ℕ) (event : Event E) → bounds.bound_after j old (call_of event) (step_shown run p event) ≡ told.bound_after j old event
   bound_here run p j old (Refused asked IsDown) = refl

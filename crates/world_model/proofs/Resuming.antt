@@ -23,6 +23,7 @@ use Rattle.world_model.proofs.Moves.{image_log, grown_last}
 use Rattle.world_model.proofs.Fate.{Fate}
 use Rattle.world_model.proofs.Leases.{Leases}
 use Rattle.world_model.proofs.Kept.{law_plan}
+use Rattle.world_model.proofs.Later.{once_pending}
 use Rattle.world_model.proofs.Shows.{Shown, shown_run, Here, here, listed_is}
 
 module _ {E : Type 0} where
@@ -145,26 +146,26 @@ module _ {E : Type 0} where
   if_same log true t v = refl
   if_same log false t v = refl
 
-  module _ {S : Type 0} (kinds : Kinds S E) (plan : Plan E) (run : List (Entry E)) (before : PartId → PartState E) (at : PartId) (w : Shown plan run before) where
-    done_last : (a : Event E) → MayDo kinds plan.sites plan.parts at (before at) a → (before at).up ≡ true → last_decided (before at).log ≡ last_shown run at → last_decided (grown (before at).log (records (before at) a)) ≡ decided_after run at (last_shown run at) a
-    done_last (Ticked r n) k up h = leased_last (before at).log n ∙ h
-    done_last (Began who dep t s) k up h = leased_last (before at).log t.time ∙ h
-    done_last (Prepared t s l c n) k up h = ap last_decided (grown_last (before at).log (lease_for (before at).log n) (Prepare t l n s c)) ∙ leased_last (before at).log n ∙ h
-    done_last (Decided t c) k up h = if_last (before at).log (pending (before at).log t) t c ∙ (λ i. cond (w.waiting at t up i) (Some t) (h i))
-    done_last (Finished t c) k up h = if_same (before at).log (pending (before at).log t) t c ∙ h
-    done_last (Aborted t own) k up h = h
-    done_last (Took x) k up h = batch_last (before at).log x (entry (before at).bounds x.from) (above x.from (entry (before at).bounds x.from) x.parts) ∙ h
-    done_last (Updated t s o own op read u stamp) k up h = h
-    done_last (Read t s o own read value) k up h = h
-    done_last (Sent asked x) k up h = h
-    done_last (Reported b) k up h = h
-    done_last (Heard q b stable) k up h = h
-    done_last Crashed k up h = absurd k
-    done_last RestartCut k up h = absurd k
-    done_last (Restarted n b named listed) k up h = absurd k
-    done_last (Refused asked why) k up h = absurd k
-    done_last (Opened who) k up h = absurd k
-    done_last (Cut a) k up h = absurd k
+  module _ {S : Type 0} (kinds : Kinds S E) (plan : Plan E) (run : List (Entry E)) (before : PartId → PartState E) (at : PartId) (f : Fate plan run before) where
+    done_last : (a : Event E) → IsAllowed plan run before at a → MayDo kinds plan.sites plan.parts at (before at) a → (before at).up ≡ true → last_decided (before at).log ≡ last_shown run at → last_decided (grown (before at).log (records (before at) a)) ≡ decided_after (last_shown run at) a
+    done_last (Ticked r n) al k up h = leased_last (before at).log n ∙ h
+    done_last (Began who dep t s) al k up h = leased_last (before at).log t.time ∙ h
+    done_last (Prepared t s l c n) al k up h = ap last_decided (grown_last (before at).log (lease_for (before at).log n) (Prepare t l n s c)) ∙ leased_last (before at).log n ∙ h
+    done_last (Decided t c) al k up h = if_last (before at).log (pending (before at).log t) t c ∙ cond-true _ (Some t) (last_decided (before at).log) (once_pending plan run before f at 0 up t al.once k).0
+    done_last (Finished t c) al k up h = if_same (before at).log (pending (before at).log t) t c ∙ h
+    done_last (Aborted t own) al k up h = h
+    done_last (Took x) al k up h = batch_last (before at).log x (entry (before at).bounds x.from) (above x.from (entry (before at).bounds x.from) x.parts) ∙ h
+    done_last (Updated t s o own op read u stamp) al k up h = h
+    done_last (Read t s o own read value) al k up h = h
+    done_last (Sent asked x) al k up h = h
+    done_last (Reported b) al k up h = h
+    done_last (Heard q b stable) al k up h = h
+    done_last Crashed al k up h = absurd k
+    done_last RestartCut al k up h = absurd k
+    done_last (Restarted n b named listed) al k up h = absurd k
+    done_last (Refused asked why) al k up h = absurd k
+    done_last (Opened who) al k up h = absurd k
+    done_last (Cut a) al k up h = absurd k
 
   -- what a log tells: so is pending, with such times, and such bounds
   record Tells (plan : Plan E) (p : PartId) (pend : TxId → Bool) (drawn : TxId → ℕ) (ends : ℕ → ℕ) (named : Option TxId) (m : List (Record E)) : Type 0 where
@@ -177,7 +178,7 @@ module _ {E : Type 0} where
   TellsBefore plan run p m = Tells plan p (pending_shown run p) (pending_time run p) (brought run p) (last_shown run p) m
 
   abbrev TellsDone : Plan E → List (Entry E) → PartId → Event E → List (Record E) → Type 0
-  TellsDone plan run p what m = Tells plan p (λ t. pending_after t (pending_shown run p t) what) (λ t. time_after t (pending_time run p t) what) (λ j. brought_after run p j (brought run p j) what) (decided_after run p (last_shown run p) what) m
+  TellsDone plan run p what m = Tells plan p (λ t. pending_after t (pending_shown run p t) what) (λ t. time_after t (pending_time run p t) what) (λ j. brought_after run p j (brought run p j) what) (decided_after (last_shown run p) what) m
 
   abbrev TellsTwo : Plan E → List (Entry E) → PartId → List (Record E) → Type 0
   TellsTwo plan run p m = TellsBefore plan run p m ⊎ ((what : Event E) × (cut_call run p ≡ Some what) × (is_call what ≡ true) × IsTakeable plan run p what × TellsDone plan run p what m)
@@ -200,10 +201,8 @@ module _ {E : Type 0} where
   brought_same run next p v j (Restarted n b named listed) = refl
   brought_same run next p v j what = v.ends j
 
-  decided_same : (run next : List (Entry E)) (p : PartId) → SameView run next p → (what : Event E) → decided_after next p (last_shown next p) what ≡ decided_after run p (last_shown run p) what
-  decided_same run next p v (Decided t c) = λ i. cond (v.pend t i) (Some t) (v.last i)
-  decided_same run next p v (Restarted n b named listed) = refl
-  decided_same run next p v what = v.last
+  decided_same : (run next : List (Entry E)) (p : PartId) → SameView run next p → (what : Event E) → decided_after (last_shown next p) what ≡ decided_after (last_shown run p) what
+  decided_same run next p v what = ap (λ o. decided_after o what) v.last
 
   before_map : (plan : Plan E) (run next : List (Entry E)) (p : PartId) (m : List (Record E)) → SameView run next p → TellsBefore plan run p m → TellsBefore plan next p m
   before_map plan run next p m v x = record { waits = λ t. x.waits t ∙ sym (v.pend t); since = λ t h. x.since t h ∙ sym (v.time t); upto = λ j o. x.upto j o ∙ sym (v.ends j); decided = x.decided ∙ sym v.last }
@@ -227,7 +226,7 @@ module _ {E : Type 0} where
       x
 
   -- what an event at p shows nothing of
-  same_view : (run : List (Entry E)) (p : PartId) (event : Event E) → ((t : TxId) → pending_after t (pending_shown run p t) event ≡ pending_shown run p t) → ((t : TxId) → time_after t (pending_time run p t) event ≡ pending_time run p t) → ((j : ℕ) → brought_after run p j (brought run p j) event ≡ brought run p j) → ((j : ℕ) → bound_after j (bound_shown run p j) event ≡ bound_shown run p j) → decided_after run p (last_shown run p) event ≡ last_shown run p → SameView run ((record { at = p; event = event }) ∷ run) p
+  same_view : (run : List (Entry E)) (p : PartId) (event : Event E) → ((t : TxId) → pending_after t (pending_shown run p t) event ≡ pending_shown run p t) → ((t : TxId) → time_after t (pending_time run p t) event ≡ pending_time run p t) → ((j : ℕ) → brought_after run p j (brought run p j) event ≡ brought run p j) → ((j : ℕ) → bound_after j (bound_shown run p j) event ≡ bound_shown run p j) → decided_after (last_shown run p) event ≡ last_shown run p → SameView run ((record { at = p; event = event }) ∷ run) p
   same_view run p event a b c d l =
       let yes = same_part_refl p in record {
         pend = λ t. cond-true _ _ _ yes ∙ a t;
@@ -263,7 +262,7 @@ module _ {E : Type 0} where
           waits = λ t. ap (λ y. pending y t) e ∙ x.waiting t refl;
           since = λ t p. ap (λ y. prepare_time y t) e ∙ x.time t refl (ap (λ y. pending y t) (sym e) ∙ p);
           upto = λ j o. ap (λ y. bound y j) e ∙ done_bound kinds plan run before at w what al k up j (h.up at up j o);
-          decided = ap last_decided e ∙ done_last kinds plan run before at w what k up (h.decided at up);
+          decided = ap last_decided e ∙ done_last kinds plan run before at f what al k up (h.decided at up);
         }
 
     -- what is done may be called done
@@ -338,28 +337,28 @@ module _ {E : Type 0} where
     down_here (Opened who) al st d m i = stays_here (Opened who) (same_view run at (Opened who) (λ t. refl) (λ t. refl) (λ j. refl) (λ j. refl) refl) (cond-true _ _ _ (same_part_refl at)) st d m i
     down_here event al st d m i = clash (ap (λ p. p.up) st.2) d
 
-    last_done : (event : Event E) → (before at).up ≡ true → MayDo kinds plan.sites plan.parts at (before at) event → after at ≡ done (before at) event → last_decided (after at).log ≡ decided_after run at (last_shown run at) event
-    last_done event up k e = ap (λ p. last_decided p.log) e ∙ done_last kinds plan run before at w event k up (h.decided at up)
+    last_done : (event : Event E) → IsAllowed plan run before at event → (before at).up ≡ true → MayDo kinds plan.sites plan.parts at (before at) event → after at ≡ done (before at) event → last_decided (after at).log ≡ decided_after (last_shown run at) event
+    last_done event al up k e = ap (λ p. last_decided p.log) e ∙ done_last kinds plan run before at f event al k up (h.decided at up)
 
-    last_here : (event : Event E) → PartStep kinds plan.sites plan.parts at (before at) event (after at) → (after at).up ≡ true → last_decided (after at).log ≡ decided_after run at (last_shown run at) event
-    last_here (Cut what) st u = clash u (ap (λ p. p.up) st.2)
-    last_here Crashed st u = clash u (ap (λ p. p.up) st)
-    last_here RestartCut st u = clash u (ap (λ p. p.up) st)
-    last_here (Restarted n b named listed) st u = sym st.last
-    last_here (Refused asked why) st u = ap (λ p. last_decided p.log) st.1 ∙ h.decided at (sym (ap (λ p. p.up) st.1) ∙ u)
-    last_here (Opened who) st u = ap (λ p. last_decided p.log) st ∙ h.decided at (sym (ap (λ p. p.up) st) ∙ u)
-    last_here (Ticked r n) st u = last_done (Ticked r n) st.0 st.1 st.2
-    last_here (Began who dep t s) st u = last_done (Began who dep t s) st.0 st.1 st.2
-    last_here (Updated t s y own op read x stamp) st u = last_done (Updated t s y own op read x stamp) st.0 st.1 st.2
-    last_here (Read t s y own read value) st u = last_done (Read t s y own read value) st.0 st.1 st.2
-    last_here (Prepared t s y c n) st u = last_done (Prepared t s y c n) st.0 st.1 st.2
-    last_here (Decided t c) st u = last_done (Decided t c) st.0 st.1 st.2
-    last_here (Finished t c) st u = last_done (Finished t c) st.0 st.1 st.2
-    last_here (Aborted t own) st u = last_done (Aborted t own) st.0 st.1 st.2
-    last_here (Sent asked x) st u = last_done (Sent asked x) st.0 st.1 st.2
-    last_here (Took x) st u = last_done (Took x) st.0 st.1 st.2
-    last_here (Reported b) st u = last_done (Reported b) st.0 st.1 st.2
-    last_here (Heard q b stable) st u = last_done (Heard q b stable) st.0 st.1 st.2
+    last_here : (event : Event E) → IsAllowed plan run before at (attempt event) → PartStep kinds plan.sites plan.parts at (before at) event (after at) → (after at).up ≡ true → last_decided (after at).log ≡ decided_after (last_shown run at) event
+    last_here (Cut what) al st u = clash u (ap (λ p. p.up) st.2)
+    last_here Crashed al st u = clash u (ap (λ p. p.up) st)
+    last_here RestartCut al st u = clash u (ap (λ p. p.up) st)
+    last_here (Restarted n b named listed) al st u = sym st.last
+    last_here (Refused asked why) al st u = ap (λ p. last_decided p.log) st.1 ∙ h.decided at (sym (ap (λ p. p.up) st.1) ∙ u)
+    last_here (Opened who) al st u = ap (λ p. last_decided p.log) st ∙ h.decided at (sym (ap (λ p. p.up) st) ∙ u)
+    last_here (Ticked r n) al st u = last_done (Ticked r n) al st.0 st.1 st.2
+    last_here (Began who dep t s) al st u = last_done (Began who dep t s) al st.0 st.1 st.2
+    last_here (Updated t s y own op read x stamp) al st u = last_done (Updated t s y own op read x stamp) al st.0 st.1 st.2
+    last_here (Read t s y own read value) al st u = last_done (Read t s y own read value) al st.0 st.1 st.2
+    last_here (Prepared t s y c n) al st u = last_done (Prepared t s y c n) al st.0 st.1 st.2
+    last_here (Decided t c) al st u = last_done (Decided t c) al st.0 st.1 st.2
+    last_here (Finished t c) al st u = last_done (Finished t c) al st.0 st.1 st.2
+    last_here (Aborted t own) al st u = last_done (Aborted t own) al st.0 st.1 st.2
+    last_here (Sent asked x) al st u = last_done (Sent asked x) al st.0 st.1 st.2
+    last_here (Took x) al st u = last_done (Took x) al st.0 st.1 st.2
+    last_here (Reported b) al st u = last_done (Reported b) al st.0 st.1 st.2
+    last_here (Heard q b stable) al st u = last_done (Heard q b stable) al st.0 st.1 st.2
 
     up_done : (event : Event E) → IsAllowed plan run before at event → (before at).up ≡ true → MayDo kinds plan.sites plan.parts at (before at) event → after at ≡ done (before at) event → (j : ℕ) → IsOther plan.sites at.site j → bound (after at).log j ≡ brought_after run at j (brought run at j) event
     up_done event al up k e j o = ap (λ p. bound p.log j) e ∙ done_bound kinds plan run before at w event al k up j (h.up at up j o)
@@ -388,7 +387,7 @@ module _ {E : Type 0} where
     resumable_step event al st others =
         let old = λ (p : PartId) (ne : at ≡ p → ⊥). others p (λ e. ne (sym e)) in record {
           decided = λ p u. ⊎_elim
-              (λ (e : at ≡ p). subst (λ y. (after y).up ≡ true → last_decided (after y).log ≡ decided_after run y (last_shown run y) event) e (last_here event st) u ∙ sym (cond-true _ _ _ (subst (λ y. same_part at y ≡ true) e (same_part_refl at))))
+              (λ (e : at ≡ p). subst (λ y. (after y).up ≡ true → last_decided (after y).log ≡ decided_after (last_shown run y) event) e (last_here event al st) u ∙ sym (cond-true _ _ _ (subst (λ y. same_part at y ≡ true) e (same_part_refl at))))
               (λ (ne : at ≡ p → ⊥). ap (λ y. last_decided y.log) (old p ne) ∙ h.decided p (ap (λ y. y.up) (sym (old p ne)) ∙ u) ∙ sym (cond-false _ _ _ (part_other at p ne)))
               (part_cases at p);
           up = λ p u j o. ⊎_elim

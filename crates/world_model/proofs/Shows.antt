@@ -26,7 +26,7 @@ use Rattle.world_model.proofs.Names.{clash, off, part_cases, part_other, entry_s
 use Rattle.world_model.proofs.Moves.{Because, Move, moved, image_log, grown_last}
 use Rattle.world_model.proofs.Leases.{Leases}
 use Rattle.world_model.proofs.Fate.{Fate, pending_parts, more_prepared}
-use Rattle.world_model.proofs.Later.{in_log, takes, prepared_now, never_aborted, pending_from}
+use Rattle.world_model.proofs.Later.{in_log, once_pending, takes, prepared_now, never_aborted, pending_from}
 use Rattle.world_model.proofs.Completeness.{zeros_at}
 use Rattle.world_model.proofs.Kept.{law_plan}
 use Rattle.world_model.proofs.Ups.{ups}
@@ -307,15 +307,15 @@ module _ {E : Type 0} where
           st.shown_bounds.width,
           st.order,
           record {
-          most = subst (λ m. entry b at.site ≤ m) (sym st.shown) o.most;
-          below = λ u k. subst (λ m. entry b at.site < m) (since u k) (o.below u (sym (st.members u) ∙ k));
-          reached = ⊎_elim
-              (λ (e : entry b at.site ≡ q.now). inl (e ∙ sym st.shown))
-              (λ (e : (u : TxId) × (pending q.log u ≡ true) × (prepare_time q.log u ≡ entry b at.site + 1)). let k = st.members e.0 ∙ e.1 in inr (e.0, k, sym (since e.0 k) ∙ e.2))
-              o.reached;
+            most = subst (λ m. entry b at.site ≤ m) (sym st.shown) o.most;
+            below = λ u k. subst (λ m. entry b at.site < m) (since u k) (o.below u (sym (st.members u) ∙ k));
+            reached = ⊎_elim
+                (λ (e : entry b at.site ≡ q.now). inl (e ∙ sym st.shown))
+                (λ (e : (u : TxId) × (pending q.log u ≡ true) × (prepare_time q.log u ≡ entry b at.site + 1)). let k = st.members e.0 ∙ e.1 in inr (e.0, k, sym (since e.0 k) ∙ e.2))
+                o.reached;
           },
         )
-    shows_event (Decided t c) q u l al st = sym (known_is plan run before f h at st.0 t) ∙ st.1
+    shows_event (Decided t c) q u l al st = sym (h.waiting at t st.0) ∙ (once_pending plan run before f at 0 st.0 t al.once st.1).0
     shows_event (Finished t c) q u l al st = sym (known_is plan run before f h at st.0 t) ∙ st.1
     shows_event (Aborted t own) q u l al st = (sym (h.waiting at t st.0) ∙ st.1, may_abort u t own al)
     shows_event (Refused (AskDecide t c) IsGone) q u l al st = sym (known_is plan run before f h at st.0.0 t) ∙ st.0.1

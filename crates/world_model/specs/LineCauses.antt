@@ -84,7 +84,7 @@ HasCause sites parts whole before p (ReadOf t o) (step.Value name object value) 
 HasCause sites parts whole before p (UpdateOf t o op) (step.Updated name object stamp) = reads_state o.kind ≡ true → IsReady whole before p t o
 HasCause sites parts whole before p call (step.Prepared q t n) = (entry (snapshot whole t) p.site ≤ now before p) × (now before p < end_of_time)
 HasCause sites parts whole before p call (step.Began name t s) = now before p < end_of_time
-HasCause sites parts whole before p call (step.Decided q t c) = is_known_at whole before p t ≡ true
+HasCause sites parts whole before p call (step.Decided q t c) = pending before p t ≡ true
 HasCause sites parts whole before p call (step.Finished q t) = is_known_at whole before p t ≡ true
 HasCause sites parts whole before p call other = ⊤
 

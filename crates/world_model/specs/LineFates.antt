@@ -52,9 +52,9 @@ time_done other time old t = old
 abbrev pub brings : List Line → PartId → ℕ → ℕ → ℕ → Bool
 brings whole p site have hi = list_any (λ t. takes_part whole t (twin site p) && (ltb have (commit_time whole t) && leb (commit_time whole t) hi)) (history whole)
 
--- the greatest end of a message from site j that brought a part, once this call was done
+-- the greatest end of a message from site j that left no gap and brought a part, once this call was done
 abbrev pub brought_done : List Line → List Line → PartId → ℕ → ℕ → Call → ℕ
-brought_done whole ls p j old (TakeOf site lo hi) = if site == j && brings whole p site (bound ls p site) hi then max hi old else old
+brought_done whole ls p j old (TakeOf site lo hi) = if site == j && (leb lo (bound ls p site) && brings whole p site (bound ls p site) hi) then max hi old else old
 brought_done whole ls p j old other = old
 
 abbrev pub brought_after : List Line → List Line → PartId → ℕ → ℕ → Call → Step → ℕ
@@ -67,19 +67,20 @@ abbrev pub brought : List Line → List Line → PartId → ℕ → ℕ
 brought whole [] p j = 0
 brought whole (l ∷ ls) p j = if same_part l.at p then brought_after whole ls p j (brought whole ls p j) l.call l.step else brought whole ls p j
 
--- the last decide of p that was done, of what was pending, or what a later restart named; once this call was done
-abbrev pub decided_done : List Line → PartId → Option TxId → Call → Option TxId
-decided_done ls p old (DecideOf t) = if pending ls p t then Some t else old
-decided_done ls p old other = old
+-- the last that was decided, once this call was done
+abbrev pub decided_done : Option TxId → Call → Option TxId
+decided_done old (DecideOf t) = Some t
+decided_done old other = old
 
-abbrev pub decided_after : List Line → PartId → Option TxId → Step → Option TxId
-decided_after ls p old (step.Decided q t c) = if pending ls p t then Some t else old
-decided_after ls p old (step.Restarted q n bounds named listed) = named
-decided_after ls p old other = old
+abbrev pub decided_after : Option TxId → Step → Option TxId
+decided_after old (step.Decided q t c) = Some t
+decided_after old (step.Restarted q n bounds named listed) = named
+decided_after old other = old
 
+-- the last decide of p that was done, or what a later restart named
 abbrev pub last_decided : List Line → PartId → Option TxId
 last_decided [] p = None
-last_decided (l ∷ ls) p = if same_part l.at p then decided_after ls p (last_decided ls p) l.step else last_decided ls p
+last_decided (l ∷ ls) p = if same_part l.at p then decided_after (last_decided ls p) l.step else last_decided ls p
 
 -- a restart that a fault ended changed nothing
 abbrev pub fault_after : ℕ → Option (Call × ℕ) → Call → Step → Option (Call × ℕ)
@@ -106,7 +107,7 @@ pub record IsAsDone (sites : ℕ) (whole before : List Line) (p : PartId) (call 
   pub members : (t : TxId) → names_pending listed t ≡ pending_done call (pending before p t) t
   pub times : (t : TxId) → names_pending listed t ≡ true → listed_time listed t ≡ time_done call drawn (prepare_time before p t) t
   pub bounds : (j : ℕ) → IsOther sites p.site j → entry shown j ≡ brought_done whole before p j (brought whole before p j) call
-  pub last : named ≡ decided_done before p (last_decided before p) call
+  pub last : named ≡ decided_done (last_decided before p) call
 
 -- a restart lists what was pending, by prepare time and id, where one call that ended by a fault may have been done; it lists at its
 -- lead nothing that was decided; what was in doubt it lists or names, and not both; and its own bound is by that list

@@ -50,15 +50,15 @@ module _ {E : Type 0} where
   brought [] p j = 0
   brought (e ∷ run) p j = if same_part e.at p then brought_after run p j (brought run p j) e.event else brought run p j
 
-  -- the last decide of p that was done, of what was pending, or what a later restart named
-  abbrev pub decided_after : List (Entry E) → PartId → Option TxId → Event E → Option TxId
-  decided_after run p old (Decided t c) = if pending_shown run p t then Some t else old
-  decided_after run p old (Restarted n b named listed) = named
-  decided_after run p old other = old
+  -- the last decide of p that was done, or what a later restart named
+  abbrev pub decided_after : Option TxId → Event E → Option TxId
+  decided_after old (Decided t c) = Some t
+  decided_after old (Restarted n b named listed) = named
+  decided_after old other = old
 
   abbrev pub last_shown : List (Entry E) → PartId → Option TxId
   last_shown [] p = None
-  last_shown (e ∷ run) p = if same_part e.at p then decided_after run p (last_shown run p) e.event else last_shown run p
+  last_shown (e ∷ run) p = if same_part e.at p then decided_after (last_shown run p) e.event else last_shown run p
 
   -- a take that was cut off was of a message that was sent, and left no gap
   abbrev pub IsTakeable : Plan E → List (Entry E) → PartId → Event E → Type 0
@@ -77,7 +77,7 @@ module _ {E : Type 0} where
     pub members : (t : TxId) → names_pending listed t ≡ pending_after t (pending_shown run p t) what
     pub times : (t : TxId) → names_pending listed t ≡ true → listed_time listed t ≡ time_after t (pending_time run p t) what
     pub bounds : (j : ℕ) → IsOther plan.sites p.site j → entry b j ≡ brought_after run p j (brought run p j) what
-    pub last : named ≡ decided_after run p (last_shown run p) what
+    pub last : named ≡ decided_after (last_shown run p) what
 
   abbrev pub ResumesAt : Plan E → List (Entry E) → PartId → Event E → Type 0
   ResumesAt plan run p (Restarted n b named listed) = IsAsBefore plan run p b named listed ⊎ ((what : Event E) × (cut_call run p ≡ Some what) × (is_call what ≡ true) × IsTakeable plan run p what × IsAsDone plan run p what b named listed)

@@ -101,7 +101,7 @@ module _ {E : Type 0} where
   ShowsAt plan run p (Took m) = (m.lo ≤ bound_shown run p m.from) × (bound_shown run p m.from < m.hi)
   ShowsAt plan run p (Reported b) = (length b ≡ plan.sites) × IsOwnBoundAt run p (entry b p.site) × ((j : ℕ) → IsOther plan.sites p.site j → entry b j ≡ bound_shown run p j)
   ShowsAt plan run p (Restarted n b named listed) = (length b ≡ plan.sites) × Ascends pending_cmp listed × IsOwnBoundOf n listed (entry b p.site)
-  ShowsAt plan run p (Decided t c) = (pending_shown run p t || committed_shown plan run p t) ≡ true
+  ShowsAt plan run p (Decided t c) = pending_shown run p t ≡ true
   ShowsAt plan run p (Finished t c) = (pending_shown run p t || committed_shown plan run p t) ≡ true
   ShowsAt plan run p (Aborted t own) = (pending_shown run p t ≡ true) × MayAbortAt plan run p t own
   ShowsAt plan run p (Refused (AskDecide t c) IsGone) = (pending_shown run p t || committed_shown plan run p t) ≡ false
