@@ -53,6 +53,7 @@ use Rattle.world_model.specs.LineAnswers as answers
 use Rattle.world_model.specs.LineOps as ops
 use Rattle.world_model.specs.LineFate.{is_down}
 use Rattle.world_model.specs.LineFates as fates
+use Rattle.world_model.specs.LineRestarts as restarts
 use Rattle.world_model.specs.LineFresh as fresh
 use Rattle.world_model.specs.LineStreams as streams
 use Rattle.world_model.specs.LineCauses as causes
@@ -276,6 +277,7 @@ module _ {E : Type 0} where
     decision_line some p t v = record {
       at_lead = v.lead ∙ sym (lead_eq t);
       here = was_prepared_is some t p ∙ v.here;
+      once = asked_is some t ∙ v.once;
       votes = λ q h. was_prepared_is some t q ∙ v.all q (sym (takes_eq t q) ∙ h);
     }
 
@@ -324,13 +326,13 @@ module _ {E : Type 0} where
         or_from _ _ (pending_is some p t ∙ n.0) (or_from _ _ (ended_eq some p t ∙ n.1) (unbrought some p t s))
 
     -- a message that is taken brings a part exactly where lines say so
-    brings_eq : (some : List (Entry E)) (p : PartId) (m : Message E) (have : ℕ) → MayTake plan some p m → m.lo ≤ have → EventsAre (IsRight kinds plan run) some → fates.brings ls p m.from have m.hi ≡ brings m have
+    brings_eq : (some : List (Entry E)) (p : PartId) (m : Message E) (have : ℕ) → MayTake plan some p m → m.lo ≤ have → EventsAre (IsRight kinds plan run) some → restarts.brings ls p m.from have m.hi ≡ brings m have
     brings_eq some p m have h low rs =
         let q = twin m.from p in
         let x : IsExact plan run q m = shown_has (IsRight kinds plan run) some q (Sent h.asked m) rs h.shown in
         let test = λ (t : TxId). updates.takes_part ls t q && (ltb have (past.commit_time ls t) && leb (past.commit_time ls t) m.hi) in
         let own : (t : TxId) → takes_part plan t q ≡ true → entry (commit_vector plan run t) m.from ≡ time_of run t = λ t k. ap (λ j. entry (commit_vector plan run t) j) (plan.at_home t q k) ∙ at_own plan t q (time_of run t) k in
-        let forth : fates.brings ls p m.from have m.hi ≡ true → brings m have ≡ true = λ k.
+        let forth : restarts.brings ls p m.from have m.hi ≡ true → brings m have ≡ true = λ k.
         let y = found_in (past.history ls) test k in
         let a = and_parts (updates.takes_part ls y.0 q) _ y.2 in
         let b = and_parts (ltb have (past.commit_time ls y.0)) _ a.1 in
@@ -341,19 +343,19 @@ module _ {E : Type 0} where
         let upto : leb (time_of run y.0) m.hi ≡ true = ap (λ n. leb n m.hi) (sym (commit_time_is run y.0)) ∙ b.1 in
         let there : lists m.parts y.0 ≡ true = x.members y.0 ∙ and_from _ _ d (and_from _ _ takes (and_from _ _ above_low upto)) in
         some_above m.from have m.parts ∙ part_above (commit_vector plan run) (λ u. plan.updates u q) m.from have m.parts x.exact y.0 there (ap (ltb have) (own y.0 takes) ∙ above_have) in
-        let back : brings m have ≡ true → fates.brings ls p m.from have m.hi ≡ true = λ k.
+        let back : brings m have ≡ true → restarts.brings ls p m.from have m.hi ≡ true = λ k.
         let y = above_part (commit_vector plan run) (λ u. plan.updates u q) m.from have m.parts x.exact (sym (some_above m.from have m.parts) ∙ k) in
         let a = and_parts (is_decided run y.0) _ (sym (x.members y.0) ∙ y.1) in
         let b = and_parts (takes_part plan y.0 q) _ a.1 in
         let c = and_parts (ltb m.lo (time_of run y.0)) _ b.1 in
         any_in (past.history ls) test y.0 (history_has ls y.0 ∙ in_history_is run y.0 ∙ a.0) (and_from _ _ (takes_eq y.0 q ∙ b.0) (and_from _ _ (ap (ltb have) (commit_time_is run y.0) ∙ (ap (ltb have) (sym (own y.0 b.0)) ∙ y.2)) (ap (λ n. leb n m.hi) (commit_time_is run y.0) ∙ c.1))) in
-        both_ways (fates.brings ls p m.from have m.hi) (brings m have) forth back
+        both_ways (restarts.brings ls p m.from have m.hi) (brings m have) forth back
 
-    brought_done_eq : (some : List (Entry E)) (p : PartId) (j old : ℕ) (what : Event E) → is_call what ≡ true → IsTakeable plan some p what → EventsAre (IsRight kinds plan run) some → fates.brought_done ls (lines_of some) p j old (call_cut what) ≡ brought_after some p j old what
+    brought_done_eq : (some : List (Entry E)) (p : PartId) (j old : ℕ) (what : Event E) → is_call what ≡ true → IsTakeable plan some p what → EventsAre (IsRight kinds plan run) some → restarts.brought_done ls (lines_of some) p j old (call_cut what) ≡ brought_after some p j old what
     brought_done_eq some p j old (Took m) k h rs =
         let have = bound_shown some p m.from in
-        let here : (leb m.lo (bounds.bound (lines_of some) p m.from) && fates.brings ls p m.from (bounds.bound (lines_of some) p m.from) m.hi) ≡ brings m have =
-        ap (λ b. leb m.lo b && fates.brings ls p m.from b m.hi) (bound_is some p m.from) ∙ ap (λ b. b && fates.brings ls p m.from have m.hi) (le-leb m.lo have h.1) ∙ brings_eq some p m have h.0 h.1 rs in
+        let here : (leb m.lo (bounds.bound (lines_of some) p m.from) && restarts.brings ls p m.from (bounds.bound (lines_of some) p m.from) m.hi) ≡ brings m have =
+        ap (λ b. leb m.lo b && restarts.brings ls p m.from b m.hi) (bound_is some p m.from) ∙ ap (λ b. b && restarts.brings ls p m.from have m.hi) (le-leb m.lo have h.1) ∙ brings_eq some p m have h.0 h.1 rs in
         ap (λ b. cond (m.from == j && b) (max m.hi old) old) here
     brought_done_eq some p j old Crashed k h rs = off k
     brought_done_eq some p j old RestartCut k h rs = off k
@@ -363,7 +365,7 @@ module _ {E : Type 0} where
     brought_done_eq some p j old (Cut a) k h rs = off k
     brought_done_eq some p j old what k h rs = refl
 
-    brought_here : (some : List (Entry E)) (p : PartId) (j old : ℕ) (event : Event E) → HandedAt plan some p event → ShowsAt plan some p event → EventsAre (IsRight kinds plan run) some → fates.brought_after ls (lines_of some) p j old (call_of event) (step_shown some p event) ≡ brought_after some p j old event
+    brought_here : (some : List (Entry E)) (p : PartId) (j old : ℕ) (event : Event E) → HandedAt plan some p event → ShowsAt plan some p event → EventsAre (IsRight kinds plan run) some → restarts.brought_after ls (lines_of some) p j old (call_of event) (step_shown some p event) ≡ brought_after some p j old event
     brought_here some p j old (Took m) h s rs = brought_done_eq some p j old (Took m) refl (h, s.0) rs
     brought_here some p j old (Refused asked IsDown) h s rs = refl
     brought_here some p j old (Refused asked why) h s rs = refl
@@ -371,18 +373,18 @@ module _ {E : Type 0} where
     brought_here some p j old (Cut a) h s rs = refl
     brought_here some p j old event h s rs = refl
 
-    brought_is : (some : List (Entry E)) → AreHanded plan some → ShowAt plan some → EventsAre (IsRight kinds plan run) some → (p : PartId) (j : ℕ) → fates.brought ls (lines_of some) p j ≡ brought some p j
+    brought_is : (some : List (Entry E)) → AreHanded plan some → ShowAt plan some → EventsAre (IsRight kinds plan run) some → (p : PartId) (j : ℕ) → restarts.brought ls (lines_of some) p j ≡ brought some p j
     brought_is [] h s rs p j = refl
     brought_is (e ∷ some) h s rs p j =
         let rest = brought_is some h.1 s.1 rs.1 p j in ⊎_elim
         (λ (k : same_part e.at p ≡ true).
-        cond-true _ _ _ k ∙ ap (λ o. fates.brought_after ls (lines_of some) p j o (call_of e.event) (step_shown some e.at e.event)) rest
-        ∙ subst (λ y. fates.brought_after ls (lines_of some) y j (brought some y j) (call_of e.event) (step_shown some e.at e.event) ≡ brought_after some y j (brought some y j) e.event) (same_part_is e.at p k) (brought_here some e.at j (brought some e.at j) e.event h.0 s.0 rs.1)
+        cond-true _ _ _ k ∙ ap (λ o. restarts.brought_after ls (lines_of some) p j o (call_of e.event) (step_shown some e.at e.event)) rest
+        ∙ subst (λ y. restarts.brought_after ls (lines_of some) y j (brought some y j) (call_of e.event) (step_shown some e.at e.event) ≡ brought_after some y j (brought some y j) e.event) (same_part_is e.at p k) (brought_here some e.at j (brought some e.at j) e.event h.0 s.0 rs.1)
         ∙ sym (cond-true _ _ _ k))
         (λ (k : same_part e.at p ≡ false). cond-false _ _ _ k ∙ rest ∙ sym (cond-false _ _ _ k))
         (cases_Bool (same_part e.at p))
 
-    last_done_eq : (some : List (Entry E)) (p : PartId) (what : Event E) → is_call what ≡ true → fates.decided_done (fates.last_decided (lines_of some) p) (call_cut what) ≡ decided_after (last_shown some p) what
+    last_done_eq : (some : List (Entry E)) (p : PartId) (what : Event E) → is_call what ≡ true → restarts.decided_done (restarts.last_decided (lines_of some) p) (call_cut what) ≡ decided_after (last_shown some p) what
     last_done_eq some p (Decided t c) k = refl
     last_done_eq some p Crashed k = off k
     last_done_eq some p RestartCut k = off k
@@ -392,7 +394,7 @@ module _ {E : Type 0} where
     last_done_eq some p (Cut a) k = off k
     last_done_eq some p what k = last_is some p
 
-    resumed_line : (some : List (Entry E)) (p : PartId) (n : ℕ) (b : List ℕ) (named : Option TxId) (listed : List (TxId × ℕ)) → ClocksAre some → ((j : ℕ) → fates.brought ls (lines_of some) p j ≡ brought some p j) → EventsAre (IsRight kinds plan run) some → ResumesAt plan some p (Restarted n b named listed) → fates.IsAsBefore sites ls (lines_of some) p b named listed ⊎ ((call : Call) × (drawn : ℕ) × (fates.faulted (lines_of some) p ≡ Some (call, drawn)) × fates.IsAsDone sites ls (lines_of some) p call drawn b named listed)
+    resumed_line : (some : List (Entry E)) (p : PartId) (n : ℕ) (b : List ℕ) (named : Option TxId) (listed : List (TxId × ℕ)) → ClocksAre some → ((j : ℕ) → restarts.brought ls (lines_of some) p j ≡ brought some p j) → EventsAre (IsRight kinds plan run) some → ResumesAt plan some p (Restarted n b named listed) → restarts.IsAsBefore sites ls (lines_of some) p b named listed ⊎ ((call : Call) × (drawn : ℕ) × (restarts.faulted (lines_of some) p ≡ Some (call, drawn)) × restarts.IsAsDone sites ls (lines_of some) p call drawn b named listed)
     resumed_line some p n b named listed cs br rs h = ⊎_elim
         (λ (x : IsAsBefore plan some p b named listed). inl (record { members = λ t. x.members t ∙ sym (pending_is some p t); times = λ t k. x.times t k ∙ sym (prepare_time_is some p t); bounds = λ j o. x.bounds j o ∙ sym (br j); last = x.last ∙ sym (last_is some p) }))
         (λ (x : (what : Event E) × (cut_call some p ≡ Some what) × (is_call what ≡ true) × IsTakeable plan some p what × IsAsDone plan some p what b named listed).
@@ -402,9 +404,9 @@ module _ {E : Type 0} where
           f.drawn,
           f.is,
           record {
-            members = λ t. x.4.members t ∙ sym (ap (λ o. fates.pending_done (call_cut x.0) o t) (pending_is some p t) ∙ pend_same x.0 (pending_shown some p t) t x.2);
-            times = λ t k. x.4.times t k ∙ sym (ap (λ o. fates.time_done (call_cut x.0) f.drawn o t) (prepare_time_is some p t) ∙ f.time t (pending_time some p t));
-            bounds = λ j o. x.4.bounds j o ∙ sym (ap (λ y. fates.brought_done ls (lines_of some) p j y (call_cut x.0)) (br j) ∙ brought_done_eq some p j (brought some p j) x.0 x.2 x.3 rs);
+            members = λ t. x.4.members t ∙ sym (ap (λ o. restarts.pending_done (call_cut x.0) o t) (pending_is some p t) ∙ pend_same x.0 (pending_shown some p t) t x.2);
+            times = λ t k. x.4.times t k ∙ sym (ap (λ o. restarts.time_done (call_cut x.0) f.drawn o t) (prepare_time_is some p t) ∙ f.time t (pending_time some p t));
+            bounds = λ j o. x.4.bounds j o ∙ sym (ap (λ y. restarts.brought_done ls (lines_of some) p j y (call_cut x.0)) (br j) ∙ brought_done_eq some p j (brought some p j) x.0 x.2 x.3 rs);
             last = x.4.last ∙ sym (last_done_eq some p x.0 x.2);
           },
         ))
@@ -420,7 +422,7 @@ module _ {E : Type 0} where
         })))
         h
 
-    fate_line : (some : List (Entry E)) (p : PartId) (event : Event E) → WasShown run p event → ClocksAre some → ShowsAt plan some p event → ResumesAt plan some p event → KeepsIs plan some p event → SettlesAt some p event → ((j : ℕ) → fates.brought ls (lines_of some) p j ≡ brought some p j) → EventsAre (IsRight kinds plan run) some → fates.ShowsFate sites parts ls (lines_of some) p (call_of event) (step_shown some p event)
+    fate_line : (some : List (Entry E)) (p : PartId) (event : Event E) → WasShown run p event → ClocksAre some → ShowsAt plan some p event → ResumesAt plan some p event → KeepsIs plan some p event → SettlesAt some p event → ((j : ℕ) → restarts.brought ls (lines_of some) p j ≡ brought some p j) → EventsAre (IsRight kinds plan run) some → fates.ShowsFate sites parts ls (lines_of some) p (call_of event) (step_shown some p event)
     fate_line some p (Refused asked IsDown) w cs s r k d br rs = tt
     fate_line some p (Refused asked why) w cs s r k d br rs = tt
     fate_line some p (Cut (Decided t c)) w cs s r k d br rs = tt

@@ -27,7 +27,7 @@ use Rattle.world_model.specs.LineClock as clock
 use Rattle.world_model.specs.LineHistory as past
 use Rattle.world_model.specs.LinePast as session
 use Rattle.world_model.specs.LineFate as fate
-use Rattle.world_model.specs.LineFates as fates
+use Rattle.world_model.specs.LineRestarts as restarts
 use Rattle.world_model.specs.Resumed as resumed
 use Rattle.world_model.specs.LineBounds as bounds
 use Rattle.world_model.specs.LineCommit as commit
@@ -164,14 +164,14 @@ module _ {E : Type 0} where
   doubt_is [] p t = refl
   doubt_is (e ∷ run) p t = λ i. cond (same_part e.at p) ((ap (λ o. fate.doubt_after t o (step_shown run e.at e.event)) (doubt_is run p t) ∙ doubt_here run e.at t (doubt.in_doubt run p t) e.event) i) (doubt_is run p t i)
 
-  asks_here : (run : List (Entry E)) (p : PartId) (t : TxId) (event : Event E) → fates.asks_decide (step_shown run p event) t ≡ is_decide (attempt event) t
+  asks_here : (run : List (Entry E)) (p : PartId) (t : TxId) (event : Event E) → commit.asks_decide (step_shown run p event) t ≡ is_decide (attempt event) t
   asks_here run p t (Refused asked IsDown) = refl
   asks_here run p t (Refused asked why) = refl
   asks_here run p t (Cut (Decided u c)) = refl
   asks_here run p t (Cut a) = refl
   asks_here run p t event = refl
 
-  pub asked_is : (run : List (Entry E)) (t : TxId) → fates.is_decide_asked (lines_of run) t ≡ decide_tried run t
+  pub asked_is : (run : List (Entry E)) (t : TxId) → commit.is_decide_asked (lines_of run) t ≡ decide_tried run t
   asked_is [] t = refl
   asked_is (e ∷ run) t = λ i. (asks_here run e.at t e.event i || asked_is run t i)
 
@@ -186,16 +186,16 @@ module _ {E : Type 0} where
   down_is [] p = refl
   down_is (e ∷ run) p = λ i. cond (same_part e.at p) ((ap (λ o. fate.down_after o (step_shown run e.at e.event)) (down_is run p) ∙ down_here run e.at (downs.is_down run p) e.event) i) (down_is run p i)
 
-  last_here : (run : List (Entry E)) (p : PartId) (old : Option TxId) (event : Event E) → fates.decided_after old (step_shown run p event) ≡ resumed.decided_after old event
+  last_here : (run : List (Entry E)) (p : PartId) (old : Option TxId) (event : Event E) → restarts.decided_after old (step_shown run p event) ≡ resumed.decided_after old event
   last_here run p old (Refused asked IsDown) = refl
   last_here run p old (Refused asked why) = refl
   last_here run p old (Cut (Decided u c)) = refl
   last_here run p old (Cut a) = refl
   last_here run p old event = refl
 
-  pub last_is : (run : List (Entry E)) (p : PartId) → fates.last_decided (lines_of run) p ≡ resumed.last_shown run p
+  pub last_is : (run : List (Entry E)) (p : PartId) → restarts.last_decided (lines_of run) p ≡ resumed.last_shown run p
   last_is [] p = refl
-  last_is (e ∷ run) p = λ i. cond (same_part e.at p) ((ap (λ o. fates.decided_after o (step_shown run e.at e.event)) (last_is run p) ∙ last_here run e.at (resumed.last_shown run p) e.event) i) (last_is run p i)
+  last_is (e ∷ run) p = λ i. cond (same_part e.at p) ((ap (λ o. restarts.decided_after o (step_shown run e.at e.event)) (last_is run p) ∙ last_here run e.at (resumed.last_shown run p) e.event) i) (last_is run p i)
 
   bound_here : (run : List (Entry E)) (p : PartId) (j old : ℕ) (event : Event E) → bounds.bound_after j old (call_of event) (step_shown run p event) ≡ told.bound_after j old event
   bound_here run p j old (Refused asked IsDown) = refl

@@ -21,8 +21,8 @@ use Rattle.world_model.proofs.Kept.{Kept, law_plan}
 module _ {E : Type 0} where
   vote_event : {S : Type 0} (kinds : Kinds S E) (plan : Plan E) (run : List (Entry E)) (before : PartId → PartState E) (at : PartId) (q : PartState E) (event : Event E) → Fate plan run before → IsAllowed plan run before at (attempt event) → PartStep kinds plan.sites plan.parts at (before at) event q → VotesAt plan run at event
   vote_event kinds plan run before at q (Prepared t s l w n) f al st = record { takes = al.takes; fresh = false_from_ne_true _ (λ v. clash (voted_tried run t at v) al.fresh); after_lead = al.after_lead }
-  vote_event kinds plan run before at q (Decided t c) f al st = record { lead = al.lead; here = al.here; all = al.all }
-  vote_event kinds plan run before at q (Cut (Decided t c)) f al st = record { lead = al.lead; here = al.here; all = al.all }
+  vote_event kinds plan run before at q (Decided t c) f al st = record { lead = al.lead; here = al.here; once = al.once; all = al.all }
+  vote_event kinds plan run before at q (Cut (Decided t c)) f al st = record { lead = al.lead; here = al.here; once = al.once; all = al.all }
   vote_event kinds plan run before at q (Cut a) f al st = tt
   vote_event kinds plan run before at q (Finished t c) f al st =
       let log = (before at).log in

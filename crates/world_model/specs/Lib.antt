@@ -39,6 +39,7 @@ pub mod LineFate
 pub mod LineBounds
 pub mod LineUpdates
 pub mod LineCommit
+pub mod LineRestarts
 pub mod LineFates
 pub mod LineFresh
 pub mod LineStreams

@@ -18,16 +18,27 @@ abbrev pub was_prepared : List Line → TxId → PartId → Bool
 was_prepared [] t p = false
 was_prepared (l ∷ ls) t p = (same_part l.at p && prepares l.step t) || was_prepared ls t p
 
+abbrev pub asks_decide : Step → TxId → Bool
+asks_decide (step.Decided q u c) t = same_tx u t
+asks_decide (step.Unsure u) t = same_tx u t
+asks_decide other t = false
+
+-- its session asked to decide t: that was done, or left it in doubt
+abbrev pub is_decide_asked : List Line → TxId → Bool
+is_decide_asked [] t = false
+is_decide_asked (l ∷ ls) t = asks_decide l.step t || is_decide_asked ls t
+
 -- a participant votes, once, the lead first
 pub record IsVote (parts : ℕ) (whole before : List Line) (p : PartId) (t : TxId) : Type 0 where
   pub member : takes_part whole t p ≡ true
   pub once : was_prepared before t p ≡ false
   pub lead_first : p ≢ lead parts whole t → was_prepared before t (lead parts whole t) ≡ true
 
--- the lead decides, after a vote of every participant
+-- the lead decides, after a vote of every participant, and is asked once
 pub record IsDecision (parts : ℕ) (whole before : List Line) (p : PartId) (t : TxId) : Type 0 where
   pub at_lead : p ≡ lead parts whole t
   pub here : was_prepared before t p ≡ true
+  pub once : is_decide_asked before t ≡ false
   pub votes : (q : PartId) → takes_part whole t q ≡ true → was_prepared before t q ≡ true
 
 -- an update comes before any vote

@@ -2,7 +2,7 @@
 use Rattle.std.specs.Prelude.{◌≡◌, ◌≢◌, ℕ, true, false, List, [], ◌∷◌, ⊤}
 use Rattle.site_vector.specs.declared.ids.PartId.{PartId}
 use Rattle.site_vector.specs.declared.ids.TxId.{TxId}
-use Rattle.world_model.specs.Event.{Event, Prepared, Decided, Finished, Cut, Entry, tried, voted, is_decided}
+use Rattle.world_model.specs.Event.{Event, Prepared, Decided, Finished, Cut, Entry, tried, voted, decide_tried, is_decided}
 use Rattle.world_model.specs.Plan.{Plan, takes_part, commit_vector}
 
 module _ {E : Type 0} where
@@ -12,10 +12,11 @@ module _ {E : Type 0} where
     pub fresh : voted run t p ≡ false
     pub after_lead : p ≢ plan.lead t → voted run t (plan.lead t) ≡ true
 
-  -- the lead decides once all participants have voted
+  -- the lead decides when all participants have voted, and is asked once
   pub record IsDecision (plan : Plan E) (run : List (Entry E)) (p : PartId) (t : TxId) : Type 0 where
     pub lead : p ≡ plan.lead t
     pub here : voted run t p ≡ true
+    pub once : decide_tried run t ≡ false
     pub all : (q : PartId) → takes_part plan t q ≡ true → voted run t q ≡ true
 
   -- a decide that was cut off was asked as one that was done; what is finished was decided, and takes part
