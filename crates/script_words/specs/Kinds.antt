@@ -1,5 +1,6 @@
 -- The names of the kinds.
-use Rattle.std.specs.Prelude.{ℕ, List, Option, Some, None, if◌then◌else◌, codes}
+use Rattle.std.specs.Prelude.{ℕ, List, [], ◌∷◌, Option, codes}
+use Rattle.std.specs.List.{find}
 use Rattle.std.specs.Str.{bytes_eq}
 use Rattle.crdt_core.specs.declared.kind.Kind.{Kind}
 use Rattle.crdt_core.specs.declared.kind.Kind.TheVariants as kind
@@ -17,18 +18,9 @@ kind_name kind.RegisterMv = codes "register_mv"
 kind_name kind.MapGo = codes "map_go"
 kind_name kind.MapRr = codes "map_rr"
 
+abbrev pub all_kinds : List Kind
+all_kinds = kind.CounterPn ∷ kind.CounterFat ∷ kind.SetGo ∷ kind.SetAw ∷ kind.SetRw ∷ kind.FlagEw ∷ kind.FlagDw ∷ kind.RegisterLww ∷ kind.RegisterMv ∷ kind.MapGo ∷ kind.MapRr ∷ []
+
 -- the kind of this name
 abbrev pub kind_named : List ℕ → Option Kind
-kind_named name =
-    if bytes_eq name (codes "counter_pn") then Some kind.CounterPn else (
-    if bytes_eq name (codes "counter_fat") then Some kind.CounterFat else (
-    if bytes_eq name (codes "set_go") then Some kind.SetGo else (
-    if bytes_eq name (codes "set_aw") then Some kind.SetAw else (
-    if bytes_eq name (codes "set_rw") then Some kind.SetRw else (
-    if bytes_eq name (codes "flag_ew") then Some kind.FlagEw else (
-    if bytes_eq name (codes "flag_dw") then Some kind.FlagDw else (
-    if bytes_eq name (codes "register_lww") then Some kind.RegisterLww else (
-    if bytes_eq name (codes "register_mv") then Some kind.RegisterMv else (
-    if bytes_eq name (codes "map_go") then Some kind.MapGo else (
-    if bytes_eq name (codes "map_rr") then Some kind.MapRr else (
-    None)))))))))))
+kind_named name = find (λ k. bytes_eq name (kind_name k)) all_kinds

@@ -1,4 +1,5 @@
-ghost use Rattle.std.specs.Prelude.{◌≡◌};
+ghost use Rattle.std.specs.Prelude.{◌≡◌, ℕ, List, Some};
+ghost use Rattle.crdt_core.specs.declared.kind.Kind.{Kind};
 ghost use Rattle.script_words.specs.Kinds as kinds;
 
 use crate::bare::spells;
@@ -62,3 +63,9 @@ pub fn kind_named(name: &[u8]) -> Option<Kind>
     }
     None
 }
+
+/// The law of the names: each kind is the one of its name, and has no other name.
+pub fn law_kind_names()
+    ensures named { (kind : Kind) → kinds.kind_named (kinds.kind_name kind) ≡ Some kind }
+    ensures only { (name : List ℕ) (kind : Kind) → kinds.kind_named name ≡ Some kind → name ≡ kinds.kind_name kind }
+{}

@@ -5,4 +5,4 @@ mod bare;
 mod kinds;
 
 pub use bare::{is_bare, is_bare_byte, spells};
-pub use kinds::{kind_name, kind_named};
+pub use kinds::{kind_name, kind_named, law_kind_names};

@@ -4,6 +4,12 @@
 //! with one line of what they made. A line outside the grammar counts as none.
 #![tactic(auto)]
 
+ghost use Rattle.std.specs.Prelude.{◌≡◌, Ok, None, length, IfOk, IfSome, OnOk};
+ghost use Rattle.world_model.specs.declared.command.Command.{Command};
+ghost use Rattle.script_text.specs.declared.Parsed.TheVariants as parsed;
+ghost use Rattle.script_text.specs.Line.{Reads};
+ghost use Rattle.text_bench.specs.Printed.{lines, times_over};
+
 use crdt_core::Value;
 use reply_text::line;
 use script_text::{ParseError, Parsed, parse};
@@ -14,7 +20,10 @@ use std::{env, io};
 use world_model::{Command, Step};
 
 /// The command of a line, where it has one.
-fn command_of(alloc: Global, text: &[u8]) -> Result<Option<Command>, AllocError> {
+fn command_of(alloc: Global, text: &[u8]) -> Result<Option<Command>, AllocError>
+    ensures some { IfOk result (λ found. IfSome found (λ c. Reads text.now (parsed.Command c))) }
+    ensures none { result ≡ Ok None → (c : Command) → ¬ (Reads text.now (parsed.Command c)) }
+{
     match parse(alloc, text) {
         Ok(Parsed::Command(command)) => Ok(Some(command)),
         Ok(Parsed::Nothing) => Ok(None),
@@ -118,7 +127,10 @@ fn steps_of(alloc: Global, script: &[u8]) -> Result<Vec<Step>, AllocError> {
 }
 
 /// Prints each step, and counts the bytes.
-fn print_steps(alloc: Global, steps: &[Step], out: &mut Vec<u8>) -> Result<u64, AllocError> {
+fn print_steps(alloc: Global, steps: &[Step], out: &mut Vec<u8>) -> Result<u64, AllocError>
+    ensures bytes { OnOk result (out.new.items ≡ lines steps.now) }
+    ensures count { IfOk result (λ n. n ≡ length (lines steps.now)) }
+{
     out.clear();
     for step in steps {
         line(alloc, step, out)?;
@@ -135,13 +147,14 @@ fn parse_often(alloc: Global, script: &[u8], times: u32) -> Result<u64, AllocErr
     Ok(commands)
 }
 
-/// Prints a step of each command so many times, and says how many bytes there were.
-fn print_often(alloc: Global, script: &[u8], times: u32) -> Result<u64, AllocError> {
-    let steps = steps_of(alloc, script)?;
+/// Prints the steps so many times, and says how many bytes there were.
+fn print_often(alloc: Global, steps: &[Step], times: u32) -> Result<u64, AllocError>
+    ensures { IfOk result (λ n. n ≡ times_over times (length (lines steps.now))) }
+{
     let mut out = Vec::new(alloc);
     let mut bytes: u64 = 0;
-    for _ in 0..times {
-        bytes = bytes.saturating_add(print_steps(alloc, &steps, &mut out)?);
+    for _pass in 0..times {
+        bytes = bytes.saturating_add(print_steps(alloc, steps, &mut out)?);
     }
     Ok(bytes)
 }
@@ -168,7 +181,8 @@ fn main(rt: HostRuntime) -> io::Result<()> {
         }
         [work, times] if work.as_str() == "line" => {
             let times = times.parse::<u32>().unwrap_or(0);
-            let bytes = print_often(alloc, &script, times)?;
+            let steps = steps_of(alloc, &script)?;
+            let bytes = print_often(alloc, &steps, times)?;
             println!(rt; "{bytes} bytes")?;
         }
         _ => eprintln!(rt; "text_bench parse|line TIMES < SCRIPT")?,
