@@ -1,15 +1,13 @@
 -- Every record of a run's logs fits its partition, so no restart finds damage.
-use Rattle.std.proofs.Common.{◌≡◌, ◌≢◌, ◌⊎◌, ⊎_elim, inl, inr, ℕ, zero, suc, ◌+◌, ◌-◌, ◌<◌, ◌≤◌, max, min, leb, ltb, cond, Bool, true, false, not, ◌&&◌, ◌||◌, List, [], ◌∷◌, ◌++◌, length, Option, None, Some, refl, sym, ap, ◌∙◌, subst, subst₂, arith, le_trans, le_refl}
+use Rattle.std.proofs.Common.{◌≡◌, ◌≢◌, ⊎_elim, ℕ, zero, suc, ◌+◌, ◌-◌, ◌<◌, ◌≤◌, max, min, leb, ltb, cond, Bool, true, false, not, ◌&&◌, ◌||◌, List, [], ◌∷◌, ◌++◌, length, None, Some, refl, sym, ap, ◌∙◌, subst, subst₂, arith, le_trans, le_refl}
 use Rattle.std.specs.Prelude.{⊤, ◌==◌, slice_index, slice_set, replicate, filter}
 use Rattle.std.specs.List.{list_all}
-use Rattle.std.specs.Str.{bytes_eq}
 use Rattle.std.proofs.lemmas.Slice.Eq.{bytes_eq-Decides}
-use Rattle.std.proofs.lemmas.List.Folds.{list_all-append}
-use Rattle.std.proofs.lemmas.Bool.{cases_Bool, cases_eq, cases_lt, or_left, or_right, or_cases, or_parts, or_from, and_from, and_parts, and_right, cond-true, cond-false, cond_both, eqb-true, eq-eqb, leb-true, le-leb, ltb-true, lt-ltb, not-true, false_from_ne_true}
+use Rattle.std.proofs.lemmas.Bool.{cases_Bool, cases_eq, or_left, or_right, or_cases, and_from, and_parts, cond-true, cond-false, cond_both, eqb-true, eq-eqb, leb-true, le-leb, ltb-true, lt-ltb, not-true, false_from_ne_true}
 use Rattle.site_vector.specs.declared.ids.PartId.{PartId}
 use Rattle.site_vector.specs.declared.ids.TxId.{TxId}
-use Rattle.site_vector.specs.Ids.{same_part, same_tx}
-use Rattle.site_vector.specs.Order.{same_part_is, same_tx_is, same_tx_refl}
+use Rattle.site_vector.specs.Ids.{same_tx}
+use Rattle.site_vector.specs.Order.{same_tx_is, same_tx_refl}
 use Rattle.site_vector.specs.Vector.{entry, join, replaced}
 use Rattle.site_vector.specs.VectorLaws.{length_replaced}
 use Rattle.crdt_core.specs.declared.record.Upd.{Upd}
@@ -17,22 +15,21 @@ use Rattle.crdt_core.specs.declared.record.Part.{Part}
 use Rattle.crdt_core.specs.declared.record.Message.{Message}
 use Rattle.crdt_core.specs.declared.record.Record.{Record}
 use Rattle.crdt_core.specs.declared.record.Record.TheVariants.{Lease, Prepare, Decide, Finish, Abort, Batch}
-use Rattle.crdt_core.specs.Placing.{place_of}
-use Rattle.world_model.specs.Log.{end_of_time, lists, vector_in, ceiling, prepared, prepare_time, committed, aborted, pending, taken, taken_at, bound, grown, IsImage}
-use Rattle.world_model.specs.Fitting.{is_vector, names_tx, is_named_in, prepared_lead, prepared_snapshot, stand_at, fits_commit, fits_part, are_apart, fits_message, fits_record, unfit_next, unfit}
-use Rattle.world_model.specs.Event.{Event, Ticked, Began, Updated, Read, Prepared, Decided, Finished, Aborted, Sent, Took, Reported, Heard, Crashed, RestartCut, Restarted, Refused, Opened, Cut, Entry, attempt, is_prepare, time_shown, tried, voted, is_decided, time_of, sent}
-use Rattle.world_model.specs.Partition.{Kinds, PartState, Image, IsOther, IsBegin, Precede, Ascends, stream_cmp, AreParts, lease_for, above, batch_of, written, records, done, MayDo, new_part, PartStep}
-use Rattle.world_model.specs.Plan.{Plan, first_of, home, twin, is_some_update, takes_part, change_by, updates_at, commit_vector, IsPlace, IsAllowed, MayPrepare, MayDecide, MayFinish, MayTake, IsRun}
+use Rattle.world_model.specs.Log.{end_of_time, lists, vector_in, ceiling, prepared, prepare_time, pending, taken, taken_at, bound, grown, IsImage}
+use Rattle.world_model.specs.Fitting.{is_vector, is_named_in, prepared_lead, prepared_snapshot, stand_at, fits_commit, fits_part, are_apart, fits_message, fits_record, unfit_next, unfit}
+use Rattle.world_model.specs.Event.{Event, Ticked, Began, Updated, Read, Prepared, Decided, Finished, Aborted, Sent, Took, Reported, Heard, Crashed, RestartCut, Restarted, Refused, Opened, Cut, Entry, attempt, is_prepare, time_shown, voted, is_decided, time_of, sent}
+use Rattle.world_model.specs.Partition.{Kinds, PartState, Image, IsOther, Ascends, stream_cmp, AreParts, lease_for, above, batch_of, records, done, MayDo, PartStep}
+use Rattle.world_model.specs.Plan.{Plan, first_of, twin, takes_part, commit_vector, IsPlace, IsAllowed, MayPrepare, MayDecide, MayFinish, MayTake, IsRun}
 use Rattle.world_model.specs.Commit.{partitions}
 use Rattle.world_model.specs.WorldLaw.{IsExact}
-use Rattle.world_model.proofs.Names.{clash, off, part_cases, part_other, entry_same, entry_cases, join_below}
+use Rattle.world_model.proofs.Names.{clash, off, part_cases, entry_same, entry_cases, join_below}
 use Rattle.world_model.proofs.Parts.{lists_above, above_parts}
 use Rattle.world_model.proofs.Moves.{image_log, grown_image, grown_last}
 use Rattle.world_model.proofs.Leases.{Leases, done_ceil}
-use Rattle.world_model.proofs.Fate.{Fate, pending_parts, voted_tried}
+use Rattle.world_model.proofs.Fate.{pending_parts, voted_tried}
 use Rattle.world_model.proofs.Later.{at_own, full_now, vote_in_time}
-use Rattle.world_model.proofs.Intervals.{Intervals, shown_has}
-use Rattle.world_model.proofs.Completeness.{IsBacked, Bounds, zeros_at, numbered}
+use Rattle.world_model.proofs.Intervals.{shown_has}
+use Rattle.world_model.proofs.Completeness.{IsBacked, zeros_at}
 use Rattle.world_model.proofs.Kept.{Kept, law_plan}
 use Rattle.world_model.proofs.Shows.{Shown, shown_run}
 use Rattle.world_model.proofs.Resuming.{batch_bound, leased_bound, if_bound}

@@ -1,6 +1,5 @@
 -- Steps are made where they must be, and with what was shown.
-use Rattle.std.proofs.Common.{◌≡◌, ◌⊎◌, ⊎_elim, inl, inr, ℕ, ◌≤◌, cond, leb, Bool, true, false, ◌&&◌, ◌||◌, List, [], ◌∷◌, ◌++◌, length, refl, sym, ap, ◌∙◌, subst, le_of_eq}
-use Rattle.std.specs.Prelude.{⊤, ◌==◌}
+use Rattle.std.proofs.Common.{◌≡◌, ⊎_elim, ℕ, ◌≤◌, cond, Bool, true, false, ◌||◌, List, [], ◌∷◌, ◌++◌, length, refl, sym, ap, ◌∙◌, subst}
 use Rattle.std.proofs.lemmas.Slice.Eq.{bytes_eq-Decides}
 use Rattle.std.proofs.lemmas.Bool.{cases_Bool, or_left, or_right, or_cases, and_from, cond-true, cond-false, eq-eqb, le-leb}
 use Rattle.site_vector.specs.declared.ids.PartId.{PartId}
@@ -10,7 +9,7 @@ use Rattle.site_vector.specs.Order.{same_part_is, same_tx_is, same_tx_refl}
 use Rattle.crdt_core.specs.declared.record.Upd.{Upd}
 use Rattle.world_model.specs.Event.{AskBegin, AskRead, AskUpdate, AskDecide, AskTake, Event, Began, Updated, Read, Took, Heard, Refused, Entry, attempt, WasShown, EventsAre}
 use Rattle.world_model.specs.Partition.{Kinds, PartState, PartStep}
-use Rattle.world_model.specs.Plan.{Plan, home, is_some_update, takes_part, change_by, updates_at, IsPlace, IsAllowed, IsPlanned, IsRun}
+use Rattle.world_model.specs.Plan.{Plan, home, is_some_update, change_by, updates_at, IsPlace, IsAllowed, IsPlanned, IsRun}
 use Rattle.world_model.specs.Past.{begins_for, is_of}
 use Rattle.world_model.specs.Handed.{HandedAt, AreHanded, AreNew}
 use Rattle.world_model.specs.World.{is_begin, begin_vector, begun, snapshot_of, is_own, changes_of, plan_of, IsWorldRun}

@@ -1,23 +1,21 @@
 -- The law of the world: what every run keeps.
-use Rattle.std.proofs.Common.{◌≡◌, ⊎_elim, ℕ, zero, suc, ◌+◌, ◌-◌, ◌<◌, ◌≤◌, max, cond, Bool, true, false, ◌&&◌, ◌||◌, List, [], ◌∷◌, ◌++◌, length, refl, sym, ap, ◌∙◌, subst, arith, le_trans}
-use Rattle.std.specs.Prelude.{⊤, ◌==◌, slice_index, replicate}
-use Rattle.std.specs.List.{list_all}
+use Rattle.std.proofs.Common.{◌≡◌, ⊎_elim, ℕ, ◌+◌, ◌-◌, ◌<◌, ◌≤◌, max, cond, Bool, true, false, List, [], ◌∷◌, refl, sym, ap, ◌∙◌, subst, arith, le_trans}
+use Rattle.std.specs.Prelude.{◌==◌, slice_index, replicate}
 use Rattle.std.specs.Str.{bytes_eq}
 use Rattle.std.proofs.lemmas.List.Folds.{list_all-append}
-use Rattle.std.proofs.lemmas.Bool.{cases_Bool, cases_eq, cases_lt, or_cases, and_from, cond-true, cond-false, eq-eqb}
+use Rattle.std.proofs.lemmas.Bool.{cases_eq, cases_lt, or_cases, and_from, eq-eqb}
 use Rattle.site_vector.specs.declared.ids.PartId.{PartId}
 use Rattle.site_vector.specs.declared.ids.TxId.{TxId}
 use Rattle.site_vector.specs.Ids.{same_part, same_tx}
-use Rattle.site_vector.specs.Order.{same_part_is, same_tx_is, same_tx_refl}
+use Rattle.site_vector.specs.Order.{same_part_is, same_tx_is}
 use Rattle.site_vector.specs.Vector.{entry, join}
-use Rattle.crdt_core.specs.declared.record.Upd.{Upd}
 use Rattle.crdt_core.specs.Placing.{place_of}
 use Rattle.world_model.specs.Log.{end_of_time}
 use Rattle.world_model.specs.Fitting.{stand_at}
 use Rattle.world_model.specs.Past.{is_of, dependency_after, dependency}
-use Rattle.world_model.specs.Event.{Event, Began, Updated, Prepared, Decided, Opened, Entry, attempt, is_prepare, time_shown, time_of, sent}
+use Rattle.world_model.specs.Event.{Event, Began, Updated, Prepared, Decided, Opened, Entry, attempt, is_prepare, time_shown, time_of}
 use Rattle.world_model.specs.Partition.{Kinds, PartState, IsOther, IsBegin, PartStep}
-use Rattle.world_model.specs.Plan.{Plan, home, twin, is_some_update, takes_part, change_by, updates_at, commit_vector, IsPlace, IsAllowed}
+use Rattle.world_model.specs.Plan.{Plan, home, twin, is_some_update, takes_part, change_by, updates_at, IsPlace, IsAllowed}
 use Rattle.world_model.specs.Handed.{HandedAt, AreHanded}
 use Rattle.world_model.specs.World.{is_begin, begin_vector, begun, snapshot_of, plan_of, IsWorldRun}
 use Rattle.world_model.specs.LawfulWorld.{IsLawfulWorld}
@@ -25,7 +23,7 @@ use Rattle.world_model.specs.Logs.{LeavesLogs}
 use Rattle.world_model.specs.Lines.{lines_of}
 use Rattle.world_model.specs.LineLaw.{IsLawfulRun}
 use Rattle.world_model.proofs.Names.{off}
-use Rattle.world_model.proofs.Completeness.{IsBacked, numbered}
+use Rattle.world_model.proofs.Completeness.{numbered}
 use Rattle.world_model.proofs.Kept.{Kept, law_plan, right_all, facts_of, strict, closed, never_both, past_end}
 use Rattle.world_model.proofs.CausalStores.{causal_stores}
 use Rattle.world_model.proofs.Shows.{show_events}
@@ -40,8 +38,8 @@ use Rattle.world_model.proofs.Answering.{due_events, known_events}
 use Rattle.world_model.proofs.LogsLeft.{logs_left}
 use Rattle.world_model.proofs.LineLaws.{lawful_lines}
 use Rattle.world_model.proofs.Stories.{stories, meanings, planned_changes}
-use Rattle.world_model.proofs.Fitted.{IsLow, low_zero, low_join, low_set, PlanFits, Good, now_low, good_run, least_first}
-use Rattle.world_model.proofs.Whole.{IsSuffix, suffix_all, AllFresh, all_fresh, world_leases, fits}
+use Rattle.world_model.proofs.Fitted.{IsLow, low_zero, low_join, low_set, PlanFits, now_low, least_first}
+use Rattle.world_model.proofs.Whole.{suffix_all, all_fresh, world_leases, fits}
 
 low_if : (b : Bool) (u v : List ℕ) → IsLow u → IsLow v → IsLow (cond b u v)
 low_if true u v a b = a

@@ -1,5 +1,5 @@
 -- The updates that lines tell are those that events tell.
-use Rattle.std.proofs.Common.{◌≡◌, ⊎_elim, ℕ, zero, suc, ◌+◌, cond, Bool, true, false, ◌&&◌, ◌||◌, List, [], ◌∷◌, ◌++◌, length, refl, sym, ap, ◌∙◌, subst}
+use Rattle.std.proofs.Common.{◌≡◌, ⊎_elim, ℕ, zero, suc, ◌+◌, cond, Bool, true, false, ◌&&◌, ◌||◌, List, [], ◌∷◌, ◌++◌, length, refl, sym, ap, ◌∙◌}
 use Rattle.std.specs.Prelude.{map, filter}
 use Rattle.std.specs.List.{list_any}
 use Rattle.std.proofs.lemmas.Bool.{cases_Bool, cond-true, cond-false}
@@ -20,8 +20,7 @@ use Rattle.world_model.specs.Handed.{HandedAt, AreHanded, IsNew, AreNew}
 use Rattle.world_model.specs.Meaning.{Asked, asked_by, asked_at}
 use Rattle.world_model.specs.Lines.{call_of, step_shown, lines_of}
 use Rattle.world_model.specs.LineClock.{now}
-use Rattle.world_model.specs.LineUpdates.{Change, change_of, changes, takes_part, touches, participants, lead}
-use Rattle.world_model.proofs.Names.{off}
+use Rattle.world_model.specs.LineUpdates.{Change, change_of, changes, takes_part, touches, lead}
 use Rattle.world_model.proofs.Stories.{asked_changes}
 use Rattle.world_model.proofs.LineViews.{now_is}
 

@@ -1,11 +1,11 @@
 -- The call that lines say a fault ended is the one that was cut off.
-use Rattle.std.proofs.Common.{◌≡◌, ⊎_elim, ℕ, ◌+◌, cond, Bool, true, false, not, ◌&&◌, ◌||◌, List, [], ◌∷◌, Option, None, Some, refl, sym, ap, ◌∙◌, subst}
+use Rattle.std.proofs.Common.{◌≡◌, ⊎_elim, ℕ, ◌+◌, cond, Bool, true, false, List, [], ◌∷◌, Option, Some, refl, sym, ap, ◌∙◌, subst}
 use Rattle.std.proofs.lemmas.Bool.{cases_Bool, cond-true, cond-false}
 use Rattle.site_vector.specs.declared.ids.PartId.{PartId}
 use Rattle.site_vector.specs.declared.ids.TxId.{TxId}
 use Rattle.site_vector.specs.Ids.{same_part, same_tx}
 use Rattle.site_vector.specs.Order.{same_part_is}
-use Rattle.world_model.specs.Event.{IsDown, Event, Ticked, Began, Updated, Read, Prepared, Decided, Finished, Aborted, Sent, Took, Reported, Heard, Crashed, RestartCut, Restarted, Refused, Opened, Cut, Entry, shown}
+use Rattle.world_model.specs.Event.{IsDown, Event, Prepared, Decided, Crashed, RestartCut, Restarted, Refused, Opened, Cut, Entry}
 use Rattle.world_model.specs.Shown.{pending_after, time_after}
 use Rattle.world_model.specs.WorldLaw.{ClockIs, ClocksAre}
 use Rattle.world_model.specs.Resumed.{is_call, cut_after, cut_call}

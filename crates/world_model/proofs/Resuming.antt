@@ -1,30 +1,29 @@
 -- What a restart finds tells what was shown before, or what a call that was cut off would have shown.
-use Rattle.std.proofs.Common.{◌≡◌, ◌≢◌, ◌⊎◌, ⊎_elim, inl, inr, ℕ, ◌+◌, ◌-◌, ◌≤◌, max, min, cond, leb, Bool, true, false, ◌&&◌, List, [], ◌∷◌, ◌++◌, Option, None, Some, refl, sym, ap, ◌∙◌, subst}
-use Rattle.std.specs.Prelude.{⊤, ◌==◌}
+use Rattle.std.proofs.Common.{◌≡◌, ◌≢◌, ◌⊎◌, ⊎_elim, inl, inr, ℕ, ◌+◌, ◌≤◌, max, min, cond, leb, Bool, true, false, ◌&&◌, List, [], ◌∷◌, ◌++◌, Option, Some, refl, sym, ap, ◌∙◌, subst}
+use Rattle.std.specs.Prelude.{◌==◌}
 use Rattle.std.proofs.lemmas.Bool.{cases_Bool, cond_both, cond-true, cond-false, and_right}
 use Rattle.site_vector.specs.declared.ids.PartId.{PartId}
 use Rattle.site_vector.specs.declared.ids.TxId.{TxId}
 use Rattle.site_vector.specs.Ids.{same_part}
 use Rattle.site_vector.specs.Order.{same_part_refl}
 use Rattle.site_vector.specs.Vector.{entry}
-use Rattle.crdt_core.specs.declared.record.Upd.{Upd}
 use Rattle.crdt_core.specs.declared.record.Part.{Part}
 use Rattle.crdt_core.specs.declared.record.Message.{Message}
 use Rattle.crdt_core.specs.declared.record.Record.{Record}
 use Rattle.crdt_core.specs.declared.record.Record.TheVariants.{Lease, Prepare, Decide, Finish, Abort, Batch}
 use Rattle.world_model.specs.Log.{end_of_time, ceiling, pending, prepare_time, last_decided, bound, grown, IsImage}
 use Rattle.world_model.specs.Event.{Event, Ticked, Began, Updated, Read, Prepared, Decided, Finished, Aborted, Sent, Took, Reported, Heard, Crashed, RestartCut, Restarted, Refused, Opened, Cut, Entry, attempt, WasShown}
-use Rattle.world_model.specs.Partition.{Kinds, PartState, Image, IsOther, lease_for, above, batch_of, written, records, done, MayDo, names_pending, PartStep}
+use Rattle.world_model.specs.Partition.{Kinds, PartState, Image, IsOther, lease_for, above, batch_of, records, done, MayDo, names_pending, PartStep}
 use Rattle.world_model.specs.Plan.{Plan, twin, IsAllowed, IsRun}
 use Rattle.world_model.specs.Shown.{listed_time, bound_after, bound_shown, pending_after, pending_shown, time_after, pending_time}
-use Rattle.world_model.specs.Resumed.{is_call, IsTakeable, cut_after, cut_call, is_some_part, brings, brought_after, brought, decided_after, last_shown, IsAsBefore, IsAsDone, ResumesAt, Resume}
-use Rattle.world_model.proofs.Names.{clash, off, part_cases, part_other}
-use Rattle.world_model.proofs.Moves.{image_log, grown_last}
+use Rattle.world_model.specs.Resumed.{is_call, IsTakeable, cut_call, is_some_part, brings, brought_after, brought, decided_after, last_shown, ResumesAt, Resume}
+use Rattle.world_model.proofs.Names.{clash, part_cases, part_other}
+use Rattle.world_model.proofs.Moves.{grown_last}
 use Rattle.world_model.proofs.Fate.{Fate}
 use Rattle.world_model.proofs.Leases.{Leases}
 use Rattle.world_model.proofs.Kept.{law_plan}
 use Rattle.world_model.proofs.Later.{once_pending}
-use Rattle.world_model.proofs.Shows.{Shown, shown_run, Here, here, listed_is}
+use Rattle.world_model.proofs.Shows.{Shown, shown_run, here, listed_is}
 
 module _ {E : Type 0} where
   -- two logs tell the same of what is pending and of bounds

@@ -1,6 +1,6 @@
 -- A partition that is up has kept where its last messages ended.
-use Rattle.std.proofs.Common.{◌≡◌, ◌≢◌, ⊎_elim, ℕ, ◌-◌, ◌≤◌, cond, Bool, true, false, List, [], ◌∷◌, length, refl, sym, ap, ◌∙◌, subst, arith, Option, None, Some}
-use Rattle.std.specs.Prelude.{⊤, ◌==◌, replicate}
+use Rattle.std.proofs.Common.{◌≡◌, ◌≢◌, ⊎_elim, ℕ, ◌-◌, ◌≤◌, true, false, List, [], ◌∷◌, length, refl, sym, ap, ◌∙◌, subst, arith, Option, None, Some}
+use Rattle.std.specs.Prelude.{◌==◌}
 use Rattle.std.proofs.lemmas.Bool.{cases_Bool, cond-true, cond-false, eqb-true, eq-eqb}
 use Rattle.std.proofs.lemmas.List.{length-replicate}
 use Rattle.site_vector.specs.declared.ids.PartId.{PartId}
@@ -10,7 +10,7 @@ use Rattle.site_vector.specs.Vector.{entry, replaced}
 use Rattle.site_vector.specs.VectorLaws.{length_replaced}
 use Rattle.crdt_core.specs.declared.record.Message.{Message}
 use Rattle.world_model.specs.Event.{Event, Sent, Crashed, RestartCut, Restarted, Refused, Opened, Cut, Entry}
-use Rattle.world_model.specs.Partition.{Kinds, PartState, IsOther, new_part, PartStep}
+use Rattle.world_model.specs.Partition.{Kinds, PartState, IsOther, PartStep}
 use Rattle.world_model.specs.Plan.{Plan, IsRun}
 use Rattle.world_model.specs.Sends.{low_of, sent_after, last_sent, SendsAt, Send}
 use Rattle.world_model.proofs.Names.{clash, part_cases, part_other, entry_same, entry_cases}

@@ -21,7 +21,7 @@ use Rattle.world_model.specs.Event.{AskRead, AskUpdate, AskDecide, AskAbort, Ask
 use Rattle.world_model.specs.Partition.{Kinds, PartState, Image, IsOther, IsOwnBound, IsReady, IsTxPending, AreTimed, names_pending, pending_cmp, lease_for, above, batch_of, new_part, PartStep}
 use Rattle.world_model.specs.Plan.{Plan, TellsAborted, MayAbort, takes_part, IsAllowed, IsRun}
 use Rattle.world_model.specs.Downs.{is_down}
-use Rattle.world_model.specs.Shown.{listed_time, bound_after, bound_shown, pending_after, pending_shown, time_after, pending_time, committed_shown, MayAbortAt, IsOwnBoundOf, IsOwnBoundAt, IsFirstPending, IsReadyAt, ShowsAt, ShowAt}
+use Rattle.world_model.specs.Shown.{listed_time, bound_after, bound_shown, pending_after, pending_shown, time_after, pending_time, committed_shown, MayAbortAt, IsOwnBoundAt, IsFirstPending, IsReadyAt, ShowsAt, ShowAt}
 use Rattle.world_model.proofs.Names.{clash, off, part_cases, part_other, entry_same, entry_cases}
 use Rattle.world_model.proofs.Moves.{Because, Move, moved, image_log, grown_last}
 use Rattle.world_model.proofs.Leases.{Leases}

@@ -1,14 +1,13 @@
 -- Votes and decisions are as the rules have them, and a commit vector stays.
-use Rattle.std.proofs.Common.{◌≡◌, ⊎_elim, Bool, true, false, List, [], ◌∷◌, refl, sym, ap, ◌∙◌, subst}
-use Rattle.std.specs.Prelude.{⊤}
+use Rattle.std.proofs.Common.{◌≡◌, ⊎_elim, true, List, [], ◌∷◌, ◌∙◌}
 use Rattle.std.proofs.lemmas.Bool.{or_left, or_right, or_cases, false_from_ne_true}
 use Rattle.site_vector.specs.declared.ids.PartId.{PartId}
 use Rattle.site_vector.specs.declared.ids.TxId.{TxId}
 use Rattle.site_vector.specs.Order.{same_tx_refl}
 use Rattle.world_model.specs.Log.{prepared, committed, pending}
-use Rattle.world_model.specs.Event.{Event, Prepared, Decided, Finished, Cut, Entry, attempt, EventsAre, tried, voted, is_decided}
+use Rattle.world_model.specs.Event.{Event, Prepared, Decided, Finished, Cut, Entry, attempt, EventsAre, is_decided}
 use Rattle.world_model.specs.Partition.{Kinds, PartState, PartStep}
-use Rattle.world_model.specs.Plan.{Plan, takes_part, commit_vector, IsAllowed, IsRun}
+use Rattle.world_model.specs.Plan.{Plan, commit_vector, IsAllowed, IsRun}
 use Rattle.world_model.specs.Votes.{VotesAt, KeepVotes, ShowsVector, IsAgreed}
 use Rattle.world_model.proofs.Names.{clash}
 use Rattle.world_model.proofs.Moves.{moved, image_log}

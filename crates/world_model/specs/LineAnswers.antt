@@ -1,7 +1,6 @@
 -- Each line answers its call, at its place.
-use Rattle.std.specs.Prelude.{◌≡◌, ℕ, Bool, true, false, List, ⊤}
+use Rattle.std.specs.Prelude.{◌≡◌, Bool, true, false, List, ⊤}
 use Rattle.site_vector.specs.declared.ids.PartId.{PartId}
-use Rattle.site_vector.specs.declared.ids.TxId.{TxId}
 use Rattle.world_model.specs.declared.step.Step.{Step}
 use Rattle.world_model.specs.declared.step.Step.TheVariants as step
 use Rattle.world_model.specs.Lines.{Call, Tick, Begin, ReadOf, UpdateOf, PrepareOf, DecideOf, FinishOf, AbortOf, SendTo, TakeOf, Report, HearOf, Crash, Restart, Open, Line}

@@ -1,5 +1,5 @@
 -- The causes of refusals, over the lines of a run: each stands exactly where its cause holds.
-use Rattle.std.specs.Prelude.{◌≡◌, ◌≢◌, ◌⊎◌, ℕ, ◌<◌, ◌≤◌, Bool, true, false, List, ⊤}
+use Rattle.std.specs.Prelude.{◌≡◌, ◌≢◌, ℕ, ◌<◌, ◌≤◌, true, false, List, ⊤}
 use Rattle.std.specs.declared.cmp.Ordering.TheVariants.{Less}
 use Rattle.site_vector.specs.declared.ids.PartId.{PartId}
 use Rattle.site_vector.specs.declared.ids.TxId.{TxId}
@@ -10,7 +10,7 @@ use Rattle.world_model.specs.declared.step.Step.{Step}
 use Rattle.world_model.specs.declared.step.Step.TheVariants as step
 use Rattle.world_model.specs.Log.{end_of_time}
 use Rattle.world_model.specs.Partition.{IsOther, pending_cmp}
-use Rattle.world_model.specs.Lines.{Call, Begin, ReadOf, UpdateOf, PrepareOf, DecideOf, FinishOf, AbortOf, Restart, Line}
+use Rattle.world_model.specs.Lines.{Call, Begin, ReadOf, UpdateOf, PrepareOf, DecideOf, AbortOf, Restart, Line}
 use Rattle.world_model.specs.LineClock.{now}
 use Rattle.world_model.specs.LineHistory.{snapshot}
 use Rattle.world_model.specs.LinePast.{dependency}

@@ -1,8 +1,8 @@
 -- Votes and decisions (Clock-SI).
-use Rattle.std.specs.Prelude.{◌≡◌, ◌≢◌, ℕ, true, false, List, [], ◌∷◌, ⊤}
+use Rattle.std.specs.Prelude.{◌≡◌, ◌≢◌, true, false, List, [], ◌∷◌, ⊤}
 use Rattle.site_vector.specs.declared.ids.PartId.{PartId}
 use Rattle.site_vector.specs.declared.ids.TxId.{TxId}
-use Rattle.world_model.specs.Event.{Event, Prepared, Decided, Finished, Cut, Entry, tried, voted, decide_tried, is_decided}
+use Rattle.world_model.specs.Event.{Event, Prepared, Decided, Finished, Cut, Entry, voted, decide_tried, is_decided}
 use Rattle.world_model.specs.Plan.{Plan, takes_part, commit_vector}
 
 module _ {E : Type 0} where
