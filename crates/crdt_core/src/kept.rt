@@ -1,4 +1,4 @@
-ghost use Rattle.std.specs.Prelude.{◌≡◌, ◌==◌, List, OnOk, IfOk};
+ghost use Rattle.std.specs.Prelude.{◌≡◌, ◌==◌, List, OnOk, OnErr, IfOk};
 ghost use Rattle.std.specs.FinMap as map;
 ghost use Rattle.std.specs.Map.Iter.{ShowsInOrder, deref_pair};
 ghost use Rattle.site_vector.specs.declared.ids.Dot.{Dot};
@@ -76,6 +76,7 @@ impl<V: Drop> Kept<V> {
     /// `AllocError` where memory runs out. What is kept is as before then.
     pub fn put(&mut self, dot: Dot, value: V) -> Result<(), AllocError>
         ensures ok { OnOk result (self.new ≡ map.insert self.old dot value) }
+        ensures err { OnErr result (self.new ≡ self.old) }
     {
         self.entries.insert(dot, value)?;
         Ok(())

@@ -87,5 +87,23 @@ fn list_put(rt: HostRuntime) -> Result<(), Fail> {
     let mut out = Vec::new(rt.alloc());
     put_list(&TextForm, &mut out, &[])?;
     assert_eq!(rt; out.as_slice(), [0, 0, 0, 0].as_slice());
+    let first = Text::of(rt.alloc(), "a")?.ok_or("a short text")?;
+    let second = Text::of(rt.alloc(), "b")?.ok_or("a short text")?;
+    put_list(&TextForm, &mut out, &[first, second])?;
+    let bytes = [0, 0, 0, 0, 0, 0, 0, 2, 0, 1, 97, 0, 1, 98];
+    assert_eq!(rt; out.as_slice(), bytes.as_slice());
+    Ok(())
+}
+
+#[test]
+fn copies(rt: HostRuntime) -> Result<(), Fail> {
+    let alloc = rt.alloc();
+    let text = Text::of(alloc, "tea")?.ok_or("a short text")?;
+    let mut list = ListOf::new(alloc);
+    list.push(text.copy(alloc)?)?;
+    assert!(rt; list.as_slice() == [text].as_slice());
+    let mut out = Vec::new(alloc);
+    put_whole(&TextForm, &mut out, &list.as_slice()[0])?;
+    assert_eq!(rt; out.as_slice(), [0, 3, 116, 101, 97].as_slice());
     Ok(())
 }
