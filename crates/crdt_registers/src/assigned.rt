@@ -79,7 +79,7 @@ pub fn empty_text(alloc: Global) -> Result<Text, AllocError>
 {
     match Text::of(alloc, "")? {
         Some(text) => Ok(text),
-        None => Err(AllocError),
+        None => unreachable!(),
     }
 }
 

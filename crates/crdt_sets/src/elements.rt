@@ -55,7 +55,7 @@ impl Elements {
     ///
     /// # Errors
     ///
-    /// `AllocError` where memory runs out.
+    /// `AllocError` where memory runs out. The elements may only be dropped then.
     pub fn take_named(
         &mut self,
         alloc: Global,

@@ -1,4 +1,4 @@
-ghost use Rattle.std.specs.Prelude.{◌≡◌, OnOk, IfOk};
+ghost use Rattle.std.specs.Prelude.{◌≡◌, OnOk, OnErr, IfOk};
 ghost use Rattle.std.specs.FinMap as map;
 ghost use Rattle.std.specs.List.Sorted.{IsStrictlySortedBy};
 ghost use Rattle.crdt_core.specs.Texts.{text_cmp, ascending};
@@ -43,7 +43,8 @@ impl TextSet {
     ///
     /// `AllocError` where memory runs out. The set is as before then.
     pub fn insert(&mut self, text: Text) -> Result<(), AllocError>
-        ensures { OnOk result (self.new ≡ map.insert self.old text tt) }
+        ensures ok { OnOk result (self.new ≡ map.insert self.old text tt) }
+        ensures err { OnErr result (self.new ≡ self.old) }
     {
         self.texts.insert(text)?;
         Ok(())
