@@ -19,5 +19,5 @@ try:
 bench:
 	@cd crates/dc_shell && rt run -- play < $(HERE)/examples/plain_path.script > /dev/null
 	python3 bench/play/measure.py
-	@cd crates/text_bench && rt run -- line 2 < stdin > /dev/null
+	@cd crates/text_bench && rt run -- show < stdin > /dev/null
 	python3 bench/text/measure.py

@@ -8,6 +8,3 @@ mod value;
 mod words;
 
 pub use step::line;
-
-#[cfg(test)]
-mod tests;

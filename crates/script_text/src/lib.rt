@@ -96,6 +96,3 @@ pub fn parse(alloc: Global, line: &[u8]) -> Result<Parsed, ParseError>
 pub fn law_reads_once()
     ensures { (line : List ℕ) (p q : Parsed) → Reads line p → Reads line q → p ≡ q }
 {}
-
-#[cfg(test)]
-mod tests;

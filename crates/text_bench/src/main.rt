@@ -1,7 +1,8 @@
-//! Reads or prints the lines of standard input many times over, for bench/text to measure.
+//! Reads the lines of standard input and prints a step for each command.
 //!
-//! `text_bench parse N` parses each line N times, `text_bench line N` prints a step of each command N times, and both end
-//! with one line of what they made. A line outside the grammar counts as none.
+//! `text_bench show` prints for each line what it reads as: `nothing`, `bad`, or a step with the words of its command. Its stored run is the test
+//! of the crates that read lines and print steps. `text_bench parse N` parses each line N times, `text_bench line N` prints the steps N times, for
+//! bench/text to measure; both end with one line of what they made. A line outside the grammar counts as none.
 #![tactic(auto)]
 
 ghost use Rattle.std.specs.Prelude.{◌≡◌, Ok, None, length, IfOk, IfSome, OnOk};
@@ -10,13 +11,15 @@ ghost use Rattle.script_text.specs.declared.Parsed.TheVariants as parsed;
 ghost use Rattle.script_text.specs.Line.{Reads};
 ghost use Rattle.text_bench.specs.Printed.{lines, times_over};
 
-use crdt_core::Value;
+mod steps;
+mod values;
+
 use reply_text::line;
 use script_text::{ParseError, Parsed, parse};
-use site_vector::{TxId, VTime};
 use std::alloc::{AllocError, Global};
-use std::io::Read;
+use std::io::{Read, Write};
 use std::{env, io};
+use steps::step_of;
 use world_model::{Command, Step};
 
 /// The command of a line, where it has one.
@@ -43,87 +46,44 @@ fn parse_script(alloc: Global, script: &[u8]) -> Result<u64, AllocError> {
     Ok(commands)
 }
 
-/// A step with the words of a command about messages and logs.
-fn step_between_sites(command: Command) -> Option<Step> {
-    let bounds = VTime::zero(3);
-    match command {
-        Command::Send {
-            part,
-            site,
-            from: _,
-        } => {
-            Some(Step::Sent {
-                number: 1,
-                part,
-                to: site,
-                lo: 0,
-                hi: 2_000,
-                count: 1,
-            })
-        }
-        Command::Deliver { number } => Some(Step::Took { number, hi: 2_000 }),
-        Command::Report { part } => {
-            Some(Step::Reported {
-                number: 1,
-                part,
-                bounds,
-            })
-        }
-        Command::Settle { part } => Some(Step::Settled { part }),
-        _ => None,
-    }
-}
-
-/// A step with the words of the command, of the kind that answers it.
-fn step_of(command: Command) -> Option<Step> {
-    let tx = TxId {
-        site: 1,
-        part: 1,
-        time: 1_001,
-    };
-    match command {
-        Command::Cluster { sites, parts } => Some(Step::MadeCluster { sites, parts }),
-        Command::Clock { part, n } => Some(Step::Ticked { part, now: n }),
-        Command::Session { name, site } => Some(Step::MadeSession { name, site }),
-        Command::Begin { name, part: _ } => Some(Step::Began {
-            name,
-            tx,
-            s: VTime::zero(3),
-        }),
-        Command::Read { name, object } => {
-            Some(Step::Value {
-                name,
-                object,
-                value: Value::Int(1_000_000),
-            })
-        }
-        Command::Update {
-            name,
-            object,
-            op: _,
-        } => {
-            Some(Step::Updated {
-                name,
-                object,
-                stamp: None,
-            })
-        }
-        Command::Commit { name, steps: _ } => Some(Step::Ended { name }),
-        _ => step_between_sites(command),
-    }
-}
-
 /// A step for each command of the script that has one here.
 fn steps_of(alloc: Global, script: &[u8]) -> Result<Vec<Step>, AllocError> {
     let mut steps = Vec::new(alloc);
     for text in script.split(|byte| *byte == b'\n') {
         if let Some(command) = command_of(alloc, text)? {
-            if let Some(step) = step_of(command) {
+            if let Some(step) = step_of(alloc, &command)? {
                 steps.push(step)?;
             }
         }
     }
     Ok(steps)
+}
+
+/// Adds the step of the command.
+fn put_step(alloc: Global, command: &Command, out: &mut Vec<u8>) -> Result<(), AllocError> {
+    match step_of(alloc, command)? {
+        Some(step) => line(alloc, &step, out),
+        None => out.extend_from_slice(b"no step\n"),
+    }
+}
+
+/// Adds what the line reads as: `nothing`, `bad`, or the step of its command.
+fn put_reading(alloc: Global, text: &[u8], out: &mut Vec<u8>) -> Result<(), AllocError> {
+    match parse(alloc, text) {
+        Ok(Parsed::Nothing) => out.extend_from_slice(b"nothing\n"),
+        Ok(Parsed::Command(command)) => put_step(alloc, &command, out),
+        Err(ParseError::Bad) => line(alloc, &Step::Bad, out),
+        Err(ParseError::NoMemory) => Err(AllocError),
+    }
+}
+
+/// Prints what each line of the script reads as.
+fn show(alloc: Global, script: &[u8]) -> Result<Vec<u8>, AllocError> {
+    let mut out = Vec::new(alloc);
+    for text in script.split(|byte| *byte == b'\n') {
+        put_reading(alloc, text, &mut out)?;
+    }
+    Ok(out)
 }
 
 /// Prints each step, and counts the bytes.
@@ -148,6 +108,7 @@ fn parse_often(alloc: Global, script: &[u8], times: u32) -> Result<u64, AllocErr
 }
 
 /// Prints the steps so many times, and says how many bytes there were.
+#[tactic(auto, using(crate::proofs::Passes::pass_more))]
 fn print_often(alloc: Global, steps: &[Step], times: u32) -> Result<u64, AllocError>
     ensures { IfOk result (λ n. n ≡ times_over times (length (lines steps.now))) }
 {
@@ -168,12 +129,25 @@ fn words_of(rt: &HostRuntime) -> io::Result<Vec<String>> {
     Ok(words)
 }
 
+/// Prints what each line reads as, and then what two passes over all lines make.
+fn show_all(rt: &HostRuntime, script: &[u8]) -> io::Result<()> {
+    let alloc = rt.alloc();
+    let shown = show(alloc, script)?;
+    rt.stdout().write_all(&shown)?;
+    let commands = parse_often(alloc, script, 2)?;
+    let steps = steps_of(alloc, script)?;
+    let bytes = print_often(alloc, &steps, 2)?;
+    println!(rt; "{commands} commands")?;
+    println!(rt; "{bytes} bytes")
+}
+
 fn main(rt: HostRuntime) -> io::Result<()> {
     let alloc = rt.alloc();
     let words = words_of(&rt)?;
     let mut script = Vec::new(alloc);
     rt.stdin().read_to_end(&mut script)?;
     match words.as_slice() {
+        [work] if work.as_str() == "show" => show_all(&rt, &script)?,
         [work, times] if work.as_str() == "parse" => {
             let times = times.parse::<u32>().unwrap_or(0);
             let commands = parse_often(alloc, &script, times)?;
@@ -185,7 +159,7 @@ fn main(rt: HostRuntime) -> io::Result<()> {
             let bytes = print_often(alloc, &steps, times)?;
             println!(rt; "{bytes} bytes")?;
         }
-        _ => eprintln!(rt; "text_bench parse|line TIMES < SCRIPT")?,
+        _ => eprintln!(rt; "text_bench show | parse TIMES | line TIMES < SCRIPT")?,
     }
     Ok(())
 }
