@@ -21,12 +21,9 @@ use Rattle.world_model.proofs.Names.{part_other}
 use Rattle.std.proofs.lemmas.Bool.{cond-false}
 use Rattle.dc_engine.specs.State.{one, transaction_at}
 use Rattle.dc_engine.specs.OneWorld.{HeldPart, IsPast, is_held, Below, IsLog, Has, IsOpen, IsWorld}
-use Rattle.dc_engine.proofs.BeginLines.{false_if}
+use Rattle.dc_engine.proofs.NewLine.{tx_apart}
 use Rattle.dc_engine.proofs.HeldParts.{below_more}
 use Rattle.dc_engine.proofs.OneLog.{leased}
-
-pub tx_apart : (a b : ℕ) → a ≢ b → same_tx (transaction_at a) (transaction_at b) ≡ false
-tx_apart a b h = false_if (same_tx (transaction_at a) (transaction_at b)) (λ e. h (ap (λ (t : TxId). t.time) (same_tx_is (transaction_at a) (transaction_at b) e)))
 
 -- there is no other site
 pub no_other : {A : Type 0} → (j : ℕ) → IsOther 1 1 j → A

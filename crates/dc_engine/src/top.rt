@@ -12,10 +12,10 @@ use crate::status::Status;
 use crate::words::is_play;
 use std::alloc::Global;
 
-/// Plays a script from the source to the sink. The bytes written are the lines of one lawful run that answers
-/// the script's lines (Cure over Clock-SI): all of them where the script was read to its end, those whose line feed was read
-/// where the source fails or the script is too long, and else a front of such a run's lines. A script that is read to its end has
-/// the status `BAD_LINE` exactly where one of its lines isn't in the grammar.
+/// Plays a script from the source to the sink. The bytes written are the lines of one run that answers the script's lines, and
+/// what a partition answered in it is lawful (Cure over Clock-SI): all of them where the script was read to its end, those whose
+/// line feed was read where the source fails or the script is too long, and else a front of such a run's lines. A script that is
+/// read to its end has the status `BAD_LINE` exactly where one of its lines isn't in the grammar.
 pub fn play<S: Source, K: Sink>(alloc: Global, source: &mut S, sink: &mut K) -> Status
     ensures done { result ≡ Status.DONE → Played 67108864 (AnsweredAll false) (S.left source.old) (S.left source.new) (K.held sink.old) (K.held sink.new) }
     ensures bad_line { result ≡ Status.BAD_LINE → Played 67108864 (AnsweredAll true) (S.left source.old) (S.left source.new) (K.held sink.old) (K.held sink.new) }
