@@ -1,12 +1,11 @@
 -- The machine refuses what the run refuses.
-use Rattle.std.proofs.Common.{arith, ◌≡◌, ℕ, suc, ◌++◌, ◌+◌, ◌%◌, ◌≤◌, Bool, true, false, not, cond, eqb, leb, ◌&&◌, ◌||◌, List, [], ◌∷◌, length, Option, None, Some, refl, sym, ap, ◌∙◌, subst}
+use Rattle.std.proofs.Common.{arith, ◌≡◌, ℕ, ◌++◌, ◌+◌, ◌%◌, Bool, true, false, not, cond, ◌&&◌, ◌||◌, List, [], ◌∷◌, length, Option, None, Some, refl, sym, ap, ◌∙◌}
 use Rattle.std.specs.Prelude.{filter, map, is_some, if◌then◌else◌, nat_le, ◌==◌}
 use Rattle.std.specs.List.{list_any}
 use Rattle.std.proofs.lemmas.Bool.{true≢false}
 use Rattle.std.proofs.lemmas.Bool.Decides.{nat_tests}
 use Rattle.std.proofs.lemmas.List.{length-map}
 use Rattle.site_vector.specs.declared.ids.PartId.{PartId}
-use Rattle.site_vector.specs.declared.ids.TxId.{TxId}
 use Rattle.site_vector.specs.Ids.{same_part}
 use Rattle.crdt_core.specs.declared.object.ObjectId.{ObjectId}
 use Rattle.crdt_core.specs.Fits.{fits}
@@ -18,7 +17,7 @@ use Rattle.world_model.specs.declared.step.Step.TheVariants as step
 use Rattle.world_model.specs.Run.{Run}
 use Rattle.world_model.specs.Cluster.{has_cluster, has_site, has_part, sites_of, parts_of}
 use Rattle.world_model.specs.Clock.{now}
-use Rattle.world_model.specs.Sessions.{session_site, has_session, sessions_of, transaction, is_open}
+use Rattle.world_model.specs.Sessions.{has_session, sessions_of, transaction, is_open}
 use Rattle.world_model.specs.Updates.{objects_of}
 use Rattle.world_model.specs.Commit.{partitions, takes_part, participants}
 use Rattle.world_model.specs.Refusals.{refusals, first_due, is_built, last_time, site_or_none, begin_part, updates_of, is_at_end}

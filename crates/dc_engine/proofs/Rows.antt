@@ -1,5 +1,5 @@
 -- The first refusal that is due.
-use Rattle.std.proofs.Common.{◌≡◌, Bool, true, false, List, [], ◌∷◌, Option, Some, None, refl, subst}
+use Rattle.std.proofs.Common.{◌≡◌, Bool, true, false, List, [], ◌∷◌, Some, None, refl, subst}
 use Rattle.std.specs.Prelude.{if◌then◌else◌}
 use Rattle.world_model.specs.declared.step.Step.{Step}
 use Rattle.world_model.specs.Refusals.{first_due}

@@ -1,5 +1,5 @@
 -- Each command's lines, and the machine after them.
-use Rattle.std.proofs.Common.{arith, ◌≡◌, ◌≢◌, ℕ, ◌+◌, ◌<◌, ◌≤◌, Bool, true, false, ◌||◌, List, [], ◌∷◌, ◌++◌, Option, None, Some, refl, sym, ap, ◌∙◌, subst}
+use Rattle.std.proofs.Common.{arith, ◌≡◌, ◌≢◌, ℕ, ◌+◌, ◌≤◌, Bool, true, false, ◌||◌, List, [], ◌∷◌, ◌++◌, Option, None, Some, refl, sym, ap, ◌∙◌, subst}
 use Rattle.std.specs.Prelude.{if◌then◌else◌, max, map}
 use Rattle.std.specs.Str.{bytes_eq}
 use Rattle.std.proofs.lemmas.Bool.{true≢false}
@@ -11,9 +11,8 @@ use Rattle.site_vector.specs.Order.{same_tx_is, same_tx_refl}
 use Rattle.crdt_core.specs.declared.object.ObjectId.{ObjectId}
 use Rattle.world_model.specs.declared.command.Command.{Command}
 use Rattle.world_model.specs.declared.command.Command.TheVariants as command
-use Rattle.world_model.specs.declared.step.Step.{Step}
 use Rattle.world_model.specs.declared.step.Step.TheVariants as step
-use Rattle.world_model.specs.Run.{Run, Line}
+use Rattle.world_model.specs.Run.{Run}
 use Rattle.world_model.specs.Sessions.{session_site, transaction, is_open}
 use Rattle.world_model.specs.Updates.{is_tx, objects_of}
 use Rattle.dc_engine.specs.ObjectKinds.{Effect}

@@ -1,12 +1,12 @@
 -- A world of one partition, step by step.
-use Rattle.std.proofs.Common.{arith, ◌≡◌, ◌≢◌, inl, inr, ℕ, ◌+◌, ◌<◌, ◌≤◌, max, Bool, true, false, cond, ◌&&◌, ◌||◌, List, [], ◌∷◌, ◌++◌, length, refl, sym, ap, ◌∙◌, subst, lit≤}
+use Rattle.std.proofs.Common.{arith, ◌≡◌, inl, inr, ℕ, ◌+◌, ◌<◌, ◌≤◌, max, Bool, true, false, cond, ◌&&◌, ◌||◌, List, [], ◌∷◌, ◌++◌, length, refl, sym, ap, ◌∙◌, subst, lit≤}
 use Rattle.std.specs.Prelude.{if◌then◌else◌}
 use Rattle.std.specs.Str.{bytes_eq}
 use Rattle.std.proofs.lemmas.List.{append-nil}
 use Rattle.site_vector.specs.declared.ids.PartId.{PartId}
 use Rattle.site_vector.specs.declared.ids.TxId.{TxId}
-use Rattle.site_vector.specs.Ids.{same_part, same_tx}
-use Rattle.site_vector.specs.Order.{same_tx_is, same_tx_refl}
+use Rattle.site_vector.specs.Ids.{same_part}
+use Rattle.site_vector.specs.Order.{same_tx_refl}
 use Rattle.site_vector.specs.Vector.{join, entry}
 use Rattle.crdt_core.specs.declared.record.Upd.{Upd}
 use Rattle.world_model.specs.Log.{end_of_time}

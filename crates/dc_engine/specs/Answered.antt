@@ -1,5 +1,5 @@
 -- What the program promises of the bytes that it writes.
-use Rattle.std.specs.Prelude.{◌≡◌, ℕ, Bool, List, map, reverse}
+use Rattle.std.specs.Prelude.{◌≡◌, ℕ, List, map, reverse}
 use Rattle.site_vector.specs.declared.ids.PartId.{PartId}
 use Rattle.dc_engine.specs.ObjectKinds.{Effect, kinds}
 use Rattle.world_model.specs.Run.{Run, lines_of}
@@ -11,7 +11,7 @@ use Rattle.world_model.specs.World.{IsWorldRun}
 use Rattle.world_model.specs.Lines.{lines_of as lines_shown}
 use Rattle.world_model.specs.LineLaw.{IsLawfulRun}
 use Rattle.dc_engine.specs.Calls.{calls_of}
-use Rattle.dc_engine.specs.Reading.{asked_of, has_bad}
+use Rattle.dc_engine.specs.Reading.{asked_of}
 use Rattle.dc_engine.specs.Held.{spelled}
 
 -- a run of the world of one site with one partition shows exactly the lines that a partition answered, with their calls
@@ -30,8 +30,3 @@ pub record Answered (lines : List (List ℕ)) (bytes : List ℕ) : Type 0 where
   pub calls : ShowsCalls run
   pub lawful : IsLawfulRun kinds.too_deep kinds.meaning 1 1 (calls_of run)
   pub written : bytes ≡ lines_of spelled run
-
--- and `bad` says whether one of these lines isn't in the grammar
-pub record AnsweredAll (bad : Bool) (lines : List (List ℕ)) (bytes : List ℕ) : Type 0 where
-  pub answered : Answered lines bytes
-  pub is_bad : has_bad lines ≡ bad

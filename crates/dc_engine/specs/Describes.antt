@@ -1,5 +1,5 @@
 -- When a run has left the machine as it is.
-use Rattle.std.specs.Prelude.{map, ◌≡◌, ◌≢◌, ◌≤◌, ◌<◌, ℕ, Bool, true, false, List, [], Option, None, Some}
+use Rattle.std.specs.Prelude.{map, ◌≡◌, ◌≢◌, ◌≤◌, ◌<◌, ℕ, true, false, List, [], Option, None, Some}
 use Rattle.std.specs.Str.{bytes_eq}
 use Rattle.crdt_core.specs.declared.object.ObjectId.{ObjectId}
 use Rattle.world_model.specs.Run.{Run}
