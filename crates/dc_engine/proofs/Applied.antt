@@ -4,15 +4,14 @@ use Rattle.crdt_core.specs.declared.operation.Act.{Act}
 use Rattle.crdt_core.specs.Kinds.{reads_state}
 use Rattle.crdt_core.specs.declared.kind.Kind.{Kind}
 use Rattle.std.proofs.lemmas.Bool.Decides.{nat_tests}
-use Rattle.std.proofs.Common.{Option, Some, None, ◌≤◌, arith, add-one, get_or, ◌≡◌, ℕ, ◌+◌, ◌<◌, ◌++◌, ◌∷◌, [], Bool, true, false, List, refl, cond, ap, ◌∙◌, sym, subst, append_assoc, length, take, drop}
-use Rattle.std.specs.Prelude.{nat_le, pos, if◌then◌else◌}
+use Rattle.std.proofs.Common.{Option, Some, None, ◌≤◌, arith, add-one, get_or, ◌≡◌, ℕ, ◌+◌, ◌<◌, ◌++◌, ◌∷◌, [], Bool, true, false, List, refl, ap, ◌∙◌, sym, subst, append_assoc, length, take, drop}
+use Rattle.std.specs.Prelude.{nat_le, if◌then◌else◌}
 use Rattle.std.proofs.Math.Seq.{take-suc}
-use Rattle.std.proofs.lemmas.List.{append-nil, length-take-le, get_or_default, drop_more}
+use Rattle.std.proofs.lemmas.List.{append-nil, length-take-le, drop_more}
 use Rattle.site_vector.specs.declared.ids.TxId.{TxId}
-use Rattle.site_vector.specs.declared.ids.Dot.{Dot}
 use Rattle.crdt_core.specs.declared.object.ObjectId.{ObjectId}
 use Rattle.crdt_core.specs.Objects.{same_object}
-use Rattle.dc_engine.specs.ObjectKinds.{ObjectState, Effect, kinds}
+use Rattle.dc_engine.specs.ObjectKinds.{ObjectState, kinds}
 use Rattle.dc_engine.specs.declared.history.Committed.{Committed}
 use Rattle.dc_engine.specs.declared.sessions.Change.{Change}
 use Rattle.dc_engine.specs.Kept.{applied_upto, applied_all, AreUpto, IsLatest, IsKept}

@@ -1,12 +1,13 @@
 -- The machine refuses what the run refuses.
-use Rattle.std.proofs.Common.{arith, ◌≡◌, ℕ, suc, ◌++◌, ◌+◌, ◌%◌, ◌≤◌, Bool, true, false, not, cond, eqb, leb, ◌&&◌, ◌||◌, List, [], ◌∷◌, length, Option, None, Some, refl, sym, ap, ◌∙◌, subst}
-use Rattle.std.specs.Prelude.{filter, is_some, if◌then◌else◌, nat_le, ◌==◌}
+use Rattle.std.proofs.Common.{arith, ◌≡◌, ℕ, ◌++◌, ◌+◌, ◌%◌, Bool, true, false, not, cond, ◌&&◌, ◌||◌, List, [], ◌∷◌, length, Option, None, Some, refl, sym, ap, ◌∙◌}
+use Rattle.std.specs.Prelude.{filter, map, is_some, if◌then◌else◌, nat_le, ◌==◌}
 use Rattle.std.specs.List.{list_any}
 use Rattle.std.proofs.lemmas.Bool.{true≢false}
 use Rattle.std.proofs.lemmas.Bool.Decides.{nat_tests}
+use Rattle.std.proofs.lemmas.List.{length-map}
 use Rattle.site_vector.specs.declared.ids.PartId.{PartId}
-use Rattle.site_vector.specs.declared.ids.TxId.{TxId}
 use Rattle.site_vector.specs.Ids.{same_part}
+use Rattle.crdt_core.specs.declared.object.ObjectId.{ObjectId}
 use Rattle.crdt_core.specs.Fits.{fits}
 use Rattle.crdt_core.specs.Placing.{place_of, hashed}
 use Rattle.world_model.specs.declared.command.Command.{Command}
@@ -16,14 +17,13 @@ use Rattle.world_model.specs.declared.step.Step.TheVariants as step
 use Rattle.world_model.specs.Run.{Run}
 use Rattle.world_model.specs.Cluster.{has_cluster, has_site, has_part, sites_of, parts_of}
 use Rattle.world_model.specs.Clock.{now}
-use Rattle.world_model.specs.Sessions.{session_site, has_session, sessions_of, transaction, is_open}
-use Rattle.world_model.specs.Updates.{Change, changes}
+use Rattle.world_model.specs.Sessions.{has_session, sessions_of, transaction, is_open}
+use Rattle.world_model.specs.Updates.{objects_of}
 use Rattle.world_model.specs.Commit.{partitions, takes_part, participants}
-use Rattle.world_model.specs.Refusals.{refusals, first_due, is_built, last_time, site_or_none, begin_part, changes_of, is_at_end}
+use Rattle.world_model.specs.Refusals.{refusals, first_due, is_built, last_time, site_or_none, begin_part, updates_of, is_at_end}
 use Rattle.dc_engine.specs.ObjectKinds.{kinds}
-use Rattle.dc_engine.specs.State as state
-use Rattle.dc_engine.specs.State.{State, Open, one, transaction_at, is_open_in, changes_in, is_change, dues}
-use Rattle.dc_engine.specs.Describes.{Describes, SameObjects, IsCurrent, site_if}
+use Rattle.dc_engine.specs.State.{State, Open, Change, one, transaction_at, is_open_in, changes_in, is_change, dues}
+use Rattle.dc_engine.specs.Describes.{Describes, object_of, site_if}
 
 one_number : (n k : ℕ) → k ≡ 1 → (nat_le 1 n && nat_le n k) ≡ (n == 1)
 one_number n k h = grind (arith, nat_tests)
@@ -41,38 +41,34 @@ has_site_if (Some t) = refl
 pub session_is : (m : State) (run : Run) (name : List ℕ) → Describes m run → has_session run name ≡ is_some (m.session name)
 session_is m run name d = ap is_some (d.there name) ∙ has_site_if (m.session name)
 
-pub length_objects : (cs : List Change) (ss : List state.Change) → SameObjects cs ss → length cs ≡ length ss
-length_objects [] [] h = refl
-length_objects [] (a ∷ ss) h = absurd h
-length_objects (c ∷ cs) [] h = absurd h
-length_objects (c ∷ cs) (a ∷ ss) h = ap (λ n. suc n) (length_objects cs ss h.1)
+-- some object is among them
+abbrev pub any_object : List ObjectId → Bool
+any_object [] = false
+any_object (o ∷ os) = true
 
-abbrev pub any_change : List Change → Bool
-any_change [] = false
-any_change (c ∷ cs) = true
+any_change : (cs : List Change) → any_object (map object_of cs) ≡ is_change cs
+any_change [] = refl
+any_change (c ∷ cs) = refl
 
-pub any_objects : (cs : List Change) (ss : List state.Change) → SameObjects cs ss → any_change cs ≡ is_change ss
-any_objects [] [] h = refl
-any_objects [] (a ∷ ss) h = absurd h
-any_objects (c ∷ cs) [] h = absurd h
-any_objects (c ∷ cs) (a ∷ ss) h = refl
+pub any_objects : (os : List ObjectId) (cs : List Change) → os ≡ map object_of cs → any_object os ≡ is_change cs
+any_objects os cs h = ap any_object h ∙ any_change cs
 
 pub placed_one : (bucket key : List ℕ) (n : ℕ) → n ≡ 1 → (place_of bucket key n == 1) ≡ true
 placed_one bucket key n h =
     let e : hashed 7 (bucket ++ 0 ∷ key) % n ≡ 0 = ap (λ k. hashed 7 (bucket ++ 0 ∷ key) % k) h ∙ omega arith in
     ap (λ k. 1 + k == 1) e
 
-any_placed : (n : ℕ) (cs : List Change) → n ≡ 1 → list_any (λ c. place_of c.object.bucket c.object.key n == 1) cs ≡ any_change cs
+any_placed : (n : ℕ) (os : List ObjectId) → n ≡ 1 → list_any (λ o. place_of o.bucket o.key n == 1) os ≡ any_object os
 any_placed n [] h = refl
-any_placed n (c ∷ cs) h = ap (λ b. b || list_any (λ c. place_of c.object.bucket c.object.key n == 1) cs) (placed_one c.object.bucket c.object.key n h)
+any_placed n (o ∷ os) h = ap (λ b. b || list_any (λ p. place_of p.bucket p.key n == 1) os) (placed_one o.bucket o.key n h)
 
 abbrev pub only_one : Bool → List PartId
 only_one b = if b then one ∷ [] else []
 
-pub participants_one : (run : Run) (n : ℕ) → parts_of run ≡ 1 → participants run (transaction_at n) ≡ only_one (any_change (changes run (transaction_at n)))
+pub participants_one : (run : Run) (n : ℕ) → parts_of run ≡ 1 → participants run (transaction_at n) ≡ only_one (any_object (objects_of run (transaction_at n)))
 participants_one run n h =
     ap (λ k. filter (takes_part run (transaction_at n)) (partitions 1 1 k)) h
-    ∙ ap (λ b. cond b (one ∷ []) []) (any_placed (parts_of run) (changes run (transaction_at n)) h)
+    ∙ ap (λ b. cond b (one ∷ []) []) (any_placed (parts_of run) (objects_of run (transaction_at n)) h)
 
 at_end_one : (run : Run) (b : Bool) → list_any (λ p. now run p == last_time) (only_one b) ≡ (b && now run one == last_time)
 at_end_one run true = grind arith
@@ -109,16 +105,18 @@ module _ (m : State) (run : Run) (d : Describes m run) where
       made_or ((not (has_session run name), step.NoSession) ∷ below) ((not (is_some (m.session name)), step.NoSession) ∷ under)
       (λ made. there_or name below under (λ t e. open_or name t e rows lines (h made)))
 
-  count_is : (name : List ℕ) (u : Open) → m.session name ≡ Some (Some u) → changes_of run (transaction run name) ≡ length (changes_in (m.session name))
-  count_is name u e = ap (changes_of run) (d.current name u e).named ∙ (length_objects _ _ (d.current name u e).objects ∙ ap (λ o. length (changes_in o)) (sym e))
+  count_is : (name : List ℕ) (u : Open) → m.session name ≡ Some (Some u) → updates_of run (transaction run name) ≡ length (changes_in (m.session name))
+  count_is name u e =
+      let k = d.current name u e in
+      ap (updates_of run) k.named ∙ (ap (λ (os : List ObjectId). length os) k.objects ∙ (length-map u.changes object_of ∙ ap (λ o. length (changes_in o)) (sym e)))
 
   end_is : (name : List ℕ) (u : Open) → m.made ≡ true → m.session name ≡ Some (Some u) → is_at_end run (transaction run name) ≡ (is_change (changes_in (m.session name)) && m.now == last_time)
   end_is name u made e =
       let k = d.current name u e in
       ap (is_at_end run) k.named
       ∙ (ap (λ ps. list_any (λ p. now run p == last_time) ps) (participants_one run u.time (d.parts made))
-      ∙ (at_end_one run (any_change (changes run (transaction_at u.time)))
-      ∙ (ap (λ b. b && now run one == last_time) (any_objects _ _ k.objects ∙ ap (λ o. is_change (changes_in o)) (sym e))
+      ∙ (at_end_one run (any_object (objects_of run (transaction_at u.time)))
+      ∙ (ap (λ b. b && now run one == last_time) (any_objects (objects_of run (transaction_at u.time)) u.changes k.objects ∙ ap (λ o. is_change (changes_in o)) (sym e))
       ∙ ap (λ n. is_change (changes_in (m.session name)) && n == last_time) d.time)))
 
   pub home_is : (name : List ℕ) (t : Option Open) → m.session name ≡ Some t → begin_part run name None ≡ one
@@ -147,7 +145,7 @@ module _ (m : State) (run : Run) (d : Describes m run) where
   due_same (command.Read name o) b = session_rows name [] [] (λ made u k. refl)
   due_same (command.Update name o op) b =
       let op_row : Bool × Step = (not (fits o.kind op.path op.act), step.BadOp) in
-      session_rows name (op_row ∷ (changes_of run (transaction run name) == 256, step.LimitUpdates) ∷ []) (op_row ∷ (length (changes_in (m.session name)) == 256, step.LimitUpdates) ∷ [])
+      session_rows name (op_row ∷ (updates_of run (transaction run name) == 256, step.LimitUpdates) ∷ []) (op_row ∷ (length (changes_in (m.session name)) == 256, step.LimitUpdates) ∷ [])
       (λ made u k. ap (λ n. first_due (op_row ∷ (n == 256, step.LimitUpdates) ∷ [])) (count_is name u k))
   due_same (command.Commit name steps) b =
       session_rows name ((is_at_end run (transaction run name), step.TimeEnd) ∷ []) ((is_change (changes_in (m.session name)) && m.now == last_time, step.TimeEnd) ∷ [])

@@ -22,8 +22,8 @@ use Rattle.dc_engine.specs.declared.history.Committed.{Committed}
 use Rattle.crdt_core.specs.Fits.{fits}
 use Rattle.crdt_core.specs.declared.kind.Kind.{Kind}
 use Rattle.site_vector.specs.declared.ids.Dot.{Dot}
-use Rattle.dc_engine.specs.ObjectKinds.{Effect, kinds}
-use Rattle.dc_engine.specs.Told.{state_by}
+use Rattle.dc_engine.specs.ObjectKinds.{Effect, ObjectState, kinds}
+use Rattle.crdt_core.specs.History.{folded}
 use Rattle.dc_engine.specs.declared.player.Player.{Player}
 use Rattle.dc_engine.specs.Player.{AnswersAsked, ReachedBy}
 use Rattle.std.specs.Prelude.{⊤}
@@ -44,7 +44,7 @@ use Rattle.dc_engine.specs.InWorld.{InWorld}
 use Rattle.dc_engine.specs.Held.{as_change, entries_on, open_as, session_as, state_of, spelled, Reached}
 use Rattle.dc_engine.specs.Answered.{Answered}
 use Rattle.dc_engine.specs.Replies.{AnswersLine}
-use Rattle.dc_engine.proofs.RunLines.{unread, acts_goes, lawful, begins_empty}
+use Rattle.dc_engine.proofs.RunLines.{unread, acts_goes, begins_empty}
 use Rattle.dc_engine.proofs.WorldRuns.{world_unread, acts_in, world_empty, lawful_calls}
 
 some_as : (s : Option (Option (ℕ × List Change))) → is_some s ≡ is_some (session_as s)
@@ -106,19 +106,22 @@ state_is : (m new : Machine) (next : State) (made : Bool) (now number : ℕ) (se
 state_is m new next made now number sessions updates h p q r s t =
     same_state (state_of new) next (h.is_made ∙ p) (h.time ∙ q) (λ who. ap session_as (h.session who) ∙ r who) (h.count ∙ s) (λ o. ap (entries_on []) (h.store o) ∙ t o)
 
+abbrev state_by : Kind → List (Dot × Effect) → ObjectState
+state_by k es = folded (kinds.initial k) kinds.step es
+
 -- what is stored is told in the order of the state
-applied_on : (s : ℕ) (k : Kind) (older : List Entry) (us : List Committed) → applied_upto s (state_by kinds k (upto s older)) us ≡ state_by kinds k (upto s (entries_on older us))
+applied_on : (s : ℕ) (k : Kind) (older : List Entry) (us : List Committed) → applied_upto s (state_by k (upto s older)) us ≡ state_by k (upto s (entries_on older us))
 applied_on s k older [] = refl
 applied_on s k older (u ∷ us) =
     let more : List Entry = (u.time, (u.dot, u.effect)) ∷ older in
-    ap (λ st. applied_upto s st us) (elim (nat_le u.time s) as (λ b. (if b then kinds.step (state_by kinds k (upto s older)) u.dot u.effect else state_by kinds k (upto s older)) ≡ state_by kinds k (if b then (u.dot, u.effect) ∷ upto s older else upto s older)) [ true ↦ refl | false ↦ refl ])
+    ap (λ st. applied_upto s st us) (elim (nat_le u.time s) as (λ b. (if b then kinds.step (state_by k (upto s older)) u.dot u.effect else state_by k (upto s older)) ≡ state_by k (if b then (u.dot, u.effect) ∷ upto s older else upto s older)) [ true ↦ refl | false ↦ refl ])
     ∙ applied_on s k more us
 
-own_on_top : (k : Kind) (o : ObjectId) (t : TxId) (index : ℕ) (older : List (Dot × Effect)) (cs : List Change) → kept.applied_own o t index (state_by kinds k older) cs ≡ state_by kinds k (effects_on o t index older (map as_change cs))
+own_on_top : (k : Kind) (o : ObjectId) (t : TxId) (index : ℕ) (older : List (Dot × Effect)) (cs : List Change) → kept.applied_own o t index (state_by k older) cs ≡ state_by k (effects_on o t index older (map as_change cs))
 own_on_top k o t index older [] = refl
 own_on_top k o t index older (c ∷ cs) =
     let entry : Dot × Effect = (dot_at t index, c.effect) in
-    ap (λ st. kept.applied_own o t (index + 1) st cs) (elim (same_object c.object o) as (λ b. (if b then kinds.step (state_by kinds k older) (dot_at t index) c.effect else state_by kinds k older) ≡ state_by kinds k (if b then entry ∷ older else older)) [ true ↦ refl | false ↦ refl ])
+    ap (λ st. kept.applied_own o t (index + 1) st cs) (elim (same_object c.object o) as (λ b. (if b then kinds.step (state_by k older) (dot_at t index) c.effect else state_by k older) ≡ state_by k (if b then entry ∷ older else older)) [ true ↦ refl | false ↦ refl ])
     ∙ own_on_top k o t (index + 1) (if same_object c.object o then entry ∷ older else older) cs
 
 -- a transaction reads the same state
@@ -269,9 +272,9 @@ pub reached_lawful : (m : Machine) (lines : List (List ℕ)) (bytes : List ℕ) 
 reached_lawful m lines bytes r = record {
   run = r.run;
   answers = r.answers;
-  lawful = lawful (state_of m) r.run r.describes;
+  causes = r.describes.causes;
   calls = record { events = r.world.world; parts = r.world.parts; is_run = r.world.is_world.is_run; shown = r.world.lines };
-  world = lawful_calls (state_of m) r.run r.world;
+  lawful = lawful_calls (state_of m) r.run r.world;
   written = r.written;
 }
 

@@ -1,6 +1,6 @@
 -- A state that answers lines, and what it has read, kept and replied.
-use Rattle.std.proofs.Common.{◌≡◌, ◌≢◌, ℕ, zero, suc, ◌+◌, ◌<◌, ◌≤◌, List, [], ◌∷◌, ◌++◌, ◌-◌, length, take, drop, min, ◌==◌, true, refl, sym, ap, ◌∙◌, subst, arith, append_assoc}
-use Rattle.std.proofs.lemmas.List.{append-nil, take-append-drop, take_all}
+use Rattle.std.proofs.Common.{◌≡◌, ℕ, ◌+◌, List, [], ◌∷◌, ◌++◌, ◌-◌, length, take, drop, min, ◌==◌, true, refl, sym, ap, ◌∙◌, subst, append_assoc}
+use Rattle.std.proofs.lemmas.List.{append-nil, take-append-drop}
 use Rattle.dc_engine.specs.Replies.{AnswersLine}
 use Rattle.dc_engine.specs.Blocks.{HasNoEnd, EndsAt, Stands, At, Moves, MovesPart}
 use Rattle.dc_engine.proofs.Standing.{stands_piece, stands_end}

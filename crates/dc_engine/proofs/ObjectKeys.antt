@@ -1,5 +1,5 @@
 -- Objects as keys of a map.
-use Rattle.std.proofs.Common.{rules, arith, ◌≡◌, ◌++◌, ◌∷◌, [], Bool, true, false, List, refl, cond, ap, ◌∙◌, sym, subst, Some, None, Option}
+use Rattle.std.proofs.Common.{rules, ◌≡◌, ◌++◌, ◌∷◌, [], true, false, List, refl, cond, ap, ◌∙◌, sym, subst, Some, None, Option}
 use Rattle.std.specs.Map.{lookup}
 use Rattle.std.proofs.lemmas.Grind.{common_steps}
 use Rattle.crdt_core.specs.declared.object.ObjectId.{ObjectId}

@@ -11,7 +11,7 @@ use Rattle.crdt_core.specs.declared.record.Record.TheVariants.{Lease, Prepare, D
 use Rattle.world_model.specs.Log.{end_of_time, ceiling, prepared, pending, committed, committed_at, aborted, taken_at, taken_changes, prepared_changes, held_at, held_changes, grown}
 use Rattle.world_model.specs.Partition.{lease_for}
 use Rattle.dc_engine.specs.OneWorld.{HeldPart, is_held, IsLog}
-use Rattle.dc_engine.proofs.BeginLines.{false_if}
+use Rattle.dc_engine.proofs.NewLine.{false_if}
 use Rattle.dc_engine.proofs.HeldParts.{held_more}
 
 still_idle : (b p c a : Bool) → (p && not (c || a)) ≡ false → ((b || p) && not ((b || c) || a)) ≡ false

@@ -1,9 +1,12 @@
 -- What was played, told by another relation between lines and bytes.
-use Rattle.std.proofs.Common.{ℕ, Bool, List, Option}
+use Rattle.std.proofs.Common.{◌≡◌, ℕ, Bool, List, Option, sym, ap, ◌∙◌}
+use Rattle.std.specs.Prelude.{if◌then◌else◌}
 use Rattle.dc_engine.specs.Played.{Played, PlayedEnded, PlayedTooLong, PlayedPart}
 use Rattle.dc_engine.specs.Replies.{Replies, RepliesAll}
 use Rattle.dc_engine.specs.Player.{ReachedBy}
-use Rattle.dc_engine.specs.Answered.{Answered, AnsweredAll}
+use Rattle.dc_engine.specs.Answered.{Answered}
+use Rattle.dc_engine.specs.Reading.{has_bad}
+use Rattle.dc_engine.specs.declared.status.Status.{Status}
 use Rattle.dc_engine.proofs.HeldState.{reached_lawful}
 
 module _ (most : ℕ) (P Q : List (List ℕ) → List ℕ → Type 0) (f : (lines : List (List ℕ)) (bytes : List ℕ) → P lines bytes → Q lines bytes) (input left before after : Option (List ℕ)) where
@@ -23,11 +26,12 @@ module _ (P Q : List (List ℕ) → List ℕ → Type 0) (f : (lines : List (Lis
 lawful_by : (lines : List (List ℕ)) (bytes : List ℕ) → Replies ReachedBy lines bytes → Answered lines bytes
 lawful_by lines bytes r = reached_lawful r.0.machine lines bytes r.1.reached
 
-all_lawful_by : (bad : Bool) (lines : List (List ℕ)) (bytes : List ℕ) → RepliesAll ReachedBy bad lines bytes → AnsweredAll bad lines bytes
-all_lawful_by bad lines bytes r = record { answered = lawful_by lines bytes r.replied; is_bad = r.is_bad }
-
-pub played_lawful : (most : ℕ) (bad : Bool) (input left before after : Option (List ℕ)) → Played most (RepliesAll ReachedBy bad) input left before after → Played most (AnsweredAll bad) input left before after
-played_lawful most bad = played_by most (RepliesAll ReachedBy bad) (AnsweredAll bad) (all_lawful_by bad)
+-- where the script was read to its end, the status is by its lines
+pub finished_lawful : (most : ℕ) (done bad_line status : Status) (bad : Bool) (input left before after : Option (List ℕ)) → status ≡ (if bad then bad_line else done) → Played most (RepliesAll ReachedBy bad) input left before after
+    → Played most (λ lines bytes. Answered lines bytes × (status ≡ (if has_bad lines then bad_line else done))) input left before after
+finished_lawful most done bad_line status bad input left before after h =
+    played_by most (RepliesAll ReachedBy bad) (λ lines bytes. Answered lines bytes × (status ≡ (if has_bad lines then bad_line else done)))
+    (λ lines bytes r. (lawful_by lines bytes r.replied, h ∙ ap (λ b. if b then bad_line else done) (sym r.is_bad))) input left before after
 
 pub ended_lawful : (most : ℕ) (input left before after : Option (List ℕ)) → PlayedEnded most (Replies ReachedBy) input left before after → PlayedEnded most Answered input left before after
 ended_lawful most = ended_by most (Replies ReachedBy) Answered lawful_by

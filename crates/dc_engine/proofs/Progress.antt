@@ -1,6 +1,6 @@
 -- What was read and written so far, block by block.
 use Rattle.std.specs.Prelude.{Ok}
-use Rattle.std.proofs.Common.{◌≡◌, ◌≢◌, ℕ, zero, suc, ◌+◌, ◌-◌, ◌≤◌, Bool, true, false, List, [], ◌∷◌, ◌++◌, Option, Some, None, length, take, refl, sym, ap, zero-add, ◌∙◌, subst, arith, append_assoc, length-append}
+use Rattle.std.proofs.Common.{◌≡◌, ◌≢◌, ℕ, zero, suc, ◌+◌, ◌-◌, ◌≤◌, Bool, true, List, [], ◌∷◌, ◌++◌, Option, Some, None, length, take, refl, sym, ap, zero-add, ◌∙◌, subst, arith, append_assoc, length-append}
 use Rattle.std.proofs.lemmas.List.{append-nil, take_all, length-take-le}
 use Rattle.std.proofs.Math.Seq.{take-append-add}
 use Rattle.std.specs.Io.KnownBytes.{Appends, Consumes, Keeps, IsAtEnd}
@@ -10,9 +10,9 @@ use Rattle.dc_engine.specs.Replies.{Replies, RepliesAll}
 use Rattle.dc_engine.specs.declared.fault.Fault.{Fault}
 use Rattle.dc_engine.specs.declared.fault.Fault.TheVariants as fault
 use Rattle.dc_engine.specs.Played.{Played, PlayedEnded, PlayedTooLong, PlayedPart, AreFirst}
-use Rattle.dc_engine.specs.Blocks.{Progress, Stopped, GoesOn, At, AppendsPart, Writes, WritesPart, Ends, EndsPart, AnswersFirst, TakesOne}
+use Rattle.dc_engine.specs.Blocks.{Progress, Stopped, GoesOn, At, AppendsPart, Writes, WritesPart, Ends, EndsPart, TakesOne}
 use Rattle.dc_engine.proofs.Standing.{stands_start, stands-ended, stands-first}
-use Rattle.dc_engine.proofs.Written.{written_none, appends_more, on_err}
+use Rattle.dc_engine.proofs.Written.{written_none, appends_more}
 
 taken_none : (input : Option (List ℕ)) → Consumes input input []
 taken_none None = tt

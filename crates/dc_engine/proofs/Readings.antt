@@ -1,12 +1,12 @@
 -- What lines read as.
-use Rattle.std.proofs.Common.{◌≡◌, ℕ, ◌+◌, ◌-◌, ◌<◌, ◌≤◌, Bool, true, false, ◌&&◌, ◌||◌, ◌==◌, nat_lt, cond, List, [], ◌∷◌, ◌++◌, length, take, Option, Some, None, option_map, option_and_then, codes, refl, ap, sym, ◌∙◌, subst, inl, inr, ◌⊎◌, arith, length-take}
-use Rattle.std.specs.Prelude.{nat_le, if◌then◌else◌, ◌^◌, Result, Ok, Err, IfOk}
+use Rattle.std.proofs.Common.{◌≡◌, ℕ, ◌-◌, ◌<◌, ◌≤◌, Bool, true, false, ◌&&◌, ◌||◌, ◌==◌, nat_lt, List, [], ◌∷◌, ◌++◌, length, take, Option, Some, None, option_map, option_and_then, codes, refl, ap, sym, ◌∙◌, inl, inr, arith, length-take}
+use Rattle.std.specs.Prelude.{nat_le, if◌then◌else◌, ◌^◌}
 use Rattle.std.specs.Io.BufRead.{strip_last, ends_with_byte}
 use Rattle.std.specs.List.{list_all, list_any}
 use Rattle.std.specs.Char.{is_ascii_digit}
 use Rattle.std.specs.Str.{bytes_eq, is_utf8}
 use Rattle.std.proofs.lemmas.Str.{is_utf8-from_IsUtf8, IsUtf8-from_is_utf8}
-use Rattle.std.proofs.lemmas.Bool.{and_parts, and_from, cases_Bool, true≢false, ltb-true, ltb-false}
+use Rattle.std.proofs.lemmas.Bool.{and_parts, and_from, cases_Bool, ltb-true, ltb-false}
 use Rattle.std.proofs.lemmas.Bool.Decides.{nat_tests}
 use Rattle.std.proofs.lemmas.List.{take_all}
 use Rattle.std.proofs.lemmas.List.Folds.{list_any-append}
@@ -14,7 +14,7 @@ use Rattle.world_model.specs.declared.command.Command.{Command}
 use Rattle.world_model.specs.declared.command.Command.TheVariants as command
 use Rattle.script_text.specs.declared.Parsed.{Parsed}
 use Rattle.script_text.specs.declared.Parsed.TheVariants as parsed
-use Rattle.script_text.specs.Line.{Reads, IsLine, reading, hash}
+use Rattle.script_text.specs.Line.{Reads, reading, hash}
 use Rattle.script_text.specs.Split.{words}
 use Rattle.script_text.specs.Numbers.{numeral, digits_of, value_of, ranged}
 use Rattle.script_text.specs.Objects.{object}

@@ -1,133 +1,39 @@
--- What the machine answers is a lawful run.
-use Rattle.std.proofs.Common.{arith, ◌≡◌, ◌≢◌, ◌⊎◌, inl, inr, ⊎_elim, ℕ, suc, ◌+◌, ◌<◌, ◌≤◌, Bool, true, false, not, cond, eqb, leb, ◌&&◌, ◌||◌, List, [], ◌∷◌, ◌++◌, length, Option, None, Some, refl, sym, ap, ◌∙◌, subst}
-use Rattle.std.specs.Prelude.{is_some, if◌then◌else◌, nat_le, ◌==◌, max}
-use Rattle.std.specs.Str.{bytes_eq}
-use Rattle.std.specs.List.{list_any, list_all}
-use Rattle.std.proofs.lemmas.Bool.{true≢false, or_left, or_right, or_cases, and_parts, and_from, ne_eqb}
-use Rattle.std.proofs.lemmas.Bool.Decides.{nat_tests}
-use Rattle.std.proofs.lemmas.Slice.Eq.{bytes_eq-Decides}
-use Rattle.site_vector.specs.declared.ids.PartId.{PartId}
-use Rattle.site_vector.specs.declared.ids.TxId.{TxId}
-use Rattle.site_vector.specs.Ids.{same_tx, same_part}
-use Rattle.site_vector.specs.Order.{same_tx_is, same_tx_refl, same_part_is}
-use Rattle.site_vector.specs.Vector.{le, join, entry, replaced}
-use Rattle.site_vector.specs.VectorLaws.{le_trans, le_entry, join_le}
-use Rattle.crdt_core.specs.declared.object.ObjectId.{ObjectId}
-use Rattle.crdt_core.specs.declared.operation.Op.{Op}
-use Rattle.crdt_core.specs.Objects.{same_object, same_kind-true}
+-- What the machine answers goes on with the run.
+use Rattle.std.proofs.Common.{◌≡◌, ℕ, ◌+◌, Bool, true, false, not, ◌&&◌, List, [], ◌∷◌, length, Option, None, Some, refl, sym, ap, ◌∙◌, subst}
+use Rattle.std.specs.Prelude.{is_some, if◌then◌else◌, ◌==◌, max}
+use Rattle.std.proofs.lemmas.Bool.{true≢false, or_left, or_right, and_parts, eqb-true}
+use Rattle.site_vector.specs.Ids.{same_part}
+use Rattle.site_vector.specs.Order.{same_part_is}
+use Rattle.crdt_core.specs.Fits.{fits}
 use Rattle.world_model.specs.declared.command.Command.{Command}
 use Rattle.world_model.specs.declared.command.Command.TheVariants as command
 use Rattle.world_model.specs.declared.step.Step.{Step}
 use Rattle.world_model.specs.declared.step.Step.TheVariants as step
-use Rattle.world_model.specs.Run.{Run, Line}
-use Rattle.world_model.specs.Cluster.{has_cluster, sites_of, parts_of}
-use Rattle.world_model.specs.Clock.{now, ShowsTime}
-use Rattle.world_model.specs.Sessions.{is_begun, session_site, transaction, is_open, dependency, HoldsPast}
-use Rattle.world_model.specs.Fresh.{ShowsSnapshot}
-use Rattle.world_model.specs.History.{decides, in_history, history, snapshot, commit_time, commit_vector}
-use Rattle.world_model.specs.Updates.{Change, changes, update_of}
-use Rattle.world_model.specs.Reads.{IsRight, IsMeant, read_by}
-use Rattle.world_model.specs.Commit.{ShowsCommit}
+use Rattle.world_model.specs.Run.{Run}
+use Rattle.world_model.specs.Cluster.{has_cluster, has_site, has_part}
+use Rattle.world_model.specs.Clock.{now}
+use Rattle.world_model.specs.Sessions.{has_session, sessions_of, transaction, is_open}
+use Rattle.world_model.specs.Updates.{objects_of}
+use Rattle.world_model.specs.Commit.{participants}
 use Rattle.world_model.specs.Causes.{HasCause}
-use Rattle.world_model.proofs.Growth.{AreBegun, Leaves, AreLater, EachIs, right_grows, history_decided, vector_same}
-use Rattle.dc_engine.specs.ObjectKinds.{Effect, kinds}
-use Rattle.dc_engine.specs.State as state
-use Rattle.dc_engine.specs.State.{State, Open, Entry, one, transaction_at, is_open_in, with_session, made_cluster, ticked, made_session, began, updated, ended, committed, state_read, effect_of, stored_on}
-use Rattle.dc_engine.specs.Describes.{Describes, KeepsLaws, IsCurrent, IsId, SameObjects, Stores, Reads, site_if}
-use Rattle.dc_engine.proofs.StoredRuns.{AreTimes, stores_more, reads_more, reads_are, reads_begun, reads_mean, reads_stored, told_updated, stamp_next, told_committed, timed_on, timed_more}
-use Rattle.std.specs.Prelude.{replicate}
-use Rattle.world_model.specs.Sessions.{transaction_after}
-use Rattle.world_model.specs.Fresh.{IsSnapshot}
-use Rattle.dc_engine.proofs.NewLine.{is_quiet, IsNewLine, line, laws_more, reads_in, current_in, id_in, quiet, off}
-use Rattle.world_model.specs.Updates.{is_tx, changed, partition_of, changes_after}
-use Rattle.crdt_core.specs.Fits.{fits}
-use Rattle.crdt_core.specs.declared.object.Field.{Field}
-use Rattle.dc_engine.proofs.StepLines.{le_one, with_cases, same_name, leaves_plain, later_in, quiet_line}
-use Rattle.std.proofs.lemmas.Bool.{eqb-true}
-use Rattle.std.proofs.Math.Bool.{and-true}
-use Rattle.world_model.specs.History.{newly_decided}
-use Rattle.world_model.specs.Commit.{participants, was_prepared, IsLead, IsVote, IsDecision}
-use Rattle.world_model.proofs.Growth.{each_weaker}
-use Rattle.dc_engine.specs.State.{is_change}
-use Rattle.dc_engine.proofs.DueRows.{participants_one, any_change, any_objects}
-use Rattle.dc_engine.proofs.StepLines.{not_le_one}
-use Rattle.dc_engine.proofs.BeginLines.{false_if}
-use Rattle.crdt_core.specs.declared.kind.Kind.{Kind}
-use Rattle.crdt_core.specs.declared.kind.Kind.TheVariants as kind
-use Rattle.crdt_core.specs.declared.operation.Act.{Act}
-use Rattle.crdt_core.specs.declared.operation.Act.TheVariants as act
-use Rattle.crdt_core.specs.Kinds.{kind_at, same_kind}
-use Rattle.world_model.specs.Cluster.{has_site, has_part}
-use Rattle.world_model.specs.Sessions.{has_session, sessions_of}
-use Rattle.world_model.specs.Refusals.{refusal, refusals, unbuilt, first_due, is_built, begin_part, lacks_part, is_elsewhere, changes_of, last_time}
-use Rattle.world_model.specs.Answers.{IsAnswer, AnswersBy, Replies, Commits, CommitsAt, answered, is_stamped}
-use Rattle.world_model.specs.Lawful.{IsLawful}
-use Rattle.world_model.proofs.Growth.{is_strict, visible_closed}
-use Rattle.dc_engine.specs.State.{lacks_cluster, lacks_session, lacks_transaction, changes_in, dues, Acts, ActsBy, Does, DoesCommit, start}
-use Rattle.dc_engine.proofs.DueRows.{due_same, home_is}
-use Rattle.dc_engine.proofs.StepLines.{cluster_line, tick_line, session_line, value_line, ended_line}
-use Rattle.dc_engine.proofs.BeginLines.{begin_line, update_line, stamp_is_due, change_in}
-use Rattle.dc_engine.proofs.ToldRuns.{told_none}
-use Rattle.crdt_core.specs.Seen.{Update, is_assign}
-use Rattle.crdt_core.specs.Stamps.{stamp_due, above_all, assigns_seen, last_stamp}
-use Rattle.std.specs.Prelude.{min}
-use Rattle.dc_engine.proofs.CommitLines.{commit_lines}
+use Rattle.world_model.specs.Refusals.{refusal, refusals, unbuilt, first_due, is_built, begin_part, lacks_part, is_elsewhere, updates_of, last_time}
+use Rattle.world_model.specs.Answers.{IsAnswer, AnswersBy, Replies, Commits, CommitsAt, answered}
+use Rattle.dc_engine.specs.ObjectKinds.{kinds}
+use Rattle.dc_engine.specs.State.{State, Open, Change, one, transaction_at, is_open_in, is_change, changes_in, made_cluster, ticked, made_session, began, updated, ended, committed, state_read, effect_of, lacks_cluster, lacks_session, lacks_transaction, dues, Acts, ActsBy, Does, DoesCommit, start}
+use Rattle.dc_engine.specs.Describes.{Describes}
+use Rattle.dc_engine.proofs.NewLine.{is_quiet, line, quiet, off, not_false, not_true}
+use Rattle.dc_engine.proofs.Rows.{Owe, owed, none_due}
+use Rattle.dc_engine.proofs.DueRows.{participants_one, any_objects, due_same, home_is}
+use Rattle.dc_engine.proofs.StepLines.{cluster_line, tick_line, session_line, begin_line, update_line, ended_line, commit_lines}
+use Rattle.dc_engine.proofs.ObjectStamps.{stamped}
 
--- where a row is due and none before it is, its step has the property
-abbrev pub Owe : (Step → Type 0) → List (Bool × Step) → Type 0
-Owe P [] = Unit {0}
-Owe P (r ∷ rows) = (r.0 ≡ true → P r.1) × (r.0 ≡ false → Owe P rows)
-
-pub owed : (P : Step → Type 0) (rows : List (Bool × Step)) → Owe P rows → (s : Step) → first_due rows ≡ Some s → P s
-owed P [] h s e = cc
-owed P (r ∷ rows) h s e =
-    elim r.0 as (λ b. r.0 ≡ b → (if b then Some r.1 else first_due rows) ≡ Some s → P s) [
-      | true ↦ λ k q. let same : r.1 ≡ s = cc in subst P same (h.0 k)
-      | false ↦ λ k q. owed P rows (h.1 k) s q
-    ] refl e
-
-pub not_false : (b : Bool) → not b ≡ false → b ≡ true
-not_false true h = refl
-not_false false h = absurd (true≢false h)
-
-pub not_true : (b : Bool) → not b ≡ true → b ≡ false
-not_true true h = absurd (true≢false (sym h))
-not_true false h = refl
-
--- a refusal's line changes nothing, and has its cause
+-- a refusal changes nothing, and has its cause
 pub record IsRefusal (run : Run) (c : Command) (s : Step) : Type 0 where
   pub changes_none : is_quiet s ≡ true
-  pub is_new : IsNewLine run (Some c) s
+  pub cause : HasCause kinds.has run (Some c) s
 
-abbrev is_refusal : Step → Bool
-is_refusal step.NoCluster = true
-is_refusal step.HasCluster = true
-is_refusal step.NoPart = true
-is_refusal step.NoSession = true
-is_refusal step.HasSession = true
-is_refusal step.NoTxn = true
-is_refusal step.HasTxn = true
-is_refusal step.BadOp = true
-is_refusal step.LimitSessions = true
-is_refusal step.LimitUpdates = true
-is_refusal step.TimeEnd = true
-is_refusal step.Unbuilt = true
-is_refusal other = false
-
-refuses : (run : Run) (c : Command) (s : Step) → is_refusal s ≡ true → HasCause kinds.has run (Some c) s → IsRefusal run c s
-refuses run c step.NoCluster q h = record { changes_none = refl; is_new = quiet_line run (Some c) step.NoCluster tt tt tt tt h tt tt }
-refuses run c step.HasCluster q h = record { changes_none = refl; is_new = quiet_line run (Some c) step.HasCluster tt tt tt tt h tt tt }
-refuses run c step.NoPart q h = record { changes_none = refl; is_new = quiet_line run (Some c) step.NoPart tt tt tt tt h tt tt }
-refuses run c step.NoSession q h = record { changes_none = refl; is_new = quiet_line run (Some c) step.NoSession tt tt tt tt h tt tt }
-refuses run c step.HasSession q h = record { changes_none = refl; is_new = quiet_line run (Some c) step.HasSession tt tt tt tt h tt tt }
-refuses run c step.NoTxn q h = record { changes_none = refl; is_new = quiet_line run (Some c) step.NoTxn tt tt tt tt h tt tt }
-refuses run c step.HasTxn q h = record { changes_none = refl; is_new = quiet_line run (Some c) step.HasTxn tt tt tt tt h tt tt }
-refuses run c step.BadOp q h = record { changes_none = refl; is_new = quiet_line run (Some c) step.BadOp tt tt tt tt h tt tt }
-refuses run c step.LimitSessions q h = record { changes_none = refl; is_new = quiet_line run (Some c) step.LimitSessions tt tt tt tt h tt tt }
-refuses run c step.LimitUpdates q h = record { changes_none = refl; is_new = quiet_line run (Some c) step.LimitUpdates tt tt tt tt h tt tt }
-refuses run c step.TimeEnd q h = record { changes_none = refl; is_new = quiet_line run (Some c) step.TimeEnd tt tt tt tt h tt tt }
-refuses run c step.Unbuilt q h = record { changes_none = refl; is_new = quiet_line run (Some c) step.Unbuilt tt tt tt tt h tt tt }
-refuses run c s q h = off q
+refuses : (run : Run) (c : Command) (s : Step) → is_quiet s ≡ true → HasCause kinds.has run (Some c) s → IsRefusal run c s
+refuses run c s q h = record { changes_none = q; cause = h }
 
 -- each row has its cause
 module _ (run : Run) where
@@ -202,7 +108,7 @@ module _ (run : Run) where
               λ t. (
                 λ h. refuses run c step.BadOp refl (not_true (fits o.kind op.path op.act) h),
                 λ f.
-                    (λ h. refuses run c step.LimitUpdates refl (eqb-true (changes_of run (transaction run name)) 256 h), λ z. tt),
+                    (λ h. refuses run c step.LimitUpdates refl (eqb-true (updates_of run (transaction run name)) 256 h), λ z. tt),
               ),
             ),
           ),
@@ -231,10 +137,7 @@ pub record Goes (run : Run) (number : ℕ) (c : Command) (steps : List Step) (ne
   pub after : Describes new (answered number (Some c) steps run)
 
 pub unread : (m : State) (run : Run) (number : ℕ) → Describes m run → Describes m (answered number None (step.Bad ∷ []) run)
-unread m run number d = quiet m run number None step.Bad refl d (quiet_line run None step.Bad tt tt tt tt refl tt tt)
-
-pub none_due : (r : Bool × Step) (rows : List (Bool × Step)) → first_due (r ∷ rows) ≡ None → (r.0 ≡ false) × (first_due rows ≡ None)
-none_due r rows h = elim r.0 as (λ b. (if b then Some r.1 else first_due rows) ≡ None → (b ≡ false) × (first_due rows ≡ None)) [ true ↦ λ q. cc | false ↦ λ q. (refl, q) ] h
+unread m run number d = quiet m run number None step.Bad refl d refl
 
 idle_is : (o : Option (Option Open)) → is_some o ≡ true → is_open_in o ≡ false → o ≡ Some None
 idle_is None h k = off h
@@ -244,35 +147,6 @@ idle_is (Some (Some t)) h k = absurd (true≢false k)
 gone_is : (o : Option (Option Open)) → is_some o ≡ false → o ≡ None
 gone_is None h = refl
 gone_is (Some t) h = absurd (true≢false h)
-
--- exactly an assign to a register that the last writer wins has a stamp
-some_if : (b : Bool) (n : ℕ) → is_some (if b then Some n else None) ≡ b
-some_if true n = refl
-some_if false n = refl
-
-none_kind : (b : Bool) → (b && false) ≡ false
-none_kind true = refl
-none_kind false = refl
-
-assigned : (a : Act) → (is_assign a && true) ≡ is_stamped kind.RegisterLww a
-assigned (act.Assign text) = refl
-assigned a = refl
-
-stamped_is : (k : Kind) (a : Act) → (is_assign a && same_kind k kind.RegisterLww) ≡ is_stamped k a
-stamped_is kind.CounterPn a = none_kind (is_assign a)
-stamped_is kind.CounterFat a = none_kind (is_assign a)
-stamped_is kind.SetGo a = none_kind (is_assign a)
-stamped_is kind.SetAw a = none_kind (is_assign a)
-stamped_is kind.SetRw a = none_kind (is_assign a)
-stamped_is kind.FlagEw a = none_kind (is_assign a)
-stamped_is kind.FlagDw a = none_kind (is_assign a)
-stamped_is kind.RegisterLww a = assigned a
-stamped_is kind.RegisterMv a = none_kind (is_assign a)
-stamped_is kind.MapGo a = none_kind (is_assign a)
-stamped_is kind.MapRr a = none_kind (is_assign a)
-
-due_stamped : (k : Kind) (us : List Update) (u : Update) (stamp : Option ℕ) → stamp ≡ stamp_due k us u → is_some stamp ≡ is_stamped (kind_at k u.path) u.act
-due_stamped k us u stamp e = ap is_some e ∙ (some_if (is_assign u.act && same_kind (kind_at k u.path) kind.RegisterLww) (min last_stamp (above_all u.now (assigns_seen u us))) ∙ stamped_is (kind_at k u.path) u.act)
 
 numbers_one : (a b : ℕ) → (a == 1 && b == 1) ≡ true → (a ≡ 1) × (b ≡ 1)
 numbers_one a b h = let two = and_parts (a == 1) (b == 1) h in (eqb-true a 1 two.0, eqb-true b 1 two.1)
@@ -285,24 +159,24 @@ module _ (m : State) (run : Run) (number : ℕ) (d : Describes m run) where
   replies : (c : Command) (steps : List Step) → refusal kinds.has run c ≡ None → Replies run c steps → IsAnswer kinds.has run c steps
   replies c steps h r = subst (AnswersBy run c steps) (sym h) r
 
-  commit_goes : (name : List ℕ) (t : Open) → m.made ≡ true → m.session name ≡ Some (Some t) → refusal kinds.has run (command.Commit name None) ≡ None → (cs : List state.Change) → cs ≡ t.changes → (steps : List Step) (new : State) → DoesCommit m name t cs steps new → Goes run number (command.Commit name None) steps new
+  commit_goes : (name : List ℕ) (t : Open) → m.made ≡ true → m.session name ≡ Some (Some t) → refusal kinds.has run (command.Commit name None) ≡ None → (cs : List Change) → cs ≡ t.changes → (steps : List Step) (new : State) → DoesCommit m name t cs steps new → Goes run number (command.Commit name None) steps new
   commit_goes name t made is_now_open none [] e steps new h =
       let cur = d.current name t is_now_open in
-      let nobody : participants run (transaction_at t.time) ≡ [] = participants_one run t.time (d.parts made) ∙ ap (λ b. if b then one ∷ [] else []) (any_objects (changes run (transaction_at t.time)) t.changes cur.objects ∙ ap is_change (sym e)) in
+      let nobody : participants run (transaction_at t.time) ≡ [] = participants_one run t.time (d.parts made) ∙ ap (λ b. if b then one ∷ [] else []) (any_objects (objects_of run (transaction_at t.time)) t.changes cur.objects ∙ ap is_change (sym e)) in
       goes_as (command.Commit name None) steps (step.Ended name ∷ []) new (ended m name) h.0 h.1 (record {
         answer = replies (command.Commit name None) (step.Ended name ∷ []) none (subst (λ u. Commits run name u (step.Ended name ∷ [])) (sym cur.named) (subst (λ ps. CommitsAt name (transaction_at t.time) ps (step.Ended name ∷ [])) (sym nobody) refl));
-        after = ended_line m run number (Some (command.Commit name None)) name (Some t) is_now_open d;
+        after = ended_line m run number (Some (command.Commit name None)) name d (Some t) is_now_open;
       })
   commit_goes name t made is_now_open none (a ∷ cs) e steps new h =
       let cur = d.current name t is_now_open in
       let x = transaction_at t.time in
       let n = m.now + 1 in
       let some : is_change t.changes ≡ true = ap is_change (sym e) in
-      let voter : participants run x ≡ one ∷ [] = participants_one run t.time (d.parts made) ∙ ap (λ b. if b then one ∷ [] else []) (any_objects (changes run x) t.changes cur.objects ∙ some) in
+      let voter : participants run x ≡ one ∷ [] = participants_one run t.time (d.parts made) ∙ ap (λ b. if b then one ∷ [] else []) (any_objects (objects_of run x) t.changes cur.objects ∙ some) in
       let lines = step.Prepared one x n ∷ step.Decided one x (n ∷ []) ∷ step.Ended name ∷ [] in
       goes_as (command.Commit name None) steps lines new (committed m name t) h.0 h.1 (record {
         answer = replies (command.Commit name None) lines none (subst (λ u. Commits run name u lines) (sym cur.named) (subst (λ ps. CommitsAt name x ps lines) (sym voter) (step.Prepared one x n ∷ [], n ∷ [], (n, [], refl, refl), refl)));
-        after = commit_lines m run number (Some (command.Commit name None)) name t made is_now_open some d;
+        after = commit_lines m run number (Some (command.Commit name None)) name d t is_now_open n refl (n ∷ []);
       })
 
   does_goes : (c : Command) (steps : List Step) (new : State) → is_built kinds.has c ≡ true → refusal kinds.has run c ≡ None → first_due (dues m c) ≡ None → Does m c steps new → Goes run number c steps new
@@ -328,7 +202,7 @@ module _ (m : State) (run : Run) (number : ℕ) (d : Describes m run) where
       let here : site ≡ 1 = eqb-true site 1 (not_false _ second.0) in
       goes_as (command.Session name site) steps (step.MadeSession name site ∷ []) new (made_session m name) h.0 h.1 (record {
         answer = replies (command.Session name site) (step.MadeSession name site ∷ []) none refl;
-        after = subst (λ k. Describes (made_session m name) (line number (Some (command.Session name site)) (step.MadeSession name k) ∷ run)) (sym here) (session_line m run number (Some (command.Session name site)) name (not_false _ first.0) (gone_is (m.session name) third.0) d);
+        after = subst (λ k. Describes (made_session m name) (line number (Some (command.Session name site)) (step.MadeSession name k) ∷ run)) (sym here) (session_line m run number (Some (command.Session name site)) name d (gone_is (m.session name) third.0));
       })
   does_goes (command.Begin name None) steps new b none due h =
       let limit : List (Bool × Step) = (m.now == last_time, step.TimeEnd) ∷ [] in
@@ -338,14 +212,14 @@ module _ (m : State) (run : Run) (number : ℕ) (d : Describes m run) where
       let idle = idle_is (m.session name) (not_false _ second.0) third.0 in
       goes_as (command.Begin name None) steps (step.Began name (transaction_at (m.now + 1)) ((m.now + 1) ∷ []) ∷ []) new (began m name) h.0 h.1 (record {
         answer = replies (command.Begin name None) (step.Began name (transaction_at (m.now + 1)) ((m.now + 1) ∷ []) ∷ []) none (transaction_at (m.now + 1), (m.now + 1) ∷ [], sym (home_is m run d name None idle), refl);
-        after = begin_line m run number (Some (command.Begin name None)) name (not_false _ first.0) idle d;
+        after = begin_line m run number (Some (command.Begin name None)) name d idle;
       })
   does_goes (command.Begin name (Some p)) steps new b none due h = off b
   does_goes (command.Read name o) steps new b none due h =
       let v = kinds.value_of (state_read m o h.0) in
       goes_as (command.Read name o) steps (step.Value name o v ∷ []) new m h.2 h.3 (record {
         answer = replies (command.Read name o) (step.Value name o v ∷ []) none (v, refl);
-        after = value_line m run number (Some (command.Read name o)) name o h.0 b h.1 d;
+        after = quiet m run number (Some (command.Read name o)) (step.Value name o v) refl d tt;
       })
   does_goes (command.Update name o op) steps new b none due h =
       let limit : List (Bool × Step) = (length (changes_in (m.session name)) == 256, step.LimitUpdates) ∷ [] in
@@ -354,13 +228,11 @@ module _ (m : State) (run : Run) (number : ℕ) (d : Describes m run) where
       let second = none_due (lacks_session m name) (lacks_transaction m name ∷ op_row ∷ limit) first.1 in
       let third = none_due (lacks_transaction m name) (op_row ∷ limit) second.1 in
       let fit = not_false (fits o.kind op.path op.act) (none_due op_row limit third.1).0 in
-      let made = not_false m.made first.0 in
       let effect = effect_of m o op h.0 in
       let stamp = kinds.stamp_of effect in
-      let due_now = stamp_is_due m run name o op h.0 made b fit h.1 d in
       goes_as (command.Update name o op) steps (step.Updated name o stamp ∷ []) new (updated m name h.0 (o, effect)) h.2 h.3 (record {
-        answer = replies (command.Update name o op) (step.Updated name o stamp ∷ []) none (stamp, due_stamped o.kind _ (update_of run (transaction_at h.0.time) (1 + length (changes run (transaction_at h.0.time))) (change_in run h.0.time o op stamp)) stamp due_now, refl);
-        after = update_line m run number name o op h.0 made b fit h.1 d;
+        answer = replies (command.Update name o op) (step.Updated name o stamp ∷ []) none (stamp, stamped o.kind (state_read m o h.0) op.path op.act m.now fit, refl);
+        after = update_line m run number (Some (command.Update name o op)) name d h.0 h.1 o effect stamp;
       })
   does_goes (command.Commit name None) steps new b none due h =
       let first = none_due (lacks_cluster m) (lacks_session m name ∷ lacks_transaction m name ∷ (is_change (changes_in (m.session name)) && m.now == last_time, step.TimeEnd) ∷ []) due in
@@ -373,7 +245,7 @@ module _ (m : State) (run : Run) (number : ℕ) (d : Describes m run) where
       let is = owed (IsRefusal run c) (unbuilt kinds.has c ∷ refusals run c) (rows_owed run c) r e in
       goes_as c steps (r ∷ []) new m s n (record {
         answer = subst (AnswersBy run c (r ∷ [])) (sym e) refl;
-        after = quiet m run number (Some c) r is.changes_none d is.is_new;
+        after = quiet m run number (Some c) r is.changes_none d is.cause;
       })
 
   -- the same is due where the command is built, and else that it isn't
@@ -394,20 +266,6 @@ module _ (m : State) (run : Run) (number : ℕ) (d : Describes m run) where
   pub acts_goes : (c : Command) (steps : List Step) (new : State) → Acts m c steps new → Goes run number c steps new
   acts_goes c steps new a = by_due c steps new (first_due ((not (is_built kinds.has c), step.Unbuilt) ∷ dues m c)) refl a
 
--- such a run is lawful
-pub lawful : (m : State) (run : Run) → Describes m run → IsLawful kinds.has kinds.meaning run
-lawful m run d = record {
-  clock = d.laws.clock;
-  fresh = d.laws.fresh;
-  past = d.laws.past;
-  right = d.laws.right;
-  stamps = d.laws.stamps;
-  commit = d.laws.commit;
-  causes = d.laws.causes;
-  order = is_strict run d.are_later;
-  closed = λ t b. visible_closed run d.are_later (snapshot run t);
-}
-
 -- before any line
 pub begins_empty : Describes start []
 begins_empty = record {
@@ -419,13 +277,8 @@ begins_empty = record {
   there = λ who. refl;
   open_is = λ who. refl;
   current = λ who t h. cc;
+  passed = λ who t h. cc;
   apart = λ who other t u n p q. cc;
-  depends = λ who. refl;
-  ids = λ t b. off b;
-  are_begun = λ t h. off h;
-  are_later = record { above = λ t h. off h; strictly = λ t h. off h };
-  stores = record { told = λ o. told_none kinds o.kind; timed = λ o. tt };
-  reads = λ who t h. cc;
-  unbegun = λ t h. (refl, refl);
-  laws = record { clock = tt; fresh = tt; past = tt; right = tt; stamps = tt; commit = tt; causes = tt };
+  unbegun = λ n h. refl;
+  causes = tt;
 }

@@ -20,13 +20,16 @@ use Rattle.world_model.specs.Lines.{session_after}
 use Rattle.world_model.specs.World.{is_begin, is_own, changes_of, lead_of, snapshot_of, plan_of}
 use Rattle.dc_engine.specs.State.{one, transaction_at}
 use Rattle.dc_engine.specs.OneWorld.{HeldPart, is_held, IsLog, IsOpen, IsWorld}
-use Rattle.dc_engine.proofs.CommitLines.{max_zero}
 use Rattle.dc_engine.proofs.OneLog.{leased, grown_more, waiting, decided_log}
-use Rattle.dc_engine.proofs.WorldSteps.{at_one, put, tx_apart, past_more, past_if, past_join, either_false, Leaves, has_stays, Unbegun, open_stays, open_held, IsStep, grows}
+use Rattle.dc_engine.proofs.NewLine.{tx_apart}
+use Rattle.dc_engine.proofs.WorldSteps.{at_one, put, past_more, past_if, past_join, either_false, Leaves, has_stays, Unbegun, open_stays, open_held, IsStep, grows}
 
 no_updates : (E : Type 0) (b : Bool) → is_some_update (cond {A = List (Upd E)} b [] []) ≡ false
 no_updates E true = refl
 no_updates E false = refl
+
+max_zero : (n k : ℕ) → k ≡ 0 → max n k ≡ n
+max_zero n k h = omega arith
 
 module _ {E : Type 0} where
   -- the one partition leads

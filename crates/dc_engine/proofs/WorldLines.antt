@@ -1,5 +1,6 @@
 -- What the machine answers is answered by a world.
 use Rattle.std.proofs.Common.{◌≡◌, ℕ, ◌+◌, ◌<◌, ◌≤◌, max, true, false, not, ◌&&◌, List, [], ◌∷◌, ◌++◌, length, Option, None, Some, refl, sym, ap, ◌∙◌, subst}
+use Rattle.std.specs.Prelude.{if◌then◌else◌}
 use Rattle.std.specs.Str.{bytes_eq}
 use Rattle.site_vector.specs.declared.ids.PartId.{PartId}
 use Rattle.site_vector.specs.declared.ids.TxId.{TxId}
@@ -26,9 +27,9 @@ use Rattle.dc_engine.specs.ObjectKinds.{Effect, ObjectState, kinds}
 use Rattle.dc_engine.specs.State as state
 use Rattle.dc_engine.specs.State.{State, Open, one, transaction_at, is_change, with_session, ticked, made_session, began, updated, ended, committed, state_read, effect_of, stored_on}
 use Rattle.dc_engine.specs.Describes.{Describes}
-use Rattle.dc_engine.proofs.NewLine.{line}
-use Rattle.dc_engine.proofs.StepLines.{with_cases, same_name}
-use Rattle.dc_engine.specs.Calls.{call_for, call_of, line_if, calls_of}
+use Rattle.dc_engine.proofs.NewLine.{line, with_cases, same_name}
+use Rattle.dc_engine.proofs.StepLines.{were_open as idle_before}
+use Rattle.dc_engine.specs.Calls.{is_answer, call_for, call_of, calls_of}
 use Rattle.dc_engine.specs.InWorld.{numbered, stored_by, InWorld}
 use Rattle.dc_engine.specs.OneWorld.{IsOpen}
 use Rattle.dc_engine.proofs.WorldCommit.{world2, parts2, held2, world_committed, committed_others}
@@ -44,24 +45,21 @@ module _ (m : State) (run : Run) (number : ℕ) (d : Describes m run) (j : InWor
   abbrev shown : Call → Step → world.Line
   shown call s = record { at = one; call = call; step = s }
 
-  passed : (who : List ℕ) (t : Open) → m.session who ≡ Some (Some t) → t.time ≤ m.now
-  passed who t h = (d.ids (transaction_at t.time) (d.current who t h).begun).passed
-
-  -- with one session that has none open, those that are open were so before
   were_open : (name who : List ℕ) (t : Open) → with_session m name None who ≡ Some (Some t) → m.session who ≡ Some (Some t)
-  were_open name who t h = with_cases m name who None (λ b s. s ≡ Some (Some t) → m.session who ≡ Some (Some t)) (λ k x. cc) (λ k x. x) h
+  were_open name who t h = idle_before m run number None name d who t h
 
-  lines_more : (asked : Option Command) (s : Step) (call : Call) (l : world.Line) → call_of run asked s ≡ Some call → l ≡ shown call s → l ∷ lines_of j.world ≡ calls_of (line number asked s ∷ run)
-  lines_more asked s call l h e = (λ i. e i ∷ j.lines i) ∙ ap (λ c. line_if c s (calls_of run)) (sym h)
+  lines_more : (asked : Option Command) (s : Step) (call : Call) (l : world.Line) → is_answer s ≡ true → call_of run asked s ≡ call → l ≡ shown call s → l ∷ lines_of j.world ≡ calls_of (line number asked s ∷ run)
+  lines_more asked s call l a h e =
+      (λ i. e i ∷ j.lines i) ∙ (ap (λ c. shown c s ∷ calls_of run) (sym h) ∙ ap (λ b. if b then shown (call_of run asked s) s ∷ calls_of run else calls_of run) (sym a))
 
-  -- a line that answers no call
-  pub silent_line : (asked : Option Command) (s : Step) → call_of run asked s ≡ None → InWorld m (line number asked s ∷ run)
+  -- a line that no partition answered
+  pub silent_line : (asked : Option Command) (s : Step) → is_answer s ≡ false → InWorld m (line number asked s ∷ run)
   silent_line asked s h = record {
     world = j.world;
     parts = j.parts;
     held = j.held;
     is_world = j.is_world;
-    lines = j.lines ∙ ap (λ c. line_if c s (calls_of run)) (sym h);
+    lines = j.lines ∙ ap (λ b. if b then shown (call_of run asked s) s ∷ calls_of run else calls_of run) (sym h);
     stored = j.stored;
     current = j.current;
   }
@@ -84,7 +82,7 @@ module _ (m : State) (run : Run) (number : ℕ) (d : Describes m run) (j : InWor
         parts = put j.parts (done (j.parts one) e);
         held = j.held;
         is_world = world_ticked kinds j.world j.parts j.held m.now j.is_world n h;
-        lines = lines_more (Some (command.Clock one n)) (step.Ticked one (max n m.now)) (Tick n) (shown (Tick n) (step.Ticked one (max n m.now))) refl refl;
+        lines = lines_more (Some (command.Clock one n)) (step.Ticked one (max n m.now)) (Tick n) (shown (Tick n) (step.Ticked one (max n m.now))) refl refl refl;
         stored = j.stored;
         current = λ who t k. open_stays j.world e j.held who t.time (numbered 1 t.changes) (record { change = refl; prepare = refl; tries = refl; decides = refl }) (record { session = λ old. refl; begin = refl }) (j.current who t k);
       }
@@ -96,7 +94,7 @@ module _ (m : State) (run : Run) (number : ℕ) (d : Describes m run) (j : InWor
         parts = put j.parts (j.parts one);
         held = j.held;
         is_world = world_opened kinds j.world j.parts j.held m.now j.is_world name;
-        lines = lines_more (Some (command.Session name 1)) (step.MadeSession name 1) world.Open (shown world.Open (step.MadeSession name 1)) refl refl;
+        lines = lines_more (Some (command.Session name 1)) (step.MadeSession name 1) world.Open (shown world.Open (step.MadeSession name 1)) refl refl refl;
         stored = j.stored;
         current = λ who t k. open_stays j.world e j.held who t.time (numbered 1 t.changes) (record { change = refl; prepare = refl; tries = refl; decides = refl }) (record { session = λ old. refl; begin = refl }) (j.current who t (were_open name who t k));
       }
@@ -110,32 +108,32 @@ module _ (m : State) (run : Run) (number : ℕ) (d : Describes m run) (j : InWor
         parts = put j.parts (done (j.parts one) e);
         held = j.held;
         is_world = world_began kinds j.world j.parts j.held m.now j.is_world name h;
-        lines = lines_more (Some (command.Begin name None)) s (Begin name) (shown (Begin name) s) refl refl;
+        lines = lines_more (Some (command.Begin name None)) s (Begin name) (shown (Begin name) s) refl refl refl;
         stored = j.stored;
         current = λ who t k. with_cases m name who (Some new) (λ b x. bytes_eq name who ≡ b → x ≡ Some (Some t) → IsOpen (at_one e ∷ j.world) j.held who t.time (numbered 1 t.changes))
             (λ b c q.
             let same : new ≡ t = cc in
             subst (λ (u : Open). IsOpen (at_one e ∷ j.world) j.held who u.time (numbered 1 u.changes)) same
             (subst (λ w. IsOpen (at_one e ∷ j.world) j.held w (m.now + 1) []) (same_name name who b) (began_open kinds j.world j.parts j.held m.now j.is_world name)))
-            (λ b c q. began_others kinds j.world j.parts j.held m.now j.is_world name who t.time (numbered 1 t.changes) (passed who t q) (j.current who t q)) refl k;
+            (λ b c q. began_others kinds j.world j.parts j.held m.now j.is_world name who t.time (numbered 1 t.changes) (d.passed who t q) (j.current who t q)) refl k;
       }
 
-  refused_here : (asked : Option Command) (s : Step) (call : Call) (ask : event.Ask Effect) (why : event.Refusal) → call_of run asked s ≡ Some call → shown (world.call_asked ask) (world.refusal_shown j.world one ask why) ≡ shown call s
+  refused_here : (asked : Option Command) (s : Step) (call : Call) (ask : event.Ask Effect) (why : event.Refusal) → is_answer s ≡ true → call_of run asked s ≡ call → shown (world.call_asked ask) (world.refusal_shown j.world one ask why) ≡ shown call s
       → MayAsk (plan_of 1 1 (at_one (Refused ask why) ∷ j.world)) j.world one ask → IsRefused kinds 1 1 one (j.parts one) ask why → InWorld m (line number asked s ∷ run)
-  refused_here asked s call ask why c e may is =
+  refused_here asked s call ask why a c e may is =
       let e1 : Event Effect = Refused ask why in record {
         world = at_one e1 ∷ j.world;
         parts = put j.parts (j.parts one);
         held = j.held;
         is_world = world_refused kinds j.world j.parts j.held m.now j.is_world ask why may is;
-        lines = lines_more asked s call (shown (world.call_asked ask) (world.refusal_shown j.world one ask why)) c e;
+        lines = lines_more asked s call (shown (world.call_asked ask) (world.refusal_shown j.world one ask why)) a c e;
         stored = j.stored;
         current = λ who t k. open_stays j.world e1 j.held who t.time (numbered 1 t.changes) (record { change = refl; prepare = refl; tries = refl; decides = refl }) (record { session = λ old. refl; begin = refl }) (j.current who t k);
       }
 
   -- the clock has come to its end
   pub begin_refused : (name : List ℕ) (part : Option PartId) → m.now ≡ end_of_time → InWorld m (line number (Some (command.Begin name part)) step.TimeEnd ∷ run)
-  begin_refused name part h = refused_here (Some (command.Begin name part)) step.TimeEnd (Begin name) (AskBegin name (dependency 1 j.world name)) ClockAtEnd refl refl refl (j.is_world.up, (λ i o. no_other i o, j.is_world.clock ∙ h))
+  begin_refused name part h = refused_here (Some (command.Begin name part)) step.TimeEnd (Begin name) (AskBegin name (dependency 1 j.world name)) ClockAtEnd refl refl refl refl (j.is_world.up, (λ i o. no_other i o, j.is_world.clock ∙ h))
 
   module _ (name : List ℕ) (t : Open) (is_now_open : m.session name ≡ Some (Some t)) where
     abbrev x : TxId
@@ -148,9 +146,9 @@ module _ (m : State) (run : Run) (number : ℕ) (d : Describes m run) (j : InWor
     opened = j.current name t is_now_open
 
     early_enough : t.time ≤ m.now
-    early_enough = passed name t is_now_open
+    early_enough = d.passed name t is_now_open
 
-    call_is : (f : TxId → Call) → call_for (transaction run name) f ≡ Some (f x)
+    call_is : (f : TxId → Call) → call_for (transaction run name) f ≡ f x
     call_is f = ap (λ u. call_for u f) (d.current name t is_now_open).named
 
     asks : IsSession j.world one x (t.time ∷ [])
@@ -158,12 +156,12 @@ module _ (m : State) (run : Run) (number : ℕ) (d : Describes m run) (j : InWor
 
     pub prepare_refused : (k : Option ℕ) → m.now ≡ end_of_time → InWorld m (line number (Some (command.Commit name k)) step.TimeEnd ∷ run)
     prepare_refused k h =
-        refused_here (Some (command.Commit name k)) step.TimeEnd (PrepareOf x) (AskPrepare x (t.time ∷ []) 1 us) ClockAtEnd (call_is PrepareOf) refl asks
+        refused_here (Some (command.Commit name k)) step.TimeEnd (PrepareOf x) (AskPrepare x (t.time ∷ []) 1 us) ClockAtEnd refl (call_is PrepareOf) refl asks
         (j.is_world.up, (subst (λ n. t.time ≤ n) (sym j.is_world.clock) early_enough, j.is_world.clock ∙ h))
 
     pub update_refused : (o : ObjectId) (op : Op) → fits o.kind op.path op.act ≡ false → InWorld m (line number (Some (command.Update name o op)) step.BadOp ∷ run)
     update_refused o op h =
-        refused_here (Some (command.Update name o op)) step.BadOp (UpdateOf x o op) (AskUpdate x (t.time ∷ []) o [] op) IsBadOp (call_is (λ u. UpdateOf u o op)) refl asks
+        refused_here (Some (command.Update name o op)) step.BadOp (UpdateOf x o op) (AskUpdate x (t.time ∷ []) o [] op) IsBadOp refl (call_is (λ u. UpdateOf u o op)) refl asks
         (j.is_world.up, ap (λ b. b && not (kinds.too_deep o.kind op.path)) h)
 
     abbrev found_here : (o : ObjectId) → ObjectState
@@ -180,7 +178,7 @@ module _ (m : State) (run : Run) (number : ℕ) (d : Describes m run) (j : InWor
           parts = put j.parts (done (j.parts one) e);
           held = j.held;
           is_world = world_read kinds j.world j.parts j.held m.now j.is_world name t.time us early_enough opened o h;
-          lines = lines_more (Some (command.Read name o)) s (ReadOf x o) (shown (ReadOf x o) (world.step_shown j.world one e)) (call_is (λ u. ReadOf u o)) (λ i. shown (ReadOf x o) (step.Value (opened.session i) o (kinds.value_of (same_state o i))));
+          lines = lines_more (Some (command.Read name o)) s (ReadOf x o) (shown (ReadOf x o) (world.step_shown j.world one e)) refl (call_is (λ u. ReadOf u o)) (λ i. shown (ReadOf x o) (step.Value (opened.session i) o (kinds.value_of (same_state o i))));
           stored = j.stored;
           current = λ who u k. read_others kinds j.world j.parts j.held m.now j.is_world name t.time us early_enough opened o who u.time (numbered 1 u.changes) (j.current who u k);
         }
@@ -199,7 +197,7 @@ module _ (m : State) (run : Run) (number : ℕ) (d : Describes m run) (j : InWor
           parts = put j.parts (done (j.parts one) e);
           held = j.held;
           is_world = world_updated kinds j.world j.parts j.held m.now j.is_world name t.time us early_enough opened o op h f;
-          lines = lines_more (Some (command.Update name o op)) s (UpdateOf x o op) (shown (UpdateOf x o op) (world.step_shown j.world one e)) (call_is (λ u. UpdateOf u o op))
+          lines = lines_more (Some (command.Update name o op)) s (UpdateOf x o op) (shown (UpdateOf x o op) (world.step_shown j.world one e)) refl (call_is (λ u. UpdateOf u o op))
               (λ i. shown (UpdateOf x o op) (step.Updated (opened.session i) o (kinds.stamp_of (kinds.made o.kind (same_state o i) op.path op.act m.now))));
           stored = j.stored;
           current = λ who u k. with_cases m name who (Some new) (λ b y. bytes_eq name who ≡ b → y ≡ Some (Some u) → IsOpen (at_one e ∷ j.world) j.held who u.time (numbered 1 u.changes))
@@ -216,13 +214,15 @@ module _ (m : State) (run : Run) (number : ℕ) (d : Describes m run) (j : InWor
     world_commit k early some =
         let any : is_some_update us ≡ true = any_numbered t.changes ∙ some in
         let s = step.Prepared one x (m.now + 1) in
+        let made = step.Decided one x ((m.now + 1) ∷ []) in
         let next = world2 kinds j.world j.parts j.held m.now j.is_world name t.time us early_enough early any opened in
         let more = held2 kinds j.world j.parts j.held m.now j.is_world name t.time us early_enough early any opened in record {
           world = next;
           parts = parts2 kinds j.world j.parts j.held m.now j.is_world name t.time us early_enough early any opened;
           held = more;
           is_world = world_committed kinds j.world j.parts j.held m.now j.is_world name t.time us early_enough early any opened;
-          lines = ap (λ l. shown (DecideOf x) (step.Decided one x ((m.now + 1) ∷ [])) ∷ l) (lines_more (Some (command.Commit name k)) s (PrepareOf x) (shown (PrepareOf x) s) (call_is PrepareOf) refl);
+          lines = ap (λ l. shown (DecideOf x) made ∷ l) (lines_more (Some (command.Commit name k)) s (PrepareOf x) (shown (PrepareOf x) s) refl (call_is PrepareOf) refl)
+              ∙ ap (λ c. shown c made ∷ calls_of (line number (Some (command.Commit name k)) s ∷ run)) (sym (call_is DecideOf));
           stored = λ o. ap (λ l. stored_on (m.now + 1) o x 1 l t.changes) (j.stored o) ∙ sym (stored_numbered (m.now + 1) o x 1 (stored_by o j.held) t.changes);
           current = λ who u h. with_cases m name who None (λ b y. bytes_eq name who ≡ b → y ≡ Some (Some u) → IsOpen next more who u.time (numbered 1 u.changes))
               (λ b c q. cc)

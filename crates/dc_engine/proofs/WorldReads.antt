@@ -20,7 +20,8 @@ use Rattle.dc_engine.specs.State.{one, transaction_at}
 use Rattle.dc_engine.proofs.DueRows.{placed_one}
 use Rattle.dc_engine.specs.OneWorld.{HeldPart, is_held, IsOpen, IsWorld}
 use Rattle.dc_engine.proofs.HeldParts.{picks, picked, picked_order, picked_members, picked_exact}
-use Rattle.dc_engine.proofs.WorldSteps.{at_one, put, tx_apart, or_both, open_stays, world_more}
+use Rattle.dc_engine.proofs.NewLine.{tx_apart}
+use Rattle.dc_engine.proofs.WorldSteps.{at_one, put, or_both, open_stays, world_more}
 
 or_none : (b : Bool) → (b || false) ≡ b
 or_none true = refl

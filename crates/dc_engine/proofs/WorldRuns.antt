@@ -20,8 +20,8 @@ use Rattle.dc_engine.specs.Reading.{ReadsBelow}
 use Rattle.dc_engine.specs.State as state
 use Rattle.dc_engine.specs.State.{State, Open, one, transaction_at, is_open_in, changes_in, is_change, made_cluster, ticked, made_session, began, updated, ended, committed, state_read, effect_of, lacks_cluster, lacks_session, lacks_transaction, dues, Acts, ActsBy, Does, DoesCommit, start}
 use Rattle.dc_engine.specs.Describes.{Describes}
-use Rattle.dc_engine.proofs.NewLine.{line, off}
-use Rattle.dc_engine.proofs.RunLines.{Owe, owed, not_false, not_true, none_due}
+use Rattle.dc_engine.proofs.NewLine.{line, off, not_false, not_true}
+use Rattle.dc_engine.proofs.Rows.{Owe, owed, none_due}
 use Rattle.dc_engine.specs.Calls.{calls_of}
 use Rattle.dc_engine.specs.InWorld.{InWorld}
 use Rattle.dc_engine.proofs.WorldLines.{silent_line, world_ended, world_clock, world_session, world_begin, begin_refused, prepare_refused, update_refused, world_value, world_update, world_commit}

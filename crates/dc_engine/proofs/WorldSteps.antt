@@ -1,12 +1,12 @@
 -- A world of one partition, step by step.
-use Rattle.std.proofs.Common.{arith, ◌≡◌, ◌≢◌, inl, inr, ℕ, ◌+◌, ◌<◌, ◌≤◌, max, Bool, true, false, cond, ◌&&◌, ◌||◌, List, [], ◌∷◌, ◌++◌, length, refl, sym, ap, ◌∙◌, subst, lit≤}
+use Rattle.std.proofs.Common.{arith, ◌≡◌, inl, inr, ℕ, ◌+◌, ◌<◌, ◌≤◌, max, Bool, true, false, cond, ◌&&◌, ◌||◌, List, [], ◌∷◌, ◌++◌, length, refl, sym, ap, ◌∙◌, subst, lit≤}
 use Rattle.std.specs.Prelude.{if◌then◌else◌}
 use Rattle.std.specs.Str.{bytes_eq}
 use Rattle.std.proofs.lemmas.List.{append-nil}
 use Rattle.site_vector.specs.declared.ids.PartId.{PartId}
 use Rattle.site_vector.specs.declared.ids.TxId.{TxId}
-use Rattle.site_vector.specs.Ids.{same_part, same_tx}
-use Rattle.site_vector.specs.Order.{same_tx_is, same_tx_refl}
+use Rattle.site_vector.specs.Ids.{same_part}
+use Rattle.site_vector.specs.Order.{same_tx_refl}
 use Rattle.site_vector.specs.Vector.{join, entry}
 use Rattle.crdt_core.specs.declared.record.Upd.{Upd}
 use Rattle.world_model.specs.Log.{end_of_time}
@@ -21,12 +21,9 @@ use Rattle.world_model.proofs.Names.{part_other}
 use Rattle.std.proofs.lemmas.Bool.{cond-false}
 use Rattle.dc_engine.specs.State.{one, transaction_at}
 use Rattle.dc_engine.specs.OneWorld.{HeldPart, IsPast, is_held, Below, IsLog, Has, IsOpen, IsWorld}
-use Rattle.dc_engine.proofs.BeginLines.{false_if}
+use Rattle.dc_engine.proofs.NewLine.{tx_apart}
 use Rattle.dc_engine.proofs.HeldParts.{below_more}
 use Rattle.dc_engine.proofs.OneLog.{leased}
-
-pub tx_apart : (a b : ℕ) → a ≢ b → same_tx (transaction_at a) (transaction_at b) ≡ false
-tx_apart a b h = false_if (same_tx (transaction_at a) (transaction_at b)) (λ e. h (ap (λ (t : TxId). t.time) (same_tx_is (transaction_at a) (transaction_at b) e)))
 
 -- there is no other site
 pub no_other : {A : Type 0} → (j : ℕ) → IsOther 1 1 j → A

@@ -1,12 +1,12 @@
 -- What was written of the replies.
-use Rattle.std.proofs.Common.{◌≡◌, ◌≢◌, ℕ, zero, suc, ◌+◌, ◌≤◌, ◌==◌, Bool, true, false, List, [], ◌∷◌, ◌++◌, Option, Some, None, length, take, drop, refl, sym, ap, ◌∙◌, subst, arith, append_assoc}
+use Rattle.std.proofs.Common.{◌≡◌, ◌≢◌, ℕ, ◌+◌, ◌==◌, true, false, List, [], ◌∷◌, ◌++◌, Option, Some, None, length, take, drop, refl, sym, ap, ◌∙◌, subst, arith, append_assoc}
 use Rattle.std.proofs.lemmas.Bool.{eqb-true, eqb-false}
 use Rattle.std.proofs.lemmas.List.{append-nil, length-take, take-take, drop-take, take-append-drop}
 use Rattle.std.specs.Prelude.{Result, Ok, Err, OnErr}
 use Rattle.std.specs.Io.KnownBytes.{Appends}
 use Rattle.dc_engine.specs.Lines.{lines_of}
 use Rattle.dc_engine.specs.Replies.{AnswersLine}
-use Rattle.dc_engine.specs.Blocks.{Stands, At, Moves, MovesPart, AppendsPart, Writes, WritesPart, Ends, EndsPart, AnswersFirst}
+use Rattle.dc_engine.specs.Blocks.{Stands, At, Moves, MovesPart, AppendsPart, Writes, WritesPart, Ends, EndsPart}
 use Rattle.dc_engine.proofs.Standing.{stands-whole, stands-last, stands-first}
 
 take_split : (bytes : List ℕ) (k n : ℕ) → take k bytes ++ take n (drop k bytes) ≡ take (k + n) bytes

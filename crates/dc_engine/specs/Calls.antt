@@ -1,5 +1,5 @@
--- Which calls of the one partition the lines of a run answered.
-use Rattle.std.specs.Prelude.{List, [], ◌∷◌, Option, None, Some}
+-- The lines of a run that a partition answered, each with the call that its command made.
+use Rattle.std.specs.Prelude.{Bool, true, false, if◌then◌else◌, List, [], ◌∷◌, Option, None, Some}
 use Rattle.site_vector.specs.declared.ids.TxId.{TxId}
 use Rattle.world_model.specs.declared.command.Command.{Command}
 use Rattle.world_model.specs.declared.command.Command.TheVariants as command
@@ -8,46 +8,51 @@ use Rattle.world_model.specs.declared.step.Step.TheVariants as step
 use Rattle.world_model.specs.Run.{Run}
 use Rattle.world_model.specs.Sessions.{transaction}
 use Rattle.world_model.specs.Lines as world
-use Rattle.world_model.specs.Lines.{Call, Tick, Begin, ReadOf, UpdateOf, PrepareOf, DecideOf}
+use Rattle.world_model.specs.Lines.{Call, Tick, Begin, ReadOf, UpdateOf, PrepareOf, DecideOf, Crash}
 use Rattle.dc_engine.specs.State.{one}
 
--- a call for the transaction of a session, where it has begun one
-abbrev pub call_for : Option TxId → (TxId → Call) → Option Call
-call_for None call = None
-call_for (Some t) call = Some (call t)
+-- a partition answered: every line but these
+abbrev pub is_answer : Step → Bool
+is_answer step.Bad = false
+is_answer step.NoCluster = false
+is_answer step.HasCluster = false
+is_answer step.NoPart = false
+is_answer step.NoSession = false
+is_answer step.HasSession = false
+is_answer step.NoTxn = false
+is_answer step.HasTxn = false
+is_answer step.LimitSessions = false
+is_answer step.LimitUpdates = false
+is_answer step.Unbuilt = false
+is_answer (step.MadeCluster sites parts) = false
+is_answer (step.Ended name) = false
+is_answer other = true
 
--- the first call that a command makes
-abbrev pub call_by : Run → Command → Option Call
-call_by run (command.Clock p reading) = Some (Tick reading)
-call_by run (command.Session name site) = Some world.Open
-call_by run (command.Begin name part) = Some (Begin name)
-call_by run (command.Read name o) = call_for (transaction run name) (λ t. ReadOf t o)
-call_by run (command.Update name o op) = call_for (transaction run name) (λ t. UpdateOf t o op)
-call_by run (command.Commit name steps) = call_for (transaction run name) PrepareOf
-call_by run other = None
+-- a call for the transaction of a session; where it has begun none, one that no answer of a command answers
+abbrev pub call_for : Option TxId → (TxId → Call) → Call
+call_for None call = Crash
+call_for (Some t) call = call t
 
-abbrev pub call_asked : Run → Option Command → Option Call
-call_asked run None = None
-call_asked run (Some c) = call_by run c
+-- a commit asks for the vote, and then to decide
+abbrev pub commit_call : Step → TxId → Call
+commit_call (step.Decided p t c) = DecideOf
+commit_call other = PrepareOf
 
--- the call that a line answered; the other lines are no partition's
-abbrev pub call_of : Run → Option Command → Step → Option Call
-call_of run asked (step.Decided p t c) = Some (DecideOf t)
-call_of run asked (step.Ticked p n) = call_asked run asked
-call_of run asked (step.MadeSession name site) = call_asked run asked
-call_of run asked (step.Began name t s) = call_asked run asked
-call_of run asked (step.Value name o value) = call_asked run asked
-call_of run asked (step.Updated name o stamp) = call_asked run asked
-call_of run asked (step.Prepared p t n) = call_asked run asked
-call_of run asked step.BadOp = call_asked run asked
-call_of run asked step.TimeEnd = call_asked run asked
-call_of run asked other = None
+-- the call that a command made, where this line answers it
+abbrev pub call_by : Run → Command → Step → Call
+call_by run (command.Clock p reading) s = Tick reading
+call_by run (command.Session name site) s = world.Open
+call_by run (command.Begin name part) s = Begin name
+call_by run (command.Read name o) s = call_for (transaction run name) (λ t. ReadOf t o)
+call_by run (command.Update name o op) s = call_for (transaction run name) (λ t. UpdateOf t o op)
+call_by run (command.Commit name steps) s = call_for (transaction run name) (commit_call s)
+call_by run other s = Crash
 
-abbrev pub line_if : Option Call → Step → List world.Line → List world.Line
-line_if None s older = older
-line_if (Some call) s older = (record { at = one; call = call; step = s }) ∷ older
+abbrev pub call_of : Run → Option Command → Step → Call
+call_of run None s = Crash
+call_of run (Some c) s = call_by run c s
 
--- the lines that answered a call, with it
+-- the lines that a partition answered, with their calls
 abbrev pub calls_of : Run → List world.Line
 calls_of [] = []
-calls_of (e ∷ run) = line_if (call_of run e.command e.step) e.step (calls_of run)
+calls_of (e ∷ run) = if is_answer e.step then (record { at = one; call = call_of run e.command e.step; step = e.step }) ∷ calls_of run else calls_of run

@@ -7,7 +7,6 @@ pub mod Held
 pub mod InWorld
 pub mod Kept
 pub mod Lines
-pub mod Logged
 pub mod Machine
 pub mod Memory
 pub mod ObjectKinds
@@ -20,5 +19,4 @@ pub mod SessionTable
 pub mod State
 pub mod Status
 pub mod Stored
-pub mod Told
 pub mod Words

@@ -1,5 +1,5 @@
 -- What a player does with the lines of a script.
-use Rattle.std.specs.Prelude.{◌≡◌, ℕ, Bool, true, List, [], ◌∷◌}
+use Rattle.std.specs.Prelude.{◌≡◌, ℕ, true, List, [], ◌∷◌}
 use Rattle.world_model.specs.declared.step.Step.{Step}
 use Rattle.world_model.specs.declared.step.Step.TheVariants as step
 use Rattle.world_model.specs.Answers.{Asked, nothing, unreadable, asks}

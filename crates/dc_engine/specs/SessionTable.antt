@@ -1,5 +1,5 @@
 -- What is kept of the sessions.
-use Rattle.std.specs.Prelude.{ℕ, ◌++◌, List, [], ◌∷◌, Option, None, Some}
+use Rattle.std.specs.Prelude.{ℕ, List, Option}
 use Rattle.std.specs.Map.{lookup}
 use Rattle.std.specs.Str.{bytes_eq}
 use Rattle.dc_engine.specs.declared.sessions.Change.{Change}

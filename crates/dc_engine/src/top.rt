@@ -1,7 +1,8 @@
-ghost use Rattle.std.specs.Prelude.{◌≡◌, ◌≢◌, ◌↔◌, ◌⊎◌, true, false, map};
-ghost use Rattle.dc_engine.specs.Answered.{Answered, AnsweredAll};
+ghost use Rattle.std.specs.Prelude.{◌≡◌, ◌≢◌, ◌↔◌, ◌⊎◌, false, map, if◌then◌else◌};
+ghost use Rattle.dc_engine.specs.Answered.{Answered};
 ghost use Rattle.dc_engine.specs.Causes.{Rose};
 ghost use Rattle.dc_engine.specs.Played.{Played, PlayedEnded, PlayedTooLong, PlayedPart};
+ghost use Rattle.dc_engine.specs.Reading.{has_bad};
 ghost use Rattle.dc_engine.specs.Words.{asks_play};
 
 use crate::player::Player;
@@ -12,13 +13,12 @@ use crate::status::Status;
 use crate::words::is_play;
 use std::alloc::Global;
 
-/// Plays a script from the source to the sink. The bytes written are the lines of one lawful run that answers
-/// the script's lines (Cure over Clock-SI): all of them where the script was read to its end, those whose line feed was read
-/// where the source fails or the script is too long, and else a front of such a run's lines. A script that is read to its end has
-/// the status `BAD_LINE` exactly where one of its lines isn't in the grammar.
+/// Plays a script from the source to the sink. The bytes written are the lines of one run that answers the script's lines, and
+/// what a partition answered in it is lawful (Cure over Clock-SI): all of them where the script was read to its end, those whose
+/// line feed was read where the source fails or the script is too long, and else a front of such a run's lines. A script that is
+/// read to its end has the status `BAD_LINE` exactly where one of its lines isn't in the grammar.
 pub fn play<S: Source, K: Sink>(alloc: Global, source: &mut S, sink: &mut K) -> Status
-    ensures done { result ≡ Status.DONE → Played 67108864 (AnsweredAll false) (S.left source.old) (S.left source.new) (K.held sink.old) (K.held sink.new) }
-    ensures bad_line { result ≡ Status.BAD_LINE → Played 67108864 (AnsweredAll true) (S.left source.old) (S.left source.new) (K.held sink.old) (K.held sink.new) }
+    ensures finished { (result ≡ Status.DONE) ⊎ (result ≡ Status.BAD_LINE) → Played 67108864 (λ lines bytes. Answered lines bytes × (result ≡ (if has_bad lines then Status.BAD_LINE else Status.DONE))) (S.left source.old) (S.left source.new) (K.held sink.old) (K.held sink.new) }
     ensures read_fault { result ≡ Status.READ_FAULT → PlayedEnded 67108864 Answered (S.left source.old) (S.left source.new) (K.held sink.old) (K.held sink.new) }
     ensures read_cause { result ≡ Status.READ_FAULT → Rose (S.faults source.old) (S.faults source.new) }
     ensures write_fault { result ≡ Status.WRITE_FAULT → PlayedPart Answered (S.left source.old) (K.held sink.old) (K.held sink.new) }
@@ -44,8 +44,7 @@ pub fn run<S: Source, K: Sink>(
     ensures read_nothing { result ≡ Status.USAGE → source.new ≡ source.old }
     ensures written_nothing { result ≡ Status.USAGE → sink.new ≡ sink.old }
 
-    ensures done { result ≡ Status.DONE → Played 67108864 (AnsweredAll false) (S.left source.old) (S.left source.new) (K.held sink.old) (K.held sink.new) }
-    ensures bad_line { result ≡ Status.BAD_LINE → Played 67108864 (AnsweredAll true) (S.left source.old) (S.left source.new) (K.held sink.old) (K.held sink.new) }
+    ensures finished { (result ≡ Status.DONE) ⊎ (result ≡ Status.BAD_LINE) → Played 67108864 (λ lines bytes. Answered lines bytes × (result ≡ (if has_bad lines then Status.BAD_LINE else Status.DONE))) (S.left source.old) (S.left source.new) (K.held sink.old) (K.held sink.new) }
     ensures read_fault { result ≡ Status.READ_FAULT → PlayedEnded 67108864 Answered (S.left source.old) (S.left source.new) (K.held sink.old) (K.held sink.new) }
     ensures read_cause { result ≡ Status.READ_FAULT → Rose (S.faults source.old) (S.faults source.new) }
     ensures write_fault { result ≡ Status.WRITE_FAULT → PlayedPart Answered (S.left source.old) (K.held sink.old) (K.held sink.new) }

@@ -1,4 +1,3 @@
-pub mod Growth
 pub mod Names
 pub mod Parts
 pub mod Moves

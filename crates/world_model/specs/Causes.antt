@@ -10,7 +10,7 @@ use Rattle.world_model.specs.Run.{Run, EachLine}
 use Rattle.world_model.specs.Cluster.{has_cluster, has_site, has_part}
 use Rattle.world_model.specs.Clock.{now}
 use Rattle.world_model.specs.Sessions.{has_session, sessions_of, transaction, is_open}
-use Rattle.world_model.specs.Refusals.{is_built, begin_part, lacks_part, is_elsewhere, changes_of, is_at_end, last_time}
+use Rattle.world_model.specs.Refusals.{is_built, begin_part, lacks_part, is_elsewhere, updates_of, is_at_end, last_time}
 
 -- the command names a session, and this holds of it
 abbrev pub OfSession : (List ℕ → Type 0) → Option Command → Type 0
@@ -55,7 +55,7 @@ HasCause has run asked step.NoTxn = OfSession (λ name. (has_session run name �
 HasCause has run asked step.HasTxn = OfSession (λ name. is_open run name ≡ true) asked
 HasCause has run asked step.BadOp = IsBadOp asked
 HasCause has run asked step.LimitSessions = sessions_of run ≡ 64
-HasCause has run asked step.LimitUpdates = OfSession (λ name. changes_of run (transaction run name) ≡ 256) asked
+HasCause has run asked step.LimitUpdates = OfSession (λ name. updates_of run (transaction run name) ≡ 256) asked
 HasCause has run asked step.TimeEnd = DrawsAtEnd run asked
 HasCause has run asked step.Unbuilt = IsUnbuilt has asked
 HasCause has run asked other = ⊤

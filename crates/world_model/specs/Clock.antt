@@ -1,13 +1,11 @@
--- The clock law. Every time that a partition shows becomes its time, and none falls (Clock-SI).
-use Rattle.std.specs.Prelude.{◌≡◌, ◌≤◌, ℕ, ◌+◌, max, List, [], ◌∷◌, Option, Some, if◌then◌else◌, ⊤}
+-- The time of a partition, by the commands' lines. Every time that it shows becomes its time (Clock-SI).
+use Rattle.std.specs.Prelude.{ℕ, List, [], ◌∷◌, if◌then◌else◌}
 use Rattle.site_vector.specs.declared.ids.PartId.{PartId}
 use Rattle.site_vector.specs.declared.ids.TxId.{TxId}
 use Rattle.site_vector.specs.Ids.{same_part}
-use Rattle.world_model.specs.declared.command.Command.{Command}
-use Rattle.world_model.specs.declared.command.Command.TheVariants as command
 use Rattle.world_model.specs.declared.step.Step.{Step}
 use Rattle.world_model.specs.declared.step.Step.TheVariants as step
-use Rattle.world_model.specs.Run.{Run, EachLine}
+use Rattle.world_model.specs.Run.{Run}
 
 -- where a transaction began
 abbrev pub home : TxId → PartId
@@ -24,19 +22,3 @@ time_after p old other = old
 abbrev pub now : Run → PartId → ℕ
 now [] p = 0
 now (e ∷ run) p = time_after p (now run p) e.step
-
--- a tick that answers a reading shows the greater of it and the old time
-abbrev pub ShowsReading : ℕ → Option Command → ℕ → Type 0
-ShowsReading old (Some (command.Clock p r)) n = n ≡ max r old
-ShowsReading old other n = old ≤ n
-
--- what a line shows of a clock
-abbrev pub ShowsTime : Run → Option Command → Step → Type 0
-ShowsTime run asked (step.Ticked p n) = ShowsReading (now run p) asked n
-ShowsTime run asked (step.Began name t s) = t.time ≡ now run (home t) + 1
-ShowsTime run asked (step.Prepared p t n) = n ≡ now run p + 1
-ShowsTime run asked other = ⊤
-
--- each line shows the times that the lines before it call for
-abbrev pub FollowsClock : Run → Type 0
-FollowsClock run = EachLine ShowsTime run

@@ -7,16 +7,11 @@ pub mod Partition
 pub mod Cluster
 pub mod Clock
 pub mod Sessions
-pub mod Fresh
-pub mod History
 pub mod Updates
-pub mod Reads
-pub mod Stamps
 pub mod Commit
 pub mod Refusals
 pub mod Answers
 pub mod Causes
-pub mod Lawful
 pub mod Plan
 pub mod WorldLaw
 pub mod Meaning

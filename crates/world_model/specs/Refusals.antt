@@ -13,7 +13,7 @@ use Rattle.world_model.specs.Run.{Run}
 use Rattle.world_model.specs.Cluster.{has_cluster, has_site, has_part}
 use Rattle.world_model.specs.Clock.{now}
 use Rattle.world_model.specs.Sessions.{session_site, has_session, sessions_of, transaction, is_open}
-use Rattle.world_model.specs.Updates.{changes}
+use Rattle.world_model.specs.Updates.{objects_of}
 use Rattle.world_model.specs.Commit.{participants}
 
 -- the last time that a clock may show
@@ -38,9 +38,10 @@ abbrev pub lacks_part : Run → Option PartId → Bool
 lacks_part run None = false
 lacks_part run (Some p) = not (has_part run p)
 
-abbrev pub changes_of : Run → Option TxId → ℕ
-changes_of run None = 0
-changes_of run (Some t) = length (changes run t)
+-- how many updates a transaction has
+abbrev pub updates_of : Run → Option TxId → ℕ
+updates_of run None = 0
+updates_of run (Some t) = length (objects_of run t)
 
 -- a prepare of its transaction would draw past the last time
 abbrev pub is_at_end : Run → Option TxId → Bool
@@ -95,7 +96,7 @@ refusals run (command.Update name o op) =
     ∷ without_session run name
     ∷ without_transaction run name
     ∷ (not (fits o.kind op.path op.act), step.BadOp)
-    ∷ (changes_of run (transaction run name) == 256, step.LimitUpdates)
+    ∷ (updates_of run (transaction run name) == 256, step.LimitUpdates)
     ∷ []
 refusals run (command.Commit name steps) =
     without_cluster run

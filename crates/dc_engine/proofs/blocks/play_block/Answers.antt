@@ -1,5 +1,5 @@
-use Rattle.std.proofs.Common.{◌≡◌, List, ℕ, [], ap, sym, ◌∙◌, take, arith, refl}
-use Rattle.dc_engine.proofs.Progress.{progress_more, progress_end, progress_fault, part_end, part_block, stopped_read, stopped_part, goes_on}
+use Rattle.std.proofs.Common.{take, arith}
+use Rattle.dc_engine.proofs.Progress.{progress_end, progress_fault, part_end, part_block, stopped_read, stopped_part, goes_on}
 use Rattle.dc_engine.proofs.blocks.play_block.Goals as goal
 
 pub returns-in-Err-clause-goes_on : goal.returns-in-Err-clause-goes_on

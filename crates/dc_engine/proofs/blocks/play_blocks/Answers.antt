@@ -1,4 +1,4 @@
-use Rattle.dc_engine.proofs.Progress.{goes_on_end, goes_on_more, room_for}
+use Rattle.dc_engine.proofs.Progress.{goes_on_end, room_for}
 use Rattle.dc_engine.proofs.blocks.play_blocks.Goals as goal
 
 pub returns-in-Ok-eq0-clause-finished : goal.returns-in-Ok-eq0-clause-finished

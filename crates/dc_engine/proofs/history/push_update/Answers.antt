@@ -1,4 +1,4 @@
-use Rattle.std.proofs.Common.{rules, arith, ◌≡◌, ◌≤◌, ◌++◌, ◌∷◌, [], Some, None, sym, subst, ◌∙◌}
+use Rattle.std.proofs.Common.{rules, arith, ◌≡◌, ◌≤◌, Some, None, sym, subst}
 use Rattle.dc_engine.specs.Kept.{IsKept}
 use Rattle.dc_engine.proofs.Applied.{kept_without, kept_none, kept_more}
 use Rattle.dc_engine.proofs.history.push_update.Goals as goal

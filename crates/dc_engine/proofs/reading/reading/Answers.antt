@@ -1,5 +1,5 @@
 use Rattle.std.specs.Prelude.{Err}
-use Rattle.std.proofs.Common.{sym, subst, ◌∙◌, ap, Some}
+use Rattle.std.proofs.Common.{sym, subst, ◌∙◌, ap}
 use Rattle.dc_engine.specs.Reading.{reading_of, AsksBelow}
 use Rattle.dc_engine.proofs.Readings.{read_ok, read_bad, reads_below}
 use Rattle.dc_engine.proofs.reading.reading.Goals as goal

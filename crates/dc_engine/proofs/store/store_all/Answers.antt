@@ -1,4 +1,3 @@
-use Rattle.dc_engine.specs.Stored.{stored}
 use Rattle.dc_engine.proofs.Applied.{committed_more}
 use Rattle.dc_engine.proofs.store.store_all.Goals as goal
 

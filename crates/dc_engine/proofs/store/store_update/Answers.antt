@@ -1,4 +1,4 @@
-use Rattle.std.proofs.Common.{rules, ap, ◌∙◌, sym, ◌++◌, ◌∷◌, [], refl}
+use Rattle.std.proofs.Common.{rules, ap, ◌∙◌, ◌++◌, ◌∷◌, []}
 use Rattle.dc_engine.specs.Stored.{updates_in}
 use Rattle.dc_engine.proofs.ObjectKeys.{stored_more, stored_first}
 use Rattle.dc_engine.proofs.store.store_update.Goals as goal

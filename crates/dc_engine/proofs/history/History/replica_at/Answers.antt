@@ -1,4 +1,4 @@
-use Rattle.std.proofs.Common.{rules, ◌≡◌, Some, sym, ap, ◌∙◌}
+use Rattle.std.proofs.Common.{rules, ◌≡◌, sym, ap, ◌∙◌}
 use Rattle.crdt_core.specs.Objects.{same_kind-true}
 use Rattle.dc_engine.specs.ObjectKinds.{kinds}
 use Rattle.dc_engine.specs.Kept.{applied_upto}
