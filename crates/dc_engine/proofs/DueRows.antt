@@ -16,10 +16,9 @@ use Rattle.world_model.specs.declared.step.Step.{Step}
 use Rattle.world_model.specs.declared.step.Step.TheVariants as step
 use Rattle.world_model.specs.Run.{Run}
 use Rattle.world_model.specs.Cluster.{has_cluster, has_site, has_part, sites_of, parts_of}
-use Rattle.world_model.specs.Clock.{now}
+use Rattle.world_model.specs.Times.{now}
 use Rattle.world_model.specs.Sessions.{has_session, sessions_of, transaction, is_open}
-use Rattle.world_model.specs.Updates.{objects_of}
-use Rattle.world_model.specs.Commit.{partitions, takes_part, participants}
+use Rattle.world_model.specs.Participants.{objects_of, partitions, takes_part, participants}
 use Rattle.world_model.specs.Refusals.{refusals, first_due, is_built, last_time, site_or_none, begin_part, updates_of, is_at_end}
 use Rattle.dc_engine.specs.ObjectKinds.{kinds}
 use Rattle.dc_engine.specs.State.{State, Open, Change, one, transaction_at, is_open_in, changes_in, is_change, dues}

@@ -12,10 +12,10 @@ use Rattle.world_model.specs.declared.step.Step.{Step}
 use Rattle.world_model.specs.declared.step.Step.TheVariants as step
 use Rattle.world_model.specs.Run.{Run, Line}
 use Rattle.world_model.specs.Cluster.{has_cluster, sites_of, parts_of}
-use Rattle.world_model.specs.Clock.{now}
+use Rattle.world_model.specs.Times.{now}
 use Rattle.world_model.specs.Sessions.{session_site, sessions_of, transaction, is_open}
-use Rattle.world_model.specs.Updates.{objects_of}
-use Rattle.world_model.specs.Causes.{HasCause}
+use Rattle.world_model.specs.Participants.{objects_of}
+use Rattle.world_model.specs.CommandCauses.{HasCause}
 use Rattle.dc_engine.specs.ObjectKinds.{kinds}
 use Rattle.dc_engine.specs.State.{State, Open, one, transaction_at, with_session}
 use Rattle.dc_engine.specs.Describes.{Describes, IsCurrent}

@@ -11,11 +11,10 @@ use Rattle.world_model.specs.declared.step.Step.{Step}
 use Rattle.world_model.specs.declared.step.Step.TheVariants as step
 use Rattle.world_model.specs.Run.{Run}
 use Rattle.world_model.specs.Cluster.{has_cluster, has_site, has_part}
-use Rattle.world_model.specs.Clock.{now}
+use Rattle.world_model.specs.Times.{now}
 use Rattle.world_model.specs.Sessions.{has_session, sessions_of, transaction, is_open}
-use Rattle.world_model.specs.Updates.{objects_of}
-use Rattle.world_model.specs.Commit.{participants}
-use Rattle.world_model.specs.Causes.{HasCause}
+use Rattle.world_model.specs.Participants.{objects_of, participants}
+use Rattle.world_model.specs.CommandCauses.{HasCause}
 use Rattle.world_model.specs.Refusals.{refusal, refusals, unbuilt, first_due, is_built, begin_part, lacks_part, is_elsewhere, updates_of, last_time}
 use Rattle.world_model.specs.Answers.{IsAnswer, AnswersBy, Replies, Commits, CommitsAt, answered}
 use Rattle.dc_engine.specs.ObjectKinds.{kinds}

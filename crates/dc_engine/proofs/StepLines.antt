@@ -14,7 +14,7 @@ use Rattle.world_model.specs.declared.command.Command.TheVariants as command
 use Rattle.world_model.specs.declared.step.Step.TheVariants as step
 use Rattle.world_model.specs.Run.{Run}
 use Rattle.world_model.specs.Sessions.{session_site, transaction, is_open}
-use Rattle.world_model.specs.Updates.{is_tx, objects_of}
+use Rattle.world_model.specs.Participants.{is_tx, objects_of}
 use Rattle.dc_engine.specs.ObjectKinds.{Effect}
 use Rattle.dc_engine.specs.State.{State, Open, one, transaction_at, is_open_in, with_session, made_cluster, ticked, made_session, began, updated, ended, committed}
 use Rattle.dc_engine.specs.Describes.{Describes, IsCurrent, object_of, site_if}

@@ -13,7 +13,7 @@ use Rattle.world_model.specs.Run.{Run}
 use Rattle.world_model.specs.Refusals.{first_due, is_built, last_time}
 use Rattle.world_model.specs.Answers.{answered}
 use Rattle.world_model.specs.Partition.{new_part}
-use Rattle.world_model.specs.LineLaw.{IsLawfulRun}
+use Rattle.world_model.specs.Lawful.{IsLawful}
 use Rattle.world_model.proofs.Law.{law_world}
 use Rattle.dc_engine.specs.ObjectKinds.{kinds, shallow}
 use Rattle.dc_engine.specs.Reading.{ReadsBelow}
@@ -198,5 +198,5 @@ world_empty = record {
 }
 
 -- the calls that were answered are lines of a lawful run of the world
-pub lawful_calls : (m : State) (run : Run) → InWorld m run → IsLawfulRun kinds.too_deep kinds.meaning 1 1 (calls_of run)
-lawful_calls m run j = subst (IsLawfulRun kinds.too_deep kinds.meaning 1 1) j.lines (law_world kinds 1 1 j.world j.parts j.is_world.is_run).2
+pub lawful_calls : (m : State) (run : Run) → InWorld m run → IsLawful kinds.too_deep kinds.meaning 1 1 (calls_of run)
+lawful_calls m run j = subst (IsLawful kinds.too_deep kinds.meaning 1 1) j.lines (law_world kinds 1 1 j.world j.parts j.is_world.is_run).2

@@ -4,12 +4,12 @@ use Rattle.site_vector.specs.declared.ids.PartId.{PartId}
 use Rattle.dc_engine.specs.ObjectKinds.{Effect, kinds}
 use Rattle.world_model.specs.Run.{Run, lines_of}
 use Rattle.world_model.specs.Answers.{Answers}
-use Rattle.world_model.specs.Causes.{HaveCauses}
+use Rattle.world_model.specs.CommandCauses.{HaveCauses}
 use Rattle.world_model.specs.Event.{Entry}
 use Rattle.world_model.specs.Partition.{PartState}
 use Rattle.world_model.specs.World.{IsWorldRun}
 use Rattle.world_model.specs.Lines.{lines_of as lines_shown}
-use Rattle.world_model.specs.LineLaw.{IsLawfulRun}
+use Rattle.world_model.specs.Lawful.{IsLawful}
 use Rattle.dc_engine.specs.Calls.{calls_of}
 use Rattle.dc_engine.specs.Reading.{asked_of}
 use Rattle.dc_engine.specs.Held.{spelled}
@@ -28,5 +28,5 @@ pub record Answered (lines : List (List ℕ)) (bytes : List ℕ) : Type 0 where
   pub answers : Answers kinds.has (reverse (map asked_of lines)) run
   pub causes : HaveCauses kinds.has run
   pub calls : ShowsCalls run
-  pub lawful : IsLawfulRun kinds.too_deep kinds.meaning 1 1 (calls_of run)
+  pub lawful : IsLawful kinds.too_deep kinds.meaning 1 1 (calls_of run)
   pub written : bytes ≡ lines_of spelled run

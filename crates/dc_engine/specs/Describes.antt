@@ -4,10 +4,10 @@ use Rattle.std.specs.Str.{bytes_eq}
 use Rattle.crdt_core.specs.declared.object.ObjectId.{ObjectId}
 use Rattle.world_model.specs.Run.{Run}
 use Rattle.world_model.specs.Cluster.{has_cluster, sites_of, parts_of}
-use Rattle.world_model.specs.Clock.{now}
+use Rattle.world_model.specs.Times.{now}
 use Rattle.world_model.specs.Sessions.{session_site, sessions_of, transaction, is_open}
-use Rattle.world_model.specs.Updates.{objects_of}
-use Rattle.world_model.specs.Causes.{HaveCauses}
+use Rattle.world_model.specs.Participants.{objects_of}
+use Rattle.world_model.specs.CommandCauses.{HaveCauses}
 use Rattle.dc_engine.specs.ObjectKinds.{kinds}
 use Rattle.dc_engine.specs.State.{State, Open, Change, one, transaction_at, is_open_in}
 

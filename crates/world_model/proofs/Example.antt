@@ -4,8 +4,8 @@ use Rattle.std.proofs.Common.{◌≡◌, ◌≢◌, ⊎_elim, inl, inr, ℕ, ◌
 use Rattle.std.specs.Prelude.{if◌then◌else◌, pos, map, reverse}
 use Rattle.world_model.specs.declared.step.Step.TheVariants as step
 use Rattle.world_model.specs.Lines.{lines_of}
-use Rattle.world_model.specs.LineFates.{is_committed_at}
-use Rattle.world_model.specs.LineLaw.{IsLawfulRun}
+use Rattle.world_model.specs.Fate.{is_committed_at}
+use Rattle.world_model.specs.Lawful.{IsLawful}
 use Rattle.std.specs.declared.cmp.Ordering.TheVariants.{Less}
 use Rattle.std.proofs.lemmas.Bool.{cases_Bool, cond-false, or_from, and_right}
 use Rattle.site_vector.specs.declared.ids.PartId.{PartId}
@@ -517,7 +517,7 @@ module _ {S E : Type 0} (kinds : Kinds S E) (known : kinds.has CounterPn ≡ tru
   brought : is_committed_at (lines_of r12) (lines_of r12) there first ≡ true
   brought = refl
 
-  lines_are_lawful : IsLawfulRun kinds.too_deep kinds.meaning 2 1 (lines_of r12)
+  lines_are_lawful : IsLawful kinds.too_deep kinds.meaning 2 1 (lines_of r12)
   lines_are_lawful = (law_world kinds 2 1 r12 p12 run12).2
 
   -- what the run shows, the first line first

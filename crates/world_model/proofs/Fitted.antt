@@ -20,7 +20,7 @@ use Rattle.world_model.specs.Fitting.{is_vector, is_named_in, prepared_lead, pre
 use Rattle.world_model.specs.Event.{Event, Ticked, Began, Updated, Read, Prepared, Decided, Finished, Aborted, Sent, Took, Reported, Heard, Crashed, RestartCut, Restarted, Refused, Opened, Cut, Entry, attempt, is_prepare, time_shown, voted, is_decided, time_of, sent}
 use Rattle.world_model.specs.Partition.{Kinds, PartState, Image, IsOther, Ascends, stream_cmp, AreParts, lease_for, above, batch_of, records, done, MayDo, PartStep}
 use Rattle.world_model.specs.Plan.{Plan, first_of, twin, takes_part, commit_vector, IsPlace, IsAllowed, MayPrepare, MayDecide, MayFinish, MayTake, IsRun}
-use Rattle.world_model.specs.Commit.{partitions}
+use Rattle.world_model.specs.Participants.{partitions}
 use Rattle.world_model.specs.WorldLaw.{IsExact}
 use Rattle.world_model.proofs.Names.{clash, off, part_cases, entry_same, entry_cases, join_below}
 use Rattle.world_model.proofs.Parts.{lists_above, above_parts}

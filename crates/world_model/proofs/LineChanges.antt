@@ -15,12 +15,12 @@ use Rattle.crdt_core.specs.Objects.{same_object}
 use Rattle.world_model.specs.Log as log
 use Rattle.world_model.specs.Event.{IsDown, Event, Updated, Decided, Refused, Cut, Entry, shown}
 use Rattle.world_model.specs.Plan.{Plan, first_of, home, is_some_update, change_by, updates_at, update_count}
-use Rattle.world_model.specs.Commit.{partitions}
+use Rattle.world_model.specs.Participants.{partitions}
 use Rattle.world_model.specs.Handed.{HandedAt, AreHanded, IsNew, AreNew}
 use Rattle.world_model.specs.Meaning.{Asked, asked_by, asked_at}
 use Rattle.world_model.specs.Lines.{call_of, step_shown, lines_of}
-use Rattle.world_model.specs.LineClock.{now}
-use Rattle.world_model.specs.LineUpdates.{Change, change_of, changes, takes_part, touches, lead}
+use Rattle.world_model.specs.Clock.{now}
+use Rattle.world_model.specs.Updates.{Change, change_of, changes, takes_part, touches, lead}
 use Rattle.world_model.proofs.Stories.{asked_changes}
 use Rattle.world_model.proofs.LineViews.{now_is}
 

@@ -10,8 +10,8 @@ use Rattle.world_model.specs.Shown.{pending_after, time_after}
 use Rattle.world_model.specs.WorldLaw.{ClockIs, ClocksAre}
 use Rattle.world_model.specs.Resumed.{is_call, cut_after, cut_call}
 use Rattle.world_model.specs.Lines.{Call, call_cut, call_of, step_shown, lines_of}
-use Rattle.world_model.specs.LineClock.{now}
-use Rattle.world_model.specs.LineRestarts.{pending_done, time_done, fault_after, faulted}
+use Rattle.world_model.specs.Clock.{now}
+use Rattle.world_model.specs.Restarts.{pending_done, time_done, fault_after, faulted}
 use Rattle.world_model.proofs.Names.{off}
 use Rattle.world_model.proofs.LineViews.{now_is}
 

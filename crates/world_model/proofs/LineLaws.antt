@@ -24,7 +24,7 @@ use Rattle.world_model.specs.Log.{end_of_time, lists}
 use Rattle.world_model.specs.Event.{Ask, AskBegin, AskRead, AskUpdate, AskPrepare, AskDecide, AskAbort, AskTake, AskRestart, is_restart, IsDown, ClockBehind, TxPending, StableBehind, ClockAtEnd, IsGone, HasGap, IsRepeat, IsBadOp, IsDamaged, Event, Ticked, Began, Updated, Read, Prepared, Decided, Finished, Aborted, Sent, Took, Reported, Heard, Crashed, RestartCut, Restarted, Refused, Opened, Cut, Entry, EventsAre, WasShown, is_abort, was_aborted, voted, is_decided, time_of, shown}
 use Rattle.world_model.specs.Partition.{Kinds, lowest, pending_cmp}
 use Rattle.world_model.specs.Plan.{Plan, IsPlace, first_of, home, twin, is_some_update, takes_part, commit_vector, MayTake}
-use Rattle.world_model.specs.Commit.{partitions}
+use Rattle.world_model.specs.Participants.{partitions}
 use Rattle.world_model.specs.World.{plan_of}
 use Rattle.world_model.specs.WorldLaw.{sees_tx, ClockIs, ClocksAre, KeepsIs, KeepsDecided, HasCauseAt, HaveCausesAt, IsRightFold, IsExact, IsRight}
 use Rattle.world_model.specs.Past as events
@@ -41,23 +41,23 @@ use Rattle.world_model.specs.Resumed.{is_call, brings, brought_after, brought, d
 use Rattle.world_model.specs.Sends.{low_of, SendsAt, Send}
 use Rattle.world_model.specs.LawfulWorld.{IsLawfulWorld}
 use Rattle.world_model.specs.Lines.{Call, Line, EachLine, session_after, session_of, message_number, call_asked, call_cut, call_of, step_shown, lines_of}
-use Rattle.world_model.specs.LineClock as clock
-use Rattle.world_model.specs.LineHistory as past
-use Rattle.world_model.specs.LinePast as session
-use Rattle.world_model.specs.LineBounds as bounds
-use Rattle.world_model.specs.LineUpdates as updates
-use Rattle.world_model.specs.LineUpdates.{IsPlaced}
-use Rattle.world_model.specs.LineCommit as commit
-use Rattle.world_model.specs.LineReads as reads
+use Rattle.world_model.specs.Clock as clock
+use Rattle.world_model.specs.History as past
+use Rattle.world_model.specs.Dependency as session
+use Rattle.world_model.specs.Bounds as bounds
+use Rattle.world_model.specs.Updates as updates
+use Rattle.world_model.specs.Updates.{IsPlaced}
+use Rattle.world_model.specs.Commit as commit
+use Rattle.world_model.specs.Reads as reads
 use Rattle.world_model.specs.LineAnswers as answers
-use Rattle.world_model.specs.LineOps as ops
-use Rattle.world_model.specs.LineFate.{is_down}
-use Rattle.world_model.specs.LineFates as fates
-use Rattle.world_model.specs.LineRestarts as restarts
-use Rattle.world_model.specs.LineFresh as fresh
-use Rattle.world_model.specs.LineStreams as streams
-use Rattle.world_model.specs.LineCauses as causes
-use Rattle.world_model.specs.LineLaw.{IsAgreed, IsLawfulRun}
+use Rattle.world_model.specs.Ops as ops
+use Rattle.world_model.specs.Pending.{is_down}
+use Rattle.world_model.specs.Fate as fates
+use Rattle.world_model.specs.Restarts as restarts
+use Rattle.world_model.specs.Fresh as fresh
+use Rattle.world_model.specs.Streams as streams
+use Rattle.world_model.specs.Causes as causes
+use Rattle.world_model.specs.Lawful.{IsAgreed, IsLawful}
 use Rattle.world_model.proofs.Names.{clash, off, part_same}
 use Rattle.world_model.proofs.Fate.{voted_tried}
 use Rattle.world_model.proofs.Later.{at_own}
@@ -535,7 +535,7 @@ module _ {E : Type 0} where
         let own : updates_at_place sites parts run o t (asked_at some t p) ++ [] ≡ reads.updates_in ls o t (updates.changes (lines_of some) t) = append-nil (updates_at_place sites parts run o t (asked_at some t p)) ∙ sym (updates_is sites parts run some h n t o p place.site place.part) in
         subst (Same (meaning.read_by plan run some p o t part)) (λ i. theirs i ++ own i) grown
 
-    right_line : (some : List (Entry E)) → AreHanded plan some → AreNew some → (p : PartId) (event : Event E) → HandedAt plan some p event → IsNew some event → IsRight kinds plan run p event → meaning.HasMeaning kinds plan run some p event → IsKnown kinds p event → reads.IsRight kinds.meaning ls (lines_of some) p (call_of event) (step_shown some p event)
+    right_line : (some : List (Entry E)) → AreHanded plan some → AreNew some → (p : PartId) (event : Event E) → HandedAt plan some p event → IsNew some event → IsRight kinds plan run p event → meaning.HasMeaning kinds plan run some p event → IsKnown kinds p event → reads.IsRightRead kinds.meaning ls (lines_of some) p (call_of event) (step_shown some p event)
     right_line some hs ns p (Refused asked IsDown) h n r m k = tt
     right_line some hs ns p (Refused asked why) h n r m k = tt
     right_line some hs ns p (Cut (Decided t c)) h n r m k = tt
@@ -557,7 +557,7 @@ module _ {E : Type 0} where
         ∙ ap (stamp_due o.kind (reads.read_by ls (lines_of some) t o)) (sym (ap (reads.update_of ls t) same ∙ update_is sites parts run t p a))
     right_line some hs ns p event h n r m k = tt
 
-    right_lines : (some : List (Entry E)) → AreHanded plan some → AreNew some → EventsAre (IsRight kinds plan run) some → meaning.HaveMeaning kinds plan run some → EventsAre (IsKnown kinds) some → EachLine (reads.IsRight kinds.meaning ls) (lines_of some)
+    right_lines : (some : List (Entry E)) → AreHanded plan some → AreNew some → EventsAre (IsRight kinds plan run) some → meaning.HaveMeaning kinds plan run some → EventsAre (IsKnown kinds) some → EachLine (reads.IsRightRead kinds.meaning ls) (lines_of some)
     right_lines [] h n r m k = tt
     right_lines (e ∷ some) h n r m k = (right_line some h.1 n.1 e.at e.event h.0 n.0 r.0 m.0 k.0, right_lines some h.1 n.1 r.1 m.1 k.1)
 
@@ -596,7 +596,7 @@ module _ {E : Type 0} where
       transitive = λ t u w h k. closed_lines (past.snapshot (lines_of run) w) t u k h;
     }
 
-    pub lawful_lines : IsLawfulRun kinds.too_deep kinds.meaning sites parts (lines_of run)
+    pub lawful_lines : IsLawful kinds.too_deep kinds.meaning sites parts (lines_of run)
     lawful_lines = record {
       places = place_lines plan run law.places;
       answers = answer_lines plan run law.handed law.due;

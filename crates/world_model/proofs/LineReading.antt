@@ -30,10 +30,10 @@ use Rattle.world_model.specs.Meaning.{Asked, asked_at}
 use Rattle.world_model.specs.Lines.{Line, call_of, step_shown, lines_of}
 use Rattle.world_model.specs.declared.step.Step.{Step}
 use Rattle.world_model.specs.declared.step.Step.TheVariants as step
-use Rattle.world_model.specs.LineClock.{now}
-use Rattle.world_model.specs.LineHistory as past
-use Rattle.world_model.specs.LineUpdates.{Change, change_of, changes}
-use Rattle.world_model.specs.LineReads as reads
+use Rattle.world_model.specs.Clock.{now}
+use Rattle.world_model.specs.History as past
+use Rattle.world_model.specs.Updates.{Change, change_of, changes}
+use Rattle.world_model.specs.Reads as reads
 use Rattle.world_model.proofs.Names.{clash, off, part_same}
 use Rattle.world_model.proofs.Folds.{before, before_self, precede_lists}
 use Rattle.world_model.proofs.Stories.{asked_changes}

@@ -22,15 +22,15 @@ use Rattle.world_model.specs.Partition.{lowest}
 use Rattle.world_model.specs.Sends as sends
 use Rattle.world_model.specs.Lines.{is_sent, sent_count, is_report, report_count, has_stretch, message_number, has_bounds, report_number, call_of, step_shown, lines_of}
 use Rattle.world_model.specs.declared.step.Step.TheVariants as step
-use Rattle.world_model.specs.LineClock as clock
-use Rattle.world_model.specs.LineHistory as past
-use Rattle.world_model.specs.LinePast as session
-use Rattle.world_model.specs.LineFate as fate
-use Rattle.world_model.specs.LineRestarts as restarts
+use Rattle.world_model.specs.Clock as clock
+use Rattle.world_model.specs.History as past
+use Rattle.world_model.specs.Dependency as session
+use Rattle.world_model.specs.Pending as fate
+use Rattle.world_model.specs.Restarts as restarts
 use Rattle.world_model.specs.Resumed as resumed
-use Rattle.world_model.specs.LineBounds as bounds
-use Rattle.world_model.specs.LineCommit as commit
-use Rattle.world_model.specs.LineStreams as streams
+use Rattle.world_model.specs.Bounds as bounds
+use Rattle.world_model.specs.Commit as commit
+use Rattle.world_model.specs.Streams as streams
 
 none_more : (b : Bool) (old n : ℕ) → max old (cond b n 0) ≡ cond b (max old n) old
 none_more true old n = refl

@@ -8,7 +8,7 @@ use Rattle.site_vector.specs.Ids.{same_part, same_tx}
 use Rattle.site_vector.specs.Order.{same_part_refl, same_tx_is, same_tx_refl}
 use Rattle.site_vector.specs.Vector.{replaced}
 use Rattle.crdt_core.specs.declared.record.Upd.{Upd}
-use Rattle.world_model.specs.Commit.{partitions}
+use Rattle.world_model.specs.Participants.{partitions}
 use Rattle.world_model.specs.Log.{end_of_time, ceiling, prepared, pending, committed}
 use Rattle.world_model.specs.Event.{AskFinish, AskTake, Refused, Event, Began, Updated, Read, Prepared, Decided, Finished, Aborted, Took, Heard, Cut, Entry, attempt, is_prepare, tried, voted, shown, shown_after, time_of, is_decided, WasShown}
 use Rattle.world_model.specs.Partition.{Kinds, PartState, PartStep, MayDo}
@@ -18,7 +18,7 @@ use Rattle.world_model.specs.World.{is_begin, begin_vector, begun, snapshot_of, 
 use Rattle.world_model.specs.LawfulWorld.{IsLawfulWorld}
 use Rattle.world_model.specs.Logs.{LeavesLogs}
 use Rattle.world_model.specs.Lines.{lines_of}
-use Rattle.world_model.specs.LineLaw.{IsLawfulRun}
+use Rattle.world_model.specs.Lawful.{IsLawful}
 use Rattle.world_model.proofs.Names.{clash, off}
 use Rattle.world_model.proofs.Moves.{image_log}
 use Rattle.world_model.proofs.Fate.{pending_parts, voted_tried}

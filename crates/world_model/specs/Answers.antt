@@ -13,9 +13,9 @@ use Rattle.world_model.specs.declared.command.Command.TheVariants as command
 use Rattle.world_model.specs.declared.step.Step.{Step}
 use Rattle.world_model.specs.declared.step.Step.TheVariants as step
 use Rattle.world_model.specs.Run.{Run}
-use Rattle.world_model.specs.Clock.{home}
+use Rattle.world_model.specs.Times.{home}
 use Rattle.world_model.specs.Sessions.{transaction}
-use Rattle.world_model.specs.Commit.{participants}
+use Rattle.world_model.specs.Participants.{participants}
 use Rattle.world_model.specs.Refusals.{refusal, begin_part}
 
 -- an assign to a register that the last writer wins

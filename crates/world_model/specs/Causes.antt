@@ -1,65 +1,100 @@
--- The causes of refusals: each stands only where its row says.
-use Rattle.std.specs.Prelude.{◌≡◌, ℕ, Bool, true, false, ◌||◌, List, Option, None, Some, ⊤}
-use Rattle.crdt_core.specs.declared.kind.Kind.{Kind}
-use Rattle.crdt_core.specs.Fits.{fits}
-use Rattle.world_model.specs.declared.command.Command.{Command}
-use Rattle.world_model.specs.declared.command.Command.TheVariants as command
+-- The causes of refusals, over the lines of a run: each stands exactly where its cause holds.
+use Rattle.std.specs.Prelude.{◌≡◌, ◌≢◌, ℕ, ◌<◌, ◌≤◌, true, false, List, ⊤}
+use Rattle.std.specs.declared.cmp.Ordering.TheVariants.{Less}
+use Rattle.site_vector.specs.declared.ids.PartId.{PartId}
+use Rattle.site_vector.specs.declared.ids.TxId.{TxId}
+use Rattle.site_vector.specs.Vector.{entry}
+use Rattle.crdt_core.specs.declared.object.ObjectId.{ObjectId}
+use Rattle.crdt_core.specs.Kinds.{reads_state}
 use Rattle.world_model.specs.declared.step.Step.{Step}
 use Rattle.world_model.specs.declared.step.Step.TheVariants as step
-use Rattle.world_model.specs.Run.{Run, EachLine}
-use Rattle.world_model.specs.Cluster.{has_cluster, has_site, has_part}
+use Rattle.world_model.specs.Log.{end_of_time}
+use Rattle.world_model.specs.Partition.{IsOther, pending_cmp}
+use Rattle.world_model.specs.Lines.{Call, Begin, ReadOf, UpdateOf, PrepareOf, DecideOf, AbortOf, Restart, Line}
 use Rattle.world_model.specs.Clock.{now}
-use Rattle.world_model.specs.Sessions.{has_session, sessions_of, transaction, is_open}
-use Rattle.world_model.specs.Refusals.{is_built, begin_part, lacks_part, is_elsewhere, updates_of, is_at_end, last_time}
+use Rattle.world_model.specs.History.{snapshot}
+use Rattle.world_model.specs.Dependency.{dependency}
+use Rattle.world_model.specs.Updates.{touches}
+use Rattle.world_model.specs.Pending.{pending, prepare_time, is_down}
+use Rattle.world_model.specs.Fate.{is_known_at}
+use Rattle.world_model.specs.Bounds.{stable_entry}
 
--- the command names a session, and this holds of it
-abbrev pub OfSession : (List ℕ → Type 0) → Option Command → Type 0
-OfSession P (Some (command.Session name site)) = P name
-OfSession P (Some (command.Begin name part)) = P name
-OfSession P (Some (command.Read name o)) = P name
-OfSession P (Some (command.Update name o op)) = P name
-OfSession P (Some (command.Commit name steps)) = P name
-OfSession P other = ⊥
+-- no wait is due for what reads the object
+pub record IsReady (whole before : List Line) (p : PartId) (t : TxId) (o : ObjectId) : Type 0 where
+  pub clock : entry (snapshot whole t) p.site ≤ now before p
+  pub free : (u : TxId) → pending before p u ≡ true → touches whole u p o ≡ true → entry (snapshot whole t) p.site < prepare_time before p u
 
--- the command names a site or a partition that isn't there, or isn't the session's
-abbrev pub LacksPart : Run → Option Command → Type 0
-LacksPart run (Some (command.Clock p n)) = has_part run p ≡ false
-LacksPart run (Some (command.Session name site)) = has_site run site ≡ false
-LacksPart run (Some (command.Begin name part)) = (lacks_part run part || is_elsewhere run name part) ≡ true
-LacksPart run other = ⊥
+-- the clock has not reached the snapshot
+abbrev pub IsBehind : List Line → List Line → PartId → TxId → ℕ → Type 0
+IsBehind whole before p t n = (n ≡ now before p) × (n < entry (snapshot whole t) p.site)
 
--- the operation isn't one of the kind, or its path is too long
-abbrev pub IsBadOp : Option Command → Type 0
-IsBadOp (Some (command.Update name o op)) = fits o.kind op.path op.act ≡ false
-IsBadOp other = ⊥
+-- the first that is pending, by prepare time and id, updates the object and may belong to the snapshot
+pub record IsFirstPending (whole before : List Line) (p : PartId) (t : TxId) (o : ObjectId) (u : TxId) (n : ℕ) : Type 0 where
+  pub clock : entry (snapshot whole t) p.site ≤ now before p
+  pub waiting : pending before p u ≡ true
+  pub changes : touches whole u p o ≡ true
+  pub time : n ≡ prepare_time before p u
+  pub early : n ≤ entry (snapshot whole t) p.site
+  pub first : (w : TxId) → pending before p w ≡ true → touches whole w p o ≡ true → pending_cmp (w, prepare_time before p w) (u, n) ≢ Less
 
--- the command would draw a time where the clock is at its end
-abbrev pub DrawsAtEnd : Run → Option Command → Type 0
-DrawsAtEnd run (Some (command.Begin name part)) = now run (begin_part run name part) ≡ last_time
-DrawsAtEnd run (Some (command.Commit name steps)) = is_at_end run (transaction run name) ≡ true
-DrawsAtEnd run other = ⊥
+-- the least other site whose stable entry is below what the session depends on
+pub record IsStableBehind (sites parts : ℕ) (before : List Line) (p : PartId) (who : List ℕ) (j n : ℕ) : Type 0 where
+  pub other : IsOther sites p.site j
+  pub have : n ≡ stable_entry parts before p j
+  pub behind : n < entry (dependency sites before who) j
+  pub least : (i : ℕ) → IsOther sites p.site i → stable_entry parts before p i < entry (dependency sites before who) i → j ≤ i
 
--- the command isn't built
-abbrev pub IsUnbuilt : (Kind → Bool) → Option Command → Type 0
-IsUnbuilt has None = ⊥
-IsUnbuilt has (Some c) = is_built has c ≡ false
+-- a wait for the clock, by the call that it answers
+abbrev pub ClockCause : List Line → List Line → PartId → Call → ℕ → Type 0
+ClockCause whole before p (ReadOf t o) n = IsBehind whole before p t n
+ClockCause whole before p (UpdateOf t o op) n = (reads_state o.kind ≡ true) × IsBehind whole before p t n
+ClockCause whole before p (PrepareOf t) n = IsBehind whole before p t n
+ClockCause whole before p other n = ⊥
 
-abbrev pub HasCause : (Kind → Bool) → Run → Option Command → Step → Type 0
-HasCause has run asked step.Bad = asked ≡ None
-HasCause has run asked step.NoCluster = has_cluster run ≡ false
-HasCause has run asked step.HasCluster = has_cluster run ≡ true
-HasCause has run asked step.NoPart = (has_cluster run ≡ true) × LacksPart run asked
-HasCause has run asked step.NoSession = (has_cluster run ≡ true) × OfSession (λ name. has_session run name ≡ false) asked
-HasCause has run asked step.HasSession = OfSession (λ name. has_session run name ≡ true) asked
-HasCause has run asked step.NoTxn = OfSession (λ name. (has_session run name ≡ true) × (is_open run name ≡ false)) asked
-HasCause has run asked step.HasTxn = OfSession (λ name. is_open run name ≡ true) asked
-HasCause has run asked step.BadOp = IsBadOp asked
-HasCause has run asked step.LimitSessions = sessions_of run ≡ 64
-HasCause has run asked step.LimitUpdates = OfSession (λ name. updates_of run (transaction run name) ≡ 256) asked
-HasCause has run asked step.TimeEnd = DrawsAtEnd run asked
-HasCause has run asked step.Unbuilt = IsUnbuilt has asked
-HasCause has run asked other = ⊤
+abbrev pub PendingCause : List Line → List Line → PartId → Call → TxId → ℕ → Type 0
+PendingCause whole before p (ReadOf t o) u n = IsFirstPending whole before p t o u n
+PendingCause whole before p (UpdateOf t o op) u n = (reads_state o.kind ≡ true) × IsFirstPending whole before p t o u n
+PendingCause whole before p other u n = ⊥
 
--- where the program has these kinds
-abbrev pub HaveCauses : (Kind → Bool) → Run → Type 0
-HaveCauses has run = EachLine (HasCause has) run
+abbrev pub StableCause : ℕ → ℕ → List Line → PartId → Call → ℕ → ℕ → Type 0
+StableCause sites parts before p (Begin who) j n = IsStableBehind sites parts before p who j n
+StableCause sites parts before p other j n = ⊥
+
+-- the end of time, where nothing else is due: of a begin and of a prepare
+abbrev pub TimeCause : ℕ → ℕ → List Line → List Line → PartId → Call → Type 0
+TimeCause sites parts whole before p (Begin who) = (now before p ≡ end_of_time) × ((j : ℕ) → IsOther sites p.site j → entry (dependency sites before who) j ≤ stable_entry parts before p j)
+TimeCause sites parts whole before p (PrepareOf t) = (now before p ≡ end_of_time) × (entry (snapshot whole t) p.site ≤ now before p)
+TimeCause sites parts whole before p other = ⊥
+
+-- a finish is never refused so
+abbrev pub GoneCause : List Line → List Line → PartId → Call → TxId → Type 0
+GoneCause whole before p (DecideOf u) t = (t ≡ u) × (is_known_at whole before p u ≡ false)
+GoneCause whole before p (AbortOf u) t = (t ≡ u) × (pending before p u ≡ false)
+GoneCause whole before p other t = ⊥
+
+-- a log is never damaged that the run wrote; what each refusal, and each answer that isn't one, tells of causes
+abbrev pub HasCause : ℕ → ℕ → List Line → List Line → PartId → Call → Step → Type 0
+HasCause sites parts whole before p call (step.WaitClock q n) = ClockCause whole before p call n
+HasCause sites parts whole before p call (step.WaitTxn q u n) = PendingCause whole before p call u n
+HasCause sites parts whole before p call (step.WaitStable j n) = StableCause sites parts before p call j n
+HasCause sites parts whole before p call step.TimeEnd = TimeCause sites parts whole before p call
+HasCause sites parts whole before p call (step.Damaged q at) = ⊥
+HasCause sites parts whole before p call (step.Gone q t) = GoneCause whole before p call t
+HasCause sites parts whole before p (ReadOf t o) (step.Value name object value) = IsReady whole before p t o
+HasCause sites parts whole before p (UpdateOf t o op) (step.Updated name object stamp) = reads_state o.kind ≡ true → IsReady whole before p t o
+HasCause sites parts whole before p call (step.Prepared q t n) = (entry (snapshot whole t) p.site ≤ now before p) × (now before p < end_of_time)
+HasCause sites parts whole before p call (step.Began name t s) = now before p < end_of_time
+HasCause sites parts whole before p call (step.Decided q t c) = pending before p t ≡ true
+HasCause sites parts whole before p call (step.Finished q t) = is_known_at whole before p t ≡ true
+HasCause sites parts whole before p call other = ⊤
+
+-- a partition that crashed says that it is down until it restarts; one that is up never does. Both may crash and restart, and to
+-- make a session needs none
+abbrev pub AnswersAsUp : List Line → PartId → Call → Step → Type 0
+AnswersAsUp before p call (step.Restarted q n bounds named listed) = ⊤
+AnswersAsUp before p call (step.Crashed q) = ⊤
+AnswersAsUp before p Restart (step.Disk q) = ⊤
+AnswersAsUp before p call (step.Down q) = is_down before p ≡ true
+AnswersAsUp before p call (step.Damaged q at) = is_down before p ≡ true
+AnswersAsUp before p call (step.MadeSession name site) = ⊤
+AnswersAsUp before p call other = is_down before p ≡ false

@@ -4,7 +4,7 @@ use Rattle.site_vector.specs.declared.ids.PartId.{PartId}
 use Rattle.world_model.specs.declared.step.Step.{Step}
 use Rattle.world_model.specs.declared.step.Step.TheVariants as step
 use Rattle.world_model.specs.Lines.{Call, Tick, Begin, ReadOf, UpdateOf, PrepareOf, DecideOf, FinishOf, AbortOf, SendTo, TakeOf, Report, HearOf, Crash, Restart, Open, Line}
-use Rattle.world_model.specs.LinePast.{is_of}
+use Rattle.world_model.specs.Dependency.{is_of}
 
 -- which calls a partition that is down refuses
 abbrev pub needs_up : Call → Bool

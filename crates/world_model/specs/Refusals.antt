@@ -11,10 +11,9 @@ use Rattle.world_model.specs.declared.step.Step.{Step}
 use Rattle.world_model.specs.declared.step.Step.TheVariants as step
 use Rattle.world_model.specs.Run.{Run}
 use Rattle.world_model.specs.Cluster.{has_cluster, has_site, has_part}
-use Rattle.world_model.specs.Clock.{now}
+use Rattle.world_model.specs.Times.{now}
 use Rattle.world_model.specs.Sessions.{session_site, has_session, sessions_of, transaction, is_open}
-use Rattle.world_model.specs.Updates.{objects_of}
-use Rattle.world_model.specs.Commit.{participants}
+use Rattle.world_model.specs.Participants.{objects_of, participants}
 
 -- the last time that a clock may show
 abbrev pub last_time : ℕ

@@ -1,23 +1,67 @@
--- The objects that a run's transactions updated.
-use Rattle.std.specs.Prelude.{Bool, false, List, [], ◌∷◌, ◌++◌, Option, None, Some, if◌then◌else◌}
+-- The updates of a run's transactions, over its lines.
+use Rattle.std.specs.Prelude.{◌≡◌, ℕ, ◌+◌, Bool, true, false, ◌&&◌, List, [], ◌∷◌, ◌++◌, length, filter, Option, if◌then◌else◌, ⊤}
+use Rattle.std.specs.List.{list_any}
+use Rattle.site_vector.specs.declared.ids.PartId.{PartId}
 use Rattle.site_vector.specs.declared.ids.TxId.{TxId}
-use Rattle.site_vector.specs.Ids.{same_tx}
+use Rattle.site_vector.specs.Ids.{same_part, same_tx}
 use Rattle.crdt_core.specs.declared.object.ObjectId.{ObjectId}
+use Rattle.crdt_core.specs.declared.operation.Op.{Op}
+use Rattle.crdt_core.specs.Objects.{same_object}
+use Rattle.crdt_core.specs.Placing.{place_of}
 use Rattle.world_model.specs.declared.step.Step.{Step}
 use Rattle.world_model.specs.declared.step.Step.TheVariants as step
-use Rattle.world_model.specs.Run.{Run}
-use Rattle.world_model.specs.Sessions.{transaction}
+use Rattle.world_model.specs.Participants.{partitions}
+use Rattle.world_model.specs.Plan.{first_of, home}
+use Rattle.world_model.specs.Lines.{Call, ReadOf, UpdateOf, Line, EachLine}
+use Rattle.world_model.specs.Clock.{now}
 
-abbrev pub is_tx : Option TxId → TxId → Bool
-is_tx None t = false
-is_tx (Some u) t = same_tx u t
+-- what an `updated` line shows of its update
+pub record Change : Type 0 where
+  -- where it was made, and at what time
+  pub at : PartId
+  pub now : ℕ
+  pub object : ObjectId
+  pub op : Op
+  pub stamp : Option ℕ
+  -- among the updates of its transaction, from 1
+  pub index : ℕ
 
--- the objects of t after a line, where they were `old` before
-abbrev pub objects_after : Run → Step → TxId → List ObjectId → List ObjectId
-objects_after run (step.Updated name object stamp) t old = if is_tx (transaction run name) t then old ++ object ∷ [] else old
-objects_after run other t old = old
+abbrev pub updated_by : PartId → ℕ → ℕ → Call → ObjectId → Option ℕ → TxId → List Change
+updated_by p time index (UpdateOf u o op) object stamp t = if same_tx u t then (record { at = p; now = time; object = object; op = op; stamp = stamp; index = index }) ∷ [] else []
+updated_by p time index other object stamp t = []
 
--- the objects of t, one for each of its updates, in order
-abbrev pub objects_of : Run → TxId → List ObjectId
-objects_of [] t = []
-objects_of (e ∷ run) t = objects_after run e.step t (objects_of run t)
+-- the update of t that a line shows
+abbrev pub change_of : PartId → ℕ → ℕ → Call → Step → TxId → List Change
+change_of p time index call (step.Updated name object stamp) t = updated_by p time index call object stamp t
+change_of p time index call other t = []
+
+-- the updates of t, in order
+abbrev pub changes : List Line → TxId → List Change
+changes [] t = []
+changes (l ∷ ls) t = changes ls t ++ change_of l.at (now ls l.at) (length (changes ls t) + 1) l.call l.step t
+
+-- t updated something at p
+abbrev pub takes_part : List Line → TxId → PartId → Bool
+takes_part ls t p = list_any (λ c. same_part c.at p) (changes ls t)
+
+-- t updated this object at p
+abbrev pub touches : List Line → TxId → PartId → ObjectId → Bool
+touches ls t p o = list_any (λ c. same_part c.at p && same_object c.object o) (changes ls t)
+
+-- the partitions of its site where t updated something, in ascending order; the first is the lead
+abbrev pub participants : ℕ → List Line → TxId → List PartId
+participants parts ls t = filter (λ p. takes_part ls t p) (partitions t.site 1 parts)
+
+abbrev pub lead : ℕ → List Line → TxId → PartId
+lead parts ls t = first_of (home t) (participants parts ls t)
+
+-- t reads and updates an object where it stands, at its own site
+abbrev pub StandsAt : ℕ → PartId → TxId → ObjectId → Type 0
+StandsAt parts p t o = (p.site ≡ t.site) × (place_of o.bucket o.key parts ≡ p.part)
+
+-- a begin names its partition
+abbrev pub IsPlaced : ℕ → List Line → PartId → Call → Step → Type 0
+IsPlaced parts ls p call (step.Began name t s) = home t ≡ p
+IsPlaced parts ls p (ReadOf t o) (step.Value name object value) = StandsAt parts p t object
+IsPlaced parts ls p (UpdateOf t o op) (step.Updated name object stamp) = StandsAt parts p t object
+IsPlaced parts ls p call other = ⊤

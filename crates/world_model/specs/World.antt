@@ -5,7 +5,7 @@ use Rattle.site_vector.specs.declared.ids.PartId.{PartId}
 use Rattle.site_vector.specs.declared.ids.TxId.{TxId}
 use Rattle.site_vector.specs.Ids.{same_tx}
 use Rattle.crdt_core.specs.declared.record.Upd.{Upd}
-use Rattle.world_model.specs.Commit.{partitions}
+use Rattle.world_model.specs.Participants.{partitions}
 use Rattle.world_model.specs.Event.{Event, Began, Updated, Entry, tried}
 use Rattle.world_model.specs.Partition.{Kinds, PartState, new_part}
 use Rattle.world_model.specs.Plan.{Plan, first_of, is_some_update, home, updates_at, update_count, WorldStep}
@@ -13,7 +13,7 @@ use Rattle.world_model.specs.Handed.{IsNew}
 use Rattle.world_model.specs.LawfulWorld.{IsLawfulWorld}
 use Rattle.world_model.specs.Logs.{LeavesLogs}
 use Rattle.world_model.specs.Lines.{lines_of}
-use Rattle.world_model.specs.LineLaw.{IsLawfulRun}
+use Rattle.world_model.specs.Lawful.{IsLawful}
 
 module _ {E : Type 0} where
   abbrev pub is_begin : Event E → TxId → Bool
@@ -78,4 +78,4 @@ module _ {E : Type 0} where
 
 -- any run of the world is lawful, whatever its kinds do, leaves the logs that its events tell, and shows the lines of a lawful run
 abbrev pub LawWorld : (S E : Type 0) → Type 0
-LawWorld S E = (kinds : Kinds S E) (sites parts : ℕ) (run : List (Entry E)) (state : PartId → PartState E) → IsWorldRun kinds sites parts run state → IsLawfulWorld kinds (plan_of sites parts run) run × LeavesLogs sites run state × IsLawfulRun kinds.too_deep kinds.meaning sites parts (lines_of run)
+LawWorld S E = (kinds : Kinds S E) (sites parts : ℕ) (run : List (Entry E)) (state : PartId → PartState E) → IsWorldRun kinds sites parts run state → IsLawfulWorld kinds (plan_of sites parts run) run × LeavesLogs sites run state × IsLawful kinds.too_deep kinds.meaning sites parts (lines_of run)

@@ -14,9 +14,9 @@ use Rattle.crdt_core.specs.Stamps.{stamp_due}
 use Rattle.world_model.specs.declared.step.Step.{Step}
 use Rattle.world_model.specs.declared.step.Step.TheVariants as step
 use Rattle.world_model.specs.Lines.{Call, ReadOf, UpdateOf, Line}
-use Rattle.world_model.specs.LineClock.{now}
-use Rattle.world_model.specs.LineHistory.{history, visible, snapshot, precedes}
-use Rattle.world_model.specs.LineUpdates.{Change, changes}
+use Rattle.world_model.specs.Clock.{now}
+use Rattle.world_model.specs.History.{history, visible, snapshot, precedes}
+use Rattle.world_model.specs.Updates.{Change, changes}
 
 -- one update has seen another where the other's transaction precedes its own, or is its own and numbers the other lower
 abbrev pub has_seen : List Line → TxId → ℕ → Dot → Bool
@@ -46,9 +46,9 @@ abbrev pub read_by : List Line → List Line → TxId → ObjectId → List Upda
 read_by whole before t o = updates_of whole o (visible whole (snapshot whole t)) ++ updates_in whole o t (changes before t)
 
 -- a value is the meaning of what is read, and a stamp is due by it
-abbrev pub IsRight : (Kind → List Update → Value) → List Line → List Line → PartId → Call → Step → Type 0
-IsRight meaning whole before p call (step.Crashed q) = ⊤
-IsRight meaning whole before p (ReadOf t o) (step.Value name object value) = value ≡ meaning o.kind (read_by whole before t o)
-IsRight meaning whole before p (UpdateOf t o op) (step.Updated name object stamp) =
+abbrev pub IsRightRead : (Kind → List Update → Value) → List Line → List Line → PartId → Call → Step → Type 0
+IsRightRead meaning whole before p call (step.Crashed q) = ⊤
+IsRightRead meaning whole before p (ReadOf t o) (step.Value name object value) = value ≡ meaning o.kind (read_by whole before t o)
+IsRightRead meaning whole before p (UpdateOf t o op) (step.Updated name object stamp) =
     stamp ≡ stamp_due o.kind (read_by whole before t o) (update_of whole t (record { at = p; now = now before p; object = o; op = op; stamp = stamp; index = length (changes before t) + 1 }))
-IsRight meaning whole before p call other = ⊤
+IsRightRead meaning whole before p call other = ⊤

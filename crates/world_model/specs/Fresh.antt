@@ -7,8 +7,8 @@ use Rattle.world_model.specs.declared.step.Step.{Step}
 use Rattle.world_model.specs.declared.step.Step.TheVariants as step
 use Rattle.world_model.specs.Partition.{IsOther, lowest}
 use Rattle.world_model.specs.Lines.{Call, Line}
-use Rattle.world_model.specs.LinePast.{dependency}
-use Rattle.world_model.specs.LineBounds.{bound, IsOwnBound, heard, heard_after, stable_entry}
+use Rattle.world_model.specs.Dependency.{dependency}
+use Rattle.world_model.specs.Bounds.{bound, IsOwnBound, heard, heard_after, stable_entry}
 
 -- a snapshot has the stable entry of each other site, and for its own the greater of the drawn time and that of the dependency
 pub record IsSnapshot (sites parts : ℕ) (before : List Line) (p : PartId) (who : List ℕ) (t : TxId) (s : List ℕ) : Type 0 where

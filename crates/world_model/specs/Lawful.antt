@@ -8,18 +8,18 @@ use Rattle.crdt_core.specs.declared.value.Value.{Value}
 use Rattle.crdt_core.specs.Seen.{Update}
 use Rattle.world_model.specs.Plan.{IsPlace}
 use Rattle.world_model.specs.Lines.{Line, EachLine}
-use Rattle.world_model.specs.LineClock.{FollowsClock}
-use Rattle.world_model.specs.LinePast.{KeepsPast}
-use Rattle.world_model.specs.LineHistory.{in_history, visible, snapshot, is_begun, IsClosed, IsStrictOrder}
-use Rattle.world_model.specs.LineUpdates.{takes_part, lead, IsPlaced}
-use Rattle.world_model.specs.LineCommit.{was_prepared, ShowsCommit}
-use Rattle.world_model.specs.LineReads.{IsRight}
+use Rattle.world_model.specs.Clock.{FollowsClock}
+use Rattle.world_model.specs.Dependency.{KeepsPast}
+use Rattle.world_model.specs.History.{in_history, visible, snapshot, is_begun, IsClosed, IsStrictOrder}
+use Rattle.world_model.specs.Updates.{takes_part, lead, IsPlaced}
+use Rattle.world_model.specs.Commit.{was_prepared, ShowsCommit}
+use Rattle.world_model.specs.Reads.{IsRightRead}
 use Rattle.world_model.specs.LineAnswers.{IsAnswer}
-use Rattle.world_model.specs.LineOps.{HasOp}
-use Rattle.world_model.specs.LineFates.{ShowsFate}
-use Rattle.world_model.specs.LineFresh.{IsFresh}
-use Rattle.world_model.specs.LineStreams.{IsStream}
-use Rattle.world_model.specs.LineCauses.{HasCause, AnswersAsUp}
+use Rattle.world_model.specs.Ops.{HasOp}
+use Rattle.world_model.specs.Fate.{ShowsFate}
+use Rattle.world_model.specs.Fresh.{IsFresh}
+use Rattle.world_model.specs.Streams.{IsStream}
+use Rattle.world_model.specs.Causes.{HasCause, AnswersAsUp}
 
 -- what is decided, also where only a restart named it, was voted for by all its participants
 pub record IsAgreed (parts : ℕ) (ls : List Line) (t : TxId) : Type 0 where
@@ -27,7 +27,7 @@ pub record IsAgreed (parts : ℕ) (ls : List Line) (t : TxId) : Type 0 where
   pub votes : (q : PartId) → takes_part ls t q ≡ true → was_prepared ls t q ≡ true
 
 -- the lines show one causally consistent history, where kinds have these meanings, and objects reach so deep
-pub record IsLawfulRun (too_deep : Kind → List Field → Bool) (meaning : Kind → List Update → Value) (sites parts : ℕ) (ls : List Line) : Type 0 where
+pub record IsLawful (too_deep : Kind → List Field → Bool) (meaning : Kind → List Update → Value) (sites parts : ℕ) (ls : List Line) : Type 0 where
   -- each line is of a partition of the cluster
   pub places : EachLine (λ before p call step. IsPlace sites parts p) ls
   pub answers : EachLine IsAnswer ls
@@ -36,7 +36,7 @@ pub record IsLawfulRun (too_deep : Kind → List Field → Bool) (meaning : Kind
   pub past : KeepsPast sites ls
   pub fresh : EachLine (IsFresh sites parts) ls
   -- each value is the meaning of exactly what its transaction may see in the whole run
-  pub right : EachLine (IsRight meaning ls) ls
+  pub right : EachLine (IsRightRead meaning ls) ls
   pub commit : EachLine (ShowsCommit parts ls) ls
   pub agreed : (t : TxId) → in_history ls t ≡ true → IsAgreed parts ls t
   pub fates : EachLine (ShowsFate sites parts ls) ls

@@ -12,11 +12,11 @@ use Rattle.world_model.specs.Partition.{IsOther, Ascends, names_pending, pending
 use Rattle.world_model.specs.Plan.{twin}
 use Rattle.world_model.specs.Shown.{listed_time, IsOwnBoundOf}
 use Rattle.world_model.specs.Lines.{Call, TakeOf, PrepareOf, DecideOf, FinishOf, AbortOf, Restart, Line}
-use Rattle.world_model.specs.LineClock.{now}
-use Rattle.world_model.specs.LineHistory.{in_history, history, commit_time}
-use Rattle.world_model.specs.LineBounds.{bound}
-use Rattle.world_model.specs.LineUpdates.{takes_part, lead}
-use Rattle.world_model.specs.LineFate.{pending, prepare_time, in_doubt}
+use Rattle.world_model.specs.Clock.{now}
+use Rattle.world_model.specs.History.{in_history, history, commit_time}
+use Rattle.world_model.specs.Bounds.{bound}
+use Rattle.world_model.specs.Updates.{takes_part, lead}
+use Rattle.world_model.specs.Pending.{pending, prepare_time, in_doubt}
 
 -- what is pending once a call was done that a fault of the disk ended
 abbrev pub pending_done : Call → Bool → TxId → Bool

@@ -8,8 +8,8 @@ use Rattle.world_model.specs.declared.step.Step.{Step}
 use Rattle.world_model.specs.declared.step.Step.TheVariants as step
 use Rattle.world_model.specs.Partition.{lowest}
 use Rattle.world_model.specs.Lines.{Call, TakeOf, HearOf, Line}
-use Rattle.world_model.specs.LineClock.{now}
-use Rattle.world_model.specs.LineFate.{pending, prepare_time}
+use Rattle.world_model.specs.Clock.{now}
+use Rattle.world_model.specs.Pending.{pending, prepare_time}
 
 -- the site of a message that a call was handed
 abbrev pub is_from : Call → ℕ → Bool

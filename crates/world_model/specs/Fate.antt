@@ -6,12 +6,12 @@ use Rattle.world_model.specs.declared.step.Step.{Step}
 use Rattle.world_model.specs.declared.step.Step.TheVariants as step
 use Rattle.world_model.specs.Plan.{twin}
 use Rattle.world_model.specs.Lines.{Call, Line}
-use Rattle.world_model.specs.LineHistory.{in_history, commit_time}
-use Rattle.world_model.specs.LineBounds.{bound}
-use Rattle.world_model.specs.LineUpdates.{takes_part, lead}
-use Rattle.world_model.specs.LineFate.{pending, is_down}
-use Rattle.world_model.specs.LineCommit.{is_decide_asked}
-use Rattle.world_model.specs.LineRestarts.{IsResumed}
+use Rattle.world_model.specs.History.{in_history, commit_time}
+use Rattle.world_model.specs.Bounds.{bound}
+use Rattle.world_model.specs.Updates.{takes_part, lead}
+use Rattle.world_model.specs.Pending.{pending, is_down}
+use Rattle.world_model.specs.Commit.{is_decide_asked}
+use Rattle.world_model.specs.Restarts.{IsResumed}
 
 -- p is a participant of t, which is decided so far and is pending there no more
 abbrev pub is_ended_at : List Line → List Line → PartId → TxId → Bool

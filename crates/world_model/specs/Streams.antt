@@ -8,9 +8,9 @@ use Rattle.world_model.specs.Partition.{IsOther}
 use Rattle.world_model.specs.Plan.{twin}
 use Rattle.world_model.specs.Sends.{low_of}
 use Rattle.world_model.specs.Lines.{Call, SendTo, TakeOf, HearOf, Line}
-use Rattle.world_model.specs.LineHistory.{history, commit_time}
-use Rattle.world_model.specs.LineUpdates.{takes_part}
-use Rattle.world_model.specs.LineBounds.{bound, IsOwnBound}
+use Rattle.world_model.specs.History.{history, commit_time}
+use Rattle.world_model.specs.Updates.{takes_part}
+use Rattle.world_model.specs.Bounds.{bound, IsOwnBound}
 
 -- how many decided transactions of the whole run updated something at p and have a commit time in this stretch
 abbrev pub stream_count : List Line → PartId → ℕ → ℕ → ℕ
