@@ -52,6 +52,8 @@ pub fn made_on<C: Crdt>(
     }
 }
 
+/// An effect that the kind has. Where a layer calls this, the operation is one of the kind and leads nowhere too deep,
+/// so by the clauses of `generate` no refusal of the kind comes here, and want of memory is the only error.
 fn generated<C: Crdt>(
     alloc: Global,
     kind: Kind,
