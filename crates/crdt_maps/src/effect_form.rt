@@ -42,7 +42,7 @@ impl<I: Crdt> Form for GoForm<I> {
                 put_u8(out, AT)?;
                 put_entry::<I>(out, field, effect)
             }
-            MapEffect::Resets(_) => Err(AllocError),
+            MapEffect::Resets(_) => unreachable!(),
         }
     }
 

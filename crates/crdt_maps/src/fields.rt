@@ -1,4 +1,4 @@
-ghost use Rattle.std.specs.Prelude.{◌≡◌, ◌==◌, Option, OnOk};
+ghost use Rattle.std.specs.Prelude.{◌≡◌, ◌==◌, Option, OnOk, OnErr};
 ghost use Rattle.std.specs.Option.{option_copied};
 ghost use Rattle.std.specs.FinMap as map;
 ghost use Rattle.std.specs.Map.Iter.{ShowsInOrder, deref_pair};
@@ -67,7 +67,8 @@ impl<S: Drop> Fields<S> {
     ///
     /// `AllocError` where memory runs out. The fields are as before then.
     pub fn put(&mut self, field: Field, state: S) -> Result<(), AllocError>
-        ensures { OnOk result (self.new ≡ map.insert self.old field state) }
+        ensures ok { OnOk result (self.new ≡ map.insert self.old field state) }
+        ensures err { OnErr result (self.new ≡ self.old) }
     {
         self.fields.insert(field, state)?;
         Ok(())

@@ -16,3 +16,6 @@ pub use effect::MapEffect;
 pub use fields::Fields;
 pub use map_go::MapGo;
 pub use map_rr::MapRr;
+
+#[cfg(test)]
+mod tests;

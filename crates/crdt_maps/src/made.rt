@@ -145,7 +145,8 @@ fn field_effect<I: Crdt>(
     }
 }
 
-/// An effect that the inner type has: want of memory is then the only error.
+/// An effect that the inner type has. Where a map calls this, the operation is one of the field's kind and leads nowhere too deep,
+/// so by the clauses of `generate` no refusal of the inner type comes here, and want of memory is the only error.
 fn generated<I: Crdt>(
     alloc: Global,
     kind: Kind,
