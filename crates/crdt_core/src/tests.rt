@@ -1,10 +1,7 @@
-ghost use Rattle.std.specs.Prelude.{◌≡◌};
-
 use super::*;
 use field_codec::{ListOf, TakeError, Text};
 use site_vector::{Dot, TxId, VTime};
 use std::alloc::Global;
-use std::collections::LinkedList;
 use std::test::*;
 
 fn word(alloc: Global, s: &str) -> Result<Text, Fail> {
@@ -63,72 +60,21 @@ fn kinds_have_their_acts(rt: HostRuntime) -> Result<(), Fail> {
     Ok(())
 }
 
-fn dot(index: u16) -> Dot
-    ensures place { (result.tx.site ≡ 1) × (result.tx.part ≡ 1) × (result.tx.time ≡ 7) }
-    ensures number { result.index ≡ index }
-{
-    Dot {
+#[test]
+fn what_is_kept(rt: HostRuntime) -> Result<(), Fail> {
+    let alloc = rt.alloc();
+    let first = Dot {
         tx: TxId {
             site: 1,
             part: 1,
             time: 7,
         },
-        index,
-    }
-}
-
-#[test]
-fn sets_of_updates(rt: HostRuntime) -> Result<(), Fail> {
-    let alloc = rt.alloc();
-    let mut dots = Dots::new(alloc);
-    dots.insert(dot(2))?;
-    dots.insert(dot(1))?;
-    dots.insert(dot(2))?;
-    assert_eq!(rt; dots.as_slice(), [dot(1), dot(2)].as_slice());
-    let mut gone = Dots::new(alloc);
-    gone.insert(dot(2))?;
-    dots.remove_all(&gone);
-    assert!(rt; dots.contains(dot(1)));
-    assert!(rt; !dots.contains(dot(2)));
-    Ok(())
-}
-
-#[test]
-fn updates_put(rt: HostRuntime) -> Result<(), Fail> {
-    let mut out = Vec::new(rt.alloc());
-    put_tx(&mut out, dot(1).tx)?;
-    put_dot(&mut out, dot(256))?;
-    put_dots(&mut out, &Dots::new(rt.alloc()))?;
-    let bytes = [
-        1, 1, 0, 0, 0, 0, 0, 0, 0, 7, 1, 1, 0, 0, 0, 0, 0, 0, 0, 7, 1, 0, 0, 0, 0, 0,
-    ];
-    assert_eq!(rt; out.as_slice(), bytes.as_slice());
-    Ok(())
-}
-
-#[test]
-fn copies(rt: HostRuntime) -> Result<(), Fail> {
-    let alloc = rt.alloc();
-    let field = Field {
-        name: word(alloc, "items")?,
-        kind: Kind::SetAw,
+        index: 1,
     };
-    let milk = object(alloc, "shop", "milk")?;
-    assert!(rt; field.copy(alloc)? == field);
-    assert!(rt; milk.copy(alloc)? == milk);
-    let mut members = LinkedList::new(alloc);
-    members.push_back((field, Value::Flag(true)))?;
-    match Value::Fields(members).copy(alloc)? {
-        Value::Fields(copied) => assert_eq!(rt; copied.len(), 1),
-        _ => return Err("fields".into()),
-    }
-    Ok(())
-}
-
-#[test]
-fn what_is_kept(rt: HostRuntime) -> Result<(), Fail> {
-    let alloc = rt.alloc();
-    let (first, second) = (dot(1), dot(2));
+    let second = Dot {
+        tx: first.tx,
+        index: 2,
+    };
     let mut kept: Kept<i64> = Kept::new(alloc);
     kept.put(second, 5)?;
     kept.put(first, 3)?;
