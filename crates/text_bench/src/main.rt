@@ -1,7 +1,7 @@
 //! Reads the lines of standard input and prints a step for each command.
 //!
 //! `text_bench show` prints for each line what it reads as: `nothing`, `bad`, or a step with the words of its command. Its stored run is the test
-//! of the crates that read lines and print steps. `text_bench parse N` parses each line N times, `text_bench line N` prints the steps N times, for
+//! of the crates that read lines, and copy and print steps. `text_bench parse N` parses each line N times, `text_bench line N` prints the steps N times, for
 //! bench/text to measure; both end with one line of what they made. A line outside the grammar counts as none.
 #![tactic(auto)]
 
@@ -59,10 +59,10 @@ fn steps_of(alloc: Global, script: &[u8]) -> Result<Vec<Step>, AllocError> {
     Ok(steps)
 }
 
-/// Adds the step of the command.
+/// Adds the step of the command, as its copy shows it.
 fn put_step(alloc: Global, command: &Command, out: &mut Vec<u8>) -> Result<(), AllocError> {
     match step_of(alloc, command)? {
-        Some(step) => line(alloc, &step, out),
+        Some(step) => line(alloc, &step.copy(alloc)?, out),
         None => out.extend_from_slice(b"no step\n"),
     }
 }
