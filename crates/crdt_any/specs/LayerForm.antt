@@ -28,21 +28,22 @@ use Rattle.crdt_any.specs.declared.state.LayerState.TheVariants as state
 use Rattle.crdt_any.specs.declared.effect.LayerEffect.{LayerEffect}
 use Rattle.crdt_any.specs.declared.effect.LayerEffect.TheVariants as effect
 use Rattle.crdt_core.specs.EffectForm.{SpellsEffects}
+use Rattle.crdt_core.specs.Stands.{StandsIn, NamesStand}
 use Rattle.crdt_counters.specs.CounterPn.{pn_has}
 use Rattle.crdt_counters.specs.CounterFat.{fat_has}
-use Rattle.crdt_counters.specs.EffectForm.{is_amount_number, amount_spelling, amount_at, pn_spells, can_put_fat, is_fat_spelled, fat_spelling, fat_at, fat_spells}
+use Rattle.crdt_counters.specs.EffectForm.{is_amount_number, amount_spelling, amount_at, pn_spells, can_put_fat, is_fat_spelled, fat_spelling, fat_at, fat_spells, pn_stands, fat_stands}
 use Rattle.crdt_sets.specs.SetGo as set
 use Rattle.crdt_sets.specs.Sets as sets
-use Rattle.crdt_sets.specs.EffectForm.{can_put_texts, are_texts_spelled, texts_spelling, texts_at, go_spells as set_go_spells, can_put_set, is_set_spelled, set_spelling, set_at, set_spells}
+use Rattle.crdt_sets.specs.EffectForm.{can_put_texts, are_texts_spelled, texts_spelling, texts_at, go_spells as set_go_spells, can_put_set, is_set_spelled, set_spelling, set_at, set_spells, go_stands as set_go_stands, set_stands}
 use Rattle.crdt_flags.specs.Flags as flags
-use Rattle.crdt_flags.specs.EffectForm.{can_put_flag, is_flag_spelled, flag_spelling, flag_at, flag_spells}
+use Rattle.crdt_flags.specs.EffectForm.{can_put_flag, is_flag_spelled, flag_spelling, flag_at, flag_spells, flag_stands}
 use Rattle.crdt_registers.specs.RegisterLww.{lww_has}
 use Rattle.crdt_registers.specs.RegisterMv.{mv_has}
-use Rattle.crdt_registers.specs.LwwForm.{can_put_lww, is_lww_spelled, lww_spelling, lww_at, lww_spells}
-use Rattle.crdt_registers.specs.MvForm.{can_put_mv, is_mv_spelled, mv_spelling, mv_at, mv_spells}
+use Rattle.crdt_registers.specs.LwwForm.{can_put_lww, is_lww_spelled, lww_spelling, lww_at, lww_spells, lww_stands}
+use Rattle.crdt_registers.specs.MvForm.{can_put_mv, is_mv_spelled, mv_spelling, mv_at, mv_spells, mv_stands}
 use Rattle.crdt_maps.specs.Maps.{go_has, rr_has}
-use Rattle.crdt_maps.specs.EffectForm.{go_can_put, go_is_spelled, go_spelling, go_at, go_spells, rr_can_put, rr_is_spelled, rr_spelling, rr_at, rr_spells}
-use Rattle.crdt_any.specs.Layer.{layer_has}
+use Rattle.crdt_maps.specs.EffectForm.{go_can_put, go_is_spelled, go_spelling, go_at, go_spells, rr_can_put, rr_is_spelled, rr_spelling, rr_at, rr_spells, go_stands, rr_stands}
+use Rattle.crdt_any.specs.Layer.{layer_has, layer_names}
 use Rattle.crdt_any.specs.Cases.{counter_pn_effect, counter_fat_effect, set_go_effect, set_aw_effect, set_rw_effect, flag_ew_effect, flag_dw_effect, register_lww_effect, register_mv_effect, map_go_effect, map_rr_effect}
 
 abbrev pub layer_is_of : {E : Type 0} → Kind → LayerEffect E → Bool
@@ -176,3 +177,20 @@ module _ {E : Type 0} {has : Kind → Bool} {is_of : Kind → E → Bool} {can_p
 
   pub layer_spells : SpellsEffects layer_has layer_is_of (layer_can_put has is_of can_put spelling) (layer_is_spelled has is_of is_spelled spelling) (layer_spelling spelling) (layer_reading has reading)
   layer_spells = record { form = λ k is. form_at k }
+
+module _ {E : Type 0} (has : Kind → Bool) (is_of : Kind → E → Bool) {can_put : E → Bool} {names : E → Dot → Bool} {spelling : E → List ℕ} (inner : NamesStand can_put names spelling) where
+  layer_stand : (e : LayerEffect E) (d : Dot) → layer_can_put has is_of can_put spelling e ≡ true → layer_names has names e d ≡ true → StandsIn d (layer_spelling spelling e)
+  layer_stand (effect.CounterPn e) d can h = pn_stands.stands e d can h
+  layer_stand (effect.CounterFat e) d can h = fat_stands.stands e d can h
+  layer_stand (effect.SetGo e) d can h = set_go_stands.stands e d can h
+  layer_stand (effect.SetAw e) d can h = set_stands.stands e d can h
+  layer_stand (effect.SetRw e) d can h = set_stands.stands e d can h
+  layer_stand (effect.FlagEw e) d can h = flag_stands.stands e d can h
+  layer_stand (effect.FlagDw e) d can h = flag_stands.stands e d can h
+  layer_stand (effect.RegisterLww e) d can h = lww_stands.stands e d can h
+  layer_stand (effect.RegisterMv e) d can h = mv_stands.stands e d can h
+  layer_stand (effect.MapGo e) d can h = (go_stands has is_of inner).stands e d can h
+  layer_stand (effect.MapRr e) d can h = (rr_stands has is_of inner).stands e d can h
+
+  pub layer_stands : NamesStand (layer_can_put has is_of can_put spelling) (layer_names has names) (layer_spelling spelling)
+  layer_stands = record { stands = layer_stand }

@@ -8,6 +8,8 @@ use Rattle.crdt_core.specs.declared.value.Value.TheVariants.{Flag}
 use Rattle.crdt_core.specs.Law.{KeepsLaw}
 use Rattle.crdt_core.specs.InMaps.{KeepsInMaps}
 use Rattle.crdt_core.specs.EffectForm.{SpellsEffects}
+use Rattle.crdt_core.specs.Stands.{NamesStand}
+use Rattle.crdt_core.specs.StandsLaws.{none_stand}
 
 pub nothing_law : KeepsLaw {S = Unit {0}} {E = Unit {0}} (λ k. false) (λ k p. false) (λ k. tt) (λ s d e. tt) (λ k s p a n. tt) (λ s. Flag false) (λ e. None) (λ k us. Flag false) (λ e d. false) (λ s d. false)
 nothing_law = record {
@@ -28,3 +30,6 @@ nothing_in_maps = record {
 
 pub nothing_spells : SpellsEffects {E = Unit {0}} (λ k. false) (λ k e. true) (λ e. true) (λ e. true) (λ e. []) (λ k bytes at. Err (Bad at))
 nothing_spells = record { form = λ k has. absurd (false≢true has) }
+
+pub nothing_stands : NamesStand {E = Unit {0}} (λ e. true) (λ e d. false) (λ e. [])
+nothing_stands = none_stand (λ e. true) (λ e. [])

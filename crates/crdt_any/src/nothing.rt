@@ -1,7 +1,7 @@
 ghost use Rattle.std.specs.Prelude.{◌≡◌, [], true, false, None, Err};
 ghost use Rattle.field_codec.specs.declared.error.TakeError.TheVariants.{Bad};
 ghost use Rattle.crdt_core.specs.declared.value.Value.TheVariants.{Flag};
-ghost use Rattle.crdt_any.specs.NothingLaws.{nothing_law, nothing_in_maps, nothing_spells};
+ghost use Rattle.crdt_any.specs.NothingLaws.{nothing_law, nothing_in_maps, nothing_spells, nothing_stands};
 
 use crdt_core::{Act, Crdt, Field, GenError, Kind, Op, Value, fits_at, reads_state};
 use field_codec::TakeError;
@@ -49,6 +49,8 @@ impl Crdt for Nothing {
     ghost reading = { λ k bytes at. Err (Bad at) };
 
     ghost spells = { nothing_spells };
+
+    ghost stands = { nothing_stands };
 
     ghost is_blank = { λ s. true };
 

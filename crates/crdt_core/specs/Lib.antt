@@ -25,6 +25,8 @@ pub mod MapLists
 pub mod Members
 pub mod Spelled
 pub mod SpelledLaws
+pub mod Stands
+pub mod StandsLaws
 pub mod Texts
 pub mod Wins
 pub mod WinsLaw

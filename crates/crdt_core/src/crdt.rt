@@ -11,6 +11,7 @@ ghost use Rattle.crdt_core.specs.Fits.{fits};
 ghost use Rattle.crdt_core.specs.InMaps.{KeepsInMaps};
 ghost use Rattle.crdt_core.specs.Law.{KeepsLaw};
 ghost use Rattle.crdt_core.specs.EffectForm.{SpellsEffects, HoldsSpelled, IsReady};
+ghost use Rattle.crdt_core.specs.Stands.{NamesStand};
 
 use crate::{Act, Field, GenError, Kind, Op, Value};
 use field_codec::TakeError;
@@ -83,6 +84,9 @@ pub trait Crdt {
 
     /// Each effect is spelled in one way, and none begins another of its kind.
     ghost spells: { SpellsEffects has is_of can_put is_spelled spelling reading };
+
+    /// An effect names no other updates than such as stand in its bytes.
+    ghost stands: { NamesStand can_put names spelling };
 
     /// Whether the type has the kind. Takes no memory.
     fn has(kind: Kind) -> bool

@@ -16,6 +16,10 @@ use Rattle.crdt_core.specs.declared.kind.Kind.{Kind}
 use Rattle.crdt_core.specs.Spelled.{is_between, are_dots, is_dots, dots, dots_at}
 use Rattle.crdt_core.specs.SpelledLaws.{dots_held_form}
 use Rattle.crdt_core.specs.EffectForm.{SpellsEffects}
+use Rattle.crdt_core.specs.Stands.{StandsIn, NamesStand}
+use Rattle.crdt_core.specs.StandsLaws.{stands_behind, dots_stand, none_stand}
+use Rattle.crdt_counters.specs.CounterPn.{names_none}
+use Rattle.crdt_counters.specs.CounterFat.{fat_names}
 use Rattle.crdt_counters.specs.declared.counter_fat.FatEffect.{FatEffect}
 use Rattle.crdt_counters.specs.declared.counter_fat.FatEffect.TheVariants.{Amount, Reset}
 
@@ -106,3 +110,13 @@ pn_spells has = record { form = λ k h. amount_form }
 
 pub fat_spells : (has : Kind → Bool) → SpellsEffects has is_of_kind can_put_fat is_fat_spelled fat_spelling (λ k. fat_at)
 fat_spells has = record { form = λ k h. fat_form }
+
+pub pn_stands : NamesStand is_amount_number names_none amount_spelling
+pn_stands = none_stand is_amount_number amount_spelling
+
+fat_stand : (e : FatEffect) (d : Dot) → fat_names e d ≡ true → StandsIn d (fat_spelling e)
+fat_stand (Amount n) d h = absurd (false≢true h)
+fat_stand (Reset ds) d h = stands_behind (number 1 1) (dots_stand ds d h)
+
+pub fat_stands : NamesStand can_put_fat fat_names fat_spelling
+fat_stands = record { stands = λ e d can h. fat_stand e d h }

@@ -1,7 +1,7 @@
 ghost use Rattle.std.specs.Prelude.{◌≡◌, pos, false};
 ghost use Rattle.crdt_counters.specs.Meaning.{counter_meaning};
 ghost use Rattle.crdt_counters.specs.CounterPn.{pn_has, pn_step, pn_made, pn_value, no_stamp, names_none, holds_none, is_zero};
-ghost use Rattle.crdt_counters.specs.EffectForm.{is_of_kind, is_amount_number, amount_spelling, amount_at, pn_spells};
+ghost use Rattle.crdt_counters.specs.EffectForm.{is_of_kind, is_amount_number, amount_spelling, amount_at, pn_spells, pn_stands};
 ghost use Rattle.crdt_counters.specs.PnLaw.{pn_law, pn_in_maps};
 
 use crate::amount_form::AmountForm;
@@ -57,6 +57,8 @@ impl Crdt for CounterPn {
     ghost reading = { λ k. amount_at };
 
     ghost spells = { pn_spells pn_has };
+
+    ghost stands = { pn_stands };
 
     fn has(kind: Kind) -> bool {
         kind == Kind::CounterPn

@@ -9,7 +9,9 @@ use Rattle.crdt_core.specs.declared.kind.Kind.{Kind}
 use Rattle.crdt_core.specs.Spelled.{are_dots, is_dots, dots, dots_at}
 use Rattle.crdt_core.specs.SpelledLaws.{marked_at, marked_form, dots_held_form}
 use Rattle.crdt_core.specs.EffectForm.{SpellsEffects}
-use Rattle.crdt_flags.specs.Flags.{flag_out}
+use Rattle.crdt_core.specs.Stands.{NamesStand}
+use Rattle.crdt_core.specs.StandsLaws.{stands_behind, dots_stand}
+use Rattle.crdt_flags.specs.Flags.{flag_out, flag_names}
 use Rattle.crdt_flags.specs.declared.effect.FlagEffect.{FlagEffect}
 use Rattle.crdt_flags.specs.declared.effect.FlagEffect.TheVariants.{Enable, Disable, Reset}
 
@@ -59,3 +61,6 @@ is_of_kind k e = true
 
 pub flag_spells : (has : Kind → Bool) → SpellsEffects has is_of_kind can_put_flag is_flag_spelled flag_spelling (λ k. flag_at)
 flag_spells has = record { form = λ k h. flag_form }
+
+pub flag_stands : NamesStand can_put_flag flag_names flag_spelling
+flag_stands = record { stands = λ e d can h. stands_behind (number 1 (flag_mark e)) (dots_stand (flag_out e) d h) }

@@ -1,15 +1,17 @@
 -- The bytes of maps' effects: a field with an effect of its kind, or what a reset undoes of each field.
-use Rattle.std.specs.Prelude.{◌≡◌, ℕ, zero, suc, ◌+◌, ◌^◌, ◌<◌, ◌≤◌, ◌==◌, Bool, true, false, ◌&&◌, eqb, nat_le, nat_lt, cond, List, [], ◌∷◌, ◌++◌, length, drop, Ok, Err, if◌then◌else◌, refl}
-use Rattle.std.proofs.Common.{arith, ap, sym, subst, ◌∙◌}
-use Rattle.std.proofs.lemmas.Bool.{true≢false, false≢true, eqb-true, eq-eqb}
+use Rattle.std.specs.Prelude.{◌≡◌, ℕ, zero, suc, ◌+◌, ◌^◌, ◌<◌, ◌≤◌, ◌==◌, Bool, true, false, ◌&&◌, ◌||◌, eqb, nat_le, nat_lt, cond, List, [], ◌∷◌, ◌++◌, length, drop, None, Ok, Err, if◌then◌else◌, refl}
+use Rattle.std.proofs.Common.{arith, ap, sym, subst, ◌∙◌, ⊎_elim}
+use Rattle.std.proofs.lemmas.Bool.{true≢false, false≢true, eqb-true, eq-eqb, or_cases}
 use Rattle.std.proofs.lemmas.Bool.Decides.{nat_tests}
+use Rattle.std.specs.List.{list_all}
 use Rattle.std.specs.declared.cmp.Ordering.{Ordering}
 use Rattle.field_codec.specs.declared.error.TakeError.TheVariants.{Bad}
-use Rattle.field_codec.specs.Spelling.{number, is_number, text, is_text, list, are_members, is_list, is_below, Spans}
+use Rattle.field_codec.specs.Spelling.{number, is_number, text, is_text, list, are_in_order, are_members, is_list, is_below, Spans}
 use Rattle.field_codec.specs.Reading.{Read, ◌>>=◌, number_at, text_at, list_at, checked_at, then_at, mapped_at}
 use Rattle.field_codec.specs.Lawful.{IsForm}
 use Rattle.field_codec.specs.FormLaws.{any_text_form, number_form, width1, list_form, checked_form, then_form, mapped_form, lt_holds, le_from, both_true, and_true, ok_is, bind_ok, guard_ok, spans_first}
 use Rattle.field_codec.specs.Tagged.{tagged_at, tagged_form, shape_form}
+use Rattle.site_vector.specs.declared.ids.Dot.{Dot}
 use Rattle.crdt_core.specs.declared.kind.Kind.{Kind}
 use Rattle.crdt_core.specs.declared.kind.Kind.TheVariants as kinds
 use Rattle.crdt_core.specs.declared.object.Field.{Field}
@@ -18,6 +20,9 @@ use Rattle.crdt_core.specs.FieldOrder.{field_cmp}
 use Rattle.crdt_core.specs.Spelled.{is_between, kind, kind_at}
 use Rattle.crdt_core.specs.SpelledLaws.{kind_form}
 use Rattle.crdt_core.specs.EffectForm.{SpellsEffects, reset_tag, begins_with}
+use Rattle.crdt_core.specs.Stands.{StandsIn, NamesStand}
+use Rattle.crdt_core.specs.StandsLaws.{stands_behind, stands_in_list}
+use Rattle.crdt_maps.specs.Maps.{map_names}
 use Rattle.crdt_maps.specs.declared.effect.MapEffect.{MapEffect}
 use Rattle.crdt_maps.specs.declared.effect.MapEffect.TheVariants.{At, Resets}
 
@@ -276,3 +281,39 @@ module _ {E : Type 0} {has : Kind → Bool} {is_of : Kind → E → Bool} {can_p
 
   pub rr_spells : (of_map : Kind → Bool) → SpellsEffects of_map is_of_map (rr_can_put has is_of can_put spelling) (rr_is_spelled has is_of is_spelled spelling) (rr_spelling spelling) (λ k. rr_at has reading)
   rr_spells of_map = record { form = λ k h. rr_form }
+
+-- ---- what an effect names stands in its bytes
+
+entry_stands : {E : Type 0} {can_put : E → Bool} {names : E → Dot → Bool} {spelling : E → List ℕ} (has : Kind → Bool) → NamesStand can_put names spelling
+    → (d : Dot) (x : Field × E) → can_put x.1 ≡ true → (has x.0.kind && names x.1 d) ≡ true → StandsIn d (entry spelling x)
+entry_stands {names = names} has inner d x can h = stands_behind (field x.0) (inner.stands x.1 d can (both_true (has x.0.kind) (names x.1 d) h).1)
+
+only : (b : Bool) → (b || false) ≡ true → b ≡ true
+only b h = ⊎_elim (λ is. is) (λ is. absurd (false≢true is)) (or_cases b false h)
+
+module _ {E : Type 0} (has : Kind → Bool) (is_of : Kind → E → Bool) {can_put : E → Bool} {names : E → Dot → Bool} {spelling : E → List ℕ} (inner : NamesStand can_put names spelling) where
+  entry_stand : (outer : Kind) (d : Dot) (x : Field × E) → can_put_entry (may_stand outer has) is_of can_put x ≡ true → (has x.0.kind && names x.1 d) ≡ true → StandsIn d (entry spelling x)
+  entry_stand outer d x can h = entry_stands has inner d x (both_true (is_of x.0.kind x.1) (can_put x.1) (both_true (may_stand outer has x.0.kind) (is_of x.0.kind x.1 && can_put x.1) can).1).1 h
+
+  reset_stand : (outer : Kind) (d : Dot) (x : Field × E) → can_put_reset (may_stand outer has) is_of can_put spelling x ≡ true → (has x.0.kind && names x.1 d) ≡ true → StandsIn d (entry spelling x)
+  reset_stand outer d x can h =
+      let begins = begins_with (reset_tag x.0.kind) (spelling x.1) in
+      let a = both_true (may_stand outer has x.0.kind) (begins && (is_of x.0.kind x.1 && can_put x.1)) can in
+      let b = both_true begins (is_of x.0.kind x.1 && can_put x.1) a.1 in
+      entry_stands has inner d x (both_true (is_of x.0.kind x.1) (can_put x.1) b.1).1 h
+
+  go_stand : (e : MapEffect E) (d : Dot) → go_can_put has is_of can_put e ≡ true → map_names has names e d ≡ true → StandsIn d (go_spelling spelling e)
+  go_stand (At f e) d can h = stands_behind (number 1 0) (entry_stand kinds.MapGo d (f, e) can (only (has f.kind && names e d) h))
+  go_stand (Resets xs) d can h = absurd (false≢true can)
+
+  pub go_stands : NamesStand (go_can_put has is_of can_put) (map_names has names) (go_spelling spelling)
+  go_stands = record { stands = go_stand }
+
+  rr_stand : (e : MapEffect E) (d : Dot) → rr_can_put has is_of can_put spelling e ≡ true → map_names has names e d ≡ true → StandsIn d (rr_spelling spelling e)
+  rr_stand (At f e) d can h = stands_behind (number 1 0) (entry_stand kinds.MapRr d (f, e) can (only (has f.kind && names e d) h))
+  rr_stand (Resets xs) d can h =
+      let good = both_true (are_in_order entry_below None xs) (list_all (can_put_reset (may_stand kinds.MapRr has) is_of can_put spelling) xs) can in
+      stands_behind (number 1 1) (stands_in_list d (can_put_reset (may_stand kinds.MapRr has) is_of can_put spelling) (λ x. has x.0.kind && names x.1 d) (entry spelling) (reset_stand kinds.MapRr d) xs good.1 h)
+
+  pub rr_stands : NamesStand (rr_can_put has is_of can_put spelling) (map_names has names) (rr_spelling spelling)
+  rr_stands = record { stands = rr_stand }

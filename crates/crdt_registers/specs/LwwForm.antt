@@ -9,8 +9,11 @@ use Rattle.crdt_core.specs.declared.kind.Kind.{Kind}
 use Rattle.crdt_core.specs.Spelled.{is_between, between_at}
 use Rattle.crdt_core.specs.SpelledLaws.{between_form}
 use Rattle.crdt_core.specs.EffectForm.{SpellsEffects}
+use Rattle.crdt_core.specs.Stands.{NamesStand}
+use Rattle.crdt_core.specs.StandsLaws.{none_stand}
 use Rattle.crdt_core.specs.Stamps.{last_stamp}
 use Rattle.crdt_registers.specs.EffectForm.{is_of_kind}
+use Rattle.crdt_registers.specs.RegisterLww.{lww_names}
 use Rattle.crdt_registers.specs.declared.assigned.Assigned.{Assigned}
 
 abbrev pub can_put_lww : Assigned → Bool
@@ -38,3 +41,6 @@ lww_form =
 
 pub lww_spells : (has : Kind → Bool) → SpellsEffects has is_of_kind can_put_lww is_lww_spelled lww_spelling (λ k. lww_at)
 lww_spells has = record { form = λ k h. lww_form }
+
+pub lww_stands : NamesStand can_put_lww lww_names lww_spelling
+lww_stands = none_stand can_put_lww lww_spelling

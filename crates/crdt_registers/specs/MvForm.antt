@@ -13,8 +13,10 @@ use Rattle.crdt_core.specs.declared.kind.Kind.{Kind}
 use Rattle.crdt_core.specs.Spelled.{are_dots, is_dots, dots, dots_at}
 use Rattle.crdt_core.specs.SpelledLaws.{dots_held_form}
 use Rattle.crdt_core.specs.EffectForm.{SpellsEffects}
+use Rattle.crdt_core.specs.Stands.{StandsIn, NamesStand}
+use Rattle.crdt_core.specs.StandsLaws.{stands_behind, dots_stand}
 use Rattle.crdt_registers.specs.EffectForm.{is_of_kind}
-use Rattle.crdt_registers.specs.RegisterMv.{mv_out}
+use Rattle.crdt_registers.specs.RegisterMv.{mv_out, mv_names}
 use Rattle.crdt_registers.specs.declared.mv_effect.MvEffect.{MvEffect}
 use Rattle.crdt_registers.specs.declared.mv_effect.MvEffect.TheVariants.{Assign, Reset}
 
@@ -83,3 +85,10 @@ mv_form = tagged_form is_mv_mark mv_mark can_put_mv is_mv_spelled mv_rest mv_res
 
 pub mv_spells : (has : Kind → Bool) → SpellsEffects has is_of_kind can_put_mv is_mv_spelled mv_spelling (λ k. mv_at)
 mv_spells has = record { form = λ k h. mv_form }
+
+mv_stand : (e : MvEffect) (d : Dot) → mv_names e d ≡ true → StandsIn d (mv_spelling e)
+mv_stand (Assign x ds) d h = stands_behind (number 1 0) (stands_behind (text x) (dots_stand ds d h))
+mv_stand (Reset ds) d h = stands_behind (number 1 2) (dots_stand ds d h)
+
+pub mv_stands : NamesStand can_put_mv mv_names mv_spelling
+mv_stands = record { stands = λ e d can h. mv_stand e d h }

@@ -3,7 +3,7 @@ ghost use Rattle.crdt_core.specs.Stamps.{last_stamp};
 ghost use Rattle.crdt_registers.specs.Meaning.{lww_meaning, word_of};
 ghost use Rattle.crdt_registers.specs.RegisterLww.{lww_has, lww_step, lww_made_on, lww_made, lww_stamp, lww_names, lww_holds, above, stands, unassigned};
 ghost use Rattle.crdt_registers.specs.EffectForm.{is_of_kind};
-ghost use Rattle.crdt_registers.specs.LwwForm.{can_put_lww, is_lww_spelled, lww_spelling, lww_at, lww_spells};
+ghost use Rattle.crdt_registers.specs.LwwForm.{can_put_lww, is_lww_spelled, lww_spelling, lww_at, lww_spells, lww_stands};
 ghost use Rattle.crdt_registers.specs.LwwLaw.{lww_law, lww_in_maps};
 
 use crate::assigned::{empty_text, is_before, text_of};
@@ -62,6 +62,8 @@ impl Crdt for RegisterLww {
     ghost reading = { λ k. lww_at };
 
     ghost spells = { lww_spells lww_has };
+
+    ghost stands = { lww_stands };
 
     fn has(kind: Kind) -> bool {
         kind == Kind::RegisterLww

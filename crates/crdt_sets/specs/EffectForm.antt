@@ -14,6 +14,12 @@ use Rattle.crdt_core.specs.Texts.{text_cmp}
 use Rattle.crdt_core.specs.Spelled.{is_between, are_dots, is_dots, dots, dots_at}
 use Rattle.crdt_core.specs.SpelledLaws.{dots_held_form}
 use Rattle.crdt_core.specs.EffectForm.{SpellsEffects}
+use Rattle.crdt_core.specs.DotSet.{has_dot}
+use Rattle.crdt_core.specs.Stands.{StandsIn, NamesStand}
+use Rattle.crdt_core.specs.StandsLaws.{stands_behind, stands_in_list, dots_stand, all_pass, none_stand}
+use Rattle.crdt_sets.specs.Elements.{names_dot}
+use Rattle.crdt_sets.specs.SetGo.{go_names}
+use Rattle.crdt_sets.specs.Sets.{set_names}
 use Rattle.crdt_sets.specs.declared.named.Named.{Named}
 use Rattle.crdt_sets.specs.declared.effect.SetEffect.{SetEffect}
 use Rattle.crdt_sets.specs.declared.effect.SetEffect.TheVariants.{Add, Remove, Reset}
@@ -160,3 +166,17 @@ go_spells has = record { form = λ k h. texts_form }
 
 pub set_spells : (has : Kind → Bool) → SpellsEffects has is_of_kind can_put_set is_set_spelled set_spelling (λ k. set_at)
 set_spells has = record { form = λ k h. set_form }
+
+pub go_stands : NamesStand can_put_texts go_names texts_spelling
+go_stands = none_stand can_put_texts texts_spelling
+
+named_stand : (ns : List Named) (d : Dot) → names_dot ns d ≡ true → StandsIn d (list_spelling ns)
+named_stand ns d h = stands_in_list d (λ n. true) (λ n. has_dot n.dots d) named (λ n any is. stands_behind (text n.text) (dots_stand n.dots d is)) ns (all_pass ns) h
+
+set_stand : (e : SetEffect) (d : Dot) → set_names e d ≡ true → StandsIn d (set_spelling e)
+set_stand (Add ns) d h = stands_behind (number 1 0) (named_stand ns d h)
+set_stand (Remove ns) d h = stands_behind (number 1 1) (named_stand ns d h)
+set_stand (Reset ns) d h = stands_behind (number 1 2) (named_stand ns d h)
+
+pub set_stands : NamesStand can_put_set set_names set_spelling
+set_stands = record { stands = λ e d can h. set_stand e d h }

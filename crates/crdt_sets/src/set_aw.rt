@@ -3,7 +3,7 @@ ghost use Rattle.std.specs.FinMap.{empty};
 ghost use Rattle.crdt_sets.specs.Meaning.{aw_meaning};
 ghost use Rattle.crdt_sets.specs.Elements.{keeps_dot, lacks_all};
 ghost use Rattle.crdt_sets.specs.Sets.{aw_has, aw_step, aw_value, kind_made, no_stamp, set_names};
-ghost use Rattle.crdt_sets.specs.EffectForm.{is_of_kind, can_put_set, is_set_spelled, set_spelling, set_at, set_spells};
+ghost use Rattle.crdt_sets.specs.EffectForm.{is_of_kind, can_put_set, is_set_spelled, set_spelling, set_at, set_spells, set_stands};
 ghost use Rattle.crdt_sets.specs.RemovableLaws.{aw_law, aw_in_maps};
 
 use crate::effect::effect_of;
@@ -59,6 +59,8 @@ impl Crdt for SetAw {
     ghost reading = { λ k. set_at };
 
     ghost spells = { set_spells aw_has };
+
+    ghost stands = { set_stands };
 
     fn has(kind: Kind) -> bool {
         kind == Kind::SetAw

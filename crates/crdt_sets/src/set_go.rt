@@ -3,7 +3,7 @@ ghost use Rattle.std.specs.FinMap.{empty};
 ghost use Rattle.crdt_core.specs.Texts.{ascending};
 ghost use Rattle.crdt_sets.specs.Meaning.{go_meaning, added_by};
 ghost use Rattle.crdt_sets.specs.SetGo.{go_has, go_step, go_made, go_value, go_stamp, go_names, go_holds, has_none};
-ghost use Rattle.crdt_sets.specs.EffectForm.{is_of_kind, can_put_texts, are_texts_spelled, texts_spelling, texts_at, go_spells};
+ghost use Rattle.crdt_sets.specs.EffectForm.{is_of_kind, can_put_texts, are_texts_spelled, texts_spelling, texts_at, go_spells, go_stands};
 ghost use Rattle.crdt_sets.specs.GoLaw.{go_law, go_in_maps};
 
 use crate::TextSet;
@@ -58,6 +58,8 @@ impl Crdt for SetGo {
     ghost reading = { λ k. texts_at };
 
     ghost spells = { go_spells go_has };
+
+    ghost stands = { go_stands };
 
     fn has(kind: Kind) -> bool {
         kind == Kind::SetGo
