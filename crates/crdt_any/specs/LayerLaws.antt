@@ -41,7 +41,7 @@ use Rattle.crdt_maps.specs.Maps.{FieldMap, go_has, rr_has, map_step, map_made, m
 use Rattle.crdt_maps.specs.Meaning.{go_meaning, rr_meaning}
 use Rattle.crdt_core.specs.declared.operation.Act.TheVariants as act
 use Rattle.crdt_core.specs.Kinds.{reads_state}
-use Rattle.crdt_core.specs.Fits.{stands_in}
+use Rattle.crdt_core.specs.Fits.{stands_in, is_map}
 use Rattle.crdt_core.specs.Same.{Same}
 use Rattle.crdt_core.specs.Stamps.{stamp_due}
 use Rattle.crdt_core.specs.History.{IsHistory, IsStamped, effect_after, state_after}
@@ -397,9 +397,23 @@ module _ {S E : Type 0} {has : Kind → Bool} {too_deep : Kind → List Field �
   shallow_at kinds.MapGo = refl
   shallow_at kinds.MapRr = refl
 
+  flat_at : (k : Kind) (p : List Field) → is_map k ≡ false → deep k p ≡ false
+  flat_at kinds.CounterPn p out = refl
+  flat_at kinds.CounterFat p out = refl
+  flat_at kinds.SetGo p out = refl
+  flat_at kinds.SetAw p out = refl
+  flat_at kinds.SetRw p out = refl
+  flat_at kinds.FlagEw p out = refl
+  flat_at kinds.FlagDw p out = refl
+  flat_at kinds.RegisterLww p out = refl
+  flat_at kinds.RegisterMv p out = refl
+  flat_at kinds.MapGo p out = absurd (true≢false out)
+  flat_at kinds.MapRr p out = absurd (true≢false out)
+
   pub layer_in_maps : KeepsInMaps layer_has (layer_too_deep has too_deep) (layer_initial {S = S}) (layer_step has initial step) (layer_made has initial made is_blank) (layer_blank is_blank)
   layer_in_maps = record {
     first_blank = λ k is. first_at k;
     undoes_none = λ k s t d n is resets blank. undoes_at k s t d n resets blank;
     shallow = shallow_at;
+    flat = λ k p is out. flat_at k p out;
   }

@@ -1,4 +1,5 @@
 pub mod Cases
+pub mod Depth
 pub mod Layer
 pub mod LayerForm
 pub mod LayerLaws

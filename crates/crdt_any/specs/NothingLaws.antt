@@ -26,6 +26,7 @@ nothing_in_maps = record {
   first_blank = λ k has. refl;
   undoes_none = λ k s t d n has. absurd (false≢true has);
   shallow = λ k. refl;
+  flat = λ k p has out. refl;
 }
 
 pub nothing_spells : SpellsEffects {E = Unit {0}} (λ k. false) (λ k e. true) (λ e. true) (λ e. true) (λ e. []) (λ k bytes at. Err (Bad at))

@@ -3,12 +3,14 @@
 
 mod effect;
 mod generate;
+mod laws;
 mod layer;
 mod nothing;
 mod part;
 mod state;
 
 pub use effect::LayerEffect;
+pub use laws::law_any;
 pub use layer::Layer;
 pub use nothing::Nothing;
 pub use state::LayerState;

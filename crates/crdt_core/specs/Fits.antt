@@ -19,6 +19,12 @@ stands_in MapRr RegisterMv = true
 stands_in MapRr MapRr = true
 stands_in _ k = false
 
+-- a kind that has fields
+abbrev pub is_map : Kind → Bool
+is_map MapGo = true
+is_map MapRr = true
+is_map k = false
+
 -- an act that names at least one element
 abbrev pub names_some : List (List ℕ) → Bool
 names_some [] = false

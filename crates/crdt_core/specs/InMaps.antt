@@ -6,7 +6,7 @@ use Rattle.crdt_core.specs.declared.kind.Kind.TheVariants.{MapRr}
 use Rattle.crdt_core.specs.declared.object.Field.{Field}
 use Rattle.crdt_core.specs.declared.operation.Act.{Act}
 use Rattle.crdt_core.specs.declared.operation.Act.TheVariants.{Reset}
-use Rattle.crdt_core.specs.Fits.{stands_in}
+use Rattle.crdt_core.specs.Fits.{stands_in, is_map}
 
 pub record KeepsInMaps {S E : Type 0} (has : Kind → Bool) (too_deep : Kind → List Field → Bool) (initial : Kind → S) (step : S → Dot → E → S) (made : Kind → S → List Field → Act → ℕ → E) (is_blank : S → Bool) : Type 0 where
   -- the state of no update is blank
@@ -15,3 +15,5 @@ pub record KeepsInMaps {S E : Type 0} (has : Kind → Bool) (too_deep : Kind →
   pub undoes_none : (k : Kind) (s t : S) (d : Dot) (n : ℕ) → has k ≡ true → stands_in MapRr k ≡ true → is_blank s ≡ true → step t d (made k s [] Reset n) ≡ t
   -- a path without fields leads to the object itself
   pub shallow : (k : Kind) → too_deep k [] ≡ false
+  -- a kind without fields is never too deep
+  pub flat : (k : Kind) (p : List Field) → has k ≡ true → is_map k ≡ false → too_deep k p ≡ false

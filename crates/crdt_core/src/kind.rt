@@ -3,7 +3,7 @@ ghost use Rattle.crdt_core.specs.Kinds.{kind_code};
 
 /// The kinds of objects and fields, in the order of their codes from 1 to 11.
 /// The names are those of AntidoteDB's library of types.
-#[derive(Clone, Copy, Debug, PartialEq, Eq, PartialOrd, Ord, Hash)]
+#[derive(Clone, Copy, Debug, PartialEq, Eq, Hash)]
 pub enum Kind {
     CounterPn,
     CounterFat,

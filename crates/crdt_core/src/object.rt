@@ -76,7 +76,7 @@ impl PartialOrd for Field {
 }
 
 /// The name of an object. Objects that differ in bucket, key or kind are different objects.
-#[derive(Debug, PartialEq, Eq, PartialOrd, Ord, Hash, Drop)]
+#[derive(Debug, PartialEq, Eq, Hash, Drop)]
 pub struct ObjectId {
     pub bucket: Text,
     pub key: Text,

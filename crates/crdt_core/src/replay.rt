@@ -37,7 +37,8 @@ pub fn value_after<C: Crdt>(
     stored: &[(Dot, C::Effect)],
 ) -> Result<Value, AllocError>
     requires { IsTrue (C.has kind) }
-    ensures { IfOk result (λ v. (us : List Update) → IsHistory us → all_fit C.too_deep kind us ≡ true
+    ensures folds { IfOk result (λ v. v ≡ C.value_of (folded (C.initial kind) C.step (reverse stored.now))) }
+    ensures means { IfOk result (λ v. (us : List Update) → IsHistory us → all_fit C.too_deep kind us ≡ true
         → IsStamped (C.initial kind) C.step (made_by C.made kind) C.stamp_of us
         → reverse stored.now ≡ effects (C.initial kind) C.step (made_by C.made kind) us → v ≡ C.meaning kind us) }
 {

@@ -87,4 +87,5 @@ fat_in_maps = record {
   first_blank = λ k has. empty_kept ℤ;
   undoes_none = λ k s t d n has resets blank. without_blank s t blank;
   shallow = λ k. refl;
+  flat = λ k p has out. refl;
 }

@@ -126,6 +126,7 @@ ew_in_maps = record {
   first_blank = λ k has. empty_kept Bool;
   undoes_none = λ k s t d n has resets blank. without_blank s t blank;
   shallow = λ k. refl;
+  flat = λ k p has out. refl;
 }
 
 pub dw_in_maps : KeepsInMaps dw_has (λ k p. false) (λ k. empty) dw_step kind_made keeps_none
@@ -133,4 +134,5 @@ dw_in_maps = record {
   first_blank = λ k has. empty_kept Bool;
   undoes_none = λ k s t d n has resets blank. without_blank s t blank;
   shallow = λ k. refl;
+  flat = λ k p has out. refl;
 }

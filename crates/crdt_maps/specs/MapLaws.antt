@@ -16,7 +16,7 @@ use Rattle.crdt_core.specs.declared.operation.Act.TheVariants as act
 use Rattle.crdt_core.specs.declared.value.Value.{Value}
 use Rattle.crdt_core.specs.declared.value.Value.TheVariants.{Fields}
 use Rattle.crdt_core.specs.Kinds.{same_field, same_kind, reads_state}
-use Rattle.crdt_core.specs.Fits.{stands_in, allows}
+use Rattle.crdt_core.specs.Fits.{stands_in, allows, is_map}
 use Rattle.crdt_core.specs.Same.{Same}
 use Rattle.crdt_core.specs.Seen.{Update}
 use Rattle.crdt_core.specs.History.{IsHistory, folded, effects, state_after}
@@ -173,6 +173,7 @@ module _ {S E : Type 0} {has : Kind → Bool} {too_deep : Kind → List Field �
     first_blank = λ k is. empty_none field_cmp S;
     undoes_none = λ k s t d n is resets blank. absurd (true≢false (never_reset k MapGo is refl resets));
     shallow = λ k. refl;
+    flat = λ k p is out. absurd (true≢false (sym (ap is_map (same_kind_is k MapGo is)) ∙ out));
   }
 
   undoes_nothing : (n : ℕ) (es : List (Field × S)) → list_all (λ e. is_blank e.1) es ≡ true → resets_of has made is_blank n es ≡ []
@@ -188,4 +189,5 @@ module _ {S E : Type 0} {has : Kind → Bool} {too_deep : Kind → List Field �
     first_blank = λ k is. ap (λ es. list_all (λ e. is_blank e.1) es) (no_entries {X = S} {R = field_cmp} empty (empty_none field_cmp S));
     undoes_none = λ k s t d n is resets blank. ap (step_each has initial step t d) (undoes_nothing n (entries s) blank);
     shallow = λ k. refl;
+    flat = λ k p is out. absurd (true≢false (sym (ap is_map (same_kind_is k MapRr is)) ∙ out));
   }

@@ -222,4 +222,5 @@ lww_in_maps = record {
   first_blank = λ k has. refl;
   undoes_none = λ k s t d n has resets blank. absurd (true≢false (never_reset k RegisterLww has refl resets));
   shallow = λ k. refl;
+  flat = λ k p has out. refl;
 }

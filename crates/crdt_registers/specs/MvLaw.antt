@@ -137,4 +137,5 @@ mv_in_maps = record {
   first_blank = λ k has. empty_kept (List ℕ);
   undoes_none = λ k s t d n has resets blank. without_blank s t blank;
   shallow = λ k. refl;
+  flat = λ k p has out. refl;
 }

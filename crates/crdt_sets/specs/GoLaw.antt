@@ -84,4 +84,5 @@ go_in_maps = record {
   first_blank = λ k has. ap (λ (xs : List (List ℕ)). length xs == 0) (no_keys {X = Unit {0}} {R = text_cmp} empty (empty_none text_cmp (Unit {0})));
   undoes_none = λ k s t d n has resets blank. absurd (true≢false (never_reset k SetGo has refl resets));
   shallow = λ k. refl;
+  flat = λ k p has out. refl;
 }

@@ -302,6 +302,7 @@ aw_in_maps = record {
   first_blank = λ k has. empty_none text_cmp (KeptAt Bool);
   undoes_none = λ k s t d n has resets blank. no_named s t d None blank;
   shallow = λ k. refl;
+  flat = λ k p has out. refl;
 }
 
 pub rw_in_maps : KeepsInMaps rw_has (λ k p. false) (λ k. empty) rw_step kind_made lacks_all
@@ -309,4 +310,5 @@ rw_in_maps = record {
   first_blank = λ k has. empty_none text_cmp (KeptAt Bool);
   undoes_none = λ k s t d n has resets blank. no_named s t d None blank;
   shallow = λ k. refl;
+  flat = λ k p has out. refl;
 }

@@ -6,7 +6,7 @@ mod laws;
 mod vector;
 
 pub use ids::{Dot, PartId, TxId};
-pub use laws::{law_ids, law_order};
+pub use laws::{law_ids, law_lattice, law_order};
 pub use vector::VTime;
 
 #[cfg(test)]

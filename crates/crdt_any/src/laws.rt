@@ -1,0 +1,17 @@
+ghost use Rattle.std.specs.Prelude.{◌≡◌, List, true, false};
+ghost use Rattle.crdt_core.specs.declared.kind.Kind.{Kind};
+ghost use Rattle.crdt_core.specs.declared.object.Field.{Field};
+ghost use Rattle.crdt_core.specs.declared.operation.Act.{Act};
+ghost use Rattle.crdt_core.specs.Fits.{fits};
+ghost use Rattle.crdt_any.specs.Depth.{leads_past};
+
+use crate::Any;
+use crdt_core::Crdt;
+
+/// What `Any` reaches: every kind, and in maps three fields below the object, as deep as an operation of a kind leads.
+#[tactic(auto, using(crate::specs::Depth::four_deep, crate::specs::Depth::fits_four))]
+pub fn law_any()
+    ensures kinds { (k : Kind) → ⟦<Any as Crdt>⟧.has k ≡ true }
+    ensures too_deep { (k : Kind) (p : List Field) → ⟦<Any as Crdt>⟧.too_deep k p ≡ leads_past 3 k p }
+    ensures fits { (k : Kind) (p : List Field) (a : Act) → fits k p a ≡ true → ⟦<Any as Crdt>⟧.too_deep k p ≡ false }
+{}
