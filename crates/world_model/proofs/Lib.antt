@@ -1,5 +1,6 @@
 pub mod Names
 pub mod Parts
+pub mod Queue
 pub mod Moves
 pub mod Leases
 pub mod Fate

@@ -2,7 +2,6 @@
 use Rattle.std.proofs.Common.{◌≡◌, ◌≢◌, ◌⊎◌, ⊎_elim, inl, inr, ℕ, ◌+◌, ◌<◌, ◌≤◌, max, leb, ltb, cond, Bool, true, false, not, ◌&&◌, ◌||◌, List, [], ◌∷◌, ◌++◌, length, Option, Some, append-nil, refl, sym, ap, ◌∙◌, subst, subst₂, arith}
 use Rattle.std.specs.Prelude.{◌==◌, filter}
 use Rattle.std.specs.List.{flat_map}
-use Rattle.std.specs.declared.cmp.Ordering.TheVariants.{Less}
 use Rattle.std.proofs.lemmas.Bool.{cases_Bool, cond-true, cond-false, or_left, or_right, or_cases, or_parts, or_from, and_from, and_parts, ltb-true, lt-ltb, le-leb, eq-eqb, false_from_ne_true}
 use Rattle.site_vector.specs.declared.ids.PartId.{PartId}
 use Rattle.site_vector.specs.declared.ids.TxId.{TxId}
@@ -22,7 +21,7 @@ use Rattle.crdt_core.specs.Stamps.{stamp_due}
 use Rattle.world_model.specs.Log as log
 use Rattle.world_model.specs.Log.{end_of_time, lists}
 use Rattle.world_model.specs.Event.{Ask, AskBegin, AskRead, AskUpdate, AskPrepare, AskDecide, AskAbort, AskTake, AskRestart, is_restart, IsDown, ClockBehind, TxPending, StableBehind, ClockAtEnd, IsGone, HasGap, IsRepeat, IsBadOp, IsDamaged, Event, Ticked, Began, Updated, Read, Prepared, Decided, Finished, Aborted, Sent, Took, Reported, Heard, Crashed, RestartCut, Restarted, Refused, Opened, Cut, Entry, EventsAre, WasShown, is_abort, was_aborted, voted, is_decided, time_of, shown}
-use Rattle.world_model.specs.Partition.{Kinds, lowest, pending_cmp}
+use Rattle.world_model.specs.Partition.{Kinds, lowest}
 use Rattle.world_model.specs.Plan.{Plan, IsPlace, first_of, home, twin, is_some_update, takes_part, commit_vector, MayTake}
 use Rattle.world_model.specs.Participants.{partitions}
 use Rattle.world_model.specs.World.{plan_of}
@@ -31,7 +30,7 @@ use Rattle.world_model.specs.Past as events
 use Rattle.world_model.specs.Downs.{AnswersAsUp, AnswerAsUp}
 use Rattle.world_model.specs.Answering.{IsDueAt, AreDue, IsKnown}
 use Rattle.world_model.specs.Doubt.{SettlesAt, SettleDoubts}
-use Rattle.world_model.specs.Shown.{bound_shown, pending_shown, pending_time, committed_shown, TellsAbortedAt, MayAbortAt, IsReadyAt, IsFirstPending, ShowsAt, ShowAt}
+use Rattle.world_model.specs.Shown.{IsBefore, bound_shown, pending_shown, pending_time, committed_shown, TellsAbortedAt, MayAbortAt, IsReadyAt, IsFirstPending, ShowsAt, ShowAt}
 use Rattle.world_model.specs.Stable.{heard_from, heard_shown, IsBehindAt, IsFreshAt, AreFresh}
 use Rattle.world_model.specs.Votes.{IsDecision, VotesAt, KeepVotes, ShowsVector}
 use Rattle.world_model.specs.Handed.{IsPlacedAt, HandedAt, AreHanded, IsNew, AreNew}
@@ -464,7 +463,7 @@ module _ {E : Type 0} where
           changes = touches_eq u p o ∙ h.changes;
           time = h.time ∙ sym (prepare_time_is some p u);
           early = subst (λ x. n ≤ x) v h.early;
-          first = λ w k y. subst (λ m. pending_cmp (w, m) (u, n) ≢ Less) (sym (prepare_time_is some p w)) (h.first w (sym (pending_is some p w) ∙ k) (sym (touches_eq w p o) ∙ y));
+          first = λ w ne k y. subst (λ m. IsBefore (u, n) (w, m)) (sym (prepare_time_is some p w)) (h.first w ne (sym (pending_is some p w) ∙ k) (sym (touches_eq w p o) ∙ y));
         }
 
     stable_line : (some : List (Entry E)) (p : PartId) (who dep : List ℕ) (j n : ℕ) → dep ≡ events.dependency sites some who → IsBehindAt plan some p dep j n → causes.IsStableBehind sites parts (lines_of some) p who j n

@@ -10,6 +10,7 @@ use Rattle.world_model.specs.Plan.{Plan, IsAllowed, IsRun}
 use Rattle.world_model.specs.Shown.{bound_shown}
 use Rattle.world_model.specs.Logs.{IsLogAfter, IsLogOf, LeavesLogs}
 use Rattle.world_model.proofs.Names.{part_cases}
+use Rattle.world_model.proofs.Queue.{in_order}
 use Rattle.world_model.proofs.Moves.{image_log}
 use Rattle.world_model.proofs.Shows.{Shown, shown_run}
 
@@ -51,7 +52,7 @@ module _ {E : Type 0} {S : Type 0} (kinds : Kinds S E) (plan : Plan E) (run : Li
             last = st.last;
             members = st.members;
             timed = st.timed;
-            order = st.order;
+            order = in_order listed st.order;
           },
         ),
       )

@@ -1,6 +1,5 @@
 -- The causes of refusals, over the lines of a run: each stands exactly where its cause holds.
 use Rattle.std.specs.Prelude.{◌≡◌, ◌≢◌, ℕ, ◌<◌, ◌≤◌, true, false, List, ⊤}
-use Rattle.std.specs.declared.cmp.Ordering.TheVariants.{Less}
 use Rattle.site_vector.specs.declared.ids.PartId.{PartId}
 use Rattle.site_vector.specs.declared.ids.TxId.{TxId}
 use Rattle.site_vector.specs.Vector.{entry}
@@ -9,7 +8,8 @@ use Rattle.crdt_core.specs.Kinds.{reads_state}
 use Rattle.world_model.specs.declared.step.Step.{Step}
 use Rattle.world_model.specs.declared.step.Step.TheVariants as step
 use Rattle.world_model.specs.Log.{end_of_time}
-use Rattle.world_model.specs.Partition.{IsOther, pending_cmp}
+use Rattle.world_model.specs.Partition.{IsOther}
+use Rattle.world_model.specs.Shown.{IsBefore}
 use Rattle.world_model.specs.Lines.{Call, Begin, ReadOf, UpdateOf, PrepareOf, DecideOf, AbortOf, Restart, Line}
 use Rattle.world_model.specs.Clock.{now}
 use Rattle.world_model.specs.History.{snapshot}
@@ -28,14 +28,14 @@ pub record IsReady (whole before : List Line) (p : PartId) (t : TxId) (o : Objec
 abbrev pub IsBehind : List Line → List Line → PartId → TxId → ℕ → Type 0
 IsBehind whole before p t n = (n ≡ now before p) × (n < entry (snapshot whole t) p.site)
 
--- the first that is pending, by prepare time and id, updates the object and may belong to the snapshot
+-- of all that are pending and update the object it is the first, and it may belong to the snapshot
 pub record IsFirstPending (whole before : List Line) (p : PartId) (t : TxId) (o : ObjectId) (u : TxId) (n : ℕ) : Type 0 where
   pub clock : entry (snapshot whole t) p.site ≤ now before p
   pub waiting : pending before p u ≡ true
   pub changes : touches whole u p o ≡ true
   pub time : n ≡ prepare_time before p u
   pub early : n ≤ entry (snapshot whole t) p.site
-  pub first : (w : TxId) → pending before p w ≡ true → touches whole w p o ≡ true → pending_cmp (w, prepare_time before p w) (u, n) ≢ Less
+  pub first : (w : TxId) → w ≢ u → pending before p w ≡ true → touches whole w p o ≡ true → IsBefore (u, n) (w, prepare_time before p w)
 
 -- the least other site whose stable entry is below what the session depends on
 pub record IsStableBehind (sites parts : ℕ) (before : List Line) (p : PartId) (who : List ℕ) (j n : ℕ) : Type 0 where

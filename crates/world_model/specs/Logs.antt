@@ -6,8 +6,8 @@ use Rattle.site_vector.specs.Vector.{entry}
 use Rattle.crdt_core.specs.declared.record.Record.{Record}
 use Rattle.world_model.specs.Log.{ceiling, pending, last_decided, bound, grown, IsImage}
 use Rattle.world_model.specs.Event.{Event, Restarted, Cut, Entry}
-use Rattle.world_model.specs.Partition.{PartState, Image, IsOther, IsOwnBound, Ascends, pending_cmp, names_pending, AreTimed, written}
-use Rattle.world_model.specs.Shown.{bound_shown}
+use Rattle.world_model.specs.Partition.{PartState, Image, IsOther, IsOwnBound, names_pending, AreTimed, written}
+use Rattle.world_model.specs.Shown.{AreInOrder, bound_shown}
 
 module _ {E : Type 0} where
   -- what a restart reads from a log
@@ -18,7 +18,7 @@ module _ {E : Type 0} where
     pub last : named ≡ last_decided log
     pub members : (t : TxId) → names_pending listed t ≡ pending log t
     pub timed : AreTimed log listed
-    pub order : Ascends pending_cmp listed
+    pub order : AreInOrder listed
 
   -- the log after an event: with the records that the rules make, or with the first of them where it was cut off
   abbrev pub IsLogAfter : ℕ → List (Entry E) → PartId → List (Record E) → Event E → List (Record E) → Type 0
