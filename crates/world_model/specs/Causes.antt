@@ -17,7 +17,7 @@ use Rattle.world_model.specs.Dependency.{dependency}
 use Rattle.world_model.specs.Updates.{touches}
 use Rattle.world_model.specs.Pending.{pending, prepare_time, is_down}
 use Rattle.world_model.specs.Fate.{is_known_at}
-use Rattle.world_model.specs.Bounds.{stable_entry}
+use Rattle.world_model.specs.Bounds.{known, IsStableEntry}
 
 -- no wait is due for what reads the object
 pub record IsReady (whole before : List Line) (p : PartId) (t : TxId) (o : ObjectId) : Type 0 where
@@ -37,12 +37,12 @@ pub record IsFirstPending (whole before : List Line) (p : PartId) (t : TxId) (o 
   pub early : n ≤ entry (snapshot whole t) p.site
   pub first : (w : TxId) → w ≢ u → pending before p w ≡ true → touches whole w p o ≡ true → IsBefore (u, n) (w, prepare_time before p w)
 
--- the least other site whose stable entry is below what the session depends on
+-- the least other site with a stable entry below what the session depends on: there one partition is not known to have come so far
 pub record IsStableBehind (sites parts : ℕ) (before : List Line) (p : PartId) (who : List ℕ) (j n : ℕ) : Type 0 where
   pub other : IsOther sites p.site j
-  pub have : n ≡ stable_entry parts before p j
+  pub have : IsStableEntry parts before p j n
   pub behind : n < entry (dependency sites before who) j
-  pub least : (i : ℕ) → IsOther sites p.site i → stable_entry parts before p i < entry (dependency sites before who) i → j ≤ i
+  pub least : (i q : ℕ) → IsOther sites p.site i → 1 ≤ q → q ≤ parts → known before p i q < entry (dependency sites before who) i → j ≤ i
 
 -- a wait for the clock, by the call that it answers
 abbrev pub ClockCause : List Line → List Line → PartId → Call → ℕ → Type 0
@@ -62,7 +62,7 @@ StableCause sites parts before p other j n = ⊥
 
 -- the end of time, where nothing else is due: of a begin and of a prepare
 abbrev pub TimeCause : ℕ → ℕ → List Line → List Line → PartId → Call → Type 0
-TimeCause sites parts whole before p (Begin who) = (now before p ≡ end_of_time) × ((j : ℕ) → IsOther sites p.site j → entry (dependency sites before who) j ≤ stable_entry parts before p j)
+TimeCause sites parts whole before p (Begin who) = (now before p ≡ end_of_time) × ((j q : ℕ) → IsOther sites p.site j → 1 ≤ q → q ≤ parts → entry (dependency sites before who) j ≤ known before p j q)
 TimeCause sites parts whole before p (PrepareOf t) = (now before p ≡ end_of_time) × (entry (snapshot whole t) p.site ≤ now before p)
 TimeCause sites parts whole before p other = ⊥
 
