@@ -1,5 +1,5 @@
 -- The causes of refusals, over the lines of a run: each stands exactly where its cause holds.
-use Rattle.std.specs.Prelude.{◌≡◌, ◌≢◌, ℕ, ◌<◌, ◌≤◌, true, false, List, ⊤}
+use Rattle.std.specs.Prelude.{◌≡◌, ◌≢◌, ℕ, ◌^◌, ◌<◌, ◌≤◌, true, false, List, ⊤}
 use Rattle.site_vector.specs.declared.ids.PartId.{PartId}
 use Rattle.site_vector.specs.declared.ids.TxId.{TxId}
 use Rattle.site_vector.specs.Vector.{entry}
@@ -7,7 +7,6 @@ use Rattle.crdt_core.specs.declared.object.ObjectId.{ObjectId}
 use Rattle.crdt_core.specs.Kinds.{reads_state}
 use Rattle.world_model.specs.declared.step.Step.{Step}
 use Rattle.world_model.specs.declared.step.Step.TheVariants as step
-use Rattle.world_model.specs.Log.{end_of_time}
 use Rattle.world_model.specs.Partition.{IsOther}
 use Rattle.world_model.specs.Shown.{IsBefore}
 use Rattle.world_model.specs.Lines.{Call, Begin, ReadOf, UpdateOf, PrepareOf, DecideOf, AbortOf, Restart, Line}
@@ -60,10 +59,10 @@ abbrev pub StableCause : ℕ → ℕ → List Line → PartId → Call → ℕ �
 StableCause sites parts before p (Begin who) j n = IsStableBehind sites parts before p who j n
 StableCause sites parts before p other j n = ⊥
 
--- the end of time, where nothing else is due: of a begin and of a prepare
+-- the end of time, where nothing else is due, of a begin and of a prepare: the clock can show no later time
 abbrev pub TimeCause : ℕ → ℕ → List Line → List Line → PartId → Call → Type 0
-TimeCause sites parts whole before p (Begin who) = (now before p ≡ end_of_time) × ((j q : ℕ) → IsOther sites p.site j → 1 ≤ q → q ≤ parts → entry (dependency sites before who) j ≤ known before p j q)
-TimeCause sites parts whole before p (PrepareOf t) = (now before p ≡ end_of_time) × (entry (snapshot whole t) p.site ≤ now before p)
+TimeCause sites parts whole before p (Begin who) = (now before p ≡ 2 ^ 62) × ((j q : ℕ) → IsOther sites p.site j → 1 ≤ q → q ≤ parts → entry (dependency sites before who) j ≤ known before p j q)
+TimeCause sites parts whole before p (PrepareOf t) = (now before p ≡ 2 ^ 62) × (entry (snapshot whole t) p.site ≤ now before p)
 TimeCause sites parts whole before p other = ⊥
 
 -- a finish is never refused so
@@ -82,8 +81,8 @@ HasCause sites parts whole before p call (step.Damaged q at) = ⊥
 HasCause sites parts whole before p call (step.Gone q t) = GoneCause whole before p call t
 HasCause sites parts whole before p (ReadOf t o) (step.Value name object value) = IsReady whole before p t o
 HasCause sites parts whole before p (UpdateOf t o op) (step.Updated name object stamp) = reads_state o.kind ≡ true → IsReady whole before p t o
-HasCause sites parts whole before p call (step.Prepared q t n) = (entry (snapshot whole t) p.site ≤ now before p) × (now before p < end_of_time)
-HasCause sites parts whole before p call (step.Began name t s) = now before p < end_of_time
+HasCause sites parts whole before p call (step.Prepared q t n) = (entry (snapshot whole t) p.site ≤ now before p) × (now before p < 2 ^ 62)
+HasCause sites parts whole before p call (step.Began name t s) = now before p < 2 ^ 62
 HasCause sites parts whole before p call (step.Decided q t c) = pending before p t ≡ true
 HasCause sites parts whole before p call (step.Finished q t) = is_known_at whole before p t ≡ true
 HasCause sites parts whole before p call other = ⊤
