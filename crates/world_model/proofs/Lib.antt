@@ -31,6 +31,7 @@ pub mod LineFaults
 pub mod LineReading
 pub mod LineCounts
 pub mod LineLaws
+pub mod Leads
 pub mod Fitted
 pub mod Whole
 pub mod Law

@@ -266,7 +266,7 @@ module _ {E : Type 0} where
     touches_eq : (t : TxId) (p : PartId) (o : ObjectId) → updates.touches ls t p o ≡ log.touches (plan.updates t p) o
     touches_eq t p o = touches_is plan run law.handed law.numbered t p o ∙ ap (λ us. log.touches us o) (sym (law.planned t p))
 
-    lead_eq : (t : TxId) → updates.lead parts ls t ≡ plan.lead t
+    pub lead_eq : (t : TxId) → updates.lead parts ls t ≡ plan.lead t
     lead_eq t = lead_is plan run law.handed law.numbered parts t ∙ (λ i. first_of (home t) (filter (λ p. is_some_update (sym (law.planned t p) i)) (partitions t.site 1 parts)))
 
     vector_eq : (t : TxId) → past.commit_vector ls t ≡ commit_vector plan run t

@@ -25,7 +25,7 @@ use Rattle.world_model.proofs.Queue.{first_is, in_order}
 use Rattle.world_model.proofs.Names.{clash, off, part_cases, part_other, entry_same, entry_cases}
 use Rattle.world_model.proofs.Moves.{Because, Move, moved, image_log, grown_last}
 use Rattle.world_model.proofs.Leases.{Leases}
-use Rattle.world_model.proofs.Fate.{Fate, pending_parts, more_prepared}
+use Rattle.world_model.proofs.Fate.{Fate, pending_parts, more_prepared, told_aborted}
 use Rattle.world_model.proofs.Later.{in_log, once_pending, takes, prepared_now, never_aborted, pending_from}
 use Rattle.world_model.proofs.Completeness.{zeros_at}
 use Rattle.world_model.proofs.Kept.{law_plan}
@@ -287,9 +287,9 @@ module _ {E : Type 0} where
     may_abort u t true m = m
     may_abort u t false m = ⊎_elim
         (λ (e : at ≡ plan.lead t). inl e)
-        (λ (x : TellsAborted (before (plan.lead t)) t). inr (record {
-          up = not-true (is_down run (plan.lead t)) (sym (u (plan.lead t)) ∙ x.up);
-          unknown = sym (known_is plan run before f h (plan.lead t) x.up t) ∙ or_from _ _ x.idle x.uncommitted;
+        (λ (x : TellsAborted (before (plan.lead t)) t). let w = told_aborted (before (plan.lead t)) t x in inr (record {
+          up = not-true (is_down run (plan.lead t)) (sym (u (plan.lead t)) ∙ w.up);
+          unknown = sym (known_is plan run before f h (plan.lead t) w.up t) ∙ or_from _ _ w.idle w.uncommitted;
         }))
         m
 
