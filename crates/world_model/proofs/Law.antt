@@ -173,7 +173,7 @@ module _ {E : Type 0} where
         lead = λ t q h a b. least_first t.site 1 parts (home t) q (λ p. takes_part plan t p) (plan.at_home t q h) a (omega arith) h;
       }
 
-  pub law_world : {S : Type 0} (kinds : Kinds S E) (sites parts : ℕ) (run : List (Entry E)) (state : PartId → PartState E) → IsWorldRun kinds sites parts run state → IsLawfulWorld kinds (plan_of sites parts run) run × LeavesLogs sites run state × IsLawful kinds.too_deep kinds.meaning sites parts (lines_of run) × TellFates parts (lines_of run) state
+  pub law_world : {S : Type 0} (kinds : Kinds S E) (sites parts : ℕ) (run : List (Entry E)) (state : PartId → PartState E) → IsWorldRun kinds sites parts run state → IsLawfulWorld kinds (plan_of sites parts run) run × LeavesLogs (plan_of sites parts run) run state × IsLawful kinds.too_deep kinds.meaning sites parts (lines_of run) × TellFates parts (lines_of run) state
   law_world kinds sites parts run state r =
       let plan = plan_of sites parts run in
       let under = fits kinds sites parts run state r run (all_fresh kinds sites parts run state r) (suffix_all run) in

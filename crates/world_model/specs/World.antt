@@ -79,4 +79,4 @@ module _ {E : Type 0} where
 
 -- any run of the world is lawful, whatever its kinds do; it leaves the logs that its events tell and leads that tell fates, and shows the lines of a lawful run
 abbrev pub LawWorld : (S E : Type 0) → Type 0
-LawWorld S E = (kinds : Kinds S E) (sites parts : ℕ) (run : List (Entry E)) (state : PartId → PartState E) → IsWorldRun kinds sites parts run state → IsLawfulWorld kinds (plan_of sites parts run) run × LeavesLogs sites run state × IsLawful kinds.too_deep kinds.meaning sites parts (lines_of run) × TellFates parts (lines_of run) state
+LawWorld S E = (kinds : Kinds S E) (sites parts : ℕ) (run : List (Entry E)) (state : PartId → PartState E) → IsWorldRun kinds sites parts run state → IsLawfulWorld kinds (plan_of sites parts run) run × LeavesLogs (plan_of sites parts run) run state × IsLawful kinds.too_deep kinds.meaning sites parts (lines_of run) × TellFates parts (lines_of run) state
