@@ -11,7 +11,7 @@ use Rattle.world_model.specs.Log.{ceiling, pending, last_decided, bound, grown, 
 use Rattle.world_model.specs.Event.{Event, Ticked, Began, Prepared, Decided, Finished, Aborted, Took, Restarted, Cut, Entry}
 use Rattle.world_model.specs.Partition.{PartState, Image, IsOther, IsOwnBound, names_pending, AreTimed}
 use Rattle.world_model.specs.Plan.{Plan, commit_vector}
-use Rattle.world_model.specs.Shown.{AreInOrder, bound_shown}
+use Rattle.world_model.specs.Shown.{IsBefore, AreInOrder, bound_shown}
 
 module _ {E : Type 0} where
   -- what a restart reads from a log
@@ -22,7 +22,7 @@ module _ {E : Type 0} where
     pub last : named ≡ last_decided log
     pub members : (t : TxId) → names_pending listed t ≡ pending log t
     pub timed : AreTimed log listed
-    pub order : AreInOrder listed
+    pub order : AreInOrder IsBefore listed
 
   -- where the time n is shown that no lease reaches yet: one of 1,000 ticks more, up to the end of time
   abbrev pub lease_at : List (Record E) → ℕ → List (Record E)

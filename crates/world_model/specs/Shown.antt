@@ -25,14 +25,14 @@ IsIdBefore t u = (t.site < u.site) ⊎ ((t.site ≡ u.site) × ((t.part < u.part
 abbrev pub IsBefore : TxId × ℕ → TxId × ℕ → Type 0
 IsBefore x y = (x.1 < y.1) ⊎ ((x.1 ≡ y.1) × IsIdBefore x.0 y.0)
 
-abbrev pub IsBeforeAll : TxId × ℕ → List (TxId × ℕ) → Type 0
-IsBeforeAll x [] = ⊤
-IsBeforeAll x (y ∷ ys) = IsBefore x y × IsBeforeAll x ys
+abbrev pub IsBeforeAll : {A : Type 0} → (A → A → Type 0) → A → List A → Type 0
+IsBeforeAll Before x [] = ⊤
+IsBeforeAll Before x (y ∷ ys) = Before x y × IsBeforeAll Before x ys
 
 -- each is before all that follow
-abbrev pub AreInOrder : List (TxId × ℕ) → Type 0
-AreInOrder [] = ⊤
-AreInOrder (x ∷ xs) = IsBeforeAll x xs × AreInOrder xs
+abbrev pub AreInOrder : {A : Type 0} → (A → A → Type 0) → List A → Type 0
+AreInOrder Before [] = ⊤
+AreInOrder Before (x ∷ xs) = IsBeforeAll Before x xs × AreInOrder Before xs
 
 -- the own bound of a partition that restarts at this time with this list
 pub record IsOwnBoundOf (now : ℕ) (listed : List (TxId × ℕ)) (b : ℕ) : Type 0 where
@@ -116,7 +116,7 @@ module _ {E : Type 0} where
   ShowsAt plan run p (Sent asked m) = IsOwnBoundAt run p m.hi
   ShowsAt plan run p (Took m) = (m.lo ≤ bound_shown run p m.from) × (bound_shown run p m.from < m.hi)
   ShowsAt plan run p (Reported b) = (length b ≡ plan.sites) × IsOwnBoundAt run p (entry b p.site) × ((j : ℕ) → IsOther plan.sites p.site j → entry b j ≡ bound_shown run p j)
-  ShowsAt plan run p (Restarted n b named listed) = (length b ≡ plan.sites) × AreInOrder listed × IsOwnBoundOf n listed (entry b p.site)
+  ShowsAt plan run p (Restarted n b named listed) = (length b ≡ plan.sites) × AreInOrder IsBefore listed × IsOwnBoundOf n listed (entry b p.site)
   ShowsAt plan run p (Decided t c) = pending_shown run p t ≡ true
   ShowsAt plan run p (Finished t c) = (pending_shown run p t || committed_shown plan run p t) ≡ true
   ShowsAt plan run p (Aborted t own) = (pending_shown run p t ≡ true) × MayAbortAt plan run p t own
