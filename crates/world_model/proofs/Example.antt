@@ -24,7 +24,7 @@ use Rattle.crdt_core.specs.declared.record.Message.{Message}
 use Rattle.crdt_core.specs.declared.record.Record.TheVariants.{Decide}
 use Rattle.world_model.specs.Log.{touches, prepare_time, pending, bound}
 use Rattle.world_model.specs.Event.{Event, Began, Updated, Read, Prepared, Decided, Sent, Took, Reported, Heard, Restarted, Refused, Opened, Cut, Entry, AskTake, AskRead, IsRepeat, TxPending, voted}
-use Rattle.world_model.specs.Partition.{Kinds, PartState, IsOther, IsOwnBound, stable_entry, pending_cmp, new_part, done, cut, state_read}
+use Rattle.world_model.specs.Partition.{Kinds, PartState, IsOther, IsOwnBound, ToldCommitted, fate_of, stable_entry, pending_cmp, new_part, done, cut, state_read}
 use Rattle.world_model.specs.Plan.{is_some_update, IsPlace, takes_part}
 use Rattle.world_model.specs.World.{plan_of, is_own, IsWorldRun}
 use Rattle.world_model.specs.LawfulWorld.{IsLawfulWorld}
@@ -516,6 +516,10 @@ module _ {S E : Type 0} (kinds : Kinds S E) (known : kinds.has CounterPn ≡ tru
   -- what was taken is committed there, where it takes no part
   brought : is_committed_at (lines_of r12) (lines_of r12) there first ≡ true
   brought = refl
+
+  -- its lead tells how it ended
+  told : fate_of (p12 here) first ≡ ToldCommitted (2 ∷ 0 ∷ [])
+  told = refl
 
   lines_are_lawful : IsLawful kinds.too_deep kinds.meaning 2 1 (lines_of r12)
   lines_are_lawful = (law_world kinds 2 1 r12 p12 run12).2

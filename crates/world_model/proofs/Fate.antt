@@ -11,7 +11,7 @@ use Rattle.crdt_core.specs.declared.record.Record.{Record}
 use Rattle.crdt_core.specs.declared.record.Record.TheVariants.{Lease, Prepare, Decide, Finish, Abort, Batch}
 use Rattle.world_model.specs.Log.{prepared, prepare_time, prepared_changes, decided, committed, committed_at, aborted, pending, last_decided}
 use Rattle.world_model.specs.Event.{Event, Prepared, Aborted, Entry, attempt, is_prepare, is_decide, is_abort, is_own_abort, shows_decided, tried, voted, decide_tried, gave_up, was_aborted, is_decided, vote, time_of}
-use Rattle.world_model.specs.Partition.{PartState, Image}
+use Rattle.world_model.specs.Partition.{PartState, Image, ToldAborted, fate_of}
 use Rattle.world_model.specs.Plan.{Plan, takes_part, vector_at, commit_vector, IsAllowed, MayPrepare, MayAbort, TellsAborted}
 use Rattle.world_model.proofs.Names.{clash, off, part_same}
 use Rattle.world_model.proofs.Moves.{Because, Move, image_log, last_is_decided, named_by}
@@ -98,6 +98,24 @@ module _ {E : Type 0} where
       go true false true e f g h = off h
       go true true a e f g h = off h
       go false c a e f g h = off h
+
+  pub record IsToldAborted (p : PartState E) (t : TxId) : Type 0 where
+    pub up : p.up ≡ true
+    pub idle : pending p.log t ≡ false
+    pub uncommitted : committed p.log t ≡ false
+
+  -- who tells that t is aborted is up, and has it neither pending nor committed
+  pub told_aborted : (p : PartState E) (t : TxId) → fate_of p t ≡ ToldAborted → IsToldAborted p t
+  told_aborted p t h = ⊎_elim
+      (λ (u : p.up ≡ true). ⊎_elim
+      (λ (w : pending p.log t ≡ true). absurd (cc (rw (u, w) at h)))
+      (λ (w : pending p.log t ≡ false). ⊎_elim
+      (λ (c : committed p.log t ≡ true). absurd (cc (rw (u, w, c) at h)))
+      (λ (c : committed p.log t ≡ false). record { up = u; idle = w; uncommitted = c })
+      (cases_Bool (committed p.log t)))
+      (cases_Bool (pending p.log t)))
+      (λ (u : p.up ≡ false). absurd (cc (rw u at h)))
+      (cases_Bool p.up)
 
   may_prepare : (plan : Plan E) (run : List (Entry E)) (before : PartId → PartState E) (at : PartId) (a : Event E) (t : TxId) → IsAllowed plan run before at a → is_prepare a t ≡ true → (s : List ℕ) × (l : ℕ) × (w : List (Upd E)) × MayPrepare plan run at t s l w
   may_prepare plan run before at (Prepared u s l w n) t al h = (s, l, w, subst (λ x. MayPrepare plan run at x s l w) (same_tx_is u t h) al)
@@ -225,7 +243,7 @@ module _ {E : Type 0} where
     lost_stays p t all l j = let c = mv.changed p l j in c.told.aborted t ∙ more_aborted c.more c.old t (all c.old c.was)
 
     told_by_lead : ((p : PartId) (l : List (Record E)) → (before p).up ≡ true → Image (before p) l → l ≡ (before p).log) → (t : TxId) → TellsAborted (before (plan.lead t)) t → prepared (before (plan.lead t)).log t ≡ true → (l : List (Record E)) → Image (before (plan.lead t)) l → aborted l t ≡ true
-    told_by_lead one t a p l j = ap (λ x. aborted x t) (one (plan.lead t) l a.up j) ∙ ended_by_now (before (plan.lead t)).log t p a.idle a.uncommitted
+    told_by_lead one t a p l j = let w = told_aborted (before (plan.lead t)) t a in ap (λ x. aborted x t) (one (plan.lead t) l w.up j) ∙ ended_by_now (before (plan.lead t)).log t p w.idle w.uncommitted
 
     lost_step : ((p : PartId) (l : List (Record E)) → (before p).up ≡ true → Image (before p) l → l ≡ (before p).log) → (q : PartId) (new : List (Record E)) (t : TxId) → q ≢ plan.lead t → Image (after q) new → aborted new t ≡ true → Lost t
     unfolding Lost

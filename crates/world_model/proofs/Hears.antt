@@ -1,5 +1,5 @@
 -- The events of a run show what each partition that is up has heard, so each begin's snapshot is fresh.
-use Rattle.std.proofs.Common.{◌≡◌, ◌≢◌, ⊎_elim, ℕ, zero, suc, ◌-◌, ◌<◌, ◌≤◌, max, min, cond, true, false, List, [], ◌∷◌, length, refl, sym, ap, ◌∙◌, subst, arith}
+use Rattle.std.proofs.Common.{◌≡◌, ◌≢◌, ⊎_elim, ℕ, zero, suc, ◌-◌, ◌<◌, ◌≤◌, max, cond, true, false, List, [], ◌∷◌, length, refl, sym, ap, ◌∙◌, subst, subst₂, arith, le_trans}
 use Rattle.std.specs.Prelude.{⊤, ◌==◌, replicate, slice_index, slice_set}
 use Rattle.std.proofs.lemmas.Bool.{cases_Bool, cond-true, cond-false, eqb-true, eq-eqb}
 use Rattle.std.proofs.lemmas.List.{length-replicate, length-set, get_or-replicate, get_or-set_same, get_or-set_other}
@@ -12,8 +12,8 @@ use Rattle.world_model.specs.Event.{AskBegin, StableBehind, ClockAtEnd, Event, T
 use Rattle.world_model.specs.Partition.{Kinds, PartState, IsOther, known, stable_entry, lowest, vector_of, new_part, done, PartStep}
 use Rattle.world_model.specs.Plan.{Plan, IsAllowed, IsRun}
 use Rattle.world_model.specs.Shown.{bound_shown}
-use Rattle.world_model.specs.Stable.{heard_from, heard_shown, known_shown, stable_shown, IsStableAt, IsFreshAt, AreFresh}
-use Rattle.world_model.proofs.Names.{clash, part_cases, part_other}
+use Rattle.world_model.specs.Stable.{heard_from, heard_shown, known_shown, IsLeast, IsStableAt, IsFreshAt, AreFresh}
+use Rattle.world_model.proofs.Names.{clash, part_cases, part_other, lowest_below, lowest_reached}
 use Rattle.world_model.proofs.Intervals.{shown_has}
 use Rattle.world_model.proofs.Completeness.{numbered, rows_at}
 use Rattle.world_model.proofs.Leases.{Leases}
@@ -28,13 +28,13 @@ join_at (n ∷ u) [] i e = absurd (omega arith)
 join_at (n ∷ u) (m ∷ v) zero e = refl
 join_at (n ∷ u) (m ∷ v) (suc i) e = join_at u v i (omega arith)
 
-lowest_same : (f g : ℕ → ℕ) (n : ℕ) → ((q : ℕ) → 1 ≤ q → q ≤ n → f q ≡ g q) → lowest f n ≡ lowest g n
-lowest_same f g zero h = refl
-lowest_same f g (suc zero) h = h 1 (omega arith) (omega arith)
-lowest_same f g (suc (suc n)) h =
-    let a = h (suc (suc n)) (omega arith) (omega arith) in
-    let b = lowest_same f g (suc n) (λ q x y. h q x (omega arith)) in
-    λ i. min (a i) (b i)
+-- what the rules compute is the least, also of what is known by other words
+least_is : (f g : ℕ → ℕ) (n m : ℕ) → 1 ≤ n → ((q : ℕ) → 1 ≤ q → q ≤ n → f q ≡ g q) → m ≡ lowest f n → IsLeast n g m
+least_is f g n m some same e =
+    let r = lowest_reached f n some in record {
+      below = λ q a b. subst₂ (λ x y. x ≤ y) (sym e) (same q a b) (lowest_below f n q a b);
+      reached = (r.0, r.1, r.2, e ∙ r.3 ∙ same r.0 r.1 r.2);
+    }
 
 module _ {E : Type 0} where
   abbrev IsWide : Plan E → PartId → Event E → Type 0
@@ -142,35 +142,39 @@ module _ {E : Type 0} where
           wide = (wide_event event st, h.wide);
         }
 
-    -- what it knows, and so its stable entries, are shown
-    stable_is : Shown plan run before → (before at).up ≡ true → (j : ℕ) → IsOther plan.sites at.site j → stable_entry plan.parts at (before at) j ≡ stable_shown plan.parts run at j
-    stable_is w up j o = lowest_same (known at (before at) j) (known_shown run at j) plan.parts (λ q a b. λ i. cond (at.part == q) (w.bounds at j up o i) (h.told at q j up a b i))
+    -- what it knows is shown
+    known_is : Shown plan run before → (before at).up ≡ true → (j : ℕ) → IsOther plan.sites at.site j → (q : ℕ) → 1 ≤ q → q ≤ plan.parts → known at (before at) j q ≡ known_shown run at j q
+    known_is w up j o q a b = λ i. cond (at.part == q) (w.bounds at j up o i) (h.told at q j up a b i)
+
+    -- so a stable entry is at most what is shown to be known of each
+    stable_low : Shown plan run before → (before at).up ≡ true → (j : ℕ) → IsOther plan.sites at.site j → (q : ℕ) → 1 ≤ q → q ≤ plan.parts → stable_entry plan.parts at (before at) j ≤ known_shown run at j q
+    stable_low w up j o q a b = subst (λ x. stable_entry plan.parts at (before at) j ≤ x) (known_is w up j o q a b) (lowest_below (known at (before at) j) plan.parts q a b)
 
     -- what is told once a report was heard
-    stable_told : (k : ℕ) (b stable : List ℕ) → Fate plan run before → Leases run before → Shown plan run before → IsAllowed plan run before at (Heard k b stable) → PartStep kinds plan.sites plan.parts at (before at) (Heard k b stable) (after at) → IsStableAt plan run at (λ q j. heard_from {E = E} q j (heard_shown run at q j) (Heard k b stable)) stable
-    stable_told k b stable f l w al st =
+    stable_told : (k : ℕ) (b stable : List ℕ) → 1 ≤ plan.parts → Fate plan run before → Leases run before → Shown plan run before → IsAllowed plan run before at (Heard k b stable) → PartStep kinds plan.sites plan.parts at (before at) (Heard k b stable) (after at) → IsStableAt plan run at (λ q j. heard_from {E = E} q j (heard_shown run at q j) (Heard k b stable)) stable
+    stable_told k b stable some f l w al st =
         let x = new_heard k b stable al st in
         let same : (q j : ℕ) → 1 ≤ q → q ≤ plan.parts → entry (vector_of (done (before at) (Heard k b stable)).heard q) j ≡ heard_from {E = E} q j (heard_shown run at q j) (Heard k b stable) = λ q j a c. sym (ap (λ p. entry (vector_of p.heard q) j) st.2) ∙ x.told q j (ap (λ p. p.up) st.2) a c in record {
           width = st.1.width;
-          others = λ j o. st.1.others j o ∙ lowest_same (known at (done (before at) (Heard k b stable)) j) (λ q. cond (at.part == q) (bound_shown run at j) (heard_from {E = E} q j (heard_shown run at q j) (Heard k b stable))) plan.parts (λ q a c. λ i. cond (at.part == q) (w.bounds at j st.0 o i) (same q j a c i));
+          others = λ j o. least_is (known at (done (before at) (Heard k b stable)) j) (λ q. cond (at.part == q) (bound_shown run at j) (heard_from {E = E} q j (heard_shown run at q j) (Heard k b stable))) plan.parts (entry stable j) some (λ q a c. λ i. cond (at.part == q) (w.bounds at j st.0 o i) (same q j a c i)) (st.1.others j o);
           own = (
             st.1.own.0,
             own_bound kinds plan run before after at f w st.0 l st.1.own.0 st.1.own.1,
-            st.1.own.2 ∙ lowest_same (λ q. cond (at.part == q) st.1.own.0 (entry (vector_of (done (before at) (Heard k b stable)).heard q) at.site)) (λ q. cond (at.part == q) st.1.own.0 (heard_from {E = E} q at.site (heard_shown run at q at.site) (Heard k b stable))) plan.parts (λ q a c. λ i. cond (at.part == q) st.1.own.0 (same q at.site a c i)),
+            least_is (λ q. cond (at.part == q) st.1.own.0 (entry (vector_of (done (before at) (Heard k b stable)).heard q) at.site)) (λ q. cond (at.part == q) st.1.own.0 (heard_from {E = E} q at.site (heard_shown run at q at.site) (Heard k b stable))) plan.parts (entry stable at.site) some (λ q a c. λ i. cond (at.part == q) st.1.own.0 (same q at.site a c i)) st.1.own.2,
           );
         }
 
-    fresh_event : (event : Event E) → Fate plan run before → Leases run before → Shown plan run before → IsAllowed plan run before at (attempt event) → PartStep kinds plan.sites plan.parts at (before at) event (after at) → IsFreshAt plan run at event
-    fresh_event (Began who dep t s) f l w al st = record { width = st.1.width; own = st.1.own; others = λ j o. st.1.stable j o ∙ stable_is w st.0 j o }
-    fresh_event (Heard k b stable) f l w al st = stable_told k b stable f l w al st
-    fresh_event (Refused (AskBegin who dep) ClockAtEnd) f lease w al st = λ j o. subst (λ n. entry dep j ≤ n) (stable_is w st.0.0 j o) (st.0.1.0 j o)
-    fresh_event (Refused (AskBegin who dep) (StableBehind j n)) f lease w al st = record {
+    fresh_event : (event : Event E) → 1 ≤ plan.parts → Fate plan run before → Leases run before → Shown plan run before → IsAllowed plan run before at (attempt event) → PartStep kinds plan.sites plan.parts at (before at) event (after at) → IsFreshAt plan run at event
+    fresh_event (Began who dep t s) some f l w al st = record { width = st.1.width; own = st.1.own; others = λ j o. least_is (known at (before at) j) (known_shown run at j) plan.parts (entry s j) some (known_is w st.0 j o) (st.1.stable j o) }
+    fresh_event (Heard k b stable) some f l w al st = stable_told k b stable some f l w al st
+    fresh_event (Refused (AskBegin who dep) ClockAtEnd) some f lease w al st = λ j q o a b. le_trans (st.0.1.0 j o) (stable_low w st.0.0 j o q a b)
+    fresh_event (Refused (AskBegin who dep) (StableBehind j n)) some f lease w al st = record {
       other = st.0.1.other;
-      have = st.0.1.have ∙ stable_is w st.0.0 j st.0.1.other;
+      have = least_is (known at (before at) j) (known_shown run at j) plan.parts n some (known_is w st.0.0 j st.0.1.other) st.0.1.have;
       behind = st.0.1.behind;
-      least = λ i o l. st.0.1.least i o (subst (λ x. x < entry dep i) (sym (stable_is w st.0.0 i o)) l);
+      least = λ i q o a b l. st.0.1.least i o (let k = stable_low w st.0.0 i o q a b in omega arith);
     }
-    fresh_event event f l w al st = tt
+    fresh_event event some f l w al st = tt
 
   hears_start : (plan : Plan E) (parts : PartId → PartState E) → ((p : PartId) → parts p ≡ new_part plan.sites plan.parts) → Hears plan [] parts
   hears_start plan parts r = record {
@@ -187,6 +191,6 @@ module _ {E : Type 0} where
   pub fresh_events : {S : Type 0} (kinds : Kinds S E) (plan : Plan E) (run : List (Entry E)) (parts : PartId → PartState E) → IsRun kinds plan run parts → AreFresh plan run
   fresh_events kinds plan [] parts r = tt
   fresh_events kinds plan (e ∷ run) parts r = (
-    (let k = law_plan kinds plan run r.0 r.1 in fresh_event kinds plan run r.0 parts e.at (hears_run kinds plan run r.0 r.1) e.event k.fate k.leases (shown_run kinds plan run r.0 r.1) r.2.allowed r.2.step),
+    (let k = law_plan kinds plan run r.0 r.1 in fresh_event kinds plan run r.0 parts e.at (hears_run kinds plan run r.0 r.1) e.event (le_trans r.2.place.least_part r.2.place.most_part) k.fate k.leases (shown_run kinds plan run r.0 r.1) r.2.allowed r.2.step),
     fresh_events kinds plan run r.0 r.1,
   )

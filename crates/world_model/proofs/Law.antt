@@ -21,14 +21,15 @@ use Rattle.world_model.specs.World.{is_begin, begin_vector, begun, snapshot_of, 
 use Rattle.world_model.specs.LawfulWorld.{IsLawfulWorld}
 use Rattle.world_model.specs.Logs.{LeavesLogs}
 use Rattle.world_model.specs.Lines.{lines_of}
+use Rattle.world_model.specs.Fate.{TellFates}
 use Rattle.world_model.specs.Lawful.{IsLawful}
 use Rattle.world_model.proofs.Names.{off}
 use Rattle.world_model.proofs.Completeness.{numbered}
 use Rattle.world_model.proofs.Kept.{Kept, law_plan, right_all, facts_of, strict, closed, never_both, past_end}
 use Rattle.world_model.proofs.CausalStores.{causal_stores}
-use Rattle.world_model.proofs.Shows.{show_events}
+use Rattle.world_model.proofs.Shows.{shown_run, show_events}
 use Rattle.world_model.proofs.Hears.{fresh_events}
-use Rattle.world_model.proofs.Ups.{answer_up}
+use Rattle.world_model.proofs.Ups.{ups, answer_up}
 use Rattle.world_model.proofs.Doubts.{settle_doubts}
 use Rattle.world_model.proofs.Voting.{vote_events, vectors, agreed}
 use Rattle.world_model.proofs.Handing.{IsHome, homes, snapshot_width, place_events, handed_events, numbered_events, planned_updates}
@@ -37,6 +38,7 @@ use Rattle.world_model.proofs.Sending.{send_events}
 use Rattle.world_model.proofs.Answering.{due_events, known_events}
 use Rattle.world_model.proofs.LogsLeft.{logs_left}
 use Rattle.world_model.proofs.LineLaws.{lawful_lines}
+use Rattle.world_model.proofs.Leads.{tell_fates}
 use Rattle.world_model.proofs.Stories.{stories, meanings, planned_changes}
 use Rattle.world_model.proofs.Fitted.{IsLow, low_zero, low_join, low_set, PlanFits, now_low, least_first}
 use Rattle.world_model.proofs.Whole.{suffix_all, all_fresh, world_leases, fits}
@@ -171,7 +173,7 @@ module _ {E : Type 0} where
         lead = λ t q h a b. least_first t.site 1 parts (home t) q (λ p. takes_part plan t p) (plan.at_home t q h) a (omega arith) h;
       }
 
-  pub law_world : {S : Type 0} (kinds : Kinds S E) (sites parts : ℕ) (run : List (Entry E)) (state : PartId → PartState E) → IsWorldRun kinds sites parts run state → IsLawfulWorld kinds (plan_of sites parts run) run × LeavesLogs sites run state × IsLawful kinds.too_deep kinds.meaning sites parts (lines_of run)
+  pub law_world : {S : Type 0} (kinds : Kinds S E) (sites parts : ℕ) (run : List (Entry E)) (state : PartId → PartState E) → IsWorldRun kinds sites parts run state → IsLawfulWorld kinds (plan_of sites parts run) run × LeavesLogs (plan_of sites parts run) run state × IsLawful kinds.too_deep kinds.meaning sites parts (lines_of run) × TellFates parts (lines_of run) state
   law_world kinds sites parts run state r =
       let plan = plan_of sites parts run in
       let under = fits kinds sites parts run state r run (all_fresh kinds sites parts run state r) (suffix_all run) in
@@ -208,4 +210,4 @@ module _ {E : Type 0} where
         fate = never_both kinds plan run state k;
         strict = strictly;
         closed = closed plan run strictly;
-      } in (law, logs_left kinds plan run state under, lawful_lines kinds sites parts run law)
+      } in (law, logs_left kinds plan run state under, lawful_lines kinds sites parts run law, tell_fates kinds sites parts run state k.fate (shown_run kinds plan run state under) (ups kinds plan run state under) law)

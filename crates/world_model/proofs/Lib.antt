@@ -1,5 +1,6 @@
 pub mod Names
 pub mod Parts
+pub mod Queue
 pub mod Moves
 pub mod Leases
 pub mod Fate
@@ -30,6 +31,7 @@ pub mod LineFaults
 pub mod LineReading
 pub mod LineCounts
 pub mod LineLaws
+pub mod Leads
 pub mod Fitted
 pub mod Whole
 pub mod Law

@@ -2,7 +2,6 @@
 use Rattle.std.proofs.Common.{◌≡◌, ◌≢◌, ◌⊎◌, ⊎_elim, inl, inr, ℕ, ◌+◌, ◌<◌, ◌≤◌, max, leb, ltb, cond, Bool, true, false, not, ◌&&◌, ◌||◌, List, [], ◌∷◌, ◌++◌, length, Option, Some, append-nil, refl, sym, ap, ◌∙◌, subst, subst₂, arith}
 use Rattle.std.specs.Prelude.{◌==◌, filter}
 use Rattle.std.specs.List.{flat_map}
-use Rattle.std.specs.declared.cmp.Ordering.TheVariants.{Less}
 use Rattle.std.proofs.lemmas.Bool.{cases_Bool, cond-true, cond-false, or_left, or_right, or_cases, or_parts, or_from, and_from, and_parts, ltb-true, lt-ltb, le-leb, eq-eqb, false_from_ne_true}
 use Rattle.site_vector.specs.declared.ids.PartId.{PartId}
 use Rattle.site_vector.specs.declared.ids.TxId.{TxId}
@@ -22,7 +21,7 @@ use Rattle.crdt_core.specs.Stamps.{stamp_due}
 use Rattle.world_model.specs.Log as log
 use Rattle.world_model.specs.Log.{end_of_time, lists}
 use Rattle.world_model.specs.Event.{Ask, AskBegin, AskRead, AskUpdate, AskPrepare, AskDecide, AskAbort, AskTake, AskRestart, is_restart, IsDown, ClockBehind, TxPending, StableBehind, ClockAtEnd, IsGone, HasGap, IsRepeat, IsBadOp, IsDamaged, Event, Ticked, Began, Updated, Read, Prepared, Decided, Finished, Aborted, Sent, Took, Reported, Heard, Crashed, RestartCut, Restarted, Refused, Opened, Cut, Entry, EventsAre, WasShown, is_abort, was_aborted, voted, is_decided, time_of, shown}
-use Rattle.world_model.specs.Partition.{Kinds, lowest, pending_cmp}
+use Rattle.world_model.specs.Partition.{Kinds}
 use Rattle.world_model.specs.Plan.{Plan, IsPlace, first_of, home, twin, is_some_update, takes_part, commit_vector, MayTake}
 use Rattle.world_model.specs.Participants.{partitions}
 use Rattle.world_model.specs.World.{plan_of}
@@ -31,8 +30,8 @@ use Rattle.world_model.specs.Past as events
 use Rattle.world_model.specs.Downs.{AnswersAsUp, AnswerAsUp}
 use Rattle.world_model.specs.Answering.{IsDueAt, AreDue, IsKnown}
 use Rattle.world_model.specs.Doubt.{SettlesAt, SettleDoubts}
-use Rattle.world_model.specs.Shown.{bound_shown, pending_shown, pending_time, committed_shown, TellsAbortedAt, MayAbortAt, IsReadyAt, IsFirstPending, ShowsAt, ShowAt}
-use Rattle.world_model.specs.Stable.{heard_from, heard_shown, IsBehindAt, IsFreshAt, AreFresh}
+use Rattle.world_model.specs.Shown.{IsBefore, bound_shown, pending_shown, pending_time, committed_shown, TellsAbortedAt, MayAbortAt, IsReadyAt, IsFirstPending, ShowsAt, ShowAt}
+use Rattle.world_model.specs.Stable.{heard_from, heard_shown, IsLeast, IsBehindAt, IsFreshAt, AreFresh}
 use Rattle.world_model.specs.Votes.{IsDecision, VotesAt, KeepVotes, ShowsVector}
 use Rattle.world_model.specs.Handed.{IsPlacedAt, HandedAt, AreHanded, IsNew, AreNew}
 use Rattle.world_model.specs.Meaning as meaning
@@ -63,7 +62,7 @@ use Rattle.world_model.proofs.Fate.{voted_tried}
 use Rattle.world_model.proofs.Later.{at_own}
 use Rattle.world_model.proofs.Intervals.{shown_has, events_map}
 use Rattle.world_model.proofs.Histories.{Facts, no_self}
-use Rattle.world_model.proofs.LineViews.{now_is, missed_is, in_history_is, snapshot_is, commit_time_is, vector_is, visible_is, is_of_is, dependency_is, pending_is, prepare_time_is, doubt_is, asked_is, down_is, last_is, bound_is, heard_here, heard_is, stable_is, own_bound_is, was_prepared_is, last_sent_is, sent_count_is, report_count_is, sent_line, report_line}
+use Rattle.world_model.proofs.LineViews.{now_is, missed_is, in_history_is, snapshot_is, commit_time_is, vector_is, visible_is, is_of_is, dependency_is, pending_is, prepare_time_is, doubt_is, asked_is, down_is, last_is, bound_is, heard_here, heard_is, known_is, stable_is, own_bound_is, was_prepared_is, last_sent_is, sent_count_is, report_count_is, sent_line, report_line}
 use Rattle.world_model.proofs.LineChanges.{to_change, count_is, takes_part_is, touches_is, first_site, lead_is}
 use Rattle.world_model.proofs.Orders.{stamp_same, none_due, is_in, in_filter, once_filter, filter_in}
 use Rattle.world_model.proofs.LineCounts.{parts_counted, both_ways, found_in, any_in, some_above, part_above, above_part}
@@ -126,13 +125,13 @@ module _ {E : Type 0} where
   fresh_line plan run p (Began who dep t v) h f s = record {
     width = f.width;
     own = f.own ∙ ap (λ d. max t.time (entry d p.site)) (h.0 ∙ sym (dependency_is plan.sites run who));
-    others = λ j o. f.others j o ∙ sym (stable_is plan.parts run p j);
+    others = λ j o. stable_is plan.parts run p j (entry v j) (f.others j o);
   }
   fresh_line plan run p (Heard k b stable) h f s =
       let same : (q j : ℕ) → heard_from {E = E} q j (heard_shown run p q j) (Heard k b stable) ≡ bounds.heard_after q j (bounds.heard (lines_of run) p q j) (call_of {E = E} (Heard k b stable)) (step_shown run p (Heard k b stable)) = λ q j. sym (ap (λ o. bounds.heard_after q j o (call_of {E = E} (Heard k b stable)) (step_shown run p (Heard k b stable))) (heard_is run p q j) ∙ heard_here run p q j (heard_shown run p q j) (Heard k b stable)) in record {
         width = f.width;
-        others = λ j o. f.others j o ∙ (λ i. lowest (λ q. cond (p.part == q) (sym (bound_is run p j) i) (same q j i)) plan.parts);
-        own = (f.own.0, own_bound_is run p f.own.0 f.own.1, f.own.2 ∙ (λ i. lowest (λ q. cond (p.part == q) f.own.0 (same q p.site i)) plan.parts));
+        others = λ j o. subst (λ known. IsLeast plan.parts known (entry stable j)) (λ i. λ q. cond (p.part == q) (sym (bound_is run p j) i) (same q j i)) (f.others j o);
+        own = (f.own.0, own_bound_is run p f.own.0 f.own.1, subst (λ known. IsLeast plan.parts known (entry stable p.site)) (λ i. λ q. cond (p.part == q) f.own.0 (same q p.site i)) f.own.2);
       }
   fresh_line plan run p (Reported b) h f s = record { width = s.0; own = own_bound_is run p (entry b p.site) s.1; others = λ j o. s.2 j o ∙ sym (bound_is run p j) }
   fresh_line plan run p event h f s = tt
@@ -267,7 +266,7 @@ module _ {E : Type 0} where
     touches_eq : (t : TxId) (p : PartId) (o : ObjectId) → updates.touches ls t p o ≡ log.touches (plan.updates t p) o
     touches_eq t p o = touches_is plan run law.handed law.numbered t p o ∙ ap (λ us. log.touches us o) (sym (law.planned t p))
 
-    lead_eq : (t : TxId) → updates.lead parts ls t ≡ plan.lead t
+    pub lead_eq : (t : TxId) → updates.lead parts ls t ≡ plan.lead t
     lead_eq t = lead_is plan run law.handed law.numbered parts t ∙ (λ i. first_of (home t) (filter (λ p. is_some_update (sym (law.planned t p) i)) (partitions t.site 1 parts)))
 
     vector_eq : (t : TxId) → past.commit_vector ls t ≡ commit_vector plan run t
@@ -464,16 +463,16 @@ module _ {E : Type 0} where
           changes = touches_eq u p o ∙ h.changes;
           time = h.time ∙ sym (prepare_time_is some p u);
           early = subst (λ x. n ≤ x) v h.early;
-          first = λ w k y. subst (λ m. pending_cmp (w, m) (u, n) ≢ Less) (sym (prepare_time_is some p w)) (h.first w (sym (pending_is some p w) ∙ k) (sym (touches_eq w p o) ∙ y));
+          first = λ w ne k y. subst (λ m. IsBefore (u, n) (w, m)) (sym (prepare_time_is some p w)) (h.first w ne (sym (pending_is some p w) ∙ k) (sym (touches_eq w p o) ∙ y));
         }
 
     stable_line : (some : List (Entry E)) (p : PartId) (who dep : List ℕ) (j n : ℕ) → dep ≡ events.dependency sites some who → IsBehindAt plan some p dep j n → causes.IsStableBehind sites parts (lines_of some) p who j n
     stable_line some p who dep j n e h =
         let d : dep ≡ session.dependency sites (lines_of some) who = e ∙ sym (dependency_is sites some who) in record {
           other = h.other;
-          have = h.have ∙ sym (stable_is parts some p j);
+          have = stable_is parts some p j n h.have;
           behind = subst (λ x. n < entry x j) d h.behind;
-          least = λ i o k. h.least i o (subst₂ (λ x y. x < entry y i) (stable_is parts some p i) (sym d) k);
+          least = λ i q o a b k. h.least i q o a b (subst₂ (λ x y. x < entry y i) (known_is some p i q) (sym d) k);
         }
 
     cause_line : (some : List (Entry E)) (p : PartId) (event : Event E) → HandedAt plan some p event → IsFreshAt plan some p event → HasCauseAt plan some p event → ShowsAt plan some p event → IsDueAt event → IsRight kinds plan run p event → causes.HasCause sites parts ls (lines_of some) p (call_of event) (step_shown some p event)
@@ -490,7 +489,7 @@ module _ {E : Type 0} where
     cause_line some p (Refused asked (StableBehind j n)) h f c w d r = off d
     cause_line some p (Refused asked IsGone) h f c w d r = off d
     cause_line some p (Refused asked (IsDamaged k)) h f c w d r = off d
-    cause_line some p (Refused (AskBegin who dep) ClockAtEnd) h f c w d r = (now_is some p ∙ c, λ j o. subst₂ (λ x y. entry x j ≤ y) (h ∙ sym (dependency_is sites some who)) (sym (stable_is parts some p j)) (f j o))
+    cause_line some p (Refused (AskBegin who dep) ClockAtEnd) h f c w d r = (now_is some p ∙ c, λ j q o a b. subst₂ (λ x y. entry x j ≤ y) (h ∙ sym (dependency_is sites some who)) (sym (known_is some p j q)) (f j q o a b))
     cause_line some p (Refused (AskPrepare t s l us) ClockAtEnd) h f c w d r = (now_is some p ∙ c.1, subst₂ (λ x y. x ≤ y) (sym (entry_eq t p.site)) (sym (now_is some p)) c.0)
     cause_line some p (Refused asked ClockAtEnd) h f c w d r = off d
     cause_line some p (Refused asked why) h f c w d r = tt
@@ -573,7 +572,7 @@ module _ {E : Type 0} where
         ∙ ap length (filter_in (λ t. lists m.parts t) (λ t. updates.takes_part ls t p && (ltb m.lo (past.commit_time ls t) && leb (past.commit_time ls t) m.hi)) hs same)
 
     stream_line : (some : List (Entry E)) (p : PartId) (event : Event E) → HandedAt plan some p event → SendsAt plan some p event → ShowsAt plan some p event → IsDueAt event → IsRight kinds plan run p event → streams.IsStream sites ls (lines_of some) p (call_of event) (step_shown some p event)
-    stream_line some p (Sent asked m) h n s d r = record { row = ap (λ x. x + 1) (sym (sent_count_is some)); to = n.to; low = n.lo ∙ ap (low_of asked) (sym (last_sent_is some p m.to)); high = own_bound_is some p m.hi s; parts = count_line p m r }
+    stream_line some p (Sent asked m) h n s d r = record { row = ap (λ x. x + 1) (sym (sent_count_is some)); to = n.0.to; low = n.0.lo ∙ ap (low_of asked) (sym (last_sent_is some p m.to)); high = own_bound_is some p m.hi s; parts = count_line p m r }
     stream_line some p (Took m) h n s d r = let e = sym (bound_is some p m.from) in (refl, subst (λ x. m.lo ≤ x) e s.0, subst (λ x. x < m.hi) e s.1, handed_line plan some p m h)
     stream_line some p (Reported b) h n s d r = ap (λ x. x + 1) (sym (report_count_is some))
     stream_line some p (Heard k b stable) h n s d r = report_line some (record { site = p.site; part = k }) b h.shown

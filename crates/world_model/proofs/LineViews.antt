@@ -15,10 +15,9 @@ use Rattle.world_model.specs.World.{is_begin, begin_vector, begun, snapshot_of}
 use Rattle.world_model.specs.Past as events
 use Rattle.world_model.specs.WorldLaw.{ClockIs, ClocksAre}
 use Rattle.world_model.specs.Shown as told
-use Rattle.world_model.specs.Stable.{heard_from, heard_shown, known_shown, stable_shown}
+use Rattle.world_model.specs.Stable.{heard_from, heard_shown, known_shown, IsLeast}
 use Rattle.world_model.specs.Doubt as doubt
 use Rattle.world_model.specs.Downs as downs
-use Rattle.world_model.specs.Partition.{lowest}
 use Rattle.world_model.specs.Sends as sends
 use Rattle.world_model.specs.Lines.{is_sent, sent_count, is_report, report_count, has_stretch, message_number, has_bounds, report_number, call_of, step_shown, lines_of}
 use Rattle.world_model.specs.declared.step.Step.TheVariants as step
@@ -222,8 +221,8 @@ module _ {E : Type 0} where
   pub known_is : (run : List (Entry E)) (p : PartId) (j q : ℕ) → bounds.known (lines_of run) p j q ≡ known_shown run p j q
   known_is run p j q = λ i. cond (p.part == q) (bound_is run p j i) (heard_is run p q j i)
 
-  pub stable_is : (parts : ℕ) (run : List (Entry E)) (p : PartId) (j : ℕ) → bounds.stable_entry parts (lines_of run) p j ≡ stable_shown parts run p j
-  stable_is parts run p j = λ i. lowest (λ q. known_is run p j q i) parts
+  pub stable_is : (parts : ℕ) (run : List (Entry E)) (p : PartId) (j n : ℕ) → IsLeast parts (known_shown run p j) n → bounds.IsStableEntry parts (lines_of run) p j n
+  stable_is parts run p j n h = subst (λ known. IsLeast parts known n) (λ i. λ q. sym (known_is run p j q) i) h
 
   pub own_bound_is : (run : List (Entry E)) (p : PartId) (b : ℕ) → told.IsOwnBoundAt run p b → bounds.IsOwnBound (lines_of run) p b
   own_bound_is run p b o = record {

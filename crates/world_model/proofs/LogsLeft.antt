@@ -1,36 +1,57 @@
 -- Whatever a restart may find is a log that the run leaves.
-use Rattle.std.proofs.Common.{◌≡◌, ◌≢◌, ⊎_elim, inl, inr, true, List, [], ◌∷◌, refl, sym, ◌∙◌, subst}
+use Rattle.std.proofs.Common.{◌≡◌, ◌≢◌, ⊎_elim, inl, inr, ℕ, ltb, cond, true, List, [], ◌∷◌, ◌++◌, refl, sym, ap, ◌∙◌, subst}
+use Rattle.std.specs.Prelude.{filter}
 use Rattle.site_vector.specs.declared.ids.PartId.{PartId}
 use Rattle.site_vector.specs.Vector.{entry}
+use Rattle.crdt_core.specs.declared.record.Part.{Part}
+use Rattle.crdt_core.specs.declared.record.Message.{Message}
 use Rattle.crdt_core.specs.declared.record.Record.{Record}
-use Rattle.world_model.specs.Log.{grown, IsImage}
+use Rattle.crdt_core.specs.declared.record.Record.TheVariants.{Prepare, Decide, Finish, Batch}
+use Rattle.world_model.specs.Log.{pending, grown, IsImage}
 use Rattle.world_model.specs.Event.{Event, Ticked, Began, Updated, Read, Prepared, Decided, Finished, Aborted, Sent, Took, Reported, Heard, Crashed, RestartCut, Restarted, Refused, Opened, Cut, Entry, attempt}
-use Rattle.world_model.specs.Partition.{Kinds, PartState, Image, IsOwnBound, above, batch_of, written, done, PartStep}
+use Rattle.world_model.specs.Partition.{Kinds, PartState, Image, IsOwnBound, lease_for, above, batch_of, written, done, PartStep}
 use Rattle.world_model.specs.Plan.{Plan, IsAllowed, IsRun}
 use Rattle.world_model.specs.Shown.{bound_shown}
-use Rattle.world_model.specs.Logs.{IsLogAfter, IsLogOf, LeavesLogs}
+use Rattle.world_model.specs.Logs.{taken_of, records_of, IsLogAfter, IsLogOf, LeavesLogs}
 use Rattle.world_model.proofs.Names.{part_cases}
+use Rattle.world_model.proofs.Queue.{in_order}
 use Rattle.world_model.proofs.Moves.{image_log}
 use Rattle.world_model.proofs.Shows.{Shown, shown_run}
 
-module _ {E : Type 0} {S : Type 0} (kinds : Kinds S E) (plan : Plan E) (run : List (Entry E)) (before after : PartId → PartState E) (at : PartId) (w : Shown plan run before) (left : LeavesLogs plan.sites run before) where
+module _ {E : Type 0} {S : Type 0} (kinds : Kinds S E) (plan : Plan E) (run : List (Entry E)) (before after : PartId → PartState E) (at : PartId) (w : Shown plan run before) (left : LeavesLogs plan run before) where
   -- a log that came of one that the run left
   abbrev Left : Event E → List (Record E) → Type 0
-  Left event m = (old : List (Record E)) × IsLogOf plan.sites run at old × IsLogAfter plan.sites run at old event m
+  Left event m = (old : List (Record E)) × IsLogOf plan run at old × IsLogAfter plan run at old event m
 
-  -- the records are those that the bounds give which were shown
-  same_written : (a : Event E) → IsAllowed plan run before at a → (before at).up ≡ true → written (before at).log (λ j. entry (before at).bounds j) a ≡ written (before at).log (bound_shown run at) a
-  same_written (Took m) al up = let e = w.bounds at m.from up al.from in λ i. batch_of m (e i) (above m.from (e i) m.parts)
+  above_is : (site b : ℕ) (xs : List (Part E)) → above site b xs ≡ filter (λ x. ltb b (entry x.c site)) xs
+  above_is site b [] = refl
+  above_is site b (x ∷ xs) = λ i. cond (ltb b (entry x.c site)) (x ∷ above_is site b xs i) (above_is site b xs i)
+
+  batch_is : (m : Message E) (b : ℕ) (xs : List (Part E)) → m.to ≡ at.site → m.part ≡ at.part → batch_of m b xs ≡ taken_of at m b xs
+  batch_is m b [] to part = refl
+  batch_is m b (x ∷ xs) to part = λ i. Batch (record { from = m.from; to = to i; part = part i; lo = b; hi = m.hi; parts = x ∷ xs }) ∷ []
+
+  -- the records that the rules make are those of the plan, by the bounds that were shown
+  same_written : (a : Event E) → IsAllowed plan run before at a → (before at).up ≡ true → written (before at).log (λ j. entry (before at).bounds j) a ≡ records_of plan run at (before at).log a
+  same_written (Prepared t s l u n) al up = λ i. lease_for (before at).log n ++ Prepare t (al.lead i) n (al.snapshot i) (al.changes i) ∷ []
+  same_written (Decided t c) al up = λ i. cond (pending (before at).log t) (Decide t (al.vector i) ∷ []) []
+  same_written (Finished t c) al up = λ i. cond (pending (before at).log t) (Finish t (al.vector i) ∷ []) []
+  same_written (Took m) al up =
+      let e = w.bounds at m.from up al.from in
+      let b = bound_shown run at m.from in
+      (λ i. batch_of m (e i) (above m.from (e i) m.parts))
+      ∙ ap (batch_of m b) (above_is m.from b m.parts)
+      ∙ batch_is m b (filter (λ x. ltb b (entry x.c m.from)) m.parts) al.to al.part
   same_written a al up = refl
 
-  left_log : IsLogOf plan.sites run at (before at).log
+  left_log : IsLogOf plan run at (before at).log
   left_log = left at (before at).log (image_log (before at))
 
-  left_done : (event : Event E) → IsAllowed plan run before at event → (before at).up ≡ true → after at ≡ done (before at) event → (m : List (Record E)) → Image (after at) m → m ≡ grown (before at).log (written (before at).log (bound_shown run at) event)
+  left_done : (event : Event E) → IsAllowed plan run before at event → (before at).up ≡ true → after at ≡ done (before at) event → (m : List (Record E)) → Image (after at) m → m ≡ grown (before at).log (records_of plan run at (before at).log event)
   left_done event al up e m i = subst (λ rs. m ≡ grown (before at).log rs) (same_written event al up) (subst (λ p. Image p m) e i)
 
   -- the same partition as before
-  left_same : (m : List (Record E)) → after at ≡ before at → Image (after at) m → IsLogOf plan.sites run at m
+  left_same : (m : List (Record E)) → after at ≡ before at → Image (after at) m → IsLogOf plan run at m
   left_same m e i = left at m (subst (λ p. Image p m) e i)
 
   left_here : (event : Event E) → IsAllowed plan run before at (attempt event) → PartStep kinds plan.sites plan.parts at (before at) event (after at) → (m : List (Record E)) → Image (after at) m → Left event m
@@ -51,7 +72,7 @@ module _ {E : Type 0} {S : Type 0} (kinds : Kinds S E) (plan : Plan E) (run : Li
             last = st.last;
             members = st.members;
             timed = st.timed;
-            order = st.order;
+            order = in_order listed st.order;
           },
         ),
       )
@@ -70,14 +91,14 @@ module _ {E : Type 0} {S : Type 0} (kinds : Kinds S E) (plan : Plan E) (run : Li
   left_here (Reported b) al st m i = ((before at).log, left_log, left_done (Reported b) al st.0 st.2 m i)
   left_here (Heard q b stable) al st m i = ((before at).log, left_log, left_done (Heard q b stable) al st.0 st.2 m i)
 
-  left_step : (event : Event E) → IsAllowed plan run before at (attempt event) → PartStep kinds plan.sites plan.parts at (before at) event (after at) → ((q : PartId) → q ≢ at → after q ≡ before q) → LeavesLogs plan.sites ((record { at = at; event = event }) ∷ run) after
+  left_step : (event : Event E) → IsAllowed plan run before at (attempt event) → PartStep kinds plan.sites plan.parts at (before at) event (after at) → ((q : PartId) → q ≢ at → after q ≡ before q) → LeavesLogs plan ((record { at = at; event = event }) ∷ run) after
   left_step event al st others p m i = ⊎_elim
       (λ (e : at ≡ p).
       let x = left_here event al st m (subst (λ y. Image (after y) m) (sym e) i) in
-      (x.0, subst (λ y. IsLogOf plan.sites run y x.0) e x.1, inl (e, subst (λ y. IsLogAfter plan.sites run y x.0 event m) e x.2)))
+      (x.0, subst (λ y. IsLogOf plan run y x.0) e x.1, inl (e, subst (λ y. IsLogAfter plan run y x.0 event m) e x.2)))
       (λ (ne : at ≡ p → ⊥). (m, left p m (subst (λ y. Image y m) (others p (λ e. ne (sym e))) i), inr (ne, refl)))
       (part_cases at p)
 
-pub logs_left : {E S : Type 0} (kinds : Kinds S E) (plan : Plan E) (run : List (Entry E)) (parts : PartId → PartState E) → IsRun kinds plan run parts → LeavesLogs plan.sites run parts
+pub logs_left : {E S : Type 0} (kinds : Kinds S E) (plan : Plan E) (run : List (Entry E)) (parts : PartId → PartState E) → IsRun kinds plan run parts → LeavesLogs plan run parts
 logs_left kinds plan [] parts r = λ p m i. subst (λ x. Image x m) (r p) i
 logs_left kinds plan (e ∷ run) parts r = left_step kinds plan run r.0 parts e.at (shown_run kinds plan run r.0 r.1) (logs_left kinds plan run r.0 r.1) e.event r.2.allowed r.2.step r.2.others

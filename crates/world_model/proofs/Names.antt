@@ -1,5 +1,5 @@
 -- Partitions and transactions as one or apart, and entries of vectors.
-use Rattle.std.proofs.Common.{◌≡◌, ◌≢◌, ◌⊎◌, ⊎_elim, inl, inr, ℕ, zero, suc, ◌-◌, ◌<◌, ◌≤◌, min, leb, Bool, true, false, true≢false, List, [], ◌∷◌, length, refl, sym, ap, ◌∙◌, subst, arith, le_trans, le_refl}
+use Rattle.std.proofs.Common.{◌≡◌, ◌≢◌, ◌⊎◌, ⊎_elim, inl, inr, ℕ, zero, suc, ◌-◌, ◌<◌, ◌≤◌, leb, Bool, true, false, true≢false, List, [], ◌∷◌, length, refl, sym, ap, ◌∙◌, subst, arith, le_trans, le_refl}
 use Rattle.std.specs.Prelude.{slice_index, slice_index_or, slice_set}
 use Rattle.std.proofs.lemmas.Bool.{cases_Bool, and_from, and_parts, leb-true, le-leb, cases_eq, cases_lt, false_from_ne_true}
 use Rattle.std.proofs.lemmas.List.{get_or-set_same, get_or-set_other}
@@ -105,6 +105,16 @@ pub lowest_below : (known : ℕ → ℕ) (n q : ℕ) → 1 ≤ q → q ≤ n →
 lowest_below known zero q a b = absurd (omega arith)
 lowest_below known (suc zero) q a b = let e : q ≡ 1 = omega arith in subst (λ x. known 1 ≤ known x) (sym e) (le_refl _)
 lowest_below known (suc (suc n)) q a b = ⊎_elim
-    (λ (e : q ≡ suc (suc n)). subst (λ x. min (known (suc (suc n))) (lowest known (suc n)) ≤ known x) (sym e) (omega arith))
+    (λ (e : q ≡ suc (suc n)). subst (λ x. lowest known (suc (suc n)) ≤ known x) (sym e) (omega arith))
     (λ (ne : q ≡ suc (suc n) → ⊥). let apart : q ≢ suc (suc n) = ne in let h = lowest_below known (suc n) q a (omega arith) in omega arith)
     (cases_eq q (suc (suc n)))
+
+-- and that of one of them
+pub lowest_reached : (known : ℕ → ℕ) (n : ℕ) → 1 ≤ n → (q : ℕ) × (1 ≤ q) × (q ≤ n) × (lowest known n ≡ known q)
+lowest_reached known zero a = absurd (omega arith)
+lowest_reached known (suc zero) a = (1, le_refl 1, le_refl 1, refl)
+lowest_reached known (suc (suc n)) a =
+    let h = lowest_reached known (suc n) (omega arith) in ⊎_elim
+    (λ (k : known (suc (suc n)) < lowest known (suc n)). (suc (suc n), omega arith, le_refl _, omega arith))
+    (λ (k : lowest known (suc n) ≤ known (suc (suc n))). (h.0, h.1, omega arith, (let e : lowest known (suc (suc n)) ≡ lowest known (suc n) = omega arith in e) ∙ h.3))
+    (cases_lt (known (suc (suc n))) (lowest known (suc n)))

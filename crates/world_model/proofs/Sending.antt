@@ -13,6 +13,7 @@ use Rattle.world_model.specs.Event.{Event, Sent, Crashed, RestartCut, Restarted,
 use Rattle.world_model.specs.Partition.{Kinds, PartState, IsOther, PartStep}
 use Rattle.world_model.specs.Plan.{Plan, IsRun}
 use Rattle.world_model.specs.Sends.{low_of, sent_after, last_sent, SendsAt, Send}
+use Rattle.world_model.proofs.Queue.{sent_in_order}
 use Rattle.world_model.proofs.Names.{clash, part_cases, part_other, entry_same, entry_cases}
 use Rattle.world_model.proofs.Completeness.{zeros_at}
 
@@ -79,7 +80,7 @@ module _ {E : Type 0} where
     low_is (Some a) n last known e k = e
 
     sends_event : (event : Event E) (q : PartState E) → PartStep kinds plan.sites plan.parts at (before at) event q → SendsAt plan run at event
-    sends_event (Sent asked m) q st = record { to = st.1.to; lo = low_is asked m.lo (entry (before at).sent m.to) (last_sent run at m.to) st.1.lo (h.last at m.to st.0 st.1.to) }
+    sends_event (Sent asked m) q st = (record { to = st.1.to; lo = low_is asked m.lo (entry (before at).sent m.to) (last_sent run at m.to) st.1.lo (h.last at m.to st.0 st.1.to) }, sent_in_order at.site m.parts st.1.order)
     sends_event event q st = tt
 
   sends_run : {S : Type 0} (kinds : Kinds S E) (plan : Plan E) (run : List (Entry E)) (parts : PartId → PartState E) → IsRun kinds plan run parts → Sends plan run parts

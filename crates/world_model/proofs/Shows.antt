@@ -1,7 +1,6 @@
 -- The events of a run show the bounds of each partition that is up, and what is pending there.
 use Rattle.std.proofs.Common.{◌≡◌, ◌≢◌, ⊎_elim, inl, inr, ℕ, ◌+◌, ◌-◌, ◌<◌, ◌≤◌, cond, leb, min, Bool, true, false, not, ◌&&◌, ◌||◌, List, [], ◌∷◌, length, refl, sym, ap, ◌∙◌, subst, arith}
 use Rattle.std.specs.Prelude.{◌==◌}
-use Rattle.std.specs.declared.cmp.Ordering.TheVariants.{Less}
 use Rattle.std.proofs.lemmas.Bool.{cases_Bool, or_cases, or_from, and_from, and_right, and_parts, not-true, cond_both, cond-true, cond-false, eqb-true, eq-eqb, false_from_ne_true}
 use Rattle.std.proofs.lemmas.List.{length-replicate}
 use Rattle.site_vector.specs.declared.ids.PartId.{PartId}
@@ -18,14 +17,15 @@ use Rattle.crdt_core.specs.declared.record.Part.{Part}
 use Rattle.crdt_core.specs.declared.record.Message.{Message}
 use Rattle.world_model.specs.Log.{end_of_time, touches, prepared, prepare_time, prepared_changes, committed, aborted, pending, ceiling, grown}
 use Rattle.world_model.specs.Event.{AskRead, AskUpdate, AskDecide, AskAbort, AskTake, TxPending, IsGone, HasGap, IsRepeat, Event, Ticked, Began, Updated, Read, Prepared, Decided, Finished, Aborted, Sent, Took, Reported, Heard, Crashed, RestartCut, Restarted, Refused, Opened, Cut, Entry, attempt, tried, is_decided}
-use Rattle.world_model.specs.Partition.{Kinds, PartState, Image, IsOther, IsOwnBound, IsReady, IsTxPending, AreTimed, names_pending, pending_cmp, lease_for, above, batch_of, new_part, PartStep}
+use Rattle.world_model.specs.Partition.{Kinds, PartState, Image, IsOther, IsOwnBound, IsReady, IsTxPending, AreTimed, names_pending, lease_for, above, batch_of, new_part, PartStep}
 use Rattle.world_model.specs.Plan.{Plan, TellsAborted, MayAbort, takes_part, IsAllowed, IsRun}
 use Rattle.world_model.specs.Downs.{is_down}
-use Rattle.world_model.specs.Shown.{listed_time, bound_after, bound_shown, pending_after, pending_shown, time_after, pending_time, committed_shown, MayAbortAt, IsOwnBoundAt, IsFirstPending, IsReadyAt, ShowsAt, ShowAt}
+use Rattle.world_model.specs.Shown.{listed_time, IsBefore, bound_after, bound_shown, pending_after, pending_shown, time_after, pending_time, committed_shown, MayAbortAt, IsOwnBoundAt, IsFirstPending, IsReadyAt, ShowsAt, ShowAt}
+use Rattle.world_model.proofs.Queue.{first_is, in_order}
 use Rattle.world_model.proofs.Names.{clash, off, part_cases, part_other, entry_same, entry_cases}
 use Rattle.world_model.proofs.Moves.{Because, Move, moved, image_log, grown_last}
 use Rattle.world_model.proofs.Leases.{Leases}
-use Rattle.world_model.proofs.Fate.{Fate, pending_parts, more_prepared}
+use Rattle.world_model.proofs.Fate.{Fate, pending_parts, more_prepared, told_aborted}
 use Rattle.world_model.proofs.Later.{in_log, once_pending, takes, prepared_now, never_aborted, pending_from}
 use Rattle.world_model.proofs.Completeness.{zeros_at}
 use Rattle.world_model.proofs.Kept.{law_plan}
@@ -268,7 +268,7 @@ module _ {E : Type 0} where
             changes = subst (λ y. touches y o ≡ true) (same u x.waiting) x.changes;
             time = x.time ∙ h.time at u up x.waiting;
             early = x.early;
-            first = λ w k y. let q = seen w k in subst (λ m. pending_cmp (w, m) (u, n) ≢ Less) (h.time at w up q) (x.first w q (subst (λ z. touches z o ≡ true) (sym (same w q)) y));
+            first = λ w ne k y. let q = seen w k in subst (λ m. IsBefore (u, n) (w, m)) (h.time at w up q) (first_is (u, n) (w, prepare_time log w) (x.first w q (subst (λ z. touches z o ≡ true) (sym (same w q)) y)) ne);
           }
 
     -- a read that was ready is shown to be
@@ -287,9 +287,9 @@ module _ {E : Type 0} where
     may_abort u t true m = m
     may_abort u t false m = ⊎_elim
         (λ (e : at ≡ plan.lead t). inl e)
-        (λ (x : TellsAborted (before (plan.lead t)) t). inr (record {
-          up = not-true (is_down run (plan.lead t)) (sym (u (plan.lead t)) ∙ x.up);
-          unknown = sym (known_is plan run before f h (plan.lead t) x.up t) ∙ or_from _ _ x.idle x.uncommitted;
+        (λ (x : TellsAborted (before (plan.lead t)) t). let w = told_aborted (before (plan.lead t)) t x in inr (record {
+          up = not-true (is_down run (plan.lead t)) (sym (u (plan.lead t)) ∙ w.up);
+          unknown = sym (known_is plan run before f h (plan.lead t) w.up t) ∙ or_from _ _ w.idle w.uncommitted;
         }))
         m
 
@@ -305,7 +305,7 @@ module _ {E : Type 0} where
         let o = st.shown_bounds.own in
         let since : (u : TxId) → names_pending listed u ≡ true → prepare_time q.log u ≡ listed_time listed u = λ u k. sym (listed_is q.log listed u st.timed k) in (
           st.shown_bounds.width,
-          st.order,
+          in_order listed st.order,
           record {
             most = subst (λ m. entry b at.site ≤ m) (sym st.shown) o.most;
             below = λ u k. subst (λ m. entry b at.site < m) (since u k) (o.below u (sym (st.members u) ∙ k));

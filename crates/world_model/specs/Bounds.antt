@@ -6,7 +6,7 @@ use Rattle.site_vector.specs.Ids.{same_part}
 use Rattle.site_vector.specs.Vector.{entry}
 use Rattle.world_model.specs.declared.step.Step.{Step}
 use Rattle.world_model.specs.declared.step.Step.TheVariants as step
-use Rattle.world_model.specs.Partition.{lowest}
+use Rattle.world_model.specs.Stable.{IsLeast}
 use Rattle.world_model.specs.Lines.{Call, TakeOf, HearOf, Line}
 use Rattle.world_model.specs.Clock.{now}
 use Rattle.world_model.specs.Pending.{pending, prepare_time}
@@ -51,6 +51,6 @@ heard (l ∷ ls) p q j = if same_part l.at p then heard_after q j (heard ls p q 
 abbrev pub known : List Line → PartId → ℕ → ℕ → ℕ
 known ls p j q = if p.part == q then bound ls p j else heard ls p q j
 
--- the least of them over the partitions of a site
-abbrev pub stable_entry : ℕ → List Line → PartId → ℕ → ℕ
-stable_entry parts ls p j = lowest (known ls p j) parts
+-- the stable entry of p for site j: the least that it knows, over the partitions of its site
+abbrev pub IsStableEntry : ℕ → List Line → PartId → ℕ → ℕ → Type 0
+IsStableEntry parts ls p j n = IsLeast parts (known ls p j) n

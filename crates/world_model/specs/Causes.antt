@@ -1,6 +1,5 @@
 -- The causes of refusals, over the lines of a run: each stands exactly where its cause holds.
-use Rattle.std.specs.Prelude.{◌≡◌, ◌≢◌, ℕ, ◌<◌, ◌≤◌, true, false, List, ⊤}
-use Rattle.std.specs.declared.cmp.Ordering.TheVariants.{Less}
+use Rattle.std.specs.Prelude.{◌≡◌, ◌≢◌, ℕ, ◌^◌, ◌<◌, ◌≤◌, true, false, List, ⊤}
 use Rattle.site_vector.specs.declared.ids.PartId.{PartId}
 use Rattle.site_vector.specs.declared.ids.TxId.{TxId}
 use Rattle.site_vector.specs.Vector.{entry}
@@ -8,8 +7,8 @@ use Rattle.crdt_core.specs.declared.object.ObjectId.{ObjectId}
 use Rattle.crdt_core.specs.Kinds.{reads_state}
 use Rattle.world_model.specs.declared.step.Step.{Step}
 use Rattle.world_model.specs.declared.step.Step.TheVariants as step
-use Rattle.world_model.specs.Log.{end_of_time}
-use Rattle.world_model.specs.Partition.{IsOther, pending_cmp}
+use Rattle.world_model.specs.Partition.{IsOther}
+use Rattle.world_model.specs.Shown.{IsBefore}
 use Rattle.world_model.specs.Lines.{Call, Begin, ReadOf, UpdateOf, PrepareOf, DecideOf, AbortOf, Restart, Line}
 use Rattle.world_model.specs.Clock.{now}
 use Rattle.world_model.specs.History.{snapshot}
@@ -17,7 +16,7 @@ use Rattle.world_model.specs.Dependency.{dependency}
 use Rattle.world_model.specs.Updates.{touches}
 use Rattle.world_model.specs.Pending.{pending, prepare_time, is_down}
 use Rattle.world_model.specs.Fate.{is_known_at}
-use Rattle.world_model.specs.Bounds.{stable_entry}
+use Rattle.world_model.specs.Bounds.{known, IsStableEntry}
 
 -- no wait is due for what reads the object
 pub record IsReady (whole before : List Line) (p : PartId) (t : TxId) (o : ObjectId) : Type 0 where
@@ -28,21 +27,21 @@ pub record IsReady (whole before : List Line) (p : PartId) (t : TxId) (o : Objec
 abbrev pub IsBehind : List Line → List Line → PartId → TxId → ℕ → Type 0
 IsBehind whole before p t n = (n ≡ now before p) × (n < entry (snapshot whole t) p.site)
 
--- the first that is pending, by prepare time and id, updates the object and may belong to the snapshot
+-- of all that are pending and update the object it is the first, and it may belong to the snapshot
 pub record IsFirstPending (whole before : List Line) (p : PartId) (t : TxId) (o : ObjectId) (u : TxId) (n : ℕ) : Type 0 where
   pub clock : entry (snapshot whole t) p.site ≤ now before p
   pub waiting : pending before p u ≡ true
   pub changes : touches whole u p o ≡ true
   pub time : n ≡ prepare_time before p u
   pub early : n ≤ entry (snapshot whole t) p.site
-  pub first : (w : TxId) → pending before p w ≡ true → touches whole w p o ≡ true → pending_cmp (w, prepare_time before p w) (u, n) ≢ Less
+  pub first : (w : TxId) → w ≢ u → pending before p w ≡ true → touches whole w p o ≡ true → IsBefore (u, n) (w, prepare_time before p w)
 
--- the least other site whose stable entry is below what the session depends on
+-- the least other site with a stable entry below what the session depends on: there one partition is not known to have come so far
 pub record IsStableBehind (sites parts : ℕ) (before : List Line) (p : PartId) (who : List ℕ) (j n : ℕ) : Type 0 where
   pub other : IsOther sites p.site j
-  pub have : n ≡ stable_entry parts before p j
+  pub have : IsStableEntry parts before p j n
   pub behind : n < entry (dependency sites before who) j
-  pub least : (i : ℕ) → IsOther sites p.site i → stable_entry parts before p i < entry (dependency sites before who) i → j ≤ i
+  pub least : (i q : ℕ) → IsOther sites p.site i → 1 ≤ q → q ≤ parts → known before p i q < entry (dependency sites before who) i → j ≤ i
 
 -- a wait for the clock, by the call that it answers
 abbrev pub ClockCause : List Line → List Line → PartId → Call → ℕ → Type 0
@@ -60,10 +59,10 @@ abbrev pub StableCause : ℕ → ℕ → List Line → PartId → Call → ℕ �
 StableCause sites parts before p (Begin who) j n = IsStableBehind sites parts before p who j n
 StableCause sites parts before p other j n = ⊥
 
--- the end of time, where nothing else is due: of a begin and of a prepare
+-- the end of time, where nothing else is due, of a begin and of a prepare: the clock can show no later time
 abbrev pub TimeCause : ℕ → ℕ → List Line → List Line → PartId → Call → Type 0
-TimeCause sites parts whole before p (Begin who) = (now before p ≡ end_of_time) × ((j : ℕ) → IsOther sites p.site j → entry (dependency sites before who) j ≤ stable_entry parts before p j)
-TimeCause sites parts whole before p (PrepareOf t) = (now before p ≡ end_of_time) × (entry (snapshot whole t) p.site ≤ now before p)
+TimeCause sites parts whole before p (Begin who) = (now before p ≡ 2 ^ 62) × ((j q : ℕ) → IsOther sites p.site j → 1 ≤ q → q ≤ parts → entry (dependency sites before who) j ≤ known before p j q)
+TimeCause sites parts whole before p (PrepareOf t) = (now before p ≡ 2 ^ 62) × (entry (snapshot whole t) p.site ≤ now before p)
 TimeCause sites parts whole before p other = ⊥
 
 -- a finish is never refused so
@@ -82,8 +81,8 @@ HasCause sites parts whole before p call (step.Damaged q at) = ⊥
 HasCause sites parts whole before p call (step.Gone q t) = GoneCause whole before p call t
 HasCause sites parts whole before p (ReadOf t o) (step.Value name object value) = IsReady whole before p t o
 HasCause sites parts whole before p (UpdateOf t o op) (step.Updated name object stamp) = reads_state o.kind ≡ true → IsReady whole before p t o
-HasCause sites parts whole before p call (step.Prepared q t n) = (entry (snapshot whole t) p.site ≤ now before p) × (now before p < end_of_time)
-HasCause sites parts whole before p call (step.Began name t s) = now before p < end_of_time
+HasCause sites parts whole before p call (step.Prepared q t n) = (entry (snapshot whole t) p.site ≤ now before p) × (now before p < 2 ^ 62)
+HasCause sites parts whole before p call (step.Began name t s) = now before p < 2 ^ 62
 HasCause sites parts whole before p call (step.Decided q t c) = pending before p t ≡ true
 HasCause sites parts whole before p call (step.Finished q t) = is_known_at whole before p t ≡ true
 HasCause sites parts whole before p call other = ⊤

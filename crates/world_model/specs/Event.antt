@@ -20,7 +20,8 @@ pub data Ask (E : Type 0) : Type 0 where
   AskDecide : (tx : TxId) (c : List ℕ) → Ask E
   AskFinish : (tx : TxId) (c : List ℕ) → Ask E
   AskAbort : (tx : TxId) → Ask E
-  AskMessage : (to : ℕ) → Ask E
+  -- `asked`: from where, if the caller says
+  AskMessage : (to : ℕ) (asked : Option ℕ) → Ask E
   AskTake : (message : Message E) → Ask E
   AskReport : Ask E
   AskHear : (part : ℕ) (bounds : List ℕ) → Ask E

@@ -5,22 +5,23 @@ use Rattle.site_vector.specs.declared.ids.TxId.{TxId}
 use Rattle.site_vector.specs.Vector.{entry}
 use Rattle.world_model.specs.declared.step.Step.{Step}
 use Rattle.world_model.specs.declared.step.Step.TheVariants as step
-use Rattle.world_model.specs.Partition.{IsOther, lowest}
+use Rattle.world_model.specs.Partition.{IsOther}
+use Rattle.world_model.specs.Stable.{IsLeast}
 use Rattle.world_model.specs.Lines.{Call, Line}
 use Rattle.world_model.specs.Dependency.{dependency}
-use Rattle.world_model.specs.Bounds.{bound, IsOwnBound, heard, heard_after, stable_entry}
+use Rattle.world_model.specs.Bounds.{bound, IsOwnBound, heard, heard_after, IsStableEntry}
 
 -- a snapshot has the stable entry of each other site, and for its own the greater of the drawn time and that of the dependency
 pub record IsSnapshot (sites parts : ℕ) (before : List Line) (p : PartId) (who : List ℕ) (t : TxId) (s : List ℕ) : Type 0 where
   pub width : length s ≡ sites
   pub own : entry s p.site ≡ max t.time (entry (dependency sites before who) p.site)
-  pub others : (j : ℕ) → IsOther sites p.site j → entry s j ≡ stable_entry parts before p j
+  pub others : (j : ℕ) → IsOther sites p.site j → IsStableEntry parts before p j (entry s j)
 
 -- once p has heard so much it tells these stable entries; of its own site it knows its own bound
 pub record IsStable (sites parts : ℕ) (before : List Line) (p : PartId) (known : ℕ → ℕ → ℕ) (stable : List ℕ) : Type 0 where
   pub width : length stable ≡ sites
-  pub others : (j : ℕ) → IsOther sites p.site j → entry stable j ≡ lowest (λ q. if p.part == q then bound before p j else known q j) parts
-  pub own : (b : ℕ) × IsOwnBound before p b × (entry stable p.site ≡ lowest (λ q. if p.part == q then b else known q p.site) parts)
+  pub others : (j : ℕ) → IsOther sites p.site j → IsLeast parts (λ q. if p.part == q then bound before p j else known q j) (entry stable j)
+  pub own : (b : ℕ) × IsOwnBound before p b × IsLeast parts (λ q. if p.part == q then b else known q p.site) (entry stable p.site)
 
 -- a report shows the bounds, its own site's among them
 pub record ShowsBounds (sites : ℕ) (before : List Line) (p : PartId) (bounds : List ℕ) : Type 0 where

@@ -1,5 +1,5 @@
 -- The lines that a run of the world shows: one for each step, with the call that it answers.
-use Rattle.std.specs.Prelude.{ℕ, ◌+◌, Bool, true, false, ◌&&◌, ◌==◌, if◌then◌else◌, List, [], ◌∷◌, length, Option, None, ⊤}
+use Rattle.std.specs.Prelude.{ℕ, ◌+◌, Bool, true, false, ◌&&◌, ◌==◌, if◌then◌else◌, List, [], ◌∷◌, length, Option, ⊤}
 use Rattle.std.specs.Str.{bytes_eq}
 use Rattle.site_vector.specs.declared.ids.PartId.{PartId}
 use Rattle.site_vector.specs.declared.ids.TxId.{TxId}
@@ -97,7 +97,7 @@ module _ {E : Type 0} where
   call_asked (AskDecide t c) = DecideOf t
   call_asked (AskFinish t c) = FinishOf t
   call_asked (AskAbort t) = AbortOf t
-  call_asked (AskMessage site) = SendTo site None
+  call_asked (AskMessage site asked) = SendTo site asked
   call_asked (AskTake m) = TakeOf m.from m.lo m.hi
   call_asked AskReport = Report
   call_asked (AskHear q b) = HearOf q b

@@ -9,10 +9,9 @@ use Rattle.crdt_core.specs.declared.record.Upd.{Upd}
 use Rattle.crdt_core.specs.declared.record.Message.{Message}
 use Rattle.crdt_core.specs.Objects.{same_object}
 use Rattle.crdt_core.specs.Placing.{place_of}
-use Rattle.world_model.specs.Log.{pending, committed}
 use Rattle.world_model.specs.Event.{Ask, AskBegin, AskRead, AskUpdate, AskPrepare, AskDecide, AskFinish, AskTake, Refused, Event, Began, Updated, Read, Prepared, Decided, Finished, Aborted, Sent, Took, Reported, Heard, Entry, attempt, tried, voted, decide_tried, gave_up, is_decided, time_of, WasShown}
 use Rattle.world_model.specs.Past.{dependency}
-use Rattle.world_model.specs.Partition.{Kinds, PartState, IsOther, new_part, PartStep}
+use Rattle.world_model.specs.Partition.{Kinds, PartState, IsOther, ToldAborted, fate_of, new_part, PartStep}
 
 abbrev pub is_some_update : {E : Type 0} → List (Upd E) → Bool
 is_some_update [] = false
@@ -67,10 +66,8 @@ module _ {E : Type 0} where
   commit_vector plan run t = vector_at plan t (time_of run t)
 
   -- the lead tells that t is aborted
-  pub record TellsAborted (p : PartState E) (t : TxId) : Type 0 where
-    pub up : p.up ≡ true
-    pub idle : pending p.log t ≡ false
-    pub uncommitted : committed p.log t ≡ false
+  abbrev pub TellsAborted : PartState E → TxId → Type 0
+  TellsAborted p t = fate_of p t ≡ ToldAborted
 
   -- the update of t that an event made
   abbrev pub change_by : Event E → TxId → List (Upd E)

@@ -8,9 +8,9 @@ use Rattle.site_vector.specs.Vector.{entry}
 use Rattle.world_model.specs.declared.step.Step.{Step}
 use Rattle.world_model.specs.declared.step.Step.TheVariants as step
 use Rattle.world_model.specs.Event.{is_named}
-use Rattle.world_model.specs.Partition.{IsOther, Ascends, names_pending, pending_cmp}
+use Rattle.world_model.specs.Partition.{IsOther, names_pending}
 use Rattle.world_model.specs.Plan.{twin}
-use Rattle.world_model.specs.Shown.{listed_time, IsOwnBoundOf}
+use Rattle.world_model.specs.Shown.{listed_time, IsBefore, AreInOrder, IsOwnBoundOf}
 use Rattle.world_model.specs.Lines.{Call, TakeOf, PrepareOf, DecideOf, FinishOf, AbortOf, Restart, Line}
 use Rattle.world_model.specs.Clock.{now}
 use Rattle.world_model.specs.History.{in_history, history, commit_time}
@@ -96,7 +96,7 @@ pub record IsAsDone (sites : ℕ) (whole before : List Line) (p : PartId) (call 
 -- lead nothing that was decided; what was in doubt it lists or names, and not both; and its own bound is by that list
 pub record IsResumed (sites parts : ℕ) (whole before : List Line) (p : PartId) (time : ℕ) (bounds : List ℕ) (named : Option TxId) (listed : List (TxId × ℕ)) : Type 0 where
   pub list : IsAsBefore sites whole before p bounds named listed ⊎ ((call : Call) × (drawn : ℕ) × (faulted before p ≡ Some (call, drawn)) × IsAsDone sites whole before p call drawn bounds named listed)
-  pub order : Ascends pending_cmp listed
+  pub order : AreInOrder IsBefore listed
   pub width : length bounds ≡ sites
   pub own : IsOwnBoundOf time listed (entry bounds p.site)
   pub decided : (t : TxId) → in_history before t ≡ true → lead parts whole t ≡ p → names_pending listed t ≡ false

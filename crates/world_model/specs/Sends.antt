@@ -1,10 +1,13 @@
--- Where a message begins: as asked, or where the last one to the site ended.
-use Rattle.std.specs.Prelude.{◌≡◌, ℕ, ◌==◌, if◌then◌else◌, List, [], ◌∷◌, Option, None, Some, ⊤}
+-- Where a message begins, as asked, or where the last one to the site ended; and in which order it has its parts.
+use Rattle.std.specs.Prelude.{◌≡◌, ◌⊎◌, ℕ, ◌<◌, ◌==◌, if◌then◌else◌, List, [], ◌∷◌, Option, None, Some, ⊤}
 use Rattle.site_vector.specs.declared.ids.PartId.{PartId}
 use Rattle.site_vector.specs.Ids.{same_part}
+use Rattle.site_vector.specs.Vector.{entry}
+use Rattle.crdt_core.specs.declared.record.Part.{Part}
 use Rattle.world_model.specs.Event.{Event, Sent, Restarted, Entry}
 use Rattle.world_model.specs.Partition.{IsOther}
 use Rattle.world_model.specs.Plan.{Plan}
+use Rattle.world_model.specs.Shown.{IsIdBefore, AreInOrder}
 
 -- the lower end, where a caller says so or not
 abbrev pub low_of : Option ℕ → ℕ → ℕ
@@ -26,8 +29,12 @@ module _ {E : Type 0} where
     pub to : IsOther plan.sites p.site site
     pub lo : low ≡ low_of asked (last_sent run p site)
 
+  -- by commit time at its site, and at the same time by id
+  abbrev pub IsSentBefore : ℕ → Part E → Part E → Type 0
+  IsSentBefore site x y = (entry x.c site < entry y.c site) ⊎ ((entry x.c site ≡ entry y.c site) × IsIdBefore x.tx y.tx)
+
   abbrev pub SendsAt : Plan E → List (Entry E) → PartId → Event E → Type 0
-  SendsAt plan run p (Sent asked m) = StartsAt plan run p asked m.to m.lo
+  SendsAt plan run p (Sent asked m) = StartsAt plan run p asked m.to m.lo × AreInOrder (IsSentBefore p.site) m.parts
   SendsAt plan run p other = ⊤
 
   abbrev pub Send : Plan E → List (Entry E) → Type 0

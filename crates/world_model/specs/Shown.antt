@@ -1,6 +1,5 @@
 -- What the events of a run show of a partition: its bounds, and what is pending there.
 use Rattle.std.specs.Prelude.{◌≡◌, ◌≢◌, ◌⊎◌, ℕ, ◌+◌, ◌<◌, ◌≤◌, Bool, true, false, not, ◌&&◌, ◌||◌, ◌==◌, if◌then◌else◌, List, [], ◌∷◌, length, ⊤}
-use Rattle.std.specs.declared.cmp.Ordering.TheVariants.{Less}
 use Rattle.site_vector.specs.declared.ids.PartId.{PartId}
 use Rattle.site_vector.specs.declared.ids.TxId.{TxId}
 use Rattle.site_vector.specs.Ids.{same_part, same_tx}
@@ -10,13 +9,30 @@ use Rattle.crdt_core.specs.Kinds.{reads_state}
 use Rattle.world_model.specs.Log.{end_of_time, touches}
 use Rattle.world_model.specs.Event.{Began, Updated, Read, AskRead, AskUpdate, AskDecide, AskAbort, AskTake, TxPending, IsGone, HasGap, IsRepeat, Event, Prepared, Decided, Finished, Aborted, Sent, Took, Reported, Restarted, Refused, Entry, decide_tried, is_decided, shown}
 use Rattle.world_model.specs.Downs.{is_down}
-use Rattle.world_model.specs.Partition.{IsOther, Ascends, names_pending, pending_cmp}
+use Rattle.world_model.specs.Partition.{IsOther, names_pending}
 use Rattle.world_model.specs.Plan.{Plan, takes_part}
 
 -- the time of t in such a list
 abbrev pub listed_time : List (TxId × ℕ) → TxId → ℕ
 listed_time [] t = 0
 listed_time (x ∷ xs) t = if same_tx x.0 t then x.1 else listed_time xs t
+
+-- one transaction comes before another: by site, then by partition, then by time
+abbrev pub IsIdBefore : TxId → TxId → Type 0
+IsIdBefore t u = (t.site < u.site) ⊎ ((t.site ≡ u.site) × ((t.part < u.part) ⊎ ((t.part ≡ u.part) × (t.time < u.time))))
+
+-- and with their prepare times: the earlier one, and at the same time by their ids
+abbrev pub IsBefore : TxId × ℕ → TxId × ℕ → Type 0
+IsBefore x y = (x.1 < y.1) ⊎ ((x.1 ≡ y.1) × IsIdBefore x.0 y.0)
+
+abbrev pub IsBeforeAll : {A : Type 0} → (A → A → Type 0) → A → List A → Type 0
+IsBeforeAll Before x [] = ⊤
+IsBeforeAll Before x (y ∷ ys) = Before x y × IsBeforeAll Before x ys
+
+-- each is before all that follow
+abbrev pub AreInOrder : {A : Type 0} → (A → A → Type 0) → List A → Type 0
+AreInOrder Before [] = ⊤
+AreInOrder Before (x ∷ xs) = IsBeforeAll Before x xs × AreInOrder Before xs
 
 -- the own bound of a partition that restarts at this time with this list
 pub record IsOwnBoundOf (now : ℕ) (listed : List (TxId × ℕ)) (b : ℕ) : Type 0 where
@@ -63,14 +79,14 @@ module _ {E : Type 0} where
     pub below : (u : TxId) → pending_shown run p u ≡ true → b < pending_time run p u
     pub reached : (b ≡ shown run p) ⊎ ((u : TxId) × (pending_shown run p u ≡ true) × (pending_time run p u ≡ b + 1))
 
-  -- the first that is pending, by prepare time and id, changes the object and may belong to the snapshot of t
+  -- of all that are pending and change the object it is the first, and it may belong to the snapshot of t
   pub record IsFirstPending (plan : Plan E) (run : List (Entry E)) (p : PartId) (s : List ℕ) (o : ObjectId) (u : TxId) (n : ℕ) : Type 0 where
     pub clock : entry s p.site ≤ shown run p
     pub waiting : pending_shown run p u ≡ true
     pub changes : touches (plan.updates u p) o ≡ true
     pub time : n ≡ pending_time run p u
     pub early : n ≤ entry s p.site
-    pub first : (w : TxId) → pending_shown run p w ≡ true → touches (plan.updates w p) o ≡ true → pending_cmp (w, pending_time run p w) (u, n) ≢ Less
+    pub first : (w : TxId) → w ≢ u → pending_shown run p w ≡ true → touches (plan.updates w p) o ≡ true → IsBefore (u, n) (w, pending_time run p w)
 
   -- a participant of what is decided so far has it committed, unless it is pending there still
   abbrev pub committed_shown : Plan E → List (Entry E) → PartId → TxId → Bool
@@ -100,7 +116,7 @@ module _ {E : Type 0} where
   ShowsAt plan run p (Sent asked m) = IsOwnBoundAt run p m.hi
   ShowsAt plan run p (Took m) = (m.lo ≤ bound_shown run p m.from) × (bound_shown run p m.from < m.hi)
   ShowsAt plan run p (Reported b) = (length b ≡ plan.sites) × IsOwnBoundAt run p (entry b p.site) × ((j : ℕ) → IsOther plan.sites p.site j → entry b j ≡ bound_shown run p j)
-  ShowsAt plan run p (Restarted n b named listed) = (length b ≡ plan.sites) × Ascends pending_cmp listed × IsOwnBoundOf n listed (entry b p.site)
+  ShowsAt plan run p (Restarted n b named listed) = (length b ≡ plan.sites) × AreInOrder IsBefore listed × IsOwnBoundOf n listed (entry b p.site)
   ShowsAt plan run p (Decided t c) = pending_shown run p t ≡ true
   ShowsAt plan run p (Finished t c) = (pending_shown run p t || committed_shown plan run p t) ≡ true
   ShowsAt plan run p (Aborted t own) = (pending_shown run p t ≡ true) × MayAbortAt plan run p t own

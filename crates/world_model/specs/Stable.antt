@@ -5,9 +5,14 @@ use Rattle.site_vector.specs.declared.ids.TxId.{TxId}
 use Rattle.site_vector.specs.Ids.{same_part}
 use Rattle.site_vector.specs.Vector.{entry}
 use Rattle.world_model.specs.Event.{AskBegin, StableBehind, ClockAtEnd, Event, Began, Heard, Restarted, Refused, Entry}
-use Rattle.world_model.specs.Partition.{IsOther, lowest}
+use Rattle.world_model.specs.Partition.{IsOther}
 use Rattle.world_model.specs.Plan.{Plan}
 use Rattle.world_model.specs.Shown.{bound_shown, IsOwnBoundAt}
+
+-- the least of what is known of the partitions 1 to n: at most each, and that of one of them
+pub record IsLeast (n : ℕ) (known : ℕ → ℕ) (m : ℕ) : Type 0 where
+  pub below : (q : ℕ) → 1 ≤ q → q ≤ n → m ≤ known q
+  pub reached : (q : ℕ) × (1 ≤ q) × (q ≤ n) × (m ≡ known q)
 
 module _ {E : Type 0} where
   -- the greatest entry for site j in the reports of partition q that were heard since the last restart
@@ -24,32 +29,29 @@ module _ {E : Type 0} where
   abbrev pub known_shown : List (Entry E) → PartId → ℕ → ℕ → ℕ
   known_shown run p j q = if p.part == q then bound_shown run p j else heard_shown run p q j
 
-  abbrev pub stable_shown : ℕ → List (Entry E) → PartId → ℕ → ℕ
-  stable_shown parts run p j = lowest (known_shown run p j) parts
-
-  -- the least other site whose stable entry is below what the session depends on
+  -- the least other site with a stable entry below what the session depends on: there one partition is not known to have come so far
   pub record IsBehindAt (plan : Plan E) (run : List (Entry E)) (p : PartId) (dependency : List ℕ) (j n : ℕ) : Type 0 where
     pub other : IsOther plan.sites p.site j
-    pub have : n ≡ stable_shown plan.parts run p j
+    pub have : IsLeast plan.parts (known_shown run p j) n
     pub behind : n < entry dependency j
-    pub least : (i : ℕ) → IsOther plan.sites p.site i → stable_shown plan.parts run p i < entry dependency i → j ≤ i
+    pub least : (i q : ℕ) → IsOther plan.sites p.site i → 1 ≤ q → q ≤ plan.parts → known_shown run p i q < entry dependency i → j ≤ i
 
   -- the entries that p tells, once it has heard so much: for its own site by its own bound
   pub record IsStableAt (plan : Plan E) (run : List (Entry E)) (p : PartId) (heard : ℕ → ℕ → ℕ) (stable : List ℕ) : Type 0 where
     pub width : length stable ≡ plan.sites
-    pub others : (j : ℕ) → IsOther plan.sites p.site j → entry stable j ≡ lowest (λ q. if p.part == q then bound_shown run p j else heard q j) plan.parts
-    pub own : (b : ℕ) × IsOwnBoundAt run p b × (entry stable p.site ≡ lowest (λ q. if p.part == q then b else heard q p.site) plan.parts)
+    pub others : (j : ℕ) → IsOther plan.sites p.site j → IsLeast plan.parts (λ q. if p.part == q then bound_shown run p j else heard q j) (entry stable j)
+    pub own : (b : ℕ) × IsOwnBoundAt run p b × IsLeast plan.parts (λ q. if p.part == q then b else heard q p.site) (entry stable p.site)
 
   -- a snapshot has an entry for each site: the stable one for another, and for the own the greater of the drawn time and the dependency's
   pub record IsSnapshotAt (plan : Plan E) (run : List (Entry E)) (p : PartId) (dependency : List ℕ) (t : TxId) (s : List ℕ) : Type 0 where
     pub width : length s ≡ plan.sites
     pub own : entry s p.site ≡ max t.time (entry dependency p.site)
-    pub others : (j : ℕ) → IsOther plan.sites p.site j → entry s j ≡ stable_shown plan.parts run p j
+    pub others : (j : ℕ) → IsOther plan.sites p.site j → IsLeast plan.parts (known_shown run p j) (entry s j)
 
   abbrev pub IsFreshAt : Plan E → List (Entry E) → PartId → Event E → Type 0
   IsFreshAt plan run p (Began who dep t s) = IsSnapshotAt plan run p dep t s
   IsFreshAt plan run p (Heard k b stable) = IsStableAt plan run p (λ q j. heard_from q j (heard_shown run p q j) (Heard k b stable)) stable
-  IsFreshAt plan run p (Refused (AskBegin who dep) ClockAtEnd) = (j : ℕ) → IsOther plan.sites p.site j → entry dep j ≤ stable_shown plan.parts run p j
+  IsFreshAt plan run p (Refused (AskBegin who dep) ClockAtEnd) = (j q : ℕ) → IsOther plan.sites p.site j → 1 ≤ q → q ≤ plan.parts → entry dep j ≤ known_shown run p j q
   IsFreshAt plan run p (Refused (AskBegin who dep) (StableBehind j n)) = IsBehindAt plan run p dep j n
   IsFreshAt plan run p other = ⊤
 

@@ -13,6 +13,7 @@ use Rattle.world_model.specs.Handed.{IsNew}
 use Rattle.world_model.specs.LawfulWorld.{IsLawfulWorld}
 use Rattle.world_model.specs.Logs.{LeavesLogs}
 use Rattle.world_model.specs.Lines.{lines_of}
+use Rattle.world_model.specs.Fate.{TellFates}
 use Rattle.world_model.specs.Lawful.{IsLawful}
 
 module _ {E : Type 0} where
@@ -76,6 +77,6 @@ module _ {E : Type 0} where
   IsWorldRun kinds sites parts [] state = (p : PartId) → state p ≡ new_part sites parts
   IsWorldRun kinds sites parts (e ∷ run) state = (before : PartId → PartState E) × IsWorldRun kinds sites parts run before × WorldStep kinds (plan_of sites parts (e ∷ run)) run before e state × IsNew run e.event
 
--- any run of the world is lawful, whatever its kinds do, leaves the logs that its events tell, and shows the lines of a lawful run
+-- any run of the world is lawful, whatever its kinds do; it leaves the logs that its events tell and leads that tell fates, and shows the lines of a lawful run
 abbrev pub LawWorld : (S E : Type 0) → Type 0
-LawWorld S E = (kinds : Kinds S E) (sites parts : ℕ) (run : List (Entry E)) (state : PartId → PartState E) → IsWorldRun kinds sites parts run state → IsLawfulWorld kinds (plan_of sites parts run) run × LeavesLogs sites run state × IsLawful kinds.too_deep kinds.meaning sites parts (lines_of run)
+LawWorld S E = (kinds : Kinds S E) (sites parts : ℕ) (run : List (Entry E)) (state : PartId → PartState E) → IsWorldRun kinds sites parts run state → IsLawfulWorld kinds (plan_of sites parts run) run × LeavesLogs (plan_of sites parts run) run state × IsLawful kinds.too_deep kinds.meaning sites parts (lines_of run) × TellFates parts (lines_of run) state
