@@ -34,6 +34,8 @@ between_form width least most w small =
       found = λ bytes at n end ok within h. let f = law.found bytes at n end ok within h in ((both_true (test n) (is_number width n) f.0).0, f.1);
       again = λ bytes at n end good spans. law.again bytes at n end (fits n good) spans;
       fit = λ n good. good;
+      ends = law.ends;
+      tells = law.tells;
     }
 
 pub tx_form : IsForm is_tx is_tx tx tx_at
@@ -59,6 +61,8 @@ dots_held_form = record {
   found = dots_form.found;
   again = dots_form.again;
   fit = λ ds good. (both_true (are_in_order (is_below dot_cmp) None ds) (are_dots ds) (dots_form.fit ds good)).1;
+  ends = dots_form.ends;
+  tells = dots_form.tells;
 }
 
 -- the same test told otherwise
@@ -67,6 +71,8 @@ retold fits is_spelled told spelling reading same law = record {
   found = λ bytes at v end ok within h. let f = law.found bytes at v end ok within h in (sym (same v) ∙ f.0, f.1);
   again = λ bytes at v end good spans. law.again bytes at v end (same v ∙ good) spans;
   fit = λ v good. good;
+  ends = law.ends;
+  tells = law.tells;
 }
 
 -- ---- vectors
@@ -81,7 +87,8 @@ unfolding vector_at
 vector_form =
     let any = λ (n m : ℕ). true in
     let entries = λ (n : ℕ). members_form any (is_number 8) (is_number 8) (number 8) (number_at 8) (number_form 8 width8) n in
-    let whole = then_form (is_between 1 8) (is_between 1 8) (number 1) (between_at 1 1 8) (λ n vs. eqb (length vs) n && are_members any (is_number 8) vs) (λ n vs. eqb (length vs) n && are_members any (is_number 8) vs) (λ _. flat_map (number 8)) (λ n. members_at any (number_at 8) None n) (between_form 1 1 8 width1 (omega arith)) (λ n _. entries n) in
+    let some : (n : ℕ) → is_between 1 8 n ≡ true → 0 < n = λ n h. let p = le_from 1 n (both_true (nat_le 1 n) (nat_le n 8) h).0 in omega (arith, p) in
+    let whole = then_form (is_between 1 8) (is_between 1 8) (number 1) (between_at 1 1 8) (λ n vs. eqb (length vs) n && are_members any (is_number 8) vs) (λ n vs. eqb (length vs) n && are_members any (is_number 8) vs) (λ _. flat_map (number 8)) (λ n. members_at any (number_at 8) None n) (between_form 1 1 8 width1 (omega arith)) (λ n h. entries n (some n h)) in
     let forth : (x : ℕ × List ℕ) → (is_between 1 8 x.0 && (eqb (length x.1) x.0 && are_members any (is_number 8) x.1)) ≡ true → (length x.1, x.1) ≡ x = λ x h.
     let p = both_true (is_between 1 8 x.0) (eqb (length x.1) x.0 && are_members any (is_number 8) x.1) h in
     let q = both_true (eqb (length x.1) x.0) (are_members any (is_number 8) x.1) p.1 in
@@ -204,4 +211,6 @@ marked_form {V} {W} most small made mark parts fits is_spelled spelling reading 
       found = λ bytes at w end ok here h. let f = law.found bytes at w end ok here h in ((both_true (marks (mark w)) (is_spelled (parts w)) f.0).1, f.1);
       again = λ bytes at w end good spans. law.again bytes at w end (and_true (marks (mark w)) (is_spelled (parts w)) (known w) good) spans;
       fit = λ w good. form.fit (parts w) good;
+      ends = law.ends;
+      tells = law.tells;
     }

@@ -20,6 +20,7 @@ pub fn law_forms()
     ensures updates_apart { IsPrefixFree is_dot dot }
     ensures sets_apart { IsPrefixFree is_dots dots }
     ensures vectors_apart { IsPrefixFree is_vector vector }
+    ensures kinds_apart { IsPrefixFree (λ _. true) kind }
     ensures objects_apart { (has : Kind → Bool) → IsPrefixFree (is_object has) object }
 {}
 

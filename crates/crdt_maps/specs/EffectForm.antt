@@ -1,15 +1,19 @@
 -- The bytes of maps' effects: a field with an effect of its kind, or what a reset undoes of each field.
-use Rattle.std.specs.Prelude.{◌≡◌, ℕ, zero, suc, ◌+◌, ◌^◌, ◌<◌, ◌≤◌, ◌==◌, Bool, true, false, ◌&&◌, ◌||◌, eqb, nat_le, nat_lt, cond, List, [], ◌∷◌, ◌++◌, length, drop, None, Ok, Err, if◌then◌else◌, refl}
-use Rattle.std.proofs.Common.{arith, ap, sym, subst, ◌∙◌, ⊎_elim}
+use Rattle.std.specs.Prelude.{◌≡◌, ℕ, zero, suc, ◌+◌, ◌^◌, ◌<◌, ◌≤◌, ◌==◌, Bool, true, false, ◌&&◌, ◌||◌, eqb, nat_le, nat_lt, cond, List, [], ◌∷◌, ◌++◌, ◌≢◌, length, take, drop, None, Ok, Err, if◌then◌else◌, refl}
+use Rattle.std.proofs.Common.{arith, ap, sym, subst, ◌∙◌, ⊎_elim, append_assoc, length-append}
+use Rattle.std.proofs.lemmas.List.{drop_at}
 use Rattle.std.proofs.lemmas.Bool.{true≢false, false≢true, eqb-true, eq-eqb, or_cases}
 use Rattle.std.proofs.lemmas.Bool.Decides.{nat_tests}
 use Rattle.std.specs.List.{list_all}
 use Rattle.std.specs.declared.cmp.Ordering.{Ordering}
-use Rattle.field_codec.specs.declared.error.TakeError.TheVariants.{Bad}
+use Rattle.field_codec.specs.declared.error.TakeError.TheVariants.{Short, Bad, NoMemory}
+use Rattle.field_codec.specs.declared.error.TakeError.{TakeError}
 use Rattle.field_codec.specs.Spelling.{number, is_number, text, is_text, list, are_in_order, are_members, is_list, is_below, Spans}
 use Rattle.field_codec.specs.Reading.{Read, ◌>>=◌, number_at, text_at, list_at, checked_at, then_at, mapped_at}
-use Rattle.field_codec.specs.Lawful.{IsForm}
-use Rattle.field_codec.specs.FormLaws.{any_text_form, number_form, width1, list_form, checked_form, then_form, mapped_form, lt_holds, le_from, both_true, and_true, ok_is, bind_ok, guard_ok, spans_first}
+use Rattle.field_codec.specs.Lawful.{IsBytes, TellsWhy, IsForm}
+use Rattle.field_codec.specs.Steps.{by_length, bind_err, not_both, lt_from, IsBytes-append}
+use Rattle.field_codec.specs.Refusals.{steady_form, enough_from, tested_short, ends_at}
+use Rattle.field_codec.specs.FormLaws.{any_text_form, number_form, number_short, length-number, width1, list_form, checked_form, then_form, mapped_form, lt_holds, le_from, both_true, and_true, ok_is, bind_ok, guard_ok, spans_first}
 use Rattle.field_codec.specs.Tagged.{tagged_at, tagged_form, shape_form}
 use Rattle.site_vector.specs.declared.ids.Dot.{Dot}
 use Rattle.crdt_core.specs.declared.kind.Kind.{Kind}
@@ -48,6 +52,8 @@ coded_form allowed = let law = checked_form allowed (λ _. true) (λ _. true) ki
   found = λ bytes at k end ok within h. let f = law.found bytes at k end ok within h in ((both_true (allowed k) true f.0).0, f.1);
   again = λ bytes at k end good spans. law.again bytes at k end (and_true (allowed k) true good refl) spans;
   fit = λ k good. good;
+  ends = law.ends;
+  tells = law.tells;
 }
 
 pub field_form : (allowed : Kind → Bool) → IsForm (λ f. allowed f.kind) (is_field allowed) field (field_at allowed)
@@ -98,6 +104,104 @@ module _ {V : Type 0} (tag : ℕ) (one : number 1 tag ≡ tag ∷ []) (small : i
   later : (at end : ℕ) (s rest : List ℕ) → s ≡ tag ∷ rest → end ≡ at + length s → nat_lt at end ≡ true
   later at end s rest e long = after_one at end (length rest) (long ∙ ap (λ l. at + length l) e)
 
+  abbrev rest_at : List ℕ → ℕ → Read V
+  rest_at bytes at = reading bytes at >>= λ x. cond (nat_lt at x.1) (Ok x) (Err (Bad at))
+
+  abbrev first_at : List ℕ → ℕ → Read ℕ
+  first_at = checked_at is_tag (number_at 1)
+
+  -- a value that is read is not empty
+  rest_err : (bytes : List ℕ) (at : ℕ) (e : TakeError) → IsBytes bytes → at ≤ length bytes → rest_at bytes at ≡ Err e → reading bytes at ≡ Err e
+  rest_err bytes at e ok le h = ⊎_elim (λ is. is) (λ a.
+      let some = lt_holds at a.0.1 ((steady_form form).after bytes at a.0 ok le a.1) in
+      absurd (not_both (cond (nat_lt at a.0.1) (Ok a.0) (Err (Bad at))) a.0 e (ap (λ b. cond b (Ok a.0) (Err (Bad at))) some) a.2)) (bind_err (reading bytes at) (λ x. cond (nat_lt at x.1) (Ok x) (Err (Bad at))) e h)
+
+  -- where the first byte stands, what is cut off is the value; else it is that byte
+  cut_there : (bytes : List ℕ) (at p q : ℕ) (t : ℕ × ℕ) → IsBytes bytes → at ≤ length bytes → first_at bytes at ≡ Ok t → at ≤ p → p ≤ q → reading (take q bytes) at ≡ Err (Short p) → opened_at tag reading (take q bytes) at ≡ Err (Short p)
+  cut_there bytes at p q t ok le first behind below h =
+      let one_byte : t.1 ≡ at + 1 = omega (arith, (tags.found bytes at t.0 t.1 ok le first).1.long, length-number 1 t.0) in
+      by_length t.1 q
+      (λ far. ap (λ r. r >>= λ x. rest_at (take q bytes) at) ((steady_form tags).shorter bytes at q t ok le far first) ∙ ap (λ r. r >>= λ x. cond (nat_lt at x.1) (Ok x) (Err (Bad at))) h)
+      (λ near.
+      let place : q ≡ at = omega (arith, near, one_byte, behind, below) in
+      let there : p ≡ at = omega (arith, near, one_byte, behind, below) in
+      subst (λ n. opened_at tag reading (take q bytes) at ≡ Err (Short n)) (sym there)
+      (subst (λ n. opened_at tag reading (take n bytes) at ≡ Err (Short at)) (sym place) (ap (λ r. r >>= λ x. rest_at (take at bytes) at) (ends_at first_at tags.ends bytes at le))))
+
+  tag_bytes : IsBytes (tag ∷ [])
+  tag_bytes zero = lt_from tag (256 ^ 1) small
+  tag_bytes (suc i) = omega arith
+
+  head_is : (a b : ℕ) (xs ys : List ℕ) → a ∷ xs ≡ b ∷ ys → a ≡ b
+  head_is a b xs ys h = cc
+
+  -- where the first byte is missing: it may come, and then enough of the value
+  enough_opened : (bytes : List ℕ) (at : ℕ) → IsBytes bytes → at ≡ length bytes → (k : ℕ) × ((more : List ℕ) → IsBytes more → k ≤ length more → opened_at tag reading (bytes ++ more) at ≢ Err (Short at))
+  enough_opened bytes at ok here = (suc e.0, after_first)
+    where
+      e : (k : ℕ) × ((more : List ℕ) → IsBytes more → k ≤ length more → reading ((bytes ++ tag ∷ []) ++ more) at ≢ Err (Short at))
+      e = enough_from (steady_form form) form.tells (bytes ++ tag ∷ []) at at (IsBytes-append bytes (tag ∷ []) ok tag_bytes) (omega (arith, here, length-append bytes (tag ∷ []))) (omega (arith, here, length-append bytes (tag ∷ [])))
+
+      after_first : (more : List ℕ) → IsBytes more → suc e.0 ≤ length more → opened_at tag reading (bytes ++ more) at ≢ Err (Short at)
+      after_first [] fits most h = omega (arith, most)
+      after_first (b ∷ more) fits most h =
+          let all = IsBytes-append bytes (b ∷ more) ok fits in
+          let long : at ≤ length (bytes ++ b ∷ more) = omega (arith, here, length-append bytes (b ∷ more)) in
+          ⊎_elim
+          (λ is. let short = (number_short 1 width1 (bytes ++ b ∷ more) at at (tested_short is_tag (number_at 1) (bytes ++ b ∷ more) at at is)).1 in omega (arith, short, here, length-append bytes (b ∷ more)))
+          (λ a.
+          let t = tags.found (bytes ++ b ∷ more) at a.0.0 a.0.1 all long a.1 in
+          let is_it = eqb-true a.0.0 tag (both_true (is_tag a.0.0) (is_number 1 a.0.0) t.0).0 in
+          let begins : b ∷ more ≡ tag ∷ drop a.0.1 (bytes ++ b ∷ more) = sym (drop_at bytes (b ∷ more) at (sym here)) ∙ t.1.stands ∙ ap (λ n. number 1 n ++ drop a.0.1 (bytes ++ b ∷ more)) is_it ∙ ap (λ l. l ++ drop a.0.1 (bytes ++ b ∷ more)) one in
+          let same : bytes ++ b ∷ more ≡ (bytes ++ tag ∷ []) ++ more = ap (λ n. bytes ++ n ∷ more) (head_is b tag more (drop a.0.1 (bytes ++ b ∷ more)) begins) ∙ sym (append_assoc bytes (tag ∷ []) more) in
+          e.1 more (λ i. fits (suc i)) (omega (arith, most)) (sym (ap (λ l. reading l at) same) ∙ rest_err (bytes ++ b ∷ more) at (Short at) all long a.2))
+          (bind_err (first_at (bytes ++ b ∷ more) at) (λ x. rest_at (bytes ++ b ∷ more) at) (Short at) h)
+
+  opened_tells : TellsWhy (opened_at tag reading)
+  opened_tells = record {
+    short = λ bytes at p ok le h.
+        ⊎_elim
+        (λ is.
+        let g = number_short 1 width1 bytes at p (tested_short is_tag (number_at 1) bytes at p is) in
+        let s = tags.tells.short bytes at p ok le is in
+        record {
+          behind = s.behind;
+          within = s.within;
+          cut = λ q below. ap (λ r. r >>= λ x. rest_at (take q bytes) at) (s.cut q below);
+          enough = subst (λ n. (k : ℕ) × ((more : List ℕ) → IsBytes more → k ≤ length more → opened_at tag reading (bytes ++ more) at ≢ Err (Short n))) g.0 (enough_opened bytes at ok (omega (arith, g.1, le)));
+        })
+        (λ a.
+        let s = form.tells.short bytes at p ok le (rest_err bytes at (Short p) ok le a.2) in
+        record {
+          behind = s.behind;
+          within = s.within;
+          cut = λ q below. cut_there bytes at p q a.0 ok le a.1 s.behind below (s.cut q below);
+          enough = (
+            s.enough.0,
+            λ more fits most is.
+                s.enough.1 more fits most (rest_err (bytes ++ more) at (Short p) (IsBytes-append bytes more ok fits) (omega (arith, le, length-append bytes more))
+                (sym (ap (λ r. r >>= λ x. rest_at (bytes ++ more) at) ((steady_form tags).longer bytes more at a.0 ok le a.1)) ∙ is)),
+          );
+        })
+        (bind_err (first_at bytes at) (λ x. rest_at bytes at) (Short p) h);
+    bad = λ bytes at p ok le h.
+        ⊎_elim
+        (λ is.
+        let s = tags.tells.bad bytes at p ok le is in
+        record { behind = s.behind; within = s.within; cut = ap (λ r. r >>= λ x. rest_at (take p bytes) at) s.cut; stays = λ more. ap (λ r. r >>= λ x. rest_at (bytes ++ more) at) (s.stays more) })
+        (λ a.
+        let s = form.tells.bad bytes at p ok le (rest_err bytes at (Bad p) ok le a.2) in
+        record {
+          behind = s.behind;
+          within = s.within;
+          cut = cut_there bytes at p p a.0 ok le a.1 s.behind (omega arith) s.cut;
+          stays = λ more. ap (λ r. r >>= λ x. rest_at (bytes ++ more) at) ((steady_form tags).longer bytes more at a.0 ok le a.1) ∙ ap (λ r. r >>= λ x. cond (nat_lt at x.1) (Ok x) (Err (Bad at))) (s.stays more);
+        })
+        (bind_err (first_at bytes at) (λ x. rest_at bytes at) (Bad p) h);
+    memory = λ bytes at ok le h.
+        ⊎_elim (tags.tells.memory bytes at ok le) (λ a. form.tells.memory bytes at ok le (rest_err bytes at NoMemory ok le a.2)) (bind_err (first_at bytes at) (λ x. rest_at bytes at) NoMemory h);
+  }
+
   pub opened_form : IsForm (λ v. begins_with tag (spelling v) && fits v) (λ v. begins_with tag (spelling v) && is_spelled v) spelling (opened_at tag reading)
   opened_form = record {
     found = λ bytes at v end ok within h.
@@ -122,6 +226,8 @@ module _ {V : Type 0} (tag : ℕ) (one : number 1 tag ≡ tag ∷ []) (small : i
     fit = λ v good.
         let p = both_true (begins_with tag (spelling v)) (is_spelled v) good in
         and_true (begins_with tag (spelling v)) (fits v) p.0 (form.fit v p.1);
+    ends = λ bytes. ap (λ r. r >>= λ x. rest_at bytes (length bytes)) (tags.ends bytes);
+    tells = opened_tells;
   }
 
 -- the first byte of a reset

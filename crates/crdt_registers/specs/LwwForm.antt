@@ -37,7 +37,7 @@ lww_form =
     let stamps = is_between 0 last_stamp in
     let whole = then_form stamps stamps (number 8) (between_at 8 0 last_stamp) (λ _ _. true) (λ _. is_text) (λ _. text) (λ _. text_at) (between_form 8 0 last_stamp width8 (omega arith)) (λ _ _. any_text_form) in
     let law = mapped_form assigned_of (λ e. (e.stamp, e.text)) _ _ _ _ (λ _. refl) (λ _ _. refl) whole in
-    record { found = law.found; again = law.again; fit = λ e good. (both_true (stamps e.stamp) (is_text e.text) good).0 }
+    record { found = law.found; again = law.again; fit = λ e good. (both_true (stamps e.stamp) (is_text e.text) good).0; ends = law.ends; tells = law.tells }
 
 pub lww_spells : (has : Kind → Bool) → SpellsEffects has is_of_kind can_put_lww is_lww_spelled lww_spelling (λ k. lww_at)
 lww_spells has = record { form = λ k h. lww_form }

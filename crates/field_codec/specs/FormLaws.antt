@@ -1,112 +1,38 @@
 -- Numbers, texts and lists are forms; and what serves to show it of a form of several fields.
-use Rattle.std.specs.Prelude.{◌≡◌, ℕ, zero, suc, ◌+◌, ◌*◌, ◌%◌, ◌^◌, ◌<◌, ◌≤◌, Bool, true, false, ◌&&◌, cond, eqb, nat_lt, nat_le, List, [], ◌∷◌, ◌++◌, length, take, drop, Option, Some, None, Result, Ok, Err, refl}
-use Rattle.std.proofs.Common.{sym, ap, subst, ◌∙◌, append_assoc, length-append, arith}
+use Rattle.std.specs.Prelude.{◌≡◌, ℕ, zero, suc, ◌+◌, ◌*◌, ◌%◌, ◌^◌, ◌<◌, ◌≤◌, Bool, true, false, ◌&&◌, cond, eqb, nat_le, List, [], ◌∷◌, ◌++◌, length, take, drop, Option, Some, None, Ok, Err, refl}
+use Rattle.std.proofs.Common.{sym, ap, subst, ◌∙◌, length-append, arith}
 use Rattle.std.specs.List.{flat_map, list_all, AllByRecursion}
 use Rattle.std.specs.List.Sorted.{IsStrictlySortedBy}
 use Rattle.std.specs.declared.cmp.Ordering.{Ordering}
 use Rattle.std.specs.declared.cmp.Ordering.TheVariants.{Less, Equal, Greater}
 use Rattle.std.specs.Ordering.{is_lt}
 use Rattle.std.specs.Cmp.{IsTotalOrder}
-use Rattle.std.proofs.lemmas.Bool.{eqb-true, eq-eqb}
+use Rattle.std.proofs.lemmas.Bool.{eqb-true, eq-eqb, true≢false}
 use Rattle.std.specs.Str.{is_utf8}
+use Rattle.std.proofs.lemmas.Str.{is_utf8-from_IsUtf8, IsUtf8-nil}
 use Rattle.std.proofs.lemmas.Bool.Decides.{nat_tests}
-use Rattle.std.proofs.lemmas.List.{take_at, drop_at, take-append-drop, length-take-le, length-drop, drop-drop, get_or-drop}
+use Rattle.std.proofs.lemmas.List.{take_at, take-append-drop, length-take-le, length-drop, drop-drop, drop-append-le, take-append-le}
 use Rattle.std.proofs.lemmas.List.Concat.{flat_map-cons}
 use Rattle.std.proofs.lemmas.Nat.{be_bytes_2, be_bytes_4, be_bytes_8}
 use Rattle.byteorder.specs.Endian.{big_number, big_bytes}
 use Rattle.byteorder.specs.Numbers.{length-bytes_high_first, big_number-reads_back, big_from-lt, big_from-take}
-use Rattle.field_codec.specs.declared.error.TakeError.{TakeError}
-use Rattle.field_codec.specs.declared.error.TakeError.TheVariants.{Short, Bad}
+use Rattle.field_codec.specs.declared.error.TakeError.TheVariants.{Short, Bad, NoMemory}
 use Rattle.field_codec.specs.Spelling.{number, is_number, text, is_text, list, may_follow, are_in_order, are_members, is_list, is_below, Spans}
 use Rattle.field_codec.specs.Reading.{Read, ◌>>=◌, number_at, bytes_at, text_at, members_at, list_at, checked_at, then_at, mapped_at}
-use Rattle.field_codec.specs.Lawful.{IsBytes, IsForm}
-
--- ---- tests and steps
-
-pub both_true : (a b : Bool) → (a && b) ≡ true → (a ≡ true) × (b ≡ true)
-both_true true b h = (refl, h)
-both_true false b h = absurd cc
-
-pub and_true : (a b : Bool) → a ≡ true → b ≡ true → (a && b) ≡ true
-and_true a b p q = ap (λ x. x && b) p ∙ q
-
-pub le_holds : (n m : ℕ) → n ≤ m → nat_le n m ≡ true
-le_holds n m h = grind (arith, nat_tests)
-
-pub le_from : (n m : ℕ) → nat_le n m ≡ true → n ≤ m
-le_from n m h = grind (arith, nat_tests)
-
-pub lt_holds : (n m : ℕ) → n < m → nat_lt n m ≡ true
-lt_holds n m h = grind (arith, nat_tests)
-
-pub lt_from : (n m : ℕ) → nat_lt n m ≡ true → n < m
-lt_from n m h = grind (arith, nat_tests)
-
-abbrev done : {A : Type 0} → A → Result A TakeError
-done x = Ok x
-
-pub ok_is : {A : Type 0} (x y : A) → done x ≡ done y → x ≡ y
-ok_is x y e = cc
-
--- the value of a step that did not fail
-pub bind_ok : {A B : Type 0} (r : Result A TakeError) (f : A → Result B TakeError) (y : B) → (r >>= f) ≡ Ok y → (x : A) × (r ≡ Ok x) × (f x ≡ Ok y)
-bind_ok (Ok x) f y e = (x, refl, e)
-bind_ok (Err d) f y e = absurd cc
-
--- a test that did not fail
-pub guard_ok : {A : Type 0} (b : Bool) (r : Result A TakeError) (d : TakeError) (y : A) → cond b r (Err d) ≡ Ok y → (b ≡ true) × (r ≡ Ok y)
-guard_ok true r d y e = (refl, e)
-guard_ok false r d y e = absurd cc
-
--- ---- places
-
-pub IsBytes-drop : (n : ℕ) (bytes : List ℕ) → IsBytes bytes → IsBytes (drop n bytes)
-IsBytes-drop n bytes h i = rw get_or-drop (h (n + i))
-
-pub IsBytes-take : (n : ℕ) (bytes : List ℕ) → IsBytes bytes → IsBytes (take n bytes)
-IsBytes-take zero bytes h i = omega arith
-IsBytes-take (suc n) [] h i = omega arith
-IsBytes-take (suc n) (b ∷ bytes) h zero = h 0
-IsBytes-take (suc n) (b ∷ bytes) h (suc i) = IsBytes-take n bytes (λ k. h (suc k)) i
-
--- nothing stands from a place up to itself
-pub spans_none : (bytes : List ℕ) (at : ℕ) → at ≤ length bytes → Spans bytes at [] at
-spans_none bytes at le = record { stands = refl; long = omega arith; within = le }
-
--- what stands up to a place, and from it on
-pub spans_join : (bytes xs ys : List ℕ) (at mid end : ℕ) → Spans bytes at xs mid → Spans bytes mid ys end → Spans bytes at (xs ++ ys) end
-spans_join bytes xs ys at mid end p q = record {
-  stands = p.stands ∙ ap (λ l. xs ++ l) q.stands ∙ sym (append_assoc xs ys (drop end bytes));
-  long = omega (arith, p.long, q.long, length-append xs ys);
-  within = q.within;
-}
-
-pub spans_first : (bytes xs ys : List ℕ) (at end : ℕ) → Spans bytes at (xs ++ ys) end → Spans bytes at xs (at + length xs)
-spans_first bytes xs ys at end p =
-    let whole : drop at bytes ≡ xs ++ (ys ++ drop end bytes) = p.stands ∙ append_assoc xs ys (drop end bytes) in
-    record {
-      stands = whole ∙ ap (λ l. xs ++ l) (sym (sym (drop-drop (length xs) at bytes) ∙ ap (drop (length xs)) whole ∙ drop_at xs (ys ++ drop end bytes) (length xs) refl));
-      long = refl;
-      within = omega (arith, p.long, p.within, length-append xs ys);
-    }
-
-pub spans_second : (bytes xs ys : List ℕ) (at end : ℕ) → Spans bytes at (xs ++ ys) end → Spans bytes (at + length xs) ys end
-spans_second bytes xs ys at end p =
-    let whole : drop at bytes ≡ xs ++ (ys ++ drop end bytes) = p.stands ∙ append_assoc xs ys (drop end bytes) in
-    record {
-      stands = sym (drop-drop (length xs) at bytes) ∙ ap (drop (length xs)) whole ∙ drop_at xs (ys ++ drop end bytes) (length xs) refl;
-      long = omega (arith, p.long, length-append xs ys);
-      within = p.within;
-    }
+use Rattle.field_codec.specs.Lawful.{IsBytes, IsCut, IsRefused, TellsWhy, IsForm}
+use Rattle.field_codec.specs.Refusals.{IsSteady, steady_form, mapped_tells, checked_steady, checked_tells, following_at, following_tells}
+use Rattle.field_codec.specs.Steps.{done, by_length, guard_bad, short_is, not_both, short_not_bad, short_not_memory}
+pub use Rattle.field_codec.specs.Steps.{both_true, and_true, le_holds, le_from, lt_holds, lt_from, ok_is, bind_ok, guard_ok, IsBytes-drop, IsBytes-take, spans_none, spans_join, spans_first, spans_second}
 
 -- ---- numbers
 
 -- the bytes of a number of this many bytes give it back, and the number its bytes
 pub record IsWidth (n : ℕ) : Type 0 where
+  pub some : 0 < n
   pub back : (bytes : List ℕ) → length bytes ≡ n → IsBytes bytes → big_bytes n (big_number n bytes) ≡ bytes
 
 pub width1 : IsWidth 1
-width1 = record { back = at }
+width1 = record { some = omega arith; back = at }
   where
     at : (bytes : List ℕ) → length bytes ≡ 1 → IsBytes bytes → big_bytes 1 (big_number 1 bytes) ≡ bytes
     at [] len fits = absurd (omega (arith, len))
@@ -114,13 +40,30 @@ width1 = record { back = at }
     at (b ∷ c ∷ bytes) len fits = absurd (omega (arith, len))
 
 pub width2 : IsWidth 2
-width2 = record { back = λ bytes len fits. be_bytes_2 bytes (big_number 2 bytes) len fits (omega arith) }
+width2 = record { some = omega arith; back = λ bytes len fits. be_bytes_2 bytes (big_number 2 bytes) len fits (omega arith) }
 
 pub width4 : IsWidth 4
-width4 = record { back = λ bytes len fits. be_bytes_4 bytes (big_number 4 bytes) len fits (omega arith) }
+width4 = record { some = omega arith; back = λ bytes len fits. be_bytes_4 bytes (big_number 4 bytes) len fits (omega arith) }
 
 pub width8 : IsWidth 8
-width8 = record { back = λ bytes len fits. be_bytes_8 bytes (big_number 8 bytes) len fits (omega arith) }
+width8 = record { some = omega arith; back = λ bytes len fits. be_bytes_8 bytes (big_number 8 bytes) len fits (omega arith) }
+
+le_fails : (n m : ℕ) → m < n → nat_le n m ≡ false
+le_fails n m h = grind (arith, nat_tests)
+
+below_cut : (q : ℕ) (bytes : List ℕ) (n : ℕ) → length bytes < n → length (take q bytes) < n
+below_cut zero bytes n lt = omega (arith, lt)
+below_cut (suc q) [] n lt = lt
+below_cut (suc q) (b ∷ bytes) zero lt = absurd (omega (arith, lt))
+below_cut (suc q) (b ∷ bytes) (suc n) lt = let rest = below_cut q bytes n (omega (arith, lt)) in omega (arith, rest)
+
+never_bad : {A : Type 0} (b : Bool) (x : A) (at p : ℕ) → cond b (done x) (Err (Short at)) ≡ Err (Bad p) → ⊥
+never_bad true x at p h = cc
+never_bad false x at p h = cc
+
+never_wants : {A : Type 0} (b : Bool) (x : A) (at : ℕ) → cond b (done x) (Err (Short at)) ≡ Err NoMemory → ⊥
+never_wants true x at h = cc
+never_wants false x at h = cc
 
 module _ (n : ℕ) (width : IsWidth n) where
   taken : (bytes : List ℕ) (at : ℕ) → IsBytes bytes → at + n ≤ length bytes → Spans bytes at (number n (big_number n (drop at bytes))) (at + n)
@@ -133,6 +76,30 @@ module _ (n : ℕ) (width : IsWidth n) where
         long = omega (arith, length-bytes_high_first n (big_number n (drop at bytes)));
         within = le;
       }
+
+  cut_number : (bytes : List ℕ) (at : ℕ) → length bytes < at + n → number_at n bytes at ≡ Err (Short at)
+  cut_number bytes at lt = ap (λ b. cond b (Ok (big_number n (drop at bytes), at + n)) (Err (Short at))) (le_fails (at + n) (length bytes) lt)
+
+  pub number_short : (bytes : List ℕ) (at p : ℕ) → number_at n bytes at ≡ Err (Short p) → (at ≡ p) × (length bytes < at + n)
+  number_short bytes at p h = short_guard (nat_le (at + n) (length bytes)) (big_number n (drop at bytes), at + n) at p h refl
+    where
+      short_guard : (b : Bool) (x : ℕ × ℕ) (at p : ℕ) → cond b (Ok x) (Err (Short at)) ≡ Err (Short p) → nat_le (at + n) (length bytes) ≡ b → (at ≡ p) × (length bytes < at + n)
+      short_guard true x at p h e = absurd (cc)
+      short_guard false x at p h e = (short_is {A = ℕ × ℕ} at p h, grind (arith, nat_tests))
+
+  number_tells : TellsWhy (number_at n)
+  number_tells = record {
+    short = λ bytes at p ok le h.
+        let g = number_short bytes at p h in
+        subst (λ k. IsCut (number_at n) bytes at k) g.0 (record {
+          behind = omega arith;
+          within = le;
+          cut = λ q below. cut_number (take q bytes) at (below_cut q bytes (at + n) g.1);
+          enough = (n, λ more fits most is. let long = (number_short (bytes ++ more) at at is).1 in omega (arith, long, most, le, length-append bytes more));
+        });
+    bad = λ bytes at p ok le h. absurd (never_bad (nat_le (at + n) (length bytes)) (big_number n (drop at bytes), at + n) at p h);
+    memory = λ bytes at ok le h. never_wants (nat_le (at + n) (length bytes)) (big_number n (drop at bytes), at + n) at h;
+  }
 
   pub number_form : IsForm (is_number n) (is_number n) (number n) (number_at n)
   number_form = record {
@@ -147,7 +114,12 @@ module _ (n : ℕ) (width : IsWidth n) where
         let same : big_number n (drop at bytes) ≡ v = ap (big_number n) spans.stands ∙ big_number-reads_back n v (drop end bytes) (lt_from v (256 ^ n) good) in
         rw (le, same, sym to) refl;
     fit = λ v good. good;
+    ends = λ bytes. cut_number bytes (length bytes) (omega (arith, width.some));
+    tells = number_tells;
   }
+
+pub length-number : (n x : ℕ) → length (number n x) ≡ n
+length-number n x = length-bytes_high_first n x
 
 -- ---- texts
 
@@ -173,6 +145,102 @@ bytes_again bytes at t end good spans =
     let same : take (length t) (drop at bytes) ≡ t = ap (take (length t)) spans.stands ∙ take_at t (drop end bytes) (length t) refl in
     rw (le, same, good, sym spans.long) refl
 
+cut_bytes : (n : ℕ) (bytes : List ℕ) (at : ℕ) → length bytes < at + n → bytes_at n bytes at ≡ Err (Short at)
+unfolding bytes_at
+cut_bytes n bytes at lt = ap (λ b. cond b (cond (is_utf8 (take n (drop at bytes))) (Ok (take n (drop at bytes), at + n)) (Err (Bad at))) (Err (Short at))) (le_fails (at + n) (length bytes) lt)
+
+-- what n bytes answer if they are whole
+abbrev whole_bytes : ℕ → List ℕ → ℕ → Read (List ℕ)
+whole_bytes n bytes at = cond (is_utf8 (take n (drop at bytes))) (Ok (take n (drop at bytes), at + n)) (Err (Bad at))
+
+bytes_whole : (n : ℕ) (bytes : List ℕ) (at : ℕ) → at + n ≤ length bytes → bytes_at n bytes at ≡ whole_bytes n bytes at
+unfolding bytes_at
+bytes_whole n bytes at le = ap (λ b. cond b (whole_bytes n bytes at) (Err (Short at))) (le_holds (at + n) (length bytes) le)
+
+whole_not_short : {A : Type 0} (b : Bool) (x : A) (at p : ℕ) → cond b (done x) (Err (Bad at)) ≡ Err (Short p) → ⊥
+whole_not_short true x at p h = cc
+whole_not_short false x at p h = cc
+
+whole_not_memory : {A : Type 0} (b : Bool) (x : A) (at : ℕ) → cond b (done x) (Err (Bad at)) ≡ Err NoMemory → ⊥
+whole_not_memory true x at h = cc
+whole_not_memory false x at h = cc
+
+bytes_short : (n : ℕ) (bytes : List ℕ) (at p : ℕ) → bytes_at n bytes at ≡ Err (Short p) → (at ≡ p) × (length bytes < at + n)
+bytes_short n bytes at p h = by_length (at + n) (length bytes)
+    (λ le. absurd (whole_not_short (is_utf8 (take n (drop at bytes))) (take n (drop at bytes), at + n) at p (sym (bytes_whole n bytes at le) ∙ h)))
+    (λ lt. (short_is {A = List ℕ × ℕ} at p (sym (cut_bytes n bytes at lt) ∙ h), lt))
+
+bytes_bad : (n : ℕ) (bytes : List ℕ) (at p : ℕ) → bytes_at n bytes at ≡ Err (Bad p) → (at ≡ p) × (is_utf8 (take n (drop at bytes)) ≡ false) × (at + n ≤ length bytes)
+bytes_bad n bytes at p h = by_length (at + n) (length bytes)
+    (λ le. let g = guard_bad (is_utf8 (take n (drop at bytes))) (take n (drop at bytes), at + n) at p (sym (bytes_whole n bytes at le) ∙ h) in (g.1, g.0, le))
+    (λ lt. absurd (short_not_bad {A = List ℕ × ℕ} at p (sym (cut_bytes n bytes at lt) ∙ h)))
+
+-- no bytes are UTF-8
+empty_is : is_utf8 [] ≡ true
+empty_is = is_utf8-from_IsUtf8 [] IsUtf8-nil
+
+some_refused : (n : ℕ) (bytes : List ℕ) → is_utf8 (take n bytes) ≡ false → 0 < n
+some_refused zero bytes h = absurd (true≢false (sym empty_is ∙ h))
+some_refused (suc n) bytes h = omega arith
+
+same_bytes : (n : ℕ) (bytes more : List ℕ) (at : ℕ) → at + n ≤ length bytes → take n (drop at (bytes ++ more)) ≡ take n (drop at bytes)
+same_bytes n bytes more at le = ap (take n) (drop-append-le at bytes more (omega (arith, le))) ∙ take-append-le n (drop at bytes) more (omega (arith, le, length-drop at bytes))
+
+bytes_tells : (n : ℕ) → TellsWhy (bytes_at n)
+bytes_tells n = record {
+  short = λ bytes at p ok le h.
+      let g = bytes_short n bytes at p h in
+      subst (λ k. IsCut (bytes_at n) bytes at k) g.0 (record {
+        behind = omega arith;
+        within = le;
+        cut = λ q below. cut_bytes n (take q bytes) at (below_cut q bytes (at + n) g.1);
+        enough = (n, λ more fits most is. let long = (bytes_short n (bytes ++ more) at at is).1 in omega (arith, long, most, le, length-append bytes more));
+      });
+  bad = λ bytes at p ok le h.
+      let g = bytes_bad n bytes at p h in
+      let some = some_refused n (drop at bytes) g.1 in
+      subst (λ k. IsRefused (bytes_at n) bytes at k) g.0 (record {
+        behind = omega arith;
+        within = omega (arith, g.2, some);
+        cut = cut_bytes n (take at bytes) at (omega (arith, some, length-take-le at bytes le));
+        stays = λ more.
+            let more_whole : at + n ≤ length (bytes ++ more) = omega (arith, g.2, length-append bytes more) in
+            bytes_whole n (bytes ++ more) at more_whole
+            ∙ ap (λ b. cond b (Ok (take n (drop at (bytes ++ more)), at + n)) (Err (Bad at))) (ap is_utf8 (same_bytes n bytes more at g.2) ∙ g.1);
+      });
+  memory = λ bytes at ok le h. by_length (at + n) (length bytes)
+      (λ long. whole_not_memory (is_utf8 (take n (drop at bytes))) (take n (drop at bytes), at + n) at (sym (bytes_whole n bytes at long) ∙ h))
+      (λ lt. short_not_memory {A = List ℕ × ℕ} at (sym (cut_bytes n bytes at lt) ∙ h));
+}
+
+-- a length that is small enough, and the bytes
+abbrev is_small : ℕ → Bool
+is_small n = nat_le n 256
+
+abbrev length_at : List ℕ → ℕ → Read ℕ
+length_at = checked_at is_small (number_at 2)
+
+length_tells : TellsWhy length_at
+length_tells = let form = number_form 2 width2 in checked_tells is_small (number_at 2) (steady_form form) form.ends form.tells
+
+length_steady : IsSteady length_at
+length_steady = checked_steady is_small (number_at 2) (steady_form (number_form 2 width2))
+
+text_is : (bytes : List ℕ) (at : ℕ) → following_at length_at bytes_at bytes at ≡ text_at bytes at
+unfolding text_at
+text_is bytes at = by (number_at 2 bytes at)
+  where
+    test : (b : Bool) (n : ℕ × ℕ) → (cond b (done n) (Err (Bad at)) >>= λ x. bytes_at x.0 bytes x.1) ≡ cond b (bytes_at n.0 bytes n.1) (Err (Bad at))
+    test true n = refl
+    test false n = refl
+
+    by : (r : Read ℕ) → ((r >>= λ n. cond (is_small n.0) (Ok n) (Err (Bad at))) >>= λ x. bytes_at x.0 bytes x.1) ≡ (r >>= λ n. cond (is_small n.0) (bytes_at n.0 bytes n.1) (Err (Bad at)))
+    by (Ok n) = test (is_small n.0) n
+    by (Err e) = refl
+
+text_tells : TellsWhy text_at
+text_tells = subst TellsWhy (λ i bytes at. text_is bytes at i) (following_tells length_at bytes_at length_steady length_tells (λ bytes at x ok le h. bytes_tells x.0))
+
 pub text_form : IsForm is_text is_text text text_at
 unfolding text_at
 text_form = record {
@@ -194,11 +262,13 @@ text_form = record {
       ∙ ap (λ b. cond b (bytes_at (length t) bytes (at + length len)) (Err (Bad at))) p.0
       ∙ second;
   fit = λ t good. good;
+  ends = λ bytes. ap (λ r. r >>= λ n. cond (nat_le n.0 256) (bytes_at n.0 bytes n.1) (Err (Bad (length bytes)))) ((number_form 2 width2).ends bytes);
+  tells = text_tells;
 }
 
 -- every text of the program has a spelling, so that to put one asks for nothing
 pub any_text_form : IsForm (λ t. true) is_text text text_at
-any_text_form = record { found = text_form.found; again = text_form.again; fit = λ t good. refl }
+any_text_form = record { found = text_form.found; again = text_form.again; fit = λ t good. refl; ends = text_form.ends; tells = text_form.tells }
 
 -- ---- lists
 
@@ -239,6 +309,60 @@ module _ {V : Type 0} (follows : V → V → Bool) (fits is_spelled : V → Bool
       let others = members_again vs (Some v) bytes mid end o.1 s.1 (spans_second bytes (spelling v) (flat_map spelling vs) at end parts) in
       rw (first, o.0, others) refl
 
+  abbrev next_at : Option V → List ℕ → ℕ → Read V
+  next_at before = checked_at (may_follow follows before) reading
+
+  abbrev others_at : ℕ → V → List ℕ → ℕ → Read (List V)
+  others_at n v = mapped_at (λ vs. v ∷ vs) (members_at follows reading (Some v) n)
+
+  -- a member that may follow, and then the others
+  members_are : (n : ℕ) (before : Option V) (bytes : List ℕ) (at : ℕ) → following_at (next_at before) (others_at n) bytes at ≡ members_at follows reading before (suc n) bytes at
+  unfolding members_at
+  members_are n before bytes at = by (reading bytes at)
+    where
+      rest : V × ℕ → Read (List V)
+      rest v = members_at follows reading (Some v.0) n bytes v.1
+
+      onto : V → List V × ℕ → Read (List V)
+      onto v others = Ok (v ∷ others.0, others.1)
+
+      may : V × ℕ → Bool
+      may v = may_follow follows before v.0
+
+      checked : V × ℕ → Read V
+      checked v = cond (may v) (Ok v) (Err (Bad at))
+
+      whole : V × ℕ → Read (List V)
+      whole v = rest v >>= onto v.0
+
+      at_once : V × ℕ → Read (List V)
+      at_once v = cond (may v) (rest v) (Err (Bad at)) >>= onto v.0
+
+      test : (b : Bool) (v : V × ℕ) → (cond b (done v) (Err (Bad at)) >>= whole) ≡ (cond b (rest v) (Err (Bad at)) >>= onto v.0)
+      test true v = refl
+      test false v = refl
+
+      by : (r : Read V) → ((r >>= checked) >>= whole) ≡ (r >>= at_once)
+      by (Ok v) = test (may v) v
+      by (Err e) = refl
+
+  none_tells : (before : Option V) → TellsWhy (members_at follows reading before 0)
+  unfolding members_at
+  none_tells before = record {
+    short = λ bytes at p ok le h. absurd (not_both (members_at follows reading before 0 bytes at) ([], at) (Short p) refl h);
+    bad = λ bytes at p ok le h. absurd (not_both (members_at follows reading before 0 bytes at) ([], at) (Bad p) refl h);
+    memory = λ bytes at ok le h. not_both (members_at follows reading before 0 bytes at) ([], at) NoMemory refl h;
+  }
+
+  members_tells : (n : ℕ) (before : Option V) → TellsWhy (members_at follows reading before n)
+  members_tells zero before = none_tells before
+  members_tells (suc n) before =
+      let steady = steady_form member in
+      let test = may_follow follows before in
+      subst TellsWhy (λ i bytes at. members_are n before bytes at i)
+      (following_tells (next_at before) (others_at n) (checked_steady test reading steady) (checked_tells test reading steady member.ends member.tells)
+      (λ bytes at x ok le h. mapped_tells (λ vs. x.0 ∷ vs) (members_at follows reading (Some x.0) n) (members_tells n (Some x.0))))
+
   all_fit : (vs : List V) → list_all is_spelled vs ≡ true → list_all fits vs ≡ true
   all_fit [] h = refl
   all_fit (v ∷ vs) h = let p = both_true (is_spelled v) (list_all is_spelled vs) h in and_true (fits v) (list_all fits vs) (member.fit v p.0) (all_fit vs p.1)
@@ -265,11 +389,18 @@ module _ {V : Type 0} (follows : V → V → Bool) (fits is_spelled : V → Bool
         let p = both_true (is_number 4 (length vs)) (are_members follows is_spelled vs) good in
         let q = both_true (are_in_order follows None vs) (list_all is_spelled vs) p.1 in
         and_true (are_in_order follows None vs) (list_all fits vs) q.0 (all_fit vs q.1);
+    ends = λ bytes. ap (λ r. r >>= λ n. members_at follows reading None n.0 bytes n.1) ((number_form 4 width4).ends bytes);
+    tells = let count = number_form 4 width4 in following_tells (number_at 4) (λ n. members_at follows reading None n) (steady_form count) count.tells (λ bytes at x ok le h. members_tells x.0 None);
   }
 
+  no_members_ends : (n : ℕ) → 0 < n → (bytes : List ℕ) → members_at follows reading None n bytes (length bytes) ≡ Err (Short (length bytes))
+  unfolding members_at
+  no_members_ends zero some bytes = absurd (omega (arith, some))
+  no_members_ends (suc n) some bytes = ap (λ r. r >>= λ first. members_at follows reading (Some first.0) n bytes first.1 >>= λ others. Ok (first.0 ∷ others.0, others.1)) (member.ends bytes)
+
   -- n members, which no count stands before
-  pub members_form : (n : ℕ) → IsForm (λ vs. eqb (length vs) n && are_members follows fits vs) (λ vs. eqb (length vs) n && are_members follows is_spelled vs) (flat_map spelling) (members_at follows reading None n)
-  members_form n = record {
+  pub members_form : (n : ℕ) → 0 < n → IsForm (λ vs. eqb (length vs) n && are_members follows fits vs) (λ vs. eqb (length vs) n && are_members follows is_spelled vs) (flat_map spelling) (members_at follows reading None n)
+  members_form n some = record {
     found = λ bytes at vs end fits within h.
         let m = members_found n None bytes at vs end fits within h in
         (and_true (eqb (length vs) n) (are_members follows is_spelled vs) (eq-eqb (length vs) n m.count) (and_true (are_in_order follows None vs) (list_all is_spelled vs) m.ordered m.spelled), m.spans);
@@ -281,6 +412,8 @@ module _ {V : Type 0} (follows : V → V → Bool) (fits is_spelled : V → Bool
         let p = both_true (eqb (length vs) n) (are_members follows is_spelled vs) good in
         let q = both_true (are_in_order follows None vs) (list_all is_spelled vs) p.1 in
         and_true (eqb (length vs) n) (are_members follows fits vs) p.0 (and_true (are_in_order follows None vs) (list_all fits vs) q.0 (all_fit vs q.1));
+    ends = no_members_ends n some;
+    tells = members_tells n None;
   }
 
 -- ---- a test, two in turn, and values made of others
@@ -297,6 +430,8 @@ checked_form {V} test fits is_spelled spelling reading form = record {
       let p = both_true (test v) (is_spelled v) good in
       ap (λ r. r >>= λ x. cond (test x.0) (Ok x) (Err (Bad at))) (form.again bytes at v end p.1 spans) ∙ ap (λ b. cond b (Ok (v, end)) (Err (Bad at))) p.0;
   fit = λ v good. let p = both_true (test v) (is_spelled v) good in and_true (test v) (fits v) p.0 (form.fit v p.1);
+  ends = λ bytes. ap (λ r. r >>= λ x. cond (test x.0) (Ok x) (Err (Bad (length bytes)))) (form.ends bytes);
+  tells = checked_tells test reading (steady_form form) form.ends form.tells;
 }
 
 pub then_form : {V W : Type 0} (fits1 spelled1 : V → Bool) (spelling1 : V → List ℕ) (reading1 : List ℕ → ℕ → Read V) (fits2 spelled2 : V → W → Bool) (spelling2 : V → W → List ℕ) (reading2 : V → List ℕ → ℕ → Read W)
@@ -318,6 +453,9 @@ then_form {V} {W} fits1 spelled1 spelling1 reading1 fits2 spelled2 spelling2 rea
       let second = (form2 x.0 p.0).again bytes mid x.1 end p.1 (spans_second bytes (spelling1 x.0) (spelling2 x.0 x.1) at end spans) in
       ap (λ r. r >>= λ v. reading2 v.0 bytes v.1 >>= λ w. Ok ((v.0, w.0), w.1)) first ∙ ap (λ r. r >>= λ w. Ok ((x.0, w.0), w.1)) second;
   fit = λ x good. let p = both_true (spelled1 x.0) (spelled2 x.0 x.1) good in and_true (fits1 x.0) (fits2 x.0 x.1) (form1.fit x.0 p.0) ((form2 x.0 p.0).fit x.1 p.1);
+  ends = λ bytes. ap (λ r. r >>= λ v. reading2 v.0 bytes v.1 >>= λ w. Ok ((v.0, w.0), w.1)) (form1.ends bytes);
+  tells = following_tells reading1 (λ v. mapped_at (λ w. (v, w)) (reading2 v)) (steady_form form1) form1.tells
+      (λ bytes at x ok le h. mapped_tells (λ w. (x.0, w)) (reading2 x.0) (form2 x.0 (form1.found bytes at x.0 x.1 ok le h).0).tells);
 }
 
 -- parts: what a value is made of
@@ -334,6 +472,8 @@ mapped_form {V} {W} made parts fits is_spelled spelling reading back forth form 
   again = λ bytes at w end good spans.
       ap (λ r. r >>= λ v. Ok (made v.0, v.1)) (form.again bytes at (parts w) end good spans) ∙ ap (λ x. Ok (x, end)) (back w);
   fit = λ w good. form.fit (parts w) good;
+  ends = λ bytes. ap (λ r. r >>= λ v. Ok (made v.0, v.1)) (form.ends bytes);
+  tells = mapped_tells made reading form.tells;
 }
 
 -- ---- ascending lists

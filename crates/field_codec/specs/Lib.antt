@@ -1,5 +1,7 @@
 pub mod FormLaws
 pub mod Lawful
 pub mod Reading
+pub mod Refusals
 pub mod Spelling
+pub mod Steps
 pub mod Tagged

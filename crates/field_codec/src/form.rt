@@ -79,7 +79,6 @@ pub fn put_whole<F: Form>(form: &F, out: &mut Vec<u8>, value: &F::Value) -> Resu
 }
 
 /// No spelling of a value begins that of another, in any form.
-#[tactic(auto, using(crate::proofs::Forms::prefix_free))]
 pub fn law_prefix_free<F: Form>(form: &F)
     ensures { IsPrefixFree (F.is_spelled form.now) (F.spelling form.now) }
 {}

@@ -12,6 +12,10 @@ pub fn law_fields()
     ensures number32 { IsForm (is_number 4) (is_number 4) (number 4) (number_at 4) }
     ensures number64 { IsForm (is_number 8) (is_number 8) (number 8) (number_at 8) }
     ensures texts { IsForm is_text is_text text text_at }
+    ensures apart8 { IsPrefixFree (is_number 1) (number 1) }
+    ensures apart16 { IsPrefixFree (is_number 2) (number 2) }
+    ensures apart32 { IsPrefixFree (is_number 4) (number 4) }
+    ensures apart64 { IsPrefixFree (is_number 8) (number 8) }
     ensures apart { IsPrefixFree is_text text }
 {}
 

@@ -14,5 +14,6 @@ returns c = record {
   updates_apart = prefix_free _ _ _ _ dot_form;
   sets_apart = prefix_free _ _ _ _ dots_form;
   vectors_apart = prefix_free _ _ _ _ vector_form;
+  kinds_apart = prefix_free _ _ _ _ kind_form;
   objects_apart = λ has. prefix_free _ _ _ _ (object_form has);
 }

@@ -9,5 +9,9 @@ returns c = record {
   number32 = number_form 4 width4;
   number64 = number_form 8 width8;
   texts = text_form;
+  apart8 = prefix_free _ _ _ _ (number_form 1 width1);
+  apart16 = prefix_free _ _ _ _ (number_form 2 width2);
+  apart32 = prefix_free _ _ _ _ (number_form 4 width4);
+  apart64 = prefix_free _ _ _ _ (number_form 8 width8);
   apart = prefix_free _ _ _ _ text_form;
 }
