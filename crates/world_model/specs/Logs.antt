@@ -24,16 +24,16 @@ module _ {E : Type 0} where
     pub timed : AreTimed log listed
     pub order : AreInOrder IsBefore listed
 
-  -- where the time n is shown that no lease reaches yet: one of 1,000 ticks more, up to the end of time
+  -- a lease for a time that none reaches yet: of 1,000 ticks more, up to the end of time
   abbrev pub lease_at : List (Record E) → ℕ → List (Record E)
   lease_at log n = if leb n (ceiling log) then [] else Lease (min (n + 1000) (2 ^ 62)) ∷ []
 
-  -- what p took of the message that is new to it
+  -- the record of what a message brings, none where that is nothing
   abbrev pub taken_of : PartId → Message E → ℕ → List (Part E) → List (Record E)
   taken_of p m bound [] = []
   taken_of p m bound (x ∷ xs) = Batch (record { from = m.from; to = p.site; part = p.part; lo = bound; hi = m.hi; parts = x ∷ xs }) ∷ []
 
-  -- the records of an event, where transactions have the lead, snapshot and updates of the plan, and the commit vectors of their votes
+  -- the records of an event: each transaction has its lead, its snapshot and its updates there, and the commit vector that its votes give
   abbrev pub records_of : Plan E → List (Entry E) → PartId → List (Record E) → Event E → List (Record E)
   records_of plan run p log (Ticked r n) = lease_at log n
   records_of plan run p log (Began who dep t s) = lease_at log t.time

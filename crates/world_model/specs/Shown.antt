@@ -21,7 +21,7 @@ listed_time (x ∷ xs) t = if same_tx x.0 t then x.1 else listed_time xs t
 abbrev pub IsIdBefore : TxId → TxId → Type 0
 IsIdBefore t u = (t.site < u.site) ⊎ ((t.site ≡ u.site) × ((t.part < u.part) ⊎ ((t.part ≡ u.part) × (t.time < u.time))))
 
--- and with their prepare times: the earlier one, and at the same time by their ids
+-- of two that are pending, with their prepare times: by time, and at the same time by id
 abbrev pub IsBefore : TxId × ℕ → TxId × ℕ → Type 0
 IsBefore x y = (x.1 < y.1) ⊎ ((x.1 ≡ y.1) × IsIdBefore x.0 y.0)
 
