@@ -119,7 +119,7 @@ fn takes_64_mebibytes(rt: HostRuntime) -> Result<(), AllocError> {
 #[test]
 fn the_first_read_fails(rt: HostRuntime) -> Result<(), AllocError> {
     let mut source = SliceSource::new(rt.alloc(), b"cluster 1 1\n");
-    source.fail_at(rt.alloc(), &[1])?;
+    source.fail_at(&[1])?;
     let mut sink = VecSink::new(rt.alloc(), 100)?;
     let status = run(rt.alloc(), &["play"], &mut source, &mut sink);
     assert_eq!(rt; status, Status::READ_FAULT);
