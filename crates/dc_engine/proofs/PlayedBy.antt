@@ -19,9 +19,23 @@ module _ (most : ℕ) (P Q : List (List ℕ) → List ℕ → Type 0) (f : (line
   pub too_long_by : PlayedTooLong most P input left before after → PlayedTooLong most Q input left before after
   too_long_by p = record { read = p.read; next = p.next; written = p.written; from_source = p.from_source; full = p.full; to_sink = p.to_sink; replied = f _ _ p.replied }
 
-module _ (P Q : List (List ℕ) → List ℕ → Type 0) (f : (lines : List (List ℕ)) (bytes : List ℕ) → P lines bytes → Q lines bytes) (input before after : Option (List ℕ)) where
-  pub part_by : PlayedPart P input before after → PlayedPart Q input before after
-  part_by p = record { lines = p.lines; bytes = p.bytes; count = p.count; are_first = p.are_first; replied = f _ _ p.replied; to_sink = p.to_sink }
+  part_by : (size : ℕ) → PlayedPart size most P input left before after → PlayedPart size most Q input left before after
+  part_by size p = record {
+    earlier = p.earlier;
+    block = p.block;
+    more = p.more;
+    written = p.written;
+    reply = p.reply;
+    count = p.count;
+    from_source = p.from_source;
+    fits = p.fits;
+    in_hand = p.in_hand;
+    are_read = p.are_read;
+    are_first = p.are_first;
+    replied_earlier = f _ _ p.replied_earlier;
+    replied = f _ _ p.replied;
+    to_sink = p.to_sink;
+  }
 
 lawful_by : (lines : List (List ℕ)) (bytes : List ℕ) → Replies ReachedBy lines bytes → Answered lines bytes
 lawful_by lines bytes r = reached_lawful r.0.machine lines bytes r.1.reached
@@ -39,5 +53,5 @@ ended_lawful most = ended_by most (Replies ReachedBy) Answered lawful_by
 pub too_long_lawful : (most : ℕ) (input left before after : Option (List ℕ)) → PlayedTooLong most (Replies ReachedBy) input left before after → PlayedTooLong most Answered input left before after
 too_long_lawful most = too_long_by most (Replies ReachedBy) Answered lawful_by
 
-pub part_lawful : (input before after : Option (List ℕ)) → PlayedPart (Replies ReachedBy) input before after → PlayedPart Answered input before after
-part_lawful = part_by (Replies ReachedBy) Answered lawful_by
+pub part_lawful : (size most : ℕ) (input left before after : Option (List ℕ)) → PlayedPart size most (Replies ReachedBy) input left before after → PlayedPart size most Answered input left before after
+part_lawful size most input left before after = part_by most (Replies ReachedBy) Answered lawful_by input left before after size

@@ -1,17 +1,16 @@
 -- What was read and written so far, block by block.
 use Rattle.std.specs.Prelude.{Ok}
-use Rattle.std.proofs.Common.{◌≡◌, ◌≢◌, ℕ, zero, suc, ◌+◌, ◌-◌, ◌≤◌, Bool, true, List, [], ◌∷◌, ◌++◌, Option, Some, None, length, take, refl, sym, ap, zero-add, ◌∙◌, subst, arith, append_assoc, length-append}
-use Rattle.std.proofs.lemmas.List.{append-nil, take_all, length-take-le}
-use Rattle.std.proofs.Math.Seq.{take-append-add}
-use Rattle.std.specs.Io.KnownBytes.{Appends, Consumes, Keeps, IsAtEnd}
+use Rattle.std.proofs.Common.{◌≡◌, ◌≢◌, ℕ, zero, suc, ◌-◌, ◌≤◌, Bool, true, List, [], ◌∷◌, ◌++◌, Option, Some, None, length, take, refl, sym, ap, zero-add, ◌∙◌, subst, arith, append_assoc, length-append}
+use Rattle.std.proofs.lemmas.List.{append-nil, length-take-le}
+use Rattle.std.specs.Io.KnownBytes.{Consumes, Keeps, IsAtEnd}
 use Rattle.dc_engine.specs.Lines.{lines_of, ended_lines}
 use Rattle.dc_engine.specs.Reading.{has_bad}
 use Rattle.dc_engine.specs.Replies.{Replies, RepliesAll}
 use Rattle.dc_engine.specs.declared.fault.Fault.{Fault}
 use Rattle.dc_engine.specs.declared.fault.Fault.TheVariants as fault
-use Rattle.dc_engine.specs.Played.{Played, PlayedEnded, PlayedTooLong, PlayedPart, AreFirst}
-use Rattle.dc_engine.specs.Blocks.{Progress, Stopped, GoesOn, At, AppendsPart, Writes, WritesPart, Ends, EndsPart, TakesOne}
-use Rattle.dc_engine.proofs.Standing.{stands_start, stands-ended, stands-first}
+use Rattle.dc_engine.specs.Played.{Played, PlayedEnded, PlayedTooLong, PlayedPart, AreFirst, IsFront}
+use Rattle.dc_engine.specs.Blocks.{Progress, Stopped, GoesOn, At, prefixed_first, Writes, WritesPart, Ends, EndsPart, TakesOne}
+use Rattle.dc_engine.proofs.Standing.{stands_start, stands-ended, stands-first, stands-more}
 use Rattle.dc_engine.proofs.Written.{written_none, appends_more}
 
 taken_none : (input : Option (List ℕ)) → Consumes input input []
@@ -30,8 +29,9 @@ taken_kept (Some o) None q xs a b = absurd a
 taken_kept (Some o) (Some p) None xs a b = b
 taken_kept (Some o) (Some p) (Some q) xs a b = a ∙ ap (λ s. xs ++ s) (sym b)
 
-written_part : (o p q : Option (List ℕ)) (xs ys : List ℕ) → Appends o p xs → (a : AppendsPart p q ys) → Appends o q (take (length xs + a.0) (xs ++ ys))
-written_part o p q xs ys w a = appends_more o p q xs (take a.0 ys) (take (length xs + a.0) (xs ++ ys)) w a.1 (take-append-add xs ys a.0)
+none_first : (input : Option (List ℕ)) → AreFirst [] input
+none_first None = tt
+none_first (Some xs) = (lines_of xs, refl)
 
 first_of_input : (input left : Option (List ℕ)) (read : List ℕ) (lines : List (List ℕ)) → ((more : List ℕ) → (later : List (List ℕ)) × (lines_of (read ++ more) ≡ lines ++ later)) → Consumes input left read → AreFirst lines input
 first_of_input None left read lines f c = tt
@@ -104,76 +104,99 @@ module _ {M : Type 0} (most : ℕ) (reached : M → List (List ℕ) → List ℕ
     replied = ended m p.read kept p.written p.at;
   }
 
-  pub progress_part : (m : M) (input left before after : Option (List ℕ)) (kept : List ℕ) (room : ℕ) → Progress most reached m input left before after kept room → PlayedPart (Replies reached) input before after
-  progress_part m input left before after kept room p = record {
-    lines = p.at.lines;
-    bytes = p.written;
-    count = length p.written;
-    are_first = first_of_input input left p.read p.at.lines (λ more. stands-first p.read more p.at.lines p.at.pending p.at.stands) p.from_source;
-    replied = (m, p.at.replied);
-    to_sink = subst (Appends before after) (sym (take_all (length p.written) p.written (omega arith))) p.to_sink;
+  pub part_none : (size : ℕ) (m : M) (input before : Option (List ℕ)) → reached m [] [] → PlayedPart size most (Replies reached) input input before before
+  part_none size m input before r = record {
+    earlier = [];
+    block = [];
+    more = [];
+    written = [];
+    reply = [];
+    count = 0;
+    from_source = taken_none input;
+    fits = omega arith;
+    in_hand = omega arith;
+    are_read = ([], refl);
+    are_first = none_first input;
+    replied_earlier = (m, r);
+    replied = (m, r);
+    to_sink = written_none before;
   }
 
-  pub part_none : (m : M) (input before : Option (List ℕ)) → reached m [] [] → PlayedPart (Replies reached) input before before
-  part_none m input before r = progress_part m input input before before [] most (progress_start m input before r)
-
-  pub part_block : (m : M) (input left rest before mid after : Option (List ℕ)) (kept piece : List ℕ) (room : ℕ) →
-      Progress most reached m input left before mid kept room → Consumes left rest piece → WritesPart reached m piece kept mid after → PlayedPart (Replies reached) input before after
-  part_block m input left rest before mid after kept piece room p c w =
+  pub part_block : (size : ℕ) (m : M) (input left rest before mid after : Option (List ℕ)) (kept piece : List ℕ) (room : ℕ) →
+      length piece ≤ size → length piece ≤ room → Progress most reached m input left before mid kept room → Consumes left rest piece → WritesPart reached m piece kept mid after → PlayedPart size most (Replies reached) input rest before after
+  part_block size m input left rest before mid after kept piece room within fits p c w =
       let at = w.moved p.read p.written p.at in
       let all : Consumes input rest (p.read ++ piece) = taken_more input left rest p.read piece p.from_source c in
+      let next = stands-more p.read w.done p.at.lines at.lines p.at.pending at.pending p.at.stands at.stands in
+      let front : (more : List ℕ) → (later : List (List ℕ)) × (lines_of ((p.read ++ piece) ++ more) ≡ at.lines ++ later) =
+      λ more. let first = stands-first (p.read ++ w.done) (w.later ++ more) at.lines at.pending at.stands in
+      (first.0, ap lines_of (ap (λ s. (p.read ++ s) ++ more) w.split ∙ ap (λ s. s ++ more) (sym (append_assoc p.read w.done w.later)) ∙ append_assoc (p.read ++ w.done) w.later more) ∙ first.1) in
       record {
-        lines = at.lines;
-        bytes = p.written ++ w.reply;
-        count = length p.written + w.to_sink.0;
-        are_first = first_of_input input rest (p.read ++ piece) at.lines
-            (λ more. let first = stands-first (p.read ++ w.done) (w.later ++ more) at.lines at.pending at.stands in
-            (first.0, ap lines_of (ap (λ s. (p.read ++ s) ++ more) w.split ∙ ap (λ s. s ++ more) (sym (append_assoc p.read w.done w.later)) ∙ append_assoc (p.read ++ w.done) w.later more) ∙ first.1)) all;
-        replied = (w.new, at.replied);
-        to_sink = written_part before mid after p.written w.reply p.to_sink w.to_sink;
+        earlier = p.read;
+        block = piece;
+        more = prefixed_first p.at.pending (ended_lines w.done);
+        written = p.written;
+        reply = w.reply;
+        count = w.to_sink.0;
+        from_source = all;
+        fits = omega (arith, length-append p.read piece, p.count);
+        in_hand = within;
+        are_read = subst (λ l. IsFront l (lines_of (p.read ++ piece))) next ((front []).0, ap lines_of (sym (append-nil (p.read ++ piece))) ∙ (front []).1);
+        are_first = subst (λ l. AreFirst l input) next (first_of_input input rest (p.read ++ piece) at.lines front all);
+        replied_earlier = ended m p.read kept p.written p.at;
+        replied = subst (λ l. Replies reached l (p.written ++ w.reply)) next (w.new, at.replied);
+        to_sink = appends_more before mid after p.written (take w.to_sink.0 w.reply) (p.written ++ take w.to_sink.0 w.reply) p.to_sink w.to_sink.1 refl;
       }
 
-  pub part_end : (m : M) (input left rest before mid after : Option (List ℕ)) (kept : List ℕ) (room : ℕ) →
-      Progress most reached m input left before mid kept room → Consumes left rest [] → IsAtEnd rest → EndsPart reached m kept mid after → PlayedPart (Replies reached) input before after
-  part_end m input left rest before mid after kept room p c e w =
+  pub part_end : (size : ℕ) (m : M) (input left rest before mid after : Option (List ℕ)) (kept : List ℕ) (room : ℕ) →
+      Progress most reached m input left before mid kept room → Consumes left rest [] → IsAtEnd rest → EndsPart reached m kept mid after → PlayedPart size most (Replies reached) input rest before after
+  part_end size m input left rest before mid after kept room p c e w =
       let first = w.moved p.read p.written p.at in
-      let all : Consumes input rest p.read = subst (Consumes input rest) (append-nil p.read) (taken_more input left rest p.read [] p.from_source c) in
+      let all = taken_more input left rest p.read [] p.from_source c in
       record {
-        lines = first.lines;
-        bytes = p.written ++ w.reply;
-        count = length p.written + w.to_sink.0;
-        are_first = first_at_end input rest p.read first.lines first.later first.split all e;
+        earlier = p.read;
+        block = [];
+        more = first.more;
+        written = p.written;
+        reply = w.reply;
+        count = w.to_sink.0;
+        from_source = all;
+        fits = omega (arith, length-append p.read [], p.count);
+        in_hand = omega arith;
+        are_read = (first.later, ap lines_of (append-nil p.read) ∙ first.split);
+        are_first = first_at_end input rest p.read (ended_lines p.read ++ first.more) first.later first.split (subst (Consumes input rest) (append-nil p.read) all) e;
+        replied_earlier = ended m p.read kept p.written p.at;
         replied = (w.new, first.replied);
-        to_sink = written_part before mid after p.written w.reply p.to_sink w.to_sink;
+        to_sink = appends_more before mid after p.written (take w.to_sink.0 w.reply) (p.written ++ take w.to_sink.0 w.reply) p.to_sink w.to_sink.1 refl;
       }
 
-  pub stopped_read : (e : Fault) (input left before after : Option (List ℕ)) → e ≡ fault.Read → PlayedEnded most (Replies reached) input left before after → Stopped most reached input left before after e
-  stopped_read e input left before after h p = subst (Stopped most reached input left before after) (sym h) p
+  pub stopped_read : (size : ℕ) (e : Fault) (input left before after : Option (List ℕ)) → e ≡ fault.Read → PlayedEnded most (Replies reached) input left before after → Stopped size most reached input left before after e
+  stopped_read size e input left before after h p = subst (Stopped size most reached input left before after) (sym h) p
 
-  pub stopped_part : (e : Fault) (input left before after : Option (List ℕ)) → (e ≢ fault.Read) × (e ≢ fault.TooLong) → PlayedPart (Replies reached) input before after → Stopped most reached input left before after e
-  stopped_part fault.Read input left before after h p = absurd (h.0 refl)
-  stopped_part fault.Write input left before after h p = p
-  stopped_part fault.NoMemory input left before after h p = p
-  stopped_part fault.TooLong input left before after h p = absurd (h.1 refl)
+  pub stopped_part : (size : ℕ) (e : Fault) (input left before after : Option (List ℕ)) → (e ≢ fault.Read) × (e ≢ fault.TooLong) → PlayedPart size most (Replies reached) input left before after → Stopped size most reached input left before after e
+  stopped_part size fault.Read input left before after h p = absurd (h.0 refl)
+  stopped_part size fault.Write input left before after h p = p
+  stopped_part size fault.NoMemory input left before after h p = p
+  stopped_part size fault.TooLong input left before after h p = absurd (h.1 refl)
 
-  pub goes_on : (m new : M) (input left rest before mid after : Option (List ℕ)) (kept new_kept block : List ℕ) (room count : ℕ) →
+  pub goes_on : (size : ℕ) (m new : M) (input left rest before mid after : Option (List ℕ)) (kept new_kept block : List ℕ) (room count : ℕ) →
       Progress most reached m input left before mid kept room → Consumes left rest (take count block) → count ≤ length block → count ≤ room → (count ≡ 0 → ⊥) → Writes reached m new (take count block) kept new_kept mid after →
-      GoesOn most reached new input rest before after new_kept room (Ok count)
-  goes_on m new input left rest before mid after kept new_kept block room zero p c l r n w = absurd (n refl)
-  goes_on m new input left rest before mid after kept new_kept block room (suc count) p c l r n w =
+      GoesOn size most reached new input rest before after new_kept room (Ok count)
+  goes_on size m new input left rest before mid after kept new_kept block room zero p c l r n w = absurd (n refl)
+  goes_on size m new input left rest before mid after kept new_kept block room (suc count) p c l r n w =
       (r, progress_more m new input left rest before mid after kept new_kept (take (suc count) block) room (suc count) p c (length-take-le (suc count) block l) r w)
 
-  pub room_for : (m : M) (input left before after : Option (List ℕ)) (kept : List ℕ) (room count : ℕ) → GoesOn most reached m input left before after kept room (Ok count) → count ≤ room
-  room_for m input left before after kept room zero h = omega arith
-  room_for m input left before after kept room (suc count) h = h.0
+  pub room_for : (size : ℕ) (m : M) (input left before after : Option (List ℕ)) (kept : List ℕ) (room count : ℕ) → GoesOn size most reached m input left before after kept room (Ok count) → count ≤ room
+  room_for size m input left before after kept room zero h = omega arith
+  room_for size m input left before after kept room (suc count) h = h.0
 
-  pub goes_on_end : (m : M) (input left before after : Option (List ℕ)) (kept : List ℕ) (room count : ℕ) → GoesOn most reached m input left before after kept room (Ok count) → count ≡ 0 → Played most (reached m) input left before after
-  goes_on_end m input left before after kept room zero h e = h
-  goes_on_end m input left before after kept room (suc count) h e = absurd (omega arith)
+  pub goes_on_end : (size : ℕ) (m : M) (input left before after : Option (List ℕ)) (kept : List ℕ) (room count : ℕ) → GoesOn size most reached m input left before after kept room (Ok count) → count ≡ 0 → Played most (reached m) input left before after
+  goes_on_end size m input left before after kept room zero h e = h
+  goes_on_end size m input left before after kept room (suc count) h e = absurd (omega arith)
 
-  pub goes_on_more : (m : M) (input left before after : Option (List ℕ)) (kept : List ℕ) (room count : ℕ) → GoesOn most reached m input left before after kept room (Ok count) → (count ≡ 0 → ⊥) → Progress most reached m input left before after kept (room - count)
-  goes_on_more m input left before after kept room zero h e = absurd (e refl)
-  goes_on_more m input left before after kept room (suc count) h e = h.1
+  pub goes_on_more : (size : ℕ) (m : M) (input left before after : Option (List ℕ)) (kept : List ℕ) (room count : ℕ) → GoesOn size most reached m input left before after kept room (Ok count) → (count ≡ 0 → ⊥) → Progress most reached m input left before after kept (room - count)
+  goes_on_more size m input left before after kept room zero h e = absurd (e refl)
+  goes_on_more size m input left before after kept room (suc count) h e = h.1
 
 -- a script that was read to its end, and whether a line of it isn't in the grammar
 pub played_all : {M : Type 0} (most : ℕ) (reached : M → List (List ℕ) → List ℕ → Type 0) (m : M) (bad : Bool) (input left before after : Option (List ℕ)) →

@@ -87,6 +87,11 @@ pub no_end_of : (bytes : List ℕ) (r : Option ℕ) → IsFirstByte (is_byte 10)
 no_end_of bytes None f = subst HasNoEnd (take_all (length bytes) bytes (omega arith)) (no_end bytes (length bytes) (omega arith) (λ k lt e. f k (omega arith) lt (eq-eqb _ _ e)))
 no_end_of bytes (Some at) f = tt
 
+-- the lines whose LF was read, after some bytes and after more of them
+pub stands-more : (read more : List ℕ) (lines next : List (List ℕ)) (pending rest : List ℕ) → Stands read lines pending → Stands (read ++ more) next rest → next ≡ ended_lines read ++ prefixed_first pending (ended_lines more)
+stands-more read more lines next pending rest s t =
+    sym (stands-ended (read ++ more) next rest t) ∙ s.ended more ∙ ap (λ l. l ++ prefixed_first pending (ended_lines more)) (sym (stands-ended read lines pending s))
+
 -- the lines whose LF was read stand first, whatever comes
 pub stands-first : (read more : List ℕ) (lines : List (List ℕ)) (pending : List ℕ) → Stands read lines pending → (later : List (List ℕ)) × (lines_of (read ++ more) ≡ lines ++ later)
 stands-first read more lines pending s = (prefixed pending (lines_of more), s.whole more)

@@ -4,10 +4,10 @@ use Rattle.std.proofs.lemmas.Bool.{eqb-true, eqb-false}
 use Rattle.std.proofs.lemmas.List.{append-nil, length-take, take-take, drop-take, take-append-drop}
 use Rattle.std.specs.Prelude.{Result, Ok, Err, OnErr}
 use Rattle.std.specs.Io.KnownBytes.{Appends}
-use Rattle.dc_engine.specs.Lines.{lines_of}
+use Rattle.dc_engine.specs.Lines.{lines_of, ended_lines}
 use Rattle.dc_engine.specs.Replies.{AnswersLine}
 use Rattle.dc_engine.specs.Blocks.{Stands, At, Moves, MovesPart, AppendsPart, Writes, WritesPart, Ends, EndsPart}
-use Rattle.dc_engine.proofs.Standing.{stands-whole, stands-last, stands-first}
+use Rattle.dc_engine.proofs.Standing.{stands-whole, stands-last, stands-first, stands-ended}
 
 take_split : (bytes : List ℕ) (k n : ℕ) → take k bytes ++ take n (drop k bytes) ≡ take (k + n) bytes
 take_split bytes k n = ap (λ s. s ++ take n (drop k bytes)) (sym (take-take k (k + n) bytes (omega arith))) ∙ ap (λ s. take k (take (k + n) bytes) ++ s) (sym (drop-take k n bytes)) ∙ take-append-drop k (take (k + n) bytes)
@@ -92,7 +92,12 @@ ends_front reached old new kept out new_out before after h a e w = record {
   new = new;
   reply = a.reply;
   to_sink = subst (AppendsPart before after) (sym (replies_of out new_out a.reply a.appended e)) w;
-  moved = λ read bytes s. record { lines = lines_of read; later = []; split = sym (append-nil (lines_of read)); replied = last_answered reached old new kept out new_out a read bytes h s };
+  moved = λ read bytes s. let all = stands-ended read s.lines s.pending s.stands in record {
+    more = s.pending ∷ [];
+    later = [];
+    split = stands-last read s.lines s.pending (some_pending kept s.pending h s.is_kept) s.stands ∙ ap (λ l. l ++ s.pending ∷ []) (sym all) ∙ sym (append-nil (ended_lines read ++ s.pending ∷ []));
+    replied = subst (λ l. reached new (l ++ s.pending ∷ []) (bytes ++ a.reply)) (sym all) (a.answered s.pending s.lines bytes (sym s.is_kept) s.replied);
+  };
 }
 
 pub ends_before : {M : Type 0} (reached : M → List (List ℕ) → List ℕ → Type 0) (m : M) (kept : List ℕ) (before : Option (List ℕ)) → EndsPart reached m kept before before
@@ -100,7 +105,15 @@ ends_before reached m kept before = record {
   new = m;
   reply = [];
   to_sink = (0, written_none before);
-  moved = λ read bytes s. let first = stands-first read [] s.lines s.pending s.stands in record { lines = s.lines; later = first.0; split = ap lines_of (sym (append-nil read)) ∙ first.1; replied = subst (reached m s.lines) (sym (append-nil bytes)) s.replied };
+  moved = λ read bytes s.
+      let first = stands-first read [] s.lines s.pending s.stands in
+      let all : s.lines ≡ ended_lines read ++ [] = sym (stands-ended read s.lines s.pending s.stands) ∙ sym (append-nil (ended_lines read)) in
+      record {
+        more = [];
+        later = first.0;
+        split = ap lines_of (sym (append-nil read)) ∙ first.1 ∙ ap (λ l. l ++ first.0) all;
+        replied = subst (λ l. reached m l (bytes ++ [])) all (subst (reached m s.lines) (sym (append-nil bytes)) s.replied);
+      };
 }
 
 pub on_err : {T X : Type 0} (r : Result T X) (P : Type 0) → P → OnErr r P

@@ -83,12 +83,12 @@ pub record Ends {M : Type 0} (reached : M → List (List ℕ) → List ℕ → T
   pub to_sink : Appends before after reply
   pub moved : (read bytes : List ℕ) → At reached old read kept bytes → reached new (lines_of read) (bytes ++ reply)
 
--- a state has answered the first lines of the bytes read
+-- a state has answered the first lines of the bytes read, among them all whose LF was read
 pub record AnswersFirst {M : Type 0} (reached : M → List (List ℕ) → List ℕ → Type 0) (m : M) (read bytes : List ℕ) : Type 0 where
-  pub lines : List (List ℕ)
+  pub more : List (List ℕ)
   pub later : List (List ℕ)
-  pub split : lines_of read ≡ lines ++ later
-  pub replied : reached m lines bytes
+  pub split : lines_of read ≡ (ended_lines read ++ more) ++ later
+  pub replied : reached m (ended_lines read ++ more) bytes
 
 -- at the end of the input a front of the last reply was written
 pub record EndsPart {M : Type 0} (reached : M → List (List ℕ) → List ℕ → Type 0) (old : M) (kept : List ℕ) (before after : Option (List ℕ)) : Type 0 where
@@ -111,20 +111,20 @@ pub record Progress {M : Type 0} (most : ℕ) (reached : M → List (List ℕ) �
   pub to_sink : Appends before after written
   pub at : At reached m read kept written
 
--- how a script is left at a fault
-abbrev pub Stopped : {M : Type 0} → ℕ → (M → List (List ℕ) → List ℕ → Type 0) → Option (List ℕ) → Option (List ℕ) → Option (List ℕ) → Option (List ℕ) → Fault → Type 0
-Stopped most reached input left before after fault.Read = PlayedEnded most (Replies reached) input left before after
-Stopped most reached input left before after fault.TooLong = PlayedTooLong most (Replies reached) input left before after
-Stopped most reached input left before after fault.Write = PlayedPart (Replies reached) input before after
-Stopped most reached input left before after fault.NoMemory = PlayedPart (Replies reached) input before after
+-- how a script that is read by blocks of at most `size` bytes is left at a fault
+abbrev pub Stopped : {M : Type 0} → ℕ → ℕ → (M → List (List ℕ) → List ℕ → Type 0) → Option (List ℕ) → Option (List ℕ) → Option (List ℕ) → Option (List ℕ) → Fault → Type 0
+Stopped size most reached input left before after fault.Read = PlayedEnded most (Replies reached) input left before after
+Stopped size most reached input left before after fault.TooLong = PlayedTooLong most (Replies reached) input left before after
+Stopped size most reached input left before after fault.Write = PlayedPart size most (Replies reached) input left before after
+Stopped size most reached input left before after fault.NoMemory = PlayedPart size most (Replies reached) input left before after
 
 -- a script is played to its end, where m has answered it, or left at a fault
-abbrev pub Finished : {M T : Type 0} → ℕ → (M → List (List ℕ) → List ℕ → Type 0) → M → Option (List ℕ) → Option (List ℕ) → Option (List ℕ) → Option (List ℕ) → Result T Fault → Type 0
-Finished most reached m input left before after (Ok done) = Played most (reached m) input left before after
-Finished most reached m input left before after (Err e) = Stopped most reached input left before after e
+abbrev pub Finished : {M T : Type 0} → ℕ → ℕ → (M → List (List ℕ) → List ℕ → Type 0) → M → Option (List ℕ) → Option (List ℕ) → Option (List ℕ) → Option (List ℕ) → Result T Fault → Type 0
+Finished size most reached m input left before after (Ok done) = Played most (reached m) input left before after
+Finished size most reached m input left before after (Err e) = Stopped size most reached input left before after e
 
 -- the script goes on by a block of so many bytes, or is played to its end where there are none, or is left at a fault
-abbrev pub GoesOn : {M : Type 0} → ℕ → (M → List (List ℕ) → List ℕ → Type 0) → M → Option (List ℕ) → Option (List ℕ) → Option (List ℕ) → Option (List ℕ) → List ℕ → ℕ → Result ℕ Fault → Type 0
-GoesOn most reached m input left before after kept room (Ok zero) = Played most (reached m) input left before after
-GoesOn most reached m input left before after kept room (Ok (suc n)) = (suc n ≤ room) × Progress most reached m input left before after kept (room - suc n)
-GoesOn most reached m input left before after kept room (Err e) = Stopped most reached input left before after e
+abbrev pub GoesOn : {M : Type 0} → ℕ → ℕ → (M → List (List ℕ) → List ℕ → Type 0) → M → Option (List ℕ) → Option (List ℕ) → Option (List ℕ) → Option (List ℕ) → List ℕ → ℕ → Result ℕ Fault → Type 0
+GoesOn size most reached m input left before after kept room (Ok zero) = Played most (reached m) input left before after
+GoesOn size most reached m input left before after kept room (Ok (suc n)) = (suc n ≤ room) × Progress most reached m input left before after kept (room - suc n)
+GoesOn size most reached m input left before after kept room (Err e) = Stopped size most reached input left before after e

@@ -38,11 +38,24 @@ abbrev pub AreFirst : List (List ℕ) → Option (List ℕ) → Type 0
 AreFirst lines None = ⊤
 AreFirst lines (Some input) = (later : List (List ℕ)) × (lines_of input ≡ lines ++ later)
 
--- a front of the replies to a front of the lines was written
-pub record PlayedPart (replies : List (List ℕ) → List ℕ → Type 0) (input before after : Option (List ℕ)) : Type 0 where
-  pub lines : List (List ℕ)
-  pub bytes : List ℕ
+-- these lines stand at the front of all
+abbrev pub IsFront : List (List ℕ) → List (List ℕ) → Type 0
+IsFront lines all = (later : List (List ℕ)) × (all ≡ lines ++ later)
+
+-- at most `most` bytes were read, at most `size` of them as the last block: the replies to the lines whose LF was read before that
+-- block were written, and then a front of the replies to the next lines
+pub record PlayedPart (size most : ℕ) (replies : List (List ℕ) → List ℕ → Type 0) (input left before after : Option (List ℕ)) : Type 0 where
+  pub earlier : List ℕ
+  pub block : List ℕ
+  pub more : List (List ℕ)
+  pub written : List ℕ
+  pub reply : List ℕ
   pub count : ℕ
-  pub are_first : AreFirst lines input
-  pub replied : replies lines bytes
-  pub to_sink : Appends before after (take count bytes)
+  pub from_source : Consumes input left (earlier ++ block)
+  pub fits : length (earlier ++ block) ≤ most
+  pub in_hand : length block ≤ size
+  pub are_read : IsFront (ended_lines earlier ++ more) (lines_of (earlier ++ block))
+  pub are_first : AreFirst (ended_lines earlier ++ more) input
+  pub replied_earlier : replies (ended_lines earlier) written
+  pub replied : replies (ended_lines earlier ++ more) (written ++ reply)
+  pub to_sink : Appends before after (written ++ take count reply)

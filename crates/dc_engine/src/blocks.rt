@@ -144,7 +144,7 @@ fn play_block<S: Source, K: Sink, R: Responder>(
     ensures write_later { K.faults sink.old ≤ K.faults sink.new }
     ensures read_cause { result ≡ Err Fault.Read → Rose (S.faults source.old) (S.faults source.new) }
     ensures write_cause { result ≡ Err Fault.Write → Rose (K.faults sink.old) (K.faults sink.new) }
-    ensures goes_on { (most : ℕ) (input before : Option (List ℕ)) → Progress most R.reached responder.old input (S.left source.old) before (K.held sink.old) buffers.old.kept room → GoesOn most R.reached responder.new input (S.left source.new) before (K.held sink.new) buffers.new.kept room result }
+    ensures goes_on { (size most : ℕ) (input before : Option (List ℕ)) → length block.old ≤ size → Progress most R.reached responder.old input (S.left source.old) before (K.held sink.old) buffers.old.kept room → GoesOn size most R.reached responder.new input (S.left source.new) before (K.held sink.new) buffers.new.kept room result }
 {
     let count = match read_block(source, block, room) {
         Ok(count) => count,
@@ -174,7 +174,7 @@ fn play_end<S: Source, K: Sink, R: Responder>(
     ensures write_later { K.faults sink.old ≤ K.faults sink.new }
     ensures read_cause { result ≡ Err Fault.Read → Rose (S.faults source.old) (S.faults source.new) }
     ensures write_cause { result ≡ Err Fault.Write → Rose (K.faults sink.old) (K.faults sink.new) }
-    ensures finished { (most : ℕ) (input before : Option (List ℕ)) → Progress most R.reached responder.old input (S.left source.old) before (K.held sink.old) buffers.old.kept 0 → Finished most R.reached responder.new input (S.left source.new) before (K.held sink.new) result }
+    ensures finished { (size most : ℕ) (input before : Option (List ℕ)) → Progress most R.reached responder.old input (S.left source.old) before (K.held sink.old) buffers.old.kept 0 → Finished size most R.reached responder.new input (S.left source.new) before (K.held sink.new) result }
 {
     match has_more(source) {
         Ok(true) => Err(Fault::TooLong),
@@ -197,7 +197,7 @@ pub(crate) fn play_blocks<S: Source, K: Sink, R: Responder>(
 ) -> Result<(), Fault>
     requires fresh { R.reached responder.old [] [] }
     requires some { 0 < size }
-    ensures finished { Finished most R.reached responder.new (S.left source.old) (S.left source.new) (K.held sink.old) (K.held sink.new) result }
+    ensures finished { Finished size most R.reached responder.new (S.left source.old) (S.left source.new) (K.held sink.old) (K.held sink.new) result }
     ensures read_cause { result ≡ Err Fault.Read → Rose (S.faults source.old) (S.faults source.new) }
     ensures write_cause { result ≡ Err Fault.Write → Rose (K.faults sink.old) (K.faults sink.new) }
 {

@@ -1,4 +1,6 @@
 // The trusted edge: any reader and writer of std, with a count of its faults.
+ghost use Rattle.std.specs.Prelude.{◌≡◌};
+
 use crate::sink::Sink;
 use crate::source::{Failed, Source};
 use std::io::{Read, Write};
@@ -11,7 +13,11 @@ pub struct Reading<R: Read + Drop> {
 }
 
 impl<R: Read + Drop> Reading<R> {
-    pub fn new(inner: R) -> Self {
+    /// Reads what this reader reads, with no fault yet.
+    pub fn new(inner: R) -> Self
+        ensures inner { result.inner ≡ inner }
+        ensures faults { result.faults ≡ 0 }
+    {
         Reading { inner, faults: 0 }
     }
 }
@@ -41,7 +47,11 @@ pub struct Writing<W: Write + Drop> {
 }
 
 impl<W: Write + Drop> Writing<W> {
-    pub fn new(inner: W) -> Self {
+    /// Writes what this writer writes, with no fault yet.
+    pub fn new(inner: W) -> Self
+        ensures inner { result.inner ≡ inner }
+        ensures faults { result.faults ≡ 0 }
+    {
         Writing { inner, faults: 0 }
     }
 }

@@ -28,5 +28,5 @@ pub use edge::{Reading, Writing};
 pub use memory::{Calls, SliceSource, VecSink};
 pub use sink::Sink;
 pub use source::{Failed, Source};
-pub use status::Status;
+pub use status::{Status, law_statuses};
 pub use top::{play, run};

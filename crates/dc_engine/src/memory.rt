@@ -1,8 +1,8 @@
-ghost use Rattle.std.specs.Prelude.{◌≡◌, ◌≤◌, ◌<◌, ◌-◌, ◌^◌, [], is_err, length, IfOk, OnOk, OnErr, Err, IsTrue};
+ghost use Rattle.std.specs.Prelude.{◌≡◌, ◌≤◌, ◌<◌, ◌-◌, ◌^◌, ◌||◌, [], is_err, length, min, vec_len, vec_capacity, if◌then◌else◌, IfOk, OnOk, OnErr};
 ghost use Rattle.std.specs.Io.{ReadsAtMost, WritesAtMost};
 ghost use Rattle.std.specs.Io.KnownBytes.{ReadConsumes, WriteAppends};
 ghost use Rattle.dc_engine.specs.Causes.{HasCause};
-ghost use Rattle.dc_engine.specs.Memory.{counted, is_listed};
+ghost use Rattle.dc_engine.specs.Memory.{counted, is_listed, is_full};
 
 use crate::sink::Sink;
 use crate::source::{Failed, Source};
@@ -45,6 +45,18 @@ impl Calls {
         self.failing.as_slice().contains(&made)
     }
 
+    /// From now on the calls with these numbers are to fail.
+    fn list(&mut self, calls: &[u64]) -> Result<(), AllocError>
+        ensures ok { OnOk result (self.new.failing.items ≡ calls.now) }
+        ensures err { OnErr result (self.new ≡ self.old) }
+        ensures made { self.new.made ≡ self.old.made }
+        ensures failed { self.new.failed ≡ self.old.failed }
+    {
+        let alloc = *self.failing.allocator();
+        self.failing = Vec::from_slice(alloc, calls)?;
+        Ok(())
+    }
+
     /// Counts a fault.
     fn fail(&mut self)
         ensures failed { self.new.failed ≡ counted self.old.failed }
@@ -53,13 +65,6 @@ impl Calls {
     {
         self.failed = self.failed.saturating_add(1);
     }
-}
-
-/// The numbers of a slice.
-fn list_of(alloc: Global, calls: &[u64]) -> Result<Vec<u64>, AllocError>
-    ensures { IfOk result (λ v. v.items ≡ calls.now) }
-{
-    Vec::from_slice(alloc, calls)
 }
 
 /// A source that reads a slice.
@@ -73,7 +78,9 @@ impl<'a> SliceSource<'a> {
     /// All these bytes are left. Takes no memory.
     pub fn new(alloc: Global, bytes: &'a [u8]) -> SliceSource<'a>
         ensures left { result.rest.now ≡ bytes.now }
+        ensures made { result.calls.made ≡ 0 }
         ensures failing { result.calls.failing.items ≡ [] }
+        ensures failed { result.calls.failed ≡ 0 }
     {
         SliceSource {
             rest: bytes,
@@ -85,13 +92,15 @@ impl<'a> SliceSource<'a> {
     ///
     /// # Errors
     ///
-    /// `AllocError` where memory runs out. The list is as before then.
-    pub fn fail_at(&mut self, alloc: Global, calls: &[u64]) -> Result<(), AllocError>
+    /// `AllocError` where memory runs out. The source is as before then.
+    pub fn fail_at(&mut self, calls: &[u64]) -> Result<(), AllocError>
         ensures ok { OnOk result (self.new.calls.failing.items ≡ calls.now) }
+        ensures err { OnErr result (self.new ≡ self.old) }
+        ensures made { self.new.calls.made ≡ self.old.calls.made }
+        ensures failed { self.new.calls.failed ≡ self.old.calls.failed }
         ensures left { self.new.rest.now ≡ self.old.rest.now }
     {
-        self.calls.failing = list_of(alloc, calls)?;
-        Ok(())
+        self.calls.list(calls)
     }
 
     /// The bytes that are left.
@@ -114,6 +123,10 @@ impl<'a> Source for SliceSource<'a> {
         ensures bytes { ReadConsumes (Some self.old.rest.now) (Some self.new.rest.now) result buf.new }
         ensures cause { HasCause self.old.calls.failed self.new.calls.failed result }
         ensures listed { is_err result ≡ is_listed self.old.calls.failing.items self.old.calls.made }
+        ensures count { IfOk result (λ n. n ≡ min (length self.old.rest.now) (length buf.old)) }
+        ensures made { self.new.calls.made ≡ counted self.old.calls.made }
+        ensures failing { self.new.calls.failing.items ≡ self.old.calls.failing.items }
+        ensures failed { self.new.calls.failed ≡ (if is_err result then counted self.old.calls.failed else self.old.calls.failed) }
     {
         if self.calls.begin() {
             self.calls.fail();
@@ -133,6 +146,8 @@ pub struct VecSink {
     held: Vec<u8>,
     room: usize,
     calls: Calls,
+    ghost within: { vec_len held ≤ room },
+    ghost taken: { room ≤ vec_capacity held },
 }
 
 impl VecSink {
@@ -144,7 +159,9 @@ impl VecSink {
     pub fn new(alloc: Global, room: usize) -> Result<VecSink, AllocError>
         ensures held { IfOk result (λ s. s.held.items ≡ []) }
         ensures room { IfOk result (λ s. s.room ≡ room) }
+        ensures made { IfOk result (λ s. s.calls.made ≡ 0) }
         ensures failing { IfOk result (λ s. s.calls.failing.items ≡ []) }
+        ensures failed { IfOk result (λ s. s.calls.failed ≡ 0) }
     {
         let held = Vec::with_capacity(alloc, room)?;
         Ok(VecSink {
@@ -158,13 +175,16 @@ impl VecSink {
     ///
     /// # Errors
     ///
-    /// `AllocError` where memory runs out. The list is as before then.
-    pub fn fail_at(&mut self, alloc: Global, calls: &[u64]) -> Result<(), AllocError>
+    /// `AllocError` where memory runs out. The sink is as before then.
+    pub fn fail_at(&mut self, calls: &[u64]) -> Result<(), AllocError>
         ensures ok { OnOk result (self.new.calls.failing.items ≡ calls.now) }
+        ensures err { OnErr result (self.new ≡ self.old) }
+        ensures made { self.new.calls.made ≡ self.old.calls.made }
+        ensures failed { self.new.calls.failed ≡ self.old.calls.failed }
         ensures held { self.new.held.items ≡ self.old.held.items }
+        ensures room { self.new.room ≡ self.old.room }
     {
-        self.calls.failing = list_of(alloc, calls)?;
-        Ok(())
+        self.calls.list(calls)
     }
 
     /// The bytes that are held.
@@ -182,20 +202,29 @@ impl Sink for VecSink {
 
     ghost faults = { λ s. s.calls.failed };
 
-    fn write(&mut self, bytes: &[u8]) -> Result<usize, Failed> {
+    fn write(&mut self, bytes: &[u8]) -> Result<usize, Failed>
+        ensures bound { WritesAtMost result bytes.now }
+        ensures some { IfOk result (λ n. 0 < length bytes.now → 0 < n) }
+        ensures bytes { WriteAppends (Some self.old.held.items) (Some self.new.held.items) result bytes.now }
+        ensures cause { HasCause self.old.calls.failed self.new.calls.failed result }
+        ensures fails { is_err result ≡ (is_listed self.old.calls.failing.items self.old.calls.made || is_full self.old.room self.old.held.items bytes.now) }
+        ensures count { IfOk result (λ n. n ≡ min (self.old.room - length self.old.held.items) (length bytes.now)) }
+        ensures room { self.new.room ≡ self.old.room }
+        ensures made { self.new.calls.made ≡ counted self.old.calls.made }
+        ensures failing { self.new.calls.failing.items ≡ self.old.calls.failing.items }
+        ensures failed { self.new.calls.failed ≡ (if is_err result then counted self.old.calls.failed else self.old.calls.failed) }
+    {
         if self.calls.begin() {
             self.calls.fail();
             return Err(Failed);
         }
-        let count = min(self.room.saturating_sub(self.held.len()), bytes.len());
+        let count = min(self.room - self.held.len(), bytes.len());
         if count == 0 && !bytes.is_empty() {
             self.calls.fail();
             return Err(Failed);
         }
-        if self.held.extend_from_slice(&bytes[..count]).is_err() {
-            self.calls.fail();
-            return Err(Failed);
-        }
+        // The room was taken when the sink was made, so this cannot want memory.
+        self.held.extend_from_slice(&bytes[..count]).unwrap();
         Ok(count)
     }
 }

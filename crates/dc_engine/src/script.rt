@@ -30,9 +30,9 @@ pub(crate) fn play_script<S: Source, K: Sink, R: Responder>(
     ensures bad_line { result ≡ Status.BAD_LINE → Played 67108864 (RepliesAll R.reached true) (S.left source.old) (S.left source.new) (K.held sink.old) (K.held sink.new) }
     ensures read_fault { result ≡ Status.READ_FAULT → PlayedEnded 67108864 (Replies R.reached) (S.left source.old) (S.left source.new) (K.held sink.old) (K.held sink.new) }
     ensures read_cause { result ≡ Status.READ_FAULT → Rose (S.faults source.old) (S.faults source.new) }
-    ensures write_fault { result ≡ Status.WRITE_FAULT → PlayedPart (Replies R.reached) (S.left source.old) (K.held sink.old) (K.held sink.new) }
+    ensures write_fault { result ≡ Status.WRITE_FAULT → PlayedPart 65536 67108864 (Replies R.reached) (S.left source.old) (S.left source.new) (K.held sink.old) (K.held sink.new) }
     ensures write_cause { result ≡ Status.WRITE_FAULT → Rose (K.faults sink.old) (K.faults sink.new) }
-    ensures no_memory { result ≡ Status.NO_MEMORY → PlayedPart (Replies R.reached) (S.left source.old) (K.held sink.old) (K.held sink.new) }
+    ensures no_memory { result ≡ Status.NO_MEMORY → PlayedPart 65536 67108864 (Replies R.reached) (S.left source.old) (S.left source.new) (K.held sink.old) (K.held sink.new) }
     ensures too_long { result ≡ Status.TOO_LONG → PlayedTooLong 67108864 (Replies R.reached) (S.left source.old) (S.left source.new) (K.held sink.old) (K.held sink.new) }
     ensures not_usage { result ≢ Status.USAGE }
     ensures named { (result ≡ Status.DONE) ⊎ (result ≡ Status.BAD_LINE) ⊎ (result ≡ Status.READ_FAULT) ⊎ (result ≡ Status.WRITE_FAULT) ⊎ (result ≡ Status.NO_MEMORY) ⊎ (result ≡ Status.TOO_LONG) }

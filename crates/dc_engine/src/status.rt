@@ -48,3 +48,14 @@ impl Status {
         }
     }
 }
+
+/// The law of the statuses: each has its code.
+pub fn law_statuses()
+    ensures done { Status.DONE.code ≡ 0 }
+    ensures bad_line { Status.BAD_LINE.code ≡ 1 }
+    ensures usage { Status.USAGE.code ≡ 2 }
+    ensures read_fault { Status.READ_FAULT.code ≡ 3 }
+    ensures write_fault { Status.WRITE_FAULT.code ≡ 4 }
+    ensures no_memory { Status.NO_MEMORY.code ≡ 5 }
+    ensures too_long { Status.TOO_LONG.code ≡ 6 }
+{}

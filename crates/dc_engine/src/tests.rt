@@ -1,8 +1,44 @@
 //! What no clause says: that calls succeed, with the bytes of the worked rows.
+use crate::edge::{Reading, Writing};
 use crate::memory::{SliceSource, VecSink};
 use crate::status::Status;
 use crate::top::run;
 use std::alloc::{AllocError, Global};
+use std::io::{Error, ErrorKind, Read, Write};
+
+/// Fails at each call.
+#[derive(Drop)]
+struct Broken;
+
+impl Read for Broken {
+    fn read(&mut self, _: &mut [u8]) -> std::io::Result<usize> {
+        Err(Error::from(ErrorKind::TimedOut))
+    }
+}
+
+impl Write for Broken {
+    fn write(&mut self, _: &[u8]) -> std::io::Result<usize> {
+        Err(Error::from(ErrorKind::TimedOut))
+    }
+
+    fn flush(&mut self) -> std::io::Result<()> {
+        Ok(())
+    }
+}
+
+/// Takes no byte, and doesn't fail.
+#[derive(Drop)]
+struct Full;
+
+impl Write for Full {
+    fn write(&mut self, _: &[u8]) -> std::io::Result<usize> {
+        Ok(0)
+    }
+
+    fn flush(&mut self) -> std::io::Result<()> {
+        Ok(())
+    }
+}
 
 /// The status for this script, and the sink with what was written.
 fn played(rt: &HostRuntime, script: &[u8]) -> Result<(Status, VecSink), AllocError> {
@@ -60,9 +96,9 @@ fn refuses_in_order(rt: HostRuntime) -> Result<(), AllocError> {
 #[test]
 fn plays_all_kinds(rt: HostRuntime) -> Result<(), AllocError> {
     let script =
-        b"cluster 1 1\nclock 1.1 100\nsession a 1\nbegin a\nupdate a n counter_fat increment 4\nupdate a n counter_fat reset\nupdate a n counter_fat decrement 1\nread a n counter_fat\nupdate a s set_aw add \"oat milk\" tea\nupdate a s set_aw remove tea\nupdate a m map_rr in items set_aw add tea\nupdate a r register_lww assign x\nupdate a m map_rr in w counter_pn increment 1\ncommit a\nbegin a\nread a s set_aw\nread a m map_rr\nupdate a r register_lww assign y\nread a r register_lww\n";
+        b"# each kind of line\n\ncluster 1 1\nclock 1.1 100\nsession a 1\nbegin a\nupdate a \"n\" counter_fat increment 4\nupdate a n counter_fat reset\nupdate a n counter_fat decrement 1\nread a n counter_fat\nupdate a s set_aw add \"oat milk\" tea\nupdate a s set_aw remove tea\nupdate a m map_rr in items set_aw add \"oat milk\" tea\nupdate a r register_lww assign x\nupdate a m map_rr in w counter_pn increment 1\ncommit a\nbegin a\nread a s set_aw\nread a m map_rr\nupdate a r register_lww assign y\nread a r register_lww\n";
     let replies =
-        b"cluster 1 1\nnow 1.1 100\nsession a 1\nbegan a 1.1#101 [101]\nupdated a n counter_fat\nupdated a n counter_fat\nupdated a n counter_fat\nvalue a n counter_fat -1\nupdated a s set_aw\nupdated a s set_aw\nupdated a m map_rr\nupdated a r register_lww stamp 101\nbad op\nprepared 1.1 1.1#101 102\ndecided 1.1 1.1#101 [102]\nended a\nbegan a 1.1#103 [103]\nvalue a s set_aw [\"oat milk\"]\nvalue a m map_rr {\"set_aw:items\":[\"tea\"]}\nupdated a r register_lww stamp 103\nvalue a r register_lww \"y\"\n";
+        b"cluster 1 1\nnow 1.1 100\nsession a 1\nbegan a 1.1#101 [101]\nupdated a n counter_fat\nupdated a n counter_fat\nupdated a n counter_fat\nvalue a n counter_fat -1\nupdated a s set_aw\nupdated a s set_aw\nupdated a m map_rr\nupdated a r register_lww stamp 101\nbad op\nprepared 1.1 1.1#101 102\ndecided 1.1 1.1#101 [102]\nended a\nbegan a 1.1#103 [103]\nvalue a s set_aw [\"oat milk\"]\nvalue a m map_rr {\"set_aw:items\":[\"oat milk\",\"tea\"]}\nupdated a r register_lww stamp 103\nvalue a r register_lww \"y\"\n";
     let (status, sink) = played(&rt, script)?;
     assert_eq!(rt; status, Status::DONE);
     assert_eq!(rt; sink.held(), replies.as_slice());
@@ -119,9 +155,12 @@ fn takes_64_mebibytes(rt: HostRuntime) -> Result<(), AllocError> {
 #[test]
 fn the_first_read_fails(rt: HostRuntime) -> Result<(), AllocError> {
     let mut source = SliceSource::new(rt.alloc(), b"cluster 1 1\n");
-    source.fail_at(rt.alloc(), &[1])?;
+    source.fail_at(&[1])?;
     let mut sink = VecSink::new(rt.alloc(), 100)?;
     let status = run(rt.alloc(), &["play"], &mut source, &mut sink);
+    assert_eq!(rt; status, Status::READ_FAULT);
+    assert_eq!(rt; sink.held(), b"".as_slice());
+    let status = run(rt.alloc(), &["play"], &mut Reading::new(Broken), &mut sink);
     assert_eq!(rt; status, Status::READ_FAULT);
     assert_eq!(rt; sink.held(), b"".as_slice());
     Ok(())
@@ -134,6 +173,17 @@ fn a_sink_without_room_fails(rt: HostRuntime) -> Result<(), AllocError> {
     let status = run(rt.alloc(), &["play"], &mut source, &mut sink);
     assert_eq!(rt; status, Status::WRITE_FAULT);
     assert_eq!(rt; sink.held(), b"".as_slice());
+    let mut source = SliceSource::new(rt.alloc(), b"cluster 1 1\n");
+    let status = run(
+        rt.alloc(),
+        &["play"],
+        &mut source,
+        &mut Writing::new(Broken),
+    );
+    assert_eq!(rt; status, Status::WRITE_FAULT);
+    let mut source = SliceSource::new(rt.alloc(), b"cluster 1 1\n");
+    let status = run(rt.alloc(), &["play"], &mut source, &mut Writing::new(Full));
+    assert_eq!(rt; status, Status::WRITE_FAULT);
     Ok(())
 }
 

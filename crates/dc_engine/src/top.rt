@@ -21,9 +21,9 @@ pub fn play<S: Source, K: Sink>(alloc: Global, source: &mut S, sink: &mut K) -> 
     ensures finished { (result ≡ Status.DONE) ⊎ (result ≡ Status.BAD_LINE) → Played 67108864 (λ lines bytes. Answered lines bytes × (result ≡ (if has_bad lines then Status.BAD_LINE else Status.DONE))) (S.left source.old) (S.left source.new) (K.held sink.old) (K.held sink.new) }
     ensures read_fault { result ≡ Status.READ_FAULT → PlayedEnded 67108864 Answered (S.left source.old) (S.left source.new) (K.held sink.old) (K.held sink.new) }
     ensures read_cause { result ≡ Status.READ_FAULT → Rose (S.faults source.old) (S.faults source.new) }
-    ensures write_fault { result ≡ Status.WRITE_FAULT → PlayedPart Answered (S.left source.old) (K.held sink.old) (K.held sink.new) }
+    ensures write_fault { result ≡ Status.WRITE_FAULT → PlayedPart 65536 67108864 Answered (S.left source.old) (S.left source.new) (K.held sink.old) (K.held sink.new) }
     ensures write_cause { result ≡ Status.WRITE_FAULT → Rose (K.faults sink.old) (K.faults sink.new) }
-    ensures no_memory { result ≡ Status.NO_MEMORY → PlayedPart Answered (S.left source.old) (K.held sink.old) (K.held sink.new) }
+    ensures no_memory { result ≡ Status.NO_MEMORY → PlayedPart 65536 67108864 Answered (S.left source.old) (S.left source.new) (K.held sink.old) (K.held sink.new) }
     ensures too_long { result ≡ Status.TOO_LONG → PlayedTooLong 67108864 Answered (S.left source.old) (S.left source.new) (K.held sink.old) (K.held sink.new) }
     ensures not_usage { result ≢ Status.USAGE }
     ensures named { (result ≡ Status.DONE) ⊎ (result ≡ Status.BAD_LINE) ⊎ (result ≡ Status.READ_FAULT) ⊎ (result ≡ Status.WRITE_FAULT) ⊎ (result ≡ Status.NO_MEMORY) ⊎ (result ≡ Status.TOO_LONG) }
@@ -47,9 +47,9 @@ pub fn run<S: Source, K: Sink>(
     ensures finished { (result ≡ Status.DONE) ⊎ (result ≡ Status.BAD_LINE) → Played 67108864 (λ lines bytes. Answered lines bytes × (result ≡ (if has_bad lines then Status.BAD_LINE else Status.DONE))) (S.left source.old) (S.left source.new) (K.held sink.old) (K.held sink.new) }
     ensures read_fault { result ≡ Status.READ_FAULT → PlayedEnded 67108864 Answered (S.left source.old) (S.left source.new) (K.held sink.old) (K.held sink.new) }
     ensures read_cause { result ≡ Status.READ_FAULT → Rose (S.faults source.old) (S.faults source.new) }
-    ensures write_fault { result ≡ Status.WRITE_FAULT → PlayedPart Answered (S.left source.old) (K.held sink.old) (K.held sink.new) }
+    ensures write_fault { result ≡ Status.WRITE_FAULT → PlayedPart 65536 67108864 Answered (S.left source.old) (S.left source.new) (K.held sink.old) (K.held sink.new) }
     ensures write_cause { result ≡ Status.WRITE_FAULT → Rose (K.faults sink.old) (K.faults sink.new) }
-    ensures no_memory { result ≡ Status.NO_MEMORY → PlayedPart Answered (S.left source.old) (K.held sink.old) (K.held sink.new) }
+    ensures no_memory { result ≡ Status.NO_MEMORY → PlayedPart 65536 67108864 Answered (S.left source.old) (S.left source.new) (K.held sink.old) (K.held sink.new) }
     ensures too_long { result ≡ Status.TOO_LONG → PlayedTooLong 67108864 Answered (S.left source.old) (S.left source.new) (K.held sink.old) (K.held sink.new) }
     ensures named { (result ≡ Status.USAGE) ⊎ (result ≡ Status.DONE) ⊎ (result ≡ Status.BAD_LINE) ⊎ (result ≡ Status.READ_FAULT) ⊎ (result ≡ Status.WRITE_FAULT) ⊎ (result ≡ Status.NO_MEMORY) ⊎ (result ≡ Status.TOO_LONG) }
 {
