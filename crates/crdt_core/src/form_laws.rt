@@ -8,7 +8,7 @@ ghost use Rattle.crdt_core.specs.Spelled.{is_tx, tx, tx_at, is_dot, dot, dot_at,
 use crate::Crdt;
 
 /// Reading answers each of these and the place after it exactly where its spelling stands at the place,
-/// and no spelling begins that of another.
+/// each refusal means what it says, and no spelling begins that of another.
 pub fn law_forms()
     ensures transactions { IsForm is_tx is_tx tx tx_at }
     ensures updates { IsForm is_dot is_dot dot dot_at }
@@ -25,7 +25,8 @@ pub fn law_forms()
 {}
 
 /// The same of the effects of each kind that a type has: reading answers an effect of the kind and the place after it
-/// exactly where its spelling stands at the place, and no spelling begins that of another of the kind.
+/// exactly where its spelling stands at the place, each refusal means what it says, and no spelling begins that of another of
+/// the kind.
 pub fn law_effects<C: Crdt>()
     ensures form { (k : Kind) → C.has k ≡ true → IsForm (λ e. C.is_of k e && C.can_put e) (λ e. C.is_of k e && C.is_spelled e) C.spelling (C.reading k) }
     ensures apart { (k : Kind) → C.has k ≡ true → IsPrefixFree (λ e. C.is_of k e && C.is_spelled e) C.spelling }

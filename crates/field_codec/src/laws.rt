@@ -5,7 +5,7 @@ ghost use Rattle.field_codec.specs.Lawful.{IsForm, IsPrefixFree};
 use crate::Form;
 
 /// Reading answers a number or a text and the place after it exactly where its spelling stands at the
-/// place, and no spelling of a text begins that of another.
+/// place, each refusal means what it says, and no spelling begins that of another.
 pub fn law_fields()
     ensures number8 { IsForm (is_number 1) (is_number 1) (number 1) (number_at 1) }
     ensures number16 { IsForm (is_number 2) (is_number 2) (number 2) (number_at 2) }
