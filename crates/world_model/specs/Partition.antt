@@ -1,5 +1,6 @@
 -- The state of a partition, and what each of its calls may answer and leave.
 use Rattle.std.specs.Prelude.{◌≡◌, ◌≢◌, ◌⊎◌, ℕ, zero, suc, ◌+◌, ◌-◌, ◌<◌, ◌≤◌, max, min, leb, ltb, Bool, true, false, not, ◌&&◌, ◌||◌, ◌==◌, if◌then◌else◌, List, [], ◌∷◌, ◌++◌, length, replicate, Option, None, Some, slice_index_or, slice_set, ⊤}
+use Rattle.std.specs.List.{list_any}
 use Rattle.std.specs.Ordering.{nat_cmp, ordering_then}
 use Rattle.std.specs.declared.cmp.Ordering.{Ordering}
 use Rattle.std.specs.declared.cmp.Ordering.TheVariants.{Less}
@@ -95,8 +96,7 @@ pub data Fate : Type 0 where
   ToldDown : Fate
 
 abbrev pub names_pending : List (TxId × ℕ) → TxId → Bool
-names_pending [] t = false
-names_pending (x ∷ xs) t = same_tx x.0 t || names_pending xs t
+names_pending xs t = list_any (λ x. same_tx x.0 t) xs
 
 module _ {E : Type 0} where
   abbrev pub Image : PartState E → List (Record E) → Type 0
