@@ -572,7 +572,7 @@ module _ {E : Type 0} where
         ∙ ap length (filter_in (λ t. lists m.parts t) (λ t. updates.takes_part ls t p && (ltb m.lo (past.commit_time ls t) && leb (past.commit_time ls t) m.hi)) hs same)
 
     stream_line : (some : List (Entry E)) (p : PartId) (event : Event E) → HandedAt plan some p event → SendsAt plan some p event → ShowsAt plan some p event → IsDueAt event → IsRight kinds plan run p event → streams.IsStream sites ls (lines_of some) p (call_of event) (step_shown some p event)
-    stream_line some p (Sent asked m) h n s d r = record { row = ap (λ x. x + 1) (sym (sent_count_is some)); to = n.0.to; low = n.0.lo ∙ ap (low_of asked) (sym (last_sent_is some p m.to)); high = own_bound_is some p m.hi s; parts = count_line p m r }
+    stream_line some p (Sent asked m) h n s d r = record { row = ap (λ x. x + 1) (sym (sent_count_is some)); to = n.to; low = n.lo ∙ ap (low_of asked) (sym (last_sent_is some p m.to)); high = own_bound_is some p m.hi s; parts = count_line p m r }
     stream_line some p (Took m) h n s d r = let e = sym (bound_is some p m.from) in (refl, subst (λ x. m.lo ≤ x) e s.0, subst (λ x. x < m.hi) e s.1, handed_line plan some p m h)
     stream_line some p (Reported b) h n s d r = ap (λ x. x + 1) (sym (report_count_is some))
     stream_line some p (Heard k b stable) h n s d r = report_line some (record { site = p.site; part = k }) b h.shown

@@ -80,7 +80,7 @@ module _ {E : Type 0} where
     low_is (Some a) n last known e k = e
 
     sends_event : (event : Event E) (q : PartState E) → PartStep kinds plan.sites plan.parts at (before at) event q → SendsAt plan run at event
-    sends_event (Sent asked m) q st = (record { to = st.1.to; lo = low_is asked m.lo (entry (before at).sent m.to) (last_sent run at m.to) st.1.lo (h.last at m.to st.0 st.1.to) }, sent_in_order at.site m.parts st.1.order)
+    sends_event (Sent asked m) q st = record { from = st.1.from; part = st.1.part; to = st.1.to; lo = low_is asked m.lo (entry (before at).sent m.to) (last_sent run at m.to) st.1.lo (h.last at m.to st.0 st.1.to); order = sent_in_order at.site m.parts st.1.order }
     sends_event event q st = tt
 
   sends_run : {S : Type 0} (kinds : Kinds S E) (plan : Plan E) (run : List (Entry E)) (parts : PartId → PartState E) → IsRun kinds plan run parts → Sends plan run parts
