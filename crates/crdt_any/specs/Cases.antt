@@ -1,17 +1,10 @@
 -- A state or an effect as that of one kind.
-use Rattle.std.proofs.Common.{◌≡◌, ◌≢◌, ℕ, Bool, true, false, cond, not, ◌&&◌, ◌||◌, List, [], ◌∷◌, Option, Some, None, refl, sym, ap, ◌∙◌, subst}
-use Rattle.std.specs.Prelude.{ℤ, pos}
-use Rattle.site_vector.specs.declared.ids.Dot.{Dot}
-use Rattle.crdt_core.specs.declared.kind.Kind.{Kind}
-use Rattle.crdt_core.specs.declared.kind.Kind.TheVariants as kinds
-use Rattle.crdt_core.specs.declared.object.Field.{Field}
-use Rattle.crdt_core.specs.declared.operation.Act.{Act}
-use Rattle.crdt_core.specs.declared.value.Value.{Value}
-use Rattle.crdt_core.specs.Seen.{Update}
-use Rattle.crdt_core.specs.Kept.{KeptAt, is_kept, keeps_none}
+use Rattle.std.proofs.Common.{ℕ, Bool, List, Option, Some, None}
+use Rattle.std.specs.Prelude.{ℤ}
+use Rattle.crdt_core.specs.Kept.{KeptAt}
 use Rattle.crdt_counters.specs.declared.counter_fat.FatEffect.{FatEffect}
 use Rattle.crdt_sets.specs.SetGo.{Grown}
-use Rattle.crdt_sets.specs.Elements.{Elements, keeps_dot, lacks_all}
+use Rattle.crdt_sets.specs.Elements.{Elements}
 use Rattle.crdt_sets.specs.declared.effect.SetEffect.{SetEffect}
 use Rattle.crdt_flags.specs.declared.effect.FlagEffect.{FlagEffect}
 use Rattle.crdt_registers.specs.declared.assigned.Stamped.{Stamped}
@@ -22,20 +15,7 @@ use Rattle.crdt_any.specs.declared.state.LayerState.{LayerState}
 use Rattle.crdt_any.specs.declared.state.LayerState.TheVariants as state
 use Rattle.crdt_any.specs.declared.effect.LayerEffect.{LayerEffect}
 use Rattle.crdt_any.specs.declared.effect.LayerEffect.TheVariants as effect
-use Rattle.std.specs.FinMap.{empty}
-use Rattle.crdt_counters.specs.Meaning.{counter_meaning}
-use Rattle.crdt_counters.specs.CounterPn.{is_zero, pn_has, pn_step, pn_made, pn_value, no_stamp, names_none, holds_none}
-use Rattle.crdt_counters.specs.CounterFat.{fat_has, fat_step, fat_made, fat_value, fat_names}
-use Rattle.crdt_sets.specs.SetGo as set
-use Rattle.crdt_sets.specs.Sets as sets
-use Rattle.crdt_sets.specs.Meaning.{go_meaning as set_go_meaning, aw_meaning, rw_meaning}
-use Rattle.crdt_flags.specs.Flags as flags
-use Rattle.crdt_flags.specs.Meaning.{ew_meaning, dw_meaning}
-use Rattle.crdt_registers.specs.Meaning.{lww_meaning, mv_meaning, word_of}
-use Rattle.crdt_registers.specs.RegisterLww.{unassigned, lww_has, lww_step, lww_made, lww_stamp, lww_names, lww_holds}
-use Rattle.crdt_registers.specs.RegisterMv.{mv_has, mv_step, mv_made, mv_value, mv_stamp, mv_names}
-use Rattle.crdt_maps.specs.Maps.{FieldMap, go_has, rr_has, map_step, map_made, map_stamp, map_too_deep, map_names, map_holds, go_value, rr_value, go_blank, rr_blank}
-use Rattle.crdt_maps.specs.Meaning.{go_meaning, rr_meaning}
+use Rattle.crdt_maps.specs.Maps.{FieldMap}
 
 abbrev pub counter_pn_state : {S : Type 0} → LayerState S → Option (ℤ)
 counter_pn_state (state.CounterPn s) = Some s

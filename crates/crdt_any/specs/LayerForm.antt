@@ -1,30 +1,21 @@
 -- The bytes of a layer's effects are those of its kinds.
-use Rattle.std.proofs.Common.{◌≡◌, ◌≢◌, ℕ, Bool, true, false, cond, not, ◌&&◌, ◌||◌, List, [], ◌∷◌, Option, Some, None, refl, sym, ap, ◌∙◌, subst}
-use Rattle.std.specs.Prelude.{is_some, unwrap_or}
-use Rattle.std.proofs.lemmas.Bool.{true≢false, false≢true}
+use Rattle.std.proofs.Common.{◌≡◌, ℕ, Bool, true, ◌&&◌, List, refl}
+use Rattle.std.specs.Prelude.{is_some}
+use Rattle.std.proofs.lemmas.Bool.{false≢true}
 use Rattle.field_codec.specs.Reading.{Read, mapped_at}
 use Rattle.field_codec.specs.Lawful.{IsForm}
 use Rattle.field_codec.specs.Tagged.{shape_form}
-use Rattle.std.specs.Prelude.{ℤ, pos}
+use Rattle.std.specs.Prelude.{ℤ}
 use Rattle.site_vector.specs.declared.ids.Dot.{Dot}
 use Rattle.crdt_core.specs.declared.kind.Kind.{Kind}
 use Rattle.crdt_core.specs.declared.kind.Kind.TheVariants as kinds
-use Rattle.crdt_core.specs.declared.object.Field.{Field}
-use Rattle.crdt_core.specs.declared.operation.Act.{Act}
-use Rattle.crdt_core.specs.declared.value.Value.{Value}
-use Rattle.crdt_core.specs.Seen.{Update}
-use Rattle.crdt_core.specs.Kept.{KeptAt, is_kept, keeps_none}
 use Rattle.crdt_counters.specs.declared.counter_fat.FatEffect.{FatEffect}
 use Rattle.crdt_sets.specs.SetGo.{Grown}
-use Rattle.crdt_sets.specs.Elements.{Elements, keeps_dot, lacks_all}
 use Rattle.crdt_sets.specs.declared.effect.SetEffect.{SetEffect}
 use Rattle.crdt_flags.specs.declared.effect.FlagEffect.{FlagEffect}
-use Rattle.crdt_registers.specs.declared.assigned.Stamped.{Stamped}
 use Rattle.crdt_registers.specs.declared.assigned.Assigned.{Assigned}
 use Rattle.crdt_registers.specs.declared.mv_effect.MvEffect.{MvEffect}
 use Rattle.crdt_maps.specs.declared.effect.MapEffect.{MapEffect}
-use Rattle.crdt_any.specs.declared.state.LayerState.{LayerState}
-use Rattle.crdt_any.specs.declared.state.LayerState.TheVariants as state
 use Rattle.crdt_any.specs.declared.effect.LayerEffect.{LayerEffect}
 use Rattle.crdt_any.specs.declared.effect.LayerEffect.TheVariants as effect
 use Rattle.crdt_core.specs.EffectForm.{SpellsEffects}

@@ -1,7 +1,7 @@
 -- A layer keeps the law of a kind, as the kinds in it do.
-use Rattle.std.proofs.Common.{◌≡◌, ◌≢◌, ℕ, Bool, true, false, cond, not, ◌&&◌, ◌||◌, List, [], ◌∷◌, Option, Some, None, refl, sym, ap, ◌∙◌, subst}
+use Rattle.std.proofs.Common.{◌≡◌, ℕ, Bool, true, false, ◌||◌, List, [], ◌∷◌, Option, None, refl, sym, ap, ◌∙◌}
 use Rattle.std.specs.Prelude.{unwrap_or}
-use Rattle.std.proofs.lemmas.Bool.{true≢false, false≢true}
+use Rattle.std.proofs.lemmas.Bool.{true≢false}
 use Rattle.site_vector.specs.Ids.{same_dot}
 use Rattle.std.specs.Prelude.{ℤ, pos}
 use Rattle.site_vector.specs.declared.ids.Dot.{Dot}
@@ -26,19 +26,14 @@ use Rattle.crdt_any.specs.declared.state.LayerState.TheVariants as state
 use Rattle.crdt_any.specs.declared.effect.LayerEffect.{LayerEffect}
 use Rattle.crdt_any.specs.declared.effect.LayerEffect.TheVariants as effect
 use Rattle.std.specs.FinMap.{empty}
-use Rattle.crdt_counters.specs.Meaning.{counter_meaning}
-use Rattle.crdt_counters.specs.CounterPn.{is_zero, pn_has, pn_step, pn_made, pn_value, no_stamp, names_none, holds_none}
-use Rattle.crdt_counters.specs.CounterFat.{fat_has, fat_step, fat_made, fat_value, fat_names}
+use Rattle.crdt_counters.specs.CounterPn.{is_zero, pn_step, pn_made, names_none, holds_none}
+use Rattle.crdt_counters.specs.CounterFat.{fat_step, fat_made, fat_names}
 use Rattle.crdt_sets.specs.SetGo as set
 use Rattle.crdt_sets.specs.Sets as sets
-use Rattle.crdt_sets.specs.Meaning.{go_meaning as set_go_meaning, aw_meaning, rw_meaning}
 use Rattle.crdt_flags.specs.Flags as flags
-use Rattle.crdt_flags.specs.Meaning.{ew_meaning, dw_meaning}
-use Rattle.crdt_registers.specs.Meaning.{lww_meaning, mv_meaning, word_of}
-use Rattle.crdt_registers.specs.RegisterLww.{unassigned, lww_has, lww_step, lww_made, lww_stamp, lww_names, lww_holds}
-use Rattle.crdt_registers.specs.RegisterMv.{mv_has, mv_step, mv_made, mv_value, mv_stamp, mv_names}
-use Rattle.crdt_maps.specs.Maps.{FieldMap, go_has, rr_has, map_step, map_made, map_stamp, map_too_deep, map_names, map_holds, go_value, rr_value, go_blank, rr_blank}
-use Rattle.crdt_maps.specs.Meaning.{go_meaning, rr_meaning}
+use Rattle.crdt_registers.specs.RegisterLww.{unassigned, lww_step, lww_made, lww_names, lww_holds}
+use Rattle.crdt_registers.specs.RegisterMv.{mv_step, mv_made, mv_names}
+use Rattle.crdt_maps.specs.Maps.{FieldMap, map_step, map_made, map_names, map_holds, go_blank, rr_blank}
 use Rattle.crdt_core.specs.declared.operation.Act.TheVariants as act
 use Rattle.crdt_core.specs.Kinds.{reads_state}
 use Rattle.crdt_core.specs.Fits.{stands_in, is_map}
@@ -57,7 +52,7 @@ use Rattle.crdt_registers.specs.LwwLaw.{lww_law, lww_in_maps}
 use Rattle.crdt_registers.specs.MvLaw.{mv_law, mv_in_maps}
 use Rattle.crdt_maps.specs.MapLaws.{go_law, rr_law, go_in_maps, rr_in_maps}
 use Rattle.crdt_any.specs.Cases.{counter_pn_state, counter_pn_effect, counter_fat_state, counter_fat_effect, set_go_state, set_go_effect, set_aw_state, set_aw_effect, set_rw_state, set_rw_effect, flag_ew_state, flag_ew_effect, flag_dw_state, flag_dw_effect, register_lww_state, register_lww_effect, register_mv_state, register_mv_effect, map_go_state, map_go_effect, map_rr_state, map_rr_effect}
-use Rattle.crdt_any.specs.Layer.{layer_has, layer_too_deep, layer_initial, moved, layer_step, layer_made, layer_value, layer_stamp, layer_meaning, layer_names, layer_holds, layer_blank}
+use Rattle.crdt_any.specs.Layer.{layer_has, layer_too_deep, layer_initial, layer_step, layer_made, layer_value, layer_stamp, layer_meaning, layer_names, layer_holds, layer_blank}
 use Rattle.crdt_any.specs.Parts.{part_means, part_stamps, named_by, moved_swaps, moved_held}
 
 module _ {S E : Type 0} {has : Kind → Bool} {too_deep : Kind → List Field → Bool} {initial : Kind → S} {step : S → Dot → E → S} {made : Kind → S → List Field → Act → ℕ → E} {value_of : S → Value} {stamp_of : E → Option ℕ} {meaning : Kind → List Update → Value} {names : E → Dot → Bool} {holds : S → Dot → Bool} {is_blank : S → Bool} (inner : KeepsLaw has too_deep initial step made value_of stamp_of meaning names holds) (owed : KeepsInMaps has too_deep initial step made is_blank) where

@@ -1,9 +1,8 @@
 -- What has no kinds keeps every law.
-use Rattle.std.proofs.Common.{◌≡◌, ℕ, Bool, true, false, List, [], Option, None, refl, sym}
+use Rattle.std.proofs.Common.{true, false, [], None, refl}
 use Rattle.std.specs.Prelude.{Err}
-use Rattle.std.proofs.lemmas.Bool.{true≢false, false≢true}
+use Rattle.std.proofs.lemmas.Bool.{false≢true}
 use Rattle.field_codec.specs.declared.error.TakeError.TheVariants.{Bad}
-use Rattle.field_codec.specs.Reading.{Read}
 use Rattle.crdt_core.specs.declared.value.Value.TheVariants.{Flag}
 use Rattle.crdt_core.specs.Law.{KeepsLaw}
 use Rattle.crdt_core.specs.InMaps.{KeepsInMaps}

@@ -1,5 +1,5 @@
 -- What the code that puts and takes updates owes to their forms.
-use Rattle.std.proofs.Common.{◌≡◌, ℕ, ◌≤◌, true, List, length, None, Result, Ok, Err, IfOk, refl, subst, ◌∙◌}
+use Rattle.std.proofs.Common.{◌≡◌, ℕ, ◌≤◌, true, List, length, None, Result, Ok, Err, IfOk, refl, subst}
 use Rattle.std.specs.List.{list_all}
 use Rattle.field_codec.specs.declared.error.TakeError.{TakeError}
 use Rattle.field_codec.specs.declared.error.TakeError.TheVariants.{Short, Bad, NoMemory}
@@ -10,7 +10,7 @@ use Rattle.field_codec.specs.FormLaws.{both_true, and_true, sorted_from_order, o
 use Rattle.site_vector.specs.declared.ids.Dot.{Dot}
 use Rattle.site_vector.specs.Order.{dot_cmp, dot_cmp_total}
 use Rattle.crdt_core.specs.DotSet.{IsAscending}
-use Rattle.crdt_core.specs.Spelled.{is_dot, are_dots, is_dots, dots_at}
+use Rattle.crdt_core.specs.Spelled.{is_dot, are_dots, dots_at}
 use Rattle.crdt_core.specs.SpelledLaws.{dots_form}
 
 pub gives_same : {A : Type 0} (r s : Result A TakeError) → r ≡ s → Gives r s

@@ -1,5 +1,5 @@
 -- Two histories of the same updates fold to equal states, for whoever keeps its steps.
-use Rattle.std.proofs.Common.{◌≡◌, ℕ, zero, suc, ◌≤◌, ◌+◌, Bool, true, false, cond, ◌&&◌, ◌||◌, List, [], ◌∷◌, ◌++◌, length, refl, sym, ap, ◌∙◌, subst, arith, ⊎_elim}
+use Rattle.std.proofs.Common.{◌≡◌, ℕ, zero, suc, ◌≤◌, Bool, true, false, cond, ◌||◌, List, [], ◌∷◌, ◌++◌, length, refl, sym, ap, ◌∙◌, subst, arith, ⊎_elim}
 use Rattle.std.specs.Prelude.{filter}
 use Rattle.std.specs.List.{list_any}
 use Rattle.std.proofs.lemmas.List.Folds.{list_any-append}
@@ -8,8 +8,8 @@ use Rattle.site_vector.specs.declared.ids.Dot.{Dot}
 use Rattle.site_vector.specs.Ids.{same_dot}
 use Rattle.site_vector.specs.Order.{same_dot_is}
 use Rattle.crdt_core.specs.Same.{Same}
-use Rattle.crdt_core.specs.Seen.{Update, sees, has_dot}
-use Rattle.crdt_core.specs.History.{IsClosed, IsNext, IsHistory, folded, seen_by, effects, effect_after, state_after}
+use Rattle.crdt_core.specs.Seen.{Update, sees}
+use Rattle.crdt_core.specs.History.{IsClosed, IsNext, IsHistory, folded, seen_by, effects, state_after}
 use Rattle.crdt_core.specs.Law.{KeepsSteps}
 
 swap_or : (a b c : Bool) → (a || (b || c)) ≡ (b || (a || c))

@@ -1,5 +1,5 @@
 -- Fields in the order of their names, and then of their kinds.
-use Rattle.std.proofs.Common.{◌≡◌, ℕ, Bool, true, ◌&&◌, List, refl, sym, ap, ◌∙◌, subst}
+use Rattle.std.proofs.Common.{◌≡◌, ℕ, true, ◌&&◌, List, refl, sym, ap, ◌∙◌, subst}
 use Rattle.std.specs.Coded.{Coded, code_by, coded×, coded_list, coded_ℕ}
 use Rattle.std.specs.declared.cmp.Ordering.{Ordering}
 use Rattle.std.specs.declared.cmp.Ordering.TheVariants.{Less, Equal, Greater}
@@ -11,8 +11,8 @@ use Rattle.std.proofs.lemmas.Map.Text.{is_eq-slice_cmp}
 use Rattle.std.specs.FinMap.{IsAntisymmetric}
 use Rattle.crdt_core.specs.declared.kind.Kind.{Kind}
 use Rattle.crdt_core.specs.declared.object.Field.{Field}
-use Rattle.crdt_core.specs.Kinds.{kind_code, same_kind, same_field}
-use Rattle.crdt_core.specs.Leaves.{kind_of, back, same_kind_is}
+use Rattle.crdt_core.specs.Kinds.{kind_code, same_field}
+use Rattle.crdt_core.specs.Leaves.{kind_of, back}
 use Rattle.crdt_core.specs.Texts.{text_cmp, text_cmp_total, text_cmp_exact}
 
 abbrev pub kind_cmp : Kind → Kind → Ordering

@@ -1,5 +1,5 @@
 -- What is kept of updates that later ones undo: a value at each dot.
-use Rattle.std.specs.Prelude.{ℕ, Bool, true, false, cond, not, ◌==◌, List, [], ◌∷◌, Option, Some, None, is_some}
+use Rattle.std.specs.Prelude.{Bool, cond, not, ◌==◌, List, [], Option, Some, None, is_some}
 use Rattle.std.specs.List.{list_any}
 use Rattle.std.specs.FinMap.{FinMap, insert, retain_keys, get, keys, entries, len}
 use Rattle.site_vector.specs.declared.ids.Dot.{Dot}

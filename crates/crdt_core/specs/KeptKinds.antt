@@ -1,10 +1,10 @@
 -- A kind whose state is what is kept, and whose effects take out what was seen and put their own in.
-use Rattle.std.proofs.Common.{◌≡◌, ℕ, Bool, true, false, cond, not, ◌&&◌, ◌||◌, List, [], ◌∷◌, Option, Some, None, refl, sym, ap, ◌∙◌, subst, arith}
-use Rattle.std.specs.Prelude.{filter, map, is_some}
+use Rattle.std.proofs.Common.{◌≡◌, Bool, true, false, cond, not, ◌&&◌, ◌||◌, List, [], ◌∷◌, Option, Some, None, refl, sym, ap, ◌∙◌, subst}
+use Rattle.std.specs.Prelude.{filter, is_some}
 use Rattle.std.specs.List.{list_any}
 use Rattle.std.specs.Ordering.{eq_by_cmp}
 use Rattle.std.proofs.lemmas.Bool.{true≢false, false≢true, and_parts}
-use Rattle.std.specs.FinMap.{FinMap, empty, get, find, entries, get-empty, get-entries}
+use Rattle.std.specs.FinMap.{empty, get, find, entries, get-empty, get-entries}
 use Rattle.site_vector.specs.declared.ids.Dot.{Dot}
 use Rattle.site_vector.specs.Ids.{same_dot}
 use Rattle.site_vector.specs.Order.{dot_cmp, dot_cmp_total, dot_cmp_exact, same_dot_is, same_dot_symm, same_dot_ties}
@@ -14,7 +14,7 @@ use Rattle.crdt_core.specs.Seen.{Update, sees}
 use Rattle.crdt_core.specs.History.{IsHistory, state_after}
 use Rattle.crdt_core.specs.Law.{KeepsSteps}
 use Rattle.crdt_core.specs.MapLists.{IsDistinct, distinct_entries, same_finds}
-use Rattle.crdt_core.specs.Kept.{KeptAt, kept_step, dots_of, dots_if, is_kept}
+use Rattle.crdt_core.specs.Kept.{KeptAt, kept_step, dots_if, is_kept}
 use Rattle.crdt_core.specs.KeptSteps.{get-kept_step, same_kept, has_dots_if}
 use Rattle.crdt_core.specs.KeptLaw.{given, put_at, left, taken, new_put, none_either, kept_after}
 

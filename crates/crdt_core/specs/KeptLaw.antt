@@ -1,16 +1,13 @@
 -- What is kept after a history: what no later update took.
-use Rattle.std.proofs.Common.{◌≡◌, ℕ, Bool, true, false, cond, not, ◌&&◌, ◌||◌, List, [], ◌∷◌, Option, Some, None, refl, sym, ap, ◌∙◌, subst, arith, ⊎_elim}
+use Rattle.std.proofs.Common.{◌≡◌, Bool, true, false, cond, not, ◌&&◌, ◌||◌, List, [], ◌∷◌, Option, Some, None, refl, sym, ap, ◌∙◌, subst, arith, ⊎_elim}
 use Rattle.std.specs.Prelude.{filter, is_some}
 use Rattle.std.specs.List.{list_any}
-use Rattle.std.proofs.lemmas.Bool.{true≢false, false≢true, or_cases, or_left, or_right, and_parts, false_from_ne_true}
-use Rattle.std.specs.FinMap.{FinMap, find, entries, get, get-entries}
+use Rattle.std.proofs.lemmas.Bool.{true≢false, false≢true, or_cases, or_left, or_right, and_parts}
 use Rattle.site_vector.specs.declared.ids.Dot.{Dot}
 use Rattle.site_vector.specs.Ids.{same_dot}
-use Rattle.site_vector.specs.Order.{dot_cmp, dot_cmp_total, dot_cmp_exact, same_dot_is, same_dot_symm, same_dot_ties}
-use Rattle.crdt_core.specs.Same.{Same}
+use Rattle.site_vector.specs.Order.{same_dot_is}
 use Rattle.crdt_core.specs.Seen.{Update, sees, has_dot}
-use Rattle.crdt_core.specs.History.{IsHistory, IsNext, IsClosed, folded, effects, state_after}
-use Rattle.crdt_core.specs.MapLists.{IsDistinct, distinct_entries, same_finds}
+use Rattle.crdt_core.specs.History.{IsHistory, IsClosed, folded, effects, state_after}
 
 -- b says that this is the update's own dot
 abbrev pub given : {V : Type 0} → Bool → Option V → Option V → Option V

@@ -1,16 +1,12 @@
 -- What a step leaves of what is kept.
-use Rattle.std.proofs.Common.{◌≡◌, ℕ, Bool, true, false, cond, not, ◌&&◌, ◌||◌, List, [], ◌∷◌, ◌++◌, Option, Some, None, refl, sym, ap, ◌∙◌, subst, arith}
-use Rattle.std.specs.Prelude.{is_some}
+use Rattle.std.proofs.Common.{◌≡◌, Bool, true, false, cond, not, ◌&&◌, ◌||◌, List, [], ◌∷◌, ◌++◌, Option, Some, None, refl, sym, ap, ◌∙◌}
 use Rattle.std.specs.List.{list_any}
-use Rattle.std.specs.declared.cmp.Ordering.TheVariants.{Equal}
 use Rattle.std.specs.Ordering.{eq_by_cmp}
-use Rattle.std.specs.Cmp.{Equal-is, eq_by_cmp_equiv}
 use Rattle.std.proofs.lemmas.List.Folds.{list_any-append}
-use Rattle.std.proofs.lemmas.Bool.{true≢false, false≢true, or_left, or_right}
-use Rattle.std.specs.FinMap.{FinMap, empty, get, insert, remove, keys, retain_keys, get-insert, get-remove, get-retain_keys, get-empty, contains_key-keys, same_map}
+use Rattle.std.specs.FinMap.{get, remove, keys, get-insert, get-remove, get-retain_keys, contains_key-keys, same_map}
 use Rattle.site_vector.specs.declared.ids.Dot.{Dot}
 use Rattle.site_vector.specs.Ids.{same_dot}
-use Rattle.site_vector.specs.Order.{dot_cmp, dot_cmp_total, dot_cmp_exact, same_dot_is, same_dot_symm, same_dot_ties}
+use Rattle.site_vector.specs.Order.{dot_cmp, dot_cmp_total, dot_cmp_exact, same_dot_symm, same_dot_ties}
 use Rattle.crdt_core.specs.DotSet.{has_dot}
 use Rattle.crdt_core.specs.Kept.{KeptAt, without, with_own, kept_step, dots_of, dots_if, is_kept}
 use Rattle.crdt_core.specs.KeptLaw.{given}

@@ -1,5 +1,5 @@
 -- What every kind keeps.
-use Rattle.std.specs.Prelude.{◌≡◌, ◌≢◌, ℕ, Bool, true, false, not, ◌&&◌, ◌||◌, List, ◌∷◌, Option}
+use Rattle.std.specs.Prelude.{◌≡◌, ℕ, Bool, true, false, not, ◌&&◌, ◌||◌, List, ◌∷◌, Option}
 use Rattle.std.specs.List.{list_all}
 use Rattle.site_vector.specs.declared.ids.Dot.{Dot}
 use Rattle.site_vector.specs.Ids.{same_dot}

@@ -1,7 +1,6 @@
 -- The live updates of a list depend on no order.
-use Rattle.std.proofs.Common.{◌≡◌, Bool, true, false, cond, not, ◌&&◌, List, [], ◌∷◌, refl, sym, ap, ◌∙◌, subst}
+use Rattle.std.proofs.Common.{◌≡◌, Bool, cond, not, ◌&&◌, List, [], ◌∷◌, refl, ap, subst}
 use Rattle.std.specs.Prelude.{filter}
-use Rattle.std.specs.List.{list_any}
 use Rattle.crdt_core.specs.Same.{Same}
 use Rattle.crdt_core.specs.Seen.{Update, sees, is_reset, is_live}
 use Rattle.crdt_core.specs.Confluence.{any_same, filter_same}

@@ -1,10 +1,8 @@
 -- How transactions, updates, vectors and objects are spelled, and what reading them answers.
-use Rattle.std.specs.Prelude.{ℕ, ◌^◌, Bool, true, ◌&&◌, ◌==◌, nat_le, List, ◌++◌, length, Option, Some, None, Result, Ok, Err, if◌then◌else◌}
+use Rattle.std.specs.Prelude.{ℕ, ◌^◌, Bool, true, ◌&&◌, ◌==◌, nat_le, List, ◌++◌, length, None, if◌then◌else◌}
 use Rattle.std.specs.List.{flat_map, list_all}
-use Rattle.field_codec.specs.declared.error.TakeError.{TakeError}
-use Rattle.field_codec.specs.declared.error.TakeError.TheVariants.{Bad}
 use Rattle.field_codec.specs.Spelling.{number, is_number, text, is_text, list, is_list, is_below}
-use Rattle.field_codec.specs.Reading.{Read, ◌>>=◌, number_at, text_at, list_at, members_at, checked_at, then_at, mapped_at}
+use Rattle.field_codec.specs.Reading.{Read, number_at, text_at, list_at, members_at, checked_at, then_at, mapped_at}
 use Rattle.site_vector.specs.declared.ids.TxId.{TxId}
 use Rattle.site_vector.specs.declared.ids.Dot.{Dot}
 use Rattle.site_vector.specs.Order.{dot_cmp}

@@ -1,5 +1,5 @@
 -- Transactions, updates, vectors and objects are forms.
-use Rattle.std.specs.Prelude.{◌≡◌, ℕ, zero, suc, ◌+◌, ◌^◌, ◌<◌, ◌≤◌, Bool, true, false, ◌&&◌, nat_le, List, [], ◌∷◌, ◌++◌, length, Option, None, Some, Ok, Err, refl}
+use Rattle.std.specs.Prelude.{◌≡◌, ℕ, zero, suc, ◌^◌, ◌<◌, ◌≤◌, Bool, true, false, ◌&&◌, nat_le, List, [], ◌∷◌, ◌++◌, length, Option, None, Some, Ok, Err, refl}
 use Rattle.std.proofs.Common.{sym, ap, ◌∙◌, eqb, arith}
 use Rattle.std.specs.Prelude.{◌⊎◌}
 use Rattle.std.proofs.Common.{inl, inr}
@@ -8,16 +8,13 @@ use Rattle.field_codec.specs.declared.error.TakeError.{TakeError}
 use Rattle.field_codec.specs.declared.error.TakeError.TheVariants.{Bad}
 use Rattle.std.specs.List.{flat_map, list_all}
 use Rattle.std.proofs.lemmas.Bool.{eqb-true, eq-eqb}
-use Rattle.field_codec.specs.Spelling.{number, is_number, text, is_text, list, are_in_order, are_members, is_list, is_below}
-use Rattle.field_codec.specs.Reading.{Read, number_at, text_at, list_at, members_at, checked_at, then_at, mapped_at}
+use Rattle.field_codec.specs.Spelling.{number, is_number, text, is_text, are_in_order, are_members, is_below}
+use Rattle.field_codec.specs.Reading.{Read, number_at, text_at, members_at, checked_at, then_at, mapped_at}
 use Rattle.field_codec.specs.Lawful.{IsForm}
 use Rattle.field_codec.specs.FormLaws.{number_form, IsWidth, width1, width2, width8, text_form, list_form, members_form, checked_form, then_form, mapped_form, both_true, and_true, le_from, le_holds, lt_holds}
-use Rattle.site_vector.specs.declared.ids.TxId.{TxId}
-use Rattle.site_vector.specs.declared.ids.Dot.{Dot}
 use Rattle.site_vector.specs.Order.{dot_cmp}
 use Rattle.crdt_core.specs.declared.kind.Kind.{Kind}
 use Rattle.crdt_core.specs.declared.kind.Kind.TheVariants.{CounterPn, CounterFat, SetGo, SetAw, SetRw, FlagEw, FlagDw, RegisterLww, RegisterMv, MapGo, MapRr}
-use Rattle.crdt_core.specs.declared.object.ObjectId.{ObjectId}
 use Rattle.crdt_core.specs.Kinds.{kind_code}
 use Rattle.crdt_core.specs.Spelled.{is_between, between_at, is_tx, tx, tx_of, tx_at, is_dot, dot, dot_of, dot_at, are_dots, is_dots, dots, dots_at, vector, is_vector, vector_at, kind, coded_kind, kind_at, is_object, object, object_of, object_at}
 

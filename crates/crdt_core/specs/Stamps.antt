@@ -1,5 +1,5 @@
 -- The stamp of an assign to a register that the last writer wins.
-use Rattle.std.specs.Prelude.{ℕ, ◌+◌, ◌-◌, ◌^◌, max, min, Bool, true, false, ◌&&◌, List, [], ◌∷◌, filter, Option, Some, None, if◌then◌else◌}
+use Rattle.std.specs.Prelude.{ℕ, ◌+◌, ◌-◌, ◌^◌, max, min, ◌&&◌, List, [], ◌∷◌, filter, Option, Some, None, if◌then◌else◌}
 use Rattle.crdt_core.specs.declared.kind.Kind.{Kind}
 use Rattle.crdt_core.specs.declared.kind.Kind.TheVariants.{RegisterLww}
 use Rattle.crdt_core.specs.Kinds.{same_kind, same_path, kind_at}

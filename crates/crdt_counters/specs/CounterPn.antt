@@ -1,5 +1,5 @@
 -- The states and effects of the counter whose updates stay.
-use Rattle.std.specs.Prelude.{ℕ, Bool, true, false, List, Option, None, ℤ, pos, negsuc, ◌==◌, ◌+ℤ◌}
+use Rattle.std.specs.Prelude.{ℕ, Bool, false, List, Option, None, ℤ, pos, negsuc, ◌==◌, ◌+ℤ◌}
 use Rattle.std.specs.Int.{int_wrap, w128}
 use Rattle.site_vector.specs.declared.ids.Dot.{Dot}
 use Rattle.crdt_core.specs.declared.kind.Kind.{Kind}

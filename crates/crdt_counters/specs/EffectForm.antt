@@ -1,11 +1,10 @@
 -- The bytes of counters' effects: an amount in two's complement, and for a counter that can be reset what it is before it.
-use Rattle.std.specs.Prelude.{◌≡◌, ℕ, zero, suc, ◌^◌, ◌<◌, ◌≤◌, ◌==◌, Bool, true, false, ◌&&◌, not, eqb, nat_le, int_lt, List, ◌++◌, ℤ, pos, neg_ℤ, if◌then◌else◌, refl}
-use Rattle.std.proofs.Common.{arith, rules, FitsSigned}
+use Rattle.std.specs.Prelude.{◌≡◌, ℕ, zero, suc, ◌^◌, ◌==◌, Bool, true, ◌&&◌, not, eqb, nat_le, int_lt, List, ◌++◌, ℤ, pos, neg_ℤ, if◌then◌else◌, refl}
+use Rattle.std.proofs.Common.{arith, FitsSigned}
 use Rattle.std.specs.Int.{cast_unsigned, cast_signed, w64}
 use Rattle.std.proofs.Math.Facts.{Fits-of_z, Fits-lt-pow}
 use Rattle.std.proofs.lemmas.Int.{ints, fits_signed_from_abs, to_z-of_z, of_z-to_z}
 use Rattle.std.proofs.lemmas.Bool.{false≢true}
-use Rattle.std.proofs.lemmas.Bool.Decides.{nat_tests}
 use Rattle.field_codec.specs.Spelling.{number, is_number}
 use Rattle.field_codec.specs.Reading.{Read, number_at, checked_at, mapped_at}
 use Rattle.field_codec.specs.Lawful.{IsForm}

@@ -1,8 +1,8 @@
 -- The sums of counters never wrap: too few updates exist for it.
-use Rattle.std.proofs.Common.{◌≡◌, ℕ, ◌+◌, ◌*◌, ◌^◌, ◌≤◌, ◌<◌, Bool, true, false, cond, ◌&&◌, List, [], ◌∷◌, length, refl, ap, ◌∙◌, arith, subst}
-use Rattle.std.specs.Prelude.{filter, ℤ, pos, ◌+ℤ◌, unsigned_abs}
+use Rattle.std.proofs.Common.{◌≡◌, ◌+◌, ◌*◌, ◌^◌, ◌≤◌, ◌<◌, Bool, true, false, cond, List, [], ◌∷◌, length, refl, ap, arith}
+use Rattle.std.specs.Prelude.{filter, ℤ, ◌+ℤ◌, unsigned_abs}
 use Rattle.std.specs.List.{list_all}
-use Rattle.std.specs.Int.{int_wrap, w128}
+use Rattle.std.specs.Int.{w128}
 use Rattle.std.proofs.lemmas.Int.{ints, int_wrap_fits, fits_signed_from_abs}
 use Rattle.field_codec.specs.FormLaws.{both_true, and_true}
 use Rattle.crdt_core.specs.declared.kind.Kind.{Kind}

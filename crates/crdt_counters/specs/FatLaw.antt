@@ -1,8 +1,8 @@
 -- The counter whose updates a reset undoes keeps the law of a kind.
-use Rattle.std.proofs.Common.{◌≡◌, ℕ, Bool, true, false, cond, List, [], ◌∷◌, refl, sym, ap, ◌∙◌, subst, arith, Option, Some, None}
+use Rattle.std.proofs.Common.{◌≡◌, ℕ, Bool, true, false, List, [], ◌∷◌, refl, sym, ap, ◌∙◌, subst, arith, Option, Some, None}
 use Rattle.std.specs.Prelude.{filter, ℤ, pos, ◌+ℤ◌}
 use Rattle.std.specs.Int.{int_wrap, w128}
-use Rattle.std.specs.FinMap.{entries, empty}
+use Rattle.std.specs.FinMap.{empty}
 use Rattle.std.proofs.lemmas.Int.{ints}
 use Rattle.std.proofs.lemmas.Bool.{true≢false}
 use Rattle.site_vector.specs.declared.ids.Dot.{Dot}
@@ -26,7 +26,6 @@ use Rattle.crdt_counters.specs.Meaning.{amount, total_by, total, counter_meaning
 use Rattle.crdt_counters.specs.Totals.{total_same, counter_orderless}
 use Rattle.crdt_counters.specs.CounterPn.{no_stamp}
 use Rattle.crdt_counters.specs.CounterFat.{fat_has, fat_out, fat_own, fat_step, fat_made, fat_value, fat_names}
-use Rattle.crdt_counters.specs.declared.counter_fat.FatEffect.{FatEffect}
 
 -- what an act puts at its dot
 abbrev given : Act → Option ℤ

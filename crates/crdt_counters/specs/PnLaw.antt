@@ -1,6 +1,6 @@
 -- The counter whose updates stay keeps the law of a kind.
-use Rattle.std.proofs.Common.{◌≡◌, Bool, true, false, cond, not, ◌&&◌, ◌||◌, List, [], ◌∷◌, refl, sym, ap, ◌∙◌, subst, arith, None}
-use Rattle.std.specs.Prelude.{filter, ℤ, pos, ◌+ℤ◌, ℕ}
+use Rattle.std.proofs.Common.{◌≡◌, Bool, true, false, cond, not, ◌&&◌, List, [], ◌∷◌, refl, sym, ap, ◌∙◌, subst, arith}
+use Rattle.std.specs.Prelude.{filter, ℤ, pos, ◌+ℤ◌}
 use Rattle.std.specs.List.{list_any}
 use Rattle.std.specs.Int.{int_wrap, w128}
 use Rattle.std.proofs.lemmas.Int.{ints, int_wrap-add_left}
@@ -15,7 +15,7 @@ use Rattle.crdt_core.specs.declared.value.Value.TheVariants.{Int}
 use Rattle.crdt_core.specs.Kinds.{same_kind}
 use Rattle.crdt_core.specs.Fits.{is_amount}
 use Rattle.crdt_core.specs.Seen.{Update, sees, is_reset, is_live}
-use Rattle.crdt_core.specs.History.{IsHistory, state_after}
+use Rattle.crdt_core.specs.History.{state_after}
 use Rattle.crdt_core.specs.Law.{KeepsSteps, KeepsLaw, made_by, all_fit}
 use Rattle.crdt_core.specs.InMaps.{KeepsInMaps}
 use Rattle.crdt_core.specs.Blank.{never_reset}

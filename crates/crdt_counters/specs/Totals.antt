@@ -1,12 +1,12 @@
 -- A sum of amounts depends on no order.
-use Rattle.std.proofs.Common.{◌≡◌, Bool, true, false, List, [], ◌∷◌, ◌++◌, refl, sym, ap, ◌∙◌, arith}
-use Rattle.std.specs.Prelude.{filter, ℤ, pos, ◌+ℤ◌}
+use Rattle.std.proofs.Common.{◌≡◌, List, [], ◌∷◌, ◌++◌, refl, sym, ap, ◌∙◌, arith}
+use Rattle.std.specs.Prelude.{ℤ, pos, ◌+ℤ◌}
 use Rattle.std.specs.Int.{int_wrap, w128}
 use Rattle.std.proofs.lemmas.Int.{ints}
 use Rattle.crdt_core.specs.declared.kind.Kind.{Kind}
 use Rattle.crdt_core.specs.declared.value.Value.TheVariants.{Int}
 use Rattle.crdt_core.specs.Same.{Same}
-use Rattle.crdt_core.specs.Seen.{Update, is_live}
+use Rattle.crdt_core.specs.Seen.{Update}
 use Rattle.crdt_core.specs.Live.{lives_same}
 use Rattle.crdt_counters.specs.Meaning.{amount, total_by, counter_meaning}
 

@@ -1,5 +1,5 @@
 -- The bytes of a flag's effect: what it does, and the dots that it takes out.
-use Rattle.std.specs.Prelude.{◌≡◌, ℕ, zero, suc, ◌≤◌, ◌==◌, Bool, true, ◌&&◌, List, ◌++◌, if◌then◌else◌, refl}
+use Rattle.std.specs.Prelude.{◌≡◌, ℕ, zero, suc, ◌≤◌, ◌==◌, Bool, true, List, ◌++◌, if◌then◌else◌, refl}
 use Rattle.std.proofs.Common.{arith}
 use Rattle.field_codec.specs.Spelling.{number}
 use Rattle.field_codec.specs.Reading.{Read}

@@ -1,5 +1,5 @@
 -- Flags keep the law of a kind.
-use Rattle.std.proofs.Common.{◌≡◌, ℕ, Bool, true, false, cond, not, ◌&&◌, ◌||◌, List, [], ◌∷◌, refl, sym, ap, ◌∙◌, subst, arith, Option, Some, None}
+use Rattle.std.proofs.Common.{◌≡◌, Bool, true, false, not, ◌&&◌, ◌||◌, List, [], ◌∷◌, refl, sym, ap, ◌∙◌, subst, Option, Some, None}
 use Rattle.std.specs.Prelude.{filter}
 use Rattle.std.specs.List.{list_any}
 use Rattle.std.specs.FinMap.{entries, empty}
@@ -11,7 +11,7 @@ use Rattle.crdt_core.specs.declared.operation.Act.TheVariants as act
 use Rattle.crdt_core.specs.declared.value.Value.TheVariants.{Flag}
 use Rattle.crdt_core.specs.Kinds.{same_kind, reads_state}
 use Rattle.crdt_core.specs.Same.{Same}
-use Rattle.crdt_core.specs.Seen.{Update, is_reset}
+use Rattle.crdt_core.specs.Seen.{Update}
 use Rattle.crdt_core.specs.History.{IsHistory, state_after}
 use Rattle.crdt_core.specs.Law.{KeepsSteps, KeepsLaw, made_by}
 use Rattle.crdt_core.specs.InMaps.{KeepsInMaps}
@@ -23,7 +23,6 @@ use Rattle.crdt_core.specs.KeptKinds.{pairs, stays, holding, any_pairs, kept_kee
 use Rattle.crdt_core.specs.WinsLaw.{undoes, add_stays, remove_stays, add_wins_same, remove_wins_same}
 use Rattle.crdt_flags.specs.Meaning.{enables, disables, ew_meaning, dw_meaning}
 use Rattle.crdt_flags.specs.Flags.{ew_has, dw_has, flag_out, ew_own, dw_own, ew_step, dw_step, flag_made, kind_made, ew_value, dw_value, no_stamp, flag_names}
-use Rattle.crdt_flags.specs.declared.effect.FlagEffect.{FlagEffect}
 
 -- what an act puts at its dot
 abbrev ew_given : Act → Option Bool

@@ -1,10 +1,9 @@
 -- What stands at a field of a map is the fold of the field's own updates.
-use Rattle.std.proofs.Common.{◌≡◌, ℕ, Bool, true, false, cond, not, ◌&&◌, ◌||◌, List, [], ◌∷◌, Option, Some, None, refl, sym, ap, ◌∙◌, subst}
-use Rattle.std.specs.Prelude.{map, filter, is_some, unwrap_or}
-use Rattle.std.specs.List.{list_any, list_all}
+use Rattle.std.proofs.Common.{◌≡◌, ℕ, Bool, true, false, cond, not, ◌&&◌, List, [], ◌∷◌, Option, Some, None, refl, sym, ap, ◌∙◌, subst}
+use Rattle.std.specs.Prelude.{filter, unwrap_or}
 use Rattle.std.specs.Option.{option_map}
-use Rattle.std.specs.FinMap.{FinMap, empty, get, entries, get-empty, get-entries}
-use Rattle.std.proofs.lemmas.Bool.{true≢false, and_parts}
+use Rattle.std.specs.FinMap.{empty, get, entries, get-empty, get-entries}
+use Rattle.std.proofs.lemmas.Bool.{and_parts}
 use Rattle.site_vector.specs.declared.ids.Dot.{Dot}
 use Rattle.crdt_core.specs.declared.kind.Kind.{Kind}
 use Rattle.crdt_core.specs.declared.kind.Kind.TheVariants.{MapRr}
@@ -12,7 +11,7 @@ use Rattle.crdt_core.specs.declared.object.Field.{Field}
 use Rattle.crdt_core.specs.declared.operation.Act.{Act}
 use Rattle.crdt_core.specs.declared.operation.Act.TheVariants as act
 use Rattle.crdt_core.specs.Kinds.{same_field}
-use Rattle.crdt_core.specs.Fits.{stands_in, allows}
+use Rattle.crdt_core.specs.Fits.{stands_in}
 use Rattle.crdt_core.specs.Seen.{Update, sees}
 use Rattle.crdt_core.specs.History.{folded, effects}
 use Rattle.crdt_core.specs.Law.{made_by, all_fit}
@@ -21,7 +20,7 @@ use Rattle.crdt_core.specs.FieldOrder.{field_cmp, field_ties, same_field_is, sam
 use Rattle.crdt_core.specs.MapLists.{distinct_entries}
 use Rattle.crdt_maps.specs.Maps.{FieldMap, at, is_undone, map_step, map_made, map_too_deep}
 use Rattle.crdt_maps.specs.Meaning.{with_some, inner_op, within, of_field}
-use Rattle.crdt_maps.specs.FieldSteps.{found, at_one, at_one_other, after_undo, at_resets}
+use Rattle.crdt_maps.specs.FieldSteps.{at_one, at_one_other, after_undo, at_resets}
 use Rattle.crdt_maps.specs.FieldHistory.{reset_stands, outer_fits, own_act}
 
 module _ {S E : Type 0} {has : Kind → Bool} {too_deep : Kind → List Field → Bool} {initial : Kind → S} {step : S → Dot → E → S} {made : Kind → S → List Field → Act → ℕ → E} {is_blank : S → Bool} (owed : KeepsInMaps has too_deep initial step made is_blank) where

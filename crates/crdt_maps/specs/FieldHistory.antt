@@ -1,5 +1,5 @@
 -- The updates of a field are a history of its kind.
-use Rattle.std.proofs.Common.{◌≡◌, ℕ, ◌≤◌, suc, Bool, true, false, cond, not, ◌&&◌, ◌||◌, List, [], ◌∷◌, length, Option, Some, None, refl, sym, ap, ◌∙◌, subst, arith}
+use Rattle.std.proofs.Common.{◌≡◌, ℕ, suc, Bool, true, false, cond, not, ◌&&◌, ◌||◌, List, [], ◌∷◌, length, Option, Some, None, refl, sym, ap, ◌∙◌, subst, arith}
 use Rattle.std.specs.Prelude.{nat_le}
 use Rattle.std.specs.List.{list_any, list_all}
 use Rattle.std.specs.Option.{option_map}
@@ -13,13 +13,13 @@ use Rattle.crdt_core.specs.declared.object.Field.{Field}
 use Rattle.crdt_core.specs.declared.operation.Act.{Act}
 use Rattle.crdt_core.specs.declared.operation.Act.TheVariants as act
 use Rattle.crdt_core.specs.Kinds.{same_field}
-use Rattle.crdt_core.specs.Fits.{stands_in, allows, leads_to, fits}
-use Rattle.crdt_core.specs.Seen.{Update, sees, has_dot}
+use Rattle.crdt_core.specs.Fits.{stands_in, allows, fits}
+use Rattle.crdt_core.specs.Seen.{Update, sees}
 use Rattle.crdt_core.specs.History.{IsClosed, IsNext, IsHistory}
 use Rattle.crdt_core.specs.Law.{all_fit}
 use Rattle.crdt_core.specs.FieldOrder.{same_field_is}
 use Rattle.crdt_maps.specs.Maps.{map_too_deep}
-use Rattle.crdt_maps.specs.Meaning.{with_some, picked, inner_op, within, at_field, of_field}
+use Rattle.crdt_maps.specs.Meaning.{with_some, inner_op, within, of_field}
 
 -- what an update becomes at a field has its dot, and has seen what it has
 any_onto : (q r : Update → Bool) → ((u : Update) (o : List Field × Act) → q (within u o) ≡ r u) → (u : Update) (o : Option (List Field × Act)) (rest : List Update) → r u ≡ false → list_any q rest ≡ false → list_any q (with_some (option_map (within u) o) rest) ≡ false

@@ -1,10 +1,9 @@
 -- Stamps in a map follow the rule of the field's kind.
-use Rattle.std.proofs.Common.{◌≡◌, ℕ, Bool, true, false, cond, not, ◌&&◌, ◌||◌, List, [], ◌∷◌, Option, Some, None, refl, sym, ap, ◌∙◌, subst}
+use Rattle.std.proofs.Common.{◌≡◌, ℕ, Bool, true, false, cond, ◌&&◌, List, [], ◌∷◌, Option, Some, None, refl, sym, ap, ◌∙◌}
 use Rattle.std.specs.Prelude.{filter, max, min}
-use Rattle.std.specs.List.{list_all}
 use Rattle.std.specs.Option.{option_map}
 use Rattle.std.specs.FinMap.{empty}
-use Rattle.std.proofs.lemmas.Bool.{true≢false, and_parts, and_from, and_right}
+use Rattle.std.proofs.lemmas.Bool.{and_parts, and_from, and_right}
 use Rattle.site_vector.specs.declared.ids.Dot.{Dot}
 use Rattle.crdt_core.specs.declared.kind.Kind.{Kind}
 use Rattle.crdt_core.specs.declared.kind.Kind.TheVariants.{MapRr, RegisterLww}
@@ -13,7 +12,7 @@ use Rattle.crdt_core.specs.declared.operation.Act.{Act}
 use Rattle.crdt_core.specs.declared.operation.Act.TheVariants as act
 use Rattle.crdt_core.specs.declared.value.Value.{Value}
 use Rattle.crdt_core.specs.Kinds.{same_field, same_kind, same_path, kind_at}
-use Rattle.crdt_core.specs.Fits.{stands_in, allows}
+use Rattle.crdt_core.specs.Fits.{stands_in}
 use Rattle.crdt_core.specs.Seen.{Update, sees, is_assign}
 use Rattle.crdt_core.specs.Stamps.{last_stamp, one_more, above_all, assigns_seen, stamp_due}
 use Rattle.crdt_core.specs.History.{IsNext, IsHistory, IsStamped, effect_after}
@@ -22,7 +21,7 @@ use Rattle.crdt_core.specs.InMaps.{KeepsInMaps}
 use Rattle.crdt_core.specs.FieldOrder.{same_field_is}
 use Rattle.crdt_maps.specs.Maps.{FieldMap, at, map_step, map_made, map_stamp, map_too_deep}
 use Rattle.crdt_maps.specs.Meaning.{with_some, inner_op, within, of_field}
-use Rattle.crdt_maps.specs.FieldHistory.{reset_stands, outer_fits, inner_fits, Enters, enters, own_act, reset_fits, fits_of_field, history_of_field, next_of_field}
+use Rattle.crdt_maps.specs.FieldHistory.{reset_stands, outer_fits, enters, own_act, reset_fits, fits_of_field, history_of_field, next_of_field}
 use Rattle.crdt_maps.specs.FieldFold.{outer, inside, field_folded}
 
 neither : (a b : Bool) → b ≡ false → (a && b) ≡ false

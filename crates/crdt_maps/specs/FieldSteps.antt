@@ -2,8 +2,7 @@
 use Rattle.std.proofs.Common.{◌≡◌, ℕ, Bool, true, false, cond, not, ◌&&◌, ◌||◌, List, [], ◌∷◌, Option, Some, None, refl, sym, ap, ◌∙◌, subst}
 use Rattle.std.specs.Prelude.{map, filter, is_some, unwrap_or}
 use Rattle.std.specs.List.{list_any}
-use Rattle.std.specs.Ordering.{eq_by_cmp}
-use Rattle.std.specs.FinMap.{FinMap, empty, insert, get, find, entries, get-insert, get-empty, same_map}
+use Rattle.std.specs.FinMap.{insert, get, find, get-insert, same_map}
 use Rattle.std.proofs.lemmas.Bool.{true≢false}
 use Rattle.site_vector.specs.declared.ids.Dot.{Dot}
 use Rattle.crdt_core.specs.declared.kind.Kind.{Kind}
@@ -13,7 +12,7 @@ use Rattle.crdt_core.specs.declared.object.Field.{Field}
 use Rattle.crdt_core.specs.declared.operation.Act.{Act}
 use Rattle.crdt_core.specs.declared.operation.Act.TheVariants.{Reset}
 use Rattle.crdt_core.specs.Kinds.{same_field}
-use Rattle.crdt_core.specs.FieldOrder.{field_cmp, field_cmp_total, field_cmp_exact, field_ties, same_field_is, same_field_itself, same_field_symm}
+use Rattle.crdt_core.specs.FieldOrder.{field_cmp, field_cmp_total, field_cmp_exact, field_ties, same_field_is, same_field_itself}
 use Rattle.crdt_core.specs.MapLists.{IsDistinct}
 use Rattle.crdt_maps.specs.Maps.{FieldMap, at, step_at, step_each, is_undone, resets_of}
 

@@ -1,10 +1,10 @@
 -- Maps keep the law of a kind, as their fields' kinds do.
 use Rattle.std.proofs.Common.{◌≡◌, ℕ, Bool, true, false, cond, not, ◌&&◌, ◌||◌, List, [], ◌∷◌, Option, Some, None, refl, sym, ap, ◌∙◌, subst, T, ⊎_elim}
 use Rattle.std.specs.Prelude.{map, filter, is_some, unwrap_or}
-use Rattle.std.specs.List.{list_any, list_all}
+use Rattle.std.specs.List.{list_all}
 use Rattle.std.specs.Option.{option_map}
 use Rattle.std.specs.Ordering.{eq_by_cmp, is_lt}
-use Rattle.std.specs.FinMap.{FinMap, empty, get, entries, find, is_sorted, from_entries, from_sorted, entries_sorted, entries-from_sorted, get-entries, get-from_entries, get-from_sorted}
+use Rattle.std.specs.FinMap.{empty, get, entries, is_sorted, from_entries, from_sorted, entries_sorted, entries-from_sorted, get-entries, get-from_entries, get-from_sorted}
 use Rattle.std.specs.FinMap.Entries.{below_all}
 use Rattle.std.proofs.lemmas.Bool.{true≢false, and_parts, or_cases}
 use Rattle.site_vector.specs.declared.ids.Dot.{Dot}
@@ -31,7 +31,7 @@ use Rattle.crdt_maps.specs.Meaning.{with_some, entered, of_field, at_field, upda
 use Rattle.crdt_maps.specs.Picked.{picked_same}
 use Rattle.crdt_maps.specs.FieldSteps.{found, same_fields}
 use Rattle.crdt_maps.specs.FieldHistory.{reset_stands, history_of_field, fits_of_field}
-use Rattle.crdt_maps.specs.FieldFold.{outer, inside, field_folded}
+use Rattle.crdt_maps.specs.FieldFold.{outer, field_folded}
 use Rattle.crdt_maps.specs.Presence.{among, may_stand, stands_updated}
 use Rattle.crdt_maps.specs.FieldStamps.{MapStamped, stamped_of_field, map_stamps}
 use Rattle.crdt_maps.specs.MapSteps.{map_steps}

@@ -1,10 +1,10 @@
 -- Maps keep what a kind owes step by step, as their fields' kinds do.
-use Rattle.std.proofs.Common.{◌≡◌, ℕ, Bool, true, false, cond, not, ◌&&◌, ◌||◌, List, [], ◌∷◌, Option, Some, None, refl, sym, ap, ◌∙◌, subst, ⊎_elim}
+use Rattle.std.proofs.Common.{◌≡◌, ℕ, Bool, true, false, cond, ◌&&◌, ◌||◌, List, [], ◌∷◌, Option, Some, None, refl, sym, ap, ◌∙◌, subst, ⊎_elim}
 use Rattle.std.specs.Prelude.{map, filter, is_some, unwrap_or}
 use Rattle.std.specs.List.{list_any}
 use Rattle.std.specs.declared.cmp.Ordering.{Ordering}
 use Rattle.std.specs.declared.cmp.Ordering.TheVariants.{Less, Equal, Greater}
-use Rattle.std.specs.FinMap.{FinMap, empty, insert, get, find, entries, get-insert, get-empty, get-entries, entries-insert, same_map}
+use Rattle.std.specs.FinMap.{empty, insert, get, find, entries, get-entries, entries-insert}
 use Rattle.std.specs.FinMap.Entries.{put, by_order}
 use Rattle.std.specs.Ordering.{eq_by_cmp}
 use Rattle.std.proofs.lemmas.Bool.{true≢false, and_parts, and_from, or_cases, or_parts, or_left, or_right}
@@ -18,7 +18,6 @@ use Rattle.crdt_core.specs.declared.value.Value.{Value}
 use Rattle.crdt_core.specs.Kinds.{same_field}
 use Rattle.crdt_core.specs.Seen.{Update}
 use Rattle.crdt_core.specs.Law.{KeepsSteps, KeepsLaw, made_by}
-use Rattle.crdt_core.specs.InMaps.{KeepsInMaps}
 use Rattle.crdt_core.specs.Blank.{no_entries, empty_none}
 use Rattle.crdt_core.specs.FieldOrder.{field_cmp, field_cmp_total, same_field_is, same_field_symm}
 use Rattle.crdt_maps.specs.Maps.{FieldMap, at, step_at, step_each, listed, map_step, is_undone, resets_of, reset_by, map_made, map_names, map_holds}

@@ -1,7 +1,7 @@
 -- The states and effects of maps, over the states and effects of their fields' kinds.
-use Rattle.std.specs.Prelude.{ℕ, Bool, true, false, cond, not, ◌&&◌, ◌||◌, ◌==◌, List, [], ◌∷◌, map, filter, Option, Some, None, unwrap_or, ℤ, pos, negsuc}
+use Rattle.std.specs.Prelude.{ℕ, Bool, true, false, cond, not, ◌&&◌, ◌||◌, ◌==◌, List, [], ◌∷◌, map, filter, Option, None, unwrap_or, ℤ, pos, negsuc}
 use Rattle.std.specs.List.{list_any, list_all}
-use Rattle.std.specs.FinMap.{FinMap, empty, insert, get, entries, len}
+use Rattle.std.specs.FinMap.{FinMap, insert, get, entries, len}
 use Rattle.site_vector.specs.declared.ids.Dot.{Dot}
 use Rattle.crdt_core.specs.declared.kind.Kind.{Kind}
 use Rattle.crdt_core.specs.declared.kind.Kind.TheVariants.{MapGo, MapRr}

@@ -1,5 +1,5 @@
 -- What is picked of a list.
-use Rattle.std.proofs.Common.{◌≡◌, Bool, true, false, cond, ◌||◌, List, [], ◌∷◌, ◌++◌, Option, Some, None, refl, sym, ap, ◌∙◌, subst}
+use Rattle.std.proofs.Common.{◌≡◌, List, [], ◌∷◌, ◌++◌, Option, Some, None, refl, sym, ap, ◌∙◌, subst}
 use Rattle.crdt_core.specs.Same.{Same}
 use Rattle.crdt_maps.specs.Meaning.{with_some, picked}
 

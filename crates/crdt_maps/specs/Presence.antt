@@ -1,9 +1,9 @@
 -- The fields that stand in a map are those that were updated.
 use Rattle.std.proofs.Common.{◌≡◌, ℕ, Bool, true, false, cond, not, ◌&&◌, ◌||◌, List, [], ◌∷◌, Option, Some, None, refl, sym, ap, ◌∙◌, subst, ⊎_elim}
 use Rattle.std.specs.Prelude.{map, filter, is_some, unwrap_or}
-use Rattle.std.specs.List.{list_any, list_all}
-use Rattle.std.specs.FinMap.{FinMap, empty, get, entries, get-empty, get-entries}
-use Rattle.std.proofs.lemmas.Bool.{true≢false, and_parts, and_from, or_cases, or_left, or_right}
+use Rattle.std.specs.List.{list_any}
+use Rattle.std.specs.FinMap.{get, entries, get-empty, get-entries}
+use Rattle.std.proofs.lemmas.Bool.{true≢false, and_parts, or_cases, or_left, or_right}
 use Rattle.site_vector.specs.declared.ids.Dot.{Dot}
 use Rattle.crdt_core.specs.declared.kind.Kind.{Kind}
 use Rattle.crdt_core.specs.declared.kind.Kind.TheVariants.{MapRr}
@@ -15,11 +15,11 @@ use Rattle.crdt_core.specs.Fits.{stands_in}
 use Rattle.crdt_core.specs.Seen.{Update, sees}
 use Rattle.crdt_core.specs.Law.{all_fit}
 use Rattle.crdt_core.specs.InMaps.{KeepsInMaps}
-use Rattle.crdt_core.specs.FieldOrder.{field_cmp, field_ties, same_field_is, same_field_symm}
-use Rattle.crdt_maps.specs.Maps.{FieldMap, at, step_each, listed, is_undone, resets_of, reset_by, map_step, map_made, map_too_deep}
+use Rattle.crdt_core.specs.FieldOrder.{field_cmp, field_ties, same_field_is}
+use Rattle.crdt_maps.specs.Maps.{FieldMap, at, listed, is_undone, resets_of, reset_by, map_step, map_made, map_too_deep}
 use Rattle.crdt_maps.specs.Meaning.{with_some, entered, updated}
 use Rattle.crdt_maps.specs.FieldSteps.{found, stands_each}
-use Rattle.crdt_maps.specs.FieldHistory.{outer_fits, Enters, enters}
+use Rattle.crdt_maps.specs.FieldHistory.{outer_fits, enters}
 use Rattle.crdt_maps.specs.FieldFold.{outer, outer_more}
 
 -- a field among these

@@ -1,32 +1,32 @@
 -- The effects that are generated of maps can be put, where those of the inner type can.
-use Rattle.std.proofs.Common.{◌≡◌, Bool, true, false, cond, not, ◌&&◌, ◌||◌, ℕ, List, [], ◌∷◌, ◌++◌, refl, sym, ◌∙◌, ap, subst, T, Option, Some, None}
-use Rattle.std.specs.Prelude.{map, filter, ◌==◌, Result, Ok, Err, IfOk}
+use Rattle.std.proofs.Common.{◌≡◌, Bool, true, false, cond, not, ◌&&◌, ℕ, List, [], ◌∷◌, refl, sym, ◌∙◌, ap, subst, T, Option, Some, None}
+use Rattle.std.specs.Prelude.{map, filter, Result, Ok, Err, IfOk}
 use Rattle.std.specs.List.{list_any, list_all}
 use Rattle.std.specs.Ordering.{is_lt}
 use Rattle.std.specs.FinMap.{get, get-entries, entries, entries_sorted, is_sorted}
 use Rattle.std.specs.FinMap.Entries.{below_all}
-use Rattle.std.proofs.lemmas.Bool.{true≢false, false≢true, and_parts, and_from, or_left, or_right}
+use Rattle.std.proofs.lemmas.Bool.{false≢true, and_parts, and_from, or_left, or_right}
 use Rattle.site_vector.specs.declared.ids.Dot.{Dot}
-use Rattle.field_codec.specs.Spelling.{are_in_order, are_members, is_below}
+use Rattle.field_codec.specs.Spelling.{are_in_order}
 use Rattle.crdt_core.specs.declared.kind.Kind.{Kind}
 use Rattle.crdt_core.specs.declared.kind.Kind.TheVariants as kinds
 use Rattle.crdt_core.specs.declared.object.Field.{Field}
 use Rattle.crdt_core.specs.declared.operation.Act.{Act}
 use Rattle.crdt_core.specs.declared.operation.Act.TheVariants as act
 use Rattle.crdt_core.specs.declared.value.Value.{Value}
-use Rattle.crdt_core.specs.Fits.{stands_in, allows, fits}
+use Rattle.crdt_core.specs.Fits.{stands_in, fits}
 use Rattle.crdt_core.specs.Leaves.{same_kind_is}
 use Rattle.crdt_core.specs.FieldOrder.{field_cmp}
 use Rattle.crdt_core.specs.Seen.{Update}
 use Rattle.crdt_core.specs.Law.{KeepsLaw}
 use Rattle.crdt_core.specs.Spelled.{is_dot}
-use Rattle.crdt_core.specs.EffectForm.{HoldsSpelled, IsReady, reset_tag, begins_with, asks_reset}
+use Rattle.crdt_core.specs.EffectForm.{HoldsSpelled, IsReady, reset_tag, begins_with}
 use Rattle.crdt_maps.specs.declared.effect.MapEffect.{MapEffect}
 use Rattle.crdt_maps.specs.declared.effect.MapEffect.TheVariants.{At, Resets}
 use Rattle.crdt_maps.specs.Maps.{FieldMap, at, go_has, rr_has, is_undone, resets_of, reset_by, map_made, map_too_deep, map_holds}
-use Rattle.crdt_maps.specs.FieldHistory.{outer_fits, Enters, enters, own_act}
+use Rattle.crdt_maps.specs.FieldHistory.{outer_fits, enters, own_act}
 use Rattle.crdt_maps.specs.MapSteps.{some_found, held_here}
-use Rattle.crdt_maps.specs.EffectForm.{may_stand, entry_below, can_put_reset, go_can_put, go_spelling, rr_can_put, rr_spelling, is_of_map}
+use Rattle.crdt_maps.specs.EffectForm.{may_stand, entry_below, go_can_put, go_spelling, rr_can_put, rr_spelling, is_of_map}
 
 -- an effect of a field that can be put
 abbrev pub can_put_at : {E : Type 0} → (Kind → E → Bool) → (E → Bool) → Kind → E → Bool

@@ -1,5 +1,5 @@
 -- The states and effects of the register that the last writer wins.
-use Rattle.std.specs.Prelude.{ℕ, ◌+◌, max, min, Bool, false, List, Option, Some, None, true, [], not, is_some}
+use Rattle.std.specs.Prelude.{ℕ, ◌+◌, max, min, Bool, false, List, Option, Some, None, not, is_some}
 use Rattle.site_vector.specs.declared.ids.Dot.{Dot}
 use Rattle.site_vector.specs.Ids.{same_dot}
 use Rattle.crdt_core.specs.declared.kind.Kind.{Kind}

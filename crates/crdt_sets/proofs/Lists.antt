@@ -1,9 +1,8 @@
 -- Sets made of lists, and lists of sets.
 use Rattle.std.proofs.Common.{◌≡◌, ℕ, Bool, true, false, cond, ◌||◌, List, [], ◌∷◌, ◌++◌, length, Option, Some, None, refl, sym, ap, ◌∙◌, append_assoc, append-nil, arith}
 use Rattle.std.specs.Prelude.{map, filter, is_some, unwrap_or, ◌==◌}
-use Rattle.std.specs.List.{list_any}
 use Rattle.std.specs.Cmp.{eq_by_cmp_equiv}
-use Rattle.std.specs.FinMap.{FinMap, empty, get, keys, entries, insert, remove, from_entries, get-empty, get-insert, get-remove, contains_key-keys, len, len-entries, len-empty, same_map}
+use Rattle.std.specs.FinMap.{empty, get, keys, entries, insert, remove, from_entries, get-empty, get-insert, get-remove, contains_key-keys, len, len-entries, len-empty, same_map}
 use Rattle.site_vector.specs.declared.ids.Dot.{Dot}
 use Rattle.site_vector.specs.Order.{dot_cmp}
 use Rattle.crdt_core.specs.Kept.{KeptAt, dots_of}

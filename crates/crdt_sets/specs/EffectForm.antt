@@ -1,6 +1,6 @@
 -- The bytes of sets' effects: elements in ascending order, and where they can be removed, what is done and the dots of each.
-use Rattle.std.specs.Prelude.{◌≡◌, ℕ, zero, suc, ◌^◌, ◌≤◌, ◌==◌, Bool, true, false, ◌&&◌, ◌||◌, eqb, nat_le, List, [], ◌∷◌, ◌++◌, if◌then◌else◌, refl}
-use Rattle.std.proofs.Common.{arith, ap}
+use Rattle.std.specs.Prelude.{◌≡◌, ℕ, zero, suc, ◌^◌, ◌==◌, Bool, true, false, ◌&&◌, eqb, nat_le, List, [], ◌∷◌, ◌++◌, if◌then◌else◌, refl}
+use Rattle.std.proofs.Common.{arith}
 use Rattle.std.proofs.lemmas.Bool.{false≢true}
 use Rattle.std.specs.declared.cmp.Ordering.{Ordering}
 use Rattle.field_codec.specs.Spelling.{number, is_number, text, is_text, list, are_members, is_list, is_below}

@@ -1,10 +1,10 @@
 -- What a step leaves of each element.
-use Rattle.std.proofs.Common.{◌≡◌, ℕ, Bool, true, false, cond, not, ◌&&◌, ◌||◌, List, [], ◌∷◌, ◌++◌, Option, Some, None, refl, sym, ap, ◌∙◌, subst, ⊎_elim, append-nil}
-use Rattle.std.specs.Prelude.{map, filter, is_some, unwrap_or, ◌==◌}
+use Rattle.std.proofs.Common.{◌≡◌, ℕ, Bool, true, false, cond, ◌&&◌, ◌||◌, List, [], ◌∷◌, ◌++◌, Option, Some, None, refl, sym, ap, ◌∙◌, ⊎_elim, append-nil}
+use Rattle.std.specs.Prelude.{is_some, unwrap_or, ◌==◌}
 use Rattle.std.specs.List.{list_any}
 use Rattle.std.proofs.lemmas.List.Folds.{list_any-append}
 use Rattle.std.proofs.lemmas.Bool.{true≢false, false≢true, eqb-true, or_cases, or_left, or_right, or_parts, or_from, false_from_ne_true}
-use Rattle.std.specs.FinMap.{FinMap, empty, get, find, keys, entries, insert, remove, len, empty_of_len, get-insert, get-remove, get-empty, get-entries, same_map}
+use Rattle.std.specs.FinMap.{empty, get, find, entries, insert, remove, len, empty_of_len, get-insert, get-remove, get-empty, get-entries, same_map}
 use Rattle.site_vector.specs.declared.ids.Dot.{Dot}
 use Rattle.site_vector.specs.Ids.{same_dot}
 use Rattle.site_vector.specs.Order.{dot_cmp}

@@ -1,9 +1,9 @@
 -- What sets from which elements can be removed keep: of each element, what no later update has taken out.
 use Rattle.std.specs.Prelude.{ℕ, Bool, true, false, not, ◌&&◌, cond, ◌==◌, List, [], ◌∷◌, map, filter, Option, unwrap_or}
 use Rattle.std.specs.List.{list_any}
-use Rattle.std.specs.FinMap.{FinMap, empty, insert, remove, get, keys, entries, len}
+use Rattle.std.specs.FinMap.{FinMap, empty, insert, remove, get, entries, len}
 use Rattle.site_vector.specs.declared.ids.Dot.{Dot}
-use Rattle.crdt_core.specs.Texts.{text_cmp, same_text}
+use Rattle.crdt_core.specs.Texts.{text_cmp}
 use Rattle.crdt_core.specs.DotSet.{has_dot}
 use Rattle.crdt_core.specs.Kept.{KeptAt, kept_step, dots_of, is_kept, has_marked, has_unmarked}
 use Rattle.crdt_sets.specs.declared.named.Named.{Named}

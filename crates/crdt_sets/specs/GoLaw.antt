@@ -1,14 +1,11 @@
 -- The set that only grows keeps the law of a kind.
-use Rattle.std.proofs.Common.{◌≡◌, ℕ, Bool, true, false, cond, ◌&&◌, ◌||◌, List, [], ◌∷◌, ◌++◌, Option, Some, None, refl, sym, ap, ◌∙◌, subst, arith}
-use Rattle.std.specs.Prelude.{map, is_some, length, ◌==◌}
-use Rattle.std.specs.List.{list_any}
+use Rattle.std.proofs.Common.{◌≡◌, ℕ, Bool, true, false, cond, ◌||◌, List, [], ◌∷◌, Option, Some, refl, sym, ap, ◌∙◌, subst, arith}
+use Rattle.std.specs.Prelude.{is_some, length, ◌==◌}
 use Rattle.std.proofs.lemmas.List.Folds.{list_any-append}
-use Rattle.std.proofs.lemmas.Bool.{true≢false, false≢true}
-use Rattle.std.specs.FinMap.{empty, insert, get, keys, get-insert, get-empty, contains_key-keys, same_map}
-use Rattle.site_vector.specs.declared.ids.Dot.{Dot}
+use Rattle.std.proofs.lemmas.Bool.{true≢false}
+use Rattle.std.specs.FinMap.{empty, insert, get, keys, get-insert, get-empty, same_map}
 use Rattle.crdt_core.specs.declared.kind.Kind.{Kind}
 use Rattle.crdt_core.specs.declared.kind.Kind.TheVariants.{SetGo, RegisterLww}
-use Rattle.crdt_core.specs.declared.object.Field.{Field}
 use Rattle.crdt_core.specs.declared.value.Value.TheVariants.{Words}
 use Rattle.crdt_core.specs.Kinds.{same_kind}
 use Rattle.crdt_core.specs.Seen.{Update}
@@ -18,7 +15,7 @@ use Rattle.crdt_core.specs.InMaps.{KeepsInMaps}
 use Rattle.crdt_core.specs.Blank.{no_keys, empty_none, never_reset}
 use Rattle.crdt_core.specs.Leaves.{IsLeaf, same_kind_is, no_stamp_due}
 use Rattle.crdt_core.specs.Confluence.{confluence}
-use Rattle.crdt_core.specs.Texts.{text_cmp, text_cmp_total, text_cmp_exact, same_text, is_in, marked, ascending, in_ascending, is_marked, nothing_beside}
+use Rattle.crdt_core.specs.Texts.{text_cmp, text_cmp_total, text_cmp_exact, same_text, is_in, ascending, in_ascending, is_marked, nothing_beside}
 use Rattle.crdt_sets.specs.Meaning.{added_by, added, go_meaning}
 use Rattle.crdt_sets.specs.MeaningLaws.{go_orderless}
 use Rattle.crdt_sets.specs.SetGo.{has_none, Grown, go_has, with_each, go_step, go_made, go_value, go_stamp, go_names, go_holds}

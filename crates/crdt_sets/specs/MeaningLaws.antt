@@ -1,5 +1,5 @@
 -- The meaning of sets depends on no order.
-use Rattle.std.proofs.Common.{◌≡◌, ℕ, Bool, true, false, ◌&&◌, ◌||◌, List, [], ◌∷◌, ◌++◌, refl, sym, ap, ◌∙◌}
+use Rattle.std.proofs.Common.{◌≡◌, ℕ, Bool, ◌&&◌, ◌||◌, List, [], ◌∷◌, refl, sym, ap, ◌∙◌}
 use Rattle.std.specs.Prelude.{filter}
 use Rattle.std.specs.List.{list_any}
 use Rattle.std.proofs.lemmas.List.Folds.{list_any-append}
@@ -11,7 +11,6 @@ use Rattle.crdt_core.specs.Same.{Same}
 use Rattle.crdt_core.specs.Seen.{Update}
 use Rattle.crdt_core.specs.Confluence.{any_same}
 use Rattle.crdt_core.specs.Texts.{is_in, same_text, ascending, same_ascending, in_filter}
-use Rattle.crdt_core.specs.Wins.{add_wins, remove_wins}
 use Rattle.crdt_core.specs.WinsLaw.{add_wins_same, remove_wins_same}
 use Rattle.crdt_sets.specs.Meaning.{adds, removes, added_by, added, go_meaning, aw_meaning, rw_meaning}
 

@@ -1,12 +1,10 @@
 -- The effects that are generated of sets can be put.
-use Rattle.std.proofs.Common.{◌≡◌, Bool, true, false, ◌&&◌, ◌||◌, ℕ, List, [], ◌∷◌, refl, sym, ◌∙◌, ap, subst, Option, Some, None}
-use Rattle.std.specs.Prelude.{◌==◌, ◌++◌, map, nat_le, length}
+use Rattle.std.proofs.Common.{◌≡◌, Bool, true, false, ◌&&◌, ◌||◌, ℕ, List, [], ◌∷◌, refl, sym, ◌∙◌, ap, subst, Some, None}
 use Rattle.std.specs.List.{list_all}
 use Rattle.std.specs.FinMap.{keys}
 use Rattle.std.proofs.lemmas.Bool.{false≢true}
-use Rattle.field_codec.specs.Spelling.{are_in_order, are_members, is_below}
+use Rattle.field_codec.specs.Spelling.{are_in_order, is_below}
 use Rattle.field_codec.specs.FormLaws.{both_true, and_true}
-use Rattle.site_vector.specs.declared.ids.Dot.{Dot}
 use Rattle.crdt_core.specs.declared.kind.Kind.{Kind}
 use Rattle.crdt_core.specs.declared.kind.Kind.TheVariants.{SetGo, SetAw, SetRw}
 use Rattle.crdt_core.specs.declared.object.Field.{Field}
@@ -14,8 +12,7 @@ use Rattle.crdt_core.specs.declared.operation.Act.{Act}
 use Rattle.crdt_core.specs.declared.operation.Act.TheVariants as act
 use Rattle.crdt_core.specs.Fits.{names_some, allows, fits}
 use Rattle.crdt_core.specs.Leaves.{IsLeaf, fits_leaf}
-use Rattle.crdt_core.specs.KeptSteps.{has_dots_of}
-use Rattle.crdt_core.specs.Kept.{dots_of, is_kept}
+use Rattle.crdt_core.specs.Kept.{dots_of}
 use Rattle.crdt_core.specs.Texts.{text_cmp, is_in, ascending, in_ascending, same_text_itself}
 use Rattle.crdt_core.specs.Spelled.{are_dots}
 use Rattle.crdt_core.specs.EffectForm.{HoldsSpelled, IsReady, reset_tag, begins_with, asks_reset}
@@ -23,9 +20,8 @@ use Rattle.crdt_core.specs.Ready.{keys_in_order, kept_spelled}
 use Rattle.crdt_sets.specs.Elements.{Elements, at, named_at, keeps_dot}
 use Rattle.crdt_sets.specs.ElementSteps.{kept_in}
 use Rattle.crdt_sets.specs.Meaning.{added_by}
-use Rattle.crdt_sets.specs.SetGo.{Grown, go_made, go_holds}
+use Rattle.crdt_sets.specs.SetGo.{Grown, go_made}
 use Rattle.crdt_sets.specs.Sets.{set_made}
-use Rattle.crdt_sets.specs.declared.named.Named.{Named}
 use Rattle.crdt_sets.specs.EffectForm.{has_some, can_put_texts, texts_spelling, named_cmp, can_put_list, can_put_set, set_spelling, is_of_kind}
 
 -- ---- texts in order, of which there are some

@@ -1,11 +1,9 @@
 -- The sets from which elements can be removed keep the law of a kind.
-use Rattle.std.proofs.Common.{◌≡◌, ℕ, Bool, true, false, cond, not, ◌&&◌, ◌||◌, List, [], ◌∷◌, ◌++◌, Option, Some, None, refl, sym, ap, ◌∙◌, subst, length, arith}
+use Rattle.std.proofs.Common.{◌≡◌, ℕ, Bool, true, false, cond, not, ◌&&◌, ◌||◌, List, [], ◌∷◌, Option, Some, None, refl, sym, ap, ◌∙◌, subst, length, arith}
 use Rattle.std.specs.Prelude.{map, filter, is_some, unwrap_or}
 use Rattle.std.specs.List.{list_any}
-use Rattle.std.specs.Ordering.{is_lt}
-use Rattle.std.proofs.lemmas.Bool.{true≢false, false≢true, and_parts, or_parts, or_from, cases_Bool}
-use Rattle.std.specs.FinMap.{FinMap, empty, get, find, keys, entries, entries_sorted, is_sorted, get-empty, get-entries, contains_key-keys, len-entries, len-empty}
-use Rattle.std.specs.FinMap.Entries.{below_all}
+use Rattle.std.proofs.lemmas.Bool.{true≢false, false≢true, and_parts, or_from}
+use Rattle.std.specs.FinMap.{empty, get, find, keys, entries, entries_sorted, get-empty, get-entries, contains_key-keys, len-entries, len-empty}
 use Rattle.site_vector.specs.declared.ids.Dot.{Dot}
 use Rattle.site_vector.specs.Ids.{same_dot}
 use Rattle.site_vector.specs.Order.{dot_cmp}
@@ -15,7 +13,6 @@ use Rattle.crdt_core.specs.declared.operation.Act.{Act}
 use Rattle.crdt_core.specs.declared.operation.Act.TheVariants as act
 use Rattle.crdt_core.specs.declared.value.Value.TheVariants.{Words}
 use Rattle.crdt_core.specs.Kinds.{same_kind, reads_state}
-use Rattle.crdt_core.specs.Same.{Same}
 use Rattle.crdt_core.specs.DotSet.{has_dot}
 use Rattle.crdt_core.specs.Seen.{Update, sees, is_live}
 use Rattle.crdt_core.specs.History.{IsHistory, state_after}
@@ -29,17 +26,15 @@ use Rattle.crdt_core.specs.MapLists.{IsDistinct, distinct_entries}
 use Rattle.crdt_core.specs.Kept.{KeptAt, kept_step, is_kept, has_marked, has_unmarked}
 use Rattle.crdt_core.specs.KeptSteps.{get-kept_step}
 use Rattle.crdt_core.specs.KeptLaw.{given, left, kept_after}
-use Rattle.crdt_core.specs.KeptKinds.{pairs, stays, holding, any_pairs, kept_entries}
+use Rattle.crdt_core.specs.KeptKinds.{stays, holding, any_pairs, kept_entries}
 use Rattle.crdt_core.specs.Members.{one_of, any_of}
 use Rattle.crdt_core.specs.Wins.{lives, add_wins, remove_wins}
 use Rattle.crdt_core.specs.WinsLaw.{undoes, add_stays, remove_stays}
 use Rattle.crdt_sets.specs.Meaning.{adds, removes, added, aw_meaning, rw_meaning}
 use Rattle.crdt_sets.specs.MeaningLaws.{in_added, aw_orderless, rw_orderless}
 use Rattle.crdt_sets.specs.Elements.{Elements, lacks_all, at, take_named, named_at, passing, names_dot, keeps_dot, shows}
-use Rattle.crdt_sets.specs.ElementSteps.{lists, dots_at, at-take_named, take_swaps, take_held, keeps_none, at_none, names_kept, lists_named, dots_named}
+use Rattle.crdt_sets.specs.ElementSteps.{dots_at, at-take_named, take_swaps, take_held, keeps_none, at_none, names_kept, lists_named, dots_named}
 use Rattle.crdt_sets.specs.Sets.{aw_has, rw_has, named_of, aw_own, rw_own, aw_step, rw_step, set_made, kind_made, aw_value, rw_value, no_stamp, set_names}
-use Rattle.crdt_sets.specs.declared.named.Named.{Named}
-use Rattle.crdt_sets.specs.declared.effect.SetEffect.{SetEffect}
 
 -- what an act puts of an element
 abbrev aw_given : List ℕ → Act → Option Bool

@@ -12,7 +12,7 @@ use Rattle.world_model.specs.Event.{AskRead, AskUpdate, AskPrepare, AskBegin, As
 use Rattle.world_model.specs.Partition.{Kinds, PartState, Image, IsOther, IsBegin, vector_of, new_part, PartStep}
 use Rattle.world_model.specs.Plan.{Plan, home, takes_part, commit_vector, IsAllowed, IsSession, IsPlanned, WorldStep, IsRun}
 use Rattle.world_model.specs.WorldLaw.{sees_tx, IsExact, IsRight, ClocksAre, KeepsIs, KeepsDecided, HasCauseAt, HaveCausesAt}
-use Rattle.world_model.specs.Past.{dependency, HoldsPast, KeepPast}
+use Rattle.world_model.specs.Past.{HoldsPast, KeepPast}
 use Rattle.world_model.proofs.Histories.{Facts}
 use Rattle.world_model.proofs.Names.{clash, off, le_from, le_onward, le_raised}
 use Rattle.world_model.proofs.Moves.{moved, image_log}

@@ -1,16 +1,15 @@
 -- What lines say that a transaction reads is what events say, in another order.
-use Rattle.std.proofs.Common.{◌≡◌, ⊎_elim, ℕ, ◌+◌, cond, Bool, true, false, ◌&&◌, ◌||◌, List, [], ◌∷◌, ◌++◌, length, refl, sym, ap, ◌∙◌, subst, append-nil, append_assoc}
-use Rattle.std.specs.Prelude.{⊤, ◌==◌, filter, map, nat_lt, Option, None, Some}
-use Rattle.std.specs.List.{list_any, flat_map}
+use Rattle.std.proofs.Common.{◌≡◌, ⊎_elim, ℕ, ◌+◌, cond, Bool, true, false, ◌&&◌, ◌||◌, List, [], ◌∷◌, ◌++◌, length, refl, sym, ap, ◌∙◌, subst, append_assoc}
+use Rattle.std.specs.Prelude.{⊤, filter, map, nat_lt, None, Some}
+use Rattle.std.specs.List.{flat_map}
 use Rattle.std.specs.declared.cmp.Ordering.TheVariants.{Less}
-use Rattle.std.proofs.lemmas.Bool.{cases_Bool, or_left, or_right, or_cases, or_from, and_from, and_parts, cond-true, cond-false, false_from_ne_true, eq-eqb}
+use Rattle.std.proofs.lemmas.Bool.{cases_Bool, or_left, or_right, or_from, and_from, and_parts, cond-true, cond-false, false_from_ne_true, eq-eqb}
 use Rattle.std.proofs.lemmas.Grind.{flat_map-append}
 use Rattle.std.proofs.lemmas.List.Folds.{list_any-append}
 use Rattle.site_vector.specs.declared.ids.PartId.{PartId}
 use Rattle.site_vector.specs.declared.ids.TxId.{TxId}
 use Rattle.site_vector.specs.Ids.{same_part, same_tx}
 use Rattle.site_vector.specs.Order.{same_tx_is, same_tx_refl}
-use Rattle.site_vector.specs.Vector.{le}
 use Rattle.crdt_core.specs.declared.object.ObjectId.{ObjectId}
 use Rattle.crdt_core.specs.declared.record.Upd.{Upd}
 use Rattle.crdt_core.specs.declared.record.Part.{Part}
@@ -19,8 +18,8 @@ use Rattle.crdt_core.specs.Placing.{place_of}
 use Rattle.crdt_core.specs.Seen.{Update}
 use Rattle.crdt_core.specs.Same.{Same}
 use Rattle.world_model.specs.Log.{touches, lists}
-use Rattle.world_model.specs.Event.{IsDown, Event, Updated, Decided, Restarted, Refused, Cut, Entry, is_decided}
-use Rattle.world_model.specs.Partition.{Precede, Ascends, fold_cmp, AreParts}
+use Rattle.world_model.specs.Event.{IsDown, Event, Updated, Decided, Refused, Cut, Entry, is_decided}
+use Rattle.world_model.specs.Partition.{Ascends, fold_cmp, AreParts}
 use Rattle.world_model.specs.Plan.{Plan, twin, changes_at, commit_vector, updates_at}
 use Rattle.world_model.specs.Handed.{HandedAt, AreHanded, AreNew}
 use Rattle.world_model.specs.World.{plan_of}
@@ -34,12 +33,12 @@ use Rattle.world_model.specs.Clock.{now}
 use Rattle.world_model.specs.History as past
 use Rattle.world_model.specs.Updates.{Change, change_of, changes}
 use Rattle.world_model.specs.Reads as reads
-use Rattle.world_model.proofs.Names.{clash, off, part_same}
+use Rattle.world_model.proofs.Names.{clash}
 use Rattle.world_model.proofs.Folds.{before, before_self, precede_lists}
 use Rattle.world_model.proofs.Stories.{asked_changes}
-use Rattle.world_model.proofs.LineViews.{in_history_is, snapshot_is, visible_is}
+use Rattle.world_model.proofs.LineViews.{snapshot_is, visible_is}
 use Rattle.world_model.proofs.LineChanges.{to_change, changes_there, touched}
-use Rattle.world_model.proofs.Orders.{Each, each_append, filter_narrow, filter_map, map_map, filter_none, is_in, IsOnce, in_filter, once_filter, with_one, inserted, drop_empty, none_pass}
+use Rattle.world_model.proofs.Orders.{Each, each_append, filter_narrow, filter_map, map_map, filter_none, is_in, IsOnce, with_one, inserted, drop_empty, none_pass}
 
 or_none : (b : Bool) → (b || false) ≡ b
 or_none true = refl

@@ -15,29 +15,12 @@ use Rattle.world_model.specs.Partition.{Kinds, PartState, PartStep, MayDo}
 use Rattle.world_model.specs.Plan.{Plan, first_of, is_some_update, home, takes_part, commit_vector, updates_at, change_by, IsAllowed, IsPlanned, TellsAborted, IsRun}
 use Rattle.world_model.specs.Handed.{IsNew}
 use Rattle.world_model.specs.World.{is_begin, begin_vector, begun, snapshot_of, changes_of, lead_of, own_parts, plan_of, IsWorldRun}
-use Rattle.world_model.specs.LawfulWorld.{IsLawfulWorld}
-use Rattle.world_model.specs.Logs.{LeavesLogs}
-use Rattle.world_model.specs.Lines.{lines_of}
-use Rattle.world_model.specs.Lawful.{IsLawful}
 use Rattle.world_model.proofs.Names.{clash, off}
 use Rattle.world_model.proofs.Moves.{image_log}
 use Rattle.world_model.proofs.Fate.{pending_parts, voted_tried}
 use Rattle.world_model.proofs.Later.{full_now}
 use Rattle.world_model.proofs.Leases.{Clock, Leases, leases_step, rises}
-use Rattle.world_model.proofs.Kept.{Kept, law_plan, right_all, facts_of, strict, closed, never_both}
-use Rattle.world_model.proofs.CausalStores.{causal_stores}
-use Rattle.world_model.proofs.Shows.{show_events}
-use Rattle.world_model.proofs.Hears.{fresh_events}
-use Rattle.world_model.proofs.Ups.{answer_up}
-use Rattle.world_model.proofs.Doubts.{settle_doubts}
-use Rattle.world_model.proofs.Voting.{vote_events, vectors, agreed}
-use Rattle.world_model.proofs.Handing.{handed_events, numbered_events, planned_updates}
-use Rattle.world_model.proofs.Resuming.{resume_events}
-use Rattle.world_model.proofs.Sending.{send_events}
-use Rattle.world_model.proofs.Answering.{due_events, known_events}
-use Rattle.world_model.proofs.LogsLeft.{logs_left}
-use Rattle.world_model.proofs.LineLaws.{lawful_lines}
-use Rattle.world_model.proofs.Stories.{stories, meanings, planned_changes}
+use Rattle.world_model.proofs.Kept.{Kept, law_plan}
 
 or_none : (x y : Bool) → x ≡ false → (x || y) ≡ y
 or_none true y e = absurd (clash refl e)

@@ -1,5 +1,5 @@
 -- The cluster that a run has made.
-use Rattle.std.specs.Prelude.{ℕ, Bool, true, false, ◌&&◌, ◌||◌, nat_le, List, [], ◌∷◌}
+use Rattle.std.specs.Prelude.{ℕ, Bool, true, false, ◌&&◌, ◌||◌, nat_le, [], ◌∷◌}
 use Rattle.site_vector.specs.declared.ids.PartId.{PartId}
 use Rattle.world_model.specs.declared.step.Step.{Step}
 use Rattle.world_model.specs.declared.step.Step.TheVariants as step

@@ -1,5 +1,5 @@
 -- The updates of a run's transactions, over its lines.
-use Rattle.std.specs.Prelude.{◌≡◌, ℕ, ◌+◌, Bool, true, false, ◌&&◌, List, [], ◌∷◌, ◌++◌, length, filter, Option, if◌then◌else◌, ⊤}
+use Rattle.std.specs.Prelude.{◌≡◌, ℕ, ◌+◌, Bool, ◌&&◌, List, [], ◌∷◌, ◌++◌, length, filter, Option, if◌then◌else◌, ⊤}
 use Rattle.std.specs.List.{list_any}
 use Rattle.site_vector.specs.declared.ids.PartId.{PartId}
 use Rattle.site_vector.specs.declared.ids.TxId.{TxId}
@@ -12,7 +12,7 @@ use Rattle.world_model.specs.declared.step.Step.{Step}
 use Rattle.world_model.specs.declared.step.Step.TheVariants as step
 use Rattle.world_model.specs.Participants.{partitions}
 use Rattle.world_model.specs.Plan.{first_of, home}
-use Rattle.world_model.specs.Lines.{Call, ReadOf, UpdateOf, Line, EachLine}
+use Rattle.world_model.specs.Lines.{Call, ReadOf, UpdateOf, Line}
 use Rattle.world_model.specs.Clock.{now}
 
 -- what an `updated` line shows of its update

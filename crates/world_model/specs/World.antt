@@ -1,14 +1,14 @@
 -- Runs of the world whose transactions are what their own events say.
-use Rattle.std.specs.Prelude.{◌≡◌, ℕ, ◌+◌, leb, Bool, true, false, ◌&&◌, ◌||◌, ◌==◌, if◌then◌else◌, cond, List, [], ◌∷◌, length, filter, ⊤}
+use Rattle.std.specs.Prelude.{◌≡◌, ℕ, leb, Bool, true, false, ◌&&◌, ◌||◌, ◌==◌, if◌then◌else◌, cond, List, [], ◌∷◌, length, filter}
 use Rattle.std.proofs.lemmas.Bool.{and_parts, eqb-true, leb-true}
 use Rattle.site_vector.specs.declared.ids.PartId.{PartId}
 use Rattle.site_vector.specs.declared.ids.TxId.{TxId}
 use Rattle.site_vector.specs.Ids.{same_tx}
 use Rattle.crdt_core.specs.declared.record.Upd.{Upd}
 use Rattle.world_model.specs.Participants.{partitions}
-use Rattle.world_model.specs.Event.{Event, Began, Updated, Entry, tried}
+use Rattle.world_model.specs.Event.{Event, Began, Entry}
 use Rattle.world_model.specs.Partition.{Kinds, PartState, new_part}
-use Rattle.world_model.specs.Plan.{Plan, first_of, is_some_update, home, updates_at, update_count, WorldStep}
+use Rattle.world_model.specs.Plan.{Plan, first_of, is_some_update, home, updates_at, WorldStep}
 use Rattle.world_model.specs.Handed.{IsNew}
 use Rattle.world_model.specs.LawfulWorld.{IsLawfulWorld}
 use Rattle.world_model.specs.Logs.{LeavesLogs}

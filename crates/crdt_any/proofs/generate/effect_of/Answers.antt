@@ -1,4 +1,4 @@
-use Rattle.std.proofs.Common.{◌≡◌, ap, ◌∙◌, sym, true}
+use Rattle.std.proofs.Common.{ap}
 use Rattle.std.specs.Option.{option_copied}
 use Rattle.std.specs.FinMap.{empty}
 use Rattle.crdt_core.specs.Kept.{is_kept}

@@ -1,6 +1,6 @@
-use Rattle.std.proofs.Common.{◌≡◌, not, subst, sym, rules}
+use Rattle.std.proofs.Common.{◌≡◌, subst, sym, rules}
 use Rattle.std.proofs.lemmas.Fn.{filter_same}
-use Rattle.crdt_core.specs.DotSet.{has_dot, without, IsAscending}
+use Rattle.crdt_core.specs.DotSet.{without, IsAscending}
 use Rattle.crdt_core.proofs.DotSet.{ascending_without}
 use Rattle.crdt_core.proofs.dots.drop_gone.Goals as goal
 

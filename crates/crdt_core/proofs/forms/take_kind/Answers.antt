@@ -1,4 +1,4 @@
-use Rattle.std.proofs.Common.{sym, ◌∙◌}
+use Rattle.std.proofs.Common.{sym}
 use Rattle.std.proofs.lemmas.Result.{err_from_is_err_and}
 use Rattle.crdt_core.specs.SpelledLaws.{kind_read, kind_refused, kind_fails}
 use Rattle.crdt_core.proofs.forms.take_kind.Goals as goal

@@ -1,4 +1,4 @@
-use Rattle.std.proofs.Common.{◌≡◌, ap, ◌∙◌, sym, rules}
+use Rattle.std.proofs.Common.{◌≡◌, ◌∙◌, sym, rules}
 use Rattle.std.specs.Map.{keys_of}
 use Rattle.site_vector.specs.Order.{dot_cmp_total, dot_cmp_exact}
 use Rattle.crdt_core.proofs.Trees.{keys_again}

@@ -1,4 +1,4 @@
-use Rattle.std.proofs.Common.{◌≡◌, ap, ◌∙◌, sym, get_or}
+use Rattle.std.proofs.Common.{ap, ◌∙◌, sym, get_or}
 use Rattle.std.proofs.lemmas.List.{take_more}
 use Rattle.std.specs.FinMap.{remove, from_entries}
 use Rattle.site_vector.specs.declared.ids.Dot.{Dot}

@@ -1,4 +1,4 @@
-use Rattle.std.proofs.Common.{◌≡◌, ap, ◌∙◌, sym, rules, FitsSigned, to_z, of_z, w64, ◌+ℤ◌}
+use Rattle.std.proofs.Common.{ap, ◌∙◌, rules, FitsSigned, to_z, of_z, w64, ◌+ℤ◌}
 use Rattle.std.specs.Int.{int_wrap, w128}
 use Rattle.std.specs.Map.Iter.{deref_pair}
 use Rattle.std.proofs.lemmas.Int.{ints, to_z-of_z}

@@ -1,4 +1,4 @@
-use Rattle.std.proofs.Common.{◌≡◌, ap, ◌∙◌, sym}
+use Rattle.std.proofs.Common.{◌∙◌}
 use Rattle.crdt_maps.proofs.FieldTrees.{with_all, all_again}
 use Rattle.crdt_maps.proofs.copies.copy_fields.Goals as goal
 

@@ -1,6 +1,5 @@
 use Rattle.std.proofs.Common.{◌≡◌, ap, ◌∙◌, sym, subst, IfOk, Bool}
 use Rattle.std.specs.Option.{option_copied}
-use Rattle.site_vector.specs.declared.ids.Dot.{Dot}
 use Rattle.crdt_core.specs.Kept.{KeptAt, dots_of}
 use Rattle.crdt_sets.proofs.Lists.{at_some, at_none, no_dots}
 use Rattle.crdt_sets.proofs.elements.dots_in.Goals as goal

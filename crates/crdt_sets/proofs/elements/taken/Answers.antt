@@ -1,4 +1,4 @@
-use Rattle.std.proofs.Common.{◌≡◌, ap, ◌∙◌, sym}
+use Rattle.std.proofs.Common.{◌∙◌, sym}
 use Rattle.crdt_core.specs.Texts.{text_cmp_total, text_cmp_exact}
 use Rattle.crdt_core.specs.MapLists.{one_gone}
 use Rattle.crdt_sets.proofs.Lists.{at_some, at_none}

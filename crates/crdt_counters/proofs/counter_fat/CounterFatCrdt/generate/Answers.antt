@@ -1,4 +1,4 @@
-use Rattle.std.proofs.Common.{◌≡◌, true, refl, ap, ◌∙◌, sym, subst}
+use Rattle.std.proofs.Common.{◌≡◌, true, refl, ap, sym, subst}
 use Rattle.std.specs.Prelude.{◌==◌}
 use Rattle.crdt_core.specs.Leaves.{same_kind_is}
 use Rattle.crdt_core.specs.Spelled.{are_dots}

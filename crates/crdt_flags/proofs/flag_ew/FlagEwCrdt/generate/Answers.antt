@@ -1,4 +1,4 @@
-use Rattle.std.proofs.Common.{ap, ◌∙◌, sym, subst}
+use Rattle.std.proofs.Common.{ap, sym, subst}
 use Rattle.crdt_core.specs.Leaves.{same_kind_is}
 use Rattle.crdt_core.specs.EffectForm.{reset_tag, IsReady}
 use Rattle.crdt_core.specs.declared.kind.Kind.TheVariants.{FlagEw}

@@ -1,4 +1,4 @@
-use Rattle.std.proofs.Common.{◌≡◌, true, false, rules, ap, ◌∙◌, sym}
+use Rattle.std.proofs.Common.{◌≡◌, true, false, rules, ◌∙◌, sym}
 use Rattle.crdt_core.specs.Fits.{fits}
 use Rattle.crdt_maps.specs.Maps.{map_too_deep}
 use Rattle.crdt_maps.specs.Ready.{go_ready}

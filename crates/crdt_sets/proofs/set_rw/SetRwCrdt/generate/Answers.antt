@@ -2,7 +2,7 @@ use Rattle.std.proofs.Common.{rules, sym, subst}
 use Rattle.crdt_core.specs.Leaves.{same_kind_is}
 use Rattle.crdt_core.specs.EffectForm.{IsReady}
 use Rattle.crdt_core.specs.declared.kind.Kind.TheVariants.{SetRw}
-use Rattle.crdt_sets.specs.EffectForm.{is_of_kind, can_put_set, set_spelling, can_put_texts, texts_spelling}
+use Rattle.crdt_sets.specs.EffectForm.{is_of_kind, can_put_set, set_spelling}
 use Rattle.crdt_sets.specs.Ready.{rw_ready}
 use Rattle.crdt_sets.proofs.set_rw.SetRwCrdt.generate.Goals as goal
 
