@@ -4,7 +4,8 @@
     python3 bench/text/measure.py [FOLDER] [PASSES]
 
 FOLDER is examples/, or any folder of .script files, and PASSES is 2000. The program is crates/text_bench/out/text_bench, which
-`rt run` in crates/text_bench leaves there. What a single pass takes is taken off, so that the start of the program isn't counted."""
+`rt run` in crates/text_bench leaves there. What a single pass takes is taken off, so that the start of the program isn't counted. It stops where the passes
+count something else than so many times what one pass counts."""
 import glob
 import os
 import subprocess
@@ -37,7 +38,9 @@ def main():
     print("scripts: %d lines, %d bytes" % (lines, len(script)))
     for work in ("parse", "line"):
         first, made = seconds(work, 1, script)
-        all_passes, _ = seconds(work, PASSES + 1, script)
+        all_passes, counted = seconds(work, PASSES + 1, script)
+        if counted != (PASSES + 1) * made:
+            sys.exit("%s: %d passes counted %d, and one pass %d" % (work, PASSES + 1, counted, made))
         spent = max(all_passes - first, 1e-9)
         what = "commands" if work == "parse" else "bytes"
         print(
