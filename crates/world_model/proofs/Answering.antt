@@ -38,8 +38,8 @@ module _ {E : Type 0} {S : Type 0} (kinds : Kinds S E) where
   due_event plan run at p q (Refused (AskAbort t) IsGone) fit st h = refl
   due_event plan run at p q (Refused (AskFinish t c) IsGone) fit st h = absurd h
   due_event plan run at p q (Refused (AskUpdate t s o own op) IsBadOp) fit st h = refl
-  due_event plan run at p q (Refused (AskTake m) (HasGap n)) fit st h = refl
-  due_event plan run at p q (Refused (AskTake m) (IsRepeat n)) fit st h = refl
+  due_event plan run at p q (Refused (AskTake number m) (HasGap n)) fit st h = refl
+  due_event plan run at p q (Refused (AskTake number m) (IsRepeat n)) fit st h = refl
   due_event plan run at p q (Refused AskRestart (IsDamaged k)) fit st h = absurd (none_some k (sym (fit st.0.log st.0.found) ∙ st.0.first))
   due_event plan run at p q (Refused asked why) fit st h = absurd st.0.1
   due_event plan run at p q (Cut what) fit st h = is_called plan.sites plan.parts at p what st.1

@@ -10,7 +10,7 @@ use Rattle.crdt_core.specs.declared.record.Message.{Message}
 use Rattle.crdt_core.specs.declared.record.Record.{Record}
 use Rattle.crdt_core.specs.declared.record.Record.TheVariants.{Lease, Prepare, Decide, Finish, Abort, Batch}
 use Rattle.world_model.specs.Log.{lists, vector_in, changes_in, taken, taken_at, taken_changes, bound, grown, IsImage}
-use Rattle.world_model.specs.Event.{Refused, Event, Ticked, Began, Updated, Read, Prepared, Decided, Finished, Aborted, Sent, Took, Reported, Heard, Crashed, RestartCut, Restarted, Opened, Cut, Entry, attempt, is_decided, time_of, sent, EventsAre}
+use Rattle.world_model.specs.Event.{Refused, Event, Ticked, Began, Updated, Read, Prepared, Decided, Finished, Aborted, Sent, Took, Reported, Heard, Crashed, RestartCut, Restarted, Opened, Cut, Entry, attempt, is_decided, time_of, sent, sent_count, report_count, EventsAre}
 use Rattle.world_model.specs.Partition.{Kinds, PartState, Image, IsOther, AreParts, IsBegin, above, batch_of, known, vector_of, done, PartStep}
 use Rattle.world_model.specs.Plan.{Plan, takes_part, twin, changes_at, vector_at, commit_vector, IsAllowed, MayTake, MayHear}
 use Rattle.world_model.specs.WorldLaw.{IsExact}
@@ -19,7 +19,7 @@ use Rattle.world_model.proofs.Parts.{parts_vector, parts_changes, lists_above, a
 use Rattle.world_model.proofs.Moves.{Because, IsCut, Move, image_log}
 use Rattle.world_model.proofs.Fate.{Fate}
 use Rattle.world_model.proofs.Later.{at_own}
-use Rattle.world_model.proofs.Intervals.{Intervals, sent_more, shown_sent, shown_has, events_map, above_sent, same_time, exact_step}
+use Rattle.world_model.proofs.Intervals.{Intervals, sent_more, shown_sent, numbered_shown, shown_has, events_map, above_sent, same_time, exact_step}
 
 pub zeros_at : (n i : ℕ) → slice_index (replicate n 0) i ≡ 0
 zeros_at zero i = refl
@@ -113,13 +113,13 @@ module _ {E : Type 0} where
     }
 
     -- the message was sent, and is exact
-    is_exact : (m : Message E) → MayTake plan run at m → IsExact plan run (twin m.from at) m
-    is_exact m al = let x : IsExact plan run (twin m.from at) m × (m.hi ≤ sent run (twin m.from at)) = shown_has (IsBacked plan run before) run (twin m.from at) (Sent al.asked m) g.events al.shown in x.0
+    is_exact : (number : ℕ) (m : Message E) → MayTake plan run at number m → IsExact plan run (twin m.from at) m
+    is_exact number m al = let x : IsExact plan run (twin m.from at) m × (m.hi ≤ sent run (twin m.from at)) = shown_has (IsBacked plan run before) run (twin m.from at) (Sent al.asked m) g.events (numbered_shown sent_count run number (twin m.from at) (Sent al.asked m) al.shown) in x.0
 
     -- what a message brings: all that lies above the bound
-    message_brings : (m : Message E) (t : TxId) → MayTake plan run at m → m.lo ≤ entry (before at).bounds m.from → is_decided run t ≡ true → t.site ≡ m.from → takes_part plan t (twin m.from at) ≡ true → time_of run t ≤ m.hi → entry (before at).bounds m.from < time_of run t → lists (above m.from (entry (before at).bounds m.from) m.parts) t ≡ true
-    message_brings m t al le h own u c b =
-        let x = is_exact m al in
+    message_brings : (number : ℕ) (m : Message E) (t : TxId) → MayTake plan run at number m → m.lo ≤ entry (before at).bounds m.from → is_decided run t ≡ true → t.site ≡ m.from → takes_part plan t (twin m.from at) ≡ true → time_of run t ≤ m.hi → entry (before at).bounds m.from < time_of run t → lists (above m.from (entry (before at).bounds m.from) m.parts) t ≡ true
+    message_brings number m t al le h own u c b =
+        let x = is_exact number m al in
         let listed : lists m.parts t ≡ true = x.members t ∙ all4 _ _ _ _ h u (lt-ltb _ _ (omega arith)) (le-leb _ _ c) in
         let time : entry (commit_vector plan run t) m.from ≡ time_of run t = subst (λ j. entry (commit_vector plan run t) j ≡ time_of run t) own (at_own plan t (twin m.from at) (time_of run t) u) in
         lists_above (commit_vector plan run) (λ y. plan.updates y (twin m.from at)) m.from (entry (before at).bounds m.from) m.parts t x.exact
@@ -127,11 +127,11 @@ module _ {E : Type 0} where
 
     -- the parts of a record of a message
     cut_parts : (m : Message E) (c : IsCut plan run (before at) at m) → AreParts (commit_vector plan run) (λ y. plan.updates y (twin c.whole.from at)) m.parts
-    cut_parts m c = let x = is_exact c.whole c.taken in
+    cut_parts m c = let x = is_exact c.number c.whole c.taken in
         subst (AreParts (commit_vector plan run) (λ y. plan.updates y (twin c.whole.from at))) (sym c.parts) (above_parts (commit_vector plan run) (λ y. plan.updates y (twin c.whole.from at)) c.whole.from (entry (before at).bounds c.whole.from) c.whole.parts x.exact)
 
     cut_lists : (m : Message E) (c : IsCut plan run (before at) at m) (t : TxId) → lists m.parts t ≡ true → lists c.whole.parts t ≡ true
-    cut_lists m c t h = let x = is_exact c.whole c.taken in
+    cut_lists m c t h = let x = is_exact c.number c.whole c.taken in
         (and_parts _ _ (sym (lists_above (commit_vector plan run) (λ y. plan.updates y (twin c.whole.from at)) c.whole.from (entry (before at).bounds c.whole.from) c.whole.parts t x.exact) ∙ (ap (λ xs. lists xs t) (sym c.parts) ∙ h))).0
 
     from_step : (p : PartId) (new : List (Record E)) (t : TxId) → Image (after p) new → taken new t ≡ true → Brought plan next p t new
@@ -145,7 +145,7 @@ module _ {E : Type 0} where
       where
         listed_in : (old : List (Record E)) (m : Message E) → p ≡ at → IsCut plan run (before at) at m → lists m.parts t ≡ true → Brought plan run p t (Batch m ∷ old)
         listed_in old m e c y =
-            let x = is_exact c.whole c.taken in
+            let x = is_exact c.number c.whole c.taken in
             let a = and_parts (is_decided run t) _ (sym (x.members t) ∙ cut_lists m c t y) in
             let part = (and_parts (takes_part plan t (twin c.whole.from at)) _ a.1).0 in
             let own : c.whole.from ≡ t.site = plan.at_home t (twin c.whole.from at) part in record {
@@ -184,13 +184,13 @@ module _ {E : Type 0} where
     logged_batch : (old : List (Record E)) (m : Message E) (new : List (Record E)) (c : IsCut plan run (before at) at m) → Image (before at) old → Logged plan run at c.whole.from old → bound new c.whole.from ≡ max c.whole.hi (bound old c.whole.from) → ((t : TxId) → taken new t ≡ (lists m.parts t || taken old t)) → Logged plan next at c.whole.from new
     logged_batch old m new c w o e k =
         let j = c.whole.from in
-        let r1 = shown_sent run (twin j at) c.taken.asked c.whole c.taken.shown in
+        let r1 = shown_sent run (twin j at) c.taken.asked c.whole (numbered_shown sent_count run c.number (twin j at) (Sent c.taken.asked c.whole) c.taken.shown) in
         let r2 = o.reached in
         let top : max c.whole.hi (bound old j) ≤ sent run (twin j at) = omega arith in record {
           reached = subst (λ x. x ≤ sent next (twin j at)) (sym e) (reach j at (max c.whole.hi (bound old j)) top);
           held = λ t h q u le. old_only (taken new t ≡ true) j at (max c.whole.hi (bound old j)) t top h u (subst (λ x. time_of next t ≤ x) e le) (λ x le'. k t ∙ ⊎_elim
               (λ (y : entry (before at).bounds j < time_of run t). ⊎_elim
-              (λ (z : bound old j < time_of run t). or_left _ _ (ap (λ xs. lists xs t) c.parts ∙ message_brings c.whole t c.taken c.low x q u (omega arith) y))
+              (λ (z : bound old j < time_of run t). or_left _ _ (ap (λ xs. lists xs t) c.parts ∙ message_brings c.number c.whole t c.taken c.low x q u (omega arith) y))
               (λ (z : time_of run t ≤ bound old j). or_right _ _ (o.held t x q u z))
               (cases_lt (bound old j) (time_of run t)))
               (λ (y : time_of run t ≤ entry (before at).bounds j). or_right _ _ ((g.up_to at j c.up c.taken.from).held old t w x q u y))
@@ -224,14 +224,14 @@ module _ {E : Type 0} where
     up_same : (j : ℕ) → (before at).up ≡ true → entry (after at).bounds j ≡ entry (before at).bounds j → IsOther plan.sites at.site j → Complete plan next after at j (entry (after at).bounds j)
     up_same j up e ne = subst (λ b. Complete plan next after at j b) (sym e) (complete_step at j (entry (before at).bounds j) (g.up_to at j up ne))
 
-    up_took : (m : Message E) → MayTake plan run at m → PartStep kinds plan.sites plan.parts at (before at) (Took m) (after at) → Complete plan next after at m.from m.hi
-    up_took m al st =
+    up_took : (number : ℕ) (m : Message E) → MayTake plan run at number m → PartStep kinds plan.sites plan.parts at (before at) (Took number m) (after at) → Complete plan next after at m.from m.hi
+    up_took number m al st =
         let i = m.from in
-        let top = shown_sent run (twin i at) al.asked m al.shown in record {
+        let top = shown_sent run (twin i at) al.asked m (numbered_shown sent_count run number (twin i at) (Sent al.asked m) al.shown) in record {
           reached = reach i at m.hi top;
           held = λ l t im h q u le. old_only (taken l t ≡ true) i at m.hi t top h u le (λ x le'. ⊎_elim
               (λ (y : entry (before at).bounds i < time_of run t).
-              let b = message_brings m t al st.1.0 x q u le' y in
+              let b = message_brings number m t al st.1.0 x q u le' y in
               let e : l ≡ grown (before at).log (batch_of m (entry (before at).bounds i) (above i (entry (before at).bounds i) m.parts)) = subst (λ p. Image p l) st.2 im in
               ap (λ z. taken z t) e ∙ batch_takes (before at).log m (entry (before at).bounds i) t (above i (entry (before at).bounds i) m.parts) b)
               (λ (y : time_of run t ≤ entry (before at).bounds i). let d = mv.changed at l im in d.told.taken t ∙ more_taken d.more d.old t ((g.up_to at i st.0 al.from).held d.old t d.was x q u y))
@@ -239,7 +239,7 @@ module _ {E : Type 0} where
         }
 
     up_here : (a : Event E) → IsAllowed plan run before at (attempt a) → PartStep kinds plan.sites plan.parts at (before at) a (after at) → (j : ℕ) → (after at).up ≡ true → IsOther plan.sites at.site j → Complete plan next after at j (entry (after at).bounds j)
-    up_here (Took m) al st j up ne =
+    up_here (Took number m) al st j up ne =
         let e : entry (after at).bounds j ≡ entry (replaced (before at).bounds m.from m.hi) j = ap (λ p. entry p.bounds j) st.2 in ⊎_elim
         (λ (x : entry (replaced (before at).bounds m.from m.hi) j ≡ entry (before at).bounds j). up_same j st.0 (e ∙ x) ne)
         (λ (x : (j - 1 ≡ m.from - 1) × (entry (replaced (before at).bounds m.from m.hi) j ≡ m.hi)).
@@ -247,7 +247,7 @@ module _ {E : Type 0} where
         let b = ne.least in
         let c = al.from.least in
         let same : m.from ≡ j = omega arith in
-        subst₂ (λ y z. Complete plan next after at y z) same (sym (e ∙ x.1)) (up_took m al st))
+        subst₂ (λ y z. Complete plan next after at y z) same (sym (e ∙ x.1)) (up_took number m al st))
         (entry_cases (before at).bounds m.from m.hi j)
     up_here (Cut a) al st j up ne = clash up (ap (λ p. p.up) st.2)
     up_here Crashed al st j up ne = clash up (ap (λ p. p.up) st)
@@ -271,7 +271,7 @@ module _ {E : Type 0} where
     up_here (Aborted t own) al st j up ne = up_same j st.0 (ap (λ p. entry p.bounds j) st.2) ne
     up_here (Sent asked m) al st j up ne = up_same j st.0 (ap (λ p. entry p.bounds j) st.2) ne
     up_here (Reported b) al st j up ne = up_same j st.0 (ap (λ p. entry p.bounds j) st.2) ne
-    up_here (Heard q b stable) al st j up ne = up_same j st.0 (ap (λ p. entry p.bounds j) st.2) ne
+    up_here (Heard number q b stable) al st j up ne = up_same j st.0 (ap (λ p. entry p.bounds j) st.2) ne
 
     up_step : (p : PartId) (j : ℕ) → (after p).up ≡ true → IsOther plan.sites p.site j → Complete plan next after p j (entry (after p).bounds j)
     up_step p j up ne = ⊎_elim
@@ -285,21 +285,21 @@ module _ {E : Type 0} where
     heard_same : (q j : ℕ) → (before at).up ≡ true → (after at).heard ≡ (before at).heard → 1 ≤ q → IsOther plan.sites at.site j → Complete plan next after (numbered at q) j (entry (vector_of (after at).heard q) j)
     heard_same q j up e l ne = subst (λ b. Complete plan next after (numbered at q) j b) (sym (ap (λ x. entry (vector_of x q) j) e)) (complete_step (numbered at q) j (entry (vector_of (before at).heard q) j) (g.heard at q j up l ne))
 
-    heard_joined : (k : ℕ) (b : List ℕ) (j : ℕ) → (before at).up ≡ true → MayHear plan run at k b → IsOther plan.sites at.site j → Complete plan next after (numbered at k) j (entry (join (vector_of (before at).heard k) b) j)
-    heard_joined k b j up al ne = ⊎_elim
+    heard_joined : (number k : ℕ) (b : List ℕ) (j : ℕ) → (before at).up ≡ true → MayHear plan run at number k b → IsOther plan.sites at.site j → Complete plan next after (numbered at k) j (entry (join (vector_of (before at).heard k) b) j)
+    heard_joined number k b j up al ne = ⊎_elim
         (λ (x : entry (join (vector_of (before at).heard k) b) j ≤ entry (vector_of (before at).heard k) j). complete_step (numbered at k) j _ (complete_le plan run before (numbered at k) j (entry (vector_of (before at).heard k) j) _ x (g.heard at k j up al.least ne)))
-        (λ (x : entry (join (vector_of (before at).heard k) b) j ≤ entry b j). complete_step (numbered at k) j _ (complete_le plan run before (numbered at k) j (entry b j) _ x (shown_has (IsBacked plan run before) run (numbered at k) (Reported b) g.events al.shown j ne)))
+        (λ (x : entry (join (vector_of (before at).heard k) b) j ≤ entry b j). complete_step (numbered at k) j _ (complete_le plan run before (numbered at k) j (entry b j) _ x (shown_has (IsBacked plan run before) run (numbered at k) (Reported b) g.events (numbered_shown report_count run number (numbered at k) (Reported b) al.shown) j ne)))
         (join_below (vector_of (before at).heard k) b (j - 1))
 
     heard_here : (a : Event E) → IsAllowed plan run before at (attempt a) → PartStep kinds plan.sites plan.parts at (before at) a (after at) → (q j : ℕ) → (after at).up ≡ true → 1 ≤ q → IsOther plan.sites at.site j → Complete plan next after (numbered at q) j (entry (vector_of (after at).heard q) j)
-    heard_here (Heard k b stable) al st q j up l ne =
+    heard_here (Heard number k b stable) al st q j up l ne =
         let e = ap (λ p. vector_of p.heard q) st.2 in ⊎_elim
-        (λ (x : vector_of (done (before at) (Heard k b stable)).heard q ≡ vector_of (before at).heard q). subst (λ y. Complete plan next after (numbered at q) j (entry y j)) (sym (e ∙ x)) (complete_step (numbered at q) j (entry (vector_of (before at).heard q) j) (g.heard at q j st.0 l ne)))
-        (λ (x : (q - 1 ≡ k - 1) × (vector_of (done (before at) (Heard k b stable)).heard q ≡ join (vector_of (before at).heard k) b)).
+        (λ (x : vector_of (done (before at) (Heard number k b stable)).heard q ≡ vector_of (before at).heard q). subst (λ y. Complete plan next after (numbered at q) j (entry y j)) (sym (e ∙ x)) (complete_step (numbered at q) j (entry (vector_of (before at).heard q) j) (g.heard at q j st.0 l ne)))
+        (λ (x : (q - 1 ≡ k - 1) × (vector_of (done (before at) (Heard number k b stable)).heard q ≡ join (vector_of (before at).heard k) b)).
         let a = x.0 in
         let c = al.least in
         let same : k ≡ q = omega arith in
-        subst (λ y. Complete plan next after (numbered at q) j (entry y j)) (sym (e ∙ x.1)) (subst (λ z. Complete plan next after (numbered at z) j (entry (join (vector_of (before at).heard k) b) j)) same (heard_joined k b j st.0 al ne)))
+        subst (λ y. Complete plan next after (numbered at q) j (entry y j)) (sym (e ∙ x.1)) (subst (λ z. Complete plan next after (numbered at z) j (entry (join (vector_of (before at).heard k) b) j)) same (heard_joined number k b j st.0 al ne)))
         (vectors_cases (before at).heard k q (join (vector_of (before at).heard k) b))
     heard_here (Cut a) al st q j up l ne = clash up (ap (λ p. p.up) st.2)
     heard_here Crashed al st q j up l ne = clash up (ap (λ p. p.up) st)
@@ -316,7 +316,7 @@ module _ {E : Type 0} where
     heard_here (Finished t c) al st q j up l ne = heard_same q j st.0 (ap (λ p. p.heard) st.2) l ne
     heard_here (Aborted t own) al st q j up l ne = heard_same q j st.0 (ap (λ p. p.heard) st.2) l ne
     heard_here (Sent asked m) al st q j up l ne = heard_same q j st.0 (ap (λ p. p.heard) st.2) l ne
-    heard_here (Took m) al st q j up l ne = heard_same q j st.0 (ap (λ p. p.heard) st.2) l ne
+    heard_here (Took number m) al st q j up l ne = heard_same q j st.0 (ap (λ p. p.heard) st.2) l ne
     heard_here (Reported b) al st q j up l ne = heard_same q j st.0 (ap (λ p. p.heard) st.2) l ne
 
     heard_step : (p : PartId) (q j : ℕ) → (after p).up ≡ true → 1 ≤ q → IsOther plan.sites p.site j → Complete plan next after (numbered p q) j (entry (vector_of (after p).heard q) j)

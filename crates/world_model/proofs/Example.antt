@@ -161,17 +161,21 @@ module _ {S E : Type 0} (kinds : Kinds S E) (known : kinds.has CounterPn ≡ tru
   abbrev e6a : Event E
   e6a = Sent None lost
 
+  -- the first message again, which nobody takes either
+  abbrev e6b : Event E
+  e6b = Sent (Some 0) message
+
   abbrev e7 : Event E
-  e7 = Took message
+  e7 = Took 1 message
 
   abbrev e8 : Event E
-  e8 = Refused (AskTake message) (IsRepeat 1001)
+  e8 = Refused (AskTake 1 message) (IsRepeat 1001)
 
   abbrev e9 : Event E
   e9 = Reported (1001 ∷ 0 ∷ [])
 
   abbrev e10 : Event E
-  e10 = Heard 1 (1001 ∷ 0 ∷ []) (1001 ∷ 0 ∷ [])
+  e10 = Heard 1 1 (1001 ∷ 0 ∷ []) (1001 ∷ 0 ∷ [])
 
   abbrev e11 : Event E
   e11 = Began ann snapshot1 moved snapshot2
@@ -212,8 +216,11 @@ module _ {S E : Type 0} (kinds : Kinds S E) (known : kinds.has CounterPn ≡ tru
   abbrev p6a : PartId → PartState E
   p6a = put p6 here (done (p6 here) e6a)
 
+  abbrev p6b : PartId → PartState E
+  p6b = put p6a here (done (p6a here) e6b)
+
   abbrev p7 : PartId → PartState E
-  p7 = put p6a there (done (p6a there) e7)
+  p7 = put p6b there (done (p6b there) e7)
 
   abbrev p9 : PartId → PartState E
   p9 = put p7 there (done (p7 there) e9)
@@ -351,8 +358,11 @@ module _ {S E : Type 0} (kinds : Kinds S E) (known : kinds.has CounterPn ≡ tru
   abbrev r6a : List (Entry E)
   r6a = entry_at here e6a ∷ r6
 
+  abbrev r6b : List (Entry E)
+  r6b = entry_at here e6b ∷ r6a
+
   abbrev r7 : List (Entry E)
-  r7 = entry_at there e7 ∷ r6a
+  r7 = entry_at there e7 ∷ r6b
 
   abbrev r8 : List (Entry E)
   r8 = entry_at there e8 ∷ r7
@@ -427,15 +437,28 @@ module _ {S E : Type 0} (kinds : Kinds S E) (known : kinds.has CounterPn ≡ tru
     tt,
   )
 
-  run7 : IsWorldRun kinds 2 1 r7 p7
-  run7 = (
+  run6b : IsWorldRun kinds 2 1 r6b p6b
+  run6b = (
     p6a,
     run6a,
     record {
+      place = place_here;
+      allowed = tt;
+      step = (refl, record { from = refl; part = refl; to = second_of_first; lo = refl; hi = own_bound; order = (tt, tt); members = λ u. in_stretch (same_tx first u); exact = ((refl, refl), tt) }, refl);
+      others = others p6a here (done (p6a here) e6b);
+    },
+    tt,
+  )
+
+  run7 : IsWorldRun kinds 2 1 r7 p7
+  run7 = (
+    p6b,
+    run6b,
+    record {
       place = place_there;
-      allowed = record { from = first_of_second; to = refl; part = refl; asked = None; shown = inr (inl (refl, refl)) };
+      allowed = record { from = first_of_second; to = refl; part = refl; asked = None; shown = inr (inr (inl (refl, refl, refl))) };
       step = (refl, (le_refl 0, lit< tt), refl);
-      others = others p6a there (done (p6a there) e7);
+      others = others p6b there (done (p6b there) e7);
     },
     tt,
   )
@@ -446,7 +469,7 @@ module _ {S E : Type 0} (kinds : Kinds S E) (known : kinds.has CounterPn ≡ tru
     run7,
     record {
       place = place_there;
-      allowed = record { from = first_of_second; to = refl; part = refl; asked = None; shown = inr (inr (inl (refl, refl))) };
+      allowed = record { from = first_of_second; to = refl; part = refl; asked = None; shown = inr (inr (inr (inl (refl, refl, refl)))) };
       step = ((refl, (refl, lit≤ tt, le_refl 1001)), refl);
       others = λ q ne. refl;
     },
@@ -472,7 +495,7 @@ module _ {S E : Type 0} (kinds : Kinds S E) (known : kinds.has CounterPn ≡ tru
     run9,
     record {
       place = place_there;
-      allowed = record { least = lit≤ tt; most = lit≤ tt; shown = inl (refl, refl) };
+      allowed = record { least = lit≤ tt; most = lit≤ tt; shown = inl (refl, refl, refl) };
       step = (refl, record { width = refl; own = (0, record { most = le_refl 0; below = λ u h. off h; reached = inl refl }, refl); others = λ j o. subst (λ i. entry (1001 ∷ 0 ∷ []) i ≡ stable_entry 1 there (done (p9 there) e10) i) (sym (other_of_second j o)) refl }, refl);
       others = others p9 there (done (p9 there) e10);
     },
@@ -536,6 +559,7 @@ module _ {S E : Type 0} (kinds : Kinds S E) (known : kinds.has CounterPn ≡ tru
       ∷ step.Restarted here 1001 (1001 ∷ 0 ∷ []) (Some first) []
       ∷ step.Sent 1 here 2 0 1001 1
       ∷ step.Sent 2 here 2 1001 1001 0
+      ∷ step.Sent 3 here 2 0 1001 1
       ∷ step.Took 1 1001
       ∷ step.Dup 1 1001
       ∷ step.Reported 1 there (1001 ∷ 0 ∷ [])

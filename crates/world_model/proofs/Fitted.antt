@@ -17,7 +17,7 @@ use Rattle.crdt_core.specs.declared.record.Record.{Record}
 use Rattle.crdt_core.specs.declared.record.Record.TheVariants.{Lease, Prepare, Decide, Finish, Abort, Batch}
 use Rattle.world_model.specs.Log.{end_of_time, lists, vector_in, ceiling, prepared, prepare_time, pending, taken, taken_at, bound, grown, IsImage}
 use Rattle.world_model.specs.Fitting.{is_vector, is_named_in, prepared_lead, prepared_snapshot, stand_at, fits_commit, fits_part, are_apart, fits_message, fits_record, unfit_next, unfit}
-use Rattle.world_model.specs.Event.{Event, Ticked, Began, Updated, Read, Prepared, Decided, Finished, Aborted, Sent, Took, Reported, Heard, Crashed, RestartCut, Restarted, Refused, Opened, Cut, Entry, attempt, is_prepare, time_shown, voted, is_decided, time_of, sent}
+use Rattle.world_model.specs.Event.{Event, Ticked, Began, Updated, Read, Prepared, Decided, Finished, Aborted, Sent, Took, Reported, Heard, Crashed, RestartCut, Restarted, Refused, Opened, Cut, Entry, attempt, is_prepare, time_shown, voted, is_decided, time_of, sent, sent_count}
 use Rattle.world_model.specs.Partition.{Kinds, PartState, Image, IsOther, Ascends, stream_cmp, AreParts, lease_for, above, batch_of, records, done, MayDo, PartStep}
 use Rattle.world_model.specs.Plan.{Plan, first_of, twin, takes_part, commit_vector, IsPlace, IsAllowed, MayPrepare, MayDecide, MayFinish, MayTake, IsRun}
 use Rattle.world_model.specs.Participants.{partitions}
@@ -28,7 +28,7 @@ use Rattle.world_model.proofs.Moves.{image_log, grown_image, grown_last}
 use Rattle.world_model.proofs.Leases.{Leases, done_ceil}
 use Rattle.world_model.proofs.Fate.{pending_parts, voted_tried}
 use Rattle.world_model.proofs.Later.{at_own, full_now, vote_in_time}
-use Rattle.world_model.proofs.Intervals.{shown_has}
+use Rattle.world_model.proofs.Intervals.{numbered_shown, shown_has}
 use Rattle.world_model.proofs.Completeness.{IsBacked, zeros_at}
 use Rattle.world_model.proofs.Kept.{Kept, law_plan}
 use Rattle.world_model.proofs.Shows.{Shown, shown_run}
@@ -349,14 +349,14 @@ module _ {E S : Type 0} (kinds : Kinds S E) (plan : Plan E) (pf : PlanFits plan)
             clash (k.fate.stays log t (subst (λ q. Image (before q) log) (sym same) i) al.decided) parts.committed in
             (and_from _ _ p (and_from _ _ (ap not (false_from_ne_true _ (λ e. away (eqb-true (prepared_lead log t) at.part e)))) (commit_fits t c p (all.all at takes) al.vector)), tt, tt)
 
-    batch_good : (m : Message E) → MayTake plan run at m → MayDo kinds plan.sites plan.parts at (before at) (Took m) → (before at).up ≡ true → (xs : List (Part E)) → above m.from (entry (before at).bounds m.from) m.parts ≡ xs → GoodAfter plan at log (batch_of m (entry (before at).bounds m.from) xs)
-    batch_good m al may up [] e = tt
-    batch_good m al may up (y ∷ ys) e =
+    batch_good : (number : ℕ) (m : Message E) → MayTake plan run at number m → MayDo kinds plan.sites plan.parts at (before at) (Took number m) → (before at).up ≡ true → (xs : List (Part E)) → above m.from (entry (before at).bounds m.from) m.parts ≡ xs → GoodAfter plan at log (batch_of m (entry (before at).bounds m.from) xs)
+    batch_good number m al may up [] e = tt
+    batch_good number m al may up (y ∷ ys) e =
         let b = entry (before at).bounds m.from in
         let low = may.0 in
         let high = may.1 in
         let q = twin m.from at in
-        let backed : IsExact plan run q m × (m.hi ≤ sent run q) = shown_has (IsBacked plan run before) run q (Sent al.asked m) k.bounds.events al.shown in
+        let backed : IsExact plan run q m × (m.hi ≤ sent run q) = shown_has (IsBacked plan run before) run q (Sent al.asked m) k.bounds.events (numbered_shown sent_count run number q (Sent al.asked m) al.shown) in
         let x = backed.0 in
         let vec = commit_vector plan run in
         let ups = λ (u : TxId). plan.updates u q in
@@ -407,7 +407,7 @@ module _ {E S : Type 0} (kinds : Kinds S E) (plan : Plan E) (pf : PlanFits plan)
     records_good (Decided t c) al m up = decide_good t c al
     records_good (Finished t c) al m up = finish_good t c al
     records_good (Aborted t own) al m up = (m, tt, tt)
-    records_good (Took x) al m up = batch_good x al m up (above x.from (entry (before at).bounds x.from) x.parts) refl
+    records_good (Took number x) al m up = batch_good number x al m up (above x.from (entry (before at).bounds x.from) x.parts) refl
     records_good what al m up = tt
 
     done_good : (what : Event E) → IsAllowed plan run before at what → MayDo kinds plan.sites plan.parts at (before at) what → (before at).up ≡ true → after at ≡ done (before at) what → (m : List (Record E)) → Image (after at) m → AreGood plan at m
@@ -432,16 +432,16 @@ module _ {E S : Type 0} (kinds : Kinds S E) (plan : Plan E) (pf : PlanFits plan)
     logs_here (Finished t c) al st m i = done_good (Finished t c) al st.1 st.0 st.2 m i
     logs_here (Aborted t own) al st m i = done_good (Aborted t own) al st.1 st.0 st.2 m i
     logs_here (Sent asked x) al st m i = done_good (Sent asked x) al st.1 st.0 st.2 m i
-    logs_here (Took x) al st m i = done_good (Took x) al st.1 st.0 st.2 m i
+    logs_here (Took number x) al st m i = done_good (Took number x) al st.1 st.0 st.2 m i
     logs_here (Reported b) al st m i = done_good (Reported b) al st.1 st.0 st.2 m i
-    logs_here (Heard q b stable) al st m i = done_good (Heard q b stable) al st.1 st.0 st.2 m i
+    logs_here (Heard number q b stable) al st m i = done_good (Heard number q b stable) al st.1 st.0 st.2 m i
 
     -- a log's bounds are at most those of its partition
     same_bound : (j : ℕ) → (before at).up ≡ true → IsOther plan.sites at.site j → bound (after at).log j ≡ bound log j → (after at).bounds ≡ (before at).bounds → bound (after at).log j ≤ entry (after at).bounds j
     same_bound j up o e b = subst₂ (λ x y. x ≤ y) (sym e) (sym (ap (λ v. entry v j) b)) (g.bounds at up j o)
 
-    took_bound : (w : Shown plan run before) (m : Message E) → MayTake plan run at m → PartStep kinds plan.sites plan.parts at (before at) (Took m) (after at) → (j : ℕ) → IsOther plan.sites at.site j → bound (after at).log j ≤ entry (after at).bounds j
-    took_bound w m al st j o =
+    took_bound : (w : Shown plan run before) (number : ℕ) (m : Message E) → MayTake plan run at number m → PartStep kinds plan.sites plan.parts at (before at) (Took number m) (after at) → (j : ℕ) → IsOther plan.sites at.site j → bound (after at).log j ≤ entry (after at).bounds j
+    took_bound w number m al st j o =
         let b = entry (before at).bounds m.from in
         let xs = above m.from b m.parts in
         let e : bound (after at).log j ≡ cond (m.from == j && is_some_part xs) (max m.hi (bound log j)) (bound log j) = ap (λ p. bound p.log j) st.2 ∙ batch_bound log m b j xs in
@@ -474,7 +474,7 @@ module _ {E S : Type 0} (kinds : Kinds S E) (plan : Plan E) (pf : PlanFits plan)
     bounds_here w (Restarted n b named listed) al st u j o = let e = st.bounds j o in omega arith
     bounds_here w (Refused asked why) al st u j o = subst (λ p. bound p.log j ≤ entry p.bounds j) (sym st.1) (g.bounds at (sym (ap (λ p. p.up) st.1) ∙ u) j o)
     bounds_here w (Opened who) al st u j o = subst (λ p. bound p.log j ≤ entry p.bounds j) (sym st) (g.bounds at (sym (ap (λ p. p.up) st) ∙ u) j o)
-    bounds_here w (Took m) al st u j o = took_bound w m al st j o
+    bounds_here w (Took number m) al st u j o = took_bound w number m al st j o
     bounds_here w (Ticked r n) al st u j o = same_bound j st.0 o (ap (λ p. bound p.log j) st.2 ∙ leased_bound log n j) (ap (λ p. p.bounds) st.2)
     bounds_here w (Began who dep t s) al st u j o = same_bound j st.0 o (ap (λ p. bound p.log j) st.2 ∙ leased_bound log t.time j) (ap (λ p. p.bounds) st.2)
     bounds_here w (Prepared t s l c n) al st u j o = same_bound j st.0 o (ap (λ p. bound p.log j) st.2 ∙ ap (λ x. bound x j) (grown_last log (lease_for log n) (Prepare t l n s c)) ∙ leased_bound log n j) (ap (λ p. p.bounds) st.2)
@@ -485,7 +485,7 @@ module _ {E S : Type 0} (kinds : Kinds S E) (plan : Plan E) (pf : PlanFits plan)
     bounds_here w (Read t s y own read value) al st u j o = same_bound j st.0 o (ap (λ p. bound p.log j) st.2) (ap (λ p. p.bounds) st.2)
     bounds_here w (Sent asked x) al st u j o = same_bound j st.0 o (ap (λ p. bound p.log j) st.2) (ap (λ p. p.bounds) st.2)
     bounds_here w (Reported b) al st u j o = same_bound j st.0 o (ap (λ p. bound p.log j) st.2) (ap (λ p. p.bounds) st.2)
-    bounds_here w (Heard q b stable) al st u j o = same_bound j st.0 o (ap (λ p. bound p.log j) st.2) (ap (λ p. p.bounds) st.2)
+    bounds_here w (Heard number q b stable) al st u j o = same_bound j st.0 o (ap (λ p. bound p.log j) st.2) (ap (λ p. p.bounds) st.2)
 
     times_here : (event : Event E) → PartStep kinds plan.sites plan.parts at (before at) event (after at) → (t : TxId) → cond (is_prepare event t) (max (time_shown event) (time_of run t)) (time_of run t) ≤ end_of_time
     times_here (Prepared u s l w n) st t = go (same_tx u t) (time_of run t) (g.times t)

@@ -34,13 +34,13 @@ module _ {E : Type 0} where
   handed_event kinds plan run before at q (Began who dep t s) pl al st = ap home st.1.named
   handed_event kinds plan run before at q (Read t s o own read value) pl al st = record { site = al.site; part = al.place; who = al.who; begun = shown_of run (home t) al.who al.dependency t s al.begun }
   handed_event kinds plan run before at q (Updated t s o own op read u stamp) pl al st = (record { site = al.site; part = al.place; who = al.who; begun = shown_of run (home t) al.who al.dependency t s al.begun }, st.1.object)
-  handed_event kinds plan run before at q (Took m) pl al st = al
-  handed_event kinds plan run before at q (Refused (AskTake m) why) pl al st = al
+  handed_event kinds plan run before at q (Took number m) pl al st = al
+  handed_event kinds plan run before at q (Refused (AskTake number m) why) pl al st = al
   handed_event kinds plan run before at q (Refused (AskBegin who dep) why) pl al st = al
   handed_event kinds plan run before at q (Refused (AskRead t s o own) why) pl al st = shown_has (IsPlanned plan) run (home t) (Began al.who al.dependency t s) pl al.begun
   handed_event kinds plan run before at q (Refused (AskUpdate t s o own op) why) pl al st = shown_has (IsPlanned plan) run (home t) (Began al.who al.dependency t s) pl al.begun
   handed_event kinds plan run before at q (Refused (AskDecide t c) why) pl al st = al
-  handed_event kinds plan run before at q (Heard k b stable) pl al st = al
+  handed_event kinds plan run before at q (Heard number k b stable) pl al st = al
   handed_event kinds plan run before at q event pl al st = tt
 
   pub place_events : {S : Type 0} (kinds : Kinds S E) (plan : Plan E) (run : List (Entry E)) (parts : PartId → PartState E) → IsRun kinds plan run parts → EventsAre (λ p event. IsPlace plan.sites plan.parts p) run

@@ -8,13 +8,13 @@ use Rattle.site_vector.specs.Ids.{same_part}
 use Rattle.site_vector.specs.Order.{same_part_refl}
 use Rattle.site_vector.specs.Vector.{entry, join}
 use Rattle.site_vector.specs.VectorLaws.{length_join}
-use Rattle.world_model.specs.Event.{AskBegin, StableBehind, ClockAtEnd, Event, Ticked, Began, Updated, Read, Prepared, Decided, Finished, Aborted, Sent, Took, Reported, Heard, Crashed, RestartCut, Restarted, Refused, Opened, Cut, Entry, attempt, EventsAre}
+use Rattle.world_model.specs.Event.{AskBegin, StableBehind, ClockAtEnd, Event, Ticked, Began, Updated, Read, Prepared, Decided, Finished, Aborted, Sent, Took, Reported, Heard, Crashed, RestartCut, Restarted, Refused, Opened, Cut, Entry, attempt, report_count, EventsAre}
 use Rattle.world_model.specs.Partition.{Kinds, PartState, IsOther, known, stable_entry, lowest, vector_of, new_part, done, PartStep}
 use Rattle.world_model.specs.Plan.{Plan, IsAllowed, IsRun}
 use Rattle.world_model.specs.Shown.{bound_shown}
 use Rattle.world_model.specs.Stable.{heard_from, heard_shown, known_shown, IsLeast, IsStableAt, IsFreshAt, AreFresh}
 use Rattle.world_model.proofs.Names.{clash, part_cases, part_other, lowest_below, lowest_reached}
-use Rattle.world_model.proofs.Intervals.{shown_has}
+use Rattle.world_model.proofs.Intervals.{numbered_shown, shown_has}
 use Rattle.world_model.proofs.Completeness.{numbered, rows_at}
 use Rattle.world_model.proofs.Leases.{Leases}
 use Rattle.world_model.proofs.Fate.{Fate}
@@ -64,12 +64,12 @@ module _ {E : Type 0} where
     down_heard : (event : Event E) → (after at).up ≡ false → HeardHere plan run at event (after at)
     down_heard event d = record { count = λ u. clash u d; rows = λ q u a b. clash u d; told = λ q j u a b. clash u d }
 
-    new_heard : (k : ℕ) (b stable : List ℕ) → IsAllowed plan run before at (Heard k b stable) → PartStep kinds plan.sites plan.parts at (before at) (Heard k b stable) (after at) → HeardHere plan run at (Heard k b stable) (after at)
-    new_heard k b stable al st =
+    new_heard : (number k : ℕ) (b stable : List ℕ) → IsAllowed plan run before at (Heard number k b stable) → PartStep kinds plan.sites plan.parts at (before at) (Heard number k b stable) (after at) → HeardHere plan run at (Heard number k b stable) (after at)
+    new_heard number k b stable al st =
         let old = (before at).heard in
         let joined = join (vector_of old k) b in
         let in_row = h.rows at k st.0 al.least al.most in
-        let in_report : length b ≡ plan.sites = shown_has (IsWide plan) run (numbered at k) (Reported b) h.wide al.shown in
+        let in_report : length b ≡ plan.sites = shown_has (IsWide plan) run (numbered at k) (Reported b) h.wide (numbered_shown report_count run number (numbered at k) (Reported b) al.shown) in
         let even : length (vector_of old k) ≡ length b = in_row ∙ sym in_report in
         let long = h.count at st.0 in
         let lk = al.least in
@@ -88,7 +88,7 @@ module _ {E : Type 0} where
         }
 
     heard_here : (event : Event E) → IsAllowed plan run before at (attempt event) → PartStep kinds plan.sites plan.parts at (before at) event (after at) → HeardHere plan run at event (after at)
-    heard_here (Heard k b stable) al st = new_heard k b stable al st
+    heard_here (Heard number k b stable) al st = new_heard number k b stable al st
     heard_here (Restarted n b named listed) al st = record {
       count = λ u. ap length st.heard ∙ length-replicate plan.parts (replicate plan.sites 0);
       rows = λ q u a c. ap (λ x. length (vector_of x q)) st.heard ∙ ap length (get_or-replicate plan.parts (q - 1) (replicate plan.sites 0) [] (omega arith)) ∙ length-replicate plan.sites 0;
@@ -116,7 +116,7 @@ module _ {E : Type 0} where
     heard_here (Finished t c) al st = same_heard (Finished t c) st.0 (λ q j. refl) (ap (λ p. p.heard) st.2)
     heard_here (Aborted t own) al st = same_heard (Aborted t own) st.0 (λ q j. refl) (ap (λ p. p.heard) st.2)
     heard_here (Sent asked m) al st = same_heard (Sent asked m) st.0 (λ q j. refl) (ap (λ p. p.heard) st.2)
-    heard_here (Took m) al st = same_heard (Took m) st.0 (λ q j. refl) (ap (λ p. p.heard) st.2)
+    heard_here (Took number m) al st = same_heard (Took number m) st.0 (λ q j. refl) (ap (λ p. p.heard) st.2)
     heard_here (Reported b) al st = same_heard (Reported b) st.0 (λ q j. refl) (ap (λ p. p.heard) st.2)
 
     wide_event : (event : Event E) → PartStep kinds plan.sites plan.parts at (before at) event (after at) → IsWide plan at event
@@ -151,22 +151,22 @@ module _ {E : Type 0} where
     stable_low w up j o q a b = subst (λ x. stable_entry plan.parts at (before at) j ≤ x) (known_is w up j o q a b) (lowest_below (known at (before at) j) plan.parts q a b)
 
     -- what is told once a report was heard
-    stable_told : (k : ℕ) (b stable : List ℕ) → 1 ≤ plan.parts → Fate plan run before → Leases run before → Shown plan run before → IsAllowed plan run before at (Heard k b stable) → PartStep kinds plan.sites plan.parts at (before at) (Heard k b stable) (after at) → IsStableAt plan run at (λ q j. heard_from {E = E} q j (heard_shown run at q j) (Heard k b stable)) stable
-    stable_told k b stable some f l w al st =
-        let x = new_heard k b stable al st in
-        let same : (q j : ℕ) → 1 ≤ q → q ≤ plan.parts → entry (vector_of (done (before at) (Heard k b stable)).heard q) j ≡ heard_from {E = E} q j (heard_shown run at q j) (Heard k b stable) = λ q j a c. sym (ap (λ p. entry (vector_of p.heard q) j) st.2) ∙ x.told q j (ap (λ p. p.up) st.2) a c in record {
+    stable_told : (number k : ℕ) (b stable : List ℕ) → 1 ≤ plan.parts → Fate plan run before → Leases run before → Shown plan run before → IsAllowed plan run before at (Heard number k b stable) → PartStep kinds plan.sites plan.parts at (before at) (Heard number k b stable) (after at) → IsStableAt plan run at (λ q j. heard_from {E = E} q j (heard_shown run at q j) (Heard number k b stable)) stable
+    stable_told number k b stable some f l w al st =
+        let x = new_heard number k b stable al st in
+        let same : (q j : ℕ) → 1 ≤ q → q ≤ plan.parts → entry (vector_of (done (before at) (Heard number k b stable)).heard q) j ≡ heard_from {E = E} q j (heard_shown run at q j) (Heard number k b stable) = λ q j a c. sym (ap (λ p. entry (vector_of p.heard q) j) st.2) ∙ x.told q j (ap (λ p. p.up) st.2) a c in record {
           width = st.1.width;
-          others = λ j o. least_is (known at (done (before at) (Heard k b stable)) j) (λ q. cond (at.part == q) (bound_shown run at j) (heard_from {E = E} q j (heard_shown run at q j) (Heard k b stable))) plan.parts (entry stable j) some (λ q a c. λ i. cond (at.part == q) (w.bounds at j st.0 o i) (same q j a c i)) (st.1.others j o);
+          others = λ j o. least_is (known at (done (before at) (Heard number k b stable)) j) (λ q. cond (at.part == q) (bound_shown run at j) (heard_from {E = E} q j (heard_shown run at q j) (Heard number k b stable))) plan.parts (entry stable j) some (λ q a c. λ i. cond (at.part == q) (w.bounds at j st.0 o i) (same q j a c i)) (st.1.others j o);
           own = (
             st.1.own.0,
             own_bound kinds plan run before after at f w st.0 l st.1.own.0 st.1.own.1,
-            least_is (λ q. cond (at.part == q) st.1.own.0 (entry (vector_of (done (before at) (Heard k b stable)).heard q) at.site)) (λ q. cond (at.part == q) st.1.own.0 (heard_from {E = E} q at.site (heard_shown run at q at.site) (Heard k b stable))) plan.parts (entry stable at.site) some (λ q a c. λ i. cond (at.part == q) st.1.own.0 (same q at.site a c i)) st.1.own.2,
+            least_is (λ q. cond (at.part == q) st.1.own.0 (entry (vector_of (done (before at) (Heard number k b stable)).heard q) at.site)) (λ q. cond (at.part == q) st.1.own.0 (heard_from {E = E} q at.site (heard_shown run at q at.site) (Heard number k b stable))) plan.parts (entry stable at.site) some (λ q a c. λ i. cond (at.part == q) st.1.own.0 (same q at.site a c i)) st.1.own.2,
           );
         }
 
     fresh_event : (event : Event E) → 1 ≤ plan.parts → Fate plan run before → Leases run before → Shown plan run before → IsAllowed plan run before at (attempt event) → PartStep kinds plan.sites plan.parts at (before at) event (after at) → IsFreshAt plan run at event
     fresh_event (Began who dep t s) some f l w al st = record { width = st.1.width; own = st.1.own; others = λ j o. least_is (known at (before at) j) (known_shown run at j) plan.parts (entry s j) some (known_is w st.0 j o) (st.1.stable j o) }
-    fresh_event (Heard k b stable) some f l w al st = stable_told k b stable some f l w al st
+    fresh_event (Heard number k b stable) some f l w al st = stable_told number k b stable some f l w al st
     fresh_event (Refused (AskBegin who dep) ClockAtEnd) some f lease w al st = λ j q o a b. le_trans (st.0.1.0 j o) (stable_low w st.0.0 j o q a b)
     fresh_event (Refused (AskBegin who dep) (StableBehind j n)) some f lease w al st = record {
       other = st.0.1.other;

@@ -1,5 +1,5 @@
 -- The part intervals: what a message left out comes later, so a message sent stays exact.
-use Rattle.std.proofs.Common.{◌≡◌, ◌⊎◌, ⊎_elim, inl, inr, ℕ, ◌<◌, ◌≤◌, leb, ltb, Bool, true, false, ◌&&◌, List, [], ◌∷◌, Option, refl, sym, ap, ◌∙◌, subst, subst₂, arith, le_refl, le_trans}
+use Rattle.std.proofs.Common.{◌≡◌, ◌⊎◌, ⊎_elim, inl, inr, ℕ, ◌+◌, ◌<◌, ◌≤◌, leb, ltb, Bool, true, false, ◌&&◌, List, [], ◌∷◌, Option, refl, sym, ap, ◌∙◌, subst, subst₂, arith, le_refl, le_trans}
 use Rattle.std.proofs.lemmas.Bool.{cases_Bool, or_right, and_left, and_parts, leb-true, cond-true, cond-false, cond_both}
 use Rattle.site_vector.specs.declared.ids.PartId.{PartId}
 use Rattle.site_vector.specs.declared.ids.TxId.{TxId}
@@ -9,7 +9,7 @@ use Rattle.site_vector.specs.Vector.{entry}
 use Rattle.crdt_core.specs.declared.record.Message.{Message}
 use Rattle.crdt_core.specs.declared.record.Record.{Record}
 use Rattle.world_model.specs.Log.{committed_at, prepared, prepare_time, prepared_changes, committed, aborted}
-use Rattle.world_model.specs.Event.{Event, Sent, Entry, is_decided, time_of, sent_after, sent, WasShown, EventsAre}
+use Rattle.world_model.specs.Event.{Event, Sent, Entry, is_decided, time_of, sent_after, sent, WasShown, WasNumbered, EventsAre}
 use Rattle.world_model.specs.Partition.{Kinds, PartState, Image, PartStep, IsMessage}
 use Rattle.world_model.specs.Plan.{Plan, takes_part, vector_at, commit_vector}
 use Rattle.world_model.specs.WorldLaw.{IsExact}
@@ -46,6 +46,10 @@ module _ {E : Type 0} where
       subst (λ y. m.hi ≤ y) (sym (cond-true (same_part e.at p) _ _ (part_same e.at p x.0) ∙ ap (sent_after (sent run p)) x.1)) h)
       (λ (x : WasShown run p (Sent asked m)). le_trans (shown_sent run p asked m x) (sent_more run e p))
       w
+
+  pub numbered_shown : (count : List (Entry E) → ℕ) (run : List (Entry E)) (number : ℕ) (p : PartId) (event : Event E) → WasNumbered count run number p event → WasShown run p event
+  numbered_shown count [] number p event w = absurd w
+  numbered_shown count (e ∷ run) number p event w = ⊎_elim (λ (x : (e.at ≡ p) × (e.event ≡ event) × (number ≡ count run + 1)). inl (x.0, x.1)) (λ (x : WasNumbered count run number p event). inr (numbered_shown count run number p event x)) w
 
   pub shown_has : (Q : PartId → Event E → Type 0) (run : List (Entry E)) (p : PartId) (event : Event E) → EventsAre Q run → WasShown run p event → Q p event
   shown_has Q [] p event h w = absurd w

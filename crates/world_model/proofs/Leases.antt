@@ -148,9 +148,9 @@ module _ {E : Type 0} where
     turns p last skipped (Finished t v) c m = still p last skipped (Finished t v) c refl refl refl refl refl (λ x i. quiet_if (pending p.log t) p.log (Finish t v) x refl i)
     turns p last skipped (Aborted t own) c m = still p last skipped (Aborted t own) c refl refl refl refl refl (λ x i. quiet p.log (Abort t) x refl i)
     turns p last skipped (Sent asked y) c m = still p last skipped (Sent asked y) c refl refl refl refl refl (λ x i. ap ceiling i)
-    turns p last skipped (Took y) c m = still p last skipped (Took y) c refl refl refl refl refl (λ x i. quiet_batch p.log y (entry p.bounds y.from) (above y.from (entry p.bounds y.from) y.parts) x i)
+    turns p last skipped (Took number y) c m = still p last skipped (Took number y) c refl refl refl refl refl (λ x i. quiet_batch p.log y (entry p.bounds y.from) (above y.from (entry p.bounds y.from) y.parts) x i)
     turns p last skipped (Reported b) c m = still p last skipped (Reported b) c refl refl refl refl refl (λ x i. ap ceiling i)
-    turns p last skipped (Heard q b stable) c m = still p last skipped (Heard q b stable) c refl refl refl refl refl (λ x i. ap ceiling i)
+    turns p last skipped (Heard number q b stable) c m = still p last skipped (Heard number q b stable) c refl refl refl refl refl (λ x i. ap ceiling i)
     turns p last skipped Crashed c m = absurd m
     turns p last skipped RestartCut c m = absurd m
     turns p last skipped (Restarted n b named listed) c m = absurd m
@@ -203,9 +203,9 @@ module _ {E : Type 0} where
     step_clock p q last skipped (Finished t v) c s = done_step p q last skipped (Finished t v) c s
     step_clock p q last skipped (Aborted t own) c s = done_step p q last skipped (Aborted t own) c s
     step_clock p q last skipped (Sent asked m) c s = done_step p q last skipped (Sent asked m) c s
-    step_clock p q last skipped (Took m) c s = done_step p q last skipped (Took m) c s
+    step_clock p q last skipped (Took number m) c s = done_step p q last skipped (Took number m) c s
     step_clock p q last skipped (Reported b) c s = done_step p q last skipped (Reported b) c s
-    step_clock p q last skipped (Heard k b stable) c s = done_step p q last skipped (Heard k b stable) c s
+    step_clock p q last skipped (Heard number k b stable) c s = done_step p q last skipped (Heard number k b stable) c s
 
     done_rises : (p q : PartState E) (last skipped : ℕ) (a : Event E) → Clock p last skipped → (p.up ≡ true) × MayDo kinds sites count id p a × (q ≡ done p a) → p.now ≤ q.now
     done_rises p q last skipped a c s = subst (λ x. p.now ≤ x.now) (sym s.2) (turns p last skipped a c s.1).rises
@@ -227,9 +227,9 @@ module _ {E : Type 0} where
     rises_at p q last skipped (Finished t v) c s = done_rises p q last skipped (Finished t v) c s
     rises_at p q last skipped (Aborted t own) c s = done_rises p q last skipped (Aborted t own) c s
     rises_at p q last skipped (Sent asked m) c s = done_rises p q last skipped (Sent asked m) c s
-    rises_at p q last skipped (Took m) c s = done_rises p q last skipped (Took m) c s
+    rises_at p q last skipped (Took number m) c s = done_rises p q last skipped (Took number m) c s
     rises_at p q last skipped (Reported b) c s = done_rises p q last skipped (Reported b) c s
-    rises_at p q last skipped (Heard k b stable) c s = done_rises p q last skipped (Heard k b stable) c s
+    rises_at p q last skipped (Heard number k b stable) c s = done_rises p q last skipped (Heard number k b stable) c s
 
     -- the clock law of one event
     pub clock_event : (run : List (Entry E)) (at : PartId) (p q : PartState E) (a : Event E) → Clock p (shown run at) (missed run at) → PartStep kinds sites count id p a q → ClockIs run at a

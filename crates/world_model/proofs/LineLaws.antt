@@ -20,7 +20,7 @@ use Rattle.crdt_core.specs.Same.{Same}
 use Rattle.crdt_core.specs.Stamps.{stamp_due}
 use Rattle.world_model.specs.Log as log
 use Rattle.world_model.specs.Log.{end_of_time, lists}
-use Rattle.world_model.specs.Event.{Ask, AskBegin, AskRead, AskUpdate, AskPrepare, AskDecide, AskAbort, AskTake, AskRestart, is_restart, IsDown, ClockBehind, TxPending, StableBehind, ClockAtEnd, IsGone, HasGap, IsRepeat, IsBadOp, IsDamaged, Event, Ticked, Began, Updated, Read, Prepared, Decided, Finished, Aborted, Sent, Took, Reported, Heard, Crashed, RestartCut, Restarted, Refused, Opened, Cut, Entry, EventsAre, WasShown, is_abort, was_aborted, voted, is_decided, time_of, shown}
+use Rattle.world_model.specs.Event.{Ask, AskBegin, AskRead, AskUpdate, AskPrepare, AskDecide, AskAbort, AskTake, AskRestart, is_restart, IsDown, ClockBehind, TxPending, StableBehind, ClockAtEnd, IsGone, HasGap, IsRepeat, IsBadOp, IsDamaged, Event, Ticked, Began, Updated, Read, Prepared, Decided, Finished, Aborted, Sent, Took, Reported, Heard, Crashed, RestartCut, Restarted, Refused, Opened, Cut, Entry, EventsAre, WasShown, is_abort, was_aborted, voted, is_decided, time_of, shown, sent_count}
 use Rattle.world_model.specs.Partition.{Kinds}
 use Rattle.world_model.specs.Plan.{Plan, IsPlace, first_of, home, twin, is_some_update, takes_part, commit_vector, MayTake}
 use Rattle.world_model.specs.Participants.{partitions}
@@ -39,7 +39,7 @@ use Rattle.world_model.specs.Meaning.{Asked, asked_at}
 use Rattle.world_model.specs.Resumed.{is_call, brings, brought_after, brought, decided_after, last_shown, IsTakeable, cut_call, IsAsBefore, IsAsDone, ResumesAt, Resume}
 use Rattle.world_model.specs.Sends.{low_of, SendsAt, Send}
 use Rattle.world_model.specs.LawfulWorld.{IsLawfulWorld}
-use Rattle.world_model.specs.Lines.{Call, Line, EachLine, session_after, session_of, message_number, call_asked, call_cut, call_of, step_shown, lines_of}
+use Rattle.world_model.specs.Lines.{Call, Line, EachLine, session_after, session_of, call_asked, call_cut, call_of, step_shown, lines_of}
 use Rattle.world_model.specs.Clock as clock
 use Rattle.world_model.specs.History as past
 use Rattle.world_model.specs.Dependency as session
@@ -60,7 +60,7 @@ use Rattle.world_model.specs.Lawful.{IsAgreed, IsLawful}
 use Rattle.world_model.proofs.Names.{clash, off, part_same}
 use Rattle.world_model.proofs.Fate.{voted_tried}
 use Rattle.world_model.proofs.Later.{at_own}
-use Rattle.world_model.proofs.Intervals.{shown_has, events_map}
+use Rattle.world_model.proofs.Intervals.{numbered_shown, shown_has, events_map}
 use Rattle.world_model.proofs.Histories.{Facts, no_self}
 use Rattle.world_model.proofs.LineViews.{now_is, missed_is, in_history_is, snapshot_is, commit_time_is, vector_is, visible_is, is_of_is, dependency_is, pending_is, prepare_time_is, doubt_is, asked_is, down_is, last_is, bound_is, heard_here, heard_is, known_is, stable_is, own_bound_is, was_prepared_is, last_sent_is, sent_count_is, report_count_is, sent_line, report_line}
 use Rattle.world_model.proofs.LineChanges.{to_change, count_is, takes_part_is, touches_is, first_site, lead_is}
@@ -127,8 +127,8 @@ module _ {E : Type 0} where
     own = f.own ∙ ap (λ d. max t.time (entry d p.site)) (h.0 ∙ sym (dependency_is plan.sites run who));
     others = λ j o. stable_is plan.parts run p j (entry v j) (f.others j o);
   }
-  fresh_line plan run p (Heard k b stable) h f s =
-      let same : (q j : ℕ) → heard_from {E = E} q j (heard_shown run p q j) (Heard k b stable) ≡ bounds.heard_after q j (bounds.heard (lines_of run) p q j) (call_of {E = E} (Heard k b stable)) (step_shown run p (Heard k b stable)) = λ q j. sym (ap (λ o. bounds.heard_after q j o (call_of {E = E} (Heard k b stable)) (step_shown run p (Heard k b stable))) (heard_is run p q j) ∙ heard_here run p q j (heard_shown run p q j) (Heard k b stable)) in record {
+  fresh_line plan run p (Heard number k b stable) h f s =
+      let same : (q j : ℕ) → heard_from {E = E} q j (heard_shown run p q j) (Heard number k b stable) ≡ bounds.heard_after q j (bounds.heard (lines_of run) p q j) (call_of {E = E} (Heard number k b stable)) (step_shown run p (Heard number k b stable)) = λ q j. sym (ap (λ o. bounds.heard_after q j o (call_of {E = E} (Heard number k b stable)) (step_shown run p (Heard number k b stable))) (heard_is run p q j) ∙ heard_here run p q j (heard_shown run p q j) (Heard number k b stable)) in record {
         width = f.width;
         others = λ j o. subst (λ known. IsLeast plan.parts known (entry stable j)) (λ i. λ q. cond (p.part == q) (sym (bound_is run p j) i) (same q j i)) (f.others j o);
         own = (f.own.0, own_bound_is run p f.own.0 f.own.1, subst (λ known. IsLeast plan.parts known (entry stable p.site)) (λ i. λ q. cond (p.part == q) f.own.0 (same q p.site i)) f.own.2);
@@ -140,8 +140,8 @@ module _ {E : Type 0} where
   fresh_lines plan [] h f s = tt
   fresh_lines plan (e ∷ run) h f s = (fresh_line plan run e.at e.event h.0 f.0 s.0, fresh_lines plan run h.1 f.1 s.1)
 
-  handed_line : (plan : Plan E) (run : List (Entry E)) (p : PartId) (m : Message E) → MayTake plan run p m → streams.IsHanded plan.sites (lines_of run) p (message_number run (twin m.from p) m) m.from m.lo m.hi
-  handed_line plan run p m h = record { from = h.from; sent = subst (λ j. streams.WasSent (lines_of run) (twin m.from p) (message_number run (twin m.from p) m) j m.lo m.hi) h.to (sent_line run (twin m.from p) h.asked m h.shown) }
+  handed_line : (plan : Plan E) (run : List (Entry E)) (p : PartId) (number : ℕ) (m : Message E) → MayTake plan run p number m → streams.IsHanded plan.sites (lines_of run) p number m.from m.lo m.hi
+  handed_line plan run p number m h = record { from = h.from; sent = subst (λ j. streams.WasSent (lines_of run) (twin m.from p) number j m.lo m.hi) h.to (sent_line run number (twin m.from p) h.asked m h.shown) }
 
   -- who began t is its session
   session_has : (run : List (Entry E)) (who : List ℕ) (t : TxId) → events.is_of run who t ≡ true → events.is_of run (session_of run t) t ≡ true
@@ -163,8 +163,8 @@ module _ {E : Type 0} where
 
   answer_line : (plan : Plan E) (run : List (Entry E)) (p : PartId) (event : Event E) → HandedAt plan run p event → IsDueAt event → answers.IsAnswer (lines_of run) p (call_of event) (step_shown run p event)
   answer_line plan run p (Refused asked IsDown) h d = (refl, refused_up asked d)
-  answer_line plan run p (Refused (AskTake m) (HasGap n)) h d = tt
-  answer_line plan run p (Refused (AskTake m) (IsRepeat n)) h d = tt
+  answer_line plan run p (Refused (AskTake number m) (HasGap n)) h d = tt
+  answer_line plan run p (Refused (AskTake number m) (IsRepeat n)) h d = tt
   answer_line plan run p (Refused (AskUpdate t s o own op) IsBadOp) h d = tt
   answer_line plan run p (Refused (AskBegin who dep) ClockAtEnd) h d = tt
   answer_line plan run p (Refused (AskPrepare t s l w) ClockAtEnd) h d = tt
@@ -180,7 +180,7 @@ module _ {E : Type 0} where
   answer_line plan run p (Finished t c) h d = (refl, refl)
   answer_line plan run p (Aborted t own) h d = (refl, refl)
   answer_line plan run p (Sent asked m) h d = (refl, refl)
-  answer_line plan run p (Took m) h d = tt
+  answer_line plan run p (Took number m) h d = tt
   answer_line plan run p (Cut (Decided t c)) h d = refl
   answer_line plan run p (Cut Crashed) h d = off d
   answer_line plan run p (Cut (Refused asked why)) h d = off d
@@ -325,10 +325,10 @@ module _ {E : Type 0} where
         or_from _ _ (pending_is some p t ∙ n.0) (or_from _ _ (ended_eq some p t ∙ n.1) (unbrought some p t s))
 
     -- a message that is taken brings a part exactly where lines say so
-    brings_eq : (some : List (Entry E)) (p : PartId) (m : Message E) (have : ℕ) → MayTake plan some p m → m.lo ≤ have → EventsAre (IsRight kinds plan run) some → restarts.brings ls p m.from have m.hi ≡ brings m have
-    brings_eq some p m have h low rs =
+    brings_eq : (some : List (Entry E)) (p : PartId) (number : ℕ) (m : Message E) (have : ℕ) → MayTake plan some p number m → m.lo ≤ have → EventsAre (IsRight kinds plan run) some → restarts.brings ls p m.from have m.hi ≡ brings m have
+    brings_eq some p number m have h low rs =
         let q = twin m.from p in
-        let x : IsExact plan run q m = shown_has (IsRight kinds plan run) some q (Sent h.asked m) rs h.shown in
+        let x : IsExact plan run q m = shown_has (IsRight kinds plan run) some q (Sent h.asked m) rs (numbered_shown sent_count some number q (Sent h.asked m) h.shown) in
         let test = λ (t : TxId). updates.takes_part ls t q && (ltb have (past.commit_time ls t) && leb (past.commit_time ls t) m.hi) in
         let own : (t : TxId) → takes_part plan t q ≡ true → entry (commit_vector plan run t) m.from ≡ time_of run t = λ t k. ap (λ j. entry (commit_vector plan run t) j) (plan.at_home t q k) ∙ at_own plan t q (time_of run t) k in
         let forth : restarts.brings ls p m.from have m.hi ≡ true → brings m have ≡ true = λ k.
@@ -351,10 +351,10 @@ module _ {E : Type 0} where
         both_ways (restarts.brings ls p m.from have m.hi) (brings m have) forth back
 
     brought_done_eq : (some : List (Entry E)) (p : PartId) (j old : ℕ) (what : Event E) → is_call what ≡ true → IsTakeable plan some p what → EventsAre (IsRight kinds plan run) some → restarts.brought_done ls (lines_of some) p j old (call_cut what) ≡ brought_after some p j old what
-    brought_done_eq some p j old (Took m) k h rs =
+    brought_done_eq some p j old (Took number m) k h rs =
         let have = bound_shown some p m.from in
         let here : (leb m.lo (bounds.bound (lines_of some) p m.from) && restarts.brings ls p m.from (bounds.bound (lines_of some) p m.from) m.hi) ≡ brings m have =
-        ap (λ b. leb m.lo b && restarts.brings ls p m.from b m.hi) (bound_is some p m.from) ∙ ap (λ b. b && restarts.brings ls p m.from have m.hi) (le-leb m.lo have h.1) ∙ brings_eq some p m have h.0 h.1 rs in
+        ap (λ b. leb m.lo b && restarts.brings ls p m.from b m.hi) (bound_is some p m.from) ∙ ap (λ b. b && restarts.brings ls p m.from have m.hi) (le-leb m.lo have h.1) ∙ brings_eq some p number m have h.0 h.1 rs in
         ap (λ b. cond (m.from == j && b) (max m.hi old) old) here
     brought_done_eq some p j old Crashed k h rs = off k
     brought_done_eq some p j old RestartCut k h rs = off k
@@ -365,7 +365,7 @@ module _ {E : Type 0} where
     brought_done_eq some p j old what k h rs = refl
 
     brought_here : (some : List (Entry E)) (p : PartId) (j old : ℕ) (event : Event E) → HandedAt plan some p event → ShowsAt plan some p event → EventsAre (IsRight kinds plan run) some → restarts.brought_after ls (lines_of some) p j old (call_of event) (step_shown some p event) ≡ brought_after some p j old event
-    brought_here some p j old (Took m) h s rs = brought_done_eq some p j old (Took m) refl (h, s.0) rs
+    brought_here some p j old (Took number m) h s rs = brought_done_eq some p j old (Took number m) refl (h, s.0) rs
     brought_here some p j old (Refused asked IsDown) h s rs = refl
     brought_here some p j old (Refused asked why) h s rs = refl
     brought_here some p j old (Cut (Decided t c)) h s rs = refl
@@ -573,11 +573,11 @@ module _ {E : Type 0} where
 
     stream_line : (some : List (Entry E)) (p : PartId) (event : Event E) → HandedAt plan some p event → SendsAt plan some p event → ShowsAt plan some p event → IsDueAt event → IsRight kinds plan run p event → streams.IsStream sites ls (lines_of some) p (call_of event) (step_shown some p event)
     stream_line some p (Sent asked m) h n s d r = record { row = ap (λ x. x + 1) (sym (sent_count_is some)); to = n.to; low = n.lo ∙ ap (low_of asked) (sym (last_sent_is some p m.to)); high = own_bound_is some p m.hi s; parts = count_line p m r }
-    stream_line some p (Took m) h n s d r = let e = sym (bound_is some p m.from) in (refl, subst (λ x. m.lo ≤ x) e s.0, subst (λ x. x < m.hi) e s.1, handed_line plan some p m h)
+    stream_line some p (Took number m) h n s d r = let e = sym (bound_is some p m.from) in (refl, subst (λ x. m.lo ≤ x) e s.0, subst (λ x. x < m.hi) e s.1, handed_line plan some p number m h)
     stream_line some p (Reported b) h n s d r = ap (λ x. x + 1) (sym (report_count_is some))
-    stream_line some p (Heard k b stable) h n s d r = report_line some (record { site = p.site; part = k }) b h.shown
-    stream_line some p (Refused (AskTake m) (HasGap k)) h n s d r = (s.0 ∙ sym (bound_is some p m.from), s.1, handed_line plan some p m h)
-    stream_line some p (Refused (AskTake m) (IsRepeat k)) h n s d r = (s.0 ∙ sym (bound_is some p m.from), s.1, s.2, handed_line plan some p m h)
+    stream_line some p (Heard number k b stable) h n s d r = report_line some number (record { site = p.site; part = k }) b h.shown
+    stream_line some p (Refused (AskTake number m) (HasGap k)) h n s d r = (s.0 ∙ sym (bound_is some p m.from), s.1, handed_line plan some p number m h)
+    stream_line some p (Refused (AskTake number m) (IsRepeat k)) h n s d r = (s.0 ∙ sym (bound_is some p m.from), s.1, s.2, handed_line plan some p number m h)
     stream_line some p (Refused asked (HasGap k)) h n s d r = off d
     stream_line some p (Refused asked (IsRepeat k)) h n s d r = off d
     stream_line some p (Refused asked why) h n s d r = tt

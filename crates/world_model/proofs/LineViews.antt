@@ -1,16 +1,14 @@
 -- What the lines of a run tell is what its events tell.
 use Rattle.std.proofs.Common.{◌≡◌, ⊎_elim, inl, inr, ℕ, ◌+◌, ◌<◌, ◌≤◌, max, cond, Bool, true, false, ◌&&◌, ◌||◌, List, [], ◌∷◌, length, Option, refl, sym, ap, ◌∙◌, subst, arith}
 use Rattle.std.specs.Prelude.{◌==◌}
-use Rattle.std.proofs.lemmas.Slice.Eq.{bytes_eq-Decides}
-use Rattle.std.proofs.lemmas.Bool.{cases_Bool, cond-true, cond-false, and_from, and_parts, eqb-true, eq-eqb}
-use Rattle.world_model.proofs.Names.{clash, off, part_same}
+use Rattle.std.proofs.lemmas.Bool.{cases_Bool, cond-true, cond-false}
 use Rattle.site_vector.specs.declared.ids.PartId.{PartId}
 use Rattle.site_vector.specs.declared.ids.TxId.{TxId}
 use Rattle.site_vector.specs.Ids.{same_part}
 use Rattle.site_vector.specs.Order.{same_part_is}
 use Rattle.site_vector.specs.Vector.{le, entry, join, replaced}
 use Rattle.crdt_core.specs.declared.record.Message.{Message}
-use Rattle.world_model.specs.Event.{IsDown, Event, Ticked, Began, Prepared, Decided, Sent, Reported, Heard, Refused, Cut, Entry, attempt, is_decide, decide_tried, shows_decided, is_decided, is_prepare, time_shown, time_of, shown_after, shown, missed_after, missed, voted, WasShown}
+use Rattle.world_model.specs.Event.{IsDown, Event, Ticked, Began, Prepared, Decided, Sent, Reported, Heard, Refused, Cut, Entry, attempt, is_decide, decide_tried, shows_decided, is_decided, is_prepare, time_shown, time_of, shown_after, shown, missed_after, missed, voted, is_sent, sent_count, is_report, report_count, WasNumbered}
 use Rattle.world_model.specs.World.{is_begin, begin_vector, begun, snapshot_of}
 use Rattle.world_model.specs.Past as events
 use Rattle.world_model.specs.WorldLaw.{ClockIs, ClocksAre}
@@ -19,7 +17,7 @@ use Rattle.world_model.specs.Stable.{heard_from, heard_shown, known_shown, IsLea
 use Rattle.world_model.specs.Doubt as doubt
 use Rattle.world_model.specs.Downs as downs
 use Rattle.world_model.specs.Sends as sends
-use Rattle.world_model.specs.Lines.{is_sent, sent_count, is_report, report_count, has_stretch, message_number, has_bounds, report_number, call_of, step_shown, lines_of}
+use Rattle.world_model.specs.Lines.{call_of, step_shown, lines_of}
 use Rattle.world_model.specs.declared.step.Step.TheVariants as step
 use Rattle.world_model.specs.Clock as clock
 use Rattle.world_model.specs.History as past
@@ -211,7 +209,7 @@ module _ {E : Type 0} where
   heard_here run p q j old (Refused asked why) = refl
   heard_here run p q j old (Cut (Decided u c)) = refl
   heard_here run p q j old (Cut a) = refl
-  heard_here run p q j old (Heard k b stable) = none_more (k == q) old (entry b j)
+  heard_here run p q j old (Heard number k b stable) = none_more (k == q) old (entry b j)
   heard_here run p q j old event = refl
 
   pub heard_is : (run : List (Entry E)) (p : PartId) (q j : ℕ) → bounds.heard (lines_of run) p q j ≡ heard_shown run p q j
@@ -290,47 +288,19 @@ module _ {E : Type 0} where
   report_count_is [] = refl
   report_count_is (e ∷ run) = λ i. cond (is_report_here run e.at e.event i) (report_count_is run i + 1) (report_count_is run i)
 
-  -- a message with the stretch of m
-  stretch_line : (run : List (Entry E)) (q : PartId) (event : Event E) (m : Message E) → has_stretch event m ≡ true → (count : ℕ) × (step_shown run q event ≡ step.Sent (sent_count run + 1) q m.to m.lo m.hi count)
-  stretch_line run q (Sent asked x) m h =
-      let a = and_parts (x.to == m.to) _ h in
-      let b = and_parts (x.lo == m.lo) (x.hi == m.hi) a.1 in
-      let to = eqb-true x.to m.to a.0 in
-      let lo = eqb-true x.lo m.lo b.0 in
-      let hi = eqb-true x.hi m.hi b.1 in
-      (length x.parts, λ i. step.Sent (sent_count run + 1) q (to i) (lo i) (hi i) (length x.parts))
-  stretch_line run q event m h = off h
-
   -- what was sent or reported stands in the lines, with its number
-  pub sent_line : (run : List (Entry E)) (q : PartId) (asked : Option ℕ) (m : Message E) → WasShown run q (Sent asked m) → streams.WasSent (lines_of run) q (message_number run q m) m.to m.lo m.hi
-  sent_line [] q asked m w = w
-  sent_line (e ∷ run) q asked m w = ⊎_elim
-      (λ (k : (same_part e.at q && has_stretch e.event m) ≡ true).
-      let ks = and_parts (same_part e.at q) _ k in
-      let s = same_part_is e.at q ks.0 in
-      let x = stretch_line run e.at e.event m ks.1 in
-      subst (λ n. streams.WasSent (lines_of (e ∷ run)) q n m.to m.lo m.hi) (sym (cond-true _ (sent_count run + 1) (message_number run q m) k)) (inl (s, x.0, x.1 ∙ ap (λ y. step.Sent (sent_count run + 1) y m.to m.lo m.hi x.0) s)))
-      (λ (k : (same_part e.at q && has_stretch e.event m) ≡ false).
-      subst (λ n. streams.WasSent (lines_of (e ∷ run)) q n m.to m.lo m.hi) (sym (cond-false _ (sent_count run + 1) (message_number run q m) k)) (⊎_elim
-      (λ (x : (e.at ≡ q) × (e.event ≡ Sent asked m)). clash (and_from _ _ (part_same e.at q x.0) (ap (λ a. has_stretch a m) x.1 ∙ and_from _ _ (eq-eqb m.to m.to refl) (and_from _ _ (eq-eqb m.lo m.lo refl) (eq-eqb m.hi m.hi refl)))) k)
-      (λ (x : WasShown run q (Sent asked m)). inr (sent_line run q asked m x))
-      w))
-      (cases_Bool (same_part e.at q && has_stretch e.event m))
+  pub sent_line : (run : List (Entry E)) (number : ℕ) (q : PartId) (asked : Option ℕ) (m : Message E) → WasNumbered sent_count run number q (Sent asked m) → streams.WasSent (lines_of run) q number m.to m.lo m.hi
+  sent_line [] number q asked m w = w
+  sent_line (e ∷ run) number q asked m w = ⊎_elim
+      (λ (x : (e.at ≡ q) × (e.event ≡ Sent asked m) × (number ≡ sent_count run + 1)).
+      inl (x.0, length m.parts, ap (step_shown run e.at) x.1 ∙ λ i. step.Sent ((sym x.2) i) (x.0 i) m.to m.lo m.hi (length m.parts)))
+      (λ (x : WasNumbered sent_count run number q (Sent asked m)). inr (sent_line run number q asked m x))
+      w
 
-  bounds_line : (run : List (Entry E)) (q : PartId) (event : Event E) (b : List ℕ) → has_bounds event b ≡ true → step_shown run q event ≡ step.Reported (report_count run + 1) q b
-  bounds_line run q (Reported x) b h = ap (λ y. step.Reported (report_count run + 1) q y) ((bytes_eq-Decides x b).0 h)
-  bounds_line run q event b h = off h
-
-  pub report_line : (run : List (Entry E)) (q : PartId) (b : List ℕ) → WasShown run q (Reported b) → streams.WasReported (lines_of run) q (report_number run q b) b
-  report_line [] q b w = w
-  report_line (e ∷ run) q b w = ⊎_elim
-      (λ (k : (same_part e.at q && has_bounds e.event b) ≡ true).
-      let ks = and_parts (same_part e.at q) _ k in
-      let s = same_part_is e.at q ks.0 in
-      subst (λ n. streams.WasReported (lines_of (e ∷ run)) q n b) (sym (cond-true _ (report_count run + 1) (report_number run q b) k)) (inl (s, bounds_line run e.at e.event b ks.1 ∙ ap (λ y. step.Reported (report_count run + 1) y b) s)))
-      (λ (k : (same_part e.at q && has_bounds e.event b) ≡ false).
-      subst (λ n. streams.WasReported (lines_of (e ∷ run)) q n b) (sym (cond-false _ (report_count run + 1) (report_number run q b) k)) (⊎_elim
-      (λ (x : (e.at ≡ q) × (e.event ≡ Reported b)). clash (and_from _ _ (part_same e.at q x.0) (ap (λ a. has_bounds a b) x.1 ∙ (bytes_eq-Decides b b).1 refl)) k)
-      (λ (x : WasShown run q (Reported b)). inr (report_line run q b x))
-      w))
-      (cases_Bool (same_part e.at q && has_bounds e.event b))
+  pub report_line : (run : List (Entry E)) (number : ℕ) (q : PartId) (b : List ℕ) → WasNumbered report_count run number q (Reported b) → streams.WasReported (lines_of run) q number b
+  report_line [] number q b w = w
+  report_line (e ∷ run) number q b w = ⊎_elim
+      (λ (x : (e.at ≡ q) × (e.event ≡ Reported b) × (number ≡ report_count run + 1)).
+      inl (x.0, ap (step_shown run e.at) x.1 ∙ λ i. step.Reported ((sym x.2) i) (x.0 i) b))
+      (λ (x : WasNumbered report_count run number q (Reported b)). inr (report_line run number q b x))
+      w

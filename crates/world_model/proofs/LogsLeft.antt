@@ -36,7 +36,7 @@ module _ {E : Type 0} {S : Type 0} (kinds : Kinds S E) (plan : Plan E) (run : Li
   same_written (Prepared t s l u n) al up = λ i. lease_for (before at).log n ++ Prepare t (al.lead i) n (al.snapshot i) (al.changes i) ∷ []
   same_written (Decided t c) al up = λ i. cond (pending (before at).log t) (Decide t (al.vector i) ∷ []) []
   same_written (Finished t c) al up = λ i. cond (pending (before at).log t) (Finish t (al.vector i) ∷ []) []
-  same_written (Took m) al up =
+  same_written (Took number m) al up =
       let e = w.bounds at m.from up al.from in
       let b = bound_shown run at m.from in
       (λ i. batch_of m (e i) (above m.from (e i) m.parts))
@@ -87,9 +87,9 @@ module _ {E : Type 0} {S : Type 0} (kinds : Kinds S E) (plan : Plan E) (run : Li
   left_here (Finished t c) al st m i = ((before at).log, left_log, left_done (Finished t c) al st.0 st.2 m i)
   left_here (Aborted t own) al st m i = ((before at).log, left_log, left_done (Aborted t own) al st.0 st.2 m i)
   left_here (Sent asked x) al st m i = ((before at).log, left_log, left_done (Sent asked x) al st.0 st.2 m i)
-  left_here (Took x) al st m i = ((before at).log, left_log, left_done (Took x) al st.0 st.2 m i)
+  left_here (Took number x) al st m i = ((before at).log, left_log, left_done (Took number x) al st.0 st.2 m i)
   left_here (Reported b) al st m i = ((before at).log, left_log, left_done (Reported b) al st.0 st.2 m i)
-  left_here (Heard q b stable) al st m i = ((before at).log, left_log, left_done (Heard q b stable) al st.0 st.2 m i)
+  left_here (Heard number q b stable) al st m i = ((before at).log, left_log, left_done (Heard number q b stable) al st.0 st.2 m i)
 
   left_step : (event : Event E) → IsAllowed plan run before at (attempt event) → PartStep kinds plan.sites plan.parts at (before at) event (after at) → ((q : PartId) → q ≢ at → after q ≡ before q) → LeavesLogs plan ((record { at = at; event = event }) ∷ run) after
   left_step event al st others p m i = ⊎_elim

@@ -63,8 +63,9 @@ module _ {E : Type 0} where
   -- where a record of a message comes from
   pub record IsCut (plan : Plan E) (run : List (Entry E)) (p : PartState E) (at : PartId) (m : Message E) : Type 0 where
     pub up : p.up ≡ true
+    pub number : ℕ
     pub whole : Message E
-    pub taken : MayTake plan run at whole
+    pub taken : MayTake plan run at number whole
     pub low : whole.lo ≤ entry p.bounds whole.from
     pub from : m.from ≡ whole.from
     pub hi : m.hi ≡ whole.hi
@@ -148,9 +149,9 @@ module _ {E : Type 0} where
         (cases_Bool (pending (before at).log t))
 
     -- what a message brings
-    batched : (up : Bool) (at : PartId) (event : Event E) (new : List (Record E)) (m : Message E) → (before at).up ≡ true → MayTake plan run at m → m.lo ≤ entry (before at).bounds m.from → (xs : List (Part E)) → above m.from (entry (before at).bounds m.from) m.parts ≡ xs → IsImage (before at).log (batch_of m (entry (before at).bounds m.from) xs) new → Changed plan run before up at event at new
-    batched up at event new m h al low [] e i = no_lease up at event new h i
-    batched up at event new m h al low (x ∷ xs) e i = one_record up at event new (Batch (record { from = m.from; to = m.to; part = m.part; lo = entry (before at).bounds m.from; hi = m.hi; parts = x ∷ xs })) h (refl, record { up = h; whole = m; taken = al; low = low; from = refl; hi = refl; parts = sym e }) i
+    batched : (up : Bool) (at : PartId) (event : Event E) (new : List (Record E)) (number : ℕ) (m : Message E) → (before at).up ≡ true → MayTake plan run at number m → m.lo ≤ entry (before at).bounds m.from → (xs : List (Part E)) → above m.from (entry (before at).bounds m.from) m.parts ≡ xs → IsImage (before at).log (batch_of m (entry (before at).bounds m.from) xs) new → Changed plan run before up at event at new
+    batched up at event new number m h al low [] e i = no_lease up at event new h i
+    batched up at event new number m h al low (x ∷ xs) e i = one_record up at event new (Batch (record { from = m.from; to = m.to; part = m.part; lo = entry (before at).bounds m.from; hi = m.hi; parts = x ∷ xs })) h (refl, record { up = h; number = number; whole = m; taken = al; low = low; from = refl; hi = refl; parts = sym e }) i
 
     same_part_image : (up : Bool) (at : PartId) (event : Event E) (q : PartId) (new : List (Record E)) → up ≡ (before q).up → Image (before q) new → Changed plan run before up at event q new
     same_part_image up at event q new e i = record { old = new; was = i; more = Lease 0; told = told_log new; because = tt; downs = λ t k l. inr (e ∙ k, l) }
@@ -168,9 +169,9 @@ module _ {E : Type 0} where
       recorded up at event (Finished t c) new h s m al d i = if_pending up at event new t (Finish t c) h (λ k. (refl, k, al)) i
       recorded up at event (Aborted t own) new h s m al d i = one_record up at event new (Abort t) h (refl, m, (own, s, al)) i
       recorded up at event (Sent asked x) new h s m al d i = no_lease up at event new h i
-      recorded up at event (Took x) new h s m al d i = batched up at event new x h al m.0 (above x.from (entry (before at).bounds x.from) x.parts) refl i
+      recorded up at event (Took number x) new h s m al d i = batched up at event new number x h al m.0 (above x.from (entry (before at).bounds x.from) x.parts) refl i
       recorded up at event (Reported b) new h s m al d i = no_lease up at event new h i
-      recorded up at event (Heard q b stable) new h s m al d i = no_lease up at event new h i
+      recorded up at event (Heard number q b stable) new h s m al d i = no_lease up at event new h i
       recorded up at event Crashed new h s m al d i = absurd m
       recorded up at event RestartCut new h s m al d i = absurd m
       recorded up at event (Restarted n b named listed) new h s m al d i = absurd m
@@ -228,9 +229,9 @@ module _ {E : Type 0} where
     here (Finished t c) al s = here_done (Finished t c) refl (λ t k. off k) s.0 s.1 al s.2
     here (Aborted t own) al s = here_done (Aborted t own) refl (λ t k. off k) s.0 s.1 al s.2
     here (Sent asked m) al s = here_done (Sent asked m) refl (λ t k. off k) s.0 s.1 al s.2
-    here (Took m) al s = here_done (Took m) refl (λ t k. off k) s.0 s.1 al s.2
+    here (Took number m) al s = here_done (Took number m) refl (λ t k. off k) s.0 s.1 al s.2
     here (Reported b) al s = here_done (Reported b) refl (λ t k. off k) s.0 s.1 al s.2
-    here (Heard q b stable) al s = here_done (Heard q b stable) refl (λ t k. off k) s.0 s.1 al s.2
+    here (Heard number q b stable) al s = here_done (Heard number q b stable) refl (λ t k. off k) s.0 s.1 al s.2
     here (Cut what) al s = here_cut what s.0 s.1 al s.2
     here Crashed al s = here_down Crashed s
     here RestartCut al s = here_down RestartCut s

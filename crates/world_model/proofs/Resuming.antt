@@ -12,7 +12,7 @@ use Rattle.crdt_core.specs.declared.record.Message.{Message}
 use Rattle.crdt_core.specs.declared.record.Record.{Record}
 use Rattle.crdt_core.specs.declared.record.Record.TheVariants.{Lease, Prepare, Decide, Finish, Abort, Batch}
 use Rattle.world_model.specs.Log.{end_of_time, ceiling, pending, prepare_time, last_decided, bound, grown, IsImage}
-use Rattle.world_model.specs.Event.{Event, Ticked, Began, Updated, Read, Prepared, Decided, Finished, Aborted, Sent, Took, Reported, Heard, Crashed, RestartCut, Restarted, Refused, Opened, Cut, Entry, attempt, WasShown}
+use Rattle.world_model.specs.Event.{Event, Ticked, Began, Updated, Read, Prepared, Decided, Finished, Aborted, Sent, Took, Reported, Heard, Crashed, RestartCut, Restarted, Refused, Opened, Cut, Entry, attempt, sent_count, WasNumbered}
 use Rattle.world_model.specs.Partition.{Kinds, PartState, Image, IsOther, lease_for, above, batch_of, records, done, MayDo, names_pending, PartStep}
 use Rattle.world_model.specs.Plan.{Plan, twin, IsAllowed, IsRun}
 use Rattle.world_model.specs.Shown.{listed_time, bound_after, bound_shown, pending_after, pending_shown, time_after, pending_time}
@@ -87,7 +87,7 @@ module _ {E : Type 0} where
   two_images kinds sites parts id p (Decided t c) m k i = two_if p.log m (pending p.log t) (Decide t c) i
   two_images kinds sites parts id p (Finished t c) m k i = two_if p.log m (pending p.log t) (Finish t c) i
   two_images kinds sites parts id p (Aborted t own) m k i = two_one p.log m (Abort t) i
-  two_images kinds sites parts id p (Took x) m k i = two_batch p.log m x (entry p.bounds x.from) (above x.from (entry p.bounds x.from) x.parts) i
+  two_images kinds sites parts id p (Took number x) m k i = two_batch p.log m x (entry p.bounds x.from) (above x.from (entry p.bounds x.from) x.parts) i
   two_images kinds sites parts id p a m k i = two_none p.log m i
 
   -- the bound that a log tells after its records
@@ -114,7 +114,7 @@ module _ {E : Type 0} where
     done_bound (Decided t c) al k up j h = if_bound (before at).log (pending (before at).log t) (Decide t c) j refl ∙ h
     done_bound (Finished t c) al k up j h = if_bound (before at).log (pending (before at).log t) (Finish t c) j refl ∙ h
     done_bound (Aborted t own) al k up j h = h
-    done_bound (Took x) al k up j h =
+    done_bound (Took number x) al k up j h =
         let e = w.bounds at x.from up al.from in
         batch_bound (before at).log x (entry (before at).bounds x.from) j (above x.from (entry (before at).bounds x.from) x.parts)
         ∙ (λ i. cond (x.from == j && is_some_part (above x.from (e i) x.parts)) (max x.hi (h i)) (h i))
@@ -122,7 +122,7 @@ module _ {E : Type 0} where
     done_bound (Read t s o own read value) al k up j h = h
     done_bound (Sent asked x) al k up j h = h
     done_bound (Reported b) al k up j h = h
-    done_bound (Heard q b stable) al k up j h = h
+    done_bound (Heard number q b stable) al k up j h = h
     done_bound Crashed al k up j h = absurd k
     done_bound RestartCut al k up j h = absurd k
     done_bound (Restarted n b named listed) al k up j h = absurd k
@@ -153,12 +153,12 @@ module _ {E : Type 0} where
     done_last (Decided t c) al k up h = if_last (before at).log (pending (before at).log t) t c ∙ cond-true _ (Some t) (last_decided (before at).log) (once_pending plan run before f at 0 up t al.once k).0
     done_last (Finished t c) al k up h = if_same (before at).log (pending (before at).log t) t c ∙ h
     done_last (Aborted t own) al k up h = h
-    done_last (Took x) al k up h = batch_last (before at).log x (entry (before at).bounds x.from) (above x.from (entry (before at).bounds x.from) x.parts) ∙ h
+    done_last (Took number x) al k up h = batch_last (before at).log x (entry (before at).bounds x.from) (above x.from (entry (before at).bounds x.from) x.parts) ∙ h
     done_last (Updated t s o own op read u stamp) al k up h = h
     done_last (Read t s o own read value) al k up h = h
     done_last (Sent asked x) al k up h = h
     done_last (Reported b) al k up h = h
-    done_last (Heard q b stable) al k up h = h
+    done_last (Heard number q b stable) al k up h = h
     done_last Crashed al k up h = absurd k
     done_last RestartCut al k up h = absurd k
     done_last (Restarted n b named listed) al k up h = absurd k
@@ -196,7 +196,7 @@ module _ {E : Type 0} where
     pub last : last_shown next p ≡ last_shown run p
 
   brought_same : (run next : List (Entry E)) (p : PartId) → SameView run next p → (j : ℕ) (what : Event E) → brought_after next p j (brought next p j) what ≡ brought_after run p j (brought run p j) what
-  brought_same run next p v j (Took m) = λ i. cond (m.from == j && brings m (v.bound m.from i)) (max m.hi (v.ends j i)) (v.ends j i)
+  brought_same run next p v j (Took number m) = λ i. cond (m.from == j && brings m (v.bound m.from i)) (max m.hi (v.ends j i)) (v.ends j i)
   brought_same run next p v j (Restarted n b named listed) = refl
   brought_same run next p v j what = v.ends j
 
@@ -214,11 +214,11 @@ module _ {E : Type 0} where
     decided = x.decided ∙ sym (decided_same run next p v what);
   }
 
-  takeable_map : (plan : Plan E) (run next : List (Entry E)) (p : PartId) (what : Event E) → SameView run next p → ((q : PartId) (a : Event E) → WasShown run q a → WasShown next q a) → IsTakeable plan run p what → IsTakeable plan next p what
-  takeable_map plan run next p (Took m) v later x = (record { from = x.0.from; to = x.0.to; part = x.0.part; asked = x.0.asked; shown = later (twin m.from p) (Sent x.0.asked m) x.0.shown }, subst (λ n. m.lo ≤ n) (sym (v.bound m.from)) x.1)
+  takeable_map : (plan : Plan E) (run next : List (Entry E)) (p : PartId) (what : Event E) → SameView run next p → ((number : ℕ) (q : PartId) (a : Event E) → WasNumbered sent_count run number q a → WasNumbered sent_count next number q a) → IsTakeable plan run p what → IsTakeable plan next p what
+  takeable_map plan run next p (Took number m) v later x = (record { from = x.0.from; to = x.0.to; part = x.0.part; asked = x.0.asked; shown = later number (twin m.from p) (Sent x.0.asked m) x.0.shown }, subst (λ n. m.lo ≤ n) (sym (v.bound m.from)) x.1)
   takeable_map plan run next p what v later x = tt
 
-  two_map : (plan : Plan E) (run next : List (Entry E)) (p : PartId) (m : List (Record E)) → SameView run next p → ((q : PartId) (a : Event E) → WasShown run q a → WasShown next q a) → cut_call next p ≡ cut_call run p → TellsTwo plan run p m → TellsTwo plan next p m
+  two_map : (plan : Plan E) (run next : List (Entry E)) (p : PartId) (m : List (Record E)) → SameView run next p → ((number : ℕ) (q : PartId) (a : Event E) → WasNumbered sent_count run number q a → WasNumbered sent_count next number q a) → cut_call next p ≡ cut_call run p → TellsTwo plan run p m → TellsTwo plan next p m
   two_map plan run next p m v later c x = ⊎_elim
       (λ (y : TellsBefore plan run p m). inl (before_map plan run next p m v y))
       (λ (y : (what : Event E) × (cut_call run p ≡ Some what) × (is_call what ≡ true) × IsTakeable plan run p what × TellsDone plan run p what m). inr (y.0, c ∙ y.1, y.2, takeable_map plan run next p y.0 v later y.3, done_map plan run next p y.0 m v y.4))
@@ -275,7 +275,7 @@ module _ {E : Type 0} where
     step_done what up k = (up, k, refl)
 
     takeable_now : (what : Event E) → IsAllowed plan run before at what → (before at).up ≡ true → MayDo kinds plan.sites plan.parts at (before at) what → IsTakeable plan run at what
-    takeable_now (Took m) al up k = (al, subst (λ n. m.lo ≤ n) (w.bounds at m.from up al.from) k.0)
+    takeable_now (Took number m) al up k = (al, subst (λ n. m.lo ≤ n) (w.bounds at m.from up al.from) k.0)
     takeable_now what al up k = tt
 
     called : (what : Event E) → MayDo kinds plan.sites plan.parts at (before at) what → is_call what ≡ true
@@ -302,7 +302,7 @@ module _ {E : Type 0} where
           what,
           cond-true _ _ _ (same_part_refl at),
           called what st.1,
-          takeable_map plan run (next (Cut what)) at what v (λ q a w'. inr w') (takeable_now what al st.0 st.1),
+          takeable_map plan run (next (Cut what)) at what v (λ k q a w'. inr w') (takeable_now what al st.0 st.1),
           done_map plan run (next (Cut what)) at what m v (tells_done what (allowed_done what st.1 al) al st.0 st.1 (step_done what st.0 st.1) m x),
         ))
         (two_images kinds plan.sites plan.parts at (before at) what m st.1 (subst (λ p. Image p m) st.2 i))
@@ -317,15 +317,15 @@ module _ {E : Type 0} where
     crashed_here : PartStep kinds plan.sites plan.parts at (before at) Crashed (after at) → (m : List (Record E)) → Image (after at) m → TellsTwo plan (next Crashed) at m
     crashed_here st m i =
         let v : SameView run (next Crashed) at = same_view run at Crashed (λ t. refl) (λ t. refl) (λ j. refl) (λ j. refl) refl in
-        two_map plan run (next Crashed) at m v (λ q a x. inr x) (cond-true _ _ _ (same_part_refl at)) (tells_any m (subst (λ p. Image p m) st i))
+        two_map plan run (next Crashed) at m v (λ k q a x. inr x) (cond-true _ _ _ (same_part_refl at)) (tells_any m (subst (λ p. Image p m) st i))
 
     restart_cut_here : PartStep kinds plan.sites plan.parts at (before at) RestartCut (after at) → (m : List (Record E)) → Image (after at) m → TellsTwo plan (next RestartCut) at m
     restart_cut_here st m i =
         let v : SameView run (next RestartCut) at = same_view run at RestartCut (λ t. refl) (λ t. refl) (λ j. refl) (λ j. refl) refl in
-        two_map plan run (next RestartCut) at m v (λ q a x. inr x) (cond-true _ _ _ (same_part_refl at)) (tells_any m (subst (λ p. Image p m) st i))
+        two_map plan run (next RestartCut) at m v (λ k q a x. inr x) (cond-true _ _ _ (same_part_refl at)) (tells_any m (subst (λ p. Image p m) st i))
 
     stays_here : (event : Event E) → SameView run (next event) at → cut_call (next event) at ≡ cut_call run at → after at ≡ before at → (after at).up ≡ false → (m : List (Record E)) → Image (after at) m → TellsTwo plan (next event) at m
-    stays_here event v c e d m i = two_map plan run (next event) at m v (λ q a x. inr x) c (h.down at (sym (ap (λ p. p.up) e) ∙ d) m (subst (λ p. Image p m) e i))
+    stays_here event v c e d m i = two_map plan run (next event) at m v (λ k q a x. inr x) c (h.down at (sym (ap (λ p. p.up) e) ∙ d) m (subst (λ p. Image p m) e i))
 
     down_here : (event : Event E) → IsAllowed plan run before at (attempt event) → PartStep kinds plan.sites plan.parts at (before at) event (after at) → (after at).up ≡ false → (m : List (Record E)) → Image (after at) m → TellsTwo plan (next event) at m
     down_here (Cut what) al st d m i = cut_here what al st m i
@@ -355,9 +355,9 @@ module _ {E : Type 0} where
     last_here (Finished t c) al st u = last_done (Finished t c) al st.0 st.1 st.2
     last_here (Aborted t own) al st u = last_done (Aborted t own) al st.0 st.1 st.2
     last_here (Sent asked x) al st u = last_done (Sent asked x) al st.0 st.1 st.2
-    last_here (Took x) al st u = last_done (Took x) al st.0 st.1 st.2
+    last_here (Took number x) al st u = last_done (Took number x) al st.0 st.1 st.2
     last_here (Reported b) al st u = last_done (Reported b) al st.0 st.1 st.2
-    last_here (Heard q b stable) al st u = last_done (Heard q b stable) al st.0 st.1 st.2
+    last_here (Heard number q b stable) al st u = last_done (Heard number q b stable) al st.0 st.1 st.2
 
     up_done : (event : Event E) → IsAllowed plan run before at event → (before at).up ≡ true → MayDo kinds plan.sites plan.parts at (before at) event → after at ≡ done (before at) event → (j : ℕ) → IsOther plan.sites at.site j → bound (after at).log j ≡ brought_after run at j (brought run at j) event
     up_done event al up k e j o = ap (λ p. bound p.log j) e ∙ done_bound kinds plan run before at w event al k up j (h.up at up j o)
@@ -378,9 +378,9 @@ module _ {E : Type 0} where
     up_here (Finished t c) al st u j o = up_done (Finished t c) al st.0 st.1 st.2 j o
     up_here (Aborted t own) al st u j o = up_done (Aborted t own) al st.0 st.1 st.2 j o
     up_here (Sent asked x) al st u j o = up_done (Sent asked x) al st.0 st.1 st.2 j o
-    up_here (Took x) al st u j o = up_done (Took x) al st.0 st.1 st.2 j o
+    up_here (Took number x) al st u j o = up_done (Took number x) al st.0 st.1 st.2 j o
     up_here (Reported b) al st u j o = up_done (Reported b) al st.0 st.1 st.2 j o
-    up_here (Heard q b stable) al st u j o = up_done (Heard q b stable) al st.0 st.1 st.2 j o
+    up_here (Heard number q b stable) al st u j o = up_done (Heard number q b stable) al st.0 st.1 st.2 j o
 
     resumable_step : (event : Event E) → IsAllowed plan run before at (attempt event) → PartStep kinds plan.sites plan.parts at (before at) event (after at) → ((q : PartId) → q ≢ at → after q ≡ before q) → Resumable plan (next event) after
     resumable_step event al st others =
@@ -395,7 +395,7 @@ module _ {E : Type 0} where
               (part_cases at p);
           down = λ p d m i. ⊎_elim
               (λ (e : at ≡ p). subst (λ y. (after y).up ≡ false → Image (after y) m → TellsTwo plan (next event) y m) e (λ d' i'. down_here event al st d' m i') d i)
-              (λ (ne : at ≡ p → ⊥). two_map plan run (next event) p m (other_view run (record { at = at; event = event }) p ne) (λ q a x. inr x) (cond-false _ _ _ (part_other at p ne)) (h.down p (ap (λ y. y.up) (sym (old p ne)) ∙ d) m (subst (λ y. Image y m) (old p ne) i)))
+              (λ (ne : at ≡ p → ⊥). two_map plan run (next event) p m (other_view run (record { at = at; event = event }) p ne) (λ k q a x. inr x) (cond-false _ _ _ (part_other at p ne)) (h.down p (ap (λ y. y.up) (sym (old p ne)) ∙ d) m (subst (λ y. Image y m) (old p ne) i)))
               (part_cases at p);
         }
 

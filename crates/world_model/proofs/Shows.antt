@@ -158,8 +158,8 @@ module _ {E : Type 0} where
       time = λ x y k. t x ∙ h.time at x up ((and_parts _ _ (sym (p x) ∙ k)).1) ∙ sym (et x);
     }
 
-    took_here : (m : Message E) → PartStep kinds plan.sites plan.parts at (before at) (Took m) (after at) → IsAllowed plan run before at (Took m) → Here plan run at (Took m) (after at)
-    took_here m st al =
+    took_here : (number : ℕ) (m : Message E) → PartStep kinds plan.sites plan.parts at (before at) (Took number m) (after at) → IsAllowed plan run before at (Took number m) → Here plan run at (Took number m) (after at)
+    took_here number m st al =
         let b = entry (before at).bounds m.from in record {
           width = λ x. ap (λ p. length p.bounds) st.2 ∙ length_replaced (before at).bounds m.from m.hi ∙ h.width at st.0;
           bounds = λ j x o. ap (λ p. entry p.bounds j) st.2 ∙ ⊎_elim
@@ -184,9 +184,9 @@ module _ {E : Type 0} where
     here (Finished u c) al st = ended_here (Finished u c) u st.0 (ap (λ p. p.bounds) st.2) (λ j. refl) (λ t. refl) (λ t. refl) (λ t. ap (λ p. pending p.log t) st.2 ∙ ended_pending (before at).log u t (Finish u c) (λ k. less_pending (same_tx u t) (prepared (before at).log t) (committed (before at).log t) (aborted (before at).log t))) (λ t. ap (λ p. prepare_time p.log t) st.2 ∙ ended_time (before at).log (pending (before at).log u) (Finish u c) t refl)
     here (Aborted u own) al st = ended_here (Aborted u own) u st.0 (ap (λ p. p.bounds) st.2) (λ j. refl) (λ t. refl) (λ t. refl) (λ t. ap (λ p. pending p.log t) st.2 ∙ less_aborted (same_tx u t) (prepared (before at).log t) (committed (before at).log t) (aborted (before at).log t)) (λ t. ap (λ p. prepare_time p.log t) st.2)
     here (Sent asked m) al st = plain (Sent asked m) st.0 (λ j. refl) (λ t. refl) (λ t. refl) (ap (λ p. p.bounds) st.2) (λ t. ap (λ p. pending p.log t) st.2) (λ t. ap (λ p. prepare_time p.log t) st.2)
-    here (Took m) al st = took_here m st al
+    here (Took number m) al st = took_here number m st al
     here (Reported b) al st = plain (Reported b) st.0 (λ j. refl) (λ t. refl) (λ t. refl) (ap (λ p. p.bounds) st.2) (λ t. ap (λ p. pending p.log t) st.2) (λ t. ap (λ p. prepare_time p.log t) st.2)
-    here (Heard q b stable) al st = plain (Heard q b stable) st.0 (λ j. refl) (λ t. refl) (λ t. refl) (ap (λ p. p.bounds) st.2) (λ t. ap (λ p. pending p.log t) st.2) (λ t. ap (λ p. prepare_time p.log t) st.2)
+    here (Heard number q b stable) al st = plain (Heard number q b stable) st.0 (λ j. refl) (λ t. refl) (λ t. refl) (ap (λ p. p.bounds) st.2) (λ t. ap (λ p. pending p.log t) st.2) (λ t. ap (λ p. prepare_time p.log t) st.2)
     here (Cut a) al st = gone_down (Cut a) (ap (λ p. p.up) st.2)
     here Crashed al st = gone_down Crashed (ap (λ p. p.up) st)
     here RestartCut al st = gone_down RestartCut (ap (λ p. p.up) st)
@@ -299,7 +299,7 @@ module _ {E : Type 0} where
     shows_event (Updated t s o own op read x stamp) q u l al st = λ k. ready_is st.0 l s o (st.1.ready k)
     shows_event (Prepared t s y w n) q u l al st = let e = (l.clock at).now in (al.snapshot, subst (λ k. entry s at.site ≤ k) e st.1.0, subst (λ k. k < end_of_time) e st.1.2)
     shows_event (Sent asked m) q u l al st = own_bound st.0 l m.hi st.1.hi
-    shows_event (Took m) q u l al st = let e = h.bounds at m.from st.0 al.from in (subst (λ n. m.lo ≤ n) e st.1.0, subst (λ n. n < m.hi) e st.1.1)
+    shows_event (Took number m) q u l al st = let e = h.bounds at m.from st.0 al.from in (subst (λ n. m.lo ≤ n) e st.1.0, subst (λ n. n < m.hi) e st.1.1)
     shows_event (Reported b) q u l al st = (st.1.width, own_bound st.0 l (entry b at.site) st.1.own, λ j o. st.1.others j o ∙ h.bounds at j st.0 o)
     shows_event (Restarted n b named listed) q u l al st =
         let o = st.shown_bounds.own in
@@ -322,8 +322,8 @@ module _ {E : Type 0} where
     shows_event (Refused (AskAbort t) IsGone) q u l al st = sym (h.waiting at t st.0.0) ∙ st.0.1
     shows_event (Refused (AskRead t s o own) (TxPending x n)) q u l al st = first_pending st.0.0 l s o x n st.0.1
     shows_event (Refused (AskUpdate t s o own op) (TxPending x n)) q u l al st = (st.0.1.0, first_pending st.0.0 l s o x n st.0.1.1)
-    shows_event (Refused (AskTake m) (HasGap n)) q u l al st = (st.0.1.0 ∙ h.bounds at m.from st.0.0 al.from, st.0.1.1)
-    shows_event (Refused (AskTake m) (IsRepeat n)) q u l al st = (st.0.1.0 ∙ h.bounds at m.from st.0.0 al.from, st.0.1.1, st.0.1.2)
+    shows_event (Refused (AskTake number m) (HasGap n)) q u l al st = (st.0.1.0 ∙ h.bounds at m.from st.0.0 al.from, st.0.1.1)
+    shows_event (Refused (AskTake number m) (IsRepeat n)) q u l al st = (st.0.1.0 ∙ h.bounds at m.from st.0.0 al.from, st.0.1.1, st.0.1.2)
     shows_event event q u l al st = tt
 
   shown_start : (plan : Plan E) (parts : PartId → PartState E) → ((p : PartId) → parts p ≡ new_part plan.sites plan.parts) → Shown plan [] parts

@@ -241,10 +241,10 @@ module _ {E : Type 0} where
       ⊎_elim (λ (k : e.at ≡ lead_of sites parts (e ∷ run) t). inl (k ∙ sym g.lead)) (λ (k : TellsAborted (state (lead_of sites parts (e ∷ run) t)) t). inr (subst (λ x. TellsAborted (state x) t) (sym g.lead) k)) al
   allowed_too sites parts run whole e state (Read t s o own read value) agr past al = record { site = al.site; who = al.who; dependency = al.dependency; begun = al.begun; place = al.place; earlier = al.earlier }
   allowed_too sites parts run whole e state (Updated t s o own op read u stamp) agr past al = record { site = al.site; who = al.who; dependency = al.dependency; begun = al.begun; place = al.place; earlier = al.earlier }
-  allowed_too sites parts run whole e state (Took m) agr past al = record { from = al.from; to = al.to; part = al.part; asked = al.asked; shown = al.shown }
-  allowed_too sites parts run whole e state (Heard q b stable) agr past al = record { least = al.least; most = al.most; shown = al.shown }
+  allowed_too sites parts run whole e state (Took number m) agr past al = record { from = al.from; to = al.to; part = al.part; asked = al.asked; shown = al.shown }
+  allowed_too sites parts run whole e state (Heard number q b stable) agr past al = record { least = al.least; most = al.most; shown = al.shown }
   allowed_too sites parts run whole e state (Refused (AskFinish t c) why) agr past al = (al.0, ap is_some_update ((past t al.0).updates e.at) ∙ al.1)
-  allowed_too sites parts run whole e state (Refused (AskTake m) why) agr past al = record { from = al.from; to = al.to; part = al.part; asked = al.asked; shown = al.shown }
+  allowed_too sites parts run whole e state (Refused (AskTake number m) why) agr past al = record { from = al.from; to = al.to; part = al.part; asked = al.asked; shown = al.shown }
   allowed_too sites parts run whole e state a agr past al = al
 
   planned_too : (sites parts : ℕ) (run whole : List (Entry E)) (at : PartId) (a : Event E) → AllFresh whole → IsSuffix ((record { at = at; event = a }) ∷ run) whole → IsPlanned (plan_of sites parts whole) at a

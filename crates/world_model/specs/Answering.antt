@@ -28,8 +28,8 @@ module _ {E : Type 0} where
   may_answer (AskDecide t c) IsGone = true
   may_answer (AskAbort t) IsGone = true
   may_answer (AskUpdate t s o own op) IsBadOp = true
-  may_answer (AskTake m) (HasGap n) = true
-  may_answer (AskTake m) (IsRepeat n) = true
+  may_answer (AskTake number m) (HasGap n) = true
+  may_answer (AskTake number m) (IsRepeat n) = true
   may_answer asked why = false
 
   -- what a crash cuts off is a call

@@ -1,5 +1,5 @@
 -- What happens at a partition, and what a list of such events shows, the newest first.
-use Rattle.std.specs.Prelude.{◌≡◌, ◌⊎◌, ℕ, max, Bool, true, false, ◌&&◌, ◌||◌, if◌then◌else◌, List, [], ◌∷◌, Option, None, Some, ⊤}
+use Rattle.std.specs.Prelude.{◌≡◌, ◌⊎◌, ℕ, ◌+◌, max, Bool, true, false, ◌&&◌, ◌||◌, if◌then◌else◌, List, [], ◌∷◌, Option, None, Some, ⊤}
 use Rattle.site_vector.specs.declared.ids.PartId.{PartId}
 use Rattle.site_vector.specs.declared.ids.TxId.{TxId}
 use Rattle.site_vector.specs.Ids.{same_part, same_tx}
@@ -22,9 +22,11 @@ pub data Ask (E : Type 0) : Type 0 where
   AskAbort : (tx : TxId) → Ask E
   -- `asked`: from where, if the caller says
   AskMessage : (to : ℕ) (asked : Option ℕ) → Ask E
-  AskTake : (message : Message E) → Ask E
+  -- the message with this number
+  AskTake : (number : ℕ) (message : Message E) → Ask E
   AskReport : Ask E
-  AskHear : (part : ℕ) (bounds : List ℕ) → Ask E
+  -- the report with this number, of the partition `part`
+  AskHear : (number part : ℕ) (bounds : List ℕ) → Ask E
   AskRestart : Ask E
 
 -- why
@@ -66,10 +68,11 @@ pub data Event (E : Type 0) : Type 0 where
   Aborted : (tx : TxId) (own : Bool) → Event E
   -- `asked`: from where, if the caller says
   Sent : (asked : Option ℕ) (message : Message E) → Event E
-  Took : (message : Message E) → Event E
+  -- the message with this number
+  Took : (number : ℕ) (message : Message E) → Event E
   Reported : (bounds : List ℕ) → Event E
-  -- the report of the partition with this number
-  Heard : (part : ℕ) (bounds stable : List ℕ) → Event E
+  -- the report with this number, of the partition `part`
+  Heard : (number part : ℕ) (bounds stable : List ℕ) → Event E
   Crashed : Event E
   -- a crash inside a restart: what may be found stays
   RestartCut : Event E
@@ -101,9 +104,9 @@ module _ {E : Type 0} where
   attempt (Finished t c) = Finished t c
   attempt (Aborted t own) = Aborted t own
   attempt (Sent asked m) = Sent asked m
-  attempt (Took m) = Took m
+  attempt (Took number m) = Took number m
   attempt (Reported b) = Reported b
-  attempt (Heard q b stable) = Heard q b stable
+  attempt (Heard number q b stable) = Heard number q b stable
   attempt Crashed = Crashed
   attempt RestartCut = RestartCut
   attempt (Restarted n b named listed) = Restarted n b named listed
@@ -211,6 +214,28 @@ module _ {E : Type 0} where
   abbrev pub WasShown : List (Entry E) → PartId → Event E → Type 0
   WasShown [] p event = ⊥
   WasShown (e ∷ run) p event = ((e.at ≡ p) × (e.event ≡ event)) ⊎ WasShown run p event
+
+  abbrev pub is_sent : Event E → Bool
+  is_sent (Sent asked m) = true
+  is_sent other = false
+
+  -- messages and reports are numbered from 1, in the order of their steps
+  abbrev pub sent_count : List (Entry E) → ℕ
+  sent_count [] = 0
+  sent_count (e ∷ run) = if is_sent e.event then sent_count run + 1 else sent_count run
+
+  abbrev pub is_report : Event E → Bool
+  is_report (Reported b) = true
+  is_report other = false
+
+  abbrev pub report_count : List (Entry E) → ℕ
+  report_count [] = 0
+  report_count (e ∷ run) = if is_report e.event then report_count run + 1 else report_count run
+
+  -- this event stands in the run, as the one with this number: one more than are counted before it
+  abbrev pub WasNumbered : (List (Entry E) → ℕ) → List (Entry E) → ℕ → PartId → Event E → Type 0
+  WasNumbered count [] number p event = ⊥
+  WasNumbered count (e ∷ run) number p event = ((e.at ≡ p) × (e.event ≡ event) × (number ≡ count run + 1)) ⊎ WasNumbered count run number p event
 
   -- each event has this property
   abbrev pub EventsAre : (PartId → Event E → Type 0) → List (Entry E) → Type 0

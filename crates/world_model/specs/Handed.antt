@@ -23,13 +23,13 @@ module _ {E : Type 0} where
   HandedAt plan run p (Began who dep t s) = home t ≡ p
   HandedAt plan run p (Read t s o own read value) = IsPlacedAt plan run p t o
   HandedAt plan run p (Updated t s o own op read u stamp) = IsPlacedAt plan run p t o × (u.object ≡ o)
-  HandedAt plan run p (Took m) = MayTake plan run p m
-  HandedAt plan run p (Refused (AskTake m) why) = MayTake plan run p m
+  HandedAt plan run p (Took number m) = MayTake plan run p number m
+  HandedAt plan run p (Refused (AskTake number m) why) = MayTake plan run p number m
   HandedAt plan run p (Refused (AskBegin who dep) why) = dep ≡ dependency plan.sites run who
   HandedAt plan run p (Refused (AskRead t s o own) why) = s ≡ plan.snapshot t
   HandedAt plan run p (Refused (AskUpdate t s o own op) why) = s ≡ plan.snapshot t
   HandedAt plan run p (Refused (AskDecide t c) why) = p.site ≡ t.site
-  HandedAt plan run p (Heard q b stable) = MayHear plan run p q b
+  HandedAt plan run p (Heard number q b stable) = MayHear plan run p number q b
   HandedAt plan run p other = ⊤
 
   -- an update comes before any prepare, and bears the next number

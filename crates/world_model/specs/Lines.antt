@@ -1,16 +1,13 @@
 -- The lines that a run of the world shows: one for each step, with the call that it answers.
-use Rattle.std.specs.Prelude.{ℕ, ◌+◌, Bool, true, false, ◌&&◌, ◌==◌, if◌then◌else◌, List, [], ◌∷◌, length, Option, ⊤}
-use Rattle.std.specs.Str.{bytes_eq}
+use Rattle.std.specs.Prelude.{ℕ, ◌+◌, if◌then◌else◌, List, [], ◌∷◌, length, Option, ⊤}
 use Rattle.site_vector.specs.declared.ids.PartId.{PartId}
 use Rattle.site_vector.specs.declared.ids.TxId.{TxId}
-use Rattle.site_vector.specs.Ids.{same_part, same_tx}
+use Rattle.site_vector.specs.Ids.{same_tx}
 use Rattle.crdt_core.specs.declared.object.ObjectId.{ObjectId}
 use Rattle.crdt_core.specs.declared.operation.Op.{Op}
-use Rattle.crdt_core.specs.declared.record.Message.{Message}
 use Rattle.world_model.specs.declared.step.Step.{Step}
 use Rattle.world_model.specs.declared.step.Step.TheVariants as step
-use Rattle.world_model.specs.Event.{Ask, AskTick, AskBegin, AskRead, AskUpdate, AskPrepare, AskDecide, AskFinish, AskAbort, AskMessage, AskTake, AskReport, AskHear, AskRestart, Refusal, IsDown, ClockBehind, TxPending, StableBehind, ClockAtEnd, IsGone, HasGap, IsRepeat, IsBadOp, IsDamaged, Event, Ticked, Began, Updated, Read, Prepared, Decided, Finished, Aborted, Sent, Took, Reported, Heard, Crashed, RestartCut, Restarted, Refused, Opened, Cut, Entry}
-use Rattle.world_model.specs.Plan.{twin}
+use Rattle.world_model.specs.Event.{Ask, AskTick, AskBegin, AskRead, AskUpdate, AskPrepare, AskDecide, AskFinish, AskAbort, AskMessage, AskTake, AskReport, AskHear, AskRestart, Refusal, IsDown, ClockBehind, TxPending, StableBehind, ClockAtEnd, IsGone, HasGap, IsRepeat, IsBadOp, IsDamaged, Event, Ticked, Began, Updated, Read, Prepared, Decided, Finished, Aborted, Sent, Took, Reported, Heard, Crashed, RestartCut, Restarted, Refused, Opened, Cut, Entry, sent_count, report_count}
 
 -- what a partition was asked: a run of the world holds no commands
 pub data Call : Type 0 where
@@ -53,41 +50,6 @@ module _ {E : Type 0} where
   session_of [] t = []
   session_of (e ∷ run) t = session_after t (session_of run t) e.event
 
-  abbrev pub is_sent : Event E → Bool
-  is_sent (Sent asked m) = true
-  is_sent other = false
-
-  -- messages and reports are numbered in the order of their steps
-  abbrev pub sent_count : List (Entry E) → ℕ
-  sent_count [] = 0
-  sent_count (e ∷ run) = if is_sent e.event then sent_count run + 1 else sent_count run
-
-  abbrev pub is_report : Event E → Bool
-  is_report (Reported b) = true
-  is_report other = false
-
-  abbrev pub report_count : List (Entry E) → ℕ
-  report_count [] = 0
-  report_count (e ∷ run) = if is_report e.event then report_count run + 1 else report_count run
-
-  abbrev pub has_stretch : Event E → Message E → Bool
-  has_stretch (Sent asked x) m = x.to == m.to && (x.lo == m.lo && x.hi == m.hi)
-  has_stretch other m = false
-
-  -- the number of the last message from p with this stretch
-  abbrev pub message_number : List (Entry E) → PartId → Message E → ℕ
-  message_number [] p m = 0
-  message_number (e ∷ run) p m = if same_part e.at p && has_stretch e.event m then sent_count run + 1 else message_number run p m
-
-  abbrev pub has_bounds : Event E → List ℕ → Bool
-  has_bounds (Reported x) b = bytes_eq x b
-  has_bounds other b = false
-
-  -- the number of the last report of p with these bounds
-  abbrev pub report_number : List (Entry E) → PartId → List ℕ → ℕ
-  report_number [] p b = 0
-  report_number (e ∷ run) p b = if same_part e.at p && has_bounds e.event b then report_count run + 1 else report_number run p b
-
   abbrev pub call_asked : Ask E → Call
   call_asked (AskTick r) = Tick r
   call_asked (AskBegin who dep) = Begin who
@@ -98,9 +60,9 @@ module _ {E : Type 0} where
   call_asked (AskFinish t c) = FinishOf t
   call_asked (AskAbort t) = AbortOf t
   call_asked (AskMessage site asked) = SendTo site asked
-  call_asked (AskTake m) = TakeOf m.from m.lo m.hi
+  call_asked (AskTake number m) = TakeOf m.from m.lo m.hi
   call_asked AskReport = Report
-  call_asked (AskHear q b) = HearOf q b
+  call_asked (AskHear number q b) = HearOf q b
   call_asked AskRestart = Restart
 
   abbrev pub call_done : Event E → Call
@@ -113,9 +75,9 @@ module _ {E : Type 0} where
   call_done (Finished t c) = FinishOf t
   call_done (Aborted t own) = AbortOf t
   call_done (Sent asked m) = SendTo m.to asked
-  call_done (Took m) = TakeOf m.from m.lo m.hi
+  call_done (Took number m) = TakeOf m.from m.lo m.hi
   call_done (Reported b) = Report
-  call_done (Heard q b stable) = HearOf q b
+  call_done (Heard number q b stable) = HearOf q b
   call_done Crashed = Crash
   call_done RestartCut = Restart
   call_done (Restarted n b named listed) = Restart
@@ -139,9 +101,10 @@ module _ {E : Type 0} where
   tx_asked (AskAbort t) = t
   tx_asked other = record { site = 0; part = 0; time = 0 }
 
-  abbrev pub number_asked : List (Entry E) → PartId → Ask E → ℕ
-  number_asked run p (AskTake m) = message_number run (twin m.from p) m
-  number_asked run p other = 0
+  -- the number of the message that wasn't taken
+  abbrev pub number_asked : Ask E → ℕ
+  number_asked (AskTake number m) = number
+  number_asked other = 0
 
   abbrev pub refusal_shown : List (Entry E) → PartId → Ask E → Refusal → Step
   refusal_shown run p asked IsDown = step.Down p
@@ -150,8 +113,8 @@ module _ {E : Type 0} where
   refusal_shown run p asked (StableBehind j n) = step.WaitStable j n
   refusal_shown run p asked ClockAtEnd = step.TimeEnd
   refusal_shown run p asked IsGone = step.Gone p (tx_asked asked)
-  refusal_shown run p asked (HasGap n) = step.Gap (number_asked run p asked) n
-  refusal_shown run p asked (IsRepeat n) = step.Dup (number_asked run p asked) n
+  refusal_shown run p asked (HasGap n) = step.Gap (number_asked asked) n
+  refusal_shown run p asked (IsRepeat n) = step.Dup (number_asked asked) n
   refusal_shown run p asked IsBadOp = step.BadOp
   refusal_shown run p asked (IsDamaged k) = step.Damaged p k
 
@@ -170,9 +133,9 @@ module _ {E : Type 0} where
   step_shown run p (Finished t c) = step.Finished p t
   step_shown run p (Aborted t own) = step.Aborted p t
   step_shown run p (Sent asked m) = step.Sent (sent_count run + 1) p m.to m.lo m.hi (length m.parts)
-  step_shown run p (Took m) = step.Took (message_number run (twin m.from p) m) m.hi
+  step_shown run p (Took number m) = step.Took number m.hi
   step_shown run p (Reported b) = step.Reported (report_count run + 1) p b
-  step_shown run p (Heard q b stable) = step.Heard (report_number run (record { site = p.site; part = q }) b) p stable
+  step_shown run p (Heard number q b stable) = step.Heard number p stable
   step_shown run p Crashed = step.Crashed p
   step_shown run p RestartCut = step.Disk p
   step_shown run p (Restarted n b named listed) = step.Restarted p n b named listed

@@ -41,7 +41,7 @@ module _ {E : Type 0} where
   records_of plan run p log (Decided t c) = if pending log t then Decide t (commit_vector plan run t) ∷ [] else []
   records_of plan run p log (Finished t c) = if pending log t then Finish t (commit_vector plan run t) ∷ [] else []
   records_of plan run p log (Aborted t own) = Abort t ∷ []
-  records_of plan run p log (Took m) = taken_of p m (bound_shown run p m.from) (filter (λ x. ltb (bound_shown run p m.from) (entry x.c m.from)) m.parts)
+  records_of plan run p log (Took number m) = taken_of p m (bound_shown run p m.from) (filter (λ x. ltb (bound_shown run p m.from) (entry x.c m.from)) m.parts)
   records_of plan run p log other = []
 
   -- the log after an event: with its records, or with the first of them where it was cut off

@@ -210,7 +210,7 @@ module _ {E : Type 0} where
   written log bounds (Decided t c) = if pending log t then Decide t c ∷ [] else []
   written log bounds (Finished t c) = if pending log t then Finish t c ∷ [] else []
   written log bounds (Aborted t own) = Abort t ∷ []
-  written log bounds (Took m) = batch_of m (bounds m.from) (above m.from (bounds m.from) m.parts)
+  written log bounds (Took number m) = batch_of m (bounds m.from) (above m.from (bounds m.from) m.parts)
   written log bounds other = []
 
   abbrev pub records : PartState E → Event E → List (Record E)
@@ -223,12 +223,12 @@ module _ {E : Type 0} where
   now_after now other = now
 
   abbrev pub bounds_after : List ℕ → Event E → List ℕ
-  bounds_after bounds (Took m) = replaced bounds m.from m.hi
+  bounds_after bounds (Took number m) = replaced bounds m.from m.hi
   bounds_after bounds other = bounds
 
   -- the entrywise greatest of what was heard of each partition
   abbrev pub heard_after : List (List ℕ) → Event E → List (List ℕ)
-  heard_after heard (Heard q b stable) = slice_set heard (q - 1) (join (vector_of heard q) b)
+  heard_after heard (Heard number q b stable) = slice_set heard (q - 1) (join (vector_of heard q) b)
   heard_after heard other = heard
 
   abbrev pub sends_after : List ℕ → Event E → List ℕ
@@ -274,9 +274,9 @@ module _ {E : Type 0} where
   MayDo kinds sites parts id p (Finished t c) = (pending p.log t || committed p.log t) ≡ true
   MayDo kinds sites parts id p (Aborted t own) = pending p.log t ≡ true
   MayDo kinds sites parts id p (Sent asked m) = IsMessage sites id p asked m
-  MayDo kinds sites parts id p (Took m) = (m.lo ≤ entry p.bounds m.from) × (entry p.bounds m.from < m.hi)
+  MayDo kinds sites parts id p (Took number m) = (m.lo ≤ entry p.bounds m.from) × (entry p.bounds m.from < m.hi)
   MayDo kinds sites parts id p (Reported b) = IsBounds sites id p.now p.log p.bounds b
-  MayDo kinds sites parts id p (Heard q b stable) = IsStable sites parts id (done p (Heard q b stable)) stable
+  MayDo kinds sites parts id p (Heard number q b stable) = IsStable sites parts id (done p (Heard number q b stable)) stable
   MayDo kinds sites parts id p other = ⊥
 
   abbrev pub AreTimed : List (Record E) → List (TxId × ℕ) → Type 0
@@ -317,8 +317,8 @@ module _ {E : Type 0} where
   IsDue kinds sites parts id p (AskDecide t c) IsGone = (pending p.log t || committed p.log t) ≡ false
   IsDue kinds sites parts id p (AskFinish t c) IsGone = (pending p.log t || committed p.log t) ≡ false
   IsDue kinds sites parts id p (AskAbort t) IsGone = pending p.log t ≡ false
-  IsDue kinds sites parts id p (AskTake m) (HasGap n) = (n ≡ entry p.bounds m.from) × (n < m.lo)
-  IsDue kinds sites parts id p (AskTake m) (IsRepeat n) = (n ≡ entry p.bounds m.from) × (m.lo ≤ n) × (m.hi ≤ n)
+  IsDue kinds sites parts id p (AskTake number m) (HasGap n) = (n ≡ entry p.bounds m.from) × (n < m.lo)
+  IsDue kinds sites parts id p (AskTake number m) (IsRepeat n) = (n ≡ entry p.bounds m.from) × (m.lo ≤ n) × (m.hi ≤ n)
   IsDue kinds sites parts id p asked why = ⊥
 
   -- what a restart found isn't the partition's

@@ -9,7 +9,7 @@ use Rattle.crdt_core.specs.declared.record.Upd.{Upd}
 use Rattle.crdt_core.specs.declared.record.Message.{Message}
 use Rattle.crdt_core.specs.Objects.{same_object}
 use Rattle.crdt_core.specs.Placing.{place_of}
-use Rattle.world_model.specs.Event.{Ask, AskBegin, AskRead, AskUpdate, AskPrepare, AskDecide, AskFinish, AskTake, Refused, Event, Began, Updated, Read, Prepared, Decided, Finished, Aborted, Sent, Took, Reported, Heard, Entry, attempt, tried, voted, decide_tried, gave_up, is_decided, time_of, WasShown}
+use Rattle.world_model.specs.Event.{Ask, AskBegin, AskRead, AskUpdate, AskPrepare, AskDecide, AskFinish, AskTake, Refused, Event, Began, Updated, Read, Prepared, Decided, Finished, Aborted, Sent, Took, Reported, Heard, Entry, attempt, tried, voted, decide_tried, gave_up, is_decided, time_of, WasShown, sent_count, report_count, WasNumbered}
 use Rattle.world_model.specs.Past.{dependency}
 use Rattle.world_model.specs.Partition.{Kinds, PartState, IsOther, ToldAborted, fate_of, new_part, PartStep}
 
@@ -120,19 +120,19 @@ module _ {E : Type 0} where
   MayAbort plan run parts p t true = decide_tried run t ≡ false
   MayAbort plan run parts p t false = (p ≡ plan.lead t) ⊎ TellsAborted (parts (plan.lead t)) t
 
-  -- a message is taken that was sent to here
-  pub record MayTake (plan : Plan E) (run : List (Entry E)) (p : PartId) (m : Message E) : Type 0 where
+  -- a message is taken that was sent to here, as the one with this number
+  pub record MayTake (plan : Plan E) (run : List (Entry E)) (p : PartId) (number : ℕ) (m : Message E) : Type 0 where
     pub from : IsOther plan.sites p.site m.from
     pub to : m.to ≡ p.site
     pub part : m.part ≡ p.part
     pub asked : Option ℕ
-    pub shown : WasShown run (twin m.from p) (Sent asked m)
+    pub shown : WasNumbered sent_count run number (twin m.from p) (Sent asked m)
 
-  -- a report is heard that a partition of the site made
-  pub record MayHear (plan : Plan E) (run : List (Entry E)) (p : PartId) (q : ℕ) (b : List ℕ) : Type 0 where
+  -- a report is heard that a partition of the site made, as the one with this number
+  pub record MayHear (plan : Plan E) (run : List (Entry E)) (p : PartId) (number q : ℕ) (b : List ℕ) : Type 0 where
     pub least : 1 ≤ q
     pub most : q ≤ plan.parts
-    pub shown : WasShown run (record { site = p.site; part = q }) (Reported b)
+    pub shown : WasNumbered report_count run number (record { site = p.site; part = q }) (Reported b)
 
   -- a session asks for t under the snapshot that t began with
   pub record IsSession (run : List (Entry E)) (p : PartId) (t : TxId) (s : List ℕ) : Type 0 where
@@ -149,7 +149,7 @@ module _ {E : Type 0} where
   MayAsk plan run p (AskPrepare t s l w) = IsSession run p t s
   MayAsk plan run p (AskDecide t c) = p.site ≡ t.site
   MayAsk plan run p (AskFinish t c) = (is_decided run t ≡ true) × (takes_part plan t p ≡ true)
-  MayAsk plan run p (AskTake m) = MayTake plan run p m
+  MayAsk plan run p (AskTake number m) = MayTake plan run p number m
   MayAsk plan run p other = ⊤
 
   -- what sessions hold, the lead tells, and messages and reports bring
@@ -161,8 +161,8 @@ module _ {E : Type 0} where
   IsAllowed plan run parts at (Decided t c) = MayDecide plan run at t c
   IsAllowed plan run parts at (Finished t c) = MayFinish plan run at t c
   IsAllowed plan run parts at (Aborted t own) = MayAbort plan run parts at t own
-  IsAllowed plan run parts at (Took m) = MayTake plan run at m
-  IsAllowed plan run parts at (Heard q b stable) = MayHear plan run at q b
+  IsAllowed plan run parts at (Took number m) = MayTake plan run at number m
+  IsAllowed plan run parts at (Heard number q b stable) = MayHear plan run at number q b
   IsAllowed plan run parts at (Refused asked why) = MayAsk plan run at asked
   IsAllowed plan run parts at other = ⊤
 

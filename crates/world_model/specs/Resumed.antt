@@ -42,7 +42,7 @@ module _ {E : Type 0} where
 
   -- the greatest end of a message from site j that brought a part, or what a later restart showed
   abbrev pub brought_after : List (Entry E) → PartId → ℕ → ℕ → Event E → ℕ
-  brought_after run p j old (Took m) = if m.from == j && brings m (bound_shown run p m.from) then max m.hi old else old
+  brought_after run p j old (Took number m) = if m.from == j && brings m (bound_shown run p m.from) then max m.hi old else old
   brought_after run p j old (Restarted n b named listed) = entry b j
   brought_after run p j old other = old
 
@@ -62,7 +62,7 @@ module _ {E : Type 0} where
 
   -- a take that was cut off was of a message that was sent, and left no gap
   abbrev pub IsTakeable : Plan E → List (Entry E) → PartId → Event E → Type 0
-  IsTakeable plan run p (Took m) = MayTake plan run p m × (m.lo ≤ bound_shown run p m.from)
+  IsTakeable plan run p (Took number m) = MayTake plan run p number m × (m.lo ≤ bound_shown run p m.from)
   IsTakeable plan run p other = ⊤
 
   -- all that was pending is listed, with its time, and the bounds are those of messages that brought something

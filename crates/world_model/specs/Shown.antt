@@ -43,7 +43,7 @@ pub record IsOwnBoundOf (now : ℕ) (listed : List (TxId × ℕ)) (b : ℕ) : Ty
 module _ {E : Type 0} where
   -- the bound for site j: the end of the last message taken from there, or what a later restart showed
   abbrev pub bound_after : ℕ → ℕ → Event E → ℕ
-  bound_after j old (Took m) = if m.from == j then m.hi else old
+  bound_after j old (Took number m) = if m.from == j then m.hi else old
   bound_after j old (Restarted n b named listed) = entry b j
   bound_after j old other = old
 
@@ -114,7 +114,7 @@ module _ {E : Type 0} where
   ShowsAt plan run p (Updated t s o own op read u stamp) = reads_state o.kind ≡ true → IsReadyAt plan run p s o
   ShowsAt plan run p (Prepared t s l w n) = (s ≡ plan.snapshot t) × (entry s p.site ≤ shown run p) × (shown run p < end_of_time)
   ShowsAt plan run p (Sent asked m) = IsOwnBoundAt run p m.hi
-  ShowsAt plan run p (Took m) = (m.lo ≤ bound_shown run p m.from) × (bound_shown run p m.from < m.hi)
+  ShowsAt plan run p (Took number m) = (m.lo ≤ bound_shown run p m.from) × (bound_shown run p m.from < m.hi)
   ShowsAt plan run p (Reported b) = (length b ≡ plan.sites) × IsOwnBoundAt run p (entry b p.site) × ((j : ℕ) → IsOther plan.sites p.site j → entry b j ≡ bound_shown run p j)
   ShowsAt plan run p (Restarted n b named listed) = (length b ≡ plan.sites) × AreInOrder IsBefore listed × IsOwnBoundOf n listed (entry b p.site)
   ShowsAt plan run p (Decided t c) = pending_shown run p t ≡ true
@@ -124,8 +124,8 @@ module _ {E : Type 0} where
   ShowsAt plan run p (Refused (AskAbort t) IsGone) = pending_shown run p t ≡ false
   ShowsAt plan run p (Refused (AskRead t s o own) (TxPending u n)) = IsFirstPending plan run p s o u n
   ShowsAt plan run p (Refused (AskUpdate t s o own op) (TxPending u n)) = (reads_state o.kind ≡ true) × IsFirstPending plan run p s o u n
-  ShowsAt plan run p (Refused (AskTake m) (HasGap n)) = (n ≡ bound_shown run p m.from) × (n < m.lo)
-  ShowsAt plan run p (Refused (AskTake m) (IsRepeat n)) = (n ≡ bound_shown run p m.from) × (m.lo ≤ n) × (m.hi ≤ n)
+  ShowsAt plan run p (Refused (AskTake number m) (HasGap n)) = (n ≡ bound_shown run p m.from) × (n < m.lo)
+  ShowsAt plan run p (Refused (AskTake number m) (IsRepeat n)) = (n ≡ bound_shown run p m.from) × (m.lo ≤ n) × (m.hi ≤ n)
   ShowsAt plan run p other = ⊤
 
   abbrev pub ShowAt : Plan E → List (Entry E) → Type 0

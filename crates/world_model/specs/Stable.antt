@@ -17,7 +17,7 @@ pub record IsLeast (n : ℕ) (known : ℕ → ℕ) (m : ℕ) : Type 0 where
 module _ {E : Type 0} where
   -- the greatest entry for site j in the reports of partition q that were heard since the last restart
   abbrev pub heard_from : ℕ → ℕ → ℕ → Event E → ℕ
-  heard_from q j old (Heard k b stable) = if k == q then max old (entry b j) else old
+  heard_from q j old (Heard number k b stable) = if k == q then max old (entry b j) else old
   heard_from q j old (Restarted n b named listed) = 0
   heard_from q j old other = old
 
@@ -50,7 +50,7 @@ module _ {E : Type 0} where
 
   abbrev pub IsFreshAt : Plan E → List (Entry E) → PartId → Event E → Type 0
   IsFreshAt plan run p (Began who dep t s) = IsSnapshotAt plan run p dep t s
-  IsFreshAt plan run p (Heard k b stable) = IsStableAt plan run p (λ q j. heard_from q j (heard_shown run p q j) (Heard k b stable)) stable
+  IsFreshAt plan run p (Heard number k b stable) = IsStableAt plan run p (λ q j. heard_from q j (heard_shown run p q j) (Heard number k b stable)) stable
   IsFreshAt plan run p (Refused (AskBegin who dep) ClockAtEnd) = (j q : ℕ) → IsOther plan.sites p.site j → 1 ≤ q → q ≤ plan.parts → entry dep j ≤ known_shown run p j q
   IsFreshAt plan run p (Refused (AskBegin who dep) (StableBehind j n)) = IsBehindAt plan run p dep j n
   IsFreshAt plan run p other = ⊤
