@@ -1,9 +1,10 @@
 ghost use Rattle.std.specs.Prelude.{◌≡◌, Option, OnOk, IfOk, IsTrue, unwrap_or, true, false};
 ghost use Rattle.std.specs.Option.{option_copied};
 ghost use Rattle.crdt_core.specs.EffectForm.{HoldsSpelled, IsReady};
+ghost use Rattle.crdt_core.specs.Fits.{fits};
 ghost use Rattle.crdt_any.specs.Layer.{moved};
 
-use crdt_core::{Act, Crdt, Field, Kind};
+use crdt_core::{Act, Crdt, Field, GenError, Kind};
 use site_vector::Dot;
 use std::alloc::{AllocError, Global};
 
@@ -39,7 +40,9 @@ pub fn made_on<C: Crdt>(
     state: Option<&C::State>,
     now: u64,
 ) -> Result<C::Effect, AllocError>
-    requires { IsTrue (C.has kind) }
+    requires known { IsTrue (C.has kind) }
+    requires fitting { fits kind path.now act.now ≡ true }
+    requires shallow { C.too_deep kind path.now ≡ false }
     ensures made { IfOk result (λ e. e ≡ C.made kind (unwrap_or (option_copied state.entry) (C.initial kind)) path.now act.now now) }
     ensures ready { HoldsSpelled C.holds (unwrap_or (option_copied state.entry) (C.initial kind)) → IfOk result (λ e. IsReady C.is_of C.can_put C.spelling kind path.now act.now e) }
 {
@@ -52,8 +55,7 @@ pub fn made_on<C: Crdt>(
     }
 }
 
-/// An effect that the kind has. Where a layer calls this, the operation is one of the kind and leads nowhere too deep,
-/// so by the clauses of `generate` no refusal of the kind comes here, and want of memory is the only error.
+/// An effect that the kind has. By the clauses of `generate` want of memory is the only refusal of an operation that fits.
 fn generated<C: Crdt>(
     alloc: Global,
     kind: Kind,
@@ -62,12 +64,15 @@ fn generated<C: Crdt>(
     state: &C::State,
     now: u64,
 ) -> Result<C::Effect, AllocError>
-    requires { IsTrue (C.has kind) }
+    requires known { IsTrue (C.has kind) }
+    requires fitting { fits kind path.now act.now ≡ true }
+    requires shallow { C.too_deep kind path.now ≡ false }
     ensures made { IfOk result (λ e. e ≡ C.made kind state.now path.now act.now now) }
     ensures ready { HoldsSpelled C.holds state.now → IfOk result (λ e. IsReady C.is_of C.can_put C.spelling kind path.now act.now e) }
 {
     match C::generate(alloc, kind, path, act, state, now) {
         Ok(effect) => Ok(effect),
-        Err(_) => Err(AllocError),
+        Err(GenError::NoMemory) => Err(AllocError),
+        Err(GenError::BadOp) | Err(GenError::TooDeep) => unreachable!(),
     }
 }

@@ -3,6 +3,7 @@ ghost use Rattle.std.specs.FinMap as map;
 ghost use Rattle.crdt_core.specs.declared.operation.Act.TheVariants.{Reset};
 ghost use Rattle.std.specs.List.{list_all};
 ghost use Rattle.crdt_core.specs.EffectForm.{HoldsSpelled, IsReady};
+ghost use Rattle.crdt_core.specs.Fits.{fits};
 ghost use Rattle.crdt_maps.specs.Ready.{can_put_at, is_reset_ready, parts_ready};
 ghost use Rattle.crdt_maps.specs.Maps.{at, is_undone, resets_of, reset_by, map_made, map_too_deep, map_holds};
 
@@ -34,7 +35,8 @@ pub fn effect_of<I: Crdt>(
     fields: &Fields<I::State>,
     now: u64,
 ) -> Result<MapEffect<I::Effect>, AllocError>
-    requires { map_too_deep I.has I.too_deep kind path.now ≡ false }
+    requires fitting { fits kind path.now act.now ≡ true }
+    requires shallow { map_too_deep I.has I.too_deep kind path.now ≡ false }
     ensures made { IfOk result (λ e. e ≡ map_made I.has I.initial I.made I.is_blank kind fields.now path.now act.now now) }
     ensures ready { HoldsSpelled (map_holds I.holds) fields.now → IfOk result (λ e. parts_ready I.is_of I.can_put I.spelling e ≡ true) }
 {
@@ -132,7 +134,9 @@ fn field_effect<I: Crdt>(
     act: &Act,
     now: u64,
 ) -> Result<I::Effect, AllocError>
-    requires { IsTrue (I.has field.now.kind) }
+    requires known { IsTrue (I.has field.now.kind) }
+    requires fitting { fits field.now.kind path.now act.now ≡ true }
+    requires shallow { I.too_deep field.now.kind path.now ≡ false }
     ensures made { IfOk result (λ e. e ≡ I.made field.now.kind (at I.initial fields.now field.now) path.now act.now now) }
     ensures ready { HoldsSpelled (map_holds I.holds) fields.now → IfOk result (λ e. can_put_at I.is_of I.can_put field.now.kind e ≡ true) }
 {
@@ -145,8 +149,7 @@ fn field_effect<I: Crdt>(
     }
 }
 
-/// An effect that the inner type has. Where a map calls this, the operation is one of the field's kind and leads nowhere too deep,
-/// so by the clauses of `generate` no refusal of the inner type comes here, and want of memory is the only error.
+/// An effect that the inner type has. By the clauses of `generate` want of memory is the only refusal of an operation that fits.
 fn generated<I: Crdt>(
     alloc: Global,
     kind: Kind,
@@ -155,12 +158,15 @@ fn generated<I: Crdt>(
     state: &I::State,
     now: u64,
 ) -> Result<I::Effect, AllocError>
-    requires { IsTrue (I.has kind) }
+    requires known { IsTrue (I.has kind) }
+    requires fitting { fits kind path.now act.now ≡ true }
+    requires shallow { I.too_deep kind path.now ≡ false }
     ensures made { IfOk result (λ e. e ≡ I.made kind state.now path.now act.now now) }
     ensures ready { HoldsSpelled I.holds state.now → IfOk result (λ e. IsReady I.is_of I.can_put I.spelling kind path.now act.now e) }
 {
     match I::generate(alloc, kind, path, act, state, now) {
         Ok(effect) => Ok(effect),
-        Err(_) => Err(AllocError),
+        Err(GenError::NoMemory) => Err(AllocError),
+        Err(GenError::BadOp) | Err(GenError::TooDeep) => unreachable!(),
     }
 }
