@@ -17,6 +17,9 @@ use std::io::{ErrorKind, Write};
 use std::process::ExitCode;
 use std::{env, io};
 
+#[cfg(test)]
+mod tests;
+
 /// The status where the process's words can't be had: no memory, or a word that isn't UTF-8, which is no call.
 fn status_without_words(kind: ErrorKind) -> Status
     ensures no_memory { kind ≡ ErrorKind.OutOfMemory → result ≡ Status.NO_MEMORY }

@@ -1,0 +1,36 @@
+//! What no clause says: that the line of a status is written to a writer that takes it.
+use crate::{end, tell};
+use dc_engine::Status;
+use std::io::{Error, ErrorKind, Write};
+use std::test::*;
+
+/// Fails at each call.
+#[derive(Drop)]
+struct Broken;
+
+impl Write for Broken {
+    fn write(&mut self, _: &[u8]) -> std::io::Result<usize> {
+        Err(Error::from(ErrorKind::TimedOut))
+    }
+
+    fn flush(&mut self) -> std::io::Result<()> {
+        Ok(())
+    }
+}
+
+#[test]
+fn tells_a_status(rt: HostRuntime) {
+    let mut err = Vec::new(rt.alloc());
+    assert!(rt; tell(&mut err, Status::NO_MEMORY).is_ok());
+    assert_eq!(rt; err.as_slice(), b"out of memory\n".as_slice());
+    assert!(rt; tell(&mut err, Status::DONE).is_ok());
+    assert_eq!(rt; err.as_slice(), b"out of memory\n".as_slice());
+}
+
+#[test]
+fn ends_where_nothing_can_be_told(rt: HostRuntime) {
+    let mut err = Vec::new(rt.alloc());
+    assert!(rt; end(&mut err, Status::READ_FAULT).1.is_ok());
+    assert_eq!(rt; err.as_slice(), b"read fault\n".as_slice());
+    assert!(rt; end(&mut Broken, Status::READ_FAULT).1.is_err());
+}
