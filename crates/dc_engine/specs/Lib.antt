@@ -13,6 +13,7 @@ pub mod ObjectKinds
 pub mod OneWorld
 pub mod Played
 pub mod Player
+pub mod ReadBack
 pub mod Reading
 pub mod Replies
 pub mod SessionTable
