@@ -1,9 +1,12 @@
 -- The bytes of a layer's effects are those of its kinds.
-use Rattle.std.proofs.Common.{◌≡◌, ℕ, Bool, true, ◌&&◌, List, refl}
-use Rattle.std.specs.Prelude.{is_some}
+use Rattle.std.proofs.Common.{◌≡◌, ℕ, Bool, true, ◌&&◌, List, [], ◌∷◌, refl}
+use Rattle.std.specs.Prelude.{◌⊎◌, is_some}
+use Rattle.std.specs.List.{list_all}
 use Rattle.std.proofs.lemmas.Bool.{false≢true}
+use Rattle.field_codec.specs.Spelling.{is_text}
 use Rattle.field_codec.specs.Reading.{Read, mapped_at}
-use Rattle.field_codec.specs.Lawful.{IsForm}
+use Rattle.field_codec.specs.Lawful.{IsTooLong, StandInTurn, IsForm, SpellsAll}
+use Rattle.field_codec.specs.SpellsAllLaws.{alike_spells}
 use Rattle.field_codec.specs.Tagged.{shape_form}
 use Rattle.std.specs.Prelude.{ℤ}
 use Rattle.site_vector.specs.declared.ids.Dot.{Dot}
@@ -22,18 +25,18 @@ use Rattle.crdt_core.specs.EffectForm.{SpellsEffects}
 use Rattle.crdt_core.specs.Stands.{StandsIn, NamesStand}
 use Rattle.crdt_counters.specs.CounterPn.{pn_has}
 use Rattle.crdt_counters.specs.CounterFat.{fat_has}
-use Rattle.crdt_counters.specs.EffectForm.{is_amount_number, amount_spelling, amount_at, pn_spells, can_put_fat, is_fat_spelled, fat_spelling, fat_at, fat_spells, pn_stands, fat_stands}
+use Rattle.crdt_counters.specs.EffectForm.{is_amount_number, amount_spelling, amount_at, pn_spells, can_put_fat, is_fat_spelled, fat_spelling, fat_at, fat_spells, fat_all, pn_stands, fat_stands}
 use Rattle.crdt_sets.specs.SetGo as set
 use Rattle.crdt_sets.specs.Sets as sets
-use Rattle.crdt_sets.specs.EffectForm.{can_put_texts, are_texts_spelled, texts_spelling, texts_at, go_spells as set_go_spells, can_put_set, is_set_spelled, set_spelling, set_at, set_spells, go_stands as set_go_stands, set_stands}
+use Rattle.crdt_sets.specs.EffectForm.{can_put_texts, are_texts_spelled, texts_spelling, texts_at, texts_all, set_texts, set_all, go_spells as set_go_spells, can_put_set, is_set_spelled, set_spelling, set_at, set_spells, go_stands as set_go_stands, set_stands}
 use Rattle.crdt_flags.specs.Flags as flags
-use Rattle.crdt_flags.specs.EffectForm.{can_put_flag, is_flag_spelled, flag_spelling, flag_at, flag_spells, flag_stands}
+use Rattle.crdt_flags.specs.EffectForm.{can_put_flag, is_flag_spelled, flag_spelling, flag_at, flag_spells, flag_all, flag_stands}
 use Rattle.crdt_registers.specs.RegisterLww.{lww_has}
 use Rattle.crdt_registers.specs.RegisterMv.{mv_has}
-use Rattle.crdt_registers.specs.LwwForm.{can_put_lww, is_lww_spelled, lww_spelling, lww_at, lww_spells, lww_stands}
-use Rattle.crdt_registers.specs.MvForm.{can_put_mv, is_mv_spelled, mv_spelling, mv_at, mv_spells, mv_stands}
+use Rattle.crdt_registers.specs.LwwForm.{can_put_lww, is_lww_spelled, lww_spelling, lww_at, lww_spells, lww_all, lww_stands}
+use Rattle.crdt_registers.specs.MvForm.{can_put_mv, is_mv_spelled, mv_spelling, mv_at, mv_spells, mv_texts, mv_all, mv_stands}
 use Rattle.crdt_maps.specs.Maps.{go_has, rr_has}
-use Rattle.crdt_maps.specs.EffectForm.{go_can_put, go_is_spelled, go_spelling, go_at, go_spells, rr_can_put, rr_is_spelled, rr_spelling, rr_at, rr_spells, go_stands, rr_stands}
+use Rattle.crdt_maps.specs.EffectForm.{go_can_put, go_is_spelled, go_spelling, go_at, go_spells, go_texts, go_all, rr_texts, rr_all, rr_can_put, rr_is_spelled, rr_spelling, rr_at, rr_spells, go_stands, rr_stands}
 use Rattle.crdt_any.specs.Layer.{layer_has, layer_names}
 use Rattle.crdt_any.specs.Cases.{counter_pn_effect, counter_fat_effect, set_go_effect, set_aw_effect, set_rw_effect, flag_ew_effect, flag_dw_effect, register_lww_effect, register_mv_effect, map_go_effect, map_rr_effect}
 
@@ -88,6 +91,20 @@ layer_spelling spelling (effect.RegisterLww e) = lww_spelling e
 layer_spelling spelling (effect.RegisterMv e) = mv_spelling e
 layer_spelling spelling (effect.MapGo e) = (go_spelling spelling) e
 layer_spelling spelling (effect.MapRr e) = (rr_spelling spelling) e
+
+-- the texts in an effect
+abbrev pub layer_texts : {E : Type 0} → (E → List (List ℕ)) → LayerEffect E → List (List ℕ)
+layer_texts texts (effect.CounterPn e) = []
+layer_texts texts (effect.CounterFat e) = []
+layer_texts texts (effect.SetGo e) = e
+layer_texts texts (effect.SetAw e) = set_texts e
+layer_texts texts (effect.SetRw e) = set_texts e
+layer_texts texts (effect.FlagEw e) = []
+layer_texts texts (effect.FlagDw e) = []
+layer_texts texts (effect.RegisterLww e) = e.text ∷ []
+layer_texts texts (effect.RegisterMv e) = mv_texts e
+layer_texts texts (effect.MapGo e) = go_texts texts e
+layer_texts texts (effect.MapRr e) = rr_texts texts e
 
 abbrev pub layer_reading : {E : Type 0} → (Kind → Bool) → (Kind → List ℕ → ℕ → Read E) → Kind → List ℕ → ℕ → Read (LayerEffect E)
 layer_reading has reading kinds.CounterPn = mapped_at effect.CounterPn amount_at
@@ -153,7 +170,7 @@ module _ {E : Type 0} {has : Kind → Bool} {is_of : Kind → E → Bool} {can_p
   map_rr_shape (effect.MapRr v) h = (v, refl)
   map_rr_shape _ h = absurd (false≢true h)
 
-  form_at : (k : Kind) → IsForm (fits_at k) (spelled_at k) (layer_spelling spelling) (layer_reading has reading k)
+  pub form_at : (k : Kind) → IsForm (fits_at k) (spelled_at k) (layer_spelling spelling) (layer_reading has reading k)
   form_at kinds.CounterPn = shape_form effect.CounterPn is_amount_number is_amount_number amount_spelling amount_at (fits_at kinds.CounterPn) (spelled_at kinds.CounterPn) (layer_spelling spelling) (λ v. refl) (λ v. refl) (λ v. refl) counter_pn_shape ((pn_spells pn_has).form kinds.CounterPn refl)
   form_at kinds.CounterFat = shape_form effect.CounterFat can_put_fat is_fat_spelled fat_spelling fat_at (fits_at kinds.CounterFat) (spelled_at kinds.CounterFat) (layer_spelling spelling) (λ v. refl) (λ v. refl) (λ v. refl) counter_fat_shape ((fat_spells fat_has).form kinds.CounterFat refl)
   form_at kinds.SetGo = shape_form effect.SetGo can_put_texts are_texts_spelled texts_spelling texts_at (fits_at kinds.SetGo) (spelled_at kinds.SetGo) (layer_spelling spelling) (λ v. refl) (λ v. refl) (λ v. refl) set_go_shape ((set_go_spells set.go_has).form kinds.SetGo refl)
@@ -166,8 +183,37 @@ module _ {E : Type 0} {has : Kind → Bool} {is_of : Kind → E → Bool} {can_p
   form_at kinds.MapGo = shape_form effect.MapGo (go_can_put has is_of can_put) (go_is_spelled has is_of is_spelled) (go_spelling spelling) (go_at has reading) (fits_at kinds.MapGo) (spelled_at kinds.MapGo) (layer_spelling spelling) (λ v. refl) (λ v. refl) (λ v. refl) map_go_shape ((go_spells forms go_has).form kinds.MapGo refl)
   form_at kinds.MapRr = shape_form effect.MapRr (rr_can_put has is_of can_put spelling) (rr_is_spelled has is_of is_spelled spelling) (rr_spelling spelling) (rr_at has reading) (fits_at kinds.MapRr) (spelled_at kinds.MapRr) (layer_spelling spelling) (λ v. refl) (λ v. refl) (λ v. refl) map_rr_shape ((rr_spells forms rr_has).form kinds.MapRr refl)
 
-  pub layer_spells : SpellsEffects layer_has layer_is_of (layer_can_put has is_of can_put spelling) (layer_is_spelled has is_of is_spelled spelling) (layer_spelling spelling) (layer_reading has reading)
-  layer_spells = record { form = λ k is. form_at k }
+  pub layer_all : SpellsAll (layer_can_put has is_of can_put spelling) (layer_is_spelled has is_of is_spelled spelling) (layer_texts forms.texts) (layer_spelling spelling)
+  layer_all = record { spells = by; stand = stand }
+    where
+      by : (e : LayerEffect E) → layer_can_put has is_of can_put spelling e ≡ true → list_all is_text (layer_texts forms.texts e) ≡ true → (layer_is_spelled has is_of is_spelled spelling e ≡ true) ⊎ IsTooLong (layer_spelling spelling e)
+      by (effect.CounterPn e) h all = (alike_spells is_amount_number amount_spelling).spells e h all
+      by (effect.CounterFat e) h all = fat_all.spells e h all
+      by (effect.SetGo e) h all = texts_all.spells e h all
+      by (effect.SetAw e) h all = set_all.spells e h all
+      by (effect.SetRw e) h all = set_all.spells e h all
+      by (effect.FlagEw e) h all = flag_all.spells e h all
+      by (effect.FlagDw e) h all = flag_all.spells e h all
+      by (effect.RegisterLww e) h all = lww_all.spells e h all
+      by (effect.RegisterMv e) h all = mv_all.spells e h all
+      by (effect.MapGo e) h all = (go_all forms).spells e h all
+      by (effect.MapRr e) h all = (rr_all forms).spells e h all
+
+      stand : (e : LayerEffect E) → StandInTurn (layer_texts forms.texts e) (layer_spelling spelling e)
+      stand (effect.CounterPn e) = (alike_spells is_amount_number amount_spelling).stand e
+      stand (effect.CounterFat e) = fat_all.stand e
+      stand (effect.SetGo e) = texts_all.stand e
+      stand (effect.SetAw e) = set_all.stand e
+      stand (effect.SetRw e) = set_all.stand e
+      stand (effect.FlagEw e) = flag_all.stand e
+      stand (effect.FlagDw e) = flag_all.stand e
+      stand (effect.RegisterLww e) = lww_all.stand e
+      stand (effect.RegisterMv e) = mv_all.stand e
+      stand (effect.MapGo e) = (go_all forms).stand e
+      stand (effect.MapRr e) = (rr_all forms).stand e
+
+  abbrev pub layer_spells : SpellsEffects layer_has layer_is_of (layer_can_put has is_of can_put spelling) (layer_is_spelled has is_of is_spelled spelling) (layer_spelling spelling) (layer_reading has reading)
+  layer_spells = record { form = λ k is. form_at k; texts = layer_texts forms.texts; all = layer_all }
 
 module _ {E : Type 0} (has : Kind → Bool) (is_of : Kind → E → Bool) {can_put : E → Bool} {names : E → Dot → Bool} {spelling : E → List ℕ} (inner : NamesStand can_put names spelling) where
   layer_stand : (e : LayerEffect E) (d : Dot) → layer_can_put has is_of can_put spelling e ≡ true → layer_names has names e d ≡ true → StandsIn d (layer_spelling spelling e)

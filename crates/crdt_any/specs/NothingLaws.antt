@@ -3,6 +3,7 @@ use Rattle.std.proofs.Common.{true, false, [], None, refl}
 use Rattle.std.specs.Prelude.{Err}
 use Rattle.std.proofs.lemmas.Bool.{false≢true}
 use Rattle.field_codec.specs.declared.error.TakeError.TheVariants.{Bad}
+use Rattle.field_codec.specs.SpellsAllLaws.{alike_spells}
 use Rattle.crdt_core.specs.declared.value.Value.TheVariants.{Flag}
 use Rattle.crdt_core.specs.Law.{KeepsLaw}
 use Rattle.crdt_core.specs.InMaps.{KeepsInMaps}
@@ -28,8 +29,8 @@ nothing_in_maps = record {
   flat = λ k p has out. refl;
 }
 
-pub nothing_spells : SpellsEffects {E = Unit {0}} (λ k. false) (λ k e. true) (λ e. true) (λ e. true) (λ e. []) (λ k bytes at. Err (Bad at))
-nothing_spells = record { form = λ k has. absurd (false≢true has) }
+abbrev pub nothing_spells : SpellsEffects {E = Unit {0}} (λ k. false) (λ k e. true) (λ e. true) (λ e. true) (λ e. []) (λ k bytes at. Err (Bad at))
+nothing_spells = record { form = λ k has. absurd (false≢true has); texts = λ _. []; all = alike_spells (λ e. true) (λ e. []) }
 
 pub nothing_stands : NamesStand {E = Unit {0}} (λ e. true) (λ e d. false) (λ e. [])
 nothing_stands = none_stand (λ e. true) (λ e. [])

@@ -1,7 +1,7 @@
 -- How the effects of a kind are spelled as bytes.
 use Rattle.std.specs.Prelude.{◌≡◌, ℕ, Bool, true, false, ◌&&◌, ◌==◌, List, [], ◌∷◌}
 use Rattle.field_codec.specs.Reading.{Read}
-use Rattle.field_codec.specs.Lawful.{IsForm}
+use Rattle.field_codec.specs.Lawful.{IsForm, SpellsAll}
 use Rattle.site_vector.specs.declared.ids.Dot.{Dot}
 use Rattle.crdt_core.specs.declared.kind.Kind.{Kind}
 use Rattle.crdt_core.specs.declared.kind.Kind.TheVariants.{CounterFat, MapRr}
@@ -10,9 +10,12 @@ use Rattle.crdt_core.specs.declared.operation.Act.{Act}
 use Rattle.crdt_core.specs.Seen.{is_reset}
 use Rattle.crdt_core.specs.Spelled.{is_dot}
 
--- the effects of each kind that the type has are a form; is_of: the effect is one of the kind
+-- The effects of each kind that the type has are a form, and each that can be put has a spelling, but where that would be too
+-- long; is_of: the effect is one of the kind; texts: those that stand in an effect's bytes.
 pub record SpellsEffects {E : Type 0} (has : Kind → Bool) (is_of : Kind → E → Bool) (can_put is_spelled : E → Bool) (spelling : E → List ℕ) (reading : Kind → List ℕ → ℕ → Read E) : Type 0 where
   pub form : (k : Kind) → has k ≡ true → IsForm (λ e. is_of k e && can_put e) (λ e. is_of k e && is_spelled e) spelling (reading k)
+  pub texts : E → List (List ℕ)
+  pub all : SpellsAll can_put is_spelled texts spelling
 
 -- each update that a state holds has a spelling
 abbrev pub HoldsSpelled : {S : Type 0} → (S → Dot → Bool) → S → Type 0

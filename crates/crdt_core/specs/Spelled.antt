@@ -1,7 +1,7 @@
 -- How transactions, updates, vectors and objects are spelled, and what reading them answers.
 use Rattle.std.specs.Prelude.{ℕ, ◌^◌, Bool, true, ◌&&◌, ◌==◌, nat_le, List, ◌++◌, length, None, if◌then◌else◌}
 use Rattle.std.specs.List.{flat_map, list_all}
-use Rattle.field_codec.specs.Spelling.{number, is_number, text, is_text, list, is_list, is_below}
+use Rattle.field_codec.specs.Spelling.{number, is_number, text, is_text, list, is_list, is_below, are_members}
 use Rattle.field_codec.specs.Reading.{Read, number_at, text_at, list_at, members_at, checked_at, then_at, mapped_at}
 use Rattle.site_vector.specs.declared.ids.TxId.{TxId}
 use Rattle.site_vector.specs.declared.ids.Dot.{Dot}
@@ -48,7 +48,7 @@ dot_at = mapped_at dot_of (then_at tx_at (λ _. between_at 2 1 256))
 -- ---- ascending lists of updates
 
 abbrev pub are_dots : List Dot → Bool
-are_dots ds = list_all is_dot ds
+are_dots ds = are_members (is_below dot_cmp) is_dot ds
 
 abbrev pub is_dots : List Dot → Bool
 is_dots ds = is_list (is_below dot_cmp) is_dot ds

@@ -1,9 +1,11 @@
-ghost use Rattle.std.specs.Prelude.{◌≡◌, ◌≤◌, ◌++◌, true, length, OnOk, OnErr, IfOk};
+ghost use Rattle.std.specs.Prelude.{◌≡◌, ◌≤◌, ◌++◌, [], true, length, OnOk, OnErr, IfOk};
+ghost use Rattle.std.specs.List.{list_all};
 ghost use Rattle.field_codec.specs.Spelling.{is_below};
 ghost use Rattle.field_codec.specs.Reading.{Gives};
+ghost use Rattle.field_codec.specs.SpellsAllLaws.{alike_spells};
 ghost use Rattle.site_vector.specs.Order.{dot_cmp};
 ghost use Rattle.crdt_core.specs.DotSet.{IsAscending};
-ghost use Rattle.crdt_core.specs.Spelled.{is_dot, dot, dot_at, are_dots, is_dots, dots, dots_at};
+ghost use Rattle.crdt_core.specs.Spelled.{is_dot, dot, dot_at, is_dots, dots, dots_at};
 ghost use Rattle.crdt_core.specs.SpelledLaws.{dot_form};
 
 use crate::{Dots, put_dot, take_dot};
@@ -24,6 +26,8 @@ impl Form for DotForm {
 
     ghost spelling = { λ _ d. dot d };
 
+    ghost texts = { λ _ d. [] };
+
     ghost reading = { λ _ bytes at. dot_at bytes at };
 
     ghost follows = { λ _ before d. is_below dot_cmp before d };
@@ -42,6 +46,8 @@ impl Form for DotForm {
     }
 
     ghost laws = { λ _. dot_form };
+
+    ghost spells_all = { λ _. alike_spells is_dot dot };
 }
 
 /// Appends the updates as an ascending list.
@@ -50,7 +56,7 @@ impl Form for DotForm {
 ///
 /// `AllocError` where memory runs out, or where there are 2^32 updates or more. `out` is as before then.
 pub fn put_dots(out: &mut Vec<u8>, d: &Dots) -> Result<(), AllocError>
-    requires { are_dots d.now ≡ true }
+    requires { list_all is_dot d.now ≡ true }
     ensures spelled { OnOk result (is_dots d.now ≡ true) }
     ensures ok { OnOk result (out.new.items ≡ out.old.items ++ dots d.now) }
     ensures err { OnErr result (out.new.items ≡ out.old.items) }
@@ -60,7 +66,7 @@ pub fn put_dots(out: &mut Vec<u8>, d: &Dots) -> Result<(), AllocError>
 
 #[tactic(auto, using(crate::proofs::FormSteps::dots_fit))]
 fn put_ascending(out: &mut Vec<u8>, d: &[Dot]) -> Result<(), AllocError>
-    requires spelled { are_dots d.now ≡ true }
+    requires spelled { list_all is_dot d.now ≡ true }
     requires ascending { IsAscending d.now }
     ensures spelled { OnOk result (is_dots d.now ≡ true) }
     ensures ok { OnOk result (out.new.items ≡ out.old.items ++ dots d.now) }

@@ -1,18 +1,18 @@
-ghost use Rattle.std.specs.Prelude.{◌≡◌, ◌&&◌, Bool, true};
-ghost use Rattle.field_codec.specs.Spelling.{are_members, is_below};
-ghost use Rattle.field_codec.specs.Lawful.{IsForm, IsPrefixFree};
-ghost use Rattle.site_vector.specs.Order.{dot_cmp};
+ghost use Rattle.std.specs.Prelude.{◌≡◌, ◌&&◌, [], Bool, true};
+ghost use Rattle.field_codec.specs.Lawful.{IsForm, SpellsAll, IsPrefixFree};
 ghost use Rattle.crdt_core.specs.declared.kind.Kind.{Kind};
-ghost use Rattle.crdt_core.specs.Spelled.{is_tx, tx, tx_at, is_dot, dot, dot_at, is_dots, dots, dots_at, is_vector, vector, vector_at, kind, kind_at, is_object, object, object_at};
+ghost use Rattle.crdt_core.specs.Spelled.{is_tx, tx, tx_at, is_dot, dot, dot_at, are_dots, is_dots, dots, dots_at, is_vector, vector, vector_at, kind, kind_at, is_object, object, object_at};
 
 use crate::Crdt;
 
 /// Reading answers each of these and the place after it exactly where its spelling stands at the place,
-/// each refusal means what it says, and no spelling begins that of another.
+/// each refusal means what it says, and no spelling begins that of another. A set of updates has a spelling, but where that
+/// would be too long to be counted; of the others, what can be put is what has one.
 pub fn law_forms()
     ensures transactions { IsForm is_tx is_tx tx tx_at }
     ensures updates { IsForm is_dot is_dot dot dot_at }
-    ensures sets { IsForm (are_members (is_below dot_cmp) is_dot) is_dots dots dots_at }
+    ensures sets { IsForm are_dots is_dots dots dots_at }
+    ensures all_sets { SpellsAll are_dots is_dots (λ _. []) dots }
     ensures vectors { IsForm is_vector is_vector vector vector_at }
     ensures kinds { IsForm (λ _. true) (λ _. true) kind kind_at }
     ensures objects { (has : Kind → Bool) → IsForm (is_object has) (is_object has) object (object_at has) }
@@ -26,8 +26,9 @@ pub fn law_forms()
 
 /// The same of the effects of each kind that a type has: reading answers an effect of the kind and the place after it
 /// exactly where its spelling stands at the place, each refusal means what it says, and no spelling begins that of another of
-/// the kind.
+/// the kind. Each that can be put has a spelling, but where that would be too long to be counted.
 pub fn law_effects<C: Crdt>()
     ensures form { (k : Kind) → C.has k ≡ true → IsForm (λ e. C.is_of k e && C.can_put e) (λ e. C.is_of k e && C.is_spelled e) C.spelling (C.reading k) }
+    ensures all { SpellsAll C.can_put C.is_spelled C.spells.texts C.spelling }
     ensures apart { (k : Kind) → C.has k ≡ true → IsPrefixFree (λ e. C.is_of k e && C.is_spelled e) C.spelling }
 {}

@@ -1,5 +1,6 @@
-ghost use Rattle.std.specs.Prelude.{◌≡◌, ◌≤◌, ◌++◌, true, length, OnOk, OnErr, IfOk};
+ghost use Rattle.std.specs.Prelude.{◌≡◌, ◌≤◌, ◌++◌, [], true, length, OnOk, OnErr, IfOk};
 ghost use Rattle.field_codec.specs.Reading.{Gives};
+ghost use Rattle.field_codec.specs.SpellsAllLaws.{alike_spells};
 ghost use Rattle.crdt_counters.specs.EffectForm.{is_amount_number, amount_spelling, amount_at, amount_form};
 
 use field_codec::{Form, TakeError, put_u64, take_u64};
@@ -18,6 +19,8 @@ impl Form for AmountForm {
 
     ghost spelling = { λ _ n. amount_spelling n };
 
+    ghost texts = { λ _ n. [] };
+
     ghost reading = { λ _ bytes at. amount_at bytes at };
 
     ghost follows = { λ _ before n. true };
@@ -35,6 +38,8 @@ impl Form for AmountForm {
     }
 
     ghost laws = { λ _. amount_form };
+
+    ghost spells_all = { λ _. alike_spells is_amount_number amount_spelling };
 }
 
 /// The least amount.

@@ -1,13 +1,14 @@
 -- The bytes of a flag's effect: what it does, and the dots that it takes out.
-use Rattle.std.specs.Prelude.{◌≡◌, ℕ, zero, suc, ◌≤◌, ◌==◌, Bool, true, List, ◌++◌, if◌then◌else◌, refl}
+use Rattle.std.specs.Prelude.{◌≡◌, ℕ, zero, suc, ◌≤◌, ◌==◌, Bool, true, List, [], ◌++◌, if◌then◌else◌, refl}
 use Rattle.std.proofs.Common.{arith}
 use Rattle.field_codec.specs.Spelling.{number}
 use Rattle.field_codec.specs.Reading.{Read}
-use Rattle.field_codec.specs.Lawful.{IsForm}
+use Rattle.field_codec.specs.Lawful.{IsForm, SpellsAll}
+use Rattle.field_codec.specs.SpellsAllLaws.{behind_spells, mapped_spells}
 use Rattle.site_vector.specs.declared.ids.Dot.{Dot}
 use Rattle.crdt_core.specs.declared.kind.Kind.{Kind}
 use Rattle.crdt_core.specs.Spelled.{are_dots, is_dots, dots, dots_at}
-use Rattle.crdt_core.specs.SpelledLaws.{marked_at, marked_form, dots_held_form}
+use Rattle.crdt_core.specs.SpelledLaws.{marked_at, marked_form, dots_form, dots_spell}
 use Rattle.crdt_core.specs.EffectForm.{SpellsEffects}
 use Rattle.crdt_core.specs.Stands.{NamesStand}
 use Rattle.crdt_core.specs.StandsLaws.{stands_behind, dots_stand}
@@ -53,14 +54,17 @@ few (Reset ds) = omega arith
 
 pub flag_form : IsForm can_put_flag is_flag_spelled flag_spelling flag_at
 unfolding flag_at
-flag_form = marked_form 2 (omega arith) marked_flag flag_mark flag_out are_dots is_dots dots dots_at back forth few dots_held_form
+flag_form = marked_form 2 (omega arith) marked_flag flag_mark flag_out are_dots is_dots dots dots_at back forth few dots_form
+
+pub flag_all : SpellsAll can_put_flag is_flag_spelled (λ _. []) flag_spelling
+flag_all = behind_spells (λ e. number 1 (flag_mark e)) (mapped_spells flag_out dots_spell)
 
 -- every effect is one of the kind
 abbrev pub is_of_kind : Kind → FlagEffect → Bool
 is_of_kind k e = true
 
-pub flag_spells : (has : Kind → Bool) → SpellsEffects has is_of_kind can_put_flag is_flag_spelled flag_spelling (λ k. flag_at)
-flag_spells has = record { form = λ k h. flag_form }
+abbrev pub flag_spells : (has : Kind → Bool) → SpellsEffects has is_of_kind can_put_flag is_flag_spelled flag_spelling (λ k. flag_at)
+flag_spells has = record { form = λ k h. flag_form; texts = λ _. []; all = flag_all }
 
 pub flag_stands : NamesStand can_put_flag flag_names flag_spelling
 flag_stands = record { stands = λ e d can h. stands_behind (number 1 (flag_mark e)) (dots_stand (flag_out e) d h) }

@@ -1,18 +1,19 @@
 -- The bytes of maps' effects: a field with an effect of its kind, or what a reset undoes of each field.
-use Rattle.std.specs.Prelude.{◌≡◌, ℕ, zero, suc, ◌+◌, ◌^◌, ◌<◌, ◌≤◌, ◌==◌, Bool, true, false, ◌&&◌, ◌||◌, eqb, nat_le, nat_lt, cond, List, [], ◌∷◌, ◌++◌, ◌≢◌, length, take, drop, None, Ok, Err, if◌then◌else◌, refl}
+use Rattle.std.specs.Prelude.{◌≡◌, ℕ, zero, suc, ◌+◌, ◌^◌, ◌<◌, ◌≤◌, ◌==◌, Bool, true, false, ◌&&◌, ◌||◌, ◌⊎◌, eqb, nat_le, nat_lt, cond, List, [], ◌∷◌, ◌++◌, ◌≢◌, length, take, drop, None, Ok, Err, if◌then◌else◌, refl}
 use Rattle.std.proofs.Common.{arith, ap, sym, subst, ◌∙◌, ⊎_elim, append_assoc, length-append}
 use Rattle.std.proofs.lemmas.List.{drop_at}
 use Rattle.std.proofs.lemmas.Bool.{true≢false, false≢true, eqb-true, eq-eqb, or_cases}
 use Rattle.std.proofs.lemmas.Bool.Decides.{nat_tests}
-use Rattle.std.specs.List.{list_all}
+use Rattle.std.specs.List.{flat_map, list_all}
 use Rattle.field_codec.specs.declared.error.TakeError.TheVariants.{Short, Bad, NoMemory}
 use Rattle.field_codec.specs.declared.error.TakeError.{TakeError}
 use Rattle.field_codec.specs.Spelling.{number, is_number, text, is_text, list, are_in_order, are_members, is_list, is_below, Spans}
 use Rattle.field_codec.specs.Reading.{Read, ◌>>=◌, number_at, text_at, list_at, checked_at, then_at, mapped_at}
-use Rattle.field_codec.specs.Lawful.{IsBytes, TellsWhy, IsForm}
+use Rattle.field_codec.specs.Lawful.{IsBytes, IsTooLong, StandInTurn, TellsWhy, IsForm, SpellsAll}
 use Rattle.field_codec.specs.Steps.{by_length, bind_err, not_both, lt_from, IsBytes-append}
-use Rattle.field_codec.specs.Refusals.{steady_form, enough_from, tested_short, ends_at}
+use Rattle.field_codec.specs.Refusals.{some_spelled, steady_form, enough_from, tested_short, ends_at}
 use Rattle.field_codec.specs.FormLaws.{any_text_form, number_form, number_short, length-number, width1, list_form, checked_form, then_form, mapped_form, lt_holds, le_from, both_true, and_true, ok_is, bind_ok, guard_ok, spans_first}
+use Rattle.field_codec.specs.SpellsAllLaws.{alike_spells, any_text_spells, checked_spells, behind_spells, then_spells, mapped_spells, list_spells}
 use Rattle.field_codec.specs.Tagged.{tagged_at, tagged_form, shape_form}
 use Rattle.site_vector.specs.declared.ids.Dot.{Dot}
 use Rattle.crdt_core.specs.declared.kind.Kind.{Kind}
@@ -60,6 +61,9 @@ unfolding field_at
 field_form allowed =
     let whole = then_form (λ t. true) is_text text text_at (λ _. allowed) (λ _. allowed) (λ _. kind) (λ _. checked_at allowed kind_at) any_text_form (λ _ _. coded_form allowed) in
     mapped_form field_of (λ f. (f.name, f.kind)) _ _ _ _ (λ _. refl) (λ _ _. refl) whole
+
+pub field_all : (allowed : Kind → Bool) → SpellsAll (λ f. allowed f.kind) (is_field allowed) (λ f. f.name ∷ []) field
+field_all allowed = mapped_spells (λ f. (f.name, f.kind)) (then_spells any_text_spells (λ _. alike_spells allowed kind))
 
 -- ---- a value whose spelling begins with a tag
 
@@ -245,6 +249,9 @@ tag_small _ = refl
 abbrev pub can_put_entry : {E : Type 0} → (Kind → Bool) → (Kind → E → Bool) → (E → Bool) → Field × E → Bool
 can_put_entry allowed is_of can_put x = allowed x.0.kind && (is_of x.0.kind x.1 && can_put x.1)
 
+abbrev pub entry_texts : {E : Type 0} → (E → List (List ℕ)) → Field × E → List (List ℕ)
+entry_texts texts x = x.0.name ∷ texts x.1
+
 abbrev pub is_entry_spelled : {E : Type 0} → (Kind → Bool) → (Kind → E → Bool) → (E → Bool) → Field × E → Bool
 is_entry_spelled allowed is_of is_spelled x = is_field allowed x.0 && (is_of x.0.kind x.1 && is_spelled x.1)
 
@@ -285,6 +292,10 @@ go_rest spelling (Resets xs) = []
 abbrev pub go_spelling : {E : Type 0} → (E → List ℕ) → MapEffect E → List ℕ
 go_spelling spelling e = number 1 0 ++ go_rest spelling e
 
+abbrev pub go_texts : {E : Type 0} → (E → List (List ℕ)) → MapEffect E → List (List ℕ)
+go_texts texts (At f e) = entry_texts texts (f, e)
+go_texts texts (Resets xs) = []
+
 abbrev pub at_of : {E : Type 0} → Field × E → MapEffect E
 at_of x = At x.0 x.1
 
@@ -314,6 +325,10 @@ rr_rest spelling (Resets xs) = list (entry spelling) xs
 
 abbrev pub rr_spelling : {E : Type 0} → (E → List ℕ) → MapEffect E → List ℕ
 rr_spelling spelling e = number 1 (rr_mark e) ++ rr_rest spelling e
+
+abbrev pub rr_texts : {E : Type 0} → (E → List (List ℕ)) → MapEffect E → List (List ℕ)
+rr_texts texts (At f e) = entry_texts texts (f, e)
+rr_texts texts (Resets xs) = flat_map (entry_texts texts) xs
 
 unfoldable pub rr_rest_at : {E : Type 0} → (Kind → Bool) → (Kind → List ℕ → ℕ → Read E) → ℕ → List ℕ → ℕ → Read (MapEffect E)
 rr_rest_at has reading mark =
@@ -381,11 +396,48 @@ module _ {E : Type 0} {has : Kind → Bool} {is_of : Kind → E → Bool} {can_p
   unfolding rr_at
   rr_form = tagged_form (is_between 0 1) rr_mark _ _ (rr_rest spelling) (rr_rest_at has reading) rr_known (small_tag 1 (omega arith)) rr_rest_form
 
-  pub go_spells : (of_map : Kind → Bool) → SpellsEffects of_map is_of_map (go_can_put has is_of can_put) (go_is_spelled has is_of is_spelled) (go_spelling spelling) (λ k. go_at has reading)
-  go_spells of_map = record { form = λ k h. go_form }
+  entry_all : (outer : Kind) → SpellsAll (can_put_entry (may_stand outer has) is_of can_put) (is_entry_spelled (may_stand outer has) is_of is_spelled) (entry_texts spells.texts) (entry spelling)
+  entry_all outer = then_spells (field_all (may_stand outer has)) (λ f. checked_spells (is_of f.kind) spells.all)
 
-  pub rr_spells : (of_map : Kind → Bool) → SpellsEffects of_map is_of_map (rr_can_put has is_of can_put spelling) (rr_is_spelled has is_of is_spelled spelling) (rr_spelling spelling) (λ k. rr_at has reading)
-  rr_spells of_map = record { form = λ k h. rr_form }
+  pub reset_all : (outer : Kind) → SpellsAll (can_put_reset (may_stand outer has) is_of can_put spelling) (is_reset_spelled (may_stand outer has) is_of is_spelled spelling) (entry_texts spells.texts) (entry spelling)
+  reset_all outer = then_spells (field_all (may_stand outer has)) (λ f. checked_spells (λ e. begins_with (reset_tag f.kind) (spelling e)) (checked_spells (is_of f.kind) spells.all))
+
+  go_rest_all : SpellsAll (go_can_put has is_of can_put) (go_is_spelled has is_of is_spelled) (go_texts spells.texts) (go_rest spelling)
+  go_rest_all = record { spells = by; stand = stand }
+    where
+      by : (e : MapEffect E) → go_can_put has is_of can_put e ≡ true → list_all is_text (go_texts spells.texts e) ≡ true → (go_is_spelled has is_of is_spelled e ≡ true) ⊎ IsTooLong (go_rest spelling e)
+      by (At f e) h all = (entry_all kinds.MapGo).spells (f, e) h all
+      by (Resets xs) h all = absurd (false≢true h)
+
+      stand : (e : MapEffect E) → StandInTurn (go_texts spells.texts e) (go_rest spelling e)
+      stand (At f e) = (entry_all kinds.MapGo).stand (f, e)
+      stand (Resets xs) = tt
+
+  pub go_all : SpellsAll (go_can_put has is_of can_put) (go_is_spelled has is_of is_spelled) (go_texts spells.texts) (go_spelling spelling)
+  go_all = behind_spells (λ _. number 1 0) go_rest_all
+
+  resets_all : SpellsAll (are_members entry_below (can_put_reset (may_stand kinds.MapRr has) is_of can_put spelling)) (is_list entry_below (is_reset_spelled (may_stand kinds.MapRr has) is_of is_spelled spelling)) (flat_map (entry_texts spells.texts)) (list (entry spelling))
+  resets_all = list_spells entry_below (λ x good. some_spelled (reset_form kinds.MapRr) x (entry spelling x) good refl) (reset_all kinds.MapRr)
+
+  rr_rest_all : SpellsAll (rr_can_put has is_of can_put spelling) (rr_is_spelled has is_of is_spelled spelling) (rr_texts spells.texts) (rr_rest spelling)
+  rr_rest_all = record { spells = by; stand = stand }
+    where
+      by : (e : MapEffect E) → rr_can_put has is_of can_put spelling e ≡ true → list_all is_text (rr_texts spells.texts e) ≡ true → (rr_is_spelled has is_of is_spelled spelling e ≡ true) ⊎ IsTooLong (rr_rest spelling e)
+      by (At f e) h all = (entry_all kinds.MapRr).spells (f, e) h all
+      by (Resets xs) h all = resets_all.spells xs h all
+
+      stand : (e : MapEffect E) → StandInTurn (rr_texts spells.texts e) (rr_rest spelling e)
+      stand (At f e) = (entry_all kinds.MapRr).stand (f, e)
+      stand (Resets xs) = resets_all.stand xs
+
+  pub rr_all : SpellsAll (rr_can_put has is_of can_put spelling) (rr_is_spelled has is_of is_spelled spelling) (rr_texts spells.texts) (rr_spelling spelling)
+  rr_all = behind_spells (λ e. number 1 (rr_mark e)) rr_rest_all
+
+  abbrev pub go_spells : (of_map : Kind → Bool) → SpellsEffects of_map is_of_map (go_can_put has is_of can_put) (go_is_spelled has is_of is_spelled) (go_spelling spelling) (λ k. go_at has reading)
+  go_spells of_map = record { form = λ k h. go_form; texts = go_texts spells.texts; all = go_all }
+
+  abbrev pub rr_spells : (of_map : Kind → Bool) → SpellsEffects of_map is_of_map (rr_can_put has is_of can_put spelling) (rr_is_spelled has is_of is_spelled spelling) (rr_spelling spelling) (λ k. rr_at has reading)
+  rr_spells of_map = record { form = λ k h. rr_form; texts = rr_texts spells.texts; all = rr_all }
 
 -- ---- what an effect names stands in its bytes
 

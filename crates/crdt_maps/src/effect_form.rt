@@ -2,7 +2,7 @@ ghost use Rattle.std.specs.Prelude.{◌≡◌, ◌≤◌, ◌++◌, true, length
 ghost use Rattle.field_codec.specs.Spelling.{number, list, are_members, is_list, Keeps};
 ghost use Rattle.field_codec.specs.Reading.{Gives, list_at};
 ghost use Rattle.crdt_core.specs.declared.kind.Kind.TheVariants.{MapRr};
-ghost use Rattle.crdt_maps.specs.EffectForm.{may_stand, entry, entry_below, can_put_reset, is_reset_spelled, reset_at, go_can_put, go_is_spelled, go_spelling, go_at, go_form, rr_can_put, rr_is_spelled, rr_spelling, rr_at, rr_form};
+ghost use Rattle.crdt_maps.specs.EffectForm.{may_stand, entry, entry_below, can_put_reset, is_reset_spelled, reset_at, go_can_put, go_is_spelled, go_spelling, go_at, go_form, go_texts, go_all, rr_can_put, rr_is_spelled, rr_spelling, rr_at, rr_form, rr_texts, rr_all};
 
 use crate::MapEffect;
 use crate::entry_form::{ResetForm, put_entry, take_entry};
@@ -32,6 +32,8 @@ impl<I: Crdt> Form for GoForm<I> {
 
     ghost spelling = { λ _ e. go_spelling I.spelling e };
 
+    ghost texts = { λ _ e. go_texts I.spells.texts e };
+
     ghost reading = { λ _ bytes at. go_at I.has I.reading bytes at };
 
     ghost follows = { λ _ before e. true };
@@ -60,6 +62,8 @@ impl<I: Crdt> Form for GoForm<I> {
     }
 
     ghost laws = { λ _. go_form I.spells };
+
+    ghost spells_all = { λ _. go_all I.spells };
 }
 
 #[tactic(auto, unfolding(crate::specs::EffectForm::go_at, crate::specs::EffectForm::go_rest_at))]
@@ -93,6 +97,8 @@ impl<I: Crdt> Form for RrForm<I> {
 
     ghost spelling = { λ _ e. rr_spelling I.spelling e };
 
+    ghost texts = { λ _ e. rr_texts I.spells.texts e };
+
     ghost reading = { λ _ bytes at. rr_at I.has I.reading bytes at };
 
     ghost follows = { λ _ before e. true };
@@ -121,6 +127,8 @@ impl<I: Crdt> Form for RrForm<I> {
     }
 
     ghost laws = { λ _. rr_form I.spells };
+
+    ghost spells_all = { λ _. rr_all I.spells };
 }
 
 fn put_resets<I: Crdt>(out: &mut Vec<u8>, resets: &[(Field, I::Effect)]) -> Result<(), AllocError>

@@ -3,7 +3,7 @@ ghost use Rattle.field_codec.specs.Spelling.{Keeps, is_text};
 ghost use Rattle.field_codec.specs.Reading.{Gives};
 ghost use Rattle.crdt_core.specs.declared.kind.Kind.TheVariants.{MapRr};
 ghost use Rattle.crdt_core.specs.EffectForm.{reset_tag};
-ghost use Rattle.crdt_maps.specs.EffectForm.{may_stand, field_at, opened_at, entry, entry_at, can_put_reset, is_reset_spelled, reset_at, entry_below, reset_form};
+ghost use Rattle.crdt_maps.specs.EffectForm.{may_stand, field_at, opened_at, entry, entry_at, can_put_reset, is_reset_spelled, reset_at, entry_below, reset_form, entry_texts, reset_all};
 
 use crdt_core::{Crdt, Field, Kind, put_kind, stands_in, take_kind};
 use field_codec::{Form, TakeError, put_text, take_text, take_u8};
@@ -148,6 +148,8 @@ impl<I: Crdt> Form for ResetForm<I> {
 
     ghost spelling = { λ _ x. entry I.spelling x };
 
+    ghost texts = { λ _ x. entry_texts I.spells.texts x };
+
     ghost reading = { λ _ bytes at. reset_at (may_stand MapRr I.has) I.reading bytes at };
 
     ghost follows = { λ _ before x. entry_below before x };
@@ -170,4 +172,6 @@ impl<I: Crdt> Form for ResetForm<I> {
     }
 
     ghost laws = { λ _. reset_form I.spells MapRr };
+
+    ghost spells_all = { λ _. reset_all I.spells MapRr };
 }

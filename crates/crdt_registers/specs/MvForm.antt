@@ -1,17 +1,19 @@
 -- The bytes of an effect of the register that keeps the texts of concurrent assigns: what it does, the text that it puts, and
 -- the dots that it takes out.
-use Rattle.std.specs.Prelude.{◌≡◌, ℕ, ◌==◌, eqb, Bool, true, ◌&&◌, ◌||◌, List, ◌++◌, if◌then◌else◌, refl}
+use Rattle.std.specs.Prelude.{◌≡◌, ℕ, ◌==◌, eqb, Bool, true, ◌&&◌, ◌||◌, ◌⊎◌, List, [], ◌∷◌, ◌++◌, if◌then◌else◌, refl}
+use Rattle.std.specs.List.{list_all}
 use Rattle.std.proofs.Common.{sym, subst, ⊎_elim}
 use Rattle.std.proofs.lemmas.Bool.{false≢true, eqb-true, or_cases}
 use Rattle.field_codec.specs.Spelling.{number, is_number, text, is_text}
 use Rattle.field_codec.specs.Reading.{Read, text_at, then_at, mapped_at}
-use Rattle.field_codec.specs.Lawful.{IsForm}
+use Rattle.field_codec.specs.Lawful.{IsTooLong, StandInTurn, IsForm, SpellsAll}
+use Rattle.field_codec.specs.SpellsAllLaws.{any_text_spells, behind_spells, then_spells}
 use Rattle.field_codec.specs.FormLaws.{any_text_form, then_form}
 use Rattle.field_codec.specs.Tagged.{tagged_at, tagged_form, shape_form}
 use Rattle.site_vector.specs.declared.ids.Dot.{Dot}
 use Rattle.crdt_core.specs.declared.kind.Kind.{Kind}
 use Rattle.crdt_core.specs.Spelled.{are_dots, is_dots, dots, dots_at}
-use Rattle.crdt_core.specs.SpelledLaws.{dots_held_form}
+use Rattle.crdt_core.specs.SpelledLaws.{dots_form, dots_spell}
 use Rattle.crdt_core.specs.EffectForm.{SpellsEffects}
 use Rattle.crdt_core.specs.Stands.{StandsIn, NamesStand}
 use Rattle.crdt_core.specs.StandsLaws.{stands_behind, dots_stand}
@@ -29,6 +31,10 @@ is_mv_mark n = n == 0 || n == 2
 
 abbrev pub can_put_mv : MvEffect → Bool
 can_put_mv e = are_dots (mv_out e)
+
+abbrev pub mv_texts : MvEffect → List (List ℕ)
+mv_texts (Assign x ds) = x ∷ []
+mv_texts (Reset ds) = []
 
 abbrev pub is_mv_spelled : MvEffect → Bool
 is_mv_spelled (Assign x ds) = is_text x && is_dots ds
@@ -63,11 +69,11 @@ HasForm n = IsForm (λ e. eqb (mv_mark e) n && can_put_mv e) (λ e. eqb (mv_mark
 
 assign_form : HasForm 0
 assign_form =
-    let whole = then_form (λ _. true) is_text text text_at (λ _. are_dots) (λ _. is_dots) (λ _. dots) (λ _. dots_at) any_text_form (λ _ _. dots_held_form) in
+    let whole = then_form (λ _. true) is_text text text_at (λ _. are_dots) (λ _. is_dots) (λ _. dots) (λ _. dots_at) any_text_form (λ _ _. dots_form) in
     shape_form assign_of (λ p. are_dots p.1) (λ p. is_text p.0 && is_dots p.1) (λ p. text p.0 ++ dots p.1) (then_at text_at (λ _. dots_at)) _ _ _ (λ p. refl) (λ p. refl) (λ p. refl) assign_shape whole
 
 reset_form : HasForm 2
-reset_form = shape_form Reset are_dots is_dots dots dots_at _ _ _ (λ ds. refl) (λ ds. refl) (λ ds. refl) reset_shape dots_held_form
+reset_form = shape_form Reset are_dots is_dots dots dots_at _ _ _ (λ ds. refl) (λ ds. refl) (λ ds. refl) reset_shape dots_form
 
 rest_form : (n : ℕ) → is_mv_mark n ≡ true → HasForm n
 rest_form n h = ⊎_elim (λ e. subst HasForm (sym (eqb-true n 0 e)) assign_form) (λ e. subst HasForm (sym (eqb-true n 2 e)) reset_form) (or_cases (n == 0) (n == 2) h)
@@ -83,8 +89,25 @@ pub mv_form : IsForm can_put_mv is_mv_spelled mv_spelling mv_at
 unfolding mv_at
 mv_form = tagged_form is_mv_mark mv_mark can_put_mv is_mv_spelled mv_rest mv_rest_at known small rest_form
 
-pub mv_spells : (has : Kind → Bool) → SpellsEffects has is_of_kind can_put_mv is_mv_spelled mv_spelling (λ k. mv_at)
-mv_spells has = record { form = λ k h. mv_form }
+rest_all : SpellsAll can_put_mv is_mv_spelled mv_texts mv_rest
+rest_all = record { spells = by; stand = stand }
+  where
+    assign : SpellsAll {V = List ℕ × List Dot} (λ p. are_dots p.1) (λ p. is_text p.0 && is_dots p.1) (λ p. p.0 ∷ []) (λ p. text p.0 ++ dots p.1)
+    assign = then_spells any_text_spells (λ _. dots_spell)
+
+    by : (e : MvEffect) → can_put_mv e ≡ true → list_all is_text (mv_texts e) ≡ true → (is_mv_spelled e ≡ true) ⊎ IsTooLong (mv_rest e)
+    by (Assign x ds) h all = assign.spells (x, ds) h all
+    by (Reset ds) h all = dots_spell.spells ds h all
+
+    stand : (e : MvEffect) → StandInTurn (mv_texts e) (mv_rest e)
+    stand (Assign x ds) = assign.stand (x, ds)
+    stand (Reset ds) = tt
+
+pub mv_all : SpellsAll can_put_mv is_mv_spelled mv_texts mv_spelling
+mv_all = behind_spells (λ e. number 1 (mv_mark e)) rest_all
+
+abbrev pub mv_spells : (has : Kind → Bool) → SpellsEffects has is_of_kind can_put_mv is_mv_spelled mv_spelling (λ k. mv_at)
+mv_spells has = record { form = λ k h. mv_form; texts = mv_texts; all = mv_all }
 
 mv_stand : (e : MvEffect) (d : Dot) → mv_names e d ≡ true → StandsIn d (mv_spelling e)
 mv_stand (Assign x ds) d h = stands_behind (number 1 0) (stands_behind (text x) (dots_stand ds d h))

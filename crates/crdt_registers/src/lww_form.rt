@@ -1,6 +1,6 @@
-ghost use Rattle.std.specs.Prelude.{◌≡◌, ◌≤◌, true, length, IfOk};
+ghost use Rattle.std.specs.Prelude.{◌≡◌, ◌≤◌, ◌∷◌, [], true, length, IfOk};
 ghost use Rattle.field_codec.specs.Reading.{Gives};
-ghost use Rattle.crdt_registers.specs.LwwForm.{can_put_lww, is_lww_spelled, lww_spelling, lww_at, lww_form};
+ghost use Rattle.crdt_registers.specs.LwwForm.{can_put_lww, is_lww_spelled, lww_spelling, lww_at, lww_form, lww_all};
 
 use crate::Assigned;
 use crate::register_lww::LAST_STAMP;
@@ -20,6 +20,8 @@ impl Form for LwwForm {
 
     ghost spelling = { λ _ e. lww_spelling e };
 
+    ghost texts = { λ _ e. e.text ∷ [] };
+
     ghost reading = { λ _ bytes at. lww_at bytes at };
 
     ghost follows = { λ _ before e. true };
@@ -38,6 +40,8 @@ impl Form for LwwForm {
     }
 
     ghost laws = { λ _. lww_form };
+
+    ghost spells_all = { λ _. lww_all };
 }
 
 #[tactic(auto, unfolding(crate::specs::LwwForm::lww_at))]

@@ -2,7 +2,7 @@ ghost use Rattle.std.specs.Prelude.{◌≡◌, ◌≤◌, ◌++◌, ◌&&◌, tr
 ghost use Rattle.field_codec.specs.Spelling.{number, text as text_spelling, is_text, Keeps};
 ghost use Rattle.field_codec.specs.Reading.{Gives};
 ghost use Rattle.crdt_core.specs.Spelled.{are_dots, is_dots, dots as dots_spelling};
-ghost use Rattle.crdt_registers.specs.MvForm.{can_put_mv, is_mv_spelled, mv_spelling, mv_rest_at, mv_at, mv_form};
+ghost use Rattle.crdt_registers.specs.MvForm.{can_put_mv, is_mv_spelled, mv_spelling, mv_rest_at, mv_at, mv_form, mv_texts, mv_all};
 
 use crate::MvEffect;
 use crdt_core::{Dots, put_dots, take_dots};
@@ -28,6 +28,8 @@ impl Form for MvForm {
 
     ghost spelling = { λ _ e. mv_spelling e };
 
+    ghost texts = { λ _ e. mv_texts e };
+
     ghost reading = { λ _ bytes at. mv_at bytes at };
 
     ghost follows = { λ _ before e. true };
@@ -48,6 +50,8 @@ impl Form for MvForm {
     }
 
     ghost laws = { λ _. mv_form };
+
+    ghost spells_all = { λ _. mv_all };
 }
 
 fn put_assign(out: &mut Vec<u8>, text: &Text, dots: &Dots) -> Result<(), AllocError>

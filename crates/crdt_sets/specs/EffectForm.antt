@@ -1,18 +1,22 @@
 -- The bytes of sets' effects: elements in ascending order, and where they can be removed, what is done and the dots of each.
-use Rattle.std.specs.Prelude.{◌≡◌, ℕ, zero, suc, ◌^◌, ◌==◌, Bool, true, false, ◌&&◌, eqb, nat_le, List, [], ◌∷◌, ◌++◌, if◌then◌else◌, refl}
-use Rattle.std.proofs.Common.{arith}
+use Rattle.std.specs.Prelude.{◌≡◌, ℕ, zero, suc, ◌^◌, ◌==◌, ◌⊎◌, Bool, true, false, ◌&&◌, eqb, nat_le, List, [], ◌∷◌, ◌++◌, if◌then◌else◌, refl}
+use Rattle.std.proofs.Common.{ap, arith}
+use Rattle.std.specs.Prelude.{map}
+use Rattle.std.specs.List.{flat_map, list_all}
 use Rattle.std.proofs.lemmas.Bool.{false≢true}
 use Rattle.std.specs.declared.cmp.Ordering.{Ordering}
 use Rattle.field_codec.specs.Spelling.{number, is_number, text, is_text, list, are_members, is_list, is_below}
 use Rattle.field_codec.specs.Reading.{Read, text_at, list_at, checked_at, then_at, mapped_at}
-use Rattle.field_codec.specs.Lawful.{IsForm}
+use Rattle.field_codec.specs.Lawful.{IsTooLong, StandInTurn, IsForm, SpellsAll}
+use Rattle.field_codec.specs.Refusals.{some_spelled}
+use Rattle.field_codec.specs.SpellsAllLaws.{any_text_spells, checked_spells, behind_spells, then_spells, mapped_spells, told_spells, list_spells}
 use Rattle.field_codec.specs.FormLaws.{any_text_form, list_form, checked_form, then_form, mapped_form, lt_holds, le_from, both_true}
 use Rattle.field_codec.specs.Tagged.{tagged_at, tagged_form, shape_form}
 use Rattle.site_vector.specs.declared.ids.Dot.{Dot}
 use Rattle.crdt_core.specs.declared.kind.Kind.{Kind}
 use Rattle.crdt_core.specs.Texts.{text_cmp}
 use Rattle.crdt_core.specs.Spelled.{is_between, are_dots, is_dots, dots, dots_at}
-use Rattle.crdt_core.specs.SpelledLaws.{dots_held_form}
+use Rattle.crdt_core.specs.SpelledLaws.{dots_form, dots_spell}
 use Rattle.crdt_core.specs.EffectForm.{SpellsEffects}
 use Rattle.crdt_core.specs.DotSet.{has_dot}
 use Rattle.crdt_core.specs.Stands.{StandsIn, NamesStand}
@@ -46,6 +50,13 @@ pub texts_form : IsForm can_put_texts are_texts_spelled texts_spelling texts_at
 unfolding texts_at
 texts_form = checked_form has_some _ _ _ _ (list_form (is_below text_cmp) (λ t. true) is_text text text_at any_text_form)
 
+pub texts_all : SpellsAll can_put_texts are_texts_spelled (λ ts. ts) texts_spelling
+texts_all = told_spells (λ ts. ts) each (checked_spells has_some (list_spells (is_below text_cmp) (λ t good. some_spelled any_text_form t (text t) good refl) any_text_spells))
+  where
+    each : (ts : List (List ℕ)) → flat_map (λ (t : List ℕ). t ∷ []) ts ≡ ts
+    each [] = refl
+    each (t ∷ ts) = ap (λ l. t ∷ l) (each ts)
+
 -- ---- an element with its dots
 
 abbrev pub named_cmp : Named → Named → Ordering
@@ -66,8 +77,11 @@ named_at = mapped_at named_of (then_at text_at (λ _. dots_at))
 pub named_form : IsForm (λ n. are_dots n.dots) is_named named named_at
 unfolding named_at
 named_form =
-    let whole = then_form (λ t. true) is_text text text_at (λ _. are_dots) (λ _. is_dots) (λ _. dots) (λ _. dots_at) any_text_form (λ _ _. dots_held_form) in
+    let whole = then_form (λ t. true) is_text text text_at (λ _. are_dots) (λ _. is_dots) (λ _. dots) (λ _. dots_at) any_text_form (λ _ _. dots_form) in
     mapped_form named_of (λ n. (n.text, n.dots)) _ _ _ _ (λ _. refl) (λ _ _. refl) whole
+
+pub named_all : SpellsAll (λ n. are_dots n.dots) is_named (λ n. n.text ∷ []) named
+named_all = mapped_spells (λ n. (n.text, n.dots)) (then_spells any_text_spells (λ _. dots_spell))
 
 -- ---- ascending lists of these
 
@@ -85,6 +99,16 @@ named_list_at = list_at (is_below named_cmp) named_at
 
 pub named_list_form : IsForm can_put_list is_list_spelled list_spelling named_list_at
 named_list_form = list_form (is_below named_cmp) (λ n. are_dots n.dots) is_named named named_at named_form
+
+abbrev pub texts_of : List Named → List (List ℕ)
+texts_of ns = map (λ n. n.text) ns
+
+pub named_list_all : SpellsAll can_put_list is_list_spelled texts_of list_spelling
+named_list_all = told_spells texts_of each (list_spells (is_below named_cmp) (λ n good. some_spelled named_form n (named n) good refl) named_all)
+  where
+    each : (ns : List Named) → flat_map (λ (n : Named). n.text ∷ []) ns ≡ texts_of ns
+    each [] = refl
+    each (n ∷ ns) = ap (λ l. n.text ∷ l) (each ns)
 
 pub some_named_form : IsForm (λ ns. has_some ns && can_put_list ns) (λ ns. has_some ns && is_list_spelled ns) list_spelling (checked_at has_some named_list_at)
 some_named_form = checked_form has_some can_put_list is_list_spelled list_spelling named_list_at named_list_form
@@ -157,15 +181,39 @@ pub set_form : IsForm can_put_set is_set_spelled set_spelling set_at
 unfolding set_at
 set_form = tagged_form (is_between 0 2) set_mark can_put_set is_set_spelled set_rest set_rest_at known small rest_form
 
+abbrev pub set_texts : SetEffect → List (List ℕ)
+set_texts (Add ns) = texts_of ns
+set_texts (Remove ns) = texts_of ns
+set_texts (Reset ns) = texts_of ns
+
+rest_all : SpellsAll can_put_set is_set_spelled set_texts set_rest
+rest_all = record { spells = by; stand = stand }
+  where
+    some : SpellsAll (λ ns. has_some ns && can_put_list ns) (λ ns. has_some ns && is_list_spelled ns) texts_of list_spelling
+    some = checked_spells has_some named_list_all
+
+    by : (e : SetEffect) → can_put_set e ≡ true → list_all is_text (set_texts e) ≡ true → (is_set_spelled e ≡ true) ⊎ IsTooLong (set_rest e)
+    by (Add ns) h all = some.spells ns h all
+    by (Remove ns) h all = some.spells ns h all
+    by (Reset ns) h all = named_list_all.spells ns h all
+
+    stand : (e : SetEffect) → StandInTurn (set_texts e) (set_rest e)
+    stand (Add ns) = named_list_all.stand ns
+    stand (Remove ns) = named_list_all.stand ns
+    stand (Reset ns) = named_list_all.stand ns
+
+pub set_all : SpellsAll can_put_set is_set_spelled set_texts set_spelling
+set_all = behind_spells (λ e. number 1 (set_mark e)) rest_all
+
 -- every effect is one of the kind
 abbrev pub is_of_kind : {E : Type 0} → Kind → E → Bool
 is_of_kind k e = true
 
-pub go_spells : (has : Kind → Bool) → SpellsEffects has is_of_kind can_put_texts are_texts_spelled texts_spelling (λ k. texts_at)
-go_spells has = record { form = λ k h. texts_form }
+abbrev pub go_spells : (has : Kind → Bool) → SpellsEffects has is_of_kind can_put_texts are_texts_spelled texts_spelling (λ k. texts_at)
+go_spells has = record { form = λ k h. texts_form; texts = λ ts. ts; all = texts_all }
 
-pub set_spells : (has : Kind → Bool) → SpellsEffects has is_of_kind can_put_set is_set_spelled set_spelling (λ k. set_at)
-set_spells has = record { form = λ k h. set_form }
+abbrev pub set_spells : (has : Kind → Bool) → SpellsEffects has is_of_kind can_put_set is_set_spelled set_spelling (λ k. set_at)
+set_spells has = record { form = λ k h. set_form; texts = set_texts; all = set_all }
 
 pub go_stands : NamesStand can_put_texts go_names texts_spelling
 go_stands = none_stand can_put_texts texts_spelling

@@ -1,7 +1,7 @@
 ghost use Rattle.std.specs.Prelude.{◌≡◌, ◌≤◌, ◌++◌, true, length, OnOk, OnErr, IfOk, ◌&&◌};
 ghost use Rattle.field_codec.specs.Spelling.{number, Keeps};
 ghost use Rattle.field_codec.specs.Reading.{Gives, checked_at};
-ghost use Rattle.crdt_sets.specs.EffectForm.{has_some, can_put_list, is_list_spelled, list_spelling, named_list_at, can_put_set, is_set_spelled, set_spelling, set_at, set_form};
+ghost use Rattle.crdt_sets.specs.EffectForm.{has_some, can_put_list, is_list_spelled, list_spelling, named_list_at, can_put_set, is_set_spelled, set_spelling, set_at, set_form, set_texts, set_all};
 
 use crate::named_form::NamedForm;
 use crate::{Named, SetEffect};
@@ -21,6 +21,8 @@ impl Form for SetForm {
     ghost is_spelled = { λ _ e. is_set_spelled e };
 
     ghost spelling = { λ _ e. set_spelling e };
+
+    ghost texts = { λ _ e. set_texts e };
 
     ghost reading = { λ _ bytes at. set_at bytes at };
 
@@ -48,6 +50,8 @@ impl Form for SetForm {
     }
 
     ghost laws = { λ _. set_form };
+
+    ghost spells_all = { λ _. set_all };
 }
 
 fn put_marked(out: &mut Vec<u8>, mark: u8, named: &[Named]) -> Result<(), AllocError>

@@ -1,8 +1,8 @@
-ghost use Rattle.std.specs.Prelude.{◌≡◌, ◌≤◌, ◌++◌, true, length, OnOk, OnErr, IfOk};
+ghost use Rattle.std.specs.Prelude.{◌≡◌, ◌≤◌, ◌++◌, ◌∷◌, [], true, length, OnOk, OnErr, IfOk};
 ghost use Rattle.field_codec.specs.Spelling.{Keeps, is_below};
 ghost use Rattle.field_codec.specs.Reading.{Gives};
 ghost use Rattle.crdt_core.specs.Spelled.{are_dots};
-ghost use Rattle.crdt_sets.specs.EffectForm.{named_cmp, is_named, named as named_spelling, named_at, named_form};
+ghost use Rattle.crdt_sets.specs.EffectForm.{named_cmp, is_named, named as named_spelling, named_at, named_form, named_all};
 
 use crate::Named;
 use crdt_core::{put_dots, take_dots};
@@ -21,6 +21,8 @@ impl Form for NamedForm {
     ghost is_spelled = { λ _ n. is_named n };
 
     ghost spelling = { λ _ n. named_spelling n };
+
+    ghost texts = { λ _ n. n.text ∷ [] };
 
     ghost reading = { λ _ bytes at. named_at bytes at };
 
@@ -43,4 +45,6 @@ impl Form for NamedForm {
     }
 
     ghost laws = { λ _. named_form };
+
+    ghost spells_all = { λ _. named_all };
 }

@@ -1,8 +1,9 @@
 -- What makes a form of values: what is read is spelled so, what is spelled so is read, whatever follows it; and what it means
 -- that reading refuses.
-use Rattle.std.specs.Prelude.{◌≡◌, ◌≢◌, ℕ, ◌<◌, ◌≤◌, Bool, true, List, ◌++◌, length, take, slice_index, Ok, Err}
+use Rattle.std.specs.Prelude.{◌≡◌, ◌≢◌, ℕ, ◌^◌, ◌<◌, ◌≤◌, ◌⊎◌, Bool, true, List, [], ◌∷◌, ◌++◌, length, take, slice_index, Ok, Err}
+use Rattle.std.specs.List.{list_all}
 use Rattle.field_codec.specs.declared.error.TakeError.TheVariants.{Short, Bad, NoMemory}
-use Rattle.field_codec.specs.Spelling.{Spans}
+use Rattle.field_codec.specs.Spelling.{text, is_text, Spans}
 use Rattle.field_codec.specs.Reading.{Read}
 
 abbrev pub IsBytes : List ℕ → Type 0
@@ -38,6 +39,21 @@ pub record IsForm {V : Type 0} (fits is_spelled : V → Bool) (spelling : V → 
   pub fit : (v : V) → is_spelled v ≡ true → fits v ≡ true
   pub ends : (bytes : List ℕ) → reading bytes (length bytes) ≡ Err (Short (length bytes))
   pub tells : TellsWhy reading
+
+-- a list too long to be counted has 2^32 members and more, and so its spelling as many bytes
+abbrev pub IsTooLong : List ℕ → Type 0
+IsTooLong bytes = 2 ^ 32 ≤ length bytes
+
+-- these texts stand in the bytes, one behind the other
+abbrev pub StandInTurn : List (List ℕ) → List ℕ → Type 0
+StandInTurn [] bytes = Unit {0}
+StandInTurn (t ∷ ts) bytes = (front : List ℕ) × (back : List ℕ) × (bytes ≡ front ++ (text t ++ back)) × StandInTurn ts back
+
+-- What fits has a spelling, but where that would be too long to be counted. A contract sees a text as a list of bytes, so this is
+-- said of values whose texts (those that stand in the spelling) have at most 256 bytes in UTF-8; each `Text` has (`put_text`).
+pub record SpellsAll {V : Type 0} (fits is_spelled : V → Bool) (texts : V → List (List ℕ)) (spelling : V → List ℕ) : Type 0 where
+  pub spells : (v : V) → fits v ≡ true → list_all is_text (texts v) ≡ true → (is_spelled v ≡ true) ⊎ IsTooLong (spelling v)
+  pub stand : (v : V) → StandInTurn (texts v) (spelling v)
 
 -- no spelling begins that of another value
 abbrev pub IsPrefixFree : {V : Type 0} → (V → Bool) → (V → List ℕ) → Type 0

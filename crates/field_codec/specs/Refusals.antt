@@ -21,7 +21,7 @@ pub record IsSteady {V : Type 0} (reading : List ℕ → ℕ → Read V) : Type 
 
 module _ {V : Type 0} {fits is_spelled : V → Bool} {spelling : V → List ℕ} {reading : List ℕ → ℕ → Read V} (form : IsForm fits is_spelled spelling reading) where
   -- no spelling is empty
-  some_spelled : (v : V) (s : List ℕ) → is_spelled v ≡ true → spelling v ≡ s → 0 < length s
+  pub some_spelled : (v : V) (s : List ℕ) → is_spelled v ≡ true → spelling v ≡ s → 0 < length s
   some_spelled v [] good e = absurd (not_both (reading [] 0) (v, 0) (Short 0) (form.again [] 0 v 0 good (subst (λ s. Spans [] 0 s 0) (sym e) (spans_none [] 0 (omega arith)))) (form.ends []))
   some_spelled v (b ∷ s) good e = omega arith
 

@@ -1,7 +1,7 @@
 ghost use Rattle.std.specs.Prelude.{◌≡◌, ◌≤◌, ◌++◌, ℕ, List, Bool, true, length, OnOk, OnErr, IfOk};
 ghost use Rattle.field_codec.specs.Spelling.{Keeps};
 ghost use Rattle.field_codec.specs.Reading.{Read, Gives};
-ghost use Rattle.field_codec.specs.Lawful.{IsForm, IsPrefixFree};
+ghost use Rattle.field_codec.specs.Lawful.{IsForm, SpellsAll, IsPrefixFree};
 
 use crate::TakeError;
 use std::alloc::{AllocError, Global};
@@ -18,6 +18,9 @@ pub trait Form {
     ghost is_spelled: { Self → Self.Value → Bool };
 
     ghost spelling: { Self → Self.Value → List ℕ };
+
+    /// The texts that stand in the spelling, in turn.
+    ghost texts: { Self → Self.Value → List (List ℕ) };
 
     /// What reading at a place answers.
     ghost reading: { Self → List ℕ → ℕ → Read Self.Value };
@@ -57,6 +60,9 @@ pub trait Form {
         ensures { result ≡ follows self.now before.now value.now };
 
     ghost laws: { (f : Self) → IsForm (fits f) (is_spelled f) (spelling f) (reading f) };
+
+    /// What fits has a spelling, but where that would be too long.
+    ghost spells_all: { (f : Self) → SpellsAll (fits f) (is_spelled f) (texts f) (spelling f) };
 }
 
 /// Appends the spelling.

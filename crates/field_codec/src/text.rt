@@ -1,4 +1,4 @@
-ghost use Rattle.std.specs.Prelude.{◌≡◌, ◌≤◌, ◌<◌, ◌++◌, ℕ, List, Bool, true, Some, None, IfOk, IfSome, IfNone, OnOk, OnErr, length, nat_eq};
+ghost use Rattle.std.specs.Prelude.{◌≡◌, ◌≤◌, ◌<◌, ◌++◌, ◌∷◌, [], ℕ, List, Bool, true, Some, None, IfOk, IfSome, IfNone, OnOk, OnErr, length, nat_eq};
 ghost use Rattle.std.specs.Str.{bytes_eq};
 ghost use Rattle.std.specs.Ordering.{nat_cmp, as_partial_cmp};
 ghost use Rattle.std.specs.Cmp.Lexicographic.{slice_cmp};
@@ -8,6 +8,7 @@ ghost use Rattle.std.specs.Cmp.{partial_order_from_own_ties};
 ghost use Rattle.std.proofs.Common.{rules};
 ghost use Rattle.field_codec.specs.Spelling.{text as spelled, is_text, is_below};
 ghost use Rattle.field_codec.specs.FormLaws.{any_text_form};
+ghost use Rattle.field_codec.specs.SpellsAllLaws.{any_text_spells};
 ghost use Rattle.field_codec.specs.Reading.{Gives, text_at, bytes_at};
 
 use crate::{Form, TakeError, put_u16, take_u16};
@@ -200,6 +201,8 @@ impl Form for TextForm {
 
     ghost spelling = { λ _ t. spelled t };
 
+    ghost texts = { λ _ t. t ∷ [] };
+
     ghost reading = { λ _ bytes at. text_at bytes at };
 
     ghost follows = { λ _ before t. is_below (slice_cmp nat_cmp) before t };
@@ -217,4 +220,6 @@ impl Form for TextForm {
     }
 
     ghost laws = { λ _. any_text_form };
+
+    ghost spells_all = { λ _. any_text_spells };
 }

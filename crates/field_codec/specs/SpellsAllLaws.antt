@@ -1,0 +1,144 @@
+-- What fits has a spelling: numbers, texts and lists, and what serves to show it of a form of several fields.
+use Rattle.std.specs.Prelude.{◌≡◌, ℕ, ◌^◌, ◌<◌, ◌≤◌, ◌⊎◌, Bool, true, false, ◌&&◌, nat_lt, List, [], ◌∷◌, ◌++◌, length, None, refl}
+use Rattle.std.proofs.Common.{sym, ap, subst, ◌∙◌, inl, inr, ⊎_elim, append_assoc, length-append, arith}
+use Rattle.std.proofs.lemmas.Bool.Decides.{nat_tests}
+use Rattle.std.proofs.lemmas.List.{append-nil}
+use Rattle.std.specs.List.{flat_map, list_all}
+use Rattle.field_codec.specs.Spelling.{number, is_number, text, is_text, list, are_in_order, are_members, is_list}
+use Rattle.field_codec.specs.Lawful.{IsTooLong, StandInTurn, SpellsAll}
+use Rattle.field_codec.specs.Steps.{both_true, and_true}
+
+-- ---- what is too long in a part is so in the whole
+
+longer_before : (n : ℕ) (xs ys : List ℕ) → n ≤ length xs → n ≤ length (xs ++ ys)
+longer_before n xs ys le = omega (arith, le, length-append xs ys)
+
+longer_behind : (n : ℕ) (xs ys : List ℕ) → n ≤ length ys → n ≤ length (xs ++ ys)
+longer_behind n xs ys le = omega (arith, le, length-append xs ys)
+
+pub too_long_before : (xs ys : List ℕ) → IsTooLong xs → IsTooLong (xs ++ ys)
+too_long_before xs ys h = longer_before (2 ^ 32) xs ys h
+
+pub too_long_behind : (xs ys : List ℕ) → IsTooLong ys → IsTooLong (xs ++ ys)
+too_long_behind xs ys h = longer_behind (2 ^ 32) xs ys h
+
+-- ---- texts of a part stand in the whole
+
+pub stand_behind : (xs : List ℕ) (ts : List (List ℕ)) (ys : List ℕ) → StandInTurn ts ys → StandInTurn ts (xs ++ ys)
+stand_behind xs [] ys s = tt
+stand_behind xs (t ∷ ts) ys s = (xs ++ s.0, s.1, ap (λ l. xs ++ l) s.2 ∙ sym (append_assoc xs s.0 (text t ++ s.1)), s.3)
+
+pub stand_both : (ts us : List (List ℕ)) (xs ys : List ℕ) → StandInTurn ts xs → StandInTurn us ys → StandInTurn (ts ++ us) (xs ++ ys)
+stand_both [] us xs ys s r = stand_behind xs us ys r
+stand_both (t ∷ ts) us xs ys s r = (
+  s.0,
+  s.1 ++ ys,
+  ap (λ l. l ++ ys) s.2 ∙ append_assoc s.0 (text t ++ s.1) ys ∙ ap (λ l. s.0 ++ l) (append_assoc (text t) s.1 ys),
+  stand_both ts us s.1 ys s.3 r,
+)
+
+-- ---- tests
+
+all_front : {A : Type 0} (p : A → Bool) (xs ys : List A) → list_all p (xs ++ ys) ≡ true → (list_all p xs ≡ true) × (list_all p ys ≡ true)
+all_front p [] ys h = (refl, h)
+all_front p (x ∷ xs) ys h =
+    let a = both_true (p x) (list_all p (xs ++ ys)) h in
+    let b = all_front p xs ys a.1 in
+    (and_true (p x) (list_all p xs) a.0 b.0, b.1)
+
+-- what can be put is what has a spelling
+pub alike_spells : {V : Type 0} (test : V → Bool) (spelling : V → List ℕ) → SpellsAll test test (λ v. []) spelling
+alike_spells test spelling = record { spells = λ v h all. inl h; stand = λ v. tt }
+
+pub any_text_spells : SpellsAll (λ t. true) is_text (λ t. t ∷ []) text
+any_text_spells = record {
+  spells = λ t h all. inl (both_true (is_text t) true all).0;
+  stand = λ t. ([], [], sym (append-nil (text t)), tt);
+}
+
+pub checked_spells : {V : Type 0} {fits is_spelled : V → Bool} {texts : V → List (List ℕ)} {spelling : V → List ℕ} (test : V → Bool) → SpellsAll fits is_spelled texts spelling → SpellsAll (λ v. test v && fits v) (λ v. test v && is_spelled v) texts spelling
+checked_spells {fits = fits} {is_spelled = is_spelled} test s = record {
+  spells = λ v h all. let p = both_true (test v) (fits v) h in ⊎_elim (λ is. inl (and_true (test v) (is_spelled v) p.0 is)) inr (s.spells v p.1 all);
+  stand = s.stand;
+}
+
+-- behind bytes that are the same for all or that hold no text
+pub behind_spells : {V : Type 0} {fits is_spelled : V → Bool} {texts : V → List (List ℕ)} {spelling : V → List ℕ} (front : V → List ℕ) → SpellsAll fits is_spelled texts spelling → SpellsAll fits is_spelled texts (λ v. front v ++ spelling v)
+behind_spells {texts = texts} {spelling} front s = record {
+  spells = λ v h all. ⊎_elim inl (λ long. inr (too_long_behind (front v) (spelling v) long)) (s.spells v h all);
+  stand = λ v. stand_behind (front v) (texts v) (spelling v) (s.stand v);
+}
+
+pub then_spells : {V W : Type 0} {fits1 spelled1 : V → Bool} {texts1 : V → List (List ℕ)} {spelling1 : V → List ℕ} {fits2 spelled2 : V → W → Bool} {texts2 : V → W → List (List ℕ)} {spelling2 : V → W → List ℕ}
+    → SpellsAll fits1 spelled1 texts1 spelling1 → ((v : V) → SpellsAll (fits2 v) (spelled2 v) (texts2 v) (spelling2 v))
+    → SpellsAll {V = V × W} (λ x. fits1 x.0 && fits2 x.0 x.1) (λ x. spelled1 x.0 && spelled2 x.0 x.1) (λ x. texts1 x.0 ++ texts2 x.0 x.1) (λ x. spelling1 x.0 ++ spelling2 x.0 x.1)
+then_spells {fits1 = fits1} {spelled1} {texts1} {spelling1} {fits2} {spelled2} {texts2} {spelling2} first second = record {
+  spells = λ x h all.
+      let p = both_true (fits1 x.0) (fits2 x.0 x.1) h in
+      let a = all_front is_text (texts1 x.0) (texts2 x.0 x.1) all in
+      ⊎_elim
+      (λ one. ⊎_elim (λ two. inl (and_true (spelled1 x.0) (spelled2 x.0 x.1) one two)) (λ long. inr (too_long_behind (spelling1 x.0) (spelling2 x.0 x.1) long)) ((second x.0).spells x.1 p.1 a.1))
+      (λ long. inr (too_long_before (spelling1 x.0) (spelling2 x.0 x.1) long))
+      (first.spells x.0 p.0 a.0);
+  stand = λ x. stand_both (texts1 x.0) (texts2 x.0 x.1) (spelling1 x.0) (spelling2 x.0 x.1) (first.stand x.0) ((second x.0).stand x.1);
+}
+
+-- parts: what a value is made of
+pub mapped_spells : {V W : Type 0} {fits is_spelled : V → Bool} {texts : V → List (List ℕ)} {spelling : V → List ℕ} (parts : W → V) → SpellsAll fits is_spelled texts spelling
+    → SpellsAll (λ w. fits (parts w)) (λ w. is_spelled (parts w)) (λ w. texts (parts w)) (λ w. spelling (parts w))
+mapped_spells parts s = record { spells = λ w. s.spells (parts w); stand = λ w. s.stand (parts w) }
+
+-- the same texts told otherwise
+pub told_spells : {V : Type 0} {fits is_spelled : V → Bool} {texts : V → List (List ℕ)} {spelling : V → List ℕ} (told : V → List (List ℕ)) → ((v : V) → texts v ≡ told v) → SpellsAll fits is_spelled texts spelling → SpellsAll fits is_spelled told spelling
+told_spells {spelling = spelling} told same s = record {
+  spells = λ v h all. s.spells v h (ap (list_all is_text) (same v) ∙ all);
+  stand = λ v. subst (λ ts. StandInTurn ts (spelling v)) (same v) (s.stand v);
+}
+
+-- ---- lists
+
+module _ {V : Type 0} {fits is_spelled : V → Bool} {texts : V → List (List ℕ)} {spelling : V → List ℕ} (follows : V → V → Bool) (some : (v : V) → is_spelled v ≡ true → 0 < length (spelling v)) (member : SpellsAll fits is_spelled texts spelling) where
+  each_spells : (vs : List V) → list_all fits vs ≡ true → list_all is_text (flat_map texts vs) ≡ true → (list_all is_spelled vs ≡ true) ⊎ IsTooLong (flat_map spelling vs)
+  each_spells [] h all = inl refl
+  each_spells (v ∷ vs) h all =
+      let p = both_true (fits v) (list_all fits vs) h in
+      let a = all_front is_text (texts v) (flat_map texts vs) all in
+      ⊎_elim
+      (λ one. ⊎_elim (λ others. inl (and_true (is_spelled v) (list_all is_spelled vs) one others)) (λ long. inr (too_long_behind (spelling v) (flat_map spelling vs) long)) (each_spells vs p.1 a.1))
+      (λ long. inr (too_long_before (spelling v) (flat_map spelling vs) long))
+      (member.spells v p.0 a.0)
+
+  -- a byte for each member
+  as_many : (vs : List V) → list_all is_spelled vs ≡ true → length vs ≤ length (flat_map spelling vs)
+  as_many [] h = omega arith
+  as_many (v ∷ vs) h =
+      let p = both_true (is_spelled v) (list_all is_spelled vs) h in
+      let one = some v p.0 in
+      let others = as_many vs p.1 in
+      omega (arith, one, others, length-append (spelling v) (flat_map spelling vs))
+
+  few_or_long : (n most : ℕ) (bytes : List ℕ) → n ≤ length bytes → (nat_lt n most ≡ true) ⊎ (most ≤ length bytes)
+  few_or_long n most bytes le = by (nat_lt n most) refl
+    where
+      by : (b : Bool) → nat_lt n most ≡ b → (nat_lt n most ≡ true) ⊎ (most ≤ length bytes)
+      by true is = inl is
+      by false is = let above : most ≤ n = grind (arith, nat_tests) in inr (omega (arith, above, le))
+
+  each_stand : (vs : List V) → StandInTurn (flat_map texts vs) (flat_map spelling vs)
+  each_stand [] = tt
+  each_stand (v ∷ vs) = stand_both (texts v) (flat_map texts vs) (spelling v) (flat_map spelling vs) (member.stand v) (each_stand vs)
+
+  pub list_spells : SpellsAll (are_members follows fits) (is_list follows is_spelled) (flat_map texts) (list spelling)
+  list_spells = record {
+    spells = λ vs h all.
+        let p = both_true (are_in_order follows None vs) (list_all fits vs) h in
+        let count = number 4 (length vs) in
+        ⊎_elim
+        (λ each. ⊎_elim
+        (λ few. inl (and_true (is_number 4 (length vs)) (are_members follows is_spelled vs) few (and_true (are_in_order follows None vs) (list_all is_spelled vs) p.0 each)))
+        (λ long. inr (too_long_behind count (flat_map spelling vs) long))
+        (few_or_long (length vs) (2 ^ 32) (flat_map spelling vs) (as_many vs each)))
+        (λ long. inr (too_long_behind count (flat_map spelling vs) long))
+        (each_spells vs p.1 all);
+    stand = λ vs. stand_behind (number 4 (length vs)) (flat_map texts vs) (flat_map spelling vs) (each_stand vs);
+  }
