@@ -273,7 +273,7 @@ module _ {S E : Type 0} {has : Kind → Bool} {too_deep : Kind → List Field �
   counter_pn_stays (state.CounterPn r) d e h = ap state.CounterPn (h r)
   counter_pn_stays _ d e h = refl
 
-  counter_fat_blank : (s : LayerState S) → layer_blank is_blank s ≡ true → keeps_none (unwrap_or (counter_fat_state s) empty) ≡ true
+  pub counter_fat_blank : (s : LayerState S) → layer_blank is_blank s ≡ true → keeps_none (unwrap_or (counter_fat_state s) empty) ≡ true
   counter_fat_blank (state.CounterFat s) h = h
   counter_fat_blank _ h = fat_in_maps.first_blank kinds.CounterFat refl
 
@@ -289,7 +289,7 @@ module _ {S E : Type 0} {has : Kind → Bool} {too_deep : Kind → List Field �
   set_go_stays (state.SetGo r) d e h = ap state.SetGo (h r)
   set_go_stays _ d e h = refl
 
-  set_aw_blank : (s : LayerState S) → layer_blank is_blank s ≡ true → lacks_all (unwrap_or (set_aw_state s) empty) ≡ true
+  pub set_aw_blank : (s : LayerState S) → layer_blank is_blank s ≡ true → lacks_all (unwrap_or (set_aw_state s) empty) ≡ true
   set_aw_blank (state.SetAw s) h = h
   set_aw_blank _ h = aw_in_maps.first_blank kinds.SetAw refl
 
@@ -297,7 +297,7 @@ module _ {S E : Type 0} {has : Kind → Bool} {too_deep : Kind → List Field �
   set_aw_stays (state.SetAw r) d e h = ap state.SetAw (h r)
   set_aw_stays _ d e h = refl
 
-  set_rw_blank : (s : LayerState S) → layer_blank is_blank s ≡ true → lacks_all (unwrap_or (set_rw_state s) empty) ≡ true
+  pub set_rw_blank : (s : LayerState S) → layer_blank is_blank s ≡ true → lacks_all (unwrap_or (set_rw_state s) empty) ≡ true
   set_rw_blank (state.SetRw s) h = h
   set_rw_blank _ h = rw_in_maps.first_blank kinds.SetRw refl
 
@@ -305,7 +305,7 @@ module _ {S E : Type 0} {has : Kind → Bool} {too_deep : Kind → List Field �
   set_rw_stays (state.SetRw r) d e h = ap state.SetRw (h r)
   set_rw_stays _ d e h = refl
 
-  flag_ew_blank : (s : LayerState S) → layer_blank is_blank s ≡ true → keeps_none (unwrap_or (flag_ew_state s) empty) ≡ true
+  pub flag_ew_blank : (s : LayerState S) → layer_blank is_blank s ≡ true → keeps_none (unwrap_or (flag_ew_state s) empty) ≡ true
   flag_ew_blank (state.FlagEw s) h = h
   flag_ew_blank _ h = ew_in_maps.first_blank kinds.FlagEw refl
 
@@ -313,7 +313,7 @@ module _ {S E : Type 0} {has : Kind → Bool} {too_deep : Kind → List Field �
   flag_ew_stays (state.FlagEw r) d e h = ap state.FlagEw (h r)
   flag_ew_stays _ d e h = refl
 
-  flag_dw_blank : (s : LayerState S) → layer_blank is_blank s ≡ true → keeps_none (unwrap_or (flag_dw_state s) empty) ≡ true
+  pub flag_dw_blank : (s : LayerState S) → layer_blank is_blank s ≡ true → keeps_none (unwrap_or (flag_dw_state s) empty) ≡ true
   flag_dw_blank (state.FlagDw s) h = h
   flag_dw_blank _ h = dw_in_maps.first_blank kinds.FlagDw refl
 
@@ -329,7 +329,7 @@ module _ {S E : Type 0} {has : Kind → Bool} {too_deep : Kind → List Field �
   register_lww_stays (state.RegisterLww r) d e h = ap state.RegisterLww (h r)
   register_lww_stays _ d e h = refl
 
-  register_mv_blank : (s : LayerState S) → layer_blank is_blank s ≡ true → keeps_none (unwrap_or (register_mv_state s) empty) ≡ true
+  pub register_mv_blank : (s : LayerState S) → layer_blank is_blank s ≡ true → keeps_none (unwrap_or (register_mv_state s) empty) ≡ true
   register_mv_blank (state.RegisterMv s) h = h
   register_mv_blank _ h = mv_in_maps.first_blank kinds.RegisterMv refl
 
@@ -345,7 +345,7 @@ module _ {S E : Type 0} {has : Kind → Bool} {too_deep : Kind → List Field �
   map_go_stays (state.MapGo r) d e h = ap state.MapGo (h r)
   map_go_stays _ d e h = refl
 
-  map_rr_blank : (s : LayerState S) → layer_blank is_blank s ≡ true → (rr_blank is_blank) (unwrap_or (map_rr_state s) empty) ≡ true
+  pub map_rr_blank : (s : LayerState S) → layer_blank is_blank s ≡ true → (rr_blank is_blank) (unwrap_or (map_rr_state s) empty) ≡ true
   map_rr_blank (state.MapRr s) h = h
   map_rr_blank _ h = (rr_in_maps inner owed).first_blank kinds.MapRr refl
 

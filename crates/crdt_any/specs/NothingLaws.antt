@@ -7,6 +7,7 @@ use Rattle.field_codec.specs.SpellsAllLaws.{alike_spells}
 use Rattle.crdt_core.specs.declared.value.Value.TheVariants.{Flag}
 use Rattle.crdt_core.specs.Law.{KeepsLaw}
 use Rattle.crdt_core.specs.InMaps.{KeepsInMaps}
+use Rattle.crdt_core.specs.Resets.{ResetsWhatIsLeft}
 use Rattle.crdt_core.specs.EffectForm.{SpellsEffects}
 use Rattle.crdt_core.specs.Stands.{NamesStand}
 use Rattle.crdt_core.specs.StandsLaws.{none_stand}
@@ -27,6 +28,12 @@ nothing_in_maps = record {
   undoes_none = λ k s t d n has. absurd (false≢true has);
   shallow = λ k. refl;
   flat = λ k p has out. refl;
+}
+
+pub nothing_resets : ResetsWhatIsLeft {S = Unit {0}} {E = Unit {0}} (λ k. false) (λ k p. false) (λ k. tt) (λ s d e. tt) (λ k s p a n. tt) (λ s. true) (λ e d. false)
+nothing_resets = record {
+  none_left = λ k s n d has. absurd (false≢true has);
+  some_left = λ k us n has. absurd (false≢true has);
 }
 
 abbrev pub nothing_spells : SpellsEffects {E = Unit {0}} (λ k. false) (λ k e. true) (λ e. true) (λ e. true) (λ e. []) (λ k bytes at. Err (Bad at))

@@ -1,17 +1,21 @@
 -- A kind that stands among others keeps its law.
-use Rattle.std.proofs.Common.{◌≡◌, ℕ, Bool, true, false, cond, ◌||◌, List, [], ◌∷◌, Option, Some, None, refl, ap, ◌∙◌}
+use Rattle.std.proofs.Common.{◌≡◌, ℕ, Bool, true, false, cond, ◌||◌, List, [], ◌∷◌, Option, Some, None, refl, sym, ap, ◌∙◌}
 use Rattle.std.specs.Prelude.{map, filter}
 use Rattle.std.proofs.lemmas.Bool.{or_left}
 use Rattle.site_vector.specs.declared.ids.Dot.{Dot}
 use Rattle.site_vector.specs.Ids.{same_dot}
 use Rattle.crdt_core.specs.declared.kind.Kind.{Kind}
+use Rattle.crdt_core.specs.declared.kind.Kind.TheVariants.{MapRr}
 use Rattle.crdt_core.specs.declared.object.Field.{Field}
 use Rattle.crdt_core.specs.declared.operation.Act.{Act}
+use Rattle.crdt_core.specs.declared.operation.Act.TheVariants.{Reset}
 use Rattle.crdt_core.specs.declared.value.Value.{Value}
+use Rattle.crdt_core.specs.Fits.{stands_in}
 use Rattle.crdt_core.specs.Seen.{Update, sees}
 use Rattle.crdt_core.specs.Stamps.{stamp_due}
 use Rattle.crdt_core.specs.History.{IsHistory, IsStamped, folded, seen_by, effects, effect_after, state_after}
 use Rattle.crdt_core.specs.Law.{KeepsLaw, made_by, all_fit}
+use Rattle.crdt_core.specs.Resets.{ResetsWhatIsLeft}
 use Rattle.crdt_any.specs.Layer.{moved}
 
 -- states and effects that stand for others
@@ -67,6 +71,19 @@ module _ {S E R F : Type 0} {has : Kind → Bool} {too_deep : Kind → List Fiel
       ap stamp_of (effect_so wrap wrap_effect step make (initial k) part_step (made_by made k) steps_so makes_so us u)
       ∙ stamps_so (effect_after (initial k) part_step (made_by made k) us u)
       ∙ law.stamps k u us known h fit (stamped_so wrap wrap_effect step make (initial k) part_step (made_by made k) steps_so makes_so stamp_of part_stamp stamps_so us st)
+
+-- a reset of what is left names what that of the kind alone does
+pub part_left : {S E R F : Type 0} {has : Kind → Bool} {too_deep : Kind → List Field → Bool} {initial : Kind → R} {part_step : R → Dot → F → R} {part_made : Kind → R → List Field → Act → ℕ → F} {part_blank : R → Bool} {part_names : F → Dot → Bool} (resets : ResetsWhatIsLeft has too_deep initial part_step part_made part_blank part_names)
+    (k : Kind) (known : has k ≡ true) (wrap : R → S) (wrap_effect : F → E) (step : S → Dot → E → S) (made : Kind → S → List Field → Act → ℕ → E) (is_blank : S → Bool) (names : E → Dot → Bool)
+    → ((s : R) (d : Dot) (e : F) → step (wrap s) d (wrap_effect e) ≡ wrap (part_step s d e)) → ((s : R) (p : List Field) (a : Act) (n : ℕ) → made k (wrap s) p a n ≡ wrap_effect (part_made k s p a n))
+    → ((s : R) → is_blank (wrap s) ≡ part_blank s) → ((e : F) (d : Dot) → names (wrap_effect e) d ≡ part_names e d)
+    → (us : List Update) (n : ℕ) → stands_in MapRr k ≡ true → IsHistory us → all_fit too_deep k us ≡ true → is_blank (state_after (wrap (initial k)) step (made_by made k) us) ≡ false
+    → (d : Dot) × (names (made k (state_after (wrap (initial k)) step (made_by made k) us) [] Reset n) d ≡ true)
+part_left {initial} {part_step} {part_made} resets k known wrap wrap_effect step made is_blank names steps_so makes_so blanks_so names_so us n stands h fit left =
+    let s = state_after (initial k) part_step (made_by part_made k) us in
+    let same = state_so wrap wrap_effect step (made_by made k) (initial k) part_step (made_by part_made k) steps_so (λ s u. makes_so s u.path u.act u.now) us in
+    let w = resets.some_left k us n known stands h fit (sym (ap is_blank same ∙ blanks_so s) ∙ left) in
+    (w.0, ap (λ t. names (made k t [] Reset n) w.0) same ∙ ap (λ e. names e w.0) (makes_so s [] Reset n) ∙ names_so (part_made k s [] Reset n) w.0 ∙ w.1)
 
 -- whether an effect of the kind names a dot; of another kind, it names none
 abbrev pub named_by : {E : Type 0} → (E → Dot → Bool) → Option E → Dot → Bool

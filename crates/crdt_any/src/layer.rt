@@ -3,6 +3,7 @@ ghost use Rattle.crdt_core.specs.EffectForm.{HoldsSpelled, IsReady};
 ghost use Rattle.crdt_any.specs.Layer.{layer_has, layer_too_deep, layer_initial, layer_step, layer_made, layer_value, layer_stamp, layer_meaning, layer_names, layer_holds, layer_blank};
 ghost use Rattle.crdt_any.specs.LayerForm.{layer_is_of, layer_can_put, layer_is_spelled, layer_spelling, layer_reading, layer_spells, layer_stands};
 ghost use Rattle.crdt_any.specs.LayerLaws.{layer_law, layer_in_maps};
+ghost use Rattle.crdt_any.specs.LayerResets.{layer_resets};
 
 use crate::generate::effect_of;
 use crate::part::apply_if;
@@ -67,6 +68,8 @@ impl<I: Crdt> Crdt for Layer<I> {
     ghost is_blank = { layer_blank I.is_blank };
 
     ghost in_maps = { layer_in_maps I.laws I.in_maps };
+
+    ghost resets = { layer_resets I.laws I.in_maps I.resets };
 
     fn has(kind: Kind) -> bool {
         true

@@ -1,7 +1,7 @@
 ghost use Rattle.std.specs.Prelude.{◌≡◌, [], true, false, None, Err};
 ghost use Rattle.field_codec.specs.declared.error.TakeError.TheVariants.{Bad};
 ghost use Rattle.crdt_core.specs.declared.value.Value.TheVariants.{Flag};
-ghost use Rattle.crdt_any.specs.NothingLaws.{nothing_law, nothing_in_maps, nothing_spells, nothing_stands};
+ghost use Rattle.crdt_any.specs.NothingLaws.{nothing_law, nothing_in_maps, nothing_resets, nothing_spells, nothing_stands};
 
 use crdt_core::{Act, Crdt, Field, GenError, Kind, Op, Value, fits_at, reads_state};
 use field_codec::TakeError;
@@ -55,6 +55,8 @@ impl Crdt for Nothing {
     ghost is_blank = { λ s. true };
 
     ghost in_maps = { nothing_in_maps };
+
+    ghost resets = { nothing_resets };
 
     fn has(kind: Kind) -> bool {
         false

@@ -17,6 +17,8 @@ pub mod Kinds
 pub mod Objects
 pub mod Placing
 pub mod Ready
+pub mod Resets
+pub mod ResetsLaws
 pub mod Same
 pub mod Stamps
 pub mod Law

@@ -9,6 +9,7 @@ ghost use Rattle.crdt_core.specs.Seen.{Update};
 ghost use Rattle.crdt_core.specs.Kinds.{reads_state};
 ghost use Rattle.crdt_core.specs.Fits.{fits};
 ghost use Rattle.crdt_core.specs.InMaps.{KeepsInMaps};
+ghost use Rattle.crdt_core.specs.Resets.{ResetsWhatIsLeft};
 ghost use Rattle.crdt_core.specs.Law.{KeepsLaw};
 ghost use Rattle.crdt_core.specs.EffectForm.{SpellsEffects, HoldsSpelled, IsReady};
 ghost use Rattle.crdt_core.specs.Stands.{NamesStand};
@@ -66,6 +67,9 @@ pub trait Crdt {
 
     /// What a map around the kind needs of it.
     ghost in_maps: { KeepsInMaps has too_deep initial step made is_blank };
+
+    /// A reset names updates exactly where the state isn't blank.
+    ghost resets: { ResetsWhatIsLeft has too_deep initial step made is_blank names };
 
     /// Whether the effect is one of the kind.
     ghost is_of: { Kind → Self.Effect → Bool };

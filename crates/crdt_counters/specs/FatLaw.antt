@@ -17,7 +17,9 @@ use Rattle.crdt_core.specs.Seen.{Update, is_reset, is_live}
 use Rattle.crdt_core.specs.History.{IsHistory, state_after}
 use Rattle.crdt_core.specs.Law.{KeepsSteps, KeepsLaw, made_by}
 use Rattle.crdt_core.specs.InMaps.{KeepsInMaps}
+use Rattle.crdt_core.specs.Resets.{ResetsWhatIsLeft}
 use Rattle.crdt_core.specs.Blank.{without_blank, empty_kept}
+use Rattle.crdt_core.specs.ResetsLaws.{kept_resets}
 use Rattle.crdt_core.specs.Leaves.{IsLeaf, same_kind_is, no_stamp_due}
 use Rattle.crdt_core.specs.Confluence.{confluence}
 use Rattle.crdt_core.specs.Kept.{KeptAt, dots_if, is_kept, keeps_none}
@@ -88,3 +90,6 @@ fat_in_maps = record {
   shallow = λ k. refl;
   flat = λ k p has out. refl;
 }
+
+pub fat_resets : ResetsWhatIsLeft fat_has (λ k p. false) (λ k. empty) fat_step fat_made keeps_none fat_names
+fat_resets = kept_resets (λ k s n d. refl)

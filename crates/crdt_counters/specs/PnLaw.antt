@@ -18,7 +18,9 @@ use Rattle.crdt_core.specs.Seen.{Update, sees, is_reset, is_live}
 use Rattle.crdt_core.specs.History.{state_after}
 use Rattle.crdt_core.specs.Law.{KeepsSteps, KeepsLaw, made_by, all_fit}
 use Rattle.crdt_core.specs.InMaps.{KeepsInMaps}
+use Rattle.crdt_core.specs.Resets.{ResetsWhatIsLeft}
 use Rattle.crdt_core.specs.Blank.{never_reset}
+use Rattle.crdt_core.specs.ResetsLaws.{never_resets}
 use Rattle.crdt_core.specs.Leaves.{IsLeaf, same_kind_is, first_fits, rest_fits, no_stamp_due}
 use Rattle.crdt_core.specs.Confluence.{confluence}
 use Rattle.crdt_counters.specs.Meaning.{amount, total, counter_meaning}
@@ -80,3 +82,6 @@ pn_in_maps = record {
   shallow = λ k. refl;
   flat = λ k p has out. refl;
 }
+
+pub pn_resets : ResetsWhatIsLeft pn_has deep (λ k. pos 0) pn_step pn_made is_zero names_none
+pn_resets = never_resets CounterPn refl

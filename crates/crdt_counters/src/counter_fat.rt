@@ -5,7 +5,7 @@ ghost use Rattle.crdt_counters.specs.Meaning.{counter_meaning};
 ghost use Rattle.crdt_counters.specs.CounterPn.{no_stamp};
 ghost use Rattle.crdt_counters.specs.CounterFat.{fat_has, fat_step, fat_made, fat_value, fat_names};
 ghost use Rattle.crdt_counters.specs.EffectForm.{is_of_kind, can_put_fat, is_fat_spelled, fat_spelling, fat_at, fat_spells, fat_stands};
-ghost use Rattle.crdt_counters.specs.FatLaw.{fat_law, fat_in_maps};
+ghost use Rattle.crdt_counters.specs.FatLaw.{fat_law, fat_in_maps, fat_resets};
 
 use crate::amounts::{amount_of, total_of};
 use crate::fat_form::FatForm;
@@ -56,6 +56,8 @@ impl Crdt for CounterFat {
     ghost is_blank = { keeps_none };
 
     ghost in_maps = { fat_in_maps };
+
+    ghost resets = { fat_resets };
 
     ghost is_of = { is_of_kind };
 

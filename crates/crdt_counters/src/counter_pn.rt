@@ -2,7 +2,7 @@ ghost use Rattle.std.specs.Prelude.{◌≡◌, pos, false};
 ghost use Rattle.crdt_counters.specs.Meaning.{counter_meaning};
 ghost use Rattle.crdt_counters.specs.CounterPn.{pn_has, pn_step, pn_made, pn_value, no_stamp, names_none, holds_none, is_zero};
 ghost use Rattle.crdt_counters.specs.EffectForm.{is_of_kind, is_amount_number, amount_spelling, amount_at, pn_spells, pn_stands};
-ghost use Rattle.crdt_counters.specs.PnLaw.{pn_law, pn_in_maps};
+ghost use Rattle.crdt_counters.specs.PnLaw.{pn_law, pn_in_maps, pn_resets};
 
 use crate::amount_form::AmountForm;
 use crate::amounts::{amount_of, sum};
@@ -45,6 +45,8 @@ impl Crdt for CounterPn {
     ghost is_blank = { is_zero };
 
     ghost in_maps = { pn_in_maps };
+
+    ghost resets = { pn_resets };
 
     ghost is_of = { is_of_kind };
 

@@ -15,7 +15,9 @@ use Rattle.crdt_core.specs.Seen.{Update}
 use Rattle.crdt_core.specs.History.{IsHistory, state_after}
 use Rattle.crdt_core.specs.Law.{KeepsSteps, KeepsLaw, made_by}
 use Rattle.crdt_core.specs.InMaps.{KeepsInMaps}
+use Rattle.crdt_core.specs.Resets.{ResetsWhatIsLeft}
 use Rattle.crdt_core.specs.Blank.{without_blank, empty_kept}
+use Rattle.crdt_core.specs.ResetsLaws.{kept_resets}
 use Rattle.crdt_core.specs.Leaves.{IsLeaf, same_kind_is, no_stamp_due}
 use Rattle.crdt_core.specs.Confluence.{confluence, any_same}
 use Rattle.crdt_core.specs.Kept.{KeptAt, dots_if, is_kept, keeps_none}
@@ -135,3 +137,9 @@ dw_in_maps = record {
   shallow = λ k. refl;
   flat = λ k p has out. refl;
 }
+
+pub ew_resets : ResetsWhatIsLeft ew_has (λ k p. false) (λ k. empty) ew_step kind_made keeps_none flag_names
+ew_resets = kept_resets (λ k s n d. refl)
+
+pub dw_resets : ResetsWhatIsLeft dw_has (λ k p. false) (λ k. empty) dw_step kind_made keeps_none flag_names
+dw_resets = kept_resets (λ k s n d. refl)

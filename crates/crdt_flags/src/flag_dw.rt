@@ -4,7 +4,7 @@ ghost use Rattle.crdt_core.specs.Kept.{is_kept, keeps_none};
 ghost use Rattle.crdt_flags.specs.Meaning.{dw_meaning};
 ghost use Rattle.crdt_flags.specs.Flags.{dw_has, dw_step, dw_value, kind_made, no_stamp, flag_names};
 ghost use Rattle.crdt_flags.specs.EffectForm.{is_of_kind, can_put_flag, is_flag_spelled, flag_spelling, flag_at, flag_spells, flag_stands};
-ghost use Rattle.crdt_flags.specs.FlagLaws.{dw_law, dw_in_maps};
+ghost use Rattle.crdt_flags.specs.FlagLaws.{dw_law, dw_in_maps, dw_resets};
 
 use crate::FlagEffect;
 use crate::effect::effect_of;
@@ -48,6 +48,8 @@ impl Crdt for FlagDw {
     ghost is_blank = { keeps_none };
 
     ghost in_maps = { dw_in_maps };
+
+    ghost resets = { dw_resets };
 
     ghost is_of = { is_of_kind };
 

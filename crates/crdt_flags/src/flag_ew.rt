@@ -4,7 +4,7 @@ ghost use Rattle.crdt_core.specs.Kept.{is_kept, keeps_none};
 ghost use Rattle.crdt_flags.specs.Meaning.{ew_meaning};
 ghost use Rattle.crdt_flags.specs.Flags.{ew_has, ew_step, ew_value, kind_made, no_stamp, flag_names};
 ghost use Rattle.crdt_flags.specs.EffectForm.{is_of_kind, can_put_flag, is_flag_spelled, flag_spelling, flag_at, flag_spells, flag_stands};
-ghost use Rattle.crdt_flags.specs.FlagLaws.{ew_law, ew_in_maps};
+ghost use Rattle.crdt_flags.specs.FlagLaws.{ew_law, ew_in_maps, ew_resets};
 
 use crate::FlagEffect;
 use crate::effect::effect_of;
@@ -48,6 +48,8 @@ impl Crdt for FlagEw {
     ghost is_blank = { keeps_none };
 
     ghost in_maps = { ew_in_maps };
+
+    ghost resets = { ew_resets };
 
     ghost is_of = { is_of_kind };
 

@@ -4,6 +4,7 @@ pub mod FieldHistory
 pub mod FieldStamps
 pub mod FieldSteps
 pub mod MapLaws
+pub mod MapResets
 pub mod MapSteps
 pub mod Maps
 pub mod Meaning

@@ -108,16 +108,22 @@ module _ {S E : Type 0} {has : Kind → Bool} {too_deep : Kind → List Field �
   map_after k us = state_after empty (map_step has initial step) (made_by (map_made has initial made is_blank) k) us
 
   module _ (k : Kind) (own : (f : Field) → stands_in k f.kind ≡ true → reset_stands k f) where
-    -- the state of an updated field has the value that its updates mean
+    -- what stands at an updated field is its kind's state after the field's own updates
+    pub state_at : (us : List Update) → all_fit (map_too_deep has too_deep) k us ≡ true → (q : Field) → among q (updated has us) ≡ true → at initial (outer owed k (λ d. true) us) q ≡ state_after (initial q.kind) step (made_by made q.kind) (of_field q us)
+    state_at us fit q up =
+        let two = may_stand has too_deep k q us fit up in
+        field_folded owed q two.0 k (own q two.1) us fit (λ d. true) ∙ ap (folded (initial q.kind) step) (all_kept (effects (initial q.kind) step (made_by made q.kind) (of_field q us)))
+
+    -- it has the value that these updates mean
     value_at : (us : List Update) → IsHistory us → all_fit (map_too_deep has too_deep) k us ≡ true → MapStamped inner owed k us → (q : Field) → among q (updated has us) ≡ true → value_of (at initial (outer owed k (λ d. true) us) q) ≡ meaning q.kind (of_field q us)
     value_at us h fit st q up =
         let two = may_stand has too_deep k q us fit up in
         let mine = own q two.1 in
         let vs = of_field q us in
-        ap value_of (field_folded owed q two.0 k mine us fit (λ d. true) ∙ ap (folded (initial q.kind) step) (all_kept (effects (initial q.kind) step (made_by made q.kind) vs)))
+        ap value_of (state_at us fit q up)
         ∙ inner.means q.kind vs two.0 (history_of_field q us h) (fits_of_field has too_deep owed.shallow k q mine us fit) (stamped_of_field inner owed k q two.0 mine us h fit st)
 
-    all_outer : (us : List Update) → outer owed k (λ d. true) us ≡ map_after k us
+    pub all_outer : (us : List Update) → outer owed k (λ d. true) us ≡ map_after k us
     all_outer us = ap (folded empty (map_step has initial step)) (all_kept (effects empty (map_step has initial step) (made_by (map_made has initial made is_blank) k) us))
 
     members_mean : (us : List Update) → IsHistory us → all_fit (map_too_deep has too_deep) k us ≡ true → MapStamped inner owed k us → members value_of (map_after k us) ≡ meanings has meaning us
@@ -145,7 +151,7 @@ module _ {S E : Type 0} {has : Kind → Bool} {too_deep : Kind → List Field �
   go_own : (k : Kind) → go_has k ≡ true → (f : Field) → stands_in k f.kind ≡ true → reset_stands k f
   go_own k is f stands a h = absurd (true≢false (sym h ∙ ap (λ l. allows l a) (same_kind_is k MapGo is)))
 
-  rr_own : (k : Kind) → rr_has k ≡ true → (f : Field) → stands_in k f.kind ≡ true → reset_stands k f
+  pub rr_own : (k : Kind) → rr_has k ≡ true → (f : Field) → stands_in k f.kind ≡ true → reset_stands k f
   rr_own k is f stands a h = sym (ap (λ l. stands_in l f.kind) (same_kind_is k MapRr is)) ∙ stands
 
   pub go_law : KeepsLaw go_has (map_too_deep has too_deep) (λ k. empty) (map_step has initial step) (map_made has initial made is_blank) (go_value value_of) (map_stamp stamp_of) (go_meaning has meaning) (map_names has names) (map_holds holds)
@@ -176,7 +182,7 @@ module _ {S E : Type 0} {has : Kind → Bool} {too_deep : Kind → List Field �
     flat = λ k p is out. absurd (true≢false (sym (ap is_map (same_kind_is k MapGo is)) ∙ out));
   }
 
-  undoes_nothing : (n : ℕ) (es : List (Field × S)) → list_all (λ e. is_blank e.1) es ≡ true → resets_of has made is_blank n es ≡ []
+  pub undoes_nothing : (n : ℕ) (es : List (Field × S)) → list_all (λ e. is_blank e.1) es ≡ true → resets_of has made is_blank n es ≡ []
   undoes_nothing n [] h = refl
   undoes_nothing n (e ∷ es) h =
       let two = and_parts (is_blank e.1) _ h in

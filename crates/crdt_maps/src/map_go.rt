@@ -4,6 +4,7 @@ ghost use Rattle.crdt_maps.specs.Maps.{go_has, map_step, map_made, map_stamp, ma
 ghost use Rattle.crdt_maps.specs.Meaning.{go_meaning};
 ghost use Rattle.crdt_maps.specs.EffectForm.{is_of_map, go_can_put, go_is_spelled, go_spelling, go_at, go_spells, go_stands};
 ghost use Rattle.crdt_maps.specs.MapLaws.{go_law, go_in_maps};
+ghost use Rattle.crdt_maps.specs.MapResets.{go_resets};
 
 use crate::effect_form::GoForm;
 use crate::made::{effect_of, leads_too_deep};
@@ -65,6 +66,8 @@ impl<I: Crdt> Crdt for MapGo<I> {
     ghost is_blank = { go_blank };
 
     ghost in_maps = { go_in_maps I.laws I.in_maps };
+
+    ghost resets = { go_resets I.laws I.in_maps I.resets };
 
     fn has(kind: Kind) -> bool {
         kind == Kind::MapGo

@@ -4,6 +4,7 @@ ghost use Rattle.crdt_maps.specs.Maps.{rr_has, map_step, map_made, map_stamp, ma
 ghost use Rattle.crdt_maps.specs.Meaning.{rr_meaning};
 ghost use Rattle.crdt_maps.specs.EffectForm.{is_of_map, rr_can_put, rr_is_spelled, rr_spelling, rr_at, rr_spells, rr_stands};
 ghost use Rattle.crdt_maps.specs.MapLaws.{rr_law, rr_in_maps};
+ghost use Rattle.crdt_maps.specs.MapResets.{rr_resets};
 
 use crate::effect_form::RrForm;
 use crate::made::{effect_of, leads_too_deep};
@@ -65,6 +66,8 @@ impl<I: Crdt> Crdt for MapRr<I> {
     ghost is_blank = { rr_blank I.is_blank };
 
     ghost in_maps = { rr_in_maps I.laws I.in_maps };
+
+    ghost resets = { rr_resets I.laws I.in_maps I.resets };
 
     fn has(kind: Kind) -> bool {
         kind == Kind::MapRr

@@ -25,7 +25,9 @@ use Rattle.crdt_core.specs.Stamps.{last_stamp, one_more, above_all, assigns_seen
 use Rattle.crdt_core.specs.History.{IsStamped, folded, effects, effect_after, state_after}
 use Rattle.crdt_core.specs.Law.{KeepsSteps, KeepsLaw, made_by, all_fit}
 use Rattle.crdt_core.specs.InMaps.{KeepsInMaps}
+use Rattle.crdt_core.specs.Resets.{ResetsWhatIsLeft}
 use Rattle.crdt_core.specs.Blank.{never_reset}
+use Rattle.crdt_core.specs.ResetsLaws.{never_resets}
 use Rattle.crdt_core.specs.Leaves.{IsLeaf, same_kind_is, first_fits, rest_fits}
 use Rattle.crdt_core.specs.Confluence.{confluence}
 use Rattle.crdt_core.specs.Texts.{text_cmp, text_cmp_total, text_cmp_exact}
@@ -224,3 +226,6 @@ lww_in_maps = record {
   shallow = λ k. refl;
   flat = λ k p has out. refl;
 }
+
+pub lww_resets : ResetsWhatIsLeft lww_has deep (λ k. None) lww_step lww_made unassigned lww_names
+lww_resets = never_resets RegisterLww refl

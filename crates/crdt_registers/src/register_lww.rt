@@ -4,7 +4,7 @@ ghost use Rattle.crdt_registers.specs.Meaning.{lww_meaning, word_of};
 ghost use Rattle.crdt_registers.specs.RegisterLww.{lww_has, lww_step, lww_made_on, lww_made, lww_stamp, lww_names, lww_holds, above, stands, unassigned};
 ghost use Rattle.crdt_registers.specs.EffectForm.{is_of_kind};
 ghost use Rattle.crdt_registers.specs.LwwForm.{can_put_lww, is_lww_spelled, lww_spelling, lww_at, lww_spells, lww_stands};
-ghost use Rattle.crdt_registers.specs.LwwLaw.{lww_law, lww_in_maps};
+ghost use Rattle.crdt_registers.specs.LwwLaw.{lww_law, lww_in_maps, lww_resets};
 
 use crate::assigned::{empty_text, is_before, text_of};
 use crate::lww_form::LwwForm;
@@ -50,6 +50,8 @@ impl Crdt for RegisterLww {
     ghost is_blank = { unassigned };
 
     ghost in_maps = { lww_in_maps };
+
+    ghost resets = { lww_resets };
 
     ghost is_of = { is_of_kind };
 

@@ -5,7 +5,7 @@ ghost use Rattle.crdt_registers.specs.Meaning.{mv_meaning};
 ghost use Rattle.crdt_registers.specs.RegisterMv.{mv_has, mv_step, mv_made, mv_value, mv_stamp, mv_names};
 ghost use Rattle.crdt_registers.specs.EffectForm.{is_of_kind};
 ghost use Rattle.crdt_registers.specs.MvForm.{can_put_mv, is_mv_spelled, mv_spelling, mv_at, mv_spells, mv_stands};
-ghost use Rattle.crdt_registers.specs.MvLaw.{mv_law, mv_in_maps};
+ghost use Rattle.crdt_registers.specs.MvLaw.{mv_law, mv_in_maps, mv_resets};
 
 use crate::MvEffect;
 use crate::mv_effect::effect_of;
@@ -50,6 +50,8 @@ impl Crdt for RegisterMv {
     ghost is_blank = { keeps_none };
 
     ghost in_maps = { mv_in_maps };
+
+    ghost resets = { mv_resets };
 
     ghost is_of = { is_of_kind };
 

@@ -12,7 +12,9 @@ use Rattle.crdt_core.specs.Seen.{Update}
 use Rattle.crdt_core.specs.History.{state_after}
 use Rattle.crdt_core.specs.Law.{KeepsSteps, KeepsLaw, made_by}
 use Rattle.crdt_core.specs.InMaps.{KeepsInMaps}
+use Rattle.crdt_core.specs.Resets.{ResetsWhatIsLeft}
 use Rattle.crdt_core.specs.Blank.{no_keys, empty_none, never_reset}
+use Rattle.crdt_core.specs.ResetsLaws.{never_resets}
 use Rattle.crdt_core.specs.Leaves.{IsLeaf, same_kind_is, no_stamp_due}
 use Rattle.crdt_core.specs.Confluence.{confluence}
 use Rattle.crdt_core.specs.Texts.{text_cmp, text_cmp_total, text_cmp_exact, same_text, is_in, ascending, in_ascending, is_marked, nothing_beside}
@@ -83,3 +85,6 @@ go_in_maps = record {
   shallow = λ k. refl;
   flat = λ k p has out. refl;
 }
+
+pub go_resets : ResetsWhatIsLeft go_has (λ k p. false) (λ k. empty) go_step go_made has_none go_names
+go_resets = never_resets SetGo refl

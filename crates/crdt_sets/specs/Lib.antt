@@ -7,5 +7,6 @@ pub mod MeaningLaws
 pub mod Ready
 pub mod RemovableLaws
 pub mod SetGo
+pub mod SetResets
 pub mod Sets
 pub mod TextCode

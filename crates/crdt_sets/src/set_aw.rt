@@ -5,6 +5,7 @@ ghost use Rattle.crdt_sets.specs.Elements.{keeps_dot, lacks_all};
 ghost use Rattle.crdt_sets.specs.Sets.{aw_has, aw_step, aw_value, kind_made, no_stamp, set_names};
 ghost use Rattle.crdt_sets.specs.EffectForm.{is_of_kind, can_put_set, is_set_spelled, set_spelling, set_at, set_spells, set_stands};
 ghost use Rattle.crdt_sets.specs.RemovableLaws.{aw_law, aw_in_maps};
+ghost use Rattle.crdt_sets.specs.SetResets.{aw_resets};
 
 use crate::effect::effect_of;
 use crate::effect_form::SetForm;
@@ -47,6 +48,8 @@ impl Crdt for SetAw {
     ghost is_blank = { lacks_all };
 
     ghost in_maps = { aw_in_maps };
+
+    ghost resets = { aw_resets };
 
     ghost is_of = { is_of_kind };
 

@@ -5,6 +5,7 @@ ghost use Rattle.crdt_sets.specs.Elements.{keeps_dot, lacks_all};
 ghost use Rattle.crdt_sets.specs.Sets.{rw_has, rw_step, rw_value, kind_made, no_stamp, set_names};
 ghost use Rattle.crdt_sets.specs.EffectForm.{is_of_kind, can_put_set, is_set_spelled, set_spelling, set_at, set_spells, set_stands};
 ghost use Rattle.crdt_sets.specs.RemovableLaws.{rw_law, rw_in_maps};
+ghost use Rattle.crdt_sets.specs.SetResets.{rw_resets};
 
 use crate::effect::effect_of;
 use crate::effect_form::SetForm;
@@ -47,6 +48,8 @@ impl Crdt for SetRw {
     ghost is_blank = { lacks_all };
 
     ghost in_maps = { rw_in_maps };
+
+    ghost resets = { rw_resets };
 
     ghost is_of = { is_of_kind };
 
