@@ -6,6 +6,7 @@ mod effect;
 mod effect_form;
 mod entry_form;
 mod fields;
+mod laws;
 mod made;
 mod map_go;
 mod map_rr;
@@ -14,6 +15,7 @@ mod values;
 
 pub use effect::MapEffect;
 pub use fields::Fields;
+pub use laws::law_resets;
 pub use map_go::MapGo;
 pub use map_rr::MapRr;
 

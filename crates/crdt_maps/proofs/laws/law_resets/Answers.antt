@@ -1,0 +1,5 @@
+use Rattle.crdt_maps.specs.MapResets.{each_names}
+use Rattle.crdt_maps.proofs.laws.law_resets.Goals as goal
+
+pub returns : goal.returns
+returns g c = let inner = g.I.Crdt in each_names inner.laws inner.in_maps inner.resets
