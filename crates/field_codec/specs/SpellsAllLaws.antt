@@ -56,20 +56,23 @@ any_text_spells = record {
   stand = λ t. ([], [], sym (append-nil (text t)), tt);
 }
 
-pub checked_spells : {V : Type 0} {fits is_spelled : V → Bool} {texts : V → List (List ℕ)} {spelling : V → List ℕ} (test : V → Bool) → SpellsAll fits is_spelled texts spelling → SpellsAll (λ v. test v && fits v) (λ v. test v && is_spelled v) texts spelling
+pub checked_spells : {V : Type 0} {fits is_spelled : V → Bool} {texts : V → List (List ℕ)} {spelling : V → List ℕ} (test : V → Bool)
+    → SpellsAll fits is_spelled texts spelling → SpellsAll (λ v. test v && fits v) (λ v. test v && is_spelled v) texts spelling
 checked_spells {fits = fits} {is_spelled = is_spelled} test s = record {
   spells = λ v h all. let p = both_true (test v) (fits v) h in ⊎_elim (λ is. inl (and_true (test v) (is_spelled v) p.0 is)) inr (s.spells v p.1 all);
   stand = s.stand;
 }
 
 -- behind bytes that are the same for all or that hold no text
-pub behind_spells : {V : Type 0} {fits is_spelled : V → Bool} {texts : V → List (List ℕ)} {spelling : V → List ℕ} (front : V → List ℕ) → SpellsAll fits is_spelled texts spelling → SpellsAll fits is_spelled texts (λ v. front v ++ spelling v)
+pub behind_spells : {V : Type 0} {fits is_spelled : V → Bool} {texts : V → List (List ℕ)} {spelling : V → List ℕ} (front : V → List ℕ)
+    → SpellsAll fits is_spelled texts spelling → SpellsAll fits is_spelled texts (λ v. front v ++ spelling v)
 behind_spells {texts = texts} {spelling} front s = record {
   spells = λ v h all. ⊎_elim inl (λ long. inr (too_long_behind (front v) (spelling v) long)) (s.spells v h all);
   stand = λ v. stand_behind (front v) (texts v) (spelling v) (s.stand v);
 }
 
-pub then_spells : {V W : Type 0} {fits1 spelled1 : V → Bool} {texts1 : V → List (List ℕ)} {spelling1 : V → List ℕ} {fits2 spelled2 : V → W → Bool} {texts2 : V → W → List (List ℕ)} {spelling2 : V → W → List ℕ}
+pub then_spells : {V W : Type 0} {fits1 spelled1 : V → Bool} {texts1 : V → List (List ℕ)} {spelling1 : V → List ℕ} {fits2 spelled2 : V → W → Bool}
+    {texts2 : V → W → List (List ℕ)} {spelling2 : V → W → List ℕ}
     → SpellsAll fits1 spelled1 texts1 spelling1 → ((v : V) → SpellsAll (fits2 v) (spelled2 v) (texts2 v) (spelling2 v))
     → SpellsAll {V = V × W} (λ x. fits1 x.0 && fits2 x.0 x.1) (λ x. spelled1 x.0 && spelled2 x.0 x.1) (λ x. texts1 x.0 ++ texts2 x.0 x.1) (λ x. spelling1 x.0 ++ spelling2 x.0 x.1)
 then_spells {fits1 = fits1} {spelled1} {texts1} {spelling1} {fits2} {spelled2} {texts2} {spelling2} first second = record {
@@ -89,7 +92,8 @@ pub mapped_spells : {V W : Type 0} {fits is_spelled : V → Bool} {texts : V →
 mapped_spells parts s = record { spells = λ w. s.spells (parts w); stand = λ w. s.stand (parts w) }
 
 -- the same texts told otherwise
-pub told_spells : {V : Type 0} {fits is_spelled : V → Bool} {texts : V → List (List ℕ)} {spelling : V → List ℕ} (told : V → List (List ℕ)) → ((v : V) → texts v ≡ told v) → SpellsAll fits is_spelled texts spelling → SpellsAll fits is_spelled told spelling
+pub told_spells : {V : Type 0} {fits is_spelled : V → Bool} {texts : V → List (List ℕ)} {spelling : V → List ℕ} (told : V → List (List ℕ))
+    → ((v : V) → texts v ≡ told v) → SpellsAll fits is_spelled texts spelling → SpellsAll fits is_spelled told spelling
 told_spells {spelling = spelling} told same s = record {
   spells = λ v h all. s.spells v h (ap (list_all is_text) (same v) ∙ all);
   stand = λ v. subst (λ ts. StandInTurn ts (spelling v)) (same v) (s.stand v);
@@ -97,7 +101,8 @@ told_spells {spelling = spelling} told same s = record {
 
 -- ---- lists
 
-module _ {V : Type 0} {fits is_spelled : V → Bool} {texts : V → List (List ℕ)} {spelling : V → List ℕ} (follows : V → V → Bool) (some : (v : V) → is_spelled v ≡ true → 0 < length (spelling v)) (member : SpellsAll fits is_spelled texts spelling) where
+module _ {V : Type 0} {fits is_spelled : V → Bool} {texts : V → List (List ℕ)} {spelling : V → List ℕ}
+    (follows : V → V → Bool) (some : (v : V) → is_spelled v ≡ true → 0 < length (spelling v)) (member : SpellsAll fits is_spelled texts spelling) where
   each_spells : (vs : List V) → list_all fits vs ≡ true → list_all is_text (flat_map texts vs) ≡ true → (list_all is_spelled vs ≡ true) ⊎ IsTooLong (flat_map spelling vs)
   each_spells [] h all = inl refl
   each_spells (v ∷ vs) h all =
