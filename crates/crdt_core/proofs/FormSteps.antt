@@ -10,8 +10,8 @@ use Rattle.field_codec.specs.FormLaws.{both_true, and_true, sorted_from_order, o
 use Rattle.site_vector.specs.declared.ids.Dot.{Dot}
 use Rattle.site_vector.specs.Order.{dot_cmp, dot_cmp_total}
 use Rattle.crdt_core.specs.DotSet.{IsAscending}
-use Rattle.crdt_core.specs.Spelled.{is_dot, are_dots, dots_at}
-use Rattle.crdt_core.specs.SpelledLaws.{dots_form}
+use Rattle.crdt_core.specs.Spelled.{is_dot, are_dots, ascend, dots_at}
+use Rattle.crdt_core.specs.SpelledLaws.{are_ascending, dots_form}
 
 pub gives_same : {A : Type 0} (r s : Result A TakeError) → r ≡ s → Gives r s
 gives_same {A} r s e = subst (λ t. Gives r t) e (itself r)
@@ -22,8 +22,8 @@ gives_same {A} r s e = subst (λ t. Gives r t) e (itself r)
     itself (Err (Bad at)) = refl
     itself (Err NoMemory) = tt
 
-pub dots_fit : (ds : List Dot) → list_all is_dot ds ≡ true → IsAscending ds → are_dots ds ≡ true
-dots_fit ds h up = and_true (are_in_order (is_below dot_cmp) None ds) (list_all is_dot ds) (order_from_sorted dot_cmp_total ds up) h
+pub dots_fit : (ds : List Dot) → are_dots ds ≡ true → IsAscending ds → are_ascending ds ≡ true
+dots_fit ds h up = and_true (ascend ds) (are_dots ds) (order_from_sorted dot_cmp_total ds up) h
 
 -- what is read as a list of updates ascends
 pub dots_ascend : (bytes : List ℕ) (at : ℕ) (r : Result (List Dot × ℕ) TakeError) → IsBytes bytes → at ≤ length bytes → Gives r (dots_at bytes at) → IfOk r (λ x. IsAscending x.0)

@@ -9,13 +9,13 @@ use Rattle.crdt_core.specs.declared.object.Field.{Field}
 use Rattle.crdt_core.specs.declared.operation.Act.{Act}
 use Rattle.crdt_core.specs.Seen.{is_reset}
 use Rattle.crdt_core.specs.Spelled.{is_dot}
+use Rattle.crdt_core.specs.Contents.{Content, pieces_of, sets_ascend}
 
 -- The effects of each kind that the type has are a form, and each that can be put has a spelling, but where that would be too
--- long; is_of: the effect is one of the kind; texts: those that stand in an effect's bytes.
-pub record SpellsEffects {E : Type 0} (has : Kind → Bool) (is_of : Kind → E → Bool) (can_put is_spelled : E → Bool) (spelling : E → List ℕ) (reading : Kind → List ℕ → ℕ → Read E) : Type 0 where
+-- long; is_of: the effect is one of the kind; contents: the texts and the sets of updates in an effect's bytes, in turn.
+pub record SpellsEffects {E : Type 0} (has : Kind → Bool) (is_of : Kind → E → Bool) (can_put is_spelled : E → Bool) (contents : E → List Content) (spelling : E → List ℕ) (reading : Kind → List ℕ → ℕ → Read E) : Type 0 where
   pub form : (k : Kind) → has k ≡ true → IsForm (λ e. is_of k e && can_put e) (λ e. is_of k e && is_spelled e) spelling (reading k)
-  pub texts : E → List (List ℕ)
-  pub all : SpellsAll can_put is_spelled texts spelling
+  pub all : SpellsAll can_put is_spelled (pieces_of contents) spelling
 
 -- each update that a state holds has a spelling
 abbrev pub HoldsSpelled : {S : Type 0} → (S → Dot → Bool) → S → Type 0
@@ -36,6 +36,9 @@ abbrev pub asks_reset : List Field → Act → Bool
 asks_reset [] a = is_reset a
 asks_reset (f ∷ p) a = false
 
--- an effect of the kind that can be put; that of a reset begins as the kind's resets do
-abbrev pub IsReady : {E : Type 0} → (Kind → E → Bool) → (E → Bool) → (E → List ℕ) → Kind → List Field → Act → E → Type 0
-IsReady is_of can_put spelling k p a e = (is_of k e ≡ true) × (can_put e ≡ true) × (asks_reset p a ≡ true → begins_with (reset_tag k) (spelling e) ≡ true)
+-- an effect of the kind that can be put, whose sets of updates ascend; that of a reset begins as the kind's resets do
+pub record IsReady {E : Type 0} (is_of : Kind → E → Bool) (can_put : E → Bool) (contents : E → List Content) (spelling : E → List ℕ) (k : Kind) (p : List Field) (a : Act) (e : E) : Type 0 where
+  pub kind : is_of k e ≡ true
+  pub fit : can_put e ≡ true
+  pub sets : sets_ascend (contents e) ≡ true
+  pub opened : asks_reset p a ≡ true → begins_with (reset_tag k) (spelling e) ≡ true

@@ -2,6 +2,8 @@ pub mod Seen
 pub mod Live
 pub mod Blank
 pub mod Confluence
+pub mod Contents
+pub mod ContentsLaws
 pub mod DotCode
 pub mod DotSet
 pub mod EffectForm

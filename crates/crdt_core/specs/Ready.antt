@@ -1,20 +1,19 @@
 -- What a state holds is what its generated effects name, so these can be put where all that it holds has a spelling.
 use Rattle.std.proofs.Common.{◌≡◌, Bool, true, false, List, [], ◌∷◌, refl, sym, ◌∙◌, subst, T, None}
 use Rattle.std.specs.Prelude.{map}
-use Rattle.std.specs.List.{list_all}
 use Rattle.std.specs.declared.cmp.Ordering.{Ordering}
 use Rattle.std.specs.FinMap.{FinMap, keys, entries, entries_sorted, is_sorted}
 use Rattle.std.specs.FinMap.Entries.{below_all}
 use Rattle.std.proofs.lemmas.Bool.{or_left, or_right}
 use Rattle.site_vector.specs.declared.ids.Dot.{Dot}
 use Rattle.site_vector.specs.Ids.{same_dot}
-use Rattle.site_vector.specs.Order.{dot_cmp, same_dot_refl}
+use Rattle.site_vector.specs.Order.{same_dot_refl}
 use Rattle.field_codec.specs.Spelling.{are_in_order, is_below}
 use Rattle.field_codec.specs.FormLaws.{both_true, and_true}
 use Rattle.crdt_core.specs.DotSet.{has_dot}
 use Rattle.crdt_core.specs.Kept.{KeptAt, dots_of, is_kept}
 use Rattle.crdt_core.specs.KeptSteps.{has_dots_of}
-use Rattle.crdt_core.specs.Spelled.{is_dot, are_dots}
+use Rattle.crdt_core.specs.Spelled.{is_dot, are_dots, ascend}
 use Rattle.crdt_core.specs.EffectForm.{HoldsSpelled}
 
 is_true : (b : Bool) → T b → b ≡ true
@@ -33,9 +32,12 @@ keys_ordered R (e ∷ f ∷ es) h =
 pub keys_in_order : {K X : Type 0} {R : K → K → Ordering} (m : FinMap R X) → are_in_order (is_below R) None (keys m) ≡ true
 keys_in_order {R = R} m = keys_ordered R (entries m) (entries_sorted m)
 
-members_spelled : (ds : List Dot) → ((d : Dot) → has_dot ds d ≡ true → is_dot d ≡ true) → list_all is_dot ds ≡ true
+members_spelled : (ds : List Dot) → ((d : Dot) → has_dot ds d ≡ true → is_dot d ≡ true) → are_dots ds ≡ true
 members_spelled [] h = refl
-members_spelled (d ∷ ds) h = and_true (is_dot d) (list_all is_dot ds) (h d (or_left (same_dot d d) (has_dot ds d) (same_dot_refl d))) (members_spelled ds (λ x m. h x (or_right (same_dot x d) (has_dot ds x) m)))
+members_spelled (d ∷ ds) h = and_true (is_dot d) (are_dots ds) (h d (or_left (same_dot d d) (has_dot ds d) (same_dot_refl d))) (members_spelled ds (λ x m. h x (or_right (same_dot x d) (has_dot ds x) m)))
 
 pub kept_spelled : {V : Type 0} (s : KeptAt V) → HoldsSpelled is_kept s → are_dots (dots_of s) ≡ true
-kept_spelled s h = and_true (are_in_order (is_below dot_cmp) None (dots_of s)) (list_all is_dot (dots_of s)) (keys_in_order s) (members_spelled (dots_of s) (λ d m. h d (sym (has_dots_of s d) ∙ m)))
+kept_spelled s h = members_spelled (dots_of s) (λ d m. h d (sym (has_dots_of s d) ∙ m))
+
+pub kept_ascend : {V : Type 0} (s : KeptAt V) → ascend (dots_of s) ≡ true
+kept_ascend s = keys_in_order s

@@ -1,8 +1,9 @@
 -- How transactions, updates, vectors and objects are spelled, and what reading them answers.
 use Rattle.std.specs.Prelude.{ℕ, ◌^◌, Bool, true, ◌&&◌, ◌==◌, nat_le, List, ◌++◌, length, None, if◌then◌else◌}
 use Rattle.std.specs.List.{flat_map, list_all}
-use Rattle.field_codec.specs.Spelling.{number, is_number, text, is_text, list, is_list, is_below, are_members}
+use Rattle.field_codec.specs.Spelling.{number, is_number, text, is_text, list, is_list, is_below, are_in_order}
 use Rattle.field_codec.specs.Reading.{Read, number_at, text_at, list_at, members_at, checked_at, then_at, mapped_at}
+use Rattle.field_codec.specs.Lawful.{Piece}
 use Rattle.site_vector.specs.declared.ids.TxId.{TxId}
 use Rattle.site_vector.specs.declared.ids.Dot.{Dot}
 use Rattle.site_vector.specs.Order.{dot_cmp}
@@ -47,8 +48,13 @@ dot_at = mapped_at dot_of (then_at tx_at (λ _. between_at 2 1 256))
 
 -- ---- ascending lists of updates
 
+-- each has a spelling
 abbrev pub are_dots : List Dot → Bool
-are_dots ds = are_members (is_below dot_cmp) is_dot ds
+are_dots ds = list_all is_dot ds
+
+-- each is below the next, as in each `Dots`
+abbrev pub ascend : List Dot → Bool
+ascend ds = are_in_order (is_below dot_cmp) None ds
 
 abbrev pub is_dots : List Dot → Bool
 is_dots ds = is_list (is_below dot_cmp) is_dot ds
@@ -58,6 +64,10 @@ dots ds = list dot ds
 
 abbrev pub dots_at : List ℕ → ℕ → Read (List Dot)
 dots_at = list_at (is_below dot_cmp) dot_at
+
+-- a contract sees a set of updates as a list
+abbrev pub set_piece : List Dot → Piece
+set_piece ds = record { holds = ascend ds; bytes = dots ds }
 
 -- ---- the width, the entries
 

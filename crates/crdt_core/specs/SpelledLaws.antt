@@ -8,9 +8,10 @@ use Rattle.field_codec.specs.declared.error.TakeError.{TakeError}
 use Rattle.field_codec.specs.declared.error.TakeError.TheVariants.{Bad}
 use Rattle.std.specs.List.{flat_map, list_all}
 use Rattle.std.proofs.lemmas.Bool.{eqb-true, eq-eqb}
+use Rattle.std.proofs.lemmas.List.{append-nil}
 use Rattle.field_codec.specs.Spelling.{number, is_number, text, is_text, are_in_order, are_members, is_below}
 use Rattle.field_codec.specs.Reading.{Read, number_at, text_at, members_at, checked_at, then_at, mapped_at}
-use Rattle.field_codec.specs.Lawful.{IsForm, SpellsAll}
+use Rattle.field_codec.specs.Lawful.{Piece, IsForm, SpellsAll}
 use Rattle.field_codec.specs.Refusals.{some_spelled}
 use Rattle.field_codec.specs.SpellsAllLaws.{alike_spells, told_spells, list_spells}
 use Rattle.field_codec.specs.FormLaws.{number_form, IsWidth, width1, width2, width8, text_form, list_form, members_form, checked_form, then_form, mapped_form, both_true, and_true, le_from, le_holds, lt_holds}
@@ -19,7 +20,7 @@ use Rattle.site_vector.specs.Order.{dot_cmp}
 use Rattle.crdt_core.specs.declared.kind.Kind.{Kind}
 use Rattle.crdt_core.specs.declared.kind.Kind.TheVariants.{CounterPn, CounterFat, SetGo, SetAw, SetRw, FlagEw, FlagDw, RegisterLww, RegisterMv, MapGo, MapRr}
 use Rattle.crdt_core.specs.Kinds.{kind_code}
-use Rattle.crdt_core.specs.Spelled.{is_between, between_at, is_tx, tx, tx_of, tx_at, is_dot, dot, dot_of, dot_at, are_dots, is_dots, dots, dots_at, vector, is_vector, vector_at, kind, coded_kind, kind_at, is_object, object, object_of, object_at}
+use Rattle.crdt_core.specs.Spelled.{is_between, between_at, is_tx, tx, tx_of, tx_at, is_dot, dot, dot_of, dot_at, are_dots, ascend, is_dots, dots, dots_at, set_piece, vector, is_vector, vector_at, kind, coded_kind, kind_at, is_object, object, object_of, object_at}
 
 -- a number within bounds that its bytes can spell
 pub between_form : (width least most : ℕ) → IsWidth width → most < 256 ^ width → IsForm (is_between least most) (is_between least most) (number width) (between_at width least most)
@@ -52,19 +53,39 @@ dot_form =
     let whole = then_form is_tx is_tx tx tx_at (λ _. is_between 1 256) (λ _. is_between 1 256) (λ _. number 2) (λ _. between_at 2 1 256) tx_form (λ _ _. between_form 2 1 256 width2 (omega arith)) in
     mapped_form dot_of (λ d. (d.tx, d.index)) _ _ _ _ (λ _. refl) (λ _ _. refl) whole
 
-pub dots_form : IsForm are_dots is_dots dots dots_at
+-- whether a list of updates can be put, and ascends
+abbrev pub are_ascending : List Dot → Bool
+are_ascending ds = are_members (is_below dot_cmp) is_dot ds
+
+pub dots_form : IsForm are_ascending is_dots dots dots_at
 dots_form = list_form (is_below dot_cmp) is_dot is_dot dot dot_at dot_form
 
-abbrev no_texts_of : Dot → List (List ℕ)
-no_texts_of d = []
+-- the same for what puts a set, which ascends: only the bounds of its members are asked for
+pub dots_held_form : IsForm are_dots is_dots dots dots_at
+dots_held_form = record {
+  found = dots_form.found;
+  again = dots_form.again;
+  fit = λ ds good. (both_true (ascend ds) (are_dots ds) (dots_form.fit ds good)).1;
+  ends = dots_form.ends;
+  tells = dots_form.tells;
+}
 
-no_texts : (ds : List Dot) → flat_map no_texts_of ds ≡ []
-no_texts [] = refl
-no_texts (d ∷ ds) = no_texts ds
+abbrev no_pieces_of : Dot → List Piece
+no_pieces_of d = []
+
+no_pieces : (ds : List Dot) → flat_map no_pieces_of ds ≡ []
+no_pieces [] = refl
+no_pieces (d ∷ ds) = no_pieces ds
 
 -- which have a spelling, but where there are too many
-pub dots_spell : SpellsAll are_dots is_dots (λ _. []) dots
-dots_spell = told_spells (λ _. []) no_texts (list_spells (is_below dot_cmp) (λ d good. some_spelled dot_form d (dot d) good refl) (alike_spells is_dot dot))
+pub dots_spell : SpellsAll are_dots is_dots (λ ds. set_piece ds ∷ []) dots
+dots_spell =
+    let law = told_spells (λ _. []) no_pieces (list_spells (is_below dot_cmp) (λ d good. some_spelled dot_form d (dot d) good refl) (alike_spells is_dot dot)) in
+    record {
+      spells = λ ds h all. law.spells ds (and_true (ascend ds) (are_dots ds) (both_true (ascend ds) true all).0 h) refl;
+      held = λ ds good. and_true (ascend ds) true (both_true (ascend ds) (are_dots ds) (dots_form.fit ds good)).0 refl;
+      stand = λ ds. ([], [], sym (append-nil (dots ds)), tt);
+    }
 
 -- the same test told otherwise
 retold : {V : Type 0} (fits is_spelled told : V → Bool) (spelling : V → List ℕ) (reading : List ℕ → ℕ → Read V) → ((v : V) → is_spelled v ≡ told v) → IsForm fits is_spelled spelling reading → IsForm told told spelling reading

@@ -1,7 +1,8 @@
--- Where the spelling of an update stands in bytes, and what that says of an effect.
+-- Where the spelling of an update stands in bytes, and which updates an effect names.
 use Rattle.std.specs.Prelude.{◌≡◌, ℕ, Bool, true, List, ◌++◌}
 use Rattle.site_vector.specs.declared.ids.Dot.{Dot}
 use Rattle.crdt_core.specs.Spelled.{dot}
+use Rattle.crdt_core.specs.Contents.{Content, have_update}
 
 -- it is a part of them
 pub record StandsIn (d : Dot) (bytes : List ℕ) : Type 0 where
@@ -9,6 +10,7 @@ pub record StandsIn (d : Dot) (bytes : List ℕ) : Type 0 where
   pub back : List ℕ
   pub whole : bytes ≡ front ++ (dot d ++ back)
 
--- each update that an effect names stands in its bytes
-pub record NamesStand {E : Type 0} (can_put : E → Bool) (names : E → Dot → Bool) (spelling : E → List ℕ) : Type 0 where
+-- An effect names exactly the members of the sets in its bytes, and each of these stands there.
+pub record NamesStand {E : Type 0} (can_put : E → Bool) (names : E → Dot → Bool) (contents : E → List Content) (spelling : E → List ℕ) : Type 0 where
+  pub exact : (e : E) (d : Dot) → can_put e ≡ true → names e d ≡ have_update (contents e) d
   pub stands : (e : E) (d : Dot) → can_put e ≡ true → names e d ≡ true → StandsIn d (spelling e)

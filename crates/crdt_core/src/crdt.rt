@@ -12,6 +12,7 @@ ghost use Rattle.crdt_core.specs.InMaps.{KeepsInMaps};
 ghost use Rattle.crdt_core.specs.Resets.{ResetsWhatIsLeft};
 ghost use Rattle.crdt_core.specs.Law.{KeepsLaw};
 ghost use Rattle.crdt_core.specs.EffectForm.{SpellsEffects, HoldsSpelled, IsReady};
+ghost use Rattle.crdt_core.specs.Contents.{Content};
 ghost use Rattle.crdt_core.specs.Stands.{NamesStand};
 
 use crate::{Act, Field, GenError, Kind, Op, Value};
@@ -80,6 +81,9 @@ pub trait Crdt {
     /// What has a spelling: of what can be put, that in which no list is too long to be counted.
     ghost is_spelled: { Self.Effect → Bool };
 
+    /// The texts and the sets of updates that stand in an effect's bytes, in turn.
+    ghost contents: { Self.Effect → List Content };
+
     /// The bytes of an effect.
     ghost spelling: { Self.Effect → List ℕ };
 
@@ -87,10 +91,10 @@ pub trait Crdt {
     ghost reading: { Kind → List ℕ → ℕ → Read Self.Effect };
 
     /// Each effect is spelled in one way, and none begins another of its kind.
-    ghost spells: { SpellsEffects has is_of can_put is_spelled spelling reading };
+    ghost spells: { SpellsEffects has is_of can_put is_spelled contents spelling reading };
 
-    /// An effect names no other updates than such as stand in its bytes.
-    ghost stands: { NamesStand can_put names spelling };
+    /// An effect names exactly the updates in the sets that stand in its bytes.
+    ghost stands: { NamesStand can_put names contents spelling };
 
     /// Whether the type has the kind. Takes no memory.
     fn has(kind: Kind) -> bool
@@ -131,7 +135,7 @@ pub trait Crdt {
         now: u64,
     ) -> Result<Self::Effect, GenError>
         ensures made { IfOk result (λ e. e ≡ made kind state.now path.now act.now now) }
-        ensures ready { has kind ≡ true → HoldsSpelled holds state.now → IfOk result (λ e. IsReady is_of can_put spelling kind path.now act.now e) }
+        ensures ready { has kind ≡ true → HoldsSpelled holds state.now → IfOk result (λ e. IsReady is_of can_put contents spelling kind path.now act.now e) }
         ensures fitting { OnOk result ((fits kind path.now act.now ≡ true) × (too_deep kind path.now ≡ false)) }
         ensures too_deep { (result ≡ Err GenError.TooDeep) ↔ (too_deep kind path.now ≡ true) }
         ensures bad_op { (result ≡ Err GenError.BadOp) ↔ ((fits kind path.now act.now ≡ false) × (too_deep kind path.now ≡ false)) };

@@ -26,7 +26,7 @@ impl Form for DotForm {
 
     ghost spelling = { λ _ d. dot d };
 
-    ghost texts = { λ _ d. [] };
+    ghost pieces = { λ _ d. [] };
 
     ghost reading = { λ _ bytes at. dot_at bytes at };
 

@@ -19,7 +19,7 @@ impl Form for AmountForm {
 
     ghost spelling = { λ _ n. amount_spelling n };
 
-    ghost texts = { λ _ n. [] };
+    ghost pieces = { λ _ n. [] };
 
     ghost reading = { λ _ bytes at. amount_at bytes at };
 

@@ -2,7 +2,8 @@ ghost use Rattle.std.specs.Prelude.{◌≡◌, ◌≤◌, ◌++◌, [], true, le
 ghost use Rattle.field_codec.specs.Spelling.{number, Keeps};
 ghost use Rattle.field_codec.specs.Reading.{Gives};
 ghost use Rattle.crdt_core.specs.Spelled.{are_dots, is_dots, dots as dots_spelling};
-ghost use Rattle.crdt_counters.specs.EffectForm.{can_put_fat, is_fat_spelled, fat_spelling, fat_at, fat_form, fat_all, amount_spelling};
+ghost use Rattle.crdt_core.specs.Contents.{pieces_of};
+ghost use Rattle.crdt_counters.specs.EffectForm.{can_put_fat, fat_contents, is_fat_spelled, fat_spelling, fat_at, fat_form, fat_all, amount_spelling};
 
 use crate::FatEffect;
 use crate::amount_form::{put_amount, take_amount};
@@ -23,7 +24,7 @@ impl Form for FatForm {
 
     ghost spelling = { λ _ e. fat_spelling e };
 
-    ghost texts = { λ _ e. [] };
+    ghost pieces = { λ _ e. pieces_of fat_contents e };
 
     ghost reading = { λ _ bytes at. fat_at bytes at };
 

@@ -5,11 +5,17 @@ use Rattle.crdt_core.specs.declared.kind.Kind.{Kind}
 use Rattle.crdt_core.specs.declared.object.Field.{Field}
 use Rattle.crdt_core.specs.declared.operation.Act.{Act}
 use Rattle.crdt_core.specs.declared.operation.Act.TheVariants as act
-use Rattle.crdt_core.specs.Kept.{KeptAt, is_kept}
+use Rattle.field_codec.specs.FormLaws.{and_true}
+use Rattle.crdt_core.specs.Kept.{KeptAt, dots_of, is_kept}
+use Rattle.crdt_core.specs.Spelled.{ascend}
 use Rattle.crdt_core.specs.EffectForm.{HoldsSpelled, IsReady, reset_tag, begins_with, asks_reset}
-use Rattle.crdt_core.specs.Ready.{kept_spelled}
+use Rattle.crdt_core.specs.Ready.{kept_spelled, kept_ascend}
+use Rattle.crdt_core.specs.Contents.{Updates, sets_ascend}
 use Rattle.crdt_flags.specs.Flags.{flag_made}
-use Rattle.crdt_flags.specs.EffectForm.{is_of_kind, can_put_flag, flag_spelling}
+use Rattle.crdt_flags.specs.EffectForm.{is_of_kind, can_put_flag, flag_contents, flag_spelling}
+
+one_set : (s : KeptAt Bool) → sets_ascend (Updates (dots_of s) ∷ []) ≡ true
+one_set s = and_true (ascend (dots_of s)) true (kept_ascend s) refl
 
 can_put_made : (s : KeptAt Bool) (a : Act) → HoldsSpelled is_kept s → can_put_flag (flag_made s a) ≡ true
 can_put_made s act.Enable h = kept_spelled s h
@@ -17,11 +23,22 @@ can_put_made s act.Disable h = kept_spelled s h
 can_put_made s act.Reset h = kept_spelled s h
 can_put_made s _ h = refl
 
+set_made : (s : KeptAt Bool) (a : Act) → sets_ascend (flag_contents (flag_made s a)) ≡ true
+set_made s act.Enable = one_set s
+set_made s act.Disable = one_set s
+set_made s act.Reset = one_set s
+set_made s _ = refl
+
 reset_made : (s : KeptAt Bool) (p : List Field) (a : Act) → asks_reset p a ≡ true → begins_with 2 (flag_spelling (flag_made s a)) ≡ true
 reset_made s [] act.Reset h = refl
 reset_made s [] _ h = absurd (false≢true h)
 reset_made s (f ∷ p) a h = absurd (false≢true h)
 
 -- for the kinds whose reset is marked by 2, as both flags are
-pub flag_ready : (k : Kind) → reset_tag k ≡ 2 → (s : KeptAt Bool) (p : List Field) (a : Act) → HoldsSpelled is_kept s → IsReady is_of_kind can_put_flag flag_spelling k p a (flag_made s a)
-flag_ready k tag s p a h = (refl, can_put_made s a h, λ asked. subst (λ n. begins_with n (flag_spelling (flag_made s a)) ≡ true) (sym tag) (reset_made s p a asked))
+pub flag_ready : (k : Kind) → reset_tag k ≡ 2 → (s : KeptAt Bool) (p : List Field) (a : Act) → HoldsSpelled is_kept s → IsReady is_of_kind can_put_flag flag_contents flag_spelling k p a (flag_made s a)
+flag_ready k tag s p a h = record {
+  kind = refl;
+  fit = can_put_made s a h;
+  sets = set_made s a;
+  opened = λ asked. subst (λ n. begins_with n (flag_spelling (flag_made s a)) ≡ true) (sym tag) (reset_made s p a asked);
+}

@@ -2,7 +2,8 @@ ghost use Rattle.std.specs.Prelude.{◌≡◌, ◌≤◌, ◌++◌, [], true, le
 ghost use Rattle.field_codec.specs.Spelling.{number, Keeps};
 ghost use Rattle.field_codec.specs.Reading.{Gives};
 ghost use Rattle.crdt_core.specs.Spelled.{are_dots, is_dots, dots as dots_spelling};
-ghost use Rattle.crdt_flags.specs.EffectForm.{flag_mark, marked_flag, can_put_flag, is_flag_spelled, flag_spelling, flag_at, flag_form, flag_all};
+ghost use Rattle.crdt_core.specs.Contents.{pieces_of};
+ghost use Rattle.crdt_flags.specs.EffectForm.{flag_mark, marked_flag, can_put_flag, flag_contents, is_flag_spelled, flag_spelling, flag_at, flag_form, flag_all};
 
 use crate::FlagEffect;
 use crdt_core::{Dots, put_dots, take_dots, take_small};
@@ -22,7 +23,7 @@ impl Form for FlagForm {
 
     ghost spelling = { λ _ e. flag_spelling e };
 
-    ghost texts = { λ _ e. [] };
+    ghost pieces = { λ _ e. pieces_of flag_contents e };
 
     ghost reading = { λ _ bytes at. flag_at bytes at };
 

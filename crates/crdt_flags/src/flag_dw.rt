@@ -3,7 +3,7 @@ ghost use Rattle.std.specs.FinMap.{empty};
 ghost use Rattle.crdt_core.specs.Kept.{is_kept, keeps_none};
 ghost use Rattle.crdt_flags.specs.Meaning.{dw_meaning};
 ghost use Rattle.crdt_flags.specs.Flags.{dw_has, dw_step, dw_value, kind_made, no_stamp, flag_names};
-ghost use Rattle.crdt_flags.specs.EffectForm.{is_of_kind, can_put_flag, is_flag_spelled, flag_spelling, flag_at, flag_spells, flag_stands};
+ghost use Rattle.crdt_flags.specs.EffectForm.{is_of_kind, can_put_flag, is_flag_spelled, flag_contents, flag_spelling, flag_at, flag_spells, flag_stands};
 ghost use Rattle.crdt_flags.specs.FlagLaws.{dw_law, dw_in_maps, dw_resets};
 
 use crate::FlagEffect;
@@ -56,6 +56,8 @@ impl Crdt for FlagDw {
     ghost can_put = { can_put_flag };
 
     ghost is_spelled = { is_flag_spelled };
+
+    ghost contents = { flag_contents };
 
     ghost spelling = { flag_spelling };
 

@@ -1,6 +1,7 @@
 ghost use Rattle.std.specs.Prelude.{◌≡◌, ◌≤◌, ◌∷◌, [], true, length, IfOk};
 ghost use Rattle.field_codec.specs.Reading.{Gives};
-ghost use Rattle.crdt_registers.specs.LwwForm.{can_put_lww, is_lww_spelled, lww_spelling, lww_at, lww_form, lww_all};
+ghost use Rattle.crdt_core.specs.Contents.{pieces_of};
+ghost use Rattle.crdt_registers.specs.LwwForm.{can_put_lww, lww_contents, is_lww_spelled, lww_spelling, lww_at, lww_form, lww_all};
 
 use crate::Assigned;
 use crate::register_lww::LAST_STAMP;
@@ -20,7 +21,7 @@ impl Form for LwwForm {
 
     ghost spelling = { λ _ e. lww_spelling e };
 
-    ghost texts = { λ _ e. e.text ∷ [] };
+    ghost pieces = { λ _ e. pieces_of lww_contents e };
 
     ghost reading = { λ _ bytes at. lww_at bytes at };
 

@@ -1,13 +1,13 @@
 -- The bytes of sets' effects: elements in ascending order, and where they can be removed, what is done and the dots of each.
 use Rattle.std.specs.Prelude.{◌≡◌, ℕ, zero, suc, ◌^◌, ◌==◌, ◌⊎◌, Bool, true, false, ◌&&◌, eqb, nat_le, List, [], ◌∷◌, ◌++◌, if◌then◌else◌, refl}
-use Rattle.std.proofs.Common.{ap, arith}
+use Rattle.std.proofs.Common.{sym, ap, ◌∙◌, arith}
 use Rattle.std.specs.Prelude.{map}
-use Rattle.std.specs.List.{flat_map, list_all}
+use Rattle.std.specs.List.{flat_map, list_any}
 use Rattle.std.proofs.lemmas.Bool.{false≢true}
 use Rattle.std.specs.declared.cmp.Ordering.{Ordering}
 use Rattle.field_codec.specs.Spelling.{number, is_number, text, is_text, list, are_members, is_list, is_below}
 use Rattle.field_codec.specs.Reading.{Read, text_at, list_at, checked_at, then_at, mapped_at}
-use Rattle.field_codec.specs.Lawful.{IsTooLong, StandInTurn, IsForm, SpellsAll}
+use Rattle.field_codec.specs.Lawful.{IsTooLong, text_piece, all_hold, StandInTurn, IsForm, SpellsAll}
 use Rattle.field_codec.specs.Refusals.{some_spelled}
 use Rattle.field_codec.specs.SpellsAllLaws.{any_text_spells, checked_spells, behind_spells, then_spells, mapped_spells, told_spells, list_spells}
 use Rattle.field_codec.specs.FormLaws.{any_text_form, list_form, checked_form, then_form, mapped_form, lt_holds, le_from, both_true}
@@ -16,11 +16,13 @@ use Rattle.site_vector.specs.declared.ids.Dot.{Dot}
 use Rattle.crdt_core.specs.declared.kind.Kind.{Kind}
 use Rattle.crdt_core.specs.Texts.{text_cmp}
 use Rattle.crdt_core.specs.Spelled.{is_between, are_dots, is_dots, dots, dots_at}
-use Rattle.crdt_core.specs.SpelledLaws.{dots_form, dots_spell}
+use Rattle.crdt_core.specs.SpelledLaws.{dots_held_form, dots_spell}
+use Rattle.crdt_core.specs.Contents.{Content, Words, Updates, pieces_of, have_update}
+use Rattle.crdt_core.specs.ContentsLaws.{or_none, pieces_each, update_each}
 use Rattle.crdt_core.specs.EffectForm.{SpellsEffects}
 use Rattle.crdt_core.specs.DotSet.{has_dot}
-use Rattle.crdt_core.specs.Stands.{StandsIn, NamesStand}
-use Rattle.crdt_core.specs.StandsLaws.{stands_behind, stands_in_list, dots_stand, all_pass, none_stand}
+use Rattle.crdt_core.specs.Stands.{NamesStand}
+use Rattle.crdt_core.specs.StandsLaws.{names_stand}
 use Rattle.crdt_sets.specs.Elements.{names_dot}
 use Rattle.crdt_sets.specs.SetGo.{go_names}
 use Rattle.crdt_sets.specs.Sets.{set_names}
@@ -50,12 +52,15 @@ pub texts_form : IsForm can_put_texts are_texts_spelled texts_spelling texts_at
 unfolding texts_at
 texts_form = checked_form has_some _ _ _ _ (list_form (is_below text_cmp) (λ t. true) is_text text text_at any_text_form)
 
-pub texts_all : SpellsAll can_put_texts are_texts_spelled (λ ts. ts) texts_spelling
-texts_all = told_spells (λ ts. ts) each (checked_spells has_some (list_spells (is_below text_cmp) (λ t good. some_spelled any_text_form t (text t) good refl) any_text_spells))
+abbrev pub texts_contents : List (List ℕ) → List Content
+texts_contents ts = map Words ts
+
+pub texts_all : SpellsAll can_put_texts are_texts_spelled (pieces_of texts_contents) texts_spelling
+texts_all = told_spells (pieces_of texts_contents) each (checked_spells has_some (list_spells (is_below text_cmp) (λ t good. some_spelled any_text_form t (text t) good refl) any_text_spells))
   where
-    each : (ts : List (List ℕ)) → flat_map (λ (t : List ℕ). t ∷ []) ts ≡ ts
+    each : (ts : List (List ℕ)) → flat_map (λ (t : List ℕ). text_piece t ∷ []) ts ≡ pieces_of texts_contents ts
     each [] = refl
-    each (t ∷ ts) = ap (λ l. t ∷ l) (each ts)
+    each (t ∷ ts) = ap (λ l. text_piece t ∷ l) (each ts)
 
 -- ---- an element with its dots
 
@@ -77,10 +82,13 @@ named_at = mapped_at named_of (then_at text_at (λ _. dots_at))
 pub named_form : IsForm (λ n. are_dots n.dots) is_named named named_at
 unfolding named_at
 named_form =
-    let whole = then_form (λ t. true) is_text text text_at (λ _. are_dots) (λ _. is_dots) (λ _. dots) (λ _. dots_at) any_text_form (λ _ _. dots_form) in
+    let whole = then_form (λ t. true) is_text text text_at (λ _. are_dots) (λ _. is_dots) (λ _. dots) (λ _. dots_at) any_text_form (λ _ _. dots_held_form) in
     mapped_form named_of (λ n. (n.text, n.dots)) _ _ _ _ (λ _. refl) (λ _ _. refl) whole
 
-pub named_all : SpellsAll (λ n. are_dots n.dots) is_named (λ n. n.text ∷ []) named
+abbrev pub named_contents : Named → List Content
+named_contents n = Words n.text ∷ Updates n.dots ∷ []
+
+pub named_all : SpellsAll (λ n. are_dots n.dots) is_named (pieces_of named_contents) named
 named_all = mapped_spells (λ n. (n.text, n.dots)) (then_spells any_text_spells (λ _. dots_spell))
 
 -- ---- ascending lists of these
@@ -100,15 +108,12 @@ named_list_at = list_at (is_below named_cmp) named_at
 pub named_list_form : IsForm can_put_list is_list_spelled list_spelling named_list_at
 named_list_form = list_form (is_below named_cmp) (λ n. are_dots n.dots) is_named named named_at named_form
 
-abbrev pub texts_of : List Named → List (List ℕ)
-texts_of ns = map (λ n. n.text) ns
+abbrev pub list_contents : List Named → List Content
+list_contents ns = flat_map named_contents ns
 
-pub named_list_all : SpellsAll can_put_list is_list_spelled texts_of list_spelling
-named_list_all = told_spells texts_of each (list_spells (is_below named_cmp) (λ n good. some_spelled named_form n (named n) good refl) named_all)
-  where
-    each : (ns : List Named) → flat_map (λ (n : Named). n.text ∷ []) ns ≡ texts_of ns
-    each [] = refl
-    each (n ∷ ns) = ap (λ l. n.text ∷ l) (each ns)
+pub named_list_all : SpellsAll can_put_list is_list_spelled (pieces_of list_contents) list_spelling
+named_list_all =
+    told_spells (pieces_of list_contents) (pieces_each named_contents) (list_spells (is_below named_cmp) (λ n good. some_spelled named_form n (named n) good refl) named_all)
 
 pub some_named_form : IsForm (λ ns. has_some ns && can_put_list ns) (λ ns. has_some ns && is_list_spelled ns) list_spelling (checked_at has_some named_list_at)
 some_named_form = checked_form has_some can_put_list is_list_spelled list_spelling named_list_at named_list_form
@@ -181,50 +186,59 @@ pub set_form : IsForm can_put_set is_set_spelled set_spelling set_at
 unfolding set_at
 set_form = tagged_form (is_between 0 2) set_mark can_put_set is_set_spelled set_rest set_rest_at known small rest_form
 
-abbrev pub set_texts : SetEffect → List (List ℕ)
-set_texts (Add ns) = texts_of ns
-set_texts (Remove ns) = texts_of ns
-set_texts (Reset ns) = texts_of ns
+abbrev pub set_contents : SetEffect → List Content
+set_contents (Add ns) = list_contents ns
+set_contents (Remove ns) = list_contents ns
+set_contents (Reset ns) = list_contents ns
 
-rest_all : SpellsAll can_put_set is_set_spelled set_texts set_rest
-rest_all = record { spells = by; stand = stand }
+rest_all : SpellsAll can_put_set is_set_spelled (pieces_of set_contents) set_rest
+rest_all = record { spells = by; held = held; stand = stand }
   where
-    some : SpellsAll (λ ns. has_some ns && can_put_list ns) (λ ns. has_some ns && is_list_spelled ns) texts_of list_spelling
+    some : SpellsAll (λ ns. has_some ns && can_put_list ns) (λ ns. has_some ns && is_list_spelled ns) (pieces_of list_contents) list_spelling
     some = checked_spells has_some named_list_all
 
-    by : (e : SetEffect) → can_put_set e ≡ true → list_all is_text (set_texts e) ≡ true → (is_set_spelled e ≡ true) ⊎ IsTooLong (set_rest e)
+    by : (e : SetEffect) → can_put_set e ≡ true → all_hold (pieces_of set_contents e) ≡ true → (is_set_spelled e ≡ true) ⊎ IsTooLong (set_rest e)
     by (Add ns) h all = some.spells ns h all
     by (Remove ns) h all = some.spells ns h all
     by (Reset ns) h all = named_list_all.spells ns h all
 
-    stand : (e : SetEffect) → StandInTurn (set_texts e) (set_rest e)
+    held : (e : SetEffect) → is_set_spelled e ≡ true → all_hold (pieces_of set_contents e) ≡ true
+    held (Add ns) h = some.held ns h
+    held (Remove ns) h = some.held ns h
+    held (Reset ns) h = named_list_all.held ns h
+
+    stand : (e : SetEffect) → StandInTurn (pieces_of set_contents e) (set_rest e)
     stand (Add ns) = named_list_all.stand ns
     stand (Remove ns) = named_list_all.stand ns
     stand (Reset ns) = named_list_all.stand ns
 
-pub set_all : SpellsAll can_put_set is_set_spelled set_texts set_spelling
+pub set_all : SpellsAll can_put_set is_set_spelled (pieces_of set_contents) set_spelling
 set_all = behind_spells (λ e. number 1 (set_mark e)) rest_all
 
 -- every effect is one of the kind
 abbrev pub is_of_kind : {E : Type 0} → Kind → E → Bool
 is_of_kind k e = true
 
-abbrev pub go_spells : (has : Kind → Bool) → SpellsEffects has is_of_kind can_put_texts are_texts_spelled texts_spelling (λ k. texts_at)
-go_spells has = record { form = λ k h. texts_form; texts = λ ts. ts; all = texts_all }
+abbrev pub go_spells : (has : Kind → Bool) → SpellsEffects has is_of_kind can_put_texts are_texts_spelled texts_contents texts_spelling (λ k. texts_at)
+go_spells has = record { form = λ k h. texts_form; all = texts_all }
 
-abbrev pub set_spells : (has : Kind → Bool) → SpellsEffects has is_of_kind can_put_set is_set_spelled set_spelling (λ k. set_at)
-set_spells has = record { form = λ k h. set_form; texts = set_texts; all = set_all }
+abbrev pub set_spells : (has : Kind → Bool) → SpellsEffects has is_of_kind can_put_set is_set_spelled set_contents set_spelling (λ k. set_at)
+set_spells has = record { form = λ k h. set_form; all = set_all }
 
-pub go_stands : NamesStand can_put_texts go_names texts_spelling
-go_stands = none_stand can_put_texts texts_spelling
+no_update : (ts : List (List ℕ)) (d : Dot) → have_update (texts_contents ts) d ≡ false
+no_update [] d = refl
+no_update (t ∷ ts) d = no_update ts d
 
-named_stand : (ns : List Named) (d : Dot) → names_dot ns d ≡ true → StandsIn d (list_spelling ns)
-named_stand ns d h = stands_in_list d (λ n. true) (λ n. has_dot n.dots d) named (λ n any is. stands_behind (text n.text) (dots_stand n.dots d is)) ns (all_pass ns) h
+pub go_stands : NamesStand can_put_texts go_names texts_contents texts_spelling
+go_stands = names_stand texts_all (λ e d can. sym (no_update e d))
 
-set_stand : (e : SetEffect) (d : Dot) → set_names e d ≡ true → StandsIn d (set_spelling e)
-set_stand (Add ns) d h = stands_behind (number 1 0) (named_stand ns d h)
-set_stand (Remove ns) d h = stands_behind (number 1 1) (named_stand ns d h)
-set_stand (Reset ns) d h = stands_behind (number 1 2) (named_stand ns d h)
+named_exact : (ns : List Named) (d : Dot) → names_dot ns d ≡ have_update (list_contents ns) d
+named_exact ns d = sym (update_each named_contents ns d ∙ (λ i. list_any (λ n. or_none (has_dot n.dots d) i) ns))
 
-pub set_stands : NamesStand can_put_set set_names set_spelling
-set_stands = record { stands = λ e d can h. set_stand e d h }
+set_exact : (e : SetEffect) (d : Dot) → set_names e d ≡ have_update (set_contents e) d
+set_exact (Add ns) d = named_exact ns d
+set_exact (Remove ns) d = named_exact ns d
+set_exact (Reset ns) d = named_exact ns d
+
+pub set_stands : NamesStand can_put_set set_names set_contents set_spelling
+set_stands = names_stand set_all (λ e d can. set_exact e d)

@@ -14,15 +14,16 @@ use Rattle.crdt_core.specs.Fits.{names_some, allows, fits}
 use Rattle.crdt_core.specs.Leaves.{IsLeaf, fits_leaf}
 use Rattle.crdt_core.specs.Kept.{dots_of}
 use Rattle.crdt_core.specs.Texts.{text_cmp, is_in, ascending, in_ascending, same_text_itself}
-use Rattle.crdt_core.specs.Spelled.{are_dots}
+use Rattle.crdt_core.specs.Spelled.{are_dots, ascend}
 use Rattle.crdt_core.specs.EffectForm.{HoldsSpelled, IsReady, reset_tag, begins_with, asks_reset}
-use Rattle.crdt_core.specs.Ready.{keys_in_order, kept_spelled}
+use Rattle.crdt_core.specs.Ready.{keys_in_order, kept_spelled, kept_ascend}
+use Rattle.crdt_core.specs.Contents.{sets_ascend}
 use Rattle.crdt_sets.specs.Elements.{Elements, at, named_at, keeps_dot}
 use Rattle.crdt_sets.specs.ElementSteps.{kept_in}
 use Rattle.crdt_sets.specs.Meaning.{added_by}
 use Rattle.crdt_sets.specs.SetGo.{Grown, go_made}
 use Rattle.crdt_sets.specs.Sets.{set_made}
-use Rattle.crdt_sets.specs.EffectForm.{has_some, can_put_texts, texts_spelling, named_cmp, can_put_list, can_put_set, set_spelling, is_of_kind}
+use Rattle.crdt_sets.specs.EffectForm.{has_some, can_put_texts, texts_spelling, named_cmp, can_put_list, can_put_set, texts_contents, list_contents, set_contents, set_spelling, is_of_kind}
 
 -- ---- texts in order, of which there are some
 
@@ -60,6 +61,14 @@ named_spelled m h (x ∷ xs) = and_true (are_dots (dots_of (at m x))) _ (kept_sp
 list_ready : (m : Elements) → HoldsSpelled keeps_dot m → (xs : List (List ℕ)) → are_in_order (is_below text_cmp) None xs ≡ true → can_put_list (named_at m xs) ≡ true
 list_ready m h xs o = and_true (are_in_order (is_below named_cmp) None (named_at m xs)) _ (named_ordered m xs o) (named_spelled m h xs)
 
+named_ascend : (m : Elements) (xs : List (List ℕ)) → sets_ascend (list_contents (named_at m xs)) ≡ true
+named_ascend m [] = refl
+named_ascend m (x ∷ xs) = and_true (ascend (dots_of (at m x))) _ (kept_ascend (at m x)) (named_ascend m xs)
+
+no_sets : (ts : List (List ℕ)) → sets_ascend (texts_contents ts) ≡ true
+no_sets [] = refl
+no_sets (t ∷ ts) = no_sets ts
+
 some_named : (m : Elements) (xs : List (List ℕ)) → has_some xs ≡ true → has_some (named_at m xs) ≡ true
 some_named m [] h = absurd (false≢true h)
 some_named m (x ∷ xs) h = refl
@@ -83,13 +92,24 @@ set_allowed m h (act.Remove xs) ok = some_ready m h xs (no_other (names_some xs)
 set_allowed m h act.Reset ok = list_ready m h (keys m) (keys_in_order m)
 set_allowed m h _ ok = refl
 
+made_ascend : (m : Elements) (a : Act) → sets_ascend (set_contents (set_made m a)) ≡ true
+made_ascend m (act.Add xs) = named_ascend m (ascending xs)
+made_ascend m (act.Remove xs) = named_ascend m (ascending xs)
+made_ascend m act.Reset = named_ascend m (keys m)
+made_ascend m _ = refl
+
 reset_made : (m : Elements) (p : List Field) (a : Act) → asks_reset p a ≡ true → begins_with 2 (set_spelling (set_made m a)) ≡ true
 reset_made m [] act.Reset h = refl
 reset_made m [] _ h = absurd (false≢true h)
 reset_made m (f ∷ p) a h = absurd (false≢true h)
 
-set_ready : (k : Kind) → reset_tag k ≡ 2 → (m : Elements) (p : List Field) (a : Act) → allows SetAw a ≡ true → HoldsSpelled keeps_dot m → IsReady is_of_kind can_put_set set_spelling k p a (set_made m a)
-set_ready k tag m p a ok h = (refl, set_allowed m h a ok, λ asked. subst (λ n. begins_with n (set_spelling (set_made m a)) ≡ true) (sym tag) (reset_made m p a asked))
+set_ready : (k : Kind) → reset_tag k ≡ 2 → (m : Elements) (p : List Field) (a : Act) → allows SetAw a ≡ true → HoldsSpelled keeps_dot m → IsReady is_of_kind can_put_set set_contents set_spelling k p a (set_made m a)
+set_ready k tag m p a ok h = record {
+  kind = refl;
+  fit = set_allowed m h a ok;
+  sets = made_ascend m a;
+  opened = λ asked. subst (λ n. begins_with n (set_spelling (set_made m a)) ≡ true) (sym tag) (reset_made m p a asked);
+}
 
 aw_leaf : IsLeaf SetAw
 aw_leaf l = refl
@@ -100,10 +120,10 @@ rw_leaf l = refl
 go_leaf : IsLeaf SetGo
 go_leaf l = refl
 
-pub aw_ready : (k : Kind) → k ≡ SetAw → (m : Elements) (p : List Field) (a : Act) → fits k p a ≡ true → HoldsSpelled keeps_dot m → IsReady is_of_kind can_put_set set_spelling k p a (set_made m a)
+pub aw_ready : (k : Kind) → k ≡ SetAw → (m : Elements) (p : List Field) (a : Act) → fits k p a ≡ true → HoldsSpelled keeps_dot m → IsReady is_of_kind can_put_set set_contents set_spelling k p a (set_made m a)
 aw_ready k e m p a ok h = set_ready k (ap reset_tag e) m p a (fits_leaf SetAw aw_leaf p a (subst (λ l. fits l p a ≡ true) e ok)).1 h
 
-pub rw_ready : (k : Kind) → k ≡ SetRw → (m : Elements) (p : List Field) (a : Act) → fits k p a ≡ true → HoldsSpelled keeps_dot m → IsReady is_of_kind can_put_set set_spelling k p a (set_made m a)
+pub rw_ready : (k : Kind) → k ≡ SetRw → (m : Elements) (p : List Field) (a : Act) → fits k p a ≡ true → HoldsSpelled keeps_dot m → IsReady is_of_kind can_put_set set_contents set_spelling k p a (set_made m a)
 rw_ready k e m p a ok h = set_ready k (ap reset_tag e) m p a (fits_leaf SetRw rw_leaf p a (subst (λ l. fits l p a ≡ true) e ok)).1 h
 
 go_allowed : (a : Act) → allows SetGo a ≡ true → (can_put_texts (ascending (added_by a)) ≡ true) × ((p : List Field) → asks_reset p a ≡ true → false ≡ true)
@@ -114,7 +134,7 @@ go_allowed (act.Add xs) ok = (and_true (has_some (ascending xs)) _ (some_ascendi
     no_reset (f ∷ p) h = h
 go_allowed _ ok = absurd (false≢true ok)
 
-pub go_ready : (k : Kind) → k ≡ SetGo → (s : Grown) (p : List Field) (a : Act) (n : ℕ) → fits k p a ≡ true → IsReady is_of_kind can_put_texts texts_spelling k p a (go_made k s p a n)
+pub go_ready : (k : Kind) → k ≡ SetGo → (s : Grown) (p : List Field) (a : Act) (n : ℕ) → fits k p a ≡ true → IsReady is_of_kind can_put_texts texts_contents texts_spelling k p a (go_made k s p a n)
 go_ready k e s p a n ok =
     let g = go_allowed a (fits_leaf SetGo go_leaf p a (subst (λ l. fits l p a ≡ true) e ok)).1 in
-    (refl, g.0, λ asked. absurd (false≢true (g.1 p asked)))
+    record { kind = refl; fit = g.0; sets = no_sets (ascending (added_by a)); opened = λ asked. absurd (false≢true (g.1 p asked)) }

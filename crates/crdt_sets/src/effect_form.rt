@@ -1,7 +1,8 @@
 ghost use Rattle.std.specs.Prelude.{◌≡◌, ◌≤◌, ◌++◌, true, length, OnOk, OnErr, IfOk, ◌&&◌};
 ghost use Rattle.field_codec.specs.Spelling.{number, Keeps};
 ghost use Rattle.field_codec.specs.Reading.{Gives, checked_at};
-ghost use Rattle.crdt_sets.specs.EffectForm.{has_some, can_put_list, is_list_spelled, list_spelling, named_list_at, can_put_set, is_set_spelled, set_spelling, set_at, set_form, set_texts, set_all};
+ghost use Rattle.crdt_core.specs.Contents.{pieces_of};
+ghost use Rattle.crdt_sets.specs.EffectForm.{has_some, can_put_list, set_contents, is_list_spelled, list_spelling, named_list_at, can_put_set, is_set_spelled, set_spelling, set_at, set_form, set_all};
 
 use crate::named_form::NamedForm;
 use crate::{Named, SetEffect};
@@ -22,7 +23,7 @@ impl Form for SetForm {
 
     ghost spelling = { λ _ e. set_spelling e };
 
-    ghost texts = { λ _ e. set_texts e };
+    ghost pieces = { λ _ e. pieces_of set_contents e };
 
     ghost reading = { λ _ bytes at. set_at bytes at };
 

@@ -1,8 +1,9 @@
-ghost use Rattle.std.specs.Prelude.{◌≡◌, ◌≤◌, ◌++◌, ◌∷◌, [], true, length, OnOk, OnErr, IfOk};
+ghost use Rattle.std.specs.Prelude.{◌≡◌, ◌≤◌, ◌++◌, true, length, OnOk, OnErr, IfOk};
 ghost use Rattle.field_codec.specs.Spelling.{Keeps, is_below};
 ghost use Rattle.field_codec.specs.Reading.{Gives};
 ghost use Rattle.crdt_core.specs.Spelled.{are_dots};
-ghost use Rattle.crdt_sets.specs.EffectForm.{named_cmp, is_named, named as named_spelling, named_at, named_form, named_all};
+ghost use Rattle.crdt_core.specs.Contents.{pieces_of};
+ghost use Rattle.crdt_sets.specs.EffectForm.{named_cmp, named_contents, is_named, named as named_spelling, named_at, named_form, named_all};
 
 use crate::Named;
 use crdt_core::{put_dots, take_dots};
@@ -22,7 +23,7 @@ impl Form for NamedForm {
 
     ghost spelling = { λ _ n. named_spelling n };
 
-    ghost texts = { λ _ n. n.text ∷ [] };
+    ghost pieces = { λ _ n. pieces_of named_contents n };
 
     ghost reading = { λ _ bytes at. named_at bytes at };
 

@@ -3,7 +3,7 @@ ghost use Rattle.std.specs.FinMap.{empty};
 ghost use Rattle.crdt_sets.specs.Meaning.{aw_meaning};
 ghost use Rattle.crdt_sets.specs.Elements.{keeps_dot, lacks_all};
 ghost use Rattle.crdt_sets.specs.Sets.{aw_has, aw_step, aw_value, kind_made, no_stamp, set_names};
-ghost use Rattle.crdt_sets.specs.EffectForm.{is_of_kind, can_put_set, is_set_spelled, set_spelling, set_at, set_spells, set_stands};
+ghost use Rattle.crdt_sets.specs.EffectForm.{is_of_kind, can_put_set, is_set_spelled, set_contents, set_spelling, set_at, set_spells, set_stands};
 ghost use Rattle.crdt_sets.specs.RemovableLaws.{aw_law, aw_in_maps};
 ghost use Rattle.crdt_sets.specs.SetResets.{aw_resets};
 
@@ -56,6 +56,8 @@ impl Crdt for SetAw {
     ghost can_put = { can_put_set };
 
     ghost is_spelled = { is_set_spelled };
+
+    ghost contents = { set_contents };
 
     ghost spelling = { set_spelling };
 

@@ -44,16 +44,29 @@ pub record IsForm {V : Type 0} (fits is_spelled : V → Bool) (spelling : V → 
 abbrev pub IsTooLong : List ℕ → Type 0
 IsTooLong bytes = 2 ^ 32 ≤ length bytes
 
--- these texts stand in the bytes, one behind the other
-abbrev pub StandInTurn : List (List ℕ) → List ℕ → Type 0
-StandInTurn [] bytes = Unit {0}
-StandInTurn (t ∷ ts) bytes = (front : List ℕ) × (back : List ℕ) × (bytes ≡ front ++ (text t ++ back)) × StandInTurn ts back
+-- A piece of a value, of whose type more holds than a contract sees: whether that holds, and the bytes of the piece.
+pub record Piece : Type 0 where
+  pub holds : Bool
+  pub bytes : List ℕ
 
--- What fits has a spelling, but where that would be too long to be counted. A contract sees a text as a list of bytes, so this is
--- said of values whose texts (those that stand in the spelling) have at most 256 bytes in UTF-8; each `Text` has (`put_text`).
-pub record SpellsAll {V : Type 0} (fits is_spelled : V → Bool) (texts : V → List (List ℕ)) (spelling : V → List ℕ) : Type 0 where
-  pub spells : (v : V) → fits v ≡ true → list_all is_text (texts v) ≡ true → (is_spelled v ≡ true) ⊎ IsTooLong (spelling v)
-  pub stand : (v : V) → StandInTurn (texts v) (spelling v)
+-- a contract sees a text as a list of bytes; each `Text` has at most 256 of them, in UTF-8 (`put_text`)
+abbrev pub text_piece : List ℕ → Piece
+text_piece t = record { holds = is_text t; bytes = text t }
+
+abbrev pub all_hold : List Piece → Bool
+all_hold ps = list_all (λ p. p.holds) ps
+
+-- the bytes of these pieces stand in the bytes, one behind the other
+abbrev pub StandInTurn : List Piece → List ℕ → Type 0
+StandInTurn [] bytes = Unit {0}
+StandInTurn (p ∷ ps) bytes = (front : List ℕ) × (back : List ℕ) × (bytes ≡ front ++ (p.bytes ++ back)) × StandInTurn ps back
+
+-- What fits has a spelling, but where that would be too long to be counted. This is said of values of whose pieces all holds
+-- that their types keep, as it does of each value of the program; and of what has a spelling it holds.
+pub record SpellsAll {V : Type 0} (fits is_spelled : V → Bool) (pieces : V → List Piece) (spelling : V → List ℕ) : Type 0 where
+  pub spells : (v : V) → fits v ≡ true → all_hold (pieces v) ≡ true → (is_spelled v ≡ true) ⊎ IsTooLong (spelling v)
+  pub held : (v : V) → is_spelled v ≡ true → all_hold (pieces v) ≡ true
+  pub stand : (v : V) → StandInTurn (pieces v) (spelling v)
 
 -- no spelling begins that of another value
 abbrev pub IsPrefixFree : {V : Type 0} → (V → Bool) → (V → List ℕ) → Type 0

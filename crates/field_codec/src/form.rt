@@ -1,7 +1,7 @@
 ghost use Rattle.std.specs.Prelude.{◌≡◌, ◌≤◌, ◌++◌, ℕ, List, Bool, true, length, OnOk, OnErr, IfOk};
 ghost use Rattle.field_codec.specs.Spelling.{Keeps};
 ghost use Rattle.field_codec.specs.Reading.{Read, Gives};
-ghost use Rattle.field_codec.specs.Lawful.{IsForm, SpellsAll, IsPrefixFree};
+ghost use Rattle.field_codec.specs.Lawful.{Piece, IsForm, SpellsAll, IsPrefixFree};
 
 use crate::TakeError;
 use std::alloc::{AllocError, Global};
@@ -19,8 +19,8 @@ pub trait Form {
 
     ghost spelling: { Self → Self.Value → List ℕ };
 
-    /// The texts that stand in the spelling, in turn.
-    ghost texts: { Self → Self.Value → List (List ℕ) };
+    /// Of whose types more holds than a contract sees: pieces that stand in the spelling, in turn.
+    ghost pieces: { Self → Self.Value → List Piece };
 
     /// What reading at a place answers.
     ghost reading: { Self → List ℕ → ℕ → Read Self.Value };
@@ -62,7 +62,7 @@ pub trait Form {
     ghost laws: { (f : Self) → IsForm (fits f) (is_spelled f) (spelling f) (reading f) };
 
     /// What fits has a spelling, but where that would be too long.
-    ghost spells_all: { (f : Self) → SpellsAll (fits f) (is_spelled f) (texts f) (spelling f) };
+    ghost spells_all: { (f : Self) → SpellsAll (fits f) (is_spelled f) (pieces f) (spelling f) };
 }
 
 /// Appends the spelling.

@@ -24,6 +24,6 @@ pub fn law_fields()
 /// fit has a spelling, but where that would be too long to be counted.
 pub fn law_list<F: Form>(form: &F)
     ensures form { IsForm (are_members (F.follows form.now) (F.fits form.now)) (is_list (F.follows form.now) (F.is_spelled form.now)) (list (F.spelling form.now)) (list_at (F.follows form.now) (F.reading form.now)) }
-    ensures all { SpellsAll (are_members (F.follows form.now) (F.fits form.now)) (is_list (F.follows form.now) (F.is_spelled form.now)) (flat_map (F.texts form.now)) (list (F.spelling form.now)) }
+    ensures all { SpellsAll (are_members (F.follows form.now) (F.fits form.now)) (is_list (F.follows form.now) (F.is_spelled form.now)) (flat_map (F.pieces form.now)) (list (F.spelling form.now)) }
     ensures apart { IsPrefixFree (is_list (F.follows form.now) (F.is_spelled form.now)) (list (F.spelling form.now)) }
 {}

@@ -8,6 +8,7 @@ ghost use Rattle.std.specs.Cmp.{partial_order_from_own_ties};
 ghost use Rattle.std.proofs.Common.{rules};
 ghost use Rattle.field_codec.specs.Spelling.{text as spelled, is_text, is_below};
 ghost use Rattle.field_codec.specs.FormLaws.{any_text_form};
+ghost use Rattle.field_codec.specs.Lawful.{text_piece};
 ghost use Rattle.field_codec.specs.SpellsAllLaws.{any_text_spells};
 ghost use Rattle.field_codec.specs.Reading.{Gives, text_at, bytes_at};
 
@@ -201,7 +202,7 @@ impl Form for TextForm {
 
     ghost spelling = { λ _ t. spelled t };
 
-    ghost texts = { λ _ t. t ∷ [] };
+    ghost pieces = { λ _ t. text_piece t ∷ [] };
 
     ghost reading = { λ _ bytes at. text_at bytes at };
 
