@@ -1,11 +1,9 @@
 -- The bytes of a layer's effects are those of its kinds.
 use Rattle.std.proofs.Common.{◌≡◌, ℕ, Bool, true, ◌&&◌, List, [], ◌∷◌, refl}
 use Rattle.std.specs.Prelude.{◌⊎◌, is_some}
-use Rattle.std.specs.List.{list_all}
 use Rattle.std.proofs.lemmas.Bool.{false≢true}
-use Rattle.field_codec.specs.Spelling.{is_text}
 use Rattle.field_codec.specs.Reading.{Read, mapped_at}
-use Rattle.field_codec.specs.Lawful.{IsTooLong, StandInTurn, IsForm, SpellsAll}
+use Rattle.field_codec.specs.Lawful.{IsTooLong, all_hold, StandInTurn, IsForm, SpellsAll}
 use Rattle.field_codec.specs.SpellsAllLaws.{alike_spells}
 use Rattle.field_codec.specs.Tagged.{shape_form}
 use Rattle.std.specs.Prelude.{ℤ}
@@ -22,21 +20,23 @@ use Rattle.crdt_maps.specs.declared.effect.MapEffect.{MapEffect}
 use Rattle.crdt_any.specs.declared.effect.LayerEffect.{LayerEffect}
 use Rattle.crdt_any.specs.declared.effect.LayerEffect.TheVariants as effect
 use Rattle.crdt_core.specs.EffectForm.{SpellsEffects}
-use Rattle.crdt_core.specs.Stands.{StandsIn, NamesStand}
+use Rattle.crdt_core.specs.Contents.{Content, pieces_of, have_update}
+use Rattle.crdt_core.specs.Stands.{NamesStand}
+use Rattle.crdt_core.specs.StandsLaws.{names_stand}
 use Rattle.crdt_counters.specs.CounterPn.{pn_has}
 use Rattle.crdt_counters.specs.CounterFat.{fat_has}
-use Rattle.crdt_counters.specs.EffectForm.{is_amount_number, amount_spelling, amount_at, pn_spells, can_put_fat, is_fat_spelled, fat_spelling, fat_at, fat_spells, fat_all, pn_stands, fat_stands}
+use Rattle.crdt_counters.specs.EffectForm.{is_amount_number, amount_contents, amount_spelling, amount_at, pn_spells, can_put_fat, fat_contents, is_fat_spelled, fat_spelling, fat_at, fat_spells, fat_all, pn_stands, fat_stands}
 use Rattle.crdt_sets.specs.SetGo as set
 use Rattle.crdt_sets.specs.Sets as sets
-use Rattle.crdt_sets.specs.EffectForm.{can_put_texts, are_texts_spelled, texts_spelling, texts_at, texts_all, set_texts, set_all, go_spells as set_go_spells, can_put_set, is_set_spelled, set_spelling, set_at, set_spells, go_stands as set_go_stands, set_stands}
+use Rattle.crdt_sets.specs.EffectForm.{can_put_texts, are_texts_spelled, texts_spelling, texts_at, texts_contents, texts_all, set_contents, set_all, go_spells as set_go_spells, can_put_set, is_set_spelled, set_spelling, set_at, set_spells, go_stands as set_go_stands, set_stands}
 use Rattle.crdt_flags.specs.Flags as flags
-use Rattle.crdt_flags.specs.EffectForm.{can_put_flag, is_flag_spelled, flag_spelling, flag_at, flag_spells, flag_all, flag_stands}
+use Rattle.crdt_flags.specs.EffectForm.{can_put_flag, flag_contents, is_flag_spelled, flag_spelling, flag_at, flag_spells, flag_all, flag_stands}
 use Rattle.crdt_registers.specs.RegisterLww.{lww_has}
 use Rattle.crdt_registers.specs.RegisterMv.{mv_has}
-use Rattle.crdt_registers.specs.LwwForm.{can_put_lww, is_lww_spelled, lww_spelling, lww_at, lww_spells, lww_all, lww_stands}
-use Rattle.crdt_registers.specs.MvForm.{can_put_mv, is_mv_spelled, mv_spelling, mv_at, mv_spells, mv_texts, mv_all, mv_stands}
+use Rattle.crdt_registers.specs.LwwForm.{can_put_lww, lww_contents, is_lww_spelled, lww_spelling, lww_at, lww_spells, lww_all, lww_stands}
+use Rattle.crdt_registers.specs.MvForm.{can_put_mv, is_mv_spelled, mv_spelling, mv_at, mv_spells, mv_contents, mv_all, mv_stands}
 use Rattle.crdt_maps.specs.Maps.{go_has, rr_has}
-use Rattle.crdt_maps.specs.EffectForm.{go_can_put, go_is_spelled, go_spelling, go_at, go_spells, go_texts, go_all, rr_texts, rr_all, rr_can_put, rr_is_spelled, rr_spelling, rr_at, rr_spells, go_stands, rr_stands}
+use Rattle.crdt_maps.specs.EffectForm.{go_can_put, go_is_spelled, go_spelling, go_at, go_spells, go_contents, go_all, rr_contents, rr_all, rr_can_put, rr_is_spelled, rr_spelling, rr_at, rr_spells, go_stands, rr_stands}
 use Rattle.crdt_any.specs.Layer.{layer_has, layer_names}
 use Rattle.crdt_any.specs.Cases.{counter_pn_effect, counter_fat_effect, set_go_effect, set_aw_effect, set_rw_effect, flag_ew_effect, flag_dw_effect, register_lww_effect, register_mv_effect, map_go_effect, map_rr_effect}
 
@@ -92,19 +92,19 @@ layer_spelling spelling (effect.RegisterMv e) = mv_spelling e
 layer_spelling spelling (effect.MapGo e) = (go_spelling spelling) e
 layer_spelling spelling (effect.MapRr e) = (rr_spelling spelling) e
 
--- the texts in an effect
-abbrev pub layer_texts : {E : Type 0} → (E → List (List ℕ)) → LayerEffect E → List (List ℕ)
-layer_texts texts (effect.CounterPn e) = []
-layer_texts texts (effect.CounterFat e) = []
-layer_texts texts (effect.SetGo e) = e
-layer_texts texts (effect.SetAw e) = set_texts e
-layer_texts texts (effect.SetRw e) = set_texts e
-layer_texts texts (effect.FlagEw e) = []
-layer_texts texts (effect.FlagDw e) = []
-layer_texts texts (effect.RegisterLww e) = e.text ∷ []
-layer_texts texts (effect.RegisterMv e) = mv_texts e
-layer_texts texts (effect.MapGo e) = go_texts texts e
-layer_texts texts (effect.MapRr e) = rr_texts texts e
+-- the texts and the sets of updates in an effect
+abbrev pub layer_contents : {E : Type 0} → (E → List Content) → LayerEffect E → List Content
+layer_contents contents (effect.CounterPn e) = amount_contents e
+layer_contents contents (effect.CounterFat e) = fat_contents e
+layer_contents contents (effect.SetGo e) = texts_contents e
+layer_contents contents (effect.SetAw e) = set_contents e
+layer_contents contents (effect.SetRw e) = set_contents e
+layer_contents contents (effect.FlagEw e) = flag_contents e
+layer_contents contents (effect.FlagDw e) = flag_contents e
+layer_contents contents (effect.RegisterLww e) = lww_contents e
+layer_contents contents (effect.RegisterMv e) = mv_contents e
+layer_contents contents (effect.MapGo e) = go_contents contents e
+layer_contents contents (effect.MapRr e) = rr_contents contents e
 
 abbrev pub layer_reading : {E : Type 0} → (Kind → Bool) → (Kind → List ℕ → ℕ → Read E) → Kind → List ℕ → ℕ → Read (LayerEffect E)
 layer_reading has reading kinds.CounterPn = mapped_at effect.CounterPn amount_at
@@ -119,7 +119,8 @@ layer_reading has reading kinds.RegisterMv = mapped_at effect.RegisterMv mv_at
 layer_reading has reading kinds.MapGo = mapped_at effect.MapGo (go_at has reading)
 layer_reading has reading kinds.MapRr = mapped_at effect.MapRr (rr_at has reading)
 
-module _ {E : Type 0} {has : Kind → Bool} {is_of : Kind → E → Bool} {can_put is_spelled : E → Bool} {spelling : E → List ℕ} {reading : Kind → List ℕ → ℕ → Read E} (forms : SpellsEffects has is_of can_put is_spelled spelling reading) where
+module _ {E : Type 0} {has : Kind → Bool} {is_of : Kind → E → Bool} {can_put is_spelled : E → Bool} {contents : E → List Content} {spelling : E → List ℕ} {reading : Kind → List ℕ → ℕ → Read E}
+    (forms : SpellsEffects has is_of can_put is_spelled contents spelling reading) where
   abbrev fits_at : Kind → LayerEffect E → Bool
   fits_at k e = layer_is_of k e && layer_can_put has is_of can_put spelling e
 
@@ -183,11 +184,14 @@ module _ {E : Type 0} {has : Kind → Bool} {is_of : Kind → E → Bool} {can_p
   form_at kinds.MapGo = shape_form effect.MapGo (go_can_put has is_of can_put) (go_is_spelled has is_of is_spelled) (go_spelling spelling) (go_at has reading) (fits_at kinds.MapGo) (spelled_at kinds.MapGo) (layer_spelling spelling) (λ v. refl) (λ v. refl) (λ v. refl) map_go_shape ((go_spells forms go_has).form kinds.MapGo refl)
   form_at kinds.MapRr = shape_form effect.MapRr (rr_can_put has is_of can_put spelling) (rr_is_spelled has is_of is_spelled spelling) (rr_spelling spelling) (rr_at has reading) (fits_at kinds.MapRr) (spelled_at kinds.MapRr) (layer_spelling spelling) (λ v. refl) (λ v. refl) (λ v. refl) map_rr_shape ((rr_spells forms rr_has).form kinds.MapRr refl)
 
-  pub layer_all : SpellsAll (layer_can_put has is_of can_put spelling) (layer_is_spelled has is_of is_spelled spelling) (layer_texts forms.texts) (layer_spelling spelling)
-  layer_all = record { spells = by; stand = stand }
+  pub layer_all : SpellsAll (layer_can_put has is_of can_put spelling) (layer_is_spelled has is_of is_spelled spelling) (pieces_of (layer_contents contents)) (layer_spelling spelling)
+  layer_all = record { spells = by; held = held; stand = stand }
     where
-      by : (e : LayerEffect E) → layer_can_put has is_of can_put spelling e ≡ true → list_all is_text (layer_texts forms.texts e) ≡ true → (layer_is_spelled has is_of is_spelled spelling e ≡ true) ⊎ IsTooLong (layer_spelling spelling e)
-      by (effect.CounterPn e) h all = (alike_spells is_amount_number amount_spelling).spells e h all
+      amounts : SpellsAll is_amount_number is_amount_number (pieces_of amount_contents) amount_spelling
+      amounts = alike_spells is_amount_number amount_spelling
+
+      by : (e : LayerEffect E) → layer_can_put has is_of can_put spelling e ≡ true → all_hold (pieces_of (layer_contents contents) e) ≡ true → (layer_is_spelled has is_of is_spelled spelling e ≡ true) ⊎ IsTooLong (layer_spelling spelling e)
+      by (effect.CounterPn e) h all = amounts.spells e h all
       by (effect.CounterFat e) h all = fat_all.spells e h all
       by (effect.SetGo e) h all = texts_all.spells e h all
       by (effect.SetAw e) h all = set_all.spells e h all
@@ -199,8 +203,21 @@ module _ {E : Type 0} {has : Kind → Bool} {is_of : Kind → E → Bool} {can_p
       by (effect.MapGo e) h all = (go_all forms).spells e h all
       by (effect.MapRr e) h all = (rr_all forms).spells e h all
 
-      stand : (e : LayerEffect E) → StandInTurn (layer_texts forms.texts e) (layer_spelling spelling e)
-      stand (effect.CounterPn e) = (alike_spells is_amount_number amount_spelling).stand e
+      held : (e : LayerEffect E) → layer_is_spelled has is_of is_spelled spelling e ≡ true → all_hold (pieces_of (layer_contents contents) e) ≡ true
+      held (effect.CounterPn e) h = amounts.held e h
+      held (effect.CounterFat e) h = fat_all.held e h
+      held (effect.SetGo e) h = texts_all.held e h
+      held (effect.SetAw e) h = set_all.held e h
+      held (effect.SetRw e) h = set_all.held e h
+      held (effect.FlagEw e) h = flag_all.held e h
+      held (effect.FlagDw e) h = flag_all.held e h
+      held (effect.RegisterLww e) h = lww_all.held e h
+      held (effect.RegisterMv e) h = mv_all.held e h
+      held (effect.MapGo e) h = (go_all forms).held e h
+      held (effect.MapRr e) h = (rr_all forms).held e h
+
+      stand : (e : LayerEffect E) → StandInTurn (pieces_of (layer_contents contents) e) (layer_spelling spelling e)
+      stand (effect.CounterPn e) = amounts.stand e
       stand (effect.CounterFat e) = fat_all.stand e
       stand (effect.SetGo e) = texts_all.stand e
       stand (effect.SetAw e) = set_all.stand e
@@ -212,22 +229,23 @@ module _ {E : Type 0} {has : Kind → Bool} {is_of : Kind → E → Bool} {can_p
       stand (effect.MapGo e) = (go_all forms).stand e
       stand (effect.MapRr e) = (rr_all forms).stand e
 
-  abbrev pub layer_spells : SpellsEffects layer_has layer_is_of (layer_can_put has is_of can_put spelling) (layer_is_spelled has is_of is_spelled spelling) (layer_spelling spelling) (layer_reading has reading)
-  layer_spells = record { form = λ k is. form_at k; texts = layer_texts forms.texts; all = layer_all }
+  abbrev pub layer_spells : SpellsEffects layer_has layer_is_of (layer_can_put has is_of can_put spelling) (layer_is_spelled has is_of is_spelled spelling) (layer_contents contents) (layer_spelling spelling) (layer_reading has reading)
+  layer_spells = record { form = λ k is. form_at k; all = layer_all }
 
-module _ {E : Type 0} (has : Kind → Bool) (is_of : Kind → E → Bool) {can_put : E → Bool} {names : E → Dot → Bool} {spelling : E → List ℕ} (inner : NamesStand can_put names spelling) where
-  layer_stand : (e : LayerEffect E) (d : Dot) → layer_can_put has is_of can_put spelling e ≡ true → layer_names has names e d ≡ true → StandsIn d (layer_spelling spelling e)
-  layer_stand (effect.CounterPn e) d can h = pn_stands.stands e d can h
-  layer_stand (effect.CounterFat e) d can h = fat_stands.stands e d can h
-  layer_stand (effect.SetGo e) d can h = set_go_stands.stands e d can h
-  layer_stand (effect.SetAw e) d can h = set_stands.stands e d can h
-  layer_stand (effect.SetRw e) d can h = set_stands.stands e d can h
-  layer_stand (effect.FlagEw e) d can h = flag_stands.stands e d can h
-  layer_stand (effect.FlagDw e) d can h = flag_stands.stands e d can h
-  layer_stand (effect.RegisterLww e) d can h = lww_stands.stands e d can h
-  layer_stand (effect.RegisterMv e) d can h = mv_stands.stands e d can h
-  layer_stand (effect.MapGo e) d can h = (go_stands has is_of inner).stands e d can h
-  layer_stand (effect.MapRr e) d can h = (rr_stands has is_of inner).stands e d can h
+module _ {E : Type 0} {has : Kind → Bool} {is_of : Kind → E → Bool} {can_put is_spelled : E → Bool} {names : E → Dot → Bool} {contents : E → List Content} {spelling : E → List ℕ} {reading : Kind → List ℕ → ℕ → Read E}
+    (forms : SpellsEffects has is_of can_put is_spelled contents spelling reading) (inner : NamesStand can_put names contents spelling) where
+  layer_exact : (e : LayerEffect E) (d : Dot) → layer_can_put has is_of can_put spelling e ≡ true → layer_names has names e d ≡ have_update (layer_contents contents e) d
+  layer_exact (effect.CounterPn e) d can = pn_stands.exact e d can
+  layer_exact (effect.CounterFat e) d can = fat_stands.exact e d can
+  layer_exact (effect.SetGo e) d can = set_go_stands.exact e d can
+  layer_exact (effect.SetAw e) d can = set_stands.exact e d can
+  layer_exact (effect.SetRw e) d can = set_stands.exact e d can
+  layer_exact (effect.FlagEw e) d can = flag_stands.exact e d can
+  layer_exact (effect.FlagDw e) d can = flag_stands.exact e d can
+  layer_exact (effect.RegisterLww e) d can = lww_stands.exact e d can
+  layer_exact (effect.RegisterMv e) d can = mv_stands.exact e d can
+  layer_exact (effect.MapGo e) d can = (go_stands forms inner).exact e d can
+  layer_exact (effect.MapRr e) d can = (rr_stands forms inner).exact e d can
 
-  pub layer_stands : NamesStand (layer_can_put has is_of can_put spelling) (layer_names has names) (layer_spelling spelling)
-  layer_stands = record { stands = layer_stand }
+  pub layer_stands : NamesStand (layer_can_put has is_of can_put spelling) (layer_names has names) (layer_contents contents) (layer_spelling spelling)
+  layer_stands = names_stand (layer_all forms) layer_exact

@@ -10,7 +10,7 @@ use Rattle.crdt_core.specs.InMaps.{KeepsInMaps}
 use Rattle.crdt_core.specs.Resets.{ResetsWhatIsLeft}
 use Rattle.crdt_core.specs.EffectForm.{SpellsEffects}
 use Rattle.crdt_core.specs.Stands.{NamesStand}
-use Rattle.crdt_core.specs.StandsLaws.{none_stand}
+use Rattle.crdt_core.specs.StandsLaws.{names_stand}
 
 pub nothing_law : KeepsLaw {S = Unit {0}} {E = Unit {0}} (λ k. false) (λ k p. false) (λ k. tt) (λ s d e. tt) (λ k s p a n. tt) (λ s. Flag false) (λ e. None) (λ k us. Flag false) (λ e d. false) (λ s d. false)
 nothing_law = record {
@@ -36,8 +36,8 @@ nothing_resets = record {
   some_left = λ k us n has. absurd (false≢true has);
 }
 
-abbrev pub nothing_spells : SpellsEffects {E = Unit {0}} (λ k. false) (λ k e. true) (λ e. true) (λ e. true) (λ e. []) (λ k bytes at. Err (Bad at))
-nothing_spells = record { form = λ k has. absurd (false≢true has); texts = λ _. []; all = alike_spells (λ e. true) (λ e. []) }
+abbrev pub nothing_spells : SpellsEffects {E = Unit {0}} (λ k. false) (λ k e. true) (λ e. true) (λ e. true) (λ e. []) (λ e. []) (λ k bytes at. Err (Bad at))
+nothing_spells = record { form = λ k has. absurd (false≢true has); all = alike_spells (λ e. true) (λ e. []) }
 
-pub nothing_stands : NamesStand {E = Unit {0}} (λ e. true) (λ e d. false) (λ e. [])
-nothing_stands = none_stand (λ e. true) (λ e. [])
+pub nothing_stands : NamesStand {E = Unit {0}} (λ e. true) (λ e d. false) (λ e. []) (λ e. [])
+nothing_stands = names_stand {contents = λ e. []} (alike_spells (λ e. true) (λ e. [])) (λ e d can. refl)

@@ -44,6 +44,8 @@ impl Crdt for Nothing {
 
     ghost is_spelled = { λ e. true };
 
+    ghost contents = { λ e. [] };
+
     ghost spelling = { λ e. [] };
 
     ghost reading = { λ k bytes at. Err (Bad at) };

@@ -22,7 +22,7 @@ update_joined : (cs es : List Content) (d : Dot) → have_update (cs ++ es) d �
 update_joined [] es d = refl
 update_joined (c ∷ cs) es d = ap (λ b. has_update c d || b) (update_joined cs es d) ∙ or_both (has_update c d) (have_update cs d) (have_update es d)
 
-ascend_joined : (cs es : List Content) → sets_ascend cs ≡ true → sets_ascend es ≡ true → sets_ascend (cs ++ es) ≡ true
+pub ascend_joined : (cs es : List Content) → sets_ascend cs ≡ true → sets_ascend es ≡ true → sets_ascend (cs ++ es) ≡ true
 ascend_joined [] es h k = k
 ascend_joined (c ∷ cs) es h k = let p = both_true (ascends c) (sets_ascend cs) h in and_true (ascends c) (sets_ascend (cs ++ es)) p.0 (ascend_joined cs es p.1 k)
 
@@ -35,7 +35,3 @@ module _ {A : Type 0} (contents : A → List Content) where
   pub update_each : (xs : List A) (d : Dot) → have_update (flat_map contents xs) d ≡ list_any (λ x. have_update (contents x) d) xs
   update_each [] d = refl
   update_each (x ∷ xs) d = update_joined (contents x) (flat_map contents xs) d ∙ ap (λ b. have_update (contents x) d || b) (update_each xs d)
-
-  pub ascend_each : (xs : List A) → ((x : A) → sets_ascend (contents x) ≡ true) → sets_ascend (flat_map contents xs) ≡ true
-  ascend_each [] h = refl
-  ascend_each (x ∷ xs) h = ascend_joined (contents x) (flat_map contents xs) (h x) (ascend_each xs h)

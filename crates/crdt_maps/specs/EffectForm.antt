@@ -4,16 +4,16 @@ use Rattle.std.proofs.Common.{arith, ap, sym, subst, ◌∙◌, ⊎_elim, append
 use Rattle.std.proofs.lemmas.List.{drop_at}
 use Rattle.std.proofs.lemmas.Bool.{true≢false, false≢true, eqb-true, eq-eqb, or_cases}
 use Rattle.std.proofs.lemmas.Bool.Decides.{nat_tests}
-use Rattle.std.specs.List.{flat_map, list_all}
+use Rattle.std.specs.List.{flat_map, list_any, list_all}
 use Rattle.field_codec.specs.declared.error.TakeError.TheVariants.{Short, Bad, NoMemory}
 use Rattle.field_codec.specs.declared.error.TakeError.{TakeError}
 use Rattle.field_codec.specs.Spelling.{number, is_number, text, is_text, list, are_in_order, are_members, is_list, is_below, Spans}
 use Rattle.field_codec.specs.Reading.{Read, ◌>>=◌, number_at, text_at, list_at, checked_at, then_at, mapped_at}
-use Rattle.field_codec.specs.Lawful.{IsBytes, IsTooLong, StandInTurn, TellsWhy, IsForm, SpellsAll}
+use Rattle.field_codec.specs.Lawful.{IsBytes, IsTooLong, text_piece, all_hold, StandInTurn, TellsWhy, IsForm, SpellsAll}
 use Rattle.field_codec.specs.Steps.{by_length, bind_err, not_both, lt_from, IsBytes-append}
 use Rattle.field_codec.specs.Refusals.{some_spelled, steady_form, enough_from, tested_short, ends_at}
 use Rattle.field_codec.specs.FormLaws.{any_text_form, number_form, number_short, length-number, width1, list_form, checked_form, then_form, mapped_form, lt_holds, le_from, both_true, and_true, ok_is, bind_ok, guard_ok, spans_first}
-use Rattle.field_codec.specs.SpellsAllLaws.{alike_spells, any_text_spells, checked_spells, behind_spells, then_spells, mapped_spells, list_spells}
+use Rattle.field_codec.specs.SpellsAllLaws.{alike_spells, any_text_spells, checked_spells, behind_spells, then_spells, mapped_spells, told_spells, list_spells}
 use Rattle.field_codec.specs.Tagged.{tagged_at, tagged_form, shape_form}
 use Rattle.site_vector.specs.declared.ids.Dot.{Dot}
 use Rattle.crdt_core.specs.declared.kind.Kind.{Kind}
@@ -24,8 +24,10 @@ use Rattle.crdt_core.specs.FieldOrder.{field_cmp}
 use Rattle.crdt_core.specs.Spelled.{is_between, kind, kind_at}
 use Rattle.crdt_core.specs.SpelledLaws.{kind_form}
 use Rattle.crdt_core.specs.EffectForm.{SpellsEffects, reset_tag, begins_with}
-use Rattle.crdt_core.specs.Stands.{StandsIn, NamesStand}
-use Rattle.crdt_core.specs.StandsLaws.{stands_behind, stands_in_list}
+use Rattle.crdt_core.specs.Contents.{Content, Words, pieces_of, have_update}
+use Rattle.crdt_core.specs.ContentsLaws.{or_none, pieces_each, update_each}
+use Rattle.crdt_core.specs.Stands.{NamesStand}
+use Rattle.crdt_core.specs.StandsLaws.{names_stand}
 use Rattle.crdt_maps.specs.Maps.{map_names}
 use Rattle.crdt_maps.specs.declared.effect.MapEffect.{MapEffect}
 use Rattle.crdt_maps.specs.declared.effect.MapEffect.TheVariants.{At, Resets}
@@ -62,7 +64,7 @@ field_form allowed =
     let whole = then_form (λ t. true) is_text text text_at (λ _. allowed) (λ _. allowed) (λ _. kind) (λ _. checked_at allowed kind_at) any_text_form (λ _ _. coded_form allowed) in
     mapped_form field_of (λ f. (f.name, f.kind)) _ _ _ _ (λ _. refl) (λ _ _. refl) whole
 
-pub field_all : (allowed : Kind → Bool) → SpellsAll (λ f. allowed f.kind) (is_field allowed) (λ f. f.name ∷ []) field
+pub field_all : (allowed : Kind → Bool) → SpellsAll (λ f. allowed f.kind) (is_field allowed) (λ f. text_piece f.name ∷ []) field
 field_all allowed = mapped_spells (λ f. (f.name, f.kind)) (then_spells any_text_spells (λ _. alike_spells allowed kind))
 
 -- ---- a value whose spelling begins with a tag
@@ -249,8 +251,8 @@ tag_small _ = refl
 abbrev pub can_put_entry : {E : Type 0} → (Kind → Bool) → (Kind → E → Bool) → (E → Bool) → Field × E → Bool
 can_put_entry allowed is_of can_put x = allowed x.0.kind && (is_of x.0.kind x.1 && can_put x.1)
 
-abbrev pub entry_texts : {E : Type 0} → (E → List (List ℕ)) → Field × E → List (List ℕ)
-entry_texts texts x = x.0.name ∷ texts x.1
+abbrev pub entry_contents : {E : Type 0} → (E → List Content) → Field × E → List Content
+entry_contents contents x = Words x.0.name ∷ contents x.1
 
 abbrev pub is_entry_spelled : {E : Type 0} → (Kind → Bool) → (Kind → E → Bool) → (E → Bool) → Field × E → Bool
 is_entry_spelled allowed is_of is_spelled x = is_field allowed x.0 && (is_of x.0.kind x.1 && is_spelled x.1)
@@ -292,9 +294,9 @@ go_rest spelling (Resets xs) = []
 abbrev pub go_spelling : {E : Type 0} → (E → List ℕ) → MapEffect E → List ℕ
 go_spelling spelling e = number 1 0 ++ go_rest spelling e
 
-abbrev pub go_texts : {E : Type 0} → (E → List (List ℕ)) → MapEffect E → List (List ℕ)
-go_texts texts (At f e) = entry_texts texts (f, e)
-go_texts texts (Resets xs) = []
+abbrev pub go_contents : {E : Type 0} → (E → List Content) → MapEffect E → List Content
+go_contents contents (At f e) = entry_contents contents (f, e)
+go_contents contents (Resets xs) = []
 
 abbrev pub at_of : {E : Type 0} → Field × E → MapEffect E
 at_of x = At x.0 x.1
@@ -326,9 +328,9 @@ rr_rest spelling (Resets xs) = list (entry spelling) xs
 abbrev pub rr_spelling : {E : Type 0} → (E → List ℕ) → MapEffect E → List ℕ
 rr_spelling spelling e = number 1 (rr_mark e) ++ rr_rest spelling e
 
-abbrev pub rr_texts : {E : Type 0} → (E → List (List ℕ)) → MapEffect E → List (List ℕ)
-rr_texts texts (At f e) = entry_texts texts (f, e)
-rr_texts texts (Resets xs) = flat_map (entry_texts texts) xs
+abbrev pub rr_contents : {E : Type 0} → (E → List Content) → MapEffect E → List Content
+rr_contents contents (At f e) = entry_contents contents (f, e)
+rr_contents contents (Resets xs) = flat_map (entry_contents contents) xs
 
 unfoldable pub rr_rest_at : {E : Type 0} → (Kind → Bool) → (Kind → List ℕ → ℕ → Read E) → ℕ → List ℕ → ℕ → Read (MapEffect E)
 rr_rest_at has reading mark =
@@ -348,7 +350,7 @@ in_field outer has f h = (both_true (stands_in outer f.kind) (has f.kind) (both_
 small_tag : (most : ℕ) → most < 256 → (n : ℕ) → is_between 0 most n ≡ true → is_number 1 n ≡ true
 small_tag most few n h = let le = le_from n most (both_true (nat_le 0 n) _ h).1 in lt_holds n (256 ^ 1) (omega (arith, le, few))
 
-module _ {E : Type 0} {has : Kind → Bool} {is_of : Kind → E → Bool} {can_put is_spelled : E → Bool} {spelling : E → List ℕ} {reading : Kind → List ℕ → ℕ → Read E} (spells : SpellsEffects has is_of can_put is_spelled spelling reading) where
+module _ {E : Type 0} {has : Kind → Bool} {is_of : Kind → E → Bool} {can_put is_spelled : E → Bool} {contents : E → List Content} {spelling : E → List ℕ} {reading : Kind → List ℕ → ℕ → Read E} (spells : SpellsEffects has is_of can_put is_spelled contents spelling reading) where
   pub entry_form : (outer : Kind) → IsForm (can_put_entry (may_stand outer has) is_of can_put) (is_entry_spelled (may_stand outer has) is_of is_spelled) (entry spelling) (entry_at (may_stand outer has) reading)
   unfolding entry_at
   entry_form outer = let allowed = may_stand outer has in
@@ -396,81 +398,102 @@ module _ {E : Type 0} {has : Kind → Bool} {is_of : Kind → E → Bool} {can_p
   unfolding rr_at
   rr_form = tagged_form (is_between 0 1) rr_mark _ _ (rr_rest spelling) (rr_rest_at has reading) rr_known (small_tag 1 (omega arith)) rr_rest_form
 
-  entry_all : (outer : Kind) → SpellsAll (can_put_entry (may_stand outer has) is_of can_put) (is_entry_spelled (may_stand outer has) is_of is_spelled) (entry_texts spells.texts) (entry spelling)
+  entry_all : (outer : Kind) → SpellsAll (can_put_entry (may_stand outer has) is_of can_put) (is_entry_spelled (may_stand outer has) is_of is_spelled) (pieces_of (entry_contents contents)) (entry spelling)
   entry_all outer = then_spells (field_all (may_stand outer has)) (λ f. checked_spells (is_of f.kind) spells.all)
 
-  pub reset_all : (outer : Kind) → SpellsAll (can_put_reset (may_stand outer has) is_of can_put spelling) (is_reset_spelled (may_stand outer has) is_of is_spelled spelling) (entry_texts spells.texts) (entry spelling)
+  pub reset_all : (outer : Kind) → SpellsAll (can_put_reset (may_stand outer has) is_of can_put spelling) (is_reset_spelled (may_stand outer has) is_of is_spelled spelling) (pieces_of (entry_contents contents)) (entry spelling)
   reset_all outer = then_spells (field_all (may_stand outer has)) (λ f. checked_spells (λ e. begins_with (reset_tag f.kind) (spelling e)) (checked_spells (is_of f.kind) spells.all))
 
-  go_rest_all : SpellsAll (go_can_put has is_of can_put) (go_is_spelled has is_of is_spelled) (go_texts spells.texts) (go_rest spelling)
-  go_rest_all = record { spells = by; stand = stand }
+  go_rest_all : SpellsAll (go_can_put has is_of can_put) (go_is_spelled has is_of is_spelled) (pieces_of (go_contents contents)) (go_rest spelling)
+  go_rest_all = record { spells = by; held = held; stand = stand }
     where
-      by : (e : MapEffect E) → go_can_put has is_of can_put e ≡ true → list_all is_text (go_texts spells.texts e) ≡ true → (go_is_spelled has is_of is_spelled e ≡ true) ⊎ IsTooLong (go_rest spelling e)
+      by : (e : MapEffect E) → go_can_put has is_of can_put e ≡ true → all_hold (pieces_of (go_contents contents) e) ≡ true → (go_is_spelled has is_of is_spelled e ≡ true) ⊎ IsTooLong (go_rest spelling e)
       by (At f e) h all = (entry_all kinds.MapGo).spells (f, e) h all
       by (Resets xs) h all = absurd (false≢true h)
 
-      stand : (e : MapEffect E) → StandInTurn (go_texts spells.texts e) (go_rest spelling e)
+      held : (e : MapEffect E) → go_is_spelled has is_of is_spelled e ≡ true → all_hold (pieces_of (go_contents contents) e) ≡ true
+      held (At f e) h = (entry_all kinds.MapGo).held (f, e) h
+      held (Resets xs) h = absurd (false≢true h)
+
+      stand : (e : MapEffect E) → StandInTurn (pieces_of (go_contents contents) e) (go_rest spelling e)
       stand (At f e) = (entry_all kinds.MapGo).stand (f, e)
       stand (Resets xs) = tt
 
-  pub go_all : SpellsAll (go_can_put has is_of can_put) (go_is_spelled has is_of is_spelled) (go_texts spells.texts) (go_spelling spelling)
+  pub go_all : SpellsAll (go_can_put has is_of can_put) (go_is_spelled has is_of is_spelled) (pieces_of (go_contents contents)) (go_spelling spelling)
   go_all = behind_spells (λ _. number 1 0) go_rest_all
 
-  resets_all : SpellsAll (are_members entry_below (can_put_reset (may_stand kinds.MapRr has) is_of can_put spelling)) (is_list entry_below (is_reset_spelled (may_stand kinds.MapRr has) is_of is_spelled spelling)) (flat_map (entry_texts spells.texts)) (list (entry spelling))
-  resets_all = list_spells entry_below (λ x good. some_spelled (reset_form kinds.MapRr) x (entry spelling x) good refl) (reset_all kinds.MapRr)
+  resets_all : SpellsAll (are_members entry_below (can_put_reset (may_stand kinds.MapRr has) is_of can_put spelling)) (is_list entry_below (is_reset_spelled (may_stand kinds.MapRr has) is_of is_spelled spelling)) (pieces_of (flat_map (entry_contents contents))) (list (entry spelling))
+  resets_all =
+      let each = list_spells entry_below (λ x good. some_spelled (reset_form kinds.MapRr) x (entry spelling x) good refl) (reset_all kinds.MapRr) in
+      told_spells (pieces_of (flat_map (entry_contents contents))) (pieces_each (entry_contents contents)) each
 
-  rr_rest_all : SpellsAll (rr_can_put has is_of can_put spelling) (rr_is_spelled has is_of is_spelled spelling) (rr_texts spells.texts) (rr_rest spelling)
-  rr_rest_all = record { spells = by; stand = stand }
+  rr_rest_all : SpellsAll (rr_can_put has is_of can_put spelling) (rr_is_spelled has is_of is_spelled spelling) (pieces_of (rr_contents contents)) (rr_rest spelling)
+  rr_rest_all = record { spells = by; held = held; stand = stand }
     where
-      by : (e : MapEffect E) → rr_can_put has is_of can_put spelling e ≡ true → list_all is_text (rr_texts spells.texts e) ≡ true → (rr_is_spelled has is_of is_spelled spelling e ≡ true) ⊎ IsTooLong (rr_rest spelling e)
+      by : (e : MapEffect E) → rr_can_put has is_of can_put spelling e ≡ true → all_hold (pieces_of (rr_contents contents) e) ≡ true → (rr_is_spelled has is_of is_spelled spelling e ≡ true) ⊎ IsTooLong (rr_rest spelling e)
       by (At f e) h all = (entry_all kinds.MapRr).spells (f, e) h all
       by (Resets xs) h all = resets_all.spells xs h all
 
-      stand : (e : MapEffect E) → StandInTurn (rr_texts spells.texts e) (rr_rest spelling e)
+      held : (e : MapEffect E) → rr_is_spelled has is_of is_spelled spelling e ≡ true → all_hold (pieces_of (rr_contents contents) e) ≡ true
+      held (At f e) h = (entry_all kinds.MapRr).held (f, e) h
+      held (Resets xs) h = resets_all.held xs h
+
+      stand : (e : MapEffect E) → StandInTurn (pieces_of (rr_contents contents) e) (rr_rest spelling e)
       stand (At f e) = (entry_all kinds.MapRr).stand (f, e)
       stand (Resets xs) = resets_all.stand xs
 
-  pub rr_all : SpellsAll (rr_can_put has is_of can_put spelling) (rr_is_spelled has is_of is_spelled spelling) (rr_texts spells.texts) (rr_spelling spelling)
+  pub rr_all : SpellsAll (rr_can_put has is_of can_put spelling) (rr_is_spelled has is_of is_spelled spelling) (pieces_of (rr_contents contents)) (rr_spelling spelling)
   rr_all = behind_spells (λ e. number 1 (rr_mark e)) rr_rest_all
 
-  abbrev pub go_spells : (of_map : Kind → Bool) → SpellsEffects of_map is_of_map (go_can_put has is_of can_put) (go_is_spelled has is_of is_spelled) (go_spelling spelling) (λ k. go_at has reading)
-  go_spells of_map = record { form = λ k h. go_form; texts = go_texts spells.texts; all = go_all }
+  abbrev pub go_spells : (of_map : Kind → Bool) → SpellsEffects of_map is_of_map (go_can_put has is_of can_put) (go_is_spelled has is_of is_spelled) (go_contents contents) (go_spelling spelling) (λ k. go_at has reading)
+  go_spells of_map = record { form = λ k h. go_form; all = go_all }
 
-  abbrev pub rr_spells : (of_map : Kind → Bool) → SpellsEffects of_map is_of_map (rr_can_put has is_of can_put spelling) (rr_is_spelled has is_of is_spelled spelling) (rr_spelling spelling) (λ k. rr_at has reading)
-  rr_spells of_map = record { form = λ k h. rr_form; texts = rr_texts spells.texts; all = rr_all }
+  abbrev pub rr_spells : (of_map : Kind → Bool) → SpellsEffects of_map is_of_map (rr_can_put has is_of can_put spelling) (rr_is_spelled has is_of is_spelled spelling) (rr_contents contents) (rr_spelling spelling) (λ k. rr_at has reading)
+  rr_spells of_map = record { form = λ k h. rr_form; all = rr_all }
 
--- ---- what an effect names stands in its bytes
+-- ---- an effect names exactly the updates in the sets that stand in its bytes
 
-entry_stands : {E : Type 0} {can_put : E → Bool} {names : E → Dot → Bool} {spelling : E → List ℕ} (has : Kind → Bool) → NamesStand can_put names spelling
-    → (d : Dot) (x : Field × E) → can_put x.1 ≡ true → (has x.0.kind && names x.1 d) ≡ true → StandsIn d (entry spelling x)
-entry_stands {names = names} has inner d x can h = stands_behind (field x.0) (inner.stands x.1 d can (both_true (has x.0.kind) (names x.1 d) h).1)
+-- a field of a kind that the type has counts as its effect does
+known_names : (has : Kind → Bool) (k : Kind) (b c : Bool) → has k ≡ true → b ≡ c → (has k && b) ≡ c
+known_names has k b c known same = ap (λ h. h && b) known ∙ same
 
-only : (b : Bool) → (b || false) ≡ true → b ≡ true
-only b h = ⊎_elim (λ is. is) (λ is. absurd (false≢true is)) (or_cases b false h)
+module _ {E : Type 0} (has : Kind → Bool) (is_of : Kind → E → Bool) {can_put : E → Bool} {names : E → Dot → Bool} {contents : E → List Content} {spelling : E → List ℕ} (inner : NamesStand can_put names contents spelling) where
+  abbrev Exact : Field × E → Dot → Type 0
+  Exact x d = (has x.0.kind && names x.1 d) ≡ have_update (entry_contents contents x) d
 
-module _ {E : Type 0} (has : Kind → Bool) (is_of : Kind → E → Bool) {can_put : E → Bool} {names : E → Dot → Bool} {spelling : E → List ℕ} (inner : NamesStand can_put names spelling) where
-  entry_stand : (outer : Kind) (d : Dot) (x : Field × E) → can_put_entry (may_stand outer has) is_of can_put x ≡ true → (has x.0.kind && names x.1 d) ≡ true → StandsIn d (entry spelling x)
-  entry_stand outer d x can h = entry_stands has inner d x (both_true (is_of x.0.kind x.1) (can_put x.1) (both_true (may_stand outer has x.0.kind) (is_of x.0.kind x.1 && can_put x.1) can).1).1 h
+  entry_exact : (outer : Kind) (x : Field × E) (d : Dot) → can_put_entry (may_stand outer has) is_of can_put x ≡ true → Exact x d
+  entry_exact outer x d can =
+      let a = both_true (may_stand outer has x.0.kind) (is_of x.0.kind x.1 && can_put x.1) can in
+      let known = (both_true (stands_in outer x.0.kind) (has x.0.kind) a.0).1 in
+      known_names has x.0.kind (names x.1 d) (have_update (contents x.1) d) known (inner.exact x.1 d (both_true (is_of x.0.kind x.1) (can_put x.1) a.1).1)
 
-  reset_stand : (outer : Kind) (d : Dot) (x : Field × E) → can_put_reset (may_stand outer has) is_of can_put spelling x ≡ true → (has x.0.kind && names x.1 d) ≡ true → StandsIn d (entry spelling x)
-  reset_stand outer d x can h =
+  reset_exact : (outer : Kind) (x : Field × E) (d : Dot) → can_put_reset (may_stand outer has) is_of can_put spelling x ≡ true → Exact x d
+  reset_exact outer x d can =
       let begins = begins_with (reset_tag x.0.kind) (spelling x.1) in
       let a = both_true (may_stand outer has x.0.kind) (begins && (is_of x.0.kind x.1 && can_put x.1)) can in
-      let b = both_true begins (is_of x.0.kind x.1 && can_put x.1) a.1 in
-      entry_stands has inner d x (both_true (is_of x.0.kind x.1) (can_put x.1) b.1).1 h
+      entry_exact outer x d (and_true (may_stand outer has x.0.kind) _ a.0 (both_true begins (is_of x.0.kind x.1 && can_put x.1) a.1).1)
 
-  go_stand : (e : MapEffect E) (d : Dot) → go_can_put has is_of can_put e ≡ true → map_names has names e d ≡ true → StandsIn d (go_spelling spelling e)
-  go_stand (At f e) d can h = stands_behind (number 1 0) (entry_stand kinds.MapGo d (f, e) can (only (has f.kind && names e d) h))
-  go_stand (Resets xs) d can h = absurd (false≢true can)
+  resets_exact : (outer : Kind) (xs : List (Field × E)) (d : Dot) → list_all (can_put_reset (may_stand outer has) is_of can_put spelling) xs ≡ true
+      → list_any (λ x. has x.0.kind && names x.1 d) xs ≡ list_any (λ x. have_update (entry_contents contents x) d) xs
+  resets_exact outer [] d can = refl
+  resets_exact outer (x ∷ xs) d can =
+      let two = both_true (can_put_reset (may_stand outer has) is_of can_put spelling x) _ can in
+      λ i. reset_exact outer x d two.0 i || resets_exact outer xs d two.1 i
 
-  pub go_stands : NamesStand (go_can_put has is_of can_put) (map_names has names) (go_spelling spelling)
-  go_stands = record { stands = go_stand }
+  go_exact : (e : MapEffect E) (d : Dot) → go_can_put has is_of can_put e ≡ true → map_names has names e d ≡ have_update (go_contents contents e) d
+  go_exact (At f e) d can = or_none (has f.kind && names e d) ∙ entry_exact kinds.MapGo (f, e) d can
+  go_exact (Resets xs) d can = absurd (false≢true can)
 
-  rr_stand : (e : MapEffect E) (d : Dot) → rr_can_put has is_of can_put spelling e ≡ true → map_names has names e d ≡ true → StandsIn d (rr_spelling spelling e)
-  rr_stand (At f e) d can h = stands_behind (number 1 0) (entry_stand kinds.MapRr d (f, e) can (only (has f.kind && names e d) h))
-  rr_stand (Resets xs) d can h =
+  rr_exact : (e : MapEffect E) (d : Dot) → rr_can_put has is_of can_put spelling e ≡ true → map_names has names e d ≡ have_update (rr_contents contents e) d
+  rr_exact (At f e) d can = or_none (has f.kind && names e d) ∙ entry_exact kinds.MapRr (f, e) d can
+  rr_exact (Resets xs) d can =
       let good = both_true (are_in_order entry_below None xs) (list_all (can_put_reset (may_stand kinds.MapRr has) is_of can_put spelling) xs) can in
-      stands_behind (number 1 1) (stands_in_list d (can_put_reset (may_stand kinds.MapRr has) is_of can_put spelling) (λ x. has x.0.kind && names x.1 d) (entry spelling) (reset_stand kinds.MapRr d) xs good.1 h)
+      resets_exact kinds.MapRr xs d good.1 ∙ sym (update_each (entry_contents contents) xs d)
 
-  pub rr_stands : NamesStand (rr_can_put has is_of can_put spelling) (map_names has names) (rr_spelling spelling)
-  rr_stands = record { stands = rr_stand }
+module _ {E : Type 0} {has : Kind → Bool} {is_of : Kind → E → Bool} {can_put is_spelled : E → Bool} {names : E → Dot → Bool} {contents : E → List Content} {spelling : E → List ℕ} {reading : Kind → List ℕ → ℕ → Read E}
+    (spells : SpellsEffects has is_of can_put is_spelled contents spelling reading) (inner : NamesStand can_put names contents spelling) where
+  pub go_stands : NamesStand (go_can_put has is_of can_put) (map_names has names) (go_contents contents) (go_spelling spelling)
+  go_stands = names_stand (go_all spells) (go_exact has is_of inner)
+
+  pub rr_stands : NamesStand (rr_can_put has is_of can_put spelling) (map_names has names) (rr_contents contents) (rr_spelling spelling)
+  rr_stands = names_stand (rr_all spells) (rr_exact has is_of inner)

@@ -1,7 +1,7 @@
 -- The effects that are generated of maps can be put, where those of the inner type can.
 use Rattle.std.proofs.Common.{◌≡◌, Bool, true, false, cond, not, ◌&&◌, ℕ, List, [], ◌∷◌, refl, sym, ◌∙◌, ap, subst, T, Option, Some, None}
 use Rattle.std.specs.Prelude.{map, filter, Result, Ok, Err, IfOk}
-use Rattle.std.specs.List.{list_any, list_all}
+use Rattle.std.specs.List.{flat_map, list_any, list_all}
 use Rattle.std.specs.Ordering.{is_lt}
 use Rattle.std.specs.FinMap.{get, get-entries, entries, entries_sorted, is_sorted}
 use Rattle.std.specs.FinMap.Entries.{below_all}
@@ -20,26 +20,28 @@ use Rattle.crdt_core.specs.FieldOrder.{field_cmp}
 use Rattle.crdt_core.specs.Seen.{Update}
 use Rattle.crdt_core.specs.Law.{KeepsLaw}
 use Rattle.crdt_core.specs.Spelled.{is_dot}
+use Rattle.crdt_core.specs.Contents.{Content, sets_ascend}
+use Rattle.crdt_core.specs.ContentsLaws.{ascend_joined}
 use Rattle.crdt_core.specs.EffectForm.{HoldsSpelled, IsReady, reset_tag, begins_with}
 use Rattle.crdt_maps.specs.declared.effect.MapEffect.{MapEffect}
 use Rattle.crdt_maps.specs.declared.effect.MapEffect.TheVariants.{At, Resets}
 use Rattle.crdt_maps.specs.Maps.{FieldMap, at, go_has, rr_has, is_undone, resets_of, reset_by, map_made, map_too_deep, map_holds}
 use Rattle.crdt_maps.specs.FieldHistory.{outer_fits, enters, own_act}
 use Rattle.crdt_maps.specs.MapSteps.{some_found, held_here}
-use Rattle.crdt_maps.specs.EffectForm.{may_stand, entry_below, go_can_put, go_spelling, rr_can_put, rr_spelling, is_of_map}
+use Rattle.crdt_maps.specs.EffectForm.{may_stand, entry_below, entry_contents, go_can_put, go_contents, go_spelling, rr_can_put, rr_contents, rr_spelling, is_of_map}
 
--- an effect of a field that can be put
-abbrev pub can_put_at : {E : Type 0} → (Kind → E → Bool) → (E → Bool) → Kind → E → Bool
-can_put_at is_of can_put k e = is_of k e && can_put e
+-- an effect of a field that can be put, whose sets of updates ascend
+abbrev pub is_ready_at : {E : Type 0} → (Kind → E → Bool) → (E → Bool) → (E → List Content) → Kind → E → Bool
+is_ready_at is_of can_put contents k e = (is_of k e && can_put e) && sets_ascend (contents e)
 
 -- the same of a reset, which begins as those of its kind do
-abbrev pub is_reset_ready : {E : Type 0} → (Kind → E → Bool) → (E → Bool) → (E → List ℕ) → Field × E → Bool
-is_reset_ready is_of can_put spelling x = begins_with (reset_tag x.0.kind) (spelling x.1) && can_put_at is_of can_put x.0.kind x.1
+abbrev pub is_reset_ready : {E : Type 0} → (Kind → E → Bool) → (E → Bool) → (E → List Content) → (E → List ℕ) → Field × E → Bool
+is_reset_ready is_of can_put contents spelling x = begins_with (reset_tag x.0.kind) (spelling x.1) && is_ready_at is_of can_put contents x.0.kind x.1
 
 -- so for each part of a map's effect
-abbrev pub parts_ready : {E : Type 0} → (Kind → E → Bool) → (E → Bool) → (E → List ℕ) → MapEffect E → Bool
-parts_ready is_of can_put spelling (At f e) = can_put_at is_of can_put f.kind e
-parts_ready is_of can_put spelling (Resets xs) = list_all (is_reset_ready is_of can_put spelling) xs
+abbrev pub parts_ready : {E : Type 0} → (Kind → E → Bool) → (E → Bool) → (E → List Content) → (E → List ℕ) → MapEffect E → Bool
+parts_ready is_of can_put contents spelling (At f e) = is_ready_at is_of can_put contents f.kind e
+parts_ready is_of can_put contents spelling (Resets xs) = list_all (is_reset_ready is_of can_put contents spelling) xs
 
 -- all that these fields hold has spellings
 abbrev pub AllSpelled : {S : Type 0} → (S → Dot → Bool) → List (Field × S) → Type 0
@@ -59,10 +61,11 @@ field_spelled inner m f known h d k = h d (held_here inner m f d known k)
 pub found_spelled : {S : Type 0} (holds : S → Dot → Bool) (m : FieldMap S) (f : Field) (s : S) → get m f ≡ Some s → HoldsSpelled (map_holds holds) m → HoldsSpelled holds s
 found_spelled holds m f s e h d k = h d (some_found field_cmp (λ s. holds s d) f s (entries m) (sym (get-entries m f) ∙ e) k)
 
--- what can be put of a whole object can be put of a field
-pub ready_at : {E X : Type 0} (is_of : Kind → E → Bool) (can_put : E → Bool) (spelling : E → List ℕ) (k : Kind) (p : List Field) (a : Act) (r : Result E X) → IfOk r (λ e. IsReady is_of can_put spelling k p a e) → IfOk r (λ e. can_put_at is_of can_put k e ≡ true)
-ready_at is_of can_put spelling k p a (Ok e) h = and_from _ _ h.0 h.1
-ready_at is_of can_put spelling k p a (Err x) h = tt
+-- what is ready of a whole object is so of a field
+pub ready_at : {E X : Type 0} (is_of : Kind → E → Bool) (can_put : E → Bool) (contents : E → List Content) (spelling : E → List ℕ) (k : Kind) (p : List Field) (a : Act) (r : Result E X)
+    → IfOk r (λ e. IsReady is_of can_put contents spelling k p a e) → IfOk r (λ e. is_ready_at is_of can_put contents k e ≡ true)
+ready_at is_of can_put contents spelling k p a (Ok e) h = and_from _ _ (and_from _ _ h.kind h.fit) h.sets
+ready_at is_of can_put contents spelling k p a (Err x) h = tt
 
 all_both : {A : Type 0} (p q : A → Bool) (xs : List A) → list_all p xs ≡ true → list_all q xs ≡ true → list_all (λ x. p x && q x) xs ≡ true
 all_both p q [] h k = refl
@@ -70,6 +73,20 @@ all_both p q (x ∷ xs) h k =
     let a = and_parts (p x) (list_all p xs) h in
     let b = and_parts (q x) (list_all q xs) k in
     and_from _ _ (and_from _ _ a.0 b.0) (all_both p q xs a.1 b.1)
+
+-- resets that can be put
+abbrev resets_put : {E : Type 0} → (Kind → E → Bool) → (E → Bool) → (E → List ℕ) → Field × E → Bool
+resets_put is_of can_put spelling x = begins_with (reset_tag x.0.kind) (spelling x.1) && (is_of x.0.kind x.1 && can_put x.1)
+
+resets_ready : {E : Type 0} (is_of : Kind → E → Bool) (can_put : E → Bool) (contents : E → List Content) (spelling : E → List ℕ) (xs : List (Field × E)) → list_all (is_reset_ready is_of can_put contents spelling) xs ≡ true
+    → (list_all (resets_put is_of can_put spelling) xs ≡ true) × (sets_ascend (flat_map (entry_contents contents) xs) ≡ true)
+resets_ready is_of can_put contents spelling [] h = (refl, refl)
+resets_ready is_of can_put contents spelling (x ∷ xs) h =
+    let all = and_parts (is_reset_ready is_of can_put contents spelling x) _ h in
+    let one = and_parts (begins_with (reset_tag x.0.kind) (spelling x.1)) _ all.0 in
+    let two = and_parts (is_of x.0.kind x.1 && can_put x.1) (sets_ascend (contents x.1)) one.1 in
+    let others = resets_ready is_of can_put contents spelling xs all.1 in
+    (and_from _ _ (and_from _ _ one.0 two.0) others.0, ascend_joined (contents x.1) (flat_map (entry_contents contents) xs) two.1 others.1)
 
 is_so : (b : Bool) → T b → b ≡ true
 is_so true h = refl
@@ -124,36 +141,51 @@ module _ {S E : Type 0} (has : Kind → Bool) (initial : Kind → S) (made : Kin
   acts_sorted m (act.DropField f) = refl
   acts_sorted m _ = refl
 
-  module _ (too_deep : Kind → List Field → Bool) (is_of : Kind → E → Bool) (can_put : E → Bool) (spelling : E → List ℕ) where
+  module _ (too_deep : Kind → List Field → Bool) (is_of : Kind → E → Bool) (can_put : E → Bool) (contents : E → List Content) (spelling : E → List ℕ) where
     abbrev effect : Kind → FieldMap S → List Field → Act → ℕ → MapEffect E
     effect k m p a n = map_made has initial made is_blank k m p a n
 
-    entered_ready : (k : Kind) (m : FieldMap S) (f : Field) (p : List Field) (a : Act) (n : ℕ) → outer_fits has too_deep k (f ∷ p) a ≡ true → parts_ready is_of can_put spelling (effect k m (f ∷ p) a n) ≡ true → (may_stand k has f.kind && can_put_at is_of can_put f.kind (made f.kind (at initial m f) p a n)) ≡ true
+    entered_ready : (k : Kind) (m : FieldMap S) (f : Field) (p : List Field) (a : Act) (n : ℕ) → outer_fits has too_deep k (f ∷ p) a ≡ true → (is_of f.kind (made f.kind (at initial m f) p a n) && can_put (made f.kind (at initial m f) p a n)) ≡ true
+        → (may_stand k has f.kind && (is_of f.kind (made f.kind (at initial m f) p a n) && can_put (made f.kind (at initial m f) p a n))) ≡ true
     entered_ready k m f p a n fit h = let e = enters has too_deep k f p a fit in and_from _ _ (and_from _ _ e.stands e.known) h
 
-    go_at_ready : (m : FieldMap S) (p : List Field) (a : Act) (n : ℕ) → outer_fits has too_deep kinds.MapGo p a ≡ true → parts_ready is_of can_put spelling (effect kinds.MapGo m p a n) ≡ true → IsReady is_of_map (go_can_put has is_of can_put) (go_spelling spelling) kinds.MapGo p a (effect kinds.MapGo m p a n)
+    go_at_ready : (m : FieldMap S) (p : List Field) (a : Act) (n : ℕ) → outer_fits has too_deep kinds.MapGo p a ≡ true → parts_ready is_of can_put contents spelling (effect kinds.MapGo m p a n) ≡ true
+        → IsReady is_of_map (go_can_put has is_of can_put) (go_contents contents) (go_spelling spelling) kinds.MapGo p a (effect kinds.MapGo m p a n)
     go_at_ready m [] a n fit h = absurd (false≢true (own_act has too_deep kinds.MapGo a fit))
-    go_at_ready m (f ∷ p) a n fit h = (refl, entered_ready kinds.MapGo m f p a n fit h, λ asked. absurd (false≢true asked))
+    go_at_ready m (f ∷ p) a n fit h =
+        let two = and_parts _ (sets_ascend (contents (made f.kind (at initial m f) p a n))) h in
+        record { kind = refl; fit = entered_ready kinds.MapGo m f p a n fit two.0; sets = two.1; opened = λ asked. absurd (false≢true asked) }
 
-    rr_at_ready : (m : FieldMap S) (p : List Field) (a : Act) (n : ℕ) → outer_fits has too_deep kinds.MapRr p a ≡ true → parts_ready is_of can_put spelling (effect kinds.MapRr m p a n) ≡ true → IsReady is_of_map (rr_can_put has is_of can_put spelling) (rr_spelling spelling) kinds.MapRr p a (effect kinds.MapRr m p a n)
+    rr_at_ready : (m : FieldMap S) (p : List Field) (a : Act) (n : ℕ) → outer_fits has too_deep kinds.MapRr p a ≡ true → parts_ready is_of can_put contents spelling (effect kinds.MapRr m p a n) ≡ true
+        → IsReady is_of_map (rr_can_put has is_of can_put spelling) (rr_contents contents) (rr_spelling spelling) kinds.MapRr p a (effect kinds.MapRr m p a n)
     rr_at_ready m [] a n fit h =
         let es = reset_by initial m a in
-        (refl, and_from _ _ (all_in_order n es (acts_sorted m a)) (all_both (λ x. may_stand kinds.MapRr has x.0.kind) (is_reset_ready is_of can_put spelling) (resets n es) (all_may_stand n es) h), λ asked. refl)
-    rr_at_ready m (f ∷ p) a n fit h = (refl, entered_ready kinds.MapRr m f p a n fit h, λ asked. absurd (false≢true asked))
+        let ready = resets_ready is_of can_put contents spelling (resets n es) h in
+        record {
+          kind = refl;
+          fit = and_from _ _ (all_in_order n es (acts_sorted m a)) (all_both (λ x. may_stand kinds.MapRr has x.0.kind) (resets_put is_of can_put spelling) (resets n es) (all_may_stand n es) ready.0);
+          sets = ready.1;
+          opened = λ asked. refl;
+        }
+    rr_at_ready m (f ∷ p) a n fit h =
+        let two = and_parts _ (sets_ascend (contents (made f.kind (at initial m f) p a n))) h in
+        record { kind = refl; fit = entered_ready kinds.MapRr m f p a n fit two.0; sets = two.1; opened = λ asked. absurd (false≢true asked) }
 
     abbrev GoReady : Kind → FieldMap S → List Field → Act → ℕ → Type 0
-    GoReady k m p a n = outer_fits has too_deep k p a ≡ true → parts_ready is_of can_put spelling (effect k m p a n) ≡ true → IsReady is_of_map (go_can_put has is_of can_put) (go_spelling spelling) k p a (effect k m p a n)
+    GoReady k m p a n = outer_fits has too_deep k p a ≡ true → parts_ready is_of can_put contents spelling (effect k m p a n) ≡ true → IsReady is_of_map (go_can_put has is_of can_put) (go_contents contents) (go_spelling spelling) k p a (effect k m p a n)
 
     abbrev RrReady : Kind → FieldMap S → List Field → Act → ℕ → Type 0
-    RrReady k m p a n = outer_fits has too_deep k p a ≡ true → parts_ready is_of can_put spelling (effect k m p a n) ≡ true → IsReady is_of_map (rr_can_put has is_of can_put spelling) (rr_spelling spelling) k p a (effect k m p a n)
+    RrReady k m p a n = outer_fits has too_deep k p a ≡ true → parts_ready is_of can_put contents spelling (effect k m p a n) ≡ true → IsReady is_of_map (rr_can_put has is_of can_put spelling) (rr_contents contents) (rr_spelling spelling) k p a (effect k m p a n)
 
     -- what is generated of a map can be put
-    pub go_ready : (k : Kind) → go_has k ≡ true → (m : FieldMap S) (p : List Field) (a : Act) (n : ℕ) → fits k p a ≡ true → map_too_deep has too_deep k p ≡ false → (e : MapEffect E) → e ≡ effect k m p a n → parts_ready is_of can_put spelling e ≡ true → IsReady is_of_map (go_can_put has is_of can_put) (go_spelling spelling) k p a e
+    pub go_ready : (k : Kind) → go_has k ≡ true → (m : FieldMap S) (p : List Field) (a : Act) (n : ℕ) → fits k p a ≡ true → map_too_deep has too_deep k p ≡ false → (e : MapEffect E) → e ≡ effect k m p a n → parts_ready is_of can_put contents spelling e ≡ true
+        → IsReady is_of_map (go_can_put has is_of can_put) (go_contents contents) (go_spelling spelling) k p a e
     go_ready k is m p a n fit shallow e same h =
-        subst (IsReady is_of_map (go_can_put has is_of can_put) (go_spelling spelling) k p a) (sym same)
-        (subst (λ l. GoReady l m p a n) (sym (same_kind_is k kinds.MapGo is)) (go_at_ready m p a n) (and_from _ _ fit (ap not shallow)) (ap (parts_ready is_of can_put spelling) (sym same) ∙ h))
+        subst (IsReady is_of_map (go_can_put has is_of can_put) (go_contents contents) (go_spelling spelling) k p a) (sym same)
+        (subst (λ l. GoReady l m p a n) (sym (same_kind_is k kinds.MapGo is)) (go_at_ready m p a n) (and_from _ _ fit (ap not shallow)) (ap (parts_ready is_of can_put contents spelling) (sym same) ∙ h))
 
-    pub rr_ready : (k : Kind) → rr_has k ≡ true → (m : FieldMap S) (p : List Field) (a : Act) (n : ℕ) → fits k p a ≡ true → map_too_deep has too_deep k p ≡ false → (e : MapEffect E) → e ≡ effect k m p a n → parts_ready is_of can_put spelling e ≡ true → IsReady is_of_map (rr_can_put has is_of can_put spelling) (rr_spelling spelling) k p a e
+    pub rr_ready : (k : Kind) → rr_has k ≡ true → (m : FieldMap S) (p : List Field) (a : Act) (n : ℕ) → fits k p a ≡ true → map_too_deep has too_deep k p ≡ false → (e : MapEffect E) → e ≡ effect k m p a n → parts_ready is_of can_put contents spelling e ≡ true
+        → IsReady is_of_map (rr_can_put has is_of can_put spelling) (rr_contents contents) (rr_spelling spelling) k p a e
     rr_ready k is m p a n fit shallow e same h =
-        subst (IsReady is_of_map (rr_can_put has is_of can_put spelling) (rr_spelling spelling) k p a) (sym same)
-        (subst (λ l. RrReady l m p a n) (sym (same_kind_is k kinds.MapRr is)) (rr_at_ready m p a n) (and_from _ _ fit (ap not shallow)) (ap (parts_ready is_of can_put spelling) (sym same) ∙ h))
+        subst (IsReady is_of_map (rr_can_put has is_of can_put spelling) (rr_contents contents) (rr_spelling spelling) k p a) (sym same)
+        (subst (λ l. RrReady l m p a n) (sym (same_kind_is k kinds.MapRr is)) (rr_at_ready m p a n) (and_from _ _ fit (ap not shallow)) (ap (parts_ready is_of can_put contents spelling) (sym same) ∙ h))

@@ -2,7 +2,8 @@ ghost use Rattle.std.specs.Prelude.{◌≡◌, ◌≤◌, ◌++◌, true, length
 ghost use Rattle.field_codec.specs.Spelling.{number, list, are_members, is_list, Keeps};
 ghost use Rattle.field_codec.specs.Reading.{Gives, list_at};
 ghost use Rattle.crdt_core.specs.declared.kind.Kind.TheVariants.{MapRr};
-ghost use Rattle.crdt_maps.specs.EffectForm.{may_stand, entry, entry_below, can_put_reset, is_reset_spelled, reset_at, go_can_put, go_is_spelled, go_spelling, go_at, go_form, go_texts, go_all, rr_can_put, rr_is_spelled, rr_spelling, rr_at, rr_form, rr_texts, rr_all};
+ghost use Rattle.crdt_core.specs.Contents.{pieces_of};
+ghost use Rattle.crdt_maps.specs.EffectForm.{may_stand, entry, entry_below, can_put_reset, is_reset_spelled, reset_at, go_can_put, go_contents, go_is_spelled, go_spelling, go_at, go_form, go_all, rr_can_put, rr_contents, rr_is_spelled, rr_spelling, rr_at, rr_form, rr_all};
 
 use crate::MapEffect;
 use crate::entry_form::{ResetForm, put_entry, take_entry};
@@ -32,7 +33,7 @@ impl<I: Crdt> Form for GoForm<I> {
 
     ghost spelling = { λ _ e. go_spelling I.spelling e };
 
-    ghost texts = { λ _ e. go_texts I.spells.texts e };
+    ghost pieces = { λ _ e. pieces_of (go_contents I.contents) e };
 
     ghost reading = { λ _ bytes at. go_at I.has I.reading bytes at };
 
@@ -97,7 +98,7 @@ impl<I: Crdt> Form for RrForm<I> {
 
     ghost spelling = { λ _ e. rr_spelling I.spelling e };
 
-    ghost texts = { λ _ e. rr_texts I.spells.texts e };
+    ghost pieces = { λ _ e. pieces_of (rr_contents I.contents) e };
 
     ghost reading = { λ _ bytes at. rr_at I.has I.reading bytes at };
 

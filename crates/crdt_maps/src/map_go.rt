@@ -2,7 +2,7 @@ ghost use Rattle.std.specs.Prelude.{◌≡◌, IfOk};
 ghost use Rattle.std.specs.FinMap.{empty};
 ghost use Rattle.crdt_maps.specs.Maps.{go_has, map_step, map_made, map_stamp, map_too_deep, map_names, map_holds, go_value, go_blank};
 ghost use Rattle.crdt_maps.specs.Meaning.{go_meaning};
-ghost use Rattle.crdt_maps.specs.EffectForm.{is_of_map, go_can_put, go_is_spelled, go_spelling, go_at, go_spells, go_stands};
+ghost use Rattle.crdt_maps.specs.EffectForm.{is_of_map, go_can_put, go_is_spelled, go_contents, go_spelling, go_at, go_spells, go_stands};
 ghost use Rattle.crdt_maps.specs.MapLaws.{go_law, go_in_maps};
 ghost use Rattle.crdt_maps.specs.MapResets.{go_resets};
 
@@ -55,13 +55,15 @@ impl<I: Crdt> Crdt for MapGo<I> {
 
     ghost is_spelled = { go_is_spelled I.has I.is_of I.is_spelled };
 
+    ghost contents = { go_contents I.contents };
+
     ghost spelling = { go_spelling I.spelling };
 
     ghost reading = { λ k. go_at I.has I.reading };
 
     ghost spells = { go_spells I.spells go_has };
 
-    ghost stands = { go_stands I.has I.is_of I.stands };
+    ghost stands = { go_stands I.spells I.stands };
 
     ghost is_blank = { go_blank };
 

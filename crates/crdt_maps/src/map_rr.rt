@@ -2,7 +2,7 @@ ghost use Rattle.std.specs.Prelude.{◌≡◌, IfOk};
 ghost use Rattle.std.specs.FinMap.{empty};
 ghost use Rattle.crdt_maps.specs.Maps.{rr_has, map_step, map_made, map_stamp, map_too_deep, map_names, map_holds, rr_value, rr_blank};
 ghost use Rattle.crdt_maps.specs.Meaning.{rr_meaning};
-ghost use Rattle.crdt_maps.specs.EffectForm.{is_of_map, rr_can_put, rr_is_spelled, rr_spelling, rr_at, rr_spells, rr_stands};
+ghost use Rattle.crdt_maps.specs.EffectForm.{is_of_map, rr_can_put, rr_is_spelled, rr_contents, rr_spelling, rr_at, rr_spells, rr_stands};
 ghost use Rattle.crdt_maps.specs.MapLaws.{rr_law, rr_in_maps};
 ghost use Rattle.crdt_maps.specs.MapResets.{rr_resets};
 
@@ -55,13 +55,15 @@ impl<I: Crdt> Crdt for MapRr<I> {
 
     ghost is_spelled = { rr_is_spelled I.has I.is_of I.is_spelled I.spelling };
 
+    ghost contents = { rr_contents I.contents };
+
     ghost spelling = { rr_spelling I.spelling };
 
     ghost reading = { λ k. rr_at I.has I.reading };
 
     ghost spells = { rr_spells I.spells rr_has };
 
-    ghost stands = { rr_stands I.has I.is_of I.stands };
+    ghost stands = { rr_stands I.spells I.stands };
 
     ghost is_blank = { rr_blank I.is_blank };
 
