@@ -1,9 +1,8 @@
 -- Lists of updates as sets.
-use Rattle.std.specs.Prelude.{Bool, true, not, List}
+use Rattle.std.specs.Prelude.{Bool, not, List}
 use Rattle.std.specs.List.{filter, list_any}
 use Rattle.std.specs.List.Sorted.{IsStrictlySortedBy}
 use Rattle.std.specs.BTreeSet.{insert_key}
-use Rattle.std.specs.Set.{sorted_merge}
 use Rattle.site_vector.specs.declared.ids.Dot.{Dot}
 use Rattle.site_vector.specs.Ids.{same_dot}
 use Rattle.site_vector.specs.Order.{dot_cmp}
@@ -22,7 +21,3 @@ with_dot ds d = insert_key dot_cmp ds d
 -- those that aren't gone
 abbrev pub without : List Dot → List Dot → List Dot
 without ds gone = filter (λ d. not (has_dot gone d)) ds
-
--- those of two ascending lists, each once and in order
-abbrev pub union : List Dot → List Dot → List Dot
-union ds es = sorted_merge dot_cmp true ds es

@@ -1,18 +1,17 @@
 -- The bytes of maps' effects: a field with an effect of its kind, or what a reset undoes of each field.
-use Rattle.std.specs.Prelude.{◌≡◌, ℕ, zero, suc, ◌+◌, ◌^◌, ◌<◌, ◌≤◌, ◌==◌, Bool, true, false, ◌&&◌, ◌||◌, ◌⊎◌, eqb, nat_le, nat_lt, cond, List, [], ◌∷◌, ◌++◌, ◌≢◌, length, take, drop, None, Ok, Err, if◌then◌else◌, refl}
+use Rattle.std.specs.Prelude.{◌≡◌, ℕ, zero, suc, ◌+◌, ◌^◌, ◌<◌, ◌≤◌, ◌==◌, Bool, true, false, ◌&&◌, ◌||◌, ◌⊎◌, eqb, nat_le, nat_lt, List, [], ◌∷◌, ◌++◌, ◌≢◌, length, take, drop, None, Ok, Err, if◌then◌else◌, refl}
 use Rattle.std.proofs.Common.{arith, ap, sym, subst, ◌∙◌, ⊎_elim, append_assoc, length-append}
 use Rattle.std.proofs.lemmas.List.{drop_at}
-use Rattle.std.proofs.lemmas.Bool.{true≢false, false≢true, eqb-true, eq-eqb, or_cases}
+use Rattle.std.proofs.lemmas.Bool.{true≢false, false≢true, eqb-true, eq-eqb}
 use Rattle.std.proofs.lemmas.Bool.Decides.{nat_tests}
 use Rattle.std.specs.List.{flat_map, list_any, list_all}
 use Rattle.field_codec.specs.declared.error.TakeError.TheVariants.{Short, Bad, NoMemory}
-use Rattle.field_codec.specs.declared.error.TakeError.{TakeError}
 use Rattle.field_codec.specs.Spelling.{number, is_number, text, is_text, list, are_in_order, are_members, is_list, is_below, Spans}
 use Rattle.field_codec.specs.Reading.{Read, ◌>>=◌, number_at, text_at, list_at, checked_at, then_at, mapped_at}
 use Rattle.field_codec.specs.Lawful.{IsBytes, IsTooLong, text_piece, all_hold, StandInTurn, TellsWhy, IsForm, SpellsAll}
-use Rattle.field_codec.specs.Steps.{by_length, bind_err, not_both, lt_from, IsBytes-append}
+use Rattle.field_codec.specs.Steps.{by_length, bind_err, lt_from, IsBytes-append}
 use Rattle.field_codec.specs.Refusals.{some_spelled, steady_form, enough_from, tested_short, ends_at}
-use Rattle.field_codec.specs.FormLaws.{any_text_form, number_form, number_short, length-number, width1, list_form, checked_form, then_form, mapped_form, lt_holds, le_from, both_true, and_true, ok_is, bind_ok, guard_ok, spans_first}
+use Rattle.field_codec.specs.FormLaws.{any_text_form, number_form, number_short, length-number, width1, list_form, checked_form, then_form, mapped_form, lt_holds, le_from, both_true, and_true, bind_ok, spans_first}
 use Rattle.field_codec.specs.SpellsAllLaws.{alike_spells, any_text_spells, checked_spells, behind_spells, then_spells, mapped_spells, told_spells, list_spells}
 use Rattle.field_codec.specs.Tagged.{tagged_at, tagged_form, shape_form}
 use Rattle.site_vector.specs.declared.ids.Dot.{Dot}
@@ -72,17 +71,13 @@ field_all allowed = mapped_spells (λ f. (f.name, f.kind)) (then_spells any_text
 abbrev pub opened_at : {V : Type 0} → ℕ → (List ℕ → ℕ → Read V) → List ℕ → ℕ → Read V
 opened_at tag reading bytes at = do
   first ← checked_at (λ n. n == tag) (number_at 1) bytes at
-  v ← reading bytes at
-  if nat_lt at v.1 then Ok v else Err (Bad at)
+  reading bytes at
 
 plus_none : (n : ℕ) → n + 0 ≡ n
 plus_none n = omega arith
 
 not_below : (n : ℕ) → nat_lt n n ≡ false
 not_below n = grind (arith, nat_tests)
-
-after_one : (at end n : ℕ) → end ≡ at + suc n → nat_lt at end ≡ true
-after_one at end n h = let below : at < end = omega (arith, h) in grind (arith, nat_tests)
 
 front_begins : (tag : ℕ) (s rest : List ℕ) (at end : ℕ) → end ≡ at + length s → nat_lt at end ≡ true → begins_with tag (s ++ rest) ≡ true → begins_with tag s ≡ true
 front_begins tag [] rest at end e lt h = let same : end ≡ at = e ∙ plus_none at in absurd (true≢false (sym lt ∙ ap (nat_lt at) same ∙ not_below at))
@@ -106,32 +101,20 @@ module _ {V : Type 0} (tag : ℕ) (one : number 1 tag ≡ tag ∷ []) (small : i
   begins_there bytes at n mid same spans =
       ap (begins_with tag) (spans.stands ∙ ap (λ m. number 1 m ++ drop mid bytes) (eqb-true n tag same) ∙ ap (λ l. l ++ drop mid bytes) one) ∙ eq-eqb tag tag refl
 
-  later : (at end : ℕ) (s rest : List ℕ) → s ≡ tag ∷ rest → end ≡ at + length s → nat_lt at end ≡ true
-  later at end s rest e long = after_one at end (length rest) (long ∙ ap (λ l. at + length l) e)
-
-  abbrev rest_at : List ℕ → ℕ → Read V
-  rest_at bytes at = reading bytes at >>= λ x. cond (nat_lt at x.1) (Ok x) (Err (Bad at))
-
   abbrev first_at : List ℕ → ℕ → Read ℕ
   first_at = checked_at is_tag (number_at 1)
-
-  -- a value that is read is not empty
-  rest_err : (bytes : List ℕ) (at : ℕ) (e : TakeError) → IsBytes bytes → at ≤ length bytes → rest_at bytes at ≡ Err e → reading bytes at ≡ Err e
-  rest_err bytes at e ok le h = ⊎_elim (λ is. is) (λ a.
-      let some = lt_holds at a.0.1 ((steady_form form).after bytes at a.0 ok le a.1) in
-      absurd (not_both (cond (nat_lt at a.0.1) (Ok a.0) (Err (Bad at))) a.0 e (ap (λ b. cond b (Ok a.0) (Err (Bad at))) some) a.2)) (bind_err (reading bytes at) (λ x. cond (nat_lt at x.1) (Ok x) (Err (Bad at))) e h)
 
   -- where the first byte stands, what is cut off is the value; else it is that byte
   cut_there : (bytes : List ℕ) (at p q : ℕ) (t : ℕ × ℕ) → IsBytes bytes → at ≤ length bytes → first_at bytes at ≡ Ok t → at ≤ p → p ≤ q → reading (take q bytes) at ≡ Err (Short p) → opened_at tag reading (take q bytes) at ≡ Err (Short p)
   cut_there bytes at p q t ok le first behind below h =
       let one_byte : t.1 ≡ at + 1 = omega (arith, (tags.found bytes at t.0 t.1 ok le first).1.long, length-number 1 t.0) in
       by_length t.1 q
-      (λ far. ap (λ r. r >>= λ x. rest_at (take q bytes) at) ((steady_form tags).shorter bytes at q t ok le far first) ∙ ap (λ r. r >>= λ x. cond (nat_lt at x.1) (Ok x) (Err (Bad at))) h)
+      (λ far. ap (λ r. r >>= λ x. reading (take q bytes) at) ((steady_form tags).shorter bytes at q t ok le far first) ∙ h)
       (λ near.
       let place : q ≡ at = omega (arith, near, one_byte, behind, below) in
       let there : p ≡ at = omega (arith, near, one_byte, behind, below) in
       subst (λ n. opened_at tag reading (take q bytes) at ≡ Err (Short n)) (sym there)
-      (subst (λ n. opened_at tag reading (take n bytes) at ≡ Err (Short at)) (sym place) (ap (λ r. r >>= λ x. rest_at (take at bytes) at) (ends_at first_at tags.ends bytes at le))))
+      (subst (λ n. opened_at tag reading (take n bytes) at ≡ Err (Short at)) (sym place) (ap (λ r. r >>= λ x. reading (take at bytes) at) (ends_at first_at tags.ends bytes at le))))
 
   tag_bytes : IsBytes (tag ∷ [])
   tag_bytes zero = lt_from tag (256 ^ 1) small
@@ -159,8 +142,8 @@ module _ {V : Type 0} (tag : ℕ) (one : number 1 tag ≡ tag ∷ []) (small : i
           let is_it = eqb-true a.0.0 tag (both_true (is_tag a.0.0) (is_number 1 a.0.0) t.0).0 in
           let begins : b ∷ more ≡ tag ∷ drop a.0.1 (bytes ++ b ∷ more) = sym (drop_at bytes (b ∷ more) at (sym here)) ∙ t.1.stands ∙ ap (λ n. number 1 n ++ drop a.0.1 (bytes ++ b ∷ more)) is_it ∙ ap (λ l. l ++ drop a.0.1 (bytes ++ b ∷ more)) one in
           let same : bytes ++ b ∷ more ≡ (bytes ++ tag ∷ []) ++ more = ap (λ n. bytes ++ n ∷ more) (head_is b tag more (drop a.0.1 (bytes ++ b ∷ more)) begins) ∙ sym (append_assoc bytes (tag ∷ []) more) in
-          e.1 more (λ i. fits (suc i)) (omega (arith, most)) (sym (ap (λ l. reading l at) same) ∙ rest_err (bytes ++ b ∷ more) at (Short at) all long a.2))
-          (bind_err (first_at (bytes ++ b ∷ more) at) (λ x. rest_at (bytes ++ b ∷ more) at) (Short at) h)
+          e.1 more (λ i. fits (suc i)) (omega (arith, most)) (sym (ap (λ l. reading l at) same) ∙ a.2))
+          (bind_err (first_at (bytes ++ b ∷ more) at) (λ x. reading (bytes ++ b ∷ more) at) (Short at) h)
 
   opened_tells : TellsWhy (opened_at tag reading)
   opened_tells = record {
@@ -172,66 +155,60 @@ module _ {V : Type 0} (tag : ℕ) (one : number 1 tag ≡ tag ∷ []) (small : i
         record {
           behind = s.behind;
           within = s.within;
-          cut = λ q below. ap (λ r. r >>= λ x. rest_at (take q bytes) at) (s.cut q below);
+          cut = λ q below. ap (λ r. r >>= λ x. reading (take q bytes) at) (s.cut q below);
           enough = subst (λ n. (k : ℕ) × ((more : List ℕ) → IsBytes more → k ≤ length more → opened_at tag reading (bytes ++ more) at ≢ Err (Short n))) g.0 (enough_opened bytes at ok (omega (arith, g.1, le)));
         })
         (λ a.
-        let s = form.tells.short bytes at p ok le (rest_err bytes at (Short p) ok le a.2) in
+        let s = form.tells.short bytes at p ok le a.2 in
         record {
           behind = s.behind;
           within = s.within;
           cut = λ q below. cut_there bytes at p q a.0 ok le a.1 s.behind below (s.cut q below);
           enough = (
             s.enough.0,
-            λ more fits most is.
-                s.enough.1 more fits most (rest_err (bytes ++ more) at (Short p) (IsBytes-append bytes more ok fits) (omega (arith, le, length-append bytes more))
-                (sym (ap (λ r. r >>= λ x. rest_at (bytes ++ more) at) ((steady_form tags).longer bytes more at a.0 ok le a.1)) ∙ is)),
+            λ more fits most is. s.enough.1 more fits most (sym (ap (λ r. r >>= λ x. reading (bytes ++ more) at) ((steady_form tags).longer bytes more at a.0 ok le a.1)) ∙ is),
           );
         })
-        (bind_err (first_at bytes at) (λ x. rest_at bytes at) (Short p) h);
+        (bind_err (first_at bytes at) (λ x. reading bytes at) (Short p) h);
     bad = λ bytes at p ok le h.
         ⊎_elim
         (λ is.
         let s = tags.tells.bad bytes at p ok le is in
-        record { behind = s.behind; within = s.within; cut = ap (λ r. r >>= λ x. rest_at (take p bytes) at) s.cut; stays = λ more. ap (λ r. r >>= λ x. rest_at (bytes ++ more) at) (s.stays more) })
+        record { behind = s.behind; within = s.within; cut = ap (λ r. r >>= λ x. reading (take p bytes) at) s.cut; stays = λ more. ap (λ r. r >>= λ x. reading (bytes ++ more) at) (s.stays more) })
         (λ a.
-        let s = form.tells.bad bytes at p ok le (rest_err bytes at (Bad p) ok le a.2) in
+        let s = form.tells.bad bytes at p ok le a.2 in
         record {
           behind = s.behind;
           within = s.within;
           cut = cut_there bytes at p p a.0 ok le a.1 s.behind (omega arith) s.cut;
-          stays = λ more. ap (λ r. r >>= λ x. rest_at (bytes ++ more) at) ((steady_form tags).longer bytes more at a.0 ok le a.1) ∙ ap (λ r. r >>= λ x. cond (nat_lt at x.1) (Ok x) (Err (Bad at))) (s.stays more);
+          stays = λ more. ap (λ r. r >>= λ x. reading (bytes ++ more) at) ((steady_form tags).longer bytes more at a.0 ok le a.1) ∙ s.stays more;
         })
-        (bind_err (first_at bytes at) (λ x. rest_at bytes at) (Bad p) h);
+        (bind_err (first_at bytes at) (λ x. reading bytes at) (Bad p) h);
     memory = λ bytes at ok le h.
-        ⊎_elim (tags.tells.memory bytes at ok le) (λ a. form.tells.memory bytes at ok le (rest_err bytes at NoMemory ok le a.2)) (bind_err (first_at bytes at) (λ x. rest_at bytes at) NoMemory h);
+        ⊎_elim (tags.tells.memory bytes at ok le) (λ a. form.tells.memory bytes at ok le a.2) (bind_err (first_at bytes at) (λ x. reading bytes at) NoMemory h);
   }
 
   pub opened_form : IsForm (λ v. begins_with tag (spelling v) && fits v) (λ v. begins_with tag (spelling v) && is_spelled v) spelling (opened_at tag reading)
   opened_form = record {
     found = λ bytes at v end ok within h.
-        let a = bind_ok (checked_at is_tag (number_at 1) bytes at) (λ t. reading bytes at >>= λ x. cond (nat_lt at x.1) (Ok x) (Err (Bad at))) (v, end) h in
+        let a = bind_ok (first_at bytes at) (λ t. reading bytes at) (v, end) h in
         let t = tags.found bytes at a.0.0 a.0.1 ok within a.1 in
-        let b = bind_ok (reading bytes at) (λ x. cond (nat_lt at x.1) (Ok x) (Err (Bad at))) (v, end) a.2 in
-        let g = guard_ok (nat_lt at b.0.1) (Ok b.0) (Bad at) (v, end) b.2 in
-        let f = form.found bytes at b.0.0 b.0.1 ok within b.1 in
+        let f = form.found bytes at v end ok within a.2 in
         let there = begins_there bytes at a.0.0 a.0.1 (both_true (is_tag a.0.0) (is_number 1 a.0.0) t.0).0 t.1 in
-        let begins = front_begins tag (spelling b.0.0) (drop b.0.1 bytes) at b.0.1 f.1.long g.0 (sym (ap (begins_with tag) f.1.stands) ∙ there) in
-        subst (λ (x : V × ℕ). ((begins_with tag (spelling x.0) && is_spelled x.0) ≡ true) × Spans bytes at (spelling x.0) x.1) (ok_is b.0 (v, end) g.1)
-        (and_true (begins_with tag (spelling b.0.0)) (is_spelled b.0.0) begins f.0, f.1);
+        let some = lt_holds at end ((steady_form form).after bytes at (v, end) ok within a.2) in
+        let begins = front_begins tag (spelling v) (drop end bytes) at end f.1.long some (sym (ap (begins_with tag) f.1.stands) ∙ there) in
+        (and_true (begins_with tag (spelling v)) (is_spelled v) begins f.0, f.1);
     again = λ bytes at v end good spans.
         let p = both_true (begins_with tag (spelling v)) (is_spelled v) good in
         let o = opens_with tag (spelling v) p.0 in
         let whole : Spans bytes at (number 1 tag ++ o.0) end = subst (λ l. Spans bytes at l end) (o.1 ∙ sym (ap (λ l. l ++ o.0) one)) spans in
         let mid = at + length (number 1 tag) in
         let first = tags.again bytes at tag mid (and_true (is_tag tag) (is_number 1 tag) (eq-eqb tag tag refl) small) (spans_first bytes (number 1 tag) o.0 at end whole) in
-        ap (λ r. r >>= λ t. reading bytes at >>= λ x. cond (nat_lt at x.1) (Ok x) (Err (Bad at))) first
-        ∙ ap (λ r. r >>= λ x. cond (nat_lt at x.1) (Ok x) (Err (Bad at))) (form.again bytes at v end p.1 spans)
-        ∙ ap (λ b. cond b (Ok (v, end)) (Err (Bad at))) (later at end (spelling v) o.0 o.1 spans.long);
+        ap (λ r. r >>= λ t. reading bytes at) first ∙ form.again bytes at v end p.1 spans;
     fit = λ v good.
         let p = both_true (begins_with tag (spelling v)) (is_spelled v) good in
         and_true (begins_with tag (spelling v)) (fits v) p.0 (form.fit v p.1);
-    ends = λ bytes. ap (λ r. r >>= λ x. rest_at bytes (length bytes)) (tags.ends bytes);
+    ends = λ bytes. ap (λ r. r >>= λ x. reading bytes (length bytes)) (tags.ends bytes);
     tells = opened_tells;
   }
 

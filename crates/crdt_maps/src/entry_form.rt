@@ -111,12 +111,7 @@ fn take_opened<I: Crdt>(
     if tag != reset_tag(kind) {
         return Err(TakeError::Bad { at });
     }
-    let (effect, end) = I::take_effect(alloc, kind, bytes, at)?;
-    // no effect has no bytes
-    if end <= at {
-        return Err(TakeError::Bad { at });
-    }
-    Ok((effect, end))
+    I::take_effect(alloc, kind, bytes, at)
 }
 
 #[tactic(auto, unfolding(crate::specs::EffectForm::reset_at))]
