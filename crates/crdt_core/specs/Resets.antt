@@ -1,4 +1,4 @@
--- What a reset undoes: a state is blank exactly where a reset made on it names no update.
+-- What a reset undoes: of a blank state nothing, and something of each other state that a history leaves.
 use Rattle.std.specs.Prelude.{◌≡◌, ℕ, Bool, true, false, List, []}
 use Rattle.site_vector.specs.declared.ids.Dot.{Dot}
 use Rattle.crdt_core.specs.declared.kind.Kind.{Kind}

@@ -69,16 +69,19 @@ pub trait Crdt {
     /// What a map around the kind needs of it.
     ghost in_maps: { KeepsInMaps has too_deep initial step made is_blank };
 
-    /// A reset names updates exactly where the state isn't blank.
+    /// Of the kinds that may stand in a map that resets: a reset names no update where it is made on a blank state, and an update
+    /// where it is made on a state that a history left and that isn't blank.
     ghost resets: { ResetsWhatIsLeft has too_deep initial step made is_blank names };
 
     /// Whether the effect is one of the kind.
     ghost is_of: { Kind → Self.Effect → Bool };
 
-    /// What `put_effect` takes: an effect whose numbers and updates are within their bounds, its lists in order.
+    /// What `put_effect` takes: an effect whose numbers and updates are within their bounds, and whose lists of elements and of
+    /// fields are in order. That its sets of updates are in order is not asked, since their type keeps them so.
     ghost can_put: { Self.Effect → Bool };
 
-    /// What has a spelling: of what can be put, that in which no list is too long to be counted.
+    /// What has a spelling: of what can be put, that in which no list is too long to be counted. The law says so of effects whose
+    /// texts and sets of updates are as their types keep them.
     ghost is_spelled: { Self.Effect → Bool };
 
     /// The texts and the sets of updates that stand in an effect's bytes, in turn.
