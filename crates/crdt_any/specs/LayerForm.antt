@@ -1,9 +1,9 @@
 -- The bytes of a layer's effects are those of its kinds.
 use Rattle.std.proofs.Common.{◌≡◌, ℕ, Bool, true, ◌&&◌, List, refl}
-use Rattle.std.specs.Prelude.{◌⊎◌, is_some}
+use Rattle.std.specs.Prelude.{is_some}
 use Rattle.std.proofs.lemmas.Bool.{false≢true}
 use Rattle.field_codec.specs.Reading.{Read, mapped_at}
-use Rattle.field_codec.specs.Lawful.{IsTooLong, all_hold, StandInTurn, IsForm, SpellsAll}
+use Rattle.field_codec.specs.Lawful.{all_hold, StandInTurn, IsForm, SpellsAll}
 use Rattle.field_codec.specs.SpellsAllLaws.{alike_spells}
 use Rattle.field_codec.specs.Tagged.{shape_form}
 use Rattle.std.specs.Prelude.{ℤ}
@@ -92,7 +92,7 @@ layer_spelling spelling (effect.RegisterMv e) = mv_spelling e
 layer_spelling spelling (effect.MapGo e) = (go_spelling spelling) e
 layer_spelling spelling (effect.MapRr e) = (rr_spelling spelling) e
 
--- the texts and the sets of updates in an effect
+-- what stands in the bytes of an effect
 abbrev pub layer_contents : {E : Type 0} → (E → List Content) → LayerEffect E → List Content
 layer_contents contents (effect.CounterPn e) = amount_contents e
 layer_contents contents (effect.CounterFat e) = fat_contents e
@@ -190,7 +190,7 @@ module _ {E : Type 0} {has : Kind → Bool} {is_of : Kind → E → Bool} {can_p
       amounts : SpellsAll is_amount_number is_amount_number (pieces_of amount_contents) amount_spelling
       amounts = alike_spells is_amount_number amount_spelling
 
-      by : (e : LayerEffect E) → layer_can_put has is_of can_put spelling e ≡ true → all_hold (pieces_of (layer_contents contents) e) ≡ true → (layer_is_spelled has is_of is_spelled spelling e ≡ true) ⊎ IsTooLong (layer_spelling spelling e)
+      by : (e : LayerEffect E) → layer_can_put has is_of can_put spelling e ≡ true → all_hold (pieces_of (layer_contents contents) e) ≡ true → layer_is_spelled has is_of is_spelled spelling e ≡ true
       by (effect.CounterPn e) h all = amounts.spells e h all
       by (effect.CounterFat e) h all = fat_all.spells e h all
       by (effect.SetGo e) h all = texts_all.spells e h all

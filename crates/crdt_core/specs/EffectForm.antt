@@ -11,8 +11,8 @@ use Rattle.crdt_core.specs.Seen.{is_reset}
 use Rattle.crdt_core.specs.Spelled.{is_dot}
 use Rattle.crdt_core.specs.Contents.{Content, pieces_of, sets_ascend}
 
--- The effects of each kind that the type has are a form, and each that can be put has a spelling, but where that would be too
--- long; is_of: the effect is one of the kind; contents: the texts and the sets of updates in an effect's bytes, in turn.
+-- The effects of each kind that the type has are a form, and each that can be put has a spelling exactly where its contents are
+-- as they must be; is_of: the effect is one of the kind.
 pub record SpellsEffects {E : Type 0} (has : Kind → Bool) (is_of : Kind → E → Bool) (can_put is_spelled : E → Bool) (contents : E → List Content) (spelling : E → List ℕ) (reading : Kind → List ℕ → ℕ → Read E) : Type 0 where
   pub form : (k : Kind) → has k ≡ true → IsForm (λ e. is_of k e && can_put e) (λ e. is_of k e && is_spelled e) spelling (reading k)
   pub all : SpellsAll can_put is_spelled (pieces_of contents) spelling

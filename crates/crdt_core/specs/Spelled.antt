@@ -65,9 +65,9 @@ dots ds = list dot ds
 abbrev pub dots_at : List ℕ → ℕ → Read (List Dot)
 dots_at = list_at (is_below dot_cmp) dot_at
 
--- a contract sees a set of updates as a list
+-- a contract sees a set of updates as a list; each `Dots` ascends, and four bytes count its members but where there are 2^32 or more
 abbrev pub set_piece : List Dot → Piece
-set_piece ds = record { holds = ascend ds; bytes = dots ds }
+set_piece ds = record { holds = is_number 4 (length ds) && ascend ds; bytes = dots ds; room = 0 }
 
 -- ---- the width, the entries
 

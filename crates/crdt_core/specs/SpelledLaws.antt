@@ -11,9 +11,8 @@ use Rattle.std.proofs.lemmas.Bool.{eqb-true, eq-eqb}
 use Rattle.std.proofs.lemmas.List.{append-nil}
 use Rattle.field_codec.specs.Spelling.{number, is_number, text, is_text, are_in_order, are_members, is_below}
 use Rattle.field_codec.specs.Reading.{Read, number_at, text_at, members_at, checked_at, then_at, mapped_at}
-use Rattle.field_codec.specs.Lawful.{Piece, IsForm, SpellsAll}
-use Rattle.field_codec.specs.Refusals.{some_spelled}
-use Rattle.field_codec.specs.SpellsAllLaws.{alike_spells, told_spells, list_spells}
+use Rattle.field_codec.specs.Lawful.{IsForm, SpellsAll}
+use Rattle.field_codec.specs.SpellsAllLaws.{longer, number_first}
 use Rattle.field_codec.specs.FormLaws.{number_form, IsWidth, width1, width2, width8, text_form, list_form, members_form, checked_form, then_form, mapped_form, both_true, and_true, le_from, le_holds, lt_holds}
 use Rattle.site_vector.specs.declared.ids.Dot.{Dot}
 use Rattle.site_vector.specs.Order.{dot_cmp}
@@ -57,6 +56,9 @@ dot_form =
 abbrev pub are_ascending : List Dot → Bool
 are_ascending ds = are_members (is_below dot_cmp) is_dot ds
 
+pub dot_first : (d : Dot) → 0 < length (dot d)
+dot_first d = longer (tx d.tx) (number 2 d.index) (number_first 1 d.tx.site (number 1 d.tx.part ++ number 8 d.tx.time) (omega arith))
+
 pub dots_form : IsForm are_ascending is_dots dots dots_at
 dots_form = list_form (is_below dot_cmp) is_dot is_dot dot dot_at dot_form
 
@@ -70,22 +72,17 @@ dots_held_form = record {
   tells = dots_form.tells;
 }
 
-abbrev no_pieces_of : Dot → List Piece
-no_pieces_of d = []
-
-no_pieces : (ds : List Dot) → flat_map no_pieces_of ds ≡ []
-no_pieces [] = refl
-no_pieces (d ∷ ds) = no_pieces ds
-
--- which have a spelling, but where there are too many
+-- which have a spelling
 pub dots_spell : SpellsAll are_dots is_dots (λ ds. set_piece ds ∷ []) dots
-dots_spell =
-    let law = told_spells (λ _. []) no_pieces (list_spells (is_below dot_cmp) (λ d good. some_spelled dot_form d (dot d) good refl) (alike_spells is_dot dot)) in
-    record {
-      spells = λ ds h all. law.spells ds (and_true (ascend ds) (are_dots ds) (both_true (ascend ds) true all).0 h) refl;
-      held = λ ds good. and_true (ascend ds) true (both_true (ascend ds) (are_dots ds) (dots_form.fit ds good)).0 refl;
-      stand = λ ds. ([], [], sym (append-nil (dots ds)), tt);
-    }
+dots_spell = record {
+  spells = λ ds h all.
+      let a = both_true (is_number 4 (length ds)) (ascend ds) (both_true (is_number 4 (length ds) && ascend ds) true all).0 in
+      and_true (is_number 4 (length ds)) (are_ascending ds) a.0 (and_true (ascend ds) (are_dots ds) a.1 h);
+  held = λ ds good.
+      let a = both_true (is_number 4 (length ds)) (are_ascending ds) good in
+      and_true (is_number 4 (length ds) && ascend ds) true (and_true (is_number 4 (length ds)) (ascend ds) a.0 (both_true (ascend ds) (are_dots ds) a.1).0) refl;
+  stand = λ ds. ([], [], sym (append-nil (dots ds)), omega arith, tt);
+}
 
 -- the same test told otherwise
 retold : {V : Type 0} (fits is_spelled told : V → Bool) (spelling : V → List ℕ) (reading : List ℕ → ℕ → Read V) → ((v : V) → is_spelled v ≡ told v) → IsForm fits is_spelled spelling reading → IsForm told told spelling reading

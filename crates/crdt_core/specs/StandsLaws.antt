@@ -11,7 +11,7 @@ use Rattle.site_vector.specs.Ids.{same_dot}
 use Rattle.site_vector.specs.Order.{same_dot_is}
 use Rattle.crdt_core.specs.DotSet.{has_dot}
 use Rattle.crdt_core.specs.Spelled.{dot, dots}
-use Rattle.crdt_core.specs.Contents.{Content, Words, Updates, piece, pieces_of, has_update, have_update}
+use Rattle.crdt_core.specs.Contents.{Content, Words, Updates, Count, piece, pieces_of, has_update, have_update}
 use Rattle.crdt_core.specs.Stands.{StandsIn, NamesStand}
 
 stands_behind : {d : Dot} {bytes : List ℕ} (before : List ℕ) → StandsIn d bytes → StandsIn d (before ++ bytes)
@@ -37,6 +37,7 @@ dots_stand ds d h = stands_behind (number 4 (length ds)) (members_stand ds d h)
 
 in_piece : (c : Content) (d : Dot) → has_update c d ≡ true → StandsIn d (piece c).bytes
 in_piece (Words t) d h = absurd (false≢true h)
+in_piece (Count n) d h = absurd (false≢true h)
 in_piece (Updates ds) d h = dots_stand ds d h
 
 in_pieces : (cs : List Content) (d : Dot) (bytes : List ℕ) → StandInTurn (map piece cs) bytes → have_update cs d ≡ true → StandsIn d bytes
@@ -44,7 +45,7 @@ in_pieces [] d bytes s h = absurd (false≢true h)
 in_pieces (c ∷ cs) d bytes s h =
     let there : StandsIn d ((piece c).bytes ++ s.1) = ⊎_elim
     (λ here. stands_before s.1 (in_piece c d here))
-    (λ later. stands_behind (piece c).bytes (in_pieces cs d s.1 s.3 later))
+    (λ later. stands_behind (piece c).bytes (in_pieces cs d s.1 s.4 later))
     (or_cases (has_update c d) (have_update cs d) h) in
     subst (StandsIn d) (sym s.2) (stands_behind s.0 there)
 

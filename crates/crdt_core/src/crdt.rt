@@ -84,7 +84,7 @@ pub trait Crdt {
     /// texts and sets of updates are as their types keep them.
     ghost is_spelled: { Self.Effect → Bool };
 
-    /// The texts and the sets of updates that stand in an effect's bytes, in turn.
+    /// The texts, the sets of updates and the counts of other lists that stand in an effect's bytes, in turn.
     ghost contents: { Self.Effect → List Content };
 
     /// The bytes of an effect.
@@ -93,7 +93,8 @@ pub trait Crdt {
     /// What reading an effect of a kind at a place answers.
     ghost reading: { Kind → List ℕ → ℕ → Read Self.Effect };
 
-    /// Each effect is spelled in one way, and none begins another of its kind.
+    /// Each effect is spelled in one way, and none begins another of its kind. Each that can be put has a spelling exactly where its
+    /// contents are as they must be.
     ghost spells: { SpellsEffects has is_of can_put is_spelled contents spelling reading };
 
     /// An effect names exactly the updates in the sets that stand in its bytes.

@@ -6,7 +6,7 @@ ghost use Rattle.field_codec.specs.SpellsAllLaws.{alike_spells};
 ghost use Rattle.site_vector.specs.Order.{dot_cmp};
 ghost use Rattle.crdt_core.specs.DotSet.{IsAscending};
 ghost use Rattle.crdt_core.specs.Spelled.{is_dot, dot, dot_at, is_dots, dots, dots_at};
-ghost use Rattle.crdt_core.specs.SpelledLaws.{dot_form};
+ghost use Rattle.crdt_core.specs.SpelledLaws.{dot_first, dot_form};
 
 use crate::{Dots, put_dot, take_dot};
 use field_codec::{Form, ListOf, TakeError, put_list, take_list};
@@ -46,6 +46,8 @@ impl Form for DotForm {
     }
 
     ghost laws = { λ _. dot_form };
+
+    ghost some = { λ _ d. dot_first d };
 
     ghost spells_all = { λ _. alike_spells is_dot dot };
 }

@@ -9,8 +9,8 @@ ghost use Rattle.crdt_core.specs.Stands.{NamesStand};
 use crate::Crdt;
 
 /// Reading answers each of these and the place after it exactly where its spelling stands at the place,
-/// each refusal means what it says, and no spelling begins that of another. A set of updates has a spelling, but where that
-/// would be too long to be counted; of the others, what can be put is what has one.
+/// each refusal means what it says, and no spelling begins that of another. A set of updates has a spelling, but where there
+/// are 2^32 or more; of the others, what can be put is what has one.
 pub fn law_forms()
     ensures transactions { IsForm is_tx is_tx tx tx_at }
     ensures updates { IsForm is_dot is_dot dot dot_at }
@@ -29,7 +29,7 @@ pub fn law_forms()
 
 /// The same of the effects of each kind that a type has: reading answers an effect of the kind and the place after it
 /// exactly where its spelling stands at the place, each refusal means what it says, and no spelling begins that of another of
-/// the kind. Each that can be put has a spelling, but where that would be too long to be counted. An effect names exactly the
+/// the kind. Each that can be put has a spelling, but where a list has 2^32 members or more. An effect names exactly the
 /// updates in the sets that stand in its bytes.
 pub fn law_effects<C: Crdt>()
     ensures form { (k : Kind) → C.has k ≡ true → IsForm (λ e. C.is_of k e && C.can_put e) (λ e. C.is_of k e && C.is_spelled e) C.spelling (C.reading k) }

@@ -1,7 +1,7 @@
 ghost use Rattle.std.specs.Prelude.{◌≡◌, ◌≤◌, ◌++◌, [], true, length, OnOk, OnErr, IfOk};
 ghost use Rattle.field_codec.specs.Reading.{Gives};
 ghost use Rattle.field_codec.specs.SpellsAllLaws.{alike_spells};
-ghost use Rattle.crdt_counters.specs.EffectForm.{is_amount_number, amount_spelling, amount_at, amount_form};
+ghost use Rattle.crdt_counters.specs.EffectForm.{is_amount_number, amount_spelling, amount_at, amount_form, amount_first};
 
 use field_codec::{Form, TakeError, put_u64, take_u64};
 use std::alloc::{AllocError, Global};
@@ -38,6 +38,8 @@ impl Form for AmountForm {
     }
 
     ghost laws = { λ _. amount_form };
+
+    ghost some = { λ _ n. amount_first n };
 
     ghost spells_all = { λ _. alike_spells is_amount_number amount_spelling };
 }

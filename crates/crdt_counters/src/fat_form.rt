@@ -3,7 +3,7 @@ ghost use Rattle.field_codec.specs.Spelling.{number, Keeps};
 ghost use Rattle.field_codec.specs.Reading.{Gives};
 ghost use Rattle.crdt_core.specs.Spelled.{are_dots, is_dots, dots as dots_spelling};
 ghost use Rattle.crdt_core.specs.Contents.{pieces_of};
-ghost use Rattle.crdt_counters.specs.EffectForm.{can_put_fat, fat_contents, is_fat_spelled, fat_spelling, fat_at, fat_form, fat_all, amount_spelling};
+ghost use Rattle.crdt_counters.specs.EffectForm.{can_put_fat, fat_contents, is_fat_spelled, fat_spelling, fat_at, fat_form, fat_first, fat_all, amount_spelling};
 
 use crate::FatEffect;
 use crate::amount_form::{put_amount, take_amount};
@@ -51,6 +51,8 @@ impl Form for FatForm {
     }
 
     ghost laws = { λ _. fat_form };
+
+    ghost some = { λ _ e. fat_first e };
 
     ghost spells_all = { λ _. fat_all };
 }

@@ -3,7 +3,7 @@ ghost use Rattle.field_codec.specs.Spelling.{number, Keeps};
 ghost use Rattle.field_codec.specs.Reading.{Gives};
 ghost use Rattle.crdt_core.specs.Spelled.{are_dots, is_dots, dots as dots_spelling};
 ghost use Rattle.crdt_core.specs.Contents.{pieces_of};
-ghost use Rattle.crdt_flags.specs.EffectForm.{flag_mark, marked_flag, can_put_flag, flag_contents, is_flag_spelled, flag_spelling, flag_at, flag_form, flag_all};
+ghost use Rattle.crdt_flags.specs.EffectForm.{flag_mark, marked_flag, can_put_flag, flag_contents, is_flag_spelled, flag_spelling, flag_at, flag_form, flag_first, flag_all};
 
 use crate::FlagEffect;
 use crdt_core::{Dots, put_dots, take_dots, take_small};
@@ -51,6 +51,8 @@ impl Form for FlagForm {
     }
 
     ghost laws = { λ _. flag_form };
+
+    ghost some = { λ _ e. flag_first e };
 
     ghost spells_all = { λ _. flag_all };
 }

@@ -1,18 +1,18 @@
 -- The bytes of maps' effects: a field with an effect of its kind, or what a reset undoes of each field.
-use Rattle.std.specs.Prelude.{◌≡◌, ℕ, zero, suc, ◌+◌, ◌^◌, ◌<◌, ◌≤◌, ◌==◌, Bool, true, false, ◌&&◌, ◌||◌, ◌⊎◌, eqb, nat_le, nat_lt, List, [], ◌∷◌, ◌++◌, ◌≢◌, length, take, drop, None, Ok, Err, if◌then◌else◌, refl}
+use Rattle.std.specs.Prelude.{◌≡◌, ℕ, zero, suc, ◌+◌, ◌^◌, ◌<◌, ◌≤◌, ◌==◌, Bool, true, false, ◌&&◌, ◌||◌, eqb, nat_le, nat_lt, List, [], ◌∷◌, ◌++◌, ◌≢◌, length, take, drop, None, Ok, Err, if◌then◌else◌, refl}
 use Rattle.std.proofs.Common.{arith, ap, sym, subst, ◌∙◌, ⊎_elim, append_assoc, length-append}
 use Rattle.std.proofs.lemmas.List.{drop_at}
 use Rattle.std.proofs.lemmas.Bool.{true≢false, false≢true, eqb-true, eq-eqb}
 use Rattle.std.proofs.lemmas.Bool.Decides.{nat_tests}
-use Rattle.std.specs.List.{flat_map, list_any, list_all}
+use Rattle.std.specs.List.{list_any, list_all}
 use Rattle.field_codec.specs.declared.error.TakeError.TheVariants.{Short, Bad, NoMemory}
 use Rattle.field_codec.specs.Spelling.{number, is_number, text, is_text, list, are_in_order, are_members, is_list, is_below, Spans}
 use Rattle.field_codec.specs.Reading.{Read, ◌>>=◌, number_at, text_at, list_at, checked_at, then_at, mapped_at}
-use Rattle.field_codec.specs.Lawful.{IsBytes, IsTooLong, text_piece, all_hold, StandInTurn, TellsWhy, IsForm, SpellsAll}
+use Rattle.field_codec.specs.Lawful.{IsBytes, text_piece, all_hold, StandInTurn, TellsWhy, IsForm, SpellsAll}
 use Rattle.field_codec.specs.Steps.{by_length, bind_err, lt_from, IsBytes-append}
-use Rattle.field_codec.specs.Refusals.{some_spelled, steady_form, enough_from, tested_short, ends_at}
+use Rattle.field_codec.specs.Refusals.{steady_form, enough_from, tested_short, ends_at}
 use Rattle.field_codec.specs.FormLaws.{any_text_form, number_form, number_short, length-number, width1, list_form, checked_form, then_form, mapped_form, lt_holds, le_from, both_true, and_true, bind_ok, spans_first}
-use Rattle.field_codec.specs.SpellsAllLaws.{alike_spells, any_text_spells, checked_spells, behind_spells, then_spells, mapped_spells, told_spells, list_spells}
+use Rattle.field_codec.specs.SpellsAllLaws.{longer, number_first, text_first, alike_spells, any_text_spells, checked_spells, behind_spells, then_spells, mapped_spells, told_spells, list_spells}
 use Rattle.field_codec.specs.Tagged.{tagged_at, tagged_form, shape_form}
 use Rattle.site_vector.specs.declared.ids.Dot.{Dot}
 use Rattle.crdt_core.specs.declared.kind.Kind.{Kind}
@@ -23,8 +23,8 @@ use Rattle.crdt_core.specs.FieldOrder.{field_cmp}
 use Rattle.crdt_core.specs.Spelled.{is_between, kind, kind_at}
 use Rattle.crdt_core.specs.SpelledLaws.{kind_form}
 use Rattle.crdt_core.specs.EffectForm.{SpellsEffects, reset_tag, begins_with}
-use Rattle.crdt_core.specs.Contents.{Content, Words, pieces_of, have_update}
-use Rattle.crdt_core.specs.ContentsLaws.{or_none, pieces_each, update_each}
+use Rattle.crdt_core.specs.Contents.{Content, Words, list_contents, pieces_of, have_update}
+use Rattle.crdt_core.specs.ContentsLaws.{or_none, pieces_of_list, update_of_list}
 use Rattle.crdt_core.specs.Stands.{NamesStand}
 use Rattle.crdt_core.specs.StandsLaws.{names_stand}
 use Rattle.crdt_maps.specs.Maps.{map_names}
@@ -264,12 +264,18 @@ abbrev pub go_is_spelled : {E : Type 0} → (Kind → Bool) → (Kind → E → 
 go_is_spelled has is_of is_spelled (At f e) = is_entry_spelled (may_stand kinds.MapGo has) is_of is_spelled (f, e)
 go_is_spelled has is_of is_spelled (Resets xs) = false
 
+pub entry_first : {E : Type 0} (spelling : E → List ℕ) (x : Field × E) → 0 < length (entry spelling x)
+entry_first spelling x = longer (field x.0) (spelling x.1) (longer (text x.0.name) (kind x.0.kind) (text_first x.0.name))
+
 abbrev pub go_rest : {E : Type 0} → (E → List ℕ) → MapEffect E → List ℕ
 go_rest spelling (At f e) = entry spelling (f, e)
 go_rest spelling (Resets xs) = []
 
 abbrev pub go_spelling : {E : Type 0} → (E → List ℕ) → MapEffect E → List ℕ
 go_spelling spelling e = number 1 0 ++ go_rest spelling e
+
+pub go_first : {E : Type 0} (spelling : E → List ℕ) (e : MapEffect E) → 0 < length (go_spelling spelling e)
+go_first spelling e = number_first 1 0 (go_rest spelling e) (omega arith)
 
 abbrev pub go_contents : {E : Type 0} → (E → List Content) → MapEffect E → List Content
 go_contents contents (At f e) = entry_contents contents (f, e)
@@ -305,9 +311,12 @@ rr_rest spelling (Resets xs) = list (entry spelling) xs
 abbrev pub rr_spelling : {E : Type 0} → (E → List ℕ) → MapEffect E → List ℕ
 rr_spelling spelling e = number 1 (rr_mark e) ++ rr_rest spelling e
 
+pub rr_first : {E : Type 0} (spelling : E → List ℕ) (e : MapEffect E) → 0 < length (rr_spelling spelling e)
+rr_first spelling e = number_first 1 (rr_mark e) (rr_rest spelling e) (omega arith)
+
 abbrev pub rr_contents : {E : Type 0} → (E → List Content) → MapEffect E → List Content
 rr_contents contents (At f e) = entry_contents contents (f, e)
-rr_contents contents (Resets xs) = flat_map (entry_contents contents) xs
+rr_contents contents (Resets xs) = list_contents (entry_contents contents) xs
 
 unfoldable pub rr_rest_at : {E : Type 0} → (Kind → Bool) → (Kind → List ℕ → ℕ → Read E) → ℕ → List ℕ → ℕ → Read (MapEffect E)
 rr_rest_at has reading mark =
@@ -384,7 +393,7 @@ module _ {E : Type 0} {has : Kind → Bool} {is_of : Kind → E → Bool} {can_p
   go_rest_all : SpellsAll (go_can_put has is_of can_put) (go_is_spelled has is_of is_spelled) (pieces_of (go_contents contents)) (go_rest spelling)
   go_rest_all = record { spells = by; held = held; stand = stand }
     where
-      by : (e : MapEffect E) → go_can_put has is_of can_put e ≡ true → all_hold (pieces_of (go_contents contents) e) ≡ true → (go_is_spelled has is_of is_spelled e ≡ true) ⊎ IsTooLong (go_rest spelling e)
+      by : (e : MapEffect E) → go_can_put has is_of can_put e ≡ true → all_hold (pieces_of (go_contents contents) e) ≡ true → go_is_spelled has is_of is_spelled e ≡ true
       by (At f e) h all = (entry_all kinds.MapGo).spells (f, e) h all
       by (Resets xs) h all = absurd (false≢true h)
 
@@ -399,15 +408,13 @@ module _ {E : Type 0} {has : Kind → Bool} {is_of : Kind → E → Bool} {can_p
   pub go_all : SpellsAll (go_can_put has is_of can_put) (go_is_spelled has is_of is_spelled) (pieces_of (go_contents contents)) (go_spelling spelling)
   go_all = behind_spells (λ _. number 1 0) go_rest_all
 
-  resets_all : SpellsAll (are_members entry_below (can_put_reset (may_stand kinds.MapRr has) is_of can_put spelling)) (is_list entry_below (is_reset_spelled (may_stand kinds.MapRr has) is_of is_spelled spelling)) (pieces_of (flat_map (entry_contents contents))) (list (entry spelling))
-  resets_all =
-      let each = list_spells entry_below (λ x good. some_spelled (reset_form kinds.MapRr) x (entry spelling x) good refl) (reset_all kinds.MapRr) in
-      told_spells (pieces_of (flat_map (entry_contents contents))) (pieces_each (entry_contents contents)) each
+  resets_all : SpellsAll (are_members entry_below (can_put_reset (may_stand kinds.MapRr has) is_of can_put spelling)) (is_list entry_below (is_reset_spelled (may_stand kinds.MapRr has) is_of is_spelled spelling)) (pieces_of (list_contents (entry_contents contents))) (list (entry spelling))
+  resets_all = told_spells (pieces_of (list_contents (entry_contents contents))) (pieces_of_list (entry_contents contents)) (list_spells entry_below (entry_first spelling) (reset_all kinds.MapRr))
 
   rr_rest_all : SpellsAll (rr_can_put has is_of can_put spelling) (rr_is_spelled has is_of is_spelled spelling) (pieces_of (rr_contents contents)) (rr_rest spelling)
   rr_rest_all = record { spells = by; held = held; stand = stand }
     where
-      by : (e : MapEffect E) → rr_can_put has is_of can_put spelling e ≡ true → all_hold (pieces_of (rr_contents contents) e) ≡ true → (rr_is_spelled has is_of is_spelled spelling e ≡ true) ⊎ IsTooLong (rr_rest spelling e)
+      by : (e : MapEffect E) → rr_can_put has is_of can_put spelling e ≡ true → all_hold (pieces_of (rr_contents contents) e) ≡ true → rr_is_spelled has is_of is_spelled spelling e ≡ true
       by (At f e) h all = (entry_all kinds.MapRr).spells (f, e) h all
       by (Resets xs) h all = resets_all.spells xs h all
 
@@ -465,7 +472,7 @@ module _ {E : Type 0} (has : Kind → Bool) (is_of : Kind → E → Bool) {can_p
   rr_exact (At f e) d can = or_none (has f.kind && names e d) ∙ entry_exact kinds.MapRr (f, e) d can
   rr_exact (Resets xs) d can =
       let good = both_true (are_in_order entry_below None xs) (list_all (can_put_reset (may_stand kinds.MapRr has) is_of can_put spelling) xs) can in
-      resets_exact kinds.MapRr xs d good.1 ∙ sym (update_each (entry_contents contents) xs d)
+      resets_exact kinds.MapRr xs d good.1 ∙ sym (update_of_list (entry_contents contents) xs d)
 
 module _ {E : Type 0} {has : Kind → Bool} {is_of : Kind → E → Bool} {can_put is_spelled : E → Bool} {names : E → Dot → Bool} {contents : E → List Content} {spelling : E → List ℕ} {reading : Kind → List ℕ → ℕ → Read E}
     (spells : SpellsEffects has is_of can_put is_spelled contents spelling reading) (inner : NamesStand can_put names contents spelling) where

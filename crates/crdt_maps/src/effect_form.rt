@@ -3,7 +3,7 @@ ghost use Rattle.field_codec.specs.Spelling.{number, list, are_members, is_list,
 ghost use Rattle.field_codec.specs.Reading.{Gives, list_at};
 ghost use Rattle.crdt_core.specs.declared.kind.Kind.TheVariants.{MapRr};
 ghost use Rattle.crdt_core.specs.Contents.{pieces_of};
-ghost use Rattle.crdt_maps.specs.EffectForm.{may_stand, entry, entry_below, can_put_reset, is_reset_spelled, reset_at, go_can_put, go_contents, go_is_spelled, go_spelling, go_at, go_form, go_all, rr_can_put, rr_contents, rr_is_spelled, rr_spelling, rr_at, rr_form, rr_all};
+ghost use Rattle.crdt_maps.specs.EffectForm.{may_stand, entry, entry_below, can_put_reset, is_reset_spelled, reset_at, go_can_put, go_contents, go_is_spelled, go_spelling, go_at, go_form, go_first, go_all, rr_can_put, rr_contents, rr_is_spelled, rr_spelling, rr_at, rr_form, rr_first, rr_all};
 
 use crate::MapEffect;
 use crate::entry_form::{ResetForm, put_entry, take_entry};
@@ -63,6 +63,8 @@ impl<I: Crdt> Form for GoForm<I> {
     }
 
     ghost laws = { λ _. go_form I.spells };
+
+    ghost some = { λ _ e. go_first I.spelling e };
 
     ghost spells_all = { λ _. go_all I.spells };
 }
@@ -128,6 +130,8 @@ impl<I: Crdt> Form for RrForm<I> {
     }
 
     ghost laws = { λ _. rr_form I.spells };
+
+    ghost some = { λ _ e. rr_first I.spelling e };
 
     ghost spells_all = { λ _. rr_all I.spells };
 }

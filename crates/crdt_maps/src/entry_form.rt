@@ -4,7 +4,7 @@ ghost use Rattle.field_codec.specs.Reading.{Gives};
 ghost use Rattle.crdt_core.specs.declared.kind.Kind.TheVariants.{MapRr};
 ghost use Rattle.crdt_core.specs.EffectForm.{reset_tag};
 ghost use Rattle.crdt_core.specs.Contents.{pieces_of};
-ghost use Rattle.crdt_maps.specs.EffectForm.{may_stand, field_at, opened_at, entry, entry_at, can_put_reset, is_reset_spelled, reset_at, entry_below, reset_form, entry_contents, reset_all};
+ghost use Rattle.crdt_maps.specs.EffectForm.{may_stand, field_at, opened_at, entry, entry_at, can_put_reset, is_reset_spelled, reset_at, entry_below, reset_form, entry_contents, entry_first, reset_all};
 
 use crdt_core::{Crdt, Field, Kind, put_kind, stands_in, take_kind};
 use field_codec::{Form, TakeError, put_text, take_text, take_u8};
@@ -168,6 +168,8 @@ impl<I: Crdt> Form for ResetForm<I> {
     }
 
     ghost laws = { λ _. reset_form I.spells MapRr };
+
+    ghost some = { λ _ x. entry_first I.spelling x };
 
     ghost spells_all = { λ _. reset_all I.spells MapRr };
 }

@@ -1,7 +1,7 @@
 ghost use Rattle.std.specs.Prelude.{◌≡◌, ◌≤◌, ◌∷◌, [], true, length, IfOk};
 ghost use Rattle.field_codec.specs.Reading.{Gives};
 ghost use Rattle.crdt_core.specs.Contents.{pieces_of};
-ghost use Rattle.crdt_registers.specs.LwwForm.{can_put_lww, lww_contents, is_lww_spelled, lww_spelling, lww_at, lww_form, lww_all};
+ghost use Rattle.crdt_registers.specs.LwwForm.{can_put_lww, lww_contents, is_lww_spelled, lww_spelling, lww_at, lww_form, lww_first, lww_all};
 
 use crate::Assigned;
 use crate::register_lww::LAST_STAMP;
@@ -41,6 +41,8 @@ impl Form for LwwForm {
     }
 
     ghost laws = { λ _. lww_form };
+
+    ghost some = { λ _ e. lww_first e };
 
     ghost spells_all = { λ _. lww_all };
 }

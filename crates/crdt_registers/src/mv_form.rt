@@ -3,7 +3,7 @@ ghost use Rattle.field_codec.specs.Spelling.{number, text as text_spelling, is_t
 ghost use Rattle.field_codec.specs.Reading.{Gives};
 ghost use Rattle.crdt_core.specs.Spelled.{are_dots, is_dots, dots as dots_spelling};
 ghost use Rattle.crdt_core.specs.Contents.{pieces_of};
-ghost use Rattle.crdt_registers.specs.MvForm.{can_put_mv, mv_contents, is_mv_spelled, mv_spelling, mv_rest_at, mv_at, mv_form, mv_all};
+ghost use Rattle.crdt_registers.specs.MvForm.{can_put_mv, mv_contents, is_mv_spelled, mv_spelling, mv_rest_at, mv_at, mv_form, mv_first, mv_all};
 
 use crate::MvEffect;
 use crdt_core::{Dots, put_dots, take_dots};
@@ -51,6 +51,8 @@ impl Form for MvForm {
     }
 
     ghost laws = { λ _. mv_form };
+
+    ghost some = { λ _ e. mv_first e };
 
     ghost spells_all = { λ _. mv_all };
 }

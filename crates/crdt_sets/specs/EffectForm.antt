@@ -1,14 +1,13 @@
 -- The bytes of sets' effects: elements in ascending order, and where they can be removed, what is done and the dots of each.
-use Rattle.std.specs.Prelude.{◌≡◌, ℕ, zero, suc, ◌^◌, ◌==◌, ◌⊎◌, Bool, true, false, ◌&&◌, eqb, nat_le, List, [], ◌∷◌, ◌++◌, map, if◌then◌else◌, refl}
-use Rattle.std.proofs.Common.{sym, ap, ◌∙◌, arith}
-use Rattle.std.specs.List.{flat_map, list_any}
+use Rattle.std.specs.Prelude.{◌≡◌, ℕ, zero, suc, ◌^◌, ◌<◌, ◌==◌, Bool, true, false, ◌&&◌, eqb, nat_le, List, [], ◌∷◌, ◌++◌, length, if◌then◌else◌, refl}
+use Rattle.std.proofs.Common.{sym, ◌∙◌, arith}
+use Rattle.std.specs.List.{list_any}
 use Rattle.std.proofs.lemmas.Bool.{false≢true}
 use Rattle.std.specs.declared.cmp.Ordering.{Ordering}
 use Rattle.field_codec.specs.Spelling.{number, is_number, text, is_text, list, are_members, is_list, is_below}
 use Rattle.field_codec.specs.Reading.{Read, text_at, list_at, checked_at, then_at, mapped_at}
-use Rattle.field_codec.specs.Lawful.{IsTooLong, text_piece, all_hold, StandInTurn, IsForm, SpellsAll}
-use Rattle.field_codec.specs.Refusals.{some_spelled}
-use Rattle.field_codec.specs.SpellsAllLaws.{any_text_spells, checked_spells, behind_spells, then_spells, mapped_spells, told_spells, list_spells}
+use Rattle.field_codec.specs.Lawful.{all_hold, StandInTurn, IsForm, SpellsAll}
+use Rattle.field_codec.specs.SpellsAllLaws.{longer, number_first, text_first, any_text_spells, checked_spells, behind_spells, then_spells, mapped_spells, told_spells, list_spells}
 use Rattle.field_codec.specs.FormLaws.{any_text_form, list_form, checked_form, then_form, mapped_form, lt_holds, le_from, both_true}
 use Rattle.field_codec.specs.Tagged.{tagged_at, tagged_form, shape_form}
 use Rattle.site_vector.specs.declared.ids.Dot.{Dot}
@@ -16,8 +15,8 @@ use Rattle.crdt_core.specs.declared.kind.Kind.{Kind}
 use Rattle.crdt_core.specs.Texts.{text_cmp}
 use Rattle.crdt_core.specs.Spelled.{is_between, are_dots, is_dots, dots, dots_at}
 use Rattle.crdt_core.specs.SpelledLaws.{dots_held_form, dots_spell}
-use Rattle.crdt_core.specs.Contents.{Content, Words, Updates, pieces_of, have_update}
-use Rattle.crdt_core.specs.ContentsLaws.{or_none, pieces_each, update_each}
+use Rattle.crdt_core.specs.Contents.{Content, Words, Updates, list_contents, pieces_of, have_update}
+use Rattle.crdt_core.specs.ContentsLaws.{or_none, pieces_of_list, update_of_list}
 use Rattle.crdt_core.specs.EffectForm.{SpellsEffects}
 use Rattle.crdt_core.specs.DotSet.{has_dot}
 use Rattle.crdt_core.specs.Stands.{NamesStand}
@@ -51,15 +50,14 @@ pub texts_form : IsForm can_put_texts are_texts_spelled texts_spelling texts_at
 unfolding texts_at
 texts_form = checked_form has_some _ _ _ _ (list_form (is_below text_cmp) (λ t. true) is_text text text_at any_text_form)
 
+abbrev word_contents : List ℕ → List Content
+word_contents t = Words t ∷ []
+
 abbrev pub texts_contents : List (List ℕ) → List Content
-texts_contents ts = map Words ts
+texts_contents ts = list_contents word_contents ts
 
 pub texts_all : SpellsAll can_put_texts are_texts_spelled (pieces_of texts_contents) texts_spelling
-texts_all = told_spells (pieces_of texts_contents) each (checked_spells has_some (list_spells (is_below text_cmp) (λ t good. some_spelled any_text_form t (text t) good refl) any_text_spells))
-  where
-    each : (ts : List (List ℕ)) → flat_map (λ (t : List ℕ). text_piece t ∷ []) ts ≡ pieces_of texts_contents ts
-    each [] = refl
-    each (t ∷ ts) = ap (λ l. text_piece t ∷ l) (each ts)
+texts_all = told_spells (pieces_of texts_contents) (pieces_of_list word_contents) (checked_spells has_some (list_spells (is_below text_cmp) text_first any_text_spells))
 
 -- ---- an element with its dots
 
@@ -87,6 +85,9 @@ named_form =
 abbrev pub named_contents : Named → List Content
 named_contents n = Words n.text ∷ Updates n.dots ∷ []
 
+pub named_first : (n : Named) → 0 < length (named n)
+named_first n = longer (text n.text) (dots n.dots) (text_first n.text)
+
 pub named_all : SpellsAll (λ n. are_dots n.dots) is_named (pieces_of named_contents) named
 named_all = mapped_spells (λ n. (n.text, n.dots)) (then_spells any_text_spells (λ _. dots_spell))
 
@@ -107,12 +108,11 @@ named_list_at = list_at (is_below named_cmp) named_at
 pub named_list_form : IsForm can_put_list is_list_spelled list_spelling named_list_at
 named_list_form = list_form (is_below named_cmp) (λ n. are_dots n.dots) is_named named named_at named_form
 
-abbrev pub list_contents : List Named → List Content
-list_contents ns = flat_map named_contents ns
+abbrev pub named_list_contents : List Named → List Content
+named_list_contents ns = list_contents named_contents ns
 
-pub named_list_all : SpellsAll can_put_list is_list_spelled (pieces_of list_contents) list_spelling
-named_list_all =
-    told_spells (pieces_of list_contents) (pieces_each named_contents) (list_spells (is_below named_cmp) (λ n good. some_spelled named_form n (named n) good refl) named_all)
+pub named_list_all : SpellsAll can_put_list is_list_spelled (pieces_of named_list_contents) list_spelling
+named_list_all = told_spells (pieces_of named_list_contents) (pieces_of_list named_contents) (list_spells (is_below named_cmp) named_first named_all)
 
 pub some_named_form : IsForm (λ ns. has_some ns && can_put_list ns) (λ ns. has_some ns && is_list_spelled ns) list_spelling (checked_at has_some named_list_at)
 some_named_form = checked_form has_some can_put_list is_list_spelled list_spelling named_list_at named_list_form
@@ -186,17 +186,20 @@ unfolding set_at
 set_form = tagged_form (is_between 0 2) set_mark can_put_set is_set_spelled set_rest set_rest_at known small rest_form
 
 abbrev pub set_contents : SetEffect → List Content
-set_contents (Add ns) = list_contents ns
-set_contents (Remove ns) = list_contents ns
-set_contents (Reset ns) = list_contents ns
+set_contents (Add ns) = named_list_contents ns
+set_contents (Remove ns) = named_list_contents ns
+set_contents (Reset ns) = named_list_contents ns
+
+pub set_first : (e : SetEffect) → 0 < length (set_spelling e)
+set_first e = number_first 1 (set_mark e) (set_rest e) (omega arith)
 
 rest_all : SpellsAll can_put_set is_set_spelled (pieces_of set_contents) set_rest
 rest_all = record { spells = by; held = held; stand = stand }
   where
-    some : SpellsAll (λ ns. has_some ns && can_put_list ns) (λ ns. has_some ns && is_list_spelled ns) (pieces_of list_contents) list_spelling
+    some : SpellsAll (λ ns. has_some ns && can_put_list ns) (λ ns. has_some ns && is_list_spelled ns) (pieces_of named_list_contents) list_spelling
     some = checked_spells has_some named_list_all
 
-    by : (e : SetEffect) → can_put_set e ≡ true → all_hold (pieces_of set_contents e) ≡ true → (is_set_spelled e ≡ true) ⊎ IsTooLong (set_rest e)
+    by : (e : SetEffect) → can_put_set e ≡ true → all_hold (pieces_of set_contents e) ≡ true → is_set_spelled e ≡ true
     by (Add ns) h all = some.spells ns h all
     by (Remove ns) h all = some.spells ns h all
     by (Reset ns) h all = named_list_all.spells ns h all
@@ -231,8 +234,8 @@ no_update (t ∷ ts) d = no_update ts d
 pub go_stands : NamesStand can_put_texts go_names texts_contents texts_spelling
 go_stands = names_stand texts_all (λ e d can. sym (no_update e d))
 
-named_exact : (ns : List Named) (d : Dot) → names_dot ns d ≡ have_update (list_contents ns) d
-named_exact ns d = sym (update_each named_contents ns d ∙ (λ i. list_any (λ n. or_none (has_dot n.dots d) i) ns))
+named_exact : (ns : List Named) (d : Dot) → names_dot ns d ≡ have_update (named_list_contents ns) d
+named_exact ns d = sym (update_of_list named_contents ns d ∙ (λ i. list_any (λ n. or_none (has_dot n.dots d) i) ns))
 
 set_exact : (e : SetEffect) (d : Dot) → set_names e d ≡ have_update (set_contents e) d
 set_exact (Add ns) d = named_exact ns d

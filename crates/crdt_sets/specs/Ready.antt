@@ -23,7 +23,7 @@ use Rattle.crdt_sets.specs.ElementSteps.{kept_in}
 use Rattle.crdt_sets.specs.Meaning.{added_by}
 use Rattle.crdt_sets.specs.SetGo.{Grown, go_made}
 use Rattle.crdt_sets.specs.Sets.{set_made}
-use Rattle.crdt_sets.specs.EffectForm.{has_some, can_put_texts, texts_spelling, named_cmp, can_put_list, can_put_set, texts_contents, list_contents, set_contents, set_spelling, is_of_kind}
+use Rattle.crdt_sets.specs.EffectForm.{has_some, can_put_texts, texts_spelling, named_cmp, can_put_list, can_put_set, texts_contents, named_list_contents, set_contents, set_spelling, is_of_kind}
 
 -- ---- texts in order, of which there are some
 
@@ -61,7 +61,7 @@ named_spelled m h (x ∷ xs) = and_true (are_dots (dots_of (at m x))) _ (kept_sp
 list_ready : (m : Elements) → HoldsSpelled keeps_dot m → (xs : List (List ℕ)) → are_in_order (is_below text_cmp) None xs ≡ true → can_put_list (named_at m xs) ≡ true
 list_ready m h xs o = and_true (are_in_order (is_below named_cmp) None (named_at m xs)) _ (named_ordered m xs o) (named_spelled m h xs)
 
-named_ascend : (m : Elements) (xs : List (List ℕ)) → sets_ascend (list_contents (named_at m xs)) ≡ true
+named_ascend : (m : Elements) (xs : List (List ℕ)) → sets_ascend (named_list_contents (named_at m xs)) ≡ true
 named_ascend m [] = refl
 named_ascend m (x ∷ xs) = and_true (ascend (dots_of (at m x))) _ (kept_ascend (at m x)) (named_ascend m xs)
 

@@ -2,7 +2,7 @@ ghost use Rattle.std.specs.Prelude.{◌≡◌, ◌≤◌, ◌++◌, true, length
 ghost use Rattle.field_codec.specs.Spelling.{number, Keeps};
 ghost use Rattle.field_codec.specs.Reading.{Gives, checked_at};
 ghost use Rattle.crdt_core.specs.Contents.{pieces_of};
-ghost use Rattle.crdt_sets.specs.EffectForm.{has_some, can_put_list, set_contents, is_list_spelled, list_spelling, named_list_at, can_put_set, is_set_spelled, set_spelling, set_at, set_form, set_all};
+ghost use Rattle.crdt_sets.specs.EffectForm.{has_some, can_put_list, set_contents, is_list_spelled, list_spelling, named_list_at, can_put_set, is_set_spelled, set_spelling, set_at, set_form, set_first, set_all};
 
 use crate::named_form::NamedForm;
 use crate::{Named, SetEffect};
@@ -51,6 +51,8 @@ impl Form for SetForm {
     }
 
     ghost laws = { λ _. set_form };
+
+    ghost some = { λ _ e. set_first e };
 
     ghost spells_all = { λ _. set_all };
 }

@@ -3,7 +3,7 @@ ghost use Rattle.field_codec.specs.Spelling.{Keeps, is_below};
 ghost use Rattle.field_codec.specs.Reading.{Gives};
 ghost use Rattle.crdt_core.specs.Spelled.{are_dots};
 ghost use Rattle.crdt_core.specs.Contents.{pieces_of};
-ghost use Rattle.crdt_sets.specs.EffectForm.{named_cmp, named_contents, is_named, named as named_spelling, named_at, named_form, named_all};
+ghost use Rattle.crdt_sets.specs.EffectForm.{named_cmp, named_contents, is_named, named as named_spelling, named_at, named_form, named_first, named_all};
 
 use crate::Named;
 use crdt_core::{put_dots, take_dots};
@@ -46,6 +46,8 @@ impl Form for NamedForm {
     }
 
     ghost laws = { λ _. named_form };
+
+    ghost some = { λ _ n. named_first n };
 
     ghost spells_all = { λ _. named_all };
 }

@@ -1,32 +1,32 @@
 -- What fits has a spelling: texts and lists, and what serves to show it of a form of several fields.
-use Rattle.std.specs.Prelude.{◌≡◌, ℕ, ◌^◌, ◌<◌, ◌≤◌, ◌⊎◌, Bool, true, false, ◌&&◌, nat_lt, List, [], ◌∷◌, ◌++◌, length, None, refl}
-use Rattle.std.proofs.Common.{sym, ap, subst, ◌∙◌, inl, inr, ⊎_elim, append_assoc, length-append, arith}
-use Rattle.std.proofs.lemmas.Bool.Decides.{nat_tests}
+use Rattle.std.specs.Prelude.{◌≡◌, ℕ, ◌<◌, ◌≤◌, Bool, true, ◌&&◌, List, [], ◌∷◌, ◌++◌, length, None, refl}
+use Rattle.std.proofs.Common.{sym, ap, subst, ◌∙◌, append_assoc, length-append, arith}
 use Rattle.std.proofs.lemmas.List.{append-nil}
 use Rattle.std.specs.List.{flat_map, list_all}
 use Rattle.field_codec.specs.Spelling.{number, is_number, text, is_text, list, are_in_order, are_members, is_list}
-use Rattle.field_codec.specs.Lawful.{IsTooLong, Piece, text_piece, all_hold, StandInTurn, SpellsAll}
+use Rattle.field_codec.specs.Lawful.{Piece, text_piece, list_pieces, all_hold, StandInTurn, SpellsAll}
+use Rattle.field_codec.specs.FormLaws.{length-number}
 use Rattle.field_codec.specs.Steps.{both_true, and_true}
 
--- ---- what is too long in a part is so in the whole
+-- ---- no spelling is empty
 
-longer_before : (n : ℕ) (xs ys : List ℕ) → n ≤ length xs → n ≤ length (xs ++ ys)
-longer_before n xs ys le = omega (arith, le, length-append xs ys)
+pub longer : (xs ys : List ℕ) → 0 < length xs → 0 < length (xs ++ ys)
+longer xs ys some = omega (arith, some, length-append xs ys)
 
-longer_behind : (n : ℕ) (xs ys : List ℕ) → n ≤ length ys → n ≤ length (xs ++ ys)
-longer_behind n xs ys le = omega (arith, le, length-append xs ys)
+pub number_some : (width n : ℕ) → 0 < width → 0 < length (number width n)
+number_some width n some = omega (arith, some, length-number width n)
 
-pub too_long_before : (xs ys : List ℕ) → IsTooLong xs → IsTooLong (xs ++ ys)
-too_long_before xs ys h = longer_before (2 ^ 32) xs ys h
+pub number_first : (width n : ℕ) (rest : List ℕ) → 0 < width → 0 < length (number width n ++ rest)
+number_first width n rest some = longer (number width n) rest (number_some width n some)
 
-pub too_long_behind : (xs ys : List ℕ) → IsTooLong ys → IsTooLong (xs ++ ys)
-too_long_behind xs ys h = longer_behind (2 ^ 32) xs ys h
+pub text_first : (t : List ℕ) → 0 < length (text t)
+text_first t = number_first 2 (length t) t (omega arith)
 
 -- ---- pieces of a part stand in the whole
 
 pub stand_behind : (xs : List ℕ) (ps : List Piece) (ys : List ℕ) → StandInTurn ps ys → StandInTurn ps (xs ++ ys)
 stand_behind xs [] ys s = tt
-stand_behind xs (p ∷ ps) ys s = (xs ++ s.0, s.1, ap (λ l. xs ++ l) s.2 ∙ sym (append_assoc xs s.0 (p.bytes ++ s.1)), s.3)
+stand_behind xs (p ∷ ps) ys s = (xs ++ s.0, s.1, ap (λ l. xs ++ l) s.2 ∙ sym (append_assoc xs s.0 (p.bytes ++ s.1)), s.3, s.4)
 
 pub stand_both : (ps qs : List Piece) (xs ys : List ℕ) → StandInTurn ps xs → StandInTurn qs ys → StandInTurn (ps ++ qs) (xs ++ ys)
 stand_both [] qs xs ys s r = stand_behind xs qs ys r
@@ -34,7 +34,8 @@ stand_both (p ∷ ps) qs xs ys s r = (
   s.0,
   s.1 ++ ys,
   ap (λ l. l ++ ys) s.2 ∙ append_assoc s.0 (p.bytes ++ s.1) ys ∙ ap (λ l. s.0 ++ l) (append_assoc p.bytes s.1 ys),
-  stand_both ps qs s.1 ys s.3 r,
+  omega (arith, s.3, length-append s.1 ys),
+  stand_both ps qs s.1 ys s.4 r,
 )
 
 -- ---- tests
@@ -52,19 +53,19 @@ all_joined (p ∷ ps) qs h k = let a = both_true p.holds (all_hold ps) h in and_
 
 -- what can be put is what has a spelling
 pub alike_spells : {V : Type 0} (test : V → Bool) (spelling : V → List ℕ) → SpellsAll test test (λ v. []) spelling
-alike_spells test spelling = record { spells = λ v h all. inl h; held = λ v h. refl; stand = λ v. tt }
+alike_spells test spelling = record { spells = λ v h all. h; held = λ v h. refl; stand = λ v. tt }
 
 pub any_text_spells : SpellsAll (λ t. true) is_text (λ t. text_piece t ∷ []) text
 any_text_spells = record {
-  spells = λ t h all. inl (both_true (is_text t) true all).0;
+  spells = λ t h all. (both_true (is_text t) true all).0;
   held = λ t h. and_true (is_text t) true h refl;
-  stand = λ t. ([], [], sym (append-nil (text t)), tt);
+  stand = λ t. ([], [], sym (append-nil (text t)), omega arith, tt);
 }
 
 pub checked_spells : {V : Type 0} {fits is_spelled : V → Bool} {pieces : V → List Piece} {spelling : V → List ℕ} (test : V → Bool)
     → SpellsAll fits is_spelled pieces spelling → SpellsAll (λ v. test v && fits v) (λ v. test v && is_spelled v) pieces spelling
 checked_spells {fits = fits} {is_spelled = is_spelled} test s = record {
-  spells = λ v h all. let p = both_true (test v) (fits v) h in ⊎_elim (λ is. inl (and_true (test v) (is_spelled v) p.0 is)) inr (s.spells v p.1 all);
+  spells = λ v h all. let p = both_true (test v) (fits v) h in and_true (test v) (is_spelled v) p.0 (s.spells v p.1 all);
   held = λ v h. s.held v (both_true (test v) (is_spelled v) h).1;
   stand = s.stand;
 }
@@ -73,7 +74,7 @@ checked_spells {fits = fits} {is_spelled = is_spelled} test s = record {
 pub behind_spells : {V : Type 0} {fits is_spelled : V → Bool} {pieces : V → List Piece} {spelling : V → List ℕ} (front : V → List ℕ)
     → SpellsAll fits is_spelled pieces spelling → SpellsAll fits is_spelled pieces (λ v. front v ++ spelling v)
 behind_spells {pieces = pieces} {spelling} front s = record {
-  spells = λ v h all. ⊎_elim inl (λ long. inr (too_long_behind (front v) (spelling v) long)) (s.spells v h all);
+  spells = s.spells;
   held = s.held;
   stand = λ v. stand_behind (front v) (pieces v) (spelling v) (s.stand v);
 }
@@ -86,10 +87,7 @@ then_spells {fits1 = fits1} {spelled1} {pieces1} {spelling1} {fits2} {spelled2} 
   spells = λ x h all.
       let p = both_true (fits1 x.0) (fits2 x.0 x.1) h in
       let a = all_front (pieces1 x.0) (pieces2 x.0 x.1) all in
-      ⊎_elim
-      (λ one. ⊎_elim (λ two. inl (and_true (spelled1 x.0) (spelled2 x.0 x.1) one two)) (λ long. inr (too_long_behind (spelling1 x.0) (spelling2 x.0 x.1) long)) ((second x.0).spells x.1 p.1 a.1))
-      (λ long. inr (too_long_before (spelling1 x.0) (spelling2 x.0 x.1) long))
-      (first.spells x.0 p.0 a.0);
+      and_true (spelled1 x.0) (spelled2 x.0 x.1) (first.spells x.0 p.0 a.0) ((second x.0).spells x.1 p.1 a.1);
   held = λ x h. let p = both_true (spelled1 x.0) (spelled2 x.0 x.1) h in all_joined (pieces1 x.0) (pieces2 x.0 x.1) (first.held x.0 p.0) ((second x.0).held x.1 p.1);
   stand = λ x. stand_both (pieces1 x.0) (pieces2 x.0 x.1) (spelling1 x.0) (spelling2 x.0 x.1) (first.stand x.0) ((second x.0).stand x.1);
 }
@@ -111,32 +109,18 @@ told_spells {spelling = spelling} told same s = record {
 -- ---- lists
 
 module _ {V : Type 0} {fits is_spelled : V → Bool} {pieces : V → List Piece} {spelling : V → List ℕ}
-    (follows : V → V → Bool) (some : (v : V) → is_spelled v ≡ true → 0 < length (spelling v)) (member : SpellsAll fits is_spelled pieces spelling) where
-  each_spells : (vs : List V) → list_all fits vs ≡ true → all_hold (flat_map pieces vs) ≡ true → (list_all is_spelled vs ≡ true) ⊎ IsTooLong (flat_map spelling vs)
-  each_spells [] h all = inl refl
+    (follows : V → V → Bool) (some : (v : V) → 0 < length (spelling v)) (member : SpellsAll fits is_spelled pieces spelling) where
+  each_spells : (vs : List V) → list_all fits vs ≡ true → all_hold (flat_map pieces vs) ≡ true → list_all is_spelled vs ≡ true
+  each_spells [] h all = refl
   each_spells (v ∷ vs) h all =
       let p = both_true (fits v) (list_all fits vs) h in
       let a = all_front (pieces v) (flat_map pieces vs) all in
-      ⊎_elim
-      (λ one. ⊎_elim (λ others. inl (and_true (is_spelled v) (list_all is_spelled vs) one others)) (λ long. inr (too_long_behind (spelling v) (flat_map spelling vs) long)) (each_spells vs p.1 a.1))
-      (λ long. inr (too_long_before (spelling v) (flat_map spelling vs) long))
-      (member.spells v p.0 a.0)
+      and_true (is_spelled v) (list_all is_spelled vs) (member.spells v p.0 a.0) (each_spells vs p.1 a.1)
 
   -- a byte for each member
-  as_many : (vs : List V) → list_all is_spelled vs ≡ true → length vs ≤ length (flat_map spelling vs)
-  as_many [] h = omega arith
-  as_many (v ∷ vs) h =
-      let p = both_true (is_spelled v) (list_all is_spelled vs) h in
-      let one = some v p.0 in
-      let others = as_many vs p.1 in
-      omega (arith, one, others, length-append (spelling v) (flat_map spelling vs))
-
-  few_or_long : (n most : ℕ) (bytes : List ℕ) → n ≤ length bytes → (nat_lt n most ≡ true) ⊎ (most ≤ length bytes)
-  few_or_long n most bytes le = by (nat_lt n most) refl
-    where
-      by : (b : Bool) → nat_lt n most ≡ b → (nat_lt n most ≡ true) ⊎ (most ≤ length bytes)
-      by true is = inl is
-      by false is = let above : most ≤ n = grind (arith, nat_tests) in inr (omega (arith, above, le))
+  as_many : (vs : List V) → length vs ≤ length (flat_map spelling vs)
+  as_many [] = omega arith
+  as_many (v ∷ vs) = omega (arith, some v, as_many vs, length-append (spelling v) (flat_map spelling vs))
 
   each_held : (vs : List V) → list_all is_spelled vs ≡ true → all_hold (flat_map pieces vs) ≡ true
   each_held [] h = refl
@@ -146,20 +130,14 @@ module _ {V : Type 0} {fits is_spelled : V → Bool} {pieces : V → List Piece}
   each_stand [] = tt
   each_stand (v ∷ vs) = stand_both (pieces v) (flat_map pieces vs) (spelling v) (flat_map spelling vs) (member.stand v) (each_stand vs)
 
-  pub list_spells : SpellsAll (are_members follows fits) (is_list follows is_spelled) (flat_map pieces) (list spelling)
+  pub list_spells : SpellsAll (are_members follows fits) (is_list follows is_spelled) (list_pieces pieces) (list spelling)
   list_spells = record {
     spells = λ vs h all.
         let p = both_true (are_in_order follows None vs) (list_all fits vs) h in
-        let count = number 4 (length vs) in
-        ⊎_elim
-        (λ each. ⊎_elim
-        (λ few. inl (and_true (is_number 4 (length vs)) (are_members follows is_spelled vs) few (and_true (are_in_order follows None vs) (list_all is_spelled vs) p.0 each)))
-        (λ long. inr (too_long_behind count (flat_map spelling vs) long))
-        (few_or_long (length vs) (2 ^ 32) (flat_map spelling vs) (as_many vs each)))
-        (λ long. inr (too_long_behind count (flat_map spelling vs) long))
-        (each_spells vs p.1 all);
+        let a = both_true (is_number 4 (length vs)) (all_hold (flat_map pieces vs)) all in
+        and_true (is_number 4 (length vs)) (are_members follows is_spelled vs) a.0 (and_true (are_in_order follows None vs) (list_all is_spelled vs) p.0 (each_spells vs p.1 a.1));
     held = λ vs h.
-        let members = (both_true (is_number 4 (length vs)) (are_members follows is_spelled vs) h).1 in
-        each_held vs (both_true (are_in_order follows None vs) (list_all is_spelled vs) members).1;
-    stand = λ vs. stand_behind (number 4 (length vs)) (flat_map pieces vs) (flat_map spelling vs) (each_stand vs);
+        let a = both_true (is_number 4 (length vs)) (are_members follows is_spelled vs) h in
+        and_true (is_number 4 (length vs)) (all_hold (flat_map pieces vs)) a.0 (each_held vs (both_true (are_in_order follows None vs) (list_all is_spelled vs) a.1).1);
+    stand = λ vs. ([], flat_map spelling vs, refl, as_many vs, each_stand vs);
   }

@@ -1,4 +1,4 @@
-ghost use Rattle.std.specs.Prelude.{◌≡◌, ◌≤◌, ◌++◌, ℕ, List, Bool, true, length, OnOk, OnErr, IfOk};
+ghost use Rattle.std.specs.Prelude.{◌≡◌, ◌<◌, ◌≤◌, ◌++◌, ℕ, List, Bool, true, length, OnOk, OnErr, IfOk};
 ghost use Rattle.field_codec.specs.Spelling.{Keeps};
 ghost use Rattle.field_codec.specs.Reading.{Read, Gives};
 ghost use Rattle.field_codec.specs.Lawful.{Piece, IsForm, SpellsAll, IsPrefixFree};
@@ -19,7 +19,8 @@ pub trait Form {
 
     ghost spelling: { Self → Self.Value → List ℕ };
 
-    /// Of whose types more holds than a contract sees: pieces that stand in the spelling, in turn.
+    /// What stands in the spelling, in turn, and need not be as it must: texts, counts of lists, and what else parts of a value keep
+    /// by their types.
     ghost pieces: { Self → Self.Value → List Piece };
 
     /// What reading at a place answers.
@@ -61,7 +62,10 @@ pub trait Form {
 
     ghost laws: { (f : Self) → IsForm (fits f) (is_spelled f) (spelling f) (reading f) };
 
-    /// What fits has a spelling, but where that would be too long.
+    /// No spelling is empty.
+    ghost some: { (f : Self) → (v : Self.Value) → 0 < length (spelling f v) };
+
+    /// What fits has a spelling exactly where its pieces are as they must be. What types keep is so; counts are, but from 2^32 on.
     ghost spells_all: { (f : Self) → SpellsAll (fits f) (is_spelled f) (pieces f) (spelling f) };
 }
 

@@ -1,7 +1,7 @@
 ghost use Rattle.std.specs.List.{flat_map};
 ghost use Rattle.field_codec.specs.Spelling.{number, is_number, text, is_text, list, are_members, is_list};
 ghost use Rattle.field_codec.specs.Reading.{number_at, text_at, list_at};
-ghost use Rattle.field_codec.specs.Lawful.{IsForm, SpellsAll, IsPrefixFree};
+ghost use Rattle.field_codec.specs.Lawful.{IsForm, list_pieces, SpellsAll, IsPrefixFree};
 
 use crate::Form;
 
@@ -21,9 +21,10 @@ pub fn law_fields()
 {}
 
 /// The same of the lists of each form's values, as `put_list` and `take_list` spell and read them; and a list of values that
-/// fit has a spelling, but where that would be too long to be counted.
+/// fit has a spelling exactly where its pieces are as they must be: where each list in it has fewer than 2^32 members, and each
+/// text is as each `Text` is.
 pub fn law_list<F: Form>(form: &F)
     ensures form { IsForm (are_members (F.follows form.now) (F.fits form.now)) (is_list (F.follows form.now) (F.is_spelled form.now)) (list (F.spelling form.now)) (list_at (F.follows form.now) (F.reading form.now)) }
-    ensures all { SpellsAll (are_members (F.follows form.now) (F.fits form.now)) (is_list (F.follows form.now) (F.is_spelled form.now)) (flat_map (F.pieces form.now)) (list (F.spelling form.now)) }
+    ensures all { SpellsAll (are_members (F.follows form.now) (F.fits form.now)) (is_list (F.follows form.now) (F.is_spelled form.now)) (list_pieces (F.pieces form.now)) (list (F.spelling form.now)) }
     ensures apart { IsPrefixFree (is_list (F.follows form.now) (F.is_spelled form.now)) (list (F.spelling form.now)) }
 {}

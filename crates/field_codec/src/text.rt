@@ -9,7 +9,7 @@ ghost use Rattle.std.proofs.Common.{rules};
 ghost use Rattle.field_codec.specs.Spelling.{text as spelled, is_text, is_below};
 ghost use Rattle.field_codec.specs.FormLaws.{any_text_form};
 ghost use Rattle.field_codec.specs.Lawful.{text_piece};
-ghost use Rattle.field_codec.specs.SpellsAllLaws.{any_text_spells};
+ghost use Rattle.field_codec.specs.SpellsAllLaws.{text_first, any_text_spells};
 ghost use Rattle.field_codec.specs.Reading.{Gives, text_at, bytes_at};
 
 use crate::{Form, TakeError, put_u16, take_u16};
@@ -221,6 +221,8 @@ impl Form for TextForm {
     }
 
     ghost laws = { λ _. any_text_form };
+
+    ghost some = { λ _ t. text_first t };
 
     ghost spells_all = { λ _. any_text_spells };
 }
