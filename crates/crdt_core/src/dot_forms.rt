@@ -9,7 +9,7 @@ ghost use Rattle.crdt_core.specs.Spelled.{is_dot, dot, dot_at, is_dots, dots, do
 ghost use Rattle.crdt_core.specs.SpelledLaws.{dot_first, dot_form};
 
 use crate::{Dots, put_dot, take_dot};
-use field_codec::{Form, ListOf, TakeError, put_list, take_list};
+use field_codec::{Form, ListOf, TakeError, WholeForm, put_list, take_list};
 use site_vector::Dot;
 use std::alloc::{AllocError, Global};
 
@@ -25,8 +25,6 @@ impl Form for DotForm {
     ghost is_spelled = { λ _ d. is_dot d };
 
     ghost spelling = { λ _ d. dot d };
-
-    ghost pieces = { λ _ d. [] };
 
     ghost reading = { λ _ bytes at. dot_at bytes at };
 
@@ -46,6 +44,10 @@ impl Form for DotForm {
     }
 
     ghost laws = { λ _. dot_form };
+}
+
+impl WholeForm for DotForm {
+    ghost told = { λ _ d. [] };
 
     ghost some = { λ _ d. dot_first d };
 

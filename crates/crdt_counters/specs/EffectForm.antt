@@ -1,5 +1,5 @@
 -- The bytes of counters' effects: an amount in two's complement, and for a counter that can be reset what it is before it.
-use Rattle.std.specs.Prelude.{◌≡◌, ℕ, zero, suc, ◌^◌, ◌<◌, ◌==◌, Bool, true, ◌&&◌, not, eqb, nat_le, int_lt, List, [], ◌∷◌, ◌++◌, length, ℤ, pos, neg_ℤ, if◌then◌else◌, refl}
+use Rattle.std.specs.Prelude.{◌≡◌, ℕ, zero, suc, ◌^◌, ◌==◌, Bool, true, ◌&&◌, not, eqb, nat_le, int_lt, List, [], ◌∷◌, ◌++◌, ℤ, pos, neg_ℤ, if◌then◌else◌, refl}
 use Rattle.std.proofs.Common.{sym, arith, FitsSigned}
 use Rattle.std.specs.Int.{cast_unsigned, cast_signed, w64}
 use Rattle.std.proofs.Math.Facts.{Fits-of_z, Fits-lt-pow}
@@ -8,7 +8,7 @@ use Rattle.std.proofs.lemmas.Bool.{false≢true}
 use Rattle.field_codec.specs.Spelling.{number, is_number}
 use Rattle.field_codec.specs.Reading.{Read, number_at, checked_at, mapped_at}
 use Rattle.field_codec.specs.Lawful.{all_hold, StandInTurn, IsForm, SpellsAll}
-use Rattle.field_codec.specs.SpellsAllLaws.{number_some, number_first, alike_spells, behind_spells}
+use Rattle.field_codec.specs.SpellsAllLaws.{alike_spells, behind_spells}
 use Rattle.field_codec.specs.FormLaws.{number_form, width8, lt_holds, lt_from, le_from, both_true}
 use Rattle.field_codec.specs.Tagged.{tagged_at, tagged_form, shape_form, within_form}
 use Rattle.site_vector.specs.declared.ids.Dot.{Dot}
@@ -107,12 +107,6 @@ small n h = let le = le_from n 1 (both_true (nat_le 0 n) _ h).1 in lt_holds n (2
 pub fat_form : IsForm can_put_fat is_fat_spelled fat_spelling fat_at
 unfolding fat_at
 fat_form = tagged_form (is_between 0 1) fat_mark can_put_fat is_fat_spelled fat_rest fat_rest_at known small rest_form
-
-pub amount_first : (z : ℤ) → 0 < length (amount_spelling z)
-amount_first z = number_some 8 (cast_unsigned w64 z) (omega arith)
-
-pub fat_first : (e : FatEffect) → 0 < length (fat_spelling e)
-fat_first e = number_first 1 (fat_mark e) (fat_rest e) (omega arith)
 
 rest_all : SpellsAll can_put_fat is_fat_spelled (pieces_of fat_contents) fat_rest
 rest_all = record { spells = by; held = held; stand = stand }

@@ -1,7 +1,6 @@
-ghost use Rattle.std.specs.Prelude.{◌≡◌, ◌≤◌, ◌++◌, [], true, length, OnOk, OnErr, IfOk};
+ghost use Rattle.std.specs.Prelude.{◌≡◌, ◌≤◌, ◌++◌, true, length, OnOk, OnErr, IfOk};
 ghost use Rattle.field_codec.specs.Reading.{Gives};
-ghost use Rattle.field_codec.specs.SpellsAllLaws.{alike_spells};
-ghost use Rattle.crdt_counters.specs.EffectForm.{is_amount_number, amount_spelling, amount_at, amount_form, amount_first};
+ghost use Rattle.crdt_counters.specs.EffectForm.{is_amount_number, amount_spelling, amount_at, amount_form};
 
 use field_codec::{Form, TakeError, put_u64, take_u64};
 use std::alloc::{AllocError, Global};
@@ -18,8 +17,6 @@ impl Form for AmountForm {
     ghost is_spelled = { λ _ n. is_amount_number n };
 
     ghost spelling = { λ _ n. amount_spelling n };
-
-    ghost pieces = { λ _ n. [] };
 
     ghost reading = { λ _ bytes at. amount_at bytes at };
 
@@ -38,10 +35,6 @@ impl Form for AmountForm {
     }
 
     ghost laws = { λ _. amount_form };
-
-    ghost some = { λ _ n. amount_first n };
-
-    ghost spells_all = { λ _. alike_spells is_amount_number amount_spelling };
 }
 
 /// The least amount.

@@ -1,9 +1,8 @@
-ghost use Rattle.std.specs.Prelude.{◌≡◌, ◌≤◌, ◌++◌, [], true, length, OnOk, OnErr, IfOk};
+ghost use Rattle.std.specs.Prelude.{◌≡◌, ◌≤◌, ◌++◌, true, length, OnOk, OnErr, IfOk};
 ghost use Rattle.field_codec.specs.Spelling.{number, Keeps};
 ghost use Rattle.field_codec.specs.Reading.{Gives};
 ghost use Rattle.crdt_core.specs.Spelled.{are_dots, is_dots, dots as dots_spelling};
-ghost use Rattle.crdt_core.specs.Contents.{pieces_of};
-ghost use Rattle.crdt_counters.specs.EffectForm.{can_put_fat, fat_contents, is_fat_spelled, fat_spelling, fat_at, fat_form, fat_first, fat_all, amount_spelling};
+ghost use Rattle.crdt_counters.specs.EffectForm.{can_put_fat, is_fat_spelled, fat_spelling, fat_at, fat_form, amount_spelling};
 
 use crate::FatEffect;
 use crate::amount_form::{put_amount, take_amount};
@@ -23,8 +22,6 @@ impl Form for FatForm {
     ghost is_spelled = { λ _ e. is_fat_spelled e };
 
     ghost spelling = { λ _ e. fat_spelling e };
-
-    ghost pieces = { λ _ e. pieces_of fat_contents e };
 
     ghost reading = { λ _ bytes at. fat_at bytes at };
 
@@ -51,10 +48,6 @@ impl Form for FatForm {
     }
 
     ghost laws = { λ _. fat_form };
-
-    ghost some = { λ _ e. fat_first e };
-
-    ghost spells_all = { λ _. fat_all };
 }
 
 fn put_marked_amount(out: &mut Vec<u8>, amount: i64) -> Result<(), AllocError>

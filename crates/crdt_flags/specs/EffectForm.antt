@@ -1,10 +1,10 @@
 -- The bytes of a flag's effect: what it does, and the dots that it takes out.
-use Rattle.std.specs.Prelude.{◌≡◌, ℕ, zero, suc, ◌<◌, ◌≤◌, ◌==◌, Bool, true, List, [], ◌∷◌, ◌++◌, length, if◌then◌else◌, refl}
+use Rattle.std.specs.Prelude.{◌≡◌, ℕ, zero, suc, ◌≤◌, ◌==◌, Bool, true, List, [], ◌∷◌, ◌++◌, if◌then◌else◌, refl}
 use Rattle.std.proofs.Common.{sym, arith}
 use Rattle.field_codec.specs.Spelling.{number}
 use Rattle.field_codec.specs.Reading.{Read}
 use Rattle.field_codec.specs.Lawful.{IsForm, SpellsAll}
-use Rattle.field_codec.specs.SpellsAllLaws.{number_first, behind_spells, mapped_spells}
+use Rattle.field_codec.specs.SpellsAllLaws.{behind_spells, mapped_spells}
 use Rattle.site_vector.specs.declared.ids.Dot.{Dot}
 use Rattle.crdt_core.specs.declared.kind.Kind.{Kind}
 use Rattle.crdt_core.specs.DotSet.{has_dot}
@@ -61,9 +61,6 @@ few (Reset ds) = omega arith
 pub flag_form : IsForm can_put_flag is_flag_spelled flag_spelling flag_at
 unfolding flag_at
 flag_form = marked_form 2 (omega arith) marked_flag flag_mark flag_out are_dots is_dots dots dots_at back forth few dots_held_form
-
-pub flag_first : (e : FlagEffect) → 0 < length (flag_spelling e)
-flag_first e = number_first 1 (flag_mark e) (dots (flag_out e)) (omega arith)
 
 pub flag_all : SpellsAll can_put_flag is_flag_spelled (pieces_of flag_contents) flag_spelling
 flag_all = behind_spells (λ e. number 1 (flag_mark e)) (mapped_spells flag_out dots_spell)

@@ -1,9 +1,8 @@
-ghost use Rattle.std.specs.Prelude.{◌≡◌, ◌≤◌, ◌++◌, [], true, length, OnOk, OnErr, IfOk};
+ghost use Rattle.std.specs.Prelude.{◌≡◌, ◌≤◌, ◌++◌, true, length, OnOk, OnErr, IfOk};
 ghost use Rattle.field_codec.specs.Spelling.{number, Keeps};
 ghost use Rattle.field_codec.specs.Reading.{Gives};
 ghost use Rattle.crdt_core.specs.Spelled.{are_dots, is_dots, dots as dots_spelling};
-ghost use Rattle.crdt_core.specs.Contents.{pieces_of};
-ghost use Rattle.crdt_flags.specs.EffectForm.{flag_mark, marked_flag, can_put_flag, flag_contents, is_flag_spelled, flag_spelling, flag_at, flag_form, flag_first, flag_all};
+ghost use Rattle.crdt_flags.specs.EffectForm.{flag_mark, marked_flag, can_put_flag, is_flag_spelled, flag_spelling, flag_at, flag_form};
 
 use crate::FlagEffect;
 use crdt_core::{Dots, put_dots, take_dots, take_small};
@@ -22,8 +21,6 @@ impl Form for FlagForm {
     ghost is_spelled = { λ _ e. is_flag_spelled e };
 
     ghost spelling = { λ _ e. flag_spelling e };
-
-    ghost pieces = { λ _ e. pieces_of flag_contents e };
 
     ghost reading = { λ _ bytes at. flag_at bytes at };
 
@@ -51,10 +48,6 @@ impl Form for FlagForm {
     }
 
     ghost laws = { λ _. flag_form };
-
-    ghost some = { λ _ e. flag_first e };
-
-    ghost spells_all = { λ _. flag_all };
 }
 
 fn put_marked(out: &mut Vec<u8>, mark: u8, dots: &Dots) -> Result<(), AllocError>

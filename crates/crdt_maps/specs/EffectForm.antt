@@ -12,7 +12,7 @@ use Rattle.field_codec.specs.Lawful.{IsBytes, text_piece, all_hold, StandInTurn,
 use Rattle.field_codec.specs.Steps.{by_length, bind_err, lt_from, IsBytes-append}
 use Rattle.field_codec.specs.Refusals.{steady_form, enough_from, tested_short, ends_at}
 use Rattle.field_codec.specs.FormLaws.{any_text_form, number_form, number_short, length-number, width1, list_form, checked_form, then_form, mapped_form, lt_holds, le_from, both_true, and_true, bind_ok, spans_first}
-use Rattle.field_codec.specs.SpellsAllLaws.{longer, number_first, text_first, alike_spells, any_text_spells, checked_spells, behind_spells, then_spells, mapped_spells, told_spells, list_spells}
+use Rattle.field_codec.specs.SpellsAllLaws.{longer, text_first, alike_spells, any_text_spells, checked_spells, behind_spells, then_spells, mapped_spells, told_spells, list_spells}
 use Rattle.field_codec.specs.Tagged.{tagged_at, tagged_form, shape_form}
 use Rattle.site_vector.specs.declared.ids.Dot.{Dot}
 use Rattle.crdt_core.specs.declared.kind.Kind.{Kind}
@@ -274,9 +274,6 @@ go_rest spelling (Resets xs) = []
 abbrev pub go_spelling : {E : Type 0} → (E → List ℕ) → MapEffect E → List ℕ
 go_spelling spelling e = number 1 0 ++ go_rest spelling e
 
-pub go_first : {E : Type 0} (spelling : E → List ℕ) (e : MapEffect E) → 0 < length (go_spelling spelling e)
-go_first spelling e = number_first 1 0 (go_rest spelling e) (omega arith)
-
 abbrev pub go_contents : {E : Type 0} → (E → List Content) → MapEffect E → List Content
 go_contents contents (At f e) = entry_contents contents (f, e)
 go_contents contents (Resets xs) = []
@@ -310,9 +307,6 @@ rr_rest spelling (Resets xs) = list (entry spelling) xs
 
 abbrev pub rr_spelling : {E : Type 0} → (E → List ℕ) → MapEffect E → List ℕ
 rr_spelling spelling e = number 1 (rr_mark e) ++ rr_rest spelling e
-
-pub rr_first : {E : Type 0} (spelling : E → List ℕ) (e : MapEffect E) → 0 < length (rr_spelling spelling e)
-rr_first spelling e = number_first 1 (rr_mark e) (rr_rest spelling e) (omega arith)
 
 abbrev pub rr_contents : {E : Type 0} → (E → List Content) → MapEffect E → List Content
 rr_contents contents (At f e) = entry_contents contents (f, e)

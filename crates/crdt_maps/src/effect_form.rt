@@ -2,8 +2,7 @@ ghost use Rattle.std.specs.Prelude.{◌≡◌, ◌≤◌, ◌++◌, true, length
 ghost use Rattle.field_codec.specs.Spelling.{number, list, are_members, is_list, Keeps};
 ghost use Rattle.field_codec.specs.Reading.{Gives, list_at};
 ghost use Rattle.crdt_core.specs.declared.kind.Kind.TheVariants.{MapRr};
-ghost use Rattle.crdt_core.specs.Contents.{pieces_of};
-ghost use Rattle.crdt_maps.specs.EffectForm.{may_stand, entry, entry_below, can_put_reset, is_reset_spelled, reset_at, go_can_put, go_contents, go_is_spelled, go_spelling, go_at, go_form, go_first, go_all, rr_can_put, rr_contents, rr_is_spelled, rr_spelling, rr_at, rr_form, rr_first, rr_all};
+ghost use Rattle.crdt_maps.specs.EffectForm.{may_stand, entry, entry_below, can_put_reset, is_reset_spelled, reset_at, go_can_put, go_is_spelled, go_spelling, go_at, go_form, rr_can_put, rr_is_spelled, rr_spelling, rr_at, rr_form};
 
 use crate::MapEffect;
 use crate::entry_form::{ResetForm, put_entry, take_entry};
@@ -33,8 +32,6 @@ impl<I: Crdt> Form for GoForm<I> {
 
     ghost spelling = { λ _ e. go_spelling I.spelling e };
 
-    ghost pieces = { λ _ e. pieces_of (go_contents I.contents) e };
-
     ghost reading = { λ _ bytes at. go_at I.has I.reading bytes at };
 
     ghost follows = { λ _ before e. true };
@@ -63,10 +60,6 @@ impl<I: Crdt> Form for GoForm<I> {
     }
 
     ghost laws = { λ _. go_form I.spells };
-
-    ghost some = { λ _ e. go_first I.spelling e };
-
-    ghost spells_all = { λ _. go_all I.spells };
 }
 
 #[tactic(auto, unfolding(crate::specs::EffectForm::go_at, crate::specs::EffectForm::go_rest_at))]
@@ -100,8 +93,6 @@ impl<I: Crdt> Form for RrForm<I> {
 
     ghost spelling = { λ _ e. rr_spelling I.spelling e };
 
-    ghost pieces = { λ _ e. pieces_of (rr_contents I.contents) e };
-
     ghost reading = { λ _ bytes at. rr_at I.has I.reading bytes at };
 
     ghost follows = { λ _ before e. true };
@@ -130,10 +121,6 @@ impl<I: Crdt> Form for RrForm<I> {
     }
 
     ghost laws = { λ _. rr_form I.spells };
-
-    ghost some = { λ _ e. rr_first I.spelling e };
-
-    ghost spells_all = { λ _. rr_all I.spells };
 }
 
 fn put_resets<I: Crdt>(out: &mut Vec<u8>, resets: &[(Field, I::Effect)]) -> Result<(), AllocError>

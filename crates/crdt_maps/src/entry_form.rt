@@ -3,8 +3,7 @@ ghost use Rattle.field_codec.specs.Spelling.{Keeps, is_text};
 ghost use Rattle.field_codec.specs.Reading.{Gives};
 ghost use Rattle.crdt_core.specs.declared.kind.Kind.TheVariants.{MapRr};
 ghost use Rattle.crdt_core.specs.EffectForm.{reset_tag};
-ghost use Rattle.crdt_core.specs.Contents.{pieces_of};
-ghost use Rattle.crdt_maps.specs.EffectForm.{may_stand, field_at, opened_at, entry, entry_at, can_put_reset, is_reset_spelled, reset_at, entry_below, reset_form, entry_contents, entry_first, reset_all};
+ghost use Rattle.crdt_maps.specs.EffectForm.{may_stand, field_at, opened_at, entry, entry_at, can_put_reset, is_reset_spelled, reset_at, entry_below, reset_form};
 
 use crdt_core::{Crdt, Field, Kind, put_kind, stands_in, take_kind};
 use field_codec::{Form, TakeError, put_text, take_text, take_u8};
@@ -144,8 +143,6 @@ impl<I: Crdt> Form for ResetForm<I> {
 
     ghost spelling = { λ _ x. entry I.spelling x };
 
-    ghost pieces = { λ _ x. pieces_of (entry_contents I.contents) x };
-
     ghost reading = { λ _ bytes at. reset_at (may_stand MapRr I.has) I.reading bytes at };
 
     ghost follows = { λ _ before x. entry_below before x };
@@ -168,8 +165,4 @@ impl<I: Crdt> Form for ResetForm<I> {
     }
 
     ghost laws = { λ _. reset_form I.spells MapRr };
-
-    ghost some = { λ _ x. entry_first I.spelling x };
-
-    ghost spells_all = { λ _. reset_all I.spells MapRr };
 }

@@ -1,10 +1,10 @@
 -- The bytes of an assign to the register that the last writer wins: its stamp, and its text.
-use Rattle.std.specs.Prelude.{ℕ, ◌<◌, Bool, true, ◌&&◌, List, [], ◌∷◌, ◌++◌, length, refl}
+use Rattle.std.specs.Prelude.{ℕ, Bool, true, ◌&&◌, List, [], ◌∷◌, ◌++◌, refl}
 use Rattle.std.proofs.Common.{arith}
 use Rattle.field_codec.specs.Spelling.{number, text, is_text}
 use Rattle.field_codec.specs.Reading.{Read, text_at, then_at, mapped_at}
 use Rattle.field_codec.specs.Lawful.{IsForm, SpellsAll}
-use Rattle.field_codec.specs.SpellsAllLaws.{number_first, alike_spells, any_text_spells, then_spells}
+use Rattle.field_codec.specs.SpellsAllLaws.{alike_spells, any_text_spells, then_spells}
 use Rattle.field_codec.specs.FormLaws.{any_text_form, width8, then_form, mapped_form, both_true, and_true}
 use Rattle.crdt_core.specs.declared.kind.Kind.{Kind}
 use Rattle.crdt_core.specs.Spelled.{is_between, between_at}
@@ -43,9 +43,6 @@ lww_form =
     let whole = then_form stamps stamps (number 8) (between_at 8 0 last_stamp) (λ _ _. true) (λ _. is_text) (λ _. text) (λ _. text_at) (between_form 8 0 last_stamp width8 (omega arith)) (λ _ _. any_text_form) in
     let law = mapped_form assigned_of (λ e. (e.stamp, e.text)) _ _ _ _ (λ _. refl) (λ _ _. refl) whole in
     record { found = law.found; again = law.again; fit = λ e good. (both_true (stamps e.stamp) (is_text e.text) good).0; ends = law.ends; tells = law.tells }
-
-pub lww_first : (e : Assigned) → 0 < length (lww_spelling e)
-lww_first e = number_first 8 e.stamp (text e.text) (omega arith)
 
 pub lww_all : SpellsAll can_put_lww is_lww_spelled (pieces_of lww_contents) lww_spelling
 lww_all =

@@ -1,12 +1,12 @@
 -- The bytes of an effect of the register that keeps the texts of concurrent assigns: what it does, the text that it puts, and
 -- the dots that it takes out.
-use Rattle.std.specs.Prelude.{◌≡◌, ℕ, ◌<◌, ◌==◌, eqb, Bool, true, ◌&&◌, ◌||◌, List, [], ◌∷◌, ◌++◌, length, if◌then◌else◌, refl}
-use Rattle.std.proofs.Common.{sym, subst, ⊎_elim, arith}
+use Rattle.std.specs.Prelude.{◌≡◌, ℕ, ◌==◌, eqb, Bool, true, ◌&&◌, ◌||◌, List, [], ◌∷◌, ◌++◌, if◌then◌else◌, refl}
+use Rattle.std.proofs.Common.{sym, subst, ⊎_elim}
 use Rattle.std.proofs.lemmas.Bool.{false≢true, eqb-true, or_cases}
 use Rattle.field_codec.specs.Spelling.{number, is_number, text, is_text}
 use Rattle.field_codec.specs.Reading.{Read, text_at, then_at, mapped_at}
 use Rattle.field_codec.specs.Lawful.{text_piece, all_hold, StandInTurn, IsForm, SpellsAll}
-use Rattle.field_codec.specs.SpellsAllLaws.{number_first, any_text_spells, behind_spells, then_spells}
+use Rattle.field_codec.specs.SpellsAllLaws.{any_text_spells, behind_spells, then_spells}
 use Rattle.field_codec.specs.FormLaws.{any_text_form, then_form}
 use Rattle.field_codec.specs.Tagged.{tagged_at, tagged_form, shape_form}
 use Rattle.site_vector.specs.declared.ids.Dot.{Dot}
@@ -90,9 +90,6 @@ small n h = ⊎_elim (λ e. subst (λ k. is_number 1 k ≡ true) (sym (eqb-true 
 pub mv_form : IsForm can_put_mv is_mv_spelled mv_spelling mv_at
 unfolding mv_at
 mv_form = tagged_form is_mv_mark mv_mark can_put_mv is_mv_spelled mv_rest mv_rest_at known small rest_form
-
-pub mv_first : (e : MvEffect) → 0 < length (mv_spelling e)
-mv_first e = number_first 1 (mv_mark e) (mv_rest e) (omega arith)
 
 rest_all : SpellsAll can_put_mv is_mv_spelled (pieces_of mv_contents) mv_rest
 rest_all = record { spells = by; held = held; stand = stand }

@@ -1,7 +1,6 @@
-ghost use Rattle.std.specs.Prelude.{◌≡◌, ◌≤◌, ◌∷◌, [], true, length, IfOk};
+ghost use Rattle.std.specs.Prelude.{◌≡◌, ◌≤◌, ◌∷◌, true, length, IfOk};
 ghost use Rattle.field_codec.specs.Reading.{Gives};
-ghost use Rattle.crdt_core.specs.Contents.{pieces_of};
-ghost use Rattle.crdt_registers.specs.LwwForm.{can_put_lww, lww_contents, is_lww_spelled, lww_spelling, lww_at, lww_form, lww_first, lww_all};
+ghost use Rattle.crdt_registers.specs.LwwForm.{can_put_lww, is_lww_spelled, lww_spelling, lww_at, lww_form};
 
 use crate::Assigned;
 use crate::register_lww::LAST_STAMP;
@@ -21,8 +20,6 @@ impl Form for LwwForm {
 
     ghost spelling = { λ _ e. lww_spelling e };
 
-    ghost pieces = { λ _ e. pieces_of lww_contents e };
-
     ghost reading = { λ _ bytes at. lww_at bytes at };
 
     ghost follows = { λ _ before e. true };
@@ -41,10 +38,6 @@ impl Form for LwwForm {
     }
 
     ghost laws = { λ _. lww_form };
-
-    ghost some = { λ _ e. lww_first e };
-
-    ghost spells_all = { λ _. lww_all };
 }
 
 #[tactic(auto, unfolding(crate::specs::LwwForm::lww_at))]

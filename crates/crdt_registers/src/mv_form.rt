@@ -2,8 +2,7 @@ ghost use Rattle.std.specs.Prelude.{◌≡◌, ◌≤◌, ◌++◌, ◌&&◌, tr
 ghost use Rattle.field_codec.specs.Spelling.{number, text as text_spelling, is_text, Keeps};
 ghost use Rattle.field_codec.specs.Reading.{Gives};
 ghost use Rattle.crdt_core.specs.Spelled.{are_dots, is_dots, dots as dots_spelling};
-ghost use Rattle.crdt_core.specs.Contents.{pieces_of};
-ghost use Rattle.crdt_registers.specs.MvForm.{can_put_mv, mv_contents, is_mv_spelled, mv_spelling, mv_rest_at, mv_at, mv_form, mv_first, mv_all};
+ghost use Rattle.crdt_registers.specs.MvForm.{can_put_mv, is_mv_spelled, mv_spelling, mv_rest_at, mv_at, mv_form};
 
 use crate::MvEffect;
 use crdt_core::{Dots, put_dots, take_dots};
@@ -29,8 +28,6 @@ impl Form for MvForm {
 
     ghost spelling = { λ _ e. mv_spelling e };
 
-    ghost pieces = { λ _ e. pieces_of mv_contents e };
-
     ghost reading = { λ _ bytes at. mv_at bytes at };
 
     ghost follows = { λ _ before e. true };
@@ -51,10 +48,6 @@ impl Form for MvForm {
     }
 
     ghost laws = { λ _. mv_form };
-
-    ghost some = { λ _ e. mv_first e };
-
-    ghost spells_all = { λ _. mv_all };
 }
 
 fn put_assign(out: &mut Vec<u8>, text: &Text, dots: &Dots) -> Result<(), AllocError>

@@ -7,7 +7,7 @@ use Rattle.std.specs.declared.cmp.Ordering.{Ordering}
 use Rattle.field_codec.specs.Spelling.{number, is_number, text, is_text, list, are_members, is_list, is_below}
 use Rattle.field_codec.specs.Reading.{Read, text_at, list_at, checked_at, then_at, mapped_at}
 use Rattle.field_codec.specs.Lawful.{all_hold, StandInTurn, IsForm, SpellsAll}
-use Rattle.field_codec.specs.SpellsAllLaws.{longer, number_first, text_first, any_text_spells, checked_spells, behind_spells, then_spells, mapped_spells, told_spells, list_spells}
+use Rattle.field_codec.specs.SpellsAllLaws.{longer, text_first, any_text_spells, checked_spells, behind_spells, then_spells, mapped_spells, told_spells, list_spells}
 use Rattle.field_codec.specs.FormLaws.{any_text_form, list_form, checked_form, then_form, mapped_form, lt_holds, le_from, both_true}
 use Rattle.field_codec.specs.Tagged.{tagged_at, tagged_form, shape_form}
 use Rattle.site_vector.specs.declared.ids.Dot.{Dot}
@@ -189,9 +189,6 @@ abbrev pub set_contents : SetEffect → List Content
 set_contents (Add ns) = named_list_contents ns
 set_contents (Remove ns) = named_list_contents ns
 set_contents (Reset ns) = named_list_contents ns
-
-pub set_first : (e : SetEffect) → 0 < length (set_spelling e)
-set_first e = number_first 1 (set_mark e) (set_rest e) (omega arith)
 
 rest_all : SpellsAll can_put_set is_set_spelled (pieces_of set_contents) set_rest
 rest_all = record { spells = by; held = held; stand = stand }

@@ -1,8 +1,7 @@
 ghost use Rattle.std.specs.Prelude.{◌≡◌, ◌≤◌, ◌++◌, true, length, OnOk, OnErr, IfOk, ◌&&◌};
 ghost use Rattle.field_codec.specs.Spelling.{number, Keeps};
 ghost use Rattle.field_codec.specs.Reading.{Gives, checked_at};
-ghost use Rattle.crdt_core.specs.Contents.{pieces_of};
-ghost use Rattle.crdt_sets.specs.EffectForm.{has_some, can_put_list, set_contents, is_list_spelled, list_spelling, named_list_at, can_put_set, is_set_spelled, set_spelling, set_at, set_form, set_first, set_all};
+ghost use Rattle.crdt_sets.specs.EffectForm.{has_some, can_put_list, is_list_spelled, list_spelling, named_list_at, can_put_set, is_set_spelled, set_spelling, set_at, set_form};
 
 use crate::named_form::NamedForm;
 use crate::{Named, SetEffect};
@@ -22,8 +21,6 @@ impl Form for SetForm {
     ghost is_spelled = { λ _ e. is_set_spelled e };
 
     ghost spelling = { λ _ e. set_spelling e };
-
-    ghost pieces = { λ _ e. pieces_of set_contents e };
 
     ghost reading = { λ _ bytes at. set_at bytes at };
 
@@ -51,10 +48,6 @@ impl Form for SetForm {
     }
 
     ghost laws = { λ _. set_form };
-
-    ghost some = { λ _ e. set_first e };
-
-    ghost spells_all = { λ _. set_all };
 }
 
 fn put_marked(out: &mut Vec<u8>, mark: u8, named: &[Named]) -> Result<(), AllocError>

@@ -2,8 +2,7 @@ ghost use Rattle.std.specs.Prelude.{◌≡◌, ◌≤◌, ◌++◌, true, length
 ghost use Rattle.field_codec.specs.Spelling.{Keeps, is_below};
 ghost use Rattle.field_codec.specs.Reading.{Gives};
 ghost use Rattle.crdt_core.specs.Spelled.{are_dots};
-ghost use Rattle.crdt_core.specs.Contents.{pieces_of};
-ghost use Rattle.crdt_sets.specs.EffectForm.{named_cmp, named_contents, is_named, named as named_spelling, named_at, named_form, named_first, named_all};
+ghost use Rattle.crdt_sets.specs.EffectForm.{named_cmp, is_named, named as named_spelling, named_at, named_form};
 
 use crate::Named;
 use crdt_core::{put_dots, take_dots};
@@ -22,8 +21,6 @@ impl Form for NamedForm {
     ghost is_spelled = { λ _ n. is_named n };
 
     ghost spelling = { λ _ n. named_spelling n };
-
-    ghost pieces = { λ _ n. pieces_of named_contents n };
 
     ghost reading = { λ _ bytes at. named_at bytes at };
 
@@ -46,8 +43,4 @@ impl Form for NamedForm {
     }
 
     ghost laws = { λ _. named_form };
-
-    ghost some = { λ _ n. named_first n };
-
-    ghost spells_all = { λ _. named_all };
 }

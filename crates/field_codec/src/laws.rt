@@ -1,9 +1,8 @@
-ghost use Rattle.std.specs.List.{flat_map};
 ghost use Rattle.field_codec.specs.Spelling.{number, is_number, text, is_text, list, are_members, is_list};
 ghost use Rattle.field_codec.specs.Reading.{number_at, text_at, list_at};
-ghost use Rattle.field_codec.specs.Lawful.{IsForm, list_pieces, SpellsAll, IsPrefixFree};
+ghost use Rattle.field_codec.specs.Lawful.{IsForm, told_pieces, list_told, SpellsAll, IsPrefixFree};
 
-use crate::Form;
+use crate::{Form, WholeForm};
 
 /// Reading answers a number or a text and the place after it exactly where its spelling stands at the
 /// place, each refusal means what it says, and no spelling begins that of another.
@@ -20,11 +19,14 @@ pub fn law_fields()
     ensures apart { IsPrefixFree is_text text }
 {}
 
-/// The same of the lists of each form's values, as `put_list` and `take_list` spell and read them; and a list of values that
-/// fit has a spelling exactly where its pieces are as they must be: where each list in it has fewer than 2^32 members, and each
-/// text is as each `Text` is.
+/// The same of the lists of each form's values, as `put_list` and `take_list` spell and read them.
 pub fn law_list<F: Form>(form: &F)
     ensures form { IsForm (are_members (F.follows form.now) (F.fits form.now)) (is_list (F.follows form.now) (F.is_spelled form.now)) (list (F.spelling form.now)) (list_at (F.follows form.now) (F.reading form.now)) }
-    ensures all { SpellsAll (are_members (F.follows form.now) (F.fits form.now)) (is_list (F.follows form.now) (F.is_spelled form.now)) (list_pieces (F.pieces form.now)) (list (F.spelling form.now)) }
     ensures apart { IsPrefixFree (is_list (F.follows form.now) (F.is_spelled form.now)) (list (F.spelling form.now)) }
+{}
+
+/// A list of values that fit has a spelling exactly where each list in it has fewer than 2^32 members, and each text is as each
+/// `Text` is.
+pub fn law_whole_list<F: WholeForm>(form: &F)
+    ensures { SpellsAll (are_members (F.follows form.now) (F.fits form.now)) (is_list (F.follows form.now) (F.is_spelled form.now)) (told_pieces (list_told (F.told form.now))) (list (F.spelling form.now)) }
 {}
