@@ -1,6 +1,6 @@
-//! What no clause says: that the line of a status is written to a writer that takes it.
+//! What no clause says: that the line of a status is written to a writer that takes it, and that a call reads and writes all that it can.
 use crate::{end, tell};
-use dc_engine::Status;
+use dc_engine::{Reading, Sink, Source, Status, Writing};
 use std::io::{Error, ErrorKind, Write};
 use std::test::*;
 
@@ -33,4 +33,16 @@ fn ends_where_nothing_can_be_told(rt: HostRuntime) {
     assert!(rt; end(&mut err, Status::READ_FAULT).1.is_ok());
     assert_eq!(rt; err.as_slice(), b"read fault\n".as_slice());
     assert!(rt; end(&mut Broken, Status::READ_FAULT).1.is_err());
+}
+
+#[test]
+fn reads_and_writes_by_blocks(rt: HostRuntime) {
+    let mut source = Reading::new(b"cluster 1 1\nsession a 1\n".as_slice());
+    let mut block = [0; 16];
+    assert!(rt; source.read(&mut block).is_ok_and(|count| count == 16));
+    assert_eq!(rt; block.as_slice(), b"cluster 1 1\nsess".as_slice());
+    assert!(rt; source.read(&mut block).is_ok_and(|count| count == 8));
+    let mut replies = Vec::new(rt.alloc());
+    assert!(rt; Writing::new(&mut replies).write(&block[..8]).is_ok_and(|count| count == 8));
+    assert_eq!(rt; replies.as_slice(), b"ion a 1\n".as_slice());
 }
