@@ -43,6 +43,10 @@ fn reads_and_writes_by_blocks(rt: HostRuntime) {
     assert_eq!(rt; block.as_slice(), b"cluster 1 1\nsess".as_slice());
     assert!(rt; source.read(&mut block).is_ok_and(|count| count == 8));
     let mut replies = Vec::new(rt.alloc());
-    assert!(rt; Writing::new(&mut replies).write(&block[..8]).is_ok_and(|count| count == 8));
+    assert!(rt;
+        Writing::new(&mut replies)
+            .write(&block[..8])
+            .is_ok_and(|count| count == 8)
+    );
     assert_eq!(rt; replies.as_slice(), b"ion a 1\n".as_slice());
 }
