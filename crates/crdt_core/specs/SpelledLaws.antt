@@ -12,7 +12,6 @@ use Rattle.std.proofs.lemmas.List.{append-nil}
 use Rattle.field_codec.specs.Spelling.{number, is_number, text, is_text, are_in_order, are_members, is_below}
 use Rattle.field_codec.specs.Reading.{Read, number_at, text_at, members_at, checked_at, then_at, mapped_at}
 use Rattle.field_codec.specs.Lawful.{IsForm, SpellsAll}
-use Rattle.field_codec.specs.SpellsAllLaws.{longer, number_first}
 use Rattle.field_codec.specs.FormLaws.{number_form, IsWidth, width1, width2, width8, text_form, list_form, members_form, checked_form, then_form, mapped_form, both_true, and_true, le_from, le_holds, lt_holds}
 use Rattle.site_vector.specs.declared.ids.Dot.{Dot}
 use Rattle.site_vector.specs.Order.{dot_cmp}
@@ -55,9 +54,6 @@ dot_form =
 -- whether a list of updates can be put, and ascends
 abbrev pub are_ascending : List Dot → Bool
 are_ascending ds = are_members (is_below dot_cmp) is_dot ds
-
-pub dot_first : (d : Dot) → 0 < length (dot d)
-dot_first d = longer (tx d.tx) (number 2 d.index) (number_first 1 d.tx.site (number 1 d.tx.part ++ number 8 d.tx.time) (omega arith))
 
 pub dots_form : IsForm are_ascending is_dots dots dots_at
 dots_form = list_form (is_below dot_cmp) is_dot is_dot dot dot_at dot_form

@@ -1,15 +1,14 @@
-ghost use Rattle.std.specs.Prelude.{◌≡◌, ◌≤◌, ◌++◌, [], true, length, OnOk, OnErr, IfOk};
+ghost use Rattle.std.specs.Prelude.{◌≡◌, ◌≤◌, ◌++◌, true, length, OnOk, OnErr, IfOk};
 ghost use Rattle.std.specs.List.{list_all};
 ghost use Rattle.field_codec.specs.Spelling.{is_below};
 ghost use Rattle.field_codec.specs.Reading.{Gives};
-ghost use Rattle.field_codec.specs.SpellsAllLaws.{alike_spells};
 ghost use Rattle.site_vector.specs.Order.{dot_cmp};
 ghost use Rattle.crdt_core.specs.DotSet.{IsAscending};
 ghost use Rattle.crdt_core.specs.Spelled.{is_dot, dot, dot_at, is_dots, dots, dots_at};
-ghost use Rattle.crdt_core.specs.SpelledLaws.{dot_first, dot_form};
+ghost use Rattle.crdt_core.specs.SpelledLaws.{dot_form};
 
 use crate::{Dots, put_dot, take_dot};
-use field_codec::{Form, ListOf, TakeError, WholeForm, put_list, take_list};
+use field_codec::{Form, ListOf, TakeError, put_list, take_list};
 use site_vector::Dot;
 use std::alloc::{AllocError, Global};
 
@@ -44,14 +43,6 @@ impl Form for DotForm {
     }
 
     ghost laws = { λ _. dot_form };
-}
-
-impl WholeForm for DotForm {
-    ghost told = { λ _ d. [] };
-
-    ghost some = { λ _ d. dot_first d };
-
-    ghost spells_all = { λ _. alike_spells is_dot dot };
 }
 
 /// Appends the updates as an ascending list.

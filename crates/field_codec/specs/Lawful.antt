@@ -1,6 +1,6 @@
 -- What makes a form of values: what is read is spelled so, what is spelled so is read, whatever follows it; and what it means
 -- that reading refuses.
-use Rattle.std.specs.Prelude.{◌≡◌, ◌≢◌, ℕ, ◌<◌, ◌≤◌, Bool, true, List, [], ◌∷◌, ◌++◌, length, map, take, slice_index, Ok, Err}
+use Rattle.std.specs.Prelude.{◌≡◌, ◌≢◌, ℕ, ◌<◌, ◌≤◌, Bool, true, List, [], ◌∷◌, ◌++◌, length, take, slice_index, Ok, Err}
 use Rattle.std.specs.List.{flat_map, list_all}
 use Rattle.field_codec.specs.declared.error.TakeError.TheVariants.{Short, Bad, NoMemory}
 use Rattle.field_codec.specs.Spelling.{number, is_number, text, is_text, Spans}
@@ -54,24 +54,7 @@ text_piece t = record { holds = is_text t; bytes = text t; room = 0 }
 abbrev pub count_piece : ℕ → Piece
 count_piece n = record { holds = is_number 4 n; bytes = number 4 n; room = n }
 
--- A text or the count of a list, as they stand in a spelling: what must hold of them is the same in every form.
-pub data Told : Type 0 where
-  Words : (t : List ℕ) → Told
-  Count : (n : ℕ) → Told
-
-abbrev pub told_piece : Told → Piece
-told_piece (Words t) = text_piece t
-told_piece (Count n) = count_piece n
-
--- the pieces of a value, by its texts and counts
-abbrev pub told_pieces : {V : Type 0} → (V → List Told) → V → List Piece
-told_pieces told v = map told_piece (told v)
-
 -- those of a list: its count, and those of its members
-abbrev pub list_told : {V : Type 0} → (V → List Told) → List V → List Told
-list_told told vs = Count (length vs) ∷ flat_map told vs
-
--- the same of pieces
 abbrev pub list_pieces : {V : Type 0} → (V → List Piece) → List V → List Piece
 list_pieces pieces vs = count_piece (length vs) ∷ flat_map pieces vs
 

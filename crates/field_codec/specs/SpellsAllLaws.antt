@@ -1,10 +1,10 @@
 -- What fits has a spelling: texts and lists, and what serves to show it of a form of several fields.
-use Rattle.std.specs.Prelude.{◌≡◌, ℕ, ◌<◌, ◌≤◌, Bool, true, ◌&&◌, List, [], ◌∷◌, ◌++◌, length, map, None, refl}
+use Rattle.std.specs.Prelude.{◌≡◌, ℕ, ◌<◌, ◌≤◌, Bool, true, ◌&&◌, List, [], ◌∷◌, ◌++◌, length, None, refl}
 use Rattle.std.proofs.Common.{sym, ap, subst, ◌∙◌, append_assoc, length-append, arith}
 use Rattle.std.proofs.lemmas.List.{append-nil}
 use Rattle.std.specs.List.{flat_map, list_all}
 use Rattle.field_codec.specs.Spelling.{number, is_number, text, is_text, list, are_in_order, are_members, is_list}
-use Rattle.field_codec.specs.Lawful.{Piece, Told, text_piece, count_piece, told_piece, told_pieces, list_told, list_pieces, all_hold, StandInTurn, SpellsAll}
+use Rattle.field_codec.specs.Lawful.{Piece, text_piece, list_pieces, all_hold, StandInTurn, SpellsAll}
 use Rattle.field_codec.specs.FormLaws.{length-number}
 use Rattle.field_codec.specs.Steps.{both_true, and_true}
 
@@ -141,16 +141,3 @@ module _ {V : Type 0} {fits is_spelled : V → Bool} {pieces : V → List Piece}
         and_true (is_number 4 (length vs)) (all_hold (flat_map pieces vs)) a.0 (each_held vs (both_true (are_in_order follows None vs) (list_all is_spelled vs) a.1).1);
     stand = λ vs. ([], flat_map spelling vs, refl, as_many vs, each_stand vs);
   }
-
--- ---- by texts and counts
-
-told_joined : (ts us : List Told) → map told_piece ts ++ map told_piece us ≡ map told_piece (ts ++ us)
-told_joined [] us = refl
-told_joined (t ∷ ts) us = ap (λ l. told_piece t ∷ l) (told_joined ts us)
-
-told_each : {V : Type 0} (told : V → List Told) (vs : List V) → flat_map (told_pieces told) vs ≡ map told_piece (flat_map told vs)
-told_each told [] = refl
-told_each told (v ∷ vs) = ap (λ l. told_pieces told v ++ l) (told_each told vs) ∙ told_joined (told v) (flat_map told vs)
-
-pub told_list : {V : Type 0} (told : V → List Told) (vs : List V) → list_pieces (told_pieces told) vs ≡ told_pieces (list_told told) vs
-told_list told vs = ap (λ l. count_piece (length vs) ∷ l) (told_each told vs)

@@ -1,7 +1,7 @@
-ghost use Rattle.std.specs.Prelude.{◌≡◌, ◌<◌, ◌≤◌, ◌++◌, ℕ, List, Bool, true, length, OnOk, OnErr, IfOk};
+ghost use Rattle.std.specs.Prelude.{◌≡◌, ◌≤◌, ◌++◌, ℕ, List, Bool, true, length, OnOk, OnErr, IfOk};
 ghost use Rattle.field_codec.specs.Spelling.{Keeps};
 ghost use Rattle.field_codec.specs.Reading.{Read, Gives};
-ghost use Rattle.field_codec.specs.Lawful.{Told, told_pieces, IsForm, SpellsAll, IsPrefixFree};
+ghost use Rattle.field_codec.specs.Lawful.{IsForm, IsPrefixFree};
 
 use crate::TakeError;
 use std::alloc::{AllocError, Global};
@@ -57,19 +57,6 @@ pub trait Form {
         ensures { result ≡ follows self.now before.now value.now };
 
     ghost laws: { (f : Self) → IsForm (fits f) (is_spelled f) (spelling f) (reading f) };
-}
-
-/// A form in which what fits has a spelling but where a list is too long to be counted. What must hold of texts and counts is
-/// the same in every form, and no other of its parts may keep a value from its spelling.
-pub trait WholeForm: Form {
-    /// The texts of a value and the counts of its lists, as they stand in the spelling, in turn.
-    ghost told: { Self → Self.Value → List Told };
-
-    /// No spelling is empty.
-    ghost some: { (f : Self) → (v : Self.Value) → 0 < length (Self.spelling f v) };
-
-    /// What fits has a spelling exactly where its texts are short and in UTF-8, as each `Text` is, and its counts are below 2^32.
-    ghost spells_all: { (f : Self) → SpellsAll (Self.fits f) (Self.is_spelled f) (told_pieces (told f)) (Self.spelling f) };
 }
 
 /// Appends the spelling.

@@ -1,9 +1,9 @@
-ghost use Rattle.std.specs.Prelude.{ℕ, ◌<◌, List, length};
+ghost use Rattle.std.specs.Prelude.{◌≡◌, ℕ, ◌<◌, List, true, length};
 ghost use Rattle.field_codec.specs.Spelling.{number, is_number, text, is_text, list, are_members, is_list};
 ghost use Rattle.field_codec.specs.Reading.{number_at, text_at, list_at};
-ghost use Rattle.field_codec.specs.Lawful.{IsForm, Piece, told_pieces, list_pieces, list_told, SpellsAll, IsPrefixFree};
+ghost use Rattle.field_codec.specs.Lawful.{IsForm, Piece, list_pieces, SpellsAll, IsPrefixFree};
 
-use crate::{Form, WholeForm};
+use crate::{Form, TextForm};
 
 /// Reading answers a number or a text and the place after it exactly where its spelling stands at the
 /// place, each refusal means what it says, and no spelling begins that of another.
@@ -28,8 +28,9 @@ pub fn law_list<F: Form>(form: &F)
     ensures apart { IsPrefixFree (is_list (F.follows form.now) (F.is_spelled form.now)) (list (F.spelling form.now)) }
 {}
 
-/// A list of values that fit has a spelling exactly where each list in it has fewer than 2^32 members, and each text is as each
-/// `Text` is.
-pub fn law_whole_list<F: WholeForm>(form: &F)
-    ensures { SpellsAll (are_members (F.follows form.now) (F.fits form.now)) (is_list (F.follows form.now) (F.is_spelled form.now)) (told_pieces (list_told (F.told form.now))) (list (F.spelling form.now)) }
+/// Each text can be put in the form of texts, and has its spelling there exactly where it is as each `Text` is.
+pub fn law_text_form(form: TextForm)
+    ensures fit { let T = ⟦<TextForm as Form>⟧ in (t : List ℕ) → T.fits form t ≡ true }
+    ensures spelled { let T = ⟦<TextForm as Form>⟧ in (t : List ℕ) → T.is_spelled form t ≡ is_text t }
+    ensures same { let T = ⟦<TextForm as Form>⟧ in (t : List ℕ) → T.spelling form t ≡ text t }
 {}

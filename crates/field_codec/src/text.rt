@@ -8,11 +8,9 @@ ghost use Rattle.std.specs.Cmp.{partial_order_from_own_ties};
 ghost use Rattle.std.proofs.Common.{rules};
 ghost use Rattle.field_codec.specs.Spelling.{text as spelled, is_text, is_below};
 ghost use Rattle.field_codec.specs.FormLaws.{any_text_form};
-ghost use Rattle.field_codec.specs.Lawful.{Words};
-ghost use Rattle.field_codec.specs.SpellsAllLaws.{text_first, any_text_spells};
 ghost use Rattle.field_codec.specs.Reading.{Gives, text_at, bytes_at};
 
-use crate::{Form, TakeError, WholeForm, put_u16, take_u16};
+use crate::{Form, TakeError, put_u16, take_u16};
 use std::alloc::{AllocError, Global};
 use std::cmp::Ordering;
 use std::hash::{Hash, Hasher};
@@ -219,12 +217,4 @@ impl Form for TextForm {
     }
 
     ghost laws = { λ _. any_text_form };
-}
-
-impl WholeForm for TextForm {
-    ghost told = { λ _ t. Words t ∷ [] };
-
-    ghost some = { λ _ t. text_first t };
-
-    ghost spells_all = { λ _. any_text_spells };
 }
