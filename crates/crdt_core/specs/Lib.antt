@@ -34,3 +34,9 @@ pub mod StandsLaws
 pub mod Texts
 pub mod Wins
 pub mod WinsLaw
+pub mod Parts
+pub mod Log
+pub mod Orders
+pub mod Fitting
+pub mod KindsOf
+pub mod Folds

@@ -14,8 +14,10 @@ use Rattle.crdt_core.specs.declared.object.ObjectId.{ObjectId}
 use Rattle.crdt_core.specs.declared.record.Upd.{Upd}
 use Rattle.crdt_core.specs.declared.record.Part.{Part}
 use Rattle.crdt_core.specs.Objects.{same_object}
-use Rattle.world_model.specs.Log.{touches, lists}
-use Rattle.world_model.specs.Partition.{fold_cmp, Ascends, Precede, AreParts, effects_from, effects_of}
+use Rattle.crdt_core.specs.Parts.{touches, lists}
+use Rattle.crdt_core.specs.Orders.{fold_cmp, Ascends, Precede}
+use Rattle.crdt_core.specs.Parts.{AreParts}
+use Rattle.crdt_core.specs.Folds.{effects_from, effects_of}
 use Rattle.dc_engine.specs.OneWorld.{HeldPart, is_held, Below, AreHeld}
 
 -- where x is u, it is among them exactly if it is picked, and so is u below it; else all is as before

@@ -8,8 +8,8 @@ use Rattle.site_vector.specs.Order.{same_tx_is, same_tx_refl}
 use Rattle.crdt_core.specs.declared.record.Upd.{Upd}
 use Rattle.crdt_core.specs.declared.record.Record.{Record}
 use Rattle.crdt_core.specs.declared.record.Record.TheVariants.{Lease, Prepare, Decide}
-use Rattle.world_model.specs.Log.{end_of_time, ceiling, prepared, pending, committed, committed_at, aborted, taken_at, taken_changes, prepared_changes, held_at, held_changes, grown}
-use Rattle.world_model.specs.Partition.{lease_for}
+use Rattle.crdt_core.specs.Log.{end_of_time, ceiling, prepared, pending, committed, committed_at, aborted, taken_at, taken_changes, prepared_changes, held_at, held_changes, grown}
+use Rattle.crdt_core.specs.Log.{lease_for}
 use Rattle.dc_engine.specs.OneWorld.{HeldPart, is_held, IsLog}
 use Rattle.dc_engine.proofs.NewLine.{false_if}
 use Rattle.dc_engine.proofs.HeldParts.{held_more}

@@ -11,10 +11,12 @@ use Rattle.site_vector.specs.Vector.{join, replaced}
 use Rattle.crdt_core.specs.declared.record.Upd.{Upd}
 use Rattle.crdt_core.specs.declared.record.Record.{Record}
 use Rattle.crdt_core.specs.declared.record.Record.TheVariants.{Prepare, Decide}
-use Rattle.world_model.specs.Log.{end_of_time, pending, committed, grown}
+use Rattle.crdt_core.specs.Log.{end_of_time, pending, committed, grown}
 use Rattle.world_model.specs.Event.{Event, Prepared, Decided, Entry, time_of, voted}
 use Rattle.world_model.specs.Past.{is_of, dependency}
-use Rattle.world_model.specs.Partition.{Kinds, PartState, lease_for, done}
+use Rattle.crdt_core.specs.KindsOf.{Kinds}
+use Rattle.world_model.specs.Partition.{PartState, done}
+use Rattle.crdt_core.specs.Log.{lease_for}
 use Rattle.world_model.specs.Plan.{MayPrepare, MayDecide, is_some_update, takes_part, first_of, change_by, updates_at}
 use Rattle.world_model.specs.Lines.{session_after}
 use Rattle.world_model.specs.World.{is_begin, is_own, changes_of, lead_of, snapshot_of, plan_of}

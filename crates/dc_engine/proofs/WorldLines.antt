@@ -14,7 +14,7 @@ use Rattle.world_model.specs.declared.step.Step.{Step}
 use Rattle.world_model.specs.declared.step.Step.TheVariants as step
 use Rattle.world_model.specs.Run.{Run}
 use Rattle.world_model.specs.Sessions.{transaction}
-use Rattle.world_model.specs.Log.{end_of_time}
+use Rattle.crdt_core.specs.Log.{end_of_time}
 use Rattle.world_model.specs.Past.{dependency}
 use Rattle.world_model.specs.Event as event
 use Rattle.world_model.specs.Event.{Event, Opened, Ticked, Refused, AskBegin, AskUpdate, AskPrepare, ClockAtEnd, IsBadOp}

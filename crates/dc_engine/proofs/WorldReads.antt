@@ -11,9 +11,11 @@ use Rattle.crdt_core.specs.declared.record.Upd.{Upd}
 use Rattle.crdt_core.specs.Objects.{same_object}
 use Rattle.crdt_core.specs.Placing.{place_of}
 use Rattle.crdt_core.specs.Fits.{fits}
-use Rattle.world_model.specs.Log.{holds, held_at, held_changes}
+use Rattle.crdt_core.specs.Log.{holds, held_at, held_changes}
 use Rattle.world_model.specs.Event.{Event, Read, Updated, Entry, tried}
-use Rattle.world_model.specs.Partition.{Kinds, PartState, IsReady, IsFold, done, state_read}
+use Rattle.crdt_core.specs.KindsOf.{Kinds}
+use Rattle.world_model.specs.Partition.{PartState, IsReady, done}
+use Rattle.crdt_core.specs.Folds.{IsFold, state_read}
 use Rattle.world_model.specs.Plan.{IsAsked}
 use Rattle.world_model.specs.World.{plan_of}
 use Rattle.dc_engine.specs.State.{one, transaction_at}

@@ -7,9 +7,10 @@ use Rattle.crdt_core.specs.declared.object.ObjectId.{ObjectId}
 use Rattle.crdt_core.specs.declared.record.Upd.{Upd}
 use Rattle.crdt_core.specs.Objects.{same_object}
 use Rattle.crdt_core.specs.History.{folded}
-use Rattle.world_model.specs.Log.{touches}
-use Rattle.world_model.specs.Partition as partition
-use Rattle.world_model.specs.Partition.{PartState, effects_from, effects_of}
+use Rattle.crdt_core.specs.Parts.{touches}
+use Rattle.crdt_core.specs.Folds as folds
+use Rattle.world_model.specs.Partition.{PartState}
+use Rattle.crdt_core.specs.Folds.{effects_from, effects_of}
 use Rattle.dc_engine.specs.ObjectKinds.{Effect, kinds}
 use Rattle.dc_engine.specs.State as state
 use Rattle.dc_engine.specs.State.{State, Open, Entry, one, transaction_at, dot_at, upto, effects_on, stored_on, state_read}
@@ -77,7 +78,7 @@ picked_upto s o (x ∷ xs) = pick_more s o x xs (picked_upto s o xs) (touches x.
 
 -- a transaction finds the state that the machine reads
 pub found_is : (m : State) (held : List (HeldPart Effect)) (o : ObjectId) (t : Open) → m.stored o ≡ stored_by o held
-    → partition.state_read kinds o (transaction_at t.time) (filter (λ u. same_object u.object o) (numbered 1 t.changes)) (picked t.time o held) ≡ state_read m o t
+    → folds.state_read kinds o (transaction_at t.time) (filter (λ u. same_object u.object o) (numbered 1 t.changes)) (picked t.time o held) ≡ state_read m o t
 found_is m held o t h =
     let x = transaction_at t.time in
     let read = effects_of o [] (picked t.time o held) in

@@ -9,10 +9,11 @@ use Rattle.site_vector.specs.Ids.{same_part}
 use Rattle.site_vector.specs.Order.{same_tx_refl}
 use Rattle.site_vector.specs.Vector.{join, entry}
 use Rattle.crdt_core.specs.declared.record.Upd.{Upd}
-use Rattle.world_model.specs.Log.{end_of_time}
+use Rattle.crdt_core.specs.Log.{end_of_time}
 use Rattle.world_model.specs.Event.{Event, Ask, Refusal, Opened, Ticked, Began, Refused, Entry, attempt, is_prepare, is_decide, is_own_abort, tried, decide_tried, gave_up, time_of, time_shown}
 use Rattle.world_model.specs.Past.{dependency, dependency_after}
-use Rattle.world_model.specs.Partition.{Kinds, PartState, IsOther, new_part, done, PartStep, IsRefused}
+use Rattle.crdt_core.specs.KindsOf.{Kinds}
+use Rattle.world_model.specs.Partition.{PartState, IsOther, new_part, done, PartStep, IsRefused}
 use Rattle.world_model.specs.Plan.{change_by, updates_at, update_count, IsAllowed, MayAsk}
 use Rattle.world_model.specs.Handed.{IsNew}
 use Rattle.world_model.specs.Lines.{session_of, session_after}

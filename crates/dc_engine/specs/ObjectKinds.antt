@@ -13,7 +13,7 @@ use Rattle.crdt_any.specs.declared.effect.LayerEffect.{LayerEffect}
 use Rattle.crdt_any.specs.Layer.{layer_has, layer_too_deep, layer_initial, layer_step, layer_made, layer_value, layer_stamp, layer_meaning, layer_names, layer_holds, layer_blank}
 use Rattle.crdt_any.specs.LayerLaws.{layer_law, layer_in_maps}
 use Rattle.crdt_any.specs.NothingLaws.{nothing_law, nothing_in_maps}
-use Rattle.world_model.specs.Partition.{Kinds}
+use Rattle.crdt_core.specs.KindsOf.{Kinds}
 
 -- kinds, and what they owe to a map around them
 pub record Layered (S E : Type 0) : Type 0 where

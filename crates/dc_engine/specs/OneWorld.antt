@@ -6,10 +6,11 @@ use Rattle.site_vector.specs.declared.ids.TxId.{TxId}
 use Rattle.site_vector.specs.Ids.{same_part, same_tx}
 use Rattle.crdt_core.specs.declared.record.Upd.{Upd}
 use Rattle.crdt_core.specs.declared.record.Record.{Record}
-use Rattle.world_model.specs.Log.{end_of_time, pending, taken, aborted, committed, held_at, held_changes}
+use Rattle.crdt_core.specs.Log.{end_of_time, pending, taken, aborted, committed, held_at, held_changes}
 use Rattle.world_model.specs.Event.{Began, Entry, tried, decide_tried, gave_up, time_of, WasShown}
 use Rattle.world_model.specs.Past.{dependency}
-use Rattle.world_model.specs.Partition.{Kinds, PartState}
+use Rattle.crdt_core.specs.KindsOf.{Kinds}
+use Rattle.world_model.specs.Partition.{PartState}
 use Rattle.world_model.specs.Plan.{updates_at, update_count}
 use Rattle.world_model.specs.Lines.{session_of}
 use Rattle.world_model.specs.World.{snapshot_of, IsWorldRun}

@@ -10,9 +10,12 @@ use Rattle.crdt_core.specs.Kinds.{reads_state}
 use Rattle.crdt_core.specs.declared.record.Upd.{Upd}
 use Rattle.crdt_core.specs.declared.record.Part.{Part}
 use Rattle.crdt_core.specs.declared.record.Record.{Record}
-use Rattle.world_model.specs.Log.{touches, lists, prepared, prepare_time, prepared_changes, committed, committed_at, aborted, pending, taken, taken_at, taken_changes, holds, held_at, held_changes}
+use Rattle.crdt_core.specs.Parts.{touches, lists}
+use Rattle.crdt_core.specs.Log.{prepared, prepare_time, prepared_changes, committed, committed_at, aborted, pending, taken, taken_at, taken_changes, holds, held_at, held_changes}
 use Rattle.world_model.specs.Event.{Event, Began, Updated, Read, Entry, attempt, is_decided, time_of, sent}
-use Rattle.world_model.specs.Partition.{Kinds, PartState, Image, IsOther, IsReady, IsFold, PartStep, state_read}
+use Rattle.crdt_core.specs.KindsOf.{Kinds}
+use Rattle.world_model.specs.Partition.{PartState, Image, IsOther, IsReady, PartStep}
+use Rattle.crdt_core.specs.Folds.{IsFold, state_read}
 use Rattle.world_model.specs.Plan.{Plan, IsPlace, takes_part, twin, home, changes_at, vector_at, commit_vector, is_some_update, IsAllowed, IsAsked}
 use Rattle.world_model.specs.WorldLaw.{IsRightFold}
 use Rattle.world_model.proofs.Names.{clash, le_at}

@@ -3,8 +3,9 @@ use Rattle.std.proofs.Common.{◌≡◌, ℕ, true, not, List, [], ◌∷◌, No
 use Rattle.site_vector.specs.declared.ids.PartId.{PartId}
 use Rattle.world_model.specs.Event.{AskBegin, AskRead, AskUpdate, AskPrepare, AskDecide, AskFinish, AskAbort, AskTake, AskRestart, IsDown, ClockBehind, TxPending, StableBehind, ClockAtEnd, IsGone, HasGap, IsRepeat, IsBadOp, IsDamaged, Event, Updated, Read, Crashed, RestartCut, Restarted, Refused, Opened, Cut, Entry, EventsAre}
 use Rattle.crdt_core.specs.declared.record.Record.{Record}
-use Rattle.world_model.specs.Fitting.{unfit}
-use Rattle.world_model.specs.Partition.{Kinds, PartState, Image, MayDo, PartStep}
+use Rattle.crdt_core.specs.Fitting.{unfit}
+use Rattle.crdt_core.specs.KindsOf.{Kinds}
+use Rattle.world_model.specs.Partition.{PartState, Image, MayDo, PartStep}
 use Rattle.world_model.specs.Plan.{Plan, IsRun}
 use Rattle.world_model.specs.WorldLaw.{HasCauseAt, HaveCausesAt}
 use Rattle.world_model.specs.Resumed.{is_call}

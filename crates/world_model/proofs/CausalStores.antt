@@ -15,9 +15,10 @@ use Rattle.crdt_core.specs.declared.record.Part.{Part}
 use Rattle.crdt_core.specs.Kinds.{reads_state}
 use Rattle.crdt_core.specs.Objects.{same_object}
 use Rattle.crdt_core.specs.History.{folded}
-use Rattle.world_model.specs.Log.{touches, lists}
+use Rattle.crdt_core.specs.Parts.{touches, lists}
 use Rattle.world_model.specs.Event.{Entry, is_decided}
-use Rattle.world_model.specs.Partition.{Kinds, effects_from, effects_of, state_read}
+use Rattle.crdt_core.specs.KindsOf.{Kinds}
+use Rattle.crdt_core.specs.Folds.{effects_from, effects_of, state_read}
 use Rattle.world_model.specs.Plan.{Plan, changes_at, commit_vector, takes_part, is_some_update}
 use Rattle.world_model.specs.WorldLaw.{sees_tx, IsRightFold}
 use Rattle.world_model.specs.Meaning.{Asked, asked_at, update_of, AreCausal}

@@ -7,9 +7,10 @@ use Rattle.site_vector.specs.Ids.{same_part, same_tx}
 use Rattle.site_vector.specs.Order.{same_part_refl, same_tx_is}
 use Rattle.crdt_core.specs.declared.record.Record.{Record}
 use Rattle.crdt_core.specs.declared.record.Record.TheVariants.{Decide}
-use Rattle.world_model.specs.Log.{prepared, committed, aborted, pending, last_decided, IsImage}
+use Rattle.crdt_core.specs.Log.{prepared, committed, aborted, pending, last_decided, IsImage}
 use Rattle.world_model.specs.Event.{Event, Decided, Crashed, RestartCut, Restarted, Refused, Opened, Cut, Entry, attempt, is_named, decide_tried}
-use Rattle.world_model.specs.Partition.{Kinds, PartState, Image, PartStep}
+use Rattle.crdt_core.specs.KindsOf.{Kinds}
+use Rattle.world_model.specs.Partition.{PartState, Image, PartStep}
 use Rattle.world_model.specs.Plan.{Plan, IsAllowed, IsRun}
 use Rattle.world_model.specs.Doubt.{doubt_after, in_doubt, SettlesAt, SettleDoubts}
 use Rattle.world_model.proofs.Names.{clash, off, part_cases, part_other}

@@ -22,9 +22,13 @@ use Rattle.crdt_core.specs.declared.record.Upd.{Upd}
 use Rattle.crdt_core.specs.declared.record.Part.{Part}
 use Rattle.crdt_core.specs.declared.record.Message.{Message}
 use Rattle.crdt_core.specs.declared.record.Record.TheVariants.{Decide}
-use Rattle.world_model.specs.Log.{touches, prepare_time, pending, bound}
+use Rattle.crdt_core.specs.Parts.{touches}
+use Rattle.crdt_core.specs.Log.{prepare_time, pending, bound}
 use Rattle.world_model.specs.Event.{Event, Began, Updated, Read, Prepared, Decided, Sent, Took, Reported, Heard, Restarted, Refused, Opened, Cut, Entry, AskTake, AskRead, IsRepeat, TxPending, voted}
-use Rattle.world_model.specs.Partition.{Kinds, PartState, IsOther, IsOwnBound, ToldCommitted, fate_of, stable_entry, pending_cmp, new_part, done, cut, state_read}
+use Rattle.crdt_core.specs.KindsOf.{Kinds}
+use Rattle.world_model.specs.Partition.{PartState, IsOther, IsOwnBound, ToldCommitted, fate_of, stable_entry, new_part, done, cut}
+use Rattle.crdt_core.specs.Orders.{pending_cmp}
+use Rattle.crdt_core.specs.Folds.{state_read}
 use Rattle.world_model.specs.Plan.{is_some_update, IsPlace, takes_part}
 use Rattle.world_model.specs.World.{plan_of, is_own, IsWorldRun}
 use Rattle.world_model.specs.LawfulWorld.{IsLawfulWorld}

@@ -15,10 +15,16 @@ use Rattle.crdt_core.specs.declared.record.Part.{Part}
 use Rattle.crdt_core.specs.declared.record.Message.{Message}
 use Rattle.crdt_core.specs.declared.record.Record.{Record}
 use Rattle.crdt_core.specs.declared.record.Record.TheVariants.{Lease, Prepare, Decide, Finish, Abort, Batch}
-use Rattle.world_model.specs.Log.{end_of_time, lists, vector_in, ceiling, prepared, prepare_time, pending, taken, taken_at, bound, grown, IsImage}
-use Rattle.world_model.specs.Fitting.{is_vector, is_named_in, prepared_lead, prepared_snapshot, stand_at, fits_commit, fits_part, are_apart, fits_message, fits_record, unfit_next, unfit}
+use Rattle.crdt_core.specs.Log.{end_of_time, ceiling, prepared, prepare_time, pending, taken, taken_at, bound, grown, IsImage}
+use Rattle.crdt_core.specs.Parts.{lists, vector_in}
+use Rattle.crdt_core.specs.Fitting.{is_vector, stand_at, fits_commit, fits_part, are_apart, fits_message, fits_record, unfit_next, unfit}
+use Rattle.crdt_core.specs.Log.{is_named_in, prepared_lead, prepared_snapshot}
 use Rattle.world_model.specs.Event.{Event, Ticked, Began, Updated, Read, Prepared, Decided, Finished, Aborted, Sent, Took, Reported, Heard, Crashed, RestartCut, Restarted, Refused, Opened, Cut, Entry, attempt, is_prepare, time_shown, voted, is_decided, time_of, sent, sent_count}
-use Rattle.world_model.specs.Partition.{Kinds, PartState, Image, IsOther, Ascends, stream_cmp, AreParts, lease_for, above, batch_of, records, done, MayDo, PartStep}
+use Rattle.crdt_core.specs.KindsOf.{Kinds}
+use Rattle.world_model.specs.Partition.{PartState, Image, IsOther, batch_of, records, done, MayDo, PartStep}
+use Rattle.crdt_core.specs.Orders.{Ascends, stream_cmp}
+use Rattle.crdt_core.specs.Parts.{AreParts, above}
+use Rattle.crdt_core.specs.Log.{lease_for}
 use Rattle.world_model.specs.Plan.{Plan, first_of, twin, takes_part, commit_vector, IsPlace, IsAllowed, MayPrepare, MayDecide, MayFinish, MayTake, IsRun}
 use Rattle.world_model.specs.Participants.{partitions}
 use Rattle.world_model.specs.WorldLaw.{IsExact}

@@ -14,8 +14,9 @@ use Rattle.site_vector.specs.Vector.{le, sum}
 use Rattle.site_vector.specs.VectorLaws.{sum_cons}
 use Rattle.crdt_core.specs.declared.record.Upd.{Upd}
 use Rattle.crdt_core.specs.declared.record.Part.{Part}
-use Rattle.world_model.specs.Log.{lists}
-use Rattle.world_model.specs.Partition.{Precede, Ascends, fold_cmp, AreParts}
+use Rattle.crdt_core.specs.Parts.{lists}
+use Rattle.crdt_core.specs.Orders.{Precede, Ascends, fold_cmp}
+use Rattle.crdt_core.specs.Parts.{AreParts}
 use Rattle.world_model.proofs.Names.{off}
 
 less_not_equal : Less ≡ Equal → ⊥

@@ -8,7 +8,8 @@ use Rattle.site_vector.specs.Ids.{same_part, same_tx}
 use Rattle.site_vector.specs.Order.{same_part_is, same_tx_is, same_tx_refl}
 use Rattle.crdt_core.specs.declared.record.Upd.{Upd}
 use Rattle.world_model.specs.Event.{AskBegin, AskRead, AskUpdate, AskDecide, AskTake, Event, Began, Updated, Read, Took, Heard, Refused, Entry, attempt, WasShown, EventsAre}
-use Rattle.world_model.specs.Partition.{Kinds, PartState, PartStep}
+use Rattle.crdt_core.specs.KindsOf.{Kinds}
+use Rattle.world_model.specs.Partition.{PartState, PartStep}
 use Rattle.world_model.specs.Plan.{Plan, home, is_some_update, change_by, updates_at, IsPlace, IsAllowed, IsPlanned, IsRun}
 use Rattle.world_model.specs.Past.{begins_for, is_of}
 use Rattle.world_model.specs.Handed.{HandedAt, AreHanded, AreNew}

@@ -20,9 +20,12 @@ use Rattle.crdt_core.specs.Objects.{same_object, same_object-true, same_object-r
 use Rattle.crdt_core.specs.Seen.{Update, sees}
 use Rattle.crdt_core.specs.History.{IsClosed, IsNext, IsHistory, IsStamped, folded, seen_by, effects, effect_after}
 use Rattle.crdt_core.specs.Law.{made_by, all_fit}
-use Rattle.world_model.specs.Log.{touches, lists}
+use Rattle.crdt_core.specs.Parts.{touches, lists}
 use Rattle.world_model.specs.Event.{Entry, is_decided, time_of}
-use Rattle.world_model.specs.Partition.{Kinds, Ascends, fold_cmp, AreParts, effects_from, effects_of, state_read}
+use Rattle.crdt_core.specs.KindsOf.{Kinds}
+use Rattle.crdt_core.specs.Orders.{Ascends, fold_cmp}
+use Rattle.crdt_core.specs.Parts.{AreParts}
+use Rattle.crdt_core.specs.Folds.{effects_from, effects_of, state_read}
 use Rattle.world_model.specs.Plan.{Plan, changes_at, commit_vector}
 use Rattle.world_model.specs.WorldLaw.{sees_tx, IsRightFold}
 use Rattle.world_model.specs.Meaning.{Asked, has_seen, update_of, updates_from}

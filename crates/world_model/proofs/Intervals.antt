@@ -8,9 +8,10 @@ use Rattle.site_vector.specs.Order.{same_part_refl}
 use Rattle.site_vector.specs.Vector.{entry}
 use Rattle.crdt_core.specs.declared.record.Message.{Message}
 use Rattle.crdt_core.specs.declared.record.Record.{Record}
-use Rattle.world_model.specs.Log.{committed_at, prepared, prepare_time, prepared_changes, committed, aborted}
+use Rattle.crdt_core.specs.Log.{committed_at, prepared, prepare_time, prepared_changes, committed, aborted}
 use Rattle.world_model.specs.Event.{Event, Sent, Entry, is_decided, time_of, sent_after, sent, WasShown, WasNumbered, EventsAre}
-use Rattle.world_model.specs.Partition.{Kinds, PartState, Image, PartStep, IsMessage}
+use Rattle.crdt_core.specs.KindsOf.{Kinds}
+use Rattle.world_model.specs.Partition.{PartState, Image, PartStep, IsMessage}
 use Rattle.world_model.specs.Plan.{Plan, takes_part, vector_at, commit_vector}
 use Rattle.world_model.specs.WorldLaw.{IsExact}
 use Rattle.world_model.proofs.Names.{part_cases, part_same, part_other}

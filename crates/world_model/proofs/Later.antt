@@ -7,7 +7,7 @@ use Rattle.site_vector.specs.Ids.{same_part, same_tx}
 use Rattle.site_vector.specs.Vector.{entry}
 use Rattle.crdt_core.specs.declared.record.Record.{Record}
 use Rattle.crdt_core.specs.declared.record.Record.TheVariants.{Lease, Prepare, Decide, Finish, Abort, Batch}
-use Rattle.world_model.specs.Log.{committed_at, prepared, prepare_time, committed, aborted, pending, last_decided}
+use Rattle.crdt_core.specs.Log.{committed_at, prepared, prepare_time, committed, aborted, pending, last_decided}
 use Rattle.world_model.specs.Event.{Event, Entry, is_prepare, tried, decide_tried, gave_up, is_decided, vote, time_of, time_shown}
 use Rattle.world_model.specs.Partition.{PartState, Image}
 use Rattle.world_model.specs.Plan.{Plan, takes_part, vector_at, commit_vector}

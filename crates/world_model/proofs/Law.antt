@@ -10,11 +10,12 @@ use Rattle.site_vector.specs.Ids.{same_part, same_tx}
 use Rattle.site_vector.specs.Order.{same_part_is, same_tx_is}
 use Rattle.site_vector.specs.Vector.{entry, join}
 use Rattle.crdt_core.specs.Placing.{place_of}
-use Rattle.world_model.specs.Log.{end_of_time}
-use Rattle.world_model.specs.Fitting.{stand_at}
+use Rattle.crdt_core.specs.Log.{end_of_time}
+use Rattle.crdt_core.specs.Fitting.{stand_at}
 use Rattle.world_model.specs.Past.{is_of, dependency_after, dependency}
 use Rattle.world_model.specs.Event.{Event, Began, Updated, Prepared, Decided, Opened, Entry, attempt, is_prepare, time_shown, time_of}
-use Rattle.world_model.specs.Partition.{Kinds, PartState, IsOther, IsBegin, PartStep}
+use Rattle.crdt_core.specs.KindsOf.{Kinds}
+use Rattle.world_model.specs.Partition.{PartState, IsOther, IsBegin, PartStep}
 use Rattle.world_model.specs.Plan.{Plan, home, twin, is_some_update, takes_part, change_by, updates_at, IsPlace, IsAllowed}
 use Rattle.world_model.specs.Handed.{HandedAt, AreHanded}
 use Rattle.world_model.specs.World.{is_begin, begin_vector, begun, snapshot_of, plan_of, IsWorldRun}

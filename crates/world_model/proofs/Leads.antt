@@ -3,10 +3,11 @@ use Rattle.std.proofs.Common.{◌≡◌, ⊎_elim, ℕ, Bool, true, false, not, 
 use Rattle.std.proofs.lemmas.Bool.{cases_Bool, false_from_ne_true}
 use Rattle.site_vector.specs.declared.ids.PartId.{PartId}
 use Rattle.site_vector.specs.declared.ids.TxId.{TxId}
-use Rattle.world_model.specs.Log.{pending, committed, committed_at}
+use Rattle.crdt_core.specs.Log.{pending, committed, committed_at}
 use Rattle.world_model.specs.Event.{Entry}
 use Rattle.world_model.specs.Downs.{is_down}
-use Rattle.world_model.specs.Partition.{Kinds, PartState, ToldPending, ToldCommitted, ToldAborted, ToldDown, fate_of}
+use Rattle.crdt_core.specs.KindsOf.{Kinds}
+use Rattle.world_model.specs.Partition.{PartState, ToldPending, ToldCommitted, ToldAborted, ToldDown, fate_of}
 use Rattle.world_model.specs.World.{plan_of}
 use Rattle.world_model.specs.LawfulWorld.{IsLawfulWorld}
 use Rattle.world_model.specs.Lines.{lines_of}

@@ -12,7 +12,7 @@ use Rattle.site_vector.specs.Order.{same_part_is, same_tx_is}
 use Rattle.crdt_core.specs.declared.object.ObjectId.{ObjectId}
 use Rattle.crdt_core.specs.declared.record.Upd.{Upd}
 use Rattle.crdt_core.specs.Objects.{same_object}
-use Rattle.world_model.specs.Log as log
+use Rattle.crdt_core.specs.Parts as part_list
 use Rattle.world_model.specs.Event.{IsDown, Event, Updated, Decided, Refused, Cut, Entry, shown}
 use Rattle.world_model.specs.Plan.{Plan, first_of, home, is_some_update, change_by, updates_at, update_count}
 use Rattle.world_model.specs.Participants.{partitions}
@@ -129,16 +129,16 @@ module _ {E : Type 0} where
       ∙ any_map (to_change p) (λ (c : Change). true) (asked_at run t p)
       ∙ some_asked (asked_at run t p) ∙ ap is_some_update (asked_changes run t p)
 
-  pub touched : (o : ObjectId) (xs : List (Asked E)) → list_any (λ (a : Asked E). same_object a.change.object o) xs ≡ log.touches (map (λ a. a.change) xs) o
+  pub touched : (o : ObjectId) (xs : List (Asked E)) → list_any (λ (a : Asked E). same_object a.change.object o) xs ≡ part_list.touches (map (λ a. a.change) xs) o
   touched o [] = refl
   touched o (a ∷ xs) = ap (λ b. same_object a.change.object o || b) (touched o xs)
 
-  pub touches_is : (plan : Plan E) (run : List (Entry E)) → AreHanded plan run → AreNew run → (t : TxId) (p : PartId) (o : ObjectId) → touches (lines_of run) t p o ≡ log.touches (updates_at run t p) o
+  pub touches_is : (plan : Plan E) (run : List (Entry E)) → AreHanded plan run → AreNew run → (t : TxId) (p : PartId) (o : ObjectId) → touches (lines_of run) t p o ≡ part_list.touches (updates_at run t p) o
   touches_is plan run h n t p o =
       any_both (λ c. same_part c.at p) (λ c. same_object c.object o) (changes (lines_of run) t)
       ∙ ap (list_any (λ c. same_object c.object o)) (changes_there plan run h n t p)
       ∙ any_map (to_change p) (λ c. same_object c.object o) (asked_at run t p)
-      ∙ touched o (asked_at run t p) ∙ ap (λ us. log.touches us o) (asked_changes run t p)
+      ∙ touched o (asked_at run t p) ∙ ap (λ us. part_list.touches us o) (asked_changes run t p)
 
   pub lead_is : (plan : Plan E) (run : List (Entry E)) → AreHanded plan run → AreNew run → (parts : ℕ) (t : TxId) → lead parts (lines_of run) t ≡ first_of (home t) (filter (λ p. is_some_update (updates_at run t p)) (partitions t.site 1 parts))
   lead_is plan run h n parts t = λ i. first_of (home t) (filter (λ p. takes_part_is plan run h n t p i) (partitions t.site 1 parts))

@@ -14,8 +14,9 @@ use Rattle.site_vector.specs.Order.{tx_cmp, tx_cmp_total, same_tx_is, same_tx_re
 use Rattle.site_vector.specs.Vector.{entry}
 use Rattle.crdt_core.specs.declared.record.Upd.{Upd}
 use Rattle.crdt_core.specs.declared.record.Part.{Part}
-use Rattle.world_model.specs.Log.{lists}
-use Rattle.world_model.specs.Partition.{Precede, Ascends, stream_cmp, AreParts, above}
+use Rattle.crdt_core.specs.Parts.{lists}
+use Rattle.crdt_core.specs.Orders.{Precede, Ascends, stream_cmp}
+use Rattle.crdt_core.specs.Parts.{AreParts, above}
 use Rattle.world_model.specs.Resumed.{is_some_part}
 use Rattle.world_model.proofs.Names.{clash, off}
 use Rattle.world_model.proofs.Orders.{is_in, IsOnce, with_one, one_longer, none_pass}

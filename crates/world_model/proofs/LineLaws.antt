@@ -18,10 +18,11 @@ use Rattle.crdt_core.specs.Fits.{fits}
 use Rattle.crdt_core.specs.Seen.{Update}
 use Rattle.crdt_core.specs.Same.{Same}
 use Rattle.crdt_core.specs.Stamps.{stamp_due}
-use Rattle.world_model.specs.Log as log
-use Rattle.world_model.specs.Log.{end_of_time, lists}
+use Rattle.crdt_core.specs.Parts as part_list
+use Rattle.crdt_core.specs.Log.{end_of_time}
+use Rattle.crdt_core.specs.Parts.{lists}
 use Rattle.world_model.specs.Event.{Ask, AskBegin, AskRead, AskUpdate, AskPrepare, AskDecide, AskAbort, AskTake, AskRestart, is_restart, IsDown, ClockBehind, TxPending, StableBehind, ClockAtEnd, IsGone, HasGap, IsRepeat, IsBadOp, IsDamaged, Event, Ticked, Began, Updated, Read, Prepared, Decided, Finished, Aborted, Sent, Took, Reported, Heard, Crashed, RestartCut, Restarted, Refused, Opened, Cut, Entry, EventsAre, WasShown, is_abort, was_aborted, voted, is_decided, time_of, shown, sent_count}
-use Rattle.world_model.specs.Partition.{Kinds}
+use Rattle.crdt_core.specs.KindsOf.{Kinds}
 use Rattle.world_model.specs.Plan.{Plan, IsPlace, first_of, home, twin, is_some_update, takes_part, commit_vector, MayTake}
 use Rattle.world_model.specs.Participants.{partitions}
 use Rattle.world_model.specs.World.{plan_of}
@@ -263,8 +264,8 @@ module _ {E : Type 0} where
     takes_eq : (t : TxId) (p : PartId) → updates.takes_part ls t p ≡ takes_part plan t p
     takes_eq t p = takes_part_is plan run law.handed law.numbered t p ∙ ap is_some_update (sym (law.planned t p))
 
-    touches_eq : (t : TxId) (p : PartId) (o : ObjectId) → updates.touches ls t p o ≡ log.touches (plan.updates t p) o
-    touches_eq t p o = touches_is plan run law.handed law.numbered t p o ∙ ap (λ us. log.touches us o) (sym (law.planned t p))
+    touches_eq : (t : TxId) (p : PartId) (o : ObjectId) → updates.touches ls t p o ≡ part_list.touches (plan.updates t p) o
+    touches_eq t p o = touches_is plan run law.handed law.numbered t p o ∙ ap (λ us. part_list.touches us o) (sym (law.planned t p))
 
     pub lead_eq : (t : TxId) → updates.lead parts ls t ≡ plan.lead t
     lead_eq t = lead_is plan run law.handed law.numbered parts t ∙ (λ i. first_of (home t) (filter (λ p. is_some_update (sym (law.planned t p) i)) (partitions t.site 1 parts)))

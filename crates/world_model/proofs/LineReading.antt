@@ -17,9 +17,10 @@ use Rattle.crdt_core.specs.Objects.{same_object, same_object-true}
 use Rattle.crdt_core.specs.Placing.{place_of}
 use Rattle.crdt_core.specs.Seen.{Update}
 use Rattle.crdt_core.specs.Same.{Same}
-use Rattle.world_model.specs.Log.{touches, lists}
+use Rattle.crdt_core.specs.Parts.{touches, lists}
 use Rattle.world_model.specs.Event.{IsDown, Event, Updated, Decided, Refused, Cut, Entry, is_decided}
-use Rattle.world_model.specs.Partition.{Ascends, fold_cmp, AreParts}
+use Rattle.crdt_core.specs.Orders.{Ascends, fold_cmp}
+use Rattle.crdt_core.specs.Parts.{AreParts}
 use Rattle.world_model.specs.Plan.{Plan, twin, changes_at, commit_vector, updates_at}
 use Rattle.world_model.specs.Handed.{HandedAt, AreHanded, AreNew}
 use Rattle.world_model.specs.World.{plan_of}

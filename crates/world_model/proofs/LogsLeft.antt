@@ -7,9 +7,12 @@ use Rattle.crdt_core.specs.declared.record.Part.{Part}
 use Rattle.crdt_core.specs.declared.record.Message.{Message}
 use Rattle.crdt_core.specs.declared.record.Record.{Record}
 use Rattle.crdt_core.specs.declared.record.Record.TheVariants.{Prepare, Decide, Finish, Batch}
-use Rattle.world_model.specs.Log.{pending, grown, IsImage}
+use Rattle.crdt_core.specs.Log.{pending, grown, IsImage}
 use Rattle.world_model.specs.Event.{Event, Ticked, Began, Updated, Read, Prepared, Decided, Finished, Aborted, Sent, Took, Reported, Heard, Crashed, RestartCut, Restarted, Refused, Opened, Cut, Entry, attempt}
-use Rattle.world_model.specs.Partition.{Kinds, PartState, Image, IsOwnBound, lease_for, above, batch_of, written, done, PartStep}
+use Rattle.crdt_core.specs.KindsOf.{Kinds}
+use Rattle.world_model.specs.Partition.{PartState, Image, IsOwnBound, batch_of, written, done, PartStep}
+use Rattle.crdt_core.specs.Log.{lease_for}
+use Rattle.crdt_core.specs.Parts.{above}
 use Rattle.world_model.specs.Plan.{Plan, IsAllowed, IsRun}
 use Rattle.world_model.specs.Shown.{bound_shown}
 use Rattle.world_model.specs.Logs.{taken_of, records_of, IsLogAfter, IsLogOf, LeavesLogs}

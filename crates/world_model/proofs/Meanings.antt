@@ -16,9 +16,10 @@ use Rattle.crdt_core.specs.Fits.{fits}
 use Rattle.crdt_core.specs.Seen.{Update}
 use Rattle.crdt_core.specs.History.{folded}
 use Rattle.crdt_core.specs.Stamps.{stamp_due}
-use Rattle.world_model.specs.Log.{touches, lists}
+use Rattle.crdt_core.specs.Parts.{touches, lists}
 use Rattle.world_model.specs.Event.{Entry, is_decided}
-use Rattle.world_model.specs.Partition.{Kinds, state_read}
+use Rattle.crdt_core.specs.KindsOf.{Kinds}
+use Rattle.crdt_core.specs.Folds.{state_read}
 use Rattle.world_model.specs.Plan.{Plan, is_some_update, twin, takes_part, changes_at, commit_vector}
 use Rattle.world_model.specs.WorldLaw.{sees_tx, IsRightFold}
 use Rattle.world_model.specs.Meaning.{Asked, asked_at, update_of, updates_from, updates_of}

@@ -7,8 +7,8 @@ use Rattle.site_vector.specs.Order.{same_tx_is, same_tx_refl}
 use Rattle.site_vector.specs.Vector.{entry}
 use Rattle.crdt_core.specs.declared.record.Upd.{Upd}
 use Rattle.crdt_core.specs.declared.record.Part.{Part}
-use Rattle.world_model.specs.Log.{lists, vector_in, changes_in}
-use Rattle.world_model.specs.Partition.{AreParts, above}
+use Rattle.crdt_core.specs.Parts.{lists, vector_in, changes_in}
+use Rattle.crdt_core.specs.Parts.{AreParts, above}
 use Rattle.world_model.proofs.Names.{clash, off}
 
 module _ {E : Type 0} where

@@ -9,7 +9,7 @@ use Rattle.site_vector.specs.declared.ids.TxId.{TxId}
 use Rattle.site_vector.specs.Order.{tx_cmp}
 use Rattle.site_vector.specs.Vector.{entry}
 use Rattle.crdt_core.specs.declared.record.Part.{Part}
-use Rattle.world_model.specs.Partition.{pending_cmp, stream_cmp, Precede, Ascends}
+use Rattle.crdt_core.specs.Orders.{pending_cmp, stream_cmp, Precede, Ascends}
 use Rattle.world_model.specs.Shown.{IsIdBefore, IsBefore, IsBeforeAll, AreInOrder}
 use Rattle.world_model.specs.Sends.{IsSentBefore}
 

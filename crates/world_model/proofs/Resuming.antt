@@ -11,9 +11,12 @@ use Rattle.crdt_core.specs.declared.record.Part.{Part}
 use Rattle.crdt_core.specs.declared.record.Message.{Message}
 use Rattle.crdt_core.specs.declared.record.Record.{Record}
 use Rattle.crdt_core.specs.declared.record.Record.TheVariants.{Lease, Prepare, Decide, Finish, Abort, Batch}
-use Rattle.world_model.specs.Log.{end_of_time, ceiling, pending, prepare_time, last_decided, bound, grown, IsImage}
+use Rattle.crdt_core.specs.Log.{end_of_time, ceiling, pending, prepare_time, last_decided, bound, grown, IsImage}
 use Rattle.world_model.specs.Event.{Event, Ticked, Began, Updated, Read, Prepared, Decided, Finished, Aborted, Sent, Took, Reported, Heard, Crashed, RestartCut, Restarted, Refused, Opened, Cut, Entry, attempt, sent_count, WasNumbered}
-use Rattle.world_model.specs.Partition.{Kinds, PartState, Image, IsOther, lease_for, above, batch_of, records, done, MayDo, names_pending, PartStep}
+use Rattle.crdt_core.specs.KindsOf.{Kinds}
+use Rattle.world_model.specs.Partition.{PartState, Image, IsOther, batch_of, records, done, MayDo, names_pending, PartStep}
+use Rattle.crdt_core.specs.Log.{lease_for}
+use Rattle.crdt_core.specs.Parts.{above}
 use Rattle.world_model.specs.Plan.{Plan, twin, IsAllowed, IsRun}
 use Rattle.world_model.specs.Shown.{listed_time, bound_after, bound_shown, pending_after, pending_shown, time_after, pending_time}
 use Rattle.world_model.specs.Resumed.{is_call, IsTakeable, cut_call, is_some_part, brings, brought_after, brought, decided_after, last_shown, ResumesAt, Resume}

@@ -17,9 +17,11 @@ use Rattle.crdt_core.specs.Kinds.{reads_state}
 use Rattle.crdt_core.specs.Fits.{fits}
 use Rattle.crdt_core.specs.Objects.{same_object}
 use Rattle.crdt_core.specs.History.{folded}
-use Rattle.world_model.specs.Log.{touches}
+use Rattle.crdt_core.specs.Parts.{touches}
 use Rattle.world_model.specs.Event.{Event, Updated, Read, Entry, shown, EventsAre, attempt}
-use Rattle.world_model.specs.Partition.{Kinds, PartState, effects_from, effects_of, state_read, PartStep}
+use Rattle.crdt_core.specs.KindsOf.{Kinds}
+use Rattle.world_model.specs.Partition.{PartState, PartStep}
+use Rattle.crdt_core.specs.Folds.{effects_from, effects_of, state_read}
 use Rattle.world_model.specs.Plan.{Plan, is_some_update, takes_part, IsAllowed, change_by, updates_at, update_count}
 use Rattle.world_model.specs.WorldLaw.{IsRightFold, IsRight}
 use Rattle.world_model.specs.Meaning.{Asked, asked_by, asked_at, read_by, HasMeaning, HaveMeaning}

@@ -5,7 +5,8 @@ use Rattle.site_vector.specs.declared.ids.PartId.{PartId}
 use Rattle.site_vector.specs.Ids.{same_part}
 use Rattle.site_vector.specs.Order.{same_part_refl}
 use Rattle.world_model.specs.Event.{AskRestart, IsDown, IsDamaged, Event, Crashed, RestartCut, Restarted, Refused, Opened, Cut, Entry}
-use Rattle.world_model.specs.Partition.{Kinds, PartState, PartStep}
+use Rattle.crdt_core.specs.KindsOf.{Kinds}
+use Rattle.world_model.specs.Partition.{PartState, PartStep}
 use Rattle.world_model.specs.Plan.{Plan, IsRun}
 use Rattle.world_model.specs.Downs.{down_after, is_down, AnswersAsUp, AnswerAsUp}
 use Rattle.world_model.proofs.Names.{part_cases, part_other}

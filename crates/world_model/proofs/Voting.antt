@@ -4,9 +4,10 @@ use Rattle.std.proofs.lemmas.Bool.{or_left, or_right, or_cases, false_from_ne_tr
 use Rattle.site_vector.specs.declared.ids.PartId.{PartId}
 use Rattle.site_vector.specs.declared.ids.TxId.{TxId}
 use Rattle.site_vector.specs.Order.{same_tx_refl}
-use Rattle.world_model.specs.Log.{prepared, committed, pending}
+use Rattle.crdt_core.specs.Log.{prepared, committed, pending}
 use Rattle.world_model.specs.Event.{Event, Prepared, Decided, Finished, Cut, Entry, attempt, EventsAre, is_decided}
-use Rattle.world_model.specs.Partition.{Kinds, PartState, PartStep}
+use Rattle.crdt_core.specs.KindsOf.{Kinds}
+use Rattle.world_model.specs.Partition.{PartState, PartStep}
 use Rattle.world_model.specs.Plan.{Plan, commit_vector, IsAllowed, IsRun}
 use Rattle.world_model.specs.Votes.{VotesAt, KeepVotes, ShowsVector, IsAgreed}
 use Rattle.world_model.proofs.Names.{clash}

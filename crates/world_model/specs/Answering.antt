@@ -7,7 +7,7 @@ use Rattle.crdt_core.specs.declared.operation.Op.{Op}
 use Rattle.crdt_core.specs.Fits.{fits}
 use Rattle.world_model.specs.Event.{Ask, AskBegin, AskRead, AskUpdate, AskPrepare, AskDecide, AskAbort, AskTake, is_restart, Refusal, IsDown, ClockBehind, TxPending, StableBehind, ClockAtEnd, IsGone, HasGap, IsRepeat, IsBadOp, Event, Updated, Read, Refused, Cut, Entry}
 use Rattle.site_vector.specs.declared.ids.PartId.{PartId}
-use Rattle.world_model.specs.Partition.{Kinds}
+use Rattle.crdt_core.specs.KindsOf.{Kinds}
 use Rattle.world_model.specs.Resumed.{is_call}
 
 -- the operation is one of the kind, and leads no deeper than the type reaches

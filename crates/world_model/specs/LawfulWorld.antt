@@ -4,7 +4,7 @@ use Rattle.site_vector.specs.declared.ids.PartId.{PartId}
 use Rattle.site_vector.specs.declared.ids.TxId.{TxId}
 use Rattle.site_vector.specs.Vector.{entry}
 use Rattle.world_model.specs.Event.{Entry, EventsAre, is_decided, time_of, was_aborted}
-use Rattle.world_model.specs.Partition.{Kinds}
+use Rattle.crdt_core.specs.KindsOf.{Kinds}
 use Rattle.world_model.specs.Plan.{Plan, IsPlace, updates_at}
 use Rattle.world_model.specs.WorldLaw.{sees_tx, IsRight, ClocksAre, KeepsDecided, HaveCausesAt}
 use Rattle.world_model.specs.Past.{KeepPast}

@@ -1,8 +1,6 @@
 pub mod Run
-pub mod Log
 pub mod Event
 pub mod Past
-pub mod Fitting
 pub mod Partition
 pub mod Cluster
 pub mod Times

@@ -7,7 +7,7 @@ use Rattle.crdt_core.specs.declared.record.Part.{Part}
 use Rattle.crdt_core.specs.declared.record.Message.{Message}
 use Rattle.crdt_core.specs.declared.record.Record.{Record}
 use Rattle.crdt_core.specs.declared.record.Record.TheVariants.{Lease, Prepare, Decide, Finish, Abort, Batch}
-use Rattle.world_model.specs.Log.{ceiling, pending, last_decided, bound, grown, IsImage}
+use Rattle.crdt_core.specs.Log.{ceiling, pending, last_decided, bound, grown, IsImage}
 use Rattle.world_model.specs.Event.{Event, Ticked, Began, Prepared, Decided, Finished, Aborted, Took, Restarted, Cut, Entry}
 use Rattle.world_model.specs.Partition.{PartState, Image, IsOther, IsOwnBound, names_pending, AreTimed}
 use Rattle.world_model.specs.Plan.{Plan, commit_vector}

@@ -12,7 +12,7 @@ use Rattle.crdt_core.specs.Objects.{same_object}
 use Rattle.crdt_core.specs.Seen.{Update}
 use Rattle.crdt_core.specs.Stamps.{stamp_due}
 use Rattle.world_model.specs.Event.{Event, Updated, Read, Entry, shown}
-use Rattle.world_model.specs.Partition.{Kinds}
+use Rattle.crdt_core.specs.KindsOf.{Kinds}
 use Rattle.world_model.specs.Plan.{Plan, twin}
 use Rattle.world_model.specs.WorldLaw.{sees_tx}
 

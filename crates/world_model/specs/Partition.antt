@@ -9,7 +9,8 @@ use Rattle.site_vector.specs.declared.ids.TxId.{TxId}
 use Rattle.site_vector.specs.declared.ids.Dot.{Dot}
 use Rattle.site_vector.specs.Ids.{same_tx}
 use Rattle.site_vector.specs.Order.{tx_cmp}
-use Rattle.site_vector.specs.Vector.{le, entry, join, replaced, sum}
+use Rattle.site_vector.specs.Lowest.{lowest}
+use Rattle.site_vector.specs.Vector.{entry, join, replaced}
 use Rattle.crdt_core.specs.declared.kind.Kind.{Kind}
 use Rattle.crdt_core.specs.declared.object.Field.{Field}
 use Rattle.crdt_core.specs.declared.object.ObjectId.{ObjectId}
@@ -27,23 +28,13 @@ use Rattle.crdt_core.specs.Fits.{fits}
 use Rattle.crdt_core.specs.Seen.{Update}
 use Rattle.crdt_core.specs.History.{folded}
 use Rattle.crdt_core.specs.Law.{KeepsLaw}
-use Rattle.world_model.specs.Log.{end_of_time, touches, lists, ceiling, prepare_time, prepared_changes, committed, committed_at, pending, last_decided, bound, holds, held_at, held_changes, grown, IsImage}
+use Rattle.crdt_core.specs.KindsOf.{Kinds}
+use Rattle.crdt_core.specs.Folds.{IsFold, state_read}
+use Rattle.crdt_core.specs.Orders.{Ascends, pending_cmp, stream_cmp}
+use Rattle.crdt_core.specs.Log.{end_of_time, ceiling, lease_for, prepare_time, prepared_changes, committed, committed_at, pending, last_decided, bound, grown, IsImage}
+use Rattle.crdt_core.specs.Parts.{touches, lists, AreParts, above}
 use Rattle.world_model.specs.Event.{Ask, AskBegin, AskRead, AskUpdate, AskPrepare, AskDecide, AskFinish, AskAbort, AskTake, AskRestart, is_restart, Refusal, IsDown, ClockBehind, TxPending, StableBehind, ClockAtEnd, IsGone, HasGap, IsRepeat, IsBadOp, IsDamaged, Event, Refused, Ticked, Began, Updated, Read, Prepared, Decided, Finished, Aborted, Sent, Took, Reported, Heard, Crashed, RestartCut, Restarted, Opened, Cut}
-use Rattle.world_model.specs.Fitting.{unfit}
-
--- what the kinds of objects do, under the law of a kind: the trait `Crdt` of whoever stores them
-pub record Kinds (S E : Type 0) : Type 0 where
-  pub has : Kind → Bool
-  pub too_deep : Kind → List Field → Bool
-  pub initial : Kind → S
-  pub step : S → Dot → E → S
-  pub made : Kind → S → List Field → Act → ℕ → E
-  pub value_of : S → Value
-  pub stamp_of : E → Option ℕ
-  pub meaning : Kind → List Update → Value
-  pub names : E → Dot → Bool
-  pub holds : S → Dot → Bool
-  pub laws : KeepsLaw has too_deep initial step made value_of stamp_of meaning names holds
+use Rattle.crdt_core.specs.Fitting.{unfit}
 
 -- all else is told by the log. While it is up, `torn` is empty; while it is down, a restart finds an image of both
 pub record PartState (E : Type 0) : Type 0 where
@@ -65,28 +56,9 @@ pub record IsOther (sites d j : ℕ) : Type 0 where
   pub most : j ≤ sites
   pub apart : j ≢ d
 
--- each comes before all that follow
-abbrev pub Precede : {A : Type 0} → (A → A → Ordering) → A → List A → Type 0
-Precede cmp x [] = ⊤
-Precede cmp x (y ∷ ys) = (cmp x y ≡ Less) × Precede cmp x ys
-
-abbrev pub Ascends : {A : Type 0} → (A → A → Ordering) → List A → Type 0
-Ascends cmp [] = ⊤
-Ascends cmp (x ∷ xs) = Precede cmp x xs × Ascends cmp xs
-
 -- the entry of the partition with this number, among vectors
 abbrev pub vector_of : List (List ℕ) → ℕ → List ℕ
 vector_of vs q = slice_index_or vs (q - 1) []
-
--- the least for the partitions 1 to n
-abbrev pub lowest : (ℕ → ℕ) → ℕ → ℕ
-lowest known zero = 0
-lowest known (suc zero) = known 1
-lowest known (suc (suc n)) = min (known (suc (suc n))) (lowest known (suc n))
-
--- the pending transactions with their prepare times, in the order of time and transaction
-abbrev pub pending_cmp : TxId × ℕ → TxId × ℕ → Ordering
-pending_cmp x y = ordering_then (nat_cmp x.1 y.1) (tx_cmp x.0 y.0)
 
 -- what a partition answers when it is asked for the fate of a transaction
 pub data Fate : Type 0 where
@@ -101,14 +73,6 @@ names_pending xs t = list_any (λ x. same_tx x.0 t) xs
 module _ {E : Type 0} where
   abbrev pub Image : PartState E → List (Record E) → Type 0
   Image p image = IsImage p.log p.torn image
-
-  -- by the sum of the commit vector, and then by transaction
-  abbrev pub fold_cmp : Part E → Part E → Ordering
-  fold_cmp x y = ordering_then (nat_cmp (sum x.c) (sum y.c)) (tx_cmp x.tx y.tx)
-
-  -- by commit time, and then by transaction
-  abbrev pub stream_cmp : ℕ → Part E → Part E → Ordering
-  stream_cmp site x y = ordering_then (nat_cmp (entry x.c site) (entry y.c site)) (tx_cmp x.tx y.tx)
 
   -- what a partition knows of how far partition q of its site has come with site j: its own bounds, or what it heard
   abbrev pub known : PartId → PartState E → ℕ → ℕ → ℕ
@@ -145,30 +109,6 @@ module _ {E : Type 0} where
     pub clock : entry s id.site ≤ p.now
     pub free : (u : TxId) → pending p.log u ≡ true → touches (prepared_changes p.log u) o ≡ true → entry s id.site < prepare_time p.log u
 
-  -- each of these parts has this commit vector and these changes
-  abbrev pub AreParts : (TxId → List ℕ) → (TxId → List (Upd E)) → List (Part E) → Type 0
-  AreParts vector changes [] = ⊤
-  AreParts vector changes (x ∷ xs) = ((x.c ≡ vector x.tx) × (x.updates ≡ changes x.tx)) × AreParts vector changes xs
-
-  -- the parts that a read of the object under s folds: those held with an update of it and a commit vector at most s, in fold order
-  pub record IsFold (log : List (Record E)) (s : List ℕ) (o : ObjectId) (read : List (Part E)) : Type 0 where
-    pub order : Ascends fold_cmp read
-    pub members : (u : TxId) → lists read u ≡ (holds log u && (touches (held_changes log u) o && le (held_at log u) s))
-    pub exact : AreParts (held_at log) (held_changes log) read
-
-  -- the effects of updates of the object, after these, the newest first
-  abbrev pub effects_from : ObjectId → TxId → List (Dot × E) → List (Upd E) → List (Dot × E)
-  effects_from o t older [] = older
-  effects_from o t older (u ∷ us) = effects_from o t (if same_object u.object o then ((record { tx = t; index = u.index }), u.effect) ∷ older else older) us
-
-  abbrev pub effects_of : ObjectId → List (Dot × E) → List (Part E) → List (Dot × E)
-  effects_of o older [] = older
-  effects_of o older (x ∷ xs) = effects_of o (effects_from o x.tx older x.updates) xs
-
-  -- the state that a read finds: the parts' updates of the object, and then the transaction's own
-  abbrev pub state_read : {S : Type 0} → Kinds S E → ObjectId → TxId → List (Upd E) → List (Part E) → S
-  state_read kinds o t own read = folded (kinds.initial o.kind) kinds.step (effects_from o t (effects_of o [] read) own)
-
   pub record IsUpdate {S : Type 0} (kinds : Kinds S E) (id : PartId) (p : PartState E) (t : TxId) (s : List ℕ) (o : ObjectId) (own : List (Upd E)) (op : Op) (read : List (Part E)) (u : Upd E) (stamp : Option ℕ) : Type 0 where
     pub ready : reads_state o.kind ≡ true → IsReady id p s o
     pub fold : reads_state o.kind ≡ true → IsFold p.log s o read
@@ -188,14 +128,6 @@ module _ {E : Type 0} where
     pub order : Ascends (stream_cmp id.site) m.parts
     pub members : (u : TxId) → lists m.parts u ≡ (committed p.log u && (ltb m.lo (entry (committed_at p.log u) id.site) && leb (entry (committed_at p.log u) id.site) m.hi))
     pub exact : AreParts (committed_at p.log) (prepared_changes p.log) m.parts
-
-  abbrev pub lease_for : List (Record E) → ℕ → List (Record E)
-  lease_for log n = if leb n (ceiling log) then [] else Lease (min (n + 1000) end_of_time) ∷ []
-
-  -- the parts whose commit time at their site is above a bound
-  abbrev pub above : ℕ → ℕ → List (Part E) → List (Part E)
-  above site b [] = []
-  above site b (x ∷ xs) = if ltb b (entry x.c site) then x ∷ above site b xs else above site b xs
 
   -- the record of a message cut at the bound; none where it brings nothing
   abbrev pub batch_of : Message E → ℕ → List (Part E) → List (Record E)

@@ -11,7 +11,8 @@ use Rattle.crdt_core.specs.Objects.{same_object}
 use Rattle.crdt_core.specs.Placing.{place_of}
 use Rattle.world_model.specs.Event.{Ask, AskBegin, AskRead, AskUpdate, AskPrepare, AskDecide, AskFinish, AskTake, Refused, Event, Began, Updated, Read, Prepared, Decided, Finished, Aborted, Sent, Took, Reported, Heard, Entry, attempt, tried, voted, decide_tried, gave_up, is_decided, time_of, WasShown, sent_count, report_count, WasNumbered}
 use Rattle.world_model.specs.Past.{dependency}
-use Rattle.world_model.specs.Partition.{Kinds, PartState, IsOther, ToldAborted, fate_of, new_part, PartStep}
+use Rattle.crdt_core.specs.KindsOf.{Kinds}
+use Rattle.world_model.specs.Partition.{PartState, IsOther, ToldAborted, fate_of, new_part, PartStep}
 
 abbrev pub is_some_update : {E : Type 0} → List (Upd E) → Bool
 is_some_update [] = false

@@ -7,7 +7,8 @@ use Rattle.site_vector.specs.Vector.{entry}
 use Rattle.crdt_core.specs.declared.record.Part.{Part}
 use Rattle.crdt_core.specs.declared.record.Message.{Message}
 use Rattle.world_model.specs.Event.{Event, Decided, Took, Crashed, RestartCut, Restarted, Refused, Opened, Cut, Entry}
-use Rattle.world_model.specs.Partition.{IsOther, names_pending, above}
+use Rattle.world_model.specs.Partition.{IsOther, names_pending}
+use Rattle.crdt_core.specs.Parts.{above}
 use Rattle.world_model.specs.Plan.{Plan, MayTake}
 use Rattle.world_model.specs.Shown.{listed_time, bound_shown, pending_after, pending_shown, time_after, pending_time}
 

@@ -6,7 +6,8 @@ use Rattle.site_vector.specs.Ids.{same_part, same_tx}
 use Rattle.site_vector.specs.Vector.{entry}
 use Rattle.crdt_core.specs.declared.object.ObjectId.{ObjectId}
 use Rattle.crdt_core.specs.Kinds.{reads_state}
-use Rattle.world_model.specs.Log.{end_of_time, touches}
+use Rattle.crdt_core.specs.Log.{end_of_time}
+use Rattle.crdt_core.specs.Parts.{touches}
 use Rattle.world_model.specs.Event.{Began, Updated, Read, AskRead, AskUpdate, AskDecide, AskAbort, AskTake, TxPending, IsGone, HasGap, IsRepeat, Event, Prepared, Decided, Finished, Aborted, Sent, Took, Reported, Restarted, Refused, Entry, decide_tried, is_decided, shown}
 use Rattle.world_model.specs.Downs.{is_down}
 use Rattle.world_model.specs.Partition.{IsOther, names_pending}

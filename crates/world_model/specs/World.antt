@@ -7,7 +7,8 @@ use Rattle.site_vector.specs.Ids.{same_tx}
 use Rattle.crdt_core.specs.declared.record.Upd.{Upd}
 use Rattle.world_model.specs.Participants.{partitions}
 use Rattle.world_model.specs.Event.{Event, Began, Entry}
-use Rattle.world_model.specs.Partition.{Kinds, PartState, new_part}
+use Rattle.crdt_core.specs.KindsOf.{Kinds}
+use Rattle.world_model.specs.Partition.{PartState, new_part}
 use Rattle.world_model.specs.Plan.{Plan, first_of, is_some_update, home, updates_at, WorldStep}
 use Rattle.world_model.specs.Handed.{IsNew}
 use Rattle.world_model.specs.LawfulWorld.{IsLawfulWorld}

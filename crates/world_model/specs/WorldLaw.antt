@@ -7,9 +7,14 @@ use Rattle.crdt_core.specs.declared.object.ObjectId.{ObjectId}
 use Rattle.crdt_core.specs.Kinds.{reads_state}
 use Rattle.crdt_core.specs.declared.record.Part.{Part}
 use Rattle.crdt_core.specs.declared.record.Message.{Message}
-use Rattle.world_model.specs.Log.{end_of_time, touches, lists}
+use Rattle.crdt_core.specs.Log.{end_of_time}
+use Rattle.crdt_core.specs.Parts.{touches, lists}
 use Rattle.world_model.specs.Event.{AskRead, AskUpdate, AskPrepare, AskFinish, ClockBehind, ClockAtEnd, IsGone, Refused, Event, Ticked, Began, Updated, Read, Prepared, Sent, Restarted, Cut, Entry, is_decided, time_of, shown, missed}
-use Rattle.world_model.specs.Partition.{Kinds, state_read, Ascends, fold_cmp, stream_cmp, AreParts, names_pending}
+use Rattle.crdt_core.specs.KindsOf.{Kinds}
+use Rattle.crdt_core.specs.Folds.{state_read}
+use Rattle.crdt_core.specs.Orders.{Ascends, fold_cmp, stream_cmp}
+use Rattle.crdt_core.specs.Parts.{AreParts}
+use Rattle.world_model.specs.Partition.{names_pending}
 use Rattle.world_model.specs.Plan.{Plan, takes_part, changes_at, commit_vector}
 
 module _ {E : Type 0} where

@@ -1,39 +1,17 @@
 -- The records of a partition's log, newest first, and what they tell.
-use Rattle.std.specs.Prelude.{◌≡◌, ◌⊎◌, ℕ, ◌^◌, max, Bool, false, not, ◌&&◌, ◌||◌, ◌==◌, if◌then◌else◌, List, [], ◌∷◌, Option, None, Some}
-use Rattle.std.specs.List.{list_any}
+use Rattle.std.specs.Prelude.{◌≡◌, ◌⊎◌, ℕ, ◌+◌, ◌^◌, max, min, leb, Bool, false, not, ◌&&◌, ◌||◌, ◌==◌, if◌then◌else◌, List, [], ◌∷◌, Option, None, Some}
 use Rattle.site_vector.specs.declared.ids.TxId.{TxId}
 use Rattle.site_vector.specs.Ids.{same_tx}
-use Rattle.crdt_core.specs.declared.object.ObjectId.{ObjectId}
 use Rattle.crdt_core.specs.declared.record.Upd.{Upd}
-use Rattle.crdt_core.specs.declared.record.Part.{Part}
 use Rattle.crdt_core.specs.declared.record.Record.{Record}
 use Rattle.crdt_core.specs.declared.record.Record.TheVariants.{Lease, Prepare, Decide, Finish, Abort, Batch}
-use Rattle.crdt_core.specs.Objects.{same_object}
+use Rattle.crdt_core.specs.Parts.{lists, vector_in, changes_in}
 
 -- the last time that a clock may show
 abbrev pub end_of_time : ℕ
 end_of_time = 2 ^ 62
 
 module _ {E : Type 0} where
-  -- an update of the object is among these
-  abbrev pub touches : List (Upd E) → ObjectId → Bool
-  touches us o = list_any (λ u. same_object u.object o) us
-
-  -- a part of t is among these
-  abbrev pub lists : List (Part E) → TxId → Bool
-  lists [] t = false
-  lists (x ∷ xs) t = same_tx x.tx t || lists xs t
-
-  -- the commit vector of t, as the first part of t has it
-  abbrev pub vector_in : List (Part E) → TxId → List ℕ
-  vector_in [] t = []
-  vector_in (x ∷ xs) t = if same_tx x.tx t then x.c else vector_in xs t
-
-  -- what t changed, as the first part of t has it
-  abbrev pub changes_in : List (Part E) → TxId → List (Upd E)
-  changes_in [] t = []
-  changes_in (x ∷ xs) t = if same_tx x.tx t then x.updates else changes_in xs t
-
   -- the ceiling of the last Lease
   abbrev pub ceiling : List (Record E) → ℕ
   ceiling [] = 0
@@ -72,6 +50,26 @@ module _ {E : Type 0} where
   prepared_changes (Finish u c ∷ log) t = prepared_changes log t
   prepared_changes (Abort u ∷ log) t = prepared_changes log t
   prepared_changes (Batch m ∷ log) t = prepared_changes log t
+
+  -- the lead of t, as its Prepare has it
+  abbrev pub prepared_lead : List (Record E) → TxId → ℕ
+  prepared_lead [] t = 0
+  prepared_lead (Lease n ∷ log) t = prepared_lead log t
+  prepared_lead (Prepare u l n s w ∷ log) t = if same_tx u t then l else prepared_lead log t
+  prepared_lead (Decide u c ∷ log) t = prepared_lead log t
+  prepared_lead (Finish u c ∷ log) t = prepared_lead log t
+  prepared_lead (Abort u ∷ log) t = prepared_lead log t
+  prepared_lead (Batch m ∷ log) t = prepared_lead log t
+
+  -- the snapshot of t, as its Prepare has it
+  abbrev pub prepared_snapshot : List (Record E) → TxId → List ℕ
+  prepared_snapshot [] t = []
+  prepared_snapshot (Lease n ∷ log) t = prepared_snapshot log t
+  prepared_snapshot (Prepare u l n s w ∷ log) t = if same_tx u t then s else prepared_snapshot log t
+  prepared_snapshot (Decide u c ∷ log) t = prepared_snapshot log t
+  prepared_snapshot (Finish u c ∷ log) t = prepared_snapshot log t
+  prepared_snapshot (Abort u ∷ log) t = prepared_snapshot log t
+  prepared_snapshot (Batch m ∷ log) t = prepared_snapshot log t
 
   abbrev pub decided : List (Record E) → TxId → Bool
   decided [] t = false
@@ -174,10 +172,27 @@ module _ {E : Type 0} where
   abbrev pub held_changes : List (Record E) → TxId → List (Upd E)
   held_changes log t = if committed log t then prepared_changes log t else taken_changes log t
 
+  abbrev pub names_tx : Record E → TxId → Bool
+  names_tx (Lease n) t = false
+  names_tx (Prepare u l n s w) t = same_tx u t
+  names_tx (Decide u c) t = same_tx u t
+  names_tx (Finish u c) t = same_tx u t
+  names_tx (Abort u) t = same_tx u t
+  names_tx (Batch m) t = lists m.parts t
+
+  -- a record of the log names t
+  abbrev pub is_named_in : List (Record E) → TxId → Bool
+  is_named_in [] t = false
+  is_named_in (r ∷ log) t = names_tx r t || is_named_in log t
+
   -- a log with these records added, oldest first
   abbrev pub grown : List (Record E) → List (Record E) → List (Record E)
   grown log [] = log
   grown log (r ∷ rs) = grown (r ∷ log) rs
+
+  -- the lease that is written before a clock shows n
+  abbrev pub lease_for : List (Record E) → ℕ → List (Record E)
+  lease_for log n = if leb n (ceiling log) then [] else Lease (min (n + 1000) end_of_time) ∷ []
 
   -- what a restart may find: the log with the first of these records, or none, or all
   abbrev pub IsImage : List (Record E) → List (Record E) → List (Record E) → Type 0

@@ -12,7 +12,8 @@ use Rattle.crdt_core.specs.declared.record.Message.{Message}
 use Rattle.crdt_core.specs.declared.record.Record.{Record}
 use Rattle.crdt_core.specs.declared.record.Record.TheVariants.{Lease, Prepare, Decide, Finish, Abort, Batch}
 use Rattle.crdt_core.specs.Placing.{place_of}
-use Rattle.world_model.specs.Log.{end_of_time, lists, ceiling, pending, prepare_time, bound}
+use Rattle.crdt_core.specs.Log.{end_of_time, ceiling, pending, prepare_time, prepared_lead, prepared_snapshot, is_named_in, bound}
+use Rattle.crdt_core.specs.Parts.{lists}
 
 -- a vector has an entry for each site, and no time past the end
 abbrev pub is_vector : ℕ → List ℕ → Bool
@@ -23,39 +24,6 @@ unfit_next (Some n) fits count = Some n
 unfit_next None fits count = if fits then None else Some count
 
 module _ {E : Type 0} where
-  abbrev pub names_tx : Record E → TxId → Bool
-  names_tx (Lease n) t = false
-  names_tx (Prepare u l n s w) t = same_tx u t
-  names_tx (Decide u c) t = same_tx u t
-  names_tx (Finish u c) t = same_tx u t
-  names_tx (Abort u) t = same_tx u t
-  names_tx (Batch m) t = lists m.parts t
-
-  -- a record of the log names t
-  abbrev pub is_named_in : List (Record E) → TxId → Bool
-  is_named_in [] t = false
-  is_named_in (r ∷ log) t = names_tx r t || is_named_in log t
-
-  -- the lead of t, as its Prepare has it
-  abbrev pub prepared_lead : List (Record E) → TxId → ℕ
-  prepared_lead [] t = 0
-  prepared_lead (Lease n ∷ log) t = prepared_lead log t
-  prepared_lead (Prepare u l n s w ∷ log) t = if same_tx u t then l else prepared_lead log t
-  prepared_lead (Decide u c ∷ log) t = prepared_lead log t
-  prepared_lead (Finish u c ∷ log) t = prepared_lead log t
-  prepared_lead (Abort u ∷ log) t = prepared_lead log t
-  prepared_lead (Batch m ∷ log) t = prepared_lead log t
-
-  -- the snapshot of t, as its Prepare has it
-  abbrev pub prepared_snapshot : List (Record E) → TxId → List ℕ
-  prepared_snapshot [] t = []
-  prepared_snapshot (Lease n ∷ log) t = prepared_snapshot log t
-  prepared_snapshot (Prepare u l n s w ∷ log) t = if same_tx u t then s else prepared_snapshot log t
-  prepared_snapshot (Decide u c ∷ log) t = prepared_snapshot log t
-  prepared_snapshot (Finish u c ∷ log) t = prepared_snapshot log t
-  prepared_snapshot (Abort u ∷ log) t = prepared_snapshot log t
-  prepared_snapshot (Batch m ∷ log) t = prepared_snapshot log t
-
   -- the objects of these updates stand at the partitions with this number, of so many
   abbrev pub stand_at : ℕ → ℕ → List (Upd E) → Bool
   stand_at parts number us = list_all (λ u. place_of u.object.bucket u.object.key parts == number) us
