@@ -1,9 +1,9 @@
 -- Lists of parts, and what they hold of a transaction.
-use Rattle.std.specs.Prelude.{◌≡◌, ℕ, Bool, false, ◌||◌, ltb, if◌then◌else◌, List, [], ◌∷◌, ⊤}
+use Rattle.std.specs.Prelude.{◌≡◌, ℕ, Bool, false, ◌&&◌, ◌||◌, ◌==◌, ltb, leb, if◌then◌else◌, List, [], ◌∷◌, filter, ⊤}
 use Rattle.std.specs.List.{list_any}
 use Rattle.site_vector.specs.declared.ids.TxId.{TxId}
 use Rattle.site_vector.specs.Ids.{same_tx}
-use Rattle.site_vector.specs.Vector.{entry}
+use Rattle.site_vector.specs.Vector.{le, entry}
 use Rattle.crdt_core.specs.declared.object.ObjectId.{ObjectId}
 use Rattle.crdt_core.specs.declared.record.Upd.{Upd}
 use Rattle.crdt_core.specs.declared.record.Part.{Part}
@@ -38,3 +38,11 @@ module _ {E : Type 0} where
   abbrev pub above : ℕ → ℕ → List (Part E) → List (Part E)
   above site b [] = []
   above site b (x ∷ xs) = if ltb b (entry x.c site) then x ∷ above site b xs else above site b xs
+
+  -- the parts that change the object and that a snapshot shows
+  abbrev pub seen_parts : ObjectId → List ℕ → List (Part E) → List (Part E)
+  seen_parts o s xs = filter (λ x. touches x.updates o && le x.c s) xs
+
+  -- the parts of a site with a commit time above lo and at most hi
+  abbrev pub parts_between : ℕ → ℕ → ℕ → List (Part E) → List (Part E)
+  parts_between site lo hi xs = filter (λ x. x.tx.site == site && (ltb lo (entry x.c site) && leb (entry x.c site) hi)) xs

@@ -4,4 +4,4 @@ pub mod Order
 pub mod Printed
 pub mod Vector
 pub mod VectorLaws
-pub mod Lowest
+pub mod Known

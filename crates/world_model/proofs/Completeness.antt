@@ -13,7 +13,8 @@ use Rattle.crdt_core.specs.Parts.{lists, vector_in, changes_in}
 use Rattle.crdt_core.specs.Log.{taken, taken_at, taken_changes, bound, grown, IsImage}
 use Rattle.world_model.specs.Event.{Refused, Event, Ticked, Began, Updated, Read, Prepared, Decided, Finished, Aborted, Sent, Took, Reported, Heard, Crashed, RestartCut, Restarted, Opened, Cut, Entry, attempt, is_decided, time_of, sent, sent_count, report_count, EventsAre}
 use Rattle.crdt_core.specs.KindsOf.{Kinds}
-use Rattle.world_model.specs.Partition.{PartState, Image, IsOther, IsBegin, batch_of, known, vector_of, done, PartStep}
+use Rattle.site_vector.specs.Known.{vector_of}
+use Rattle.world_model.specs.Partition.{PartState, Image, IsOther, IsBegin, batch_of, known, done, PartStep}
 use Rattle.crdt_core.specs.Parts.{AreParts, above}
 use Rattle.world_model.specs.Plan.{Plan, takes_part, twin, changes_at, vector_at, commit_vector, IsAllowed, MayTake, MayHear}
 use Rattle.world_model.specs.WorldLaw.{IsExact}

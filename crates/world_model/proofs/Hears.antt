@@ -10,8 +10,9 @@ use Rattle.site_vector.specs.Vector.{entry, join}
 use Rattle.site_vector.specs.VectorLaws.{length_join}
 use Rattle.world_model.specs.Event.{AskBegin, StableBehind, ClockAtEnd, Event, Ticked, Began, Updated, Read, Prepared, Decided, Finished, Aborted, Sent, Took, Reported, Heard, Crashed, RestartCut, Restarted, Refused, Opened, Cut, Entry, attempt, report_count, EventsAre}
 use Rattle.crdt_core.specs.KindsOf.{Kinds}
-use Rattle.world_model.specs.Partition.{PartState, IsOther, known, stable_entry, vector_of, new_part, done, PartStep}
-use Rattle.site_vector.specs.Lowest.{lowest}
+use Rattle.site_vector.specs.Known.{vector_of}
+use Rattle.world_model.specs.Partition.{PartState, IsOther, known, stable_entry, new_part, done, PartStep}
+use Rattle.site_vector.specs.Known.{lowest}
 use Rattle.world_model.specs.Plan.{Plan, IsAllowed, IsRun}
 use Rattle.world_model.specs.Shown.{bound_shown}
 use Rattle.world_model.specs.Stable.{heard_from, heard_shown, known_shown, IsLeast, IsStableAt, IsFreshAt, AreFresh}

@@ -10,7 +10,8 @@ use Rattle.crdt_core.specs.declared.record.Record.{Record}
 use Rattle.crdt_core.specs.Log.{end_of_time, ceiling, prepared, committed, aborted, decided, pending, taken, bound}
 use Rattle.world_model.specs.Event.{AskRead, AskUpdate, AskPrepare, AskBegin, AskFinish, ClockBehind, ClockAtEnd, IsGone, Refused, shown, Event, Began, Updated, Read, Sent, Restarted, Entry, attempt, was_aborted, is_decided, time_of, sent, EventsAre}
 use Rattle.crdt_core.specs.KindsOf.{Kinds}
-use Rattle.world_model.specs.Partition.{PartState, Image, IsOther, IsBegin, vector_of, new_part, PartStep}
+use Rattle.site_vector.specs.Known.{vector_of}
+use Rattle.world_model.specs.Partition.{PartState, Image, IsOther, IsBegin, new_part, PartStep}
 use Rattle.world_model.specs.Plan.{Plan, home, takes_part, commit_vector, IsAllowed, IsSession, IsPlanned, WorldStep, IsRun}
 use Rattle.world_model.specs.WorldLaw.{sees_tx, IsExact, IsRight, ClocksAre, KeepsIs, KeepsDecided, HasCauseAt, HaveCausesAt}
 use Rattle.world_model.specs.Past.{HoldsPast, KeepPast}

@@ -8,8 +8,8 @@ use Rattle.site_vector.specs.declared.ids.TxId.{TxId}
 use Rattle.site_vector.specs.Ids.{same_part, same_tx}
 use Rattle.site_vector.specs.Order.{same_part_is, same_part_refl, same_tx_refl}
 use Rattle.site_vector.specs.Vector.{le, entry, join, replaced}
-use Rattle.world_model.specs.Partition.{vector_of}
-use Rattle.site_vector.specs.Lowest.{lowest}
+use Rattle.site_vector.specs.Known.{vector_of}
+use Rattle.site_vector.specs.Known.{lowest}
 
 pub clash : {A : Type 0} {b : Bool} → b ≡ true → b ≡ false → A
 clash h k = absurd (true≢false (sym h ∙ k))

@@ -9,7 +9,7 @@ use Rattle.site_vector.specs.declared.ids.TxId.{TxId}
 use Rattle.site_vector.specs.declared.ids.Dot.{Dot}
 use Rattle.site_vector.specs.Ids.{same_tx}
 use Rattle.site_vector.specs.Order.{tx_cmp}
-use Rattle.site_vector.specs.Lowest.{lowest}
+use Rattle.site_vector.specs.Known.{vector_of, lowest}
 use Rattle.site_vector.specs.Vector.{entry, join, replaced}
 use Rattle.crdt_core.specs.declared.kind.Kind.{Kind}
 use Rattle.crdt_core.specs.declared.object.Field.{Field}
@@ -55,10 +55,6 @@ pub record IsOther (sites d j : ℕ) : Type 0 where
   pub least : 1 ≤ j
   pub most : j ≤ sites
   pub apart : j ≢ d
-
--- the entry of the partition with this number, among vectors
-abbrev pub vector_of : List (List ℕ) → ℕ → List ℕ
-vector_of vs q = slice_index_or vs (q - 1) []
 
 -- what a partition answers when it is asked for the fate of a transaction
 pub data Fate : Type 0 where
