@@ -5,7 +5,7 @@ use Rattle.world_model.specs.Event.{AskBegin, AskRead, AskUpdate, AskPrepare, As
 use Rattle.crdt_core.specs.declared.record.Record.{Record}
 use Rattle.crdt_core.specs.Fitting.{unfit}
 use Rattle.crdt_core.specs.KindsOf.{Kinds}
-use Rattle.world_model.specs.Partition.{PartState, Image, MayDo, PartStep}
+use Rattle.world_model.specs.Partition.{PartState, Finds, MayDo, PartStep}
 use Rattle.world_model.specs.Plan.{Plan, IsRun}
 use Rattle.world_model.specs.WorldLaw.{HasCauseAt, HaveCausesAt}
 use Rattle.world_model.specs.Resumed.{is_call}
@@ -25,7 +25,7 @@ module _ {E : Type 0} {S : Type 0} (kinds : Kinds S E) where
   is_called sites parts id p (Cut a) k = absurd k
   is_called sites parts id p what k = refl
 
-  due_event : (plan : Plan E) (run : List (Entry E)) (at : PartId) (p q : PartState E) (event : Event E) → ((log : List (Record E)) → Image p log → unfit plan.sites plan.parts at log ≡ None) → PartStep kinds plan.sites plan.parts at p event q → HasCauseAt plan run at event → IsDueAt event
+  due_event : (plan : Plan E) (run : List (Entry E)) (at : PartId) (p q : PartState E) (event : Event E) → ((log : List (Record E)) → Finds p log → unfit plan.sites plan.parts at log ≡ None) → PartStep kinds plan.sites plan.parts at p event q → HasCauseAt plan run at event → IsDueAt event
   due_event plan run at p q (Refused asked IsDown) fit st h = ap not st.0.1
   due_event plan run at p q (Refused (AskRead t s o own) (ClockBehind n)) fit st h = refl
   due_event plan run at p q (Refused (AskUpdate t s o own op) (ClockBehind n)) fit st h = refl

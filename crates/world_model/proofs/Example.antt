@@ -23,7 +23,7 @@ use Rattle.crdt_core.specs.declared.record.Part.{Part}
 use Rattle.crdt_core.specs.declared.record.Message.{Message}
 use Rattle.crdt_core.specs.declared.record.Record.TheVariants.{Decide}
 use Rattle.crdt_core.specs.Parts.{touches}
-use Rattle.crdt_core.specs.Log.{prepare_time, pending, bound}
+use Rattle.crdt_core.specs.Log.{prepare_time, pending, logged_bound}
 use Rattle.world_model.specs.Event.{Event, Began, Updated, Read, Prepared, Decided, Sent, Took, Reported, Heard, Restarted, Refused, Opened, Cut, Entry, AskTake, AskRead, IsRepeat, TxPending, voted}
 use Rattle.crdt_core.specs.KindsOf.{Kinds}
 use Rattle.world_model.specs.Partition.{PartState, IsOther, IsOwnBound, ToldCommitted, fate_of, stable_entry, new_part, done, cut}
@@ -400,7 +400,7 @@ module _ {S E : Type 0} (kinds : Kinds S E) (known : kinds.has CounterPn ≡ tru
         whole = refl;
         clock = refl;
         width = refl;
-        bounds = λ j o. subst (λ i. entry again.bounds i ≡ bound again.log i) (sym (other_of_first j o)) refl;
+        bounds = λ j o. subst (λ i. entry again.bounds i ≡ logged_bound again.log i) (sym (other_of_first j o)) refl;
         heard = refl;
         sent = refl;
         shown = refl;

@@ -31,12 +31,12 @@ use Rattle.crdt_core.specs.Law.{KeepsLaw}
 use Rattle.crdt_core.specs.KindsOf.{Kinds}
 use Rattle.crdt_core.specs.Folds.{IsFold, state_read}
 use Rattle.crdt_core.specs.Orders.{Ascends, pending_cmp, stream_cmp}
-use Rattle.crdt_core.specs.Log.{end_of_time, ceiling, lease_for, prepare_time, prepared_changes, committed, committed_at, pending, last_decided, bound, grown, IsImage}
+use Rattle.crdt_core.specs.Log.{end_of_time, ceiling, lease_for, prepare_time, prepared_changes, committed, committed_at, pending, last_decided, logged_bound, grown, MayFind}
 use Rattle.crdt_core.specs.Parts.{touches, lists, AreParts, above}
 use Rattle.world_model.specs.Event.{Ask, AskBegin, AskRead, AskUpdate, AskPrepare, AskDecide, AskFinish, AskAbort, AskTake, AskRestart, is_restart, Refusal, IsDown, ClockBehind, TxPending, StableBehind, ClockAtEnd, IsGone, HasGap, IsRepeat, IsBadOp, IsDamaged, Event, Refused, Ticked, Began, Updated, Read, Prepared, Decided, Finished, Aborted, Sent, Took, Reported, Heard, Crashed, RestartCut, Restarted, Opened, Cut}
 use Rattle.crdt_core.specs.Fitting.{unfit}
 
--- all else is told by the log. While it is up, `torn` is empty; while it is down, a restart finds an image of both
+-- all else is told by the log. While it is up, `torn` is empty; while it is down, a restart finds what `MayFind` says of both
 pub record PartState (E : Type 0) : Type 0 where
   pub up : Bool
   pub now : ℕ
@@ -67,8 +67,9 @@ abbrev pub names_pending : List (TxId × ℕ) → TxId → Bool
 names_pending xs t = list_any (λ x. same_tx x.0 t) xs
 
 module _ {E : Type 0} where
-  abbrev pub Image : PartState E → List (Record E) → Type 0
-  Image p image = IsImage p.log p.torn image
+  -- a restart of the partition may find this log
+  abbrev pub Finds : PartState E → List (Record E) → Type 0
+  Finds p found = MayFind p.log p.torn found
 
   -- what a partition knows of how far partition q of its site has come with site j: its own bounds, or what it heard
   abbrev pub known : PartId → PartState E → ℕ → ℕ → ℕ
@@ -253,7 +254,7 @@ module _ {E : Type 0} where
   pub record IsUnfit (sites parts : ℕ) (id : PartId) (p : PartState E) (at : ℕ) : Type 0 where
     pub down : p.up ≡ false
     pub log : List (Record E)
-    pub found : Image p log
+    pub found : Finds p log
     pub first : unfit sites parts id log ≡ Some at
 
   -- down is first of all, but a restart is never refused so
@@ -264,13 +265,13 @@ module _ {E : Type 0} where
 
   -- a restart reads the log again and forgets the rest; one that is up acts as if it had crashed
   pub record IsRestart (sites parts : ℕ) (id : PartId) (p : PartState E) (n : ℕ) (b : List ℕ) (named : Option TxId) (listed : List (TxId × ℕ)) (q : PartState E) : Type 0 where
-    pub found : Image p q.log
+    pub found : Finds p q.log
     pub fits : unfit sites parts id q.log ≡ None
     pub up : q.up ≡ true
     pub whole : q.torn ≡ []
     pub clock : q.now ≡ ceiling q.log
     pub width : length q.bounds ≡ sites
-    pub bounds : (j : ℕ) → IsOther sites id.site j → entry q.bounds j ≡ bound q.log j
+    pub bounds : (j : ℕ) → IsOther sites id.site j → entry q.bounds j ≡ logged_bound q.log j
     pub heard : q.heard ≡ replicate parts (replicate sites 0)
     pub sent : q.sent ≡ replicate sites 0
     pub shown : n ≡ q.now
