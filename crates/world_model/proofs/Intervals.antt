@@ -48,9 +48,9 @@ module _ {E : Type 0} where
       (λ (x : WasShown run p (Sent asked m)). le_trans (shown_sent run p asked m x) (sent_more run e p))
       w
 
-  pub numbered_shown : (count : List (Entry E) → ℕ) (run : List (Entry E)) (number : ℕ) (p : PartId) (event : Event E) → WasNumbered count run number p event → WasShown run p event
+  pub numbered_shown : (count : List (Entry E) → PartId → ℕ) (run : List (Entry E)) (number : ℕ) (p : PartId) (event : Event E) → WasNumbered count run number p event → WasShown run p event
   numbered_shown count [] number p event w = absurd w
-  numbered_shown count (e ∷ run) number p event w = ⊎_elim (λ (x : (e.at ≡ p) × (e.event ≡ event) × (number ≡ count run + 1)). inl (x.0, x.1)) (λ (x : WasNumbered count run number p event). inr (numbered_shown count run number p event x)) w
+  numbered_shown count (e ∷ run) number p event w = ⊎_elim (λ (x : (e.at ≡ p) × (e.event ≡ event) × (number ≡ count run p + 1)). inl (x.0, x.1)) (λ (x : WasNumbered count run number p event). inr (numbered_shown count run number p event x)) w
 
   pub shown_has : (Q : PartId → Event E → Type 0) (run : List (Entry E)) (p : PartId) (event : Event E) → EventsAre Q run → WasShown run p event → Q p event
   shown_has Q [] p event h w = absurd w

@@ -8,7 +8,7 @@ use Rattle.site_vector.specs.Vector.{le, entry}
 use Rattle.crdt_core.specs.declared.record.Message.{Message}
 use Rattle.crdt_core.specs.declared.record.Record.{Record}
 use Rattle.crdt_core.specs.Log.{end_of_time, ceiling, prepared, committed, aborted, decided, pending, taken, logged_bound}
-use Rattle.world_model.specs.Event.{AskRead, AskUpdate, AskPrepare, AskBegin, AskFinish, ClockBehind, ClockAtEnd, IsGone, Refused, shown, Event, Began, Updated, Read, Sent, Restarted, Entry, attempt, was_aborted, is_decided, time_of, sent, EventsAre}
+use Rattle.world_model.specs.Event.{AskRead, AskUpdate, AskPrepare, AskBegin, AskFinish, ClockBehind, ClockAtEnd, IsGone, Refused, shown, Event, Began, Updated, Read, Sent, Restarted, Entry, attempt, was_aborted, is_decided, time_of, sent, EventsAre, Cut}
 use Rattle.crdt_core.specs.KindsOf.{Kinds}
 use Rattle.site_vector.specs.Known.{vector_of}
 use Rattle.world_model.specs.Partition.{PartState, Finds, IsOther, IsBegin, new_part, PartStep}
@@ -115,7 +115,9 @@ module _ {E : Type 0} where
   keeps_event kinds plan run before at q f event s = tt
 
   past_event : {S : Type 0} (kinds : Kinds S E) (plan : Plan E) (run : List (Entry E)) (before : PartId → PartState E) (at : PartId) (q : PartState E) (event : Event E) → IsAllowed plan run before at (attempt event) → PartStep kinds plan.sites plan.parts at (before at) event q → HoldsPast plan.sites run at event
-  past_event kinds plan run before at q (Began who dep t v) al s = (al, subst (λ d. le d v ≡ true) al (begin_holds plan.sites plan.parts at (before at) dep t v s.1))
+  past_event kinds plan run before at q (Began who dep t v) al s = (al, begin_holds plan.sites plan.parts at (before at) dep t v s.1)
+  past_event kinds plan run before at q (Cut (Began who dep t v)) al s = al
+  past_event kinds plan run before at q (Refused (AskBegin who dep) why) al s = al
   past_event kinds plan run before at q event al s = tt
 
   sent_now : {S : Type 0} (kinds : Kinds S E) (plan : Plan E) (run : List (Entry E)) (before : PartId → PartState E) (q : PartState E) → Fate plan run before → (at : PartId) (event : Event E) (asked : Option ℕ) (m : Message E) → event ≡ Sent asked m → PartStep kinds plan.sites plan.parts at (before at) event q → IsExact plan ((record { at = at; event = event }) ∷ run) at m × (m.hi ≤ sent ((record { at = at; event = event }) ∷ run) at)
@@ -149,12 +151,12 @@ module _ {E : Type 0} where
       clash (pending_from log t p.0 ps.1 (never_aborted plan run before f at log t (image_log (before at)) d)) ps.0
 
   cause_event : {S : Type 0} (kinds : Kinds S E) (plan : Plan E) (run : List (Entry E)) (before : PartId → PartState E) (q : PartState E) (at : PartId) (event : Event E) → Fate plan run before → Leases run before → EventsAre (IsPlanned plan) run → IsAllowed plan run before at (attempt event) → PartStep kinds plan.sites plan.parts at (before at) event q → HasCauseAt plan run at event
-  cause_event kinds plan run before q at (Refused (AskRead t s o own) (ClockBehind n)) f l p al st = clock_cause plan run before at t s n l p al st.0.1.0 st.0.1.1
-  cause_event kinds plan run before q at (Refused (AskUpdate t s o own op) (ClockBehind n)) f l p al st = let c = clock_cause plan run before at t s n l p al st.0.1.1 st.0.1.2 in (st.0.1.0, c.0, c.1)
-  cause_event kinds plan run before q at (Refused (AskPrepare t s y w) (ClockBehind n)) f l p al st = clock_cause plan run before at t s n l p al st.0.1.0 st.0.1.1
+  cause_event kinds plan run before q at (Refused (AskRead t s o own) (ClockBehind n)) f l p al st = clock_cause plan run before at t s n l p al.0 st.0.1.0 st.0.1.1
+  cause_event kinds plan run before q at (Refused (AskUpdate t s o own op) (ClockBehind n)) f l p al st = let c = clock_cause plan run before at t s n l p al.0 st.0.1.1 st.0.1.2 in (st.0.1.0, c.0, c.1)
+  cause_event kinds plan run before q at (Refused (AskPrepare t s y w) (ClockBehind n)) f l p al st = clock_cause plan run before at t s n l p al.0 st.0.1.0 st.0.1.1
   cause_event kinds plan run before q at (Refused (AskBegin who dep) ClockAtEnd) f l p al st = sym (l.clock at).now ∙ st.0.1.1
   cause_event kinds plan run before q at (Refused (AskPrepare t s y w) ClockAtEnd) f l p al st = (
-    subst (λ v. entry v at.site ≤ shown run at) (shown_has (IsPlanned plan) run (home t) (Began al.who al.dependency t s) p al.begun) (subst (λ n. entry s at.site ≤ n) (l.clock at).now st.0.1.0),
+    subst (λ v. entry v at.site ≤ shown run at) (shown_has (IsPlanned plan) run (home t) (Began al.0.who al.0.dependency t s) p al.0.begun) (subst (λ n. entry s at.site ≤ n) (l.clock at).now st.0.1.0),
     sym (l.clock at).now ∙ st.0.1.1,
   )
   cause_event kinds plan run before q at (Refused asked ClockAtEnd) f l p al st = absurd st.0.1

@@ -15,6 +15,7 @@ pub mod Kept
 pub mod Ups
 pub mod Shows
 pub mod Hears
+mod Clears
 pub mod Doubts
 pub mod Voting
 pub mod Handing

@@ -118,7 +118,7 @@ module _ {E : Type 0} where
         clash (sym (h.waiting q t up) ∙ w) (not-true (pending_shown run q t) b.1))))
         (cases_Bool (committed log t))
 
-    known_is : (pending (parts q).log t || committed (parts q).log t) ≡ (pending_shown run q t || committed_shown plan run q t)
+    pub known_is : (pending (parts q).log t || committed (parts q).log t) ≡ (pending_shown run q t || committed_shown plan run q t)
     known_is = λ i. (h.waiting q t up i || committed_is i)
 
   module _ {S : Type 0} (kinds : Kinds S E) (plan : Plan E) (run : List (Entry E)) (before after : PartId → PartState E) (at : PartId) (f : Fate plan run before) (h : Shown plan run before) where
@@ -276,7 +276,7 @@ module _ {E : Type 0} where
           }
 
     -- a read that was ready is shown to be
-    ready_is : (up : (before at).up ≡ true) (l : Leases run before) (s : List ℕ) (o : ObjectId) → IsReady at (before at) s o → IsReadyAt plan run at s o
+    pub ready_is : (up : (before at).up ≡ true) (l : Leases run before) (s : List ℕ) (o : ObjectId) → IsReady at (before at) s o → IsReadyAt plan run at s o
     ready_is up l s o x =
         let log = (before at).log in record {
           clock = subst (λ n. entry s at.site ≤ n) (l.clock at).now x.clock;

@@ -10,12 +10,12 @@ use Rattle.site_vector.specs.Vector.{replaced}
 use Rattle.crdt_core.specs.declared.record.Upd.{Upd}
 use Rattle.world_model.specs.Participants.{partitions}
 use Rattle.crdt_core.specs.Log.{end_of_time, ceiling, prepared, pending, committed}
-use Rattle.world_model.specs.Event.{AskFinish, AskTake, Refused, Event, Began, Updated, Read, Prepared, Decided, Finished, Aborted, Took, Heard, Cut, Entry, attempt, is_prepare, tried, voted, shown, shown_after, time_of, is_decided, WasShown}
+use Rattle.world_model.specs.Event.{AskPrepare, AskFinish, AskTake, Refused, Event, Began, Updated, Read, Prepared, Decided, Finished, Aborted, Took, Heard, Cut, Entry, attempt, is_prepare, tried, voted, shown, shown_after, time_of, is_decided, WasShown}
 use Rattle.crdt_core.specs.KindsOf.{Kinds}
 use Rattle.world_model.specs.Partition.{PartState, PartStep, MayDo}
 use Rattle.world_model.specs.Plan.{Plan, first_of, is_some_update, home, takes_part, commit_vector, updates_at, change_by, IsAllowed, IsPlanned, TellsAborted, IsRun}
 use Rattle.world_model.specs.Handed.{IsNew}
-use Rattle.world_model.specs.World.{is_begin, begin_vector, begun, snapshot_of, changes_of, lead_of, own_parts, plan_of, IsWorldRun}
+use Rattle.world_model.specs.World.{is_begin, begin_vector, begun, snapshot_of, is_own, changes_of, lead_of, own_parts, plan_of, IsWorldRun}
 use Rattle.world_model.proofs.Names.{clash, off}
 use Rattle.world_model.proofs.Moves.{image_log}
 use Rattle.world_model.proofs.Fate.{pending_parts, voted_tried}
@@ -212,8 +212,31 @@ module _ {E : Type 0} where
   end_known kinds sites parts id p q (Cut a) t s h = may_known kinds sites parts id p a t s.1 h
   end_known kinds sites parts id p q a t s h = off h
 
-  allowed_too : (sites parts : ℕ) (run whole : List (Entry E)) (e : Entry E) (state : PartId → PartState E) (a : Event E) → ((t : TxId) → (is_prepare a t || is_end a t) ≡ true → Agree (plan_of sites parts (e ∷ run)) (plan_of sites parts whole) t) → ((t : TxId) → is_decided run t ≡ true → Agree (plan_of sites parts (e ∷ run)) (plan_of sites parts whole) t) → IsAllowed (plan_of sites parts (e ∷ run)) run state e.at a → IsAllowed (plan_of sites parts whole) run state e.at a
-  allowed_too sites parts run whole e state (Prepared t s l w n) agr past al =
+  some_front : (xs ys : List (Upd E)) → is_some_update xs ≡ true → is_some_update (xs ++ ys) ≡ true
+  some_front [] ys h = off h
+  some_front (x ∷ xs) ys h = refl
+
+  more_updates : (run whole : List (Entry E)) (t : TxId) (p : PartId) → IsSuffix run whole → is_some_update (updates_at run t p) ≡ true → is_some_update (updates_at whole t p) ≡ true
+  more_updates run [] t p s h = subst (λ x. is_some_update (updates_at x t p) ≡ true) s h
+  more_updates run (e ∷ whole) t p s h = ⊎_elim
+      (λ (k : run ≡ e ∷ whole). subst (λ x. is_some_update (updates_at x t p) ≡ true) k h)
+      (λ (k : IsSuffix run whole). some_front (updates_at whole t p) (cond (same_part e.at p) (change_by e.event t) []) (more_updates run whole t p k h))
+      s
+
+  some_of : (b : Bool) (us : List (Upd E)) → is_some_update (cond b us []) ≡ true → is_some_update us ≡ true
+  some_of true us h = h
+  some_of false us h = off h
+
+  -- who takes part takes part in all that comes after
+  takes_later : (sites parts : ℕ) (run whole : List (Entry E)) (t : TxId) (p : PartId) → AllFresh whole → IsSuffix run whole → takes_part (plan_of sites parts run) t p ≡ true → takes_part (plan_of sites parts whole) t p ≡ true
+  takes_later sites parts run whole t p f s h =
+      let x = same_begin run whole t f s (part_begun sites run t p h) in
+      let o = own_parts sites run t p h in
+      let own : is_own sites whole t p ≡ true = and_from (p.site == t.site) _ o.0 (and_from (leb 1 t.site) _ o.1 (and_from (leb t.site sites) _ o.2 (subst (λ v. leb t.site (length v) ≡ true) (sym x.snapshot) o.3))) in
+      ap is_some_update (cond-true (is_own sites whole t p) (updates_at whole t p) [] own) ∙ more_updates run whole t p s (some_of (is_own sites run t p) (updates_at run t p) h)
+
+  allowed_too : (sites parts : ℕ) (run whole : List (Entry E)) (e : Entry E) (state : PartId → PartState E) (a : Event E) → ((t : TxId) → (is_prepare a t || is_end a t) ≡ true → Agree (plan_of sites parts (e ∷ run)) (plan_of sites parts whole) t) → ((t : TxId) → is_decided run t ≡ true → Agree (plan_of sites parts (e ∷ run)) (plan_of sites parts whole) t) → ((t : TxId) → takes_part (plan_of sites parts (e ∷ run)) t e.at ≡ true → takes_part (plan_of sites parts whole) t e.at ≡ true) → IsAllowed (plan_of sites parts (e ∷ run)) run state e.at a → IsAllowed (plan_of sites parts whole) run state e.at a
+  allowed_too sites parts run whole e state (Prepared t s l w n) agr past later al =
       let g = agr t (or_left (same_tx t t) false (same_tx_refl t)) in record {
         fresh = al.fresh;
         after_lead = λ ne. subst (λ x. voted run t x ≡ true) (sym g.lead) (al.after_lead (λ k. ne (k ∙ sym g.lead)));
@@ -222,7 +245,7 @@ module _ {E : Type 0} where
         lead = al.lead ∙ ap (λ p. p.part) (sym g.lead);
         changes = al.changes ∙ sym (g.updates e.at);
       }
-  allowed_too sites parts run whole e state (Decided t c) agr past al =
+  allowed_too sites parts run whole e state (Decided t c) agr past later al =
       let g = agr t (same_tx_refl t) in record {
         lead = al.lead ∙ sym g.lead;
         here = al.here;
@@ -231,22 +254,23 @@ module _ {E : Type 0} where
         once = al.once;
         vector = al.vector ∙ agree_vector (plan_of sites parts (e ∷ run)) (plan_of sites parts whole) run t g;
       }
-  allowed_too sites parts run whole e state (Finished t c) agr past al =
+  allowed_too sites parts run whole e state (Finished t c) agr past later al =
       let g = agr t (same_tx_refl t) in record {
         decided = al.decided;
         vector = al.vector ∙ agree_vector (plan_of sites parts (e ∷ run)) (plan_of sites parts whole) run t g;
       }
-  allowed_too sites parts run whole e state (Aborted t true) agr past al = al
-  allowed_too sites parts run whole e state (Aborted t false) agr past al =
+  allowed_too sites parts run whole e state (Aborted t true) agr past later al = al
+  allowed_too sites parts run whole e state (Aborted t false) agr past later al =
       let g = agr t (same_tx_refl t) in
       ⊎_elim (λ (k : e.at ≡ lead_of sites parts (e ∷ run) t). inl (k ∙ sym g.lead)) (λ (k : TellsAborted (state (lead_of sites parts (e ∷ run) t)) t). inr (subst (λ x. TellsAborted (state x) t) (sym g.lead) k)) al
-  allowed_too sites parts run whole e state (Read t s o own read value) agr past al = record { site = al.site; who = al.who; dependency = al.dependency; begun = al.begun; place = al.place; earlier = al.earlier }
-  allowed_too sites parts run whole e state (Updated t s o own op read u stamp) agr past al = record { site = al.site; who = al.who; dependency = al.dependency; begun = al.begun; place = al.place; earlier = al.earlier }
-  allowed_too sites parts run whole e state (Took number m) agr past al = record { from = al.from; to = al.to; part = al.part; asked = al.asked; shown = al.shown }
-  allowed_too sites parts run whole e state (Heard number q b stable) agr past al = record { least = al.least; most = al.most; shown = al.shown }
-  allowed_too sites parts run whole e state (Refused (AskFinish t c) why) agr past al = (al.0, ap is_some_update ((past t al.0).updates e.at) ∙ al.1)
-  allowed_too sites parts run whole e state (Refused (AskTake number m) why) agr past al = record { from = al.from; to = al.to; part = al.part; asked = al.asked; shown = al.shown }
-  allowed_too sites parts run whole e state a agr past al = al
+  allowed_too sites parts run whole e state (Read t s o own read value) agr past later al = record { site = al.site; who = al.who; dependency = al.dependency; begun = al.begun; place = al.place; earlier = al.earlier }
+  allowed_too sites parts run whole e state (Updated t s o own op read u stamp) agr past later al = record { site = al.site; who = al.who; dependency = al.dependency; begun = al.begun; place = al.place; earlier = al.earlier }
+  allowed_too sites parts run whole e state (Took number m) agr past later al = record { from = al.from; to = al.to; part = al.part; asked = al.asked; shown = al.shown }
+  allowed_too sites parts run whole e state (Heard number q b stable) agr past later al = record { least = al.least; most = al.most; shown = al.shown }
+  allowed_too sites parts run whole e state (Refused (AskFinish t c) why) agr past later al = (al.0, ap is_some_update ((past t al.0).updates e.at) ∙ al.1)
+  allowed_too sites parts run whole e state (Refused (AskPrepare t s l w) why) agr past later al = (al.0, later t al.1)
+  allowed_too sites parts run whole e state (Refused (AskTake number m) why) agr past later al = record { from = al.from; to = al.to; part = al.part; asked = al.asked; shown = al.shown }
+  allowed_too sites parts run whole e state a agr past later al = al
 
   planned_too : (sites parts : ℕ) (run whole : List (Entry E)) (at : PartId) (a : Event E) → AllFresh whole → IsSuffix ((record { at = at; event = a }) ∷ run) whole → IsPlanned (plan_of sites parts whole) at a
   planned_too sites parts run whole at (Began who dep t s) f suf =
@@ -279,7 +303,9 @@ module _ {E : Type 0} where
               (λ t d. agree sites parts (e ∷ run) whole t (lead_of sites parts run t) f s
               (or_right _ _ (tried_begun kinds sites parts run before t (lead_of sites parts run t) r.1 (lead_tried t d)))
               (or_right _ _ (lead_tried t d)))
+              (λ t h. takes_later sites parts (e ∷ run) whole t e.at f s h)
               r.2.allowed;
+          fit = r.2.fit;
           step = r.2.step;
           others = r.2.others;
         },

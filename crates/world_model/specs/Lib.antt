@@ -15,6 +15,7 @@ pub mod Meaning
 pub mod Shown
 pub mod Logs
 pub mod Stable
+pub mod Clear
 pub mod Downs
 pub mod Answering
 pub mod Doubt

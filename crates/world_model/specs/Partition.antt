@@ -28,12 +28,12 @@ use Rattle.crdt_core.specs.Fits.{fits}
 use Rattle.crdt_core.specs.Seen.{Update}
 use Rattle.crdt_core.specs.History.{folded}
 use Rattle.crdt_core.specs.Law.{KeepsLaw}
-use Rattle.crdt_core.specs.KindsOf.{Kinds}
+use Rattle.crdt_core.specs.KindsOf.{Kinds, fits_kind}
 use Rattle.crdt_core.specs.Folds.{IsFold, state_read}
 use Rattle.crdt_core.specs.Orders.{Ascends, pending_cmp, stream_cmp}
 use Rattle.crdt_core.specs.Log.{end_of_time, ceiling, lease_for, prepare_time, prepared_changes, committed, committed_at, pending, last_decided, logged_bound, grown, MayFind}
 use Rattle.crdt_core.specs.Parts.{touches, lists, AreParts, above}
-use Rattle.world_model.specs.Event.{Ask, AskBegin, AskRead, AskUpdate, AskPrepare, AskDecide, AskFinish, AskAbort, AskTake, AskRestart, is_restart, Refusal, IsDown, ClockBehind, TxPending, StableBehind, ClockAtEnd, IsGone, HasGap, IsRepeat, IsBadOp, IsDamaged, Event, Refused, Ticked, Began, Updated, Read, Prepared, Decided, Finished, Aborted, Sent, Took, Reported, Heard, Crashed, RestartCut, Restarted, Opened, Cut}
+use Rattle.world_model.specs.Event.{Ask, AskBegin, AskRead, AskUpdate, AskPrepare, AskDecide, AskFinish, AskAbort, AskTake, AskTick, AskRestart, is_restart, Refusal, IsDown, ClockBehind, TxPending, StableBehind, ClockAtEnd, IsGone, HasGap, IsRepeat, IsBadOp, HasNoRoom, IsDamaged, Event, Refused, Ticked, Began, Updated, Read, Prepared, Decided, Finished, Aborted, Sent, Took, Reported, Heard, Crashed, RestartCut, Restarted, Opened, Cut}
 use Rattle.crdt_core.specs.Fitting.{unfit}
 
 -- all else is told by the log. While it is up, `torn` is empty; while it is down, a restart finds what `MayFind` says of both
@@ -110,7 +110,7 @@ module _ {E : Type 0} where
     pub ready : reads_state o.kind ≡ true → IsReady id p s o
     pub fold : reads_state o.kind ≡ true → IsFold p.log s o read
     pub known : kinds.has o.kind ≡ true
-    pub fits : (fits o.kind op.path op.act && not (kinds.too_deep o.kind op.path)) ≡ true
+    pub fits : fits_kind kinds.too_deep o op ≡ true
     pub object : u.object ≡ o
     pub effect : u.effect ≡ kinds.made o.kind (state_read kinds o t own read) op.path op.act p.now
     pub stamped : stamp ≡ kinds.stamp_of u.effect
@@ -238,9 +238,9 @@ module _ {E : Type 0} where
   IsDue kinds sites parts id p (AskBegin who dep) ClockAtEnd = IsStableEnough sites parts id p dep × (p.now ≡ end_of_time)
   IsDue kinds sites parts id p (AskRead t s o own) (ClockBehind n) = (n ≡ p.now) × (n < entry s id.site)
   IsDue kinds sites parts id p (AskRead t s o own) (TxPending u n) = IsTxPending id p s o u n
-  IsDue kinds sites parts id p (AskUpdate t s o own op) IsBadOp = (fits o.kind op.path op.act && not (kinds.too_deep o.kind op.path)) ≡ false
-  IsDue kinds sites parts id p (AskUpdate t s o own op) (ClockBehind n) = (reads_state o.kind ≡ true) × (n ≡ p.now) × (n < entry s id.site) × ((fits o.kind op.path op.act && not (kinds.too_deep o.kind op.path)) ≡ true)
-  IsDue kinds sites parts id p (AskUpdate t s o own op) (TxPending u n) = (reads_state o.kind ≡ true) × IsTxPending id p s o u n × ((fits o.kind op.path op.act && not (kinds.too_deep o.kind op.path)) ≡ true)
+  IsDue kinds sites parts id p (AskUpdate t s o own op) IsBadOp = fits_kind kinds.too_deep o op ≡ false
+  IsDue kinds sites parts id p (AskUpdate t s o own op) (ClockBehind n) = (reads_state o.kind ≡ true) × (n ≡ p.now) × (n < entry s id.site) × (fits_kind kinds.too_deep o op ≡ true)
+  IsDue kinds sites parts id p (AskUpdate t s o own op) (TxPending u n) = (reads_state o.kind ≡ true) × IsTxPending id p s o u n × (fits_kind kinds.too_deep o op ≡ true)
   IsDue kinds sites parts id p (AskPrepare t s l w) (ClockBehind n) = (n ≡ p.now) × (n < entry s id.site)
   IsDue kinds sites parts id p (AskPrepare t s l w) ClockAtEnd = (entry s id.site ≤ p.now) × (p.now ≡ end_of_time)
   IsDue kinds sites parts id p (AskDecide t c) IsGone = (pending p.log t || committed p.log t) ≡ false
@@ -248,6 +248,14 @@ module _ {E : Type 0} where
   IsDue kinds sites parts id p (AskAbort t) IsGone = pending p.log t ≡ false
   IsDue kinds sites parts id p (AskTake number m) (HasGap n) = (n ≡ entry p.bounds m.from) × (n < m.lo)
   IsDue kinds sites parts id p (AskTake number m) (IsRepeat n) = (n ≡ entry p.bounds m.from) × (m.lo ≤ n) × (m.hi ≤ n)
+  -- no room: every other cause is absent, and there is something to write
+  IsDue kinds sites parts id p (AskTick r) (HasNoRoom n) = r ≤ end_of_time
+  IsDue kinds sites parts id p (AskBegin who dep) (HasNoRoom n) = IsStableEnough sites parts id p dep × (p.now < end_of_time)
+  IsDue kinds sites parts id p (AskPrepare t s l w) (HasNoRoom n) = (entry s id.site ≤ p.now) × (p.now < end_of_time)
+  IsDue kinds sites parts id p (AskDecide t c) (HasNoRoom n) = pending p.log t ≡ true
+  IsDue kinds sites parts id p (AskFinish t c) (HasNoRoom n) = pending p.log t ≡ true
+  IsDue kinds sites parts id p (AskAbort t) (HasNoRoom n) = pending p.log t ≡ true
+  IsDue kinds sites parts id p (AskTake number m) (HasNoRoom n) = (m.lo ≤ entry p.bounds m.from) × (entry p.bounds m.from < m.hi)
   IsDue kinds sites parts id p asked why = ⊥
 
   -- what a restart found isn't the partition's
