@@ -159,7 +159,7 @@ module _ {E : Type 0} (plan : Plan E) (id : PartId) where
   pending_home log u t e p = subst (λ y. prepared log y ≡ true) (same_tx_is u t e) (pending_parts log u p).prepared
 
   -- what is named is prepared, where it is of the site
-  named_good : (log : List (Record E)) (t : TxId) → AreGood log → is_named_in log t ≡ true → t.site ≡ id.site → prepared log t ≡ true
+  pub named_good : (log : List (Record E)) (t : TxId) → AreGood log → is_named_in log t ≡ true → t.site ≡ id.site → prepared log t ≡ true
   named_good [] t g h s = off h
   named_good (Lease n ∷ log) t g h s = named_good log t g.2 h s
   named_good (Prepare u l n c w ∷ log) t g h s = ⊎_elim (λ (e : same_tx u t ≡ true). or_left _ _ e) (λ (e : is_named_in log t ≡ true). or_right _ _ (named_good log t g.2 e s)) (or_cases _ _ h)
@@ -355,6 +355,25 @@ module _ {E S : Type 0} (kinds : Kinds S E) (plan : Plan E) (pf : PlanFits plan)
             clash (k.fate.stays log t (subst (λ q. Finds (before q) log) (sym same) i) al.decided) parts.committed in
             (and_from _ _ p (and_from _ _ (ap not (false_from_ne_true _ (λ e. away (eqb-true (prepared_lead log t) at.part e)))) (commit_fits t c p (all.all at takes) al.vector)), tt, tt)
 
+    -- what a message brings above the bound is named in no record
+    pub unheld : (number : ℕ) (m : Message E) → MayTake plan run at number m → (before at).up ≡ true → (t : TxId) → lists (above m.from (entry (before at).bounds m.from) m.parts) t ≡ true → is_named_in log t ≡ false
+    unheld number m al up t h = false_from_ne_true _ (λ n.
+        let b = entry (before at).bounds m.from in
+        let q = twin m.from at in
+        let backed : IsExact plan run q m × (m.hi ≤ sent run q) = shown_has (IsBacked plan run before) run q (Sent al.asked m) k.bounds.events (numbered_shown sent_count run number q (Sent al.asked m) al.shown) in
+        let x = backed.0 in
+        let vec = commit_vector plan run in
+        let ups = λ (u : TxId). plan.updates u q in
+        let h0 : (lists m.parts t ≡ true) × (ltb b (entry (vec t) m.from) ≡ true) = and_parts (lists m.parts t) _ (sym (lists_above vec ups m.from b m.parts t x.exact) ∙ h) in
+        let u : takes_part plan t q ≡ true = (and_parts (takes_part plan t q) _ (and_parts (is_decided run t) _ (sym (x.members t) ∙ h0.0)).1).0 in
+        let site = plan.at_home t q u in
+        let z = taken_good plan at log t good_log n (λ s. al.from.apart (site ∙ s)) in
+        let t0 = k.bounds.from at log t (image_log (before at)) z.here in
+        let w : entry (vec t) m.from ≤ logged_bound log m.from = subst₂ (λ c j. entry c j ≤ logged_bound log j) t0.time (sym site) z.upto in
+        let v = g.bounds at up m.from al.from in
+        let d = ltb-true b (entry (vec t) m.from) h0.1 in
+        absurd (omega arith))
+
     batch_good : (number : ℕ) (m : Message E) → MayTake plan run at number m → MayDo kinds plan.sites plan.parts at (before at) (Took number m) → (before at).up ≡ true → (xs : List (Part E)) → above m.from (entry (before at).bounds m.from) m.parts ≡ xs → GoodAfter plan at log (batch_of m (entry (before at).bounds m.from) xs)
     batch_good number m al may up [] e = tt
     batch_good number m al may up (y ∷ ys) e =
@@ -382,16 +401,7 @@ module _ {E S : Type 0} (kinds : Kinds S E) (plan : Plan E) (pf : PlanFits plan)
         let test = λ (t : TxId) (c : List ℕ) (us : List (Upd E)). t.site == m.from && (is_vector plan.sites c && (stand_at plan.parts m.part us && (ltb b (entry c m.from) && leb (entry c m.from) m.hi))) in
         let all_fit : list_all (fits_part plan.sites plan.parts m') (y ∷ ys) ≡ true = all_parts vec ups test (y ∷ ys) exact (λ t h. ap (λ n. t.site == m.from && (is_vector plan.sites (vec t) && (stand_at plan.parts n (ups t) && (ltb b (entry (vec t) m.from) && leb (entry (vec t) m.from) m.hi)))) al.part ∙ part t h) in
         let apart : are_apart (y ∷ ys) ≡ true = ap are_apart (sym e) ∙ apart_above m.from b m.parts (stream_parts vec ups m.from m.parts x.exact x.order) in
-        let fresh : (t : TxId) → lists (y ∷ ys) t ≡ true → is_named_in log t ≡ false = λ t h. false_from_ne_true _ (λ n.
-        let h0 = facts t h in
-        let u = takes t h0.0 in
-        let site = plan.at_home t q u in
-        let z = taken_good plan at log t good_log n (λ s. al.from.apart (site ∙ s)) in
-        let t0 = k.bounds.from at log t (image_log (before at)) z.here in
-        let w : entry (vec t) m.from ≤ logged_bound log m.from = subst₂ (λ c j. entry c j ≤ logged_bound log j) t0.time (sym site) z.upto in
-        let v = g.bounds at up m.from al.from in
-        let d = ltb-true b (entry (vec t) m.from) h0.1 in
-        absurd (omega arith)) in (
+        let fresh : (t : TxId) → lists (y ∷ ys) t ≡ true → is_named_in log t ≡ false = λ t h. unheld number m al up t (ap (λ l. lists l t) e ∙ h) in (
           and_from _ _
               (and_from _ _ (ap not (false_from_ne_true _ (λ s. al.from.apart (eqb-true m.from at.site s))))
               (and_from _ _ (le-leb 1 m.from al.from.least)

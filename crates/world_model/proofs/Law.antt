@@ -54,7 +54,7 @@ low_none i = omega arith
 
 module _ {E : Type 0} where
   -- what is kept under the run's own plan
-  kept_here : {S : Type 0} (kinds : Kinds S E) (sites parts : ℕ) (run : List (Entry E)) (state : PartId → PartState E) → IsWorldRun kinds sites parts run state → Kept kinds (plan_of sites parts run) run state
+  pub kept_here : {S : Type 0} (kinds : Kinds S E) (sites parts : ℕ) (run : List (Entry E)) (state : PartId → PartState E) → IsWorldRun kinds sites parts run state → Kept kinds (plan_of sites parts run) run state
   kept_here kinds sites parts run state r = law_plan kinds (plan_of sites parts run) run state (fits kinds sites parts run state r run (all_fresh kinds sites parts run state r) (suffix_all run))
 
   record Lows (sites : ℕ) (run : List (Entry E)) : Type 0 where
@@ -165,7 +165,7 @@ module _ {E : Type 0} where
       list_all-append (λ u. place_of u.object.bucket u.object.key plan.parts == q.part) (updates_at run t q) (cond (same_part e.at q) (change_by e.event t) [])
       ∙ and_from _ _ (updates_stand plan run h.1 t q) (change_stands plan run e.at q e.event t h.0)
 
-  plan_fits : {S : Type 0} (kinds : Kinds S E) (sites parts : ℕ) (run : List (Entry E)) (state : PartId → PartState E) → IsWorldRun kinds sites parts run state → PlanFits (plan_of sites parts run)
+  pub plan_fits : {S : Type 0} (kinds : Kinds S E) (sites parts : ℕ) (run : List (Entry E)) (state : PartId → PartState E) → IsWorldRun kinds sites parts run state → PlanFits (plan_of sites parts run)
   plan_fits kinds sites parts run state r =
       let plan = plan_of sites parts run in
       let under = fits kinds sites parts run state r run (all_fresh kinds sites parts run state r) (suffix_all run) in

@@ -42,3 +42,6 @@ pub mod LineAnswers
 pub mod Ops
 pub mod Lawful
 pub mod World
+pub mod Premises
+pub mod Traces
+pub mod Asking

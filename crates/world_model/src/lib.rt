@@ -7,4 +7,4 @@ mod world;
 
 pub use command::Command;
 pub use step::Step;
-pub use world::law_world;
+pub use world::{law_asks, law_premises, law_traces, law_world};
