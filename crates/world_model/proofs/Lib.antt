@@ -40,3 +40,4 @@ pub mod Example
 pub mod Traces
 pub mod Asks
 pub mod Premises
+pub mod PastJoins
