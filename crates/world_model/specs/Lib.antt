@@ -45,3 +45,4 @@ pub mod World
 pub mod Premises
 pub mod Traces
 pub mod Asking
+pub mod CommitSteps
