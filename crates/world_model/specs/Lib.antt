@@ -46,3 +46,5 @@ pub mod Premises
 pub mod Traces
 pub mod Asking
 pub mod CommitSteps
+pub mod Phases
+pub mod Messages
