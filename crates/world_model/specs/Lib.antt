@@ -48,3 +48,6 @@ pub mod Asking
 pub mod CommitSteps
 pub mod Phases
 pub mod Messages
+pub mod Meeting
+pub mod ScriptCalls
+pub mod ScriptAnswers
