@@ -37,6 +37,8 @@ pub mod Fitted
 pub mod Whole
 pub mod Law
 pub mod Example
+pub mod ExampleCluster
+pub mod ExampleCommit
 pub mod Traces
 pub mod Asks
 pub mod Premises
