@@ -1,5 +1,6 @@
--- A transaction at two partitions: its second vote waits for the clock and is the greatest; another waits for it; the lead finds no
--- room once and decides; the other partition finishes; and who comes later, with a snapshot ahead of the clock, waits and reads it.
+-- A transaction at two partitions: its second vote waits for the clock and is the greatest; another transaction waits for it; the
+-- lead finds no room once, and decides; the other partition finishes; and who comes later, with a snapshot ahead of the clock,
+-- waits and reads it.
 use Rattle.std.proofs.Common.{◌≡◌, ◌≢◌, ⊎_elim, inl, cond, Bool, true, false, ◌&&◌, ◌||◌, List, [], ◌∷◌, refl, subst, lit≤, lit<}
 use Rattle.std.specs.Prelude.{map, reverse}
 use Rattle.std.proofs.lemmas.Bool.{cases_Bool}
@@ -8,7 +9,7 @@ use Rattle.site_vector.specs.declared.ids.PartId.{PartId}
 use Rattle.site_vector.specs.declared.ids.TxId.{TxId}
 use Rattle.site_vector.specs.Ids.{same_part, same_tx}
 use Rattle.site_vector.specs.Order.{same_part_is, same_tx_is}
-use Rattle.site_vector.specs.Vector.{le, entry}
+use Rattle.site_vector.specs.Vector.{le}
 use Rattle.crdt_core.specs.declared.kind.Kind.TheVariants.{CounterPn, FlagEw}
 use Rattle.crdt_core.specs.declared.value.Value.{Value}
 use Rattle.crdt_core.specs.declared.record.Upd.{Upd}
@@ -254,40 +255,88 @@ module _ {S E : Type 0} (kinds : Kinds S E) where
 
 module _ {S E : Type 0} (kinds : Kinds S E) (has : HaveBoth kinds) where
   pub run1 : IsWorldRun kinds 2 2 (r1 kinds) (p1 kinds)
-  run1 = go kinds [] (start kinds) here1 (e1 kinds) (done ((start kinds) here1) (e1 kinds)) (λ q. refl) place_here1 (record { vectors = []; known = tt; is = refl }) tt (refl, record { early = lit< tt; named = refl; handed = refl; width = refl; own = refl; stable = at_second _ refl; waited = at_second _ (lit≤ tt) }, refl) tt
+  run1 = go kinds [] (start kinds) here1 (e1 kinds) (done (start kinds here1) (e1 kinds)) (λ q. refl) place_here1
+      (record { vectors = []; known = tt; is = refl })
+      tt
+      (refl, record { early = lit< tt; named = refl; handed = refl; width = refl; own = refl; stable = at_second _ refl; waited = at_second _ (lit≤ tt) }, refl)
+      tt
 
   pub run2 : IsWorldRun kinds 2 2 (r2 kinds) (p2 kinds)
-  run2 = go kinds (r1 kinds) (p1 kinds) here1 (e2 kinds) (done ((p1 kinds) here1) (e2 kinds)) run1 place_here1 (record { site = refl; who = ann; dependency = none; begun = was_shown 0 (r1 kinds) _ _ (inl (refl, refl)); place = refl; earlier = refl }) tt (refl, record { ready = λ h. off h; fold = λ h. off h; known = has.counters; fits = fits_more kinds has; object = refl; effect = refl; stamped = refl }, refl) (record { early = untried (r1 kinds) both refl; number = refl })
+  run2 = go kinds (r1 kinds) (p1 kinds) here1 (e2 kinds) (done (p1 kinds here1) (e2 kinds)) run1 place_here1
+      (record { site = refl; who = ann; dependency = none; begun = was_shown 0 (r1 kinds) _ _ (inl (refl, refl)); place = refl; earlier = refl })
+      tt
+      (refl, record { ready = λ h. off h; fold = λ h. off h; known = has.counters; fits = fits_more kinds has; object = refl; effect = refl; stamped = refl }, refl)
+      (record { early = untried (r1 kinds) both refl; number = refl })
 
   pub run3 : IsWorldRun kinds 2 2 (r3 kinds) (p3 kinds)
-  run3 = go kinds (r2 kinds) (p2 kinds) here1 (e3 kinds) (done ((p2 kinds) here1) (e3 kinds)) run2 place_here1 (record { site = refl; who = ann; dependency = none; begun = was_shown 1 (r2 kinds) _ _ (inl (refl, refl)); place = refl; earlier = refl }) tt (refl, record { ready = λ h. record { clock = lit≤ tt; free = λ u k. off k }; fold = λ h. record { order = tt; members = λ u. refl; exact = tt }; known = has.flags; fits = fits_on kinds has; object = refl; effect = refl; stamped = refl }, refl) (record { early = untried (r2 kinds) both refl; number = refl })
+  run3 = go kinds (r2 kinds) (p2 kinds) here1 (e3 kinds) (done (p2 kinds here1) (e3 kinds)) run2 place_here1
+      (record { site = refl; who = ann; dependency = none; begun = was_shown 1 (r2 kinds) _ _ (inl (refl, refl)); place = refl; earlier = refl })
+      tt
+      (refl, record { ready = λ h. record { clock = lit≤ tt; free = λ u k. off k }; fold = λ h. record { order = tt; members = λ u. refl; exact = tt }; known = has.flags; fits = fits_on kinds has; object = refl; effect = refl; stamped = refl }, refl)
+      (record { early = untried (r2 kinds) both refl; number = refl })
 
   pub run4 : IsWorldRun kinds 2 2 (r4 kinds) (p4 kinds)
-  run4 = stay kinds (r3 kinds) (p3 kinds) here2 (e4 kinds) run3 place_here2 (record { site = refl; who = ann; dependency = none; begun = was_shown 2 (r3 kinds) _ _ (inl (refl, refl)) }, refl) tt ((refl, (refl, lit< tt)), refl) tt
+  run4 = stay kinds (r3 kinds) (p3 kinds) here2 (e4 kinds) run3 place_here2
+      (record { site = refl; who = ann; dependency = none; begun = was_shown 2 (r3 kinds) _ _ (inl (refl, refl)) }, refl)
+      tt
+      ((refl, (refl, lit< tt)), refl)
+      tt
 
   pub run5 : IsWorldRun kinds 2 2 (r5 kinds) (p5 kinds)
-  run5 = stay kinds (r4 kinds) (p4 kinds) here2 (e5 kinds) run4 place_here2 (record { site = refl; who = ann; dependency = none; begun = was_shown 3 (r4 kinds) _ _ (inl (refl, refl)) }, refl) (fits_on kinds has) ((refl, (refl, refl, lit< tt, fits_on kinds has)), refl) tt
+  run5 = stay kinds (r4 kinds) (p4 kinds) here2 (e5 kinds) run4 place_here2
+      (record { site = refl; who = ann; dependency = none; begun = was_shown 3 (r4 kinds) _ _ (inl (refl, refl)) }, refl)
+      (fits_on kinds has)
+      ((refl, (refl, refl, lit< tt, fits_on kinds has)), refl)
+      tt
 
   pub run6 : IsWorldRun kinds 2 2 (r6 kinds) (p6 kinds)
-  run6 = go kinds (r5 kinds) (p5 kinds) here2 (e6 kinds) (done ((p5 kinds) here2) (e6 kinds)) run5 place_here2 (record { site = refl; who = ann; dependency = none; begun = was_shown 4 (r5 kinds) _ _ (inl (refl, refl)); place = refl; earlier = refl }) tt (refl, record { ready = λ h. off h; fold = λ h. off h; known = has.counters; fits = fits_more kinds has; object = refl; effect = refl; stamped = refl }, refl) (record { early = untried (r5 kinds) both refl; number = refl })
+  run6 = go kinds (r5 kinds) (p5 kinds) here2 (e6 kinds) (done (p5 kinds here2) (e6 kinds)) run5 place_here2
+      (record { site = refl; who = ann; dependency = none; begun = was_shown 4 (r5 kinds) _ _ (inl (refl, refl)); place = refl; earlier = refl })
+      tt
+      (refl, record { ready = λ h. off h; fold = λ h. off h; known = has.counters; fits = fits_more kinds has; object = refl; effect = refl; stamped = refl }, refl)
+      (record { early = untried (r5 kinds) both refl; number = refl })
 
   pub run7 : IsWorldRun kinds 2 2 (r7 kinds) (p7 kinds)
-  run7 = go kinds (r6 kinds) (p6 kinds) here1 (e7 kinds) (done ((p6 kinds) here1) (e7 kinds)) run6 place_here1 (record { fresh = refl; after_lead = λ ne. absurd (ne refl); takes = refl; snapshot = refl; lead = refl; changes = refl }) tt (refl, (lit≤ tt, refl, lit< tt), refl) tt
+  run7 = go kinds (r6 kinds) (p6 kinds) here1 (e7 kinds) (done (p6 kinds here1) (e7 kinds)) run6 place_here1
+      (record { fresh = refl; after_lead = λ ne. absurd (ne refl); takes = refl; snapshot = refl; lead = refl; changes = refl })
+      tt
+      (refl, (lit≤ tt, refl, lit< tt), refl)
+      tt
 
   pub run8 : IsWorldRun kinds 2 2 (r8 kinds) (p8 kinds)
-  run8 = stay kinds (r7 kinds) (p7 kinds) here2 (e8 kinds) run7 place_here2 (record { site = refl; who = ann; dependency = none; begun = was_shown 6 (r7 kinds) _ _ (inl (refl, refl)) }, refl) tt ((refl, (refl, lit< tt)), refl) tt
+  run8 = stay kinds (r7 kinds) (p7 kinds) here2 (e8 kinds) run7 place_here2
+      (record { site = refl; who = ann; dependency = none; begun = was_shown 6 (r7 kinds) _ _ (inl (refl, refl)) }, refl)
+      tt
+      ((refl, (refl, lit< tt)), refl)
+      tt
 
   pub run9 : IsWorldRun kinds 2 2 (r9 kinds) (p9 kinds)
-  run9 = go kinds (r8 kinds) (p8 kinds) here2 (e9 kinds) (done ((p8 kinds) here2) (e9 kinds)) run8 place_here2 tt tt (refl, (refl, lit≤ tt), refl) tt
+  run9 = go kinds (r8 kinds) (p8 kinds) here2 (e9 kinds) (done (p8 kinds here2) (e9 kinds)) run8 place_here2
+      tt
+      tt
+      (refl, (refl, lit≤ tt), refl)
+      tt
 
   pub run10 : IsWorldRun kinds 2 2 (r10 kinds) (p10 kinds)
-  run10 = go kinds (r9 kinds) (p9 kinds) here2 (e10 kinds) (done ((p9 kinds) here2) (e10 kinds)) run9 place_here2 (record { fresh = refl; after_lead = λ ne. refl; takes = refl; snapshot = refl; lead = refl; changes = refl }) tt (refl, (lit≤ tt, refl, lit< tt), refl) tt
+  run10 = go kinds (r9 kinds) (p9 kinds) here2 (e10 kinds) (done (p9 kinds here2) (e10 kinds)) run9 place_here2
+      (record { fresh = refl; after_lead = λ ne. refl; takes = refl; snapshot = refl; lead = refl; changes = refl })
+      tt
+      (refl, (lit≤ tt, refl, lit< tt), refl)
+      tt
 
   pub run11 : IsWorldRun kinds 2 2 (r11 kinds) (p11 kinds)
-  run11 = stay kinds (r10 kinds) (p10 kinds) here1 (e11 kinds) run10 place_here1 tt tt refl tt
+  run11 = stay kinds (r10 kinds) (p10 kinds) here1 (e11 kinds) run10 place_here1
+      tt
+      tt
+      refl
+      tt
 
   pub run12 : IsWorldRun kinds 2 2 (r12 kinds) (p12 kinds)
-  run12 = go kinds (r11 kinds) (p11 kinds) here1 (e12 kinds) (done ((p11 kinds) here1) (e12 kinds)) run11 place_here1 (record { vectors = []; known = tt; is = refl }) tt (refl, record { early = lit< tt; named = refl; handed = refl; width = refl; own = refl; stable = at_second _ refl; waited = at_second _ (lit≤ tt) }, refl) tt
+  run12 = go kinds (r11 kinds) (p11 kinds) here1 (e12 kinds) (done (p11 kinds here1) (e12 kinds)) run11 place_here1
+      (record { vectors = []; known = tt; is = refl })
+      tt
+      (refl, record { early = lit< tt; named = refl; handed = refl; width = refl; own = refl; stable = at_second _ refl; waited = at_second _ (lit≤ tt) }, refl)
+      tt
 
   -- nothing else is pending
   first_alone : (w : TxId) → pending (p12 kinds here1).log w ≡ true → pending_cmp (w, prepare_time (p12 kinds here1).log w) (both, 2) ≢ Less
@@ -297,13 +346,25 @@ module _ {S E : Type 0} (kinds : Kinds S E) (has : HaveBoth kinds) where
       (cases_Bool (same_tx both w))
 
   pub run13 : IsWorldRun kinds 2 2 (r13 kinds) (p13 kinds)
-  run13 = stay kinds (r12 kinds) (p12 kinds) here1 (e13 kinds) run12 place_here1 (record { site = refl; who = ben; dependency = none; begun = was_shown 0 (r12 kinds) _ _ (inl (refl, refl)) }, refl) tt ((refl, (record { clock = lit≤ tt; waiting = refl; changes = refl; time = refl; early = lit≤ tt; first = λ w h k. first_alone w h })), refl) tt
+  run13 = stay kinds (r12 kinds) (p12 kinds) here1 (e13 kinds) run12 place_here1
+      (record { site = refl; who = ben; dependency = none; begun = was_shown 0 (r12 kinds) _ _ (inl (refl, refl)) }, refl)
+      tt
+      ((refl, (record { clock = lit≤ tt; waiting = refl; changes = refl; time = refl; early = lit≤ tt; first = λ w h k. first_alone w h })), refl)
+      tt
 
   pub run14 : IsWorldRun kinds 2 2 (r14 kinds) (p14 kinds)
-  run14 = stay kinds (r13 kinds) (p13 kinds) here1 (e14 kinds) run13 place_here1 (record { site = refl; who = ben; dependency = none; begun = was_shown 1 (r13 kinds) _ _ (inl (refl, refl)) }, refl) (fits_on kinds has) ((refl, (refl, (record { clock = lit≤ tt; waiting = refl; changes = refl; time = refl; early = lit≤ tt; first = λ w h k. first_alone w h }), fits_on kinds has)), refl) tt
+  run14 = stay kinds (r13 kinds) (p13 kinds) here1 (e14 kinds) run13 place_here1
+      (record { site = refl; who = ben; dependency = none; begun = was_shown 1 (r13 kinds) _ _ (inl (refl, refl)) }, refl)
+      (fits_on kinds has)
+      ((refl, (refl, (record { clock = lit≤ tt; waiting = refl; changes = refl; time = refl; early = lit≤ tt; first = λ w h k. first_alone w h }), fits_on kinds has)), refl)
+      tt
 
   pub run15 : IsWorldRun kinds 2 2 (r15 kinds) (p15 kinds)
-  run15 = stay kinds (r14 kinds) (p14 kinds) here1 (e15 kinds) run14 place_here1 refl tt ((refl, refl), refl) tt
+  run15 = stay kinds (r14 kinds) (p14 kinds) here1 (e15 kinds) run14 place_here1
+      refl
+      tt
+      ((refl, refl), refl)
+      tt
 
   all_voted : (q : PartId) → takes_part (plan_of 2 2 (r16 kinds)) both q ≡ true → voted (r15 kinds) both q ≡ true
   all_voted q h = ⊎_elim
@@ -315,26 +376,50 @@ module _ {S E : Type 0} (kinds : Kinds S E) (has : HaveBoth kinds) where
       (cases_Bool (same_part here1 q))
 
   pub run16 : IsWorldRun kinds 2 2 (r16 kinds) (p16 kinds)
-  run16 = go kinds (r15 kinds) (p15 kinds) here1 (e16 kinds) (done ((p15 kinds) here1) (e16 kinds)) run15 place_here1 (record { lead = refl; here = refl; all = all_voted; kept = refl; once = refl; vector = refl }) tt (refl, refl, refl) tt
+  run16 = go kinds (r15 kinds) (p15 kinds) here1 (e16 kinds) (done (p15 kinds here1) (e16 kinds)) run15 place_here1
+      (record { lead = refl; here = refl; all = all_voted; kept = refl; once = refl; vector = refl })
+      tt
+      (refl, refl, refl)
+      tt
 
   pub run17 : IsWorldRun kinds 2 2 (r17 kinds) (p17 kinds)
-  run17 = go kinds (r16 kinds) (p16 kinds) here2 (e17 kinds) (done ((p16 kinds) here2) (e17 kinds)) run16 place_here2 (record { decided = refl; vector = refl }) tt (refl, refl, refl) tt
+  run17 = go kinds (r16 kinds) (p16 kinds) here2 (e17 kinds) (done (p16 kinds here2) (e17 kinds)) run16 place_here2
+      (record { decided = refl; vector = refl })
+      tt
+      (refl, refl, refl)
+      tt
 
   pub run18 : IsWorldRun kinds 2 2 (r18 kinds) (p18 kinds)
-  run18 = go kinds (r17 kinds) (p17 kinds) here1 (e18 kinds) (done ((p17 kinds) here1) (e18 kinds)) run17 place_here1 (record { vectors = (6 ∷ 0 ∷ []) ∷ []; known = (was_vector 1 (r17 kinds) _ (inl refl), tt); is = refl }) tt (refl, record { early = lit< tt; named = refl; handed = refl; width = refl; own = refl; stable = at_second _ refl; waited = at_second _ (lit≤ tt) }, refl) tt
+  run18 = go kinds (r17 kinds) (p17 kinds) here1 (e18 kinds) (done (p17 kinds here1) (e18 kinds)) run17 place_here1
+      (record { vectors = (6 ∷ 0 ∷ []) ∷ []; known = (was_vector 1 (r17 kinds) _ (inl refl), tt); is = refl })
+      tt
+      (refl, record { early = lit< tt; named = refl; handed = refl; width = refl; own = refl; stable = at_second _ refl; waited = at_second _ (lit≤ tt) }, refl)
+      tt
 
   pub run19 : IsWorldRun kinds 2 2 (r19 kinds) (p19 kinds)
-  run19 = stay kinds (r18 kinds) (p18 kinds) here1 (e19 kinds) run18 place_here1 (record { site = refl; who = ann; dependency = (6 ∷ 0 ∷ []); begun = was_shown 0 (r18 kinds) _ _ (inl (refl, refl)) }, refl) tt ((refl, (refl, lit< tt)), refl) tt
+  run19 = stay kinds (r18 kinds) (p18 kinds) here1 (e19 kinds) run18 place_here1
+      (record { site = refl; who = ann; dependency = (6 ∷ 0 ∷ []); begun = was_shown 0 (r18 kinds) _ _ (inl (refl, refl)) }, refl)
+      tt
+      ((refl, (refl, lit< tt)), refl)
+      tt
 
   pub run20 : IsWorldRun kinds 2 2 (r20 kinds) (p20 kinds)
-  run20 = go kinds (r19 kinds) (p19 kinds) here1 (e20 kinds) (done ((p19 kinds) here1) (e20 kinds)) run19 place_here1 tt tt (refl, (refl, lit≤ tt), refl) tt
+  run20 = go kinds (r19 kinds) (p19 kinds) here1 (e20 kinds) (done (p19 kinds here1) (e20 kinds)) run19 place_here1
+      tt
+      tt
+      (refl, (refl, lit≤ tt), refl)
+      tt
 
   seen_here : (b : Bool) → (b || false) ≡ (((b || false) || false) && (touches (cond (b || false) (cond b (change1 kinds ∷ change2 kinds ∷ []) []) []) counter1 && le (cond (b || false) (cond b (6 ∷ 0 ∷ []) []) []) (6 ∷ 0 ∷ [])))
   seen_here true = refl
   seen_here false = refl
 
   pub run21 : IsWorldRun kinds 2 2 (r21 kinds) (p21 kinds)
-  run21 = go kinds (r20 kinds) (p20 kinds) here1 (e21 kinds) (done ((p20 kinds) here1) (e21 kinds)) run20 place_here1 (record { site = refl; who = ann; dependency = (6 ∷ 0 ∷ []); begun = was_shown 2 (r20 kinds) _ _ (inl (refl, refl)); place = refl; earlier = refl }) tt (refl, (record { clock = lit≤ tt; free = λ u h. clash h (none_left (same_tx both u)) }, record { order = (tt, tt); members = λ u. seen_here (same_tx both u); exact = ((refl, refl), tt) }, has.counters, refl), refl) tt
+  run21 = go kinds (r20 kinds) (p20 kinds) here1 (e21 kinds) (done (p20 kinds here1) (e21 kinds)) run20 place_here1
+      (record { site = refl; who = ann; dependency = (6 ∷ 0 ∷ []); begun = was_shown 2 (r20 kinds) _ _ (inl (refl, refl)); place = refl; earlier = refl })
+      tt
+      (refl, (record { clock = lit≤ tt; free = λ u h. clash h (none_left (same_tx both u)) }, record { order = (tt, tt); members = λ u. seen_here (same_tx both u); exact = ((refl, refl), tt) }, has.counters, refl), refl)
+      tt
 
   lines_are_lawful : IsLawful kinds.too_deep kinds.meaning 2 2 (lines_of (r21 kinds))
   lines_are_lawful = (law_world kinds 2 2 (r21 kinds) (p21 kinds) run21).2

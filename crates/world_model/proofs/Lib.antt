@@ -39,6 +39,9 @@ pub mod Law
 pub mod Example
 pub mod ExampleCluster
 pub mod ExampleCommit
+pub mod ExampleSites
+pub mod ExampleAborts
+pub mod ExampleFaults
 pub mod Traces
 pub mod Asks
 pub mod Premises
