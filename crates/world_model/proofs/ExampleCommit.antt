@@ -28,6 +28,7 @@ use Rattle.world_model.specs.World.{plan_of, is_own, IsWorldRun}
 use Rattle.world_model.proofs.Names.{clash, off}
 use Rattle.world_model.proofs.Law.{law_world}
 use Rattle.world_model.proofs.ExampleCluster.{here1, here2, place_here1, place_here2, at_second, counter1, flag1, counter2, flag2, more, on, ann, ben, none, no_updates, none_left, was_shown, was_vector, put, go, stay, HaveBoth, fits_more, fits_on, untried}
+use Rattle.world_model.specs.Dependency.{HandsOwn, KeepsPast}
 use Rattle.world_model.specs.declared.step.Step.TheVariants as step
 
 abbrev pub both : TxId
@@ -423,6 +424,13 @@ module _ {S E : Type 0} (kinds : Kinds S E) (has : HaveBoth kinds) where
 
   lines_are_lawful : IsLawful kinds.too_deep kinds.meaning 2 2 (lines_of (r21 kinds))
   lines_are_lawful = (law_world kinds 2 2 (r21 kinds) (p21 kinds) run21).2
+
+  -- each begin was handed what its session depends on, so each snapshot holds its past
+  pub own_past : HandsOwn 2 (lines_of (r21 kinds))
+  own_past = (tt, (tt, (tt, (refl, (tt, (tt, (tt, (tt, (tt, (refl, (tt, (tt, (tt, (tt, (tt, (tt, (tt, (tt, (tt, (tt, (refl, tt)))))))))))))))))))))
+
+  past_is_kept : KeepsPast 2 (lines_of (r21 kinds))
+  past_is_kept = lines_are_lawful.past own_past
 
   -- what the run shows, the first line first
   shown : reverse (map (λ l. l.step) (lines_of (r21 kinds))) ≡

@@ -1,6 +1,6 @@
 -- After the commit at two partitions: its parts come to the other site, with a gap and a repeat; a begin there waits until a report
 -- of the other partition was heard, and sees it; and at the end of time neither a vote nor a begin can be had.
-use Rattle.std.proofs.Common.{◌≡◌, inl, cond, leb, ltb, Bool, true, false, ◌&&◌, ◌||◌, List, [], ◌∷◌, None, refl, lit≤, lit<, le_refl}
+use Rattle.std.proofs.Common.{◌≡◌, inl, ℕ, cond, leb, ltb, Bool, true, false, ◌&&◌, ◌||◌, List, [], ◌∷◌, None, refl, lit≤, lit<, le_refl}
 use Rattle.std.specs.Prelude.{map, reverse, ◌++◌}
 use Rattle.site_vector.specs.declared.ids.PartId.{PartId}
 use Rattle.site_vector.specs.declared.ids.TxId.{TxId}
@@ -22,9 +22,14 @@ use Rattle.world_model.specs.Partition.{PartState, done}
 use Rattle.world_model.specs.World.{IsWorldRun}
 use Rattle.world_model.proofs.Names.{clash, off}
 use Rattle.world_model.proofs.Law.{law_world}
-use Rattle.world_model.proofs.ExampleCluster.{here1, here2, there1, there2, place_here1, place_here2, place_there1, place_there2, second_of_first, first_of_second, at_first, counter1, counter2, more, ann, ben, none, none_left, was_shown, was_numbered, was_vector, put, go, stay, HaveBoth, fits_more, untried}
-use Rattle.world_model.proofs.ExampleCommit.{both, change1, change2, change3, part1, r21, p21, run21}
+use Rattle.world_model.proofs.ExampleCluster.{here1, here2, there1, there2, place_here1, place_here2, place_there1, place_there2, second_of_first, first_of_second, at_first, counter1, counter2, more, ann, none, none_left, was_shown, was_numbered, was_vector, put, go, stay, HaveBoth, fits_more, untried}
+use Rattle.world_model.specs.Dependency.{HandsOwn, KeepsPast}
+use Rattle.world_model.proofs.ExampleCommit.{both, change1, change2, change3, part1, r21, p21, run21, own_past}
 use Rattle.world_model.specs.declared.step.Step.TheVariants as step
+
+-- a third session
+abbrev pub cal : List ℕ
+cal = 99 ∷ []
 
 abbrev pub moved : TxId
 moved = record { site = 2; part = 1; time = 1 }
@@ -106,7 +111,7 @@ module _ {S E : Type 0} (kinds : Kinds S E) where
   e15 = Refused (AskPrepare moved (6 ∷ 1 ∷ []) 2 (change4 ∷ [])) ClockAtEnd
 
   abbrev pub e16 : Event E
-  e16 = Refused (AskBegin ben none) ClockAtEnd
+  e16 = Refused (AskBegin cal none) ClockAtEnd
 
   abbrev pub r1 : List (Entry E)
   r1 = (record { at = here1; event = e1 }) ∷ r0
@@ -338,6 +343,13 @@ module _ {S E : Type 0} (kinds : Kinds S E) (has : HaveBoth kinds) where
 
   lines_are_lawful : IsLawful kinds.too_deep kinds.meaning 2 2 (lines_of (r16 kinds))
   lines_are_lawful = (law_world kinds 2 2 (r16 kinds) (p16 kinds) run16).2
+
+  -- each begin was handed what its session depends on, so each snapshot holds its past, also that of the session which moved
+  own : HandsOwn 2 (lines_of (r16 kinds))
+  own = (refl, (tt, (tt, (tt, (tt, (refl, (tt, (tt, (tt, (tt, (refl, (tt, (tt, (tt, (tt, (tt, own_past kinds has))))))))))))))))
+
+  past_is_kept : KeepsPast 2 (lines_of (r16 kinds))
+  past_is_kept = lines_are_lawful.past own
 
   -- what the run shows after the commit, the first line first
   shown : reverse (map (λ l. l.step) (lines_of (r16 kinds))) ≡ reverse (map (λ l. l.step) (lines_of (r0 kinds))) ++
