@@ -37,6 +37,11 @@ pub mod Fitted
 pub mod Whole
 pub mod Law
 pub mod Example
+pub mod ExampleCluster
+pub mod ExampleCommit
+pub mod ExampleSites
+pub mod ExampleAborts
+pub mod ExampleFaults
 pub mod Traces
 pub mod Asks
 pub mod Premises
