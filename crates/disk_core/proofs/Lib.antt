@@ -1,2 +1,3 @@
 pub mod Empty
 pub mod Overwrites
+pub mod Torn

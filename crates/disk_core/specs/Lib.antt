@@ -7,3 +7,5 @@ pub mod Noted
 pub mod Mediums
 pub mod MemDisks
 pub mod SureDisks
+pub mod Fuses
+pub mod Burns

@@ -3,6 +3,8 @@
 
 mod calls;
 mod disk;
+mod fuse;
+mod fused;
 mod medium;
 mod memory;
 mod sure;
@@ -10,3 +12,4 @@ mod trail;
 pub use disk::{Disk, Failed};
 pub use memory::MemDisk;
 pub use sure::SureDisk;
+pub use fused::Fused;
