@@ -1,12 +1,12 @@
 -- What a write leaves where it stands, whole or torn.
-use Rattle.std.proofs.Common.{◌≡◌, ◌⊎◌, inl, inr, ⊎_elim, ℕ, ◌+◌, ◌-◌, ◌<◌, ◌≤◌, max, min, Bool, true, false, List, [], ◌∷◌, ◌++◌, length, get_or, take, drop, refl, sym, ap, ◌∙◌, subst, arith, length-append, length-take, length-drop, Result, Ok, Err, OnOk, OnErr}
-use Rattle.std.proofs.lemmas.List.{take_min, take_all, take_at, take-append-le, append-nil}
+use Rattle.std.proofs.Common.{◌≡◌, ◌⊎◌, inl, inr, ⊎_elim, ℕ, ◌+◌, ◌-◌, ◌<◌, ◌≤◌, max, min, true, false, List, [], ◌∷◌, ◌++◌, length, get_or, take, refl, sym, ap, ◌∙◌, subst, arith, length-append, length-take, length-drop}
+use Rattle.std.proofs.lemmas.List.{take_min, take_all, take-append-le, append-nil}
 use Rattle.std.proofs.Math.Seq.{take-append-add}
 use Rattle.std.proofs.lemmas.Bool.{cases_lt, false≢true}
 use Rattle.std.proofs.lemmas.Bool.Decides.{nat_tests}
 use Rattle.std.proofs.lemmas.Grind.{elements}
 use Rattle.disk_core.specs.Images.{Content, IsTorn, is_written, overwritten, after_write}
-use Rattle.disk_core.specs.States.{Story, DiskState, Called, IsWithin, Writes, MayTear}
+use Rattle.disk_core.specs.States.{Story, DiskState, IsWithin, MayTear}
 use Rattle.disk_core.specs.Burns.{WritesOrFails}
 
 -- a write stays away from what stands before and behind it
@@ -56,7 +56,6 @@ front_tears at n front old new within less went told = ⊎_elim
     inr (length front, less, torn, ap (λ (s : Story). s.past) (wrote told)))
     (λ failed. ⊎_elim (λ same. inl same) (λ torn. inr (torn.0, omega (arith, torn.1, less), torn.2, torn.3)) (failed.0 told))
     went
-
 
 -- a front of two pieces is a front of each
 front_of_two : (n x y : ℕ) (a b : List ℕ) → x ≡ min n (length a) → y ≡ n - x → take n (a ++ b) ≡ take x a ++ take y b

@@ -1,7 +1,7 @@
 -- What contracts tell of a disk with a fuse.
 use Rattle.std.proofs.Common.{arith}
-use Rattle.std.specs.Prelude.{◌≡◌, ◌≢◌, ◌⊎◌, ℕ, ◌+◌, ◌-◌, ◌^◌, ◌≤◌, min, List, length, Option, Some, Result, OnErr, IsErr, IsTrue}
-use Rattle.disk_core.specs.States.{DiskState, fewer, Rose, moved, Writes, TearsAtMost, MayTear}
+use Rattle.std.specs.Prelude.{◌≡◌, ◌≢◌, ℕ, ◌+◌, ◌-◌, ◌^◌, ◌≤◌, min, Option, Some, Result, OnErr, IsErr}
+use Rattle.disk_core.specs.States.{DiskState, fewer, Rose}
 use Rattle.disk_core.specs.declared.fused.Fused.{Fused}
 
 -- the disk inside

@@ -1,5 +1,5 @@
 -- What a disk is, and how its calls change it.
-use Rattle.std.specs.Prelude.{◌≡◌, ◌⊎◌, ℕ, ◌+◌, ◌-◌, ◌^◌, ◌≤◌, min, Bool, List, [], ◌∷◌, length, IsTrue, Option, option_map, Result, OnOk, OnErr}
+use Rattle.std.specs.Prelude.{◌≡◌, ◌⊎◌, ℕ, ◌+◌, ◌-◌, ◌^◌, ◌≤◌, min, Bool, List, ◌∷◌, length, IsTrue, Option, option_map, Result, OnOk, OnErr}
 use Rattle.disk_core.specs.Images.{Content, Image, IsTorn, after_write, after_cut, after_sync}
 
 -- what it holds, and what it held before each change, the newest first

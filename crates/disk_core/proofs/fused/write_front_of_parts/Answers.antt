@@ -1,4 +1,4 @@
-use Rattle.std.proofs.Common.{◌≡◌, ◌⊎◌, inl, inr, ℕ, List, ◌++◌, length, take, subst, Result, Ok, Err, OnOk, OnErr}
+use Rattle.std.proofs.Common.{◌≡◌, inl, inr, ℕ, List, ◌++◌, length, take, subst, Result, Ok, Err, OnOk, OnErr}
 use Rattle.disk_core.specs.declared.disk.Failed.{Failed}
 use Rattle.disk_core.specs.States.{DiskState, Called, Writes, MayTear}
 use Rattle.disk_core.specs.Burns.{WritesOrFails}

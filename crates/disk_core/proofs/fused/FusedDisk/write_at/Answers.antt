@@ -1,4 +1,4 @@
-use Rattle.std.proofs.Common.{◌++◌, take, length, arith, length-take}
+use Rattle.std.proofs.Common.{take, length, arith, length-take}
 use Rattle.disk_core.proofs.Torn.{front_tears}
 use Rattle.disk_core.proofs.fused.FusedDisk.write_at.Goals as goal
 
