@@ -1,5 +1,5 @@
 -- What a fuse does at a call.
-use Rattle.std.specs.Prelude.{◌≡◌, ◌≢◌, ◌⊎◌, ℕ, ◌≤◌, List, length, IsTrue, Option, Some}
+use Rattle.std.specs.Prelude.{◌≡◌, ◌≢◌, ◌⊎◌, ℕ, List, length, Option, Some}
 use Rattle.disk_core.specs.States.{DiskState, Rose, Writes, MayTear}
 use Rattle.disk_core.specs.Counts.{counted}
 use Rattle.disk_core.specs.declared.fuse.Burn.{Burn}
@@ -14,10 +14,3 @@ IsBurn Fired left before now = (left ≡ Some 0) × (now ≡ counted before)
 -- these bytes are written, or the disk failed at them by itself
 abbrev pub WritesOrFails : ℕ → List ℕ → DiskState → DiskState → Type 0
 WritesOrFails at bytes old new = Writes at bytes old new ⊎ (MayTear at (length bytes) old new × Rose old.faults new.faults)
-
--- What holds after a call whatever it answers.
-pub record GoesOn (old new : DiskState) : Type 0 where
-  pub tells : new.tells ≡ old.tells
-  pub room : new.room ≡ old.room
-  pub later : old.faults ≤ new.faults
-  pub starved : IsTrue old.starved → IsTrue new.starved

@@ -40,6 +40,13 @@ pub record Called {T E : Type 0} (result : Result T E) (old new : DiskState) : T
   pub fed : OnOk result (new.starved ≡ old.starved)
   pub starved : IsTrue old.starved → IsTrue new.starved
 
+-- What holds after any number of calls, whatever they answered.
+pub record GoesOn (old new : DiskState) : Type 0 where
+  pub tells : new.tells ≡ old.tells
+  pub room : new.room ≡ old.room
+  pub later : old.faults ≤ new.faults
+  pub starved : IsTrue old.starved → IsTrue new.starved
+
 -- a new content, and the old one past
 abbrev pub moved : Content → Story → Story
 moved next old = record { now = next; past = old.now ∷ old.past }

@@ -2,8 +2,11 @@
 ghost use Rattle.std.specs.Prelude.{◌≡◌, ◌≤◌, ◌-◌, ◌+◌, ◌++◌, ◌^◌, length, take, drop, IsTrue, IfOk, OnOk, OnErr};
 ghost use Rattle.disk_core.specs.States.{DiskState, Called, IsWithin, Rests, Writes, Cuts, Syncs, MayTear, ReadsAnImage, bytes_of};
 
+use thiserror::Error;
+
 /// A call of the device failed.
-#[derive(Clone, Copy, Debug, PartialEq, Eq)]
+#[derive(Clone, Copy, Debug, PartialEq, Eq, Error)]
+#[error("the disk failed")]
 pub struct Failed;
 
 /// A file of bytes that a crash may cut, tear and leave unwritten, back to its last sync.

@@ -1,7 +1,7 @@
 // A disk that fails at a call that is picked, and from then on.
 ghost use Rattle.std.specs.Prelude.{◌≡◌, ◌≤◌, ◌+◌, ◌-◌, ◌^◌, ◌++◌, ◌↔◌, ◌≢◌, length, take, drop, min, Some, None, IsTrue, IfOk, OnOk, OnErr};
-ghost use Rattle.disk_core.specs.States.{DiskState, Called, IsWithin, Rests, Writes, Cuts, Syncs, MayTear, Rose, bytes_of};
-ghost use Rattle.disk_core.specs.Burns.{GoesOn, WritesOrFails};
+ghost use Rattle.disk_core.specs.States.{DiskState, Called, GoesOn, IsWithin, Rests, Writes, Cuts, Syncs, MayTear, Rose, bytes_of};
+ghost use Rattle.disk_core.specs.Burns.{WritesOrFails};
 
 use crate::fuse::{Burn, burn_down};
 use crate::{Disk, Failed};

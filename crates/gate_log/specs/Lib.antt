@@ -1,0 +1,4 @@
+pub mod Log
+pub mod Damage
+pub mod Payloads
+pub mod Rest

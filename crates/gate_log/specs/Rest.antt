@@ -1,0 +1,18 @@
+-- A log between two calls.
+use Rattle.std.specs.Prelude.{◌≡◌, ℕ, ◌≤◌, List, IsTrue}
+use Rattle.disk_core.specs.Images.{IsSettled}
+use Rattle.disk_core.specs.States.{DiskState, fewer}
+use Rattle.gate_log.specs.Log.{IsLog, end_of}
+
+-- The disk tells what it holds, all of it is durable, and it is a log of these payloads, whose closed gate stands at `end`.
+pub record AtRest (disk : DiskState) (end : ℕ) (payloads : List (List ℕ)) : Type 0 where
+  pub tells : IsTrue disk.tells
+  pub settled : IsSettled disk.story.now
+  pub log : IsLog disk.story.now.bytes payloads
+  pub place : end ≡ end_of payloads
+
+-- So many calls of the disk were made at most.
+pub record Lowers (most : ℕ) (old new : DiskState) : Type 0 where
+  pub count : ℕ
+  pub less : count ≤ most
+  pub left : new.left ≡ fewer count old.left
