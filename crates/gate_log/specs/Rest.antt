@@ -1,5 +1,5 @@
 -- A log between two calls.
-use Rattle.std.specs.Prelude.{◌≡◌, ℕ, ◌≤◌, List, IsTrue}
+use Rattle.std.specs.Prelude.{◌≡◌, ℕ, ◌≤◌, List, Option, IsTrue}
 use Rattle.disk_core.specs.Images.{IsSettled}
 use Rattle.disk_core.specs.States.{DiskState, fewer}
 use Rattle.gate_log.specs.Log.{IsLog, end_of}
@@ -11,8 +11,8 @@ pub record AtRest (disk : DiskState) (end : ℕ) (payloads : List (List ℕ)) : 
   pub log : IsLog disk.story.now.bytes payloads
   pub place : end ≡ end_of payloads
 
--- So many calls of the disk were made at most.
-pub record Lowers (most : ℕ) (old new : DiskState) : Type 0 where
+-- So many calls of the disk were made at most, by the calls that were left before and after.
+pub record Lowers (most : ℕ) (before after : Option ℕ) : Type 0 where
   pub count : ℕ
   pub less : count ≤ most
-  pub left : new.left ≡ fewer count old.left
+  pub left : after ≡ fewer count before

@@ -18,7 +18,7 @@ pub fn format<D: Disk>(disk: &mut D) -> Result<(), Failed>
     ensures formatted { OnOk result (IsTrue (D.state disk.old).tells → AtRest (D.state disk.new) 8 []) }
     ensures goes_on { GoesOn (D.state disk.old) (D.state disk.new) }
     ensures failed { OnErr result (Rose (D.state disk.old).faults (D.state disk.new).faults) }
-    ensures left { Lowers 2 (D.state disk.old) (D.state disk.new) }
+    ensures left { Lowers 2 (D.state disk.old).left (D.state disk.new).left }
 {
     disk.write_at(0, &EMPTY)?;
     disk.sync()

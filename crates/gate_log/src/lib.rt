@@ -1,9 +1,10 @@
 //! A log of byte strings on a disk, in which a record counts once its gate is open.
 #![tactic(auto)]
 
-mod error;
+mod append;
 mod empty;
+mod error;
 mod scan;
 
-pub use error::{AppendError, OpenError};
 pub use empty::format;
+pub use error::{AppendError, OpenError};
