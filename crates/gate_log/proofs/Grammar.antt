@@ -1,11 +1,11 @@
 -- The records of a log, and what is read of one that stands there.
-use Rattle.std.proofs.Common.{◌≡◌, ◌≢◌, ◌⊎◌, inl, inr, ℕ, ◌+◌, ◌^◌, ◌<◌, ◌≤◌, ◌&&◌, Bool, true, false, List, [], ◌∷◌, ◌++◌, length, take, drop, refl, sym, ap, ◌∙◌, subst, arith, append_assoc, length-append}
+use Rattle.std.proofs.Common.{◌≡◌, inl, inr, ℕ, ◌+◌, true, List, [], ◌∷◌, ◌++◌, length, take, drop, refl, sym, ap, ◌∙◌, arith, append_assoc, length-append}
 use Rattle.std.proofs.lemmas.List.{take_at, drop_at, append-nil}
 use Rattle.std.proofs.lemmas.Bool.{cases_eq}
 use Rattle.std.proofs.lemmas.Bool.Decides.{nat_tests}
 use Rattle.std.proofs.lemmas.Nat.{from_be_bytes-to_be_bytes_4}
 use Rattle.std.specs.Int.{w32, to_be_bytes, from_be_bytes}
-use Rattle.gate_log.specs.Log.{header, body, records, IsSized, AreSized, IsLog, IsBeforeOrAfter, end_of}
+use Rattle.gate_log.specs.Log.{header, body, records, IsSized, AreSized, IsBeforeOrAfter, end_of}
 use Rattle.gate_log.specs.Damage.{told_length, is_whole}
 
 length-bytes : (n : ℕ) → length (to_be_bytes w32 n) ≡ 4
@@ -56,12 +56,12 @@ module _ (payload rest : List ℕ) (sized : IsSized payload) where
 pub either : (payloads : List (List ℕ)) (one : List ℕ) (gate : ℕ) (rest : List ℕ) → AreSized payloads → IsSized one → IsBeforeOrAfter payloads one (header ++ records payloads ++ gate ∷ (body one ++ 0 ∷ rest))
 either payloads one gate rest sized one_sized = elim (cases_eq gate 1) [
   | inl is_open ↦ inr (record {
-      gate = 0;
-      rest = rest;
-      shut = omega arith;
-      is = ap (λ (g : ℕ). header ++ records payloads ++ g ∷ (body one ++ 0 ∷ rest)) is_open ∙ opened payloads one 0 rest;
-      sized = sized-push payloads one sized one_sized;
-    })
+    gate = 0;
+    rest = rest;
+    shut = omega arith;
+    is = ap (λ (g : ℕ). header ++ records payloads ++ g ∷ (body one ++ 0 ∷ rest)) is_open ∙ opened payloads one 0 rest;
+    sized = sized-push payloads one sized one_sized;
+  })
   | inr shut ↦ inl (record { gate = gate; rest = body one ++ 0 ∷ rest; shut = shut; is = refl; sized = sized })
 ]
   where

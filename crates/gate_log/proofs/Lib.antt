@@ -2,3 +2,5 @@ pub mod Grammar
 pub mod Reading
 pub mod Writes
 pub mod Steps
+pub mod Unique
+pub mod Walking

@@ -1,14 +1,14 @@
 -- How far the bytes of a log were read.
-use Rattle.std.proofs.Common.{◌≡◌, ◌≢◌, ◌⊎◌, inl, inr, ℕ, ◌+◌, ◌-◌, ◌^◌, ◌<◌, ◌≤◌, ◌&&◌, Bool, true, false, List, [], ◌∷◌, ◌++◌, length, get_or, take, drop, refl, sym, ap, ◌∙◌, subst, arith, append_assoc, length-append, length-take, length-drop, take-append-drop}
+use Rattle.std.proofs.Common.{◌≡◌, ◌≢◌, inl, inr, ℕ, ◌+◌, ◌^◌, ◌<◌, ◌≤◌, true, false, List, [], ◌∷◌, ◌++◌, length, get_or, take, drop, refl, sym, ap, ◌∙◌, subst, arith, append_assoc, length-append, length-take, length-drop, take-append-drop}
 use Rattle.std.proofs.lemmas.List.{take_more, drop_more, drop_all, get_or-take, get_or-drop, get_or_past}
 use Rattle.std.proofs.lemmas.Bool.{cases_lt}
 use Rattle.std.proofs.Math.Seq.{take-add}
 use Rattle.std.proofs.lemmas.Bool.Decides.{nat_tests}
 use Rattle.std.proofs.lemmas.Nat.{be_bytes_4}
 use Rattle.std.specs.Int.{w32, to_be_bytes}
-use Rattle.gate_log.specs.Log.{header, body, records, IsSized, AreSized, IsLog, end_of}
+use Rattle.gate_log.specs.Log.{header, body, records, AreSized, IsLog, end_of}
 use Rattle.gate_log.specs.Damage.{told_length, is_whole, IsCutOff, IsDamagedAt}
-use Rattle.gate_log.proofs.Grammar.{length-body, records-push, sized-push}
+use Rattle.gate_log.proofs.Grammar.{records-push, sized-push}
 
 whole_parts : (rest : List ℕ) → is_whole rest ≡ true → (4 ≤ length rest) × (1 ≤ told_length rest) × (4 + told_length rest ≤ length rest)
 whole_parts rest is = (grind (arith, nat_tests), grind (arith, nat_tests), grind (arith, nat_tests))

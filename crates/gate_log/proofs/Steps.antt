@@ -1,13 +1,13 @@
 -- An append makes four calls of its disk. After each, whether it answers or fails: what a crash may leave at each moment, and what stands in the end.
-use Rattle.std.proofs.Common.{◌≡◌, ◌≢◌, ◌⊎◌, inl, inr, ℕ, ◌+◌, ◌-◌, ◌<◌, ◌≤◌, Option, Some, None, Bool, List, [], ◌∷◌, ◌++◌, length, get_or, drop, IsTrue, refl, sym, ap, ◌∙◌, subst, arith, append_assoc, length-append}
-use Rattle.disk_core.specs.Images.{Content, Image, IsSettled, IsTorn, overwritten, after_write, after_sync}
+use Rattle.std.proofs.Common.{◌≡◌, inl, inr, ℕ, ◌+◌, ◌-◌, ◌≤◌, Option, Some, None, Bool, List, [], ◌∷◌, ◌++◌, length, get_or, drop, IsTrue, refl, sym, ap, ◌∙◌, subst, arith, append_assoc}
+use Rattle.disk_core.specs.Images.{Content, Image, IsSettled, overwritten, after_write, after_sync}
 use Rattle.disk_core.specs.States.{Story, DiskState, fewer, moved, TearsAtMost}
-use Rattle.disk_core.specs.Moments.{EachImage, AtEachMoment}
+use Rattle.disk_core.specs.Moments.{AtEachMoment}
 use Rattle.disk_core.proofs.Inside.{only_settled, only_synced, synced}
 use Rattle.disk_core.proofs.Moments.{at_first, rested, moved_on, torn_on}
-use Rattle.gate_log.specs.Log.{header, body, records, IsSized, AreSized, IsLog, IsBeforeOrAfter, end_of}
+use Rattle.gate_log.specs.Log.{header, body, records, IsSized, IsLog, IsBeforeOrAfter}
 use Rattle.gate_log.specs.Rest.{AtRest, Lowers}
-use Rattle.gate_log.proofs.Grammar.{length-body, records-push, sized-push, end-push, either}
+use Rattle.gate_log.proofs.Grammar.{records-push, sized-push, end-push, either}
 use Rattle.gate_log.proofs.Writes.{DiffersWithin, of_write, of_torn_write, written_behind, written_over, gate_stays, rest_stays, length-gated}
 
 -- what the first call writes behind the gate

@@ -1,5 +1,5 @@
 -- Which bytes are no log, and at which place.
-use Rattle.std.specs.Prelude.{◌≡◌, ◌≢◌, ◌⊎◌, ℕ, ◌+◌, ◌&&◌, nat_le, Bool, true, false, List, [], ◌∷◌, ◌++◌, length, take, drop}
+use Rattle.std.specs.Prelude.{◌≡◌, ◌≢◌, ◌⊎◌, ℕ, ◌+◌, ◌&&◌, nat_le, Bool, false, List, [], ◌∷◌, ◌++◌, length, take}
 use Rattle.std.specs.Int.{w32, from_be_bytes}
 use Rattle.gate_log.specs.Log.{header, records, AreSized, end_of}
 

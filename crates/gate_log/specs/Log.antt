@@ -1,5 +1,5 @@
 -- The grammar of a log.
-use Rattle.std.specs.Prelude.{◌≡◌, ◌≢◌, ◌⊎◌, ℕ, ◌+◌, ◌^◌, ◌<◌, ◌≤◌, List, [], ◌∷◌, ◌++◌, length, ⊤}
+use Rattle.std.specs.Prelude.{◌≡◌, ◌≢◌, ◌⊎◌, ℕ, ◌^◌, ◌<◌, ◌≤◌, List, [], ◌∷◌, ◌++◌, length, Bool, IsTrue, ⊤}
 use Rattle.std.specs.Int.{w32, to_be_bytes}
 
 -- "CURELOG1"
@@ -38,3 +38,7 @@ end_of payloads = length (header ++ records payloads)
 -- the image is a log of these payloads, or of these and one more
 abbrev pub IsBeforeOrAfter : List (List ℕ) → List ℕ → List ℕ → Type 0
 IsBeforeOrAfter payloads one image = IsLog image payloads ⊎ IsLog image (payloads ++ one ∷ [])
+
+-- the image is a log of a list that passes the test
+abbrev pub IsLogAmong : (List (List ℕ) → Bool) → List ℕ → Type 0
+IsLogAmong among image = (payloads : List (List ℕ)) × IsLog image payloads × IsTrue (among payloads)

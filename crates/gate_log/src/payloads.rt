@@ -64,9 +64,9 @@ impl Contents {
 fn split_record(bytes: &[u8]) -> Option<(&[u8], &[u8])>
     ensures { MatchOption result (is_whole (drop 1 bytes.now) ≡ false)
         (λ parts. (is_whole (drop 1 bytes.now) ≡ true) × (length parts.0.now ≡ told_length (drop 1 bytes.now))
-            × (parts.0.now ≡ take (told_length (drop 1 bytes.now)) (drop 5 bytes.now))
-            × (parts.1.now ≡ drop (5 + told_length (drop 1 bytes.now)) bytes.now)
-            × (length bytes.now ≡ 5 + told_length (drop 1 bytes.now) + length parts.1.now)) }
+        × (parts.0.now ≡ take (told_length (drop 1 bytes.now)) (drop 5 bytes.now))
+        × (parts.1.now ≡ drop (5 + told_length (drop 1 bytes.now)) bytes.now)
+        × (length bytes.now ≡ 5 + told_length (drop 1 bytes.now) + length parts.1.now)) }
 {
     if bytes.len() < 5 {
         return None;
