@@ -1,12 +1,12 @@
 -- An append makes four calls of its disk. After each, whether it answers or fails: what a crash may leave at each moment, and what stands in the end.
-use Rattle.std.proofs.Common.{◌≡◌, inl, inr, ℕ, ◌+◌, ◌-◌, ◌≤◌, Option, Some, None, Bool, List, [], ◌∷◌, ◌++◌, length, get_or, drop, IsTrue, refl, sym, ap, ◌∙◌, subst, arith, append_assoc}
+use Rattle.std.proofs.Common.{◌≡◌, ◌⊎◌, inl, inr, ℕ, ◌+◌, ◌-◌, ◌≤◌, Option, Some, None, Result, Ok, Err, OnOk, OnErr, ⊎_elim, Bool, List, [], ◌∷◌, ◌++◌, length, get_or, drop, IsTrue, refl, sym, ap, ◌∙◌, subst, arith, append_assoc}
 use Rattle.disk_core.specs.Images.{Content, Image, IsSettled, overwritten, after_write, after_sync}
 use Rattle.disk_core.specs.States.{Story, DiskState, fewer, moved, TearsAtMost}
 use Rattle.disk_core.specs.Moments.{AtEachMoment}
 use Rattle.disk_core.proofs.Inside.{only_settled, only_synced, synced}
 use Rattle.disk_core.proofs.Moments.{at_first, rested, moved_on, torn_on}
 use Rattle.gate_log.specs.Log.{header, body, records, IsSized, IsLog, IsBeforeOrAfter}
-use Rattle.gate_log.specs.Rest.{AtRest, Lowers}
+use Rattle.gate_log.specs.Rest.{AtRest, Lowers, synced_write}
 use Rattle.gate_log.proofs.Grammar.{records-push, sized-push, end-push, either}
 use Rattle.gate_log.proofs.Writes.{DiffersWithin, of_write, of_torn_write, written_behind, written_over, gate_stays, rest_stays, length-gated}
 
@@ -119,6 +119,54 @@ module _ (disk : DiskState) (end : ℕ) (one : List ℕ) (payloads : List (List 
             place = omega (arith, rest.place, end-push payloads one);
           }
 
+-- the first write and its sync, stopped on the way
+pub staging_stopped : (disk : DiskState) (end : ℕ) (one : List ℕ) (payloads : List (List ℕ)) (rest : AtRest disk end payloads) (sized : IsSized one) (s1 : Story)
+    → TearsAtMost (end + 1) (length (staged one)) disk.story s1 ⊎ (s1 ≡ moved (after_write (end + 1) (staged one) disk.story.now) disk.story) → AtEachMoment disk.story s1 (IsBeforeOrAfter payloads one)
+staging_stopped disk end one payloads rest sized s1 stopped = ⊎_elim
+    (λ torn. staging_failed disk end one payloads rest sized s1 torn)
+    (λ wrote. sync_failed disk end one payloads rest sized (moved (after_write (end + 1) (staged one) disk.story.now) disk.story) refl s1 wrote)
+    stopped
+
+-- behind the first sync
+module _ (disk : DiskState) (end : ℕ) (one : List ℕ) (payloads : List (List ℕ)) (rest : AtRest disk end payloads) (sized : IsSized one) (s2 : Story) (durable : s2 ≡ synced_write (end + 1) (staged one) disk.story) where
+  abbrev mid : Story
+  mid = moved (after_write (end + 1) (staged one) disk.story.now) disk.story
+
+  abbrev last : Story
+  last = moved (after_write end (1 ∷ []) s2.now) s2
+
+  pub place_of_gate : end ≤ length s2.now.bytes
+  place_of_gate = gate_is_within disk end one payloads rest sized mid refl s2 durable
+
+  -- the second write and its sync, stopped on the way or not
+  pub opening_stopped : (s4 : Story) → TearsAtMost end 1 s2 s4 ⊎ (s4 ≡ last) → AtEachMoment disk.story s4 (IsBeforeOrAfter payloads one)
+  opening_stopped s4 stopped = ⊎_elim
+      (λ torn. gate_failed disk end one payloads rest sized mid refl s2 durable s4 torn)
+      (λ wrote. last_sync_failed disk end one payloads rest sized mid refl s2 durable last refl s4 wrote)
+      stopped
+
+  pub opening_done : (s4 : Story) → s4 ≡ synced_write end (1 ∷ []) s2 → AtEachMoment disk.story s4 (IsBeforeOrAfter payloads one)
+  opening_done s4 done = appended_moment disk end one payloads rest sized mid refl s2 durable last refl s4 done
+
+  pub log_again : (now : DiskState) → now.story ≡ synced_write end (1 ∷ []) s2 → IsTrue now.tells → AtRest now (end + (5 + length one)) (payloads ++ one ∷ [])
+  log_again now done told = rests_again disk end one payloads rest sized mid refl s2 durable last refl now.story done now refl told
+
+-- what a call answers
+pub on_ok : {T E : Type 0} (result : Result T E) (A B : Type 0) → (A → B) → OnOk result A → OnOk result B
+on_ok (Ok x) A B gives a = gives a
+on_ok (Err e) A B gives a = a
+
+pub either_answer : {T E : Type 0} (result : Result T E) (A B C : Type 0) → (A → C) → (B → C) → OnOk result A → OnErr result B → C
+either_answer (Ok x) A B C ok err a b = ok a
+either_answer (Err e) A B C ok err a b = err b
+
+-- two calls more
+pub two_calls : (before mid after : Option ℕ) → mid ≡ fewer 2 before → Lowers 2 mid after → Lowers 4 before after
+two_calls None mid after is lowers = record { count = lowers.count + 2; less = omega (arith, lowers.less); left = lowers.left ∙ ap (fewer lowers.count) is }
+two_calls (Some n) mid after is lowers =
+    let same : n - 2 - lowers.count ≡ n - (lowers.count + 2) = omega arith in
+    record { count = lowers.count + 2; less = omega (arith, lowers.less); left = lowers.left ∙ ap (fewer lowers.count) is ∙ ap (λ (m : ℕ). Some m) same }
+
 -- one call more
 pub one_call : (before mid after : Option ℕ) (most : ℕ) → Lowers most before mid → after ≡ fewer 1 mid → Lowers (most + 1) before after
 one_call before mid after most so_far is = record {
@@ -133,9 +181,6 @@ one_call before mid after most so_far is = record {
 
 pub first_call : (before after : Option ℕ) → after ≡ fewer 1 before → Lowers 1 before after
 first_call before after is = record { count = 1; less = omega arith; left = is }
-
-pub more_calls : (before after : Option ℕ) (few most : ℕ) → few ≤ most → Lowers few before after → Lowers most before after
-more_calls before after few most less lowers = record { count = lowers.count; less = omega (arith, lowers.less); left = lowers.left }
 
 -- it goes on telling what it holds
 pub still : (old new : Bool) → new ≡ old → IsTrue old → IsTrue new

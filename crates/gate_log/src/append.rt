@@ -1,13 +1,35 @@
 // The calls of the disk that an append and an opening make.
 ghost use Rattle.std.specs.Prelude.{◌≡◌, ◌≢◌, ◌⊎◌, ◌+◌, ◌<◌, ◌≤◌, ◌^◌, ◌++◌, [], ◌∷◌, List, ℕ, length, IsTrue, Err, IfOk, OnOk, OnErr};
-ghost use Rattle.disk_core.specs.States.{GoesOn, Rose, Syncs, Rests, bytes_of, fewer};
+ghost use Rattle.disk_core.specs.States.{GoesOn, Rose, IsWithin, Writes, MayTear, Syncs, Rests, bytes_of, fewer};
 ghost use Rattle.disk_core.specs.Moments.{AtEachMoment};
 ghost use Rattle.gate_log.specs.Log.{IsBeforeOrAfter};
-ghost use Rattle.gate_log.specs.Rest.{AtRest, Lowers};
+ghost use Rattle.gate_log.specs.Rest.{AtRest, Lowers, WritesDurably};
 
 use crate::OpenError;
 use disk_core::{Disk, Failed};
 use std::alloc::{AllocError, Global};
+
+// Writes three pieces, one behind the other, and makes them durable.
+fn write_durable<D: Disk>(
+    disk: &mut D,
+    at: u64,
+    front: &[u8],
+    middle: &[u8],
+    back: &[u8],
+) -> Result<(), Failed>
+    requires place { IsWithin at (D.state disk.old) }
+    requires room { at + (length front.now + length middle.now + length back.now) ≤ (D.state disk.old).room }
+    ensures durable { OnOk result (WritesDurably at (front.now ++ middle.now ++ back.now) (D.state disk.old) (D.state disk.new)) }
+    ensures torn { OnErr result (MayTear at (length (front.now ++ middle.now ++ back.now)) (D.state disk.old) (D.state disk.new)
+        ⊎ Writes at (front.now ++ middle.now ++ back.now) (D.state disk.old) (D.state disk.new)) }
+    ensures goes_on { GoesOn (D.state disk.old) (D.state disk.new) }
+    ensures failed { OnErr result (Rose (D.state disk.old).faults (D.state disk.new).faults) }
+    ensures left { Lowers 2 (D.state disk.old).left (D.state disk.new).left }
+    ensures left_ok { OnOk result ((D.state disk.new).left ≡ fewer 2 (D.state disk.old).left) }
+{
+    disk.write_parts(at, front, middle, back)?;
+    disk.sync()
+}
 
 // Writes the record behind the closed gate, with a new closed gate behind it, and opens its gate once that is durable.
 pub(crate) fn write_record<D: Disk>(disk: &mut D, end: u64, payload: &[u8]) -> Result<(), Failed>
@@ -25,11 +47,8 @@ pub(crate) fn write_record<D: Disk>(disk: &mut D, end: u64, payload: &[u8]) -> R
     ensures left_ok { OnOk result ((D.state disk.new).left ≡ fewer 4 (D.state disk.old).left) }
 {
     let count = (payload.len() as u32).to_be_bytes();
-    disk.write_parts(end + 1, &count, payload, &[0])?;
-    disk.sync()?;
-    disk.write_at(end, &[1])?;
-    disk.sync()?;
-    Ok(())
+    write_durable(disk, end + 1, &count, payload, &[0])?;
+    write_durable(disk, end, &[1], &[], &[])
 }
 
 fn zeros(alloc: Global, count: usize) -> Result<Vec<u8>, AllocError>

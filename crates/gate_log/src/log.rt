@@ -86,6 +86,7 @@ impl<D: Disk + Drop> GateLog<D> {
         ensures failed { result ≡ Err DiskFailed → Rose (D.state (disk_of self.old)).faults (D.state (disk_of self.new)).faults × (is_closed self.new ≡ true) }
         ensures refused { IfErr result (λ e. e ≢ DiskFailed → self.new ≡ self.old) }
         ensures fed { result ≢ Err OutOfMemory }
+        ensures gate { OnOk result (gate_of self.new ≡ gate_of self.old + 5 + length payload.now) }
         ensures stays_open { OnOk result (is_closed self.new ≡ false) }
         ensures read { read_at_opening self.new ≡ read_at_opening self.old }
         ensures ready { IsReady D.state self.new }

@@ -4,6 +4,14 @@ ghost use Rattle.std.specs.Str.{bytes_eq};
 ghost use Rattle.gate_log.specs.Log.{header, IsLog, end_of};
 ghost use Rattle.gate_log.specs.Damage.{told_length, is_whole, IsDamagedAt};
 
+// A record counts where its gate is this byte alone.
+fn is_open(gate: u8) -> bool
+    ensures open { IsTrue result → gate ≡ 1 }
+    ensures shut { result ≡ false → gate ≢ 1 }
+{
+    gate == 1
+}
+
 // The length of the payload behind a gate, where it stands there whole.
 pub(crate) fn whole_payload(bytes: &[u8]) -> Option<usize>
     ensures whole { MatchOption result (is_whole bytes.now ≡ false) (λ n. (is_whole bytes.now ≡ true) × (n ≡ told_length bytes.now)) }
@@ -38,7 +46,7 @@ pub(crate) fn find_gate(bytes: &[u8]) -> Result<(usize, usize), usize>
     let mut at = 8;
     let mut count = 0;
     while at < bytes.len() {
-        if bytes[at] != 1 {
+        if !is_open(bytes[at]) {
             return Ok((at, count));
         }
         match whole_payload(&bytes[at + 1..]) {
