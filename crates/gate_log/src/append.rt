@@ -28,7 +28,8 @@ fn write_durable<D: Disk>(
     ensures left_ok { OnOk result ((D.state disk.new).left ≡ fewer 2 (D.state disk.old).left) }
 {
     disk.write_parts(at, front, middle, back)?;
-    disk.sync()
+    disk.sync()?;
+    Ok(())
 }
 
 // Writes the record behind the closed gate, with a new closed gate behind it, and opens its gate once that is durable.
