@@ -136,7 +136,9 @@ fn print_listed_appends(
     let second = words::of_append(alloc, log.append(&FIRST))?;
     let starved = log.starved();
     let opened = words::of_opening(alloc, log.close())?;
-    println!(rt; "call {call} of the disk: {formatted}, {first}, {second}, starved {starved}; {opened}")
+    println!(rt;
+        "call {call} of the disk: {formatted}, {first}, {second}, starved {starved}; {opened}"
+    )
 }
 
 /// Records up to the room of a disk, of which none fails.

@@ -10,7 +10,10 @@ pub(crate) fn of_format(answer: Result<(), Failed>) -> &'static str {
     }
 }
 
-pub(crate) fn of_append(alloc: Global, answer: Result<(), AppendError>) -> Result<String, AllocError> {
+pub(crate) fn of_append(
+    alloc: Global,
+    answer: Result<(), AppendError>,
+) -> Result<String, AllocError> {
     match answer {
         Ok(()) => String::from_str(alloc, "ok"),
         Err(AppendError::Failed) => String::from_str(alloc, "failed"),
@@ -37,7 +40,10 @@ pub(crate) fn put_hex(bytes: &[u8], out: &mut String) -> Result<(), AllocError> 
 }
 
 /// The payloads that were read at opening, each as its place and its bytes in hexadecimal.
-pub(crate) fn of_payloads<D: Disk + Drop>(alloc: Global, log: &GateLog<D>) -> Result<String, AllocError> {
+pub(crate) fn of_payloads<D: Disk + Drop>(
+    alloc: Global,
+    log: &GateLog<D>,
+) -> Result<String, AllocError> {
     let mut out = String::from_str(alloc, "opened")?;
     for (place, payload) in log.payloads() {
         write!(out, " {place}:")?;
