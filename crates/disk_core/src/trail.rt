@@ -14,6 +14,9 @@ impl Model for Trail {
     ghost also_owns = { λ _. ftrue };
 }
 
+// It owns nothing.
+unsafe impl Send for Trail {}
+
 // A change, with the bytes before it, their least and greatest length, and the range of a write.
 #[derive(Clone, Copy, Drop)]
 pub(crate) enum Note<'a> {

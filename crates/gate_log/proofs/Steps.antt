@@ -1,5 +1,7 @@
 -- An append makes four calls of its disk. After each, whether it answers or fails: what a crash may leave at each moment, and what stands in the end.
-use Rattle.std.proofs.Common.{◌≡◌, ◌⊎◌, inl, inr, ℕ, ◌+◌, ◌-◌, ◌≤◌, Option, Some, None, Result, Ok, Err, OnOk, OnErr, ⊎_elim, Bool, List, [], ◌∷◌, ◌++◌, length, get_or, drop, IsTrue, refl, sym, ap, ◌∙◌, subst, arith, append_assoc}
+use Rattle.std.proofs.Common.{◌≡◌, ◌⊎◌, inl, inr, ℕ, ◌+◌, ◌-◌, ◌≤◌, Option, Some, None, Result, Ok, Err, OnOk, OnErr, ⊎_elim, Bool, false, List, [], ◌∷◌, ◌++◌, length, get_or, drop, IsTrue, refl, sym, ap, ◌∙◌, subst, arith, append_assoc}
+use Rattle.std.specs.Result.{is_err}
+use Rattle.std.proofs.lemmas.Bool.{false≢true}
 use Rattle.disk_core.specs.Images.{Content, Image, IsSettled, overwritten, after_write, after_sync}
 use Rattle.disk_core.specs.States.{Story, DiskState, fewer, moved, TearsAtMost}
 use Rattle.disk_core.specs.Moments.{AtEachMoment}
@@ -15,7 +17,7 @@ abbrev pub staged : List ℕ → List ℕ
 staged payload = body payload ++ 0 ∷ []
 
 -- the log stands where the disk is settled
-is_log : (content : Content) (payloads : List (List ℕ)) (image : List ℕ) → IsSettled content → IsLog content.bytes payloads → Image content image → IsLog image payloads
+pub is_log : (content : Content) (payloads : List (List ℕ)) (image : List ℕ) → IsSettled content → IsLog content.bytes payloads → Image content image → IsLog image payloads
 is_log content payloads image settled log left = subst (λ (l : List ℕ). IsLog l payloads) (sym (only_settled content image settled left)) log
 
 -- before the first call
@@ -152,6 +154,10 @@ module _ (disk : DiskState) (end : ℕ) (one : List ℕ) (payloads : List (List 
   log_again now done told = rests_again disk end one payloads rest sized mid refl s2 durable last refl now.story done now refl told
 
 -- what a call answers
+pub was_ok : {T E : Type 0} (result : Result T E) (A : Type 0) → is_err result ≡ false → OnOk result A → A
+was_ok (Ok x) A not a = a
+was_ok (Err e) A not a = absurd (false≢true (sym not))
+
 pub on_ok : {T E : Type 0} (result : Result T E) (A B : Type 0) → (A → B) → OnOk result A → OnOk result B
 on_ok (Ok x) A B gives a = gives a
 on_ok (Err e) A B gives a = a

@@ -11,6 +11,6 @@ mod scan;
 
 pub use empty::format;
 pub use error::{AppendError, OpenError};
-pub use laws::{law_log, law_opening};
+pub use laws::{law_at_rest, law_log, law_opening};
 pub use log::GateLog;
 pub use payloads::Payloads;

@@ -1,6 +1,6 @@
 ghost use Rattle.std.specs.Prelude.{◌≡◌, ◌≢◌, ◌⊎◌, ◌↔◌, ◌+◌, ◌<◌, ◌≤◌, ◌^◌, ◌++◌, [], ◌∷◌, List, ℕ, length, false, true, IsTrue, IfOk, IfErr, MatchResult, OnOk, OnErr, Err};
 ghost use Rattle.disk_core.specs.States.{GoesOn, Rose, Rests, Syncs, bytes_of, fewer};
-ghost use Rattle.disk_core.specs.Moments.{AtEachMoment};
+ghost use Rattle.disk_core.specs.Moments.{EachImage, AtEachMoment};
 ghost use Rattle.gate_log.specs.Log.{IsLog, AreSized, IsBeforeOrAfter};
 ghost use Rattle.gate_log.specs.Damage.{IsDamagedAt};
 ghost use Rattle.gate_log.specs.Payloads.{placed};
@@ -77,6 +77,8 @@ impl<D: Disk + Drop> GateLog<D> {
         requires some { 1 ≤ length payload.now }
         requires ready { IsReady D.state self.old }
         ensures appended { OnOk result ((payloads : List (List ℕ)) → IsOpen D.state self.old payloads → IsOpen D.state self.new (payloads ++ payload.now ∷ [])) }
+        ensures durable { OnOk result ((payloads : List (List ℕ)) → IsOpen D.state self.old payloads
+            → EachImage (λ image. IsLog image (payloads ++ payload.now ∷ [])) (D.state (disk_of self.new)).story.now) }
         ensures any_moment { (payloads : List (List ℕ)) → IsOpen D.state self.old payloads
             → AtEachMoment (D.state (disk_of self.old)).story (D.state (disk_of self.new)).story (IsBeforeOrAfter payloads payload.now) }
         ensures closed { result ≡ Err Closed ↔ (is_closed self.old ≡ true) }
