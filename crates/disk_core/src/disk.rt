@@ -41,7 +41,8 @@ pub trait Disk {
         requires { IsTrue (state self.old).tells → at + length buf.old ≤ length (bytes_of (state self.old)) }
         ensures called { Called result (state self.old) (state self.new) }
         ensures rests { Rests (state self.old) (state self.new) }
-        ensures bytes { OnOk result (IsTrue (state self.old).tells → buf.new ≡ take (length buf.old) (drop at (bytes_of (state self.old)))) };
+        ensures bytes { OnOk result (IsTrue (state self.old).tells
+            → buf.new ≡ take (length buf.old) (drop at (bytes_of (state self.old)))) };
 
     /// Writes these bytes from this place on, over what is there and past the end.
     ///
@@ -70,8 +71,10 @@ pub trait Disk {
         requires place { IsWithin at (state self.old) }
         requires room { at + (length front.now + length middle.now + length back.now) ≤ (state self.old).room }
         ensures called { Called result (state self.old) (state self.new) }
-        ensures written { OnOk result (Writes at (front.now ++ middle.now ++ back.now) (state self.old) (state self.new)) }
-        ensures torn { OnErr result (MayTear at (length (front.now ++ middle.now ++ back.now)) (state self.old) (state self.new)) };
+        ensures written { OnOk result (Writes at
+            (front.now ++ middle.now ++ back.now) (state self.old) (state self.new)) }
+        ensures torn { OnErr result (MayTear at (length
+            (front.now ++ middle.now ++ back.now)) (state self.old) (state self.new)) };
 
     /// Cuts what it holds to this length, which is at most what it has.
     ///

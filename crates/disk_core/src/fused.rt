@@ -29,7 +29,8 @@ fn write_front_of_parts<D: Disk>(
     requires place { IsWithin at (D.state disk.old) }
     requires room { at + (length front.now + length middle.now + length back.now) ≤ (D.state disk.old).room }
     ensures goes_on { GoesOn (D.state disk.old) (D.state disk.new) }
-    ensures front { WritesOrFails at (take keep (front.now ++ middle.now ++ back.now)) (D.state disk.old) (D.state disk.new) }
+    ensures front { WritesOrFails at (take keep
+        (front.now ++ middle.now ++ back.now)) (D.state disk.old) (D.state disk.new) }
 {
     let of_front = keep.min(front.len() as u64);
     let of_middle = (keep - of_front).min(middle.len() as u64);
@@ -85,7 +86,8 @@ impl<D: Disk + Drop> Fused<D> {
     /// Takes a fuse away that has fired. One that hasn't stays as it is.
     pub fn revive(&mut self)
         ensures inside { inside self.new ≡ inside self.old }
-        ensures fired { calls_left self.old ≡ Some 0 → fused_state D.state self.new ≡ record (fused_state D.state self.old) { left = None } }
+        ensures fired { calls_left self.old ≡ Some 0 → fused_state D.state self.new
+            ≡ record (fused_state D.state self.old) { left = None } }
         ensures burning { calls_left self.old ≢ Some 0 → self.new ≡ self.old }
     {
         if self.fired() {
@@ -126,7 +128,8 @@ impl<D: Disk + Drop> Disk for Fused<D> {
     fn len(&mut self) -> Result<u64, Failed>
         ensures called { Called result (fused_state D.state self.old) (fused_state D.state self.new) }
         ensures rests { Rests (fused_state D.state self.old) (fused_state D.state self.new) }
-        ensures len { IfOk result (λ n. IsTrue (fused_state D.state self.old).tells → n ≡ length (bytes_of (fused_state D.state self.old))) }
+        ensures len { IfOk result (λ n. IsTrue (fused_state D.state self.old).tells
+            → n ≡ length (bytes_of (fused_state D.state self.old))) }
         ensures short { IfOk result (λ n. n ≤ (fused_state D.state self.old).room) }
         ensures burns { BurnsDown D.state result self.old self.new }
         ensures apart { calls_left self.old ≡ Some 1 → inside self.new ≡ inside self.old }
@@ -138,10 +141,12 @@ impl<D: Disk + Drop> Disk for Fused<D> {
     }
 
     fn read(&mut self, at: u64, buf: &mut [u8]) -> Result<(), Failed>
-        requires { IsTrue (fused_state D.state self.old).tells → at + length buf.old ≤ length (bytes_of (fused_state D.state self.old)) }
+        requires { IsTrue (fused_state D.state self.old).tells
+            → at + length buf.old ≤ length (bytes_of (fused_state D.state self.old)) }
         ensures called { Called result (fused_state D.state self.old) (fused_state D.state self.new) }
         ensures rests { Rests (fused_state D.state self.old) (fused_state D.state self.new) }
-        ensures bytes { OnOk result (IsTrue (fused_state D.state self.old).tells → buf.new ≡ take (length buf.old) (drop at (bytes_of (fused_state D.state self.old)))) }
+        ensures bytes { OnOk result (IsTrue (fused_state D.state self.old).tells
+            → buf.new ≡ take (length buf.old) (drop at (bytes_of (fused_state D.state self.old)))) }
         ensures burns { BurnsDown D.state result self.old self.new }
         ensures apart { calls_left self.old ≡ Some 1 → inside self.new ≡ inside self.old }
     {
@@ -155,10 +160,13 @@ impl<D: Disk + Drop> Disk for Fused<D> {
         requires place { IsWithin at (fused_state D.state self.old) }
         requires room { at + length bytes.now ≤ (fused_state D.state self.old).room }
         ensures called { Called result (fused_state D.state self.old) (fused_state D.state self.new) }
-        ensures written { OnOk result (Writes at bytes.now (fused_state D.state self.old) (fused_state D.state self.new)) }
-        ensures torn { OnErr result (MayTear at (length bytes.now) (fused_state D.state self.old) (fused_state D.state self.new)) }
+        ensures written { OnOk result (Writes at bytes.now (fused_state D.state self.old)
+            (fused_state D.state self.new)) }
+        ensures torn { OnErr result (MayTear at (length bytes.now) (fused_state D.state self.old)
+            (fused_state D.state self.new)) }
         ensures burns { BurnsDown D.state result self.old self.new }
-        ensures front { calls_left self.old ≡ Some 1 → WritesOrFails at (take (kept_bytes self.old) bytes.now) (D.state (inside self.old)) (D.state (inside self.new)) }
+        ensures front { calls_left self.old ≡ Some 1 → WritesOrFails at (take (kept_bytes self.old) bytes.now)
+            (D.state (inside self.old)) (D.state (inside self.new)) }
     {
         match burn_down(&mut self.left, &mut self.faults) {
             Burn::Passes => self.disk.write_at(at, bytes),
@@ -178,12 +186,16 @@ impl<D: Disk + Drop> Disk for Fused<D> {
         back: &[u8],
     ) -> Result<(), Failed>
         requires place { IsWithin at (fused_state D.state self.old) }
-        requires room { at + (length front.now + length middle.now + length back.now) ≤ (fused_state D.state self.old).room }
+        requires room { at + (length front.now + length middle.now + length back.now) ≤
+            (fused_state D.state self.old).room }
         ensures called { Called result (fused_state D.state self.old) (fused_state D.state self.new) }
-        ensures written { OnOk result (Writes at (front.now ++ middle.now ++ back.now) (fused_state D.state self.old) (fused_state D.state self.new)) }
-        ensures torn { OnErr result (MayTear at (length (front.now ++ middle.now ++ back.now)) (fused_state D.state self.old) (fused_state D.state self.new)) }
+        ensures written { OnOk result (Writes at
+            (front.now ++ middle.now ++ back.now) (fused_state D.state self.old) (fused_state D.state self.new)) }
+        ensures torn { OnErr result (MayTear at (length
+            (front.now ++ middle.now ++ back.now)) (fused_state D.state self.old) (fused_state D.state self.new)) }
         ensures burns { BurnsDown D.state result self.old self.new }
-        ensures front { calls_left self.old ≡ Some 1 → WritesOrFails at (take (kept_bytes self.old) (front.now ++ middle.now ++ back.now)) (D.state (inside self.old)) (D.state (inside self.new)) }
+        ensures front { calls_left self.old ≡ Some 1 → WritesOrFails at (take (kept_bytes self.old)
+            (front.now ++ middle.now ++ back.now)) (D.state (inside self.old)) (D.state (inside self.new)) }
     {
         match burn_down(&mut self.left, &mut self.faults) {
             Burn::Passes => self.disk.write_parts(at, front, middle, back),

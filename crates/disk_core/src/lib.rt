@@ -1,4 +1,5 @@
-//! A disk.
+//! A disk: what a read gives, what a crash may leave of it at every moment, and its faults. With two disks in memory and
+//! one that fails where it is told to.
 #![tactic(auto)]
 
 mod calls;

@@ -55,9 +55,12 @@ impl Medium {
     ) -> Result<(), AllocError>
         requires place { at ≤ length (story_of self.old).now.bytes }
         requires fits { at + (length front.now + length middle.now + length back.now) ≤ 2 ^ 31 }
-        ensures written { OnOk result (story_of self.new ≡ moved (after_write at (front.now ++ middle.now ++ back.now) (story_of self.old).now) (story_of self.old)) }
+        ensures written { OnOk result (story_of self.new
+            ≡ moved (after_write at
+            (front.now ++ middle.now ++ back.now) (story_of self.old).now) (story_of self.old)) }
         ensures stays { OnErr result (story_of self.new ≡ story_of self.old) }
-        ensures full { OnErr result (vec_capacity self.old.bytes < at + (length front.now + length middle.now + length back.now)) }
+        ensures full { OnErr result (vec_capacity self.old.bytes < at +
+            (length front.now + length middle.now + length back.now)) }
         ensures capacity { vec_capacity self.old.bytes ≤ vec_capacity self.new.bytes }
     {
         let count = front.len() + middle.len() + back.len();
@@ -103,9 +106,11 @@ fn overwrite(
 ) -> Result<(), AllocError>
     requires place { at ≤ length bytes.old.items }
     requires fits { at + (length front.now + length middle.now + length back.now) ≤ 2 ^ 31 }
-    ensures written { OnOk result (bytes.new.items ≡ overwritten at (front.now ++ middle.now ++ back.now) bytes.old.items) }
+    ensures written { OnOk result (bytes.new.items ≡ overwritten at
+        (front.now ++ middle.now ++ back.now) bytes.old.items) }
     ensures stays { OnErr result (bytes.new.items ≡ bytes.old.items) }
-    ensures full { OnErr result (vec_capacity bytes.old < at + (length front.now + length middle.now + length back.now)) }
+    ensures full { OnErr result (vec_capacity bytes.old < at +
+        (length front.now + length middle.now + length back.now)) }
     ensures capacity { vec_capacity bytes.old ≤ vec_capacity bytes.new }
 {
     pad(bytes, at + (front.len() + middle.len() + back.len()))?;

@@ -97,7 +97,8 @@ impl Disk for MemDisk {
     fn len(&mut self) -> Result<u64, Failed>
         ensures called { Called result (mem_state self.old) (mem_state self.new) }
         ensures rests { Rests (mem_state self.old) (mem_state self.new) }
-        ensures len { IfOk result (λ n. IsTrue (mem_state self.old).tells → n ≡ length (bytes_of (mem_state self.old))) }
+        ensures len { IfOk result (λ n. IsTrue (mem_state self.old).tells
+            → n ≡ length (bytes_of (mem_state self.old))) }
         ensures short { IfOk result (λ n. n ≤ (mem_state self.old).room) }
         ensures due { is_err result ≡ is_due self.old }
         ensures fed { (mem_state self.new).starved ≡ (mem_state self.old).starved }
@@ -113,7 +114,8 @@ impl Disk for MemDisk {
         requires { IsTrue (mem_state self.old).tells → at + length buf.old ≤ length (bytes_of (mem_state self.old)) }
         ensures called { Called result (mem_state self.old) (mem_state self.new) }
         ensures rests { Rests (mem_state self.old) (mem_state self.new) }
-        ensures bytes { OnOk result (IsTrue (mem_state self.old).tells → buf.new ≡ take (length buf.old) (drop at (bytes_of (mem_state self.old)))) }
+        ensures bytes { OnOk result (IsTrue (mem_state self.old).tells
+            → buf.new ≡ take (length buf.old) (drop at (bytes_of (mem_state self.old)))) }
         ensures due { is_err result ≡ is_due self.old }
         ensures fed { (mem_state self.new).starved ≡ (mem_state self.old).starved }
         ensures counts { CountsCall result self.old self.new }
@@ -133,7 +135,8 @@ impl Disk for MemDisk {
         ensures torn { OnErr result (MayTear at (length bytes.now) (mem_state self.old) (mem_state self.new)) }
         ensures rests { OnErr result (Rests (mem_state self.old) (mem_state self.new)) }
         ensures due { IsTrue (is_due self.old) → IsTrue (is_err result) }
-        ensures starved { (mem_state self.new).starved ≡ ((mem_state self.old).starved || is_err result && not (is_due self.old)) }
+        ensures starved { (mem_state self.new).starved ≡ ((mem_state self.old).starved || is_err result && not
+            (is_due self.old)) }
         ensures counts { CountsCall result self.old self.new }
     {
         self.write_parts(at, bytes, &[], &[])
@@ -149,11 +152,14 @@ impl Disk for MemDisk {
         requires place { IsWithin at (mem_state self.old) }
         requires room { at + (length front.now + length middle.now + length back.now) ≤ (mem_state self.old).room }
         ensures called { Called result (mem_state self.old) (mem_state self.new) }
-        ensures written { OnOk result (Writes at (front.now ++ middle.now ++ back.now) (mem_state self.old) (mem_state self.new)) }
-        ensures torn { OnErr result (MayTear at (length (front.now ++ middle.now ++ back.now)) (mem_state self.old) (mem_state self.new)) }
+        ensures written { OnOk result (Writes at
+            (front.now ++ middle.now ++ back.now) (mem_state self.old) (mem_state self.new)) }
+        ensures torn { OnErr result (MayTear at (length
+            (front.now ++ middle.now ++ back.now)) (mem_state self.old) (mem_state self.new)) }
         ensures rests { OnErr result (Rests (mem_state self.old) (mem_state self.new)) }
         ensures due { IsTrue (is_due self.old) → IsTrue (is_err result) }
-        ensures starved { (mem_state self.new).starved ≡ ((mem_state self.old).starved || is_err result && not (is_due self.old)) }
+        ensures starved { (mem_state self.new).starved ≡ ((mem_state self.old).starved || is_err result && not
+            (is_due self.old)) }
         ensures counts { CountsCall result self.old self.new }
     {
         if self.calls.begin() {

@@ -59,7 +59,8 @@ impl Disk for SureDisk {
     fn len(&mut self) -> Result<u64, Failed>
         ensures called { Called result (sure_state self.old) (sure_state self.new) }
         ensures rests { Rests (sure_state self.old) (sure_state self.new) }
-        ensures len { IfOk result (λ n. IsTrue (sure_state self.old).tells → n ≡ length (bytes_of (sure_state self.old))) }
+        ensures len { IfOk result (λ n. IsTrue (sure_state self.old).tells
+            → n ≡ length (bytes_of (sure_state self.old))) }
         ensures short { IfOk result (λ n. n ≤ (sure_state self.old).room) }
         ensures sure { IsOk result }
     {
@@ -70,7 +71,8 @@ impl Disk for SureDisk {
         requires { IsTrue (sure_state self.old).tells → at + length buf.old ≤ length (bytes_of (sure_state self.old)) }
         ensures called { Called result (sure_state self.old) (sure_state self.new) }
         ensures rests { Rests (sure_state self.old) (sure_state self.new) }
-        ensures bytes { OnOk result (IsTrue (sure_state self.old).tells → buf.new ≡ take (length buf.old) (drop at (bytes_of (sure_state self.old)))) }
+        ensures bytes { OnOk result (IsTrue (sure_state self.old).tells
+            → buf.new ≡ take (length buf.old) (drop at (bytes_of (sure_state self.old)))) }
         ensures sure { IsOk result }
     {
         self.medium.read(at as usize, buf);
@@ -98,8 +100,10 @@ impl Disk for SureDisk {
         requires place { IsWithin at (sure_state self.old) }
         requires room { at + (length front.now + length middle.now + length back.now) ≤ (sure_state self.old).room }
         ensures called { Called result (sure_state self.old) (sure_state self.new) }
-        ensures written { OnOk result (Writes at (front.now ++ middle.now ++ back.now) (sure_state self.old) (sure_state self.new)) }
-        ensures torn { OnErr result (MayTear at (length (front.now ++ middle.now ++ back.now)) (sure_state self.old) (sure_state self.new)) }
+        ensures written { OnOk result (Writes at
+            (front.now ++ middle.now ++ back.now) (sure_state self.old) (sure_state self.new)) }
+        ensures torn { OnErr result (MayTear at (length
+            (front.now ++ middle.now ++ back.now)) (sure_state self.old) (sure_state self.new)) }
         ensures sure { IsOk result }
     {
         match self.medium.write(at as usize, front, middle, back) {

@@ -19,8 +19,10 @@ fn write_durable<D: Disk>(
 ) -> Result<(), Failed>
     requires place { IsWithin at (D.state disk.old) }
     requires room { at + (length front.now + length middle.now + length back.now) ≤ (D.state disk.old).room }
-    ensures durable { OnOk result (WritesDurably at (front.now ++ middle.now ++ back.now) (D.state disk.old) (D.state disk.new)) }
-    ensures torn { OnErr result (MayTear at (length (front.now ++ middle.now ++ back.now)) (D.state disk.old) (D.state disk.new)
+    ensures durable { OnOk result (WritesDurably at (front.now ++ middle.now
+        ++ back.now) (D.state disk.old) (D.state disk.new)) }
+    ensures torn { OnErr result (MayTear at (length (front.now ++ middle.now
+        ++ back.now)) (D.state disk.old) (D.state disk.new)
         ⊎ Writes at (front.now ++ middle.now ++ back.now) (D.state disk.old) (D.state disk.new)) }
     ensures goes_on { GoesOn (D.state disk.old) (D.state disk.new) }
     ensures failed { OnErr result (Rose (D.state disk.old).faults (D.state disk.new).faults) }
@@ -37,7 +39,8 @@ pub(crate) fn write_record<D: Disk>(disk: &mut D, end: u64, payload: &[u8]) -> R
     requires some { 1 ≤ length payload.now }
     requires small { length payload.now < 2 ^ 32 }
     requires room { end + 6 + length payload.now ≤ (D.state disk.old).room }
-    requires at_rest { IsTrue (D.state disk.old).tells → (payloads : List (List ℕ)) × AtRest (D.state disk.old) end payloads }
+    requires at_rest { IsTrue (D.state disk.old).tells → (payloads : List (List ℕ))
+        × AtRest (D.state disk.old) end payloads }
     ensures appended { OnOk result ((payloads : List (List ℕ)) → AtRest (D.state disk.old) end payloads
         → AtRest (D.state disk.new) (end + (5 + length payload.now)) (payloads ++ payload.now ∷ [])) }
     ensures any_moment { (payloads : List (List ℕ)) → AtRest (D.state disk.old) end payloads
@@ -63,7 +66,8 @@ pub(crate) fn read_durable<D: Disk>(alloc: Global, disk: &mut D) -> Result<Vec<u
     ensures bytes { IfOk result (λ bytes. IsTrue (D.state disk.old).tells → bytes.items ≡ bytes_of (D.state disk.old)) }
     ensures short { IfOk result (λ bytes. length bytes.items ≤ (D.state disk.old).room) }
     ensures synced { OnOk result (Syncs (D.state disk.old) (D.state disk.new)) }
-    ensures rests { OnErr result (Rests (D.state disk.old) (D.state disk.new) ⊎ Syncs (D.state disk.old) (D.state disk.new)) }
+    ensures rests { OnErr result (Rests (D.state disk.old) (D.state disk.new)
+        ⊎ Syncs (D.state disk.old) (D.state disk.new)) }
     ensures goes_on { GoesOn (D.state disk.old) (D.state disk.new) }
     ensures failed { result ≡ Err OpenError.Failed → Rose (D.state disk.old).faults (D.state disk.new).faults }
     ensures undamaged { (at : ℕ) → result ≢ Err (OpenError.Damaged at) }

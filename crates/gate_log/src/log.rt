@@ -38,18 +38,23 @@ impl<D: Disk + Drop> GateLog<D> {
     /// `Failed` where the disk fails, `Damaged` exactly where its bytes are no log, and `NoMemory` where they don't
     /// fit the memory.
     pub fn open(alloc: Global, disk: D) -> Result<GateLog<D>, (D, OpenError)>
-        ensures opened { IfOk result (λ log. (payloads : List (List ℕ)) × (read_at_opening log ≡ placed 8 payloads) × AreSized payloads
+        ensures opened { IfOk result (λ log. (payloads : List (List ℕ)) × (read_at_opening log ≡ placed 8 payloads)
+            × AreSized payloads
             × (IsTrue (D.state disk).tells → IsLog (bytes_of (D.state disk)) payloads × IsOpen D.state log payloads)) }
         ensures ready { IfOk result (λ log. IsReady D.state log × (is_closed log ≡ false)) }
-        ensures damaged { (at : ℕ) → IfErr result (λ e. e.1 ≡ Damaged at → IsTrue (D.state disk).tells → IsDamagedAt (bytes_of (D.state disk)) at) }
+        ensures damaged { (at : ℕ) → IfErr result (λ e. e.1 ≡ Damaged at → IsTrue (D.state disk).tells
+            → IsDamagedAt (bytes_of (D.state disk)) at) }
         ensures exact { (at : ℕ) → IsTrue (D.state disk).tells → IsDamagedAt (bytes_of (D.state disk)) at
             → MatchResult result (λ _. ⊥) (λ e. e.1 ≢ OpenFailed → e.1 ≢ NoRoomToRead → e.1 ≡ Damaged at) }
         ensures failed { IfErr result (λ e. e.1 ≡ OpenFailed → Rose (D.state disk).faults (D.state e.0).faults) }
         // All that the disk does is to sync, and that only once.
         ensures synced { IfOk result (λ log. Syncs (D.state disk) (D.state (disk_of log))) }
-        ensures synced_err { IfErr result (λ e. Rests (D.state disk) (D.state e.0) ⊎ Syncs (D.state disk) (D.state e.0)) }
-        ensures goes_on { MatchResult result (λ log. GoesOn (D.state disk) (D.state (disk_of log))) (λ e. GoesOn (D.state disk) (D.state e.0)) }
-        ensures left { MatchResult result (λ log. Lowers 16 (D.state disk).left (D.state (disk_of log)).left) (λ e. Lowers 16 (D.state disk).left (D.state e.0).left) }
+        ensures synced_err { IfErr result (λ e. Rests (D.state disk) (D.state e.0)
+            ⊎ Syncs (D.state disk) (D.state e.0)) }
+        ensures goes_on { MatchResult result (λ log. GoesOn (D.state disk) (D.state (disk_of log)))
+            (λ e. GoesOn (D.state disk) (D.state e.0)) }
+        ensures left { MatchResult result (λ log. Lowers 16 (D.state disk).left (D.state (disk_of log)).left)
+            (λ e. Lowers 16 (D.state disk).left (D.state e.0).left) }
     {
         let mut disk = disk;
         match read_durable(alloc, &mut disk) {
@@ -76,16 +81,19 @@ impl<D: Disk + Drop> GateLog<D> {
     pub fn append(&mut self, payload: &[u8]) -> Result<(), AppendError>
         requires some { 1 ≤ length payload.now }
         requires ready { IsReady D.state self.old }
-        ensures appended { OnOk result ((payloads : List (List ℕ)) → IsOpen D.state self.old payloads → IsOpen D.state self.new (payloads ++ payload.now ∷ [])) }
+        ensures appended { OnOk result ((payloads : List (List ℕ)) → IsOpen D.state self.old payloads
+            → IsOpen D.state self.new (payloads ++ payload.now ∷ [])) }
         ensures durable { OnOk result ((payloads : List (List ℕ)) → IsOpen D.state self.old payloads
             → EachImage (λ image. IsLog image (payloads ++ payload.now ∷ [])) (D.state (disk_of self.new)).story.now) }
         ensures any_moment { (payloads : List (List ℕ)) → IsOpen D.state self.old payloads
-            → AtEachMoment (D.state (disk_of self.old)).story (D.state (disk_of self.new)).story (IsBeforeOrAfter payloads payload.now) }
+            → AtEachMoment (D.state (disk_of self.old)).story (D.state (disk_of self.new)).story
+            (IsBeforeOrAfter payloads payload.now) }
         ensures closed { result ≡ Err Closed ↔ (is_closed self.old ≡ true) }
         ensures full { is_closed self.old ≡ false → (result ≡ Err (Full (D.state (disk_of self.old)).room)
             ↔ ((D.state (disk_of self.old)).room < gate_of self.old + 5 + length payload.now + 1)) }
         ensures room { (room : ℕ) → result ≡ Err (Full room) → room ≡ (D.state (disk_of self.old)).room }
-        ensures failed { result ≡ Err DiskFailed → Rose (D.state (disk_of self.old)).faults (D.state (disk_of self.new)).faults × (is_closed self.new ≡ true) }
+        ensures failed { result ≡ Err DiskFailed
+            → Rose (D.state (disk_of self.old)).faults (D.state (disk_of self.new)).faults × (is_closed self.new ≡ true) }
         ensures refused { IfErr result (λ e. e ≢ DiskFailed → self.new ≡ self.old) }
         ensures fed { result ≢ Err OutOfMemory }
         ensures gate { OnOk result (gate_of self.new ≡ gate_of self.old + 5 + length payload.now) }
@@ -143,10 +151,13 @@ impl<D: Disk + Drop> GateLog<Fused<D>> {
     pub fn arm(&mut self, k: u64, keep: u64)
         ensures inside { inside (disk_of self.new) ≡ inside (disk_of self.old) }
         ensures keep { kept_bytes (disk_of self.new) ≡ keep }
-        ensures state { fused_state D.state (disk_of self.new) ≡ record (fused_state D.state (disk_of self.old)) { left = Some k } }
-        ensures open { (payloads : List (List ℕ)) → IsOpen (fused_state D.state) self.old payloads → IsOpen (fused_state D.state) self.new payloads }
+        ensures state { fused_state D.state (disk_of self.new)
+            ≡ record (fused_state D.state (disk_of self.old)) { left = Some k } }
+        ensures open { (payloads : List (List ℕ)) → IsOpen (fused_state D.state) self.old payloads
+            → IsOpen (fused_state D.state) self.new payloads }
         ensures ready { IsReady (fused_state D.state) self.old → IsReady (fused_state D.state) self.new }
-        ensures same { (gate_of self.new ≡ gate_of self.old) × (is_closed self.new ≡ is_closed self.old) × (read_at_opening self.new ≡ read_at_opening self.old) }
+        ensures same { (gate_of self.new ≡ gate_of self.old) × (is_closed self.new ≡ is_closed self.old)
+            × (read_at_opening self.new ≡ read_at_opening self.old) }
     {
         self.disk.arm(k, keep);
     }
@@ -154,11 +165,14 @@ impl<D: Disk + Drop> GateLog<Fused<D>> {
     /// Takes the fuse of the disk away where it has fired, also where the log is closed, and changes nothing else.
     pub fn revive(&mut self)
         ensures inside { inside (disk_of self.new) ≡ inside (disk_of self.old) }
-        ensures fired { calls_left (disk_of self.old) ≡ Some 0 → fused_state D.state (disk_of self.new) ≡ record (fused_state D.state (disk_of self.old)) { left = None } }
+        ensures fired { calls_left (disk_of self.old) ≡ Some 0
+            → fused_state D.state (disk_of self.new) ≡ record (fused_state D.state (disk_of self.old)) { left = None } }
         ensures burning { calls_left (disk_of self.old) ≢ Some 0 → self.new ≡ self.old }
-        ensures open { (payloads : List (List ℕ)) → IsOpen (fused_state D.state) self.old payloads → IsOpen (fused_state D.state) self.new payloads }
+        ensures open { (payloads : List (List ℕ)) → IsOpen (fused_state D.state) self.old payloads
+            → IsOpen (fused_state D.state) self.new payloads }
         ensures ready { IsReady (fused_state D.state) self.old → IsReady (fused_state D.state) self.new }
-        ensures same { (gate_of self.new ≡ gate_of self.old) × (is_closed self.new ≡ is_closed self.old) × (read_at_opening self.new ≡ read_at_opening self.old) }
+        ensures same { (gate_of self.new ≡ gate_of self.old) × (is_closed self.new ≡ is_closed self.old)
+            × (read_at_opening self.new ≡ read_at_opening self.old) }
     {
         self.disk.revive();
     }

@@ -14,7 +14,8 @@ fn is_open(gate: u8) -> bool
 
 // The length of the payload behind a gate, where it stands there whole.
 pub(crate) fn whole_payload(bytes: &[u8]) -> Option<usize>
-    ensures whole { MatchOption result (is_whole bytes.now ≡ false) (λ n. (is_whole bytes.now ≡ true) × (n ≡ told_length bytes.now)) }
+    ensures whole { MatchOption result (is_whole bytes.now ≡ false) (λ n. (is_whole bytes.now ≡ true)
+        × (n ≡ told_length bytes.now)) }
     ensures small { IfSome result (λ n. n < 2 ^ 32) }
 {
     if bytes.len() < 4 {
@@ -37,7 +38,8 @@ fn has_header(bytes: &[u8]) -> bool
 // The place of the closed gate, and how many records stand before it; or the place of the damage.
 pub(crate) fn find_gate(bytes: &[u8]) -> Result<(usize, usize), usize>
     ensures { MatchResult result
-        (λ found. (payloads : List (List ℕ)) × IsLog bytes.now payloads × (found.0 ≡ end_of payloads) × (found.1 ≡ length payloads))
+        (λ found. (payloads : List (List ℕ)) × IsLog bytes.now payloads × (found.0 ≡ end_of payloads)
+        × (found.1 ≡ length payloads))
         (λ at. IsDamagedAt bytes.now at) }
 {
     if !has_header(bytes) {
