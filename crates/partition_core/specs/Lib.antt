@@ -1,0 +1,6 @@
+pub mod Tables
+pub mod Leases
+pub mod Stands
+pub mod Steps
+pub mod Answers
+pub mod Messages

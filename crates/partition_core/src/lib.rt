@@ -1,0 +1,6 @@
+//! One partition of a site: its clock, its pending transactions, what it holds, and what it knows of other sites. Each call is a step of the world.
+#![tactic(auto)]
+
+mod answers;
+
+pub use answers::{CallError, Fate, Refusal};
