@@ -6,3 +6,8 @@ mod PartLists
 mod EntryLists
 mod Preparing
 mod Ending
+mod Vectors
+mod PrepareCall
+mod EndCalls
+mod Beginning
+mod Bounding

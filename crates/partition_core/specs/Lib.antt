@@ -1,5 +1,6 @@
 pub mod Tables
 pub mod Leases
+pub mod Bounds
 pub mod Stands
 pub mod Steps
 pub mod Answers

@@ -3,11 +3,16 @@ use Rattle.world_model.specs.Event.{Event}
 use Rattle.world_model.specs.Partition.{PartState, PartStep}
 use Rattle.crdt_core.specs.KindsOf.{Kinds}
 use Rattle.partition_core.specs.Tables.{Tables, IsSame}
-use Rattle.partition_core.specs.Stands.{Stands}
+use Rattle.site_vector.specs.declared.ids.TxId.{TxId}
+use Rattle.partition_core.specs.Stands.{Stands, IsNew}
 
 -- no premise on the state
 abbrev pub Anything : {E : Type 0} → PartState E → Type 0
 Anything p = Unit {0}
+
+-- the log names this transaction in no record
+abbrev pub NamesNowhere : {E : Type 0} → TxId → PartState E → Type 0
+NamesNowhere t p = IsNew p.log t
 
 module _ {S E : Type 0} (kinds : Kinds S E) (old : Tables E) where
   -- a step from this state that shows such an event, and the tables stand for the state after it
