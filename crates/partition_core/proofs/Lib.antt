@@ -11,3 +11,6 @@ mod PrepareCall
 mod EndCalls
 mod Beginning
 mod Bounding
+mod Taking
+mod TakeCall
+mod Releasing
