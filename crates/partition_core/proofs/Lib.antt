@@ -14,3 +14,6 @@ mod Bounding
 mod Taking
 mod TakeCall
 mod Releasing
+mod Waiting
+mod Folding
+mod ReadCall
