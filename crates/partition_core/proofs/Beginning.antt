@@ -6,7 +6,10 @@ use Rattle.site_vector.specs.Vector.{entry, replaced}
 use Rattle.site_vector.specs.Known.{vector_of, lowest}
 use Rattle.crdt_core.specs.KindsOf.{Kinds}
 use Rattle.crdt_core.specs.Log.{end_of_time}
-use Rattle.world_model.specs.Event.{AskBegin, Began, Refused, StableBehind, ClockAtEnd}
+use Rattle.prepared_table.specs.Leases.{Lent}
+use Rattle.stable_gossip.specs.Gossip.{told}
+use Rattle.world_model.specs.Event.{Event, AskBegin, Began, Refused, StableBehind, ClockAtEnd}
+use Rattle.world_model.specs.Plan.{IsPlace}
 use Rattle.world_model.specs.Partition.{PartState, IsOther, done, stable_entry}
 use Rattle.partition_core.specs.Tables.{Tables}
 use Rattle.partition_core.specs.Bounds.{AreStable, IsBehind, AreEnough}
@@ -67,3 +70,27 @@ module _ {S E : Type 0} (kinds : Kinds S E) (t : Tables E) (who dep v : List ℕ
           stands = later_stands t p (Began who dep tx s) n c h refl (omega arith) k;
         };
       }
+
+-- with what the code has of what was heard, for as many sites and partitions
+module _ {S E : Type 0} (kinds : Kinds S E) (t : Tables E) (dep v : List ℕ) (sites parts : ℕ) (sites_are : sites ≡ t.sites) (parts_are : parts ≡ t.parts) (wide : length v ≡ sites) (least : (j : ℕ) → 1 ≤ j → j ≤ sites → entry v j ≡ lowest (told t.id.part t.bounds t.heard j) parts) where
+  stable_here : AreStable t.sites t.parts t.id.part t.bounds t.heard v
+  stable_here j low high = least j low (omega (arith, sites_are)) ∙ ap (λ n. lowest (told t.id.part t.bounds t.heard j) n) parts_are
+
+  width_here : length v ≡ t.sites
+  width_here = wide ∙ sites_are
+
+  enough_here : AreEnough (length v) t.id.site v dep (length v) → AreEnough t.sites t.id.site v dep t.sites
+  enough_here f = subst (λ n. AreEnough n t.id.site v dep n) width_here f
+
+  pub begin_behind_by : (who : List ℕ) (j n : ℕ) → n ≡ entry v j → IsBehind (length v) t.id.site v dep j → Steps kinds t Anything (λ e. e ≡ Refused (AskBegin who dep) (StableBehind j n)) t
+  begin_behind_by who j n is b = begin_behind kinds t who dep v stable_here j n is (subst (λ n. IsBehind n t.id.site v dep j) width_here b)
+
+  pub begin_at_end_by : (who : List ℕ) (k : ℕ) → AreEnough (length v) t.id.site v dep (length v) → k ≡ t.clock → k ≡ end_of_time → Steps kinds t Anything (λ e. e ≡ Refused (AskBegin who dep) ClockAtEnd) t
+  begin_at_end_by who k f is e = begin_at_end kinds t who dep v stable_here (enough_here f) (sym is ∙ e)
+
+  pub begins_by : (who : List ℕ) (n first : ℕ) (k : Lent) (s : List ℕ) → IsPlace t.sites t.parts t.id → length dep ≡ t.sites → AreEnough (length v) t.id.site v dep (length v) → n ≡ t.clock + 1 → t.clock < end_of_time → k ≡ record { clock = n; ceiling = leased t.ceiling n } → first ≡ max n (entry dep t.id.site) → s ≡ replaced v t.id.site first
+      → Steps kinds t Anything (λ e. e ≡ Began who dep (record { site = t.id.site; part = t.id.part; time = n }) s) (at_time t k.clock k.ceiling)
+  begins_by who n first k s place width f is early e first_is snap =
+      let began : Event E = Began who dep (record { site = t.id.site; part = t.id.part; time = n }) s in
+      subst (λ (x : Lent). Steps kinds t Anything (λ e. e ≡ began) (at_time t x.clock x.ceiling)) (sym e)
+      (begins kinds t who dep v stable_here n (leased t.ceiling n) s place.least_site place.most_site width_here width (enough_here f) early is refl (snap ∙ ap (λ m. replaced v t.id.site m) first_is))

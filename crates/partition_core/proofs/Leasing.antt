@@ -7,6 +7,7 @@ use Rattle.crdt_core.specs.declared.record.Record.TheVariants.{Lease}
 use Rattle.crdt_core.specs.KindsOf.{Kinds}
 use Rattle.crdt_core.specs.Log.{end_of_time, ceiling, lease_for, grown}
 use Rattle.prepared_table.specs.declared.entry.Entry.{Entry}
+use Rattle.prepared_table.specs.Leases.{Lent}
 use Rattle.world_model.specs.Event.{Event, Ask, Refusal, Refused, Ticked}
 use Rattle.world_model.specs.Partition.{PartState, IsRefused, done}
 use Rattle.partition_core.specs.Tables.{Tables}
@@ -79,3 +80,7 @@ module _ {S E : Type 0} (kinds : Kinds S E) where
       stands = later_stands t p (Ticked r n) n c h refl (omega arith) k;
     };
   }
+
+  -- with the clock that the code has then
+  pub ticks_by : (t : Tables E) (r n : ℕ) (k : Lent) → r ≤ end_of_time → n ≡ max r t.clock → k ≡ record { clock = n; ceiling = leased t.ceiling n } → Steps kinds t Anything (λ e. e ≡ Ticked r n) (at_time t k.clock k.ceiling)
+  ticks_by t r n k low is e = subst (λ (x : Lent). Steps kinds t Anything (λ e. e ≡ Ticked r n) (at_time t x.clock x.ceiling)) (sym e) (ticks t r n (leased t.ceiling n) low is refl)

@@ -2,6 +2,7 @@ pub mod Tables
 pub mod Leases
 pub mod Bounds
 pub mod Reads
+pub mod Sound
 pub mod Stands
 pub mod Steps
 pub mod Answers

@@ -1,6 +1,11 @@
-//! One partition of a site: its clock, its pending transactions, what it holds, and what it knows of other sites. Each call is a step of the world.
+//! One partition of a site: its clock, its pending transactions, what it holds, and what it knows of other sites. Each
+//! call is a step of the world.
 #![tactic(auto)]
 
 mod answers;
+mod begin;
+mod clock;
+mod partition;
 
 pub use answers::{CallError, Fate, Refusal};
+pub use partition::Partition;
