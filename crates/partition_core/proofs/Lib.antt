@@ -17,3 +17,4 @@ mod Releasing
 mod Waiting
 mod Folding
 mod ReadCall
+mod Rooms

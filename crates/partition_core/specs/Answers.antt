@@ -3,11 +3,14 @@ use Rattle.std.specs.Prelude.{◌≡◌, Result, Ok, Err}
 use Rattle.world_model.specs.Event.{Event, Ask, Refused}
 use Rattle.world_model.specs.Event as event
 use Rattle.world_model.specs.Partition.{PartState}
+use Rattle.world_model.specs.Partition as state
 use Rattle.crdt_core.specs.KindsOf.{Kinds}
 use Rattle.partition_core.specs.declared.answers.Refusal.{Refusal}
 use Rattle.partition_core.specs.declared.answers.Refusal.TheVariants as answer
 use Rattle.partition_core.specs.declared.answers.CallError.{CallError}
 use Rattle.partition_core.specs.declared.answers.CallError.TheVariants as call
+use Rattle.partition_core.specs.declared.answers.Fate.{Fate}
+use Rattle.partition_core.specs.declared.answers.Fate.TheVariants as fate
 use Rattle.partition_core.specs.Tables.{Tables}
 use Rattle.partition_core.specs.Steps.{Steps}
 
@@ -32,3 +35,10 @@ abbrev pub Called : {S E A : Type 0} → Kinds S E → Tables E → (PartState E
 Called kinds old Given asked Shows (Ok x) new = Steps kinds old Given (Shows x) new
 Called kinds old Given asked Shows (Err call.NoMemory) new = new ≡ old
 Called kinds old Given asked Shows (Err (call.Refused why)) new = Steps kinds old Given (λ e. e ≡ Refused asked (cause why)) new
+
+-- what a fate tells
+abbrev pub fate_told : Fate → state.Fate
+fate_told fate.Pending = state.ToldPending
+fate_told (fate.Committed c) = state.ToldCommitted c
+fate_told fate.Aborted = state.ToldAborted
+fate_told fate.Down = state.ToldDown

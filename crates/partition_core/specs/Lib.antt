@@ -3,6 +3,7 @@ pub mod Leases
 pub mod Bounds
 pub mod Reads
 pub mod Sound
+pub mod Committed
 pub mod Stands
 pub mod Steps
 pub mod Answers

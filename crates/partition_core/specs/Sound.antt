@@ -1,5 +1,5 @@
 -- What holds of each partition in memory, whatever it stands for.
-use Rattle.std.specs.Prelude.{◌≡◌, ℕ, ◌+◌, ◌≤◌, true, false, List, [], ◌∷◌, length}
+use Rattle.std.specs.Prelude.{◌≡◌, ℕ, ◌+◌, ◌≤◌, true, false, List, [], ◌∷◌, length, ⊤}
 use Rattle.site_vector.specs.declared.ids.PartId.{PartId}
 use Rattle.site_vector.specs.declared.ids.TxId.{TxId}
 use Rattle.crdt_core.specs.Parts.{lists}
@@ -22,9 +22,14 @@ module _ {E : Type 0} where
   updates_pending [] = 0
   updates_pending (x ∷ xs) = length x.updates + updates_pending xs
 
-  -- what is pending began at its site and isn't held, and there is memory for it to be
-  pub record HasRoom (site : ℕ) (pending : List (Entry E)) (promised : ℕ) (store : Stored E) : Type 0 where
-    pub home : (u : TxId) → has_entry pending u ≡ true → u.site ≡ site
+  -- no transaction is pending twice
+  abbrev pub AreSingle : List (Entry E) → Type 0
+  AreSingle [] = ⊤
+  AreSingle (x ∷ xs) = (has_entry xs x.tx ≡ false) × AreSingle xs
+
+  -- what is pending isn't held, and the store has room for all of it
+  pub record HasRoom (pending : List (Entry E)) (promised : ℕ) (store : Stored E) : Type 0 where
+    pub single : AreSingle pending
     pub apart : (u : TxId) → has_entry pending u ≡ true → lists store.parts u ≡ false
     pub counted : promised ≡ updates_pending pending
     pub room : length pending ≤ store.room
@@ -33,7 +38,9 @@ module _ {E : Type 0} where
   -- all its parts are of one cluster
   pub record IsSound (id : PartId) (sites parts : ℕ) (bounds sent : List ℕ) (pending : List (Entry E)) (promised : ℕ) (store : Stored E) (heard_sites heard_parts : ℕ) : Type 0 where
     pub placed : IsPlaced id sites parts bounds sent
-    pub rooms : HasRoom id.site pending promised store
+    -- what is pending began at its site
+    pub home : (u : TxId) → has_entry pending u ≡ true → u.site ≡ id.site
+    pub rooms : HasRoom pending promised store
     pub store_sites : store.sites ≡ sites
     pub gossip_sites : heard_sites ≡ sites
     pub gossip_parts : heard_parts ≡ parts

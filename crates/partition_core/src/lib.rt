@@ -5,6 +5,7 @@
 mod answers;
 mod begin;
 mod clock;
+mod commit;
 mod partition;
 
 pub use answers::{CallError, Fate, Refusal};
