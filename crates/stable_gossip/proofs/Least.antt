@@ -31,10 +31,10 @@ pub record IsLeast (own_part : ℕ) (own : List ℕ) (heard : List (List ℕ)) (
 pub first_least : (own_part : ℕ) (own : List ℕ) (heard : List (List ℕ)) (v : List ℕ) → length v ≡ length own → ((j : ℕ) → entry v j ≡ told own_part own heard j 1) → IsLeast own_part own heard 1 v
 first_least own_part own heard v w h = record { width = w; entries = h }
 
-pub more_least : (own_part : ℕ) (own : List ℕ) (heard : List (List ℕ)) (n : ℕ) (v least : List ℕ) → 1 ≤ n → IsLeast own_part own heard n least → length v ≡ length own → ((j : ℕ) → entry v j ≡ told own_part own heard j (n + 1)) → IsLeast own_part own heard (n + 1) (meet v least)
-more_least own_part own heard n v least some h w k = record {
+pub more_least : (own_part : ℕ) (own : List ℕ) (heard : List (List ℕ)) (n : ℕ) (v least met : List ℕ) → 1 ≤ n → IsLeast own_part own heard n least → length v ≡ length own → ((j : ℕ) → entry v j ≡ told own_part own heard j (n + 1)) → met ≡ meet v least → IsLeast own_part own heard (n + 1) met
+more_least own_part own heard n v least met some h w k e = subst (λ (m : List ℕ). IsLeast own_part own heard (n + 1) m) (sym e) (record {
   width = length_meet v least (w ∙ sym h.width) ∙ w;
   entries = λ j.
       let known = told own_part own heard j in
       entry_meet v least j (w ∙ sym h.width) ∙ (ap (λ a. min a (entry least j)) (k j) ∙ (ap (min (known (n + 1))) (h.entries j) ∙ sym (lowest_more known n some)));
-}
+})

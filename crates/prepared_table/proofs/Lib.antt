@@ -1,0 +1,4 @@
+pub mod Digests
+pub mod Places
+pub mod Putting
+pub mod Founds

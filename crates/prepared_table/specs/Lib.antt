@@ -1,0 +1,4 @@
+pub mod Digest
+pub mod Entries
+pub mod Leases
+pub mod Table

@@ -1,0 +1,17 @@
+use crdt_core::Upd;
+use field_codec::ListOf;
+use site_vector::{TxId, VTime};
+
+/// A transaction that is prepared and not ended.
+#[derive(Drop)]
+pub struct Entry<E> {
+    pub tx: TxId,
+    /// The number of the partition that decides.
+    pub lead: u8,
+    /// The prepare time, in logical ticks.
+    pub time: u64,
+    /// The snapshot.
+    pub s: VTime,
+    /// What it changes at this partition, ascending by number.
+    pub updates: ListOf<Upd<E>>,
+}
