@@ -1,6 +1,6 @@
 -- The calls that decide, finish, abort and tell a fate.
 use Rattle.std.proofs.Common.{◌≡◌, ⊎_elim, ℕ, Bool, true, false, ◌||◌, List, [], ◌∷◌, ◌++◌, Option, None, Some, refl, sym, ap, ◌∙◌, subst}
-use Rattle.std.specs.Prelude.{if◌then◌else◌}
+use Rattle.std.specs.Prelude.{if◌then◌else◌, Result, Ok, Err}
 use Rattle.std.proofs.lemmas.Bool.{true≢false, cases_Bool, false_from_ne_true}
 use Rattle.site_vector.specs.declared.ids.TxId.{TxId}
 use Rattle.site_vector.specs.Ids.{same_tx}
@@ -14,15 +14,25 @@ use Rattle.crdt_core.specs.Log.{ceiling, committed, committed_at, taken, taken_a
 use Rattle.crdt_core.specs.Orders.{insert_by, fold_cmp}
 use Rattle.crdt_core.specs.Parts.{lists, vector_in, AreParts}
 use Rattle.prepared_table.specs.declared.entry.Entry.{Entry}
-use Rattle.prepared_table.specs.Entries.{has_entry}
+use Rattle.prepared_table.specs.Entries.{has_entry, found, IsTakenOut}
 use Rattle.world_model.specs.Event.{Event, Ask, AskDecide, AskFinish, AskAbort, Decided, Finished, Aborted, Refused, IsGone}
 use Rattle.world_model.specs.Partition.{PartState, Fate, ToldPending, ToldCommitted, ToldAborted, ToldDown, fate_of, IsRefused, done}
 use Rattle.partition_core.specs.Tables.{Tables}
 use Rattle.partition_core.specs.Stands.{Tells, Stands}
 use Rattle.partition_core.specs.Steps.{Anything, Steps}
-use Rattle.partition_core.proofs.Choices.{or_none, second_true, taken_second}
+use Rattle.partition_core.specs.declared.answers.Refusal.{Refusal}
+use Rattle.partition_core.specs.Answers.{cause, Answered}
+use Rattle.partition_core.specs.Committed.{IsCommitted, IsNotPending, Commits}
+use Rattle.partition_core.proofs.Choices.{or_none, second_true, taken_first, taken_second}
+use Rattle.partition_core.proofs.Rooms.{found_is, not_found_is, still_has}
 use Rattle.partition_core.proofs.Leasing.{refuses}
 use Rattle.partition_core.proofs.Ending.{waits, abort_tells, decide_tells, finish_tells}
+
+some_is : {A : Type 0} (x y : A) → Some x ≡ Some y → x ≡ y
+some_is x y e = cc
+
+none_is : {A : Type 0} (x : A) → Some x ≡ None → ⊥
+none_is x e = cc
 
 -- the vector of a part that is there
 vector_there : {E : Type 0} (v : TxId → List ℕ) (c : TxId → List (Upd E)) (xs : List (Part E)) (u : TxId) → AreParts v c xs → lists xs u ≡ true → vector_in xs u ≡ v u
@@ -152,3 +162,75 @@ module _ {S E : Type 0} (kinds : Kinds S E) (t : Tables E) where
             stands = listed (xs ++ ys) t.held p (Abort y.tx ∷ p.log) h refl (abort_tells p.log t.id.site t.clock xs y ys t.held tells);
           };
     }
+
+  aborts_split : (y : Entry E) (own : Bool) (xs : List (Entry E)) → IsTakenOut y t.pending xs → Steps kinds t Anything (λ e. e ≡ Aborted y.tx own) (with_lists xs t.held)
+  aborts_split y own xs h = subst (λ l. Steps kinds t Anything (λ e. e ≡ Aborted y.tx own) (with_lists l t.held)) (sym h.after) (aborts_entry h.front y h.back h.before own)
+
+  pub aborts : (y : Entry E) (tx : TxId) (own : Bool) (xs : List (Entry E)) → y.tx ≡ tx → IsTakenOut y t.pending xs → Steps kinds t Anything (λ e. e ≡ Aborted tx own) (with_lists xs t.held)
+  aborts y tx own xs e h = subst (λ u. Steps kinds t Anything (λ e. e ≡ Aborted u own) (with_lists xs t.held)) e (aborts_split y own xs h)
+
+  module _ (tx : TxId) (c : List ℕ) (xs : List (Entry E)) (ps : List (Part E)) (m : IsCommitted tx c t.pending t.held xs ps) where
+    -- whatever the record is that ends it
+    ends : (F : TxId → Event E) → Steps kinds t Anything (λ e. e ≡ F m.entry.tx) (with_lists (m.taken.front ++ m.taken.back) (insert_by fold_cmp (record { tx = m.entry.tx; c = c; updates = m.entry.updates }) t.held)) → Steps kinds t Anything (λ e. e ≡ F tx) (with_lists xs ps)
+    ends F h =
+        let left = m.taken.front ++ m.taken.back in
+        let one : Steps kinds t Anything (λ e. e ≡ F tx) (with_lists left (insert_by fold_cmp (record { tx = tx; c = c; updates = m.entry.updates }) t.held)) = subst (λ u. Steps kinds t Anything (λ e. e ≡ F u) (with_lists left (insert_by fold_cmp (record { tx = u; c = c; updates = m.entry.updates }) t.held))) m.tx h in
+        subst (λ l. Steps kinds t Anything (λ e. e ≡ F tx) (with_lists l ps)) (sym m.taken.after) (subst (λ l. Steps kinds t Anything (λ e. e ≡ F tx) (with_lists left l)) (sym m.put) one)
+
+    decides_now : Steps kinds t Anything (λ e. e ≡ Decided tx c) (with_lists xs ps)
+    decides_now = ends (λ u. Decided u c) (decides_entry m.taken.front m.entry m.taken.back m.taken.before c)
+
+    finishes_now : Steps kinds t Anything (λ e. e ≡ Finished tx c) (with_lists xs ps)
+    finishes_now = ends (λ u. Finished u c) (finishes_entry m.taken.front m.entry m.taken.back m.taken.before c)
+
+  -- where nothing changed
+  as_before : (A : Event E → Type 0) (xs : List (Entry E)) (ps : List (Part E)) → xs ≡ t.pending → ps ≡ t.held → Steps kinds t Anything A t → Steps kinds t Anything A (with_lists xs ps)
+  as_before A xs ps e f h = subst (λ l. Steps kinds t Anything A (with_lists l ps)) (sym e) (subst (λ l. Steps kinds t Anything A (with_lists t.pending l)) (sym f) h)
+
+  pub decides_by : {A : Type 0} (tx : TxId) (c : List ℕ) (r : Result A Refusal) (xs : List (Entry E)) (ps : List (Part E)) → tx.site ≡ t.id.site → Commits tx c t.pending t.held r xs ps → Answered kinds t Anything (AskDecide tx c) (λ n e. e ≡ Decided tx c) r (with_lists xs ps)
+  decides_by tx c (Ok x) xs ps home h = ⊎_elim
+      (λ (m : IsCommitted tx c t.pending t.held xs ps). decides_now tx c xs ps m)
+      (λ (m : IsNotPending tx c t.pending t.held xs ps × (lists t.held tx ≡ true)). as_before (λ e. e ≡ Decided tx c) xs ps m.0.same_pending m.0.same_held (decided_before tx c home m.0.out m.1))
+      h
+  decides_by tx c (Err why) xs ps home h = as_before (λ e. e ≡ Refused (AskDecide tx c) (cause why)) xs ps h.1.same_pending h.1.same_held (subst (λ w. Steps kinds t Anything (λ e. e ≡ Refused (AskDecide tx c) (cause w)) t) (sym h.0) (decide_gone tx c home h.1.out h.2))
+
+  pub finishes_by : {A : Type 0} (tx : TxId) (c : List ℕ) (r : Result A Refusal) (xs : List (Entry E)) (ps : List (Part E)) → tx.site ≡ t.id.site → Commits tx c t.pending t.held r xs ps → Answered kinds t Anything (AskFinish tx c) (λ n e. e ≡ Finished tx c) r (with_lists xs ps)
+  finishes_by tx c (Ok x) xs ps home h = ⊎_elim
+      (λ (m : IsCommitted tx c t.pending t.held xs ps). finishes_now tx c xs ps m)
+      (λ (m : IsNotPending tx c t.pending t.held xs ps × (lists t.held tx ≡ true)). as_before (λ e. e ≡ Finished tx c) xs ps m.0.same_pending m.0.same_held (finished_before tx c home m.0.out m.1))
+      h
+  finishes_by tx c (Err why) xs ps home h = as_before (λ e. e ≡ Refused (AskFinish tx c) (cause why)) xs ps h.1.same_pending h.1.same_held (subst (λ w. Steps kinds t Anything (λ e. e ≡ Refused (AskFinish tx c) (cause w)) t) (sym h.0) (finish_gone tx c home h.1.out h.2))
+
+module _ {E : Type 0} where
+  -- who is pending after a commit was before
+  pub commits_home : {A : Type 0} (site : ℕ) (tx : TxId) (c : List ℕ) (old new : List (Entry E)) (held ps : List (Part E)) (r : Result A Refusal) → Commits tx c old held r new ps → ((u : TxId) → has_entry old u ≡ true → u.site ≡ site) → (u : TxId) → has_entry new u ≡ true → u.site ≡ site
+  commits_home site tx c old new held ps (Ok x) m h u k = ⊎_elim
+      (λ (n : IsCommitted tx c old held new ps). h u (still_has n.entry old new n.taken u k))
+      (λ (n : IsNotPending tx c old held new ps × (lists held tx ≡ true)). h u (ap (λ l. has_entry l u) (sym n.0.same_pending) ∙ k))
+      m
+  commits_home site tx c old new held ps (Err why) m h u k = h u (ap (λ l. has_entry l u) (sym m.1.same_pending) ∙ k)
+
+  looked_up : (held : List (Part E)) (tx : TxId) (c : List ℕ) → Some c ≡ (if lists held tx then Some (vector_in held tx) else None) → (lists held tx ≡ true) × (c ≡ vector_in held tx)
+  looked_up held tx c e = ⊎_elim
+      (λ (k : lists held tx ≡ true). (k, some_is c (vector_in held tx) (e ∙ sym (taken_first (lists held tx) (Some (vector_in held tx)) None _ refl k))))
+      (λ (k : lists held tx ≡ false). absurd (none_is c (e ∙ sym (taken_second (lists held tx) (Some (vector_in held tx)) None _ refl k))))
+      (cases_Bool (lists held tx))
+
+  not_looked_up : (held : List (Part E)) (tx : TxId) → None ≡ (if lists held tx then Some (vector_in held tx) else None) → lists held tx ≡ false
+  not_looked_up held tx e = ⊎_elim
+      (λ (k : lists held tx ≡ true). absurd (none_is (vector_in held tx) (taken_first (lists held tx) (Some (vector_in held tx)) None _ refl k ∙ sym e)))
+      (λ (k : lists held tx ≡ false). k)
+      (cases_Bool (lists held tx))
+
+  module _ (v t : Tables E) (is : v ≡ t) (tx : TxId) (home : tx.site ≡ t.id.site) (p : PartState E) (h : Stands t p) where
+    pub fate_pending : (x : Entry E) → Some x ≡ found tx v.pending → ToldPending ≡ fate_of p tx
+    fate_pending x e = tells_pending t tx home p h (found_is tx t.pending x (ap (λ (w : Tables E). found tx w.pending) (sym is) ∙ sym e)).0
+
+    out_of : None ≡ found tx v.pending → has_entry t.pending tx ≡ false
+    out_of e = not_found_is tx t.pending (ap (λ (w : Tables E). found tx w.pending) (sym is) ∙ sym e)
+
+    pub fate_committed : (c : List ℕ) → None ≡ found tx v.pending → Some c ≡ (if lists v.held tx then Some (vector_in v.held tx) else None) → ToldCommitted c ≡ fate_of p tx
+    fate_committed c e f = let two = looked_up t.held tx c (f ∙ ap (λ (w : Tables E). if lists w.held tx then Some (vector_in w.held tx) else None) is) in tells_committed t tx home p h c (out_of e) two.0 two.1
+
+    pub fate_aborted : None ≡ found tx v.pending → None ≡ (if lists v.held tx then Some (vector_in v.held tx) else None) → ToldAborted ≡ fate_of p tx
+    fate_aborted e f = tells_aborted t tx home p h (out_of e) (not_looked_up t.held tx (f ∙ ap (λ (w : Tables E). if lists w.held tx then Some (vector_in w.held tx) else None) is))

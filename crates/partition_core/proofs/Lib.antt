@@ -4,6 +4,7 @@ mod Choices
 mod Sorting
 mod PartLists
 mod EntryLists
+mod Rooms
 mod Preparing
 mod Ending
 mod Vectors
@@ -17,4 +18,3 @@ mod Releasing
 mod Waiting
 mod Folding
 mod ReadCall
-mod Rooms

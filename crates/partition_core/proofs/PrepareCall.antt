@@ -10,6 +10,8 @@ use Rattle.crdt_core.specs.Log.{end_of_time, lease_for, grown}
 use Rattle.crdt_core.specs.Orders.{insert_by}
 use Rattle.prepared_table.specs.declared.entry.Entry.{Entry}
 use Rattle.prepared_table.specs.Entries.{entry_cmp}
+use Rattle.prepared_table.specs.Leases.{Lent}
+use Rattle.crdt_core.specs.declared.record.Part.{Part}
 use Rattle.world_model.specs.Event.{Event, AskPrepare, Prepared, Refused, ClockBehind, ClockAtEnd}
 use Rattle.world_model.specs.Partition.{PartState, done}
 use Rattle.world_model.proofs.Moves.{grown_last}
@@ -64,3 +66,11 @@ module _ {S E : Type 0} (kinds : Kinds S E) (t : Tables E) where
       subst (λ ys. Steps kinds t (NamesNowhere tx) (λ e. e ≡ Prepared tx s l w n) (with_pending ys n c)) (sym put)
       (subst (λ u. Steps kinds t (NamesNowhere tx) (λ e. e ≡ Prepared tx s l u n) (with_pending (insert_by entry_cmp (y v) t.pending) n c)) e
       (prepares_entry (y v) c home reached early is k))
+
+  -- with the clock that the code has then
+  pub prepares_by : (tx : TxId) (s : List ℕ) (l : ℕ) (w v : List (Upd E)) (n : ℕ) (k : Lent) (xs : List (Entry E)) (ps : List (Part E)) → v ≡ w → tx.site ≡ t.id.site → entry s t.id.site ≤ t.clock → t.clock < end_of_time → n ≡ t.clock + 1 → k ≡ record { clock = n; ceiling = leased t.ceiling n } → xs ≡ insert_by entry_cmp (record { tx = tx; lead = l; time = n; s = s; updates = v }) t.pending → ps ≡ t.held
+      → Steps kinds t (NamesNowhere tx) (λ e. e ≡ Prepared tx s l w n) (record { id = t.id; sites = t.sites; parts = t.parts; clock = k.clock; ceiling = k.ceiling; pending = xs; held = ps; bounds = t.bounds; heard = t.heard; sent = t.sent })
+  prepares_by tx s l w v n k xs ps e home reached early is shown put same =
+      subst (λ (x : Lent). Steps kinds t (NamesNowhere tx) (λ e. e ≡ Prepared tx s l w n) (record { id = t.id; sites = t.sites; parts = t.parts; clock = x.clock; ceiling = x.ceiling; pending = xs; held = ps; bounds = t.bounds; heard = t.heard; sent = t.sent })) (sym shown)
+      (subst (λ hs. Steps kinds t (NamesNowhere tx) (λ e. e ≡ Prepared tx s l w n) (record { id = t.id; sites = t.sites; parts = t.parts; clock = n; ceiling = leased t.ceiling n; pending = xs; held = hs; bounds = t.bounds; heard = t.heard; sent = t.sent })) (sym same)
+      (prepares tx s l w v n (leased t.ceiling n) xs e home reached early is refl put))

@@ -119,6 +119,9 @@ module _ {E : Type 0} where
           update_room = let a = h.update_room in omega arith;
         }
 
+    pub committed_room_of : (t : TxId) (promised left : ℕ) (store after : Stored E) (c : List ℕ) → x.tx ≡ t → HasRoom old promised store → left + length x.updates ≡ promised → after.parts ≡ insert_by fold_cmp (record { tx = t; c = c; updates = x.updates }) store.parts → after.room + 1 ≡ store.room → after.update_room + length x.updates ≡ store.update_room → HasRoom new left after
+    committed_room_of t promised left store after c is h e put room update_room = committed_room promised left store after c h e (put ∙ ap (λ (u : TxId). insert_by fold_cmp (record { tx = u; c = c; updates = x.updates }) store.parts) (sym is)) room update_room
+
   -- one more is pending
   pub prepared_room : (y : Entry E) (old new : List (Entry E)) (promised all : ℕ) (store : Stored E) → HasRoom old promised store → has_entry old y.tx ≡ false → lists store.parts y.tx ≡ false → new ≡ insert_by entry_cmp y old → all ≡ promised + length y.updates → length old + 1 ≤ store.room → all ≤ store.update_room → HasRoom new all store
   prepared_room y old new promised all store h out unheld put sum room update_room = record {

@@ -2,7 +2,8 @@ ghost use Rattle.std.specs.Prelude.{◌≡◌, ◌≤◌, ◌<◌, ◌+◌, Bool
 ghost use Rattle.crdt_core.specs.KindsOf.{kinds_of};
 ghost use Rattle.crdt_core.specs.Parts.{lists};
 ghost use Rattle.prepared_table.specs.Entries.{has_entry, IsTakenOut};
-ghost use Rattle.world_model.specs.Event.{AskPrepare, AskDecide, AskFinish, AskAbort, Prepared, Decided, Finished, Aborted};
+ghost use Rattle.world_model.specs.Event.{AskPrepare, AskDecide, AskFinish, AskAbort, Decided, Finished, Aborted};
+ghost use Rattle.world_model.specs.Event as event;
 ghost use Rattle.world_model.specs.Partition.{PartState, fate_of};
 ghost use Rattle.partition_core.specs.Answers.{Answered, Called, fate_told};
 ghost use Rattle.partition_core.specs.Committed.{Commits};
@@ -38,7 +39,7 @@ impl<C: Crdt> Partition<C> {
         requires width { length s.now ≡ self.old.sites }
         requires not_pending { has_entry self.old.pending tx ≡ false }
         requires not_held { lists self.old.held tx ≡ false }
-        ensures { Called (kinds_of C.laws) self.old (NamesNowhere tx) (AskPrepare tx s.now lead updates.now) (λ n e. e ≡ Prepared tx s.now lead updates.now n) result self.new }
+        ensures { Called (kinds_of C.laws) self.old (NamesNowhere tx) (AskPrepare tx s.now lead updates.now) (λ n e. e ≡ event.Prepared tx s.now lead updates.now n) result self.new }
     {
         let at = self.clock.now();
         if at < s.get(self.id.site) {
@@ -152,9 +153,10 @@ fn promise<C: Crdt>(
 }
 
 /// Takes out what is pending of a transaction, and counts its updates no more.
-fn take_out<E>(prepared: &mut Prepared<E>, promised: &mut usize, tx: TxId) -> Option<Entry<E>>
+#[tactic(auto, using(crate::proofs::Rooms::not_found_is, crate::proofs::Rooms::found_is, crate::proofs::Rooms::had_updates))]
+fn take_out<E: Drop>(prepared: &mut Prepared<E>, promised: &mut usize, tx: TxId) -> Option<Entry<E>>
     requires { promised.old ≡ updates_pending prepared.old.entries }
-    ensures { MatchOption result ((has_entry prepared.old.entries tx ≡ false) × (prepared.new ≡ prepared.old) × (promised.new ≡ promised.old)) (λ e. (e.tx ≡ tx) × IsTakenOut e prepared.old.entries prepared.new.entries × (promised.new + length e.updates ≡ promised.old)) }
+    ensures { MatchOption result ((has_entry prepared.old.entries tx ≡ false) × (prepared.new.entries ≡ prepared.old.entries) × (promised.new ≡ promised.old)) (λ e. (e.tx ≡ tx) × IsTakenOut e prepared.old.entries prepared.new.entries × (promised.new + length e.updates ≡ promised.old)) }
 {
     let entry = prepared.remove(tx)?;
     *promised -= entry.updates.as_slice().len();
@@ -166,6 +168,7 @@ fn take_out<E>(prepared: &mut Prepared<E>, promised: &mut usize, tx: TxId) -> Op
 /// # Errors
 ///
 /// `Gone` exactly where it is neither pending nor held.
+#[tactic(auto, using(crate::proofs::Rooms::some_room, crate::proofs::Rooms::committed_room_of))]
 fn commit<C: Crdt>(
     prepared: &mut Prepared<C::Effect>,
     store: &mut Store<C>,
