@@ -2,6 +2,7 @@ pub mod Tables
 pub mod Leases
 pub mod Bounds
 pub mod Reads
+pub mod Waits
 pub mod Sound
 pub mod Committed
 pub mod Stands

@@ -7,6 +7,7 @@ mod begin;
 mod clock;
 mod commit;
 mod partition;
+mod read;
 
 pub use answers::{CallError, Fate, Refusal};
 pub use partition::Partition;
