@@ -12,11 +12,6 @@ use Rattle.prepared_table.specs.Entries.{entry_cmp}
 
 -- ---- the orders
 
-less_is : (r : Ordering) → is_less r ≡ true → r ≡ Less
-less_is Less h = refl
-less_is Equal h = absurd cc
-less_is Greater h = absurd cc
-
 not_less : (r : Ordering) → (r ≡ Less → ⊥) → is_less r ≡ false
 not_less Less h = absurd (h refl)
 not_less Equal h = refl

@@ -38,7 +38,8 @@ impl<E> Model for Prepared<E> {
 impl<E> Prepared<E> {
     /// Nothing prepared, and room for nothing. Takes no memory.
     pub fn new(alloc: Global) -> Prepared<E>
-        ensures { result ≡ record { entries = []; room = 0 } }
+        ensures value { result ≡ record { entries = []; room = 0 } }
+        ensures ascends { Ascends entry_cmp result.entries }
     {
         Prepared {
             entries: Vec::new(alloc),
@@ -49,7 +50,8 @@ impl<E> Prepared<E> {
 
     /// The entry of a transaction, if there is one.
     pub fn get(&self, tx: TxId) -> Option<&Entry<E>>
-        ensures { option_copied result ≡ found tx self.now.entries }
+        ensures value { option_copied result ≡ found tx self.now.entries }
+        ensures ascends { Ascends entry_cmp self.now.entries }
     {
         match find(self.entries.as_slice(), tx) {
             Some(at) => Some(&self.entries[at]),
@@ -70,7 +72,8 @@ impl<E> Prepared<E> {
 
     /// The first entry, in order, that changes the object and has a time of at most `upto`: its transaction and its time.
     pub fn on(&self, object: &ObjectId, upto: u64) -> Option<(TxId, u64)>
-        ensures { result ≡ first_on object.now upto self.now.entries }
+        ensures first { result ≡ first_on object.now upto self.now.entries }
+        ensures ascends { Ascends entry_cmp self.now.entries }
     {
         first_on(
             self.entries.as_slice(),
@@ -99,6 +102,7 @@ impl<E: Drop> Prepared<E> {
         ensures entries { self.new.entries ≡ self.old.entries }
         ensures kept { self.old.room ≤ self.new.room }
         ensures ok { OnOk result (n ≤ self.new.room) }
+        ensures ascends { Ascends entry_cmp self.new.entries }
     {
         if n <= self.room {
             return Ok(());
@@ -115,6 +119,7 @@ impl<E: Drop> Prepared<E> {
         requires fresh { has_entry self.old.entries entry.tx ≡ false }
         ensures entries { self.new.entries ≡ insert_by entry_cmp entry self.old.entries }
         ensures room { self.new.room + 1 ≡ self.old.room }
+        ensures ascends { Ascends entry_cmp self.new.entries }
     {
         put(&mut self.entries, &mut self.digests, entry);
         self.room -= 1;
@@ -125,6 +130,7 @@ impl<E: Drop> Prepared<E> {
         ensures value { result ≡ found tx self.old.entries }
         ensures rest { MatchOption result (self.new.entries ≡ self.old.entries) (λ x. IsTakenOut x self.old.entries self.new.entries) }
         ensures room { MatchOption result (self.new.room ≡ self.old.room) (λ _. self.new.room ≡ self.old.room + 1) }
+        ensures ascends { Ascends entry_cmp self.new.entries }
     {
         let at = match find(self.entries.as_slice(), tx) {
             Some(at) => at,
