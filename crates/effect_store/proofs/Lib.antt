@@ -1,0 +1,7 @@
+pub mod Arranging
+pub mod Chaining
+pub mod Walking
+pub mod Flattening
+pub mod Ordering
+pub mod Spotting
+pub mod Linking
