@@ -5,3 +5,4 @@ pub mod Flattening
 pub mod Ordering
 pub mod Spotting
 pub mod Linking
+pub mod Reading

@@ -179,3 +179,31 @@ roomy_less l a b h r = record {
   of_first = omega (arith, r.of_first);
   of_last = omega (arith, r.of_last);
 }
+
+-- what an entry names
+pub record IsRead {E : Type 0} (xs : List (Spot E)) (parts : List (Part E)) (k : ℕ) (e : Entry) : Type 0 where
+  pub spot : Spot E
+  pub here : slice_get xs k ≡ Some spot
+  pub part : slice_get parts e.part ≡ Some spot.part
+  pub update : slice_get spot.part.updates e.at ≡ Some spot.update
+
+module _ {E : Type 0} where
+  pub reads_at : (xs : List (Spot E)) (parts : List (Part E)) (entries : List Entry) (next back : List ℕ) (first last : ℕ → Option ℕ) (k : ℕ) (e : Entry) → IsLinked xs parts entries next back first last → slice_get entries k ≡ Some e → IsRead xs parts k e
+  reads_at xs parts entries next back first last k e s g =
+      let q = stands xs parts entries next back first last s k e g in
+      let r = s.located k q.0 q.1 in
+      let P : ℕ → Type 0 = λ n. slice_get q.0.part.updates n ≡ Some q.0.update in
+      record { spot = q.0; here = q.1; part = q.2; update = subst P (sym q.3) r.update }
+
+  -- a list of updates that was read
+  pub list_read : (parts : List (Part E)) (place n : ℕ) (p q : Part E) (us : List (Upd E)) (u : Upd E) → slice_get parts place ≡ Some p → slice_get parts place ≡ Some q → slice_get q.updates n ≡ Some u → us ≡ p.updates → slice_get us n ≡ Some u
+  list_read parts place n p q us u e f k g =
+      let same : q ≡ p = cc in
+      let P : Part E → Type 0 = λ x. slice_get x.updates n ≡ Some u in
+      rw g (subst P same k)
+
+  pub same_part : (a : Option (Part E)) (b : Option (Spot E)) (p : Part E) (q x : Spot E) → a ≡ Some p → a ≡ Some q.part → b ≡ Some q → b ≡ Some x → p ≡ x.part
+  same_part a b p q x e f g h = let i : q ≡ x = cc in let j : p ≡ q.part = cc in j ∙ ap (λ (z : Spot E). z.part) i
+
+  pub same_update : (a : Option (Upd E)) (b : Option (Spot E)) (u : Upd E) (q x : Spot E) → a ≡ Some u → a ≡ Some q.update → b ≡ Some q → b ≡ Some x → u ≡ x.update
+  same_update a b u q x e f g h = let i : q ≡ x = cc in let j : u ≡ q.update = cc in j ∙ ap (λ (z : Spot E). z.update) i
