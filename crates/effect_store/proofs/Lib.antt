@@ -6,3 +6,6 @@ pub mod Ordering
 pub mod Spotting
 pub mod Linking
 pub mod Reading
+pub mod Holding
+pub mod Storing
+pub mod Folding

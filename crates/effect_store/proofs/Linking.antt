@@ -145,8 +145,8 @@ module _ {E : Type 0} where
       let h2 : Hooked next next' first first' a (tag_of (spot p n u)) own c = rw tag at h in
       let k2 : Hooked back back' last last' c (tag_of (spot p n u)) own a = rw tag at k in
       linked_by (xs ++ spot p n u ∷ []) (spots_to parts place (n + 1)) parts entries' next' back' first' last' (spots_to-more parts place n p u there at)
-          (linked_more xs parts entries next back first last s entries' next' back' first' last' (spot p n u) a c own (omega (arith, s.many)) here (spots_to-fresh parts place n p u apart there)
-          entry (λ j e z. rw grown (get_push entries (record { part = place; at = n }) j e z)) (rw grown (simp length-append (omega arith))) points f2 g2 h2 k2)
+      (linked_more xs parts entries next back first last s entries' next' back' first' last' (spot p n u) a c own (omega (arith, s.many)) here (spots_to-fresh parts place n p u apart there)
+      entry (λ j e z. rw grown (get_push entries (record { part = place; at = n }) j e z)) (rw grown (simp length-append (omega arith))) points f2 g2 h2 k2)
 
   -- an update that was read of a part that was read
   pub update_read : (parts : List (Part E)) (place n : ℕ) (p q : Part E) (us : List (Upd E)) (u : Upd E) → slice_get parts place ≡ Some q → n < length q.updates → slice_get parts place ≡ Some p → us ≡ p.updates → ((n < length us) → slice_get us n ≡ Some u) → slice_get p.updates n ≡ Some u

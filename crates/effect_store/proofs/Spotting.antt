@@ -54,9 +54,10 @@ suc_same k j n h = n (omega arith)
 
 paired_of : {X : Type 0} (lt : X → X → Bool) (xs : List X) → IsApart lt xs → Paired lt xs
 paired_of lt [] h = tt
-paired_of lt (x ∷ xs) h =
-    (each_at (λ y. lt x y || lt y x) xs (λ k p e. h zero (suc k) x p refl e (λ z. suc_apart k (sym z))),
-    paired_of lt xs (λ k j p q e f n. h (suc k) (suc j) p q e f (suc_same k j n)))
+paired_of lt (x ∷ xs) h = (
+  each_at (λ y. lt x y || lt y x) xs (λ k p e. h zero (suc k) x p refl e (λ z. suc_apart k (sym z))),
+  paired_of lt xs (λ k j p q e f n. h (suc k) (suc j) p q e f (suc_same k j n)),
+)
 
 crossed_none : {X : Type 0} (lt : X → X → Bool) (xs : List X) → Crossed lt [] xs
 crossed_none lt [] = tt
@@ -133,9 +134,9 @@ module _ {E : Type 0} where
       let x : Spot E = spot p n u in
       let t : Spot E → Bool = λ q. before x q || before q x in
       let others : Each t (spots (take place parts)) = each_flat spots_in t (take place parts) (λ k q f.
-          (let r = get_take place parts k q f in
-          let side : earlier p q || earlier q p ≡ true = a place k p q e r.0 (λ z. (let v : k < place = r.1 in let w : ⊥ = omega arith in w)) in
-          each_from t q 0 q.updates (λ j v b. either_way (earlier p q) (earlier q p) (before x (spot q j v)) (before (spot q j v) x) (before_by_parts x (spot q j v)) (before_by_parts (spot q j v) x) side))) in
+      (let r = get_take place parts k q f in
+      let side : earlier p q || earlier q p ≡ true = a place k p q e r.0 (λ z. (let v : k < place = r.1 in let w : ⊥ = omega arith in w)) in
+      each_from t q 0 q.updates (λ j v b. either_way (earlier p q) (earlier q p) (before x (spot q j v)) (before (spot q j v) x) (before_by_parts x (spot q j v)) (before_by_parts (spot q j v) x) side))) in
       let own : Each t (spots_from p 0 (take n p.updates)) = each_front t p 0 n p.updates (λ j v b. spots_apart x (spot p j v) (λ z. (let w : ⊥ = omega arith in w))) in
       let P : Option (Part E) → Type 0 = λ o. Each t (spots_of o n) in
       each-append t (spots (take place parts)) (spots_of (slice_get parts place) n) others (subst P (sym e) own)

@@ -6,3 +6,5 @@ pub mod Stored
 pub mod Hooks
 pub mod Links
 pub mod Wanted
+pub mod Stores
+pub mod Applied

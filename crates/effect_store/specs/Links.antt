@@ -1,5 +1,5 @@
 -- What the links of a store tell: of each update the next of its tag in fold order, and the one before.
-use Rattle.std.specs.Prelude.{◌≡◌, ℕ, ◌+◌, ◌≤◌, List, length, Option, Some, None, nat_eq, vec_len, vec_capacity}
+use Rattle.std.specs.Prelude.{◌≡◌, ℕ, ◌+◌, ◌≤◌, List, [], length, Option, Some, None, nat_eq, vec_len, vec_capacity}
 use Rattle.std.specs.List.{slice_get, filter}
 use Rattle.std.specs.HashMap.{get, spare}
 use Rattle.crdt_core.specs.declared.record.Upd.{Upd}
@@ -37,6 +37,22 @@ module _ {E : Type 0} where
 
   abbrev pub AreLinks : List (Spot E) → List (Part E) → Links → Type 0
   AreLinks xs parts l = IsLinked xs parts l.entries.items l.next.items l.back.items (get nat_eq l.first) (get nat_eq l.last)
+
+-- nothing is linked
+pub record AreNone (l : Links) : Type 0 where
+  pub entries : l.entries.items ≡ []
+  pub next : l.next.items ≡ []
+  pub back : l.back.items ≡ []
+  pub first : (i : ℕ) → get nat_eq l.first i ≡ None
+  pub last : (i : ℕ) → get nat_eq l.last i ≡ None
+
+-- the same links, in other memory
+pub record AreSame (old new : Links) : Type 0 where
+  pub entries : new.entries.items ≡ old.entries.items
+  pub next : new.next.items ≡ old.next.items
+  pub back : new.back.items ≡ old.back.items
+  pub first : (i : ℕ) → get nat_eq new.first i ≡ get nat_eq old.first i
+  pub last : (i : ℕ) → get nat_eq new.last i ≡ get nat_eq old.last i
 
 -- room for so many more updates, whatever objects they are of
 pub record Roomy (l : Links) (n : ℕ) : Type 0 where

@@ -1,4 +1,4 @@
-ghost use Rattle.std.specs.Prelude.{◌≡◌, ◌++◌, [], ◌∷◌, ℕ, ◌+◌, ◌<◌, ◌≤◌, length, nat_eq, vec_len, vec_capacity, slice_index_or, Some};
+ghost use Rattle.std.specs.Prelude.{◌≡◌, ◌++◌, [], ◌∷◌, ℕ, ◌+◌, ◌<◌, ◌≤◌, length, nat_eq, vec_len, vec_capacity, slice_index_or, Some, OnOk};
 ghost use Rattle.std.specs.List.{filter, slice_get};
 ghost use Rattle.std.specs.Ordering.{nat_cmp, ordering_then};
 ghost use Rattle.std.specs.HashMap.{get, spare};
@@ -6,11 +6,12 @@ ghost use Rattle.crdt_core.specs.Orders.{is_less, fold_cmp};
 ghost use Rattle.effect_store.specs.Arranged.{arranged};
 ghost use Rattle.effect_store.specs.Chains.{none, Points, after, IsApart};
 ghost use Rattle.effect_store.specs.Spots.{tag_of_object, tag_of, later, spots_to, spots, earlier};
-ghost use Rattle.effect_store.specs.Links.{AreLinks, Roomy, spot};
+ghost use Rattle.effect_store.specs.Links.{AreLinks, AreNone, AreSame, Roomy, spot};
 
 use crate::hooks::{behind, head, hook};
 use crate::tags::tag_of;
 use crdt_core::{Part, Upd};
+use std::alloc::{AllocError, Global};
 use std::cmp::Ordering;
 use std::collections::HashMap;
 
@@ -32,6 +33,43 @@ pub(crate) struct Links {
     pub(crate) back: Vec<u32>,
     pub(crate) first: HashMap<u64, u32>,
     pub(crate) last: HashMap<u64, u32>,
+}
+
+impl Links {
+    /// No links, with no room. Takes no memory.
+    pub(crate) fn new(alloc: Global) -> Links
+        ensures empty { AreNone result }
+        ensures room { Roomy result 0 }
+    {
+        Links {
+            entries: Vec::new(alloc),
+            next: Vec::new(alloc),
+            back: Vec::new(alloc),
+            first: HashMap::new(alloc),
+            last: HashMap::new(alloc),
+        }
+    }
+
+    /// Makes room for this many more updates.
+    ///
+    /// # Errors
+    ///
+    /// `AllocError` where memory runs out, or where places would not fit 32 bits. No room is lost then.
+    pub(crate) fn make_room(&mut self, n: usize) -> Result<(), AllocError>
+        ensures same { AreSame self.old self.new }
+        ensures kept { (m : ℕ) → Roomy self.old m → Roomy self.new m }
+        ensures ok { OnOk result (Roomy self.new n) }
+    {
+        if self.entries.len() > NONE as usize || n > NONE as usize - self.entries.len() {
+            return Err(AllocError);
+        }
+        self.entries.reserve(n)?;
+        self.next.reserve(n)?;
+        self.back.reserve(n)?;
+        self.first.reserve(n)?;
+        self.last.reserve(n)?;
+        Ok(())
+    }
 }
 
 /// Fold order.
@@ -99,22 +137,8 @@ fn link_update<E>(parts: &[Part<E>], links: &mut Links, place: u32, at: u32)
     let own = links.entries.len() as u32;
     let prior = last_before(parts, links, place, part, at, update, tag);
     let then = behind(links.next.as_slice(), &links.first, prior, tag);
-    hook(
-        &mut links.next,
-        &mut links.first,
-        prior,
-        tag,
-        own,
-        then,
-    );
-    hook(
-        &mut links.back,
-        &mut links.last,
-        then,
-        tag,
-        own,
-        prior,
-    );
+    hook(&mut links.next, &mut links.first, prior, tag, own, then);
+    hook(&mut links.back, &mut links.last, then, tag, own, prior);
     links.entries.push_reserved(Entry { part: place, at });
 }
 

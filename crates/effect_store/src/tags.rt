@@ -20,9 +20,6 @@ fn fed(start: u64, bytes: &[u8]) -> u64
 pub(crate) fn tag_of(object: &ObjectId) -> u64
     ensures { result ≡ tag_of_object object.now }
 {
-    let start = fed(
-        object.kind.code() as u64,
-        object.bucket.as_str().as_bytes(),
-    );
+    let start = fed(object.kind.code() as u64, object.bucket.as_str().as_bytes());
     fed(start, object.key.as_str().as_bytes())
 }

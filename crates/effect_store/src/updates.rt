@@ -94,13 +94,7 @@ impl<'a, C: Crdt> Iterator for Updates<'a, C> {
     ghost remaining = { item_count (λ u. u) };
 
     fn next(&mut self) -> Option<(&'a Part<C::Effect>, &'a Upd<C::Effect>)> {
-        let at = next_wanted(
-            self.parts,
-            self.links,
-            self.at,
-            self.object,
-            &self.outside,
-        );
+        let at = next_wanted(self.parts, self.links, self.at, self.object, &self.outside);
         if (at as usize) >= self.links.entries.len() {
             self.at = at;
             return None;

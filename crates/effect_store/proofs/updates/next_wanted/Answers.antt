@@ -18,7 +18,7 @@ loop-at-smaller g c =
     chain_falls _ _ c.requires.reading _ _ x.0 x.1 c.index-at.ensures
 
 pub loop-at-preserved : goal.loop-at-preserved
-loop-at-preserved g c = 
+loop-at-preserved g c =
     let n : c.loop-at.at < length c.args.links.now.entries.items = omega arith in
     let x = at_place _ _ c.requires.reading _ n in
     wanted_skip _ _ c.requires.reading _ _ _ _ x.0 x.1 c.index-at.ensures (wants_by c.args.object.now c.args.outside.now _ _ x.0 _ _ (c.update_at.ensures.part x.0 x.1) (c.update_at.ensures.update x.0 x.1) c.is_wanted.ensures c.if-is_wanted.false) ∙ c.loop-at.invariant
