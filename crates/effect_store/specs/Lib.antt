@@ -1,0 +1,10 @@
+pub mod Arranged
+pub mod Chains
+pub mod Spots
+pub mod Updates
+pub mod Stored
+pub mod Hooks
+pub mod Links
+pub mod Wanted
+pub mod Stores
+pub mod Applied
