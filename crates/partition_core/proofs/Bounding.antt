@@ -1,5 +1,5 @@
 -- The own bound: the first entry tells it.
-use Rattle.std.proofs.Common.{◌≡◌, ⊎_elim, inl, inr, ℕ, ◌+◌, ◌-◌, ◌<◌, ◌≤◌, true, false, List, [], ◌∷◌, length, refl, sym, ap, ◌∙◌, subst, arith}
+use Rattle.std.proofs.Common.{◌≡◌, ⊎_elim, inl, inr, ℕ, ◌+◌, ◌-◌, ◌<◌, ◌≤◌, true, false, List, [], ◌∷◌, length, None, Some, refl, sym, ap, ◌∙◌, subst, arith}
 use Rattle.std.specs.Prelude.{◌==◌, if◌then◌else◌, slice_set}
 use Rattle.std.proofs.lemmas.Bool.{true≢false, cases_Bool, or_left}
 use Rattle.site_vector.specs.declared.ids.TxId.{TxId}
@@ -12,7 +12,8 @@ use Rattle.crdt_core.specs.declared.record.Record.{Record}
 use Rattle.crdt_core.specs.KindsOf.{Kinds}
 use Rattle.crdt_core.specs.Log.{pending, prepare_time}
 use Rattle.prepared_table.specs.declared.entry.Entry.{Entry}
-use Rattle.prepared_table.specs.Entries.{has_entry}
+use Rattle.prepared_table.specs.Entries.{has_entry, first_time}
+use Rattle.stable_gossip.specs.Gossip as gossip
 use Rattle.world_model.specs.Event.{Reported, Heard}
 use Rattle.world_model.specs.Partition.{PartState, IsOther, IsOwnBound, done}
 use Rattle.partition_core.specs.Tables.{Tables}
@@ -22,6 +23,13 @@ use Rattle.partition_core.specs.Steps.{Anything, Steps}
 use Rattle.partition_core.proofs.Choices.{second_true}
 use Rattle.partition_core.proofs.EntryLists.{least_of}
 use Rattle.partition_core.proofs.Vectors.{entry_replaced, entry_other, width_replaced}
+
+some_is : (m n : ℕ) → Some m ≡ Some n → m ≡ n
+some_is m n e = cc
+
+-- what was heard, of as many sites and partitions
+pub stable_as : (sites parts part : ℕ) (own : List ℕ) (heard : List (List ℕ)) (v : List ℕ) (n m : ℕ) → n ≡ sites → m ≡ parts → ((j : ℕ) → 1 ≤ j → j ≤ n → entry v j ≡ lowest (gossip.told part own heard j) m) → AreStable sites parts part own heard v
+stable_as sites parts part own heard v n m e f least j low high = least j low (omega (arith, e)) ∙ ap (λ k. lowest (gossip.told part own heard j) k) f
 
 module _ {E : Type 0} where
   bound_is : (log : List (Record E)) (site clock : ℕ) (xs : List (Entry E)) (ps : List (Part E)) → Tells log site clock xs ps → IsOwnBound clock log (own_bound clock xs)
@@ -43,6 +51,14 @@ module _ {E : Type 0} where
 
   pub bounds_own : (t : Tables E) (p : PartState E) (b : ℕ) → Stands t p → b ≡ own_bound t.clock t.pending → IsOwnBound p.now p.log b
   bounds_own t p b h is = subst (λ k. IsOwnBound p.now p.log k) (sym is) (subst (λ k. IsOwnBound k p.log (own_bound t.clock t.pending)) (sym h.clock) (bound_is p.log t.id.site t.clock t.pending t.held h.tells))
+
+  pub bound_by_first : (clock n : ℕ) (xs : List (Entry E)) → Some n ≡ first_time xs → own_bound clock xs ≡ n - 1
+  bound_by_first clock n [] e = absurd (let f : Some n ≡ None = e in cc)
+  bound_by_first clock n (x ∷ xs) e = ap (λ m. m - 1) (sym (some_is n x.time e))
+
+  pub bound_by_clock : (clock : ℕ) (xs : List (Entry E)) → None ≡ first_time xs → own_bound clock xs ≡ clock
+  bound_by_clock clock [] e = refl
+  bound_by_clock clock (x ∷ xs) e = absurd (let f : None ≡ Some x.time = e in cc)
 
 module _ {S E : Type 0} (kinds : Kinds S E) (t : Tables E) (own : ℕ) (b : List ℕ) (own_is : own ≡ own_bound t.clock t.pending) (b_is : b ≡ replaced t.bounds t.id.site own) (low : 1 ≤ t.id.site) (high : t.id.site ≤ t.sites) (width : length t.bounds ≡ t.sites) where
   abbrev site : ℕ

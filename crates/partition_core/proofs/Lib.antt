@@ -13,6 +13,7 @@ mod EndCalls
 mod Beginning
 mod Bounding
 mod Taking
+mod Putting
 mod TakeCall
 mod Releasing
 mod Waiting

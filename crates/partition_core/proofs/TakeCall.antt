@@ -1,7 +1,7 @@
 -- The call that takes a message.
-use Rattle.std.proofs.Common.{◌≡◌, ◌≢◌, ⊎_elim, ℕ, ◌<◌, ◌≤◌, ltb, Bool, true, false, ◌||◌, List, [], ◌∷◌, refl, sym, ap, ◌∙◌, subst}
+use Rattle.std.proofs.Common.{◌≡◌, ◌≢◌, ⊎_elim, ℕ, ◌<◌, ◌≤◌, ltb, Bool, true, false, ◌||◌, List, [], ◌∷◌, length, refl, sym, ap, ◌∙◌, subst, arith, ◌+◌}
 use Rattle.std.specs.Prelude.{if◌then◌else◌}
-use Rattle.std.proofs.lemmas.Bool.{true≢false, cases_Bool, or_left, or_right}
+use Rattle.std.proofs.lemmas.Bool.{true≢false, cases_Bool, false_from_ne_true, or_left, or_right}
 use Rattle.site_vector.specs.declared.ids.TxId.{TxId}
 use Rattle.site_vector.specs.Ids.{same_tx}
 use Rattle.site_vector.specs.Vector.{entry, replaced}
@@ -12,15 +12,19 @@ use Rattle.crdt_core.specs.KindsOf.{Kinds}
 use Rattle.crdt_core.specs.Log.{holds, ceiling, grown}
 use Rattle.crdt_core.specs.Parts.{lists, above}
 use Rattle.prepared_table.specs.declared.entry.Entry.{Entry}
+use Rattle.prepared_table.specs.Entries.{has_entry}
+use Rattle.effect_store.specs.Stored.{Stored}
 use Rattle.world_model.specs.Event.{Took, AskTake, Refused, HasGap, IsRepeat}
 use Rattle.world_model.specs.Partition.{batch_of, done}
 use Rattle.partition_core.specs.Tables.{Tables}
-use Rattle.partition_core.specs.Messages.{AreApart, inserted}
+use Rattle.partition_core.specs.Messages.{AreApart, AreWideParts, CanPut, inserted, updates_in}
+use Rattle.partition_core.specs.Sound.{HasRoom}
 use Rattle.partition_core.specs.Stands.{Tells}
 use Rattle.partition_core.specs.Steps.{Anything, Steps}
-use Rattle.partition_core.proofs.Choices.{chosen}
+use Rattle.partition_core.proofs.Choices.{chosen, or_falses}
 use Rattle.partition_core.proofs.Leasing.{refuses}
-use Rattle.partition_core.proofs.Taking.{batch_tells}
+use Rattle.partition_core.proofs.Taking.{lists_all, batch_tells}
+use Rattle.partition_core.proofs.Putting.{wide_above}
 
 or_more : (a b c : Bool) → (b ≡ true → c ≡ true) → (a || b) ≡ true → (a || c) ≡ true
 or_more true b c f h = refl
@@ -51,6 +55,30 @@ module _ {E : Type 0} where
   same_ceiling : (log : List (Record E)) (m : Message E) (b : ℕ) (news : List (Part E)) → ceiling (grown log (batch_of m b news)) ≡ ceiling log
   same_ceiling log m b [] = refl
   same_ceiling log m b (x ∷ xs) = refl
+
+  -- what was asked of the whole value holds of its fields
+  pub unheld_here : (v t : Tables E) (m : Message E) (n : ℕ) → v ≡ t → n ≡ entry v.bounds m.from → ((u : TxId) → lists (above m.from (entry t.bounds m.from) m.parts) u ≡ true → lists t.held u ≡ false) → (u : TxId) → lists (above m.from n m.parts) u ≡ true → lists v.held u ≡ false
+  unheld_here v t m n e is f = subst (λ b. (u : TxId) → lists (above m.from b m.parts) u ≡ true → lists v.held u ≡ false) (sym is) (subst (λ (x : Tables E). (u : TxId) → lists (above m.from (entry x.bounds m.from) m.parts) u ≡ true → lists x.held u ≡ false) (sym e) f)
+
+  -- the store takes what a message brings
+  pub can_put : (all news : List (Part E)) (sites site b pending promised : ℕ) (old after : Stored E) → news ≡ above site b all → old.sites ≡ sites → AreApart all → AreWideParts sites all → ((u : TxId) → lists (above site b all) u ≡ true → lists old.parts u ≡ false) → after.sites ≡ old.sites → after.parts ≡ old.parts → pending + length news ≤ after.room → promised + updates_in news ≤ after.update_room → CanPut news after
+  can_put all news sites site b pending promised old after is width apart wide new same held room update_room = record {
+    room = omega arith;
+    update_room = omega arith;
+    apart = subst AreApart (sym is) (apart_above site b all apart);
+    fresh = λ u k. ap (λ l. lists l u) held ∙ new u (ap (λ l. lists l u) (sym is) ∙ k);
+    wide = subst (λ l. AreWideParts after.sites l) (sym is) (subst (λ n. AreWideParts n (above site b all)) (sym width ∙ sym same) (wide_above sites site b all wide));
+  }
+
+  -- and still has room for what is pending
+  pub taken_room : (xs : List (Entry E)) (home promised site b : ℕ) (all news : List (Part E)) (old mid after : Stored E) → HasRoom xs promised old → ((u : TxId) → has_entry xs u ≡ true → u.site ≡ home) → ((u : TxId) → lists all u ≡ true → u.site ≢ home) → news ≡ above site b all → mid.parts ≡ old.parts → length xs + length news ≤ mid.room → promised + updates_in news ≤ mid.update_room → after.parts ≡ inserted news mid.parts → after.room + length news ≡ mid.room → after.update_room + updates_in news ≡ mid.update_room → HasRoom xs promised after
+  taken_room xs home promised site b all news old mid after h here away is held room update_room put taken taken_updates = record {
+    single = h.single;
+    apart = λ u k. ap (λ l. lists l u) put ∙ lists_all news mid.parts u ∙ or_falses _ _ (false_from_ne_true (lists news u) (λ e. away u (lists_above site b all u (ap (λ l. lists l u) (sym is) ∙ e)) (here u k))) (ap (λ l. lists l u) held ∙ h.apart u k);
+    counted = h.counted;
+    room = omega arith;
+    update_room = omega arith;
+  }
 
 module _ {S E : Type 0} (kinds : Kinds S E) (t : Tables E) (number : ℕ) (m : Message E) where
   pub take_gap : (n : ℕ) → n ≡ entry t.bounds m.from → n < m.lo → Steps kinds t Anything (λ e. e ≡ Refused (AskTake number m) (HasGap n)) t

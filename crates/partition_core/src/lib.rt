@@ -8,6 +8,8 @@ mod clock;
 mod commit;
 mod partition;
 mod read;
+mod report;
+mod stream;
 
 pub use answers::{CallError, Fate, Refusal};
 pub use partition::Partition;
