@@ -12,7 +12,7 @@ use Rattle.crdt_core.specs.declared.record.Message.{Message}
 use Rattle.crdt_core.specs.declared.record.Record.{Record}
 use Rattle.crdt_core.specs.declared.record.Record.TheVariants.{Lease, Prepare, Decide, Finish, Abort, Batch}
 use Rattle.crdt_core.specs.Placing.{place_of}
-use Rattle.crdt_core.specs.Log.{end_of_time, ceiling, pending, prepare_time, prepared_lead, prepared_snapshot, is_named_in, bound}
+use Rattle.crdt_core.specs.Log.{end_of_time, ceiling, pending, prepare_time, prepared_lead, prepared_snapshot, is_named_in, logged_bound}
 use Rattle.crdt_core.specs.Parts.{lists}
 
 -- a vector has an entry for each site, and no time past the end
@@ -55,7 +55,7 @@ module _ {E : Type 0} where
   fits_record sites parts id log (Decide t c) = pending log t && (prepared_lead log t == id.part && fits_commit sites id log t c)
   fits_record sites parts id log (Finish t c) = pending log t && (not (prepared_lead log t == id.part) && fits_commit sites id log t c)
   fits_record sites parts id log (Abort t) = pending log t
-  fits_record sites parts id log (Batch m) = fits_message sites parts id m && (leb (bound log m.from) m.lo && list_all (λ x. not (is_named_in log x.tx)) m.parts)
+  fits_record sites parts id log (Batch m) = fits_message sites parts id m && (leb (logged_bound log m.from) m.lo && list_all (λ x. not (is_named_in log x.tx)) m.parts)
 
   -- the number of the first record that doesn't fit, from 0, the oldest; none where all fit
   abbrev pub unfit : ℕ → ℕ → PartId → List (Record E) → Option ℕ

@@ -1,10 +1,13 @@
 -- What the kinds of objects do, as one record.
-use Rattle.std.specs.Prelude.{ℕ, Bool, List, Option}
+use Rattle.std.specs.Prelude.{ℕ, Bool, not, ◌&&◌, List, Option}
 use Rattle.site_vector.specs.declared.ids.Dot.{Dot}
 use Rattle.crdt_core.specs.declared.kind.Kind.{Kind}
 use Rattle.crdt_core.specs.declared.object.Field.{Field}
+use Rattle.crdt_core.specs.declared.object.ObjectId.{ObjectId}
 use Rattle.crdt_core.specs.declared.operation.Act.{Act}
+use Rattle.crdt_core.specs.declared.operation.Op.{Op}
 use Rattle.crdt_core.specs.declared.value.Value.{Value}
+use Rattle.crdt_core.specs.Fits.{fits}
 use Rattle.crdt_core.specs.Seen.{Update}
 use Rattle.crdt_core.specs.Law.{KeepsLaw}
 
@@ -21,6 +24,10 @@ pub record Kinds (S E : Type 0) : Type 0 where
   pub names : E → Dot → Bool
   pub holds : S → Dot → Bool
   pub laws : KeepsLaw has too_deep initial step made value_of stamp_of meaning names holds
+
+-- the operation is one of the object's kind, and leads no deeper than the type reaches
+abbrev pub fits_kind : (Kind → List Field → Bool) → ObjectId → Op → Bool
+fits_kind too_deep o op = fits o.kind op.path op.act && not (too_deep o.kind op.path)
 
 -- those of a type that implements `Crdt`, by its member `laws`
 abbrev pub kinds_of : {S E : Type 0} {has : Kind → Bool} {too_deep : Kind → List Field → Bool} {initial : Kind → S} {step : S → Dot → E → S} {made : Kind → S → List Field → Act → ℕ → E} {value_of : S → Value} {stamp_of : E → Option ℕ} {meaning : Kind → List Update → Value} {names : E → Dot → Bool} {holds : S → Dot → Bool} → KeepsLaw has too_deep initial step made value_of stamp_of meaning names holds → Kinds S E

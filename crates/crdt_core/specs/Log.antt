@@ -150,15 +150,15 @@ module _ {E : Type 0} where
   taken_changes (Abort u ∷ log) t = taken_changes log t
   taken_changes (Batch m ∷ log) t = if lists m.parts t then changes_in m.parts t else taken_changes log t
 
-  -- the greatest `hi` of a site's messages
-  abbrev pub bound : List (Record E) → ℕ → ℕ
-  bound [] j = 0
-  bound (Lease n ∷ log) j = bound log j
-  bound (Prepare u l n s w ∷ log) j = bound log j
-  bound (Decide u c ∷ log) j = bound log j
-  bound (Finish u c ∷ log) j = bound log j
-  bound (Abort u ∷ log) j = bound log j
-  bound (Batch m ∷ log) j = if m.from == j then max m.hi (bound log j) else bound log j
+  -- up to where the batches of a site go: the greatest `hi` of its messages that brought something
+  abbrev pub logged_bound : List (Record E) → ℕ → ℕ
+  logged_bound [] j = 0
+  logged_bound (Lease n ∷ log) j = logged_bound log j
+  logged_bound (Prepare u l n s w ∷ log) j = logged_bound log j
+  logged_bound (Decide u c ∷ log) j = logged_bound log j
+  logged_bound (Finish u c ∷ log) j = logged_bound log j
+  logged_bound (Abort u ∷ log) j = logged_bound log j
+  logged_bound (Batch m ∷ log) j = if m.from == j then max m.hi (logged_bound log j) else logged_bound log j
 
   -- committed here, or brought from another site
   abbrev pub holds : List (Record E) → TxId → Bool
@@ -194,7 +194,7 @@ module _ {E : Type 0} where
   abbrev pub lease_for : List (Record E) → ℕ → List (Record E)
   lease_for log n = if leb n (ceiling log) then [] else Lease (min (n + 1000) end_of_time) ∷ []
 
-  -- what a restart may find: the log with the first of these records, or none, or all
-  abbrev pub IsImage : List (Record E) → List (Record E) → List (Record E) → Type 0
-  IsImage log [] image = image ≡ log
-  IsImage log (r ∷ rs) image = (image ≡ log) ⊎ IsImage (r ∷ log) rs image
+  -- what a restart may find of a log and the records of a call that was cut off: the log with the first of them, or none, or all
+  abbrev pub MayFind : List (Record E) → List (Record E) → List (Record E) → Type 0
+  MayFind log [] image = image ≡ log
+  MayFind log (r ∷ rs) image = (image ≡ log) ⊎ MayFind (r ∷ log) rs image

@@ -45,7 +45,7 @@ use Rattle.dc_engine.specs.Held.{as_change, entries_on, open_as, session_as, sta
 use Rattle.dc_engine.specs.Answered.{Answered}
 use Rattle.dc_engine.specs.Replies.{AnswersLine}
 use Rattle.dc_engine.proofs.RunLines.{unread, acts_goes, begins_empty}
-use Rattle.dc_engine.proofs.WorldRuns.{world_unread, acts_in, world_empty, lawful_calls}
+use Rattle.dc_engine.proofs.WorldRuns.{world_unread, acts_in, world_empty, lawful_calls, past_kept}
 
 some_as : (s : Option (Option (ℕ × List Change))) → is_some s ≡ is_some (session_as s)
 some_as None = refl
@@ -275,6 +275,7 @@ reached_lawful m lines bytes r = record {
   causes = r.describes.causes;
   calls = record { events = r.world.world; parts = r.world.parts; is_run = r.world.is_world.is_run; shown = r.world.lines };
   lawful = lawful_calls (state_of m) r.run r.world;
+  past = past_kept (state_of m) r.run r.world;
   written = r.written;
 }
 

@@ -19,7 +19,7 @@ use Rattle.world_model.specs.Partition.{PartState, done}
 use Rattle.crdt_core.specs.Log.{lease_for}
 use Rattle.world_model.specs.Plan.{MayPrepare, MayDecide, is_some_update, takes_part, first_of, change_by, updates_at}
 use Rattle.world_model.specs.Lines.{session_after}
-use Rattle.world_model.specs.World.{is_begin, is_own, changes_of, lead_of, snapshot_of, plan_of}
+use Rattle.world_model.specs.World.{is_begin, begin_vector, is_own, changes_of, lead_of, snapshot_of, plan_of}
 use Rattle.dc_engine.specs.State.{one, transaction_at}
 use Rattle.dc_engine.specs.OneWorld.{HeldPart, is_held, IsLog, IsOpen, IsWorld}
 use Rattle.dc_engine.proofs.OneLog.{leased, grown_more, waiting, decided_log}
@@ -43,6 +43,13 @@ module _ {E : Type 0} where
 
   nothing_there : (world : List (Entry E)) (e : Event E) (t : TxId) (q : PartId) → same_part one q ≡ false → updates_at world t q ≡ [] → updates_at (at_one e ∷ world) t q ≡ []
   nothing_there world e t q h k = ap (λ b. updates_at world t q ++ (if b then change_by e t else [])) h ∙ (append-nil (updates_at world t q) ∙ k)
+
+  -- a vote that is refused is asked of a participant
+  pub asked_one : (world : List (Entry E)) (e : Event E) (time : ℕ) (us : List (Upd E)) → is_begin e (transaction_at time) ≡ false → change_by e (transaction_at time) ≡ [] → snapshot_of world (transaction_at time) ≡ time ∷ [] → updates_at world (transaction_at time) one ≡ us → is_some_update us ≡ true → takes_part (plan_of 1 1 (at_one e ∷ world)) (transaction_at time) one ≡ true
+  asked_one world e time us b c s u some =
+      let x = transaction_at time in
+      let same : snapshot_of (at_one e ∷ world) x ≡ time ∷ [] = ap (λ k. if k then begin_vector e else snapshot_of world x) b ∙ s in
+      ap is_some_update (changes_one (at_one e ∷ world) time same ∙ (ap (λ l. updates_at world x one ++ l) c ∙ (append-nil (updates_at world x one) ∙ u))) ∙ some
 
 module _ {S E : Type 0} (kinds : Kinds S E) (world : List (Entry E)) (parts : PartId → PartState E) (held : List (HeldPart E)) (now : ℕ) (w : IsWorld kinds world parts held now) (who : List ℕ) (time : ℕ) (us : List (Upd E)) (passed : time ≤ now) (early : now < end_of_time) (some : is_some_update us ≡ true) (t : IsOpen world held who time us) where
   abbrev x : TxId
@@ -91,6 +98,7 @@ module _ {S E : Type 0} (kinds : Kinds S E) (world : List (Entry E)) (parts : Pa
   step1 : IsStep kinds world parts vote p1
   step1 = record {
     allowed = may_prepare;
+    fit = tt;
     step = (w.up, (subst (λ k. time ≤ k) (sym w.clock) passed, ap (λ k. k + 1) (sym w.clock), subst (λ k. k < end_of_time) (sym w.clock) early), refl);
     is_new = tt;
   }
@@ -137,6 +145,7 @@ module _ {S E : Type 0} (kinds : Kinds S E) (world : List (Entry E)) (parts : Pa
   step2 : IsStep kinds world1 (put parts p1) decide p2
   step2 = record {
     allowed = may_decide;
+    fit = tt;
     step = (refl, or_left (pending p1.log x) (committed p1.log x) pending1, refl);
     is_new = tt;
   }

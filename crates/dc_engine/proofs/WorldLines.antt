@@ -17,10 +17,13 @@ use Rattle.world_model.specs.Sessions.{transaction}
 use Rattle.crdt_core.specs.Log.{end_of_time}
 use Rattle.world_model.specs.Past.{dependency}
 use Rattle.world_model.specs.Event as event
-use Rattle.world_model.specs.Event.{Event, Opened, Ticked, Refused, AskBegin, AskUpdate, AskPrepare, ClockAtEnd, IsBadOp}
+use Rattle.world_model.specs.Event.{Event, Opened, Ticked, Refused, AskBegin, AskPrepare, ClockAtEnd}
 use Rattle.world_model.specs.Partition.{done, IsRefused}
-use Rattle.world_model.specs.Plan.{is_some_update, MayAsk, IsSession}
+use Rattle.world_model.specs.Plan.{is_some_update, MayAsk, IsFit, IsSession}
 use Rattle.world_model.specs.World.{plan_of}
+use Rattle.world_model.specs.Dependency as past
+use Rattle.world_model.proofs.PastJoins.{own_past}
+use Rattle.world_model.proofs.LineViews.{dependency_is}
 use Rattle.world_model.specs.Lines as world
 use Rattle.world_model.specs.Lines.{Call, Tick, Begin, ReadOf, UpdateOf, PrepareOf, DecideOf, lines_of}
 use Rattle.dc_engine.specs.ObjectKinds.{Effect, ObjectState, kinds}
@@ -32,7 +35,7 @@ use Rattle.dc_engine.proofs.StepLines.{were_open as idle_before}
 use Rattle.dc_engine.specs.Calls.{is_answer, call_for, call_of, calls_of}
 use Rattle.dc_engine.specs.InWorld.{numbered, stored_by, InWorld}
 use Rattle.dc_engine.specs.OneWorld.{IsOpen}
-use Rattle.dc_engine.proofs.WorldCommit.{world2, parts2, held2, world_committed, committed_others}
+use Rattle.dc_engine.proofs.WorldCommit.{asked_one, world2, parts2, held2, world_committed, committed_others}
 use Rattle.dc_engine.proofs.WorldReads.{change, found, reading, world_read, updating, world_updated, updated_open, updated_others, read_others}
 use Rattle.dc_engine.proofs.WorldState.{numbered_more, stored_numbered, found_is}
 use Rattle.dc_engine.proofs.WorldSteps.{at_one, put, no_other, open_stays, world_opened, world_refused, world_ticked, beginning, world_began, began_open, began_others}
@@ -48,9 +51,9 @@ module _ (m : State) (run : Run) (number : ℕ) (d : Describes m run) (j : InWor
   were_open : (name who : List ℕ) (t : Open) → with_session m name None who ≡ Some (Some t) → m.session who ≡ Some (Some t)
   were_open name who t h = idle_before m run number None name d who t h
 
-  lines_more : (asked : Option Command) (s : Step) (call : Call) (l : world.Line) → is_answer s ≡ true → call_of run asked s ≡ call → l ≡ shown call s → l ∷ lines_of j.world ≡ calls_of (line number asked s ∷ run)
+  lines_more : (asked : Option Command) (s : Step) (call : Call) (l : world.Line) → is_answer s ≡ true → call_of (calls_of run) run asked s ≡ call → l ≡ shown call s → l ∷ lines_of j.world ≡ calls_of (line number asked s ∷ run)
   lines_more asked s call l a h e =
-      (λ i. e i ∷ j.lines i) ∙ (ap (λ c. shown c s ∷ calls_of run) (sym h) ∙ ap (λ b. if b then shown (call_of run asked s) s ∷ calls_of run else calls_of run) (sym a))
+      (λ i. e i ∷ j.lines i) ∙ (ap (λ c. shown c s ∷ calls_of run) (sym h) ∙ ap (λ b. if b then shown (call_of (calls_of run) run asked s) s ∷ calls_of run else calls_of run) (sym a))
 
   -- a line that no partition answered
   pub silent_line : (asked : Option Command) (s : Step) → is_answer s ≡ false → InWorld m (line number asked s ∷ run)
@@ -59,7 +62,7 @@ module _ (m : State) (run : Run) (number : ℕ) (d : Describes m run) (j : InWor
     parts = j.parts;
     held = j.held;
     is_world = j.is_world;
-    lines = j.lines ∙ ap (λ b. if b then shown (call_of run asked s) s ∷ calls_of run else calls_of run) (sym h);
+    lines = j.lines ∙ ap (λ b. if b then shown (call_of (calls_of run) run asked s) s ∷ calls_of run else calls_of run) (sym h);
     stored = j.stored;
     current = j.current;
   }
@@ -99,6 +102,10 @@ module _ (m : State) (run : Run) (number : ℕ) (d : Describes m run) (j : InWor
         current = λ who t k. open_stays j.world e j.held who t.time (numbered 1 t.changes) (record { change = refl; prepare = refl; tries = refl; decides = refl }) (record { session = λ old. refl; begin = refl }) (j.current who t (were_open name who t k));
       }
 
+  -- what a session depends on, as the lines tell it
+  depends_on : (name : List ℕ) → Begin name (past.dependency 1 (calls_of run) name) ≡ Begin name (dependency 1 j.world name)
+  depends_on name = ap (Begin name) (ap (λ ls. past.dependency 1 ls name) (sym j.lines) ∙ dependency_is 1 j.world name)
+
   pub world_begin : (name : List ℕ) → m.now < end_of_time → InWorld (began m name) (line number (Some (command.Begin name None)) (step.Began name (transaction_at (m.now + 1)) ((m.now + 1) ∷ [])) ∷ run)
   world_begin name h =
       let e : Event Effect = beginning kinds j.world j.parts j.held m.now j.is_world name in
@@ -108,7 +115,7 @@ module _ (m : State) (run : Run) (number : ℕ) (d : Describes m run) (j : InWor
         parts = put j.parts (done (j.parts one) e);
         held = j.held;
         is_world = world_began kinds j.world j.parts j.held m.now j.is_world name h;
-        lines = lines_more (Some (command.Begin name None)) s (Begin name) (shown (Begin name) s) refl refl refl;
+        lines = lines_more (Some (command.Begin name None)) s (Begin name (dependency 1 j.world name)) (shown (Begin name (dependency 1 j.world name)) s) refl (depends_on name) refl;
         stored = j.stored;
         current = λ who t k. with_cases m name who (Some new) (λ b x. bytes_eq name who ≡ b → x ≡ Some (Some t) → IsOpen (at_one e ∷ j.world) j.held who t.time (numbered 1 t.changes))
             (λ b c q.
@@ -118,14 +125,14 @@ module _ (m : State) (run : Run) (number : ℕ) (d : Describes m run) (j : InWor
             (λ b c q. began_others kinds j.world j.parts j.held m.now j.is_world name who t.time (numbered 1 t.changes) (d.passed who t q) (j.current who t q)) refl k;
       }
 
-  refused_here : (asked : Option Command) (s : Step) (call : Call) (ask : event.Ask Effect) (why : event.Refusal) → is_answer s ≡ true → call_of run asked s ≡ call → shown (world.call_asked ask) (world.refusal_shown j.world one ask why) ≡ shown call s
-      → MayAsk (plan_of 1 1 (at_one (Refused ask why) ∷ j.world)) j.world one ask → IsRefused kinds 1 1 one (j.parts one) ask why → InWorld m (line number asked s ∷ run)
-  refused_here asked s call ask why a c e may is =
+  refused_here : (asked : Option Command) (s : Step) (call : Call) (ask : event.Ask Effect) (why : event.Refusal) → is_answer s ≡ true → call_of (calls_of run) run asked s ≡ call → shown (world.call_asked ask) (world.refusal_shown j.world one ask why) ≡ shown call s
+      → MayAsk (plan_of 1 1 (at_one (Refused ask why) ∷ j.world)) j.world one ask → IsFit kinds (Refused ask why) → IsRefused kinds 1 1 one (j.parts one) ask why → InWorld m (line number asked s ∷ run)
+  refused_here asked s call ask why a c e may fit is =
       let e1 : Event Effect = Refused ask why in record {
         world = at_one e1 ∷ j.world;
         parts = put j.parts (j.parts one);
         held = j.held;
-        is_world = world_refused kinds j.world j.parts j.held m.now j.is_world ask why may is;
+        is_world = world_refused kinds j.world j.parts j.held m.now j.is_world ask why may fit is;
         lines = lines_more asked s call (shown (world.call_asked ask) (world.refusal_shown j.world one ask why)) a c e;
         stored = j.stored;
         current = λ who t k. open_stays j.world e1 j.held who t.time (numbered 1 t.changes) (record { change = refl; prepare = refl; tries = refl; decides = refl }) (record { session = λ old. refl; begin = refl }) (j.current who t k);
@@ -133,7 +140,7 @@ module _ (m : State) (run : Run) (number : ℕ) (d : Describes m run) (j : InWor
 
   -- the clock has come to its end
   pub begin_refused : (name : List ℕ) (part : Option PartId) → m.now ≡ end_of_time → InWorld m (line number (Some (command.Begin name part)) step.TimeEnd ∷ run)
-  begin_refused name part h = refused_here (Some (command.Begin name part)) step.TimeEnd (Begin name) (AskBegin name (dependency 1 j.world name)) ClockAtEnd refl refl refl refl (j.is_world.up, (λ i o. no_other i o, j.is_world.clock ∙ h))
+  begin_refused name part h = refused_here (Some (command.Begin name part)) step.TimeEnd (Begin name (dependency 1 j.world name)) (AskBegin name (dependency 1 j.world name)) ClockAtEnd refl (depends_on name) refl (own_past 1 j.world name) tt (j.is_world.up, (λ i o. no_other i o, j.is_world.clock ∙ h))
 
   module _ (name : List ℕ) (t : Open) (is_now_open : m.session name ≡ Some (Some t)) where
     abbrev x : TxId
@@ -154,15 +161,11 @@ module _ (m : State) (run : Run) (number : ℕ) (d : Describes m run) (j : InWor
     asks : IsSession j.world one x (t.time ∷ [])
     asks = record { site = refl; who = name; dependency = opened.dependency; begun = opened.began }
 
-    pub prepare_refused : (k : Option ℕ) → m.now ≡ end_of_time → InWorld m (line number (Some (command.Commit name k)) step.TimeEnd ∷ run)
-    prepare_refused k h =
-        refused_here (Some (command.Commit name k)) step.TimeEnd (PrepareOf x) (AskPrepare x (t.time ∷ []) 1 us) ClockAtEnd refl (call_is PrepareOf) refl asks
+    pub prepare_refused : (k : Option ℕ) → is_change t.changes ≡ true → m.now ≡ end_of_time → InWorld m (line number (Some (command.Commit name k)) step.TimeEnd ∷ run)
+    prepare_refused k some h =
+        refused_here (Some (command.Commit name k)) step.TimeEnd (PrepareOf x) (AskPrepare x (t.time ∷ []) 1 us) ClockAtEnd refl (call_is PrepareOf) refl
+        (asks, asked_one j.world (Refused (AskPrepare x (t.time ∷ []) 1 us) ClockAtEnd) t.time us refl refl opened.snapshot opened.has.updates (any_numbered t.changes ∙ some)) tt
         (j.is_world.up, (subst (λ n. t.time ≤ n) (sym j.is_world.clock) early_enough, j.is_world.clock ∙ h))
-
-    pub update_refused : (o : ObjectId) (op : Op) → fits o.kind op.path op.act ≡ false → InWorld m (line number (Some (command.Update name o op)) step.BadOp ∷ run)
-    update_refused o op h =
-        refused_here (Some (command.Update name o op)) step.BadOp (UpdateOf x o op) (AskUpdate x (t.time ∷ []) o [] op) IsBadOp refl (call_is (λ u. UpdateOf u o op)) refl asks
-        (j.is_world.up, ap (λ b. b && not (kinds.too_deep o.kind op.path)) h)
 
     abbrev found_here : (o : ObjectId) → ObjectState
     found_here o = found kinds j.world j.parts j.held m.now j.is_world name t.time us early_enough opened o

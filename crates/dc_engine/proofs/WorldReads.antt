@@ -72,7 +72,7 @@ module _ {S E : Type 0} (kinds : Kinds S E) (world : List (Entry E)) (parts : Pa
 
   pub world_read : (o : ObjectId) → kinds.has o.kind ≡ true → IsWorld kinds (at_one (reading o) ∷ world) (put parts (done (parts one) (reading o))) held now
   world_read o h = world_more kinds world parts held held now now (reading o) (done (parts one) (reading o)) w (record {
-    is_step = record { allowed = asked (reading o) o; step = (w.up, (ready o, fold o, h, refl), refl); is_new = tt };
+    is_step = record { allowed = asked (reading o) o; fit = tt; step = (w.up, (ready o, fold o, h, refl), refl); is_new = tt };
     up = refl;
     clock = w.clock;
     log = w.log;
@@ -95,6 +95,7 @@ module _ {S E : Type 0} (kinds : Kinds S E) (world : List (Entry E)) (parts : Pa
   world_updated o op h f = world_more kinds world parts held held now now (updating o op) (done (parts one) (updating o op)) w (record {
     is_step = record {
       allowed = asked (updating o op) o;
+      fit = tt;
       step = (w.up, record { ready = λ k. ready o; fold = λ k. fold o; known = h; fits = f; object = refl; effect = ap (λ n. kinds.made o.kind (found o) op.path op.act n) (sym w.clock); stamped = refl }, refl);
       is_new = record { early = t.has.untried; number = ap (λ n. n + 1) (sym t.has.count) };
     };

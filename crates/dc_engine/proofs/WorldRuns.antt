@@ -1,6 +1,6 @@
 -- Each answer of the machine is that of a world.
 use Rattle.std.proofs.Common.{arith, ◌≡◌, ⊎_elim, ℕ, ◌+◌, ◌<◌, ◌≤◌, max, Bool, true, false, not, ◌&&◌, List, [], ◌∷◌, length, Option, None, Some, refl, sym, ap, ◌∙◌, subst}
-use Rattle.std.specs.Prelude.{is_some, ◌==◌}
+use Rattle.std.specs.Prelude.{is_some, ◌==◌, if◌then◌else◌}
 use Rattle.std.proofs.lemmas.Bool.{true≢false, and_parts, and_from, eqb-true, eq-eqb, cases_lt}
 use Rattle.site_vector.specs.Ids.{same_part}
 use Rattle.site_vector.specs.Order.{same_part_is}
@@ -22,9 +22,14 @@ use Rattle.dc_engine.specs.State.{State, Open, one, transaction_at, is_open_in, 
 use Rattle.dc_engine.specs.Describes.{Describes}
 use Rattle.dc_engine.proofs.NewLine.{line, off, not_false, not_true}
 use Rattle.dc_engine.proofs.Rows.{Owe, owed, none_due}
-use Rattle.dc_engine.specs.Calls.{calls_of}
+use Rattle.dc_engine.specs.Calls.{is_answer, call_for, commit_call, call_of, calls_of}
+use Rattle.world_model.specs.Lines as world
+use Rattle.world_model.specs.Lines.{Call, ReadOf, UpdateOf}
+use Rattle.world_model.specs.Sessions.{transaction}
+use Rattle.world_model.specs.Dependency.{IsOwnPast, HandsOwn, KeepsPast}
+use Rattle.site_vector.specs.declared.ids.TxId.{TxId}
 use Rattle.dc_engine.specs.InWorld.{InWorld}
-use Rattle.dc_engine.proofs.WorldLines.{silent_line, world_ended, world_clock, world_session, world_begin, begin_refused, prepare_refused, update_refused, world_value, world_update, world_commit}
+use Rattle.dc_engine.proofs.WorldLines.{silent_line, world_ended, world_clock, world_session, world_begin, begin_refused, prepare_refused, world_value, world_update, world_commit}
 use Rattle.dc_engine.proofs.WorldSteps.{world_none}
 
 before_end : (n k : ℕ) → (n == k) ≡ false → n ≤ k → n < k
@@ -87,7 +92,7 @@ module _ (m : State) (run : Run) (number : ℕ) (d : Describes m run) (j : InWor
             λ s. (
               λ h. silent_line m run number d j a step.NoTxn refl,
               λ t. (
-                λ h. let open_now = opened_is (m.session name) (not_false (is_open_in (m.session name)) t) in update_refused m run number d j name open_now.0 open_now.1 o op (not_true (fits o.kind op.path op.act) h),
+                λ h. silent_line m run number d j a step.BadOp refl,
                 λ f. (λ h. silent_line m run number d j a step.LimitUpdates refl, λ z. tt),
               ),
             ),
@@ -106,7 +111,7 @@ module _ (m : State) (run : Run) (number : ℕ) (d : Describes m run) (j : InWor
               λ t. (
                 λ h.
                     let open_now = opened_is (m.session name) (not_false (is_open_in (m.session name)) t) in
-                    prepare_refused m run number d j name open_now.0 open_now.1 k (eqb-true m.now last_time (and_parts (is_change (changes_in (m.session name))) (m.now == last_time) h).1),
+                    prepare_refused m run number d j name open_now.0 open_now.1 k (subst (λ o. is_change (changes_in o) ≡ true) open_now.1 (and_parts (is_change (changes_in (m.session name))) (m.now == last_time) h).0) (eqb-true m.now last_time (and_parts (is_change (changes_in (m.session name))) (m.now == last_time) h).1),
                 λ z. tt,
               ),
             ),
@@ -200,3 +205,31 @@ world_empty = record {
 -- the calls that were answered are lines of a lawful run of the world
 pub lawful_calls : (m : State) (run : Run) → InWorld m run → IsLawful kinds.too_deep kinds.meaning 1 1 (calls_of run)
 lawful_calls m run j = subst (IsLawful kinds.too_deep kinds.meaning 1 1) j.lines (law_world kinds 1 1 j.world j.parts j.is_world.is_run).2
+
+own_session : (ls : List world.Line) (o : Option TxId) (f : TxId → Call) → ((t : TxId) → IsOwnPast 1 ls (f t)) → IsOwnPast 1 ls (call_for o f)
+own_session ls None f h = tt
+own_session ls (Some t) f h = h t
+
+own_commit : (ls : List world.Line) (s : Step) (t : TxId) → IsOwnPast 1 ls (commit_call s t)
+own_commit ls (step.Decided p u c) t = tt
+own_commit ls s t = tt
+
+own_call : (ls : List world.Line) (run : Run) (asked : Option Command) (s : Step) → IsOwnPast 1 ls (call_of ls run asked s)
+own_call ls run None s = tt
+own_call ls run (Some (command.Begin name part)) s = refl
+own_call ls run (Some (command.Read name o)) s = own_session ls (transaction run name) (λ t. ReadOf t o) (λ t. tt)
+own_call ls run (Some (command.Update name o op)) s = own_session ls (transaction run name) (λ t. UpdateOf t o op) (λ t. tt)
+own_call ls run (Some (command.Commit name steps)) s = own_session ls (transaction run name) (commit_call s) (own_commit ls s)
+own_call ls run (Some c) s = tt
+
+own_line : (ls : List world.Line) (run : Run) (asked : Option Command) (s : Step) (b : Bool) → HandsOwn 1 ls → HandsOwn 1 (if b then (record { at = one; call = call_of ls run asked s; step = s }) ∷ ls else ls)
+own_line ls run asked s true h = (own_call ls run asked s, h)
+own_line ls run asked s false h = h
+
+-- every begin is handed what its session depends on
+hands_own : (run : Run) → HandsOwn 1 (calls_of run)
+hands_own [] = tt
+hands_own (e ∷ run) = own_line (calls_of run) run e.command e.step (is_answer e.step) (hands_own run)
+
+pub past_kept : (m : State) (run : Run) → InWorld m run → KeepsPast 1 (calls_of run)
+past_kept m run j = (lawful_calls m run j).past (hands_own run)

@@ -14,7 +14,8 @@ use Rattle.world_model.specs.Event.{Event, Ask, Refusal, Opened, Ticked, Began, 
 use Rattle.world_model.specs.Past.{dependency, dependency_after}
 use Rattle.crdt_core.specs.KindsOf.{Kinds}
 use Rattle.world_model.specs.Partition.{PartState, IsOther, new_part, done, PartStep, IsRefused}
-use Rattle.world_model.specs.Plan.{change_by, updates_at, update_count, IsAllowed, MayAsk}
+use Rattle.world_model.proofs.PastJoins.{own_past}
+use Rattle.world_model.specs.Plan.{change_by, updates_at, update_count, IsAllowed, MayAsk, IsFit}
 use Rattle.world_model.specs.Handed.{IsNew}
 use Rattle.world_model.specs.Lines.{session_of, session_after}
 use Rattle.world_model.specs.World.{is_begin, begin_vector, snapshot_of, plan_of, IsWorldRun}
@@ -93,6 +94,7 @@ module _ {S E : Type 0} (kinds : Kinds S E) where
   -- a step at the partition
   pub record IsStep (world : List (Entry E)) (parts : PartId → PartState E) (e : Event E) (p : PartState E) : Type 0 where
     pub allowed : IsAllowed (plan_of 1 1 (at_one e ∷ world)) world parts one (attempt e)
+    pub fit : IsFit kinds e
     pub step : PartStep kinds 1 1 one (parts one) e p
     pub is_new : IsNew world e
 
@@ -103,6 +105,7 @@ module _ {S E : Type 0} (kinds : Kinds S E) where
     record {
       place = record { least_site = lit≤ tt; most_site = lit≤ tt; least_part = lit≤ tt; most_part = lit≤ tt };
       allowed = s.allowed;
+      fit = s.fit;
       step = s.step;
       others = λ q ne. cond-false (same_part q one) p (parts q) (part_other q one ne);
     },
@@ -158,7 +161,7 @@ module _ {S E : Type 0} (kinds : Kinds S E) where
     -- a session is opened
     pub world_opened : (who : List ℕ) → IsWorld kinds (at_one (Opened who) ∷ world) (put parts (parts one)) held now
     world_opened who = world_more world parts held held now now (Opened who) (parts one) w (record {
-      is_step = record { allowed = tt; step = refl; is_new = tt };
+      is_step = record { allowed = tt; fit = tt; step = refl; is_new = tt };
       up = w.up;
       clock = w.clock;
       log = w.log;
@@ -172,9 +175,9 @@ module _ {S E : Type 0} (kinds : Kinds S E) where
     })
 
     -- a call is refused
-    pub world_refused : (asked : Ask E) (why : Refusal) → MayAsk (plan_of 1 1 (at_one (Refused asked why) ∷ world)) world one asked → IsRefused kinds 1 1 one (parts one) asked why → IsWorld kinds (at_one (Refused asked why) ∷ world) (put parts (parts one)) held now
-    world_refused asked why a r = world_more world parts held held now now (Refused asked why) (parts one) w (record {
-      is_step = record { allowed = a; step = (r, refl); is_new = tt };
+    pub world_refused : (asked : Ask E) (why : Refusal) → MayAsk (plan_of 1 1 (at_one (Refused asked why) ∷ world)) world one asked → IsFit kinds (Refused asked why) → IsRefused kinds 1 1 one (parts one) asked why → IsWorld kinds (at_one (Refused asked why) ∷ world) (put parts (parts one)) held now
+    world_refused asked why a f r = world_more world parts held held now now (Refused asked why) (parts one) w (record {
+      is_step = record { allowed = a; fit = f; step = (r, refl); is_new = tt };
       up = w.up;
       clock = w.clock;
       log = w.log;
@@ -190,7 +193,7 @@ module _ {S E : Type 0} (kinds : Kinds S E) where
     -- the clock is set
     pub world_ticked : (r : ℕ) → r ≤ end_of_time → IsWorld kinds (at_one (Ticked r (max r now)) ∷ world) (put parts (done (parts one) (Ticked r (max r now)))) held (max r now)
     world_ticked r h = world_more world parts held held now (max r now) (Ticked r (max r now)) (done (parts one) (Ticked r (max r now))) w (record {
-      is_step = record { allowed = tt; step = (w.up, (ap (λ n. max r n) (sym w.clock), h), refl); is_new = tt };
+      is_step = record { allowed = tt; fit = tt; step = (w.up, (ap (λ n. max r n) (sym w.clock), h), refl); is_new = tt };
       up = refl;
       clock = refl;
       log = leased (parts one).log held (max r now) w.log;
@@ -213,7 +216,8 @@ module _ {S E : Type 0} (kinds : Kinds S E) where
         let most = past.most in
         world_more world parts held held now (now + 1) (beginning who) (done (parts one) (beginning who)) w (record {
           is_step = record {
-            allowed = refl;
+            allowed = own_past 1 world who;
+            fit = tt;
             step = (
               w.up,
               record {

@@ -9,6 +9,7 @@ use Rattle.world_model.specs.Event.{Entry}
 use Rattle.world_model.specs.Partition.{PartState}
 use Rattle.world_model.specs.World.{IsWorldRun}
 use Rattle.world_model.specs.Lines.{lines_of as lines_shown}
+use Rattle.world_model.specs.Dependency.{KeepsPast}
 use Rattle.world_model.specs.Lawful.{IsLawful}
 use Rattle.dc_engine.specs.Calls.{calls_of}
 use Rattle.dc_engine.specs.Reading.{asked_of}
@@ -29,4 +30,6 @@ pub record Answered (lines : List (List ℕ)) (bytes : List ℕ) : Type 0 where
   pub causes : HaveCauses kinds.has run
   pub calls : ShowsCalls run
   pub lawful : IsLawful kinds.too_deep kinds.meaning 1 1 (calls_of run)
+  -- each snapshot holds its session's past
+  pub past : KeepsPast 1 (calls_of run)
   pub written : bytes ≡ lines_of spelled run

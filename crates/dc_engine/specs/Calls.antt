@@ -7,6 +7,7 @@ use Rattle.world_model.specs.declared.step.Step.{Step}
 use Rattle.world_model.specs.declared.step.Step.TheVariants as step
 use Rattle.world_model.specs.Run.{Run}
 use Rattle.world_model.specs.Sessions.{transaction}
+use Rattle.world_model.specs.Dependency.{dependency}
 use Rattle.world_model.specs.Lines as world
 use Rattle.world_model.specs.Lines.{Call, Tick, Begin, ReadOf, UpdateOf, PrepareOf, DecideOf, Crash}
 use Rattle.dc_engine.specs.State.{one}
@@ -21,6 +22,7 @@ is_answer step.NoSession = false
 is_answer step.HasSession = false
 is_answer step.NoTxn = false
 is_answer step.HasTxn = false
+is_answer step.BadOp = false
 is_answer step.LimitSessions = false
 is_answer step.LimitUpdates = false
 is_answer step.Unbuilt = false
@@ -38,21 +40,26 @@ abbrev pub commit_call : Step → TxId → Call
 commit_call (step.Decided p t c) = DecideOf
 commit_call other = PrepareOf
 
--- the call that a command made, where this line answers it
-abbrev pub call_by : Run → Command → Step → Call
-call_by run (command.Clock p reading) s = Tick reading
-call_by run (command.Session name site) s = world.Open
-call_by run (command.Begin name part) s = Begin name
-call_by run (command.Read name o) s = call_for (transaction run name) (λ t. ReadOf t o)
-call_by run (command.Update name o op) s = call_for (transaction run name) (λ t. UpdateOf t o op)
-call_by run (command.Commit name steps) s = call_for (transaction run name) (commit_call s)
-call_by run other s = Crash
+-- the call that a command made, where this line answers it, and these lines of partitions came before: a begin is handed what
+-- its session depends on
+abbrev pub call_by : List world.Line → Run → Command → Step → Call
+call_by ls run (command.Clock p reading) s = Tick reading
+call_by ls run (command.Session name site) s = world.Open
+call_by ls run (command.Begin name part) s = Begin name (dependency 1 ls name)
+call_by ls run (command.Read name o) s = call_for (transaction run name) (λ t. ReadOf t o)
+call_by ls run (command.Update name o op) s = call_for (transaction run name) (λ t. UpdateOf t o op)
+call_by ls run (command.Commit name steps) s = call_for (transaction run name) (commit_call s)
+call_by ls run other s = Crash
 
-abbrev pub call_of : Run → Option Command → Step → Call
-call_of run None s = Crash
-call_of run (Some c) s = call_by run c s
+abbrev pub call_of : List world.Line → Run → Option Command → Step → Call
+call_of ls run None s = Crash
+call_of ls run (Some c) s = call_by ls run c s
+
+-- a line that a partition answered, on top of these
+abbrev pub call_line : List world.Line → Run → Option Command → Step → List world.Line
+call_line ls run asked s = if is_answer s then (record { at = one; call = call_of ls run asked s; step = s }) ∷ ls else ls
 
 -- the lines that a partition answered, with their calls
 abbrev pub calls_of : Run → List world.Line
 calls_of [] = []
-calls_of (e ∷ run) = if is_answer e.step then (record { at = one; call = call_of run e.command e.step; step = e.step }) ∷ calls_of run else calls_of run
+calls_of (e ∷ run) = call_line (calls_of run) run e.command e.step

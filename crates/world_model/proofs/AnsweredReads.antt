@@ -14,7 +14,7 @@ use Rattle.crdt_core.specs.Parts.{touches, lists}
 use Rattle.crdt_core.specs.Log.{prepared, prepare_time, prepared_changes, committed, committed_at, aborted, pending, taken, taken_at, taken_changes, holds, held_at, held_changes}
 use Rattle.world_model.specs.Event.{Event, Began, Updated, Read, Entry, attempt, is_decided, time_of, sent}
 use Rattle.crdt_core.specs.KindsOf.{Kinds}
-use Rattle.world_model.specs.Partition.{PartState, Image, IsOther, IsReady, PartStep}
+use Rattle.world_model.specs.Partition.{PartState, Finds, IsOther, IsReady, PartStep}
 use Rattle.crdt_core.specs.Folds.{IsFold, state_read}
 use Rattle.world_model.specs.Plan.{Plan, IsPlace, takes_part, twin, home, changes_at, vector_at, commit_vector, is_some_update, IsAllowed, IsAsked}
 use Rattle.world_model.specs.WorldLaw.{IsRightFold}
@@ -180,7 +180,7 @@ module _ {E : Type 0} where
     }
 
     -- the same run with an event that decides nothing
-    pub answered_now : (before at).now ≡ (after at).now → ((l : List (Record E)) → Image (after at) l → l ≡ (before at).log) → IsRightFold plan ((record { at = at; event = event }) ∷ run) at s o read → ((u : TxId) → is_decided ((record { at = at; event = event }) ∷ run) u ≡ is_decided run u) → Answered plan ((record { at = at; event = event }) ∷ run) after at s o read
+    pub answered_now : (before at).now ≡ (after at).now → ((l : List (Record E)) → Finds (after at) l → l ≡ (before at).log) → IsRightFold plan ((record { at = at; event = event }) ∷ run) at s o read → ((u : TxId) → is_decided ((record { at = at; event = event }) ∷ run) u ≡ is_decided run u) → Answered plan ((record { at = at; event = event }) ∷ run) after at s o read
     answered_now now one right same = record {
       seen = subst (λ n. entry s at.site ≤ n) now ready.clock;
       later = λ u x a l i h. let e = one l i in ⊎_elim
@@ -198,11 +198,11 @@ module _ {E : Type 0} where
   answered_event kinds plan run before after f g at place (Read t s o own read value) st al =
       let r = right_now plan run before after f g at place t s o own read (Read t s o own read value) st.0 st.1.0 st.1.1 al in (
         answered_now plan run before after f g at place t s o own read (Read t s o own read value) st.0 st.1.0 st.1.1 al
-            (ap (λ p. p.now) (sym st.2)) (λ l i. subst (λ p. Image p l) st.2 i) (record { order = r.order; members = r.members; exact = r.exact }) (λ u. refl),
+            (ap (λ p. p.now) (sym st.2)) (λ l i. subst (λ p. Finds p l) st.2 i) (record { order = r.order; members = r.members; exact = r.exact }) (λ u. refl),
         st.1.3,
       )
   answered_event kinds plan run before after f g at place (Updated t s o own op read u stamp) st al = λ h.
       let r = right_now plan run before after f g at place t s o own read (Updated t s o own op read u stamp) st.0 (st.1.ready h) (st.1.fold h) al in
       answered_now plan run before after f g at place t s o own read (Updated t s o own op read u stamp) st.0 (st.1.ready h) (st.1.fold h) al
-      (ap (λ p. p.now) (sym st.2)) (λ l i. subst (λ p. Image p l) st.2 i) (record { order = r.order; members = r.members; exact = r.exact }) (λ u. refl)
+      (ap (λ p. p.now) (sym st.2)) (λ l i. subst (λ p. Finds p l) st.2 i) (record { order = r.order; members = r.members; exact = r.exact }) (λ u. refl)
   answered_event kinds plan run before after f g at place event st al = tt

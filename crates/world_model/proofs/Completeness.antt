@@ -10,11 +10,11 @@ use Rattle.crdt_core.specs.declared.record.Message.{Message}
 use Rattle.crdt_core.specs.declared.record.Record.{Record}
 use Rattle.crdt_core.specs.declared.record.Record.TheVariants.{Lease, Prepare, Decide, Finish, Abort, Batch}
 use Rattle.crdt_core.specs.Parts.{lists, vector_in, changes_in}
-use Rattle.crdt_core.specs.Log.{taken, taken_at, taken_changes, bound, grown, IsImage}
+use Rattle.crdt_core.specs.Log.{taken, taken_at, taken_changes, logged_bound, grown, MayFind}
 use Rattle.world_model.specs.Event.{Refused, Event, Ticked, Began, Updated, Read, Prepared, Decided, Finished, Aborted, Sent, Took, Reported, Heard, Crashed, RestartCut, Restarted, Opened, Cut, Entry, attempt, is_decided, time_of, sent, sent_count, report_count, EventsAre}
 use Rattle.crdt_core.specs.KindsOf.{Kinds}
 use Rattle.site_vector.specs.Known.{vector_of}
-use Rattle.world_model.specs.Partition.{PartState, Image, IsOther, IsBegin, batch_of, known, done, PartStep}
+use Rattle.world_model.specs.Partition.{PartState, Finds, IsOther, IsBegin, batch_of, known, done, PartStep}
 use Rattle.crdt_core.specs.Parts.{AreParts, above}
 use Rattle.world_model.specs.Plan.{Plan, takes_part, twin, changes_at, vector_at, commit_vector, IsAllowed, MayTake, MayHear}
 use Rattle.world_model.specs.WorldLaw.{IsExact}
@@ -46,12 +46,12 @@ module _ {E : Type 0} where
   -- p, of another site, holds all that site j has up to b
   pub record Complete (plan : Plan E) (run : List (Entry E)) (parts : PartId → PartState E) (p : PartId) (j b : ℕ) : Type 0 where
     pub reached : b ≤ sent run (twin j p)
-    pub held : (m : List (Record E)) (t : TxId) → Image (parts p) m → is_decided run t ≡ true → t.site ≡ j → takes_part plan t (twin j p) ≡ true → time_of run t ≤ b → taken m t ≡ true
+    pub held : (m : List (Record E)) (t : TxId) → Finds (parts p) m → is_decided run t ≡ true → t.site ≡ j → takes_part plan t (twin j p) ≡ true → time_of run t ≤ b → taken m t ≡ true
 
   -- an image holds all up to its own bound
   pub record Logged (plan : Plan E) (run : List (Entry E)) (p : PartId) (j : ℕ) (m : List (Record E)) : Type 0 where
-    pub reached : bound m j ≤ sent run (twin j p)
-    pub held : (t : TxId) → is_decided run t ≡ true → t.site ≡ j → takes_part plan t (twin j p) ≡ true → time_of run t ≤ bound m j → taken m t ≡ true
+    pub reached : logged_bound m j ≤ sent run (twin j p)
+    pub held : (t : TxId) → is_decided run t ≡ true → t.site ≡ j → takes_part plan t (twin j p) ≡ true → time_of run t ≤ logged_bound m j → taken m t ≡ true
 
   -- what a message brought is as it was sent
   pub record Brought (plan : Plan E) (run : List (Entry E)) (p : PartId) (t : TxId) (m : List (Record E)) : Type 0 where
@@ -70,8 +70,8 @@ module _ {E : Type 0} where
   pub record Bounds (plan : Plan E) (run : List (Entry E)) (parts : PartId → PartState E) : Type 0 where
     pub up_to : (p : PartId) (j : ℕ) → (parts p).up ≡ true → IsOther plan.sites p.site j → Complete plan run parts p j (entry (parts p).bounds j)
     pub heard : (p : PartId) (q j : ℕ) → (parts p).up ≡ true → 1 ≤ q → IsOther plan.sites p.site j → Complete plan run parts (numbered p q) j (entry (vector_of (parts p).heard q) j)
-    pub logged : (p : PartId) (j : ℕ) (m : List (Record E)) → Image (parts p) m → IsOther plan.sites p.site j → Logged plan run p j m
-    pub from : (p : PartId) (m : List (Record E)) (t : TxId) → Image (parts p) m → taken m t ≡ true → Brought plan run p t m
+    pub logged : (p : PartId) (j : ℕ) (m : List (Record E)) → Finds (parts p) m → IsOther plan.sites p.site j → Logged plan run p j m
+    pub from : (p : PartId) (m : List (Record E)) (t : TxId) → Finds (parts p) m → taken m t ≡ true → Brought plan run p t m
     pub events : EventsAre (IsBacked plan run parts) run
 
   more_taken : (r : Record E) (old : List (Record E)) (t : TxId) → taken old t ≡ true → taken (r ∷ old) t ≡ true
@@ -138,7 +138,7 @@ module _ {E : Type 0} where
     cut_lists m c t h = let x = is_exact c.number c.whole c.taken in
         (and_parts _ _ (sym (lists_above (commit_vector plan run) (λ y. plan.updates y (twin c.whole.from at)) c.whole.from (entry (before at).bounds c.whole.from) c.whole.parts t x.exact) ∙ (ap (λ xs. lists xs t) (sym c.parts) ∙ h))).0
 
-    from_step : (p : PartId) (new : List (Record E)) (t : TxId) → Image (after p) new → taken new t ≡ true → Brought plan next p t new
+    from_step : (p : PartId) (new : List (Record E)) (t : TxId) → Finds (after p) new → taken new t ≡ true → Brought plan next p t new
     from_step p new t i h = let c = mv.changed p new i in
         let r = go c.old c.more c.because (λ k. g.from p c.old t c.was k) (sym (c.told.taken t) ∙ h) in record {
           past = or_right _ _ r.past;
@@ -178,40 +178,40 @@ module _ {E : Type 0} where
         go old (Finish u c) bc ih k = let o = ih k in record { past = o.past; away = o.away; time = o.time; wrote = o.wrote }
         go old (Abort u) bc ih k = let o = ih k in record { past = o.past; away = o.away; time = o.time; wrote = o.wrote }
 
-    logged_old : (p : PartId) (j : ℕ) (old : List (Record E)) (r : Record E) (new : List (Record E)) → Logged plan run p j old → bound new j ≡ bound old j → ((t : TxId) → taken new t ≡ taken (r ∷ old) t) → Logged plan next p j new
+    logged_old : (p : PartId) (j : ℕ) (old : List (Record E)) (r : Record E) (new : List (Record E)) → Logged plan run p j old → logged_bound new j ≡ logged_bound old j → ((t : TxId) → taken new t ≡ taken (r ∷ old) t) → Logged plan next p j new
     logged_old p j old r new l e k = record {
-      reached = subst (λ x. x ≤ sent next (twin j p)) (sym e) (reach j p (bound old j) l.reached);
-      held = λ t h o u le. old_only (taken new t ≡ true) j p (bound old j) t l.reached h u (subst (λ x. time_of next t ≤ x) e le) (λ x le'. k t ∙ more_taken r old t (l.held t x o u le'));
+      reached = subst (λ x. x ≤ sent next (twin j p)) (sym e) (reach j p (logged_bound old j) l.reached);
+      held = λ t h o u le. old_only (taken new t ≡ true) j p (logged_bound old j) t l.reached h u (subst (λ x. time_of next t ≤ x) e le) (λ x le'. k t ∙ more_taken r old t (l.held t x o u le'));
     }
 
     -- a message's record
-    logged_batch : (old : List (Record E)) (m : Message E) (new : List (Record E)) (c : IsCut plan run (before at) at m) → Image (before at) old → Logged plan run at c.whole.from old → bound new c.whole.from ≡ max c.whole.hi (bound old c.whole.from) → ((t : TxId) → taken new t ≡ (lists m.parts t || taken old t)) → Logged plan next at c.whole.from new
+    logged_batch : (old : List (Record E)) (m : Message E) (new : List (Record E)) (c : IsCut plan run (before at) at m) → Finds (before at) old → Logged plan run at c.whole.from old → logged_bound new c.whole.from ≡ max c.whole.hi (logged_bound old c.whole.from) → ((t : TxId) → taken new t ≡ (lists m.parts t || taken old t)) → Logged plan next at c.whole.from new
     logged_batch old m new c w o e k =
         let j = c.whole.from in
         let r1 = shown_sent run (twin j at) c.taken.asked c.whole (numbered_shown sent_count run c.number (twin j at) (Sent c.taken.asked c.whole) c.taken.shown) in
         let r2 = o.reached in
-        let top : max c.whole.hi (bound old j) ≤ sent run (twin j at) = omega arith in record {
-          reached = subst (λ x. x ≤ sent next (twin j at)) (sym e) (reach j at (max c.whole.hi (bound old j)) top);
-          held = λ t h q u le. old_only (taken new t ≡ true) j at (max c.whole.hi (bound old j)) t top h u (subst (λ x. time_of next t ≤ x) e le) (λ x le'. k t ∙ ⊎_elim
+        let top : max c.whole.hi (logged_bound old j) ≤ sent run (twin j at) = omega arith in record {
+          reached = subst (λ x. x ≤ sent next (twin j at)) (sym e) (reach j at (max c.whole.hi (logged_bound old j)) top);
+          held = λ t h q u le. old_only (taken new t ≡ true) j at (max c.whole.hi (logged_bound old j)) t top h u (subst (λ x. time_of next t ≤ x) e le) (λ x le'. k t ∙ ⊎_elim
               (λ (y : entry (before at).bounds j < time_of run t). ⊎_elim
-              (λ (z : bound old j < time_of run t). or_left _ _ (ap (λ xs. lists xs t) c.parts ∙ message_brings c.number c.whole t c.taken c.low x q u (omega arith) y))
-              (λ (z : time_of run t ≤ bound old j). or_right _ _ (o.held t x q u z))
-              (cases_lt (bound old j) (time_of run t)))
+              (λ (z : logged_bound old j < time_of run t). or_left _ _ (ap (λ xs. lists xs t) c.parts ∙ message_brings c.number c.whole t c.taken c.low x q u (omega arith) y))
+              (λ (z : time_of run t ≤ logged_bound old j). or_right _ _ (o.held t x q u z))
+              (cases_lt (logged_bound old j) (time_of run t)))
               (λ (y : time_of run t ≤ entry (before at).bounds j). or_right _ _ ((g.up_to at j c.up c.taken.from).held old t w x q u y))
               (cases_lt (entry (before at).bounds j) (time_of run t)));
         }
 
-    logged_step : (p : PartId) (j : ℕ) (new : List (Record E)) → Image (after p) new → IsOther plan.sites p.site j → Logged plan next p j new
+    logged_step : (p : PartId) (j : ℕ) (new : List (Record E)) → Finds (after p) new → IsOther plan.sites p.site j → Logged plan next p j new
     logged_step p j new i ne = let c = mv.changed p new i in go c.old c.more c.was c.because (g.logged p j c.old c.was ne) (c.told.bound j) (λ t. c.told.taken t)
       where
-        go : (old : List (Record E)) (r : Record E) → Image (before p) old → Because plan run before (after p).up at event p old r → Logged plan run p j old → bound new j ≡ bound (r ∷ old) j → ((t : TxId) → taken new t ≡ taken (r ∷ old) t) → Logged plan next p j new
+        go : (old : List (Record E)) (r : Record E) → Finds (before p) old → Because plan run before (after p).up at event p old r → Logged plan run p j old → logged_bound new j ≡ logged_bound (r ∷ old) j → ((t : TxId) → taken new t ≡ taken (r ∷ old) t) → Logged plan next p j new
         go old (Batch m) w bc o e k = ⊎_elim
             (λ (x : (m.from == j) ≡ true).
             let c = bc.1 in
             let same : c.whole.from ≡ j = sym c.from ∙ eqb-true m.from j x in
             subst₂ (λ y z. Logged plan next y z new) (sym bc.0) same
-            (logged_batch old m new c (subst (λ y. Image (before y) old) bc.0 w) (subst₂ (λ y z. Logged plan run y z old) bc.0 (sym same) o)
-            (subst (λ z. bound new z ≡ max c.whole.hi (bound old z)) (sym same) (e ∙ cond-true (m.from == j) _ _ x ∙ ap (λ y. max y (bound old j)) c.hi)) k))
+            (logged_batch old m new c (subst (λ y. Finds (before y) old) bc.0 w) (subst₂ (λ y z. Logged plan run y z old) bc.0 (sym same) o)
+            (subst (λ z. logged_bound new z ≡ max c.whole.hi (logged_bound old z)) (sym same) (e ∙ cond-true (m.from == j) _ _ x ∙ ap (λ y. max y (logged_bound old j)) c.hi)) k))
             (λ (x : (m.from == j) ≡ false). logged_old p j old (Batch m) new o (e ∙ cond-false (m.from == j) _ _ x) k)
             (cases_Bool (m.from == j))
         go old (Lease n) w bc o e k = logged_old p j old (Lease n) new o e k
@@ -236,7 +236,7 @@ module _ {E : Type 0} where
           held = λ l t im h q u le. old_only (taken l t ≡ true) i at m.hi t top h u le (λ x le'. ⊎_elim
               (λ (y : entry (before at).bounds i < time_of run t).
               let b = message_brings number m t al st.1.0 x q u le' y in
-              let e : l ≡ grown (before at).log (batch_of m (entry (before at).bounds i) (above i (entry (before at).bounds i) m.parts)) = subst (λ p. Image p l) st.2 im in
+              let e : l ≡ grown (before at).log (batch_of m (entry (before at).bounds i) (above i (entry (before at).bounds i) m.parts)) = subst (λ p. Finds p l) st.2 im in
               ap (λ z. taken z t) e ∙ batch_takes (before at).log m (entry (before at).bounds i) t (above i (entry (before at).bounds i) m.parts) b)
               (λ (y : time_of run t ≤ entry (before at).bounds i). let d = mv.changed at l im in d.told.taken t ∙ more_taken d.more d.old t ((g.up_to at i st.0 al.from).held d.old t d.was x q u y))
               (cases_lt (entry (before at).bounds i) (time_of run t)));
@@ -257,7 +257,7 @@ module _ {E : Type 0} where
     up_here Crashed al st j up ne = clash up (ap (λ p. p.up) st)
     up_here RestartCut al st j up ne = clash up (ap (λ p. p.up) st)
     up_here (Restarted n b named listed) al st j up ne =
-        let one = λ (m : List (Record E)) (im : Image (after at) m). subst (λ rs. IsImage (after at).log rs m) st.whole im in
+        let one = λ (m : List (Record E)) (im : Finds (after at) m). subst (λ rs. MayFind (after at).log rs m) st.whole im in
         let l = logged_step at j (after at).log (image_log (after at)) ne in
         subst (λ x. Complete plan next after at j x) (sym (st.bounds j ne)) (record {
           reached = l.reached;

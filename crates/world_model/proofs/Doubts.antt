@@ -7,10 +7,10 @@ use Rattle.site_vector.specs.Ids.{same_part, same_tx}
 use Rattle.site_vector.specs.Order.{same_part_refl, same_tx_is}
 use Rattle.crdt_core.specs.declared.record.Record.{Record}
 use Rattle.crdt_core.specs.declared.record.Record.TheVariants.{Decide}
-use Rattle.crdt_core.specs.Log.{prepared, committed, aborted, pending, last_decided, IsImage}
+use Rattle.crdt_core.specs.Log.{prepared, committed, aborted, pending, last_decided, MayFind}
 use Rattle.world_model.specs.Event.{Event, Decided, Crashed, RestartCut, Restarted, Refused, Opened, Cut, Entry, attempt, is_named, decide_tried}
 use Rattle.crdt_core.specs.KindsOf.{Kinds}
-use Rattle.world_model.specs.Partition.{PartState, Image, PartStep}
+use Rattle.world_model.specs.Partition.{PartState, Finds, PartStep}
 use Rattle.world_model.specs.Plan.{Plan, IsAllowed, IsRun}
 use Rattle.world_model.specs.Doubt.{doubt_after, in_doubt, SettlesAt, SettleDoubts}
 use Rattle.world_model.proofs.Names.{clash, off, part_cases, part_other}
@@ -27,11 +27,11 @@ module _ {E : Type 0} where
 
   record Doubts (run : List (Entry E)) (parts : PartId → PartState E) : Type 0 where
     pub down : (p : PartId) (t : TxId) → in_doubt run p t ≡ true → (parts p).up ≡ false
-    pub either : (p : PartId) (t : TxId) (m : List (Record E)) → Image (parts p) m → in_doubt run p t ≡ true → IsEither m t
+    pub either : (p : PartId) (t : TxId) (m : List (Record E)) → Finds (parts p) m → in_doubt run p t ≡ true → IsEither m t
 
   record Doubtful (p : PartState E) (t : TxId) : Type 0 where
     pub down : p.up ≡ false
-    pub either : (m : List (Record E)) → Image p m → IsEither m t
+    pub either : (m : List (Record E)) → Finds p m → IsEither m t
 
   either_before : (log : List (Record E)) (t : TxId) → pending log t ≡ true → committed log t ≡ false → IsEither log t
   either_before log t p c = p ∙ ap not (sym (false_from_ne_true _ (λ n. clash (decided_committed log t (last_is_decided log t n)) c)))
@@ -52,17 +52,17 @@ module _ {E : Type 0} where
           either = λ m i. ⊎_elim
               (λ (k : m ≡ log). subst (λ x. IsEither x t) (sym k) (either_before log t waits apart))
               (λ (k : m ≡ Decide u c ∷ log). subst (λ x. IsEither x t) (sym k) (either_after log u t c h))
-              (subst (λ b. IsImage log (cond b (Decide u c ∷ []) []) m) first.0 (subst (λ p. Image p m) st.2 i));
+              (subst (λ b. MayFind log (cond b (Decide u c ∷ []) []) m) first.0 (subst (λ p. Finds p m) st.2 i));
         }
 
     stays_here : (t : TxId) → in_doubt run at t ≡ true → after at ≡ before at → Doubtful (after at) t
-    stays_here t h e = record { down = ap (λ p. p.up) e ∙ d.down at t h; either = λ m i. d.either at t m (subst (λ p. Image p m) e i) h }
+    stays_here t h e = record { down = ap (λ p. p.up) e ∙ d.down at t h; either = λ m i. d.either at t m (subst (λ p. Finds p m) e i) h }
 
     here : (event : Event E) → IsAllowed plan run before at (attempt event) → PartStep kinds plan.sites plan.parts at (before at) event (after at) → (t : TxId) → doubt_after t (in_doubt run at t) event ≡ true → Doubtful (after at) t
     here (Cut (Decided u c)) al st t h = ⊎_elim (λ (k : same_tx u t ≡ true). cut_here u c al.once st t k) (λ (k : in_doubt run at t ≡ true). clash st.0 (d.down at t k)) (or_cases _ _ h)
     here (Cut a) al st t h = clash st.0 (d.down at t h)
-    here Crashed al st t h = record { down = ap (λ p. p.up) st; either = λ m i. d.either at t m (subst (λ p. Image p m) st i) h }
-    here RestartCut al st t h = record { down = ap (λ p. p.up) st; either = λ m i. d.either at t m (subst (λ p. Image p m) st i) h }
+    here Crashed al st t h = record { down = ap (λ p. p.up) st; either = λ m i. d.either at t m (subst (λ p. Finds p m) st i) h }
+    here RestartCut al st t h = record { down = ap (λ p. p.up) st; either = λ m i. d.either at t m (subst (λ p. Finds p m) st i) h }
     here (Restarted n b named listed) al st t h = off h
     here (Refused asked why) al st t h = stays_here t h st.1
     here (Opened who) al st t h = stays_here t h st
@@ -75,7 +75,7 @@ module _ {E : Type 0} where
         (λ (ne : at ≡ p → ⊥).
         let old = others p (λ e. ne (sym e)) in
         let k : in_doubt run p t ≡ true = sym (cond-false _ _ _ (part_other at p ne)) ∙ h in
-        record { down = ap (λ y. y.up) old ∙ d.down p t k; either = λ m i. d.either p t m (subst (λ y. Image y m) old i) k })
+        record { down = ap (λ y. y.up) old ∙ d.down p t k; either = λ m i. d.either p t m (subst (λ y. Finds y m) old i) k })
         (part_cases at p) in record { down = λ p t h. (at_p p t h).down; either = λ p t m i h. (at_p p t h).either m i }
 
     settles_event : (event : Event E) (q : PartState E) → PartStep kinds plan.sites plan.parts at (before at) event q → SettlesAt run at event

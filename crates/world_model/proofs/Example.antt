@@ -23,7 +23,7 @@ use Rattle.crdt_core.specs.declared.record.Part.{Part}
 use Rattle.crdt_core.specs.declared.record.Message.{Message}
 use Rattle.crdt_core.specs.declared.record.Record.TheVariants.{Decide}
 use Rattle.crdt_core.specs.Parts.{touches}
-use Rattle.crdt_core.specs.Log.{prepare_time, pending, bound}
+use Rattle.crdt_core.specs.Log.{prepare_time, pending, logged_bound}
 use Rattle.world_model.specs.Event.{Event, Began, Updated, Read, Prepared, Decided, Sent, Took, Reported, Heard, Restarted, Refused, Opened, Cut, Entry, AskTake, AskRead, IsRepeat, TxPending, voted}
 use Rattle.crdt_core.specs.KindsOf.{Kinds}
 use Rattle.world_model.specs.Partition.{PartState, IsOther, IsOwnBound, ToldCommitted, fate_of, stable_entry, new_part, done, cut}
@@ -265,7 +265,8 @@ module _ {S E : Type 0} (kinds : Kinds S E) (known : kinds.has CounterPn ≡ tru
     (λ p. refl),
     record {
       place = place_here;
-      allowed = refl;
+      allowed = record { vectors = []; known = tt; is = refl };
+      fit = tt;
       step = (refl, record { early = lit< tt; named = refl; handed = refl; width = refl; own = refl; stable = λ j o. subst (λ i. entry snapshot1 i ≡ stable_entry 1 here (p0 here) i) (sym (other_of_first j o)) refl; waited = λ j o. subst (λ i. entry (0 ∷ 0 ∷ []) i ≤ entry snapshot1 i) (sym (other_of_first j o)) (le_refl 0) }, refl);
       others = others p0 here (done (p0 here) e1);
     },
@@ -279,6 +280,7 @@ module _ {S E : Type 0} (kinds : Kinds S E) (known : kinds.has CounterPn ≡ tru
     record {
       place = place_here;
       allowed = record { site = refl; who = ann; dependency = 0 ∷ 0 ∷ []; begun = inl (refl, refl); place = refl; earlier = refl };
+      fit = tt;
       step = (refl, record { ready = λ h. off h; fold = λ h. off h; known = known; fits = rw shallow refl; object = refl; effect = refl; stamped = refl }, refl);
       others = others p1 here (done (p1 here) e2);
     },
@@ -292,6 +294,7 @@ module _ {S E : Type 0} (kinds : Kinds S E) (known : kinds.has CounterPn ≡ tru
     record {
       place = place_here;
       allowed = record { fresh = refl; after_lead = λ ne. absurd (ne refl); takes = refl; snapshot = refl; lead = refl; changes = refl };
+      fit = tt;
       step = (refl, (lit≤ tt, refl, lit< tt), refl);
       others = others p2 here (done (p2 here) e3);
     },
@@ -299,7 +302,7 @@ module _ {S E : Type 0} (kinds : Kinds S E) (known : kinds.has CounterPn ≡ tru
   )
 
   run3a : IsWorldRun kinds 2 1 r3a p3
-  run3a = (p3, run3, record { place = place_here; allowed = tt; step = refl; others = λ q ne. refl }, tt)
+  run3a = (p3, run3, record { place = place_here; allowed = tt; fit = tt; step = refl; others = λ q ne. refl }, tt)
 
   run3b : IsWorldRun kinds 2 1 r3b p3b
   run3b = (
@@ -307,7 +310,8 @@ module _ {S E : Type 0} (kinds : Kinds S E) (known : kinds.has CounterPn ≡ tru
     run3a,
     record {
       place = place_here;
-      allowed = refl;
+      allowed = record { vectors = []; known = tt; is = refl };
+      fit = tt;
       step = (refl, record { early = lit< tt; named = refl; handed = refl; width = refl; own = refl; stable = λ j o. subst (λ i. entry snapshot3 i ≡ stable_entry 1 here (p3 here) i) (sym (other_of_first j o)) refl; waited = λ j o. subst (λ i. entry (0 ∷ 0 ∷ []) i ≤ entry snapshot3 i) (sym (other_of_first j o)) (le_refl 0) }, refl);
       others = others p3 here (done (p3 here) e3b);
     },
@@ -327,7 +331,8 @@ module _ {S E : Type 0} (kinds : Kinds S E) (known : kinds.has CounterPn ≡ tru
     run3b,
     record {
       place = place_here;
-      allowed = record { site = refl; who = ben; dependency = 0 ∷ 0 ∷ []; begun = inl (refl, refl) };
+      allowed = (record { site = refl; who = ben; dependency = 0 ∷ 0 ∷ []; begun = inl (refl, refl) }, refl);
+      fit = tt;
       step = ((refl, record { clock = le_refl 3; waiting = refl; changes = refl; time = refl; early = lit≤ tt; first = λ w h k. first_alone w h }), refl);
       others = λ q ne. refl;
     },
@@ -341,6 +346,7 @@ module _ {S E : Type 0} (kinds : Kinds S E) (known : kinds.has CounterPn ≡ tru
     record {
       place = place_here;
       allowed = record { lead = refl; here = refl; all = all_voted; kept = refl; once = refl; vector = refl };
+      fit = tt;
       step = (refl, refl, refl);
       others = others p3b here (cut (p3b here) (Decided first vector1));
     },
@@ -393,6 +399,7 @@ module _ {S E : Type 0} (kinds : Kinds S E) (known : kinds.has CounterPn ≡ tru
     record {
       place = place_here;
       allowed = tt;
+      fit = tt;
       step = record {
         found = inr refl;
         fits = refl;
@@ -400,7 +407,7 @@ module _ {S E : Type 0} (kinds : Kinds S E) (known : kinds.has CounterPn ≡ tru
         whole = refl;
         clock = refl;
         width = refl;
-        bounds = λ j o. subst (λ i. entry again.bounds i ≡ bound again.log i) (sym (other_of_first j o)) refl;
+        bounds = λ j o. subst (λ i. entry again.bounds i ≡ logged_bound again.log i) (sym (other_of_first j o)) refl;
         heard = refl;
         sent = refl;
         shown = refl;
@@ -422,6 +429,7 @@ module _ {S E : Type 0} (kinds : Kinds S E) (known : kinds.has CounterPn ≡ tru
     record {
       place = place_here;
       allowed = tt;
+      fit = tt;
       step = (refl, record { from = refl; part = refl; to = second_of_first; lo = refl; hi = own_bound; order = (tt, tt); members = λ u. in_stretch (same_tx first u); exact = ((refl, refl), tt) }, refl);
       others = others p5 here (done (p5 here) e6);
     },
@@ -435,6 +443,7 @@ module _ {S E : Type 0} (kinds : Kinds S E) (known : kinds.has CounterPn ≡ tru
     record {
       place = place_here;
       allowed = tt;
+      fit = tt;
       step = (refl, record { from = refl; part = refl; to = second_of_first; lo = refl; hi = own_bound; order = tt; members = λ u. past_stretch (same_tx first u); exact = tt }, refl);
       others = others p6 here (done (p6 here) e6a);
     },
@@ -448,6 +457,7 @@ module _ {S E : Type 0} (kinds : Kinds S E) (known : kinds.has CounterPn ≡ tru
     record {
       place = place_here;
       allowed = tt;
+      fit = tt;
       step = (refl, record { from = refl; part = refl; to = second_of_first; lo = refl; hi = own_bound; order = (tt, tt); members = λ u. in_stretch (same_tx first u); exact = ((refl, refl), tt) }, refl);
       others = others p6a here (done (p6a here) e6b);
     },
@@ -461,6 +471,7 @@ module _ {S E : Type 0} (kinds : Kinds S E) (known : kinds.has CounterPn ≡ tru
     record {
       place = place_there;
       allowed = record { from = first_of_second; to = refl; part = refl; asked = None; shown = inr (inr (inl (refl, refl, refl))) };
+      fit = tt;
       step = (refl, (le_refl 0, lit< tt), refl);
       others = others p6b there (done (p6b there) e7);
     },
@@ -474,6 +485,7 @@ module _ {S E : Type 0} (kinds : Kinds S E) (known : kinds.has CounterPn ≡ tru
     record {
       place = place_there;
       allowed = record { from = first_of_second; to = refl; part = refl; asked = None; shown = inr (inr (inr (inl (refl, refl, refl)))) };
+      fit = tt;
       step = ((refl, (refl, lit≤ tt, le_refl 1001)), refl);
       others = λ q ne. refl;
     },
@@ -487,6 +499,7 @@ module _ {S E : Type 0} (kinds : Kinds S E) (known : kinds.has CounterPn ≡ tru
     record {
       place = place_there;
       allowed = tt;
+      fit = tt;
       step = (refl, record { width = refl; own = record { most = le_refl 0; below = λ u h. off h; reached = inl refl }; others = λ j o. subst (λ i. entry (1001 ∷ 0 ∷ []) i ≡ entry (p7 there).bounds i) (sym (other_of_second j o)) refl }, refl);
       others = others p7 there (done (p7 there) e9);
     },
@@ -500,6 +513,7 @@ module _ {S E : Type 0} (kinds : Kinds S E) (known : kinds.has CounterPn ≡ tru
     record {
       place = place_there;
       allowed = record { least = lit≤ tt; most = lit≤ tt; shown = inl (refl, refl, refl) };
+      fit = tt;
       step = (refl, record { width = refl; own = (0, record { most = le_refl 0; below = λ u h. off h; reached = inl refl }, refl); others = λ j o. subst (λ i. entry (1001 ∷ 0 ∷ []) i ≡ stable_entry 1 there (done (p9 there) e10) i) (sym (other_of_second j o)) refl }, refl);
       others = others p9 there (done (p9 there) e10);
     },
@@ -512,7 +526,8 @@ module _ {S E : Type 0} (kinds : Kinds S E) (known : kinds.has CounterPn ≡ tru
     run10,
     record {
       place = place_there;
-      allowed = refl;
+      allowed = record { vectors = snapshot1 ∷ []; known = (inr (inr (inr (inr (inr (inr (inr (inr (inr (inr (inr (inr (inr (inr (inl refl)))))))))))))), tt); is = refl };
+      fit = tt;
       step = (refl, record { early = lit< tt; named = refl; handed = refl; width = refl; own = refl; stable = λ j o. subst (λ i. entry snapshot2 i ≡ stable_entry 1 there (p10 there) i) (sym (other_of_second j o)) refl; waited = λ j o. subst (λ i. entry snapshot1 i ≤ entry snapshot2 i) (sym (other_of_second j o)) (lit≤ tt) }, refl);
       others = others p10 there (done (p10 there) e11);
     },
@@ -530,6 +545,7 @@ module _ {S E : Type 0} (kinds : Kinds S E) (known : kinds.has CounterPn ≡ tru
     record {
       place = place_there;
       allowed = record { site = refl; who = ann; dependency = snapshot1; begun = inl (refl, refl); place = refl; earlier = refl };
+      fit = tt;
       step = (refl, (record { clock = le_refl 1; free = λ u h. off h }, record { order = (tt, tt); members = λ u. seen_there (same_tx first u); exact = ((refl, refl), tt) }, known, refl), refl);
       others = others p11 there (done (p11 there) e12);
     },

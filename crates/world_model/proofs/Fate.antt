@@ -11,7 +11,7 @@ use Rattle.crdt_core.specs.declared.record.Record.{Record}
 use Rattle.crdt_core.specs.declared.record.Record.TheVariants.{Lease, Prepare, Decide, Finish, Abort, Batch}
 use Rattle.crdt_core.specs.Log.{prepared, prepare_time, prepared_changes, decided, committed, committed_at, aborted, pending, last_decided}
 use Rattle.world_model.specs.Event.{Event, Prepared, Aborted, Entry, attempt, is_prepare, is_decide, is_abort, is_own_abort, shows_decided, tried, voted, decide_tried, gave_up, was_aborted, is_decided, vote, time_of}
-use Rattle.world_model.specs.Partition.{PartState, Image, ToldAborted, fate_of}
+use Rattle.world_model.specs.Partition.{PartState, Finds, ToldAborted, fate_of}
 use Rattle.world_model.specs.Plan.{Plan, takes_part, vector_at, commit_vector, IsAllowed, MayPrepare, MayAbort, TellsAborted}
 use Rattle.world_model.proofs.Names.{clash, off, part_same}
 use Rattle.world_model.proofs.Moves.{Because, Move, image_log, last_is_decided, named_by}
@@ -25,19 +25,19 @@ module _ {E : Type 0} where
     pub all : (p : PartId) → takes_part plan t p ≡ true → voted run t p ≡ true
 
   pub record Fate (plan : Plan E) (run : List (Entry E)) (parts : PartId → PartState E) : Type 0 where
-    pub was_tried : (q : PartId) (m : List (Record E)) (t : TxId) → Image (parts q) m → prepared m t ≡ true → tried run t q ≡ true
-    pub held : (q : PartId) (m : List (Record E)) (t : TxId) → Image (parts q) m → voted run t q ≡ true → (prepared m t ≡ true) × (prepare_time m t ≡ vote run t q)
+    pub was_tried : (q : PartId) (m : List (Record E)) (t : TxId) → Finds (parts q) m → prepared m t ≡ true → tried run t q ≡ true
+    pub held : (q : PartId) (m : List (Record E)) (t : TxId) → Finds (parts q) m → voted run t q ≡ true → (prepared m t ≡ true) × (prepare_time m t ≡ vote run t q)
     pub lead_first : (q : PartId) (t : TxId) → q ≢ plan.lead t → tried run t q ≡ true → voted run t (plan.lead t) ≡ true
-    pub full : (m : List (Record E)) (t : TxId) → Image (parts (plan.lead t)) m → committed m t ≡ true → Full plan run t
-    pub lost : (q : PartId) (m : List (Record E)) (t : TxId) → q ≢ plan.lead t → Image (parts q) m → aborted m t ≡ true → (gave_up run t ≡ true) ⊎ ((l : List (Record E)) → Image (parts (plan.lead t)) l → aborted l t ≡ true)
-    pub stays : (m : List (Record E)) (t : TxId) → Image (parts (plan.lead t)) m → is_decided run t ≡ true → committed m t ≡ true
-    pub known : (q : PartId) (m : List (Record E)) (t : TxId) → Image (parts q) m → committed m t ≡ true → (is_decided run t ≡ true) ⊎ (((parts q).up ≡ false) × (last_decided m ≡ Some t))
-    pub apart : (q : PartId) (m : List (Record E)) (t : TxId) → Image (parts q) m → committed m t ≡ true → aborted m t ≡ false
-    pub aborted_stays : (q : PartId) (m : List (Record E)) (t : TxId) → Image (parts q) m → was_aborted run t q ≡ true → aborted m t ≡ true
-    pub at_lead : (q : PartId) (m : List (Record E)) (t : TxId) → Image (parts q) m → decided m t ≡ true → q ≡ plan.lead t
-    pub time : (q : PartId) (m : List (Record E)) (t : TxId) → Image (parts q) m → committed m t ≡ true → committed_at m t ≡ commit_vector plan run t
-    pub first : (q : PartId) (m : List (Record E)) (t : TxId) → Image (parts q) m → committed m t ≡ true → prepared m t ≡ true
-    pub wrote : (q : PartId) (m : List (Record E)) (t : TxId) → Image (parts q) m → prepared m t ≡ true → prepared_changes m t ≡ plan.updates t q
+    pub full : (m : List (Record E)) (t : TxId) → Finds (parts (plan.lead t)) m → committed m t ≡ true → Full plan run t
+    pub lost : (q : PartId) (m : List (Record E)) (t : TxId) → q ≢ plan.lead t → Finds (parts q) m → aborted m t ≡ true → (gave_up run t ≡ true) ⊎ ((l : List (Record E)) → Finds (parts (plan.lead t)) l → aborted l t ≡ true)
+    pub stays : (m : List (Record E)) (t : TxId) → Finds (parts (plan.lead t)) m → is_decided run t ≡ true → committed m t ≡ true
+    pub known : (q : PartId) (m : List (Record E)) (t : TxId) → Finds (parts q) m → committed m t ≡ true → (is_decided run t ≡ true) ⊎ (((parts q).up ≡ false) × (last_decided m ≡ Some t))
+    pub apart : (q : PartId) (m : List (Record E)) (t : TxId) → Finds (parts q) m → committed m t ≡ true → aborted m t ≡ false
+    pub aborted_stays : (q : PartId) (m : List (Record E)) (t : TxId) → Finds (parts q) m → was_aborted run t q ≡ true → aborted m t ≡ true
+    pub at_lead : (q : PartId) (m : List (Record E)) (t : TxId) → Finds (parts q) m → decided m t ≡ true → q ≡ plan.lead t
+    pub time : (q : PartId) (m : List (Record E)) (t : TxId) → Finds (parts q) m → committed m t ≡ true → committed_at m t ≡ commit_vector plan run t
+    pub first : (q : PartId) (m : List (Record E)) (t : TxId) → Finds (parts q) m → committed m t ≡ true → prepared m t ≡ true
+    pub wrote : (q : PartId) (m : List (Record E)) (t : TxId) → Finds (parts q) m → prepared m t ≡ true → prepared_changes m t ≡ plan.updates t q
     pub part : (q : PartId) (t : TxId) → tried run t q ≡ true → takes_part plan t q ≡ true
     pub late : (q : PartId) (t : TxId) → voted run t q ≡ true → entry (plan.snapshot t) t.site < vote run t q
 
@@ -143,10 +143,10 @@ module _ {E : Type 0} where
     pub full_in_history : (t : TxId) → is_decided run t ≡ true → Full plan run t
     full_in_history t k = let p = before (plan.lead t) in f.full p.log t (image_log p) (f.stays p.log t (image_log p) k)
 
-    full_of : (q : PartId) (m : List (Record E)) (t : TxId) → Image (before q) m → committed m t ≡ true → Full plan run t
+    full_of : (q : PartId) (m : List (Record E)) (t : TxId) → Finds (before q) m → committed m t ≡ true → Full plan run t
     full_of q m t i h = ⊎_elim
         (λ (k : is_decided run t ≡ true). full_in_history t k)
-        (λ (k : ((before q).up ≡ false) × (last_decided m ≡ Some t)). f.full m t (subst (λ x. Image (before x) m) (f.at_lead q m t i (last_is_decided m t (named_by _ t k.1))) i) h)
+        (λ (k : ((before q).up ≡ false) × (last_decided m ≡ Some t)). f.full m t (subst (λ x. Finds (before x) m) (f.at_lead q m t i (last_is_decided m t (named_by _ t k.1))) i) h)
         (f.known q m t i h)
 
     -- who is full is prepared no more
@@ -161,7 +161,7 @@ module _ {E : Type 0} where
       all = λ p h. or_right _ _ (u.all p h);
     }
 
-    was_tried_step : (q : PartId) (new : List (Record E)) (t : TxId) → Image (after q) new → prepared new t ≡ true → tried next t q ≡ true
+    was_tried_step : (q : PartId) (new : List (Record E)) (t : TxId) → Finds (after q) new → prepared new t ≡ true → tried next t q ≡ true
     was_tried_step q new t i h = let c = mv.changed q new i in go c.old c.more c.because (f.was_tried q c.old t c.was) (sym (c.told.prepared t) ∙ h)
       where
         go : (old : List (Record E)) (r : Record E) → Because plan run before (after q).up at event q old r → (prepared old t ≡ true → tried run t q ≡ true) → prepared (r ∷ old) t ≡ true → tried next t q ≡ true
@@ -187,11 +187,11 @@ module _ {E : Type 0} where
     same_time q old (Finish u c) t b h = refl
     same_time q old (Abort u) t b h = refl
 
-    held_step : (q : PartId) (new : List (Record E)) (t : TxId) → Image (after q) new → voted next t q ≡ true → (prepared new t ≡ true) × (prepare_time new t ≡ vote next t q)
+    held_step : (q : PartId) (new : List (Record E)) (t : TxId) → Finds (after q) new → voted next t q ≡ true → (prepared new t ≡ true) × (prepare_time new t ≡ vote next t q)
     held_step q new t i h = ⊎_elim
         (λ (k : (same_part at q && is_prepare event t) ≡ true).
         let ps = and_parts (same_part at q) (is_prepare event t) k in
-        let v = mv.votes t ps.1 new (subst (λ x. Image (after x) new) (sym (same_part_is at q ps.0)) i) in (v.0, v.1 ∙ sym (cond-true _ _ _ k)))
+        let v = mv.votes t ps.1 new (subst (λ x. Finds (after x) new) (sym (same_part_is at q ps.0)) i) in (v.0, v.1 ∙ sym (cond-true _ _ _ k)))
         (λ (k : (same_part at q && is_prepare event t) ≡ false).
         let was : voted run t q ≡ true = ⊎_elim (λ (e : (same_part at q && is_prepare event t) ≡ true). clash e k) (λ (e : voted run t q ≡ true). e) (or_cases _ _ h) in
         let c = mv.changed q new i in
@@ -209,7 +209,7 @@ module _ {E : Type 0} where
         (λ (k : tried run t q ≡ true). or_right _ _ (f.lead_first q t ne k))
         (or_cases _ _ h)
 
-    full_step : (new : List (Record E)) (t : TxId) → Image (after (plan.lead t)) new → committed new t ≡ true → Full plan next t
+    full_step : (new : List (Record E)) (t : TxId) → Finds (after (plan.lead t)) new → committed new t ≡ true → Full plan next t
     full_step new t i h = let c = mv.changed (plan.lead t) new i in go c.old c.more c.because (λ k. full_stays t (f.full c.old t c.was k)) (sym (c.told.committed t) ∙ h)
       where
         go : (old : List (Record E)) (r : Record E) → Because plan run before (after (plan.lead t)).up at event (plan.lead t) old r → (committed old t ≡ true → Full plan next t) → committed (r ∷ old) t ≡ true → Full plan next t
@@ -232,34 +232,34 @@ module _ {E : Type 0} where
         go old (Abort u) b ih k = ih k
 
     -- at the lead of what a partition holds, t is prepared
-    at_its_lead : (q : PartId) (m : List (Record E)) (t : TxId) → q ≢ plan.lead t → Image (before q) m → prepared m t ≡ true → (l : List (Record E)) → Image (before (plan.lead t)) l → prepared l t ≡ true
+    at_its_lead : (q : PartId) (m : List (Record E)) (t : TxId) → q ≢ plan.lead t → Finds (before q) m → prepared m t ≡ true → (l : List (Record E)) → Finds (before (plan.lead t)) l → prepared l t ≡ true
     at_its_lead q m t ne i h l j = (f.held (plan.lead t) l t j (f.lead_first q t ne (f.was_tried q m t i h))).0
 
     Lost : TxId → Type 0
-    Lost t = (gave_up next t ≡ true) ⊎ ((l : List (Record E)) → Image (after (plan.lead t)) l → aborted l t ≡ true)
+    Lost t = (gave_up next t ≡ true) ⊎ ((l : List (Record E)) → Finds (after (plan.lead t)) l → aborted l t ≡ true)
 
     -- what each image of a partition has aborted, each image after the step has
-    lost_stays : (p : PartId) (t : TxId) → ((l : List (Record E)) → Image (before p) l → aborted l t ≡ true) → (l : List (Record E)) → Image (after p) l → aborted l t ≡ true
+    lost_stays : (p : PartId) (t : TxId) → ((l : List (Record E)) → Finds (before p) l → aborted l t ≡ true) → (l : List (Record E)) → Finds (after p) l → aborted l t ≡ true
     lost_stays p t all l j = let c = mv.changed p l j in c.told.aborted t ∙ more_aborted c.more c.old t (all c.old c.was)
 
-    told_by_lead : ((p : PartId) (l : List (Record E)) → (before p).up ≡ true → Image (before p) l → l ≡ (before p).log) → (t : TxId) → TellsAborted (before (plan.lead t)) t → prepared (before (plan.lead t)).log t ≡ true → (l : List (Record E)) → Image (before (plan.lead t)) l → aborted l t ≡ true
+    told_by_lead : ((p : PartId) (l : List (Record E)) → (before p).up ≡ true → Finds (before p) l → l ≡ (before p).log) → (t : TxId) → TellsAborted (before (plan.lead t)) t → prepared (before (plan.lead t)).log t ≡ true → (l : List (Record E)) → Finds (before (plan.lead t)) l → aborted l t ≡ true
     told_by_lead one t a p l j = let w = told_aborted (before (plan.lead t)) t a in ap (λ x. aborted x t) (one (plan.lead t) l w.up j) ∙ ended_by_now (before (plan.lead t)).log t p w.idle w.uncommitted
 
-    lost_step : ((p : PartId) (l : List (Record E)) → (before p).up ≡ true → Image (before p) l → l ≡ (before p).log) → (q : PartId) (new : List (Record E)) (t : TxId) → q ≢ plan.lead t → Image (after q) new → aborted new t ≡ true → Lost t
+    lost_step : ((p : PartId) (l : List (Record E)) → (before p).up ≡ true → Finds (before p) l → l ≡ (before p).log) → (q : PartId) (new : List (Record E)) (t : TxId) → q ≢ plan.lead t → Finds (after q) new → aborted new t ≡ true → Lost t
     unfolding Lost
     lost_step one q new t ne i h = let c = mv.changed q new i in go c.old c.more c.was c.because (λ k. was_lost (f.lost q c.old t ne c.was k)) (sym (c.told.aborted t) ∙ h)
       where
-        was_lost : (gave_up run t ≡ true) ⊎ ((l : List (Record E)) → Image (before (plan.lead t)) l → aborted l t ≡ true) → Lost t
-        was_lost w = ⊎_elim (λ (k : gave_up run t ≡ true). inl (or_right _ _ k)) (λ (k : (l : List (Record E)) → Image (before (plan.lead t)) l → aborted l t ≡ true). inr (lost_stays (plan.lead t) t k)) w
+        was_lost : (gave_up run t ≡ true) ⊎ ((l : List (Record E)) → Finds (before (plan.lead t)) l → aborted l t ≡ true) → Lost t
+        was_lost w = ⊎_elim (λ (k : gave_up run t ≡ true). inl (or_right _ _ k)) (λ (k : (l : List (Record E)) → Finds (before (plan.lead t)) l → aborted l t ≡ true). inr (lost_stays (plan.lead t) t k)) w
 
-        by_word : (old : List (Record E)) (own : Bool) → q ≡ at → Image (before q) old → pending old t ≡ true → attempt event ≡ Aborted t own → MayAbort plan run before at t own → Lost t
+        by_word : (old : List (Record E)) (own : Bool) → q ≡ at → Finds (before q) old → pending old t ≡ true → attempt event ≡ Aborted t own → MayAbort plan run before at t own → Lost t
         by_word old true e w p s al = inl (or_left _ _ (ap (λ a. is_own_abort a t) s ∙ and_from _ _ (same_tx_refl t) refl))
         by_word old false e w p s al = inr (lost_stays (plan.lead t) t (⊎_elim
             (λ (k : at ≡ plan.lead t). absurd (ne (e ∙ k)))
             (λ (k : TellsAborted (before (plan.lead t)) t). told_by_lead one t k (at_its_lead q old t ne w (pending_parts old t p).prepared (before (plan.lead t)).log (image_log (before (plan.lead t)))))
             al))
 
-        go : (old : List (Record E)) (r : Record E) → Image (before q) old → Because plan run before (after q).up at event q old r → (aborted old t ≡ true → Lost t) → aborted (r ∷ old) t ≡ true → Lost t
+        go : (old : List (Record E)) (r : Record E) → Finds (before q) old → Because plan run before (after q).up at event q old r → (aborted old t ≡ true → Lost t) → aborted (r ∷ old) t ≡ true → Lost t
         go old (Abort u) w b ih k = ⊎_elim
             (λ (e : same_tx u t ≡ true). (subst (λ x. (q ≡ at) × (pending old x ≡ true) × ((own : Bool) × (attempt event ≡ Aborted x own) × MayAbort plan run before at x own) → Lost t) (sym (same_tx_is u t e)) (λ b'. by_word old b'.2.0 b'.0 w b'.1 b'.2.1 b'.2.2)) b)
             (λ (e : aborted old t ≡ true). ih e)
@@ -270,7 +270,7 @@ module _ {E : Type 0} where
         go old (Decide u c) w b ih k = ih k
         go old (Finish u c) w b ih k = ih k
 
-    at_lead_step : (q : PartId) (new : List (Record E)) (t : TxId) → Image (after q) new → decided new t ≡ true → q ≡ plan.lead t
+    at_lead_step : (q : PartId) (new : List (Record E)) (t : TxId) → Finds (after q) new → decided new t ≡ true → q ≡ plan.lead t
     at_lead_step q new t i h = let c = mv.changed q new i in go c.old c.more c.because (λ k. f.at_lead q c.old t c.was k) (sym (c.told.decided t) ∙ h)
       where
         go : (old : List (Record E)) (r : Record E) → Because plan run before (after q).up at event q old r → (decided old t ≡ true → q ≡ plan.lead t) → decided (r ∷ old) t ≡ true → q ≡ plan.lead t
@@ -281,7 +281,7 @@ module _ {E : Type 0} where
         go old (Finish u c) b ih k = ih k
         go old (Abort u) b ih k = ih k
 
-    stays_step : (new : List (Record E)) (t : TxId) → Image (after (plan.lead t)) new → is_decided next t ≡ true → committed new t ≡ true
+    stays_step : (new : List (Record E)) (t : TxId) → Finds (after (plan.lead t)) new → is_decided next t ≡ true → committed new t ≡ true
     stays_step new t i h = ⊎_elim
         (λ (k : shows_decided event t ≡ true). shown k (⊎_elim
         (λ (d : decided (after at).log t ≡ true). at_lead_step at (after at).log t (image_log (after at)) d)
@@ -294,9 +294,9 @@ module _ {E : Type 0} where
         shown k e = ⊎_elim
             (λ (d : decided new t ≡ true). decided_committed new t d)
             (λ (d : (at ≡ plan.lead t) × (committed new t ≡ true)). d.1)
-            (mv.decides t k new (subst (λ x. Image (after x) new) (sym e) i))
+            (mv.decides t k new (subst (λ x. Finds (after x) new) (sym e) i))
 
-    known_step : (q : PartId) (new : List (Record E)) (t : TxId) → Image (after q) new → committed new t ≡ true → (is_decided next t ≡ true) ⊎ (((after q).up ≡ false) × (last_decided new ≡ Some t))
+    known_step : (q : PartId) (new : List (Record E)) (t : TxId) → Finds (after q) new → committed new t ≡ true → (is_decided next t ≡ true) ⊎ (((after q).up ≡ false) × (last_decided new ≡ Some t))
     known_step q new t i h = let c = mv.changed q new i in go c.old c.more c.because c.told.last (λ k. was_known c.old (λ u l. c.downs t u l) (f.known q c.old t c.was k)) (sym (c.told.committed t) ∙ h)
       where
         was_known : (old : List (Record E)) → ((before q).up ≡ false → last_decided old ≡ Some t → (shows_decided event t ≡ true) ⊎ (((after q).up ≡ false) × (last_decided new ≡ Some t))) → (is_decided run t ≡ true) ⊎ (((before q).up ≡ false) × (last_decided old ≡ Some t)) → (is_decided next t ≡ true) ⊎ (((after q).up ≡ false) × (last_decided new ≡ Some t))
@@ -319,7 +319,7 @@ module _ {E : Type 0} where
         go old (Prepare u y n s w) b l ih k = ih k
         go old (Abort u) b l ih k = ih k
 
-    apart_step : (q : PartId) (new : List (Record E)) (t : TxId) → Image (after q) new → committed new t ≡ true → aborted new t ≡ false
+    apart_step : (q : PartId) (new : List (Record E)) (t : TxId) → Finds (after q) new → committed new t ≡ true → aborted new t ≡ false
     apart_step q new t i h = let c = mv.changed q new i in c.told.aborted t ∙ go c.old c.more c.because (λ k. f.apart q c.old t c.was k) (sym (c.told.committed t) ∙ h)
       where
         go : (old : List (Record E)) (r : Record E) → Because plan run before (after q).up at event q old r → (committed old t ≡ true → aborted old t ≡ false) → committed (r ∷ old) t ≡ true → aborted (r ∷ old) t ≡ false
@@ -330,9 +330,9 @@ module _ {E : Type 0} where
         go old (Batch x) b ih k = ih k
         go old (Prepare u l n s w) b ih k = ih k
 
-    aborted_stays_step : (q : PartId) (new : List (Record E)) (t : TxId) → Image (after q) new → was_aborted next t q ≡ true → aborted new t ≡ true
+    aborted_stays_step : (q : PartId) (new : List (Record E)) (t : TxId) → Finds (after q) new → was_aborted next t q ≡ true → aborted new t ≡ true
     aborted_stays_step q new t i h = ⊎_elim
-        (λ (k : (same_part at q && is_abort event t) ≡ true). let ps = and_parts (same_part at q) (is_abort event t) k in mv.aborts t ps.1 new (subst (λ x. Image (after x) new) (sym (same_part_is at q ps.0)) i))
+        (λ (k : (same_part at q && is_abort event t) ≡ true). let ps = and_parts (same_part at q) (is_abort event t) k in mv.aborts t ps.1 new (subst (λ x. Finds (after x) new) (sym (same_part_is at q ps.0)) i))
         (λ (k : was_aborted run t q ≡ true). lost_stays q t (λ l j. f.aborted_stays q l t j k) new i)
         (or_cases _ _ h)
 
@@ -342,7 +342,7 @@ module _ {E : Type 0} where
     same_vector : (t : TxId) → time_of next t ≡ time_of run t → commit_vector plan run t ≡ commit_vector plan next t
     same_vector t e = ap (λ c. vector_at plan t c) (sym e)
 
-    time_step : (q : PartId) (new : List (Record E)) (t : TxId) → Image (after q) new → committed new t ≡ true → committed_at new t ≡ commit_vector plan next t
+    time_step : (q : PartId) (new : List (Record E)) (t : TxId) → Finds (after q) new → committed new t ≡ true → committed_at new t ≡ commit_vector plan next t
     time_step q new t i h = let c = mv.changed q new i in c.told.committed_at t ∙ go c.old c.more c.because (λ k. f.time q c.old t c.was k ∙ same_vector t (full_same_time t (full_of q c.old t c.was k))) (sym (c.told.committed t) ∙ h)
       where
         now : (old : List (Record E)) (u : TxId) (c : List ℕ) → (committed old t ≡ true → committed_at old t ≡ commit_vector plan next t) → (same_tx u t || committed old t) ≡ true → (same_tx u t ≡ true → c ≡ commit_vector plan next t) → cond (same_tx u t) c (committed_at old t) ≡ commit_vector plan next t
@@ -359,7 +359,7 @@ module _ {E : Type 0} where
         go old (Abort u) b ih k = ih k
         go old (Batch x) b ih k = ih k
 
-    first_step : (q : PartId) (new : List (Record E)) (t : TxId) → Image (after q) new → committed new t ≡ true → prepared new t ≡ true
+    first_step : (q : PartId) (new : List (Record E)) (t : TxId) → Finds (after q) new → committed new t ≡ true → prepared new t ≡ true
     first_step q new t i h = let c = mv.changed q new i in c.told.prepared t ∙ more_prepared c.more c.old t (go c.old c.more c.because (λ k. f.first q c.old t c.was k) (sym (c.told.committed t) ∙ h))
       where
         go : (old : List (Record E)) (r : Record E) → Because plan run before (after q).up at event q old r → (committed old t ≡ true → prepared old t ≡ true) → committed (r ∷ old) t ≡ true → prepared old t ≡ true
@@ -370,7 +370,7 @@ module _ {E : Type 0} where
         go old (Abort u) b ih k = ih k
         go old (Batch x) b ih k = ih k
 
-    wrote_step : (q : PartId) (new : List (Record E)) (t : TxId) → Image (after q) new → prepared new t ≡ true → prepared_changes new t ≡ plan.updates t q
+    wrote_step : (q : PartId) (new : List (Record E)) (t : TxId) → Finds (after q) new → prepared new t ≡ true → prepared_changes new t ≡ plan.updates t q
     wrote_step q new t i h = let c = mv.changed q new i in c.told.changes t ∙ go c.old c.more c.because (λ k. f.wrote q c.old t c.was k) (sym (c.told.prepared t) ∙ h)
       where
         go : (old : List (Record E)) (r : Record E) → Because plan run before (after q).up at event q old r → (prepared old t ≡ true → prepared_changes old t ≡ plan.updates t q) → prepared (r ∷ old) t ≡ true → prepared_changes (r ∷ old) t ≡ plan.updates t q
@@ -401,7 +401,7 @@ module _ {E : Type 0} where
         (λ (k : (same_part at q && is_prepare event t) ≡ false). subst (λ x. entry (plan.snapshot t) t.site < x) (sym (cond-false _ _ _ k)) (f.late q t (⊎_elim (λ (x : (same_part at q && is_prepare event t) ≡ true). clash x k) (λ (x : voted run t q ≡ true). x) (or_cases _ _ h))))
         (cases_Bool (same_part at q && is_prepare event t))
 
-    pub fate_step : ((p : PartId) (l : List (Record E)) → (before p).up ≡ true → Image (before p) l → l ≡ (before p).log) → Fate plan next after
+    pub fate_step : ((p : PartId) (l : List (Record E)) → (before p).up ≡ true → Finds (before p) l → l ≡ (before p).log) → Fate plan next after
     unfolding Lost
     fate_step one = record {
       was_tried = was_tried_step;

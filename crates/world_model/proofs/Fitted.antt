@@ -15,13 +15,13 @@ use Rattle.crdt_core.specs.declared.record.Part.{Part}
 use Rattle.crdt_core.specs.declared.record.Message.{Message}
 use Rattle.crdt_core.specs.declared.record.Record.{Record}
 use Rattle.crdt_core.specs.declared.record.Record.TheVariants.{Lease, Prepare, Decide, Finish, Abort, Batch}
-use Rattle.crdt_core.specs.Log.{end_of_time, ceiling, prepared, prepare_time, pending, taken, taken_at, bound, grown, IsImage}
+use Rattle.crdt_core.specs.Log.{end_of_time, ceiling, prepared, prepare_time, pending, taken, taken_at, logged_bound, grown, MayFind}
 use Rattle.crdt_core.specs.Parts.{lists, vector_in}
 use Rattle.crdt_core.specs.Fitting.{is_vector, stand_at, fits_commit, fits_part, are_apart, fits_message, fits_record, unfit_next, unfit}
 use Rattle.crdt_core.specs.Log.{is_named_in, prepared_lead, prepared_snapshot}
 use Rattle.world_model.specs.Event.{Event, Ticked, Began, Updated, Read, Prepared, Decided, Finished, Aborted, Sent, Took, Reported, Heard, Crashed, RestartCut, Restarted, Refused, Opened, Cut, Entry, attempt, is_prepare, time_shown, voted, is_decided, time_of, sent, sent_count}
 use Rattle.crdt_core.specs.KindsOf.{Kinds}
-use Rattle.world_model.specs.Partition.{PartState, Image, IsOther, batch_of, records, done, MayDo, PartStep}
+use Rattle.world_model.specs.Partition.{PartState, Finds, IsOther, batch_of, records, done, MayDo, PartStep}
 use Rattle.crdt_core.specs.Orders.{Ascends, stream_cmp}
 use Rattle.crdt_core.specs.Parts.{AreParts, above}
 use Rattle.crdt_core.specs.Log.{lease_for}
@@ -88,9 +88,9 @@ module _ {E : Type 0} (plan : Plan E) (id : PartId) where
   GoodAfter log [] = ⊤
   GoodAfter log (r ∷ rs) = (fits_record plan.sites plan.parts id log r ≡ true) × IsOwn r × GoodAfter (r ∷ log) rs
 
-  image_good : (log rs m : List (Record E)) → AreGood log → GoodAfter log rs → IsImage log rs m → AreGood m
+  image_good : (log rs m : List (Record E)) → AreGood log → GoodAfter log rs → MayFind log rs m → AreGood m
   image_good log [] m g a i = subst AreGood (sym i) g
-  image_good log (r ∷ rs) m g a i = ⊎_elim (λ (e : m ≡ log). subst AreGood (sym e) g) (λ (x : IsImage (r ∷ log) rs m). image_good (r ∷ log) rs m (a.0, a.1, g) a.2 x) i
+  image_good log (r ∷ rs) m g a i = ⊎_elim (λ (e : m ≡ log). subst AreGood (sym e) g) (λ (x : MayFind (r ∷ log) rs m). image_good (r ∷ log) rs m (a.0, a.1, g) a.2 x) i
 
   pub good_unfit : (log : List (Record E)) → AreGood log → unfit plan.sites plan.parts id log ≡ None
   good_unfit [] g = refl
@@ -159,7 +159,7 @@ module _ {E : Type 0} (plan : Plan E) (id : PartId) where
   pending_home log u t e p = subst (λ y. prepared log y ≡ true) (same_tx_is u t e) (pending_parts log u p).prepared
 
   -- what is named is prepared, where it is of the site
-  named_good : (log : List (Record E)) (t : TxId) → AreGood log → is_named_in log t ≡ true → t.site ≡ id.site → prepared log t ≡ true
+  pub named_good : (log : List (Record E)) (t : TxId) → AreGood log → is_named_in log t ≡ true → t.site ≡ id.site → prepared log t ≡ true
   named_good [] t g h s = off h
   named_good (Lease n ∷ log) t g h s = named_good log t g.2 h s
   named_good (Prepare u l n c w ∷ log) t g h s = ⊎_elim (λ (e : same_tx u t ≡ true). or_left _ _ e) (λ (e : is_named_in log t ≡ true). or_right _ _ (named_good log t g.2 e s)) (or_cases _ _ h)
@@ -174,7 +174,7 @@ module _ {E : Type 0} (plan : Plan E) (id : PartId) where
   -- what is named was taken up to the bound, where it is of another site
   record IsTaken (log : List (Record E)) (t : TxId) : Type 0 where
     pub here : taken log t ≡ true
-    pub upto : entry (taken_at log t) t.site ≤ bound log t.site
+    pub upto : entry (taken_at log t) t.site ≤ logged_bound log t.site
 
   taken_good : (log : List (Record E)) (t : TxId) → AreGood log → is_named_in log t ≡ true → (t.site ≡ id.site → ⊥) → IsTaken log t
   taken_good [] t g h s = off h
@@ -200,14 +200,14 @@ module _ {E : Type 0} (plan : Plan E) (id : PartId) where
       let f = batch_fits log m g.0 in
       let x = part_fits m m.parts t f.parts e in
       let same : (m.from == t.site) ≡ true = eq-eqb m.from t.site (sym x.0) in
-      let b : bound (Batch m ∷ log) t.site ≡ max m.hi (bound log t.site) = cond-true _ (max m.hi (bound log t.site)) (bound log t.site) same in
+      let b : logged_bound (Batch m ∷ log) t.site ≡ max m.hi (logged_bound log t.site) = cond-true _ (max m.hi (logged_bound log t.site)) (logged_bound log t.site) same in
       let v : entry (taken_at (Batch m ∷ log) t) t.site ≤ m.hi = subst (λ j. entry (taken_at (Batch m ∷ log) t) j ≤ m.hi) (sym x.0) (subst (λ c. entry c m.from ≤ m.hi) (sym (cond-true _ (vector_in m.parts t) (taken_at log t) e)) x.1) in
       record { here = or_left _ _ e; upto = omega arith })
       (λ (e : lists m.parts t ≡ false).
       let r = taken_good log t g.2 (⊎_elim (λ (k : lists m.parts t ≡ true). clash k e) (λ (k : is_named_in log t ≡ true). k) (or_cases _ _ h)) s in
       let u = r.upto in
       let v : entry (taken_at (Batch m ∷ log) t) t.site ≡ entry (taken_at log t) t.site = ap (λ c. entry c t.site) (cond-false _ (vector_in m.parts t) (taken_at log t) e) in
-      let b : bound log t.site ≤ bound (Batch m ∷ log) t.site = more (m.from == t.site) m.hi (bound log t.site) in
+      let b : logged_bound log t.site ≤ logged_bound (Batch m ∷ log) t.site = more (m.from == t.site) m.hi (logged_bound log t.site) in
       record { here = or_right _ _ r.here; upto = omega arith })
       (cases_Bool (lists m.parts t))
     where
@@ -264,8 +264,8 @@ now_low run parts l p = let i = image_log (parts p) in le_trans ((l.clock p).bel
 
 module _ {E S : Type 0} (kinds : Kinds S E) (plan : Plan E) (pf : PlanFits plan) where
   pub record Good (run : List (Entry E)) (parts : PartId → PartState E) : Type 0 where
-    pub logs : (p : PartId) (m : List (Record E)) → Image (parts p) m → AreGood plan p m
-    pub bounds : (p : PartId) → (parts p).up ≡ true → (j : ℕ) → IsOther plan.sites p.site j → bound (parts p).log j ≤ entry (parts p).bounds j
+    pub logs : (p : PartId) (m : List (Record E)) → Finds (parts p) m → AreGood plan p m
+    pub bounds : (p : PartId) → (parts p).up ≡ true → (j : ℕ) → IsOther plan.sites p.site j → logged_bound (parts p).log j ≤ entry (parts p).bounds j
     pub times : (t : TxId) → time_of run t ≤ end_of_time
 
   module _ (run : List (Entry E)) (before after : PartId → PartState E) (at : PartId) (k : Kept kinds plan run before) (g : Good run before) (place : IsPlace plan.sites plan.parts at) where
@@ -352,8 +352,27 @@ module _ {E S : Type 0} (kinds : Kinds S E) (plan : Plan E) (pf : PlanFits plan)
             let lead_takes = k.fate.part (plan.lead t) t (voted_tried run t (plan.lead t) all.lead) in
             let site : (plan.lead t).site ≡ at.site = plan.at_home t (plan.lead t) lead_takes ∙ sym (plan.at_home t at takes) in
             let same : plan.lead t ≡ at = λ j. record { site = site j; part = (sym known.0 ∙ e) j } in
-            clash (k.fate.stays log t (subst (λ q. Image (before q) log) (sym same) i) al.decided) parts.committed in
+            clash (k.fate.stays log t (subst (λ q. Finds (before q) log) (sym same) i) al.decided) parts.committed in
             (and_from _ _ p (and_from _ _ (ap not (false_from_ne_true _ (λ e. away (eqb-true (prepared_lead log t) at.part e)))) (commit_fits t c p (all.all at takes) al.vector)), tt, tt)
+
+    -- what a message brings above the bound is named in no record
+    pub unheld : (number : ℕ) (m : Message E) → MayTake plan run at number m → (before at).up ≡ true → (t : TxId) → lists (above m.from (entry (before at).bounds m.from) m.parts) t ≡ true → is_named_in log t ≡ false
+    unheld number m al up t h = false_from_ne_true _ (λ n.
+        let b = entry (before at).bounds m.from in
+        let q = twin m.from at in
+        let backed : IsExact plan run q m × (m.hi ≤ sent run q) = shown_has (IsBacked plan run before) run q (Sent al.asked m) k.bounds.events (numbered_shown sent_count run number q (Sent al.asked m) al.shown) in
+        let x = backed.0 in
+        let vec = commit_vector plan run in
+        let ups = λ (u : TxId). plan.updates u q in
+        let h0 : (lists m.parts t ≡ true) × (ltb b (entry (vec t) m.from) ≡ true) = and_parts (lists m.parts t) _ (sym (lists_above vec ups m.from b m.parts t x.exact) ∙ h) in
+        let u : takes_part plan t q ≡ true = (and_parts (takes_part plan t q) _ (and_parts (is_decided run t) _ (sym (x.members t) ∙ h0.0)).1).0 in
+        let site = plan.at_home t q u in
+        let z = taken_good plan at log t good_log n (λ s. al.from.apart (site ∙ s)) in
+        let t0 = k.bounds.from at log t (image_log (before at)) z.here in
+        let w : entry (vec t) m.from ≤ logged_bound log m.from = subst₂ (λ c j. entry c j ≤ logged_bound log j) t0.time (sym site) z.upto in
+        let v = g.bounds at up m.from al.from in
+        let d = ltb-true b (entry (vec t) m.from) h0.1 in
+        absurd (omega arith))
 
     batch_good : (number : ℕ) (m : Message E) → MayTake plan run at number m → MayDo kinds plan.sites plan.parts at (before at) (Took number m) → (before at).up ≡ true → (xs : List (Part E)) → above m.from (entry (before at).bounds m.from) m.parts ≡ xs → GoodAfter plan at log (batch_of m (entry (before at).bounds m.from) xs)
     batch_good number m al may up [] e = tt
@@ -382,16 +401,7 @@ module _ {E S : Type 0} (kinds : Kinds S E) (plan : Plan E) (pf : PlanFits plan)
         let test = λ (t : TxId) (c : List ℕ) (us : List (Upd E)). t.site == m.from && (is_vector plan.sites c && (stand_at plan.parts m.part us && (ltb b (entry c m.from) && leb (entry c m.from) m.hi))) in
         let all_fit : list_all (fits_part plan.sites plan.parts m') (y ∷ ys) ≡ true = all_parts vec ups test (y ∷ ys) exact (λ t h. ap (λ n. t.site == m.from && (is_vector plan.sites (vec t) && (stand_at plan.parts n (ups t) && (ltb b (entry (vec t) m.from) && leb (entry (vec t) m.from) m.hi)))) al.part ∙ part t h) in
         let apart : are_apart (y ∷ ys) ≡ true = ap are_apart (sym e) ∙ apart_above m.from b m.parts (stream_parts vec ups m.from m.parts x.exact x.order) in
-        let fresh : (t : TxId) → lists (y ∷ ys) t ≡ true → is_named_in log t ≡ false = λ t h. false_from_ne_true _ (λ n.
-        let h0 = facts t h in
-        let u = takes t h0.0 in
-        let site = plan.at_home t q u in
-        let z = taken_good plan at log t good_log n (λ s. al.from.apart (site ∙ s)) in
-        let t0 = k.bounds.from at log t (image_log (before at)) z.here in
-        let w : entry (vec t) m.from ≤ bound log m.from = subst₂ (λ c j. entry c j ≤ bound log j) t0.time (sym site) z.upto in
-        let v = g.bounds at up m.from al.from in
-        let d = ltb-true b (entry (vec t) m.from) h0.1 in
-        absurd (omega arith)) in (
+        let fresh : (t : TxId) → lists (y ∷ ys) t ≡ true → is_named_in log t ≡ false = λ t h. unheld number m al up t (ap (λ l. lists l t) e ∙ h) in (
           and_from _ _
               (and_from _ _ (ap not (false_from_ne_true _ (λ s. al.from.apart (eqb-true m.from at.site s))))
               (and_from _ _ (le-leb 1 m.from al.from.least)
@@ -401,7 +411,7 @@ module _ {E S : Type 0} (kinds : Kinds S E) (plan : Plan E) (pf : PlanFits plan)
               (and_from _ _ (le-leb b end_of_time (omega arith))
               (and_from _ _ (le-leb m.hi end_of_time sent_low)
               (and_from _ _ all_fit apart))))))))
-              (and_from _ _ (le-leb (bound log m.from) b (g.bounds at up m.from al.from)) (all_parts vec ups (λ t c us. not (is_named_in log t)) (y ∷ ys) exact (λ t h. ap not (fresh t h)))),
+              (and_from _ _ (le-leb (logged_bound log m.from) b (g.bounds at up m.from al.from)) (all_parts vec ups (λ t c us. not (is_named_in log t)) (y ∷ ys) exact (λ t h. ap not (fresh t h)))),
           tt,
           tt,
         )
@@ -416,19 +426,19 @@ module _ {E S : Type 0} (kinds : Kinds S E) (plan : Plan E) (pf : PlanFits plan)
     records_good (Took number x) al m up = batch_good number x al m up (above x.from (entry (before at).bounds x.from) x.parts) refl
     records_good what al m up = tt
 
-    done_good : (what : Event E) → IsAllowed plan run before at what → MayDo kinds plan.sites plan.parts at (before at) what → (before at).up ≡ true → after at ≡ done (before at) what → (m : List (Record E)) → Image (after at) m → AreGood plan at m
+    done_good : (what : Event E) → IsAllowed plan run before at what → MayDo kinds plan.sites plan.parts at (before at) what → (before at).up ≡ true → after at ≡ done (before at) what → (m : List (Record E)) → Finds (after at) m → AreGood plan at m
     done_good what al m up e x i =
         let rs = records (before at) what in
-        let j : x ≡ grown log rs = subst (λ p. Image p x) e i in
-        image_good plan at log rs x good_log (records_good what al m up) (subst (λ y. IsImage log rs y) (sym j) (grown_image log rs))
+        let j : x ≡ grown log rs = subst (λ p. Finds p x) e i in
+        image_good plan at log rs x good_log (records_good what al m up) (subst (λ y. MayFind log rs y) (sym j) (grown_image log rs))
 
-    logs_here : (event : Event E) → IsAllowed plan run before at (attempt event) → PartStep kinds plan.sites plan.parts at (before at) event (after at) → (m : List (Record E)) → Image (after at) m → AreGood plan at m
-    logs_here (Cut what) al st m i = image_good plan at log (records (before at) what) m good_log (records_good what al st.1 st.0) (subst (λ p. Image p m) st.2 i)
-    logs_here Crashed al st m i = g.logs at m (subst (λ p. Image p m) st i)
-    logs_here RestartCut al st m i = g.logs at m (subst (λ p. Image p m) st i)
-    logs_here (Restarted n b named listed) al st m i = subst (AreGood plan at) (sym (subst (λ rs. IsImage (after at).log rs m) st.whole i)) (g.logs at (after at).log st.found)
-    logs_here (Refused asked why) al st m i = g.logs at m (subst (λ p. Image p m) st.1 i)
-    logs_here (Opened who) al st m i = g.logs at m (subst (λ p. Image p m) st i)
+    logs_here : (event : Event E) → IsAllowed plan run before at (attempt event) → PartStep kinds plan.sites plan.parts at (before at) event (after at) → (m : List (Record E)) → Finds (after at) m → AreGood plan at m
+    logs_here (Cut what) al st m i = image_good plan at log (records (before at) what) m good_log (records_good what al st.1 st.0) (subst (λ p. Finds p m) st.2 i)
+    logs_here Crashed al st m i = g.logs at m (subst (λ p. Finds p m) st i)
+    logs_here RestartCut al st m i = g.logs at m (subst (λ p. Finds p m) st i)
+    logs_here (Restarted n b named listed) al st m i = subst (AreGood plan at) (sym (subst (λ rs. MayFind (after at).log rs m) st.whole i)) (g.logs at (after at).log st.found)
+    logs_here (Refused asked why) al st m i = g.logs at m (subst (λ p. Finds p m) st.1 i)
+    logs_here (Opened who) al st m i = g.logs at m (subst (λ p. Finds p m) st i)
     logs_here (Ticked r n) al st m i = done_good (Ticked r n) al st.1 st.0 st.2 m i
     logs_here (Began who dep t s) al st m i = done_good (Began who dep t s) al st.1 st.0 st.2 m i
     logs_here (Updated t s o own op read u stamp) al st m i = done_good (Updated t s o own op read u stamp) al st.1 st.0 st.2 m i
@@ -443,25 +453,25 @@ module _ {E S : Type 0} (kinds : Kinds S E) (plan : Plan E) (pf : PlanFits plan)
     logs_here (Heard number q b stable) al st m i = done_good (Heard number q b stable) al st.1 st.0 st.2 m i
 
     -- a log's bounds are at most those of its partition
-    same_bound : (j : ℕ) → (before at).up ≡ true → IsOther plan.sites at.site j → bound (after at).log j ≡ bound log j → (after at).bounds ≡ (before at).bounds → bound (after at).log j ≤ entry (after at).bounds j
+    same_bound : (j : ℕ) → (before at).up ≡ true → IsOther plan.sites at.site j → logged_bound (after at).log j ≡ logged_bound log j → (after at).bounds ≡ (before at).bounds → logged_bound (after at).log j ≤ entry (after at).bounds j
     same_bound j up o e b = subst₂ (λ x y. x ≤ y) (sym e) (sym (ap (λ v. entry v j) b)) (g.bounds at up j o)
 
-    took_bound : (w : Shown plan run before) (number : ℕ) (m : Message E) → MayTake plan run at number m → PartStep kinds plan.sites plan.parts at (before at) (Took number m) (after at) → (j : ℕ) → IsOther plan.sites at.site j → bound (after at).log j ≤ entry (after at).bounds j
+    took_bound : (w : Shown plan run before) (number : ℕ) (m : Message E) → MayTake plan run at number m → PartStep kinds plan.sites plan.parts at (before at) (Took number m) (after at) → (j : ℕ) → IsOther plan.sites at.site j → logged_bound (after at).log j ≤ entry (after at).bounds j
     took_bound w number m al st j o =
         let b = entry (before at).bounds m.from in
         let xs = above m.from b m.parts in
-        let e : bound (after at).log j ≡ cond (m.from == j && is_some_part xs) (max m.hi (bound log j)) (bound log j) = ap (λ p. bound p.log j) st.2 ∙ batch_bound log m b j xs in
+        let e : logged_bound (after at).log j ≡ cond (m.from == j && is_some_part xs) (max m.hi (logged_bound log j)) (logged_bound log j) = ap (λ p. logged_bound p.log j) st.2 ∙ batch_bound log m b j xs in
         let v : entry (after at).bounds j ≡ entry (replaced (before at).bounds m.from m.hi) j = ap (λ p. entry p.bounds j) st.2 in
         let old = g.bounds at st.0 j o in
         let high = st.1.1 in ⊎_elim
         (λ (k : (m.from == j) ≡ true).
         let same = eqb-true m.from j k in
         let here : entry (replaced (before at).bounds m.from m.hi) j ≡ m.hi = subst (λ i. entry (replaced (before at).bounds m.from m.hi) i ≡ m.hi) same (entry_same (before at).bounds m.from m.hi al.from.least (subst (λ n. m.from ≤ n) (sym (w.width at st.0)) al.from.most)) in
-        let low : bound log j ≤ b = subst (λ i. bound log j ≤ entry (before at).bounds i) (sym same) old in
-        let most : bound (after at).log j ≤ max m.hi (bound log j) = subst (λ n. n ≤ max m.hi (bound log j)) (sym e) (at_most (m.from == j && is_some_part xs) m.hi (bound log j)) in
+        let low : logged_bound log j ≤ b = subst (λ i. logged_bound log j ≤ entry (before at).bounds i) (sym same) old in
+        let most : logged_bound (after at).log j ≤ max m.hi (logged_bound log j) = subst (λ n. n ≤ max m.hi (logged_bound log j)) (sym e) (at_most (m.from == j && is_some_part xs) m.hi (logged_bound log j)) in
         omega arith)
         (λ (k : (m.from == j) ≡ false).
-        let none : bound (after at).log j ≡ bound log j = e ∙ cond-false _ (max m.hi (bound log j)) (bound log j) (λ i. (k i && is_some_part xs)) in
+        let none : logged_bound (after at).log j ≡ logged_bound log j = e ∙ cond-false _ (max m.hi (logged_bound log j)) (logged_bound log j) (λ i. (k i && is_some_part xs)) in
         let here : entry (replaced (before at).bounds m.from m.hi) j ≡ entry (before at).bounds j = ⊎_elim
         (λ (y : entry (replaced (before at).bounds m.from m.hi) j ≡ entry (before at).bounds j). y)
         (λ (y : (j - 1 ≡ m.from - 1) × (entry (replaced (before at).bounds m.from m.hi) j ≡ m.hi)). let a = y.0 in let c = o.least in let d = al.from.least in let same : m.from ≡ j = omega arith in clash (eq-eqb m.from j same) k)
@@ -473,25 +483,25 @@ module _ {E S : Type 0} (kinds : Kinds S E) (plan : Plan E) (pf : PlanFits plan)
         at_most true x y = le_refl (max x y)
         at_most false x y = omega arith
 
-    bounds_here : (w : Shown plan run before) (event : Event E) → IsAllowed plan run before at (attempt event) → PartStep kinds plan.sites plan.parts at (before at) event (after at) → (after at).up ≡ true → (j : ℕ) → IsOther plan.sites at.site j → bound (after at).log j ≤ entry (after at).bounds j
+    bounds_here : (w : Shown plan run before) (event : Event E) → IsAllowed plan run before at (attempt event) → PartStep kinds plan.sites plan.parts at (before at) event (after at) → (after at).up ≡ true → (j : ℕ) → IsOther plan.sites at.site j → logged_bound (after at).log j ≤ entry (after at).bounds j
     bounds_here w (Cut what) al st u j o = clash u (ap (λ p. p.up) st.2)
     bounds_here w Crashed al st u j o = clash u (ap (λ p. p.up) st)
     bounds_here w RestartCut al st u j o = clash u (ap (λ p. p.up) st)
     bounds_here w (Restarted n b named listed) al st u j o = let e = st.bounds j o in omega arith
-    bounds_here w (Refused asked why) al st u j o = subst (λ p. bound p.log j ≤ entry p.bounds j) (sym st.1) (g.bounds at (sym (ap (λ p. p.up) st.1) ∙ u) j o)
-    bounds_here w (Opened who) al st u j o = subst (λ p. bound p.log j ≤ entry p.bounds j) (sym st) (g.bounds at (sym (ap (λ p. p.up) st) ∙ u) j o)
+    bounds_here w (Refused asked why) al st u j o = subst (λ p. logged_bound p.log j ≤ entry p.bounds j) (sym st.1) (g.bounds at (sym (ap (λ p. p.up) st.1) ∙ u) j o)
+    bounds_here w (Opened who) al st u j o = subst (λ p. logged_bound p.log j ≤ entry p.bounds j) (sym st) (g.bounds at (sym (ap (λ p. p.up) st) ∙ u) j o)
     bounds_here w (Took number m) al st u j o = took_bound w number m al st j o
-    bounds_here w (Ticked r n) al st u j o = same_bound j st.0 o (ap (λ p. bound p.log j) st.2 ∙ leased_bound log n j) (ap (λ p. p.bounds) st.2)
-    bounds_here w (Began who dep t s) al st u j o = same_bound j st.0 o (ap (λ p. bound p.log j) st.2 ∙ leased_bound log t.time j) (ap (λ p. p.bounds) st.2)
-    bounds_here w (Prepared t s l c n) al st u j o = same_bound j st.0 o (ap (λ p. bound p.log j) st.2 ∙ ap (λ x. bound x j) (grown_last log (lease_for log n) (Prepare t l n s c)) ∙ leased_bound log n j) (ap (λ p. p.bounds) st.2)
-    bounds_here w (Decided t c) al st u j o = same_bound j st.0 o (ap (λ p. bound p.log j) st.2 ∙ if_bound log (pending log t) (Decide t c) j refl) (ap (λ p. p.bounds) st.2)
-    bounds_here w (Finished t c) al st u j o = same_bound j st.0 o (ap (λ p. bound p.log j) st.2 ∙ if_bound log (pending log t) (Finish t c) j refl) (ap (λ p. p.bounds) st.2)
-    bounds_here w (Aborted t own) al st u j o = same_bound j st.0 o (ap (λ p. bound p.log j) st.2) (ap (λ p. p.bounds) st.2)
-    bounds_here w (Updated t s y own op read x stamp) al st u j o = same_bound j st.0 o (ap (λ p. bound p.log j) st.2) (ap (λ p. p.bounds) st.2)
-    bounds_here w (Read t s y own read value) al st u j o = same_bound j st.0 o (ap (λ p. bound p.log j) st.2) (ap (λ p. p.bounds) st.2)
-    bounds_here w (Sent asked x) al st u j o = same_bound j st.0 o (ap (λ p. bound p.log j) st.2) (ap (λ p. p.bounds) st.2)
-    bounds_here w (Reported b) al st u j o = same_bound j st.0 o (ap (λ p. bound p.log j) st.2) (ap (λ p. p.bounds) st.2)
-    bounds_here w (Heard number q b stable) al st u j o = same_bound j st.0 o (ap (λ p. bound p.log j) st.2) (ap (λ p. p.bounds) st.2)
+    bounds_here w (Ticked r n) al st u j o = same_bound j st.0 o (ap (λ p. logged_bound p.log j) st.2 ∙ leased_bound log n j) (ap (λ p. p.bounds) st.2)
+    bounds_here w (Began who dep t s) al st u j o = same_bound j st.0 o (ap (λ p. logged_bound p.log j) st.2 ∙ leased_bound log t.time j) (ap (λ p. p.bounds) st.2)
+    bounds_here w (Prepared t s l c n) al st u j o = same_bound j st.0 o (ap (λ p. logged_bound p.log j) st.2 ∙ ap (λ x. logged_bound x j) (grown_last log (lease_for log n) (Prepare t l n s c)) ∙ leased_bound log n j) (ap (λ p. p.bounds) st.2)
+    bounds_here w (Decided t c) al st u j o = same_bound j st.0 o (ap (λ p. logged_bound p.log j) st.2 ∙ if_bound log (pending log t) (Decide t c) j refl) (ap (λ p. p.bounds) st.2)
+    bounds_here w (Finished t c) al st u j o = same_bound j st.0 o (ap (λ p. logged_bound p.log j) st.2 ∙ if_bound log (pending log t) (Finish t c) j refl) (ap (λ p. p.bounds) st.2)
+    bounds_here w (Aborted t own) al st u j o = same_bound j st.0 o (ap (λ p. logged_bound p.log j) st.2) (ap (λ p. p.bounds) st.2)
+    bounds_here w (Updated t s y own op read x stamp) al st u j o = same_bound j st.0 o (ap (λ p. logged_bound p.log j) st.2) (ap (λ p. p.bounds) st.2)
+    bounds_here w (Read t s y own read value) al st u j o = same_bound j st.0 o (ap (λ p. logged_bound p.log j) st.2) (ap (λ p. p.bounds) st.2)
+    bounds_here w (Sent asked x) al st u j o = same_bound j st.0 o (ap (λ p. logged_bound p.log j) st.2) (ap (λ p. p.bounds) st.2)
+    bounds_here w (Reported b) al st u j o = same_bound j st.0 o (ap (λ p. logged_bound p.log j) st.2) (ap (λ p. p.bounds) st.2)
+    bounds_here w (Heard number q b stable) al st u j o = same_bound j st.0 o (ap (λ p. logged_bound p.log j) st.2) (ap (λ p. p.bounds) st.2)
 
     times_here : (event : Event E) → PartStep kinds plan.sites plan.parts at (before at) event (after at) → (t : TxId) → cond (is_prepare event t) (max (time_shown event) (time_of run t)) (time_of run t) ≤ end_of_time
     times_here (Prepared u s l w n) st t = go (same_tx u t) (time_of run t) (g.times t)
@@ -505,20 +515,20 @@ module _ {E S : Type 0} (kinds : Kinds S E) (plan : Plan E) (pf : PlanFits plan)
     good_step w event al st others =
         let old = λ (p : PartId) (ne : at ≡ p → ⊥). others p (λ e. ne (sym e)) in record {
           logs = λ p m i. ⊎_elim
-              (λ (e : at ≡ p). subst (λ y. Image (after y) m → AreGood plan y m) e (logs_here event al st m) i)
-              (λ (ne : at ≡ p → ⊥). g.logs p m (subst (λ y. Image y m) (old p ne) i))
+              (λ (e : at ≡ p). subst (λ y. Finds (after y) m → AreGood plan y m) e (logs_here event al st m) i)
+              (λ (ne : at ≡ p → ⊥). g.logs p m (subst (λ y. Finds y m) (old p ne) i))
               (part_cases at p);
           bounds = λ p u j o. ⊎_elim
-              (λ (e : at ≡ p). subst (λ y. (after y).up ≡ true → IsOther plan.sites y.site j → bound (after y).log j ≤ entry (after y).bounds j) e (λ u' o'. bounds_here w event al st u' j o') u o)
-              (λ (ne : at ≡ p → ⊥). subst (λ y. bound y.log j ≤ entry y.bounds j) (sym (old p ne)) (g.bounds p (ap (λ y. y.up) (sym (old p ne)) ∙ u) j o))
+              (λ (e : at ≡ p). subst (λ y. (after y).up ≡ true → IsOther plan.sites y.site j → logged_bound (after y).log j ≤ entry (after y).bounds j) e (λ u' o'. bounds_here w event al st u' j o') u o)
+              (λ (ne : at ≡ p → ⊥). subst (λ y. logged_bound y.log j ≤ entry y.bounds j) (sym (old p ne)) (g.bounds p (ap (λ y. y.up) (sym (old p ne)) ∙ u) j o))
               (part_cases at p);
           times = times_here event st;
         }
 
   pub good_run : (run : List (Entry E)) (parts : PartId → PartState E) → IsRun kinds plan run parts → Good run parts
   good_run [] parts r = record {
-    logs = λ p m i. subst (AreGood plan p) (sym (subst (λ x. Image x m) (r p) i)) tt;
-    bounds = λ p u j o. subst (λ x. bound x.log j ≤ entry x.bounds j) (sym (r p)) (omega arith);
+    logs = λ p m i. subst (AreGood plan p) (sym (subst (λ x. Finds x m) (r p) i)) tt;
+    bounds = λ p u j o. subst (λ x. logged_bound x.log j ≤ entry x.bounds j) (sym (r p)) (omega arith);
     times = λ t. omega arith;
   }
   good_run (e ∷ run) parts r = good_step run r.0 parts e.at (law_plan kinds plan run r.0 r.1) (good_run run r.0 r.1) r.2.place (shown_run kinds plan run r.0 r.1) e.event r.2.allowed r.2.step r.2.others

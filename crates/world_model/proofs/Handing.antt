@@ -7,7 +7,7 @@ use Rattle.site_vector.specs.declared.ids.TxId.{TxId}
 use Rattle.site_vector.specs.Ids.{same_part, same_tx}
 use Rattle.site_vector.specs.Order.{same_part_is, same_tx_is, same_tx_refl}
 use Rattle.crdt_core.specs.declared.record.Upd.{Upd}
-use Rattle.world_model.specs.Event.{AskBegin, AskRead, AskUpdate, AskDecide, AskTake, Event, Began, Updated, Read, Took, Heard, Refused, Entry, attempt, WasShown, EventsAre}
+use Rattle.world_model.specs.Event.{AskBegin, AskRead, AskUpdate, AskPrepare, AskDecide, AskTake, Event, Began, Updated, Read, Prepared, Took, Heard, Refused, Cut, Entry, attempt, WasShown, EventsAre}
 use Rattle.crdt_core.specs.KindsOf.{Kinds}
 use Rattle.world_model.specs.Partition.{PartState, PartStep}
 use Rattle.world_model.specs.Plan.{Plan, home, is_some_update, change_by, updates_at, IsPlace, IsAllowed, IsPlanned, IsRun}
@@ -37,9 +37,14 @@ module _ {E : Type 0} where
   handed_event kinds plan run before at q (Updated t s o own op read u stamp) pl al st = (record { site = al.site; part = al.place; who = al.who; begun = shown_of run (home t) al.who al.dependency t s al.begun }, st.1.object)
   handed_event kinds plan run before at q (Took number m) pl al st = al
   handed_event kinds plan run before at q (Refused (AskTake number m) why) pl al st = al
-  handed_event kinds plan run before at q (Refused (AskBegin who dep) why) pl al st = al
-  handed_event kinds plan run before at q (Refused (AskRead t s o own) why) pl al st = shown_has (IsPlanned plan) run (home t) (Began al.who al.dependency t s) pl al.begun
-  handed_event kinds plan run before at q (Refused (AskUpdate t s o own op) why) pl al st = shown_has (IsPlanned plan) run (home t) (Began al.who al.dependency t s) pl al.begun
+  handed_event kinds plan run before at q (Refused (AskPrepare t s l w) why) pl al st = al.1
+  handed_event kinds plan run before at q (Prepared t s l w n) pl al st = al.takes
+  handed_event kinds plan run before at q (Cut (Read t s o own read value)) pl al st = (shown_has (IsPlanned plan) run (home t) (Began al.who al.dependency t s) pl al.begun, record { site = al.site; part = al.place; who = al.who; begun = shown_of run (home t) al.who al.dependency t s al.begun })
+  handed_event kinds plan run before at q (Cut (Updated t s o own op read u stamp)) pl al st = (shown_has (IsPlanned plan) run (home t) (Began al.who al.dependency t s) pl al.begun, record { site = al.site; part = al.place; who = al.who; begun = shown_of run (home t) al.who al.dependency t s al.begun })
+  handed_event kinds plan run before at q (Cut (Prepared t s l w n)) pl al st = (al.snapshot, al.takes)
+  handed_event kinds plan run before at q (Cut (Took number m)) pl al st = al
+  handed_event kinds plan run before at q (Refused (AskRead t s o own) why) pl al st = (shown_has (IsPlanned plan) run (home t) (Began al.0.who al.0.dependency t s) pl al.0.begun, record { site = al.0.site; part = al.1; who = al.0.who; begun = shown_of run (home t) al.0.who al.0.dependency t s al.0.begun })
+  handed_event kinds plan run before at q (Refused (AskUpdate t s o own op) why) pl al st = (shown_has (IsPlanned plan) run (home t) (Began al.0.who al.0.dependency t s) pl al.0.begun, record { site = al.0.site; part = al.1; who = al.0.who; begun = shown_of run (home t) al.0.who al.0.dependency t s al.0.begun })
   handed_event kinds plan run before at q (Refused (AskDecide t c) why) pl al st = al
   handed_event kinds plan run before at q (Heard number k b stable) pl al st = al
   handed_event kinds plan run before at q event pl al st = tt

@@ -150,7 +150,7 @@ module _ {E : Type 0} where
     known_is w up j o q a b = λ i. cond (at.part == q) (w.bounds at j up o i) (h.told at q j up a b i)
 
     -- so a stable entry is at most what is shown to be known of each
-    stable_low : Shown plan run before → (before at).up ≡ true → (j : ℕ) → IsOther plan.sites at.site j → (q : ℕ) → 1 ≤ q → q ≤ plan.parts → stable_entry plan.parts at (before at) j ≤ known_shown run at j q
+    pub stable_low : Shown plan run before → (before at).up ≡ true → (j : ℕ) → IsOther plan.sites at.site j → (q : ℕ) → 1 ≤ q → q ≤ plan.parts → stable_entry plan.parts at (before at) j ≤ known_shown run at j q
     stable_low w up j o q a b = subst (λ x. stable_entry plan.parts at (before at) j ≤ x) (known_is w up j o q a b) (lowest_below (known at (before at) j) plan.parts q a b)
 
     -- what is told once a report was heard
@@ -187,7 +187,7 @@ module _ {E : Type 0} where
     wide = tt;
   }
 
-  hears_run : {S : Type 0} (kinds : Kinds S E) (plan : Plan E) (run : List (Entry E)) (parts : PartId → PartState E) → IsRun kinds plan run parts → Hears plan run parts
+  pub hears_run : {S : Type 0} (kinds : Kinds S E) (plan : Plan E) (run : List (Entry E)) (parts : PartId → PartState E) → IsRun kinds plan run parts → Hears plan run parts
   hears_run kinds plan [] parts r = hears_start plan parts r
   hears_run kinds plan (e ∷ run) parts r = hears_step kinds plan run r.0 parts e.at (hears_run kinds plan run r.0 r.1) e.event r.2.allowed r.2.step r.2.others
 

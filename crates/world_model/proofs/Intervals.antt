@@ -11,7 +11,7 @@ use Rattle.crdt_core.specs.declared.record.Record.{Record}
 use Rattle.crdt_core.specs.Log.{committed_at, prepared, prepare_time, prepared_changes, committed, aborted}
 use Rattle.world_model.specs.Event.{Event, Sent, Entry, is_decided, time_of, sent_after, sent, WasShown, WasNumbered, EventsAre}
 use Rattle.crdt_core.specs.KindsOf.{Kinds}
-use Rattle.world_model.specs.Partition.{PartState, Image, PartStep, IsMessage}
+use Rattle.world_model.specs.Partition.{PartState, Finds, PartStep, IsMessage}
 use Rattle.world_model.specs.Plan.{Plan, takes_part, vector_at, commit_vector}
 use Rattle.world_model.specs.WorldLaw.{IsExact}
 use Rattle.world_model.proofs.Names.{part_cases, part_same, part_other}
@@ -48,9 +48,9 @@ module _ {E : Type 0} where
       (λ (x : WasShown run p (Sent asked m)). le_trans (shown_sent run p asked m x) (sent_more run e p))
       w
 
-  pub numbered_shown : (count : List (Entry E) → ℕ) (run : List (Entry E)) (number : ℕ) (p : PartId) (event : Event E) → WasNumbered count run number p event → WasShown run p event
+  pub numbered_shown : (count : List (Entry E) → PartId → ℕ) (run : List (Entry E)) (number : ℕ) (p : PartId) (event : Event E) → WasNumbered count run number p event → WasShown run p event
   numbered_shown count [] number p event w = absurd w
-  numbered_shown count (e ∷ run) number p event w = ⊎_elim (λ (x : (e.at ≡ p) × (e.event ≡ event) × (number ≡ count run + 1)). inl (x.0, x.1)) (λ (x : WasNumbered count run number p event). inr (numbered_shown count run number p event x)) w
+  numbered_shown count (e ∷ run) number p event w = ⊎_elim (λ (x : (e.at ≡ p) × (e.event ≡ event) × (number ≡ count run p + 1)). inl (x.0, x.1)) (λ (x : WasNumbered count run number p event). inr (numbered_shown count run number p event x)) w
 
   pub shown_has : (Q : PartId → Event E → Type 0) (run : List (Entry E)) (p : PartId) (event : Event E) → EventsAre Q run → WasShown run p event → Q p event
   shown_has Q [] p event h w = absurd w
@@ -75,12 +75,12 @@ module _ {E : Type 0} where
         (part_cases at q)
 
     -- later, against the history before and the bound before
-    pub later_before : (q : PartId) (t : TxId) (m : List (Record E)) → Image (after q) m → prepared m t ≡ true → IsLater run t (sent run q) m
+    pub later_before : (q : PartId) (t : TxId) (m : List (Record E)) → Finds (after q) m → prepared m t ≡ true → IsLater run t (sent run q) m
     later_before q t m i h = later_step plan run before after at event mv f f' q (sent run q) t (v.seen q) (v.later q t) m i h
 
-    later_here : (a : Event E) → PartStep kinds plan.sites plan.parts at (before at) a (after at) → (t : TxId) (m : List (Record E)) → Image (after at) m → prepared m t ≡ true → IsLater run t (sent_after (sent run at) a) m
+    later_here : (a : Event E) → PartStep kinds plan.sites plan.parts at (before at) a (after at) → (t : TxId) (m : List (Record E)) → Finds (after at) m → prepared m t ≡ true → IsLater run t (sent_after (sent run at) a) m
     later_here (Sent asked x) st t m i h =
-        let same : m ≡ (before at).log = subst (λ p. Image p m) st.2 i in
+        let same : m ≡ (before at).log = subst (λ p. Finds p m) st.2 i in
         let now : IsLater run t x.hi m = subst (IsLater run t x.hi) (sym same) (later_now plan run before f at x.hi st.0 t (λ w. st.1.hi.below t w) (subst (λ y. prepared y t ≡ true) same h)) in
         ⊎_elim
         (λ (y : aborted m t ≡ true). inl y)
@@ -102,7 +102,7 @@ module _ {E : Type 0} where
 
     intervals_later : (q : PartId) (t : TxId) → Later next after q (sent next q) t
     intervals_later q t m i h = history_more t (sent next q) m (⊎_elim
-        (λ (e : at ≡ q). subst (λ x. IsLater run t (sent next x) m) e (subst (λ b. IsLater run t b m) (sym (cond-true (same_part at at) _ _ (same_part_refl at))) (later_here event s t m (subst (λ x. Image (after x) m) (sym e) i) h)))
+        (λ (e : at ≡ q). subst (λ x. IsLater run t (sent next x) m) e (subst (λ b. IsLater run t b m) (sym (cond-true (same_part at at) _ _ (same_part_refl at))) (later_here event s t m (subst (λ x. Finds (after x) m) (sym e) i) h)))
         (λ (ne : at ≡ q → ⊥). subst (λ b. IsLater run t b m) (sym (cond-false (same_part at q) _ _ (part_other at q ne))) (later_before q t m i h))
         (part_cases at q))
 

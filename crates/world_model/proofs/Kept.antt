@@ -7,11 +7,11 @@ use Rattle.site_vector.specs.declared.ids.TxId.{TxId}
 use Rattle.site_vector.specs.Vector.{le, entry}
 use Rattle.crdt_core.specs.declared.record.Message.{Message}
 use Rattle.crdt_core.specs.declared.record.Record.{Record}
-use Rattle.crdt_core.specs.Log.{end_of_time, ceiling, prepared, committed, aborted, decided, pending, taken, bound}
-use Rattle.world_model.specs.Event.{AskRead, AskUpdate, AskPrepare, AskBegin, AskFinish, ClockBehind, ClockAtEnd, IsGone, Refused, shown, Event, Began, Updated, Read, Sent, Restarted, Entry, attempt, was_aborted, is_decided, time_of, sent, EventsAre}
+use Rattle.crdt_core.specs.Log.{end_of_time, ceiling, prepared, committed, aborted, decided, pending, taken, logged_bound}
+use Rattle.world_model.specs.Event.{AskRead, AskUpdate, AskPrepare, AskBegin, AskFinish, ClockBehind, ClockAtEnd, IsGone, Refused, shown, Event, Began, Updated, Read, Sent, Restarted, Entry, attempt, was_aborted, is_decided, time_of, sent, EventsAre, Cut}
 use Rattle.crdt_core.specs.KindsOf.{Kinds}
 use Rattle.site_vector.specs.Known.{vector_of}
-use Rattle.world_model.specs.Partition.{PartState, Image, IsOther, IsBegin, new_part, PartStep}
+use Rattle.world_model.specs.Partition.{PartState, Finds, IsOther, IsBegin, new_part, PartStep}
 use Rattle.world_model.specs.Plan.{Plan, home, takes_part, commit_vector, IsAllowed, IsSession, IsPlanned, WorldStep, IsRun}
 use Rattle.world_model.specs.WorldLaw.{sees_tx, IsExact, IsRight, ClocksAre, KeepsIs, KeepsDecided, HasCauseAt, HaveCausesAt}
 use Rattle.world_model.specs.Past.{HoldsPast, KeepPast}
@@ -69,12 +69,12 @@ module _ {E : Type 0} where
     pub decided_stay : KeepsDecided plan run
     pub causes : HaveCausesAt plan run
 
-  empty_image : (sites parts : ℕ) (p : PartState E) (m : List (Record E)) → p ≡ new_part sites parts → Image p m → m ≡ []
-  empty_image sites parts p m e i = subst (λ x. Image x m) e i
+  empty_image : (sites parts : ℕ) (p : PartState E) (m : List (Record E)) → p ≡ new_part sites parts → Finds p m → m ≡ []
+  empty_image sites parts p m e i = subst (λ x. Finds x m) e i
 
   start : {S : Type 0} (kinds : Kinds S E) (plan : Plan E) (parts : PartId → PartState E) → ((p : PartId) → parts p ≡ new_part plan.sites plan.parts) → Kept kinds plan [] parts
   start kinds plan parts h =
-      let empty = λ (q : PartId) (m : List (Record E)) (i : Image (parts q) m). empty_image plan.sites plan.parts (parts q) m (h q) i in record {
+      let empty = λ (q : PartId) (m : List (Record E)) (i : Finds (parts q) m). empty_image plan.sites plan.parts (parts q) m (h q) i in record {
         leases = record { clock = λ q. subst (λ x. Clock x 0 0) (sym (h q)) (record { whole = λ u. refl; now = refl; below = λ m i. omega arith; room = λ m i. subst (λ x. ceiling x ≤ 1000 + max 0 0) (sym i) (omega arith); capped = λ m i. subst (λ x. ceiling x ≤ end_of_time) (sym i) (omega arith) }) };
         fate = record {
           was_tried = λ q m t i k. subst (λ x. prepared x t ≡ true) (empty q m i) k;
@@ -97,7 +97,7 @@ module _ {E : Type 0} where
         bounds = record {
           up_to = λ p j u ne. record { reached = subst (λ n. n ≤ 0) (sym (ap (λ x. entry x.bounds j) (h p) ∙ zeros_at plan.sites (j - 1))) (le_refl 0); held = λ m t i k. off k };
           heard = λ p q j u l ne. record { reached = subst (λ n. n ≤ 0) (sym (ap (λ x. entry (vector_of x.heard q) j) (h p) ∙ rows_at plan.parts plan.sites (q - 1) (j - 1))) (le_refl 0); held = λ m t i k. off k };
-          logged = λ p j m i ne. record { reached = subst (λ x. bound x j ≤ 0) (sym (empty p m i)) (le_refl 0); held = λ t k. off k };
+          logged = λ p j m i ne. record { reached = subst (λ x. logged_bound x j ≤ 0) (sym (empty p m i)) (le_refl 0); held = λ t k. off k };
           from = λ p m t i k. off (subst (λ x. taken x t ≡ true) (empty p m i) k);
           events = tt;
         };
@@ -111,11 +111,13 @@ module _ {E : Type 0} where
       }
 
   keeps_event : {S : Type 0} (kinds : Kinds S E) (plan : Plan E) (run : List (Entry E)) (before : PartId → PartState E) (at : PartId) (q : PartState E) → Fate plan run before → (event : Event E) → PartStep kinds plan.sites plan.parts at (before at) event q → KeepsIs plan run at event
-  keeps_event kinds plan run before at q f (Restarted n b named listed) s = λ t k e. s.members t ∙ and_right (prepared q.log t) _ (rw (f.stays q.log t (subst (λ x. Image (before x) q.log) (sym e) s.found) k) refl)
+  keeps_event kinds plan run before at q f (Restarted n b named listed) s = λ t k e. s.members t ∙ and_right (prepared q.log t) _ (rw (f.stays q.log t (subst (λ x. Finds (before x) q.log) (sym e) s.found) k) refl)
   keeps_event kinds plan run before at q f event s = tt
 
   past_event : {S : Type 0} (kinds : Kinds S E) (plan : Plan E) (run : List (Entry E)) (before : PartId → PartState E) (at : PartId) (q : PartState E) (event : Event E) → IsAllowed plan run before at (attempt event) → PartStep kinds plan.sites plan.parts at (before at) event q → HoldsPast plan.sites run at event
-  past_event kinds plan run before at q (Began who dep t v) al s = (al, subst (λ d. le d v ≡ true) al (begin_holds plan.sites plan.parts at (before at) dep t v s.1))
+  past_event kinds plan run before at q (Began who dep t v) al s = (al, begin_holds plan.sites plan.parts at (before at) dep t v s.1)
+  past_event kinds plan run before at q (Cut (Began who dep t v)) al s = al
+  past_event kinds plan run before at q (Refused (AskBegin who dep) why) al s = al
   past_event kinds plan run before at q event al s = tt
 
   sent_now : {S : Type 0} (kinds : Kinds S E) (plan : Plan E) (run : List (Entry E)) (before : PartId → PartState E) (q : PartState E) → Fate plan run before → (at : PartId) (event : Event E) (asked : Option ℕ) (m : Message E) → event ≡ Sent asked m → PartStep kinds plan.sites plan.parts at (before at) event q → IsExact plan ((record { at = at; event = event }) ∷ run) at m × (m.hi ≤ sent ((record { at = at; event = event }) ∷ run) at)
@@ -149,12 +151,12 @@ module _ {E : Type 0} where
       clash (pending_from log t p.0 ps.1 (never_aborted plan run before f at log t (image_log (before at)) d)) ps.0
 
   cause_event : {S : Type 0} (kinds : Kinds S E) (plan : Plan E) (run : List (Entry E)) (before : PartId → PartState E) (q : PartState E) (at : PartId) (event : Event E) → Fate plan run before → Leases run before → EventsAre (IsPlanned plan) run → IsAllowed plan run before at (attempt event) → PartStep kinds plan.sites plan.parts at (before at) event q → HasCauseAt plan run at event
-  cause_event kinds plan run before q at (Refused (AskRead t s o own) (ClockBehind n)) f l p al st = clock_cause plan run before at t s n l p al st.0.1.0 st.0.1.1
-  cause_event kinds plan run before q at (Refused (AskUpdate t s o own op) (ClockBehind n)) f l p al st = let c = clock_cause plan run before at t s n l p al st.0.1.1 st.0.1.2 in (st.0.1.0, c.0, c.1)
-  cause_event kinds plan run before q at (Refused (AskPrepare t s y w) (ClockBehind n)) f l p al st = clock_cause plan run before at t s n l p al st.0.1.0 st.0.1.1
+  cause_event kinds plan run before q at (Refused (AskRead t s o own) (ClockBehind n)) f l p al st = clock_cause plan run before at t s n l p al.0 st.0.1.0 st.0.1.1
+  cause_event kinds plan run before q at (Refused (AskUpdate t s o own op) (ClockBehind n)) f l p al st = let c = clock_cause plan run before at t s n l p al.0 st.0.1.1 st.0.1.2 in (st.0.1.0, c.0, c.1)
+  cause_event kinds plan run before q at (Refused (AskPrepare t s y w) (ClockBehind n)) f l p al st = clock_cause plan run before at t s n l p al.0 st.0.1.0 st.0.1.1
   cause_event kinds plan run before q at (Refused (AskBegin who dep) ClockAtEnd) f l p al st = sym (l.clock at).now ∙ st.0.1.1
   cause_event kinds plan run before q at (Refused (AskPrepare t s y w) ClockAtEnd) f l p al st = (
-    subst (λ v. entry v at.site ≤ shown run at) (shown_has (IsPlanned plan) run (home t) (Began al.who al.dependency t s) p al.begun) (subst (λ n. entry s at.site ≤ n) (l.clock at).now st.0.1.0),
+    subst (λ v. entry v at.site ≤ shown run at) (shown_has (IsPlanned plan) run (home t) (Began al.0.who al.0.dependency t s) p al.0.begun) (subst (λ n. entry s at.site ≤ n) (l.clock at).now st.0.1.0),
     sym (l.clock at).now ∙ st.0.1.1,
   )
   cause_event kinds plan run before q at (Refused asked ClockAtEnd) f l p al st = absurd st.0.1

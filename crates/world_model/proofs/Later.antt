@@ -9,7 +9,7 @@ use Rattle.crdt_core.specs.declared.record.Record.{Record}
 use Rattle.crdt_core.specs.declared.record.Record.TheVariants.{Lease, Prepare, Decide, Finish, Abort, Batch}
 use Rattle.crdt_core.specs.Log.{committed_at, prepared, prepare_time, committed, aborted, pending, last_decided}
 use Rattle.world_model.specs.Event.{Event, Entry, is_prepare, tried, decide_tried, gave_up, is_decided, vote, time_of, time_shown}
-use Rattle.world_model.specs.Partition.{PartState, Image}
+use Rattle.world_model.specs.Partition.{PartState, Finds}
 use Rattle.world_model.specs.Plan.{Plan, takes_part, vector_at, commit_vector}
 use Rattle.world_model.proofs.Names.{clash, part_cases, entry_same}
 use Rattle.world_model.proofs.Moves.{Because, Move, image_log}
@@ -21,7 +21,7 @@ module _ {E : Type 0} where
   IsLater run t b m = (aborted m t ≡ true) ⊎ ((b < prepare_time m t) ⊎ (is_decided run t ≡ true))
 
   abbrev pub Later : List (Entry E) → (PartId → PartState E) → PartId → ℕ → TxId → Type 0
-  Later run parts q b t = (m : List (Record E)) → Image (parts q) m → prepared m t ≡ true → IsLater run t b m
+  Later run parts q b t = (m : List (Record E)) → Finds (parts q) m → prepared m t ≡ true → IsLater run t b m
 
   pub vote_in_time : (run : List (Entry E)) (t : TxId) (q : PartId) → vote run t q ≤ time_of run t
   vote_in_time [] t q = omega arith
@@ -41,17 +41,17 @@ module _ {E : Type 0} where
     pub full_now : (t : TxId) → is_decided run t ≡ true → Full plan run t
     full_now t k = let p = parts (plan.lead t) in f.full p.log t (image_log p) (f.stays p.log t (image_log p) k)
 
-    pub never_aborted : (p : PartId) (m : List (Record E)) (t : TxId) → Image (parts p) m → is_decided run t ≡ true → aborted m t ≡ false
+    pub never_aborted : (p : PartId) (m : List (Record E)) (t : TxId) → Finds (parts p) m → is_decided run t ≡ true → aborted m t ≡ false
     never_aborted p m t i k = let l = parts (plan.lead t) in ⊎_elim
-        (λ (e : p ≡ plan.lead t). let j = subst (λ x. Image (parts x) m) e i in f.apart (plan.lead t) m t j (f.stays m t j k))
+        (λ (e : p ≡ plan.lead t). let j = subst (λ x. Finds (parts x) m) e i in f.apart (plan.lead t) m t j (f.stays m t j k))
         (λ (ne : p ≡ plan.lead t → ⊥). false_from_ne_true _ (λ a. ⊎_elim
         (λ (g : gave_up run t ≡ true). clash g (full_now t k).kept)
-        (λ (g : (x : List (Record E)) → Image l x → aborted x t ≡ true). clash (g l.log (image_log l)) (f.apart (plan.lead t) l.log t (image_log l) (f.stays l.log t (image_log l) k)))
+        (λ (g : (x : List (Record E)) → Finds l x → aborted x t ≡ true). clash (g l.log (image_log l)) (f.apart (plan.lead t) l.log t (image_log l) (f.stays l.log t (image_log l) k)))
         (f.lost p m t ne i a)))
         (part_cases p (plan.lead t))
 
     -- what is in the history is prepared at each participant, in time
-    pub prepared_now : (p : PartId) (m : List (Record E)) (t : TxId) → Image (parts p) m → is_decided run t ≡ true → takes_part plan t p ≡ true → (prepared m t ≡ true) × (prepare_time m t ≤ time_of run t)
+    pub prepared_now : (p : PartId) (m : List (Record E)) (t : TxId) → Finds (parts p) m → is_decided run t ≡ true → takes_part plan t p ≡ true → (prepared m t ≡ true) × (prepare_time m t ≤ time_of run t)
     prepared_now p m t i k u = let h = f.held p m t i ((full_now t k).all p u) in (h.0, subst (λ x. x ≤ time_of run t) (sym h.1) (vote_in_time run t p))
 
     -- what is committed at a partition takes part there, and the partition is of its site
@@ -110,11 +110,11 @@ module _ {E : Type 0} where
     time_kept q old (Batch x) t b h = refl
 
     -- later stays later: what is prepared now draws above the clock
-    pub later_step : (q : PartId) (s : ℕ) (t : TxId) → s ≤ (before q).now → Later run before q s t → (new : List (Record E)) → Image (after q) new → prepared new t ≡ true → IsLater run t s new
+    pub later_step : (q : PartId) (s : ℕ) (t : TxId) → s ≤ (before q).now → Later run before q s t → (new : List (Record E)) → Finds (after q) new → prepared new t ≡ true → IsLater run t s new
     later_step q s t seen g new i h = let c = mv.changed q new i in
         go c.old c.more c.because c.was (c.told.aborted t) (c.told.time t) (sym (c.told.prepared t) ∙ h)
       where
-        kept : (old : List (Record E)) (r : Record E) → Because plan run before (after q).up at event q old r → Image (before q) old → aborted new t ≡ aborted (r ∷ old) t → prepare_time new t ≡ prepare_time (r ∷ old) t → prepared old t ≡ true → IsLater run t s new
+        kept : (old : List (Record E)) (r : Record E) → Because plan run before (after q).up at event q old r → Finds (before q) old → aborted new t ≡ aborted (r ∷ old) t → prepare_time new t ≡ prepare_time (r ∷ old) t → prepared old t ≡ true → IsLater run t s new
         kept old r b w ea et k = ⊎_elim
             (λ (x : aborted old t ≡ true). inl (ea ∙ more_aborted r old t x))
             (λ (x : (s < prepare_time old t) ⊎ (is_decided run t ≡ true)). inr (⊎_elim
@@ -123,7 +123,7 @@ module _ {E : Type 0} where
             x))
             (g old w k)
 
-        go : (old : List (Record E)) (r : Record E) → Because plan run before (after q).up at event q old r → Image (before q) old → aborted new t ≡ aborted (r ∷ old) t → prepare_time new t ≡ prepare_time (r ∷ old) t → prepared (r ∷ old) t ≡ true → IsLater run t s new
+        go : (old : List (Record E)) (r : Record E) → Because plan run before (after q).up at event q old r → Finds (before q) old → aborted new t ≡ aborted (r ∷ old) t → prepare_time new t ≡ prepare_time (r ∷ old) t → prepared (r ∷ old) t ≡ true → IsLater run t s new
         go old (Prepare v l n c os) b w ea et k = ⊎_elim
             (λ (e : same_tx v t ≡ true).
             let seen' : s ≤ (before at).now = subst (λ x. s ≤ (before x).now) b.0 seen in

@@ -12,7 +12,7 @@ use Rattle.site_vector.specs.Vector.{entry, join}
 use Rattle.crdt_core.specs.Placing.{place_of}
 use Rattle.crdt_core.specs.Log.{end_of_time}
 use Rattle.crdt_core.specs.Fitting.{stand_at}
-use Rattle.world_model.specs.Past.{is_of, dependency_after, dependency}
+use Rattle.world_model.specs.Past.{joined, ShowsVector, WasVector, WereVectors}
 use Rattle.world_model.specs.Event.{Event, Began, Updated, Prepared, Decided, Opened, Entry, attempt, is_prepare, time_shown, time_of}
 use Rattle.crdt_core.specs.KindsOf.{Kinds}
 use Rattle.world_model.specs.Partition.{PartState, IsOther, IsBegin, PartStep}
@@ -30,6 +30,7 @@ use Rattle.world_model.proofs.Kept.{Kept, law_plan, right_all, facts_of, strict,
 use Rattle.world_model.proofs.CausalStores.{causal_stores}
 use Rattle.world_model.proofs.Shows.{shown_run, show_events}
 use Rattle.world_model.proofs.Hears.{fresh_events}
+use Rattle.world_model.proofs.Clears.{clear_events}
 use Rattle.world_model.proofs.Ups.{ups, answer_up}
 use Rattle.world_model.proofs.Doubts.{settle_doubts}
 use Rattle.world_model.proofs.Voting.{vote_events, vectors, agreed}
@@ -53,13 +54,17 @@ low_none i = omega arith
 
 module _ {E : Type 0} where
   -- what is kept under the run's own plan
-  kept_here : {S : Type 0} (kinds : Kinds S E) (sites parts : ℕ) (run : List (Entry E)) (state : PartId → PartState E) → IsWorldRun kinds sites parts run state → Kept kinds (plan_of sites parts run) run state
+  pub kept_here : {S : Type 0} (kinds : Kinds S E) (sites parts : ℕ) (run : List (Entry E)) (state : PartId → PartState E) → IsWorldRun kinds sites parts run state → Kept kinds (plan_of sites parts run) run state
   kept_here kinds sites parts run state r = law_plan kinds (plan_of sites parts run) run state (fits kinds sites parts run state r run (all_fresh kinds sites parts run state r) (suffix_all run))
 
   record Lows (sites : ℕ) (run : List (Entry E)) : Type 0 where
     pub snaps : (t : TxId) → IsLow (snapshot_of run t)
-    pub deps : (who : List ℕ) → IsLow (dependency sites run who)
+    pub told : (v : List ℕ) → WasVector run v → IsLow v
     pub times : (t : TxId) → time_of run t ≤ end_of_time
+
+  joined_low : (sites : ℕ) (run : List (Entry E)) → ((v : List ℕ) → WasVector run v → IsLow v) → (vs : List (List ℕ)) → WereVectors run vs → IsLow (joined sites vs)
+  joined_low sites run told [] h = low_zero sites
+  joined_low sites run told (v ∷ vs) h = low_join (joined sites vs) v (joined_low sites run told vs h.1) (told v h.0)
 
   -- no commit time is past the end
   draw_low : {S : Type 0} (kinds : Kinds S E) (sites parts : ℕ) (at : PartId) (p q : PartState E) (event : Event E) (t : TxId) (old : ℕ) → PartStep kinds sites parts at p event q → old ≤ end_of_time → cond (is_prepare event t) (max (time_shown event) old) old ≤ end_of_time
@@ -97,30 +102,30 @@ module _ {E : Type 0} where
   vector_low kinds sites parts run before after at (Began who dep t s) place l al st k =
       let next : List (Entry E) = (record { at = at; event = Began who dep t s }) ∷ run in
       let plan = plan_of sites parts next in
-      let low : IsLow dep = subst IsLow (sym al) (l.deps who) in
+      let low : IsLow dep = subst IsLow (sym al.is) (joined_low sites run l.told al.vectors al.known) in
       begin_low sites parts at (before at) dep t s st.1 low (λ j o.
       let q : PartId = numbered at at.part in
       let c = k.bounds.events.0 at.part j place.least_part place.most_part (record { least = o.least; most = o.most; apart = o.apart }) in
       le_trans c.reached (le_trans (k.intervals.seen (twin j q)) (now_low next after k.leases (twin j q))))
   vector_low kinds sites parts run before after at event place l al st k = low_none
 
-  dep_low : (sites parts : ℕ) (run : List (Entry E)) (before : PartId → PartState E) (at : PartId) (event : Event E) (who : List ℕ) → Lows sites run → IsAllowed (plan_of sites parts ((record { at = at; event = event }) ∷ run)) run before at (attempt event) → IsLow (begin_vector event) → IsLow (dependency_after sites run who (dependency sites run who) event)
-  dep_low sites parts run before at (Opened name) who l al v = low_if (bytes_eq name who) (replicate sites 0) (dependency sites run who) (low_zero sites) (l.deps who)
-  dep_low sites parts run before at (Began name dep t s) who l al v = low_if (bytes_eq name who) (join (dependency sites run who) s) (dependency sites run who) (low_join (dependency sites run who) s (l.deps who) v) (l.deps who)
-  dep_low sites parts run before at (Decided t c) who l al v =
-      let low : IsLow c = subst IsLow (sym al.vector) (low_set (snapshot_of run t) (t.site - 1) (time_of run t) (l.snaps t) (l.times t)) in
-      low_if (is_of run who t) (join (dependency sites run who) c) (dependency sites run who) (low_join (dependency sites run who) c (l.deps who) low) (l.deps who)
-  dep_low sites parts run before at event who l al v = l.deps who
+  -- a vector that an event shows
+  told_low : (sites parts : ℕ) (run : List (Entry E)) (before : PartId → PartState E) (at : PartId) (event : Event E) (v : List ℕ) → Lows sites run → IsAllowed (plan_of sites parts ((record { at = at; event = event }) ∷ run)) run before at (attempt event) → IsLow (begin_vector event) → ShowsVector event v → IsLow v
+  told_low sites parts run before at (Began name dep t s) v l al low w = subst IsLow w low
+  told_low sites parts run before at (Decided t c) v l al low w =
+      let of_c : IsLow c = subst IsLow (sym al.vector) (low_set (snapshot_of run t) (t.site - 1) (time_of run t) (l.snaps t) (l.times t)) in
+      subst IsLow w of_c
+  told_low sites parts run before at event v l al low w = absurd w
 
   lows : {S : Type 0} (kinds : Kinds S E) (sites parts : ℕ) (run : List (Entry E)) (state : PartId → PartState E) → IsWorldRun kinds sites parts run state → Lows sites run
-  lows kinds sites parts [] state r = record { snaps = λ t. low_none; deps = λ who. low_zero sites; times = λ t. omega arith }
+  lows kinds sites parts [] state r = record { snaps = λ t. low_none; told = λ v w. absurd w; times = λ t. omega arith }
   lows kinds sites parts (e ∷ run) state r =
       let l = lows kinds sites parts run r.0 r.1 in
       let place : IsPlace sites parts e.at = record { least_site = r.2.place.least_site; most_site = r.2.place.most_site; least_part = r.2.place.least_part; most_part = r.2.place.most_part } in
       let k = kept_here kinds sites parts (e ∷ run) state r in
       let v = vector_low kinds sites parts run r.0 state e.at e.event place l r.2.allowed r.2.step k in record {
         snaps = λ t. low_if (is_begin e.event t) (begin_vector e.event) (snapshot_of run t) v (l.snaps t);
-        deps = λ who. dep_low sites parts run r.0 e.at e.event who l r.2.allowed v;
+        told = λ u w. ⊎_elim (λ (x : ShowsVector e.event u). told_low sites parts run r.0 e.at e.event u l r.2.allowed v x) (λ (x : WasVector run u). l.told u x) w;
         times = times_low kinds sites parts (e ∷ run) state r;
       }
 
@@ -160,7 +165,7 @@ module _ {E : Type 0} where
       list_all-append (λ u. place_of u.object.bucket u.object.key plan.parts == q.part) (updates_at run t q) (cond (same_part e.at q) (change_by e.event t) [])
       ∙ and_from _ _ (updates_stand plan run h.1 t q) (change_stands plan run e.at q e.event t h.0)
 
-  plan_fits : {S : Type 0} (kinds : Kinds S E) (sites parts : ℕ) (run : List (Entry E)) (state : PartId → PartState E) → IsWorldRun kinds sites parts run state → PlanFits (plan_of sites parts run)
+  pub plan_fits : {S : Type 0} (kinds : Kinds S E) (sites parts : ℕ) (run : List (Entry E)) (state : PartId → PartState E) → IsWorldRun kinds sites parts run state → PlanFits (plan_of sites parts run)
   plan_fits kinds sites parts run state r =
       let plan = plan_of sites parts run in
       let under = fits kinds sites parts run state r run (all_fresh kinds sites parts run state r) (suffix_all run) in
@@ -203,6 +208,7 @@ module _ {E : Type 0} where
         due = due_events kinds plan (plan_fits kinds sites parts run state r) run state under k.causes;
         known = known_events kinds plan run state under;
         causes = k.causes;
+        clear = clear_events kinds plan run state under;
         downs = answer_up kinds plan run state under;
         resumed = resume_events kinds plan run state under;
         sends = send_events kinds plan run state under;

@@ -11,10 +11,10 @@ use Rattle.crdt_core.specs.declared.record.Part.{Part}
 use Rattle.crdt_core.specs.declared.record.Message.{Message}
 use Rattle.crdt_core.specs.declared.record.Record.{Record}
 use Rattle.crdt_core.specs.declared.record.Record.TheVariants.{Lease, Prepare, Decide, Finish, Abort, Batch}
-use Rattle.crdt_core.specs.Log.{end_of_time, ceiling, pending, grown, IsImage}
+use Rattle.crdt_core.specs.Log.{end_of_time, ceiling, pending, grown, MayFind}
 use Rattle.world_model.specs.Event.{Refused, Event, Ticked, Began, Updated, Read, Prepared, Decided, Finished, Aborted, Sent, Took, Reported, Heard, Crashed, RestartCut, Restarted, Opened, Cut, Entry, shown_after, shown, missed_after, missed}
 use Rattle.crdt_core.specs.KindsOf.{Kinds}
-use Rattle.world_model.specs.Partition.{PartState, Image, batch_of, records, now_after, MayDo, done, cut, PartStep}
+use Rattle.world_model.specs.Partition.{PartState, Finds, batch_of, records, now_after, MayDo, done, cut, PartStep}
 use Rattle.crdt_core.specs.Log.{lease_for}
 use Rattle.crdt_core.specs.Parts.{above}
 use Rattle.world_model.specs.WorldLaw.{ClockIs}
@@ -44,9 +44,9 @@ module _ {E : Type 0} where
   pub record Clock (p : PartState E) (last skipped : ℕ) : Type 0 where
     pub whole : p.up ≡ true → p.torn ≡ []
     pub now : p.now ≡ last
-    pub below : (m : List (Record E)) → Image p m → p.now ≤ ceiling m
-    pub room : (m : List (Record E)) → Image p m → ceiling m ≤ 1000 + max last skipped
-    pub capped : (m : List (Record E)) → Image p m → ceiling m ≤ end_of_time
+    pub below : (m : List (Record E)) → Finds p m → p.now ≤ ceiling m
+    pub room : (m : List (Record E)) → Finds p m → ceiling m ≤ 1000 + max last skipped
+    pub capped : (m : List (Record E)) → Finds p m → ceiling m ≤ end_of_time
 
   pub record Leases (run : List (Entry E)) (parts : PartId → PartState E) : Type 0 where
     pub clock : (q : PartId) → Clock (parts q) (shown run q) (missed run q)
@@ -54,18 +54,18 @@ module _ {E : Type 0} where
   abbrev Raised : List (Record E) → ℕ → List (Record E) → Type 0
   Raised log n new = (ceiling new ≡ ceiling log) ⊎ ((ceiling log < n) × (ceiling new ≡ min (n + 1000) end_of_time))
 
-  image_ceil : (log : List (Record E)) (n : ℕ) (new : List (Record E)) → IsImage log (lease_for log n) new → Raised log n new
+  image_ceil : (log : List (Record E)) (n : ℕ) (new : List (Record E)) → MayFind log (lease_for log n) new → Raised log n new
   image_ceil log n new i = ⊎_elim
-      (λ (e : leb n (ceiling log) ≡ true). let j : new ≡ log = subst (λ b. IsImage log (cond b [] (Lease (min (n + 1000) end_of_time) ∷ [])) new) e i in inl (ap ceiling j))
-      (λ (e : leb n (ceiling log) ≡ false). let j : (new ≡ log) ⊎ (new ≡ Lease (min (n + 1000) end_of_time) ∷ log) = subst (λ b. IsImage log (cond b [] (Lease (min (n + 1000) end_of_time) ∷ [])) new) e i in
+      (λ (e : leb n (ceiling log) ≡ true). let j : new ≡ log = subst (λ b. MayFind log (cond b [] (Lease (min (n + 1000) end_of_time) ∷ [])) new) e i in inl (ap ceiling j))
+      (λ (e : leb n (ceiling log) ≡ false). let j : (new ≡ log) ⊎ (new ≡ Lease (min (n + 1000) end_of_time) ∷ log) = subst (λ b. MayFind log (cond b [] (Lease (min (n + 1000) end_of_time) ∷ [])) new) e i in
       ⊎_elim (λ (k : new ≡ log). inl (ap ceiling k)) (λ (k : new ≡ Lease (min (n + 1000) end_of_time) ∷ log). inr (leb-false n (ceiling log) e, ap ceiling k)) j)
       (cases_Bool (leb n (ceiling log)))
 
-  image_ceil_prepare : (log : List (Record E)) (t : TxId) (l n : ℕ) (s : List ℕ) (w : List (Upd E)) (new : List (Record E)) → IsImage log (lease_for log n ++ Prepare t l n s w ∷ []) new → Raised log n new
+  image_ceil_prepare : (log : List (Record E)) (t : TxId) (l n : ℕ) (s : List ℕ) (w : List (Upd E)) (new : List (Record E)) → MayFind log (lease_for log n ++ Prepare t l n s w ∷ []) new → Raised log n new
   image_ceil_prepare log t l n s w new i = ⊎_elim
-      (λ (e : leb n (ceiling log) ≡ true). let j : (new ≡ log) ⊎ (new ≡ Prepare t l n s w ∷ log) = subst (λ b. IsImage log (cond b [] (Lease (min (n + 1000) end_of_time) ∷ []) ++ Prepare t l n s w ∷ []) new) e i in
+      (λ (e : leb n (ceiling log) ≡ true). let j : (new ≡ log) ⊎ (new ≡ Prepare t l n s w ∷ log) = subst (λ b. MayFind log (cond b [] (Lease (min (n + 1000) end_of_time) ∷ []) ++ Prepare t l n s w ∷ []) new) e i in
       ⊎_elim (λ (k : new ≡ log). inl (ap ceiling k)) (λ (k : new ≡ Prepare t l n s w ∷ log). inl (ap ceiling k)) j)
-      (λ (e : leb n (ceiling log) ≡ false). let j : (new ≡ log) ⊎ ((new ≡ Lease (min (n + 1000) end_of_time) ∷ log) ⊎ (new ≡ Prepare t l n s w ∷ Lease (min (n + 1000) end_of_time) ∷ log)) = subst (λ b. IsImage log (cond b [] (Lease (min (n + 1000) end_of_time) ∷ []) ++ Prepare t l n s w ∷ []) new) e i in
+      (λ (e : leb n (ceiling log) ≡ false). let j : (new ≡ log) ⊎ ((new ≡ Lease (min (n + 1000) end_of_time) ∷ log) ⊎ (new ≡ Prepare t l n s w ∷ Lease (min (n + 1000) end_of_time) ∷ log)) = subst (λ b. MayFind log (cond b [] (Lease (min (n + 1000) end_of_time) ∷ []) ++ Prepare t l n s w ∷ []) new) e i in
       ⊎_elim (λ (k : new ≡ log). inl (ap ceiling k)) (λ (k : (new ≡ Lease (min (n + 1000) end_of_time) ∷ log) ⊎ (new ≡ Prepare t l n s w ∷ Lease (min (n + 1000) end_of_time) ∷ log)).
       ⊎_elim (λ (x : new ≡ Lease (min (n + 1000) end_of_time) ∷ log). inr (leb-false n (ceiling log) e, ap ceiling x)) (λ (x : new ≡ Prepare t l n s w ∷ Lease (min (n + 1000) end_of_time) ∷ log). inr (leb-false n (ceiling log) e, ap ceiling x)) k) j)
       (cases_Bool (leb n (ceiling log)))
@@ -85,13 +85,13 @@ module _ {E : Type 0} where
     pub shows : now_after p.now a ≡ shown_after last a
     pub keeps : shown_after last (Cut a) ≡ last
     pub below : now_after p.now a ≤ ceiling (grown p.log (records p a))
-    pub room : (m : List (Record E)) → IsImage p.log (records p a) m → ceiling m ≤ 1000 + max (shown_after last a) (missed_after skipped a)
-    pub cut_below : (m : List (Record E)) → IsImage p.log (records p a) m → p.now ≤ ceiling m
-    pub cut_room : (m : List (Record E)) → IsImage p.log (records p a) m → ceiling m ≤ 1000 + max last (missed_after skipped (Cut a))
-    pub capped : (m : List (Record E)) → IsImage p.log (records p a) m → ceiling m ≤ end_of_time
+    pub room : (m : List (Record E)) → MayFind p.log (records p a) m → ceiling m ≤ 1000 + max (shown_after last a) (missed_after skipped a)
+    pub cut_below : (m : List (Record E)) → MayFind p.log (records p a) m → p.now ≤ ceiling m
+    pub cut_room : (m : List (Record E)) → MayFind p.log (records p a) m → ceiling m ≤ 1000 + max last (missed_after skipped (Cut a))
+    pub capped : (m : List (Record E)) → MayFind p.log (records p a) m → ceiling m ≤ end_of_time
 
   -- an event that shows no time
-  still : (p : PartState E) (last skipped : ℕ) (a : Event E) → Clock p last skipped → now_after p.now a ≡ p.now → shown_after last a ≡ last → shown_after last (Cut a) ≡ last → missed_after skipped a ≡ skipped → missed_after skipped (Cut a) ≡ skipped → ((m : List (Record E)) → IsImage p.log (records p a) m → ceiling m ≡ ceiling p.log) → Turns p a last skipped
+  still : (p : PartState E) (last skipped : ℕ) (a : Event E) → Clock p last skipped → now_after p.now a ≡ p.now → shown_after last a ≡ last → shown_after last (Cut a) ≡ last → missed_after skipped a ≡ skipped → missed_after skipped (Cut a) ≡ skipped → ((m : List (Record E)) → MayFind p.log (records p a) m → ceiling m ≡ ceiling p.log) → Turns p a last skipped
   still p last skipped a c en es ec em ek h = record {
     rises = le_of_eq (sym en);
     shows = en ∙ c.now ∙ sym es;
@@ -104,7 +104,7 @@ module _ {E : Type 0} where
   }
 
   -- an event that draws or ticks to n
-  drawn : (p : PartState E) (last skipped n : ℕ) (a : Event E) → Clock p last skipped → p.now ≤ n → n ≤ end_of_time → now_after p.now a ≡ n → shown_after last a ≡ n → shown_after last (Cut a) ≡ last → missed_after skipped a ≡ skipped → missed_after skipped (Cut a) ≡ max n skipped → ((m : List (Record E)) → IsImage p.log (records p a) m → Raised p.log n m) → n ≤ ceiling (grown p.log (records p a)) → Turns p a last skipped
+  drawn : (p : PartState E) (last skipped n : ℕ) (a : Event E) → Clock p last skipped → p.now ≤ n → n ≤ end_of_time → now_after p.now a ≡ n → shown_after last a ≡ n → shown_after last (Cut a) ≡ last → missed_after skipped a ≡ skipped → missed_after skipped (Cut a) ≡ max n skipped → ((m : List (Record E)) → MayFind p.log (records p a) m → Raised p.log n m) → n ≤ ceiling (grown p.log (records p a)) → Turns p a last skipped
   drawn p last skipped n a c b t en es ec em ek h d =
       let r = c.room p.log (image_log p) in
       let l = c.below p.log (image_log p) in
@@ -123,11 +123,11 @@ module _ {E : Type 0} where
   quiet : (log : List (Record E)) (r : Record E) (m : List (Record E)) → ceiling (r ∷ log) ≡ ceiling log → (m ≡ log) ⊎ (m ≡ r ∷ log) → ceiling m ≡ ceiling log
   quiet log r m h = ⊎_elim (λ (e : m ≡ log). ap ceiling e) (λ (e : m ≡ r ∷ log). ap ceiling e ∙ h)
 
-  quiet_if : (b : Bool) (log : List (Record E)) (r : Record E) (m : List (Record E)) → ceiling (r ∷ log) ≡ ceiling log → IsImage log (cond b (r ∷ []) []) m → ceiling m ≡ ceiling log
+  quiet_if : (b : Bool) (log : List (Record E)) (r : Record E) (m : List (Record E)) → ceiling (r ∷ log) ≡ ceiling log → MayFind log (cond b (r ∷ []) []) m → ceiling m ≡ ceiling log
   quiet_if true log r m h i = quiet log r m h i
   quiet_if false log r m h i = ap ceiling i
 
-  quiet_batch : (log : List (Record E)) (x : Message E) (b : ℕ) (xs : List (Part E)) (m : List (Record E)) → IsImage log (batch_of x b xs) m → ceiling m ≡ ceiling log
+  quiet_batch : (log : List (Record E)) (x : Message E) (b : ℕ) (xs : List (Part E)) (m : List (Record E)) → MayFind log (batch_of x b xs) m → ceiling m ≡ ceiling log
   quiet_batch log x b [] m i = ap ceiling i
   quiet_batch log x b (y ∷ xs) m i = quiet log (Batch (record { from = x.from; to = x.to; part = x.part; lo = b; hi = x.hi; parts = y ∷ xs })) m refl i
 
@@ -166,8 +166,8 @@ module _ {E : Type 0} where
       whole = λ u. refl;
       now = t.shows;
       below = λ m i. subst (λ x. now_after p.now a ≤ ceiling x) (sym i) t.below;
-      room = λ m i. t.room m (subst (λ x. IsImage p.log (records p a) x) (sym i) (grown_image p.log (records p a)));
-      capped = λ m i. t.capped m (subst (λ x. IsImage p.log (records p a) x) (sym i) (grown_image p.log (records p a)));
+      room = λ m i. t.room m (subst (λ x. MayFind p.log (records p a) x) (sym i) (grown_image p.log (records p a)));
+      capped = λ m i. t.capped m (subst (λ x. MayFind p.log (records p a) x) (sym i) (grown_image p.log (records p a)));
     }
 
     cut_clock : (p : PartState E) (last skipped : ℕ) (a : Event E) → Clock p last skipped → Turns p a last skipped → Clock (cut p a) (shown_after last (Cut a)) (missed_after skipped (Cut a))
@@ -187,7 +187,7 @@ module _ {E : Type 0} where
     step_clock p q last skipped Crashed c s = subst (λ x. Clock x last skipped) (sym s) (record { whole = λ u. absurd (clash u refl); now = c.now; below = c.below; room = c.room; capped = c.capped })
     step_clock p q last skipped RestartCut c s = subst (λ x. Clock x last skipped) (sym s) (record { whole = λ u. absurd (clash u refl); now = c.now; below = c.below; room = c.room; capped = c.capped })
     step_clock p q last skipped (Restarted n b named listed) c s =
-        let one = λ (m : List (Record E)) (i : Image q m). subst (λ rs. IsImage q.log rs m) s.whole i in
+        let one = λ (m : List (Record E)) (i : Finds q m). subst (λ rs. MayFind q.log rs m) s.whole i in
         let r = c.room q.log s.found in record {
           whole = λ u. s.whole;
           now = sym s.shown;
@@ -268,5 +268,5 @@ module _ {E : Type 0} where
         (λ (ne : q ≡ at → ⊥). le_of_eq (sym (ap (λ p. p.now) (others q ne))))
         (part_cases q at)
 
-    pub one_image : (p : PartId) (m : List (Record E)) → (before p).up ≡ true → Image (before p) m → m ≡ (before p).log
-    one_image p m u i = subst (λ rs. IsImage (before p).log rs m) ((l.clock p).whole u) i
+    pub one_image : (p : PartId) (m : List (Record E)) → (before p).up ≡ true → Finds (before p) m → m ≡ (before p).log
+    one_image p m u i = subst (λ rs. MayFind (before p).log rs m) ((l.clock p).whole u) i

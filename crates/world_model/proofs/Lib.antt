@@ -15,6 +15,7 @@ pub mod Kept
 pub mod Ups
 pub mod Shows
 pub mod Hears
+pub mod Clears
 pub mod Doubts
 pub mod Voting
 pub mod Handing
@@ -36,3 +37,7 @@ pub mod Fitted
 pub mod Whole
 pub mod Law
 pub mod Example
+pub mod Traces
+pub mod Asks
+pub mod Premises
+pub mod PastJoins

@@ -21,8 +21,9 @@ use Rattle.crdt_core.specs.Stamps.{stamp_due}
 use Rattle.crdt_core.specs.Parts as part_list
 use Rattle.crdt_core.specs.Log.{end_of_time}
 use Rattle.crdt_core.specs.Parts.{lists}
-use Rattle.world_model.specs.Event.{Ask, AskBegin, AskRead, AskUpdate, AskPrepare, AskDecide, AskAbort, AskTake, AskRestart, is_restart, IsDown, ClockBehind, TxPending, StableBehind, ClockAtEnd, IsGone, HasGap, IsRepeat, IsBadOp, IsDamaged, Event, Ticked, Began, Updated, Read, Prepared, Decided, Finished, Aborted, Sent, Took, Reported, Heard, Crashed, RestartCut, Restarted, Refused, Opened, Cut, Entry, EventsAre, WasShown, is_abort, was_aborted, voted, is_decided, time_of, shown, sent_count}
+use Rattle.world_model.specs.Event.{Ask, AskBegin, AskRead, AskUpdate, AskPrepare, AskTick, AskDecide, AskFinish, AskAbort, AskTake, AskRestart, is_restart, IsDown, ClockBehind, TxPending, StableBehind, ClockAtEnd, IsGone, HasGap, IsRepeat, IsBadOp, HasNoRoom, IsDamaged, Event, Ticked, Began, Updated, Read, Prepared, Decided, Finished, Aborted, Sent, Took, Reported, Heard, Crashed, RestartCut, Restarted, Refused, Opened, Cut, Entry, EventsAre, WasShown, is_abort, was_aborted, voted, is_decided, time_of, shown, sent_count}
 use Rattle.crdt_core.specs.KindsOf.{Kinds}
+use Rattle.world_model.specs.Partition.{IsOther}
 use Rattle.world_model.specs.Plan.{Plan, IsPlace, first_of, home, twin, is_some_update, takes_part, commit_vector, MayTake}
 use Rattle.world_model.specs.Participants.{partitions}
 use Rattle.world_model.specs.World.{plan_of}
@@ -32,7 +33,8 @@ use Rattle.world_model.specs.Downs.{AnswersAsUp, AnswerAsUp}
 use Rattle.world_model.specs.Answering.{IsDueAt, AreDue, IsKnown}
 use Rattle.world_model.specs.Doubt.{SettlesAt, SettleDoubts}
 use Rattle.world_model.specs.Shown.{IsBefore, bound_shown, pending_shown, pending_time, committed_shown, TellsAbortedAt, MayAbortAt, IsReadyAt, IsFirstPending, ShowsAt, ShowAt}
-use Rattle.world_model.specs.Stable.{heard_from, heard_shown, IsLeast, IsBehindAt, IsFreshAt, AreFresh}
+use Rattle.world_model.specs.Stable.{heard_from, heard_shown, known_shown, IsLeast, IsBehindAt, IsFreshAt, AreFresh}
+use Rattle.world_model.specs.Clear.{IsClearAt, AreClear}
 use Rattle.world_model.specs.Votes.{IsDecision, VotesAt, KeepVotes, ShowsVector}
 use Rattle.world_model.specs.Handed.{IsPlacedAt, HandedAt, AreHanded, IsNew, AreNew}
 use Rattle.world_model.specs.Meaning as meaning
@@ -88,25 +90,72 @@ module _ {E : Type 0} where
   clock_lines [] h = tt
   clock_lines (e ∷ run) h = (clock_line run e.at e.event h.1 h.0, clock_lines run h.1)
 
-  past_line : (sites : ℕ) (run : List (Entry E)) (p : PartId) (event : Event E) → events.HoldsPast sites run p event → session.HoldsPast sites (lines_of run) p (call_of event) (step_shown run p event)
-  past_line sites run p (Refused asked IsDown) h = tt
-  past_line sites run p (Refused asked why) h = tt
-  past_line sites run p (Cut (Decided t c)) h = tt
-  past_line sites run p (Cut a) h = tt
-  past_line sites run p (Began who dep t s) h = subst (λ d. le d s ≡ true) (sym (dependency_is sites run who)) h.1
-  past_line sites run p event h = tt
+  vector_is_shown : (run : List (Entry E)) (p : PartId) (event : Event E) (v : List ℕ) → events.ShowsVector event v → session.ShowsVector (step_shown run p event) v
+  vector_is_shown run p (Began who dep t s) v h = h
+  vector_is_shown run p (Decided t c) v h = h
+  vector_is_shown run p event v h = absurd h
 
-  past_lines : (sites : ℕ) (run : List (Entry E)) → events.KeepPast sites run → session.KeepsPast sites (lines_of run)
-  past_lines sites [] h = tt
-  past_lines sites (e ∷ run) h = (past_line sites run e.at e.event h.0, past_lines sites run h.1)
+  vector_was : (run : List (Entry E)) (v : List ℕ) → events.WasVector run v → session.WasVector (lines_of run) v
+  vector_was [] v h = h
+  vector_was (e ∷ run) v h = ⊎_elim (λ (x : events.ShowsVector e.event v). inl (vector_is_shown run e.at e.event v x)) (λ (x : events.WasVector run v). inr (vector_was run v x)) h
+
+  vectors_were : (run : List (Entry E)) (vs : List (List ℕ)) → events.WereVectors run vs → session.WereVectors (lines_of run) vs
+  vectors_were run [] h = tt
+  vectors_were run (v ∷ vs) h = (vector_was run v h.0, vectors_were run vs h.1)
+
+  known_join : (sites : ℕ) (run : List (Entry E)) (dep : List ℕ) → events.IsKnownJoin sites run dep → session.IsKnownJoin sites (lines_of run) dep
+  known_join sites run dep h = record { vectors = h.vectors; known = vectors_were run h.vectors h.known; is = h.is }
+
+  hands_line : (sites : ℕ) (run : List (Entry E)) (p : PartId) (event : Event E) → events.HoldsPast sites run p event → session.HandsKnown sites (lines_of run) (call_of event)
+  hands_line sites run p (Began who dep t s) h = known_join sites run dep h.0
+  hands_line sites run p (Cut (Began who dep t s)) h = known_join sites run dep h
+  hands_line sites run p (Cut (Refused asked why)) h = tt
+  hands_line sites run p (Cut a) h = tt
+  hands_line sites run p (Refused (AskBegin who dep) why) h = known_join sites run dep h
+  hands_line sites run p (Refused asked why) h = tt
+  hands_line sites run p event h = tt
+
+  hands_lines : (sites : ℕ) (run : List (Entry E)) → events.KeepPast sites run → EachLine (λ before p call step. session.HandsKnown sites before call) (lines_of run)
+  hands_lines sites [] h = tt
+  hands_lines sites (e ∷ run) h = (hands_line sites run e.at e.event h.0, hands_lines sites run h.1)
+
+  holds_line : (sites : ℕ) (run : List (Entry E)) (p : PartId) (event : Event E) → events.HoldsPast sites run p event → session.HoldsHanded (lines_of run) p (call_of event) (step_shown run p event)
+  holds_line sites run p (Refused asked IsDown) h = tt
+  holds_line sites run p (Refused asked why) h = tt
+  holds_line sites run p (Cut (Decided t c)) h = tt
+  holds_line sites run p (Cut a) h = tt
+  holds_line sites run p (Began who dep t s) h = h.1
+  holds_line sites run p event h = tt
+
+  holds_lines : (sites : ℕ) (run : List (Entry E)) → events.KeepPast sites run → EachLine session.HoldsHanded (lines_of run)
+  holds_lines sites [] h = tt
+  holds_lines sites (e ∷ run) h = (holds_line sites run e.at e.event h.0, holds_lines sites run h.1)
+
+  -- who was handed its session's past holds it
+  past_line : (sites : ℕ) (run : List (Entry E)) (p : PartId) (event : Event E) → events.HoldsPast sites run p event → session.IsOwnPast sites (lines_of run) (call_of event) → session.HoldsPast sites (lines_of run) p (call_of event) (step_shown run p event)
+  past_line sites run p (Refused asked IsDown) h o = tt
+  past_line sites run p (Refused asked why) h o = tt
+  past_line sites run p (Cut (Decided t c)) h o = tt
+  past_line sites run p (Cut a) h o = tt
+  past_line sites run p (Began who dep t s) h o = subst (λ d. le d s ≡ true) o h.1
+  past_line sites run p event h o = tt
+
+  past_lines : (sites : ℕ) (run : List (Entry E)) → events.KeepPast sites run → session.HandsOwn sites (lines_of run) → session.KeepsPast sites (lines_of run)
+  past_lines sites [] h o = tt
+  past_lines sites (e ∷ run) h o = (past_line sites run e.at e.event h.0 o.0, past_lines sites run h.1 o.1)
 
   place_lines : (plan : Plan E) (run : List (Entry E)) → EventsAre (λ p event. IsPlace plan.sites plan.parts p) run → EachLine (λ before p call step. IsPlace plan.sites plan.parts p) (lines_of run)
   place_lines plan [] h = tt
   place_lines plan (e ∷ run) h = (h.0, place_lines plan run h.1)
 
   placed_line : (plan : Plan E) (run : List (Entry E)) (p : PartId) (event : Event E) → HandedAt plan run p event → IsPlaced plan.parts (lines_of run) p (call_of event) (step_shown run p event)
+  placed_line plan run p (Refused (AskRead t s o own) why) h = (h.1.site, h.1.part)
+  placed_line plan run p (Refused (AskUpdate t s o own op) why) h = (h.1.site, h.1.part)
   placed_line plan run p (Refused asked IsDown) h = tt
   placed_line plan run p (Refused asked why) h = tt
+  placed_line plan run p (Cut (Read t s o own read value)) h = (h.1.site, h.1.part)
+  placed_line plan run p (Cut (Updated t s o own op read u stamp)) h = (h.1.site, h.1.part)
+  placed_line plan run p (Cut (Refused asked why)) h = tt
   placed_line plan run p (Cut (Decided t c)) h = tt
   placed_line plan run p (Cut a) h = tt
   placed_line plan run p (Began who dep t s) h = h
@@ -125,7 +174,7 @@ module _ {E : Type 0} where
   fresh_line plan run p (Cut a) h f s = tt
   fresh_line plan run p (Began who dep t v) h f s = record {
     width = f.width;
-    own = f.own ∙ ap (λ d. max t.time (entry d p.site)) (h.0 ∙ sym (dependency_is plan.sites run who));
+    own = f.own;
     others = λ j o. stable_is plan.parts run p j (entry v j) (f.others j o);
   }
   fresh_line plan run p (Heard number k b stable) h f s =
@@ -166,13 +215,19 @@ module _ {E : Type 0} where
   answer_line plan run p (Refused asked IsDown) h d = (refl, refused_up asked d)
   answer_line plan run p (Refused (AskTake number m) (HasGap n)) h d = tt
   answer_line plan run p (Refused (AskTake number m) (IsRepeat n)) h d = tt
-  answer_line plan run p (Refused (AskUpdate t s o own op) IsBadOp) h d = tt
   answer_line plan run p (Refused (AskBegin who dep) ClockAtEnd) h d = tt
   answer_line plan run p (Refused (AskPrepare t s l w) ClockAtEnd) h d = tt
   answer_line plan run p (Refused asked (ClockBehind n)) h d = refl
   answer_line plan run p (Refused asked (TxPending u n)) h d = refl
   answer_line plan run p (Refused asked (StableBehind j n)) h d = tt
   answer_line plan run p (Refused asked IsGone) h d = refl
+  answer_line plan run p (Refused (AskTick r) (HasNoRoom n)) h d = refl
+  answer_line plan run p (Refused (AskBegin who dep) (HasNoRoom n)) h d = refl
+  answer_line plan run p (Refused (AskPrepare t s l w) (HasNoRoom n)) h d = refl
+  answer_line plan run p (Refused (AskDecide t c) (HasNoRoom n)) h d = refl
+  answer_line plan run p (Refused (AskFinish t c) (HasNoRoom n)) h d = refl
+  answer_line plan run p (Refused (AskAbort t) (HasNoRoom n)) h d = refl
+  answer_line plan run p (Refused (AskTake number m) (HasNoRoom n)) h d = refl
   answer_line plan run p (Refused asked why) h d = off d
   answer_line plan run p (Read t s o own read value) h d = (refl, is_of_is run (session_of run t) t ∙ session_has run h.who t h.begun)
   answer_line plan run p (Updated t s o own op read u stamp) h d = (refl, is_of_is run (session_of run t) t ∙ session_has run h.0.who t h.0.begun)
@@ -197,12 +252,10 @@ module _ {E : Type 0} where
 
   op_line : {S : Type 0} (kinds : Kinds S E) (run : List (Entry E)) (p : PartId) (event : Event E) → IsKnown kinds p event → ops.HasOp kinds.too_deep (lines_of run) p (call_of event) (step_shown run p event)
   op_line kinds run p (Updated t s o own op read u stamp) k = k.1
-  op_line kinds run p (Refused (AskUpdate t s o own op) IsBadOp) k = k
-  op_line kinds run p (Refused (AskUpdate t s o own op) (ClockBehind n)) k = k
-  op_line kinds run p (Refused (AskUpdate t s o own op) (TxPending u n)) k = k
-  op_line kinds run p (Refused asked IsDown) k = tt
+  op_line kinds run p (Refused (AskUpdate t s o own op) why) k = k
   op_line kinds run p (Refused asked why) k = tt
-  op_line kinds run p (Cut (Decided t c)) k = tt
+  op_line kinds run p (Cut (Updated t s o own op read u stamp)) k = k
+  op_line kinds run p (Cut (Refused asked why)) k = tt
   op_line kinds run p (Cut a) k = tt
   op_line kinds run p event k = tt
 
@@ -467,49 +520,84 @@ module _ {E : Type 0} where
           first = λ w ne k y. subst (λ m. IsBefore (u, n) (w, m)) (sym (prepare_time_is some p w)) (h.first w ne (sym (pending_is some p w) ∙ k) (sym (touches_eq w p o) ∙ y));
         }
 
-    stable_line : (some : List (Entry E)) (p : PartId) (who dep : List ℕ) (j n : ℕ) → dep ≡ events.dependency sites some who → IsBehindAt plan some p dep j n → causes.IsStableBehind sites parts (lines_of some) p who j n
-    stable_line some p who dep j n e h =
-        let d : dep ≡ session.dependency sites (lines_of some) who = e ∙ sym (dependency_is sites some who) in record {
-          other = h.other;
-          have = stable_is parts some p j n h.have;
-          behind = subst (λ x. n < entry x j) d h.behind;
-          least = λ i q o a b k. h.least i q o a b (subst₂ (λ x y. x < entry y i) (known_is some p i q) (sym d) k);
-        }
+    stable_line : (some : List (Entry E)) (p : PartId) (dep : List ℕ) (j n : ℕ) → IsBehindAt plan some p dep j n → causes.IsStableBehind sites parts (lines_of some) p dep j n
+    stable_line some p dep j n h = record {
+      other = h.other;
+      have = stable_is parts some p j n h.have;
+      behind = h.behind;
+      least = λ i q o a b k. h.least i q o a b (subst (λ x. x < entry dep i) (known_is some p i q) k);
+    }
 
-    cause_line : (some : List (Entry E)) (p : PartId) (event : Event E) → HandedAt plan some p event → IsFreshAt plan some p event → HasCauseAt plan some p event → ShowsAt plan some p event → IsDueAt event → IsRight kinds plan run p event → causes.HasCause sites parts ls (lines_of some) p (call_of event) (step_shown some p event)
-    cause_line some p (Refused (AskRead t s o own) (ClockBehind n)) h f c w d r = behind_line some p t n c.0 c.1
-    cause_line some p (Refused (AskUpdate t s o own op) (ClockBehind n)) h f c w d r = (c.0, behind_line some p t n c.1 c.2)
-    cause_line some p (Refused (AskPrepare t s l us) (ClockBehind n)) h f c w d r = behind_line some p t n c.0 c.1
-    cause_line some p (Refused (AskRead t s o own) (TxPending u n)) h f c w d r = first_line some p t s o u n h w
-    cause_line some p (Refused (AskUpdate t s o own op) (TxPending u n)) h f c w d r = (w.0, first_line some p t s o u n h w.1)
-    cause_line some p (Refused (AskBegin who dep) (StableBehind j n)) h f c w d r = stable_line some p who dep j n h f
-    cause_line some p (Refused (AskDecide t v) IsGone) h f c w d r = (refl, unknown_line some p t h w)
-    cause_line some p (Refused (AskAbort t) IsGone) h f c w d r = (refl, pending_is some p t ∙ w)
-    cause_line some p (Refused asked (ClockBehind n)) h f c w d r = off d
-    cause_line some p (Refused asked (TxPending u n)) h f c w d r = off d
-    cause_line some p (Refused asked (StableBehind j n)) h f c w d r = off d
-    cause_line some p (Refused asked IsGone) h f c w d r = off d
-    cause_line some p (Refused asked (IsDamaged k)) h f c w d r = off d
-    cause_line some p (Refused (AskBegin who dep) ClockAtEnd) h f c w d r = (now_is some p ∙ c, λ j q o a b. subst₂ (λ x y. entry x j ≤ y) (h ∙ sym (dependency_is sites some who)) (sym (known_is some p j q)) (f j q o a b))
-    cause_line some p (Refused (AskPrepare t s l us) ClockAtEnd) h f c w d r = (now_is some p ∙ c.1, subst₂ (λ x y. x ≤ y) (sym (entry_eq t p.site)) (sym (now_is some p)) c.0)
-    cause_line some p (Refused asked ClockAtEnd) h f c w d r = off d
-    cause_line some p (Refused asked why) h f c w d r = tt
-    cause_line some p (Cut (Decided t v)) h f c w d r = tt
-    cause_line some p (Cut a) h f c w d r = tt
-    cause_line some p (Read t s o own read value) h f c w d r = ready_line some p t s o r.0 w
-    cause_line some p (Updated t s o own op read u stamp) h f c w d r = λ k. ready_line some p t s o r.0 (w k)
-    cause_line some p (Prepared t s l us n) h f c w d r = (
+    enough_line : (some : List (Entry E)) (p : PartId) (dep : List ℕ) → ((j q : ℕ) → IsOther sites p.site j → 1 ≤ q → q ≤ parts → entry dep j ≤ known_shown some p j q) → causes.IsStableEnough sites parts (lines_of some) p dep
+    enough_line some p dep f = λ j q o a b. subst (λ x. entry dep j ≤ x) (sym (known_is some p j q)) (f j q o a b)
+
+    early_line : (some : List (Entry E)) (p : PartId) (t : TxId) (s : List ℕ) → (s ≡ plan.snapshot t) × (entry s p.site ≤ shown some p) × (shown some p < end_of_time) → (entry (past.snapshot ls t) p.site ≤ clock.now (lines_of some) p) × (clock.now (lines_of some) p < end_of_time)
+    early_line some p t s w = (
       subst₂ (λ x y. x ≤ y) (ap (λ x. entry x p.site) w.0 ∙ sym (entry_eq t p.site)) (sym (now_is some p)) w.1,
       subst (λ x. x < end_of_time) (sym (now_is some p)) w.2,
     )
-    cause_line some p (Began who dep t s) h f c w d r = subst (λ x. x < end_of_time) (sym (now_is some p)) w
-    cause_line some p (Decided t v) h f c w d r = pending_is some p t ∙ w
-    cause_line some p (Finished t v) h f c w d r = known_line some p t w
-    cause_line some p event h f c w d r = tt
 
-    cause_lines : (some : List (Entry E)) → AreHanded plan some → AreFresh plan some → HaveCausesAt plan some → ShowAt plan some → AreDue some → EventsAre (IsRight kinds plan run) some → EachLine (causes.HasCause sites parts ls) (lines_of some)
-    cause_lines [] h f c w d r = tt
-    cause_lines (e ∷ some) h f c w d r = (cause_line some e.at e.event h.0 f.0 c.0 w.0 d.0 r.0, cause_lines some h.1 f.1 c.1 w.1 d.1 r.1)
+    took_line : (some : List (Entry E)) (p : PartId) (m : Message E) → (m.lo ≤ bound_shown some p m.from) × (bound_shown some p m.from < m.hi) → (m.lo ≤ bounds.bound (lines_of some) p m.from) × (bounds.bound (lines_of some) p m.from < m.hi)
+    took_line some p m w = let e = sym (bound_is some p m.from) in (subst (λ x. m.lo ≤ x) e w.0, subst (λ x. x < m.hi) e w.1)
+
+    -- nothing was due before a fault
+    cut_line : (some : List (Entry E)) (p : PartId) (what : Event E) → HandedAt plan some p (Cut what) → IsClearAt plan some p (Cut what) → causes.NoneDue sites parts ls (lines_of some) p (call_cut what)
+    cut_line some p (Began who dep t s) h c = (subst (λ x. x < end_of_time) (sym (now_is some p)) c.0, enough_line some p dep c.1)
+    cut_line some p (Read t s o own read value) h c = ready_line some p t s o h.0 c
+    cut_line some p (Updated t s o own op read u stamp) h c = λ k. ready_line some p t s o h.0 (c k)
+    cut_line some p (Prepared t s l us n) h c = early_line some p t s c
+    cut_line some p (Decided t v) h c = pending_is some p t ∙ c
+    cut_line some p (Finished t v) h c = known_line some p t c
+    cut_line some p (Aborted t own) h c = pending_is some p t ∙ c
+    cut_line some p (Took number m) h c = took_line some p m c
+    cut_line some p (Refused asked why) h c = tt
+    cut_line some p what h c = tt
+
+    -- nor before want of room
+    room_line : (some : List (Entry E)) (p : PartId) (asked : Ask E) (n : ℕ) → HandedAt plan some p (Refused asked (HasNoRoom n)) → IsClearAt plan some p (Refused asked (HasNoRoom n)) → IsDueAt {E = E} (Refused asked (HasNoRoom n)) → causes.NoneDue sites parts ls (lines_of some) p (call_asked asked)
+    room_line some p (AskBegin who dep) n h c d = (subst (λ x. x < end_of_time) (sym (now_is some p)) c.0, enough_line some p dep c.1)
+    room_line some p (AskRead t s o own) n h c d = off d
+    room_line some p (AskUpdate t s o own op) n h c d = off d
+    room_line some p (AskPrepare t s l us) n h c d = early_line some p t s c
+    room_line some p (AskDecide t v) n h c d = pending_is some p t ∙ c
+    room_line some p (AskFinish t v) n h c d = known_line some p t c
+    room_line some p (AskAbort t) n h c d = pending_is some p t ∙ c
+    room_line some p (AskTake number m) n h c d = took_line some p m c
+    room_line some p asked n h c d = tt
+
+    cause_line : (some : List (Entry E)) (p : PartId) (event : Event E) → HandedAt plan some p event → IsFreshAt plan some p event → IsClearAt plan some p event → HasCauseAt plan some p event → ShowsAt plan some p event → IsDueAt event → IsRight kinds plan run p event → causes.HasCause sites parts ls (lines_of some) p (call_of event) (step_shown some p event)
+    cause_line some p (Refused (AskRead t s o own) (ClockBehind n)) h f g c w d r = behind_line some p t n c.0 c.1
+    cause_line some p (Refused (AskUpdate t s o own op) (ClockBehind n)) h f g c w d r = (c.0, behind_line some p t n c.1 c.2)
+    cause_line some p (Refused (AskPrepare t s l us) (ClockBehind n)) h f g c w d r = behind_line some p t n c.0 c.1
+    cause_line some p (Refused (AskRead t s o own) (TxPending u n)) h f g c w d r = first_line some p t s o u n h.0 w
+    cause_line some p (Refused (AskUpdate t s o own op) (TxPending u n)) h f g c w d r = (w.0, first_line some p t s o u n h.0 w.1)
+    cause_line some p (Refused (AskBegin who dep) (StableBehind j n)) h f g c w d r = stable_line some p dep j n f
+    cause_line some p (Refused (AskDecide t v) IsGone) h f g c w d r = (refl, unknown_line some p t h w)
+    cause_line some p (Refused (AskAbort t) IsGone) h f g c w d r = (refl, pending_is some p t ∙ w)
+    cause_line some p (Refused asked (ClockBehind n)) h f g c w d r = off d
+    cause_line some p (Refused asked (TxPending u n)) h f g c w d r = off d
+    cause_line some p (Refused asked (StableBehind j n)) h f g c w d r = off d
+    cause_line some p (Refused asked IsGone) h f g c w d r = off d
+    cause_line some p (Refused asked (IsDamaged k)) h f g c w d r = off d
+    cause_line some p (Refused (AskBegin who dep) ClockAtEnd) h f g c w d r = (now_is some p ∙ c, enough_line some p dep f)
+    cause_line some p (Refused (AskPrepare t s l us) ClockAtEnd) h f g c w d r = (now_is some p ∙ c.1, subst₂ (λ x y. x ≤ y) (sym (entry_eq t p.site)) (sym (now_is some p)) c.0)
+    cause_line some p (Refused asked ClockAtEnd) h f g c w d r = off d
+    cause_line some p (Refused asked (HasNoRoom n)) h f g c w d r = room_line some p asked n h g d
+    cause_line some p (Refused asked why) h f g c w d r = tt
+    cause_line some p (Cut (Decided t v)) h f g c w d r = cut_line some p (Decided t v) h g
+    cause_line some p (Cut a) h f g c w d r = cut_line some p a h g
+    cause_line some p RestartCut h f g c w d r = tt
+    cause_line some p (Read t s o own read value) h f g c w d r = ready_line some p t s o r.0 w
+    cause_line some p (Updated t s o own op read u stamp) h f g c w d r = λ k. ready_line some p t s o r.0 (w k)
+    cause_line some p (Prepared t s l us n) h f g c w d r = early_line some p t s w
+    cause_line some p (Began who dep t s) h f g c w d r = subst (λ x. x < end_of_time) (sym (now_is some p)) w
+    cause_line some p (Decided t v) h f g c w d r = pending_is some p t ∙ w
+    cause_line some p (Finished t v) h f g c w d r = known_line some p t w
+    cause_line some p event h f g c w d r = tt
+
+    cause_lines : (some : List (Entry E)) → AreHanded plan some → AreFresh plan some → AreClear plan some → HaveCausesAt plan some → ShowAt plan some → AreDue some → EventsAre (IsRight kinds plan run) some → EachLine (causes.HasCause sites parts ls) (lines_of some)
+    cause_lines [] h f g c w d r = tt
+    cause_lines (e ∷ some) h f g c w d r = (cause_line some e.at e.event h.0 f.0 g.0 c.0 w.0 d.0 r.0, cause_lines some h.1 f.1 g.1 c.1 w.1 d.1 r.1)
 
     seen_twice : (b c : Bool) → (b && (b && c)) ≡ (b && c)
     seen_twice true c = refl
@@ -573,15 +661,19 @@ module _ {E : Type 0} where
         ∙ ap length (filter_in (λ t. lists m.parts t) (λ t. updates.takes_part ls t p && (ltb m.lo (past.commit_time ls t) && leb (past.commit_time ls t) m.hi)) hs same)
 
     stream_line : (some : List (Entry E)) (p : PartId) (event : Event E) → HandedAt plan some p event → SendsAt plan some p event → ShowsAt plan some p event → IsDueAt event → IsRight kinds plan run p event → streams.IsStream sites ls (lines_of some) p (call_of event) (step_shown some p event)
-    stream_line some p (Sent asked m) h n s d r = record { row = ap (λ x. x + 1) (sym (sent_count_is some)); to = n.to; low = n.lo ∙ ap (low_of asked) (sym (last_sent_is some p m.to)); high = own_bound_is some p m.hi s; parts = count_line p m r }
+    stream_line some p (Sent asked m) h n s d r = record { row = ap (λ x. x + 1) (sym (sent_count_is some p)); to = n.to; low = n.lo ∙ ap (low_of asked) (sym (last_sent_is some p m.to)); high = own_bound_is some p m.hi s; parts = count_line p m r }
     stream_line some p (Took number m) h n s d r = let e = sym (bound_is some p m.from) in (refl, subst (λ x. m.lo ≤ x) e s.0, subst (λ x. x < m.hi) e s.1, handed_line plan some p number m h)
-    stream_line some p (Reported b) h n s d r = ap (λ x. x + 1) (sym (report_count_is some))
+    stream_line some p (Reported b) h n s d r = ap (λ x. x + 1) (sym (report_count_is some p))
     stream_line some p (Heard number k b stable) h n s d r = report_line some number (record { site = p.site; part = k }) b h.shown
     stream_line some p (Refused (AskTake number m) (HasGap k)) h n s d r = (s.0 ∙ sym (bound_is some p m.from), s.1, handed_line plan some p number m h)
     stream_line some p (Refused (AskTake number m) (IsRepeat k)) h n s d r = (s.0 ∙ sym (bound_is some p m.from), s.1, s.2, handed_line plan some p number m h)
+    stream_line some p (Refused (AskTake number m) IsDown) h n s d r = (number, handed_line plan some p number m h)
+    stream_line some p (Refused (AskTake number m) (HasNoRoom k)) h n s d r = (number, handed_line plan some p number m h)
+    stream_line some p (Refused (AskTake number m) why) h n s d r = off d
     stream_line some p (Refused asked (HasGap k)) h n s d r = off d
     stream_line some p (Refused asked (IsRepeat k)) h n s d r = off d
     stream_line some p (Refused asked why) h n s d r = tt
+    stream_line some p (Cut (Took number m)) h n s d r = (number, handed_line plan some p number m h)
     stream_line some p (Cut (Decided t c)) h n s d r = tt
     stream_line some p (Cut a) h n s d r = tt
     stream_line some p event h n s d r = tt
@@ -589,6 +681,20 @@ module _ {E : Type 0} where
     stream_lines : (some : List (Entry E)) → AreHanded plan some → Send plan some → ShowAt plan some → AreDue some → EventsAre (IsRight kinds plan run) some → EachLine (streams.IsStream sites ls) (lines_of some)
     stream_lines [] h n s d r = tt
     stream_lines (e ∷ some) h n s d r = (stream_line some e.at e.event h.0 n.0 s.0 d.0 r.0, stream_lines some h.1 n.1 s.1 d.1 r.1)
+
+    -- votes are asked of participants
+    vote_line : (some : List (Entry E)) (p : PartId) (event : Event E) → HandedAt plan some p event → commit.IsAskedAt ls p (call_of event)
+    vote_line some p (Prepared t s l w n) h = takes_eq t p ∙ h
+    vote_line some p (Cut (Prepared t s l w n)) h = takes_eq t p ∙ h.1
+    vote_line some p (Cut (Refused asked why)) h = tt
+    vote_line some p (Cut a) h = tt
+    vote_line some p (Refused (AskPrepare t s l w) why) h = takes_eq t p ∙ h
+    vote_line some p (Refused asked why) h = tt
+    vote_line some p event h = tt
+
+    vote_lines : (some : List (Entry E)) → AreHanded plan some → EachLine (λ before p call step. commit.IsAskedAt ls p call) (lines_of some)
+    vote_lines [] h = tt
+    vote_lines (e ∷ some) h = (vote_line some e.at e.event h.0, vote_lines some h.1)
 
     order_lines : past.IsStrictOrder (lines_of run)
     order_lines = record {
@@ -602,14 +708,17 @@ module _ {E : Type 0} where
       answers = answer_lines plan run law.handed law.due;
       clock = clock_lines run law.clock;
       placed = placed_lines plan run law.handed;
+      handed = hands_lines sites run law.past;
+      held = holds_lines sites run law.past;
       past = past_lines sites run law.past;
       fresh = fresh_lines plan run law.past law.fresh law.shown;
       commit = commit_lines run law.votes law.vectors law.numbered;
+      asked = vote_lines run law.handed;
       agreed = agreed_lines;
       right = right_lines run law.handed law.numbered law.right law.meant law.known;
       fates = fate_lines run (shown_all run) law.clock law.shown law.resumed law.decided_stay law.doubts law.handed law.right;
       streams = stream_lines run law.handed law.sends law.shown law.due law.right;
-      causes = cause_lines run law.handed law.fresh law.causes law.shown law.due law.right;
+      causes = cause_lines run law.handed law.fresh law.clear law.causes law.shown law.due law.right;
       ops = op_lines kinds run law.known;
       ups = up_lines run law.downs law.due;
       order = order_lines;

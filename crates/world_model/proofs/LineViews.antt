@@ -273,9 +273,9 @@ module _ {E : Type 0} where
   is_sent_here run p (Cut a) = refl
   is_sent_here run p event = refl
 
-  pub sent_count_is : (run : List (Entry E)) → streams.sent_count (lines_of run) ≡ sent_count run
-  sent_count_is [] = refl
-  sent_count_is (e ∷ run) = λ i. cond (is_sent_here run e.at e.event i) (sent_count_is run i + 1) (sent_count_is run i)
+  pub sent_count_is : (run : List (Entry E)) (p : PartId) → streams.sent_count (lines_of run) p ≡ sent_count run p
+  sent_count_is [] p = refl
+  sent_count_is (e ∷ run) p = λ i. cond (same_part e.at p && is_sent_here run e.at e.event i) (sent_count_is run p i + 1) (sent_count_is run p i)
 
   is_report_here : (run : List (Entry E)) (p : PartId) (event : Event E) → streams.is_report (step_shown run p event) ≡ is_report event
   is_report_here run p (Refused asked IsDown) = refl
@@ -284,23 +284,23 @@ module _ {E : Type 0} where
   is_report_here run p (Cut a) = refl
   is_report_here run p event = refl
 
-  pub report_count_is : (run : List (Entry E)) → streams.report_count (lines_of run) ≡ report_count run
-  report_count_is [] = refl
-  report_count_is (e ∷ run) = λ i. cond (is_report_here run e.at e.event i) (report_count_is run i + 1) (report_count_is run i)
+  pub report_count_is : (run : List (Entry E)) (p : PartId) → streams.report_count (lines_of run) p ≡ report_count run p
+  report_count_is [] p = refl
+  report_count_is (e ∷ run) p = λ i. cond (same_part e.at p && is_report_here run e.at e.event i) (report_count_is run p i + 1) (report_count_is run p i)
 
   -- what was sent or reported stands in the lines, with its number
   pub sent_line : (run : List (Entry E)) (number : ℕ) (q : PartId) (asked : Option ℕ) (m : Message E) → WasNumbered sent_count run number q (Sent asked m) → streams.WasSent (lines_of run) q number m.to m.lo m.hi
   sent_line [] number q asked m w = w
   sent_line (e ∷ run) number q asked m w = ⊎_elim
-      (λ (x : (e.at ≡ q) × (e.event ≡ Sent asked m) × (number ≡ sent_count run + 1)).
-      inl (x.0, length m.parts, ap (step_shown run e.at) x.1 ∙ λ i. step.Sent ((sym x.2) i) (x.0 i) m.to m.lo m.hi (length m.parts)))
+      (λ (x : (e.at ≡ q) × (e.event ≡ Sent asked m) × (number ≡ sent_count run q + 1)).
+      inl (x.0, length m.parts, ap (step_shown run e.at) x.1 ∙ (λ i. step.Sent (sent_count run (x.0 i) + 1) (x.0 i) m.to m.lo m.hi (length m.parts)) ∙ λ i. step.Sent ((sym x.2) i) q m.to m.lo m.hi (length m.parts)))
       (λ (x : WasNumbered sent_count run number q (Sent asked m)). inr (sent_line run number q asked m x))
       w
 
   pub report_line : (run : List (Entry E)) (number : ℕ) (q : PartId) (b : List ℕ) → WasNumbered report_count run number q (Reported b) → streams.WasReported (lines_of run) q number b
   report_line [] number q b w = w
   report_line (e ∷ run) number q b w = ⊎_elim
-      (λ (x : (e.at ≡ q) × (e.event ≡ Reported b) × (number ≡ report_count run + 1)).
-      inl (x.0, ap (step_shown run e.at) x.1 ∙ λ i. step.Reported ((sym x.2) i) (x.0 i) b))
+      (λ (x : (e.at ≡ q) × (e.event ≡ Reported b) × (number ≡ report_count run q + 1)).
+      inl (x.0, ap (step_shown run e.at) x.1 ∙ (λ i. step.Reported (report_count run (x.0 i) + 1) (x.0 i) b) ∙ λ i. step.Reported ((sym x.2) i) q b))
       (λ (x : WasNumbered report_count run number q (Reported b)). inr (report_line run number q b x))
       w

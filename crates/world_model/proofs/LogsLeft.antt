@@ -7,10 +7,10 @@ use Rattle.crdt_core.specs.declared.record.Part.{Part}
 use Rattle.crdt_core.specs.declared.record.Message.{Message}
 use Rattle.crdt_core.specs.declared.record.Record.{Record}
 use Rattle.crdt_core.specs.declared.record.Record.TheVariants.{Prepare, Decide, Finish, Batch}
-use Rattle.crdt_core.specs.Log.{pending, grown, IsImage}
+use Rattle.crdt_core.specs.Log.{pending, grown, MayFind}
 use Rattle.world_model.specs.Event.{Event, Ticked, Began, Updated, Read, Prepared, Decided, Finished, Aborted, Sent, Took, Reported, Heard, Crashed, RestartCut, Restarted, Refused, Opened, Cut, Entry, attempt}
 use Rattle.crdt_core.specs.KindsOf.{Kinds}
-use Rattle.world_model.specs.Partition.{PartState, Image, IsOwnBound, batch_of, written, done, PartStep}
+use Rattle.world_model.specs.Partition.{PartState, Finds, IsOwnBound, batch_of, written, done, PartStep}
 use Rattle.crdt_core.specs.Log.{lease_for}
 use Rattle.crdt_core.specs.Parts.{above}
 use Rattle.world_model.specs.Plan.{Plan, IsAllowed, IsRun}
@@ -50,20 +50,20 @@ module _ {E : Type 0} {S : Type 0} (kinds : Kinds S E) (plan : Plan E) (run : Li
   left_log : IsLogOf plan run at (before at).log
   left_log = left at (before at).log (image_log (before at))
 
-  left_done : (event : Event E) → IsAllowed plan run before at event → (before at).up ≡ true → after at ≡ done (before at) event → (m : List (Record E)) → Image (after at) m → m ≡ grown (before at).log (records_of plan run at (before at).log event)
-  left_done event al up e m i = subst (λ rs. m ≡ grown (before at).log rs) (same_written event al up) (subst (λ p. Image p m) e i)
+  left_done : (event : Event E) → IsAllowed plan run before at event → (before at).up ≡ true → after at ≡ done (before at) event → (m : List (Record E)) → Finds (after at) m → m ≡ grown (before at).log (records_of plan run at (before at).log event)
+  left_done event al up e m i = subst (λ rs. m ≡ grown (before at).log rs) (same_written event al up) (subst (λ p. Finds p m) e i)
 
   -- the same partition as before
-  left_same : (m : List (Record E)) → after at ≡ before at → Image (after at) m → IsLogOf plan run at m
-  left_same m e i = left at m (subst (λ p. Image p m) e i)
+  left_same : (m : List (Record E)) → after at ≡ before at → Finds (after at) m → IsLogOf plan run at m
+  left_same m e i = left at m (subst (λ p. Finds p m) e i)
 
-  left_here : (event : Event E) → IsAllowed plan run before at (attempt event) → PartStep kinds plan.sites plan.parts at (before at) event (after at) → (m : List (Record E)) → Image (after at) m → Left event m
-  left_here (Cut a) al st m i = ((before at).log, left_log, subst (λ rs. IsImage (before at).log rs m) (same_written a al st.0) (subst (λ p. Image p m) st.2 i))
-  left_here Crashed al st m i = (m, left at m (subst (λ p. Image p m) st i), refl)
-  left_here RestartCut al st m i = (m, left at m (subst (λ p. Image p m) st i), refl)
+  left_here : (event : Event E) → IsAllowed plan run before at (attempt event) → PartStep kinds plan.sites plan.parts at (before at) event (after at) → (m : List (Record E)) → Finds (after at) m → Left event m
+  left_here (Cut a) al st m i = ((before at).log, left_log, subst (λ rs. MayFind (before at).log rs m) (same_written a al st.0) (subst (λ p. Finds p m) st.2 i))
+  left_here Crashed al st m i = (m, left at m (subst (λ p. Finds p m) st i), refl)
+  left_here RestartCut al st m i = (m, left at m (subst (λ p. Finds p m) st i), refl)
   left_here (Restarted n b named listed) al st m i =
       let log = (after at).log in
-      let e : m ≡ log = subst (λ rs. IsImage log rs m) st.whole i in (
+      let e : m ≡ log = subst (λ rs. MayFind log rs m) st.whole i in (
         log,
         left at log st.found,
         (
@@ -97,11 +97,11 @@ module _ {E : Type 0} {S : Type 0} (kinds : Kinds S E) (plan : Plan E) (run : Li
   left_step : (event : Event E) → IsAllowed plan run before at (attempt event) → PartStep kinds plan.sites plan.parts at (before at) event (after at) → ((q : PartId) → q ≢ at → after q ≡ before q) → LeavesLogs plan ((record { at = at; event = event }) ∷ run) after
   left_step event al st others p m i = ⊎_elim
       (λ (e : at ≡ p).
-      let x = left_here event al st m (subst (λ y. Image (after y) m) (sym e) i) in
+      let x = left_here event al st m (subst (λ y. Finds (after y) m) (sym e) i) in
       (x.0, subst (λ y. IsLogOf plan run y x.0) e x.1, inl (e, subst (λ y. IsLogAfter plan run y x.0 event m) e x.2)))
-      (λ (ne : at ≡ p → ⊥). (m, left p m (subst (λ y. Image y m) (others p (λ e. ne (sym e))) i), inr (ne, refl)))
+      (λ (ne : at ≡ p → ⊥). (m, left p m (subst (λ y. Finds y m) (others p (λ e. ne (sym e))) i), inr (ne, refl)))
       (part_cases at p)
 
 pub logs_left : {E S : Type 0} (kinds : Kinds S E) (plan : Plan E) (run : List (Entry E)) (parts : PartId → PartState E) → IsRun kinds plan run parts → LeavesLogs plan run parts
-logs_left kinds plan [] parts r = λ p m i. subst (λ x. Image x m) (r p) i
+logs_left kinds plan [] parts r = λ p m i. subst (λ x. Finds x m) (r p) i
 logs_left kinds plan (e ∷ run) parts r = left_step kinds plan run r.0 parts e.at (shown_run kinds plan run r.0 r.1) (logs_left kinds plan run r.0 r.1) e.event r.2.allowed r.2.step r.2.others

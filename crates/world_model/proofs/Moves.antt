@@ -12,21 +12,21 @@ use Rattle.crdt_core.specs.declared.record.Part.{Part}
 use Rattle.crdt_core.specs.declared.record.Message.{Message}
 use Rattle.crdt_core.specs.declared.record.Record.{Record}
 use Rattle.crdt_core.specs.declared.record.Record.TheVariants.{Lease, Prepare, Decide, Finish, Abort, Batch}
-use Rattle.crdt_core.specs.Log.{end_of_time, prepared, prepare_time, prepared_changes, decided, committed, committed_at, aborted, pending, last_decided, taken, taken_at, taken_changes, bound, ceiling, grown, IsImage}
+use Rattle.crdt_core.specs.Log.{end_of_time, prepared, prepare_time, prepared_changes, decided, committed, committed_at, aborted, pending, last_decided, taken, taken_at, taken_changes, logged_bound, ceiling, grown, MayFind}
 use Rattle.world_model.specs.Event.{Ask, Refusal, Refused, Event, Ticked, Began, Updated, Read, Prepared, Decided, Finished, Aborted, Sent, Took, Reported, Heard, Crashed, RestartCut, Restarted, Opened, Cut, Entry, attempt, is_prepare, is_decide, is_abort, is_named, shows_decided, time_shown}
 use Rattle.crdt_core.specs.KindsOf.{Kinds}
-use Rattle.world_model.specs.Partition.{PartState, Image, batch_of, records, MayDo, done, down, cut, PartStep}
+use Rattle.world_model.specs.Partition.{PartState, Finds, batch_of, records, MayDo, done, down, cut, PartStep}
 use Rattle.crdt_core.specs.Log.{lease_for}
 use Rattle.crdt_core.specs.Parts.{above}
 use Rattle.world_model.specs.Plan.{Plan, IsAllowed, MayPrepare, MayDecide, MayFinish, MayAbort, MayTake}
 use Rattle.world_model.proofs.Names.{clash, off, part_cases}
 
 -- an image of the log itself
-log_image : {E : Type 0} (log rs : List (Record E)) → IsImage log rs log
+log_image : {E : Type 0} (log rs : List (Record E)) → MayFind log rs log
 log_image log [] = refl
 log_image log (r ∷ rs) = inl refl
 
-pub image_log : {E : Type 0} (p : PartState E) → Image p p.log
+pub image_log : {E : Type 0} (p : PartState E) → Finds p p.log
 image_log p = log_image p.log p.torn
 
 pub named_by : (o : Option TxId) (t : TxId) → o ≡ Some t → is_named o t ≡ true
@@ -46,7 +46,7 @@ module _ {E : Type 0} where
     pub taken : (t : TxId) → taken a t ≡ taken b t
     pub taken_at : (t : TxId) → taken_at a t ≡ taken_at b t
     pub taken_changes : (t : TxId) → taken_changes a t ≡ taken_changes b t
-    pub bound : (j : ℕ) → bound a j ≡ bound b j
+    pub bound : (j : ℕ) → logged_bound a j ≡ logged_bound b j
 
   told_same : (a : List (Record E)) → SameTold a a
   told_same a = record { prepared = λ t. refl; time = λ t. refl; changes = λ t. refl; decided = λ t. refl; committed = λ t. refl; committed_at = λ t. refl; aborted = λ t. refl; last = refl; taken = λ t. refl; taken_at = λ t. refl; taken_changes = λ t. refl; bound = λ j. refl }
@@ -85,7 +85,7 @@ module _ {E : Type 0} where
 
   pub record Changed (plan : Plan E) (run : List (Entry E)) (before : PartId → PartState E) (up : Bool) (at : PartId) (event : Event E) (q : PartId) (new : List (Record E)) : Type 0 where
     pub old : List (Record E)
-    pub was : Image (before q) old
+    pub was : Finds (before q) old
     pub more : Record E
     pub told : SameTold new (more ∷ old)
     pub because : Because plan run before up at event q old more
@@ -101,7 +101,7 @@ module _ {E : Type 0} where
   last_is_decided (Abort u ∷ log) t h = last_is_decided log t h
   last_is_decided (Batch m ∷ log) t h = last_is_decided log t h
 
-  pub grown_image : (log rs : List (Record E)) → IsImage log rs (grown log rs)
+  pub grown_image : (log rs : List (Record E)) → MayFind log rs (grown log rs)
   grown_image log [] = refl
   grown_image log (r ∷ rs) = inr (grown_image (r ∷ log) rs)
 
@@ -112,11 +112,11 @@ module _ {E : Type 0} where
   -- a step as the parts of the invariant see it, whatever its event
   pub record Move (plan : Plan E) (run : List (Entry E)) (before after : PartId → PartState E) (at : PartId) (event : Event E) : Type 0 where
     pub allowed : IsAllowed plan run before at (attempt event)
-    pub changed : (q : PartId) (new : List (Record E)) → Image (after q) new → Changed plan run before (after q).up at event q new
+    pub changed : (q : PartId) (new : List (Record E)) → Finds (after q) new → Changed plan run before (after q).up at event q new
     -- what an event shows stands in each image
-    pub votes : (t : TxId) → is_prepare event t ≡ true → (new : List (Record E)) → Image (after at) new → (prepared new t ≡ true) × (prepare_time new t ≡ time_shown event)
-    pub decides : (t : TxId) → shows_decided event t ≡ true → (new : List (Record E)) → Image (after at) new → (decided new t ≡ true) ⊎ ((at ≡ plan.lead t) × (committed new t ≡ true))
-    pub aborts : (t : TxId) → is_abort event t ≡ true → (new : List (Record E)) → Image (after at) new → aborted new t ≡ true
+    pub votes : (t : TxId) → is_prepare event t ≡ true → (new : List (Record E)) → Finds (after at) new → (prepared new t ≡ true) × (prepare_time new t ≡ time_shown event)
+    pub decides : (t : TxId) → shows_decided event t ≡ true → (new : List (Record E)) → Finds (after at) new → (decided new t ≡ true) ⊎ ((at ≡ plan.lead t) × (committed new t ≡ true))
+    pub aborts : (t : TxId) → is_abort event t ≡ true → (new : List (Record E)) → Finds (after at) new → aborted new t ≡ true
     pub late : (t : TxId) → is_prepare event t ≡ true → entry (plan.snapshot t) at.site < time_shown event
 
   module _ (plan : Plan E) (run : List (Entry E)) (before : PartId → PartState E) where
@@ -128,8 +128,8 @@ module _ {E : Type 0} where
     one_more up at event new r h s b = record { old = (before at).log; was = image_log (before at); more = r; told = s; because = b; downs = λ t k _. clash h k }
 
     -- a lease, or none, and then these records
-    with_lease : (up : Bool) (at : PartId) (n : ℕ) (event : Event E) (new rs : List (Record E)) → (before at).up ≡ true → (IsImage (before at).log rs new → Changed plan run before up at event at new) → ((k : ℕ) → IsImage (Lease k ∷ (before at).log) rs new → Changed plan run before up at event at new) → IsImage (before at).log (lease_for (before at).log n ++ rs) new → Changed plan run before up at event at new
-    with_lease up at n event new rs h plain leased = elim (leb n (ceiling (before at).log)) as (λ b. IsImage (before at).log (cond b [] (Lease (min (n + 1000) end_of_time) ∷ []) ++ rs) new → Changed plan run before up at event at new) [
+    with_lease : (up : Bool) (at : PartId) (n : ℕ) (event : Event E) (new rs : List (Record E)) → (before at).up ≡ true → (MayFind (before at).log rs new → Changed plan run before up at event at new) → ((k : ℕ) → MayFind (Lease k ∷ (before at).log) rs new → Changed plan run before up at event at new) → MayFind (before at).log (lease_for (before at).log n ++ rs) new → Changed plan run before up at event at new
+    with_lease up at n event new rs h plain leased = elim (leb n (ceiling (before at).log)) as (λ b. MayFind (before at).log (cond b [] (Lease (min (n + 1000) end_of_time) ∷ []) ++ rs) new → Changed plan run before up at event at new) [
       | true ↦ plain
       | false ↦ λ i. ⊎_elim (λ (e : new ≡ (before at).log). nothing_more up at event new h (told_as new _ _ e (told_log (before at).log))) (leased (min (n + 1000) end_of_time)) i
     ]
@@ -145,25 +145,25 @@ module _ {E : Type 0} where
     one_record up at event new r h b i = ⊎_elim (λ e. no_lease up at event new h e) (λ e. one_more up at event new r h (told_as new _ _ e (told_same (r ∷ (before at).log))) b) i
 
     -- a record where a transaction is pending
-    if_pending : (up : Bool) (at : PartId) (event : Event E) (new : List (Record E)) (t : TxId) (r : Record E) → (before at).up ≡ true → (pending (before at).log t ≡ true → Because plan run before up at event at (before at).log r) → IsImage (before at).log (cond (pending (before at).log t) (r ∷ []) []) new → Changed plan run before up at event at new
+    if_pending : (up : Bool) (at : PartId) (event : Event E) (new : List (Record E)) (t : TxId) (r : Record E) → (before at).up ≡ true → (pending (before at).log t ≡ true → Because plan run before up at event at (before at).log r) → MayFind (before at).log (cond (pending (before at).log t) (r ∷ []) []) new → Changed plan run before up at event at new
     if_pending up at event new t r h b i = ⊎_elim
-        (λ (k : pending (before at).log t ≡ true). one_record up at event new r h (b k) (subst (λ x. IsImage (before at).log (cond x (r ∷ []) []) new) k i))
-        (λ (k : pending (before at).log t ≡ false). no_lease up at event new h (subst (λ x. IsImage (before at).log (cond x (r ∷ []) []) new) k i))
+        (λ (k : pending (before at).log t ≡ true). one_record up at event new r h (b k) (subst (λ x. MayFind (before at).log (cond x (r ∷ []) []) new) k i))
+        (λ (k : pending (before at).log t ≡ false). no_lease up at event new h (subst (λ x. MayFind (before at).log (cond x (r ∷ []) []) new) k i))
         (cases_Bool (pending (before at).log t))
 
     -- what a message brings
-    batched : (up : Bool) (at : PartId) (event : Event E) (new : List (Record E)) (number : ℕ) (m : Message E) → (before at).up ≡ true → MayTake plan run at number m → m.lo ≤ entry (before at).bounds m.from → (xs : List (Part E)) → above m.from (entry (before at).bounds m.from) m.parts ≡ xs → IsImage (before at).log (batch_of m (entry (before at).bounds m.from) xs) new → Changed plan run before up at event at new
+    batched : (up : Bool) (at : PartId) (event : Event E) (new : List (Record E)) (number : ℕ) (m : Message E) → (before at).up ≡ true → MayTake plan run at number m → m.lo ≤ entry (before at).bounds m.from → (xs : List (Part E)) → above m.from (entry (before at).bounds m.from) m.parts ≡ xs → MayFind (before at).log (batch_of m (entry (before at).bounds m.from) xs) new → Changed plan run before up at event at new
     batched up at event new number m h al low [] e i = no_lease up at event new h i
     batched up at event new number m h al low (x ∷ xs) e i = one_record up at event new (Batch (record { from = m.from; to = m.to; part = m.part; lo = entry (before at).bounds m.from; hi = m.hi; parts = x ∷ xs })) h (refl, record { up = h; number = number; whole = m; taken = al; low = low; from = refl; hi = refl; parts = sym e }) i
 
-    same_part_image : (up : Bool) (at : PartId) (event : Event E) (q : PartId) (new : List (Record E)) → up ≡ (before q).up → Image (before q) new → Changed plan run before up at event q new
+    same_part_image : (up : Bool) (at : PartId) (event : Event E) (q : PartId) (new : List (Record E)) → up ≡ (before q).up → Finds (before q) new → Changed plan run before up at event q new
     same_part_image up at event q new e i = record { old = new; was = i; more = Lease 0; told = told_log new; because = tt; downs = λ t k l. inr (e ∙ k, l) }
 
     module _ {S : Type 0} (kinds : Kinds S E) where
       -- what the records of an event may leave
-      recorded : (up : Bool) (at : PartId) (event a : Event E) (new : List (Record E)) → (before at).up ≡ true → attempt event ≡ a → MayDo kinds plan.sites plan.parts at (before at) a → IsAllowed plan run before at a → ((t : TxId) → is_decide a t ≡ true → (shows_decided event t ≡ true) ⊎ (up ≡ false)) → IsImage (before at).log (records (before at) a) new → Changed plan run before up at event at new
-      recorded up at event (Ticked r n) new h s m al d i = with_lease up at n event new [] h (λ e. no_lease up at event new h e) (λ k e. only_lease up at event new k h e) (subst (λ rs. IsImage (before at).log rs new) (sym (append-nil (lease_for (before at).log n))) i)
-      recorded up at event (Began who dep t v) new h s m al d i = with_lease up at t.time event new [] h (λ e. no_lease up at event new h e) (λ k e. only_lease up at event new k h e) (subst (λ rs. IsImage (before at).log rs new) (sym (append-nil (lease_for (before at).log t.time))) i)
+      recorded : (up : Bool) (at : PartId) (event a : Event E) (new : List (Record E)) → (before at).up ≡ true → attempt event ≡ a → MayDo kinds plan.sites plan.parts at (before at) a → IsAllowed plan run before at a → ((t : TxId) → is_decide a t ≡ true → (shows_decided event t ≡ true) ⊎ (up ≡ false)) → MayFind (before at).log (records (before at) a) new → Changed plan run before up at event at new
+      recorded up at event (Ticked r n) new h s m al d i = with_lease up at n event new [] h (λ e. no_lease up at event new h e) (λ k e. only_lease up at event new k h e) (subst (λ rs. MayFind (before at).log rs new) (sym (append-nil (lease_for (before at).log n))) i)
+      recorded up at event (Began who dep t v) new h s m al d i = with_lease up at t.time event new [] h (λ e. no_lease up at event new h e) (λ k e. only_lease up at event new k h e) (subst (λ rs. MayFind (before at).log rs new) (sym (append-nil (lease_for (before at).log t.time))) i)
       recorded up at event (Updated t v o own op read u stamp) new h s m al d i = no_lease up at event new h i
       recorded up at event (Read t v o own read value) new h s m al d i = no_lease up at event new h i
       recorded up at event (Prepared t v l w n) new h s m al d i = with_lease up at n event new (Prepare t l n v w ∷ []) h (one_record up at event new (Prepare t l n v w) h (refl, s, m.1, al))
@@ -184,7 +184,7 @@ module _ {E : Type 0} where
 
   module _ {S : Type 0} (kinds : Kinds S E) (plan : Plan E) (run : List (Entry E)) (before after : PartId → PartState E) (at : PartId) where
     abbrev Here : Event E → Type 0
-    Here event = (new : List (Record E)) → Image (after at) new → Changed plan run before (after at).up at event at new
+    Here event = (new : List (Record E)) → Finds (after at) new → Changed plan run before (after at).up at event at new
 
     abbrev Step : Event E → Type 0
     Step event = PartStep kinds plan.sites plan.parts at (before at) event (after at)
@@ -192,16 +192,16 @@ module _ {E : Type 0} where
     -- where the event was done the one image is the log, where it was cut off any
     here_done : (event : Event E) → attempt event ≡ event → ((t : TxId) → is_decide event t ≡ true → shows_decided event t ≡ true) → (before at).up ≡ true → MayDo kinds plan.sites plan.parts at (before at) event → IsAllowed plan run before at event → after at ≡ done (before at) event → Here event
     here_done event s d h m al e new i =
-        let i' : Image (done (before at) event) new = subst (λ p. Image p new) e i in
-        recorded plan run before kinds (after at).up at event event new h s m al (λ t k. inl (d t k)) (subst (λ x. IsImage (before at).log (records (before at) event) x) (sym i') (grown_image (before at).log (records (before at) event)))
+        let i' : Finds (done (before at) event) new = subst (λ p. Finds p new) e i in
+        recorded plan run before kinds (after at).up at event event new h s m al (λ t k. inl (d t k)) (subst (λ x. MayFind (before at).log (records (before at) event) x) (sym i') (grown_image (before at).log (records (before at) event)))
 
     here_cut : (what : Event E) → (before at).up ≡ true → MayDo kinds plan.sites plan.parts at (before at) what → IsAllowed plan run before at what → after at ≡ cut (before at) what → Here (Cut what)
-    here_cut what h m al e new i = recorded plan run before kinds (after at).up at (Cut what) what new h refl m al (λ t k. inr (ap (λ p. p.up) e)) (subst (λ p. Image p new) e i)
+    here_cut what h m al e new i = recorded plan run before kinds (after at).up at (Cut what) what new h refl m al (λ t k. inr (ap (λ p. p.up) e)) (subst (λ p. Finds p new) e i)
 
     here_down : (event : Event E) → after at ≡ down (before at) (before at).torn → Here event
     here_down event s new i = record {
       old = new;
-      was = subst (λ p. Image p new) s i;
+      was = subst (λ p. Finds p new) s i;
       more = Lease 0;
       told = told_log new;
       because = tt;
@@ -210,7 +210,7 @@ module _ {E : Type 0} where
 
     here_restarted : (n : ℕ) (b : List ℕ) (named : Option TxId) (listed : List (TxId × ℕ)) → Step (Restarted n b named listed) → Here (Restarted n b named listed)
     here_restarted n b named listed s new i =
-        let e : new ≡ (after at).log = subst (λ rs. IsImage (after at).log rs new) s.whole i in record {
+        let e : new ≡ (after at).log = subst (λ rs. MayFind (after at).log rs new) s.whole i in record {
           old = (after at).log;
           was = s.found;
           more = Lease 0;
@@ -220,7 +220,7 @@ module _ {E : Type 0} where
         }
 
     here_refused : (asked : Ask E) (why : Refusal) → Step (Refused asked why) → Here (Refused asked why)
-    here_refused asked why s new i = same_part_image plan run before (after at).up at (Refused asked why) at new (ap (λ p. p.up) s.1) (subst (λ p. Image p new) s.1 i)
+    here_refused asked why s new i = same_part_image plan run before (after at).up at (Refused asked why) at new (ap (λ p. p.up) s.1) (subst (λ p. Finds p new) s.1 i)
 
     here : (event : Event E) → IsAllowed plan run before at (attempt event) → Step event → Here event
     here (Ticked r n) al s = here_done (Ticked r n) refl (λ t k. off k) s.0 s.1 al s.2
@@ -240,18 +240,18 @@ module _ {E : Type 0} where
     here RestartCut al s = here_down RestartCut s
     here (Restarted n b named listed) al s = here_restarted n b named listed s
     here (Refused asked why) al s = here_refused asked why s
-    here (Opened who) al s = λ new i. same_part_image plan run before (after at).up at (Opened who) at new (ap (λ p. p.up) s) (subst (λ p. Image p new) s i)
+    here (Opened who) al s = λ new i. same_part_image plan run before (after at).up at (Opened who) at new (ap (λ p. p.up) s) (subst (λ p. Finds p new) s i)
 
-    everywhere : (event : Event E) → IsAllowed plan run before at (attempt event) → Step event → ((q : PartId) → q ≢ at → after q ≡ before q) → (q : PartId) (new : List (Record E)) → Image (after q) new → Changed plan run before (after q).up at event q new
+    everywhere : (event : Event E) → IsAllowed plan run before at (attempt event) → Step event → ((q : PartId) → q ≢ at → after q ≡ before q) → (q : PartId) (new : List (Record E)) → Finds (after q) new → Changed plan run before (after q).up at event q new
     everywhere event al s others q new i = ⊎_elim
-        (λ (e : q ≡ at). subst (λ (x : PartId). (new : List (Record E)) → Image (after x) new → Changed plan run before (after x).up at event x new) (sym e) (here event al s) new i)
-        (λ (ne : q ≡ at → ⊥). same_part_image plan run before (after q).up at event q new (ap (λ p. p.up) (others q ne)) (subst (λ p. Image p new) (others q ne) i))
+        (λ (e : q ≡ at). subst (λ (x : PartId). (new : List (Record E)) → Finds (after x) new → Changed plan run before (after x).up at event x new) (sym e) (here event al s) new i)
+        (λ (ne : q ≡ at → ⊥). same_part_image plan run before (after q).up at event q new (ap (λ p. p.up) (others q ne)) (subst (λ p. Finds p new) (others q ne) i))
         (part_cases q at)
 
-    the_log : (event : Event E) (new : List (Record E)) → after at ≡ done (before at) event → Image (after at) new → new ≡ grown (before at).log (records (before at) event)
-    the_log event new e i = subst (λ p. Image p new) e i
+    the_log : (event : Event E) (new : List (Record E)) → after at ≡ done (before at) event → Finds (after at) new → new ≡ grown (before at).log (records (before at) event)
+    the_log event new e i = subst (λ p. Finds p new) e i
 
-    votes_of : (event : Event E) → Step event → (t : TxId) → is_prepare event t ≡ true → (new : List (Record E)) → Image (after at) new → (prepared new t ≡ true) × (prepare_time new t ≡ time_shown event)
+    votes_of : (event : Event E) → Step event → (t : TxId) → is_prepare event t ≡ true → (new : List (Record E)) → Finds (after at) new → (prepared new t ≡ true) × (prepare_time new t ≡ time_shown event)
     votes_of (Prepared u v l w n) s t h new i =
         let log = (before at).log in
         let e : new ≡ Prepare u l n v w ∷ grown log (lease_for log n) = the_log (Prepared u v l w n) new s.2 i ∙ grown_last log (lease_for log n) (Prepare u l n v w) in
@@ -265,16 +265,16 @@ module _ {E : Type 0} where
         (λ (k : pending log u ≡ false). subst (λ x. committed (grown log (cond x (Decide u c ∷ []) [])) u ≡ true) (sym k) (⊎_elim (λ (x : pending log u ≡ true). clash x k) (λ (x : committed log u ≡ true). x) (or_cases _ _ h)))
         (cases_Bool (pending log u))
 
-    decides_of : (event : Event E) → IsAllowed plan run before at (attempt event) → Step event → (t : TxId) → shows_decided event t ≡ true → (new : List (Record E)) → Image (after at) new → (decided new t ≡ true) ⊎ ((at ≡ plan.lead t) × (committed new t ≡ true))
+    decides_of : (event : Event E) → IsAllowed plan run before at (attempt event) → Step event → (t : TxId) → shows_decided event t ≡ true → (new : List (Record E)) → Finds (after at) new → (decided new t ≡ true) ⊎ ((at ≡ plan.lead t) × (committed new t ≡ true))
     decides_of (Decided u c) al s t h new i =
         let e = same_tx_is u t h in
         inr (al.lead ∙ ap plan.lead e, ap (λ x. committed x t) (the_log (Decided u c) new s.2 i) ∙ subst (λ x. committed (grown (before at).log (records (before at) (Decided u c))) x ≡ true) e (decide_stands (before at).log u c s.1))
     decides_of (Restarted n b named listed) al s t h new i =
-        let e : new ≡ (after at).log = subst (λ rs. IsImage (after at).log rs new) s.whole i in
+        let e : new ≡ (after at).log = subst (λ rs. MayFind (after at).log rs new) s.whole i in
         inl (last_is_decided new t (ap (λ o. is_named o t) (ap last_decided e ∙ sym s.last) ∙ h))
     decides_of event al s t h new i = off h
 
-    aborts_of : (event : Event E) → Step event → (t : TxId) → is_abort event t ≡ true → (new : List (Record E)) → Image (after at) new → aborted new t ≡ true
+    aborts_of : (event : Event E) → Step event → (t : TxId) → is_abort event t ≡ true → (new : List (Record E)) → Finds (after at) new → aborted new t ≡ true
     aborts_of (Aborted u own) s t h new i = ap (λ x. aborted x t) (the_log (Aborted u own) new s.2 i) ∙ or_left (same_tx u t) _ h
     aborts_of event s t h new i = off h
 

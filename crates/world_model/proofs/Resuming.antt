@@ -11,10 +11,10 @@ use Rattle.crdt_core.specs.declared.record.Part.{Part}
 use Rattle.crdt_core.specs.declared.record.Message.{Message}
 use Rattle.crdt_core.specs.declared.record.Record.{Record}
 use Rattle.crdt_core.specs.declared.record.Record.TheVariants.{Lease, Prepare, Decide, Finish, Abort, Batch}
-use Rattle.crdt_core.specs.Log.{end_of_time, ceiling, pending, prepare_time, last_decided, bound, grown, IsImage}
+use Rattle.crdt_core.specs.Log.{end_of_time, ceiling, pending, prepare_time, last_decided, logged_bound, grown, MayFind}
 use Rattle.world_model.specs.Event.{Event, Ticked, Began, Updated, Read, Prepared, Decided, Finished, Aborted, Sent, Took, Reported, Heard, Crashed, RestartCut, Restarted, Refused, Opened, Cut, Entry, attempt, sent_count, WasNumbered}
 use Rattle.crdt_core.specs.KindsOf.{Kinds}
-use Rattle.world_model.specs.Partition.{PartState, Image, IsOther, batch_of, records, done, MayDo, names_pending, PartStep}
+use Rattle.world_model.specs.Partition.{PartState, Finds, IsOther, batch_of, records, done, MayDo, names_pending, PartStep}
 use Rattle.crdt_core.specs.Log.{lease_for}
 use Rattle.crdt_core.specs.Parts.{above}
 use Rattle.world_model.specs.Plan.{Plan, twin, IsAllowed, IsRun}
@@ -33,14 +33,14 @@ module _ {E : Type 0} where
   record Alike (m log : List (Record E)) : Type 0 where
     pub pending : (t : TxId) → pending m t ≡ pending log t
     pub time : (t : TxId) → prepare_time m t ≡ prepare_time log t
-    pub bound : (j : ℕ) → bound m j ≡ bound log j
+    pub bound : (j : ℕ) → logged_bound m j ≡ logged_bound log j
     pub last : last_decided m ≡ last_decided log
 
   alike_same : (m log : List (Record E)) → m ≡ log → Alike m log
-  alike_same m log e = record { pending = λ t. ap (λ x. pending x t) e; time = λ t. ap (λ x. prepare_time x t) e; bound = λ j. ap (λ x. bound x j) e; last = ap last_decided e }
+  alike_same m log e = record { pending = λ t. ap (λ x. pending x t) e; time = λ t. ap (λ x. prepare_time x t) e; bound = λ j. ap (λ x. logged_bound x j) e; last = ap last_decided e }
 
   alike_leased : (m log : List (Record E)) (k : ℕ) → m ≡ Lease k ∷ log → Alike m log
-  alike_leased m log k e = record { pending = λ t. ap (λ x. pending x t) e; time = λ t. ap (λ x. prepare_time x t) e; bound = λ j. ap (λ x. bound x j) e; last = ap last_decided e }
+  alike_leased m log k e = record { pending = λ t. ap (λ x. pending x t) e; time = λ t. ap (λ x. prepare_time x t) e; bound = λ j. ap (λ x. logged_bound x j) e; last = ap last_decided e }
 
   -- all records of a call, or none that tells more
   abbrev IsTwo : List (Record E) → List (Record E) → List (Record E) → Type 0
@@ -49,27 +49,27 @@ module _ {E : Type 0} where
   two_none : (log m : List (Record E)) → m ≡ log → IsTwo log [] m
   two_none log m i = inr i
 
-  two_one : (log m : List (Record E)) (r : Record E) → IsImage log (r ∷ []) m → IsTwo log (r ∷ []) m
+  two_one : (log m : List (Record E)) (r : Record E) → MayFind log (r ∷ []) m → IsTwo log (r ∷ []) m
   two_one log m r i = ⊎_elim (λ (e : m ≡ log). inl (alike_same m log e)) (λ (e : m ≡ r ∷ log). inr e) i
 
-  two_if : (log m : List (Record E)) (b : Bool) (r : Record E) → IsImage log (cond b (r ∷ []) []) m → IsTwo log (cond b (r ∷ []) []) m
+  two_if : (log m : List (Record E)) (b : Bool) (r : Record E) → MayFind log (cond b (r ∷ []) []) m → IsTwo log (cond b (r ∷ []) []) m
   two_if log m true r i = two_one log m r i
   two_if log m false r i = two_none log m i
 
-  two_lease : (log m : List (Record E)) (n : ℕ) → IsImage log (lease_for log n) m → IsTwo log (lease_for log n) m
+  two_lease : (log m : List (Record E)) (n : ℕ) → MayFind log (lease_for log n) m → IsTwo log (lease_for log n) m
   two_lease log m n i = go (leb n (ceiling log)) i
     where
-      go : (b : Bool) → IsImage log (cond b [] (Lease (min (n + 1000) end_of_time) ∷ [])) m → IsTwo log (cond b [] (Lease (min (n + 1000) end_of_time) ∷ [])) m
+      go : (b : Bool) → MayFind log (cond b [] (Lease (min (n + 1000) end_of_time) ∷ [])) m → IsTwo log (cond b [] (Lease (min (n + 1000) end_of_time) ∷ [])) m
       go true i = two_none log m i
       go false i = two_one log m (Lease (min (n + 1000) end_of_time)) i
 
-  two_prepare : (log m : List (Record E)) (n : ℕ) (r : Record E) → IsImage log (lease_for log n ++ r ∷ []) m → IsTwo log (lease_for log n ++ r ∷ []) m
+  two_prepare : (log m : List (Record E)) (n : ℕ) (r : Record E) → MayFind log (lease_for log n ++ r ∷ []) m → IsTwo log (lease_for log n ++ r ∷ []) m
   two_prepare log m n r i = go (leb n (ceiling log)) i
     where
       k : ℕ
       k = min (n + 1000) end_of_time
 
-      go : (b : Bool) → IsImage log (cond b [] (Lease (min (n + 1000) end_of_time) ∷ []) ++ r ∷ []) m → Alike m log ⊎ (m ≡ grown log (cond b [] (Lease (min (n + 1000) end_of_time) ∷ []) ++ r ∷ []))
+      go : (b : Bool) → MayFind log (cond b [] (Lease (min (n + 1000) end_of_time) ∷ []) ++ r ∷ []) m → Alike m log ⊎ (m ≡ grown log (cond b [] (Lease (min (n + 1000) end_of_time) ∷ []) ++ r ∷ []))
       go true i = ⊎_elim (λ (e : m ≡ log). inl (alike_same m log e)) (λ (e : m ≡ r ∷ log). inr e) i
       go false i = ⊎_elim
           (λ (e : m ≡ log). inl (alike_same m log e))
@@ -79,11 +79,11 @@ module _ {E : Type 0} where
           x)
           i
 
-  two_batch : (log m : List (Record E)) (x : Message E) (b : ℕ) (xs : List (Part E)) → IsImage log (batch_of x b xs) m → IsTwo log (batch_of x b xs) m
+  two_batch : (log m : List (Record E)) (x : Message E) (b : ℕ) (xs : List (Part E)) → MayFind log (batch_of x b xs) m → IsTwo log (batch_of x b xs) m
   two_batch log m x b [] i = two_none log m i
   two_batch log m x b (y ∷ ys) i = two_one log m (Batch (record { from = x.from; to = x.to; part = x.part; lo = b; hi = x.hi; parts = y ∷ ys })) i
 
-  two_images : {S : Type 0} (kinds : Kinds S E) (sites parts : ℕ) (id : PartId) (p : PartState E) (a : Event E) (m : List (Record E)) → MayDo kinds sites parts id p a → IsImage p.log (records p a) m → IsTwo p.log (records p a) m
+  two_images : {S : Type 0} (kinds : Kinds S E) (sites parts : ℕ) (id : PartId) (p : PartState E) (a : Event E) (m : List (Record E)) → MayDo kinds sites parts id p a → MayFind p.log (records p a) m → IsTwo p.log (records p a) m
   two_images kinds sites parts id p (Ticked r n) m k i = two_lease p.log m n i
   two_images kinds sites parts id p (Began who dep t s) m k i = two_lease p.log m t.time i
   two_images kinds sites parts id p (Prepared t s l w n) m k i = two_prepare p.log m n (Prepare t l n s w) i
@@ -94,26 +94,26 @@ module _ {E : Type 0} where
   two_images kinds sites parts id p a m k i = two_none p.log m i
 
   -- the bound that a log tells after its records
-  pub batch_bound : (log : List (Record E)) (x : Message E) (b j : ℕ) (xs : List (Part E)) → bound (grown log (batch_of x b xs)) j ≡ cond (x.from == j && is_some_part xs) (max x.hi (bound log j)) (bound log j)
+  pub batch_bound : (log : List (Record E)) (x : Message E) (b j : ℕ) (xs : List (Part E)) → logged_bound (grown log (batch_of x b xs)) j ≡ cond (x.from == j && is_some_part xs) (max x.hi (logged_bound log j)) (logged_bound log j)
   batch_bound log x b j [] = sym (cond-false _ _ _ (and_right (x.from == j) false refl))
   batch_bound log x b j (y ∷ ys) = go (x.from == j)
     where
-      go : (c : Bool) → cond c (max x.hi (bound log j)) (bound log j) ≡ cond (c && true) (max x.hi (bound log j)) (bound log j)
+      go : (c : Bool) → cond c (max x.hi (logged_bound log j)) (logged_bound log j) ≡ cond (c && true) (max x.hi (logged_bound log j)) (logged_bound log j)
       go true = refl
       go false = refl
 
-  pub leased_bound : (log : List (Record E)) (n j : ℕ) → bound (grown log (lease_for log n)) j ≡ bound log j
-  leased_bound log n j = cond_both (leb n (ceiling log)) [] (Lease (min (n + 1000) end_of_time) ∷ []) (λ rs. bound (grown log rs) j ≡ bound log j) (λ e. refl) (λ e. refl)
+  pub leased_bound : (log : List (Record E)) (n j : ℕ) → logged_bound (grown log (lease_for log n)) j ≡ logged_bound log j
+  leased_bound log n j = cond_both (leb n (ceiling log)) [] (Lease (min (n + 1000) end_of_time) ∷ []) (λ rs. logged_bound (grown log rs) j ≡ logged_bound log j) (λ e. refl) (λ e. refl)
 
-  pub if_bound : (log : List (Record E)) (c : Bool) (r : Record E) (j : ℕ) → bound (r ∷ log) j ≡ bound log j → bound (grown log (cond c (r ∷ []) [])) j ≡ bound log j
+  pub if_bound : (log : List (Record E)) (c : Bool) (r : Record E) (j : ℕ) → logged_bound (r ∷ log) j ≡ logged_bound log j → logged_bound (grown log (cond c (r ∷ []) [])) j ≡ logged_bound log j
   if_bound log true r j h = h
   if_bound log false r j h = refl
 
   module _ {S : Type 0} (kinds : Kinds S E) (plan : Plan E) (run : List (Entry E)) (before : PartId → PartState E) (at : PartId) (w : Shown plan run before) where
-    done_bound : (a : Event E) → IsAllowed plan run before at a → MayDo kinds plan.sites plan.parts at (before at) a → (before at).up ≡ true → (j : ℕ) → bound (before at).log j ≡ brought run at j → bound (grown (before at).log (records (before at) a)) j ≡ brought_after run at j (brought run at j) a
+    done_bound : (a : Event E) → IsAllowed plan run before at a → MayDo kinds plan.sites plan.parts at (before at) a → (before at).up ≡ true → (j : ℕ) → logged_bound (before at).log j ≡ brought run at j → logged_bound (grown (before at).log (records (before at) a)) j ≡ brought_after run at j (brought run at j) a
     done_bound (Ticked r n) al k up j h = leased_bound (before at).log n j ∙ h
     done_bound (Began who dep t s) al k up j h = leased_bound (before at).log t.time j ∙ h
-    done_bound (Prepared t s l c n) al k up j h = ap (λ x. bound x j) (grown_last (before at).log (lease_for (before at).log n) (Prepare t l n s c)) ∙ leased_bound (before at).log n j ∙ h
+    done_bound (Prepared t s l c n) al k up j h = ap (λ x. logged_bound x j) (grown_last (before at).log (lease_for (before at).log n) (Prepare t l n s c)) ∙ leased_bound (before at).log n j ∙ h
     done_bound (Decided t c) al k up j h = if_bound (before at).log (pending (before at).log t) (Decide t c) j refl ∙ h
     done_bound (Finished t c) al k up j h = if_bound (before at).log (pending (before at).log t) (Finish t c) j refl ∙ h
     done_bound (Aborted t own) al k up j h = h
@@ -173,7 +173,7 @@ module _ {E : Type 0} where
   record Tells (plan : Plan E) (p : PartId) (pend : TxId → Bool) (drawn : TxId → ℕ) (ends : ℕ → ℕ) (named : Option TxId) (m : List (Record E)) : Type 0 where
     pub waits : (t : TxId) → pending m t ≡ pend t
     pub since : (t : TxId) → pending m t ≡ true → prepare_time m t ≡ drawn t
-    pub upto : (j : ℕ) → IsOther plan.sites p.site j → bound m j ≡ ends j
+    pub upto : (j : ℕ) → IsOther plan.sites p.site j → logged_bound m j ≡ ends j
     pub decided : last_decided m ≡ named
 
   abbrev TellsBefore : Plan E → List (Entry E) → PartId → List (Record E) → Type 0
@@ -187,8 +187,8 @@ module _ {E : Type 0} where
 
   record Resumable (plan : Plan E) (run : List (Entry E)) (parts : PartId → PartState E) : Type 0 where
     pub decided : (p : PartId) → (parts p).up ≡ true → last_decided (parts p).log ≡ last_shown run p
-    pub up : (p : PartId) → (parts p).up ≡ true → (j : ℕ) → IsOther plan.sites p.site j → bound (parts p).log j ≡ brought run p j
-    pub down : (p : PartId) → (parts p).up ≡ false → (m : List (Record E)) → Image (parts p) m → TellsTwo plan run p m
+    pub up : (p : PartId) → (parts p).up ≡ true → (j : ℕ) → IsOther plan.sites p.site j → logged_bound (parts p).log j ≡ brought run p j
+    pub down : (p : PartId) → (parts p).up ≡ false → (m : List (Record E)) → Finds (parts p) m → TellsTwo plan run p m
 
   -- the later run shows the same of p
   record SameView (run next : List (Entry E)) (p : PartId) : Type 0 where
@@ -263,7 +263,7 @@ module _ {E : Type 0} where
         let x = here kinds plan run before (λ q. done (before at) what) at f w what al' st in record {
           waits = λ t. ap (λ y. pending y t) e ∙ x.waiting t refl;
           since = λ t p. ap (λ y. prepare_time y t) e ∙ x.time t refl (ap (λ y. pending y t) (sym e) ∙ p);
-          upto = λ j o. ap (λ y. bound y j) e ∙ done_bound kinds plan run before at w what al k up j (h.up at up j o);
+          upto = λ j o. ap (λ y. logged_bound y j) e ∙ done_bound kinds plan run before at w what al k up j (h.up at up j o);
           decided = ap last_decided e ∙ done_last kinds plan run before at f what al k up (h.decided at up);
         }
 
@@ -297,7 +297,7 @@ module _ {E : Type 0} where
     abbrev next : Event E → List (Entry E)
     next event = (record { at = at; event = event }) ∷ run
 
-    cut_here : (what : Event E) → IsAllowed plan run before at what → PartStep kinds plan.sites plan.parts at (before at) (Cut what) (after at) → (m : List (Record E)) → Image (after at) m → TellsTwo plan (next (Cut what)) at m
+    cut_here : (what : Event E) → IsAllowed plan run before at what → PartStep kinds plan.sites plan.parts at (before at) (Cut what) (after at) → (m : List (Record E)) → Finds (after at) m → TellsTwo plan (next (Cut what)) at m
     cut_here what al st m i =
         let v : SameView run (next (Cut what)) at = same_view run at (Cut what) (λ t. refl) (λ t. refl) (λ j. refl) (λ j. refl) refl in ⊎_elim
         (λ (x : Alike m (before at).log). inl (before_map plan run (next (Cut what)) at m v (tells_up st.0 m x)))
@@ -308,29 +308,29 @@ module _ {E : Type 0} where
           takeable_map plan run (next (Cut what)) at what v (λ k q a w'. inr w') (takeable_now what al st.0 st.1),
           done_map plan run (next (Cut what)) at what m v (tells_done what (allowed_done what st.1 al) al st.0 st.1 (step_done what st.0 st.1) m x),
         ))
-        (two_images kinds plan.sites plan.parts at (before at) what m st.1 (subst (λ p. Image p m) st.2 i))
+        (two_images kinds plan.sites plan.parts at (before at) what m st.1 (subst (λ p. Finds p m) st.2 i))
 
     -- whatever may be found, be it up or down
-    tells_any : (m : List (Record E)) → Image (before at) m → TellsTwo plan run at m
+    tells_any : (m : List (Record E)) → Finds (before at) m → TellsTwo plan run at m
     tells_any m i = ⊎_elim
-        (λ (u : (before at).up ≡ true). inl (tells_up u m (alike_same m (before at).log (subst (λ rs. IsImage (before at).log rs m) ((l.clock at).whole u) i))))
+        (λ (u : (before at).up ≡ true). inl (tells_up u m (alike_same m (before at).log (subst (λ rs. MayFind (before at).log rs m) ((l.clock at).whole u) i))))
         (λ (d : (before at).up ≡ false). h.down at d m i)
         (cases_Bool (before at).up)
 
-    crashed_here : PartStep kinds plan.sites plan.parts at (before at) Crashed (after at) → (m : List (Record E)) → Image (after at) m → TellsTwo plan (next Crashed) at m
+    crashed_here : PartStep kinds plan.sites plan.parts at (before at) Crashed (after at) → (m : List (Record E)) → Finds (after at) m → TellsTwo plan (next Crashed) at m
     crashed_here st m i =
         let v : SameView run (next Crashed) at = same_view run at Crashed (λ t. refl) (λ t. refl) (λ j. refl) (λ j. refl) refl in
-        two_map plan run (next Crashed) at m v (λ k q a x. inr x) (cond-true _ _ _ (same_part_refl at)) (tells_any m (subst (λ p. Image p m) st i))
+        two_map plan run (next Crashed) at m v (λ k q a x. inr x) (cond-true _ _ _ (same_part_refl at)) (tells_any m (subst (λ p. Finds p m) st i))
 
-    restart_cut_here : PartStep kinds plan.sites plan.parts at (before at) RestartCut (after at) → (m : List (Record E)) → Image (after at) m → TellsTwo plan (next RestartCut) at m
+    restart_cut_here : PartStep kinds plan.sites plan.parts at (before at) RestartCut (after at) → (m : List (Record E)) → Finds (after at) m → TellsTwo plan (next RestartCut) at m
     restart_cut_here st m i =
         let v : SameView run (next RestartCut) at = same_view run at RestartCut (λ t. refl) (λ t. refl) (λ j. refl) (λ j. refl) refl in
-        two_map plan run (next RestartCut) at m v (λ k q a x. inr x) (cond-true _ _ _ (same_part_refl at)) (tells_any m (subst (λ p. Image p m) st i))
+        two_map plan run (next RestartCut) at m v (λ k q a x. inr x) (cond-true _ _ _ (same_part_refl at)) (tells_any m (subst (λ p. Finds p m) st i))
 
-    stays_here : (event : Event E) → SameView run (next event) at → cut_call (next event) at ≡ cut_call run at → after at ≡ before at → (after at).up ≡ false → (m : List (Record E)) → Image (after at) m → TellsTwo plan (next event) at m
-    stays_here event v c e d m i = two_map plan run (next event) at m v (λ k q a x. inr x) c (h.down at (sym (ap (λ p. p.up) e) ∙ d) m (subst (λ p. Image p m) e i))
+    stays_here : (event : Event E) → SameView run (next event) at → cut_call (next event) at ≡ cut_call run at → after at ≡ before at → (after at).up ≡ false → (m : List (Record E)) → Finds (after at) m → TellsTwo plan (next event) at m
+    stays_here event v c e d m i = two_map plan run (next event) at m v (λ k q a x. inr x) c (h.down at (sym (ap (λ p. p.up) e) ∙ d) m (subst (λ p. Finds p m) e i))
 
-    down_here : (event : Event E) → IsAllowed plan run before at (attempt event) → PartStep kinds plan.sites plan.parts at (before at) event (after at) → (after at).up ≡ false → (m : List (Record E)) → Image (after at) m → TellsTwo plan (next event) at m
+    down_here : (event : Event E) → IsAllowed plan run before at (attempt event) → PartStep kinds plan.sites plan.parts at (before at) event (after at) → (after at).up ≡ false → (m : List (Record E)) → Finds (after at) m → TellsTwo plan (next event) at m
     down_here (Cut what) al st d m i = cut_here what al st m i
     down_here Crashed al st d m i = crashed_here st m i
     down_here RestartCut al st d m i = restart_cut_here st m i
@@ -362,16 +362,16 @@ module _ {E : Type 0} where
     last_here (Reported b) al st u = last_done (Reported b) al st.0 st.1 st.2
     last_here (Heard number q b stable) al st u = last_done (Heard number q b stable) al st.0 st.1 st.2
 
-    up_done : (event : Event E) → IsAllowed plan run before at event → (before at).up ≡ true → MayDo kinds plan.sites plan.parts at (before at) event → after at ≡ done (before at) event → (j : ℕ) → IsOther plan.sites at.site j → bound (after at).log j ≡ brought_after run at j (brought run at j) event
-    up_done event al up k e j o = ap (λ p. bound p.log j) e ∙ done_bound kinds plan run before at w event al k up j (h.up at up j o)
+    up_done : (event : Event E) → IsAllowed plan run before at event → (before at).up ≡ true → MayDo kinds plan.sites plan.parts at (before at) event → after at ≡ done (before at) event → (j : ℕ) → IsOther plan.sites at.site j → logged_bound (after at).log j ≡ brought_after run at j (brought run at j) event
+    up_done event al up k e j o = ap (λ p. logged_bound p.log j) e ∙ done_bound kinds plan run before at w event al k up j (h.up at up j o)
 
-    up_here : (event : Event E) → IsAllowed plan run before at (attempt event) → PartStep kinds plan.sites plan.parts at (before at) event (after at) → (after at).up ≡ true → (j : ℕ) → IsOther plan.sites at.site j → bound (after at).log j ≡ brought_after run at j (brought run at j) event
+    up_here : (event : Event E) → IsAllowed plan run before at (attempt event) → PartStep kinds plan.sites plan.parts at (before at) event (after at) → (after at).up ≡ true → (j : ℕ) → IsOther plan.sites at.site j → logged_bound (after at).log j ≡ brought_after run at j (brought run at j) event
     up_here (Cut what) al st u j o = clash u (ap (λ p. p.up) st.2)
     up_here Crashed al st u j o = clash u (ap (λ p. p.up) st)
     up_here RestartCut al st u j o = clash u (ap (λ p. p.up) st)
     up_here (Restarted n b named listed) al st u j o = sym (st.bounds j o) ∙ sym (st.shown_bounds.others j o)
-    up_here (Refused asked why) al st u j o = ap (λ p. bound p.log j) st.1 ∙ h.up at (sym (ap (λ p. p.up) st.1) ∙ u) j o
-    up_here (Opened who) al st u j o = ap (λ p. bound p.log j) st ∙ h.up at (sym (ap (λ p. p.up) st) ∙ u) j o
+    up_here (Refused asked why) al st u j o = ap (λ p. logged_bound p.log j) st.1 ∙ h.up at (sym (ap (λ p. p.up) st.1) ∙ u) j o
+    up_here (Opened who) al st u j o = ap (λ p. logged_bound p.log j) st ∙ h.up at (sym (ap (λ p. p.up) st) ∙ u) j o
     up_here (Ticked r n) al st u j o = up_done (Ticked r n) al st.0 st.1 st.2 j o
     up_here (Began who dep t s) al st u j o = up_done (Began who dep t s) al st.0 st.1 st.2 j o
     up_here (Updated t s y own op read x stamp) al st u j o = up_done (Updated t s y own op read x stamp) al st.0 st.1 st.2 j o
@@ -393,18 +393,18 @@ module _ {E : Type 0} where
               (λ (ne : at ≡ p → ⊥). ap (λ y. last_decided y.log) (old p ne) ∙ h.decided p (ap (λ y. y.up) (sym (old p ne)) ∙ u) ∙ sym (cond-false _ _ _ (part_other at p ne)))
               (part_cases at p);
           up = λ p u j o. ⊎_elim
-              (λ (e : at ≡ p). subst (λ y. (after y).up ≡ true → IsOther plan.sites y.site j → bound (after y).log j ≡ brought_after run y j (brought run y j) event) e (λ u' o'. up_here event al st u' j o') u o ∙ sym (cond-true _ _ _ (subst (λ y. same_part at y ≡ true) e (same_part_refl at))))
-              (λ (ne : at ≡ p → ⊥). ap (λ y. bound y.log j) (old p ne) ∙ h.up p (ap (λ y. y.up) (sym (old p ne)) ∙ u) j o ∙ sym (cond-false _ _ _ (part_other at p ne)))
+              (λ (e : at ≡ p). subst (λ y. (after y).up ≡ true → IsOther plan.sites y.site j → logged_bound (after y).log j ≡ brought_after run y j (brought run y j) event) e (λ u' o'. up_here event al st u' j o') u o ∙ sym (cond-true _ _ _ (subst (λ y. same_part at y ≡ true) e (same_part_refl at))))
+              (λ (ne : at ≡ p → ⊥). ap (λ y. logged_bound y.log j) (old p ne) ∙ h.up p (ap (λ y. y.up) (sym (old p ne)) ∙ u) j o ∙ sym (cond-false _ _ _ (part_other at p ne)))
               (part_cases at p);
           down = λ p d m i. ⊎_elim
-              (λ (e : at ≡ p). subst (λ y. (after y).up ≡ false → Image (after y) m → TellsTwo plan (next event) y m) e (λ d' i'. down_here event al st d' m i') d i)
-              (λ (ne : at ≡ p → ⊥). two_map plan run (next event) p m (other_view run (record { at = at; event = event }) p ne) (λ k q a x. inr x) (cond-false _ _ _ (part_other at p ne)) (h.down p (ap (λ y. y.up) (sym (old p ne)) ∙ d) m (subst (λ y. Image y m) (old p ne) i)))
+              (λ (e : at ≡ p). subst (λ y. (after y).up ≡ false → Finds (after y) m → TellsTwo plan (next event) y m) e (λ d' i'. down_here event al st d' m i') d i)
+              (λ (ne : at ≡ p → ⊥). two_map plan run (next event) p m (other_view run (record { at = at; event = event }) p ne) (λ k q a x. inr x) (cond-false _ _ _ (part_other at p ne)) (h.down p (ap (λ y. y.up) (sym (old p ne)) ∙ d) m (subst (λ y. Finds y m) (old p ne) i)))
               (part_cases at p);
         }
 
     resumes_event : (event : Event E) (q : PartState E) → PartStep kinds plan.sites plan.parts at (before at) event q → ResumesAt plan run at event
     resumes_event (Restarted n b named listed) q st =
-        let ends : (j : ℕ) → IsOther plan.sites at.site j → entry b j ≡ bound q.log j = λ j o. st.shown_bounds.others j o ∙ st.bounds j o in
+        let ends : (j : ℕ) → IsOther plan.sites at.site j → entry b j ≡ logged_bound q.log j = λ j o. st.shown_bounds.others j o ∙ st.bounds j o in
         let times : (t : TxId) → names_pending listed t ≡ true → listed_time listed t ≡ prepare_time q.log t = λ t k. listed_is q.log listed t st.timed k in ⊎_elim
         (λ (x : TellsBefore plan run at q.log). inl (record { members = λ t. st.members t ∙ x.waits t; times = λ t k. times t k ∙ x.since t (sym (st.members t) ∙ k); bounds = λ j o. ends j o ∙ x.upto j o; last = st.last ∙ x.decided }))
         (λ (x : (what : Event E) × (cut_call run at ≡ Some what) × (is_call what ≡ true) × IsTakeable plan run at what × TellsDone plan run at what q.log). inr (x.0, x.1, x.2, x.3, record { members = λ t. st.members t ∙ x.4.waits t; times = λ t k. times t k ∙ x.4.since t (sym (st.members t) ∙ k); bounds = λ j o. ends j o ∙ x.4.upto j o; last = st.last ∙ x.4.decided }))
@@ -414,7 +414,7 @@ module _ {E : Type 0} where
   resumable : {S : Type 0} (kinds : Kinds S E) (plan : Plan E) (run : List (Entry E)) (parts : PartId → PartState E) → IsRun kinds plan run parts → Resumable plan run parts
   resumable kinds plan [] parts r = record {
     decided = λ p u. ap (λ x. last_decided x.log) (r p);
-    up = λ p u j o. ap (λ x. bound x.log j) (r p);
+    up = λ p u j o. ap (λ x. logged_bound x.log j) (r p);
     down = λ p d m i. clash (ap (λ x. x.up) (r p)) d;
   }
   resumable kinds plan (e ∷ run) parts r =

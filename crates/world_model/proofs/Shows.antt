@@ -19,7 +19,7 @@ use Rattle.crdt_core.specs.Log.{end_of_time, prepared, prepare_time, prepared_ch
 use Rattle.crdt_core.specs.Parts.{touches}
 use Rattle.world_model.specs.Event.{AskRead, AskUpdate, AskDecide, AskAbort, AskTake, TxPending, IsGone, HasGap, IsRepeat, Event, Ticked, Began, Updated, Read, Prepared, Decided, Finished, Aborted, Sent, Took, Reported, Heard, Crashed, RestartCut, Restarted, Refused, Opened, Cut, Entry, attempt, tried, is_decided}
 use Rattle.crdt_core.specs.KindsOf.{Kinds}
-use Rattle.world_model.specs.Partition.{PartState, Image, IsOther, IsOwnBound, IsReady, IsTxPending, AreTimed, names_pending, batch_of, new_part, PartStep}
+use Rattle.world_model.specs.Partition.{PartState, Finds, IsOther, IsOwnBound, IsReady, IsTxPending, AreTimed, names_pending, batch_of, new_part, PartStep}
 use Rattle.crdt_core.specs.Log.{lease_for}
 use Rattle.crdt_core.specs.Parts.{above}
 use Rattle.world_model.specs.Plan.{Plan, TellsAborted, MayAbort, takes_part, IsAllowed, IsRun}
@@ -89,7 +89,7 @@ module _ {E : Type 0} where
   ended_time log false r t h = refl
 
   pub record Shown (plan : Plan E) (run : List (Entry E)) (parts : PartId → PartState E) : Type 0 where
-    pub first : (q : PartId) (m : List (Record E)) (t : TxId) → Image (parts q) m → aborted m t ≡ true → prepared m t ≡ true
+    pub first : (q : PartId) (m : List (Record E)) (t : TxId) → Finds (parts q) m → aborted m t ≡ true → prepared m t ≡ true
     pub width : (q : PartId) → (parts q).up ≡ true → length (parts q).bounds ≡ plan.sites
     pub bounds : (q : PartId) (j : ℕ) → (parts q).up ≡ true → IsOther plan.sites q.site j → entry (parts q).bounds j ≡ bound_shown run q j
     pub waiting : (q : PartId) (t : TxId) → (parts q).up ≡ true → pending (parts q).log t ≡ pending_shown run q t
@@ -118,7 +118,7 @@ module _ {E : Type 0} where
         clash (sym (h.waiting q t up) ∙ w) (not-true (pending_shown run q t) b.1))))
         (cases_Bool (committed log t))
 
-    known_is : (pending (parts q).log t || committed (parts q).log t) ≡ (pending_shown run q t || committed_shown plan run q t)
+    pub known_is : (pending (parts q).log t || committed (parts q).log t) ≡ (pending_shown run q t || committed_shown plan run q t)
     known_is = λ i. (h.waiting q t up i || committed_is i)
 
   module _ {S : Type 0} (kinds : Kinds S E) (plan : Plan E) (run : List (Entry E)) (before after : PartId → PartState E) (at : PartId) (f : Fate plan run before) (h : Shown plan run before) where
@@ -213,7 +213,7 @@ module _ {E : Type 0} where
       time = λ t x k. ap (λ p. prepare_time p.log t) st ∙ h.time at t (sym (ap (λ p. p.up) st) ∙ x) (ap (λ p. pending p.log t) (sym st) ∙ k);
     }
 
-    first_step : (event : Event E) → Move plan run before after at event → (q : PartId) (new : List (Record E)) (t : TxId) → Image (after q) new → aborted new t ≡ true → prepared new t ≡ true
+    first_step : (event : Event E) → Move plan run before after at event → (q : PartId) (new : List (Record E)) (t : TxId) → Finds (after q) new → aborted new t ≡ true → prepared new t ≡ true
     first_step event mv q new t i k = let c = mv.changed q new i in c.told.prepared t ∙ more_prepared c.more c.old t (go c.old c.more c.because (λ x. h.first q c.old t c.was x) (sym (c.told.aborted t) ∙ k))
       where
         go : (old : List (Record E)) (r : Record E) → Because plan run before (after q).up at event q old r → (aborted old t ≡ true → prepared old t ≡ true) → aborted (r ∷ old) t ≡ true → prepared old t ≡ true
@@ -276,7 +276,7 @@ module _ {E : Type 0} where
           }
 
     -- a read that was ready is shown to be
-    ready_is : (up : (before at).up ≡ true) (l : Leases run before) (s : List ℕ) (o : ObjectId) → IsReady at (before at) s o → IsReadyAt plan run at s o
+    pub ready_is : (up : (before at).up ≡ true) (l : Leases run before) (s : List ℕ) (o : ObjectId) → IsReady at (before at) s o → IsReadyAt plan run at s o
     ready_is up l s o x =
         let log = (before at).log in record {
           clock = subst (λ n. entry s at.site ≤ n) (l.clock at).now x.clock;
@@ -332,7 +332,7 @@ module _ {E : Type 0} where
 
   shown_start : (plan : Plan E) (parts : PartId → PartState E) → ((p : PartId) → parts p ≡ new_part plan.sites plan.parts) → Shown plan [] parts
   shown_start plan parts r = record {
-    first = λ q m t i k. off (subst (λ x. aborted x t ≡ true) (subst (λ x. Image x m) (r q) i) k);
+    first = λ q m t i k. off (subst (λ x. aborted x t ≡ true) (subst (λ x. Finds x m) (r q) i) k);
     width = λ q u. ap (λ p. length p.bounds) (r q) ∙ length-replicate plan.sites 0;
     bounds = λ q j u o. ap (λ p. entry p.bounds j) (r q) ∙ zeros_at plan.sites (j - 1);
     waiting = λ q t u. ap (λ p. pending p.log t) (r q);

@@ -10,12 +10,12 @@ use Rattle.site_vector.specs.Vector.{replaced}
 use Rattle.crdt_core.specs.declared.record.Upd.{Upd}
 use Rattle.world_model.specs.Participants.{partitions}
 use Rattle.crdt_core.specs.Log.{end_of_time, ceiling, prepared, pending, committed}
-use Rattle.world_model.specs.Event.{AskFinish, AskTake, Refused, Event, Began, Updated, Read, Prepared, Decided, Finished, Aborted, Took, Heard, Cut, Entry, attempt, is_prepare, tried, voted, shown, shown_after, time_of, is_decided, WasShown}
+use Rattle.world_model.specs.Event.{AskPrepare, AskFinish, AskTake, Refused, Event, Began, Updated, Read, Prepared, Decided, Finished, Aborted, Took, Heard, Cut, Entry, attempt, is_prepare, tried, voted, shown, shown_after, time_of, is_decided, WasShown}
 use Rattle.crdt_core.specs.KindsOf.{Kinds}
 use Rattle.world_model.specs.Partition.{PartState, PartStep, MayDo}
 use Rattle.world_model.specs.Plan.{Plan, first_of, is_some_update, home, takes_part, commit_vector, updates_at, change_by, IsAllowed, IsPlanned, TellsAborted, IsRun}
 use Rattle.world_model.specs.Handed.{IsNew}
-use Rattle.world_model.specs.World.{is_begin, begin_vector, begun, snapshot_of, changes_of, lead_of, own_parts, plan_of, IsWorldRun}
+use Rattle.world_model.specs.World.{is_begin, begin_vector, begun, snapshot_of, is_own, changes_of, lead_of, own_parts, plan_of, IsWorldRun}
 use Rattle.world_model.proofs.Names.{clash, off}
 use Rattle.world_model.proofs.Moves.{image_log}
 use Rattle.world_model.proofs.Fate.{pending_parts, voted_tried}
@@ -63,7 +63,7 @@ module _ {E : Type 0} where
   begin_time (Began who dep u s) t old h = ap (λ x. x.time) (same_tx_is u t h)
   begin_time event t old h = off h
 
-  begun_time : {S : Type 0} (kinds : Kinds S E) (sites parts : ℕ) (run : List (Entry E)) (state : PartId → PartState E) → IsWorldRun kinds sites parts run state → (t : TxId) → begun run t ≡ true → t.time ≤ shown run (home t)
+  pub begun_time : {S : Type 0} (kinds : Kinds S E) (sites parts : ℕ) (run : List (Entry E)) (state : PartId → PartState E) → IsWorldRun kinds sites parts run state → (t : TxId) → begun run t ≡ true → t.time ≤ shown run (home t)
   begun_time kinds sites parts [] state r t h = off h
   begun_time kinds sites parts (e ∷ run) state r t h = ⊎_elim
       (λ (k : is_begin e.event t ≡ true).
@@ -79,7 +79,7 @@ module _ {E : Type 0} where
   IsFresh run (Updated t s o own op read u stamp) = (begun run t ≡ true) × ((p : PartId) → tried run t p ≡ false)
   IsFresh run event = ⊤
 
-  shown_begun : (run : List (Entry E)) (p : PartId) (who dep : List ℕ) (t : TxId) (s : List ℕ) → WasShown run p (Began who dep t s) → begun run t ≡ true
+  pub shown_begun : (run : List (Entry E)) (p : PartId) (who dep : List ℕ) (t : TxId) (s : List ℕ) → WasShown run p (Began who dep t s) → begun run t ≡ true
   shown_begun [] p who dep t s w = absurd w
   shown_begun (e ∷ run) p who dep t s w = ⊎_elim
       (λ (x : (e.at ≡ p) × (e.event ≡ Began who dep t s)). or_left _ _ (ap (λ a. is_begin a t) x.1 ∙ same_tx_refl t))
@@ -134,7 +134,7 @@ module _ {E : Type 0} where
     pub tried : tried whole t q ≡ true
     pub updates : (p : PartId) → updates_at whole t p ≡ updates_at run t p
 
-  no_more : (b : Bool) (xs ys : List (Upd E)) → ys ≡ [] → xs ++ cond b ys [] ≡ xs
+  pub no_more : (b : Bool) (xs ys : List (Upd E)) → ys ≡ [] → xs ++ cond b ys [] ≡ xs
   no_more true xs ys e = ap (λ l. xs ++ l) e ∙ append-nil xs
   no_more false xs ys e = append-nil xs
 
@@ -159,14 +159,14 @@ module _ {E : Type 0} where
       (λ (k : is_begin e.event t ≡ false). or_right _ _ (snapshot_begun run t (subst (λ l. 1 ≤ length l) (cond-false _ (begin_vector e.event) (snapshot_of run t) k) h)))
       (cases_Bool (is_begin e.event t))
 
-  part_begun : (sites : ℕ) (run : List (Entry E)) (t : TxId) (p : PartId) → is_some_update (changes_of sites run t p) ≡ true → begun run t ≡ true
+  pub part_begun : (sites : ℕ) (run : List (Entry E)) (t : TxId) (p : PartId) → is_some_update (changes_of sites run t p) ≡ true → begun run t ≡ true
   part_begun sites run t p h = let o = own_parts sites run t p h in snapshot_begun run t (le_trans (leb-true _ _ o.1) (leb-true _ _ o.3))
 
   prepare_takes : (plan : Plan E) (run : List (Entry E)) (parts : PartId → PartState E) (at : PartId) (a : Event E) (t : TxId) → IsAllowed plan run parts at a → is_prepare a t ≡ true → takes_part plan t at ≡ true
   prepare_takes plan run parts at (Prepared u s l w n) t al h = subst (λ x. takes_part plan x at ≡ true) (same_tx_is u t h) al.takes
   prepare_takes plan run parts at a t al h = off h
 
-  tried_begun : {S : Type 0} (kinds : Kinds S E) (sites parts : ℕ) (run : List (Entry E)) (state : PartId → PartState E) (t : TxId) (q : PartId) → IsWorldRun kinds sites parts run state → tried run t q ≡ true → begun run t ≡ true
+  pub tried_begun : {S : Type 0} (kinds : Kinds S E) (sites parts : ℕ) (run : List (Entry E)) (state : PartId → PartState E) (t : TxId) (q : PartId) → IsWorldRun kinds sites parts run state → tried run t q ≡ true → begun run t ≡ true
   tried_begun kinds sites parts [] state t q r h = off h
   tried_begun kinds sites parts (e ∷ run) state t q r h = ⊎_elim
       (λ (k : (same_part e.at q && is_prepare (attempt e.event) t) ≡ true).
@@ -175,20 +175,24 @@ module _ {E : Type 0} where
       (or_cases _ _ h)
 
   -- the two plans agree on t
-  record Agree (p w : Plan E) (t : TxId) : Type 0 where
+  pub record Agree (p w : Plan E) (t : TxId) : Type 0 where
     pub snapshot : w.snapshot t ≡ p.snapshot t
     pub updates : (q : PartId) → w.updates t q ≡ p.updates t q
     pub lead : w.lead t ≡ p.lead t
+
+  pub agree_by : (sites parts : ℕ) (run whole : List (Entry E)) (t : TxId) → snapshot_of whole t ≡ snapshot_of run t → ((p : PartId) → updates_at whole t p ≡ updates_at run t p) → Agree (plan_of sites parts run) (plan_of sites parts whole) t
+  agree_by sites parts run whole t x y =
+      let same : (p : PartId) → changes_of sites whole t p ≡ changes_of sites run t p = λ p. λ i. cond (p.site == t.site && (leb 1 t.site && (leb t.site sites && leb t.site (length (x i))))) (y p i) [] in record {
+        snapshot = x;
+        updates = same;
+        lead = λ i. first_of (home t) (filter (λ p. is_some_update (same p i)) (partitions t.site 1 parts));
+      }
 
   agree : (sites parts : ℕ) (run whole : List (Entry E)) (t : TxId) (q : PartId) → AllFresh whole → IsSuffix run whole → begun run t ≡ true → tried run t q ≡ true → Agree (plan_of sites parts run) (plan_of sites parts whole) t
   agree sites parts run whole t q f s b h =
       let x = same_begin run whole t f s b in
       let y = same_updates run whole t q f s h in
-      let same : (p : PartId) → changes_of sites whole t p ≡ changes_of sites run t p = λ p. λ i. cond (p.site == t.site && (leb 1 t.site && (leb t.site sites && leb t.site (length (x.snapshot i))))) (y.updates p i) [] in record {
-        snapshot = x.snapshot;
-        updates = same;
-        lead = λ i. first_of (home t) (filter (λ p. is_some_update (same p i)) (partitions t.site 1 parts));
-      }
+      agree_by sites parts run whole t x.snapshot y.updates
 
   agree_vector : (p w : Plan E) (run : List (Entry E)) (t : TxId) → Agree p w t → commit_vector p run t ≡ commit_vector w run t
   agree_vector p w run t a = ap (λ v. replaced v t.site (time_of run t)) (sym a.snapshot)
@@ -212,41 +216,65 @@ module _ {E : Type 0} where
   end_known kinds sites parts id p q (Cut a) t s h = may_known kinds sites parts id p a t s.1 h
   end_known kinds sites parts id p q a t s h = off h
 
-  allowed_too : (sites parts : ℕ) (run whole : List (Entry E)) (e : Entry E) (state : PartId → PartState E) (a : Event E) → ((t : TxId) → (is_prepare a t || is_end a t) ≡ true → Agree (plan_of sites parts (e ∷ run)) (plan_of sites parts whole) t) → ((t : TxId) → is_decided run t ≡ true → Agree (plan_of sites parts (e ∷ run)) (plan_of sites parts whole) t) → IsAllowed (plan_of sites parts (e ∷ run)) run state e.at a → IsAllowed (plan_of sites parts whole) run state e.at a
-  allowed_too sites parts run whole e state (Prepared t s l w n) agr past al =
+  some_front : (xs ys : List (Upd E)) → is_some_update xs ≡ true → is_some_update (xs ++ ys) ≡ true
+  some_front [] ys h = off h
+  some_front (x ∷ xs) ys h = refl
+
+  more_updates : (run whole : List (Entry E)) (t : TxId) (p : PartId) → IsSuffix run whole → is_some_update (updates_at run t p) ≡ true → is_some_update (updates_at whole t p) ≡ true
+  more_updates run [] t p s h = subst (λ x. is_some_update (updates_at x t p) ≡ true) s h
+  more_updates run (e ∷ whole) t p s h = ⊎_elim
+      (λ (k : run ≡ e ∷ whole). subst (λ x. is_some_update (updates_at x t p) ≡ true) k h)
+      (λ (k : IsSuffix run whole). some_front (updates_at whole t p) (cond (same_part e.at p) (change_by e.event t) []) (more_updates run whole t p k h))
+      s
+
+  some_of : (b : Bool) (us : List (Upd E)) → is_some_update (cond b us []) ≡ true → is_some_update us ≡ true
+  some_of true us h = h
+  some_of false us h = off h
+
+  -- who takes part takes part in all that comes after
+  takes_later : (sites parts : ℕ) (run whole : List (Entry E)) (t : TxId) (p : PartId) → AllFresh whole → IsSuffix run whole → takes_part (plan_of sites parts run) t p ≡ true → takes_part (plan_of sites parts whole) t p ≡ true
+  takes_later sites parts run whole t p f s h =
+      let x = same_begin run whole t f s (part_begun sites run t p h) in
+      let o = own_parts sites run t p h in
+      let own : is_own sites whole t p ≡ true = and_from (p.site == t.site) _ o.0 (and_from (leb 1 t.site) _ o.1 (and_from (leb t.site sites) _ o.2 (subst (λ v. leb t.site (length v) ≡ true) (sym x.snapshot) o.3))) in
+      ap is_some_update (cond-true (is_own sites whole t p) (updates_at whole t p) [] own) ∙ more_updates run whole t p s (some_of (is_own sites run t p) (updates_at run t p) h)
+
+  pub allowed_too : (sites parts : ℕ) (run old whole : List (Entry E)) (at : PartId) (state : PartId → PartState E) (a : Event E) → ((t : TxId) → (is_prepare a t || is_end a t) ≡ true → Agree (plan_of sites parts old) (plan_of sites parts whole) t) → ((t : TxId) → is_decided run t ≡ true → Agree (plan_of sites parts old) (plan_of sites parts whole) t) → ((t : TxId) → takes_part (plan_of sites parts old) t at ≡ true → takes_part (plan_of sites parts whole) t at ≡ true) → IsAllowed (plan_of sites parts old) run state at a → IsAllowed (plan_of sites parts whole) run state at a
+  allowed_too sites parts run old whole at state (Prepared t s l w n) agr past later al =
       let g = agr t (or_left (same_tx t t) false (same_tx_refl t)) in record {
         fresh = al.fresh;
         after_lead = λ ne. subst (λ x. voted run t x ≡ true) (sym g.lead) (al.after_lead (λ k. ne (k ∙ sym g.lead)));
-        takes = ap is_some_update (g.updates e.at) ∙ al.takes;
+        takes = ap is_some_update (g.updates at) ∙ al.takes;
         snapshot = al.snapshot ∙ sym g.snapshot;
         lead = al.lead ∙ ap (λ p. p.part) (sym g.lead);
-        changes = al.changes ∙ sym (g.updates e.at);
+        changes = al.changes ∙ sym (g.updates at);
       }
-  allowed_too sites parts run whole e state (Decided t c) agr past al =
+  allowed_too sites parts run old whole at state (Decided t c) agr past later al =
       let g = agr t (same_tx_refl t) in record {
         lead = al.lead ∙ sym g.lead;
         here = al.here;
         all = λ q h. al.all q (ap is_some_update (sym (g.updates q)) ∙ h);
         kept = al.kept;
         once = al.once;
-        vector = al.vector ∙ agree_vector (plan_of sites parts (e ∷ run)) (plan_of sites parts whole) run t g;
+        vector = al.vector ∙ agree_vector (plan_of sites parts old) (plan_of sites parts whole) run t g;
       }
-  allowed_too sites parts run whole e state (Finished t c) agr past al =
+  allowed_too sites parts run old whole at state (Finished t c) agr past later al =
       let g = agr t (same_tx_refl t) in record {
         decided = al.decided;
-        vector = al.vector ∙ agree_vector (plan_of sites parts (e ∷ run)) (plan_of sites parts whole) run t g;
+        vector = al.vector ∙ agree_vector (plan_of sites parts old) (plan_of sites parts whole) run t g;
       }
-  allowed_too sites parts run whole e state (Aborted t true) agr past al = al
-  allowed_too sites parts run whole e state (Aborted t false) agr past al =
+  allowed_too sites parts run old whole at state (Aborted t true) agr past later al = al
+  allowed_too sites parts run old whole at state (Aborted t false) agr past later al =
       let g = agr t (same_tx_refl t) in
-      ⊎_elim (λ (k : e.at ≡ lead_of sites parts (e ∷ run) t). inl (k ∙ sym g.lead)) (λ (k : TellsAborted (state (lead_of sites parts (e ∷ run) t)) t). inr (subst (λ x. TellsAborted (state x) t) (sym g.lead) k)) al
-  allowed_too sites parts run whole e state (Read t s o own read value) agr past al = record { site = al.site; who = al.who; dependency = al.dependency; begun = al.begun; place = al.place; earlier = al.earlier }
-  allowed_too sites parts run whole e state (Updated t s o own op read u stamp) agr past al = record { site = al.site; who = al.who; dependency = al.dependency; begun = al.begun; place = al.place; earlier = al.earlier }
-  allowed_too sites parts run whole e state (Took number m) agr past al = record { from = al.from; to = al.to; part = al.part; asked = al.asked; shown = al.shown }
-  allowed_too sites parts run whole e state (Heard number q b stable) agr past al = record { least = al.least; most = al.most; shown = al.shown }
-  allowed_too sites parts run whole e state (Refused (AskFinish t c) why) agr past al = (al.0, ap is_some_update ((past t al.0).updates e.at) ∙ al.1)
-  allowed_too sites parts run whole e state (Refused (AskTake number m) why) agr past al = record { from = al.from; to = al.to; part = al.part; asked = al.asked; shown = al.shown }
-  allowed_too sites parts run whole e state a agr past al = al
+      ⊎_elim (λ (k : at ≡ lead_of sites parts old t). inl (k ∙ sym g.lead)) (λ (k : TellsAborted (state (lead_of sites parts old t)) t). inr (subst (λ x. TellsAborted (state x) t) (sym g.lead) k)) al
+  allowed_too sites parts run old whole at state (Read t s o own read value) agr past later al = record { site = al.site; who = al.who; dependency = al.dependency; begun = al.begun; place = al.place; earlier = al.earlier }
+  allowed_too sites parts run old whole at state (Updated t s o own op read u stamp) agr past later al = record { site = al.site; who = al.who; dependency = al.dependency; begun = al.begun; place = al.place; earlier = al.earlier }
+  allowed_too sites parts run old whole at state (Took number m) agr past later al = record { from = al.from; to = al.to; part = al.part; asked = al.asked; shown = al.shown }
+  allowed_too sites parts run old whole at state (Heard number q b stable) agr past later al = record { least = al.least; most = al.most; shown = al.shown }
+  allowed_too sites parts run old whole at state (Refused (AskFinish t c) why) agr past later al = (al.0, ap is_some_update ((past t al.0).updates at) ∙ al.1)
+  allowed_too sites parts run old whole at state (Refused (AskPrepare t s l w) why) agr past later al = (al.0, later t al.1)
+  allowed_too sites parts run old whole at state (Refused (AskTake number m) why) agr past later al = record { from = al.from; to = al.to; part = al.part; asked = al.asked; shown = al.shown }
+  allowed_too sites parts run old whole at state a agr past later al = al
 
   planned_too : (sites parts : ℕ) (run whole : List (Entry E)) (at : PartId) (a : Event E) → AllFresh whole → IsSuffix ((record { at = at; event = a }) ∷ run) whole → IsPlanned (plan_of sites parts whole) at a
   planned_too sites parts run whole at (Began who dep t s) f suf =
@@ -271,7 +299,7 @@ module _ {E : Type 0} where
         fits kinds sites parts run before r.1 whole f (suffix_tail e run whole s),
         record {
           place = record { least_site = r.2.place.least_site; most_site = r.2.place.most_site; least_part = r.2.place.least_part; most_part = r.2.place.most_part };
-          allowed = allowed_too sites parts run whole e before (attempt e.event)
+          allowed = allowed_too sites parts run (e ∷ run) whole e.at before (attempt e.event)
               (λ t h. of_tried t (⊎_elim
               (λ (x : is_prepare (attempt e.event) t ≡ true). or_left _ _ (and_from _ _ (same_part_refl e.at) x))
               (λ (x : is_end (attempt e.event) t ≡ true). or_right _ _ (k.fate.was_tried e.at log t (image_log (before e.at)) (known t (end_known kinds sites parts e.at (before e.at) (state e.at) e.event t r.2.step x))))
@@ -279,7 +307,9 @@ module _ {E : Type 0} where
               (λ t d. agree sites parts (e ∷ run) whole t (lead_of sites parts run t) f s
               (or_right _ _ (tried_begun kinds sites parts run before t (lead_of sites parts run t) r.1 (lead_tried t d)))
               (or_right _ _ (lead_tried t d)))
+              (λ t h. takes_later sites parts (e ∷ run) whole t e.at f s h)
               r.2.allowed;
+          fit = r.2.fit;
           step = r.2.step;
           others = r.2.others;
         },

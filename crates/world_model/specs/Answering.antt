@@ -1,18 +1,10 @@
--- Which refusals may answer which call. That a log is damaged answers none: a restart finds what the run wrote.
+-- Which refusals may answer which call. That a log is damaged answers none: a restart finds what the run wrote. Nor does that an
+-- operation is none of its kind: a session refuses it before it asks a partition.
 use Rattle.std.specs.Prelude.{◌≡◌, Bool, true, false, not, ◌&&◌, List, [], ◌∷◌, ⊤}
-use Rattle.crdt_core.specs.declared.kind.Kind.{Kind}
-use Rattle.crdt_core.specs.declared.object.Field.{Field}
-use Rattle.crdt_core.specs.declared.object.ObjectId.{ObjectId}
-use Rattle.crdt_core.specs.declared.operation.Op.{Op}
-use Rattle.crdt_core.specs.Fits.{fits}
-use Rattle.world_model.specs.Event.{Ask, AskBegin, AskRead, AskUpdate, AskPrepare, AskDecide, AskAbort, AskTake, is_restart, Refusal, IsDown, ClockBehind, TxPending, StableBehind, ClockAtEnd, IsGone, HasGap, IsRepeat, IsBadOp, Event, Updated, Read, Refused, Cut, Entry}
+use Rattle.world_model.specs.Event.{Ask, AskTick, AskBegin, AskRead, AskUpdate, AskPrepare, AskDecide, AskFinish, AskAbort, AskTake, is_restart, Refusal, IsDown, ClockBehind, TxPending, StableBehind, ClockAtEnd, IsGone, HasGap, IsRepeat, HasNoRoom, Event, Updated, Read, Refused, Cut, Entry}
 use Rattle.site_vector.specs.declared.ids.PartId.{PartId}
-use Rattle.crdt_core.specs.KindsOf.{Kinds}
+use Rattle.crdt_core.specs.KindsOf.{Kinds, fits_kind}
 use Rattle.world_model.specs.Resumed.{is_call}
-
--- the operation is one of the kind, and leads no deeper than the type reaches
-abbrev pub fits_kind : (Kind → List Field → Bool) → ObjectId → Op → Bool
-fits_kind too_deep o op = fits o.kind op.path op.act && not (too_deep o.kind op.path)
 
 module _ {E : Type 0} where
   abbrev pub may_answer : Ask E → Refusal → Bool
@@ -27,9 +19,15 @@ module _ {E : Type 0} where
   may_answer (AskPrepare t s l w) ClockAtEnd = true
   may_answer (AskDecide t c) IsGone = true
   may_answer (AskAbort t) IsGone = true
-  may_answer (AskUpdate t s o own op) IsBadOp = true
   may_answer (AskTake number m) (HasGap n) = true
   may_answer (AskTake number m) (IsRepeat n) = true
+  may_answer (AskTick r) (HasNoRoom n) = true
+  may_answer (AskBegin who dep) (HasNoRoom n) = true
+  may_answer (AskPrepare t s l w) (HasNoRoom n) = true
+  may_answer (AskDecide t c) (HasNoRoom n) = true
+  may_answer (AskFinish t c) (HasNoRoom n) = true
+  may_answer (AskAbort t) (HasNoRoom n) = true
+  may_answer (AskTake number m) (HasNoRoom n) = true
   may_answer asked why = false
 
   -- what a crash cuts off is a call
@@ -38,13 +36,12 @@ module _ {E : Type 0} where
   IsDueAt (Cut what) = is_call what ≡ true
   IsDueAt other = ⊤
 
-  -- what is read or updated is of a kind that there is; an update's operation is one of the kind, exactly where it isn't refused as none
+  -- what is read or updated is of a kind that there is, and every update's operation is one of the kind, whatever answers it
   abbrev pub IsKnown : {S : Type 0} → Kinds S E → PartId → Event E → Type 0
   IsKnown kinds p (Read t s o own read value) = kinds.has o.kind ≡ true
   IsKnown kinds p (Updated t s o own op read u stamp) = (kinds.has o.kind ≡ true) × (fits_kind kinds.too_deep o op ≡ true)
-  IsKnown kinds p (Refused (AskUpdate t s o own op) IsBadOp) = fits_kind kinds.too_deep o op ≡ false
-  IsKnown kinds p (Refused (AskUpdate t s o own op) (ClockBehind n)) = fits_kind kinds.too_deep o op ≡ true
-  IsKnown kinds p (Refused (AskUpdate t s o own op) (TxPending u n)) = fits_kind kinds.too_deep o op ≡ true
+  IsKnown kinds p (Refused (AskUpdate t s o own op) why) = fits_kind kinds.too_deep o op ≡ true
+  IsKnown kinds p (Cut (Updated t s o own op read u stamp)) = fits_kind kinds.too_deep o op ≡ true
   IsKnown kinds p other = ⊤
 
   abbrev pub AreDue : List (Entry E) → Type 0

@@ -23,7 +23,7 @@ now (l ∷ ls) p = if same_part l.at p then time_after (now ls p) l.step else no
 abbrev pub missed_after : ℕ → ℕ → Call → Step → ℕ
 missed_after time old call (step.Restarted p n bounds named listed) = 0
 missed_after time old (Tick reading) (step.Disk p) = max (max reading time) old
-missed_after time old (Begin who) (step.Disk p) = max (time + 1) old
+missed_after time old (Begin who dep) (step.Disk p) = max (time + 1) old
 missed_after time old (PrepareOf t) (step.Disk p) = max (time + 1) old
 missed_after time old call other = old
 

@@ -5,7 +5,7 @@ use Rattle.site_vector.specs.declared.ids.TxId.{TxId}
 use Rattle.site_vector.specs.Ids.{same_part, same_tx}
 use Rattle.world_model.specs.declared.step.Step.{Step}
 use Rattle.world_model.specs.declared.step.Step.TheVariants as step
-use Rattle.world_model.specs.Lines.{Call, UpdateOf, Line}
+use Rattle.world_model.specs.Lines.{Call, UpdateOf, PrepareOf, Line}
 use Rattle.world_model.specs.History.{in_history, commit_vector}
 use Rattle.world_model.specs.Updates.{takes_part, lead}
 
@@ -45,6 +45,11 @@ pub record IsDecision (parts : ℕ) (whole before : List Line) (p : PartId) (t :
 abbrev pub IsEarly : List Line → Call → Type 0
 IsEarly before (UpdateOf t o op) = (p : PartId) → was_prepared before t p ≡ false
 IsEarly before other = ⊤
+
+-- whatever answers it, a vote is asked of a participant
+abbrev pub IsAskedAt : List Line → PartId → Call → Type 0
+IsAskedAt whole p (PrepareOf t) = takes_part whole t p ≡ true
+IsAskedAt whole p other = ⊤
 
 -- a decision shows the commit vector; what is in doubt was asked as a decision is; a participant finishes what is decided so far
 abbrev pub ShowsCommit : ℕ → List Line → List Line → PartId → Call → Step → Type 0

@@ -1,5 +1,5 @@
--- A session's past, over the lines of a run.
-use Rattle.std.specs.Prelude.{◌≡◌, ℕ, Bool, true, false, ◌&&◌, ◌||◌, List, [], ◌∷◌, if◌then◌else◌, replicate, ⊤}
+-- What a begin is handed, and a session's past, over the lines of a run.
+use Rattle.std.specs.Prelude.{◌≡◌, ◌⊎◌, ℕ, Bool, true, false, ◌&&◌, ◌||◌, List, [], ◌∷◌, if◌then◌else◌, replicate, ⊤}
 use Rattle.std.specs.Str.{bytes_eq}
 use Rattle.site_vector.specs.declared.ids.PartId.{PartId}
 use Rattle.site_vector.specs.declared.ids.TxId.{TxId}
@@ -7,7 +7,8 @@ use Rattle.site_vector.specs.Ids.{same_tx}
 use Rattle.site_vector.specs.Vector.{le, join}
 use Rattle.world_model.specs.declared.step.Step.{Step}
 use Rattle.world_model.specs.declared.step.Step.TheVariants as step
-use Rattle.world_model.specs.Lines.{Call, Line, EachLine}
+use Rattle.world_model.specs.Past.{joined}
+use Rattle.world_model.specs.Lines.{Call, Begin, Line, EachLine}
 
 -- t is of the session
 abbrev pub begins_for : Step → List ℕ → TxId → Bool
@@ -28,6 +29,45 @@ dependency_after sites ls who old other = old
 abbrev pub dependency : ℕ → List Line → List ℕ → List ℕ
 dependency sites [] who = replicate sites 0
 dependency sites (l ∷ ls) who = dependency_after sites ls who (dependency sites ls who) l.step
+
+-- the line shows this vector: as a snapshot, or as a commit vector
+abbrev pub ShowsVector : Step → List ℕ → Type 0
+ShowsVector (step.Began name t s) v = s ≡ v
+ShowsVector (step.Decided p t c) v = c ≡ v
+ShowsVector other v = ⊥
+
+abbrev pub WasVector : List Line → List ℕ → Type 0
+WasVector [] v = ⊥
+WasVector (l ∷ ls) v = ShowsVector l.step v ⊎ WasVector ls v
+
+abbrev pub WereVectors : List Line → List (List ℕ) → Type 0
+WereVectors ls [] = ⊤
+WereVectors ls (v ∷ vs) = WasVector ls v × WereVectors ls vs
+
+-- a join of snapshots and commit vectors that were shown
+pub record IsKnownJoin (sites : ℕ) (ls : List Line) (dep : List ℕ) : Type 0 where
+  pub vectors : List (List ℕ)
+  pub known : WereVectors ls vectors
+  pub is : dep ≡ joined sites vectors
+
+abbrev pub IsOwnPast : ℕ → List Line → Call → Type 0
+IsOwnPast sites ls (Begin who dep) = dep ≡ dependency sites ls who
+IsOwnPast sites ls other = ⊤
+
+-- whatever answers it, a begin is handed what is known
+abbrev pub HandsKnown : ℕ → List Line → Call → Type 0
+HandsKnown sites ls (Begin who dep) = IsKnownJoin sites ls dep
+HandsKnown sites ls other = ⊤
+
+-- a snapshot holds what its begin was handed
+abbrev pub HoldsHanded : List Line → PartId → Call → Step → Type 0
+HoldsHanded ls p call (step.Crashed q) = ⊤
+HoldsHanded ls p (Begin who dep) (step.Began name t s) = le dep s ≡ true
+HoldsHanded ls p call other = ⊤
+
+-- each begin is handed what its session depends on, as it is where each name is one session's
+abbrev pub HandsOwn : ℕ → List Line → Type 0
+HandsOwn sites ls = EachLine (λ before p call step. IsOwnPast sites before call) ls
 
 abbrev pub HoldsPast : ℕ → List Line → PartId → Call → Step → Type 0
 HoldsPast sites ls p call (step.Began name t s) = le (dependency sites ls name) s ≡ true

@@ -22,10 +22,10 @@ pub data Ask (E : Type 0) : Type 0 where
   AskAbort : (tx : TxId) → Ask E
   -- `asked`: from where, if the caller says
   AskMessage : (to : ℕ) (asked : Option ℕ) → Ask E
-  -- the message with this number
+  -- the message with this number among those of its sender
   AskTake : (number : ℕ) (message : Message E) → Ask E
   AskReport : Ask E
-  -- the report with this number, of the partition `part`
+  -- the report with this number among those of the partition `part`
   AskHear : (number part : ℕ) (bounds : List ℕ) → Ask E
   AskRestart : Ask E
 
@@ -46,6 +46,8 @@ pub data Refusal : Type 0 where
   IsRepeat : (have : ℕ) → Refusal
   -- the operation isn't one of the kind, or leads deeper than the type reaches
   IsBadOp : Refusal
+  -- the records that the call would add pass the room of the partition's disk
+  HasNoRoom : (room : ℕ) → Refusal
   -- the record with this number, from 0, isn't one of the partition's
   IsDamaged : (at : ℕ) → Refusal
 
@@ -68,10 +70,10 @@ pub data Event (E : Type 0) : Type 0 where
   Aborted : (tx : TxId) (own : Bool) → Event E
   -- `asked`: from where, if the caller says
   Sent : (asked : Option ℕ) (message : Message E) → Event E
-  -- the message with this number
+  -- the message with this number among those of its sender
   Took : (number : ℕ) (message : Message E) → Event E
   Reported : (bounds : List ℕ) → Event E
-  -- the report with this number, of the partition `part`
+  -- the report with this number among those of the partition `part`
   Heard : (number part : ℕ) (bounds stable : List ℕ) → Event E
   Crashed : Event E
   -- a crash inside a restart: what may be found stays
@@ -92,6 +94,21 @@ is_named None t = false
 is_named (Some u) t = same_tx u t
 
 module _ {E : Type 0} where
+  -- the call that an event answered; of what is no call it is one that is never refused but where the partition is down
+  abbrev pub ask_of : Event E → Ask E
+  ask_of (Ticked r n) = AskTick r
+  ask_of (Began who dep t s) = AskBegin who dep
+  ask_of (Updated t s o own op read u stamp) = AskUpdate t s o own op
+  ask_of (Read t s o own read value) = AskRead t s o own
+  ask_of (Prepared t s l w n) = AskPrepare t s l w
+  ask_of (Decided t c) = AskDecide t c
+  ask_of (Finished t c) = AskFinish t c
+  ask_of (Aborted t own) = AskAbort t
+  ask_of (Sent asked m) = AskMessage m.to asked
+  ask_of (Took number m) = AskTake number m
+  ask_of (Heard number q b stable) = AskHear number q b
+  ask_of other = AskReport
+
   -- the event, or the one that was cut off
   abbrev pub attempt : Event E → Event E
   attempt (Cut what) = what
@@ -219,23 +236,23 @@ module _ {E : Type 0} where
   is_sent (Sent asked m) = true
   is_sent other = false
 
-  -- messages and reports are numbered from 1, in the order of their steps
-  abbrev pub sent_count : List (Entry E) → ℕ
-  sent_count [] = 0
-  sent_count (e ∷ run) = if is_sent e.event then sent_count run + 1 else sent_count run
+  -- the messages of each partition are numbered from 1, in the order of its steps, and so are its reports
+  abbrev pub sent_count : List (Entry E) → PartId → ℕ
+  sent_count [] p = 0
+  sent_count (e ∷ run) p = if same_part e.at p && is_sent e.event then sent_count run p + 1 else sent_count run p
 
   abbrev pub is_report : Event E → Bool
   is_report (Reported b) = true
   is_report other = false
 
-  abbrev pub report_count : List (Entry E) → ℕ
-  report_count [] = 0
-  report_count (e ∷ run) = if is_report e.event then report_count run + 1 else report_count run
+  abbrev pub report_count : List (Entry E) → PartId → ℕ
+  report_count [] p = 0
+  report_count (e ∷ run) p = if same_part e.at p && is_report e.event then report_count run p + 1 else report_count run p
 
-  -- this event stands in the run, as the one with this number: one more than are counted before it
-  abbrev pub WasNumbered : (List (Entry E) → ℕ) → List (Entry E) → ℕ → PartId → Event E → Type 0
+  -- this event of p stands in the run, as the one with this number: one more than are counted of p before it
+  abbrev pub WasNumbered : (List (Entry E) → PartId → ℕ) → List (Entry E) → ℕ → PartId → Event E → Type 0
   WasNumbered count [] number p event = ⊥
-  WasNumbered count (e ∷ run) number p event = ((e.at ≡ p) × (e.event ≡ event) × (number ≡ count run + 1)) ⊎ WasNumbered count run number p event
+  WasNumbered count (e ∷ run) number p event = ((e.at ≡ p) × (e.event ≡ event) × (number ≡ count run p + 1)) ⊎ WasNumbered count run number p event
 
   -- each event has this property
   abbrev pub EventsAre : (PartId → Event E → Type 0) → List (Entry E) → Type 0

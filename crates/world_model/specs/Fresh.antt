@@ -7,14 +7,13 @@ use Rattle.world_model.specs.declared.step.Step.{Step}
 use Rattle.world_model.specs.declared.step.Step.TheVariants as step
 use Rattle.world_model.specs.Partition.{IsOther}
 use Rattle.world_model.specs.Stable.{IsLeast}
-use Rattle.world_model.specs.Lines.{Call, Line}
-use Rattle.world_model.specs.Dependency.{dependency}
+use Rattle.world_model.specs.Lines.{Call, Begin, Line}
 use Rattle.world_model.specs.Bounds.{bound, IsOwnBound, heard, heard_after, IsStableEntry}
 
 -- a snapshot has the stable entry of each other site, and for its own the greater of the drawn time and that of the dependency
-pub record IsSnapshot (sites parts : ℕ) (before : List Line) (p : PartId) (who : List ℕ) (t : TxId) (s : List ℕ) : Type 0 where
+pub record IsSnapshot (sites parts : ℕ) (before : List Line) (p : PartId) (dependency : List ℕ) (t : TxId) (s : List ℕ) : Type 0 where
   pub width : length s ≡ sites
-  pub own : entry s p.site ≡ max t.time (entry (dependency sites before who) p.site)
+  pub own : entry s p.site ≡ max t.time (entry dependency p.site)
   pub others : (j : ℕ) → IsOther sites p.site j → IsStableEntry parts before p j (entry s j)
 
 -- once p has heard so much it tells these stable entries; of its own site it knows its own bound
@@ -30,7 +29,8 @@ pub record ShowsBounds (sites : ℕ) (before : List Line) (p : PartId) (bounds :
   pub others : (j : ℕ) → IsOther sites p.site j → entry bounds j ≡ bound before p j
 
 abbrev pub IsFresh : ℕ → ℕ → List Line → PartId → Call → Step → Type 0
-IsFresh sites parts before p call (step.Began name t s) = IsSnapshot sites parts before p name t s
+IsFresh sites parts before p call (step.Crashed q) = ⊤
+IsFresh sites parts before p (Begin who dep) (step.Began name t s) = IsSnapshot sites parts before p dep t s
 IsFresh sites parts before p call (step.Heard number q stable) = IsStable sites parts before p (λ k j. heard_after k j (heard before p k j) call (step.Heard number q stable)) stable
 IsFresh sites parts before p call (step.Reported number q bounds) = ShowsBounds sites before p bounds
 IsFresh sites parts before p call other = ⊤

@@ -5,9 +5,9 @@ use Rattle.site_vector.specs.declared.ids.TxId.{TxId}
 use Rattle.crdt_core.specs.declared.object.ObjectId.{ObjectId}
 use Rattle.crdt_core.specs.declared.record.Upd.{Upd}
 use Rattle.crdt_core.specs.Placing.{place_of}
-use Rattle.world_model.specs.Event.{AskBegin, AskRead, AskUpdate, AskDecide, AskTake, Event, Began, Updated, Read, Took, Heard, Refused, Entry, tried}
-use Rattle.world_model.specs.Past.{is_of, dependency}
-use Rattle.world_model.specs.Plan.{Plan, home, update_count, MayTake, MayHear}
+use Rattle.world_model.specs.Event.{AskRead, AskUpdate, AskPrepare, AskDecide, AskTake, Event, Began, Updated, Read, Prepared, Took, Heard, Refused, Cut, Entry, tried}
+use Rattle.world_model.specs.Past.{is_of}
+use Rattle.world_model.specs.Plan.{Plan, home, takes_part, update_count, MayTake, MayHear}
 
 module _ {E : Type 0} where
   -- t reads and updates the object where it stands, at its own site
@@ -19,15 +19,21 @@ module _ {E : Type 0} where
     pub begun : is_of run who t ≡ true
 
   -- what is refused was handed what its session holds, and a decide is asked at the transaction's site; a begin names its partition; a message that is taken was sent to here, and a report that is heard was made
+  -- of what was cut off, and of what is refused, the place as of what was answered
   abbrev pub HandedAt : Plan E → List (Entry E) → PartId → Event E → Type 0
   HandedAt plan run p (Began who dep t s) = home t ≡ p
   HandedAt plan run p (Read t s o own read value) = IsPlacedAt plan run p t o
   HandedAt plan run p (Updated t s o own op read u stamp) = IsPlacedAt plan run p t o × (u.object ≡ o)
   HandedAt plan run p (Took number m) = MayTake plan run p number m
   HandedAt plan run p (Refused (AskTake number m) why) = MayTake plan run p number m
-  HandedAt plan run p (Refused (AskBegin who dep) why) = dep ≡ dependency plan.sites run who
-  HandedAt plan run p (Refused (AskRead t s o own) why) = s ≡ plan.snapshot t
-  HandedAt plan run p (Refused (AskUpdate t s o own op) why) = s ≡ plan.snapshot t
+  HandedAt plan run p (Refused (AskRead t s o own) why) = (s ≡ plan.snapshot t) × IsPlacedAt plan run p t o
+  HandedAt plan run p (Refused (AskUpdate t s o own op) why) = (s ≡ plan.snapshot t) × IsPlacedAt plan run p t o
+  HandedAt plan run p (Refused (AskPrepare t s l w) why) = takes_part plan t p ≡ true
+  HandedAt plan run p (Prepared t s l w n) = takes_part plan t p ≡ true
+  HandedAt plan run p (Cut (Read t s o own read value)) = (s ≡ plan.snapshot t) × IsPlacedAt plan run p t o
+  HandedAt plan run p (Cut (Updated t s o own op read u stamp)) = (s ≡ plan.snapshot t) × IsPlacedAt plan run p t o
+  HandedAt plan run p (Cut (Prepared t s l w n)) = (s ≡ plan.snapshot t) × (takes_part plan t p ≡ true)
+  HandedAt plan run p (Cut (Took number m)) = MayTake plan run p number m
   HandedAt plan run p (Refused (AskDecide t c) why) = p.site ≡ t.site
   HandedAt plan run p (Heard number q b stable) = MayHear plan run p number q b
   HandedAt plan run p other = ⊤

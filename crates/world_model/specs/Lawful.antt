@@ -9,10 +9,10 @@ use Rattle.crdt_core.specs.Seen.{Update}
 use Rattle.world_model.specs.Plan.{IsPlace}
 use Rattle.world_model.specs.Lines.{Line, EachLine}
 use Rattle.world_model.specs.Clock.{FollowsClock}
-use Rattle.world_model.specs.Dependency.{KeepsPast}
+use Rattle.world_model.specs.Dependency.{HandsKnown, HoldsHanded, HandsOwn, KeepsPast}
 use Rattle.world_model.specs.History.{in_history, visible, snapshot, is_begun, IsClosed, IsStrictOrder}
 use Rattle.world_model.specs.Updates.{takes_part, lead, IsPlaced}
-use Rattle.world_model.specs.Commit.{was_prepared, ShowsCommit}
+use Rattle.world_model.specs.Commit.{was_prepared, IsAskedAt, ShowsCommit}
 use Rattle.world_model.specs.Reads.{IsRightRead}
 use Rattle.world_model.specs.LineAnswers.{IsAnswer}
 use Rattle.world_model.specs.Ops.{HasOp}
@@ -33,11 +33,15 @@ pub record IsLawful (too_deep : Kind → List Field → Bool) (meaning : Kind �
   pub answers : EachLine IsAnswer ls
   pub clock : FollowsClock ls
   pub placed : EachLine (IsPlaced parts) ls
-  pub past : KeepsPast sites ls
+  -- begins are handed what is known, and snapshots hold it: so each holds its session's past, where it was handed that
+  pub handed : EachLine (λ before p call step. HandsKnown sites before call) ls
+  pub held : EachLine HoldsHanded ls
+  pub past : HandsOwn sites ls → KeepsPast sites ls
   pub fresh : EachLine (IsFresh sites parts) ls
   -- each value is the meaning of exactly what its transaction may see in the whole run
   pub right : EachLine (IsRightRead meaning ls) ls
   pub commit : EachLine (ShowsCommit parts ls) ls
+  pub asked : EachLine (λ before p call step. IsAskedAt ls p call) ls
   pub agreed : (t : TxId) → in_history ls t ≡ true → IsAgreed parts ls t
   pub fates : EachLine (ShowsFate sites parts ls) ls
   pub streams : EachLine (IsStream sites ls) ls

@@ -17,6 +17,7 @@ use Rattle.world_model.specs.Doubt.{SettleDoubts}
 use Rattle.world_model.specs.Downs.{AnswerAsUp}
 use Rattle.world_model.specs.Shown.{ShowAt}
 use Rattle.world_model.specs.Stable.{AreFresh}
+use Rattle.world_model.specs.Clear.{AreClear}
 use Rattle.world_model.specs.Meaning.{HaveMeaning, AreCausal}
 
 pub record IsLawfulWorld {S E : Type 0} (kinds : Kinds S E) (plan : Plan E) (run : List (Entry E)) : Type 0 where
@@ -43,6 +44,8 @@ pub record IsLawfulWorld {S E : Type 0} (kinds : Kinds S E) (plan : Plan E) (run
   pub due : AreDue run
   pub known : EventsAre (IsKnown kinds) run
   pub causes : HaveCausesAt plan run
+  -- what was cut off, or found no room, had no other cause
+  pub clear : AreClear plan run
   pub downs : AnswerAsUp run
   -- a restart lists what was before, where a call that was cut off may have been done
   pub resumed : Resume plan run

@@ -15,6 +15,7 @@ pub mod Meaning
 pub mod Shown
 pub mod Logs
 pub mod Stable
+pub mod Clear
 pub mod Downs
 pub mod Answering
 pub mod Doubt
@@ -41,3 +42,12 @@ pub mod LineAnswers
 pub mod Ops
 pub mod Lawful
 pub mod World
+pub mod Premises
+pub mod Traces
+pub mod Asking
+pub mod CommitSteps
+pub mod Phases
+pub mod Messages
+pub mod Meeting
+pub mod ScriptCalls
+pub mod ScriptAnswers

@@ -19,12 +19,23 @@ may_fail Crash = false
 may_fail Open = false
 may_fail other = true
 
+-- which calls write to the log, and so may find no room there
+abbrev pub may_write : Call → Bool
+may_write (Tick reading) = true
+may_write (Begin who dep) = true
+may_write (PrepareOf t) = true
+may_write (DecideOf t) = true
+may_write (FinishOf t) = true
+may_write (AbortOf t) = true
+may_write (TakeOf site lo hi) = true
+may_write other = false
+
 -- a value and an update bear the name of the session that began the transaction; a decide that a fault ended leaves its
 -- transaction in doubt, and every other call shows that its disk failed
 abbrev pub IsAnswer : List Line → PartId → Call → Step → Type 0
 IsAnswer before p call (step.Down q) = (q ≡ p) × (needs_up call ≡ true)
 IsAnswer before p (Tick reading) (step.Ticked q n) = q ≡ p
-IsAnswer before p (Begin who) (step.Began name t s) = name ≡ who
+IsAnswer before p (Begin who dep) (step.Began name t s) = name ≡ who
 IsAnswer before p (ReadOf t o) (step.Value name object value) = (object ≡ o) × (is_of before name t ≡ true)
 IsAnswer before p (UpdateOf t o op) (step.Updated name object stamp) = (object ≡ o) × (is_of before name t ≡ true)
 IsAnswer before p (PrepareOf t) (step.Prepared q u n) = (q ≡ p) × (u ≡ t)
@@ -44,10 +55,10 @@ IsAnswer before p Open (step.MadeSession name site) = site ≡ p.site
 IsAnswer before p call (step.WaitClock q n) = q ≡ p
 IsAnswer before p call (step.WaitTxn q u n) = q ≡ p
 IsAnswer before p call (step.WaitStable j n) = ⊤
-IsAnswer before p (UpdateOf t o op) step.BadOp = ⊤
-IsAnswer before p (Begin who) step.TimeEnd = ⊤
+IsAnswer before p (Begin who dep) step.TimeEnd = ⊤
 IsAnswer before p (PrepareOf t) step.TimeEnd = ⊤
 IsAnswer before p call (step.Gone q t) = q ≡ p
+IsAnswer before p call (step.Full room) = may_write call ≡ true
 IsAnswer before p (DecideOf t) (step.Unsure u) = u ≡ t
 IsAnswer before p (DecideOf t) (step.Disk q) = ⊥
 IsAnswer before p call (step.Disk q) = (q ≡ p) × (may_fail call ≡ true)

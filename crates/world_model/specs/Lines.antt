@@ -7,12 +7,13 @@ use Rattle.crdt_core.specs.declared.object.ObjectId.{ObjectId}
 use Rattle.crdt_core.specs.declared.operation.Op.{Op}
 use Rattle.world_model.specs.declared.step.Step.{Step}
 use Rattle.world_model.specs.declared.step.Step.TheVariants as step
-use Rattle.world_model.specs.Event.{Ask, AskTick, AskBegin, AskRead, AskUpdate, AskPrepare, AskDecide, AskFinish, AskAbort, AskMessage, AskTake, AskReport, AskHear, AskRestart, Refusal, IsDown, ClockBehind, TxPending, StableBehind, ClockAtEnd, IsGone, HasGap, IsRepeat, IsBadOp, IsDamaged, Event, Ticked, Began, Updated, Read, Prepared, Decided, Finished, Aborted, Sent, Took, Reported, Heard, Crashed, RestartCut, Restarted, Refused, Opened, Cut, Entry, sent_count, report_count}
+use Rattle.world_model.specs.Event.{Ask, AskTick, AskBegin, AskRead, AskUpdate, AskPrepare, AskDecide, AskFinish, AskAbort, AskMessage, AskTake, AskReport, AskHear, AskRestart, Refusal, IsDown, ClockBehind, TxPending, StableBehind, ClockAtEnd, IsGone, HasGap, IsRepeat, IsBadOp, HasNoRoom, IsDamaged, Event, Ticked, Began, Updated, Read, Prepared, Decided, Finished, Aborted, Sent, Took, Reported, Heard, Crashed, RestartCut, Restarted, Refused, Opened, Cut, Entry, sent_count, report_count}
 
 -- what a partition was asked: a run of the world holds no commands
 pub data Call : Type 0 where
   Tick : (reading : ℕ) → Call
-  Begin : (who : List ℕ) → Call
+  -- by a session, with what it was handed to depend on
+  Begin : (who dependency : List ℕ) → Call
   ReadOf : (tx : TxId) (object : ObjectId) → Call
   UpdateOf : (tx : TxId) (object : ObjectId) (op : Op) → Call
   PrepareOf : (tx : TxId) → Call
@@ -52,7 +53,7 @@ module _ {E : Type 0} where
 
   abbrev pub call_asked : Ask E → Call
   call_asked (AskTick r) = Tick r
-  call_asked (AskBegin who dep) = Begin who
+  call_asked (AskBegin who dep) = Begin who dep
   call_asked (AskRead t s o own) = ReadOf t o
   call_asked (AskUpdate t s o own op) = UpdateOf t o op
   call_asked (AskPrepare t s l w) = PrepareOf t
@@ -67,7 +68,7 @@ module _ {E : Type 0} where
 
   abbrev pub call_done : Event E → Call
   call_done (Ticked r n) = Tick r
-  call_done (Began who dep t s) = Begin who
+  call_done (Began who dep t s) = Begin who dep
   call_done (Updated t s o own op read u stamp) = UpdateOf t o op
   call_done (Read t s o own read value) = ReadOf t o
   call_done (Prepared t s l w n) = PrepareOf t
@@ -116,6 +117,7 @@ module _ {E : Type 0} where
   refusal_shown run p asked (HasGap n) = step.Gap (number_asked asked) n
   refusal_shown run p asked (IsRepeat n) = step.Dup (number_asked asked) n
   refusal_shown run p asked IsBadOp = step.BadOp
+  refusal_shown run p asked (HasNoRoom n) = step.Full n
   refusal_shown run p asked (IsDamaged k) = step.Damaged p k
 
   -- a call that was cut off: a decide leaves its transaction in doubt
@@ -132,9 +134,9 @@ module _ {E : Type 0} where
   step_shown run p (Decided t c) = step.Decided p t c
   step_shown run p (Finished t c) = step.Finished p t
   step_shown run p (Aborted t own) = step.Aborted p t
-  step_shown run p (Sent asked m) = step.Sent (sent_count run + 1) p m.to m.lo m.hi (length m.parts)
+  step_shown run p (Sent asked m) = step.Sent (sent_count run p + 1) p m.to m.lo m.hi (length m.parts)
   step_shown run p (Took number m) = step.Took number m.hi
-  step_shown run p (Reported b) = step.Reported (report_count run + 1) p b
+  step_shown run p (Reported b) = step.Reported (report_count run p + 1) p b
   step_shown run p (Heard number q b stable) = step.Heard number p stable
   step_shown run p Crashed = step.Crashed p
   step_shown run p RestartCut = step.Disk p

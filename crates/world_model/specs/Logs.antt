@@ -7,9 +7,9 @@ use Rattle.crdt_core.specs.declared.record.Part.{Part}
 use Rattle.crdt_core.specs.declared.record.Message.{Message}
 use Rattle.crdt_core.specs.declared.record.Record.{Record}
 use Rattle.crdt_core.specs.declared.record.Record.TheVariants.{Lease, Prepare, Decide, Finish, Abort, Batch}
-use Rattle.crdt_core.specs.Log.{ceiling, pending, last_decided, bound, grown, IsImage}
+use Rattle.crdt_core.specs.Log.{ceiling, pending, last_decided, logged_bound, grown, MayFind}
 use Rattle.world_model.specs.Event.{Event, Ticked, Began, Prepared, Decided, Finished, Aborted, Took, Restarted, Cut, Entry}
-use Rattle.world_model.specs.Partition.{PartState, Image, IsOther, IsOwnBound, names_pending, AreTimed}
+use Rattle.world_model.specs.Partition.{PartState, Finds, IsOther, IsOwnBound, names_pending, AreTimed}
 use Rattle.world_model.specs.Plan.{Plan, commit_vector}
 use Rattle.world_model.specs.Shown.{IsBefore, AreInOrder, bound_shown}
 
@@ -17,7 +17,7 @@ module _ {E : Type 0} where
   -- what a restart reads from a log
   pub record IsReadFrom (sites : ℕ) (p : PartId) (log : List (Record E)) (now : ℕ) (bounds : List ℕ) (named : Option TxId) (listed : List (TxId × ℕ)) : Type 0 where
     pub clock : now ≡ ceiling log
-    pub others : (j : ℕ) → IsOther sites p.site j → entry bounds j ≡ bound log j
+    pub others : (j : ℕ) → IsOther sites p.site j → entry bounds j ≡ logged_bound log j
     pub own : IsOwnBound now log (entry bounds p.site)
     pub last : named ≡ last_decided log
     pub members : (t : TxId) → names_pending listed t ≡ pending log t
@@ -30,8 +30,8 @@ module _ {E : Type 0} where
 
   -- the record of what a message brings, none where that is nothing
   abbrev pub taken_of : PartId → Message E → ℕ → List (Part E) → List (Record E)
-  taken_of p m bound [] = []
-  taken_of p m bound (x ∷ xs) = Batch (record { from = m.from; to = p.site; part = p.part; lo = bound; hi = m.hi; parts = x ∷ xs }) ∷ []
+  taken_of p m logged_bound [] = []
+  taken_of p m logged_bound (x ∷ xs) = Batch (record { from = m.from; to = p.site; part = p.part; lo = logged_bound; hi = m.hi; parts = x ∷ xs }) ∷ []
 
   -- the records of an event: each transaction has its lead, its snapshot and its updates there, and the commit vector that its votes give
   abbrev pub records_of : Plan E → List (Entry E) → PartId → List (Record E) → Event E → List (Record E)
@@ -46,7 +46,7 @@ module _ {E : Type 0} where
 
   -- the log after an event: with its records, or with the first of them where it was cut off
   abbrev pub IsLogAfter : Plan E → List (Entry E) → PartId → List (Record E) → Event E → List (Record E) → Type 0
-  IsLogAfter plan run p old (Cut what) log = IsImage old (records_of plan run p old what) log
+  IsLogAfter plan run p old (Cut what) log = MayFind old (records_of plan run p old what) log
   IsLogAfter plan run p old (Restarted n b named listed) log = (log ≡ old) × IsReadFrom plan.sites p old n b named listed
   IsLogAfter plan run p old event log = log ≡ grown old (records_of plan run p old event)
 
@@ -57,4 +57,4 @@ module _ {E : Type 0} where
 
   -- whatever a restart of a partition may find is a log that the run leaves there
   abbrev pub LeavesLogs : Plan E → List (Entry E) → (PartId → PartState E) → Type 0
-  LeavesLogs plan run parts = (p : PartId) (log : List (Record E)) → Image (parts p) log → IsLogOf plan run p log
+  LeavesLogs plan run parts = (p : PartId) (log : List (Record E)) → Finds (parts p) log → IsLogOf plan run p log

@@ -28,15 +28,15 @@ use Rattle.crdt_core.specs.Fits.{fits}
 use Rattle.crdt_core.specs.Seen.{Update}
 use Rattle.crdt_core.specs.History.{folded}
 use Rattle.crdt_core.specs.Law.{KeepsLaw}
-use Rattle.crdt_core.specs.KindsOf.{Kinds}
+use Rattle.crdt_core.specs.KindsOf.{Kinds, fits_kind}
 use Rattle.crdt_core.specs.Folds.{IsFold, state_read}
 use Rattle.crdt_core.specs.Orders.{Ascends, pending_cmp, stream_cmp}
-use Rattle.crdt_core.specs.Log.{end_of_time, ceiling, lease_for, prepare_time, prepared_changes, committed, committed_at, pending, last_decided, bound, grown, IsImage}
+use Rattle.crdt_core.specs.Log.{end_of_time, ceiling, lease_for, prepare_time, prepared_changes, committed, committed_at, pending, last_decided, logged_bound, grown, MayFind}
 use Rattle.crdt_core.specs.Parts.{touches, lists, AreParts, above}
-use Rattle.world_model.specs.Event.{Ask, AskBegin, AskRead, AskUpdate, AskPrepare, AskDecide, AskFinish, AskAbort, AskTake, AskRestart, is_restart, Refusal, IsDown, ClockBehind, TxPending, StableBehind, ClockAtEnd, IsGone, HasGap, IsRepeat, IsBadOp, IsDamaged, Event, Refused, Ticked, Began, Updated, Read, Prepared, Decided, Finished, Aborted, Sent, Took, Reported, Heard, Crashed, RestartCut, Restarted, Opened, Cut}
+use Rattle.world_model.specs.Event.{Ask, AskBegin, AskRead, AskUpdate, AskPrepare, AskDecide, AskFinish, AskAbort, AskTake, AskTick, AskRestart, is_restart, Refusal, IsDown, ClockBehind, TxPending, StableBehind, ClockAtEnd, IsGone, HasGap, IsRepeat, IsBadOp, HasNoRoom, IsDamaged, Event, Refused, Ticked, Began, Updated, Read, Prepared, Decided, Finished, Aborted, Sent, Took, Reported, Heard, Crashed, RestartCut, Restarted, Opened, Cut}
 use Rattle.crdt_core.specs.Fitting.{unfit}
 
--- all else is told by the log. While it is up, `torn` is empty; while it is down, a restart finds an image of both
+-- all else is told by the log. While it is up, `torn` is empty; while it is down, a restart finds what `MayFind` says of both
 pub record PartState (E : Type 0) : Type 0 where
   pub up : Bool
   pub now : ℕ
@@ -67,8 +67,9 @@ abbrev pub names_pending : List (TxId × ℕ) → TxId → Bool
 names_pending xs t = list_any (λ x. same_tx x.0 t) xs
 
 module _ {E : Type 0} where
-  abbrev pub Image : PartState E → List (Record E) → Type 0
-  Image p image = IsImage p.log p.torn image
+  -- a restart of the partition may find this log
+  abbrev pub Finds : PartState E → List (Record E) → Type 0
+  Finds p found = MayFind p.log p.torn found
 
   -- what a partition knows of how far partition q of its site has come with site j: its own bounds, or what it heard
   abbrev pub known : PartId → PartState E → ℕ → ℕ → ℕ
@@ -109,7 +110,7 @@ module _ {E : Type 0} where
     pub ready : reads_state o.kind ≡ true → IsReady id p s o
     pub fold : reads_state o.kind ≡ true → IsFold p.log s o read
     pub known : kinds.has o.kind ≡ true
-    pub fits : (fits o.kind op.path op.act && not (kinds.too_deep o.kind op.path)) ≡ true
+    pub fits : fits_kind kinds.too_deep o op ≡ true
     pub object : u.object ≡ o
     pub effect : u.effect ≡ kinds.made o.kind (state_read kinds o t own read) op.path op.act p.now
     pub stamped : stamp ≡ kinds.stamp_of u.effect
@@ -237,9 +238,9 @@ module _ {E : Type 0} where
   IsDue kinds sites parts id p (AskBegin who dep) ClockAtEnd = IsStableEnough sites parts id p dep × (p.now ≡ end_of_time)
   IsDue kinds sites parts id p (AskRead t s o own) (ClockBehind n) = (n ≡ p.now) × (n < entry s id.site)
   IsDue kinds sites parts id p (AskRead t s o own) (TxPending u n) = IsTxPending id p s o u n
-  IsDue kinds sites parts id p (AskUpdate t s o own op) IsBadOp = (fits o.kind op.path op.act && not (kinds.too_deep o.kind op.path)) ≡ false
-  IsDue kinds sites parts id p (AskUpdate t s o own op) (ClockBehind n) = (reads_state o.kind ≡ true) × (n ≡ p.now) × (n < entry s id.site) × ((fits o.kind op.path op.act && not (kinds.too_deep o.kind op.path)) ≡ true)
-  IsDue kinds sites parts id p (AskUpdate t s o own op) (TxPending u n) = (reads_state o.kind ≡ true) × IsTxPending id p s o u n × ((fits o.kind op.path op.act && not (kinds.too_deep o.kind op.path)) ≡ true)
+  IsDue kinds sites parts id p (AskUpdate t s o own op) IsBadOp = fits_kind kinds.too_deep o op ≡ false
+  IsDue kinds sites parts id p (AskUpdate t s o own op) (ClockBehind n) = (reads_state o.kind ≡ true) × (n ≡ p.now) × (n < entry s id.site) × (fits_kind kinds.too_deep o op ≡ true)
+  IsDue kinds sites parts id p (AskUpdate t s o own op) (TxPending u n) = (reads_state o.kind ≡ true) × IsTxPending id p s o u n × (fits_kind kinds.too_deep o op ≡ true)
   IsDue kinds sites parts id p (AskPrepare t s l w) (ClockBehind n) = (n ≡ p.now) × (n < entry s id.site)
   IsDue kinds sites parts id p (AskPrepare t s l w) ClockAtEnd = (entry s id.site ≤ p.now) × (p.now ≡ end_of_time)
   IsDue kinds sites parts id p (AskDecide t c) IsGone = (pending p.log t || committed p.log t) ≡ false
@@ -247,13 +248,21 @@ module _ {E : Type 0} where
   IsDue kinds sites parts id p (AskAbort t) IsGone = pending p.log t ≡ false
   IsDue kinds sites parts id p (AskTake number m) (HasGap n) = (n ≡ entry p.bounds m.from) × (n < m.lo)
   IsDue kinds sites parts id p (AskTake number m) (IsRepeat n) = (n ≡ entry p.bounds m.from) × (m.lo ≤ n) × (m.hi ≤ n)
+  -- no room: every other cause is absent, and there is something to write
+  IsDue kinds sites parts id p (AskTick r) (HasNoRoom n) = r ≤ end_of_time
+  IsDue kinds sites parts id p (AskBegin who dep) (HasNoRoom n) = IsStableEnough sites parts id p dep × (p.now < end_of_time)
+  IsDue kinds sites parts id p (AskPrepare t s l w) (HasNoRoom n) = (entry s id.site ≤ p.now) × (p.now < end_of_time)
+  IsDue kinds sites parts id p (AskDecide t c) (HasNoRoom n) = pending p.log t ≡ true
+  IsDue kinds sites parts id p (AskFinish t c) (HasNoRoom n) = pending p.log t ≡ true
+  IsDue kinds sites parts id p (AskAbort t) (HasNoRoom n) = pending p.log t ≡ true
+  IsDue kinds sites parts id p (AskTake number m) (HasNoRoom n) = (m.lo ≤ entry p.bounds m.from) × (entry p.bounds m.from < m.hi)
   IsDue kinds sites parts id p asked why = ⊥
 
   -- what a restart found isn't the partition's
   pub record IsUnfit (sites parts : ℕ) (id : PartId) (p : PartState E) (at : ℕ) : Type 0 where
     pub down : p.up ≡ false
     pub log : List (Record E)
-    pub found : Image p log
+    pub found : Finds p log
     pub first : unfit sites parts id log ≡ Some at
 
   -- down is first of all, but a restart is never refused so
@@ -264,13 +273,13 @@ module _ {E : Type 0} where
 
   -- a restart reads the log again and forgets the rest; one that is up acts as if it had crashed
   pub record IsRestart (sites parts : ℕ) (id : PartId) (p : PartState E) (n : ℕ) (b : List ℕ) (named : Option TxId) (listed : List (TxId × ℕ)) (q : PartState E) : Type 0 where
-    pub found : Image p q.log
+    pub found : Finds p q.log
     pub fits : unfit sites parts id q.log ≡ None
     pub up : q.up ≡ true
     pub whole : q.torn ≡ []
     pub clock : q.now ≡ ceiling q.log
     pub width : length q.bounds ≡ sites
-    pub bounds : (j : ℕ) → IsOther sites id.site j → entry q.bounds j ≡ bound q.log j
+    pub bounds : (j : ℕ) → IsOther sites id.site j → entry q.bounds j ≡ logged_bound q.log j
     pub heard : q.heard ≡ replicate parts (replicate sites 0)
     pub sent : q.sent ≡ replicate sites 0
     pub shown : n ≡ q.now

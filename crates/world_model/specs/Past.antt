@@ -1,11 +1,16 @@
--- What a session depends on, by what a run shows.
-use Rattle.std.specs.Prelude.{◌≡◌, ℕ, Bool, true, false, ◌&&◌, ◌||◌, if◌then◌else◌, List, [], ◌∷◌, replicate, ⊤}
+-- What a begin is handed, and what a session depends on, by what a run shows.
+use Rattle.std.specs.Prelude.{◌≡◌, ◌⊎◌, ℕ, Bool, true, false, ◌&&◌, ◌||◌, if◌then◌else◌, List, [], ◌∷◌, replicate, ⊤}
 use Rattle.std.specs.Str.{bytes_eq}
 use Rattle.site_vector.specs.declared.ids.PartId.{PartId}
 use Rattle.site_vector.specs.declared.ids.TxId.{TxId}
 use Rattle.site_vector.specs.Ids.{same_tx}
 use Rattle.site_vector.specs.Vector.{le, join}
-use Rattle.world_model.specs.Event.{Event, Began, Decided, Opened, Entry}
+use Rattle.world_model.specs.Event.{AskBegin, Event, Began, Decided, Refused, Opened, Cut, Entry}
+
+-- the join of vectors with one entry for each site
+abbrev pub joined : ℕ → List (List ℕ) → List ℕ
+joined sites [] = replicate sites 0
+joined sites (v ∷ vs) = join (joined sites vs) v
 
 module _ {E : Type 0} where
   abbrev pub begins_for : Event E → List ℕ → TxId → Bool
@@ -29,9 +34,31 @@ module _ {E : Type 0} where
   dependency sites [] who = replicate sites 0
   dependency sites (e ∷ run) who = dependency_after sites run who (dependency sites run who) e.event
 
-  -- a begin is handed what its session depends on, and its snapshot holds it
+  -- the event shows this vector: as the snapshot of a begin, or as the commit vector of a decision
+  abbrev pub ShowsVector : Event E → List ℕ → Type 0
+  ShowsVector (Began name dep t s) v = s ≡ v
+  ShowsVector (Decided t c) v = c ≡ v
+  ShowsVector other v = ⊥
+
+  abbrev pub WasVector : List (Entry E) → List ℕ → Type 0
+  WasVector [] v = ⊥
+  WasVector (e ∷ run) v = ShowsVector e.event v ⊎ WasVector run v
+
+  abbrev pub WereVectors : List (Entry E) → List (List ℕ) → Type 0
+  WereVectors run [] = ⊤
+  WereVectors run (v ∷ vs) = WasVector run v × WereVectors run vs
+
+  -- a join of snapshots and commit vectors that were shown: what a begin may be handed, whatever the names of sessions are
+  pub record IsKnownJoin (sites : ℕ) (run : List (Entry E)) (dep : List ℕ) : Type 0 where
+    pub vectors : List (List ℕ)
+    pub known : WereVectors run vectors
+    pub is : dep ≡ joined sites vectors
+
+  -- a begin is handed what is known, and its snapshot holds it
   abbrev pub HoldsPast : ℕ → List (Entry E) → PartId → Event E → Type 0
-  HoldsPast sites run p (Began who dep t s) = (dep ≡ dependency sites run who) × (le (dependency sites run who) s ≡ true)
+  HoldsPast sites run p (Began who dep t s) = IsKnownJoin sites run dep × (le dep s ≡ true)
+  HoldsPast sites run p (Cut (Began who dep t s)) = IsKnownJoin sites run dep
+  HoldsPast sites run p (Refused (AskBegin who dep) why) = IsKnownJoin sites run dep
   HoldsPast sites run p other = ⊤
 
   abbrev pub KeepPast : ℕ → List (Entry E) → Type 0

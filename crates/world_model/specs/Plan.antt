@@ -10,8 +10,8 @@ use Rattle.crdt_core.specs.declared.record.Message.{Message}
 use Rattle.crdt_core.specs.Objects.{same_object}
 use Rattle.crdt_core.specs.Placing.{place_of}
 use Rattle.world_model.specs.Event.{Ask, AskBegin, AskRead, AskUpdate, AskPrepare, AskDecide, AskFinish, AskTake, Refused, Event, Began, Updated, Read, Prepared, Decided, Finished, Aborted, Sent, Took, Reported, Heard, Entry, attempt, tried, voted, decide_tried, gave_up, is_decided, time_of, WasShown, sent_count, report_count, WasNumbered}
-use Rattle.world_model.specs.Past.{dependency}
-use Rattle.crdt_core.specs.KindsOf.{Kinds}
+use Rattle.world_model.specs.Past.{IsKnownJoin}
+use Rattle.crdt_core.specs.KindsOf.{Kinds, fits_kind}
 use Rattle.world_model.specs.Partition.{PartState, IsOther, ToldAborted, fate_of, new_part, PartStep}
 
 abbrev pub is_some_update : {E : Type 0} → List (Upd E) → Bool
@@ -121,7 +121,7 @@ module _ {E : Type 0} where
   MayAbort plan run parts p t true = decide_tried run t ≡ false
   MayAbort plan run parts p t false = (p ≡ plan.lead t) ⊎ TellsAborted (parts (plan.lead t)) t
 
-  -- a message is taken that was sent to here, as the one with this number
+  -- a message is taken that was sent to here, as the one with this number among its sender's
   pub record MayTake (plan : Plan E) (run : List (Entry E)) (p : PartId) (number : ℕ) (m : Message E) : Type 0 where
     pub from : IsOther plan.sites p.site m.from
     pub to : m.to ≡ p.site
@@ -129,7 +129,7 @@ module _ {E : Type 0} where
     pub asked : Option ℕ
     pub shown : WasNumbered sent_count run number (twin m.from p) (Sent asked m)
 
-  -- a report is heard that a partition of the site made, as the one with this number
+  -- a report is heard that a partition of the site made, as the one with this number among its own
   pub record MayHear (plan : Plan E) (run : List (Entry E)) (p : PartId) (number q : ℕ) (b : List ℕ) : Type 0 where
     pub least : 1 ≤ q
     pub most : q ≤ plan.parts
@@ -142,12 +142,12 @@ module _ {E : Type 0} where
     pub dependency : List ℕ
     pub begun : WasShown run (home t) (Began who dependency t s)
 
-  -- who asks for what is refused; a transaction is decided at its own site
+  -- who asks for what is refused, and where: at the place of the object, or at a participant; a transaction is decided at its own site
   abbrev pub MayAsk : Plan E → List (Entry E) → PartId → Ask E → Type 0
-  MayAsk plan run p (AskBegin who dep) = dep ≡ dependency plan.sites run who
-  MayAsk plan run p (AskRead t s o own) = IsSession run p t s
-  MayAsk plan run p (AskUpdate t s o own op) = IsSession run p t s
-  MayAsk plan run p (AskPrepare t s l w) = IsSession run p t s
+  MayAsk plan run p (AskBegin who dep) = IsKnownJoin plan.sites run dep
+  MayAsk plan run p (AskRead t s o own) = IsSession run p t s × (place_of o.bucket o.key plan.parts ≡ p.part)
+  MayAsk plan run p (AskUpdate t s o own op) = IsSession run p t s × (place_of o.bucket o.key plan.parts ≡ p.part)
+  MayAsk plan run p (AskPrepare t s l w) = IsSession run p t s × (takes_part plan t p ≡ true)
   MayAsk plan run p (AskDecide t c) = p.site ≡ t.site
   MayAsk plan run p (AskFinish t c) = (is_decided run t ≡ true) × (takes_part plan t p ≡ true)
   MayAsk plan run p (AskTake number m) = MayTake plan run p number m
@@ -155,7 +155,7 @@ module _ {E : Type 0} where
 
   -- what sessions hold, the lead tells, and messages and reports bring
   abbrev pub IsAllowed : Plan E → List (Entry E) → (PartId → PartState E) → PartId → Event E → Type 0
-  IsAllowed plan run parts at (Began who dep t s) = dep ≡ dependency plan.sites run who
+  IsAllowed plan run parts at (Began who dep t s) = IsKnownJoin plan.sites run dep
   IsAllowed plan run parts at (Updated t s o own op read u stamp) = IsAsked plan run at t s o own
   IsAllowed plan run parts at (Read t s o own read value) = IsAsked plan run at t s o own
   IsAllowed plan run parts at (Prepared t s l w n) = MayPrepare plan run at t s l w
@@ -172,10 +172,16 @@ module _ {E : Type 0} where
   IsPlanned plan at (Began who dep t s) = s ≡ plan.snapshot t
   IsPlanned plan at other = ⊤
 
+  -- a session hands a partition no operation that isn't one of the kind
+  abbrev pub IsFit : {S : Type 0} → Kinds S E → Event E → Type 0
+  IsFit kinds (Refused (AskUpdate t s o own op) why) = fits_kind kinds.too_deep o op ≡ true
+  IsFit kinds other = ⊤
+
   -- one step of the world: a step of one partition
   pub record WorldStep {S : Type 0} (kinds : Kinds S E) (plan : Plan E) (run : List (Entry E)) (before : PartId → PartState E) (e : Entry E) (after : PartId → PartState E) : Type 0 where
     pub place : IsPlace plan.sites plan.parts e.at
     pub allowed : IsAllowed plan run before e.at (attempt e.event)
+    pub fit : IsFit kinds e.event
     pub step : PartStep kinds plan.sites plan.parts e.at (before e.at) e.event (after e.at)
     pub others : (q : PartId) → q ≢ e.at → after q ≡ before q
 

@@ -30,18 +30,18 @@ abbrev pub is_sent : Step → Bool
 is_sent (step.Sent number p to lo hi count) = true
 is_sent other = false
 
--- how many messages the lines show, and how many reports: each row is numbered from 1
-abbrev pub sent_count : List Line → ℕ
-sent_count [] = 0
-sent_count (l ∷ ls) = if is_sent l.step then sent_count ls + 1 else sent_count ls
+-- how many messages of p the lines show, and how many reports: each row is numbered from 1
+abbrev pub sent_count : List Line → PartId → ℕ
+sent_count [] p = 0
+sent_count (l ∷ ls) p = if same_part l.at p && is_sent l.step then sent_count ls p + 1 else sent_count ls p
 
 abbrev pub is_report : Step → Bool
 is_report (step.Reported number p bounds) = true
 is_report other = false
 
-abbrev pub report_count : List Line → ℕ
-report_count [] = 0
-report_count (l ∷ ls) = if is_report l.step then report_count ls + 1 else report_count ls
+abbrev pub report_count : List Line → PartId → ℕ
+report_count [] p = 0
+report_count (l ∷ ls) p = if same_part l.at p && is_report l.step then report_count ls p + 1 else report_count ls p
 
 -- a line at q shows a message of this number to this site, of this stretch
 abbrev pub WasSent : List Line → PartId → ℕ → ℕ → ℕ → ℕ → Type 0
@@ -60,7 +60,7 @@ pub record IsHanded (sites : ℕ) (before : List Line) (p : PartId) (number site
 
 -- from where it was asked, or where the last one to the site ended; up to the own bound; all that lies between
 pub record IsNext (sites : ℕ) (whole before : List Line) (p : PartId) (asked : Option ℕ) (number site lo hi count : ℕ) : Type 0 where
-  pub row : number ≡ sent_count before + 1
+  pub row : number ≡ sent_count before p + 1
   pub to : IsOther sites p.site site
   pub low : lo ≡ low_of asked (last_sent before p site)
   pub high : IsOwnBound before p hi
@@ -72,6 +72,8 @@ IsStream sites whole before p (SendTo site asked) (step.Sent number q to lo hi c
 IsStream sites whole before p (TakeOf site lo hi) (step.Took number end) = (end ≡ hi) × (lo ≤ bound before p site) × (bound before p site < hi) × IsHanded sites before p number site lo hi
 IsStream sites whole before p (TakeOf site lo hi) (step.Gap number n) = (n ≡ bound before p site) × (n < lo) × IsHanded sites before p number site lo hi
 IsStream sites whole before p (TakeOf site lo hi) (step.Dup number n) = (n ≡ bound before p site) × (lo ≤ n) × (hi ≤ n) × IsHanded sites before p number site lo hi
+-- whatever answers it, a take is of a message that was sent to here
+IsStream sites whole before p (TakeOf site lo hi) other = (number : ℕ) × IsHanded sites before p number site lo hi
 IsStream sites whole before p (HearOf part bounds) (step.Heard number q stable) = WasReported before (record { site = p.site; part = part }) number bounds
-IsStream sites whole before p call (step.Reported number q bounds) = number ≡ report_count before + 1
+IsStream sites whole before p call (step.Reported number q bounds) = number ≡ report_count before p + 1
 IsStream sites whole before p call other = ⊤

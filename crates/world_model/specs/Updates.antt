@@ -59,9 +59,9 @@ lead parts ls t = first_of (home t) (participants parts ls t)
 abbrev pub StandsAt : ℕ → PartId → TxId → ObjectId → Type 0
 StandsAt parts p t o = (p.site ≡ t.site) × (place_of o.bucket o.key parts ≡ p.part)
 
--- a begin names its partition
+-- a begin names its partition; whatever answers a read or an update, it was asked where the object stands
 abbrev pub IsPlaced : ℕ → List Line → PartId → Call → Step → Type 0
+IsPlaced parts ls p (ReadOf t o) step = StandsAt parts p t o
+IsPlaced parts ls p (UpdateOf t o op) step = StandsAt parts p t o
 IsPlaced parts ls p call (step.Began name t s) = home t ≡ p
-IsPlaced parts ls p (ReadOf t o) (step.Value name object value) = StandsAt parts p t object
-IsPlaced parts ls p (UpdateOf t o op) (step.Updated name object stamp) = StandsAt parts p t object
 IsPlaced parts ls p call other = ⊤

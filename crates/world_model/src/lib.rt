@@ -2,9 +2,11 @@
 #![tactic(auto)]
 
 mod command;
+mod commit;
 mod step;
 mod world;
 
 pub use command::Command;
+pub use commit::{Next, What};
 pub use step::Step;
-pub use world::law_world;
+pub use world::{law_asks, law_premises, law_traces, law_world};
