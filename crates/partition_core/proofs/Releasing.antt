@@ -19,7 +19,7 @@ use Rattle.world_model.specs.Event.{Sent}
 use Rattle.world_model.specs.Partition.{PartState, IsOther, IsMessage, done}
 use Rattle.partition_core.specs.Tables.{Tables}
 use Rattle.partition_core.specs.Bounds.{own_bound}
-use Rattle.partition_core.specs.Messages.{AreApart}
+use Rattle.partition_core.specs.Messages.{AreApart, start_of}
 use Rattle.partition_core.specs.Stands.{Tells, Stands}
 use Rattle.partition_core.specs.Steps.{Anything, Steps}
 use Rattle.partition_core.proofs.Choices.{or_falses}
@@ -76,6 +76,10 @@ module _ {E : Type 0} where
           (λ u k. let here = (and_parts (committed log u) (within site lo hi (committed_at log u)) (sym (between_members u) ∙ k)).0 in (ap (λ b. if b then committed_at log u else taken_at log u) here, ap (λ b. if b then prepared_changes log u else taken_changes log u) here))
           (parts_sorted (stream_cmp site) (held_at log) (held_changes log) (parts_between site lo hi held) (parts_filter (held_at log) (held_changes log) passes held exact))
 
+starts : (asked : Option ℕ) (last n : ℕ) → last ≡ n → start_of asked last ≡ (elim asked [ None ↦ n | Some m ↦ m ])
+starts None last n e = e
+starts (Some m) last n e = refl
+
 module _ {S E : Type 0} (kinds : Kinds S E) (t : Tables E) where
   abbrev pub with_sent : List ℕ → Tables E
   with_sent sent = record { id = t.id; sites = t.sites; parts = t.parts; clock = t.clock; ceiling = t.ceiling; pending = t.pending; held = t.held; bounds = t.bounds; heard = t.heard; sent = sent }
@@ -109,3 +113,8 @@ module _ {S E : Type 0} (kinds : Kinds S E) (t : Tables E) where
               stands = record { up = refl; whole = refl; clock = h.clock; ceiling = h.ceiling; tells = h.tells; bounds = h.bounds; heard = h.heard; sent = ap (λ v. replaced v to hi) h.sent ∙ sym sent_is };
             };
       }
+
+  -- with where the code starts it
+  pub releases_from : (to last hi : ℕ) (asked : Option ℕ) (parts : List (Part E)) (sent : List ℕ) (lo : ℕ) → IsOther t.sites t.id.site to → lo ≡ start_of asked last → last ≡ entry t.sent to → hi ≡ own_bound t.clock t.pending → parts ≡ sorted_by (stream_cmp t.id.site) (parts_between t.id.site lo hi t.held) → sent ≡ replaced t.sent to hi
+      → Steps kinds t Anything (λ e. e ≡ Sent asked (record { from = t.id.site; to = to; part = t.id.part; lo = lo; hi = hi; parts = parts })) (with_sent sent)
+  releases_from to last hi asked parts sent lo other start last_is hi_is parts_are sent_is = releases to lo hi asked parts sent other (start ∙ starts asked last (entry t.sent to) last_is) hi_is parts_are sent_is

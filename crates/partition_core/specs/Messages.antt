@@ -1,5 +1,5 @@
 -- What a partition asks of a message that it takes, and what it makes of its parts.
-use Rattle.std.specs.Prelude.{◌≡◌, ℕ, ◌+◌, ◌≤◌, true, false, List, [], ◌∷◌, length, ⊤}
+use Rattle.std.specs.Prelude.{◌≡◌, ℕ, ◌+◌, ◌≤◌, true, false, List, [], ◌∷◌, length, Option, None, Some, ⊤}
 use Rattle.site_vector.specs.declared.ids.TxId.{TxId}
 use Rattle.crdt_core.specs.declared.record.Part.{Part}
 use Rattle.crdt_core.specs.Orders.{insert_by, fold_cmp}
@@ -33,3 +33,8 @@ pub record CanPut {E : Type 0} (parts : List (Part E)) (store : Stored E) : Type
   pub apart : AreApart parts
   pub fresh : (u : TxId) → lists parts u ≡ true → lists store.parts u ≡ false
   pub wide : AreWideParts store.sites parts
+
+-- where a message starts: at what is asked, or else at the end of the last one
+abbrev pub start_of : Option ℕ → ℕ → ℕ
+start_of None last = last
+start_of (Some n) last = n

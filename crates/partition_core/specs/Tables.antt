@@ -1,8 +1,11 @@
 -- What a partition keeps in memory, as contracts see it.
-use Rattle.std.specs.Prelude.{◌≡◌, ℕ, List}
+use Rattle.std.specs.Prelude.{◌≡◌, ℕ, Bool, ◌||◌, List}
 use Rattle.site_vector.specs.declared.ids.PartId.{PartId}
+use Rattle.site_vector.specs.declared.ids.TxId.{TxId}
 use Rattle.crdt_core.specs.declared.record.Part.{Part}
+use Rattle.crdt_core.specs.Parts.{lists}
 use Rattle.prepared_table.specs.declared.entry.Entry.{Entry}
+use Rattle.prepared_table.specs.Entries.{has_entry}
 
 pub record Tables (E : Type 0) : Type 0 where
   pub id : PartId
@@ -29,3 +32,7 @@ module _ {E : Type 0} where
     pub id : new.id ≡ old.id
     pub sites : new.sites ≡ old.sites
     pub parts : new.parts ≡ old.parts
+
+  -- the transaction is pending or held
+  abbrev pub knows : Tables E → TxId → Bool
+  knows t tx = has_entry t.pending tx || lists t.held tx

@@ -1,6 +1,5 @@
 ghost use Rattle.std.specs.Prelude.{◌≡◌, ◌≤◌, ◌<◌, ◌+◌, Bool, true, false, length, IfOk, MatchOption};
 ghost use Rattle.crdt_core.specs.KindsOf.{kinds_of};
-ghost use Rattle.crdt_core.specs.Parts.{lists};
 ghost use Rattle.prepared_table.specs.Entries.{has_entry, IsTakenOut};
 ghost use Rattle.world_model.specs.Event.{AskPrepare, AskDecide, AskFinish, AskAbort, Decided, Finished, Aborted};
 ghost use Rattle.world_model.specs.Event as event;
@@ -10,6 +9,7 @@ ghost use Rattle.partition_core.specs.Committed.{Commits};
 ghost use Rattle.partition_core.specs.Sound.{HasRoom, updates_pending};
 ghost use Rattle.partition_core.specs.Stands.{Stands};
 ghost use Rattle.partition_core.specs.Steps.{Anything, NamesNowhere};
+ghost use Rattle.partition_core.specs.Tables.{knows};
 
 use crate::clock::{END_OF_TIME, draw};
 use crate::{CallError, Fate, Partition, Refusal};
@@ -21,7 +21,8 @@ use std::alloc::{AllocError, Global};
 
 impl<C: Crdt> Partition<C> {
     /// Votes for a transaction of this site, with its snapshot, the number of its lead, and what it changes here, in the order
-    /// of its updates' numbers: the prepare time. Takes all the memory that its commit will need.
+    /// of its updates' numbers: the prepare time. Takes all the memory that its commit will need. It is none that the partition
+    /// knows (`knows`).
     ///
     /// # Errors
     ///
@@ -37,8 +38,7 @@ impl<C: Crdt> Partition<C> {
     ) -> Result<u64, CallError>
         requires place { tx.site ≡ self.old.id.site }
         requires width { length s.now ≡ self.old.sites }
-        requires not_pending { has_entry self.old.pending tx ≡ false }
-        requires not_held { lists self.old.held tx ≡ false }
+        requires unknown { knows self.old tx ≡ false }
         ensures { Called (kinds_of C.laws) self.old (NamesNowhere tx) (AskPrepare tx s.now lead updates.now) (λ n e. e ≡ event.Prepared tx s.now lead updates.now n) result self.new }
     {
         let at = self.clock.now();

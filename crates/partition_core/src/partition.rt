@@ -1,11 +1,13 @@
 ghost use Rattle.std.specs.Prelude.{◌≡◌, ◌≤◌, false};
+ghost use Rattle.prepared_table.specs.Entries.{first_on};
 ghost use Rattle.world_model.specs.Partition.{new_part};
 ghost use Rattle.partition_core.specs.Stands.{Stands};
+ghost use Rattle.partition_core.specs.Tables.{knows};
 
-use crdt_core::Crdt;
+use crdt_core::{Crdt, ObjectId};
 use effect_store::Store;
-use prepared_table::{Leased, Prepared};
-use site_vector::{PartId, VTime};
+use prepared_table::{Entry, Leased, Prepared};
+use site_vector::{PartId, TxId, VTime};
 use stable_gossip::Matrix;
 use std::alloc::Global;
 use std::marker::Model;
@@ -73,6 +75,27 @@ impl<C: Crdt> Partition<C> {
         ensures { result ≡ self.now.clock }
     {
         self.clock.now()
+    }
+
+    /// The pending transactions, in the order of prepare time and then of transaction.
+    pub fn pending(&self) -> &[Entry<C::Effect>]
+        ensures { result.now ≡ self.now.pending }
+    {
+        self.prepared.entries()
+    }
+
+    /// The first pending transaction, in order, that changes the object and is prepared by `upto`: its id and its prepare time.
+    pub fn pending_on(&self, object: &ObjectId, upto: u64) -> Option<(TxId, u64)>
+        ensures { result ≡ first_on object.now upto self.now.pending }
+    {
+        self.prepared.on(object, upto)
+    }
+
+    /// Whether a transaction is pending or held here.
+    pub fn knows(&self, tx: TxId) -> bool
+        ensures { result ≡ knows self.now tx }
+    {
+        self.prepared.get(tx).is_some() || self.store.has(tx).is_some()
     }
 
     /// Whether it crashed and was not restarted since. A partition without a disk never is.

@@ -1,16 +1,20 @@
-ghost use Rattle.std.specs.Prelude.{◌≡◌, ◌≢◌, ◌≤◌, ◌+◌, ℕ, true, false, length, IfSome, OnOk};
+ghost use Rattle.std.specs.Prelude.{◌≡◌, ◌≢◌, ◌≤◌, ◌+◌, ℕ, true, false, length, IfOk, IfSome, OnOk, OnErr};
 ghost use Rattle.site_vector.specs.declared.ids.TxId.{TxId};
 ghost use Rattle.site_vector.specs.Vector.{entry};
 ghost use Rattle.crdt_core.specs.KindsOf.{kinds_of};
-ghost use Rattle.crdt_core.specs.Parts.{above, lists};
-ghost use Rattle.world_model.specs.Event.{AskTake, Took};
+ghost use Rattle.crdt_core.specs.Orders.{sorted_by, stream_cmp};
+ghost use Rattle.crdt_core.specs.Parts.{above, lists, parts_between};
+ghost use Rattle.world_model.specs.Event.{AskTake, Sent, Took};
+ghost use Rattle.world_model.specs.Partition.{IsOther};
 ghost use Rattle.partition_core.specs.Answers.{Called};
-ghost use Rattle.partition_core.specs.Messages.{AreApart, AreWideParts, CanPut, inserted, updates_in};
-ghost use Rattle.partition_core.specs.Steps.{Anything};
+ghost use Rattle.partition_core.specs.Messages.{AreApart, AreWideParts, CanPut, inserted, start_of, updates_in};
+ghost use Rattle.partition_core.specs.Steps.{Anything, Steps};
 
+use crate::report::own_bound;
 use crate::{CallError, Partition, Refusal};
-use crdt_core::{Crdt, Message, Part};
+use crdt_core::{Crdt, Message, Part, copy_part};
 use effect_store::Store;
+use field_codec::ListOf;
 use repl_stream::cut_at;
 use site_vector::TxId;
 use std::alloc::{AllocError, Global};
@@ -45,6 +49,70 @@ impl<C: Crdt> Partition<C> {
         self.bounds = self.bounds.with(message.from, message.hi);
         Ok(())
     }
+
+    /// A message to another site, up to the own bound: all that was committed here above a time that is given, or else above
+    /// the end of the last message to that site.
+    ///
+    /// # Errors
+    ///
+    /// `AllocError` where memory runs out. The partition is as before then.
+    pub fn release(
+        &mut self,
+        alloc: Global,
+        to: u8,
+        from: Option<u64>,
+    ) -> Result<Message<C::Effect>, AllocError>
+        requires { IsOther self.old.sites self.old.id.site to }
+        ensures sent { IfOk result (λ m. Steps (kinds_of C.laws) self.old Anything (λ e. e ≡ Sent from m) self.new) }
+        ensures same { OnErr result (self.new ≡ self.old) }
+    {
+        let id = self.id;
+        let lo = start_of(from, self.sent.get(to));
+        let hi = own_bound(&self.clock, &self.prepared);
+        let parts = copy_between(alloc, &self.store, id.site, lo, hi)?;
+        self.sent = self.sent.with(to, hi);
+        Ok(Message {
+            from: id.site,
+            to,
+            part: id.part,
+            lo,
+            hi,
+            parts,
+        })
+    }
+}
+
+/// Where a message starts: at what is asked, or else at the end of the last one.
+fn start_of(asked: Option<u64>, last: u64) -> u64
+    ensures { result ≡ start_of asked last }
+{
+    match asked {
+        Some(time) => time,
+        None => last,
+    }
+}
+
+/// Equal parts of those of a site with a commit time above `lo` and at most `hi`, in the order of the site's stream.
+///
+/// # Errors
+///
+/// `AllocError` where memory runs out.
+fn copy_between<C: Crdt>(
+    alloc: Global,
+    store: &Store<C>,
+    site: u8,
+    lo: u64,
+    hi: u64,
+) -> Result<ListOf<Part<C::Effect>>, AllocError>
+    requires least { 1 ≤ site }
+    requires most { site ≤ store.now.sites }
+    ensures { IfOk result (λ l. l ≡ sorted_by (stream_cmp site) (parts_between site lo hi store.now.parts)) }
+{
+    let mut all = ListOf::new(alloc);
+    for part in store.between(site, lo, hi) {
+        all.push(copy_part::<C>(alloc, part)?)?;
+    }
+    Ok(all)
 }
 
 /// How many updates are in parts, unless they are too many to count.

@@ -4,6 +4,7 @@ use Rattle.crdt_core.specs.Log.{end_of_time}
 use Rattle.crdt_core.specs.Orders.{insert_by}
 use Rattle.crdt_core.specs.Parts.{lists}
 use Rattle.prepared_table.specs.Entries.{has_entry, entry_cmp}
+use Rattle.partition_core.proofs.Choices.{first_false, second_false}
 use Rattle.partition_core.proofs.Leasing.{opened}
 use Rattle.partition_core.proofs.PrepareCall.{prepares_by}
 use Rattle.partition_core.proofs.Rooms.{prepared_room, prepared_home}
@@ -14,8 +15,8 @@ invariant_of-self-2 g c =
     let i = c.self.invariant in
     let e = c.in_ok-promised.ensures in
     let here = c.requires.place ∙ ap (λ x. x.id.site) (sym c.self.view_is) in
-    let out = ap (λ l. has_entry l c.args.tx) e.pending ∙ ap (λ x. has_entry x.pending c.args.tx) c.self.view_is ∙ c.requires.not_pending in
-    let unheld = ap (λ l. lists l c.args.tx) e.held ∙ ap (λ x. lists x.held c.args.tx) c.self.view_is ∙ c.requires.not_held in
+    let out = ap (λ l. has_entry l c.args.tx) e.pending ∙ ap (λ x. has_entry x.pending c.args.tx) c.self.view_is ∙ first_false _ _ c.requires.unknown in
+    let unheld = ap (λ l. lists l c.args.tx) e.held ∙ ap (λ x. lists x.held c.args.tx) c.self.view_is ∙ second_false _ _ c.requires.unknown in
     let sum = e.more.0 ∙ ap (λ l. c.self.inside.promised + length l) (sym c.in_ok-updates.ensures) in
     record {
       placed = i.placed;
