@@ -1,6 +1,7 @@
 //! The updates that a partition holds, with indices for reading them.
 #![tactic(auto)]
 
+mod commits;
 mod fold;
 mod hooks;
 mod links;
