@@ -10,3 +10,4 @@ pub mod Holding
 pub mod Storing
 pub mod Folding
 pub mod Committing
+pub mod Between

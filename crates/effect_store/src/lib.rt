@@ -9,5 +9,6 @@ mod store;
 mod tags;
 mod updates;
 
+pub use commits::Parts;
 pub use store::Store;
 pub use updates::Updates;
