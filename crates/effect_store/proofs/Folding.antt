@@ -31,7 +31,7 @@ use Rattle.effect_store.proofs.Ordering.{before_order}
 use Rattle.effect_store.proofs.Spotting.{spots-arranged}
 use Rattle.effect_store.proofs.Reading.{chain_step}
 
-filter-append : {X : Type 0} (t : X → Bool) (xs ys : List X) → filter t (xs ++ ys) ≡ filter t xs ++ filter t ys
+pub filter-append : {X : Type 0} (t : X → Bool) (xs ys : List X) → filter t (xs ++ ys) ≡ filter t xs ++ filter t ys
 filter-append t [] ys = refl
 filter-append t (x ∷ xs) ys = elim (bools (t x)) [
   | inl y ↦ rw y (ap (λ l. x ∷ l) (filter-append t xs ys))

@@ -9,3 +9,5 @@ pub mod Reading
 pub mod Holding
 pub mod Storing
 pub mod Folding
+pub mod Committing
+pub mod Between

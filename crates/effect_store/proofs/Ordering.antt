@@ -42,7 +42,7 @@ then_first Less s h = cc
 then_first Equal s h = refl
 then_first Greater s h = cc
 
-then_second : (r s : Ordering) → ordering_then r s ≡ Equal → s ≡ Equal
+pub then_second : (r s : Ordering) → ordering_then r s ≡ Equal → s ≡ Equal
 then_second Less s h = cc
 then_second Equal s h = h
 then_second Greater s h = cc

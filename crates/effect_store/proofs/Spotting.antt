@@ -25,7 +25,7 @@ none_left : {X : Type 0} (xs : List X) → length xs ≡ 0 → xs ≡ []
 none_left [] h = refl
 none_left (x ∷ xs) h = absurd (omega arith)
 
-turned : (a b : Bool) → a || b ≡ true → b || a ≡ true
+pub turned : (a b : Bool) → a || b ≡ true → b || a ≡ true
 turned a b h = grind arith
 
 either_way : (a b c d : Bool) → (a ≡ true → c ≡ true) → (b ≡ true → d ≡ true) → a || b ≡ true → c || d ≡ true
@@ -34,11 +34,11 @@ either_way false true c d f g h = let e : d ≡ true = g refl in grind arith
 either_way false false c d f g h = cc
 
 -- of any two of a list one comes before the other
-abbrev Crossed : {X : Type 0} → (X → X → Bool) → List X → List X → Type 0
+abbrev pub Crossed : {X : Type 0} → (X → X → Bool) → List X → List X → Type 0
 Crossed lt acc [] = Unit {0}
 Crossed lt acc (x ∷ xs) = Each (λ q. lt x q || lt q x) acc × Crossed lt acc xs
 
-abbrev Paired : {X : Type 0} → (X → X → Bool) → List X → Type 0
+abbrev pub Paired : {X : Type 0} → (X → X → Bool) → List X → Type 0
 Paired lt [] = Unit {0}
 Paired lt (x ∷ xs) = Each (λ y. lt x y || lt y x) xs × Paired lt xs
 
@@ -52,14 +52,14 @@ suc_apart k h = omega arith
 suc_same : (k j : ℕ) → k ≢ j → suc k ≢ suc j
 suc_same k j n h = n (omega arith)
 
-paired_of : {X : Type 0} (lt : X → X → Bool) (xs : List X) → IsApart lt xs → Paired lt xs
+pub paired_of : {X : Type 0} (lt : X → X → Bool) (xs : List X) → IsApart lt xs → Paired lt xs
 paired_of lt [] h = tt
 paired_of lt (x ∷ xs) h = (
   each_at (λ y. lt x y || lt y x) xs (λ k p e. h zero (suc k) x p refl e (λ z. suc_apart k (sym z))),
   paired_of lt xs (λ k j p q e f n. h (suc k) (suc j) p q e f (suc_same k j n)),
 )
 
-crossed_none : {X : Type 0} (lt : X → X → Bool) (xs : List X) → Crossed lt [] xs
+pub crossed_none : {X : Type 0} (lt : X → X → Bool) (xs : List X) → Crossed lt [] xs
 crossed_none lt [] = tt
 crossed_none lt (x ∷ xs) = (tt, crossed_none lt xs)
 
@@ -67,7 +67,7 @@ crossed_added : {X : Type 0} (lt : X → X → Bool) (x : X) (acc xs : List X) �
 crossed_added lt x acc [] c e = tt
 crossed_added lt x acc (y ∷ ys) c e = (each-added lt (λ q. lt y q || lt q y) x (turned (lt x y) (lt y x) e.0) acc c.0, crossed_added lt x acc ys c.1 e.1)
 
-fresh_from : {X : Type 0} (lt : X → X → Bool) (acc xs : List X) → Crossed lt acc xs → Paired lt xs → Fresh lt acc xs
+pub fresh_from : {X : Type 0} (lt : X → X → Bool) (acc xs : List X) → Crossed lt acc xs → Paired lt xs → Fresh lt acc xs
 fresh_from lt acc [] c p = tt
 fresh_from lt acc (x ∷ xs) c p = (c.0, fresh_from lt (added lt x acc) xs (crossed_added lt x acc xs c.1 p.0) p.1)
 

@@ -76,7 +76,7 @@ module _ {E : Type 0} where
   reading_same parts parts' l l' e a r = rw e (record { linked = linked_same parts l l' a r.linked; small = rw a.entries r.small })
 
 -- what holds of two numbers holds of the greater
-by_max : (P : ℕ → Type 0) (a b r : ℕ) → r ≡ max a b → P a → P b → P r
+pub by_max : (P : ℕ → Type 0) (a b r : ℕ) → r ≡ max a b → P a → P b → P r
 by_max P a b r e h k = elim (dec r a) [
   | inl f ↦ subst P (sym f) h
   | inr n ↦ (let f : r ≡ b = omega arith in subst P (sym f) k)

@@ -8,3 +8,5 @@ pub mod Links
 pub mod Wanted
 pub mod Stores
 pub mod Applied
+pub mod Commits
+pub mod Listed

@@ -2,14 +2,16 @@ ghost use Rattle.std.specs.Prelude.{◌≡◌, ◌+◌, ◌≤◌, ℕ, [], leng
 ghost use Rattle.std.specs.List.{filter};
 ghost use Rattle.std.specs.HashMap.{get, spare};
 ghost use Rattle.site_vector.specs.declared.ids.TxId.{TxId};
-ghost use Rattle.crdt_core.specs.Orders.{insert_by, fold_cmp};
-ghost use Rattle.crdt_core.specs.Parts.{lists, vector_in, seen_parts};
+ghost use Rattle.crdt_core.specs.Orders.{insert_by, sorted_by, fold_cmp, stream_cmp};
+ghost use Rattle.crdt_core.specs.Parts.{lists, vector_in, seen_parts, parts_between};
 ghost use Rattle.crdt_core.specs.History.{folded};
 ghost use Rattle.crdt_core.specs.Folds.{effects_of};
 ghost use Rattle.effect_store.specs.Wanted.{is_outside};
 ghost use Rattle.effect_store.specs.Stores.{PartRoom};
 ghost use Rattle.effect_store.specs.Updates.{updates_of, updates_outside};
 
+use crate::commits;
+use crate::commits::{Commits, Parts, list_part, stretch};
 use crate::fold::apply_shown;
 use crate::hooks::head;
 use crate::links::{Links, NONE, link_part};
@@ -28,6 +30,7 @@ pub struct Store<C: Crdt> {
     parts: Vec<Part<C::Effect>>,
     ids: HashMap<TxId, u32>,
     links: Links,
+    lists: [Commits; 8],
     room: usize,
     update_room: usize,
 }
@@ -38,6 +41,7 @@ impl<C: Crdt> Model for Store<C> {
     ghost use Rattle.effect_store.specs.Arranged.{arranged};
     ghost use Rattle.effect_store.specs.Spots.{earlier};
     ghost use Rattle.effect_store.specs.Links.{Roomy};
+    ghost use Rattle.effect_store.specs.Listed.{AreLists, ListRoom};
     ghost use Rattle.effect_store.specs.Wanted.{IsReading};
     ghost use Rattle.effect_store.specs.Stored.{Stored};
     ghost use Rattle.effect_store.specs.Stores.{IsStore, PartRoom};
@@ -46,7 +50,7 @@ impl<C: Crdt> Model for Store<C> {
 
     ghost view = { λ s. record { sites = s.sites; parts = arranged earlier s.parts.items; room = s.room; update_room = s.update_room } };
 
-    ghost invariant = { λ s. IsStore s.sites s.parts.items (get ⟦<TxId as PartialEq>⟧.eq s.ids) × IsReading s.parts.items s.links × PartRoom s.room (vec_len s.parts) (vec_capacity s.parts) (spare s.ids) × Roomy s.links s.update_room × (1 ≤ s.sites) × (s.sites ≤ 8) };
+    ghost invariant = { λ s. IsStore s.sites s.parts.items (get ⟦<TxId as PartialEq>⟧.eq s.ids) × IsReading s.parts.items s.links × PartRoom s.room (vec_len s.parts) (vec_capacity s.parts) (spare s.ids) × Roomy s.links s.update_room × AreLists s.sites s.parts.items s.lists × ListRoom s.sites s.room s.lists × (1 ≤ s.sites) × (s.sites ≤ 8) };
 }
 
 impl<C: Crdt> Store<C> {
@@ -64,6 +68,16 @@ impl<C: Crdt> Store<C> {
             parts: Vec::new(alloc),
             ids: HashMap::new(alloc),
             links: Links::new(alloc),
+            lists: [
+                Commits::new(alloc),
+                Commits::new(alloc),
+                Commits::new(alloc),
+                Commits::new(alloc),
+                Commits::new(alloc),
+                Commits::new(alloc),
+                Commits::new(alloc),
+                Commits::new(alloc),
+            ],
             room: 0,
             update_room: 0,
         }
@@ -107,6 +121,23 @@ impl<C: Crdt> Store<C> {
         }
     }
 
+    /// The parts of a site with a commit time above `lo` and at most `hi`, in the order of the site's stream: by commit time, and
+    /// then by transaction. Sites are numbered from 1.
+    pub fn between(&self, site: u8, lo: u64, hi: u64) -> Parts<'_, C>
+        requires least { 1 ≤ site }
+        requires most { site ≤ self.now.sites }
+        ensures { result ≡ sorted_by (stream_cmp site) (parts_between site lo hi self.now.parts) }
+    {
+        let list = &self.lists[site as usize - 1];
+        stretch::<C>(
+            self.parts.as_slice(),
+            list.places.as_slice(),
+            site,
+            lo,
+            hi,
+        )
+    }
+
     /// Takes one more part in. Takes no memory.
     pub fn insert(&mut self, part: Part<C::Effect>)
         requires room { 1 ≤ self.old.room }
@@ -121,6 +152,13 @@ impl<C: Crdt> Store<C> {
         let place = self.parts.len() as u32;
         let updates = part.updates.as_slice().len();
         let _room_was_reserved = self.ids.insert(part.tx, place);
+        list_part(
+            self.parts.as_slice(),
+            &mut self.lists,
+            self.sites,
+            &part,
+            place,
+        );
         self.parts.push_reserved(part);
         link_part(self.parts.as_slice(), &mut self.links, place);
         self.room -= 1;
@@ -141,6 +179,7 @@ impl<C: Crdt> Store<C> {
         ensures update_room_reached { OnOk result (updates ≤ self.new.update_room) }
     {
         make_room(&mut self.parts, &mut self.ids, parts)?;
+        commits::make_room(&mut self.lists, self.sites, parts)?;
         self.room = self.room.max(parts);
         self.links.make_room(updates)?;
         self.update_room = self.update_room.max(updates);
