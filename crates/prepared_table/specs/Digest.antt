@@ -1,4 +1,5 @@
--- A word for each entry in which a bit stands for each object that it changes: where an object's bit isn't set, the entry doesn't change it.
+-- A word for each entry, with a bit for each object that it changes: where an object's bit isn't set, the entry
+-- doesn't change it.
 use Rattle.std.specs.Prelude.{ℕ, ◌+◌, ◌*◌, ◌/◌, ◌%◌, ◌^◌, bit_or, List, [], ◌∷◌}
 use Rattle.std.specs.List.{fold}
 use Rattle.crdt_core.specs.declared.object.ObjectId.{ObjectId}

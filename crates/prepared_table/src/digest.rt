@@ -57,7 +57,7 @@ fn changes<E>(updates: &[Upd<E>], object: &ObjectId) -> bool
     false
 }
 
-/// Whether one of these updates changes the object: where the object's bit isn't in their digest, without a look at them.
+/// Whether one of these updates changes the object. Where the object's bit isn't in their digest, none is looked at.
 pub(crate) fn touches<E>(updates: &[Upd<E>], digest: u128, object: &ObjectId, bit: u32) -> bool
     requires digest { digest ≡ marked 0 updates.now }
     requires bit { bit ≡ bit_of object.now }

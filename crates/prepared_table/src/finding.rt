@@ -18,7 +18,8 @@ fn same(t: TxId, u: TxId) -> bool
 
 /// Where the first entry of a transaction stands.
 pub(crate) fn find<E>(entries: &[Entry<E>], tx: TxId) -> Option<usize>
-    ensures { MatchOption result (found tx entries.now ≡ None) (λ i. (i < length entries.now) × (found tx entries.now ≡ slice_get entries.now i)) }
+    ensures { MatchOption result (found tx entries.now ≡ None)
+        (λ i. (i < length entries.now) × (found tx entries.now ≡ slice_get entries.now i)) }
 {
     for (i, entry) in entries.iter().enumerate() {
         if same(entry.tx, tx) {

@@ -1,4 +1,4 @@
-ghost use Rattle.std.specs.Prelude.{◌≡◌, ◌≤◌, ◌<◌, ◌+◌, Bool, false, length, map, insert, remove, slice_get, Some, vec_len, vec_capacity};
+ghost use Rattle.std.specs.Prelude.{◌≡◌, ◌≤◌, ◌<◌, ◌+◌, length, insert, remove, slice_get, Some, vec_len, vec_capacity};
 ghost use Rattle.crdt_core.specs.Orders.{Ascends, is_less, insert_by};
 ghost use Rattle.prepared_table.specs.Entries.{entry_cmp, has_entry};
 ghost use Rattle.prepared_table.specs.Digest.{digest_of};

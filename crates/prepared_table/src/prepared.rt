@@ -1,4 +1,5 @@
-ghost use Rattle.std.specs.Prelude.{◌≡◌, ◌≤◌, ◌<◌, ◌+◌, [], Bool, false, MatchOption, Some, OnOk, length, slice_get, vec_len, vec_capacity};
+ghost use Rattle.std.specs.Prelude.{◌≡◌, ◌≤◌, ◌<◌, ◌+◌, [], false, MatchOption, Some, OnOk, length, slice_get, vec_len};
+ghost use Rattle.std.specs.Prelude.{vec_capacity};
 ghost use Rattle.std.specs.Option.{option_copied};
 ghost use Rattle.crdt_core.specs.Orders.{Ascends, insert_by};
 ghost use Rattle.prepared_table.specs.Entries.{entry_cmp, has_entry, found, first_time, first_on, IsTakenOut};
@@ -32,7 +33,8 @@ impl<E> Model for Prepared<E> {
 
     ghost view = { λ p. record { entries = p.entries.items; room = p.room } };
 
-    ghost invariant = { λ p. IsTable p.entries.items p.digests.items × HasRoom (length p.entries.items) (length p.digests.items) p.room (vec_capacity p.entries) (vec_capacity p.digests) };
+    ghost invariant = { λ p. IsTable p.entries.items p.digests.items
+        × HasRoom (length p.entries.items) (length p.digests.items) p.room (vec_capacity p.entries) (vec_capacity p.digests) };
 }
 
 impl<E> Prepared<E> {
@@ -70,7 +72,8 @@ impl<E> Prepared<E> {
         Some(self.entries[0].time)
     }
 
-    /// The first entry, in order, that changes the object and has a time of at most `upto`: its transaction and its time.
+    /// The transaction and the time of the first entry, in order, that changes the object and has a time of at most
+    /// `upto`.
     pub fn on(&self, object: &ObjectId, upto: u64) -> Option<(TxId, u64)>
         ensures first { result ≡ first_on object.now upto self.now.entries }
         ensures ascends { Ascends entry_cmp self.now.entries }
@@ -128,7 +131,8 @@ impl<E: Drop> Prepared<E> {
     /// Takes out the entry of a transaction, if there is one. Its room stays.
     pub fn remove(&mut self, tx: TxId) -> Option<Entry<E>>
         ensures value { result ≡ found tx self.old.entries }
-        ensures rest { MatchOption result (self.new.entries ≡ self.old.entries) (λ x. IsTakenOut x self.old.entries self.new.entries) }
+        ensures rest { MatchOption result (self.new.entries ≡ self.old.entries)
+            (λ x. IsTakenOut x self.old.entries self.new.entries) }
         ensures room { MatchOption result (self.new.room ≡ self.old.room) (λ _. self.new.room ≡ self.old.room + 1) }
         ensures ascends { Ascends entry_cmp self.new.entries }
     {

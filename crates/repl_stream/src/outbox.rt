@@ -1,4 +1,5 @@
-ghost use Rattle.std.specs.Prelude.{◌≡◌, ◌≤◌, ◌<◌, ◌+◌, ◌++◌, ◌∷◌, [], ◌==◌, ℕ, Some, None, Ok, Err, IfOk, OnOk, OnErr, is_some, if◌then◌else◌, length};
+ghost use Rattle.std.specs.Prelude.{◌≡◌, ◌<◌, ◌+◌, ◌++◌, ◌∷◌, [], ◌==◌, ℕ, length, if◌then◌else◌};
+ghost use Rattle.std.specs.Prelude.{Some, None, Err, IfOk, OnOk, OnErr, is_some};
 ghost use Rattle.std.specs.Option.{option_copied};
 ghost use Rattle.repl_stream.specs.declared.error.KeepError.TheVariants.{Full};
 ghost use Rattle.repl_stream.specs.Numbers.{kept_at, without, IsOutbox};
@@ -56,11 +57,15 @@ impl<E: Drop> Outbox<E> {
     ///
     /// # Errors
     ///
-    /// `Full` exactly where 4,096 messages are kept. `NoMemory` where memory runs out; no number above 2^64 - 2 is given,
-    /// and where none is left the answer is `NoMemory` too. All is as before then.
+    /// `Full` exactly where 4,096 messages are kept. `NoMemory` where memory runs out; no number above 2^64 - 2 is
+    /// given, and where none is left the answer is `NoMemory` too. All is as before then.
     pub fn keep(&mut self, m: Message<E>) -> Result<u64, KeepError>
-        ensures kept { IfOk result (λ k. (k ≡ self.old.next) × (self.new ≡ record { messages = self.old.messages ++ (k, m) ∷ []; next = self.old.next + 1 })) }
-        ensures found { OnOk result ((j : ℕ) → kept_at self.new.messages j ≡ (if j == self.old.next then Some m else kept_at self.old.messages j)) }
+        ensures number { IfOk result (λ k. k ≡ self.old.next) }
+        ensures kept { IfOk result
+            (λ k. self.new ≡ record { messages = self.old.messages ++ (k, m) ∷ []; next = self.old.next + 1 }) }
+        ensures found { OnOk result
+            ((j : ℕ) → kept_at self.new.messages j
+            ≡ (if j == self.old.next then Some m else kept_at self.old.messages j)) }
         ensures room { OnOk result (length self.old.messages < 4096) }
         ensures full { result ≡ Err Full → length self.old.messages ≡ 4096 }
         ensures filled { length self.old.messages ≡ 4096 → result ≡ Err Full }

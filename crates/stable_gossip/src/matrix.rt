@@ -1,4 +1,4 @@
-ghost use Rattle.std.specs.Prelude.{◌≡◌, ◌≤◌, ◌<◌, ◌-◌, ◌==◌, ℕ, length, replicate, slice_set, slice_index, if◌then◌else◌};
+ghost use Rattle.std.specs.Prelude.{◌≡◌, ◌≤◌, ◌-◌, ℕ, length, replicate, slice_set};
 ghost use Rattle.site_vector.specs.Vector.{join, entry};
 ghost use Rattle.site_vector.specs.Known.{vector_of, lowest};
 ghost use Rattle.stable_gossip.specs.Gossip.{IsGossip, AreWide, told};
@@ -55,7 +55,9 @@ impl Matrix {
         requires least { 1 ≤ part }
         requires most { part ≤ self.old.parts }
         requires width { length b.now ≡ self.old.sites }
-        ensures heard { self.new ≡ record self.old { heard = slice_set self.old.heard (part - 1) (join (vector_of self.old.heard part) b.now) } }
+        ensures heard { self.new ≡ record self.old {
+          heard = slice_set self.old.heard (part - 1) (join (vector_of self.old.heard part) b.now);
+        } }
         ensures sound { IsGossip self.new }
     {
         let at = part as usize - 1;
@@ -67,7 +69,8 @@ impl Matrix {
     pub fn stable(&self, own_part: u8, own: &VTime) -> VTime
         requires { length own.now ≡ self.now.sites }
         ensures width { length result ≡ self.now.sites }
-        ensures least { (j : ℕ) → 1 ≤ j → j ≤ self.now.sites → entry result j ≡ lowest (told own_part own.now self.now.heard j) self.now.parts }
+        ensures least { (j : ℕ) → 1 ≤ j → j ≤ self.now.sites
+            → entry result j ≡ lowest (told own_part own.now self.now.heard j) self.now.parts }
         ensures sound { IsGossip self.now }
     {
         least_of(own_part, own, &self.heard[..self.parts as usize])

@@ -6,7 +6,7 @@ pub invariant_of-self-2 : goal.invariant_of-self-2
 invariant_of-self-2 g c = sound_more c.self.inside.messages.entries c.insert.new.self.entries c.self.inside.next c.args.m c.self.invariant (omega (arith, c.len.ensures.len, c.if-len-ge-MOST_KEPT.false)) c.in-Ok.ensures.entries
 
 pub returns-clause-kept : goal.returns-clause-kept
-returns-clause-kept g c = kept_more c.args.self.now c.self.inside.messages.entries c.insert.new.self.entries c.self.inside.next c.args.m c.self.view_is c.self.invariant c.in-Ok.ensures.entries
+returns-clause-kept g c = (kept_more c.args.self.now c.self.inside.messages.entries c.insert.new.self.entries c.self.inside.next c.args.m c.self.view_is c.self.invariant c.in-Ok.ensures.entries).1
 
 pub returns-clause-found : goal.returns-clause-found
 returns-clause-found g c = found_more c.args.self.now c.self.inside.messages.entries c.insert.new.self.entries c.self.inside.next c.args.m c.self.view_is c.self.invariant c.in-Ok.ensures.entries
