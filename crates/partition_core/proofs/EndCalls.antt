@@ -17,7 +17,7 @@ use Rattle.prepared_table.specs.declared.entry.Entry.{Entry}
 use Rattle.prepared_table.specs.Entries.{has_entry, found, IsTakenOut}
 use Rattle.world_model.specs.Event.{Event, Ask, AskDecide, AskFinish, AskAbort, Decided, Finished, Aborted, Refused, IsGone}
 use Rattle.world_model.specs.Partition.{PartState, Fate, ToldPending, ToldCommitted, ToldAborted, ToldDown, fate_of, IsRefused, done}
-use Rattle.partition_core.specs.Tables.{Tables}
+use Rattle.partition_core.specs.Tables.{Tables, knows}
 use Rattle.partition_core.specs.Stands.{Tells, Stands}
 use Rattle.partition_core.specs.Steps.{Anything, Steps}
 use Rattle.partition_core.specs.declared.answers.Refusal.{Refusal}
@@ -234,3 +234,14 @@ module _ {E : Type 0} where
 
     pub fate_aborted : None ≡ found tx v.pending → None ≡ (if lists v.held tx then Some (vector_in v.held tx) else None) → ToldAborted ≡ fate_of p tx
     fate_aborted e f = tells_aborted t tx home p h (out_of e) (not_looked_up t.held tx (f ∙ ap (λ (w : Tables E). if lists w.held tx then Some (vector_in w.held tx) else None) is))
+
+  -- what it tells of whom it knows
+  module _ (v t : Tables E) (is : v ≡ t) (tx : TxId) where
+    pub knows_pending : (x : Entry E) → Some x ≡ found tx v.pending → true ≡ knows t tx
+    knows_pending x e = sym (ap (λ b. b || lists v.held tx) (found_is tx v.pending x (sym e)).0) ∙ ap (λ w. knows w tx) is
+
+    pub knows_held : (c : List ℕ) → None ≡ found tx v.pending → Some c ≡ (if lists v.held tx then Some (vector_in v.held tx) else None) → true ≡ knows t tx
+    knows_held c e f = sym (ap (λ b. b || lists v.held tx) (not_found_is tx v.pending (sym e)) ∙ (looked_up v.held tx c f).0) ∙ ap (λ w. knows w tx) is
+
+    pub knows_not : None ≡ found tx v.pending → None ≡ (if lists v.held tx then Some (vector_in v.held tx) else None) → false ≡ knows t tx
+    knows_not e f = sym (ap (λ b. b || lists v.held tx) (not_found_is tx v.pending (sym e)) ∙ not_looked_up v.held tx f) ∙ ap (λ w. knows w tx) is

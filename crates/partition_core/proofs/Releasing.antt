@@ -76,6 +76,9 @@ module _ {E : Type 0} where
           (λ u k. let here = (and_parts (committed log u) (within site lo hi (committed_at log u)) (sym (between_members u) ∙ k)).0 in (ap (λ b. if b then committed_at log u else taken_at log u) here, ap (λ b. if b then prepared_changes log u else taken_changes log u) here))
           (parts_sorted (stream_cmp site) (held_at log) (held_changes log) (parts_between site lo hi held) (parts_filter (held_at log) (held_changes log) passes held exact))
 
+pub other_here : {E : Type 0} (v t : Tables E) (to : ℕ) → v ≡ t → IsOther t.sites t.id.site to → IsOther v.sites v.id.site to
+other_here {E} v t to e o = subst (λ (x : Tables E). IsOther x.sites x.id.site to) (sym e) o
+
 starts : (asked : Option ℕ) (last n : ℕ) → last ≡ n → start_of asked last ≡ (elim asked [ None ↦ n | Some m ↦ m ])
 starts None last n e = e
 starts (Some m) last n e = refl

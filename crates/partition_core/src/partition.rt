@@ -95,7 +95,13 @@ impl<C: Crdt> Partition<C> {
     pub fn knows(&self, tx: TxId) -> bool
         ensures { result ≡ knows self.now tx }
     {
-        self.prepared.get(tx).is_some() || self.store.has(tx).is_some()
+        if let Some(_entry) = self.prepared.get(tx) {
+            return true;
+        }
+        match self.store.has(tx) {
+            Some(_c) => true,
+            None => false,
+        }
     }
 
     /// Whether it crashed and was not restarted since. A partition without a disk never is.
