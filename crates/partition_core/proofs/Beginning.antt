@@ -88,9 +88,9 @@ module _ {S E : Type 0} (kinds : Kinds S E) (t : Tables E) (dep v : List ℕ) (s
   pub begin_at_end_by : (who : List ℕ) (k : ℕ) → AreEnough (length v) t.id.site v dep (length v) → k ≡ t.clock → k ≡ end_of_time → Steps kinds t Anything (λ e. e ≡ Refused (AskBegin who dep) ClockAtEnd) t
   begin_at_end_by who k f is e = begin_at_end kinds t who dep v stable_here (enough_here f) (sym is ∙ e)
 
-  pub begins_by : (who : List ℕ) (n first : ℕ) (k : Lent) (s : List ℕ) → IsPlace t.sites t.parts t.id → length dep ≡ t.sites → AreEnough (length v) t.id.site v dep (length v) → n ≡ t.clock + 1 → t.clock < end_of_time → k ≡ record { clock = n; ceiling = leased t.ceiling n } → first ≡ max n (entry dep t.id.site) → s ≡ replaced v t.id.site first
+  pub begins_by : (who : List ℕ) (n first own : ℕ) (k : Lent) (s : List ℕ) → IsPlace t.sites t.parts t.id → length dep ≡ t.sites → AreEnough (length v) t.id.site v dep (length v) → n ≡ t.clock + 1 → t.clock < end_of_time → k ≡ record { clock = n; ceiling = leased t.ceiling n } → first ≡ max n own → own ≡ entry dep t.id.site → s ≡ replaced v t.id.site first
       → Steps kinds t Anything (λ e. e ≡ Began who dep (record { site = t.id.site; part = t.id.part; time = n }) s) (at_time t k.clock k.ceiling)
-  begins_by who n first k s place width f is early e first_is snap =
+  begins_by who n first own k s place width f is early e first_is own_is snap =
       let began : Event E = Began who dep (record { site = t.id.site; part = t.id.part; time = n }) s in
       subst (λ (x : Lent). Steps kinds t Anything (λ e. e ≡ began) (at_time t x.clock x.ceiling)) (sym e)
-      (begins kinds t who dep v stable_here n (leased t.ceiling n) s place.least_site place.most_site width_here width (enough_here f) early is refl (snap ∙ ap (λ m. replaced v t.id.site m) first_is))
+      (begins kinds t who dep v stable_here n (leased t.ceiling n) s place.least_site place.most_site width_here width (enough_here f) early is refl (snap ∙ ap (λ m. replaced v t.id.site m) (first_is ∙ ap (λ m. max n m) own_is)))

@@ -78,7 +78,13 @@ impl<C: Crdt> Partition<C> {
         requires width { length c.now ≡ self.old.sites }
         ensures { Answered (kinds_of C.laws) self.old Anything (AskDecide tx c.now) (λ n e. e ≡ Decided tx c.now) result self.new }
     {
-        commit(&mut self.prepared, &mut self.store, &mut self.promised, tx, c)
+        commit(
+            &mut self.prepared,
+            &mut self.store,
+            &mut self.promised,
+            tx,
+            c,
+        )
     }
 
     /// The commit of a transaction of this site, of which another partition is the lead, with its commit vector. Done already
@@ -92,7 +98,13 @@ impl<C: Crdt> Partition<C> {
         requires width { length c.now ≡ self.old.sites }
         ensures { Answered (kinds_of C.laws) self.old Anything (AskFinish tx c.now) (λ n e. e ≡ Finished tx c.now) result self.new }
     {
-        commit(&mut self.prepared, &mut self.store, &mut self.promised, tx, c)
+        commit(
+            &mut self.prepared,
+            &mut self.store,
+            &mut self.promised,
+            tx,
+            c,
+        )
     }
 
     /// Ends a transaction without a commit, on the word of its session or of its lead. Takes no memory.
