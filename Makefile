@@ -1,23 +1,43 @@
-# make test: the gate. It proves every crate, tries the must-fail edits, and runs the tests and the program.
-# make play SCRIPT=examples/plain_path.script: proves the program and plays the script.
-# make try SCRIPT=..: plays the script in seconds, before any proof.
-# make bench: measures the play on a generated script, and how fast lines are parsed and printed.
+# `make` alone prints the targets. SCRIPT is any path, from here or from the root.
 SCRIPT ?= examples/plain_path.script
-HERE := $(CURDIR)
+export SCRIPT
 
-.PHONY: test play try bench
+.PHONY: help test play try bench script
+
+help:
+	@echo 'make test               the gate: proves every crate, tries the must-fail edits, runs tests and programs (over an hour)'
+	@echo 'make play SCRIPT=PATH   proves the program and plays a script (about 20 minutes the first time, then at once)'
+	@echo 'make try SCRIPT=PATH    plays a script before any proof (under a minute)'
+	@echo 'make bench              proves and measures the play, and reading and printing (minutes, after make play)'
+	@echo
+	@echo 'The times are for four processors with nothing else to do. Without SCRIPT, $(SCRIPT) is played.'
 
 test:
 	rt ci
 
-play:
-	@cd crates/dc_shell && rt run -- play < $(HERE)/$(SCRIPT)
+script:
+	@test -r "$$SCRIPT" || { echo "make: there is no script $$SCRIPT" >&2; exit 2; }
 
-try:
-	@cd crates/dc_shell && rt try -- play < $(HERE)/$(SCRIPT)
+# The first run reads no line: it proves and builds. Then the program plays the script, and 1 tells of a bad line.
+play: script
+	@echo 'make play: proves dc_shell and the 14 crates below it, the lowest first: about 20 minutes the first time,' >&2
+	@echo 'seconds where nothing has changed. "chose --jobs N for NAME" tells which crate is at hand. Then it plays the script.' >&2
+	@cd crates/dc_shell && rt run -- play < /dev/null
+	@crates/dc_shell/out/dc_shell play < "$$SCRIPT" || { status=$$?; \
+		test $$status -eq 1 || exit $$status; \
+		echo 'make play: the program ended with status 1: a line of the script is not in the grammar.' >&2; }
+
+try: script
+	@echo 'make try: builds dc_shell without a proof, which takes half a minute, and plays the script.' >&2
+	@exec 3>&1 < "$$SCRIPT"; cd crates/dc_shell && said=$$(rt try -- play 2>&1 >&3); status=$$?; \
+		printf '%s\n' "$$said" >&2; \
+		case "$$status $$said" in \
+		1*'run=ended status=1 '*) echo 'make try: a line of the script is not in the grammar.' >&2;; \
+		*) exit $$status;; esac
 
 bench:
-	@cd crates/dc_shell && rt run -- play < $(HERE)/examples/plain_path.script > /dev/null
+	@echo 'make bench: proves dc_shell and text_bench, as make play does, and measures them.' >&2
+	@cd crates/dc_shell && rt run -- play < /dev/null
 	python3 bench/play/measure.py
 	@cd crates/text_bench && rt run -- show < stdin > /dev/null
 	python3 bench/text/measure.py
