@@ -129,13 +129,7 @@ impl<C: Crdt> Store<C> {
         ensures { result ≡ sorted_by (stream_cmp site) (parts_between site lo hi self.now.parts) }
     {
         let list = &self.lists[site as usize - 1];
-        stretch::<C>(
-            self.parts.as_slice(),
-            list.places.as_slice(),
-            site,
-            lo,
-            hi,
-        )
+        stretch::<C>(self.parts.as_slice(), list.places.as_slice(), site, lo, hi)
     }
 
     /// Takes one more part in. Takes no memory.

@@ -197,22 +197,22 @@ module _ {S E : Type 0} (kinds : Kinds S E) (has : HaveBoth kinds) where
       tt
       tt
       (record {
-      found = inr refl;
-      fits = refl;
-      up = refl;
-      whole = refl;
-      clock = refl;
-      width = refl;
-      bounds = at_second _ refl;
-      heard = refl;
-      sent = refl;
-      shown = refl;
-      shown_bounds = record { width = refl; own = record { most = lit≤ tt; below = λ u h. above_one (same_tx both u) (same_tx torn u) h; reached = inr (both, refl, refl) }; others = at_second _ refl };
-      last = refl;
-      members = λ t. both_listed (same_tx both t) (same_tx torn t);
-      timed = (refl, (refl, tt));
-      order = ((refl, tt), (tt, tt));
-    })
+        found = inr refl;
+        fits = refl;
+        up = refl;
+        whole = refl;
+        clock = refl;
+        width = refl;
+        bounds = at_second _ refl;
+        heard = refl;
+        sent = refl;
+        shown = refl;
+        shown_bounds = record { width = refl; own = record { most = lit≤ tt; below = λ u h. above_one (same_tx both u) (same_tx torn u) h; reached = inr (both, refl, refl) }; others = at_second _ refl };
+        last = refl;
+        members = λ t. both_listed (same_tx both t) (same_tx torn t);
+        timed = (refl, (refl, tt));
+        order = ((refl, tt), (tt, tt));
+      })
       tt
 
   pub run7 : IsWorldRun kinds 2 2 (r7 kinds) (p7 kinds)
@@ -241,22 +241,22 @@ module _ {S E : Type 0} (kinds : Kinds S E) (has : HaveBoth kinds) where
       tt
       tt
       (record {
-      found = refl;
-      fits = refl;
-      up = refl;
-      whole = refl;
-      clock = refl;
-      width = refl;
-      bounds = at_second _ refl;
-      heard = refl;
-      sent = refl;
-      shown = refl;
-      shown_bounds = record { width = refl; own = record { most = le_refl 0; below = λ u h. off h; reached = inl refl }; others = at_second _ refl };
-      last = refl;
-      members = λ t. refl;
-      timed = tt;
-      order = tt;
-    })
+        found = refl;
+        fits = refl;
+        up = refl;
+        whole = refl;
+        clock = refl;
+        width = refl;
+        bounds = at_second _ refl;
+        heard = refl;
+        sent = refl;
+        shown = refl;
+        shown_bounds = record { width = refl; own = record { most = le_refl 0; below = λ u h. off h; reached = inl refl }; others = at_second _ refl };
+        last = refl;
+        members = λ t. refl;
+        timed = tt;
+        order = tt;
+      })
       tt
 
   lines_are_lawful : IsLawful kinds.too_deep kinds.meaning 2 2 (lines_of (r10 kinds))
