@@ -1,19 +1,18 @@
 -- The kinds of objects that the program has: all, with maps to the fourth depth.
-use Rattle.std.proofs.Common.{◌≡◌, ◌≤◌, ℕ, suc, Bool, true, false, List, [], ◌∷◌, length, None, refl, arith}
+use Rattle.std.proofs.Common.{◌≡◌, ◌≤◌, ℕ, suc, Bool, true, false, List, [], ◌∷◌, length, refl, arith}
 use Rattle.std.proofs.lemmas.Bool.{and_parts, leb-true}
 use Rattle.crdt_core.specs.declared.kind.Kind.{Kind}
 use Rattle.crdt_core.specs.declared.kind.Kind.TheVariants as kind
 use Rattle.crdt_core.specs.declared.object.Field.{Field}
 use Rattle.crdt_core.specs.declared.operation.Act.{Act}
-use Rattle.crdt_core.specs.declared.value.Value.TheVariants.{Flag}
 use Rattle.crdt_core.specs.Fits.{fits, leads_to}
 use Rattle.crdt_core.specs.InMaps.{KeepsInMaps}
 use Rattle.crdt_any.specs.declared.state.LayerState.{LayerState}
 use Rattle.crdt_any.specs.declared.effect.LayerEffect.{LayerEffect}
-use Rattle.crdt_any.specs.Layer.{layer_has, layer_too_deep, layer_initial, layer_step, layer_made, layer_value, layer_stamp, layer_meaning, layer_names, layer_holds, layer_blank}
+use Rattle.crdt_any.specs.Layer.{layer_has, layer_too_deep, layer_blank}
 use Rattle.crdt_any.specs.LayerLaws.{layer_law, layer_in_maps}
 use Rattle.crdt_any.specs.NothingLaws.{nothing_law, nothing_in_maps}
-use Rattle.crdt_core.specs.KindsOf.{Kinds}
+use Rattle.crdt_core.specs.KindsOf.{Kinds, kinds_of}
 
 -- kinds, and what they owe to a map around them
 pub record Layered (S E : Type 0) : Type 0 where
@@ -23,28 +22,12 @@ pub record Layered (S E : Type 0) : Type 0 where
 
 -- no kind
 abbrev pub nothing : Layered (Unit {0}) (Unit {0})
-nothing = record {
-  kinds = record { has = λ k. false; too_deep = λ k p. false; initial = λ k. tt; step = λ s d e. tt; made = λ k s p a n. tt; value_of = λ s. Flag false; stamp_of = λ e. None; meaning = λ k us. Flag false; names = λ e d. false; holds = λ s d. false; laws = nothing_law };
-  is_blank = λ s. true;
-  in_maps = nothing_in_maps;
-}
+nothing = record { kinds = kinds_of nothing_law; is_blank = λ s. true; in_maps = nothing_in_maps }
 
 -- all kinds, whose maps have fields of those within
 abbrev pub layer : {S E : Type 0} → Layered S E → Layered (LayerState S) (LayerEffect E)
 layer l = record {
-  kinds = record {
-    has = layer_has;
-    too_deep = layer_too_deep l.kinds.has l.kinds.too_deep;
-    initial = layer_initial;
-    step = layer_step l.kinds.has l.kinds.initial l.kinds.step;
-    made = layer_made l.kinds.has l.kinds.initial l.kinds.made l.is_blank;
-    value_of = layer_value l.kinds.value_of;
-    stamp_of = layer_stamp l.kinds.stamp_of;
-    meaning = layer_meaning l.kinds.has l.kinds.meaning;
-    names = layer_names l.kinds.has l.kinds.names;
-    holds = layer_holds l.kinds.holds;
-    laws = layer_law l.kinds.laws l.in_maps;
-  };
+  kinds = kinds_of (layer_law l.kinds.laws l.in_maps);
   is_blank = layer_blank l.is_blank;
   in_maps = layer_in_maps l.kinds.laws l.in_maps;
 }

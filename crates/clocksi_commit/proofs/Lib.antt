@@ -1,0 +1,2 @@
+mod Commits
+mod Turns

@@ -1,0 +1,11 @@
+pub mod Images
+pub mod States
+pub mod Moments
+pub mod Counts
+pub mod Trail
+pub mod Noted
+pub mod Mediums
+pub mod MemDisks
+pub mod SureDisks
+pub mod Fuses
+pub mod Burns

@@ -1,0 +1,13 @@
+pub mod Arranging
+pub mod Chaining
+pub mod Walking
+pub mod Flattening
+pub mod Ordering
+pub mod Spotting
+pub mod Linking
+pub mod Reading
+pub mod Holding
+pub mod Storing
+pub mod Folding
+pub mod Committing
+pub mod Between

@@ -1,0 +1,12 @@
+pub mod Arranged
+pub mod Chains
+pub mod Spots
+pub mod Updates
+pub mod Stored
+pub mod Hooks
+pub mod Links
+pub mod Wanted
+pub mod Stores
+pub mod Applied
+pub mod Commits
+pub mod Listed

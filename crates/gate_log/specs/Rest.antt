@@ -1,0 +1,25 @@
+-- A log between two calls.
+use Rattle.std.specs.Prelude.{◌≡◌, ℕ, ◌≤◌, List, Option, IsTrue}
+use Rattle.disk_core.specs.Images.{IsSettled, after_write, after_sync}
+use Rattle.disk_core.specs.States.{Story, DiskState, fewer, moved}
+use Rattle.gate_log.specs.Log.{IsLog, end_of}
+
+-- The disk tells what it holds, all of it is durable, and it is a log of these payloads, whose closed gate stands at `end`.
+pub record AtRest (disk : DiskState) (end : ℕ) (payloads : List (List ℕ)) : Type 0 where
+  pub tells : IsTrue disk.tells
+  pub settled : IsSettled disk.story.now
+  pub log : IsLog disk.story.now.bytes payloads
+  pub place : end ≡ end_of payloads
+
+-- So many calls of the disk were made at most, by the calls that were left before and after.
+pub record Lowers (most : ℕ) (before after : Option ℕ) : Type 0 where
+  pub count : ℕ
+  pub less : count ≤ most
+  pub left : after ≡ fewer count before
+
+-- what stands once these bytes are written and made durable
+abbrev pub synced_write : ℕ → List ℕ → Story → Story
+synced_write at bytes old = let wrote = moved (after_write at bytes old.now) old in moved (after_sync wrote.now) wrote
+
+abbrev pub WritesDurably : ℕ → List ℕ → DiskState → DiskState → Type 0
+WritesDurably at bytes old new = IsTrue old.tells → new.story ≡ synced_write at bytes old.story

@@ -1,0 +1,11 @@
+pub mod Tables
+pub mod Leases
+pub mod Bounds
+pub mod Reads
+pub mod Waits
+pub mod Sound
+pub mod Committed
+pub mod Stands
+pub mod Steps
+pub mod Answers
+pub mod Messages

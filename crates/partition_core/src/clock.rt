@@ -1,0 +1,57 @@
+ghost use Rattle.std.specs.Prelude.{◌≡◌, ◌≤◌, ◌<◌, ◌+◌};
+ghost use Rattle.crdt_core.specs.KindsOf.{kinds_of};
+ghost use Rattle.crdt_core.specs.Log.{end_of_time};
+ghost use Rattle.world_model.specs.Event.{Ticked};
+ghost use Rattle.partition_core.specs.Leases.{leased};
+ghost use Rattle.partition_core.specs.Steps.{Anything, Steps};
+
+use crate::Partition;
+use crdt_core::Crdt;
+use prepared_table::Leased;
+
+/// The last time that a clock shows.
+pub(crate) const END_OF_TIME: u64 = 1 << 62;
+
+impl<C: Crdt> Partition<C> {
+    /// The clock reads a time, at most 2^62, and shows it unless it shows a later one. Answers what it shows.
+    pub fn tick(&mut self, reading: u64) -> u64
+        requires { reading ≤ end_of_time }
+        ensures { Steps (kinds_of C.laws) self.old Anything (λ e. e ≡ Ticked reading result) self.new }
+    {
+        let time = reading.max(self.clock.now());
+        show(&mut self.clock, time);
+        time
+    }
+}
+
+/// Lets the clock show a time, under a lease where that is above its ceiling.
+fn show(clock: &mut Leased, time: u64)
+    requires later { clock.old.clock ≤ time }
+    requires most { time ≤ end_of_time }
+    ensures { clock.new ≡ record { clock = time; ceiling = leased clock.old.ceiling time } }
+{
+    lease(clock, time);
+    clock.tick(time);
+}
+
+/// The next time, which the clock shows from then on, under a lease where that is above its ceiling.
+pub(crate) fn draw(clock: &mut Leased) -> u64
+    requires { clock.old.clock < end_of_time }
+    ensures next { result ≡ clock.old.clock + 1 }
+    ensures shown { clock.new ≡ record { clock = result; ceiling = leased clock.old.ceiling result } }
+{
+    let time = clock.now() + 1;
+    lease(clock, time);
+    clock.draw()
+}
+
+/// Takes the lease that the clock needs before it shows a time.
+fn lease(clock: &mut Leased, time: u64)
+    requires { time ≤ end_of_time }
+    ensures value { clock.new ≡ record { clock = clock.old.clock; ceiling = leased clock.old.ceiling time } }
+    ensures under { time ≤ clock.new.ceiling }
+{
+    if let Some(ceiling) = clock.wants(time) {
+        clock.lease(ceiling);
+    }
+}

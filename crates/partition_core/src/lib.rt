@@ -1,0 +1,15 @@
+//! One partition of a site: its clock, its pending transactions, what it holds, and what it knows of other sites. Each
+//! call is a step of the world.
+#![tactic(auto)]
+
+mod answers;
+mod begin;
+mod clock;
+mod commit;
+mod partition;
+mod read;
+mod report;
+mod stream;
+
+pub use answers::{CallError, Fate, Refusal};
+pub use partition::Partition;

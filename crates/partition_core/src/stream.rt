@@ -1,0 +1,171 @@
+ghost use Rattle.std.specs.Prelude.{◌≡◌, ◌≢◌, ◌≤◌, ◌+◌, ℕ, true, false, length, IfOk, IfSome, OnOk, OnErr};
+ghost use Rattle.site_vector.specs.declared.ids.TxId.{TxId};
+ghost use Rattle.site_vector.specs.Vector.{entry};
+ghost use Rattle.crdt_core.specs.KindsOf.{kinds_of};
+ghost use Rattle.crdt_core.specs.Orders.{sorted_by, stream_cmp};
+ghost use Rattle.crdt_core.specs.Parts.{above, lists, parts_between};
+ghost use Rattle.world_model.specs.Event.{AskTake, Sent, Took};
+ghost use Rattle.world_model.specs.Partition.{IsOther};
+ghost use Rattle.partition_core.specs.Answers.{Called};
+ghost use Rattle.partition_core.specs.Messages.{AreApart, AreWideParts, CanPut, inserted, start_of, updates_in};
+ghost use Rattle.partition_core.specs.Steps.{Anything, Steps};
+
+use crate::report::own_bound;
+use crate::{CallError, Partition, Refusal};
+use crdt_core::{Crdt, Message, Part, copy_part};
+use effect_store::Store;
+use field_codec::ListOf;
+use repl_stream::cut_at;
+use site_vector::TxId;
+use std::alloc::{AllocError, Global};
+
+impl<C: Crdt> Partition<C> {
+    /// Takes a message of another site, with what it brings above the bound that the partition has of that site.
+    ///
+    /// # Errors
+    ///
+    /// `Gap` where the message starts above the bound, with the bound; else `Repeat` where it ends at or below it, with the
+    /// bound; else `NoMemory` where memory runs out.
+    pub fn take(&mut self, alloc: Global, message: &Message<C::Effect>) -> Result<(), CallError>
+        requires least { 1 ≤ message.now.from }
+        requires most { message.now.from ≤ self.old.sites }
+        requires wide { AreWideParts self.old.sites message.now.parts }
+        requires apart { AreApart message.now.parts }
+        requires away { (u : TxId) → lists message.now.parts u ≡ true → u.site ≢ self.old.id.site }
+        requires not_held { (u : TxId) → lists (above message.now.from (entry self.old.bounds message.now.from) message.now.parts) u ≡ true → lists self.old.held u ≡ false }
+        ensures { (number : ℕ) → Called (kinds_of C.laws) self.old Anything (AskTake number message.now) (λ n e. e ≡ Took number message.now) result self.new }
+    {
+        let have = self.bounds.get(message.from);
+        if have < message.lo {
+            return Err(CallError::Refused(Refusal::Gap { have }));
+        }
+        if message.hi <= have {
+            return Err(CallError::Refused(Refusal::Repeat { have }));
+        }
+        let news = cut_at::<C>(alloc, message, have)?.parts.into_vec();
+        let pending = self.prepared.entries().len();
+        make_room(&mut self.store, pending, self.promised, news.as_slice())?;
+        put_all(&mut self.store, news);
+        self.bounds = self.bounds.with(message.from, message.hi);
+        Ok(())
+    }
+
+    /// A message to another site, up to the own bound: all that was committed here above a time that is given, or else above
+    /// the end of the last message to that site.
+    ///
+    /// # Errors
+    ///
+    /// `AllocError` where memory runs out. The partition is as before then.
+    pub fn release(
+        &mut self,
+        alloc: Global,
+        to: u8,
+        from: Option<u64>,
+    ) -> Result<Message<C::Effect>, AllocError>
+        requires { IsOther self.old.sites self.old.id.site to }
+        ensures sent { IfOk result (λ m. Steps (kinds_of C.laws) self.old Anything (λ e. e ≡ Sent from m) self.new) }
+        ensures same { OnErr result (self.new ≡ self.old) }
+    {
+        let id = self.id;
+        let lo = start_of(from, self.sent.get(to));
+        let hi = own_bound(&self.clock, &self.prepared);
+        let parts = copy_between(alloc, &self.store, id.site, lo, hi)?;
+        self.sent = self.sent.with(to, hi);
+        Ok(Message {
+            from: id.site,
+            to,
+            part: id.part,
+            lo,
+            hi,
+            parts,
+        })
+    }
+}
+
+/// Where a message starts: at what is asked, or else at the end of the last one.
+fn start_of(asked: Option<u64>, last: u64) -> u64
+    ensures { result ≡ start_of asked last }
+{
+    match asked {
+        Some(time) => time,
+        None => last,
+    }
+}
+
+/// Equal parts of those of a site with a commit time above `lo` and at most `hi`, in the order of the site's stream.
+///
+/// # Errors
+///
+/// `AllocError` where memory runs out.
+fn copy_between<C: Crdt>(
+    alloc: Global,
+    store: &Store<C>,
+    site: u8,
+    lo: u64,
+    hi: u64,
+) -> Result<ListOf<Part<C::Effect>>, AllocError>
+    requires least { 1 ≤ site }
+    requires most { site ≤ store.now.sites }
+    ensures { IfOk result (λ l. l ≡ sorted_by (stream_cmp site) (parts_between site lo hi store.now.parts)) }
+{
+    let mut all = ListOf::new(alloc);
+    for part in store.between(site, lo, hi) {
+        all.push(copy_part::<C>(alloc, part)?)?;
+    }
+    Ok(all)
+}
+
+/// How many updates are in parts, unless they are too many to count.
+fn count_updates<E>(parts: &[Part<E>]) -> Option<usize>
+    ensures { IfSome result (λ n. n ≡ updates_in parts.now) }
+{
+    let mut all = 0usize;
+    for part in parts {
+        all = all.checked_add(part.updates.as_slice().len())?;
+    }
+    Some(all)
+}
+
+/// Takes memory for parts, beside that for what is pending with its updates.
+///
+/// # Errors
+///
+/// `AllocError` where memory runs out. What is held is as before, and there is no less room.
+fn make_room<C: Crdt>(
+    store: &mut Store<C>,
+    pending: usize,
+    promised: usize,
+    parts: &[Part<C::Effect>],
+) -> Result<(), AllocError>
+    ensures sites { store.new.sites ≡ store.old.sites }
+    ensures held { store.new.parts ≡ store.old.parts }
+    ensures room { store.old.room ≤ store.new.room }
+    ensures update_room { store.old.update_room ≤ store.new.update_room }
+    ensures room_reached { OnOk result (pending + length parts.now ≤ store.new.room) }
+    ensures update_room_reached { OnOk result (promised + updates_in parts.now ≤ store.new.update_room) }
+{
+    let Some(updates) = count_updates(parts) else {
+        return Err(AllocError);
+    };
+    let (Some(places), Some(all)) = (
+        pending.checked_add(parts.len()),
+        promised.checked_add(updates),
+    ) else {
+        return Err(AllocError);
+    };
+    store.reserve(places, all)
+}
+
+/// Puts parts in their places. There is room. Takes no memory.
+fn put_all<C: Crdt>(store: &mut Store<C>, parts: Vec<Part<C::Effect>>)
+    requires { CanPut parts.items store.old }
+    ensures sites { store.new.sites ≡ store.old.sites }
+    ensures parts { store.new.parts ≡ inserted parts.items store.old.parts }
+    ensures room { store.new.room + length parts.items ≡ store.old.room }
+    ensures update_room { store.new.update_room + updates_in parts.items ≡ store.old.update_room }
+{
+    let mut left = parts;
+    while let Some(part) = left.pop() {
+        store.insert(part);
+    }
+}
