@@ -7,7 +7,7 @@ export SCRIPT
 help:
 	@echo 'make test               the gate: proves every crate, tries the must-fail edits, runs tests and programs (over an hour)'
 	@echo 'make play SCRIPT=PATH   proves the program and plays a script (about 20 minutes the first time, then at once)'
-	@echo 'make try SCRIPT=PATH    plays a script before any proof (under a minute)'
+	@echo 'make try SCRIPT=PATH    plays a script before any proof (about a minute)'
 	@echo 'make bench              proves and measures the play, and reading and printing (minutes, after make play)'
 	@echo
 	@echo 'The times are for four processors with nothing else to do. Without SCRIPT, $(SCRIPT) is played.'
@@ -28,7 +28,7 @@ play: script
 		echo 'make play: the program ended with status 1: a line of the script is not in the grammar.' >&2; }
 
 try: script
-	@echo 'make try: builds dc_shell without a proof, which takes half a minute, and plays the script.' >&2
+	@echo 'make try: builds dc_shell without a proof, which takes about a minute, and plays the script.' >&2
 	@exec 3>&1 < "$$SCRIPT"; cd crates/dc_shell && said=$$(rt try -- play 2>&1 >&3); status=$$?; \
 		printf '%s\n' "$$said" >&2; \
 		case "$$status $$said" in \
