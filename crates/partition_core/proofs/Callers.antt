@@ -56,7 +56,7 @@ module _ {S E : Type 0} (kinds : Kinds S E) where
   world_step plan run before at old new A s a b c place allowed fit =
       let here : put before at s.after at ≡ s.after = ap (λ x. if x then s.after else before at) (same_part_refl at) in
       let step : PartStep kinds plan.sites plan.parts at (before at) s.event s.after =
-          subst (λ i. PartStep kinds plan.sites plan.parts i (before at) s.event s.after) a (subst (λ n. PartStep kinds plan.sites n old.id (before at) s.event s.after) c (subst (λ n. PartStep kinds n old.parts old.id (before at) s.event s.after) b s.step)) in record {
+      subst (λ i. PartStep kinds plan.sites plan.parts i (before at) s.event s.after) a (subst (λ n. PartStep kinds plan.sites n old.id (before at) s.event s.after) c (subst (λ n. PartStep kinds n old.parts old.id (before at) s.event s.after) b s.step)) in record {
         place = place;
         allowed = allowed;
         fit = fit;
