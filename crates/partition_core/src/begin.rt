@@ -15,8 +15,8 @@ impl<C: Crdt> Partition<C> {
     ///
     /// # Errors
     ///
-    /// `StableBehind` where of some other site less is stable here than the session depends on, with the first such site and
-    /// what is stable of it; else `ClockAtEnd` where the clock shows 2^62.
+    /// `StableBehind` where of some other site less is stable here than the session depends on, with the first such
+    /// site and what is stable of it; else `ClockAtEnd` where the clock shows 2^62.
     pub fn begin(&mut self, dependency: &VTime) -> Result<(TxId, VTime), Refusal>
         requires { length dependency.now ≡ self.old.sites }
         ensures { (who : List ℕ) → Answered (kinds_of C.laws) self.old Anything (AskBegin who dependency.now) (λ x e. e ≡ Began who dependency.now x.0 x.1) result self.new }

@@ -20,14 +20,14 @@ use site_vector::{TxId, VTime};
 use std::alloc::{AllocError, Global};
 
 impl<C: Crdt> Partition<C> {
-    /// Votes for a transaction of this site, with its snapshot, the number of its lead, and what it changes here, in the order
-    /// of its updates' numbers: the prepare time. Takes all the memory that its commit will need. It is none that the partition
-    /// knows (`knows`).
+    /// Votes for a transaction of this site, with its snapshot, the number of its lead, and what it changes here, in
+    /// the order of its updates' numbers: the prepare time. Takes all the memory that its commit will need. It is none
+    /// that the partition knows (`knows`).
     ///
     /// # Errors
     ///
-    /// `ClockBehind` where the clock hasn't reached the snapshot, with what it shows; else `ClockAtEnd` where it shows 2^62;
-    /// else `NoMemory` where memory runs out.
+    /// `ClockBehind` where the clock hasn't reached the snapshot, with what it shows; else `ClockAtEnd` where it shows
+    /// 2^62; else `NoMemory` where memory runs out.
     pub fn prepare(
         &mut self,
         alloc: Global,
@@ -67,8 +67,8 @@ impl<C: Crdt> Partition<C> {
         Ok(time)
     }
 
-    /// The commit point of a transaction of this site, of which this partition is the lead, with its commit vector. Done already
-    /// where it is committed here. Takes no memory.
+    /// The commit point of a transaction of this site, of which this partition is the lead, with its commit vector.
+    /// Done already where it is committed here. Takes no memory.
     ///
     /// # Errors
     ///
@@ -87,8 +87,8 @@ impl<C: Crdt> Partition<C> {
         )
     }
 
-    /// The commit of a transaction of this site, of which another partition is the lead, with its commit vector. Done already
-    /// where it is committed here. Takes no memory.
+    /// The commit of a transaction of this site, of which another partition is the lead, with its commit vector. Done
+    /// already where it is committed here. Takes no memory.
     ///
     /// # Errors
     ///
@@ -136,8 +136,8 @@ impl<C: Crdt> Partition<C> {
     }
 }
 
-/// Takes memory for one more pending transaction with so many updates, and for all that is pending to be held. Answers how
-/// many updates are pending then.
+/// Takes memory for one more pending transaction with so many updates, and for all that is pending to be held. Answers
+/// how many updates are pending then.
 ///
 /// # Errors
 ///

@@ -16,8 +16,8 @@ use std::marker::Model;
 /// logical ticks.
 ///
 /// Contracts see its tables (`Tables`), and say of each call that whatever state of a partition the tables stood for
-/// (`Stands`) took a step of the world's step relation, which the answer shows, and that they stand for the state after it
-/// (`Steps`).
+/// (`Stands`) took a step of the world's step relation, which the answer shows, and that they stand for the state after
+/// it (`Steps`).
 #[derive(Drop)]
 pub struct Partition<C: Crdt> {
     pub(crate) id: PartId,
@@ -84,7 +84,8 @@ impl<C: Crdt> Partition<C> {
         self.prepared.entries()
     }
 
-    /// The first pending transaction, in order, that changes the object and is prepared by `upto`: its id and its prepare time.
+    /// The first pending transaction, in order, that changes the object and is prepared by `upto`: its id and its
+    /// prepare time.
     pub fn pending_on(&self, object: &ObjectId, upto: u64) -> Option<(TxId, u64)>
         ensures { result ≡ first_on object.now upto self.now.pending }
     {

@@ -23,14 +23,14 @@ use site_vector::{Dot, TxId, VTime};
 use std::alloc::{AllocError, Global};
 
 impl<C: Crdt> Partition<C> {
-    /// What an object shows under a transaction's snapshot, with the transaction's own earlier updates of it, in the order of
-    /// their numbers.
+    /// What an object shows under a transaction's snapshot, with the transaction's own earlier updates of it, in the
+    /// order of their numbers.
     ///
     /// # Errors
     ///
-    /// `ClockBehind` where the clock hasn't reached the snapshot, with what it shows; else `TxPending` where what is pending
-    /// here changes the object and may belong to the snapshot, with the first such transaction; else `NoMemory` where
-    /// memory runs out.
+    /// `ClockBehind` where the clock hasn't reached the snapshot, with what it shows; else `TxPending` where what is
+    /// pending here changes the object and may belong to the snapshot, with the first such transaction; else `NoMemory`
+    /// where memory runs out.
     pub fn read(
         &mut self,
         alloc: Global,
@@ -55,13 +55,15 @@ impl<C: Crdt> Partition<C> {
         Ok(value)
     }
 
-    /// The effect of an operation on an object under a transaction's snapshot, with the transaction's own earlier updates of
-    /// the object, in the order of their numbers; and its stamp, if its kind has stamps. The caller gives it its number.
+    /// The effect of an operation on an object under a transaction's snapshot, with the transaction's own earlier
+    /// updates of the object, in the order of their numbers; and its stamp, if its kind has stamps. The caller gives it
+    /// its number.
     ///
     /// # Errors
     ///
-    /// `BadOp` where the operation isn't one of the object's kind, or leads deeper than the type reaches; else, where the
-    /// kind's effects depend on the state, `ClockBehind` and `TxPending` as in a read; else `NoMemory` where memory runs out.
+    /// `BadOp` where the operation isn't one of the object's kind, or leads deeper than the type reaches; else, where
+    /// the kind's effects depend on the state, `ClockBehind` and `TxPending` as in a read; else `NoMemory` where memory
+    /// runs out.
     pub fn update(
         &mut self,
         alloc: Global,

@@ -11,16 +11,16 @@ use prepared_table::{Leased, Prepared};
 use site_vector::VTime;
 
 impl<C: Crdt> Partition<C> {
-    /// How far the partition has come with each site: of its own site its own bound, up to which all that commits here has
-    /// done so. Takes no memory.
+    /// How far the partition has come with each site: of its own site its own bound, up to which all that commits here
+    /// has done so. Takes no memory.
     pub fn report(&self) -> VTime
         ensures { Steps (kinds_of C.laws) self.now Anything (λ e. e ≡ Reported result) self.now }
     {
         own_bounds(&self.clock, &self.prepared, self.id.site, &self.bounds)
     }
 
-    /// Takes in what a partition of its site, numbered from 1, reported. Answers how far all of them have come with each site,
-    /// as this one knows. Takes no memory.
+    /// Takes in what a partition of its site, numbered from 1, reported. Answers how far all of them have come with
+    /// each site, as this one knows. Takes no memory.
     pub fn hear(&mut self, part: u8, bounds: &VTime) -> VTime
         requires least { 1 ≤ part }
         requires most { part ≤ self.old.parts }

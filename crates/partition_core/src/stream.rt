@@ -24,8 +24,8 @@ impl<C: Crdt> Partition<C> {
     ///
     /// # Errors
     ///
-    /// `Gap` where the message starts above the bound, with the bound; else `Repeat` where it ends at or below it, with the
-    /// bound; else `NoMemory` where memory runs out.
+    /// `Gap` where the message starts above the bound, with the bound; else `Repeat` where it ends at or below it, with
+    /// the bound; else `NoMemory` where memory runs out.
     pub fn take(&mut self, alloc: Global, message: &Message<C::Effect>) -> Result<(), CallError>
         requires least { 1 ≤ message.now.from }
         requires most { message.now.from ≤ self.old.sites }
@@ -50,8 +50,8 @@ impl<C: Crdt> Partition<C> {
         Ok(())
     }
 
-    /// A message to another site, up to the own bound: all that was committed here above a time that is given, or else above
-    /// the end of the last message to that site.
+    /// A message to another site, up to the own bound: all that was committed here above a time that is given, or else
+    /// above the end of the last message to that site.
     ///
     /// # Errors
     ///

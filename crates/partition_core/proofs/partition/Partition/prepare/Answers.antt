@@ -31,6 +31,6 @@ pub returns : goal.returns
 returns g c =
     let e = c.in_ok-promised.ensures in
     let here = c.requires.place ∙ ap (λ x. x.id.site) (sym c.self.view_is) in
-    let reached : entry c.args.s.now c.self.inside.id.site ≤ c.self.inside.clock.clock = let a = c.now-at.ensures.value in let b = c.get.ensures in let d = c.if-at-get.false in omega arith in
-    let early : c.self.inside.clock.clock < end_of_time = let a = c.now-at.ensures.value in let b = c.now-at.ensures.sound in let d = c.if-at-eq-END_OF_TIME.false in omega arith in
+    let reached : entry c.args.s.now c.self.inside.id.site ≤ c.self.inside.clock.clock = let a = c.now-at.ensures.value in let b = c.get.ensures in omega arith in
+    let early : c.self.inside.clock.clock < end_of_time = let a = c.now-at.ensures.value in let b = c.now-at.ensures.sound in omega arith in
     opened _ _ _ _ _ _ c.self.view_is (prepares_by _ _ c.args.tx c.args.s.now c.args.lead c.args.updates.now c.in_ok-updates.updates c.draw-time.result c.draw-time.new.clock c.add.new.self.entries c.promise.new.store.parts c.in_ok-updates.ensures here reached early c.draw-time.ensures.next c.draw-time.ensures.shown (c.add.ensures.entries ∙ ap (λ l. insert_by entry_cmp (record { tx = c.args.tx; lead = c.args.lead; time = c.draw-time.result; s = c.args.s.now; updates = c.in_ok-updates.updates }) l) e.pending) e.held)

@@ -1,4 +1,4 @@
-use Rattle.std.proofs.Common.{◌≡◌, ◌+◌, ◌≤◌, length, ap, sym, ◌∙◌, refl, subst, arith}
+use Rattle.std.proofs.Common.{◌≡◌, ◌+◌, ◌<◌, ◌≤◌, length, ap, sym, ◌∙◌, refl, subst, arith}
 use Rattle.site_vector.specs.Vector.{entry}
 use Rattle.crdt_core.specs.Parts.{above}
 use Rattle.partition_core.specs.Messages.{AreWideParts, inserted, updates_in}
@@ -48,5 +48,7 @@ returns g c = λ number.
     let m = c.args.message.now in
     let news = c.into_vec-news.result.items in
     let brought : news ≡ above m.from c.get-have.result m.parts = c.into_vec-news.ensures ∙ ap (λ x. x.parts) c.in_ok-cut_at.ensures in
+    let low : m.lo ≤ c.get-have.result = omega arith in
+    let high : c.get-have.result < m.hi = omega arith in
     let put = c.put_all.ensures.parts ∙ ap (λ l. inserted news l) c.in_ok-make_room.ensures.held in
-    opened _ _ _ _ _ _ c.self.view_is (takes _ _ number m c.get-have.result news c.put_all.new.store.parts c.with-self-inside.result c.get-have.ensures c.if-have-message.false c.if-message-have.false brought put c.with-self-inside.ensures c.requires.apart (λ u k e. c.requires.away u k (e ∙ ap (λ x. x.id.site) c.self.view_is)) (unheld_here _ _ m _ c.self.view_is refl c.requires.not_held))
+    opened _ _ _ _ _ _ c.self.view_is (takes _ _ number m c.get-have.result news c.put_all.new.store.parts c.with-self-inside.result c.get-have.ensures low high brought put c.with-self-inside.ensures c.requires.apart (λ u k e. c.requires.away u k (e ∙ ap (λ x. x.id.site) c.self.view_is)) (unheld_here _ _ m _ c.self.view_is refl c.requires.not_held))
