@@ -19,3 +19,4 @@ mod Releasing
 mod Waiting
 mod Folding
 mod ReadCall
+pub mod Callers

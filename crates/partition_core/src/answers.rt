@@ -1,5 +1,5 @@
 ghost use Rattle.std.specs.Prelude.{◌≡◌};
-ghost use Rattle.partition_core.specs.declared.answers.CallError.TheVariants.{NoMemory};
+ghost use Rattle.partition_core.specs.declared.answers.CallError.TheVariants.{NoMemory, Refused};
 
 use site_vector::{TxId, VTime};
 use std::alloc::AllocError;
@@ -50,6 +50,14 @@ impl From<AllocError> for CallError {
 
     fn from(_error: AllocError) -> CallError {
         CallError::NoMemory
+    }
+}
+
+impl From<Refusal> for CallError {
+    ghost from_gives = { λ why r. r ≡ Refused why };
+
+    fn from(why: Refusal) -> CallError {
+        CallError::Refused(why)
     }
 }
 
