@@ -64,6 +64,7 @@ impl<C: Crdt> Partition<C> {
     ) -> Result<Message<C::Effect>, AllocError>
         requires { IsOther self.old.sites self.old.id.site to }
         ensures sent { IfOk result (λ m. Steps (kinds_of C.laws) self.old Anything (λ e. e ≡ Sent from m) self.new) }
+        ensures to { IfOk result (λ m. m.to ≡ to) }
         ensures same { OnErr result (self.new ≡ self.old) }
     {
         let id = self.id;

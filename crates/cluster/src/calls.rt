@@ -1,0 +1,205 @@
+ghost use Rattle.std.specs.Prelude.{◌≡◌, ◌≤◌, ◌+◌, ℕ, List, true, IfOk, OnErr};
+ghost use Rattle.crdt_core.specs.declared.record.Part.{Part};
+ghost use Rattle.crdt_core.specs.KindsOf.{kinds_of, fits_kind};
+ghost use Rattle.crdt_core.specs.Log.{end_of_time};
+ghost use Rattle.world_model.specs.Event.{AskTick, AskBegin, AskRead, AskUpdate, AskPrepare, AskDecide, AskFinish, AskAbort, AskMessage, AskTake, AskReport, AskHear, Ticked, Began, Updated, Decided, Finished, Aborted, Sent, Took, Reported, Heard};
+ghost use Rattle.world_model.specs.Event as event;
+ghost use Rattle.world_model.specs.Partition.{IsOther};
+ghost use Rattle.world_model.specs.Plan.{IsPlace, update_count};
+ghost use Rattle.cluster.specs.Reaches.{MayAsk};
+ghost use Rattle.cluster.specs.Answers.{Any, Answers, Calls, GoesOn};
+
+use crate::Sites;
+use crate::sites::index_of;
+use crdt_core::{Crdt, Message, ObjectId, Op, Upd, Value};
+use partition_core::{CallError, Refusal};
+use site_vector::{PartId, TxId, VTime};
+use std::alloc::AllocError;
+
+impl<C: Crdt> Sites<C> {
+    /// The clock of a partition reads a time, at most 2^62, and shows it unless it shows a later one. Answers what it shows.
+    pub fn tick(&mut self, at: PartId, reading: u64) -> u64
+        requires place { IsPlace self.old.sites self.old.parts at }
+        requires reading { reading ≤ end_of_time }
+        ensures { GoesOn (kinds_of C.laws) self.old self.new Any at (AskTick reading) (λ e. e ≡ Ticked reading result) }
+    {
+        let i = index_of(at, self.sites, self.parts);
+        self.partitions[i].tick(reading)
+    }
+
+    /// Begins a transaction of a session that depends on these times: its id, and its snapshot. Takes no memory.
+    ///
+    /// # Errors
+    ///
+    /// As the partition's: `StableBehind`, `ClockAtEnd`.
+    pub fn begin(&mut self, at: PartId, dependency: &VTime) -> Result<(TxId, VTime), Refusal>
+        requires { (who : List ℕ) × MayAsk (kinds_of C.laws) self.old at (AskBegin who dependency.now) }
+        ensures { (who : List ℕ) → Answers (kinds_of C.laws) self.old self.new Any at (AskBegin who dependency.now) (λ x e. e ≡ Began who dependency.now x.0 x.1) result }
+    {
+        let i = index_of(at, self.sites, self.parts);
+        self.partitions[i].begin(dependency)
+    }
+
+    /// What an object shows under a transaction's snapshot, with the transaction's own earlier updates of it.
+    ///
+    /// # Errors
+    ///
+    /// As the partition's: `ClockBehind`, `TxPending`, `NoMemory`.
+    pub fn read(
+        &mut self,
+        at: PartId,
+        tx: TxId,
+        s: &VTime,
+        object: &ObjectId,
+        own: &[Upd<C::Effect>],
+    ) -> Result<Value, CallError>
+        requires has { C.has object.now.kind ≡ true }
+        requires may { MayAsk (kinds_of C.laws) self.old at (AskRead tx s.now object.now own.now) }
+        ensures { Calls (kinds_of C.laws) self.old self.new Any at (AskRead tx s.now object.now own.now) (λ v e. (read : List (Part C.Effect)) × (e ≡ event.Read tx s.now object.now own.now read v)) result }
+    {
+        let i = index_of(at, self.sites, self.parts);
+        self.partitions[i].read(self.alloc, tx, s, object, own)
+    }
+
+    /// The effect of an operation that fits the object's kind, as the transaction's update with this number; and its stamp, if
+    /// its kind has stamps.
+    ///
+    /// # Errors
+    ///
+    /// As the partition's: `ClockBehind`, `TxPending`, `NoMemory`.
+    pub fn update(
+        &mut self,
+        at: PartId,
+        tx: TxId,
+        s: &VTime,
+        object: &ObjectId,
+        own: &[Upd<C::Effect>],
+        op: &Op,
+        index: u16,
+    ) -> Result<(C::Effect, Option<u64>), CallError>
+        requires has { C.has object.now.kind ≡ true }
+        requires fits { fits_kind C.too_deep object.now op.now ≡ true }
+        requires may { MayAsk (kinds_of C.laws) self.old at (AskUpdate tx s.now object.now own.now op.now) }
+        ensures { Calls (kinds_of C.laws) self.old self.new (λ run. index ≡ update_count run tx + 1) at (AskUpdate tx s.now object.now own.now op.now) (λ x e. (read : List (Part C.Effect)) × (e ≡ Updated tx s.now object.now own.now op.now read (record { object = object.now; index = index; effect = x.0 }) x.1)) result }
+    {
+        let i = index_of(at, self.sites, self.parts);
+        self.partitions[i].update(self.alloc, tx, s, object, own, op)
+    }
+
+    /// Asks for a vote: the transaction's updates at this partition, and the number of its lead. Answers the prepare time.
+    ///
+    /// # Errors
+    ///
+    /// As the partition's: `ClockBehind`, `ClockAtEnd`, `NoMemory`.
+    pub fn prepare(
+        &mut self,
+        at: PartId,
+        tx: TxId,
+        s: &VTime,
+        lead: u8,
+        updates: &[Upd<C::Effect>],
+    ) -> Result<u64, CallError>
+        requires { MayAsk (kinds_of C.laws) self.old at (AskPrepare tx s.now lead updates.now) }
+        ensures { Calls (kinds_of C.laws) self.old self.new Any at (AskPrepare tx s.now lead updates.now) (λ n e. e ≡ event.Prepared tx s.now lead updates.now n) result }
+    {
+        let i = index_of(at, self.sites, self.parts);
+        self.partitions[i].prepare(self.alloc, tx, s, lead, updates)
+    }
+
+    /// Asks the lead to decide, with the commit vector. Takes no memory.
+    ///
+    /// # Errors
+    ///
+    /// `Gone` exactly where the transaction is neither pending nor committed there.
+    pub fn decide(&mut self, at: PartId, tx: TxId, c: &VTime) -> Result<(), Refusal>
+        requires { MayAsk (kinds_of C.laws) self.old at (AskDecide tx c.now) }
+        ensures { Answers (kinds_of C.laws) self.old self.new Any at (AskDecide tx c.now) (λ n e. e ≡ Decided tx c.now) result }
+    {
+        let i = index_of(at, self.sites, self.parts);
+        self.partitions[i].decide(tx, c)
+    }
+
+    /// Asks a participant to finish a decided transaction. Takes no memory.
+    ///
+    /// # Errors
+    ///
+    /// `Gone` exactly where the transaction is neither pending nor committed there.
+    pub fn finish(&mut self, at: PartId, tx: TxId, c: &VTime) -> Result<(), Refusal>
+        requires { MayAsk (kinds_of C.laws) self.old at (AskFinish tx c.now) }
+        ensures { Answers (kinds_of C.laws) self.old self.new Any at (AskFinish tx c.now) (λ n e. e ≡ Finished tx c.now) result }
+    {
+        let i = index_of(at, self.sites, self.parts);
+        self.partitions[i].finish(tx, c)
+    }
+
+    /// Asks a partition to abort, on the word of the transaction's session. Takes no memory.
+    ///
+    /// # Errors
+    ///
+    /// `Gone` exactly where the transaction isn't pending there.
+    pub fn abort(&mut self, at: PartId, tx: TxId) -> Result<(), Refusal>
+        requires { MayAsk (kinds_of C.laws) self.old at (AskAbort tx) }
+        ensures { Answers (kinds_of C.laws) self.old self.new Any at (AskAbort tx) (λ n e. e ≡ Aborted tx true) result }
+    {
+        let i = index_of(at, self.sites, self.parts);
+        self.partitions[i].abort(tx)
+    }
+
+    /// Makes a message for another site: all that was committed at the partition above a time that is given, or else above
+    /// the end of the last message to that site.
+    ///
+    /// # Errors
+    ///
+    /// `AllocError` where memory runs out. The cluster is as before then.
+    pub fn release(
+        &mut self,
+        at: PartId,
+        to: u8,
+        from: Option<u64>,
+    ) -> Result<Message<C::Effect>, AllocError>
+        requires place { IsOther self.old.sites at.site to }
+        requires may { MayAsk (kinds_of C.laws) self.old at (AskMessage to from) }
+        ensures sent { IfOk result (λ m. (m.to ≡ to) × GoesOn (kinds_of C.laws) self.old self.new Any at (AskMessage to from) (λ e. e ≡ Sent from m)) }
+        ensures same { OnErr result (self.new ≡ self.old) }
+    {
+        let i = index_of(at, self.sites, self.parts);
+        self.partitions[i].release(self.alloc, to, from)
+    }
+
+    /// Hands on the message with this number among those of its sender.
+    ///
+    /// # Errors
+    ///
+    /// As the partition's: `Gap`, `Repeat`, `NoMemory`.
+    pub fn take(
+        &mut self,
+        at: PartId,
+        number: u64,
+        message: &Message<C::Effect>,
+    ) -> Result<(), CallError>
+        requires { MayAsk (kinds_of C.laws) self.old at (AskTake number message.now) }
+        ensures { Calls (kinds_of C.laws) self.old self.new Any at (AskTake number message.now) (λ n e. e ≡ Took number message.now) result }
+    {
+        let i = index_of(at, self.sites, self.parts);
+        self.partitions[i].take(self.alloc, message)
+    }
+
+    /// Asks a partition for its bounds: how far it has come with each site.
+    pub fn report(&self, at: PartId) -> VTime
+        requires { IsPlace self.now.sites self.now.parts at }
+        ensures { GoesOn (kinds_of C.laws) self.now self.now Any at AskReport (λ e. e ≡ Reported result) }
+    {
+        let i = index_of(at, self.sites, self.parts);
+        self.partitions[i].report()
+    }
+
+    /// Hands on the report with this number among those of the partition `part` of the site. Answers how far all partitions of
+    /// the site have come with each site, as this one knows.
+    pub fn hear(&mut self, at: PartId, number: u64, part: u8, bounds: &VTime) -> VTime
+        requires { MayAsk (kinds_of C.laws) self.old at (AskHear number part bounds.now) }
+        ensures { GoesOn (kinds_of C.laws) self.old self.new Any at (AskHear number part bounds.now) (λ e. e ≡ Heard number part bounds.now result) }
+    {
+        let i = index_of(at, self.sites, self.parts);
+        self.partitions[i].hear(part, bounds)
+    }
+}

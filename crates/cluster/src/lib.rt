@@ -1,0 +1,8 @@
+//! The partitions of all sites in one process. What they stand for together is a run of the world: each call of a partition
+//! that its rules allow is one more event of it.
+#![tactic(auto)]
+
+mod calls;
+mod sites;
+
+pub use sites::Sites;
