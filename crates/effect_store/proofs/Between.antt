@@ -45,7 +45,7 @@ paired_filter lt t (x ∷ xs) p = elim (bools (t x)) [
   | inr n ↦ rw n (paired_filter lt t xs p.1)
 ]
 
-filter_twice : {X : Type 0} (p q : X → Bool) (xs : List X) → filter q (filter p xs) ≡ filter (λ x. p x && q x) xs
+pub filter_twice : {X : Type 0} (p q : X → Bool) (xs : List X) → filter q (filter p xs) ≡ filter (λ x. p x && q x) xs
 filter_twice p q [] = refl
 filter_twice p q (x ∷ xs) = elim (bools (p x)) [
   | inr n ↦ rw n (filter_twice p q xs)

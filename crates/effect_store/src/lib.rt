@@ -5,6 +5,7 @@ mod commits;
 mod fold;
 mod hooks;
 mod links;
+mod newest;
 mod store;
 mod tags;
 mod updates;
