@@ -1,8 +1,9 @@
 -- What keeps the newest states, and what they give.
-use Rattle.std.proofs.Common.{◌≡◌, ◌≢◌, ℕ, zero, suc, ◌+◌, ◌<◌, ◌≤◌, Bool, true, false, cond, not, ◌&&◌, ◌||◌, eqb, List, [], ◌∷◌, ◌++◌, length, get_or, Option, Some, None, refl, sym, ap, ◌∙◌, subst, arith, ◌⊎◌, inl, inr, nat_eq, append_assoc}
+use Rattle.std.proofs.Common.{◌≡◌, ◌≢◌, ℕ, zero, suc, ◌+◌, ◌<◌, ◌≤◌, Bool, true, false, cond, not, ◌&&◌, ◌||◌, eqb, List, [], ◌∷◌, ◌++◌, length, get_or, Option, Some, None, refl, sym, ap, ◌∙◌, subst, arith, ◌⊎◌, inl, inr, nat_eq, append_assoc, take, zero-add}
 use Rattle.std.specs.Prelude.{if◌then◌else◌, map, ◌==◌, replicate}
 use Rattle.std.specs.List.{filter, slice_get}
 use Rattle.std.specs.HashMap.{get}
+use Rattle.std.specs.Option.{option_map}
 use Rattle.std.proofs.lemmas.Bool.{eqb-true, eq-eqb, ne_eqb}
 use Rattle.std.proofs.lemmas.List.{append-nil, length-replicate}
 use Rattle.std.proofs.lemmas.Option.{slice_get_past}
@@ -13,13 +14,17 @@ use Rattle.crdt_core.specs.declared.kind.Kind.{Kind}
 use Rattle.crdt_core.specs.declared.object.ObjectId.{ObjectId}
 use Rattle.crdt_core.specs.declared.record.Part.{Part}
 use Rattle.crdt_core.specs.declared.record.Upd.{Upd}
+use Rattle.crdt_core.specs.History.{folded}
+use Rattle.crdt_core.specs.Folds.{effects_of}
+use Rattle.crdt_core.specs.Parts.{seen_parts}
+use Rattle.effect_store.specs.Updates.{updates_of}
 use Rattle.crdt_core.specs.Objects.{same_object, same_object-true, same_object-refl}
 use Rattle.effect_store.specs.declared.links.Links.{Links}
 use Rattle.effect_store.specs.declared.newest.Newest.{Newest}
 use Rattle.effect_store.specs.Arranged.{added, added_all, arranged, Each, Rises, IsOrder, flat}
-use Rattle.effect_store.specs.Chains.{none, after, has_tag, chain, IsChain}
-use Rattle.effect_store.specs.Spots.{Spot, spots, spots_in, tag_of, tag_of_object, before, earlier}
-use Rattle.effect_store.specs.Links.{or_none}
+use Rattle.effect_store.specs.Chains.{none, after, has_tag, chain, IsChain, IsApart}
+use Rattle.effect_store.specs.Spots.{Spot, spots, spots_in, spots_from, tag_of, tag_of_object, before, earlier}
+use Rattle.effect_store.specs.Links.{or_none, spot}
 use Rattle.effect_store.specs.Wanted.{pair, IsReading}
 use Rattle.effect_store.specs.Applied.{applied, mine, shows, shown, AreWide}
 use Rattle.effect_store.specs.Newest.{own, front, own_after, IsNewest, AreNewest, IsApplying, IsWhole}
@@ -29,8 +34,9 @@ use Rattle.effect_store.proofs.Walking.{head_least, chain_head, chain_start, non
 use Rattle.effect_store.proofs.Linking.{is_there, link_read}
 use Rattle.effect_store.proofs.Flattening.{coarser}
 use Rattle.effect_store.proofs.Ordering.{before_order}
+use Rattle.effect_store.proofs.Spotting.{spots_step, spots-arranged}
 use Rattle.effect_store.proofs.Reading.{chain_step}
-use Rattle.effect_store.proofs.Folding.{filter-append, map-append, applied-append}
+use Rattle.effect_store.proofs.Folding.{filter-append, map-append, applied-append, pairs-spots, folded-seen}
 use Rattle.effect_store.proofs.Between.{filter_twice}
 
 and_false : (b : Bool) → (b && false) ≡ false
@@ -384,3 +390,161 @@ module _ {S E : Type 0} (first : Kind → S) (step : S → Dot → E → S) wher
 
   pub whole_width : (o : ObjectId) (a b : ℕ) (xs : List (Spot E)) (n : Newest S) → b ≡ a → IsWhole first step o a xs n → IsWhole first step o b xs n
   whole_width o a b xs n e h = rw e h
+
+of_both : (a b : Bool) → a && b ≡ true → a ≡ true
+of_both true b h = refl
+of_both false b h = cc
+
+or_left : (a b : Bool) → a ≡ true → a || b ≡ true
+or_left true b h = refl
+or_left false b h = cc
+
+negated : (b : Bool) → b ≡ false → not b ≡ true
+negated true h = cc
+negated false h = refl
+
+none_mapped : {A B : Type 0} (f : A → B) (o : Option A) (x : A) → None ≡ option_map f o → o ≡ Some x → ⊥
+none_mapped f None x e h = cc
+none_mapped f (Some y) x e h = cc
+
+some_mapped : {A B : Type 0} (f : A → B) (o : Option A) (x : A) (y : B) → Some y ≡ option_map f o → o ≡ Some x → f x ≡ y
+some_mapped f None x y e h = cc
+some_mapped f (Some z) x y e h = let same : z ≡ x = cc in let k : y ≡ f z = cc in rw (← same) (sym k)
+
+-- while newest states are dropped: none is left that an update before n comes into
+pub record IsForgetting {S E : Type 0} (parts : List (Part E)) (p : Part E) (old now : ℕ → Option (Newest S)) (count n : ℕ) : Type 0 where
+  pub within : n ≤ count
+  pub left : (i : ℕ) (k : Newest S) → now i ≡ Some k → old i ≡ Some k
+  pub clear : (i : ℕ) (k : Newest S) → now i ≡ Some k → (q : Spot E) → slice_get (spots parts) k.at ≡ Some q → Each (λ x. not (has_tag tag_of i x) || before q x) (spots_from p 0 (take n p.updates))
+
+each_push : {X : Type 0} (t : X → Bool) (xs : List X) (x : X) → Each t xs → t x ≡ true → Each t (xs ++ x ∷ [])
+each_push t [] x e h = (h, tt)
+each_push t (y ∷ ys) x e h = (e.0, each_push t ys x e.1 h)
+
+module _ {S E : Type 0} (parts : List (Part E)) (p : Part E) where
+  pub forgetting_next : (old now new : ℕ → Option (Newest S)) (count n : ℕ) (u : Upd E) → IsForgetting parts p old now count n → n < count → slice_get p.updates n ≡ Some u
+      → ((i : ℕ) (k : Newest S) → new i ≡ Some k → now i ≡ Some k)
+      → ((i : ℕ) (k : Newest S) → new i ≡ Some k → (q : Spot E) → slice_get (spots parts) k.at ≡ Some q → (v : Upd E) → slice_get p.updates n ≡ Some v → (not (has_tag tag_of i (spot p n v)) || before q (spot p n v)) ≡ true)
+      → IsForgetting parts p old new count (n + 1)
+  forgetting_next old now new count n u w h e f g = record {
+    within = omega (arith, w.within);
+    left = λ i k z. w.left i k (f i k z);
+    clear = λ i k z q y.
+        (let t : Spot E → Bool = λ x. not (has_tag tag_of i x) || before q x in
+        let grown : spots_from p 0 (take (suc n) p.updates) ≡ spots_from p 0 (take n p.updates) ++ spot p (0 + n) u ∷ [] = spots_step p 0 p.updates n u e in
+        let same : n + 1 ≡ suc n = omega arith in
+        let zero_n : 0 + n ≡ n = zero-add n in
+        let last : t (spot p (0 + n) u) ≡ true = (let P : ℕ → Type 0 = λ m. t (spot p m u) ≡ true in subst P (sym zero_n) (g i k z q y u e)) in
+        rw (same, grown) (each_push t (spots_from p 0 (take n p.updates)) (spot p (0 + n) u) (w.clear i k (f i k z) q y) last));
+  }
+
+  -- no newest state stands at the update's tag
+  pub clear_none : (now : ℕ → Option (Newest S)) (n t : ℕ) (u : Upd E) → t ≡ tag_of_object u.object → None ≡ option_map (λ (k : Newest S). k.at) (now t)
+      → (i : ℕ) (k : Newest S) → now i ≡ Some k → (q : Spot E) → (v : Upd E) → slice_get p.updates n ≡ Some u → slice_get p.updates n ≡ Some v → (not (has_tag tag_of i (spot p n v)) || before q (spot p n v)) ≡ true
+  clear_none now n t u h e i k z q v f g = elim (bools (has_tag tag_of i (spot p n v))) [
+    | inr m ↦ or_left (not (has_tag tag_of i (spot p n v))) (before q (spot p n v)) (negated (has_tag tag_of i (spot p n v)) m)
+    | inl m ↦
+        (let same : u ≡ v = cc in
+        let at : i ≡ t = eqb-true i (tag_of_object v.object) m ∙ sym (h ∙ ap (λ (x : Upd E). tag_of_object x.object) same) in
+        let there : now t ≡ Some k = rw (← at) z in
+        absurd (none_mapped (λ (x : Newest S). x.at) (now t) k e there))
+  ]
+
+  -- the state at the update's tag ends before it
+  pub clear_after : (now : ℕ → Option (Newest S)) (n t end : ℕ) (u : Upd E) (x : Spot E) → t ≡ tag_of_object u.object → Some end ≡ option_map (λ (k : Newest S). k.at) (now t) → slice_get (spots parts) end ≡ Some x → before x (spot p n u) ≡ true
+      → (i : ℕ) (k : Newest S) → now i ≡ Some k → (q : Spot E) → slice_get (spots parts) k.at ≡ Some q → (v : Upd E) → slice_get p.updates n ≡ Some u → slice_get p.updates n ≡ Some v → (not (has_tag tag_of i (spot p n v)) || before q (spot p n v)) ≡ true
+  clear_after now n t end u x h e y b i k z q w v f g = elim (bools (has_tag tag_of i (spot p n v))) [
+    | inr m ↦ or_left (not (has_tag tag_of i (spot p n v))) (before q (spot p n v)) (negated (has_tag tag_of i (spot p n v)) m)
+    | inl m ↦
+        (let same : u ≡ v = cc in
+        let at : i ≡ t = eqb-true i (tag_of_object v.object) m ∙ sym (h ∙ ap (λ (x : Upd E). tag_of_object x.object) same) in
+        let there : now t ≡ Some k = rw (← at) z in
+        let ends : k.at ≡ end = some_mapped (λ (x : Newest S). x.at) (now t) k end e there in
+        let here : slice_get (spots parts) end ≡ Some q = rw (← ends) w in
+        let last : x ≡ q = cc in
+        let P : Spot E → Type 0 = λ z. before z (spot p n u) ≡ true in
+        or_right (not (has_tag tag_of i (spot p n v))) (before q (spot p n v)) (subst P last b))
+  ]
+
+  -- the state at the update's tag was taken out
+  pub clear_gone : (now new : ℕ → Option (Newest S)) (n t : ℕ) (u : Upd E) → t ≡ tag_of_object u.object → ((i : ℕ) → new i ≡ cond (eqb t i) None (now i))
+      → (i : ℕ) (k : Newest S) → new i ≡ Some k → (q : Spot E) → (v : Upd E) → slice_get p.updates n ≡ Some u → slice_get p.updates n ≡ Some v → (not (has_tag tag_of i (spot p n v)) || before q (spot p n v)) ≡ true
+  clear_gone now new n t u h e i k z q v f g = elim (bools (has_tag tag_of i (spot p n v))) [
+    | inr m ↦ or_left (not (has_tag tag_of i (spot p n v))) (before q (spot p n v)) (negated (has_tag tag_of i (spot p n v)) m)
+    | inl m ↦
+        (let same : u ≡ v = cc in
+        let at : i ≡ t = eqb-true i (tag_of_object v.object) m ∙ sym (h ∙ ap (λ (x : Upd E). tag_of_object x.object) same) in
+        let here : eqb t i ≡ true = eq-eqb t i (sym at) in
+        let gone : new i ≡ None = e i ∙ rw here refl in
+        let v : ⊥ = cc in absurd v)
+  ]
+
+  pub left_gone : (now new : ℕ → Option (Newest S)) (t : ℕ) → ((i : ℕ) → new i ≡ cond (eqb t i) None (now i)) → (i : ℕ) (k : Newest S) → new i ≡ Some k → now i ≡ Some k
+  left_gone now new t e i k z = elim (bools (eqb t i)) [
+    | inl y ↦ (let gone : new i ≡ None = e i ∙ rw y refl in let v : ⊥ = cc in absurd v)
+    | inr n ↦ (let same : new i ≡ now i = e i ∙ rw n refl in sym same ∙ z)
+  ]
+
+pub mapped_some : {A B : Type 0} (f : A → B) (o : Option A) (y : B) → Some y ≡ option_map f o → (x : A) × (o ≡ Some x) × (f x ≡ y)
+mapped_some f None y e = cc
+mapped_some f (Some x) y e = (x, refl, cc)
+
+-- an update that was read of a list that was read
+pub read_of : {E : Type 0} (us vs : List (Upd E)) (n : ℕ) (u : Upd E) → vs ≡ us → slice_get vs n ≡ Some u → slice_get us n ≡ Some u
+read_of us vs n u e h = rw (← e) h
+
+take_most : {X : Type 0} (n : ℕ) (l : List X) → length l ≤ n → take n l ≡ l
+take_most zero [] h = refl
+take_most (suc n) [] h = refl
+take_most zero (x ∷ xs) h = absurd (omega arith)
+take_most (suc n) (x ∷ xs) h = ap (λ l. x ∷ l) (take_most n xs (omega arith))
+
+pub forgotten : {S E : Type 0} (parts : List (Part E)) (p : Part E) (old now : ℕ → Option (Newest S)) (count n : ℕ) → IsForgetting parts p old now count n → length p.updates ≤ n
+    → (i : ℕ) (k : Newest S) → now i ≡ Some k → (q : Spot E) → slice_get (spots parts) k.at ≡ Some q → Each (λ x. not (has_tag tag_of i x) || before q x) (spots_in p)
+forgotten {E = E} parts p old now count n w h i k z q y = let P : List (Upd E) → Type 0 = λ l. Each (λ x. not (has_tag tag_of i x) || before q x) (spots_from p 0 l) in subst P (take_most n p.updates h) (w.clear i k z q y)
+
+module _ {S E : Type 0} (first : Kind → S) (step : S → Dot → E → S) (parts : List (Part E)) (links : Links) (r : IsReading parts links) where
+  -- what a read finds from no update on
+  pub read_fresh : (o : ObjectId) (s : List ℕ) (tag from : ℕ) (state : S) → tag ≡ tag_of_object o → from ≡ or_none (get nat_eq links.first tag) → state ≡ first o.kind
+      → applied step state (shown o s parts from) ≡ applied step (first o.kind) (map pair (filter (mine o (shows s)) (arranged before (spots parts))))
+  read_fresh o s tag from state h e f =
+      let t : Spot E → Bool = mine o (shows s) in
+      let head : chain tag_of before (spots parts) (or_none (get nat_eq links.first (tag_of_object o))) ≡ filter (has_tag tag_of (tag_of_object o)) (arranged before (spots parts)) =
+      chain_head tag_of before before_order (spots parts) links.next.items (λ i. or_none (get nat_eq links.first i)) r.linked.ahead (small parts links r) (tag_of_object o) in
+      let tagged : (x : Spot E) → t x ≡ true → has_tag tag_of (tag_of_object o) x ≡ true = λ x k. eq-eqb (tag_of_object o) (tag_of x) (sym (ap tag_of_object (same_object-true x.update.object o (of_both (own o x) (shows s x.part) k)))) in
+      let same : filter t (chain tag_of before (spots parts) from) ≡ filter t (arranged before (spots parts)) = rw (e, h, head) (coarser t (has_tag tag_of (tag_of_object o)) tagged (arranged before (spots parts))) in
+      ap (λ z. applied step z (map pair (filter t (chain tag_of before (spots parts) from)))) f ∙ ap (λ z. applied step (first o.kind) (map pair z)) same
+
+  -- what a read finds from a kept state on
+  pub read_from : (sites : ℕ) (o : ObjectId) (s : List ℕ) (tag from : ℕ) (n : Newest S) (newest : ℕ → Option (Newest S)) → AreNewest first step sites (spots parts) newest → newest tag ≡ Some n
+      → ((q : Spot E) → slice_get (spots parts) n.at ≡ Some q → own o q ≡ true) → le n.seen s ≡ true → from ≡ get_or links.next.items n.at from
+      → applied step n.state (shown o s parts from) ≡ applied step (first o.kind) (map pair (filter (mine o (shows s)) (arranged before (spots parts))))
+  read_from sites o s tag from n newest h e f m g = let k = h tag n e in read_kept first step sites parts links r o s tag from n k (f k.last k.there) m g
+
+  pub read_at_end : (sites : ℕ) (o : ObjectId) (s : List ℕ) (tag from : ℕ) (n : Newest S) (newest : ℕ → Option (Newest S)) → AreNewest first step sites (spots parts) newest → newest tag ≡ Some n
+      → ((q : Spot E) → slice_get (spots parts) n.at ≡ Some q → own o q ≡ true) → le n.seen s ≡ true → from ≡ get_or links.next.items n.at from → shown o s parts from ≡ []
+      → n.state ≡ applied step (first o.kind) (map pair (filter (mine o (shows s)) (arranged before (spots parts))))
+  read_at_end sites o s tag from n newest h e f m g z = ap (applied step n.state) (sym z) ∙ read_from sites o s tag from n newest h e f m g
+
+module _ {S E : Type 0} (first : Kind → S) (step : S → Dot → E → S) where
+  pub newest_in : (a b : ℕ) (parts l : List (Part E)) (newest : ℕ → Option (Newest S)) → b ≡ a → l ≡ parts → AreNewest first step a (spots parts) newest → AreNewest first step b (spots l) newest
+  newest_in a b parts l newest e f h = rw (e, f) h
+
+  pub newest_none : (sites : ℕ) (xs : List (Spot E)) (newest : ℕ → Option (Newest S)) → ((i : ℕ) → newest i ≡ None) → AreNewest first step sites xs newest
+  newest_none sites xs newest h i n e = let z : newest i ≡ None = h i in let v : ⊥ = cc in absurd v
+
+  -- once a part was told, and pushed
+  pub newest_after : (sites : ℕ) (parts l parts' : List (Part E)) (p : Part E) (old new : ℕ → Option (Newest S)) → AreNewest first step sites (spots parts) old → ((i : ℕ) (n : Newest S) → new i ≡ Some n → old i ≡ Some n)
+      → ((i : ℕ) (n : Newest S) → new i ≡ Some n → (q : Spot E) → slice_get (spots l) n.at ≡ Some q → Each (λ y. not (has_tag tag_of i y) || before q y) (spots_in p))
+      → l ≡ parts → parts' ≡ parts ++ p ∷ [] → AreNewest first step sites (spots parts') new
+  newest_after sites parts l parts' p old new h f g e k =
+      let P : List (Part E) → Type 0 = λ z. (i : ℕ) (n : Newest S) → new i ≡ Some n → (q : Spot E) → slice_get (spots z) n.at ≡ Some q → Each (λ y. not (has_tag tag_of i y) || before q y) (spots_in p) in
+      let Q : List (Spot E) → Type 0 = λ z. AreNewest first step sites z new in
+      subst Q (sym (ap spots k ∙ spots-push parts p)) (newest_more first step sites (spots parts) (spots_in p) old new h f (subst P e g))
+
+  -- what a read finds is the state that the model tells
+  pub model_is : (parts l view : List (Part E)) (o : ObjectId) (s : List ℕ) → IsApart earlier parts → l ≡ parts → arranged earlier parts ≡ view
+      → applied step (first o.kind) (map pair (filter (mine o (shows s)) (arranged before (spots l)))) ≡ folded (first o.kind) step (effects_of o [] (seen_parts o s view))
+  model_is parts l view o s a e h =
+      let same : map pair (filter (mine o (shows s)) (arranged before (spots l))) ≡ updates_of o (filter (shows s) view) = rw (e, spots-arranged parts a, h) (pairs-spots o (shows s) view) in
+      ap (applied step (first o.kind)) same ∙ sym (folded-seen (first o.kind) step o s view)

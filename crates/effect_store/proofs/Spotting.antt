@@ -106,7 +106,7 @@ module _ {E : Type 0} where
   each_front t p m (suc n) (u ∷ us) h = (h m u (omega arith), each_front t p (suc m) n us (λ j v b. h j v (omega arith)))
 
   -- the first updates of a part, and one more
-  spots_step : (p : Part E) (m : ℕ) (us : List (Upd E)) (n : ℕ) (u : Upd E) → slice_get us n ≡ Some u → spots_from p m (take (suc n) us) ≡ spots_from p m (take n us) ++ spot p (m + n) u ∷ []
+  pub spots_step : (p : Part E) (m : ℕ) (us : List (Upd E)) (n : ℕ) (u : Upd E) → slice_get us n ≡ Some u → spots_from p m (take (suc n) us) ≡ spots_from p m (take n us) ++ spot p (m + n) u ∷ []
   spots_step p m [] n u h = cc
   spots_step p m (v ∷ us) zero u h = let e : v ≡ u = cc in let z : m + 0 ≡ m = omega arith in rw (e, z) refl
   spots_step p m (v ∷ us) (suc n) u h = let z : m + suc n ≡ suc m + n = omega arith in rw z (ap (λ l. spot p m v ∷ l) (spots_step p (suc m) us n u h))

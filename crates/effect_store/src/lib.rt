@@ -6,6 +6,7 @@ mod fold;
 mod hooks;
 mod links;
 mod newest;
+mod reads;
 mod store;
 mod tags;
 mod updates;

@@ -8,7 +8,7 @@ ghost use Rattle.effect_store.specs.declared.newest.Newest.{Newest};
 ghost use Rattle.effect_store.specs.Arranged.{Each};
 ghost use Rattle.effect_store.specs.Chains.{none, chain, has_tag, IsApart};
 ghost use Rattle.effect_store.specs.Spots.{Spot, spots, spots_in, tag_of, tag_of_object, before, earlier};
-ghost use Rattle.effect_store.specs.Links.{or_none};
+ghost use Rattle.effect_store.specs.Links.{or_none, spot};
 ghost use Rattle.effect_store.specs.Wanted.{IsReading};
 ghost use Rattle.effect_store.specs.Applied.{AreWide, shown};
 ghost use Rattle.effect_store.specs.Newest.{own, AreNewest, IsApplying, IsWhole};
@@ -280,4 +280,47 @@ pub(crate) fn advance<C: Crdt>(
     let whole = whole_state::<C>(alloc, parts, links, newest, object, sites, rest)?;
     keep(links, newest, object, whole);
     Ok(())
+}
+
+/// Drops the newest state at the tag of an update, unless the update comes after all that the state has.
+fn forget_update<E, S: Drop>(
+    parts: &[Part<E>],
+    links: &Links,
+    newest: &mut HashMap<u64, Newest<S>>,
+    part: &Part<E>,
+    at: u32,
+)
+    requires reading { IsReading parts.now links.now }
+    requires within { (i : ℕ) (n : Newest S) → get nat_eq newest.old i ≡ Some n → n.at < length links.now.entries.items }
+    requires there { at < length part.now.updates }
+    ensures left { (i : ℕ) (n : Newest S) → get nat_eq newest.new i ≡ Some n → get nat_eq newest.old i ≡ Some n }
+    ensures clear { (i : ℕ) (n : Newest S) → get nat_eq newest.new i ≡ Some n → (q : Spot E) → slice_get (spots parts.now) n.at ≡ Some q → (u : Upd E) → slice_get part.now.updates at ≡ Some u → (not (has_tag tag_of i (spot part.now at u)) || before q (spot part.now at u)) ≡ true }
+{
+    let tag = tag_of(&part.updates.as_slice()[at as usize].object);
+    let Some(end) = end_of(newest, tag) else {
+        return;
+    };
+    if stands_before(parts, links.entries[end as usize], part, at) {
+        return;
+    }
+    let _old = newest.remove(&tag);
+}
+
+/// Drops the newest states that have an update which a new part's come before.
+pub(crate) fn forget<E, S: Drop>(
+    parts: &[Part<E>],
+    links: &Links,
+    newest: &mut HashMap<u64, Newest<S>>,
+    part: &Part<E>,
+)
+    requires reading { IsReading parts.now links.now }
+    requires within { (i : ℕ) (n : Newest S) → get nat_eq newest.old i ≡ Some n → n.at < length links.now.entries.items }
+    requires small { length part.now.updates ≤ none }
+    ensures left { (i : ℕ) (n : Newest S) → get nat_eq newest.new i ≡ Some n → get nat_eq newest.old i ≡ Some n }
+    ensures clear { (i : ℕ) (n : Newest S) → get nat_eq newest.new i ≡ Some n → (q : Spot E) → slice_get (spots parts.now) n.at ≡ Some q → Each (λ x. not (has_tag tag_of i x) || before q x) (spots_in part.now) }
+{
+    let count = part.updates.as_slice().len() as u32;
+    for at in 0..count {
+        forget_update(parts, links, newest, part, at);
+    }
 }
