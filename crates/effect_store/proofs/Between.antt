@@ -114,10 +114,10 @@ module _ {E : Type 0} (sites : ℕ) (parts : List (Part E)) (ids : TxId → Opti
       let t : Part E → Bool = λ p. is_of site p && q p in
       let left : filter q (commits site parts) ≡ arranged (sooner site) (filter t parts) =
       filter-arranged (sooner site) (sooner_order site) q (filter (is_of site) parts) (paired_filter (sooner site) (is_of site) parts (paired_sooner site))
-          ∙ ap (arranged (sooner site)) (filter_twice (is_of site) q parts) in
+      ∙ ap (arranged (sooner site)) (filter_twice (is_of site) q parts) in
       let right : sorted_by (stream_cmp site) (filter t (arranged earlier parts)) ≡ arranged (sooner site) (filter t parts) =
       ap (sorted_by (stream_cmp site)) (filter-arranged earlier earlier_order t parts (paired_of earlier parts (apart sites parts ids s)))
-          ∙ sorted-arranged earlier (stream_cmp site) (sooner_order site) (filter t parts) (paired_filter (sooner site) t parts (paired_sooner site)) in
+      ∙ sorted-arranged earlier (stream_cmp site) (sooner_order site) (filter t parts) (paired_filter (sooner site) t parts (paired_sooner site)) in
       rw (← e) (left ∙ sym right)
 
   pub stretch_between : (site lo hi : ℕ) (view l : List (Part E)) (ks m : List ℕ) → arranged earlier parts ≡ view → IsList site parts ks → l ≡ parts → m ≡ ks → filter (λ p. ltb lo (entry p.c site) && leb (entry p.c site) hi) (at_places l m) ≡ sorted_by (stream_cmp site) (parts_between site lo hi view)

@@ -229,7 +229,7 @@ module _ {E : Type 0} where
       let big : ltb place (length (parts ++ p ∷ [])) ≡ true = simp length-append (grind (arith, nat_tests)) in
       let put : at_places (parts ++ p ∷ []) (insert ks i place) ≡ added (sooner site) p (at_places parts ks) =
       at_insert (parts ++ p ∷ []) p ks i place (still_within parts p ks s.within) n2 there
-          ∙ (ap (λ m. insert m i p) (at_grown parts p ks s.within) ∙ insert_added (sooner site) p (at_places parts ks) i (omega (arith, wide)) a2 b2) in
+      ∙ (ap (λ m. insert m i p) (at_grown parts p ks s.within) ∙ insert_added (sooner site) p (at_places parts ks) i (omega (arith, wide)) a2 b2) in
       let P : List (Part E) → Type 0 = λ m. Each (λ q. sooner site p q || sooner site q p) m in
       let new : Each (λ q. sooner site p q || sooner site q p) (at_places parts ks) = subst P (sym s.listed) (fresh_times site parts p f) in
       rw e (record {

@@ -1,6 +1,6 @@
 -- What a store holds of a transaction, and that one more part keeps it.
 use Rattle.std.proofs.Common.{◌≡◌, ◌≢◌, ℕ, zero, suc, ◌+◌, ◌<◌, ◌≤◌, Bool, true, false, cond, not, ◌||◌, eqb, List, [], ◌∷◌, ◌++◌, length, get_or, Option, Some, None, refl, sym, ap, ◌∙◌, subst, arith, ◌⊎◌, inl, inr}
-use Rattle.std.specs.Prelude.{if◌then◌else◌, ◌==◌, Result, Ok, Err, OnOk, IsOk}
+use Rattle.std.specs.Prelude.{if◌then◌else◌, ◌==◌, is_some, Result, Ok, Err, OnOk, IsOk}
 use Rattle.std.specs.List.{slice_get}
 use Rattle.std.specs.Str.{bytes_eq}
 use Rattle.std.proofs.lemmas.Slice.Eq.{bytes_eq-Decides}
@@ -154,3 +154,7 @@ store_same sites parts parts' ids ids' e h s = rw e (record {
   named = λ t k g. s.named t k (sym (h t) ∙ g);
   wide = s.wide;
 })
+
+pub found_is : {A : Type 0} (b : Bool) (x : A) (o : Option A) → o ≡ (if b then Some x else None) → is_some o ≡ b
+found_is true x o e = ap is_some e
+found_is false x o e = ap is_some e

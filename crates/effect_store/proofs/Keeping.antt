@@ -318,7 +318,7 @@ module _ {S E : Type 0} (first : Kind → S) (step : S → Dot → E → S) (sit
       let rest_is : filter t (chain tag_of before (spots parts) from) ≡ filter (λ y. t y && before q y) l =
       ap (filter t) (after_link parts links r n.at from q k.there e) ∙ (filter_twice (after tag_of before q) t l ∙ filter_same (λ y. after tag_of before q y && t y) (λ y. t y && before q y) (λ y. mine_rest z s q y (own z y) (same_object-refl z) refl) l) in
       subst P same (ap (λ w. applied step w (map pair (filter t (chain tag_of before (spots parts) from)))) (k.state ∙ ap (λ w. applied step (first z.kind) (map pair w)) (sym front_is))
-          ∙ applied_both (first z.kind) (λ y. t y && not (before q y)) (λ y. t y && before q y) t l (filter t (chain tag_of before (spots parts) from)) (split before before_order q t l r.linked.ahead.ordered) rest_is)
+      ∙ applied_both (first z.kind) (λ y. t y && not (before q y)) (λ y. t y && before q y) t l (filter t (chain tag_of before (spots parts) from)) (split before before_order q t l r.linked.ahead.ordered) rest_is)
 
 module _ {S E : Type 0} (first : Kind → S) (step : S → Dot → E → S) (sites : ℕ) where
   -- more updates, none of which comes into the front

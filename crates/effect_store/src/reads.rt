@@ -31,15 +31,7 @@ fn fresh_state<C: Crdt>(
 {
     let mut state = C::empty(alloc, object.kind)?;
     let from = head(&links.first, tag_of(object));
-    apply_shown::<C>(
-        alloc,
-        parts,
-        links,
-        from,
-        object,
-        snapshot,
-        &mut state,
-    )?;
+    apply_shown::<C>(alloc, parts, links, from, object, snapshot, &mut state)?;
     Ok(state)
 }
 
@@ -62,15 +54,7 @@ pub(crate) fn read_state<C: Crdt>(
     };
     let from = links.next[kept.at as usize];
     let mut state = C::copy(alloc, &kept.state)?;
-    apply_shown::<C>(
-        alloc,
-        parts,
-        links,
-        from,
-        object,
-        snapshot,
-        &mut state,
-    )?;
+    apply_shown::<C>(alloc, parts, links, from, object, snapshot, &mut state)?;
     Ok(state)
 }
 

@@ -114,7 +114,7 @@ impl<C: Crdt> Store<C> {
     pub fn holds(&self, tx: TxId) -> bool
         ensures { result ≡ lists self.now.parts tx }
     {
-        self.ids.contains_key(&tx)
+        self.has(tx).is_some()
     }
 
     /// The commit vector of a transaction, if a part of it is held. One look-up in a hash table.
@@ -163,13 +163,7 @@ impl<C: Crdt> Store<C> {
         ensures { result ≡ sorted_by (stream_cmp site) (parts_between site lo hi self.now.parts) }
     {
         let list = &self.lists[site as usize - 1];
-        stretch::<C>(
-            self.parts.as_slice(),
-            list.places.as_slice(),
-            site,
-            lo,
-            hi,
-        )
+        stretch::<C>(self.parts.as_slice(), list.places.as_slice(), site, lo, hi)
     }
 
     /// Takes one more part in. Takes no memory.
@@ -186,12 +180,7 @@ impl<C: Crdt> Store<C> {
         let place = self.parts.len() as u32;
         let updates = part.updates.as_slice().len();
         let _room_was_reserved = self.ids.insert(part.tx, place);
-        forget(
-            self.parts.as_slice(),
-            &self.links,
-            &mut self.newest,
-            &part,
-        );
+        forget(self.parts.as_slice(), &self.links, &mut self.newest, &part);
         list_part(
             self.parts.as_slice(),
             &mut self.lists,

@@ -44,7 +44,10 @@ fn fill(alloc: Global, store: &mut Counters, last: u64, late: u64) -> Result<u64
         if now <= last && !is_late && offer(store, part(alloc, now)?) {
             taken = taken.saturating_add(1);
         }
-        if late > 0 && now > late && (now - late) % 10 == 0 && offer(store, part(alloc, now - late)?)
+        if late > 0
+            && now > late
+            && (now - late) % 10 == 0
+            && offer(store, part(alloc, now - late)?)
         {
             taken = taken.saturating_add(1);
         }

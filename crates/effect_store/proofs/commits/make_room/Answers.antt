@@ -16,8 +16,9 @@ returns-in_err-make_room-clause-kept c = λ m r.
 pub loop-i-preserved : goal.loop-i-preserved
 loop-i-preserved c =
     let n : c.loop-i.i < length c.loop-i.lists = omega (arith, c.told-lists, c.loop-i-test.true, c.requires) in
-    let there = slice_get-get_or c.loop-i.lists c.loop-i.i c.index-lists-i.result n in
-    (same_set _ _ _ _ _ c.loop-i.invariant.0 there c.make_room.ensures.places,
-    λ m r. room_kept _ m _ _ _ _ there c.make_room.ensures.kept (c.loop-i.invariant.1 m r),
-    room_next _ _ _ _ _ there c.in_ok-make_room.ensures.ok c.loop-i.invariant.2,
-    omega (arith, c.loop-i-test.true))
+    let there = slice_get-get_or c.loop-i.lists c.loop-i.i c.index-lists-i.result n in (
+      same_set _ _ _ _ _ c.loop-i.invariant.0 there c.make_room.ensures.places,
+      λ m r. room_kept _ m _ _ _ _ there c.make_room.ensures.kept (c.loop-i.invariant.1 m r),
+      room_next _ _ _ _ _ there c.in_ok-make_room.ensures.ok c.loop-i.invariant.2,
+      omega (arith, c.loop-i-test.true),
+    )

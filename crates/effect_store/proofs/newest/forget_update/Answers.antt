@@ -1,4 +1,5 @@
-use Rattle.std.proofs.Common.{◌≡◌, ℕ, ◌<◌, length, Some, refl, sym, ◌∙◌, arith, get_or}
+use Rattle.std.proofs.Common.{◌≡◌, ℕ, ◌<◌, length, Some, refl, sym, ◌∙◌, arith, get_or, nat_eq}
+use Rattle.std.specs.HashMap.{get}
 use Rattle.std.proofs.lemmas.Option.{slice_get_read, slice_get-get_or}
 use Rattle.effect_store.proofs.Arranging.{get_in}
 use Rattle.effect_store.proofs.Linking.{stands, before_at}
@@ -21,11 +22,11 @@ returns-then-stands_before-clause-clear g c = λ i k z q w v f.
     let r = stands _ _ _ _ _ _ _ c.requires.reading.linked _ _ there in
     let inside : c.args.at < length c.as_slice.result.now = rw c.as_slice.ensures c.requires.there in
     let u = read_of _ _ _ _ c.as_slice.ensures (slice_get-get_or c.as_slice.result.now c.args.at c.index-as_slice-at.result inside) in
-    clear_after c.args.parts.now c.args.part.now _ c.args.at _ _ (get_or c.as_slice.result.now c.args.at c.index-as_slice-at.result) r.0 c.tag_of-tag.ensures (sym c.in-Some.is ∙ c.end_of.ensures) r.1
-        (before_at r.0 c.args.part.now c.args.at (get_or c.as_slice.result.now c.args.at c.index-as_slice-at.result) _ _ r.3 (sym (c.stands_before.ensures _ r.2) ∙ c.if-stands_before.true)) i k z q w v u f)
+    clear_after c.args.parts.now c.args.part.now (get nat_eq c.args.newest.now) c.args.at _ _ (get_or c.as_slice.result.now c.args.at c.index-as_slice-at.result) r.0 c.tag_of-tag.ensures (sym c.in-Some.is ∙ c.end_of.ensures) r.1
+    (before_at r.0 c.args.part.now c.args.at (get_or c.as_slice.result.now c.args.at c.index-as_slice-at.result) _ _ r.3 (sym (c.stands_before.ensures _ r.2) ∙ c.if-stands_before.true)) i k z q w v u f)
 
 pub returns-clause-clear : goal.returns-clause-clear
 returns-clause-clear g c = λ i k z q w v f.
     (let inside : c.args.at < length c.as_slice.result.now = rw c.as_slice.ensures c.requires.there in
     let u = read_of _ _ _ _ c.as_slice.ensures (slice_get-get_or c.as_slice.result.now c.args.at c.index-as_slice-at.result inside) in
-    clear_gone c.args.parts.now c.args.part.now _ _ c.args.at _ (get_or c.as_slice.result.now c.args.at c.index-as_slice-at.result) c.tag_of-tag.ensures c.remove-old.ensures.updates.0 i k z q v u f)
+    clear_gone c.args.parts.now c.args.part.now (get nat_eq c.args.newest.now) (get nat_eq c.remove-old.new.self) c.args.at _ (get_or c.as_slice.result.now c.args.at c.index-as_slice-at.result) c.tag_of-tag.ensures c.remove-old.ensures.updates.0 i k z q v u f)

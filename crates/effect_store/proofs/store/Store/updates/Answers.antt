@@ -8,8 +8,9 @@ use Rattle.effect_store.proofs.store.Store.updates.Goals as goal
 
 pub invariant_of-result : goal.invariant_of-result
 invariant_of-result g c = (
-    reading_in _ _ _ c.self.invariant.1 c.as_slice.ensures.value,
-    wide_for c.args.outside _ _ _ _ c.requires (sym (ap (λ (h : Stored g.row.C-Effect.Denot). h.sites) c.self.view_is)) c.as_slice.ensures.value c.self.invariant.0.wide)
+  reading_in _ _ _ c.self.invariant.1 c.as_slice.ensures.value,
+  wide_for c.args.outside _ _ _ _ c.requires (sym (ap (λ (h : Stored g.row.C-Effect.Denot). h.sites) c.self.view_is)) c.as_slice.ensures.value c.self.invariant.0.wide,
+)
 
 pub returns : goal.returns
 returns g c =
