@@ -66,18 +66,24 @@ fn read_all(
     let mut read: u64 = 0;
     for i in 0..count {
         let object = object(alloc, first.saturating_add(i))?;
-        let _shown = store.value(alloc, &object, s)?;
-        read = read.saturating_add(1);
+        if s.width() == store.sites() {
+            let _shown = store.value(alloc, &object, s)?;
+            read = read.saturating_add(1);
+        }
     }
     Ok(read)
 }
 
 /// How many parts a stretch of time has.
 fn count_between(store: &Counters, lo: u64, hi: u64) -> u64 {
-    if store.sites() != 3 {
-        return 0;
+    let mut count: u64 = 0;
+    if store.sites() == 0 {
+        return count;
     }
-    store.between(1, lo, hi).count() as u64
+    for _part in store.between(1, lo, hi) {
+        count = count.saturating_add(1);
+    }
+    count
 }
 
 /// Says how many of something were done, and in how many microseconds.

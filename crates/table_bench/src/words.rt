@@ -1,3 +1,5 @@
+ghost use Rattle.std.specs.Prelude.{◌≡◌, length, IfSome};
+
 use crdt_core::{Kind, ObjectId, Part, Upd};
 use crdt_counters::CounterPn;
 use effect_store::Store;
@@ -21,7 +23,9 @@ pub(crate) fn counter(alloc: Global, key: &str) -> Result<Option<ObjectId>, Allo
 }
 
 /// The vector with these entries, between commas, if there is one for each site.
-pub(crate) fn vector(sites: u8, text: &str) -> Option<VTime> {
+pub(crate) fn vector(sites: u8, text: &str) -> Option<VTime>
+    ensures { IfSome result (λ v. length v ≡ sites) }
+{
     if !(1..=8).contains(&sites) {
         return None;
     }
@@ -34,7 +38,11 @@ pub(crate) fn vector(sites: u8, text: &str) -> Option<VTime> {
         }
         v = v.with(site, word.parse::<u64>().ok()?);
     }
-    if site == v.width() { Some(v) } else { None }
+    if site == sites && v.width() == sites {
+        Some(v)
+    } else {
+        None
+    }
 }
 
 /// A transaction of the first partition of a site, as `SITE#TIME`.
