@@ -1,11 +1,10 @@
 -- What a walk applies, in the words of the model.
-use Rattle.std.proofs.Common.{◌≡◌, ◌≢◌, ℕ, zero, suc, ◌+◌, ◌<◌, ◌≤◌, Bool, true, false, cond, not, ◌&&◌, List, [], ◌∷◌, ◌++◌, length, get_or, Option, Some, None, refl, sym, ap, ◌∙◌, subst, arith, nat_eq, ◌⊎◌, inl, inr}
+use Rattle.std.proofs.Common.{◌≡◌, ℕ, suc, ◌≤◌, Bool, true, false, cond, ◌&&◌, List, [], ◌∷◌, ◌++◌, length, get_or, Option, Some, None, refl, sym, ap, ◌∙◌, arith, nat_eq, inl, inr}
 use Rattle.std.specs.Prelude.{if◌then◌else◌, map, ◌==◌, IfSome}
-use Rattle.std.specs.List.{slice_get, filter, list_any}
+use Rattle.std.specs.List.{slice_get, filter}
 use Rattle.std.specs.HashMap.{get}
 use Rattle.std.proofs.lemmas.Bool.{eqb-true, eq-eqb}
 use Rattle.std.proofs.lemmas.Option.{slice_get_past}
-use Rattle.site_vector.specs.declared.ids.TxId.{TxId}
 use Rattle.site_vector.specs.declared.ids.Dot.{Dot}
 use Rattle.site_vector.specs.Vector.{le}
 use Rattle.crdt_core.specs.declared.object.ObjectId.{ObjectId}
@@ -16,12 +15,12 @@ use Rattle.crdt_core.specs.History.{folded}
 use Rattle.crdt_core.specs.Folds.{effects_from, effects_of}
 use Rattle.crdt_core.specs.Parts.{touches, seen_parts}
 use Rattle.effect_store.specs.declared.links.Links.{Links}
-use Rattle.effect_store.specs.Arranged.{arranged, Each, flat}
+use Rattle.effect_store.specs.Arranged.{arranged, Each}
 use Rattle.effect_store.specs.Chains.{none, has_tag, chain, IsApart}
 use Rattle.effect_store.specs.Spots.{Spot, spots, spots_in, spots_from, tag_of, tag_of_object, before, earlier}
 use Rattle.effect_store.specs.Links.{or_none}
 use Rattle.effect_store.specs.Updates.{updates_in, updates_of}
-use Rattle.effect_store.specs.Wanted.{pair, wants, wanted, is_outside, IsAsWide, IsReading}
+use Rattle.effect_store.specs.Wanted.{pair, is_outside, IsAsWide, IsReading}
 use Rattle.effect_store.specs.Applied.{applied, mine, shows, shown, AreWide}
 use Rattle.effect_store.proofs.Arranging.{get_each}
 use Rattle.effect_store.proofs.Chaining.{bools}

@@ -1,10 +1,10 @@
 -- What keeps the newest states, and what they give.
-use Rattle.std.proofs.Common.{◌≡◌, ◌≢◌, ℕ, zero, suc, ◌+◌, ◌<◌, ◌≤◌, Bool, true, false, cond, not, ◌&&◌, ◌||◌, eqb, List, [], ◌∷◌, ◌++◌, length, get_or, Option, Some, None, refl, sym, ap, ◌∙◌, subst, arith, ◌⊎◌, inl, inr, nat_eq, append_assoc, take, zero-add}
-use Rattle.std.specs.Prelude.{if◌then◌else◌, map, ◌==◌, replicate}
+use Rattle.std.proofs.Common.{◌≡◌, ℕ, zero, suc, ◌+◌, ◌<◌, ◌≤◌, Bool, true, false, cond, not, ◌&&◌, ◌||◌, eqb, List, [], ◌∷◌, ◌++◌, length, get_or, Option, Some, None, refl, sym, ap, ◌∙◌, subst, arith, ◌⊎◌, inl, inr, nat_eq, append_assoc, take, zero-add}
+use Rattle.std.specs.Prelude.{if◌then◌else◌, map, replicate}
 use Rattle.std.specs.List.{filter, slice_get}
 use Rattle.std.specs.HashMap.{get}
 use Rattle.std.specs.Option.{option_map}
-use Rattle.std.proofs.lemmas.Bool.{eqb-true, eq-eqb, ne_eqb}
+use Rattle.std.proofs.lemmas.Bool.{eqb-true, eq-eqb}
 use Rattle.std.proofs.lemmas.List.{append-nil, length-replicate}
 use Rattle.std.proofs.lemmas.Option.{slice_get_past}
 use Rattle.site_vector.specs.declared.ids.Dot.{Dot}
@@ -21,14 +21,14 @@ use Rattle.effect_store.specs.Updates.{updates_of}
 use Rattle.crdt_core.specs.Objects.{same_object, same_object-true, same_object-refl}
 use Rattle.effect_store.specs.declared.links.Links.{Links}
 use Rattle.effect_store.specs.declared.newest.Newest.{Newest}
-use Rattle.effect_store.specs.Arranged.{added, added_all, arranged, Each, Rises, IsOrder, flat}
-use Rattle.effect_store.specs.Chains.{none, after, has_tag, chain, IsChain, IsApart}
+use Rattle.effect_store.specs.Arranged.{added, added_all, arranged, Each, Rises, IsOrder}
+use Rattle.effect_store.specs.Chains.{none, after, has_tag, chain, IsApart}
 use Rattle.effect_store.specs.Spots.{Spot, spots, spots_in, spots_from, tag_of, tag_of_object, before, earlier}
 use Rattle.effect_store.specs.Links.{or_none, spot}
 use Rattle.effect_store.specs.Wanted.{pair, IsReading}
-use Rattle.effect_store.specs.Applied.{applied, mine, shows, shown, AreWide}
+use Rattle.effect_store.specs.Applied.{applied, mine, shows, shown}
 use Rattle.effect_store.specs.Newest.{own, front, own_after, IsNewest, AreNewest, IsApplying, IsWhole}
-use Rattle.effect_store.proofs.Arranging.{eqv, each_more, each-added, each-added_all, each-filter, filter-added_out, filter_same, filter_same_on, get_in, arranged-push, get_each}
+use Rattle.effect_store.proofs.Arranging.{eqv, each_more, each-added_all, filter-added_out, filter_same, filter_same_on, get_in}
 use Rattle.effect_store.proofs.Chaining.{bools, dec, all_of, at_of}
 use Rattle.effect_store.proofs.Walking.{head_least, chain_head, chain_start, none_in}
 use Rattle.effect_store.proofs.Linking.{is_there, link_read}
@@ -36,7 +36,7 @@ use Rattle.effect_store.proofs.Flattening.{coarser}
 use Rattle.effect_store.proofs.Ordering.{before_order}
 use Rattle.effect_store.proofs.Spotting.{spots_step, spots-arranged}
 use Rattle.effect_store.proofs.Reading.{chain_step}
-use Rattle.effect_store.proofs.Folding.{filter-append, map-append, applied-append, pairs-spots, folded-seen}
+use Rattle.effect_store.proofs.Folding.{map-append, applied-append, pairs-spots, folded-seen}
 use Rattle.effect_store.proofs.Between.{filter_twice}
 
 and_false : (b : Bool) → (b && false) ≡ false

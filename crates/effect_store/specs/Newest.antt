@@ -5,12 +5,11 @@ use Rattle.site_vector.specs.declared.ids.Dot.{Dot}
 use Rattle.site_vector.specs.Vector.{le}
 use Rattle.crdt_core.specs.declared.kind.Kind.{Kind}
 use Rattle.crdt_core.specs.declared.object.ObjectId.{ObjectId}
-use Rattle.crdt_core.specs.declared.record.Part.{Part}
 use Rattle.crdt_core.specs.Objects.{same_object}
 use Rattle.effect_store.specs.declared.newest.Newest.{Newest}
 use Rattle.effect_store.specs.Arranged.{arranged, Each}
 use Rattle.effect_store.specs.Chains.{chain}
-use Rattle.effect_store.specs.Spots.{Spot, spots, tag_of, before}
+use Rattle.effect_store.specs.Spots.{Spot, tag_of, before}
 use Rattle.effect_store.specs.Wanted.{pair}
 use Rattle.effect_store.specs.Applied.{applied}
 

@@ -1,4 +1,4 @@
-use Rattle.std.proofs.Common.{◌≡◌, ℕ, ◌<◌, length, Some, sym, ◌∙◌, ap, arith}
+use Rattle.std.proofs.Common.{◌<◌, length, sym, ◌∙◌, ap, arith}
 use Rattle.effect_store.specs.Applied.{applied}
 use Rattle.effect_store.proofs.Reading.{at_place, chain_falls}
 use Rattle.effect_store.proofs.Folding.{applied_next, shown_none, width_at}

@@ -1,4 +1,4 @@
-use Rattle.std.proofs.Common.{◌≡◌, ℕ, length, sym}
+use Rattle.std.proofs.Common.{sym}
 use Rattle.effect_store.proofs.Keeping.{newest_within, newest_kept, newest_left, newest_width, whole_width}
 use Rattle.effect_store.proofs.newest.advance.Goals as goal
 

@@ -1,4 +1,4 @@
-use Rattle.std.proofs.Common.{◌≡◌, ℕ, ◌+◌, ◌<◌, ◌≤◌, length, refl, sym, ap, arith}
+use Rattle.std.proofs.Common.{◌≡◌, ◌<◌, ◌≤◌, length, ap, arith}
 use Rattle.effect_store.proofs.Linking.{is_there}
 use Rattle.effect_store.proofs.Keeping.{forgetting_next, forgotten}
 use Rattle.effect_store.proofs.newest.forget.Goals as goal

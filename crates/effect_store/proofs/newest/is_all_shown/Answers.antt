@@ -1,4 +1,4 @@
-use Rattle.std.proofs.Common.{◌≡◌, ℕ, ◌<◌, length, arith}
+use Rattle.std.proofs.Common.{◌<◌, length, arith}
 use Rattle.effect_store.proofs.Reading.{at_place, chain_falls}
 use Rattle.effect_store.proofs.Folding.{width_at}
 use Rattle.effect_store.proofs.newest.is_all_shown.Goals as goal

@@ -1,4 +1,4 @@
-use Rattle.std.proofs.Common.{◌≡◌, ℕ, ◌<◌, length, sym, ◌∙◌, arith}
+use Rattle.std.proofs.Common.{◌<◌, length, sym, ◌∙◌, arith}
 use Rattle.effect_store.proofs.Reading.{at_place, chain_falls}
 use Rattle.effect_store.proofs.Folding.{width_at, none_shown, shown_skip}
 use Rattle.effect_store.proofs.newest.is_none_shown.Goals as goal

@@ -1,4 +1,4 @@
-use Rattle.std.proofs.Common.{◌≡◌, sym, ◌∙◌}
+use Rattle.std.proofs.Common.{sym}
 use Rattle.effect_store.proofs.newest.kept_for.Goals as goal
 
 pub update_at-requires-clause-within : goal.update_at-requires-clause-within

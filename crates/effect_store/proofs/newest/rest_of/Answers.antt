@@ -1,4 +1,4 @@
-use Rattle.std.proofs.Common.{◌≡◌, ℕ, ◌<◌, length, arith}
+use Rattle.std.proofs.Common.{◌<◌, length, arith}
 use Rattle.effect_store.proofs.newest.rest_of.Goals as goal
 
 pub index-requires : goal.index-requires

@@ -1,4 +1,4 @@
-use Rattle.std.proofs.Common.{◌≡◌, ℕ, length, refl, sym}
+use Rattle.std.proofs.Common.{refl, sym}
 use Rattle.effect_store.proofs.Folding.{wide_by}
 use Rattle.effect_store.proofs.Keeping.{start_applying, applying_width, whole_width}
 use Rattle.effect_store.proofs.newest.whole_state.Goals as goal

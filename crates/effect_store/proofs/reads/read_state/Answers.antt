@@ -1,4 +1,4 @@
-use Rattle.std.proofs.Common.{◌≡◌, ℕ, ◌<◌, length, ap, ◌∙◌, arith}
+use Rattle.std.proofs.Common.{◌<◌, length, ap, ◌∙◌, arith}
 use Rattle.effect_store.specs.Applied.{applied, shown}
 use Rattle.effect_store.proofs.Keeping.{newest_within, read_from}
 use Rattle.effect_store.proofs.reads.read_state.Goals as goal

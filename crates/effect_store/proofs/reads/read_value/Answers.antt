@@ -1,4 +1,4 @@
-use Rattle.std.proofs.Common.{◌≡◌, ℕ, ◌<◌, length, subst, arith}
+use Rattle.std.proofs.Common.{◌≡◌, ◌<◌, length, subst, arith}
 use Rattle.std.specs.Prelude.{IfOk}
 use Rattle.effect_store.proofs.Keeping.{newest_within, read_at_end}
 use Rattle.effect_store.proofs.reads.read_value.Goals as goal

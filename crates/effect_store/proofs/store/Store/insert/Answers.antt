@@ -1,10 +1,9 @@
-use Rattle.std.proofs.Common.{◌≡◌, ℕ, ◌+◌, ◌++◌, ◌∷◌, [], ◌-◌, ◌<◌, ◌≤◌, List, length, Some, sym, ap, ◌∙◌, refl, arith, subst}
+use Rattle.std.proofs.Common.{◌≡◌, ◌+◌, ◌++◌, ◌∷◌, [], ◌<◌, List, length, sym, ap, ◌∙◌, arith}
 use Rattle.std.specs.HashMap.{spare}
 use Rattle.crdt_core.specs.declared.record.Part.{Part}
 use Rattle.effect_store.specs.Arranged.{arranged}
 use Rattle.effect_store.specs.Spots.{earlier}
 use Rattle.effect_store.specs.Stored.{Stored}
-use Rattle.effect_store.proofs.Arranging.{get_pushed}
 use Rattle.effect_store.proofs.Holding.{when_ok, store_grown, apart}
 use Rattle.effect_store.proofs.Linking.{roomy_less}
 use Rattle.effect_store.proofs.Keeping.{newest_within, newest_after}

@@ -1,5 +1,4 @@
-use Rattle.std.proofs.Common.{rules, ◌≡◌, ℕ, nat_eq, None, ap}
-use Rattle.std.specs.HashMap.{get}
+use Rattle.std.proofs.Common.{rules, nat_eq, ap}
 use Rattle.std.specs.Map.{lookup}
 use Rattle.effect_store.proofs.Keeping.{newest_none}
 use Rattle.effect_store.proofs.store.Store.new.Goals as goal

@@ -1,4 +1,4 @@
-use Rattle.std.proofs.Common.{◌≡◌, ℕ, refl, arith}
+use Rattle.std.proofs.Common.{refl}
 use Rattle.effect_store.proofs.Holding.{store_same}
 use Rattle.effect_store.proofs.Storing.{reading_in, reading_same, room_max, roomy_max}
 use Rattle.effect_store.proofs.Between.{lists_in, lists_same, list_room_max}
