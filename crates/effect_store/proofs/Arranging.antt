@@ -1,7 +1,7 @@
 -- Lists in an order: what adding an element and filtering keep, and where elements stand.
-use Rattle.std.proofs.Common.{◌≡◌, ◌≢◌, ℕ, zero, suc, ◌+◌, ◌<◌, ◌≤◌, Bool, true, false, cond, not, ◌&&◌, ◌||◌, eqb, ltb, List, [], ◌∷◌, ◌++◌, length, Option, Some, None, refl, sym, ap, ◌∙◌, subst, arith, ◌⊎◌, inl, inr}
+use Rattle.std.proofs.Common.{◌≡◌, ℕ, zero, suc, ◌<◌, Bool, true, false, cond, not, ◌&&◌, ◌||◌, List, [], ◌∷◌, ◌++◌, length, Some, refl, sym, ap, ◌∙◌, subst, arith, ◌⊎◌, inl, inr}
 use Rattle.std.specs.List.{filter, slice_get}
-use Rattle.effect_store.specs.Arranged.{added, added_all, arranged, Each, Rises, IsOrder}
+use Rattle.effect_store.specs.Arranged.{added, added_all, Each, Rises, IsOrder}
 
 pub flipped : {X : Type 0} (lt : X → X → Bool) → IsOrder lt → IsOrder (λ x y. lt y x)
 flipped lt o = record { strict = o.strict; follows = λ x y z a b. o.follows z y x b a }

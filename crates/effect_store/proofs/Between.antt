@@ -1,17 +1,16 @@
 -- The parts of a stretch of a site's time: the model's words are what the list of the site has.
-use Rattle.std.proofs.Common.{◌≡◌, ◌≢◌, ℕ, zero, suc, ◌+◌, ◌<◌, ◌≤◌, Bool, true, false, cond, not, ◌&&◌, ◌||◌, ltb, leb, List, [], ◌∷◌, ◌++◌, length, Option, Some, None, refl, sym, ap, ◌∙◌, subst, arith, max, ◌⊎◌, inl, inr}
-use Rattle.std.specs.Prelude.{if◌then◌else◌, ◌==◌, nat_le}
+use Rattle.std.proofs.Common.{◌≡◌, ◌≢◌, ℕ, ◌+◌, ◌≤◌, Bool, true, false, cond, ◌&&◌, ◌||◌, ltb, leb, List, [], ◌∷◌, length, Option, Some, None, refl, sym, ap, ◌∙◌, subst, max, inl, inr}
+use Rattle.std.specs.Prelude.{nat_le}
 use Rattle.effect_store.specs.Applied.{AreWide}
 use Rattle.std.specs.List.{slice_get, filter}
 use Rattle.std.specs.declared.cmp.Ordering.{Ordering}
 use Rattle.site_vector.specs.declared.ids.TxId.{TxId}
 use Rattle.site_vector.specs.Vector.{entry}
 use Rattle.crdt_core.specs.declared.record.Part.{Part}
-use Rattle.crdt_core.specs.Orders.{is_less, fold_cmp, stream_cmp, insert_by, sorted_by}
+use Rattle.crdt_core.specs.Orders.{is_less, stream_cmp, insert_by, sorted_by}
 use Rattle.crdt_core.specs.Parts.{parts_between, lists}
 use Rattle.effect_store.specs.declared.commits.Commits.{Commits}
 use Rattle.effect_store.specs.Arranged.{added, added_all, arranged, Each, Rises, IsOrder}
-use Rattle.effect_store.specs.Chains.{IsApart}
 use Rattle.effect_store.specs.Spots.{earlier}
 use Rattle.effect_store.specs.Stores.{IsStore}
 use Rattle.effect_store.specs.Commits.{sooner, is_of, commits, at_places, AreWithin, IsList}
@@ -45,7 +44,7 @@ paired_filter lt t (x ∷ xs) p = elim (bools (t x)) [
   | inr n ↦ rw n (paired_filter lt t xs p.1)
 ]
 
-filter_twice : {X : Type 0} (p q : X → Bool) (xs : List X) → filter q (filter p xs) ≡ filter (λ x. p x && q x) xs
+pub filter_twice : {X : Type 0} (p q : X → Bool) (xs : List X) → filter q (filter p xs) ≡ filter (λ x. p x && q x) xs
 filter_twice p q [] = refl
 filter_twice p q (x ∷ xs) = elim (bools (p x)) [
   | inr n ↦ rw n (filter_twice p q xs)

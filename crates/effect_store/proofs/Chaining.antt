@@ -1,12 +1,11 @@
 -- Chains: what one more element changes.
-use Rattle.std.proofs.Common.{◌≡◌, ◌≢◌, ℕ, zero, suc, ◌+◌, ◌<◌, ◌≤◌, Bool, true, false, cond, not, ◌&&◌, ◌||◌, eqb, ltb, List, [], ◌∷◌, ◌++◌, length, get_or, Option, Some, None, refl, sym, ap, ◌∙◌, subst, arith, ◌⊎◌, inl, inr}
+use Rattle.std.proofs.Common.{◌≡◌, ◌≢◌, ℕ, zero, suc, ◌<◌, ◌≤◌, Bool, true, false, not, ◌||◌, eqb, List, [], ◌∷◌, ◌++◌, length, get_or, Option, Some, None, refl, sym, ap, ◌∙◌, arith, ◌⊎◌, inl, inr}
 use Rattle.std.specs.List.{filter, slice_get}
-use Rattle.std.proofs.lemmas.Bool.{ne_eqb, eqb-true, eq-eqb, eqb-false}
-use Rattle.std.proofs.lemmas.Bool.Decides.{eqb_tells, nat_tests}
-use Rattle.std.proofs.lemmas.Option.{slice_get_past, slice_get_within}
-use Rattle.effect_store.specs.Arranged.{added, added_all, arranged, Each, Rises, IsOrder}
+use Rattle.std.proofs.lemmas.Bool.{eqb-true, eq-eqb, eqb-false}
+use Rattle.std.proofs.lemmas.Bool.Decides.{eqb_tells}
+use Rattle.effect_store.specs.Arranged.{added, arranged, Each, Rises, IsOrder}
 use Rattle.effect_store.specs.Chains.{none, Points, after, has_tag, IsChain}
-use Rattle.effect_store.proofs.Arranging.{arranged-push, each_more, each-added_all, each_of_added_all, rises-added, each-filter, each_of_filter, rises-filter, added_first, added_later, filter-added_out, filter-added_in, filter_tail, filter_head, get_each, each_get, get_push, get_pushed, get_push_cases, get_in}
+use Rattle.effect_store.proofs.Arranging.{arranged-push, each-added_all, each_of_added_all, rises-added, each-filter, each_of_filter, rises-filter, added_first, added_later, filter-added_out, filter-added_in, get_each, each_get, get_push, get_pushed, get_push_cases, get_in}
 
 -- a is the place of the last that x comes after, if any
 pub record IsNear {X : Type 0} (tag : X → ℕ) (lt : X → X → Bool) (xs : List X) (x : X) (a : ℕ) : Type 0 where

@@ -1,5 +1,5 @@
 -- Lists of places in the order of commit times: where one more goes, what stands up to a time, and what the model's words are in ours.
-use Rattle.std.proofs.Common.{◌≡◌, ◌≢◌, ℕ, zero, suc, ◌+◌, ◌-◌, ◌<◌, ◌≤◌, Bool, true, false, cond, not, ◌&&◌, ◌||◌, ltb, leb, eqb, List, [], ◌∷◌, ◌++◌, length, get_or, take, drop, Option, Some, None, refl, sym, ap, ◌∙◌, subst, arith, nat_eq, ◌⊎◌, inl, inr}
+use Rattle.std.proofs.Common.{◌≡◌, ◌≢◌, ℕ, zero, suc, ◌+◌, ◌-◌, ◌<◌, ◌≤◌, Bool, true, false, not, ◌&&◌, ◌||◌, ltb, leb, List, [], ◌∷◌, ◌++◌, length, take, drop, Some, refl, sym, ap, ◌∙◌, subst, arith, ◌⊎◌, inl, inr}
 use Rattle.std.specs.Prelude.{if◌then◌else◌, ◌==◌, nat_le, Result, Ok, Err, IsOk, is_ok, vec_len, vec_capacity}
 use Rattle.std.specs.List.{slice_get, slice_set, filter, insert}
 use Rattle.std.specs.Ordering.{nat_cmp, ordering_then}
@@ -10,26 +10,19 @@ use Rattle.std.proofs.lemmas.Cmp.{nat_cmp_total, on_total, then_total}
 use Rattle.std.proofs.lemmas.Bool.{eqb-true, ne_eqb}
 use Rattle.std.proofs.lemmas.Bool.Decides.{nat_tests}
 use Rattle.std.proofs.lemmas.List.{append-nil, length-append, take-append-drop, length-drop}
-use Rattle.site_vector.specs.declared.ids.TxId.{TxId}
 use Rattle.site_vector.specs.Vector.{entry}
 use Rattle.site_vector.specs.Order.{tx_cmp_total, tx_cmp_exact}
 use Rattle.crdt_core.specs.declared.record.Part.{Part}
-use Rattle.crdt_core.specs.Orders.{is_less, fold_cmp, stream_cmp, insert_by, sorted_by}
-use Rattle.crdt_core.specs.Parts.{parts_between}
-use Rattle.effect_store.specs.Arranged.{added, added_all, arranged, Each, Rises, IsOrder}
-use Rattle.effect_store.specs.Chains.{IsApart}
-use Rattle.effect_store.specs.Spots.{earlier}
+use Rattle.crdt_core.specs.Orders.{is_less, stream_cmp}
+use Rattle.effect_store.specs.Arranged.{added, arranged, Each, Rises, IsOrder}
 use Rattle.effect_store.specs.declared.commits.Commits.{Commits}
 use Rattle.effect_store.specs.Listed.{AreLists, ListRoom, SameLists}
 use Rattle.effect_store.specs.Applied.{AreWide}
-use Rattle.effect_store.specs.Commits.{sooner, is_of, commits, with_found, at_places, AreWithin, IsList}
-use Rattle.effect_store.proofs.Arranging.{arranged-push, each-added_all, get_pushed, each_more, each-added, each_within, rises-added, added_first, filter-added_in, filter-added_out, get_each, get_push, get_in}
+use Rattle.effect_store.specs.Commits.{sooner, is_of, commits, at_places, AreWithin, IsList}
+use Rattle.effect_store.proofs.Arranging.{arranged-push, each-added_all, get_pushed, each_more, each_within, rises-added, added_first, get_each, get_push}
 use Rattle.effect_store.proofs.Chaining.{bools}
-use Rattle.effect_store.proofs.Flattening.{Fresh}
 use Rattle.effect_store.proofs.Linking.{is_there}
-use Rattle.effect_store.proofs.Ordering.{order_of, apart_by, then_second, earlier_order}
-use Rattle.effect_store.proofs.Spotting.{Crossed, Paired, paired_of, crossed_none, fresh_from, turned}
-use Rattle.effect_store.proofs.Storing.{added-insert_by}
+use Rattle.effect_store.proofs.Ordering.{order_of, apart_by, then_second}
 use Rattle.effect_store.proofs.Folding.{filter-append}
 
 module _ {E : Type 0} where

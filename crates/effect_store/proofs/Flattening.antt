@@ -1,9 +1,8 @@
 -- Parts with several updates: the updates in their order are those of the parts in theirs. And chains by a hash of the object.
-use Rattle.std.proofs.Common.{◌≡◌, ℕ, Bool, true, false, cond, not, ◌&&◌, ◌||◌, List, [], ◌∷◌, ◌++◌, refl, sym, ap, ◌∙◌, subst, arith, append_assoc}
+use Rattle.std.proofs.Common.{◌≡◌, Bool, true, false, not, ◌||◌, List, [], ◌∷◌, ◌++◌, refl, ap, ◌∙◌, arith}
 use Rattle.std.specs.List.{filter}
-use Rattle.std.proofs.lemmas.List.{append-nil}
 use Rattle.effect_store.specs.Arranged.{added, added_all, arranged, Each, Rises, IsOrder, flat}
-use Rattle.effect_store.proofs.Arranging.{each_more, each-added, rises-added, added_first}
+use Rattle.effect_store.proofs.Arranging.{each_more, rises-added, added_first}
 
 -- each of us comes before each of vs
 abbrev pub Across : {U : Type 0} → (U → U → Bool) → List U → List U → Type 0

@@ -1,11 +1,10 @@
 -- What a walk applies, in the words of the model.
-use Rattle.std.proofs.Common.{◌≡◌, ◌≢◌, ℕ, zero, suc, ◌+◌, ◌<◌, ◌≤◌, Bool, true, false, cond, not, ◌&&◌, List, [], ◌∷◌, ◌++◌, length, get_or, Option, Some, None, refl, sym, ap, ◌∙◌, subst, arith, nat_eq, ◌⊎◌, inl, inr}
+use Rattle.std.proofs.Common.{◌≡◌, ℕ, suc, ◌≤◌, Bool, true, false, cond, ◌&&◌, List, [], ◌∷◌, ◌++◌, length, get_or, Option, Some, None, refl, sym, ap, ◌∙◌, arith, nat_eq, inl, inr}
 use Rattle.std.specs.Prelude.{if◌then◌else◌, map, ◌==◌, IfSome}
-use Rattle.std.specs.List.{slice_get, filter, list_any}
+use Rattle.std.specs.List.{slice_get, filter}
 use Rattle.std.specs.HashMap.{get}
 use Rattle.std.proofs.lemmas.Bool.{eqb-true, eq-eqb}
 use Rattle.std.proofs.lemmas.Option.{slice_get_past}
-use Rattle.site_vector.specs.declared.ids.TxId.{TxId}
 use Rattle.site_vector.specs.declared.ids.Dot.{Dot}
 use Rattle.site_vector.specs.Vector.{le}
 use Rattle.crdt_core.specs.declared.object.ObjectId.{ObjectId}
@@ -16,12 +15,12 @@ use Rattle.crdt_core.specs.History.{folded}
 use Rattle.crdt_core.specs.Folds.{effects_from, effects_of}
 use Rattle.crdt_core.specs.Parts.{touches, seen_parts}
 use Rattle.effect_store.specs.declared.links.Links.{Links}
-use Rattle.effect_store.specs.Arranged.{arranged, Each, flat}
+use Rattle.effect_store.specs.Arranged.{arranged, Each}
 use Rattle.effect_store.specs.Chains.{none, has_tag, chain, IsApart}
 use Rattle.effect_store.specs.Spots.{Spot, spots, spots_in, spots_from, tag_of, tag_of_object, before, earlier}
 use Rattle.effect_store.specs.Links.{or_none}
 use Rattle.effect_store.specs.Updates.{updates_in, updates_of}
-use Rattle.effect_store.specs.Wanted.{pair, wants, wanted, is_outside, IsAsWide, IsReading}
+use Rattle.effect_store.specs.Wanted.{pair, is_outside, IsAsWide, IsReading}
 use Rattle.effect_store.specs.Applied.{applied, mine, shows, shown, AreWide}
 use Rattle.effect_store.proofs.Arranging.{get_each}
 use Rattle.effect_store.proofs.Chaining.{bools}
@@ -38,7 +37,7 @@ filter-append t (x ∷ xs) ys = elim (bools (t x)) [
   | inr n ↦ rw n (filter-append t xs ys)
 ]
 
-map-append : {X Y : Type 0} (f : X → Y) (xs ys : List X) → map f (xs ++ ys) ≡ map f xs ++ map f ys
+pub map-append : {X Y : Type 0} (f : X → Y) (xs ys : List X) → map f (xs ++ ys) ≡ map f xs ++ map f ys
 map-append f [] ys = refl
 map-append f (x ∷ xs) ys = ap (λ l. f x ∷ l) (map-append f xs ys)
 
@@ -46,7 +45,7 @@ always : {X : Type 0} (xs : List X) → filter (λ x. true) xs ≡ xs
 always [] = refl
 always (x ∷ xs) = ap (λ l. x ∷ l) (always xs)
 
-applied-append : {S E : Type 0} (step : S → Dot → E → S) (s : S) (xs ys : List (Part E × Upd E)) → applied step s (xs ++ ys) ≡ applied step (applied step s xs) ys
+pub applied-append : {S E : Type 0} (step : S → Dot → E → S) (s : S) (xs ys : List (Part E × Upd E)) → applied step s (xs ++ ys) ≡ applied step (applied step s xs) ys
 applied-append step s [] ys = refl
 applied-append step s (x ∷ xs) ys = applied-append step (step s (record { tx = x.0.tx; index = x.1.index }) x.1.effect) xs ys
 
@@ -144,9 +143,6 @@ module _ {S E : Type 0} (step : S → Dot → E → S) (parts : List (Part E)) (
   pub shown_none : (o : ObjectId) (v : List ℕ) (a : ℕ) → length links.entries.items ≤ a → shown o v parts a ≡ []
   shown_none o v a h = rw (slice_get_past (spots parts) a (omega (arith, r.linked.many))) refl
 
-  pub width_at : (n : ℕ) (k : ℕ) (p : Part E) (x : Spot E) → AreWide n parts → slice_get (spots parts) k ≡ Some x → p ≡ x.part → length p.c ≡ n
-  width_at n k p x w g e = let q = r.linked.located k x g in rw e (eqb-true (length x.part.c) n (get_each (λ z. length z.c == n) parts q.entry.part x.part w q.part))
-
 module _ {E : Type 0} where
   pub wide_for : (o : Option (List ℕ)) (n m : ℕ) (parts l : List (Part E)) → IfSome o (λ v. length v ≡ n) → n ≡ m → l ≡ parts → AreWide m parts → IsAsWide o l
   wide_for None n m parts l h f e w s g = cc
@@ -162,3 +158,20 @@ module _ {E : Type 0} where
 pub from_head_in : {E : Type 0} (parts l view : List (Part E)) (links : Links) (o : ObjectId) (t : Part E → Bool) (tag at : ℕ) → IsReading parts links → IsApart earlier parts → l ≡ parts → tag ≡ tag_of_object o → at ≡ or_none (get nat_eq links.first tag) → arranged earlier parts ≡ view
     → map pair (filter (mine o t) (chain tag_of before (spots l) at)) ≡ updates_of o (filter t view)
 from_head_in parts l view links o t tag at r apart e h f v = rw e (from_head parts links r apart o t tag at view h f v)
+
+module _ {E : Type 0} (parts : List (Part E)) (links : Links) (r : IsReading parts links) where
+  pub width_at : (n : ℕ) (k : ℕ) (p : Part E) (x : Spot E) → AreWide n parts → slice_get (spots parts) k ≡ Some x → p ≡ x.part → length p.c ≡ n
+  width_at n k p x w g e = let q = r.linked.located k x g in rw e (eqb-true (length x.part.c) n (get_each (λ z. length z.c == n) parts q.entry.part x.part w q.part))
+
+  pub none_shown : (o : ObjectId) (v : List ℕ) (a : ℕ) → length links.entries.items ≤ a → shown o v parts a ≡ []
+  none_shown o v a h = rw (slice_get_past (spots parts) a (omega (arith, r.linked.many))) refl
+
+  skips : (t : Spot E → Bool) (x : Spot E) (l m : List (Spot E)) → l ≡ x ∷ m → t x ≡ false → map pair (filter t m) ≡ map pair (filter t l)
+  skips t x l m e h = rw (e, h) refl
+
+  -- a place whose update isn't shown
+  pub shown_skip : (o : ObjectId) (v : List ℕ) (a b : ℕ) (p : Part E) (u : Upd E) (x : Spot E) (c : Bool) → slice_get (spots parts) a ≡ Some x → b ≡ get_or links.next.items a b → p ≡ x.part → u ≡ x.update
+      → c ≡ (same_object u.object o && le p.c v) → c ≡ false → shown o v parts b ≡ shown o v parts a
+  shown_skip o v a b p u x c g e f h k n =
+      let here : mine o (shows v) x ≡ false = rw (← f, ← h) (sym k ∙ n) in
+      skips (mine o (shows v)) x (chain tag_of before (spots parts) a) (chain tag_of before (spots parts) b) (chain_step parts links r a b x g e) here

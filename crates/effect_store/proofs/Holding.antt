@@ -1,21 +1,21 @@
 -- What a store holds of a transaction, and that one more part keeps it.
-use Rattle.std.proofs.Common.{◌≡◌, ◌≢◌, ℕ, zero, suc, ◌+◌, ◌<◌, ◌≤◌, Bool, true, false, cond, not, ◌||◌, eqb, List, [], ◌∷◌, ◌++◌, length, get_or, Option, Some, None, refl, sym, ap, ◌∙◌, subst, arith, ◌⊎◌, inl, inr}
-use Rattle.std.specs.Prelude.{if◌then◌else◌, ◌==◌, Result, Ok, Err, OnOk, IsOk}
+use Rattle.std.proofs.Common.{◌≡◌, ◌≢◌, ℕ, Bool, true, false, cond, not, ◌||◌, List, [], ◌∷◌, ◌++◌, length, Option, Some, None, refl, sym, ap, ◌∙◌, arith, inl, inr}
+use Rattle.std.specs.Prelude.{if◌then◌else◌, ◌==◌, is_some, Result, Ok, Err, OnOk, IsOk}
 use Rattle.std.specs.List.{slice_get}
 use Rattle.std.specs.Str.{bytes_eq}
 use Rattle.std.proofs.lemmas.Slice.Eq.{bytes_eq-Decides}
-use Rattle.std.proofs.lemmas.Bool.{ne_eqb, eqb-true, eq-eqb, eqb-false}
+use Rattle.std.proofs.lemmas.Bool.{eq-eqb}
 use Rattle.site_vector.specs.declared.ids.TxId.{TxId}
 use Rattle.site_vector.specs.Ids.{same_tx}
 use Rattle.site_vector.specs.Order.{same_tx_is, same_tx_refl}
 use Rattle.crdt_core.specs.declared.record.Part.{Part}
 use Rattle.crdt_core.specs.Parts.{lists, vector_in}
-use Rattle.effect_store.specs.Arranged.{arranged, added, Each}
+use Rattle.effect_store.specs.Arranged.{arranged, Each}
 use Rattle.effect_store.specs.Chains.{IsApart}
 use Rattle.effect_store.specs.Spots.{earlier}
 use Rattle.effect_store.specs.Stores.{IsStore}
-use Rattle.effect_store.proofs.Arranging.{each_get, get_each, get_in, get_push, get_pushed, get_push_cases}
-use Rattle.effect_store.proofs.Chaining.{known, bools, dec, all_of, at_of}
+use Rattle.effect_store.proofs.Arranging.{get_push, get_pushed, get_push_cases}
+use Rattle.effect_store.proofs.Chaining.{known, bools, all_of, at_of}
 use Rattle.effect_store.proofs.Ordering.{parts_apart}
 
 itself : (v : List ℕ) → bytes_eq v v ≡ true
@@ -154,3 +154,7 @@ store_same sites parts parts' ids ids' e h s = rw e (record {
   named = λ t k g. s.named t k (sym (h t) ∙ g);
   wide = s.wide;
 })
+
+pub found_is : {A : Type 0} (b : Bool) (x : A) (o : Option A) → o ≡ (if b then Some x else None) → is_some o ≡ b
+found_is true x o e = ap is_some e
+found_is false x o e = ap is_some e

@@ -11,3 +11,4 @@ pub mod Storing
 pub mod Folding
 pub mod Committing
 pub mod Between
+pub mod Keeping

@@ -1,5 +1,5 @@
 -- What keeps the links of a store, and what a walk along them finds.
-use Rattle.std.proofs.Common.{◌≡◌, ◌≢◌, ℕ, zero, suc, ◌+◌, ◌<◌, ◌≤◌, Bool, true, false, ◌||◌, eqb, List, [], ◌∷◌, ◌++◌, length, get_or, Option, Some, None, refl, sym, ap, ◌∙◌, subst, arith, ◌⊎◌, inl, inr}
+use Rattle.std.proofs.Common.{◌≡◌, ℕ, zero, suc, ◌+◌, ◌<◌, ◌≤◌, Bool, true, false, ◌||◌, List, [], ◌∷◌, ◌++◌, length, get_or, Option, Some, refl, sym, ap, ◌∙◌, subst, arith, inl, inr}
 use Rattle.std.specs.List.{filter, slice_get}
 use Rattle.std.proofs.lemmas.List.{length-append}
 use Rattle.std.specs.Ordering.{nat_cmp, ordering_then}
@@ -9,7 +9,7 @@ use Rattle.crdt_core.specs.Orders.{is_less, fold_cmp}
 use Rattle.effect_store.specs.declared.links.Entry.{Entry}
 use Rattle.effect_store.specs.declared.links.Links.{Links}
 use Rattle.effect_store.specs.Arranged.{arranged, Each}
-use Rattle.effect_store.specs.Chains.{none, Points, after, has_tag, IsChain, IsApart, chain}
+use Rattle.effect_store.specs.Chains.{none, Points, after, IsApart, chain}
 use Rattle.effect_store.specs.Spots.{Spot, tag_of_object, tag_of, before, later, earlier, spots, spots_to}
 use Rattle.effect_store.specs.Links.{spot, or_none, IsEntry, IsLinked, AreLinks, Roomy}
 use Rattle.effect_store.specs.Hooks.{Hooked}

@@ -1,5 +1,5 @@
 -- What a walk reads, update by update.
-use Rattle.std.proofs.Common.{◌≡◌, ℕ, zero, suc, ◌+◌, ◌<◌, ◌≤◌, Bool, true, false, List, [], ◌∷◌, ◌++◌, length, get_or, Option, Some, None, refl, sym, ap, ◌∙◌, subst, arith, nat_eq}
+use Rattle.std.proofs.Common.{◌≡◌, ℕ, ◌<◌, ◌≤◌, Bool, true, false, List, [], ◌∷◌, length, get_or, Option, Some, refl, sym, ap, ◌∙◌, subst, arith, nat_eq}
 use Rattle.std.specs.Prelude.{map, ◌==◌}
 use Rattle.std.specs.List.{filter, slice_get}
 use Rattle.std.specs.HashMap.{get}
@@ -9,7 +9,6 @@ use Rattle.crdt_core.specs.declared.object.ObjectId.{ObjectId}
 use Rattle.crdt_core.specs.declared.record.Part.{Part}
 use Rattle.crdt_core.specs.declared.record.Upd.{Upd}
 use Rattle.effect_store.specs.declared.links.Links.{Links}
-use Rattle.effect_store.specs.Arranged.{Each}
 use Rattle.effect_store.specs.Chains.{none, chain}
 use Rattle.effect_store.specs.Spots.{Spot, spots, tag_of, before}
 use Rattle.effect_store.specs.Links.{or_none}

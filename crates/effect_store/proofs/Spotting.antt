@@ -1,20 +1,18 @@
 -- The updates of parts one by one: what one more adds, that fold order lists them part by part, and that they are apart.
-use Rattle.std.proofs.Common.{◌≡◌, ◌≢◌, ℕ, zero, suc, ◌+◌, ◌<◌, ◌≤◌, Bool, true, false, not, ◌||◌, List, [], ◌∷◌, ◌++◌, length, take, Option, Some, None, refl, sym, ap, ◌∙◌, subst, arith, zero-add, append_assoc, ◌⊎◌, inl, inr}
+use Rattle.std.proofs.Common.{◌≡◌, ◌≢◌, ℕ, zero, suc, ◌+◌, ◌<◌, ◌≤◌, Bool, true, false, ◌||◌, List, [], ◌∷◌, ◌++◌, length, take, Option, Some, refl, sym, ap, ◌∙◌, subst, arith, zero-add, append_assoc, inl, inr}
 use Rattle.std.specs.List.{slice_get}
-use Rattle.std.specs.Ordering.{nat_cmp}
 use Rattle.std.specs.declared.cmp.Ordering.TheVariants.{Less}
 use Rattle.std.specs.Cmp.{nat_cmp_is}
 use Rattle.std.proofs.lemmas.List.{append-nil}
 use Rattle.std.proofs.Math.Seq.{take-append_seam}
-use Rattle.std.proofs.lemmas.Bool.Decides.{nat_tests}
 use Rattle.crdt_core.specs.declared.record.Upd.{Upd}
 use Rattle.crdt_core.specs.declared.record.Part.{Part}
-use Rattle.effect_store.specs.Arranged.{added, added_all, arranged, Each, Rises, IsOrder, flat}
+use Rattle.effect_store.specs.Arranged.{added, arranged, Each, Rises, flat}
 use Rattle.effect_store.specs.Chains.{IsApart}
 use Rattle.effect_store.specs.Spots.{Spot, spots_from, spots_in, spots, spots_of, spots_to, earlier, before}
 use Rattle.effect_store.specs.Links.{spot}
-use Rattle.effect_store.proofs.Arranging.{each_more, each-added, get_in, get_each, get_pushed, get_push_cases}
-use Rattle.effect_store.proofs.Ordering.{parts_apart, spots_apart, before_by_parts, before_by_places, before_order, earlier_order}
+use Rattle.effect_store.proofs.Arranging.{each-added, get_each, get_pushed, get_push_cases}
+use Rattle.effect_store.proofs.Ordering.{spots_apart, before_by_parts, before_by_places, before_order, earlier_order}
 use Rattle.effect_store.proofs.Flattening.{Across, IsLift, Fresh, flat_arranged, each-append}
 
 take_all : {X : Type 0} (xs : List X) → take (length xs) xs ≡ xs
@@ -106,7 +104,7 @@ module _ {E : Type 0} where
   each_front t p m (suc n) (u ∷ us) h = (h m u (omega arith), each_front t p (suc m) n us (λ j v b. h j v (omega arith)))
 
   -- the first updates of a part, and one more
-  spots_step : (p : Part E) (m : ℕ) (us : List (Upd E)) (n : ℕ) (u : Upd E) → slice_get us n ≡ Some u → spots_from p m (take (suc n) us) ≡ spots_from p m (take n us) ++ spot p (m + n) u ∷ []
+  pub spots_step : (p : Part E) (m : ℕ) (us : List (Upd E)) (n : ℕ) (u : Upd E) → slice_get us n ≡ Some u → spots_from p m (take (suc n) us) ≡ spots_from p m (take n us) ++ spot p (m + n) u ∷ []
   spots_step p m [] n u h = cc
   spots_step p m (v ∷ us) zero u h = let e : v ≡ u = cc in let z : m + 0 ≡ m = omega arith in rw (e, z) refl
   spots_step p m (v ∷ us) (suc n) u h = let z : m + suc n ≡ suc m + n = omega arith in rw z (ap (λ l. spot p m v ∷ l) (spots_step p (suc m) us n u h))

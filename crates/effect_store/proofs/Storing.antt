@@ -1,16 +1,15 @@
 -- What inserting and making room keep of the links and the rooms, and what the model's words are in ours.
-use Rattle.std.proofs.Common.{◌≡◌, ◌≢◌, ℕ, zero, suc, ◌+◌, ◌-◌, ◌<◌, ◌≤◌, Bool, true, false, cond, List, [], ◌∷◌, ◌++◌, length, get_or, Option, Some, None, refl, sym, ap, ◌∙◌, subst, arith, nat_eq, max, ◌⊎◌, inl, inr}
-use Rattle.std.specs.Prelude.{if◌then◌else◌, vec_len, vec_capacity}
-use Rattle.std.specs.List.{slice_get, filter}
-use Rattle.std.specs.HashMap.{get}
+use Rattle.std.proofs.Common.{◌≡◌, ℕ, ◌+◌, Bool, true, false, cond, List, [], ◌∷◌, ◌++◌, length, Some, refl, sym, ap, ◌∙◌, subst, arith, max, inl, inr}
+use Rattle.std.specs.Prelude.{if◌then◌else◌}
+use Rattle.std.specs.List.{slice_get}
 use Rattle.crdt_core.specs.declared.record.Part.{Part}
 use Rattle.crdt_core.specs.Orders.{is_less, fold_cmp, insert_by}
 use Rattle.std.specs.declared.cmp.Ordering.{Ordering}
 use Rattle.effect_store.specs.declared.links.Links.{Links}
 use Rattle.effect_store.specs.Arranged.{added, arranged}
-use Rattle.effect_store.specs.Chains.{none, Points, after, has_tag, IsChain}
-use Rattle.effect_store.specs.Spots.{Spot, spots, spots_to, earlier, tag_of, before, later}
-use Rattle.effect_store.specs.Links.{or_none, IsEntry, IsLinked, AreLinks, AreSame, Roomy}
+use Rattle.effect_store.specs.Chains.{Points}
+use Rattle.effect_store.specs.Spots.{Spot, spots, spots_to, earlier}
+use Rattle.effect_store.specs.Links.{or_none, AreLinks, AreSame, Roomy}
 use Rattle.effect_store.specs.Wanted.{IsReading}
 use Rattle.effect_store.specs.Stores.{PartRoom}
 use Rattle.effect_store.proofs.Chaining.{dec}

@@ -1,12 +1,12 @@
 -- Walks along a chain: to the place of a new element, and to read.
-use Rattle.std.proofs.Common.{◌≡◌, ◌≢◌, ℕ, zero, suc, ◌+◌, ◌<◌, ◌≤◌, Bool, true, false, cond, not, ◌&&◌, ◌||◌, eqb, ltb, List, [], ◌∷◌, ◌++◌, length, get_or, Option, Some, None, refl, sym, ap, ◌∙◌, subst, arith, ◌⊎◌, inl, inr}
+use Rattle.std.proofs.Common.{◌≡◌, ◌≢◌, ℕ, ◌<◌, ◌≤◌, Bool, true, false, not, ◌&&◌, ◌||◌, eqb, List, [], ◌∷◌, length, get_or, Some, None, refl, sym, ap, ◌∙◌, subst, arith, inl, inr}
 use Rattle.std.specs.List.{filter, slice_get}
-use Rattle.std.proofs.lemmas.Bool.{ne_eqb, eqb-true, eq-eqb, eqb-false}
+use Rattle.std.proofs.lemmas.Bool.{eqb-true, eq-eqb}
 use Rattle.std.proofs.lemmas.Option.{slice_get_past}
-use Rattle.effect_store.specs.Arranged.{added, added_all, arranged, Each, Rises, IsOrder}
-use Rattle.effect_store.specs.Chains.{none, Points, after, has_tag, IsChain, IsApart, chain_of, chain}
-use Rattle.effect_store.proofs.Arranging.{eqv, each_more, each_of_filter, rises-filter, filter_tail, filter_head, filter_same, filter_same_on, get_in}
-use Rattle.effect_store.proofs.Chaining.{IsNear, dec, known, bools, all_of, at_of, tags, tags_back, late_here, first_here}
+use Rattle.effect_store.specs.Arranged.{arranged, Each, Rises, IsOrder}
+use Rattle.effect_store.specs.Chains.{none, Points, after, has_tag, IsChain, IsApart, chain}
+use Rattle.effect_store.proofs.Arranging.{eqv, each_more, each_of_filter, rises-filter, filter_tail, filter_head, filter_same, filter_same_on}
+use Rattle.effect_store.proofs.Chaining.{IsNear, dec, bools, all_of, at_of, tags, late_here, first_here}
 
 turn : (a b : ℕ) (c : Bool) → eqb a b && c ≡ true → eqb b a && c ≡ true
 turn a b c h = let t : eqb a b ≡ true = grind arith in let u : eqb b a ≡ true = eq-eqb b a (sym (eqb-true a b t)) in grind arith

@@ -1,5 +1,5 @@
 -- Links that tell, of each element, the next in the order among those with its tag.
-use Rattle.std.specs.Prelude.{◌≡◌, ℕ, Bool, ◌&&◌, ◌||◌, List, [], ◌∷◌, length, Option, Some, None, ◌≤◌, ◌≢◌, true}
+use Rattle.std.specs.Prelude.{◌≡◌, ℕ, Bool, ◌&&◌, ◌||◌, List, [], ◌∷◌, Option, Some, None, ◌≢◌, true}
 use Rattle.std.proofs.Common.{eqb, get_or}
 use Rattle.std.specs.List.{filter, slice_get}
 use Rattle.effect_store.specs.Arranged.{arranged, Rises}

@@ -1,5 +1,5 @@
 -- The parts of one site in the order of commit times, listed by their places.
-use Rattle.std.specs.Prelude.{◌≡◌, ℕ, ◌+◌, ◌<◌, ◌≤◌, Bool, ltb, ◌==◌, List, [], ◌∷◌, length, Option, None, Some, vec_len, vec_capacity, Vec}
+use Rattle.std.specs.Prelude.{◌≡◌, ℕ, Bool, ltb, ◌==◌, List, [], ◌∷◌, length, Option, None, Some}
 use Rattle.std.specs.List.{slice_get, filter}
 use Rattle.crdt_core.specs.declared.record.Part.{Part}
 use Rattle.crdt_core.specs.Orders.{is_less, stream_cmp}

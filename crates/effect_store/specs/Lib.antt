@@ -10,3 +10,4 @@ pub mod Stores
 pub mod Applied
 pub mod Commits
 pub mod Listed
+pub mod Newest

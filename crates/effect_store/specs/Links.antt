@@ -1,6 +1,6 @@
 -- What the links of a store tell: of each update the next of its tag in fold order, and the one before.
 use Rattle.std.specs.Prelude.{◌≡◌, ℕ, ◌+◌, ◌≤◌, List, [], length, Option, Some, None, nat_eq, vec_len, vec_capacity}
-use Rattle.std.specs.List.{slice_get, filter}
+use Rattle.std.specs.List.{slice_get}
 use Rattle.std.specs.HashMap.{get, spare}
 use Rattle.crdt_core.specs.declared.record.Upd.{Upd}
 use Rattle.crdt_core.specs.declared.record.Part.{Part}

@@ -1,5 +1,5 @@
 -- The updates of one object, each with its part.
-use Rattle.std.specs.Prelude.{ℕ, Bool, not, if◌then◌else◌, List, [], ◌∷◌, ◌++◌}
+use Rattle.std.specs.Prelude.{ℕ, not, if◌then◌else◌, List, [], ◌∷◌, ◌++◌}
 use Rattle.std.specs.List.{filter}
 use Rattle.site_vector.specs.Vector.{le}
 use Rattle.crdt_core.specs.declared.object.ObjectId.{ObjectId}

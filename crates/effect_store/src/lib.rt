@@ -5,6 +5,8 @@ mod commits;
 mod fold;
 mod hooks;
 mod links;
+mod newest;
+mod reads;
 mod store;
 mod tags;
 mod updates;

@@ -90,7 +90,7 @@ fn comes_before<E>(p: &Part<E>, i: u32, q: &Part<E>, j: u32) -> bool
 }
 
 /// Whether the update that an entry names comes before that at a place of a part.
-fn stands_before<E>(parts: &[Part<E>], entry: Entry, part: &Part<E>, at: u32) -> bool
+pub(crate) fn stands_before<E>(parts: &[Part<E>], entry: Entry, part: &Part<E>, at: u32) -> bool
     requires { entry.part < length parts.now }
     ensures { (q : Part E) → slice_get parts.now entry.part ≡ Some q → result ≡ is_less (ordering_then (fold_cmp q part.now) (nat_cmp entry.at at)) }
 {

@@ -12,9 +12,10 @@ ghost use Rattle.effect_store.specs.Updates.{updates_of, updates_outside};
 
 use crate::commits;
 use crate::commits::{Commits, Parts, list_part, stretch};
-use crate::fold::apply_shown;
 use crate::hooks::head;
 use crate::links::{Links, NONE, link_part};
+use crate::newest::{Newest, advance, forget};
+use crate::reads::{read_state, read_value};
 use crate::tags::tag_of;
 use crate::updates::Updates;
 use crdt_core::{Crdt, ObjectId, Part, Value};
@@ -31,15 +32,17 @@ pub struct Store<C: Crdt> {
     ids: HashMap<TxId, u32>,
     links: Links,
     lists: [Commits; 8],
+    newest: HashMap<u64, Newest<C::State>>,
     room: usize,
     update_room: usize,
 }
 
 impl<C: Crdt> Model for Store<C> {
-    ghost use Rattle.std.specs.Prelude.{vec_len, vec_capacity, ◌≤◌};
+    ghost use Rattle.std.specs.Prelude.{vec_len, vec_capacity, nat_eq, ◌≤◌};
     ghost use Rattle.std.specs.HashMap.{get, spare};
     ghost use Rattle.effect_store.specs.Arranged.{arranged};
-    ghost use Rattle.effect_store.specs.Spots.{earlier};
+    ghost use Rattle.effect_store.specs.Spots.{earlier, spots};
+    ghost use Rattle.effect_store.specs.Newest.{AreNewest};
     ghost use Rattle.effect_store.specs.Links.{Roomy};
     ghost use Rattle.effect_store.specs.Listed.{AreLists, ListRoom};
     ghost use Rattle.effect_store.specs.Wanted.{IsReading};
@@ -50,7 +53,7 @@ impl<C: Crdt> Model for Store<C> {
 
     ghost view = { λ s. record { sites = s.sites; parts = arranged earlier s.parts.items; room = s.room; update_room = s.update_room } };
 
-    ghost invariant = { λ s. IsStore s.sites s.parts.items (get ⟦<TxId as PartialEq>⟧.eq s.ids) × IsReading s.parts.items s.links × PartRoom s.room (vec_len s.parts) (vec_capacity s.parts) (spare s.ids) × Roomy s.links s.update_room × AreLists s.sites s.parts.items s.lists × ListRoom s.sites s.room s.lists × (1 ≤ s.sites) × (s.sites ≤ 8) };
+    ghost invariant = { λ s. IsStore s.sites s.parts.items (get ⟦<TxId as PartialEq>⟧.eq s.ids) × IsReading s.parts.items s.links × PartRoom s.room (vec_len s.parts) (vec_capacity s.parts) (spare s.ids) × Roomy s.links s.update_room × AreLists s.sites s.parts.items s.lists × ListRoom s.sites s.room s.lists × AreNewest C.initial C.step s.sites (spots s.parts.items) (get nat_eq s.newest) × (1 ≤ s.sites) × (s.sites ≤ 8) };
 }
 
 impl<C: Crdt> Store<C> {
@@ -78,9 +81,40 @@ impl<C: Crdt> Store<C> {
                 Commits::new(alloc),
                 Commits::new(alloc),
             ],
+            newest: HashMap::new(alloc),
             room: 0,
             update_room: 0,
         }
+    }
+
+    /// The number of entries of the commit vectors. Takes no memory, as the calls below up to `insert`.
+    pub fn sites(&self) -> u8
+        ensures sites { result ≡ self.now.sites }
+        ensures least { 1 ≤ self.now.sites }
+        ensures most { self.now.sites ≤ 8 }
+    {
+        self.sites
+    }
+
+    /// How many more parts are taken in without memory.
+    pub fn room(&self) -> usize
+        ensures { result ≡ self.now.room }
+    {
+        self.room
+    }
+
+    /// How many more updates are taken in without memory.
+    pub fn update_room(&self) -> usize
+        ensures { result ≡ self.now.update_room }
+    {
+        self.update_room
+    }
+
+    /// Whether a part of the transaction is held. One look-up in a hash table.
+    pub fn holds(&self, tx: TxId) -> bool
+        ensures { result ≡ lists self.now.parts tx }
+    {
+        self.has(tx).is_some()
     }
 
     /// The commit vector of a transaction, if a part of it is held. One look-up in a hash table.
@@ -146,6 +180,7 @@ impl<C: Crdt> Store<C> {
         let place = self.parts.len() as u32;
         let updates = part.updates.as_slice().len();
         let _room_was_reserved = self.ids.insert(part.tx, place);
+        forget(self.parts.as_slice(), &self.links, &mut self.newest, &part);
         list_part(
             self.parts.as_slice(),
             &mut self.lists,
@@ -180,7 +215,8 @@ impl<C: Crdt> Store<C> {
         Ok(())
     }
 
-    /// The state of an object at a snapshot.
+    /// The state of an object at a snapshot. Where the snapshot shows all updates of the object, what comes after the last such read
+    /// is applied, and the state is copied; else the updates that the snapshot shows are applied.
     ///
     /// # Errors
     ///
@@ -195,21 +231,26 @@ impl<C: Crdt> Store<C> {
         ensures state { IfOk result (λ s. s ≡ folded (C.initial object.now.kind) C.step (effects_of object.now [] (seen_parts object.now snapshot.now self.old.parts))) }
         ensures same { self.new ≡ self.old }
     {
-        let mut state = C::empty(alloc, object.kind)?;
-        let from = head(&self.links.first, tag_of(object));
-        apply_shown::<C>(
+        advance::<C>(
             alloc,
             self.parts.as_slice(),
             &self.links,
-            from,
+            &mut self.newest,
             object,
             snapshot,
-            &mut state,
         )?;
-        Ok(state)
+        read_state::<C>(
+            alloc,
+            self.parts.as_slice(),
+            &self.links,
+            &self.newest,
+            object,
+            snapshot,
+        )
     }
 
-    /// What an object shows at a snapshot.
+    /// What an object shows at a snapshot. It costs what `state` costs, but where the snapshot shows all updates of the object no
+    /// state is copied.
     ///
     /// # Errors
     ///
@@ -224,8 +265,22 @@ impl<C: Crdt> Store<C> {
         ensures value { IfOk result (λ v. v ≡ C.value_of (folded (C.initial object.now.kind) C.step (effects_of object.now [] (seen_parts object.now snapshot.now self.old.parts)))) }
         ensures same { self.new ≡ self.old }
     {
-        let state = self.state(alloc, object, snapshot)?;
-        C::value(alloc, &state)
+        advance::<C>(
+            alloc,
+            self.parts.as_slice(),
+            &self.links,
+            &mut self.newest,
+            object,
+            snapshot,
+        )?;
+        read_value::<C>(
+            alloc,
+            self.parts.as_slice(),
+            &self.links,
+            &self.newest,
+            object,
+            snapshot,
+        )
     }
 }
 

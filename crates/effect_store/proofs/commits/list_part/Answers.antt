@@ -1,5 +1,4 @@
-use Rattle.std.proofs.Common.{◌≡◌, ℕ, ◌+◌, ◌-◌, ◌<◌, ◌≤◌, length, refl, sym, arith, ◌⊎◌, inl, inr}
-use Rattle.std.specs.Prelude.{vec_len, vec_capacity}
+use Rattle.std.proofs.Common.{ℕ, ◌+◌, ◌-◌, ◌<◌, length, refl, arith, inl, inr}
 use Rattle.std.proofs.lemmas.Option.{slice_get-get_or}
 use Rattle.effect_store.proofs.Committing.{wide_up_to, lists_none, lists_set, room_set, as_site}
 use Rattle.effect_store.proofs.commits.list_part.Goals.{else-site-ge1-via-then-site-ge1+else-site-sites, else-site-ge1-via-else-site-ge1}

@@ -1,6 +1,6 @@
-use Rattle.std.proofs.Common.{◌≡◌, ℕ, ◌+◌, ◌<◌, ◌≤◌, length, refl, sym, arith}
+use Rattle.std.proofs.Common.{◌<◌, length, arith}
 use Rattle.std.proofs.lemmas.Option.{slice_get-get_or}
-use Rattle.effect_store.proofs.Committing.{same_set, room_kept, room_next, room_all, same_start}
+use Rattle.effect_store.proofs.Committing.{same_set, room_kept, room_next}
 use Rattle.effect_store.proofs.commits.make_room.Goals as goal
 
 pub returns-in_err-make_room-clause-same : goal.returns-in_err-make_room-clause-same

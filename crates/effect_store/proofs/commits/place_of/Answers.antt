@@ -1,6 +1,6 @@
-use Rattle.std.proofs.Common.{◌≡◌, ℕ, ◌+◌, ◌-◌, ◌<◌, ◌≤◌, suc, List, length, take, Some, refl, sym, ◌∙◌, arith, subst}
+use Rattle.std.proofs.Common.{◌-◌, ◌<◌, length, refl, sym, ◌∙◌, arith}
 use Rattle.std.proofs.lemmas.Option.{slice_get-get_or, slice_get_read}
-use Rattle.effect_store.proofs.Committing.{sooner_order, front_of, after_of, place_within, at_get, none_behind, wide_at}
+use Rattle.effect_store.proofs.Committing.{front_of, after_of, place_within, none_behind, wide_at}
 use Rattle.effect_store.proofs.commits.place_of.Goals as goal
 
 pub loop-at-init : goal.loop-at-init

@@ -1,4 +1,3 @@
-use Rattle.std.proofs.Common.{◌≡◌, ℕ, refl, sym, ◌∙◌}
 use Rattle.effect_store.proofs.Committing.{tail_is, rest_within, rest_rising, front_within, stretch_is}
 use Rattle.effect_store.proofs.commits.stretch.Goals as goal
 

@@ -1,4 +1,4 @@
-use Rattle.std.proofs.Common.{◌≡◌, ℕ, ◌<◌, length, Some, sym, ◌∙◌, ap, arith}
+use Rattle.std.proofs.Common.{◌<◌, length, sym, ◌∙◌, ap, arith}
 use Rattle.effect_store.specs.Applied.{applied}
 use Rattle.effect_store.proofs.Reading.{at_place, chain_falls}
 use Rattle.effect_store.proofs.Folding.{applied_next, shown_none, width_at}
@@ -8,7 +8,7 @@ pub apply_if_shown-requires : goal.apply_if_shown-requires
 apply_if_shown-requires g c =
     let n : c.loop-at.at < length c.args.links.now.entries.items = omega arith in
     let x = at_place _ _ c.requires.reading _ n in
-    width_at g.C.Crdt.step _ _ c.requires.reading _ _ _ x.0 c.requires.wide x.1 (c.update_at.ensures.part x.0 x.1)
+    width_at _ _ c.requires.reading _ _ _ x.0 c.requires.wide x.1 (c.update_at.ensures.part x.0 x.1)
 
 pub loop-at-smaller : goal.loop-at-smaller
 loop-at-smaller g c =

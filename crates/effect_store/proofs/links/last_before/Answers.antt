@@ -1,5 +1,4 @@
-use Rattle.std.proofs.Common.{◌≡◌, ℕ, ◌<◌, length, Some, sym, ◌∙◌, ap, arith, get_or, refl}
-use Rattle.std.specs.List.{slice_get}
+use Rattle.std.proofs.Common.{◌<◌, length, sym, ◌∙◌, arith, refl}
 use Rattle.std.proofs.lemmas.Option.{slice_get_read}
 use Rattle.effect_store.proofs.Arranging.{get_in}
 use Rattle.effect_store.proofs.Linking.{stands, before_at, link_read, find_start, find_step, find_end, find_out, find_falls}

@@ -1,6 +1,4 @@
-use Rattle.std.proofs.Common.{◌≡◌, ℕ, ◌<◌, length, Some, sym, ◌∙◌, ap, arith, get_or, refl, nat_eq}
-use Rattle.std.specs.List.{slice_get}
-use Rattle.std.specs.HashMap.{get}
+use Rattle.std.proofs.Common.{arith, refl}
 use Rattle.std.proofs.lemmas.Option.{slice_get_read}
 use Rattle.effect_store.proofs.Arranging.{get_in}
 use Rattle.effect_store.proofs.Linking.{linked_next, update_read}

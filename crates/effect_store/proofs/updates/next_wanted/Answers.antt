@@ -1,5 +1,4 @@
-use Rattle.std.proofs.Common.{◌≡◌, ℕ, ◌<◌, length, Some, sym, ◌∙◌, arith}
-use Rattle.std.specs.List.{slice_get}
+use Rattle.std.proofs.Common.{◌<◌, length, ◌∙◌, arith}
 use Rattle.effect_store.specs.Spots.{spots}
 use Rattle.effect_store.proofs.Arranging.{get_in}
 use Rattle.effect_store.proofs.Reading.{at_place, chain_falls, wanted_skip, wide_at, wide_part, wants_by}

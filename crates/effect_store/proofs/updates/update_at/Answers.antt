@@ -1,11 +1,7 @@
-use Rattle.std.proofs.Common.{◌≡◌, ℕ, ◌<◌, ◌≤◌, length, Some, refl, sym, ◌∙◌, ap, arith}
-use Rattle.std.specs.List.{slice_get}
+use Rattle.std.proofs.Common.{◌<◌, length, refl, arith}
 use Rattle.std.proofs.lemmas.Option.{slice_get_read}
-use Rattle.crdt_core.specs.declared.record.Part.{Part}
-use Rattle.crdt_core.specs.declared.record.Upd.{Upd}
-use Rattle.effect_store.specs.Spots.{Spot, spots}
 use Rattle.effect_store.proofs.Arranging.{get_in}
-use Rattle.effect_store.proofs.Linking.{IsRead, reads_at, list_read, same_part, same_update}
+use Rattle.effect_store.proofs.Linking.{reads_at, list_read, same_part, same_update}
 use Rattle.effect_store.proofs.updates.update_at.Goals as goal
 
 pub bounds-parts-entry : goal.bounds-parts-entry

@@ -1,4 +1,3 @@
-use Rattle.std.proofs.Common.{◌≡◌, ℕ, ◌<◌, ◌≤◌, length, arith}
 use Rattle.effect_store.proofs.Committing.{list_more, done_ok}
 use Rattle.effect_store.proofs.commits.Commits.add.Goals as goal
 

@@ -1,4 +1,4 @@
-use Rattle.std.proofs.Common.{◌≡◌, ℕ, ◌<◌, length, Some, sym, ap, ◌∙◌, refl, arith}
+use Rattle.std.proofs.Common.{sym, ap, refl}
 use Rattle.std.proofs.lemmas.Option.{slice_get_read}
 use Rattle.effect_store.specs.Stored.{Stored}
 use Rattle.effect_store.proofs.Arranging.{get_in}

@@ -1,13 +1,31 @@
-use Rattle.std.proofs.Common.{◌≡◌, ℕ, length, sym, ap, ◌∙◌, refl}
-use Rattle.std.specs.List.{filter}
-use Rattle.effect_store.specs.Updates.{updates_of}
+use Rattle.std.proofs.Common.{◌≡◌, refl, sym, ap, ◌∙◌, subst}
+use Rattle.std.specs.Prelude.{IfOk}
 use Rattle.effect_store.specs.Stored.{Stored}
-use Rattle.effect_store.specs.Applied.{applied, shows}
 use Rattle.effect_store.proofs.Holding.{apart}
-use Rattle.effect_store.proofs.Folding.{from_head_in, folded-seen}
+use Rattle.effect_store.proofs.Keeping.{newest_in, model_is}
 use Rattle.effect_store.proofs.store.Store.state.Goals as goal
+
+pub advance-requires-clause-hold : goal.advance-requires-clause-hold
+advance-requires-clause-hold g c =
+    let sites : c.self.inside.sites ≡ c.args.self.now.sites = ap (λ (h : Stored g.row.C-Effect.Denot). h.sites) c.self.view_is in
+    newest_in _ _ _ _ _ _ _ (c.requires.width ∙ sym sites) c.as_slice.ensures.value c.self.invariant.6
+
+pub invariant_of-self : goal.invariant_of-self
+invariant_of-self g c =
+    let sites : c.self.inside.sites ≡ c.args.self.now.sites = ap (λ (h : Stored g.row.C-Effect.Denot). h.sites) c.self.view_is in
+    let i = c.self.invariant in
+    (i.0, i.1, i.2, i.3, i.4, i.5, newest_in _ _ _ _ _ _ _ (sites ∙ sym c.requires.width) (sym c.as_slice.ensures.value) c.advance.ensures.hold, i.7, i.8)
+
+pub read_state-requires-clause-hold : goal.read_state-requires-clause-hold
+read_state-requires-clause-hold g c = newest_in _ _ _ _ _ _ _ refl (c.as_slice-2.ensures.value ∙ sym c.as_slice.ensures.value) c.advance.ensures.hold
+
+pub invariant_of-self-2 : goal.invariant_of-self-2
+invariant_of-self-2 g c =
+    let sites : c.self.inside.sites ≡ c.args.self.now.sites = ap (λ (h : Stored g.row.C-Effect.Denot). h.sites) c.self.view_is in
+    let i = c.self.invariant in
+    (i.0, i.1, i.2, i.3, i.4, i.5, newest_in _ _ _ _ _ _ _ (sites ∙ sym c.requires.width) (sym c.as_slice.ensures.value) c.advance.ensures.hold, i.7, i.8)
 
 pub returns-clause-state : goal.returns-clause-state
 returns-clause-state g c =
-    let shown = from_head_in _ _ _ c.self.inside.links c.args.object.now (shows c.args.snapshot.now) _ _ c.self.invariant.1 (apart _ _ _ c.self.invariant.0) c.as_slice.ensures.value c.tag_of.ensures c.head-from.ensures (ap (λ (h : Stored g.row.C-Effect.Denot). h.parts) c.self.view_is) in
-    c.in_ok-apply_shown.ensures ∙ (ap (applied g.C.Crdt.step c.in_ok-state.state) shown ∙ (ap (λ s. applied g.C.Crdt.step s (updates_of c.args.object.now (filter (shows c.args.snapshot.now) c.args.self.now.parts))) c.in_ok-state.ensures ∙ sym (folded-seen (g.C.Crdt.initial c.args.object.now.kind) g.C.Crdt.step c.args.object.now c.args.snapshot.now c.args.self.now.parts)))
+    let P : g.row.C-State.Denot → Type 0 = λ z. IfOk c.read_state.result (λ v. v ≡ z) in
+    subst P (model_is g.C.Crdt.initial g.C.Crdt.step c.self.inside.parts.items c.as_slice-2.result.now c.args.self.now.parts c.args.object.now c.args.snapshot.now (apart _ _ _ c.self.invariant.0) c.as_slice-2.ensures.value (ap (λ (h : Stored g.row.C-Effect.Denot). h.parts) c.self.view_is)) c.read_state.ensures

@@ -1,4 +1,4 @@
-use Rattle.std.proofs.Common.{◌≡◌, ℕ, length, sym, ap, ◌∙◌, refl}
+use Rattle.std.proofs.Common.{sym, ap}
 use Rattle.effect_store.specs.Stored.{Stored}
 use Rattle.effect_store.specs.Wanted.{is_outside}
 use Rattle.effect_store.proofs.Holding.{apart}

@@ -1,4 +1,4 @@
-use Rattle.std.proofs.Common.{◌≡◌, ℕ, ◌<◌, length, Some, sym, ◌∙◌, arith}
+use Rattle.std.proofs.Common.{◌<◌, length, arith}
 use Rattle.effect_store.proofs.Reading.{given_next, moves_on}
 use Rattle.effect_store.proofs.updates.UpdatesIterator.next.Goals as goal
 

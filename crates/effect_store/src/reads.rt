@@ -1,0 +1,83 @@
+ghost use Rattle.std.specs.Prelude.{◌≡◌, length, nat_eq, IfOk, map};
+ghost use Rattle.std.specs.List.{filter};
+ghost use Rattle.std.specs.HashMap.{get};
+ghost use Rattle.effect_store.specs.Arranged.{arranged};
+ghost use Rattle.effect_store.specs.Spots.{spots, before};
+ghost use Rattle.effect_store.specs.Wanted.{pair, IsReading};
+ghost use Rattle.effect_store.specs.Applied.{applied, mine, shows, AreWide};
+ghost use Rattle.effect_store.specs.Newest.{AreNewest};
+
+use crate::fold::apply_shown;
+use crate::hooks::head;
+use crate::links::Links;
+use crate::newest::{Newest, is_none_shown, kept_for};
+use crate::tags::tag_of;
+use crdt_core::{Crdt, ObjectId, Part, Value};
+use site_vector::VTime;
+use std::alloc::{AllocError, Global};
+use std::collections::HashMap;
+
+/// The state of no update with what the snapshot shows of the object applied.
+fn fresh_state<C: Crdt>(
+    alloc: Global,
+    parts: &[Part<C::Effect>],
+    links: &Links,
+    object: &ObjectId,
+    snapshot: &VTime,
+) -> Result<C::State, AllocError>
+    requires reading { IsReading parts.now links.now }
+    requires wide { AreWide (length snapshot.now) parts.now }
+    ensures { IfOk result (λ s. s ≡ applied C.step (C.initial object.now.kind) (map pair (filter (mine object.now (shows snapshot.now)) (arranged before (spots parts.now))))) }
+{
+    let mut state = C::empty(alloc, object.kind)?;
+    let from = head(&links.first, tag_of(object));
+    apply_shown::<C>(alloc, parts, links, from, object, snapshot, &mut state)?;
+    Ok(state)
+}
+
+/// The state of the object at the snapshot, from its kept state on where that serves.
+pub(crate) fn read_state<C: Crdt>(
+    alloc: Global,
+    parts: &[Part<C::Effect>],
+    links: &Links,
+    newest: &HashMap<u64, Newest<C::State>>,
+    object: &ObjectId,
+    snapshot: &VTime,
+) -> Result<C::State, AllocError>
+    requires reading { IsReading parts.now links.now }
+    requires wide { AreWide (length snapshot.now) parts.now }
+    requires hold { AreNewest C.initial C.step (length snapshot.now) (spots parts.now) (get nat_eq newest.now) }
+    ensures { IfOk result (λ s. s ≡ applied C.step (C.initial object.now.kind) (map pair (filter (mine object.now (shows snapshot.now)) (arranged before (spots parts.now))))) }
+{
+    let Some(kept) = kept_for(parts, links, newest, object, snapshot) else {
+        return fresh_state::<C>(alloc, parts, links, object, snapshot);
+    };
+    let from = links.next[kept.at as usize];
+    let mut state = C::copy(alloc, &kept.state)?;
+    apply_shown::<C>(alloc, parts, links, from, object, snapshot, &mut state)?;
+    Ok(state)
+}
+
+/// What the object shows at the snapshot, without a copy where its kept state has all that the snapshot shows.
+pub(crate) fn read_value<C: Crdt>(
+    alloc: Global,
+    parts: &[Part<C::Effect>],
+    links: &Links,
+    newest: &HashMap<u64, Newest<C::State>>,
+    object: &ObjectId,
+    snapshot: &VTime,
+) -> Result<Value, AllocError>
+    requires reading { IsReading parts.now links.now }
+    requires wide { AreWide (length snapshot.now) parts.now }
+    requires hold { AreNewest C.initial C.step (length snapshot.now) (spots parts.now) (get nat_eq newest.now) }
+    ensures { IfOk result (λ v. v ≡ C.value_of (applied C.step (C.initial object.now.kind) (map pair (filter (mine object.now (shows snapshot.now)) (arranged before (spots parts.now)))))) }
+{
+    if let Some(kept) = kept_for(parts, links, newest, object, snapshot) {
+        let from = links.next[kept.at as usize];
+        if is_none_shown(parts, links, from, object, snapshot) {
+            return C::value(alloc, &kept.state);
+        }
+    }
+    let state = read_state::<C>(alloc, parts, links, newest, object, snapshot)?;
+    C::value(alloc, &state)
+}
