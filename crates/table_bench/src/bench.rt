@@ -116,10 +116,19 @@ fn measure_one(rt: &HostRuntime, what: &str, last: u64, late: u64) -> io::Result
     tell(rt, "  reads 100 parts back", read, &start)?;
     let start = Instant::now(rt)?;
     let mut listed: u64 = 0;
-    for _pass in 0..1000 {
-        listed = listed.saturating_add(count_between(&store, behind, last));
+    for pass in 0..1000 {
+        listed = listed.saturating_add(count_between(
+            &store,
+            behind.saturating_add(pass % 2),
+            last,
+        ));
     }
-    tell(rt, "  parts of the last 100, 1000 times", listed, &start)
+    tell(
+        rt,
+        "  parts of the last 100 or 99, 1000 times",
+        listed,
+        &start,
+    )
 }
 
 /// Measures so many parts in order, and as many with one in ten 64 places late.
@@ -127,4 +136,16 @@ pub(crate) fn measure(rt: &HostRuntime, parts: u32) -> io::Result<()> {
     let last = u64::from(parts);
     measure_one(rt, "parts in order", last, 0)?;
     measure_one(rt, "parts, one in ten late", last, LATE)
+}
+
+/// Makes so many parts and only holds them, to tell what memory they take themselves.
+pub(crate) fn hold(rt: &HostRuntime, parts: u32) -> io::Result<()> {
+    let alloc = rt.alloc();
+    let start = Instant::now(rt)?;
+    let mut held = Vec::new(alloc);
+    held.reserve(usize::try_from(parts).unwrap_or(0))?;
+    for time in 0..u64::from(parts) {
+        held.push(part(alloc, time.saturating_add(1))?)?;
+    }
+    tell(rt, "parts made", held.len() as u64, &start)
 }

@@ -1,7 +1,8 @@
 //! Runs cases of the tables under a partition, and measures them.
 //!
 //! `table_bench show`, or no word, runs the lines of standard input and prints what each answers: the test of the crates. `table_bench bench PARTS`
-//! fills a store with so many parts, in order and with one in ten late, and says how long that and reads of it took.
+//! fills a store with so many parts, in order and with one in ten late, and says how long that and reads of it took; `table_bench hold PARTS` only makes
+//! the parts.
 #![tactic(auto)]
 
 mod bench;
@@ -36,6 +37,11 @@ fn main(rt: HostRuntime) -> io::Result<()> {
         [work, parts] if work.as_str() == "bench" => {
             bench::measure(&rt, parts.parse::<u32>().unwrap_or(0))
         }
-        _ => eprintln!(rt; "table_bench [show] < LINES | table_bench bench PARTS"),
+        [work, parts] if work.as_str() == "hold" => {
+            bench::hold(&rt, parts.parse::<u32>().unwrap_or(0))
+        }
+        _ => eprintln!(rt;
+            "table_bench [show] < LINES | table_bench bench PARTS | table_bench hold PARTS"
+        ),
     }
 }
