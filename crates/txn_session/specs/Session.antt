@@ -55,6 +55,17 @@ abbrev pub is_open : {E : Type 0} → Doing E → Bool
 is_open (Open txn) = true
 is_open other = false
 
+abbrev pub numbers_from : ℕ → ℕ → List ℕ
+numbers_from first zero = []
+numbers_from first (suc n) = first ∷ numbers_from (first + 1) n
+
+abbrev pub first_or_zero : List ℕ → ℕ
+first_or_zero [] = 0
+first_or_zero (p ∷ ps) = p
+
+abbrev pub committed_so : Committing → Going → Committing
+committed_so c g = record { site = c.site; s = c.s; going = g }
+
 module _ {E : Type 0} where
   -- the updates of the object
   abbrev pub own_updates : List (Upd E) → ObjectId → List (Upd E)
@@ -67,26 +78,15 @@ module _ {E : Type 0} where
   abbrev pub updates_of : ℕ → List (Upd E) → ℕ → List (Upd E)
   updates_of parts updates p = filter (stands_at parts p) updates
 
-  abbrev pub numbers_from : ℕ → ℕ → List ℕ
-  numbers_from first zero = []
-  numbers_from first (suc n) = first ∷ numbers_from (first + 1) n
-
   -- the participants: the numbers of the partitions with updates, in ascending order
   abbrev pub participants : ℕ → List (Upd E) → List ℕ
   participants parts updates = filter (λ p. is_some_update (updates_of parts updates p)) (numbers_from 1 parts)
-
-  abbrev pub first_or_zero : List ℕ → ℕ
-  first_or_zero [] = 0
-  first_or_zero (p ∷ ps) = p
 
   -- where a commit begins, if it has not
   abbrev pub ending : ℕ → ℕ → Doing E → Doing E
   ending site parts Idle = Idle
   ending site parts (Open txn) = Ending txn (first_or_zero (participants parts txn.updates)) (record { site = site; s = txn.s; going = starting (participants parts txn.updates) })
   ending site parts (Ending txn lead commit) = Ending txn lead commit
-
-  abbrev pub committed_so : Committing → Going → Committing
-  committed_so c g = record { site = c.site; s = c.s; going = g }
 
   -- it is given up
   abbrev pub giving_up : Doing E → Doing E
