@@ -141,7 +141,7 @@ module _ {E : Type 0} where
   same_more (c ∷ more) run t a = same_trans (c ∷ (more ++ run)) (more ++ run) run t (quiet c (more ++ run) t a.0) (same_more more run t a.1)
 
   -- what was known stays so
-  were_more : (e : Entry E) (run : List (Entry E)) (vs : List (List ℕ)) → WereVectors run vs → WereVectors (e ∷ run) vs
+  pub were_more : (e : Entry E) (run : List (Entry E)) (vs : List (List ℕ)) → WereVectors run vs → WereVectors (e ∷ run) vs
   were_more e run [] h = tt
   were_more e run (v ∷ vs) h = (inr h.0, were_more e run vs h.1)
 

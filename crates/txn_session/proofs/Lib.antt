@@ -1,2 +1,4 @@
 mod Frames
 mod Owning
+mod Events
+mod Opening

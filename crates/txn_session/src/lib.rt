@@ -4,8 +4,10 @@
 mod chosen;
 mod error;
 mod phase;
+mod session;
 mod store;
 
 pub use error::SessionError;
 pub use phase::Phase;
+pub use session::Session;
 pub use store::Store;

@@ -245,4 +245,10 @@ pub trait Store<C: Crdt> {
 
     /// A call changes no number of sites or partitions.
     ghost keeps: { (a b : Self) → stays a b → (sites b ≡ sites a) × (parts b ≡ parts a) };
+
+    /// What no call was made of stays.
+    ghost rests: { (a : Self) → stays a a };
+
+    /// What two calls leave is what both leave.
+    ghost follows: { (a b c : Self) → stays a b → stays b c → stays a c };
 }
