@@ -1,6 +1,6 @@
 -- Which event answers a call, by what was asked.
 use Rattle.std.proofs.Common.{◌≡◌, inl, inr, ℕ, Bool, true, false, List, refl, sym, ap, ◌∙◌}
-use Rattle.std.specs.Prelude.{◌⊎◌, Option}
+use Rattle.std.specs.Prelude.{◌⊎◌, Option, Some, None}
 use Rattle.std.proofs.lemmas.Bool.{true≢false}
 use Rattle.site_vector.specs.declared.ids.PartId.{PartId}
 use Rattle.site_vector.specs.declared.ids.TxId.{TxId}
@@ -14,7 +14,7 @@ use Rattle.world_model.specs.Event.{Ask, AskBegin, AskRead, AskUpdate, AskPrepar
 use Rattle.world_model.specs.World.{is_begin}
 use Rattle.world_model.specs.Lines.{refusal_shown, fault_shown, step_shown}
 use Rattle.world_model.specs.Asking.{asked_by}
-use Rattle.txn_session.specs.Calls.{is_update, touches}
+use Rattle.txn_session.specs.Calls.{is_update, touches, effect_made}
 
 -- what a call that was done answers
 abbrev pub is_done_step : Step → Bool
@@ -57,3 +57,32 @@ module _ {E : Type 0} where
     begin_quiet (Cut (Refused asked why)) who dep a h t = refl
     begin_quiet (Cut other) who dep a h t = absurd cc
     begin_quiet other who dep a h t = absurd cc
+
+    -- an update: what it made, or nothing that touches a transaction
+    pub update_made : (e : Event E) (t : TxId) (s : List ℕ) (o : ObjectId) (own : List (Upd E)) (op : Op) (effect : E) → asked_by (attempt e) ≡ AskUpdate t s o own op → Some effect ≡ effect_made e → (read : List (Part E)) × (x : Upd E) × (stamp : Option ℕ) × (e ≡ Updated t s o own op read x stamp) × (x.effect ≡ effect)
+    update_made (Updated u v o' own' op' read x stamp) t s o own op effect a h = (read, x, stamp, cc, cc)
+    update_made other t s o own op effect a h = absurd cc
+
+    pub update_quiet : (e : Event E) (t : TxId) (s : List ℕ) (o : ObjectId) (own : List (Upd E)) (op : Op) → asked_by (attempt e) ≡ AskUpdate t s o own op → None ≡ effect_made e → (u : TxId) → touches e u ≡ false
+    update_quiet (Updated u v o' own' op' read x stamp) t s o own op a h y = absurd cc
+    update_quiet (Refused asked why) t s o own op a h y = refl
+    update_quiet (Cut (Updated u v o' own' op' read x stamp)) t s o own op a h y = refl
+    update_quiet (Cut (Refused asked why)) t s o own op a h y = refl
+    update_quiet (Cut other) t s o own op a h y = absurd cc
+    update_quiet other t s o own op a h y = absurd cc
+
+    -- so the answer tells which
+    pub none_undone : (e : Event E) (t : TxId) (s : List ℕ) (o : ObjectId) (own : List (Upd E)) (op : Op) → asked_by (attempt e) ≡ AskUpdate t s o own op → None ≡ effect_made e → is_done_step (step_shown run p e) ≡ false
+    none_undone (Updated u v o' own' op' read x stamp) t s o own op a h = absurd cc
+    none_undone (Refused asked why) t s o own op a h = refused_undone run p asked why
+    none_undone (Cut what) t s o own op a h = cut_undone p what
+    none_undone other t s o own op a h = absurd cc
+
+    -- a read tells nothing of a transaction
+    pub read_quiet : (e : Event E) (t : TxId) (s : List ℕ) (o : ObjectId) (own : List (Upd E)) → asked_by (attempt e) ≡ AskRead t s o own → (u : TxId) → touches e u ≡ false
+    read_quiet (Read u v o' own' read value) t s o own a y = refl
+    read_quiet (Refused asked why) t s o own a y = refl
+    read_quiet (Cut (Read u v o' own' read value)) t s o own a y = refl
+    read_quiet (Cut (Refused asked why)) t s o own a y = refl
+    read_quiet (Cut other) t s o own a y = absurd cc
+    read_quiet other t s o own a y = absurd cc

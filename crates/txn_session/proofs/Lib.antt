@@ -1,4 +1,10 @@
 mod Frames
 mod Owning
+mod Results
 mod Events
+mod Acting
 mod Opening
+mod Updating
+mod Participants
+mod Counting
+mod Steps

@@ -22,6 +22,10 @@ use Rattle.world_model.specs.Asking as asking
 use Rattle.world_model.specs.Asking.{asked_by}
 use Rattle.txn_session.specs.Calls.{Call, entries, called, caller_of, touches, IsLegal, IsAllowed, MayCall, GoesOn, Stays}
 use Rattle.txn_session.specs.Session.{Txn, Doing, Idle, Open, Ending, SessionState, is_idle, doing_so, depends, updates_of, place_in}
+use Rattle.clocksi_commit.specs.Commit.{Committing}
+use Rattle.txn_session.specs.declared.session.Stage.{Stage}
+use Rattle.txn_session.specs.declared.session.Stage.TheVariants as stage
+use Rattle.txn_session.specs.Fields.{doing_in}
 use Rattle.txn_session.specs.Opens.{IsOpened}
 use Rattle.txn_session.specs.Holds.{HoldsTxn, IsUntried, HoldsDoing, Holds, HoldsNumber, AreApart, Mays, Makes, Waits, changed_at}
 use Rattle.txn_session.proofs.Frames.{Same, quiet, were_more, known_next, known_more, holds_more, doing_more}
@@ -33,6 +37,9 @@ pub length-join : (u v : List ℕ) → length u ≡ length v → length (join u 
 length-join [] v h = refl
 length-join (n ∷ u) [] h = absurd (omega arith)
 length-join (n ∷ u) (m ∷ v) h = let k : length u ≡ length v = omega arith in let e = length-join u v k in omega arith
+
+pub idle_in : {E : Type 0} (k : Stage) (txn : Txn E) (lead : ℕ) (commit : Committing) → k ≡ stage.Idle → doing_in k txn lead commit ≡ Idle
+idle_in k txn lead commit e = ap (λ x. doing_in x txn lead commit) e
 
 module _ {E : Type 0} where
   -- a session that isn't about a transaction holds where only more is known
@@ -94,6 +101,17 @@ module _ {E : Type 0} where
         u_votes : IsUntold (entries run) t → (p : PartId) → ((same_part at p && false) || voted (entries run) t p) ≡ false
         u_votes u p = (λ i. and_off (same_part at p) i || u.votes p i)
 
+  module _ {T P : Type 0} (sees : T → P → List (Call E) → Type 0) (numbers : P → ℕ → Bool) (old : SessionState E) (idle : old.doing ≡ Idle) where
+    pub idle_waits : (store : T) (pass : P) (run : List (Call E)) → Holds old run → Stays sees numbers store pass run → Waits sees numbers store pass run old old
+    idle_waits store pass run h s = record {
+      more = s.more;
+      others = s.others;
+      apart = subst (λ d. AreApart d s.more) (sym idle) tt;
+      seen = s.seen;
+      holds = idle_holds old _ idle (known_more old.sites s.more run old.dependency h.known) h.width;
+      held = subst (HoldsNumber (numbers pass)) (sym idle) tt;
+    }
+
   module _ {S T P : Type 0} (kinds : Kinds S E) (sees : T → P → List (Call E) → Type 0) (numbers : P → ℕ → Bool) (old : SessionState E) (idle : old.doing ≡ Idle) where
     -- what a begin may be asked
     pub begin_allowed : (run : List (Call E)) (at : PartId) → Holds old run → IsAllowed old.sites old.parts run None at (AskBegin old.name old.dependency)
@@ -110,7 +128,7 @@ module _ {E : Type 0} where
       pub began_width : (name : List ℕ) (t : TxId) (s : List ℕ) → answer ≡ step.Began name t s → length s ≡ old.sites
       began_width name t s is = begun_width kinds old.sites old.parts (goes.more ++ run) goes.by at old.name old.dependency t s (legal_begin name t s is)
 
-      as_open : GoesOn sees numbers store pass run None at (AskBegin old.name old.dependency) answer
+      abbrev as_open : GoesOn sees numbers store pass run None at (AskBegin old.name old.dependency) answer
       as_open = record { more = goes.more; others = goes.others; by = goes.by; held = goes.held; bears = tt; event = goes.event; asked = goes.asked; own_word = goes.own_word; shows = goes.shows; seen = goes.seen }
 
       pub began_makes : (name : List ℕ) (t : TxId) (s : List ℕ) (new : SessionState E) → answer ≡ step.Began name t s → new ≡ doing_so (depends old (join old.dependency s)) (Open (record { tx = t; s = s; by = number; updates = [] })) → Makes sees numbers store pass run old new None at (AskBegin old.name old.dependency) answer
@@ -140,12 +158,44 @@ module _ {E : Type 0} where
         held = subst (HoldsNumber (numbers pass)) (sym idle) tt;
       }
 
-    pub idle_waits : (store : T) (pass : P) (run : List (Call E)) → Holds old run → Stays sees numbers store pass run → Waits sees numbers store pass run old old
-    idle_waits store pass run h s = record {
-      more = s.more;
-      others = s.others;
-      apart = subst (λ d. AreApart d s.more) (sym idle) tt;
-      seen = s.seen;
-      holds = idle_holds old _ idle (known_more old.sites s.more run old.dependency h.known) h.width;
-      held = subst (HoldsNumber (numbers pass)) (sym idle) tt;
-    }
+  module _ {S T P : Type 0} (kinds : Kinds S E) (sees : T → P → List (Call E) → Type 0) (numbers : P → ℕ → Bool) (sites_of parts_of : T → ℕ) (stays : T → T → Type 0)
+    (legal : (st : T) (p : P) (r : List (Call E)) → sees st p r → IsLegal kinds (sites_of st) (parts_of st) r) (keeps : (a b : T) → stays a b → (sites_of b ≡ sites_of a) × (parts_of b ≡ parts_of a))
+    (before store : T) (stayed : stays before store) (given pass : P) (u old : SessionState E) (v : u ≡ old) (es : sites_of before ≡ old.sites) (ep : parts_of before ≡ old.parts) where
+    -- what a pass has seen of the store is legal after the call too
+    pub legal_now : (r : List (Call E)) → sees store pass r → IsLegal kinds old.sites old.parts r
+    legal_now r seen =
+        let k = keeps before store stayed in
+        subst (λ n. IsLegal kinds n old.parts r) (k.0 ∙ es) (subst (λ n. IsLegal kinds (sites_of store) n r) (k.1 ∙ ep) (legal store pass r seen))
+
+    module _ (idle : u.doing ≡ Idle) (part number : ℕ) (answer : Step) (f : (run : List (Call E)) → sees before given run → IsAllowed (sites_of before) (parts_of before) run None (record { site = u.site; part = part }) (AskBegin u.name u.dependency) → GoesOn sees numbers store pass run (Some number) (record { site = u.site; part = part }) (AskBegin u.name u.dependency) answer) where
+      was_idle : old.doing ≡ Idle
+      was_idle = subst (λ (w : SessionState E). w.doing ≡ Idle) v idle
+
+      begin_goes : (run : List (Call E)) → sees before given run → Holds old run → GoesOn sees numbers store pass run (Some number) (record { site = old.site; part = part }) (AskBegin old.name old.dependency) answer
+      begin_goes run seen h =
+          let g : (r : List (Call E)) → sees before given r → IsAllowed (sites_of before) (parts_of before) r None (record { site = old.site; part = part }) (AskBegin old.name old.dependency) → GoesOn sees numbers store pass r (Some number) (record { site = old.site; part = part }) (AskBegin old.name old.dependency) answer =
+          subst (λ (w : SessionState E). (r : List (Call E)) → sees before given r → IsAllowed (sites_of before) (parts_of before) r None (record { site = w.site; part = part }) (AskBegin w.name w.dependency) → GoesOn sees numbers store pass r (Some number) (record { site = w.site; part = part }) (AskBegin w.name w.dependency) answer) v f in
+          let a = begin_allowed kinds sees numbers old was_idle run (record { site = old.site; part = part }) h in
+          g run seen (subst (λ n. IsAllowed n (parts_of before) run None (record { site = old.site; part = part }) (AskBegin old.name old.dependency)) (sym es) (subst (λ n. IsAllowed old.sites n run None (record { site = old.site; part = part }) (AskBegin old.name old.dependency)) (sym ep) a))
+
+      pub open_refused : (run : List (Call E)) → sees before given run → Holds old run → Makes sees numbers store pass run old old None (record { site = old.site; part = part }) (AskBegin old.name old.dependency) answer
+      open_refused run seen h = refused_makes kinds sees numbers old was_idle store pass run (record { site = old.site; part = part }) refl legal_now h number answer (begin_goes run seen h)
+
+      module _ (name : List ℕ) (t : TxId) (s : List ℕ) (is : answer ≡ step.Began name t s) where
+        pub open_width : Mays sees numbers before given old → length u.dependency ≡ length s
+        open_width m =
+            let w = began_width kinds sees numbers old was_idle store pass m.run (record { site = old.site; part = part }) refl legal_now m.holds number answer (begin_goes m.run m.seen m.holds) name t s is in
+            ap (λ x. length x.dependency) v ∙ (m.holds.width ∙ sym w)
+
+        pub open_made : (d : List ℕ) (us : List (Upd E)) → d ≡ join u.dependency s → us ≡ [] → doing_so (depends u d) (Open (record { tx = t; s = s; by = number; updates = us })) ≡ doing_so (depends old (join old.dependency s)) (Open (record { tx = t; s = s; by = number; updates = [] }))
+        open_made d us ed eu = (λ i. doing_so (depends (v i) ((ed ∙ ap (λ x. join x.dependency s) v) i)) (Open (record { tx = t; s = s; by = number; updates = eu i })))
+
+        pub open_began : (d : List ℕ) (us : List (Upd E)) → d ≡ join u.dependency s → us ≡ [] → (run : List (Call E)) → sees before given run → Holds old run → Makes sees numbers store pass run old (doing_so (depends u d) (Open (record { tx = t; s = s; by = number; updates = us }))) None (record { site = old.site; part = part }) (AskBegin old.name old.dependency) (step.Began name t s)
+        open_began d us ed eu run seen h =
+            subst (λ a. Makes sees numbers store pass run old (doing_so (depends u d) (Open (record { tx = t; s = s; by = number; updates = us }))) None (record { site = old.site; part = part }) (AskBegin old.name old.dependency) a) is
+            (began_makes kinds sees numbers old was_idle store pass run (record { site = old.site; part = part }) refl legal_now h number answer (begin_goes run seen h) name t s (doing_so (depends u d) (Open (record { tx = t; s = s; by = number; updates = us }))) is (open_made d us ed eu))
+
+-- a step that isn't a begin
+pub not_opened : {E : Type 0} (s : SessionState E) (answer : Step) → ((name : List ℕ) (t : TxId) (v : List ℕ) → answer ≡ step.Began name t v → ⊥) → IsOpened s answer s
+not_opened s (step.Began name t v) n = absurd (n name t v refl)
+not_opened s other n = refl

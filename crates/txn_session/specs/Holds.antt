@@ -4,11 +4,14 @@ use Rattle.std.specs.List.{list_any}
 use Rattle.site_vector.specs.declared.ids.PartId.{PartId}
 use Rattle.site_vector.specs.declared.ids.TxId.{TxId}
 use Rattle.site_vector.specs.Vector.{join}
+use Rattle.crdt_core.specs.declared.object.ObjectId.{ObjectId}
+use Rattle.crdt_core.specs.declared.operation.Op.{Op}
 use Rattle.crdt_core.specs.declared.record.Upd.{Upd}
+use Rattle.crdt_core.specs.Placing.{place_of}
 use Rattle.world_model.specs.declared.commit.What.{What}
 use Rattle.world_model.specs.declared.commit.What.TheVariants as what
 use Rattle.world_model.specs.declared.step.Step.{Step}
-use Rattle.world_model.specs.Event.{Ask, AskPrepare, AskDecide, AskFinish, AskAbort, Began, tried, voted, decide_tried, gave_up, is_decided, time_of, WasShown}
+use Rattle.world_model.specs.Event.{Ask, AskRead, AskUpdate, AskPrepare, AskDecide, AskFinish, AskAbort, Began, tried, voted, decide_tried, gave_up, is_decided, time_of, WasShown}
 use Rattle.world_model.specs.Past.{IsKnownJoin}
 use Rattle.world_model.specs.Plan.{IsPlace, home, updates_at, update_count}
 use Rattle.world_model.specs.World.{begun, snapshot_of}
@@ -16,7 +19,7 @@ use Rattle.world_model.specs.Lines.{session_of}
 use Rattle.world_model.specs.CommitSteps.{Going, Preparing, Finishing, Aborting, next_step}
 use Rattle.clocksi_commit.specs.Commit.{Committing}
 use Rattle.txn_session.specs.Calls.{Call, entries, called, caller_of, AreOthers, NoneBears, GoesOn}
-use Rattle.txn_session.specs.Session.{Txn, Doing, Idle, Open, Ending, SessionState, updates_of, participants, first_or_zero, place_in}
+use Rattle.txn_session.specs.Session.{Txn, Doing, Idle, Open, Ending, SessionState, own_updates, updates_of, participants, first_or_zero, place_in}
 
 abbrev pub has : List ℕ → ℕ → Bool
 has ps p = list_any (λ q. q == p) ps
@@ -133,6 +136,16 @@ module _ {E : Type 0} where
       pub seen : sees store pass (more ++ run)
       pub holds : Holds new (more ++ run)
       pub held : HoldsNumber (numbers pass) new.doing
+
+    -- an update of the object was asked, with the transaction's earlier ones
+    abbrev pub MakesUpdate : S → P → List (Call E) → SessionState E → SessionState E → ObjectId → Op → Step → Doing E → Type 0
+    MakesUpdate store pass run old new o op answer (Open txn) = Makes store pass run old new (Some txn.by) (place_in old (place_of o.bucket o.key old.parts)) (AskUpdate txn.tx txn.s o (own_updates txn.updates o) op) answer
+    MakesUpdate store pass run old new o op answer other = ⊥
+
+    -- a read of the object was asked, with the transaction's own updates
+    abbrev pub MakesRead : S → P → List (Call E) → SessionState E → SessionState E → ObjectId → Step → Doing E → Type 0
+    MakesRead store pass run old new o answer (Open txn) = Makes store pass run old new (Some txn.by) (place_in old (place_of o.bucket o.key old.parts)) (AskRead txn.tx txn.s o (own_updates txn.updates o)) answer
+    MakesRead store pass run old new o answer other = ⊥
 
     -- the step that is next at the end of a transaction was made
     abbrev pub MakesStep : S → P → List (Call E) → SessionState E → SessionState E → Step → Doing E → What → Type 0

@@ -1,5 +1,5 @@
 pub mod Calls
 pub mod Session
 pub mod Fields
-pub mod Opens
 pub mod Holds
+pub mod Opens
