@@ -25,7 +25,7 @@ is_done_step (step.Decided p t c) = true
 is_done_step other = false
 
 module _ {E : Type 0} where
-  refused_undone : (run : List (Entry E)) (p : PartId) (asked : Ask E) (why : Refusal) → is_done_step (refusal_shown run p asked why) ≡ false
+  pub refused_undone : (run : List (Entry E)) (p : PartId) (asked : Ask E) (why : Refusal) → is_done_step (refusal_shown run p asked why) ≡ false
   refused_undone run p asked IsDown = refl
   refused_undone run p asked (ClockBehind n) = refl
   refused_undone run p asked (TxPending t n) = refl
@@ -38,7 +38,7 @@ module _ {E : Type 0} where
   refused_undone run p asked (HasNoRoom n) = refl
   refused_undone run p asked (IsDamaged k) = refl
 
-  cut_undone : (p : PartId) (what : Event E) → is_done_step (fault_shown p what) ≡ false
+  pub cut_undone : (p : PartId) (what : Event E) → is_done_step (fault_shown p what) ≡ false
   cut_undone p (Decided t c) = refl
   cut_undone p other = refl
 

@@ -8,3 +8,4 @@ mod Updating
 mod Participants
 mod Counting
 mod Steps
+mod Ending

@@ -143,11 +143,11 @@ module _ {E : Type 0} where
         (λ (e : (p.site == txn.tx.site) ≡ true). cond-true _ (updates_at (entries run) txn.tx p) [] (owned p e) ∙ h.updates p)
         (λ (e : (p.site == txn.tx.site) ≡ false).
         let other : (site == p.site) ≡ false = ne_eqb site p.site (λ x. true≢false (sym (eq-eqb p.site txn.tx.site (sym x ∙ sym h.site_is)) ∙ e)) in
-        cond-false _ (updates_at (entries run) txn.tx p) [] (and_first e) ∙ sym (cond-false _ (updates_of parts txn.updates p.part) [] other))
+        cond-false _ (updates_at (entries run) txn.tx p) [] (and_first _ _ e) ∙ sym (cond-false _ (updates_of parts txn.updates p.part) [] other))
         (cases_Bool (p.site == txn.tx.site))
       where
-        and_first : {a b : Bool} → a ≡ false → (a && b) ≡ false
-        and_first {b = b} e = ap (λ x. x && b) e
+        and_first : (a b : Bool) → a ≡ false → (a && b) ≡ false
+        and_first a b e = ap (λ x. x && b) e
 
     changes_here : (q : ℕ) → changes_of sites (entries run) txn.tx (at_site site q) ≡ updates_of parts txn.updates q
     changes_here q = changes_are (at_site site q) ∙ cond-true _ (updates_of parts txn.updates q) [] (eq-eqb site site refl)

@@ -11,3 +11,18 @@ module _ {A B : Type 0} where
 
   pub bad_ok : (x : A) (e : B) → (let o : Result A B = Ok x in o ≡ Err e) → ⊥
   bad_ok x e h = cc
+
+  pub ok_map : (P Q : A → Type 0) (r : Result A B) → ((x : A) → P x → Q x) → IfOk r P → IfOk r Q
+  ok_map P Q (Ok x) f h = f x h
+  ok_map P Q (Err e) f h = tt
+
+  pub err_map : (P Q : B → Type 0) (r : Result A B) → ((e : B) → P e → Q e) → IfErr r P → IfErr r Q
+  err_map P Q (Ok x) f h = tt
+  err_map P Q (Err e) f h = f e h
+
+  pub on_err_map : (P Q : Type 0) (r : Result A B) → (P → Q) → OnErr r P → OnErr r Q
+  on_err_map P Q (Ok x) f h = tt
+  on_err_map P Q (Err e) f h = f h
+
+  pub on_err : (P : Type 0) (r : Result A B) (e : B) → r ≡ Err e → OnErr r P → P
+  on_err P r e is h = subst (λ o. OnErr o P) is h

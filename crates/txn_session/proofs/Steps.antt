@@ -107,7 +107,7 @@ module _ {E : Type 0} (sites parts : ℕ) (name : List ℕ) (site : ℕ) (txn : 
   abort_allowed p left h = record { may = ⊎_elim (λ (e : p ∷ left ≡ []). absurd cc) (λ (e : decide_tried (entries run) txn.tx ≡ false). e) h.undecided; mine = t.caller }
 
 -- what asks of the end of a transaction show
-abbrev is_ending_ask : {E : Type 0} → Ask E → Bool
+abbrev pub is_ending_ask : {E : Type 0} → Ask E → Bool
 is_ending_ask (AskPrepare t s l w) = true
 is_ending_ask (AskDecide t c) = true
 is_ending_ask (AskFinish t c) = true

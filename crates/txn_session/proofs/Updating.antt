@@ -161,6 +161,33 @@ module _ {S E T P : Type 0} (kinds : Kinds S E) (sees : T → P → List (Call E
     unfolding here
     asked_at = (λ i. (record { site = et i; part = eq i }, eo i))
 
+    pub read_may : Mays sees numbers before given s → MayCall sees numbers (sites_of before) (parts_of before) before given (Some txn.by) (record { site = site; part = part }) (AskRead txn.tx txn.s o own)
+    unfolding here
+    read_may m =
+        let t = txn_of m.run m.holds in
+        let good : MayCall sees numbers (sites_of before) (parts_of before) before given (Some txn.by) here (AskRead txn.tx txn.s o (own_updates txn.updates o)) = record {
+          place = placed m.run m.holds o;
+          held = held_number m.held;
+          run = m.run;
+          seen = m.seen;
+          allowed = allowed_by m.run (Some txn.by) here (AskRead txn.tx txn.s o (own_updates txn.updates o)) (read_allowed s txn m.run t.0 o);
+        } in
+        subst (λ (w : PartId × List (Upd E)). MayCall sees numbers (sites_of before) (parts_of before) before given (Some txn.by) w.0 (AskRead txn.tx txn.s o w.1)) (sym asked_at) good
+
+    pub read_makes : (who : List ℕ) → who ≡ s.name → ((r : List (Call E)) → sees store pass r → IsLegal kinds s.sites s.parts r) → HoldsNumber (numbers pass) s.doing → (answer : Step) →
+      ((run : List (Call E)) → sees before given run → IsAllowed (sites_of before) (parts_of before) run (Some txn.by) (record { site = site; part = part }) (AskRead txn.tx txn.s o own) → who ≡ session_of (entries run) txn.tx → GoesOn sees numbers store pass run (Some txn.by) (record { site = site; part = part }) (AskRead txn.tx txn.s o own) answer) →
+      (run : List (Call E)) → sees before given run → Holds s run → MakesRead sees numbers store pass run s s o answer s.doing
+    unfolding here
+    read_makes who ew legal held answer f run seen h =
+        let t = txn_of run h in
+        let g = subst
+        (λ (w : PartId × List (Upd E)). (r : List (Call E)) → sees before given r → IsAllowed (sites_of before) (parts_of before) r (Some txn.by) w.0 (AskRead txn.tx txn.s o w.1) → who ≡ session_of (entries r) txn.tx → GoesOn sees numbers store pass r (Some txn.by) w.0 (AskRead txn.tx txn.s o w.1) answer)
+        asked_at
+        f in
+        let goes = g run seen (allowed_by run (Some txn.by) here (AskRead txn.tx txn.s o (own_updates txn.updates o)) (read_allowed s txn run t.0 o)) (ew ∙ sym t.0.session) in
+        let q = read_quiet (entries (goes.more ++ run)) here goes.event txn.tx txn.s o (own_updates txn.updates o) goes.asked in
+        subst (MakesRead sees numbers store pass run s s o answer) (sym is_open) (quiet_makes kinds sees numbers store pass s legal held run h (Some txn.by) here (AskRead txn.tx txn.s o (own_updates txn.updates o)) answer goes q)
+
     module _ (op : Op) where
       pub update_may : Mays sees numbers before given s → MayCall sees numbers (sites_of before) (parts_of before) before given (Some txn.by) (record { site = site; part = part }) (AskUpdate txn.tx txn.s o own op)
       unfolding here

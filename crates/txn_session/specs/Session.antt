@@ -1,5 +1,5 @@
 -- A session as contracts see it.
-use Rattle.std.specs.Prelude.{ℕ, zero, suc, ◌+◌, Bool, true, false, ◌==◌, List, [], ◌∷◌, ◌++◌, length, filter}
+use Rattle.std.specs.Prelude.{ℕ, zero, suc, ◌+◌, Bool, true, false, not, ◌==◌, List, [], ◌∷◌, ◌++◌, length, filter}
 use Rattle.site_vector.specs.declared.ids.PartId.{PartId}
 use Rattle.site_vector.specs.declared.ids.TxId.{TxId}
 use Rattle.site_vector.specs.Vector.{join}
@@ -11,8 +11,8 @@ use Rattle.crdt_core.specs.Placing.{place_of}
 use Rattle.world_model.specs.declared.step.Step.{Step}
 use Rattle.world_model.specs.declared.step.Step.TheVariants as step
 use Rattle.world_model.specs.Plan.{is_some_update}
-use Rattle.world_model.specs.CommitSteps.{Going, Preparing, Finishing, Aborting, starting, given_up, after}
-use Rattle.clocksi_commit.specs.Commit.{Committing}
+use Rattle.world_model.specs.CommitSteps.{Going, Preparing, Finishing, Aborting, starting, given_up, is_done, after}
+use Rattle.clocksi_commit.specs.Commit.{Committing, is_finishing}
 use Rattle.txn_session.specs.declared.phase.Phase.{Phase}
 use Rattle.txn_session.specs.declared.phase.Phase.TheVariants as phase
 
@@ -65,6 +65,21 @@ first_or_zero (p ∷ ps) = p
 
 abbrev pub committed_so : Committing → Going → Committing
 committed_so c g = record { site = c.site; s = c.s; going = g }
+
+-- there is a transaction that isn't decided
+abbrev pub can_abort : {E : Type 0} → Doing E → Bool
+can_abort Idle = false
+can_abort (Open txn) = true
+can_abort (Ending txn lead commit) = not (is_finishing commit.going)
+
+-- a step of its end is left
+abbrev pub has_step : {E : Type 0} → Doing E → Bool
+has_step (Ending txn lead commit) = not (is_done commit.going)
+has_step other = false
+
+-- it goes on at another site
+abbrev pub moved_to : {E : Type 0} → SessionState E → ℕ → SessionState E
+moved_to s site = record { name = s.name; site = site; sites = s.sites; parts = s.parts; dependency = s.dependency; doing = s.doing }
 
 module _ {E : Type 0} where
   -- the updates of the object

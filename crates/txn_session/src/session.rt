@@ -1,9 +1,9 @@
-ghost use Rattle.std.specs.Prelude.{◌≡◌, ◌≢◌, ◌⊎◌, ◌↔◌, ◌≤◌, ◌+◌, ◌++◌, ◌∷◌, ℕ, Bool, true, false, List, [], length, replicate, Option, Some, None, IfOk, IfErr, OnErr, MatchOption};
+ghost use Rattle.std.specs.Prelude.{◌≡◌, ◌≢◌, ◌⊎◌, ◌↔◌, ◌≤◌, ◌+◌, ◌++◌, ◌∷◌, ℕ, Bool, true, false, List, [], length, replicate, Option, Some, None, IfOk, IfErr, OnOk, OnErr, MatchOption};
 ghost use Rattle.txn_session.specs.Calls.{Call};
 ghost use Rattle.txn_session.specs.Opens.{refusal_of_update, told_of};
-ghost use Rattle.txn_session.specs.Session.{Idle, phase_in, phase_of, is_idle, is_open};
+ghost use Rattle.txn_session.specs.Session.{Idle, phase_in, phase_of, is_idle, is_open, can_abort, has_step, moved_to};
 ghost use Rattle.world_model.specs.declared.commit.What.TheVariants as what;
-ghost use Rattle.txn_session.specs.Holds.{Holds, Mays, Makes, MakesUpdate, MakesStep, Waits, next_of};
+ghost use Rattle.txn_session.specs.Holds.{Holds, Mays, Makes, MakesUpdate, MakesRead, MakesStep, Waits, next_of};
 ghost use Rattle.world_model.specs.Plan.{IsPlace};
 ghost use Rattle.world_model.specs.Event.{AskBegin};
 
@@ -274,6 +274,66 @@ impl<C: Crdt> Session<C> {
         }
     }
 
+    /// Reads an object of a kind that the type has, under the snapshot of the open transaction and with its own updates. The
+    /// session is as before.
+    ///
+    /// # Errors
+    ///
+    /// `NoTxn` exactly where the session isn't open; no partition is asked then. `NoMemory` where memory runs out.
+    pub fn read<S: Store<C>>(
+        &mut self,
+        store: &mut S,
+        pass: S::Pass,
+        object: &ObjectId,
+    ) -> (S::Pass, Result<Step, SessionError>)
+        requires has { C.has object.now.kind ≡ true }
+        requires sites { S.sites store.old ≡ self.old.sites }
+        requires parts { S.parts store.old ≡ self.old.parts }
+        requires holds { Mays S.sees S.numbers store.old pass self.old }
+        ensures stays { S.stays store.old store.new }
+        ensures same { (n : ℕ) → S.numbers result.0 n ≡ S.numbers pass n }
+        ensures no_txn { (result.1 ≡ Err SessionError.NoTxn) ↔ (is_open self.old.doing ≡ false) }
+        ensures only { IfErr result.1 (λ e. (e ≡ SessionError.NoTxn) ⊎ (e ≡ SessionError.NoMemory)) }
+        ensures as_before { self.new ≡ self.old }
+        ensures reads { IfOk result.1 (λ answer. (run : List (Call C.Effect)) → S.sees store.old pass run → Holds self.old run → MakesRead S.sees S.numbers store.new result.0 run self.old self.new object.now answer self.old.doing) }
+        ensures waits { OnErr result.1 ((run : List (Call C.Effect)) → S.sees store.old pass run → Holds self.old run → Waits S.sees S.numbers store.new result.0 run self.old self.new) }
+    {
+        match self.stage {
+            Stage::Open => {}
+            _ => {
+                return (pass, Err(SessionError::NoTxn));
+            }
+        }
+        let own = match own_of::<C>(self.alloc, self.updates.as_slice(), object) {
+            Ok(own) => own,
+            Err(_) => {
+                return (pass, Err(SessionError::NoMemory));
+            }
+        };
+        let at = PartId {
+            site: self.site,
+            part: partition_of(object, self.parts),
+        };
+        let (pass, answer) = store.read(
+            pass,
+            at,
+            &self.name,
+            self.by,
+            self.tx,
+            &self.s,
+            object,
+            own.as_slice(),
+        );
+        match answer {
+            Ok(step) => {
+                return (pass, Ok(step));
+            }
+            Err(_) => {
+                return (pass, Err(SessionError::NoMemory));
+            }
+        }
+    }
+
     /// Makes the next step of the commit, which begins it where the session is open. With no step left it makes none, the answer is
     /// that the transaction ended, and the session is idle. `Stay` is that the command ends here.
     ///
@@ -307,7 +367,8 @@ impl<C: Crdt> Session<C> {
             _ => {}
         }
         self.start();
-        self.end_step(store, pass)
+        let (pass, answer) = self.end_step(store, pass);
+        return (pass, answer);
     }
 
     /// Begins the commit of an open transaction, at the partitions that it updated.
@@ -558,6 +619,114 @@ impl<C: Crdt> Session<C> {
             Err(_) => {
                 return (pass, Err(SessionError::NoMemory));
             }
+        }
+    }
+
+    /// Gives the transaction up, if it isn't decided, and asks the next participant that voted to abort. With none left the answer is
+    /// that the transaction ended, and the session is idle.
+    ///
+    /// # Errors
+    ///
+    /// `NoTxn` exactly where the session is neither open nor committing, which is as before then; `NoMemory` where memory runs
+    /// out. The transaction is given up then.
+    pub fn abort_step<S: Store<C>>(
+        &mut self,
+        store: &mut S,
+        pass: S::Pass,
+    ) -> (S::Pass, Result<Step, SessionError>)
+        requires sites { S.sites store.old ≡ self.old.sites }
+        requires parts { S.parts store.old ≡ self.old.parts }
+        requires holds { Mays S.sees S.numbers store.old pass self.old }
+        ensures stays { S.stays store.old store.new }
+        ensures same { (n : ℕ) → S.numbers result.0 n ≡ S.numbers pass n }
+        ensures no_txn { (result.1 ≡ Err SessionError.NoTxn) ↔ (can_abort self.old.doing ≡ false) }
+        ensures only { IfErr result.1 (λ e. (e ≡ SessionError.NoTxn) ⊎ (e ≡ SessionError.NoMemory)) }
+        ensures err { OnErr result.1 (self.new ≡ given_up_end self.old) }
+        ensures stepped { IfOk result.1 (λ answer. self.new ≡ stepped (given_up_end self.old) answer) }
+        ensures ended { IfOk result.1 (λ answer. EndsAs self.old.name (next_of (given_up_end self.old).doing) answer) }
+        ensures steps { IfOk result.1 (λ answer. (run : List (Call C.Effect)) → S.sees store.old pass run → Holds self.old run → MakesStep S.sees S.numbers store.new result.0 run (given_up_end self.old) self.new answer (given_up_end self.old).doing (next_of (given_up_end self.old).doing)) }
+        ensures waits { OnErr result.1 ((run : List (Call C.Effect)) → S.sees store.old pass run → Holds self.old run → Waits S.sees S.numbers store.new result.0 run (given_up_end self.old) self.new) }
+    {
+        if !self.can_abort() {
+            return (pass, Err(SessionError::NoTxn));
+        }
+        self.give_up();
+        let (pass, answer) = self.end_step(store, pass);
+        match answer {
+            Ok(done) => {
+                return (pass, Ok(done.0));
+            }
+            Err(error) => {
+                return (pass, Err(error));
+            }
+        }
+    }
+
+    /// Whether there is a transaction that isn't decided.
+    fn can_abort(&self) -> bool
+        ensures { result ≡ can_abort self.now.doing }
+    {
+        match self.stage {
+            Stage::Idle => false,
+            Stage::Open => true,
+            Stage::Ending => !self.commit.is_decided(),
+        }
+    }
+
+    /// Gives the transaction up, if it isn't decided.
+    fn give_up(&mut self)
+        ensures { self.new ≡ given_up_end self.old }
+    {
+        match self.stage {
+            Stage::Idle => {}
+            Stage::Open => {
+                self.stage = Stage::Idle;
+            }
+            Stage::Ending => {
+                self.commit.give_up();
+            }
+        }
+    }
+
+    /// Goes on at another site of the cluster. What the session depends on goes with it.
+    ///
+    /// # Errors
+    ///
+    /// `HasTxn` exactly where the session isn't idle; `NoMemory` where memory runs out. The session is as before.
+    pub fn move_to(&mut self, site: u8) -> Result<Step, SessionError>
+        requires least { 1 ≤ site }
+        requires most { site ≤ self.old.sites }
+        ensures has_txn { (result ≡ Err SessionError.HasTxn) ↔ (is_idle self.old.doing ≡ false) }
+        ensures only { IfErr result (λ e. (e ≡ SessionError.HasTxn) ⊎ (e ≡ SessionError.NoMemory)) }
+        ensures err { OnErr result (self.new ≡ self.old) }
+        ensures answer { IfOk result (λ step. step ≡ Step.Moved self.old.name site) }
+        ensures moved { OnOk result (self.new ≡ moved_to self.old site) }
+        ensures holds { (run : List (Call C.Effect)) → Holds self.old run → Holds self.new run }
+    {
+        match self.stage {
+            Stage::Idle => {}
+            _ => {
+                return Err(SessionError::HasTxn);
+            }
+        }
+        match self.name.copy(self.alloc) {
+            Ok(name) => {
+                self.site = site;
+                return Ok(Step::Moved { name, site });
+            }
+            Err(_) => {
+                return Err(SessionError::NoMemory);
+            }
+        }
+    }
+
+    /// Whether a step of the transaction's end is left.
+    pub fn has_step(&self) -> bool
+        ensures { result ≡ has_step self.now.doing }
+    {
+        match self.stage {
+            Stage::Ending => !self.commit.is_done(),
+            _ => false,
         }
     }
 }
