@@ -1,9 +1,9 @@
 -- Counting the participants.
-use Rattle.std.proofs.Common.{◌≡◌, ⊎_elim, ℕ, zero, suc, ◌+◌, ◌<◌, cond, Bool, true, false, List, [], ◌∷◌, ◌++◌, length, get_or, refl, sym, ap, ◌∙◌, subst, arith, add-one}
+use Rattle.std.proofs.Common.{◌≡◌, ⊎_elim, ℕ, zero, suc, ◌+◌, ◌<◌, cond, Bool, true, false, List, [], ◌∷◌, ◌++◌, length, get_or, set, take, refl, sym, ap, ◌∙◌, subst, arith, add-one}
 use Rattle.std.specs.Prelude.{◌||◌, filter}
 use Rattle.std.specs.List.{list_any}
 use Rattle.std.proofs.lemmas.Bool.{cases_Bool, cond-true, cond-false}
-use Rattle.std.proofs.lemmas.List.{append-nil}
+use Rattle.std.proofs.lemmas.List.{append-nil, take_more_set}
 use Rattle.std.proofs.lemmas.List.Elements.{filter-append}
 use Rattle.std.proofs.lemmas.List.Folds.{list_any_at}
 use Rattle.crdt_core.specs.declared.record.Upd.{Upd}
@@ -41,3 +41,9 @@ module _ {E : Type 0} (parts : ℕ) (us : List (Upd E)) where
 
   pub none_counted : (n : ℕ) → is_some_update (updates_of parts us (n + 1)) ≡ false → counted (n + 1) ≡ counted n
   none_counted n h = more_counted n ∙ (ap (λ b. counted n ++ cond b ((n + 1) ∷ []) []) h ∙ append-nil (counted n))
+
+  pub more_kept : (list next : List ℕ) (count more k : ℕ) → count < length list → take count list ≡ counted k → next ≡ set list count (k + 1) → more ≡ count + 1 → true ≡ is_some_update (updates_of parts us (k + 1)) → take more next ≡ counted (k + 1)
+  more_kept list next count more k low is n m h = (λ i. take (m i) (n i)) ∙ (take_more_set list count (k + 1) low ∙ (ap (λ l. l ++ (k + 1) ∷ []) is ∙ sym (one_counted k (sym h))))
+
+  pub same_kept : (list next : List ℕ) (count more k : ℕ) → take count list ≡ counted k → next ≡ list → more ≡ count → false ≡ is_some_update (updates_of parts us (k + 1)) → take more next ≡ counted (k + 1)
+  same_kept list next count more k is n m h = (λ i. take (m i) (n i)) ∙ (is ∙ sym (none_counted k (sym h)))
