@@ -1,12 +1,12 @@
 -- A call of a session's transaction: others left it alone, and what tells nothing of it leaves what the session holds.
-use Rattle.std.proofs.Common.{◌≡◌, ℕ, Bool, true, false, List, [], ◌∷◌, ◌++◌, refl, sym, ap, ◌∙◌, subst}
+use Rattle.std.proofs.Common.{◌≡◌, ℕ, Bool, true, false, List, ◌∷◌, ◌++◌, sym, ap, ◌∙◌, subst}
 use Rattle.std.specs.Prelude.{Option}
 use Rattle.site_vector.specs.declared.ids.PartId.{PartId}
 use Rattle.site_vector.specs.declared.ids.TxId.{TxId}
 use Rattle.crdt_core.specs.KindsOf.{Kinds}
 use Rattle.world_model.specs.declared.step.Step.{Step}
 use Rattle.world_model.specs.Event.{Ask}
-use Rattle.txn_session.specs.Calls.{Call, entries, called, caller_of, touches, IsLegal, AreOthers, NoneBears, GoesOn, Stays}
+use Rattle.txn_session.specs.Calls.{Call, called, touches, IsLegal, AreOthers, NoneBears, GoesOn, Stays}
 use Rattle.txn_session.specs.Session.{Txn, Doing, Idle, Open, Ending, SessionState}
 use Rattle.txn_session.specs.Holds.{HoldsTxn, HoldsDoing, Holds, HoldsNumber, AreApart, Makes, Waits}
 use Rattle.txn_session.proofs.Frames.{holds_more}
@@ -26,6 +26,7 @@ module _ {S E : Type 0} (kinds : Kinds S E) (numbers : ℕ → Bool) where
     where
       of_txn : (txn : Txn E) → numbers txn.by ≡ true → HoldsTxn s.sites s.parts s.name s.site txn run → AreOthers more txn.tx
       of_txn txn k t = left kinds s.sites s.parts numbers txn.tx run t.begun (ap numbers (sym t.caller) ∙ k) more l n
+
       by_doing : (d : Doing E) → HoldsNumber numbers d → HoldsDoing s.sites s.parts s.name s.site run d → AreApart d more
       by_doing Idle k d = tt
       by_doing (Open txn) k d = of_txn txn k d.0

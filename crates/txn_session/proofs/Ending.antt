@@ -1,6 +1,6 @@
 -- A step of the end of a session's transaction is asked as it may be, and the session holds after it.
-use Rattle.std.proofs.Common.{◌≡◌, ⊎_elim, inl, inr, ℕ, ◌+◌, cond, Bool, true, false, List, [], ◌∷◌, ◌++◌, length, refl, sym, ap, ◌∙◌, subst}
-use Rattle.std.specs.Prelude.{◌⊎◌, not, ◌&&◌, ◌==◌, ◌-◌, Option, Some, None, IfSome}
+use Rattle.std.proofs.Common.{◌≡◌, inl, ℕ, Bool, true, false, List, [], ◌∷◌, ◌++◌, length, refl, sym, ap, ◌∙◌, subst}
+use Rattle.std.specs.Prelude.{not, ◌&&◌, ◌==◌, ◌-◌, Option, Some, None, IfSome}
 use Rattle.std.proofs.lemmas.Bool.{true≢false}
 use Rattle.std.proofs.lemmas.List.{length-set}
 use Rattle.site_vector.specs.declared.ids.PartId.{PartId}
@@ -13,7 +13,7 @@ use Rattle.world_model.specs.declared.commit.What.TheVariants as what
 use Rattle.world_model.specs.declared.commit.Next.TheVariants as next
 use Rattle.world_model.specs.declared.step.Step.{Step}
 use Rattle.world_model.specs.declared.step.Step.TheVariants as step
-use Rattle.world_model.specs.Event.{Ask, AskPrepare, AskDecide, AskFinish, AskAbort, Event, Decided, Refused, Cut, Entry, attempt}
+use Rattle.world_model.specs.Event.{Ask, AskPrepare, AskDecide, AskFinish, AskAbort, Event, Decided, Refused, Cut, attempt}
 use Rattle.world_model.specs.Past.{IsKnownJoin}
 use Rattle.world_model.specs.Plan.{IsPlace}
 use Rattle.world_model.specs.Lines.{step_shown}
@@ -24,10 +24,10 @@ use Rattle.clocksi_commit.specs.Law.{is_nothing}
 use Rattle.txn_session.specs.declared.session.Stage.{Stage}
 use Rattle.txn_session.specs.declared.session.Stage.TheVariants as stage
 use Rattle.txn_session.specs.Calls.{Call, entries, called, IsLegal, IsAllowed, MayCall, GoesOn}
-use Rattle.txn_session.specs.Session.{Txn, Doing, Idle, Open, Ending, SessionState, is_idle, can_abort, updates_of, participants, first_or_zero, place_in, committed_so, ending, giving_up, answered, doing_so, depends}
+use Rattle.txn_session.specs.Session.{Txn, Doing, Idle, Open, Ending, SessionState, is_idle, can_abort, updates_of, participants, first_or_zero, committed_so, ending, giving_up, answered, doing_so, depends}
 use Rattle.txn_session.specs.Fields.{doing_in}
 use Rattle.txn_session.specs.Opens.{told_of, dependency_told, stepped_by, stepped, next_said, begun_end, given_up_end}
-use Rattle.txn_session.specs.Holds.{HoldsTxn, HoldsEnd, HoldsGoing, HoldsDoing, Holds, HoldsNumber, AreApart, Mays, Makes, MakesStep, Waits, has, next_of}
+use Rattle.txn_session.specs.Holds.{HoldsTxn, HoldsEnd, HoldsGoing, HoldsDoing, Holds, HoldsNumber, AreApart, Mays, Makes, MakesStep, Waits, next_of}
 use Rattle.txn_session.proofs.Frames.{known_next, were_more}
 use Rattle.txn_session.proofs.Opening.{length-join}
 use Rattle.txn_session.proofs.Events.{is_done_step, refused_undone, cut_undone}
@@ -380,6 +380,7 @@ module _ {E : Type 0} where
       none_off : (b : Bool) → (b && false) ≡ false
       none_off true = refl
       none_off false = refl
+
       by_doing : (d : Doing E) → HoldsDoing s.sites s.parts s.name s.site run d → HoldsDoing s.sites s.parts s.name s.site run (ending s.site s.parts d)
       by_doing Idle k = tt
       by_doing (Open txn) k = (

@@ -1,6 +1,6 @@
 -- Which event answers a call, by what was asked.
-use Rattle.std.proofs.Common.{◌≡◌, inl, inr, ℕ, Bool, true, false, List, refl, sym, ap, ◌∙◌}
-use Rattle.std.specs.Prelude.{◌⊎◌, Option, Some, None}
+use Rattle.std.proofs.Common.{◌≡◌, ℕ, Bool, true, false, List, refl, ap, ◌∙◌}
+use Rattle.std.specs.Prelude.{Option, Some, None}
 use Rattle.std.proofs.lemmas.Bool.{true≢false}
 use Rattle.site_vector.specs.declared.ids.PartId.{PartId}
 use Rattle.site_vector.specs.declared.ids.TxId.{TxId}
@@ -10,11 +10,10 @@ use Rattle.crdt_core.specs.declared.record.Upd.{Upd}
 use Rattle.crdt_core.specs.declared.record.Part.{Part}
 use Rattle.world_model.specs.declared.step.Step.{Step}
 use Rattle.world_model.specs.declared.step.Step.TheVariants as step
-use Rattle.world_model.specs.Event.{Ask, AskBegin, AskRead, AskUpdate, AskPrepare, AskDecide, AskFinish, AskAbort, Refusal, IsDown, ClockBehind, TxPending, StableBehind, ClockAtEnd, IsGone, HasGap, IsRepeat, IsBadOp, HasNoRoom, IsDamaged, Event, Began, Updated, Read, Prepared, Decided, Finished, Aborted, Refused, Cut, Entry, attempt, is_prepare, is_decide, is_own_abort}
-use Rattle.world_model.specs.World.{is_begin}
+use Rattle.world_model.specs.Event.{Ask, AskBegin, AskRead, AskUpdate, Refusal, IsDown, ClockBehind, TxPending, StableBehind, ClockAtEnd, IsGone, HasGap, IsRepeat, IsBadOp, HasNoRoom, IsDamaged, Event, Began, Updated, Read, Decided, Refused, Cut, Entry, attempt}
 use Rattle.world_model.specs.Lines.{refusal_shown, fault_shown, step_shown}
 use Rattle.world_model.specs.Asking.{asked_by}
-use Rattle.txn_session.specs.Calls.{is_update, touches, effect_made}
+use Rattle.txn_session.specs.Calls.{touches, effect_made}
 
 -- what a call that was done answers
 abbrev pub is_done_step : Step → Bool

@@ -1,26 +1,21 @@
 -- What others do leaves what a session holds.
-use Rattle.std.proofs.Common.{◌≡◌, ⊎_elim, inl, inr, ℕ, ◌+◌, ◌<◌, cond, Bool, true, false, List, [], ◌∷◌, ◌++◌, length, refl, sym, ap, ◌∙◌, subst, arith}
-use Rattle.std.specs.Prelude.{◌||◌, ◌&&◌, if◌then◌else◌, max, Option}
-use Rattle.std.proofs.lemmas.Bool.{or_parts, or_right, cases_Bool, true≢false, cond-false}
+use Rattle.std.proofs.Common.{◌≡◌, ⊎_elim, inl, inr, ℕ, ◌+◌, cond, Bool, true, false, List, [], ◌∷◌, ◌++◌, length, refl, sym, ap, ◌∙◌, arith}
+use Rattle.std.specs.Prelude.{◌||◌, ◌&&◌, max}
+use Rattle.std.proofs.lemmas.Bool.{or_parts, or_right, cond-false}
 use Rattle.std.proofs.lemmas.List.{append-nil}
 use Rattle.site_vector.specs.declared.ids.PartId.{PartId}
 use Rattle.site_vector.specs.declared.ids.TxId.{TxId}
-use Rattle.site_vector.specs.Ids.{same_part, same_tx}
-use Rattle.site_vector.specs.Order.{same_tx_is, same_tx_refl}
+use Rattle.site_vector.specs.Ids.{same_part}
 use Rattle.crdt_core.specs.declared.record.Upd.{Upd}
-use Rattle.crdt_core.specs.KindsOf.{Kinds}
-use Rattle.world_model.specs.Event.{Event, Began, Updated, Prepared, Decided, Restarted, Cut, Entry, attempt, is_prepare, is_decide, shows_decided, is_own_abort, tried, voted, decide_tried, gave_up, is_decided, time_shown, time_of, WasShown}
-use Rattle.world_model.specs.Past.{WasVector, WereVectors, IsKnownJoin}
+use Rattle.world_model.specs.Event.{Event, Began, Updated, Prepared, Entry, attempt, is_prepare, is_decide, tried, voted, decide_tried, gave_up, is_decided, time_shown, time_of, WasShown}
+use Rattle.world_model.specs.Past.{WereVectors, IsKnownJoin}
 use Rattle.world_model.specs.Plan.{home, change_by, updates_at, update_count}
-use Rattle.world_model.specs.Premises.{is_told_of}
-use Rattle.world_model.specs.World.{is_begin, begin_vector, begun, snapshot_of, IsWorldRun}
+use Rattle.world_model.specs.World.{is_begin, begin_vector, begun, snapshot_of}
 use Rattle.world_model.specs.Lines.{session_after, session_of}
 use Rattle.world_model.specs.CommitSteps.{Going, Preparing, Finishing, Aborting}
-use Rattle.world_model.proofs.Names.{off, clash}
-use Rattle.world_model.proofs.Premises.{premises}
-use Rattle.txn_session.specs.Calls.{Call, entries, caller_of, is_update, touches, IsLegal, AreOthers, NoneBears}
+use Rattle.txn_session.specs.Calls.{Call, entries, caller_of, is_update, touches, AreOthers}
 use Rattle.txn_session.specs.Session.{Txn, Doing, Idle, Open, Ending, SessionState}
-use Rattle.txn_session.specs.Holds.{HoldsTxn, IsUntried, IsAsking, IsFinishing, IsAborting, HoldsGoing, HoldsEnd, HoldsDoing, Holds, AreApart}
+use Rattle.txn_session.specs.Holds.{HoldsTxn, IsUntried, HoldsGoing, HoldsDoing, Holds, AreApart}
 
 and_none : (a b : Bool) → b ≡ false → (a && b) ≡ false
 and_none true b h = h

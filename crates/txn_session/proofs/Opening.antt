@@ -1,36 +1,34 @@
 -- A transaction that just began has done nothing.
-use Rattle.std.proofs.Common.{◌≡◌, ⊎_elim, inl, inr, ℕ, ◌+◌, ◌<◌, ◌≤◌, cond, Bool, true, false, List, [], ◌∷◌, ◌++◌, length, refl, sym, ap, ◌∙◌, subst, arith}
-use Rattle.std.specs.Prelude.{◌||◌, ◌&&◌, ◌==◌, if◌then◌else◌, max, Option, Some, None, replicate}
+use Rattle.std.proofs.Common.{◌≡◌, inl, ℕ, cond, Bool, true, false, List, [], ◌∷◌, ◌++◌, length, refl, sym, ap, ◌∙◌, subst, arith}
+use Rattle.std.specs.Prelude.{◌||◌, ◌&&◌, ◌==◌, Some, None, replicate}
 use Rattle.std.proofs.lemmas.Bool.{or_left, cond-true}
-use Rattle.std.proofs.lemmas.List.{append-nil, length-replicate}
+use Rattle.std.proofs.lemmas.List.{length-replicate}
 use Rattle.site_vector.specs.declared.ids.PartId.{PartId}
 use Rattle.site_vector.specs.declared.ids.TxId.{TxId}
-use Rattle.site_vector.specs.Ids.{same_part, same_tx}
+use Rattle.site_vector.specs.Ids.{same_part}
 use Rattle.site_vector.specs.Order.{same_tx_refl}
 use Rattle.site_vector.specs.Vector.{join}
 use Rattle.crdt_core.specs.declared.record.Upd.{Upd}
 use Rattle.crdt_core.specs.KindsOf.{Kinds}
 use Rattle.world_model.specs.declared.step.Step.{Step}
 use Rattle.world_model.specs.declared.step.Step.TheVariants as step
-use Rattle.world_model.specs.Event.{Ask, AskBegin, Event, Began, Entry, attempt, tried, voted, decide_tried, gave_up, time_of}
-use Rattle.world_model.specs.Partition.{PartState, IsBegin, PartStep}
+use Rattle.world_model.specs.Event.{AskBegin, Began, tried, voted}
+use Rattle.world_model.specs.Partition.{IsBegin}
 use Rattle.world_model.specs.Past.{ShowsVector, IsKnownJoin}
-use Rattle.world_model.specs.Plan.{IsPlace, home, updates_at, update_count}
-use Rattle.world_model.specs.World.{is_begin, begin_vector, begun, snapshot_of}
-use Rattle.world_model.specs.Lines.{session_of, step_shown}
-use Rattle.world_model.specs.Asking as asking
-use Rattle.world_model.specs.Asking.{asked_by}
-use Rattle.txn_session.specs.Calls.{Call, entries, called, caller_of, touches, IsLegal, IsAllowed, MayCall, GoesOn, Stays}
-use Rattle.txn_session.specs.Session.{Txn, Doing, Idle, Open, Ending, SessionState, is_idle, doing_so, depends, updates_of, place_in}
+use Rattle.world_model.specs.Plan.{IsPlace, home}
+use Rattle.world_model.specs.World.{snapshot_of}
+use Rattle.world_model.specs.Lines.{session_of}
+use Rattle.txn_session.specs.Calls.{Call, entries, called, caller_of, IsLegal, IsAllowed, GoesOn, Stays}
+use Rattle.txn_session.specs.Session.{Txn, Idle, Open, SessionState, doing_so, depends}
 use Rattle.clocksi_commit.specs.Commit.{Committing}
 use Rattle.txn_session.specs.declared.session.Stage.{Stage}
 use Rattle.txn_session.specs.declared.session.Stage.TheVariants as stage
 use Rattle.txn_session.specs.Fields.{doing_in}
 use Rattle.txn_session.specs.Opens.{IsOpened}
 use Rattle.txn_session.specs.Holds.{HoldsTxn, IsUntried, HoldsDoing, Holds, HoldsNumber, AreApart, Mays, Makes, Waits, changed_at}
-use Rattle.txn_session.proofs.Frames.{Same, quiet, were_more, known_next, known_more, holds_more, doing_more}
-use Rattle.txn_session.proofs.Owning.{IsUntold, untold, legal_tail, begins_new}
-use Rattle.txn_session.proofs.Events.{is_done_step, began_is, begin_quiet}
+use Rattle.txn_session.proofs.Frames.{were_more, known_next, known_more}
+use Rattle.txn_session.proofs.Owning.{IsUntold, untold, begins_new}
+use Rattle.txn_session.proofs.Events.{began_is}
 
 -- joins of vectors of one width
 pub length-join : (u v : List ℕ) → length u ≡ length v → length (join u v) ≡ length u
@@ -93,11 +91,14 @@ module _ {E : Type 0} where
         no_more : (b : Bool) → cond {A = List (Upd E)} b [] [] ≡ []
         no_more true = refl
         no_more false = refl
+
         and_off : (b : Bool) → (b && false) ≡ false
         and_off true = refl
         and_off false = refl
+
         u_tries : IsUntold (entries run) t → (p : PartId) → ((same_part at p && false) || tried (entries run) t p) ≡ false
         u_tries u p = (λ i. and_off (same_part at p) i || u.tries p i)
+
         u_votes : IsUntold (entries run) t → (p : PartId) → ((same_part at p && false) || voted (entries run) t p) ≡ false
         u_votes u p = (λ i. and_off (same_part at p) i || u.votes p i)
 
@@ -159,8 +160,8 @@ module _ {E : Type 0} where
       }
 
   module _ {S T P : Type 0} (kinds : Kinds S E) (sees : T → P → List (Call E) → Type 0) (numbers : P → ℕ → Bool) (sites_of parts_of : T → ℕ) (stays : T → T → Type 0)
-    (legal : (st : T) (p : P) (r : List (Call E)) → sees st p r → IsLegal kinds (sites_of st) (parts_of st) r) (keeps : (a b : T) → stays a b → (sites_of b ≡ sites_of a) × (parts_of b ≡ parts_of a))
-    (before store : T) (stayed : stays before store) (given pass : P) (u old : SessionState E) (v : u ≡ old) (es : sites_of before ≡ old.sites) (ep : parts_of before ≡ old.parts) where
+      (legal : (st : T) (p : P) (r : List (Call E)) → sees st p r → IsLegal kinds (sites_of st) (parts_of st) r) (keeps : (a b : T) → stays a b → (sites_of b ≡ sites_of a) × (parts_of b ≡ parts_of a))
+      (before store : T) (stayed : stays before store) (given pass : P) (u old : SessionState E) (v : u ≡ old) (es : sites_of before ≡ old.sites) (ep : parts_of before ≡ old.parts) where
     -- what a pass has seen of the store is legal after the call too
     pub legal_now : (r : List (Call E)) → sees store pass r → IsLegal kinds old.sites old.parts r
     legal_now r seen =

@@ -1,24 +1,21 @@
 -- Who holds a transaction's number alone acts for it, and a new id is told of nowhere.
-use Rattle.std.proofs.Common.{◌≡◌, ⊎_elim, inl, inr, ℕ, ◌+◌, ◌<◌, ◌≤◌, cond, Bool, true, false, List, [], ◌∷◌, ◌++◌, length, refl, sym, ap, ◌∙◌, subst, arith}
-use Rattle.std.specs.Prelude.{◌||◌, ◌&&◌, if◌then◌else◌, max}
-use Rattle.std.proofs.lemmas.Bool.{or_parts, cases_Bool, true≢false, cond-false, false_from_ne_true}
-use Rattle.std.proofs.lemmas.List.{append-nil}
+use Rattle.std.proofs.Common.{◌≡◌, ⊎_elim, ℕ, ◌+◌, cond, Bool, true, false, List, [], ◌∷◌, ◌++◌, length, refl, sym, ap, ◌∙◌, subst, arith}
+use Rattle.std.specs.Prelude.{◌||◌, ◌&&◌, max}
+use Rattle.std.proofs.lemmas.Bool.{or_parts, true≢false, cond-false, false_from_ne_true}
 use Rattle.site_vector.specs.declared.ids.PartId.{PartId}
 use Rattle.site_vector.specs.declared.ids.TxId.{TxId}
 use Rattle.site_vector.specs.Ids.{same_part, same_tx}
-use Rattle.site_vector.specs.Order.{same_tx_is, same_tx_refl}
+use Rattle.site_vector.specs.Order.{same_tx_is}
 use Rattle.crdt_core.specs.KindsOf.{Kinds}
 use Rattle.world_model.specs.Event.{Event, Began, Updated, Prepared, Decided, Aborted, Cut, Entry, attempt, is_prepare, is_decide, is_own_abort, tried, voted, decide_tried, gave_up, time_of, time_shown}
-use Rattle.world_model.specs.Partition.{PartState, IsBegin, PartStep}
+use Rattle.world_model.specs.Partition.{PartState, PartStep}
 use Rattle.world_model.specs.Plan.{home, change_by, updates_at, update_count}
 use Rattle.world_model.specs.Premises.{names, is_told_of}
 use Rattle.world_model.specs.World.{is_begin, begun, IsWorldRun}
-use Rattle.world_model.specs.Lines.{session_of}
-use Rattle.world_model.proofs.Names.{off, clash}
+use Rattle.world_model.proofs.Names.{off}
 use Rattle.world_model.proofs.Premises.{premises}
-use Rattle.txn_session.specs.Calls.{Call, entries, caller_of, is_update, touches, AreOwned, IsOwned, IsLegal, AreOthers, NoneBears}
-use Rattle.txn_session.specs.Holds.{IsUntried}
-use Rattle.txn_session.proofs.Frames.{Same, same_more}
+use Rattle.txn_session.specs.Calls.{Call, entries, caller_of, touches, IsLegal, AreOthers, NoneBears}
+use Rattle.txn_session.proofs.Frames.{same_more}
 
 and_left : (a b : Bool) → a ≡ false → (a && b) ≡ false
 and_left a b h = ap (λ x. x && b) h
@@ -113,9 +110,9 @@ module _ {E : Type 0} where
           let k = left more tail n.1 in
           let s = same_more more run t k in (
             false_from_ne_true (touches c.entry.event t) (λ h.
-            ⊎_elim
-            (λ (x : is_begin c.entry.event t ≡ true). true≢false (sym (s.txn.begun ∙ b) ∙ (untold (entries (more ++ run)) t (begins_new c (more ++ run) t l x)).begun))
-            (λ (x : c.by ≡ caller_of (more ++ run) t). true≢false (sym held ∙ (ap numbers (sym (x ∙ s.txn.caller)) ∙ n.0)))
-            (l.owned.1 t h)),
+                ⊎_elim
+                (λ (x : is_begin c.entry.event t ≡ true). true≢false (sym (s.txn.begun ∙ b) ∙ (untold (entries (more ++ run)) t (begins_new c (more ++ run) t l x)).begun))
+                (λ (x : c.by ≡ caller_of (more ++ run) t). true≢false (sym held ∙ (ap numbers (sym (x ∙ s.txn.caller)) ∙ n.0)))
+                (l.owned.1 t h)),
             k,
           )

@@ -1,18 +1,15 @@
 -- The participants of a transaction, as its session counts them and as the world does.
-use Rattle.std.proofs.Common.{◌≡◌, ⊎_elim, inl, inr, ℕ, zero, suc, ◌+◌, ◌<◌, ◌≤◌, cond, Bool, true, false, List, [], ◌∷◌, ◌++◌, length, refl, sym, ap, ◌∙◌, subst, arith}
-use Rattle.std.specs.Prelude.{◌||◌, ◌&&◌, ◌==◌, if◌then◌else◌, filter, map, leb, ⊤}
+use Rattle.std.proofs.Common.{◌≡◌, ⊎_elim, ℕ, zero, suc, ◌+◌, ◌<◌, ◌≤◌, cond, Bool, true, false, List, [], ◌∷◌, ◌++◌, length, refl, sym, ap, ◌∙◌, subst, arith}
+use Rattle.std.specs.Prelude.{◌||◌, ◌&&◌, ◌==◌, filter, map, ⊤}
 use Rattle.std.proofs.lemmas.Bool.{cases_Bool, cond-true, cond-false, eq-eqb, eqb-true, or_left, or_right, or_cases, and_from, true≢false, ne_eqb, le-leb}
-use Rattle.std.proofs.lemmas.List.{append-nil}
 use Rattle.std.proofs.lemmas.List.Folds.{list_any-append}
-use Rattle.std.specs.List.{list_any}
 use Rattle.site_vector.specs.declared.ids.PartId.{PartId}
-use Rattle.site_vector.specs.declared.ids.TxId.{TxId}
 use Rattle.crdt_core.specs.declared.record.Upd.{Upd}
 use Rattle.world_model.specs.Participants.{partitions}
 use Rattle.world_model.specs.Plan.{first_of, is_some_update, home, updates_at}
 use Rattle.world_model.specs.World.{snapshot_of, is_own, changes_of, participants_of, lead_of}
 use Rattle.txn_session.specs.Calls.{Call, entries}
-use Rattle.txn_session.specs.Session.{Txn, SessionState, updates_of, stands_at, numbers_from, participants, first_or_zero}
+use Rattle.txn_session.specs.Session.{Txn, updates_of, stands_at, numbers_from, participants}
 use Rattle.txn_session.specs.Holds.{HoldsTxn, changed_at, has, has_place}
 use Rattle.txn_session.proofs.Updating.{place_within}
 

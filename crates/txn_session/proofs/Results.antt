@@ -1,5 +1,5 @@
 -- What is said of a result, once its variant is known.
-use Rattle.std.proofs.Common.{◌≡◌, ℕ, subst, sym}
+use Rattle.std.proofs.Common.{◌≡◌, subst}
 use Rattle.std.specs.Prelude.{Result, Ok, Err, IfOk, IfErr, OnErr}
 
 module _ {A B : Type 0} where

@@ -1,27 +1,25 @@
 -- The steps of a commit ask what the world allows, and leave what the session holds.
-use Rattle.std.proofs.Common.{◌≡◌, ◌≢◌, ⊎_elim, inl, inr, ℕ, ◌+◌, ◌<◌, ◌≤◌, max, cond, Bool, true, false, List, [], ◌∷◌, ◌++◌, length, refl, sym, ap, ◌∙◌, subst, arith}
-use Rattle.std.specs.Prelude.{◌⊎◌, ◌||◌, ◌&&◌, ◌==◌, if◌then◌else◌, Option, Some, None}
+use Rattle.std.proofs.Common.{◌≡◌, ◌≢◌, ⊎_elim, inl, inr, ℕ, ◌≤◌, max, Bool, true, false, List, [], ◌∷◌, ◌++◌, refl, sym, ap, ◌∙◌, subst, arith}
+use Rattle.std.specs.Prelude.{◌||◌, ◌&&◌, ◌==◌, Some, None}
 use Rattle.std.proofs.lemmas.Bool.{cond-true, eq-eqb, or_left, or_right, and_from, true≢false}
 use Rattle.std.proofs.lemmas.List.{append-nil, append_assoc}
-use Rattle.std.proofs.Math.Bool.{or-false, or_comm}
+use Rattle.std.proofs.Math.Bool.{or-false}
 use Rattle.site_vector.specs.declared.ids.PartId.{PartId}
 use Rattle.site_vector.specs.declared.ids.TxId.{TxId}
 use Rattle.site_vector.specs.Ids.{same_part, same_tx}
 use Rattle.site_vector.specs.Order.{same_tx_refl}
 use Rattle.site_vector.specs.Vector.{replaced}
 use Rattle.crdt_core.specs.declared.record.Upd.{Upd}
-use Rattle.world_model.specs.declared.step.Step.{Step}
-use Rattle.world_model.specs.declared.step.Step.TheVariants as step
-use Rattle.world_model.specs.Event.{Ask, AskPrepare, AskDecide, AskFinish, AskAbort, Refusal, IsDown, IsGone, Event, Began, Updated, Prepared, Decided, Finished, Aborted, Refused, Cut, Entry, attempt, is_prepare, is_decide, tried, voted, decide_tried, gave_up, is_decided, time_of}
-use Rattle.world_model.specs.Plan.{IsPlace, first_of, is_some_update, home, IsSession, MayPrepare, MayDecide, MayFinish, commit_vector}
-use Rattle.world_model.specs.World.{is_begin, snapshot_of, changes_of, lead_of, plan_of}
+use Rattle.world_model.specs.Event.{Ask, AskPrepare, AskDecide, AskFinish, AskAbort, IsDown, IsGone, Event, Began, Updated, Prepared, Decided, Finished, Aborted, Refused, Cut, attempt, tried, voted, decide_tried, time_of}
+use Rattle.world_model.specs.Plan.{IsPlace, commit_vector}
+use Rattle.world_model.specs.World.{is_begin, lead_of, plan_of}
 use Rattle.world_model.specs.Lines.{step_shown}
 use Rattle.world_model.specs.Asking.{asked_by}
-use Rattle.world_model.specs.CommitSteps.{Going, Preparing, Finishing, Aborting, given_up, after}
-use Rattle.txn_session.specs.Calls.{Call, entries, called, is_update, touches, IsAllowed}
-use Rattle.txn_session.specs.Session.{Txn, SessionState, updates_of, participants, first_or_zero}
+use Rattle.world_model.specs.CommitSteps.{Preparing, Finishing, after}
+use Rattle.txn_session.specs.Calls.{Call, entries, called, is_update, IsAllowed}
+use Rattle.txn_session.specs.Session.{Txn, updates_of, participants, first_or_zero}
 use Rattle.txn_session.specs.Holds.{HoldsTxn, IsAsking, IsFinishing, IsAborting, HoldsGoing, has, has_place}
-use Rattle.txn_session.proofs.Frames.{Same, SameTxn, near, quiet, decided_next, txn_same, going_same}
+use Rattle.txn_session.proofs.Frames.{near, quiet, txn_same, going_same}
 use Rattle.txn_session.proofs.Participants.{has_append, has_first, has_there, apart_of, Ascend, ascend_participants, participant_within, at_site, lead_is, takes_at, changes_at_is, takes_place}
 
 and_true : (a b : Bool) → a ≡ true → b ≡ true → (a && b) ≡ true
@@ -142,7 +140,6 @@ module _ {E : Type 0} where
         swap true false c = sym (or-false c)
 
     module _ (by : ℕ) (p : ℕ) where
-
       pub prepare_step : (e : Event E) (s : List ℕ) (l : ℕ) (w : List (Upd E)) (done left : List ℕ) (n : ℕ) → asked_by (attempt e) ≡ AskPrepare t s l w → IsAsking site ps t run done (p ∷ left) n → HoldsGoing site ps t (called by (at_site site p) e ∷ run) (after (Preparing done (p ∷ left) n) (step_shown (entries run) (at_site site p) e)).0
       prepare_step (Prepared u v k x m) s l w done left n a h =
           let is : u ≡ t = cc in

@@ -1,12 +1,11 @@
 -- An update of a transaction stands among its updates.
-use Rattle.std.proofs.Common.{◌≡◌, ⊎_elim, inl, inr, ℕ, ◌+◌, ◌<◌, ◌≤◌, cond, Bool, true, false, List, [], ◌∷◌, ◌++◌, length, refl, sym, ap, ◌∙◌, subst, arith}
-use Rattle.std.specs.Prelude.{◌||◌, ◌&&◌, ◌==◌, if◌then◌else◌, filter, Option, Some, None}
-use Rattle.std.proofs.lemmas.Bool.{cases_Bool, cond-true, cond-false, eq-eqb, or_left}
-use Rattle.std.proofs.lemmas.List.{append-nil, length-append}
+use Rattle.std.proofs.Common.{◌≡◌, ⊎_elim, inr, ℕ, ◌+◌, ◌≤◌, cond, Bool, true, false, List, [], ◌∷◌, ◌++◌, length, refl, sym, ap, ◌∙◌, subst, arith}
+use Rattle.std.specs.Prelude.{◌||◌, ◌&&◌, ◌==◌, Option, Some, None}
+use Rattle.std.proofs.lemmas.Bool.{cases_Bool, cond-true, cond-false, eq-eqb}
+use Rattle.std.proofs.lemmas.List.{length-append}
 use Rattle.std.proofs.lemmas.List.Elements.{filter-append}
 use Rattle.site_vector.specs.declared.ids.PartId.{PartId}
-use Rattle.site_vector.specs.declared.ids.TxId.{TxId}
-use Rattle.site_vector.specs.Ids.{same_part, same_tx}
+use Rattle.site_vector.specs.Ids.{same_part}
 use Rattle.site_vector.specs.Order.{same_tx_refl}
 use Rattle.crdt_core.specs.declared.kind.Kind.{Kind}
 use Rattle.crdt_core.specs.declared.object.Field.{Field}
@@ -16,22 +15,20 @@ use Rattle.crdt_core.specs.declared.record.Upd.{Upd}
 use Rattle.crdt_core.specs.declared.record.Part.{Part}
 use Rattle.crdt_core.specs.KindsOf.{Kinds}
 use Rattle.crdt_core.specs.Objects.{same_object, same_object-true}
-use Rattle.crdt_core.specs.Placing.{hashed, place_of}
+use Rattle.crdt_core.specs.Placing.{place_of}
 use Rattle.world_model.specs.declared.step.Step.{Step}
 use Rattle.world_model.specs.declared.step.Step.TheVariants as step
-use Rattle.world_model.specs.Event.{Ask, AskRead, AskUpdate, Event, Updated, Entry, attempt, tried, voted}
-use Rattle.world_model.specs.Partition.{IsUpdate}
-use Rattle.world_model.specs.Plan.{IsPlace, home, updates_at, update_count}
+use Rattle.world_model.specs.Event.{Ask, AskRead, AskUpdate, Updated}
+use Rattle.world_model.specs.Plan.{IsPlace, updates_at, update_count}
 use Rattle.world_model.specs.Lines.{session_of, step_shown}
-use Rattle.txn_session.specs.declared.error.SessionError.{SessionError}
-use Rattle.txn_session.specs.Calls.{Call, entries, called, caller_of, touches, IsLegal, IsAllowed, MayCall, GoesOn, Changes, effect_made}
-use Rattle.txn_session.specs.Session.{Txn, Doing, Idle, Open, Ending, SessionState, doing_so, own_updates, updates_of, stands_at, place_in}
+use Rattle.txn_session.specs.Calls.{Call, entries, called, IsLegal, IsAllowed, MayCall, GoesOn, Changes}
+use Rattle.txn_session.specs.Session.{Txn, Open, SessionState, doing_so, own_updates, updates_of, stands_at, place_in}
 use Rattle.clocksi_commit.specs.Commit.{Committing}
 use Rattle.txn_session.specs.declared.session.Stage.{Stage}
 use Rattle.txn_session.specs.declared.session.Stage.TheVariants as stage
 use Rattle.txn_session.specs.Fields.{doing_in}
 use Rattle.txn_session.specs.Opens.{with_update, updated, IsUpdated, update_refusal}
-use Rattle.txn_session.specs.Holds.{HoldsTxn, IsUntried, HoldsDoing, Holds, HoldsNumber, Mays, Makes, MakesUpdate, MakesRead, changed_at}
+use Rattle.txn_session.specs.Holds.{HoldsTxn, IsUntried, HoldsDoing, Holds, HoldsNumber, Mays, MakesUpdate, MakesRead, changed_at}
 use Rattle.txn_session.proofs.Frames.{known_next}
 use Rattle.txn_session.proofs.Events.{is_done_step, update_made, update_quiet, none_undone, read_quiet}
 use Rattle.txn_session.proofs.Acting.{goes_apart, goes_holds, quiet_makes}
@@ -101,7 +98,7 @@ module _ {E : Type 0} where
   module _ {S : Type 0} (kinds : Kinds S E) (s : SessionState E) (txn : Txn E) (run : List (Call E)) (h : HoldsTxn s.sites s.parts s.name s.site txn run) (u : IsUntried txn.tx run) where
     -- after an update
     pub updated_holds : (by : ℕ) (o : ObjectId) (own : List (Upd E)) (op : Op) (read : List (Part E)) (x : Upd E) (stamp : Option ℕ) (effect : E) → x.effect ≡ effect → IsLegal kinds s.sites s.parts (called by (place_in s (place_of o.bucket o.key s.parts)) (Updated txn.tx txn.s o own op read x stamp) ∷ run) →
-      HoldsDoing s.sites s.parts s.name s.site (called by (place_in s (place_of o.bucket o.key s.parts)) (Updated txn.tx txn.s o own op read x stamp) ∷ run) (Open (with_update txn o effect))
+        HoldsDoing s.sites s.parts s.name s.site (called by (place_in s (place_of o.bucket o.key s.parts)) (Updated txn.tx txn.s o own op read x stamp) ∷ run) (Open (with_update txn o effect))
     updated_holds by o own op read x stamp effect e l =
         let at = place_in s (place_of o.bucket o.key s.parts) in
         let object : x.object ≡ o = l.is_run.2.step.1.object in
@@ -175,8 +172,8 @@ module _ {S E T P : Type 0} (kinds : Kinds S E) (sees : T → P → List (Call E
         subst (λ (w : PartId × List (Upd E)). MayCall sees numbers (sites_of before) (parts_of before) before given (Some txn.by) w.0 (AskRead txn.tx txn.s o w.1)) (sym asked_at) good
 
     pub read_makes : (who : List ℕ) → who ≡ s.name → ((r : List (Call E)) → sees store pass r → IsLegal kinds s.sites s.parts r) → HoldsNumber (numbers pass) s.doing → (answer : Step) →
-      ((run : List (Call E)) → sees before given run → IsAllowed (sites_of before) (parts_of before) run (Some txn.by) (record { site = site; part = part }) (AskRead txn.tx txn.s o own) → who ≡ session_of (entries run) txn.tx → GoesOn sees numbers store pass run (Some txn.by) (record { site = site; part = part }) (AskRead txn.tx txn.s o own) answer) →
-      (run : List (Call E)) → sees before given run → Holds s run → MakesRead sees numbers store pass run s s o answer s.doing
+        ((run : List (Call E)) → sees before given run → IsAllowed (sites_of before) (parts_of before) run (Some txn.by) (record { site = site; part = part }) (AskRead txn.tx txn.s o own) → who ≡ session_of (entries run) txn.tx → GoesOn sees numbers store pass run (Some txn.by) (record { site = site; part = part }) (AskRead txn.tx txn.s o own) answer) →
+        (run : List (Call E)) → sees before given run → Holds s run → MakesRead sees numbers store pass run s s o answer s.doing
     unfolding here
     read_makes who ew legal held answer f run seen h =
         let t = txn_of run h in
@@ -203,7 +200,7 @@ module _ {S E T P : Type 0} (kinds : Kinds S E) (sees : T → P → List (Call E
           subst (λ (w : PartId × List (Upd E)). MayCall sees numbers (sites_of before) (parts_of before) before given (Some txn.by) w.0 (AskUpdate txn.tx txn.s o w.1 op)) (sym asked_at) good
 
       module _ (who : List ℕ) (index : ℕ) (ew : who ≡ s.name) (ei : index ≡ length txn.updates + 1) (legal : (r : List (Call E)) → sees store pass r → IsLegal kinds s.sites s.parts r) (held : HoldsNumber (numbers pass) s.doing) (answer : Step) (made : Option E)
-        (f : (run : List (Call E)) → sees before given run → IsAllowed (sites_of before) (parts_of before) run (Some txn.by) (record { site = site; part = part }) (AskUpdate txn.tx txn.s o own op) → who ≡ session_of (entries run) txn.tx → index ≡ update_count (entries run) txn.tx + 1 → Changes sees numbers store pass run txn.by (record { site = site; part = part }) (AskUpdate txn.tx txn.s o own op) answer made) where
+          (f : (run : List (Call E)) → sees before given run → IsAllowed (sites_of before) (parts_of before) run (Some txn.by) (record { site = site; part = part }) (AskUpdate txn.tx txn.s o own op) → who ≡ session_of (entries run) txn.tx → index ≡ update_count (entries run) txn.tx + 1 → Changes sees numbers store pass run txn.by (record { site = site; part = part }) (AskUpdate txn.tx txn.s o own op) answer made) where
         changes : (run : List (Call E)) → sees before given run → Holds s run → Changes sees numbers store pass run txn.by here (AskUpdate txn.tx txn.s o (own_updates txn.updates o) op) answer made
         unfolding here
         changes run seen h =

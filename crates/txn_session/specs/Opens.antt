@@ -1,5 +1,5 @@
 -- What the calls of a session make of it, by their answers, and when they are refused.
-use Rattle.std.specs.Prelude.{◌≡◌, ℕ, ◌+◌, nat_lt, Bool, true, false, List, [], ◌∷◌, ◌++◌, length, Option, None, Some, if◌then◌else◌, ⊤}
+use Rattle.std.specs.Prelude.{◌≡◌, ℕ, ◌+◌, nat_lt, Bool, List, [], ◌∷◌, ◌++◌, length, Option, None, Some, if◌then◌else◌, ⊤}
 use Rattle.site_vector.specs.Vector.{join}
 use Rattle.crdt_core.specs.declared.kind.Kind.{Kind}
 use Rattle.crdt_core.specs.declared.object.Field.{Field}
@@ -32,6 +32,7 @@ dependency_told dep other answer = dep
 abbrev pub EndsAs : List ℕ → What → Step → Type 0
 EndsAs name what.Done answer = answer ≡ step.Ended name
 EndsAs name other answer = ⊤
+
 module _ {E : Type 0} where
   -- it is open and depends on its snapshot if the transaction began; else it is as before
   abbrev pub IsOpened : SessionState E → Step → SessionState E → Type 0

@@ -1,17 +1,14 @@
 -- A session as contracts see it.
-use Rattle.std.specs.Prelude.{ℕ, zero, suc, ◌+◌, Bool, true, false, not, ◌==◌, List, [], ◌∷◌, ◌++◌, length, filter}
+use Rattle.std.specs.Prelude.{ℕ, zero, suc, ◌+◌, Bool, true, false, not, ◌==◌, List, [], ◌∷◌, filter}
 use Rattle.site_vector.specs.declared.ids.PartId.{PartId}
 use Rattle.site_vector.specs.declared.ids.TxId.{TxId}
-use Rattle.site_vector.specs.Vector.{join}
 use Rattle.crdt_core.specs.declared.object.ObjectId.{ObjectId}
-use Rattle.crdt_core.specs.declared.operation.Op.{Op}
 use Rattle.crdt_core.specs.declared.record.Upd.{Upd}
 use Rattle.crdt_core.specs.Objects.{same_object}
 use Rattle.crdt_core.specs.Placing.{place_of}
 use Rattle.world_model.specs.declared.step.Step.{Step}
-use Rattle.world_model.specs.declared.step.Step.TheVariants as step
 use Rattle.world_model.specs.Plan.{is_some_update}
-use Rattle.world_model.specs.CommitSteps.{Going, Preparing, Finishing, Aborting, starting, given_up, is_done, after}
+use Rattle.world_model.specs.CommitSteps.{Going, Finishing, starting, given_up, is_done, after}
 use Rattle.clocksi_commit.specs.Commit.{Committing, is_finishing}
 use Rattle.txn_session.specs.declared.phase.Phase.{Phase}
 use Rattle.txn_session.specs.declared.phase.Phase.TheVariants as phase

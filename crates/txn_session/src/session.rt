@@ -465,7 +465,15 @@ impl<C: Crdt> Session<C> {
             site: self.site,
             part,
         };
-        let (pass, answer) = store.prepare(pass, at, self.by, self.tx, &self.s, self.lead, updates.as_slice());
+        let (pass, answer) = store.prepare(
+            pass,
+            at,
+            self.by,
+            self.tx,
+            &self.s,
+            self.lead,
+            updates.as_slice(),
+        );
         match answer {
             Ok(step) => {
                 let next = self.commit.answer(&step);

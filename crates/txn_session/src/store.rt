@@ -173,7 +173,10 @@ pub trait Store<C: Crdt> {
         at: PartId,
         to: u8,
         from: Option<u64>,
-    ) -> (Self::Pass, Result<(Step, Option<Message<C::Effect>>), AllocError>)
+    ) -> (
+        Self::Pass,
+        Result<(Step, Option<Message<C::Effect>>), AllocError>,
+    )
         requires other { IsOther (sites self.old) at.site to }
         requires may { MayCall {E = C.Effect} sees numbers (sites self.old) (parts self.old) self.old pass None at (AskMessage to from) }
         ensures stays { stays self.old self.new }
@@ -196,11 +199,7 @@ pub trait Store<C: Crdt> {
         ensures err { IfErr result.1 (λ e. (run : List (Call C.Effect)) → sees self.old pass run → Stays sees numbers self.new result.0 run) };
 
     /// Asks for the bounds of a partition.
-    fn report(
-        &mut self,
-        pass: Self::Pass,
-        at: PartId,
-    ) -> (Self::Pass, Result<Step, AllocError>)
+    fn report(&mut self, pass: Self::Pass, at: PartId) -> (Self::Pass, Result<Step, AllocError>)
         requires may { MayCall {E = C.Effect} sees numbers (sites self.old) (parts self.old) self.old pass None at AskReport }
         ensures stays { stays self.old self.new }
         ensures same { (n : ℕ) → numbers result.0 n ≡ numbers pass n }

@@ -1,7 +1,7 @@
 use Rattle.std.proofs.Common.{Some, ◌≡◌, refl, sym, ap, ◌∙◌, subst}
 use Rattle.world_model.specs.declared.commit.What.TheVariants as what
 use Rattle.world_model.specs.Event.{AskAbort}
-use Rattle.txn_session.specs.Session.{SessionState, Txn, updates_of}
+use Rattle.txn_session.specs.Session.{SessionState, Txn}
 use Rattle.txn_session.specs.Opens.{EndsAs}
 use Rattle.txn_session.specs.Holds.{MakesStep, next_of}
 use Rattle.txn_session.proofs.Results.{if_ok, if_err}

@@ -1,10 +1,9 @@
-use Rattle.std.proofs.Common.{◌≡◌, ◌⊎◌, inl, inr, List, refl, sym, ap, ◌∙◌, subst}
-use Rattle.txn_session.specs.Calls.{Call}
-use Rattle.txn_session.specs.Session.{SessionState, Txn, doing_so}
-use Rattle.txn_session.specs.Opens.{stepped, next_said, EndsAs}
+use Rattle.std.proofs.Common.{◌≡◌, inr, sym, ap, ◌∙◌, subst}
+use Rattle.txn_session.specs.Session.{SessionState}
+use Rattle.txn_session.specs.Opens.{stepped, EndsAs}
 use Rattle.txn_session.specs.Holds.{Holds, MakesStep, Waits, next_of}
 use Rattle.txn_session.proofs.Results.{if_ok, if_err, on_err}
-use Rattle.txn_session.proofs.Ending.{given_up_mays, given_up_holds, given_same, waits_none}
+use Rattle.txn_session.proofs.Ending.{given_up_mays, given_up_holds}
 use Rattle.txn_session.proofs.session.Session.abort_step.Goals as goal
 
 pub end_step-pass-requires-clause-sites : goal.end_step-pass-requires-clause-sites

@@ -1,7 +1,7 @@
-use Rattle.std.proofs.Common.{◌≡◌, ◌⊎◌, inl, inr, List, refl, sym, ap, ◌∙◌, subst}
-use Rattle.std.specs.Prelude.{IfOk, IfErr, OnErr}
+use Rattle.std.proofs.Common.{◌≡◌, inr, List, refl, sym, ap, ◌∙◌, subst}
+use Rattle.std.specs.Prelude.{IfOk, OnErr}
 use Rattle.txn_session.specs.Calls.{Call}
-use Rattle.txn_session.specs.Session.{SessionState, Txn}
+use Rattle.txn_session.specs.Session.{SessionState}
 use Rattle.world_model.specs.declared.commit.Next.{Next}
 use Rattle.world_model.specs.declared.step.Step.{Step}
 use Rattle.txn_session.specs.Opens.{begun_end, stepped, next_said, EndsAs}

@@ -1,8 +1,7 @@
-use Rattle.std.proofs.Common.{◌≡◌, refl, sym, ap, ◌∙◌, subst}
+use Rattle.std.proofs.Common.{sym, ap, ◌∙◌, subst}
 use Rattle.world_model.specs.declared.step.Step.TheVariants as step
 use Rattle.txn_session.specs.Session.{SessionState, Idle, doing_so}
-use Rattle.txn_session.specs.Opens.{stepped_by, stepped, EndsAs}
-use Rattle.txn_session.specs.Holds.{MakesStep, next_of}
+use Rattle.txn_session.specs.Opens.{stepped_by, EndsAs}
 use Rattle.txn_session.proofs.Ending.{done_said, makes_none}
 use Rattle.txn_session.proofs.session.Session.end.Goals as goal
 

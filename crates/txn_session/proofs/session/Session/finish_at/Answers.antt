@@ -1,12 +1,12 @@
 use Rattle.std.proofs.Common.{None, ◌≡◌, refl, sym, ap, ◌∙◌, subst}
 use Rattle.world_model.specs.declared.commit.What.TheVariants as what
 use Rattle.world_model.specs.Event.{AskFinish}
-use Rattle.txn_session.specs.Session.{SessionState, Txn, updates_of}
+use Rattle.txn_session.specs.Session.{SessionState, Txn}
 use Rattle.txn_session.specs.Opens.{EndsAs}
 use Rattle.txn_session.specs.Holds.{MakesStep, next_of}
 use Rattle.txn_session.proofs.Results.{if_ok, if_err}
 use Rattle.txn_session.proofs.Acting.{legal_after, held_after, stays_waits}
-use Rattle.txn_session.proofs.Ending.{is_ending, doing_end, stepped_is, said_is, goes_here, may_here, number_held, finish_may, finish_makes}
+use Rattle.txn_session.proofs.Ending.{is_ending, doing_end, stepped_is, said_is, goes_here, may_here, finish_may, finish_makes}
 use Rattle.txn_session.proofs.session.Session.finish_at.Goals as goal
 
 pub finish-pass-requires : goal.finish-pass-requires

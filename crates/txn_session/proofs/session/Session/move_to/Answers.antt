@@ -1,4 +1,4 @@
-use Rattle.std.proofs.Common.{◌≡◌, refl, sym, ap, ◌∙◌, subst}
+use Rattle.std.proofs.Common.{sym, ap, ◌∙◌, subst}
 use Rattle.world_model.specs.declared.step.Step.TheVariants as step
 use Rattle.txn_session.specs.Session.{SessionState, moved_to}
 use Rattle.txn_session.specs.Holds.{Holds}

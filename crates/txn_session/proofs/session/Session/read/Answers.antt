@@ -1,4 +1,4 @@
-use Rattle.std.proofs.Common.{◌≡◌, ◌≤◌, refl, sym, ap, ◌∙◌, subst}
+use Rattle.std.proofs.Common.{◌≡◌, ◌≤◌, refl, ap, ◌∙◌, subst}
 use Rattle.crdt_core.specs.KindsOf.{kinds_of}
 use Rattle.crdt_core.specs.Placing.{place_of}
 use Rattle.txn_session.specs.Session.{SessionState, Txn, own_updates}

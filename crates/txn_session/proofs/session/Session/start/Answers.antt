@@ -1,7 +1,7 @@
-use Rattle.std.proofs.Common.{◌≡◌, refl, sym, ap, ◌∙◌, List, ℕ, take}
+use Rattle.std.proofs.Common.{refl, ap, ◌∙◌, List, ℕ}
 use Rattle.world_model.specs.CommitSteps.{starting}
 use Rattle.clocksi_commit.specs.Commit.{Committing}
-use Rattle.txn_session.specs.Session.{SessionState, Txn, participants, first_or_zero}
+use Rattle.txn_session.specs.Session.{Txn, participants, first_or_zero}
 use Rattle.txn_session.proofs.Ending.{begun_is, begun_same}
 use Rattle.txn_session.proofs.session.Session.start.Goals as goal
 

@@ -1,8 +1,7 @@
-use Rattle.std.proofs.Common.{rules, ◌≡◌, ◌≤◌, ◌+◌, refl, sym, ap, ◌∙◌, subst, List, [], ◌∷◌, ◌++◌, length, arith}
+use Rattle.std.proofs.Common.{◌≡◌, ◌≤◌, ◌+◌, refl, sym, ap, ◌∙◌, subst, [], ◌∷◌, ◌++◌, length, arith}
 use Rattle.std.proofs.lemmas.Grind.{common_steps}
 use Rattle.crdt_core.specs.KindsOf.{kinds_of}
 use Rattle.crdt_core.specs.Placing.{place_of}
-use Rattle.crdt_core.specs.declared.record.Upd.{Upd}
 use Rattle.txn_session.specs.Session.{SessionState, Txn, own_updates}
 use Rattle.txn_session.specs.Opens.{IsUpdated}
 use Rattle.txn_session.specs.Holds.{MakesUpdate, Waits}
