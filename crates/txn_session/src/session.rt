@@ -69,7 +69,15 @@ impl<C: Crdt> Session<C> {
         requires most_sites { sites ≤ 8 }
         requires least_parts { 1 ≤ parts }
         requires most_parts { parts ≤ 16 }
-        ensures session { result ≡ record { name = name; site = site; sites = sites; parts = parts; dependency = replicate sites 0; doing = Idle } }
+        ensures session { result ≡ record {
+          name = name;
+          site = site;
+          sites = sites;
+          parts = parts;
+          dependency =
+              replicate sites 0;
+          doing = Idle;
+        } }
         ensures holds { (run : List (Call C.Effect)) → Holds result run }
     {
         let zero = VTime::zero(sites);
@@ -146,8 +154,15 @@ impl<C: Crdt> Session<C> {
         ensures only { IfErr result.1 (λ e. (e ≡ SessionError.HasTxn) ⊎ (e ≡ SessionError.NoMemory)) }
         ensures err { OnErr result.1 (self.new ≡ self.old) }
         ensures opened { IfOk result.1 (λ answer. IsOpened self.old answer self.new) }
-        ensures opens { IfOk result.1 (λ answer. (run : List (Call C.Effect)) → S.sees store.old pass run → Holds self.old run → Makes S.sees S.numbers store.new result.0 run self.old self.new None (record { site = self.old.site; part = part }) (AskBegin self.old.name self.old.dependency) answer) }
-        ensures waits { OnErr result.1 ((run : List (Call C.Effect)) → S.sees store.old pass run → Holds self.old run → Waits S.sees S.numbers store.new result.0 run self.old self.new) }
+        ensures opens { IfOk result.1 (λ answer. (run : List (Call C.Effect)) → S.sees store.old pass run →
+            Holds self.old run →
+            Makes S.sees S.numbers store.new result.0 run self.old self.new None (record {
+              site = self.old.site;
+              part
+                  = part;
+            }) (AskBegin self.old.name self.old.dependency) answer) }
+        ensures waits { OnErr result.1 ((run : List (Call C.Effect)) → S.sees store.old pass run →
+            Holds self.old run → Waits S.sees S.numbers store.new result.0 run self.old self.new) }
     {
         match self.stage {
             Stage::Idle => {}
@@ -203,11 +218,16 @@ impl<C: Crdt> Session<C> {
         requires holds { Mays S.sees S.numbers store.old pass self.old }
         ensures stays { S.stays store.old store.new }
         ensures same { (n : ℕ) → S.numbers result.0 n ≡ S.numbers pass n }
-        ensures refused { MatchOption (update_refusal C.too_deep self.old.doing object.now op.now) (IfErr result.1 (λ e. e ≡ SessionError.NoMemory)) (λ e. (result.1 ≡ Err e) × (store.new ≡ store.old)) }
+        ensures refused { MatchOption (update_refusal C.too_deep self.old.doing object.now op.now) (IfErr result.1 (λ
+            e. e ≡ SessionError.NoMemory)) (λ e. (result.1 ≡ Err e) × (store.new ≡ store.old)) }
         ensures err { OnErr result.1 (self.new ≡ self.old) }
         ensures updated { IfOk result.1 (λ answer. IsUpdated self.old object.now answer self.new) }
-        ensures updates { IfOk result.1 (λ answer. (run : List (Call C.Effect)) → S.sees store.old pass run → Holds self.old run → MakesUpdate S.sees S.numbers store.new result.0 run self.old self.new object.now op.now answer self.old.doing) }
-        ensures waits { OnErr result.1 ((run : List (Call C.Effect)) → S.sees store.old pass run → Holds self.old run → Waits S.sees S.numbers store.new result.0 run self.old self.new) }
+        ensures updates { IfOk result.1 (λ answer. (run : List (Call C.Effect)) → S.sees store.old pass run →
+            Holds self.old run →
+            MakesUpdate S.sees S.numbers store.new result.0 run self.old self.new object.now op.now answer
+            self.old.doing) }
+        ensures waits { OnErr result.1 ((run : List (Call C.Effect)) → S.sees store.old pass run →
+            Holds self.old run → Waits S.sees S.numbers store.new result.0 run self.old self.new) }
     {
         if let Some(error) = self.update_refusal(object, op) {
             return (pass, Err(error));
@@ -295,8 +315,11 @@ impl<C: Crdt> Session<C> {
         ensures no_txn { (result.1 ≡ Err SessionError.NoTxn) ↔ (is_open self.old.doing ≡ false) }
         ensures only { IfErr result.1 (λ e. (e ≡ SessionError.NoTxn) ⊎ (e ≡ SessionError.NoMemory)) }
         ensures as_before { self.new ≡ self.old }
-        ensures reads { IfOk result.1 (λ answer. (run : List (Call C.Effect)) → S.sees store.old pass run → Holds self.old run → MakesRead S.sees S.numbers store.new result.0 run self.old self.new object.now answer self.old.doing) }
-        ensures waits { OnErr result.1 ((run : List (Call C.Effect)) → S.sees store.old pass run → Holds self.old run → Waits S.sees S.numbers store.new result.0 run self.old self.new) }
+        ensures reads { IfOk result.1 (λ answer. (run : List (Call C.Effect)) → S.sees store.old pass run →
+            Holds self.old run →
+            MakesRead S.sees S.numbers store.new result.0 run self.old self.new object.now answer self.old.doing) }
+        ensures waits { OnErr result.1 ((run : List (Call C.Effect)) → S.sees store.old pass run →
+            Holds self.old run → Waits S.sees S.numbers store.new result.0 run self.old self.new) }
     {
         match self.stage {
             Stage::Open => {}
@@ -357,8 +380,12 @@ impl<C: Crdt> Session<C> {
         ensures stepped { IfOk result.1 (λ r. self.new ≡ stepped (begun_end self.old) r.0) }
         ensures next { IfOk result.1 (λ r. r.1 ≡ next_said (begun_end self.old).doing r.0) }
         ensures ended { IfOk result.1 (λ r. EndsAs self.old.name (next_of (begun_end self.old).doing) r.0) }
-        ensures steps { IfOk result.1 (λ r. (run : List (Call C.Effect)) → S.sees store.old pass run → Holds self.old run → MakesStep S.sees S.numbers store.new result.0 run (begun_end self.old) self.new r.0 (begun_end self.old).doing (next_of (begun_end self.old).doing)) }
-        ensures waits { OnErr result.1 ((run : List (Call C.Effect)) → S.sees store.old pass run → Holds self.old run → Waits S.sees S.numbers store.new result.0 run (begun_end self.old) self.new) }
+        ensures steps { IfOk result.1 (λ r. (run : List (Call C.Effect)) → S.sees store.old pass run →
+            Holds self.old run →
+            MakesStep S.sees S.numbers store.new result.0 run (begun_end self.old) self.new r.0 (begun_end
+            self.old).doing (next_of (begun_end self.old).doing)) }
+        ensures waits { OnErr result.1 ((run : List (Call C.Effect)) → S.sees store.old pass run →
+            Holds self.old run → Waits S.sees S.numbers store.new result.0 run (begun_end self.old) self.new) }
     {
         match self.stage {
             Stage::Idle => {
@@ -412,8 +439,12 @@ impl<C: Crdt> Session<C> {
         ensures stepped { IfOk result.1 (λ r. self.new ≡ stepped self.old r.0) }
         ensures next { IfOk result.1 (λ r. r.1 ≡ next_said self.old.doing r.0) }
         ensures ended { IfOk result.1 (λ r. EndsAs self.old.name (next_of self.old.doing) r.0) }
-        ensures steps { IfOk result.1 (λ r. (run : List (Call C.Effect)) → S.sees store.old pass run → Holds self.old run → MakesStep S.sees S.numbers store.new result.0 run self.old self.new r.0 self.old.doing (next_of self.old.doing)) }
-        ensures waits { OnErr result.1 ((run : List (Call C.Effect)) → S.sees store.old pass run → Holds self.old run → Waits S.sees S.numbers store.new result.0 run self.old self.new) }
+        ensures steps { IfOk result.1 (λ r. (run : List (Call C.Effect)) → S.sees store.old pass run →
+            Holds self.old run →
+            MakesStep S.sees S.numbers store.new result.0 run self.old self.new r.0 self.old.doing (next_of
+            self.old.doing)) }
+        ensures waits { OnErr result.1 ((run : List (Call C.Effect)) → S.sees store.old pass run →
+            Holds self.old run → Waits S.sees S.numbers store.new result.0 run self.old self.new) }
     {
         match self.next() {
             What::Prepare(part) => {
@@ -452,8 +483,12 @@ impl<C: Crdt> Session<C> {
         ensures stepped { IfOk result.1 (λ r. self.new ≡ stepped self.old r.0) }
         ensures next { IfOk result.1 (λ r. r.1 ≡ next_said self.old.doing r.0) }
         ensures ended { IfOk result.1 (λ r. EndsAs self.old.name (next_of self.old.doing) r.0) }
-        ensures steps { IfOk result.1 (λ r. (run : List (Call C.Effect)) → S.sees store.old pass run → Holds self.old run → MakesStep S.sees S.numbers store.new result.0 run self.old self.new r.0 self.old.doing (next_of self.old.doing)) }
-        ensures waits { OnErr result.1 ((run : List (Call C.Effect)) → S.sees store.old pass run → Holds self.old run → Waits S.sees S.numbers store.new result.0 run self.old self.new) }
+        ensures steps { IfOk result.1 (λ r. (run : List (Call C.Effect)) → S.sees store.old pass run →
+            Holds self.old run →
+            MakesStep S.sees S.numbers store.new result.0 run self.old self.new r.0 self.old.doing (next_of
+            self.old.doing)) }
+        ensures waits { OnErr result.1 ((run : List (Call C.Effect)) → S.sees store.old pass run →
+            Holds self.old run → Waits S.sees S.numbers store.new result.0 run self.old self.new) }
     {
         let updates = match part_of::<C>(self.alloc, self.updates.as_slice(), self.parts, part) {
             Ok(updates) => updates,
@@ -504,8 +539,12 @@ impl<C: Crdt> Session<C> {
         ensures stepped { IfOk result.1 (λ r. self.new ≡ stepped self.old r.0) }
         ensures next { IfOk result.1 (λ r. r.1 ≡ next_said self.old.doing r.0) }
         ensures ended { IfOk result.1 (λ r. EndsAs self.old.name (next_of self.old.doing) r.0) }
-        ensures steps { IfOk result.1 (λ r. (run : List (Call C.Effect)) → S.sees store.old pass run → Holds self.old run → MakesStep S.sees S.numbers store.new result.0 run self.old self.new r.0 self.old.doing (next_of self.old.doing)) }
-        ensures waits { OnErr result.1 ((run : List (Call C.Effect)) → S.sees store.old pass run → Holds self.old run → Waits S.sees S.numbers store.new result.0 run self.old self.new) }
+        ensures steps { IfOk result.1 (λ r. (run : List (Call C.Effect)) → S.sees store.old pass run →
+            Holds self.old run →
+            MakesStep S.sees S.numbers store.new result.0 run self.old self.new r.0 self.old.doing (next_of
+            self.old.doing)) }
+        ensures waits { OnErr result.1 ((run : List (Call C.Effect)) → S.sees store.old pass run →
+            Holds self.old run → Waits S.sees S.numbers store.new result.0 run self.old self.new) }
     {
         let at = PartId {
             site: self.site,
@@ -543,8 +582,12 @@ impl<C: Crdt> Session<C> {
         ensures stepped { IfOk result.1 (λ r. self.new ≡ stepped self.old r.0) }
         ensures next { IfOk result.1 (λ r. r.1 ≡ next_said self.old.doing r.0) }
         ensures ended { IfOk result.1 (λ r. EndsAs self.old.name (next_of self.old.doing) r.0) }
-        ensures steps { IfOk result.1 (λ r. (run : List (Call C.Effect)) → S.sees store.old pass run → Holds self.old run → MakesStep S.sees S.numbers store.new result.0 run self.old self.new r.0 self.old.doing (next_of self.old.doing)) }
-        ensures waits { OnErr result.1 ((run : List (Call C.Effect)) → S.sees store.old pass run → Holds self.old run → Waits S.sees S.numbers store.new result.0 run self.old self.new) }
+        ensures steps { IfOk result.1 (λ r. (run : List (Call C.Effect)) → S.sees store.old pass run →
+            Holds self.old run →
+            MakesStep S.sees S.numbers store.new result.0 run self.old self.new r.0 self.old.doing (next_of
+            self.old.doing)) }
+        ensures waits { OnErr result.1 ((run : List (Call C.Effect)) → S.sees store.old pass run →
+            Holds self.old run → Waits S.sees S.numbers store.new result.0 run self.old self.new) }
     {
         let at = PartId {
             site: self.site,
@@ -580,8 +623,12 @@ impl<C: Crdt> Session<C> {
         ensures stepped { IfOk result.1 (λ r. self.new ≡ stepped self.old r.0) }
         ensures next { IfOk result.1 (λ r. r.1 ≡ next_said self.old.doing r.0) }
         ensures ended { IfOk result.1 (λ r. EndsAs self.old.name (next_of self.old.doing) r.0) }
-        ensures steps { IfOk result.1 (λ r. (run : List (Call C.Effect)) → S.sees store.old pass run → Holds self.old run → MakesStep S.sees S.numbers store.new result.0 run self.old self.new r.0 self.old.doing (next_of self.old.doing)) }
-        ensures waits { OnErr result.1 ((run : List (Call C.Effect)) → S.sees store.old pass run → Holds self.old run → Waits S.sees S.numbers store.new result.0 run self.old self.new) }
+        ensures steps { IfOk result.1 (λ r. (run : List (Call C.Effect)) → S.sees store.old pass run →
+            Holds self.old run →
+            MakesStep S.sees S.numbers store.new result.0 run self.old self.new r.0 self.old.doing (next_of
+            self.old.doing)) }
+        ensures waits { OnErr result.1 ((run : List (Call C.Effect)) → S.sees store.old pass run →
+            Holds self.old run → Waits S.sees S.numbers store.new result.0 run self.old self.new) }
     {
         let at = PartId {
             site: self.site,
@@ -616,8 +663,12 @@ impl<C: Crdt> Session<C> {
         ensures stepped { IfOk result.1 (λ r. self.new ≡ stepped self.old r.0) }
         ensures next { IfOk result.1 (λ r. r.1 ≡ next_said self.old.doing r.0) }
         ensures ended { IfOk result.1 (λ r. EndsAs self.old.name (next_of self.old.doing) r.0) }
-        ensures steps { IfOk result.1 (λ r. (run : List (Call C.Effect)) → S.sees store.old pass run → Holds self.old run → MakesStep S.sees S.numbers store.new result.0 run self.old self.new r.0 self.old.doing (next_of self.old.doing)) }
-        ensures waits { OnErr result.1 ((run : List (Call C.Effect)) → S.sees store.old pass run → Holds self.old run → Waits S.sees S.numbers store.new result.0 run self.old self.new) }
+        ensures steps { IfOk result.1 (λ r. (run : List (Call C.Effect)) → S.sees store.old pass run →
+            Holds self.old run →
+            MakesStep S.sees S.numbers store.new result.0 run self.old self.new r.0 self.old.doing (next_of
+            self.old.doing)) }
+        ensures waits { OnErr result.1 ((run : List (Call C.Effect)) → S.sees store.old pass run →
+            Holds self.old run → Waits S.sees S.numbers store.new result.0 run self.old self.new) }
     {
         match self.name.copy(self.alloc) {
             Ok(name) => {
@@ -652,8 +703,12 @@ impl<C: Crdt> Session<C> {
         ensures err { OnErr result.1 (self.new ≡ given_up_end self.old) }
         ensures stepped { IfOk result.1 (λ answer. self.new ≡ stepped (given_up_end self.old) answer) }
         ensures ended { IfOk result.1 (λ answer. EndsAs self.old.name (next_of (given_up_end self.old).doing) answer) }
-        ensures steps { IfOk result.1 (λ answer. (run : List (Call C.Effect)) → S.sees store.old pass run → Holds self.old run → MakesStep S.sees S.numbers store.new result.0 run (given_up_end self.old) self.new answer (given_up_end self.old).doing (next_of (given_up_end self.old).doing)) }
-        ensures waits { OnErr result.1 ((run : List (Call C.Effect)) → S.sees store.old pass run → Holds self.old run → Waits S.sees S.numbers store.new result.0 run (given_up_end self.old) self.new) }
+        ensures steps { IfOk result.1 (λ answer. (run : List (Call C.Effect)) → S.sees store.old pass run →
+            Holds self.old run →
+            MakesStep S.sees S.numbers store.new result.0 run (given_up_end self.old) self.new answer (given_up_end
+            self.old).doing (next_of (given_up_end self.old).doing)) }
+        ensures waits { OnErr result.1 ((run : List (Call C.Effect)) → S.sees store.old pass run →
+            Holds self.old run → Waits S.sees S.numbers store.new result.0 run (given_up_end self.old) self.new) }
     {
         if !self.can_abort() {
             return (pass, Err(SessionError::NoTxn));
