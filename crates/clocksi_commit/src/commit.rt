@@ -1,5 +1,6 @@
 ghost use Rattle.std.specs.Prelude.{◌≡◌, ◌≤◌, ◌<◌, take, length};
 ghost use Rattle.clocksi_commit.specs.Answers.{vote_of, decision_of, ends_finish};
+ghost use Rattle.clocksi_commit.specs.Commit.{is_finishing};
 ghost use Rattle.world_model.specs.CommitSteps.{starting, given_up, next_step, is_done, after};
 
 use site_vector::VTime;
@@ -162,6 +163,16 @@ impl Commit {
             Stage::Prepares => self.count == 0,
             Stage::Finishes => true,
             Stage::Aborts => true,
+        }
+    }
+
+    /// Whether the lead decided.
+    pub fn is_decided(&self) -> bool
+        ensures { result ≡ is_finishing self.now.going }
+    {
+        match self.stage {
+            Stage::Finishes => true,
+            _ => false,
         }
     }
 

@@ -1,0 +1,11 @@
+mod Frames
+mod Owning
+mod Results
+mod Events
+mod Acting
+mod Opening
+mod Updating
+mod Participants
+mod Counting
+mod Steps
+mod Ending

@@ -1,0 +1,89 @@
+use Rattle.std.proofs.Common.{Some, length, ◌≡◌, refl, sym, ap, ◌∙◌, subst}
+use Rattle.world_model.specs.declared.commit.What.TheVariants as what
+use Rattle.world_model.specs.Event.{AskDecide}
+use Rattle.txn_session.specs.Session.{SessionState, Txn}
+use Rattle.txn_session.specs.Opens.{EndsAs}
+use Rattle.txn_session.specs.Holds.{MakesStep, next_of}
+use Rattle.txn_session.proofs.Results.{if_ok, if_err}
+use Rattle.txn_session.proofs.Acting.{legal_after, held_after, stays_waits}
+use Rattle.txn_session.proofs.Ending.{is_ending, doing_end, stepped_is, said_is, goes_here, may_here, number_held, decide_may, decide_makes, vector_width, told_width}
+use Rattle.txn_session.proofs.session.Session.decide_at.Goals as goal
+
+pub decide-pass-requires : goal.decide-pass-requires
+decide-pass-requires g c =
+    let f = c.self.inside in
+    let v = c.self.view_is in
+    let txn : Txn g.row.C-Effect.Denot = record { tx = f.tx; s = f.s; by = f.by; updates = f.updates.items } in
+    let k = is_ending _ c.args.self.now v f.stage txn f.lead f.commit refl (what.Decide c.args.part c.args.c) c.requires.next refl in
+    let od = doing_end _ c.args.self.now v f.stage txn f.lead f.commit refl k in
+    let et = ap (λ (w : SessionState g.row.C-Effect.Denot). w.site) v in
+    let ea : (AskDecide f.tx c.args.c) ≡ (AskDecide f.tx c.args.c) = refl in
+    let m = c.requires.holds in
+    let q = decide_may c.args.self.now txn f.lead f.commit od m.run m.holds c.args.part c.args.c c.requires.next in
+    record { may = may_here g.S.Store.sees g.S.Store.numbers g.S.Store.sites g.S.Store.parts c.args.store.now c.args.store.now c.args.pass c.args.pass c.args.self.now c.requires.sites c.requires.parts (Some f.by) f.site c.args.part et (AskDecide f.tx c.args.c) (AskDecide f.tx c.args.c) ea (number_held (g.S.Store.numbers c.args.pass) c.args.self.now.doing txn f.lead f.commit od m.held) m.run m.seen q.0 q.1 }
+
+pub told-self-inside-requires : goal.told-self-inside-requires
+told-self-inside-requires g c =
+    let f = c.self.inside in
+    let v = c.self.view_is in
+    let txn : Txn g.row.C-Effect.Denot = record { tx = f.tx; s = f.s; by = f.by; updates = f.updates.items } in
+    let k = is_ending _ c.args.self.now v f.stage txn f.lead f.commit refl (what.Decide c.args.part c.args.c) c.requires.next refl in
+    let od = doing_end _ c.args.self.now v f.stage txn f.lead f.commit refl k in
+    let m = c.requires.holds in
+    ap (λ (w : SessionState g.row.C-Effect.Denot). length w.dependency) v ∙ vector_width c.args.self.now txn f.lead f.commit od m.run m.holds c.args.part c.args.c c.requires.next
+
+pub returns-in-Ok-clause-stepped : goal.returns-in-Ok-clause-stepped
+returns-in-Ok-clause-stepped g c =
+    let f = c.self.inside in
+    let v = c.self.view_is in
+    let txn : Txn g.row.C-Effect.Denot = record { tx = f.tx; s = f.s; by = f.by; updates = f.updates.items } in
+    let k = is_ending _ c.args.self.now v f.stage txn f.lead f.commit refl (what.Decide c.args.part c.args.c) c.requires.next refl in
+    let od = doing_end _ c.args.self.now v f.stage txn f.lead f.commit refl k in
+    stepped_is _ c.args.self.now v f.stage txn f.lead f.commit c.answer-next.new.self od k c.in-Ok.step c.answer-next.ensures.commit (what.Decide c.args.part c.args.c) c.requires.next refl c.told-self-inside.result c.told-self-inside.ensures
+
+pub returns-in-Ok-clause-next : goal.returns-in-Ok-clause-next
+returns-in-Ok-clause-next g c =
+    let f = c.self.inside in
+    let v = c.self.view_is in
+    let txn : Txn g.row.C-Effect.Denot = record { tx = f.tx; s = f.s; by = f.by; updates = f.updates.items } in
+    let k = is_ending _ c.args.self.now v f.stage txn f.lead f.commit refl (what.Decide c.args.part c.args.c) c.requires.next refl in
+    let od = doing_end _ c.args.self.now v f.stage txn f.lead f.commit refl k in
+    c.answer-next.ensures.next ∙ said_is c.args.self.now txn f.lead f.commit od c.in-Ok.step
+
+pub returns-in-Ok-clause-ended : goal.returns-in-Ok-clause-ended
+returns-in-Ok-clause-ended g c = subst (λ x. EndsAs c.args.self.now.name x c.in-Ok.step) (sym c.requires.next) tt
+
+pub returns-in-Ok-clause-steps : goal.returns-in-Ok-clause-steps
+returns-in-Ok-clause-steps g c run seen h =
+    let f = c.self.inside in
+    let v = c.self.view_is in
+    let txn : Txn g.row.C-Effect.Denot = record { tx = f.tx; s = f.s; by = f.by; updates = f.updates.items } in
+    let k = is_ending _ c.args.self.now v f.stage txn f.lead f.commit refl (what.Decide c.args.part c.args.c) c.requires.next refl in
+    let od = doing_end _ c.args.self.now v f.stage txn f.lead f.commit refl k in
+    let et = ap (λ (w : SessionState g.row.C-Effect.Denot). w.site) v in
+    let ea : (AskDecide f.tx c.args.c) ≡ (AskDecide f.tx c.args.c) = refl in
+    let legal = legal_after _ g.S.Store.sees g.S.Store.sites g.S.Store.parts g.S.Store.stays g.met.S.Store.legal g.met.S.Store.keeps c.args.store.now c.decide-pass.new.self c.decide-pass.ensures.stays c.decide-pass.result.0 c.args.self.now.sites c.args.self.now.parts c.requires.sites c.requires.parts in
+    let held = held_after g.S.Store.numbers c.args.pass c.decide-pass.result.0 c.decide-pass.ensures.same c.args.self.now.doing c.requires.holds.held in
+    let st = stepped_is _ c.args.self.now v f.stage txn f.lead f.commit c.answer-next.new.self od k c.in-Ok.step c.answer-next.ensures.commit (what.Decide c.args.part c.args.c) c.requires.next refl c.told-self-inside.result c.told-self-inside.ensures in
+    let q = decide_may c.args.self.now txn f.lead f.commit od run h c.args.part c.args.c c.requires.next in
+    let goes = goes_here g.S.Store.sees g.S.Store.numbers g.S.Store.sites g.S.Store.parts c.args.store.now c.decide-pass.new.self c.args.pass c.decide-pass.result.0 c.args.self.now c.requires.sites c.requires.parts (Some f.by) f.site c.args.part et (AskDecide f.tx c.args.c) (AskDecide f.tx c.args.c) ea c.in-Ok.step (if_ok _ _ _ c.in-Ok.is c.decide-pass.ensures.ok) run seen q.1 in
+    subst (λ (w : SessionState g.row.C-Effect.Denot). MakesStep g.S.Store.sees g.S.Store.numbers c.decide-pass.new.self c.decide-pass.result.0 run c.args.self.now w c.in-Ok.step c.args.self.now.doing (next_of c.args.self.now.doing)) (sym st)
+    (decide_makes _ g.S.Store.sees g.S.Store.numbers c.decide-pass.new.self c.decide-pass.result.0 c.args.self.now txn f.lead f.commit od legal held run h c.in-Ok.step c.args.part c.args.c (vector_width c.args.self.now txn f.lead f.commit od run h c.args.part c.args.c c.requires.next) c.requires.next goes)
+
+pub returns-in-Err-clause-waits : goal.returns-in-Err-clause-waits
+returns-in-Err-clause-waits g c run seen h =
+    let legal = legal_after _ g.S.Store.sees g.S.Store.sites g.S.Store.parts g.S.Store.stays g.met.S.Store.legal g.met.S.Store.keeps c.args.store.now c.decide-pass.new.self c.decide-pass.ensures.stays c.decide-pass.result.0 c.args.self.now.sites c.args.self.now.parts c.requires.sites c.requires.parts in
+    let held = held_after g.S.Store.numbers c.args.pass c.decide-pass.result.0 c.decide-pass.ensures.same c.args.self.now.doing c.requires.holds.held in
+    stays_waits _ g.S.Store.sees g.S.Store.numbers c.decide-pass.new.self c.decide-pass.result.0 c.args.self.now legal held run h (if_err _ _ _ c.in-Err.is c.decide-pass.ensures.err run seen)
+
+pub invariant_of-self : goal.invariant_of-self
+invariant_of-self g c =
+    let f = c.self.inside in
+    let v = c.self.view_is in
+    let txn : Txn g.row.C-Effect.Denot = record { tx = f.tx; s = f.s; by = f.by; updates = f.updates.items } in
+    let k = is_ending _ c.args.self.now v f.stage txn f.lead f.commit refl (what.Decide c.args.part c.args.c) c.requires.next refl in
+    let od = doing_end _ c.args.self.now v f.stage txn f.lead f.commit refl k in
+    let m = c.requires.holds in
+    let i = c.self.invariant in
+    let w : length f.dependency ≡ length c.args.c = ap (λ (w : SessionState g.row.C-Effect.Denot). length w.dependency) v ∙ vector_width c.args.self.now txn f.lead f.commit od m.run m.holds c.args.part c.args.c c.requires.next in
+    record { least_site = i.least_site; most_site = i.most_site; most_sites = i.most_sites; least_parts = i.least_parts; most_parts = i.most_parts; width = ap length c.told-self-inside.ensures ∙ (told_width f.dependency c.args.c c.in-Ok.step w ∙ i.width); entries = i.entries }

@@ -1,0 +1,136 @@
+-- Calls of a store with their callers' numbers: which may be made, and what each comes to.
+use Rattle.std.specs.Prelude.{◌≡◌, ◌⊎◌, ℕ, Bool, true, false, ◌||◌, List, [], ◌∷◌, ◌++◌, Option, None, Some, IfSome, if◌then◌else◌, ⊤}
+use Rattle.site_vector.specs.declared.ids.PartId.{PartId}
+use Rattle.site_vector.specs.declared.ids.TxId.{TxId}
+use Rattle.site_vector.specs.Ids.{same_tx}
+use Rattle.crdt_core.specs.declared.record.Message.{Message}
+use Rattle.crdt_core.specs.KindsOf.{Kinds}
+use Rattle.world_model.specs.declared.step.Step.{Step}
+use Rattle.world_model.specs.Event.{Ask, AskRead, AskUpdate, AskPrepare, AskDecide, AskAbort, Event, Updated, Sent, Entry, attempt, is_prepare, is_decide, is_own_abort}
+use Rattle.world_model.specs.Partition.{PartState}
+use Rattle.world_model.specs.Plan.{IsPlace}
+use Rattle.world_model.specs.World.{is_begin, IsWorldRun}
+use Rattle.world_model.specs.Lines.{step_shown}
+use Rattle.world_model.specs.Asking as asking
+use Rattle.world_model.specs.Asking.{asked_by, is_own_word}
+
+-- an event with the number of its caller
+pub record Call (E : Type 0) : Type 0 where
+  pub by : ℕ
+  pub entry : Entry E
+
+module _ {E : Type 0} where
+  abbrev pub entries : List (Call E) → List (Entry E)
+  entries [] = []
+  entries (c ∷ run) = c.entry ∷ entries run
+
+  abbrev pub called : ℕ → PartId → Event E → Call E
+  called by at event = record { by = by; entry = record { at = at; event = event } }
+
+  -- the number that the begin of t bears
+  abbrev pub caller_of : List (Call E) → TxId → ℕ
+  caller_of [] t = 0
+  caller_of (c ∷ run) t = if is_begin c.entry.event t then c.by else caller_of run t
+
+  abbrev pub is_update : Event E → TxId → Bool
+  is_update (Updated u s o own op read x stamp) t = same_tx u t
+  is_update other t = false
+
+  -- begins t, or is what its session alone asks for
+  abbrev pub touches : Event E → TxId → Bool
+  touches e t = is_begin e t || (is_update e t || (is_prepare (attempt e) t || (is_decide (attempt e) t || is_own_abort (attempt e) t)))
+
+  -- who acts for a transaction bears the number of its begin
+  abbrev pub IsOwned : List (Call E) → Call E → Type 0
+  IsOwned run c = (t : TxId) → touches c.entry.event t ≡ true → (is_begin c.entry.event t ≡ true) ⊎ (c.by ≡ caller_of run t)
+
+  abbrev pub AreOwned : List (Call E) → Type 0
+  AreOwned [] = ⊤
+  AreOwned (c ∷ run) = AreOwned run × IsOwned run c
+
+  -- the calls are a run of the world, by their transactions' callers
+  pub record IsLegal {S : Type 0} (kinds : Kinds S E) (sites parts : ℕ) (run : List (Call E)) : Type 0 where
+    pub state : PartId → PartState E
+    pub is_run : IsWorldRun kinds sites parts (entries run) state
+    pub owned : AreOwned run
+
+  abbrev pub AreOthers : List (Call E) → TxId → Type 0
+  AreOthers [] t = ⊤
+  AreOthers (c ∷ run) t = (touches c.entry.event t ≡ false) × AreOthers run t
+
+  -- none of these calls bears one of the numbers
+  abbrev pub NoneBears : (ℕ → Bool) → List (Call E) → Type 0
+  NoneBears numbers [] = ⊤
+  NoneBears numbers (c ∷ run) = (numbers c.by ≡ false) × NoneBears numbers run
+
+  -- the transaction that a call is of
+  abbrev pub IsCaller : List (Call E) → ℕ → Ask E → Type 0
+  IsCaller run by (AskRead t s o own) = by ≡ caller_of run t
+  IsCaller run by (AskUpdate t s o own op) = by ≡ caller_of run t
+  IsCaller run by (AskPrepare t s l w) = by ≡ caller_of run t
+  IsCaller run by (AskDecide t c) = by ≡ caller_of run t
+  IsCaller run by (AskAbort t) = by ≡ caller_of run t
+  IsCaller run by other = ⊤
+
+  -- by what these calls show, this may be asked here, by this number if the call is a transaction's
+  pub record IsAllowed (sites parts : ℕ) (run : List (Call E)) (number : Option ℕ) (at : PartId) (ask : Ask E) : Type 0 where
+    pub may : asking.MayCall sites parts (entries run) at ask
+    pub mine : IfSome number (λ by. IsCaller run by ask)
+
+  -- the first of these stand among the others, in their order
+  abbrev pub Within : List (Call E) → List (Call E) → Type 0
+  Within calls [] = calls ≡ []
+  Within calls (c ∷ run) = Within calls run ⊎ ((rest : List (Call E)) × (calls ≡ c ∷ rest) × Within rest run)
+
+  -- the effect that an update made, and the message that was sent
+  abbrev pub effect_made : Event E → Option E
+  effect_made (Updated u s o own op read x stamp) = Some x.effect
+  effect_made other = None
+
+  abbrev pub message_sent : Event E → Option (Message E)
+  message_sent (Sent asked m) = Some m
+  message_sent other = None
+
+  module _ {S P : Type 0} (sees : S → P → List (Call E) → Type 0) (numbers : P → ℕ → Bool) where
+    -- in some run that the pass has seen, this may be asked
+    pub record MayCall (sites parts : ℕ) (store : S) (pass : P) (number : Option ℕ) (at : PartId) (ask : Ask E) : Type 0 where
+      pub place : IsPlace sites parts at
+      pub held : IfSome number (λ by. numbers pass by ≡ true)
+      pub run : List (Call E)
+      pub seen : sees store pass run
+      pub allowed : IsAllowed sites parts run number at ask
+
+    -- the run goes on: others acted, who hold none of the pass's numbers, and then this was asked and answered
+    pub record GoesOn (store : S) (pass : P) (run : List (Call E)) (number : Option ℕ) (at : PartId) (ask : Ask E) (answer : Step) : Type 0 where
+      pub more : List (Call E)
+      pub others : NoneBears (numbers pass) more
+      pub by : ℕ
+      pub held : numbers pass by ≡ true
+      pub bears : IfSome number (λ n. by ≡ n)
+      pub event : Event E
+      pub asked : asked_by (attempt event) ≡ ask
+      pub own_word : is_own_word (attempt event) ≡ true
+      pub shows : answer ≡ step_shown (entries (more ++ run)) at event
+      pub seen : sees store pass (called by at event ∷ (more ++ run))
+
+    -- the run goes on by what others did
+    pub record Stays (store : S) (pass : P) (run : List (Call E)) : Type 0 where
+      pub more : List (Call E)
+      pub others : NoneBears (numbers pass) more
+      pub seen : sees store pass (more ++ run)
+
+    -- an update, with the effect that was made
+    pub record Changes (store : S) (pass : P) (run : List (Call E)) (by : ℕ) (at : PartId) (ask : Ask E) (answer : Step) (made : Option E) : Type 0 where
+      pub goes : GoesOn store pass run (Some by) at ask answer
+      pub effect : made ≡ effect_made goes.event
+
+    -- a request for a message, with what was sent
+    pub record Sends (store : S) (pass : P) (run : List (Call E)) (at : PartId) (ask : Ask E) (answer : Step) (message : Option (Message E)) : Type 0 where
+      pub goes : GoesOn store pass run None at ask answer
+      pub sent : message ≡ message_sent goes.event
+
+    -- what a pass has seen, another has
+    pub record SeesStill (store : S) (pass : P) (run : List (Call E)) : Type 0 where
+      pub whole : List (Call E)
+      pub within : Within run whole
+      pub seen : sees store pass whole

@@ -1,0 +1,5 @@
+pub mod Calls
+pub mod Session
+pub mod Fields
+pub mod Holds
+pub mod Opens

@@ -1,0 +1,13 @@
+//! Sessions over a store: a client's transactions, the snapshot that each begins with, and what the client depends on (Cure).
+#![tactic(auto)]
+
+mod chosen;
+mod error;
+mod phase;
+mod session;
+mod store;
+
+pub use error::SessionError;
+pub use phase::Phase;
+pub use session::Session;
+pub use store::Store;

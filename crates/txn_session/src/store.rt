@@ -1,0 +1,307 @@
+ghost use Rattle.std.specs.Prelude.{◌≡◌, ◌≢◌, ◌+◌, ◌≤◌, ◌||◌, ℕ, Bool, true, List, Option, Some, None, IfOk, IfErr};
+ghost use Rattle.crdt_core.specs.KindsOf.{kinds_of, fits_kind};
+ghost use Rattle.crdt_core.specs.Log.{end_of_time};
+ghost use Rattle.world_model.specs.Event.{AskTick, AskBegin, AskRead, AskUpdate, AskPrepare, AskDecide, AskFinish, AskAbort, AskMessage, AskTake, AskReport, AskHear};
+ghost use Rattle.world_model.specs.Plan.{update_count};
+ghost use Rattle.world_model.specs.Lines.{session_of};
+ghost use Rattle.world_model.specs.Partition.{IsOther};
+ghost use Rattle.txn_session.specs.Calls.{Call, entries, IsLegal, IsAllowed, MayCall, GoesOn, Changes, Sends, Stays, SeesStill};
+
+use crdt_core::{Crdt, Message, ObjectId, Op, Upd};
+use field_codec::Text;
+use site_vector::{PartId, TxId, VTime};
+use std::alloc::AllocError;
+use world_model::Step;
+
+/// Partitions that sessions call.
+///
+/// A pass is what its holder has seen, and the numbers that it calls by; each call takes it and gives it back. A call may be
+/// made where some run that the pass has seen allows it. Whatever run the pass has seen that allows it then goes on: by what
+/// others did meanwhile, and by the event that the answer shows. Each `AllocError` is want of memory: nothing was asked then.
+pub trait Store<C: Crdt> {
+    type Pass: Drop;
+
+    /// The pass has seen these calls, the newest first.
+    ghost sees: { Self → Self.Pass → List (Call C.Effect) → Type 0 };
+
+    /// The pass holds this number.
+    ghost numbers: { Self.Pass → ℕ → Bool };
+
+    /// The numbers of sites, and of partitions of each site.
+    ghost sites: { Self → ℕ };
+
+    ghost parts: { Self → ℕ };
+
+    /// What a call leaves of the store, whatever others do: a shared one is the same.
+    ghost stays: { Self → Self → Type 0 };
+
+    /// Reads the clock of a partition at `r`.
+    fn tick(
+        &mut self,
+        pass: Self::Pass,
+        at: PartId,
+        r: u64,
+    ) -> (Self::Pass, Result<Step, AllocError>)
+        requires reading { r ≤ end_of_time }
+        requires may { MayCall {E = C.Effect} sees numbers (sites self.old) (parts self.old) self.old pass None at
+            (AskTick r) }
+        ensures stays { stays self.old self.new }
+        ensures same { (n : ℕ) → numbers result.0 n ≡ numbers pass n }
+        ensures ok { IfOk result.1 (λ r'. (run : List (Call C.Effect)) → sees self.old pass run →
+            GoesOn sees numbers self.new result.0 run None at (AskTick r) r') }
+        ensures err { IfErr result.1 (λ e. (run : List (Call C.Effect)) → sees self.old pass run →
+            Stays sees numbers self.new result.0 run) };
+
+    /// Begins a transaction of the session `who`, which depends on `dep`. The number is the caller's, for the
+    /// transaction's later calls.
+    fn begin(
+        &mut self,
+        pass: Self::Pass,
+        at: PartId,
+        who: &Text,
+        dep: &VTime,
+    ) -> (Self::Pass, Result<(Step, u64), AllocError>)
+        requires may { MayCall sees numbers (sites self.old) (parts self.old) self.old pass None at (AskBegin who.now
+            dep.now) }
+        ensures stays { stays self.old self.new }
+        ensures same { (n : ℕ) → numbers result.0 n ≡ numbers pass n }
+        ensures ok { IfOk result.1 (λ r. (run : List (Call C.Effect)) → sees self.old pass run →
+            IsAllowed (sites self.old) (parts self.old) run None at (AskBegin who.now dep.now) →
+            GoesOn sees numbers self.new result.0 run (Some r.1) at (AskBegin who.now dep.now) r.0) }
+        ensures err { IfErr result.1 (λ e. (run : List (Call C.Effect)) → sees self.old pass run →
+            Stays sees numbers self.new result.0 run) };
+
+    /// Reads an object under the snapshot `s`, with the transaction's own earlier updates of it.
+    fn read(
+        &mut self,
+        pass: Self::Pass,
+        at: PartId,
+        who: &Text,
+        by: u64,
+        tx: TxId,
+        s: &VTime,
+        object: &ObjectId,
+        own: &[Upd<C::Effect>],
+    ) -> (Self::Pass, Result<Step, AllocError>)
+        requires has { C.has object.now.kind ≡ true }
+        requires may { MayCall sees numbers (sites self.old) (parts self.old) self.old pass (Some by) at (AskRead tx
+            s.now object.now own.now) }
+        ensures stays { stays self.old self.new }
+        ensures same { (n : ℕ) → numbers result.0 n ≡ numbers pass n }
+        ensures ok { IfOk result.1 (λ r. (run : List (Call C.Effect)) → sees self.old pass run →
+            IsAllowed (sites self.old) (parts self.old) run (Some by) at (AskRead tx s.now object.now own.now) →
+            who.now ≡ session_of (entries run) tx →
+            GoesOn sees numbers self.new result.0 run (Some by) at (AskRead tx s.now object.now own.now) r) }
+        ensures err { IfErr result.1 (λ e. (run : List (Call C.Effect)) → sees self.old pass run →
+            Stays sees numbers self.new result.0 run) };
+
+    /// Makes the effect of an operation, which fits the object's kind, as the transaction's update with this number. The effect is
+    /// there where the answer is that it was made.
+    fn update(
+        &mut self,
+        pass: Self::Pass,
+        at: PartId,
+        who: &Text,
+        by: u64,
+        tx: TxId,
+        s: &VTime,
+        object: &ObjectId,
+        own: &[Upd<C::Effect>],
+        op: &Op,
+        index: u16,
+    ) -> (Self::Pass, Result<(Step, Option<C::Effect>), AllocError>)
+        requires has { C.has object.now.kind ≡ true }
+        requires fits { fits_kind C.too_deep object.now op.now ≡ true }
+        requires may { MayCall sees numbers (sites self.old) (parts self.old) self.old pass (Some by) at (AskUpdate
+            tx s.now object.now own.now op.now) }
+        ensures stays { stays self.old self.new }
+        ensures same { (n : ℕ) → numbers result.0 n ≡ numbers pass n }
+        ensures ok { IfOk result.1 (λ r. (run : List (Call C.Effect)) → sees self.old pass run →
+            IsAllowed (sites self.old) (parts self.old) run (Some by) at (AskUpdate tx s.now object.now own.now
+            op.now) →
+            who.now ≡ session_of (entries run) tx → index ≡ update_count (entries run) tx + 1 →
+            Changes sees numbers self.new result.0 run by at (AskUpdate tx s.now object.now own.now op.now) r.0 r.1) }
+        ensures err { IfErr result.1 (λ e. (run : List (Call C.Effect)) → sees self.old pass run →
+            Stays sees numbers self.new result.0 run) };
+
+    /// Asks for a vote: the transaction's updates at this partition, and the number of its lead.
+    fn prepare(
+        &mut self,
+        pass: Self::Pass,
+        at: PartId,
+        by: u64,
+        tx: TxId,
+        s: &VTime,
+        lead: u8,
+        updates: &[Upd<C::Effect>],
+    ) -> (Self::Pass, Result<Step, AllocError>)
+        requires may { MayCall sees numbers (sites self.old) (parts self.old) self.old pass (Some by) at (AskPrepare
+            tx s.now lead updates.now) }
+        ensures stays { stays self.old self.new }
+        ensures same { (n : ℕ) → numbers result.0 n ≡ numbers pass n }
+        ensures ok { IfOk result.1 (λ r. (run : List (Call C.Effect)) → sees self.old pass run →
+            IsAllowed (sites self.old) (parts self.old) run (Some by) at (AskPrepare tx s.now lead updates.now) →
+            GoesOn sees numbers self.new result.0 run (Some by) at (AskPrepare tx s.now lead updates.now) r) }
+        ensures err { IfErr result.1 (λ e. (run : List (Call C.Effect)) → sees self.old pass run →
+            Stays sees numbers self.new result.0 run) };
+
+    /// Asks the lead to decide, with the commit vector.
+    fn decide(
+        &mut self,
+        pass: Self::Pass,
+        at: PartId,
+        by: u64,
+        tx: TxId,
+        c: &VTime,
+    ) -> (Self::Pass, Result<Step, AllocError>)
+        requires may { MayCall {E = C.Effect} sees numbers (sites self.old) (parts self.old) self.old pass (Some by)
+            at (AskDecide tx c.now) }
+        ensures stays { stays self.old self.new }
+        ensures same { (n : ℕ) → numbers result.0 n ≡ numbers pass n }
+        ensures ok { IfOk result.1 (λ r. (run : List (Call C.Effect)) → sees self.old pass run →
+            IsAllowed (sites self.old) (parts self.old) run (Some by) at (AskDecide tx c.now) →
+            GoesOn sees numbers self.new result.0 run (Some by) at (AskDecide tx c.now) r) }
+        ensures err { IfErr result.1 (λ e. (run : List (Call C.Effect)) → sees self.old pass run →
+            Stays sees numbers self.new result.0 run) };
+
+    /// Asks a participant to finish a decided transaction.
+    fn finish(
+        &mut self,
+        pass: Self::Pass,
+        at: PartId,
+        tx: TxId,
+        c: &VTime,
+    ) -> (Self::Pass, Result<Step, AllocError>)
+        requires may { MayCall {E = C.Effect} sees numbers (sites self.old) (parts self.old) self.old pass None at
+            (AskFinish tx c.now) }
+        ensures stays { stays self.old self.new }
+        ensures same { (n : ℕ) → numbers result.0 n ≡ numbers pass n }
+        ensures ok { IfOk result.1 (λ r. (run : List (Call C.Effect)) → sees self.old pass run →
+            IsAllowed (sites self.old) (parts self.old) run None at (AskFinish tx c.now) →
+            GoesOn sees numbers self.new result.0 run None at (AskFinish tx c.now) r) }
+        ensures err { IfErr result.1 (λ e. (run : List (Call C.Effect)) → sees self.old pass run →
+            Stays sees numbers self.new result.0 run) };
+
+    /// Asks a participant to abort, on the word of the transaction's session.
+    fn abort(
+        &mut self,
+        pass: Self::Pass,
+        at: PartId,
+        by: u64,
+        tx: TxId,
+    ) -> (Self::Pass, Result<Step, AllocError>)
+        requires may { MayCall {E = C.Effect} sees numbers (sites self.old) (parts self.old) self.old pass (Some by)
+            at (AskAbort tx) }
+        ensures stays { stays self.old self.new }
+        ensures same { (n : ℕ) → numbers result.0 n ≡ numbers pass n }
+        ensures ok { IfOk result.1 (λ r. (run : List (Call C.Effect)) → sees self.old pass run →
+            IsAllowed (sites self.old) (parts self.old) run (Some by) at (AskAbort tx) →
+            GoesOn sees numbers self.new result.0 run (Some by) at (AskAbort tx) r) }
+        ensures err { IfErr result.1 (λ e. (run : List (Call C.Effect)) → sees self.old pass run →
+            Stays sees numbers self.new result.0 run) };
+
+    /// Makes a message for another site, from the bound `from` or the last one sent.
+    fn release(
+        &mut self,
+        pass: Self::Pass,
+        at: PartId,
+        to: u8,
+        from: Option<u64>,
+    ) -> (
+        Self::Pass,
+        Result<(Step, Option<Message<C::Effect>>), AllocError>,
+    )
+        requires other { IsOther (sites self.old) at.site to }
+        requires may { MayCall {E = C.Effect} sees numbers (sites self.old) (parts self.old) self.old pass None at
+            (AskMessage to from) }
+        ensures stays { stays self.old self.new }
+        ensures same { (n : ℕ) → numbers result.0 n ≡ numbers pass n }
+        ensures ok { IfOk result.1 (λ r. (run : List (Call C.Effect)) → sees self.old pass run →
+            Sends sees numbers self.new result.0 run at (AskMessage to from) r.0 r.1) }
+        ensures err { IfErr result.1 (λ e. (run : List (Call C.Effect)) → sees self.old pass run →
+            Stays sees numbers self.new result.0 run) };
+
+    /// Hands on the message with this number among those of its sender.
+    fn take(
+        &mut self,
+        pass: Self::Pass,
+        at: PartId,
+        number: u64,
+        message: &Message<C::Effect>,
+    ) -> (Self::Pass, Result<Step, AllocError>)
+        requires may { MayCall sees numbers (sites self.old) (parts self.old) self.old pass None at (AskTake number
+            message.now) }
+        ensures stays { stays self.old self.new }
+        ensures same { (n : ℕ) → numbers result.0 n ≡ numbers pass n }
+        ensures ok { IfOk result.1 (λ r. (run : List (Call C.Effect)) → sees self.old pass run →
+            IsAllowed (sites self.old) (parts self.old) run None at (AskTake number message.now) →
+            GoesOn sees numbers self.new result.0 run None at (AskTake number message.now) r) }
+        ensures err { IfErr result.1 (λ e. (run : List (Call C.Effect)) → sees self.old pass run →
+            Stays sees numbers self.new result.0 run) };
+
+    /// Asks for the bounds of a partition.
+    fn report(&mut self, pass: Self::Pass, at: PartId) -> (Self::Pass, Result<Step, AllocError>)
+        requires may { MayCall {E = C.Effect} sees numbers (sites self.old) (parts self.old) self.old pass None at
+            AskReport }
+        ensures stays { stays self.old self.new }
+        ensures same { (n : ℕ) → numbers result.0 n ≡ numbers pass n }
+        ensures ok { IfOk result.1 (λ r. (run : List (Call C.Effect)) → sees self.old pass run →
+            GoesOn sees numbers self.new result.0 run None at AskReport r) }
+        ensures err { IfErr result.1 (λ e. (run : List (Call C.Effect)) → sees self.old pass run →
+            Stays sees numbers self.new result.0 run) };
+
+    /// Hands on the report with this number among those of the partition `part` of the site.
+    fn hear(
+        &mut self,
+        pass: Self::Pass,
+        at: PartId,
+        number: u64,
+        part: u8,
+        bounds: &VTime,
+    ) -> (Self::Pass, Result<Step, AllocError>)
+        requires may { MayCall {E = C.Effect} sees numbers (sites self.old) (parts self.old) self.old pass None at
+            (AskHear number part bounds.now) }
+        ensures stays { stays self.old self.new }
+        ensures same { (n : ℕ) → numbers result.0 n ≡ numbers pass n }
+        ensures ok { IfOk result.1 (λ r. (run : List (Call C.Effect)) → sees self.old pass run →
+            IsAllowed (sites self.old) (parts self.old) run None at (AskHear number part bounds.now) →
+            GoesOn sees numbers self.new result.0 run None at (AskHear number part bounds.now) r) }
+        ensures err { IfErr result.1 (λ e. (run : List (Call C.Effect)) → sees self.old pass run →
+            Stays sees numbers self.new result.0 run) };
+
+    /// Two passes in place of one: both have seen what it had. The first holds its numbers.
+    ///
+    /// # Errors
+    ///
+    /// The pass, where no other can be made.
+    fn split(&mut self, pass: Self::Pass) -> Result<(Self::Pass, Self::Pass), Self::Pass>
+        ensures stays { stays self.old self.new }
+        ensures first { IfOk result (λ r. ((n : ℕ) →
+            numbers r.0 n ≡ numbers pass n) × ((run : List (Call C.Effect)) → sees self.old pass run →
+            Stays sees numbers self.new r.0 run)) }
+        ensures second { IfOk result (λ r. (run : List (Call C.Effect)) → sees self.old pass run →
+            SeesStill sees numbers self.new r.1 run) }
+        ensures err { IfErr result (λ r. ((n : ℕ) → numbers r n ≡ numbers pass n) × ((run : List (Call C.Effect)) →
+            sees self.old pass run → Stays sees numbers self.new r run)) };
+
+    /// One pass in place of two: it has seen what either had, and holds the numbers of both.
+    fn meet(&mut self, first: Self::Pass, second: Self::Pass) -> Self::Pass
+        ensures stays { stays self.old self.new }
+        ensures numbers { (n : ℕ) → numbers result n ≡ (numbers first n || numbers second n) }
+        ensures first { (run : List (Call C.Effect)) → sees self.old first run →
+            SeesStill sees numbers self.new result run }
+        ensures second { (run : List (Call C.Effect)) → sees self.old second run →
+            SeesStill sees numbers self.new result run };
+
+    /// What a pass has seen is a run of the world, whose transactions' callers are one each.
+    ghost legal: { (store : Self) (pass : Self.Pass) (run : List (Call C.Effect)) → sees store pass run → IsLegal (kinds_of C.laws) (sites store) (parts store) run };
+
+    /// A call changes no number of sites or partitions.
+    ghost keeps: { (a b : Self) → stays a b → (sites b ≡ sites a) × (parts b ≡ parts a) };
+
+    /// What no call was made of stays.
+    ghost rests: { (a : Self) → stays a a };
+
+    /// What two calls leave is what both leave.
+    ghost follows: { (a b c : Self) → stays a b → stays b c → stays a c };
+}
