@@ -7,6 +7,8 @@ use crdt_counters::CounterPn;
 use partition_core::{CallError, Partition, Refusal};
 use site_vector::{PartId, TxId, VTime};
 use std::alloc::{AllocError, Global};
+use std::fmt;
+use std::io;
 use std::marker::Model;
 use thiserror::Error;
 
@@ -39,6 +41,36 @@ impl From<Refusal> for Failure {
 impl From<AllocError> for Failure {
     fn from(_error: AllocError) -> Failure {
         Failure::Answer(CallError::NoMemory)
+    }
+}
+
+impl From<Failure> for io::Error {
+    fn from(_failure: Failure) -> io::Error {
+        io::ErrorKind::Other.into()
+    }
+}
+
+/// A transaction that began: its id and its snapshot.
+#[derive(Clone, Copy)]
+pub(crate) struct Begun {
+    pub(crate) tx: TxId,
+    pub(crate) s: VTime,
+}
+
+impl fmt::Display for Begun {
+    fn fmt<W: fmt::Write>(&self, f: &mut fmt::Formatter<W>) -> fmt::Result {
+        let s = self.s.as_slice();
+        write!(f, "{} {s:?}", self.tx)
+    }
+}
+
+/// The answer of a call that only says that it is done.
+#[derive(Clone, Copy)]
+pub(crate) struct Done;
+
+impl fmt::Display for Done {
+    fn fmt<W: fmt::Write>(&self, f: &mut fmt::Formatter<W>) -> fmt::Result {
+        f.write_str("done")
     }
 }
 
@@ -86,11 +118,12 @@ impl Place {
         self.partition.tick(reading)
     }
 
-    pub(crate) fn begin(&mut self, dependency: &VTime) -> Result<(TxId, VTime), Failure> {
+    pub(crate) fn begin(&mut self, dependency: &VTime) -> Result<Begun, Failure> {
         if dependency.width() != SIZE {
             return Err(Failure::Unasked);
         }
-        Ok(self.partition.begin(dependency)?)
+        let (tx, s) = self.partition.begin(dependency)?;
+        Ok(Begun { tx, s })
     }
 
     pub(crate) fn read(
@@ -114,12 +147,13 @@ impl Place {
         tx: TxId,
         s: &VTime,
         object: &ObjectId,
+        own: &[Upd<i64>],
         op: &Op,
     ) -> Result<i64, Failure> {
         if s.width() != SIZE || !CounterPn::has(object.kind) {
             return Err(Failure::Unasked);
         }
-        let (effect, _stamp) = self.partition.update(self.alloc, tx, s, object, &[], op)?;
+        let (effect, _stamp) = self.partition.update(self.alloc, tx, s, object, own, op)?;
         Ok(effect)
     }
 
@@ -136,22 +170,25 @@ impl Place {
         Ok(self.partition.prepare(self.alloc, tx, s, lead, updates)?)
     }
 
-    pub(crate) fn decide(&mut self, tx: TxId, c: &VTime) -> Result<(), Failure> {
+    pub(crate) fn decide(&mut self, tx: TxId, c: &VTime) -> Result<Done, Failure> {
         if tx.site != self.id.site || c.width() != SIZE {
             return Err(Failure::Unasked);
         }
-        Ok(self.partition.decide(tx, c)?)
+        self.partition.decide(tx, c)?;
+        Ok(Done)
     }
 
-    pub(crate) fn finish(&mut self, tx: TxId, c: &VTime) -> Result<(), Failure> {
+    pub(crate) fn finish(&mut self, tx: TxId, c: &VTime) -> Result<Done, Failure> {
         if tx.site != self.id.site || c.width() != SIZE {
             return Err(Failure::Unasked);
         }
-        Ok(self.partition.finish(tx, c)?)
+        self.partition.finish(tx, c)?;
+        Ok(Done)
     }
 
-    pub(crate) fn abort(&mut self, tx: TxId) -> Result<(), Failure> {
-        Ok(self.partition.abort(tx)?)
+    pub(crate) fn abort(&mut self, tx: TxId) -> Result<Done, Failure> {
+        self.partition.abort(tx)?;
+        Ok(Done)
     }
 
     pub(crate) fn release(&mut self, to: u8) -> Result<Message<i64>, Failure> {
@@ -161,11 +198,12 @@ impl Place {
         Ok(self.partition.release(self.alloc, to, None)?)
     }
 
-    pub(crate) fn take(&mut self, message: &Message<i64>) -> Result<(), Failure> {
+    pub(crate) fn take(&mut self, message: &Message<i64>) -> Result<Done, Failure> {
         if !may_take(self.id.site, &self.partition, message) {
             return Err(Failure::Unasked);
         }
-        Ok(self.partition.take(self.alloc, message)?)
+        self.partition.take(self.alloc, message)?;
+        Ok(Done)
     }
 
     pub(crate) fn report(&self) -> VTime {
