@@ -7,9 +7,8 @@ use crdt_counters::CounterPn;
 use partition_core::{CallError, Partition, Refusal};
 use site_vector::{PartId, TxId, VTime};
 use std::alloc::{AllocError, Global};
-use std::fmt;
-use std::io;
 use std::marker::Model;
+use std::{fmt, io};
 use thiserror::Error;
 
 /// How many sites the cluster has, and how many partitions each of them.

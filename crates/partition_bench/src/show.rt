@@ -1,11 +1,14 @@
-// Partitions asked by hand: each line says what was asked, and what was answered.
-use crate::place::{Begun, Failure, Place, SIZE};
+ghost use Rattle.std.specs.Prelude.{◌≤◌};
+ghost use Rattle.crdt_core.specs.Log.{end_of_time};
+
+// Partitions asked by hand: each line says what was asked of which, and what it answered.
+use crate::place::{Begun, Done, Failure, Place, SIZE};
 use crate::transaction::{commit, commit_vector};
 use crate::words::{counter, first, increment};
-use site_vector::{TxId, VTime};
-use std::alloc::Global;
+use crdt_core::{Message, ObjectId, Upd};
+use site_vector::VTime;
 use std::fmt::Display;
-use std::io;
+use std::{io, slice};
 
 /// Prints an answer.
 fn show<T: Display>(rt: &HostRuntime, what: &str, answer: &Result<T, Failure>) -> io::Result<()> {
@@ -15,23 +18,197 @@ fn show<T: Display>(rt: &HostRuntime, what: &str, answer: &Result<T, Failure>) -
     }
 }
 
-/// Prints an answer that the next calls need, and hands it on.
-fn tell<T: Display + Drop>(rt: &HostRuntime, what: &str, answer: Result<T, Failure>) -> io::Result<T> {
+/// Prints an answer that later calls need, and hands it on.
+fn tell<T: Display + Drop>(
+    rt: &HostRuntime,
+    what: &str,
+    answer: Result<T, Failure>,
+) -> io::Result<T> {
     show(rt, what, &answer)?;
     Ok(answer?)
 }
 
+fn tick(rt: &HostRuntime, what: &str, place: &mut Place, reading: u64) -> io::Result<()>
+    requires { reading ≤ end_of_time }
+{
+    let now = place.tick(reading);
+    println!(rt; "{what} tick {reading}: {now}")
+}
+
+/// A transaction's update, which adds an amount to a counter.
+fn update(
+    rt: &HostRuntime,
+    what: &str,
+    place: &mut Place,
+    begun: &Begun,
+    key: &str,
+    amount: i32,
+) -> io::Result<Upd<i64>> {
+    let object = counter(rt.alloc(), key)?;
+    let op = increment(rt.alloc(), amount);
+    let made = place.update(begun.tx, &begun.s, &object, &[], &op);
+    let effect = tell(rt, what, made)?;
+    Ok(first(object, effect))
+}
+
+/// Both partitions vote, the second once its clock has reached the snapshot. Answers the transaction with its commit
+/// vector.
+fn vote(
+    rt: &HostRuntime,
+    a: &mut Place,
+    b: &mut Place,
+    begun: &Begun,
+    at_a: &[Upd<i64>],
+    at_b: &[Upd<i64>],
+) -> io::Result<Begun> {
+    let (tx, s) = (begun.tx, begun.s);
+    let time = tell(rt, "1.1 prepare", a.prepare(tx, &s, 1, at_a))?;
+    show(rt, "1.2 prepare", &b.prepare(tx, &s, 1, at_b))?;
+    tick(rt, "1.2", b, 100)?;
+    let other = tell(rt, "1.2 prepare", b.prepare(tx, &s, 1, at_b))?;
+    show(rt, "1.2 prepare again", &b.prepare(tx, &s, 1, at_b))?;
+    let s = commit_vector(begun, time.max(other));
+    Ok(Begun { tx, s })
+}
+
+/// The first partition decides. A read there waits for its clock.
+fn lead(rt: &HostRuntime, a: &mut Place, voted: &Begun, milk: &ObjectId) -> io::Result<()> {
+    let (tx, c) = (voted.tx, voted.s);
+    show(rt, "1.1 decide", &a.decide(tx, &c))?;
+    show(rt, "1.1 decide again", &a.decide(tx, &c))?;
+    show(rt, "1.1 read milk", &a.read(tx, &c, milk, &[]))?;
+    tick(rt, "1.1", a, 101)?;
+    show(rt, "1.1 read milk", &a.read(tx, &c, milk, &[]))
+}
+
+/// The second partition finishes. A read there waits for what is prepared.
+fn follow(rt: &HostRuntime, b: &mut Place, voted: &Begun, tea: &ObjectId) -> io::Result<()> {
+    let (tx, c) = (voted.tx, voted.s);
+    show(rt, "1.2 read tea", &b.read(tx, &c, tea, &[]))?;
+    show(rt, "1.2 finish", &b.finish(tx, &c))?;
+    show(rt, "1.2 finish again", &b.finish(tx, &c))?;
+    show(rt, "1.2 read tea", &b.read(tx, &c, tea, &[]))
+}
+
+/// A transaction over two partitions of a site.
+fn print_two(rt: &HostRuntime) -> io::Result<()> {
+    let alloc = rt.alloc();
+    let (mut a, mut b) = (Place::new(alloc, 1, 1), Place::new(alloc, 1, 2));
+    let begun = tell(rt, "1.1 begin", a.begin(&VTime::zero(SIZE)))?;
+    let at_a = update(rt, "1.1 add 5 to milk", &mut a, &begun, "milk", 5)?;
+    let at_b = update(rt, "1.2 add 7 to tea", &mut b, &begun, "tea", 7)?;
+    let (ours, theirs) = (slice::from_ref(&at_a), slice::from_ref(&at_b));
+    let own = a.read(begun.tx, &begun.s, &at_a.object, ours);
+    show(rt, "1.1 read milk with its own update", &own)?;
+    let voted = vote(rt, &mut a, &mut b, &begun, ours, theirs)?;
+    lead(rt, &mut a, &voted, &at_a.object)?;
+    follow(rt, &mut b, &voted, &at_b.object)
+}
+
+/// A transaction that is gone.
+fn print_gone(rt: &HostRuntime) -> io::Result<()> {
+    let mut a = Place::new(rt.alloc(), 1, 1);
+    let Begun { tx, s } = tell(rt, "1.1 begin", a.begin(&VTime::zero(SIZE)))?;
+    show(rt, "1.1 decide", &a.decide(tx, &s))?;
+    show(rt, "1.1 finish", &a.finish(tx, &s))?;
+    show(rt, "1.1 abort", &a.abort(tx))?;
+    show(rt, "1.1 prepare", &a.prepare(tx, &s, 1, &[]))?;
+    show(rt, "1.1 abort", &a.abort(tx))?;
+    show(rt, "1.1 decide", &a.decide(tx, &s))
+}
+
+/// Makes a message, and says how many transactions it brings, and of which stretch of time.
+fn release(rt: &HostRuntime, what: &str, place: &mut Place) -> io::Result<Message<i64>> {
+    let message = place.release(2)?;
+    let (lo, hi, count) = (message.lo, message.hi, message.parts.as_slice().len());
+    println!(rt; "{what} release to 2: {count} of {lo}..{hi}")?;
+    Ok(message)
+}
+
+/// A transaction that adds an amount, and the message that brings it.
+fn send(
+    rt: &HostRuntime,
+    a: &mut Place,
+    milk: &mut Upd<i64>,
+    amount: i32,
+) -> io::Result<Message<i64>> {
+    let done = commit(a, milk, &increment(rt.alloc(), amount));
+    show(rt, "1.1 commit to milk", &done)?;
+    release(rt, "1.1", a)
+}
+
+/// The second message before the first, and the first twice.
+fn deliver(
+    rt: &HostRuntime,
+    c: &mut Place,
+    one: &Message<i64>,
+    two: &Message<i64>,
+) -> io::Result<()> {
+    show(rt, "2.1 take the second", &c.take(two))?;
+    show(rt, "2.1 take the first", &c.take(one))?;
+    show(rt, "2.1 take the first again", &c.take(one))?;
+    show(rt, "2.1 take the second", &c.take(two))
+}
+
+/// What a partition shows of all that it took.
+fn read_all(rt: &HostRuntime, c: &mut Place, milk: &ObjectId) -> io::Result<()> {
+    let reader = tell(rt, "2.1 begin", c.begin(&VTime::zero(SIZE)))?;
+    let bounds = c.report();
+    let shown = c.read(reader.tx, &bounds, milk, &[]);
+    show(rt, "2.1 read milk at its bounds", &shown)
+}
+
+/// Messages from one site to the other.
+fn print_messages(rt: &HostRuntime) -> io::Result<()> {
+    let (mut a, mut c) = (Place::new(rt.alloc(), 1, 1), Place::new(rt.alloc(), 2, 1));
+    let mut milk = first(counter(rt.alloc(), "milk")?, 0);
+    let one = send(rt, &mut a, &mut milk, 5)?;
+    let two = send(rt, &mut a, &mut milk, 7)?;
+    deliver(rt, &mut c, &one, &two)?;
+    show(rt, "1.1 take its own", &a.take(&one))?;
+    read_all(rt, &mut c, &milk.object)
+}
+
+/// A report, without which a partition knows nothing of another one of its site.
+fn print_reports(rt: &HostRuntime) -> io::Result<()> {
+    let alloc = rt.alloc();
+    let (mut a, mut b) = (Place::new(alloc, 1, 1), Place::new(alloc, 1, 2));
+    let (mut c, mut d) = (Place::new(alloc, 2, 1), Place::new(alloc, 2, 2));
+    tick(rt, "1.1", &mut a, 10)?;
+    tick(rt, "1.2", &mut b, 20)?;
+    let past = VTime::zero(SIZE).with(1, 10);
+    show(rt, "2.1 take", &c.take(&release(rt, "1.1", &mut a)?))?;
+    show(rt, "2.1 begin after 10 of site 1", &c.begin(&past))?;
+    show(rt, "2.2 take", &d.take(&release(rt, "1.2", &mut b)?))?;
+    show(rt, "2.1 begin after 10 of site 1", &c.begin(&past))?;
+    let report = d.report();
+    let bounds = report.as_slice();
+    println!(rt; "2.2 report: {bounds:?}")?;
+    let stable = c.hear(2, &report)?;
+    let stable = stable.as_slice();
+    println!(rt; "2.1 hear: {stable:?}")?;
+    show(rt, "2.1 begin after 10 of site 1", &c.begin(&past))
+}
+
 /// The end of time.
-fn end(rt: &HostRuntime) -> io::Result<()> {
+fn print_end(rt: &HostRuntime) -> io::Result<()> {
     let mut a = Place::new(rt.alloc(), 1, 1);
     let zero = VTime::zero(SIZE);
-    let begun = tell(rt, "1.1 begin", a.begin(&zero))?;
-    let now = a.tick(1 << 62);
-    println!(rt; "1.1 tick 2^62: {now}")?;
+    let Begun { tx, s } = tell(rt, "1.1 begin", a.begin(&zero))?;
+    tick(rt, "1.1", &mut a, 1 << 62)?;
     show(rt, "1.1 begin", &a.begin(&zero))?;
-    show(rt, "1.1 prepare", &a.prepare(begun.tx, &begun.s, 1, &[]))
+    show(rt, "1.1 prepare", &a.prepare(tx, &s, 1, &[]))
 }
 
 pub(crate) fn print(rt: &HostRuntime) -> io::Result<()> {
-    end(rt)
+    println!(rt; "# a transaction over two partitions")?;
+    print_two(rt)?;
+    println!(rt; "# a transaction that is gone")?;
+    print_gone(rt)?;
+    println!(rt; "# messages out of their order")?;
+    print_messages(rt)?;
+    println!(rt; "# a report")?;
+    print_reports(rt)?;
+    println!(rt; "# the end of time")?;
+    print_end(rt)
 }

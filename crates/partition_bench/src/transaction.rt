@@ -20,8 +20,5 @@ pub(crate) fn commit(place: &mut Place, update: &mut Upd<i64>, op: &Op) -> Resul
     let time = place.prepare(begun.tx, &begun.s, begun.tx.part, slice::from_ref(update))?;
     let c = commit_vector(&begun, time);
     place.decide(begun.tx, &c)?;
-    Ok(Begun {
-        tx: begun.tx,
-        s: c,
-    })
+    Ok(Begun { tx: begun.tx, s: c })
 }
