@@ -90,19 +90,31 @@ fn follow(rt: &HostRuntime, b: &mut Place, voted: &Begun, tea: &ObjectId) -> io:
     show(rt, "1.2 read tea", &b.read(tx, &c, tea, &[]))
 }
 
+/// What a transaction over two partitions comes to, once its updates are made.
+fn complete(
+    rt: &HostRuntime,
+    a: &mut Place,
+    b: &mut Place,
+    begun: &Begun,
+    at_a: &Upd<i64>,
+    at_b: &Upd<i64>,
+) -> io::Result<()> {
+    let (ours, theirs) = (slice::from_ref(at_a), slice::from_ref(at_b));
+    let own = a.read(begun.tx, &begun.s, &at_a.object, ours);
+    show(rt, "1.1 read milk with its own update", &own)?;
+    let voted = vote(rt, a, b, begun, ours, theirs)?;
+    lead(rt, a, &voted, &at_a.object)?;
+    follow(rt, b, &voted, &at_b.object)
+}
+
 /// A transaction over two partitions of a site.
 fn print_two(rt: &HostRuntime) -> io::Result<()> {
-    let alloc = rt.alloc();
-    let (mut a, mut b) = (Place::new(alloc, 1, 1), Place::new(alloc, 1, 2));
+    let mut a = Place::new(rt.alloc(), 1, 1);
+    let mut b = Place::new(rt.alloc(), 1, 2);
     let begun = tell(rt, "1.1 begin", a.begin(&VTime::zero(SIZE)))?;
     let at_a = update(rt, "1.1 add 5 to milk", &mut a, &begun, "milk", 5)?;
     let at_b = update(rt, "1.2 add 7 to tea", &mut b, &begun, "tea", 7)?;
-    let (ours, theirs) = (slice::from_ref(&at_a), slice::from_ref(&at_b));
-    let own = a.read(begun.tx, &begun.s, &at_a.object, ours);
-    show(rt, "1.1 read milk with its own update", &own)?;
-    let voted = vote(rt, &mut a, &mut b, &begun, ours, theirs)?;
-    lead(rt, &mut a, &voted, &at_a.object)?;
-    follow(rt, &mut b, &voted, &at_b.object)
+    complete(rt, &mut a, &mut b, &begun, &at_a, &at_b)
 }
 
 /// A transaction that is gone.
@@ -126,15 +138,11 @@ fn release(rt: &HostRuntime, what: &str, place: &mut Place) -> io::Result<Messag
 }
 
 /// A transaction that adds an amount, and the message that brings it.
-fn send(
-    rt: &HostRuntime,
-    a: &mut Place,
-    milk: &mut Upd<i64>,
-    amount: i32,
-) -> io::Result<Message<i64>> {
-    let done = commit(a, milk, &increment(rt.alloc(), amount));
+fn send(rt: &HostRuntime, place: &mut Place, amount: i32) -> io::Result<Message<i64>> {
+    let mut milk = first(counter(rt.alloc(), "milk")?, 0);
+    let done = commit(place, &mut milk, &increment(rt.alloc(), amount));
     show(rt, "1.1 commit to milk", &done)?;
-    release(rt, "1.1", a)
+    release(rt, "1.1", place)
 }
 
 /// The second message before the first, and the first twice.
@@ -151,22 +159,23 @@ fn deliver(
 }
 
 /// What a partition shows of all that it took.
-fn read_all(rt: &HostRuntime, c: &mut Place, milk: &ObjectId) -> io::Result<()> {
+fn read_all(rt: &HostRuntime, c: &mut Place) -> io::Result<()> {
+    let milk = counter(rt.alloc(), "milk")?;
     let reader = tell(rt, "2.1 begin", c.begin(&VTime::zero(SIZE)))?;
     let bounds = c.report();
-    let shown = c.read(reader.tx, &bounds, milk, &[]);
+    let shown = c.read(reader.tx, &bounds, &milk, &[]);
     show(rt, "2.1 read milk at its bounds", &shown)
 }
 
 /// Messages from one site to the other.
 fn print_messages(rt: &HostRuntime) -> io::Result<()> {
-    let (mut a, mut c) = (Place::new(rt.alloc(), 1, 1), Place::new(rt.alloc(), 2, 1));
-    let mut milk = first(counter(rt.alloc(), "milk")?, 0);
-    let one = send(rt, &mut a, &mut milk, 5)?;
-    let two = send(rt, &mut a, &mut milk, 7)?;
+    let mut a = Place::new(rt.alloc(), 1, 1);
+    let mut c = Place::new(rt.alloc(), 2, 1);
+    let one = send(rt, &mut a, 5)?;
+    let two = send(rt, &mut a, 7)?;
     deliver(rt, &mut c, &one, &two)?;
     show(rt, "1.1 take its own", &a.take(&one))?;
-    read_all(rt, &mut c, &milk.object)
+    read_all(rt, &mut c)
 }
 
 /// A report, without which a partition knows nothing of another one of its site.
