@@ -217,16 +217,23 @@ impl Place {
     }
 }
 
-/// Whether the partition of this site may take a message: one part of another site at most, of what it doesn't know.
+/// Whether the partition of this site may take a message: of at most one part, which is of another site, and unknown
+/// where it lies above what was taken.
 fn may_take(site: u8, partition: &Partition<CounterPn>, message: &Message<i64>) -> bool
+    requires { partition.now.sites ≡ 2 }
     ensures { result ≡ true → MayTake site partition.now message.now }
 {
-    if message.from == 0 || message.from > SIZE {
+    let from = message.from;
+    if from == 0 || from > SIZE {
         return false;
     }
     match message.parts.as_slice() {
         [] => true,
-        [part] => part.c.width() == SIZE && part.tx.site != site && !partition.knows(part.tx),
+        [part] => {
+            part.c.width() == SIZE
+                && part.tx.site != site
+                && (part.c.get(from) <= partition.bound(from) || !partition.knows(part.tx))
+        }
         _ => false,
     }
 }

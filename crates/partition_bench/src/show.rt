@@ -107,19 +107,16 @@ fn complete(
     follow(rt, b, &voted, &at_b.object)
 }
 
-/// A transaction over two partitions of a site.
-fn print_two(rt: &HostRuntime) -> io::Result<()> {
-    let mut a = Place::new(rt.alloc(), 1, 1);
-    let mut b = Place::new(rt.alloc(), 1, 2);
+/// A transaction that begins at one partition of a site, and changes an object of each.
+fn span(rt: &HostRuntime, a: &mut Place, b: &mut Place) -> io::Result<()> {
     let begun = tell(rt, "1.1 begin", a.begin(&VTime::zero(SIZE)))?;
-    let at_a = update(rt, "1.1 add 5 to milk", &mut a, &begun, "milk", 5)?;
-    let at_b = update(rt, "1.2 add 7 to tea", &mut b, &begun, "tea", 7)?;
-    complete(rt, &mut a, &mut b, &begun, &at_a, &at_b)
+    let at_a = update(rt, "1.1 add 5 to milk", a, &begun, "milk", 5)?;
+    let at_b = update(rt, "1.2 add 7 to tea", b, &begun, "tea", 7)?;
+    complete(rt, a, b, &begun, &at_a, &at_b)
 }
 
 /// A transaction that is gone.
-fn print_gone(rt: &HostRuntime) -> io::Result<()> {
-    let mut a = Place::new(rt.alloc(), 1, 1);
+fn lose(rt: &HostRuntime, a: &mut Place) -> io::Result<()> {
     let Begun { tx, s } = tell(rt, "1.1 begin", a.begin(&VTime::zero(SIZE)))?;
     show(rt, "1.1 decide", &a.decide(tx, &s))?;
     show(rt, "1.1 finish", &a.finish(tx, &s))?;
@@ -168,27 +165,17 @@ fn read_all(rt: &HostRuntime, c: &mut Place) -> io::Result<()> {
 }
 
 /// Messages from one site to the other.
-fn print_messages(rt: &HostRuntime) -> io::Result<()> {
-    let mut a = Place::new(rt.alloc(), 1, 1);
-    let mut c = Place::new(rt.alloc(), 2, 1);
-    let one = send(rt, &mut a, 5)?;
-    let two = send(rt, &mut a, 7)?;
-    deliver(rt, &mut c, &one, &two)?;
+fn exchange(rt: &HostRuntime, a: &mut Place, c: &mut Place) -> io::Result<()> {
+    let one = send(rt, a, 5)?;
+    let two = send(rt, a, 7)?;
+    deliver(rt, c, &one, &two)?;
     show(rt, "1.1 take its own", &a.take(&one))?;
-    read_all(rt, &mut c)
+    read_all(rt, c)
 }
 
-/// A report, without which a partition knows nothing of another one of its site.
-fn print_reports(rt: &HostRuntime) -> io::Result<()> {
-    let alloc = rt.alloc();
-    let (mut a, mut b) = (Place::new(alloc, 1, 1), Place::new(alloc, 1, 2));
-    let (mut c, mut d) = (Place::new(alloc, 2, 1), Place::new(alloc, 2, 2));
-    tick(rt, "1.1", &mut a, 10)?;
-    tick(rt, "1.2", &mut b, 20)?;
+/// What a partition knows of the other one of its site, without a report and with it.
+fn meet(rt: &HostRuntime, c: &mut Place, d: &mut Place) -> io::Result<()> {
     let past = VTime::zero(SIZE).with(1, 10);
-    show(rt, "2.1 take", &c.take(&release(rt, "1.1", &mut a)?))?;
-    show(rt, "2.1 begin after 10 of site 1", &c.begin(&past))?;
-    show(rt, "2.2 take", &d.take(&release(rt, "1.2", &mut b)?))?;
     show(rt, "2.1 begin after 10 of site 1", &c.begin(&past))?;
     let report = d.report();
     let bounds = report.as_slice();
@@ -199,25 +186,83 @@ fn print_reports(rt: &HostRuntime) -> io::Result<()> {
     show(rt, "2.1 begin after 10 of site 1", &c.begin(&past))
 }
 
+/// A clock's time brings what a message from its partition ends at.
+fn bring(
+    rt: &HostRuntime,
+    what: &str,
+    from: &mut Place,
+    to: &mut Place,
+    time: u64,
+) -> io::Result<()>
+    requires { time ≤ end_of_time }
+{
+    tick(rt, what, from, time)?;
+    let message = release(rt, what, from)?;
+    show(rt, "its twin take", &to.take(&message))
+}
+
+/// Time that passes at one site, and what its messages and a report tell of it at the other.
+fn inform(
+    rt: &HostRuntime,
+    a: &mut Place,
+    b: &mut Place,
+    c: &mut Place,
+    d: &mut Place,
+) -> io::Result<()> {
+    bring(rt, "1.1", a, c, 10)?;
+    bring(rt, "1.2", b, d, 20)?;
+    meet(rt, c, d)
+}
+
 /// The end of time.
-fn print_end(rt: &HostRuntime) -> io::Result<()> {
-    let mut a = Place::new(rt.alloc(), 1, 1);
+fn end(rt: &HostRuntime, a: &mut Place) -> io::Result<()> {
     let zero = VTime::zero(SIZE);
     let Begun { tx, s } = tell(rt, "1.1 begin", a.begin(&zero))?;
-    tick(rt, "1.1", &mut a, 1 << 62)?;
+    tick(rt, "1.1", a, 1 << 62)?;
     show(rt, "1.1 begin", &a.begin(&zero))?;
     show(rt, "1.1 prepare", &a.prepare(tx, &s, 1, &[]))
 }
 
+/// The scenes, each with partitions of its own.
 pub(crate) fn print(rt: &HostRuntime) -> io::Result<()> {
-    println!(rt; "# a transaction over two partitions")?;
-    print_two(rt)?;
-    println!(rt; "# a transaction that is gone")?;
-    print_gone(rt)?;
-    println!(rt; "# messages out of their order")?;
-    print_messages(rt)?;
-    println!(rt; "# a report")?;
-    print_reports(rt)?;
-    println!(rt; "# the end of time")?;
+    print_span(rt)?;
+    print_lost(rt)?;
+    print_exchange(rt)?;
+    print_report(rt)?;
     print_end(rt)
+}
+
+fn print_span(rt: &HostRuntime) -> io::Result<()> {
+    println!(rt; "# a transaction over two partitions of a site")?;
+    let mut a = Place::new(rt.alloc(), 1, 1);
+    let mut b = Place::new(rt.alloc(), 1, 2);
+    span(rt, &mut a, &mut b)
+}
+
+fn print_lost(rt: &HostRuntime) -> io::Result<()> {
+    println!(rt; "# a transaction that is gone")?;
+    let mut a = Place::new(rt.alloc(), 1, 1);
+    lose(rt, &mut a)
+}
+
+fn print_exchange(rt: &HostRuntime) -> io::Result<()> {
+    println!(rt; "# messages out of their order, and again")?;
+    let mut a = Place::new(rt.alloc(), 1, 1);
+    let mut c = Place::new(rt.alloc(), 2, 1);
+    exchange(rt, &mut a, &mut c)
+}
+
+fn print_report(rt: &HostRuntime) -> io::Result<()> {
+    println!(rt; "# a report of the other partition of a site")?;
+    let mut a = Place::new(rt.alloc(), 1, 1);
+    let mut b = Place::new(rt.alloc(), 1, 2);
+    let mut c = Place::new(rt.alloc(), 2, 1);
+    let mut d = Place::new(rt.alloc(), 2, 2);
+    inform(rt, &mut a, &mut b, &mut c, &mut d)
+}
+
+fn print_end(rt: &HostRuntime) -> io::Result<()> {
+    println!(rt; "# the end of time")?;
+    let mut a = Place::new(rt.alloc(), 1, 1);
+    end(rt, &mut a)
 }

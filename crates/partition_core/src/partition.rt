@@ -1,4 +1,5 @@
 ghost use Rattle.std.specs.Prelude.{◌≡◌, ◌≤◌, false};
+ghost use Rattle.site_vector.specs.Vector.{entry};
 ghost use Rattle.prepared_table.specs.Entries.{first_on};
 ghost use Rattle.world_model.specs.Partition.{new_part};
 ghost use Rattle.partition_core.specs.Stands.{Stands};
@@ -103,6 +104,15 @@ impl<C: Crdt> Partition<C> {
             Some(_c) => true,
             None => false,
         }
+    }
+
+    /// Up to where the messages of a site were taken.
+    pub fn bound(&self, site: u8) -> u64
+        requires least { 1 ≤ site }
+        requires most { site ≤ self.now.sites }
+        ensures { result ≡ entry self.now.bounds site }
+    {
+        self.bounds.get(site)
     }
 
     /// Whether it crashed and was not restarted since. A partition without a disk never is.
