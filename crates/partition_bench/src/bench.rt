@@ -1,4 +1,5 @@
-use crate::place::{Failure, Place};
+use crate::answers::Failure;
+use crate::place::Place;
 use crate::transaction::commit;
 use crate::words::{counter, first, increment};
 use crdt_core::{Op, Upd};

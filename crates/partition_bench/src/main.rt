@@ -5,9 +5,11 @@
 //! read, for bench/partition to measure.
 #![tactic(auto)]
 
+mod answers;
 mod bench;
+mod lines;
 mod place;
-mod show;
+mod scenes;
 mod transaction;
 mod words;
 
@@ -33,7 +35,7 @@ fn measure(rt: &HostRuntime, transactions: u64) -> io::Result<()> {
 fn main(rt: HostRuntime) -> io::Result<()> {
     let words = words_of(&rt)?;
     match words.as_slice() {
-        [work] if work.as_str() == "show" => show::print(&rt),
+        [work] if work.as_str() == "show" => scenes::print(&rt),
         [work, count] if work.as_str() == "bench" => {
             measure(&rt, count.parse::<u64>().unwrap_or(0))
         }

@@ -2,79 +2,19 @@ ghost use Rattle.std.specs.Prelude.{◌≡◌, ◌≤◌, true, length};
 ghost use Rattle.crdt_core.specs.Log.{end_of_time};
 ghost use Rattle.partition_bench.specs.Places.{MayTake};
 
+use crate::answers::{Begun, Done, Failure};
 use crdt_core::{Crdt, Message, ObjectId, Op, Upd, Value};
 use crdt_counters::CounterPn;
-use partition_core::{CallError, Partition, Refusal};
+use partition_core::Partition;
 use site_vector::{PartId, TxId, VTime};
-use std::alloc::{AllocError, Global};
+use std::alloc::Global;
 use std::marker::Model;
-use std::{fmt, io};
-use thiserror::Error;
 
 /// How many sites the cluster has, and how many partitions each of them.
 pub(crate) const SIZE: u8 = 2;
 
-/// Why a call isn't answered.
-#[derive(Debug, Drop, Error)]
-pub(crate) enum Failure {
-    /// What the partition rests on doesn't hold, so it wasn't asked.
-    #[error("not asked")]
-    Unasked,
-    /// The partition's own answer.
-    #[error("{0}")]
-    Answer(CallError),
-}
-
-impl From<CallError> for Failure {
-    fn from(error: CallError) -> Failure {
-        Failure::Answer(error)
-    }
-}
-
-impl From<Refusal> for Failure {
-    fn from(why: Refusal) -> Failure {
-        Failure::Answer(CallError::Refused(why))
-    }
-}
-
-impl From<AllocError> for Failure {
-    fn from(_error: AllocError) -> Failure {
-        Failure::Answer(CallError::NoMemory)
-    }
-}
-
-impl From<Failure> for io::Error {
-    fn from(_failure: Failure) -> io::Error {
-        io::ErrorKind::Other.into()
-    }
-}
-
-/// A transaction that began: its id and its snapshot.
-#[derive(Clone, Copy)]
-pub(crate) struct Begun {
-    pub(crate) tx: TxId,
-    pub(crate) s: VTime,
-}
-
-impl fmt::Display for Begun {
-    fn fmt<W: fmt::Write>(&self, f: &mut fmt::Formatter<W>) -> fmt::Result {
-        let s = self.s.as_slice();
-        write!(f, "{} {s:?}", self.tx)
-    }
-}
-
-/// The answer of a call that only says that it is done.
-#[derive(Clone, Copy)]
-pub(crate) struct Done;
-
-impl fmt::Display for Done {
-    fn fmt<W: fmt::Write>(&self, f: &mut fmt::Formatter<W>) -> fmt::Result {
-        f.write_str("done")
-    }
-}
-
-/// A partition of counters, of a cluster of two sites with two partitions each. It is asked only for what its rules
-/// allow.
+/// A partition of counters, of a cluster of two sites with two partitions each. It is asked only where what its call
+/// requires holds.
 #[derive(Drop)]
 pub(crate) struct Place {
     alloc: Global,
@@ -96,7 +36,7 @@ impl Model for Place {
 }
 
 impl Place {
-    /// A new partition.
+    /// A new partition of this site, with this number.
     pub(crate) fn new(alloc: Global, site: u8, part: u8) -> Place
         requires least_site { 1 ≤ site }
         requires most_site { site ≤ 2 }
@@ -111,12 +51,14 @@ impl Place {
         }
     }
 
+    /// Its clock reads a time. Answers what it shows.
     pub(crate) fn tick(&mut self, reading: u64) -> u64
         requires { reading ≤ end_of_time }
     {
         self.partition.tick(reading)
     }
 
+    /// Begins a transaction of a session that depends on these times.
     pub(crate) fn begin(&mut self, dependency: &VTime) -> Result<Begun, Failure> {
         if dependency.width() != SIZE {
             return Err(Failure::Unasked);
@@ -125,6 +67,7 @@ impl Place {
         Ok(Begun { tx, s })
     }
 
+    /// What a counter shows under a transaction's snapshot, with the transaction's own updates of it.
     pub(crate) fn read(
         &mut self,
         tx: TxId,
@@ -141,21 +84,22 @@ impl Place {
         }
     }
 
+    /// The effect of an operation on a counter.
     pub(crate) fn update(
         &mut self,
         tx: TxId,
         s: &VTime,
         object: &ObjectId,
-        own: &[Upd<i64>],
         op: &Op,
     ) -> Result<i64, Failure> {
         if s.width() != SIZE || !CounterPn::has(object.kind) {
             return Err(Failure::Unasked);
         }
-        let (effect, _stamp) = self.partition.update(self.alloc, tx, s, object, own, op)?;
+        let (effect, _stamp) = self.partition.update(self.alloc, tx, s, object, &[], op)?;
         Ok(effect)
     }
 
+    /// Asks for a vote: the prepare time.
     pub(crate) fn prepare(
         &mut self,
         tx: TxId,
@@ -169,6 +113,7 @@ impl Place {
         Ok(self.partition.prepare(self.alloc, tx, s, lead, updates)?)
     }
 
+    /// Asks the lead to decide.
     pub(crate) fn decide(&mut self, tx: TxId, c: &VTime) -> Result<Done, Failure> {
         if tx.site != self.id.site || c.width() != SIZE {
             return Err(Failure::Unasked);
@@ -177,6 +122,7 @@ impl Place {
         Ok(Done)
     }
 
+    /// Asks another partition to finish.
     pub(crate) fn finish(&mut self, tx: TxId, c: &VTime) -> Result<Done, Failure> {
         if tx.site != self.id.site || c.width() != SIZE {
             return Err(Failure::Unasked);
@@ -185,11 +131,13 @@ impl Place {
         Ok(Done)
     }
 
+    /// Asks for an end without a commit.
     pub(crate) fn abort(&mut self, tx: TxId) -> Result<Done, Failure> {
         self.partition.abort(tx)?;
         Ok(Done)
     }
 
+    /// Makes a message to another site, of all since the last one.
     pub(crate) fn release(&mut self, to: u8) -> Result<Message<i64>, Failure> {
         if to == 0 || to > SIZE || to == self.id.site {
             return Err(Failure::Unasked);
@@ -197,6 +145,7 @@ impl Place {
         Ok(self.partition.release(self.alloc, to, None)?)
     }
 
+    /// Hands on a message.
     pub(crate) fn take(&mut self, message: &Message<i64>) -> Result<Done, Failure> {
         if !may_take(self.id.site, &self.partition, message) {
             return Err(Failure::Unasked);
@@ -205,10 +154,12 @@ impl Place {
         Ok(Done)
     }
 
+    /// How far it has come with each site.
     pub(crate) fn report(&self) -> VTime {
         self.partition.report()
     }
 
+    /// Hands on a report of a partition of its site. Answers what is stable then.
     pub(crate) fn hear(&mut self, part: u8, bounds: &VTime) -> Result<VTime, Failure> {
         if part == 0 || part > SIZE || bounds.width() != SIZE {
             return Err(Failure::Unasked);

@@ -1,4 +1,5 @@
-use crate::place::{Begun, Failure, Place, SIZE};
+use crate::answers::{Begun, Failure};
+use crate::place::{Place, SIZE};
 use crdt_core::{Op, Upd};
 use site_vector::VTime;
 use std::slice;
@@ -16,7 +17,7 @@ pub(crate) fn commit_vector(begun: &Begun, time: u64) -> VTime {
 /// vector.
 pub(crate) fn commit(place: &mut Place, update: &mut Upd<i64>, op: &Op) -> Result<Begun, Failure> {
     let begun = place.begin(&VTime::zero(SIZE))?;
-    update.effect = place.update(begun.tx, &begun.s, &update.object, &[], op)?;
+    update.effect = place.update(begun.tx, &begun.s, &update.object, op)?;
     let time = place.prepare(begun.tx, &begun.s, begun.tx.part, slice::from_ref(update))?;
     let c = commit_vector(&begun, time);
     place.decide(begun.tx, &c)?;

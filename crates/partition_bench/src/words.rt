@@ -1,5 +1,5 @@
 // What is asked for.
-use crate::place::Failure;
+use crate::answers::Failure;
 use crdt_core::{Act, Kind, ObjectId, Op, Upd};
 use field_codec::{ListOf, Text};
 use std::alloc::Global;

@@ -1,54 +1,30 @@
 ghost use Rattle.std.specs.Prelude.{◌≤◌};
 ghost use Rattle.crdt_core.specs.Log.{end_of_time};
 
-// Partitions asked by hand: each line says what was asked of which, and what it answered.
-use crate::place::{Begun, Done, Failure, Place, SIZE};
+// Scenes of one partition or several, each printed by lines.
+use crate::answers::Begun;
+use crate::lines::{release, show, tell, tick, update};
+use crate::place::{Place, SIZE};
 use crate::transaction::{commit, commit_vector};
 use crate::words::{counter, first, increment};
 use crdt_core::{Message, ObjectId, Upd};
 use site_vector::VTime;
-use std::fmt::Display;
 use std::{io, slice};
 
-/// Prints an answer.
-fn show<T: Display>(rt: &HostRuntime, what: &str, answer: &Result<T, Failure>) -> io::Result<()> {
-    match answer {
-        Ok(answer) => println!(rt; "{what}: {answer}"),
-        Err(failure) => println!(rt; "{what}: {failure}"),
-    }
+/// Prints the scenes.
+pub(crate) fn print(rt: &HostRuntime) -> io::Result<()> {
+    print_span(rt)?;
+    print_lost(rt)?;
+    print_exchange(rt)?;
+    print_report(rt)?;
+    print_end(rt)
 }
 
-/// Prints an answer that later calls need, and hands it on.
-fn tell<T: Display + Drop>(
-    rt: &HostRuntime,
-    what: &str,
-    answer: Result<T, Failure>,
-) -> io::Result<T> {
-    show(rt, what, &answer)?;
-    Ok(answer?)
-}
-
-fn tick(rt: &HostRuntime, what: &str, place: &mut Place, reading: u64) -> io::Result<()>
-    requires { reading ≤ end_of_time }
-{
-    let now = place.tick(reading);
-    println!(rt; "{what} tick {reading}: {now}")
-}
-
-/// A transaction's update, which adds an amount to a counter.
-fn update(
-    rt: &HostRuntime,
-    what: &str,
-    place: &mut Place,
-    begun: &Begun,
-    key: &str,
-    amount: i32,
-) -> io::Result<Upd<i64>> {
-    let object = counter(rt.alloc(), key)?;
-    let op = increment(rt.alloc(), amount);
-    let made = place.update(begun.tx, &begun.s, &object, &[], &op);
-    let effect = tell(rt, what, made)?;
-    Ok(first(object, effect))
+fn print_span(rt: &HostRuntime) -> io::Result<()> {
+    println!(rt; "# a transaction over two partitions of a site")?;
+    let mut a = Place::new(rt.alloc(), 1, 1);
+    let mut b = Place::new(rt.alloc(), 1, 2);
+    span(rt, &mut a, &mut b)
 }
 
 /// Both partitions vote, the second once its clock has reached the snapshot. Answers the transaction with its commit
@@ -115,6 +91,12 @@ fn span(rt: &HostRuntime, a: &mut Place, b: &mut Place) -> io::Result<()> {
     complete(rt, a, b, &begun, &at_a, &at_b)
 }
 
+fn print_lost(rt: &HostRuntime) -> io::Result<()> {
+    println!(rt; "# a transaction that is gone")?;
+    let mut a = Place::new(rt.alloc(), 1, 1);
+    lose(rt, &mut a)
+}
+
 /// A transaction that is gone.
 fn lose(rt: &HostRuntime, a: &mut Place) -> io::Result<()> {
     let Begun { tx, s } = tell(rt, "1.1 begin", a.begin(&VTime::zero(SIZE)))?;
@@ -126,12 +108,11 @@ fn lose(rt: &HostRuntime, a: &mut Place) -> io::Result<()> {
     show(rt, "1.1 decide", &a.decide(tx, &s))
 }
 
-/// Makes a message, and says how many transactions it brings, and of which stretch of time.
-fn release(rt: &HostRuntime, what: &str, place: &mut Place) -> io::Result<Message<i64>> {
-    let message = place.release(2)?;
-    let (lo, hi, count) = (message.lo, message.hi, message.parts.as_slice().len());
-    println!(rt; "{what} release to 2: {count} of {lo}..{hi}")?;
-    Ok(message)
+fn print_exchange(rt: &HostRuntime) -> io::Result<()> {
+    println!(rt; "# messages out of their order, and again")?;
+    let mut a = Place::new(rt.alloc(), 1, 1);
+    let mut c = Place::new(rt.alloc(), 2, 1);
+    exchange(rt, &mut a, &mut c)
 }
 
 /// A transaction that adds an amount, and the message that brings it.
@@ -173,6 +154,34 @@ fn exchange(rt: &HostRuntime, a: &mut Place, c: &mut Place) -> io::Result<()> {
     read_all(rt, c)
 }
 
+fn print_report(rt: &HostRuntime) -> io::Result<()> {
+    println!(rt; "# a report of the other partition of a site")?;
+    let mut c = Place::new(rt.alloc(), 2, 1);
+    let mut d = Place::new(rt.alloc(), 2, 2);
+    inform(rt, &mut c, &mut d)
+}
+
+/// What messages and a report tell the partitions of a site.
+fn inform(rt: &HostRuntime, c: &mut Place, d: &mut Place) -> io::Result<()> {
+    bring(rt, 1, c, 10)?;
+    bring(rt, 2, d, 20)?;
+    meet(rt, c, d)
+}
+
+/// Hands on a message of a partition of the first site, which has nothing to tell but its time.
+fn bring(rt: &HostRuntime, part: u8, to: &mut Place, time: u64) -> io::Result<()>
+    requires least { 1 ≤ part }
+    requires most { part ≤ 2 }
+    requires time { time ≤ end_of_time }
+{
+    let mut from = Place::new(rt.alloc(), 1, part);
+    let _now = from.tick(time);
+    let message = from.release(2)?;
+    let hi = message.hi;
+    let what = format!(in rt.alloc(); "2.{part} take what 1.{part} sent up to {hi}")?;
+    show(rt, what.as_str(), &to.take(&message))
+}
+
 /// What a partition knows of the other one of its site, without a report and with it.
 fn meet(rt: &HostRuntime, c: &mut Place, d: &mut Place) -> io::Result<()> {
     let past = VTime::zero(SIZE).with(1, 10);
@@ -186,32 +195,10 @@ fn meet(rt: &HostRuntime, c: &mut Place, d: &mut Place) -> io::Result<()> {
     show(rt, "2.1 begin after 10 of site 1", &c.begin(&past))
 }
 
-/// A clock's time brings what a message from its partition ends at.
-fn bring(
-    rt: &HostRuntime,
-    what: &str,
-    from: &mut Place,
-    to: &mut Place,
-    time: u64,
-) -> io::Result<()>
-    requires { time ≤ end_of_time }
-{
-    tick(rt, what, from, time)?;
-    let message = release(rt, what, from)?;
-    show(rt, "its twin take", &to.take(&message))
-}
-
-/// Time that passes at one site, and what its messages and a report tell of it at the other.
-fn inform(
-    rt: &HostRuntime,
-    a: &mut Place,
-    b: &mut Place,
-    c: &mut Place,
-    d: &mut Place,
-) -> io::Result<()> {
-    bring(rt, "1.1", a, c, 10)?;
-    bring(rt, "1.2", b, d, 20)?;
-    meet(rt, c, d)
+fn print_end(rt: &HostRuntime) -> io::Result<()> {
+    println!(rt; "# the end of time")?;
+    let mut a = Place::new(rt.alloc(), 1, 1);
+    end(rt, &mut a)
 }
 
 /// The end of time.
@@ -221,48 +208,4 @@ fn end(rt: &HostRuntime, a: &mut Place) -> io::Result<()> {
     tick(rt, "1.1", a, 1 << 62)?;
     show(rt, "1.1 begin", &a.begin(&zero))?;
     show(rt, "1.1 prepare", &a.prepare(tx, &s, 1, &[]))
-}
-
-/// The scenes, each with partitions of its own.
-pub(crate) fn print(rt: &HostRuntime) -> io::Result<()> {
-    print_span(rt)?;
-    print_lost(rt)?;
-    print_exchange(rt)?;
-    print_report(rt)?;
-    print_end(rt)
-}
-
-fn print_span(rt: &HostRuntime) -> io::Result<()> {
-    println!(rt; "# a transaction over two partitions of a site")?;
-    let mut a = Place::new(rt.alloc(), 1, 1);
-    let mut b = Place::new(rt.alloc(), 1, 2);
-    span(rt, &mut a, &mut b)
-}
-
-fn print_lost(rt: &HostRuntime) -> io::Result<()> {
-    println!(rt; "# a transaction that is gone")?;
-    let mut a = Place::new(rt.alloc(), 1, 1);
-    lose(rt, &mut a)
-}
-
-fn print_exchange(rt: &HostRuntime) -> io::Result<()> {
-    println!(rt; "# messages out of their order, and again")?;
-    let mut a = Place::new(rt.alloc(), 1, 1);
-    let mut c = Place::new(rt.alloc(), 2, 1);
-    exchange(rt, &mut a, &mut c)
-}
-
-fn print_report(rt: &HostRuntime) -> io::Result<()> {
-    println!(rt; "# a report of the other partition of a site")?;
-    let mut a = Place::new(rt.alloc(), 1, 1);
-    let mut b = Place::new(rt.alloc(), 1, 2);
-    let mut c = Place::new(rt.alloc(), 2, 1);
-    let mut d = Place::new(rt.alloc(), 2, 2);
-    inform(rt, &mut a, &mut b, &mut c, &mut d)
-}
-
-fn print_end(rt: &HostRuntime) -> io::Result<()> {
-    println!(rt; "# the end of time")?;
-    let mut a = Place::new(rt.alloc(), 1, 1);
-    end(rt, &mut a)
 }
