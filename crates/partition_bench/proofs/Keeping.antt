@@ -1,5 +1,5 @@
 -- A place keeps its partition, whatever that answers.
-use Rattle.std.proofs.Common.{◌≡◌, ◌∙◌}
+use Rattle.std.proofs.Common.{◌∙◌}
 use Rattle.site_vector.specs.declared.ids.PartId.{PartId}
 use Rattle.world_model.specs.Plan.{IsPlace}
 use Rattle.partition_core.specs.Tables.{Tables, IsSame}
