@@ -5,3 +5,4 @@ pub mod Going
 pub mod Asking
 pub mod Fresh
 pub mod Messages
+pub mod Seeing

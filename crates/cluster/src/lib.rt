@@ -4,5 +4,6 @@
 
 mod calls;
 mod sites;
+mod store;
 
 pub use sites::Sites;
