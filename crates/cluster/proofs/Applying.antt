@@ -12,6 +12,9 @@ pub map_ok : {A X : Type 0} {P Q : A → Type 0} (r : Result A X) → ((x : A) �
 map_ok (Ok x) f p = f x p
 map_ok (Err x) f p = tt
 
+pub ok_is : {A X : Type 0} (P : A → Type 0) (r : Result A X) (x : A) → r ≡ Ok x → IfOk r P → P x
+ok_is P r x e p = subst (λ y. IfOk y P) e p
+
 module _ {S E : Type 0} (kinds : Kinds S E) where
   pub reached_on : (old new : Option (LiveState E)) (c : Command) (steps : List Step) → Applies kinds old c steps new → IsReached kinds old → IsReached kinds new
   reached_on old new c steps a r = record { run = answered 0 (Some c) steps r.run; reached = (a 0 r.run r.reached).1 }

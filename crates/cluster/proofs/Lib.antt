@@ -10,3 +10,8 @@ pub mod Mere
 pub mod Applying
 pub mod Standing
 pub mod Laws
+pub mod Turning
+pub mod Turned
+pub mod Sessions
+pub mod Meets
+pub mod Commands

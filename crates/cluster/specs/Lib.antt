@@ -6,3 +6,4 @@ pub mod Live
 pub mod Built
 pub mod Reached
 pub mod History
+pub mod Acts

@@ -1,8 +1,10 @@
 -- A cluster with its sessions, as contracts see it.
-use Rattle.std.specs.Prelude.{ℕ, List, Option}
+use Rattle.std.specs.Prelude.{◌≡◌, ℕ, Bool, true, false, List, length, Option, None, Some, if◌then◌else◌}
 use Rattle.std.specs.Map.{lookup}
 use Rattle.std.specs.Str.{bytes_eq}
-use Rattle.txn_session.specs.Session.{SessionState}
+use Rattle.txn_session.specs.declared.phase.Phase.{Phase}
+use Rattle.txn_session.specs.declared.phase.Phase.TheVariants as phase
+use Rattle.txn_session.specs.Session.{SessionState, phase_of}
 use Rattle.cluster.specs.Held.{Held}
 
 pub record LiveState (E : Type 0) : Type 0 where
@@ -13,3 +15,25 @@ pub record LiveState (E : Type 0) : Type 0 where
 -- the session of this name
 abbrev pub session_in : {E : Type 0} → List (List ℕ × SessionState E) → List ℕ → Option (SessionState E)
 session_in sessions who = lookup (bytes_eq who) sessions
+
+-- what the session of this name is about
+abbrev pub phase_about : {E : Type 0} → Option (SessionState E) → Option Phase
+phase_about None = None
+phase_about (Some s) = Some (phase_of s.doing)
+
+abbrev pub phase_in : {E : Type 0} → List (List ℕ × SessionState E) → List ℕ → Option Phase
+phase_in sessions name = phase_about (session_in sessions name)
+
+abbrev pub is_open_phase : Phase → Bool
+is_open_phase phase.Open = true
+is_open_phase other = false
+
+-- the session is there, and open
+abbrev pub are_open : Option Phase → Bool
+are_open None = false
+are_open (Some p) = is_open_phase p
+
+-- this session alone is changed
+pub record IsPut {E : Type 0} (old : List (List ℕ × SessionState E)) (name : List ℕ) (s : SessionState E) (new : List (List ℕ × SessionState E)) : Type 0 where
+  pub find : (who : List ℕ) → session_in new who ≡ (if bytes_eq name who then Some s else session_in old who)
+  pub count : length new ≡ length old

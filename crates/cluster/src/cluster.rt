@@ -4,30 +4,11 @@ ghost use Rattle.cluster.specs.Built.{IsSaid};
 ghost use Rattle.cluster.specs.Reached.{Applies, IsReached, Reached};
 ghost use Rattle.world_model.specs.Run.{Run};
 
-use crate::Sites;
+use crate::live::Live;
 use crdt_core::Crdt;
-use field_codec::Text;
-use indexmap::IndexMap;
 use std::alloc::{AllocError, Global};
 use std::marker::Model;
-use txn_session::Session;
 use world_model::{Command, Step};
-
-/// A cluster that was made, and its sessions by their names.
-#[derive(Drop)]
-pub(crate) struct Live<C: Crdt> {
-    pub(crate) alloc: Global,
-    pub(crate) sites: Sites<C>,
-    pub(crate) sessions: IndexMap<Text, Session<C>>,
-}
-
-impl<C: Crdt> Model for Live<C> {
-    ghost use Rattle.cluster.specs.Live.{LiveState};
-
-    ghost Value = { LiveState C.Effect };
-
-    ghost view = { λ s. record { sites = s.sites; sessions = s.sessions.entries } };
-}
 
 /// What the commands of a script work on: no cluster at first, and then one with its sessions.
 ///

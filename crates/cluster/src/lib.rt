@@ -4,6 +4,7 @@
 
 mod calls;
 mod cluster;
+mod live;
 mod sites;
 mod store;
 
