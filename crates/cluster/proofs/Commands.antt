@@ -1,5 +1,5 @@
 -- How a read answers its command.
-use Rattle.std.proofs.Common.{◌≡◌, ℕ, Bool, true, false, List, [], ◌∷◌, refl, sym, ap, ◌∙◌, subst, Option, None, Some}
+use Rattle.std.proofs.Common.{◌≡◌, ◌≤◌, ℕ, Bool, true, false, List, [], ◌∷◌, refl, sym, ap, ◌∙◌, subst, Option, None, Some}
 use Rattle.std.specs.Prelude.{not, if◌then◌else◌}
 use Rattle.std.proofs.lemmas.Bool.{true≢false}
 use Rattle.site_vector.specs.declared.ids.PartId.{PartId}
@@ -22,7 +22,7 @@ use Rattle.world_model.specs.Lines.{Call as WorldCall, ReadOf, call_asked, step_
 use Rattle.world_model.specs.Meeting.{no_cluster, no_session, met}
 use Rattle.world_model.specs.Past.{dependency_after}
 use Rattle.world_model.specs.Phases as phases
-use Rattle.world_model.specs.Phases.{Phase, phase, phase_after}
+use Rattle.world_model.specs.Phases.{Phase, phase, phase_after, update_total}
 use Rattle.world_model.specs.Run.{Run}
 use Rattle.world_model.specs.ScriptAnswers.{is_up, Bears, AnswersBy, IsAnswer}
 use Rattle.world_model.specs.ScriptCalls.{at_object, asked_of, calls_of}
@@ -143,6 +143,7 @@ module _ {S E : Type 0} (kinds : Kinds S E) (c : LiveState E) (name : List ℕ) 
                 own = mine;
                 placed = ap (λ p. at_object (parts_of run) o p (λ u. ReadOf u o)) (st.phase ∙ ap phase_as e) ∙ (λ i. record { at = record { site = x.0.site_is i; part = place_of o.bucket o.key (sym st.parts i) }; call = ReadOf txn.tx o });
                 past = tt;
+                few = subst (λ (y : SessionState E). update_total (phase_as y.doing) ≤ 256) (sym d.0) st.few;
                 idle = λ who h line. refl;
                 phase = ap (phase_after (parts_of run) name (phase run name) (Some (command.Read name o))) t.shows ∙ (read_phase (entries r.calls) place txn.tx txn.s o (own_updates txn.updates o) t.event t.asked t.seen.calm.0 (parts_of run) name (phase run name) name ∙ (st.phase ∙ ap (λ y. phase_as y.doing) (sym d.0)));
                 depends = ap (λ y. y.dependency) d.0 ∙ sym (read_depends (entries r.calls) place txn.tx txn.s o (own_updates txn.updates o) t.event t.asked t.seen.calm.0 (sites_of run) name a.before.dependency);

@@ -15,3 +15,7 @@ pub mod Turned
 pub mod Sessions
 pub mod Meets
 pub mod Commands
+pub mod Clocks
+pub mod Beginning
+pub mod Updating
+pub mod Opening

@@ -1,5 +1,5 @@
 -- A call of a session: its line, and the cluster after it.
-use Rattle.std.proofs.Common.{◌≡◌, ℕ, Bool, true, false, List, [], ◌∷◌, ◌++◌, length, refl, sym, ap, ◌∙◌, subst, Option, None, Some}
+use Rattle.std.proofs.Common.{◌≡◌, ◌≤◌, ℕ, Bool, true, false, List, [], ◌∷◌, ◌++◌, length, refl, sym, ap, ◌∙◌, subst, Option, None, Some}
 use Rattle.std.specs.Prelude.{if◌then◌else◌, ◌&&◌, nat_le}
 use Rattle.std.specs.Str.{bytes_eq}
 use Rattle.std.proofs.lemmas.Slice.Eq.{bytes_eq-Decides}
@@ -15,7 +15,7 @@ use Rattle.world_model.specs.Event.{Ask, IsDown, Event, Opened, Refused, Cut, En
 use Rattle.world_model.specs.Lines.{call_asked, step_shown, call_of, lines_of}
 use Rattle.world_model.specs.Meeting.{site_after, site_of}
 use Rattle.world_model.specs.Past.{dependency_after, dependency}
-use Rattle.world_model.specs.Phases.{phase, phase_after, by_command}
+use Rattle.world_model.specs.Phases.{phase, phase_after, by_command, update_total}
 use Rattle.world_model.specs.Run.{Run}
 use Rattle.world_model.specs.ScriptCalls.{asked_of, calls_of}
 use Rattle.world_model.proofs.Names.{off}
@@ -34,6 +34,13 @@ same_name a b h = (bytes_eq-Decides a b).0 h
 
 pub own_name : (a : List ℕ) → bytes_eq a a ≡ true
 own_name a = (bytes_eq-Decides a a).1 refl
+
+-- the session stays where it is
+pub record IsThere {E : Type 0} (old new : SessionState E) : Type 0 where
+  pub name : new.name ≡ old.name
+  pub site : new.site ≡ old.site
+  pub sites : new.sites ≡ old.sites
+  pub parts : new.parts ≡ old.parts
 
 module _ {S E : Type 0} (kinds : Kinds S E) where
   -- a call that was made and answered, with nobody else acting
@@ -60,13 +67,6 @@ module _ {S E : Type 0} (kinds : Kinds S E) where
         holds = subst (λ more. Holds new (called m.goes.by at m.goes.event ∷ (more ++ calls))) none m.holds;
       }
 
-  -- the session stays where it is
-  pub record IsThere (old new : SessionState E) : Type 0 where
-    pub name : new.name ≡ old.name
-    pub site : new.site ≡ old.site
-    pub sites : new.sites ≡ old.sites
-    pub parts : new.parts ≡ old.parts
-
   site_any : (events : List (Entry E)) (at : PartId) (name who : List ℕ) (old : Option ℕ) (e : Event E) → is_calm e ≡ true → IsOwnAsk events name (asked_by (attempt e)) → site_after who old (step_shown events at e) ≡ old
   site_any events at name who old (Opened n) c own = absurd own
   site_any events at name who old (Cut what) c own = off c
@@ -89,6 +89,7 @@ module _ {S E : Type 0} (kinds : Kinds S E) where
         pub placed : asked_of (calls_of run) run cmd ≡ record { at = at; call = call_asked ask }
         pub past : IsOwnPast (sites_of run) (calls_of run) (call_asked ask)
         pub idle : (who : List ℕ) → bytes_eq name who ≡ false → (line : Step) → by_command (parts_of run) who (phase run who) (Some cmd) line ≡ phase run who
+        pub few : update_total (phase_as new.doing) ≤ 256
         pub phase : phase_after (parts_of run) name (phase run name) (Some cmd) answer ≡ phase_as new.doing
         pub depends : new.dependency ≡ dependency_after (sites_of run) (entries r.calls) name s.dependency t.event
 
@@ -131,6 +132,7 @@ module _ {S E : Type 0} (kinds : Kinds S E) where
             site = site_any (entries r.calls) at name name (site_of run name) t.event calm own ∙ (st.site ∙ ap Some (sym o.there.site));
             there = (λ i. nat_le 1 (o.there.site i) && nat_le (o.there.site i) (told.sites (sites_of run) i)) ∙ st.there;
             phase = ap (phase_after (parts_of run) name (phase run name) (Some cmd)) (sym t.shows) ∙ o.phase;
+            few = o.few;
             depends = o.depends ∙ (ap (λ d. dependency_after (sites_of run) (entries r.calls) name d t.event) (st.depends ∙ depended kinds c run r number cmd t.by at t.event held o.size t.seen plain placed name) ∙ sym (depends_next kinds c run r number cmd t.by at t.event held o.size t.seen plain placed name));
             holds = t.holds;
           }

@@ -35,6 +35,7 @@ stands_still new old later calls who (Some x) same holds s = record {
   site = same.site ∙ s.site;
   there = ap (λ n. nat_le 1 x.site && nat_le x.site n) same.sites ∙ s.there;
   phase = same.phase ∙ s.phase;
+  few = s.few;
   depends = s.depends ∙ sym same.depends;
   holds = holds x refl s.holds;
 }

@@ -1,5 +1,5 @@
 -- The partitions of a cluster in one process, as contracts see them.
-use Rattle.std.specs.Prelude.{◌≡◌, ℕ, ◌+◌, ◌-◌, ◌*◌, ◌≤◌, Bool, ◌&&◌, nat_le, List}
+use Rattle.std.specs.Prelude.{◌≡◌, ℕ, ◌+◌, ◌-◌, ◌*◌, ◌≤◌, Bool, true, ◌&&◌, nat_le, List, Option, None, Some}
 use Rattle.std.proofs.Common.{refl, ◌∙◌}
 use Rattle.site_vector.specs.declared.ids.PartId.{PartId}
 use Rattle.partition_core.specs.Tables.{Tables}
@@ -40,3 +40,7 @@ holds_site c site = nat_le 1 site && nat_le site c.sites
 
 abbrev pub holds_part : {E : Type 0} → Held E → PartId → Bool
 holds_part c p = holds_site c p.site && (nat_le 1 p.part && nat_le p.part c.parts)
+
+abbrev pub holds_place : {E : Type 0} → Held E → Option PartId → Bool
+holds_place c None = true
+holds_place c (Some p) = holds_part c p

@@ -1,5 +1,5 @@
 -- Where the run of a script left a cluster and its sessions.
-use Rattle.std.specs.Prelude.{◌≡◌, ℕ, Bool, true, false, List, [], length, map, Option, None, Some}
+use Rattle.std.specs.Prelude.{◌≡◌, ◌≤◌, ℕ, Bool, true, false, List, [], length, map, Option, None, Some}
 use Rattle.crdt_core.specs.KindsOf.{Kinds}
 use Rattle.world_model.specs.declared.command.Command.{Command}
 use Rattle.world_model.specs.declared.step.Step.{Step}
@@ -9,7 +9,7 @@ use Rattle.world_model.specs.Dependency.{dependency, HandsOwn}
 use Rattle.world_model.specs.Lines.{lines_of}
 use Rattle.world_model.specs.Meeting.{site_of, session_count}
 use Rattle.world_model.specs.Phases as phases
-use Rattle.world_model.specs.Phases.{Phase, Absent, phase}
+use Rattle.world_model.specs.Phases.{Phase, Absent, phase, update_total}
 use Rattle.world_model.specs.Run.{Run}
 use Rattle.world_model.specs.ScriptAnswers.{IsAnswer}
 use Rattle.world_model.specs.ScriptCalls.{calls_of}
@@ -35,6 +35,7 @@ module _ {E : Type 0} where
     pub site : site_of run who ≡ Some s.site
     pub there : has_site run s.site ≡ true
     pub phase : phase run who ≡ phase_as s.doing
+    pub few : update_total (phase_as s.doing) ≤ 256
     pub depends : s.dependency ≡ dependency (sites_of run) (calls_of run) who
     pub holds : Holds s calls
 

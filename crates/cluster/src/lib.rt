@@ -2,11 +2,13 @@
 //! that its rules allow is one more event of it.
 #![tactic(auto)]
 
+mod begins;
 mod calls;
 mod cluster;
 mod live;
 mod sites;
 mod store;
+mod updates;
 
 pub use cluster::Cluster;
 pub use sites::Sites;

@@ -1,13 +1,13 @@
-ghost use Rattle.std.specs.Prelude.{◌≡◌, ◌≤◌, true, false, Some, IfOk};
+ghost use Rattle.std.specs.Prelude.{◌≡◌, ◌≤◌, [], true, false, Some, IfOk};
+ghost use Rattle.cluster.specs.Reaches.{Reaches};
 ghost use Rattle.crdt_core.specs.KindsOf.{kinds_of};
 ghost use Rattle.crdt_core.specs.Log.{end_of_time};
-ghost use Rattle.cluster.specs.Acts.{Acts, Reads};
-ghost use Rattle.cluster.specs.Live.{phase_in, is_open_phase, are_open};
+ghost use Rattle.cluster.specs.Live.{phase_in, is_open_phase, is_idle_phase};
 ghost use Rattle.cluster.specs.Reached.{Applies, IsReached};
 
 use crate::Sites;
 use crate::cluster::only;
-use crdt_core::{Crdt, ObjectId, Op};
+use crdt_core::Crdt;
 use field_codec::Text;
 use indexmap::IndexMap;
 use site_vector::PartId;
@@ -17,14 +17,14 @@ use txn_session::{Phase, Session};
 use world_model::{Command, Step};
 
 /// Sessions by their names.
-type Sessions<C> = IndexMap<Text, Session<C>>;
+pub(crate) type Sessions<C> = IndexMap<Text, Session<C>>;
 
 /// A cluster that was made, and its sessions by their names.
 #[derive(Drop)]
 pub(crate) struct Live<C: Crdt> {
-    alloc: Global,
-    sites: Sites<C>,
-    sessions: Sessions<C>,
+    pub(crate) alloc: Global,
+    pub(crate) sites: Sites<C>,
+    pub(crate) sessions: Sessions<C>,
 }
 
 impl<C: Crdt> Model for Live<C> {
@@ -36,6 +36,26 @@ impl<C: Crdt> Model for Live<C> {
 }
 
 impl<C: Crdt> Live<C> {
+    /// A cluster without sessions, of 1 to 8 sites of 1 to 16 partitions each.
+    ///
+    /// # Errors
+    ///
+    /// `AllocError` where memory runs out.
+    pub(crate) fn new(alloc: Global, sites: u8, parts: u8) -> Result<Live<C>, AllocError>
+        requires least_site { 1 ≤ sites }
+        requires most_sites { sites ≤ 8 }
+        requires least_part { 1 ≤ parts }
+        requires most_parts { parts ≤ 16 }
+        ensures { IfOk result (λ c. (c.sites.sites ≡ sites) × (c.sites.parts ≡ parts) × Reaches (kinds_of C.laws) c.sites [] × (c.sessions ≡ [])) }
+    {
+        let sites = Sites::new(alloc, sites, parts)?;
+        Ok(Live {
+            alloc,
+            sites,
+            sessions: IndexMap::new(alloc),
+        })
+    }
+
     /// The clock of a partition reads a time.
     pub(crate) fn read_clock(&mut self, part: PartId, n: u64) -> Result<Vec<Step>, AllocError>
         requires { n ≤ end_of_time }
@@ -49,7 +69,7 @@ impl<C: Crdt> Live<C> {
     }
 
     /// What the session of this name is about, if it is there.
-    fn phase(&self, name: &Text) -> Option<Phase>
+    pub(crate) fn phase(&self, name: &Text) -> Option<Phase>
         ensures { result ≡ phase_in self.now.sessions name.now }
     {
         match self.sessions.get(name) {
@@ -57,63 +77,18 @@ impl<C: Crdt> Live<C> {
             None => None,
         }
     }
-
-    /// Reads an object in a session's transaction.
-    pub(crate) fn read(&mut self, name: Text, object: ObjectId) -> Result<Vec<Step>, AllocError>
-        requires has { C.has object.kind ≡ true }
-        requires reached { IsReached (kinds_of C.laws) (Some self.old) }
-        ensures { IfOk result (λ steps. Applies (kinds_of C.laws) (Some self.old) (Command.Read name object) steps.items (Some self.new)) }
-    {
-        let Some(phase) = self.phase(&name) else {
-            return only(self.alloc, Step::NoSession);
-        };
-        if !is_open(phase) {
-            return only(self.alloc, Step::NoTxn);
-        }
-        match read_in(&mut self.sites, &mut self.sessions, &name, &object) {
-            Ok(step) => {
-                return only(self.alloc, step);
-            }
-            Err(error) => {
-                return Err(error);
-            }
-        }
-    }
-}
-
-/// Reads an object in the transaction of a session that is open.
-fn read_in<C: Crdt>(
-    sites: &mut Sites<C>,
-    sessions: &mut Sessions<C>,
-    name: &Text,
-    object: &ObjectId,
-) -> Result<Step, AllocError>
-    requires has { C.has object.now.kind ≡ true }
-    requires open { are_open (phase_in sessions.old.entries name.now) ≡ true }
-    requires reached { IsReached (kinds_of C.laws) (Some (record { sites = sites.old; sessions = sessions.old.entries })) }
-    ensures { IfOk result (λ step. Acts (kinds_of C.laws) sites.old sessions.old.entries name.now sites.new sessions.new.entries (Reads (kinds_of C.laws) sites.new object.now step)) }
-{
-    match sessions.get_mut(name) {
-        Some(session) => {
-            let (_, answer) = session.read(sites, (), object);
-            match answer {
-                Ok(step) => {
-                    return Ok(step);
-                }
-                Err(_) => {
-                    return Err(AllocError);
-                }
-            }
-        }
-        None => {
-            return Err(AllocError);
-        }
-    }
 }
 
 /// Whether a transaction has begun, and its end hasn't.
-fn is_open(phase: Phase) -> bool
+pub(crate) fn is_open(phase: Phase) -> bool
     ensures { result ≡ is_open_phase phase }
 {
     matches!(phase, Phase::Open)
+}
+
+/// Whether a transaction may begin.
+pub(crate) fn is_idle(phase: Phase) -> bool
+    ensures { result ≡ is_idle_phase phase }
+{
+    matches!(phase, Phase::Idle)
 }

@@ -64,6 +64,7 @@ impl<C: Crdt> Sites<C> {
     /// The number of sites, from 1 to 8.
     pub fn sites(&self) -> u8
         ensures is { result ≡ self.now.sites }
+        ensures least { 1 ≤ result }
         ensures most { result ≤ 8 }
     {
         self.sites
@@ -72,6 +73,7 @@ impl<C: Crdt> Sites<C> {
     /// The number of partitions of each site, from 1 to 16.
     pub fn parts(&self) -> u8
         ensures is { result ≡ self.now.parts }
+        ensures least { 1 ≤ result }
         ensures most { result ≤ 16 }
     {
         self.parts

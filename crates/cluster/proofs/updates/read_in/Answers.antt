@@ -1,6 +1,6 @@
 use Rattle.std.proofs.Common.{rules}
 use Rattle.cluster.proofs.Applying.{ok_is}
-use Rattle.cluster.proofs.live.read_in.Goals as goal
+use Rattle.cluster.proofs.updates.read_in.Goals as goal
 
 pub returns-in-Ok : goal.returns-in-Ok
 returns-in-Ok g c = record {
