@@ -1,6 +1,6 @@
-ghost use Rattle.std.specs.Prelude.{◌≡◌, List, [], ◌∷◌, None, IfOk, OnErr};
+ghost use Rattle.std.specs.Prelude.{◌≡◌, List, [], ◌∷◌, true, None, IfOk, OnErr};
 ghost use Rattle.crdt_core.specs.KindsOf.{kinds_of};
-ghost use Rattle.cluster.specs.Built.{IsSaid};
+ghost use Rattle.cluster.specs.Built.{IsSaid, is_built};
 ghost use Rattle.cluster.specs.Reached.{Applies, IsReached, Reached};
 ghost use Rattle.world_model.specs.Run.{Run};
 
@@ -72,7 +72,58 @@ fn answer<C: Crdt>(
     requires reached { IsReached (kinds_of C.laws) live.old }
     ensures { IfOk result (λ steps. Applies (kinds_of C.laws) live.old command steps.items live.new) }
 {
-    only(alloc, Step::Unbuilt)
+    if !is_built(&command) {
+        return only(alloc, Step::Unbuilt);
+    }
+    match live {
+        Some(cluster) => {
+            return cluster.apply(command);
+        }
+        None => {
+            return make(alloc, live, command);
+        }
+    }
+}
+
+/// The lines that answer a command that is built, where no cluster is made.
+fn make<C: Crdt>(
+    alloc: Global,
+    live: &mut Option<Live<C>>,
+    command: Command,
+) -> Result<Vec<Step>, AllocError>
+    requires built { is_built command ≡ true }
+    requires said { IsSaid C.has C.too_deep command }
+    requires lacks { live.old ≡ None }
+    ensures { IfOk result (λ steps. Applies (kinds_of C.laws) live.old command steps.items live.new) }
+{
+    match command {
+        Command::Cluster { sites, parts } => {
+            let made = Live::new(alloc, sites, parts)?;
+            *live = Some(made);
+            return only(alloc, Step::MadeCluster { sites, parts });
+        }
+        _ => {
+            return only(alloc, Step::NoCluster);
+        }
+    }
+}
+
+/// Whether a command is built.
+fn is_built(command: &Command) -> bool
+    ensures { result ≡ is_built command.now }
+{
+    match command {
+        Command::Cluster { sites, .. } => *sites == 1,
+        Command::Clock { .. }
+        | Command::Session { .. }
+        | Command::Lose { .. }
+        | Command::Begin { .. }
+        | Command::Read { .. }
+        | Command::Update { .. }
+        | Command::Commit { .. }
+        | Command::Abort { .. } => true,
+        _ => false,
+    }
 }
 
 /// One line.

@@ -5,6 +5,7 @@
 mod begins;
 mod calls;
 mod cluster;
+mod commits;
 mod live;
 mod sites;
 mod store;

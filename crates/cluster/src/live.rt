@@ -2,6 +2,7 @@ ghost use Rattle.std.specs.Prelude.{◌≡◌, ◌≤◌, [], true, false, Some,
 ghost use Rattle.cluster.specs.Reaches.{Reaches};
 ghost use Rattle.crdt_core.specs.KindsOf.{kinds_of};
 ghost use Rattle.crdt_core.specs.Log.{end_of_time};
+ghost use Rattle.cluster.specs.Built.{IsSaid, is_built};
 ghost use Rattle.cluster.specs.Live.{phase_in, is_open_phase, is_idle_phase};
 ghost use Rattle.cluster.specs.Reached.{Applies, IsReached};
 
@@ -66,6 +67,51 @@ impl<C: Crdt> Live<C> {
         }
         let now = self.sites.tick_at(part, n);
         only(self.alloc, Step::Ticked { part, now })
+    }
+
+    /// The lines that answer a command that is built.
+    ///
+    /// # Errors
+    ///
+    /// `AllocError` where memory runs out. It may only be dropped then.
+    pub(crate) fn apply(&mut self, command: Command) -> Result<Vec<Step>, AllocError>
+        requires built { is_built command ≡ true }
+        requires said { IsSaid C.has C.too_deep command }
+        requires reached { IsReached (kinds_of C.laws) (Some self.old) }
+        ensures { IfOk result (λ steps. Applies (kinds_of C.laws) (Some self.old) command steps.items (Some self.new)) }
+    {
+        match command {
+            Command::Cluster { .. } => {
+                return only(self.alloc, Step::HasCluster);
+            }
+            Command::Clock { part, n } => {
+                return self.read_clock(part, n);
+            }
+            Command::Session { name, site } => {
+                return self.make_session(name, site);
+            }
+            Command::Lose { name } => {
+                return self.lose(name);
+            }
+            Command::Begin { name, part } => {
+                return self.begin(name, part);
+            }
+            Command::Read { name, object } => {
+                return self.read(name, object);
+            }
+            Command::Update { name, object, op } => {
+                return self.update(name, object, op);
+            }
+            Command::Commit { name, steps } => {
+                return self.commit(name, steps);
+            }
+            Command::Abort { name } => {
+                return self.abort(name);
+            }
+            _ => {
+                return only(self.alloc, Step::Unbuilt);
+            }
+        }
     }
 
     /// What the session of this name is about, if it is there.
