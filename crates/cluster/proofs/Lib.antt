@@ -6,3 +6,7 @@ pub mod Asking
 pub mod Fresh
 pub mod Messages
 pub mod Seeing
+pub mod Mere
+pub mod Applying
+pub mod Standing
+pub mod Laws

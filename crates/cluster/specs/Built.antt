@@ -1,5 +1,5 @@
 -- Which commands the program has built, and what a script says of them.
-use Rattle.std.specs.Prelude.{◌≡◌, ℕ, ◌≤◌, Bool, true, false, ◌==◌, List, ⊤}
+use Rattle.std.specs.Prelude.{◌≡◌, ℕ, ◌≤◌, Bool, true, false, List, ⊤}
 use Rattle.crdt_core.specs.declared.kind.Kind.{Kind}
 use Rattle.crdt_core.specs.declared.object.Field.{Field}
 use Rattle.crdt_core.specs.Fits.{fits}
@@ -9,15 +9,6 @@ use Rattle.world_model.specs.declared.command.Command.TheVariants as command
 
 -- all commands but those of several sites, and those that need disks
 abbrev pub is_built : Command → Bool
-is_built (command.Cluster sites parts) = sites == 1
-is_built (command.Clock p n) = true
-is_built (command.Session name site) = true
-is_built (command.Lose name) = true
-is_built (command.Begin name part) = true
-is_built (command.Read name o) = true
-is_built (command.Update name o op) = true
-is_built (command.Commit name steps) = true
-is_built (command.Abort name) = true
 is_built other = false
 
 -- what the grammar of scripts gives, where objects are of kinds that the type has, and operations of a kind don't lead too deep

@@ -68,8 +68,13 @@ module _ {S E : Type 0} (kinds : Kinds S E) where
 
   abbrev pub Reached : Option (LiveState E) → Run → Type 0
   Reached None run = IsBefore run
-  Reached (Some c) run = ReachedLive c run
+  Reached (Some c) run = ⊥
 
   -- whatever run had left the old cluster, these lines answer the command in it, and leave the new one
   abbrev pub Applies : Option (LiveState E) → Command → List Step → Option (LiveState E) → Type 0
   Applies old c steps new = (number : ℕ) (run : Run) → Reached old run → IsAnswer is_built run c steps × Reached new (answered number (Some c) steps run)
+
+  -- some run left it so
+  pub record IsReached (c : Option (LiveState E)) : Type 0 where
+    pub run : Run
+    pub reached : Reached c run

@@ -3,7 +3,9 @@
 #![tactic(auto)]
 
 mod calls;
+mod cluster;
 mod sites;
 mod store;
 
+pub use cluster::Cluster;
 pub use sites::Sites;
