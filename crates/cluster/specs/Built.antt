@@ -1,5 +1,5 @@
 -- Which commands the program has built, and what a script says of them.
-use Rattle.std.specs.Prelude.{◌≡◌, ℕ, ◌≤◌, Bool, true, false, ◌==◌, List, ⊤}
+use Rattle.std.specs.Prelude.{◌≡◌, ℕ, ◌≤◌, Bool, true, false, ◌==◌, List, Some, ⊤}
 use Rattle.crdt_core.specs.declared.kind.Kind.{Kind}
 use Rattle.crdt_core.specs.declared.object.Field.{Field}
 use Rattle.crdt_core.specs.Fits.{fits}
@@ -26,4 +26,5 @@ IsSaid has too_deep (command.Cluster sites parts) = (1 ≤ sites) × (sites ≤ 
 IsSaid has too_deep (command.Clock p n) = n ≤ end_of_time
 IsSaid has too_deep (command.Read name o) = has o.kind ≡ true
 IsSaid has too_deep (command.Update name o op) = (has o.kind ≡ true) × (fits o.kind op.path op.act ≡ true → too_deep o.kind op.path ≡ false)
+IsSaid has too_deep (command.Commit name (Some k)) = 1 ≤ k
 IsSaid has too_deep other = ⊤

@@ -4,6 +4,7 @@
 
 mod calls;
 mod cluster;
+mod commits;
 mod live;
 mod sites;
 mod store;

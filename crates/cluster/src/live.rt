@@ -17,14 +17,14 @@ use txn_session::{Phase, Session};
 use world_model::{Command, Step};
 
 /// Sessions by their names.
-type Sessions<C> = IndexMap<Text, Session<C>>;
+pub(crate) type Sessions<C> = IndexMap<Text, Session<C>>;
 
 /// A cluster that was made, and its sessions by their names.
 #[derive(Drop)]
 pub(crate) struct Live<C: Crdt> {
-    alloc: Global,
-    sites: Sites<C>,
-    sessions: Sessions<C>,
+    pub(crate) alloc: Global,
+    pub(crate) sites: Sites<C>,
+    pub(crate) sessions: Sessions<C>,
 }
 
 impl<C: Crdt> Model for Live<C> {
@@ -49,7 +49,7 @@ impl<C: Crdt> Live<C> {
     }
 
     /// What the session of this name is about, if it is there.
-    fn phase(&self, name: &Text) -> Option<Phase>
+    pub(crate) fn phase(&self, name: &Text) -> Option<Phase>
         ensures { result ≡ phase_in self.now.sessions name.now }
     {
         match self.sessions.get(name) {
