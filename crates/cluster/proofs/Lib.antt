@@ -15,3 +15,5 @@ pub mod Turned
 pub mod Sessions
 pub mod Meets
 pub mod Commands
+pub mod Ends
+pub mod Stages

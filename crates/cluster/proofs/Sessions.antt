@@ -45,7 +45,7 @@ module _ {S E : Type 0} (kinds : Kinds S E) where
     pub seen : Sees kinds held (called by at event ∷ calls)
     pub holds : Holds new (called by at event ∷ calls)
 
-  nobody : (more : List (Call E)) → NoneBears (λ n. true) more → more ≡ []
+  pub nobody : (more : List (Call E)) → NoneBears (λ n. true) more → more ≡ []
   nobody [] h = refl
   nobody (c ∷ more) h = absurd (true≢false h.0)
 

@@ -1,5 +1,5 @@
 -- How the transaction of a session in a cluster comes to its end: step by step, as it is committed or given up.
-use Rattle.std.specs.Prelude.{◌≡◌, ℕ, zero, Bool, true, false, not, List, ◌++◌, Option, None, Some}
+use Rattle.std.specs.Prelude.{◌≡◌, ◌≢◌, ℕ, zero, Bool, true, false, not, List, ◌++◌, Option, None, Some}
 use Rattle.crdt_core.specs.KindsOf.{Kinds}
 use Rattle.world_model.specs.declared.command.Command.{Command}
 use Rattle.world_model.specs.declared.command.Command.TheVariants as command
@@ -39,6 +39,11 @@ turned_to way.GivesUp g = given_up g
 -- such lines may follow this run, of at most so many steps
 abbrev pub MayFollow : Way → List ℕ → Run → Option ℕ → List Step → Type 0
 MayFollow w name run steps lines = StepsOf name (going_of (parts_of run) (phases.phase run name)) (turned_to w) steps lines
+
+-- at most so many steps, if the command gives their number
+abbrev pub MayMake : Way → Option ℕ → Type 0
+MayMake way.Commits steps = steps ≢ Some 0
+MayMake way.GivesUp steps = steps ≡ None
 
 -- whether it goes on after a step
 abbrev pub goes_on : Phase → Next → Bool

@@ -5,7 +5,7 @@ ghost use Rattle.txn_session.specs.Calls.{Call};
 ghost use Rattle.txn_session.specs.Holds.{Holds, Mays};
 ghost use Rattle.cluster.specs.Acts.{Acts};
 ghost use Rattle.cluster.specs.Built.{IsSaid};
-ghost use Rattle.cluster.specs.Ends.{Steps, can_end, command_of, goes_on, is_idle_phase, is_undecided_phase, stops};
+ghost use Rattle.cluster.specs.Ends.{MayMake, Steps, can_end, command_of, goes_on, is_idle_phase, is_undecided_phase, stops};
 ghost use Rattle.cluster.specs.Held.{SameSize};
 ghost use Rattle.cluster.specs.Live.{session_in};
 ghost use Rattle.cluster.specs.Reached.{Applies, IsReached};
@@ -99,7 +99,7 @@ fn end_all<C: Crdt>(
     way: Way,
     steps: Option<u64>,
 ) -> Result<Vec<Step>, AllocError>
-    requires some { steps ≢ Some 0 }
+    requires some { MayMake way steps }
     requires can { can_end way (session_in sessions.old.entries name.now) ≡ true }
     requires reached { IsReached (kinds_of C.laws) (Some (record { sites = sites.old; sessions = sessions.old.entries })) }
     ensures { IfOk result (λ lines. Applies (kinds_of C.laws) (Some (record { sites = sites.old; sessions = sessions.old.entries })) (command_of way name.now steps) lines.items (Some (record { sites = sites.new; sessions = sessions.new.entries }))) }
