@@ -17,3 +17,5 @@ pub mod Meets
 pub mod Commands
 pub mod Ends
 pub mod Stages
+pub mod Stepping
+pub mod Leading

@@ -70,6 +70,14 @@ shrinks (Finishing [] n) s d h = absurd (true≢false d)
 shrinks (Aborting (p ∷ left)) s d h = omega arith
 shrinks (Aborting []) s d h = absurd (true≢false d)
 
+pub asked_end : (w : Way) (ls : List Line) (run : Run) (name : List ℕ) (steps : Option ℕ) → asked_of ls run (command_of w name steps) ≡ for_commit (parts_of run) (phase run name) (turned_to w)
+asked_end way.Commits ls run name steps = refl
+asked_end way.GivesUp ls run name steps = refl
+
+pub idle_end : (w : Way) (parts : ℕ) (name who : List ℕ) (steps : Option ℕ) (old : Phase) → bytes_eq name who ≡ false → (line : Step) → by_command parts who old (Some (command_of w name steps)) line ≡ old
+idle_end way.Commits parts name who steps old q line = cond-false (bytes_eq name who) _ old q
+idle_end way.GivesUp parts name who steps old q line = cond-false (bytes_eq name who) _ old q
+
 module _ {E : Type 0} where
   -- how far the end of a session's transaction has come, as lines tell and as a command takes it up
   pub record IsStage (parts : ℕ) (w : Way) (name : List ℕ) (steps : Option ℕ) (p : Phase) (txn : Txn E) (g : Going) : Type 0 where
@@ -84,7 +92,7 @@ module _ {E : Type 0} where
     named : (p q : Phase) → (if bytes_eq name name then p else q) ≡ p
     named p q = cond-true (bytes_eq name name) p q (own_name name)
 
-    stage_opened : (g : Going) → starting (holders parts (map (λ u. u.object) txn.updates)) ≡ g → IsStage parts way.Commits name steps (phases.Open txn.tx txn.s (map (λ u. u.object) txn.updates)) txn g
+    pub stage_opened : (g : Going) → starting (holders parts (map (λ u. u.object) txn.updates)) ≡ g → IsStage parts way.Commits name steps (phases.Open txn.tx txn.s (map (λ u. u.object) txn.updates)) txn g
     stage_opened g e = record {
       lines = λ left rest h. subst (λ x. script.Steps name x left rest) (sym e) h;
       by = λ answer. named _ _ ∙ ap (λ x. phases.Ending txn.tx txn.s (after x answer).0) e;
@@ -93,10 +101,10 @@ module _ {E : Type 0} where
       can = λ answer lead commit. refl;
     }
 
-    stage_committing : (g : Going) → IsStage parts way.Commits name steps (phases.Ending txn.tx txn.s g) txn g
+    pub stage_committing : (g : Going) → IsStage parts way.Commits name steps (phases.Ending txn.tx txn.s g) txn g
     stage_committing g = record { lines = λ left rest h. h; by = λ answer. named _ _; placed = refl; again = λ answer. refl; can = λ answer lead commit. refl }
 
-    stage_giving : (g : Going) → not (is_finishing g) ≡ true → IsStage parts way.GivesUp name steps (phases.Ending txn.tx txn.s g) txn (given_up g)
+    pub stage_giving : (g : Going) → not (is_finishing g) ≡ true → IsStage parts way.GivesUp name steps (phases.Ending txn.tx txn.s g) txn (given_up g)
     stage_giving (Preparing [] left n) h = record { lines = λ l rest k. k; by = λ answer. named _ _; placed = refl; again = λ answer. refl; can = λ answer lead commit. refl }
     stage_giving (Preparing (v ∷ voted) left n) h = record { lines = λ l rest k. k; by = λ answer. named _ _; placed = refl; again = λ answer. refl; can = λ answer lead commit. refl }
     stage_giving (Finishing left n) h = off h
@@ -104,13 +112,5 @@ module _ {E : Type 0} where
     stage_giving (Aborting (p ∷ left)) h = record { lines = λ l rest k. k; by = λ answer. named _ _; placed = refl; again = λ answer. refl; can = λ answer lead commit. refl }
 
     -- an open transaction that is given up has nothing to do
-    over_opened : (left : Option ℕ) → StepsOf name (going_of parts (phases.Open txn.tx txn.s (map (λ u. u.object) txn.updates))) given_up left (step.Ended name ∷ [])
+    pub over_opened : (left : Option ℕ) → StepsOf name (going_of parts (phases.Open txn.tx txn.s (map (λ u. u.object) txn.updates))) given_up left (step.Ended name ∷ [])
     over_opened left = (refl, refl)
-
-  pub asked_end : (w : Way) (ls : List Line) (run : Run) (name : List ℕ) (steps : Option ℕ) → asked_of ls run (command_of w name steps) ≡ for_commit (parts_of run) (phase run name) (turned_to w)
-  asked_end way.Commits ls run name steps = refl
-  asked_end way.GivesUp ls run name steps = refl
-
-  pub idle_end : (w : Way) (parts : ℕ) (name who : List ℕ) (steps : Option ℕ) (old : Phase) → bytes_eq name who ≡ false → (line : Step) → by_command parts who old (Some (command_of w name steps)) line ≡ old
-  idle_end way.Commits parts name who steps old q line = cond-false (bytes_eq name who) _ old q
-  idle_end way.GivesUp parts name who steps old q line = cond-false (bytes_eq name who) _ old q
