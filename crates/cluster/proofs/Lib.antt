@@ -19,3 +19,7 @@ pub mod Clocks
 pub mod Beginning
 pub mod Updating
 pub mod Opening
+pub mod Ends
+pub mod Stages
+pub mod Stepping
+pub mod Leading

@@ -29,7 +29,7 @@ use Rattle.cluster.specs.Sees.{is_calm, Sees}
 use Rattle.cluster.proofs.Turning.{is_numberless, IsCallLine, call_line}
 use Rattle.cluster.proofs.Turned.{IsOwnAsk, silent, call_is, numberless, next, later, depends_next, depended, other_next, turned}
 
-same_name : (a b : List ℕ) → bytes_eq a b ≡ true → a ≡ b
+pub same_name : (a b : List ℕ) → bytes_eq a b ≡ true → a ≡ b
 same_name a b h = (bytes_eq-Decides a b).0 h
 
 pub own_name : (a : List ℕ) → bytes_eq a a ≡ true
@@ -52,7 +52,7 @@ module _ {S E : Type 0} (kinds : Kinds S E) where
     pub seen : Sees kinds held (called by at event ∷ calls)
     pub holds : Holds new (called by at event ∷ calls)
 
-  nobody : (more : List (Call E)) → NoneBears (λ n. true) more → more ≡ []
+  pub nobody : (more : List (Call E)) → NoneBears (λ n. true) more → more ≡ []
   nobody [] h = refl
   nobody (c ∷ more) h = absurd (true≢false h.0)
 

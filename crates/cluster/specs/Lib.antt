@@ -7,3 +7,4 @@ pub mod Built
 pub mod Reached
 pub mod History
 pub mod Acts
+pub mod Ends
