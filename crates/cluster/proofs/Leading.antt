@@ -135,7 +135,7 @@ module _ {S E : Type 0} (kinds : Kinds S E) (old : LiveState E) (w : Way) (name 
           reached = reached_so number run r;
           follow = λ rest f. subst (λ l. MayFollow w name run steps l) (sym (append_assoc lines (answer ∷ []) rest))
               (follows_so number run r rest (subst (λ b. Follows b w name ((record { number = number; command = Some (command_of w name steps); step = answer }) ∷ answered number (Some (command_of w name steps)) lines run) left rest) (sym g)
-                  (subst (λ l. MayFollow w name l (fewer left) rest) (answered_more number (Some (command_of w name steps)) lines answer run) f)));
+              (subst (λ l. MayFollow w name l (fewer left) rest) (answered_more number (Some (command_of w name steps)) lines answer run) f)));
         };
       }
 

@@ -249,7 +249,7 @@ module _ {S E : Type 0} (kinds : Kinds S E) where
           phase_is : phase after_it name ≡ phases.Ending txn.tx txn.s gone
           phase_is = ap (phase_after (parts_of run) name (phase run name) (Some cmd)) t.shows
               ∙ (end_phase (entries r.calls) place t.event (ap is_end_ask t.asked ∙ end_ask s.parts txn lead asked asks) t.seen.calm.0 (parts_of run) name (phase run name) (Some cmd)
-                  ∙ (ap (by_command (parts_of run) name (phase run name) (Some cmd)) (sym t.shows) ∙ stage.by answer))
+              ∙ (ap (by_command (parts_of run) name (phase run name) (Some cmd)) (sym t.shows) ∙ stage.by answer))
 
           goes_is : goes ≡ is_go (after commit.going answer).1
           goes_is = d.0 ∙ ((λ i. goes_on (phase_of (doing_is i)) (next_said (e i) answer)) ∙ said_on gone (after commit.going answer).1)
@@ -300,8 +300,8 @@ module _ {S E : Type 0} (kinds : Kinds S E) where
           more_so : (left : Option ℕ) → stops left (Some new) ≡ false → left ≡ Some 0 → next_of (on_way w new).doing ≡ what.Done
           more_so left h z = ap (λ y. next_of (doing_on w new.site new.parts y)) doing_is
               ∙ (next_on w new.site new.parts txn lead (committed_so commit gone)
-                  ∙ (ap (next_step commit.site commit.s) (stage.again answer)
-                      ∙ no_step (next_step commit.site commit.s gone) (step_left commit.site commit.s gone ∙ (sym (ap has_step doing_is) ∙ subst (λ l. stops l (Some new) ≡ false) z h))))
+              ∙ (ap (next_step commit.site commit.s) (stage.again answer)
+              ∙ no_step (next_step commit.site commit.s gone) (step_left commit.site commit.s gone ∙ (sym (ap has_step doing_is) ∙ subst (λ l. stops l (Some new) ≡ false) z h))))
 
           going_on : GoesSo
           going_on = record {
@@ -337,7 +337,7 @@ module _ {S E : Type 0} (kinds : Kinds S E) where
       by_way way.GivesUp e Idle k h x = off h
       by_way way.GivesUp e (Open txn) k h x = over
           (λ left. subst (λ y. StepsOf name (going_of (parts_of run) (phase run name)) (turned_to y) left (step.Ended name ∷ [])) (sym e)
-              (subst (λ p. StepsOf name (going_of (parts_of run) p) given_up left (step.Ended name ∷ [])) (sym (st.phase ∙ ap phase_as k)) (over_opened (parts_of run) name steps txn left)))
+          (subst (λ p. StepsOf name (going_of (parts_of run) p) given_up left (step.Ended name ∷ [])) (sym (st.phase ∙ ap phase_as k)) (over_opened (parts_of run) name steps txn left)))
           (ap next_of (start_at way.GivesUp (Open txn) e k))
       by_way way.GivesUp e (Ending txn lead commit) k h x = from_txn txn lead (committed_so commit (given_up commit.going)) (start_at way.GivesUp (Ending txn lead commit) e k) (stage_at way.GivesUp (Ending txn lead commit) txn _ e k (stage_giving (parts_of run) name steps txn commit.going h)) x.0 x.1.at_site x.1.snapshot
 

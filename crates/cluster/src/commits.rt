@@ -29,11 +29,7 @@ enum Way {
 
 impl<C: Crdt> Live<C> {
     /// Commits a session's transaction, or makes so many steps of its commit.
-    pub(crate) fn commit(
-        &mut self,
-        name: Text,
-        steps: Option<u64>,
-    ) -> Result<Vec<Step>, AllocError>
+    pub(crate) fn commit(&mut self, name: Text, steps: Option<u64>) -> Result<Vec<Step>, AllocError>
         requires said { IsSaid C.has C.too_deep (Command.Commit name steps) }
         requires reached { IsReached (kinds_of C.laws) (Some self.old) }
         ensures { IfOk result (λ lines. Applies (kinds_of C.laws) (Some self.old) (Command.Commit name steps) lines.items (Some self.new)) }
