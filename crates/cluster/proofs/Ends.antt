@@ -1,12 +1,10 @@
 -- One step of the end of a session's transaction, as the lines of a script tell it.
-use Rattle.std.proofs.Common.{◌≡◌, ⊎_elim, ℕ, zero, suc, ◌+◌, cond, Bool, true, false, List, [], ◌∷◌, ◌++◌, map, refl, sym, ap, ◌∙◌, subst, Option, None, Some}
-use Rattle.std.specs.Prelude.{◌||◌, ◌&&◌, ◌↔◌, not, filter, ◌==◌, if◌then◌else◌, Result, Ok, Err, ⊤}
+use Rattle.std.proofs.Common.{◌≡◌, ⊎_elim, ℕ, zero, suc, ◌+◌, cond, Bool, true, false, List, [], ◌∷◌, map, refl, sym, ap, ◌∙◌, subst, Option}
+use Rattle.std.specs.Prelude.{◌||◌, ◌↔◌, not, filter, ◌==◌, Result, Ok, Err, IfOk}
 use Rattle.std.specs.List.{list_any}
-use Rattle.std.specs.Str.{bytes_eq}
-use Rattle.std.proofs.lemmas.Bool.{cond-true, cond-false, and_from, or_left, or_right}
+use Rattle.std.proofs.lemmas.Bool.{cond-true, and_from, or_left, or_right}
 use Rattle.site_vector.specs.declared.ids.PartId.{PartId}
 use Rattle.site_vector.specs.declared.ids.TxId.{TxId}
-use Rattle.site_vector.specs.Ids.{same_tx}
 use Rattle.site_vector.specs.Vector.{join}
 use Rattle.site_vector.specs.Order.{same_tx_refl}
 use Rattle.crdt_core.specs.declared.record.Upd.{Upd}
@@ -15,11 +13,10 @@ use Rattle.world_model.specs.declared.command.Command.{Command}
 use Rattle.world_model.specs.declared.commit.What.{What}
 use Rattle.world_model.specs.declared.commit.What.TheVariants as what
 use Rattle.world_model.specs.declared.step.Step.{Step}
-use Rattle.world_model.specs.declared.step.Step.TheVariants as step
 use Rattle.world_model.specs.Asking.{asked_by}
-use Rattle.world_model.specs.CommitSteps.{Going, Preparing, Finishing, Aborting, starting, given_up, next_step, is_done, after}
+use Rattle.world_model.specs.CommitSteps.{Going, Preparing, Finishing, Aborting, given_up, next_step, is_done, after}
 use Rattle.world_model.specs.Dependency.{IsOwnPast}
-use Rattle.world_model.specs.Event.{Ask, AskPrepare, AskDecide, AskFinish, AskAbort, AskReport, IsDown, Event, Began, Updated, Prepared, Decided, Finished, Aborted, Opened, Refused, Cut, Entry, attempt, WasShown}
+use Rattle.world_model.specs.Event.{Ask, AskPrepare, AskDecide, AskFinish, AskAbort, AskReport, IsDown, Event, Began, Updated, Decided, Opened, Refused, Cut, Entry, attempt, WasShown}
 use Rattle.world_model.specs.Lines.{Line, call_asked, step_shown, session_of}
 use Rattle.world_model.specs.Past.{begins_for, is_of, dependency_after}
 use Rattle.world_model.specs.Phases as phases
@@ -33,15 +30,17 @@ use Rattle.crdt_core.specs.KindsOf.{Kinds}
 use Rattle.world_model.specs.declared.commit.Next.{Next}
 use Rattle.world_model.specs.declared.commit.Next.TheVariants as next
 use Rattle.clocksi_commit.specs.Commit.{is_finishing}
+use Rattle.txn_session.specs.declared.phase.Phase.{Phase as Stage}
 use Rattle.txn_session.specs.declared.error.SessionError.{SessionError}
 use Rattle.txn_session.specs.declared.error.SessionError.TheVariants.{NoTxn}
 use Rattle.txn_session.specs.Calls.{Call}
 use Rattle.txn_session.specs.Holds.{Holds, MakesStep, next_of}
 use Rattle.cluster.specs.declared.commits.Way.{Way}
 use Rattle.cluster.specs.declared.commits.Way.TheVariants as way
-use Rattle.cluster.specs.Ends.{Steps, goes_on}
+use Rattle.cluster.specs.Ends.{TakesStep, goes_on}
 use Rattle.cluster.specs.Held.{Held}
 use Rattle.cluster.specs.Sees.{is_calm, Sees}
+use Rattle.cluster.proofs.Applying.{ok_is}
 use Rattle.cluster.proofs.Sessions.{own_name}
 use Rattle.cluster.proofs.Turned.{IsOwnAsk}
 
@@ -190,14 +189,14 @@ module _ {E : Type 0} where
   gives_go (Ending txn lead commit) answer h = go_on commit.going answer h
 
   module _ {S : Type 0} (kinds : Kinds S E) (held later : Held E) (old new : SessionState E) (w : Way) (goes : Bool) (answer : Step) where
-    abbrev MadeFrom : SessionState E → Type 0
-    MadeFrom start = (calls : List (Call E)) → Sees kinds held calls → Holds old calls → MakesStep (λ h (p : Unit {0}) l. Sees kinds h l) (λ (p : Unit {0}) n. true) later tt calls start new answer start.doing (next_of start.doing)
+    abbrev MadeFrom : SessionState E → Step → Type 0
+    MadeFrom start s = (calls : List (Call E)) → Sees kinds held calls → Holds old calls → MakesStep (λ h (p : Unit {0}) l. Sees kinds h l) (λ (p : Unit {0}) n. true) later tt calls start new s start.doing (next_of start.doing)
 
     abbrev StepsOn : Type 0
-    StepsOn = (calls : List (Call E)) → Sees kinds held calls → Holds old calls → Steps kinds later w answer goes old new calls
+    StepsOn = (calls : List (Call E)) → Sees kinds held calls → Holds old calls → TakesStep kinds later w answer goes old new calls
 
-    pub commits_on : w ≡ way.Commits → (n : Next) → new ≡ stepped (begun_end old) answer → n ≡ next_said (begun_end old).doing answer → EndsAs old.name (next_of (begun_end old).doing) answer → MadeFrom (begun_end old) → goes ≡ goes_on (phase_of new.doing) n → StepsOn
-    commits_on e n is said ended made g calls seen holds = subst (λ x. Steps kinds later x answer goes old new calls) (sym e) (g ∙ ap (goes_on (phase_of new.doing)) said, record { is = is; ended = ended; made = made calls seen holds })
+    pub commits_on : w ≡ way.Commits → (n : Next) (r : Result (Step × Next) SessionError) → r ≡ Ok (answer, n) → IfOk r (λ x. new ≡ stepped (begun_end old) x.0) → IfOk r (λ x. x.1 ≡ next_said (begun_end old).doing x.0) → IfOk r (λ x. EndsAs old.name (next_of (begun_end old).doing) x.0) → IfOk r (λ x. MadeFrom (begun_end old) x.0) → (p : Stage) → goes ≡ goes_on p n → p ≡ phase_of new.doing → StepsOn
+    commits_on e n r ok is said ended made p g stands calls seen holds = subst (λ x. TakesStep kinds later x answer goes old new calls) (sym e) (g ∙ (λ i. goes_on (stands i) (ok_is _ r (answer, n) ok said i)), record { is = ok_is _ r (answer, n) ok is; ended = ok_is _ r (answer, n) ok ended; made = ok_is _ r (answer, n) ok made calls seen holds })
 
-    pub gives_on : w ≡ way.GivesUp → (r : Result Step SessionError) → r ≡ Ok answer → (r ≡ Err NoTxn) ↔ (can_abort old.doing ≡ false) → new ≡ stepped (given_up_end old) answer → EndsAs old.name (next_of (given_up_end old).doing) answer → MadeFrom (given_up_end old) → goes ≡ goes_on (phase_of new.doing) next.Go → StepsOn
-    gives_on e r ok can is ended made g calls seen holds = subst (λ x. Steps kinds later x answer goes old new calls) (sym e) (g ∙ ap (goes_on (phase_of new.doing)) (sym (gives_go old.doing answer (can_of (can_abort old.doing) r answer can ok))), record { is = is; ended = ended; made = made calls seen holds })
+    pub gives_on : w ≡ way.GivesUp → (r : Result Step SessionError) → r ≡ Ok answer → (r ≡ Err NoTxn) ↔ (can_abort old.doing ≡ false) → IfOk r (λ x. new ≡ stepped (given_up_end old) x) → IfOk r (λ x. EndsAs old.name (next_of (given_up_end old).doing) x) → IfOk r (λ x. MadeFrom (given_up_end old) x) → (p : Stage) → goes ≡ goes_on p next.Go → p ≡ phase_of new.doing → StepsOn
+    gives_on e r ok can is ended made p g stands calls seen holds = subst (λ x. TakesStep kinds later x answer goes old new calls) (sym e) (g ∙ (λ i. goes_on (stands i) (sym (gives_go old.doing answer (can_of (can_abort old.doing) r answer can ok)) i)), record { is = ok_is _ r answer ok is; ended = ok_is _ r answer ok ended; made = ok_is _ r answer ok made calls seen holds })

@@ -1,8 +1,8 @@
 -- The steps of the end of a session's transaction, one after another, answer their command.
-use Rattle.std.proofs.Common.{◌≡◌, ℕ, zero, suc, ◌<◌, Bool, true, false, List, [], ◌∷◌, ◌++◌, refl, sym, ap, ◌∙◌, subst, Option, None, Some}
+use Rattle.std.proofs.Common.{◌≡◌, ℕ, ◌<◌, Bool, true, false, List, [], ◌∷◌, ◌++◌, refl, sym, ap, ◌∙◌, subst, Option, None, Some}
 use Rattle.std.specs.Prelude.{not, if◌then◌else◌}
 use Rattle.std.specs.Str.{bytes_eq}
-use Rattle.std.proofs.lemmas.Bool.{true≢false, cond-true, cond-false}
+use Rattle.std.proofs.lemmas.Bool.{true≢false, cond-true}
 use Rattle.std.proofs.lemmas.List.{append_assoc}
 use Rattle.crdt_core.specs.KindsOf.{Kinds}
 use Rattle.world_model.specs.declared.command.Command.{Command}
@@ -13,11 +13,10 @@ use Rattle.world_model.specs.declared.step.Step.TheVariants as step
 use Rattle.world_model.specs.Answers.{answered}
 use Rattle.world_model.specs.Cluster.{parts_of}
 use Rattle.world_model.specs.CommitSteps.{Going, Preparing, Finishing, Aborting}
-use Rattle.world_model.specs.Meeting.{met}
 use Rattle.world_model.specs.Phases as phases
 use Rattle.world_model.specs.Phases.{Phase, phase, committing, aborting}
 use Rattle.world_model.specs.Run.{Run}
-use Rattle.world_model.specs.ScriptAnswers.{AnswersBy, IsAnswer, Replies, fewer}
+use Rattle.world_model.specs.ScriptAnswers.{AnswersBy, IsAnswer, fewer}
 use Rattle.world_model.proofs.Names.{off}
 use Rattle.txn_session.specs.Holds.{next_of}
 use Rattle.txn_session.specs.declared.phase.Phase.{Phase as Stage}
@@ -27,7 +26,7 @@ use Rattle.cluster.specs.declared.commits.Way.{Way}
 use Rattle.cluster.specs.declared.commits.Way.TheVariants as way
 use Rattle.cluster.specs.Acts.{Acts}
 use Rattle.cluster.specs.Built.{is_built}
-use Rattle.cluster.specs.Ends.{MayFollow, MayMake, LedTo, Leads, Steps, can_end, can_go, command_of, is_idle_phase, is_undecided_phase, on_way, stops}
+use Rattle.cluster.specs.Ends.{MayFollow, MayMake, Leads, TakesStep, can_end, can_go, command_of, is_idle_phase, is_undecided_phase, on_way, stops}
 use Rattle.cluster.specs.Held.{Held}
 use Rattle.cluster.specs.Live.{LiveState, session_in, phase_in, phase_about}
 use Rattle.cluster.specs.Reached.{phase_as, ReachedLive, Applies, IsReached}
@@ -84,7 +83,7 @@ module _ {S E : Type 0} (kinds : Kinds S E) (old : LiveState E) (w : Way) (name 
     pub may_end : can_end w (session_in now.sessions name) ≡ true
     may_end = ap (can_end w) on.may.is ∙ on.may.can
 
-    module _ (later : Held E) (sessions : List (List ℕ × SessionState E)) (answer : Step) (goes : Bool) (a : Acts kinds now.sites now.sessions name later sessions (Steps kinds later w answer goes)) where
+    module _ (later : Held E) (sessions : List (List ℕ × SessionState E)) (answer : Step) (goes : Bool) (a : Acts kinds now.sites now.sessions name later sessions (TakesStep kinds later w answer goes)) where
       abbrev new : LiveState E
       new = record { sites = later; sessions = sessions }
 
@@ -135,7 +134,7 @@ module _ {S E : Type 0} (kinds : Kinds S E) (old : LiveState E) (w : Way) (name 
           reached = reached_so number run r;
           follow = λ rest f. subst (λ l. MayFollow w name run steps l) (sym (append_assoc lines (answer ∷ []) rest))
               (follows_so number run r rest (subst (λ b. Follows b w name ((record { number = number; command = Some (command_of w name steps); step = answer }) ∷ answered number (Some (command_of w name steps)) lines run) left rest) (sym g)
-                  (subst (λ l. MayFollow w name l (fewer left) rest) (answered_more number (Some (command_of w name steps)) lines answer run) f)));
+              (subst (λ l. MayFollow w name l (fewer left) rest) (answered_more number (Some (command_of w name steps)) lines answer run) f)));
         };
       }
 

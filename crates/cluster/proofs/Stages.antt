@@ -1,40 +1,27 @@
 -- How far the end of a transaction has come, as its lines tell and as its session holds.
-use Rattle.std.proofs.Common.{◌≡◌, ◌≢◌, ◌⊎◌, inl, inr, ⊎_elim, ℕ, zero, suc, ◌+◌, ◌<◌, Bool, true, false, List, [], ◌∷◌, ◌++◌, length, map, refl, sym, ap, ◌∙◌, subst, Option, None, Some, arith}
+use Rattle.std.proofs.Common.{◌≡◌, ℕ, suc, ◌+◌, ◌<◌, true, false, List, [], ◌∷◌, length, map, refl, sym, ap, ◌∙◌, subst, Option, Some, arith}
 use Rattle.std.specs.Prelude.{not, if◌then◌else◌}
 use Rattle.std.specs.Str.{bytes_eq}
-use Rattle.std.proofs.lemmas.Bool.{true≢false, cond-true, cond-false, cases_Bool}
-use Rattle.std.proofs.lemmas.List.{append_assoc, append-nil, length-append}
-use Rattle.site_vector.specs.declared.ids.PartId.{PartId}
-use Rattle.site_vector.specs.declared.ids.TxId.{TxId}
-use Rattle.crdt_core.specs.KindsOf.{Kinds}
-use Rattle.world_model.specs.declared.command.Command.{Command}
-use Rattle.world_model.specs.declared.command.Command.TheVariants as command
-use Rattle.world_model.specs.declared.commit.Next.{Next}
+use Rattle.std.proofs.lemmas.Bool.{true≢false, cond-true, cond-false}
+use Rattle.std.proofs.lemmas.List.{length-append}
 use Rattle.world_model.specs.declared.commit.Next.TheVariants as next
-use Rattle.world_model.specs.declared.commit.What.{What}
-use Rattle.world_model.specs.declared.commit.What.TheVariants as what
 use Rattle.world_model.specs.declared.step.Step.{Step}
 use Rattle.world_model.specs.declared.step.Step.TheVariants as step
-use Rattle.world_model.specs.Cluster.{parts_of, sites_of}
+use Rattle.world_model.specs.Cluster.{parts_of}
 use Rattle.world_model.specs.CommitSteps.{Going, Preparing, Finishing, Aborting, starting, given_up, next_step, is_done, after, after_vote, after_decision, after_finish}
 use Rattle.world_model.specs.Lines.{Line}
 use Rattle.world_model.specs.Phases as phases
 use Rattle.world_model.specs.Phases.{Phase, phase, by_command, going_of, holders}
-use Rattle.world_model.specs.Plan.{home}
 use Rattle.world_model.specs.Run.{Run}
 use Rattle.world_model.specs.ScriptAnswers as script
 use Rattle.world_model.specs.ScriptAnswers.{StepsOf, is_up, Either, Then, fewer}
 use Rattle.world_model.specs.ScriptCalls.{for_step, for_commit, asked_of}
 use Rattle.world_model.proofs.Names.{off}
 use Rattle.clocksi_commit.specs.Commit.{Committing, is_finishing}
-use Rattle.txn_session.specs.Calls.{Call, entries}
-use Rattle.txn_session.specs.Holds.{HoldsTxn, HoldsEnd, HoldsDoing, Holds, next_of}
-use Rattle.txn_session.specs.Session as session
-use Rattle.txn_session.specs.Session.{Txn, Doing, Idle, Open, Ending, SessionState, committed_so, participants, first_or_zero, has_step}
+use Rattle.txn_session.specs.Session.{Txn, Ending, committed_so}
 use Rattle.cluster.specs.declared.commits.Way.{Way}
 use Rattle.cluster.specs.declared.commits.Way.TheVariants as way
-use Rattle.cluster.specs.Ends.{command_of, turned_to, MayFollow, doing_on, on_way, can_go}
-use Rattle.cluster.proofs.Ends.{holders_are}
+use Rattle.cluster.specs.Ends.{command_of, turned_to, can_go}
 use Rattle.cluster.proofs.Sessions.{own_name}
 
 -- how many steps there may be at most

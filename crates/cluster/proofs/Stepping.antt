@@ -1,8 +1,7 @@
 -- One step of the end of a session's transaction, as its cluster stands after it.
-use Rattle.std.proofs.Common.{◌≡◌, ◌⊎◌, inl, inr, ⊎_elim, ℕ, zero, suc, ◌<◌, ◌≤◌, arith, Bool, true, false, List, [], ◌∷◌, ◌++◌, length, refl, sym, ap, ◌∙◌, subst, Option, None, Some}
-use Rattle.std.specs.Prelude.{not, ◌&&◌, nat_le, if◌then◌else◌}
+use Rattle.std.proofs.Common.{◌≡◌, ⊎_elim, ℕ, zero, suc, ◌<◌, ◌≤◌, arith, Bool, true, false, List, [], ◌∷◌, ◌++◌, refl, sym, ap, ◌∙◌, subst, Option, None, Some}
+use Rattle.std.specs.Prelude.{not, if◌then◌else◌}
 use Rattle.std.specs.Str.{bytes_eq}
-use Rattle.std.proofs.lemmas.Slice.Eq.{bytes_eq-Decides}
 use Rattle.std.proofs.lemmas.Bool.{true≢false, cond-true, cond-false, cases_Bool}
 use Rattle.site_vector.specs.declared.ids.PartId.{PartId}
 use Rattle.crdt_core.specs.KindsOf.{Kinds}
@@ -25,21 +24,19 @@ use Rattle.world_model.specs.ScriptAnswers as script
 use Rattle.world_model.specs.ScriptAnswers.{StepsOf, is_up, Either, Then, fewer}
 use Rattle.world_model.specs.ScriptCalls.{for_step, asked_of, calls_of}
 use Rattle.world_model.proofs.Names.{off}
-use Rattle.clocksi_commit.specs.Commit.{Committing, is_finishing}
-use Rattle.txn_session.specs.declared.phase.Phase.TheVariants as about
+use Rattle.clocksi_commit.specs.Commit.{Committing}
 use Rattle.txn_session.specs.Calls.{Call, entries}
-use Rattle.txn_session.specs.Holds.{HoldsTxn, HoldsEnd, HoldsDoing, Holds, MakesStep, Waits, next_of}
-use Rattle.txn_session.specs.Opens.{EndsAs, dependency_told, next_said, stepped_by, stepped}
+use Rattle.txn_session.specs.Holds.{HoldsTxn, HoldsDoing, MakesStep, Waits, next_of}
+use Rattle.txn_session.specs.Opens.{EndsAs, dependency_told, next_said, stepped_by}
 use Rattle.txn_session.specs.Session as session
 use Rattle.txn_session.specs.Session.{Txn, Doing, Idle, Open, Ending, SessionState, committed_so, participants, first_or_zero, has_step, doing_so, depends, place_in, phase_of, phase_in}
 use Rattle.cluster.specs.declared.commits.Way.{Way}
 use Rattle.cluster.specs.declared.commits.Way.TheVariants as way
-use Rattle.cluster.specs.Acts.{Acts}
-use Rattle.cluster.specs.Ends.{command_of, turned_to, MayFollow, goes_on, doing_on, on_way, can_go, stops, MadeStep, Steps}
+use Rattle.cluster.specs.Ends.{command_of, turned_to, MayFollow, goes_on, doing_on, on_way, can_go, stops, TakesStep}
 use Rattle.cluster.specs.Held.{Held, SameSize}
 use Rattle.cluster.specs.Live.{LiveState, session_in, IsPut}
 use Rattle.cluster.specs.Reached.{phase_as, StandsBy, StandsAs, ReachedLive}
-use Rattle.cluster.specs.Sees.{is_calm, Sees}
+use Rattle.cluster.specs.Sees.{Sees}
 use Rattle.cluster.proofs.Ends.{is_step, part_for, is_end_ask, step_left, holders_are, end_phase, shown_of, ask_for, end_ask, placed_for, own_for, past_for, depends_for}
 use Rattle.cluster.proofs.Meets.{by_name}
 use Rattle.cluster.proofs.Sessions.{Turns, nobody, turns, acted, own_name, same_name}
@@ -177,7 +174,7 @@ module _ {S E : Type 0} (kinds : Kinds S E) where
             of_name true h = subst (λ n. StandsBy after_it r.calls n (doing_so s Idle)) (same_name name who h) mine
             of_name false h = stands_still after_it run r.calls r.calls who (session_in c.sessions who) (record { sites = refl; parts = refl; site = refl; phase = cond-false (bytes_eq name who) phases.Idle (phase run who) h; depends = refl }) (λ x e k. k) (r.each who)
 
-    module _ (w : Way) (steps : Option ℕ) (later : Held E) (sessions : List (List ℕ × SessionState E)) (new : SessionState E) (answer : Step) (goes : Bool) (same : SameSize c.sites later) (put : IsPut c.sessions name new sessions) (d : Steps kinds later w answer goes s new r.calls) where
+    module _ (w : Way) (steps : Option ℕ) (later : Held E) (sessions : List (List ℕ × SessionState E)) (new : SessionState E) (answer : Step) (goes : Bool) (same : SameSize c.sites later) (put : IsPut c.sessions name new sessions) (d : TakesStep kinds later w answer goes s new r.calls) where
       abbrev start : SessionState E
       start = on_way w s
 
@@ -250,7 +247,7 @@ module _ {S E : Type 0} (kinds : Kinds S E) where
           phase_is : phase after_it name ≡ phases.Ending txn.tx txn.s gone
           phase_is = ap (phase_after (parts_of run) name (phase run name) (Some cmd)) t.shows
               ∙ (end_phase (entries r.calls) place t.event (ap is_end_ask t.asked ∙ end_ask s.parts txn lead asked asks) t.seen.calm.0 (parts_of run) name (phase run name) (Some cmd)
-                  ∙ (ap (by_command (parts_of run) name (phase run name) (Some cmd)) (sym t.shows) ∙ stage.by answer))
+              ∙ (ap (by_command (parts_of run) name (phase run name) (Some cmd)) (sym t.shows) ∙ stage.by answer))
 
           goes_is : goes ≡ is_go (after commit.going answer).1
           goes_is = d.0 ∙ ((λ i. goes_on (phase_of (doing_is i)) (next_said (e i) answer)) ∙ said_on gone (after commit.going answer).1)
@@ -302,8 +299,8 @@ module _ {S E : Type 0} (kinds : Kinds S E) where
           more_so : (left : Option ℕ) → stops left (Some new) ≡ false → left ≡ Some 0 → next_of (on_way w new).doing ≡ what.Done
           more_so left h z = ap (λ y. next_of (doing_on w new.site new.parts y)) doing_is
               ∙ (next_on w new.site new.parts txn lead (committed_so commit gone)
-                  ∙ (ap (next_step commit.site commit.s) (stage.again answer)
-                      ∙ no_step (next_step commit.site commit.s gone) (step_left commit.site commit.s gone ∙ (sym (ap has_step doing_is) ∙ subst (λ l. stops l (Some new) ≡ false) z h))))
+              ∙ (ap (next_step commit.site commit.s) (stage.again answer)
+              ∙ no_step (next_step commit.site commit.s gone) (step_left commit.site commit.s gone ∙ (sym (ap has_step doing_is) ∙ subst (λ l. stops l (Some new) ≡ false) z h))))
 
           going_on : GoesSo
           going_on = record {
@@ -339,7 +336,7 @@ module _ {S E : Type 0} (kinds : Kinds S E) where
       by_way way.GivesUp e Idle k h x = off h
       by_way way.GivesUp e (Open txn) k h x = over
           (λ left. subst (λ y. StepsOf name (going_of (parts_of run) (phase run name)) (turned_to y) left (step.Ended name ∷ [])) (sym e)
-              (subst (λ p. StepsOf name (going_of (parts_of run) p) given_up left (step.Ended name ∷ [])) (sym (st.phase ∙ ap phase_as k)) (over_opened (parts_of run) name steps txn left)))
+          (subst (λ p. StepsOf name (going_of (parts_of run) p) given_up left (step.Ended name ∷ [])) (sym (st.phase ∙ ap phase_as k)) (over_opened (parts_of run) name steps txn left)))
           (ap next_of (start_at way.GivesUp (Open txn) e k))
       by_way way.GivesUp e (Ending txn lead commit) k h x = from_txn txn lead (committed_so commit (given_up commit.going)) (start_at way.GivesUp (Ending txn lead commit) e k) (stage_at way.GivesUp (Ending txn lead commit) txn _ e k (stage_giving (parts_of run) name steps txn commit.going h)) x.0 x.1.at_site x.1.snapshot
 

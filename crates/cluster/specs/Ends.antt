@@ -22,7 +22,7 @@ use Rattle.txn_session.specs.Session.{Doing, SessionState, ending, giving_up, is
 use Rattle.cluster.specs.declared.commits.Way.{Way}
 use Rattle.cluster.specs.declared.commits.Way.TheVariants as way
 use Rattle.cluster.specs.Held.{Held}
-use Rattle.cluster.specs.Live.{LiveState, session_in}
+use Rattle.cluster.specs.Live.{LiveState}
 use Rattle.cluster.specs.Reached.{ReachedLive}
 use Rattle.cluster.specs.Sees.{Sees}
 
@@ -92,8 +92,8 @@ module _ {S E : Type 0} (kinds : Kinds S E) where
     pub made : MakesStep (λ h (p : Unit {0}) l. Sees kinds h l) (λ (p : Unit {0}) n. true) later tt calls start new answer start.doing (next_of start.doing)
 
   -- and so the command goes on, or ends
-  abbrev pub Steps : Held E → Way → Step → Bool → SessionState E → SessionState E → List (Call E) → Type 0
-  Steps later w answer goes s new calls = (goes ≡ goes_on (phase_of new.doing) (next_said (on_way w s).doing answer)) × MadeStep later (on_way w s) answer new calls
+  abbrev pub TakesStep : Held E → Way → Step → Bool → SessionState E → SessionState E → List (Call E) → Type 0
+  TakesStep later w answer goes s new calls = (goes ≡ goes_on (phase_of new.doing) (next_said (on_way w s).doing answer)) × MadeStep later (on_way w s) answer new calls
 
   -- these lines led from the old cluster to this one, and with any that may follow them they may follow what was before
   pub record LedTo (old now : LiveState E) (w : Way) (name : List ℕ) (steps left : Option ℕ) (lines : List Step) (number : ℕ) (run : Run) : Type 0 where

@@ -5,7 +5,7 @@ ghost use Rattle.txn_session.specs.Calls.{Call};
 ghost use Rattle.txn_session.specs.Holds.{Holds, Mays};
 ghost use Rattle.cluster.specs.Acts.{Acts};
 ghost use Rattle.cluster.specs.Built.{IsSaid};
-ghost use Rattle.cluster.specs.Ends.{MayMake, Steps, can_end, command_of, goes_on, is_idle_phase, is_undecided_phase, stops};
+ghost use Rattle.cluster.specs.Ends.{MayMake, TakesStep, can_end, command_of, goes_on, is_idle_phase, is_undecided_phase, stops};
 ghost use Rattle.cluster.specs.Held.{SameSize};
 ghost use Rattle.cluster.specs.Live.{session_in};
 ghost use Rattle.cluster.specs.Reached.{Applies, IsReached};
@@ -29,11 +29,7 @@ enum Way {
 
 impl<C: Crdt> Live<C> {
     /// Commits a session's transaction, or makes so many steps of its commit.
-    pub(crate) fn commit(
-        &mut self,
-        name: Text,
-        steps: Option<u64>,
-    ) -> Result<Vec<Step>, AllocError>
+    pub(crate) fn commit(&mut self, name: Text, steps: Option<u64>) -> Result<Vec<Step>, AllocError>
         requires said { IsSaid C.has C.too_deep (Command.Commit name steps) }
         requires reached { IsReached (kinds_of C.laws) (Some self.old) }
         ensures { IfOk result (λ lines. Applies (kinds_of C.laws) (Some self.old) (Command.Commit name steps) lines.items (Some self.new)) }
@@ -128,7 +124,7 @@ fn end_once<C: Crdt>(
 ) -> Result<(Step, bool), AllocError>
     requires can { can_end way (session_in sessions.old.entries name.now) ≡ true }
     requires reached { IsReached (kinds_of C.laws) (Some (record { sites = sites.old; sessions = sessions.old.entries })) }
-    ensures { IfOk result (λ r. Acts (kinds_of C.laws) sites.old sessions.old.entries name.now sites.new sessions.new.entries (Steps (kinds_of C.laws) sites.new way r.0 r.1)) }
+    ensures { IfOk result (λ r. Acts (kinds_of C.laws) sites.old sessions.old.entries name.now sites.new sessions.new.entries (TakesStep (kinds_of C.laws) sites.new way r.0 r.1)) }
 {
     match sessions.get_mut(name) {
         Some(session) => {
@@ -150,7 +146,7 @@ fn step_on<C: Crdt>(
     requires parts { sites.old.parts ≡ session.old.parts }
     requires holds { Mays (λ h (p : Unit {0}) l. Sees (kinds_of C.laws) h l) (λ (p : Unit {0}) n. true) sites.old tt session.old }
     ensures stays { SameSize sites.old sites.new }
-    ensures made { IfOk result (λ r. (calls : List (Call C.Effect)) → Sees (kinds_of C.laws) sites.old calls → Holds session.old calls → Steps (kinds_of C.laws) sites.new way r.0 r.1 session.old session.new calls) }
+    ensures made { IfOk result (λ r. (calls : List (Call C.Effect)) → Sees (kinds_of C.laws) sites.old calls → Holds session.old calls → TakesStep (kinds_of C.laws) sites.new way r.0 r.1 session.old session.new calls) }
 {
     match way {
         Way::Commits => {

@@ -1,4 +1,4 @@
-use Rattle.std.proofs.Common.{◌≡◌, ◌<◌, true, false, ◌∙◌, ◌∷◌, [], ◌++◌, sym, ap, subst, Some}
+use Rattle.std.proofs.Common.{◌∙◌, ◌∷◌, [], ◌++◌, sym, ap, subst, Some}
 use Rattle.crdt_core.specs.KindsOf.{kinds_of}
 use Rattle.cluster.specs.Ends.{command_of, stops}
 use Rattle.cluster.specs.Live.{session_in}
@@ -27,7 +27,7 @@ returns-then-stops g c = subst (λ lines. Applies (kinds_of g.C.Crdt.laws) (Some
 pub steps-preserved : goal.steps-preserved
 steps-preserved g c = subst (λ lines. IsOnWay (kinds_of g.C.Crdt.laws) (record { sites = c.args.sites.now; sessions = c.args.sessions.now.entries }) c.args.way c.args.name.now c.args.steps (record { sites = c.end_once.new.sites; sessions = c.end_once.new.sessions.entries }) c.fewer-left.result lines) (sym c.in_ok-push.ensures.items)
     (subst (λ k. IsOnWay (kinds_of g.C.Crdt.laws) (record { sites = c.args.sites.now; sessions = c.args.sessions.now.entries }) c.args.way c.args.name.now c.args.steps (record { sites = c.end_once.new.sites; sessions = c.end_once.new.sessions.entries }) k (c.steps.lines.items ++ c.in_ok-line.line ∷ [])) (sym c.fewer-left.ensures)
-        (at_next (kinds_of g.C.Crdt.laws) (record { sites = c.args.sites.now; sessions = c.args.sessions.now.entries }) c.args.way c.args.name.now c.args.steps (record { sites = c.steps.sites; sessions = c.steps.sessions.entries }) c.steps.left c.steps.lines.items c.steps.invariant c.end_once.new.sites c.end_once.new.sessions.entries c.in_ok-line.line c.in_ok-line.goes c.in_ok-line.ensures c.if-not-goes.false (ap (λ k. stops k (session_in c.end_once.new.sessions.entries c.args.name.now)) (sym c.fewer-left.ensures) ∙ (sym c.stops.ensures ∙ c.if-stops.false))))
+    (at_next (kinds_of g.C.Crdt.laws) (record { sites = c.args.sites.now; sessions = c.args.sessions.now.entries }) c.args.way c.args.name.now c.args.steps (record { sites = c.steps.sites; sessions = c.steps.sessions.entries }) c.steps.left c.steps.lines.items c.steps.invariant c.end_once.new.sites c.end_once.new.sessions.entries c.in_ok-line.line c.in_ok-line.goes c.in_ok-line.ensures c.if-not-goes.false (ap (λ k. stops k (session_in c.end_once.new.sessions.entries c.args.name.now)) (sym c.fewer-left.ensures) ∙ (sym c.stops.ensures ∙ c.if-stops.false))))
 
 pub steps-smaller : goal.steps-smaller
 steps-smaller g c = at_fewer (kinds_of g.C.Crdt.laws) (record { sites = c.args.sites.now; sessions = c.args.sessions.now.entries }) c.args.way c.args.name.now c.args.steps (record { sites = c.steps.sites; sessions = c.steps.sessions.entries }) c.steps.left c.steps.lines.items c.steps.invariant c.end_once.new.sites c.end_once.new.sessions.entries c.in_ok-line.line c.in_ok-line.goes c.in_ok-line.ensures c.if-not-goes.false

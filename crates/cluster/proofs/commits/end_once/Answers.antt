@@ -1,6 +1,5 @@
-use Rattle.std.proofs.Common.{rules, ◌≡◌, ◌∙◌, sym, ap, subst}
+use Rattle.std.proofs.Common.{rules}
 use Rattle.cluster.proofs.Applying.{map_ok}
-use Rattle.cluster.proofs.Leading.{at_start}
 use Rattle.cluster.proofs.commits.end_once.Goals as goal
 
 pub returns-in-Some : goal.returns-in-Some
