@@ -14,6 +14,7 @@ use Rattle.world_model.specs.CommitSteps.{Going, given_up, is_done, after}
 use Rattle.world_model.specs.Phases.{going_of, phase}
 use Rattle.world_model.specs.Messages.{messages, reports}
 use Rattle.world_model.specs.Meeting.{met}
+use Rattle.world_model.specs.ScriptCalls.{is_answer}
 
 -- until there are disks no partition fails, is down or runs out of room
 abbrev pub is_up : Step → Bool
@@ -39,7 +40,7 @@ Bears run c other = ⊤
 
 -- one line, which the partition answered
 abbrev pub IsOneAnswer : Run → Command → List Step → Type 0
-IsOneAnswer run c steps = (s : Step) × (steps ≡ s ∷ []) × (is_up s ≡ true) × Bears run c s
+IsOneAnswer run c steps = (s : Step) × (steps ≡ s ∷ []) × (is_answer s ≡ true) × (is_up s ≡ true) × Bears run c s
 
 abbrev pub fewer : Option ℕ → Option ℕ
 fewer None = None
@@ -60,7 +61,7 @@ abbrev pub Steps : List ℕ → Going → Option ℕ → List Step → Type 0
 Steps name g k [] = (is_done g ≡ false) × (k ≡ Some 0)
 Steps name g k (s ∷ rest) = Either (is_done g)
     ((s ≡ step.Ended name) × (rest ≡ []))
-    ((k ≢ Some 0) × (is_up s ≡ true) × Then (after g s).1 (rest ≡ []) (Steps name (after g s).0 (fewer k) rest))
+    ((k ≢ Some 0) × (is_answer s ≡ true) × (is_up s ≡ true) × Then (after g s).1 (rest ≡ []) (Steps name (after g s).0 (fewer k) rest))
 
 abbrev pub StepsOf : List ℕ → Option Going → (Going → Going) → Option ℕ → List Step → Type 0
 StepsOf name None f k steps = ⊥
