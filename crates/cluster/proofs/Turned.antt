@@ -139,6 +139,7 @@ module _ {E : Type 0} where
   line_up run at RestartCut c = off c
   line_up run at (Restarted n b named listed) c = off c
   line_up run at (Refused a IsDown) c = off c
+  line_up run at (Refused a IsBadOp) c = off c
   line_up run at (Refused a (HasNoRoom n)) c = off c
   line_up run at (Refused a (IsDamaged n)) c = off c
   line_up run at (Refused a why) c = refl

@@ -1,6 +1,6 @@
 -- The run of a cluster answers its script. What a command meets before any partition is asked is told by the run before; what a
 -- partition answers is exact by the law of lines, over the calls of the run.
-use Rattle.std.specs.Prelude.{◌≡◌, ◌≢◌, ℕ, ◌+◌, ◌-◌, Bool, true, false, List, [], ◌∷◌, length, Option, None, Some, ⊤}
+use Rattle.std.specs.Prelude.{◌≡◌, ◌≢◌, ℕ, ◌+◌, ◌-◌, Bool, true, false, ◌&&◌, List, [], ◌∷◌, length, Option, None, Some, ⊤}
 use Rattle.world_model.specs.declared.command.Command.{Command}
 use Rattle.world_model.specs.declared.command.Command.TheVariants as command
 use Rattle.world_model.specs.declared.commit.Next.{Next}
@@ -17,13 +17,17 @@ use Rattle.world_model.specs.Meeting.{met}
 use Rattle.world_model.specs.ScriptCalls.{is_answer}
 
 -- until there are disks no partition fails, is down or runs out of room
+abbrev pub is_sound : Step → Bool
+is_sound (step.Down p) = false
+is_sound (step.Disk p) = false
+is_sound (step.Unsure t) = false
+is_sound (step.Damaged p at) = false
+is_sound (step.Full room) = false
+is_sound other = true
+
+-- a partition that is up gave this line
 abbrev pub is_up : Step → Bool
-is_up (step.Down p) = false
-is_up (step.Disk p) = false
-is_up (step.Unsure t) = false
-is_up (step.Damaged p at) = false
-is_up (step.Full room) = false
-is_up other = true
+is_up s = is_answer s && is_sound s
 
 -- the line names the session, the message or the report of its command; a new message or report has the next number
 abbrev pub Bears : Run → Command → Step → Type 0
@@ -40,7 +44,7 @@ Bears run c other = ⊤
 
 -- one line, which the partition answered
 abbrev pub IsOneAnswer : Run → Command → List Step → Type 0
-IsOneAnswer run c steps = (s : Step) × (steps ≡ s ∷ []) × (is_answer s ≡ true) × (is_up s ≡ true) × Bears run c s
+IsOneAnswer run c steps = (s : Step) × (steps ≡ s ∷ []) × (is_up s ≡ true) × Bears run c s
 
 abbrev pub fewer : Option ℕ → Option ℕ
 fewer None = None
@@ -61,7 +65,7 @@ abbrev pub Steps : List ℕ → Going → Option ℕ → List Step → Type 0
 Steps name g k [] = (is_done g ≡ false) × (k ≡ Some 0)
 Steps name g k (s ∷ rest) = Either (is_done g)
     ((s ≡ step.Ended name) × (rest ≡ []))
-    ((k ≢ Some 0) × (is_answer s ≡ true) × (is_up s ≡ true) × Then (after g s).1 (rest ≡ []) (Steps name (after g s).0 (fewer k) rest))
+    ((k ≢ Some 0) × (is_up s ≡ true) × Then (after g s).1 (rest ≡ []) (Steps name (after g s).0 (fewer k) rest))
 
 abbrev pub StepsOf : List ℕ → Option Going → (Going → Going) → Option ℕ → List Step → Type 0
 StepsOf name None f k steps = ⊥
