@@ -1,6 +1,6 @@
 -- How the begin of a transaction answers its command.
 use Rattle.std.proofs.Common.{◌≡◌, ◌≤◌, ℕ, Bool, true, false, List, [], ◌∷◌, refl, sym, ap, ◌∙◌, subst, Option, None, Some, arith}
-use Rattle.std.specs.Prelude.{not, ◌==◌, ◌&&◌, nat_le, if◌then◌else◌}
+use Rattle.std.specs.Prelude.{not, ◌&&◌, nat_le}
 use Rattle.std.specs.Str.{bytes_eq}
 use Rattle.std.proofs.lemmas.Bool.{cond-true, eqb-true, leb-true, and_parts}
 use Rattle.site_vector.specs.Vector.{join}
@@ -15,29 +15,29 @@ use Rattle.world_model.specs.Cluster.{sites_of, parts_of}
 use Rattle.world_model.specs.CommitSteps.{Going, Preparing, Finishing, Aborting}
 use Rattle.world_model.specs.Dependency as lines
 use Rattle.world_model.specs.Event.{AskBegin, IsDown, Event, Began, Refused, Cut, Entry, attempt}
-use Rattle.world_model.specs.Lines.{Begin, call_asked, step_shown}
+use Rattle.world_model.specs.Lines.{Begin, step_shown}
 use Rattle.world_model.specs.Meeting.{begin_place, is_at, is_elsewhere, lacks_part, site_of, site_or_none}
 use Rattle.world_model.specs.Past.{dependency_after}
 use Rattle.world_model.specs.Phases as phases
 use Rattle.world_model.specs.Phases.{Phase, phase, phase_after, update_total}
 use Rattle.world_model.specs.Run.{Run}
 use Rattle.world_model.specs.ScriptAnswers.{is_up, Bears, AnswersBy, IsAnswer}
-use Rattle.world_model.specs.ScriptCalls.{Placed, asked_of, calls_of}
+use Rattle.world_model.specs.ScriptCalls.{calls_of}
 use Rattle.world_model.proofs.Names.{off}
-use Rattle.txn_session.specs.Calls.{Call, entries}
+use Rattle.txn_session.specs.Calls.{entries}
 use Rattle.txn_session.specs.Opens.{IsOpened}
 use Rattle.txn_session.specs.declared.phase.Phase.{Phase as Stage}
 use Rattle.txn_session.specs.Session as session
 use Rattle.txn_session.specs.Session.{Doing, Idle, Open, Ending, SessionState, place_in}
 use Rattle.cluster.specs.Acts.{Acts, Begins}
 use Rattle.cluster.specs.Built.{is_built}
-use Rattle.cluster.specs.Held.{Held, holds_part, holds_place}
+use Rattle.cluster.specs.Held.{Held, holds_place}
 use Rattle.cluster.specs.Live.{LiveState, session_in, phase_in, phase_about, is_idle_phase, are_idle, is_of_site, stands_in, number_of}
-use Rattle.cluster.specs.Reached.{phase_as, StandsBy, StandsAs, ReachedLive, Applies}
-use Rattle.cluster.specs.Sees.{is_calm, Sees}
+use Rattle.cluster.specs.Reached.{phase_as, StandsBy, ReachedLive, Applies}
+use Rattle.cluster.specs.Sees.{is_calm}
 use Rattle.cluster.proofs.Clocks.{part_in}
-use Rattle.cluster.proofs.Meets.{all_met, first_at, none_due, refused, has, absent, lacks_session, has_session, idle_is, by_name}
-use Rattle.cluster.proofs.Sessions.{IsThere, Turns, turns, acted, own_name}
+use Rattle.cluster.proofs.Meets.{all_met, first_at, none_due, refused, lacks_session, has_session, idle_is, by_name}
+use Rattle.cluster.proofs.Sessions.{IsThere, turns, acted, own_name}
 use Rattle.cluster.proofs.Turned.{line_up}
 
 module _ {E : Type 0} where

@@ -1,33 +1,29 @@
 -- How a read answers its command.
-use Rattle.std.proofs.Common.{◌≡◌, ◌≤◌, ℕ, Bool, true, false, List, [], ◌∷◌, refl, sym, ap, ◌∙◌, subst, Option, None, Some}
-use Rattle.std.specs.Prelude.{not, if◌then◌else◌}
-use Rattle.std.proofs.lemmas.Bool.{true≢false}
+use Rattle.std.proofs.Common.{◌≡◌, ◌≤◌, ℕ, true, false, List, [], ◌∷◌, refl, sym, ap, ◌∙◌, subst, Option, None, Some}
+use Rattle.std.specs.Prelude.{not}
 use Rattle.site_vector.specs.declared.ids.PartId.{PartId}
 use Rattle.site_vector.specs.declared.ids.TxId.{TxId}
 use Rattle.crdt_core.specs.declared.object.ObjectId.{ObjectId}
 use Rattle.crdt_core.specs.declared.record.Upd.{Upd}
 use Rattle.crdt_core.specs.KindsOf.{Kinds}
 use Rattle.crdt_core.specs.Placing.{place_of}
-use Rattle.world_model.specs.declared.command.Command.{Command}
 use Rattle.world_model.specs.declared.command.Command.TheVariants as command
 use Rattle.world_model.specs.declared.step.Step.{Step}
 use Rattle.world_model.specs.declared.step.Step.TheVariants as step
 use Rattle.world_model.specs.Answers.{answered}
 use Rattle.world_model.specs.Asking.{asked_by}
-use Rattle.world_model.specs.Cluster.{has_cluster, sites_of, parts_of}
+use Rattle.world_model.specs.Cluster.{sites_of, parts_of}
 use Rattle.world_model.specs.CommitSteps.{Going, Preparing, Finishing, Aborting}
 use Rattle.world_model.specs.Event as event
 use Rattle.world_model.specs.Event.{AskRead, IsDown, Event, Refused, Cut, Entry, attempt}
-use Rattle.world_model.specs.Lines.{Call as WorldCall, ReadOf, call_asked, step_shown, session_of}
-use Rattle.world_model.specs.Meeting.{no_cluster, no_session, met}
+use Rattle.world_model.specs.Lines.{ReadOf, step_shown, session_of}
 use Rattle.world_model.specs.Past.{dependency_after}
-use Rattle.world_model.specs.Phases as phases
 use Rattle.world_model.specs.Phases.{Phase, phase, phase_after, update_total}
 use Rattle.world_model.specs.Run.{Run}
 use Rattle.world_model.specs.ScriptAnswers.{is_up, Bears, AnswersBy, IsAnswer}
-use Rattle.world_model.specs.ScriptCalls.{at_object, asked_of, calls_of}
+use Rattle.world_model.specs.ScriptCalls.{at_object}
 use Rattle.world_model.proofs.Names.{off}
-use Rattle.txn_session.specs.Calls.{Call, entries}
+use Rattle.txn_session.specs.Calls.{entries}
 use Rattle.txn_session.specs.Holds.{HoldsDoing, MakesRead}
 use Rattle.txn_session.specs.declared.phase.Phase.{Phase as Stage}
 use Rattle.txn_session.specs.Session as session
@@ -40,7 +36,7 @@ use Rattle.cluster.specs.Live.{LiveState, session_in, phase_in, phase_about, is_
 use Rattle.cluster.specs.Reached.{phase_as, StandsBy, ReachedLive, Applies}
 use Rattle.cluster.specs.Sees.{is_calm, Sees}
 use Rattle.cluster.proofs.Meets.{all_met, first_at, none_due, refused, has, lacks_session, has_session, open_is, by_name}
-use Rattle.cluster.proofs.Sessions.{Turns, turns, acted}
+use Rattle.cluster.proofs.Sessions.{turns, acted}
 use Rattle.cluster.proofs.Turned.{line_up}
 
 pub open_about : (o : Option Stage) (p : Stage) → o ≡ Some p → is_open_phase p ≡ true → are_open o ≡ true
@@ -133,8 +129,7 @@ module _ {S E : Type 0} (kinds : Kinds S E) (c : LiveState E) (name : List ℕ) 
             let mine : session_of (entries r.calls) txn.tx ≡ name = x.0.session ∙ st.name in
             let place : PartId = place_in a.before (place_of o.bucket o.key a.before.parts) in
             let bears = subst (Bears run (command.Read name o)) (sym t.shows) (read_bears (entries r.calls) place txn.tx txn.s o (own_updates txn.updates o) t.event t.asked t.seen.calm.0 run name mine) in
-            let up = ap is_up t.shows ∙ line_up (entries r.calls) place t.event t.seen.calm.0 in
-            (
+            let up = ap is_up t.shows ∙ line_up (entries r.calls) place t.event t.seen.calm.0 in (
               subst (AnswersBy run (command.Read name o) (answer ∷ [])) (sym (none_due (all_met run (command.Read name o)) (refl, (has kinds c run r name, (has_session kinds c run r name a.before a.is, (ap not (open_is kinds c run r name a.before a.is ∙ is_open), tt)))))) (answer, refl, up, bears),
               acted kinds c run r number (command.Read name o) name a.before a.is a.after place (AskRead txn.tx txn.s o (own_updates txn.updates o)) answer later t sessions (record {
                 size = a.size;

@@ -1,5 +1,5 @@
 -- What whoever runs a cluster may rest on: the run that left it shows one history, and lines outside the grammar change nothing.
-use Rattle.std.proofs.Common.{◌≡◌, ℕ, List, [], ◌∷◌, refl, sym, ap, ◌∙◌, subst, Option, None, Some}
+use Rattle.std.proofs.Common.{◌≡◌, ℕ, List, [], ◌∷◌, refl, sym, subst, Option, None, Some}
 use Rattle.site_vector.specs.declared.ids.PartId.{PartId}
 use Rattle.crdt_core.specs.KindsOf.{Kinds}
 use Rattle.world_model.specs.declared.step.Step.TheVariants as step
@@ -7,7 +7,7 @@ use Rattle.world_model.specs.Cluster.{sites_of, parts_of}
 use Rattle.world_model.specs.Dependency.{HandsOwn}
 use Rattle.world_model.specs.Event.{Entry}
 use Rattle.world_model.specs.Lawful.{IsLawful}
-use Rattle.world_model.specs.Lines.{Line, lines_of}
+use Rattle.world_model.specs.Lines.{lines_of}
 use Rattle.world_model.specs.Partition.{PartState, new_part}
 use Rattle.world_model.specs.Run.{Run}
 use Rattle.world_model.specs.ScriptCalls.{calls_of}
@@ -16,7 +16,7 @@ use Rattle.world_model.proofs.Law.{law_world}
 use Rattle.txn_session.specs.Calls.{entries}
 use Rattle.cluster.specs.History.{ShowsHistory}
 use Rattle.cluster.specs.Live.{LiveState}
-use Rattle.cluster.specs.Reached.{IsBefore, ReachedLive, Reached}
+use Rattle.cluster.specs.Reached.{Reached}
 use Rattle.cluster.proofs.Mere.{before_still}
 use Rattle.cluster.proofs.Standing.{live_still}
 

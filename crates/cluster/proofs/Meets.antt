@@ -1,21 +1,20 @@
 -- What a command meets before any partition is asked, by how its session stands.
-use Rattle.std.proofs.Common.{◌≡◌, ℕ, zero, suc, Bool, true, false, List, [], ◌∷◌, length, refl, sym, ap, ◌∙◌, subst, Option, None, Some}
+use Rattle.std.proofs.Common.{◌≡◌, ℕ, zero, suc, Bool, true, false, List, [], ◌∷◌, refl, sym, ap, ◌∙◌, subst, Option, None, Some}
 use Rattle.std.specs.Prelude.{not, ⊤}
 use Rattle.std.proofs.lemmas.Bool.{cond-false, cond-true}
 use Rattle.crdt_core.specs.KindsOf.{Kinds}
 use Rattle.world_model.specs.declared.command.Command.{Command}
-use Rattle.world_model.specs.declared.command.Command.TheVariants as command
 use Rattle.world_model.specs.declared.step.Step.{Step}
 use Rattle.world_model.specs.declared.step.Step.TheVariants as step
 use Rattle.world_model.specs.Answers.{answered}
 use Rattle.world_model.specs.Cluster.{has_cluster, parts_of}
 use Rattle.world_model.specs.CommitSteps.{Going, Preparing, Finishing, Aborting}
-use Rattle.world_model.specs.Meeting.{no_cluster, no_session, meets, met}
+use Rattle.world_model.specs.Meeting.{meets, met}
 use Rattle.world_model.specs.Phases as phases
 use Rattle.world_model.specs.Phases.{Phase, Absent, phase, by_command, is_undecided, update_total}
 use Rattle.world_model.specs.Refusals.{first_due}
 use Rattle.world_model.specs.Run.{Run}
-use Rattle.world_model.specs.ScriptAnswers.{AnswersBy, IsAnswer, Replies}
+use Rattle.world_model.specs.ScriptAnswers.{AnswersBy}
 use Rattle.clocksi_commit.specs.Commit.{is_finishing}
 use Rattle.txn_session.specs.Session as session
 use Rattle.txn_session.specs.Session.{Doing, Idle, Open, Ending, SessionState}

@@ -1,6 +1,6 @@
 -- How a session is made and removed: neither asks a partition for anything.
-use Rattle.std.proofs.Common.{◌≡◌, ◌≢◌, ◌≤◌, ℕ, ◌+◌, ◌-◌, cond, Bool, true, false, List, [], ◌∷◌, ◌++◌, length, replicate, refl, sym, ap, ◌∙◌, subst, Option, None, Some, arith}
-use Rattle.std.specs.Prelude.{not, ◌==◌, ◌&&◌, ◌||◌, nat_le, is_some, if◌then◌else◌}
+use Rattle.std.proofs.Common.{◌≡◌, ◌≢◌, ◌≤◌, ℕ, ◌+◌, Bool, true, false, List, [], ◌∷◌, length, replicate, refl, sym, ap, ◌∙◌, subst, Option, None, Some, arith}
+use Rattle.std.specs.Prelude.{not, ◌==◌, nat_le, is_some, if◌then◌else◌}
 use Rattle.std.specs.Str.{bytes_eq}
 use Rattle.std.proofs.lemmas.Slice.Eq.{bytes_eq-Decides}
 use Rattle.std.proofs.lemmas.Bool.{cond-true, cond-false, and_parts, leb-true, eqb-true, false_from_ne_true}
@@ -10,12 +10,12 @@ use Rattle.world_model.specs.declared.command.Command.TheVariants as command
 use Rattle.world_model.specs.declared.step.Step.{Step}
 use Rattle.world_model.specs.declared.step.Step.TheVariants as step
 use Rattle.world_model.specs.Answers.{answered}
-use Rattle.world_model.specs.Cluster.{has_cluster, has_site, sites_of, parts_of}
+use Rattle.world_model.specs.Cluster.{has_site, sites_of}
 use Rattle.world_model.specs.Dependency as lines
 use Rattle.world_model.specs.Dependency.{HandsOwn}
-use Rattle.world_model.specs.Event.{Event, Opened, Entry}
-use Rattle.world_model.specs.Lines.{Line, Open, lines_of}
-use Rattle.world_model.specs.Meeting.{site_of, session_count}
+use Rattle.world_model.specs.Event.{Opened}
+use Rattle.world_model.specs.Lines.{Open, lines_of}
+use Rattle.world_model.specs.Meeting.{site_of}
 use Rattle.world_model.specs.Phases as phases
 use Rattle.world_model.specs.Phases.{phase, update_total}
 use Rattle.world_model.specs.Plan.{IsPlace}
@@ -24,13 +24,11 @@ use Rattle.world_model.specs.ScriptAnswers.{AnswersBy, IsAnswer}
 use Rattle.world_model.specs.ScriptCalls.{calls_of}
 use Rattle.txn_session.specs.Calls.{Call, called, entries}
 use Rattle.txn_session.specs.Holds.{Holds, AreApart}
-use Rattle.txn_session.specs.Session as session
 use Rattle.txn_session.specs.Session.{Doing, Idle, Open as IsOpen, Ending, SessionState}
 use Rattle.txn_session.proofs.Frames.{holds_more}
 use Rattle.cluster.specs.Built.{is_built}
 use Rattle.cluster.specs.Held.{Held, holds_site}
 use Rattle.cluster.specs.Live.{LiveState, session_in}
-use Rattle.cluster.specs.Reaches.{Reaches}
 use Rattle.cluster.specs.Reached.{phase_as, StandsBy, StandsAs, ReachedLive, Applies}
 use Rattle.cluster.specs.Sees.{Sees}
 use Rattle.cluster.proofs.Clocks.{site_in}

@@ -1,5 +1,5 @@
 -- A call of a cluster as the trait of stores tells it: nobody acted meanwhile, and the answer is the line of its event.
-use Rattle.std.proofs.Common.{◌≡◌, ℕ, Bool, true, false, List, [], ◌∷◌, refl, sym, ap, ◌∙◌, subst, true≢false, inr, Option, None, Some}
+use Rattle.std.proofs.Common.{◌≡◌, ℕ, true, List, [], ◌∷◌, refl, sym, ap, ◌∙◌, subst, true≢false, inr, Option, None, Some}
 use Rattle.std.specs.Prelude.{IfSome, IfOk, IfErr, Result, Ok, Err}
 use Rattle.site_vector.specs.declared.ids.PartId.{PartId}
 use Rattle.site_vector.specs.declared.ids.TxId.{TxId}
@@ -24,7 +24,7 @@ use Rattle.partition_core.specs.Answers.{cause}
 use Rattle.txn_session.specs.Calls as session
 use Rattle.txn_session.specs.Calls.{Call, entries, caller_of, effect_made, Within}
 use Rattle.cluster.specs.Held.{Held, SameSize, size_refl}
-use Rattle.cluster.specs.Reaches.{Reaches, Goes}
+use Rattle.cluster.specs.Reaches.{Reaches}
 use Rattle.cluster.specs.Answers.{Any, GoesOn, Calls}
 use Rattle.cluster.specs.Sees.{is_plain, is_calm, refusal_line, FailedAs, AllBear, Sees, no_number}
 
@@ -77,8 +77,8 @@ module _ {S E : Type 0} (kinds : Kinds S E) where
         → session.GoesOn (λ s (p : P) r. Sees kinds s r) (λ (p : P) n. true) new pass calls number at ask line
     refused_on why g line is calls s may given b = seen_on (λ e. e ≡ Refused ask (cause why)) g line calls s may given b
         (λ e k r.
-            let r' : Reaches kinds new ((record { at = at; event = Refused ask (cause why) }) ∷ entries calls) = subst (λ x. Reaches kinds new ((record { at = at; event = x }) ∷ entries calls)) k r in
-            subst (λ x. (line ≡ step_shown (entries calls) at x) × (is_calm x ≡ true)) (sym k) (is ∙ sym (refusal_is (entries calls) at ask (cause why)), plain_refused new (entries calls) at ask why r'))
+        let r' : Reaches kinds new ((record { at = at; event = Refused ask (cause why) }) ∷ entries calls) = subst (λ x. Reaches kinds new ((record { at = at; event = x }) ∷ entries calls)) k r in
+        subst (λ x. (line ≡ step_shown (entries calls) at x) × (is_calm x ≡ true)) (sym k) (is ∙ sym (refusal_is (entries calls) at ask (cause why)), plain_refused new (entries calls) at ask why r'))
 
     -- the size of the cluster stays
     pub size_on : (Shows : Event E → Type 0) → GoesOn kinds old new Given at ask Shows → SameSize old new
@@ -171,6 +171,7 @@ module _ {S E P : Type 0} (kinds : Kinds S E) (old new : Held E) (Given : List (
       let x = g.goes (entries calls) s.reached may given in
       let k : x.event ≡ Updated tx v o own op x.shows.0 u stamp = x.shows.1 in
       changes_of kinds old new at ask pass by calls s b answer (Some u.effect) x.event x.asked x.own_word x.reached (subst (λ y. answer ≡ step_shown (entries calls) at y) (sym k) line) (subst (λ y. is_calm y ≡ true) (sym k) refl) (ap effect_made (sym k))
+
   -- a refused one
   pub unchanged_on : {A : Type 0} (X : Type 0) (Shows : A → Event E → Type 0) (error : CallError) (line : Step) → Calls kinds old new Given at ask Shows (Err error) → FailedAs {X = X} at (tx_asked ask) (number_asked ask) error (Ok line) → (calls : List (Call E)) → Sees kinds old calls → MayCall old.sites old.parts (entries calls) at ask → Given (entries calls) → 0 ≡ by
       → session.Changes (λ s (p : P) r. Sees kinds s r) (λ (p : P) n. true) new pass calls by at ask line None

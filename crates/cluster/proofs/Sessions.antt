@@ -1,20 +1,20 @@
 -- A call of a session: its line, and the cluster after it.
-use Rattle.std.proofs.Common.{◌≡◌, ◌≤◌, ℕ, Bool, true, false, List, [], ◌∷◌, ◌++◌, length, refl, sym, ap, ◌∙◌, subst, Option, None, Some}
+use Rattle.std.proofs.Common.{◌≡◌, ◌≤◌, ℕ, Bool, true, false, List, [], ◌∷◌, ◌++◌, refl, sym, ap, ◌∙◌, subst, Option, Some}
 use Rattle.std.specs.Prelude.{if◌then◌else◌, ◌&&◌, nat_le}
 use Rattle.std.specs.Str.{bytes_eq}
 use Rattle.std.proofs.lemmas.Slice.Eq.{bytes_eq-Decides}
-use Rattle.std.proofs.lemmas.Bool.{true≢false, cond-true, cond-false}
+use Rattle.std.proofs.lemmas.Bool.{true≢false}
 use Rattle.site_vector.specs.declared.ids.PartId.{PartId}
 use Rattle.crdt_core.specs.KindsOf.{Kinds}
 use Rattle.world_model.specs.declared.command.Command.{Command}
 use Rattle.world_model.specs.declared.step.Step.{Step}
-use Rattle.world_model.specs.Asking.{asked_by, is_own_word}
+use Rattle.world_model.specs.Asking.{asked_by}
 use Rattle.world_model.specs.Cluster.{sites_of, parts_of}
 use Rattle.world_model.specs.Dependency.{IsOwnPast}
 use Rattle.world_model.specs.Event.{Ask, IsDown, Event, Opened, Refused, Cut, Entry, attempt}
-use Rattle.world_model.specs.Lines.{call_asked, step_shown, call_of, lines_of}
+use Rattle.world_model.specs.Lines.{call_asked, step_shown, call_of}
 use Rattle.world_model.specs.Meeting.{site_after, site_of}
-use Rattle.world_model.specs.Past.{dependency_after, dependency}
+use Rattle.world_model.specs.Past.{dependency_after}
 use Rattle.world_model.specs.Phases.{phase, phase_after, by_command, update_total}
 use Rattle.world_model.specs.Run.{Run}
 use Rattle.world_model.specs.ScriptCalls.{asked_of, calls_of}
@@ -27,7 +27,7 @@ use Rattle.cluster.specs.Live.{LiveState, session_in, IsPut}
 use Rattle.cluster.specs.Reached.{phase_as, StandsBy, StandsAs, ReachedLive}
 use Rattle.cluster.specs.Sees.{is_calm, Sees}
 use Rattle.cluster.proofs.Turning.{is_numberless, IsCallLine, call_line}
-use Rattle.cluster.proofs.Turned.{IsOwnAsk, silent, call_is, numberless, next, later, depends_next, depended, other_next, turned}
+use Rattle.cluster.proofs.Turned.{IsOwnAsk, silent, call_is, numberless, next, depends_next, depended, other_next, turned}
 
 pub same_name : (a b : List ℕ) → bytes_eq a b ≡ true → a ≡ b
 same_name a b h = (bytes_eq-Decides a b).0 h

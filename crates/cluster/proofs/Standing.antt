@@ -1,21 +1,21 @@
 -- A session stands still where a run tells the same of it, and what it did stands in the calls.
-use Rattle.std.proofs.Common.{◌≡◌, ℕ, Bool, true, false, List, [], ◌∷◌, refl, sym, ap, ◌∙◌, subst, Option, None, Some}
+use Rattle.std.proofs.Common.{◌≡◌, ℕ, true, List, ◌∷◌, refl, sym, ap, ◌∙◌, subst, Option, None, Some}
 use Rattle.std.specs.Prelude.{◌||◌, ◌&&◌, nat_le}
 use Rattle.std.proofs.lemmas.Bool.{cond-false}
 use Rattle.crdt_core.specs.KindsOf.{Kinds}
 use Rattle.world_model.specs.declared.command.Command.{Command}
 use Rattle.world_model.specs.declared.step.Step.{Step}
-use Rattle.world_model.specs.Cluster.{has_cluster, has_site, sites_of, parts_of}
+use Rattle.world_model.specs.Cluster.{has_cluster, sites_of, parts_of}
 use Rattle.world_model.specs.Dependency.{dependency, HandsOwn}
 use Rattle.world_model.specs.Meeting.{site_of, session_count}
-use Rattle.world_model.specs.Phases.{Phase, phase, by_command}
+use Rattle.world_model.specs.Phases.{phase, by_command}
 use Rattle.world_model.specs.Run.{Run}
 use Rattle.world_model.specs.ScriptCalls.{is_answer, calls_of}
 use Rattle.txn_session.specs.Calls.{Call}
 use Rattle.txn_session.specs.Holds.{Holds}
 use Rattle.txn_session.specs.Session.{SessionState}
 use Rattle.cluster.specs.Live.{LiveState, session_in}
-use Rattle.cluster.specs.Reached.{StandsBy, StandsAs, ReachedLive}
+use Rattle.cluster.specs.Reached.{StandsAs, ReachedLive}
 use Rattle.cluster.proofs.Mere.{is_mere, IsMere, mere}
 
 -- the runs tell the same of this session

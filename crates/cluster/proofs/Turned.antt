@@ -1,36 +1,32 @@
 -- The cluster after one more call: the run goes on by the line that shows it.
-use Rattle.std.proofs.Common.{◌≡◌, ◌⊎◌, ⊎_elim, ℕ, cond, Bool, true, false, List, [], ◌∷◌, ◌++◌, length, refl, sym, ap, ◌∙◌, subst, Option, None, Some}
-use Rattle.std.specs.Prelude.{◌||◌, ◌&&◌, if◌then◌else◌, nat_le, ⊤}
+use Rattle.std.proofs.Common.{◌≡◌, ℕ, true, false, List, ◌∷◌, length, refl, sym, ap, ◌∙◌, subst, Option, Some}
+use Rattle.std.specs.Prelude.{◌||◌, ⊤}
 use Rattle.std.specs.Str.{bytes_eq}
-use Rattle.std.proofs.lemmas.Slice.Eq.{bytes_eq-Decides}
-use Rattle.std.proofs.lemmas.Bool.{cond-false, cond-true, true≢false}
+use Rattle.std.proofs.lemmas.Bool.{cond-true}
 use Rattle.site_vector.specs.declared.ids.PartId.{PartId}
-use Rattle.site_vector.specs.declared.ids.TxId.{TxId}
 use Rattle.crdt_core.specs.KindsOf.{Kinds}
 use Rattle.world_model.specs.declared.command.Command.{Command}
 use Rattle.world_model.specs.declared.step.Step.{Step}
-use Rattle.world_model.specs.declared.step.Step.TheVariants as step
-use Rattle.world_model.specs.Asking.{asked_by, is_own_word}
-use Rattle.world_model.specs.Cluster.{is_cluster, has_cluster, sites_of, parts_of, sites_after, parts_after}
+use Rattle.world_model.specs.Asking.{asked_by}
+use Rattle.world_model.specs.Cluster.{has_cluster, sites_of, parts_of}
 use Rattle.world_model.specs.Dependency as lines
 use Rattle.world_model.specs.Dependency.{HandsOwn, IsOwnPast}
-use Rattle.world_model.specs.Event.{Ask, AskBegin, AskRead, AskUpdate, AskPrepare, AskDecide, AskFinish, AskAbort, AskTake, Refusal, IsDown, IsBadOp, HasGap, IsRepeat, HasNoRoom, IsDamaged, Event, Ticked, Began, Updated, Read, Prepared, Decided, Finished, Aborted, Sent, Took, Reported, Heard, Crashed, RestartCut, Restarted, Refused, Opened, Cut, Entry, attempt}
-use Rattle.world_model.specs.Lines.{Call as WorldCall, call_asked, step_shown, call_of, lines_of, session_of}
-use Rattle.world_model.specs.Meeting.{site_after, site_of, count_after, session_count}
+use Rattle.world_model.specs.Event.{Ask, AskBegin, AskRead, AskUpdate, AskPrepare, AskDecide, AskFinish, AskAbort, AskTake, IsDown, IsBadOp, HasGap, IsRepeat, HasNoRoom, IsDamaged, Event, Began, Updated, Prepared, Decided, Aborted, Sent, Took, Reported, Heard, Crashed, RestartCut, Restarted, Refused, Opened, Cut, Entry, attempt}
+use Rattle.world_model.specs.Lines.{call_asked, step_shown, call_of, lines_of, session_of}
+use Rattle.world_model.specs.Meeting.{site_of, session_count}
 use Rattle.world_model.specs.Past.{dependency_after, dependency}
 use Rattle.world_model.specs.Partition.{PartState, PartStep, IsRefused}
-use Rattle.world_model.specs.Phases.{Phase, phase, phase_after, by_command}
+use Rattle.world_model.specs.Phases.{phase, by_command}
 use Rattle.world_model.specs.Run.{Run}
 use Rattle.world_model.specs.ScriptAnswers.{is_up}
-use Rattle.world_model.specs.ScriptCalls.{is_answer, Placed, asked_of, numbered, line_on, calls_of}
+use Rattle.world_model.specs.ScriptCalls.{is_answer, asked_of, numbered, line_on, calls_of}
 use Rattle.world_model.proofs.LineViews.{dependency_is}
 use Rattle.world_model.proofs.Names.{off}
-use Rattle.txn_session.specs.Calls.{Call, entries, called, IsLegal, NoneBears}
-use Rattle.txn_session.specs.Holds.{Holds, Makes}
+use Rattle.txn_session.specs.Calls.{Call, entries, called, IsLegal}
 use Rattle.txn_session.specs.Session.{SessionState}
 use Rattle.cluster.specs.Held.{Held, SameSize}
 use Rattle.cluster.specs.Live.{LiveState, session_in}
-use Rattle.cluster.specs.Reached.{phase_as, StandsBy, StandsAs, ReachedLive}
+use Rattle.cluster.specs.Reached.{StandsBy, StandsAs, ReachedLive}
 use Rattle.cluster.specs.Sees.{is_calm, Sees, sees_legal}
 use Rattle.cluster.proofs.Standing.{SameFor, stands_still}
 use Rattle.cluster.proofs.Turning.{is_numberless, IsCallLine, call_line, IsSilentFor, phase_other, site_other, depends_other, holds_other}
@@ -80,8 +76,8 @@ module _ {S E : Type 0} (kinds : Kinds S E) (c : LiveState E) (run : Run) (r : R
   pub other_next : (who : List ℕ) (o : Option (SessionState E)) → ((s : Step) → by_command (parts_of run) who (phase run who) (Some cmd) s ≡ phase run who) → IsSilentFor (entries r.calls) who e → StandsAs run r.calls who o → StandsAs next later who o
   other_next who o idle q st = stands_still next run later r.calls who o (same_next who idle q)
       (λ x is h.
-          let x_is : StandsBy run r.calls who x = subst (λ y. StandsAs run r.calls who y) is st in
-          holds_other kinds held.sites held.parts (called by at e) r.calls x legal sees.calm.0 (subst (λ n. IsSilentFor (entries r.calls) n e) (sym x_is.name) q) h)
+      let x_is : StandsBy run r.calls who x = subst (λ y. StandsAs run r.calls who y) is st in
+      holds_other kinds held.sites held.parts (called by at e) r.calls x legal sees.calm.0 (subst (λ n. IsSilentFor (entries r.calls) n e) (sym x_is.name) q) h)
       st
 
   pub turned : (sessions : List (List ℕ × SessionState E)) → length sessions ≡ length c.sessions → IsOwnPast (sites_of run) (calls_of run) (call_of e) → ((who : List ℕ) → StandsAs next later who (session_in sessions who)) → ReachedLive kinds (record { sites = held; sessions = sessions }) next

@@ -1,9 +1,9 @@
 -- One more call of a partition and the line that shows it: the cluster stands where they left it, and so do all other sessions.
-use Rattle.std.proofs.Common.{◌≡◌, ◌⊎◌, ⊎_elim, ℕ, cond, Bool, true, false, List, [], ◌∷◌, ◌++◌, length, refl, sym, ap, ◌∙◌, subst, Option, None, Some}
-use Rattle.std.specs.Prelude.{◌||◌, ◌&&◌, if◌then◌else◌, nat_le, ⊤}
+use Rattle.std.proofs.Common.{◌≡◌, ◌⊎◌, ⊎_elim, ℕ, Bool, true, false, List, [], ◌∷◌, refl, sym, ap, ◌∙◌, Option}
+use Rattle.std.specs.Prelude.{◌||◌, ◌&&◌, ⊤}
 use Rattle.std.specs.Str.{bytes_eq}
 use Rattle.std.proofs.lemmas.Slice.Eq.{bytes_eq-Decides}
-use Rattle.std.proofs.lemmas.Bool.{cond-false, cond-true, or_cases, or_parts, and_parts, true≢false, false_from_ne_true}
+use Rattle.std.proofs.lemmas.Bool.{cond-false, cond-true, or_cases, and_parts, true≢false, false_from_ne_true}
 use Rattle.site_vector.specs.declared.ids.PartId.{PartId}
 use Rattle.site_vector.specs.declared.ids.TxId.{TxId}
 use Rattle.site_vector.specs.Ids.{same_tx}
@@ -12,31 +12,22 @@ use Rattle.site_vector.specs.Vector.{join}
 use Rattle.crdt_core.specs.KindsOf.{Kinds}
 use Rattle.world_model.specs.declared.command.Command.{Command}
 use Rattle.world_model.specs.declared.step.Step.{Step}
-use Rattle.world_model.specs.declared.step.Step.TheVariants as step
-use Rattle.world_model.specs.Cluster.{is_cluster, has_cluster, sites_of, parts_of, sites_after, parts_after}
-use Rattle.world_model.specs.Dependency as lines
-use Rattle.world_model.specs.Dependency.{HandsOwn, IsOwnPast}
-use Rattle.world_model.specs.Event.{Refusal, IsDown, IsBadOp, HasGap, IsRepeat, HasNoRoom, IsDamaged, Event, Began, Updated, Prepared, Decided, Aborted, Sent, Took, Reported, Heard, Crashed, RestartCut, Restarted, Refused, Opened, Cut, Entry}
-use Rattle.world_model.specs.Lines.{step_shown, call_of, lines_of, session_after, session_of}
-use Rattle.world_model.specs.Meeting.{site_after, site_of, count_after, session_count}
-use Rattle.world_model.specs.Past.{begins_for, is_of, dependency_after, dependency}
-use Rattle.world_model.specs.Phases.{Phase, phase, phase_after, by_command}
-use Rattle.world_model.specs.Premises.{is_told_of}
+use Rattle.world_model.specs.Cluster.{is_cluster, sites_after, parts_after}
+use Rattle.world_model.specs.Event.{IsDown, IsBadOp, HasGap, IsRepeat, HasNoRoom, IsDamaged, Event, Began, Updated, Prepared, Decided, Aborted, Sent, Took, Reported, Heard, Crashed, RestartCut, Restarted, Refused, Opened, Cut, Entry}
+use Rattle.world_model.specs.Lines.{step_shown, session_after, session_of}
+use Rattle.world_model.specs.Meeting.{site_after, count_after}
+use Rattle.world_model.specs.Past.{begins_for, is_of, dependency_after}
+use Rattle.world_model.specs.Phases.{Phase, phase_after, by_command}
 use Rattle.world_model.specs.Run.{Run}
-use Rattle.world_model.specs.ScriptCalls.{is_answer, Placed, asked_of, numbered, line_on, calls_of}
+use Rattle.world_model.specs.ScriptCalls.{is_answer, numbered}
 use Rattle.world_model.specs.World.{is_begin, begun}
-use Rattle.world_model.proofs.LineViews.{dependency_is}
 use Rattle.world_model.proofs.Names.{off}
-use Rattle.txn_session.specs.Calls.{Call, entries, called, touches, IsLegal}
-use Rattle.txn_session.specs.Holds.{HoldsTxn, HoldsDoing, Holds, AreApart}
-use Rattle.txn_session.specs.Session.{Txn, Doing, Idle, Open, Ending, SessionState}
+use Rattle.txn_session.specs.Calls.{Call, entries, touches, IsLegal}
+use Rattle.txn_session.specs.Holds.{HoldsDoing, Holds, AreApart}
+use Rattle.txn_session.specs.Session.{Doing, Idle, Open, Ending, SessionState}
 use Rattle.txn_session.proofs.Frames.{holds_more}
 use Rattle.txn_session.proofs.Owning.{legal_tail, begins_new, untold}
-use Rattle.cluster.specs.Held.{Held, SameSize}
-use Rattle.cluster.specs.Live.{LiveState, session_in}
-use Rattle.cluster.specs.Reached.{StandsAs, ReachedLive}
-use Rattle.cluster.specs.Sees.{is_calm, Sees, sees_legal}
-use Rattle.cluster.proofs.Standing.{SameFor, stands_still}
+use Rattle.cluster.specs.Sees.{is_calm}
 
 eq_self : (name : List ℕ) → bytes_eq name name ≡ true
 eq_self name = (bytes_eq-Decides name name).1 refl
@@ -129,8 +120,8 @@ module _ {E : Type 0} where
         by_event (Began name dep u s) is older x = ⊎_elim
             (λ (k : (bytes_eq name who && same_tx u t) ≡ true). let p = and_parts (bytes_eq name who) _ k in ap (λ n. bytes_eq n who) (cond-true (same_tx u t) name (session_of (entries calls) t) p.1) ∙ p.0)
             (λ (k : is_of (entries calls) who t ≡ true).
-                let new : same_tx u t ≡ false = false_from_ne_true (same_tx u t) (λ b. true≢false (sym (of_begun (entries calls) who t k) ∙ (untold (entries calls) t (begins_new kinds sites parts c calls t l (ap (λ y. is_begin y t) is ∙ b))).begun)) in
-                ap (λ n. bytes_eq n who) (cond-false (same_tx u t) name (session_of (entries calls) t) new) ∙ older k)
+            let new : same_tx u t ≡ false = false_from_ne_true (same_tx u t) (λ b. true≢false (sym (of_begun (entries calls) who t k) ∙ (untold (entries calls) t (begins_new kinds sites parts c calls t l (ap (λ y. is_begin y t) is ∙ b))).begun)) in
+            ap (λ n. bytes_eq n who) (cond-false (same_tx u t) name (session_of (entries calls) t) new) ∙ older k)
             x
         by_event other is older x = ⊎_elim (λ (k : false ≡ true). off k) (λ (k : is_of (entries calls) who t ≡ true). older k) x
 

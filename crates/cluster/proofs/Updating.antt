@@ -1,5 +1,5 @@
 -- How an update answers its command.
-use Rattle.std.proofs.Common.{◌≡◌, ◌<◌, ◌≤◌, ℕ, ◌+◌, cond, Bool, true, false, List, [], ◌∷◌, ◌++◌, length, refl, sym, ap, ◌∙◌, subst, Option, None, Some, arith}
+use Rattle.std.proofs.Common.{◌≡◌, ◌<◌, ◌≤◌, ℕ, ◌+◌, Bool, true, false, List, [], ◌∷◌, ◌++◌, length, refl, sym, ap, ◌∙◌, subst, Option, None, Some, arith}
 use Rattle.std.specs.Prelude.{not, map, ◌==◌, nat_lt, if◌then◌else◌}
 use Rattle.std.specs.Str.{bytes_eq}
 use Rattle.std.proofs.lemmas.Bool.{cond-true, true≢false, eqb-true, ltb-true, ltb-false, false_from_ne_true}
@@ -7,7 +7,6 @@ use Rattle.std.proofs.lemmas.List.{map-append, length-map, length_push}
 use Rattle.crdt_core.specs.declared.kind.Kind.{Kind}
 use Rattle.crdt_core.specs.declared.object.Field.{Field}
 use Rattle.site_vector.specs.declared.ids.PartId.{PartId}
-use Rattle.site_vector.specs.declared.ids.TxId.{TxId}
 use Rattle.crdt_core.specs.declared.object.ObjectId.{ObjectId}
 use Rattle.crdt_core.specs.declared.operation.Op.{Op}
 use Rattle.crdt_core.specs.declared.record.Upd.{Upd}
@@ -22,16 +21,15 @@ use Rattle.world_model.specs.Asking.{asked_by}
 use Rattle.world_model.specs.Cluster.{sites_of, parts_of}
 use Rattle.world_model.specs.Event as event
 use Rattle.world_model.specs.Event.{AskUpdate, IsDown, Event, Refused, Cut, Entry, attempt}
-use Rattle.world_model.specs.Lines.{UpdateOf, call_asked, step_shown, session_of}
-use Rattle.world_model.specs.Meeting.{met}
+use Rattle.world_model.specs.Lines.{UpdateOf, step_shown, session_of}
 use Rattle.world_model.specs.Past.{dependency_after}
 use Rattle.world_model.specs.Phases as phases
 use Rattle.world_model.specs.Phases.{Phase, phase, phase_after, with_object, update_total}
 use Rattle.world_model.specs.Run.{Run}
 use Rattle.world_model.specs.ScriptAnswers.{is_up, Bears, AnswersBy, IsAnswer}
-use Rattle.world_model.specs.ScriptCalls.{at_object, asked_of, calls_of}
+use Rattle.world_model.specs.ScriptCalls.{at_object}
 use Rattle.world_model.proofs.Names.{off}
-use Rattle.txn_session.specs.Calls.{Call, entries}
+use Rattle.txn_session.specs.Calls.{entries}
 use Rattle.txn_session.specs.declared.error.SessionError.{SessionError}
 use Rattle.txn_session.specs.declared.error.SessionError.TheVariants as error
 use Rattle.txn_session.specs.Holds.{HoldsDoing, MakesUpdate}
@@ -41,11 +39,11 @@ use Rattle.txn_session.specs.Session.{Txn, Doing, Idle, Open, Ending, SessionSta
 use Rattle.cluster.specs.Acts.{Acts, Updates}
 use Rattle.cluster.specs.Built.{is_built}
 use Rattle.cluster.specs.Held.{Held}
-use Rattle.cluster.specs.Live.{LiveState, session_in, refusal_about, refusal_in, refused_line}
+use Rattle.cluster.specs.Live.{LiveState, session_in, refusal_about, refused_line}
 use Rattle.cluster.specs.Reached.{phase_as, StandsBy, ReachedLive, Applies}
 use Rattle.cluster.specs.Sees.{is_calm, Sees}
-use Rattle.cluster.proofs.Meets.{all_met, first_at, none_due, refused, has, lacks_session, has_session, open_is, by_name}
-use Rattle.cluster.proofs.Sessions.{IsThere, Turns, turns, acted, own_name}
+use Rattle.cluster.proofs.Meets.{all_met, first_at, none_due, refused, lacks_session, has_session, open_is, by_name}
+use Rattle.cluster.proofs.Sessions.{IsThere, turns, acted, own_name}
 use Rattle.cluster.proofs.Turned.{line_up}
 
 module _ {E : Type 0} where
@@ -142,11 +140,11 @@ module _ {S E : Type 0} (kinds : Kinds S E) (c : LiveState E) (name : List ℕ) 
     full : (s : SessionState E) (is : session_in c.sessions name ≡ Some s) (txn : Txn E) → s.doing ≡ Open txn → fits o.kind op.path op.act ≡ true → nat_lt (length txn.updates) 256 ≡ false → (steps : List Step) → steps ≡ step.LimitUpdates ∷ [] → Applies kinds (Some c) (command.Update name o op) steps (Some c)
     full s is txn e good most steps k = refused kinds c (command.Update name o op) step.LimitUpdates steps k refl
         (λ run r.
-            let few = subst (λ d. update_total (phase_as d) ≤ 256) e (by_name kinds c run r name s is).few in
-            let total = length-map txn.updates (λ (u : Upd E). u.object) in
-            let least = ltb-false (length txn.updates) 256 most in
-            let exact : length txn.updates ≡ 256 = omega (arith, few, total, least) in
-            first_at (all_met run (command.Update name o op)) 5 (refl, (ap not r.has, (has_session kinds c run r name s is, (ap not (open_is kinds c run r name s is ∙ ap session.is_open e), (ap not good, ap (λ n. n == 256) (total_is run r s is txn e ∙ exact)))))))
+        let few = subst (λ d. update_total (phase_as d) ≤ 256) e (by_name kinds c run r name s is).few in
+        let total = length-map txn.updates (λ (u : Upd E). u.object) in
+        let least = ltb-false (length txn.updates) 256 most in
+        let exact : length txn.updates ≡ 256 = omega (arith, few, total, least) in
+        first_at (all_met run (command.Update name o op)) 5 (refl, (ap not r.has, (has_session kinds c run r name s is, (ap not (open_is kinds c run r name s is ∙ ap session.is_open e), (ap not good, ap (λ n. n == 256) (total_is run r s is txn e ∙ exact)))))))
         (λ run r who. refl)
 
     pub update_refused : (steps : List Step) (why : SessionError) → steps ≡ refused_line why ∷ [] → Would kinds.too_deep o op (session_in c.sessions name) (Some why) → Applies kinds (Some c) (command.Update name o op) steps (Some c)
@@ -192,8 +190,7 @@ module _ {S E : Type 0} (kinds : Kinds S E) (c : LiveState E) (name : List ℕ) 
           let x = subst (HoldsDoing a.before.sites a.before.parts a.before.name a.before.site r.calls) e st.holds.doing in
           let u : IsUpdated a.before o (step_shown (entries r.calls) place t.event) a.after = subst (λ l. IsUpdated a.before o l a.after) t.shows d.0 in
           let b = made (entries r.calls) place a.before a.after txn o op own e x.0.session may.room st.few t.event t.asked t.seen.calm.0 u in
-          let most : length txn.updates < 256 = may.room in
-          (
+          let most : length txn.updates < 256 = may.room in (
             subst (AnswersBy run (command.Update name o op) (answer ∷ []))
                 (sym (none_due (all_met run (command.Update name o op)) (refl, (ap not r.has, (has_session kinds c run r name a.before a.is, (ap not (open_is kinds c run r name a.before a.is ∙ ap session.is_open e), (ap not may.fit, (ap (λ n. n == 256) (ap update_total (st.phase ∙ ap phase_as e) ∙ length-map txn.updates (λ (v : Upd E). v.object)) ∙ false_from_ne_true _ (λ k. let q = eqb-true (length txn.updates) 256 k in absurd (omega (arith, q, most))), tt))))))))
                 (answer, refl, ap is_up t.shows ∙ line_up (entries r.calls) place t.event t.seen.calm.0, subst (λ n. Bears run (command.Update n o op) answer) st.name (subst (Bears run (command.Update a.before.name o op)) (sym t.shows) (b.bears run))),

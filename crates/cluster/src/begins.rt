@@ -53,7 +53,11 @@ impl<C: Crdt> Live<C> {
     }
 
     /// Begins a transaction of a session, at the partition that is named or the first of its site.
-    pub(crate) fn begin(&mut self, name: Text, part: Option<PartId>) -> Result<Vec<Step>, AllocError>
+    pub(crate) fn begin(
+        &mut self,
+        name: Text,
+        part: Option<PartId>,
+    ) -> Result<Vec<Step>, AllocError>
         requires reached { IsReached (kinds_of C.laws) (Some self.old) }
         ensures { IfOk result (λ steps. Applies (kinds_of C.laws) (Some self.old) (Command.Begin name part) steps.items (Some self.new)) }
     {

@@ -38,7 +38,12 @@ impl<C: Crdt> Live<C> {
     }
 
     /// Why an update would be refused before any partition is asked, if the session is there.
-    fn update_refusal(&self, name: &Text, object: &ObjectId, op: &Op) -> Option<Option<SessionError>>
+    fn update_refusal(
+        &self,
+        name: &Text,
+        object: &ObjectId,
+        op: &Op,
+    ) -> Option<Option<SessionError>>
         ensures { result ≡ refusal_in C.too_deep self.now.sessions name.now object.now op.now }
     {
         match self.sessions.get(name) {

@@ -148,9 +148,19 @@ begin_said : (ws : List (List ℕ)) → IsAsked (grammar.begin ws)
 begin_said [] = tt
 begin_said (s ∷ ws) = chained (λ s. option_map (λ p. command.Begin s p) (grammar.maybe places.part ws)) (text s) (λ s. mapped (λ p. command.Begin s p) (grammar.maybe places.part ws) (λ p. tt))
 
+-- a count of steps is at least 1
+count_said : (top : ℕ) (s : List ℕ) (o : Option ℕ) → IsIn 1 top o → IsAsked (option_map (λ k. command.Commit s k) (option_map (λ n. Some n) o))
+count_said top s None h = tt
+count_said top s (Some n) h = h.0
+
+steps_said : (s : List ℕ) (ws : List (List ℕ)) → IsAsked (option_map (λ k. command.Commit s k) (grammar.maybe grammar.steps ws))
+steps_said s [] = tt
+steps_said s (w ∷ []) = count_said places.below_2_48 s (grammar.steps w) (ranged_in 1 places.below_2_48 w)
+steps_said s (w ∷ v ∷ ws) = tt
+
 commit_said : (ws : List (List ℕ)) → IsAsked (grammar.commit ws)
 commit_said [] = tt
-commit_said (s ∷ ws) = chained (λ s. option_map (λ k. command.Commit s k) (grammar.maybe grammar.steps ws)) (text s) (λ s. mapped (λ k. command.Commit s k) (grammar.maybe grammar.steps ws) (λ k. tt))
+commit_said (s ∷ ws) = chained (λ s. option_map (λ k. command.Commit s k) (grammar.maybe grammar.steps ws)) (text s) (λ s. steps_said s ws)
 
 read_said : (ws : List (List ℕ)) → IsAsked (grammar.read ws)
 read_said [] = tt

@@ -1,4 +1,4 @@
-use Rattle.std.proofs.Common.{◌∙◌, ap, sym, subst, None, Some}
+use Rattle.std.proofs.Common.{◌∙◌, ap, sym, subst, Some}
 use Rattle.std.specs.Prelude.{IfOk, Option}
 use Rattle.crdt_core.specs.KindsOf.{kinds_of}
 use Rattle.world_model.specs.declared.command.Command.{Command}

@@ -1,4 +1,4 @@
-use Rattle.std.proofs.Common.{sym, subst}
+use Rattle.std.proofs.Common.{subst}
 use Rattle.crdt_core.specs.KindsOf.{kinds_of}
 use Rattle.cluster.specs.Reached.{Applies}
 use Rattle.cluster.proofs.Applying.{reached_on}

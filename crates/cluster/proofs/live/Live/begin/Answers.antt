@@ -1,14 +1,12 @@
-use Rattle.std.proofs.Common.{◌≤◌, refl, ◌∙◌, ap, sym, subst, Some}
+use Rattle.std.proofs.Common.{◌≤◌, refl, ◌∙◌, ap, sym, subst}
 use Rattle.crdt_core.specs.KindsOf.{kinds_of}
-use Rattle.world_model.specs.declared.command.Command.TheVariants as command
 use Rattle.cluster.specs.Live.{LiveState}
-use Rattle.cluster.specs.Reached.{Applies}
 use Rattle.cluster.proofs.Applying.{map_ok}
 use Rattle.cluster.specs.Acts.{Acts, Begins}
 use Rattle.cluster.specs.Held.{Held, holds_place}
 use Rattle.cluster.specs.Live.{number_of}
 use Rattle.cluster.proofs.Commands.{none_about}
-use Rattle.cluster.proofs.Beginning.{doing_about, begin_nowhere, begin_absent, begin_elsewhere, begin_busy, begin_applies, idle_about, part_least, part_most}
+use Rattle.cluster.proofs.Beginning.{doing_about, begin_nowhere, begin_absent, begin_elsewhere, begin_busy, begin_applies, idle_about, part_most}
 use Rattle.cluster.proofs.live.Live.begin.Goals as goal
 
 pub returns-then-not-has_place : goal.returns-then-not-has_place

@@ -1,4 +1,4 @@
-use Rattle.std.proofs.Common.{◌∙◌, sym, ap, subst}
+use Rattle.std.proofs.Common.{◌∙◌, sym, subst}
 use Rattle.crdt_core.specs.KindsOf.{kinds_of}
 use Rattle.cluster.specs.Acts.{Acts, Reads}
 use Rattle.cluster.specs.Live.{LiveState}

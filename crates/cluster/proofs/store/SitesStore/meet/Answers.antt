@@ -1,4 +1,3 @@
-use Rattle.std.proofs.Common.{refl, [], ◌∷◌}
 use Rattle.cluster.proofs.Seeing.{all_within}
 use Rattle.cluster.proofs.store.SitesStore.meet.Goals as goal
 

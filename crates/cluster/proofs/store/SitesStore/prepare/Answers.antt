@@ -1,10 +1,9 @@
-use Rattle.std.proofs.Common.{◌≡◌, refl, sym, ap, ◌∙◌, subst, true, Some, None, [], ◌∷◌, ◌++◌}
+use Rattle.std.proofs.Common.{◌≡◌, refl, Some}
 use Rattle.crdt_core.specs.KindsOf.{kinds_of}
 use Rattle.world_model.specs.declared.step.Step.TheVariants as step
 use Rattle.world_model.specs.Event as event
-use Rattle.txn_session.specs.Calls.{entries}
 use Rattle.cluster.specs.Answers.{Any}
-use Rattle.cluster.proofs.Seeing.{exact_on, failed_on, failed_stays, called_size, number_is}
+use Rattle.cluster.proofs.Seeing.{exact_on, failed_on, number_is}
 use Rattle.cluster.proofs.store.SitesStore.prepare.Goals as goal
 
 pub returns-in-Ok-clause-ok : goal.returns-in-Ok-clause-ok

@@ -1,9 +1,4 @@
-use Rattle.std.proofs.Common.{refl, sym, ap, ◌∙◌, subst, true, Some, None, [], ◌∷◌, ◌++◌}
 use Rattle.crdt_core.specs.KindsOf.{kinds_of}
-use Rattle.world_model.specs.declared.step.Step.TheVariants as step
-use Rattle.world_model.specs.Event as event
-use Rattle.txn_session.specs.Calls.{entries}
-use Rattle.cluster.specs.Answers.{Any}
 use Rattle.cluster.proofs.Seeing.{released_on}
 use Rattle.cluster.proofs.store.SitesStore.release.Goals as goal
 

@@ -1,8 +1,6 @@
-use Rattle.std.proofs.Common.{◌≡◌, refl, sym, ap, ◌∙◌, subst, true, Some, None, [], ◌∷◌, ◌++◌}
+use Rattle.std.proofs.Common.{refl, None}
 use Rattle.crdt_core.specs.KindsOf.{kinds_of}
-use Rattle.world_model.specs.declared.step.Step.TheVariants as step
 use Rattle.world_model.specs.Event as event
-use Rattle.txn_session.specs.Calls.{entries}
 use Rattle.cluster.specs.Answers.{Any}
 use Rattle.cluster.proofs.Seeing.{did_on}
 use Rattle.cluster.proofs.store.SitesStore.report.Goals as goal

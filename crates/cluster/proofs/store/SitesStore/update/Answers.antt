@@ -1,4 +1,4 @@
-use Rattle.std.proofs.Common.{◌≡◌, refl, sym, ap, ◌∙◌, subst, true, Some, None, [], ◌∷◌, ◌++◌, ◌+◌}
+use Rattle.std.proofs.Common.{◌≡◌, ◌∙◌, ◌+◌}
 use Rattle.std.specs.Prelude.{ℕ, List, Option}
 use Rattle.crdt_core.specs.declared.record.Part.{Part}
 use Rattle.crdt_core.specs.KindsOf.{kinds_of}
@@ -6,8 +6,7 @@ use Rattle.world_model.specs.declared.step.Step.TheVariants as step
 use Rattle.world_model.specs.Event as event
 use Rattle.world_model.specs.Event.{Event}
 use Rattle.world_model.specs.Plan.{update_count}
-use Rattle.txn_session.specs.Calls.{entries}
-use Rattle.cluster.proofs.Seeing.{changes_on, unchanged_on, failed_at, number_is}
+use Rattle.cluster.proofs.Seeing.{changes_on, unchanged_on, number_is}
 use Rattle.cluster.proofs.store.SitesStore.update.Goals as goal
 
 pub returns-in-Ok-update_at-clause-ok : goal.returns-in-Ok-update_at-clause-ok
