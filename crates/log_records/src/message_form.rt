@@ -52,7 +52,7 @@ pub(crate) fn put_fields<C: Crdt>(
     put_parts::<C>(out, message.from, &message.parts)
 }
 
-/// The message at a place, and the place after it.
+/// The message at a place, and the place after it. It can be put.
 ///
 /// # Errors
 ///
@@ -67,6 +67,7 @@ pub fn take_message<C: Crdt>(
 ) -> Result<(Message<C::Effect>, usize), TakeError>
     requires { at ≤ length bytes.now }
     ensures answer { Gives result (message_at C.has C.reading bytes.now at) }
+    ensures fit { IfOk result (λ x. can_put_message C.has C.is_of C.can_put x.0 ≡ true) }
     ensures within { IfOk result (λ x. x.1 ≤ length bytes.now) }
 {
     let (head, parts_at) = take_head(bytes, at)?;

@@ -128,7 +128,7 @@ fn put_abort(out: &mut Vec<u8>, tx: TxId) -> Result<(), AllocError>
 }
 
 #[tactic(auto, unfolding(crate::specs::Records::record_at))]
-fn take_record<C: Crdt>(
+pub(crate) fn take_record<C: Crdt>(
     alloc: Global,
     bytes: &[u8],
     at: usize,
