@@ -91,3 +91,8 @@ module _ {V : Type 0} {fits is_spelled : V → Bool} {spelling : V → List ℕ}
     damaged = λ bytes p ok. read_damaged bytes p ok (reading bytes 0) refl;
     memory = λ bytes ok. read_memory bytes ok (reading bytes 0) refl;
   }
+
+-- what is read can be put
+pub read_fits : {V : Type 0} {fits is_spelled : V → Bool} {spelling : V → List ℕ} {reading : List ℕ → ℕ → Read V} → IsForm fits is_spelled spelling reading
+    → (bytes : List ℕ) (at : ℕ) (v : V) (end : ℕ) → IsBytes bytes → at ≤ length bytes → reading bytes at ≡ Ok (v, end) → fits v ≡ true
+read_fits form bytes at v end ok le h = form.fit v (form.found bytes at v end ok le h).0
