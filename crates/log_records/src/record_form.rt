@@ -13,10 +13,15 @@ use std::alloc::{AllocError, Global};
 use std::marker::PhantomData;
 
 const LEASE: u8 = 1;
+
 const PREPARE: u8 = 2;
+
 const DECIDE: u8 = 3;
+
 const FINISH: u8 = 4;
+
 const ABORT: u8 = 5;
+
 const BATCH: u8 = 6;
 
 /// The form of records.
