@@ -127,6 +127,27 @@ impl<D: Disk + Drop> GateLog<D> {
         self.read.payloads()
     }
 
+    /// The place of the closed gate: how many bytes of the log stand in front of it.
+    pub fn end(&self) -> u64
+        ensures { result ≡ gate_of self.now }
+    {
+        self.end
+    }
+
+    /// The greatest length of the disk.
+    pub fn room(&self) -> u64
+        ensures { result ≡ (D.state (disk_of self.now)).room }
+    {
+        self.disk.room()
+    }
+
+    /// Whether an append failed since the log was opened.
+    pub fn is_closed(&self) -> bool
+        ensures { result ≡ is_closed self.now }
+    {
+        self.closed
+    }
+
     /// The disk.
     pub fn close(self) -> D
         ensures { result ≡ disk_of self }

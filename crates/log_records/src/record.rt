@@ -1,10 +1,12 @@
 ghost use Rattle.std.specs.Prelude.{◌≡◌, ◌++◌, true, OnOk, OnErr, IfOk};
+ghost use Rattle.crdt_core.specs.declared.record.Record.TheVariants.{Batch};
+ghost use Rattle.log_records.specs.Messages.{can_put_batch};
 ghost use Rattle.log_records.specs.Records.{can_put_record, is_record_spelled, record_bytes, record_at};
 ghost use Rattle.log_records.specs.Whole.{whole_at, Tells};
 
 use crate::RecordError;
-use crate::record_form::{RecordForm, take_record};
-use crdt_core::{Crdt, Record};
+use crate::record_form::{RecordForm, put_batch_fields, take_record};
+use crdt_core::{Crdt, Message, Record};
 use field_codec::{TakeError, put_whole};
 use std::alloc::{AllocError, Global};
 use std::marker::PhantomData;
@@ -22,6 +24,28 @@ pub fn put<C: Crdt>(out: &mut Vec<u8>, value: &Record<C::Effect>) -> Result<(), 
 {
     let form: RecordForm<C> = RecordForm { kinds: PhantomData };
     put_whole(&form, out, value)
+}
+
+/// Appends the bytes of the Batch of a message that has parts.
+///
+/// # Errors
+///
+/// `AllocError` where memory runs out, or where a list has 2^32 members or more. `out` is as before then.
+pub fn put_batch<C: Crdt>(
+    out: &mut Vec<u8>,
+    message: &Message<C::Effect>,
+) -> Result<(), AllocError>
+    requires { can_put_batch C.has C.is_of C.can_put message.now ≡ true }
+    ensures spelled { OnOk result (is_record_spelled C.has C.is_of C.is_spelled (Batch message.now) ≡ true) }
+    ensures ok { OnOk result (out.new.items ≡ out.old.items ++ record_bytes C.spelling (Batch message.now)) }
+    ensures err { OnErr result (out.new.items ≡ out.old.items) }
+{
+    let start = out.len();
+    let put = put_batch_fields::<C>(out, message);
+    if put.is_err() {
+        out.truncate(start);
+    }
+    put
 }
 
 /// The record that these bytes are, all of them. It can be put.

@@ -2,25 +2,26 @@ ghost use Rattle.std.specs.Prelude.{◌≡◌, ◌≤◌, ◌++◌, ◌&&◌, tr
 ghost use Rattle.field_codec.specs.Spelling.{number, is_number, Keeps};
 ghost use Rattle.field_codec.specs.Reading.{Gives, mapped_at};
 ghost use Rattle.crdt_core.specs.Spelled.{is_tx, tx as tx_bytes, vector, is_vector};
+ghost use Rattle.log_records.specs.Messages.{can_put_batch, is_batch_spelled, message as message_bytes};
 ghost use Rattle.log_records.specs.Records.{ended_at, can_put_record, is_record_spelled, record_bytes, prepare_of, prepared_at, behind_code_at, record_at, record_form};
 
 use crate::message_form::{put_fields, take_batch};
 use crate::update_form::{put_updates, take_updates};
-use crdt_core::{Crdt, Record, put_tx, put_vector, take_small, take_tx, take_vector};
+use crdt_core::{Crdt, Message, Record, put_tx, put_vector, take_small, take_tx, take_vector};
 use field_codec::{Form, TakeError, put_u8, put_u64, take_u8, take_u64};
 use site_vector::{TxId, VTime};
 use std::alloc::{AllocError, Global};
 use std::marker::PhantomData;
 
-const LEASE: u8 = 1;
+pub(crate) const LEASE: u8 = 1;
 
 const PREPARE: u8 = 2;
 
-const DECIDE: u8 = 3;
+pub(crate) const DECIDE: u8 = 3;
 
-const FINISH: u8 = 4;
+pub(crate) const FINISH: u8 = 4;
 
-const ABORT: u8 = 5;
+pub(crate) const ABORT: u8 = 5;
 
 const BATCH: u8 = 6;
 
@@ -59,10 +60,7 @@ impl<C: Crdt> Form for RecordForm<C> {
             Record::Decide { tx, c } => put_ended(out, DECIDE, *tx, c),
             Record::Finish { tx, c } => put_ended(out, FINISH, *tx, c),
             Record::Abort { tx } => put_abort(out, *tx),
-            Record::Batch { message } => {
-                put_u8(out, BATCH)?;
-                put_fields::<C>(out, message)
-            }
+            Record::Batch { message } => put_batch_fields::<C>(out, message),
         }
     }
 
@@ -130,6 +128,20 @@ fn put_abort(out: &mut Vec<u8>, tx: TxId) -> Result<(), AllocError>
 {
     put_u8(out, ABORT)?;
     put_tx(out, tx)
+}
+
+/// Appends the code of a Batch, and its message.
+pub(crate) fn put_batch_fields<C: Crdt>(
+    out: &mut Vec<u8>,
+    message: &Message<C::Effect>,
+) -> Result<(), AllocError>
+    requires { can_put_batch C.has C.is_of C.can_put message.now ≡ true }
+    ensures spelled { OnOk result (is_batch_spelled C.has C.is_of C.is_spelled message.now ≡ true) }
+    ensures ok { OnOk result (out.new.items ≡ out.old.items ++ (number 1 6 ++ message_bytes C.spelling message.now)) }
+    ensures err { OnErr result (Keeps out.old.items out.new.items) }
+{
+    put_u8(out, BATCH)?;
+    put_fields::<C>(out, message)
 }
 
 #[tactic(auto, unfolding(crate::specs::Records::record_at))]

@@ -1,6 +1,6 @@
 use Rattle.field_codec.specs.Spelling.{number}
 use Rattle.crdt_core.specs.Spelled.{tx, vector}
-use Rattle.log_records.proofs.Joins.{then_one, behind_five, keeps_behind}
+use Rattle.log_records.proofs.Joins.{behind_five}
 use Rattle.log_records.proofs.record_form.RecordFormForm.put.Goals as goal
 
 pub returns-in_ok-put_prepared-in-Prepare-clause-ok : goal.returns-in_ok-put_prepared-in-Prepare-clause-ok
@@ -17,8 +17,5 @@ returns-in-Finish-clause-ok g c = rw c.in-Finish.is c.put_ended-in-Finish.ensure
 pub returns-in-Abort-clause-ok : goal.returns-in-Abort-clause-ok
 returns-in-Abort-clause-ok g c = rw c.in-Abort.is c.put_abort.ensures.ok
 
-pub returns-in_ok-put_u8-in-Batch-clause-ok : goal.returns-in_ok-put_u8-in-Batch-clause-ok
-returns-in_ok-put_u8-in-Batch-clause-ok g c = rw c.in-Batch.is (then_one c.put_fields.result _ _ _ _ _ c.in_ok-put_u8-in-Batch.ensures.ok c.put_fields.ensures.ok)
-
-pub returns-in_ok-put_u8-in-Batch-clause-err : goal.returns-in_ok-put_u8-in-Batch-clause-err
-returns-in_ok-put_u8-in-Batch-clause-err g c = keeps_behind c.put_fields.result _ _ _ _ c.in_ok-put_u8-in-Batch.ensures.ok c.put_fields.ensures.err
+pub returns-in-Batch-clause-ok : goal.returns-in-Batch-clause-ok
+returns-in-Batch-clause-ok g c = rw c.in-Batch.is c.put_batch_fields.ensures.ok
