@@ -1,0 +1,4 @@
+//! A partition's log: a list of records on a disk.
+#![tactic(auto)]
+
+mod append;
