@@ -13,6 +13,7 @@ use std::marker::Model;
 const MOST: usize = 76;
 
 /// The bytes of a record that has no list. They take no memory. Contracts see them as a list.
+#[derive(Debug, Drop)]
 pub struct Short {
     bytes: [u8; MOST],
     len: usize,

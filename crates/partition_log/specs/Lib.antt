@@ -1,3 +1,4 @@
 pub mod Codec
 pub mod Logs
 pub mod Appends
+pub mod Gates

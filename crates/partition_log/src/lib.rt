@@ -2,3 +2,7 @@
 #![tactic(auto)]
 
 mod append;
+mod log;
+mod payload;
+
+pub use log::PartLog;

@@ -1,0 +1,153 @@
+ghost use Rattle.std.specs.Prelude.{◌≡◌, ◌≢◌, ◌++◌, ◌∷◌, [], true, Err};
+ghost use Rattle.gate_log.specs.declared.error.AppendError.TheVariants.{NoMemory as OutOfMemory};
+ghost use Rattle.crdt_core.specs.Spelled.{is_tx};
+ghost use Rattle.crdt_core.specs.declared.record.Record.TheVariants.{Lease, Decide, Finish, Abort, Batch};
+ghost use Rattle.log_records.specs.Messages.{can_put_batch};
+ghost use Rattle.log_records.specs.Records.{can_put_record};
+ghost use Rattle.partition_log.specs.Codec.{codec_of};
+ghost use Rattle.partition_log.specs.Appends.{Appends};
+
+use crate::append::{append_one, append_two};
+use crate::payload::{payload_of, payload_of_batch};
+use crdt_core::{Crdt, Message, Record};
+use disk_core::Disk;
+use gate_log::{AppendError, GateLog};
+use log_records::Short;
+use site_vector::{TxId, VTime};
+use std::alloc::Global;
+use std::marker::PhantomData;
+
+/// The log of a partition: a list of records on a disk.
+///
+/// At each moment of a call every crash leaves the list before with the first of the call's records, or none, or all,
+/// and once it has answered `Ok` with all.
+#[derive(Drop)]
+pub struct PartLog<C: Crdt, D: Disk + Drop> {
+    log: GateLog<D>,
+    kinds: PhantomData<C>,
+}
+
+impl<C: Crdt, D: Disk + Drop> PartLog<C, D> {
+    ghost use Rattle.gate_log.specs.Logs.{IsReady, disk_of};
+    ghost use Rattle.partition_log.specs.Gates.{gates_of, leases};
+
+    /// Appends a Lease up to a time. Takes no memory.
+    ///
+    /// # Errors
+    ///
+    /// `Full` exactly where the record would pass the room of the disk, and `Closed` exactly where an append failed
+    /// before: the log is as before. `Failed` only where the disk fails: a crash leaves the list before or that with
+    /// the record, and every later append answers `Closed`.
+    pub fn lease(&mut self, ceil: u64) -> Result<(), AppendError>
+        requires { IsReady D.state (gates_of self.old) }
+        ensures appends { Appends (codec_of C.spells) D.state result (gates_of self.old) (gates_of self.new) (Lease ceil ∷ []) }
+        ensures fed { result ≢ Err OutOfMemory }
+    {
+        let short = Short::lease::<C>(ceil);
+        append_one::<C, D>(&mut self.log, short.as_slice())
+    }
+
+    /// Appends a Decide. Takes no memory.
+    ///
+    /// # Errors
+    ///
+    /// As `lease`.
+    pub fn decide(&mut self, tx: TxId, c: &VTime) -> Result<(), AppendError>
+        requires tx { is_tx tx ≡ true }
+        requires ready { IsReady D.state (gates_of self.old) }
+        ensures appends { Appends (codec_of C.spells) D.state result (gates_of self.old) (gates_of self.new) (Decide tx c.now ∷ []) }
+        ensures fed { result ≢ Err OutOfMemory }
+    {
+        let short = Short::decide::<C>(tx, c);
+        append_one::<C, D>(&mut self.log, short.as_slice())
+    }
+
+    /// Appends a Finish. Takes no memory.
+    ///
+    /// # Errors
+    ///
+    /// As `lease`.
+    pub fn finish(&mut self, tx: TxId, c: &VTime) -> Result<(), AppendError>
+        requires tx { is_tx tx ≡ true }
+        requires ready { IsReady D.state (gates_of self.old) }
+        ensures appends { Appends (codec_of C.spells) D.state result (gates_of self.old) (gates_of self.new) (Finish tx c.now ∷ []) }
+        ensures fed { result ≢ Err OutOfMemory }
+    {
+        let short = Short::finish::<C>(tx, c);
+        append_one::<C, D>(&mut self.log, short.as_slice())
+    }
+
+    /// Appends an Abort. Takes no memory.
+    ///
+    /// # Errors
+    ///
+    /// As `lease`.
+    pub fn abort(&mut self, tx: TxId) -> Result<(), AppendError>
+        requires tx { is_tx tx ≡ true }
+        requires ready { IsReady D.state (gates_of self.old) }
+        ensures appends { Appends (codec_of C.spells) D.state result (gates_of self.old) (gates_of self.new) (Abort tx ∷ []) }
+        ensures fed { result ≢ Err OutOfMemory }
+    {
+        let short = Short::abort::<C>(tx);
+        append_one::<C, D>(&mut self.log, short.as_slice())
+    }
+
+    /// Appends a Lease, where a ceiling is given, and then a record. Takes all its memory first.
+    ///
+    /// # Errors
+    ///
+    /// `NoMemory` where memory runs out, or where a list has 2^32 members or more: nothing is written then. Else as
+    /// `lease`; `Full` exactly where both records together would pass the room.
+    pub fn prepare(
+        &mut self,
+        alloc: Global,
+        ceil: Option<u64>,
+        prepare: &Record<C::Effect>,
+    ) -> Result<(), AppendError>
+        requires fit { can_put_record C.has C.is_of C.can_put prepare.now ≡ true }
+        requires ready { IsReady D.state (gates_of self.old) }
+        ensures { Appends (codec_of C.spells) D.state result (gates_of self.old) (gates_of self.new) (leases ceil ++ prepare.now ∷ []) }
+    {
+        let Ok(payload) = payload_of::<C>(alloc, prepare) else {
+            return Err(AppendError::NoMemory);
+        };
+        match ceil {
+            None => append_one::<C, D>(&mut self.log, &payload),
+            Some(ceil) => {
+                let short = Short::lease::<C>(ceil);
+                append_two::<C, D>(&mut self.log, short.as_slice(), &payload)
+            }
+        }
+    }
+
+    /// Appends the Batch of a message that has parts. Takes all its memory first.
+    ///
+    /// # Errors
+    ///
+    /// `NoMemory` where memory runs out, or where a list has 2^32 members or more: nothing is written then. Else as
+    /// `lease`.
+    pub fn batch(&mut self, alloc: Global, message: &Message<C::Effect>) -> Result<(), AppendError>
+        requires fit { can_put_batch C.has C.is_of C.can_put message.now ≡ true }
+        requires ready { IsReady D.state (gates_of self.old) }
+        ensures { Appends (codec_of C.spells) D.state result (gates_of self.old) (gates_of self.new) (Batch message.now ∷ []) }
+    {
+        let Ok(payload) = payload_of_batch::<C>(alloc, message) else {
+            return Err(AppendError::NoMemory);
+        };
+        append_one::<C, D>(&mut self.log, &payload)
+    }
+
+    /// The disk.
+    pub fn close(self) -> D
+        ensures { result ≡ disk_of (gates_of self) }
+    {
+        self.log.close()
+    }
+
+    /// Whether a call of the disk failed because it found no memory to grow.
+    pub fn starved(&self) -> bool
+        ensures { result ≡ (D.state (disk_of (gates_of self.now))).starved }
+    {
+        self.log.starved()
+    }
+}
