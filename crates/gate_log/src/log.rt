@@ -3,7 +3,7 @@ ghost use Rattle.disk_core.specs.States.{GoesOn, Rose, Rests, Syncs, bytes_of, f
 ghost use Rattle.disk_core.specs.Moments.{EachImage, AtEachMoment};
 ghost use Rattle.gate_log.specs.Log.{IsLog, AreSized, IsBeforeOrAfter};
 ghost use Rattle.gate_log.specs.Damage.{IsDamagedAt};
-ghost use Rattle.gate_log.specs.Payloads.{placed};
+ghost use Rattle.gate_log.specs.Payloads.{placed, AreWithin};
 ghost use Rattle.gate_log.specs.Rest.{AtRest, Lowers};
 
 use crate::append::{read_durable, write_record};
@@ -122,7 +122,8 @@ impl<D: Disk + Drop> GateLog<D> {
 
     /// The payloads of the records that were read at opening, each with the place of its first byte.
     pub fn payloads(&self) -> Payloads<'_>
-        ensures { result ≡ read_at_opening self.now }
+        ensures read { result ≡ read_at_opening self.now }
+        ensures within { AreWithin (read_at_opening self.now) }
     {
         self.read.payloads()
     }

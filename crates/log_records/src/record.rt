@@ -1,4 +1,4 @@
-ghost use Rattle.std.specs.Prelude.{◌≡◌, ◌++◌, true, OnOk, OnErr, IfOk};
+ghost use Rattle.std.specs.Prelude.{◌≡◌, ◌≤◌, ◌++◌, ℕ, true, length, OnOk, OnErr, IfOk, IfErr};
 ghost use Rattle.crdt_core.specs.declared.record.Record.TheVariants.{Batch};
 ghost use Rattle.log_records.specs.Messages.{can_put_batch};
 ghost use Rattle.log_records.specs.Records.{can_put_record, is_record_spelled, record_bytes, record_at};
@@ -58,6 +58,9 @@ pub fn put_batch<C: Crdt>(
 pub fn take<C: Crdt>(alloc: Global, bytes: &[u8]) -> Result<Record<C::Effect>, RecordError>
     ensures answer { Tells result (whole_at (record_at C.has C.reading) bytes.now) }
     ensures fit { IfOk result (λ r. can_put_record C.has C.is_of C.can_put r ≡ true) }
+    ensures spelled { IfOk result (λ r. is_record_spelled C.has C.is_of C.is_spelled r ≡ true) }
+    ensures bytes { IfOk result (λ r. bytes.now ≡ record_bytes C.spelling r) }
+    ensures within { IfErr result (λ e. (at : ℕ) → e ≡ RecordError.Damaged at → at ≤ length bytes.now) }
 {
     match take_record::<C>(alloc, bytes, 0) {
         Ok((record, end)) => {
