@@ -1,3 +1,4 @@
 pub mod One
 pub mod Unchanged
 pub mod Two
+pub mod Reading

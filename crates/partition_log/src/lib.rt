@@ -3,6 +3,7 @@
 
 mod append;
 mod log;
+mod opening;
 mod payload;
 
 pub use log::PartLog;

@@ -1,17 +1,22 @@
-ghost use Rattle.std.specs.Prelude.{◌≡◌, ◌≢◌, ◌++◌, ◌∷◌, [], true, Err};
+ghost use Rattle.std.specs.Prelude.{◌≡◌, ◌≢◌, ◌⊎◌, ◌++◌, ◌∷◌, [], List, ℕ, true, false, Err, IsTrue, IfOk, IfErr, MatchResult};
 ghost use Rattle.gate_log.specs.declared.error.AppendError.TheVariants.{NoMemory as OutOfMemory};
 ghost use Rattle.crdt_core.specs.Spelled.{is_tx};
+ghost use Rattle.crdt_core.specs.declared.record.Record.{Record};
 ghost use Rattle.crdt_core.specs.declared.record.Record.TheVariants.{Lease, Decide, Finish, Abort, Batch};
 ghost use Rattle.log_records.specs.Messages.{can_put_batch};
 ghost use Rattle.log_records.specs.Records.{can_put_record};
 ghost use Rattle.partition_log.specs.Codec.{codec_of};
 ghost use Rattle.partition_log.specs.Appends.{Appends};
+ghost use Rattle.partition_log.specs.Logs.{HoldsLog, HasRecords};
+ghost use Rattle.partition_log.specs.Damage.{AreRecords, IsDamaged};
+ghost use Rattle.disk_core.specs.States.{GoesOn, Rose, Rests, Syncs, bytes_of};
 
 use crate::append::{append_one, append_two};
+use crate::opening::check_records;
 use crate::payload::{payload_of, payload_of_batch};
 use crdt_core::{Crdt, Message, Record};
 use disk_core::Disk;
-use gate_log::{AppendError, GateLog};
+use gate_log::{AppendError, GateLog, OpenError};
 use log_records::Short;
 use site_vector::{TxId, VTime};
 use std::alloc::Global;
@@ -28,8 +33,46 @@ pub struct PartLog<C: Crdt, D: Disk + Drop> {
 }
 
 impl<C: Crdt, D: Disk + Drop> PartLog<C, D> {
-    ghost use Rattle.gate_log.specs.Logs.{IsReady, disk_of};
+    ghost use Rattle.gate_log.specs.Logs.{IsReady, disk_of, is_closed, read_at_opening};
+    ghost use Rattle.gate_log.specs.Rest.{Lowers};
+    ghost use Rattle.gate_log.specs.declared.error.OpenError.TheVariants.{Failed as OpenFailed, Damaged};
     ghost use Rattle.partition_log.specs.Gates.{gates_of, leases};
+
+    /// Opens the log that a disk holds: makes all of it durable, and reads it twice, once for its payloads and once for
+    /// its records. An `Err` hands the disk back.
+    ///
+    /// # Errors
+    ///
+    /// `Failed` where the disk fails, `Damaged` exactly where its bytes are no log of records, and `NoMemory` where they
+    /// don't fit the memory.
+    pub fn open(alloc: Global, disk: D) -> Result<PartLog<C, D>, (D, OpenError)>
+        ensures opened { IfOk result (λ log. (records : List (Record C.Effect)) × AreRecords (codec_of C.spells) (read_at_opening (gates_of log)) records
+            × (IsTrue (D.state disk).tells → HoldsLog (codec_of C.spells) (bytes_of (D.state disk)) records
+            × HasRecords (codec_of C.spells) D.state (gates_of log) records)) }
+        ensures ready { IfOk result (λ log. IsReady D.state (gates_of log) × (is_closed (gates_of log) ≡ false)) }
+        ensures damaged { (at : ℕ) → IfErr result (λ e. e.1 ≡ Damaged at → IsTrue (D.state disk).tells
+            → IsDamaged (codec_of C.spells) (bytes_of (D.state disk)) at) }
+        ensures failed { IfErr result (λ e. e.1 ≡ OpenFailed → Rose (D.state disk).faults (D.state e.0).faults) }
+        // All that the disk does is to sync, and that only once.
+        ensures synced { IfOk result (λ log. Syncs (D.state disk) (D.state (disk_of (gates_of log)))) }
+        ensures synced_err { IfErr result (λ e. Rests (D.state disk) (D.state e.0)
+            ⊎ Syncs (D.state disk) (D.state e.0)) }
+        ensures goes_on { MatchResult result (λ log. GoesOn (D.state disk) (D.state (disk_of (gates_of log))))
+            (λ e. GoesOn (D.state disk) (D.state e.0)) }
+        ensures left { MatchResult result (λ log. Lowers 16 (D.state disk).left (D.state (disk_of (gates_of log))).left)
+            (λ e. Lowers 16 (D.state disk).left (D.state e.0).left) }
+    {
+        match GateLog::open(alloc, disk) {
+            Err(refused) => Err(refused),
+            Ok(log) => match check_records::<C>(alloc, log.payloads()) {
+                Err(error) => Err((log.close(), error)),
+                Ok(()) => Ok(PartLog {
+                    log,
+                    kinds: PhantomData,
+                }),
+            },
+        }
+    }
 
     /// Appends a Lease up to a time. Takes no memory.
     ///

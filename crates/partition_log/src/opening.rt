@@ -1,0 +1,47 @@
+// Reading the payloads of a log as records.
+ghost use Rattle.std.specs.Prelude.{◌≡◌, ◌≢◌, ◌≤◌, ◌+◌, ◌^◌, ℕ, List, true, length, Err, OnOk};
+ghost use Rattle.gate_log.specs.Payloads.{AreWithin};
+ghost use Rattle.gate_log.specs.declared.error.OpenError.TheVariants.{Failed, Damaged};
+ghost use Rattle.crdt_core.specs.declared.record.Record.{Record};
+ghost use Rattle.log_records.specs.declared.error.RecordError.TheVariants.{Damaged as RecordDamaged};
+ghost use Rattle.log_records.specs.Whole.{whole_at};
+ghost use Rattle.partition_log.specs.Codec.{codec_of};
+ghost use Rattle.partition_log.specs.Damage.{AreRecords, IsRefusedAt};
+
+use crdt_core::Crdt;
+use gate_log::{OpenError, Payloads};
+use log_records::{RecordError, take};
+use std::alloc::Global;
+
+/// Whether the payload at a place of a log is a record.
+fn check_record<C: Crdt>(alloc: Global, place: u64, payload: &[u8]) -> Result<(), OpenError>
+    requires { place + length payload.now ≤ 2 ^ 32 }
+    ensures whole { OnOk result ((r : Record C.Effect) × ((codec_of C.spells).spelled r ≡ true) × (payload.now ≡ (codec_of C.spells).bytes r)) }
+    ensures damaged { (at : ℕ) → result ≡ Err (Damaged at)
+        → (n : ℕ) × (whole_at (codec_of C.spells).reading payload.now ≡ Err (RecordDamaged n)) × (at ≡ place + n) }
+    ensures reads { result ≢ Err Failed }
+{
+    match take::<C>(alloc, payload) {
+        Ok(_) => Ok(()),
+        Err(RecordError::Damaged { at }) => Err(OpenError::Damaged {
+            at: place + at as u64,
+        }),
+        Err(RecordError::NoMemory) => Err(OpenError::NoMemory),
+    }
+}
+
+/// Whether the payloads are records.
+pub(crate) fn check_records<C: Crdt>(
+    alloc: Global,
+    payloads: Payloads<'_>,
+) -> Result<(), OpenError>
+    requires { AreWithin payloads }
+    ensures records { OnOk result ((log : List (Record C.Effect)) × AreRecords (codec_of C.spells) payloads.entry log) }
+    ensures damaged { (at : ℕ) → result ≡ Err (Damaged at) → IsRefusedAt (codec_of C.spells) payloads.entry at }
+    ensures reads { result ≢ Err Failed }
+{
+    for (place, payload) in payloads {
+        check_record::<C>(alloc, place, payload)?;
+    }
+    Ok(())
+}
