@@ -40,7 +40,7 @@ differ : (n m : ℕ) → eqb n m ≡ false → n ≡ m → ⊥
 differ n m h e = false≢true (sym h ∙ eq-eqb n m e)
 
 module _ {V : Type 0} {fits is_spelled : V → Bool} {spelling : V → List ℕ} {reading : List ℕ → ℕ → Read V} (form : IsForm fits is_spelled spelling reading) where
-  spelled_whole : (bytes : List ℕ) (v : V) → is_spelled v ≡ true → bytes ≡ spelling v → whole_at reading bytes ≡ Ok v
+  pub spelled_whole : (bytes : List ℕ) (v : V) → is_spelled v ≡ true → bytes ≡ spelling v → whole_at reading bytes ≡ Ok v
   spelled_whole bytes v good e =
       let spans : Spans bytes 0 (spelling v) (length bytes) = record {
         stands = e ∙ sym (append-nil (spelling v)) ∙ ap (λ l. spelling v ++ l) (sym (drop_all (length bytes) bytes (omega arith)));

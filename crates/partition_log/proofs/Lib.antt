@@ -2,3 +2,4 @@ pub mod One
 pub mod Unchanged
 pub mod Two
 pub mod Reading
+pub mod Damaged

@@ -2,8 +2,10 @@
 #![tactic(auto)]
 
 mod append;
+mod laws;
 mod log;
 mod opening;
 mod payload;
 
+pub use laws::law_part_log;
 pub use log::PartLog;
