@@ -13,8 +13,9 @@ use Rattle.log_records.specs.declared.error.RecordError.TheVariants as why
 use Rattle.log_records.specs.Whole.{whole_at}
 use Rattle.partition_log.specs.Codec.{Codec}
 use Rattle.partition_log.specs.Logs.{payloads_of, are_spelled, HoldsLog}
-use Rattle.partition_log.specs.Damage.{AreRecords, IsRefusedAt, IsDamaged}
+use Rattle.partition_log.specs.Damage.{IsRecord, AreRecords, IsRefusedAt, IsDamaged}
 use Rattle.partition_log.proofs.Reading.{Item, unplaced}
+use Rattle.partition_log.proofs.Listing.{EachRecord, each_of_log}
 
 abbrev is_read : {V : Type 0} → V → Result V RecordError
 is_read v = Ok v
@@ -50,37 +51,21 @@ same_first : {X : Type 0} (x y : X) (xs ys : List X) → x ∷ xs ≡ y ∷ ys �
 same_first x y xs ys h = (cc, cc)
 
 module _ {E : Type 0} (codec : Codec E) (reads : (bytes : List ℕ) (r : Record E) → codec.spelled r ≡ true → bytes ≡ codec.bytes r → whole_at codec.reading bytes ≡ Ok r) where
-  -- the payload is a record
-  abbrev pub IsSpelled : List ℕ → Type 0
-  IsSpelled payload = (r : Record E) × (codec.spelled r ≡ true) × (payload ≡ codec.bytes r)
-
-  abbrev pub EachSpelled : List (List ℕ) → Type 0
-  EachSpelled [] = ⊤
-  EachSpelled (payload ∷ payloads) = IsSpelled payload × EachSpelled payloads
-
-  each_joined : (xs ys : List (List ℕ)) → EachSpelled xs → EachSpelled ys → EachSpelled (xs ++ ys)
-  each_joined [] ys p q = q
-  each_joined (x ∷ xs) ys p q = (p.0, each_joined xs ys p.1 q)
-
-  pub each_of_log : (log : List (Record E)) → are_spelled codec log ≡ true → EachSpelled (payloads_of codec log)
-  each_of_log [] h = tt
-  each_of_log (r ∷ log) h = let p = both_true (codec.spelled r) (are_spelled codec log) h in each_joined (payloads_of codec log) (codec.bytes r ∷ []) (each_of_log log p.1) ((r, p.0, refl), tt)
-
-  pub each_read : (items : List Item) (log : List (Record E)) → AreRecords codec items log → EachSpelled (map (λ item. item.1) items)
-  each_read items log read = subst EachSpelled (sym read.payloads) (each_of_log log read.spelled)
+  pub each_read : (items : List Item) (log : List (Record E)) → AreRecords codec items log → EachRecord codec (map (λ item. item.1) items)
+  each_read items log read = subst (EachRecord codec) (sym read.payloads) (each_of_log codec log read.spelled)
 
   -- a payload that is a record isn't damaged
-  sound : {P : Type 0} (payload : List ℕ) (n : ℕ) → IsSpelled payload → whole_at codec.reading payload ≡ Err (why.Damaged n) → P
+  pub sound : {P : Type 0} (payload : List ℕ) (n : ℕ) → IsRecord codec payload → whole_at codec.reading payload ≡ Err (why.Damaged n) → P
   sound payload n s damaged = never_both (whole_at codec.reading payload) s.0 n (reads payload s.0 s.1 s.2) damaged
 
   -- none of these payloads is damaged
-  among : {P : Type 0} (front back : List Item) (x : Item) (n : ℕ) → EachSpelled (map (λ item. item.1) (front ++ x ∷ back)) → whole_at codec.reading x.1 ≡ Err (why.Damaged n) → P
+  among : {P : Type 0} (front back : List Item) (x : Item) (n : ℕ) → EachRecord codec (map (λ item. item.1) (front ++ x ∷ back)) → whole_at codec.reading x.1 ≡ Err (why.Damaged n) → P
   among [] back x n each damaged = sound x.1 n each.0 damaged
   among (y ∷ front) back x n each damaged = among front back x n each.1 damaged
 
   -- the first that is damaged is one
   first_one : (front1 back1 front2 back2 : List Item) (x y : Item) (n m : ℕ) → front1 ++ x ∷ back1 ≡ front2 ++ y ∷ back2
-      → EachSpelled (map (λ item. item.1) front1) → EachSpelled (map (λ item. item.1) front2)
+      → EachRecord codec (map (λ item. item.1) front1) → EachRecord codec (map (λ item. item.1) front2)
       → whole_at codec.reading x.1 ≡ Err (why.Damaged n) → whole_at codec.reading y.1 ≡ Err (why.Damaged m) → x.0 + n ≡ y.0 + m
   first_one [] back1 [] back2 x y n m e p q damaged other =
       let same = (same_first x y back1 back2 e).0 in
@@ -120,7 +105,7 @@ module _ {E : Type 0} (codec : Codec E) (reads : (bytes : List ℕ) (r : Record 
       (λ refused.
       let r = refused.2 in
       let same : map (λ item. item.1) (placed 8 refused.0) ≡ payloads_of codec log = unplaced 8 refused.0 ∙ one_list bytes refused.0 (payloads_of codec log) refused.1 holds.is_log in
-      let each = subst EachSpelled (sym same ∙ ap (map (λ item. item.1)) r.is) (each_of_log log holds.spelled) in
+      let each = subst (EachRecord codec) (sym same ∙ ap (map (λ item. item.1)) r.is) (each_of_log codec log holds.spelled) in
       among r.front r.back (r.place, r.payload) r.within each r.damaged)
       damaged
 

@@ -22,7 +22,7 @@ pub record SoFar {E : Type 0} (codec : Codec E) (all left : List Item) : Type 0 
   pub read : AreRecords codec front log
   pub within : AreWithin left
 
-map_more : (front : List Item) (x : Item) → map (λ item. item.1) (front ++ x ∷ []) ≡ map (λ item. item.1) front ++ x.1 ∷ []
+pub map_more : (front : List Item) (x : Item) → map (λ item. item.1) (front ++ x ∷ []) ≡ map (λ item. item.1) front ++ x.1 ∷ []
 map_more [] x = refl
 map_more (y ∷ front) x = ap (λ l. y.1 ∷ l) (map_more front x)
 

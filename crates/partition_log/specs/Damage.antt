@@ -10,6 +10,10 @@ use Rattle.partition_log.specs.Codec.{Codec}
 use Rattle.partition_log.specs.Logs.{payloads_of, are_spelled}
 
 module _ {E : Type 0} (codec : Codec E) where
+  -- the payload is a record
+  abbrev pub IsRecord : List ℕ → Type 0
+  IsRecord payload = (r : Record E) × (codec.spelled r ≡ true) × (payload ≡ codec.bytes r)
+
   -- the payloads, each with its place, are those of these records, newest first
   pub record AreRecords (items : List (ℕ × List ℕ)) (log : List (Record E)) : Type 0 where
     pub payloads : map (λ item. item.1) items ≡ payloads_of codec log

@@ -1,4 +1,4 @@
-ghost use Rattle.std.specs.Prelude.{◌≡◌, ◌≢◌, ◌⊎◌, ◌++◌, ◌∷◌, [], List, ℕ, true, false, Err, IsTrue, IfOk, IfErr, MatchResult};
+ghost use Rattle.std.specs.Prelude.{◌≡◌, ◌≢◌, ◌⊎◌, ◌++◌, ◌∷◌, [], List, ℕ, map, reverse, true, false, Err, IsTrue, IfOk, IfErr, MatchResult};
 ghost use Rattle.gate_log.specs.declared.error.AppendError.TheVariants.{NoMemory as OutOfMemory};
 ghost use Rattle.crdt_core.specs.Spelled.{is_tx};
 ghost use Rattle.crdt_core.specs.declared.record.Record.{Record};
@@ -12,14 +12,15 @@ ghost use Rattle.partition_log.specs.Damage.{AreRecords, IsDamaged};
 ghost use Rattle.disk_core.specs.States.{GoesOn, Rose, Rests, Syncs, bytes_of};
 
 use crate::append::{append_one, append_two};
-use crate::opening::check_records;
+use crate::opening::{check_records, read_records};
 use crate::payload::{payload_of, payload_of_batch};
 use crdt_core::{Crdt, Message, Record};
 use disk_core::Disk;
+use field_codec::ListOf;
 use gate_log::{AppendError, GateLog, OpenError};
 use log_records::Short;
 use site_vector::{TxId, VTime};
-use std::alloc::Global;
+use std::alloc::{AllocError, Global};
 use std::marker::PhantomData;
 
 /// The log of a partition: a list of records on a disk.
@@ -178,6 +179,23 @@ impl<C: Crdt, D: Disk + Drop> PartLog<C, D> {
             return Err(AppendError::NoMemory);
         };
         append_one::<C, D>(&mut self.log, &payload)
+    }
+
+    /// The places of the payloads that were read at opening, and their records, the oldest first. `open` says that they
+    /// are records.
+    ///
+    /// # Errors
+    ///
+    /// `AllocError` where memory runs out.
+    pub fn records(
+        &self,
+        alloc: Global,
+    ) -> Result<(ListOf<u64>, ListOf<Record<C::Effect>>), AllocError>
+        requires { (log : List (Record C.Effect)) × AreRecords (codec_of C.spells) (read_at_opening (gates_of self.now)) log }
+        ensures places { IfOk result (λ x. x.0 ≡ map (λ item. item.0) (read_at_opening (gates_of self.now))) }
+        ensures records { IfOk result (λ x. AreRecords (codec_of C.spells) (read_at_opening (gates_of self.now)) (reverse x.1)) }
+    {
+        read_records::<C>(alloc, self.log.payloads())
     }
 
     /// The disk.
