@@ -31,10 +31,7 @@ pub fn put<C: Crdt>(out: &mut Vec<u8>, value: &Record<C::Effect>) -> Result<(), 
 /// # Errors
 ///
 /// `AllocError` where memory runs out, or where a list has 2^32 members or more. `out` is as before then.
-pub fn put_batch<C: Crdt>(
-    out: &mut Vec<u8>,
-    message: &Message<C::Effect>,
-) -> Result<(), AllocError>
+pub fn put_batch<C: Crdt>(out: &mut Vec<u8>, message: &Message<C::Effect>) -> Result<(), AllocError>
     requires { can_put_batch C.has C.is_of C.can_put message.now ≡ true }
     ensures spelled { OnOk result (is_record_spelled C.has C.is_of C.is_spelled (Batch message.now) ≡ true) }
     ensures ok { OnOk result (out.new.items ≡ out.old.items ++ record_bytes C.spelling (Batch message.now)) }

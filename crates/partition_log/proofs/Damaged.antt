@@ -1,10 +1,8 @@
 -- Bytes are one log of records or damaged at one place.
-use Rattle.std.proofs.Common.{◌≡◌, ◌⊎◌, ℕ, ◌+◌, true, List, [], ◌∷◌, ◌++◌, Result, Ok, Err, refl, sym, ap, ◌∙◌, subst, ⊎_elim}
-use Rattle.std.specs.Prelude.{map, ⊤}
-use Rattle.std.proofs.lemmas.List.{append_cancel_right, map-append}
+use Rattle.std.proofs.Common.{◌≡◌, ℕ, ◌+◌, true, List, [], ◌∷◌, ◌++◌, Result, Ok, Err, refl, sym, ap, ◌∙◌, subst, ⊎_elim}
+use Rattle.std.specs.Prelude.{map}
+use Rattle.std.proofs.lemmas.List.{append_cancel_right}
 use Rattle.field_codec.specs.FormLaws.{both_true}
-use Rattle.gate_log.specs.Log.{IsLog}
-use Rattle.gate_log.specs.Damage.{IsDamagedAt}
 use Rattle.gate_log.specs.Payloads.{placed}
 use Rattle.gate_log.proofs.Unique.{one_list, one_place, not_both}
 use Rattle.crdt_core.specs.declared.record.Record.{Record}

@@ -1,17 +1,16 @@
 -- An append of the payload of one record.
-use Rattle.std.proofs.Common.{◌≡◌, ◌≢◌, ◌⊎◌, inl, inr, ⊎_elim, ℕ, ◌+◌, ◌<◌, Bool, true, false, List, [], ◌∷◌, ◌++◌, length, Result, Ok, Err, OnOk, refl, sym, ap, ◌∙◌, subst, arith}
+use Rattle.std.proofs.Common.{◌≡◌, inl, inr, ⊎_elim, ℕ, ◌+◌, ◌<◌, Bool, true, false, List, [], ◌∷◌, ◌++◌, length, Result, Ok, Err, OnOk, refl, ap, ◌∙◌, subst, arith}
 use Rattle.std.specs.Prelude.{◌↔◌}
-use Rattle.disk_core.specs.States.{DiskState, Story}
+use Rattle.disk_core.specs.States.{DiskState}
 use Rattle.disk_core.specs.Moments.{EachImage, AtEachMoment}
 use Rattle.disk_core.proofs.Moments.{weaker}
 use Rattle.gate_log.specs.Log.{IsLog, IsBeforeOrAfter}
 use Rattle.gate_log.specs.Logs.{disk_of, gate_of, is_closed, IsOpen}
 use Rattle.gate_log.specs.declared.log.GateLog.{GateLog}
 use Rattle.gate_log.specs.declared.error.AppendError.{AppendError}
-use Rattle.gate_log.specs.declared.error.AppendError.TheVariants.{Failed, Full, Closed, NoMemory}
+use Rattle.gate_log.specs.declared.error.AppendError.TheVariants.{Full, Closed}
 use Rattle.field_codec.specs.FormLaws.{and_true}
 use Rattle.crdt_core.specs.declared.record.Record.{Record}
-use Rattle.crdt_core.specs.Log.{grown}
 use Rattle.partition_log.specs.Codec.{Codec}
 use Rattle.partition_log.specs.Logs.{payloads_of, are_spelled, HoldsLog, HoldsFront, HasRecords, size}
 

@@ -1,8 +1,7 @@
 -- Two appends, one after the other, where there is room for both.
-use Rattle.std.proofs.Common.{◌≡◌, ◌≢◌, inl, inr, ⊎_elim, ℕ, ◌+◌, ◌-◌, ◌*◌, ◌≤◌, ◌<◌, ◌^◌, Bool, true, false, List, [], ◌∷◌, length, Option, None, Some, Result, Ok, Err, OnOk, refl, sym, ap, ◌∙◌, arith}
-use Rattle.std.specs.Prelude.{min, IfErr, IsTrue, ◌⊎◌}
+use Rattle.std.proofs.Common.{◌≡◌, ◌≢◌, inl, inr, ⊎_elim, ℕ, ◌+◌, ◌-◌, ◌≤◌, Bool, true, false, List, [], ◌∷◌, Option, None, Some, Result, Ok, Err, refl, ap, ◌∙◌, arith}
+use Rattle.std.specs.Prelude.{IfErr}
 use Rattle.disk_core.specs.States.{DiskState, GoesOn, Rose, fewer}
-use Rattle.disk_core.specs.Moments.{EachImage, AtEachMoment}
 use Rattle.disk_core.proofs.Moments.{weaker, joined}
 use Rattle.gate_log.specs.Logs.{disk_of, gate_of, is_closed}
 use Rattle.gate_log.specs.Rest.{Lowers}
@@ -10,9 +9,8 @@ use Rattle.gate_log.specs.declared.log.GateLog.{GateLog}
 use Rattle.gate_log.specs.declared.error.AppendError.{AppendError}
 use Rattle.gate_log.specs.declared.error.AppendError.TheVariants.{Failed, Full, Closed, NoMemory}
 use Rattle.crdt_core.specs.declared.record.Record.{Record}
-use Rattle.crdt_core.specs.Log.{MayFind, grown}
 use Rattle.partition_log.specs.Codec.{Codec}
-use Rattle.partition_log.specs.Logs.{HoldsLog, HoldsFront, HasRecords, size}
+use Rattle.partition_log.specs.Logs.{HoldsFront, size}
 use Rattle.partition_log.specs.Appends.{Appends}
 use Rattle.partition_log.proofs.One.{on_ok}
 

@@ -11,7 +11,7 @@ use Rattle.gate_log.proofs.Steps.{is_log}
 use Rattle.crdt_core.specs.declared.record.Record.{Record}
 use Rattle.crdt_core.specs.Log.{MayFind}
 use Rattle.partition_log.specs.Codec.{Codec}
-use Rattle.partition_log.specs.Logs.{payloads_of, HoldsLog, HoldsFront, HasRecords, size}
+use Rattle.partition_log.specs.Logs.{payloads_of, HoldsFront, HasRecords, size}
 use Rattle.partition_log.specs.Appends.{Appends}
 
 abbrev refusal : {T : Type 0} → AppendError → Result T AppendError

@@ -1,5 +1,5 @@
 -- Which bytes are no log of records, and at which place; and what is read of a log.
-use Rattle.std.specs.Prelude.{◌≡◌, ◌⊎◌, ℕ, ◌+◌, true, List, [], ◌∷◌, ◌++◌, map, Err}
+use Rattle.std.specs.Prelude.{◌≡◌, ◌⊎◌, ℕ, ◌+◌, true, List, ◌∷◌, ◌++◌, map, Err}
 use Rattle.gate_log.specs.Log.{IsLog}
 use Rattle.gate_log.specs.Damage.{IsDamagedAt}
 use Rattle.gate_log.specs.Payloads.{placed}

@@ -15,7 +15,7 @@ use crate::append::{append_one, append_two};
 use crate::opening::{check_records, read_records};
 use crate::payload::{payload_of, payload_of_batch};
 use crdt_core::{Crdt, Message, Record};
-use disk_core::Disk;
+use disk_core::{Disk, Fused};
 use field_codec::ListOf;
 use gate_log::{AppendError, GateLog, OpenError};
 use log_records::Short;
@@ -210,5 +210,42 @@ impl<C: Crdt, D: Disk + Drop> PartLog<C, D> {
         ensures { result ≡ (D.state (disk_of (gates_of self.now))).starved }
     {
         self.log.starved()
+    }
+}
+
+impl<C: Crdt, D: Disk + Drop> PartLog<C, Fused<D>> {
+    ghost use Rattle.std.specs.Prelude.{Some, None};
+    ghost use Rattle.disk_core.specs.Fuses.{inside, calls_left, kept_bytes, fused_state};
+    ghost use Rattle.gate_log.specs.Logs.{disk_of, gate_of, is_closed, read_at_opening, IsReady};
+    ghost use Rattle.partition_log.specs.Gates.{gates_of};
+
+    /// Arms the fuse of the disk, also where the log is closed, and changes nothing else.
+    pub fn arm(&mut self, k: u64, keep: u64)
+        ensures inside { inside (disk_of (gates_of self.new)) ≡ inside (disk_of (gates_of self.old)) }
+        ensures keep { kept_bytes (disk_of (gates_of self.new)) ≡ keep }
+        ensures state { fused_state D.state (disk_of (gates_of self.new))
+            ≡ record (fused_state D.state (disk_of (gates_of self.old))) { left = Some k } }
+        ensures has { (log : List (Record C.Effect)) → HasRecords (codec_of C.spells) (fused_state D.state) (gates_of self.old) log
+            → HasRecords (codec_of C.spells) (fused_state D.state) (gates_of self.new) log }
+        ensures ready { IsReady (fused_state D.state) (gates_of self.old) → IsReady (fused_state D.state) (gates_of self.new) }
+        ensures same { (gate_of (gates_of self.new) ≡ gate_of (gates_of self.old)) × (is_closed (gates_of self.new) ≡ is_closed (gates_of self.old))
+            × (read_at_opening (gates_of self.new) ≡ read_at_opening (gates_of self.old)) }
+    {
+        self.log.arm(k, keep);
+    }
+
+    /// Takes the fuse of the disk away where it has fired, also where the log is closed, and changes nothing else.
+    pub fn revive(&mut self)
+        ensures inside { inside (disk_of (gates_of self.new)) ≡ inside (disk_of (gates_of self.old)) }
+        ensures fired { calls_left (disk_of (gates_of self.old)) ≡ Some 0
+            → fused_state D.state (disk_of (gates_of self.new)) ≡ record (fused_state D.state (disk_of (gates_of self.old))) { left = None } }
+        ensures burning { calls_left (disk_of (gates_of self.old)) ≢ Some 0 → gates_of self.new ≡ gates_of self.old }
+        ensures has { (log : List (Record C.Effect)) → HasRecords (codec_of C.spells) (fused_state D.state) (gates_of self.old) log
+            → HasRecords (codec_of C.spells) (fused_state D.state) (gates_of self.new) log }
+        ensures ready { IsReady (fused_state D.state) (gates_of self.old) → IsReady (fused_state D.state) (gates_of self.new) }
+        ensures same { (gate_of (gates_of self.new) ≡ gate_of (gates_of self.old)) × (is_closed (gates_of self.new) ≡ is_closed (gates_of self.old))
+            × (read_at_opening (gates_of self.new) ≡ read_at_opening (gates_of self.old)) }
+    {
+        self.log.revive();
     }
 }

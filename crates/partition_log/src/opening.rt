@@ -32,10 +32,7 @@ fn check_record<C: Crdt>(alloc: Global, place: u64, payload: &[u8]) -> Result<()
 }
 
 /// Whether the payloads are records.
-pub(crate) fn check_records<C: Crdt>(
-    alloc: Global,
-    payloads: Payloads<'_>,
-) -> Result<(), OpenError>
+pub(crate) fn check_records<C: Crdt>(alloc: Global, payloads: Payloads<'_>) -> Result<(), OpenError>
     requires { AreWithin payloads }
     ensures records { OnOk result ((log : List (Record C.Effect)) × AreRecords (codec_of C.spells) payloads.entry log) }
     ensures damaged { (at : ℕ) → result ≡ Err (Damaged at) → IsRefusedAt (codec_of C.spells) payloads.entry at }

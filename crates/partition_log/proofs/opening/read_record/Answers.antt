@@ -1,4 +1,4 @@
-use Rattle.std.proofs.Common.{◌≡◌, Err, ap, ◌∙◌, subst}
+use Rattle.std.proofs.Common.{Err, subst}
 use Rattle.crdt_core.specs.declared.record.Record.{Record}
 use Rattle.log_records.specs.Whole.{whole_at, Tells}
 use Rattle.log_records.specs.Records.{record_form}

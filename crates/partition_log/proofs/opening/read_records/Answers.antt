@@ -1,6 +1,5 @@
-use Rattle.std.proofs.Common.{◌≡◌, List, ℕ, [], sym, subst}
 use Rattle.partition_log.specs.Codec.{codec_of}
-use Rattle.partition_log.proofs.Listing.{Listed, listing, listed_more}
+use Rattle.partition_log.proofs.Listing.{listing, listed_more}
 use Rattle.partition_log.proofs.opening.read_records.Goals as goal
 
 pub loop-place-init : goal.loop-place-init

@@ -1,4 +1,4 @@
-use Rattle.std.proofs.Common.{◌≡◌, inl, inr, List, ℕ, Err, sym, ap, ◌∙◌, subst}
+use Rattle.std.proofs.Common.{inl, inr, Err, ap, ◌∙◌, subst}
 use Rattle.disk_core.specs.States.{bytes_of}
 use Rattle.gate_log.specs.Log.{IsLog}
 use Rattle.gate_log.specs.Logs.{IsOpen}

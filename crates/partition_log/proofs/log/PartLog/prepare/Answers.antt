@@ -1,4 +1,4 @@
-use Rattle.std.proofs.Common.{◌≡◌, ◌∙◌, ◌++◌, ◌∷◌, []}
+use Rattle.std.proofs.Common.{◌∙◌, ◌++◌, ◌∷◌, []}
 use Rattle.crdt_core.specs.declared.record.Record.TheVariants.{Lease}
 use Rattle.partition_log.specs.Codec.{codec_of}
 use Rattle.partition_log.specs.Gates.{gates_of, leases}
