@@ -1,10 +1,11 @@
-//! Records and messages as bytes, as a table.
+//! Records, messages and partitions' logs as bytes, as a table.
 //!
-//! `log_table table` answers the lines of standard input, as table.rt says: its stored run is the test of log_records.
+//! `log_table table` answers the lines of standard input, as table.rt says: its stored run is the test of log_records and partition_log.
 //! `log_table put N` and `log_table take N` put and take a Batch so many times, for bench/records to measure.
 #![tactic(auto)]
 
 mod bench;
+mod logs;
 mod table;
 mod words;
 

@@ -1,6 +1,7 @@
 // The table. A line `record HEX` is answered by what the bytes are; where they are a record, also by whether it is put as the same bytes, what each front of
 // them is, what they are with one byte more, and how many wrong values of each byte are refused where any is, the first and the last with their places. A line
-// `message HEX` is answered by the message at the start of the bytes. Other lines are copied.
+// `message HEX` is answered by the message at the start of the bytes; `crash CALL KEPT`, `room ROOM` and `open HEX` as logs.rt says. Other lines are copied.
+use crate::logs;
 use crate::words::{bytes_of, put_answer, put_hex};
 use crdt_counters::CounterPn;
 use field_codec::TakeError;
@@ -25,6 +26,20 @@ fn answer(alloc: Global, out: &mut String, line: &str) -> Result<(), AllocError>
         Some(("message", digits)) => {
             let bytes = bytes_of(alloc, digits)?;
             answer_message(alloc, out, bytes.as_slice())
+        }
+        Some(("crash", words)) => {
+            let (call, kept) = words.split_once(' ').unwrap_or((words, ""));
+            let call = call.parse::<u64>().unwrap_or(0);
+            write!(out, "{line}: ")?;
+            logs::crash(alloc, out, call, kept.parse::<u64>().unwrap_or(0))
+        }
+        Some(("room", word)) => {
+            write!(out, "{line}: ")?;
+            logs::room(alloc, out, word.parse::<u64>().unwrap_or(0))
+        }
+        Some(("open", digits)) => {
+            write!(out, "{line}: ")?;
+            logs::open(alloc, out, digits)
         }
         _ => writeln!(out, "{line}"),
     }

@@ -40,7 +40,7 @@ pub(crate) fn put_hex(out: &mut String, bytes: &[u8]) -> Result<(), AllocError> 
     Ok(())
 }
 
-fn name_of(record: &Record<i64>) -> &'static str {
+pub(crate) fn name_of(record: &Record<i64>) -> &'static str {
     match record {
         Record::Lease { .. } => "lease",
         Record::Prepare { .. } => "prepare",
