@@ -16,7 +16,8 @@ use site_vector::{TxId, VTime};
 use std::alloc::{AllocError, Global};
 
 /// A Prepare of 1.1#101 at 1002, of one update.
-const PREPARE: &str = "02 0101 0000000000000065 01 00000000000003ea 01 0000000000000065 00000001 0001 0000 0001 6b 01 0000000000000001";
+const PREPARE: &str =
+    "02 0101 0000000000000065 01 00000000000003ea 01 0000000000000065 00000001 0001 0000 0001 6b 01 0000000000000001";
 
 fn prepare(alloc: Global) -> Result<Option<Record<i64>>, AllocError>
     ensures { let C = ⟦<CounterPn as Crdt>⟧ in IfOk result (λ o. IfSome o (λ r. can_put_record C.has C.is_of C.can_put r ≡ true)) }
@@ -49,11 +50,7 @@ fn put_answer(out: &mut String, answer: Result<(), AppendError>) -> Result<(), A
 }
 
 /// Adds what opening the log of a disk answers: the records with their places.
-fn put_opening<D: Disk + Drop>(
-    alloc: Global,
-    out: &mut String,
-    disk: D,
-) -> Result<(), AllocError> {
+fn put_opening<D: Disk + Drop>(alloc: Global, out: &mut String, disk: D) -> Result<(), AllocError> {
     match PartLog::<CounterPn, D>::open(alloc, disk) {
         Ok(log) => {
             out.push_str("opened")?;
