@@ -1,4 +1,4 @@
-ghost use Rattle.std.specs.Prelude.{◌≡◌, ◌≤◌, ◌++◌, ◌&&◌, true, length, OnOk, OnErr, IfOk};
+ghost use Rattle.std.specs.Prelude.{◌≡◌, ◌≤◌, ◌++◌, true, length, OnOk, OnErr, IfOk};
 ghost use Rattle.field_codec.specs.Spelling.{Keeps};
 ghost use Rattle.field_codec.specs.Reading.{Gives};
 ghost use Rattle.log_records.specs.Messages.{can_put_message, is_message_spelled, message as message_bytes, message_at, batch_at};

@@ -1,5 +1,5 @@
-ghost use Rattle.std.specs.Prelude.{◌≡◌, ◌≤◌, ◌++◌, ◌&&◌, true, length, OnOk, OnErr, IfOk};
-ghost use Rattle.field_codec.specs.Spelling.{Keeps, is_below};
+ghost use Rattle.std.specs.Prelude.{◌≡◌, ◌≤◌, ◌++◌, true, length, OnOk, OnErr, IfOk};
+ghost use Rattle.field_codec.specs.Spelling.{is_below};
 ghost use Rattle.field_codec.specs.Reading.{Gives, checked_at};
 ghost use Rattle.log_records.specs.Updates.{has_some};
 ghost use Rattle.log_records.specs.Parts.{time_at, can_put_part, is_part_spelled, part as part_bytes, part_at, part_cmp, can_put_parts, are_parts_spelled, parts as parts_bytes, parts_at, part_form};

@@ -1,4 +1,4 @@
-ghost use Rattle.std.specs.Prelude.{◌≡◌, ◌≤◌, ◌<◌, ◌+◌, ◌++◌, ◌∷◌, [], true, length, take};
+ghost use Rattle.std.specs.Prelude.{◌≡◌, ◌≤◌, ◌<◌, ◌+◌, ◌++◌, true, length, take};
 ghost use Rattle.field_codec.specs.Spelling.{number};
 ghost use Rattle.crdt_core.specs.declared.record.Record.TheVariants.{Lease, Decide, Finish, Abort};
 ghost use Rattle.crdt_core.specs.Spelled.{is_tx, tx as tx_bytes, is_vector, vector};

@@ -1,5 +1,4 @@
-ghost use Rattle.std.specs.Prelude.{◌≡◌, ◌≤◌, ◌++◌, ◌&&◌, true, length, OnOk, OnErr, IfOk};
-ghost use Rattle.field_codec.specs.Spelling.{Keeps};
+ghost use Rattle.std.specs.Prelude.{◌≡◌, ◌≤◌, ◌++◌, true, length, OnOk, OnErr, IfOk};
 ghost use Rattle.field_codec.specs.Reading.{Gives, list_at};
 ghost use Rattle.crdt_core.specs.Spelled.{between_at};
 ghost use Rattle.log_records.specs.Updates.{can_put_update, is_update_spelled, update as update_bytes, update_at, index_below, can_put_updates, are_updates_spelled, updates as updates_bytes, updates_at, update_form};
