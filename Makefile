@@ -20,7 +20,7 @@ script:
 
 # The first run reads no line: it proves and builds. Then the program plays the script, and 1 tells of a bad line.
 play: script
-	@echo 'make play: proves dc_shell and the 14 crates below it, the lowest first: about 20 minutes the first time,' >&2
+	@echo 'make play: proves dc_shell and the crates below it, the lowest first: about 20 minutes the first time,' >&2
 	@echo 'seconds where nothing has changed. "chose --jobs N for NAME" tells which crate is at hand. Then it plays the script.' >&2
 	@cd crates/dc_shell && rt run -- play < /dev/null
 	@crates/dc_shell/out/dc_shell play < "$$SCRIPT" || { status=$$?; \

@@ -1,5 +1,5 @@
 #!/usr/bin/env python3
-"""Runs a built dc_shell on a generated script, and prints lines per second and the peak memory.
+"""Runs a built dc_shell on generated scripts, of one partition and of sixteen, and prints lines per second and the peak memory.
 
     python3 bench/play/measure.py [PROGRAM] [LINES]
 
@@ -37,18 +37,19 @@ def measure(script, replies):
 
 
 def main():
-    with tempfile.TemporaryDirectory() as folder:
-        script = os.path.join(folder, "script")
-        replies = os.path.join(folder, "replies")
-        with open(script, "wb") as sink:
-            subprocess.run([sys.executable, os.path.join(HERE, "generate.py"), str(LINES)], stdout=sink, check=True)
-        print("script: %d lines, %d bytes" % (LINES, os.path.getsize(script)))
-        for _ in range(3):
-            status, seconds, peak = measure(script, replies)
-            print(
-                "status %d, %.3f s, %.0f lines a second, peak %.1f MB, replies %d bytes"
-                % (status, seconds, LINES / seconds, peak / 1024, os.path.getsize(replies))
-            )
+    for generator in ("generate.py", "generate_parts.py"):
+        with tempfile.TemporaryDirectory() as folder:
+            script = os.path.join(folder, "script")
+            replies = os.path.join(folder, "replies")
+            with open(script, "wb") as sink:
+                subprocess.run([sys.executable, os.path.join(HERE, generator), str(LINES)], stdout=sink, check=True)
+            print("%s: %d lines, %d bytes" % (generator, LINES, os.path.getsize(script)))
+            for _ in range(3):
+                status, seconds, peak = measure(script, replies)
+                print(
+                    "status %d, %.3f s, %.0f lines a second, peak %.1f MB, replies %d bytes"
+                    % (status, seconds, LINES / seconds, peak / 1024, os.path.getsize(replies))
+                )
 
 
 main()

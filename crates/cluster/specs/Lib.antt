@@ -1,3 +1,10 @@
 pub mod Held
 pub mod Reaches
 pub mod Answers
+pub mod Sees
+pub mod Live
+pub mod Built
+pub mod Reached
+pub mod History
+pub mod Acts
+pub mod Ends

@@ -18,7 +18,7 @@ use std::alloc::AllocError;
 
 impl<C: Crdt> Sites<C> {
     /// The clock of a partition reads a time, at most 2^62, and shows it unless it shows a later one. Answers what it shows.
-    pub fn tick(&mut self, at: PartId, reading: u64) -> u64
+    pub fn tick_at(&mut self, at: PartId, reading: u64) -> u64
         requires place { IsPlace self.old.sites self.old.parts at }
         requires reading { reading ≤ end_of_time }
         ensures { GoesOn (kinds_of C.laws) self.old self.new Any at (AskTick reading) (λ e. e ≡ Ticked reading result) }
@@ -32,7 +32,7 @@ impl<C: Crdt> Sites<C> {
     /// # Errors
     ///
     /// As the partition's: `StableBehind`, `ClockAtEnd`.
-    pub fn begin(&mut self, at: PartId, dependency: &VTime) -> Result<(TxId, VTime), Refusal>
+    pub fn begin_at(&mut self, at: PartId, dependency: &VTime) -> Result<(TxId, VTime), Refusal>
         requires { (who : List ℕ) × MayAsk (kinds_of C.laws) self.old at (AskBegin who dependency.now) }
         ensures { (who : List ℕ) → Answers (kinds_of C.laws) self.old self.new Any at (AskBegin who dependency.now) (λ x e. e ≡ Began who dependency.now x.0 x.1) result }
     {
@@ -45,7 +45,7 @@ impl<C: Crdt> Sites<C> {
     /// # Errors
     ///
     /// As the partition's: `ClockBehind`, `TxPending`, `NoMemory`.
-    pub fn read(
+    pub fn read_at(
         &mut self,
         at: PartId,
         tx: TxId,
@@ -67,7 +67,7 @@ impl<C: Crdt> Sites<C> {
     /// # Errors
     ///
     /// As the partition's: `ClockBehind`, `TxPending`, `NoMemory`.
-    pub fn update(
+    pub fn update_at(
         &mut self,
         at: PartId,
         tx: TxId,
@@ -91,7 +91,7 @@ impl<C: Crdt> Sites<C> {
     /// # Errors
     ///
     /// As the partition's: `ClockBehind`, `ClockAtEnd`, `NoMemory`.
-    pub fn prepare(
+    pub fn prepare_at(
         &mut self,
         at: PartId,
         tx: TxId,
@@ -111,7 +111,7 @@ impl<C: Crdt> Sites<C> {
     /// # Errors
     ///
     /// `Gone` exactly where the transaction is neither pending nor committed there.
-    pub fn decide(&mut self, at: PartId, tx: TxId, c: &VTime) -> Result<(), Refusal>
+    pub fn decide_at(&mut self, at: PartId, tx: TxId, c: &VTime) -> Result<(), Refusal>
         requires { MayAsk (kinds_of C.laws) self.old at (AskDecide tx c.now) }
         ensures { Answers (kinds_of C.laws) self.old self.new Any at (AskDecide tx c.now) (λ n e. e ≡ Decided tx c.now) result }
     {
@@ -124,7 +124,7 @@ impl<C: Crdt> Sites<C> {
     /// # Errors
     ///
     /// `Gone` exactly where the transaction is neither pending nor committed there.
-    pub fn finish(&mut self, at: PartId, tx: TxId, c: &VTime) -> Result<(), Refusal>
+    pub fn finish_at(&mut self, at: PartId, tx: TxId, c: &VTime) -> Result<(), Refusal>
         requires { MayAsk (kinds_of C.laws) self.old at (AskFinish tx c.now) }
         ensures { Answers (kinds_of C.laws) self.old self.new Any at (AskFinish tx c.now) (λ n e. e ≡ Finished tx c.now) result }
     {
@@ -137,7 +137,7 @@ impl<C: Crdt> Sites<C> {
     /// # Errors
     ///
     /// `Gone` exactly where the transaction isn't pending there.
-    pub fn abort(&mut self, at: PartId, tx: TxId) -> Result<(), Refusal>
+    pub fn abort_at(&mut self, at: PartId, tx: TxId) -> Result<(), Refusal>
         requires { MayAsk (kinds_of C.laws) self.old at (AskAbort tx) }
         ensures { Answers (kinds_of C.laws) self.old self.new Any at (AskAbort tx) (λ n e. e ≡ Aborted tx true) result }
     {
@@ -151,7 +151,7 @@ impl<C: Crdt> Sites<C> {
     /// # Errors
     ///
     /// `AllocError` where memory runs out. The cluster is as before then.
-    pub fn release(
+    pub fn release_at(
         &mut self,
         at: PartId,
         to: u8,
@@ -171,7 +171,7 @@ impl<C: Crdt> Sites<C> {
     /// # Errors
     ///
     /// As the partition's: `Gap`, `Repeat`, `NoMemory`.
-    pub fn take(
+    pub fn take_at(
         &mut self,
         at: PartId,
         number: u64,
@@ -185,7 +185,7 @@ impl<C: Crdt> Sites<C> {
     }
 
     /// Asks a partition for its bounds: how far it has come with each site.
-    pub fn report(&self, at: PartId) -> VTime
+    pub fn report_at(&self, at: PartId) -> VTime
         requires { IsPlace self.now.sites self.now.parts at }
         ensures { GoesOn (kinds_of C.laws) self.now self.now Any at AskReport (λ e. e ≡ Reported result) }
     {
@@ -195,7 +195,7 @@ impl<C: Crdt> Sites<C> {
 
     /// Hands on the report with this number among those of the partition `part` of the site. Answers how far all partitions of
     /// the site have come with each site, as this one knows.
-    pub fn hear(&mut self, at: PartId, number: u64, part: u8, bounds: &VTime) -> VTime
+    pub fn hear_at(&mut self, at: PartId, number: u64, part: u8, bounds: &VTime) -> VTime
         requires { MayAsk (kinds_of C.laws) self.old at (AskHear number part bounds.now) }
         ensures { GoesOn (kinds_of C.laws) self.old self.new Any at (AskHear number part bounds.now) (λ e. e ≡ Heard number part bounds.now result) }
     {

@@ -2,7 +2,14 @@
 //! that its rules allow is one more event of it.
 #![tactic(auto)]
 
+mod begins;
 mod calls;
+mod cluster;
+mod commits;
+mod live;
 mod sites;
+mod store;
+mod updates;
 
+pub use cluster::Cluster;
 pub use sites::Sites;

@@ -1,7 +1,7 @@
 ghost use Rattle.std.specs.Prelude.{◌≡◌, ◌<◌, ◌≤◌, ◌-◌, ◌*◌, OnOk};
 ghost use Rattle.crdt_core.specs.KindsOf.{kinds_of};
 ghost use Rattle.world_model.specs.Plan.{IsPlace};
-ghost use Rattle.cluster.specs.Held.{index_of};
+ghost use Rattle.cluster.specs.Held.{index_of, holds_site, holds_part};
 ghost use Rattle.cluster.specs.Reaches.{AreNew, Reaches};
 
 use crdt_core::Crdt;
@@ -59,6 +59,36 @@ impl<C: Crdt> Sites<C> {
             parts,
             partitions,
         })
+    }
+
+    /// The number of sites, from 1 to 8.
+    pub fn sites(&self) -> u8
+        ensures is { result ≡ self.now.sites }
+        ensures least { 1 ≤ result }
+        ensures most { result ≤ 8 }
+    {
+        self.sites
+    }
+
+    /// The number of partitions of each site, from 1 to 16.
+    pub fn parts(&self) -> u8
+        ensures is { result ≡ self.now.parts }
+        ensures least { 1 ≤ result }
+        ensures most { result ≤ 16 }
+    {
+        self.parts
+    }
+
+    pub fn has_site(&self, site: u8) -> bool
+        ensures { result ≡ holds_site self.now site }
+    {
+        1 <= site && site <= self.sites
+    }
+
+    pub fn has_part(&self, part: PartId) -> bool
+        ensures { result ≡ holds_part self.now part }
+    {
+        self.has_site(part.site) && 1 <= part.part && part.part <= self.parts
     }
 }
 

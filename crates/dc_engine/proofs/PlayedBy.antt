@@ -7,7 +7,7 @@ use Rattle.dc_engine.specs.Player.{ReachedBy}
 use Rattle.dc_engine.specs.Answered.{Answered}
 use Rattle.dc_engine.specs.Reading.{has_bad}
 use Rattle.dc_engine.specs.declared.status.Status.{Status}
-use Rattle.dc_engine.proofs.HeldState.{reached_lawful}
+use Rattle.dc_engine.proofs.Applied.{reached_answered}
 
 module _ (most : ℕ) (P Q : List (List ℕ) → List ℕ → Type 0) (f : (lines : List (List ℕ)) (bytes : List ℕ) → P lines bytes → Q lines bytes) (input left before after : Option (List ℕ)) where
   pub played_by : Played most P input left before after → Played most Q input left before after
@@ -38,7 +38,7 @@ module _ (most : ℕ) (P Q : List (List ℕ) → List ℕ → Type 0) (f : (line
   }
 
 lawful_by : (lines : List (List ℕ)) (bytes : List ℕ) → Replies ReachedBy lines bytes → Answered lines bytes
-lawful_by lines bytes r = reached_lawful r.0.machine lines bytes r.1.reached
+lawful_by lines bytes r = reached_answered r.0.cluster lines bytes r.1.reached
 
 -- where the script was read to its end, the status is by its lines
 pub finished_lawful : (most : ℕ) (done bad_line status : Status) (bad : Bool) (input left before after : Option (List ℕ)) → status ≡ (if bad then bad_line else done) → Played most (RepliesAll ReachedBy bad) input left before after

@@ -1,5 +1,5 @@
 -- What a line of a script asks for.
-use Rattle.std.specs.Prelude.{◌<◌, ◌^◌, ℕ, Bool, true, false, ◌&&◌, nat_le, List, length, Option, None, Some, if◌then◌else◌, ⊤}
+use Rattle.std.specs.Prelude.{ℕ, Bool, true, false, ◌&&◌, nat_le, List, length, Option, None, Some, if◌then◌else◌, ⊤}
 use Rattle.std.specs.Io.BufRead.{strip_last}
 use Rattle.std.specs.List.{list_any}
 use Rattle.std.specs.Str.{is_utf8}
@@ -7,9 +7,9 @@ use Rattle.script_text.specs.Line.{reading}
 use Rattle.script_text.specs.Split.{words}
 use Rattle.script_text.specs.declared.Parsed.{Parsed}
 use Rattle.script_text.specs.declared.Parsed.TheVariants as parsed
-use Rattle.world_model.specs.declared.command.Command.{Command}
-use Rattle.world_model.specs.declared.command.Command.TheVariants as command
 use Rattle.world_model.specs.Answers.{Asked, nothing, unreadable, asks}
+use Rattle.cluster.specs.Built.{IsSaid}
+use Rattle.dc_engine.specs.ObjectKinds.{kinds}
 
 -- what a line reads as: at most 4,096 bytes of UTF-8, whose words are in the grammar
 abbrev pub reading_of : List ℕ → Option Parsed
@@ -32,11 +32,7 @@ is_unreadable other = false
 abbrev pub has_bad : List (List ℕ) → Bool
 has_bad lines = list_any (λ line. is_unreadable (asked_of line)) lines
 
--- a reading of a clock is below 2^48
-abbrev pub ReadsBelow : Command → Type 0
-ReadsBelow (command.Clock p n) = n < 2 ^ 48
-ReadsBelow other = ⊤
-
-abbrev pub AsksBelow : Option Parsed → Type 0
-AsksBelow (Some (parsed.Command c)) = ReadsBelow c
-AsksBelow other = ⊤
+-- what a line asks for is what a cluster takes
+abbrev pub AsksSaid : Option Parsed → Type 0
+AsksSaid (Some (parsed.Command c)) = IsSaid kinds.has kinds.too_deep c
+AsksSaid other = ⊤

@@ -4,10 +4,8 @@
 mod blocks;
 mod edge;
 mod fault;
-mod history;
 mod kept;
 mod lines;
-mod machine;
 mod memory;
 mod objects;
 mod player;
@@ -15,11 +13,9 @@ mod read_back;
 mod reading;
 mod responder;
 mod script;
-mod sessions;
 mod sink;
 mod source;
 mod status;
-mod store;
 #[cfg(test)]
 mod tests;
 mod top;

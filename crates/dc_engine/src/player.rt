@@ -1,22 +1,23 @@
 ghost use Rattle.std.specs.Prelude.{◌≡◌, ◌++◌, [], ◌∷◌, length, take, false, true, IfOk, OnOk, OnErr};
 ghost use Rattle.std.specs.List.{flat_map};
 ghost use Rattle.std.specs.Io.BufRead.{strip_last};
-ghost use Rattle.dc_engine.specs.Reading.{reading_of, asked_as, asked_of, ReadsBelow};
+ghost use Rattle.dc_engine.specs.Reading.{reading_of, asked_as, asked_of, AsksSaid};
 ghost use Rattle.reply_text.specs.Text.{text_of};
 
-use crate::machine::{Machine, only};
+use crate::objects::Objects;
 use crate::reading::reading;
 use crate::responder::Responder;
+use cluster::Cluster;
 use reply_text::line;
 use script_text::Parsed;
 use std::alloc::{AllocError, Global};
 use world_model::Step;
 
-/// Answers the lines of a script: a machine for the commands, and whether a line wasn't in the grammar.
+/// Answers the lines of a script: the cluster that its commands work on, and whether a line wasn't in the grammar.
 #[derive(Drop)]
 pub(crate) struct Player {
     alloc: Global,
-    machine: Machine,
+    cluster: Cluster<Objects>,
     met_bad: bool,
 }
 
@@ -32,7 +33,7 @@ impl Player {
     {
         Player {
             alloc,
-            machine: Machine::new(alloc),
+            cluster: Cluster::new(alloc),
             met_bad: false,
         }
     }
@@ -42,17 +43,17 @@ impl Player {
         ensures { IfOk result (λ steps. AnswersAsked self.old (asked_of line.now) steps.items self.new) }
     {
         match reading(self.alloc, line)? {
-            Some(Parsed::Command(command)) => self.machine.answer_command(command),
+            Some(Parsed::Command(command)) => self.cluster.apply(command),
             Some(Parsed::Nothing) => Ok(Vec::new(self.alloc)),
             None => {
                 self.met_bad = true;
-                only(self.alloc, Step::Bad)
+                bad(self.alloc)
             }
         }
     }
 
     /// Answers a line, and on an error leaves at the end of `out` what was written of it.
-    #[tactic(auto, using(crate::proofs::HeldState::line_answered))]
+    #[tactic(auto, using(crate::proofs::Applied::line_answered))]
     fn write_answer(&mut self, line: &[u8], out: &mut Vec<u8>) -> Result<(), AllocError>
         ensures ok { OnOk result (AnswersLine ReachedBy self.old self.new line.now out.old.items out.new.items) }
         ensures err { OnErr result (take (length out.old.items) out.new.items ≡ out.old.items) }
@@ -95,4 +96,13 @@ fn write_lines(alloc: Global, steps: &[Step], out: &mut Vec<u8>) -> Result<(), A
         line(alloc, step, out)?;
     }
     Ok(())
+}
+
+/// The line that answers one which isn't in the grammar.
+fn bad(alloc: Global) -> Result<Vec<Step>, AllocError>
+    ensures { IfOk result (λ steps. steps.items ≡ Step.Bad ∷ []) }
+{
+    let mut steps = Vec::new(alloc);
+    steps.push(Step::Bad)?;
+    Ok(steps)
 }

@@ -1,6 +1,6 @@
 ghost use Rattle.std.specs.Prelude.{◌≡◌, IfOk};
 ghost use Rattle.std.specs.Io.BufRead.{strip_last};
-ghost use Rattle.dc_engine.specs.Reading.{reading_of, AsksBelow};
+ghost use Rattle.dc_engine.specs.Reading.{reading_of, AsksSaid};
 
 use script_text::{ParseError, Parsed, parse};
 use std::alloc::{AllocError, Global};
@@ -20,10 +20,10 @@ fn without_return(line: &[u8]) -> &[u8]
 /// # Errors
 ///
 /// `AllocError` where memory runs out.
-#[tactic(auto, using(crate::proofs::Readings::read_ok, crate::proofs::Readings::read_bad, crate::proofs::Readings::reads_below))]
+#[tactic(auto, using(crate::proofs::Readings::read_ok, crate::proofs::Readings::read_bad, crate::proofs::Readings::reads_said))]
 pub(crate) fn reading(alloc: Global, line: &[u8]) -> Result<Option<Parsed>, AllocError>
     ensures read { IfOk result (λ o. o ≡ reading_of (strip_last 13 line.now)) }
-    ensures below { IfOk result AsksBelow }
+    ensures said { IfOk result AsksSaid }
 {
     match parse(alloc, without_return(line)) {
         Ok(parsed) => Ok(Some(parsed)),

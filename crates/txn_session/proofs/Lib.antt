@@ -1,7 +1,7 @@
-mod Frames
-mod Owning
+pub mod Frames
+pub mod Owning
 mod Results
-mod Events
+pub mod Events
 mod Acting
 mod Opening
 mod Updating

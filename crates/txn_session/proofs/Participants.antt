@@ -5,7 +5,7 @@ use Rattle.std.proofs.lemmas.Bool.{cases_Bool, cond-true, cond-false, eq-eqb, eq
 use Rattle.std.proofs.lemmas.List.Folds.{list_any-append}
 use Rattle.site_vector.specs.declared.ids.PartId.{PartId}
 use Rattle.crdt_core.specs.declared.record.Upd.{Upd}
-use Rattle.world_model.specs.Participants.{partitions}
+use Rattle.world_model.specs.Cluster.{partitions}
 use Rattle.world_model.specs.Plan.{first_of, is_some_update, home, updates_at}
 use Rattle.world_model.specs.World.{snapshot_of, is_own, changes_of, participants_of, lead_of}
 use Rattle.txn_session.specs.Calls.{Call, entries}

@@ -3,10 +3,9 @@ use Rattle.std.specs.Prelude.{◌≡◌, ◌⊎◌, ℕ, Bool, true, false, ◌|
 use Rattle.site_vector.specs.declared.ids.PartId.{PartId}
 use Rattle.site_vector.specs.declared.ids.TxId.{TxId}
 use Rattle.site_vector.specs.Ids.{same_tx}
-use Rattle.crdt_core.specs.declared.record.Message.{Message}
 use Rattle.crdt_core.specs.KindsOf.{Kinds}
 use Rattle.world_model.specs.declared.step.Step.{Step}
-use Rattle.world_model.specs.Event.{Ask, AskRead, AskUpdate, AskPrepare, AskDecide, AskAbort, Event, Updated, Sent, Entry, attempt, is_prepare, is_decide, is_own_abort}
+use Rattle.world_model.specs.Event.{Ask, AskRead, AskUpdate, AskPrepare, AskDecide, AskAbort, Event, Updated, Entry, attempt, is_prepare, is_decide, is_own_abort}
 use Rattle.world_model.specs.Partition.{PartState}
 use Rattle.world_model.specs.Plan.{IsPlace}
 use Rattle.world_model.specs.World.{is_begin, IsWorldRun}
@@ -82,14 +81,10 @@ module _ {E : Type 0} where
   Within calls [] = calls ≡ []
   Within calls (c ∷ run) = Within calls run ⊎ ((rest : List (Call E)) × (calls ≡ c ∷ rest) × Within rest run)
 
-  -- the effect that an update made, and the message that was sent
+  -- the effect that an update made
   abbrev pub effect_made : Event E → Option E
   effect_made (Updated u s o own op read x stamp) = Some x.effect
   effect_made other = None
-
-  abbrev pub message_sent : Event E → Option (Message E)
-  message_sent (Sent asked m) = Some m
-  message_sent other = None
 
   module _ {S P : Type 0} (sees : S → P → List (Call E) → Type 0) (numbers : P → ℕ → Bool) where
     -- in some run that the pass has seen, this may be asked
@@ -124,10 +119,13 @@ module _ {E : Type 0} where
       pub goes : GoesOn store pass run (Some by) at ask answer
       pub effect : made ≡ effect_made goes.event
 
-    -- a request for a message, with what was sent
-    pub record Sends (store : S) (pass : P) (run : List (Call E)) (at : PartId) (ask : Ask E) (answer : Step) (message : Option (Message E)) : Type 0 where
-      pub goes : GoesOn store pass run None at ask answer
-      pub sent : message ≡ message_sent goes.event
+    -- the run goes on: others acted, and then this was done
+    pub record Did (store : S) (pass : P) (run : List (Call E)) (at : PartId) (event : Event E) : Type 0 where
+      pub more : List (Call E)
+      pub others : NoneBears (numbers pass) more
+      pub by : ℕ
+      pub held : numbers pass by ≡ true
+      pub seen : sees store pass (called by at event ∷ (more ++ run))
 
     -- what a pass has seen, another has
     pub record SeesStill (store : S) (pass : P) (run : List (Call E)) : Type 0 where

@@ -1,11 +1,11 @@
 ghost use Rattle.std.specs.Prelude.{◌≡◌, ◌≢◌, ◌+◌, ◌≤◌, ◌||◌, ℕ, Bool, true, List, Option, Some, None, IfOk, IfErr};
 ghost use Rattle.crdt_core.specs.KindsOf.{kinds_of, fits_kind};
 ghost use Rattle.crdt_core.specs.Log.{end_of_time};
-ghost use Rattle.world_model.specs.Event.{AskTick, AskBegin, AskRead, AskUpdate, AskPrepare, AskDecide, AskFinish, AskAbort, AskMessage, AskTake, AskReport, AskHear};
+ghost use Rattle.world_model.specs.Event.{AskTick, AskBegin, AskRead, AskUpdate, AskPrepare, AskDecide, AskFinish, AskAbort, AskMessage, AskTake, AskReport, AskHear, Sent, Reported};
 ghost use Rattle.world_model.specs.Plan.{update_count};
 ghost use Rattle.world_model.specs.Lines.{session_of};
 ghost use Rattle.world_model.specs.Partition.{IsOther};
-ghost use Rattle.txn_session.specs.Calls.{Call, entries, IsLegal, IsAllowed, MayCall, GoesOn, Changes, Sends, Stays, SeesStill};
+ghost use Rattle.txn_session.specs.Calls.{Call, entries, IsLegal, IsAllowed, MayCall, GoesOn, Changes, Did, Stays, SeesStill};
 
 use crdt_core::{Crdt, Message, ObjectId, Op, Upd};
 use field_codec::Text;
@@ -200,24 +200,21 @@ pub trait Store<C: Crdt> {
         ensures err { IfErr result.1 (λ e. (run : List (Call C.Effect)) → sees self.old pass run →
             Stays sees numbers self.new result.0 run) };
 
-    /// Makes a message for another site, from the bound `from` or the last one sent.
+    /// Makes a message for another site, from the bound `from` or the last one sent. Who numbers messages shows its line.
     fn release(
         &mut self,
         pass: Self::Pass,
         at: PartId,
         to: u8,
         from: Option<u64>,
-    ) -> (
-        Self::Pass,
-        Result<(Step, Option<Message<C::Effect>>), AllocError>,
-    )
+    ) -> (Self::Pass, Result<Message<C::Effect>, AllocError>)
         requires other { IsOther (sites self.old) at.site to }
         requires may { MayCall {E = C.Effect} sees numbers (sites self.old) (parts self.old) self.old pass None at
             (AskMessage to from) }
         ensures stays { stays self.old self.new }
         ensures same { (n : ℕ) → numbers result.0 n ≡ numbers pass n }
-        ensures ok { IfOk result.1 (λ r. (run : List (Call C.Effect)) → sees self.old pass run →
-            Sends sees numbers self.new result.0 run at (AskMessage to from) r.0 r.1) }
+        ensures ok { IfOk result.1 (λ m. (m.to ≡ to) × ((run : List (Call C.Effect)) → sees self.old pass run →
+            Did sees numbers self.new result.0 run at (Sent from m))) }
         ensures err { IfErr result.1 (λ e. (run : List (Call C.Effect)) → sees self.old pass run →
             Stays sees numbers self.new result.0 run) };
 
@@ -239,14 +236,14 @@ pub trait Store<C: Crdt> {
         ensures err { IfErr result.1 (λ e. (run : List (Call C.Effect)) → sees self.old pass run →
             Stays sees numbers self.new result.0 run) };
 
-    /// Asks for the bounds of a partition.
-    fn report(&mut self, pass: Self::Pass, at: PartId) -> (Self::Pass, Result<Step, AllocError>)
+    /// Asks for the bounds of a partition. Who numbers reports shows its line.
+    fn report(&mut self, pass: Self::Pass, at: PartId) -> (Self::Pass, Result<VTime, AllocError>)
         requires may { MayCall {E = C.Effect} sees numbers (sites self.old) (parts self.old) self.old pass None at
             AskReport }
         ensures stays { stays self.old self.new }
         ensures same { (n : ℕ) → numbers result.0 n ≡ numbers pass n }
-        ensures ok { IfOk result.1 (λ r. (run : List (Call C.Effect)) → sees self.old pass run →
-            GoesOn sees numbers self.new result.0 run None at AskReport r) }
+        ensures ok { IfOk result.1 (λ b. (run : List (Call C.Effect)) → sees self.old pass run →
+            Did sees numbers self.new result.0 run at (Reported b)) }
         ensures err { IfErr result.1 (λ e. (run : List (Call C.Effect)) → sees self.old pass run →
             Stays sees numbers self.new result.0 run) };
 

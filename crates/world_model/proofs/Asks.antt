@@ -1,13 +1,11 @@
 -- Whoever asks by the rule of sessions, messages and reports makes steps that the world allows.
-use Rattle.std.proofs.Common.{◌≡◌, ℕ, cond, Bool, true, false, ◌||◌, List, [], ◌∷◌, refl, sym, ap, ◌∙◌, subst}
-use Rattle.std.specs.Prelude.{filter}
+use Rattle.std.proofs.Common.{◌≡◌, ℕ, Bool, true, false, List, [], ◌∷◌, refl, ap, ◌∙◌}
 use Rattle.site_vector.specs.declared.ids.PartId.{PartId}
 use Rattle.site_vector.specs.declared.ids.TxId.{TxId}
-use Rattle.world_model.specs.Event.{AskBegin, AskRead, AskUpdate, AskPrepare, AskDecide, AskFinish, AskAbort, AskTake, Event, Began, Updated, Read, Prepared, Decided, Finished, Aborted, Took, Heard, Refused, Cut, Entry, attempt}
+use Rattle.world_model.specs.Event.{AskBegin, AskRead, AskUpdate, AskPrepare, AskDecide, AskFinish, AskTake, Event, Began, Updated, Read, Prepared, Decided, Finished, Aborted, Took, Heard, Refused, Entry, attempt}
 use Rattle.world_model.specs.Partition.{PartState}
-use Rattle.world_model.specs.Plan.{first_of, home, is_some_update, change_by, updates_at, MayAsk, IsAllowed}
-use Rattle.world_model.specs.Participants.{partitions}
-use Rattle.world_model.specs.World.{is_begin, begin_vector, snapshot_of, changes_of, lead_of, plan_of}
+use Rattle.world_model.specs.Plan.{home, is_some_update, change_by, updates_at, IsAllowed}
+use Rattle.world_model.specs.World.{is_begin, begin_vector, snapshot_of, changes_of, plan_of}
 use Rattle.world_model.specs.Asking.{MayCall, asked_by, is_own_word}
 use Rattle.std.proofs.lemmas.Bool.{cond-false}
 use Rattle.world_model.proofs.Names.{off}

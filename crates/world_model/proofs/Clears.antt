@@ -1,13 +1,12 @@
 -- A call that was cut off, or that found no room, had no other cause to be refused.
-use Rattle.std.proofs.Common.{◌≡◌, ℕ, ◌+◌, ◌<◌, ◌≤◌, Bool, true, List, [], ◌∷◌, refl, sym, ap, ◌∙◌, subst, le_trans}
+use Rattle.std.proofs.Common.{◌<◌, ◌≤◌, List, [], ◌∷◌, sym, ◌∙◌, subst, le_trans}
 use Rattle.std.proofs.lemmas.Bool.{or_left}
 use Rattle.site_vector.specs.declared.ids.PartId.{PartId}
-use Rattle.site_vector.specs.declared.ids.TxId.{TxId}
 use Rattle.site_vector.specs.Vector.{entry}
 use Rattle.crdt_core.specs.KindsOf.{Kinds}
 use Rattle.crdt_core.specs.Log.{end_of_time}
-use Rattle.world_model.specs.Event.{AskTick, AskBegin, AskRead, AskUpdate, AskPrepare, AskDecide, AskFinish, AskAbort, AskTake, IsDown, HasNoRoom, Event, Began, Updated, Read, Prepared, Decided, Finished, Aborted, Took, Refused, Cut, Entry, EventsAre, attempt, shown}
-use Rattle.world_model.specs.Partition.{PartState, IsOther, stable_entry, PartStep}
+use Rattle.world_model.specs.Event.{AskTick, AskBegin, AskRead, AskUpdate, AskPrepare, AskDecide, AskFinish, AskAbort, AskTake, IsDown, HasNoRoom, Event, Began, Updated, Read, Prepared, Decided, Finished, Aborted, Took, Refused, Cut, Entry, EventsAre, attempt}
+use Rattle.world_model.specs.Partition.{PartState, PartStep}
 use Rattle.world_model.specs.Plan.{Plan, home, IsAllowed, IsPlanned, IsRun}
 use Rattle.world_model.specs.Clear.{IsClearAt, AreClear}
 use Rattle.world_model.proofs.Intervals.{shown_has}

@@ -26,7 +26,7 @@ use Rattle.crdt_core.specs.Orders.{Ascends, stream_cmp}
 use Rattle.crdt_core.specs.Parts.{AreParts, above}
 use Rattle.crdt_core.specs.Log.{lease_for}
 use Rattle.world_model.specs.Plan.{Plan, first_of, twin, takes_part, commit_vector, IsPlace, IsAllowed, MayPrepare, MayDecide, MayFinish, MayTake, IsRun}
-use Rattle.world_model.specs.Participants.{partitions}
+use Rattle.world_model.specs.Cluster.{partitions}
 use Rattle.world_model.specs.WorldLaw.{IsExact}
 use Rattle.world_model.proofs.Names.{clash, off, part_cases, entry_same, entry_cases, join_below}
 use Rattle.world_model.proofs.Parts.{lists_above, above_parts}

@@ -132,10 +132,6 @@ module _ {E : Type 0} where
       assoc true b c = refl
       assoc false b c = refl
 
-  precede_append : (x : Part E) (xs ys : List (Part E)) → Precede fold_cmp x (xs ++ ys) → Precede fold_cmp x ys
-  precede_append x [] ys h = h
-  precede_append x (z ∷ xs) ys h = precede_append x xs ys h.1
-
   pub ascends_append : (xs ys : List (Part E)) → Ascends fold_cmp (xs ++ ys) → Ascends fold_cmp ys
   ascends_append [] ys h = h
   ascends_append (x ∷ xs) ys h = ascends_append xs ys h.1

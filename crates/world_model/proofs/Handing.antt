@@ -7,7 +7,7 @@ use Rattle.site_vector.specs.declared.ids.TxId.{TxId}
 use Rattle.site_vector.specs.Ids.{same_part, same_tx}
 use Rattle.site_vector.specs.Order.{same_part_is, same_tx_is, same_tx_refl}
 use Rattle.crdt_core.specs.declared.record.Upd.{Upd}
-use Rattle.world_model.specs.Event.{AskBegin, AskRead, AskUpdate, AskPrepare, AskDecide, AskTake, Event, Began, Updated, Read, Prepared, Took, Heard, Refused, Cut, Entry, attempt, WasShown, EventsAre}
+use Rattle.world_model.specs.Event.{AskRead, AskUpdate, AskPrepare, AskDecide, AskTake, Event, Began, Updated, Read, Prepared, Took, Heard, Refused, Cut, Entry, attempt, WasShown, EventsAre}
 use Rattle.crdt_core.specs.KindsOf.{Kinds}
 use Rattle.world_model.specs.Partition.{PartState, PartStep}
 use Rattle.world_model.specs.Plan.{Plan, home, is_some_update, change_by, updates_at, IsPlace, IsAllowed, IsPlanned, IsRun}

@@ -1,19 +1,18 @@
 -- The law of the world: what every run keeps.
 use Rattle.std.proofs.Common.{◌≡◌, ⊎_elim, ℕ, ◌+◌, ◌-◌, ◌<◌, ◌≤◌, max, cond, Bool, true, false, List, [], ◌∷◌, refl, sym, ap, ◌∙◌, subst, arith, le_trans}
-use Rattle.std.specs.Prelude.{◌==◌, slice_index, replicate}
-use Rattle.std.specs.Str.{bytes_eq}
+use Rattle.std.specs.Prelude.{◌==◌, slice_index}
 use Rattle.std.proofs.lemmas.List.Folds.{list_all-append}
 use Rattle.std.proofs.lemmas.Bool.{cases_eq, cases_lt, or_cases, and_from, eq-eqb}
 use Rattle.site_vector.specs.declared.ids.PartId.{PartId}
 use Rattle.site_vector.specs.declared.ids.TxId.{TxId}
 use Rattle.site_vector.specs.Ids.{same_part, same_tx}
 use Rattle.site_vector.specs.Order.{same_part_is, same_tx_is}
-use Rattle.site_vector.specs.Vector.{entry, join}
+use Rattle.site_vector.specs.Vector.{entry}
 use Rattle.crdt_core.specs.Placing.{place_of}
 use Rattle.crdt_core.specs.Log.{end_of_time}
 use Rattle.crdt_core.specs.Fitting.{stand_at}
 use Rattle.world_model.specs.Past.{joined, ShowsVector, WasVector, WereVectors}
-use Rattle.world_model.specs.Event.{Event, Began, Updated, Prepared, Decided, Opened, Entry, attempt, is_prepare, time_shown, time_of}
+use Rattle.world_model.specs.Event.{Event, Began, Updated, Prepared, Decided, Entry, attempt, is_prepare, time_shown, time_of}
 use Rattle.crdt_core.specs.KindsOf.{Kinds}
 use Rattle.world_model.specs.Partition.{PartState, IsOther, IsBegin, PartStep}
 use Rattle.world_model.specs.Plan.{Plan, home, twin, is_some_update, takes_part, change_by, updates_at, IsPlace, IsAllowed}

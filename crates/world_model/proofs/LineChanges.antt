@@ -15,7 +15,7 @@ use Rattle.crdt_core.specs.Objects.{same_object}
 use Rattle.crdt_core.specs.Parts as part_list
 use Rattle.world_model.specs.Event.{IsDown, Event, Updated, Decided, Refused, Cut, Entry, shown}
 use Rattle.world_model.specs.Plan.{Plan, first_of, home, is_some_update, change_by, updates_at, update_count}
-use Rattle.world_model.specs.Participants.{partitions}
+use Rattle.world_model.specs.Cluster.{partitions}
 use Rattle.world_model.specs.Handed.{HandedAt, AreHanded, IsNew, AreNew}
 use Rattle.world_model.specs.Meaning.{Asked, asked_by, asked_at}
 use Rattle.world_model.specs.Lines.{call_of, step_shown, lines_of}

@@ -9,7 +9,7 @@ use Rattle.site_vector.specs.Order.{same_part_is}
 use Rattle.site_vector.specs.Vector.{le, entry, join, replaced}
 use Rattle.crdt_core.specs.declared.record.Message.{Message}
 use Rattle.world_model.specs.Event.{IsDown, Event, Ticked, Began, Prepared, Decided, Sent, Reported, Heard, Refused, Cut, Entry, attempt, is_decide, decide_tried, shows_decided, is_decided, is_prepare, time_shown, time_of, shown_after, shown, missed_after, missed, voted, is_sent, sent_count, is_report, report_count, WasNumbered}
-use Rattle.world_model.specs.World.{is_begin, begin_vector, begun, snapshot_of}
+use Rattle.world_model.specs.World.{is_begin, begin_vector, snapshot_of}
 use Rattle.world_model.specs.Past as events
 use Rattle.world_model.specs.WorldLaw.{ClockIs, ClocksAre}
 use Rattle.world_model.specs.Shown as told
@@ -64,17 +64,6 @@ module _ {E : Type 0} where
   pub in_history_is : (run : List (Entry E)) (t : TxId) → past.in_history (lines_of run) t ≡ is_decided run t
   in_history_is [] t = refl
   in_history_is (e ∷ run) t = λ i. (decides_here run e.at t e.event i || in_history_is run t i)
-
-  begins_here : (run : List (Entry E)) (p : PartId) (t : TxId) (event : Event E) → past.begins (step_shown run p event) t ≡ is_begin event t
-  begins_here run p t (Refused asked IsDown) = refl
-  begins_here run p t (Refused asked why) = refl
-  begins_here run p t (Cut (Decided u c)) = refl
-  begins_here run p t (Cut a) = refl
-  begins_here run p t event = refl
-
-  pub begun_is : (run : List (Entry E)) (t : TxId) → past.is_begun (lines_of run) t ≡ begun run t
-  begun_is [] t = refl
-  begun_is (e ∷ run) t = λ i. (begins_here run e.at t e.event i || begun_is run t i)
 
   snapshot_here : (run : List (Entry E)) (p : PartId) (t : TxId) (old : List ℕ) (event : Event E) → past.snapshot_after t old (step_shown run p event) ≡ cond (is_begin event t) (begin_vector event) old
   snapshot_here run p t old (Refused asked IsDown) = refl

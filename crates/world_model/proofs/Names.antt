@@ -4,9 +4,8 @@ use Rattle.std.specs.Prelude.{slice_index, slice_index_or, slice_set}
 use Rattle.std.proofs.lemmas.Bool.{cases_Bool, and_from, and_parts, leb-true, le-leb, cases_eq, cases_lt, false_from_ne_true}
 use Rattle.std.proofs.lemmas.List.{get_or-set_same, get_or-set_other}
 use Rattle.site_vector.specs.declared.ids.PartId.{PartId}
-use Rattle.site_vector.specs.declared.ids.TxId.{TxId}
-use Rattle.site_vector.specs.Ids.{same_part, same_tx}
-use Rattle.site_vector.specs.Order.{same_part_is, same_part_refl, same_tx_refl}
+use Rattle.site_vector.specs.Ids.{same_part}
+use Rattle.site_vector.specs.Order.{same_part_is, same_part_refl}
 use Rattle.site_vector.specs.Vector.{le, entry, join, replaced}
 use Rattle.site_vector.specs.Known.{vector_of}
 use Rattle.site_vector.specs.Known.{lowest}
@@ -28,9 +27,6 @@ part_same p q e = subst (λ x. same_part p x ≡ true) e (same_part_refl p)
 
 pub part_other : (p q : PartId) → (p ≡ q → ⊥) → same_part p q ≡ false
 part_other p q ne = false_from_ne_true _ (λ h. ne (same_part_is p q h))
-
-pub tx_same : (t u : TxId) → t ≡ u → same_tx t u ≡ true
-tx_same t u e = subst (λ x. same_tx t x ≡ true) e (same_tx_refl t)
 
 pub le_at : (u v : List ℕ) (i : ℕ) → le u v ≡ true → slice_index u i ≤ slice_index v i
 le_at [] v i h = omega arith

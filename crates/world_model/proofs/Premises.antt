@@ -1,18 +1,18 @@
 -- What a partition's next call may rest on, in any run of the world.
-use Rattle.std.proofs.Common.{◌≡◌, ⊎_elim, inl, inr, ℕ, ◌<◌, ◌≤◌, Bool, true, false, ◌&&◌, ◌||◌, List, [], ◌∷◌, Option, refl, sym, ap, ◌∙◌, subst, arith}
-use Rattle.std.proofs.lemmas.Bool.{or_left, or_right, or_cases, and_parts, and_from, false_from_ne_true}
+use Rattle.std.proofs.Common.{◌≡◌, ⊎_elim, ℕ, true, false, ◌||◌, List, [], ◌∷◌, Option, sym, ap, ◌∙◌, subst, arith}
+use Rattle.std.proofs.lemmas.Bool.{or_left, or_right, or_cases, and_parts, false_from_ne_true}
 use Rattle.site_vector.specs.declared.ids.PartId.{PartId}
 use Rattle.site_vector.specs.declared.ids.TxId.{TxId}
-use Rattle.site_vector.specs.Ids.{same_part, same_tx}
-use Rattle.site_vector.specs.Order.{same_part_refl, same_tx_is, same_tx_refl}
+use Rattle.site_vector.specs.Ids.{same_tx}
+use Rattle.site_vector.specs.Order.{same_tx_is}
 use Rattle.crdt_core.specs.declared.record.Message.{Message}
 use Rattle.crdt_core.specs.declared.record.Record.{Record}
 use Rattle.crdt_core.specs.KindsOf.{Kinds}
 use Rattle.crdt_core.specs.Parts.{lists}
-use Rattle.crdt_core.specs.Log.{prepared, pending, committed, last_decided, is_named_in}
-use Rattle.world_model.specs.Event.{AskRead, AskUpdate, AskPrepare, Event, Began, Updated, Read, Prepared, Decided, Finished, Aborted, Sent, Took, Restarted, Refused, Cut, Entry, attempt, is_prepare, is_named, tried, voted, shown, is_decided, WasShown, sent_count}
+use Rattle.crdt_core.specs.Log.{prepared, pending, committed}
+use Rattle.world_model.specs.Event.{AskRead, AskUpdate, AskPrepare, Event, Began, Updated, Read, Prepared, Decided, Finished, Aborted, Sent, Took, Restarted, Refused, Cut, Entry, attempt, is_named, voted, is_decided, WasShown, sent_count}
 use Rattle.world_model.specs.Partition.{PartState, Finds, IsMessage, names_pending, PartStep}
-use Rattle.world_model.specs.Plan.{Plan, home, twin, takes_part, IsPlace, IsAllowed, MayTake, MayPrepare, IsRun}
+use Rattle.world_model.specs.Plan.{Plan, home, twin, takes_part, IsAllowed, MayTake}
 use Rattle.world_model.specs.World.{begun, lead_of, plan_of, IsWorldRun}
 use Rattle.world_model.specs.Premises.{names, is_told_of, Premises}
 use Rattle.world_model.proofs.Names.{clash, off}
@@ -21,7 +21,7 @@ use Rattle.world_model.proofs.Fate.{pending_parts, voted_tried, decided_committe
 use Rattle.world_model.proofs.Later.{full_now}
 use Rattle.world_model.proofs.Intervals.{numbered_shown}
 use Rattle.world_model.proofs.Kept.{Kept, law_plan}
-use Rattle.world_model.proofs.Fitted.{Good, good_run, named_good, unheld}
+use Rattle.world_model.proofs.Fitted.{good_run, named_good, unheld}
 use Rattle.world_model.proofs.Whole.{suffix_all, all_fresh, world_leases, fits, part_begun, tried_begun, begun_time, shown_begun}
 use Rattle.world_model.proofs.Law.{kept_here, plan_fits}
 

@@ -1,11 +1,11 @@
 -- The trace of a partition in a run of the world.
-use Rattle.std.proofs.Common.{◌≡◌, ⊎_elim, ℕ, cond, true, false, List, [], ◌∷◌, refl, sym, ap, ◌∙◌, subst}
+use Rattle.std.proofs.Common.{◌≡◌, ⊎_elim, ℕ, true, false, List, [], ◌∷◌, sym, subst}
 use Rattle.std.proofs.lemmas.Bool.{cases_Bool, cond-true, cond-false}
 use Rattle.site_vector.specs.declared.ids.PartId.{PartId}
 use Rattle.site_vector.specs.Ids.{same_part}
 use Rattle.site_vector.specs.Order.{same_part_is, same_part_refl}
 use Rattle.crdt_core.specs.KindsOf.{Kinds}
-use Rattle.world_model.specs.Event.{Event, Entry}
+use Rattle.world_model.specs.Event.{Entry}
 use Rattle.world_model.specs.Partition.{PartState, PartStep}
 use Rattle.world_model.specs.World.{IsWorldRun}
 use Rattle.world_model.specs.Traces.{trace_of, IsTrace}

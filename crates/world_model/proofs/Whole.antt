@@ -8,7 +8,7 @@ use Rattle.site_vector.specs.Ids.{same_part, same_tx}
 use Rattle.site_vector.specs.Order.{same_part_refl, same_tx_is, same_tx_refl}
 use Rattle.site_vector.specs.Vector.{replaced}
 use Rattle.crdt_core.specs.declared.record.Upd.{Upd}
-use Rattle.world_model.specs.Participants.{partitions}
+use Rattle.world_model.specs.Cluster.{partitions}
 use Rattle.crdt_core.specs.Log.{end_of_time, ceiling, prepared, pending, committed}
 use Rattle.world_model.specs.Event.{AskPrepare, AskFinish, AskTake, Refused, Event, Began, Updated, Read, Prepared, Decided, Finished, Aborted, Took, Heard, Cut, Entry, attempt, is_prepare, tried, voted, shown, shown_after, time_of, is_decided, WasShown}
 use Rattle.crdt_core.specs.KindsOf.{Kinds}
@@ -22,10 +22,6 @@ use Rattle.world_model.proofs.Fate.{pending_parts, voted_tried}
 use Rattle.world_model.proofs.Later.{full_now}
 use Rattle.world_model.proofs.Leases.{Clock, Leases, leases_step, rises}
 use Rattle.world_model.proofs.Kept.{Kept, law_plan}
-
-or_none : (x y : Bool) → x ≡ false → (x || y) ≡ y
-or_none true y e = absurd (clash refl e)
-or_none false y e = refl
 
 module _ {E : Type 0} where
   abbrev pub IsSuffix : List (Entry E) → List (Entry E) → Type 0

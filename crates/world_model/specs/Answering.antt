@@ -1,6 +1,6 @@
 -- Which refusals may answer which call. That a log is damaged answers none: a restart finds what the run wrote. Nor does that an
 -- operation is none of its kind: a session refuses it before it asks a partition.
-use Rattle.std.specs.Prelude.{◌≡◌, Bool, true, false, not, ◌&&◌, List, [], ◌∷◌, ⊤}
+use Rattle.std.specs.Prelude.{◌≡◌, Bool, true, false, not, List, [], ◌∷◌, ⊤}
 use Rattle.world_model.specs.Event.{Ask, AskTick, AskBegin, AskRead, AskUpdate, AskPrepare, AskDecide, AskFinish, AskAbort, AskTake, is_restart, Refusal, IsDown, ClockBehind, TxPending, StableBehind, ClockAtEnd, IsGone, HasGap, IsRepeat, HasNoRoom, Event, Updated, Read, Refused, Cut, Entry}
 use Rattle.site_vector.specs.declared.ids.PartId.{PartId}
 use Rattle.crdt_core.specs.KindsOf.{Kinds, fits_kind}

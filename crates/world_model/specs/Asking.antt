@@ -1,7 +1,6 @@
 -- What a session, or who hands on messages and reports, may ask of a partition: by what a run shows and by what is asked alone.
 use Rattle.std.specs.Prelude.{◌≡◌, ℕ, Bool, true, false, List, ◌∷◌, ⊤}
 use Rattle.site_vector.specs.declared.ids.PartId.{PartId}
-use Rattle.site_vector.specs.declared.ids.TxId.{TxId}
 use Rattle.world_model.specs.Event.{Ask, AskBegin, AskRead, AskUpdate, AskPrepare, AskDecide, AskFinish, AskAbort, AskTake, AskHear, Event, Aborted, Refused, Entry, attempt, ask_of, tried, decide_tried}
 use Rattle.world_model.specs.Past.{IsKnownJoin}
 use Rattle.world_model.specs.Partition.{PartState}

@@ -73,8 +73,3 @@ after (Finishing (p ∷ left) n) s = after_finish p left n s
 after (Finishing [] n) s = (Finishing [] n, next.Go)
 after (Aborting (p ∷ left)) s = (Aborting left, next.Go)
 after (Aborting []) s = (Aborting [], next.Go)
-
--- how it stands after these answers, the first first
-abbrev pub after_all : Going → List Step → Going
-after_all g [] = g
-after_all g (s ∷ ss) = after_all (after g s).0 ss

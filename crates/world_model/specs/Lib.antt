@@ -3,12 +3,8 @@ pub mod Event
 pub mod Past
 pub mod Partition
 pub mod Cluster
-pub mod Times
-pub mod Sessions
-pub mod Participants
 pub mod Refusals
 pub mod Answers
-pub mod CommandCauses
 pub mod Plan
 pub mod WorldLaw
 pub mod Meaning

@@ -1,5 +1,5 @@
 -- What a command of a script meets before any partition is asked: its refusals in their order, by the run before.
-use Rattle.std.specs.Prelude.{ℕ, ◌+◌, ◌-◌, Bool, true, false, not, ◌||◌, ◌==◌, if◌then◌else◌, List, [], ◌∷◌, Option, None, Some, is_none}
+use Rattle.std.specs.Prelude.{ℕ, ◌+◌, ◌-◌, Bool, false, not, ◌||◌, ◌==◌, if◌then◌else◌, List, [], ◌∷◌, Option, None, Some, is_none}
 use Rattle.std.specs.Str.{bytes_eq}
 use Rattle.site_vector.specs.declared.ids.PartId.{PartId}
 use Rattle.crdt_core.specs.Fits.{fits}

@@ -1,33 +1,20 @@
 -- The state of a partition, and what each of its calls may answer and leave.
-use Rattle.std.specs.Prelude.{◌≡◌, ◌≢◌, ◌⊎◌, ℕ, zero, suc, ◌+◌, ◌-◌, ◌<◌, ◌≤◌, max, min, leb, ltb, Bool, true, false, not, ◌&&◌, ◌||◌, ◌==◌, if◌then◌else◌, List, [], ◌∷◌, ◌++◌, length, replicate, Option, None, Some, slice_index_or, slice_set, ⊤}
+use Rattle.std.specs.Prelude.{◌≡◌, ◌≢◌, ◌⊎◌, ℕ, ◌+◌, ◌-◌, ◌<◌, ◌≤◌, max, leb, ltb, Bool, true, false, ◌&&◌, ◌||◌, ◌==◌, if◌then◌else◌, List, [], ◌∷◌, ◌++◌, length, replicate, Option, None, Some, slice_set, ⊤}
 use Rattle.std.specs.List.{list_any}
-use Rattle.std.specs.Ordering.{nat_cmp, ordering_then}
-use Rattle.std.specs.declared.cmp.Ordering.{Ordering}
 use Rattle.std.specs.declared.cmp.Ordering.TheVariants.{Less}
 use Rattle.site_vector.specs.declared.ids.PartId.{PartId}
 use Rattle.site_vector.specs.declared.ids.TxId.{TxId}
-use Rattle.site_vector.specs.declared.ids.Dot.{Dot}
 use Rattle.site_vector.specs.Ids.{same_tx}
-use Rattle.site_vector.specs.Order.{tx_cmp}
 use Rattle.site_vector.specs.Known.{vector_of, lowest}
 use Rattle.site_vector.specs.Vector.{entry, join, replaced}
-use Rattle.crdt_core.specs.declared.kind.Kind.{Kind}
-use Rattle.crdt_core.specs.declared.object.Field.{Field}
 use Rattle.crdt_core.specs.declared.object.ObjectId.{ObjectId}
-use Rattle.crdt_core.specs.declared.operation.Act.{Act}
 use Rattle.crdt_core.specs.declared.operation.Op.{Op}
-use Rattle.crdt_core.specs.declared.value.Value.{Value}
 use Rattle.crdt_core.specs.declared.record.Upd.{Upd}
 use Rattle.crdt_core.specs.declared.record.Part.{Part}
 use Rattle.crdt_core.specs.declared.record.Message.{Message}
 use Rattle.crdt_core.specs.declared.record.Record.{Record}
-use Rattle.crdt_core.specs.declared.record.Record.TheVariants.{Lease, Prepare, Decide, Finish, Abort, Batch}
-use Rattle.crdt_core.specs.Objects.{same_object}
+use Rattle.crdt_core.specs.declared.record.Record.TheVariants.{Prepare, Decide, Finish, Abort, Batch}
 use Rattle.crdt_core.specs.Kinds.{reads_state}
-use Rattle.crdt_core.specs.Fits.{fits}
-use Rattle.crdt_core.specs.Seen.{Update}
-use Rattle.crdt_core.specs.History.{folded}
-use Rattle.crdt_core.specs.Law.{KeepsLaw}
 use Rattle.crdt_core.specs.KindsOf.{Kinds, fits_kind}
 use Rattle.crdt_core.specs.Folds.{IsFold, state_read}
 use Rattle.crdt_core.specs.Orders.{Ascends, pending_cmp, stream_cmp}

@@ -18,8 +18,3 @@ Run = List Line
 abbrev pub lines_of : (ℕ → Step → List ℕ) → Run → List ℕ
 lines_of text [] = []
 lines_of text (e ∷ run) = lines_of text run ++ text e.number e.step
-
--- each line has this property, of the lines before it, the command and the step
-abbrev pub EachLine : (Run → Option Command → Step → Type 0) → Run → Type 0
-EachLine P [] = Unit {0}
-EachLine P (e ∷ run) = P run e.command e.step × EachLine P run

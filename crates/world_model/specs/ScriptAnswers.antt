@@ -1,6 +1,6 @@
 -- The run of a cluster answers its script. What a command meets before any partition is asked is told by the run before; what a
 -- partition answers is exact by the law of lines, over the calls of the run.
-use Rattle.std.specs.Prelude.{◌≡◌, ◌≢◌, ℕ, ◌+◌, ◌-◌, Bool, true, false, List, [], ◌∷◌, length, Option, None, Some, ⊤}
+use Rattle.std.specs.Prelude.{◌≡◌, ◌≢◌, ℕ, ◌+◌, ◌-◌, Bool, true, false, ◌&&◌, List, [], ◌∷◌, length, Option, None, Some, ⊤}
 use Rattle.world_model.specs.declared.command.Command.{Command}
 use Rattle.world_model.specs.declared.command.Command.TheVariants as command
 use Rattle.world_model.specs.declared.commit.Next.{Next}
@@ -14,15 +14,20 @@ use Rattle.world_model.specs.CommitSteps.{Going, given_up, is_done, after}
 use Rattle.world_model.specs.Phases.{going_of, phase}
 use Rattle.world_model.specs.Messages.{messages, reports}
 use Rattle.world_model.specs.Meeting.{met}
+use Rattle.world_model.specs.ScriptCalls.{is_answer}
 
 -- until there are disks no partition fails, is down or runs out of room
+abbrev pub is_sound : Step → Bool
+is_sound (step.Down p) = false
+is_sound (step.Disk p) = false
+is_sound (step.Unsure t) = false
+is_sound (step.Damaged p at) = false
+is_sound (step.Full room) = false
+is_sound other = true
+
+-- a partition that is up gave this line
 abbrev pub is_up : Step → Bool
-is_up (step.Down p) = false
-is_up (step.Disk p) = false
-is_up (step.Unsure t) = false
-is_up (step.Damaged p at) = false
-is_up (step.Full room) = false
-is_up other = true
+is_up s = is_answer s && is_sound s
 
 -- the line names the session, the message or the report of its command; a new message or report has the next number
 abbrev pub Bears : Run → Command → Step → Type 0

@@ -10,7 +10,7 @@ use Rattle.crdt_core.specs.Objects.{same_object}
 use Rattle.crdt_core.specs.Placing.{place_of}
 use Rattle.world_model.specs.declared.step.Step.{Step}
 use Rattle.world_model.specs.declared.step.Step.TheVariants as step
-use Rattle.world_model.specs.Participants.{partitions}
+use Rattle.world_model.specs.Cluster.{partitions}
 use Rattle.world_model.specs.Plan.{first_of, home}
 use Rattle.world_model.specs.Lines.{Call, ReadOf, UpdateOf, Line}
 use Rattle.world_model.specs.Clock.{now}

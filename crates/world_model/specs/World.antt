@@ -5,7 +5,7 @@ use Rattle.site_vector.specs.declared.ids.PartId.{PartId}
 use Rattle.site_vector.specs.declared.ids.TxId.{TxId}
 use Rattle.site_vector.specs.Ids.{same_tx}
 use Rattle.crdt_core.specs.declared.record.Upd.{Upd}
-use Rattle.world_model.specs.Participants.{partitions}
+use Rattle.world_model.specs.Cluster.{partitions}
 use Rattle.world_model.specs.Event.{Event, Began, Entry}
 use Rattle.crdt_core.specs.KindsOf.{Kinds}
 use Rattle.world_model.specs.Partition.{PartState, new_part}

@@ -1,0 +1,181 @@
+-- How the begin of a transaction answers its command.
+use Rattle.std.proofs.Common.{◌≡◌, ◌≤◌, ℕ, Bool, true, false, List, [], ◌∷◌, refl, sym, ap, ◌∙◌, subst, Option, None, Some, arith}
+use Rattle.std.specs.Prelude.{not, ◌&&◌, nat_le}
+use Rattle.std.specs.Str.{bytes_eq}
+use Rattle.std.proofs.lemmas.Bool.{cond-true, eqb-true, leb-true, and_parts}
+use Rattle.site_vector.specs.Vector.{join}
+use Rattle.site_vector.specs.declared.ids.PartId.{PartId}
+use Rattle.crdt_core.specs.KindsOf.{Kinds}
+use Rattle.world_model.specs.declared.command.Command.TheVariants as command
+use Rattle.world_model.specs.declared.step.Step.{Step}
+use Rattle.world_model.specs.declared.step.Step.TheVariants as step
+use Rattle.world_model.specs.Answers.{answered}
+use Rattle.world_model.specs.Asking.{asked_by}
+use Rattle.world_model.specs.Cluster.{sites_of, parts_of}
+use Rattle.world_model.specs.CommitSteps.{Going, Preparing, Finishing, Aborting}
+use Rattle.world_model.specs.Dependency as lines
+use Rattle.world_model.specs.Event.{AskBegin, IsDown, Event, Began, Refused, Cut, Entry, attempt}
+use Rattle.world_model.specs.Lines.{Begin, step_shown}
+use Rattle.world_model.specs.Meeting.{begin_place, is_at, is_elsewhere, lacks_part, site_of, site_or_none}
+use Rattle.world_model.specs.Past.{dependency_after}
+use Rattle.world_model.specs.Phases as phases
+use Rattle.world_model.specs.Phases.{Phase, phase, phase_after, update_total}
+use Rattle.world_model.specs.Run.{Run}
+use Rattle.world_model.specs.ScriptAnswers.{is_up, Bears, AnswersBy, IsAnswer}
+use Rattle.world_model.specs.ScriptCalls.{calls_of}
+use Rattle.world_model.proofs.Names.{off}
+use Rattle.txn_session.specs.Calls.{entries}
+use Rattle.txn_session.specs.Opens.{IsOpened}
+use Rattle.txn_session.specs.declared.phase.Phase.{Phase as Stage}
+use Rattle.txn_session.specs.Session as session
+use Rattle.txn_session.specs.Session.{Doing, Idle, Open, Ending, SessionState, place_in}
+use Rattle.cluster.specs.Acts.{Acts, Begins}
+use Rattle.cluster.specs.Built.{is_built}
+use Rattle.cluster.specs.Held.{Held, holds_place}
+use Rattle.cluster.specs.Live.{LiveState, session_in, phase_in, phase_about, is_idle_phase, are_idle, is_of_site, stands_in, number_of}
+use Rattle.cluster.specs.Reached.{phase_as, StandsBy, ReachedLive, Applies}
+use Rattle.cluster.specs.Sees.{is_calm}
+use Rattle.cluster.proofs.Clocks.{part_in}
+use Rattle.cluster.proofs.Meets.{all_met, first_at, none_due, refused, lacks_session, has_session, idle_is, by_name}
+use Rattle.cluster.proofs.Sessions.{IsThere, turns, acted, own_name}
+use Rattle.cluster.proofs.Turned.{line_up}
+
+module _ {E : Type 0} where
+  pub idle_phase : (d : Doing E) → is_idle_phase (session.phase_of d) ≡ session.is_idle d
+  idle_phase Idle = refl
+  idle_phase (Open txn) = refl
+  idle_phase (Ending txn lead commit) = by_going commit.going
+    where
+      by_going : (g : Going) → is_idle_phase (session.phase_in g) ≡ false
+      by_going (Preparing voted left n) = refl
+      by_going (Finishing left n) = refl
+      by_going (Aborting left) = refl
+
+  -- a session that is there, and idle or not
+  pub record IsDoing (o : Option (SessionState E)) (idle : Bool) : Type 0 where
+    pub found : SessionState E
+    pub is : o ≡ Some found
+    pub so : session.is_idle found.doing ≡ idle
+
+  pub doing_about : (o : Option (SessionState E)) (p : Stage) (idle : Bool) → phase_about o ≡ Some p → is_idle_phase p ≡ idle → IsDoing o idle
+  doing_about None p idle h k = absurd cc
+  doing_about (Some s) p idle h k = let e : session.phase_of s.doing ≡ p = cc in record { found = s; is = refl; so = sym (idle_phase s.doing) ∙ (ap is_idle_phase e ∙ k) }
+
+  -- what a begin leaves of its session
+  pub record IsBegun (events : List (Entry E)) (at : PartId) (old new : SessionState E) (e : Event E) (answer : Step) : Type 0 where
+    pub there : IsThere old new
+    pub few : update_total (phase_as new.doing) ≤ 256
+    pub phase : (parts : ℕ) (part : Option PartId) (p : Phase) → p ≡ phase_as old.doing → phase_after parts old.name p (Some (command.Begin old.name part)) answer ≡ phase_as new.doing
+    pub depends : (n : ℕ) → new.dependency ≡ dependency_after n events old.name old.dependency e
+    pub bears : (run : Run) (part : Option PartId) → Bears run (command.Begin old.name part) answer
+
+  same_there : (old new : SessionState E) → new ≡ old → IsThere old new
+  same_there old new e = record { name = ap (λ y. y.name) e; site = ap (λ y. y.site) e; sites = ap (λ y. y.sites) e; parts = ap (λ y. y.parts) e }
+
+  pub begun : (events : List (Entry E)) (at : PartId) (old new : SessionState E) (e : Event E) → asked_by (attempt e) ≡ AskBegin old.name old.dependency → is_calm e ≡ true → IsOpened old (step_shown events at e) new → session.is_idle old.doing ≡ true → update_total (phase_as old.doing) ≤ 256 → IsBegun events at old new e (step_shown events at e)
+  begun events at old new (Began who dep t s) a c o idle few =
+      let ew : who ≡ old.name = cc in
+      let same : bytes_eq who old.name ≡ true = ap (λ n. bytes_eq n old.name) ew ∙ own_name old.name in record {
+        there = record { name = ap (λ y. y.name) o.1; site = ap (λ y. y.site) o.1; sites = ap (λ y. y.sites) o.1; parts = ap (λ y. y.parts) o.1 };
+        few = subst (λ (y : SessionState E). update_total (phase_as y.doing) ≤ 256) (sym o.1) (omega arith);
+        phase = λ parts part p h. cond-true (bytes_eq who old.name) (phases.Open t s []) p same ∙ ap (λ y. phase_as y.doing) (sym o.1);
+        depends = λ n. ap (λ y. y.dependency) o.1 ∙ sym (cond-true (bytes_eq who old.name) (join old.dependency s) old.dependency same);
+        bears = λ run part. ew;
+      }
+  begun events at old new (Cut what) a c o idle few = off c
+  begun events at old new (Refused q IsDown) a c o idle few = off c
+  begun events at old new (Refused q why) a c o idle few = record {
+    there = same_there old new o;
+    few = subst (λ (y : SessionState E). update_total (phase_as y.doing) ≤ 256) (sym o) few;
+    phase = λ parts part p h. h ∙ ap (λ y. phase_as y.doing) (sym o);
+    depends = λ n. ap (λ y. y.dependency) o;
+    bears = λ run part. tt;
+  }
+  begun events at old new other a c o idle few = absurd cc
+
+module _ {S E : Type 0} (kinds : Kinds S E) (c : LiveState E) (name : List ℕ) (part : Option PartId) where
+  lacks_in : (run : Run) → ReachedLive kinds c run → lacks_part run part ≡ not (holds_place c.sites part)
+  lacks_in run r = by_part part
+    where
+      by_part : (o : Option PartId) → lacks_part run o ≡ not (holds_place c.sites o)
+      by_part None = refl
+      by_part (Some p) = ap not (sym (part_in kinds c run r p))
+
+  elsewhere_in : (run : Run) (r : ReachedLive kinds c run) (s : SessionState E) → session_in c.sessions name ≡ Some s → is_elsewhere run name part ≡ not (stands_in c.sessions name part)
+  elsewhere_in run r s is = by_part part
+    where
+      at : site_of run name ≡ Some s.site
+      at = (by_name kinds c run r name s is).site
+
+      by_part : (o : Option PartId) → is_elsewhere run name o ≡ not (stands_in c.sessions name o)
+      by_part None = refl
+      by_part (Some p) = ap (λ o. not (is_at o p.site)) at ∙ ap (λ o. not (is_of_site o p)) (sym is)
+
+  pub begin_nowhere : (steps : List Step) → steps ≡ step.NoPart ∷ [] → holds_place c.sites part ≡ false → Applies kinds (Some c) (command.Begin name part) steps (Some c)
+  begin_nowhere steps is lacks = refused kinds c (command.Begin name part) step.NoPart steps is refl
+      (λ run r. first_at (all_met run (command.Begin name part)) 2 (refl, (ap not r.has, lacks_in run r ∙ ap not lacks)))
+      (λ run r who. refl)
+
+  pub begin_absent : (steps : List Step) → steps ≡ step.NoSession ∷ [] → holds_place c.sites part ≡ true → session_in c.sessions name ≡ None → Applies kinds (Some c) (command.Begin name part) steps (Some c)
+  begin_absent steps is there gone = refused kinds c (command.Begin name part) step.NoSession steps is refl
+      (λ run r. first_at (all_met run (command.Begin name part)) 3 (refl, (ap not r.has, (lacks_in run r ∙ ap not there, lacks_session kinds c run r name gone))))
+      (λ run r who. refl)
+
+  pub begin_elsewhere : (steps : List Step) → steps ≡ step.NoPart ∷ [] → holds_place c.sites part ≡ true → (idle : Bool) → IsDoing (session_in c.sessions name) idle → stands_in c.sessions name part ≡ false → Applies kinds (Some c) (command.Begin name part) steps (Some c)
+  begin_elsewhere steps is there idle x off_site = let s = x.found in let in_table = x.is in refused kinds c (command.Begin name part) step.NoPart steps is refl
+      (λ run r. first_at (all_met run (command.Begin name part)) 4 (refl, (ap not r.has, (lacks_in run r ∙ ap not there, (has_session kinds c run r name s in_table, elsewhere_in run r s in_table ∙ ap not off_site)))))
+      (λ run r who. refl)
+
+  pub begin_busy : (steps : List Step) → steps ≡ step.HasTxn ∷ [] → holds_place c.sites part ≡ true → stands_in c.sessions name part ≡ true → IsDoing (session_in c.sessions name) false → Applies kinds (Some c) (command.Begin name part) steps (Some c)
+  begin_busy steps is there here x = refused kinds c (command.Begin name part) step.HasTxn steps is refl
+      (λ run r. first_at (all_met run (command.Begin name part)) 5 (refl, (ap not r.has, (lacks_in run r ∙ ap not there, (has_session kinds c run r name x.found x.is, (elsewhere_in run r x.found x.is ∙ ap not here, ap not (idle_is kinds c run r name x.found x.is ∙ x.so)))))))
+      (λ run r who. refl)
+
+  place_is : (run : Run) (r : ReachedLive kinds c run) (s : SessionState E) → session_in c.sessions name ≡ Some s → stands_in c.sessions name part ≡ true → begin_place run name part ≡ place_in s (number_of part)
+  place_is run r s is = by_part part
+    where
+      at : site_of run name ≡ Some s.site
+      at = (by_name kinds c run r name s is).site
+
+      by_part : (o : Option PartId) → stands_in c.sessions name o ≡ true → begin_place run name o ≡ place_in s (number_of o)
+      by_part None h = ap (λ d. record { site = site_or_none d; part = 1 }) at
+      by_part (Some p) h = ap (λ d. record { site = d; part = p.part }) (sym (eqb-true s.site p.site (ap (λ o. is_of_site o p) (sym is) ∙ h)))
+
+  pub begin_applies : (later : Held E) (sessions : List (List ℕ × SessionState E)) (answer : Step) (steps : List Step) → steps ≡ answer ∷ [] → holds_place c.sites part ≡ true → stands_in c.sessions name part ≡ true → are_idle (phase_in c.sessions name) ≡ true → Acts kinds c.sites c.sessions name later sessions (Begins kinds later (number_of part) answer) → Applies kinds (Some c) (command.Begin name part) steps (Some (record { sites = later; sessions = sessions }))
+  begin_applies later sessions answer steps is there here idles a number run r =
+      let st : StandsBy run r.calls name a.before = by_name kinds c run r name a.before a.is in
+      let d : Begins kinds later (number_of part) answer a.before a.after r.calls = a.does r.calls r.sees st.holds in
+      let idle : session.is_idle a.before.doing ≡ true = sym (idle_phase a.before.doing) ∙ subst (λ x. are_idle (phase_about x) ≡ true) a.is idles in
+      let place : PartId = place_in a.before (number_of part) in
+      let t = turns kinds later tt r.calls a.before a.after None place (AskBegin a.before.name a.before.dependency) answer d.1 in
+      let o : IsOpened a.before (step_shown (entries r.calls) place t.event) a.after = subst (λ l. IsOpened a.before l a.after) t.shows d.0 in
+      let b : IsBegun (entries r.calls) place a.before a.after t.event (step_shown (entries r.calls) place t.event) = begun (entries r.calls) place a.before a.after t.event t.asked t.seen.calm.0 o idle st.few in
+      subst (λ l. IsAnswer is_built run (command.Begin name part) l × ReachedLive kinds (record { sites = later; sessions = sessions }) (answered number (Some (command.Begin name part)) l run)) (sym is) (
+        subst (AnswersBy run (command.Begin name part) (answer ∷ []))
+            (sym (none_due (all_met run (command.Begin name part)) (refl, (ap not r.has, (lacks_in run r ∙ ap not there, (has_session kinds c run r name a.before a.is, (elsewhere_in run r a.before a.is ∙ ap not here, (ap not (idle_is kinds c run r name a.before a.is ∙ idle), tt))))))))
+            (answer, refl, ap is_up t.shows ∙ line_up (entries r.calls) place t.event t.seen.calm.0, subst (λ n. Bears run (command.Begin n part) answer) st.name (subst (Bears run (command.Begin a.before.name part)) (sym t.shows) (b.bears run part))),
+        acted kinds c run r number (command.Begin name part) name a.before a.is a.after place (AskBegin a.before.name a.before.dependency) answer later t sessions (record {
+          size = a.size;
+          put = a.put;
+          there = b.there;
+          own = st.name;
+          placed = (λ i. record { at = place_is run r a.before a.is here i; call = Begin (sym st.name i) (sym st.depends i) });
+          past = st.depends ∙ ap (lines.dependency (sites_of run) (calls_of run)) (sym st.name);
+          few = b.few;
+          idle = λ who h line. refl;
+          phase = subst (λ n. phase_after (parts_of run) n (phase run name) (Some (command.Begin n part)) answer ≡ phase_as a.after.doing) st.name (ap (phase_after (parts_of run) a.before.name (phase run name) (Some (command.Begin a.before.name part))) t.shows ∙ b.phase (parts_of run) part (phase run name) st.phase);
+          depends = subst (λ n. a.after.dependency ≡ dependency_after (sites_of run) (entries r.calls) n a.before.dependency t.event) st.name (b.depends (sites_of run));
+        }),
+      )
+
+pub idle_about : (o : Option Stage) (p : Stage) → o ≡ Some p → is_idle_phase p ≡ true → are_idle o ≡ true
+idle_about o p h k = ap are_idle h ∙ k
+
+-- the partition's number is one of the cluster's
+pub part_least : {E : Type 0} (c : Held E) (part : Option PartId) → holds_place c part ≡ true → 1 ≤ number_of part
+part_least c None h = omega arith
+part_least c (Some p) h = leb-true 1 p.part (and_parts (nat_le 1 p.part) _ (and_parts _ (nat_le 1 p.part && nat_le p.part c.parts) h).1).0
+
+pub part_most : {E : Type 0} (c : Held E) (part : Option PartId) → 1 ≤ c.parts → holds_place c part ≡ true → number_of part ≤ c.parts
+part_most c None some h = some
+part_most c (Some p) some h = leb-true p.part c.parts (and_parts (nat_le 1 p.part) _ (and_parts _ (nat_le 1 p.part && nat_le p.part c.parts) h).1).1

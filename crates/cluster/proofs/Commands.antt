@@ -1,0 +1,146 @@
+-- How a read answers its command.
+use Rattle.std.proofs.Common.{◌≡◌, ◌≤◌, ℕ, true, false, List, [], ◌∷◌, refl, sym, ap, ◌∙◌, subst, Option, None, Some}
+use Rattle.std.specs.Prelude.{not}
+use Rattle.site_vector.specs.declared.ids.PartId.{PartId}
+use Rattle.site_vector.specs.declared.ids.TxId.{TxId}
+use Rattle.crdt_core.specs.declared.object.ObjectId.{ObjectId}
+use Rattle.crdt_core.specs.declared.record.Upd.{Upd}
+use Rattle.crdt_core.specs.KindsOf.{Kinds}
+use Rattle.crdt_core.specs.Placing.{place_of}
+use Rattle.world_model.specs.declared.command.Command.TheVariants as command
+use Rattle.world_model.specs.declared.step.Step.{Step}
+use Rattle.world_model.specs.declared.step.Step.TheVariants as step
+use Rattle.world_model.specs.Answers.{answered}
+use Rattle.world_model.specs.Asking.{asked_by}
+use Rattle.world_model.specs.Cluster.{sites_of, parts_of}
+use Rattle.world_model.specs.CommitSteps.{Going, Preparing, Finishing, Aborting}
+use Rattle.world_model.specs.Event as event
+use Rattle.world_model.specs.Event.{AskRead, IsDown, Event, Refused, Cut, Entry, attempt}
+use Rattle.world_model.specs.Lines.{ReadOf, step_shown, session_of}
+use Rattle.world_model.specs.Past.{dependency_after}
+use Rattle.world_model.specs.Phases.{Phase, phase, phase_after, update_total}
+use Rattle.world_model.specs.Run.{Run}
+use Rattle.world_model.specs.ScriptAnswers.{is_up, Bears, AnswersBy, IsAnswer}
+use Rattle.world_model.specs.ScriptCalls.{at_object}
+use Rattle.world_model.proofs.Names.{off}
+use Rattle.txn_session.specs.Calls.{entries}
+use Rattle.txn_session.specs.Holds.{HoldsDoing, MakesRead}
+use Rattle.txn_session.specs.declared.phase.Phase.{Phase as Stage}
+use Rattle.txn_session.specs.Session as session
+use Rattle.txn_session.specs.Session.{Doing, Idle, Open, Ending, SessionState}
+use Rattle.txn_session.specs.Session.{own_updates, place_in}
+use Rattle.cluster.specs.Acts.{Acts, Reads}
+use Rattle.cluster.specs.Built.{is_built}
+use Rattle.cluster.specs.Held.{Held}
+use Rattle.cluster.specs.Live.{LiveState, session_in, phase_in, phase_about, is_open_phase, are_open}
+use Rattle.cluster.specs.Reached.{phase_as, StandsBy, ReachedLive, Applies}
+use Rattle.cluster.specs.Sees.{is_calm, Sees}
+use Rattle.cluster.proofs.Meets.{all_met, first_at, none_due, refused, has, lacks_session, has_session, open_is, by_name}
+use Rattle.cluster.proofs.Sessions.{turns, acted}
+use Rattle.cluster.proofs.Turned.{line_up}
+
+pub open_about : (o : Option Stage) (p : Stage) → o ≡ Some p → is_open_phase p ≡ true → are_open o ≡ true
+open_about o p h k = ap are_open h ∙ k
+
+module _ {E : Type 0} where
+  -- of a session that is there
+  pub open_phase : (d : Doing E) → is_open_phase (session.phase_of d) ≡ session.is_open d
+  open_phase Idle = refl
+  open_phase (Open txn) = refl
+  open_phase (Ending txn lead commit) = by_going commit.going
+    where
+      by_going : (g : Going) → is_open_phase (session.phase_in g) ≡ false
+      by_going (Preparing voted left n) = refl
+      by_going (Finishing left n) = refl
+      by_going (Aborting left) = refl
+
+  pub none_about : (o : Option (SessionState E)) → phase_about o ≡ None → o ≡ None
+  none_about None h = refl
+  none_about (Some s) h = absurd cc
+
+  -- a session that isn't open
+  pub record IsShut (o : Option (SessionState E)) : Type 0 where
+    pub found : SessionState E
+    pub is : o ≡ Some found
+    pub shut : session.is_open found.doing ≡ false
+
+  pub shut_about : (o : Option (SessionState E)) (p : Stage) → phase_about o ≡ Some p → is_open_phase p ≡ false → IsShut o
+  shut_about None p h k = absurd cc
+  shut_about (Some s) p h k = let e : session.phase_of s.doing ≡ p = cc in record { found = s; is = refl; shut = sym (open_phase s.doing) ∙ (ap is_open_phase e ∙ k) }
+
+  module _ (events : List (Entry E)) (at : PartId) (tx : TxId) (s : List ℕ) (o : ObjectId) (own : List (Upd E)) where
+    read_phase : (e : Event E) → asked_by (attempt e) ≡ AskRead tx s o own → is_calm e ≡ true → (parts : ℕ) (who : List ℕ) (old : Phase) (name : List ℕ) → phase_after parts who old (Some (command.Read name o)) (step_shown events at e) ≡ old
+    read_phase (event.Read t v o' w read value) a c parts who old name = refl
+    read_phase (Refused q IsDown) a c parts who old name = off c
+    read_phase (Refused q why) a c parts who old name = refl
+    read_phase (Cut what) a c parts who old name = off c
+    read_phase other a c parts who old name = absurd cc
+
+    read_depends : (e : Event E) → asked_by (attempt e) ≡ AskRead tx s o own → is_calm e ≡ true → (n : ℕ) (who old : List ℕ) → dependency_after n events who old e ≡ old
+    read_depends (event.Read t v o' w read value) a c n who old = refl
+    read_depends (Refused q why) a c n who old = refl
+    read_depends (Cut what) a c n who old = off c
+    read_depends other a c n who old = absurd cc
+
+    read_bears : (e : Event E) → asked_by (attempt e) ≡ AskRead tx s o own → is_calm e ≡ true → (run : Run) (name : List ℕ) → session_of events tx ≡ name → Bears run (command.Read name o) (step_shown events at e)
+    read_bears (event.Read t v o' w read value) a c run name h = let et : t ≡ tx = cc in (ap (session_of events) et ∙ h, cc)
+    read_bears (Refused q IsDown) a c run name h = off c
+    read_bears (Refused q why) a c run name h = tt
+    read_bears (Cut what) a c run name h = off c
+    read_bears other a c run name h = absurd cc
+
+module _ {S E : Type 0} (kinds : Kinds S E) (c : LiveState E) (name : List ℕ) where
+  -- its session isn't there
+  pub absent_in : phase_in c.sessions name ≡ None → session_in c.sessions name ≡ None
+  absent_in h = none_about (session_in c.sessions name) h
+
+  module _ (o : ObjectId) where
+    pub read_absent : (steps : List Step) → steps ≡ step.NoSession ∷ [] → session_in c.sessions name ≡ None → Applies kinds (Some c) (command.Read name o) steps (Some c)
+    read_absent steps is none = refused kinds c (command.Read name o) step.NoSession steps is refl
+        (λ run r. first_at (all_met run (command.Read name o)) 2 (refl, (has kinds c run r name, lacks_session kinds c run r name none)))
+        (λ run r who. refl)
+
+    pub read_shut : (steps : List Step) → steps ≡ step.NoTxn ∷ [] → IsShut (session_in c.sessions name) → Applies kinds (Some c) (command.Read name o) steps (Some c)
+    read_shut steps is x = let s = x.found in let there = x.is in let shut = x.shut in refused kinds c (command.Read name o) step.NoTxn steps is refl
+        (λ run r. first_at (all_met run (command.Read name o)) 3 (refl, (has kinds c run r name, (has_session kinds c run r name s there, ap not (open_is kinds c run r name s there ∙ shut)))))
+        (λ run r who. refl)
+
+    pub read_applies : (later : Held E) (sessions : List (List ℕ × SessionState E)) (answer : Step) (steps : List Step) → steps ≡ answer ∷ [] → are_open (phase_in c.sessions name) ≡ true → Acts kinds c.sites c.sessions name later sessions (Reads kinds later o answer) → Applies kinds (Some c) (command.Read name o) steps (Some (record { sites = later; sessions = sessions }))
+    read_applies later sessions answer steps is opened a number run r =
+        subst (λ l. IsAnswer is_built run (command.Read name o) l × ReachedLive kinds (record { sites = later; sessions = sessions }) (answered number (Some (command.Read name o)) l run)) (sym is)
+        (by_doing a.before.doing refl is_open d.1)
+      where
+        st : StandsBy run r.calls name a.before
+        st = by_name kinds c run r name a.before a.is
+
+        d : Reads kinds later o answer a.before a.after r.calls
+        d = a.does r.calls r.sees st.holds
+
+        is_open : session.is_open a.before.doing ≡ true
+        is_open = sym (open_phase a.before.doing) ∙ subst (λ x. are_open (phase_about x) ≡ true) a.is opened
+
+        by_doing : (doing : Doing E) → a.before.doing ≡ doing → session.is_open doing ≡ true → MakesRead (λ h (p : Unit {0}) l. Sees kinds h l) (λ (p : Unit {0}) n. true) later tt r.calls a.before a.after o answer doing
+            → IsAnswer is_built run (command.Read name o) (answer ∷ []) × ReachedLive kinds (record { sites = later; sessions = sessions }) (answered number (Some (command.Read name o)) (answer ∷ []) run)
+        by_doing Idle e h m = off h
+        by_doing (Ending txn lead commit) e h m = off h
+        by_doing (Open txn) e h m =
+            let t = turns kinds later tt r.calls a.before a.after (Some txn.by) _ _ answer m in
+            let x = subst (HoldsDoing a.before.sites a.before.parts a.before.name a.before.site r.calls) e st.holds.doing in
+            let mine : session_of (entries r.calls) txn.tx ≡ name = x.0.session ∙ st.name in
+            let place : PartId = place_in a.before (place_of o.bucket o.key a.before.parts) in
+            let bears = subst (Bears run (command.Read name o)) (sym t.shows) (read_bears (entries r.calls) place txn.tx txn.s o (own_updates txn.updates o) t.event t.asked t.seen.calm.0 run name mine) in
+            let up = ap is_up t.shows ∙ line_up (entries r.calls) place t.event t.seen.calm.0 in (
+              subst (AnswersBy run (command.Read name o) (answer ∷ [])) (sym (none_due (all_met run (command.Read name o)) (refl, (has kinds c run r name, (has_session kinds c run r name a.before a.is, (ap not (open_is kinds c run r name a.before a.is ∙ is_open), tt)))))) (answer, refl, up, bears),
+              acted kinds c run r number (command.Read name o) name a.before a.is a.after place (AskRead txn.tx txn.s o (own_updates txn.updates o)) answer later t sessions (record {
+                size = a.size;
+                put = a.put;
+                there = record { name = ap (λ y. y.name) d.0; site = ap (λ y. y.site) d.0; sites = ap (λ y. y.sites) d.0; parts = ap (λ y. y.parts) d.0 };
+                own = mine;
+                placed = ap (λ p. at_object (parts_of run) o p (λ u. ReadOf u o)) (st.phase ∙ ap phase_as e) ∙ (λ i. record { at = record { site = x.0.site_is i; part = place_of o.bucket o.key (sym st.parts i) }; call = ReadOf txn.tx o });
+                past = tt;
+                few = subst (λ (y : SessionState E). update_total (phase_as y.doing) ≤ 256) (sym d.0) st.few;
+                idle = λ who h line. refl;
+                phase = ap (phase_after (parts_of run) name (phase run name) (Some (command.Read name o))) t.shows ∙ (read_phase (entries r.calls) place txn.tx txn.s o (own_updates txn.updates o) t.event t.asked t.seen.calm.0 (parts_of run) name (phase run name) name ∙ (st.phase ∙ ap (λ y. phase_as y.doing) (sym d.0)));
+                depends = ap (λ y. y.dependency) d.0 ∙ sym (read_depends (entries r.calls) place txn.tx txn.s o (own_updates txn.updates o) t.event t.asked t.seen.calm.0 (sites_of run) name a.before.dependency);
+              }),
+            )

@@ -1,0 +1,36 @@
+-- What whoever runs a cluster may rest on: the run that left it shows one history, and lines outside the grammar change nothing.
+use Rattle.std.proofs.Common.{◌≡◌, ℕ, List, [], ◌∷◌, refl, sym, subst, Option, None, Some}
+use Rattle.site_vector.specs.declared.ids.PartId.{PartId}
+use Rattle.crdt_core.specs.KindsOf.{Kinds}
+use Rattle.world_model.specs.declared.step.Step.TheVariants as step
+use Rattle.world_model.specs.Cluster.{sites_of, parts_of}
+use Rattle.world_model.specs.Dependency.{HandsOwn}
+use Rattle.world_model.specs.Event.{Entry}
+use Rattle.world_model.specs.Lawful.{IsLawful}
+use Rattle.world_model.specs.Lines.{lines_of}
+use Rattle.world_model.specs.Partition.{PartState, new_part}
+use Rattle.world_model.specs.Run.{Run}
+use Rattle.world_model.specs.ScriptCalls.{calls_of}
+use Rattle.world_model.specs.World.{IsWorldRun}
+use Rattle.world_model.proofs.Law.{law_world}
+use Rattle.txn_session.specs.Calls.{entries}
+use Rattle.cluster.specs.History.{ShowsHistory}
+use Rattle.cluster.specs.Live.{LiveState}
+use Rattle.cluster.specs.Reached.{Reached}
+use Rattle.cluster.proofs.Mere.{before_still}
+use Rattle.cluster.proofs.Standing.{live_still}
+
+module _ {S E : Type 0} (kinds : Kinds S E) where
+  shows : (sites parts : ℕ) (run : Run) (events : List (Entry E)) (state : PartId → PartState E) → sites ≡ sites_of run → parts ≡ parts_of run → IsWorldRun kinds sites parts events state → lines_of events ≡ calls_of run → HandsOwn (sites_of run) (calls_of run) → ShowsHistory kinds run
+  shows sites parts run events state es ep is shown own =
+      let there : IsWorldRun kinds (sites_of run) (parts_of run) events state = subst (λ n. IsWorldRun kinds n (parts_of run) events state) es (subst (λ n. IsWorldRun kinds sites n events state) ep is) in
+      let lawful : IsLawful kinds.too_deep kinds.meaning (sites_of run) (parts_of run) (calls_of run) = subst (λ ls. IsLawful kinds.too_deep kinds.meaning (sites_of run) (parts_of run) ls) shown (law_world kinds (sites_of run) (parts_of run) events state there).2 in
+      record { events = events; state = state; is_run = there; shown = shown; lawful = lawful; past = lawful.past own }
+
+  pub history : (c : Option (LiveState E)) (run : Run) → Reached kinds c run → ShowsHistory kinds run
+  history None run b = shows 0 0 run [] (λ p. new_part 0 0) (sym b.sites) (sym b.parts) (λ p. refl) (sym b.calls) (subst (λ ls. HandsOwn (sites_of run) ls) (sym b.calls) tt)
+  history (Some c) run r = shows c.sites.sites c.sites.parts run (entries r.calls) r.sees.reached.state r.sites r.parts r.sees.reached.is_run r.shown r.own
+
+  pub bad_still : (c : Option (LiveState E)) (number : ℕ) (run : Run) → Reached kinds c run → Reached kinds c ((record { number = number; command = None; step = step.Bad }) ∷ run)
+  bad_still None number run b = before_still number None step.Bad run refl b
+  bad_still (Some c) number run r = live_still kinds c number None step.Bad run refl (λ who. refl) r

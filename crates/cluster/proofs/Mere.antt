@@ -1,0 +1,89 @@
+-- Lines that no partition answered, and that change nothing: refusals before any partition is asked.
+use Rattle.std.proofs.Common.{◌≡◌, ℕ, Bool, true, false, List, [], ◌∷◌, refl, ap, ◌∙◌, Option, Some}
+use Rattle.std.specs.Prelude.{if◌then◌else◌, ◌||◌}
+use Rattle.std.specs.Str.{bytes_eq}
+use Rattle.std.proofs.lemmas.Bool.{cond-false}
+use Rattle.world_model.proofs.Names.{off}
+use Rattle.world_model.specs.declared.command.Command.{Command}
+use Rattle.world_model.specs.declared.command.Command.TheVariants as command
+use Rattle.world_model.specs.declared.step.Step.{Step}
+use Rattle.world_model.specs.declared.step.Step.TheVariants as step
+use Rattle.world_model.specs.Cluster.{is_cluster, has_cluster, sites_of, parts_of, sites_after, parts_after}
+use Rattle.world_model.specs.Meeting.{site_after, site_of, count_after, session_count}
+use Rattle.world_model.specs.Phases.{Phase, Absent, phase, phase_after, by_command}
+use Rattle.world_model.specs.Run.{Run}
+use Rattle.world_model.specs.ScriptCalls.{is_answer, calls_of}
+use Rattle.cluster.specs.Reached.{IsBefore}
+
+-- a refusal that no partition gives, or a line outside the grammar
+abbrev pub is_mere : Step → Bool
+is_mere step.Bad = true
+is_mere step.NoCluster = true
+is_mere step.HasCluster = true
+is_mere step.NoPart = true
+is_mere step.NoSession = true
+is_mere step.HasSession = true
+is_mere step.NoTxn = true
+is_mere step.HasTxn = true
+is_mere step.NoMessage = true
+is_mere step.BadOp = true
+is_mere step.LimitSessions = true
+is_mere step.LimitUpdates = true
+is_mere step.LimitMessages = true
+is_mere step.LimitReports = true
+is_mere step.Unbuilt = true
+is_mere other = false
+
+-- what such a line leaves as it was
+pub record IsMere (s : Step) : Type 0 where
+  pub answer : is_answer s ≡ false
+  pub cluster : is_cluster s ≡ false
+  pub sites : (n : ℕ) → sites_after n s ≡ n
+  pub parts : (n : ℕ) → parts_after n s ≡ n
+  pub site : (who : List ℕ) (old : Option ℕ) → site_after who old s ≡ old
+  pub count : (n : ℕ) → count_after n s ≡ n
+  pub phase : (parts : ℕ) (who : List ℕ) (old : Phase) (asked : Option Command) → phase_after parts who old asked s ≡ by_command parts who old asked s
+
+all_same : (s : Step) → is_answer s ≡ false → is_cluster s ≡ false → ((n : ℕ) → sites_after n s ≡ n) → ((n : ℕ) → parts_after n s ≡ n) → ((who : List ℕ) (old : Option ℕ) → site_after who old s ≡ old) → ((n : ℕ) → count_after n s ≡ n) → ((parts : ℕ) (who : List ℕ) (old : Phase) (asked : Option Command) → phase_after parts who old asked s ≡ by_command parts who old asked s) → IsMere s
+all_same s a b c d e f g = record { answer = a; cluster = b; sites = c; parts = d; site = e; count = f; phase = g }
+
+pub mere : (s : Step) → is_mere s ≡ true → IsMere s
+mere step.Bad h = all_same _ refl refl (λ n. refl) (λ n. refl) (λ w o. refl) (λ n. refl) (λ n w o a. refl)
+mere step.NoCluster h = all_same _ refl refl (λ n. refl) (λ n. refl) (λ w o. refl) (λ n. refl) (λ n w o a. refl)
+mere step.HasCluster h = all_same _ refl refl (λ n. refl) (λ n. refl) (λ w o. refl) (λ n. refl) (λ n w o a. refl)
+mere step.NoPart h = all_same _ refl refl (λ n. refl) (λ n. refl) (λ w o. refl) (λ n. refl) (λ n w o a. refl)
+mere step.NoSession h = all_same _ refl refl (λ n. refl) (λ n. refl) (λ w o. refl) (λ n. refl) (λ n w o a. refl)
+mere step.HasSession h = all_same _ refl refl (λ n. refl) (λ n. refl) (λ w o. refl) (λ n. refl) (λ n w o a. refl)
+mere step.NoTxn h = all_same _ refl refl (λ n. refl) (λ n. refl) (λ w o. refl) (λ n. refl) (λ n w o a. refl)
+mere step.HasTxn h = all_same _ refl refl (λ n. refl) (λ n. refl) (λ w o. refl) (λ n. refl) (λ n w o a. refl)
+mere step.NoMessage h = all_same _ refl refl (λ n. refl) (λ n. refl) (λ w o. refl) (λ n. refl) (λ n w o a. refl)
+mere step.BadOp h = all_same _ refl refl (λ n. refl) (λ n. refl) (λ w o. refl) (λ n. refl) (λ n w o a. refl)
+mere step.LimitSessions h = all_same _ refl refl (λ n. refl) (λ n. refl) (λ w o. refl) (λ n. refl) (λ n w o a. refl)
+mere step.LimitUpdates h = all_same _ refl refl (λ n. refl) (λ n. refl) (λ w o. refl) (λ n. refl) (λ n w o a. refl)
+mere step.LimitMessages h = all_same _ refl refl (λ n. refl) (λ n. refl) (λ w o. refl) (λ n. refl) (λ n w o a. refl)
+mere step.LimitReports h = all_same _ refl refl (λ n. refl) (λ n. refl) (λ w o. refl) (λ n. refl) (λ n w o a. refl)
+mere step.Unbuilt h = all_same _ refl refl (λ n. refl) (λ n. refl) (λ w o. refl) (λ n. refl) (λ n w o a. refl)
+mere other h = off h
+
+-- where no session is, a command gives none a phase
+absent_stays : (parts : ℕ) (who : List ℕ) (asked : Option Command) (s : Step) → by_command parts who Absent asked s ≡ Absent
+absent_stays parts who (Some (command.Commit name k)) s = elim (bytes_eq name who) as (λ b. (if b then Absent else Absent) ≡ Absent) [ true ↦ refl | false ↦ refl ]
+absent_stays parts who (Some (command.Abort name)) s = elim (bytes_eq name who) as (λ b. (if b then Absent else Absent) ≡ Absent) [ true ↦ refl | false ↦ refl ]
+absent_stays parts who other s = refl
+
+-- before a cluster is made
+pub before_still : (number : ℕ) (asked : Option Command) (s : Step) (run : Run) → is_mere s ≡ true → IsBefore run → IsBefore ((record { number = number; command = asked; step = s }) ∷ run)
+before_still number asked s run h b =
+    let m = mere s h in record {
+      lacks = ap (λ x. x || has_cluster run) m.cluster ∙ b.lacks;
+      sites = m.sites (sites_of run) ∙ b.sites;
+      parts = m.parts (parts_of run) ∙ b.parts;
+      calls = cond-false (is_answer s) _ (calls_of run) m.answer ∙ b.calls;
+      phases = λ who. m.phase (parts_of run) who (phase run who) asked ∙ ap (λ o. by_command (parts_of run) who o asked s) (b.phases who) ∙ absent_stays (parts_of run) who asked s;
+      site = λ who. m.site who (site_of run who) ∙ b.site who;
+      count = m.count (session_count run) ∙ b.count;
+    }
+
+-- before any line
+pub at_first : IsBefore []
+at_first = record { lacks = refl; sites = refl; parts = refl; calls = refl; phases = λ who. refl; site = λ who. refl; count = refl }

@@ -1,0 +1,192 @@
+-- How a session is made and removed: neither asks a partition for anything.
+use Rattle.std.proofs.Common.{◌≡◌, ◌≢◌, ◌≤◌, ℕ, ◌+◌, Bool, true, false, List, [], ◌∷◌, length, replicate, refl, sym, ap, ◌∙◌, subst, Option, None, Some, arith}
+use Rattle.std.specs.Prelude.{not, ◌==◌, nat_le, is_some, if◌then◌else◌}
+use Rattle.std.specs.Str.{bytes_eq}
+use Rattle.std.proofs.lemmas.Slice.Eq.{bytes_eq-Decides}
+use Rattle.std.proofs.lemmas.Bool.{cond-true, cond-false, and_parts, leb-true, eqb-true, false_from_ne_true}
+use Rattle.site_vector.specs.declared.ids.PartId.{PartId}
+use Rattle.crdt_core.specs.KindsOf.{Kinds}
+use Rattle.world_model.specs.declared.command.Command.TheVariants as command
+use Rattle.world_model.specs.declared.step.Step.{Step}
+use Rattle.world_model.specs.declared.step.Step.TheVariants as step
+use Rattle.world_model.specs.Answers.{answered}
+use Rattle.world_model.specs.Cluster.{has_site, sites_of}
+use Rattle.world_model.specs.Dependency as lines
+use Rattle.world_model.specs.Dependency.{HandsOwn}
+use Rattle.world_model.specs.Event.{Opened}
+use Rattle.world_model.specs.Lines.{Open, lines_of}
+use Rattle.world_model.specs.Meeting.{site_of}
+use Rattle.world_model.specs.Phases as phases
+use Rattle.world_model.specs.Phases.{phase, update_total}
+use Rattle.world_model.specs.Plan.{IsPlace}
+use Rattle.world_model.specs.Run.{Run}
+use Rattle.world_model.specs.ScriptAnswers.{AnswersBy, IsAnswer}
+use Rattle.world_model.specs.ScriptCalls.{calls_of}
+use Rattle.txn_session.specs.Calls.{Call, called, entries}
+use Rattle.txn_session.specs.Holds.{Holds, AreApart}
+use Rattle.txn_session.specs.Session.{Doing, Idle, Open as IsOpen, Ending, SessionState}
+use Rattle.txn_session.proofs.Frames.{holds_more}
+use Rattle.cluster.specs.Built.{is_built}
+use Rattle.cluster.specs.Held.{Held, holds_site}
+use Rattle.cluster.specs.Live.{LiveState, session_in}
+use Rattle.cluster.specs.Reached.{phase_as, StandsBy, StandsAs, ReachedLive, Applies}
+use Rattle.cluster.specs.Sees.{Sees}
+use Rattle.cluster.proofs.Clocks.{site_in}
+use Rattle.cluster.proofs.Meets.{all_met, first_at, none_due, refused, there_as, absent, lacks_session, has_session, by_name}
+use Rattle.cluster.proofs.Sessions.{own_name}
+use Rattle.cluster.proofs.Standing.{SameFor, stands_still}
+
+pub none_of : {A : Type 0} (o : Option A) → is_some o ≡ false → o ≡ None
+none_of None h = refl
+none_of (Some x) h = absurd cc
+
+pub not_many : (n m : ℕ) → m ≡ n → m ≢ 64 → (n == 64) ≡ false
+not_many n m e h = false_from_ne_true (n == 64) (λ k. h (e ∙ eqb-true n 64 k))
+
+module _ {S E : Type 0} (kinds : Kinds S E) where
+  -- a session is opened: no partition is changed
+  opened_at : (c : Held E) (calls : List (Call E)) (at : PartId) (name : List ℕ) → IsPlace c.sites c.parts at → Sees kinds c calls → Sees kinds c (called 0 at (Opened name) ∷ calls)
+  opened_at c calls at name place s = record {
+    reached = record {
+      state = s.reached.state;
+      is_run = (s.reached.state, s.reached.is_run, record { place = place; allowed = tt; fit = tt; step = refl; others = λ q k. refl }, tt);
+      each = s.reached.each;
+    };
+    calm = (refl, s.calm);
+    one_caller = (refl, s.one_caller);
+  }
+
+  apart_opened : (calls : List (Call E)) (at : PartId) (name : List ℕ) (d : Doing E) → AreApart d (called 0 at (Opened name) ∷ [])
+  apart_opened calls at name Idle = tt
+  apart_opened calls at name (IsOpen txn) = (refl, tt)
+  apart_opened calls at name (Ending txn lead commit) = (refl, tt)
+
+  module _ (c : LiveState E) (name : List ℕ) (site : ℕ) where
+    pub session_nowhere : (steps : List Step) → steps ≡ step.NoPart ∷ [] → holds_site c.sites site ≡ false → Applies kinds (Some c) (command.Session name site) steps (Some c)
+    session_nowhere steps is lacks = refused kinds c (command.Session name site) step.NoPart steps is refl
+        (λ run r. first_at (all_met run (command.Session name site)) 2 (refl, (ap not r.has, ap not (sym (site_in kinds c run r site) ∙ lacks))))
+        (λ run r who. refl)
+
+    pub session_again : (steps : List Step) → steps ≡ step.HasSession ∷ [] → holds_site c.sites site ≡ true → is_some (session_in c.sessions name) ≡ true → Applies kinds (Some c) (command.Session name site) steps (Some c)
+    session_again steps is there some = by_session (session_in c.sessions name) refl some
+      where
+        by_session : (o : Option (SessionState E)) → session_in c.sessions name ≡ o → is_some o ≡ true → Applies kinds (Some c) (command.Session name site) steps (Some c)
+        by_session None e h = absurd cc
+        by_session (Some s) e h = refused kinds c (command.Session name site) step.HasSession steps is refl
+            (λ run r. first_at (all_met run (command.Session name site)) 3 (refl, (ap not r.has, (ap not (sym (site_in kinds c run r site) ∙ there), there_is run r s e))))
+            (λ run r who. refl)
+          where
+            there_is : (run : Run) (r : ReachedLive kinds c run) (s : SessionState E) → session_in c.sessions name ≡ Some s → phases.is_there (phase run name) ≡ true
+            there_is run r s e = ap phases.is_there (by_name kinds c run r name s e).phase ∙ there_as s.doing
+
+    gone : session_in c.sessions name ≡ None → (run : Run) (r : ReachedLive kinds c run) → phases.is_there (phase run name) ≡ false
+    gone none run r = ap phases.is_there (absent kinds c run r name none)
+
+    pub session_full : (steps : List Step) → steps ≡ step.LimitSessions ∷ [] → holds_site c.sites site ≡ true → session_in c.sessions name ≡ None → length c.sessions ≡ 64 → Applies kinds (Some c) (command.Session name site) steps (Some c)
+    session_full steps is there none all = refused kinds c (command.Session name site) step.LimitSessions steps is refl
+        (λ run r. first_at (all_met run (command.Session name site)) 4 (refl, (ap not r.has, (ap not (sym (site_in kinds c run r site) ∙ there), (gone none run r, ap (λ n. n == 64) (r.count ∙ all))))))
+        (λ run r who. refl)
+
+    pub session_made : (sessions : List (List ℕ × SessionState E)) (s : SessionState E) (steps : List Step) → steps ≡ step.MadeSession name site ∷ [] → holds_site c.sites site ≡ true → 1 ≤ c.sites.parts → session_in c.sessions name ≡ None → (length c.sessions == 64) ≡ false
+        → s ≡ record { name = name; site = site; sites = c.sites.sites; parts = c.sites.parts; dependency = replicate c.sites.sites 0; doing = Idle } → ((calls : List (Call E)) → Holds s calls)
+        → ((who : List ℕ) → session_in sessions who ≡ (if bytes_eq name who then Some s else session_in c.sessions who)) → length sessions ≡ length c.sessions + 1
+        → Applies kinds (Some c) (command.Session name site) steps (Some (record { sites = c.sites; sessions = sessions }))
+    session_made sessions s steps is there some none room new holds find count number run r =
+        subst (λ l. IsAnswer is_built run (command.Session name site) l × ReachedLive kinds (record { sites = c.sites; sessions = sessions }) (answered number (Some (command.Session name site)) l run)) (sym is) (
+          subst (AnswersBy run (command.Session name site) (step.MadeSession name site ∷ [])) (sym (none_due (all_met run (command.Session name site)) (refl, (ap not r.has, (ap not (sym (site_in kinds c run r site) ∙ there), (gone none run r, (ap (λ n. n == 64) r.count ∙ room, tt))))))) refl,
+          record {
+            has = r.has;
+            sites = r.sites;
+            parts = r.parts;
+            calls = later;
+            sees = opened_at c.sites r.calls at name place r.sees;
+            shown = shown;
+            own = (tt, r.own);
+            each = each;
+            count = ap (λ n. n + 1) r.count ∙ sym count;
+          },
+        )
+      where
+        at : PartId
+        at = record { site = site; part = 1 }
+
+        place : IsPlace c.sites.sites c.sites.parts at
+        place = let p = and_parts (nat_le 1 site) _ there in record { least_site = leb-true 1 site p.0; most_site = leb-true site c.sites.sites p.1; least_part = omega arith; most_part = some }
+
+        later : List (Call E)
+        later = called 0 at (Opened name) ∷ r.calls
+
+        next : Run
+        next = (record { number = number; command = Some (command.Session name site); step = step.MadeSession name site }) ∷ run
+
+        shown : lines_of (entries later) ≡ calls_of next
+        shown = ap (λ ls. (record { at = at; call = Open; step = step.MadeSession name site }) ∷ ls) r.shown
+
+        mine : StandsBy next later name s
+        mine = record {
+          name = ap (λ y. y.name) new;
+          sites = ap (λ y. y.sites) new ∙ r.sites;
+          parts = ap (λ y. y.parts) new ∙ r.parts;
+          site = cond-true (bytes_eq name name) (Some site) (site_of run name) (own_name name) ∙ ap (λ y. Some y.site) (sym new);
+          there = ap (λ y. has_site run y.site) new ∙ (sym (site_in kinds c run r site) ∙ there);
+          phase = cond-true (bytes_eq name name) phases.Idle (phase run name) (own_name name) ∙ ap (λ y. phase_as y.doing) (sym new);
+          few = subst (λ (y : SessionState E). update_total (phase_as y.doing) ≤ 256) (sym new) (omega arith);
+          depends = ap (λ y. y.dependency) new ∙ (ap (λ n. replicate n 0) r.sites ∙ sym (cond-true (bytes_eq name name) (replicate (sites_of run) 0) (lines.dependency (sites_of run) (calls_of run) name) (own_name name)));
+          holds = holds later;
+        }
+
+        same : (who : List ℕ) → bytes_eq name who ≡ false → SameFor next run who
+        same who h = record {
+          sites = refl;
+          parts = refl;
+          site = cond-false (bytes_eq name who) (Some site) (site_of run who) h;
+          phase = cond-false (bytes_eq name who) phases.Idle (phase run who) h;
+          depends = cond-false (bytes_eq name who) (replicate (sites_of run) 0) (lines.dependency (sites_of run) (calls_of run) who) h;
+        }
+
+        each : (who : List ℕ) → StandsAs next later who (session_in sessions who)
+        each who = subst (λ x. StandsAs next later who x) (sym (find who)) (by_bool (bytes_eq name who) refl)
+          where
+            by_bool : (b : Bool) → bytes_eq name who ≡ b → StandsAs next later who (if b then Some s else session_in c.sessions who)
+            by_bool true h = subst (λ n. StandsBy next later n s) ((bytes_eq-Decides name who).0 h) mine
+            by_bool false h = stands_still next run later r.calls who (session_in c.sessions who) (same who h) (λ x e k. holds_more x (called 0 at (Opened name) ∷ []) r.calls (apart_opened r.calls at name x.doing) k) (r.each who)
+
+  module _ (c : LiveState E) (name : List ℕ) where
+    pub lose_absent : (steps : List Step) → steps ≡ step.NoSession ∷ [] → session_in c.sessions name ≡ None → Applies kinds (Some c) (command.Lose name) steps (Some c)
+    lose_absent steps is none = refused kinds c (command.Lose name) step.NoSession steps is refl
+        (λ run r. first_at (all_met run (command.Lose name)) 2 (refl, (ap not r.has, lacks_session kinds c run r name none)))
+        (λ run r who. refl)
+
+    pub session_lost : (sessions : List (List ℕ × SessionState E)) (steps : List Step) → steps ≡ step.Lost name ∷ [] → is_some (session_in c.sessions name) ≡ true → ((who : List ℕ) → session_in sessions who ≡ (if bytes_eq name who then None else session_in c.sessions who)) → length sessions + 1 ≡ length c.sessions
+        → Applies kinds (Some c) (command.Lose name) steps (Some (record { sites = c.sites; sessions = sessions }))
+    session_lost sessions steps is some find count number run r =
+        subst (λ l. IsAnswer is_built run (command.Lose name) l × ReachedLive kinds (record { sites = c.sites; sessions = sessions }) (answered number (Some (command.Lose name)) l run)) (sym is) (
+          subst (AnswersBy run (command.Lose name) (step.Lost name ∷ [])) (sym (none_due (all_met run (command.Lose name)) (refl, (ap not r.has, (was_there (session_in c.sessions name) refl some, tt))))) refl,
+          record {
+            has = r.has;
+            sites = r.sites;
+            parts = r.parts;
+            calls = r.calls;
+            sees = r.sees;
+            shown = r.shown;
+            own = r.own;
+            each = each;
+            count = (let n = r.count in omega (arith, n, count));
+          },
+        )
+      where
+        was_there : (o : Option (SessionState E)) → session_in c.sessions name ≡ o → is_some o ≡ true → not (phases.is_there (phase run name)) ≡ false
+        was_there None e h = absurd cc
+        was_there (Some s) e h = has_session kinds c run r name s e
+
+        next : Run
+        next = (record { number = number; command = Some (command.Lose name); step = step.Lost name }) ∷ run
+
+        each : (who : List ℕ) → StandsAs next r.calls who (session_in sessions who)
+        each who = subst (λ x. StandsAs next r.calls who x) (sym (find who)) (by_bool (bytes_eq name who) refl)
+          where
+            by_bool : (b : Bool) → bytes_eq name who ≡ b → StandsAs next r.calls who (if b then None else session_in c.sessions who)
+            by_bool true h = (cond-true (bytes_eq name who) phases.Absent (phase run who) h, cond-true (bytes_eq name who) None (site_of run who) h)
+            by_bool false h = stands_still next run r.calls r.calls who (session_in c.sessions who)
+                (record { sites = refl; parts = refl; site = cond-false (bytes_eq name who) None (site_of run who) h; phase = cond-false (bytes_eq name who) phases.Absent (phase run who) h; depends = refl })
+                (λ x e k. k) (r.each who)

@@ -1,0 +1,74 @@
+-- A session stands still where a run tells the same of it, and what it did stands in the calls.
+use Rattle.std.proofs.Common.{◌≡◌, ℕ, true, List, ◌∷◌, refl, sym, ap, ◌∙◌, subst, Option, None, Some}
+use Rattle.std.specs.Prelude.{◌||◌, ◌&&◌, nat_le}
+use Rattle.std.proofs.lemmas.Bool.{cond-false}
+use Rattle.crdt_core.specs.KindsOf.{Kinds}
+use Rattle.world_model.specs.declared.command.Command.{Command}
+use Rattle.world_model.specs.declared.step.Step.{Step}
+use Rattle.world_model.specs.Cluster.{has_cluster, sites_of, parts_of}
+use Rattle.world_model.specs.Dependency.{dependency, HandsOwn}
+use Rattle.world_model.specs.Meeting.{site_of, session_count}
+use Rattle.world_model.specs.Phases.{phase, by_command}
+use Rattle.world_model.specs.Run.{Run}
+use Rattle.world_model.specs.ScriptCalls.{is_answer, calls_of}
+use Rattle.txn_session.specs.Calls.{Call}
+use Rattle.txn_session.specs.Holds.{Holds}
+use Rattle.txn_session.specs.Session.{SessionState}
+use Rattle.cluster.specs.Live.{LiveState, session_in}
+use Rattle.cluster.specs.Reached.{StandsAs, ReachedLive}
+use Rattle.cluster.proofs.Mere.{is_mere, IsMere, mere}
+
+-- the runs tell the same of this session
+pub record SameFor (new old : Run) (who : List ℕ) : Type 0 where
+  pub sites : sites_of new ≡ sites_of old
+  pub parts : parts_of new ≡ parts_of old
+  pub site : site_of new who ≡ site_of old who
+  pub phase : phase new who ≡ phase old who
+  pub depends : dependency (sites_of new) (calls_of new) who ≡ dependency (sites_of old) (calls_of old) who
+
+pub stands_still : {E : Type 0} (new old : Run) (later calls : List (Call E)) (who : List ℕ) (o : Option (SessionState E)) → SameFor new old who → ((s : SessionState E) → o ≡ Some s → Holds s calls → Holds s later) → StandsAs old calls who o → StandsAs new later who o
+stands_still new old later calls who None same holds s = (same.phase ∙ s.0, same.site ∙ s.1)
+stands_still new old later calls who (Some x) same holds s = record {
+  name = s.name;
+  sites = s.sites ∙ sym same.sites;
+  parts = s.parts ∙ sym same.parts;
+  site = same.site ∙ s.site;
+  there = ap (λ n. nat_le 1 x.site && nat_le x.site n) same.sites ∙ s.there;
+  phase = same.phase ∙ s.phase;
+  few = s.few;
+  depends = s.depends ∙ sym same.depends;
+  holds = holds x refl s.holds;
+}
+
+module _ {S E : Type 0} (kinds : Kinds S E) where
+  -- a line that no partition answered leaves all as it was
+  pub live_still : (c : LiveState E) (number : ℕ) (asked : Option Command) (s : Step) (run : Run) → is_mere s ≡ true → ((who : List ℕ) → by_command (parts_of run) who (phase run who) asked s ≡ phase run who) → ReachedLive kinds c run → ReachedLive kinds c ((record { number = number; command = asked; step = s }) ∷ run)
+  live_still c number asked s run h idle r = record {
+    has = ap (λ x. x || has_cluster run) m.cluster ∙ r.has;
+    sites = r.sites ∙ sym (m.sites (sites_of run));
+    parts = r.parts ∙ sym (m.parts (parts_of run));
+    calls = r.calls;
+    sees = r.sees;
+    shown = r.shown ∙ sym lines;
+    own = subst (λ n. HandsOwn n (calls_of next)) (sym (m.sites (sites_of run))) (subst (λ ls. HandsOwn (sites_of run) ls) (sym lines) r.own);
+    each = λ who. stands_still next run r.calls r.calls who (session_in c.sessions who) (same who) (λ x e k. k) (r.each who);
+    count = m.count (session_count run) ∙ r.count;
+  }
+    where
+      m : IsMere s
+      m = mere s h
+
+      next : Run
+      next = (record { number = number; command = asked; step = s }) ∷ run
+
+      lines : calls_of next ≡ calls_of run
+      lines = cond-false (is_answer s) _ (calls_of run) m.answer
+
+      same : (who : List ℕ) → SameFor next run who
+      same who = record {
+        sites = m.sites (sites_of run);
+        parts = m.parts (parts_of run);
+        site = m.site who (site_of run who);
+        phase = m.phase (parts_of run) who (phase run who) asked ∙ idle who;
+        depends = (λ i. dependency (m.sites (sites_of run) i) (lines i) who);
+      }

@@ -1,0 +1,162 @@
+-- The cluster after one more call: the run goes on by the line that shows it.
+use Rattle.std.proofs.Common.{◌≡◌, ℕ, true, false, List, ◌∷◌, length, refl, sym, ap, ◌∙◌, subst, Option, Some}
+use Rattle.std.specs.Prelude.{◌||◌, ⊤}
+use Rattle.std.specs.Str.{bytes_eq}
+use Rattle.std.proofs.lemmas.Bool.{cond-true}
+use Rattle.site_vector.specs.declared.ids.PartId.{PartId}
+use Rattle.crdt_core.specs.KindsOf.{Kinds}
+use Rattle.world_model.specs.declared.command.Command.{Command}
+use Rattle.world_model.specs.declared.step.Step.{Step}
+use Rattle.world_model.specs.Asking.{asked_by}
+use Rattle.world_model.specs.Cluster.{has_cluster, sites_of, parts_of}
+use Rattle.world_model.specs.Dependency as lines
+use Rattle.world_model.specs.Dependency.{HandsOwn, IsOwnPast}
+use Rattle.world_model.specs.Event.{Ask, AskBegin, AskRead, AskUpdate, AskPrepare, AskDecide, AskFinish, AskAbort, AskTake, IsDown, IsBadOp, HasGap, IsRepeat, HasNoRoom, IsDamaged, Event, Began, Updated, Prepared, Decided, Aborted, Sent, Took, Reported, Heard, Crashed, RestartCut, Restarted, Refused, Opened, Cut, Entry, attempt}
+use Rattle.world_model.specs.Lines.{call_asked, step_shown, call_of, lines_of, session_of}
+use Rattle.world_model.specs.Meeting.{site_of, session_count}
+use Rattle.world_model.specs.Past.{dependency_after, dependency}
+use Rattle.world_model.specs.Partition.{PartState, PartStep, IsRefused}
+use Rattle.world_model.specs.Phases.{phase, by_command}
+use Rattle.world_model.specs.Run.{Run}
+use Rattle.world_model.specs.ScriptAnswers.{is_up}
+use Rattle.world_model.specs.ScriptCalls.{is_answer, asked_of, numbered, line_on, calls_of}
+use Rattle.world_model.proofs.LineViews.{dependency_is}
+use Rattle.world_model.proofs.Names.{off}
+use Rattle.txn_session.specs.Calls.{Call, entries, called, IsLegal}
+use Rattle.txn_session.specs.Session.{SessionState}
+use Rattle.cluster.specs.Held.{Held, SameSize}
+use Rattle.cluster.specs.Live.{LiveState, session_in}
+use Rattle.cluster.specs.Reached.{StandsBy, StandsAs, ReachedLive}
+use Rattle.cluster.specs.Sees.{is_calm, Sees, sees_legal}
+use Rattle.cluster.proofs.Standing.{SameFor, stands_still}
+use Rattle.cluster.proofs.Turning.{is_numberless, IsCallLine, call_line, IsSilentFor, phase_other, site_other, depends_other, holds_other}
+
+module _ {S E : Type 0} (kinds : Kinds S E) (c : LiveState E) (run : Run) (r : ReachedLive kinds c run) (number : ℕ) (cmd : Command) (by : ℕ) (at : PartId) (e : Event E) (held : Held E) (size : SameSize c.sites held) (sees : Sees kinds held (called by at e ∷ r.calls)) (plain : is_numberless e ≡ true) (placed : asked_of (calls_of run) run cmd ≡ record { at = at; call = call_of e }) where
+  abbrev pub line : Step
+  line = step_shown (entries r.calls) at e
+
+  abbrev pub next : Run
+  next = (record { number = number; command = Some cmd; step = line }) ∷ run
+
+  abbrev pub later : List (Call E)
+  later = called by at e ∷ r.calls
+
+  told : IsCallLine run line
+  told = call_line run (entries r.calls) at e sees.calm.0 plain
+
+  lines_are : calls_of next ≡ (record { at = at; call = call_of e; step = line }) ∷ calls_of run
+  lines_are = cond-true (is_answer line) (line_on (calls_of run) (asked_of (calls_of run) run cmd) (numbered run line)) (calls_of run) told.answer ∙ (λ i. line_on (calls_of run) (placed i) (told.number i))
+
+  pub shown_next : lines_of (entries later) ≡ calls_of next
+  shown_next = ap (λ ls. (record { at = at; call = call_of e; step = line }) ∷ ls) r.shown ∙ sym lines_are
+
+  legal : IsLegal kinds held.sites held.parts later
+  legal = sees_legal kinds held later sees
+
+  tail_legal : IsLegal kinds c.sites.sites c.sites.parts r.calls
+  tail_legal = sees_legal kinds c.sites r.calls r.sees
+
+  -- what the session depends on, as the events tell
+  pub depends_next : (who : List ℕ) → lines.dependency (sites_of next) (calls_of next) who ≡ dependency_after (sites_of run) (entries r.calls) who (dependency (sites_of run) (entries r.calls) who) e
+  depends_next who = (λ i. lines.dependency (told.sites (sites_of run) i) (sym shown_next i) who) ∙ dependency_is (sites_of run) (entries later) who
+
+  pub depended : (who : List ℕ) → lines.dependency (sites_of run) (calls_of run) who ≡ dependency (sites_of run) (entries r.calls) who
+  depended who = (λ i. lines.dependency (sites_of run) (sym r.shown i) who) ∙ dependency_is (sites_of run) (entries r.calls) who
+
+  pub same_next : (who : List ℕ) → ((s : Step) → by_command (parts_of run) who (phase run who) (Some cmd) s ≡ phase run who) → IsSilentFor (entries r.calls) who e → SameFor next run who
+  same_next who idle q = record {
+    sites = told.sites (sites_of run);
+    parts = told.parts (parts_of run);
+    site = site_other (entries r.calls) at who (site_of run who) e sees.calm.0 q;
+    phase = phase_other (entries r.calls) at who (parts_of run) (Some cmd) (phase run who) idle e sees.calm.0 q;
+    depends = depends_next who ∙ (depends_other kinds c.sites.sites c.sites.parts r.calls tail_legal (sites_of run) who (dependency (sites_of run) (entries r.calls) who) e q ∙ sym (depended who));
+  }
+
+  -- another session
+  pub other_next : (who : List ℕ) (o : Option (SessionState E)) → ((s : Step) → by_command (parts_of run) who (phase run who) (Some cmd) s ≡ phase run who) → IsSilentFor (entries r.calls) who e → StandsAs run r.calls who o → StandsAs next later who o
+  other_next who o idle q st = stands_still next run later r.calls who o (same_next who idle q)
+      (λ x is h.
+      let x_is : StandsBy run r.calls who x = subst (λ y. StandsAs run r.calls who y) is st in
+      holds_other kinds held.sites held.parts (called by at e) r.calls x legal sees.calm.0 (subst (λ n. IsSilentFor (entries r.calls) n e) (sym x_is.name) q) h)
+      st
+
+  pub turned : (sessions : List (List ℕ × SessionState E)) → length sessions ≡ length c.sessions → IsOwnPast (sites_of run) (calls_of run) (call_of e) → ((who : List ℕ) → StandsAs next later who (session_in sessions who)) → ReachedLive kinds (record { sites = held; sessions = sessions }) next
+  turned sessions count own each = record {
+    has = ap (λ x. x || has_cluster run) told.cluster ∙ r.has;
+    sites = size.sites_are ∙ (r.sites ∙ sym (told.sites (sites_of run)));
+    parts = size.parts_are ∙ (r.parts ∙ sym (told.parts (parts_of run)));
+    calls = later;
+    sees = sees;
+    shown = shown_next;
+    own = subst (λ n. HandsOwn n (calls_of next)) (sym (told.sites (sites_of run))) (subst (λ ls. HandsOwn (sites_of run) ls) (sym lines_are) (own, r.own));
+    each = each;
+    count = told.count (session_count run) ∙ (r.count ∙ sym count);
+  }
+
+  -- a call of no session's
+  pub turned_alone : ((who : List ℕ) (s : Step) → by_command (parts_of run) who (phase run who) (Some cmd) s ≡ phase run who) → ((who : List ℕ) → IsSilentFor (entries r.calls) who e) → IsOwnPast (sites_of run) (calls_of run) (call_of e) → ReachedLive kinds (record { sites = held; sessions = c.sessions }) next
+  turned_alone idle q own = turned c.sessions refl own (λ who. other_next who (session_in c.sessions who) (idle who) (q who) (r.each who))
+
+as_other : (name who other : List ℕ) → bytes_eq name who ≡ false → other ≡ name → bytes_eq other who ≡ false
+as_other name who other q h = ap (λ n. bytes_eq n who) h ∙ q
+
+module _ {E : Type 0} where
+  -- a session asks for its own transaction
+  abbrev pub IsOwnAsk : List (Entry E) → List ℕ → Ask E → Type 0
+  IsOwnAsk run name (AskBegin who dep) = who ≡ name
+  IsOwnAsk run name (AskRead t s o own) = session_of run t ≡ name
+  IsOwnAsk run name (AskUpdate t s o own op) = session_of run t ≡ name
+  IsOwnAsk run name (AskPrepare t s l w) = session_of run t ≡ name
+  IsOwnAsk run name (AskDecide t c) = session_of run t ≡ name
+  IsOwnAsk run name (AskFinish t c) = ⊤
+  IsOwnAsk run name (AskAbort t) = session_of run t ≡ name
+  IsOwnAsk run name other = ⊥
+
+  pub silent : (run : List (Entry E)) (name who : List ℕ) → bytes_eq name who ≡ false → (e : Event E) → IsOwnAsk run name (asked_by (attempt e)) → IsSilentFor run who e
+  silent run name who q (Began n dep t s) own = as_other name who n q own
+  silent run name who q (Updated t s o w op read u stamp) own = as_other name who (session_of run t) q own
+  silent run name who q (Prepared t s l w n) own = as_other name who (session_of run t) q own
+  silent run name who q (Decided t c) own = as_other name who (session_of run t) q own
+  silent run name who q (Aborted t word) own = as_other name who (session_of run t) q own
+  silent run name who q (Opened n) own = absurd own
+  silent run name who q other own = tt
+
+  pub call_is : (run : List (Entry E)) (name : List ℕ) (e : Event E) → is_calm e ≡ true → IsOwnAsk run name (asked_by (attempt e)) → call_of e ≡ call_asked (asked_by (attempt e))
+  call_is run name (Cut what) c own = off c
+  call_is run name Crashed c own = off c
+  call_is run name RestartCut c own = off c
+  call_is run name (Restarted n b named listed) c own = off c
+  call_is run name (Opened n) c own = absurd own
+  call_is run name other c own = refl
+
+  pub line_up : (run : List (Entry E)) (at : PartId) (e : Event E) → is_calm e ≡ true → is_up (step_shown run at e) ≡ true
+  line_up run at (Cut what) c = off c
+  line_up run at Crashed c = off c
+  line_up run at RestartCut c = off c
+  line_up run at (Restarted n b named listed) c = off c
+  line_up run at (Refused a IsDown) c = off c
+  line_up run at (Refused a IsBadOp) c = off c
+  line_up run at (Refused a (HasNoRoom n)) c = off c
+  line_up run at (Refused a (IsDamaged n)) c = off c
+  line_up run at (Refused a why) c = refl
+  line_up run at other c = refl
+
+  module _ {S : Type 0} (kinds : Kinds S E) (sites parts : ℕ) (id : PartId) (p : PartState E) (run : List (Entry E)) (name : List ℕ) where
+    never_gap : (ask : Ask E) (n : ℕ) → IsOwnAsk run name ask → IsRefused kinds sites parts id p ask (HasGap n) → ⊥
+    never_gap (AskTake k m) n own r = own
+    never_gap other n own r = r.1
+
+    never_repeat : (ask : Ask E) (n : ℕ) → IsOwnAsk run name ask → IsRefused kinds sites parts id p ask (IsRepeat n) → ⊥
+    never_repeat (AskTake k m) n own r = own
+    never_repeat other n own r = r.1
+
+    pub numberless : (q : PartState E) (e : Event E) → IsOwnAsk run name (asked_by (attempt e)) → PartStep kinds sites parts id p e q → is_numberless e ≡ true
+    numberless q (Sent asked m) own st = absurd own
+    numberless q (Took k m) own st = absurd own
+    numberless q (Reported b) own st = absurd own
+    numberless q (Heard k j b stable) own st = absurd own
+    numberless q (Opened who) own st = absurd own
+    numberless q (Refused ask (HasGap n)) own st = absurd (never_gap ask n own st.0)
+    numberless q (Refused ask (IsRepeat n)) own st = absurd (never_repeat ask n own st.0)
+    numberless q (Refused ask why) own st = refl
+    numberless q other own st = refl

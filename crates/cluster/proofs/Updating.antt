@@ -1,0 +1,209 @@
+-- How an update answers its command.
+use Rattle.std.proofs.Common.{◌≡◌, ◌<◌, ◌≤◌, ℕ, ◌+◌, Bool, true, false, List, [], ◌∷◌, ◌++◌, length, refl, sym, ap, ◌∙◌, subst, Option, None, Some, arith}
+use Rattle.std.specs.Prelude.{not, map, ◌==◌, nat_lt, if◌then◌else◌}
+use Rattle.std.specs.Str.{bytes_eq}
+use Rattle.std.proofs.lemmas.Bool.{cond-true, true≢false, eqb-true, ltb-true, ltb-false, false_from_ne_true}
+use Rattle.std.proofs.lemmas.List.{map-append, length-map, length_push}
+use Rattle.crdt_core.specs.declared.kind.Kind.{Kind}
+use Rattle.crdt_core.specs.declared.object.Field.{Field}
+use Rattle.site_vector.specs.declared.ids.PartId.{PartId}
+use Rattle.crdt_core.specs.declared.object.ObjectId.{ObjectId}
+use Rattle.crdt_core.specs.declared.operation.Op.{Op}
+use Rattle.crdt_core.specs.declared.record.Upd.{Upd}
+use Rattle.crdt_core.specs.Fits.{fits}
+use Rattle.crdt_core.specs.KindsOf.{Kinds}
+use Rattle.crdt_core.specs.Placing.{place_of}
+use Rattle.world_model.specs.declared.command.Command.TheVariants as command
+use Rattle.world_model.specs.declared.step.Step.{Step}
+use Rattle.world_model.specs.declared.step.Step.TheVariants as step
+use Rattle.world_model.specs.Answers.{answered}
+use Rattle.world_model.specs.Asking.{asked_by}
+use Rattle.world_model.specs.Cluster.{sites_of, parts_of}
+use Rattle.world_model.specs.Event as event
+use Rattle.world_model.specs.Event.{AskUpdate, IsDown, Event, Refused, Cut, Entry, attempt}
+use Rattle.world_model.specs.Lines.{UpdateOf, step_shown, session_of}
+use Rattle.world_model.specs.Past.{dependency_after}
+use Rattle.world_model.specs.Phases as phases
+use Rattle.world_model.specs.Phases.{Phase, phase, phase_after, with_object, update_total}
+use Rattle.world_model.specs.Run.{Run}
+use Rattle.world_model.specs.ScriptAnswers.{is_up, Bears, AnswersBy, IsAnswer}
+use Rattle.world_model.specs.ScriptCalls.{at_object}
+use Rattle.world_model.proofs.Names.{off}
+use Rattle.txn_session.specs.Calls.{entries}
+use Rattle.txn_session.specs.declared.error.SessionError.{SessionError}
+use Rattle.txn_session.specs.declared.error.SessionError.TheVariants as error
+use Rattle.txn_session.specs.Holds.{HoldsDoing, MakesUpdate}
+use Rattle.txn_session.specs.Opens.{IsUpdated, refusal_of_update, update_refusal, with_update, updated}
+use Rattle.txn_session.specs.Session as session
+use Rattle.txn_session.specs.Session.{Txn, Doing, Idle, Open, Ending, SessionState, own_updates, place_in}
+use Rattle.cluster.specs.Acts.{Acts, Updates}
+use Rattle.cluster.specs.Built.{is_built}
+use Rattle.cluster.specs.Held.{Held}
+use Rattle.cluster.specs.Live.{LiveState, session_in, refusal_about, refused_line}
+use Rattle.cluster.specs.Reached.{phase_as, StandsBy, ReachedLive, Applies}
+use Rattle.cluster.specs.Sees.{is_calm, Sees}
+use Rattle.cluster.proofs.Meets.{all_met, first_at, none_due, refused, lacks_session, has_session, open_is, by_name}
+use Rattle.cluster.proofs.Sessions.{IsThere, turns, acted, own_name}
+use Rattle.cluster.proofs.Turned.{line_up}
+
+module _ {E : Type 0} where
+  -- a session whose update would be refused, or not
+  pub record Would (too_deep : Kind → List Field → Bool) (o : ObjectId) (op : Op) (x : Option (SessionState E)) (why : Option SessionError) : Type 0 where
+    pub found : SessionState E
+    pub is : x ≡ Some found
+    pub why_is : update_refusal too_deep found.doing o op ≡ why
+
+  pub would : (too_deep : Kind → List Field → Bool) (o : ObjectId) (op : Op) (x : Option (SessionState E)) (why : Option SessionError) → refusal_about too_deep o op x ≡ Some why → Would too_deep o op x why
+  would too_deep o op None why h = absurd cc
+  would too_deep o op (Some s) why h = record { found = s; is = refl; why_is = cc }
+
+  pub none_would : (too_deep : Kind → List Field → Bool) (o : ObjectId) (op : Op) (x : Option (SessionState E)) → refusal_about too_deep o op x ≡ None → x ≡ None
+  none_would too_deep o op None h = refl
+  none_would too_deep o op (Some s) h = absurd cc
+
+  -- an update that isn't refused
+  pub record MayUpdate (o : ObjectId) (op : Op) (txn : Txn E) : Type 0 where
+    pub fit : fits o.kind op.path op.act ≡ true
+    pub room : length txn.updates < 256
+
+  accepted : (too_deep : Kind → List Field → Bool) (o : ObjectId) (op : Op) (txn : Txn E) → refusal_of_update too_deep o op txn.updates ≡ None → MayUpdate o op txn
+  accepted too_deep o op txn h = by_bools (too_deep o.kind op.path) (fits o.kind op.path op.act) (nat_lt (length txn.updates) 256) refl refl h
+    where
+      by_bools : (a b d : Bool) → fits o.kind op.path op.act ≡ b → nat_lt (length txn.updates) 256 ≡ d → (if a then Some error.TooDeep else (if b then (if d then None else Some error.TooMany) else Some error.BadOp)) ≡ None → MayUpdate o op txn
+      by_bools true b d eb ed k = absurd cc
+      by_bools false false d eb ed k = absurd cc
+      by_bools false true false eb ed k = absurd cc
+      by_bools false true true eb ed k = record { fit = eb; room = ltb-true _ _ ed }
+
+  -- what an update leaves of its session
+  pub record IsMade (events : List (Entry E)) (o : ObjectId) (op : Op) (old new : SessionState E) (e : Event E) (answer : Step) : Type 0 where
+    pub there : IsThere old new
+    pub few : update_total (phase_as new.doing) ≤ 256
+    pub phase : (parts : ℕ) (p : Phase) → p ≡ phase_as old.doing → phase_after parts old.name p (Some (command.Update old.name o op)) answer ≡ phase_as new.doing
+    pub depends : (n : ℕ) → new.dependency ≡ dependency_after n events old.name old.dependency e
+    pub bears : (run : Run) → Bears run (command.Update old.name o op) answer
+
+  more_objects : (txn : Txn E) (o : ObjectId) (x : E) → phase_as (Open (with_update txn o x)) ≡ phases.Open txn.tx txn.s (map (λ (u : Upd E). u.object) txn.updates ++ o ∷ [])
+  more_objects txn o x = ap (λ l. phases.Open txn.tx txn.s l) (map-append (λ (u : Upd E). u.object) txn.updates (_ ∷ []))
+
+  more_count : (txn : Txn E) (o : ObjectId) (x : E) → length txn.updates < 256 → update_total (phase_as (Open (with_update txn o x))) ≤ 256
+  more_count txn o x l =
+      let n = length-map (txn.updates ++ (record { object = o; index = length txn.updates + 1; effect = x }) ∷ []) (λ (u : Upd E). u.object) in
+      let m = length_push txn.updates (record { object = o; index = length txn.updates + 1; effect = x }) in
+      omega (arith, n, m, l)
+
+  module _ (events : List (Entry E)) (at : PartId) (old new : SessionState E) (txn : Txn E) (o : ObjectId) (op : Op) (own : List (Upd E)) (is : old.doing ≡ Open txn) (mine : session_of events txn.tx ≡ old.name) (room : length txn.updates < 256) (few : update_total (phase_as old.doing) ≤ 256) where
+    pub made : (e : Event E) → asked_by (attempt e) ≡ AskUpdate txn.tx txn.s o own op → is_calm e ≡ true → IsUpdated old o (step_shown events at e) new → IsMade events o op old new e (step_shown events at e)
+    made (event.Updated t v o' w op' read u stamp) a c x =
+        let et : t ≡ txn.tx = cc in
+        let eo : o' ≡ o = cc in
+        let name : session_of events t ≡ old.name = ap (session_of events) et ∙ mine in
+        let same : bytes_eq (session_of events t) old.name ≡ true = ap (λ n. bytes_eq n old.name) name ∙ own_name old.name in
+        let after : new.doing ≡ Open (with_update txn o x.0) = ap (λ (y : SessionState E). y.doing) x.1 ∙ ap (λ d. updated d o x.0) is in record {
+          there = record { name = ap (λ y. y.name) x.1; site = ap (λ y. y.site) x.1; sites = ap (λ y. y.sites) x.1; parts = ap (λ y. y.parts) x.1 };
+          few = subst (λ d. update_total (phase_as d) ≤ 256) (sym after) (more_count txn o x.0 room);
+          phase = λ parts p h. cond-true (bytes_eq (session_of events t) old.name) (with_object o' p) p same ∙ ((λ i. with_object (eo i) ((h ∙ ap phase_as is) i)) ∙ (sym (more_objects txn o x.0) ∙ ap phase_as (sym after)));
+          depends = λ n. ap (λ y. y.dependency) x.1;
+          bears = λ run. (name, eo);
+        }
+    made (Cut what) a c x = off c
+    made (Refused q IsDown) a c x = off c
+    made (Refused q why) a c x = record {
+      there = record { name = ap (λ y. y.name) x; site = ap (λ y. y.site) x; sites = ap (λ y. y.sites) x; parts = ap (λ y. y.parts) x };
+      few = subst (λ (y : SessionState E). update_total (phase_as y.doing) ≤ 256) (sym x) few;
+      phase = λ parts p h. h ∙ ap (λ y. phase_as y.doing) (sym x);
+      depends = λ n. ap (λ y. y.dependency) x;
+      bears = λ run. tt;
+    }
+    made other a c x = absurd cc
+
+module _ {S E : Type 0} (kinds : Kinds S E) (c : LiveState E) (name : List ℕ) (o : ObjectId) (op : Op) where
+  pub update_absent : (steps : List Step) → steps ≡ step.NoSession ∷ [] → session_in c.sessions name ≡ None → Applies kinds (Some c) (command.Update name o op) steps (Some c)
+  update_absent steps is none = refused kinds c (command.Update name o op) step.NoSession steps is refl
+      (λ run r. first_at (all_met run (command.Update name o op)) 2 (refl, (ap not r.has, lacks_session kinds c run r name none)))
+      (λ run r who. refl)
+
+  module _ (shallow : fits o.kind op.path op.act ≡ true → kinds.too_deep o.kind op.path ≡ false) where
+    not_open : (s : SessionState E) → session_in c.sessions name ≡ Some s → session.is_open s.doing ≡ false → (steps : List Step) → steps ≡ step.NoTxn ∷ [] → Applies kinds (Some c) (command.Update name o op) steps (Some c)
+    not_open s is shut steps e = refused kinds c (command.Update name o op) step.NoTxn steps e refl
+        (λ run r. first_at (all_met run (command.Update name o op)) 3 (refl, (ap not r.has, (has_session kinds c run r name s is, ap not (open_is kinds c run r name s is ∙ shut)))))
+        (λ run r who. refl)
+
+    unfit : (s : SessionState E) → session_in c.sessions name ≡ Some s → session.is_open s.doing ≡ true → fits o.kind op.path op.act ≡ false → (steps : List Step) → steps ≡ step.BadOp ∷ [] → Applies kinds (Some c) (command.Update name o op) steps (Some c)
+    unfit s is opened bad steps e = refused kinds c (command.Update name o op) step.BadOp steps e refl
+        (λ run r. first_at (all_met run (command.Update name o op)) 4 (refl, (ap not r.has, (has_session kinds c run r name s is, (ap not (open_is kinds c run r name s is ∙ opened), ap not bad)))))
+        (λ run r who. refl)
+
+    total_is : (run : Run) (r : ReachedLive kinds c run) (s : SessionState E) (is : session_in c.sessions name ≡ Some s) (txn : Txn E) → s.doing ≡ Open txn → update_total (phase run name) ≡ length txn.updates
+    total_is run r s is txn e = ap update_total ((by_name kinds c run r name s is).phase ∙ ap phase_as e) ∙ length-map txn.updates (λ (u : Upd E). u.object)
+
+    full : (s : SessionState E) (is : session_in c.sessions name ≡ Some s) (txn : Txn E) → s.doing ≡ Open txn → fits o.kind op.path op.act ≡ true → nat_lt (length txn.updates) 256 ≡ false → (steps : List Step) → steps ≡ step.LimitUpdates ∷ [] → Applies kinds (Some c) (command.Update name o op) steps (Some c)
+    full s is txn e good most steps k = refused kinds c (command.Update name o op) step.LimitUpdates steps k refl
+        (λ run r.
+        let few = subst (λ d. update_total (phase_as d) ≤ 256) e (by_name kinds c run r name s is).few in
+        let total = length-map txn.updates (λ (u : Upd E). u.object) in
+        let least = ltb-false (length txn.updates) 256 most in
+        let exact : length txn.updates ≡ 256 = omega (arith, few, total, least) in
+        first_at (all_met run (command.Update name o op)) 5 (refl, (ap not r.has, (has_session kinds c run r name s is, (ap not (open_is kinds c run r name s is ∙ ap session.is_open e), (ap not good, ap (λ n. n == 256) (total_is run r s is txn e ∙ exact)))))))
+        (λ run r who. refl)
+
+    pub update_refused : (steps : List Step) (why : SessionError) → steps ≡ refused_line why ∷ [] → Would kinds.too_deep o op (session_in c.sessions name) (Some why) → Applies kinds (Some c) (command.Update name o op) steps (Some c)
+    update_refused steps why is x = by_doing x.found.doing refl x.why_is
+      where
+        line : (w : SessionError) → Some w ≡ Some why → steps ≡ refused_line w ∷ []
+        line w h = let e : why ≡ w = cc in is ∙ ap (λ y. refused_line y ∷ []) e
+
+        by_bools : (txn : Txn E) → x.found.doing ≡ Open txn → (a b d : Bool) → kinds.too_deep o.kind op.path ≡ a → fits o.kind op.path op.act ≡ b → nat_lt (length txn.updates) 256 ≡ d → (if a then Some error.TooDeep else (if b then (if d then None else Some error.TooMany) else Some error.BadOp)) ≡ Some why → Applies kinds (Some c) (command.Update name o op) steps (Some c)
+        by_bools txn e true b d ea eb ed k = unfit x.found x.is (ap session.is_open e) (false_from_ne_true _ (λ h. true≢false (sym ea ∙ shallow h))) steps (line error.TooDeep k)
+        by_bools txn e false false d ea eb ed k = unfit x.found x.is (ap session.is_open e) eb steps (line error.BadOp k)
+        by_bools txn e false true false ea eb ed k = full x.found x.is txn e eb ed steps (line error.TooMany k)
+        by_bools txn e false true true ea eb ed k = absurd cc
+
+        by_doing : (d : Doing E) → x.found.doing ≡ d → update_refusal kinds.too_deep d o op ≡ Some why → Applies kinds (Some c) (command.Update name o op) steps (Some c)
+        by_doing Idle e k = not_open x.found x.is (ap session.is_open e) steps (line error.NoTxn k)
+        by_doing (Ending txn lead commit) e k = not_open x.found x.is (ap session.is_open e) steps (line error.NoTxn k)
+        by_doing (Open txn) e k = by_bools txn e _ _ _ refl refl refl k
+
+  pub update_applies : (later : Held E) (sessions : List (List ℕ × SessionState E)) (answer : Step) (steps : List Step) → steps ≡ answer ∷ [] → Would kinds.too_deep o op (session_in c.sessions name) None → Acts kinds c.sites c.sessions name later sessions (Updates kinds later o op answer) → Applies kinds (Some c) (command.Update name o op) steps (Some (record { sites = later; sessions = sessions }))
+  update_applies later sessions answer steps is w a number run r =
+      subst (λ l. IsAnswer is_built run (command.Update name o op) l × ReachedLive kinds (record { sites = later; sessions = sessions }) (answered number (Some (command.Update name o op)) l run)) (sym is)
+      (by_doing a.before.doing refl not_refused d.1)
+    where
+      st : StandsBy run r.calls name a.before
+      st = by_name kinds c run r name a.before a.is
+
+      d : Updates kinds later o op answer a.before a.after r.calls
+      d = a.does r.calls r.sees st.holds
+
+      not_refused : update_refusal kinds.too_deep a.before.doing o op ≡ None
+      not_refused = let e : Some w.found ≡ Some a.before = sym w.is ∙ a.is in let k : w.found ≡ a.before = cc in ap (λ (y : SessionState E). update_refusal kinds.too_deep y.doing o op) (sym k) ∙ w.why_is
+
+      by_doing : (doing : Doing E) → a.before.doing ≡ doing → update_refusal kinds.too_deep doing o op ≡ None → MakesUpdate (λ h (p : Unit {0}) l. Sees kinds h l) (λ (p : Unit {0}) n. true) later tt r.calls a.before a.after o op answer doing
+          → IsAnswer is_built run (command.Update name o op) (answer ∷ []) × ReachedLive kinds (record { sites = later; sessions = sessions }) (answered number (Some (command.Update name o op)) (answer ∷ []) run)
+      by_doing Idle e h m = absurd cc
+      by_doing (Ending txn lead commit) e h m = absurd cc
+      by_doing (Open txn) e h m =
+          let may = accepted kinds.too_deep o op txn h in
+          let place : PartId = place_in a.before (place_of o.bucket o.key a.before.parts) in
+          let own : List (Upd E) = own_updates txn.updates o in
+          let t = turns kinds later tt r.calls a.before a.after (Some txn.by) place (AskUpdate txn.tx txn.s o own op) answer m in
+          let x = subst (HoldsDoing a.before.sites a.before.parts a.before.name a.before.site r.calls) e st.holds.doing in
+          let u : IsUpdated a.before o (step_shown (entries r.calls) place t.event) a.after = subst (λ l. IsUpdated a.before o l a.after) t.shows d.0 in
+          let b = made (entries r.calls) place a.before a.after txn o op own e x.0.session may.room st.few t.event t.asked t.seen.calm.0 u in
+          let most : length txn.updates < 256 = may.room in (
+            subst (AnswersBy run (command.Update name o op) (answer ∷ []))
+                (sym (none_due (all_met run (command.Update name o op)) (refl, (ap not r.has, (has_session kinds c run r name a.before a.is, (ap not (open_is kinds c run r name a.before a.is ∙ ap session.is_open e), (ap not may.fit, (ap (λ n. n == 256) (ap update_total (st.phase ∙ ap phase_as e) ∙ length-map txn.updates (λ (v : Upd E). v.object)) ∙ false_from_ne_true _ (λ k. let q = eqb-true (length txn.updates) 256 k in absurd (omega (arith, q, most))), tt))))))))
+                (answer, refl, ap is_up t.shows ∙ line_up (entries r.calls) place t.event t.seen.calm.0, subst (λ n. Bears run (command.Update n o op) answer) st.name (subst (Bears run (command.Update a.before.name o op)) (sym t.shows) (b.bears run))),
+            acted kinds c run r number (command.Update name o op) name a.before a.is a.after place (AskUpdate txn.tx txn.s o own op) answer later t sessions (record {
+              size = a.size;
+              put = a.put;
+              there = b.there;
+              own = x.0.session ∙ st.name;
+              placed = ap (λ p. at_object (parts_of run) o p (λ v. UpdateOf v o op)) (st.phase ∙ ap phase_as e) ∙ (λ i. record { at = record { site = x.0.site_is i; part = place_of o.bucket o.key (sym st.parts i) }; call = UpdateOf txn.tx o op });
+              past = tt;
+              few = b.few;
+              idle = λ who h line. refl;
+              phase = subst (λ n. phase_after (parts_of run) n (phase run name) (Some (command.Update n o op)) answer ≡ phase_as a.after.doing) st.name (ap (phase_after (parts_of run) a.before.name (phase run name) (Some (command.Update a.before.name o op))) t.shows ∙ b.phase (parts_of run) (phase run name) st.phase);
+              depends = subst (λ n. a.after.dependency ≡ dependency_after (sites_of run) (entries r.calls) n a.before.dependency t.event) st.name (b.depends (sites_of run));
+            }),
+          )

@@ -1,0 +1,29 @@
+use Rattle.std.proofs.Common.{sym, refl, subst}
+use Rattle.world_model.specs.Event.{AskTake}
+use Rattle.cluster.proofs.Going.{IsAnswer, called}
+use Rattle.cluster.proofs.Messages.{take_most, take_wide, take_apart, take_away, take_unheld}
+use Rattle.cluster.proofs.sites.Sites.take_at.Goals as goal
+
+pub take-requires-clause-least : goal.take-requires-clause-least
+take-requires-clause-least g c = c.requires.allowed.from.least
+
+pub take-requires-clause-most : goal.take-requires-clause-most
+take-requires-clause-most g c = take_most _ _ _ _ _ c.self.view_is c.args.at _ c.index_of-i.ensures.index _ c.index_mut.ensures.value c.args.number c.args.message.now c.requires
+
+pub take-requires-clause-wide : goal.take-requires-clause-wide
+take-requires-clause-wide g c = take_wide _ _ _ _ _ c.self.view_is c.args.at _ c.index_of-i.ensures.index _ c.index_mut.ensures.value c.args.number c.args.message.now c.requires
+
+pub take-requires-clause-apart : goal.take-requires-clause-apart
+take-requires-clause-apart g c = take_apart _ _ _ _ _ c.self.view_is c.args.at _ c.index_of-i.ensures.index _ c.index_mut.ensures.value c.args.number c.args.message.now c.requires
+
+pub take-requires-clause-away : goal.take-requires-clause-away
+take-requires-clause-away g c = take_away _ _ _ _ _ c.self.view_is c.args.at _ c.index_of-i.ensures.index _ c.index_mut.ensures.value c.args.number c.args.message.now c.requires
+
+pub take-requires-clause-not_held : goal.take-requires-clause-not_held
+take-requires-clause-not_held g c = take_unheld _ _ _ _ _ c.self.view_is c.args.at _ c.index_of-i.ensures.index _ c.index_mut.ensures.value c.args.number c.args.message.now c.requires
+
+pub returns : goal.returns
+returns g c =
+    called _ _ _ _ _ c.self.view_is c.self.invariant c.args.at c.requires.place _ c.index_of-i.ensures.index c.index_of-i.ensures.below _ _ c.index_mut.ensures.value _ _ _ _ _ (c.take.ensures c.args.number)
+    (λ x run r may given. (tt, λ e s. subst (IsAnswer _ run (AskTake c.args.number c.args.message.now)) (sym s) (record { asked = refl; own_word = refl; fit = tt; new = tt })))
+    (λ why run r may given. (tt, λ e s. subst (IsAnswer _ run (AskTake c.args.number c.args.message.now)) (sym s) (record { asked = refl; own_word = refl; fit = tt; new = tt })))

@@ -1,0 +1,23 @@
+-- What the run of a script shows: one lawful history.
+use Rattle.std.specs.Prelude.{◌≡◌, List}
+use Rattle.site_vector.specs.declared.ids.PartId.{PartId}
+use Rattle.crdt_core.specs.KindsOf.{Kinds}
+use Rattle.world_model.specs.Cluster.{sites_of, parts_of}
+use Rattle.world_model.specs.Dependency.{KeepsPast}
+use Rattle.world_model.specs.Event.{Entry}
+use Rattle.world_model.specs.Lawful.{IsLawful}
+use Rattle.world_model.specs.Lines.{lines_of}
+use Rattle.world_model.specs.Partition.{PartState}
+use Rattle.world_model.specs.Run.{Run}
+use Rattle.world_model.specs.ScriptCalls.{calls_of}
+use Rattle.world_model.specs.World.{IsWorldRun}
+
+-- a run of the world shows exactly the lines that partitions answered, with their calls; they are lawful, and each snapshot
+-- holds its session's past
+pub record ShowsHistory {S E : Type 0} (kinds : Kinds S E) (run : Run) : Type 0 where
+  pub events : List (Entry E)
+  pub state : PartId → PartState E
+  pub is_run : IsWorldRun kinds (sites_of run) (parts_of run) events state
+  pub shown : lines_of events ≡ calls_of run
+  pub lawful : IsLawful kinds.too_deep kinds.meaning (sites_of run) (parts_of run) (calls_of run)
+  pub past : KeepsPast (sites_of run) (calls_of run)

@@ -1,0 +1,81 @@
+-- Where the run of a script left a cluster and its sessions.
+use Rattle.std.specs.Prelude.{◌≡◌, ◌≤◌, ℕ, true, false, List, [], length, map, Option, None, Some}
+use Rattle.crdt_core.specs.KindsOf.{Kinds}
+use Rattle.world_model.specs.declared.command.Command.{Command}
+use Rattle.world_model.specs.declared.step.Step.{Step}
+use Rattle.world_model.specs.Answers.{answered}
+use Rattle.world_model.specs.Cluster.{has_cluster, has_site, sites_of, parts_of}
+use Rattle.world_model.specs.Dependency.{dependency, HandsOwn}
+use Rattle.world_model.specs.Lines.{lines_of}
+use Rattle.world_model.specs.Meeting.{site_of, session_count}
+use Rattle.world_model.specs.Phases as phases
+use Rattle.world_model.specs.Phases.{Phase, Absent, phase, update_total}
+use Rattle.world_model.specs.Run.{Run}
+use Rattle.world_model.specs.ScriptAnswers.{IsAnswer}
+use Rattle.world_model.specs.ScriptCalls.{calls_of}
+use Rattle.txn_session.specs.Calls.{Call, entries}
+use Rattle.txn_session.specs.Holds.{Holds}
+use Rattle.txn_session.specs.Session.{Doing, Idle, Open, Ending, SessionState}
+use Rattle.cluster.specs.Built.{is_built}
+use Rattle.cluster.specs.Live.{LiveState, session_in}
+use Rattle.cluster.specs.Sees.{Sees}
+
+-- where a session stands in a run
+abbrev pub phase_as : {E : Type 0} → Doing E → Phase
+phase_as Idle = phases.Idle
+phase_as (Open txn) = phases.Open txn.tx txn.s (map (λ u. u.object) txn.updates)
+phase_as (Ending txn lead commit) = phases.Ending txn.tx txn.s commit.going
+
+module _ {E : Type 0} where
+  -- a session is where the run left it, and what it did is in these calls
+  pub record StandsBy (run : Run) (calls : List (Call E)) (who : List ℕ) (s : SessionState E) : Type 0 where
+    pub name : s.name ≡ who
+    pub sites : s.sites ≡ sites_of run
+    pub parts : s.parts ≡ parts_of run
+    pub site : site_of run who ≡ Some s.site
+    pub there : has_site run s.site ≡ true
+    pub phase : phase run who ≡ phase_as s.doing
+    pub few : update_total (phase_as s.doing) ≤ 256
+    pub depends : s.dependency ≡ dependency (sites_of run) (calls_of run) who
+    pub holds : Holds s calls
+
+  abbrev pub StandsAs : Run → List (Call E) → List ℕ → Option (SessionState E) → Type 0
+  StandsAs run calls who None = (phase run who ≡ Absent) × (site_of run who ≡ None)
+  StandsAs run calls who (Some s) = StandsBy run calls who s
+
+-- no cluster is made
+pub record IsBefore (run : Run) : Type 0 where
+  pub lacks : has_cluster run ≡ false
+  pub sites : sites_of run ≡ 0
+  pub parts : parts_of run ≡ 0
+  pub calls : calls_of run ≡ []
+  pub phases : (who : List ℕ) → phase run who ≡ Absent
+  pub site : (who : List ℕ) → site_of run who ≡ None
+  pub count : session_count run ≡ 0
+
+module _ {S E : Type 0} (kinds : Kinds S E) where
+  -- these calls show the lines of partitions in the run, and left the partitions and the sessions so
+  pub record ReachedLive (c : LiveState E) (run : Run) : Type 0 where
+    pub has : has_cluster run ≡ true
+    pub sites : c.sites.sites ≡ sites_of run
+    pub parts : c.sites.parts ≡ parts_of run
+    pub calls : List (Call E)
+    pub sees : Sees kinds c.sites calls
+    pub shown : lines_of (entries calls) ≡ calls_of run
+    -- each begin was handed what its session depended on
+    pub own : HandsOwn (sites_of run) (calls_of run)
+    pub each : (who : List ℕ) → StandsAs run calls who (session_in c.sessions who)
+    pub count : session_count run ≡ length c.sessions
+
+  abbrev pub Reached : Option (LiveState E) → Run → Type 0
+  Reached None run = IsBefore run
+  Reached (Some c) run = ReachedLive c run
+
+  -- whatever run had left the old cluster, these lines answer the command in it, and leave the new one
+  abbrev pub Applies : Option (LiveState E) → Command → List Step → Option (LiveState E) → Type 0
+  Applies old c steps new = (number : ℕ) (run : Run) → Reached old run → IsAnswer is_built run c steps × Reached new (answered number (Some c) steps run)
+
+  -- some run left it so
+  pub record IsReached (c : Option (LiveState E)) : Type 0 where
+    pub run : Run
+    pub reached : Reached c run

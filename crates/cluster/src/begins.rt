@@ -1,0 +1,174 @@
+ghost use Rattle.std.specs.Prelude.{◌≡◌, ◌≤◌, ◌+◌, ℕ, true, false, List, Some, None, IfOk, OnOk, if◌then◌else◌, length, is_some};
+ghost use Rattle.std.specs.Str.{bytes_eq};
+ghost use Rattle.crdt_core.specs.KindsOf.{kinds_of};
+ghost use Rattle.cluster.specs.Acts.{Acts, Begins};
+ghost use Rattle.cluster.specs.Held.{holds_place};
+ghost use Rattle.cluster.specs.Live.{phase_in, are_idle, session_in, stands_in, number_of};
+ghost use Rattle.cluster.specs.Reached.{Applies, IsReached};
+
+use crate::Sites;
+use crate::cluster::only;
+use crate::live::{Live, Sessions, is_idle};
+use crdt_core::Crdt;
+use field_codec::Text;
+use site_vector::PartId;
+use std::alloc::AllocError;
+use txn_session::Session;
+use world_model::{Command, Step};
+
+/// The most sessions at one time.
+const MOST_SESSIONS: usize = 64;
+
+impl<C: Crdt> Live<C> {
+    /// Makes a session at a site.
+    pub(crate) fn make_session(&mut self, name: Text, site: u8) -> Result<Vec<Step>, AllocError>
+        ensures { IfOk result (λ steps. Applies (kinds_of C.laws) (Some self.old) (Command.Session name site) steps.items (Some self.new)) }
+    {
+        if !self.sites.has_site(site) {
+            return only(self.alloc, Step::NoPart);
+        }
+        if self.sessions.contains_key(&name) {
+            return only(self.alloc, Step::HasSession);
+        }
+        if self.sessions.len() == MOST_SESSIONS {
+            return only(self.alloc, Step::LimitSessions);
+        }
+        let key = name.copy(self.alloc)?;
+        let named = name.copy(self.alloc)?;
+        let (sites, parts) = (self.sites.sites(), self.sites.parts());
+        let session = Session::new(self.alloc, named, site, sites, parts);
+        create(&mut self.sessions, key, session)?;
+        only(self.alloc, Step::MadeSession { name, site })
+    }
+
+    /// Removes a session.
+    pub(crate) fn lose(&mut self, name: Text) -> Result<Vec<Step>, AllocError>
+        ensures { IfOk result (λ steps. Applies (kinds_of C.laws) (Some self.old) (Command.Lose name) steps.items (Some self.new)) }
+    {
+        if !self.sessions.contains_key(&name) {
+            return only(self.alloc, Step::NoSession);
+        }
+        remove(&mut self.sessions, &name);
+        only(self.alloc, Step::Lost { name })
+    }
+
+    /// Begins a transaction of a session, at the partition that is named or the first of its site.
+    pub(crate) fn begin(
+        &mut self,
+        name: Text,
+        part: Option<PartId>,
+    ) -> Result<Vec<Step>, AllocError>
+        requires reached { IsReached (kinds_of C.laws) (Some self.old) }
+        ensures { IfOk result (λ steps. Applies (kinds_of C.laws) (Some self.old) (Command.Begin name part) steps.items (Some self.new)) }
+    {
+        if !self.has_place(part) {
+            return only(self.alloc, Step::NoPart);
+        }
+        let Some(phase) = self.phase(&name) else {
+            return only(self.alloc, Step::NoSession);
+        };
+        if !self.stands_at(&name, part) {
+            return only(self.alloc, Step::NoPart);
+        }
+        if !is_idle(phase) {
+            return only(self.alloc, Step::HasTxn);
+        }
+        match begin_in(&mut self.sites, &mut self.sessions, &name, number_of(part)) {
+            Ok(step) => {
+                return only(self.alloc, step);
+            }
+            Err(error) => {
+                return Err(error);
+            }
+        }
+    }
+
+    /// Whether the cluster has the partition, if one is named.
+    fn has_place(&self, part: Option<PartId>) -> bool
+        ensures is { result ≡ holds_place self.now.sites part }
+        ensures some { 1 ≤ self.now.sites.parts }
+    {
+        let parts = self.sites.parts();
+        match part {
+            Some(part) => self.sites.has_part(part),
+            None => 1 <= parts,
+        }
+    }
+
+    /// Whether the partition, if one is named, is of the session's site.
+    fn stands_at(&self, name: &Text, part: Option<PartId>) -> bool
+        ensures { result ≡ stands_in self.now.sessions name.now part }
+    {
+        match part {
+            Some(part) => match self.sessions.get(name) {
+                Some(session) => session.site() == part.site,
+                None => false,
+            },
+            None => true,
+        }
+    }
+}
+
+/// The number of the partition that is named, or of the first.
+fn number_of(part: Option<PartId>) -> u8
+    ensures { result ≡ number_of part }
+{
+    match part {
+        Some(part) => part.part,
+        None => 1,
+    }
+}
+
+/// Begins a transaction of a session that is idle, at the partition of its site with this number.
+fn begin_in<C: Crdt>(
+    sites: &mut Sites<C>,
+    sessions: &mut Sessions<C>,
+    name: &Text,
+    part: u8,
+) -> Result<Step, AllocError>
+    requires least { 1 ≤ part }
+    requires most { part ≤ sites.old.parts }
+    requires idle { are_idle (phase_in sessions.old.entries name.now) ≡ true }
+    requires reached { IsReached (kinds_of C.laws) (Some (record { sites = sites.old; sessions = sessions.old.entries })) }
+    ensures { IfOk result (λ step. Acts (kinds_of C.laws) sites.old sessions.old.entries name.now sites.new sessions.new.entries (Begins (kinds_of C.laws) sites.new part step)) }
+{
+    match sessions.get_mut(name) {
+        Some(session) => {
+            let (_, answer) = session.open(sites, (), part);
+            match answer {
+                Ok(step) => {
+                    return Ok(step);
+                }
+                Err(_) => {
+                    return Err(AllocError);
+                }
+            }
+        }
+        None => {
+            return Err(AllocError);
+        }
+    }
+}
+
+/// Adds a session whose name is new.
+fn create<C: Crdt>(
+    sessions: &mut Sessions<C>,
+    name: Text,
+    session: Session<C>,
+) -> Result<(), AllocError>
+    requires { session_in sessions.old.entries name ≡ None }
+    ensures find { OnOk result ((who : List ℕ) → session_in sessions.new.entries who ≡ (if bytes_eq name who then Some session else session_in sessions.old.entries who)) }
+    ensures count { OnOk result (length sessions.new.entries ≡ length sessions.old.entries + 1) }
+{
+    sessions.insert(name, session)?;
+    Ok(())
+}
+
+/// Removes a session that is there.
+fn remove<C: Crdt>(sessions: &mut Sessions<C>, name: &Text)
+    requires { is_some (session_in sessions.old.entries name.now) ≡ true }
+    ensures find { (who : List ℕ) → session_in sessions.new.entries who ≡ (if bytes_eq name.now who then None else session_in sessions.old.entries who) }
+    ensures count { length sessions.new.entries + 1 ≡ length sessions.old.entries }
+{
+    let _ = sessions.shift_remove(name);
+}

@@ -1,0 +1,227 @@
+ghost use Rattle.std.specs.Prelude.{◌≡◌, ◌≢◌, ℕ, List, true, Option, Some, IfOk};
+ghost use Rattle.crdt_core.specs.KindsOf.{kinds_of};
+ghost use Rattle.world_model.specs.ScriptAnswers.{fewer};
+ghost use Rattle.txn_session.specs.Calls.{Call};
+ghost use Rattle.txn_session.specs.Holds.{Holds, Mays};
+ghost use Rattle.cluster.specs.Acts.{Acts};
+ghost use Rattle.cluster.specs.Built.{IsSaid};
+ghost use Rattle.cluster.specs.Ends.{MayMake, TakesStep, can_end, command_of, goes_on, is_idle_phase, is_undecided_phase, stops};
+ghost use Rattle.cluster.specs.Held.{SameSize};
+ghost use Rattle.cluster.specs.Live.{session_in};
+ghost use Rattle.cluster.specs.Reached.{Applies, IsReached};
+ghost use Rattle.cluster.specs.Sees.{Sees};
+
+use crate::Sites;
+use crate::cluster::only;
+use crate::live::{Live, Sessions};
+use crdt_core::Crdt;
+use field_codec::Text;
+use std::alloc::{AllocError, Global};
+use txn_session::{Phase, Session};
+use world_model::{Command, Next, Step};
+
+/// How a session's transaction comes to its end.
+#[derive(Clone, Copy, Debug)]
+enum Way {
+    Commits,
+    GivesUp,
+}
+
+impl<C: Crdt> Live<C> {
+    /// Commits a session's transaction, or makes so many steps of its commit.
+    pub(crate) fn commit(&mut self, name: Text, steps: Option<u64>) -> Result<Vec<Step>, AllocError>
+        requires said { IsSaid C.has C.too_deep (Command.Commit name steps) }
+        requires reached { IsReached (kinds_of C.laws) (Some self.old) }
+        ensures { IfOk result (λ lines. Applies (kinds_of C.laws) (Some self.old) (Command.Commit name steps) lines.items (Some self.new)) }
+    {
+        let Some(phase) = self.phase(&name) else {
+            return only(self.alloc, Step::NoSession);
+        };
+        if is_idle(phase) {
+            return only(self.alloc, Step::NoTxn);
+        }
+        match end_all(
+            self.alloc,
+            &mut self.sites,
+            &mut self.sessions,
+            &name,
+            Way::Commits,
+            steps,
+        ) {
+            Ok(lines) => {
+                return Ok(lines);
+            }
+            Err(error) => {
+                return Err(error);
+            }
+        }
+    }
+
+    /// Gives a session's transaction up.
+    pub(crate) fn abort(&mut self, name: Text) -> Result<Vec<Step>, AllocError>
+        requires reached { IsReached (kinds_of C.laws) (Some self.old) }
+        ensures { IfOk result (λ lines. Applies (kinds_of C.laws) (Some self.old) (Command.Abort name) lines.items (Some self.new)) }
+    {
+        let Some(phase) = self.phase(&name) else {
+            return only(self.alloc, Step::NoSession);
+        };
+        if !is_undecided(phase) {
+            return only(self.alloc, Step::NoTxn);
+        }
+        match end_all(
+            self.alloc,
+            &mut self.sites,
+            &mut self.sessions,
+            &name,
+            Way::GivesUp,
+            None,
+        ) {
+            Ok(lines) => {
+                return Ok(lines);
+            }
+            Err(error) => {
+                return Err(error);
+            }
+        }
+    }
+}
+
+/// Makes the steps of the end of a session's transaction, at most so many.
+fn end_all<C: Crdt>(
+    alloc: Global,
+    sites: &mut Sites<C>,
+    sessions: &mut Sessions<C>,
+    name: &Text,
+    way: Way,
+    steps: Option<u64>,
+) -> Result<Vec<Step>, AllocError>
+    requires some { MayMake way steps }
+    requires can { can_end way (session_in sessions.old.entries name.now) ≡ true }
+    requires reached { IsReached (kinds_of C.laws) (Some (record { sites = sites.old; sessions = sessions.old.entries })) }
+    ensures { IfOk result (λ lines. Applies (kinds_of C.laws) (Some (record { sites = sites.old; sessions = sessions.old.entries })) (command_of way name.now steps) lines.items (Some (record { sites = sites.new; sessions = sessions.new.entries }))) }
+{
+    let mut lines = Vec::new(alloc);
+    let mut left = steps;
+    'steps: loop {
+        let (line, goes) = end_once(sites, sessions, name, way)?;
+        lines.push(line)?;
+        if !goes {
+            return Ok(lines);
+        }
+        left = fewer(left);
+        if stops(left, sessions, name) {
+            return Ok(lines);
+        }
+    }
+}
+
+/// Makes the next step of the end of a session's transaction. Answers its line, and whether more follow.
+fn end_once<C: Crdt>(
+    sites: &mut Sites<C>,
+    sessions: &mut Sessions<C>,
+    name: &Text,
+    way: Way,
+) -> Result<(Step, bool), AllocError>
+    requires can { can_end way (session_in sessions.old.entries name.now) ≡ true }
+    requires reached { IsReached (kinds_of C.laws) (Some (record { sites = sites.old; sessions = sessions.old.entries })) }
+    ensures { IfOk result (λ r. Acts (kinds_of C.laws) sites.old sessions.old.entries name.now sites.new sessions.new.entries (TakesStep (kinds_of C.laws) sites.new way r.0 r.1)) }
+{
+    match sessions.get_mut(name) {
+        Some(session) => {
+            return step_on(session, sites, way);
+        }
+        None => {
+            return Err(AllocError);
+        }
+    }
+}
+
+/// Makes the next step of the end of the session's transaction.
+fn step_on<C: Crdt>(
+    session: &mut Session<C>,
+    sites: &mut Sites<C>,
+    way: Way,
+) -> Result<(Step, bool), AllocError>
+    requires sites { sites.old.sites ≡ session.old.sites }
+    requires parts { sites.old.parts ≡ session.old.parts }
+    requires holds { Mays (λ h (p : Unit {0}) l. Sees (kinds_of C.laws) h l) (λ (p : Unit {0}) n. true) sites.old tt session.old }
+    ensures stays { SameSize sites.old sites.new }
+    ensures made { IfOk result (λ r. (calls : List (Call C.Effect)) → Sees (kinds_of C.laws) sites.old calls → Holds session.old calls → TakesStep (kinds_of C.laws) sites.new way r.0 r.1 session.old session.new calls) }
+{
+    match way {
+        Way::Commits => {
+            let (_, answer) = session.commit_step(sites, ());
+            match answer {
+                Ok((step, next)) => {
+                    let goes = goes_on(session.phase(), next);
+                    return Ok((step, goes));
+                }
+                Err(_) => {
+                    return Err(AllocError);
+                }
+            }
+        }
+        Way::GivesUp => {
+            let (_, answer) = session.abort_step(sites, ());
+            match answer {
+                Ok(step) => {
+                    let goes = goes_on(session.phase(), Next::Go);
+                    return Ok((step, goes));
+                }
+                Err(_) => {
+                    return Err(AllocError);
+                }
+            }
+        }
+    }
+}
+
+/// Whether more steps follow, where the session stands so after one.
+fn goes_on(phase: Phase, next: Next) -> bool
+    ensures { result ≡ goes_on phase next }
+{
+    match phase {
+        Phase::Idle => false,
+        _ => matches!(next, Next::Go),
+    }
+}
+
+/// How many steps may be made after one.
+fn fewer(steps: Option<u64>) -> Option<u64>
+    ensures { result ≡ fewer steps }
+{
+    match steps {
+        Some(count) => Some(count.saturating_sub(1)),
+        None => None,
+    }
+}
+
+/// Whether no more steps may be made, and one is left.
+fn stops<C: Crdt>(steps: Option<u64>, sessions: &Sessions<C>, name: &Text) -> bool
+    ensures { result ≡ stops steps (session_in sessions.now.entries name.now) }
+{
+    let Some(count) = steps else {
+        return false;
+    };
+    if count > 0 {
+        return false;
+    }
+    match sessions.get(name) {
+        Some(session) => session.has_step(),
+        None => false,
+    }
+}
+
+/// Whether there is no transaction.
+fn is_idle(phase: Phase) -> bool
+    ensures { result ≡ is_idle_phase phase }
+{
+    matches!(phase, Phase::Idle)
+}
+
+/// Whether there is a transaction that isn't decided.
+fn is_undecided(phase: Phase) -> bool
+    ensures { result ≡ is_undecided_phase phase }
+{
+    matches!(phase, Phase::Open | Phase::Committing)
+}
