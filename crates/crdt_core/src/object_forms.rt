@@ -1,5 +1,5 @@
-ghost use Rattle.std.specs.Prelude.{◌≡◌, ◌≤◌, ◌++◌, true, length, OnOk, OnErr, IfOk};
-ghost use Rattle.field_codec.specs.Spelling.{Keeps};
+ghost use Rattle.std.specs.Prelude.{◌≡◌, ◌≤◌, ◌++◌, ◌&&◌, true, length, OnOk, OnErr, IfOk};
+ghost use Rattle.field_codec.specs.Spelling.{Keeps, is_text};
 ghost use Rattle.field_codec.specs.Reading.{Gives};
 ghost use Rattle.crdt_core.specs.Spelled.{object, object_at};
 
@@ -13,6 +13,7 @@ use std::alloc::{AllocError, Global};
 ///
 /// `AllocError` where memory runs out. `out` is as before then.
 pub fn put_object(out: &mut Vec<u8>, o: &ObjectId) -> Result<(), AllocError>
+    ensures texts { OnOk result ((is_text o.now.bucket && is_text o.now.key) ≡ true) }
     ensures ok { OnOk result (out.new.items ≡ out.old.items ++ object o.now) }
     ensures err { OnErr result (out.new.items ≡ out.old.items) }
 {
@@ -25,6 +26,7 @@ pub fn put_object(out: &mut Vec<u8>, o: &ObjectId) -> Result<(), AllocError>
 }
 
 fn put_parts(out: &mut Vec<u8>, o: &ObjectId) -> Result<(), AllocError>
+    ensures texts { OnOk result ((is_text o.now.bucket && is_text o.now.key) ≡ true) }
     ensures ok { OnOk result (out.new.items ≡ out.old.items ++ object o.now) }
     ensures err { OnErr result (Keeps out.old.items out.new.items) }
 {

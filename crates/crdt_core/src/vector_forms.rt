@@ -1,7 +1,7 @@
 ghost use Rattle.std.specs.Prelude.{◌≡◌, ◌≤◌, ◌++◌, true, length, OnOk, OnErr, IfOk};
 ghost use Rattle.field_codec.specs.Spelling.{Keeps};
 ghost use Rattle.field_codec.specs.Reading.{number_at, members_at};
-ghost use Rattle.crdt_core.specs.Spelled.{vector, vector_at};
+ghost use Rattle.crdt_core.specs.Spelled.{vector, is_vector, vector_at};
 
 use crate::forms::take_small;
 use field_codec::{TakeError, put_u8, put_u64, take_u64};
@@ -14,23 +14,27 @@ use std::alloc::AllocError;
 ///
 /// `AllocError` where memory runs out. `out` is as before then.
 pub fn put_vector(out: &mut Vec<u8>, v: &VTime) -> Result<(), AllocError>
+    ensures spelled { OnOk result (is_vector v.now ≡ true) }
     ensures ok { OnOk result (out.new.items ≡ out.old.items ++ vector v.now) }
     ensures err { OnErr result (out.new.items ≡ out.old.items) }
 {
     let start = out.len();
-    let put = put_entries(out, v.as_slice());
+    let put = put_entries(out, v.width(), v.as_slice());
     if put.is_err() {
         out.truncate(start);
     }
     put
 }
 
-fn put_entries(out: &mut Vec<u8>, v: &[u64]) -> Result<(), AllocError>
-    requires { length v.now ≤ 8 }
+fn put_entries(out: &mut Vec<u8>, width: u8, v: &[u64]) -> Result<(), AllocError>
+    requires width { width ≡ length v.now }
+    requires least { 1 ≤ length v.now }
+    requires most { length v.now ≤ 8 }
+    ensures spelled { OnOk result (is_vector v.now ≡ true) }
     ensures ok { OnOk result (out.new.items ≡ out.old.items ++ vector v.now) }
     ensures err { OnErr result (Keeps out.old.items out.new.items) }
 {
-    put_u8(out, v.len() as u8)?;
+    put_u8(out, width)?;
     for n in v {
         put_u64(out, *n)?;
     }

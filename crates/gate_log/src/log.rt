@@ -3,7 +3,7 @@ ghost use Rattle.disk_core.specs.States.{GoesOn, Rose, Rests, Syncs, bytes_of, f
 ghost use Rattle.disk_core.specs.Moments.{EachImage, AtEachMoment};
 ghost use Rattle.gate_log.specs.Log.{IsLog, AreSized, IsBeforeOrAfter};
 ghost use Rattle.gate_log.specs.Damage.{IsDamagedAt};
-ghost use Rattle.gate_log.specs.Payloads.{placed};
+ghost use Rattle.gate_log.specs.Payloads.{placed, AreWithin};
 ghost use Rattle.gate_log.specs.Rest.{AtRest, Lowers};
 
 use crate::append::{read_durable, write_record};
@@ -122,9 +122,31 @@ impl<D: Disk + Drop> GateLog<D> {
 
     /// The payloads of the records that were read at opening, each with the place of its first byte.
     pub fn payloads(&self) -> Payloads<'_>
-        ensures { result ≡ read_at_opening self.now }
+        ensures read { result ≡ read_at_opening self.now }
+        ensures within { AreWithin (read_at_opening self.now) }
     {
         self.read.payloads()
+    }
+
+    /// The place of the closed gate: how many bytes of the log stand in front of it.
+    pub fn end(&self) -> u64
+        ensures { result ≡ gate_of self.now }
+    {
+        self.end
+    }
+
+    /// The greatest length of the disk.
+    pub fn room(&self) -> u64
+        ensures { result ≡ (D.state (disk_of self.now)).room }
+    {
+        self.disk.room()
+    }
+
+    /// Whether an append failed since the log was opened.
+    pub fn is_closed(&self) -> bool
+        ensures { result ≡ is_closed self.now }
+    {
+        self.closed
     }
 
     /// The disk.

@@ -51,10 +51,11 @@ pub(crate) struct Contents {
 }
 
 impl Contents {
-    ghost use Rattle.gate_log.specs.Payloads.{walked};
+    ghost use Rattle.gate_log.specs.Payloads.{walked, AreWithin};
 
     pub(crate) fn payloads(&self) -> Payloads<'_>
-        ensures { result ≡ walked self.now.count 8 (drop 8 self.now.bytes.items) }
+        ensures walked { result ≡ walked self.now.count 8 (drop 8 self.now.bytes.items) }
+        ensures within { AreWithin (walked self.now.count 8 (drop 8 self.now.bytes.items)) }
     {
         Payloads::from_gate(&self.bytes[8..], 8, self.count)
     }

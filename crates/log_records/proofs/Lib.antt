@@ -1,0 +1,3 @@
+pub mod Wholes
+pub mod Joins
+pub mod Streams

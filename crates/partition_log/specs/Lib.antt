@@ -1,0 +1,5 @@
+pub mod Codec
+pub mod Logs
+pub mod Appends
+pub mod Damage
+pub mod Gates

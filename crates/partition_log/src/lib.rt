@@ -1,0 +1,11 @@
+//! A partition's log: a list of records on a disk.
+#![tactic(auto)]
+
+mod append;
+mod laws;
+mod log;
+mod opening;
+mod payload;
+
+pub use laws::law_part_log;
+pub use log::PartLog;

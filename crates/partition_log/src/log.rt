@@ -1,0 +1,251 @@
+ghost use Rattle.std.specs.Prelude.{◌≡◌, ◌≢◌, ◌⊎◌, ◌++◌, ◌∷◌, [], List, ℕ, map, reverse, true, false, Err, IsTrue, IfOk, IfErr, MatchResult};
+ghost use Rattle.gate_log.specs.declared.error.AppendError.TheVariants.{NoMemory as OutOfMemory};
+ghost use Rattle.crdt_core.specs.Spelled.{is_tx};
+ghost use Rattle.crdt_core.specs.declared.record.Record.{Record};
+ghost use Rattle.crdt_core.specs.declared.record.Record.TheVariants.{Lease, Decide, Finish, Abort, Batch};
+ghost use Rattle.log_records.specs.Messages.{can_put_batch};
+ghost use Rattle.log_records.specs.Records.{can_put_record};
+ghost use Rattle.partition_log.specs.Codec.{codec_of};
+ghost use Rattle.partition_log.specs.Appends.{Appends};
+ghost use Rattle.partition_log.specs.Logs.{HoldsLog, HasRecords};
+ghost use Rattle.partition_log.specs.Damage.{AreRecords, IsDamaged};
+ghost use Rattle.disk_core.specs.States.{GoesOn, Rose, Rests, Syncs, bytes_of};
+
+use crate::append::{append_one, append_two};
+use crate::opening::{check_records, read_records};
+use crate::payload::{payload_of, payload_of_batch};
+use crdt_core::{Crdt, Message, Record};
+use disk_core::{Disk, Fused};
+use field_codec::ListOf;
+use gate_log::{AppendError, GateLog, OpenError};
+use log_records::Short;
+use site_vector::{TxId, VTime};
+use std::alloc::{AllocError, Global};
+use std::marker::PhantomData;
+
+/// The log of a partition: a list of records on a disk.
+///
+/// At each moment of a call every crash leaves the list before with the first of the call's records, or none, or all,
+/// and once it has answered `Ok` with all.
+#[derive(Drop)]
+pub struct PartLog<C: Crdt, D: Disk + Drop> {
+    log: GateLog<D>,
+    kinds: PhantomData<C>,
+}
+
+impl<C: Crdt, D: Disk + Drop> PartLog<C, D> {
+    ghost use Rattle.gate_log.specs.Logs.{IsReady, disk_of, is_closed, read_at_opening};
+    ghost use Rattle.gate_log.specs.Rest.{Lowers};
+    ghost use Rattle.gate_log.specs.declared.error.OpenError.TheVariants.{Failed as OpenFailed, Damaged};
+    ghost use Rattle.partition_log.specs.Gates.{gates_of, leases};
+
+    /// Opens the log that a disk holds: makes all of it durable, and reads it twice, once for its payloads and once for
+    /// its records. An `Err` hands the disk back.
+    ///
+    /// # Errors
+    ///
+    /// `Failed` where the disk fails, `Damaged` exactly where its bytes are no log of records, and `NoMemory` where they
+    /// don't fit the memory.
+    pub fn open(alloc: Global, disk: D) -> Result<PartLog<C, D>, (D, OpenError)>
+        ensures opened { IfOk result (λ log. (records : List (Record C.Effect)) × AreRecords (codec_of C.spells) (read_at_opening (gates_of log)) records
+            × (IsTrue (D.state disk).tells → HoldsLog (codec_of C.spells) (bytes_of (D.state disk)) records
+            × HasRecords (codec_of C.spells) D.state (gates_of log) records)) }
+        ensures ready { IfOk result (λ log. IsReady D.state (gates_of log) × (is_closed (gates_of log) ≡ false)) }
+        ensures damaged { (at : ℕ) → IfErr result (λ e. e.1 ≡ Damaged at → IsTrue (D.state disk).tells
+            → IsDamaged (codec_of C.spells) (bytes_of (D.state disk)) at) }
+        ensures failed { IfErr result (λ e. e.1 ≡ OpenFailed → Rose (D.state disk).faults (D.state e.0).faults) }
+        // All that the disk does is to sync, and that only once.
+        ensures synced { IfOk result (λ log. Syncs (D.state disk) (D.state (disk_of (gates_of log)))) }
+        ensures synced_err { IfErr result (λ e. Rests (D.state disk) (D.state e.0)
+            ⊎ Syncs (D.state disk) (D.state e.0)) }
+        ensures goes_on { MatchResult result (λ log. GoesOn (D.state disk) (D.state (disk_of (gates_of log))))
+            (λ e. GoesOn (D.state disk) (D.state e.0)) }
+        ensures left { MatchResult result (λ log. Lowers 16 (D.state disk).left (D.state (disk_of (gates_of log))).left)
+            (λ e. Lowers 16 (D.state disk).left (D.state e.0).left) }
+    {
+        match GateLog::open(alloc, disk) {
+            Err(refused) => Err(refused),
+            Ok(log) => match check_records::<C>(alloc, log.payloads()) {
+                Err(error) => Err((log.close(), error)),
+                Ok(()) => Ok(PartLog {
+                    log,
+                    kinds: PhantomData,
+                }),
+            },
+        }
+    }
+
+    /// Appends a Lease up to a time. Takes no memory.
+    ///
+    /// # Errors
+    ///
+    /// `Full` exactly where the record would pass the room of the disk, and `Closed` exactly where an append failed
+    /// before: the log is as before. `Failed` only where the disk fails: a crash leaves the list before or that with
+    /// the record, and every later append answers `Closed`.
+    pub fn lease(&mut self, ceil: u64) -> Result<(), AppendError>
+        requires { IsReady D.state (gates_of self.old) }
+        ensures appends { Appends (codec_of C.spells) D.state result (gates_of self.old) (gates_of self.new) (Lease ceil ∷ []) }
+        ensures fed { result ≢ Err OutOfMemory }
+    {
+        let short = Short::lease::<C>(ceil);
+        append_one::<C, D>(&mut self.log, short.as_slice())
+    }
+
+    /// Appends a Decide. Takes no memory.
+    ///
+    /// # Errors
+    ///
+    /// As `lease`.
+    pub fn decide(&mut self, tx: TxId, c: &VTime) -> Result<(), AppendError>
+        requires tx { is_tx tx ≡ true }
+        requires ready { IsReady D.state (gates_of self.old) }
+        ensures appends { Appends (codec_of C.spells) D.state result (gates_of self.old) (gates_of self.new) (Decide tx c.now ∷ []) }
+        ensures fed { result ≢ Err OutOfMemory }
+    {
+        let short = Short::decide::<C>(tx, c);
+        append_one::<C, D>(&mut self.log, short.as_slice())
+    }
+
+    /// Appends a Finish. Takes no memory.
+    ///
+    /// # Errors
+    ///
+    /// As `lease`.
+    pub fn finish(&mut self, tx: TxId, c: &VTime) -> Result<(), AppendError>
+        requires tx { is_tx tx ≡ true }
+        requires ready { IsReady D.state (gates_of self.old) }
+        ensures appends { Appends (codec_of C.spells) D.state result (gates_of self.old) (gates_of self.new) (Finish tx c.now ∷ []) }
+        ensures fed { result ≢ Err OutOfMemory }
+    {
+        let short = Short::finish::<C>(tx, c);
+        append_one::<C, D>(&mut self.log, short.as_slice())
+    }
+
+    /// Appends an Abort. Takes no memory.
+    ///
+    /// # Errors
+    ///
+    /// As `lease`.
+    pub fn abort(&mut self, tx: TxId) -> Result<(), AppendError>
+        requires tx { is_tx tx ≡ true }
+        requires ready { IsReady D.state (gates_of self.old) }
+        ensures appends { Appends (codec_of C.spells) D.state result (gates_of self.old) (gates_of self.new) (Abort tx ∷ []) }
+        ensures fed { result ≢ Err OutOfMemory }
+    {
+        let short = Short::abort::<C>(tx);
+        append_one::<C, D>(&mut self.log, short.as_slice())
+    }
+
+    /// Appends a Lease, where a ceiling is given, and then a record. Takes all its memory first.
+    ///
+    /// # Errors
+    ///
+    /// `NoMemory` where memory runs out, or where a list has 2^32 members or more: nothing is written then. Else as
+    /// `lease`; `Full` exactly where both records together would pass the room.
+    pub fn prepare(
+        &mut self,
+        alloc: Global,
+        ceil: Option<u64>,
+        prepare: &Record<C::Effect>,
+    ) -> Result<(), AppendError>
+        requires fit { can_put_record C.has C.is_of C.can_put prepare.now ≡ true }
+        requires ready { IsReady D.state (gates_of self.old) }
+        ensures { Appends (codec_of C.spells) D.state result (gates_of self.old) (gates_of self.new) (leases ceil ++ prepare.now ∷ []) }
+    {
+        let Ok(payload) = payload_of::<C>(alloc, prepare) else {
+            return Err(AppendError::NoMemory);
+        };
+        match ceil {
+            None => append_one::<C, D>(&mut self.log, &payload),
+            Some(ceil) => {
+                let short = Short::lease::<C>(ceil);
+                append_two::<C, D>(&mut self.log, short.as_slice(), &payload)
+            }
+        }
+    }
+
+    /// Appends the Batch of a message that has parts. Takes all its memory first.
+    ///
+    /// # Errors
+    ///
+    /// `NoMemory` where memory runs out, or where a list has 2^32 members or more: nothing is written then. Else as
+    /// `lease`.
+    pub fn batch(&mut self, alloc: Global, message: &Message<C::Effect>) -> Result<(), AppendError>
+        requires fit { can_put_batch C.has C.is_of C.can_put message.now ≡ true }
+        requires ready { IsReady D.state (gates_of self.old) }
+        ensures { Appends (codec_of C.spells) D.state result (gates_of self.old) (gates_of self.new) (Batch message.now ∷ []) }
+    {
+        let Ok(payload) = payload_of_batch::<C>(alloc, message) else {
+            return Err(AppendError::NoMemory);
+        };
+        append_one::<C, D>(&mut self.log, &payload)
+    }
+
+    /// The places of the payloads that were read at opening, and their records, the oldest first. `open` says that they
+    /// are records.
+    ///
+    /// # Errors
+    ///
+    /// `AllocError` where memory runs out.
+    pub fn records(
+        &self,
+        alloc: Global,
+    ) -> Result<(ListOf<u64>, ListOf<Record<C::Effect>>), AllocError>
+        requires { (log : List (Record C.Effect)) × AreRecords (codec_of C.spells) (read_at_opening (gates_of self.now)) log }
+        ensures places { IfOk result (λ x. x.0 ≡ map (λ item. item.0) (read_at_opening (gates_of self.now))) }
+        ensures records { IfOk result (λ x. AreRecords (codec_of C.spells) (read_at_opening (gates_of self.now)) (reverse x.1)) }
+    {
+        read_records::<C>(alloc, self.log.payloads())
+    }
+
+    /// The disk.
+    pub fn close(self) -> D
+        ensures { result ≡ disk_of (gates_of self) }
+    {
+        self.log.close()
+    }
+
+    /// Whether a call of the disk failed because it found no memory to grow.
+    pub fn starved(&self) -> bool
+        ensures { result ≡ (D.state (disk_of (gates_of self.now))).starved }
+    {
+        self.log.starved()
+    }
+}
+
+impl<C: Crdt, D: Disk + Drop> PartLog<C, Fused<D>> {
+    ghost use Rattle.std.specs.Prelude.{Some, None};
+    ghost use Rattle.disk_core.specs.Fuses.{inside, calls_left, kept_bytes, fused_state};
+    ghost use Rattle.gate_log.specs.Logs.{disk_of, gate_of, is_closed, read_at_opening, IsReady};
+    ghost use Rattle.partition_log.specs.Gates.{gates_of};
+
+    /// Arms the fuse of the disk, also where the log is closed, and changes nothing else.
+    pub fn arm(&mut self, k: u64, keep: u64)
+        ensures inside { inside (disk_of (gates_of self.new)) ≡ inside (disk_of (gates_of self.old)) }
+        ensures keep { kept_bytes (disk_of (gates_of self.new)) ≡ keep }
+        ensures state { fused_state D.state (disk_of (gates_of self.new))
+            ≡ record (fused_state D.state (disk_of (gates_of self.old))) { left = Some k } }
+        ensures has { (log : List (Record C.Effect)) → HasRecords (codec_of C.spells) (fused_state D.state) (gates_of self.old) log
+            → HasRecords (codec_of C.spells) (fused_state D.state) (gates_of self.new) log }
+        ensures ready { IsReady (fused_state D.state) (gates_of self.old) → IsReady (fused_state D.state) (gates_of self.new) }
+        ensures same { (gate_of (gates_of self.new) ≡ gate_of (gates_of self.old)) × (is_closed (gates_of self.new) ≡ is_closed (gates_of self.old))
+            × (read_at_opening (gates_of self.new) ≡ read_at_opening (gates_of self.old)) }
+    {
+        self.log.arm(k, keep);
+    }
+
+    /// Takes the fuse of the disk away where it has fired, also where the log is closed, and changes nothing else.
+    pub fn revive(&mut self)
+        ensures inside { inside (disk_of (gates_of self.new)) ≡ inside (disk_of (gates_of self.old)) }
+        ensures fired { calls_left (disk_of (gates_of self.old)) ≡ Some 0
+            → fused_state D.state (disk_of (gates_of self.new)) ≡ record (fused_state D.state (disk_of (gates_of self.old))) { left = None } }
+        ensures burning { calls_left (disk_of (gates_of self.old)) ≢ Some 0 → gates_of self.new ≡ gates_of self.old }
+        ensures has { (log : List (Record C.Effect)) → HasRecords (codec_of C.spells) (fused_state D.state) (gates_of self.old) log
+            → HasRecords (codec_of C.spells) (fused_state D.state) (gates_of self.new) log }
+        ensures ready { IsReady (fused_state D.state) (gates_of self.old) → IsReady (fused_state D.state) (gates_of self.new) }
+        ensures same { (gate_of (gates_of self.new) ≡ gate_of (gates_of self.old)) × (is_closed (gates_of self.new) ≡ is_closed (gates_of self.old))
+            × (read_at_opening (gates_of self.new) ≡ read_at_opening (gates_of self.old)) }
+    {
+        self.log.revive();
+    }
+}
