@@ -33,7 +33,7 @@ use Rattle.cluster.specs.Acts.{Acts, Reads}
 use Rattle.cluster.specs.Built.{is_built}
 use Rattle.cluster.specs.Held.{Held}
 use Rattle.cluster.specs.Live.{LiveState, session_in, phase_in, phase_about, is_open_phase, are_open}
-use Rattle.cluster.specs.Reached.{phase_as, StandsBy, ReachedLive, GoesTo, AppliesLive}
+use Rattle.cluster.specs.Reached.{phase_as, StandsBy, GoesTo, AppliesLive}
 use Rattle.cluster.specs.Sees.{is_calm, Sees}
 use Rattle.cluster.proofs.Meets.{all_met, first_at, none_due, refused, has, lacks_session, has_session, open_is, by_name}
 use Rattle.cluster.proofs.Sessions.{turns, acted}

@@ -1,6 +1,6 @@
 -- A message that is delivered and a report that is heard: calls of partitions that the script numbers anew.
-use Rattle.std.proofs.Common.{◌≡◌, ℕ, Bool, true, false, List, [], ◌∷◌, refl, sym, ap, ◌∙◌, subst, Option, None, Some}
-use Rattle.std.specs.Prelude.{not, ◌&&◌, ◌==◌, ⊤, is_none, is_some, nat_le, Ok, Err}
+use Rattle.std.proofs.Common.{◌≡◌, ℕ, true, false, List, [], ◌∷◌, refl, sym, ap, ◌∙◌, subst, Some}
+use Rattle.std.specs.Prelude.{not, ◌==◌, is_none, is_some, nat_le, Ok, Err}
 use Rattle.std.proofs.lemmas.Bool.{eqb-true, and_parts, leb-true}
 use Rattle.site_vector.specs.declared.ids.PartId.{PartId}
 use Rattle.site_vector.specs.declared.ids.TxId.{TxId}
@@ -12,7 +12,7 @@ use Rattle.world_model.specs.declared.step.Step.{Step}
 use Rattle.world_model.specs.declared.step.Step.TheVariants as step
 use Rattle.world_model.specs.Answers.{answered}
 use Rattle.world_model.specs.Asking.{MayCall}
-use Rattle.world_model.specs.Cluster.{sites_of, parts_of}
+use Rattle.world_model.specs.Cluster.{sites_of}
 use Rattle.world_model.specs.Dependency.{IsOwnPast}
 use Rattle.world_model.specs.Event as event
 use Rattle.world_model.specs.Event.{AskTake, AskHear, Event, Entry, Took, Heard, Refused, Refusal, ClockBehind, TxPending, StableBehind, ClockAtEnd, IsGone, HasGap, IsRepeat, IsDown, IsBadOp, HasNoRoom, IsDamaged, is_sent, is_report}
@@ -21,14 +21,14 @@ use Rattle.world_model.specs.Plan.{IsPlace}
 use Rattle.world_model.specs.Run.{Run}
 use Rattle.world_model.specs.ScriptAnswers.{AnswersBy, IsAnswer, Bears, is_up}
 use Rattle.world_model.specs.ScriptCalls.{asked_of, calls_of, numbered, for_message, for_report, own_of, own_report}
-use Rattle.world_model.specs.Messages.{message_of, report_of}
+use Rattle.world_model.specs.Messages.{message_of}
 use Rattle.world_model.specs.Meeting.{is_foreign}
 use Rattle.world_model.proofs.Names.{off}
 use Rattle.partition_core.specs.Answers.{cause}
 use Rattle.partition_core.specs.declared.answers.Refusal as part
 use Rattle.partition_core.specs.declared.answers.CallError.{CallError}
 use Rattle.partition_core.specs.declared.answers.CallError.TheVariants as call
-use Rattle.txn_session.specs.Calls.{Call, called, entries}
+use Rattle.txn_session.specs.Calls.{called, entries}
 use Rattle.cluster.specs.declared.post.Note.{Note}
 use Rattle.cluster.specs.Answers.{Any, Calls, GoesOn}
 use Rattle.cluster.specs.Built.{is_built}

@@ -2,7 +2,6 @@
 use Rattle.std.proofs.Common.{◌≡◌, ℕ, ◌+◌, Bool, true, false, List, [], ◌∷◌, length, refl, sym, ap, ◌∙◌, subst, Option, None, Some, arith}
 use Rattle.std.specs.Prelude.{not, nat_eq, if◌then◌else◌, is_some, is_none}
 use Rattle.std.proofs.lemmas.Bool.{cond-false, cond-true}
-use Rattle.site_vector.specs.declared.ids.PartId.{PartId}
 use Rattle.crdt_core.specs.KindsOf.{Kinds}
 use Rattle.crdt_core.specs.declared.record.Message.{Message}
 use Rattle.world_model.specs.declared.command.Command.{Command}
@@ -10,7 +9,7 @@ use Rattle.world_model.specs.declared.command.Command.TheVariants as command
 use Rattle.world_model.specs.declared.step.Step.{Step}
 use Rattle.world_model.specs.declared.step.Step.TheVariants as step
 use Rattle.world_model.specs.Answers.{answered}
-use Rattle.world_model.specs.Cluster.{has_cluster, parts_of}
+use Rattle.world_model.specs.Cluster.{parts_of}
 use Rattle.world_model.specs.Event as event
 use Rattle.world_model.specs.Event.{Event, WasNumbered}
 use Rattle.world_model.specs.Meeting.{met}
@@ -21,7 +20,7 @@ use Rattle.world_model.specs.ScriptAnswers.{AnswersBy, IsAnswer}
 use Rattle.txn_session.specs.Calls.{entries}
 use Rattle.cluster.specs.declared.post.Note.{Note}
 use Rattle.cluster.specs.Built.{is_built}
-use Rattle.cluster.specs.Post.{PostState, WholeState, IsLetter, MailAs, IsNote, NoteAs, HasPost, kept_at}
+use Rattle.cluster.specs.Post.{WholeState, MailAs, NoteAs, kept_at}
 use Rattle.cluster.specs.Reached.{Applies, ReachedWhole}
 use Rattle.cluster.proofs.Keeping.{post_on, letter_at, note_at}
 use Rattle.cluster.proofs.Meets.{all_met, first_at, none_due}

@@ -1,5 +1,5 @@
 -- What is kept of messages and reports stays, where calls and lines tell of none.
-use Rattle.std.proofs.Common.{◌≡◌, ◌⊎◌, inr, ℕ, ◌+◌, cond, Bool, true, false, List, [], ◌∷◌, refl, sym, ap, ◌∙◌, subst, Option, None, Some}
+use Rattle.std.proofs.Common.{◌≡◌, inr, ℕ, ◌+◌, Bool, true, false, List, ◌∷◌, refl, sym, ap, ◌∙◌, Option, None, Some}
 use Rattle.std.specs.Prelude.{◌&&◌}
 use Rattle.std.proofs.lemmas.Bool.{cond-false}
 use Rattle.site_vector.specs.declared.ids.PartId.{PartId}
@@ -16,7 +16,7 @@ use Rattle.world_model.proofs.Names.{off}
 use Rattle.txn_session.specs.Calls.{Call, entries}
 use Rattle.crdt_core.specs.declared.record.Message.{Message}
 use Rattle.cluster.specs.declared.post.Note.{Note}
-use Rattle.cluster.specs.Post.{PostState, IsLetter, MailAs, IsNote, NoteAs, kept_at, HasPost, Grows, KeepsPost}
+use Rattle.cluster.specs.Post.{PostState, MailAs, NoteAs, kept_at, HasPost, Grows, KeepsPost}
 use Rattle.cluster.specs.Sees.{is_calm}
 
 -- a line that tells of a message or a report that is made or dropped

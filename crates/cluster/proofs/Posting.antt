@@ -1,6 +1,6 @@
 -- A call whose line the script numbers: no session is about it.
-use Rattle.std.proofs.Common.{◌≡◌, ◌⊎◌, inl, inr, ℕ, ◌+◌, cond, Bool, true, false, List, [], ◌∷◌, length, refl, sym, ap, ◌∙◌, subst, Option, None, Some}
-use Rattle.std.specs.Prelude.{◌||◌, ◌&&◌, if◌then◌else◌, nat_le}
+use Rattle.std.proofs.Common.{◌≡◌, ℕ, true, false, List, ◌∷◌, refl, sym, ap, ◌∙◌, subst, Option, Some}
+use Rattle.std.specs.Prelude.{◌||◌}
 use Rattle.std.proofs.lemmas.Bool.{cond-true}
 use Rattle.site_vector.specs.declared.ids.PartId.{PartId}
 use Rattle.crdt_core.specs.KindsOf.{Kinds}
@@ -9,7 +9,7 @@ use Rattle.world_model.specs.declared.step.Step.{Step}
 use Rattle.world_model.specs.Cluster.{is_cluster, has_cluster, sites_of, parts_of, sites_after, parts_after}
 use Rattle.world_model.specs.Dependency as lines
 use Rattle.world_model.specs.Dependency.{HandsOwn, IsOwnPast}
-use Rattle.world_model.specs.Event.{Event, Entry}
+use Rattle.world_model.specs.Event.{Event}
 use Rattle.world_model.specs.Lines.{call_of, step_shown, lines_of}
 use Rattle.world_model.specs.Meeting.{site_after, count_after, session_count}
 use Rattle.world_model.specs.Past.{dependency}
@@ -18,10 +18,9 @@ use Rattle.world_model.specs.Run.{Run}
 use Rattle.world_model.specs.ScriptCalls.{is_answer, asked_of, numbered, line_on, calls_of}
 use Rattle.world_model.proofs.LineViews.{dependency_is}
 use Rattle.txn_session.specs.Calls.{Call, called, entries, IsLegal}
-use Rattle.txn_session.specs.Session.{SessionState}
 use Rattle.cluster.specs.Held.{Held, SameSize}
 use Rattle.cluster.specs.Live.{LiveState, session_in}
-use Rattle.cluster.specs.Reached.{StandsBy, StandsAs, ReachedLive}
+use Rattle.cluster.specs.Reached.{ReachedLive}
 use Rattle.cluster.specs.Sees.{Sees, sees_legal}
 use Rattle.cluster.proofs.Standing.{SameFor, stands_still}
 use Rattle.cluster.proofs.Turning.{IsSilentFor, depends_other, holds_other}

@@ -1,12 +1,11 @@
 -- A message or a report that is made, and kept under the next number.
-use Rattle.std.proofs.Common.{◌≡◌, ◌≢◌, ◌≤◌, ◌⊎◌, inl, inr, ℕ, ◌+◌, Bool, true, false, List, [], ◌∷◌, length, refl, sym, ap, ◌∙◌, subst, Option, None, Some, arith}
-use Rattle.std.specs.Prelude.{not, nat_eq, nat_le, ◌&&◌, ◌||◌, ◌==◌, if◌then◌else◌}
+use Rattle.std.proofs.Common.{◌≡◌, ◌≤◌, inl, inr, ℕ, ◌+◌, Bool, true, false, List, [], ◌∷◌, length, refl, sym, ap, ◌∙◌, subst, Option, Some, arith}
+use Rattle.std.specs.Prelude.{not, nat_eq, ◌&&◌, ◌||◌, ◌==◌, if◌then◌else◌}
 use Rattle.std.proofs.lemmas.Bool.{cond-false, cond-true, eqb-true}
 use Rattle.site_vector.specs.declared.ids.PartId.{PartId}
 use Rattle.site_vector.specs.Ids.{same_part}
 use Rattle.crdt_core.specs.KindsOf.{Kinds}
 use Rattle.crdt_core.specs.declared.record.Message.{Message}
-use Rattle.world_model.specs.declared.command.Command.{Command}
 use Rattle.world_model.specs.declared.command.Command.TheVariants as command
 use Rattle.world_model.specs.declared.step.Step.{Step}
 use Rattle.world_model.specs.declared.step.Step.TheVariants as step
@@ -15,26 +14,24 @@ use Rattle.world_model.specs.Cluster.{has_site, has_part}
 use Rattle.world_model.specs.Event as event
 use Rattle.world_model.specs.Event.{AskMessage, AskReport, Event, Entry, Sent, Reported, WasNumbered}
 use Rattle.world_model.specs.Lines.{SendTo}
-use Rattle.world_model.specs.Messages as script
-use Rattle.world_model.specs.Messages.{message_of, report_of, messages, reports}
+use Rattle.world_model.specs.Messages.{message_of, report_of}
 use Rattle.world_model.specs.Partition.{IsOther, IsMessage}
 use Rattle.world_model.specs.Plan.{IsPlace}
 use Rattle.world_model.specs.Run.{Run}
 use Rattle.world_model.specs.ScriptAnswers.{AnswersBy, IsAnswer}
-use Rattle.txn_session.specs.Calls.{Call, called, entries}
+use Rattle.txn_session.specs.Calls.{entries}
 use Rattle.cluster.specs.declared.post.Note.{Note}
 use Rattle.cluster.specs.Answers.{Any, GoesOn}
 use Rattle.cluster.specs.Built.{is_built}
-use Rattle.cluster.specs.Held.{Held, SameSize, size_refl, holds_site, holds_part}
-use Rattle.cluster.specs.Post.{PostState, WholeState, HasPost, IsLetter, MailAs, IsNote, NoteAs, kept_at, lacks_way}
-use Rattle.cluster.specs.Reached.{Applies, IsReached, ReachedWhole}
-use Rattle.cluster.specs.Reaches.{MayAsk, Reaches}
-use Rattle.cluster.specs.Sees.{Sees}
+use Rattle.cluster.specs.Held.{Held, SameSize, size_refl, holds_part}
+use Rattle.cluster.specs.Post.{WholeState, HasPost, IsLetter, MailAs, IsNote, NoteAs, kept_at, lacks_way}
+use Rattle.cluster.specs.Reached.{Applies, ReachedWhole}
+use Rattle.cluster.specs.Reaches.{Reaches}
 use Rattle.cluster.proofs.Clocks.{site_in, part_in}
 use Rattle.cluster.proofs.Dropping.{turned_down}
 use Rattle.cluster.proofs.Keeping.{letter_at, note_at, none_and}
 use Rattle.cluster.proofs.Meets.{all_met, first_at, none_due}
-use Rattle.cluster.proofs.Posting.{IsPosted, Posted, posted}
+use Rattle.cluster.proofs.Posting.{IsPosted, posted}
 
 sent_posted : (p at : PartId) (site to number lo hi count : ℕ) (from : Option ℕ) → IsPosted (command.Send p site from) (step.Sent number at to lo hi count)
 sent_posted p at site to number lo hi count from = record { answer = refl; cluster = refl; sites = λ n. refl; parts = λ n. refl; site = λ who old. refl; count = λ n. refl; phase = λ parts who old. refl }

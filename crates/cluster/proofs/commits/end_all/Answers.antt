@@ -1,4 +1,4 @@
-use Rattle.std.proofs.Common.{◌∙◌, ◌∷◌, [], ◌++◌, sym, ap, subst, Some}
+use Rattle.std.proofs.Common.{◌∙◌, ◌∷◌, [], ◌++◌, sym, ap, subst}
 use Rattle.crdt_core.specs.KindsOf.{kinds_of}
 use Rattle.cluster.specs.Ends.{command_of, stops}
 use Rattle.cluster.specs.Live.{session_in}

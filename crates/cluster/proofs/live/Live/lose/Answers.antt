@@ -1,4 +1,4 @@
-use Rattle.std.proofs.Common.{◌≡◌, ◌∙◌, sym, subst, Some, true, rules}
+use Rattle.std.proofs.Common.{◌≡◌, ◌∙◌, sym, subst, true, rules}
 use Rattle.crdt_core.specs.KindsOf.{kinds_of}
 use Rattle.std.specs.Prelude.{is_some}
 use Rattle.world_model.specs.declared.command.Command.TheVariants as command

@@ -1,13 +1,12 @@
-use Rattle.std.proofs.Common.{◌≡◌, ◌≤◌, refl, ◌∙◌, ap, sym, subst, Some}
+use Rattle.std.proofs.Common.{◌∙◌, ap, sym, subst}
 use Rattle.crdt_core.specs.KindsOf.{kinds_of}
 use Rattle.world_model.specs.declared.command.Command.TheVariants as command
-use Rattle.cluster.specs.Acts.{Moves}
 use Rattle.cluster.specs.Held.{holds_site}
 use Rattle.cluster.specs.Live.{LiveState, phase_in}
 use Rattle.cluster.specs.Reached.{AppliesLive, IsReachedLive}
 use Rattle.cluster.proofs.Applying.{map_ok}
 use Rattle.cluster.proofs.Commands.{none_about}
-use Rattle.cluster.proofs.Beginning.{doing_about, idle_about}
+use Rattle.cluster.proofs.Beginning.{doing_about}
 use Rattle.cluster.proofs.Opening.{move_nowhere, move_absent, move_busy, session_moved, move_place}
 use Rattle.cluster.proofs.live.Live.move_session.Goals as goal
 

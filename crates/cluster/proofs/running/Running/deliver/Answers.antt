@@ -1,14 +1,7 @@
-use Rattle.std.proofs.Common.{◌≡◌, ◌∙◌, ℕ, List, [], ◌∷◌, ap, sym, subst, Some, true, false, rules}
-use Rattle.std.specs.Prelude.{is_some, ◌==◌}
+use Rattle.std.proofs.Common.{◌≡◌, ℕ, List, sym, subst, Some, rules}
 use Rattle.crdt_core.specs.KindsOf.{kinds_of}
 use Rattle.world_model.specs.declared.command.Command.TheVariants as command
-use Rattle.world_model.specs.declared.step.Step.{Step}
-use Rattle.world_model.specs.Event.{AskTake, Refused}
-use Rattle.partition_core.specs.declared.answers.Refusal.{Refusal}
-use Rattle.partition_core.specs.Answers.{cause}
 use Rattle.txn_session.specs.Session.{SessionState}
-use Rattle.cluster.specs.Answers.{Any, GoesOn}
-use Rattle.cluster.specs.Held.{holds_part}
 use Rattle.cluster.specs.Post.{PostState, WholeState, kept_at}
 use Rattle.cluster.specs.Reached.{Applies, IsReached}
 use Rattle.cluster.proofs.Applying.{map_ok}

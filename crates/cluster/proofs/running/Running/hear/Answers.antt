@@ -1,5 +1,5 @@
-use Rattle.std.proofs.Common.{◌≡◌, ◌∙◌, ℕ, List, [], ◌∷◌, ap, sym, subst, Some, true, false, rules}
-use Rattle.std.specs.Prelude.{is_some, ◌==◌}
+use Rattle.std.proofs.Common.{◌≡◌, ◌∙◌, ℕ, List, sym, subst, Some, true, false, rules}
+use Rattle.std.specs.Prelude.{◌==◌}
 use Rattle.crdt_core.specs.KindsOf.{kinds_of}
 use Rattle.world_model.specs.declared.command.Command.TheVariants as command
 use Rattle.txn_session.specs.Session.{SessionState}

@@ -1,10 +1,9 @@
-use Rattle.std.proofs.Common.{◌≡◌, ◌∙◌, ◌+◌, ℕ, List, length, ap, sym, subst, Some, true, false, rules}
+use Rattle.std.proofs.Common.{◌≡◌, ◌∙◌, length, sym, subst, Some, true, false, rules}
 use Rattle.std.specs.Prelude.{◌==◌}
 use Rattle.crdt_core.specs.KindsOf.{kinds_of}
 use Rattle.world_model.specs.declared.command.Command.TheVariants as command
-use Rattle.txn_session.specs.Session.{SessionState}
 use Rattle.cluster.specs.Held.{holds_part}
-use Rattle.cluster.specs.Post.{PostState, WholeState, lacks_way}
+use Rattle.cluster.specs.Post.{PostState, WholeState}
 use Rattle.cluster.specs.Reached.{Applies}
 use Rattle.cluster.proofs.Applying.{map_ok}
 use Rattle.cluster.proofs.Sending.{report_nowhere, report_full, reported}

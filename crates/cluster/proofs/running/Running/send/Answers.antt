@@ -5,7 +5,6 @@ use Rattle.world_model.specs.declared.command.Command.TheVariants as command
 use Rattle.world_model.specs.declared.step.Step.TheVariants as step
 use Rattle.crdt_core.specs.declared.record.Part.{Part}
 use Rattle.txn_session.specs.Session.{SessionState}
-use Rattle.cluster.specs.Held.{holds_part}
 use Rattle.cluster.specs.Post.{PostState, WholeState, lacks_way}
 use Rattle.cluster.specs.Reached.{Applies}
 use Rattle.cluster.proofs.Applying.{map_ok}
