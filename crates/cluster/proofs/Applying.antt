@@ -49,12 +49,14 @@ module _ {S E : Type 0} (kinds : Kinds S E) where
   pub lift : (w : WholeState E) (new : LiveState E) (c : Command) (steps : List Step) → AppliesLive kinds w.live c steps new → Applies kinds (Some w) c steps (Some (record { live = new; post = w.post }))
   lift w new c steps a number run r =
       let x = a number run r.live in
-      let next : Run = answered number (Some c) steps run in
-      (x.0, record {
-        live = x.1.reached;
-        post = subst (λ n. HasPost n new.sites.parts next (entries x.1.reached.calls) w.post) (sym x.1.size.sites_are) (subst (λ n. HasPost w.live.sites.sites n next (entries x.1.reached.calls) w.post) (sym x.1.size.parts_are)
-            (post_on w.live.sites.sites w.live.sites.parts run next r.live.calls x.1.reached.calls w.post x.1.keeps x.1.grows r.post));
-      })
+      let next : Run = answered number (Some c) steps run in (
+        x.0,
+        record {
+          live = x.1.reached;
+          post = subst (λ n. HasPost n new.sites.parts next (entries x.1.reached.calls) w.post) (sym x.1.size.sites_are) (subst (λ n. HasPost w.live.sites.sites n next (entries x.1.reached.calls) w.post) (sym x.1.size.parts_are)
+              (post_on w.live.sites.sites w.live.sites.parts run next r.live.calls x.1.reached.calls w.post x.1.keeps x.1.grows r.post));
+        },
+      )
 
   -- a command that isn't built
   idle_unbuilt : (c : Command) → is_built c ≡ false → (parts : ℕ) (who : List ℕ) (old : Phase) (s : Step) → by_command parts who old (Some c) s ≡ old

@@ -211,5 +211,5 @@ module _ {S E : Type 0} (kinds : Kinds S E) (w : WholeState E) where
     pub hear_foreign : (at : PartId) (n : Note) (steps : List Step) → steps ≡ step.NoPart ∷ [] → holds_part w.live.sites at ≡ true → kept_at w.post.notes number ≡ Some n → (n.from.site == at.site) ≡ false → Applies kinds (Some w) (command.Hear number at) steps (Some w)
     hear_foreign at n steps is has there other = turned_down kinds w (command.Hear number at) step.NoPart steps is refl
         (λ run r. let l : IsNote w.live.sites.sites w.live.sites.parts run (entries r.live.calls) number n = subst (λ o. NoteAs w.live.sites.sites w.live.sites.parts run (entries r.live.calls) number o) there (r.post.notes number) in
-            first_at (all_met run (command.Hear number at)) 4 (refl, (ap not r.live.has, (ap not (sym (part_in kinds w.live run r.live at) ∙ has), (ap is_none l.notice, ap (λ o. is_foreign o at) l.notice ∙ ap not other)))))
+        first_at (all_met run (command.Hear number at)) 4 (refl, (ap not r.live.has, (ap not (sym (part_in kinds w.live run r.live at) ∙ has), (ap is_none l.notice, ap (λ o. is_foreign o at) l.notice ∙ ap not other)))))
         (λ run who. refl)

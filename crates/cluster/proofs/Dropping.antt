@@ -52,8 +52,7 @@ module _ {S E : Type 0} (kinds : Kinds S E) (w : WholeState E) where
   pub turned_down : (cmd : Command) (s : Step) (steps : List Step) → steps ≡ s ∷ [] → is_mere s ≡ true → ((run : Run) → ReachedWhole kinds w run → met is_built run cmd ≡ Some s) → ((run : Run) (who : List ℕ) → by_command (parts_of run) who (phase run who) (Some cmd) s ≡ phase run who) → Applies kinds (Some w) cmd steps (Some w)
   turned_down cmd s steps is h m idle number run r =
       let next : Run = (record { number = number; command = Some cmd; step = s }) ∷ run in
-      let x = live_still kinds w.live number (Some cmd) s run h (idle run) r.live in
-      (
+      let x = live_still kinds w.live number (Some cmd) s run h (idle run) r.live in (
         subst (λ o. AnswersBy run cmd steps o) (sym (m run r)) is,
         subst (λ l. ReachedWhole kinds w (answered number (Some cmd) l run)) (sym is) (record {
           live = x.reached;

@@ -98,17 +98,22 @@ module _ {S E : Type 0} (kinds : Kinds S E) where
     session_made sessions s steps is there some none room new holds find count number run r =
         subst (λ l. IsAnswer is_built run (command.Session name site) l × GoesTo kinds c run r (record { sites = c.sites; sessions = sessions }) (answered number (Some (command.Session name site)) l run)) (sym is) (
           subst (AnswersBy run (command.Session name site) (step.MadeSession name site ∷ [])) (sym (none_due (all_met run (command.Session name site)) (refl, (ap not r.has, (ap not (sym (site_in kinds c run r site) ∙ there), (gone none run r, (ap (λ n. n == 64) r.count ∙ room, tt))))))) refl,
-          record { size = size_refl c.sites; grows = grows_one (called 0 at (Opened name)) r.calls refl refl; keeps = keeps_line number (Some (command.Session name site)) (step.MadeSession name site) run refl; reached = record {
-            has = r.has;
-            sites = r.sites;
-            parts = r.parts;
-            calls = later;
-            sees = opened_at c.sites r.calls at name place r.sees;
-            shown = shown;
-            own = (tt, r.own);
-            each = each;
-            count = ap (λ n. n + 1) r.count ∙ sym count;
-          } },
+          record {
+            size = size_refl c.sites;
+            grows = grows_one (called 0 at (Opened name)) r.calls refl refl;
+            keeps = keeps_line number (Some (command.Session name site)) (step.MadeSession name site) run refl;
+            reached = record {
+              has = r.has;
+              sites = r.sites;
+              parts = r.parts;
+              calls = later;
+              sees = opened_at c.sites r.calls at name place r.sees;
+              shown = shown;
+              own = (tt, r.own);
+              each = each;
+              count = ap (λ n. n + 1) r.count ∙ sym count;
+            };
+          },
         )
       where
         at : PartId
@@ -166,17 +171,22 @@ module _ {S E : Type 0} (kinds : Kinds S E) where
     session_lost sessions steps is some find count number run r =
         subst (λ l. IsAnswer is_built run (command.Lose name) l × GoesTo kinds c run r (record { sites = c.sites; sessions = sessions }) (answered number (Some (command.Lose name)) l run)) (sym is) (
           subst (AnswersBy run (command.Lose name) (step.Lost name ∷ [])) (sym (none_due (all_met run (command.Lose name)) (refl, (ap not r.has, (was_there (session_in c.sessions name) refl some, tt))))) refl,
-          record { size = size_refl c.sites; grows = grows_none r.calls; keeps = keeps_line number (Some (command.Lose name)) (step.Lost name) run refl; reached = record {
-            has = r.has;
-            sites = r.sites;
-            parts = r.parts;
-            calls = r.calls;
-            sees = r.sees;
-            shown = r.shown;
-            own = r.own;
-            each = each;
-            count = (let n = r.count in omega (arith, n, count));
-          } },
+          record {
+            size = size_refl c.sites;
+            grows = grows_none r.calls;
+            keeps = keeps_line number (Some (command.Lose name)) (step.Lost name) run refl;
+            reached = record {
+              has = r.has;
+              sites = r.sites;
+              parts = r.parts;
+              calls = r.calls;
+              sees = r.sees;
+              shown = r.shown;
+              own = r.own;
+              each = each;
+              count = (let n = r.count in omega (arith, n, count));
+            };
+          },
         )
       where
         was_there : (o : Option (SessionState E)) → session_in c.sessions name ≡ o → is_some o ≡ true → not (phases.is_there (phase run name)) ≡ false
@@ -215,17 +225,22 @@ module _ {S E : Type 0} (kinds : Kinds S E) where
     session_moved sessions answer steps is there x m number run r =
         subst (λ l. IsAnswer is_built run (command.Move name site) l × GoesTo kinds c run r (record { sites = c.sites; sessions = sessions }) (answered number (Some (command.Move name site)) l run)) (sym (is ∙ ap (λ s. s ∷ []) line)) (
           subst (AnswersBy run (command.Move name site) (step.Moved name site ∷ [])) (sym (none_due (all_met run (command.Move name site)) (refl, (ap not r.has, (ap not (sym (site_in kinds c run r site) ∙ there), (has_session kinds c run r name m.before m.is, (ap not (idle_is kinds c run r name x.found x.is ∙ x.so), tt))))))) refl,
-          record { size = size_refl c.sites; grows = grows_none r.calls; keeps = keeps_line number (Some (command.Move name site)) (step.Moved name site) run refl; reached = record {
-            has = r.has;
-            sites = r.sites;
-            parts = r.parts;
-            calls = r.calls;
-            sees = r.sees;
-            shown = r.shown;
-            own = r.own;
-            each = each;
-            count = r.count ∙ sym m.put.count;
-          } },
+          record {
+            size = size_refl c.sites;
+            grows = grows_none r.calls;
+            keeps = keeps_line number (Some (command.Move name site)) (step.Moved name site) run refl;
+            reached = record {
+              has = r.has;
+              sites = r.sites;
+              parts = r.parts;
+              calls = r.calls;
+              sees = r.sees;
+              shown = r.shown;
+              own = r.own;
+              each = each;
+              count = r.count ∙ sym m.put.count;
+            };
+          },
         )
       where
         st : StandsBy run r.calls name m.before

@@ -63,7 +63,7 @@ module _ {S E : Type 0} (kinds : Kinds S E) (c : LiveState E) (run : Run) (r : R
     phase = told.phase (parts_of run) who _;
     depends = (λ i. lines.dependency (told.sites (sites_of run) i) (sym shown_next i) who) ∙ (dependency_is (sites_of run) (entries later) who
         ∙ (depends_other kinds c.sites.sites c.sites.parts r.calls tail_legal (sites_of run) who (dependency (sites_of run) (entries r.calls) who) e (silent who)
-            ∙ sym ((λ i. lines.dependency (sites_of run) (sym r.shown i) who) ∙ dependency_is (sites_of run) (entries r.calls) who)));
+        ∙ sym ((λ i. lines.dependency (sites_of run) (sym r.shown i) who) ∙ dependency_is (sites_of run) (entries r.calls) who)));
   }
 
   -- the cluster after it, and the calls that stand then

@@ -128,7 +128,7 @@ module _ {S E : Type 0} (kinds : Kinds S E) (w : WholeState E) where
             let size : SameSize w.live.sites held = record { sites_are = g.same_sites; parts_are = g.same_parts } in
             let s : Step = step.Sent w.post.next_letter at site m.lo m.hi (length m.parts) in
             let x = posted kinds w.live run r.live line (command.Send at site from) at (Sent from m) held size (record { reached = reached; calm = (refl, r.live.sees.calm); one_caller = (refl, r.live.sees.one_caller) }) s
-                (sent_posted at at site site w.post.next_letter m.lo m.hi (length m.parts) from) (λ i. step.Sent (r.post.sent at i + 1) at (sym to i) m.lo m.hi (length m.parts)) (λ i. record { at = at; call = SendTo (sym to i) from }) (λ who. tt) tt in
+            (sent_posted at at site site w.post.next_letter m.lo m.hi (length m.parts) from) (λ i. step.Sent (r.post.sent at i + 1) at (sym to i) m.lo m.hi (length m.parts)) (λ i. record { at = at; call = SendTo (sym to i) from }) (λ who. tt) tt in
             record {
               live = x.reached;
               post = subst (λ cs. HasPost held.sites held.parts next (entries cs) after_send.post) (sym x.calls_are) (subst (λ n. HasPost n held.parts next later after_send.post) (sym g.same_sites) (subst (λ n. HasPost w.live.sites.sites n next later after_send.post) (sym g.same_parts) post));
@@ -204,7 +204,7 @@ module _ {S E : Type 0} (kinds : Kinds S E) (w : WholeState E) where
         whole_told =
             let s : Step = step.Reported w.post.next_note at b in
             let x = posted kinds w.live run r.live line (command.Report at) at (Reported b) w.live.sites (size_refl w.live.sites) (record { reached = reached_told; calm = (refl, r.live.sees.calm); one_caller = (refl, r.live.sees.one_caller) }) s
-                (reported_posted at at w.post.next_note b) (λ i. step.Reported (r.post.told at i + 1) at b) refl (λ who. tt) tt in
+            (reported_posted at at w.post.next_note b) (λ i. step.Reported (r.post.told at i + 1) at b) refl (λ who. tt) tt in
             record { live = x.reached; post = subst (λ cs. HasPost w.live.sites.sites w.live.sites.parts next_told (entries cs) after_report.post) (sym x.calls_are) post_told }
 
       pub reported : (steps : List Step) → steps ≡ step.Reported w.post.next_note at b ∷ [] → holds_part w.live.sites at ≡ true → (length w.post.notes == 4096) ≡ false → Applies kinds (Some w) (command.Report at) steps (Some after_report)

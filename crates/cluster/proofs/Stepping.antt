@@ -140,17 +140,22 @@ module _ {S E : Type 0} (kinds : Kinds S E) where
     -- nothing is left: the session is idle
     ended_line : (cmd : Command) (later : Held E) (sessions : List (List ℕ × SessionState E)) → SameSize c.sites later → IsPut c.sessions name (doing_so s Idle) sessions → Sees kinds later r.calls
         → GoesTo kinds c run r (record { sites = later; sessions = sessions }) ((record { number = number; command = Some cmd; step = step.Ended name }) ∷ run)
-    ended_line cmd later sessions size put seen = record { size = size; grows = grows_none r.calls; keeps = keeps_line number (Some cmd) (step.Ended name) run refl; reached = record {
-      has = r.has;
-      sites = size.sites_are ∙ r.sites;
-      parts = size.parts_are ∙ r.parts;
-      calls = r.calls;
-      sees = seen;
-      shown = r.shown;
-      own = r.own;
-      each = each;
-      count = r.count ∙ sym put.count;
-    } }
+    ended_line cmd later sessions size put seen = record {
+      size = size;
+      grows = grows_none r.calls;
+      keeps = keeps_line number (Some cmd) (step.Ended name) run refl;
+      reached = record {
+        has = r.has;
+        sites = size.sites_are ∙ r.sites;
+        parts = size.parts_are ∙ r.parts;
+        calls = r.calls;
+        sees = seen;
+        shown = r.shown;
+        own = r.own;
+        each = each;
+        count = r.count ∙ sym put.count;
+      };
+    }
       where
         after_it : Run
         after_it = (record { number = number; command = Some cmd; step = step.Ended name }) ∷ run

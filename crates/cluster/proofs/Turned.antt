@@ -90,17 +90,22 @@ module _ {S E : Type 0} (kinds : Kinds S E) (c : LiveState E) (run : Run) (r : R
   quiet = quiet_call e plain
 
   pub turned : (sessions : List (List ℕ × SessionState E)) → length sessions ≡ length c.sessions → IsOwnPast (sites_of run) (calls_of run) (call_of e) → ((who : List ℕ) → StandsAs next later who (session_in sessions who)) → GoesTo kinds c run r (record { sites = held; sessions = sessions }) next
-  turned sessions count own each = record { size = size; grows = grows_one (called by at e) r.calls quiet.0 quiet.1; keeps = keeps_line number (Some cmd) line run (call_plain (entries r.calls) at e sees.calm.0 quiet.0 quiet.1); reached = record {
-    has = ap (λ x. x || has_cluster run) told.cluster ∙ r.has;
-    sites = size.sites_are ∙ (r.sites ∙ sym (told.sites (sites_of run)));
-    parts = size.parts_are ∙ (r.parts ∙ sym (told.parts (parts_of run)));
-    calls = later;
-    sees = sees;
-    shown = shown_next;
-    own = subst (λ n. HandsOwn n (calls_of next)) (sym (told.sites (sites_of run))) (subst (λ ls. HandsOwn (sites_of run) ls) (sym lines_are) (own, r.own));
-    each = each;
-    count = told.count (session_count run) ∙ (r.count ∙ sym count);
-  } }
+  turned sessions count own each = record {
+    size = size;
+    grows = grows_one (called by at e) r.calls quiet.0 quiet.1;
+    keeps = keeps_line number (Some cmd) line run (call_plain (entries r.calls) at e sees.calm.0 quiet.0 quiet.1);
+    reached = record {
+      has = ap (λ x. x || has_cluster run) told.cluster ∙ r.has;
+      sites = size.sites_are ∙ (r.sites ∙ sym (told.sites (sites_of run)));
+      parts = size.parts_are ∙ (r.parts ∙ sym (told.parts (parts_of run)));
+      calls = later;
+      sees = sees;
+      shown = shown_next;
+      own = subst (λ n. HandsOwn n (calls_of next)) (sym (told.sites (sites_of run))) (subst (λ ls. HandsOwn (sites_of run) ls) (sym lines_are) (own, r.own));
+      each = each;
+      count = told.count (session_count run) ∙ (r.count ∙ sym count);
+    };
+  }
 
   -- a call of no session's
   pub turned_alone : ((who : List ℕ) (s : Step) → by_command (parts_of run) who (phase run who) (Some cmd) s ≡ phase run who) → ((who : List ℕ) → IsSilentFor (entries r.calls) who e) → IsOwnPast (sites_of run) (calls_of run) (call_of e) → GoesTo kinds c run r (record { sites = held; sessions = c.sessions }) next

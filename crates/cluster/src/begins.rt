@@ -176,11 +176,7 @@ fn begin_in<C: Crdt>(
 }
 
 /// Moves a session that is idle.
-fn move_in<C: Crdt>(
-    sessions: &mut Sessions<C>,
-    name: &Text,
-    site: u8,
-) -> Result<Step, AllocError>
+fn move_in<C: Crdt>(sessions: &mut Sessions<C>, name: &Text, site: u8) -> Result<Step, AllocError>
     requires idle { are_idle (phase_in sessions.old.entries name.now) ≡ true }
     requires place { (s : SessionState C.Effect) → session_in sessions.old.entries name.now ≡ Some s → (1 ≤ site) × (site ≤ s.sites) }
     ensures { IfOk result (λ step. Moves sessions.old.entries name.now site step sessions.new.entries) }

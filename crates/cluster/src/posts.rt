@@ -50,12 +50,7 @@ impl<C: Crdt> Running<C> {
     }
 
     /// Has a partition make a message for another site, and keeps it.
-    fn send(
-        &mut self,
-        part: PartId,
-        site: u8,
-        from: Option<u64>,
-    ) -> Result<Vec<Step>, AllocError>
+    fn send(&mut self, part: PartId, site: u8, from: Option<u64>) -> Result<Vec<Step>, AllocError>
         requires reached { IsReached (kinds_of C.laws) (Some self.old) }
         ensures { IfOk result (λ steps. Applies (kinds_of C.laws) (Some self.old) (Command.Send part site from) steps.items (Some self.new)) }
     {
@@ -102,7 +97,13 @@ impl<C: Crdt> Running<C> {
         };
         match self.live.take(at, message) {
             Ok(()) => {
-                return only(self.alloc, Step::Took { number, hi: message.hi });
+                return only(
+                    self.alloc,
+                    Step::Took {
+                        number,
+                        hi: message.hi,
+                    },
+                );
             }
             Err(error) => {
                 let line = failed(at, NO_TX, number, error)?;
@@ -214,11 +215,7 @@ fn keep_message<E: Drop>(
 }
 
 /// Keeps a report under a number that is new.
-fn keep_report(
-    notes: &mut IndexMap<u64, Note>,
-    number: u64,
-    note: Note,
-) -> Result<(), AllocError>
+fn keep_report(notes: &mut IndexMap<u64, Note>, number: u64, note: Note) -> Result<(), AllocError>
     requires { kept_at notes.old.entries number ≡ None }
     ensures find { OnOk result ((k : ℕ) → kept_at notes.new.entries k ≡ (if nat_eq number k then Some note else kept_at notes.old.entries k)) }
     ensures count { OnOk result (length notes.new.entries ≡ length notes.old.entries + 1) }

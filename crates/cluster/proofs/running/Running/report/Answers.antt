@@ -29,6 +29,6 @@ returns g c =
     let w : WholeState g.row.C-Effect.Denot = record { live = c.self.inside.live; post = post } in
     let there : holds_part c.self.inside.live.sites c.args.part ≡ true = sym c.has_part.ensures ∙ c.if-not-has_part.false in
     let room : (length c.self.inside.notes.entries == 4096) ≡ false = search rules in
-    map_ok c.only-2.result (λ steps is. subst (λ (x : WholeState g.row.C-Effect.Denot). Applies (kinds_of g.C.Crdt.laws) (Some x) (command.Report c.args.part) steps.items (Some (record { live = c.self.inside.live; post = record { letters = c.self.inside.letters.entries; next_letter = c.self.inside.next_letter; notes = c.keep_report.new.notes.entries; next_note = c.in_ok-next.next } }))) c.self.view_is 
+    map_ok c.only-2.result (λ steps is. subst (λ (x : WholeState g.row.C-Effect.Denot). Applies (kinds_of g.C.Crdt.laws) (Some x) (command.Report c.args.part) steps.items (Some (record { live = c.self.inside.live; post = record { letters = c.self.inside.letters.entries; next_letter = c.self.inside.next_letter; notes = c.keep_report.new.notes.entries; next_note = c.in_ok-next.next } }))) c.self.view_is
     (subst (λ n. Applies (kinds_of g.C.Crdt.laws) (Some w) (command.Report c.args.part) steps.items (Some (record { live = c.self.inside.live; post = record { letters = c.self.inside.letters.entries; next_letter = c.self.inside.next_letter; notes = c.keep_report.new.notes.entries; next_note = n } }))) (sym c.in_ok-next.ensures)
     (reported (kinds_of g.C.Crdt.laws) w c.args.part c.report-bounds.result c.keep_report.new.notes.entries c.report-bounds.ensures c.in_ok-keep_report.ensures.find c.in_ok-keep_report.ensures.count steps.items is there room))) c.only-2.ensures
