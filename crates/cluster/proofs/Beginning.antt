@@ -33,7 +33,7 @@ use Rattle.cluster.specs.Acts.{Acts, Begins}
 use Rattle.cluster.specs.Built.{is_built}
 use Rattle.cluster.specs.Held.{Held, holds_place}
 use Rattle.cluster.specs.Live.{LiveState, session_in, phase_in, phase_about, is_idle_phase, are_idle, is_of_site, stands_in, number_of}
-use Rattle.cluster.specs.Reached.{phase_as, StandsBy, ReachedLive, Applies}
+use Rattle.cluster.specs.Reached.{phase_as, StandsBy, ReachedLive, GoesTo, AppliesLive}
 use Rattle.cluster.specs.Sees.{is_calm}
 use Rattle.cluster.proofs.Clocks.{part_in}
 use Rattle.cluster.proofs.Meets.{all_met, first_at, none_due, refused, lacks_session, has_session, idle_is, by_name}
@@ -111,22 +111,22 @@ module _ {S E : Type 0} (kinds : Kinds S E) (c : LiveState E) (name : List ℕ) 
       by_part None = refl
       by_part (Some p) = ap (λ o. not (is_at o p.site)) at ∙ ap (λ o. not (is_of_site o p)) (sym is)
 
-  pub begin_nowhere : (steps : List Step) → steps ≡ step.NoPart ∷ [] → holds_place c.sites part ≡ false → Applies kinds (Some c) (command.Begin name part) steps (Some c)
+  pub begin_nowhere : (steps : List Step) → steps ≡ step.NoPart ∷ [] → holds_place c.sites part ≡ false → AppliesLive kinds c (command.Begin name part) steps c
   begin_nowhere steps is lacks = refused kinds c (command.Begin name part) step.NoPart steps is refl
       (λ run r. first_at (all_met run (command.Begin name part)) 2 (refl, (ap not r.has, lacks_in run r ∙ ap not lacks)))
       (λ run r who. refl)
 
-  pub begin_absent : (steps : List Step) → steps ≡ step.NoSession ∷ [] → holds_place c.sites part ≡ true → session_in c.sessions name ≡ None → Applies kinds (Some c) (command.Begin name part) steps (Some c)
+  pub begin_absent : (steps : List Step) → steps ≡ step.NoSession ∷ [] → holds_place c.sites part ≡ true → session_in c.sessions name ≡ None → AppliesLive kinds c (command.Begin name part) steps c
   begin_absent steps is there gone = refused kinds c (command.Begin name part) step.NoSession steps is refl
       (λ run r. first_at (all_met run (command.Begin name part)) 3 (refl, (ap not r.has, (lacks_in run r ∙ ap not there, lacks_session kinds c run r name gone))))
       (λ run r who. refl)
 
-  pub begin_elsewhere : (steps : List Step) → steps ≡ step.NoPart ∷ [] → holds_place c.sites part ≡ true → (idle : Bool) → IsDoing (session_in c.sessions name) idle → stands_in c.sessions name part ≡ false → Applies kinds (Some c) (command.Begin name part) steps (Some c)
+  pub begin_elsewhere : (steps : List Step) → steps ≡ step.NoPart ∷ [] → holds_place c.sites part ≡ true → (idle : Bool) → IsDoing (session_in c.sessions name) idle → stands_in c.sessions name part ≡ false → AppliesLive kinds c (command.Begin name part) steps c
   begin_elsewhere steps is there idle x off_site = let s = x.found in let in_table = x.is in refused kinds c (command.Begin name part) step.NoPart steps is refl
       (λ run r. first_at (all_met run (command.Begin name part)) 4 (refl, (ap not r.has, (lacks_in run r ∙ ap not there, (has_session kinds c run r name s in_table, elsewhere_in run r s in_table ∙ ap not off_site)))))
       (λ run r who. refl)
 
-  pub begin_busy : (steps : List Step) → steps ≡ step.HasTxn ∷ [] → holds_place c.sites part ≡ true → stands_in c.sessions name part ≡ true → IsDoing (session_in c.sessions name) false → Applies kinds (Some c) (command.Begin name part) steps (Some c)
+  pub begin_busy : (steps : List Step) → steps ≡ step.HasTxn ∷ [] → holds_place c.sites part ≡ true → stands_in c.sessions name part ≡ true → IsDoing (session_in c.sessions name) false → AppliesLive kinds c (command.Begin name part) steps c
   begin_busy steps is there here x = refused kinds c (command.Begin name part) step.HasTxn steps is refl
       (λ run r. first_at (all_met run (command.Begin name part)) 5 (refl, (ap not r.has, (lacks_in run r ∙ ap not there, (has_session kinds c run r name x.found x.is, (elsewhere_in run r x.found x.is ∙ ap not here, ap not (idle_is kinds c run r name x.found x.is ∙ x.so)))))))
       (λ run r who. refl)
@@ -141,7 +141,7 @@ module _ {S E : Type 0} (kinds : Kinds S E) (c : LiveState E) (name : List ℕ) 
       by_part None h = ap (λ d. record { site = site_or_none d; part = 1 }) at
       by_part (Some p) h = ap (λ d. record { site = d; part = p.part }) (sym (eqb-true s.site p.site (ap (λ o. is_of_site o p) (sym is) ∙ h)))
 
-  pub begin_applies : (later : Held E) (sessions : List (List ℕ × SessionState E)) (answer : Step) (steps : List Step) → steps ≡ answer ∷ [] → holds_place c.sites part ≡ true → stands_in c.sessions name part ≡ true → are_idle (phase_in c.sessions name) ≡ true → Acts kinds c.sites c.sessions name later sessions (Begins kinds later (number_of part) answer) → Applies kinds (Some c) (command.Begin name part) steps (Some (record { sites = later; sessions = sessions }))
+  pub begin_applies : (later : Held E) (sessions : List (List ℕ × SessionState E)) (answer : Step) (steps : List Step) → steps ≡ answer ∷ [] → holds_place c.sites part ≡ true → stands_in c.sessions name part ≡ true → are_idle (phase_in c.sessions name) ≡ true → Acts kinds c.sites c.sessions name later sessions (Begins kinds later (number_of part) answer) → AppliesLive kinds c (command.Begin name part) steps (record { sites = later; sessions = sessions })
   begin_applies later sessions answer steps is there here idles a number run r =
       let st : StandsBy run r.calls name a.before = by_name kinds c run r name a.before a.is in
       let d : Begins kinds later (number_of part) answer a.before a.after r.calls = a.does r.calls r.sees st.holds in
@@ -150,7 +150,7 @@ module _ {S E : Type 0} (kinds : Kinds S E) (c : LiveState E) (name : List ℕ) 
       let t = turns kinds later tt r.calls a.before a.after None place (AskBegin a.before.name a.before.dependency) answer d.1 in
       let o : IsOpened a.before (step_shown (entries r.calls) place t.event) a.after = subst (λ l. IsOpened a.before l a.after) t.shows d.0 in
       let b : IsBegun (entries r.calls) place a.before a.after t.event (step_shown (entries r.calls) place t.event) = begun (entries r.calls) place a.before a.after t.event t.asked t.seen.calm.0 o idle st.few in
-      subst (λ l. IsAnswer is_built run (command.Begin name part) l × ReachedLive kinds (record { sites = later; sessions = sessions }) (answered number (Some (command.Begin name part)) l run)) (sym is) (
+      subst (λ l. IsAnswer is_built run (command.Begin name part) l × GoesTo kinds c run r (record { sites = later; sessions = sessions }) (answered number (Some (command.Begin name part)) l run)) (sym is) (
         subst (AnswersBy run (command.Begin name part) (answer ∷ []))
             (sym (none_due (all_met run (command.Begin name part)) (refl, (ap not r.has, (lacks_in run r ∙ ap not there, (has_session kinds c run r name a.before a.is, (elsewhere_in run r a.before a.is ∙ ap not here, (ap not (idle_is kinds c run r name a.before a.is ∙ idle), tt))))))))
             (answer, refl, ap is_up t.shows ∙ line_up (entries r.calls) place t.event t.seen.calm.0, subst (λ n. Bears run (command.Begin n part) answer) st.name (subst (Bears run (command.Begin a.before.name part)) (sym t.shows) (b.bears run part))),

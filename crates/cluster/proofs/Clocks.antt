@@ -17,7 +17,7 @@ use Rattle.cluster.specs.Built.{is_built}
 use Rattle.cluster.specs.Held.{Held, SameSize, holds_site, holds_part}
 use Rattle.cluster.specs.Live.{LiveState}
 use Rattle.cluster.specs.Reaches.{Reaches}
-use Rattle.cluster.specs.Reached.{ReachedLive, Applies}
+use Rattle.cluster.specs.Reached.{ReachedLive, GoesTo, AppliesLive}
 use Rattle.cluster.specs.Sees.{Sees}
 use Rattle.cluster.proofs.Meets.{all_met, first_at, none_due, refused}
 use Rattle.cluster.proofs.Turned.{turned_alone}
@@ -30,17 +30,17 @@ module _ {S E : Type 0} (kinds : Kinds S E) (c : LiveState E) where
   part_in run r p = λ i. (nat_le 1 p.site && nat_le p.site (r.sites i)) && (nat_le 1 p.part && nat_le p.part (r.parts i))
 
   module _ (p : PartId) (n : ℕ) where
-    pub clock_nowhere : (steps : List Step) → steps ≡ step.NoPart ∷ [] → holds_part c.sites p ≡ false → Applies kinds (Some c) (command.Clock p n) steps (Some c)
+    pub clock_nowhere : (steps : List Step) → steps ≡ step.NoPart ∷ [] → holds_part c.sites p ≡ false → AppliesLive kinds c (command.Clock p n) steps c
     clock_nowhere steps is lacks = refused kinds c (command.Clock p n) step.NoPart steps is refl
         (λ run r. first_at (all_met run (command.Clock p n)) 2 (refl, (ap not r.has, ap not (sym (part_in run r p) ∙ lacks))))
         (λ run r who. refl)
 
-    pub clock_applies : (later : Held E) (now : ℕ) (steps : List Step) → steps ≡ step.Ticked p now ∷ [] → holds_part c.sites p ≡ true → GoesOn kinds c.sites later Any p (AskTick n) (λ e. e ≡ Ticked n now) → Applies kinds (Some c) (command.Clock p n) steps (Some (record { sites = later; sessions = c.sessions }))
+    pub clock_applies : (later : Held E) (now : ℕ) (steps : List Step) → steps ≡ step.Ticked p now ∷ [] → holds_part c.sites p ≡ true → GoesOn kinds c.sites later Any p (AskTick n) (λ e. e ≡ Ticked n now) → AppliesLive kinds c (command.Clock p n) steps (record { sites = later; sessions = c.sessions })
     clock_applies later now steps is there g number run r =
         let x = g.goes (entries r.calls) r.sees.reached tt tt in
         let size : SameSize c.sites later = record { sites_are = g.same_sites; parts_are = g.same_parts } in
         let seen : Sees kinds later (called 0 p (Ticked n now) ∷ r.calls) = record { reached = subst (λ (e : Event E). Reaches kinds later ((record { at = p; event = e }) ∷ entries r.calls)) x.shows x.reached; calm = (refl, r.sees.calm); one_caller = (refl, r.sees.one_caller) } in
-        subst (λ l. IsAnswer is_built run (command.Clock p n) l × ReachedLive kinds (record { sites = later; sessions = c.sessions }) (answered number (Some (command.Clock p n)) l run)) (sym is) (
+        subst (λ l. IsAnswer is_built run (command.Clock p n) l × GoesTo kinds c run r (record { sites = later; sessions = c.sessions }) (answered number (Some (command.Clock p n)) l run)) (sym is) (
           subst (AnswersBy run (command.Clock p n) (step.Ticked p now ∷ [])) (sym (none_due (all_met run (command.Clock p n)) (refl, (ap not r.has, (ap not (sym (part_in run r p) ∙ there), tt))))) (step.Ticked p now, refl, refl, tt),
           turned_alone kinds c run r number (command.Clock p n) 0 p (Ticked n now) later size seen refl refl (λ who s. refl) (λ who. tt) tt,
         )

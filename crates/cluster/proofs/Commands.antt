@@ -33,7 +33,7 @@ use Rattle.cluster.specs.Acts.{Acts, Reads}
 use Rattle.cluster.specs.Built.{is_built}
 use Rattle.cluster.specs.Held.{Held}
 use Rattle.cluster.specs.Live.{LiveState, session_in, phase_in, phase_about, is_open_phase, are_open}
-use Rattle.cluster.specs.Reached.{phase_as, StandsBy, ReachedLive, Applies}
+use Rattle.cluster.specs.Reached.{phase_as, StandsBy, GoesTo, AppliesLive}
 use Rattle.cluster.specs.Sees.{is_calm, Sees}
 use Rattle.cluster.proofs.Meets.{all_met, first_at, none_due, refused, has, lacks_session, has_session, open_is, by_name}
 use Rattle.cluster.proofs.Sessions.{turns, acted}
@@ -95,19 +95,19 @@ module _ {S E : Type 0} (kinds : Kinds S E) (c : LiveState E) (name : List ℕ) 
   absent_in h = none_about (session_in c.sessions name) h
 
   module _ (o : ObjectId) where
-    pub read_absent : (steps : List Step) → steps ≡ step.NoSession ∷ [] → session_in c.sessions name ≡ None → Applies kinds (Some c) (command.Read name o) steps (Some c)
+    pub read_absent : (steps : List Step) → steps ≡ step.NoSession ∷ [] → session_in c.sessions name ≡ None → AppliesLive kinds c (command.Read name o) steps c
     read_absent steps is none = refused kinds c (command.Read name o) step.NoSession steps is refl
         (λ run r. first_at (all_met run (command.Read name o)) 2 (refl, (has kinds c run r name, lacks_session kinds c run r name none)))
         (λ run r who. refl)
 
-    pub read_shut : (steps : List Step) → steps ≡ step.NoTxn ∷ [] → IsShut (session_in c.sessions name) → Applies kinds (Some c) (command.Read name o) steps (Some c)
+    pub read_shut : (steps : List Step) → steps ≡ step.NoTxn ∷ [] → IsShut (session_in c.sessions name) → AppliesLive kinds c (command.Read name o) steps c
     read_shut steps is x = let s = x.found in let there = x.is in let shut = x.shut in refused kinds c (command.Read name o) step.NoTxn steps is refl
         (λ run r. first_at (all_met run (command.Read name o)) 3 (refl, (has kinds c run r name, (has_session kinds c run r name s there, ap not (open_is kinds c run r name s there ∙ shut)))))
         (λ run r who. refl)
 
-    pub read_applies : (later : Held E) (sessions : List (List ℕ × SessionState E)) (answer : Step) (steps : List Step) → steps ≡ answer ∷ [] → are_open (phase_in c.sessions name) ≡ true → Acts kinds c.sites c.sessions name later sessions (Reads kinds later o answer) → Applies kinds (Some c) (command.Read name o) steps (Some (record { sites = later; sessions = sessions }))
+    pub read_applies : (later : Held E) (sessions : List (List ℕ × SessionState E)) (answer : Step) (steps : List Step) → steps ≡ answer ∷ [] → are_open (phase_in c.sessions name) ≡ true → Acts kinds c.sites c.sessions name later sessions (Reads kinds later o answer) → AppliesLive kinds c (command.Read name o) steps (record { sites = later; sessions = sessions })
     read_applies later sessions answer steps is opened a number run r =
-        subst (λ l. IsAnswer is_built run (command.Read name o) l × ReachedLive kinds (record { sites = later; sessions = sessions }) (answered number (Some (command.Read name o)) l run)) (sym is)
+        subst (λ l. IsAnswer is_built run (command.Read name o) l × GoesTo kinds c run r (record { sites = later; sessions = sessions }) (answered number (Some (command.Read name o)) l run)) (sym is)
         (by_doing a.before.doing refl is_open d.1)
       where
         st : StandsBy run r.calls name a.before
@@ -120,7 +120,7 @@ module _ {S E : Type 0} (kinds : Kinds S E) (c : LiveState E) (name : List ℕ) 
         is_open = sym (open_phase a.before.doing) ∙ subst (λ x. are_open (phase_about x) ≡ true) a.is opened
 
         by_doing : (doing : Doing E) → a.before.doing ≡ doing → session.is_open doing ≡ true → MakesRead (λ h (p : Unit {0}) l. Sees kinds h l) (λ (p : Unit {0}) n. true) later tt r.calls a.before a.after o answer doing
-            → IsAnswer is_built run (command.Read name o) (answer ∷ []) × ReachedLive kinds (record { sites = later; sessions = sessions }) (answered number (Some (command.Read name o)) (answer ∷ []) run)
+            → IsAnswer is_built run (command.Read name o) (answer ∷ []) × GoesTo kinds c run r (record { sites = later; sessions = sessions }) (answered number (Some (command.Read name o)) (answer ∷ []) run)
         by_doing Idle e h m = off h
         by_doing (Ending txn lead commit) e h m = off h
         by_doing (Open txn) e h m =

@@ -15,8 +15,9 @@ use Rattle.world_model.specs.World.{IsWorldRun}
 use Rattle.world_model.proofs.Law.{law_world}
 use Rattle.txn_session.specs.Calls.{entries}
 use Rattle.cluster.specs.History.{ShowsHistory}
-use Rattle.cluster.specs.Live.{LiveState}
+use Rattle.cluster.specs.Post.{WholeState}
 use Rattle.cluster.specs.Reached.{Reached}
+use Rattle.cluster.proofs.Keeping.{post_on}
 use Rattle.cluster.proofs.Mere.{before_still}
 use Rattle.cluster.proofs.Standing.{live_still}
 
@@ -27,10 +28,12 @@ module _ {S E : Type 0} (kinds : Kinds S E) where
       let lawful : IsLawful kinds.too_deep kinds.meaning (sites_of run) (parts_of run) (calls_of run) = subst (λ ls. IsLawful kinds.too_deep kinds.meaning (sites_of run) (parts_of run) ls) shown (law_world kinds (sites_of run) (parts_of run) events state there).2 in
       record { events = events; state = state; is_run = there; shown = shown; lawful = lawful; past = lawful.past own }
 
-  pub history : (c : Option (LiveState E)) (run : Run) → Reached kinds c run → ShowsHistory kinds run
+  pub history : (c : Option (WholeState E)) (run : Run) → Reached kinds c run → ShowsHistory kinds run
   history None run b = shows 0 0 run [] (λ p. new_part 0 0) (sym b.sites) (sym b.parts) (λ p. refl) (sym b.calls) (subst (λ ls. HandsOwn (sites_of run) ls) (sym b.calls) tt)
-  history (Some c) run r = shows c.sites.sites c.sites.parts run (entries r.calls) r.sees.reached.state r.sites r.parts r.sees.reached.is_run r.shown r.own
+  history (Some w) run r = shows w.live.sites.sites w.live.sites.parts run (entries r.live.calls) r.live.sees.reached.state r.live.sites r.live.parts r.live.sees.reached.is_run r.live.shown r.live.own
 
-  pub bad_still : (c : Option (LiveState E)) (number : ℕ) (run : Run) → Reached kinds c run → Reached kinds c ((record { number = number; command = None; step = step.Bad }) ∷ run)
+  pub bad_still : (c : Option (WholeState E)) (number : ℕ) (run : Run) → Reached kinds c run → Reached kinds c ((record { number = number; command = None; step = step.Bad }) ∷ run)
   bad_still None number run b = before_still number None step.Bad run refl b
-  bad_still (Some c) number run r = live_still kinds c number None step.Bad run refl (λ who. refl) r
+  bad_still (Some w) number run r =
+      let x = live_still kinds w.live number None step.Bad run refl (λ who. refl) r.live in
+      record { live = x.reached; post = post_on w.live.sites.sites w.live.sites.parts run _ r.live.calls x.reached.calls w.post x.keeps x.grows r.post }

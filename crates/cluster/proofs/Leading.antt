@@ -29,7 +29,8 @@ use Rattle.cluster.specs.Built.{is_built}
 use Rattle.cluster.specs.Ends.{MayFollow, MayMake, Leads, TakesStep, can_end, can_go, command_of, is_idle_phase, is_undecided_phase, on_way, stops}
 use Rattle.cluster.specs.Held.{Held}
 use Rattle.cluster.specs.Live.{LiveState, session_in, phase_in, phase_about}
-use Rattle.cluster.specs.Reached.{phase_as, ReachedLive, Applies, IsReached}
+use Rattle.cluster.specs.Reached.{phase_as, ReachedLive, GoesTo, AppliesLive, IsReachedLive}
+use Rattle.cluster.proofs.Standing.{goes_none, goes_both}
 use Rattle.cluster.proofs.Meets.{all_met, first_at, none_due, refused, has, absent, lacks_session, by_name, has_session, idle_is, undecided_is}
 use Rattle.cluster.proofs.Sessions.{own_name, same_name}
 use Rattle.cluster.proofs.Stepping.{Follows, GoesSo, one_step, steps_left}
@@ -58,11 +59,11 @@ module _ {S E : Type 0} (kinds : Kinds S E) (old : LiveState E) (w : Way) (name 
   -- the steps so far led from the old cluster to this one, and it may go on
   pub record IsOnWay (now : LiveState E) (left : Option ℕ) (lines : List Step) : Type 0 where
     pub may : MayGoOn w name left now.sessions
-    pub reached : IsReached kinds (Some now)
+    pub reached : IsReachedLive kinds now
     pub leads : Leads kinds old now w name steps left lines
 
-  pub at_start : MayMake w steps → can_end w (session_in old.sessions name) ≡ true → IsReached kinds (Some old) → IsOnWay old steps []
-  at_start m h r = record { may = may_start w name steps old.sessions m (session_in old.sessions name) refl h; reached = r; leads = λ number run x. record { reached = x; follow = λ rest y. y } }
+  pub at_start : MayMake w steps → can_end w (session_in old.sessions name) ≡ true → IsReachedLive kinds old → IsOnWay old steps []
+  at_start m h r = record { may = may_start w name steps old.sessions m (session_in old.sessions name) refl h; reached = r; leads = λ number run x. record { goes = goes_none kinds old run x; follow = λ rest y. y } }
 
   answers_so : MayMake w steps → can_end w (session_in old.sessions name) ≡ true → (run : Run) → ReachedLive kinds old run → (lines : List Step) → MayFollow w name run steps lines → IsAnswer is_built run (command_of w name steps) lines
   answers_so m h run r lines f = by_session (session_in old.sessions name) refl h
@@ -104,23 +105,26 @@ module _ {S E : Type 0} (kinds : Kinds S E) (old : LiveState E) (w : Way) (name 
 
       -- whatever follows the next line follows the old cluster's run with all of them
       follows_so : (number : ℕ) (run : Run) (r : ReachedLive kinds old run) (rest : List Step) → Follows goes w name ((record { number = number; command = Some (command_of w name steps); step = answer }) ∷ answered number (Some (command_of w name steps)) lines run) left rest → MayFollow w name run steps (lines ++ answer ∷ rest)
-      follows_so number run r rest f = let led = on.leads number run r in led.follow (answer ∷ rest) ((goes_so number (answered number (Some (command_of w name steps)) lines run) led.reached).follow left rest count_before f)
+      follows_so number run r rest f = let led = on.leads number run r in led.follow (answer ∷ rest) ((goes_so number (answered number (Some (command_of w name steps)) lines run) led.goes.reached).follow left rest count_before f)
 
-      reached_so : (number : ℕ) (run : Run) → ReachedLive kinds old run → ReachedLive kinds new (answered number (Some (command_of w name steps)) (lines ++ answer ∷ []) run)
-      reached_so number run r = let led = on.leads number run r in subst (ReachedLive kinds new) (sym (answered_more number (Some (command_of w name steps)) lines answer run)) (goes_so number (answered number (Some (command_of w name steps)) lines run) led.reached).reached
+      reached_so : (number : ℕ) (run : Run) (r : ReachedLive kinds old run) → GoesTo kinds old run r new (answered number (Some (command_of w name steps)) (lines ++ answer ∷ []) run)
+      reached_so number run r =
+          let led = on.leads number run r in
+          let middle : Run = answered number (Some (command_of w name steps)) lines run in
+          subst (λ l. GoesTo kinds old run r new l) (sym (answered_more number (Some (command_of w name steps)) lines answer run)) (goes_both kinds old run r now middle led.goes new _ (goes_so number middle led.goes.reached).reached)
 
-      applies_so : MayMake w steps → can_end w (session_in old.sessions name) ≡ true → ((number : ℕ) (run : Run) (r : ReachedLive kinds old run) → Follows goes w name ((record { number = number; command = Some (command_of w name steps); step = answer }) ∷ answered number (Some (command_of w name steps)) lines run) left []) → Applies kinds (Some old) (command_of w name steps) (lines ++ answer ∷ []) (Some new)
+      applies_so : MayMake w steps → can_end w (session_in old.sessions name) ≡ true → ((number : ℕ) (run : Run) (r : ReachedLive kinds old run) → Follows goes w name ((record { number = number; command = Some (command_of w name steps); step = answer }) ∷ answered number (Some (command_of w name steps)) lines run) left []) → AppliesLive kinds old (command_of w name steps) (lines ++ answer ∷ []) new
       applies_so m h f number run r = (answers_so m h run r (lines ++ answer ∷ []) (follows_so number run r [] (f number run r)), reached_so number run r)
 
       -- it ended
-      pub at_end : goes ≡ false → MayMake w steps → can_end w (session_in old.sessions name) ≡ true → Applies kinds (Some old) (command_of w name steps) (lines ++ answer ∷ []) (Some new)
+      pub at_end : goes ≡ false → MayMake w steps → can_end w (session_in old.sessions name) ≡ true → AppliesLive kinds old (command_of w name steps) (lines ++ answer ∷ []) new
       at_end g m h = applies_so m h (λ number run r. subst (λ b. Follows b w name ((record { number = number; command = Some (command_of w name steps); step = answer }) ∷ answered number (Some (command_of w name steps)) lines run) left []) (sym g) refl)
 
       -- all steps were made
-      pub at_stop : goes ≡ true → stops (fewer left) (session_in sessions name) ≡ true → MayMake w steps → can_end w (session_in old.sessions name) ≡ true → Applies kinds (Some old) (command_of w name steps) (lines ++ answer ∷ []) (Some new)
+      pub at_stop : goes ≡ true → stops (fewer left) (session_in sessions name) ≡ true → MayMake w steps → can_end w (session_in old.sessions name) ≡ true → AppliesLive kinds old (command_of w name steps) (lines ++ answer ∷ []) new
       at_stop g k m h = applies_so m h (λ number run r. let led = on.leads number run r in
           subst (λ b. Follows b w name ((record { number = number; command = Some (command_of w name steps); step = answer }) ∷ answered number (Some (command_of w name steps)) lines run) left []) (sym g)
-          ((goes_so number (answered number (Some (command_of w name steps)) lines run) led.reached).stop (fewer left) g (ap (stops (fewer left)) (sym new_is) ∙ k)))
+          ((goes_so number (answered number (Some (command_of w name steps)) lines run) led.goes.reached).stop (fewer left) g (ap (stops (fewer left)) (sym new_is) ∙ k)))
 
       in_some : GoesSo kinds now on.reached.run on.reached.reached 0 name a.before a.is w steps later sessions a.after answer goes a.size a.put (a.does on.reached.reached.calls on.reached.reached.sees (by_name kinds now on.reached.run on.reached.reached name a.before a.is).holds)
       in_some = goes_so 0 on.reached.run on.reached.reached
@@ -129,9 +133,9 @@ module _ {S E : Type 0} (kinds : Kinds S E) (old : LiveState E) (w : Way) (name 
       pub at_next : goes ≡ true → stops (fewer left) (session_in sessions name) ≡ false → IsOnWay new (fewer left) (lines ++ answer ∷ [])
       at_next g k = record {
         may = record { found = a.after; is = new_is; can = in_some.can g; count = in_some.more (fewer left) g (ap (stops (fewer left)) (sym new_is) ∙ k) };
-        reached = record { run = _; reached = in_some.reached };
+        reached = record { run = _; reached = in_some.reached.reached };
         leads = λ number run r. record {
-          reached = reached_so number run r;
+          goes = reached_so number run r;
           follow = λ rest f. subst (λ l. MayFollow w name run steps l) (sym (append_assoc lines (answer ∷ []) rest))
               (follows_so number run r rest (subst (λ b. Follows b w name ((record { number = number; command = Some (command_of w name steps); step = answer }) ∷ answered number (Some (command_of w name steps)) lines run) left rest) (sym g)
               (subst (λ l. MayFollow w name l (fewer left) rest) (answered_more number (Some (command_of w name steps)) lines answer run) f)));
@@ -187,12 +191,12 @@ still_as name who p f k = by_test (bytes_eq name who) refl
     by_test false h = refl
 
 module _ {S E : Type 0} (kinds : Kinds S E) (c : LiveState E) (name : List ℕ) (lines : List Step) where
-  pub commit_absent : (steps : Option ℕ) → lines ≡ step.NoSession ∷ [] → session_in c.sessions name ≡ None → Applies kinds (Some c) (command.Commit name steps) lines (Some c)
+  pub commit_absent : (steps : Option ℕ) → lines ≡ step.NoSession ∷ [] → session_in c.sessions name ≡ None → AppliesLive kinds c (command.Commit name steps) lines c
   commit_absent steps is none = refused kinds c (command.Commit name steps) step.NoSession lines is refl
       (λ run r. first_at (all_met run (command.Commit name steps)) 2 (refl, (has kinds c run r name, lacks_session kinds c run r name none)))
       (λ run r who. still_as name who (phase run) (λ p. committing (parts_of run) p step.NoSession) (subst (λ p. committing (parts_of run) p step.NoSession ≡ p) (sym (absent kinds c run r name none)) refl))
 
-  pub abort_absent : lines ≡ step.NoSession ∷ [] → session_in c.sessions name ≡ None → Applies kinds (Some c) (command.Abort name) lines (Some c)
+  pub abort_absent : lines ≡ step.NoSession ∷ [] → session_in c.sessions name ≡ None → AppliesLive kinds c (command.Abort name) lines c
   abort_absent is none = refused kinds c (command.Abort name) step.NoSession lines is refl
       (λ run r. first_at (all_met run (command.Abort name)) 2 (refl, (has kinds c run r name, lacks_session kinds c run r name none)))
       (λ run r who. still_as name who (phase run) (λ p. aborting p step.NoSession) (subst (λ p. aborting p step.NoSession ≡ p) (sym (absent kinds c run r name none)) refl))
@@ -212,14 +216,14 @@ module _ {S E : Type 0} (kinds : Kinds S E) (c : LiveState E) (name : List ℕ) 
       by_going (Finishing left n) k = refl
       by_going (Aborting left) k = absurd (true≢false k)
 
-  pub commit_idle : (steps : Option ℕ) (p : Stage) → lines ≡ step.NoTxn ∷ [] → phase_in c.sessions name ≡ Some p → is_idle_phase p ≡ true → Applies kinds (Some c) (command.Commit name steps) lines (Some c)
+  pub commit_idle : (steps : Option ℕ) (p : Stage) → lines ≡ step.NoTxn ∷ [] → phase_in c.sessions name ≡ Some p → is_idle_phase p ≡ true → AppliesLive kinds c (command.Commit name steps) lines c
   commit_idle steps p is h k = let x = about (session_in c.sessions name) p h in
       let idle : session.is_idle x.found.doing ≡ true = sym (idle_phase x.found.doing) ∙ (ap is_idle_phase x.so ∙ k) in
       refused kinds c (command.Commit name steps) step.NoTxn lines is refl
       (λ run r. first_at (all_met run (command.Commit name steps)) 3 (refl, (has kinds c run r name, (has_session kinds c run r name x.found x.is, idle_is kinds c run r name x.found x.is ∙ idle))))
       (λ run r who. still_as name who (phase run) (λ p. committing (parts_of run) p step.NoTxn) (subst (λ p. committing (parts_of run) p step.NoTxn ≡ p) (sym (by_name kinds c run r name x.found x.is).phase) (still_idle (parts_of run) x.found.doing idle)))
 
-  pub abort_decided : (p : Stage) → lines ≡ step.NoTxn ∷ [] → phase_in c.sessions name ≡ Some p → is_undecided_phase p ≡ false → Applies kinds (Some c) (command.Abort name) lines (Some c)
+  pub abort_decided : (p : Stage) → lines ≡ step.NoTxn ∷ [] → phase_in c.sessions name ≡ Some p → is_undecided_phase p ≡ false → AppliesLive kinds c (command.Abort name) lines c
   abort_decided p is h k = let x = about (session_in c.sessions name) p h in
       let decided : session.can_abort x.found.doing ≡ false = sym (undecided_phase x.found.doing) ∙ (ap is_undecided_phase x.so ∙ k) in
       refused kinds c (command.Abort name) step.NoTxn lines is refl

@@ -6,6 +6,7 @@ pub mod Asking
 pub mod Fresh
 pub mod Messages
 pub mod Seeing
+pub mod Keeping
 pub mod Mere
 pub mod Applying
 pub mod Standing
@@ -23,3 +24,7 @@ pub mod Ends
 pub mod Stages
 pub mod Stepping
 pub mod Leading
+pub mod Posting
+pub mod Dropping
+pub mod Delivering
+pub mod Sending

@@ -20,7 +20,7 @@ use Rattle.txn_session.specs.Session as session
 use Rattle.txn_session.specs.Session.{Doing, Idle, Open, Ending, SessionState}
 use Rattle.cluster.specs.Built.{is_built}
 use Rattle.cluster.specs.Live.{LiveState, session_in}
-use Rattle.cluster.specs.Reached.{phase_as, StandsBy, StandsAs, ReachedLive, Applies}
+use Rattle.cluster.specs.Reached.{phase_as, StandsBy, StandsAs, ReachedLive, GoesTo, AppliesLive}
 use Rattle.cluster.proofs.Mere.{is_mere}
 use Rattle.cluster.proofs.Standing.{live_still}
 
@@ -88,10 +88,10 @@ module _ {S E : Type 0} (kinds : Kinds S E) where
   abbrev pub StaysIdle : LiveState E → Command → Step → Type 0
   StaysIdle c cmd s = (run : Run) → ReachedLive kinds c run → (who : List ℕ) → by_command (parts_of run) who (phase run who) (Some cmd) s ≡ phase run who
 
-  pub refused : (c : LiveState E) (cmd : Command) (s : Step) (steps : List Step) → steps ≡ s ∷ [] → is_mere s ≡ true → Meets c cmd (Some s) → StaysIdle c cmd s → Applies kinds (Some c) cmd steps (Some c)
+  pub refused : (c : LiveState E) (cmd : Command) (s : Step) (steps : List Step) → steps ≡ s ∷ [] → is_mere s ≡ true → Meets c cmd (Some s) → StaysIdle c cmd s → AppliesLive kinds c cmd steps c
   refused c cmd s steps is h m idle number run r = (
     subst (λ o. AnswersBy run cmd steps o) (sym (m run r)) is,
-    subst (λ l. ReachedLive kinds c (answered number (Some cmd) l run)) (sym is) (live_still kinds c number (Some cmd) s run h (idle run r) r),
+    subst (λ l. GoesTo kinds c run r c (answered number (Some cmd) l run)) (sym is) (live_still kinds c number (Some cmd) s run h (idle run r) r),
   )
 
   module _ (c : LiveState E) (run : Run) (r : ReachedLive kinds c run) (name : List ℕ) where

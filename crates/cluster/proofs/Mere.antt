@@ -14,6 +14,7 @@ use Rattle.world_model.specs.Phases.{Phase, Absent, phase, phase_after, by_comma
 use Rattle.world_model.specs.Run.{Run}
 use Rattle.world_model.specs.ScriptCalls.{is_answer, calls_of}
 use Rattle.cluster.specs.Reached.{IsBefore}
+use Rattle.cluster.proofs.Keeping.{is_postal, keeps_line, keeps_none, keeps_both}
 
 -- a refusal that no partition gives, or a line outside the grammar
 abbrev pub is_mere : Step → Bool
@@ -65,6 +66,13 @@ mere step.LimitReports h = all_same _ refl refl (λ n. refl) (λ n. refl) (λ w 
 mere step.Unbuilt h = all_same _ refl refl (λ n. refl) (λ n. refl) (λ w o. refl) (λ n. refl) (λ n w o a. refl)
 mere other h = off h
 
+pub mere_plain : (s : Step) → is_mere s ≡ true → is_postal s ≡ false
+mere_plain (step.Sent n q to lo hi count) h = off h
+mere_plain (step.Reported n q bounds) h = off h
+mere_plain (step.DroppedMessage n) h = off h
+mere_plain (step.DroppedReport n) h = off h
+mere_plain other h = refl
+
 -- where no session is, a command gives none a phase
 absent_stays : (parts : ℕ) (who : List ℕ) (asked : Option Command) (s : Step) → by_command parts who Absent asked s ≡ Absent
 absent_stays parts who (Some (command.Commit name k)) s = elim (bytes_eq name who) as (λ b. (if b then Absent else Absent) ≡ Absent) [ true ↦ refl | false ↦ refl ]
@@ -82,8 +90,9 @@ before_still number asked s run h b =
       phases = λ who. m.phase (parts_of run) who (phase run who) asked ∙ ap (λ o. by_command (parts_of run) who o asked s) (b.phases who) ∙ absent_stays (parts_of run) who asked s;
       site = λ who. m.site who (site_of run who) ∙ b.site who;
       count = m.count (session_count run) ∙ b.count;
+      post = keeps_both [] run _ b.post (keeps_line number asked s run (mere_plain s h));
     }
 
 -- before any line
 pub at_first : IsBefore []
-at_first = record { lacks = refl; sites = refl; parts = refl; calls = refl; phases = λ who. refl; site = λ who. refl; count = refl }
+at_first = record { lacks = refl; sites = refl; parts = refl; calls = refl; phases = λ who. refl; site = λ who. refl; count = refl; post = keeps_none [] }

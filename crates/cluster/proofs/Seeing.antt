@@ -39,7 +39,7 @@ module _ {S E : Type 0} (kinds : Kinds S E) where
   never_bad sites parts id p (AskUpdate t s o own op) f r = true≢false (sym f ∙ r.1)
   never_bad sites parts id p other f r = r.1
 
-  plain_refused : (c : Held E) (run : List (Entry E)) (at : PartId) (ask : Ask E) (why : part.Refusal) → Reaches kinds c ((record { at = at; event = Refused ask (cause why) }) ∷ run) → is_plain (cause why) ≡ true
+  pub plain_refused : (c : Held E) (run : List (Entry E)) (at : PartId) (ask : Ask E) (why : part.Refusal) → Reaches kinds c ((record { at = at; event = Refused ask (cause why) }) ∷ run) → is_plain (cause why) ≡ true
   plain_refused c run at ask answer.BadOp r = absurd (never_bad c.sites c.parts at (r.is_run.0 at) ask r.is_run.2.fit r.is_run.2.step.0)
   plain_refused c run at ask other r = refl
 

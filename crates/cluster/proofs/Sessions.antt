@@ -24,7 +24,7 @@ use Rattle.txn_session.specs.Holds.{Holds, Makes}
 use Rattle.txn_session.specs.Session.{SessionState}
 use Rattle.cluster.specs.Held.{Held, SameSize}
 use Rattle.cluster.specs.Live.{LiveState, session_in, IsPut}
-use Rattle.cluster.specs.Reached.{phase_as, StandsBy, StandsAs, ReachedLive}
+use Rattle.cluster.specs.Reached.{phase_as, StandsBy, StandsAs, ReachedLive, GoesTo}
 use Rattle.cluster.specs.Sees.{is_calm, Sees}
 use Rattle.cluster.proofs.Turning.{is_numberless, IsCallLine, call_line}
 use Rattle.cluster.proofs.Turned.{IsOwnAsk, silent, call_is, numberless, next, depends_next, depended, other_next, turned}
@@ -93,8 +93,8 @@ module _ {S E : Type 0} (kinds : Kinds S E) where
         pub phase : phase_after (parts_of run) name (phase run name) (Some cmd) answer ≡ phase_as new.doing
         pub depends : new.dependency ≡ dependency_after (sites_of run) (entries r.calls) name s.dependency t.event
 
-      pub acted : (sessions : List (List ℕ × SessionState E)) → Owes sessions → ReachedLive kinds (record { sites = held; sessions = sessions }) ((record { number = number; command = Some cmd; step = answer }) ∷ run)
-      acted sessions o = subst (λ line. ReachedLive kinds (record { sites = held; sessions = sessions }) ((record { number = number; command = Some cmd; step = line }) ∷ run)) (sym t.shows)
+      pub acted : (sessions : List (List ℕ × SessionState E)) → Owes sessions → GoesTo kinds c run r (record { sites = held; sessions = sessions }) ((record { number = number; command = Some cmd; step = answer }) ∷ run)
+      acted sessions o = subst (λ line. GoesTo kinds c run r (record { sites = held; sessions = sessions }) ((record { number = number; command = Some cmd; step = line }) ∷ run)) (sym t.shows)
           (turned kinds c run r number cmd t.by at t.event held o.size t.seen plain placed sessions o.put.count past each)
         where
           own : IsOwnAsk (entries r.calls) name (asked_by (attempt t.event))

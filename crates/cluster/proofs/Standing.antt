@@ -14,9 +14,11 @@ use Rattle.world_model.specs.ScriptCalls.{is_answer, calls_of}
 use Rattle.txn_session.specs.Calls.{Call}
 use Rattle.txn_session.specs.Holds.{Holds}
 use Rattle.txn_session.specs.Session.{SessionState}
+use Rattle.cluster.specs.Held.{size_refl, size_trans}
 use Rattle.cluster.specs.Live.{LiveState, session_in}
-use Rattle.cluster.specs.Reached.{StandsAs, ReachedLive}
-use Rattle.cluster.proofs.Mere.{is_mere, IsMere, mere}
+use Rattle.cluster.specs.Reached.{StandsAs, ReachedLive, GoesTo}
+use Rattle.cluster.proofs.Keeping.{grows_none, grows_both, keeps_line, keeps_none, keeps_both}
+use Rattle.cluster.proofs.Mere.{is_mere, IsMere, mere, mere_plain}
 
 -- the runs tell the same of this session
 pub record SameFor (new old : Run) (who : List ℕ) : Type 0 where
@@ -41,9 +43,9 @@ stands_still new old later calls who (Some x) same holds s = record {
 }
 
 module _ {S E : Type 0} (kinds : Kinds S E) where
-  -- a line that no partition answered leaves all as it was
-  pub live_still : (c : LiveState E) (number : ℕ) (asked : Option Command) (s : Step) (run : Run) → is_mere s ≡ true → ((who : List ℕ) → by_command (parts_of run) who (phase run who) asked s ≡ phase run who) → ReachedLive kinds c run → ReachedLive kinds c ((record { number = number; command = asked; step = s }) ∷ run)
-  live_still c number asked s run h idle r = record {
+  -- a line that no partition answered, and that gives no session another phase, leaves the cluster as it was
+  abbrev pub mere_still : (c : LiveState E) (number : ℕ) (asked : Option Command) (s : Step) (run : Run) → IsMere s → ((who : List ℕ) → by_command (parts_of run) who (phase run who) asked s ≡ phase run who) → ReachedLive kinds c run → ReachedLive kinds c ((record { number = number; command = asked; step = s }) ∷ run)
+  mere_still c number asked s run m idle r = record {
     has = ap (λ x. x || has_cluster run) m.cluster ∙ r.has;
     sites = r.sites ∙ sym (m.sites (sites_of run));
     parts = r.parts ∙ sym (m.parts (parts_of run));
@@ -55,9 +57,6 @@ module _ {S E : Type 0} (kinds : Kinds S E) where
     count = m.count (session_count run) ∙ r.count;
   }
     where
-      m : IsMere s
-      m = mere s h
-
       next : Run
       next = (record { number = number; command = asked; step = s }) ∷ run
 
@@ -72,3 +71,13 @@ module _ {S E : Type 0} (kinds : Kinds S E) where
         phase = m.phase (parts_of run) who (phase run who) asked ∙ idle who;
         depends = (λ i. dependency (m.sites (sites_of run) i) (lines i) who);
       }
+
+  -- and so does a refusal
+  pub live_still : (c : LiveState E) (number : ℕ) (asked : Option Command) (s : Step) (run : Run) → is_mere s ≡ true → ((who : List ℕ) → by_command (parts_of run) who (phase run who) asked s ≡ phase run who) → (r : ReachedLive kinds c run) → GoesTo kinds c run r c ((record { number = number; command = asked; step = s }) ∷ run)
+  live_still c number asked s run h idle r = record { size = size_refl c.sites; reached = mere_still c number asked s run (mere s h) idle r; grows = grows_none r.calls; keeps = keeps_line number asked s run (mere_plain s h) }
+
+  pub goes_none : (c : LiveState E) (run : Run) (r : ReachedLive kinds c run) → GoesTo kinds c run r c run
+  goes_none c run r = record { size = size_refl c.sites; reached = r; grows = grows_none r.calls; keeps = keeps_none run }
+
+  pub goes_both : (a : LiveState E) (run : Run) (r : ReachedLive kinds a run) (b : LiveState E) (next : Run) (x : GoesTo kinds a run r b next) (c : LiveState E) (last : Run) → GoesTo kinds b next x.reached c last → GoesTo kinds a run r c last
+  goes_both a run r b next x c last y = record { size = size_trans a.sites b.sites c.sites x.size y.size; reached = y.reached; grows = grows_both r.calls x.reached.calls y.reached.calls x.grows y.grows; keeps = keeps_both run next last x.keeps y.keeps }

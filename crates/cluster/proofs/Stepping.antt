@@ -35,7 +35,8 @@ use Rattle.cluster.specs.declared.commits.Way.TheVariants as way
 use Rattle.cluster.specs.Ends.{command_of, turned_to, MayFollow, goes_on, doing_on, on_way, can_go, stops, TakesStep}
 use Rattle.cluster.specs.Held.{Held, SameSize}
 use Rattle.cluster.specs.Live.{LiveState, session_in, IsPut}
-use Rattle.cluster.specs.Reached.{phase_as, StandsBy, StandsAs, ReachedLive}
+use Rattle.cluster.specs.Reached.{phase_as, StandsBy, StandsAs, ReachedLive, GoesTo}
+use Rattle.cluster.proofs.Keeping.{grows_none, keeps_line}
 use Rattle.cluster.specs.Sees.{Sees}
 use Rattle.cluster.proofs.Ends.{is_step, part_for, is_end_ask, step_left, holders_are, end_phase, shown_of, ask_for, end_ask, placed_for, own_for, past_for, depends_for}
 use Rattle.cluster.proofs.Meets.{by_name}
@@ -138,17 +139,22 @@ module _ {S E : Type 0} (kinds : Kinds S E) where
 
     -- nothing is left: the session is idle
     ended_line : (cmd : Command) (later : Held E) (sessions : List (List ℕ × SessionState E)) → SameSize c.sites later → IsPut c.sessions name (doing_so s Idle) sessions → Sees kinds later r.calls
-        → ReachedLive kinds (record { sites = later; sessions = sessions }) ((record { number = number; command = Some cmd; step = step.Ended name }) ∷ run)
+        → GoesTo kinds c run r (record { sites = later; sessions = sessions }) ((record { number = number; command = Some cmd; step = step.Ended name }) ∷ run)
     ended_line cmd later sessions size put seen = record {
-      has = r.has;
-      sites = size.sites_are ∙ r.sites;
-      parts = size.parts_are ∙ r.parts;
-      calls = r.calls;
-      sees = seen;
-      shown = r.shown;
-      own = r.own;
-      each = each;
-      count = r.count ∙ sym put.count;
+      size = size;
+      grows = grows_none r.calls;
+      keeps = keeps_line number (Some cmd) (step.Ended name) run refl;
+      reached = record {
+        has = r.has;
+        sites = size.sites_are ∙ r.sites;
+        parts = size.parts_are ∙ r.parts;
+        calls = r.calls;
+        sees = seen;
+        shown = r.shown;
+        own = r.own;
+        each = each;
+        count = r.count ∙ sym put.count;
+      };
     }
       where
         after_it : Run
@@ -186,7 +192,7 @@ module _ {S E : Type 0} (kinds : Kinds S E) where
 
       -- the line and what follows it answer what is left of the command; the session may go on if the command does
       pub record GoesSo : Type 0 where
-        pub reached : ReachedLive kinds (record { sites = later; sessions = sessions }) after_it
+        pub reached : GoesTo kinds c run r (record { sites = later; sessions = sessions }) after_it
         pub follow : (left : Option ℕ) (rest : List Step) → (left ≡ Some 0 → next_of start.doing ≡ what.Done) → Follows goes w name after_it left rest → MayFollow w name run left (answer ∷ rest)
         pub stop : (left : Option ℕ) → goes ≡ true → stops left (Some new) ≡ true → MayFollow w name after_it left []
         pub more : (left : Option ℕ) → goes ≡ true → stops left (Some new) ≡ false → left ≡ Some 0 → next_of (on_way w new).doing ≡ what.Done
@@ -195,7 +201,7 @@ module _ {S E : Type 0} (kinds : Kinds S E) where
 
       over : ((left : Option ℕ) → MayFollow w name run left (step.Ended name ∷ [])) → next_of start.doing ≡ what.Done → GoesSo
       over lines e = record {
-        reached = subst (λ l. ReachedLive kinds (record { sites = later; sessions = sessions }) ((record { number = number; command = Some cmd; step = l }) ∷ run)) (sym said)
+        reached = subst (λ l. GoesTo kinds c run r (record { sites = later; sessions = sessions }) ((record { number = number; command = Some cmd; step = l }) ∷ run)) (sym said)
             (ended_line cmd later sessions same (subst (λ y. IsPut c.sessions name y sessions) idle put) (done_sees later r.calls start new answer start.doing (next_of start.doing) e d.1.made));
         follow = λ left rest k f. let none : rest ≡ [] = subst (λ b. Follows b w name after_it left rest) shut f in subst (λ l. MayFollow w name run left l) (λ i. sym said i ∷ sym none i) (lines left);
         stop = λ left h k. absurd (true≢false (sym h ∙ shut));
@@ -258,7 +264,7 @@ module _ {S E : Type 0} (kinds : Kinds S E) where
           placed : asked_of (calls_of run) run cmd ≡ record { at = place; call = call_asked (ask_for s.parts txn lead asked) }
           placed = asked_end w (calls_of run) run name steps ∙ (stage.placed ∙ ((λ i. for_step txn.tx (next_step ((x.site_is ∙ sym at_site) i) (sym snapshot i) commit.going)) ∙ placed_for s.parts txn lead asked s.site asks x.site_is))
 
-          now_reached : ReachedLive kinds (record { sites = later; sessions = sessions }) after_it
+          now_reached : GoesTo kinds c run r (record { sites = later; sessions = sessions }) after_it
           now_reached = acted kinds c run r number cmd name s is new place (ask_for s.parts txn lead asked) answer later t sessions (record {
             size = same;
             put = put;

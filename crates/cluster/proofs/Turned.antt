@@ -11,7 +11,7 @@ use Rattle.world_model.specs.Asking.{asked_by}
 use Rattle.world_model.specs.Cluster.{has_cluster, sites_of, parts_of}
 use Rattle.world_model.specs.Dependency as lines
 use Rattle.world_model.specs.Dependency.{HandsOwn, IsOwnPast}
-use Rattle.world_model.specs.Event.{Ask, AskBegin, AskRead, AskUpdate, AskPrepare, AskDecide, AskFinish, AskAbort, AskTake, IsDown, IsBadOp, HasGap, IsRepeat, HasNoRoom, IsDamaged, Event, Began, Updated, Prepared, Decided, Aborted, Sent, Took, Reported, Heard, Crashed, RestartCut, Restarted, Refused, Opened, Cut, Entry, attempt}
+use Rattle.world_model.specs.Event.{Ask, AskBegin, AskRead, AskUpdate, AskPrepare, AskDecide, AskFinish, AskAbort, AskTake, IsDown, IsBadOp, HasGap, IsRepeat, HasNoRoom, IsDamaged, Event, Began, Updated, Prepared, Decided, Aborted, Sent, Took, Reported, Heard, Crashed, RestartCut, Restarted, Refused, Opened, Cut, Entry, attempt, is_sent, is_report}
 use Rattle.world_model.specs.Lines.{call_asked, step_shown, call_of, lines_of, session_of}
 use Rattle.world_model.specs.Meeting.{site_of, session_count}
 use Rattle.world_model.specs.Past.{dependency_after, dependency}
@@ -26,10 +26,16 @@ use Rattle.txn_session.specs.Calls.{Call, entries, called, IsLegal}
 use Rattle.txn_session.specs.Session.{SessionState}
 use Rattle.cluster.specs.Held.{Held, SameSize}
 use Rattle.cluster.specs.Live.{LiveState, session_in}
-use Rattle.cluster.specs.Reached.{StandsBy, StandsAs, ReachedLive}
+use Rattle.cluster.specs.Reached.{StandsBy, StandsAs, ReachedLive, GoesTo}
+use Rattle.cluster.proofs.Keeping.{grows_one, keeps_line, call_plain}
 use Rattle.cluster.specs.Sees.{is_calm, Sees, sees_legal}
 use Rattle.cluster.proofs.Standing.{SameFor, stands_still}
 use Rattle.cluster.proofs.Turning.{is_numberless, IsCallLine, call_line, IsSilentFor, phase_other, site_other, depends_other, holds_other}
+
+quiet_call : {E : Type 0} (e : Event E) → is_numberless e ≡ true → (is_sent e ≡ false) × (is_report e ≡ false)
+quiet_call (Sent asked m) h = off h
+quiet_call (Reported b) h = off h
+quiet_call other h = (refl, refl)
 
 module _ {S E : Type 0} (kinds : Kinds S E) (c : LiveState E) (run : Run) (r : ReachedLive kinds c run) (number : ℕ) (cmd : Command) (by : ℕ) (at : PartId) (e : Event E) (held : Held E) (size : SameSize c.sites held) (sees : Sees kinds held (called by at e ∷ r.calls)) (plain : is_numberless e ≡ true) (placed : asked_of (calls_of run) run cmd ≡ record { at = at; call = call_of e }) where
   abbrev pub line : Step
@@ -80,21 +86,29 @@ module _ {S E : Type 0} (kinds : Kinds S E) (c : LiveState E) (run : Run) (r : R
       holds_other kinds held.sites held.parts (called by at e) r.calls x legal sees.calm.0 (subst (λ n. IsSilentFor (entries r.calls) n e) (sym x_is.name) q) h)
       st
 
-  pub turned : (sessions : List (List ℕ × SessionState E)) → length sessions ≡ length c.sessions → IsOwnPast (sites_of run) (calls_of run) (call_of e) → ((who : List ℕ) → StandsAs next later who (session_in sessions who)) → ReachedLive kinds (record { sites = held; sessions = sessions }) next
+  quiet : (is_sent e ≡ false) × (is_report e ≡ false)
+  quiet = quiet_call e plain
+
+  pub turned : (sessions : List (List ℕ × SessionState E)) → length sessions ≡ length c.sessions → IsOwnPast (sites_of run) (calls_of run) (call_of e) → ((who : List ℕ) → StandsAs next later who (session_in sessions who)) → GoesTo kinds c run r (record { sites = held; sessions = sessions }) next
   turned sessions count own each = record {
-    has = ap (λ x. x || has_cluster run) told.cluster ∙ r.has;
-    sites = size.sites_are ∙ (r.sites ∙ sym (told.sites (sites_of run)));
-    parts = size.parts_are ∙ (r.parts ∙ sym (told.parts (parts_of run)));
-    calls = later;
-    sees = sees;
-    shown = shown_next;
-    own = subst (λ n. HandsOwn n (calls_of next)) (sym (told.sites (sites_of run))) (subst (λ ls. HandsOwn (sites_of run) ls) (sym lines_are) (own, r.own));
-    each = each;
-    count = told.count (session_count run) ∙ (r.count ∙ sym count);
+    size = size;
+    grows = grows_one (called by at e) r.calls quiet.0 quiet.1;
+    keeps = keeps_line number (Some cmd) line run (call_plain (entries r.calls) at e sees.calm.0 quiet.0 quiet.1);
+    reached = record {
+      has = ap (λ x. x || has_cluster run) told.cluster ∙ r.has;
+      sites = size.sites_are ∙ (r.sites ∙ sym (told.sites (sites_of run)));
+      parts = size.parts_are ∙ (r.parts ∙ sym (told.parts (parts_of run)));
+      calls = later;
+      sees = sees;
+      shown = shown_next;
+      own = subst (λ n. HandsOwn n (calls_of next)) (sym (told.sites (sites_of run))) (subst (λ ls. HandsOwn (sites_of run) ls) (sym lines_are) (own, r.own));
+      each = each;
+      count = told.count (session_count run) ∙ (r.count ∙ sym count);
+    };
   }
 
   -- a call of no session's
-  pub turned_alone : ((who : List ℕ) (s : Step) → by_command (parts_of run) who (phase run who) (Some cmd) s ≡ phase run who) → ((who : List ℕ) → IsSilentFor (entries r.calls) who e) → IsOwnPast (sites_of run) (calls_of run) (call_of e) → ReachedLive kinds (record { sites = held; sessions = c.sessions }) next
+  pub turned_alone : ((who : List ℕ) (s : Step) → by_command (parts_of run) who (phase run who) (Some cmd) s ≡ phase run who) → ((who : List ℕ) → IsSilentFor (entries r.calls) who e) → IsOwnPast (sites_of run) (calls_of run) (call_of e) → GoesTo kinds c run r (record { sites = held; sessions = c.sessions }) next
   turned_alone idle q own = turned c.sessions refl own (λ who. other_next who (session_in c.sessions who) (idle who) (q who) (r.each who))
 
 as_other : (name who other : List ℕ) → bytes_eq name who ≡ false → other ≡ name → bytes_eq other who ≡ false

@@ -40,7 +40,7 @@ use Rattle.cluster.specs.Acts.{Acts, Updates}
 use Rattle.cluster.specs.Built.{is_built}
 use Rattle.cluster.specs.Held.{Held}
 use Rattle.cluster.specs.Live.{LiveState, session_in, refusal_about, refused_line}
-use Rattle.cluster.specs.Reached.{phase_as, StandsBy, ReachedLive, Applies}
+use Rattle.cluster.specs.Reached.{phase_as, StandsBy, ReachedLive, GoesTo, AppliesLive}
 use Rattle.cluster.specs.Sees.{is_calm, Sees}
 use Rattle.cluster.proofs.Meets.{all_met, first_at, none_due, refused, lacks_session, has_session, open_is, by_name}
 use Rattle.cluster.proofs.Sessions.{IsThere, turns, acted, own_name}
@@ -118,18 +118,18 @@ module _ {E : Type 0} where
     made other a c x = absurd cc
 
 module _ {S E : Type 0} (kinds : Kinds S E) (c : LiveState E) (name : List ℕ) (o : ObjectId) (op : Op) where
-  pub update_absent : (steps : List Step) → steps ≡ step.NoSession ∷ [] → session_in c.sessions name ≡ None → Applies kinds (Some c) (command.Update name o op) steps (Some c)
+  pub update_absent : (steps : List Step) → steps ≡ step.NoSession ∷ [] → session_in c.sessions name ≡ None → AppliesLive kinds c (command.Update name o op) steps c
   update_absent steps is none = refused kinds c (command.Update name o op) step.NoSession steps is refl
       (λ run r. first_at (all_met run (command.Update name o op)) 2 (refl, (ap not r.has, lacks_session kinds c run r name none)))
       (λ run r who. refl)
 
   module _ (shallow : fits o.kind op.path op.act ≡ true → kinds.too_deep o.kind op.path ≡ false) where
-    not_open : (s : SessionState E) → session_in c.sessions name ≡ Some s → session.is_open s.doing ≡ false → (steps : List Step) → steps ≡ step.NoTxn ∷ [] → Applies kinds (Some c) (command.Update name o op) steps (Some c)
+    not_open : (s : SessionState E) → session_in c.sessions name ≡ Some s → session.is_open s.doing ≡ false → (steps : List Step) → steps ≡ step.NoTxn ∷ [] → AppliesLive kinds c (command.Update name o op) steps c
     not_open s is shut steps e = refused kinds c (command.Update name o op) step.NoTxn steps e refl
         (λ run r. first_at (all_met run (command.Update name o op)) 3 (refl, (ap not r.has, (has_session kinds c run r name s is, ap not (open_is kinds c run r name s is ∙ shut)))))
         (λ run r who. refl)
 
-    unfit : (s : SessionState E) → session_in c.sessions name ≡ Some s → session.is_open s.doing ≡ true → fits o.kind op.path op.act ≡ false → (steps : List Step) → steps ≡ step.BadOp ∷ [] → Applies kinds (Some c) (command.Update name o op) steps (Some c)
+    unfit : (s : SessionState E) → session_in c.sessions name ≡ Some s → session.is_open s.doing ≡ true → fits o.kind op.path op.act ≡ false → (steps : List Step) → steps ≡ step.BadOp ∷ [] → AppliesLive kinds c (command.Update name o op) steps c
     unfit s is opened bad steps e = refused kinds c (command.Update name o op) step.BadOp steps e refl
         (λ run r. first_at (all_met run (command.Update name o op)) 4 (refl, (ap not r.has, (has_session kinds c run r name s is, (ap not (open_is kinds c run r name s is ∙ opened), ap not bad)))))
         (λ run r who. refl)
@@ -137,7 +137,7 @@ module _ {S E : Type 0} (kinds : Kinds S E) (c : LiveState E) (name : List ℕ) 
     total_is : (run : Run) (r : ReachedLive kinds c run) (s : SessionState E) (is : session_in c.sessions name ≡ Some s) (txn : Txn E) → s.doing ≡ Open txn → update_total (phase run name) ≡ length txn.updates
     total_is run r s is txn e = ap update_total ((by_name kinds c run r name s is).phase ∙ ap phase_as e) ∙ length-map txn.updates (λ (u : Upd E). u.object)
 
-    full : (s : SessionState E) (is : session_in c.sessions name ≡ Some s) (txn : Txn E) → s.doing ≡ Open txn → fits o.kind op.path op.act ≡ true → nat_lt (length txn.updates) 256 ≡ false → (steps : List Step) → steps ≡ step.LimitUpdates ∷ [] → Applies kinds (Some c) (command.Update name o op) steps (Some c)
+    full : (s : SessionState E) (is : session_in c.sessions name ≡ Some s) (txn : Txn E) → s.doing ≡ Open txn → fits o.kind op.path op.act ≡ true → nat_lt (length txn.updates) 256 ≡ false → (steps : List Step) → steps ≡ step.LimitUpdates ∷ [] → AppliesLive kinds c (command.Update name o op) steps c
     full s is txn e good most steps k = refused kinds c (command.Update name o op) step.LimitUpdates steps k refl
         (λ run r.
         let few = subst (λ d. update_total (phase_as d) ≤ 256) e (by_name kinds c run r name s is).few in
@@ -147,26 +147,26 @@ module _ {S E : Type 0} (kinds : Kinds S E) (c : LiveState E) (name : List ℕ) 
         first_at (all_met run (command.Update name o op)) 5 (refl, (ap not r.has, (has_session kinds c run r name s is, (ap not (open_is kinds c run r name s is ∙ ap session.is_open e), (ap not good, ap (λ n. n == 256) (total_is run r s is txn e ∙ exact)))))))
         (λ run r who. refl)
 
-    pub update_refused : (steps : List Step) (why : SessionError) → steps ≡ refused_line why ∷ [] → Would kinds.too_deep o op (session_in c.sessions name) (Some why) → Applies kinds (Some c) (command.Update name o op) steps (Some c)
+    pub update_refused : (steps : List Step) (why : SessionError) → steps ≡ refused_line why ∷ [] → Would kinds.too_deep o op (session_in c.sessions name) (Some why) → AppliesLive kinds c (command.Update name o op) steps c
     update_refused steps why is x = by_doing x.found.doing refl x.why_is
       where
         line : (w : SessionError) → Some w ≡ Some why → steps ≡ refused_line w ∷ []
         line w h = let e : why ≡ w = cc in is ∙ ap (λ y. refused_line y ∷ []) e
 
-        by_bools : (txn : Txn E) → x.found.doing ≡ Open txn → (a b d : Bool) → kinds.too_deep o.kind op.path ≡ a → fits o.kind op.path op.act ≡ b → nat_lt (length txn.updates) 256 ≡ d → (if a then Some error.TooDeep else (if b then (if d then None else Some error.TooMany) else Some error.BadOp)) ≡ Some why → Applies kinds (Some c) (command.Update name o op) steps (Some c)
+        by_bools : (txn : Txn E) → x.found.doing ≡ Open txn → (a b d : Bool) → kinds.too_deep o.kind op.path ≡ a → fits o.kind op.path op.act ≡ b → nat_lt (length txn.updates) 256 ≡ d → (if a then Some error.TooDeep else (if b then (if d then None else Some error.TooMany) else Some error.BadOp)) ≡ Some why → AppliesLive kinds c (command.Update name o op) steps c
         by_bools txn e true b d ea eb ed k = unfit x.found x.is (ap session.is_open e) (false_from_ne_true _ (λ h. true≢false (sym ea ∙ shallow h))) steps (line error.TooDeep k)
         by_bools txn e false false d ea eb ed k = unfit x.found x.is (ap session.is_open e) eb steps (line error.BadOp k)
         by_bools txn e false true false ea eb ed k = full x.found x.is txn e eb ed steps (line error.TooMany k)
         by_bools txn e false true true ea eb ed k = absurd cc
 
-        by_doing : (d : Doing E) → x.found.doing ≡ d → update_refusal kinds.too_deep d o op ≡ Some why → Applies kinds (Some c) (command.Update name o op) steps (Some c)
+        by_doing : (d : Doing E) → x.found.doing ≡ d → update_refusal kinds.too_deep d o op ≡ Some why → AppliesLive kinds c (command.Update name o op) steps c
         by_doing Idle e k = not_open x.found x.is (ap session.is_open e) steps (line error.NoTxn k)
         by_doing (Ending txn lead commit) e k = not_open x.found x.is (ap session.is_open e) steps (line error.NoTxn k)
         by_doing (Open txn) e k = by_bools txn e _ _ _ refl refl refl k
 
-  pub update_applies : (later : Held E) (sessions : List (List ℕ × SessionState E)) (answer : Step) (steps : List Step) → steps ≡ answer ∷ [] → Would kinds.too_deep o op (session_in c.sessions name) None → Acts kinds c.sites c.sessions name later sessions (Updates kinds later o op answer) → Applies kinds (Some c) (command.Update name o op) steps (Some (record { sites = later; sessions = sessions }))
+  pub update_applies : (later : Held E) (sessions : List (List ℕ × SessionState E)) (answer : Step) (steps : List Step) → steps ≡ answer ∷ [] → Would kinds.too_deep o op (session_in c.sessions name) None → Acts kinds c.sites c.sessions name later sessions (Updates kinds later o op answer) → AppliesLive kinds c (command.Update name o op) steps (record { sites = later; sessions = sessions })
   update_applies later sessions answer steps is w a number run r =
-      subst (λ l. IsAnswer is_built run (command.Update name o op) l × ReachedLive kinds (record { sites = later; sessions = sessions }) (answered number (Some (command.Update name o op)) l run)) (sym is)
+      subst (λ l. IsAnswer is_built run (command.Update name o op) l × GoesTo kinds c run r (record { sites = later; sessions = sessions }) (answered number (Some (command.Update name o op)) l run)) (sym is)
       (by_doing a.before.doing refl not_refused d.1)
     where
       st : StandsBy run r.calls name a.before
@@ -179,7 +179,7 @@ module _ {S E : Type 0} (kinds : Kinds S E) (c : LiveState E) (name : List ℕ) 
       not_refused = let e : Some w.found ≡ Some a.before = sym w.is ∙ a.is in let k : w.found ≡ a.before = cc in ap (λ (y : SessionState E). update_refusal kinds.too_deep y.doing o op) (sym k) ∙ w.why_is
 
       by_doing : (doing : Doing E) → a.before.doing ≡ doing → update_refusal kinds.too_deep doing o op ≡ None → MakesUpdate (λ h (p : Unit {0}) l. Sees kinds h l) (λ (p : Unit {0}) n. true) later tt r.calls a.before a.after o op answer doing
-          → IsAnswer is_built run (command.Update name o op) (answer ∷ []) × ReachedLive kinds (record { sites = later; sessions = sessions }) (answered number (Some (command.Update name o op)) (answer ∷ []) run)
+          → IsAnswer is_built run (command.Update name o op) (answer ∷ []) × GoesTo kinds c run r (record { sites = later; sessions = sessions }) (answered number (Some (command.Update name o op)) (answer ∷ []) run)
       by_doing Idle e h m = absurd cc
       by_doing (Ending txn lead commit) e h m = absurd cc
       by_doing (Open txn) e h m =

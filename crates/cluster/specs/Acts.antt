@@ -3,15 +3,24 @@ use Rattle.std.specs.Prelude.{◌≡◌, ℕ, true, List, Some, None}
 use Rattle.crdt_core.specs.declared.object.ObjectId.{ObjectId}
 use Rattle.crdt_core.specs.KindsOf.{Kinds}
 use Rattle.world_model.specs.declared.step.Step.{Step}
+use Rattle.world_model.specs.declared.step.Step.TheVariants as step
 use Rattle.txn_session.specs.Calls.{Call}
 use Rattle.txn_session.specs.Holds.{Holds, Makes, MakesRead, MakesUpdate}
-use Rattle.txn_session.specs.Session.{SessionState, place_in}
+use Rattle.txn_session.specs.Session.{SessionState, place_in, moved_to}
 use Rattle.txn_session.specs.Opens.{IsOpened, IsUpdated}
 use Rattle.world_model.specs.Event.{AskBegin}
 use Rattle.crdt_core.specs.declared.operation.Op.{Op}
 use Rattle.cluster.specs.Held.{Held, SameSize}
 use Rattle.cluster.specs.Live.{session_in, IsPut}
 use Rattle.cluster.specs.Sees.{Sees}
+
+-- it goes on at another site, and what it did stands
+pub record Moves {E : Type 0} (sessions : List (List ℕ × SessionState E)) (name : List ℕ) (site : ℕ) (answer : Step) (new : List (List ℕ × SessionState E)) : Type 0 where
+  pub before : SessionState E
+  pub is : session_in sessions name ≡ Some before
+  pub put : IsPut sessions name (moved_to before site) new
+  pub line : answer ≡ step.Moved before.name site
+  pub holds : (calls : List (Call E)) → Holds before calls → Holds (moved_to before site) calls
 
 module _ {S E : Type 0} (kinds : Kinds S E) where
   pub record Acts (held : Held E) (sessions : List (List ℕ × SessionState E)) (name : List ℕ) (later : Held E) (new : List (List ℕ × SessionState E)) (Does : SessionState E → SessionState E → List (Call E) → Type 0) : Type 0 where

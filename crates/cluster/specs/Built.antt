@@ -1,5 +1,5 @@
 -- Which commands the program has built, and what a script says of them.
-use Rattle.std.specs.Prelude.{◌≡◌, ◌≤◌, Bool, true, false, ◌==◌, List, Some, ⊤}
+use Rattle.std.specs.Prelude.{◌≡◌, ◌≤◌, Bool, true, false, List, Some, ⊤}
 use Rattle.crdt_core.specs.declared.kind.Kind.{Kind}
 use Rattle.crdt_core.specs.declared.object.Field.{Field}
 use Rattle.crdt_core.specs.Fits.{fits}
@@ -7,18 +7,24 @@ use Rattle.crdt_core.specs.Log.{end_of_time}
 use Rattle.world_model.specs.declared.command.Command.{Command}
 use Rattle.world_model.specs.declared.command.Command.TheVariants as command
 
--- all commands but those of several sites, and those that need disks
+-- all commands but those that need disks
 abbrev pub is_built : Command → Bool
-is_built (command.Cluster sites parts) = sites == 1
-is_built (command.Clock p n) = true
-is_built (command.Session name site) = true
-is_built (command.Lose name) = true
-is_built (command.Begin name part) = true
-is_built (command.Read name o) = true
-is_built (command.Update name o op) = true
-is_built (command.Commit name steps) = true
-is_built (command.Abort name) = true
-is_built other = false
+is_built (command.Expire p t) = false
+is_built (command.Settle p) = false
+is_built (command.Crash p) = false
+is_built (command.Fuse p k n) = false
+is_built (command.Restart p) = false
+is_built other = true
+
+-- the commands of messages and reports
+abbrev pub is_of_post : Command → Bool
+is_of_post (command.Send p site from) = true
+is_of_post (command.Deliver number) = true
+is_of_post (command.DropMessage number) = true
+is_of_post (command.Report p) = true
+is_of_post (command.Hear number p) = true
+is_of_post (command.DropReport number) = true
+is_of_post other = false
 
 -- what the grammar of scripts gives, where objects are of kinds that the type has, and operations of a kind don't lead too deep
 abbrev pub IsSaid : (Kind → Bool) → (Kind → List Field → Bool) → Command → Type 0

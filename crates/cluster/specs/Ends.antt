@@ -23,7 +23,7 @@ use Rattle.cluster.specs.declared.commits.Way.{Way}
 use Rattle.cluster.specs.declared.commits.Way.TheVariants as way
 use Rattle.cluster.specs.Held.{Held}
 use Rattle.cluster.specs.Live.{LiveState}
-use Rattle.cluster.specs.Reached.{ReachedLive}
+use Rattle.cluster.specs.Reached.{ReachedLive, GoesTo}
 use Rattle.cluster.specs.Sees.{Sees}
 
 -- what asks for it
@@ -96,10 +96,10 @@ module _ {S E : Type 0} (kinds : Kinds S E) where
   TakesStep later w answer goes s new calls = (goes ≡ goes_on (phase_of new.doing) (next_said (on_way w s).doing answer)) × MadeStep later (on_way w s) answer new calls
 
   -- these lines led from the old cluster to this one, and with any that may follow them they may follow what was before
-  pub record LedTo (old now : LiveState E) (w : Way) (name : List ℕ) (steps left : Option ℕ) (lines : List Step) (number : ℕ) (run : Run) : Type 0 where
-    pub reached : ReachedLive kinds now (answered number (Some (command_of w name steps)) lines run)
+  pub record LedTo (old now : LiveState E) (w : Way) (name : List ℕ) (steps left : Option ℕ) (lines : List Step) (number : ℕ) (run : Run) (r : ReachedLive kinds old run) : Type 0 where
+    pub goes : GoesTo kinds old run r now (answered number (Some (command_of w name steps)) lines run)
     pub follow : (rest : List Step) → MayFollow w name (answered number (Some (command_of w name steps)) lines run) left rest → MayFollow w name run steps (lines ++ rest)
 
   -- whatever run had left the old cluster
   abbrev pub Leads : LiveState E → LiveState E → Way → List ℕ → Option ℕ → Option ℕ → List Step → Type 0
-  Leads old now w name steps left lines = (number : ℕ) (run : Run) → ReachedLive kinds old run → LedTo old now w name steps left lines number run
+  Leads old now w name steps left lines = (number : ℕ) (run : Run) (r : ReachedLive kinds old run) → LedTo old now w name steps left lines number run r

@@ -8,3 +8,4 @@ pub mod Reached
 pub mod History
 pub mod Acts
 pub mod Ends
+pub mod Post

@@ -17,7 +17,9 @@ use Rattle.txn_session.specs.Calls.{Call, entries}
 use Rattle.txn_session.specs.Holds.{Holds}
 use Rattle.txn_session.specs.Session.{Doing, Idle, Open, Ending, SessionState}
 use Rattle.cluster.specs.Built.{is_built}
+use Rattle.cluster.specs.Held.{SameSize}
 use Rattle.cluster.specs.Live.{LiveState, session_in}
+use Rattle.cluster.specs.Post.{WholeState, HasPost, Grows, KeepsPost}
 use Rattle.cluster.specs.Sees.{Sees}
 
 -- where a session stands in a run
@@ -52,6 +54,8 @@ pub record IsBefore (run : Run) : Type 0 where
   pub phases : (who : List ℕ) → phase run who ≡ Absent
   pub site : (who : List ℕ) → site_of run who ≡ None
   pub count : session_count run ≡ 0
+  -- and nothing was sent or reported
+  pub post : KeepsPost [] run
 
 module _ {S E : Type 0} (kinds : Kinds S E) where
   -- these calls show the lines of partitions in the run, and left the partitions and the sessions so
@@ -67,15 +71,36 @@ module _ {S E : Type 0} (kinds : Kinds S E) where
     pub each : (who : List ℕ) → StandsAs run calls who (session_in c.sessions who)
     pub count : session_count run ≡ length c.sessions
 
-  abbrev pub Reached : Option (LiveState E) → Run → Type 0
-  Reached None run = IsBefore run
-  Reached (Some c) run = ReachedLive c run
+  -- the new cluster's run goes on from that of the old one, and no message or report was made
+  pub record GoesTo (old : LiveState E) (run : Run) (r : ReachedLive old run) (new : LiveState E) (next : Run) : Type 0 where
+    pub size : SameSize old.sites new.sites
+    pub reached : ReachedLive new next
+    pub grows : Grows r.calls reached.calls
+    pub keeps : KeepsPost run next
 
   -- whatever run had left the old cluster, these lines answer the command in it, and leave the new one
-  abbrev pub Applies : Option (LiveState E) → Command → List Step → Option (LiveState E) → Type 0
+  abbrev pub AppliesLive : LiveState E → Command → List Step → LiveState E → Type 0
+  AppliesLive old c steps new = (number : ℕ) (run : Run) (r : ReachedLive old run) → IsAnswer is_built run c steps × GoesTo old run r new (answered number (Some c) steps run)
+
+  -- some run left it so
+  pub record IsReachedLive (c : LiveState E) : Type 0 where
+    pub run : Run
+    pub reached : ReachedLive c run
+
+  -- and what is kept of messages and reports is what the run kept
+  pub record ReachedWhole (w : WholeState E) (run : Run) : Type 0 where
+    pub live : ReachedLive w.live run
+    pub post : HasPost w.live.sites.sites w.live.sites.parts run (entries live.calls) w.post
+
+  abbrev pub Reached : Option (WholeState E) → Run → Type 0
+  Reached None run = IsBefore run
+  Reached (Some w) run = ReachedWhole w run
+
+  -- whatever run had left the old cluster, these lines answer the command in it, and leave the new one
+  abbrev pub Applies : Option (WholeState E) → Command → List Step → Option (WholeState E) → Type 0
   Applies old c steps new = (number : ℕ) (run : Run) → Reached old run → IsAnswer is_built run c steps × Reached new (answered number (Some c) steps run)
 
   -- some run left it so
-  pub record IsReached (c : Option (LiveState E)) : Type 0 where
+  pub record IsReached (w : Option (WholeState E)) : Type 0 where
     pub run : Run
-    pub reached : Reached c run
+    pub reached : Reached w run

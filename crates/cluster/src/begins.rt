@@ -1,10 +1,11 @@
 ghost use Rattle.std.specs.Prelude.{◌≡◌, ◌≤◌, ◌+◌, ℕ, true, false, List, Some, None, IfOk, OnOk, if◌then◌else◌, length, is_some};
 ghost use Rattle.std.specs.Str.{bytes_eq};
 ghost use Rattle.crdt_core.specs.KindsOf.{kinds_of};
-ghost use Rattle.cluster.specs.Acts.{Acts, Begins};
+ghost use Rattle.cluster.specs.Acts.{Acts, Begins, Moves};
+ghost use Rattle.txn_session.specs.Session.{SessionState};
 ghost use Rattle.cluster.specs.Held.{holds_place};
 ghost use Rattle.cluster.specs.Live.{phase_in, are_idle, session_in, stands_in, number_of};
-ghost use Rattle.cluster.specs.Reached.{Applies, IsReached};
+ghost use Rattle.cluster.specs.Reached.{AppliesLive, IsReachedLive};
 
 use crate::Sites;
 use crate::cluster::only;
@@ -22,7 +23,7 @@ const MOST_SESSIONS: usize = 64;
 impl<C: Crdt> Live<C> {
     /// Makes a session at a site.
     pub(crate) fn make_session(&mut self, name: Text, site: u8) -> Result<Vec<Step>, AllocError>
-        ensures { IfOk result (λ steps. Applies (kinds_of C.laws) (Some self.old) (Command.Session name site) steps.items (Some self.new)) }
+        ensures { IfOk result (λ steps. AppliesLive (kinds_of C.laws) self.old (Command.Session name site) steps.items self.new) }
     {
         if !self.sites.has_site(site) {
             return only(self.alloc, Step::NoPart);
@@ -43,7 +44,7 @@ impl<C: Crdt> Live<C> {
 
     /// Removes a session.
     pub(crate) fn lose(&mut self, name: Text) -> Result<Vec<Step>, AllocError>
-        ensures { IfOk result (λ steps. Applies (kinds_of C.laws) (Some self.old) (Command.Lose name) steps.items (Some self.new)) }
+        ensures { IfOk result (λ steps. AppliesLive (kinds_of C.laws) self.old (Command.Lose name) steps.items self.new) }
     {
         if !self.sessions.contains_key(&name) {
             return only(self.alloc, Step::NoSession);
@@ -52,14 +53,38 @@ impl<C: Crdt> Live<C> {
         only(self.alloc, Step::Lost { name })
     }
 
+    /// A session goes on at another site.
+    pub(crate) fn move_session(&mut self, name: Text, site: u8) -> Result<Vec<Step>, AllocError>
+        requires { IsReachedLive (kinds_of C.laws) self.old }
+        ensures { IfOk result (λ steps. AppliesLive (kinds_of C.laws) self.old (Command.Move name site) steps.items self.new) }
+    {
+        if !self.sites.has_site(site) {
+            return only(self.alloc, Step::NoPart);
+        }
+        let Some(phase) = self.phase(&name) else {
+            return only(self.alloc, Step::NoSession);
+        };
+        if !is_idle(phase) {
+            return only(self.alloc, Step::HasTxn);
+        }
+        match move_in(&mut self.sessions, &name, site) {
+            Ok(step) => {
+                return only(self.alloc, step);
+            }
+            Err(error) => {
+                return Err(error);
+            }
+        }
+    }
+
     /// Begins a transaction of a session, at the partition that is named or the first of its site.
     pub(crate) fn begin(
         &mut self,
         name: Text,
         part: Option<PartId>,
     ) -> Result<Vec<Step>, AllocError>
-        requires reached { IsReached (kinds_of C.laws) (Some self.old) }
-        ensures { IfOk result (λ steps. Applies (kinds_of C.laws) (Some self.old) (Command.Begin name part) steps.items (Some self.new)) }
+        requires reached { IsReachedLive (kinds_of C.laws) self.old }
+        ensures { IfOk result (λ steps. AppliesLive (kinds_of C.laws) self.old (Command.Begin name part) steps.items self.new) }
     {
         if !self.has_place(part) {
             return only(self.alloc, Step::NoPart);
@@ -129,7 +154,7 @@ fn begin_in<C: Crdt>(
     requires least { 1 ≤ part }
     requires most { part ≤ sites.old.parts }
     requires idle { are_idle (phase_in sessions.old.entries name.now) ≡ true }
-    requires reached { IsReached (kinds_of C.laws) (Some (record { sites = sites.old; sessions = sessions.old.entries })) }
+    requires reached { IsReachedLive (kinds_of C.laws) (record { sites = sites.old; sessions = sessions.old.entries }) }
     ensures { IfOk result (λ step. Acts (kinds_of C.laws) sites.old sessions.old.entries name.now sites.new sessions.new.entries (Begins (kinds_of C.laws) sites.new part step)) }
 {
     match sessions.get_mut(name) {
@@ -144,6 +169,27 @@ fn begin_in<C: Crdt>(
                 }
             }
         }
+        None => {
+            return Err(AllocError);
+        }
+    }
+}
+
+/// Moves a session that is idle.
+fn move_in<C: Crdt>(sessions: &mut Sessions<C>, name: &Text, site: u8) -> Result<Step, AllocError>
+    requires idle { are_idle (phase_in sessions.old.entries name.now) ≡ true }
+    requires place { (s : SessionState C.Effect) → session_in sessions.old.entries name.now ≡ Some s → (1 ≤ site) × (site ≤ s.sites) }
+    ensures { IfOk result (λ step. Moves sessions.old.entries name.now site step sessions.new.entries) }
+{
+    match sessions.get_mut(name) {
+        Some(session) => match session.move_to(site) {
+            Ok(step) => {
+                return Ok(step);
+            }
+            Err(_) => {
+                return Err(AllocError);
+            }
+        },
         None => {
             return Err(AllocError);
         }

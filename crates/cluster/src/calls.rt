@@ -166,19 +166,14 @@ impl<C: Crdt> Sites<C> {
         self.partitions[i].release(self.alloc, to, from)
     }
 
-    /// Hands on the message with this number among those of its sender.
+    /// Hands on a message that was sent, as one of its sender's. Its number among these is the caller's alone.
     ///
     /// # Errors
     ///
     /// As the partition's: `Gap`, `Repeat`, `NoMemory`.
-    pub fn take_at(
-        &mut self,
-        at: PartId,
-        number: u64,
-        message: &Message<C::Effect>,
-    ) -> Result<(), CallError>
-        requires { MayAsk (kinds_of C.laws) self.old at (AskTake number message.now) }
-        ensures { Calls (kinds_of C.laws) self.old self.new Any at (AskTake number message.now) (λ n e. e ≡ Took number message.now) result }
+    pub fn take_at(&mut self, at: PartId, message: &Message<C::Effect>) -> Result<(), CallError>
+        requires { (number : ℕ) × MayAsk (kinds_of C.laws) self.old at (AskTake number message.now) }
+        ensures { (number : ℕ) → Calls (kinds_of C.laws) self.old self.new Any at (AskTake number message.now) (λ n e. e ≡ Took number message.now) result }
     {
         let i = index_of(at, self.sites, self.parts);
         self.partitions[i].take(self.alloc, message)
@@ -193,11 +188,11 @@ impl<C: Crdt> Sites<C> {
         self.partitions[i].report()
     }
 
-    /// Hands on the report with this number among those of the partition `part` of the site. Answers how far all partitions of
-    /// the site have come with each site, as this one knows.
-    pub fn hear_at(&mut self, at: PartId, number: u64, part: u8, bounds: &VTime) -> VTime
-        requires { MayAsk (kinds_of C.laws) self.old at (AskHear number part bounds.now) }
-        ensures { GoesOn (kinds_of C.laws) self.old self.new Any at (AskHear number part bounds.now) (λ e. e ≡ Heard number part bounds.now result) }
+    /// Hands on a report of the partition `part` of the site. Its number among its maker's is the caller's alone. Answers how far
+    /// all partitions of the site have come with each site, as this one knows.
+    pub fn hear_at(&mut self, at: PartId, part: u8, bounds: &VTime) -> VTime
+        requires { (number : ℕ) × MayAsk (kinds_of C.laws) self.old at (AskHear number part bounds.now) }
+        ensures { (number : ℕ) → GoesOn (kinds_of C.laws) self.old self.new Any at (AskHear number part bounds.now) (λ e. e ≡ Heard number part bounds.now result) }
     {
         let i = index_of(at, self.sites, self.parts);
         self.partitions[i].hear(part, bounds)

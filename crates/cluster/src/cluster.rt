@@ -4,7 +4,7 @@ ghost use Rattle.cluster.specs.Built.{IsSaid, is_built};
 ghost use Rattle.cluster.specs.Reached.{Applies, IsReached, Reached};
 ghost use Rattle.world_model.specs.Run.{Run};
 
-use crate::live::Live;
+use crate::running::Running;
 use crdt_core::Crdt;
 use std::alloc::{AllocError, Global};
 use std::marker::Model;
@@ -16,16 +16,16 @@ use world_model::{Command, Step};
 #[derive(Drop)]
 pub struct Cluster<C: Crdt> {
     alloc: Global,
-    live: Option<Live<C>>,
+    live: Option<Running<C>>,
 }
 
 impl<C: Crdt> Model for Cluster<C> {
     ghost use Rattle.std.specs.Prelude.{Option};
     ghost use Rattle.crdt_core.specs.KindsOf.{kinds_of};
-    ghost use Rattle.cluster.specs.Live.{LiveState};
+    ghost use Rattle.cluster.specs.Post.{WholeState};
     ghost use Rattle.cluster.specs.Reached.{IsReached};
 
-    ghost Value = { Option (LiveState C.Effect) };
+    ghost Value = { Option (WholeState C.Effect) };
 
     ghost view = { λ s. s.live };
 
@@ -65,7 +65,7 @@ impl<C: Crdt> Cluster<C> {
 /// The lines that answer a command.
 fn answer<C: Crdt>(
     alloc: Global,
-    live: &mut Option<Live<C>>,
+    live: &mut Option<Running<C>>,
     command: Command,
 ) -> Result<Vec<Step>, AllocError>
     requires said { IsSaid C.has C.too_deep command }
@@ -88,7 +88,7 @@ fn answer<C: Crdt>(
 /// The lines that answer a command that is built, where no cluster is made.
 fn make<C: Crdt>(
     alloc: Global,
-    live: &mut Option<Live<C>>,
+    live: &mut Option<Running<C>>,
     command: Command,
 ) -> Result<Vec<Step>, AllocError>
     requires built { is_built command ≡ true }
@@ -98,7 +98,7 @@ fn make<C: Crdt>(
 {
     match command {
         Command::Cluster { sites, parts } => {
-            let made = Live::new(alloc, sites, parts)?;
+            let made = Running::new(alloc, sites, parts)?;
             *live = Some(made);
             return only(alloc, Step::MadeCluster { sites, parts });
         }
@@ -113,16 +113,12 @@ fn is_built(command: &Command) -> bool
     ensures { result ≡ is_built command.now }
 {
     match command {
-        Command::Cluster { sites, .. } => *sites == 1,
-        Command::Clock { .. }
-        | Command::Session { .. }
-        | Command::Lose { .. }
-        | Command::Begin { .. }
-        | Command::Read { .. }
-        | Command::Update { .. }
-        | Command::Commit { .. }
-        | Command::Abort { .. } => true,
-        _ => false,
+        Command::Expire { .. }
+        | Command::Settle { .. }
+        | Command::Crash { .. }
+        | Command::Fuse { .. }
+        | Command::Restart { .. } => false,
+        _ => true,
     }
 }
 

@@ -8,7 +8,7 @@ ghost use Rattle.cluster.specs.Built.{IsSaid};
 ghost use Rattle.cluster.specs.Ends.{MayMake, TakesStep, can_end, command_of, goes_on, is_idle_phase, is_undecided_phase, stops};
 ghost use Rattle.cluster.specs.Held.{SameSize};
 ghost use Rattle.cluster.specs.Live.{session_in};
-ghost use Rattle.cluster.specs.Reached.{Applies, IsReached};
+ghost use Rattle.cluster.specs.Reached.{AppliesLive, IsReachedLive};
 ghost use Rattle.cluster.specs.Sees.{Sees};
 
 use crate::Sites;
@@ -31,8 +31,8 @@ impl<C: Crdt> Live<C> {
     /// Commits a session's transaction, or makes so many steps of its commit.
     pub(crate) fn commit(&mut self, name: Text, steps: Option<u64>) -> Result<Vec<Step>, AllocError>
         requires said { IsSaid C.has C.too_deep (Command.Commit name steps) }
-        requires reached { IsReached (kinds_of C.laws) (Some self.old) }
-        ensures { IfOk result (λ lines. Applies (kinds_of C.laws) (Some self.old) (Command.Commit name steps) lines.items (Some self.new)) }
+        requires reached { IsReachedLive (kinds_of C.laws) self.old }
+        ensures { IfOk result (λ lines. AppliesLive (kinds_of C.laws) self.old (Command.Commit name steps) lines.items self.new) }
     {
         let Some(phase) = self.phase(&name) else {
             return only(self.alloc, Step::NoSession);
@@ -59,8 +59,8 @@ impl<C: Crdt> Live<C> {
 
     /// Gives a session's transaction up.
     pub(crate) fn abort(&mut self, name: Text) -> Result<Vec<Step>, AllocError>
-        requires reached { IsReached (kinds_of C.laws) (Some self.old) }
-        ensures { IfOk result (λ lines. Applies (kinds_of C.laws) (Some self.old) (Command.Abort name) lines.items (Some self.new)) }
+        requires reached { IsReachedLive (kinds_of C.laws) self.old }
+        ensures { IfOk result (λ lines. AppliesLive (kinds_of C.laws) self.old (Command.Abort name) lines.items self.new) }
     {
         let Some(phase) = self.phase(&name) else {
             return only(self.alloc, Step::NoSession);
@@ -97,8 +97,8 @@ fn end_all<C: Crdt>(
 ) -> Result<Vec<Step>, AllocError>
     requires some { MayMake way steps }
     requires can { can_end way (session_in sessions.old.entries name.now) ≡ true }
-    requires reached { IsReached (kinds_of C.laws) (Some (record { sites = sites.old; sessions = sessions.old.entries })) }
-    ensures { IfOk result (λ lines. Applies (kinds_of C.laws) (Some (record { sites = sites.old; sessions = sessions.old.entries })) (command_of way name.now steps) lines.items (Some (record { sites = sites.new; sessions = sessions.new.entries }))) }
+    requires reached { IsReachedLive (kinds_of C.laws) (record { sites = sites.old; sessions = sessions.old.entries }) }
+    ensures { IfOk result (λ lines. AppliesLive (kinds_of C.laws) (record { sites = sites.old; sessions = sessions.old.entries }) (command_of way name.now steps) lines.items (record { sites = sites.new; sessions = sessions.new.entries })) }
 {
     let mut lines = Vec::new(alloc);
     let mut left = steps;
@@ -123,7 +123,7 @@ fn end_once<C: Crdt>(
     way: Way,
 ) -> Result<(Step, bool), AllocError>
     requires can { can_end way (session_in sessions.old.entries name.now) ≡ true }
-    requires reached { IsReached (kinds_of C.laws) (Some (record { sites = sites.old; sessions = sessions.old.entries })) }
+    requires reached { IsReachedLive (kinds_of C.laws) (record { sites = sites.old; sessions = sessions.old.entries }) }
     ensures { IfOk result (λ r. Acts (kinds_of C.laws) sites.old sessions.old.entries name.now sites.new sessions.new.entries (TakesStep (kinds_of C.laws) sites.new way r.0 r.1)) }
 {
     match sessions.get_mut(name) {

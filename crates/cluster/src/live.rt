@@ -1,17 +1,23 @@
-ghost use Rattle.std.specs.Prelude.{◌≡◌, ◌≤◌, [], true, false, Some, IfOk};
-ghost use Rattle.cluster.specs.Reaches.{Reaches};
+ghost use Rattle.std.specs.Prelude.{◌≡◌, ◌≤◌, ℕ, [], true, false, Some, IfOk};
+ghost use Rattle.world_model.specs.Event.{AskMessage, AskTake, AskReport, AskHear, Sent, Took, Reported, Heard};
+ghost use Rattle.world_model.specs.Partition.{IsOther};
+ghost use Rattle.world_model.specs.Plan.{IsPlace};
+ghost use Rattle.cluster.specs.Answers.{Any, Calls, GoesOn};
+ghost use Rattle.cluster.specs.Held.{holds_site, holds_part};
+ghost use Rattle.cluster.specs.Reaches.{MayAsk, Reaches};
 ghost use Rattle.crdt_core.specs.KindsOf.{kinds_of};
 ghost use Rattle.crdt_core.specs.Log.{end_of_time};
-ghost use Rattle.cluster.specs.Built.{IsSaid, is_built};
+ghost use Rattle.cluster.specs.Built.{IsSaid, is_built, is_of_post};
 ghost use Rattle.cluster.specs.Live.{phase_in, is_open_phase, is_idle_phase};
-ghost use Rattle.cluster.specs.Reached.{Applies, IsReached};
+ghost use Rattle.cluster.specs.Reached.{AppliesLive, IsReachedLive};
 
 use crate::Sites;
 use crate::cluster::only;
-use crdt_core::Crdt;
+use crdt_core::{Crdt, Message};
 use field_codec::Text;
 use indexmap::IndexMap;
-use site_vector::PartId;
+use partition_core::CallError;
+use site_vector::{PartId, VTime};
 use std::alloc::{AllocError, Global};
 use std::marker::Model;
 use txn_session::{Phase, Session};
@@ -60,7 +66,7 @@ impl<C: Crdt> Live<C> {
     /// The clock of a partition reads a time.
     pub(crate) fn read_clock(&mut self, part: PartId, n: u64) -> Result<Vec<Step>, AllocError>
         requires { n ≤ end_of_time }
-        ensures { IfOk result (λ steps. Applies (kinds_of C.laws) (Some self.old) (Command.Clock part n) steps.items (Some self.new)) }
+        ensures { IfOk result (λ steps. AppliesLive (kinds_of C.laws) self.old (Command.Clock part n) steps.items self.new) }
     {
         if !self.sites.has_part(part) {
             return only(self.alloc, Step::NoPart);
@@ -76,9 +82,10 @@ impl<C: Crdt> Live<C> {
     /// `AllocError` where memory runs out. It may only be dropped then.
     pub(crate) fn apply(&mut self, command: Command) -> Result<Vec<Step>, AllocError>
         requires built { is_built command ≡ true }
+        requires of_sessions { is_of_post command ≡ false }
         requires said { IsSaid C.has C.too_deep command }
-        requires reached { IsReached (kinds_of C.laws) (Some self.old) }
-        ensures { IfOk result (λ steps. Applies (kinds_of C.laws) (Some self.old) command steps.items (Some self.new)) }
+        requires reached { IsReachedLive (kinds_of C.laws) self.old }
+        ensures { IfOk result (λ steps. AppliesLive (kinds_of C.laws) self.old command steps.items self.new) }
     {
         match command {
             Command::Cluster { .. } => {
@@ -92,6 +99,9 @@ impl<C: Crdt> Live<C> {
             }
             Command::Lose { name } => {
                 return self.lose(name);
+            }
+            Command::Move { name, site } => {
+                return self.move_session(name, site);
             }
             Command::Begin { name, part } => {
                 return self.begin(name, part);
@@ -112,6 +122,59 @@ impl<C: Crdt> Live<C> {
                 return only(self.alloc, Step::Unbuilt);
             }
         }
+    }
+
+    pub(crate) fn has_site(&self, site: u8) -> bool
+        ensures { result ≡ holds_site self.now.sites site }
+    {
+        self.sites.has_site(site)
+    }
+
+    pub(crate) fn has_part(&self, part: PartId) -> bool
+        ensures { result ≡ holds_part self.now.sites part }
+    {
+        self.sites.has_part(part)
+    }
+
+    /// A partition makes a message for another site.
+    pub(crate) fn release(
+        &mut self,
+        at: PartId,
+        to: u8,
+        from: Option<u64>,
+    ) -> Result<Message<C::Effect>, AllocError>
+        requires place { IsOther self.old.sites.sites at.site to }
+        requires may { MayAsk (kinds_of C.laws) self.old.sites at (AskMessage to from) }
+        ensures same { self.new.sessions ≡ self.old.sessions }
+        ensures sent { IfOk result (λ m. (m.to ≡ to) × GoesOn (kinds_of C.laws) self.old.sites self.new.sites Any at (AskMessage to from) (λ e. e ≡ Sent from m)) }
+    {
+        self.sites.release_at(at, to, from)
+    }
+
+    /// A partition takes a message that was sent.
+    pub(crate) fn take(&mut self, at: PartId, message: &Message<C::Effect>) -> Result<(), CallError>
+        requires { (number : ℕ) × MayAsk (kinds_of C.laws) self.old.sites at (AskTake number message.now) }
+        ensures same { self.new.sessions ≡ self.old.sessions }
+        ensures took { (number : ℕ) → Calls (kinds_of C.laws) self.old.sites self.new.sites Any at (AskTake number message.now) (λ n e. e ≡ Took number message.now) result }
+    {
+        self.sites.take_at(at, message)
+    }
+
+    /// A partition's bounds.
+    pub(crate) fn report(&self, at: PartId) -> VTime
+        requires { IsPlace self.now.sites.sites self.now.sites.parts at }
+        ensures { GoesOn (kinds_of C.laws) self.now.sites self.now.sites Any at AskReport (λ e. e ≡ Reported result) }
+    {
+        self.sites.report_at(at)
+    }
+
+    /// A partition hears a report of its site.
+    pub(crate) fn hear(&mut self, at: PartId, part: u8, bounds: &VTime) -> VTime
+        requires { (number : ℕ) × MayAsk (kinds_of C.laws) self.old.sites at (AskHear number part bounds.now) }
+        ensures same { self.new.sessions ≡ self.old.sessions }
+        ensures heard { (number : ℕ) → GoesOn (kinds_of C.laws) self.old.sites self.new.sites Any at (AskHear number part bounds.now) (λ e. e ≡ Heard number part bounds.now result) }
+    {
+        self.sites.hear_at(at, part, bounds)
     }
 
     /// What the session of this name is about, if it is there.

@@ -17,7 +17,7 @@ use world_model::Step;
 type Answer = Result<Step, AllocError>;
 
 /// No transaction, and no number of a message: what a refusal that names none is handed.
-const NO_TX: TxId = TxId {
+pub(crate) const NO_TX: TxId = TxId {
     site: 0,
     part: 0,
     time: 0,
@@ -221,7 +221,7 @@ impl<C: Crdt> Store<C> for Sites<C> {
         number: u64,
         message: &Message<C::Effect>,
     ) -> ((), Answer) {
-        match self.take_at(at, number, message) {
+        match self.take_at(at, message) {
             Ok(()) => {
                 let hi = message.hi;
                 return (pass, Ok(Step::Took { number, hi }));
@@ -245,7 +245,7 @@ impl<C: Crdt> Store<C> for Sites<C> {
         part: u8,
         bounds: &VTime,
     ) -> ((), Answer) {
-        let stable = self.hear_at(at, number, part, bounds);
+        let stable = self.hear_at(at, part, bounds);
         let step = Step::Heard {
             number,
             part: at,
@@ -286,7 +286,7 @@ fn refused(at: PartId, tx: TxId, number: u64, why: Refusal) -> Step
 }
 
 /// What a call that takes memory comes to, if it isn't answered.
-fn failed(at: PartId, tx: TxId, number: u64, error: CallError) -> Answer
+pub(crate) fn failed(at: PartId, tx: TxId, number: u64, error: CallError) -> Answer
     ensures { FailedAs at tx number error result }
 {
     match error {

@@ -3,7 +3,7 @@ ghost use Rattle.crdt_core.specs.KindsOf.{kinds_of};
 ghost use Rattle.crdt_core.specs.Fits.{fits};
 ghost use Rattle.cluster.specs.Acts.{Acts, Reads, Updates};
 ghost use Rattle.cluster.specs.Live.{phase_in, are_open, refusal_in, refused_line};
-ghost use Rattle.cluster.specs.Reached.{Applies, IsReached};
+ghost use Rattle.cluster.specs.Reached.{AppliesLive, IsReachedLive};
 
 use crate::Sites;
 use crate::cluster::only;
@@ -18,8 +18,8 @@ impl<C: Crdt> Live<C> {
     /// Reads an object in a session's transaction.
     pub(crate) fn read(&mut self, name: Text, object: ObjectId) -> Result<Vec<Step>, AllocError>
         requires has { C.has object.kind ≡ true }
-        requires reached { IsReached (kinds_of C.laws) (Some self.old) }
-        ensures { IfOk result (λ steps. Applies (kinds_of C.laws) (Some self.old) (Command.Read name object) steps.items (Some self.new)) }
+        requires reached { IsReachedLive (kinds_of C.laws) self.old }
+        ensures { IfOk result (λ steps. AppliesLive (kinds_of C.laws) self.old (Command.Read name object) steps.items self.new) }
     {
         let Some(phase) = self.phase(&name) else {
             return only(self.alloc, Step::NoSession);
@@ -61,8 +61,8 @@ impl<C: Crdt> Live<C> {
     ) -> Result<Vec<Step>, AllocError>
         requires has { C.has object.kind ≡ true }
         requires shallow { fits object.kind op.path op.act ≡ true → C.too_deep object.kind op.path ≡ false }
-        requires reached { IsReached (kinds_of C.laws) (Some self.old) }
-        ensures { IfOk result (λ steps. Applies (kinds_of C.laws) (Some self.old) (Command.Update name object op) steps.items (Some self.new)) }
+        requires reached { IsReachedLive (kinds_of C.laws) self.old }
+        ensures { IfOk result (λ steps. AppliesLive (kinds_of C.laws) self.old (Command.Update name object op) steps.items self.new) }
     {
         let Some(refusal) = self.update_refusal(&name, &object, &op) else {
             return only(self.alloc, Step::NoSession);
@@ -90,7 +90,7 @@ fn read_in<C: Crdt>(
 ) -> Result<Step, AllocError>
     requires has { C.has object.now.kind ≡ true }
     requires open { are_open (phase_in sessions.old.entries name.now) ≡ true }
-    requires reached { IsReached (kinds_of C.laws) (Some (record { sites = sites.old; sessions = sessions.old.entries })) }
+    requires reached { IsReachedLive (kinds_of C.laws) (record { sites = sites.old; sessions = sessions.old.entries }) }
     ensures { IfOk result (λ step. Acts (kinds_of C.laws) sites.old sessions.old.entries name.now sites.new sessions.new.entries (Reads (kinds_of C.laws) sites.new object.now step)) }
 {
     match sessions.get_mut(name) {
@@ -121,7 +121,7 @@ fn update_in<C: Crdt>(
 ) -> Result<Step, AllocError>
     requires has { C.has object.now.kind ≡ true }
     requires fits { refusal_in C.too_deep sessions.old.entries name.now object.now op.now ≡ Some None }
-    requires reached { IsReached (kinds_of C.laws) (Some (record { sites = sites.old; sessions = sessions.old.entries })) }
+    requires reached { IsReachedLive (kinds_of C.laws) (record { sites = sites.old; sessions = sessions.old.entries }) }
     ensures { IfOk result (λ step. Acts (kinds_of C.laws) sites.old sessions.old.entries name.now sites.new sessions.new.entries (Updates (kinds_of C.laws) sites.new object.now op.now step)) }
 {
     match sessions.get_mut(name) {

@@ -11,7 +11,7 @@ use Rattle.world_model.specs.Answers.{Asked, nothing, unreadable, asks, answered
 use Rattle.world_model.specs.ScriptAnswers.{GoesOn, Answers}
 use Rattle.reply_text.specs.Text.{text_of}
 use Rattle.cluster.specs.Built.{is_built}
-use Rattle.cluster.specs.Live.{LiveState}
+use Rattle.cluster.specs.Post.{WholeState}
 use Rattle.cluster.specs.Reached as cluster
 use Rattle.cluster.proofs.Laws.{history, bad_still}
 use Rattle.dc_engine.specs.Answered.{Answered}
@@ -24,7 +24,7 @@ use Rattle.dc_engine.specs.declared.player.Player.{Player}
 use Rattle.dc_engine.proofs.Readings.{asked_of-take, has_bad-more}
 
 -- the run with the answer to one more line
-record GoesWith (run : Run) (number : ℕ) (asked : Asked) (steps : List Step) (new : Option (LiveState Effect)) : Type 0 where
+record GoesWith (run : Run) (number : ℕ) (asked : Asked) (steps : List Step) (new : Option (WholeState Effect)) : Type 0 where
   more : Run
   goes : GoesOn is_built number run asked more
   left : cluster.Reached kinds new more
@@ -87,7 +87,7 @@ line_answered old new line steps before after h e = record {
 }
 
 -- a run that left the cluster shows one history
-pub reached_answered : (c : Option (LiveState Effect)) (lines : List (List ℕ)) (bytes : List ℕ) → Reached c lines bytes → Answered lines bytes
+pub reached_answered : (c : Option (WholeState Effect)) (lines : List (List ℕ)) (bytes : List ℕ) → Reached c lines bytes → Answered lines bytes
 reached_answered c lines bytes r = record { run = r.run; answers = r.answers; history = history kinds c r.run r.left; written = r.written }
 
 -- a new player stands before any line

@@ -5,7 +5,7 @@ use Rattle.world_model.specs.Run.{Run, lines_of}
 use Rattle.world_model.specs.ScriptAnswers.{Answers}
 use Rattle.reply_text.specs.Text.{text_of}
 use Rattle.cluster.specs.Built.{is_built}
-use Rattle.cluster.specs.Live.{LiveState}
+use Rattle.cluster.specs.Post.{WholeState}
 use Rattle.cluster.specs.Reached as cluster
 use Rattle.dc_engine.specs.ObjectKinds.{Effect, kinds}
 use Rattle.dc_engine.specs.Reading.{asked_of}
@@ -15,7 +15,7 @@ abbrev pub spelled : ℕ → Step → List ℕ
 spelled number step = text_of step
 
 -- a run of the cluster, which left it so, answers these lines, the first first, with these bytes
-pub record Reached (c : Option (LiveState Effect)) (lines : List (List ℕ)) (bytes : List ℕ) : Type 0 where
+pub record Reached (c : Option (WholeState Effect)) (lines : List (List ℕ)) (bytes : List ℕ) : Type 0 where
   pub run : Run
   pub left : cluster.Reached kinds c run
   pub answers : Answers is_built (reverse (map asked_of lines)) run

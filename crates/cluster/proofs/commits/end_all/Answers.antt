@@ -1,8 +1,8 @@
-use Rattle.std.proofs.Common.{◌∙◌, ◌∷◌, [], ◌++◌, sym, ap, subst, Some}
+use Rattle.std.proofs.Common.{◌∙◌, ◌∷◌, [], ◌++◌, sym, ap, subst}
 use Rattle.crdt_core.specs.KindsOf.{kinds_of}
 use Rattle.cluster.specs.Ends.{command_of, stops}
 use Rattle.cluster.specs.Live.{session_in}
-use Rattle.cluster.specs.Reached.{Applies}
+use Rattle.cluster.specs.Reached.{AppliesLive}
 use Rattle.cluster.proofs.Leading.{IsOnWay, at_start, may_end, at_end, at_stop, at_next, at_fewer}
 use Rattle.cluster.proofs.commits.end_all.Goals as goal
 
@@ -17,11 +17,11 @@ pub end_once-requires-clause-reached : goal.end_once-requires-clause-reached
 end_once-requires-clause-reached g c = c.steps.invariant.reached
 
 pub returns-then-not-goes : goal.returns-then-not-goes
-returns-then-not-goes g c = subst (λ lines. Applies (kinds_of g.C.Crdt.laws) (Some (record { sites = c.args.sites.now; sessions = c.args.sessions.now.entries })) (command_of c.args.way c.args.name.now c.args.steps) lines (Some (record { sites = c.end_once.new.sites; sessions = c.end_once.new.sessions.entries }))) (sym c.in_ok-push.ensures.items)
+returns-then-not-goes g c = subst (λ lines. AppliesLive (kinds_of g.C.Crdt.laws) (record { sites = c.args.sites.now; sessions = c.args.sessions.now.entries }) (command_of c.args.way c.args.name.now c.args.steps) lines (record { sites = c.end_once.new.sites; sessions = c.end_once.new.sessions.entries })) (sym c.in_ok-push.ensures.items)
     (at_end (kinds_of g.C.Crdt.laws) (record { sites = c.args.sites.now; sessions = c.args.sessions.now.entries }) c.args.way c.args.name.now c.args.steps (record { sites = c.steps.sites; sessions = c.steps.sessions.entries }) c.steps.left c.steps.lines.items c.steps.invariant c.end_once.new.sites c.end_once.new.sessions.entries c.in_ok-line.line c.in_ok-line.goes c.in_ok-line.ensures c.if-not-goes.true c.requires.some c.requires.can)
 
 pub returns-then-stops : goal.returns-then-stops
-returns-then-stops g c = subst (λ lines. Applies (kinds_of g.C.Crdt.laws) (Some (record { sites = c.args.sites.now; sessions = c.args.sessions.now.entries })) (command_of c.args.way c.args.name.now c.args.steps) lines (Some (record { sites = c.end_once.new.sites; sessions = c.end_once.new.sessions.entries }))) (sym c.in_ok-push.ensures.items)
+returns-then-stops g c = subst (λ lines. AppliesLive (kinds_of g.C.Crdt.laws) (record { sites = c.args.sites.now; sessions = c.args.sessions.now.entries }) (command_of c.args.way c.args.name.now c.args.steps) lines (record { sites = c.end_once.new.sites; sessions = c.end_once.new.sessions.entries })) (sym c.in_ok-push.ensures.items)
     (at_stop (kinds_of g.C.Crdt.laws) (record { sites = c.args.sites.now; sessions = c.args.sessions.now.entries }) c.args.way c.args.name.now c.args.steps (record { sites = c.steps.sites; sessions = c.steps.sessions.entries }) c.steps.left c.steps.lines.items c.steps.invariant c.end_once.new.sites c.end_once.new.sessions.entries c.in_ok-line.line c.in_ok-line.goes c.in_ok-line.ensures c.if-not-goes.false (ap (λ k. stops k (session_in c.end_once.new.sessions.entries c.args.name.now)) (sym c.fewer-left.ensures) ∙ (sym c.stops.ensures ∙ c.if-stops.true)) c.requires.some c.requires.can)
 
 pub steps-preserved : goal.steps-preserved

@@ -1,8 +1,8 @@
-use Rattle.std.proofs.Common.{◌∙◌, sym, subst, Some}
+use Rattle.std.proofs.Common.{◌∙◌, sym, subst}
 use Rattle.crdt_core.specs.KindsOf.{kinds_of}
 use Rattle.world_model.specs.declared.command.Command.TheVariants as command
 use Rattle.cluster.specs.Live.{LiveState}
-use Rattle.cluster.specs.Reached.{Applies}
+use Rattle.cluster.specs.Reached.{AppliesLive}
 use Rattle.cluster.proofs.Applying.{map_ok}
 use Rattle.cluster.proofs.Commands.{none_about}
 use Rattle.cluster.proofs.Leading.{abort_absent, abort_decided}
@@ -15,4 +15,4 @@ pub returns-then-not-is_undecided : goal.returns-then-not-is_undecided
 returns-then-not-is_undecided g c = map_ok c.only-then-not-is_undecided.result (λ lines is. abort_decided (kinds_of g.C.Crdt.laws) c.args.self.now c.args.name lines.items c.in-Some.phase is (sym c.phase.ensures ∙ c.in-Some.is) (sym c.is_undecided.ensures ∙ c.if-not-is_undecided.true)) c.only-then-not-is_undecided.ensures
 
 pub returns-in-Ok : goal.returns-in-Ok
-returns-in-Ok g c = subst (λ (x : LiveState g.row.C-Effect.Denot). Applies (kinds_of g.C.Crdt.laws) (Some x) (command.Abort c.args.name) c.in-Ok.lines.items (Some (record { sites = c.end_all.new.sites; sessions = c.end_all.new.sessions.entries }))) c.self.view_is c.in-Ok.ensures
+returns-in-Ok g c = subst (λ (x : LiveState g.row.C-Effect.Denot). AppliesLive (kinds_of g.C.Crdt.laws) x (command.Abort c.args.name) c.in-Ok.lines.items (record { sites = c.end_all.new.sites; sessions = c.end_all.new.sessions.entries })) c.self.view_is c.in-Ok.ensures

@@ -1,8 +1,8 @@
-use Rattle.std.proofs.Common.{◌∙◌, sym, subst, Some}
+use Rattle.std.proofs.Common.{◌∙◌, sym, subst}
 use Rattle.crdt_core.specs.KindsOf.{kinds_of}
 use Rattle.world_model.specs.declared.command.Command.TheVariants as command
 use Rattle.cluster.specs.Live.{LiveState}
-use Rattle.cluster.specs.Reached.{Applies}
+use Rattle.cluster.specs.Reached.{AppliesLive}
 use Rattle.cluster.proofs.Applying.{map_ok}
 use Rattle.cluster.proofs.Commands.{none_about}
 use Rattle.cluster.proofs.Leading.{commit_absent, commit_idle}
@@ -15,4 +15,4 @@ pub returns-then-is_idle : goal.returns-then-is_idle
 returns-then-is_idle g c = map_ok c.only-then-is_idle.result (λ lines is. commit_idle (kinds_of g.C.Crdt.laws) c.args.self.now c.args.name lines.items c.args.steps c.in-Some.phase is (sym c.phase.ensures ∙ c.in-Some.is) (sym c.is_idle.ensures ∙ c.if-is_idle.true)) c.only-then-is_idle.ensures
 
 pub returns-in-Ok : goal.returns-in-Ok
-returns-in-Ok g c = subst (λ (x : LiveState g.row.C-Effect.Denot). Applies (kinds_of g.C.Crdt.laws) (Some x) (command.Commit c.args.name c.args.steps) c.in-Ok.lines.items (Some (record { sites = c.end_all.new.sites; sessions = c.end_all.new.sessions.entries }))) c.self.view_is c.in-Ok.ensures
+returns-in-Ok g c = subst (λ (x : LiveState g.row.C-Effect.Denot). AppliesLive (kinds_of g.C.Crdt.laws) x (command.Commit c.args.name c.args.steps) c.in-Ok.lines.items (record { sites = c.end_all.new.sites; sessions = c.end_all.new.sessions.entries })) c.self.view_is c.in-Ok.ensures

@@ -5,7 +5,7 @@ use Rattle.txn_session.specs.Session.{Idle}
 use Rattle.crdt_core.specs.KindsOf.{kinds_of}
 use Rattle.world_model.specs.declared.command.Command.TheVariants as command
 use Rattle.cluster.specs.Live.{LiveState, session_in}
-use Rattle.cluster.specs.Reached.{Applies}
+use Rattle.cluster.specs.Reached.{AppliesLive}
 use Rattle.cluster.proofs.Applying.{map_ok}
 use Rattle.cluster.proofs.Opening.{none_of, not_many, session_nowhere, session_again, session_full, session_made}
 use Rattle.cluster.proofs.live.Live.make_session.Goals as goal
@@ -13,21 +13,21 @@ use Rattle.cluster.proofs.live.Live.make_session.Goals as goal
 pub returns-then-not-has_site : goal.returns-then-not-has_site
 returns-then-not-has_site g c =
     let v : LiveState g.row.C-Effect.Denot = record { sites = c.self.inside.sites; sessions = c.self.inside.sessions.entries } in
-    map_ok c.only.result (λ steps is. subst (λ (x : LiveState g.row.C-Effect.Denot). Applies (kinds_of g.C.Crdt.laws) (Some x) (command.Session c.args.name c.args.site) steps.items (Some x)) c.self.view_is (session_nowhere (kinds_of g.C.Crdt.laws) v c.args.name c.args.site steps.items is (sym c.has_site.ensures ∙ c.if-not-has_site.true))) c.only.ensures
+    map_ok c.only.result (λ steps is. subst (λ (x : LiveState g.row.C-Effect.Denot). AppliesLive (kinds_of g.C.Crdt.laws) x (command.Session c.args.name c.args.site) steps.items x) c.self.view_is (session_nowhere (kinds_of g.C.Crdt.laws) v c.args.name c.args.site steps.items is (sym c.has_site.ensures ∙ c.if-not-has_site.true))) c.only.ensures
 
 pub returns-then-contains_key : goal.returns-then-contains_key
 returns-then-contains_key g c =
     let v : LiveState g.row.C-Effect.Denot = record { sites = c.self.inside.sites; sessions = c.self.inside.sessions.entries } in
-    map_ok c.only-then-contains_key.result (λ steps is. subst (λ (x : LiveState g.row.C-Effect.Denot). Applies (kinds_of g.C.Crdt.laws) (Some x) (command.Session c.args.name c.args.site) steps.items (Some x)) c.self.view_is (session_again (kinds_of g.C.Crdt.laws) v c.args.name c.args.site steps.items is (sym c.has_site.ensures ∙ c.if-not-has_site.false) (sym c.contains_key.ensures ∙ c.if-contains_key.true))) c.only-then-contains_key.ensures
+    map_ok c.only-then-contains_key.result (λ steps is. subst (λ (x : LiveState g.row.C-Effect.Denot). AppliesLive (kinds_of g.C.Crdt.laws) x (command.Session c.args.name c.args.site) steps.items x) c.self.view_is (session_again (kinds_of g.C.Crdt.laws) v c.args.name c.args.site steps.items is (sym c.has_site.ensures ∙ c.if-not-has_site.false) (sym c.contains_key.ensures ∙ c.if-contains_key.true))) c.only-then-contains_key.ensures
 
 pub returns-then-len-eq-MOST_SESSIONS : goal.returns-then-len-eq-MOST_SESSIONS
 returns-then-len-eq-MOST_SESSIONS g c =
-    map_ok c.only-then-len-eq-MOST_SESSIONS.result (λ steps is. subst (λ (x : LiveState g.row.C-Effect.Denot). Applies (kinds_of g.C.Crdt.laws) (Some x) (command.Session c.args.name c.args.site) steps.items (Some x)) c.self.view_is
+    map_ok c.only-then-len-eq-MOST_SESSIONS.result (λ steps is. subst (λ (x : LiveState g.row.C-Effect.Denot). AppliesLive (kinds_of g.C.Crdt.laws) x (command.Session c.args.name c.args.site) steps.items x) c.self.view_is
     (session_full (kinds_of g.C.Crdt.laws) (record { sites = c.self.inside.sites; sessions = c.self.inside.sessions.entries }) c.args.name c.args.site steps.items is (sym c.has_site.ensures ∙ c.if-not-has_site.false) (none_of _ (sym c.contains_key.ensures ∙ c.if-contains_key.false)) (sym c.len.ensures.len ∙ c.if-len-eq-MOST_SESSIONS.true))) c.only-then-len-eq-MOST_SESSIONS.ensures
 
 pub returns : goal.returns
 returns g c =
-    map_ok c.only-2.result (λ steps is. subst (λ (x : LiveState g.row.C-Effect.Denot). Applies (kinds_of g.C.Crdt.laws) (Some x) (command.Session c.args.name c.args.site) steps.items (Some (record { sites = c.self.inside.sites; sessions = c.create.new.sessions.entries }))) c.self.view_is
+    map_ok c.only-2.result (λ steps is. subst (λ (x : LiveState g.row.C-Effect.Denot). AppliesLive (kinds_of g.C.Crdt.laws) x (command.Session c.args.name c.args.site) steps.items (record { sites = c.self.inside.sites; sessions = c.create.new.sessions.entries })) c.self.view_is
     (session_made (kinds_of g.C.Crdt.laws) (record { sites = c.self.inside.sites; sessions = c.self.inside.sessions.entries }) c.args.name c.args.site c.create.new.sessions.entries c.new-session.result steps.items is (sym c.has_site.ensures ∙ c.if-not-has_site.false)
     (subst (λ n. 1 ≤ n) c.parts-parts.ensures.is c.parts-parts.ensures.least)
     (none_of _ (sym c.contains_key.ensures ∙ c.if-contains_key.false))

@@ -5,25 +5,25 @@ use Rattle.cluster.proofs.Messages.{take_most, take_wide, take_apart, take_away,
 use Rattle.cluster.proofs.sites.Sites.take_at.Goals as goal
 
 pub take-requires-clause-least : goal.take-requires-clause-least
-take-requires-clause-least g c = c.requires.allowed.from.least
+take-requires-clause-least g c = c.requires.1.allowed.from.least
 
 pub take-requires-clause-most : goal.take-requires-clause-most
-take-requires-clause-most g c = take_most _ _ _ _ _ c.self.view_is c.args.at _ c.index_of-i.ensures.index _ c.index_mut.ensures.value c.args.number c.args.message.now c.requires
+take-requires-clause-most g c = take_most _ _ _ _ _ c.self.view_is c.args.at _ c.index_of-i.ensures.index _ c.index_mut.ensures.value c.requires.0 c.args.message.now c.requires.1
 
 pub take-requires-clause-wide : goal.take-requires-clause-wide
-take-requires-clause-wide g c = take_wide _ _ _ _ _ c.self.view_is c.args.at _ c.index_of-i.ensures.index _ c.index_mut.ensures.value c.args.number c.args.message.now c.requires
+take-requires-clause-wide g c = take_wide _ _ _ _ _ c.self.view_is c.args.at _ c.index_of-i.ensures.index _ c.index_mut.ensures.value c.requires.0 c.args.message.now c.requires.1
 
 pub take-requires-clause-apart : goal.take-requires-clause-apart
-take-requires-clause-apart g c = take_apart _ _ _ _ _ c.self.view_is c.args.at _ c.index_of-i.ensures.index _ c.index_mut.ensures.value c.args.number c.args.message.now c.requires
+take-requires-clause-apart g c = take_apart _ _ _ _ _ c.self.view_is c.args.at _ c.index_of-i.ensures.index _ c.index_mut.ensures.value c.requires.0 c.args.message.now c.requires.1
 
 pub take-requires-clause-away : goal.take-requires-clause-away
-take-requires-clause-away g c = take_away _ _ _ _ _ c.self.view_is c.args.at _ c.index_of-i.ensures.index _ c.index_mut.ensures.value c.args.number c.args.message.now c.requires
+take-requires-clause-away g c = take_away _ _ _ _ _ c.self.view_is c.args.at _ c.index_of-i.ensures.index _ c.index_mut.ensures.value c.requires.0 c.args.message.now c.requires.1
 
 pub take-requires-clause-not_held : goal.take-requires-clause-not_held
-take-requires-clause-not_held g c = take_unheld _ _ _ _ _ c.self.view_is c.args.at _ c.index_of-i.ensures.index _ c.index_mut.ensures.value c.args.number c.args.message.now c.requires
+take-requires-clause-not_held g c = take_unheld _ _ _ _ _ c.self.view_is c.args.at _ c.index_of-i.ensures.index _ c.index_mut.ensures.value c.requires.0 c.args.message.now c.requires.1
 
 pub returns : goal.returns
-returns g c =
-    called _ _ _ _ _ c.self.view_is c.self.invariant c.args.at c.requires.place _ c.index_of-i.ensures.index c.index_of-i.ensures.below _ _ c.index_mut.ensures.value _ _ _ _ _ (c.take.ensures c.args.number)
-    (λ x run r may given. (tt, λ e s. subst (IsAnswer _ run (AskTake c.args.number c.args.message.now)) (sym s) (record { asked = refl; own_word = refl; fit = tt; new = tt })))
-    (λ why run r may given. (tt, λ e s. subst (IsAnswer _ run (AskTake c.args.number c.args.message.now)) (sym s) (record { asked = refl; own_word = refl; fit = tt; new = tt })))
+returns g c number =
+    called _ _ _ _ _ c.self.view_is c.self.invariant c.args.at c.requires.1.place _ c.index_of-i.ensures.index c.index_of-i.ensures.below _ _ c.index_mut.ensures.value _ _ _ _ _ (c.take.ensures number)
+    (λ x run r may given. (tt, λ e s. subst (IsAnswer _ run (AskTake number c.args.message.now)) (sym s) (record { asked = refl; own_word = refl; fit = tt; new = tt })))
+    (λ why run r may given. (tt, λ e s. subst (IsAnswer _ run (AskTake number c.args.message.now)) (sym s) (record { asked = refl; own_word = refl; fit = tt; new = tt })))
