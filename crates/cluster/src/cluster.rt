@@ -44,7 +44,8 @@ impl<C: Crdt> Cluster<C> {
     ///
     /// # Errors
     ///
-    /// `AllocError` where memory runs out. It is as new then.
+    /// `AllocError` where memory runs out, or no number is left for a message or report: 2^64 were made. It is as new
+    /// then.
     pub fn apply(&mut self, command: Command) -> Result<Vec<Step>, AllocError>
         requires { IsSaid C.has C.too_deep command }
         ensures ok { IfOk result (λ steps. Applies (kinds_of C.laws) self.old command steps.items self.new) }
