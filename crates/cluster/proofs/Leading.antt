@@ -26,10 +26,11 @@ use Rattle.cluster.specs.declared.commits.Way.{Way}
 use Rattle.cluster.specs.declared.commits.Way.TheVariants as way
 use Rattle.cluster.specs.Acts.{Acts}
 use Rattle.cluster.specs.Built.{is_built}
-use Rattle.cluster.specs.Ends.{MayFollow, MayMake, Leads, TakesStep, can_end, can_go, command_of, is_idle_phase, is_undecided_phase, on_way, stops}
+use Rattle.cluster.specs.Ends.{MayFollow, MayMake, Leads, TakesStep, can_end, can_go, command_of, is_undecided_phase, on_way, stops}
 use Rattle.cluster.specs.Held.{Held}
-use Rattle.cluster.specs.Live.{LiveState, session_in, phase_in, phase_about}
+use Rattle.cluster.specs.Live.{LiveState, session_in, phase_in, phase_about, is_idle_phase}
 use Rattle.cluster.specs.Reached.{phase_as, ReachedLive, GoesTo, AppliesLive, IsReachedLive}
+use Rattle.cluster.proofs.Beginning.{idle_phase}
 use Rattle.cluster.proofs.Standing.{goes_none, goes_both}
 use Rattle.cluster.proofs.Meets.{all_met, first_at, none_due, refused, has, absent, lacks_session, by_name, has_session, idle_is, undecided_is}
 use Rattle.cluster.proofs.Sessions.{own_name, same_name}
@@ -156,16 +157,6 @@ module _ {E : Type 0} where
   pub about : (o : Option (SessionState E)) (p : Stage) → phase_about o ≡ Some p → IsAbout o p
   about None p h = absurd cc
   about (Some s) p h = record { found = s; is = refl; so = cc }
-
-  idle_phase : (d : Doing E) → is_idle_phase (session.phase_of d) ≡ session.is_idle d
-  idle_phase Idle = refl
-  idle_phase (Open txn) = refl
-  idle_phase (Ending txn lead commit) = by_going commit.going
-    where
-      by_going : (g : Going) → is_idle_phase (session.phase_in g) ≡ false
-      by_going (Preparing voted left n) = refl
-      by_going (Finishing left n) = refl
-      by_going (Aborting left) = refl
 
   undecided_phase : (d : Doing E) → is_undecided_phase (session.phase_of d) ≡ session.can_abort d
   undecided_phase Idle = refl

@@ -51,10 +51,6 @@ goes_on phase.Idle n = false
 goes_on p next.Go = true
 goes_on p next.Stay = false
 
-abbrev pub is_idle_phase : Phase → Bool
-is_idle_phase phase.Idle = true
-is_idle_phase other = false
-
 -- there is a transaction that isn't decided
 abbrev pub is_undecided_phase : Phase → Bool
 is_undecided_phase phase.Open = true

@@ -5,7 +5,7 @@ ghost use Rattle.txn_session.specs.Calls.{Call};
 ghost use Rattle.txn_session.specs.Holds.{Holds, Mays};
 ghost use Rattle.cluster.specs.Acts.{Acts};
 ghost use Rattle.cluster.specs.Built.{IsSaid};
-ghost use Rattle.cluster.specs.Ends.{MayMake, TakesStep, can_end, command_of, goes_on, is_idle_phase, is_undecided_phase, stops};
+ghost use Rattle.cluster.specs.Ends.{MayMake, TakesStep, can_end, command_of, goes_on, is_undecided_phase, stops};
 ghost use Rattle.cluster.specs.Held.{SameSize};
 ghost use Rattle.cluster.specs.Live.{session_in};
 ghost use Rattle.cluster.specs.Reached.{AppliesLive, IsReachedLive};
@@ -13,7 +13,7 @@ ghost use Rattle.cluster.specs.Sees.{Sees};
 
 use crate::Sites;
 use crate::cluster::only;
-use crate::live::{Live, Sessions};
+use crate::live::{Live, Sessions, is_idle};
 use crdt_core::Crdt;
 use field_codec::Text;
 use std::alloc::{AllocError, Global};
@@ -210,13 +210,6 @@ fn stops<C: Crdt>(steps: Option<u64>, sessions: &Sessions<C>, name: &Text) -> bo
         Some(session) => session.has_step(),
         None => false,
     }
-}
-
-/// Whether there is no transaction.
-fn is_idle(phase: Phase) -> bool
-    ensures { result ≡ is_idle_phase phase }
-{
-    matches!(phase, Phase::Idle)
 }
 
 /// Whether there is a transaction that isn't decided.
