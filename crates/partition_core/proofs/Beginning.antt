@@ -13,10 +13,10 @@ use Rattle.world_model.specs.Plan.{IsPlace}
 use Rattle.world_model.specs.Partition.{PartState, IsOther, done, stable_entry}
 use Rattle.partition_core.specs.Tables.{Tables}
 use Rattle.partition_core.specs.Bounds.{AreStable, IsBehind, AreEnough}
-use Rattle.partition_core.specs.Leases.{leased}
+use Rattle.partition_core.specs.Leases.{leased, at_time}
 use Rattle.partition_core.specs.Stands.{Stands}
 use Rattle.partition_core.specs.Steps.{Anything, Steps}
-use Rattle.partition_core.proofs.Leasing.{refuses, at_time, later_stands}
+use Rattle.partition_core.proofs.Leasing.{refuses, later_stands}
 use Rattle.partition_core.proofs.Vectors.{entry_replaced, entry_other, width_replaced}
 
 module _ {E : Type 0} (t : Tables E) (v : List ℕ) (stable : AreStable t.sites t.parts t.id.part t.bounds t.heard v) (p : PartState E) (h : Stands t p) where

@@ -15,7 +15,7 @@ use Rattle.partition_core.specs.Stands.{Tells, Stands}
 use Rattle.partition_core.specs.Steps.{Anything, Steps}
 use Rattle.partition_core.specs.declared.answers.Refusal as answers
 use Rattle.partition_core.specs.Answers.{Answered}
-use Rattle.partition_core.specs.Leases.{leased}
+use Rattle.partition_core.specs.Leases.{leased, at_time, showing}
 
 module _ {E : Type 0} where
   -- what holds with any lease and with none
@@ -39,10 +39,6 @@ module _ {E : Type 0} where
   pub lease_ceiling : (log : List (Record E)) (n : ℕ) → ceiling (grown log (lease_for log n)) ≡ leased (ceiling log) n
   lease_ceiling log n = elim (leb n (ceiling log)) as (λ b. ceiling (grown log (if b then [] else Lease (min (n + 1000) end_of_time) ∷ [])) ≡ (if b then ceiling log else min (n + 1000) end_of_time)) [ true ↦ refl | false ↦ refl ]
 
-  -- the same tables with another clock
-  abbrev pub at_time : Tables E → ℕ → ℕ → Tables E
-  at_time t n c = record { id = t.id; sites = t.sites; parts = t.parts; clock = n; ceiling = c; pending = t.pending; held = t.held; bounds = t.bounds; heard = t.heard; sent = t.sent }
-
   -- they stand for the state with a lease for the later clock
   pub later_stands : (t : Tables E) (p : PartState E) (e : Event E) (n c : ℕ) → Stands t p → done p e ≡ record { up = true; now = n; log = grown p.log (lease_for p.log n); torn = []; bounds = p.bounds; heard = p.heard; sent = p.sent } → t.clock ≤ n → c ≡ leased t.ceiling n → Stands (at_time t n c) (done p e)
   later_stands t p e n c h d late k = subst (λ q. Stands (at_time t n c) q) (sym d) (record {
@@ -60,6 +56,9 @@ module _ {S E : Type 0} (kinds : Kinds S E) where
   -- what was opened is what it was before
   pub opened : (G : PartState E → Type 0) (A : Event E → Type 0) (v t new : Tables E) → v ≡ t → Steps kinds v G A new → Steps kinds t G A new
   opened G A v t new e h = subst (λ x. Steps kinds x G A new) e h
+
+  pub opened_to : (G : PartState E → Type 0) (A : Event E → Type 0) (n : ℕ) (v t : Tables E) → v ≡ t → Steps kinds v G A (showing v n) → Steps kinds t G A (showing t n)
+  opened_to G A n v t e h = subst (λ x. Steps kinds x G A (showing x n)) e h
 
   pub unchanged : (G : PartState E → Type 0) (A : Event E → Type 0) (v t : Tables E) → v ≡ t → Steps kinds v G A v → Steps kinds t G A t
   unchanged G A v t e h = subst (λ x. Steps kinds x G A x) e h

@@ -1,3 +1,7 @@
+mod Durably
+mod Writing
+mod Fitted
+mod Logged
 mod Leasing
 mod Making
 mod Choices

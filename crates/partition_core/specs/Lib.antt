@@ -1,5 +1,6 @@
 pub mod Tables
 pub mod Leases
+pub mod Begun
 pub mod Bounds
 pub mod Reads
 pub mod Waits
@@ -9,3 +10,6 @@ pub mod Stands
 pub mod Steps
 pub mod Answers
 pub mod Messages
+pub mod Durable
+pub mod Stopped
+pub mod Moments

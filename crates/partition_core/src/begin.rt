@@ -1,11 +1,13 @@
-ghost use Rattle.std.specs.Prelude.{◌≡◌, ◌≤◌, ℕ, List, length, MatchOption};
+ghost use Rattle.std.specs.Prelude.{◌≡◌, ◌≤◌, ◌<◌, ◌+◌, ℕ, List, length, MatchOption, IfOk, OnOk};
 ghost use Rattle.crdt_core.specs.KindsOf.{kinds_of};
+ghost use Rattle.crdt_core.specs.Log.{end_of_time};
 ghost use Rattle.world_model.specs.Event.{AskBegin, Began};
 ghost use Rattle.partition_core.specs.Answers.{Answered};
+ghost use Rattle.partition_core.specs.Begun.{begun};
 ghost use Rattle.partition_core.specs.Bounds.{IsBehind, AreEnough};
 ghost use Rattle.partition_core.specs.Steps.{Anything};
 
-use crate::clock::{END_OF_TIME, draw};
+use crate::clock::END_OF_TIME;
 use crate::{Partition, Refusal};
 use crdt_core::Crdt;
 use site_vector::{TxId, VTime};
@@ -21,6 +23,22 @@ impl<C: Crdt> Partition<C> {
         requires { length dependency.now ≡ self.old.sites }
         ensures { (who : List ℕ) → Answered (kinds_of C.laws) self.old Anything (AskBegin who dependency.now) (λ x e. e ≡ Began who dependency.now x.0 x.1) result self.new }
     {
+        let (tx, s) = self.next_begin(dependency)?;
+        self.advance(tx.time);
+        Ok((tx, s))
+    }
+
+    /// What a begin would answer now.
+    ///
+    /// # Errors
+    ///
+    /// As `begin`.
+    pub(crate) fn next_begin(&self, dependency: &VTime) -> Result<(TxId, VTime), Refusal>
+        requires { length dependency.now ≡ self.now.sites }
+        ensures answers { (who : List ℕ) → Answered (kinds_of C.laws) self.now Anything (AskBegin who dependency.now) (λ x e. e ≡ Began who dependency.now x.0 x.1) result (begun self.now result) }
+        ensures next { IfOk result (λ x. x.0.time ≡ self.now.clock + 1) }
+        ensures early { OnOk result (self.now.clock < end_of_time) }
+    {
         let id = self.id;
         let stable = self.gossip.stable(id.part, &self.bounds);
         if let Some(site) = first_behind(id.site, &stable, dependency) {
@@ -30,7 +48,7 @@ impl<C: Crdt> Partition<C> {
         if self.clock.now() == END_OF_TIME {
             return Err(Refusal::ClockAtEnd);
         }
-        let time = draw(&mut self.clock);
+        let time = self.clock.now() + 1;
         let s = stable.with(id.site, time.max(dependency.get(id.site)));
         let tx = TxId {
             site: id.site,

@@ -2,7 +2,7 @@ ghost use Rattle.std.specs.Prelude.{◌≡◌, ◌≤◌, ◌<◌, ◌+◌};
 ghost use Rattle.crdt_core.specs.KindsOf.{kinds_of};
 ghost use Rattle.crdt_core.specs.Log.{end_of_time};
 ghost use Rattle.world_model.specs.Event.{Ticked};
-ghost use Rattle.partition_core.specs.Leases.{leased};
+ghost use Rattle.partition_core.specs.Leases.{leased, showing, wanted};
 ghost use Rattle.partition_core.specs.Steps.{Anything, Steps};
 
 use crate::Partition;
@@ -22,10 +22,27 @@ impl<C: Crdt> Partition<C> {
         show(&mut self.clock, time);
         time
     }
+
+    /// The ceiling of the lease that the clock needs before it shows a time, at most 2^62, if it needs one.
+    pub(crate) fn lease_before(&self, time: u64) -> Option<u64>
+        requires { time ≤ end_of_time }
+        ensures { result ≡ wanted self.now.ceiling time }
+    {
+        self.clock.wants(time)
+    }
+
+    /// Lets the clock show a time that isn't past.
+    pub(crate) fn advance(&mut self, time: u64)
+        requires later { self.old.clock ≤ time }
+        requires most { time ≤ end_of_time }
+        ensures { self.new ≡ showing self.old time }
+    {
+        show(&mut self.clock, time);
+    }
 }
 
 /// Lets the clock show a time, under a lease where that is above its ceiling.
-fn show(clock: &mut Leased, time: u64)
+pub(crate) fn show(clock: &mut Leased, time: u64)
     requires later { clock.old.clock ≤ time }
     requires most { time ≤ end_of_time }
     ensures { clock.new ≡ record { clock = time; ceiling = leased clock.old.ceiling time } }

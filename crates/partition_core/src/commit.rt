@@ -142,7 +142,7 @@ impl<C: Crdt> Partition<C> {
 /// # Errors
 ///
 /// `AllocError` where memory runs out. What is pending and held is as before, and there is no less room for it.
-fn promise<C: Crdt>(
+pub(crate) fn promise<C: Crdt>(
     prepared: &mut Prepared<C::Effect>,
     store: &mut Store<C>,
     promised: usize,

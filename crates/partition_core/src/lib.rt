@@ -6,10 +6,14 @@ mod answers;
 mod begin;
 mod clock;
 mod commit;
+mod durable;
+mod durable_calls;
+mod logging;
 mod partition;
 mod read;
 mod report;
 mod stream;
 
 pub use answers::{CallError, Fate, Refusal};
+pub use durable::{DurableError, DurablePartition};
 pub use partition::Partition;

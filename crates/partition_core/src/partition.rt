@@ -1,6 +1,7 @@
 ghost use Rattle.std.specs.Prelude.{◌≡◌, ◌≤◌, false};
 ghost use Rattle.site_vector.specs.Vector.{entry};
-ghost use Rattle.prepared_table.specs.Entries.{first_on};
+ghost use Rattle.crdt_core.specs.Log.{end_of_time};
+ghost use Rattle.prepared_table.specs.Entries.{first_on, has_entry};
 ghost use Rattle.world_model.specs.Partition.{new_part};
 ghost use Rattle.partition_core.specs.Stands.{Stands};
 ghost use Rattle.partition_core.specs.Tables.{knows};
@@ -73,7 +74,8 @@ impl<C: Crdt> Partition<C> {
 
     /// The time that its clock shows.
     pub fn now(&self) -> u64
-        ensures { result ≡ self.now.clock }
+        ensures clock { result ≡ self.now.clock }
+        ensures most { result ≤ end_of_time }
     {
         self.clock.now()
     }
@@ -91,6 +93,16 @@ impl<C: Crdt> Partition<C> {
         ensures { result ≡ first_on object.now upto self.now.pending }
     {
         self.prepared.on(object, upto)
+    }
+
+    /// Whether a transaction is pending here.
+    pub fn is_pending(&self, tx: TxId) -> bool
+        ensures { result ≡ has_entry self.now.pending tx }
+    {
+        match self.prepared.get(tx) {
+            Some(_entry) => true,
+            None => false,
+        }
     }
 
     /// Whether a transaction is pending or held here.

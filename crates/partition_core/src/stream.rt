@@ -132,7 +132,7 @@ fn count_updates<E>(parts: &[Part<E>]) -> Option<usize>
 /// # Errors
 ///
 /// `AllocError` where memory runs out. What is held is as before, and there is no less room.
-fn make_room<C: Crdt>(
+pub(crate) fn make_room<C: Crdt>(
     store: &mut Store<C>,
     pending: usize,
     promised: usize,
@@ -158,7 +158,7 @@ fn make_room<C: Crdt>(
 }
 
 /// Puts parts in their places. There is room. Takes no memory.
-fn put_all<C: Crdt>(store: &mut Store<C>, parts: Vec<Part<C::Effect>>)
+pub(crate) fn put_all<C: Crdt>(store: &mut Store<C>, parts: Vec<Part<C::Effect>>)
     requires { CanPut parts.items store.old }
     ensures sites { store.new.sites ≡ store.old.sites }
     ensures parts { store.new.parts ≡ inserted parts.items store.old.parts }

@@ -205,6 +205,13 @@ impl<C: Crdt, D: Disk + Drop> PartLog<C, D> {
         self.log.close()
     }
 
+    /// Whether an append failed since the log was opened.
+    pub fn is_closed(&self) -> bool
+        ensures { result ≡ is_closed (gates_of self.now) }
+    {
+        self.log.is_closed()
+    }
+
     /// Whether a call of the disk failed because it found no memory to grow.
     pub fn starved(&self) -> bool
         ensures { result ≡ (D.state (disk_of (gates_of self.now))).starved }

@@ -1,16 +1,14 @@
-use Rattle.std.proofs.Common.{◌≡◌, ◌<◌, ◌+◌, max, length, ap, sym, ◌∙◌, arith}
-use Rattle.crdt_core.specs.Log.{end_of_time}
-use Rattle.partition_core.proofs.Leasing.{opened, unchanged}
-use Rattle.partition_core.proofs.Beginning.{begin_behind_by, begins_by}
+use Rattle.std.proofs.Common.{◌≡◌, sym, subst}
+use Rattle.std.proofs.lemmas.Result.{err_from_is_err_and}
+use Rattle.crdt_core.specs.KindsOf.{kinds_of}
+use Rattle.world_model.specs.Event.{Began}
+use Rattle.partition_core.specs.Steps.{Anything, Steps}
 use Rattle.partition_core.proofs.partition.Partition.begin.Goals as goal
 
-pub returns-in-Some : goal.returns-in-Some
-returns-in-Some g c = λ who.
-    let heard = c.stable-stable.ensures in
-    unchanged _ _ _ _ _ c.self.view_is (begin_behind_by _ _ c.args.dependency.now c.stable-stable.result c.self.inside.gossip.sites c.self.inside.gossip.parts c.self.invariant.gossip_sites c.self.invariant.gossip_parts heard.width heard.least who c.in-Some.site c.get-have.result c.get-have.ensures c.in-Some.ensures)
+pub returns-in_err-tx : goal.returns-in_err-tx
+returns-in_err-tx g c = λ who.
+    let p = err_from_is_err_and c.from_residual.result c.from_residual.ensures.1 in
+    rw (p.1, p.2) (c.in_err-tx.ensures.answers who)
 
 pub returns : goal.returns
-returns g c = λ who.
-    let heard = c.stable-stable.ensures in
-    let early : c.self.inside.clock.clock < end_of_time = let a = c.now.ensures.sound in omega arith in
-    opened _ _ _ _ _ _ c.self.view_is (begins_by _ _ c.args.dependency.now c.stable-stable.result c.self.inside.gossip.sites c.self.inside.gossip.parts c.self.invariant.gossip_sites c.self.invariant.gossip_parts heard.width heard.least who c.draw-time.result c.max.result c.get.result c.draw-time.new.clock c.with-s.result c.self.invariant.placed.place (c.requires ∙ ap (λ x. x.sites) (sym c.self.view_is)) c.in_default.ensures c.draw-time.ensures.next early c.draw-time.ensures.shown c.max.ensures c.get.ensures c.with-s.ensures)
+returns g c = λ who. subst (λ t. Steps (kinds_of g.C.Crdt.laws) c.args.self.now Anything (λ e. e ≡ Began who c.args.dependency.now c.in_ok-tx.tx c.in_ok-tx.s) t) (sym c.advance.ensures) (c.in_ok-tx.ensures.answers who)

@@ -1,0 +1,64 @@
+use Rattle.std.proofs.Common.{◌≡◌, ◌∙◌, ap, sym, refl, true, false, Err}
+use Rattle.std.proofs.lemmas.Result.{err_from_is_err_and}
+use Rattle.crdt_core.specs.KindsOf.{kinds_of}
+use Rattle.partition_log.specs.Codec.{codec_of}
+use Rattle.partition_log.specs.Gates.{gates_of}
+use Rattle.world_model.specs.Event.{AskDecide, Decided, Refused}
+use Rattle.partition_core.specs.Answers.{cause}
+use Rattle.partition_core.specs.Durable.{is_down}
+use Rattle.partition_core.specs.Steps.{Anything}
+use Rattle.partition_core.specs.Stopped.{stopped}
+use Rattle.partition_core.proofs.Durably.{down_call}
+use Rattle.partition_core.proofs.Logged.{on_disk, opened_on, opened_steps, refused_on, decided_already, decide_by, decide_refutes, end_done, end_stopped, end_never}
+use Rattle.partition_core.proofs.durable.DurablePartition.decide.Goals as goal
+
+pub returns-then-is_down : goal.returns-then-is_down
+returns-then-is_down g c = down_call (kinds_of g.C.Crdt.laws) (codec_of g.C.Crdt.spells) g.D.Disk.state c.args.self.now Anything (AskDecide c.args.tx c.args.c.now) (λ (n : Unit {0}) e. e ≡ Decided c.args.tx c.args.c.now) (sym c.is_down.ensures ∙ c.if-is_down.true) refl
+
+pub returns-in_err-decide : goal.returns-in_err-decide
+returns-in_err-decide g c =
+    let p = err_from_is_err_and c.from_residual.result c.from_residual.ensures.1 in
+    let v = on_disk c.self.inside.tables (gates_of c.self.inside.log) c.self.inside.crashed in
+    let up = ap is_down c.self.view_is ∙ sym c.is_down.ensures ∙ c.if-is_down.false in
+    let kinds = kinds_of g.C.Crdt.laws in
+    let codec = codec_of g.C.Crdt.spells in
+    let new = on_disk c.decide.new.self (gates_of c.self.inside.log) c.self.inside.crashed in
+    rw (p.1, p.2) (opened_steps kinds codec g.D.Disk.state Anything (λ e. e ≡ Refused (AskDecide c.args.tx c.args.c.now) (cause c.in_err-decide.field-0.0)) v c.args.self.now new c.self.view_is (refused_on kinds codec g.D.Disk.state v c.self.invariant up Anything (AskDecide c.args.tx c.args.c.now) c.in_err-decide.field-0.0 c.decide.new.self c.in_err-decide.ensures))
+
+pub returns-then-not-is_pending : goal.returns-then-not-is_pending
+returns-then-not-is_pending g c =
+    let v = on_disk c.self.inside.tables (gates_of c.self.inside.log) c.self.inside.crashed in
+    let up = ap is_down c.self.view_is ∙ sym c.is_down.ensures ∙ c.if-is_down.false in
+    let kinds = kinds_of g.C.Crdt.laws in
+    let codec = codec_of g.C.Crdt.spells in
+    let new = on_disk c.decide.new.self (gates_of c.self.inside.log) c.self.inside.crashed in
+    opened_steps kinds codec g.D.Disk.state Anything (λ e. e ≡ Decided c.args.tx c.args.c.now) v c.args.self.now new c.self.view_is (decided_already kinds codec g.D.Disk.state v c.self.invariant up c.args.tx c.args.c.now c.decide.new.self (sym c.is_pending.ensures ∙ c.if-not-is_pending.true) c.in_ok-decide.ensures)
+
+pub returns-in_err-decide-2 : goal.returns-in_err-decide-2
+returns-in_err-decide-2 g c =
+    let p = err_from_is_err_and c.from_residual-in_err-decide-2.result c.from_residual-in_err-decide-2.ensures.1 in
+    let v = on_disk c.self.inside.tables (gates_of c.self.inside.log) c.self.inside.crashed in
+    let up = ap is_down c.self.view_is ∙ sym c.is_down.ensures ∙ c.if-is_down.false in
+    let kinds = kinds_of g.C.Crdt.laws in
+    let codec = codec_of g.C.Crdt.spells in
+    let new = on_disk c.self.inside.tables (gates_of c.decide-2.new.self) c.self.inside.crashed in
+    rw (p.1, p.2) (opened_on kinds codec g.D.Disk.state Anything (AskDecide c.args.tx c.args.c.now) (λ (n : Unit {0}) e. e ≡ Decided c.args.tx c.args.c.now) (Err (stopped c.in_err-decide-2.field-0.0)) v c.args.self.now new c.self.view_is (end_stopped kinds codec g.D.Disk.state v up (AskDecide c.args.tx c.args.c.now) c.args.tx (Decided c.args.tx c.args.c.now) _ (decide_by kinds codec g.D.Disk.state v up c.args.tx c.args.c.now) (sym c.is_pending.ensures ∙ c.if-not-is_pending.false) tt c.in_err-decide-2.field-0.0 (gates_of c.decide-2.new.self) c.in_err-decide-2.ensures.appends))
+
+pub returns-in_err-decide-3 : goal.returns-in_err-decide-3
+returns-in_err-decide-3 g c =
+    let p = err_from_is_err_and c.from_residual-in_err-decide-3.result c.from_residual-in_err-decide-3.ensures.1 in
+    let v = on_disk c.self.inside.tables (gates_of c.self.inside.log) c.self.inside.crashed in
+    let up = ap is_down c.self.view_is ∙ sym c.is_down.ensures ∙ c.if-is_down.false in
+    let kinds = kinds_of g.C.Crdt.laws in
+    let codec = codec_of g.C.Crdt.spells in
+    let new = on_disk c.decide-3.new.self (gates_of c.decide-2.new.self) c.self.inside.crashed in
+    rw (p.1, p.2) (opened_steps kinds codec g.D.Disk.state Anything (λ e. e ≡ Refused (AskDecide c.args.tx c.args.c.now) (cause c.in_err-decide-3.field-0.0)) v c.args.self.now new c.self.view_is (end_never kinds codec g.D.Disk.state v up (AskDecide c.args.tx c.args.c.now) c.args.tx (Decided c.args.tx c.args.c.now) _ (decide_by kinds codec g.D.Disk.state v up c.args.tx c.args.c.now) (sym c.is_pending.ensures ∙ c.if-not-is_pending.false) c.in_ok-decide-2.field-0 (gates_of c.decide-2.new.self) c.decide-3.new.self c.in_err-decide-3.field-0.0 c.in_ok-decide-2.ensures.appends c.in_err-decide-3.ensures (decide_refutes kinds codec g.D.Disk.state v c.args.tx c.args.c.now c.in_err-decide-3.field-0.0)))
+
+pub returns : goal.returns
+returns g c =
+    let v = on_disk c.self.inside.tables (gates_of c.self.inside.log) c.self.inside.crashed in
+    let up = ap is_down c.self.view_is ∙ sym c.is_down.ensures ∙ c.if-is_down.false in
+    let kinds = kinds_of g.C.Crdt.laws in
+    let codec = codec_of g.C.Crdt.spells in
+    let new = on_disk c.decide-3.new.self (gates_of c.decide-2.new.self) c.self.inside.crashed in
+    opened_steps kinds codec g.D.Disk.state Anything (λ e. e ≡ Decided c.args.tx c.args.c.now) v c.args.self.now new c.self.view_is (end_done kinds codec g.D.Disk.state v up (AskDecide c.args.tx c.args.c.now) c.args.tx (Decided c.args.tx c.args.c.now) _ (decide_by kinds codec g.D.Disk.state v up c.args.tx c.args.c.now) (sym c.is_pending.ensures ∙ c.if-not-is_pending.false) c.in_ok-decide-2.field-0 (gates_of c.decide-2.new.self) c.decide-3.new.self c.in_ok-decide-2.ensures.appends c.in_ok-decide-3.ensures)

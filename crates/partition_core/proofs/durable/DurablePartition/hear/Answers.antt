@@ -1,0 +1,23 @@
+use Rattle.std.proofs.Common.{◌≡◌, ◌∙◌, ap, sym, refl, false}
+use Rattle.std.proofs.lemmas.Result.{err_from_is_err_and}
+use Rattle.crdt_core.specs.KindsOf.{kinds_of}
+use Rattle.partition_log.specs.Codec.{codec_of}
+use Rattle.partition_log.specs.Gates.{gates_of}
+use Rattle.world_model.specs.Event.{AskHear, Heard}
+use Rattle.partition_core.specs.Durable.{is_down}
+use Rattle.partition_core.specs.Steps.{Anything}
+use Rattle.partition_core.proofs.Durably.{down_call}
+use Rattle.partition_core.proofs.Logged.{on_disk, opened_steps, heard_on}
+use Rattle.partition_core.proofs.durable.DurablePartition.hear.Goals as goal
+
+pub returns-then-is_down : goal.returns-then-is_down
+returns-then-is_down g c = λ number. down_call (kinds_of g.C.Crdt.laws) (codec_of g.C.Crdt.spells) g.D.Disk.state c.args.self.now Anything (AskHear number c.args.part c.args.bounds.now) (λ stable e. e ≡ Heard number c.args.part c.args.bounds.now stable) (sym c.is_down.ensures ∙ c.if-is_down.true) refl
+
+pub returns : goal.returns
+returns g c = λ number.
+    let v = on_disk c.self.inside.tables (gates_of c.self.inside.log) c.self.inside.crashed in
+    let up = ap is_down c.self.view_is ∙ sym c.is_down.ensures ∙ c.if-is_down.false in
+    let kinds = kinds_of g.C.Crdt.laws in
+    let codec = codec_of g.C.Crdt.spells in
+    let new = on_disk c.hear.new.self (gates_of c.self.inside.log) c.self.inside.crashed in
+    opened_steps kinds codec g.D.Disk.state Anything (λ e. e ≡ Heard number c.args.part c.args.bounds.now c.hear.result) v c.args.self.now new c.self.view_is (heard_on kinds codec g.D.Disk.state v c.self.invariant up number c.args.part c.args.bounds.now c.hear.result c.hear.new.self (c.hear.ensures number))
