@@ -315,7 +315,7 @@ module _ {S E D : Type 0} (kinds : Kinds S E) (codec : Codec E) (state : D → D
 
   -- ---- a crash
 
-  crashed : Durable E D
+  abbrev pub crashed : Durable E D
   crashed = on_disk old.tables old.gates true
 
   pub crashes : Crashes kinds codec state old crashed

@@ -254,7 +254,7 @@ impl<C: Crdt, D: Disk + Drop> DurablePartition<C, D> {
         from: Option<u64>,
     ) -> Result<Message<C::Effect>, DurableError>
         requires { IsOther self.old.tables.sites self.old.tables.id.site to }
-        ensures sent { CallsOn (kinds_of C.laws) (codec_of C.spells) D.state self.old self.new Anything (AskMessage to from) (λ m e. (m.to ≡ to) × (e ≡ event.Sent from m)) result }
+        ensures { CallsOn (kinds_of C.laws) (codec_of C.spells) D.state self.old self.new Anything (AskMessage to from) (λ m e. (m.to ≡ to) × (e ≡ event.Sent from m)) result }
     {
         if self.is_down() {
             return Err(DurableError::Down);
