@@ -4,3 +4,5 @@ pub mod Two
 pub mod Reading
 pub mod Listing
 pub mod Damaged
+pub mod Reopening
+pub mod Sizes
