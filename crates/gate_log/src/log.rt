@@ -116,7 +116,7 @@ impl<D: Disk + Drop> GateLog<D> {
         ensures read { read_at_opening self.new ≡ [] }
         ensures same { (disk_of self.new ≡ disk_of self.old) × (gate_of self.new ≡ gate_of self.old) }
     {
-        self.read.forget();
+        self.forget_read();
         self.closed = true;
     }
 
