@@ -3,6 +3,7 @@ ghost use Rattle.std.specs.Prelude.{◌≡◌, ◌≤◌, ◌^◌, length};
 ghost use Rattle.gate_log.specs.Logs.{IsReady};
 ghost use Rattle.disk_core.specs.MemDisks.{mem_state};
 
+use crate::again;
 use crate::logs::new_log;
 use crate::words;
 use disk_core::{Disk, Fused, MemDisk, SureDisk};
@@ -171,6 +172,7 @@ pub(crate) fn print(rt: &HostRuntime) -> io::Result<()> {
         }
     }
     print_openings(rt)?;
+    print_again(rt)?;
     print_full(rt)?;
     for bytes in LOGS {
         if bytes.len() <= 256 {
@@ -192,4 +194,14 @@ fn print_openings(rt: &HostRuntime) -> io::Result<()> {
         print_listed(rt, call)?;
     }
     Ok(())
+}
+
+fn print_again(rt: &HostRuntime) -> io::Result<()> {
+    for call in 1..=5 {
+        again::print_append(rt, call)?;
+    }
+    for call in 1..=4 {
+        again::print_opening(rt, call)?;
+    }
+    again::print_makers(rt)
 }

@@ -6,3 +6,4 @@ pub mod Listing
 pub mod Damaged
 pub mod Reopening
 pub mod Sizes
+pub mod Opened

@@ -14,7 +14,7 @@ ghost use Rattle.disk_core.specs.Moments.{AtEachMoment};
 ghost use Rattle.crdt_core.specs.Log.{MayFind};
 
 use crate::append::{append_one, append_two};
-use crate::opening::{check_records, read_records};
+use crate::opening::{check_log, read_records};
 use crate::payload::{payload_of, payload_of_batch};
 use crdt_core::{Crdt, Message, Record};
 use disk_core::{Disk, Fused};
@@ -67,7 +67,7 @@ impl<C: Crdt, D: Disk + Drop> PartLog<C, D> {
     {
         match GateLog::open(alloc, disk) {
             Err(refused) => Err(refused),
-            Ok(log) => match check_records::<C>(alloc, log.payloads()) {
+            Ok(mut log) => match check_log::<C, D>(alloc, &mut log) {
                 Err(error) => Err((log.close(), error)),
                 Ok(()) => Ok(PartLog {
                     log,
@@ -123,10 +123,7 @@ impl<C: Crdt, D: Disk + Drop> PartLog<C, D> {
             (HoldsFront (codec_of C.spells) log torn) }
     {
         self.log.reopen(alloc)?;
-        if let Err(error) = check_records::<C>(alloc, self.log.payloads()) {
-            self.log.shut();
-            return Err(error);
-        }
+        check_log::<C, D>(alloc, &mut self.log)?;
         Ok(())
     }
 
