@@ -1,5 +1,5 @@
 -- What contracts tell of a maker of disks in memory.
-use Rattle.std.specs.Prelude.{◌≡◌, ◌↔◌, ℕ, ◌≤◌, Bool, true, List, if◌then◌else◌, Result, Err, IfOk}
+use Rattle.std.specs.Prelude.{◌≡◌, ◌↔◌, ℕ, Bool, true, List, if◌then◌else◌, Result, Err, IfOk}
 use Rattle.disk_core.specs.Counts.{counted, is_listed}
 use Rattle.disk_core.specs.MemDisks.{mem_state, calls_to_fail}
 use Rattle.disk_core.specs.declared.memory.MemDisk.{MemDisk}

@@ -18,10 +18,7 @@ const SECOND: [u8; 9] = [98, 98, 98, 98, 98, 98, 98, 98, 98];
 const THIRD: [u8; 1] = [99];
 
 /// What opening a log again answers.
-fn of_reopening<D: Disk + Drop>(
-    alloc: Global,
-    log: &mut GateLog<D>,
-) -> Result<String, AllocError>
+fn of_reopening<D: Disk + Drop>(alloc: Global, log: &mut GateLog<D>) -> Result<String, AllocError>
     requires { IsReady D.state log.old }
     ensures { IsReady D.state log.new }
 {

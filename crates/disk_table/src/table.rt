@@ -3,9 +3,8 @@ ghost use Rattle.std.specs.Prelude.{◌≡◌, ◌≤◌, ◌^◌, length};
 ghost use Rattle.gate_log.specs.Logs.{IsReady};
 ghost use Rattle.disk_core.specs.MemDisks.{mem_state};
 
-use crate::again;
 use crate::logs::new_log;
-use crate::words;
+use crate::{again, words};
 use disk_core::{Disk, Fused, MemDisk, SureDisk};
 use gate_log::{GateLog, format};
 use std::alloc::{AllocError, Global};
