@@ -61,3 +61,14 @@ weaker a b P Q gives run = record {
 pub over_sync : (a b : Story) (P : List ℕ → Type 0) → EachImage P a.now → Image a.now a.now.bytes → b ≡ moved (after_sync a.now) a → AtEachMoment a b P
 over_sync a b P all reads synced =
     moved_on a a b (after_sync a.now) P (at_first a P all) synced (λ image left. subst P (sym (only_synced a.now image left)) (all a.now.bytes reads))
+
+same_front : (x y : Content) (xs ys : List Content) → x ∷ xs ≡ y ∷ ys → x ≡ y
+same_front x y xs ys h = cc
+
+last_of : (P : List ℕ → Type 0) (since : List Content) (now first : Content) (past firsts : List Content) → now ∷ past ≡ since ++ (first ∷ firsts) → EachImage P first → EachImageOfAll P since → EachImage P now
+last_of P [] now first past firsts same here all = subst (EachImage P) (sym (same_front now first past firsts same)) here
+last_of P (x ∷ xs) now first past firsts same here all = subst (EachImage P) (sym (same_front now x past (xs ++ (first ∷ firsts)) same)) all.0
+
+-- after the last call
+pub at_last : (a b : Story) (P : List ℕ → Type 0) → AtEachMoment a b P → EachImage P b.now
+at_last a b P run = last_of P run.since b.now a.now b.past a.past run.grown run.first run.each

@@ -33,9 +33,10 @@ pub record Called {T E : Type 0} (result : Result T E) (old new : DiskState) : T
   pub tells : new.tells ≡ old.tells
   pub room : new.room ≡ old.room
   pub left : new.left ≡ fewer 1 old.left
-  -- it fails only where the count rises, which never falls
+  -- it fails only where the count rises, which never falls, and counts no fault where it doesn't fail
   pub later : old.faults ≤ new.faults
   pub failed : OnErr result (Rose old.faults new.faults)
+  pub quiet : OnOk result (new.faults ≡ old.faults)
   -- only a call that fails may starve it, and it stays so
   pub fed : OnOk result (new.starved ≡ old.starved)
   pub starved : IsTrue old.starved → IsTrue new.starved

@@ -1,11 +1,11 @@
-// The calls of a disk in memory: how many were made, which are to fail, and how many failed.
 ghost use Rattle.std.specs.Prelude.{◌≡◌, ◌≤◌, ◌-◌, ◌^◌, [], if◌then◌else◌, OnOk, OnErr};
 ghost use Rattle.disk_core.specs.Counts.{counted, is_listed};
 
 use std::alloc::{AllocError, Global};
 
+/// The calls of an object in memory, of which those on a list are to fail: how many were made, and how many failed.
 #[derive(Drop)]
-pub(crate) struct Calls {
+pub struct Calls {
     made: u64,
     failing: Vec<u64>,
     failed: u64,
@@ -13,7 +13,8 @@ pub(crate) struct Calls {
 }
 
 impl Calls {
-    pub(crate) fn new(alloc: Global) -> Calls
+    /// None made, and none to fail. Takes no memory.
+    pub fn new(alloc: Global) -> Calls
         ensures made { result.made ≡ 0 }
         ensures failing { result.failing.items ≡ [] }
         ensures failed { result.failed ≡ 0 }
@@ -25,8 +26,8 @@ impl Calls {
         }
     }
 
-    // Counts a call, and a fault where it is to fail, and says so.
-    pub(crate) fn begin(&mut self) -> bool
+    /// Counts a call, and a fault where it is to fail, and says so.
+    pub fn begin(&mut self) -> bool
         ensures made { self.new.made ≡ counted self.old.made }
         ensures listed { result ≡ is_listed self.old.failing.items self.old.made }
         ensures failing { self.new.failing.items ≡ self.old.failing.items }
@@ -42,8 +43,8 @@ impl Calls {
         fails
     }
 
-    // Counts a fault.
-    pub(crate) fn fail(&mut self)
+    /// Counts a fault.
+    pub fn fail(&mut self)
         ensures failed { self.new.failed ≡ counted self.old.failed }
         ensures made { self.new.made ≡ self.old.made }
         ensures failing { self.new.failing.items ≡ self.old.failing.items }
@@ -52,8 +53,12 @@ impl Calls {
         self.failed = self.failed.saturating_add(1);
     }
 
-    // From now on the calls with these numbers are to fail.
-    pub(crate) fn list(&mut self, calls: &[u64]) -> Result<(), AllocError>
+    /// From now on the calls with these numbers are to fail, counted from 1.
+    ///
+    /// # Errors
+    ///
+    /// `AllocError` where memory runs out. The calls are as before then.
+    pub fn list(&mut self, calls: &[u64]) -> Result<(), AllocError>
         ensures ok { OnOk result (self.new.failing.items ≡ calls.now) }
         ensures err { OnErr result (self.new.failing.items ≡ self.old.failing.items) }
         ensures made { self.new.made ≡ self.old.made }

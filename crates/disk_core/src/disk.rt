@@ -13,7 +13,7 @@ pub struct Failed;
 ///
 /// Every method but `room` and `starved` is a call of the device. Its state says what a read gives, what each crash
 /// may leave now and might have left since, a count of faults that never falls, and how many calls are left where it
-/// is known. A call answers `Failed` only where the count rose.
+/// is known. A call answers `Failed` only where the count rose, and `Ok` only where it stayed.
 pub trait Disk {
     ghost state: { Self → DiskState };
 

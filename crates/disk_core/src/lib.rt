@@ -12,6 +12,7 @@ mod memory;
 mod sure;
 mod trail;
 
+pub use calls::Calls;
 pub use disk::{Disk, Failed};
 pub use fused::Fused;
 pub use laws::{law_images, law_moments};

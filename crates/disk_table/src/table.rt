@@ -4,7 +4,7 @@ ghost use Rattle.gate_log.specs.Logs.{IsReady};
 ghost use Rattle.disk_core.specs.MemDisks.{mem_state};
 
 use crate::logs::new_log;
-use crate::words;
+use crate::{again, words};
 use disk_core::{Disk, Fused, MemDisk, SureDisk};
 use gate_log::{GateLog, format};
 use std::alloc::{AllocError, Global};
@@ -171,6 +171,7 @@ pub(crate) fn print(rt: &HostRuntime) -> io::Result<()> {
         }
     }
     print_openings(rt)?;
+    print_again(rt)?;
     print_full(rt)?;
     for bytes in LOGS {
         if bytes.len() <= 256 {
@@ -192,4 +193,14 @@ fn print_openings(rt: &HostRuntime) -> io::Result<()> {
         print_listed(rt, call)?;
     }
     Ok(())
+}
+
+fn print_again(rt: &HostRuntime) -> io::Result<()> {
+    for call in 1..=5 {
+        again::print_append(rt, call)?;
+    }
+    for call in 1..=4 {
+        again::print_opening(rt, call)?;
+    }
+    again::print_makers(rt)
 }

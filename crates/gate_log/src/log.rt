@@ -16,7 +16,7 @@ use std::alloc::Global;
 /// A log of payloads on a disk.
 ///
 /// At each moment of an append every crash leaves the list before, or that with the new payload, and once it has
-/// answered `Ok` the new list. After a failed append the log is closed until the disk is opened again.
+/// answered `Ok` the new list. After a failed append the log is closed until it is opened again.
 #[derive(Drop)]
 pub struct GateLog<D: Disk + Drop> {
     disk: D,
@@ -56,28 +56,89 @@ impl<D: Disk + Drop> GateLog<D> {
         ensures left { MatchResult result (λ log. Lowers 16 (D.state disk).left (D.state (disk_of log)).left)
             (λ e. Lowers 16 (D.state disk).left (D.state e.0).left) }
     {
-        let mut disk = disk;
-        match read_durable(alloc, &mut disk) {
-            Err(error) => Err((disk, error)),
-            Ok(bytes) => match find_gate(&bytes) {
-                Err(at) => Err((disk, OpenError::Damaged { at: at as u64 })),
-                Ok((end, count)) => Ok(GateLog {
-                    disk,
-                    end: end as u64,
-                    closed: false,
-                    read: Contents { bytes, count },
-                }),
-            },
+        let mut log = GateLog {
+            disk,
+            end: 0,
+            closed: true,
+            read: Contents::none(alloc),
+        };
+        match log.reopen(alloc) {
+            Ok(()) => Ok(log),
+            Err(error) => Err((log.close(), error)),
         }
+    }
+
+    /// Opens the log of its disk again, as `open` does, also where it is closed: makes all of it durable, and reads it
+    /// once. What was read before is let go first. An `Err` leaves the log closed, with nothing read.
+    ///
+    /// # Errors
+    ///
+    /// As `open`.
+    pub fn reopen(&mut self, alloc: Global) -> Result<(), OpenError>
+        ensures opened { OnOk result ((payloads : List (List ℕ)) × (read_at_opening self.new ≡ placed 8 payloads)
+            × AreSized payloads
+            × (IsTrue (D.state (disk_of self.old)).tells → IsLog (bytes_of (D.state (disk_of self.old))) payloads
+            × IsOpen D.state self.new payloads)) }
+        ensures opened_ready { OnOk result (IsReady D.state self.new × (is_closed self.new ≡ false)) }
+        ensures closed { OnErr result ((is_closed self.new ≡ true) × (gate_of self.new ≡ gate_of self.old)
+            × (read_at_opening self.new ≡ [])) }
+        ensures ready { IsReady D.state self.old → IsReady D.state self.new }
+        ensures damaged { (at : ℕ) → result ≡ Err (Damaged at) → IsTrue (D.state (disk_of self.old)).tells
+            → IsDamagedAt (bytes_of (D.state (disk_of self.old))) at }
+        ensures exact { (at : ℕ) → IsTrue (D.state (disk_of self.old)).tells
+            → IsDamagedAt (bytes_of (D.state (disk_of self.old))) at
+            → result ≢ Err OpenFailed → result ≢ Err NoRoomToRead → result ≡ Err (Damaged at) }
+        ensures failed { result ≡ Err OpenFailed
+            → Rose (D.state (disk_of self.old)).faults (D.state (disk_of self.new)).faults }
+        // All that the disk does is to sync, and that only once.
+        ensures synced { OnOk result (Syncs (D.state (disk_of self.old)) (D.state (disk_of self.new))) }
+        ensures synced_err { OnErr result (Rests (D.state (disk_of self.old)) (D.state (disk_of self.new))
+            ⊎ Syncs (D.state (disk_of self.old)) (D.state (disk_of self.new))) }
+        ensures goes_on { GoesOn (D.state (disk_of self.old)) (D.state (disk_of self.new)) }
+        ensures left { Lowers 16 (D.state (disk_of self.old)).left (D.state (disk_of self.new)).left }
+    {
+        self.shut();
+        let bytes = read_durable(alloc, &mut self.disk)?;
+        match find_gate(&bytes) {
+            Err(at) => Err(OpenError::Damaged { at: at as u64 }),
+            Ok((end, count)) => {
+                self.end = end as u64;
+                self.read = Contents { bytes, count };
+                self.closed = false;
+                Ok(())
+            }
+        }
+    }
+
+    /// Closes the log until it is opened again, and lets go what was read at opening.
+    pub fn shut(&mut self)
+        ensures closed { is_closed self.new ≡ true }
+        ensures read { read_at_opening self.new ≡ [] }
+        ensures same { (disk_of self.new ≡ disk_of self.old) × (gate_of self.new ≡ gate_of self.old) }
+    {
+        self.forget_read();
+        self.closed = true;
+    }
+
+    /// Lets go what was read at opening, with its memory. The log is as before.
+    pub fn forget_read(&mut self)
+        ensures read { read_at_opening self.new ≡ [] }
+        ensures same { (disk_of self.new ≡ disk_of self.old) × (gate_of self.new ≡ gate_of self.old)
+            × (is_closed self.new ≡ is_closed self.old) }
+        ensures open { (payloads : List (List ℕ)) → IsOpen D.state self.old payloads
+            → IsOpen D.state self.new payloads }
+        ensures ready { IsReady D.state self.old → IsReady D.state self.new }
+    {
+        self.read.forget();
     }
 
     /// Appends a record with this payload, which isn't empty, by four calls of the disk. Takes no memory.
     ///
     /// # Errors
     ///
-    /// `Full` exactly where the new end and one byte more pass the room of the disk, and `Closed` exactly where an
-    /// append failed before: the log is as before. `Failed` only where the disk fails: a crash leaves the list before
-    /// or that with the payload, and every later append answers `Closed`.
+    /// `Full` exactly where the new end and one byte more pass the room of the disk, and `Closed` exactly where the log
+    /// is closed: the log is as before. `Failed` only where the disk fails: a crash leaves the list before or that with
+    /// the payload, and every later append answers `Closed`, until the log is opened again.
     pub fn append(&mut self, payload: &[u8]) -> Result<(), AppendError>
         requires some { 1 ≤ length payload.now }
         requires ready { IsReady D.state self.old }
@@ -142,7 +203,7 @@ impl<D: Disk + Drop> GateLog<D> {
         self.disk.room()
     }
 
-    /// Whether an append failed since the log was opened.
+    /// Whether the log is closed, so that it takes no record until it is opened again.
     pub fn is_closed(&self) -> bool
         ensures { result ≡ is_closed self.now }
     {

@@ -4,3 +4,6 @@ pub mod Two
 pub mod Reading
 pub mod Listing
 pub mod Damaged
+pub mod Reopening
+pub mod Sizes
+pub mod Opened

@@ -1,7 +1,7 @@
 -- A call that appends records and refuses before it writes.
 use Rattle.std.proofs.Common.{◌≡◌, ◌≢◌, inl, ℕ, ◌+◌, ◌-◌, ◌<◌, true, false, List, [], ◌∷◌, Option, None, Some, Result, Err, refl, ap, arith}
 use Rattle.disk_core.specs.States.{DiskState, fewer}
-use Rattle.disk_core.specs.Moments.{AtEachMoment}
+use Rattle.disk_core.specs.Moments.{EachImage, AtEachMoment}
 use Rattle.disk_core.proofs.Moments.{at_first}
 use Rattle.gate_log.specs.Logs.{disk_of, gate_of, is_closed, IsReady}
 use Rattle.gate_log.specs.declared.log.GateLog.{GateLog}
@@ -26,12 +26,16 @@ pub found_itself : {E : Type 0} (log records : List (Record E)) → MayFind log 
 found_itself log [] = refl
 found_itself log (r ∷ records) = inl refl
 
+module _ {E D : Type 0} (codec : Codec E) (state : D → DiskState) (old : GateLog D) (records : List (Record E)) where
+  -- each crash between two calls leaves the log
+  pub image_at_rest : (log : List (Record E)) → HasRecords codec state old log → EachImage (HoldsFront codec log records) (state (disk_of old)).story.now
+  image_at_rest log has = λ image left.
+      let rest = has.is_open.at_rest in
+      (log, found_itself log records, record { is_log = is_log (state (disk_of old)).story.now (payloads_of codec log) image rest.settled rest.log left; spelled = has.spelled })
+
 module _ {E D : Type 0} (T : Type 0) (codec : Codec E) (state : D → DiskState) (old : GateLog D) (ready : IsReady state old) (records : List (Record E)) where
   at_rest : (log : List (Record E)) → HasRecords codec state old log → AtEachMoment (state (disk_of old)).story (state (disk_of old)).story (HoldsFront codec log records)
-  at_rest log has =
-      let rest = has.is_open.at_rest in
-      at_first (state (disk_of old)).story (HoldsFront codec log records)
-      (λ image left. (log, found_itself log records, record { is_log = is_log (state (disk_of old)).story.now (payloads_of codec log) image rest.settled rest.log left; spelled = has.spelled }))
+  at_rest log has = at_first (state (disk_of old)).story (HoldsFront codec log records) (image_at_rest codec state old records log has)
 
   unchanged : (e : AppendError) → e ≢ Failed → (refusal {T = T} e ≡ Err Closed → is_closed old ≡ true) → (is_closed old ≡ true → refusal {T = T} e ≢ Err NoMemory → refusal {T = T} e ≡ Err Closed)
       → ((room : ℕ) → refusal {T = T} e ≡ Err (Full room) → (room ≡ (state (disk_of old)).room) × (is_closed old ≡ false) × (room < gate_of old + size codec records + 1))

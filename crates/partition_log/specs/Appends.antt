@@ -19,7 +19,7 @@ pub record Appends {E D T : Type 0} (codec : Codec E) (state : D → DiskState) 
   pub durable : OnOk result ((log : List (Record E)) → HasRecords codec state old log → EachImage (λ image. HoldsLog codec image (grown log records)) (state (disk_of new)).story.now)
   -- a crash at any moment leaves the log before with the first of them, or none, or all
   pub any_moment : (log : List (Record E)) → HasRecords codec state old log → AtEachMoment (state (disk_of old)).story (state (disk_of new)).story (HoldsFront codec log records)
-  -- refused as closed exactly where an append failed before, but for memory
+  -- refused as closed exactly where the log is closed, but for memory
   pub was_closed : result ≡ Err Closed → is_closed old ≡ true
   pub closed : is_closed old ≡ true → result ≢ Err NoMemory → result ≡ Err Closed
   -- refused as full exactly where all of them together would pass the room, but for memory

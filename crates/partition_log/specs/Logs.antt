@@ -1,7 +1,8 @@
 -- A partition's log as a list of records, newest first, in the payloads of a log of byte strings.
-use Rattle.std.specs.Prelude.{◌≡◌, ℕ, ◌+◌, Bool, true, List, [], ◌∷◌, ◌++◌, length}
+use Rattle.std.specs.Prelude.{◌≡◌, ℕ, ◌+◌, Bool, true, List, [], ◌∷◌, ◌++◌, length, IsTrue}
 use Rattle.std.specs.List.{list_all}
 use Rattle.disk_core.specs.States.{DiskState}
+use Rattle.disk_core.specs.Moments.{EachImage}
 use Rattle.gate_log.specs.Log.{IsLog}
 use Rattle.gate_log.specs.Logs.{IsOpen}
 use Rattle.gate_log.specs.declared.log.GateLog.{GateLog}
@@ -26,6 +27,11 @@ module _ {E : Type 0} (codec : Codec E) where
   -- the bytes are the log before with the first of these records, or none, or all
   abbrev pub HoldsFront : List (Record E) → List (Record E) → List ℕ → Type 0
   HoldsFront log records bytes = (found : List (Record E)) × MayFind log records found × HoldsLog bytes found
+
+  -- The disk tells what it holds, and every crash leaves a log before with the first of these records, or none, or all.
+  pub record LeavesFront (log records : List (Record E)) (disk : DiskState) : Type 0 where
+    pub tells : IsTrue disk.tells
+    pub each : EachImage (HoldsFront log records) disk.story.now
 
   -- an open log over a disk that tells what it holds has these records
   pub record HasRecords {D : Type 0} (state : D → DiskState) (gates : GateLog D) (log : List (Record E)) : Type 0 where

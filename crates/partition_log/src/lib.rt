@@ -7,5 +7,5 @@ mod log;
 mod opening;
 mod payload;
 
-pub use laws::law_part_log;
+pub use laws::{law_fronts, law_part_log, law_sizes};
 pub use log::PartLog;

@@ -1,4 +1,4 @@
-ghost use Rattle.std.specs.Prelude.{◌≡◌, ◌≢◌, ◌⊎◌, ◌++◌, ◌∷◌, [], List, ℕ, map, reverse, true, false, Err, IsTrue, IfOk, IfErr, MatchResult};
+ghost use Rattle.std.specs.Prelude.{◌≡◌, ◌≢◌, ◌⊎◌, ◌++◌, ◌∷◌, [], List, ℕ, map, reverse, true, false, Err, IsTrue, IfOk, IfErr, OnOk, OnErr, MatchResult};
 ghost use Rattle.gate_log.specs.declared.error.AppendError.TheVariants.{NoMemory as OutOfMemory};
 ghost use Rattle.crdt_core.specs.Spelled.{is_tx};
 ghost use Rattle.crdt_core.specs.declared.record.Record.{Record};
@@ -7,12 +7,14 @@ ghost use Rattle.log_records.specs.Messages.{can_put_batch};
 ghost use Rattle.log_records.specs.Records.{can_put_record};
 ghost use Rattle.partition_log.specs.Codec.{codec_of};
 ghost use Rattle.partition_log.specs.Appends.{Appends};
-ghost use Rattle.partition_log.specs.Logs.{HoldsLog, HasRecords};
+ghost use Rattle.partition_log.specs.Logs.{HoldsLog, HoldsFront, LeavesFront, HasRecords};
 ghost use Rattle.partition_log.specs.Damage.{AreRecords, IsDamaged};
 ghost use Rattle.disk_core.specs.States.{GoesOn, Rose, Rests, Syncs, bytes_of};
+ghost use Rattle.disk_core.specs.Moments.{AtEachMoment};
+ghost use Rattle.crdt_core.specs.Log.{MayFind};
 
 use crate::append::{append_one, append_two};
-use crate::opening::{check_records, read_records};
+use crate::opening::{check_log, read_records};
 use crate::payload::{payload_of, payload_of_batch};
 use crdt_core::{Crdt, Message, Record};
 use disk_core::{Disk, Fused};
@@ -34,7 +36,7 @@ pub struct PartLog<C: Crdt, D: Disk + Drop> {
 }
 
 impl<C: Crdt, D: Disk + Drop> PartLog<C, D> {
-    ghost use Rattle.gate_log.specs.Logs.{IsReady, disk_of, is_closed, read_at_opening};
+    ghost use Rattle.gate_log.specs.Logs.{IsReady, disk_of, gate_of, is_closed, read_at_opening};
     ghost use Rattle.gate_log.specs.Rest.{Lowers};
     ghost use Rattle.gate_log.specs.declared.error.OpenError.TheVariants.{Failed as OpenFailed, Damaged};
     ghost use Rattle.partition_log.specs.Gates.{gates_of, leases};
@@ -65,7 +67,7 @@ impl<C: Crdt, D: Disk + Drop> PartLog<C, D> {
     {
         match GateLog::open(alloc, disk) {
             Err(refused) => Err(refused),
-            Ok(log) => match check_records::<C>(alloc, log.payloads()) {
+            Ok(mut log) => match check_log::<C, D>(alloc, &mut log) {
                 Err(error) => Err((log.close(), error)),
                 Ok(()) => Ok(PartLog {
                     log,
@@ -75,13 +77,77 @@ impl<C: Crdt, D: Disk + Drop> PartLog<C, D> {
         }
     }
 
+    /// Opens the log of its disk again, as `open` does, also where it is closed. What was read before is let go first.
+    /// An `Err` leaves the log closed, with nothing read.
+    ///
+    /// Where every crash leaves a log with the first of some records, or none, or all, as after a call that was cut
+    /// off, the log has such a list again, it isn't damaged, and a crash inside the call leaves such a log too.
+    ///
+    /// # Errors
+    ///
+    /// As `open`.
+    pub fn reopen(&mut self, alloc: Global) -> Result<(), OpenError>
+        ensures opened { OnOk result ((records : List (Record C.Effect))
+            × AreRecords (codec_of C.spells) (read_at_opening (gates_of self.new)) records
+            × (IsTrue (D.state (disk_of (gates_of self.old))).tells
+            → HoldsLog (codec_of C.spells) (bytes_of (D.state (disk_of (gates_of self.old)))) records
+            × HasRecords (codec_of C.spells) D.state (gates_of self.new) records)) }
+        ensures opened_ready { OnOk result (IsReady D.state (gates_of self.new)
+            × (is_closed (gates_of self.new) ≡ false)) }
+        ensures closed { OnErr result ((is_closed (gates_of self.new) ≡ true)
+            × (read_at_opening (gates_of self.new) ≡ [])) }
+        ensures ready { IsReady D.state (gates_of self.old) → IsReady D.state (gates_of self.new) }
+        ensures damaged { (at : ℕ) → result ≡ Err (Damaged at) → IsTrue (D.state (disk_of (gates_of self.old))).tells
+            → IsDamaged (codec_of C.spells) (bytes_of (D.state (disk_of (gates_of self.old)))) at }
+        ensures failed { result ≡ Err OpenFailed
+            → Rose (D.state (disk_of (gates_of self.old))).faults (D.state (disk_of (gates_of self.new))).faults }
+        // All that the disk does is to sync, and that only once.
+        ensures synced { OnOk result
+            (Syncs (D.state (disk_of (gates_of self.old))) (D.state (disk_of (gates_of self.new)))) }
+        ensures synced_err { OnErr result
+            (Rests (D.state (disk_of (gates_of self.old))) (D.state (disk_of (gates_of self.new)))
+            ⊎ Syncs (D.state (disk_of (gates_of self.old))) (D.state (disk_of (gates_of self.new)))) }
+        ensures goes_on { GoesOn (D.state (disk_of (gates_of self.old))) (D.state (disk_of (gates_of self.new))) }
+        ensures left { Lowers 16
+            (D.state (disk_of (gates_of self.old))).left (D.state (disk_of (gates_of self.new))).left }
+        ensures finds { (log torn : List (Record C.Effect))
+            → LeavesFront (codec_of C.spells) log torn (D.state (disk_of (gates_of self.old)))
+            → OnOk result ((found : List (Record C.Effect)) × MayFind log torn found
+            × HasRecords (codec_of C.spells) D.state (gates_of self.new) found) }
+        ensures whole { (log torn : List (Record C.Effect))
+            → LeavesFront (codec_of C.spells) log torn (D.state (disk_of (gates_of self.old)))
+            → (at : ℕ) → result ≢ Err (Damaged at) }
+        ensures any_moment { (log torn : List (Record C.Effect))
+            → LeavesFront (codec_of C.spells) log torn (D.state (disk_of (gates_of self.old)))
+            → AtEachMoment (D.state (disk_of (gates_of self.old))).story (D.state (disk_of (gates_of self.new))).story
+            (HoldsFront (codec_of C.spells) log torn) }
+    {
+        self.log.reopen(alloc)?;
+        check_log::<C, D>(alloc, &mut self.log)?;
+        Ok(())
+    }
+
+    /// Lets go what was read at opening, with its memory, once its records are taken. The log is as before.
+    pub fn forget_read(&mut self)
+        ensures read { read_at_opening (gates_of self.new) ≡ [] }
+        ensures same { (disk_of (gates_of self.new) ≡ disk_of (gates_of self.old))
+            × (gate_of (gates_of self.new) ≡ gate_of (gates_of self.old))
+            × (is_closed (gates_of self.new) ≡ is_closed (gates_of self.old)) }
+        ensures has { (log : List (Record C.Effect))
+            → HasRecords (codec_of C.spells) D.state (gates_of self.old) log
+            → HasRecords (codec_of C.spells) D.state (gates_of self.new) log }
+        ensures ready { IsReady D.state (gates_of self.old) → IsReady D.state (gates_of self.new) }
+    {
+        self.log.forget_read();
+    }
+
     /// Appends a Lease up to a time. Takes no memory.
     ///
     /// # Errors
     ///
-    /// `Full` exactly where the record would pass the room of the disk, and `Closed` exactly where an append failed
-    /// before: the log is as before. `Failed` only where the disk fails: a crash leaves the list before or that with
-    /// the record, and every later append answers `Closed`.
+    /// `Full` exactly where the record would pass the room of the disk, and `Closed` exactly where the log is closed: it
+    /// is as before. `Failed` only where the disk fails: a crash leaves the list before or that with the record, and
+    /// every later append answers `Closed`, until the log is opened again.
     pub fn lease(&mut self, ceil: u64) -> Result<(), AppendError>
         requires { IsReady D.state (gates_of self.old) }
         ensures appends { Appends (codec_of C.spells) D.state result (gates_of self.old) (gates_of self.new) (Lease ceil ∷ []) }

@@ -1,5 +1,6 @@
 // Reading the payloads of a log as records.
-ghost use Rattle.std.specs.Prelude.{◌≡◌, ◌≢◌, ◌≤◌, ◌+◌, ◌^◌, ℕ, List, true, length, map, reverse, Err, OnOk, IfOk};
+ghost use Rattle.std.specs.Prelude.{◌≡◌, ◌≢◌, ◌≤◌, ◌+◌, ◌^◌, ℕ, List, [], true, length, map, reverse, Err, OnOk, OnErr, IfOk};
+ghost use Rattle.gate_log.specs.Logs.{disk_of, gate_of, is_closed, read_at_opening};
 ghost use Rattle.gate_log.specs.Payloads.{AreWithin};
 ghost use Rattle.gate_log.specs.declared.error.OpenError.TheVariants.{Failed, Damaged};
 ghost use Rattle.crdt_core.specs.declared.record.Record.{Record};
@@ -9,8 +10,9 @@ ghost use Rattle.partition_log.specs.Codec.{codec_of};
 ghost use Rattle.partition_log.specs.Damage.{IsRecord, AreRecords, IsRefusedAt};
 
 use crdt_core::{Crdt, Record};
+use disk_core::Disk;
 use field_codec::ListOf;
-use gate_log::{OpenError, Payloads};
+use gate_log::{GateLog, OpenError, Payloads};
 use log_records::{RecordError, take};
 use std::alloc::{AllocError, Global};
 
@@ -40,6 +42,27 @@ pub(crate) fn check_records<C: Crdt>(alloc: Global, payloads: Payloads<'_>) -> R
 {
     for (place, payload) in payloads {
         check_record::<C>(alloc, place, payload)?;
+    }
+    Ok(())
+}
+
+/// Whether the payloads that were read of a log are records. Where they aren't, or can't be read, the log is shut.
+pub(crate) fn check_log<C: Crdt, D: Disk + Drop>(
+    alloc: Global,
+    log: &mut GateLog<D>,
+) -> Result<(), OpenError>
+    ensures records { OnOk result ((records : List (Record C.Effect))
+        × AreRecords (codec_of C.spells) (read_at_opening log.old) records) }
+    ensures same { OnOk result (log.new ≡ log.old) }
+    ensures damaged { (at : ℕ) → result ≡ Err (Damaged at)
+        → IsRefusedAt (codec_of C.spells) (read_at_opening log.old) at }
+    ensures reads { result ≢ Err Failed }
+    ensures shut { OnErr result ((is_closed log.new ≡ true) × (read_at_opening log.new ≡ [])) }
+    ensures left { (disk_of log.new ≡ disk_of log.old) × (gate_of log.new ≡ gate_of log.old) }
+{
+    if let Err(error) = check_records::<C>(alloc, log.payloads()) {
+        log.shut();
+        return Err(error);
     }
     Ok(())
 }

@@ -1,0 +1,33 @@
+// What a maker of disks is.
+ghost use Rattle.std.specs.Prelude.{◌≤◌, ◌-◌, ◌^◌};
+ghost use Rattle.disk_makers.specs.Makers.{Maker, Makes, TakesBack};
+
+use crate::MakeFault;
+use disk_core::Disk;
+use site_vector::PartId;
+use std::alloc::Global;
+
+/// Whoever makes the disk of each partition, and gets it back.
+///
+/// Its state tells a count of faults that never falls, how many disks are out, and, where it keeps them, the disks that
+/// were given back. A call answers `Failed` only where the count rose.
+pub trait Disks {
+    type Disk: Disk + Drop;
+
+    ghost state: { Self → Maker Self.Disk };
+
+    /// Makes the disk of a partition. It is formatted, holds no record and has met no fault.
+    ///
+    /// # Errors
+    ///
+    /// `Failed` where the disk can't be made, and `NoMemory` where memory runs out. No disk is out for it then.
+    fn make(&mut self, alloc: Global, part: PartId) -> Result<Self::Disk, MakeFault>
+        ensures { Makes Self.Disk.state result (state self.old) (state self.new) };
+
+    /// Takes back the disk of a partition, where one is out. Takes no memory: its place was taken when it was made.
+    fn give_back(&mut self, part: PartId, disk: Self::Disk)
+        requires { 1 ≤ (state self.old).out }
+        ensures { TakesBack part disk (state self.old) (state self.new) };
+
+    ghost faults_fit: { (maker : Self) → (state maker).faults ≤ 2 ^ 64 - 1 };
+}

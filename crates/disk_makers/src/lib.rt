@@ -1,0 +1,10 @@
+//! Makers of disks: each disk that they make holds a log without a record, and goes back to them in the end.
+#![tactic(auto)]
+
+mod disks;
+mod error;
+mod memory;
+
+pub use disks::Disks;
+pub use error::MakeFault;
+pub use memory::MemDisks;
