@@ -1,0 +1,4 @@
+pub mod Choices
+pub mod EntryLists
+pub mod PartLists
+pub mod Slots

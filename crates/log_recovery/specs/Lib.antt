@@ -1,0 +1,5 @@
+pub mod Lists
+pub mod Ledgers
+pub mod Recovered
+pub mod Rising
+pub mod FittingLaws
