@@ -6,6 +6,10 @@ pub when_ok : {A B : Type 0} (r : Result A B) (P : Type 0) → IsOk r → OnOk r
 when_ok (Ok a) P h p = p
 when_ok (Err b) P h p = let v : ⊥ = cc in absurd v
 
+pub on_ok : {A B : Type 0} (r : Result A B) (P Q : Type 0) → (P → Q) → OnOk r P → OnOk r Q
+on_ok (Ok a) P Q f p = f p
+on_ok (Err b) P Q f p = tt
+
 pub or_swap : (a b c : Bool) → (a || (b || c)) ≡ (b || (a || c))
 or_swap true true c = refl
 or_swap true false c = refl
@@ -49,3 +53,12 @@ pub stops : (b h p c a : Bool) → (b || h) ≡ (p && not (c || a)) → (b ≡ t
 stops true h p true a e f = f refl ∙ sym (and_none p)
 stops true h p false a e f = f refl ∙ sym (and_none p)
 stops false h p c a e f = e
+
+-- what is committed is held
+pub ends : (b c t : Bool) → ((c || t) || (b || false)) ≡ ((b || c) || t)
+ends true true t = refl
+ends true false true = refl
+ends true false false = refl
+ends false true t = refl
+ends false false true = refl
+ends false false false = refl

@@ -57,8 +57,8 @@ module _ {E : Type 0} where
       let e : p u ≡ Some r.0 = ap p (sym r.3) ∙ a.held r.0 r.1 r.2 in
       let f : None ≡ Some r.0 = none ∙ e in cc
 
-  pub placed_push : (p q : TxId → Option ℕ) (xs : List (Option (Entry E))) (y : Entry E) → ArePlaced p xs → has_entry (kept xs) y.tx ≡ false → ((u : TxId) → q u ≡ cond (same_tx y.tx u) (Some (length xs)) (p u)) → ArePlaced q (xs ++ Some y ∷ [])
-  placed_push p q xs y a new put = record {
+  pub placed_push : (p q : TxId → Option ℕ) (xs : List (Option (Entry E))) (y : Entry E) (k : ℕ) → ArePlaced p xs → has_entry (kept xs) y.tx ≡ false → k ≡ length xs → ((u : TxId) → q u ≡ cond (same_tx y.tx u) (Some k) (p u)) → ArePlaced q (xs ++ Some y ∷ [])
+  placed_push p q xs y k a new at put_at = let put : (u : TxId) → q u ≡ cond (same_tx y.tx u) (Some (length xs)) (p u) = λ u. put_at u ∙ ap (λ j. cond (same_tx y.tx u) (Some j) (p u)) at in record {
     held = λ n x h. ⊎_elim
         (λ (e : slice_get xs n ≡ Some (Some x)). put x.tx ∙ cond-false (same_tx y.tx x.tx) (Some (length xs)) (p x.tx) (other x (has_slot xs n x e)) ∙ a.held n x e)
         (λ (e : (n ≡ length xs) × (Some x ≡ Some y)). put x.tx ∙ cond-true (same_tx y.tx x.tx) (Some (length xs)) (p x.tx) (subst (λ z. same_tx y.tx z.tx ≡ true) (sym (some_is x y e.1)) (same_tx_refl y.tx)) ∙ ap (λ k. Some k) (sym e.0))

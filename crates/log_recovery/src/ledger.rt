@@ -1,9 +1,9 @@
 ghost use Rattle.std.specs.Prelude.{◌≡◌, ◌≤◌, ◌∷◌, ◌++◌, [], ℕ, List, true, length, replicate, OnOk, None};
 ghost use Rattle.site_vector.specs.declared.ids.PartId.{PartId};
 ghost use Rattle.crdt_core.specs.declared.record.Record.{Record};
-ghost use Rattle.crdt_core.specs.Fitting.{fits_record};
+ghost use Rattle.crdt_core.specs.Fitting.{unfit};
 ghost use Rattle.prepared_table.specs.Entries.{has_entry};
-ghost use Rattle.log_recovery.specs.Ledgers.{IsLedger, IsNext, IsSame, Commits, raised};
+ghost use Rattle.log_recovery.specs.Ledgers.{IsLedger, IsNext, IsSame, Reads, Commits, raised};
 
 use crate::waiting::Waiting;
 use crdt_core::{Message, Part, Record};
@@ -46,7 +46,7 @@ impl<E: Drop> Ledger<E> {
     /// `AllocError` where memory runs out. The ledger is of no use then.
     pub(crate) fn read(&mut self, next: Record<E>) -> Result<(), AllocError>
         requires { IsNext self.old next }
-        ensures read { OnOk result ((sites parts : ℕ) (id : PartId) (log : List (Record E)) → IsLedger log self.old → fits_record sites parts id log next ≡ true → IsLedger (next ∷ log) self.new) }
+        ensures read { OnOk result (Reads self.old next self.new) }
         ensures width { OnOk result (length self.new.bounds ≡ length self.old.bounds) }
     {
         match next {
