@@ -1,8 +1,9 @@
 pub mod Choices
 pub mod EntryLists
+pub mod FateSteps
 pub mod PartLists
 pub mod Progress
 pub mod Reading
 pub mod Records
+pub mod Replacing
 pub mod Slots
-pub mod Vectors

@@ -23,7 +23,7 @@ use Rattle.log_recovery.proofs.Choices.{second_true}
 use Rattle.log_recovery.proofs.EntryLists.{entries_wide}
 use Rattle.log_recovery.proofs.PartLists.{parts_wide}
 use Rattle.log_recovery.proofs.Records.{can_read}
-use Rattle.log_recovery.proofs.Vectors.{entry_replaced, entry_other, width_replaced}
+use Rattle.log_recovery.proofs.Replacing.{entry_replaced, entry_other, width_replaced}
 
 module _ {E : Type 0} where
   pub grown_is : (log rs : List (Record E)) → grown log rs ≡ reverse rs ++ log

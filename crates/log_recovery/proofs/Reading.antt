@@ -21,7 +21,7 @@ use Rattle.log_recovery.specs.Lists.{told, AreEntries, AreSingle, AreApart}
 use Rattle.log_recovery.specs.Ledgers.{ArePending, AreHeld, AreBounds, raised}
 use Rattle.log_recovery.specs.FittingLaws.{IsUnknown, unknown, part_new, prepares, decides, finishes, brings, rest_fits, last_fits, pending_untaken}
 use Rattle.log_recovery.proofs.Choices.{or_turn, not_committed, begins, leaves, stops, ends}
-use Rattle.log_recovery.proofs.Vectors.{entry_replaced, entry_other, width_replaced}
+use Rattle.log_recovery.proofs.Replacing.{entry_replaced, entry_other, width_replaced}
 use Rattle.log_recovery.proofs.EntryLists.{has_push, entries_push, single_push, entries_alike, has_between, entries_without, entry_there, alone, single_without}
 use Rattle.log_recovery.proofs.PartLists.{lists_append, parts_append, apart_append, parts_alike, parts_own, are_apart_is}
 

@@ -5,6 +5,7 @@ ghost use Rattle.crdt_core.specs.Fitting.{unfit};
 ghost use Rattle.prepared_table.specs.Entries.{has_entry};
 ghost use Rattle.log_recovery.specs.Ledgers.{IsLedger, IsNext, IsSame, Reads, Commits, raised};
 
+use crate::vectors::raise;
 use crate::waiting::Waiting;
 use crdt_core::{Message, Part, Record};
 use field_codec::ListOf;
@@ -108,15 +109,6 @@ impl<E: Drop> Ledger<E> {
         self.bounds = raise(&self.bounds, from, message.hi);
         append(&mut self.committed, message.parts)
     }
-}
-
-/// The bounds with that of a site raised to a time, unless it is there already.
-fn raise(bounds: &VTime, site: u8, hi: u64) -> VTime
-    requires least { 1 ≤ site }
-    requires most { site ≤ length bounds.now }
-    ensures { result ≡ raised bounds.now site hi }
-{
-    bounds.with(site, hi.max(bounds.get(site)))
 }
 
 /// Adds parts at the end.

@@ -1,8 +1,13 @@
 //! What a partition's log tells when it is read again after a crash.
 #![tactic(auto)]
 
+mod fitting;
 mod ledger;
+mod messages;
 mod recovery;
+mod seen;
+mod vectors;
 mod waiting;
 
+pub use fitting::unfit;
 pub use recovery::{Rebuilt, rebuild};
