@@ -1,8 +1,9 @@
 -- The fates that a log tells, after one record more.
-use Rattle.std.proofs.Common.{◌≡◌, ⊎_elim, ℕ, ◌≤◌, Bool, true, false, not, ◌&&◌, ◌||◌, List, [], ◌∷◌, length, Option, None, Some, is_none, is_some, cond, refl, sym, ap, ◌∙◌, subst}
+use Rattle.std.proofs.Common.{◌≡◌, ⊎_elim, ℕ, ◌≤◌, Bool, true, false, not, ◌&&◌, ◌||◌, List, [], ◌∷◌, length, Option, None, Some, is_none, is_some, cond, get_or, drop, ◌<◌, ◌+◌, refl, sym, ap, ◌∙◌, subst}
 use Rattle.std.specs.Prelude.{◌==◌, if◌then◌else◌}
 use Rattle.std.specs.List.{list_all}
 use Rattle.std.proofs.lemmas.Bool.{true≢false, cases_Bool, cond-true, cond-false}
+use Rattle.std.proofs.lemmas.List.{drop_more}
 use Rattle.site_vector.specs.declared.ids.PartId.{PartId}
 use Rattle.site_vector.specs.declared.ids.TxId.{TxId}
 use Rattle.site_vector.specs.Ids.{same_tx}
@@ -108,3 +109,11 @@ wide_end sites f g gone put all u vote e = ⊎_elim
     (λ (s : gone u ≡ true). let is : Some Ended ≡ Some (Waits vote) = sym (put u ∙ cond-true (gone u) (Some Ended) (f u) s) ∙ e in absurd (let v : ⊥ = cc in v))
     (λ (s : gone u ≡ false). all u vote (sym (put u ∙ cond-false (gone u) (Some Ended) (f u) s) ∙ e))
     (cases_Bool (gone u))
+
+pub none_from : {A : Type 0} (o : Option A) → is_some o ≡ false → None ≡ o
+none_from None h = refl
+none_from (Some x) h = absurd (true≢false h)
+
+-- the next of what is left
+pub rest_of : {A : Type 0} (xs : List A) (i : ℕ) (x : A) → i < length xs → x ≡ get_or xs i x → drop i xs ≡ x ∷ drop (i + 1) xs
+rest_of xs i x h e = drop_more xs i x h ∙ ap (λ y. y ∷ drop (i + 1) xs) (sym e)

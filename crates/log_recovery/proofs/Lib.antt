@@ -6,4 +6,5 @@ pub mod Progress
 pub mod Reading
 pub mod Records
 pub mod Replacing
+pub mod Seeing
 pub mod Slots

@@ -90,11 +90,14 @@ module _ {E : Type 0} where
   abbrev pub Sees : Seen → Record E → Seen → Type 0
   Sees old r new = (log : List (Record E)) → IsSeen log old → fits_record old.sites old.parts old.id log r ≡ true → IsSeen (r ∷ log) new
 
+  -- the snapshot, the updates and the time of a vote
+  abbrev pub is_vote : ℕ → ℕ → PartId → ℕ → Vote → List (Upd E) → Bool
+  is_vote sites parts id ceiling vote w = is_vector sites vote.s && (stand_at parts id.part w && (ltb (entry vote.s id.site) vote.time && leb vote.time ceiling))
+
   -- a vote that fits, unless it is of a transaction that was named
   abbrev pub may_prepare : ℕ → ℕ → PartId → Bool → ℕ → TxId → Vote → List (Upd E) → Bool
   may_prepare sites parts id named ceiling t vote w =
-      t.site == id.site && (leb 1 t.part && (leb t.part parts && (not named && (leb 1 vote.lead && (leb vote.lead id.part
-      && (is_vector sites vote.s && (stand_at parts id.part w && (ltb (entry vote.s id.site) vote.time && leb vote.time ceiling))))))))
+      t.site == id.site && (leb 1 t.part && (leb t.part parts && (not named && (leb 1 vote.lead && (leb vote.lead id.part && is_vote sites parts id ceiling vote w)))))
 
   -- a message for the partition
   abbrev pub is_for : ℕ → PartId → Message E → Bool

@@ -1,11 +1,12 @@
-ghost use Rattle.std.specs.Prelude.{◌≡◌, ◌≤◌, [], ◌∷◌, true, cond, is_some, length, Some, IfOk, OnOk};
+ghost use Rattle.std.specs.Prelude.{◌≡◌, ◌≤◌, ◌&&◌, true, leb, ltb, cond, is_some, length, Some, IfOk, OnOk};
 ghost use Rattle.std.specs.HashMap.{get};
 ghost use Rattle.site_vector.specs.declared.ids.TxId.{TxId};
 ghost use Rattle.site_vector.specs.Ids.{same_tx};
+ghost use Rattle.site_vector.specs.Vector.{entry};
 ghost use Rattle.crdt_core.specs.declared.record.Record.TheVariants.{Lease, Prepare, Decide, Finish, Abort, Batch};
 ghost use Rattle.crdt_core.specs.Parts.{lists};
 ghost use Rattle.log_recovery.specs.declared.seen.Fate.TheVariants.{Waits, Ended};
-ghost use Rattle.log_recovery.specs.Fates.{fates_of, IsEmpty, may_end, vote_of, IsSound, IsSamePlace, IsSeen, Judges, Sees, may_commit, may_prepare, may_bring, are_new};
+ghost use Rattle.log_recovery.specs.Fates.{fates_of, IsEmpty, may_end, vote_of, IsSound, IsSamePlace, IsSeen, Judges, Sees, may_commit, may_prepare, is_vote, may_bring, are_new};
 ghost use Rattle.log_recovery.specs.Ledgers.{raised};
 
 use crate::messages::{fit_all, is_for, stand_at};
@@ -141,10 +142,26 @@ impl Seen {
             && !self.fates.contains_key(&tx)
             && vote.lead >= 1
             && vote.lead <= self.id.part
-            && is_vector(&vote.s, self.sites)
+            && self.is_vote(vote, updates)
+    }
+
+    /// Whether the snapshot, the updates and the time of a vote fit.
+    fn is_vote<E>(&self, vote: &Vote, updates: &[Upd<E>]) -> bool
+        requires { IsSound self.now }
+        ensures { result ≡ is_vote self.now.sites self.now.parts self.now.id self.now.ceiling vote.now updates.now }
+    {
+        is_vector(&vote.s, self.sites)
             && stand_at(updates, self.parts, self.id.part)
-            && vote.s.get(self.id.site) < vote.time
-            && vote.time <= self.ceiling
+            && self.is_timely(vote)
+    }
+
+    /// Whether the time of a vote is above its snapshot, and under the ceiling.
+    fn is_timely(&self, vote: &Vote) -> bool
+        requires sound { IsSound self.now }
+        requires width { length vote.now.s ≡ self.now.sites }
+        ensures { result ≡ (ltb (entry vote.now.s self.now.id.site) vote.now.time && leb vote.now.time self.now.ceiling) }
+    {
+        vote.s.get(self.id.site) < vote.time && vote.time <= self.ceiling
     }
 
     /// Whether a commit fits: at the lead, or else at another participant.
