@@ -1,8 +1,8 @@
 -- How each kind of record is judged, and what is seen after it.
-use Rattle.std.proofs.Common.{◌≡◌, ◌≢◌, ⊎_elim, ℕ, ◌≤◌, leb, max, suc, Bool, true, false, not, ◌&&◌, ◌||◌, List, [], ◌∷◌, ◌++◌, length, reverse, Option, None, Some, is_none, is_some, cond, get_or, drop, ◌<◌, ◌+◌, refl, sym, ap, ◌∙◌, subst, arith}
+use Rattle.std.proofs.Common.{◌≡◌, ◌≢◌, ⊎_elim, ℕ, ◌≤◌, leb, max, suc, Bool, true, false, not, ◌&&◌, ◌||◌, List, [], ◌∷◌, ◌++◌, length, reverse, Option, None, Some, is_none, is_some, cond, get_or, drop, ◌<◌, ◌+◌, Result, Ok, Err, OnOk, IfOk, refl, sym, ap, ◌∙◌, subst, arith}
 use Rattle.std.specs.Prelude.{◌==◌, if◌then◌else◌}
 use Rattle.std.specs.List.{list_all}
-use Rattle.std.proofs.lemmas.Bool.{true≢false, cases_Bool, and_parts, not-true, leb-true}
+use Rattle.std.proofs.lemmas.Bool.{true≢false, cases_Bool, and_parts, not-true, eqb-true, leb-true}
 use Rattle.std.proofs.lemmas.List.{drop_more}
 use Rattle.site_vector.specs.declared.ids.PartId.{PartId}
 use Rattle.site_vector.specs.declared.ids.TxId.{TxId}
@@ -14,7 +14,7 @@ use Rattle.crdt_core.specs.declared.record.Part.{Part}
 use Rattle.crdt_core.specs.declared.record.Message.{Message}
 use Rattle.crdt_core.specs.declared.record.Record.{Record}
 use Rattle.crdt_core.specs.declared.record.Record.TheVariants.{Lease, Prepare, Decide, Finish, Abort, Batch}
-use Rattle.crdt_core.specs.Fitting.{fits_part, are_apart, fits_message, fits_record, unfit, unfit_next}
+use Rattle.crdt_core.specs.Fitting.{is_vector, fits_part, are_apart, fits_message, fits_record, unfit, unfit_next}
 use Rattle.crdt_core.specs.Log.{end_of_time, ceiling, prepared, committed, aborted, pending, logged_bound, is_named_in, grown}
 use Rattle.crdt_core.specs.Parts.{lists}
 use Rattle.log_recovery.specs.declared.seen.Fate.{Fate}
@@ -25,6 +25,7 @@ use Rattle.log_recovery.specs.Fates.{fate_of, vote_of, fates_of, fate_in, vote_i
 use Rattle.log_recovery.specs.FittingLaws.{unknown, part_new, prepares, brings}
 use Rattle.log_recovery.specs.Ledgers.{AreBounds, raised}
 use Rattle.log_recovery.proofs.FateSteps.{begun, over, stopped, brought, has_fate, has_none, has_vote, pending_named}
+use Rattle.log_recovery.proofs.Progress.{whole_is}
 use Rattle.log_recovery.proofs.Reading.{batch_bounds}
 
 module _ {E : Type 0} (seen : Seen) (log : List (Record E)) (s : IsSeen log seen) where
@@ -156,3 +157,85 @@ module _ {E : Type 0} (old new : Seen) where
             ∙ brought (lists m.parts u) (pending log u) (is_named_in log u) (vote_in log u) (λ x. ap (λ p. p && not (committed log u || aborted log u)) (unknown log u (part_new log m.parts u r.new x)).prepared);
         bounds = subst (λ x. AreBounds (Batch m ∷ log) x) (sym b) (batch_bounds old.sites old.parts old.id log m old.bounds r.first (subst (λ n. m.from ≤ n) (sym w) r.last) s.bounds);
       }
+
+  -- a message that may be brought fits where its parts are new
+  pub brings_seen : {X : Type 0} (r : Result Bool X) (m : Message E) (ps : List (Part E)) → ps ≡ m.parts → length old.bounds ≡ old.sites → true ≡ may_bring old.sites old.parts old.id old.bounds m → new.ceiling ≡ old.ceiling
+      → IfOk r (λ fits. fits ≡ are_new (fates_of old) ps) → IfOk r (λ fits. fits ≡ true → (u : TxId) → fates_of new u ≡ cond (lists ps u) (Some Ended) (fates_of old u)) → new.bounds ≡ raised old.bounds m.from m.hi → OnOk r (Sees old (Batch m) new)
+  brings_seen (Err x) m ps is w may e judged put b = tt
+  brings_seen (Ok fits) m ps is w may e judged put b = λ log s h.
+      let fit : fits ≡ true = judged ∙ ap (λ l. are_new (fates_of old) l) is ∙ ap (λ x. x && are_new (fates_of old) m.parts) may ∙ judged_batch old log s m w ∙ h in
+      sees_batch m w e (λ u. put fit u ∙ ap (λ l. cond (lists l u) (Some Ended) (fates_of old u)) is) b log s h
+
+-- a vote that fits has a snapshot with an entry for each site
+pub prepare_wide : {E : Type 0} (sites parts : ℕ) (id : PartId) (named : Bool) (most : ℕ) (t : TxId) (v : Vote) (w : List (Upd E)) → may_prepare sites parts id named most t v w ≡ true → length v.s ≡ sites
+prepare_wide sites parts id named most t v w h =
+    let a = and_parts (t.site == id.site) _ h in
+    let b = and_parts (leb 1 t.part) _ a.1 in
+    let c = and_parts (leb t.part parts) _ b.1 in
+    let d = and_parts (not named) _ c.1 in
+    let e = and_parts (leb 1 v.lead) _ d.1 in
+    let f = and_parts (leb v.lead id.part) _ e.1 in
+    let g = and_parts (is_vector sites v.s) _ f.1 in
+    eqb-true (length v.s) sites (and_parts (length v.s == sites) _ g.0).0
+
+-- an answer that a record doesn't fit is the log's first
+pub unfit_grown : {E : Type 0} (sites parts : ℕ) (id : PartId) (n : ℕ) (log more : List (Record E)) → unfit sites parts id log ≡ Some n → unfit sites parts id (grown log more) ≡ Some n
+unfit_grown sites parts id n log [] h = h
+unfit_grown sites parts id n log (r ∷ more) h = unfit_grown sites parts id n (r ∷ log) more (ap (λ o. unfit_next o (fits_record sites parts id log r) (length log)) h)
+
+module _ {E : Type 0} (sites parts : ℕ) (id : PartId) (whole : List (Record E)) where
+  -- of the whole log a front was seen, in which all fit, and the rest is to come
+  pub record IsSeeing (n : ℕ) (rest : List (Record E)) (seen : Seen) : Type 0 where
+    pub log : List (Record E)
+    pub is : IsSeen log seen
+    pub left : grown log rest ≡ whole
+    pub fit : unfit sites parts id log ≡ None
+    pub many : length log ≡ n
+    pub sound : IsSound seen
+    pub same_id : seen.id ≡ id
+    pub same_sites : seen.sites ≡ sites
+    pub same_parts : seen.parts ≡ parts
+
+  module _ (n : ℕ) (all rest : List (Record E)) (r : Record E) (old : Seen) (e : all ≡ r ∷ rest) (p : IsSeeing n all old) where
+    left : grown p.log (r ∷ rest) ≡ whole
+    left = ap (λ x. grown p.log x) (sym e) ∙ p.left
+
+    judged : (fits : Bool) → Judges old r fits → fits ≡ fits_record sites parts id p.log r
+    judged fits j = j p.log p.is ∙ (λ i. fits_record (p.same_sites i) (p.same_parts i) (p.same_id i) p.log r)
+
+    pub seeing_more : (new : Seen) (fits : Bool) → fits ≡ true → Judges old r fits → Sees old r new → IsSound new → IsSamePlace old new → IsSeeing (n + 1) rest new
+    seeing_more new fits h j sees sound same =
+        let f : fits_record sites parts id p.log r ≡ true = sym (judged fits j) ∙ h in
+        let g : fits_record old.sites old.parts old.id p.log r ≡ true = sym (j p.log p.is) ∙ h in record {
+          log = r ∷ p.log;
+          is = sees p.log p.is g;
+          left = left;
+          fit = ap (λ o. unfit_next o (fits_record sites parts id p.log r) (length p.log)) p.fit ∙ ap (λ b. unfit_next None b (length p.log)) f;
+          many = (let m = p.many in omega (arith, m));
+          sound = sound;
+          same_id = same.id ∙ p.same_id;
+          same_sites = same.sites ∙ p.same_sites;
+          same_parts = same.parts ∙ p.same_parts;
+        }
+
+    pub seeing_stops : (fits : Bool) → fits ≡ false → Judges old r fits → Some n ≡ unfit sites parts id whole
+    seeing_stops fits h j =
+        let f : fits_record sites parts id p.log r ≡ false = sym (judged fits j) ∙ h in
+        let here : unfit sites parts id (r ∷ p.log) ≡ Some n = ap (λ o. unfit_next o (fits_record sites parts id p.log r) (length p.log)) p.fit ∙ ap (λ b. unfit_next None b (length p.log)) f ∙ ap (λ k. Some k) p.many in
+        sym (ap (λ l. unfit sites parts id l) (sym left) ∙ unfit_grown sites parts id n (r ∷ p.log) rest here)
+
+  pub seeing_ends : (n : ℕ) (all : List (Record E)) (seen : Seen) → all ≡ [] → IsSeeing n all seen → None ≡ unfit sites parts id whole
+  seeing_ends n all seen e p = sym p.fit ∙ ap (λ l. unfit sites parts id l) (ap (λ x. grown p.log x) (sym e) ∙ p.left)
+
+pub seeing_starts : {E : Type 0} (sites parts : ℕ) (id : PartId) (rs : List (Record E)) (seen : Seen) → IsEmpty seen → IsSound seen → seen.id ≡ id → seen.sites ≡ sites → seen.parts ≡ parts → IsSeeing sites parts id (reverse rs) 0 rs seen
+seeing_starts sites parts id rs seen none sound i j k = record {
+  log = [];
+  is = record { ceiling = none.ceiling; fates = none.fates; bounds = λ q least most. none.bounds q };
+  left = whole_is rs;
+  fit = refl;
+  many = refl;
+  sound = sound;
+  same_id = i;
+  same_sites = j;
+  same_parts = k;
+}
