@@ -1,11 +1,10 @@
 -- Lists of pending transactions: one more, and one less.
-use Rattle.std.proofs.Common.{◌≡◌, ⊎_elim, ℕ, ◌≤◌, Bool, true, false, ◌||◌, List, [], ◌∷◌, ◌++◌, length, refl, sym, ap, ◌∙◌, subst}
+use Rattle.std.proofs.Common.{◌≡◌, ℕ, true, false, ◌||◌, List, [], ◌∷◌, ◌++◌, length, refl, sym, ap, ◌∙◌}
 use Rattle.std.proofs.lemmas.Bool.{or_left, or_right, or_parts, or_from}
 use Rattle.site_vector.specs.declared.ids.TxId.{TxId}
 use Rattle.site_vector.specs.Ids.{same_tx}
-use Rattle.site_vector.specs.Order.{same_tx_is, same_tx_refl, same_tx_symm}
+use Rattle.site_vector.specs.Order.{same_tx_refl, same_tx_symm}
 use Rattle.crdt_core.specs.declared.record.Upd.{Upd}
-use Rattle.crdt_core.specs.declared.record.Record.{Record}
 use Rattle.prepared_table.specs.declared.entry.Entry.{Entry}
 use Rattle.prepared_table.specs.Entries.{has_entry}
 use Rattle.log_recovery.specs.Lists.{AreEntries, AreSingle, AreWideEntries}

@@ -1,22 +1,21 @@
 -- The fates that a log tells, after one record more.
-use Rattle.std.proofs.Common.{◌≡◌, ⊎_elim, ℕ, ◌≤◌, Bool, true, false, not, ◌&&◌, ◌||◌, List, [], ◌∷◌, length, Option, None, Some, is_none, is_some, cond, get_or, drop, ◌<◌, ◌+◌, refl, sym, ap, ◌∙◌, subst}
-use Rattle.std.specs.Prelude.{◌==◌, if◌then◌else◌}
+use Rattle.std.proofs.Common.{◌≡◌, ⊎_elim, ℕ, Bool, true, false, not, ◌&&◌, ◌||◌, List, [], ◌∷◌, length, Option, None, Some, is_none, is_some, cond, get_or, drop, ◌<◌, ◌+◌, refl, sym, ap, ◌∙◌}
+use Rattle.std.specs.Prelude.{if◌then◌else◌}
 use Rattle.std.specs.List.{list_all}
 use Rattle.std.proofs.lemmas.Bool.{true≢false, cases_Bool, cond-true, cond-false}
 use Rattle.std.proofs.lemmas.List.{drop_more}
-use Rattle.site_vector.specs.declared.ids.PartId.{PartId}
 use Rattle.site_vector.specs.declared.ids.TxId.{TxId}
 use Rattle.site_vector.specs.Ids.{same_tx}
-use Rattle.site_vector.specs.Order.{same_tx_is, same_tx_symm}
+use Rattle.site_vector.specs.Order.{same_tx_symm}
 use Rattle.crdt_core.specs.declared.record.Part.{Part}
 use Rattle.crdt_core.specs.declared.record.Record.{Record}
 use Rattle.crdt_core.specs.Fitting.{are_apart}
-use Rattle.crdt_core.specs.Log.{prepared, committed, aborted, pending, is_named_in}
+use Rattle.crdt_core.specs.Log.{pending, is_named_in}
 use Rattle.crdt_core.specs.Parts.{lists}
 use Rattle.log_recovery.specs.declared.seen.Fate.{Fate}
 use Rattle.log_recovery.specs.declared.seen.Fate.TheVariants.{Waits, Ended}
 use Rattle.log_recovery.specs.declared.seen.Vote.{Vote}
-use Rattle.log_recovery.specs.Fates.{fate_of, vote_of, fate_in, vote_in, AreWideVotes, are_new}
+use Rattle.log_recovery.specs.Fates.{fate_of, vote_of, AreWideVotes, are_new}
 use Rattle.log_recovery.specs.FittingLaws.{prepared_named, pending_prepared}
 use Rattle.log_recovery.proofs.Choices.{and_none}
 

@@ -1,7 +1,7 @@
 -- Lists of parts: more behind them, and what is told of them.
-use Rattle.std.proofs.Common.{◌≡◌, ⊎_elim, ℕ, Bool, true, false, not, ◌||◌, List, [], ◌∷◌, ◌++◌, length, refl, sym, ap, ◌∙◌, subst}
+use Rattle.std.proofs.Common.{◌≡◌, ℕ, true, false, not, ◌||◌, List, [], ◌∷◌, ◌++◌, length, refl, sym, ap, ◌∙◌}
 use Rattle.std.specs.Prelude.{if◌then◌else◌}
-use Rattle.std.proofs.lemmas.Bool.{true≢false, or_left, or_right, or_parts, or_from, and_parts, not-true, false_from_ne_true}
+use Rattle.std.proofs.lemmas.Bool.{true≢false, or_left, or_right, or_from, and_parts, not-true, false_from_ne_true}
 use Rattle.site_vector.specs.declared.ids.TxId.{TxId}
 use Rattle.site_vector.specs.Ids.{same_tx}
 use Rattle.site_vector.specs.Order.{same_tx_is, same_tx_refl}
@@ -40,7 +40,7 @@ module _ {E : Type 0} where
   parts_own [] h = tt
   parts_own (x ∷ xs) h =
       let other : (u : TxId) → lists xs u ≡ true → same_tx x.tx u ≡ false =
-          λ u k. false_from_ne_true _ (λ e. true≢false (sym k ∙ ap (λ t. lists xs t) (sym (same_tx_is x.tx u e)) ∙ h.0)) in (
+      λ u k. false_from_ne_true _ (λ e. true≢false (sym k ∙ ap (λ t. lists xs t) (sym (same_tx_is x.tx u e)) ∙ h.0)) in (
         (ap (λ b. if b then x.c else vector_in xs x.tx) (sym (same_tx_refl x.tx)), ap (λ b. if b then x.updates else changes_in xs x.tx) (sym (same_tx_refl x.tx))),
         parts_alike (vector_in xs) (vector_in (x ∷ xs)) (changes_in xs) (changes_in (x ∷ xs)) xs
             (λ u k. (ap (λ b. if b then x.c else vector_in xs u) (sym (other u k)), ap (λ b. if b then x.updates else changes_in xs u) (sym (other u k))))

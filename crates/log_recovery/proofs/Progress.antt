@@ -1,22 +1,21 @@
 -- A log that is read record by record, and what it comes to.
-use Rattle.std.proofs.Common.{◌≡◌, ◌≢◌, ◌⊎◌, inl, inr, ⊎_elim, ℕ, ◌≤◌, ◌<◌, ◌+◌, ◌-◌, min, true, false, ◌||◌, List, [], ◌∷◌, ◌++◌, length, reverse, Option, None, Some, refl, sym, ap, ◌∙◌, subst, arith}
+use Rattle.std.proofs.Common.{◌≡◌, ◌⊎◌, inl, inr, ⊎_elim, ℕ, ◌≤◌, ◌<◌, ◌+◌, ◌-◌, min, true, false, ◌||◌, List, [], ◌∷◌, ◌++◌, length, reverse, None, refl, sym, ap, ◌∙◌, subst, arith}
 use Rattle.std.proofs.lemmas.Bool.{true≢false, cases_Bool, cases_lt, or_left, or_right}
 use Rattle.std.proofs.lemmas.List.{reverse-append, append-nil, append_assoc}
 use Rattle.site_vector.specs.declared.ids.PartId.{PartId}
 use Rattle.site_vector.specs.declared.ids.TxId.{TxId}
 use Rattle.site_vector.specs.Ids.{same_tx}
 use Rattle.site_vector.specs.Order.{same_tx_is, same_tx_refl}
-use Rattle.site_vector.specs.Vector.{entry, replaced}
+use Rattle.site_vector.specs.Vector.{replaced}
 use Rattle.crdt_core.specs.declared.record.Upd.{Upd}
-use Rattle.crdt_core.specs.declared.record.Part.{Part}
 use Rattle.crdt_core.specs.declared.record.Record.{Record}
 use Rattle.crdt_core.specs.Fitting.{unfit}
-use Rattle.crdt_core.specs.Log.{ceiling, pending, prepare_time, logged_bound, held_at, held_changes, grown}
+use Rattle.crdt_core.specs.Log.{ceiling, pending, prepare_time, held_at, held_changes, grown}
 use Rattle.prepared_table.specs.declared.entry.Entry.{Entry}
 use Rattle.prepared_table.specs.Entries.{has_entry}
 use Rattle.log_recovery.specs.declared.ledger.Ledger.{Ledger}
 use Rattle.log_recovery.specs.Lists.{told, AreEntries, least_below}
-use Rattle.log_recovery.specs.Ledgers.{ArePending, AreHeld, AreBounds, IsLedger, IsNext, Reads}
+use Rattle.log_recovery.specs.Ledgers.{IsLedger, IsNext, Reads}
 use Rattle.log_recovery.specs.Recovered.{IsPending, IsCommitted, IsOwnBound, AreKnown}
 use Rattle.log_recovery.specs.FittingLaws.{pending_home, held_wide, front_fits}
 use Rattle.log_recovery.proofs.Choices.{second_true}
@@ -79,12 +78,12 @@ module _ {E : Type 0} where
       let here : same_tx x.tx x.tx || has_entry xs x.tx ≡ true = or_left _ _ (same_tx_refl x.tx) in
       let time : x.time ≡ (f x.tx).0 = ap (λ q. q.0) h.0 in
       let first = low x.tx here in ⊎_elim
-          (λ (e : least_below (min n (x.time - 1)) xs ≡ min n (x.time - 1)). ⊎_elim
-          (λ (l : n < x.time). inl (let m : min n (x.time - 1) ≡ n = omega (arith, l) in e ∙ m))
-          (λ (l : x.time ≤ n). inr (x.tx, here, (let m : (f x.tx).0 ≡ min n (x.time - 1) + 1 = omega (arith, l, time, first) in m ∙ ap (λ k. k + 1) (sym e))))
-          (cases_lt n x.time))
-          (λ (e : (u : TxId) × (has_entry xs u ≡ true) × ((f u).0 ≡ least_below (min n (x.time - 1)) xs + 1)). inr (e.0, or_right (same_tx x.tx e.0) (has_entry xs e.0) e.1, e.2))
-          (least_reached f (min n (x.time - 1)) xs h.1 (λ u k. low u (or_right (same_tx x.tx u) (has_entry xs u) k)))
+      (λ (e : least_below (min n (x.time - 1)) xs ≡ min n (x.time - 1)). ⊎_elim
+      (λ (l : n < x.time). inl (let m : min n (x.time - 1) ≡ n = omega (arith, l) in e ∙ m))
+      (λ (l : x.time ≤ n). inr (x.tx, here, (let m : (f x.tx).0 ≡ min n (x.time - 1) + 1 = omega (arith, l, time, first) in m ∙ ap (λ k. k + 1) (sym e))))
+      (cases_lt n x.time))
+      (λ (e : (u : TxId) × (has_entry xs u ≡ true) × ((f u).0 ≡ least_below (min n (x.time - 1)) xs + 1)). inr (e.0, or_right (same_tx x.tx e.0) (has_entry xs e.0) e.1, e.2))
+      (least_reached f (min n (x.time - 1)) xs h.1 (λ u k. low u (or_right (same_tx x.tx u) (has_entry xs u) k)))
 
   module _ (sites parts : ℕ) (id : PartId) (log : List (Record E)) (f : unfit sites parts id log ≡ None) (l : Ledger E) (h : IsLedger log l) where
     pub pending_is : IsPending sites log l.waiting

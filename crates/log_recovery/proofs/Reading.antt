@@ -1,7 +1,7 @@
 -- A ledger after one record more.
-use Rattle.std.proofs.Common.{◌≡◌, ◌≢◌, ⊎_elim, ℕ, ◌≤◌, max, Bool, true, false, not, ◌&&◌, ◌||◌, List, [], ◌∷◌, ◌++◌, length, Option, None, Some, refl, sym, ap, ◌∙◌, subst, arith}
+use Rattle.std.proofs.Common.{◌≡◌, ⊎_elim, ℕ, ◌≤◌, max, Bool, true, false, not, ◌&&◌, ◌||◌, List, [], ◌∷◌, ◌++◌, length, None, refl, sym, ap, ◌∙◌, subst, arith}
 use Rattle.std.specs.Prelude.{◌==◌, if◌then◌else◌}
-use Rattle.std.proofs.lemmas.Bool.{true≢false, cases_Bool, or_left, or_parts, or_from, false_from_ne_true, eqb-true, eqb-false}
+use Rattle.std.proofs.lemmas.Bool.{true≢false, cases_Bool, or_left, or_from, false_from_ne_true, eqb-true, eqb-false}
 use Rattle.site_vector.specs.declared.ids.PartId.{PartId}
 use Rattle.site_vector.specs.declared.ids.TxId.{TxId}
 use Rattle.site_vector.specs.Ids.{same_tx}
@@ -11,15 +11,15 @@ use Rattle.crdt_core.specs.declared.record.Upd.{Upd}
 use Rattle.crdt_core.specs.declared.record.Part.{Part}
 use Rattle.crdt_core.specs.declared.record.Message.{Message}
 use Rattle.crdt_core.specs.declared.record.Record.{Record}
-use Rattle.crdt_core.specs.declared.record.Record.TheVariants.{Lease, Prepare, Decide, Finish, Abort, Batch}
+use Rattle.crdt_core.specs.declared.record.Record.TheVariants.{Prepare, Decide, Abort, Batch}
 use Rattle.crdt_core.specs.Fitting.{unfit}
-use Rattle.crdt_core.specs.Log.{prepared, prepare_time, prepared_lead, prepared_snapshot, prepared_changes, committed, committed_at, aborted, pending, taken, taken_at, taken_changes, logged_bound, last_decided, is_named_in, holds, held_at, held_changes}
-use Rattle.crdt_core.specs.Parts.{lists, vector_in, changes_in, AreParts}
+use Rattle.crdt_core.specs.Log.{prepared, prepare_time, prepared_lead, prepared_snapshot, prepared_changes, committed, committed_at, aborted, pending, taken, taken_at, taken_changes, logged_bound, holds, held_at, held_changes}
+use Rattle.crdt_core.specs.Parts.{lists, vector_in, changes_in}
 use Rattle.prepared_table.specs.declared.entry.Entry.{Entry}
-use Rattle.prepared_table.specs.Entries.{has_entry, IsTakenOut}
-use Rattle.log_recovery.specs.Lists.{told, AreEntries, AreSingle, AreApart}
+use Rattle.prepared_table.specs.Entries.{has_entry}
+use Rattle.log_recovery.specs.Lists.{told}
 use Rattle.log_recovery.specs.Ledgers.{ArePending, AreHeld, AreBounds, raised}
-use Rattle.log_recovery.specs.FittingLaws.{IsUnknown, unknown, part_new, prepares, decides, finishes, brings, rest_fits, last_fits, pending_untaken}
+use Rattle.log_recovery.specs.FittingLaws.{IsUnknown, unknown, part_new, prepares, brings, last_fits, pending_untaken}
 use Rattle.log_recovery.proofs.Choices.{or_turn, not_committed, begins, leaves, stops, ends}
 use Rattle.log_recovery.proofs.Replacing.{entry_replaced, entry_other, width_replaced}
 use Rattle.log_recovery.proofs.EntryLists.{has_push, entries_push, single_push, entries_alike, has_between, entries_without, entry_there, alone, single_without}
@@ -96,11 +96,13 @@ module _ {E : Type 0} (sites parts : ℕ) (id : PartId) (log : List (Record E)) 
                 ap (λ b. if b || committed log u then (if b then c else committed_at log u) else taken_at log u) (sym (other u e)),
                 ap (λ b. if b || committed log u then prepared_changes log u else taken_changes log u) (sym (other u e)),
               ))
-              h.exact)
-              ((
-                ap (λ b. if b || committed log y.tx then (if b then c else committed_at log y.tx) else taken_at log y.tx) (sym (same_tx_refl y.tx)),
-                ap (λ z. z.3) (entry_there (told log) xs y ys w.exact) ∙ ap (λ b. if b || committed log y.tx then prepared_changes log y.tx else taken_changes log y.tx) (sym (same_tx_refl y.tx)),
-              ), tt);
+              h.exact) (
+                (
+                  ap (λ b. if b || committed log y.tx then (if b then c else committed_at log y.tx) else taken_at log y.tx) (sym (same_tx_refl y.tx)),
+                  ap (λ z. z.3) (entry_there (told log) xs y ys w.exact) ∙ ap (λ b. if b || committed log y.tx then prepared_changes log y.tx else taken_changes log y.tx) (sym (same_tx_refl y.tx)),
+                ),
+                tt,
+              );
           apart = apart_append ps (part ∷ []) h.apart (refl, tt) (λ u e. ap (λ b. b || false) (other u e));
         }
 
@@ -130,11 +132,11 @@ module _ {E : Type 0} (sites parts : ℕ) (id : PartId) (log : List (Record E)) 
   pub batch_bounds : (m : Message E) (bounds : List ℕ) → 1 ≤ m.from → m.from ≤ length bounds → AreBounds log bounds → AreBounds (Batch m ∷ log) (raised bounds m.from m.hi)
   batch_bounds m bounds low high b j least most =
       let wide : length (raised bounds m.from m.hi) ≡ length bounds = width_replaced bounds m.from (max m.hi (entry bounds m.from)) in ⊎_elim
-          (λ (e : (m.from == j) ≡ true).
-          let is : m.from ≡ j = eqb-true m.from j e in
-          ap (λ i. entry (raised bounds m.from m.hi) i) (sym is) ∙ entry_replaced bounds m.from (max m.hi (entry bounds m.from)) low high
-          ∙ ap (λ n. max m.hi n) (b m.from low high ∙ ap (logged_bound log) is) ∙ ap (λ x. if x then max m.hi (logged_bound log j) else logged_bound log j) (sym e))
-          (λ (e : (m.from == j) ≡ false).
-          entry_other bounds m.from (max m.hi (entry bounds m.from)) j low least (λ k. eqb-false m.from j e (sym k)) ∙ b j least (omega (arith, most, wide))
-          ∙ ap (λ x. if x then max m.hi (logged_bound log j) else logged_bound log j) (sym e))
-          (cases_Bool (m.from == j))
+      (λ (e : (m.from == j) ≡ true).
+      let is : m.from ≡ j = eqb-true m.from j e in
+      ap (λ i. entry (raised bounds m.from m.hi) i) (sym is) ∙ entry_replaced bounds m.from (max m.hi (entry bounds m.from)) low high
+      ∙ ap (λ n. max m.hi n) (b m.from low high ∙ ap (logged_bound log) is) ∙ ap (λ x. if x then max m.hi (logged_bound log j) else logged_bound log j) (sym e))
+      (λ (e : (m.from == j) ≡ false).
+      entry_other bounds m.from (max m.hi (entry bounds m.from)) j low least (λ k. eqb-false m.from j e (sym k)) ∙ b j least (omega (arith, most, wide))
+      ∙ ap (λ x. if x then max m.hi (logged_bound log j) else logged_bound log j) (sym e))
+      (cases_Bool (m.from == j))

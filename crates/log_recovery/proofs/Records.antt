@@ -1,19 +1,16 @@
 -- What each kind of record makes of a ledger, and which may be read next.
-use Rattle.std.proofs.Common.{◌≡◌, ℕ, ◌≤◌, true, false, not, ◌&&◌, ◌||◌, List, [], ◌∷◌, ◌++◌, length, Option, None, Some, refl, sym, ap, ◌∙◌, subst, arith}
+use Rattle.std.proofs.Common.{◌≡◌, ℕ, ◌≤◌, not, ◌&&◌, ◌||◌, List, [], ◌∷◌, ◌++◌, length, None, Some, refl, sym, ap, ◌∙◌, subst}
 use Rattle.site_vector.specs.declared.ids.PartId.{PartId}
 use Rattle.site_vector.specs.declared.ids.TxId.{TxId}
-use Rattle.crdt_core.specs.declared.record.Upd.{Upd}
-use Rattle.crdt_core.specs.declared.record.Part.{Part}
 use Rattle.crdt_core.specs.declared.record.Message.{Message}
 use Rattle.crdt_core.specs.declared.record.Record.{Record}
 use Rattle.crdt_core.specs.declared.record.Record.TheVariants.{Lease, Prepare, Decide, Finish, Abort, Batch}
 use Rattle.crdt_core.specs.Fitting.{unfit}
-use Rattle.crdt_core.specs.Log.{pending, committed, aborted}
-use Rattle.crdt_core.specs.Parts.{lists}
+use Rattle.crdt_core.specs.Log.{committed, aborted}
 use Rattle.prepared_table.specs.declared.entry.Entry.{Entry}
-use Rattle.prepared_table.specs.Entries.{has_entry, IsTakenOut}
+use Rattle.prepared_table.specs.Entries.{IsTakenOut}
 use Rattle.log_recovery.specs.declared.ledger.Ledger.{Ledger}
-use Rattle.log_recovery.specs.Ledgers.{ArePending, AreHeld, AreBounds, IsLedger, IsNext, IsSame, Reads, Commits, raised}
+use Rattle.log_recovery.specs.Ledgers.{ArePending, AreHeld, AreBounds, IsLedger, IsNext, IsSame, Reads, Commits, Aborts, raised}
 use Rattle.log_recovery.specs.FittingLaws.{unknown, prepares, decides, finishes, brings, rest_fits, last_fits}
 use Rattle.log_recovery.proofs.Reading.{prepare_waits, prepare_holds, abort_waits, decide_waits, decide_holds, batch_holds, batch_bounds}
 
@@ -37,15 +34,14 @@ module _ {E : Type 0} where
     last_decided = l.last_decided;
   }
 
-  pub abort_reads : (old : Ledger E) (t : TxId) (y : Entry E) (xs : List (Entry E)) → IsTakenOut y old.waiting xs → y.tx ≡ t
-      → Reads old (Abort t) (record { ceiling = old.ceiling; waiting = xs; committed = old.committed; bounds = old.bounds; last_decided = old.last_decided })
-  abort_reads old t y xs out same sites parts id log l f = record {
-    ceiling = l.ceiling;
-    waiting = subst (λ u. ArePending (Abort u ∷ log) xs) same (subst (λ es. ArePending (Abort y.tx ∷ log) es) (sym out.after)
-        (abort_waits sites parts id log out.front y out.back (subst (λ es. ArePending log es) out.before l.waiting)));
-    committed = record { members = l.committed.members; exact = l.committed.exact; apart = l.committed.apart };
-    bounds = l.bounds;
-    last_decided = l.last_decided;
+  pub abort_reads : (old new : Ledger E) (t : TxId) → Aborts t old.waiting new.waiting → new.committed ≡ old.committed → IsSame old new → Reads old (Abort t) new
+  abort_reads old new t k kept s sites parts id log l f = record {
+    ceiling = s.ceiling ∙ l.ceiling;
+    waiting = subst (λ u. ArePending (Abort u ∷ log) new.waiting) k.same (subst (λ es. ArePending (Abort k.entry.tx ∷ log) es) (sym k.taken.after)
+        (abort_waits sites parts id log k.taken.front k.entry k.taken.back (subst (λ es. ArePending log es) k.taken.before l.waiting)));
+    committed = subst (λ ps. AreHeld (Abort t ∷ log) ps) (sym kept) (record { members = l.committed.members; exact = l.committed.exact; apart = l.committed.apart });
+    bounds = subst (λ b. AreBounds (Abort t ∷ log) b) (sym s.bounds) l.bounds;
+    last_decided = s.last_decided ∙ l.last_decided;
   }
 
   module _ (old new : Ledger E) (t : TxId) (c : List ℕ) (k : Commits t c old.waiting new.waiting old.committed new.committed) (log : List (Record E)) (l : IsLedger log old) (sites parts : ℕ) (id : PartId) (f : unfit sites parts id log ≡ None) where

@@ -1,9 +1,8 @@
 -- How each kind of record is judged, and what is seen after it.
-use Rattle.std.proofs.Common.{◌≡◌, ◌≢◌, ⊎_elim, ℕ, ◌≤◌, leb, max, suc, Bool, true, false, not, ◌&&◌, ◌||◌, List, [], ◌∷◌, ◌++◌, length, reverse, Option, None, Some, is_none, is_some, cond, get_or, drop, ◌<◌, ◌+◌, Result, Ok, Err, OnOk, IfOk, refl, sym, ap, ◌∙◌, subst, arith}
+use Rattle.std.proofs.Common.{◌≡◌, ⊎_elim, ℕ, ◌≤◌, leb, Bool, true, false, not, ◌&&◌, ◌||◌, List, [], ◌∷◌, length, reverse, None, Some, is_none, is_some, cond, ◌+◌, Result, Ok, Err, OnOk, IfOk, refl, sym, ap, ◌∙◌, subst, arith}
 use Rattle.std.specs.Prelude.{◌==◌, if◌then◌else◌}
 use Rattle.std.specs.List.{list_all}
-use Rattle.std.proofs.lemmas.Bool.{true≢false, cases_Bool, and_parts, not-true, eqb-true, leb-true}
-use Rattle.std.proofs.lemmas.List.{drop_more}
+use Rattle.std.proofs.lemmas.Bool.{cases_Bool, and_parts, eqb-true, leb-true}
 use Rattle.site_vector.specs.declared.ids.PartId.{PartId}
 use Rattle.site_vector.specs.declared.ids.TxId.{TxId}
 use Rattle.site_vector.specs.Ids.{same_tx}
@@ -14,14 +13,13 @@ use Rattle.crdt_core.specs.declared.record.Part.{Part}
 use Rattle.crdt_core.specs.declared.record.Message.{Message}
 use Rattle.crdt_core.specs.declared.record.Record.{Record}
 use Rattle.crdt_core.specs.declared.record.Record.TheVariants.{Lease, Prepare, Decide, Finish, Abort, Batch}
-use Rattle.crdt_core.specs.Fitting.{is_vector, fits_part, are_apart, fits_message, fits_record, unfit, unfit_next}
-use Rattle.crdt_core.specs.Log.{end_of_time, ceiling, prepared, committed, aborted, pending, logged_bound, is_named_in, grown}
+use Rattle.crdt_core.specs.Fitting.{is_vector, fits_part, are_apart, fits_record, unfit, unfit_next}
+use Rattle.crdt_core.specs.Log.{end_of_time, prepared, committed, aborted, pending, logged_bound, is_named_in, grown}
 use Rattle.crdt_core.specs.Parts.{lists}
-use Rattle.log_recovery.specs.declared.seen.Fate.{Fate}
 use Rattle.log_recovery.specs.declared.seen.Fate.TheVariants.{Waits, Ended}
 use Rattle.log_recovery.specs.declared.seen.Vote.{Vote}
 use Rattle.log_recovery.specs.declared.seen.Seen.{Seen}
-use Rattle.log_recovery.specs.Fates.{fate_of, vote_of, fates_of, fate_in, vote_in, IsSeen, IsSound, IsSamePlace, IsEmpty, Judges, Sees, may_commit, may_end, may_prepare, is_for, may_bring, are_new}
+use Rattle.log_recovery.specs.Fates.{fate_of, vote_of, fates_of, vote_in, IsSeen, IsSound, IsSamePlace, IsEmpty, Judges, Sees, may_commit, may_end, may_prepare, is_for, may_bring, are_new}
 use Rattle.log_recovery.specs.FittingLaws.{unknown, part_new, prepares, brings}
 use Rattle.log_recovery.specs.Ledgers.{AreBounds, raised}
 use Rattle.log_recovery.proofs.FateSteps.{begun, over, stopped, brought, has_fate, has_none, has_vote, pending_named}

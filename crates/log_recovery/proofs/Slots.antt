@@ -1,5 +1,5 @@
 -- The slots of what is waiting: one more, and one emptied.
-use Rattle.std.proofs.Common.{◌≡◌, ◌≢◌, ⊎_elim, ◌⊎◌, inl, inr, ℕ, zero, suc, Bool, true, false, ◌||◌, List, [], ◌∷◌, ◌++◌, length, Option, None, Some, slice_get, slice_set, cond, refl, sym, ap, ◌∙◌, subst, arith}
+use Rattle.std.proofs.Common.{◌≡◌, ◌≢◌, ⊎_elim, ◌⊎◌, inl, inr, ℕ, zero, suc, true, false, ◌||◌, List, [], ◌∷◌, ◌++◌, length, Option, None, Some, slice_get, slice_set, cond, refl, sym, ap, ◌∙◌, subst, arith}
 use Rattle.std.proofs.lemmas.Bool.{true≢false, cases_Bool, or_left, or_right, cond-true, cond-false}
 use Rattle.site_vector.specs.declared.ids.TxId.{TxId}
 use Rattle.site_vector.specs.Ids.{same_tx}
@@ -105,9 +105,9 @@ module _ {E : Type 0} where
     held = λ m y h.
         let r = still_held xs n m y h in
         let e : p y.tx ≡ Some m = a.held m y r.0 in ⊎_elim
-            (λ (s : same_tx t y.tx ≡ true). absurd (r.1 (some_is m n (sym e ∙ ap p (sym (same_tx_is t y.tx s)) ∙ at))))
-            (λ (s : same_tx t y.tx ≡ false). put y.tx ∙ cond-false (same_tx t y.tx) None (p y.tx) s ∙ e)
-            (cases_Bool (same_tx t y.tx));
+        (λ (s : same_tx t y.tx ≡ true). absurd (r.1 (some_is m n (sym e ∙ ap p (sym (same_tx_is t y.tx s)) ∙ at))))
+        (λ (s : same_tx t y.tx ≡ false). put y.tx ∙ cond-false (same_tx t y.tx) None (p y.tx) s ∙ e)
+        (cases_Bool (same_tx t y.tx));
     found = λ u m h. ⊎_elim
         (λ (s : same_tx t u ≡ true). let e : None ≡ Some m = sym (put u ∙ cond-true (same_tx t u) None (p u) s) ∙ h in absurd (let v : ⊥ = cc in v))
         (λ (s : same_tx t u ≡ false).

@@ -1,5 +1,5 @@
 -- What became of the transactions that a log names, and how a record is judged by it.
-use Rattle.std.specs.Prelude.{◌≡◌, ℕ, ◌≤◌, leb, ltb, Bool, true, false, not, ◌&&◌, ◌==◌, if◌then◌else◌, is_none, List, [], ◌∷◌, length, Option, None, Some}
+use Rattle.std.specs.Prelude.{◌≡◌, ℕ, ◌≤◌, leb, ltb, Bool, true, false, not, ◌&&◌, ◌==◌, if◌then◌else◌, is_none, List, ◌∷◌, length, Option, None, Some}
 use Rattle.std.specs.HashMap.{get}
 use Rattle.std.specs.List.{list_all}
 use Rattle.std.specs.Str.{bytes_eq}

@@ -1,8 +1,8 @@
 -- What holds of every log whose records fit the partition.
-use Rattle.std.proofs.Common.{◌≡◌, ◌≢◌, ⊎_elim, ℕ, ◌≤◌, ◌<◌, ◌+◌, min, suc, Bool, true, false, not, ◌&&◌, ◌||◌, leb, ltb, List, [], ◌∷◌, ◌++◌, length, Option, None, Some, refl, sym, ap, ◌∙◌, subst, arith}
+use Rattle.std.proofs.Common.{◌≡◌, ◌≢◌, ⊎_elim, ℕ, ◌≤◌, ◌+◌, min, Bool, true, false, not, ◌||◌, leb, ltb, List, [], ◌∷◌, length, Option, None, Some, refl, sym, ap, ◌∙◌, subst, arith}
 use Rattle.std.specs.Prelude.{◌==◌, if◌then◌else◌}
 use Rattle.std.specs.List.{list_all}
-use Rattle.std.proofs.lemmas.Bool.{true≢false, cases_Bool, or_left, or_right, and_parts, not-true, false_from_ne_true, eqb-true, eqb-false, leb-true, leb-false, ltb-true}
+use Rattle.std.proofs.lemmas.Bool.{true≢false, cases_Bool, or_right, and_parts, not-true, false_from_ne_true, eqb-true, eqb-false, leb-true, leb-false, ltb-true}
 use Rattle.site_vector.specs.declared.ids.PartId.{PartId}
 use Rattle.site_vector.specs.declared.ids.TxId.{TxId}
 use Rattle.site_vector.specs.Ids.{same_tx}
@@ -85,23 +85,23 @@ module _ {E : Type 0} where
       let here = and_parts (fits_part sites parts m x) (list_all (fits_part sites parts m) xs) f in
       let site = and_parts (x.tx.site == m.from) _ here.0 in
       let wide = and_parts (is_vector sites x.c) _ site.1 in ⊎_elim
-          (λ (e : same_tx x.tx u ≡ true). (
-            ap (λ (v : TxId). v.site) (sym (same_tx_is x.tx u e)) ∙ eqb-true x.tx.site m.from site.0,
-            ap (λ b. length (if b then x.c else vector_in xs u)) e ∙ eqb-true (length x.c) sites (and_parts (length x.c == sites) _ wide.0).0,
-          ))
-          (λ (e : same_tx x.tx u ≡ false).
-          let r = part_fits sites parts m xs u here.1 (ap (λ b. b || lists xs u) (sym e) ∙ h) in
-          (r.0, ap (λ b. length (if b then x.c else vector_in xs u)) e ∙ r.1))
-          (cases_Bool (same_tx x.tx u))
+      (λ (e : same_tx x.tx u ≡ true). (
+        ap (λ (v : TxId). v.site) (sym (same_tx_is x.tx u e)) ∙ eqb-true x.tx.site m.from site.0,
+        ap (λ b. length (if b then x.c else vector_in xs u)) e ∙ eqb-true (length x.c) sites (and_parts (length x.c == sites) _ wide.0).0,
+      ))
+      (λ (e : same_tx x.tx u ≡ false).
+      let r = part_fits sites parts m xs u here.1 (ap (λ b. b || lists xs u) (sym e) ∙ h) in
+      (r.0, ap (λ b. length (if b then x.c else vector_in xs u)) e ∙ r.1))
+      (cases_Bool (same_tx x.tx u))
 
   -- none of these parts is of one that is named
   pub part_new : (log : List (Record E)) (xs : List (Part E)) (u : TxId) → list_all (λ x. not (is_named_in log x.tx)) xs ≡ true → lists xs u ≡ true → is_named_in log u ≡ false
   part_new log [] u f h = absurd (true≢false (sym h))
   part_new log (x ∷ xs) u f h =
       let here = and_parts (not (is_named_in log x.tx)) (list_all (λ y. not (is_named_in log y.tx)) xs) f in ⊎_elim
-          (λ (e : same_tx x.tx u ≡ true). ap (λ v. is_named_in log v) (sym (same_tx_is x.tx u e)) ∙ not-true (is_named_in log x.tx) here.0)
-          (λ (e : same_tx x.tx u ≡ false). part_new log xs u here.1 (ap (λ b. b || lists xs u) (sym e) ∙ h))
-          (cases_Bool (same_tx x.tx u))
+      (λ (e : same_tx x.tx u ≡ true). ap (λ v. is_named_in log v) (sym (same_tx_is x.tx u e)) ∙ not-true (is_named_in log x.tx) here.0)
+      (λ (e : same_tx x.tx u ≡ false). part_new log xs u here.1 (ap (λ b. b || lists xs u) (sym e) ∙ h))
+      (cases_Bool (same_tx x.tx u))
 
 -- what a record that fits has to be
 pub fits_first : (o : Option ℕ) (b : Bool) (n : ℕ) → unfit_next o b n ≡ None → (o ≡ None) × (b ≡ true)
@@ -264,13 +264,13 @@ module _ {E : Type 0} (sites parts : ℕ) (id : PartId) where
   taken_away (Abort t ∷ log) f u h = let r = taken_away log (rest_fits (Abort t) log f) u h in record { away = r.away; wide = r.wide }
   taken_away (Batch m ∷ log) f u h =
       let b = brings log m (last_fits (Batch m) log f) in ⊎_elim
-          (λ (e : lists m.parts u ≡ true).
-          let p = part_fits sites parts m m.parts u b.fit e in
-          record { away = λ k. b.away (sym p.0 ∙ k); wide = ap (λ c. length (if c then vector_in m.parts u else taken_at log u)) e ∙ p.1 })
-          (λ (e : lists m.parts u ≡ false).
-          let r = taken_away log (rest_fits (Batch m) log f) u (ap (λ c. c || taken log u) (sym e) ∙ h) in
-          record { away = r.away; wide = ap (λ c. length (if c then vector_in m.parts u else taken_at log u)) e ∙ r.wide })
-          (cases_Bool (lists m.parts u))
+      (λ (e : lists m.parts u ≡ true).
+      let p = part_fits sites parts m m.parts u b.fit e in
+      record { away = λ k. b.away (sym p.0 ∙ k); wide = ap (λ c. length (if c then vector_in m.parts u else taken_at log u)) e ∙ p.1 })
+      (λ (e : lists m.parts u ≡ false).
+      let r = taken_away log (rest_fits (Batch m) log f) u (ap (λ c. c || taken log u) (sym e) ∙ h) in
+      record { away = r.away; wide = ap (λ c. length (if c then vector_in m.parts u else taken_at log u)) e ∙ r.wide })
+      (cases_Bool (lists m.parts u))
 
   -- what waits or was committed here wasn't brought
   pub pending_untaken : (log : List (Record E)) → Fit log → (u : TxId) → pending log u ≡ true → taken log u ≡ false

@@ -1,5 +1,5 @@
 -- What was read of a log so far, and what may be read next.
-use Rattle.std.specs.Prelude.{◌≡◌, ℕ, ◌≤◌, max, true, false, List, [], ◌∷◌, ◌++◌, length, Option, None, ⊤}
+use Rattle.std.specs.Prelude.{◌≡◌, ℕ, ◌≤◌, max, true, false, List, [], ◌∷◌, ◌++◌, length, None, ⊤}
 use Rattle.site_vector.specs.declared.ids.PartId.{PartId}
 use Rattle.site_vector.specs.declared.ids.TxId.{TxId}
 use Rattle.site_vector.specs.Vector.{entry, replaced}
@@ -57,6 +57,12 @@ module _ {E : Type 0} where
     pub ceiling : new.ceiling ≡ old.ceiling
     pub bounds : new.bounds ≡ old.bounds
     pub last_decided : new.last_decided ≡ old.last_decided
+
+  -- it waits no more
+  pub record Aborts (t : TxId) (waiting left : List (Entry E)) : Type 0 where
+    pub entry : Entry E
+    pub same : entry.tx ≡ t
+    pub taken : IsTakenOut entry waiting left
 
   -- what was waiting has become the last part, with this commit vector
   pub record Commits (t : TxId) (c : List ℕ) (waiting left : List (Entry E)) (old new : List (Part E)) : Type 0 where

@@ -1,5 +1,5 @@
 -- Lists of pending transactions and of parts, as a log tells them.
-use Rattle.std.specs.Prelude.{◌≡◌, ℕ, ◌≤◌, ◌-◌, min, true, false, List, [], ◌∷◌, length, slice_get, Option, None, Some, ⊤}
+use Rattle.std.specs.Prelude.{◌≡◌, ℕ, ◌-◌, min, false, List, [], ◌∷◌, length, slice_get, Option, None, Some, ⊤}
 use Rattle.site_vector.specs.declared.ids.TxId.{TxId}
 use Rattle.crdt_core.specs.declared.record.Upd.{Upd}
 use Rattle.crdt_core.specs.declared.record.Part.{Part}

@@ -3,7 +3,7 @@ ghost use Rattle.site_vector.specs.declared.ids.PartId.{PartId};
 ghost use Rattle.crdt_core.specs.declared.record.Record.{Record};
 ghost use Rattle.crdt_core.specs.Fitting.{unfit};
 ghost use Rattle.prepared_table.specs.Entries.{has_entry};
-ghost use Rattle.log_recovery.specs.Ledgers.{IsLedger, IsNext, IsSame, Reads, Commits, raised};
+ghost use Rattle.log_recovery.specs.Ledgers.{IsLedger, IsNext, IsSame, Reads, Commits, Aborts, raised};
 
 use crate::vectors::raise;
 use crate::waiting::Waiting;
@@ -74,7 +74,7 @@ impl<E: Drop> Ledger<E> {
             }
             Record::Finish { tx, c } => self.commit(tx, c),
             Record::Abort { tx } => {
-                let _aborted = self.waiting.take(tx);
+                self.abort(tx);
                 Ok(())
             }
             Record::Batch { message } => self.bring(message),
@@ -93,6 +93,16 @@ impl<E: Drop> Ledger<E> {
             c,
             updates: entry.updates,
         })
+    }
+
+    /// Drops what is waiting.
+    fn abort(&mut self, tx: TxId)
+        requires { has_entry self.old.waiting tx ≡ true }
+        ensures aborted { Aborts tx self.old.waiting self.new.waiting }
+        ensures committed { self.new.committed ≡ self.old.committed }
+        ensures same { IsSame self.old self.new }
+    {
+        let _aborted = self.waiting.take(tx);
     }
 
     /// Adds what a message brought.

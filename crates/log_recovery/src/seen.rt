@@ -223,10 +223,7 @@ fn put(fates: &mut HashMap<TxId, Fate>, tx: TxId, fate: Fate) -> Result<(), Allo
 }
 
 /// Notes that the transactions of these parts ended, as long as they are new: whether all are.
-fn name_all<E>(
-    fates: &mut HashMap<TxId, Fate>,
-    parts: &[Part<E>],
-) -> Result<bool, AllocError>
+fn name_all<E>(fates: &mut HashMap<TxId, Fate>, parts: &[Part<E>]) -> Result<bool, AllocError>
     ensures new { IfOk result (λ new. new ≡ are_new (get same_tx fates.old) parts.now) }
     ensures named { IfOk result (λ new. new ≡ true → (u : TxId) → get same_tx fates.new u ≡ cond (lists parts.now u) (Some Ended) (get same_tx fates.old u)) }
 {

@@ -1,5 +1,5 @@
-use Rattle.std.proofs.Common.{◌≡◌, reverse, ap, sym, ◌∙◌, subst}
-use Rattle.log_recovery.proofs.Progress.{IsProgress, progress_start, progress_next, progress_more, progress_end}
+use Rattle.std.proofs.Common.{reverse, sym, ◌∙◌, subst}
+use Rattle.log_recovery.proofs.Progress.{IsProgress, progress_start, progress_next, progress_more}
 use Rattle.log_recovery.proofs.recovery.read_all.Goals as goal
 
 pub loop-record-init : goal.loop-record-init

@@ -1,4 +1,4 @@
-use Rattle.std.proofs.Common.{◌≡◌, reverse, ap, sym, ◌∙◌, subst}
+use Rattle.std.proofs.Common.{reverse, ap, sym, ◌∙◌, subst}
 use Rattle.site_vector.specs.Vector.{replaced}
 use Rattle.log_recovery.specs.Lists.{least_below}
 use Rattle.log_recovery.specs.Recovered.{IsPending, AreKnown}

@@ -1,6 +1,5 @@
-use Rattle.std.proofs.Common.{◌≡◌, ◌∷◌, drop, None, Some, cond, refl, sym, ap, ◌∙◌, subst, ◌+◌, arith}
+use Rattle.std.proofs.Common.{Some, cond, sym, ap, ◌∙◌}
 use Rattle.std.specs.HashMap.{get}
-use Rattle.std.proofs.lemmas.List.{drop_more}
 use Rattle.site_vector.specs.Ids.{same_tx}
 use Rattle.crdt_core.specs.Parts.{lists}
 use Rattle.log_recovery.specs.declared.seen.Fate.TheVariants.{Ended}

@@ -1,4 +1,4 @@
-use Rattle.std.proofs.Common.{◌≡◌, ◌++◌, ◌∷◌, [], Some, refl, sym, ap, ◌∙◌, arith}
+use Rattle.std.proofs.Common.{refl, ap, ◌∙◌, arith}
 use Rattle.log_recovery.specs.Lists.{kept}
 use Rattle.log_recovery.proofs.Choices.{when_ok}
 use Rattle.log_recovery.proofs.Slots.{kept_push, placed_alike, placed_push}

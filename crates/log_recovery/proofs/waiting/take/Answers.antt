@@ -1,4 +1,4 @@
-use Rattle.std.proofs.Common.{◌≡◌, refl, sym, ap, ◌∙◌, subst}
+use Rattle.std.proofs.Common.{refl, sym, subst}
 use Rattle.log_recovery.specs.Lists.{kept}
 use Rattle.prepared_table.specs.Entries.{IsTakenOut}
 use Rattle.log_recovery.proofs.Slots.{placed_alike, placed_there, placed_empty, emptied}

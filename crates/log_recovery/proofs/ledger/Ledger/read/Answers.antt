@@ -1,4 +1,4 @@
-use Rattle.std.proofs.Common.{◌≡◌, sym, subst}
+use Rattle.std.proofs.Common.{sym, subst}
 use Rattle.log_recovery.specs.Ledgers.{IsNext, Reads}
 use Rattle.log_recovery.proofs.Choices.{on_ok}
 use Rattle.log_recovery.proofs.Records.{lease_reads, prepare_reads, abort_reads, decide_reads, finish_reads, batch_reads}
@@ -18,7 +18,7 @@ pub returns-in-Finish-clause-read : goal.returns-in-Finish-clause-read
 returns-in-Finish-clause-read g c = on_ok c.commit-in-Finish.result _ _ (λ k. subst (λ r. Reads c.args.self.now r c.commit-in-Finish.new.self) (sym c.in-Finish.is) (finish_reads c.args.self.now c.commit-in-Finish.new.self c.in-Finish.tx c.in-Finish.c k c.commit-in-Finish.ensures.same)) c.commit-in-Finish.ensures.committed
 
 pub returns-in-Abort-clause-read : goal.returns-in-Abort-clause-read
-returns-in-Abort-clause-read g c = subst (λ r. Reads c.args.self.now r (record { ceiling = c.args.self.now.ceiling; waiting = c.take-aborted.new.self; committed = c.args.self.now.committed; bounds = c.args.self.now.bounds; last_decided = c.args.self.now.last_decided })) (sym c.in-Abort.is) (abort_reads c.args.self.now c.in-Abort.tx c.take-aborted.result c.take-aborted.new.self c.take-aborted.ensures.taken c.take-aborted.ensures.tx)
+returns-in-Abort-clause-read g c = subst (λ r. Reads c.args.self.now r c.abort.new.self) (sym c.in-Abort.is) (abort_reads c.args.self.now c.abort.new.self c.in-Abort.tx c.abort.ensures.aborted c.abort.ensures.committed c.abort.ensures.same)
 
 pub returns-in-Batch-clause-read : goal.returns-in-Batch-clause-read
 returns-in-Batch-clause-read g c = on_ok c.bring.result _ _ (λ is. subst (λ r. Reads c.args.self.now r c.bring.new.self) (sym c.in-Batch.is)

@@ -1,4 +1,4 @@
-use Rattle.std.proofs.Common.{◌≡◌, ◌&&◌, true, refl, ap, ◌∙◌}
+use Rattle.std.proofs.Common.{◌&&◌, refl, ap, ◌∙◌}
 use Rattle.log_recovery.specs.Fates.{fates_of, are_new, Judges}
 use Rattle.crdt_core.specs.declared.record.Record.TheVariants.{Batch}
 use Rattle.log_recovery.proofs.Choices.{if_ok}

@@ -1,4 +1,4 @@
-use Rattle.std.proofs.Common.{◌≡◌, ◌&&◌, true, is_some, refl, sym, ap, ◌∙◌, subst}
+use Rattle.std.proofs.Common.{is_some, refl, sym, ap, ◌∙◌, subst}
 use Rattle.crdt_core.specs.Fitting.{fits_record}
 use Rattle.log_recovery.specs.declared.seen.Vote.{Vote}
 use Rattle.log_recovery.specs.declared.seen.Seen.{Seen}
@@ -12,7 +12,7 @@ returns-in_ok-put-in-Prepare-clause-judges g c =
     let old : Seen = c.args.self.now in
     let vote : Vote = record { lead = c.in-Prepare.lead; time = c.in-Prepare.time; s = c.in-Prepare.s } in
     λ log s. c.may_prepare-fits.ensures ∙ ap (λ w. may_prepare old.sites old.parts old.id (is_some (fates_of old c.in-Prepare.tx)) old.ceiling c.in-Prepare.tx vote w) c.as_slice.ensures
-        ∙ judged_prepare old log s c.in-Prepare.tx vote c.in-Prepare.updates ∙ ap (λ r. fits_record old.sites old.parts old.id log r) (sym c.in-Prepare.is)
+    ∙ judged_prepare old log s c.in-Prepare.tx vote c.in-Prepare.updates ∙ ap (λ r. fits_record old.sites old.parts old.id log r) (sym c.in-Prepare.is)
 
 pub returns-in_ok-put-in-Prepare-clause-sees : goal.returns-in_ok-put-in-Prepare-clause-sees
 returns-in_ok-put-in-Prepare-clause-sees g c =
