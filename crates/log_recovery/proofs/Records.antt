@@ -8,7 +8,6 @@ use Rattle.crdt_core.specs.declared.record.Record.TheVariants.{Lease, Prepare, D
 use Rattle.crdt_core.specs.Fitting.{unfit}
 use Rattle.crdt_core.specs.Log.{committed, aborted}
 use Rattle.prepared_table.specs.declared.entry.Entry.{Entry}
-use Rattle.prepared_table.specs.Entries.{IsTakenOut}
 use Rattle.log_recovery.specs.declared.ledger.Ledger.{Ledger}
 use Rattle.log_recovery.specs.Ledgers.{ArePending, AreHeld, AreBounds, IsLedger, IsNext, IsSame, Reads, Commits, Aborts, raised}
 use Rattle.log_recovery.specs.FittingLaws.{unknown, prepares, decides, finishes, brings, rest_fits, last_fits}

@@ -11,3 +11,6 @@ mod waiting;
 
 pub use fitting::unfit;
 pub use recovery::{Rebuilt, rebuild};
+
+#[cfg(test)]
+mod tests;
