@@ -1,5 +1,5 @@
 -- The slots of what is waiting: one more, and one emptied.
-use Rattle.std.proofs.Common.{◌≡◌, ◌≢◌, ⊎_elim, ◌⊎◌, inl, inr, ℕ, zero, suc, true, false, ◌||◌, List, [], ◌∷◌, ◌++◌, length, Option, None, Some, slice_get, slice_set, cond, refl, sym, ap, ◌∙◌, subst, arith}
+use Rattle.std.proofs.Common.{◌≡◌, ◌≢◌, ⊎_elim, ◌⊎◌, inl, inr, ℕ, zero, suc, true, false, ◌||◌, List, [], ◌∷◌, ◌++◌, length, take, ◌+◌, ◌-◌, ◌≤◌, Option, None, Some, slice_get, slice_set, cond, refl, sym, ap, ◌∙◌, subst, arith}
 use Rattle.std.proofs.lemmas.Bool.{true≢false, cases_Bool, or_left, or_right, cond-true, cond-false}
 use Rattle.site_vector.specs.declared.ids.TxId.{TxId}
 use Rattle.site_vector.specs.Ids.{same_tx}
@@ -99,6 +99,44 @@ module _ {E : Type 0} where
   keeps (y ∷ xs) zero (suc m) x h k = h
   keeps (y ∷ xs) (suc n) zero x h k = h
   keeps (y ∷ xs) (suc n) (suc m) x h k = keeps xs n m x h (λ e. k (ap suc e))
+
+  -- without the last slot, which is empty
+  pub kept_shorter : (xs : List (Option (Entry E))) (n : ℕ) → slice_get xs n ≡ Some None → length xs ≡ n + 1 → kept (take n xs) ≡ kept xs
+  kept_shorter [] n h e = cc
+  kept_shorter (None ∷ []) zero h e = refl
+  kept_shorter (Some x ∷ []) zero h e = absurd (let v : ⊥ = (let k : Some x ≡ None = some_is (Some x) None h in cc) in v)
+  kept_shorter (x ∷ y ∷ xs) zero h e = absurd (omega (arith, e))
+  kept_shorter (None ∷ xs) (suc n) h e = kept_shorter xs n h (omega (arith, e))
+  kept_shorter (Some x ∷ xs) (suc n) h e = ap (λ l. x ∷ l) (kept_shorter xs n h (omega (arith, e)))
+
+  taken_slot : (xs : List (Option (Entry E))) (n m : ℕ) (x : Entry E) → slice_get (take n xs) m ≡ Some (Some x) → slice_get xs m ≡ Some (Some x)
+  taken_slot [] zero m x h = absurd (let v : ⊥ = cc in v)
+  taken_slot [] (suc n) m x h = absurd (let v : ⊥ = cc in v)
+  taken_slot (y ∷ xs) zero m x h = absurd (let v : ⊥ = cc in v)
+  taken_slot (y ∷ xs) (suc n) zero x h = h
+  taken_slot (y ∷ xs) (suc n) (suc m) x h = taken_slot xs n m x h
+
+  slot_taken : (xs : List (Option (Entry E))) (n m : ℕ) (x : Entry E) → slice_get xs n ≡ Some None → length xs ≡ n + 1 → slice_get xs m ≡ Some (Some x) → slice_get (take n xs) m ≡ Some (Some x)
+  slot_taken [] n m x h e k = absurd (let v : ⊥ = cc in v)
+  slot_taken (y ∷ []) zero zero x h e k = absurd (let v : ⊥ = (let a : None ≡ Some x = some_is None (Some x) (sym h ∙ k) in cc) in v)
+  slot_taken (y ∷ []) zero (suc m) x h e k = absurd (let v : ⊥ = cc in v)
+  slot_taken (y ∷ z ∷ xs) zero m x h e k = absurd (omega (arith, e))
+  slot_taken (y ∷ xs) (suc n) zero x h e k = k
+  slot_taken (y ∷ xs) (suc n) (suc m) x h e k = slot_taken xs n m x h (omega (arith, e)) k
+
+  pub placed_shorter : (p : TxId → Option ℕ) (xs : List (Option (Entry E))) (n : ℕ) → slice_get xs n ≡ Some None → length xs ≡ n + 1 → ArePlaced p xs → ArePlaced p (take n xs)
+  placed_shorter p xs n h e a = record {
+    held = λ m x k. a.held m x (taken_slot xs n m x k);
+    found = λ u m k. let r = a.found u m k in (r.0, slot_taken xs n m r.0 h e r.1, r.2);
+  }
+
+  pub trimmed : (xs zs ys : List (Option (Entry E))) (n : ℕ) → zs ≡ xs → 1 ≤ length zs → slice_get zs (length zs - 1) ≡ Some None → n ≡ length xs → ys ≡ take (n - 1) xs
+      → (kept ys ≡ kept xs) × ((p : TxId → Option ℕ) → ArePlaced p xs → ArePlaced p ys)
+  trimmed xs zs ys n same some last many is =
+      let some_here : 1 ≤ length xs = subst (λ l. 1 ≤ length l) same some in
+      let here : slice_get xs (n - 1) ≡ Some None = ap (λ k. slice_get xs (k - 1)) many ∙ subst (λ l. slice_get l (length l - 1) ≡ Some None) same last in
+      let long : length xs ≡ n - 1 + 1 = omega (arith, many, some_here) in
+      (ap kept is ∙ kept_shorter xs (n - 1) here long, λ p a. subst (λ l. ArePlaced p l) (sym is) (placed_shorter p xs (n - 1) here long a))
 
   pub placed_empty : (p q : TxId → Option ℕ) (xs : List (Option (Entry E))) (t : TxId) (n : ℕ) (x : Entry E) → ArePlaced p xs → slice_get xs n ≡ Some (Some x) → x.tx ≡ t → p t ≡ Some n → ((u : TxId) → q u ≡ cond (same_tx t u) None (p u)) → ArePlaced q (slice_set xs n None)
   placed_empty p q xs t n x a there is at put = record {

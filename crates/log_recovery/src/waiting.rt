@@ -1,5 +1,6 @@
-ghost use Rattle.std.specs.Prelude.{◌≡◌, ◌++◌, ◌∷◌, [], false, true, OnOk, OnErr, IfOk, Some, None, slice_get, slice_set};
+ghost use Rattle.std.specs.Prelude.{◌≡◌, ◌≤◌, ◌-◌, ◌++◌, ◌∷◌, ℕ, Option, length, [], false, true, OnOk, OnErr, IfOk, Some, None, slice_get, slice_set};
 ghost use Rattle.std.specs.HashMap.{get};
+ghost use Rattle.site_vector.specs.declared.ids.TxId.{TxId};
 ghost use Rattle.prepared_table.specs.declared.entry.Entry.{Entry};
 ghost use Rattle.prepared_table.specs.Entries.{has_entry, IsTakenOut};
 ghost use Rattle.log_recovery.specs.Lists.{kept, ArePlaced};
@@ -111,9 +112,31 @@ fn take<E: Drop>(
     ensures tx { result.tx ≡ tx }
 {
     match places.remove(&tx) {
-        Some(at) => empty(slots, at),
+        Some(at) => {
+            let entry = empty(slots, at);
+            trim(slots);
+            entry
+        }
         None => unreachable!(),
     }
+}
+
+/// Drops the empty slots at the end: where transactions end soon, few slots stay.
+fn trim<E: Drop>(slots: &mut Vec<Option<Entry<E>>>)
+    ensures kept { kept slots.new.items ≡ kept slots.old.items }
+    ensures placed { (places : TxId → Option ℕ) → ArePlaced places slots.old.items → ArePlaced places slots.new.items }
+{
+    while ends_empty(slots.as_slice()) {
+        slots.truncate(slots.len() - 1);
+    }
+}
+
+/// Whether the last slot is empty.
+fn ends_empty<E>(slots: &[Option<Entry<E>>]) -> bool
+    ensures some { result ≡ true → 1 ≤ length slots.now }
+    ensures empty { result ≡ true → slice_get slots.now (length slots.now - 1) ≡ Some None }
+{
+    slots.len() > 0 && slots[slots.len() - 1].is_none()
 }
 
 /// Empties a slot.
