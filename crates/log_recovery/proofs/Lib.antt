@@ -1,0 +1,10 @@
+pub mod Choices
+pub mod EntryLists
+pub mod FateSteps
+pub mod PartLists
+pub mod Progress
+pub mod Reading
+pub mod Records
+pub mod Replacing
+pub mod Seeing
+pub mod Slots

@@ -1,0 +1,6 @@
+pub mod Lists
+pub mod Ledgers
+pub mod Fates
+pub mod Recovered
+pub mod Rising
+pub mod FittingLaws

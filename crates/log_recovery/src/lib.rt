@@ -1,0 +1,16 @@
+//! What a partition's log tells when it is read again after a crash.
+#![tactic(auto)]
+
+mod fitting;
+mod ledger;
+mod messages;
+mod recovery;
+mod seen;
+mod vectors;
+mod waiting;
+
+pub use fitting::unfit;
+pub use recovery::{Rebuilt, rebuild};
+
+#[cfg(test)]
+mod tests;
