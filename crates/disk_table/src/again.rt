@@ -1,5 +1,4 @@
 // Logs that are opened again in place, and makers of disks, in the table.
-ghost use Rattle.std.specs.Prelude.{◌≡◌, IsTrue};
 ghost use Rattle.gate_log.specs.Logs.{IsReady};
 
 use crate::logs::new_log;
