@@ -1,5 +1,5 @@
 -- Which lines of a script's run a partition answered, at which partition, and with which call: the run as lines of the world.
-use Rattle.std.specs.Prelude.{ℕ, ◌+◌, Bool, true, false, if◌then◌else◌, List, [], ◌∷◌, Option, None, Some}
+use Rattle.std.specs.Prelude.{ℕ, ◌+◌, Bool, true, false, not, ◌&&◌, if◌then◌else◌, List, [], ◌∷◌, Option, None, Some}
 use Rattle.site_vector.specs.declared.ids.PartId.{PartId}
 use Rattle.site_vector.specs.declared.ids.TxId.{TxId}
 use Rattle.crdt_core.specs.declared.object.ObjectId.{ObjectId}
@@ -47,11 +47,15 @@ is_answer (step.Pending p t) = false
 is_answer (step.Settled p) = false
 is_answer other = true
 
--- and was asked for it: an expire asks for an abort alone, and only looks up what is finished or gone
+-- an expire asks for an abort alone, and only looks up what is finished or gone
+abbrev pub is_looked_up : Option Command → Step → Bool
+is_looked_up (Some (command.Expire p t)) (step.Finished q u) = true
+is_looked_up (Some (command.Expire p t)) (step.Gone q u) = true
+is_looked_up asked s = false
+
+-- a partition was asked for this line
 abbrev pub is_called : Option Command → Step → Bool
-is_called (Some (command.Expire p t)) (step.Finished q u) = false
-is_called (Some (command.Expire p t)) (step.Gone q u) = false
-is_called asked s = is_answer s
+is_called asked s = is_answer s && not (is_looked_up asked s)
 
 -- a call, and the partition that it is made of
 pub record Placed : Type 0 where
