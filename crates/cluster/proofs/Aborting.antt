@@ -6,7 +6,7 @@ use Rattle.crdt_core.specs.KindsOf.{Kinds}
 use Rattle.crdt_core.specs.Log as log
 use Rattle.world_model.specs.Answering.{IsDueAt}
 use Rattle.world_model.specs.Asking.{MayCall}
-use Rattle.world_model.specs.Event.{AskFinish, AskAbort, Event, Finished, Aborted, Refused, Entry}
+use Rattle.world_model.specs.Event.{AskFinish, AskAbort, Finished, Aborted, Refused, Entry}
 use Rattle.world_model.specs.Partition.{PartState, PartStep, IsRefused}
 use Rattle.world_model.specs.Plan.{Plan, IsPlace, IsAllowed}
 use Rattle.world_model.specs.World.{plan_of}

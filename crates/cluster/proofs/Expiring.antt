@@ -1,5 +1,5 @@
 -- How an expire answers, and what it leaves.
-use Rattle.std.proofs.Common.{◌≡◌, ℕ, Bool, true, false, List, [], ◌∷◌, refl, sym, ap, ◌∙◌, subst, ⊎_elim, inl, Option, None, Some}
+use Rattle.std.proofs.Common.{◌≡◌, ℕ, Bool, true, false, List, [], ◌∷◌, refl, sym, ap, ◌∙◌, subst, ⊎_elim, inl, None, Some}
 use Rattle.std.specs.Prelude.{not, ◌||◌, ◌==◌}
 use Rattle.std.proofs.lemmas.Bool.{or_parts, eqb-true, cases_Bool}
 use Rattle.site_vector.specs.declared.ids.PartId.{PartId}
@@ -7,15 +7,13 @@ use Rattle.site_vector.specs.declared.ids.TxId.{TxId}
 use Rattle.crdt_core.specs.KindsOf.{Kinds}
 use Rattle.crdt_core.specs.Log as log
 use Rattle.crdt_core.specs.Log.{committed}
-use Rattle.world_model.specs.declared.command.Command.{Command}
 use Rattle.world_model.specs.declared.command.Command.TheVariants as command
 use Rattle.world_model.specs.declared.step.Step.{Step}
 use Rattle.world_model.specs.declared.step.Step.TheVariants as step
 use Rattle.world_model.specs.Answers.{answered}
 use Rattle.world_model.specs.Cluster.{has_part, parts_of}
-use Rattle.world_model.specs.Event.{Event, Aborted}
-use Rattle.world_model.specs.Lines.{Line, lines_of, AbortOf}
-use Rattle.world_model.specs.Partition.{PartState, ToldPending, ToldCommitted, ToldAborted, fate_of}
+use Rattle.world_model.specs.Event.{Aborted}
+use Rattle.world_model.specs.Partition.{PartState, ToldCommitted, fate_of}
 use Rattle.world_model.specs.Plan.{IsPlace, home}
 use Rattle.world_model.specs.Run.{Run}
 use Rattle.world_model.specs.ScriptAnswers.{AnswersBy, IsAnswer}

@@ -1,6 +1,6 @@
 -- How a settle answers, line by line, and what it leaves.
-use Rattle.std.proofs.Common.{◌≡◌, ⊎_elim, inr, ℕ, Bool, true, false, List, [], ◌∷◌, ◌++◌, map, refl, sym, ap, ◌∙◌, subst, Option, Some, true≢false}
-use Rattle.std.specs.Prelude.{not, ◌||◌, ◌&&◌, ◌==◌, cond, filter, Result}
+use Rattle.std.proofs.Common.{◌≡◌, ⊎_elim, inr, ℕ, Bool, true, false, List, [], ◌∷◌, ◌++◌, map, refl, sym, ap, ◌∙◌, subst, Some, true≢false}
+use Rattle.std.specs.Prelude.{not, ◌||◌, ◌&&◌, cond, filter}
 use Rattle.std.specs.List.{list_any}
 use Rattle.std.proofs.lemmas.Bool.{cases_Bool, false_from_ne_true, cond-true, cond-false}
 use Rattle.std.proofs.lemmas.List.{append_assoc, append-nil}
@@ -17,31 +17,29 @@ use Rattle.world_model.specs.declared.step.Step.TheVariants as step
 use Rattle.world_model.specs.Answers.{answered}
 use Rattle.world_model.specs.Asking.{MayCall}
 use Rattle.world_model.specs.Cluster.{has_part, parts_of, partitions}
-use Rattle.world_model.specs.Event as event
-use Rattle.world_model.specs.Event.{AskFinish, Event, Finished, Aborted, Entry}
+use Rattle.world_model.specs.Event.{AskFinish, Finished, Aborted}
 use Rattle.world_model.specs.Fate.{IsFate}
 use Rattle.world_model.specs.History.{in_history, decides}
 use Rattle.world_model.specs.Lines.{Call, Line, FinishOf, AbortOf, lines_of}
-use Rattle.world_model.specs.Partition.{PartState, ToldPending, ToldCommitted, ToldAborted, ToldDown, fate_of}
+use Rattle.world_model.specs.Partition.{PartState, ToldCommitted, ToldAborted, fate_of}
 use Rattle.world_model.specs.Pending.{pending, pending_after, is_down, down_after}
 use Rattle.world_model.specs.Plan.{IsPlace, first_of, home}
 use Rattle.world_model.specs.Run.{Run}
-use Rattle.world_model.specs.ScriptAnswers.{AnswersBy, IsAnswer}
+use Rattle.world_model.specs.ScriptAnswers.{AnswersBy}
 use Rattle.world_model.specs.ScriptCalls.{calls_of}
 use Rattle.world_model.specs.Settling.{settled, is_untold, IsSettled}
-use Rattle.world_model.specs.Updates.{Change, changes, change_of, takes_part, lead}
+use Rattle.world_model.specs.Updates.{Change, changes, change_of, lead}
 use Rattle.world_model.proofs.Told as law
 use Rattle.partition_core.specs.declared.answers.Fate.{Fate}
 use Rattle.partition_core.specs.declared.answers.Fate.TheVariants as fate
 use Rattle.partition_core.specs.Answers.{fate_told}
 use Rattle.txn_session.specs.Calls.{called, entries}
 use Rattle.cluster.specs.declared.fates.Waiting.{Waiting}
-use Rattle.cluster.specs.Built.{is_built}
 use Rattle.cluster.specs.Fates.{lead_place, settling, AreWaiting, OfState, Drops, MaySettle, SettledTo, Settles}
-use Rattle.cluster.specs.Held.{Held, SameSize, holds_part}
+use Rattle.cluster.specs.Held.{Held, holds_part}
 use Rattle.cluster.specs.Live.{LiveState}
 use Rattle.cluster.specs.Reached.{ReachedLive, GoesTo, AppliesLive, IsReachedLive}
-use Rattle.cluster.specs.Reaches.{Reaches, MayAsk}
+use Rattle.cluster.specs.Reaches.{MayAsk}
 use Rattle.cluster.specs.Sees.{Sees}
 use Rattle.cluster.proofs.Aborting.{Finishes}
 use Rattle.cluster.proofs.Clocks.{part_in}
@@ -49,7 +47,7 @@ use Rattle.cluster.proofs.Delivering.{place_of_part}
 use Rattle.cluster.proofs.Leading.{answered_more}
 use Rattle.cluster.proofs.Meets.{all_met, first_at, none_due, refused}
 use Rattle.cluster.proofs.Standing.{goes_none, goes_both, goes_quiet}
-use Rattle.cluster.proofs.Telling.{led_here, led_elsewhere, settled_own, settled_untold, settled_finished, settled_aborted, AreOther, AreOnce, once, AreLeft, AreListed, down_is, waiting_is, site_is, lead_is, lead_there, lead_same, word, listed_are}
+use Rattle.cluster.proofs.Telling.{led_here, led_elsewhere, settled_own, settled_untold, settled_finished, settled_aborted, AreOther, AreOnce, once, AreLeft, AreListed, down_is, waiting_is, site_is, lead_there, lead_same, word, listed_are}
 use Rattle.cluster.proofs.Turned.{turned_alone}
 
 -- an end of t at p tells of other transactions what was told before

@@ -1,9 +1,8 @@
 -- What the partitions of a cluster tell of transactions, by the lines of the run that left it.
-use Rattle.std.proofs.Common.{◌≡◌, ◌≢◌, ◌⊎◌, ⊎_elim, ℕ, ◌<◌, Bool, true, false, List, [], ◌∷◌, map, refl, sym, ap, ◌∙◌, subst, Option, None, Some, arith}
-use Rattle.std.specs.Prelude.{not, ◌||◌, ◌==◌, if◌then◌else◌, ⊤}
-use Rattle.std.proofs.lemmas.Bool.{true≢false, cond-true, cond-false, cases_Bool, and_parts, false_from_ne_true}
+use Rattle.std.proofs.Common.{◌≡◌, ◌⊎◌, ⊎_elim, ℕ, ◌<◌, Bool, true, false, List, [], ◌∷◌, map, refl, sym, ap, ◌∙◌, subst, arith}
+use Rattle.std.specs.Prelude.{not, ◌||◌, ⊤}
+use Rattle.std.proofs.lemmas.Bool.{cond-true, cond-false, false_from_ne_true}
 use Rattle.std.proofs.lemmas.Simd.{map-map}
-use Rattle.std.specs.List.{list_any}
 use Rattle.site_vector.specs.declared.ids.PartId.{PartId}
 use Rattle.site_vector.specs.declared.ids.TxId.{TxId}
 use Rattle.site_vector.specs.Ids.{same_part, same_tx}
@@ -12,17 +11,14 @@ use Rattle.crdt_core.specs.KindsOf.{Kinds}
 use Rattle.crdt_core.specs.Log as log
 use Rattle.crdt_core.specs.Log.{prepared_lead, prepare_time, committed}
 use Rattle.crdt_core.specs.Orders.{Precede, Ascends, pending_cmp}
-use Rattle.crdt_core.specs.declared.record.Record.{Record}
 use Rattle.prepared_table.specs.declared.entry.Entry.{Entry}
 use Rattle.prepared_table.specs.Entries.{has_entry, entry_cmp}
-use Rattle.world_model.specs.declared.step.Step.{Step}
 use Rattle.world_model.specs.declared.step.Step.TheVariants as step
 use Rattle.world_model.specs.Cluster.{parts_of}
-use Rattle.world_model.specs.Event as event
 use Rattle.world_model.specs.Fate.{IsFate, is_committed_at}
 use Rattle.world_model.specs.History.{in_history}
 use Rattle.world_model.specs.Lines.{Line, lines_of}
-use Rattle.world_model.specs.Partition.{PartState, ToldPending, ToldCommitted, ToldAborted, fate_of, names_pending}
+use Rattle.world_model.specs.Partition.{PartState, fate_of, names_pending}
 use Rattle.world_model.specs.Pending as lines
 use Rattle.world_model.specs.Pending.{pending, is_down}
 use Rattle.world_model.specs.Plan.{IsPlace}
@@ -35,7 +31,7 @@ use Rattle.world_model.specs.Updates.{lead}
 use Rattle.world_model.proofs.Law.{law_world}
 use Rattle.world_model.proofs.Queue.{in_order}
 use Rattle.world_model.proofs.Told as law
-use Rattle.partition_core.specs.Stands.{told, AreEntries, IsTable}
+use Rattle.partition_core.specs.Stands.{told, AreEntries}
 use Rattle.partition_core.specs.Tables.{Tables}
 use Rattle.txn_session.specs.Calls.{entries}
 use Rattle.cluster.specs.declared.fates.Waiting.{Waiting}

@@ -2,7 +2,6 @@
 use Rattle.std.proofs.Common.{◌≡◌, ℕ, true, false, List, ◌∷◌, length, refl, sym, ap, ◌∙◌, subst, Option, Some}
 use Rattle.std.specs.Prelude.{◌||◌, ⊤}
 use Rattle.std.specs.Str.{bytes_eq}
-use Rattle.std.proofs.lemmas.Bool.{cond-true}
 use Rattle.site_vector.specs.declared.ids.PartId.{PartId}
 use Rattle.crdt_core.specs.KindsOf.{Kinds}
 use Rattle.world_model.specs.declared.command.Command.{Command}
@@ -19,7 +18,7 @@ use Rattle.world_model.specs.Partition.{PartState, PartStep, IsRefused}
 use Rattle.world_model.specs.Phases.{phase, by_command}
 use Rattle.world_model.specs.Run.{Run}
 use Rattle.world_model.specs.ScriptAnswers.{is_up}
-use Rattle.world_model.specs.ScriptCalls.{is_answer, asked_of, numbered, line_on, calls_of}
+use Rattle.world_model.specs.ScriptCalls.{calls_of}
 use Rattle.world_model.proofs.LineViews.{dependency_is}
 use Rattle.world_model.proofs.Names.{off}
 use Rattle.txn_session.specs.Calls.{Call, entries, called, IsLegal}

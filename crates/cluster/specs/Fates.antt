@@ -1,5 +1,5 @@
 -- What is pending at the partitions of a cluster, and how it ends without its session.
-use Rattle.std.specs.Prelude.{◌≡◌, ℕ, ◌||◌, ◌==◌, not, Bool, true, false, List, [], ◌∷◌, map, Option, None, Some, ⊤}
+use Rattle.std.specs.Prelude.{◌≡◌, ℕ, ◌||◌, ◌==◌, not, Bool, true, false, List, ◌∷◌, map, Option, None, Some}
 use Rattle.site_vector.specs.declared.ids.PartId.{PartId}
 use Rattle.site_vector.specs.declared.ids.TxId.{TxId}
 use Rattle.site_vector.specs.Ids.{same_tx}
@@ -13,7 +13,6 @@ use Rattle.world_model.specs.declared.step.Step.{Step}
 use Rattle.world_model.specs.Cluster.{parts_of}
 use Rattle.world_model.specs.Event as event
 use Rattle.world_model.specs.Event.{Aborted}
-use Rattle.world_model.specs.Lines.{Line}
 use Rattle.world_model.specs.Partition.{PartState}
 use Rattle.world_model.specs.Pending.{pending}
 use Rattle.world_model.specs.Plan.{IsPlace, IsAllowed, home}

@@ -1,4 +1,4 @@
-use Rattle.std.proofs.Common.{◌≡◌, ◌∙◌, false, sym, subst, None, Some}
+use Rattle.std.proofs.Common.{◌≡◌, ◌∙◌, false, sym, subst, None}
 use Rattle.crdt_core.specs.KindsOf.{kinds_of}
 use Rattle.world_model.specs.declared.command.Command.TheVariants as command
 use Rattle.cluster.specs.Fates.{lacks_txn, IsLead, OfState}

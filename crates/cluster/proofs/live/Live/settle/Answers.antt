@@ -1,12 +1,10 @@
-use Rattle.std.proofs.Common.{◌≡◌, ◌∙◌, ◌+◌, ◌∷◌, ◌++◌, [], true, drop, get_or, sym, ap, subst, arith}
+use Rattle.std.proofs.Common.{◌≡◌, ◌∙◌, ◌+◌, [], true, drop, get_or, sym, subst, arith}
 use Rattle.std.proofs.lemmas.List.{drop_more, drop_all}
 use Rattle.crdt_core.specs.KindsOf.{kinds_of}
-use Rattle.world_model.specs.declared.command.Command.TheVariants as command
 use Rattle.cluster.specs.declared.fates.Waiting.{Waiting}
 use Rattle.cluster.specs.Fates.{AreWaiting, OfState}
 use Rattle.cluster.specs.Held.{holds_part}
 use Rattle.cluster.specs.Live.{LiveState}
-use Rattle.cluster.specs.Reached.{AppliesLive}
 use Rattle.cluster.proofs.Applying.{map_ok}
 use Rattle.cluster.proofs.Settling.{IsUnderWay, at_start, may_settle, at_next, at_end, settle_nowhere}
 use Rattle.cluster.proofs.live.Live.settle.Goals as goal
