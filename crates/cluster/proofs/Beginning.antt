@@ -159,6 +159,7 @@ module _ {S E : Type 0} (kinds : Kinds S E) (c : LiveState E) (name : List ℕ) 
           put = a.put;
           there = b.there;
           own = st.name;
+          of_session = refl;
           placed = (λ i. record { at = place_is run r a.before a.is here i; call = Begin (sym st.name i) (sym st.depends i) });
           past = st.depends ∙ ap (lines.dependency (sites_of run) (calls_of run)) (sym st.name);
           few = b.few;

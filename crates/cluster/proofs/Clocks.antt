@@ -20,7 +20,9 @@ use Rattle.cluster.specs.Reaches.{Reaches}
 use Rattle.cluster.specs.Reached.{ReachedLive, GoesTo, AppliesLive}
 use Rattle.cluster.specs.Sees.{Sees}
 use Rattle.cluster.proofs.Meets.{all_met, first_at, none_due, refused}
+use Rattle.world_model.specs.Lines.{Tick}
 use Rattle.cluster.proofs.Turned.{turned_alone}
+use Rattle.cluster.proofs.Turning.{asked_lines}
 
 module _ {S E : Type 0} (kinds : Kinds S E) (c : LiveState E) where
   pub site_in : (run : Run) → ReachedLive kinds c run → (site : ℕ) → holds_site c.sites site ≡ has_site run site
@@ -42,5 +44,5 @@ module _ {S E : Type 0} (kinds : Kinds S E) (c : LiveState E) where
         let seen : Sees kinds later (called 0 p (Ticked n now) ∷ r.calls) = record { reached = subst (λ (e : Event E). Reaches kinds later ((record { at = p; event = e }) ∷ entries r.calls)) x.shows x.reached; calm = (refl, r.sees.calm); one_caller = (refl, r.sees.one_caller) } in
         subst (λ l. IsAnswer is_built run (command.Clock p n) l × GoesTo kinds c run r (record { sites = later; sessions = c.sessions }) (answered number (Some (command.Clock p n)) l run)) (sym is) (
           subst (AnswersBy run (command.Clock p n) (step.Ticked p now ∷ [])) (sym (none_due (all_met run (command.Clock p n)) (refl, (ap not r.has, (ap not (sym (part_in run r p) ∙ there), tt))))) (step.Ticked p now, refl, refl, tt),
-          turned_alone kinds c run r number (command.Clock p n) 0 p (Ticked n now) later size seen refl refl (λ who s. refl) (λ who. tt) tt,
+          turned_alone kinds c run r number (command.Clock p n) 0 p (Ticked n now) later size seen refl (asked_lines number (command.Clock p n) run (step.Ticked p now) (step.Ticked p now) p (Tick n) refl refl refl refl) (λ who s. refl) (λ who. tt) tt,
         )

@@ -136,6 +136,7 @@ module _ {S E : Type 0} (kinds : Kinds S E) (c : LiveState E) (name : List ℕ) 
                 put = a.put;
                 there = record { name = ap (λ y. y.name) d.0; site = ap (λ y. y.site) d.0; sites = ap (λ y. y.sites) d.0; parts = ap (λ y. y.parts) d.0 };
                 own = mine;
+                of_session = refl;
                 placed = ap (λ p. at_object (parts_of run) o p (λ u. ReadOf u o)) (st.phase ∙ ap phase_as e) ∙ (λ i. record { at = record { site = x.0.site_is i; part = place_of o.bucket o.key (sym st.parts i) }; call = ReadOf txn.tx o });
                 past = tt;
                 few = subst (λ (y : SessionState E). update_total (phase_as y.doing) ≤ 256) (sym d.0) st.few;

@@ -50,23 +50,23 @@ abbrev no_tx : TxId
 no_tx = record { site = 0; part = 0; time = 0 }
 
 took_posted : (k number hi : ℕ) → IsPosted (command.Deliver k) (step.Took number hi)
-took_posted k number hi = record { answer = refl; cluster = refl; sites = λ n. refl; parts = λ n. refl; site = λ who old. refl; count = λ n. refl; phase = λ parts who old. refl }
+took_posted k number hi = record { alone = refl; answer = refl; cluster = refl; sites = λ n. refl; parts = λ n. refl; site = λ who old. refl; count = λ n. refl; phase = λ parts who old. refl }
 
 heard_posted : (k number : ℕ) (at p : PartId) (stable : List ℕ) → IsPosted (command.Hear k at) (step.Heard number p stable)
-heard_posted k number at p stable = record { answer = refl; cluster = refl; sites = λ n. refl; parts = λ n. refl; site = λ who old. refl; count = λ n. refl; phase = λ parts who old. refl }
+heard_posted k number at p stable = record { alone = refl; answer = refl; cluster = refl; sites = λ n. refl; parts = λ n. refl; site = λ who old. refl; count = λ n. refl; phase = λ parts who old. refl }
 
 refused_posted : (k : ℕ) (at : PartId) (number : ℕ) (why : Refusal) → is_plain why ≡ true → IsPosted (command.Deliver k) (refusal_line at no_tx number why)
 refused_posted k at number IsDown h = off h
 refused_posted k at number IsBadOp h = off h
 refused_posted k at number (HasNoRoom n) h = off h
 refused_posted k at number (IsDamaged n) h = off h
-refused_posted k at number (ClockBehind n) h = record { answer = refl; cluster = refl; sites = λ n. refl; parts = λ n. refl; site = λ who old. refl; count = λ n. refl; phase = λ parts who old. refl }
-refused_posted k at number (TxPending t n) h = record { answer = refl; cluster = refl; sites = λ n. refl; parts = λ n. refl; site = λ who old. refl; count = λ n. refl; phase = λ parts who old. refl }
-refused_posted k at number (StableBehind j n) h = record { answer = refl; cluster = refl; sites = λ n. refl; parts = λ n. refl; site = λ who old. refl; count = λ n. refl; phase = λ parts who old. refl }
-refused_posted k at number ClockAtEnd h = record { answer = refl; cluster = refl; sites = λ n. refl; parts = λ n. refl; site = λ who old. refl; count = λ n. refl; phase = λ parts who old. refl }
-refused_posted k at number IsGone h = record { answer = refl; cluster = refl; sites = λ n. refl; parts = λ n. refl; site = λ who old. refl; count = λ n. refl; phase = λ parts who old. refl }
-refused_posted k at number (HasGap n) h = record { answer = refl; cluster = refl; sites = λ n. refl; parts = λ n. refl; site = λ who old. refl; count = λ n. refl; phase = λ parts who old. refl }
-refused_posted k at number (IsRepeat n) h = record { answer = refl; cluster = refl; sites = λ n. refl; parts = λ n. refl; site = λ who old. refl; count = λ n. refl; phase = λ parts who old. refl }
+refused_posted k at number (ClockBehind n) h = record { alone = refl; answer = refl; cluster = refl; sites = λ n. refl; parts = λ n. refl; site = λ who old. refl; count = λ n. refl; phase = λ parts who old. refl }
+refused_posted k at number (TxPending t n) h = record { alone = refl; answer = refl; cluster = refl; sites = λ n. refl; parts = λ n. refl; site = λ who old. refl; count = λ n. refl; phase = λ parts who old. refl }
+refused_posted k at number (StableBehind j n) h = record { alone = refl; answer = refl; cluster = refl; sites = λ n. refl; parts = λ n. refl; site = λ who old. refl; count = λ n. refl; phase = λ parts who old. refl }
+refused_posted k at number ClockAtEnd h = record { alone = refl; answer = refl; cluster = refl; sites = λ n. refl; parts = λ n. refl; site = λ who old. refl; count = λ n. refl; phase = λ parts who old. refl }
+refused_posted k at number IsGone h = record { alone = refl; answer = refl; cluster = refl; sites = λ n. refl; parts = λ n. refl; site = λ who old. refl; count = λ n. refl; phase = λ parts who old. refl }
+refused_posted k at number (HasGap n) h = record { alone = refl; answer = refl; cluster = refl; sites = λ n. refl; parts = λ n. refl; site = λ who old. refl; count = λ n. refl; phase = λ parts who old. refl }
+refused_posted k at number (IsRepeat n) h = record { alone = refl; answer = refl; cluster = refl; sites = λ n. refl; parts = λ n. refl; site = λ who old. refl; count = λ n. refl; phase = λ parts who old. refl }
 
 refused_up : (at : PartId) (number : ℕ) (why : Refusal) → is_plain why ≡ true → is_up (refusal_line at no_tx number why) ≡ true
 refused_up at number IsDown h = off h
@@ -91,7 +91,7 @@ refused_numbered run events at number own m (IsRepeat n) h = ap (λ o. step.Dup 
 refused_numbered run events at number own m IsDown h = refl
 refused_numbered run events at number own m other h = refl
 
-place_of_part : {E : Type 0} (c : Held E) (p : PartId) → holds_part c p ≡ true → IsPlace c.sites c.parts p
+pub place_of_part : {E : Type 0} (c : Held E) (p : PartId) → holds_part c p ≡ true → IsPlace c.sites c.parts p
 place_of_part c p h =
     let x = and_parts (holds_site c p.site) _ h in
     let site = and_parts (nat_le 1 p.site) _ x.0 in

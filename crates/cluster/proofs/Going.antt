@@ -19,7 +19,7 @@ use Rattle.partition_core.specs.declared.answers.CallError.{CallError}
 use Rattle.partition_core.specs.declared.answers.CallError.TheVariants as call
 use Rattle.partition_core.specs.Answers.{cause, Answered, Called}
 use Rattle.partition_core.specs.Steps.{Anything, Steps, Stepped}
-use Rattle.partition_core.specs.Tables.{Tables}
+use Rattle.partition_core.specs.Tables.{Tables, IsSame}
 use Rattle.partition_core.proofs.Callers.{put, world_step}
 use Rattle.cluster.specs.Held.{Held, IsSized, index_of}
 use Rattle.cluster.specs.Reaches.{StandsAt, Reaches, Goes}
@@ -53,6 +53,18 @@ module _ {S E : Type 0} (kinds : Kinds S E) where
             subst (λ x. StandsAt kinds sites parts p x (put kinds state at after p)) (sym (get_or-set_other tables (index_of parts at) (index_of parts p) new other apart))
             (subst (λ x. StandsAt kinds sites parts p (get_or tables (index_of parts p) other) x) (sym (ap (λ b. if b then after else state p) e)) (each p h other))
 
+  -- a step of one partition is one of the world, and the cluster stands for what it left
+  pub stepped_on : (old : Held E) (at : PartId) (t u : Tables E) → index_of old.parts at < length old.tables → t ≡ get_or old.tables (index_of old.parts at) t → IsPlace old.sites old.parts at → IsSame t u
+      → (run : List (Entry E)) (r : Reaches kinds old run) (Shows : Event E → Type 0) (step : Stepped kinds t (r.state at) Shows u) → IsAllowed (plan_of old.sites old.parts ((record { at = at; event = step.event }) ∷ run)) run r.state at (attempt step.event) → IsFit kinds step.event → IsNew run step.event
+      → Reaches kinds (record old { tables = set old.tables (index_of old.parts at) u }) ((record { at = at; event = step.event }) ∷ run)
+  stepped_on old at t u within there place same run r Shows step allowed fit new =
+      let stands : StandsAt kinds old.sites old.parts at t (r.state at) = subst (λ x. StandsAt kinds old.sites old.parts at x (r.state at)) (sym there) (r.each at place t) in
+      let here : StandsAt kinds old.sites old.parts at u step.after = record { id = same.id ∙ stands.id; sites_are = same.sites ∙ stands.sites_are; parts_are = same.parts ∙ stands.parts_are; stands = step.stands } in record {
+        state = put kinds r.state at step.after;
+        is_run = (r.state, r.is_run, world_step kinds (plan_of old.sites old.parts ((record { at = at; event = step.event }) ∷ run)) run r.state at t u Shows step stands.id stands.sites_are stands.parts_are place allowed fit, new);
+        each = each_put old.sites old.parts at place old.tables u r.state step.after within r.each here;
+      }
+
   pub went : (old new : Held E) (Given : List (Entry E) → Type 0) (at : PartId) (ask : Ask E) (i : ℕ) (t u : Tables E) (G : PartState E → Type 0) (Shows : Event E → Type 0)
       → i ≡ index_of old.parts at → i < length old.tables → t ≡ get_or old.tables i t → new ≡ record old { tables = set old.tables i u } → IsPlace old.sites old.parts at
       → Steps kinds t G Shows u
@@ -71,16 +83,12 @@ module _ {S E : Type 0} (kinds : Kinds S E) where
           let step : Stepped kinds t (r.state at) Shows u = s.step (r.state at) stands.stands a.0 in
           let owes : IsAnswer run ask step.event = a.1 step.event step.shows in
           let allowed : IsAllowed (plan_of old.sites old.parts ((record { at = at; event = step.event }) ∷ run)) run r.state at (attempt step.event) = asks old.sites old.parts run r.state at step.event (subst (MayCall old.sites old.parts run at) (sym owes.asked) may) owes.own_word in
-          let here : StandsAt kinds old.sites old.parts at u step.after = record { id = s.same.id ∙ stands.id; sites_are = s.same.sites ∙ stands.sites_are; parts_are = s.same.parts ∙ stands.parts_are; stands = step.stands } in record {
+          let here : t ≡ get_or old.tables (index_of old.parts at) t = there ∙ ap (λ k. get_or old.tables k t) is in record {
             event = step.event;
             asked = owes.asked;
             own_word = owes.own_word;
             shows = step.shows;
-            reached = record {
-              state = put kinds r.state at step.after;
-              is_run = (r.state, r.is_run, world_step kinds (plan_of old.sites old.parts ((record { at = at; event = step.event }) ∷ run)) run r.state at t u Shows step stands.id stands.sites_are stands.parts_are place allowed owes.fit, owes.new);
-              each = each_put old.sites old.parts at place old.tables u r.state step.after (subst (λ k. k < length old.tables) is within) r.each here;
-            };
+            reached = stepped_on old at t u (subst (λ k. k < length old.tables) is within) here place s.same run r Shows step allowed owes.fit owes.new;
           }
 
   -- the same, as the cluster's fields stand in its code

@@ -36,7 +36,7 @@ use Rattle.cluster.proofs.Meets.{all_met, first_at, none_due, refused, has, abse
 use Rattle.cluster.proofs.Sessions.{own_name, same_name}
 use Rattle.cluster.proofs.Stepping.{Follows, GoesSo, one_step, steps_left}
 
-answered_more : (number : ℕ) (asked : Option Command) (lines : List Step) (s : Step) (run : Run) → answered number asked (lines ++ s ∷ []) run ≡ (record { number = number; command = asked; step = s }) ∷ answered number asked lines run
+pub answered_more : (number : ℕ) (asked : Option Command) (lines : List Step) (s : Step) (run : Run) → answered number asked (lines ++ s ∷ []) run ≡ (record { number = number; command = asked; step = s }) ∷ answered number asked lines run
 answered_more number asked [] s run = refl
 answered_more number asked (x ∷ lines) s run = answered_more number asked lines s ((record { number = number; command = asked; step = x }) ∷ run)
 

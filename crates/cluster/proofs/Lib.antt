@@ -28,3 +28,8 @@ pub mod Posting
 pub mod Dropping
 pub mod Delivering
 pub mod Sending
+pub mod Waits
+pub mod Telling
+pub mod Aborting
+pub mod Expiring
+pub mod Settling

@@ -1,6 +1,6 @@
 -- Lines that no partition answered, and that change nothing: refusals before any partition is asked.
 use Rattle.std.proofs.Common.{◌≡◌, ℕ, Bool, true, false, List, [], ◌∷◌, refl, ap, ◌∙◌, Option, Some}
-use Rattle.std.specs.Prelude.{if◌then◌else◌, ◌||◌}
+use Rattle.std.specs.Prelude.{if◌then◌else◌, ◌||◌, ◌&&◌, not}
 use Rattle.std.specs.Str.{bytes_eq}
 use Rattle.std.proofs.lemmas.Bool.{cond-false}
 use Rattle.world_model.proofs.Names.{off}
@@ -12,7 +12,7 @@ use Rattle.world_model.specs.Cluster.{is_cluster, has_cluster, sites_of, parts_o
 use Rattle.world_model.specs.Meeting.{site_after, site_of, count_after, session_count}
 use Rattle.world_model.specs.Phases.{Phase, Absent, phase, phase_after, by_command}
 use Rattle.world_model.specs.Run.{Run}
-use Rattle.world_model.specs.ScriptCalls.{is_answer, calls_of}
+use Rattle.world_model.specs.ScriptCalls.{is_answer, is_looked_up, is_called, calls_of}
 use Rattle.cluster.specs.Reached.{IsBefore}
 use Rattle.cluster.proofs.Keeping.{is_postal, keeps_line, keeps_none, keeps_both}
 
@@ -44,6 +44,10 @@ pub record IsMere (s : Step) : Type 0 where
   pub site : (who : List ℕ) (old : Option ℕ) → site_after who old s ≡ old
   pub count : (n : ℕ) → count_after n s ≡ n
   pub phase : (parts : ℕ) (who : List ℕ) (old : Phase) (asked : Option Command) → phase_after parts who old asked s ≡ by_command parts who old asked s
+
+-- and no call is shown by it
+pub uncalled : (asked : Option Command) (s : Step) → is_answer s ≡ false → is_called asked s ≡ false
+uncalled asked s h = ap (λ b. b && not (is_looked_up asked s)) h
 
 all_same : (s : Step) → is_answer s ≡ false → is_cluster s ≡ false → ((n : ℕ) → sites_after n s ≡ n) → ((n : ℕ) → parts_after n s ≡ n) → ((who : List ℕ) (old : Option ℕ) → site_after who old s ≡ old) → ((n : ℕ) → count_after n s ≡ n) → ((parts : ℕ) (who : List ℕ) (old : Phase) (asked : Option Command) → phase_after parts who old asked s ≡ by_command parts who old asked s) → IsMere s
 all_same s a b c d e f g = record { answer = a; cluster = b; sites = c; parts = d; site = e; count = f; phase = g }
@@ -86,7 +90,7 @@ before_still number asked s run h b =
       lacks = ap (λ x. x || has_cluster run) m.cluster ∙ b.lacks;
       sites = m.sites (sites_of run) ∙ b.sites;
       parts = m.parts (parts_of run) ∙ b.parts;
-      calls = cond-false (is_answer s) _ (calls_of run) m.answer ∙ b.calls;
+      calls = cond-false (is_called asked s) _ (calls_of run) (uncalled asked s m.answer) ∙ b.calls;
       phases = λ who. m.phase (parts_of run) who (phase run who) asked ∙ ap (λ o. by_command (parts_of run) who o asked s) (b.phases who) ∙ absent_stays (parts_of run) who asked s;
       site = λ who. m.site who (site_of run who) ∙ b.site who;
       count = m.count (session_count run) ∙ b.count;

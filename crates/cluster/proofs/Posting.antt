@@ -1,7 +1,6 @@
 -- A call whose line the script numbers: no session is about it.
 use Rattle.std.proofs.Common.{◌≡◌, ℕ, true, false, List, ◌∷◌, refl, sym, ap, ◌∙◌, subst, Option, Some}
 use Rattle.std.specs.Prelude.{◌||◌}
-use Rattle.std.proofs.lemmas.Bool.{cond-true}
 use Rattle.site_vector.specs.declared.ids.PartId.{PartId}
 use Rattle.crdt_core.specs.KindsOf.{Kinds}
 use Rattle.world_model.specs.declared.command.Command.{Command}
@@ -15,7 +14,7 @@ use Rattle.world_model.specs.Meeting.{site_after, count_after, session_count}
 use Rattle.world_model.specs.Past.{dependency}
 use Rattle.world_model.specs.Phases.{Phase, phase_after}
 use Rattle.world_model.specs.Run.{Run}
-use Rattle.world_model.specs.ScriptCalls.{is_answer, asked_of, numbered, line_on, calls_of}
+use Rattle.world_model.specs.ScriptCalls.{is_answer, asked_of, numbered, calls_of}
 use Rattle.world_model.proofs.LineViews.{dependency_is}
 use Rattle.txn_session.specs.Calls.{Call, called, entries, IsLegal}
 use Rattle.cluster.specs.Held.{Held, SameSize}
@@ -23,10 +22,12 @@ use Rattle.cluster.specs.Live.{LiveState, session_in}
 use Rattle.cluster.specs.Reached.{ReachedLive}
 use Rattle.cluster.specs.Sees.{Sees, sees_legal}
 use Rattle.cluster.proofs.Standing.{SameFor, stands_still}
-use Rattle.cluster.proofs.Turning.{IsSilentFor, depends_other, holds_other}
+use Rattle.cluster.specs.Built.{is_of_fates}
+use Rattle.cluster.proofs.Turning.{IsSilentFor, asked_lines, depends_other, holds_other}
 
 -- what such a line leaves as it was
 pub record IsPosted (cmd : Command) (s : Step) : Type 0 where
+  pub alone : is_of_fates cmd ≡ false
   pub answer : is_answer s ≡ true
   pub cluster : is_cluster s ≡ false
   pub sites : (n : ℕ) → sites_after n s ≡ n
@@ -44,7 +45,7 @@ module _ {S E : Type 0} (kinds : Kinds S E) (c : LiveState E) (run : Run) (r : R
   later = called 0 at e ∷ r.calls
 
   lines_are : calls_of ((record { number = number; command = Some cmd; step = s }) ∷ run) ≡ (record { at = at; call = call_of e; step = step_shown (entries r.calls) at e }) ∷ calls_of run
-  lines_are = cond-true (is_answer s) (line_on (calls_of run) (asked_of (calls_of run) run cmd) (numbered run s)) (calls_of run) told.answer ∙ (λ i. line_on (calls_of run) (placed i) (numbers i))
+  lines_are = asked_lines number cmd run s (step_shown (entries r.calls) at e) at (call_of e) told.alone told.answer numbers placed
 
   shown_next : lines_of (entries later) ≡ calls_of ((record { number = number; command = Some cmd; step = s }) ∷ run)
   shown_next = ap (λ ls. (record { at = at; call = call_of e; step = step_shown (entries r.calls) at e }) ∷ ls) r.shown ∙ sym lines_are

@@ -34,10 +34,10 @@ use Rattle.cluster.proofs.Meets.{all_met, first_at, none_due}
 use Rattle.cluster.proofs.Posting.{IsPosted, posted}
 
 sent_posted : (p at : PartId) (site to number lo hi count : ℕ) (from : Option ℕ) → IsPosted (command.Send p site from) (step.Sent number at to lo hi count)
-sent_posted p at site to number lo hi count from = record { answer = refl; cluster = refl; sites = λ n. refl; parts = λ n. refl; site = λ who old. refl; count = λ n. refl; phase = λ parts who old. refl }
+sent_posted p at site to number lo hi count from = record { alone = refl; answer = refl; cluster = refl; sites = λ n. refl; parts = λ n. refl; site = λ who old. refl; count = λ n. refl; phase = λ parts who old. refl }
 
 reported_posted : (p at : PartId) (number : ℕ) (b : List ℕ) → IsPosted (command.Report p) (step.Reported number at b)
-reported_posted p at number b = record { answer = refl; cluster = refl; sites = λ n. refl; parts = λ n. refl; site = λ who old. refl; count = λ n. refl; phase = λ parts who old. refl }
+reported_posted p at number b = record { alone = refl; answer = refl; cluster = refl; sites = λ n. refl; parts = λ n. refl; site = λ who old. refl; count = λ n. refl; phase = λ parts who old. refl }
 
 and_true : (b : Bool) → (b && true) ≡ b
 and_true true = refl

@@ -26,7 +26,8 @@ use Rattle.cluster.specs.Held.{Held, SameSize}
 use Rattle.cluster.specs.Live.{LiveState, session_in, IsPut}
 use Rattle.cluster.specs.Reached.{phase_as, StandsBy, StandsAs, ReachedLive, GoesTo}
 use Rattle.cluster.specs.Sees.{is_calm, Sees}
-use Rattle.cluster.proofs.Turning.{is_numberless, IsCallLine, call_line}
+use Rattle.cluster.specs.Built.{is_of_fates}
+use Rattle.cluster.proofs.Turning.{is_numberless, IsCallLine, call_line, asked_lines}
 use Rattle.cluster.proofs.Turned.{IsOwnAsk, silent, call_is, numberless, next, depends_next, depended, other_next, turned}
 
 pub same_name : (a b : List ℕ) → bytes_eq a b ≡ true → a ≡ b
@@ -86,6 +87,7 @@ module _ {S E : Type 0} (kinds : Kinds S E) where
         pub put : IsPut c.sessions name new sessions
         pub there : IsThere s new
         pub own : IsOwnAsk (entries r.calls) name ask
+        pub of_session : is_of_fates cmd ≡ false
         pub placed : asked_of (calls_of run) run cmd ≡ record { at = at; call = call_asked ask }
         pub past : IsOwnPast (sites_of run) (calls_of run) (call_asked ask)
         pub idle : (who : List ℕ) → bytes_eq name who ≡ false → (line : Step) → by_command (parts_of run) who (phase run who) (Some cmd) line ≡ phase run who
@@ -95,7 +97,7 @@ module _ {S E : Type 0} (kinds : Kinds S E) where
 
       pub acted : (sessions : List (List ℕ × SessionState E)) → Owes sessions → GoesTo kinds c run r (record { sites = held; sessions = sessions }) ((record { number = number; command = Some cmd; step = answer }) ∷ run)
       acted sessions o = subst (λ line. GoesTo kinds c run r (record { sites = held; sessions = sessions }) ((record { number = number; command = Some cmd; step = line }) ∷ run)) (sym t.shows)
-          (turned kinds c run r number cmd t.by at t.event held o.size t.seen plain placed sessions o.put.count past each)
+          (turned kinds c run r number cmd t.by at t.event held o.size t.seen plain lines_are sessions o.put.count past each)
         where
           own : IsOwnAsk (entries r.calls) name (asked_by (attempt t.event))
           own = subst (IsOwnAsk (entries r.calls) name) (sym t.asked) o.own
@@ -109,20 +111,20 @@ module _ {S E : Type 0} (kinds : Kinds S E) where
           plain : is_numberless t.event ≡ true
           plain = numberless kinds held.sites held.parts at (t.seen.reached.is_run.0 at) (entries r.calls) name (t.seen.reached.state at) t.event own t.seen.reached.is_run.2.step
 
-          placed : asked_of (calls_of run) run cmd ≡ record { at = at; call = call_of t.event }
-          placed = o.placed ∙ ap (λ k. record { at = at; call = k }) (sym call)
+          told : IsCallLine run (step_shown (entries r.calls) at t.event)
+          told = call_line run (entries r.calls) at t.event calm plain
+
+          lines_are : calls_of ((record { number = number; command = Some cmd; step = step_shown (entries r.calls) at t.event }) ∷ run) ≡ (record { at = at; call = call_of t.event; step = step_shown (entries r.calls) at t.event }) ∷ calls_of run
+          lines_are = asked_lines number cmd run (step_shown (entries r.calls) at t.event) (step_shown (entries r.calls) at t.event) at (call_of t.event) o.of_session told.answer told.number (o.placed ∙ ap (λ k. record { at = at; call = k }) (sym call))
 
           past : IsOwnPast (sites_of run) (calls_of run) (call_of t.event)
           past = subst (IsOwnPast (sites_of run) (calls_of run)) (sym call) o.past
 
           after : Run
-          after = next kinds c run r number cmd t.by at t.event held o.size t.seen plain placed
+          after = next kinds c run r number cmd t.by at t.event held o.size t.seen plain lines_are
 
           st : StandsBy run r.calls name s
           st = stands
-
-          told : IsCallLine run (step_shown (entries r.calls) at t.event)
-          told = call_line run (entries r.calls) at t.event calm plain
 
           mine : StandsBy after (called t.by at t.event ∷ r.calls) name new
           mine = record {
@@ -133,7 +135,7 @@ module _ {S E : Type 0} (kinds : Kinds S E) where
             there = (λ i. nat_le 1 (o.there.site i) && nat_le (o.there.site i) (told.sites (sites_of run) i)) ∙ st.there;
             phase = ap (phase_after (parts_of run) name (phase run name) (Some cmd)) (sym t.shows) ∙ o.phase;
             few = o.few;
-            depends = o.depends ∙ (ap (λ d. dependency_after (sites_of run) (entries r.calls) name d t.event) (st.depends ∙ depended kinds c run r number cmd t.by at t.event held o.size t.seen plain placed name) ∙ sym (depends_next kinds c run r number cmd t.by at t.event held o.size t.seen plain placed name));
+            depends = o.depends ∙ (ap (λ d. dependency_after (sites_of run) (entries r.calls) name d t.event) (st.depends ∙ depended kinds c run r number cmd t.by at t.event held o.size t.seen plain lines_are name) ∙ sym (depends_next kinds c run r number cmd t.by at t.event held o.size t.seen plain lines_are name));
             holds = t.holds;
           }
 
@@ -142,4 +144,4 @@ module _ {S E : Type 0} (kinds : Kinds S E) where
             where
               by_name : (b : Bool) → bytes_eq name who ≡ b → StandsAs after (called t.by at t.event ∷ r.calls) who (if b then Some new else session_in c.sessions who)
               by_name true h = subst (λ n. StandsBy after (called t.by at t.event ∷ r.calls) n new) (same_name name who h) mine
-              by_name false h = other_next kinds c run r number cmd t.by at t.event held o.size t.seen plain placed who (session_in c.sessions who) (o.idle who h) (silent (entries r.calls) name who h t.event own) (r.each who)
+              by_name false h = other_next kinds c run r number cmd t.by at t.event held o.size t.seen plain lines_are who (session_in c.sessions who) (o.idle who h) (silent (entries r.calls) name who h t.event own) (r.each who)

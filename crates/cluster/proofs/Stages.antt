@@ -21,6 +21,7 @@ use Rattle.clocksi_commit.specs.Commit.{Committing, is_finishing}
 use Rattle.txn_session.specs.Session.{Txn, Ending, committed_so}
 use Rattle.cluster.specs.declared.commits.Way.{Way}
 use Rattle.cluster.specs.declared.commits.Way.TheVariants as way
+use Rattle.cluster.specs.Built.{is_of_fates}
 use Rattle.cluster.specs.Ends.{command_of, turned_to, can_go}
 use Rattle.cluster.proofs.Sessions.{own_name}
 
@@ -60,6 +61,10 @@ shrinks (Aborting []) s d h = absurd (true≢false d)
 pub asked_end : (w : Way) (ls : List Line) (run : Run) (name : List ℕ) (steps : Option ℕ) → asked_of ls run (command_of w name steps) ≡ for_commit (parts_of run) (phase run name) (turned_to w)
 asked_end way.Commits ls run name steps = refl
 asked_end way.GivesUp ls run name steps = refl
+
+pub of_way : (w : Way) (name : List ℕ) (steps : Option ℕ) → is_of_fates (command_of w name steps) ≡ false
+of_way way.Commits name steps = refl
+of_way way.GivesUp name steps = refl
 
 pub idle_end : (w : Way) (parts : ℕ) (name who : List ℕ) (steps : Option ℕ) (old : Phase) → bytes_eq name who ≡ false → (line : Step) → by_command parts who old (Some (command_of w name steps)) line ≡ old
 idle_end way.Commits parts name who steps old q line = cond-false (bytes_eq name who) _ old q

@@ -1,24 +1,24 @@
 -- A session stands still where a run tells the same of it, and what it did stands in the calls.
-use Rattle.std.proofs.Common.{◌≡◌, ℕ, true, List, ◌∷◌, refl, sym, ap, ◌∙◌, subst, Option, None, Some}
+use Rattle.std.proofs.Common.{◌≡◌, ℕ, true, false, List, ◌∷◌, refl, sym, ap, ◌∙◌, subst, Option, None, Some}
 use Rattle.std.specs.Prelude.{◌||◌, ◌&&◌, nat_le}
 use Rattle.std.proofs.lemmas.Bool.{cond-false}
 use Rattle.crdt_core.specs.KindsOf.{Kinds}
 use Rattle.world_model.specs.declared.command.Command.{Command}
 use Rattle.world_model.specs.declared.step.Step.{Step}
-use Rattle.world_model.specs.Cluster.{has_cluster, sites_of, parts_of}
+use Rattle.world_model.specs.Cluster.{is_cluster, has_cluster, sites_of, parts_of, sites_after, parts_after}
 use Rattle.world_model.specs.Dependency.{dependency, HandsOwn}
-use Rattle.world_model.specs.Meeting.{site_of, session_count}
-use Rattle.world_model.specs.Phases.{phase, by_command}
+use Rattle.world_model.specs.Meeting.{site_after, site_of, count_after, session_count}
+use Rattle.world_model.specs.Phases.{phase, phase_after, by_command}
 use Rattle.world_model.specs.Run.{Run}
-use Rattle.world_model.specs.ScriptCalls.{is_answer, calls_of}
+use Rattle.world_model.specs.ScriptCalls.{is_called, calls_of}
 use Rattle.txn_session.specs.Calls.{Call}
 use Rattle.txn_session.specs.Holds.{Holds}
 use Rattle.txn_session.specs.Session.{SessionState}
 use Rattle.cluster.specs.Held.{size_refl, size_trans}
 use Rattle.cluster.specs.Live.{LiveState, session_in}
 use Rattle.cluster.specs.Reached.{StandsAs, ReachedLive, GoesTo}
-use Rattle.cluster.proofs.Keeping.{grows_none, grows_both, keeps_line, keeps_none, keeps_both}
-use Rattle.cluster.proofs.Mere.{is_mere, IsMere, mere, mere_plain}
+use Rattle.cluster.proofs.Keeping.{is_postal, grows_none, grows_both, keeps_line, keeps_none, keeps_both}
+use Rattle.cluster.proofs.Mere.{is_mere, IsMere, uncalled, mere, mere_plain}
 
 -- the runs tell the same of this session
 pub record SameFor (new old : Run) (who : List ℕ) : Type 0 where
@@ -42,10 +42,20 @@ stands_still new old later calls who (Some x) same holds s = record {
   holds = holds x refl s.holds;
 }
 
+-- what a line leaves as it was that shows no call
+pub record IsQuiet (run : Run) (asked : Option Command) (s : Step) : Type 0 where
+  pub called : is_called asked s ≡ false
+  pub cluster : is_cluster s ≡ false
+  pub sites : (n : ℕ) → sites_after n s ≡ n
+  pub parts : (n : ℕ) → parts_after n s ≡ n
+  pub site : (who : List ℕ) (old : Option ℕ) → site_after who old s ≡ old
+  pub count : (n : ℕ) → count_after n s ≡ n
+  pub phase : (who : List ℕ) → phase_after (parts_of run) who (phase run who) asked s ≡ phase run who
+
 module _ {S E : Type 0} (kinds : Kinds S E) where
-  -- a line that no partition answered, and that gives no session another phase, leaves the cluster as it was
-  abbrev pub mere_still : (c : LiveState E) (number : ℕ) (asked : Option Command) (s : Step) (run : Run) → IsMere s → ((who : List ℕ) → by_command (parts_of run) who (phase run who) asked s ≡ phase run who) → ReachedLive kinds c run → ReachedLive kinds c ((record { number = number; command = asked; step = s }) ∷ run)
-  mere_still c number asked s run m idle r = record {
+  -- a line that shows no call, and that gives no session another phase, leaves the cluster as it was
+  abbrev pub quiet_still : (c : LiveState E) (number : ℕ) (asked : Option Command) (s : Step) (run : Run) → IsQuiet run asked s → ReachedLive kinds c run → ReachedLive kinds c ((record { number = number; command = asked; step = s }) ∷ run)
+  quiet_still c number asked s run m r = record {
     has = ap (λ x. x || has_cluster run) m.cluster ∙ r.has;
     sites = r.sites ∙ sym (m.sites (sites_of run));
     parts = r.parts ∙ sym (m.parts (parts_of run));
@@ -61,16 +71,24 @@ module _ {S E : Type 0} (kinds : Kinds S E) where
       next = (record { number = number; command = asked; step = s }) ∷ run
 
       lines : calls_of next ≡ calls_of run
-      lines = cond-false (is_answer s) _ (calls_of run) m.answer
+      lines = cond-false (is_called asked s) _ (calls_of run) m.called
 
       same : (who : List ℕ) → SameFor next run who
       same who = record {
         sites = m.sites (sites_of run);
         parts = m.parts (parts_of run);
         site = m.site who (site_of run who);
-        phase = m.phase (parts_of run) who (phase run who) asked ∙ idle who;
+        phase = m.phase who;
         depends = (λ i. dependency (m.sites (sites_of run) i) (lines i) who);
       }
+
+  pub goes_quiet : (c : LiveState E) (number : ℕ) (asked : Option Command) (s : Step) (run : Run) → IsQuiet run asked s → is_postal s ≡ false → (r : ReachedLive kinds c run) → GoesTo kinds c run r c ((record { number = number; command = asked; step = s }) ∷ run)
+  goes_quiet c number asked s run m h r = record { size = size_refl c.sites; reached = quiet_still c number asked s run m r; grows = grows_none r.calls; keeps = keeps_line number asked s run h }
+
+  -- so does one that no partition answered
+  abbrev pub mere_still : (c : LiveState E) (number : ℕ) (asked : Option Command) (s : Step) (run : Run) → IsMere s → ((who : List ℕ) → by_command (parts_of run) who (phase run who) asked s ≡ phase run who) → ReachedLive kinds c run → ReachedLive kinds c ((record { number = number; command = asked; step = s }) ∷ run)
+  mere_still c number asked s run m idle r = quiet_still c number asked s run
+      (record { called = uncalled asked s m.answer; cluster = m.cluster; sites = m.sites; parts = m.parts; site = m.site; count = m.count; phase = λ who. m.phase (parts_of run) who (phase run who) asked ∙ idle who }) r
 
   -- and so does a refusal
   pub live_still : (c : LiveState E) (number : ℕ) (asked : Option Command) (s : Step) (run : Run) → is_mere s ≡ true → ((who : List ℕ) → by_command (parts_of run) who (phase run who) asked s ≡ phase run who) → (r : ReachedLive kinds c run) → GoesTo kinds c run r c ((record { number = number; command = asked; step = s }) ∷ run)

@@ -41,7 +41,7 @@ use Rattle.cluster.specs.Sees.{Sees}
 use Rattle.cluster.proofs.Ends.{is_step, part_for, is_end_ask, step_left, holders_are, end_phase, shown_of, ask_for, end_ask, placed_for, own_for, past_for, depends_for}
 use Rattle.cluster.proofs.Meets.{by_name}
 use Rattle.cluster.proofs.Sessions.{Turns, nobody, turns, acted, own_name, same_name}
-use Rattle.cluster.proofs.Stages.{size, shrinks, asked_end, idle_end, IsStage, stage_opened, stage_committing, stage_giving, over_opened}
+use Rattle.cluster.proofs.Stages.{size, shrinks, asked_end, of_way, idle_end, IsStage, stage_opened, stage_committing, stage_giving, over_opened}
 use Rattle.cluster.proofs.Standing.{stands_still}
 use Rattle.cluster.proofs.Turned.{line_up}
 
@@ -270,6 +270,7 @@ module _ {S E : Type 0} (kinds : Kinds S E) where
             put = put;
             there = record { name = ap (λ y. y.name) new_is; site = ap (λ y. y.site) new_is; sites = ap (λ y. y.sites) new_is; parts = ap (λ y. y.parts) new_is };
             own = own_for s.parts txn lead (entries r.calls) name asked asks (x.session ∙ st.name);
+            of_session = of_way w name steps;
             placed = placed;
             past = past_for s.parts txn lead (sites_of run) (calls_of run) asked;
             idle = λ who h line. idle_end w (parts_of run) name who steps (phase run who) h line;

@@ -2,7 +2,6 @@
 use Rattle.std.proofs.Common.{◌≡◌, ℕ, true, false, List, ◌∷◌, length, refl, sym, ap, ◌∙◌, subst, Option, Some}
 use Rattle.std.specs.Prelude.{◌||◌, ⊤}
 use Rattle.std.specs.Str.{bytes_eq}
-use Rattle.std.proofs.lemmas.Bool.{cond-true}
 use Rattle.site_vector.specs.declared.ids.PartId.{PartId}
 use Rattle.crdt_core.specs.KindsOf.{Kinds}
 use Rattle.world_model.specs.declared.command.Command.{Command}
@@ -19,7 +18,7 @@ use Rattle.world_model.specs.Partition.{PartState, PartStep, IsRefused}
 use Rattle.world_model.specs.Phases.{phase, by_command}
 use Rattle.world_model.specs.Run.{Run}
 use Rattle.world_model.specs.ScriptAnswers.{is_up}
-use Rattle.world_model.specs.ScriptCalls.{is_answer, asked_of, numbered, line_on, calls_of}
+use Rattle.world_model.specs.ScriptCalls.{calls_of}
 use Rattle.world_model.proofs.LineViews.{dependency_is}
 use Rattle.world_model.proofs.Names.{off}
 use Rattle.txn_session.specs.Calls.{Call, entries, called, IsLegal}
@@ -37,7 +36,8 @@ quiet_call (Sent asked m) h = off h
 quiet_call (Reported b) h = off h
 quiet_call other h = (refl, refl)
 
-module _ {S E : Type 0} (kinds : Kinds S E) (c : LiveState E) (run : Run) (r : ReachedLive kinds c run) (number : ℕ) (cmd : Command) (by : ℕ) (at : PartId) (e : Event E) (held : Held E) (size : SameSize c.sites held) (sees : Sees kinds held (called by at e ∷ r.calls)) (plain : is_numberless e ≡ true) (placed : asked_of (calls_of run) run cmd ≡ record { at = at; call = call_of e }) where
+module _ {S E : Type 0} (kinds : Kinds S E) (c : LiveState E) (run : Run) (r : ReachedLive kinds c run) (number : ℕ) (cmd : Command) (by : ℕ) (at : PartId) (e : Event E) (held : Held E) (size : SameSize c.sites held) (sees : Sees kinds held (called by at e ∷ r.calls)) (plain : is_numberless e ≡ true)
+    (lines_are : calls_of ((record { number = number; command = Some cmd; step = step_shown (entries r.calls) at e }) ∷ run) ≡ (record { at = at; call = call_of e; step = step_shown (entries r.calls) at e }) ∷ calls_of run) where
   abbrev pub line : Step
   line = step_shown (entries r.calls) at e
 
@@ -49,9 +49,6 @@ module _ {S E : Type 0} (kinds : Kinds S E) (c : LiveState E) (run : Run) (r : R
 
   told : IsCallLine run line
   told = call_line run (entries r.calls) at e sees.calm.0 plain
-
-  lines_are : calls_of next ≡ (record { at = at; call = call_of e; step = line }) ∷ calls_of run
-  lines_are = cond-true (is_answer line) (line_on (calls_of run) (asked_of (calls_of run) run cmd) (numbered run line)) (calls_of run) told.answer ∙ (λ i. line_on (calls_of run) (placed i) (told.number i))
 
   pub shown_next : lines_of (entries later) ≡ calls_of next
   shown_next = ap (λ ls. (record { at = at; call = call_of e; step = line }) ∷ ls) r.shown ∙ sym lines_are
@@ -131,7 +128,8 @@ module _ {E : Type 0} where
   silent run name who q (Updated t s o w op read u stamp) own = as_other name who (session_of run t) q own
   silent run name who q (Prepared t s l w n) own = as_other name who (session_of run t) q own
   silent run name who q (Decided t c) own = as_other name who (session_of run t) q own
-  silent run name who q (Aborted t word) own = as_other name who (session_of run t) q own
+  silent run name who q (Aborted t true) own = as_other name who (session_of run t) q own
+  silent run name who q (Aborted t false) own = tt
   silent run name who q (Opened n) own = absurd own
   silent run name who q other own = tt
 

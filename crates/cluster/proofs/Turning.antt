@@ -1,5 +1,5 @@
 -- One more call of a partition and the line that shows it: the cluster stands where they left it, and so do all other sessions.
-use Rattle.std.proofs.Common.{◌≡◌, ◌⊎◌, ⊎_elim, ℕ, Bool, true, false, List, [], ◌∷◌, refl, sym, ap, ◌∙◌, Option}
+use Rattle.std.proofs.Common.{◌≡◌, ◌⊎◌, ⊎_elim, ℕ, Bool, true, false, List, [], ◌∷◌, refl, sym, ap, ◌∙◌, Option, Some}
 use Rattle.std.specs.Prelude.{◌||◌, ◌&&◌, ⊤}
 use Rattle.std.specs.Str.{bytes_eq}
 use Rattle.std.proofs.lemmas.Slice.Eq.{bytes_eq-Decides}
@@ -19,7 +19,10 @@ use Rattle.world_model.specs.Meeting.{site_after, count_after}
 use Rattle.world_model.specs.Past.{begins_for, is_of, dependency_after}
 use Rattle.world_model.specs.Phases.{Phase, phase_after, by_command}
 use Rattle.world_model.specs.Run.{Run}
-use Rattle.world_model.specs.ScriptCalls.{is_answer, numbered}
+use Rattle.world_model.specs.declared.command.Command.TheVariants as command
+use Rattle.world_model.specs.Lines as world
+use Rattle.world_model.specs.ScriptCalls.{is_answer, asked_of, numbered, line_on, calls_of}
+use Rattle.cluster.specs.Built.{is_of_fates}
 use Rattle.world_model.specs.World.{is_begin, begun}
 use Rattle.world_model.proofs.Names.{off}
 use Rattle.txn_session.specs.Calls.{Call, entries, touches, IsLegal}
@@ -28,6 +31,7 @@ use Rattle.txn_session.specs.Session.{Doing, Idle, Open, Ending, SessionState}
 use Rattle.txn_session.proofs.Frames.{holds_more}
 use Rattle.txn_session.proofs.Owning.{legal_tail, begins_new, untold}
 use Rattle.cluster.specs.Sees.{is_calm}
+use Rattle.cluster.proofs.Keeping.{none_and}
 
 eq_self : (name : List ℕ) → bytes_eq name name ≡ true
 eq_self name = (bytes_eq-Decides name name).1 refl
@@ -40,6 +44,13 @@ pub record IsCallLine (run : Run) (s : Step) : Type 0 where
   pub parts : (n : ℕ) → parts_after n s ≡ n
   pub count : (n : ℕ) → count_after n s ≡ n
   pub number : numbered run s ≡ s
+
+-- the line of a command that partitions answer by its own call
+pub asked_lines : (number : ℕ) (cmd : Command) (run : Run) (s shown : Step) (at : PartId) (call : world.Call) → is_of_fates cmd ≡ false → is_answer s ≡ true → numbered run s ≡ shown → asked_of (calls_of run) run cmd ≡ record { at = at; call = call }
+    → calls_of ((record { number = number; command = Some cmd; step = s }) ∷ run) ≡ (record { at = at; call = call; step = shown }) ∷ calls_of run
+asked_lines number (command.Expire p t) run s shown at call f a n k = absurd (true≢false f)
+asked_lines number (command.Settle p) run s shown at call f a n k = absurd (true≢false f)
+asked_lines number cmd run s shown at call f a n k = cond-true (is_answer s && true) (line_on (calls_of run) (asked_of (calls_of run) run cmd) (numbered run s)) (calls_of run) (ap (λ b. b && true) a) ∙ (λ i. line_on (calls_of run) (k i) (n i))
 
 module _ {E : Type 0} where
   -- a call that the script numbers no message or report of
@@ -78,7 +89,8 @@ module _ {E : Type 0} where
   IsSilentFor run who (Updated t s o own op read u stamp) = bytes_eq (session_of run t) who ≡ false
   IsSilentFor run who (Prepared t s l w n) = bytes_eq (session_of run t) who ≡ false
   IsSilentFor run who (Decided t c) = bytes_eq (session_of run t) who ≡ false
-  IsSilentFor run who (Aborted t own) = bytes_eq (session_of run t) who ≡ false
+  IsSilentFor run who (Aborted t true) = bytes_eq (session_of run t) who ≡ false
+  IsSilentFor run who (Aborted t false) = ⊤
   IsSilentFor run who (Opened name) = ⊥
   IsSilentFor run who other = ⊤
 
@@ -142,7 +154,8 @@ module _ {E : Type 0} where
     touches_other c calls who u l b h (Updated t s o own op read x stamp) is calm q = or_none (same_tx t u) (apart_tx (entries calls) who t u h q)
     touches_other c calls who u l b h (Prepared t s i w n) is calm q = or_none (same_tx t u) (apart_tx (entries calls) who t u h q)
     touches_other c calls who u l b h (Decided t v) is calm q = or_none (same_tx t u) (apart_tx (entries calls) who t u h q)
-    touches_other c calls who u l b h (Aborted t own) is calm q = ap (λ x. x && own) (apart_tx (entries calls) who t u h q)
+    touches_other c calls who u l b h (Aborted t true) is calm q = ap (λ x. x && true) (apart_tx (entries calls) who t u h q)
+    touches_other c calls who u l b h (Aborted t false) is calm q = none_and (same_tx t u) false refl
     touches_other c calls who u l b h (Cut what) is calm q = off calm
     touches_other c calls who u l b h (Opened name) is calm q = absurd q
     touches_other c calls who u l b h other is calm q = refl

@@ -199,6 +199,7 @@ module _ {S E : Type 0} (kinds : Kinds S E) (c : LiveState E) (name : List ℕ) 
               put = a.put;
               there = b.there;
               own = x.0.session ∙ st.name;
+              of_session = refl;
               placed = ap (λ p. at_object (parts_of run) o p (λ v. UpdateOf v o op)) (st.phase ∙ ap phase_as e) ∙ (λ i. record { at = record { site = x.0.site_is i; part = place_of o.bucket o.key (sym st.parts i) }; call = UpdateOf txn.tx o op });
               past = tt;
               few = b.few;

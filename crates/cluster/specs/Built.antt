@@ -9,8 +9,6 @@ use Rattle.world_model.specs.declared.command.Command.TheVariants as command
 
 -- all commands but those that need disks
 abbrev pub is_built : Command → Bool
-is_built (command.Expire p t) = false
-is_built (command.Settle p) = false
 is_built (command.Crash p) = false
 is_built (command.Fuse p k n) = false
 is_built (command.Restart p) = false
@@ -25,6 +23,12 @@ is_of_post (command.Report p) = true
 is_of_post (command.Hear number p) = true
 is_of_post (command.DropReport number) = true
 is_of_post other = false
+
+-- the commands by which partitions end what no session ends
+abbrev pub is_of_fates : Command → Bool
+is_of_fates (command.Expire p t) = true
+is_of_fates (command.Settle p) = true
+is_of_fates other = false
 
 -- what the grammar of scripts gives, where objects are of kinds that the type has, and operations of a kind don't lead too deep
 abbrev pub IsSaid : (Kind → Bool) → (Kind → List Field → Bool) → Command → Type 0

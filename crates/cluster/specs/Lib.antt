@@ -8,4 +8,5 @@ pub mod Reached
 pub mod History
 pub mod Acts
 pub mod Ends
+pub mod Fates
 pub mod Post

@@ -114,11 +114,7 @@ fn is_built(command: &Command) -> bool
     ensures { result ≡ is_built command.now }
 {
     match command {
-        Command::Expire { .. }
-        | Command::Settle { .. }
-        | Command::Crash { .. }
-        | Command::Fuse { .. }
-        | Command::Restart { .. } => false,
+        Command::Crash { .. } | Command::Fuse { .. } | Command::Restart { .. } => false,
         _ => true,
     }
 }

@@ -6,6 +6,7 @@ mod begins;
 mod calls;
 mod cluster;
 mod commits;
+mod fates;
 mod live;
 mod post;
 mod posts;

@@ -7,7 +7,7 @@ ghost use Rattle.cluster.specs.Held.{holds_site, holds_part};
 ghost use Rattle.cluster.specs.Reaches.{MayAsk, Reaches};
 ghost use Rattle.crdt_core.specs.KindsOf.{kinds_of};
 ghost use Rattle.crdt_core.specs.Log.{end_of_time};
-ghost use Rattle.cluster.specs.Built.{IsSaid, is_built, is_of_post};
+ghost use Rattle.cluster.specs.Built.{IsSaid, is_built, is_of_fates, is_of_post};
 ghost use Rattle.cluster.specs.Live.{phase_in, is_open_phase, is_idle_phase};
 ghost use Rattle.cluster.specs.Reached.{AppliesLive, IsReachedLive};
 
@@ -82,7 +82,8 @@ impl<C: Crdt> Live<C> {
     /// `AllocError` where memory runs out. It may only be dropped then.
     pub(crate) fn apply(&mut self, command: Command) -> Result<Vec<Step>, AllocError>
         requires built { is_built command ≡ true }
-        requires of_sessions { is_of_post command ≡ false }
+        requires no_post { is_of_post command ≡ false }
+        requires no_fates { is_of_fates command ≡ false }
         requires said { IsSaid C.has C.too_deep command }
         requires reached { IsReachedLive (kinds_of C.laws) self.old }
         ensures { IfOk result (λ steps. AppliesLive (kinds_of C.laws) self.old command steps.items self.new) }

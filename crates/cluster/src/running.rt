@@ -1,6 +1,6 @@
 ghost use Rattle.std.specs.Prelude.{◌≡◌, ◌≤◌, [], true, false, IfOk};
 ghost use Rattle.crdt_core.specs.KindsOf.{kinds_of};
-ghost use Rattle.cluster.specs.Built.{IsSaid, is_built, is_of_post};
+ghost use Rattle.cluster.specs.Built.{IsSaid, is_built, is_of_fates, is_of_post};
 ghost use Rattle.cluster.specs.Post.{new_post};
 ghost use Rattle.cluster.specs.Reached.{Applies, IsReached};
 ghost use Rattle.cluster.specs.Reaches.{Reaches};
@@ -71,6 +71,9 @@ impl<C: Crdt> Running<C> {
         if is_of_post(&command) {
             return self.handle(command);
         }
+        if is_of_fates(&command) {
+            return self.live.end(command);
+        }
         self.live.apply(command)
     }
 }
@@ -88,4 +91,11 @@ fn is_of_post(command: &Command) -> bool
         | Command::DropReport { .. } => true,
         _ => false,
     }
+}
+
+/// Whether partitions end by a command what no session ends.
+fn is_of_fates(command: &Command) -> bool
+    ensures { result ≡ is_of_fates command.now }
+{
+    matches!(command, Command::Expire { .. } | Command::Settle { .. })
 }

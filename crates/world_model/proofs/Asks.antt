@@ -4,7 +4,7 @@ use Rattle.site_vector.specs.declared.ids.PartId.{PartId}
 use Rattle.site_vector.specs.declared.ids.TxId.{TxId}
 use Rattle.world_model.specs.Event.{AskBegin, AskRead, AskUpdate, AskPrepare, AskDecide, AskFinish, AskTake, Event, Began, Updated, Read, Prepared, Decided, Finished, Aborted, Took, Heard, Refused, Entry, attempt}
 use Rattle.world_model.specs.Partition.{PartState}
-use Rattle.world_model.specs.Plan.{home, is_some_update, change_by, updates_at, IsAllowed}
+use Rattle.world_model.specs.Plan.{home, is_some_update, change_by, updates_at, MayAbort, IsAllowed}
 use Rattle.world_model.specs.World.{is_begin, begin_vector, snapshot_of, changes_of, plan_of}
 use Rattle.world_model.specs.Asking.{MayCall, asked_by, is_own_word}
 use Rattle.std.proofs.lemmas.Bool.{cond-false}
@@ -66,3 +66,12 @@ module _ {E : Type 0} where
       (λ t x. same_plan sites parts run at event t refl)
       (λ t x. takes_same sites parts run at event refl t x)
       (may_ask sites parts run at (attempt event) state h w)
+
+  -- an abort on the lead's word
+  pub aborts : (sites parts : ℕ) (run : List (Entry E)) (state : PartId → PartState E) (at : PartId) (t : TxId) → MayAbort (plan_of sites parts run) run state at t false → IsAllowed (plan_of sites parts ((record { at = at; event = Aborted t false }) ∷ run)) run state at (Aborted t false)
+  aborts sites parts run state at t h =
+      allowed_too sites parts run run ((record { at = at; event = Aborted t false }) ∷ run) at state (Aborted t false)
+      (λ u x. same_plan sites parts run at (Aborted t false) u refl)
+      (λ u x. same_plan sites parts run at (Aborted t false) u refl)
+      (λ u x. takes_same sites parts run at (Aborted t false) refl u x)
+      h

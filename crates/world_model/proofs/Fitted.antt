@@ -96,7 +96,7 @@ module _ {E : Type 0} (plan : Plan E) (id : PartId) where
   good_unfit [] g = refl
   good_unfit (r ∷ log) g = ap (λ o. unfit_next o (fits_record plan.sites plan.parts id log r) (length log)) (good_unfit log g.2) ∙ cond-true _ None (Some (length log)) g.0
 
-  lead_good : (log : List (Record E)) (t : TxId) → AreGood log → prepared log t ≡ true → (prepared_lead log t ≡ (plan.lead t).part) × (prepared_snapshot log t ≡ plan.snapshot t)
+  pub lead_good : (log : List (Record E)) (t : TxId) → AreGood log → prepared log t ≡ true → (prepared_lead log t ≡ (plan.lead t).part) × (prepared_snapshot log t ≡ plan.snapshot t)
   lead_good [] t g h = off h
   lead_good (Prepare u l n s w ∷ log) t g h = ⊎_elim
       (λ (e : same_tx u t ≡ true). let same = same_tx_is u t e in (cond-true _ l (prepared_lead log t) e ∙ g.1.0 ∙ ap (λ y. (plan.lead y).part) same, cond-true _ s (prepared_snapshot log t) e ∙ g.1.1 ∙ ap plan.snapshot same))
@@ -109,7 +109,7 @@ module _ {E : Type 0} (plan : Plan E) (id : PartId) where
   lead_good (Batch m ∷ log) t g h = lead_good log t g.2 h
 
   -- what is prepared is of the site
-  prepared_home : (log : List (Record E)) (t : TxId) → AreGood log → prepared log t ≡ true → t.site ≡ id.site
+  pub prepared_home : (log : List (Record E)) (t : TxId) → AreGood log → prepared log t ≡ true → t.site ≡ id.site
   prepared_home [] t g h = off h
   prepared_home (Prepare u l n s w ∷ log) t g h = ⊎_elim
       (λ (e : same_tx u t ≡ true). subst (λ y. y.site ≡ id.site) (same_tx_is u t e) (eqb-true u.site id.site (and_parts (u.site == id.site) _ g.0).0))

@@ -45,4 +45,5 @@ pub mod ExampleFaults
 pub mod Traces
 pub mod Asks
 pub mod Premises
+pub mod Told
 pub mod PastJoins

@@ -360,11 +360,11 @@ module _ {E : Type 0} where
           votes = λ q k. was_prepared_is run t q ∙ a.all q (sym (takes_eq t q) ∙ k);
         }
 
-    ended_eq : (some : List (Entry E)) (p : PartId) (t : TxId) → fates.is_ended_at ls (lines_of some) p t ≡ committed_shown plan some p t
+    pub ended_eq : (some : List (Entry E)) (p : PartId) (t : TxId) → fates.is_ended_at ls (lines_of some) p t ≡ committed_shown plan some p t
     ended_eq some p t = λ i. takes_eq t p i && (in_history_is some t i && not (pending_is some p t i))
 
     -- nothing is brought to its own site
-    unbrought : (some : List (Entry E)) (p : PartId) (t : TxId) → p.site ≡ t.site → fates.is_brought_to ls (lines_of some) p t ≡ false
+    pub unbrought : (some : List (Entry E)) (p : PartId) (t : TxId) → p.site ≡ t.site → fates.is_brought_to ls (lines_of some) p t ≡ false
     unbrought some p t s = ap (λ b. not b && (updates.takes_part ls t (twin t.site p) && (past.in_history ls t && leb (past.commit_time ls t) (bounds.bound (lines_of some) p t.site)))) (eq-eqb t.site p.site (sym s))
 
     known_line : (some : List (Entry E)) (p : PartId) (t : TxId) → (pending_shown some p t || committed_shown plan some p t) ≡ true → fates.is_known_at ls (lines_of some) p t ≡ true

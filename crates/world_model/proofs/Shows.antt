@@ -104,7 +104,7 @@ module _ {E : Type 0} where
 
   -- what is committed at a partition that is up is shown to be
   module _ (plan : Plan E) (run : List (Entry E)) (parts : PartId → PartState E) (f : Fate plan run parts) (h : Shown plan run parts) (q : PartId) (up : (parts q).up ≡ true) (t : TxId) where
-    committed_is : committed (parts q).log t ≡ committed_shown plan run q t
+    pub committed_is : committed (parts q).log t ≡ committed_shown plan run q t
     committed_is =
         let log = (parts q).log in ⊎_elim
         (λ (c : committed log t ≡ true).

@@ -41,9 +41,11 @@ pub mod World
 pub mod Premises
 pub mod Traces
 pub mod Asking
+pub mod Told
 pub mod CommitSteps
 pub mod Phases
 pub mod Messages
 pub mod Meeting
+pub mod Settling
 pub mod ScriptCalls
 pub mod ScriptAnswers

@@ -14,7 +14,8 @@ use Rattle.world_model.specs.CommitSteps.{Going, given_up, is_done, after}
 use Rattle.world_model.specs.Phases.{going_of, phase}
 use Rattle.world_model.specs.Messages.{messages, reports}
 use Rattle.world_model.specs.Meeting.{met}
-use Rattle.world_model.specs.ScriptCalls.{is_answer}
+use Rattle.world_model.specs.ScriptCalls.{is_answer, calls_of}
+use Rattle.world_model.specs.Settling.{expired, IsSettled}
 
 -- until there are disks no partition fails, is down or runs out of room
 abbrev pub is_sound : Step → Bool
@@ -81,9 +82,9 @@ Replies run (command.DropMessage number) steps = steps ≡ step.DroppedMessage n
 Replies run (command.DropReport number) steps = steps ≡ step.DroppedReport number ∷ []
 Replies run (command.Commit name k) steps = StepsOf name (going_of (parts_of run) (phase run name)) (λ g. g) k steps
 Replies run (command.Abort name) steps = StepsOf name (going_of (parts_of run) (phase run name)) given_up None steps
+Replies run (command.Expire p t) steps = steps ≡ expired (parts_of run) (calls_of run) p t ∷ []
+Replies run (command.Settle p) steps = IsSettled (parts_of run) (calls_of run) p steps
 -- these need disks
-Replies run (command.Expire p t) steps = ⊥
-Replies run (command.Settle p) steps = ⊥
 Replies run (command.Crash p) steps = ⊥
 Replies run (command.Fuse p k n) steps = ⊥
 Replies run (command.Restart p) steps = ⊥

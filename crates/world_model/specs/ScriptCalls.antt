@@ -1,5 +1,5 @@
 -- Which lines of a script's run a partition answered, at which partition, and with which call: the run as lines of the world.
-use Rattle.std.specs.Prelude.{ℕ, ◌+◌, Bool, true, false, if◌then◌else◌, List, [], ◌∷◌, Option, None, Some}
+use Rattle.std.specs.Prelude.{ℕ, ◌+◌, Bool, true, false, not, ◌&&◌, if◌then◌else◌, List, [], ◌∷◌, Option, None, Some}
 use Rattle.site_vector.specs.declared.ids.PartId.{PartId}
 use Rattle.site_vector.specs.declared.ids.TxId.{TxId}
 use Rattle.crdt_core.specs.declared.object.ObjectId.{ObjectId}
@@ -43,7 +43,19 @@ is_answer (step.Lost name) = false
 is_answer (step.Ended name) = false
 is_answer (step.DroppedMessage number) = false
 is_answer (step.DroppedReport number) = false
+is_answer (step.Pending p t) = false
+is_answer (step.Settled p) = false
 is_answer other = true
+
+-- an expire asks for an abort alone, and only looks up what is finished or gone
+abbrev pub is_looked_up : Option Command → Step → Bool
+is_looked_up (Some (command.Expire p t)) (step.Finished q u) = true
+is_looked_up (Some (command.Expire p t)) (step.Gone q u) = true
+is_looked_up asked s = false
+
+-- a partition was asked for this line
+abbrev pub is_called : Option Command → Step → Bool
+is_called asked s = is_answer s && not (is_looked_up asked s)
 
 -- a call, and the partition that it is made of
 pub record Placed : Type 0 where
@@ -94,11 +106,20 @@ asked_of ls run (command.Send p site from) = record { at = p; call = SendTo site
 asked_of ls run (command.Deliver number) = for_message (message_of run number)
 asked_of ls run (command.Report p) = record { at = p; call = world.Report }
 asked_of ls run (command.Hear number p) = for_report p (report_of run number)
+asked_of ls run (command.Expire p t) = record { at = p; call = AbortOf t }
 asked_of ls run other = nowhere
 
-abbrev pub asked_by : List world.Line → Run → Option Command → Placed
-asked_by ls run None = nowhere
-asked_by ls run (Some c) = asked_of ls run c
+-- a settle asks for what its line shows
+abbrev pub settling : Step → Call
+settling (step.Finished p t) = FinishOf t
+settling (step.Aborted p t) = AbortOf t
+settling other = Crash
+
+-- what was asked of which partition for this line
+abbrev pub asked_by : List world.Line → Run → Option Command → Step → Placed
+asked_by ls run None s = nowhere
+asked_by ls run (Some (command.Settle p)) s = record { at = p; call = settling s }
+asked_by ls run (Some c) s = asked_of ls run c
 
 abbrev pub own_of : Option Letter → ℕ
 own_of None = 0
@@ -125,4 +146,4 @@ line_on ls asked s = (record { at = asked.at; call = asked.call; step = s }) ∷
 -- the lines of the world that a script's run shows
 abbrev pub calls_of : Run → List world.Line
 calls_of [] = []
-calls_of (e ∷ run) = if is_answer e.step then line_on (calls_of run) (asked_by (calls_of run) run e.command) (numbered run e.step) else calls_of run
+calls_of (e ∷ run) = if is_called e.command e.step then line_on (calls_of run) (asked_by (calls_of run) run e.command e.step) (numbered run e.step) else calls_of run

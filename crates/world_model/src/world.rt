@@ -2,6 +2,7 @@ ghost use Rattle.world_model.specs.World.{LawWorld};
 ghost use Rattle.world_model.specs.Premises.{LawPremises};
 ghost use Rattle.world_model.specs.Traces.{LawTraces};
 ghost use Rattle.world_model.specs.Asking.{LawAsks};
+ghost use Rattle.world_model.specs.Told.{LawTold};
 
 /// The law of the world: any run of it is lawful, for any number of sites and partitions, whatever their kinds of objects
 /// do (with states `S` and effects `E`), with any call cut off by a crash, and whatever a restart finds then. The function
@@ -24,4 +25,10 @@ pub fn law_traces<S, E>()
 /// Whoever asks by the rule of sessions, messages and reports makes steps that the world allows.
 pub fn law_asks<E>()
     ensures asks { LawAsks E }
+{}
+
+/// What a partition tells of a transaction of its site is what the lines of the run tell; where its lead tells an end, a
+/// participant may come to the same end.
+pub fn law_told<S, E>()
+    ensures told { LawTold S E }
 {}
