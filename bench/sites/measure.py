@@ -4,9 +4,10 @@
     python3 bench/sites/measure.py [PROGRAM] [LINES] [OTHER ..]
 
 PROGRAM is crates/dc_shell/out/dc_shell, which `rt run` in crates/dc_shell leaves there, and LINES 1,000,000. Prints
-lines per second and the peak memory, of a quarter of the lines too: how the speed goes with a script's length. OTHER is
-the command of another program that plays scripts from standard input; then that one plays them as well, the replies
-are compared, and the ratio of the times is printed."""
+lines per second of a processor's time, which other work on the machine moves little, and the peak memory, of a quarter
+of the lines too: how the speed goes with a script's length. OTHER is the command of another program that plays scripts
+from standard input; then that one plays them as well, the replies are compared, and the ratio of the times is printed.
+A delivery is timed from the writing of its line to the reading of its reply."""
 import os
 import subprocess
 import sys
@@ -32,26 +33,28 @@ def peak_of(pid):
 
 
 def play(command, script, replies):
-    """Plays a script once: status, seconds, peak in KiB."""
+    """Plays a script once: status, seconds, seconds of a processor, peak in KiB."""
     with open(script, "rb") as source, open(replies, "wb") as sink:
         start = time.monotonic()
         child = subprocess.Popen(command, stdin=source, stdout=sink)
-        peak = 0
-        while child.poll() is None:
+        peak = ended = 0
+        while not ended:
             peak = max(peak, peak_of(child.pid))
             time.sleep(0.001)
+            ended, status, usage = os.wait4(child.pid, os.WNOHANG)
         seconds = time.monotonic() - start
-    return child.returncode, seconds, peak
+    child.returncode = os.waitstatus_to_exitcode(status)
+    return child.returncode, seconds, usage.ru_utime + usage.ru_stime, peak
 
 
 def measure(command, script, replies, lines):
-    """Plays a script some times, prints how that went, and answers the least time."""
+    """Plays a script some times, prints how that went, and answers the least time of a processor."""
     least = float("inf")
     for _ in range(RUNS):
-        status, seconds, peak = play(command, script, replies)
-        least = min(least, seconds)
-        rate = lines / seconds
-        print("  status %d, %.3f s, %.0f lines a second, peak %.1f MB" % (status, seconds, rate, peak / 1024))
+        status, seconds, busy, peak = play(command, script, replies)
+        least = min(least, busy)
+        told = (status, seconds, busy, lines / busy, peak / 1024)
+        print("  status %d, %.3f s, %.3f s of a processor, %.0f lines a second of it, peak %.1f MB" % told)
     return least
 
 
@@ -84,8 +87,15 @@ def large_script():
     yield "send 1.1 2\n"
 
 
+def busy_of(pid):
+    """The seconds of a processor so far, as the kernel tells them."""
+    with open("/proc/%d/schedstat" % pid) as told:
+        return int(told.read().split()[0]) / 1e9
+
+
 def ask(child, lines, front):
-    """Writes lines and reads replies up to one that begins so: that one, and the seconds until it came."""
+    """Writes lines and reads replies up to one that begins so: that one, and the seconds until it came, of both kinds."""
+    busy = busy_of(child.pid)
     start = time.monotonic()
     # Beside the reading, since a pipe holds less than these lines and their replies.
     writer = threading.Thread(target=lambda: (child.stdin.write(lines), child.stdin.flush()))
@@ -94,19 +104,19 @@ def ask(child, lines, front):
         if reply.startswith(front):
             seconds = time.monotonic() - start
             writer.join()
-            return reply.strip(), seconds
+            return reply.strip(), seconds, busy_of(child.pid) - busy
     raise SystemExit("no reply begins with " + front)
 
 
 def measure_large():
-    """Times the delivery of a large message, and beside it that of a small one: what asking and answering take."""
+    """Times the delivery of a large message, and then of the same one again, which is refused: what asking takes."""
     for _ in range(RUNS):
         child = subprocess.Popen([PROGRAM, "play"], stdin=subprocess.PIPE, stdout=subprocess.PIPE, text=True)
         ask(child, "".join(large_script()), "sent m2 ")
-        taken, large = ask(child, "deliver m1\n", "took ")
-        repeated, small = ask(child, "deliver m1\n", "dup ")
+        for front in ("took ", "dup "):
+            reply, seconds, busy = ask(child, "deliver m1\n", front)
+            print("  %s: %.2f ms, %.2f ms of a processor" % (reply, seconds * 1000, busy * 1000))
         child.communicate()
-        print("  %s: %.2f ms; %s: %.2f ms" % (taken, large * 1000, repeated, small * 1000))
 
 
 def main():
