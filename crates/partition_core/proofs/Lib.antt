@@ -2,6 +2,7 @@ mod Leasing
 mod Making
 mod Choices
 mod Sorting
+mod Swapping
 mod PartLists
 mod EntryLists
 mod Rooms
