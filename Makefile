@@ -39,5 +39,6 @@ bench:
 	@echo 'make bench: proves dc_shell and text_bench, as make play does, and measures them.' >&2
 	@cd crates/dc_shell && rt run -- play < /dev/null
 	python3 bench/play/measure.py
+	python3 bench/sites/measure.py
 	@cd crates/text_bench && rt run -- show < stdin > /dev/null
 	python3 bench/text/measure.py

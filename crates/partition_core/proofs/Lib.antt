@@ -6,6 +6,7 @@ mod Leasing
 mod Making
 mod Choices
 mod Sorting
+mod Swapping
 mod PartLists
 mod EntryLists
 mod Rooms

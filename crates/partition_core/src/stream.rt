@@ -166,6 +166,8 @@ pub(crate) fn put_all<C: Crdt>(store: &mut Store<C>, parts: Vec<Part<C::Effect>>
     ensures update_room { store.new.update_room + updates_in parts.items ≡ store.old.update_room }
 {
     let mut left = parts;
+    // A part that comes last is put in one step, and the parts of a message ascend.
+    left.reverse();
     while let Some(part) = left.pop() {
         store.insert(part);
     }

@@ -1,6 +1,6 @@
 use Rattle.std.proofs.Common.{subst}
 use Rattle.partition_core.specs.Messages.{CanPut}
-use Rattle.partition_core.proofs.Putting.{last_fits, putting_more}
+use Rattle.partition_core.proofs.Putting.{last_fits, putting_more, putting_starts}
 use Rattle.partition_core.proofs.stream.put_all.Goals as goal
 
 pub insert-requires-clause-update_room : goal.insert-requires-clause-update_room
@@ -14,3 +14,6 @@ insert-requires-clause-width g c = (last_fits c.pop.new.self.items c.in-Some.par
 
 pub loop-part-preserved : goal.loop-part-preserved
 loop-part-preserved g c = putting_more _ _ _ c.in-Some.part _ _ _ c.in-Some.ensures.items c.loop-part.invariant c.insert.ensures.sites c.insert.ensures.parts c.insert.ensures.room c.insert.ensures.update_room
+
+pub loop-part-init : goal.loop-part-init
+loop-part-init g c = putting_starts c.args.parts.items c.args.store.now _ c.reverse.ensures.items c.requires
