@@ -105,22 +105,26 @@ module _ {S E D : Type 0} (kinds : Kinds S E) (codec : Codec E) (state : D → D
 
   -- it is down
   pub down_call : {A : Type 0} (asked : Ask E) (Shows : A → Event E → Type 0) → is_down old ≡ true → is_restart asked ≡ false → CallsOn kinds codec state old old Given asked Shows (Err call.Down)
-  down_call asked Shows d no_restart = (refl, d, record {
-    same = same;
-    goes_on = rests;
-    step = λ p h g.
-        let s = stands_down codec state old p d h in (
-          record {
-            event = Refused asked IsDown;
-            after = p;
-            shows = refl;
-            step = ((s.down, no_restart), refl);
-            stands = h;
-            moments = at_first (disk_in state old).story (HoldsFront codec p.log (underway p (Refused asked IsDown))) (subst (λ l. EachImage (HoldsFront codec p.log l) (disk_in state old).story.now) (sym (underway_down p (Refused asked IsDown) s.down)) s.images);
-          },
-          unspent p (Refused asked IsDown) refl refl,
-        );
-  })
+  down_call asked Shows d no_restart = (
+    refl,
+    d,
+    record {
+      same = same;
+      goes_on = rests;
+      step = λ p h g.
+          let s = stands_down codec state old p d h in (
+            record {
+              event = Refused asked IsDown;
+              after = p;
+              shows = refl;
+              step = ((s.down, no_restart), refl);
+              stands = h;
+              moments = at_first (disk_in state old).story (HoldsFront codec p.log (underway p (Refused asked IsDown))) (subst (λ l. EachImage (HoldsFront codec p.log l) (disk_in state old).story.now) (sym (underway_down p (Refused asked IsDown) s.down)) s.images);
+            },
+            unspent p (Refused asked IsDown) refl refl,
+          );
+    },
+  )
 
   module _ (up : is_down old ≡ false) where
     pub alive : (old.crashed ≡ false) × (is_closed old.gates ≡ false)

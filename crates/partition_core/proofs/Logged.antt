@@ -99,8 +99,8 @@ module _ {S E D : Type 0} (kinds : Kinds S E) (codec : Codec E) (state : D → D
     tick_done x g t a shown = done_call kinds codec state old Anything up x (record { tables = t; gates = g; crashed = old.crashed }) (leases w) a refl (λ e. e ≡ Ticked r n)
         (subst (λ q. Steps kinds old.tables Anything (λ e. e ≡ Ticked r n) q) (sym shown) (ticks kinds old.tables r n (leased old.tables.ceiling n) low is refl))
         (λ p h e q shows step.
-            let st : PartStep kinds sites parts old.tables.id p (Ticked r n) q = subst (λ (y : Event E). PartStep kinds sites parts old.tables.id p y q) shows step in
-            subst (λ y. IsWritten p y q (leases w)) (sym shows) (record { whole = refl; adds = tick_adds p h; log = ap (λ (s : PartState E). s.log) st.2 ∙ ap (λ l. grown p.log l) (tick_adds p h) }))
+        let st : PartStep kinds sites parts old.tables.id p (Ticked r n) q = subst (λ (y : Event E). PartStep kinds sites parts old.tables.id p y q) shows step in
+        subst (λ y. IsWritten p y q (leases w)) (sym shows) (record { whole = refl; adds = tick_adds p h; log = ap (λ (s : PartState E). s.log) st.2 ∙ ap (λ l. grown p.log l) (tick_adds p h) }))
 
     pub tick_stopped : {R : Type 0} (e : AppendError) (g : GateLog D) → Appends {T = R} codec state (Err e) old.gates g (leases w) → CallsOn kinds codec state old (with_log old g) Anything (AskTick r) (λ m e. e ≡ Ticked r m) (Err (stopped e))
     tick_stopped {R} e g a = stopped_call kinds codec state old Anything up {R = R} (AskTick r) (λ m e. e ≡ Ticked r m) (leases w)
@@ -124,8 +124,8 @@ module _ {S E D : Type 0} (kinds : Kinds S E) (codec : Codec E) (state : D → D
     begin_done x g t a shown = done_call kinds codec state old Anything up x (on_disk t g old.crashed) (leases w) a refl (λ e. e ≡ Began who dep tx s)
         (subst (λ q. Steps kinds old.tables Anything (λ e. e ≡ Began who dep tx s) q) (sym shown) steps)
         (λ p h e q shows step.
-            let st : PartStep kinds sites parts old.tables.id p (Began who dep tx s) q = subst (λ (y : Event E). PartStep kinds sites parts old.tables.id p y q) shows step in
-            subst (λ y. IsWritten p y q (leases w)) (sym shows) (record { whole = refl; adds = begin_adds p h; log = ap (λ (s : PartState E). s.log) st.2 ∙ ap (λ l. grown p.log l) (begin_adds p h) }))
+        let st : PartStep kinds sites parts old.tables.id p (Began who dep tx s) q = subst (λ (y : Event E). PartStep kinds sites parts old.tables.id p y q) shows step in
+        subst (λ y. IsWritten p y q (leases w)) (sym shows) (record { whole = refl; adds = begin_adds p h; log = ap (λ (s : PartState E). s.log) st.2 ∙ ap (λ l. grown p.log l) (begin_adds p h) }))
 
     pub begin_stopped : {R : Type 0} (e : AppendError) (g : GateLog D) → Appends {T = R} codec state (Err e) old.gates g (leases w) → CallsOn kinds codec state old (with_log old g) Anything (AskBegin who dep) (λ (x : TxId × List ℕ) e. e ≡ Began who dep x.0 x.1) (Err (stopped e))
     begin_stopped {R} e g a = stopped_call kinds codec state old Anything up {R = R} (AskBegin who dep) (λ (x : TxId × List ℕ) e. e ≡ Began who dep x.0 x.1) (leases w)
@@ -145,8 +145,8 @@ module _ {S E D : Type 0} (kinds : Kinds S E) (codec : Codec E) (state : D → D
     pub vote_done : {R : Type 0} (x : R) (g : GateLog D) (t : Tables E) → Appends {T = R} codec state (Ok x) old.gates g vote_records → Steps kinds old.tables (NamesNowhere tx) (λ e. e ≡ Prepared tx s l us n) t → StepsOn kinds codec state old (on_disk t g old.crashed) (NamesNowhere tx) (λ e. e ≡ Prepared tx s l us n)
     vote_done x g t a steps = done_call kinds codec state old (NamesNowhere tx) up x (on_disk t g old.crashed) vote_records a refl (λ e. e ≡ Prepared tx s l us n) steps
         (λ p h e q shows step.
-            let st : PartStep kinds sites parts old.tables.id p (Prepared tx s l us n) q = subst (λ (y : Event E). PartStep kinds sites parts old.tables.id p y q) shows step in
-            subst (λ y. IsWritten p y q vote_records) (sym shows) (record { whole = refl; adds = vote_adds p h; log = ap (λ (s : PartState E). s.log) st.2 ∙ ap (λ l. grown p.log l) (vote_adds p h) }))
+        let st : PartStep kinds sites parts old.tables.id p (Prepared tx s l us n) q = subst (λ (y : Event E). PartStep kinds sites parts old.tables.id p y q) shows step in
+        subst (λ y. IsWritten p y q vote_records) (sym shows) (record { whole = refl; adds = vote_adds p h; log = ap (λ (s : PartState E). s.log) st.2 ∙ ap (λ l. grown p.log l) (vote_adds p h) }))
 
     pub vote_stopped : {R : Type 0} → entry s old.tables.id.site ≤ old.tables.clock → n ≡ old.tables.clock + 1 → old.tables.clock < end_of_time → (e : AppendError) (g : GateLog D) → Appends {T = R} codec state (Err e) old.gates g vote_records → CallsOn kinds codec state old (with_log old g) (NamesNowhere tx) (AskPrepare tx s l us) (λ m e. e ≡ Prepared tx s l us m) (Err (stopped e))
     vote_stopped {R} reached is early e g a = stopped_call kinds codec state old (NamesNowhere tx) up {R = R} (AskPrepare tx s l us) (λ m e. e ≡ Prepared tx s l us m) vote_records
@@ -166,8 +166,8 @@ module _ {S E D : Type 0} (kinds : Kinds S E) (codec : Codec E) (state : D → D
     pub take_done : {R : Type 0} (x : R) (g : GateLog D) (t : Tables E) → Appends {T = R} codec state (Ok x) old.gates g brought → Steps kinds old.tables Anything (λ e. e ≡ Took number m) t → StepsOn kinds codec state old (on_disk t g old.crashed) Anything (λ e. e ≡ Took number m)
     take_done x g t a steps = done_call kinds codec state old Anything up x (on_disk t g old.crashed) brought a refl (λ e. e ≡ Took number m) steps
         (λ p h e q shows step.
-            let st : PartStep kinds sites parts old.tables.id p (Took number m) q = subst (λ (y : Event E). PartStep kinds sites parts old.tables.id p y q) shows step in
-            subst (λ y. IsWritten p y q brought) (sym shows) (record { whole = refl; adds = take_adds p h; log = ap (λ (s : PartState E). s.log) st.2 ∙ ap (λ l. grown p.log l) (take_adds p h) }))
+        let st : PartStep kinds sites parts old.tables.id p (Took number m) q = subst (λ (y : Event E). PartStep kinds sites parts old.tables.id p y q) shows step in
+        subst (λ y. IsWritten p y q brought) (sym shows) (record { whole = refl; adds = take_adds p h; log = ap (λ (s : PartState E). s.log) st.2 ∙ ap (λ l. grown p.log l) (take_adds p h) }))
 
     pub take_stopped : {A R : Type 0} → A → m.lo ≤ entry old.tables.bounds m.from → entry old.tables.bounds m.from < m.hi → (e : AppendError) (g : GateLog D) → Appends {T = R} codec state (Err e) old.gates g brought → CallsOn kinds codec state old (with_log old g) Anything (AskTake number m) (λ (x : A) e. e ≡ Took number m) (Err (stopped e))
     take_stopped {A} {R} x low high e g a =
@@ -195,8 +195,8 @@ module _ {S E D : Type 0} (kinds : Kinds S E) (codec : Codec E) (state : D → D
       pub end_done : {R : Type 0} (x : R) (g : GateLog D) (t : Tables E) → Appends {T = R} codec state (Ok x) old.gates g (r ∷ []) → Steps kinds old.tables Anything (λ e. e ≡ ended) t → StepsOn kinds codec state old (on_disk t g old.crashed) Anything (λ e. e ≡ ended)
       end_done x g t a steps = done_call kinds codec state old Anything up x (on_disk t g old.crashed) (r ∷ []) a refl (λ e. e ≡ ended) steps
           (λ p h e q shows step.
-              let adds = by.adds p (waits tx true here p h) in
-              subst (λ y. IsWritten p y q (r ∷ [])) (sym shows) (record { whole = by.whole; adds = adds; log = by.log p q (subst (λ (y : Event E). PartStep kinds sites parts old.tables.id p y q) shows step) ∙ ap (λ l. grown p.log l) adds }))
+          let adds = by.adds p (waits tx true here p h) in
+          subst (λ y. IsWritten p y q (r ∷ [])) (sym shows) (record { whole = by.whole; adds = adds; log = by.log p q (subst (λ (y : Event E). PartStep kinds sites parts old.tables.id p y q) shows step) ∙ ap (λ l. grown p.log l) adds }))
 
       pub end_stopped : {A R : Type 0} → A → (e : AppendError) (g : GateLog D) → Appends {T = R} codec state (Err e) old.gates g (r ∷ []) → CallsOn kinds codec state old (with_log old g) Anything asked (λ (x : A) e. e ≡ ended) (Err (stopped e))
       end_stopped {A} {R} x e g a = stopped_call kinds codec state old Anything up {R = R} asked (λ (x : A) e. e ≡ ended) (r ∷ [])

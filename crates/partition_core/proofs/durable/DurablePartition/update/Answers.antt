@@ -17,7 +17,7 @@ pub returns-then-is_down : goal.returns-then-is_down
 returns-then-is_down g c = λ index. down_call (kinds_of g.C.Crdt.laws) (codec_of g.C.Crdt.spells) g.D.Disk.state c.args.self.now Anything (AskUpdate c.args.tx c.args.s.now c.args.object.now c.args.own.now c.args.op.now) (λ (x : g.row.C-Effect.Denot × Option ℕ) e. (read : List (Part g.row.C-Effect.Denot)) × (e ≡ Updated c.args.tx c.args.s.now c.args.object.now c.args.own.now c.args.op.now read (record { object = c.args.object.now; index = index; effect = x.0 }) x.1)) (sym c.is_down.ensures ∙ c.if-is_down.true) refl
 
 pub returns-in_err-made : goal.returns-in_err-made
-returns-in_err-made g c = λ index. 
+returns-in_err-made g c = λ index.
     let p = err_from_is_err_and c.from_residual.result c.from_residual.ensures.1 in
     let v = on_disk c.self.inside.tables (gates_of c.self.inside.log) c.self.inside.crashed in
     let up = ap is_down c.self.view_is ∙ sym c.is_down.ensures ∙ c.if-is_down.false in
@@ -27,7 +27,7 @@ returns-in_err-made g c = λ index.
     rw (p.1, p.2) (opened_on kinds codec g.D.Disk.state Anything (AskUpdate c.args.tx c.args.s.now c.args.object.now c.args.own.now c.args.op.now) (λ (x : g.row.C-Effect.Denot × Option ℕ) e. (read : List (Part g.row.C-Effect.Denot)) × (e ≡ Updated c.args.tx c.args.s.now c.args.object.now c.args.own.now c.args.op.now read (record { object = c.args.object.now; index = index; effect = x.0 }) x.1)) (Err (uncalled c.in_err-made.field-0.0)) v c.args.self.now new c.self.view_is (uncalled_on kinds codec g.D.Disk.state v c.self.invariant up (AskUpdate c.args.tx c.args.s.now c.args.object.now c.args.own.now c.args.op.now) (λ (x : g.row.C-Effect.Denot × Option ℕ) e. (read : List (Part g.row.C-Effect.Denot)) × (e ≡ Updated c.args.tx c.args.s.now c.args.object.now c.args.own.now c.args.op.now read (record { object = c.args.object.now; index = index; effect = x.0 }) x.1)) c.in_err-made.field-0.0 c.update.new.self (c.in_err-made.ensures index)))
 
 pub returns : goal.returns
-returns g c = λ index. 
+returns g c = λ index.
     let v = on_disk c.self.inside.tables (gates_of c.self.inside.log) c.self.inside.crashed in
     let up = ap is_down c.self.view_is ∙ sym c.is_down.ensures ∙ c.if-is_down.false in
     let kinds = kinds_of g.C.Crdt.laws in
