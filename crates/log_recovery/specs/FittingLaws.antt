@@ -1,8 +1,8 @@
 -- What holds of every log whose records fit the partition.
-use Rattle.std.proofs.Common.{◌≡◌, ◌≢◌, ⊎_elim, ℕ, ◌≤◌, ◌+◌, min, Bool, true, false, not, ◌||◌, leb, ltb, List, [], ◌∷◌, length, Option, None, Some, refl, sym, ap, ◌∙◌, subst, arith}
+use Rattle.std.proofs.Common.{◌≡◌, ◌≢◌, ⊎_elim, ℕ, ◌≤◌, Bool, true, false, not, ◌||◌, leb, ltb, List, [], ◌∷◌, length, Option, None, Some, refl, sym, ap, ◌∙◌, subst, arith}
 use Rattle.std.specs.Prelude.{◌==◌, if◌then◌else◌}
 use Rattle.std.specs.List.{list_all}
-use Rattle.std.proofs.lemmas.Bool.{true≢false, cases_Bool, or_right, and_parts, not-true, false_from_ne_true, eqb-true, eqb-false, leb-true, leb-false, ltb-true}
+use Rattle.std.proofs.lemmas.Bool.{true≢false, cases_Bool, or_right, and_parts, not-true, false_from_ne_true, eqb-true, eqb-false, leb-true, ltb-true, or_from, or_parts}
 use Rattle.site_vector.specs.declared.ids.PartId.{PartId}
 use Rattle.site_vector.specs.declared.ids.TxId.{TxId}
 use Rattle.site_vector.specs.Ids.{same_tx}
@@ -14,7 +14,7 @@ use Rattle.crdt_core.specs.declared.record.Message.{Message}
 use Rattle.crdt_core.specs.declared.record.Record.{Record}
 use Rattle.crdt_core.specs.declared.record.Record.TheVariants.{Lease, Prepare, Decide, Finish, Abort, Batch}
 use Rattle.crdt_core.specs.Fitting.{is_vector, stand_at, fits_commit, fits_part, are_apart, fits_message, fits_record, unfit, unfit_next}
-use Rattle.crdt_core.specs.Log.{end_of_time, ceiling, prepared, prepare_time, prepared_lead, prepared_snapshot, committed, committed_at, aborted, pending, taken, taken_at, logged_bound, is_named_in, holds, held_at, grown, lease_for}
+use Rattle.crdt_core.specs.Log.{end_of_time, ceiling, prepared, prepare_time, prepared_lead, prepared_snapshot, committed, committed_at, aborted, pending, taken, taken_at, logged_bound, is_named_in, holds, held_at, grown}
 use Rattle.crdt_core.specs.Parts.{lists, vector_in}
 use Rattle.log_recovery.specs.Rising.{Rises}
 
@@ -276,6 +276,10 @@ module _ {E : Type 0} (sites parts : ℕ) (id : PartId) where
   pub pending_untaken : (log : List (Record E)) → Fit log → (u : TxId) → pending log u ≡ true → taken log u ≡ false
   pending_untaken log f u h = false_from_ne_true _ (λ k. (taken_away log f u k).away (pending_home log f u h).home)
 
+  -- nor is it held
+  pub pending_unheld : (log : List (Record E)) → Fit log → (u : TxId) → pending log u ≡ true → holds log u ≡ false
+  pending_unheld log f u h = or_from (committed log u) (taken log u) (or_parts (committed log u) (aborted log u) (not-true (committed log u || aborted log u) (and_parts (prepared log u) _ h).1)).0 (pending_untaken log f u h)
+
   -- each commit vector that is held has an entry for each site
   pub held_wide : (log : List (Record E)) → Fit log → (u : TxId) → holds log u ≡ true → length (held_at log u) ≡ sites
   held_wide log f u h = ⊎_elim
@@ -303,11 +307,3 @@ module _ {E : Type 0} (sites parts : ℕ) (id : PartId) where
   pub front_fits : (log more : List (Record E)) → Fit (grown log more) → Fit log
   front_fits log [] f = f
   front_fits log (r ∷ more) f = rest_fits r log (front_fits (r ∷ log) more f)
-
--- the lease before a clock value keeps leases rising
-pub lease_rises : {E : Type 0} (log : List (Record E)) (n : ℕ) → n ≤ end_of_time → Rises log → Rises (grown log (lease_for log n))
-lease_rises {E} log n most r = rises_if (leb n (ceiling log)) refl
-  where
-    rises_if : (b : Bool) → leb n (ceiling log) ≡ b → Rises {E = E} (grown log (if b then [] else Lease (min (n + 1000) end_of_time) ∷ []))
-    rises_if true e = r
-    rises_if false e = let a = leb-false n (ceiling log) e in (omega (arith, a, most), r)

@@ -4,3 +4,4 @@ pub mod Fates
 pub mod Recovered
 pub mod Rising
 pub mod FittingLaws
+pub mod RisingLaws

@@ -6,8 +6,8 @@ use crdt_core::Record;
 use site_vector::PartId;
 use std::alloc::{AllocError, Global};
 
-/// The number of the first record of a log, from 0, the oldest, that doesn't fit a partition of a cluster with so many sites and
-/// partitions: none where all fit.
+/// The number of the first record of a log, from 0, the oldest, that doesn't fit a partition, in a cluster of 1 to 8
+/// sites with so many partitions each: none where all fit.
 ///
 /// # Errors
 ///

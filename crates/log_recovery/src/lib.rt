@@ -2,6 +2,7 @@
 #![tactic(auto)]
 
 mod fitting;
+mod laws;
 mod ledger;
 mod messages;
 mod recovery;
@@ -10,6 +11,7 @@ mod vectors;
 mod waiting;
 
 pub use fitting::unfit;
+pub use laws::law_fitting;
 pub use recovery::{Rebuilt, rebuild};
 
 #[cfg(test)]

@@ -22,8 +22,8 @@ pub struct Rebuilt<E> {
     pub pending: ListOf<Entry<E>>,
     /// What was committed here or brought from other sites, in the order of the records that commit and bring it.
     pub committed: ListOf<Part<E>>,
-    /// Up to where all is known of each site, in logical ticks: of the others by what was brought, of the own one at a clock
-    /// that shows the ceiling.
+    /// Up to where all is known of each site, in logical ticks: of the others by what was brought, of the own one at a
+    /// clock that shows the ceiling.
     pub bounds: VTime,
     /// The last transaction that was decided here.
     pub last_decided: Option<TxId>,
