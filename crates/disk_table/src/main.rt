@@ -1,7 +1,8 @@
 //! Crashes, full disks and damaged logs, as a table.
 //!
-//! `disk_table table` prints it: its stored run is the test of disk_core, gate_log and disk_makers. `disk_table append N`,
-//! `disk_table open N` and `disk_table copy N` do so many appends, openings and copies, for bench/log to measure.
+//! `disk_table table` prints it: its stored run is the test of disk_core, gate_log and disk_makers.
+//! `disk_table append N`, `disk_table open N` and `disk_table copy N` do so many appends, openings and copies, for
+//! bench/log to measure.
 #![tactic(auto)]
 
 mod again;

@@ -145,8 +145,8 @@ impl<C: Crdt, D: Disk + Drop> PartLog<C, D> {
     ///
     /// # Errors
     ///
-    /// `Full` exactly where the record would pass the room of the disk, and `Closed` exactly where the log is closed: it
-    /// is as before. `Failed` only where the disk fails: a crash leaves the list before or that with the record, and
+    /// `Full` exactly where the record would pass the room of the disk, and `Closed` exactly where the log is closed:
+    /// it is as before. `Failed` only where the disk fails: a crash leaves the list before or that with the record, and
     /// every later append answers `Closed`, until the log is opened again.
     pub fn lease(&mut self, ceil: u64) -> Result<(), AppendError>
         requires { IsReady D.state (gates_of self.old) }
