@@ -8,7 +8,7 @@ help:
 	@echo 'make test               the gate: proves every crate, tries the must-fail edits, runs tests and programs (over an hour)'
 	@echo 'make play SCRIPT=PATH   proves the program and plays a script (about 20 minutes the first time, then at once)'
 	@echo 'make try SCRIPT=PATH    plays a script before any proof (about a minute)'
-	@echo 'make bench              proves and measures the play, and reading and printing (minutes, after make play)'
+	@echo 'make bench              proves and measures the play, of sites too, and reading and printing (minutes, after make play)'
 	@echo
 	@echo 'The times are for four processors with nothing else to do. Without SCRIPT, $(SCRIPT) is played.'
 

@@ -1,9 +1,8 @@
 -- Parts put in their places, the first first: they are taken from the end of a list that was reversed.
-use Rattle.std.proofs.Common.{◌≡◌, ◌≢◌, ⊎_elim, ℕ, ◌+◌, ◌≤◌, ltb, Bool, true, false, ◌||◌, List, [], ◌∷◌, ◌++◌, length, reverse, refl, sym, ap, ◌∙◌, subst, arith, length-append}
-use Rattle.std.specs.Prelude.{if◌then◌else◌}
+use Rattle.std.proofs.Common.{◌≡◌, ℕ, ◌+◌, ◌≤◌, ltb, false, ◌||◌, List, [], ◌∷◌, ◌++◌, length, reverse, refl, sym, ap, ◌∙◌, subst, arith, length-append}
 use Rattle.std.proofs.lemmas.Grind.{reverse_onto}
 use Rattle.std.proofs.lemmas.List.{length-reverse}
-use Rattle.std.proofs.lemmas.Bool.{true≢false, cases_Bool, false_from_ne_true, or_left, or_right}
+use Rattle.std.proofs.lemmas.Bool.{true≢false, false_from_ne_true, or_left, or_right}
 use Rattle.site_vector.specs.declared.ids.TxId.{TxId}
 use Rattle.site_vector.specs.Ids.{same_tx}
 use Rattle.site_vector.specs.Order.{same_tx_is, same_tx_refl, same_tx_symm}
@@ -13,7 +12,7 @@ use Rattle.crdt_core.specs.Orders.{insert_by, fold_cmp}
 use Rattle.crdt_core.specs.Parts.{lists, above}
 use Rattle.effect_store.specs.Stored.{Stored}
 use Rattle.partition_core.specs.Messages.{AreApart, AreWideParts, CanPut, inserted, updates_in}
-use Rattle.partition_core.proofs.Choices.{chosen, or_swap, or_join, or_none, or_falses, first_false, second_false}
+use Rattle.partition_core.proofs.Choices.{chosen, or_swap, or_falses, first_false, second_false}
 use Rattle.partition_core.proofs.PartLists.{fold_total, fold_apart, lists_inserted}
 use Rattle.partition_core.proofs.Sorting.{TiesWithNone}
 use Rattle.partition_core.proofs.Swapping.{swapped}
