@@ -94,7 +94,7 @@ def busy_of(pid):
 
 
 def ask(child, lines, front):
-    """Writes lines and reads replies up to one that begins so: that one, and the seconds until it came, of both kinds."""
+    """Writes lines and reads replies up to one that begins so: that one, and both kinds of seconds until it came."""
     busy = busy_of(child.pid)
     start = time.monotonic()
     # Beside the reading, since a pipe holds less than these lines and their replies.
