@@ -19,6 +19,7 @@ use Rattle.partition_log.proofs.Unchanged.{found_itself}
 use Rattle.crdt_core.specs.declared.record.Record.{Record}
 use Rattle.crdt_core.specs.KindsOf.{Kinds}
 use Rattle.crdt_core.specs.Log.{grown}
+use Rattle.log_recovery.specs.Rising.{Rises}
 use Rattle.world_model.specs.Event.{Ask, Event, Refused, Cut, attempt, is_restart, IsDown, HasNoRoom}
 use Rattle.world_model.specs.Partition.{PartState, PartStep, MayDo, IsDue, IsRefused, records, cut}
 use Rattle.partition_core.specs.declared.durable.DurableError.{DurableError}
@@ -77,6 +78,7 @@ pub record IsWritten {E : Type 0} (p : PartState E) (e : Event E) (q : PartState
   pub whole : attempt e ≡ e
   pub adds : records p e ≡ recs
   pub log : q.log ≡ grown p.log recs
+  pub rises : Rises p.log → Rises (grown p.log recs)
 
 -- what a partition would have done, with these records
 pub record Would {S E : Type 0} (kinds : Kinds S E) (t : Tables E) (p : PartState E) (Shows : Event E → Type 0) (recs : List (Record E)) : Type 0 where
@@ -84,6 +86,7 @@ pub record Would {S E : Type 0} (kinds : Kinds S E) (t : Tables E) (p : PartStat
   pub shows : Shows what
   pub may : MayDo kinds t.sites t.parts t.id p what
   pub adds : records p what ≡ recs
+  pub rises : Rises p.log → Rises (grown p.log recs)
 
 module _ {S E D : Type 0} (kinds : Kinds S E) (codec : Codec E) (state : D → DiskState) (old : Durable E D) (Given : PartState E → Type 0) where
   rests : GoesOn (disk_in state old) (disk_in state old)
@@ -180,7 +183,7 @@ module _ {S E D : Type 0} (kinds : Kinds S E) (codec : Codec E) (state : D → D
                 after = one.after;
                 shows = one.shows;
                 step = one.step;
-                stands = up_stands codec state now one.after still_up (record { tables = one.stands; log = subst (λ l. HasRecords codec state now.gates l) (sym w.log) (a.appended p.log u.log) });
+                stands = up_stands codec state now one.after still_up (record { tables = one.stands; log = subst (λ l. HasRecords codec state now.gates l) (sym w.log) (a.appended p.log u.log); rises = subst (λ l. Rises l) (sym w.log) (w.rises u.rises) });
                 moments = subst (λ l. AtEachMoment (disk_in state old).story (disk_in state now).story (HoldsFront codec p.log l)) (sym under) (a.any_moment p.log u.log);
               },
               record {
@@ -249,6 +252,7 @@ module _ {S E D : Type 0} (kinds : Kinds S E) (codec : Codec E) (state : D → D
                         down = refl;
                         tells = subst IsTrue (sym a.goes_on.tells) u.log.is_open.at_rest.tells;
                         images = at_last (disk_in state old).story (state (disk_of g)).story (HoldsFront codec p.log (records p w.what)) moments;
+                        rises = subst (λ l. Rises (grown p.log l)) (sym w.adds) (w.rises u.rises);
                       });
                       moments = subst (λ l. AtEachMoment (disk_in state old).story (state (disk_of g)).story (HoldsFront codec p.log l)) (sym (underway_up p (Cut w.what) u.tables.up)) moments;
                     },

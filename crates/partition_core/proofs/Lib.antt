@@ -2,6 +2,7 @@ mod Durably
 mod Writing
 mod Fitted
 mod Logged
+mod Recovering
 mod Leasing
 mod Making
 mod Choices

@@ -25,6 +25,9 @@ use Rattle.crdt_core.specs.declared.record.Record.TheVariants.{Prepare, Decide, 
 use Rattle.crdt_core.specs.KindsOf.{Kinds}
 use Rattle.crdt_core.specs.Log.{end_of_time, lease_for, grown, pending, committed, committed_at}
 use Rattle.crdt_core.specs.Parts.{above}
+use Rattle.log_recovery.specs.Rising.{Rises}
+use Rattle.log_recovery.specs.RisingLaws.{lease_rises}
+use Rattle.world_model.proofs.Moves.{grown_last}
 use Rattle.prepared_table.specs.Entries.{has_entry}
 use Rattle.world_model.specs.Event.{Ask, AskTick, AskBegin, AskPrepare, AskDecide, AskFinish, AskAbort, AskTake, Event, Refused, HasNoRoom, Ticked, Began, Prepared, Decided, Finished, Aborted, Took, Sent, Reported, Heard, Updated, Crashed, attempt}
 use Rattle.world_model.specs.Event as event
@@ -84,27 +87,30 @@ module _ {S E D : Type 0} (kinds : Kinds S E) (codec : Codec E) (state : D → D
     pub refused_on : (Given : PartState E → Type 0) (asked : Ask E) (why : Refusal) (t : Tables E) → Steps kinds old.tables Given (λ e. e ≡ Refused asked (cause why)) t → StepsOn kinds codec state old (with_tables t) Given (λ e. e ≡ Refused asked (cause why))
     refused_on Given asked why t s = unlogged Given (λ e. e ≡ Refused asked (cause why)) t s (λ p h e q shows step.
         let st : PartStep kinds sites parts old.tables.id p (Refused asked (cause why)) q = subst (λ (x : Event E). PartStep kinds sites parts old.tables.id p x q) shows step in
-        subst (λ x. IsWritten p x q []) (sym shows) (record { whole = refl; adds = refl; log = ap (λ (r : PartState E). r.log) st.1 }))
+        subst (λ x. IsWritten p x q []) (sym shows) (record { whole = refl; adds = refl; log = ap (λ (r : PartState E). r.log) st.1; rises = λ h. h }))
 
   -- ---- a tick
 
-  module _ (up : is_down old ≡ false) (r n : ℕ) (low : r ≤ end_of_time) (is : n ≡ max r old.tables.clock) (w : Option ℕ) (want : w ≡ wanted old.tables.ceiling n) where
+  module _ (up : is_down old ≡ false) (r n : ℕ) (low : r ≤ end_of_time) (is : n ≡ max r old.tables.clock) (top : n ≤ end_of_time) (w : Option ℕ) (want : w ≡ wanted old.tables.ceiling n) where
     tick_shows : ℕ → Event E → Type 0
     tick_shows n e = e ≡ Ticked r n
 
     tick_adds : (p : PartState E) → Stands old.tables p → lease_for p.log n ≡ leases w
     tick_adds p h = ap (λ c. lease_at c n) h.ceiling ∙ sym (ap (λ x. leases x) want ∙ leases_wanted old.tables.ceiling n)
 
+    tick_rises : (p : PartState E) → Stands old.tables p → Rises p.log → Rises (grown p.log (leases w))
+    tick_rises p h r = subst (λ l. Rises (grown p.log l)) (tick_adds p h) (lease_rises p.log n top r)
+
     pub tick_done : {R : Type 0} (x : R) (g : GateLog D) (t : Tables E) → Appends {T = R} codec state (Ok x) old.gates g (leases w) → t ≡ showing old.tables n → StepsOn kinds codec state old (record { tables = t; gates = g; crashed = old.crashed }) Anything (λ e. e ≡ Ticked r n)
     tick_done x g t a shown = done_call kinds codec state old Anything up x (record { tables = t; gates = g; crashed = old.crashed }) (leases w) a refl (λ e. e ≡ Ticked r n)
         (subst (λ q. Steps kinds old.tables Anything (λ e. e ≡ Ticked r n) q) (sym shown) (ticks kinds old.tables r n (leased old.tables.ceiling n) low is refl))
         (λ p h e q shows step.
         let st : PartStep kinds sites parts old.tables.id p (Ticked r n) q = subst (λ (y : Event E). PartStep kinds sites parts old.tables.id p y q) shows step in
-        subst (λ y. IsWritten p y q (leases w)) (sym shows) (record { whole = refl; adds = tick_adds p h; log = ap (λ (s : PartState E). s.log) st.2 ∙ ap (λ l. grown p.log l) (tick_adds p h) }))
+        subst (λ y. IsWritten p y q (leases w)) (sym shows) (record { whole = refl; adds = tick_adds p h; log = ap (λ (s : PartState E). s.log) st.2 ∙ ap (λ l. grown p.log l) (tick_adds p h); rises = tick_rises p h }))
 
     pub tick_stopped : {R : Type 0} (e : AppendError) (g : GateLog D) → Appends {T = R} codec state (Err e) old.gates g (leases w) → CallsOn kinds codec state old (with_log old g) Anything (AskTick r) (λ m e. e ≡ Ticked r m) (Err (stopped e))
     tick_stopped {R} e g a = stopped_call kinds codec state old Anything up {R = R} (AskTick r) (λ m e. e ≡ Ticked r m) (leases w)
-        (λ p h _. record { what = Ticked r n; shows = (n, refl); may = (is ∙ ap (λ m. max r m) (sym h.clock), low); adds = tick_adds p h })
+        (λ p h _. record { what = Ticked r n; shows = (n, refl); may = (is ∙ ap (λ m. max r m) (sym h.clock), low); adds = tick_adds p h; rises = tick_rises p h })
         (λ p k h _. low)
         e g a
 
@@ -120,16 +126,23 @@ module _ {S E D : Type 0} (kinds : Kinds S E) (codec : Codec E) (state : D → D
         let st : PartStep kinds sites parts old.tables.id p (Began who dep tx s) one.after = subst (λ (y : Event E). PartStep kinds sites parts old.tables.id p y one.after) one.shows one.step in
         st.1
 
+    begin_rises : (p : PartState E) → Stands old.tables p → Rises p.log → Rises (grown p.log (leases w))
+    begin_rises p h r =
+        let b = begun_so p h in
+        let next : tx.time ≡ p.now + 1 = ap (λ (t : TxId). t.time) b.named in
+        let early = b.early in
+        subst (λ l. Rises (grown p.log l)) (begin_adds p h) (lease_rises p.log tx.time (omega (arith, next, early)) r)
+
     pub begin_done : {R : Type 0} (x : R) (g : GateLog D) (t : Tables E) → Appends {T = R} codec state (Ok x) old.gates g (leases w) → t ≡ showing old.tables tx.time → StepsOn kinds codec state old (on_disk t g old.crashed) Anything (λ e. e ≡ Began who dep tx s)
     begin_done x g t a shown = done_call kinds codec state old Anything up x (on_disk t g old.crashed) (leases w) a refl (λ e. e ≡ Began who dep tx s)
         (subst (λ q. Steps kinds old.tables Anything (λ e. e ≡ Began who dep tx s) q) (sym shown) steps)
         (λ p h e q shows step.
         let st : PartStep kinds sites parts old.tables.id p (Began who dep tx s) q = subst (λ (y : Event E). PartStep kinds sites parts old.tables.id p y q) shows step in
-        subst (λ y. IsWritten p y q (leases w)) (sym shows) (record { whole = refl; adds = begin_adds p h; log = ap (λ (s : PartState E). s.log) st.2 ∙ ap (λ l. grown p.log l) (begin_adds p h) }))
+        subst (λ y. IsWritten p y q (leases w)) (sym shows) (record { whole = refl; adds = begin_adds p h; log = ap (λ (s : PartState E). s.log) st.2 ∙ ap (λ l. grown p.log l) (begin_adds p h); rises = begin_rises p h }))
 
     pub begin_stopped : {R : Type 0} (e : AppendError) (g : GateLog D) → Appends {T = R} codec state (Err e) old.gates g (leases w) → CallsOn kinds codec state old (with_log old g) Anything (AskBegin who dep) (λ (x : TxId × List ℕ) e. e ≡ Began who dep x.0 x.1) (Err (stopped e))
     begin_stopped {R} e g a = stopped_call kinds codec state old Anything up {R = R} (AskBegin who dep) (λ (x : TxId × List ℕ) e. e ≡ Began who dep x.0 x.1) (leases w)
-        (λ p h _. record { what = Began who dep tx s; shows = ((tx, s), refl); may = begun_so p h; adds = begin_adds p h })
+        (λ p h _. record { what = Began who dep tx s; shows = ((tx, s), refl); may = begun_so p h; adds = begin_adds p h; rises = begin_rises p h })
         (λ p k h _. let b = begun_so p h in (λ j o. subst (λ m. entry dep j ≤ m) (b.stable j o) (b.waited j o), b.early))
         e g a
 
@@ -142,15 +155,20 @@ module _ {S E D : Type 0} (kinds : Kinds S E) (codec : Codec E) (state : D → D
     vote_adds : (p : PartState E) → Stands old.tables p → lease_for p.log n ++ Prepare tx l n s us ∷ [] ≡ vote_records
     vote_adds p h = ap (λ c. lease_at c n ++ Prepare tx l n s us ∷ []) h.ceiling
 
+    vote_rises : (p : PartState E) → Stands old.tables p → n ≤ end_of_time → Rises p.log → Rises (grown p.log vote_records)
+    vote_rises p h top r =
+        let voted : Rises (Prepare tx l n s us ∷ grown p.log (lease_for p.log n)) = lease_rises p.log n top r in
+        subst (λ k. Rises (grown p.log k)) (vote_adds p h) (subst (λ k. Rises k) (sym (grown_last p.log (lease_for p.log n) (Prepare tx l n s us))) voted)
+
     pub vote_done : {R : Type 0} (x : R) (g : GateLog D) (t : Tables E) → Appends {T = R} codec state (Ok x) old.gates g vote_records → Steps kinds old.tables (NamesNowhere tx) (λ e. e ≡ Prepared tx s l us n) t → StepsOn kinds codec state old (on_disk t g old.crashed) (NamesNowhere tx) (λ e. e ≡ Prepared tx s l us n)
     vote_done x g t a steps = done_call kinds codec state old (NamesNowhere tx) up x (on_disk t g old.crashed) vote_records a refl (λ e. e ≡ Prepared tx s l us n) steps
         (λ p h e q shows step.
         let st : PartStep kinds sites parts old.tables.id p (Prepared tx s l us n) q = subst (λ (y : Event E). PartStep kinds sites parts old.tables.id p y q) shows step in
-        subst (λ y. IsWritten p y q vote_records) (sym shows) (record { whole = refl; adds = vote_adds p h; log = ap (λ (s : PartState E). s.log) st.2 ∙ ap (λ l. grown p.log l) (vote_adds p h) }))
+        subst (λ y. IsWritten p y q vote_records) (sym shows) (record { whole = refl; adds = vote_adds p h; log = ap (λ (s : PartState E). s.log) st.2 ∙ ap (λ l. grown p.log l) (vote_adds p h); rises = vote_rises p h (let next = st.1.1 in let early = st.1.2 in omega (arith, next, early)) }))
 
     pub vote_stopped : {R : Type 0} → entry s old.tables.id.site ≤ old.tables.clock → n ≡ old.tables.clock + 1 → old.tables.clock < end_of_time → (e : AppendError) (g : GateLog D) → Appends {T = R} codec state (Err e) old.gates g vote_records → CallsOn kinds codec state old (with_log old g) (NamesNowhere tx) (AskPrepare tx s l us) (λ m e. e ≡ Prepared tx s l us m) (Err (stopped e))
     vote_stopped {R} reached is early e g a = stopped_call kinds codec state old (NamesNowhere tx) up {R = R} (AskPrepare tx s l us) (λ m e. e ≡ Prepared tx s l us m) vote_records
-        (λ p h _. record { what = Prepared tx s l us n; shows = (n, refl); may = (subst (λ k. entry s old.tables.id.site ≤ k) (sym h.clock) reached, is ∙ ap (λ k. k + 1) (sym h.clock), subst (λ k. k < end_of_time) (sym h.clock) early); adds = vote_adds p h })
+        (λ p h _. record { what = Prepared tx s l us n; shows = (n, refl); may = (subst (λ k. entry s old.tables.id.site ≤ k) (sym h.clock) reached, is ∙ ap (λ k. k + 1) (sym h.clock), subst (λ k. k < end_of_time) (sym h.clock) early); adds = vote_adds p h; rises = vote_rises p h (omega (arith, is, early)) })
         (λ p k h _. (subst (λ k. entry s old.tables.id.site ≤ k) (sym h.clock) reached, subst (λ k. k < end_of_time) (sym h.clock) early))
         e g a
 
@@ -163,17 +181,21 @@ module _ {S E D : Type 0} (kinds : Kinds S E) (codec : Codec E) (state : D → D
     take_adds : (p : PartState E) → Stands old.tables p → batch_of m (entry p.bounds m.from) (above m.from (entry p.bounds m.from) m.parts) ≡ brought
     take_adds p h = ap (λ b. batch_of m (entry b m.from) (above m.from (entry b m.from) m.parts)) h.bounds
 
+    batch_rises : (log : List (Record E)) (b : ℕ) (ps : List (Part E)) → Rises log → Rises (grown log (batch_of m b ps))
+    batch_rises log b [] r = r
+    batch_rises log b (x ∷ xs) r = r
+
     pub take_done : {R : Type 0} (x : R) (g : GateLog D) (t : Tables E) → Appends {T = R} codec state (Ok x) old.gates g brought → Steps kinds old.tables Anything (λ e. e ≡ Took number m) t → StepsOn kinds codec state old (on_disk t g old.crashed) Anything (λ e. e ≡ Took number m)
     take_done x g t a steps = done_call kinds codec state old Anything up x (on_disk t g old.crashed) brought a refl (λ e. e ≡ Took number m) steps
         (λ p h e q shows step.
         let st : PartStep kinds sites parts old.tables.id p (Took number m) q = subst (λ (y : Event E). PartStep kinds sites parts old.tables.id p y q) shows step in
-        subst (λ y. IsWritten p y q brought) (sym shows) (record { whole = refl; adds = take_adds p h; log = ap (λ (s : PartState E). s.log) st.2 ∙ ap (λ l. grown p.log l) (take_adds p h) }))
+        subst (λ y. IsWritten p y q brought) (sym shows) (record { whole = refl; adds = take_adds p h; log = ap (λ (s : PartState E). s.log) st.2 ∙ ap (λ l. grown p.log l) (take_adds p h); rises = batch_rises p.log (entry old.tables.bounds m.from) (above m.from (entry old.tables.bounds m.from) m.parts) }))
 
     pub take_stopped : {A R : Type 0} → A → m.lo ≤ entry old.tables.bounds m.from → entry old.tables.bounds m.from < m.hi → (e : AppendError) (g : GateLog D) → Appends {T = R} codec state (Err e) old.gates g brought → CallsOn kinds codec state old (with_log old g) Anything (AskTake number m) (λ (x : A) e. e ≡ Took number m) (Err (stopped e))
     take_stopped {A} {R} x low high e g a =
         let fits : (p : PartState E) → Stands old.tables p → (m.lo ≤ entry p.bounds m.from) × (entry p.bounds m.from < m.hi) = λ p h. subst (λ b. (m.lo ≤ entry b m.from) × (entry b m.from < m.hi)) (sym h.bounds) (low, high) in
         stopped_call kinds codec state old Anything up {R = R} (AskTake number m) (λ (x : A) e. e ≡ Took number m) brought
-        (λ p h _. record { what = Took number m; shows = (x, refl); may = fits p h; adds = take_adds p h })
+        (λ p h _. record { what = Took number m; shows = (x, refl); may = fits p h; adds = take_adds p h; rises = batch_rises p.log (entry old.tables.bounds m.from) (above m.from (entry old.tables.bounds m.from) m.parts) })
         (λ p k h _. fits p h)
         e g a
 
@@ -190,17 +212,18 @@ module _ {S E D : Type 0} (kinds : Kinds S E) (codec : Codec E) (state : D → D
       pub may : (p : PartState E) → pending p.log tx ≡ true → MayDo kinds sites parts old.tables.id p ended
       pub room : (p : PartState E) (n : ℕ) → pending p.log tx ≡ true → IsDue kinds sites parts old.tables.id p asked (HasNoRoom n)
       pub log : (p q : PartState E) → PartStep kinds sites parts old.tables.id p ended q → q.log ≡ grown p.log (records p ended)
+      pub rises : (log : List (Record E)) → Rises log → Rises (r ∷ log)
 
     module _ (by : EndsBy) (here : has_entry old.tables.pending tx ≡ true) where
       pub end_done : {R : Type 0} (x : R) (g : GateLog D) (t : Tables E) → Appends {T = R} codec state (Ok x) old.gates g (r ∷ []) → Steps kinds old.tables Anything (λ e. e ≡ ended) t → StepsOn kinds codec state old (on_disk t g old.crashed) Anything (λ e. e ≡ ended)
       end_done x g t a steps = done_call kinds codec state old Anything up x (on_disk t g old.crashed) (r ∷ []) a refl (λ e. e ≡ ended) steps
           (λ p h e q shows step.
           let adds = by.adds p (waits tx true here p h) in
-          subst (λ y. IsWritten p y q (r ∷ [])) (sym shows) (record { whole = by.whole; adds = adds; log = by.log p q (subst (λ (y : Event E). PartStep kinds sites parts old.tables.id p y q) shows step) ∙ ap (λ l. grown p.log l) adds }))
+          subst (λ y. IsWritten p y q (r ∷ [])) (sym shows) (record { whole = by.whole; adds = adds; log = by.log p q (subst (λ (y : Event E). PartStep kinds sites parts old.tables.id p y q) shows step) ∙ ap (λ l. grown p.log l) adds; rises = by.rises p.log }))
 
       pub end_stopped : {A R : Type 0} → A → (e : AppendError) (g : GateLog D) → Appends {T = R} codec state (Err e) old.gates g (r ∷ []) → CallsOn kinds codec state old (with_log old g) Anything asked (λ (x : A) e. e ≡ ended) (Err (stopped e))
       end_stopped {A} {R} x e g a = stopped_call kinds codec state old Anything up {R = R} asked (λ (x : A) e. e ≡ ended) (r ∷ [])
-          (λ p h _. let w = waits tx true here p h in record { what = ended; shows = (x, refl); may = by.may p w; adds = by.adds p w })
+          (λ p h _. let w = waits tx true here p h in record { what = ended; shows = (x, refl); may = by.may p w; adds = by.adds p w; rises = by.rises p.log })
           (λ p n h _. by.room p n (waits tx true here p h))
           e g a
 
@@ -219,13 +242,13 @@ module _ {S E D : Type 0} (kinds : Kinds S E) (codec : Codec E) (state : D → D
 
   module _ (up : is_down old ≡ false) (tx : TxId) where
     pub decide_by : (c : List ℕ) → EndsBy up (AskDecide tx c) tx (Decided tx c) (Decide tx c)
-    decide_by c = record { whole = refl; adds = λ p w. ap (λ b. if b then Decide tx c ∷ [] else []) w; may = λ p w. ap (λ b. b || committed p.log tx) w; room = λ p n w. w; log = λ p q st. ap (λ (s : PartState E). s.log) st.2 }
+    decide_by c = record { whole = refl; adds = λ p w. ap (λ b. if b then Decide tx c ∷ [] else []) w; may = λ p w. ap (λ b. b || committed p.log tx) w; room = λ p n w. w; log = λ p q st. ap (λ (s : PartState E). s.log) st.2; rises = λ l h. h }
 
     pub finish_by : (c : List ℕ) → EndsBy up (AskFinish tx c) tx (Finished tx c) (Finish tx c)
-    finish_by c = record { whole = refl; adds = λ p w. ap (λ b. if b then Finish tx c ∷ [] else []) w; may = λ p w. ap (λ b. b || committed p.log tx) w; room = λ p n w. w; log = λ p q st. ap (λ (s : PartState E). s.log) st.2 }
+    finish_by c = record { whole = refl; adds = λ p w. ap (λ b. if b then Finish tx c ∷ [] else []) w; may = λ p w. ap (λ b. b || committed p.log tx) w; room = λ p n w. w; log = λ p q st. ap (λ (s : PartState E). s.log) st.2; rises = λ l h. h }
 
     pub abort_by : (own : Bool) → EndsBy up (AskAbort tx) tx (Aborted tx own) (Abort tx)
-    abort_by own = record { whole = refl; adds = λ p w. refl; may = λ p w. w; room = λ p n w. w; log = λ p q st. ap (λ (s : PartState E). s.log) st.2 }
+    abort_by own = record { whole = refl; adds = λ p w. refl; may = λ p w. w; room = λ p n w. w; log = λ p q st. ap (λ (s : PartState E). s.log) st.2; rises = λ l h. h }
 
   still_here : (p : PartState E) (tx : TxId) → pending p.log tx ≡ true → (pending p.log tx || committed p.log tx) ≡ false → ⊥
   still_here p tx w h = true≢false (sym (ap (λ b. b || committed p.log tx) w) ∙ h)
@@ -265,7 +288,7 @@ module _ {S E D : Type 0} (kinds : Kinds S E) (codec : Codec E) (state : D → D
   module _ (ready : IsReady state old.gates) (up : is_down old ≡ false) where
     -- an event that writes nothing
     quiet : (p : PartState E) (e0 e : Event E) (q : PartState E) → attempt e0 ≡ e0 → records p e0 ≡ [] → e ≡ e0 → q.log ≡ p.log → IsWritten p e q []
-    quiet p e0 e q whole none shows same_log = subst (λ y. IsWritten p y q []) (sym shows) (record { whole = whole; adds = none; log = same_log })
+    quiet p e0 e q whole none shows same_log = subst (λ y. IsWritten p y q []) (sym shows) (record { whole = whole; adds = none; log = same_log; rises = λ h. h })
 
     pub decided_already : (tx : TxId) (c : List ℕ) (t : Tables E) → has_entry old.tables.pending tx ≡ false → Steps kinds old.tables Anything (λ e. e ≡ Decided tx c) t → StepsOn kinds codec state old (on_disk t old.gates old.crashed) Anything (λ e. e ≡ Decided tx c)
     decided_already tx c t out s = unlogged ready up Anything (λ e. e ≡ Decided tx c) t s (λ p h e q shows step.
@@ -331,7 +354,7 @@ module _ {S E D : Type 0} (kinds : Kinds S E) (codec : Codec E) (state : D → D
         after = down p p.torn;
         shows = refl;
         step = refl;
-        stands = record { down = refl; tells = s.tells; images = s.images };
+        stands = record { down = refl; tells = s.tells; images = s.images; rises = s.rises };
         moments = at_first (disk_in state old).story (HoldsFront codec p.log (underway p Crashed)) (subst (λ l. EachImage (HoldsFront codec p.log l) (disk_in state old).story.now) (sym (underway_down p Crashed s.down)) s.images);
       }
 
@@ -341,7 +364,7 @@ module _ {S E D : Type 0} (kinds : Kinds S E) (codec : Codec E) (state : D → D
         after = down p p.torn;
         shows = refl;
         step = refl;
-        stands = record { down = refl; tells = s.log.is_open.at_rest.tells; images = subst (λ l. EachImage (HoldsFront codec p.log l) (disk_in state old).story.now) (sym s.tables.whole) (images kinds codec state old Anything u p [] s.log) };
+        stands = record { down = refl; tells = s.log.is_open.at_rest.tells; images = subst (λ l. EachImage (HoldsFront codec p.log l) (disk_in state old).story.now) (sym s.tables.whole) (images kinds codec state old Anything u p [] s.log); rises = subst (λ l. Rises (grown p.log l)) (sym s.tables.whole) s.rises };
         moments = still kinds codec state old Anything u p Crashed s refl;
       }
 

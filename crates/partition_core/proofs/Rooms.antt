@@ -49,21 +49,21 @@ module _ {E : Type 0} where
   length_between [] y ys = omega arith
   length_between (x ∷ xs) y ys = let rest = length_between xs y ys in omega arith
 
-  updates_inserted : (y : Entry E) (xs : List (Entry E)) → updates_pending (insert_by entry_cmp y xs) ≡ length y.updates + updates_pending xs
+  pub updates_inserted : (y : Entry E) (xs : List (Entry E)) → updates_pending (insert_by entry_cmp y xs) ≡ length y.updates + updates_pending xs
   updates_inserted y [] = refl
   updates_inserted y (x ∷ xs) =
       chosen (λ l. updates_pending l ≡ length y.updates + updates_pending (x ∷ xs)) (is_less (entry_cmp y x)) (y ∷ x ∷ xs) (x ∷ insert_by entry_cmp y xs)
       (λ k. refl)
       (λ k. let rest = updates_inserted y xs in omega arith)
 
-  length_inserted : (y : Entry E) (xs : List (Entry E)) → length (insert_by entry_cmp y xs) ≡ length xs + 1
+  pub length_inserted : (y : Entry E) (xs : List (Entry E)) → length (insert_by entry_cmp y xs) ≡ length xs + 1
   length_inserted y [] = omega arith
   length_inserted y (x ∷ xs) =
       chosen (λ l. length l ≡ length (x ∷ xs) + 1) (is_less (entry_cmp y x)) (y ∷ x ∷ xs) (x ∷ insert_by entry_cmp y xs)
       (λ k. omega arith)
       (λ k. let rest = length_inserted y xs in omega arith)
 
-  single_inserted : (y : Entry E) (xs : List (Entry E)) → AreSingle xs → has_entry xs y.tx ≡ false → AreSingle (insert_by entry_cmp y xs)
+  pub single_inserted : (y : Entry E) (xs : List (Entry E)) → AreSingle xs → has_entry xs y.tx ≡ false → AreSingle (insert_by entry_cmp y xs)
   single_inserted y [] a h = (refl, tt)
   single_inserted y (x ∷ xs) a h =
       chosen AreSingle (is_less (entry_cmp y x)) (y ∷ x ∷ xs) (x ∷ insert_by entry_cmp y xs)

@@ -13,3 +13,4 @@ pub mod Messages
 pub mod Durable
 pub mod Stopped
 pub mod Moments
+pub mod Recovered

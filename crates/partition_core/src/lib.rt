@@ -11,6 +11,7 @@ mod durable_calls;
 mod logging;
 mod partition;
 mod read;
+mod recovered;
 mod report;
 mod stream;
 
