@@ -3,6 +3,7 @@ mod Writing
 mod Fitted
 mod Logged
 mod Recovering
+mod Rereading
 mod Leasing
 mod Making
 mod Choices

@@ -14,3 +14,4 @@ pub mod Durable
 pub mod Stopped
 pub mod Moments
 pub mod Recovered
+pub mod Restarts

@@ -13,8 +13,10 @@ mod partition;
 mod read;
 mod recovered;
 mod report;
+mod restart;
 mod stream;
 
 pub use answers::{CallError, Fate, Refusal};
 pub use durable::{DurableError, DurablePartition};
 pub use partition::Partition;
+pub use restart::{RestartError, Restarted};

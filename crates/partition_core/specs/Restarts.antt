@@ -1,0 +1,60 @@
+-- What a restart of a partition on its disk owes.
+use Rattle.std.specs.Prelude.{◌≡◌, ℕ, Bool, true, false, List, [], ◌∷◌, map, Some, Result, Ok, Err}
+use Rattle.disk_core.specs.States.{DiskState, GoesOn, Rose}
+use Rattle.gate_log.specs.Rest.{Lowers}
+use Rattle.gate_log.specs.declared.error.OpenError.{OpenError}
+use Rattle.gate_log.specs.declared.error.OpenError.TheVariants as open_error
+use Rattle.partition_log.specs.Codec.{Codec}
+use Rattle.crdt_core.specs.declared.record.Record.{Record}
+use Rattle.crdt_core.specs.Fitting.{unfit}
+use Rattle.crdt_core.specs.KindsOf.{Kinds}
+use Rattle.site_vector.specs.declared.ids.TxId.{TxId}
+use Rattle.prepared_table.specs.declared.entry.Entry.{Entry}
+use Rattle.world_model.specs.Event.{RestartCut}
+use Rattle.world_model.specs.Event as event
+use Rattle.world_model.specs.Partition.{PartState, Finds}
+use Rattle.partition_core.specs.declared.restart.Restarted.{Restarted}
+use Rattle.partition_core.specs.declared.restart.RestartError.{RestartError}
+use Rattle.partition_core.specs.declared.restart.RestartError.TheVariants as restart
+use Rattle.partition_core.specs.Durable.{Durable, StandsOn, disk_in, is_down}
+use Rattle.partition_core.specs.Moments.{SteppedOn}
+use Rattle.partition_core.specs.Tables.{IsSame}
+
+abbrev pub unopened : OpenError → RestartError
+unopened open_error.Failed = restart.Disk
+unopened (open_error.Damaged at) = restart.Damaged at
+unopened open_error.NoMemory = restart.NoMemory
+
+-- the transactions of these entries with their prepare times, in their order
+abbrev pub IsListed : {E : Type 0} → List (Entry E) → List (TxId × ℕ) → Type 0
+IsListed entries listed = listed ≡ map (λ x. (x.tx, x.time)) entries
+
+module _ {S E D : Type 0} (kinds : Kinds S E) (codec : Codec E) (state : D → DiskState) (old new : Durable E D) where
+  -- at most sixteen calls of the disk, and it is the same partition
+  pub record ReadsAgain : Type 0 where
+    pub same : IsSame old.tables new.tables
+    pub goes_on : GoesOn (disk_in state old) (disk_in state new)
+    pub left : Lowers 16 (disk_in state old).left (disk_in state new).left
+
+  -- it is down, as after a crash, and what a restart may find stays
+  pub record StaysDown : Type 0 where
+    pub reads : ReadsAgain
+    pub down : is_down new ≡ true
+    pub step : (p : PartState E) → StandsOn codec state old p → SteppedOn kinds codec state old new p (λ e. e ≡ RestartCut)
+
+  pub record ComesUp (r : Restarted) : Type 0 where
+    pub reads : ReadsAgain
+    pub up : is_down new ≡ false
+    pub step : (p : PartState E) → StandsOn codec state old p → SteppedOn kinds codec state old new p (λ e. e ≡ event.Restarted r.now r.bounds r.decided r.pending)
+
+  -- a restart may find a log whose record with this number is the first that doesn't fit
+  abbrev pub FindsUnfit : PartState E → ℕ → Type 0
+  FindsUnfit p n = (found : List (Record E)) × Finds p found × (unfit old.tables.sites old.tables.parts old.tables.id found ≡ Some n)
+
+  abbrev pub RestartsOn : Result Restarted RestartError → Type 0
+  RestartsOn (Ok r) = ComesUp r
+  RestartsOn (Err restart.Disk) = Rose (disk_in state old).faults (disk_in state new).faults × StaysDown
+  RestartsOn (Err restart.NoMemory) = StaysDown
+  -- never where the log is one that the partition's calls may have left
+  RestartsOn (Err (restart.Damaged at)) = StaysDown × ((p : PartState E) → StandsOn codec state old p → ⊥)
+  RestartsOn (Err (restart.Unfit n)) = StaysDown × ((p : PartState E) → StandsOn codec state old p → FindsUnfit p n)

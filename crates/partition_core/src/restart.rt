@@ -1,0 +1,182 @@
+// How a partition on its disk comes up, and comes up again.
+ghost use Rattle.std.specs.Prelude.{◌≡◌, ◌≢◌, ◌≤◌, ◌⊎◌, ℕ, List, [], true, false, reverse, Some, Err, IfOk, OnOk};
+ghost use Rattle.disk_core.specs.Moments.{AtEachMoment};
+ghost use Rattle.disk_core.specs.States.{GoesOn, Rose};
+ghost use Rattle.gate_log.specs.Logs.{disk_of, is_closed, IsReady};
+ghost use Rattle.gate_log.specs.Rest.{Lowers};
+ghost use Rattle.gate_log.specs.declared.error.OpenError.TheVariants as open_error;
+ghost use Rattle.partition_log.specs.Codec.{codec_of};
+ghost use Rattle.partition_log.specs.Gates.{gates_of};
+ghost use Rattle.partition_log.specs.Logs.{HasRecords, HoldsFront, LeavesFront};
+ghost use Rattle.crdt_core.specs.declared.record.Record.{Record};
+ghost use Rattle.crdt_core.specs.Fitting.{unfit};
+ghost use Rattle.crdt_core.specs.KindsOf.{kinds_of};
+ghost use Rattle.crdt_core.specs.Log.{MayFind};
+ghost use Rattle.partition_core.specs.Recovered.{IsToldBy};
+ghost use Rattle.partition_core.specs.Restarts.{RestartsOn, unopened, IsListed};
+ghost use Rattle.partition_core.specs.declared.restart.RestartError.TheVariants.{Disk as DiskFailed, NoMemory, Unfit};
+
+use crate::{DurablePartition, Partition};
+use crdt_core::{Crdt, Record};
+use disk_core::Disk;
+use field_codec::ListOf;
+use gate_log::OpenError;
+use log_recovery::{Rebuilt, rebuild, unfit};
+use partition_log::PartLog;
+use prepared_table::Entry;
+use site_vector::{PartId, TxId, VTime};
+use std::alloc::{AllocError, Global};
+use thiserror::Error;
+
+/// What a partition tells that comes up again. Times are in logical ticks.
+#[derive(Drop)]
+pub struct Restarted {
+    /// What its clock shows: the ceiling of its last lease.
+    pub now: u64,
+    /// How far it has come with each site: of its own one its own bound.
+    pub bounds: VTime,
+    /// The last transaction that it decided.
+    pub decided: Option<TxId>,
+    /// What is pending, with prepare times, in the order of prepare time and then of transaction.
+    pub pending: ListOf<(TxId, u64)>,
+}
+
+/// Why a partition doesn't come up again.
+#[derive(Debug, Drop, Error)]
+pub enum RestartError {
+    /// The disk failed.
+    #[error("the disk failed")]
+    Disk,
+    /// The disk holds no log of records: its bytes are damaged at this place.
+    #[error("the log is damaged at {at}")]
+    Damaged { at: u64 },
+    /// The record with this number, from 0, is none that the partition may have written.
+    #[error("record {number} of the log isn't the partition's")]
+    Unfit { number: usize },
+    /// Memory ran out.
+    #[error("out of memory")]
+    NoMemory,
+}
+
+impl From<AllocError> for RestartError {
+    ghost from_gives = { λ e r. r ≡ NoMemory };
+
+    fn from(_error: AllocError) -> RestartError {
+        RestartError::NoMemory
+    }
+}
+
+impl From<OpenError> for RestartError {
+    ghost from_gives = { λ e r. r ≡ unopened e };
+
+    fn from(error: OpenError) -> RestartError {
+        match error {
+            OpenError::Failed => RestartError::Disk,
+            OpenError::Damaged { at } => RestartError::Damaged { at },
+            OpenError::NoMemory => RestartError::NoMemory,
+        }
+    }
+}
+
+/// The records of a log, read again from its disk, the oldest first.
+///
+/// # Errors
+///
+/// As `PartLog::reopen`.
+fn read_again<C: Crdt, D: Disk + Drop>(
+    alloc: Global,
+    log: &mut PartLog<C, D>,
+) -> Result<ListOf<Record<C::Effect>>, OpenError>
+    ensures found { (l torn : List (Record C.Effect)) → LeavesFront (codec_of C.spells) l torn (D.state (disk_of (gates_of log.old)))
+        → IfOk result (λ rs. MayFind l torn (reverse rs) × HasRecords (codec_of C.spells) D.state (gates_of log.new) (reverse rs)) }
+    ensures moments { (l torn : List (Record C.Effect)) → LeavesFront (codec_of C.spells) l torn (D.state (disk_of (gates_of log.old)))
+        → AtEachMoment (D.state (disk_of (gates_of log.old))).story (D.state (disk_of (gates_of log.new))).story (HoldsFront (codec_of C.spells) l torn) }
+    ensures whole { (l torn : List (Record C.Effect)) → LeavesFront (codec_of C.spells) l torn (D.state (disk_of (gates_of log.old)))
+        → (at : ℕ) → result ≢ Err (open_error.Damaged at) }
+    ensures failed { result ≡ Err open_error.Failed → Rose (D.state (disk_of (gates_of log.old))).faults (D.state (disk_of (gates_of log.new))).faults }
+    ensures ready { IsReady D.state (gates_of log.old) → IsReady D.state (gates_of log.new) }
+    ensures open { OnOk result (is_closed (gates_of log.new) ≡ false) }
+    ensures goes_on { GoesOn (D.state (disk_of (gates_of log.old))) (D.state (disk_of (gates_of log.new))) }
+    ensures left { Lowers 16 (D.state (disk_of (gates_of log.old))).left (D.state (disk_of (gates_of log.new))).left }
+{
+    log.reopen(alloc)?;
+    let Ok((_places, records)) = log.records(alloc) else {
+        return Err(OpenError::NoMemory);
+    };
+    log.forget_read();
+    Ok(records)
+}
+
+/// What records tell a partition, the oldest first.
+///
+/// # Errors
+///
+/// `Unfit` exactly where one of them doesn't fit it, with the number of the first; `NoMemory` where memory runs out.
+fn recover<E: Drop>(
+    alloc: Global,
+    records: ListOf<Record<E>>,
+    id: PartId,
+    sites: u8,
+    parts: u8,
+) -> Result<Rebuilt<E>, RestartError>
+    requires least { 1 ≤ sites }
+    requires most { sites ≤ 8 }
+    requires first { 1 ≤ id.site }
+    requires last { id.site ≤ sites }
+    requires some { 1 ≤ parts }
+    ensures told { IfOk result (λ told. IsToldBy sites parts id (reverse records) told) }
+    ensures unfit { (n : ℕ) → result ≡ Err (Unfit n) → unfit sites parts id (reverse records) ≡ Some n }
+    ensures fed { result ≢ Err DiskFailed }
+{
+    if let Some(number) = unfit(alloc, records.as_slice(), id, sites, parts)? {
+        return Err(RestartError::Unfit { number });
+    }
+    let told = rebuild(alloc, records, sites, id)?;
+    Ok(told)
+}
+
+/// The transactions of these entries, with their prepare times.
+///
+/// # Errors
+///
+/// `AllocError` where memory runs out.
+fn list_pending<E>(
+    alloc: Global,
+    entries: &[Entry<E>],
+) -> Result<ListOf<(TxId, u64)>, AllocError>
+    ensures { IfOk result (λ l. IsListed entries.now l) }
+{
+    let mut all = ListOf::new(alloc);
+    for entry in entries {
+        all.push((entry.tx, entry.time))?;
+    }
+    Ok(all)
+}
+
+impl<C: Crdt, D: Disk + Drop> DurablePartition<C, D> {
+    /// Comes up again, also where it is up: reads the log of its disk, and forgets all that the log doesn't tell.
+    ///
+    /// # Errors
+    ///
+    /// `Disk` only where the disk fails; `Damaged` and `Unfit` only where the disk holds no log that the partition may
+    /// have written; `NoMemory` where memory runs out. It is down then, and every crash still leaves what it left.
+    pub fn restart(&mut self, alloc: Global) -> Result<Restarted, RestartError>
+        ensures { RestartsOn (kinds_of C.laws) (codec_of C.spells) D.state self.old self.new result }
+    {
+        self.crashed = true;
+        let (id, sites, parts) = (self.tables.id, self.tables.sites, self.tables.parts);
+        let records = read_again(alloc, &mut self.log)?;
+        let told = recover(alloc, records, id, sites, parts)?;
+        let (now, bounds, decided) = (told.ceiling, told.bounds, told.last_decided);
+        let tables = Partition::recovered(alloc, id, sites, parts, told)?;
+        let pending = list_pending(alloc, tables.pending())?;
+        self.tables = tables;
+        self.crashed = false;
+        Ok(Restarted {
+            now,
+            bounds,
+            decided,
+            pending,
+        })
+    }
+}
