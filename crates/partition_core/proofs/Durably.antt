@@ -63,7 +63,7 @@ module _ {E D : Type 0} (codec : Codec E) (state : D → DiskState) (t : Durable
   down_stands d h = subst (λ b. StandsSo codec state t p b) (sym d) h
 
 module _ {E : Type 0} (p : PartState E) (e : Event E) where
-  underway_up : p.up ≡ true → underway p e ≡ records p (attempt e)
+  pub underway_up : p.up ≡ true → underway p e ≡ records p (attempt e)
   underway_up up = ap (λ b. if b then records p (attempt e) else p.torn) up
 
   pub underway_down : p.up ≡ false → underway p e ≡ p.torn

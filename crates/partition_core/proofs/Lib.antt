@@ -4,6 +4,7 @@ mod Fitted
 mod Logged
 mod Recovering
 mod Rereading
+mod Restarting
 mod Leasing
 mod Making
 mod Choices

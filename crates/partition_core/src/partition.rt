@@ -3,6 +3,7 @@ ghost use Rattle.site_vector.specs.Vector.{entry};
 ghost use Rattle.crdt_core.specs.Log.{end_of_time};
 ghost use Rattle.prepared_table.specs.Entries.{first_on, has_entry};
 ghost use Rattle.world_model.specs.Partition.{new_part};
+ghost use Rattle.world_model.specs.Plan.{IsPlace};
 ghost use Rattle.partition_core.specs.Stands.{Stands};
 ghost use Rattle.partition_core.specs.Tables.{knows};
 
@@ -125,6 +126,14 @@ impl<C: Crdt> Partition<C> {
         ensures { result ≡ entry self.now.bounds site }
     {
         self.bounds.get(site)
+    }
+
+    /// The partition's place, the number of sites, and the number of partitions of each.
+    pub(crate) fn place(&self) -> (PartId, u8, u8)
+        ensures is { (result.0 ≡ self.now.id) × (result.1 ≡ self.now.sites) × (result.2 ≡ self.now.parts) }
+        ensures lies { IsPlace result.1 result.2 result.0 × (result.1 ≤ 8) × (result.2 ≤ 16) }
+    {
+        (self.id, self.sites, self.parts)
     }
 
     /// Whether it crashed and was not restarted since. A partition without a disk never is.

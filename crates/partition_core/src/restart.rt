@@ -14,7 +14,7 @@ ghost use Rattle.crdt_core.specs.KindsOf.{kinds_of};
 ghost use Rattle.crdt_core.specs.Log.{MayFind};
 ghost use Rattle.partition_core.specs.Recovered.{IsToldBy};
 ghost use Rattle.partition_core.specs.Restarts.{RestartsOn, unopened, IsListed};
-ghost use Rattle.partition_core.specs.declared.restart.RestartError.TheVariants.{Disk as DiskFailed, NoMemory, Unfit};
+ghost use Rattle.partition_core.specs.declared.restart.RestartError.TheVariants.{Disk as DiskFailed, Damaged as DamagedAt, NoMemory, Unfit};
 
 use crate::{DurablePartition, Partition};
 use crdt_core::{Crdt, Record};
@@ -126,7 +126,8 @@ fn recover<E: Drop>(
     requires some { 1 ≤ parts }
     ensures told { IfOk result (λ told. IsToldBy sites parts id (reverse records) told) }
     ensures unfit { (n : ℕ) → result ≡ Err (Unfit n) → unfit sites parts id (reverse records) ≡ Some n }
-    ensures fed { result ≢ Err DiskFailed }
+    ensures reads { result ≢ Err DiskFailed }
+    ensures whole { (at : ℕ) → result ≢ Err (DamagedAt at) }
 {
     if let Some(number) = unfit(alloc, records.as_slice(), id, sites, parts)? {
         return Err(RestartError::Unfit { number });
@@ -164,7 +165,7 @@ impl<C: Crdt, D: Disk + Drop> DurablePartition<C, D> {
         ensures { RestartsOn (kinds_of C.laws) (codec_of C.spells) D.state self.old self.new result }
     {
         self.crashed = true;
-        let (id, sites, parts) = (self.tables.id, self.tables.sites, self.tables.parts);
+        let (id, sites, parts) = self.tables.place();
         let records = read_again(alloc, &mut self.log)?;
         let told = recover(alloc, records, id, sites, parts)?;
         let (now, bounds, decided) = (told.ceiling, told.bounds, told.last_decided);
