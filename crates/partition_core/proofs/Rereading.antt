@@ -1,5 +1,6 @@
 -- The records that a log gives when it is read again are those that a restart finds.
-use Rattle.std.proofs.Common.{◌≡◌, ℕ, List, sym, ◌∙◌, subst}
+use Rattle.std.proofs.Common.{◌≡◌, ℕ, List, Result, Ok, Err, sym, ◌∙◌, subst}
+use Rattle.std.specs.Prelude.{IfOk}
 use Rattle.disk_core.specs.States.{DiskState}
 use Rattle.gate_log.specs.Log.{IsLog}
 use Rattle.gate_log.specs.declared.log.GateLog.{GateLog}
@@ -9,6 +10,10 @@ use Rattle.partition_log.specs.Damage.{AreRecords}
 use Rattle.partition_log.specs.Logs.{HoldsLog, HasRecords}
 use Rattle.disk_core.specs.States.{bytes_of}
 use Rattle.crdt_core.specs.declared.record.Record.{Record}
+
+pub map_ok : {A X : Type 0} {P Q : A → Type 0} (r : Result A X) → ((x : A) → P x → Q x) → IfOk r P → IfOk r Q
+map_ok (Ok x) f p = f x p
+map_ok (Err x) f p = tt
 
 module _ {E D : Type 0} (codec : Codec E) (state : D → DiskState) (gates : GateLog D) (one : (bytes : List ℕ) (log other : List (Record E)) → HoldsLog codec bytes log → HoldsLog codec bytes other → log ≡ other) where
   abbrev bytes : List ℕ

@@ -1,18 +1,23 @@
 // How a partition on its disk comes up, and comes up again.
-ghost use Rattle.std.specs.Prelude.{◌≡◌, ◌≢◌, ◌≤◌, ◌⊎◌, ℕ, List, [], true, false, reverse, Some, Err, IfOk, OnOk};
+ghost use Rattle.std.specs.Prelude.{◌≡◌, ◌≢◌, ◌≤◌, ◌⊎◌, ℕ, List, [], true, false, reverse, Some, Err, IsTrue, IfOk, IfErr, OnOk, MatchResult};
 ghost use Rattle.disk_core.specs.Moments.{AtEachMoment};
-ghost use Rattle.disk_core.specs.States.{GoesOn, Rose};
-ghost use Rattle.gate_log.specs.Logs.{disk_of, is_closed, IsReady};
+ghost use Rattle.disk_core.specs.States.{GoesOn, Rose, bytes_of};
+ghost use Rattle.gate_log.specs.Logs.{disk_of, is_closed, read_at_opening, IsReady};
 ghost use Rattle.gate_log.specs.Rest.{Lowers};
 ghost use Rattle.gate_log.specs.declared.error.OpenError.TheVariants as open_error;
 ghost use Rattle.partition_log.specs.Codec.{codec_of};
 ghost use Rattle.partition_log.specs.Gates.{gates_of};
-ghost use Rattle.partition_log.specs.Logs.{HasRecords, HoldsFront, LeavesFront};
+ghost use Rattle.partition_log.specs.Damage.{AreRecords};
+ghost use Rattle.partition_log.specs.Logs.{HasRecords, HoldsFront, HoldsLog, LeavesFront};
 ghost use Rattle.crdt_core.specs.declared.record.Record.{Record};
 ghost use Rattle.crdt_core.specs.Fitting.{unfit};
 ghost use Rattle.crdt_core.specs.KindsOf.{kinds_of};
 ghost use Rattle.crdt_core.specs.Log.{MayFind};
-ghost use Rattle.partition_core.specs.Recovered.{IsToldBy};
+ghost use Rattle.log_recovery.specs.Recovered.{AreKnown};
+ghost use Rattle.log_recovery.specs.Rising.{Rises};
+ghost use Rattle.partition_core.specs.Durable.{StandsOn, is_down};
+ghost use Rattle.partition_core.specs.Recovered.{IsToldBy, resumed};
+ghost use Rattle.partition_core.specs.Stands.{Stands};
 ghost use Rattle.partition_core.specs.Restarts.{RestartsOn, unopened, IsListed};
 ghost use Rattle.partition_core.specs.declared.restart.RestartError.TheVariants.{Disk as DiskFailed, Damaged as DamagedAt, NoMemory, Unfit};
 
@@ -136,6 +141,77 @@ fn recover<E: Drop>(
     Ok(told)
 }
 
+/// The tables that a log tells of, which was read at its opening.
+///
+/// # Errors
+///
+/// As `recover`.
+fn tables_of<C: Crdt, D: Disk + Drop>(
+    alloc: Global,
+    log: &PartLog<C, D>,
+    id: PartId,
+    sites: u8,
+    parts: u8,
+) -> Result<Partition<C>, RestartError>
+    requires least_site { 1 ≤ id.site }
+    requires most_site { id.site ≤ sites }
+    requires most_sites { sites ≤ 8 }
+    requires least_part { 1 ≤ id.part }
+    requires most_part { id.part ≤ parts }
+    requires most_parts { parts ≤ 16 }
+    requires read { (l : List (Record C.Effect)) × AreRecords (codec_of C.spells) (read_at_opening (gates_of log.now)) l }
+    ensures place { IfOk result (λ t. (t.id ≡ id) × (t.sites ≡ sites) × (t.parts ≡ parts)) }
+    ensures stands { IfOk result (λ t. (l : List (Record C.Effect)) × AreRecords (codec_of C.spells) (read_at_opening (gates_of log.now)) l
+        × ((b : List ℕ) × AreKnown sites id.site l b × (Rises l → Stands t (resumed sites parts b l)))) }
+    ensures reads { result ≢ Err DiskFailed }
+{
+    let (_places, records) = log.records(alloc)?;
+    let told = recover(alloc, records, id, sites, parts)?;
+    let tables = Partition::recovered(alloc, id, sites, parts, told)?;
+    Ok(tables)
+}
+
+/// A partition over a log that was read at its opening. An `Err` hands the disk back.
+///
+/// # Errors
+///
+/// As `recover`.
+fn wake<C: Crdt, D: Disk + Drop>(
+    alloc: Global,
+    log: PartLog<C, D>,
+    id: PartId,
+    sites: u8,
+    parts: u8,
+) -> Result<DurablePartition<C, D>, (D, RestartError)>
+    requires least_site { 1 ≤ id.site }
+    requires most_site { id.site ≤ sites }
+    requires most_sites { sites ≤ 8 }
+    requires least_part { 1 ≤ id.part }
+    requires most_part { id.part ≤ parts }
+    requires most_parts { parts ≤ 16 }
+    requires read { (l : List (Record C.Effect)) × AreRecords (codec_of C.spells) (read_at_opening (gates_of log)) l }
+    requires ready { IsReady D.state (gates_of log) }
+    requires open { is_closed (gates_of log) ≡ false }
+    ensures place { IfOk result (λ p. (p.tables.id ≡ id) × (p.tables.sites ≡ sites) × (p.tables.parts ≡ parts)) }
+    ensures up { IfOk result (λ p. is_down p ≡ false) }
+    ensures stands { IfOk result (λ p. (l : List (Record C.Effect)) × AreRecords (codec_of C.spells) (read_at_opening (gates_of log)) l
+        × ((b : List ℕ) × AreKnown sites id.site l b × (HasRecords (codec_of C.spells) D.state (gates_of log) l → Rises l → StandsOn (codec_of C.spells) D.state p (resumed sites parts b l)))) }
+    ensures disk { MatchResult result (λ p. disk_of p.gates ≡ disk_of (gates_of log)) (λ e. (e.0 ≡ disk_of (gates_of log)) × (e.1 ≢ DiskFailed)) }
+{
+    let mut log = log;
+    match tables_of(alloc, &log, id, sites, parts) {
+        Err(error) => Err((log.close(), error)),
+        Ok(tables) => {
+            log.forget_read();
+            Ok(DurablePartition {
+                tables,
+                log,
+                crashed: false,
+            })
+        }
+    }
+}
+
 /// The transactions of these entries, with their prepare times.
 ///
 /// # Errors
@@ -155,6 +231,38 @@ fn list_pending<E>(
 }
 
 impl<C: Crdt, D: Disk + Drop> DurablePartition<C, D> {
+    /// The partition of this place whose log a disk holds, with what the log tells; one that holds nothing over a disk
+    /// that is formatted. An `Err` hands the disk back.
+    ///
+    /// # Errors
+    ///
+    /// As `restart`.
+    pub fn make(
+        alloc: Global,
+        id: PartId,
+        sites: u8,
+        parts: u8,
+        disk: D,
+    ) -> Result<DurablePartition<C, D>, (D, RestartError)>
+        requires least_site { 1 ≤ id.site }
+        requires most_site { id.site ≤ sites }
+        requires most_sites { sites ≤ 8 }
+        requires least_part { 1 ≤ id.part }
+        requires most_part { id.part ≤ parts }
+        requires most_parts { parts ≤ 16 }
+        ensures place { IfOk result (λ p. (p.tables.id ≡ id) × (p.tables.sites ≡ sites) × (p.tables.parts ≡ parts)) }
+        ensures up { IfOk result (λ p. is_down p ≡ false) }
+        ensures stands { IfOk result (λ p. IsTrue (D.state disk).tells → (log : List (Record C.Effect)) → HoldsLog (codec_of C.spells) (bytes_of (D.state disk)) log → Rises log
+            → (b : List ℕ) × AreKnown sites id.site log b × StandsOn (codec_of C.spells) D.state p (resumed sites parts b log)) }
+        ensures goes_on { MatchResult result (λ p. GoesOn (D.state disk) (D.state (disk_of p.gates))) (λ e. GoesOn (D.state disk) (D.state e.0)) }
+        ensures failed { IfErr result (λ e. e.1 ≡ DiskFailed → Rose (D.state disk).faults (D.state e.0).faults) }
+    {
+        match PartLog::open(alloc, disk) {
+            Err((disk, error)) => Err((disk, RestartError::from(error))),
+            Ok(log) => wake(alloc, log, id, sites, parts),
+        }
+    }
+
     /// Comes up again, also where it is up: reads the log of its disk, and forgets all that the log doesn't tell.
     ///
     /// # Errors
