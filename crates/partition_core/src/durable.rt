@@ -12,7 +12,7 @@ ghost use Rattle.partition_core.specs.declared.durable.DurableError.TheVariants.
 
 use crate::{CallError, Partition, Refusal};
 use crdt_core::{Crdt, ObjectId};
-use disk_core::Disk;
+use disk_core::{Disk, Fused};
 use gate_log::AppendError;
 use partition_log::PartLog;
 use prepared_table::Entry;
@@ -158,5 +158,33 @@ impl<C: Crdt, D: Disk + Drop> DurablePartition<C, D> {
         ensures { result ≡ disk_of self.gates }
     {
         self.log.close()
+    }
+}
+
+impl<C: Crdt, D: Disk + Drop> DurablePartition<C, Fused<D>> {
+    ghost use Rattle.std.specs.Prelude.{Some, None, ◌≢◌};
+    ghost use Rattle.disk_core.specs.Fuses.{fused_state, calls_left};
+    ghost use Rattle.partition_log.specs.Codec.{codec_of};
+    ghost use Rattle.world_model.specs.Partition.{PartState};
+    ghost use Rattle.partition_core.specs.Durable.{StandsOn, disk_in};
+
+    /// Arms the fuse of the disk, also where the partition is down: of its calls from now on the one with this number,
+    /// from 1, fails, and all later ones. Where it writes, at most the first `keep` bytes are written.
+    pub fn arm(&mut self, k: u64, keep: u64)
+        ensures armed { disk_in (fused_state D.state) self.new ≡ record (disk_in (fused_state D.state) self.old) { left = Some k } }
+        ensures same { (self.new.tables ≡ self.old.tables) × (is_down self.new ≡ is_down self.old) }
+        ensures stands { (p : PartState C.Effect) → StandsOn (codec_of C.spells) (fused_state D.state) self.old p → StandsOn (codec_of C.spells) (fused_state D.state) self.new p }
+    {
+        self.log.arm(k, keep);
+    }
+
+    /// Takes the fuse of the disk away where it has fired, also where the partition is down.
+    pub fn revive(&mut self)
+        ensures fired { calls_left (disk_of self.old.gates) ≡ Some 0 → disk_in (fused_state D.state) self.new ≡ record (disk_in (fused_state D.state) self.old) { left = None } }
+        ensures burning { calls_left (disk_of self.old.gates) ≢ Some 0 → self.new ≡ self.old }
+        ensures same { (self.new.tables ≡ self.old.tables) × (is_down self.new ≡ is_down self.old) }
+        ensures stands { (p : PartState C.Effect) → StandsOn (codec_of C.spells) (fused_state D.state) self.old p → StandsOn (codec_of C.spells) (fused_state D.state) self.new p }
+    {
+        self.log.revive();
     }
 }

@@ -217,10 +217,7 @@ fn wake<C: Crdt, D: Disk + Drop>(
 /// # Errors
 ///
 /// `AllocError` where memory runs out.
-fn list_pending<E>(
-    alloc: Global,
-    entries: &[Entry<E>],
-) -> Result<ListOf<(TxId, u64)>, AllocError>
+fn list_pending<E>(alloc: Global, entries: &[Entry<E>]) -> Result<ListOf<(TxId, u64)>, AllocError>
     ensures { IfOk result (λ l. IsListed entries.now l) }
 {
     let mut all = ListOf::new(alloc);
