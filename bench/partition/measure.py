@@ -3,9 +3,10 @@
 
     python3 bench/partition/measure.py [TRANSACTIONS]
 
-TRANSACTIONS is 1000000. The program is crates/partition_bench/out/partition_bench, which `rt run` in crates/partition_bench leaves there. It makes so many
-transactions of one update, one after another, over 1,000 counters of one partition: begin, update, prepare, decide, and a read that sees it. This checks the
-sum of what was read, and prints the best of three runs and the peak of memory for each transaction."""
+TRANSACTIONS is 1000000. The program is crates/partition_bench/out/partition_bench, which `rt run` in
+crates/partition_bench leaves there. It makes so many transactions of one update, one after another, over 1,000 counters
+of one partition: begin, update, prepare, decide, and a read that sees it. This checks the sum of what was read, and
+prints the best of three runs and the peak of memory for each transaction."""
 import os
 import subprocess
 import sys
