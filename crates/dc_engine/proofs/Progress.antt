@@ -5,7 +5,8 @@ use Rattle.std.proofs.lemmas.List.{append-nil, length-take-le}
 use Rattle.std.specs.Io.KnownBytes.{Consumes, Keeps, IsAtEnd}
 use Rattle.dc_engine.specs.Lines.{lines_of, ended_lines}
 use Rattle.dc_engine.specs.Reading.{has_bad}
-use Rattle.dc_engine.specs.Replies.{Replies, RepliesAll}
+use Rattle.dc_engine.specs.Replies.{Replies}
+use Rattle.dc_engine.specs.Outcome.{And}
 use Rattle.dc_engine.specs.declared.fault.Fault.{Fault}
 use Rattle.dc_engine.specs.declared.fault.Fault.TheVariants as fault
 use Rattle.dc_engine.specs.Played.{Played, PlayedEnded, PlayedTooLong, PlayedPart, AreFirst, IsFront}
@@ -199,14 +200,14 @@ module _ {M : Type 0} (most : ℕ) (reached : M → List (List ℕ) → List ℕ
   goes_on_more size m input left before after kept room (suc count) h e = h.1
 
 -- a script that was read to its end, and whether a line of it isn't in the grammar
-pub played_all : {M : Type 0} (most : ℕ) (reached : M → List (List ℕ) → List ℕ → Type 0) (m : M) (bad : Bool) (input left before after : Option (List ℕ)) →
-    Played most (reached m) input left before after → ((lines : List (List ℕ)) (bytes : List ℕ) → reached m lines bytes → has_bad lines ≡ bad) → Played most (RepliesAll reached bad) input left before after
-played_all most reached m bad input left before after p h = record {
+pub played_all : {M : Type 0} (most : ℕ) (reached : M → List (List ℕ) → List ℕ → Type 0) (m : M) (met bad : Bool) (input left before after : Option (List ℕ)) →
+    met ≡ bad → Played most (reached m) input left before after → ((lines : List (List ℕ)) (bytes : List ℕ) → reached m lines bytes → has_bad lines ≡ met) → Played most (And (Replies reached) bad) input left before after
+played_all most reached m met bad input left before after e p h = record {
   read = p.read;
   written = p.written;
   from_source = p.from_source;
   at_end = p.at_end;
   fits = p.fits;
   to_sink = p.to_sink;
-  replied = record { replied = (m, p.replied); is_bad = h (lines_of p.read) p.written p.replied };
+  replied = ((m, p.replied), h (lines_of p.read) p.written p.replied ∙ e);
 }

@@ -11,4 +11,5 @@ pub mod ReadBack
 pub mod Reading
 pub mod Replies
 pub mod Status
+pub mod Outcome
 pub mod Words

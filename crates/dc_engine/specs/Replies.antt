@@ -1,16 +1,10 @@
 -- Replies to lines, by a state that has answered them. `reached m lines bytes` says that the state m stands
 -- where these lines, oldest first and each without its LF, have been answered with these bytes.
-use Rattle.std.specs.Prelude.{◌≡◌, ℕ, Bool, List, [], ◌∷◌, ◌++◌, take}
-use Rattle.dc_engine.specs.Reading.{has_bad}
+use Rattle.std.specs.Prelude.{◌≡◌, ℕ, List, [], ◌∷◌, ◌++◌, take}
 
 -- some state has answered these lines with these bytes
 abbrev pub Replies : {M : Type 0} → (M → List (List ℕ) → List ℕ → Type 0) → List (List ℕ) → List ℕ → Type 0
 Replies {M} reached lines bytes = (m : M) × reached m lines bytes
-
--- and `bad` says whether one of them isn't in the grammar
-pub record RepliesAll {M : Type 0} (reached : M → List (List ℕ) → List ℕ → Type 0) (bad : Bool) (lines : List (List ℕ)) (bytes : List ℕ) : Type 0 where
-  pub replied : Replies reached lines bytes
-  pub is_bad : has_bad lines ≡ bad
 
 -- one more line is answered, of which only the first 4,098 bytes count: the replies to all before are followed by these bytes
 pub record AnswersLine {M : Type 0} (reached : M → List (List ℕ) → List ℕ → Type 0) (old new : M) (kept old_out new_out : List ℕ) : Type 0 where

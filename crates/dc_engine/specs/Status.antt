@@ -1,13 +1,23 @@
--- What a status prints on standard error.
-use Rattle.std.specs.Prelude.{ℕ, ◌==◌, if◌then◌else◌, List, Option, None, Some, codes}
+-- What a status is to the process: its code, and what it prints on standard error.
+use Rattle.std.specs.Prelude.{ℕ, List, Option, None, Some, codes}
+use Rattle.dc_engine.specs.declared.status.Status.{Status}
+use Rattle.dc_engine.specs.declared.status.Status.TheVariants as status
 
--- the one line of a status, by its code
-abbrev pub text_of : ℕ → Option (List ℕ)
-text_of code =
-    if code == 2 then Some (codes "usage: dc_shell play [--json] [--data DIR] or storm D N clients txns number [--trace]") else (
-    if code == 3 then Some (codes "read fault") else (
-    if code == 4 then Some (codes "write fault") else (
-    if code == 5 then Some (codes "out of memory") else (
-    if code == 6 then Some (codes "script too long") else (
-    if code == 7 then Some (codes "no disk") else (
-    if code == 8 then Some (codes "disk fault") else None))))))
+abbrev pub code_of : Status → ℕ
+code_of status.Done = 0
+code_of status.BadLine = 1
+code_of status.Usage = 2
+code_of status.ReadFault = 3
+code_of status.WriteFault = 4
+code_of status.NoMemory = 5
+code_of status.TooLong = 6
+
+-- the one line of a status, without its LF
+abbrev pub text_of : Status → Option (List ℕ)
+text_of status.Done = None
+text_of status.BadLine = None
+text_of status.Usage = Some (codes "usage: dc_shell play [--json] [--data DIR] or storm D N clients txns number [--trace]")
+text_of status.ReadFault = Some (codes "read fault")
+text_of status.WriteFault = Some (codes "write fault")
+text_of status.NoMemory = Some (codes "out of memory")
+text_of status.TooLong = Some (codes "script too long")

@@ -26,5 +26,5 @@ pub use memory::{Calls, SliceSource, VecSink};
 pub use read_back::law_reads_back;
 pub use sink::Sink;
 pub use source::{Failed, Source};
-pub use status::{Status, law_statuses};
+pub use status::Status;
 pub use top::{play, run};

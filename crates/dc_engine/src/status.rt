@@ -1,61 +1,55 @@
 ghost use Rattle.std.specs.Prelude.{◌≡◌, IfSome, IfNone, Some, None};
-ghost use Rattle.dc_engine.specs.Status.{text_of};
+ghost use Rattle.dc_engine.specs.Status.{code_of, text_of};
 
-/// How a run ended, as the code that the process ends with: 0 to 8.
+/// How a run ended. The process ends with its code.
 #[derive(Clone, Copy, Debug, PartialEq, Eq)]
-pub struct Status {
-    pub code: u8,
+pub enum Status {
+    /// 0: the input was answered, and each of its lines is in the grammar.
+    Done,
+    /// 1: the input was answered, and a line of it isn't in the grammar.
+    BadLine,
+    /// 2: the words are no call.
+    Usage,
+    /// 3: the source failed.
+    ReadFault,
+    /// 4: the sink failed.
+    WriteFault,
+    /// 5: memory ran out.
+    NoMemory,
+    /// 6: the script has more bytes than may be read.
+    TooLong,
 }
 
 impl Status {
-    /// The input was answered, and each of its lines is in the grammar.
-    pub const DONE: Status = Status { code: 0 };
-
-    /// The input was answered, and a line of it isn't in the grammar.
-    pub const BAD_LINE: Status = Status { code: 1 };
-
-    /// The words are no call.
-    pub const USAGE: Status = Status { code: 2 };
-
-    /// The source failed.
-    pub const READ_FAULT: Status = Status { code: 3 };
-
-    /// The sink failed.
-    pub const WRITE_FAULT: Status = Status { code: 4 };
-
-    /// Memory ran out.
-    pub const NO_MEMORY: Status = Status { code: 5 };
-
-    /// The script has more bytes than may be read.
-    pub const TOO_LONG: Status = Status { code: 6 };
+    /// The code that the process ends with, from 0 to 6.
+    pub fn code(self) -> u8
+        ensures { result ≡ code_of self }
+    {
+        match self {
+            Status::Done => 0,
+            Status::BadLine => 1,
+            Status::Usage => 2,
+            Status::ReadFault => 3,
+            Status::WriteFault => 4,
+            Status::NoMemory => 5,
+            Status::TooLong => 6,
+        }
+    }
 
     /// The line on standard error, without its LF.
     pub fn text(self) -> Option<&'static str>
-        ensures some { IfSome result (λ t. text_of self.code ≡ Some t.now) }
-        ensures none { IfNone result (text_of self.code ≡ None) }
+        ensures some { IfSome result (λ t. text_of self ≡ Some t.now) }
+        ensures none { IfNone result (text_of self ≡ None) }
     {
-        match self.code {
-            2 => Some(
+        match self {
+            Status::Done | Status::BadLine => None,
+            Status::Usage => Some(
                 "usage: dc_shell play [--json] [--data DIR] or storm D N clients txns number [--trace]",
             ),
-            3 => Some("read fault"),
-            4 => Some("write fault"),
-            5 => Some("out of memory"),
-            6 => Some("script too long"),
-            7 => Some("no disk"),
-            8 => Some("disk fault"),
-            _ => None,
+            Status::ReadFault => Some("read fault"),
+            Status::WriteFault => Some("write fault"),
+            Status::NoMemory => Some("out of memory"),
+            Status::TooLong => Some("script too long"),
         }
     }
 }
-
-/// The law of the statuses: each has its code.
-pub fn law_statuses()
-    ensures done { Status.DONE.code ≡ 0 }
-    ensures bad_line { Status.BAD_LINE.code ≡ 1 }
-    ensures usage { Status.USAGE.code ≡ 2 }
-    ensures read_fault { Status.READ_FAULT.code ≡ 3 }
-    ensures write_fault { Status.WRITE_FAULT.code ≡ 4 }
-    ensures no_memory { Status.NO_MEMORY.code ≡ 5 }
-    ensures too_long { Status.TOO_LONG.code ≡ 6 }
-{}

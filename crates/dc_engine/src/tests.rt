@@ -67,16 +67,16 @@ fn repeated(
 #[test]
 fn plays_line_ends(rt: HostRuntime) -> Result<(), AllocError> {
     let (status, sink) = played(&rt, b"cluster 1 1\r\n\n# note\nclock 1.1 5")?;
-    assert_eq!(rt; status, Status::DONE);
+    assert_eq!(rt; status, Status::Done);
     assert_eq!(rt; sink.held(), b"cluster 1 1\nnow 1.1 5\n".as_slice());
     let (status, sink) = played(&rt, b"")?;
-    assert_eq!(rt; status, Status::DONE);
+    assert_eq!(rt; status, Status::Done);
     assert_eq!(rt; sink.held(), b"".as_slice());
     let (status, sink) = played(&rt, b"read a k counter_pn")?;
-    assert_eq!(rt; status, Status::DONE);
+    assert_eq!(rt; status, Status::Done);
     assert_eq!(rt; sink.held(), b"no cluster\n".as_slice());
     let (status, sink) = played(&rt, b"cluster 9 1\n")?;
-    assert_eq!(rt; status, Status::BAD_LINE);
+    assert_eq!(rt; status, Status::BadLine);
     assert_eq!(rt; sink.held(), b"bad\n".as_slice());
     Ok(())
 }
@@ -85,11 +85,11 @@ fn plays_line_ends(rt: HostRuntime) -> Result<(), AllocError> {
 fn reads_lines_of_4096_bytes(rt: HostRuntime) -> Result<(), AllocError> {
     let script = repeated(rt.alloc(), b"cluster 1 1\nclock 1.1", b" ", 4_086, b"5\n")?;
     let (status, sink) = played(&rt, script.as_slice())?;
-    assert_eq!(rt; status, Status::DONE);
+    assert_eq!(rt; status, Status::Done);
     assert_eq!(rt; sink.held(), b"cluster 1 1\nnow 1.1 5\n".as_slice());
     let script = repeated(rt.alloc(), b"cluster 1 1\nclock 1.1", b" ", 4_087, b"5\n")?;
     let (status, sink) = played(&rt, script.as_slice())?;
-    assert_eq!(rt; status, Status::BAD_LINE);
+    assert_eq!(rt; status, Status::BadLine);
     assert_eq!(rt; sink.held(), b"cluster 1 1\nbad\n".as_slice());
     Ok(())
 }
@@ -98,10 +98,10 @@ fn reads_lines_of_4096_bytes(rt: HostRuntime) -> Result<(), AllocError> {
 fn takes_64_mebibytes(rt: HostRuntime) -> Result<(), AllocError> {
     let script = vec![in rt.alloc(); b'\n'; 67_108_865]?;
     let (status, sink) = played(&rt, script.as_slice())?;
-    assert_eq!(rt; status, Status::TOO_LONG);
+    assert_eq!(rt; status, Status::TooLong);
     assert_eq!(rt; sink.held(), b"".as_slice());
     let (status, sink) = played(&rt, &script.as_slice()[1..])?;
-    assert_eq!(rt; status, Status::DONE);
+    assert_eq!(rt; status, Status::Done);
     assert_eq!(rt; sink.held(), b"".as_slice());
     Ok(())
 }
@@ -112,10 +112,10 @@ fn the_first_read_fails(rt: HostRuntime) -> Result<(), AllocError> {
     source.fail_at(&[1])?;
     let mut sink = VecSink::new(rt.alloc(), 100)?;
     let status = run(rt.alloc(), &["play"], &mut source, &mut sink);
-    assert_eq!(rt; status, Status::READ_FAULT);
+    assert_eq!(rt; status, Status::ReadFault);
     assert_eq!(rt; sink.held(), b"".as_slice());
     let status = run(rt.alloc(), &["play"], &mut Reading::new(Broken), &mut sink);
-    assert_eq!(rt; status, Status::READ_FAULT);
+    assert_eq!(rt; status, Status::ReadFault);
     assert_eq!(rt; sink.held(), b"".as_slice());
     Ok(())
 }
@@ -125,7 +125,7 @@ fn a_sink_without_room_fails(rt: HostRuntime) -> Result<(), AllocError> {
     let mut source = SliceSource::new(rt.alloc(), b"cluster 1 1\n");
     let mut sink = VecSink::new(rt.alloc(), 0)?;
     let status = run(rt.alloc(), &["play"], &mut source, &mut sink);
-    assert_eq!(rt; status, Status::WRITE_FAULT);
+    assert_eq!(rt; status, Status::WriteFault);
     assert_eq!(rt; sink.held(), b"".as_slice());
     let mut source = SliceSource::new(rt.alloc(), b"cluster 1 1\n");
     let status = run(
@@ -134,10 +134,10 @@ fn a_sink_without_room_fails(rt: HostRuntime) -> Result<(), AllocError> {
         &mut source,
         &mut Writing::new(Broken),
     );
-    assert_eq!(rt; status, Status::WRITE_FAULT);
+    assert_eq!(rt; status, Status::WriteFault);
     let mut source = SliceSource::new(rt.alloc(), b"cluster 1 1\n");
     let status = run(rt.alloc(), &["play"], &mut source, &mut Writing::new(Full));
-    assert_eq!(rt; status, Status::WRITE_FAULT);
+    assert_eq!(rt; status, Status::WriteFault);
     Ok(())
 }
 
@@ -146,7 +146,7 @@ fn other_words_are_no_call(rt: HostRuntime) -> Result<(), AllocError> {
     let mut source = SliceSource::new(rt.alloc(), b"cluster 1 1\n");
     let mut sink = VecSink::new(rt.alloc(), 100)?;
     let status = run(rt.alloc(), &["plya"], &mut source, &mut sink);
-    assert_eq!(rt; status, Status::USAGE);
+    assert_eq!(rt; status, Status::Usage);
     assert_eq!(rt; sink.held(), b"".as_slice());
     Ok(())
 }

@@ -21,18 +21,18 @@ impl Write for Broken {
 #[test]
 fn tells_a_status(rt: HostRuntime) {
     let mut err = Vec::new(rt.alloc());
-    assert!(rt; tell(&mut err, Status::NO_MEMORY).is_ok());
+    assert!(rt; tell(&mut err, Status::NoMemory).is_ok());
     assert_eq!(rt; err.as_slice(), b"out of memory\n".as_slice());
-    assert!(rt; tell(&mut err, Status::DONE).is_ok());
+    assert!(rt; tell(&mut err, Status::Done).is_ok());
     assert_eq!(rt; err.as_slice(), b"out of memory\n".as_slice());
 }
 
 #[test]
 fn ends_where_nothing_can_be_told(rt: HostRuntime) {
     let mut err = Vec::new(rt.alloc());
-    assert!(rt; end(&mut err, Status::READ_FAULT).1.is_ok());
+    assert!(rt; end(&mut err, Status::ReadFault).1.is_ok());
     assert_eq!(rt; err.as_slice(), b"read fault\n".as_slice());
-    assert!(rt; end(&mut Broken, Status::READ_FAULT).1.is_err());
+    assert!(rt; end(&mut Broken, Status::ReadFault).1.is_err());
 }
 
 #[test]

@@ -1,0 +1,43 @@
+-- What a run owes, by the status that it ends with.
+use Rattle.std.specs.Prelude.{◌≡◌, ℕ, Bool, true, false, List, Option}
+use Rattle.dc_engine.specs.Causes.{Rose}
+use Rattle.dc_engine.specs.Played.{Played, PlayedEnded, PlayedTooLong, PlayedPart}
+use Rattle.dc_engine.specs.Reading.{has_bad}
+use Rattle.dc_engine.specs.declared.status.Status.{Status}
+use Rattle.dc_engine.specs.declared.status.Status.TheVariants as status
+
+-- the most bytes of a script, and of a block of it that is read at once
+abbrev pub most_bytes : ℕ
+most_bytes = 67108864
+
+abbrev pub block_bytes : ℕ
+block_bytes = 65536
+
+-- what a source has left or a sink holds, where it tells, and the count of its faults, before and after
+pub record Change : Type 0 where
+  pub before : Option (List ℕ)
+  pub after : Option (List ℕ)
+  pub faults : ℕ
+  pub faults_after : ℕ
+
+abbrev pub change : {T : Type 0} → (T → Option (List ℕ)) → (T → ℕ) → T → T → Change
+change bytes faults old new = record { before = bytes old; after = bytes new; faults = faults old; faults_after = faults new }
+
+abbrev pub HasFailed : Change → Type 0
+HasFailed c = Rose c.faults c.faults_after
+
+-- these replies, and whether one of the lines isn't in the grammar
+abbrev pub And : (List (List ℕ) → List ℕ → Type 0) → Bool → List (List ℕ) → List ℕ → Type 0
+And replies bad lines bytes = replies lines bytes × (has_bad lines ≡ bad)
+
+module _ (replies : List (List ℕ) → List ℕ → Type 0) where
+  -- all replies where the script was read to its end, those to the lines whose LF was read where the source fails or the script is
+  -- too long, and else a front of the next ones; a source or a sink is called faulty only where it failed
+  abbrev pub Outcome : Status → Change → Change → Type 0
+  Outcome status.Done source sink = Played most_bytes (And replies false) source.before source.after sink.before sink.after
+  Outcome status.BadLine source sink = Played most_bytes (And replies true) source.before source.after sink.before sink.after
+  Outcome status.Usage source sink = ⊥
+  Outcome status.ReadFault source sink = PlayedEnded most_bytes replies source.before source.after sink.before sink.after × HasFailed source
+  Outcome status.WriteFault source sink = PlayedPart block_bytes most_bytes replies source.before source.after sink.before sink.after × HasFailed sink
+  Outcome status.NoMemory source sink = PlayedPart block_bytes most_bytes replies source.before source.after sink.before sink.after
+  Outcome status.TooLong source sink = PlayedTooLong most_bytes replies source.before source.after sink.before sink.after
