@@ -1,6 +1,7 @@
 ghost use Rattle.std.specs.Prelude.{[]};
 ghost use Rattle.dc_engine.specs.Outcome.{Outcome, change};
 ghost use Rattle.dc_engine.specs.Replies.{Replies};
+
 use crate::blocks::play_blocks;
 use crate::fault::Fault;
 use crate::responder::Responder;

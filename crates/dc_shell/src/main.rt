@@ -13,9 +13,9 @@ ghost use Rattle.dc_shell.specs.Told.{told};
 
 use dc_engine::{Reading, Sink, Source, Status, Writing, run};
 use std::alloc::{AllocError, Global};
+use std::env::Args;
 use std::io::{ErrorKind, Write};
 use std::process::ExitCode;
-use std::env::Args;
 use std::{env, io};
 
 #[cfg(test)]
