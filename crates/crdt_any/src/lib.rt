@@ -26,6 +26,3 @@ pub type Three = Layer<Two>;
 
 /// The kinds of objects: a path in them has at most three fields.
 pub type Any = Layer<Three>;
-
-#[cfg(test)]
-mod tests;

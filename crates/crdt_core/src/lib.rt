@@ -40,6 +40,3 @@ pub use replay::{state_after, value_after};
 pub use table::{fits, fits_at, reads_state, stands_in};
 pub use value::Value;
 pub use vector_forms::{put_vector, take_vector};
-
-#[cfg(test)]
-mod tests;

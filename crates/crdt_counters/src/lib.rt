@@ -12,6 +12,3 @@ pub use amounts::amount_of;
 pub use counter_fat::{CounterFat, FatEffect};
 pub use counter_pn::CounterPn;
 pub use exact::law_exact_sums;
-
-#[cfg(test)]
-mod tests;

@@ -9,6 +9,3 @@ mod flag_ew;
 pub use effect::FlagEffect;
 pub use flag_dw::FlagDw;
 pub use flag_ew::FlagEw;
-
-#[cfg(test)]
-mod tests;

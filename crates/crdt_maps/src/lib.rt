@@ -18,6 +18,3 @@ pub use fields::Fields;
 pub use laws::law_resets;
 pub use map_go::MapGo;
 pub use map_rr::MapRr;
-
-#[cfg(test)]
-mod tests;

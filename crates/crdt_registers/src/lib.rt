@@ -13,6 +13,3 @@ pub use assigned::{Assigned, Stamped};
 pub use mv_effect::MvEffect;
 pub use register_lww::RegisterLww;
 pub use register_mv::RegisterMv;
-
-#[cfg(test)]
-mod tests;

@@ -18,6 +18,3 @@ pub use set_aw::SetAw;
 pub use set_go::SetGo;
 pub use set_rw::SetRw;
 pub use texts::TextSet;
-
-#[cfg(test)]
-mod tests;

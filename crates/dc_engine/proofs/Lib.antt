@@ -1,15 +1,8 @@
 pub mod Applied
-pub mod Cutting
 pub mod Moves
-pub mod Numerals
 pub mod PlayedBy
 pub mod Progress
-pub mod QuotedTexts
 pub mod Readings
-pub mod ShownLines
-pub mod ShownObjects
-pub mod ShownPlaces
-pub mod ShownValues
 pub mod Standing
 pub mod Takes
 pub mod Written

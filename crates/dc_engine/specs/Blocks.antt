@@ -1,16 +1,12 @@
 -- How a script is read block by block.
-use Rattle.std.specs.Prelude.{◌≡◌, ◌≢◌, ℕ, zero, suc, ◌+◌, ◌-◌, ◌<◌, ◌≤◌, Result, Ok, Err, Bool, true, false, List, [], ◌∷◌, ◌++◌, length, take, drop, Option, ⊤}
+use Rattle.std.specs.Prelude.{◌≡◌, ℕ, zero, suc, ◌+◌, ◌-◌, ◌<◌, ◌≤◌, Result, Ok, Err, Bool, true, false, List, [], ◌∷◌, ◌++◌, length, take, drop, Option}
 use Rattle.std.specs.Io.KnownBytes.{Appends, Consumes, IsAtEnd}
+use Rattle.script_text.specs.Split.{HasNoEnd}
 use Rattle.dc_engine.specs.Replies.{Replies}
 use Rattle.dc_engine.specs.Played.{Played, PlayedEnded, PlayedTooLong, PlayedPart}
 use Rattle.dc_engine.specs.declared.fault.Fault.{Fault}
 use Rattle.dc_engine.specs.declared.fault.Fault.TheVariants as fault
 use Rattle.dc_engine.specs.Lines.{onto, lines_of, onto_first, ended_lines}
-
--- no byte is a LF
-abbrev pub HasNoEnd : List ℕ → Type 0
-HasNoEnd [] = ⊤
-HasNoEnd (b ∷ bytes) = (b ≢ 10) × HasNoEnd bytes
 
 -- bytes at the front of the first line, which they begin where there is none
 abbrev pub prefixed : List ℕ → List (List ℕ) → List (List ℕ)

@@ -7,7 +7,6 @@ pub mod Memory
 pub mod ObjectKinds
 pub mod Played
 pub mod Player
-pub mod ReadBack
 pub mod Reading
 pub mod Replies
 pub mod Status

@@ -9,7 +9,6 @@ mod lines;
 mod memory;
 mod objects;
 mod player;
-mod read_back;
 mod reading;
 mod responder;
 mod script;
@@ -23,7 +22,6 @@ mod words;
 
 pub use edge::{Reading, Writing};
 pub use memory::{Calls, SliceSource, VecSink};
-pub use read_back::law_reads_back;
 pub use sink::Sink;
 pub use source::{Failed, Source};
 pub use status::Status;

@@ -1,6 +1,7 @@
 ghost use Rattle.std.specs.Prelude.{◌≡◌, ◌++◌, ◌∷◌, [], length, take, IfSome, IfNone, OnOk, OnErr};
 ghost use Rattle.dc_engine.specs.Replies.{AnswersLine};
-ghost use Rattle.dc_engine.specs.Blocks.{HasNoEnd, EndsAt, Moves, MovesPart};
+ghost use Rattle.script_text.specs.Split.{HasNoEnd};
+ghost use Rattle.dc_engine.specs.Blocks.{EndsAt, Moves, MovesPart};
 
 use crate::kept::Kept;
 use crate::responder::{KEPT, Responder};

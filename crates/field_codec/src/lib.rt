@@ -16,6 +16,3 @@ pub use list::ListOf;
 pub use members::{put_list, take_list};
 pub use number::{put_u8, put_u16, put_u32, put_u64, take_u8, take_u16, take_u32, take_u64};
 pub use text::{Text, TextForm, put_text, take_text};
-
-#[cfg(test)]
-mod tests;

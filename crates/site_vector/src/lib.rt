@@ -8,6 +8,3 @@ mod vector;
 pub use ids::{Dot, PartId, TxId};
 pub use laws::{law_ids, law_lattice, law_order};
 pub use vector::VTime;
-
-#[cfg(test)]
-mod tests;

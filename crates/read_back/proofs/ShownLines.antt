@@ -16,12 +16,12 @@ use Rattle.script_text.specs.Split.{Where, outside, within, after, ends_word, on
 use Rattle.reply_text.specs.Places.{vector_text, word_text, object_text, message_text, report_text, interval_text}
 use Rattle.reply_text.specs.Text.{words_of, line_feed, stamp_words, decided_words, pending_words}
 use Rattle.reply_text.specs.Values.{value_text}
-use Rattle.dc_engine.proofs.Cutting.{IsUncut, is_inner, inner_both, no_end, plain_uncut, uncut_both, one_word, text_uncut, text_some}
-use Rattle.dc_engine.proofs.Numerals.{decimal_uncut, decimal_some}
-use Rattle.dc_engine.proofs.ShownObjects.{words-object, bucket_words, inner_object}
-use Rattle.dc_engine.proofs.ShownPlaces.{part_uncut, part_some, tx_uncut, tx_some, message_uncut, report_uncut}
-use Rattle.dc_engine.proofs.ShownValues.{value_uncut, value_some}
-use Rattle.dc_engine.specs.ReadBack.{IsOneLine}
+use Rattle.read_back.proofs.Cutting.{IsUncut, is_inner, inner_both, no_end, plain_uncut, uncut_both, one_word, text_uncut, text_some}
+use Rattle.read_back.proofs.Numerals.{decimal_uncut, decimal_some}
+use Rattle.read_back.proofs.ShownObjects.{words-object, bucket_words, inner_object}
+use Rattle.read_back.proofs.ShownPlaces.{part_uncut, part_some, tx_uncut, tx_some, message_uncut, report_uncut}
+use Rattle.read_back.proofs.ShownValues.{value_uncut, value_some}
+use Rattle.read_back.specs.ReadBack.{IsOneLine}
 
 -- a line may be cut behind it, and it ends no line
 record Stands (w : List ℕ) : Type 0 where

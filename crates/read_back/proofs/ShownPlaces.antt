@@ -14,9 +14,9 @@ use Rattle.script_text.specs.Numbers.{ranged}
 use Rattle.script_text.specs.Places.{cut_at, place, began_at, number, time, site, part, tx}
 use Rattle.script_text.specs.Split.{is_some_bytes}
 use Rattle.reply_text.specs.Places.{message_text, report_text}
-use Rattle.dc_engine.proofs.Cutting.{IsUncut, plain_uncut, uncut_both, one_word}
-use Rattle.dc_engine.proofs.Numerals.{all_digits, decimal_uncut, numeral-decimal, ranged-decimal, reads_back_numeral, reads_back_ranged}
-use Rattle.dc_engine.specs.ReadBack.{ReadsBack, MayName}
+use Rattle.read_back.proofs.Cutting.{IsUncut, plain_uncut, uncut_both, one_word}
+use Rattle.read_back.proofs.Numerals.{all_digits, decimal_uncut, numeral-decimal, ranged-decimal, reads_back_numeral, reads_back_ranged}
+use Rattle.read_back.specs.ReadBack.{ReadsBack, MayName}
 
 -- the first such byte stands behind those that are other bytes
 first_at : (b : ℕ) (w v : List ℕ) → list_all (λ c. not (c == b)) w ≡ true → position_or_len (λ c. c == b) (w ++ b ∷ v) ≡ length w

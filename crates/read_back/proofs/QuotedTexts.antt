@@ -19,8 +19,8 @@ use Rattle.script_words.specs.Bare.{is_bare}
 use Rattle.script_text.specs.Texts.{text, is_quoted, string_of, at_most_256}
 use Rattle.reply_text.specs.Places.{word_text}
 use Rattle.reply_text.specs.Values.{value_text}
-use Rattle.dc_engine.proofs.Cutting.{one_word, quoted_uncut}
-use Rattle.dc_engine.specs.ReadBack.{ReadsBack}
+use Rattle.read_back.proofs.Cutting.{one_word, quoted_uncut}
+use Rattle.read_back.specs.ReadBack.{ReadsBack}
 
 -- its tokens are one string
 tokens-quoted : (t : List ℕ) → tokens (quoted t) ≡ token.string t ∷ []

@@ -1,10 +1,10 @@
-use Rattle.dc_engine.proofs.Cutting.{text_is_one_word}
-use Rattle.dc_engine.proofs.Numerals.{reads_back_counter}
-use Rattle.dc_engine.proofs.QuotedTexts.{text-word_text, reads_back_register}
-use Rattle.dc_engine.proofs.ShownLines.{is_one_line}
-use Rattle.dc_engine.proofs.ShownObjects.{reads_back_object}
-use Rattle.dc_engine.proofs.ShownPlaces.{reads_back_number, reads_back_time, reads_back_site, reads_back_part, reads_back_tx, reads_back_message, reads_back_report}
-use Rattle.dc_engine.proofs.read_back.law_reads_back.Goals as goal
+use Rattle.read_back.proofs.Cutting.{text_is_one_word}
+use Rattle.read_back.proofs.Numerals.{reads_back_counter}
+use Rattle.read_back.proofs.QuotedTexts.{text-word_text, reads_back_register}
+use Rattle.read_back.proofs.ShownLines.{is_one_line}
+use Rattle.read_back.proofs.ShownObjects.{reads_back_object}
+use Rattle.read_back.proofs.ShownPlaces.{reads_back_number, reads_back_time, reads_back_site, reads_back_part, reads_back_tx, reads_back_message, reads_back_report}
+use Rattle.read_back.proofs.law_reads_back.Goals as goal
 
 pub returns-clause-words : goal.returns-clause-words
 returns-clause-words c = text_is_one_word

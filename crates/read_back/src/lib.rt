@@ -1,8 +1,11 @@
+//! The law that what a reply shows is read from a script as the same.
+#![tactic(auto)]
+
 ghost use Rattle.std.specs.Prelude.{◌≡◌, ◌^◌, ◌<◌, ◌≤◌, ℕ, ℤ, List, Some, true, decimal};
 ghost use Rattle.crdt_core.specs.declared.object.ObjectId.{ObjectId};
 ghost use Rattle.crdt_core.specs.declared.value.Value.{Value};
 ghost use Rattle.field_codec.specs.Spelling.{is_text};
-ghost use Rattle.dc_engine.specs.ReadBack.{IsOneWord, ReadsBack, ReadsBackObject, IsOneLine, IsAmount, MayName};
+ghost use Rattle.read_back.specs.ReadBack.{IsOneWord, ReadsBack, ReadsBackObject, IsOneLine, IsAmount, MayName};
 ghost use Rattle.reply_text.specs.Places.{word_text, message_text, report_text};
 ghost use Rattle.reply_text.specs.Values.{value_text};
 ghost use Rattle.script_text.specs.Grammar.{message, report};
@@ -14,9 +17,10 @@ ghost use Rattle.site_vector.specs.declared.ids.TxId.{TxId};
 ghost use Rattle.site_vector.specs.Printed.{part_text, tx_text};
 ghost use Rattle.world_model.specs.declared.step.Step.{Step};
 
-/// The law of replies and scripts: each text that a reply shows is read from a script as the same text, and is one word of its line.
-/// So are numbers, times, sites, places, transactions, messages and reports, as far as a script may name them, and the values of
-/// counters and registers; an object is read from the words that show it. What a step shows is one line, with the words of each thing shown.
+/// The law of replies and scripts: each text that a reply shows is read from a script as the same text, and is one word
+/// of its line. So are numbers, times, sites, places, transactions, messages and reports, as far as a script may name
+/// them, and the values of counters and registers; an object is read from the words that show it. What a step shows is
+/// one line, with the words of each thing shown.
 pub fn law_reads_back()
     ensures words { (t : List ℕ) → IsOneWord (word_text t) }
     ensures texts { (t : List ℕ) → is_text t ≡ true → text (word_text t) ≡ Some t }

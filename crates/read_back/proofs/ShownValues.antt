@@ -12,8 +12,8 @@ use Rattle.crdt_core.specs.declared.value.Value.TheFolds.{ind-Value, fold-roll-V
 use Rattle.crdt_core.specs.declared.value.Value.TheOpen.{Value-F}
 use Rattle.script_text.specs.Split.{is_some_bytes}
 use Rattle.reply_text.specs.Values.{value_text, value_step, member_name, members, member_text, array_text, object_text}
-use Rattle.dc_engine.proofs.Cutting.{IsUncut, plain_uncut, uncut_both, quoted_uncut}
-use Rattle.dc_engine.proofs.Numerals.{signed_uncut, signed_some}
+use Rattle.read_back.proofs.Cutting.{IsUncut, plain_uncut, uncut_both, quoted_uncut}
+use Rattle.read_back.proofs.Numerals.{signed_uncut, signed_some}
 
 -- what can stand alone
 record IsShown (w : List ℕ) : Type 0 where

@@ -10,9 +10,9 @@ use Rattle.field_codec.specs.Spelling.{is_text}
 use Rattle.script_text.specs.Split.{words, space, is_some_bytes}
 use Rattle.script_text.specs.Objects.{object, bucket, field, field_of, object_of}
 use Rattle.reply_text.specs.Places.{word_text, bucket_text, object_text}
-use Rattle.dc_engine.specs.ReadBack.{ReadsBackObject}
-use Rattle.dc_engine.proofs.Cutting.{IsUncut, is_inner, inner_both, is_plain, plain_uncut, uncut_both, ending, words-uncut, text_uncut, text_some}
-use Rattle.dc_engine.proofs.QuotedTexts.{text-word_text}
+use Rattle.read_back.specs.ReadBack.{ReadsBackObject}
+use Rattle.read_back.proofs.Cutting.{IsUncut, is_inner, inner_both, is_plain, plain_uncut, uncut_both, ending, words-uncut, text_uncut, text_some}
+use Rattle.read_back.proofs.QuotedTexts.{text-word_text}
 
 pub kind_uncut : (k : Kind) → IsUncut (kind_name k)
 kind_uncut k = plain_uncut (kind_name k) (plain k)

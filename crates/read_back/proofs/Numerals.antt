@@ -11,8 +11,8 @@ use Rattle.crdt_core.specs.declared.value.Value.{Int, the_lemmas}
 use Rattle.reply_text.specs.Values.{value_text}
 use Rattle.script_text.specs.Numbers.{with_digit, value_of, digits_of, numeral, ranged, minus, integer}
 use Rattle.script_text.specs.Split.{is_some_bytes}
-use Rattle.dc_engine.proofs.Cutting.{IsUncut, is_plain, each_plain, plain_uncut, uncut_both, one_word}
-use Rattle.dc_engine.specs.ReadBack.{IsOneWord, ReadsBack, IsAmount}
+use Rattle.read_back.proofs.Cutting.{IsUncut, is_plain, each_plain, plain_uncut, uncut_both, one_word}
+use Rattle.read_back.specs.ReadBack.{IsOneWord, ReadsBack, IsAmount}
 
 -- ---- the digits
 

@@ -1,0 +1,178 @@
+// Histories of updates, each made on what it has seen, and what an object then shows.
+ghost use Rattle.std.specs.Prelude.{◌≡◌, true, IfOk};
+ghost use Rattle.crdt_core.specs.EffectForm.{HoldsSpelled};
+
+use crate::acts::op_of;
+use crate::effects::put_bytes;
+use crate::kept::dot_of;
+use crate::values::put_value;
+use crate::words::{number_of, put_refusal, words_of};
+use crdt_core::{Crdt, GenError, Kind, Op, Value, value_after};
+use std::alloc::{AllocError, Global};
+
+/// The place of an update in its history: `1` is the first, `a` the tenth.
+fn place_of(byte: u8) -> usize {
+    match byte {
+        b'1'..=b'9' => (byte - b'1') as usize,
+        b'a'..=b'z' => (byte - b'a') as usize + 9,
+        _ => usize::MAX,
+    }
+}
+
+/// The state after these updates, in this order.
+fn state_of<C: Crdt>(
+    alloc: Global,
+    kind: Kind,
+    made: &[(u8, C::Effect)],
+    order: &str,
+) -> Result<C::State, AllocError>
+    requires { C.has kind ≡ true }
+    ensures { IfOk result (λ state. HoldsSpelled C.holds state) }
+{
+    let mut state = C::empty(alloc, kind)?;
+    for byte in order.as_bytes() {
+        let number = place_of(*byte);
+        if let Some((site, effect)) = made.get(number) {
+            C::apply(alloc, &mut state, dot_of(*site, number), effect)?;
+        }
+    }
+    Ok(state)
+}
+
+/// The effect of an operation on what was seen.
+fn effect_on<C: Crdt>(
+    alloc: Global,
+    kind: Kind,
+    op: &Op,
+    state: &C::State,
+    now: u64,
+) -> Result<C::Effect, GenError>
+    requires has { C.has kind ≡ true }
+    requires spelled { HoldsSpelled C.holds state.now }
+    ensures { IfOk result (λ effect. C.can_put effect ≡ true) }
+{
+    C::generate(alloc, kind, op.path.as_slice(), &op.act, state, now)
+}
+
+/// Adds an update of a site, as it is read from its bytes.
+fn push_taken<C: Crdt>(
+    alloc: Global,
+    out: &mut String,
+    kind: Kind,
+    made: &mut Vec<(u8, C::Effect)>,
+    site: u8,
+    bytes: &[u8],
+) -> Result<(), AllocError> {
+    match C::take_effect(alloc, kind, bytes, 0) {
+        Ok((effect, _)) => {
+            made.push((site, effect))?;
+            Ok(())
+        }
+        Err(error) => put_refusal(out, error),
+    }
+}
+
+/// Makes the update of the words `SITE SEEN CLOCK PATH ACT ..`.
+fn update<C: Crdt>(
+    alloc: Global,
+    out: &mut String,
+    kind: Kind,
+    made: &mut Vec<(u8, C::Effect)>,
+    words: &[&str],
+) -> Result<(), AllocError>
+    requires { C.has kind ≡ true }
+{
+    let [site, seen, clock, op @ ..] = words else {
+        return out.push_str("no update");
+    };
+    let Some(op) = op_of(alloc, op)? else {
+        return out.push_str("no operation");
+    };
+    let state = state_of::<C>(alloc, kind, made.as_slice(), seen)?;
+    match effect_on::<C>(alloc, kind, &op, &state, number_of(clock)) {
+        Ok(effect) => {
+            let bytes = put_bytes::<C>(alloc, out, &effect)?;
+            let site = site.parse::<u8>().unwrap_or(1);
+            push_taken::<C>(alloc, out, kind, made, site, bytes.as_slice())
+        }
+        Err(GenError::TooDeep) => out.push_str("too deep"),
+        Err(GenError::BadOp) => out.push_str("bad operation"),
+        Err(GenError::NoMemory) => Err(AllocError),
+    }
+}
+
+/// What all updates show, in turn.
+fn value_of_all<C: Crdt>(
+    alloc: Global,
+    kind: Kind,
+    made: &[(u8, C::Effect)],
+) -> Result<Value, AllocError>
+    requires { C.has kind ≡ true }
+{
+    let mut stored = Vec::new(alloc);
+    for (number, (site, effect)) in made.iter().enumerate() {
+        let effect = C::copy_effect(alloc, effect)?;
+        stored.push((dot_of(*site, number), effect))?;
+    }
+    value_after::<C>(alloc, kind, stored.as_slice())
+}
+
+/// Adds what these updates show in this order.
+fn put_read<C: Crdt>(
+    alloc: Global,
+    out: &mut String,
+    kind: Kind,
+    made: &[(u8, C::Effect)],
+    order: &str,
+) -> Result<(), AllocError>
+    requires { C.has kind ≡ true }
+{
+    let state = state_of::<C>(alloc, kind, made, order)?;
+    let copied = C::copy(alloc, &state)?;
+    put_value(out, &C::value(alloc, &copied)?)?;
+    if C::is_blank(&copied) {
+        return out.push_str(", blank");
+    }
+    Ok(())
+}
+
+/// Adds what a piece of a history does: `read` of all updates in turn, `read ORDER`, or an update.
+fn put_piece<C: Crdt>(
+    alloc: Global,
+    out: &mut String,
+    kind: Kind,
+    made: &mut Vec<(u8, C::Effect)>,
+    words: &[&str],
+) -> Result<(), AllocError>
+    requires { C.has kind ≡ true }
+{
+    match words {
+        ["read"] => put_value(out, &value_of_all::<C>(alloc, kind, made.as_slice())?),
+        ["read", order] => put_read::<C>(alloc, out, kind, made.as_slice(), order),
+        _ => update::<C>(alloc, out, kind, made, words),
+    }
+}
+
+/// What the pieces of a history do, each on a line.
+pub(crate) fn played<C: Crdt>(
+    alloc: Global,
+    kind: Kind,
+    history: &str,
+) -> Result<String, AllocError> {
+    let mut out = String::new(alloc);
+    if !C::has(kind) {
+        return Ok(out);
+    }
+    let mut made = Vec::new(alloc);
+    for piece in history.as_bytes().split(|byte| *byte == b'|') {
+        let words = words_of(alloc, piece)?;
+        out.push_str(" ")?;
+        for word in words.as_slice() {
+            write!(out, " {word}")?;
+        }
+        out.push_str(": ")?;
+        put_piece::<C>(alloc, &mut out, kind, &mut made, words.as_slice())?;
+        out.push_str("\n")?;
+    }
+    Ok(out)
+}
