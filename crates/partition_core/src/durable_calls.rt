@@ -4,6 +4,7 @@ ghost use Rattle.site_vector.specs.declared.ids.TxId.{TxId};
 ghost use Rattle.site_vector.specs.Vector.{entry};
 ghost use Rattle.crdt_core.specs.declared.record.Part.{Part};
 ghost use Rattle.crdt_core.specs.declared.record.Record.TheVariants.{Prepare};
+ghost use Rattle.crdt_core.specs.EffectForm.{IsReady};
 ghost use Rattle.crdt_core.specs.KindsOf.{kinds_of};
 ghost use Rattle.crdt_core.specs.Log.{end_of_time};
 ghost use Rattle.crdt_core.specs.Parts.{above, lists};
@@ -18,6 +19,7 @@ ghost use Rattle.partition_core.specs.Answers.{fate_told};
 ghost use Rattle.partition_core.specs.Durable.{StandsOn, is_down};
 ghost use Rattle.partition_core.specs.Messages.{AreApart, AreWideParts};
 ghost use Rattle.partition_core.specs.Moments.{CallsOn};
+ghost use Rattle.partition_core.specs.Numbered.{are_numbered};
 ghost use Rattle.partition_core.specs.Steps.{Anything, NamesNowhere};
 ghost use Rattle.partition_core.specs.Tables.{knows};
 
@@ -233,7 +235,8 @@ impl<C: Crdt, D: Disk + Drop> DurablePartition<C, D> {
     ) -> Result<(C::Effect, Option<u64>), DurableError>
         requires has { C.has object.now.kind ≡ true }
         requires width { length s.now ≡ self.old.tables.sites }
-        ensures { (index : ℕ) → CallsOn (kinds_of C.laws) (codec_of C.spells) D.state self.old self.new Anything (AskUpdate tx s.now object.now own.now op.now) (λ x e. (read : List (Part C.Effect)) × (e ≡ Updated tx s.now object.now own.now op.now read (record { object = object.now; index = index; effect = x.0 }) x.1)) result }
+        ensures answers { (index : ℕ) → CallsOn (kinds_of C.laws) (codec_of C.spells) D.state self.old self.new Anything (AskUpdate tx s.now object.now own.now op.now) (λ x e. (read : List (Part C.Effect)) × (e ≡ Updated tx s.now object.now own.now op.now read (record { object = object.now; index = index; effect = x.0 }) x.1)) result }
+        ensures ready { (p : PartState C.Effect) → StandsOn (codec_of C.spells) D.state self.old p → is_tx tx ≡ true → are_numbered own.now ≡ true → IfOk result (λ x. IsReady C.is_of C.can_put C.contents C.spelling object.now.kind op.now.path op.now.act x.0) }
     {
         if self.is_down() {
             return Err(DurableError::Down);
