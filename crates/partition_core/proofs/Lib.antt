@@ -26,5 +26,7 @@ mod TakeCall
 mod Releasing
 mod Waiting
 mod Folding
+mod Numbering
+mod HeldIds
 mod ReadCall
 pub mod Callers
