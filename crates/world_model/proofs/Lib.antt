@@ -45,5 +45,7 @@ pub mod ExampleFaults
 pub mod Traces
 pub mod Asks
 pub mod Premises
+pub mod Waiting
+pub mod PrepareTimes
 pub mod Told
 pub mod PastJoins

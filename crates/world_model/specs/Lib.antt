@@ -25,6 +25,7 @@ pub mod Clock
 pub mod History
 pub mod Dependency
 pub mod Pending
+pub mod Waiting
 pub mod Bounds
 pub mod Updates
 pub mod Commit
