@@ -1,6 +1,6 @@
 -- A message that is delivered and a report that is heard: calls of partitions that the script numbers anew.
 use Rattle.std.proofs.Common.{◌≡◌, ℕ, true, false, List, [], ◌∷◌, refl, sym, ap, ◌∙◌, subst, Some}
-use Rattle.std.specs.Prelude.{not, ◌==◌, is_none, is_some, nat_le, Ok, Err}
+use Rattle.std.specs.Prelude.{not, ◌&&◌, ◌==◌, is_none, is_some, nat_le, Ok, Err}
 use Rattle.std.proofs.lemmas.Bool.{eqb-true, and_parts, leb-true}
 use Rattle.site_vector.specs.declared.ids.PartId.{PartId}
 use Rattle.site_vector.specs.declared.ids.TxId.{TxId}
@@ -20,7 +20,7 @@ use Rattle.world_model.specs.Lines.{call_of, step_shown}
 use Rattle.world_model.specs.Plan.{IsPlace}
 use Rattle.world_model.specs.Run.{Run}
 use Rattle.world_model.specs.ScriptAnswers.{AnswersBy, IsAnswer, Bears, is_sound}
-use Rattle.world_model.specs.ScriptCalls.{asked_of, calls_of, numbered, for_message, for_report, own_of, own_report}
+use Rattle.world_model.specs.ScriptCalls.{is_answer, asked_of, calls_of, numbered, for_message, for_report, own_of, own_report}
 use Rattle.world_model.specs.Messages.{message_of}
 use Rattle.world_model.specs.Meeting.{is_foreign}
 use Rattle.world_model.proofs.Names.{off}

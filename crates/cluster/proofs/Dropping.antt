@@ -24,7 +24,7 @@ use Rattle.cluster.specs.Post.{WholeState, MailAs, NoteAs, kept_at}
 use Rattle.cluster.specs.Reached.{Applies, ReachedWhole}
 use Rattle.cluster.proofs.Keeping.{post_on, letter_at, note_at}
 use Rattle.cluster.proofs.Meets.{all_met, first_at, none_due}
-use Rattle.cluster.proofs.Mere.{is_mere, IsMere}
+use Rattle.cluster.proofs.Mere.{is_mere, mere_sound, IsMere}
 use Rattle.cluster.proofs.Standing.{live_still, mere_still}
 
 module _ {E : Type 0} (sites parts : ℕ) (run : Run) where

@@ -54,11 +54,11 @@ abbrev is_go : Next → Bool
 is_go next.Go = true
 is_go next.Stay = false
 
-either_true : (A B : Type 0) (b : Bool) → b ≡ true → A → Either b A B
+pub either_true : (A B : Type 0) (b : Bool) → b ≡ true → A → Either b A B
 either_true A B true h a = a
 either_true A B false h a = off h
 
-either_false : (A B : Type 0) (b : Bool) → b ≡ false → B → Either b A B
+pub either_false : (A B : Type 0) (b : Bool) → b ≡ false → B → Either b A B
 either_false A B true h x = absurd (true≢false h)
 either_false A B false h x = x
 

@@ -18,10 +18,10 @@ use Rattle.world_model.specs.World.{plan_of, IsWorldRun}
 module _ {E : Type 0} where
   pub record Told (sites parts : ℕ) (run : List (Entry E)) (state : PartId → PartState E) (p : PartId) : Type 0 where
     pub down : lines.is_down (lines_of run) p ≡ not (state p).up
+    -- `waiting` of the lines is all that is pending
+    pub listed : ArePending (lines_of run) p (waiting (lines_of run) p)
     pub waiting : (t : TxId) → (state p).up ≡ true → pending (state p).log t ≡ lines.pending (lines_of run) p t
     pub times : (t : TxId) → (state p).up ≡ true → pending (state p).log t ≡ true → prepare_time (state p).log t ≡ lines.prepare_time (lines_of run) p t
-    -- so `waiting` lists what is pending
-    pub listed : ArePending (lines_of run) p (waiting (lines_of run) p)
     pub ended : (t : TxId) → (state p).up ≡ true → t.site ≡ p.site → committed (state p).log t ≡ is_committed_at (lines_of run) (lines_of run) p t
     -- what is pending was prepared with the number of its lead, which is in the cluster
     pub leads : (t : TxId) → pending (state p).log t ≡ true → lead parts (lines_of run) t ≡ record { site = p.site; part = prepared_lead (state p).log t }
