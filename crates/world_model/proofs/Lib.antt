@@ -1,6 +1,7 @@
 pub mod Names
 pub mod Parts
 pub mod Queue
+pub mod Listed
 pub mod Moves
 pub mod Leases
 pub mod Fate

@@ -20,7 +20,8 @@ use Rattle.world_model.specs.Partition as partition
 use Rattle.world_model.specs.Pending as lines
 use Rattle.world_model.specs.Plan.{Plan, IsAllowed}
 use Rattle.world_model.specs.Shown.{listed_time}
-use Rattle.world_model.specs.Waiting.{waiting, AreTimed, ArePending}
+use Rattle.world_model.specs.Listed.{AreTimed}
+use Rattle.world_model.specs.Waiting.{waiting, ArePending}
 use Rattle.world_model.specs.World.{plan_of, IsWorldRun}
 use Rattle.world_model.proofs.Names.{clash, part_cases}
 use Rattle.world_model.proofs.Queue.{in_order}
@@ -32,7 +33,8 @@ use Rattle.world_model.proofs.Shows.{Shown, shown_run, listed_is}
 use Rattle.world_model.proofs.LineViews.{pending_is, prepare_time_is}
 use Rattle.world_model.proofs.Whole.{suffix_all, all_fresh, fits}
 use Rattle.world_model.proofs.Law.{kept_here}
-use Rattle.world_model.proofs.Waiting.{IsQueued, names_first, names_later, all_pending}
+use Rattle.world_model.proofs.Listed.{names_first, names_later}
+use Rattle.world_model.proofs.Waiting.{IsQueued, all_pending}
 
 in_time : (n now top : ℕ) → n ≡ now + 1 → now < top → n ≤ top
 in_time n now top e h = omega arith

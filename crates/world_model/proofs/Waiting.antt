@@ -12,7 +12,9 @@ use Rattle.world_model.specs.Lines.{Call, Line, EachLine}
 use Rattle.world_model.specs.Partition.{names_pending}
 use Rattle.world_model.specs.Pending.{pending, pending_after, prepare_time, prepare_time_after}
 use Rattle.world_model.specs.Shown.{listed_time, IsIdBefore, IsBefore, IsBeforeAll, AreInOrder}
-use Rattle.world_model.specs.Waiting.{without, waiting_after, waiting, AreTimed, ArePending}
+use Rattle.world_model.specs.Waiting.{without, waiting_after, waiting, ArePending}
+use Rattle.world_model.specs.Listed.{AreTimed}
+use Rattle.world_model.proofs.Listed.{names_first, names_later, timed_as}
 use Rattle.world_model.proofs.Names.{clash, off}
 
 swapped : (a b c : Bool) → (a || (b || c)) ≡ (b || (a || c))
@@ -62,20 +64,9 @@ order_without : (u : TxId) (xs : List (TxId × ℕ)) → AreInOrder IsBefore xs 
 order_without u [] h = tt
 order_without u (x ∷ xs) h = cond_both (not (same_tx u x.0)) (x ∷ without u xs) (without u xs) (AreInOrder IsBefore) (λ e. (before_without u x xs h.0, order_without u xs h.1)) (λ e. order_without u xs h.1)
 
-pub names_first : (x : TxId × ℕ) (xs : List (TxId × ℕ)) → names_pending (x ∷ xs) x.0 ≡ true
-names_first x xs = or_left (same_tx x.0 x.0) (names_pending xs x.0) (same_tx_refl x.0)
-
-pub names_later : (b c : Bool) → c ≡ true → (b || c) ≡ true
-names_later true c h = refl
-names_later false c h = h
-
 timed_without : (time : TxId → ℕ) (u : TxId) (xs : List (TxId × ℕ)) → AreTimed time xs → AreTimed time (without u xs)
 timed_without time u [] h = tt
 timed_without time u (x ∷ xs) h = cond_both (not (same_tx u x.0)) (x ∷ without u xs) (without u xs) (AreTimed time) (λ e. (h.0, timed_without time u xs h.1)) (λ e. timed_without time u xs h.1)
-
-timed_as : (time other : TxId → ℕ) (xs : List (TxId × ℕ)) → ((t : TxId) → names_pending xs t ≡ true → time t ≡ other t) → AreTimed time xs → AreTimed other xs
-timed_as time other [] e h = tt
-timed_as time other (x ∷ xs) e h = (h.0 ∙ e x.0 (names_first x xs), timed_as time other xs (λ t k. e t (names_later (same_tx x.0 t) (names_pending xs t) k)) h.1)
 
 timed_more : (time : TxId → ℕ) (x : TxId × ℕ) (xs : List (TxId × ℕ)) → AreTimed time xs → x.1 ≡ time x.0 → AreTimed time (xs ++ x ∷ [])
 timed_more time x [] h e = (e, tt)

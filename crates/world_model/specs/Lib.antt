@@ -9,6 +9,7 @@ pub mod Plan
 pub mod WorldLaw
 pub mod Meaning
 pub mod Shown
+pub mod Listed
 pub mod Logs
 pub mod Stable
 pub mod Clear
@@ -50,3 +51,4 @@ pub mod Meeting
 pub mod Settling
 pub mod ScriptCalls
 pub mod ScriptAnswers
+pub mod Fuses

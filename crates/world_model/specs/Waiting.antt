@@ -1,5 +1,5 @@
 -- What waits at a partition, over the lines of a run: all that is pending there, in order.
-use Rattle.std.specs.Prelude.{◌≡◌, ℕ, not, if◌then◌else◌, List, [], ◌∷◌, ◌++◌, filter, ⊤}
+use Rattle.std.specs.Prelude.{◌≡◌, ℕ, not, if◌then◌else◌, List, [], ◌∷◌, ◌++◌, filter}
 use Rattle.site_vector.specs.declared.ids.PartId.{PartId}
 use Rattle.site_vector.specs.declared.ids.TxId.{TxId}
 use Rattle.site_vector.specs.Ids.{same_part, same_tx}
@@ -8,6 +8,7 @@ use Rattle.world_model.specs.declared.step.Step.TheVariants as step
 use Rattle.world_model.specs.Partition.{names_pending}
 use Rattle.world_model.specs.Shown.{IsBefore, AreInOrder}
 use Rattle.world_model.specs.Lines.{Line}
+use Rattle.world_model.specs.Listed.{AreTimed}
 use Rattle.world_model.specs.Pending.{pending, prepare_time}
 
 abbrev pub without : TxId → List (TxId × ℕ) → List (TxId × ℕ)
@@ -26,11 +27,6 @@ waiting_after old other = old
 abbrev pub waiting : List Line → PartId → List (TxId × ℕ)
 waiting [] p = []
 waiting (l ∷ ls) p = if same_part l.at p then waiting_after (waiting ls p) l.step else waiting ls p
-
--- each stands with its time
-abbrev pub AreTimed : (TxId → ℕ) → List (TxId × ℕ) → Type 0
-AreTimed time [] = ⊤
-AreTimed time (x ∷ xs) = (x.1 ≡ time x.0) × AreTimed time xs
 
 -- all that are pending at p, each once, by prepare time and then by id
 pub record ArePending (ls : List Line) (p : PartId) (listed : List (TxId × ℕ)) : Type 0 where
