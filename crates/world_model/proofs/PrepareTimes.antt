@@ -18,7 +18,7 @@ use Rattle.world_model.specs.Lines.{EachLine, refusal_shown, fault_shown, step_s
 use Rattle.world_model.specs.Partition.{PartState, Finds, batch_of, records, now_after, done, cut, down, MayDo, PartStep, IsRestart, names_pending}
 use Rattle.world_model.specs.Partition as partition
 use Rattle.world_model.specs.Pending as lines
-use Rattle.world_model.specs.Plan.{Plan, IsAllowed}
+use Rattle.world_model.specs.Plan.{IsAllowed}
 use Rattle.world_model.specs.Shown.{listed_time}
 use Rattle.world_model.specs.Listed.{AreTimed}
 use Rattle.world_model.specs.Waiting.{waiting, ArePending}

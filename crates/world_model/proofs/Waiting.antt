@@ -1,14 +1,14 @@
 -- What waits at a partition is what is pending there, each once and in order.
-use Rattle.std.proofs.Common.{◌≡◌, ⊎_elim, inl, inr, ◌⊎◌, ℕ, ◌+◌, ◌<◌, ◌≤◌, leb, min, Bool, true, false, not, ◌&&◌, ◌||◌, cond, List, [], ◌∷◌, ◌++◌, refl, sym, ap, ◌∙◌, subst, arith, le_trans, le_of_eq}
-use Rattle.std.specs.Prelude.{⊤, filter}
-use Rattle.std.proofs.lemmas.Bool.{cases_Bool, or_left, or_cases, and_right, and_parts, cond-true, cond-false, cond_both, false_from_ne_true}
+use Rattle.std.proofs.Common.{◌≡◌, ⊎_elim, inl, ◌⊎◌, ℕ, ◌<◌, Bool, true, false, not, ◌&&◌, ◌||◌, cond, List, [], ◌∷◌, ◌++◌, refl, sym, ap, ◌∙◌, subst, arith}
+use Rattle.std.specs.Prelude.{⊤}
+use Rattle.std.proofs.lemmas.Bool.{cases_Bool, or_cases, and_right, cond-true, cond-false, cond_both, false_from_ne_true}
 use Rattle.site_vector.specs.declared.ids.PartId.{PartId}
 use Rattle.site_vector.specs.declared.ids.TxId.{TxId}
 use Rattle.site_vector.specs.Ids.{same_part, same_tx}
-use Rattle.site_vector.specs.Order.{same_part_is, same_tx_is, same_tx_refl, same_tx_symm}
+use Rattle.site_vector.specs.Order.{same_part_is, same_tx_is, same_tx_refl}
 use Rattle.world_model.specs.declared.step.Step.{Step}
 use Rattle.world_model.specs.declared.step.Step.TheVariants as step
-use Rattle.world_model.specs.Lines.{Call, Line, EachLine}
+use Rattle.world_model.specs.Lines.{Line, EachLine}
 use Rattle.world_model.specs.Partition.{names_pending}
 use Rattle.world_model.specs.Pending.{pending, pending_after, prepare_time, prepare_time_after}
 use Rattle.world_model.specs.Shown.{listed_time, IsIdBefore, IsBefore, IsBeforeAll, AreInOrder}
