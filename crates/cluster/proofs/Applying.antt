@@ -13,7 +13,7 @@ use Rattle.world_model.specs.Refusals.{first_due}
 use Rattle.world_model.specs.Run.{Run}
 use Rattle.cluster.specs.Reaches.{Reaches}
 use Rattle.world_model.specs.Phases.{Phase, phase, by_command}
-use Rattle.world_model.specs.ScriptAnswers.{AnswersBy, IsAnswer}
+use Rattle.world_model.specs.ScriptAnswers.{are_sound, AnswersBy, IsAnswer}
 use Rattle.cluster.specs.Built.{is_built}
 use Rattle.cluster.proofs.Mere.{before_still}
 use Rattle.cluster.proofs.Meets.{all_met, first_at, none_due, refused}
@@ -66,7 +66,7 @@ module _ {S E : Type 0} (kinds : Kinds S E) where
 
   pub unbuilt : (live : Option (WholeState E)) (c : Command) (steps : List Step) → steps ≡ step.Unbuilt ∷ [] → is_built c ≡ false → Applies kinds live c steps live
   unbuilt None c steps is h = λ number run b. (
-    subst (λ o. AnswersBy run c steps o) (sym (first_at (all_met run c) 0 (ap not h))) is,
+    (subst (λ o. AnswersBy run c steps o) (sym (first_at (all_met run c) 0 (ap not h))) is, ap are_sound is),
     subst (λ l. IsBefore (answered number (Some c) l run)) (sym is) (before_still number (Some c) step.Unbuilt run refl b),
   )
   unbuilt (Some x) c steps is h = lift x x.live c steps (refused kinds x.live c step.Unbuilt steps is refl (λ run r. first_at (all_met run c) 0 (ap not h)) (λ run r who. idle_unbuilt c h (parts_of run) who (phase run who) step.Unbuilt))
@@ -81,14 +81,14 @@ module _ {S E : Type 0} (kinds : Kinds S E) where
 
   pub lacks_cluster : (c : Command) (steps : List Step) → steps ≡ step.NoCluster ∷ [] → is_built c ≡ true → is_making c ≡ false → Applies kinds None c steps None
   lacks_cluster c steps is h m = λ number run b. (
-    subst (λ o. AnswersBy run c steps o) (sym (first_lacks c m run (ap not h) (ap not b.lacks))) is,
+    (subst (λ o. AnswersBy run c steps o) (sym (first_lacks c m run (ap not h) (ap not b.lacks))) is, ap are_sound is),
     subst (λ l. IsBefore (answered number (Some c) l run)) (sym is) (before_still number (Some c) step.NoCluster run refl b),
   )
 
   pub cluster_made : (w : WholeState E) (sites parts : ℕ) (steps : List Step) → steps ≡ step.MadeCluster sites parts ∷ [] → w.live.sites.sites ≡ sites → w.live.sites.parts ≡ parts → Reaches kinds w.live.sites [] → w.live.sessions ≡ [] → w.post ≡ new_post → Applies kinds None (command.Cluster sites parts) steps (Some w)
   cluster_made w sites parts steps is es ep r none post = λ number run b.
       subst (λ l. IsAnswer is_built run (command.Cluster sites parts) l × Reached kinds (Some w) (answered number (Some (command.Cluster sites parts)) l run)) (sym is) (
-        subst (AnswersBy run (command.Cluster sites parts) (step.MadeCluster sites parts ∷ [])) (sym (none_due (all_met run (command.Cluster sites parts)) (refl, (b.lacks, tt)))) refl,
+        (subst (AnswersBy run (command.Cluster sites parts) (step.MadeCluster sites parts ∷ [])) (sym (none_due (all_met run (command.Cluster sites parts)) (refl, (b.lacks, tt)))) refl, refl),
         record {
           live = record {
             has = refl;

@@ -21,7 +21,7 @@ use Rattle.world_model.specs.Past.{dependency_after}
 use Rattle.world_model.specs.Phases as phases
 use Rattle.world_model.specs.Phases.{Phase, phase, phase_after, update_total}
 use Rattle.world_model.specs.Run.{Run}
-use Rattle.world_model.specs.ScriptAnswers.{is_up, Bears, AnswersBy, IsAnswer}
+use Rattle.world_model.specs.ScriptAnswers.{Bears, AnswersBy, IsAnswer}
 use Rattle.world_model.specs.ScriptCalls.{calls_of}
 use Rattle.world_model.proofs.Names.{off}
 use Rattle.txn_session.specs.Calls.{entries}
@@ -149,11 +149,12 @@ module _ {S E : Type 0} (kinds : Kinds S E) (c : LiveState E) (name : List ℕ) 
       let place : PartId = place_in a.before (number_of part) in
       let t = turns kinds later tt r.calls a.before a.after None place (AskBegin a.before.name a.before.dependency) answer d.1 in
       let o : IsOpened a.before (step_shown (entries r.calls) place t.event) a.after = subst (λ l. IsOpened a.before l a.after) t.shows d.0 in
+      let up = answer_up (entries r.calls) place t.event answer t.shows t.seen.calm.0 in
       let b : IsBegun (entries r.calls) place a.before a.after t.event (step_shown (entries r.calls) place t.event) = begun (entries r.calls) place a.before a.after t.event t.asked t.seen.calm.0 o idle st.few in
       subst (λ l. IsAnswer is_built run (command.Begin name part) l × GoesTo kinds c run r (record { sites = later; sessions = sessions }) (answered number (Some (command.Begin name part)) l run)) (sym is) (
-        subst (AnswersBy run (command.Begin name part) (answer ∷ []))
+        (subst (AnswersBy run (command.Begin name part) (answer ∷ []))
             (sym (none_due (all_met run (command.Begin name part)) (refl, (ap not r.has, (lacks_in run r ∙ ap not there, (has_session kinds c run r name a.before a.is, (elsewhere_in run r a.before a.is ∙ ap not here, (ap not (idle_is kinds c run r name a.before a.is ∙ idle), tt))))))))
-            (answer, refl, ap is_up t.shows ∙ line_up (entries r.calls) place t.event t.seen.calm.0, subst (λ n. Bears run (command.Begin n part) answer) st.name (subst (Bears run (command.Begin a.before.name part)) (sym t.shows) (b.bears run part))),
+            (answer, refl, ap (λ x. x && true) up.0, subst (λ n. Bears run (command.Begin n part) answer) st.name (subst (Bears run (command.Begin a.before.name part)) (sym t.shows) (b.bears run part))), ap (λ x. x && true) up.1),
         acted kinds c run r number (command.Begin name part) name a.before a.is a.after place (AskBegin a.before.name a.before.dependency) answer later t sessions (record {
           size = a.size;
           put = a.put;

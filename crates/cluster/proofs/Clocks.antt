@@ -43,6 +43,6 @@ module _ {S E : Type 0} (kinds : Kinds S E) (c : LiveState E) where
         let size : SameSize c.sites later = record { sites_are = g.same_sites; parts_are = g.same_parts } in
         let seen : Sees kinds later (called 0 p (Ticked n now) ∷ r.calls) = record { reached = subst (λ (e : Event E). Reaches kinds later ((record { at = p; event = e }) ∷ entries r.calls)) x.shows x.reached; calm = (refl, r.sees.calm); one_caller = (refl, r.sees.one_caller) } in
         subst (λ l. IsAnswer is_built run (command.Clock p n) l × GoesTo kinds c run r (record { sites = later; sessions = c.sessions }) (answered number (Some (command.Clock p n)) l run)) (sym is) (
-          subst (AnswersBy run (command.Clock p n) (step.Ticked p now ∷ [])) (sym (none_due (all_met run (command.Clock p n)) (refl, (ap not r.has, (ap not (sym (part_in run r p) ∙ there), tt))))) (step.Ticked p now, refl, refl, tt),
+          (subst (AnswersBy run (command.Clock p n) (step.Ticked p now ∷ [])) (sym (none_due (all_met run (command.Clock p n)) (refl, (ap not r.has, (ap not (sym (part_in run r p) ∙ there), tt))))) (step.Ticked p now, refl, refl, tt), refl),
           turned_alone kinds c run r number (command.Clock p n) 0 p (Ticked n now) later size seen refl (asked_lines number (command.Clock p n) run (step.Ticked p now) (step.Ticked p now) p (Tick n) refl refl refl refl) (λ who s. refl) (λ who. tt) tt,
         )

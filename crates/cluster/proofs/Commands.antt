@@ -1,6 +1,6 @@
 -- How a read answers its command.
 use Rattle.std.proofs.Common.{◌≡◌, ◌≤◌, ℕ, true, false, List, [], ◌∷◌, refl, sym, ap, ◌∙◌, subst, Option, None, Some}
-use Rattle.std.specs.Prelude.{not}
+use Rattle.std.specs.Prelude.{not, ◌&&◌}
 use Rattle.site_vector.specs.declared.ids.PartId.{PartId}
 use Rattle.site_vector.specs.declared.ids.TxId.{TxId}
 use Rattle.crdt_core.specs.declared.object.ObjectId.{ObjectId}
@@ -20,7 +20,7 @@ use Rattle.world_model.specs.Lines.{ReadOf, step_shown, session_of}
 use Rattle.world_model.specs.Past.{dependency_after}
 use Rattle.world_model.specs.Phases.{Phase, phase, phase_after, update_total}
 use Rattle.world_model.specs.Run.{Run}
-use Rattle.world_model.specs.ScriptAnswers.{is_up, Bears, AnswersBy, IsAnswer}
+use Rattle.world_model.specs.ScriptAnswers.{Bears, AnswersBy, IsAnswer}
 use Rattle.world_model.specs.ScriptCalls.{at_object}
 use Rattle.world_model.proofs.Names.{off}
 use Rattle.txn_session.specs.Calls.{entries}
@@ -129,8 +129,8 @@ module _ {S E : Type 0} (kinds : Kinds S E) (c : LiveState E) (name : List ℕ) 
             let mine : session_of (entries r.calls) txn.tx ≡ name = x.0.session ∙ st.name in
             let place : PartId = place_in a.before (place_of o.bucket o.key a.before.parts) in
             let bears = subst (Bears run (command.Read name o)) (sym t.shows) (read_bears (entries r.calls) place txn.tx txn.s o (own_updates txn.updates o) t.event t.asked t.seen.calm.0 run name mine) in
-            let up = ap is_up t.shows ∙ line_up (entries r.calls) place t.event t.seen.calm.0 in (
-              subst (AnswersBy run (command.Read name o) (answer ∷ [])) (sym (none_due (all_met run (command.Read name o)) (refl, (has kinds c run r name, (has_session kinds c run r name a.before a.is, (ap not (open_is kinds c run r name a.before a.is ∙ is_open), tt)))))) (answer, refl, up, bears),
+            let up = answer_up (entries r.calls) place t.event answer t.shows t.seen.calm.0 in (
+              (subst (AnswersBy run (command.Read name o) (answer ∷ [])) (sym (none_due (all_met run (command.Read name o)) (refl, (has kinds c run r name, (has_session kinds c run r name a.before a.is, (ap not (open_is kinds c run r name a.before a.is ∙ is_open), tt)))))) (answer, refl, ap (λ b. b && true) up.0, bears), ap (λ b. b && true) up.1),
               acted kinds c run r number (command.Read name o) name a.before a.is a.after place (AskRead txn.tx txn.s o (own_updates txn.updates o)) answer later t sessions (record {
                 size = a.size;
                 put = a.put;

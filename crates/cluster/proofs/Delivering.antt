@@ -1,6 +1,6 @@
 -- A message that is delivered and a report that is heard: calls of partitions that the script numbers anew.
 use Rattle.std.proofs.Common.{◌≡◌, ℕ, true, false, List, [], ◌∷◌, refl, sym, ap, ◌∙◌, subst, Some}
-use Rattle.std.specs.Prelude.{not, ◌==◌, is_none, is_some, nat_le, Ok, Err}
+use Rattle.std.specs.Prelude.{not, ◌&&◌, ◌==◌, is_none, is_some, nat_le, Ok, Err}
 use Rattle.std.proofs.lemmas.Bool.{eqb-true, and_parts, leb-true}
 use Rattle.site_vector.specs.declared.ids.PartId.{PartId}
 use Rattle.site_vector.specs.declared.ids.TxId.{TxId}
@@ -19,8 +19,8 @@ use Rattle.world_model.specs.Event.{AskTake, AskHear, Event, Entry, Took, Heard,
 use Rattle.world_model.specs.Lines.{call_of, step_shown}
 use Rattle.world_model.specs.Plan.{IsPlace}
 use Rattle.world_model.specs.Run.{Run}
-use Rattle.world_model.specs.ScriptAnswers.{AnswersBy, IsAnswer, Bears, is_up}
-use Rattle.world_model.specs.ScriptCalls.{asked_of, calls_of, numbered, for_message, for_report, own_of, own_report}
+use Rattle.world_model.specs.ScriptAnswers.{AnswersBy, IsAnswer, Bears, is_sound}
+use Rattle.world_model.specs.ScriptCalls.{is_answer, asked_of, calls_of, numbered, for_message, for_report, own_of, own_report}
 use Rattle.world_model.specs.Messages.{message_of}
 use Rattle.world_model.specs.Meeting.{is_foreign}
 use Rattle.world_model.proofs.Names.{off}
@@ -68,12 +68,12 @@ refused_posted k at number IsGone h = record { alone = refl; answer = refl; clus
 refused_posted k at number (HasGap n) h = record { alone = refl; answer = refl; cluster = refl; sites = λ n. refl; parts = λ n. refl; site = λ who old. refl; count = λ n. refl; phase = λ parts who old. refl }
 refused_posted k at number (IsRepeat n) h = record { alone = refl; answer = refl; cluster = refl; sites = λ n. refl; parts = λ n. refl; site = λ who old. refl; count = λ n. refl; phase = λ parts who old. refl }
 
-refused_up : (at : PartId) (number : ℕ) (why : Refusal) → is_plain why ≡ true → is_up (refusal_line at no_tx number why) ≡ true
+refused_up : (at : PartId) (number : ℕ) (why : Refusal) → is_plain why ≡ true → (is_answer (refusal_line at no_tx number why) ≡ true) × (is_sound (refusal_line at no_tx number why) ≡ true)
 refused_up at number IsDown h = off h
 refused_up at number IsBadOp h = off h
 refused_up at number (HasNoRoom n) h = off h
 refused_up at number (IsDamaged n) h = off h
-refused_up at number other h = refl
+refused_up at number other h = (refl, refl)
 
 refused_plain : (at : PartId) (number : ℕ) (why : Refusal) → is_postal (refusal_line at no_tx number why) ≡ false
 refused_plain at number IsDown = refl
@@ -139,7 +139,7 @@ module _ {S E : Type 0} (kinds : Kinds S E) (w : WholeState E) where
         let size : SameSize w.live.sites held = record { sites_are = (g own).same_sites; parts_are = (g own).same_parts } in
         let s : Step = step.Took number m.hi in
         subst (λ steps. IsAnswer is_built run (command.Deliver number) steps × ReachedWhole kinds (after held) (answered line (Some (command.Deliver number)) steps run)) (sym is) (
-          subst (AnswersBy run (command.Deliver number) (step.Took number m.hi ∷ [])) (sym (none_due (all_met run (command.Deliver number)) (refl, (ap not r.live.has, (ap is_none l.letter, tt))))) (s, refl, refl, refl),
+          (subst (AnswersBy run (command.Deliver number) (step.Took number m.hi ∷ [])) (sym (none_due (all_met run (command.Deliver number)) (refl, (ap not r.live.has, (ap is_none l.letter, tt))))) (s, refl, refl, refl), refl),
           called_on (command.Deliver number) held at (Took own m) s line run r size (record { reached = reached; calm = (refl, r.live.sees.calm); one_caller = (refl, r.live.sees.one_caller) }) (took_posted number number m.hi)
               (ap (λ o. step.Took (own_of o) m.hi) l.letter) (ap for_message l.letter) (λ who. tt) tt refl refl refl,
         )
@@ -154,9 +154,10 @@ module _ {S E : Type 0} (kinds : Kinds S E) (w : WholeState E) where
         let reached : Reaches kinds held ((record { at = at; event = Refused (AskTake own m) (cause why) }) ∷ entries r.live.calls) = subst (λ e. Reaches kinds held ((record { at = at; event = e }) ∷ entries r.live.calls)) x.shows x.reached in
         let size : SameSize w.live.sites held = record { sites_are = (g own).same_sites; parts_are = (g own).same_parts } in
         let plain : is_plain (cause why) ≡ true = plain_refused kinds held (entries r.live.calls) at (AskTake own m) why reached in
+        let up = refused_up at number (cause why) plain in
         let s : Step = refusal_line at no_tx number (cause why) in
         subst (λ steps. IsAnswer is_built run (command.Deliver number) steps × ReachedWhole kinds (after held) (answered line (Some (command.Deliver number)) steps run)) (sym is) (
-          subst (AnswersBy run (command.Deliver number) (refusal_line at no_tx number (cause why) ∷ [])) (sym (none_due (all_met run (command.Deliver number)) (refl, (ap not r.live.has, (ap is_none l.letter, tt))))) (s, refl, refused_up at number (cause why) plain, refused_bears run at number (cause why)),
+          (subst (AnswersBy run (command.Deliver number) (refusal_line at no_tx number (cause why) ∷ [])) (sym (none_due (all_met run (command.Deliver number)) (refl, (ap not r.live.has, (ap is_none l.letter, tt))))) (s, refl, ap (λ b. b && true) up.0, refused_bears run at number (cause why)), ap (λ b. b && true) up.1),
           called_on (command.Deliver number) held at (Refused (AskTake own m) (cause why)) s line run r size (record { reached = reached; calm = (plain, r.live.sees.calm); one_caller = (refl, r.live.sees.one_caller) }) (refused_posted number at number (cause why) plain)
               (refused_numbered run (entries r.live.calls) at number own m (cause why) (ap own_of l.letter)) (ap for_message l.letter) (λ who. tt) tt (refused_plain at number (cause why)) refl refl,
         )
@@ -187,7 +188,7 @@ module _ {S E : Type 0} (kinds : Kinds S E) (w : WholeState E) where
         let size : SameSize w.live.sites held = record { sites_are = (g own).same_sites; parts_are = (g own).same_parts } in
         let s : Step = step.Heard number at stable in
         subst (λ steps. IsAnswer is_built run (command.Hear number at) steps × ReachedWhole kinds (after held) (answered line (Some (command.Hear number at)) steps run)) (sym is) (
-          subst (AnswersBy run (command.Hear number at) (step.Heard number at stable ∷ [])) (sym (none_due (all_met run (command.Hear number at)) (refl, (ap not r.live.has, (ap not (sym (part_in kinds w.live run r.live at) ∙ has), (ap is_none l.notice, (ap (λ o. is_foreign o at) l.notice ∙ ap not same, tt))))))) (s, refl, refl, refl),
+          (subst (AnswersBy run (command.Hear number at) (step.Heard number at stable ∷ [])) (sym (none_due (all_met run (command.Hear number at)) (refl, (ap not r.live.has, (ap not (sym (part_in kinds w.live run r.live at) ∙ has), (ap is_none l.notice, (ap (λ o. is_foreign o at) l.notice ∙ ap not same, tt))))))) (s, refl, refl, refl), refl),
           called_on (command.Hear number at) held at (Heard own n.from.part n.bounds stable) s line run r size (record { reached = reached; calm = (refl, r.live.sees.calm); one_caller = (refl, r.live.sees.one_caller) }) (heard_posted number number at at stable)
               (ap (λ o. step.Heard (own_report o) at stable) l.notice) (ap (for_report at) l.notice) (λ who. tt) tt refl refl refl,
         )

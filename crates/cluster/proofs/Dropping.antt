@@ -24,7 +24,7 @@ use Rattle.cluster.specs.Post.{WholeState, MailAs, NoteAs, kept_at}
 use Rattle.cluster.specs.Reached.{Applies, ReachedWhole}
 use Rattle.cluster.proofs.Keeping.{post_on, letter_at, note_at}
 use Rattle.cluster.proofs.Meets.{all_met, first_at, none_due}
-use Rattle.cluster.proofs.Mere.{is_mere, IsMere}
+use Rattle.cluster.proofs.Mere.{is_mere, mere_sound, IsMere}
 use Rattle.cluster.proofs.Standing.{live_still, mere_still}
 
 module _ {E : Type 0} (sites parts : ℕ) (run : Run) where
@@ -53,7 +53,7 @@ module _ {S E : Type 0} (kinds : Kinds S E) (w : WholeState E) where
   turned_down cmd s steps is h m idle number run r =
       let next : Run = (record { number = number; command = Some cmd; step = s }) ∷ run in
       let x = live_still kinds w.live number (Some cmd) s run h (idle run) r.live in (
-        subst (λ o. AnswersBy run cmd steps o) (sym (m run r)) is,
+        (subst (λ o. AnswersBy run cmd steps o) (sym (m run r)) is, mere_sound s steps is h),
         subst (λ l. ReachedWhole kinds w (answered number (Some cmd) l run)) (sym is) (record {
           live = x.reached;
           post = post_on w.live.sites.sites w.live.sites.parts run next r.live.calls x.reached.calls w.post x.keeps x.grows r.post;
@@ -81,7 +81,7 @@ module _ {S E : Type 0} (kinds : Kinds S E) (w : WholeState E) where
         → Applies kinds (Some w) (command.DropMessage number) steps (Some (record { live = w.live; post = record { letters = letters; next_letter = w.post.next_letter; notes = w.post.notes; next_note = w.post.next_note } }))
     message_dropped letters steps is there find count line run r =
         subst (λ l. IsAnswer is_built run (command.DropMessage number) l × ReachedWhole kinds (record { live = w.live; post = record { letters = letters; next_letter = w.post.next_letter; notes = w.post.notes; next_note = w.post.next_note } }) (answered line (Some (command.DropMessage number)) l run)) (sym is) (
-          subst (AnswersBy run (command.DropMessage number) (step.DroppedMessage number ∷ [])) (sym (none_due (all_met run (command.DropMessage number)) (refl, (ap not r.live.has, (lacks_mail run r true there, tt))))) refl,
+          (subst (AnswersBy run (command.DropMessage number) (step.DroppedMessage number ∷ [])) (sym (none_due (all_met run (command.DropMessage number)) (refl, (ap not r.live.has, (lacks_mail run r true there, tt))))) refl, refl),
           record {
             live = mere_still kinds w.live line (Some (command.DropMessage number)) (step.DroppedMessage number) run (dropped_letter number) (λ who. refl) r.live;
             post = record {
@@ -113,7 +113,7 @@ module _ {S E : Type 0} (kinds : Kinds S E) (w : WholeState E) where
         → Applies kinds (Some w) (command.DropReport number) steps (Some (record { live = w.live; post = record { letters = w.post.letters; next_letter = w.post.next_letter; notes = notes; next_note = w.post.next_note } }))
     report_dropped notes steps is there find count line run r =
         subst (λ l. IsAnswer is_built run (command.DropReport number) l × ReachedWhole kinds (record { live = w.live; post = record { letters = w.post.letters; next_letter = w.post.next_letter; notes = notes; next_note = w.post.next_note } }) (answered line (Some (command.DropReport number)) l run)) (sym is) (
-          subst (AnswersBy run (command.DropReport number) (step.DroppedReport number ∷ [])) (sym (none_due (all_met run (command.DropReport number)) (refl, (ap not r.live.has, (lacks_notice run r true there, tt))))) refl,
+          (subst (AnswersBy run (command.DropReport number) (step.DroppedReport number ∷ [])) (sym (none_due (all_met run (command.DropReport number)) (refl, (ap not r.live.has, (lacks_notice run r true there, tt))))) refl, refl),
           record {
             live = mere_still kinds w.live line (Some (command.DropReport number)) (step.DroppedReport number) run (dropped_note number) (λ who. refl) r.live;
             post = record {

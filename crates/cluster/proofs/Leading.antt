@@ -1,8 +1,8 @@
 -- The steps of the end of a session's transaction, one after another, answer their command.
 use Rattle.std.proofs.Common.{◌≡◌, ℕ, ◌<◌, Bool, true, false, List, [], ◌∷◌, ◌++◌, refl, sym, ap, ◌∙◌, subst, Option, None, Some}
-use Rattle.std.specs.Prelude.{not, if◌then◌else◌}
+use Rattle.std.specs.Prelude.{not, ◌&&◌, if◌then◌else◌}
 use Rattle.std.specs.Str.{bytes_eq}
-use Rattle.std.proofs.lemmas.Bool.{true≢false, cond-true}
+use Rattle.std.proofs.lemmas.Bool.{true≢false, cond-true, and_parts, and_from}
 use Rattle.std.proofs.lemmas.List.{append_assoc}
 use Rattle.crdt_core.specs.KindsOf.{Kinds}
 use Rattle.world_model.specs.declared.command.Command.{Command}
@@ -16,7 +16,7 @@ use Rattle.world_model.specs.CommitSteps.{Going, Preparing, Finishing, Aborting}
 use Rattle.world_model.specs.Phases as phases
 use Rattle.world_model.specs.Phases.{Phase, phase, committing, aborting}
 use Rattle.world_model.specs.Run.{Run}
-use Rattle.world_model.specs.ScriptAnswers.{AnswersBy, IsAnswer, fewer}
+use Rattle.world_model.specs.ScriptAnswers.{is_sound, are_sound, AnswersBy, IsAnswer, fewer}
 use Rattle.world_model.proofs.Names.{off}
 use Rattle.txn_session.specs.Holds.{next_of}
 use Rattle.txn_session.specs.declared.phase.Phase.{Phase as Stage}
@@ -39,6 +39,10 @@ use Rattle.cluster.proofs.Stepping.{Follows, GoesSo, one_step, steps_left}
 pub answered_more : (number : ℕ) (asked : Option Command) (lines : List Step) (s : Step) (run : Run) → answered number asked (lines ++ s ∷ []) run ≡ (record { number = number; command = asked; step = s }) ∷ answered number asked lines run
 answered_more number asked [] s run = refl
 answered_more number asked (x ∷ lines) s run = answered_more number asked lines s ((record { number = number; command = asked; step = x }) ∷ run)
+
+pub sound_more : (lines : List Step) (s : Step) → are_sound lines ≡ true → is_sound s ≡ true → are_sound (lines ++ s ∷ []) ≡ true
+sound_more [] s h k = ap (λ b. b && true) k
+sound_more (x ∷ lines) s h k = let p = and_parts (is_sound x) (are_sound lines) h in and_from (is_sound x) (are_sound (lines ++ s ∷ [])) p.0 (sound_more lines s p.1 k)
 
 module _ {E : Type 0} where
   -- the session is there and may go on; with no more steps to make, none is left
@@ -64,18 +68,18 @@ module _ {S E : Type 0} (kinds : Kinds S E) (old : LiveState E) (w : Way) (name 
     pub leads : Leads kinds old now w name steps left lines
 
   pub at_start : MayMake w steps → can_end w (session_in old.sessions name) ≡ true → IsReachedLive kinds old → IsOnWay old steps []
-  at_start m h r = record { may = may_start w name steps old.sessions m (session_in old.sessions name) refl h; reached = r; leads = λ number run x. record { goes = goes_none kinds old run x; follow = λ rest y. y } }
+  at_start m h r = record { may = may_start w name steps old.sessions m (session_in old.sessions name) refl h; reached = r; leads = λ number run x. record { goes = goes_none kinds old run x; sound = refl; follow = λ rest y. y } }
 
-  answers_so : MayMake w steps → can_end w (session_in old.sessions name) ≡ true → (run : Run) → ReachedLive kinds old run → (lines : List Step) → MayFollow w name run steps lines → IsAnswer is_built run (command_of w name steps) lines
-  answers_so m h run r lines f = by_session (session_in old.sessions name) refl h
+  answers_so : MayMake w steps → can_end w (session_in old.sessions name) ≡ true → (run : Run) → ReachedLive kinds old run → (lines : List Step) → are_sound lines ≡ true → MayFollow w name run steps lines → IsAnswer is_built run (command_of w name steps) lines
+  answers_so m h run r lines sound f = by_session (session_in old.sessions name) refl h
     where
       of_way : (x : Way) (s : SessionState E) → session_in old.sessions name ≡ Some s → can_go x s.doing ≡ true → MayMake x steps → MayFollow x name run steps lines → IsAnswer is_built run (command_of x name steps) lines
-      of_way way.Commits s is can may g = subst (AnswersBy run (command.Commit name steps) lines) (sym (none_due (all_met run (command.Commit name steps)) (refl, (has kinds old run r name, (has_session kinds old run r name s is, (idle_is kinds old run r name s is ∙ not_so (session.is_idle s.doing) can, tt)))))) g
+      of_way way.Commits s is can may g = (subst (AnswersBy run (command.Commit name steps) lines) (sym (none_due (all_met run (command.Commit name steps)) (refl, (has kinds old run r name, (has_session kinds old run r name s is, (idle_is kinds old run r name s is ∙ not_so (session.is_idle s.doing) can, tt)))))) g, sound)
         where
           not_so : (b : Bool) → not b ≡ true → b ≡ false
           not_so true k = off k
           not_so false k = refl
-      of_way way.GivesUp s is can may g = subst (AnswersBy run (command.Abort name) lines) (sym (none_due (all_met run (command.Abort name)) (refl, (has kinds old run r name, (has_session kinds old run r name s is, (ap not (undecided_is kinds old run r name s is ∙ can), tt)))))) (subst (λ k. MayFollow way.GivesUp name run k lines) may g)
+      of_way way.GivesUp s is can may g = (subst (AnswersBy run (command.Abort name) lines) (sym (none_due (all_met run (command.Abort name)) (refl, (has kinds old run r name, (has_session kinds old run r name s is, (ap not (undecided_is kinds old run r name s is ∙ can), tt)))))) (subst (λ k. MayFollow way.GivesUp name run k lines) may g), sound)
 
       by_session : (o : Option (SessionState E)) → session_in old.sessions name ≡ o → can_end w o ≡ true → IsAnswer is_built run (command_of w name steps) lines
       by_session None e k = off k
@@ -108,6 +112,9 @@ module _ {S E : Type 0} (kinds : Kinds S E) (old : LiveState E) (w : Way) (name 
       follows_so : (number : ℕ) (run : Run) (r : ReachedLive kinds old run) (rest : List Step) → Follows goes w name ((record { number = number; command = Some (command_of w name steps); step = answer }) ∷ answered number (Some (command_of w name steps)) lines run) left rest → MayFollow w name run steps (lines ++ answer ∷ rest)
       follows_so number run r rest f = let led = on.leads number run r in led.follow (answer ∷ rest) ((goes_so number (answered number (Some (command_of w name steps)) lines run) led.goes.reached).follow left rest count_before f)
 
+      sound_so : (number : ℕ) (run : Run) (r : ReachedLive kinds old run) → are_sound (lines ++ answer ∷ []) ≡ true
+      sound_so number run r = let led = on.leads number run r in sound_more lines answer led.sound (goes_so number (answered number (Some (command_of w name steps)) lines run) led.goes.reached).sound
+
       reached_so : (number : ℕ) (run : Run) (r : ReachedLive kinds old run) → GoesTo kinds old run r new (answered number (Some (command_of w name steps)) (lines ++ answer ∷ []) run)
       reached_so number run r =
           let led = on.leads number run r in
@@ -115,7 +122,7 @@ module _ {S E : Type 0} (kinds : Kinds S E) (old : LiveState E) (w : Way) (name 
           subst (λ l. GoesTo kinds old run r new l) (sym (answered_more number (Some (command_of w name steps)) lines answer run)) (goes_both kinds old run r now middle led.goes new _ (goes_so number middle led.goes.reached).reached)
 
       applies_so : MayMake w steps → can_end w (session_in old.sessions name) ≡ true → ((number : ℕ) (run : Run) (r : ReachedLive kinds old run) → Follows goes w name ((record { number = number; command = Some (command_of w name steps); step = answer }) ∷ answered number (Some (command_of w name steps)) lines run) left []) → AppliesLive kinds old (command_of w name steps) (lines ++ answer ∷ []) new
-      applies_so m h f number run r = (answers_so m h run r (lines ++ answer ∷ []) (follows_so number run r [] (f number run r)), reached_so number run r)
+      applies_so m h f number run r = (answers_so m h run r (lines ++ answer ∷ []) (sound_so number run r) (follows_so number run r [] (f number run r)), reached_so number run r)
 
       -- it ended
       pub at_end : goes ≡ false → MayMake w steps → can_end w (session_in old.sessions name) ≡ true → AppliesLive kinds old (command_of w name steps) (lines ++ answer ∷ []) new
@@ -137,6 +144,7 @@ module _ {S E : Type 0} (kinds : Kinds S E) (old : LiveState E) (w : Way) (name 
         reached = record { run = _; reached = in_some.reached.reached };
         leads = λ number run r. record {
           goes = reached_so number run r;
+          sound = sound_so number run r;
           follow = λ rest f. subst (λ l. MayFollow w name run steps l) (sym (append_assoc lines (answer ∷ []) rest))
               (follows_so number run r rest (subst (λ b. Follows b w name ((record { number = number; command = Some (command_of w name steps); step = answer }) ∷ answered number (Some (command_of w name steps)) lines run) left rest) (sym g)
               (subst (λ l. MayFollow w name l (fewer left) rest) (answered_more number (Some (command_of w name steps)) lines answer run) f)));

@@ -21,7 +21,7 @@ use Rattle.txn_session.specs.Session.{Doing, Idle, Open, Ending, SessionState}
 use Rattle.cluster.specs.Built.{is_built}
 use Rattle.cluster.specs.Live.{LiveState, session_in}
 use Rattle.cluster.specs.Reached.{phase_as, StandsBy, StandsAs, ReachedLive, GoesTo, AppliesLive}
-use Rattle.cluster.proofs.Mere.{is_mere}
+use Rattle.cluster.proofs.Mere.{is_mere, mere_sound}
 use Rattle.cluster.proofs.Standing.{live_still}
 
 -- all that a command may meet
@@ -90,7 +90,7 @@ module _ {S E : Type 0} (kinds : Kinds S E) where
 
   pub refused : (c : LiveState E) (cmd : Command) (s : Step) (steps : List Step) → steps ≡ s ∷ [] → is_mere s ≡ true → Meets c cmd (Some s) → StaysIdle c cmd s → AppliesLive kinds c cmd steps c
   refused c cmd s steps is h m idle number run r = (
-    subst (λ o. AnswersBy run cmd steps o) (sym (m run r)) is,
+    (subst (λ o. AnswersBy run cmd steps o) (sym (m run r)) is, mere_sound s steps is h),
     subst (λ l. GoesTo kinds c run r c (answered number (Some cmd) l run)) (sym is) (live_still kinds c number (Some cmd) s run h (idle run r) r),
   )
 

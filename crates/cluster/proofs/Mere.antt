@@ -12,6 +12,7 @@ use Rattle.world_model.specs.Cluster.{is_cluster, has_cluster, sites_of, parts_o
 use Rattle.world_model.specs.Meeting.{site_after, site_of, count_after, session_count}
 use Rattle.world_model.specs.Phases.{Phase, Absent, phase, phase_after, by_command}
 use Rattle.world_model.specs.Run.{Run}
+use Rattle.world_model.specs.ScriptAnswers.{is_sound, are_sound}
 use Rattle.world_model.specs.ScriptCalls.{is_answer, is_looked_up, is_called, calls_of}
 use Rattle.cluster.specs.Reached.{IsBefore}
 use Rattle.cluster.proofs.Keeping.{is_postal, keeps_line, keeps_none, keeps_both}
@@ -69,6 +70,18 @@ mere step.LimitMessages h = all_same _ refl refl (λ n. refl) (λ n. refl) (λ w
 mere step.LimitReports h = all_same _ refl refl (λ n. refl) (λ n. refl) (λ w o. refl) (λ n. refl) (λ n w o a. refl)
 mere step.Unbuilt h = all_same _ refl refl (λ n. refl) (λ n. refl) (λ w o. refl) (λ n. refl) (λ n w o a. refl)
 mere other h = off h
+
+sound_mere : (s : Step) → is_mere s ≡ true → is_sound s ≡ true
+sound_mere (step.Down p) h = off h
+sound_mere (step.Disk p) h = off h
+sound_mere (step.Unsure t) h = off h
+sound_mere (step.Damaged p at) h = off h
+sound_mere (step.Full room) h = off h
+sound_mere other h = refl
+
+-- no partition failed for such a line
+pub mere_sound : (s : Step) (steps : List Step) → steps ≡ s ∷ [] → is_mere s ≡ true → are_sound steps ≡ true
+mere_sound s steps is h = ap are_sound is ∙ ap (λ b. b && true) (sound_mere s h)
 
 pub mere_plain : (s : Step) → is_mere s ≡ true → is_postal s ≡ false
 mere_plain (step.Sent n q to lo hi count) h = off h

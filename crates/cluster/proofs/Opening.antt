@@ -97,7 +97,7 @@ module _ {S E : Type 0} (kinds : Kinds S E) where
         → AppliesLive kinds c (command.Session name site) steps (record { sites = c.sites; sessions = sessions })
     session_made sessions s steps is there some none room new holds find count number run r =
         subst (λ l. IsAnswer is_built run (command.Session name site) l × GoesTo kinds c run r (record { sites = c.sites; sessions = sessions }) (answered number (Some (command.Session name site)) l run)) (sym is) (
-          subst (AnswersBy run (command.Session name site) (step.MadeSession name site ∷ [])) (sym (none_due (all_met run (command.Session name site)) (refl, (ap not r.has, (ap not (sym (site_in kinds c run r site) ∙ there), (gone none run r, (ap (λ n. n == 64) r.count ∙ room, tt))))))) refl,
+          (subst (AnswersBy run (command.Session name site) (step.MadeSession name site ∷ [])) (sym (none_due (all_met run (command.Session name site)) (refl, (ap not r.has, (ap not (sym (site_in kinds c run r site) ∙ there), (gone none run r, (ap (λ n. n == 64) r.count ∙ room, tt))))))) refl, refl),
           record {
             size = size_refl c.sites;
             grows = grows_one (called 0 at (Opened name)) r.calls refl refl;
@@ -170,7 +170,7 @@ module _ {S E : Type 0} (kinds : Kinds S E) where
         → AppliesLive kinds c (command.Lose name) steps (record { sites = c.sites; sessions = sessions })
     session_lost sessions steps is some find count number run r =
         subst (λ l. IsAnswer is_built run (command.Lose name) l × GoesTo kinds c run r (record { sites = c.sites; sessions = sessions }) (answered number (Some (command.Lose name)) l run)) (sym is) (
-          subst (AnswersBy run (command.Lose name) (step.Lost name ∷ [])) (sym (none_due (all_met run (command.Lose name)) (refl, (ap not r.has, (was_there (session_in c.sessions name) refl some, tt))))) refl,
+          (subst (AnswersBy run (command.Lose name) (step.Lost name ∷ [])) (sym (none_due (all_met run (command.Lose name)) (refl, (ap not r.has, (was_there (session_in c.sessions name) refl some, tt))))) refl, refl),
           record {
             size = size_refl c.sites;
             grows = grows_none r.calls;
@@ -224,7 +224,7 @@ module _ {S E : Type 0} (kinds : Kinds S E) where
     pub session_moved : (sessions : List (List ℕ × SessionState E)) (answer : Step) (steps : List Step) → steps ≡ answer ∷ [] → holds_site c.sites site ≡ true → IsDoing (session_in c.sessions name) true → Moves c.sessions name site answer sessions → AppliesLive kinds c (command.Move name site) steps (record { sites = c.sites; sessions = sessions })
     session_moved sessions answer steps is there x m number run r =
         subst (λ l. IsAnswer is_built run (command.Move name site) l × GoesTo kinds c run r (record { sites = c.sites; sessions = sessions }) (answered number (Some (command.Move name site)) l run)) (sym (is ∙ ap (λ s. s ∷ []) line)) (
-          subst (AnswersBy run (command.Move name site) (step.Moved name site ∷ [])) (sym (none_due (all_met run (command.Move name site)) (refl, (ap not r.has, (ap not (sym (site_in kinds c run r site) ∙ there), (has_session kinds c run r name m.before m.is, (ap not (idle_is kinds c run r name x.found x.is ∙ x.so), tt))))))) refl,
+          (subst (AnswersBy run (command.Move name site) (step.Moved name site ∷ [])) (sym (none_due (all_met run (command.Move name site)) (refl, (ap not r.has, (ap not (sym (site_in kinds c run r site) ∙ there), (has_session kinds c run r name m.before m.is, (ap not (idle_is kinds c run r name x.found x.is ∙ x.so), tt))))))) refl, refl),
           record {
             size = size_refl c.sites;
             grows = grows_none r.calls;

@@ -138,7 +138,7 @@ module _ {S E : Type 0} (kinds : Kinds S E) (w : WholeState E) where
       sent steps is way room line run r =
           let s : Step = step.Sent w.post.next_letter at site m.lo m.hi (length m.parts) in
           subst (λ steps. IsAnswer is_built run (command.Send at site from) steps × ReachedWhole kinds after_send (answered line (Some (command.Send at site from)) steps run)) (sym is) (
-            subst (AnswersBy run (command.Send at site from) (s ∷ [])) (sym (none_due (all_met run (command.Send at site from)) (refl, (ap not r.live.has, (way_in run r ∙ way, (ap (λ n. n == 4096) (sym r.post.kept) ∙ room, tt)))))) (s, refl, refl, r.post.made),
+            (subst (AnswersBy run (command.Send at site from) (s ∷ [])) (sym (none_due (all_met run (command.Send at site from)) (refl, (ap not r.live.has, (way_in run r ∙ way, (ap (λ n. n == 4096) (sym r.post.kept) ∙ room, tt)))))) (s, refl, refl, r.post.made), refl),
             whole line run r,
           )
 
@@ -211,6 +211,6 @@ module _ {S E : Type 0} (kinds : Kinds S E) (w : WholeState E) where
       reported steps is there room line run r =
           let s : Step = step.Reported w.post.next_note at b in
           subst (λ steps. IsAnswer is_built run (command.Report at) steps × ReachedWhole kinds after_report (answered line (Some (command.Report at)) steps run)) (sym is) (
-            subst (AnswersBy run (command.Report at) (s ∷ [])) (sym (none_due (all_met run (command.Report at)) (refl, (ap not r.live.has, (ap not (part_there run r ∙ there), (ap (λ n. n == 4096) (sym r.post.noted) ∙ room, tt)))))) (s, refl, refl, r.post.reported),
+            (subst (AnswersBy run (command.Report at) (s ∷ [])) (sym (none_due (all_met run (command.Report at)) (refl, (ap not r.live.has, (ap not (part_there run r ∙ there), (ap (λ n. n == 4096) (sym r.post.noted) ∙ room, tt)))))) (s, refl, refl, r.post.reported), refl),
             whole_told line run r,
           )

@@ -1,8 +1,8 @@
 -- How a settle answers, line by line, and what it leaves.
-use Rattle.std.proofs.Common.{◌≡◌, ⊎_elim, inr, ℕ, Bool, true, false, List, [], ◌∷◌, ◌++◌, map, refl, sym, ap, ◌∙◌, subst, Some, true≢false}
+use Rattle.std.proofs.Common.{◌≡◌, ⊎_elim, inl, inr, ℕ, Bool, true, false, List, [], ◌∷◌, ◌++◌, map, refl, sym, ap, ◌∙◌, subst, Some, true≢false}
 use Rattle.std.specs.Prelude.{not, ◌||◌, ◌&&◌, cond, filter}
 use Rattle.std.specs.List.{list_any}
-use Rattle.std.proofs.lemmas.Bool.{cases_Bool, false_from_ne_true, cond-true, cond-false}
+use Rattle.std.proofs.lemmas.Bool.{cases_Bool, and_from, false_from_ne_true, cond-true, cond-false}
 use Rattle.std.proofs.lemmas.List.{append_assoc, append-nil}
 use Rattle.std.proofs.lemmas.Simd.{map-map}
 use Rattle.site_vector.specs.declared.ids.PartId.{PartId}
@@ -25,10 +25,11 @@ use Rattle.world_model.specs.Partition.{PartState, ToldCommitted, ToldAborted, f
 use Rattle.world_model.specs.Pending.{pending, pending_after, is_down, down_after}
 use Rattle.world_model.specs.Plan.{IsPlace, first_of, home}
 use Rattle.world_model.specs.Run.{Run}
-use Rattle.world_model.specs.ScriptAnswers.{AnswersBy}
+use Rattle.world_model.specs.ScriptAnswers.{is_sound, are_sound, AnswersBy, IsSettled}
 use Rattle.world_model.specs.ScriptCalls.{calls_of}
-use Rattle.world_model.specs.Settling.{settled, is_untold, IsSettled}
+use Rattle.world_model.specs.Settling.{settled, stays, is_untold, SettlesAll}
 use Rattle.world_model.specs.Updates.{Change, changes, change_of, lead}
+use Rattle.world_model.specs.Waiting.{waiting}
 use Rattle.world_model.proofs.Told as law
 use Rattle.partition_core.specs.declared.answers.Fate.{Fate}
 use Rattle.partition_core.specs.declared.answers.Fate.TheVariants as fate
@@ -47,6 +48,7 @@ use Rattle.cluster.proofs.Delivering.{place_of_part}
 use Rattle.cluster.proofs.Leading.{answered_more}
 use Rattle.cluster.proofs.Meets.{all_met, first_at, none_due, refused}
 use Rattle.cluster.proofs.Standing.{goes_none, goes_both, goes_quiet}
+use Rattle.cluster.proofs.Stepping.{either_false}
 use Rattle.cluster.proofs.Telling.{led_here, led_elsewhere, settled_own, settled_untold, settled_finished, settled_aborted, AreOther, AreOnce, once, AreLeft, AreListed, down_is, waiting_is, site_is, lead_there, lead_same, word, listed_are}
 use Rattle.cluster.proofs.Turned.{turned_alone}
 
@@ -189,6 +191,24 @@ module _ {S E : Type 0} (kinds : Kinds S E) (c : LiveState E) (p : PartId) (t : 
           ended_there : (run : Run) (r : ReachedLive kinds c run) → lead (parts_of run) (calls_of run) t ≡ lead_place p n → pending (calls_of run) (lead_place p n) t ≡ false
           ended_there run r l = sym (waiting_is kinds c run r (lead_place p n) lead_in t) ∙ told_ended (r.sees.reached.state (lead_place p n)) t v (told (entries r.calls) r.sees.reached)
 
+-- the lines of a settle that wrote every end
+module _ (parts : ℕ) (ls : List Line) (p : PartId) where
+  abbrev pub lines_of_all : List (TxId × ℕ) → List Step
+  lines_of_all waits = map (λ x. settled parts ls p x.0) waits ++ step.Settled p ∷ []
+
+  pub settles_all : (waits : List (TxId × ℕ)) → SettlesAll parts ls p waits (lines_of_all waits)
+  settles_all [] = (refl, refl)
+  settles_all (x ∷ waits) = inl (refl, settles_all waits)
+
+  sound_if : (t : TxId) (b d : Bool) → is_sound (cond b (step.Pending p t) (cond d (step.Finished p t) (step.Aborted p t))) ≡ true
+  sound_if t true d = refl
+  sound_if t false true = refl
+  sound_if t false false = refl
+
+  pub sound_all : (waits : List (TxId × ℕ)) → are_sound (lines_of_all waits) ≡ true
+  sound_all [] = refl
+  sound_all (x ∷ waits) = and_from (is_sound (settled parts ls p x.0)) (are_sound (lines_of_all waits)) (sound_if x.0 (stays parts ls p x.0) (in_history ls x.0)) (sound_all waits)
+
 -- what is left, one after another
 module _ {S E : Type 0} (kinds : Kinds S E) (old : LiveState E) (p : PartId) (items : List Waiting) where
   abbrev lines_for : Run → List Waiting → List Step
@@ -214,7 +234,7 @@ module _ {S E : Type 0} (kinds : Kinds S E) (old : LiveState E) (p : PartId) (it
       let one = listed_are kinds old reached.run reached.reached p there items (waits (entries reached.reached.calls) reached.reached.sees.reached) in record {
         has = has;
         reached = reached;
-        apart = subst AreOnce one.firsts (once (calls_of reached.run) p one.listed one.waiting.times one.waiting.order);
+        apart = subst AreOnce one.firsts (once (calls_of reached.run) p (waiting (calls_of reached.run) p) one.waits.times one.waits.order);
         led = λ number run r. let l = listed_are kinds old run r p there items (waits (entries r.calls) r.sees.reached) in record { goes = goes_none kinds old run r; all = refl; same = λ u. refl; left = l.left; listed = l };
       }
 
@@ -260,10 +280,12 @@ module _ {S E : Type 0} (kinds : Kinds S E) (old : LiveState E) (p : PartId) (it
       let middle : Run = answered number (Some (command.Settle p)) lines run in
       let last = goes_quiet kinds now number (Some (command.Settle p)) (step.Settled p) middle (record { called = refl; cluster = refl; sites = λ n. refl; parts = λ n. refl; site = λ who old. refl; count = λ n. refl; phase = λ who. refl }) refl l.goes.reached in
       let by_items : lines ≡ lines_for run items = sym (append-nil lines) ∙ l.all in
-      let by_times : lines_for run items ≡ map (λ (x : TxId × ℕ). settled (parts_of run) (calls_of run) p x.0) l.listed.listed =
-      sym (map-map (λ t. settled (parts_of run) (calls_of run) p t) (λ (w : Waiting). w.tx) items) ∙ (ap (map (λ t. settled (parts_of run) (calls_of run) p t)) (sym l.listed.firsts) ∙ map-map (λ t. settled (parts_of run) (calls_of run) p t) (λ (x : TxId × ℕ). x.0) l.listed.listed) in
-      let answer : IsSettled (parts_of run) (calls_of run) p steps = record { listed = l.listed.listed; waiting = l.listed.waiting; lines = is ∙ ap (λ z. z ++ step.Settled p ∷ []) (by_items ∙ by_times) } in (
-        subst (AnswersBy run (command.Settle p) steps) (sym (none_due (all_met run (command.Settle p)) (refl, (ap not r.has, (settle_has run r u.has, tt))))) answer,
+      let by_times : lines_for run items ≡ map (λ (x : TxId × ℕ). settled (parts_of run) (calls_of run) p x.0) (waiting (calls_of run) p) =
+      sym (map-map (λ t. settled (parts_of run) (calls_of run) p t) (λ (w : Waiting). w.tx) items) ∙ (ap (map (λ t. settled (parts_of run) (calls_of run) p t)) (sym l.listed.firsts) ∙ map-map (λ t. settled (parts_of run) (calls_of run) p t) (λ (x : TxId × ℕ). x.0) (waiting (calls_of run) p)) in
+      let whole : steps ≡ lines_of_all (parts_of run) (calls_of run) p (waiting (calls_of run) p) = is ∙ ap (λ z. z ++ step.Settled p ∷ []) (by_items ∙ by_times) in
+      let up : is_down (calls_of run) p ≡ false = down_is kinds old run r p (place_of_part old.sites p u.has) in
+      let answer : IsSettled run p steps = either_false _ _ (is_down (calls_of run) p) up (subst (SettlesAll (parts_of run) (calls_of run) p (waiting (calls_of run) p)) (sym whole) (settles_all (parts_of run) (calls_of run) p (waiting (calls_of run) p))) in (
+        (subst (AnswersBy run (command.Settle p) steps) (sym (none_due (all_met run (command.Settle p)) (refl, (ap not r.has, (settle_has run r u.has, tt))))) answer, ap are_sound whole ∙ sound_all (parts_of run) (calls_of run) p (waiting (calls_of run) p)),
         subst (λ x. GoesTo kinds old run r now (answered number (Some (command.Settle p)) x run)) (sym is) (subst (λ z. GoesTo kinds old run r now z) (sym (answered_more number (Some (command.Settle p)) lines (step.Settled p) run)) (goes_both kinds old run r now middle l.goes now _ last)),
       )
 

@@ -21,8 +21,8 @@ use Rattle.world_model.specs.Phases.{Phase, phase, phase_after, by_command, goin
 use Rattle.world_model.specs.Plan.{home}
 use Rattle.world_model.specs.Run.{Run}
 use Rattle.world_model.specs.ScriptAnswers as script
-use Rattle.world_model.specs.ScriptAnswers.{StepsOf, is_up, Either, Then, fewer}
-use Rattle.world_model.specs.ScriptCalls.{for_step, asked_of, calls_of}
+use Rattle.world_model.specs.ScriptAnswers.{StepsOf, is_sound, Either, Then, fewer}
+use Rattle.world_model.specs.ScriptCalls.{is_answer, for_step, asked_of, calls_of}
 use Rattle.world_model.proofs.Names.{off}
 use Rattle.clocksi_commit.specs.Commit.{Committing}
 use Rattle.txn_session.specs.Calls.{Call, entries}
@@ -43,7 +43,7 @@ use Rattle.cluster.proofs.Meets.{by_name}
 use Rattle.cluster.proofs.Sessions.{Turns, nobody, turns, acted, own_name, same_name}
 use Rattle.cluster.proofs.Stages.{size, shrinks, asked_end, of_way, idle_end, IsStage, stage_opened, stage_committing, stage_giving, over_opened}
 use Rattle.cluster.proofs.Standing.{stands_still}
-use Rattle.cluster.proofs.Turned.{line_up}
+use Rattle.cluster.proofs.Turned.{answer_up}
 
 -- what may come after a step that lets the command go on, or doesn't
 abbrev pub Follows : Bool → Way → List ℕ → Run → Option ℕ → List Step → Type 0
@@ -54,11 +54,11 @@ abbrev is_go : Next → Bool
 is_go next.Go = true
 is_go next.Stay = false
 
-either_true : (A B : Type 0) (b : Bool) → b ≡ true → A → Either b A B
+pub either_true : (A B : Type 0) (b : Bool) → b ≡ true → A → Either b A B
 either_true A B true h a = a
 either_true A B false h a = off h
 
-either_false : (A B : Type 0) (b : Bool) → b ≡ false → B → Either b A B
+pub either_false : (A B : Type 0) (b : Bool) → b ≡ false → B → Either b A B
 either_false A B true h x = absurd (true≢false h)
 either_false A B false h x = x
 
@@ -198,6 +198,7 @@ module _ {S E : Type 0} (kinds : Kinds S E) where
         pub more : (left : Option ℕ) → goes ≡ true → stops left (Some new) ≡ false → left ≡ Some 0 → next_of (on_way w new).doing ≡ what.Done
         pub can : goes ≡ true → can_go w new.doing ≡ true
         pub less : goes ≡ true → steps_left w (Some new) < steps_left w (Some s)
+        pub sound : is_sound answer ≡ true
 
       over : ((left : Option ℕ) → MayFollow w name run left (step.Ended name ∷ [])) → next_of start.doing ≡ what.Done → GoesSo
       over lines e = record {
@@ -208,6 +209,7 @@ module _ {S E : Type 0} (kinds : Kinds S E) where
         more = λ left h k l. absurd (true≢false (sym h ∙ shut));
         can = λ h. absurd (true≢false (sym h ∙ shut));
         less = λ h. absurd (true≢false (sym h ∙ shut));
+        sound = ap is_sound said;
       }
         where
           idle : new ≡ doing_so s Idle
@@ -292,8 +294,8 @@ module _ {S E : Type 0} (kinds : Kinds S E) where
           then_so left rest next.Stay k true h f = absurd (true≢false h)
           then_so left rest next.Stay k false h f = f
 
-          up : is_up answer ≡ true
-          up = ap is_up t.shows ∙ line_up (entries r.calls) place t.event t.seen.calm.0
+          up : (is_answer answer ≡ true) × (is_sound answer ≡ true)
+          up = answer_up (entries r.calls) place t.event answer t.shows t.seen.calm.0
 
           counted : (left : Option ℕ) → (left ≡ Some 0 → next_of start.doing ≡ what.Done) → left ≡ Some 0 → ⊥
           counted left k z = true≢false (sym asks ∙ ap is_step (sym next_is ∙ k z))
@@ -312,12 +314,13 @@ module _ {S E : Type 0} (kinds : Kinds S E) where
           going_on : GoesSo
           going_on = record {
             reached = now_reached;
-            follow = λ left rest k f. stage.lines left (answer ∷ rest) (either_false _ _ (is_done commit.going) todo (counted left k, up, then_so left rest (after commit.going answer).1 refl goes goes_is f));
+            follow = λ left rest k f. stage.lines left (answer ∷ rest) (either_false _ _ (is_done commit.going) todo (counted left k, up.0, then_so left rest (after commit.going answer).1 refl goes goes_is f));
             stop = λ left h k. stop_so left k;
             more = λ left h k z. more_so left k z;
             can = λ h. ap (can_go w) doing_is ∙ stage.can answer lead commit;
             less = λ h. subst (λ n. n < steps_left w (Some s)) (sym (ap (λ y. doing_size (doing_on w new.site new.parts y)) doing_is ∙ (size_on w new.site new.parts txn lead (committed_so commit gone) ∙ ap size (stage.again answer))))
                 (subst (λ n. size gone < n) (sym (ap doing_size e)) (shrinks commit.going answer todo (go_said h)));
+            sound = up.1;
           }
 
       -- the transaction, and its commit as the command takes it up

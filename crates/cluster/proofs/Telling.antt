@@ -1,7 +1,7 @@
 -- What the partitions of a cluster tell of transactions, by the lines of the run that left it.
 use Rattle.std.proofs.Common.{◌≡◌, ◌⊎◌, ⊎_elim, ℕ, ◌<◌, Bool, true, false, List, [], ◌∷◌, map, refl, sym, ap, ◌∙◌, subst, arith}
-use Rattle.std.specs.Prelude.{not, ◌||◌, ⊤}
-use Rattle.std.proofs.lemmas.Bool.{cond-true, cond-false, false_from_ne_true}
+use Rattle.std.specs.Prelude.{not, ◌||◌, ◌&&◌, ⊤}
+use Rattle.std.proofs.lemmas.Bool.{cond-true, cond-false, false_from_ne_true, and_from, and_right}
 use Rattle.std.proofs.lemmas.Simd.{map-map}
 use Rattle.site_vector.specs.declared.ids.PartId.{PartId}
 use Rattle.site_vector.specs.declared.ids.TxId.{TxId}
@@ -24,13 +24,15 @@ use Rattle.world_model.specs.Pending.{pending, is_down}
 use Rattle.world_model.specs.Plan.{IsPlace}
 use Rattle.world_model.specs.Run.{Run}
 use Rattle.world_model.specs.ScriptCalls.{calls_of}
-use Rattle.world_model.specs.Settling.{expired, settled, is_untold, AreTimed, ArePending}
+use Rattle.world_model.specs.Settling.{asks_abort, looked_up, settled, is_untold}
 use Rattle.world_model.specs.Shown.{IsIdBefore, IsBefore, IsBeforeAll, AreInOrder}
 use Rattle.world_model.specs.Told.{Told}
 use Rattle.world_model.specs.Updates.{lead}
+use Rattle.world_model.specs.Waiting.{waiting, AreTimed, ArePending}
 use Rattle.world_model.proofs.Law.{law_world}
 use Rattle.world_model.proofs.Queue.{in_order}
 use Rattle.world_model.proofs.Told as law
+use Rattle.world_model.proofs.Waiting.{same_pending}
 use Rattle.partition_core.specs.Stands.{told, AreEntries}
 use Rattle.partition_core.specs.Tables.{Tables}
 use Rattle.txn_session.specs.Calls.{entries}
@@ -51,17 +53,14 @@ module _ (parts : ℕ) (ls : List Line) (p : PartId) (t : TxId) where
   pub led_elsewhere : (n : ℕ) → lead parts ls t ≡ lead_place p n → (n ≡ p.part → ⊥) → same_part (lead parts ls t) p ≡ false
   led_elsewhere n e h = ap (λ q. same_part q p) e ∙ false_from_ne_true (same_part (lead_place p n) p) (λ k. h (ap (λ (q : PartId). q.part) (same_part_is (lead_place p n) p k)))
 
-  pub expired_aborted : pending ls p t ≡ true → same_part (lead parts ls t) p ≡ true → step.Aborted p t ≡ expired parts ls p t
-  expired_aborted h k = sym (cond-true (pending ls p t) _ _ h ∙ cond-true (same_part (lead parts ls t) p) _ _ k)
+  pub asks_here : pending ls p t ≡ true → same_part (lead parts ls t) p ≡ true → asks_abort parts ls p t ≡ true
+  asks_here h k = and_from (pending ls p t) (same_part (lead parts ls t) p) h k
 
-  pub expired_pending : pending ls p t ≡ true → same_part (lead parts ls t) p ≡ false → step.Pending p t ≡ expired parts ls p t
-  expired_pending h k = sym (cond-true (pending ls p t) _ _ h ∙ cond-false (same_part (lead parts ls t) p) _ _ k)
+  pub asks_elsewhere : same_part (lead parts ls t) p ≡ false → asks_abort parts ls p t ≡ false
+  asks_elsewhere k = and_right (pending ls p t) (same_part (lead parts ls t) p) k
 
-  pub expired_finished : pending ls p t ≡ false → is_committed_at ls ls p t ≡ true → step.Finished p t ≡ expired parts ls p t
-  expired_finished h k = sym (cond-false (pending ls p t) _ _ h ∙ cond-true (is_committed_at ls ls p t) _ _ k)
-
-  pub expired_gone : pending ls p t ≡ false → is_committed_at ls ls p t ≡ false → step.Gone p t ≡ expired parts ls p t
-  expired_gone h k = sym (cond-false (pending ls p t) _ _ h ∙ cond-false (is_committed_at ls ls p t) _ _ k)
+  pub asks_ended : pending ls p t ≡ false → asks_abort parts ls p t ≡ false
+  asks_ended h = ap (λ b. b && same_part (lead parts ls t) p) h
 
   -- what a settle answers
   pub settled_own : same_part (lead parts ls t) p ≡ true → step.Pending p t ≡ settled parts ls p t
@@ -75,6 +74,17 @@ module _ (parts : ℕ) (ls : List Line) (p : PartId) (t : TxId) where
 
   pub settled_aborted : same_part (lead parts ls t) p ≡ false → is_untold parts ls t ≡ false → in_history ls t ≡ false → step.Aborted p t ≡ settled parts ls p t
   settled_aborted h k d = sym (cond-false (same_part (lead parts ls t) p || is_untold parts ls t) _ _ (ap (λ b. b || is_untold parts ls t) h ∙ k) ∙ cond-false (in_history ls t) _ _ d)
+
+-- what is looked up
+module _ (ls : List Line) (p : PartId) (t : TxId) where
+  pub looked_pending : pending ls p t ≡ true → step.Pending p t ≡ looked_up ls p t
+  looked_pending h = sym (cond-true (pending ls p t) _ _ h)
+
+  pub looked_finished : pending ls p t ≡ false → is_committed_at ls ls p t ≡ true → step.Finished p t ≡ looked_up ls p t
+  looked_finished h k = sym (cond-false (pending ls p t) _ _ h ∙ cond-true (is_committed_at ls ls p t) _ _ k)
+
+  pub looked_gone : pending ls p t ≡ false → is_committed_at ls ls p t ≡ false → step.Gone p t ≡ looked_up ls p t
+  looked_gone h k = sym (cond-false (pending ls p t) _ _ h ∙ cond-false (is_committed_at ls ls p t) _ _ k)
 
 -- each transaction stands once
 abbrev pub AreOther : TxId → List TxId → Type 0
@@ -93,7 +103,7 @@ not_before : (x : TxId × ℕ) → IsBefore x x → ⊥
 not_before x h = ⊎_elim (λ (a : x.1 < x.1). omega arith) (λ (b : (x.1 ≡ x.1) × IsIdBefore x.0 x.0). no_id_before x.0 b.1) h
 
 module _ (ls : List Line) (p : PartId) where
-  others_after : (x : TxId × ℕ) (xs : List (TxId × ℕ)) → x.1 ≡ lines.prepare_time ls p x.0 → AreTimed ls p xs → IsBeforeAll IsBefore x xs → AreOther x.0 (map (λ y. y.0) xs)
+  others_after : (x : TxId × ℕ) (xs : List (TxId × ℕ)) → x.1 ≡ lines.prepare_time ls p x.0 → AreTimed (lines.prepare_time ls p) xs → IsBeforeAll IsBefore x xs → AreOther x.0 (map (λ y. y.0) xs)
   others_after x [] e a h = tt
   others_after x (y ∷ ys) e a h = (
     false_from_ne_true (same_tx x.0 y.0) (λ k.
@@ -103,7 +113,7 @@ module _ (ls : List Line) (p : PartId) where
     others_after x ys e a.1 h.1,
   )
 
-  pub once : (xs : List (TxId × ℕ)) → AreTimed ls p xs → AreInOrder IsBefore xs → AreOnce (map (λ y. y.0) xs)
+  pub once : (xs : List (TxId × ℕ)) → AreTimed (lines.prepare_time ls p) xs → AreInOrder IsBefore xs → AreOnce (map (λ y. y.0) xs)
   once [] a h = tt
   once (x ∷ xs) a h = (others_after x xs a.0 a.1 h.0, once xs a.1 h.1)
 
@@ -114,9 +124,8 @@ AreLeft parts ls p (w ∷ ws) = (pending ls p w.tx ≡ true) × (lead parts ls w
 
 -- all that is pending at p, in order, and with its leads
 pub record AreListed (parts : ℕ) (ls : List Line) (p : PartId) (items : List Waiting) : Type 0 where
-  pub listed : List (TxId × ℕ)
-  pub waiting : ArePending ls p listed
-  pub firsts : map (λ x. x.0) listed ≡ map (λ w. w.tx) items
+  pub waits : ArePending ls p (waiting ls p)
+  pub firsts : map (λ x. x.0) (waiting ls p) ≡ map (λ w. w.tx) items
   pub left : AreLeft parts ls p items
 
 module _ {E : Type 0} where
@@ -180,7 +189,7 @@ module _ {S E : Type 0} (kinds : Kinds S E) (c : LiveState E) (run : Run) (r : R
     pub lead_there : (t : TxId) → log.pending (r.sees.reached.state p).log t ≡ true → IsPlace c.sites.sites c.sites.parts (lead (parts_of run) (calls_of run) t)
     lead_there t h = subst (IsPlace c.sites.sites c.sites.parts) (lead_same t) ((of_law p).place t h)
 
-    times_are : (xs : List (Entry E)) → AreEntries (told (r.sees.reached.state p).log) xs → ((t : TxId) → has_entry xs t ≡ true → log.pending (r.sees.reached.state p).log t ≡ true) → AreTimed (calls_of run) p (map timed xs)
+    times_are : (xs : List (Entry E)) → AreEntries (told (r.sees.reached.state p).log) xs → ((t : TxId) → has_entry xs t ≡ true → log.pending (r.sees.reached.state p).log t ≡ true) → AreTimed (lines.prepare_time (calls_of run) p) (map timed xs)
     times_are [] a m = tt
     times_are (x ∷ xs) a m = (ap (λ y. y.0) a.0 ∙ time_is x.tx (m x.tx (ap (λ b. b || has_entry xs x.tx) (same_tx_refl x.tx))), times_are xs a.1 (λ t h. m t (or_later (same_tx x.tx t) (has_entry xs t) h)))
 
@@ -193,15 +202,18 @@ module _ {S E : Type 0} (kinds : Kinds S E) (c : LiveState E) (run : Run) (r : R
           left_are xs a.1 (λ t h. m t (or_later (same_tx x.tx t) (has_entry xs t) h)),
         )
 
+    waits_are : ArePending (calls_of run) p (waiting (calls_of run) p)
+    waits_are = subst (λ ls. ArePending ls p (waiting ls p)) r.shown (of_law p).listed
+
     pub listed_are : (items : List Waiting) → AreWaiting (r.sees.reached.state p).log items → AreListed (parts_of run) (calls_of run) p items
     listed_are items w =
-        let here = λ (t : TxId) (h : has_entry w.entries t ≡ true). sym (w.table.members t) ∙ h in record {
-          listed = map timed w.entries;
-          waiting = record {
-            members = λ t. named_is w.entries t ∙ (w.table.members t ∙ waiting_is t);
-            times = times_are w.entries w.table.exact here;
-            order = in_order (map timed w.entries) (ascend w.entries w.table.order);
-          };
-          firsts = map-map (λ (x : TxId × ℕ). x.0) timed w.entries ∙ (sym (map-map (λ (x : Waiting). x.tx) waiting_of w.entries) ∙ ap (map (λ (x : Waiting). x.tx)) (sym w.are));
+        let here = λ (t : TxId) (h : has_entry w.entries t ≡ true). sym (w.table.members t) ∙ h in
+        let told : ArePending (calls_of run) p (map timed w.entries) = record {
+          members = λ t. named_is w.entries t ∙ (w.table.members t ∙ waiting_is t);
+          times = times_are w.entries w.table.exact here;
+          order = in_order (map timed w.entries) (ascend w.entries w.table.order);
+        } in record {
+          waits = waits_are;
+          firsts = ap (map (λ (x : TxId × ℕ). x.0)) (same_pending (calls_of run) p (waiting (calls_of run) p) (map timed w.entries) waits_are told) ∙ map-map (λ (x : TxId × ℕ). x.0) timed w.entries ∙ (sym (map-map (λ (x : Waiting). x.tx) waiting_of w.entries) ∙ ap (map (λ (x : Waiting). x.tx)) (sym w.are));
           left = subst (AreLeft (parts_of run) (calls_of run) p) (sym w.are) (left_are w.entries w.table.exact here);
         }

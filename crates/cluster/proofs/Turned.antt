@@ -17,8 +17,8 @@ use Rattle.world_model.specs.Past.{dependency_after, dependency}
 use Rattle.world_model.specs.Partition.{PartState, PartStep, IsRefused}
 use Rattle.world_model.specs.Phases.{phase, by_command}
 use Rattle.world_model.specs.Run.{Run}
-use Rattle.world_model.specs.ScriptAnswers.{is_up}
-use Rattle.world_model.specs.ScriptCalls.{calls_of}
+use Rattle.world_model.specs.ScriptAnswers.{is_sound}
+use Rattle.world_model.specs.ScriptCalls.{is_answer, calls_of}
 use Rattle.world_model.proofs.LineViews.{dependency_is}
 use Rattle.world_model.proofs.Names.{off}
 use Rattle.txn_session.specs.Calls.{Call, entries, called, IsLegal}
@@ -141,7 +141,8 @@ module _ {E : Type 0} where
   call_is run name (Opened n) c own = absurd own
   call_is run name other c own = refl
 
-  pub line_up : (run : List (Entry E)) (at : PartId) (e : Event E) → is_calm e ≡ true → is_up (step_shown run at e) ≡ true
+  -- the partition answered, and is up
+  pub line_up : (run : List (Entry E)) (at : PartId) (e : Event E) → is_calm e ≡ true → (is_answer (step_shown run at e) ≡ true) × (is_sound (step_shown run at e) ≡ true)
   line_up run at (Cut what) c = off c
   line_up run at Crashed c = off c
   line_up run at RestartCut c = off c
@@ -150,8 +151,12 @@ module _ {E : Type 0} where
   line_up run at (Refused a IsBadOp) c = off c
   line_up run at (Refused a (HasNoRoom n)) c = off c
   line_up run at (Refused a (IsDamaged n)) c = off c
-  line_up run at (Refused a why) c = refl
-  line_up run at other c = refl
+  line_up run at (Refused a why) c = (refl, refl)
+  line_up run at other c = (refl, refl)
+
+  -- so does a line that shows its call
+  pub answer_up : (run : List (Entry E)) (at : PartId) (e : Event E) (s : Step) → s ≡ step_shown run at e → is_calm e ≡ true → (is_answer s ≡ true) × (is_sound s ≡ true)
+  answer_up run at e s is c = let up = line_up run at e c in (ap is_answer is ∙ up.0, ap is_sound is ∙ up.1)
 
   module _ {S : Type 0} (kinds : Kinds S E) (sites parts : ℕ) (id : PartId) (p : PartState E) (run : List (Entry E)) (name : List ℕ) where
     never_gap : (ask : Ask E) (n : ℕ) → IsOwnAsk run name ask → IsRefused kinds sites parts id p ask (HasGap n) → ⊥

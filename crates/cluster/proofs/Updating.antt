@@ -1,6 +1,6 @@
 -- How an update answers its command.
 use Rattle.std.proofs.Common.{◌≡◌, ◌<◌, ◌≤◌, ℕ, ◌+◌, Bool, true, false, List, [], ◌∷◌, ◌++◌, length, refl, sym, ap, ◌∙◌, subst, Option, None, Some, arith}
-use Rattle.std.specs.Prelude.{not, map, ◌==◌, nat_lt, if◌then◌else◌}
+use Rattle.std.specs.Prelude.{not, ◌&&◌, map, ◌==◌, nat_lt, if◌then◌else◌}
 use Rattle.std.specs.Str.{bytes_eq}
 use Rattle.std.proofs.lemmas.Bool.{cond-true, true≢false, eqb-true, ltb-true, ltb-false, false_from_ne_true}
 use Rattle.std.proofs.lemmas.List.{map-append, length-map, length_push}
@@ -26,7 +26,7 @@ use Rattle.world_model.specs.Past.{dependency_after}
 use Rattle.world_model.specs.Phases as phases
 use Rattle.world_model.specs.Phases.{Phase, phase, phase_after, with_object, update_total}
 use Rattle.world_model.specs.Run.{Run}
-use Rattle.world_model.specs.ScriptAnswers.{is_up, Bears, AnswersBy, IsAnswer}
+use Rattle.world_model.specs.ScriptAnswers.{Bears, AnswersBy, IsAnswer}
 use Rattle.world_model.specs.ScriptCalls.{at_object}
 use Rattle.world_model.proofs.Names.{off}
 use Rattle.txn_session.specs.Calls.{entries}
@@ -190,10 +190,11 @@ module _ {S E : Type 0} (kinds : Kinds S E) (c : LiveState E) (name : List ℕ) 
           let x = subst (HoldsDoing a.before.sites a.before.parts a.before.name a.before.site r.calls) e st.holds.doing in
           let u : IsUpdated a.before o (step_shown (entries r.calls) place t.event) a.after = subst (λ l. IsUpdated a.before o l a.after) t.shows d.0 in
           let b = made (entries r.calls) place a.before a.after txn o op own e x.0.session may.room st.few t.event t.asked t.seen.calm.0 u in
+          let up = answer_up (entries r.calls) place t.event answer t.shows t.seen.calm.0 in
           let most : length txn.updates < 256 = may.room in (
-            subst (AnswersBy run (command.Update name o op) (answer ∷ []))
+            (subst (AnswersBy run (command.Update name o op) (answer ∷ []))
                 (sym (none_due (all_met run (command.Update name o op)) (refl, (ap not r.has, (has_session kinds c run r name a.before a.is, (ap not (open_is kinds c run r name a.before a.is ∙ ap session.is_open e), (ap not may.fit, (ap (λ n. n == 256) (ap update_total (st.phase ∙ ap phase_as e) ∙ length-map txn.updates (λ (v : Upd E). v.object)) ∙ false_from_ne_true _ (λ k. let q = eqb-true (length txn.updates) 256 k in absurd (omega (arith, q, most))), tt))))))))
-                (answer, refl, ap is_up t.shows ∙ line_up (entries r.calls) place t.event t.seen.calm.0, subst (λ n. Bears run (command.Update n o op) answer) st.name (subst (Bears run (command.Update a.before.name o op)) (sym t.shows) (b.bears run))),
+                (answer, refl, ap (λ z. z && true) up.0, subst (λ n. Bears run (command.Update n o op) answer) st.name (subst (Bears run (command.Update a.before.name o op)) (sym t.shows) (b.bears run))), ap (λ z. z && true) up.1),
             acted kinds c run r number (command.Update name o op) name a.before a.is a.after place (AskUpdate txn.tx txn.s o own op) answer later t sessions (record {
               size = a.size;
               put = a.put;

@@ -12,7 +12,7 @@ use Rattle.world_model.specs.CommitSteps.{Going, given_up}
 use Rattle.world_model.specs.Phases as phases
 use Rattle.world_model.specs.Phases.{going_of}
 use Rattle.world_model.specs.Run.{Run}
-use Rattle.world_model.specs.ScriptAnswers.{StepsOf}
+use Rattle.world_model.specs.ScriptAnswers.{are_sound, StepsOf}
 use Rattle.txn_session.specs.declared.phase.Phase.{Phase}
 use Rattle.txn_session.specs.declared.phase.Phase.TheVariants as phase
 use Rattle.txn_session.specs.Calls.{Call}
@@ -94,6 +94,7 @@ module _ {S E : Type 0} (kinds : Kinds S E) where
   -- these lines led from the old cluster to this one, and with any that may follow them they may follow what was before
   pub record LedTo (old now : LiveState E) (w : Way) (name : List ℕ) (steps left : Option ℕ) (lines : List Step) (number : ℕ) (run : Run) (r : ReachedLive kinds old run) : Type 0 where
     pub goes : GoesTo kinds old run r now (answered number (Some (command_of w name steps)) lines run)
+    pub sound : are_sound lines ≡ true
     pub follow : (rest : List Step) → MayFollow w name (answered number (Some (command_of w name steps)) lines run) left rest → MayFollow w name run steps (lines ++ rest)
 
   -- whatever run had left the old cluster

@@ -1,6 +1,7 @@
 pub mod Names
 pub mod Parts
 pub mod Queue
+pub mod Listed
 pub mod Moves
 pub mod Leases
 pub mod Fate
@@ -45,5 +46,7 @@ pub mod ExampleFaults
 pub mod Traces
 pub mod Asks
 pub mod Premises
+pub mod Waiting
+pub mod PrepareTimes
 pub mod Told
 pub mod PastJoins

@@ -32,7 +32,7 @@ use Rattle.world_model.specs.Past as events
 use Rattle.world_model.specs.Downs.{AnswersAsUp, AnswerAsUp}
 use Rattle.world_model.specs.Answering.{IsDueAt, AreDue, IsKnown}
 use Rattle.world_model.specs.Doubt.{SettlesAt, SettleDoubts}
-use Rattle.world_model.specs.Shown.{IsBefore, bound_shown, pending_shown, pending_time, committed_shown, TellsAbortedAt, MayAbortAt, IsReadyAt, IsFirstPending, ShowsAt, ShowAt}
+use Rattle.world_model.specs.Shown.{IsBefore, bound_shown, pending_shown, pending_time, time_after, committed_shown, TellsAbortedAt, MayAbortAt, IsReadyAt, IsFirstPending, ShowsAt, ShowAt}
 use Rattle.world_model.specs.Stable.{heard_from, heard_shown, known_shown, IsLeast, IsBehindAt, IsFreshAt, AreFresh}
 use Rattle.world_model.specs.Clear.{IsClearAt, AreClear}
 use Rattle.world_model.specs.Votes.{IsDecision, VotesAt, KeepVotes, ShowsVector}
@@ -53,7 +53,7 @@ use Rattle.world_model.specs.Commit as commit
 use Rattle.world_model.specs.Reads as reads
 use Rattle.world_model.specs.LineAnswers as answers
 use Rattle.world_model.specs.Ops as ops
-use Rattle.world_model.specs.Pending.{is_down}
+use Rattle.world_model.specs.Pending.{is_down, prepare_time}
 use Rattle.world_model.specs.Fate as fates
 use Rattle.world_model.specs.Restarts as restarts
 use Rattle.world_model.specs.Fresh as fresh
@@ -65,6 +65,7 @@ use Rattle.world_model.proofs.Fate.{voted_tried}
 use Rattle.world_model.proofs.Later.{at_own}
 use Rattle.world_model.proofs.Intervals.{numbered_shown, shown_has, events_map}
 use Rattle.world_model.proofs.Histories.{Facts, no_self}
+use Rattle.world_model.proofs.Listed.{timed_as}
 use Rattle.world_model.proofs.LineViews.{now_is, missed_is, in_history_is, snapshot_is, commit_time_is, vector_is, visible_is, is_of_is, pending_is, prepare_time_is, doubt_is, asked_is, down_is, last_is, bound_is, heard_here, heard_is, known_is, stable_is, own_bound_is, was_prepared_is, last_sent_is, sent_count_is, report_count_is, sent_line, report_line}
 use Rattle.world_model.proofs.LineChanges.{to_change, count_is, takes_part_is, touches_is, first_site, lead_is}
 use Rattle.world_model.proofs.Orders.{stamp_same, none_due, is_in, in_filter, once_filter, filter_in}
@@ -449,7 +450,7 @@ module _ {E : Type 0} where
 
     resumed_line : (some : List (Entry E)) (p : PartId) (n : ℕ) (b : List ℕ) (named : Option TxId) (listed : List (TxId × ℕ)) → ClocksAre some → ((j : ℕ) → restarts.brought ls (lines_of some) p j ≡ brought some p j) → EventsAre (IsRight kinds plan run) some → ResumesAt plan some p (Restarted n b named listed) → restarts.IsAsBefore sites ls (lines_of some) p b named listed ⊎ ((call : Call) × (drawn : ℕ) × (restarts.faulted (lines_of some) p ≡ Some (call, drawn)) × restarts.IsAsDone sites ls (lines_of some) p call drawn b named listed)
     resumed_line some p n b named listed cs br rs h = ⊎_elim
-        (λ (x : IsAsBefore plan some p b named listed). inl (record { members = λ t. x.members t ∙ sym (pending_is some p t); times = λ t k. x.times t k ∙ sym (prepare_time_is some p t); bounds = λ j o. x.bounds j o ∙ sym (br j); last = x.last ∙ sym (last_is some p) }))
+        (λ (x : IsAsBefore plan some p b named listed). inl (record { members = λ t. x.members t ∙ sym (pending_is some p t); times = timed_as (pending_time some p) (prepare_time (lines_of some) p) listed (λ t k. sym (prepare_time_is some p t)) x.times; bounds = λ j o. x.bounds j o ∙ sym (br j); last = x.last ∙ sym (last_is some p) }))
         (λ (x : (what : Event E) × (cut_call some p ≡ Some what) × (is_call what ≡ true) × IsTakeable plan some p what × IsAsDone plan some p what b named listed).
         let f = fault_is some cs p x.0 x.2 x.1 in
         inr (
@@ -458,7 +459,7 @@ module _ {E : Type 0} where
           f.is,
           record {
             members = λ t. x.4.members t ∙ sym (ap (λ o. restarts.pending_done (call_cut x.0) o t) (pending_is some p t) ∙ pend_same x.0 (pending_shown some p t) t x.2);
-            times = λ t k. x.4.times t k ∙ sym (ap (λ o. restarts.time_done (call_cut x.0) f.drawn o t) (prepare_time_is some p t) ∙ f.time t (pending_time some p t));
+            times = timed_as (λ t. time_after t (pending_time some p t) x.0) (λ t. restarts.time_done (call_cut x.0) f.drawn (prepare_time (lines_of some) p t) t) listed (λ t k. sym (ap (λ o. restarts.time_done (call_cut x.0) f.drawn o t) (prepare_time_is some p t) ∙ f.time t (pending_time some p t))) x.4.times;
             bounds = λ j o. x.4.bounds j o ∙ sym (ap (λ y. restarts.brought_done ls (lines_of some) p j y (call_cut x.0)) (br j) ∙ brought_done_eq some p j (brought some p j) x.0 x.2 x.3 rs);
             last = x.4.last ∙ sym (last_done_eq some p x.0 x.2);
           },

@@ -14,19 +14,21 @@ use Rattle.crdt_core.specs.declared.record.Record.TheVariants.{Lease, Prepare, D
 use Rattle.crdt_core.specs.Log.{end_of_time, ceiling, pending, prepare_time, last_decided, logged_bound, grown, MayFind}
 use Rattle.world_model.specs.Event.{Event, Ticked, Began, Updated, Read, Prepared, Decided, Finished, Aborted, Sent, Took, Reported, Heard, Crashed, RestartCut, Restarted, Refused, Opened, Cut, Entry, attempt, sent_count, WasNumbered}
 use Rattle.crdt_core.specs.KindsOf.{Kinds}
-use Rattle.world_model.specs.Partition.{PartState, Finds, IsOther, batch_of, records, done, MayDo, names_pending, PartStep}
+use Rattle.world_model.specs.Partition.{PartState, Finds, IsOther, batch_of, records, done, MayDo, PartStep}
 use Rattle.crdt_core.specs.Log.{lease_for}
 use Rattle.crdt_core.specs.Parts.{above}
 use Rattle.world_model.specs.Plan.{Plan, twin, IsAllowed, IsRun}
-use Rattle.world_model.specs.Shown.{listed_time, bound_after, bound_shown, pending_after, pending_shown, time_after, pending_time}
+use Rattle.world_model.specs.Shown.{bound_after, bound_shown, pending_after, pending_shown, time_after, pending_time}
 use Rattle.world_model.specs.Resumed.{is_call, IsTakeable, cut_call, is_some_part, brings, brought_after, brought, decided_after, last_shown, ResumesAt, Resume}
+use Rattle.world_model.specs.Listed.{AreTimed}
+use Rattle.world_model.proofs.Listed.{timed_as, timed_in}
 use Rattle.world_model.proofs.Names.{clash, part_cases, part_other}
 use Rattle.world_model.proofs.Moves.{grown_last}
 use Rattle.world_model.proofs.Fate.{Fate}
 use Rattle.world_model.proofs.Leases.{Leases}
 use Rattle.world_model.proofs.Kept.{law_plan}
 use Rattle.world_model.proofs.Later.{once_pending}
-use Rattle.world_model.proofs.Shows.{Shown, shown_run, here, listed_is}
+use Rattle.world_model.proofs.Shows.{Shown, shown_run, here}
 
 module _ {E : Type 0} where
   -- two logs tell the same of what is pending and of bounds
@@ -405,9 +407,9 @@ module _ {E : Type 0} where
     resumes_event : (event : Event E) (q : PartState E) → PartStep kinds plan.sites plan.parts at (before at) event q → ResumesAt plan run at event
     resumes_event (Restarted n b named listed) q st =
         let ends : (j : ℕ) → IsOther plan.sites at.site j → entry b j ≡ logged_bound q.log j = λ j o. st.shown_bounds.others j o ∙ st.bounds j o in
-        let times : (t : TxId) → names_pending listed t ≡ true → listed_time listed t ≡ prepare_time q.log t = λ t k. listed_is q.log listed t st.timed k in ⊎_elim
-        (λ (x : TellsBefore plan run at q.log). inl (record { members = λ t. st.members t ∙ x.waits t; times = λ t k. times t k ∙ x.since t (sym (st.members t) ∙ k); bounds = λ j o. ends j o ∙ x.upto j o; last = st.last ∙ x.decided }))
-        (λ (x : (what : Event E) × (cut_call run at ≡ Some what) × (is_call what ≡ true) × IsTakeable plan run at what × TellsDone plan run at what q.log). inr (x.0, x.1, x.2, x.3, record { members = λ t. st.members t ∙ x.4.waits t; times = λ t k. times t k ∙ x.4.since t (sym (st.members t) ∙ k); bounds = λ j o. ends j o ∙ x.4.upto j o; last = st.last ∙ x.4.decided }))
+        let times : AreTimed (prepare_time q.log) listed = timed_in q.log listed st.timed in ⊎_elim
+        (λ (x : TellsBefore plan run at q.log). inl (record { members = λ t. st.members t ∙ x.waits t; times = timed_as (prepare_time q.log) (pending_time run at) listed (λ t k. x.since t (sym (st.members t) ∙ k)) times; bounds = λ j o. ends j o ∙ x.upto j o; last = st.last ∙ x.decided }))
+        (λ (x : (what : Event E) × (cut_call run at ≡ Some what) × (is_call what ≡ true) × IsTakeable plan run at what × TellsDone plan run at what q.log). inr (x.0, x.1, x.2, x.3, record { members = λ t. st.members t ∙ x.4.waits t; times = timed_as (prepare_time q.log) (λ t. time_after t (pending_time run at t) x.0) listed (λ t k. x.4.since t (sym (st.members t) ∙ k)) times; bounds = λ j o. ends j o ∙ x.4.upto j o; last = st.last ∙ x.4.decided }))
         (tells_any q.log st.found)
     resumes_event event q st = tt
 

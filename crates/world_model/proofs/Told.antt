@@ -32,6 +32,7 @@ use Rattle.world_model.proofs.Fitted.{Good, good_run, lead_good, prepared_home}
 use Rattle.world_model.proofs.Whole.{suffix_all, all_fresh, fits}
 use Rattle.world_model.proofs.Law.{law_world, plan_fits}
 use Rattle.world_model.proofs.Asks.{aborts}
+use Rattle.world_model.proofs.PrepareTimes.{listed}
 
 or_none : (b : Bool) → (b || false) ≡ b
 or_none true = refl
@@ -98,6 +99,7 @@ module _ {E : Type 0} where
       down = down_is run p ∙ (sym (not_both (downs.is_down run p)) ∙ ap not (sym (ups kinds plan run state (fits kinds sites parts run state r run (all_fresh kinds sites parts run state r) (suffix_all run)) p)));
       waiting = λ t u. shows.waiting p t u ∙ sym (pending_is run p t);
       times = λ t u h. shows.time p t u h ∙ sym (prepare_time_is run p t);
+      listed = listed kinds sites parts run state r p;
       ended = λ t u s. committed_is plan run state kept.fate shows p u t ∙ (sym (ended_eq kinds sites parts run law run p t) ∙ (sym (or_none (is_ended_at (lines_of run) (lines_of run) p t)) ∙ ap (λ b. is_ended_at (lines_of run) (lines_of run) p t || b) (sym (unbrought kinds sites parts run law run p t (sym s)))));
       leads = λ t h. lead_is t ∙ of_lead t h;
       place = λ t h. subst (IsPlace sites parts) (sym (lead_is t)) (tried_place sites parts run law.places t (plan.lead t) (lead_tried t h));

@@ -9,6 +9,7 @@ pub mod Plan
 pub mod WorldLaw
 pub mod Meaning
 pub mod Shown
+pub mod Listed
 pub mod Logs
 pub mod Stable
 pub mod Clear
@@ -25,6 +26,7 @@ pub mod Clock
 pub mod History
 pub mod Dependency
 pub mod Pending
+pub mod Waiting
 pub mod Bounds
 pub mod Updates
 pub mod Commit
@@ -49,3 +51,4 @@ pub mod Meeting
 pub mod Settling
 pub mod ScriptCalls
 pub mod ScriptAnswers
+pub mod Fuses

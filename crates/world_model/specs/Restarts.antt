@@ -10,7 +10,8 @@ use Rattle.world_model.specs.declared.step.Step.TheVariants as step
 use Rattle.world_model.specs.Event.{is_named}
 use Rattle.world_model.specs.Partition.{IsOther, names_pending}
 use Rattle.world_model.specs.Plan.{twin}
-use Rattle.world_model.specs.Shown.{listed_time, IsBefore, AreInOrder, IsOwnBoundOf}
+use Rattle.world_model.specs.Shown.{IsBefore, AreInOrder, IsOwnBoundOf}
+use Rattle.world_model.specs.Listed.{AreTimed}
 use Rattle.world_model.specs.Lines.{Call, TakeOf, PrepareOf, DecideOf, FinishOf, AbortOf, Restart, Line}
 use Rattle.world_model.specs.Clock.{now}
 use Rattle.world_model.specs.History.{in_history, history, commit_time}
@@ -81,14 +82,14 @@ faulted (l ∷ ls) p = if same_part l.at p then fault_after (now ls p) (faulted 
 -- all that was pending is listed, with its time, and the bounds are those of messages that brought something
 pub record IsAsBefore (sites : ℕ) (whole before : List Line) (p : PartId) (shown : List ℕ) (named : Option TxId) (listed : List (TxId × ℕ)) : Type 0 where
   pub members : (t : TxId) → names_pending listed t ≡ pending before p t
-  pub times : (t : TxId) → names_pending listed t ≡ true → listed_time listed t ≡ prepare_time before p t
+  pub times : AreTimed (prepare_time before p) listed
   pub bounds : (j : ℕ) → IsOther sites p.site j → entry shown j ≡ brought whole before p j
   pub last : named ≡ last_decided before p
 
 -- the same, once this call was done, which drew this time
 pub record IsAsDone (sites : ℕ) (whole before : List Line) (p : PartId) (call : Call) (drawn : ℕ) (shown : List ℕ) (named : Option TxId) (listed : List (TxId × ℕ)) : Type 0 where
   pub members : (t : TxId) → names_pending listed t ≡ pending_done call (pending before p t) t
-  pub times : (t : TxId) → names_pending listed t ≡ true → listed_time listed t ≡ time_done call drawn (prepare_time before p t) t
+  pub times : AreTimed (λ t. time_done call drawn (prepare_time before p t) t) listed
   pub bounds : (j : ℕ) → IsOther sites p.site j → entry shown j ≡ brought_done whole before p j (brought whole before p j) call
   pub last : named ≡ decided_done (last_decided before p) call
 

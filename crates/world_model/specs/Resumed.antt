@@ -10,7 +10,8 @@ use Rattle.world_model.specs.Event.{Event, Decided, Took, Crashed, RestartCut, R
 use Rattle.world_model.specs.Partition.{IsOther, names_pending}
 use Rattle.crdt_core.specs.Parts.{above}
 use Rattle.world_model.specs.Plan.{Plan, MayTake}
-use Rattle.world_model.specs.Shown.{listed_time, bound_shown, pending_after, pending_shown, time_after, pending_time}
+use Rattle.world_model.specs.Listed.{AreTimed}
+use Rattle.world_model.specs.Shown.{bound_shown, pending_after, pending_shown, time_after, pending_time}
 
 module _ {E : Type 0} where
   -- a call of a partition
@@ -69,14 +70,14 @@ module _ {E : Type 0} where
   -- all that was pending is listed, with its time, and the bounds are those of messages that brought something
   pub record IsAsBefore (plan : Plan E) (run : List (Entry E)) (p : PartId) (b : List ℕ) (named : Option TxId) (listed : List (TxId × ℕ)) : Type 0 where
     pub members : (t : TxId) → names_pending listed t ≡ pending_shown run p t
-    pub times : (t : TxId) → names_pending listed t ≡ true → listed_time listed t ≡ pending_time run p t
+    pub times : AreTimed (pending_time run p) listed
     pub bounds : (j : ℕ) → IsOther plan.sites p.site j → entry b j ≡ brought run p j
     pub last : named ≡ last_shown run p
 
   -- the same, once this call was done
   pub record IsAsDone (plan : Plan E) (run : List (Entry E)) (p : PartId) (what : Event E) (b : List ℕ) (named : Option TxId) (listed : List (TxId × ℕ)) : Type 0 where
     pub members : (t : TxId) → names_pending listed t ≡ pending_after t (pending_shown run p t) what
-    pub times : (t : TxId) → names_pending listed t ≡ true → listed_time listed t ≡ time_after t (pending_time run p t) what
+    pub times : AreTimed (λ t. time_after t (pending_time run p t) what) listed
     pub bounds : (j : ℕ) → IsOther plan.sites p.site j → entry b j ≡ brought_after run p j (brought run p j) what
     pub last : named ≡ decided_after (last_shown run p) what
 

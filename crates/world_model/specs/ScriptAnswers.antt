@@ -1,6 +1,8 @@
 -- The run of a cluster answers its script. What a command meets before any partition is asked is told by the run before; what a
 -- partition answers is exact by the law of lines, over the calls of the run.
 use Rattle.std.specs.Prelude.{◌≡◌, ◌≢◌, ℕ, ◌+◌, ◌-◌, Bool, true, false, ◌&&◌, List, [], ◌∷◌, length, Option, None, Some, ⊤}
+use Rattle.site_vector.specs.declared.ids.PartId.{PartId}
+use Rattle.site_vector.specs.declared.ids.TxId.{TxId}
 use Rattle.world_model.specs.declared.command.Command.{Command}
 use Rattle.world_model.specs.declared.command.Command.TheVariants as command
 use Rattle.world_model.specs.declared.commit.Next.{Next}
@@ -14,10 +16,12 @@ use Rattle.world_model.specs.CommitSteps.{Going, given_up, is_done, after}
 use Rattle.world_model.specs.Phases.{going_of, phase}
 use Rattle.world_model.specs.Messages.{messages, reports}
 use Rattle.world_model.specs.Meeting.{met}
-use Rattle.world_model.specs.ScriptCalls.{is_answer, calls_of}
-use Rattle.world_model.specs.Settling.{expired, IsSettled}
+use Rattle.world_model.specs.Pending.{is_down}
+use Rattle.world_model.specs.ScriptCalls.{is_answer, is_called, calls_of}
+use Rattle.world_model.specs.Settling.{asks_abort, looked_up, SettlesAll}
+use Rattle.world_model.specs.Waiting.{waiting}
 
--- until there are disks no partition fails, is down or runs out of room
+-- no partition fails, is down or runs out of room
 abbrev pub is_sound : Step → Bool
 is_sound (step.Down p) = false
 is_sound (step.Disk p) = false
@@ -26,9 +30,9 @@ is_sound (step.Damaged p at) = false
 is_sound (step.Full room) = false
 is_sound other = true
 
--- a partition that is up gave this line
-abbrev pub is_up : Step → Bool
-is_up s = is_answer s && is_sound s
+abbrev pub are_sound : List Step → Bool
+are_sound [] = true
+are_sound (s ∷ rest) = is_sound s && are_sound rest
 
 -- the line names the session, the message or the report of its command; a new message or report has the next number
 abbrev pub Bears : Run → Command → Step → Type 0
@@ -43,9 +47,9 @@ Bears run (command.Deliver k) (step.Gap number have) = number ≡ k
 Bears run (command.Hear k p) (step.Heard number q stable) = number ≡ k
 Bears run c other = ⊤
 
--- one line, which the partition answered
+-- one line, for which the partition was asked
 abbrev pub IsOneAnswer : Run → Command → List Step → Type 0
-IsOneAnswer run c steps = (s : Step) × (steps ≡ s ∷ []) × (is_up s ≡ true) × Bears run c s
+IsOneAnswer run c steps = (s : Step) × (steps ≡ s ∷ []) × (is_called (Some c) s ≡ true) × Bears run c s
 
 abbrev pub fewer : Option ℕ → Option ℕ
 fewer None = None
@@ -66,11 +70,23 @@ abbrev pub Steps : List ℕ → Going → Option ℕ → List Step → Type 0
 Steps name g k [] = (is_done g ≡ false) × (k ≡ Some 0)
 Steps name g k (s ∷ rest) = Either (is_done g)
     ((s ≡ step.Ended name) × (rest ≡ []))
-    ((k ≢ Some 0) × (is_up s ≡ true) × Then (after g s).1 (rest ≡ []) (Steps name (after g s).0 (fewer k) rest))
+    ((k ≢ Some 0) × (is_answer s ≡ true) × Then (after g s).1 (rest ≡ []) (Steps name (after g s).0 (fewer k) rest))
 
 abbrev pub StepsOf : List ℕ → Option Going → (Going → Going) → Option ℕ → List Step → Type 0
 StepsOf name None f k steps = ⊥
 StepsOf name (Some g) f k steps = Steps name (f g) k steps
+
+-- an expire asks the lead of what is pending there for an abort, and else only looks up; a partition that is down says so
+abbrev pub IsExpired : Run → PartId → TxId → List Step → Type 0
+IsExpired run p t steps = Either (is_down (calls_of run) p)
+    (steps ≡ step.Down p ∷ [])
+    (Either (asks_abort (parts_of run) (calls_of run) p t) (IsOneAnswer run (command.Expire p t) steps) (steps ≡ looked_up (calls_of run) p t ∷ []))
+
+-- a settle ends what waits at p as its leads did; a partition that is down says so
+abbrev pub IsSettled : Run → PartId → List Step → Type 0
+IsSettled run p steps = Either (is_down (calls_of run) p)
+    (steps ≡ step.Down p ∷ [])
+    (SettlesAll (parts_of run) (calls_of run) p (waiting (calls_of run) p) steps)
 
 -- the lines of a command that meets no refusal
 abbrev pub Replies : Run → Command → List Step → Type 0
@@ -82,21 +98,20 @@ Replies run (command.DropMessage number) steps = steps ≡ step.DroppedMessage n
 Replies run (command.DropReport number) steps = steps ≡ step.DroppedReport number ∷ []
 Replies run (command.Commit name k) steps = StepsOf name (going_of (parts_of run) (phase run name)) (λ g. g) k steps
 Replies run (command.Abort name) steps = StepsOf name (going_of (parts_of run) (phase run name)) given_up None steps
-Replies run (command.Expire p t) steps = steps ≡ expired (parts_of run) (calls_of run) p t ∷ []
-Replies run (command.Settle p) steps = IsSettled (parts_of run) (calls_of run) p steps
--- these need disks
-Replies run (command.Crash p) steps = ⊥
-Replies run (command.Fuse p k n) steps = ⊥
-Replies run (command.Restart p) steps = ⊥
+Replies run (command.Expire p t) steps = IsExpired run p t steps
+Replies run (command.Settle p) steps = IsSettled run p steps
+Replies run (command.Crash p) steps = steps ≡ step.Crashed p ∷ []
+Replies run (command.Fuse p k n) steps = steps ≡ step.Fused p k n ∷ []
 Replies run c steps = IsOneAnswer run c steps
 
 abbrev pub AnswersBy : Run → Command → List Step → Option Step → Type 0
 AnswersBy run c steps None = Replies run c steps
 AnswersBy run c steps (Some refused) = steps ≡ refused ∷ []
 
--- these lines, the first first, answer a command after this run, where these commands are built
+-- these lines, the first first, answer a command after this run, where these commands are built; until there are disks no
+-- partition fails, is down or runs out of room
 abbrev pub IsAnswer : (Command → Bool) → Run → Command → List Step → Type 0
-IsAnswer is_built run c steps = AnswersBy run c steps (met is_built run c)
+IsAnswer is_built run c steps = AnswersBy run c steps (met is_built run c) × (are_sound steps ≡ true)
 
 -- the run goes on with the answer to the line of this number
 abbrev pub GoesOn : (Command → Bool) → ℕ → Run → Asked → Run → Type 0

@@ -13,12 +13,13 @@ use Rattle.world_model.specs.declared.step.Step.TheVariants as step
 use Rattle.world_model.specs.Run.{Run}
 use Rattle.world_model.specs.Cluster.{sites_of, parts_of}
 use Rattle.world_model.specs.Lines as world
-use Rattle.world_model.specs.Lines.{Call, Tick, Begin, ReadOf, UpdateOf, PrepareOf, DecideOf, FinishOf, AbortOf, SendTo, TakeOf, HearOf, Crash}
+use Rattle.world_model.specs.Lines.{Call, Tick, Begin, ReadOf, UpdateOf, PrepareOf, DecideOf, FinishOf, AbortOf, SendTo, TakeOf, HearOf, Crash, Restart}
 use Rattle.world_model.specs.Dependency.{dependency}
 use Rattle.world_model.specs.CommitSteps.{Going, starting, given_up, next_step}
 use Rattle.world_model.specs.Phases.{Phase, Open, Ending, holders, phase}
 use Rattle.world_model.specs.Messages.{Letter, Notice, message_of, report_of, sent_count, report_count}
 use Rattle.world_model.specs.Meeting.{begin_place}
+use Rattle.world_model.specs.Settling.{settling}
 
 -- a partition answered: every line but these
 abbrev pub is_answer : Step → Bool
@@ -45,6 +46,7 @@ is_answer (step.DroppedMessage number) = false
 is_answer (step.DroppedReport number) = false
 is_answer (step.Pending p t) = false
 is_answer (step.Settled p) = false
+is_answer (step.Fused p k n) = false
 is_answer other = true
 
 -- an expire asks for an abort alone, and only looks up what is finished or gone
@@ -107,18 +109,14 @@ asked_of ls run (command.Deliver number) = for_message (message_of run number)
 asked_of ls run (command.Report p) = record { at = p; call = world.Report }
 asked_of ls run (command.Hear number p) = for_report p (report_of run number)
 asked_of ls run (command.Expire p t) = record { at = p; call = AbortOf t }
+asked_of ls run (command.Crash p) = record { at = p; call = Crash }
+asked_of ls run (command.Restart p) = record { at = p; call = Restart }
 asked_of ls run other = nowhere
-
--- a settle asks for what its line shows
-abbrev pub settling : Step → Call
-settling (step.Finished p t) = FinishOf t
-settling (step.Aborted p t) = AbortOf t
-settling other = Crash
 
 -- what was asked of which partition for this line
 abbrev pub asked_by : List world.Line → Run → Option Command → Step → Placed
 asked_by ls run None s = nowhere
-asked_by ls run (Some (command.Settle p)) s = record { at = p; call = settling s }
+asked_by ls run (Some (command.Settle p)) s = record { at = p; call = settling (parts_of run) ls p s }
 asked_by ls run (Some c) s = asked_of ls run c
 
 abbrev pub own_of : Option Letter → ℕ

@@ -12,11 +12,14 @@ use Rattle.world_model.specs.Partition.{PartState, ToldCommitted, ToldAborted, f
 use Rattle.world_model.specs.Pending as lines
 use Rattle.world_model.specs.Plan.{IsPlace, IsAllowed}
 use Rattle.world_model.specs.Updates.{lead}
+use Rattle.world_model.specs.Waiting.{waiting, ArePending}
 use Rattle.world_model.specs.World.{plan_of, IsWorldRun}
 
 module _ {E : Type 0} where
   pub record Told (sites parts : ℕ) (run : List (Entry E)) (state : PartId → PartState E) (p : PartId) : Type 0 where
     pub down : lines.is_down (lines_of run) p ≡ not (state p).up
+    -- `waiting` of the lines is all that is pending
+    pub listed : ArePending (lines_of run) p (waiting (lines_of run) p)
     pub waiting : (t : TxId) → (state p).up ≡ true → pending (state p).log t ≡ lines.pending (lines_of run) p t
     pub times : (t : TxId) → (state p).up ≡ true → pending (state p).log t ≡ true → prepare_time (state p).log t ≡ lines.prepare_time (lines_of run) p t
     pub ended : (t : TxId) → (state p).up ≡ true → t.site ≡ p.site → committed (state p).log t ≡ is_committed_at (lines_of run) (lines_of run) p t
