@@ -2,7 +2,7 @@
 use Rattle.std.proofs.Common.{◌≡◌, ℕ, ◌+◌, List, [], ◌∷◌, ◌++◌, ◌-◌, length, take, drop, min, ◌==◌, true, refl, sym, ap, ◌∙◌, subst, append_assoc}
 use Rattle.std.proofs.lemmas.List.{append-nil, take-append-drop}
 use Rattle.dc_engine.specs.Replies.{AnswersLine}
-use Rattle.script_text.specs.Split.{HasNoEnd}
+use Rattle.script_text.specs.Ends.{HasNoEnd}
 use Rattle.dc_engine.specs.Blocks.{EndsAt, Stands, At, Moves, MovesPart}
 use Rattle.dc_engine.proofs.Standing.{stands_piece, stands_end}
 use Rattle.dc_engine.proofs.Takes.{take-cut, front_of, rest_of}

@@ -5,7 +5,7 @@ use Rattle.std.proofs.lemmas.List.{append-nil, take_all}
 use Rattle.std.proofs.lemmas.Bool.{ne_eqb, eq-eqb, eqb-true}
 use Rattle.memchr.specs.Find.{IsFirstByte, is_byte}
 use Rattle.dc_engine.specs.Lines.{onto, lines_of, onto_first, ended_lines}
-use Rattle.script_text.specs.Split.{HasNoEnd}
+use Rattle.script_text.specs.Ends.{HasNoEnd}
 use Rattle.dc_engine.specs.Blocks.{EndsAt, prefixed, prefixed_first, Stands}
 
 prefixed-append : (front back : List ℕ) (lines : List (List ℕ)) → prefixed (front ++ back) lines ≡ prefixed front (prefixed back lines)

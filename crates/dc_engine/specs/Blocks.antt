@@ -1,7 +1,7 @@
 -- How a script is read block by block.
 use Rattle.std.specs.Prelude.{◌≡◌, ℕ, zero, suc, ◌+◌, ◌-◌, ◌<◌, ◌≤◌, Result, Ok, Err, Bool, true, false, List, [], ◌∷◌, ◌++◌, length, take, drop, Option}
 use Rattle.std.specs.Io.KnownBytes.{Appends, Consumes, IsAtEnd}
-use Rattle.script_text.specs.Split.{HasNoEnd}
+use Rattle.script_text.specs.Ends.{HasNoEnd}
 use Rattle.dc_engine.specs.Replies.{Replies}
 use Rattle.dc_engine.specs.Played.{Played, PlayedEnded, PlayedTooLong, PlayedPart}
 use Rattle.dc_engine.specs.declared.fault.Fault.{Fault}

@@ -1,6 +1,6 @@
 ghost use Rattle.std.specs.Prelude.{◌≡◌, ◌++◌, ◌∷◌, [], length, take, IfSome, IfNone, OnOk, OnErr};
 ghost use Rattle.dc_engine.specs.Replies.{AnswersLine};
-ghost use Rattle.script_text.specs.Split.{HasNoEnd};
+ghost use Rattle.script_text.specs.Ends.{HasNoEnd};
 ghost use Rattle.dc_engine.specs.Blocks.{EndsAt, Moves, MovesPart};
 
 use crate::kept::Kept;

@@ -42,12 +42,13 @@ pub(crate) fn taken<C: Crdt>(
     kind: Kind,
     at: usize,
     bytes: &[u8],
-) -> Result<String, AllocError> {
-    let mut out = String::new(alloc);
-    if at > bytes.len() || !C::has(kind) {
-        out.push_str("no place\n")?;
-        return Ok(out);
+) -> Result<String, AllocError>
+    requires { C.has kind ≡ true }
+{
+    if at > bytes.len() {
+        return String::from_str(alloc, "no place\n");
     }
+    let mut out = String::new(alloc);
     match C::take_effect(alloc, kind, bytes, at) {
         Ok((effect, end)) => {
             write!(out, "up to {end}, put as ")?;

@@ -46,12 +46,7 @@ fn list_again<F: Form>(
 }
 
 /// The number at a place is put again.
-fn number_again(
-    name: &str,
-    out: &mut Vec<u8>,
-    bytes: &[u8],
-    at: usize,
-) -> Result<usize, TakeError>
+fn number_again(name: &str, out: &mut Vec<u8>, bytes: &[u8], at: usize) -> Result<usize, TakeError>
     requires { at ≤ length bytes.now }
     ensures { IfOk result (λ end. end ≤ length bytes.now) }
 {
@@ -88,12 +83,7 @@ fn tx_again(out: &mut Vec<u8>, bytes: &[u8], at: usize) -> Result<usize, TakeErr
     Ok(end)
 }
 
-fn dots_again(
-    alloc: Global,
-    out: &mut Vec<u8>,
-    bytes: &[u8],
-    at: usize,
-) -> Result<usize, TakeError>
+fn dots_again(alloc: Global, out: &mut Vec<u8>, bytes: &[u8], at: usize) -> Result<usize, TakeError>
     requires { at ≤ length bytes.now }
     ensures { IfOk result (λ end. end ≤ length bytes.now) }
 {

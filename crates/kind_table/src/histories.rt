@@ -1,5 +1,5 @@
 // Histories of updates, each made on what it has seen, and what an object then shows.
-ghost use Rattle.std.specs.Prelude.{◌≡◌, true, IfOk};
+ghost use Rattle.std.specs.Prelude.{◌≡◌, true, IfOk, OnOk};
 ghost use Rattle.crdt_core.specs.EffectForm.{HoldsSpelled};
 
 use crate::acts::op_of;
@@ -19,6 +19,23 @@ fn place_of(byte: u8) -> usize {
     }
 }
 
+/// Applies the effect of an update of a site, by its number from 0.
+fn apply_one<C: Crdt>(
+    alloc: Global,
+    kind: Kind,
+    state: &mut C::State,
+    site: u8,
+    number: usize,
+    effect: &C::Effect,
+) -> Result<(), AllocError>
+    requires has { C.has kind ≡ true }
+    requires spelled { HoldsSpelled C.holds state.old }
+    ensures { OnOk result (HoldsSpelled C.holds state.new) }
+{
+    C::apply(alloc, state, dot_of(site, number), effect)?;
+    Ok(())
+}
+
 /// The state after these updates, in this order.
 fn state_of<C: Crdt>(
     alloc: Global,
@@ -33,7 +50,7 @@ fn state_of<C: Crdt>(
     for byte in order.as_bytes() {
         let number = place_of(*byte);
         if let Some((site, effect)) = made.get(number) {
-            C::apply(alloc, &mut state, dot_of(*site, number), effect)?;
+            apply_one::<C>(alloc, kind, &mut state, *site, number, effect)?;
         }
     }
     Ok(state)
@@ -129,7 +146,8 @@ fn put_read<C: Crdt>(
 {
     let state = state_of::<C>(alloc, kind, made, order)?;
     let copied = C::copy(alloc, &state)?;
-    put_value(out, &C::value(alloc, &copied)?)?;
+    let value = C::value(alloc, &copied)?;
+    put_value(out, &value.copy(alloc)?)?;
     if C::is_blank(&copied) {
         return out.push_str(", blank");
     }
@@ -158,11 +176,10 @@ pub(crate) fn played<C: Crdt>(
     alloc: Global,
     kind: Kind,
     history: &str,
-) -> Result<String, AllocError> {
+) -> Result<String, AllocError>
+    requires { C.has kind ≡ true }
+{
     let mut out = String::new(alloc);
-    if !C::has(kind) {
-        return Ok(out);
-    }
     let mut made = Vec::new(alloc);
     for piece in history.as_bytes().split(|byte| *byte == b'|') {
         let words = words_of(alloc, piece)?;

@@ -39,6 +39,9 @@ fn answered<C: Crdt>(
     kind: Kind,
     question: Question<'_>,
 ) -> Result<String, AllocError> {
+    if !C::has(kind) {
+        return String::from_str(alloc, "the type has no such kind\n");
+    }
     match question {
         Question::History(history) => histories::played::<C>(alloc, kind, history),
         Question::Bytes(at, bytes) => effects::taken::<C>(alloc, kind, at, bytes),
@@ -190,7 +193,11 @@ fn answer_kind(out: &mut String, code: &str) -> Result<(), AllocError> {
     };
     let name = kind_name(kind);
     let code = kind.code();
-    writeln!(out, "{name}, code {code}, reads the state: {}", reads_state(kind))
+    writeln!(
+        out,
+        "{name}, code {code}, reads the state: {}",
+        reads_state(kind)
+    )
 }
 
 fn answer_fits(

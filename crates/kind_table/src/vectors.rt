@@ -13,10 +13,7 @@ fn vector_of(alloc: Global, word: &str) -> Result<Option<VTime>, AllocError> {
     let mut entries = Vec::new(alloc);
     let mut count: u8 = 0;
     for piece in word.as_bytes().split(|byte| *byte == b',') {
-        put_u64(
-            &mut entries,
-            number_of(str::from_utf8(piece).unwrap_or("")),
-        )?;
+        put_u64(&mut entries, number_of(str::from_utf8(piece).unwrap_or("")))?;
         count = count.saturating_add(1);
     }
     let mut bytes = Vec::new(alloc);

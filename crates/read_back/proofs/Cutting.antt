@@ -7,7 +7,8 @@ use Rattle.std.specs.List.{filter, list_all}
 use Rattle.json.proofs.Printed.Strings.{escape_byte_plain}
 use Rattle.json.specs.Print.{escape_byte, escape, quoted}
 use Rattle.script_words.specs.Bare.{is_bare, is_bare_byte}
-use Rattle.script_text.specs.Split.{Where, outside, within, after_backslash, after, onto_first, pieces, is_some_bytes, words, space, quote, backslash, HasNoEnd}
+use Rattle.script_text.specs.Split.{Where, outside, within, after_backslash, after, onto_first, pieces, is_some_bytes, words, space, quote, backslash}
+use Rattle.script_text.specs.Ends.{HasNoEnd}
 use Rattle.reply_text.specs.Places.{word_text}
 use Rattle.read_back.specs.ReadBack.{IsOneWord}
 

@@ -2,7 +2,8 @@
 use Rattle.std.specs.Prelude.{◌≡◌, ℕ, ◌^◌, ◌<◌, ◌≤◌, ℤ, pos, negsuc, List, [], ◌∷◌, ◌++◌, flat_map, Option, Some}
 use Rattle.crdt_core.specs.declared.object.ObjectId.{ObjectId}
 use Rattle.world_model.specs.declared.step.Step.{Step}
-use Rattle.script_text.specs.Split.{words, space, HasNoEnd}
+use Rattle.script_text.specs.Split.{words, space}
+use Rattle.script_text.specs.Ends.{HasNoEnd}
 use Rattle.script_text.specs.Objects.{object, bucket}
 use Rattle.reply_text.specs.Places.{object_text}
 use Rattle.reply_text.specs.Text.{text_of, words_of, line_feed}

@@ -7,3 +7,4 @@ pub mod Grammar
 pub mod Acts
 pub mod Objects
 pub mod Line
+pub mod Ends

@@ -1,5 +1,5 @@
 -- The words of a line: what stands between spaces, where a space within quotes is a byte of its word.
-use Rattle.std.specs.Prelude.{◌≢◌, ℕ, Bool, true, false, ◌==◌, List, [], ◌∷◌, if◌then◌else◌, ⊤}
+use Rattle.std.specs.Prelude.{ℕ, Bool, true, false, ◌==◌, List, [], ◌∷◌, if◌then◌else◌}
 use Rattle.std.specs.List.{filter}
 
 -- where a byte stands: outside of quotes, within them, or after a backslash within them
@@ -44,8 +44,3 @@ is_some_bytes (c ∷ cs) = true
 
 abbrev pub words : List ℕ → List (List ℕ)
 words line = filter is_some_bytes (pieces outside line)
-
--- no byte is a LF, which ends a line
-abbrev pub HasNoEnd : List ℕ → Type 0
-HasNoEnd [] = ⊤
-HasNoEnd (b ∷ bytes) = (b ≢ 10) × HasNoEnd bytes
