@@ -1,6 +1,5 @@
 -- What a log whose records are spelled holds has ids that can be spelled.
-use Rattle.std.proofs.Common.{◌≡◌, ⊎_elim, ℕ, Bool, true, false, ◌&&◌, ◌||◌, List, [], ◌∷◌, refl, sym, ap, ◌∙◌, subst}
-use Rattle.std.specs.Prelude.{if◌then◌else◌}
+use Rattle.std.proofs.Common.{◌≡◌, ⊎_elim, ℕ, Bool, true, false, ◌&&◌, ◌||◌, List, [], ◌∷◌, refl, sym, ◌∙◌, subst}
 use Rattle.std.specs.List.{list_all}
 use Rattle.std.proofs.lemmas.Bool.{false≢true, or_cases, or_left, or_right}
 use Rattle.disk_core.specs.States.{DiskState}
@@ -18,12 +17,12 @@ use Rattle.crdt_core.specs.declared.record.Record.{Record}
 use Rattle.crdt_core.specs.declared.record.Record.TheVariants.{Lease, Prepare, Decide, Finish, Abort, Batch}
 use Rattle.crdt_core.specs.Contents.{Content}
 use Rattle.crdt_core.specs.EffectForm.{SpellsEffects}
-use Rattle.crdt_core.specs.Log.{committed, taken, prepared, prepared_changes, taken_changes, holds, held_changes, held_at}
+use Rattle.crdt_core.specs.Log.{committed, taken, prepared_changes, taken_changes, holds, held_changes, held_at}
 use Rattle.crdt_core.specs.Parts.{lists, changes_in, AreParts}
-use Rattle.crdt_core.specs.Spelled.{is_between, is_tx, is_vector, is_object}
+use Rattle.crdt_core.specs.Spelled.{is_between, is_tx, is_vector}
 use Rattle.log_records.specs.Updates.{has_some, is_update_spelled, are_updates_spelled, index_below}
 use Rattle.log_records.specs.Parts.{part_cmp, is_part_spelled, are_parts_spelled}
-use Rattle.log_records.specs.Messages.{is_message_spelled, head_in}
+use Rattle.log_records.specs.Messages.{head_in}
 use Rattle.log_records.specs.Heads.{is_head}
 use Rattle.log_records.specs.Records.{is_record_spelled}
 use Rattle.partition_log.specs.Codec.{codec_of}

@@ -1,17 +1,16 @@
 -- What a partition on its disk sends can be put, since its log is spelled.
-use Rattle.std.proofs.Common.{◌≡◌, ℕ, ◌<◌, ◌≤◌, Bool, true, false, ◌&&◌, nat_le, List, [], ◌∷◌, Option, None, Some, refl, sym, ap, ◌∙◌, subst}
+use Rattle.std.proofs.Common.{◌≡◌, ℕ, ◌<◌, Bool, true, false, nat_le, List, [], ◌∷◌, Option, None, Some, refl, sym, ap, ◌∙◌, subst}
 use Rattle.std.specs.List.{list_all}
 use Rattle.std.specs.Ordering.{is_lt}
 use Rattle.std.proofs.lemmas.Bool.{false≢true, or_left, or_right, and_parts}
 use Rattle.disk_core.specs.States.{DiskState}
 use Rattle.field_codec.specs.FormLaws.{both_true, and_true, le_from}
 use Rattle.field_codec.specs.Reading.{Read}
-use Rattle.field_codec.specs.Spelling.{may_follow, are_in_order, is_below}
+use Rattle.field_codec.specs.Spelling.{are_in_order, is_below}
 use Rattle.site_vector.specs.declared.ids.TxId.{TxId}
 use Rattle.site_vector.specs.Ids.{same_tx}
 use Rattle.site_vector.specs.Order.{same_tx_refl}
 use Rattle.crdt_core.specs.declared.kind.Kind.{Kind}
-use Rattle.crdt_core.specs.declared.record.Upd.{Upd}
 use Rattle.crdt_core.specs.declared.record.Part.{Part}
 use Rattle.crdt_core.specs.declared.record.Message.{Message}
 use Rattle.crdt_core.specs.declared.record.Record.{Record}
@@ -22,7 +21,7 @@ use Rattle.crdt_core.specs.Log.{committed, committed_at, prepared_changes}
 use Rattle.crdt_core.specs.Orders.{Precede, Ascends, stream_cmp}
 use Rattle.crdt_core.specs.Parts.{lists, AreParts}
 use Rattle.crdt_core.specs.Spelled.{is_between, is_tx}
-use Rattle.log_records.specs.Updates.{has_some, can_put_updates, are_updates_spelled, updates_form}
+use Rattle.log_records.specs.Updates.{has_some, can_put_updates, updates_form}
 use Rattle.log_records.specs.Parts.{part_cmp, can_put_part, can_put_parts}
 use Rattle.log_records.specs.Messages.{can_put_message}
 use Rattle.log_records.specs.Records.{is_record_spelled}

@@ -219,7 +219,7 @@ impl<C: Crdt, D: Disk + Drop> DurablePartition<C, D> {
 
     /// The effect of an operation on an object under a transaction's snapshot, with the transaction's own earlier
     /// updates of the object, in the order of their numbers; and its stamp, if its kind has stamps. The caller gives it
-    /// its number.
+    /// its number. The effect can be put, where the transaction's id and those numbers can be.
     ///
     /// # Errors
     ///
@@ -246,7 +246,7 @@ impl<C: Crdt, D: Disk + Drop> DurablePartition<C, D> {
     }
 
     /// A message to another site, up to the own bound: all that was committed here above a time that is given, or else
-    /// above the end of the last message to that site.
+    /// above the end of the last message to that site. It can be put, where each of its parts has an update.
     ///
     /// # Errors
     ///
