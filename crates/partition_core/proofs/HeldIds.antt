@@ -1,6 +1,5 @@
 -- What a log whose records are spelled holds has ids that can be spelled.
-use Rattle.std.proofs.Common.{◌≡◌, ⊎_elim, ℕ, Bool, true, false, ◌&&◌, ◌||◌, List, [], ◌∷◌, refl, sym, ap, ◌∙◌, subst}
-use Rattle.std.specs.Prelude.{if◌then◌else◌}
+use Rattle.std.proofs.Common.{◌≡◌, ⊎_elim, ℕ, Bool, true, false, ◌&&◌, ◌||◌, List, [], ◌∷◌, refl, sym, ◌∙◌, subst}
 use Rattle.std.specs.List.{list_all}
 use Rattle.std.proofs.lemmas.Bool.{false≢true, or_cases, or_left, or_right}
 use Rattle.disk_core.specs.States.{DiskState}
@@ -18,12 +17,12 @@ use Rattle.crdt_core.specs.declared.record.Record.{Record}
 use Rattle.crdt_core.specs.declared.record.Record.TheVariants.{Lease, Prepare, Decide, Finish, Abort, Batch}
 use Rattle.crdt_core.specs.Contents.{Content}
 use Rattle.crdt_core.specs.EffectForm.{SpellsEffects}
-use Rattle.crdt_core.specs.Log.{committed, taken, prepared, prepared_changes, taken_changes, holds, held_changes, held_at}
+use Rattle.crdt_core.specs.Log.{committed, taken, prepared_changes, taken_changes, holds, held_changes, held_at}
 use Rattle.crdt_core.specs.Parts.{lists, changes_in, AreParts}
-use Rattle.crdt_core.specs.Spelled.{is_between, is_tx, is_vector, is_object}
+use Rattle.crdt_core.specs.Spelled.{is_between, is_tx, is_vector}
 use Rattle.log_records.specs.Updates.{has_some, is_update_spelled, are_updates_spelled, index_below}
 use Rattle.log_records.specs.Parts.{part_cmp, is_part_spelled, are_parts_spelled}
-use Rattle.log_records.specs.Messages.{is_message_spelled, head_in}
+use Rattle.log_records.specs.Messages.{head_in}
 use Rattle.log_records.specs.Heads.{is_head}
 use Rattle.log_records.specs.Records.{is_record_spelled}
 use Rattle.partition_log.specs.Codec.{codec_of}
@@ -90,17 +89,21 @@ module _ {E : Type 0} (has : Kind → Bool) (is_of : Kind → E → Bool) (is_sp
       (λ (b : lists xs t ≡ true). listed_tx xs t two.1 b)
       (or_cases (same_tx x.tx t) (lists xs t) k)
 
-  prepared_numbered : (log : List (Record E)) (t : TxId) → Spelled log → are_numbered (prepared_changes log t) ≡ true
-  prepared_numbered [] t h = refl
-  prepared_numbered (Lease n ∷ log) t h = prepared_numbered log t (second_of (is_number 8 n) _ h)
-  prepared_numbered (Prepare u l n s w ∷ log) t h =
+  -- what is told that a transaction changed is nothing, or what its record has
+  pub changes_told : (P : List (Upd E) → Type 0) → P [] → ((w : List (Upd E)) → updates_are w ≡ true → P w) → (log : List (Record E)) (t : TxId) → Spelled log → P (prepared_changes log t)
+  changes_told P none some [] t h = none
+  changes_told P none some (Lease n ∷ log) t h = changes_told P none some log t (second_of (is_number 8 n) _ h)
+  changes_told P none some (Prepare u l n s w ∷ log) t h =
       let two = both_true (is_record_spelled has is_of is_spelled (Prepare u l n s w)) _ h in
       let updates = second_of (is_vector s) (updates_are w) (second_of (is_number 8 n) _ (second_of (is_number 1 l) _ (second_of (is_tx u) _ two.0))) in
-      chosen (λ us. are_numbered us ≡ true) (same_tx u t) w (prepared_changes log t) (λ _. numbered w updates) (λ _. prepared_numbered log t two.1)
-  prepared_numbered (Decide u c ∷ log) t h = prepared_numbered log t (second_of (is_tx u && is_vector c) _ h)
-  prepared_numbered (Finish u c ∷ log) t h = prepared_numbered log t (second_of (is_tx u && is_vector c) _ h)
-  prepared_numbered (Abort u ∷ log) t h = prepared_numbered log t (second_of (is_tx u) _ h)
-  prepared_numbered (Batch m ∷ log) t h = prepared_numbered log t (second_of (is_record_spelled has is_of is_spelled (Batch m)) _ h)
+      chosen P (same_tx u t) w (prepared_changes log t) (λ _. some w updates) (λ _. changes_told P none some log t two.1)
+  changes_told P none some (Decide u c ∷ log) t h = changes_told P none some log t (second_of (is_tx u && is_vector c) _ h)
+  changes_told P none some (Finish u c ∷ log) t h = changes_told P none some log t (second_of (is_tx u && is_vector c) _ h)
+  changes_told P none some (Abort u ∷ log) t h = changes_told P none some log t (second_of (is_tx u) _ h)
+  changes_told P none some (Batch m ∷ log) t h = changes_told P none some log t (second_of (is_record_spelled has is_of is_spelled (Batch m)) _ h)
+
+  prepared_numbered : (log : List (Record E)) (t : TxId) → Spelled log → are_numbered (prepared_changes log t) ≡ true
+  prepared_numbered log t h = changes_told (λ us. are_numbered us ≡ true) refl numbered log t h
 
   taken_numbered : (log : List (Record E)) (t : TxId) → Spelled log → are_numbered (taken_changes log t) ≡ true
   taken_numbered [] t h = refl
@@ -121,7 +124,7 @@ module _ {E : Type 0} (has : Kind → Bool) (is_of : Kind → E → Bool) (is_sp
       (λ (b : before ≡ true). rest b)
       (or_cases (same_tx u t) before k)
 
-  committed_tx : (log : List (Record E)) (t : TxId) → Spelled log → committed log t ≡ true → is_tx t ≡ true
+  pub committed_tx : (log : List (Record E)) (t : TxId) → Spelled log → committed log t ≡ true → is_tx t ≡ true
   committed_tx [] t h k = absurd (false≢true k)
   committed_tx (Lease n ∷ log) t h k = committed_tx log t (second_of (is_number 8 n) _ h) k
   committed_tx (Prepare u l n s w ∷ log) t h k = committed_tx log t (second_of (is_record_spelled has is_of is_spelled (Prepare u l n s w)) _ h) k

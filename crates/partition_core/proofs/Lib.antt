@@ -28,5 +28,6 @@ mod Waiting
 mod Folding
 mod Numbering
 mod HeldIds
+mod Sending
 mod ReadCall
 pub mod Callers

@@ -17,7 +17,7 @@ ghost use Rattle.world_model.specs.Event as event;
 ghost use Rattle.world_model.specs.Partition.{IsOther, PartState, fate_of};
 ghost use Rattle.partition_core.specs.Answers.{fate_told};
 ghost use Rattle.partition_core.specs.Durable.{StandsOn, is_down};
-ghost use Rattle.partition_core.specs.Messages.{AreApart, AreWideParts};
+ghost use Rattle.partition_core.specs.Messages.{AreApart, AreWideParts, have_updates};
 ghost use Rattle.partition_core.specs.Moments.{CallsOn};
 ghost use Rattle.partition_core.specs.Numbered.{are_numbered};
 ghost use Rattle.partition_core.specs.Steps.{Anything, NamesNowhere};
@@ -219,7 +219,7 @@ impl<C: Crdt, D: Disk + Drop> DurablePartition<C, D> {
 
     /// The effect of an operation on an object under a transaction's snapshot, with the transaction's own earlier
     /// updates of the object, in the order of their numbers; and its stamp, if its kind has stamps. The caller gives it
-    /// its number.
+    /// its number. The effect can be put, where the transaction's id and those numbers can be.
     ///
     /// # Errors
     ///
@@ -246,7 +246,7 @@ impl<C: Crdt, D: Disk + Drop> DurablePartition<C, D> {
     }
 
     /// A message to another site, up to the own bound: all that was committed here above a time that is given, or else
-    /// above the end of the last message to that site.
+    /// above the end of the last message to that site. It can be put, where each of its parts has an update.
     ///
     /// # Errors
     ///
@@ -258,7 +258,8 @@ impl<C: Crdt, D: Disk + Drop> DurablePartition<C, D> {
         from: Option<u64>,
     ) -> Result<Message<C::Effect>, DurableError>
         requires { IsOther self.old.tables.sites self.old.tables.id.site to }
-        ensures { CallsOn (kinds_of C.laws) (codec_of C.spells) D.state self.old self.new Anything (AskMessage to from) (λ m e. (m.to ≡ to) × (e ≡ event.Sent from m)) result }
+        ensures answers { CallsOn (kinds_of C.laws) (codec_of C.spells) D.state self.old self.new Anything (AskMessage to from) (λ m e. (m.to ≡ to) × (e ≡ event.Sent from m)) result }
+        ensures ready { (p : PartState C.Effect) → StandsOn (codec_of C.spells) D.state self.old p → IfOk result (λ m. have_updates m.parts ≡ true → can_put_message C.has C.is_of C.can_put m ≡ true) }
     {
         if self.is_down() {
             return Err(DurableError::Down);

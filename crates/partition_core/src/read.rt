@@ -60,7 +60,7 @@ impl<C: Crdt> Partition<C> {
 
     /// The effect of an operation on an object under a transaction's snapshot, with the transaction's own earlier
     /// updates of the object, in the order of their numbers; and its stamp, if its kind has stamps. The caller gives it
-    /// its number.
+    /// its number. The effect can be put, where the ids of these updates and of all that is held can be.
     ///
     /// # Errors
     ///
