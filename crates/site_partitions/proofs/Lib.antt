@@ -1,0 +1,9 @@
+pub mod Places
+pub mod Naming
+pub mod Widths
+pub mod Begun
+pub mod Finding
+pub mod Going
+pub mod Faulting
+pub mod Asking
+pub mod Waits
