@@ -26,5 +26,8 @@ mod TakeCall
 mod Releasing
 mod Waiting
 mod Folding
+mod Numbering
+mod HeldIds
+mod Sending
 mod ReadCall
 pub mod Callers

@@ -1,4 +1,5 @@
 pub mod Tables
+pub mod Numbered
 pub mod Leases
 pub mod Begun
 pub mod Bounds

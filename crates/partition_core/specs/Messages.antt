@@ -1,9 +1,11 @@
 -- What a partition asks of a message that it takes, and what it makes of its parts.
-use Rattle.std.specs.Prelude.{◌≡◌, ℕ, ◌+◌, ◌≤◌, true, false, List, [], ◌∷◌, length, Option, None, Some, ⊤}
+use Rattle.std.specs.Prelude.{◌≡◌, ℕ, ◌+◌, ◌≤◌, Bool, true, false, List, [], ◌∷◌, length, Option, None, Some, ⊤}
+use Rattle.std.specs.List.{list_all}
 use Rattle.site_vector.specs.declared.ids.TxId.{TxId}
 use Rattle.crdt_core.specs.declared.record.Part.{Part}
 use Rattle.crdt_core.specs.Orders.{insert_by, fold_cmp}
 use Rattle.crdt_core.specs.Parts.{lists}
+use Rattle.log_records.specs.Updates.{has_some}
 use Rattle.effect_store.specs.Stored.{Stored}
 
 -- no two parts are of one transaction
@@ -20,6 +22,10 @@ inserted (x ∷ xs) held = insert_by fold_cmp x (inserted xs held)
 abbrev pub AreWideParts : {E : Type 0} → ℕ → List (Part E) → Type 0
 AreWideParts sites [] = ⊤
 AreWideParts sites (x ∷ xs) = (length x.c ≡ sites) × AreWideParts sites xs
+
+-- each part has an update
+abbrev pub have_updates : {E : Type 0} → List (Part E) → Bool
+have_updates xs = list_all (λ x. has_some x.updates) xs
 
 -- how many updates there are
 abbrev pub updates_in : {E : Type 0} → List (Part E) → ℕ

@@ -4,6 +4,7 @@ ghost use Rattle.site_vector.specs.declared.ids.TxId.{TxId};
 ghost use Rattle.site_vector.specs.Vector.{entry};
 ghost use Rattle.crdt_core.specs.declared.record.Part.{Part};
 ghost use Rattle.crdt_core.specs.declared.record.Record.TheVariants.{Prepare};
+ghost use Rattle.crdt_core.specs.EffectForm.{IsReady};
 ghost use Rattle.crdt_core.specs.KindsOf.{kinds_of};
 ghost use Rattle.crdt_core.specs.Log.{end_of_time};
 ghost use Rattle.crdt_core.specs.Parts.{above, lists};
@@ -15,9 +16,10 @@ ghost use Rattle.world_model.specs.Event.{AskTick, AskBegin, AskRead, AskUpdate,
 ghost use Rattle.world_model.specs.Event as event;
 ghost use Rattle.world_model.specs.Partition.{IsOther, PartState, fate_of};
 ghost use Rattle.partition_core.specs.Answers.{fate_told};
-ghost use Rattle.partition_core.specs.Durable.{StandsOn};
-ghost use Rattle.partition_core.specs.Messages.{AreApart, AreWideParts};
+ghost use Rattle.partition_core.specs.Durable.{StandsOn, is_down};
+ghost use Rattle.partition_core.specs.Messages.{AreApart, AreWideParts, have_updates};
 ghost use Rattle.partition_core.specs.Moments.{CallsOn};
+ghost use Rattle.partition_core.specs.Numbered.{are_numbered};
 ghost use Rattle.partition_core.specs.Steps.{Anything, NamesNowhere};
 ghost use Rattle.partition_core.specs.Tables.{knows};
 
@@ -135,8 +137,8 @@ impl<C: Crdt, D: Disk + Drop> DurablePartition<C, D> {
     }
 
     /// Votes for a transaction of this site, with its snapshot, the number of its lead, and what it changes here, in
-    /// the order of its updates' numbers: the prepare time. Takes all the memory that its commit will need. It is none
-    /// that the partition knows (`knows`).
+    /// the order of its updates' numbers: the prepare time. Takes all the memory that its commit will need. Where the
+    /// partition is up, it is none that it knows (`knows`).
     ///
     /// # Errors
     ///
@@ -152,7 +154,7 @@ impl<C: Crdt, D: Disk + Drop> DurablePartition<C, D> {
     ) -> Result<u64, DurableError>
         requires place { tx.site ≡ self.old.tables.id.site }
         requires width { length s.now ≡ self.old.tables.sites }
-        requires unknown { knows self.old.tables tx ≡ false }
+        requires unknown { is_down self.old ≡ false → knows self.old.tables tx ≡ false }
         requires spelled { (time : ℕ) → can_put_record C.has C.is_of C.can_put (Prepare tx lead time s.now updates.now) ≡ true }
         ensures { CallsOn (kinds_of C.laws) (codec_of C.spells) D.state self.old self.new (NamesNowhere tx) (AskPrepare tx s.now lead updates.now) (λ n e. e ≡ event.Prepared tx s.now lead updates.now n) result }
     {
@@ -165,7 +167,8 @@ impl<C: Crdt, D: Disk + Drop> DurablePartition<C, D> {
         Ok(time)
     }
 
-    /// Takes a message of another site, with what it brings above the bound that the partition has of that site.
+    /// Takes a message of another site, with what it brings above the bound that the partition has of that site. Where
+    /// the partition is up, it holds none of that.
     ///
     /// # Errors
     ///
@@ -177,7 +180,7 @@ impl<C: Crdt, D: Disk + Drop> DurablePartition<C, D> {
         requires wide { AreWideParts self.old.tables.sites message.now.parts }
         requires apart { AreApart message.now.parts }
         requires away { (u : TxId) → lists message.now.parts u ≡ true → u.site ≢ self.old.tables.id.site }
-        requires not_held { (u : TxId) → lists (above message.now.from (entry self.old.tables.bounds message.now.from) message.now.parts) u ≡ true → lists self.old.tables.held u ≡ false }
+        requires not_held { is_down self.old ≡ false → (u : TxId) → lists (above message.now.from (entry self.old.tables.bounds message.now.from) message.now.parts) u ≡ true → lists self.old.tables.held u ≡ false }
         requires spelled { can_put_message C.has C.is_of C.can_put message.now ≡ true }
         ensures { (number : ℕ) → CallsOn (kinds_of C.laws) (codec_of C.spells) D.state self.old self.new Anything (AskTake number message.now) (λ n e. e ≡ event.Took number message.now) result }
     {
@@ -216,7 +219,7 @@ impl<C: Crdt, D: Disk + Drop> DurablePartition<C, D> {
 
     /// The effect of an operation on an object under a transaction's snapshot, with the transaction's own earlier
     /// updates of the object, in the order of their numbers; and its stamp, if its kind has stamps. The caller gives it
-    /// its number.
+    /// its number. The effect can be put, where the transaction's id and those numbers can be.
     ///
     /// # Errors
     ///
@@ -232,7 +235,8 @@ impl<C: Crdt, D: Disk + Drop> DurablePartition<C, D> {
     ) -> Result<(C::Effect, Option<u64>), DurableError>
         requires has { C.has object.now.kind ≡ true }
         requires width { length s.now ≡ self.old.tables.sites }
-        ensures { (index : ℕ) → CallsOn (kinds_of C.laws) (codec_of C.spells) D.state self.old self.new Anything (AskUpdate tx s.now object.now own.now op.now) (λ x e. (read : List (Part C.Effect)) × (e ≡ Updated tx s.now object.now own.now op.now read (record { object = object.now; index = index; effect = x.0 }) x.1)) result }
+        ensures answers { (index : ℕ) → CallsOn (kinds_of C.laws) (codec_of C.spells) D.state self.old self.new Anything (AskUpdate tx s.now object.now own.now op.now) (λ x e. (read : List (Part C.Effect)) × (e ≡ Updated tx s.now object.now own.now op.now read (record { object = object.now; index = index; effect = x.0 }) x.1)) result }
+        ensures ready { (p : PartState C.Effect) → StandsOn (codec_of C.spells) D.state self.old p → is_tx tx ≡ true → are_numbered own.now ≡ true → IfOk result (λ x. IsReady C.is_of C.can_put C.contents C.spelling object.now.kind op.now.path op.now.act x.0) }
     {
         if self.is_down() {
             return Err(DurableError::Down);
@@ -242,7 +246,7 @@ impl<C: Crdt, D: Disk + Drop> DurablePartition<C, D> {
     }
 
     /// A message to another site, up to the own bound: all that was committed here above a time that is given, or else
-    /// above the end of the last message to that site.
+    /// above the end of the last message to that site. It can be put, where each of its parts has an update.
     ///
     /// # Errors
     ///
@@ -254,7 +258,8 @@ impl<C: Crdt, D: Disk + Drop> DurablePartition<C, D> {
         from: Option<u64>,
     ) -> Result<Message<C::Effect>, DurableError>
         requires { IsOther self.old.tables.sites self.old.tables.id.site to }
-        ensures { CallsOn (kinds_of C.laws) (codec_of C.spells) D.state self.old self.new Anything (AskMessage to from) (λ m e. (m.to ≡ to) × (e ≡ event.Sent from m)) result }
+        ensures answers { CallsOn (kinds_of C.laws) (codec_of C.spells) D.state self.old self.new Anything (AskMessage to from) (λ m e. (m.to ≡ to) × (e ≡ event.Sent from m)) result }
+        ensures ready { (p : PartState C.Effect) → StandsOn (codec_of C.spells) D.state self.old p → IfOk result (λ m. have_updates m.parts ≡ true → can_put_message C.has C.is_of C.can_put m ≡ true) }
     {
         if self.is_down() {
             return Err(DurableError::Down);

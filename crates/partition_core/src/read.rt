@@ -1,16 +1,19 @@
 ghost use Rattle.std.specs.Prelude.{◌≡◌, ◌≤◌, ℕ, List, [], length, true, false, not, ◌&&◌, None, IfOk, OnOk, MatchOption, if◌then◌else◌};
 ghost use Rattle.site_vector.specs.Vector.{entry};
 ghost use Rattle.crdt_core.specs.declared.record.Part.{Part};
+ghost use Rattle.crdt_core.specs.EffectForm.{HoldsSpelled, IsReady};
 ghost use Rattle.crdt_core.specs.Fits.{fits};
 ghost use Rattle.crdt_core.specs.Folds.{effects_of};
 ghost use Rattle.crdt_core.specs.History.{folded};
 ghost use Rattle.crdt_core.specs.KindsOf.{kinds_of};
 ghost use Rattle.crdt_core.specs.Objects.{same_object};
 ghost use Rattle.crdt_core.specs.Parts.{seen_parts};
+ghost use Rattle.crdt_core.specs.Spelled.{is_tx};
 ghost use Rattle.prepared_table.specs.Entries.{first_on};
 ghost use Rattle.world_model.specs.Event.{AskRead, AskUpdate, Updated};
 ghost use Rattle.world_model.specs.Event as event;
 ghost use Rattle.partition_core.specs.Answers.{Called};
+ghost use Rattle.partition_core.specs.Numbered.{are_numbered, have_ids};
 ghost use Rattle.partition_core.specs.Reads.{applied};
 ghost use Rattle.partition_core.specs.Waits.{IsWait, MayRead};
 ghost use Rattle.partition_core.specs.Steps.{Anything};
@@ -57,7 +60,7 @@ impl<C: Crdt> Partition<C> {
 
     /// The effect of an operation on an object under a transaction's snapshot, with the transaction's own earlier
     /// updates of the object, in the order of their numbers; and its stamp, if its kind has stamps. The caller gives it
-    /// its number.
+    /// its number. The effect can be put, where the ids of these updates and of all that is held can be.
     ///
     /// # Errors
     ///
@@ -75,7 +78,8 @@ impl<C: Crdt> Partition<C> {
     ) -> Result<(C::Effect, Option<u64>), CallError>
         requires has { C.has object.now.kind ≡ true }
         requires width { length s.now ≡ self.old.sites }
-        ensures { (index : ℕ) → Called (kinds_of C.laws) self.old Anything (AskUpdate tx s.now object.now own.now op.now) (λ x e. (read : List (Part C.Effect)) × (e ≡ Updated tx s.now object.now own.now op.now read (record { object = object.now; index = index; effect = x.0 }) x.1)) result self.new }
+        ensures answers { (index : ℕ) → Called (kinds_of C.laws) self.old Anything (AskUpdate tx s.now object.now own.now op.now) (λ x e. (read : List (Part C.Effect)) × (e ≡ Updated tx s.now object.now own.now op.now read (record { object = object.now; index = index; effect = x.0 }) x.1)) result self.new }
+        ensures ready { have_ids self.old.held ≡ true → is_tx tx ≡ true → are_numbered own.now ≡ true → IfOk result (λ x. IsReady C.is_of C.can_put C.contents C.spelling object.now.kind op.now.path op.now.act x.0) }
     {
         let kind = object.kind;
         if !is_operation::<C>(kind, op) {
@@ -190,6 +194,7 @@ fn made<C: Crdt>(
 ) -> Result<(C::Effect, Option<u64>), AllocError>
     requires { (fits kind op.now.path op.now.act && not (C.too_deep kind op.now.path)) ≡ true }
     ensures effect { IfOk result (λ x. x.0 ≡ C.made kind state.now op.now.path op.now.act now) }
+    ensures ready { C.has kind ≡ true → HoldsSpelled C.holds state.now → IfOk result (λ x. IsReady C.is_of C.can_put C.contents C.spelling kind op.now.path op.now.act x.0) }
     ensures stamp { IfOk result (λ x. x.1 ≡ C.stamp_of x.0) }
 {
     match C::generate(alloc, kind, op.path.as_slice(), &op.act, state, now) {
