@@ -5,7 +5,11 @@ use Rattle.site_vector.specs.declared.ids.TxId.{TxId}
 use Rattle.crdt_core.specs.declared.object.ObjectId.{ObjectId}
 use Rattle.crdt_core.specs.declared.operation.Op.{Op}
 use Rattle.crdt_core.specs.declared.record.Upd.{Upd}
+use Rattle.crdt_core.specs.declared.record.Record.TheVariants.{Prepare}
 use Rattle.crdt_core.specs.Spelled.{is_tx}
+use Rattle.field_codec.specs.FormLaws.{and_true}
+use Rattle.log_records.specs.Records.{can_put_record}
+use Rattle.log_records.specs.Updates.{can_put_updates}
 use Rattle.world_model.specs.Event.{Ask, AskBegin, AskRead, AskUpdate, AskPrepare, AskDecide, AskFinish, AskMessage, AskHear, Reported, Refused, IsGone, Entry, time_of, report_count}
 use Rattle.world_model.specs.Partition.{IsOther}
 use Rattle.world_model.specs.Plan.{IsPlace}
@@ -23,6 +27,7 @@ use Rattle.partition_core.proofs.Callers.{knows_no_new}
 use Rattle.site_partitions.specs.Held.{Held, IsSized, index_of}
 use Rattle.site_partitions.specs.Reaches.{Types, StandsAt, Reaches, MayAsk, HasBegun}
 use Rattle.site_partitions.proofs.Begun.{begun_spelled}
+use Rattle.site_partitions.proofs.Changes.{changes_put}
 use Rattle.site_partitions.proofs.Naming.{is_new}
 use Rattle.site_partitions.proofs.Widths.{voted_width, taking_width, shown_width, handed_width, reported_width}
 
@@ -109,3 +114,9 @@ module _ {S E D : Type 0} (w : Types S E D) (sites parts : ℕ) (items : List (D
 
   pub prepare_is_tx : (at : PartId) (s : List ℕ) (l : ℕ) (us : List (Upd E)) → MayAsk w c at (AskPrepare t s l us) → is_tx t ≡ true
   prepare_is_tx at s l us m = begun_is_tx (record { run = m.run; reached = m.reached; begun = part_begun c.sites m.run t at m.allowed.1.takes })
+
+  -- what it was asked for can be put into a log
+  pub prepare_put : (at : PartId) (s : List ℕ) (l : ℕ) (us : List (Upd E)) (time : ℕ) → MayAsk w c at (AskPrepare t s l us) → can_put_record w.kinds.has w.is_of w.can_put (Prepare t l time s us) ≡ true
+  prepare_put at s l us time m =
+      and_true (is_tx t) (can_put_updates w.kinds.has w.is_of w.can_put us) (prepare_is_tx at s l us m)
+      (subst (λ xs. can_put_updates w.kinds.has w.is_of w.can_put xs ≡ true) (sym m.allowed.1.changes) (changes_put w c.sites c.parts m.run m.reached.state m.reached.is_run m.reached.puts t at m.allowed.1.takes))

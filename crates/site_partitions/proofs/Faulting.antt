@@ -73,6 +73,7 @@ module _ {S E D : Type 0} (w : Types S E D) (sites parts : ℕ) (items : List (D
   }
 
   pub restarted : (result : Result Restarted RestartError) → RestartsOn w.kinds w.codec w.state t u result → RestartsAt w old new at result
+  unfolding stayed
   restarted (Ok a) s = came_up a s
   restarted (Err restart.Disk) s = (stayed s.1, s.0)
   restarted (Err restart.NoMemory) s = stayed s

@@ -3,7 +3,10 @@ pub mod Naming
 pub mod Widths
 pub mod Begun
 pub mod Finding
+pub mod Changes
 pub mod Going
 pub mod Faulting
 pub mod Asking
+pub mod Making
+pub mod Messages
 pub mod Waits

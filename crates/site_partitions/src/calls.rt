@@ -1,16 +1,17 @@
-ghost use Rattle.std.specs.Prelude.{◌≡◌, ◌≤◌, ℕ, List, true};
+ghost use Rattle.std.specs.Prelude.{◌≡◌, ◌≤◌, ◌+◌, ℕ, List, true};
 ghost use Rattle.crdt_core.specs.declared.record.Part.{Part};
+ghost use Rattle.crdt_core.specs.KindsOf.{fits_kind};
 ghost use Rattle.crdt_core.specs.Log.{end_of_time};
-ghost use Rattle.world_model.specs.Event.{AskTick, AskBegin, AskRead, AskDecide, AskFinish, AskAbort, AskMessage, AskReport, AskHear, Ticked, Began, Decided, Finished, Aborted, Sent, Reported, Heard};
+ghost use Rattle.world_model.specs.Event.{AskTick, AskBegin, AskRead, AskUpdate, AskPrepare, AskDecide, AskFinish, AskAbort, AskMessage, AskTake, AskReport, AskHear, Ticked, Began, Updated, Decided, Finished, Aborted, Sent, Took, Reported, Heard};
 ghost use Rattle.world_model.specs.Event as event;
 ghost use Rattle.world_model.specs.Partition.{IsOther};
-ghost use Rattle.world_model.specs.Plan.{IsPlace};
+ghost use Rattle.world_model.specs.Plan.{IsPlace, update_count};
 ghost use Rattle.site_partitions.specs.Reaches.{types_of, MayAsk, HasBegun};
 ghost use Rattle.site_partitions.specs.Answers.{Any, Calls};
 
 use crate::Sites;
 use crate::sites::index_of;
-use crdt_core::{Crdt, Message, ObjectId, Upd, Value};
+use crdt_core::{Crdt, Message, ObjectId, Op, Upd, Value};
 use disk_core::Disk;
 use partition_core::DurableError;
 use site_vector::{PartId, TxId, VTime};
@@ -63,6 +64,54 @@ impl<C: Crdt, D: Disk + Drop> Sites<C, D> {
     {
         let i = index_of(at, self.sites, self.parts);
         self.partitions[i].read(self.alloc, tx, s, object, own)
+    }
+
+    /// The effect of an operation that fits the object's kind, as the transaction's update with this number, from 1 to
+    /// 256; and its stamp, if its kind has stamps.
+    ///
+    /// # Errors
+    ///
+    /// As the partition's: `ClockBehind`, `TxPending`; `Down`, `NoMemory`.
+    pub fn update_at(
+        &mut self,
+        at: PartId,
+        tx: TxId,
+        s: &VTime,
+        object: &ObjectId,
+        own: &[Upd<C::Effect>],
+        op: &Op,
+        index: u16,
+    ) -> Result<(C::Effect, Option<u64>), DurableError>
+        requires has { C.has object.now.kind ≡ true }
+        requires fits { fits_kind C.too_deep object.now op.now ≡ true }
+        requires least { 1 ≤ index }
+        requires most { index ≤ 256 }
+        requires may { MayAsk (types_of C.laws C.spells D.state) self.old at (AskUpdate tx s.now object.now own.now op.now) }
+        ensures { Calls (types_of C.laws C.spells D.state) self.old self.new (λ run. index ≡ update_count run tx + 1) at (AskUpdate tx s.now object.now own.now op.now) (λ x e. (read : List (Part C.Effect)) × (e ≡ Updated tx s.now object.now own.now op.now read (record { object = object.now; index = index; effect = x.0 }) x.1)) result }
+    {
+        let i = index_of(at, self.sites, self.parts);
+        self.partitions[i].update(self.alloc, tx, s, object, own, op)
+    }
+
+    /// Asks for a vote: the transaction's updates at this partition, and the number of its lead. Answers the prepare
+    /// time.
+    ///
+    /// # Errors
+    ///
+    /// As the partition's: `ClockBehind`, `ClockAtEnd`; `Down`, `Full`, `Disk`, `NoMemory`.
+    pub fn prepare_at(
+        &mut self,
+        at: PartId,
+        tx: TxId,
+        s: &VTime,
+        lead: u8,
+        updates: &[Upd<C::Effect>],
+    ) -> Result<u64, DurableError>
+        requires { MayAsk (types_of C.laws C.spells D.state) self.old at (AskPrepare tx s.now lead updates.now) }
+        ensures { Calls (types_of C.laws C.spells D.state) self.old self.new Any at (AskPrepare tx s.now lead updates.now) (λ n e. e ≡ event.Prepared tx s.now lead updates.now n) result }
+    {
+        let i = index_of(at, self.sites, self.parts);
+        self.partitions[i].prepare(self.alloc, tx, s, lead, updates)
     }
 
     /// Asks the lead to decide, with the commit vector. Takes no memory.
@@ -123,6 +172,19 @@ impl<C: Crdt, D: Disk + Drop> Sites<C, D> {
     {
         let i = index_of(at, self.sites, self.parts);
         self.partitions[i].release(self.alloc, to, from)
+    }
+
+    /// Hands on a message that was sent, as one of its sender's. Its number among these is the caller's alone.
+    ///
+    /// # Errors
+    ///
+    /// As the partition's: `Gap`, `Repeat`; `Down`, `Full`, `Disk`, `NoMemory`.
+    pub fn take_at(&mut self, at: PartId, message: &Message<C::Effect>) -> Result<(), DurableError>
+        requires { (number : ℕ) × MayAsk (types_of C.laws C.spells D.state) self.old at (AskTake number message.now) }
+        ensures { (number : ℕ) → Calls (types_of C.laws C.spells D.state) self.old self.new Any at (AskTake number message.now) (λ n e. e ≡ Took number message.now) result }
+    {
+        let i = index_of(at, self.sites, self.parts);
+        self.partitions[i].take(self.alloc, message)
     }
 
     /// Asks a partition for its bounds: how far it has come with each site.

@@ -16,4 +16,4 @@ returns g c =
     asked _ _ _ _ _ c.self.view_is c.self.invariant c.args.at c.requires.may.place _ c.index_of-i.ensures.index c.index_of-i.ensures.below _ _ c.index_mut.ensures.value Any (AskMessage c.args.to c.args.from) Anything (λ m e. (m.to ≡ c.args.to) × (e ≡ Sent c.args.from m))
     (λ run r m. tt) (λ why. tt)
     (λ x run may given e s. subst (IsShown (types_of g.C.Crdt.laws g.C.Crdt.spells g.D.Disk.state) run (AskMessage c.args.to c.args.from)) (sym s.1) (record { asked = ap (λ n. AskMessage n c.args.from) s.0; plain = refl; own_word = refl; fit = tt; new = tt }))
-    c.release.result (λ x is e s. subst (PutsEvent (types_of g.C.Crdt.laws g.C.Crdt.spells g.D.Disk.state)) (sym s.1) tt) c.release.ensures
+    c.release.result (λ x is e s. subst (PutsEvent (types_of g.C.Crdt.laws g.C.Crdt.spells g.D.Disk.state)) (sym s.1) tt) c.release.ensures.answers
