@@ -1,4 +1,5 @@
-ghost use Rattle.std.specs.Prelude.{◌≡◌, ◌||◌, true};
+ghost use Rattle.std.specs.Prelude.{◌≡◌, ◌≤◌, ◌||◌, true};
+ghost use Rattle.site_vector.specs.Vector.{entry};
 ghost use Rattle.crdt_core.specs.KindsOf.{kinds_of};
 ghost use Rattle.gate_log.specs.Logs.{is_closed, disk_of};
 ghost use Rattle.gate_log.specs.declared.error.AppendError.{AppendError};
@@ -8,6 +9,7 @@ ghost use Rattle.partition_log.specs.Codec.{codec_of};
 ghost use Rattle.partition_core.specs.Durable.{is_down};
 ghost use Rattle.partition_core.specs.Moments.{Crashes};
 ghost use Rattle.partition_core.specs.Stopped.{stopped, uncalled};
+ghost use Rattle.partition_core.specs.Tables.{knows};
 ghost use Rattle.partition_core.specs.declared.durable.DurableError.TheVariants.{NoMemory, Refused};
 
 use crate::{CallError, Partition, Refusal};
@@ -128,6 +130,22 @@ impl<C: Crdt, D: Disk + Drop> DurablePartition<C, D> {
         ensures { result ≡ first_on object.now upto self.now.tables.pending }
     {
         self.tables.pending_on(object, upto)
+    }
+
+    /// Whether a transaction is pending or held here, as it knows in memory.
+    pub fn knows(&self, tx: TxId) -> bool
+        ensures { result ≡ knows self.now.tables tx }
+    {
+        self.tables.knows(tx)
+    }
+
+    /// Up to where the messages of a site were taken.
+    pub fn bound(&self, site: u8) -> u64
+        requires least { 1 ≤ site }
+        requires most { site ≤ self.now.tables.sites }
+        ensures { result ≡ entry self.now.tables.bounds site }
+    {
+        self.tables.bound(site)
     }
 
     /// Whether it crashed, or its disk failed, and it was not restarted since.

@@ -3,7 +3,7 @@ ghost use Rattle.std.specs.Prelude.{◌≡◌, ◌≢◌, ◌≤◌, ◌⊎◌, 
 ghost use Rattle.disk_core.specs.Moments.{AtEachMoment};
 ghost use Rattle.disk_core.specs.States.{GoesOn, Rose, bytes_of};
 ghost use Rattle.gate_log.specs.Logs.{disk_of, is_closed, read_at_opening, IsReady};
-ghost use Rattle.gate_log.specs.Rest.{Lowers};
+ghost use Rattle.gate_log.specs.Rest.{AtRest, Lowers};
 ghost use Rattle.gate_log.specs.declared.error.OpenError.TheVariants as open_error;
 ghost use Rattle.partition_log.specs.Codec.{codec_of};
 ghost use Rattle.partition_log.specs.Gates.{gates_of};
@@ -15,6 +15,7 @@ ghost use Rattle.crdt_core.specs.KindsOf.{kinds_of};
 ghost use Rattle.crdt_core.specs.Log.{MayFind};
 ghost use Rattle.log_recovery.specs.Recovered.{AreKnown};
 ghost use Rattle.log_recovery.specs.Rising.{Rises};
+ghost use Rattle.world_model.specs.Partition.{new_part};
 ghost use Rattle.partition_core.specs.Durable.{StandsOn, is_down};
 ghost use Rattle.partition_core.specs.Recovered.{IsToldBy, resumed};
 ghost use Rattle.partition_core.specs.Stands.{Stands};
@@ -251,6 +252,7 @@ impl<C: Crdt, D: Disk + Drop> DurablePartition<C, D> {
         ensures up { IfOk result (λ p. is_down p ≡ false) }
         ensures stands { IfOk result (λ p. IsTrue (D.state disk).tells → (log : List (Record C.Effect)) → HoldsLog (codec_of C.spells) (bytes_of (D.state disk)) log → Rises log
             → (b : List ℕ) × AreKnown sites id.site log b × StandsOn (codec_of C.spells) D.state p (resumed sites parts b log)) }
+        ensures new { IfOk result (λ p. (end : ℕ) → AtRest (D.state disk) end [] → StandsOn (codec_of C.spells) D.state p (new_part sites parts)) }
         ensures goes_on { MatchResult result (λ p. GoesOn (D.state disk) (D.state (disk_of p.gates))) (λ e. GoesOn (D.state disk) (D.state e.0)) }
         ensures failed { IfErr result (λ e. e.1 ≡ DiskFailed → Rose (D.state disk).faults (D.state e.0).faults) }
     {
