@@ -37,7 +37,11 @@ impl<C: Crdt, D: Disk + Drop> Sites<C, D> {
     /// # Errors
     ///
     /// As the partition's: `StableBehind`, `ClockAtEnd`; `Down`, `Full`, `Disk`.
-    pub fn begin_at(&mut self, at: PartId, dependency: &VTime) -> Result<(TxId, VTime), DurableError>
+    pub fn begin_at(
+        &mut self,
+        at: PartId,
+        dependency: &VTime,
+    ) -> Result<(TxId, VTime), DurableError>
         requires { (who : List ℕ) × MayAsk (types_of C.laws C.spells D.state) self.old at (AskBegin who dependency.now) }
         ensures { (who : List ℕ) → Calls (types_of C.laws C.spells D.state) self.old self.new Any at (AskBegin who dependency.now) (λ x e. e ≡ Began who dependency.now x.0 x.1) result }
     {
