@@ -1,0 +1,12 @@
+pub mod Places
+pub mod Naming
+pub mod Widths
+pub mod Begun
+pub mod Finding
+pub mod Changes
+pub mod Going
+pub mod Faulting
+pub mod Asking
+pub mod Making
+pub mod Messages
+pub mod Waits

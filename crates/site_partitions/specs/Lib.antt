@@ -1,0 +1,6 @@
+pub mod Held
+pub mod Moves
+pub mod Reaches
+pub mod Answers
+pub mod Faults
+pub mod Fates
