@@ -38,7 +38,7 @@ use Rattle.cluster.specs.Sees.{is_calm}
 use Rattle.cluster.proofs.Clocks.{part_in}
 use Rattle.cluster.proofs.Meets.{all_met, first_at, none_due, refused, lacks_session, has_session, idle_is, by_name}
 use Rattle.cluster.proofs.Sessions.{IsThere, turns, acted, own_name}
-use Rattle.cluster.proofs.Turned.{line_up}
+use Rattle.cluster.proofs.Turned.{answer_up}
 
 module _ {E : Type 0} where
   pub idle_phase : (d : Doing E) → is_idle_phase (session.phase_of d) ≡ session.is_idle d

@@ -44,7 +44,7 @@ use Rattle.cluster.specs.Reached.{phase_as, StandsBy, ReachedLive, GoesTo, Appli
 use Rattle.cluster.specs.Sees.{is_calm, Sees}
 use Rattle.cluster.proofs.Meets.{all_met, first_at, none_due, refused, lacks_session, has_session, open_is, by_name}
 use Rattle.cluster.proofs.Sessions.{IsThere, turns, acted, own_name}
-use Rattle.cluster.proofs.Turned.{line_up}
+use Rattle.cluster.proofs.Turned.{answer_up}
 
 module _ {E : Type 0} where
   -- a session whose update would be refused, or not
