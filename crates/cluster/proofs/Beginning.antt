@@ -38,7 +38,7 @@ use Rattle.cluster.specs.Sees.{is_calm}
 use Rattle.cluster.proofs.Clocks.{part_in}
 use Rattle.cluster.proofs.Meets.{all_met, first_at, none_due, refused, lacks_session, has_session, idle_is, by_name}
 use Rattle.cluster.proofs.Sessions.{IsThere, turns, acted, own_name}
-use Rattle.cluster.proofs.Turned.{line_up}
+use Rattle.cluster.proofs.Turned.{answer_up}
 
 module _ {E : Type 0} where
   pub idle_phase : (d : Doing E) → is_idle_phase (session.phase_of d) ≡ session.is_idle d
@@ -152,9 +152,12 @@ module _ {S E : Type 0} (kinds : Kinds S E) (c : LiveState E) (name : List ℕ) 
       let up = answer_up (entries r.calls) place t.event answer t.shows t.seen.calm.0 in
       let b : IsBegun (entries r.calls) place a.before a.after t.event (step_shown (entries r.calls) place t.event) = begun (entries r.calls) place a.before a.after t.event t.asked t.seen.calm.0 o idle st.few in
       subst (λ l. IsAnswer is_built run (command.Begin name part) l × GoesTo kinds c run r (record { sites = later; sessions = sessions }) (answered number (Some (command.Begin name part)) l run)) (sym is) (
-        (subst (AnswersBy run (command.Begin name part) (answer ∷ []))
-            (sym (none_due (all_met run (command.Begin name part)) (refl, (ap not r.has, (lacks_in run r ∙ ap not there, (has_session kinds c run r name a.before a.is, (elsewhere_in run r a.before a.is ∙ ap not here, (ap not (idle_is kinds c run r name a.before a.is ∙ idle), tt))))))))
-            (answer, refl, ap (λ x. x && true) up.0, subst (λ n. Bears run (command.Begin n part) answer) st.name (subst (Bears run (command.Begin a.before.name part)) (sym t.shows) (b.bears run part))), ap (λ x. x && true) up.1),
+        (
+          subst (AnswersBy run (command.Begin name part) (answer ∷ []))
+              (sym (none_due (all_met run (command.Begin name part)) (refl, (ap not r.has, (lacks_in run r ∙ ap not there, (has_session kinds c run r name a.before a.is, (elsewhere_in run r a.before a.is ∙ ap not here, (ap not (idle_is kinds c run r name a.before a.is ∙ idle), tt))))))))
+              (answer, refl, ap (λ x. x && true) up.0, subst (λ n. Bears run (command.Begin n part) answer) st.name (subst (Bears run (command.Begin a.before.name part)) (sym t.shows) (b.bears run part))),
+          ap (λ x. x && true) up.1,
+        ),
         acted kinds c run r number (command.Begin name part) name a.before a.is a.after place (AskBegin a.before.name a.before.dependency) answer later t sessions (record {
           size = a.size;
           put = a.put;

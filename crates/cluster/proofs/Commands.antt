@@ -37,7 +37,7 @@ use Rattle.cluster.specs.Reached.{phase_as, StandsBy, GoesTo, AppliesLive}
 use Rattle.cluster.specs.Sees.{is_calm, Sees}
 use Rattle.cluster.proofs.Meets.{all_met, first_at, none_due, refused, has, lacks_session, has_session, open_is, by_name}
 use Rattle.cluster.proofs.Sessions.{turns, acted}
-use Rattle.cluster.proofs.Turned.{line_up}
+use Rattle.cluster.proofs.Turned.{answer_up}
 
 pub open_about : (o : Option Stage) (p : Stage) → o ≡ Some p → is_open_phase p ≡ true → are_open o ≡ true
 open_about o p h k = ap are_open h ∙ k

@@ -28,7 +28,8 @@ use Rattle.world_model.specs.Settling.{asks_abort, looked_up, settled, is_untold
 use Rattle.world_model.specs.Shown.{IsIdBefore, IsBefore, IsBeforeAll, AreInOrder}
 use Rattle.world_model.specs.Told.{Told}
 use Rattle.world_model.specs.Updates.{lead}
-use Rattle.world_model.specs.Waiting.{waiting, AreTimed, ArePending}
+use Rattle.world_model.specs.Listed.{AreTimed}
+use Rattle.world_model.specs.Waiting.{waiting, ArePending}
 use Rattle.world_model.proofs.Law.{law_world}
 use Rattle.world_model.proofs.Queue.{in_order}
 use Rattle.world_model.proofs.Told as law

@@ -44,7 +44,7 @@ use Rattle.cluster.specs.Reached.{phase_as, StandsBy, ReachedLive, GoesTo, Appli
 use Rattle.cluster.specs.Sees.{is_calm, Sees}
 use Rattle.cluster.proofs.Meets.{all_met, first_at, none_due, refused, lacks_session, has_session, open_is, by_name}
 use Rattle.cluster.proofs.Sessions.{IsThere, turns, acted, own_name}
-use Rattle.cluster.proofs.Turned.{line_up}
+use Rattle.cluster.proofs.Turned.{answer_up}
 
 module _ {E : Type 0} where
   -- a session whose update would be refused, or not
@@ -192,9 +192,12 @@ module _ {S E : Type 0} (kinds : Kinds S E) (c : LiveState E) (name : List ℕ) 
           let b = made (entries r.calls) place a.before a.after txn o op own e x.0.session may.room st.few t.event t.asked t.seen.calm.0 u in
           let up = answer_up (entries r.calls) place t.event answer t.shows t.seen.calm.0 in
           let most : length txn.updates < 256 = may.room in (
-            (subst (AnswersBy run (command.Update name o op) (answer ∷ []))
-                (sym (none_due (all_met run (command.Update name o op)) (refl, (ap not r.has, (has_session kinds c run r name a.before a.is, (ap not (open_is kinds c run r name a.before a.is ∙ ap session.is_open e), (ap not may.fit, (ap (λ n. n == 256) (ap update_total (st.phase ∙ ap phase_as e) ∙ length-map txn.updates (λ (v : Upd E). v.object)) ∙ false_from_ne_true _ (λ k. let q = eqb-true (length txn.updates) 256 k in absurd (omega (arith, q, most))), tt))))))))
-                (answer, refl, ap (λ z. z && true) up.0, subst (λ n. Bears run (command.Update n o op) answer) st.name (subst (Bears run (command.Update a.before.name o op)) (sym t.shows) (b.bears run))), ap (λ z. z && true) up.1),
+            (
+              subst (AnswersBy run (command.Update name o op) (answer ∷ []))
+                  (sym (none_due (all_met run (command.Update name o op)) (refl, (ap not r.has, (has_session kinds c run r name a.before a.is, (ap not (open_is kinds c run r name a.before a.is ∙ ap session.is_open e), (ap not may.fit, (ap (λ n. n == 256) (ap update_total (st.phase ∙ ap phase_as e) ∙ length-map txn.updates (λ (v : Upd E). v.object)) ∙ false_from_ne_true _ (λ k. let q = eqb-true (length txn.updates) 256 k in absurd (omega (arith, q, most))), tt))))))))
+                  (answer, refl, ap (λ z. z && true) up.0, subst (λ n. Bears run (command.Update n o op) answer) st.name (subst (Bears run (command.Update a.before.name o op)) (sym t.shows) (b.bears run))),
+              ap (λ z. z && true) up.1,
+            ),
             acted kinds c run r number (command.Update name o op) name a.before a.is a.after place (AskUpdate txn.tx txn.s o own op) answer later t sessions (record {
               size = a.size;
               put = a.put;
