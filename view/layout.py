@@ -10,7 +10,7 @@ from dataclasses import dataclass
 ROW = 24
 LETTER = 6.7
 COLOURS = 8
-LAYERS = ("lanes", "bars", "threads", "links", "arrows", "marks", "labels")
+LAYERS = ("lanes", "bars", "threads", "links", "arrows", "marks", "labels", "heads")
 MARKS = {
     "began": "begin", "prepared": "vote", "decided": "decide", "finished": "finish", "aborted": "cross",
     "value": "read", "updated": "update", "pending": "vote", "crashed": "crash", "restarted": "restart",
@@ -47,6 +47,12 @@ def is_refusal(name):
 def cut(text, most):
     """A text of at most so many letters."""
     return text if len(text) <= most else text[:most - 1] + "…"
+
+
+def beside(access, name):
+    """An object's key, and the value of a read where it is short."""
+    both = f"{access.object.key} = {access.shows}"
+    return both if name == "value" and len(both) <= 16 else access.object.key
 
 
 def middle(row):
@@ -110,7 +116,7 @@ class Layout:
             bars[transaction.place] = max(bars.get(transaction.place, 0), self.slots[transaction.id] + 1)
         lanes, left = {}, 6
         for place in self.run.partitions:
-            line = left + 16 + LETTER * clocks.get(place, 1)
+            line = left + 19 + LETTER * clocks.get(place, 1)
             label = line + 14 + 12 * bars.get(place, 0)
             right = max(label + 8 + LETTER * min(labels.get(place, 0), 19), left + 56)
             lanes[place] = Lane(place, left, line, line + 12, label, right)
@@ -155,7 +161,7 @@ class Layout:
         transaction = self.run.transactions.get(event.transaction)
         owner = self.numbers.get(event.transaction, -1)
         access = event.row if event.row in self.accesses else 0
-        self.add("labels", "T", "clock", lane.line - 8, y + 4, str(event.clock))
+        self.add("labels", "T", "clock", lane.line - 11, y + 4, str(event.clock))
         if transaction and event.name != "ended":
             bar, name = self.bar_middle(transaction), f"thread {self.colour(transaction.session)}"
             self.add("threads", "L", name, lane.line, y, bar, y, owner=owner)
@@ -179,7 +185,7 @@ class Layout:
         if name == "began":
             return event.session
         if name in ("value", "updated"):
-            return self.accesses[event.row].object.key
+            return beside(self.accesses[event.row], name)
         if name in ("sent", "took", "dup", "gap", "report", "heard"):
             words = event.text.split(" ")
             return {"sent": "", "took": "", "report": "", "heard": ""}.get(name, name + " ") + words[1]
@@ -239,10 +245,11 @@ class Layout:
         from_x, from_y = (x - 26, (y + goal_y) / 2) if x == goal_x else (x, y)
         length = max(((goal_x - from_x) ** 2 + (goal_y - from_y) ** 2) ** 0.5, 1)
         along, down = (goal_x - from_x) / length, (goal_y - from_y) / length
-        tip_x, tip_y = goal_x - 6 * along, goal_y - 6 * down
-        wings = [(tip_x - 8 * along + side * 4 * down, tip_y - 8 * down - side * 4 * along) for side in (1, -1)]
-        head = "".join(f"M{tip_x:.1f} {tip_y:.1f}L{wing_x:.1f} {wing_y:.1f}" for wing_x, wing_y in wings)
-        self.add("arrows", "P", name, y, goal_y, f"M{x:.1f} {y:.1f}{bend}{tip_x:.1f} {tip_y:.1f}{head}")
+        tip_x, tip_y = goal_x - 3 * along, goal_y - 3 * down
+        wings = [(tip_x - 8 * along + side * 3.5 * down, tip_y - 8 * down - side * 3.5 * along) for side in (1, -1)]
+        head = f"M{tip_x:.1f} {tip_y:.1f}" + "".join(f"L{wing_x:.1f} {wing_y:.1f}" for wing_x, wing_y in wings) + "z"
+        self.add("arrows", "P", name, y, goal_y, f"M{x:.1f} {y:.1f}{bend}{tip_x:.1f} {tip_y:.1f}")
+        self.add("heads", "P", f"head-of {name}", goal_y - 12, goal_y + 4, head)
 
     def draw_link(self, link):
         """A wait or refusal, joined to what it waits for or rests on."""

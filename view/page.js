@@ -30,8 +30,14 @@ run.transactions.forEach((transaction, owner) => {
 const escaped = text => String(text).replace(/[&<>"]/g, c => ({ "&": "&amp;", "<": "&lt;", ">": "&gt;", '"': "&quot;" })[c]);
 const within = (one, other) => one.every((entry, site) => entry <= other[site]);
 const vector = entries => entries ? `[${entries.join(",")}]` : "none";
-const gutter = () => view.clientWidth >= 1000 ? 390 : view.clientWidth >= 640 ? 230 : 62;
-const cut = (text, most) => text.length <= most ? text : text.slice(0, Math.max(most - 1, 0)) + "…";
+const longest = run.rows.reduce((most, row) => Math.max(most, row[1].length), 0);
+const cut = (text, most) => text.length <= most ? text : most ? text.slice(0, most - 1) + "…" : "";
+
+/** How wide the texts at the left are: as they need where there is room; none but line numbers where there is little. */
+function gutter() {
+  const wide = view.clientWidth, needed = 70 + longest * LETTER;
+  return wide < 640 ? 62 : Math.min(needed, Math.max(wide < 1000 ? 230 : 390, wide - run.width - 30));
+}
 
 /** Whether a transaction's snapshot sees another transaction. */
 function sees(owner, other) {
@@ -133,7 +139,7 @@ function rings({ rows }) {
 /** The texts at the left: script lines, replies, and signs of what is marked. */
 function gutterRows(side, top, high, marks) {
   const first = Math.max(0, Math.floor(top / run.row)), last = Math.min(run.rows.length, first + high / run.row + 1);
-  const most = Math.floor((side - 58) / LETTER);
+  const most = side < 100 ? 0 : Math.floor((side - 62) / LETTER);
   let text = `<rect class="paper" x="0" y="0" width="${side}" height="${high}"/>`;
   for (let at = first; at < last; at += 1) {
     const [line, shown, command, tone, owner] = run.rows[at];
@@ -167,8 +173,8 @@ function heads(side, left, wide) {
   for (const [site, [from, to]] of sites) {
     text += `<text x="${from + 4}" y="15">site ${site}</text><line class="rule" x1="${from + 4}" y1="21" x2="${to}" y2="21"/>`;
   }
-  const label = `<text x="56" y="37">${side > 100 ? "line, reply" : ""}</text><text class="line" x="50" y="37">line</text>`;
-  return text + `</g><rect class="paper" x="0" y="0" width="${side}" height="${HEADER}"/>${side > 100 ? label : ""}`
+  const label = `<text x="56" y="37">${side < 100 ? "" : "reply"}</text><text class="line" x="50" y="37">line</text>`;
+  return text + `</g><rect class="paper" x="0" y="0" width="${side}" height="${HEADER}"/>${label}`
     + `<line class="rule" x1="0" y1="${HEADER}" x2="${wide}" y2="${HEADER}"/>`;
 }
 
