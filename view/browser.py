@@ -6,6 +6,8 @@ import os
 import subprocess
 import time
 
+DRAWN = "new Promise(done => requestAnimationFrame(() => requestAnimationFrame(() => done(1))))"
+
 
 class Browser:
     """One page of a headless Chromium; `with` ends it."""
@@ -70,7 +72,7 @@ class Browser:
         self.call("Page.navigate", url=url)
         while not any(event.get("method") == "Page.loadEventFired" for event in self.events):
             self.events.append(self.receive())
-        self.value("new Promise(done => requestAnimationFrame(() => requestAnimationFrame(() => done(1))))")
+        self.value(DRAWN)
         return time.monotonic() - started
 
     def value(self, expression):
@@ -102,5 +104,5 @@ class Browser:
 
     def shot(self, path):
         """Writes what is in sight as a PNG."""
-        self.value("new Promise(done => requestAnimationFrame(() => requestAnimationFrame(() => done(1))))")
+        self.value(DRAWN)
         path.write_bytes(base64.b64decode(self.call("Page.captureScreenshot", format="png")["data"]))

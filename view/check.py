@@ -16,7 +16,7 @@ from pathlib import Path
 
 import page
 from answers import Differs, Walk
-from browser import Browser
+from browser import DRAWN, Browser
 from layout import Layout
 from model import is_within
 from replies import replies_of
@@ -117,9 +117,9 @@ class Check:
 
     def bring(self, row, place=None):
         """Scrolls so that a row and a lane are in sight, and lets go of what was chosen."""
-        steps = "new Promise(done => requestAnimationFrame(() => requestAnimationFrame(() => done(1))))"
-        lane = f'(run.lanes.find(lane => lane[0] === "{place}") || [0, 0, 0])[2] - 150'
-        self.browser.value(f"choose(-1, 0); view.scrollLeft = {lane}; view.scrollTop = {max(0, row - 8)} * run.row; {steps}")
+        left = f'(run.lanes.find(lane => lane[0] === "{place}") || [0, 0, 0])[2] - 150'
+        top = f"{max(0, row - 8)} * run.row"
+        self.browser.value(f"choose(-1, 0); view.scrollLeft = {left}; view.scrollTop = {top}; {DRAWN}")
 
     def click_on(self, selector):
         """Clicks on the first element that is found by this selector, scrolled into sight."""
@@ -130,7 +130,8 @@ class Check:
 
     def listed(self, kind):
         """The transactions that the panel lists so."""
-        return self.browser.value(f"[...document.querySelectorAll('#panel li.{kind} button')].map(one => one.dataset.id)")
+        found = f"document.querySelectorAll('#panel li.{kind} button')"
+        return self.browser.value(f"[...{found}].map(one => one.dataset.id)")
 
     def click_transaction(self, one):
         """A click on a bar marks what its snapshot sees."""
@@ -176,10 +177,12 @@ class Check:
 
 
 def refuses(script, replies):
-    """A reply too many, one too few, and a changed one are told."""
+    """A reply too many, one too few, and one between others are told."""
     lines = replies.splitlines(keepends=True)
     commands = commands_of(script)
-    for changed in (lines + [b"ended nobody\n"], lines[:-1], lines[:1] + [b"settled 9.9\n"] + lines[1:]):
+    for changed in (lines + [b"ended nobody\n"], lines[1:], lines[:1] + [b"settled 9.9\n"] + lines[1:]):
+        if changed == lines:
+            continue
         try:
             Walk(commands, replies_of(b"".join(changed))).whole()
         except Differs:
@@ -197,10 +200,12 @@ def check(words, browser, folder):
             print(f"apart: {name}: {str(differs)[:100]}")
             continue
         file = folder / f"{name}.html"
-        file.write_text(page.page(name, run, Layout(run).whole()), encoding="utf-8")
+        file.write_text(page.page(f"{name}.script", run, Layout(run).whole()), encoding="utf-8")
         one = Check(browser, name, run, file, words.shots)
         try:
             refuses(script, replies)
+            stored = TOP / "examples" / file.name
+            demand(not stored.exists() or stored.read_text() == file.read_text(), f"{stored} is of another day")
             print(f"right: {name}: {len(run.events)} replies, opened in {one.whole():.2f} s, {one.clicks} clicks")
         except Wrong as error:
             print(f"WRONG: {name}: {error}")

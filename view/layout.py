@@ -9,6 +9,7 @@ from dataclasses import dataclass
 
 ROW = 24
 LETTER = 6.7
+LABEL = 16
 COLOURS = 8
 LAYERS = ("lanes", "bars", "threads", "links", "arrows", "marks", "labels", "heads")
 MARKS = {
@@ -17,7 +18,7 @@ MARKS = {
     "fused": "fuse", "disk": "crash", "unsure": "crash", "damaged": "crash", "dup": "again", "gap": "refused",
 }
 LABELS = {
-    "wait clock": "waits: clock", "wait txn": "waits: transaction", "wait stable": "waits: stable", "crashed": "crash",
+    "wait clock": "waits: clock", "wait txn": "waits: txn", "wait stable": "waits: stable", "crashed": "crash",
     "restarted": "restart", "fused": "fuse", "disk": "disk fails", "unsure": "unsure", "bad op": "bad op",
 }
 
@@ -52,7 +53,7 @@ def cut(text, most):
 def beside(access, name):
     """An object's key, and the value of a read where it is short."""
     both = f"{access.object.key} = {access.shows}"
-    return both if name == "value" and len(both) <= 16 else access.object.key
+    return both if name == "value" and len(both) <= LABEL else access.object.key
 
 
 def middle(row):
@@ -68,6 +69,7 @@ class Layout:
         self.layers = {name: [] for name in LAYERS}
         self.numbers = {id_: at for at, id_ in enumerate(run.transactions)}
         self.accesses = {a.row: a for t in run.transactions.values() for a in t.reads + t.updates}
+        self.lost_in = {one.dropped: one for one in run.messages.values() if one.is_lost()}
         self.labels = {event.row: self.label_of(event) for event in run.events}
         self.slots = self.slots_of_bars()
         self.lanes = self.lanes_of_partitions()
@@ -118,7 +120,7 @@ class Layout:
         for place in self.run.partitions:
             line = left + 19 + LETTER * clocks.get(place, 1)
             label = line + 14 + 12 * bars.get(place, 0)
-            right = max(label + 8 + LETTER * min(labels.get(place, 0), 19), left + 56)
+            right = max(label + 8 + LETTER * min(labels.get(place, 0), LABEL), left + 56)
             lanes[place] = Lane(place, left, line, line + 12, label, right)
             left = right + (22 if place.part == self.run.parts else 0)
         return lanes
@@ -168,7 +170,7 @@ class Layout:
         self.draw_mark(event, lane.line, y, owner, access)
         if self.labels[event.row]:
             tone = self.tone(event)
-            shown = cut(self.labels[event.row], 19)
+            shown = cut(self.labels[event.row], LABEL)
             self.add("labels", "T", f"label {tone}", lane.label, y + 4, shown, owner=owner, access=access)
 
     def tone(self, event):
@@ -190,7 +192,7 @@ class Layout:
             words = event.text.split(" ")
             return {"sent": "", "took": "", "report": "", "heard": ""}.get(name, name + " ") + words[1]
         if name == "dropped":
-            return f"{event.text.split(' ')[1]} dropped"
+            return "" if event.row in self.lost_in else f"{event.text.split(' ')[1]} dropped"
         if name in ("down", "gone") or name.startswith(("no ", "has ", "limit ")):
             return name
         return LABELS.get(name, "")
@@ -221,14 +223,19 @@ class Layout:
         for end in message.ends:
             self.arrow(f"message {end.name}", start, top, goal, middle(end.row))
         if message.is_lost():
-            self.lost(message, start, goal, top)
+            self.lost(message, start, top)
         elif not message.ends:
             x, bottom = start + (goal - start) * 0.3, top + 1.6 * ROW
             self.add("arrows", "P", "message flying", top, bottom, f"M{start:.1f} {top:.1f}L{x:.1f} {bottom:.1f}")
 
-    def lost(self, message, start, goal, top):
+    def end_of_lost(self, message):
+        """Where between two lanes the arrow of a lost message ends."""
+        start, goal = self.lanes[message.place].line, self.lanes[message.target].line
+        return start + (goal - start) * 0.7
+
+    def lost(self, message, start, top):
         """An arrow that ends on its way, where its message was dropped."""
-        x, bottom = start + (goal - start) * 0.7, middle(message.dropped)
+        x, bottom = self.end_of_lost(message), middle(message.dropped)
         self.add("arrows", "P", "message lost", top, bottom, f"M{start:.1f} {top:.1f}L{x:.1f} {bottom:.1f}")
         self.add("marks", *mark("crash", x, bottom, "nobody"))
         self.add("labels", "T", "label refusal", x + 10, bottom + 4, f"{message.name} lost")
@@ -254,6 +261,8 @@ class Layout:
     def draw_link(self, link):
         """A wait or refusal, joined to what it waits for or rests on."""
         start, goal = self.lanes[link.place].line, self.lanes[link.to_place].line
+        lost = self.lost_in.get(link.to_row)
+        goal = self.end_of_lost(lost) if lost else goal
         y, to_y = middle(link.row), middle(link.to_row)
         bend = 18 if start == goal else 0
         path = f"M{start:.1f} {y:.1f}Q{(start + goal) / 2 - bend:.1f} {(y + to_y) / 2:.1f} {goal:.1f} {to_y:.1f}"

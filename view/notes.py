@@ -226,7 +226,7 @@ class Notes:
         kept = self.run.messages.get(name) or self.run.reports.get(name)
         if kept:
             self.event.place = self.event.place or kept.place
-            self.link(kept.dropped)
+            self.link(kept.dropped, kept.place)
 
     def on_wait_clock(self):
         place, transaction = self.event.place, self.transaction()

@@ -16,8 +16,8 @@ const markAt = new Map();
 const updatesOf = new Map();
 for (const [layer, shapes] of run.layers) {
   for (const shape of layer === "marks" ? shapes : []) {
-    const row = shape[shape.length - 1];
-    if (row) markAt.set(row, shape[0] === "R" ? [shape[2] + shape[4] / 2, shape[3] + shape[5] / 2] : [shape[2], shape[3]]);
+    const row = shape[shape.length - 1], [letter, , x, y, width, height] = shape;
+    if (row) markAt.set(row, letter === "R" ? [x + width / 2, y + height / 2] : [x, y]);
   }
 }
 run.transactions.forEach((transaction, owner) => {
@@ -27,13 +27,14 @@ run.transactions.forEach((transaction, owner) => {
   }
 });
 
-const escaped = text => String(text).replace(/[&<>"]/g, c => ({ "&": "&amp;", "<": "&lt;", ">": "&gt;", '"': "&quot;" })[c]);
+const ENTITIES = { "&": "&amp;", "<": "&lt;", ">": "&gt;", '"': "&quot;" };
+const escaped = text => String(text).replace(/[&<>"]/g, letter => ENTITIES[letter]);
 const within = (one, other) => one.every((entry, site) => entry <= other[site]);
 const vector = entries => entries ? `[${entries.join(",")}]` : "none";
 const longest = run.rows.reduce((most, row) => Math.max(most, row[1].length), 0);
 const cut = (text, most) => text.length <= most ? text : most ? text.slice(0, most - 1) + "…" : "";
 
-/** How wide the texts at the left are: as they need where there is room; none but line numbers where there is little. */
+/** How wide the texts at the left are: as they need where there is room; only numbers where there is little. */
 function gutter() {
   const wide = view.clientWidth, needed = 70 + longest * LETTER;
   return wide < 640 ? 62 : Math.min(needed, Math.max(wide < 1000 ? 230 : 390, wide - run.width - 30));
@@ -118,7 +119,8 @@ function draw() {
   const shapes = run.layers.map(([, layer]) => layer.map(shape => element(shape, sight, marks)).join("")).join("");
   drawing.setAttribute("width", wide);
   drawing.setAttribute("height", high);
-  drawing.innerHTML = `<g transform="translate(${side - left} ${HEADER - top})">${band(wide + left)}${shapes}${rings(marks)}</g>`
+  const picture = band(wide + left) + shapes + rings(marks);
+  drawing.innerHTML = `<g transform="translate(${side - left} ${HEADER - top})">${picture}</g>`
     + gutterRows(side, top, high, marks) + heads(side, left, wide);
 }
 
@@ -145,11 +147,11 @@ function gutterRows(side, top, high, marks) {
     const [line, shown, command, tone, owner] = run.rows[at];
     const y = HEADER + (at + 0.5) * run.row - top + 4;
     const dim = chosen && owner >= 0 && !marks.owners.has(owner) ? "dim" : "";
+    const whole = escaped(`${command}\n${shown}`), colour = owner < 0 ? "" : run.transactions[owner].colour;
     text += `<g class="${dim}" data-at="${at + 1}">${sign(at + 1, owner, marks, y)}`
       + (line ? `<text class="line" x="50" y="${y}">${line}</text>` : "")
-      + `<text class="reply ${tone}" x="56" y="${y}">${escaped(cut(shown, most))}<title>${escaped(`${command}\n${shown}`)}</title></text>`
-      + (owner >= 0 ? `<rect x="0" y="${y - 16}" width="4" height="${run.row}" class="bar s${run.transactions[owner].colour}"/>` : "")
-      + "</g>";
+      + `<text class="reply ${tone}" x="56" y="${y}">${escaped(cut(shown, most))}<title>${whole}</title></text>`
+      + (owner < 0 ? "" : `<rect class="bar s${colour}" x="0" y="${y - 16}" width="4" height="${run.row}"/>`) + "</g>";
   }
   return text + `<line class="rule" x1="${side}" y1="0" x2="${side}" y2="${high}"/>`;
 }
@@ -163,7 +165,8 @@ function sign(row, owner, { owners, rows }, y) {
 
 /** The names of sites and partitions, above the lanes. */
 function heads(side, left, wide) {
-  let text = `<rect class="paper" x="0" y="0" width="${wide}" height="${HEADER}"/><g transform="translate(${side - left} 0)">`;
+  let text = `<rect class="paper" x="0" y="0" width="${wide}" height="${HEADER}"/>`
+    + `<g transform="translate(${side - left} 0)">`;
   const sites = new Map();
   for (const [name, from, line, to] of run.lanes) {
     const site = name.split(".")[0];
@@ -171,9 +174,11 @@ function heads(side, left, wide) {
     text += `<text class="head" x="${line}" y="37">${name}</text>`;
   }
   for (const [site, [from, to]] of sites) {
-    text += `<text x="${from + 4}" y="15">site ${site}</text><line class="rule" x1="${from + 4}" y1="21" x2="${to}" y2="21"/>`;
+    text += `<text x="${from + 4}" y="15">site ${site}</text>`
+      + `<line class="rule" x1="${from + 4}" y1="21" x2="${to}" y2="21"/>`;
   }
-  const label = `<text x="56" y="37">${side < 100 ? "" : "reply"}</text><text class="line" x="50" y="37">line</text>`;
+  const label = `<text x="56" y="37">${side < 100 ? "" : "reply"}</text>`
+    + '<text class="line" x="50" y="37">line</text>';
   return text + `</g><rect class="paper" x="0" y="0" width="${side}" height="${HEADER}"/>${label}`
     + `<line class="rule" x1="0" y1="${HEADER}" x2="${wide}" y2="${HEADER}"/>`;
 }
@@ -242,12 +247,14 @@ function ofRead(owner, [row, object, value]) {
   const entries = (updatesOf.get(object) || []).map(update => {
     const { id, session, commit } = run.transactions[update.owner];
     const why = unseen(owner, row, update);
-    const shown = [button(`${session} ${id}`, update.owner, update.row), ` ${update.act} ${commit ? vector(commit) : ""} ${why}`];
+    const told = ` ${update.act} ${commit ? vector(commit) : ""} ${why}`;
+    const shown = [button(`${session} ${id}`, update.owner, update.row), told];
     return { seen: why === "", entry: made("li", shown, why === "" ? "yes" : "no") };
   });
   const [seen, others] = [true, false].map(is => entries.filter(entry => entry.seen === is).map(entry => entry.entry));
   return [
-    made("h2", `${one.session} reads ${object}`), made("p", value), made("p", button(`in ${one.id}`, owner, one.began)),
+    made("h2", `${one.session} reads ${object}`), made("p", value),
+    made("p", button(`in ${one.id}`, owner, one.began)),
     made("p", `snapshot ${vector(one.snapshot)}`), ...list(`Sees ${seen.length} updates of it`, seen),
     ...list(`Doesn't see ${others.length}`, others),
   ];
@@ -257,7 +264,8 @@ function ofRead(owner, [row, object, value]) {
 function hint() {
   panel.replaceChildren(document.getElementById("hint").content.cloneNode(true));
   const samples = [
-    ['<rect class="bar s0" x="8" y="1" width="8" height="16" rx="3"/>', "a transaction, in its session's colour; pale while it isn't committed"],
+    ['<rect class="bar s0" x="8" y="1" width="8" height="16" rx="3"/>',
+      "a transaction, in its session's colour; pale while it isn't committed"],
     ['<rect class="mark read s0" x="8" y="5" width="9" height="9"/>', "read"],
     ['<rect class="mark update s0" x="8" y="5" width="9" height="9"/>', "update"],
     ['<circle class="mark vote s0" cx="12" cy="9" r="5"/>', "prepared, or still pending"],
@@ -290,6 +298,12 @@ function go(step, from) {
   bring(row);
 }
 
+/** Chooses what was hit: a bar is its transaction, another mark stands for its row. */
+function chooseHit(owner, hit, row) {
+  const isBar = hit.classList.contains("bar"), isHere = run.rows[row - 1] && run.rows[row - 1][4] === owner;
+  choose(owner, isBar ? run.transactions[owner].began : Number(hit.dataset.access) || (isHere ? row : 0));
+}
+
 view.addEventListener("keydown", event => {
   const moves = { ArrowDown: [1, cursor], ArrowUp: [-1, cursor], Home: [1, 0], End: [-1, run.rows.length + 1] };
   if (event.key === "Escape") choose(-1, 0);
@@ -298,11 +312,12 @@ view.addEventListener("keydown", event => {
   event.preventDefault();
 });
 drawing.addEventListener("click", event => {
+  const down = event.clientY - view.getBoundingClientRect().top - HEADER;
   const hit = event.target.closest("[data-owner]");
-  const row = Math.floor((event.clientY - view.getBoundingClientRect().top - HEADER + view.scrollTop) / run.row) + 1;
-  const here = run.rows[row - 1];
-  if (hit) choose(Number(hit.dataset.owner), Number(hit.dataset.access) || (here && here[4] === Number(hit.dataset.owner) ? row : 0));
-  else choose(here ? here[4] : -1, here ? row : 0);
+  const row = Math.floor((down + view.scrollTop) / run.row) + 1, here = run.rows[row - 1];
+  if (down < 0) return;
+  if (!hit) choose(here ? here[4] : -1, here ? row : 0);
+  else chooseHit(Number(hit.dataset.owner), hit, row);
 });
 function later() {
   if (!asked) requestAnimationFrame(draw);

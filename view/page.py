@@ -8,7 +8,7 @@ from pathlib import Path
 from layout import COLOURS, LETTER, ROW, cut, is_refusal, is_wait, middle
 
 HERE = Path(__file__).resolve().parent
-GUTTER = 390
+MOST_GUTTER = 390
 HEADER = 44
 
 
@@ -108,7 +108,8 @@ def picture(run, layout, least, most):
     """The rows of these script lines as an SVG that stands alone."""
     events = [event for event in run.events if least <= event.line <= most]
     top, bottom = (middle(events[0].row) - ROW, middle(events[-1].row) + ROW) if events else (0, ROW)
-    width, height = GUTTER + layout.width() + 10, bottom - top + HEADER
+    side = min(MOST_GUTTER, 60 + LETTER * max((len(shown_in_row(event)) for event in events), default=0))
+    width, height = side + layout.width() + 10, bottom - top + HEADER
     shapes = "".join(drawn(shape, top, bottom) for layer in layout.layers.values() for shape in layer)
     rows = "".join(drawn_row(event, top) for event in events)
     heads = "".join(drawn_head(lane) for lane in layout.lanes.values())
@@ -117,8 +118,8 @@ def picture(run, layout, least, most):
         f'width="{width:.0f}" height="{height:.0f}" role="img">\n'
         f"<style>{(HERE / 'picture.css').read_text()}</style>\n"
         f'<rect class="paper" width="100%" height="100%"/>\n<g transform="translate(0 {HEADER})">{rows}</g>\n'
-        f'<g transform="translate({GUTTER} 0)">{heads}</g>\n'
-        f'<svg x="{GUTTER}" y="{HEADER}" width="{layout.width():.0f}" height="{bottom - top:.0f}" '
+        f'<g transform="translate({side:.0f} 0)">{heads}</g>\n'
+        f'<svg x="{side:.0f}" y="{HEADER}" width="{layout.width():.0f}" height="{bottom - top:.0f}" '
         f'viewBox="0 {top:.0f} {layout.width():.0f} {bottom - top:.0f}">{shapes}</svg>\n</svg>\n'
     )
 
@@ -127,13 +128,13 @@ def drawn_row(event, top):
     """A row's script line and text."""
     y = middle(event.row) - top + 4
     line = f'<text class="line" x="34" y="{y:.0f}">{event.line}</text>' if event.first else ""
-    shown = html.escape(cut(shown_in_row(event), int((GUTTER - 50) / LETTER)))
+    shown = html.escape(cut(shown_in_row(event), int((MOST_GUTTER - 50) / LETTER)))
     return f'{line}<text class="reply {tone(event)}" x="44" y="{y:.0f}">{shown}</text>'
 
 
 def drawn_head(lane):
     """The name of a lane."""
-    return f'<text class="head" x="{lane.line:.0f}" y="28">{lane.place}</text>'
+    return f'<text class="head" x="{lane.line:.0f}" y="32">{lane.place}</text>'
 
 
 def drawn(shape, top, bottom):
