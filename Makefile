@@ -2,12 +2,13 @@
 SCRIPT ?= examples/plain_path.script
 export SCRIPT
 
-.PHONY: help test play try bench script
+.PHONY: help test play try view bench script
 
 help:
 	@echo 'make test               the gate: proves every crate, tries the must-fail edits, runs tests and programs (over an hour)'
 	@echo 'make play SCRIPT=PATH   proves the program and plays a script (about 20 minutes the first time, then at once)'
 	@echo 'make try SCRIPT=PATH    plays a script before any proof (about a minute)'
+	@echo 'make view SCRIPT=PATH   plays as make play does, and draws the run as a page beside the script'
 	@echo 'make bench              proves and measures the play, of sites too, and reading and printing (minutes, after make play)'
 	@echo
 	@echo 'The times are for four processors with nothing else to do. Without SCRIPT, $(SCRIPT) is played.'
@@ -34,6 +35,13 @@ try: script
 		case "$$status $$said" in \
 		1*'run=ended status=1 '*) echo 'make try: a line of the script is not in the grammar.' >&2;; \
 		*) exit $$status;; esac
+
+# Draws beside the script, or where that can't be written, into a temporary file. The page's name is told.
+view: script
+	@folder=$$(mktemp -d) && name=$$(basename "$$SCRIPT" .script).html && page=$$(dirname "$$SCRIPT")/$$name && \
+		$(MAKE) -s --no-print-directory play > "$$folder/replies" && \
+		{ test -w "$$(dirname "$$SCRIPT")" || page=$$folder/$$name; } && \
+		python3 view/run.py "$$SCRIPT" "$$folder/replies" -o "$$page" && echo "make view: drawn in $$page"
 
 bench:
 	@echo 'make bench: proves dc_shell and text_bench, as make play does, and measures them.' >&2

@@ -1,0 +1,64 @@
+#!/usr/bin/env python3
+"""Draws a run: reads a script and its replies, and writes one page that opens by itself.
+
+view/run.py SCRIPT REPLIES [-o FILE.html]    the page; beside the replies, if no file is named
+view/run.py SCRIPT REPLIES -o FILE.svg       the picture alone; with --lines A-B of these script lines
+
+The status is 1 where the script and the replies don't belong together, and 2 where a file can't be read or written.
+"""
+
+import argparse
+import sys
+from pathlib import Path
+
+import page
+from answers import Differs, Walk
+from layout import Layout
+from replies import replies_of
+from script import commands_of
+
+
+def drawn(words):
+    """The page or picture that these words ask for."""
+    script, replies = Path(words.script).read_bytes(), Path(words.replies).read_bytes()
+    run = Walk(commands_of(script), replies_of(replies)).whole()
+    layout = Layout(run).whole()
+    if words.output.suffix == ".svg":
+        return page.picture(run, layout, *words.lines)
+    return page.page(Path(words.script).name, run, layout)
+
+
+def stretch(text):
+    """Two line numbers with a dash between."""
+    first, _, last = text.partition("-")
+    return int(first), int(last)
+
+
+def words_of_process():
+    """What the process was asked for."""
+    parser = argparse.ArgumentParser(prog="view/run.py", description="Draws a script and its replies as one page.")
+    parser.add_argument("script")
+    parser.add_argument("replies")
+    parser.add_argument("-o", "--output", type=Path, help="a file that ends in .html or .svg")
+    parser.add_argument("--lines", type=stretch, default=(1, sys.maxsize), help="A-B: script lines of a .svg")
+    words = parser.parse_args()
+    words.output = words.output or Path(words.replies).with_suffix(".html")
+    return words
+
+
+def main():
+    """Draws, and ends with the status."""
+    words = words_of_process()
+    try:
+        words.output.write_text(drawn(words), encoding="utf-8")
+    except Differs as differs:
+        print(f"view/run.py: the script and the replies don't belong together: {differs}", file=sys.stderr)
+        return 1
+    except OSError as error:
+        print(f"view/run.py: {error}", file=sys.stderr)
+        return 2
+    return 0
+
+
+if __name__ == "__main__":
+    sys.exit(main())
