@@ -10,3 +10,4 @@ pub mod Asking
 pub mod Making
 pub mod Messages
 pub mod Waits
+pub mod Filling

@@ -4,3 +4,4 @@ pub mod Reaches
 pub mod Answers
 pub mod Faults
 pub mod Fates
+pub mod Made

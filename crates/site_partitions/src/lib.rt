@@ -5,7 +5,9 @@
 mod calls;
 mod fates;
 mod faults;
+mod make;
 mod sites;
 
 pub use fates::Waiting;
+pub use make::MakeError;
 pub use sites::Sites;

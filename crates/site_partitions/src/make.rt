@@ -1,0 +1,116 @@
+// How the partitions of a cluster come up over their disks.
+ghost use Rattle.std.specs.Prelude.{◌≡◌, ◌≤◌, ◌+◌, ◌*◌, ◌++◌, [], ◌∷◌, length, IfOk, IfErr, OnOk};
+ghost use Rattle.site_partitions.specs.Held.{index_of};
+ghost use Rattle.site_partitions.specs.Made.{AreBlank, HandsBack};
+ghost use Rattle.site_partitions.specs.Reaches.{types_of, Reaches};
+ghost use Rattle.site_partitions.specs.declared.make.MakeError.TheVariants.{NoMemory};
+
+use crate::Sites;
+use crdt_core::Crdt;
+use disk_core::Disk;
+use partition_core::{DurablePartition, RestartError};
+use site_vector::PartId;
+use std::alloc::{AllocError, Global};
+
+/// Why the partitions of a cluster aren't made.
+#[derive(Drop)]
+pub enum MakeError<D: Drop> {
+    /// Memory ran out.
+    NoMemory,
+    /// A partition doesn't come up over its disk, which is handed back.
+    Partition {
+        part: PartId,
+        disk: D,
+        error: RestartError,
+    },
+}
+
+impl<D: Drop> From<AllocError> for MakeError<D> {
+    ghost from_gives = { λ e r. r ≡ NoMemory };
+
+    fn from(_error: AllocError) -> MakeError<D> {
+        MakeError::NoMemory
+    }
+}
+
+impl<C: Crdt, D: Disk + Drop> Sites<C, D> {
+    /// The partitions of a cluster whose logs these disks hold: one disk for each, site by site. They hold nothing over
+    /// disks that are formatted.
+    ///
+    /// # Errors
+    ///
+    /// `Partition` where one doesn't come up, as its restart says; `NoMemory` where memory runs out.
+    pub fn new(
+        alloc: Global,
+        sites: u8,
+        parts: u8,
+        disks: Vec<D>,
+    ) -> Result<Sites<C, D>, MakeError<D>>
+        requires least_site { 1 ≤ sites }
+        requires most_sites { sites ≤ 8 }
+        requires least_part { 1 ≤ parts }
+        requires most_parts { parts ≤ 16 }
+        requires all { length disks.items ≡ sites * parts }
+        ensures size { IfOk result (λ c. (c.sites ≡ sites) × (c.parts ≡ parts)) }
+        ensures reaches { IfOk result (λ c. AreBlank D.state disks.items → Reaches (types_of C.laws C.spells D.state) c []) }
+        ensures failed { IfErr result (λ e. HandsBack D.state sites parts disks.items e) }
+    {
+        let mut partitions = Vec::new(alloc);
+        let mut part = PartId { site: 1, part: 1 };
+        for disk in disks {
+            match DurablePartition::make(alloc, part, sites, parts, disk) {
+                Err((disk, error)) => {
+                    return Err(MakeError::Partition { part, disk, error });
+                }
+                Ok(partition) => {
+                    add(&mut partitions, partition)?;
+                }
+            }
+            part = next_part(part, parts);
+        }
+        Ok(Sites {
+            alloc,
+            sites,
+            parts,
+            partitions,
+        })
+    }
+
+    /// The partitions, site by site, each with its disk.
+    pub fn into_partitions(self) -> Vec<DurablePartition<C, D>>
+        ensures { result.items ≡ self.partitions }
+    {
+        self.partitions
+    }
+}
+
+fn add<T: Drop>(list: &mut Vec<T>, one: T) -> Result<(), AllocError>
+    ensures { OnOk result (list.new.items ≡ list.old.items ++ one ∷ []) }
+{
+    list.push(one)?;
+    Ok(())
+}
+
+/// The place after this one, site by site.
+fn next_part(at: PartId, parts: u8) -> PartId
+    requires least_site { 1 ≤ at.site }
+    requires most_site { at.site ≤ 8 }
+    requires least_part { 1 ≤ at.part }
+    requires most_part { at.part ≤ parts }
+    requires most_parts { parts ≤ 16 }
+    ensures index { index_of parts result ≡ index_of parts at + 1 }
+    ensures least_site { 1 ≤ result.site }
+    ensures least_part { 1 ≤ result.part }
+    ensures most_part { result.part ≤ parts }
+{
+    if at.part < parts {
+        return PartId {
+            site: at.site,
+            part: at.part + 1,
+        };
+    }
+    PartId {
+        site: at.site + 1,
+        part: 1,
+    }
+}
