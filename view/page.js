@@ -187,7 +187,7 @@ function heads(side, left, wide) {
 function choose(owner, row) {
   chosen = owner < 0 ? null : { transaction: owner, row: 0 };
   if (chosen && run.transactions[owner].reads.some(read => read[0] === row)) chosen.row = row;
-  if (row) cursor = row;
+  cursor = row;
   tell();
   draw();
 }
@@ -218,9 +218,10 @@ function list(title, entries) {
 
 /** Tells in the panel what is chosen. */
 function tell() {
-  if (!chosen) return hint();
-  const read = chosenRead();
-  panel.replaceChildren(...read ? ofRead(chosen.transaction, read) : ofTransaction(chosen.transaction));
+  const read = chosenRead(), here = run.rows[cursor - 1];
+  if (!chosen) hint();
+  else panel.replaceChildren(...read ? ofRead(chosen.transaction, read) : ofTransaction(chosen.transaction));
+  if (here) panel.prepend(made("p", `row ${cursor}: ${here[1]}`, "row"));
 }
 
 /** A transaction: its vectors, reads, values, updates, and what it sees. */
