@@ -79,6 +79,7 @@ class Layout:
         self.accesses = {a.row: a for t in run.transactions.values() for a in t.reads + t.updates}
         self.lost_in = {one.dropped: one for one in run.messages.values() if one.is_lost()}
         self.labels = {event.row: self.label_of(event) for event in run.events}
+        self.last = {event.transaction: event.row for event in run.events}
         self.slots = self.slots_of_bars()
         self.lanes = self.lanes_of_partitions()
 
@@ -112,7 +113,8 @@ class Layout:
         for transaction in self.run.transactions.values():
             ends = free_from.setdefault(transaction.place, [])
             slot = next((at for at, end in enumerate(ends) if end < transaction.began), len(ends))
-            ends[slot:slot + 1] = [transaction.ended or self.rows + 1]
+            ended = max(transaction.ended, self.last[transaction.id]) if transaction.ended else self.rows + 1
+            ends[slot:slot + 1] = [ended]
             slots[transaction.id] = slot
         return slots
 
@@ -164,12 +166,14 @@ class Layout:
             self.add("lanes", "L", "broken", lane.line, top, lane.line, bottom)
 
     def draw_bar(self, transaction):
-        """A transaction from its begin to its end."""
+        """A transaction from its begin to its end, with a tail to what others still do about it."""
         top = middle(transaction.began)
         bottom = middle(transaction.ended) if transaction.ended else self.height()
         name = f"bar {self.colour(transaction.session)} {transaction.status}"
-        at = self.bar_middle(transaction) - 4
-        self.add("bars", "R", name, at, top - 5, 8, bottom - top + 10, owner=self.numbers[transaction.id])
+        at, owner, last = self.bar_middle(transaction), self.numbers[transaction.id], middle(self.last[transaction.id])
+        self.add("bars", "R", name, at - 4, top - 5, 8, bottom - top + 10, owner=owner)
+        if last > bottom:
+            self.add("bars", "L", f"tail {self.colour(transaction.session)}", at, bottom, at, last, owner=owner)
 
     def draw_event(self, event):
         """The clock, the mark, the label, and the thread to the transaction's bar."""
@@ -177,7 +181,8 @@ class Layout:
         transaction = self.run.transactions.get(event.transaction)
         owner = self.numbers.get(event.transaction, -1)
         access = event.row if event.row in self.accesses else 0
-        self.add("labels", "T", "clock", lane.line - 11, y + 4, str(event.clock))
+        if event.name != "dropped":
+            self.add("labels", "T", "clock", lane.line - 11, y + 4, str(event.clock))
         if transaction and event.name != "ended":
             bar, name = self.bar_middle(transaction), f"thread {self.colour(transaction.session)}"
             self.add("threads", "L", name, lane.line, y, bar, y, owner=owner)

@@ -221,7 +221,7 @@ function tell() {
   const read = chosenRead(), here = run.rows[cursor - 1];
   if (!chosen) hint();
   else panel.replaceChildren(...read ? ofRead(chosen.transaction, read) : ofTransaction(chosen.transaction));
-  if (here) panel.prepend(made("p", `row ${cursor}: ${here[1]}`, "row"));
+  if (here) panel.prepend(made("p", `reply ${cursor}: ${here[1]}`, "row"));
 }
 
 /** A transaction: its vectors, reads, values, updates, and what it sees. */
@@ -284,8 +284,10 @@ function hint() {
     `<tr><td><svg width="24" height="18">${shape}</svg></td><td>${text}</td></tr>`).join("");
 }
 
-/** Scrolls to a row that is out of sight. */
+/** Scrolls to a row that is out of sight, and to the lane where it stands. */
 function bring(row) {
+  const x = run.rows[row - 1][6], wide = view.clientWidth - gutter() - 100;
+  if (x && (x < view.scrollLeft || x > view.scrollLeft + wide)) view.scrollLeft = Math.max(0, x - wide / 2);
   const y = (row - 1) * run.row, high = view.clientHeight - HEADER - run.row;
   if (y < view.scrollTop || y > view.scrollTop + high) view.scrollTop = Math.max(0, y - high / 2);
 }
