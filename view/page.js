@@ -256,8 +256,8 @@ function ofRead(owner, [row, object, value]) {
   return [
     made("h2", `${one.session} reads ${object}`), made("p", value),
     made("p", button(`in ${one.id}`, owner, one.began)),
-    made("p", `snapshot ${vector(one.snapshot)}`), ...list(`Sees ${seen.length} updates of it`, seen),
-    ...list(`Doesn't see ${others.length}`, others),
+    made("p", `snapshot ${vector(one.snapshot)}`), ...list(`Updates of it that it sees (${seen.length})`, seen),
+    ...list(`Updates of it that it doesn't see (${others.length})`, others),
   ];
 }
 
