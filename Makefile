@@ -2,7 +2,7 @@
 SCRIPT ?= examples/plain_path.script
 export SCRIPT
 
-.PHONY: help test play try view bench script
+.PHONY: help test play built try view bench script
 
 help:
 	@echo 'make test               the gate: proves every crate, tries the must-fail edits, runs tests and programs (over an hour)'
@@ -19,11 +19,14 @@ test:
 script:
 	@test -r "$$SCRIPT" || { echo "make: there is no script $$SCRIPT" >&2; exit 2; }
 
-# The first run reads no line: it proves and builds. Then the program plays the script, and 1 tells of a bad line.
-play: script
+# A run that reads no line proves and builds.
+built:
 	@echo 'make play: proves dc_shell and the crates below it, the lowest first: about 20 minutes the first time,' >&2
 	@echo 'seconds where nothing has changed. "chose --jobs N for NAME" tells which crate is at hand. Then it plays the script.' >&2
-	@cd crates/dc_shell && rt run -- play < /dev/null
+	@cd crates/dc_shell && rt run -- play < /dev/null >&2
+
+# The program plays the script, and 1 tells of a bad line.
+play: script built
 	@crates/dc_shell/out/dc_shell play < "$$SCRIPT" || { status=$$?; \
 		test $$status -eq 1 || exit $$status; \
 		echo 'make play: the program ended with status 1: a line of the script is not in the grammar.' >&2; }

@@ -137,7 +137,7 @@ class Walk:
         """The steps of a commit, each answered by one line, and its end."""
         session = self.run.sessions[command.args["session"]]
         transaction = session.transaction
-        if command.name == "abort":
+        if command.name == "abort" and not session.is_aborting():
             session.left = [("abort", place) for place in sorted(transaction.votes)]
             self.give_up(transaction)
         elif session.left is None:

@@ -91,6 +91,14 @@ class Browser:
         for kind in ("mousePressed", "mouseReleased"):
             self.call("Input.dispatchMouseEvent", type=kind, x=x, y=y, button="left", clickCount=1)
 
+    def tap(self, x, y):
+        """A finger comes down and goes up."""
+        self.call("Emulation.setTouchEmulationEnabled", enabled=True)
+        self.call("Input.dispatchTouchEvent", type="touchStart", touchPoints=[{"x": x, "y": y}])
+        self.call("Input.dispatchTouchEvent", type="touchEnd", touchPoints=[])
+        self.value("new Promise(done => setTimeout(done, 100))")
+        self.call("Emulation.setTouchEmulationEnabled", enabled=False)
+
     def key(self, name):
         """Presses and lets go of a key."""
         for kind in ("keyDown", "keyUp"):

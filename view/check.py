@@ -95,6 +95,7 @@ class Check:
         for transaction, read in self.some(self.reads()):
             self.click_read(transaction, read)
         self.keys()
+        self.tap()
         errors = self.browser.happened("Runtime.exceptionThrown")
         demand(not errors, f"its script failed: {errors[:1]}")
         return seconds
@@ -160,6 +161,14 @@ class Check:
         demand(self.listed("yes") == seen[:200], f"the read in row {read.row} should see {seen}")
         demand(self.listed("no") == others[:200], f"the read in row {read.row} shouldn't see {others}")
 
+    def tap(self):
+        """A tap on a bar chooses as a click does."""
+        for one in list(self.run.transactions.values())[:1]:
+            self.bring(one.began, one.place)
+            self.browser.tap(*self.browser.value(CENTRE.format('rect.bar[data-owner="0"]')))
+            demand(self.browser.value("chosen && chosen.transaction === 0"), "a tap chooses nothing")
+            self.browser.value("choose(-1, 0)")
+
     def keys(self):
         """The arrows choose, and Escape lets go."""
         if not self.run.transactions:
@@ -188,6 +197,17 @@ def refuses(script, replies):
         except Differs:
             continue
         raise Wrong("a changed list of replies is taken")
+
+
+def told(folder):
+    """The program tells of a pair that doesn't belong together, with the line and the status 1."""
+    shop, cut = TOP / "examples" / "shop.script", folder / "cut.replies"
+    lines = shop.with_suffix(".replies").read_bytes().splitlines(keepends=True)
+    cut.write_bytes(b"".join(lines[:7] + lines[8:]))
+    words = [sys.executable, TOP / "view" / "run.py", shop, cut, "-o", folder / "cut.html"]
+    ended = subprocess.run(words, stderr=subprocess.PIPE, text=True, check=False)
+    demand(ended.returncode == 1, f"the status is {ended.returncode} where replies are missing")
+    demand("reply line 8" in ended.stderr and not (folder / "cut.html").exists(), f"it told {ended.stderr}")
 
 
 def check(words, browser, folder):
@@ -225,6 +245,7 @@ def main():
     if words.shots:
         words.shots.mkdir(parents=True, exist_ok=True)
     with tempfile.TemporaryDirectory() as folder, Browser(words.browser) as browser:
+        told(Path(folder))
         return min(check(words, browser, Path(folder)), 1)
 
 

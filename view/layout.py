@@ -56,6 +56,14 @@ def beside(access, name):
     return both if name == "value" and len(both) <= LABEL else access.object.key
 
 
+def greatest(pairs):
+    """Of each name the greatest number that stands with it."""
+    most = {}
+    for name, number in pairs:
+        most[name] = max(most.get(name, 0), number)
+    return most
+
+
 def middle(row):
     """The height of the middle of a row; rows count from 1."""
     return (row - 0.5) * ROW
@@ -71,6 +79,7 @@ class Layout:
         self.accesses = {a.row: a for t in run.transactions.values() for a in t.reads + t.updates}
         self.lost_in = {one.dropped: one for one in run.messages.values() if one.is_lost()}
         self.labels = {event.row: self.label_of(event) for event in run.events}
+        self.last = {event.transaction: event.row for event in run.events}
         self.slots = self.slots_of_bars()
         self.lanes = self.lanes_of_partitions()
 
@@ -104,23 +113,27 @@ class Layout:
         for transaction in self.run.transactions.values():
             ends = free_from.setdefault(transaction.place, [])
             slot = next((at for at, end in enumerate(ends) if end < transaction.began), len(ends))
-            ends[slot:slot + 1] = [transaction.ended or self.rows + 1]
+            ended = max(transaction.ended, self.last[transaction.id]) if transaction.ended else self.rows + 1
+            ends[slot:slot + 1] = [ended]
             slots[transaction.id] = slot
         return slots
 
+    def needed(self):
+        """Of each partition the letters of its longest clock and of its longest label, and how many bars it has."""
+        events, ones = self.run.events, self.run.transactions.values()
+        clocks = greatest((event.place, len(str(event.clock or 0))) for event in events)
+        labels = greatest((event.place, len(self.labels[event.row])) for event in events)
+        bars = greatest((one.place, self.slots[one.id] + 1) for one in ones)
+        places = self.run.partitions
+        return {place: (clocks.get(place, 1), labels.get(place, 0), bars.get(place, 0)) for place in places}
+
     def lanes_of_partitions(self):
         """The lanes from left to right, as wide as their clocks, bars and labels need; a gap stands between sites."""
-        clocks, labels, bars = {}, {}, {}
-        for event in self.run.events:
-            clocks[event.place] = max(clocks.get(event.place, 1), len(str(event.clock or 0)))
-            labels[event.place] = max(labels.get(event.place, 0), len(self.labels[event.row]))
-        for transaction in self.run.transactions.values():
-            bars[transaction.place] = max(bars.get(transaction.place, 0), self.slots[transaction.id] + 1)
         lanes, left = {}, 6
-        for place in self.run.partitions:
-            line = left + 19 + LETTER * clocks.get(place, 1)
-            label = line + 14 + 12 * bars.get(place, 0)
-            right = max(label + 8 + LETTER * min(labels.get(place, 0), LABEL), left + 56)
+        for place, (clock, text, bars) in self.needed().items():
+            line = left + 19 + LETTER * clock
+            label = line + 14 + 12 * bars
+            right = max(label + 8 + LETTER * min(text, LABEL), left + 56)
             lanes[place] = Lane(place, left, line, line + 12, label, right)
             left = right + (22 if place.part == self.run.parts else 0)
         return lanes
@@ -139,23 +152,28 @@ class Layout:
         return self.lanes[transaction.place].bars + 12 * self.slots[transaction.id] + 4
 
     def draw_lanes(self):
-        """Each lane's line, and where it is down."""
+        """Each lane's line, and the bands where it is down."""
         for place, lane in self.lanes.items():
             self.add("lanes", "L", "lane", lane.line, 0, lane.line, self.height())
-            partition = self.run.partitions[place]
-            downs = partition.downs + ([(partition.down, self.rows + 1)] if partition.down else [])
-            for start, end in downs:
-                top, bottom = middle(start), middle(end)
-                self.add("lanes", "R", "down", lane.left + 2, top, lane.right - lane.left - 4, bottom - top)
-                self.add("lanes", "L", "broken", lane.line, top, lane.line, bottom)
+            self.draw_downs(lane, self.run.partitions[place])
+
+    def draw_downs(self, lane, partition):
+        """The bands where a partition is down; the last may have no end."""
+        last = [(partition.down, self.rows + 1)] if partition.down else []
+        for start, end in partition.downs + last:
+            top, bottom = middle(start), middle(end)
+            self.add("lanes", "R", "down", lane.left + 2, top, lane.right - lane.left - 4, bottom - top)
+            self.add("lanes", "L", "broken", lane.line, top, lane.line, bottom)
 
     def draw_bar(self, transaction):
-        """A transaction from its begin to its end."""
+        """A transaction from its begin to its end, with a tail to what others still do about it."""
         top = middle(transaction.began)
         bottom = middle(transaction.ended) if transaction.ended else self.height()
         name = f"bar {self.colour(transaction.session)} {transaction.status}"
-        at = self.bar_middle(transaction) - 4
-        self.add("bars", "R", name, at, top - 5, 8, bottom - top + 10, owner=self.numbers[transaction.id])
+        at, owner, last = self.bar_middle(transaction), self.numbers[transaction.id], middle(self.last[transaction.id])
+        self.add("bars", "R", name, at - 4, top - 5, 8, bottom - top + 10, owner=owner)
+        if last > bottom:
+            self.add("bars", "L", f"tail {self.colour(transaction.session)}", at, bottom, at, last, owner=owner)
 
     def draw_event(self, event):
         """The clock, the mark, the label, and the thread to the transaction's bar."""
@@ -163,7 +181,8 @@ class Layout:
         transaction = self.run.transactions.get(event.transaction)
         owner = self.numbers.get(event.transaction, -1)
         access = event.row if event.row in self.accesses else 0
-        self.add("labels", "T", "clock", lane.line - 11, y + 4, str(event.clock))
+        if event.name != "dropped":
+            self.add("labels", "T", "clock", lane.line - 11, y + 4, str(event.clock))
         if transaction and event.name != "ended":
             bar, name = self.bar_middle(transaction), f"thread {self.colour(transaction.session)}"
             self.add("threads", "L", name, lane.line, y, bar, y, owner=owner)

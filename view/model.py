@@ -1,5 +1,6 @@
 """What a run is made of, as far as its replies tell."""
 
+from collections import defaultdict
 from dataclasses import dataclass, field
 
 import words as w
@@ -84,6 +85,10 @@ class Session:
         """Whether its transaction is decided, so that only finishes are left."""
         return bool(self.left) and self.left[0][0] == "finish"
 
+    def is_aborting(self):
+        """Whether its transaction was given up, and aborts are left."""
+        return bool(self.left) and self.left[0][0] == "abort"
+
 
 @dataclass
 class Partition:
@@ -145,7 +150,7 @@ class Run:
         self.partitions, self.sessions, self.names = {}, {}, []
         self.transactions, self.messages, self.reports = {}, {}, {}
         self.events, self.links, self.waits, self.bad = [], [], [], []
-        self.asked, self.waiting = {}, []
+        self.waiting, self.aborted = defaultdict(list), {}
 
     def make(self, sites, parts):
         """The cluster is made."""

@@ -3,6 +3,8 @@
 import words as w
 from model import Access, Event, Link, Message, Report, Session, Transaction, joined
 
+MOVES = {"now", "began", "prepared", "took", "heard", "restarted"}
+
 
 def note(run, command, reply, where, first):
     """Adds a reply to a run; `where` is the partition that the command is about, if it is about one."""
@@ -54,15 +56,16 @@ class Notes:
     def wait_for(self, target, is_due):
         """This reply waits until the partition has come so far."""
         self.run.waits.append((self.event, self.reply.name, target))
-        self.run.waiting.append((self.event, is_due))
+        self.run.waiting[self.event.place].append((self.event, is_due))
 
     def resolve(self):
         """Joins the waits that this reply ends to it."""
-        due = [wait for wait in self.run.waiting if wait[0].row < self.event.row and wait[1](self.event)]
-        for wait, _ in due:
+        if self.reply.name not in MOVES or not self.run.waiting[self.event.place]:
+            return
+        waiting = [(wait, is_due, is_due()) for wait, is_due in self.run.waiting[self.event.place]]
+        self.run.waiting[self.event.place] = [(wait, is_due) for wait, is_due, is_over in waiting if not is_over]
+        for wait in (wait for wait, _, is_over in waiting if is_over):
             self.run.links.append(Link(wait.row, wait.place, self.event.row, self.event.place, "link waits"))
-        if due:
-            self.run.waiting = [wait for wait in self.run.waiting if wait not in due]
 
     def access(self):
         """A read or an update, done or refused."""
@@ -126,6 +129,7 @@ class Notes:
 
     def on_aborted(self):
         transaction = self.transaction()
+        self.run.aborted[self.event.transaction, self.event.place] = self.event.row
         if transaction and transaction.status != "committed":
             transaction.status = "aborted"
 
@@ -215,11 +219,7 @@ class Notes:
         self.link(self.here.down if self.here else None)
 
     def on_gone(self):
-        ended = (event for event in reversed(self.run.events[:-1]) if event.transaction == self.event.transaction)
-        for event in ended:
-            if event.name == "aborted" and event.place == self.event.place:
-                return self.link(event.row)
-        return None
+        self.link(self.run.aborted.get((self.event.transaction, self.event.place)))
 
     def on_no_message(self):
         name = self.args.get("message") or self.args.get("report")
@@ -229,9 +229,8 @@ class Notes:
             self.link(kept.dropped, kept.place)
 
     def on_wait_clock(self):
-        place, transaction = self.event.place, self.transaction()
-        target = transaction.snapshot[place.site - 1]
-        self.wait_for(target, lambda event: event.place == place and event.clock >= target)
+        here, target = self.here, self.transaction().snapshot[self.event.place.site - 1]
+        self.wait_for(target, lambda: here.clock >= target)
 
     def on_wait_txn(self):
         other = self.run.transactions.get(self.tells["other"])
@@ -241,4 +240,4 @@ class Notes:
     def on_wait_stable(self):
         run, place, site = self.run, self.event.place, self.tells["site"]
         target = run.sessions[self.args["session"]].depends[site - 1]
-        self.wait_for(target, lambda event: event.place == place and run.stable(place, site) >= target)
+        self.wait_for(target, lambda: run.stable(place, site) >= target)

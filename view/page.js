@@ -187,7 +187,7 @@ function heads(side, left, wide) {
 function choose(owner, row) {
   chosen = owner < 0 ? null : { transaction: owner, row: 0 };
   if (chosen && run.transactions[owner].reads.some(read => read[0] === row)) chosen.row = row;
-  if (row) cursor = row;
+  cursor = row;
   tell();
   draw();
 }
@@ -218,9 +218,10 @@ function list(title, entries) {
 
 /** Tells in the panel what is chosen. */
 function tell() {
-  if (!chosen) return hint();
-  const read = chosenRead();
-  panel.replaceChildren(...read ? ofRead(chosen.transaction, read) : ofTransaction(chosen.transaction));
+  const read = chosenRead(), here = run.rows[cursor - 1];
+  if (!chosen) hint();
+  else panel.replaceChildren(...read ? ofRead(chosen.transaction, read) : ofTransaction(chosen.transaction));
+  if (here) panel.prepend(made("p", `reply ${cursor}: ${here[1]}`, "row"));
 }
 
 /** A transaction: its vectors, reads, values, updates, and what it sees. */
@@ -255,8 +256,8 @@ function ofRead(owner, [row, object, value]) {
   return [
     made("h2", `${one.session} reads ${object}`), made("p", value),
     made("p", button(`in ${one.id}`, owner, one.began)),
-    made("p", `snapshot ${vector(one.snapshot)}`), ...list(`Sees ${seen.length} updates of it`, seen),
-    ...list(`Doesn't see ${others.length}`, others),
+    made("p", `snapshot ${vector(one.snapshot)}`), ...list(`Updates of it that it sees (${seen.length})`, seen),
+    ...list(`Updates of it that it doesn't see (${others.length})`, others),
   ];
 }
 
@@ -283,8 +284,10 @@ function hint() {
     `<tr><td><svg width="24" height="18">${shape}</svg></td><td>${text}</td></tr>`).join("");
 }
 
-/** Scrolls to a row that is out of sight. */
+/** Scrolls to a row that is out of sight, and to the lane where it stands. */
 function bring(row) {
+  const x = run.rows[row - 1][6], wide = view.clientWidth - gutter() - 100;
+  if (x && (x < view.scrollLeft || x > view.scrollLeft + wide)) view.scrollLeft = Math.max(0, x - wide / 2);
   const y = (row - 1) * run.row, high = view.clientHeight - HEADER - run.row;
   if (y < view.scrollTop || y > view.scrollTop + high) view.scrollTop = Math.max(0, y - high / 2);
 }

@@ -59,10 +59,11 @@ def tone(event):
 
 
 def row_of(event, layout):
-    """A row: script line, text, command, class, transaction, read or update."""
+    """A row: script line, text, command, class, transaction, read or update, and where its lane is."""
     return [
         event.line if event.first else 0, shown_in_row(event), event.command, tone(event),
         layout.numbers.get(event.transaction, -1), event.row if event.row in layout.accesses else 0,
+        round(layout.lanes[event.place].line) if event.place else 0,
     ]
 
 
