@@ -1,5 +1,5 @@
 -- What a call of a partition may rest on, where its cluster's may be asked.
-use Rattle.std.proofs.Common.{◌≡◌, ℕ, ◌*◌, ◌<◌, ◌≤◌, true, false, List, length, get_or, refl, sym, ap, ◌∙◌, subst, Option}
+use Rattle.std.proofs.Common.{◌≡◌, ℕ, ◌≤◌, true, false, List, length, get_or, refl, sym, ap, ◌∙◌, subst, Option}
 use Rattle.site_vector.specs.declared.ids.PartId.{PartId}
 use Rattle.site_vector.specs.declared.ids.TxId.{TxId}
 use Rattle.crdt_core.specs.declared.object.ObjectId.{ObjectId}
@@ -20,7 +20,7 @@ use Rattle.world_model.proofs.Fate.{voted_tried}
 use Rattle.world_model.proofs.Intervals.{numbered_shown}
 use Rattle.world_model.proofs.Premises.{premises}
 use Rattle.world_model.proofs.Whole.{part_begun, tried_begun}
-use Rattle.partition_core.specs.Durable.{Durable, StandsOn, StandsSo, StandsUp, is_down}
+use Rattle.partition_core.specs.Durable.{Durable, StandsSo, StandsUp, is_down}
 use Rattle.partition_core.specs.Stands.{IsNew}
 use Rattle.partition_core.specs.Tables.{knows}
 use Rattle.partition_core.proofs.Callers.{knows_no_new}

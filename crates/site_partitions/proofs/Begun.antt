@@ -1,6 +1,6 @@
 -- A transaction that began in a run of a cluster of this size has a spelling.
-use Rattle.std.proofs.Common.{◌≡◌, ℕ, ◌+◌, ◌<◌, ◌≤◌, ◌^◌, Bool, true, List, [], ◌∷◌, sym, ap, ◌∙◌, subst, ⊎_elim, arith}
-use Rattle.std.specs.Prelude.{◌&&◌, nat_le}
+use Rattle.std.proofs.Common.{◌≡◌, ℕ, ◌+◌, ◌≤◌, ◌^◌, true, List, [], ◌∷◌, sym, subst, ⊎_elim, arith}
+use Rattle.std.specs.Prelude.{nat_le}
 use Rattle.std.proofs.lemmas.Bool.{or_cases}
 use Rattle.field_codec.specs.FormLaws.{le_holds, and_true}
 use Rattle.site_vector.specs.declared.ids.PartId.{PartId}

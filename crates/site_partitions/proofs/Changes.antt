@@ -1,10 +1,10 @@
 -- What a transaction updated at a partition can be put into its log: its numbers ascend, and each of it can be put.
-use Rattle.std.proofs.Common.{◌≡◌, ℕ, ◌+◌, ◌<◌, ◌≤◌, Bool, true, false, List, [], ◌∷◌, ◌++◌, length, filter, refl, sym, ap, ◌∙◌, subst, Option, None, Some, Result, Ok, true≢false, arith}
-use Rattle.std.specs.Prelude.{◌&&◌, ◌==◌, nat_le, nat_lt, if◌then◌else◌, cond, IfOk, ⊤}
+use Rattle.std.proofs.Common.{◌≡◌, ℕ, ◌+◌, ◌<◌, ◌≤◌, Bool, true, false, List, [], ◌∷◌, ◌++◌, length, filter, refl, sym, ap, ◌∙◌, subst, Option, None, Some, true≢false, arith}
+use Rattle.std.specs.Prelude.{cond, ⊤}
 use Rattle.std.specs.List.{list_all}
 use Rattle.std.proofs.lemmas.List.{append-nil}
 use Rattle.std.proofs.lemmas.List.Folds.{list_all-append}
-use Rattle.field_codec.specs.FormLaws.{both_true, and_true, lt_holds, le_holds}
+use Rattle.field_codec.specs.FormLaws.{both_true, and_true, lt_holds}
 use Rattle.field_codec.specs.Spelling.{may_follow, are_in_order, are_members}
 use Rattle.site_vector.specs.declared.ids.PartId.{PartId}
 use Rattle.site_vector.specs.declared.ids.TxId.{TxId}

@@ -1,8 +1,8 @@
 -- Crashes, restarts and fuses of a partition, over all that its cluster had reached.
-use Rattle.std.proofs.Common.{◌≡◌, ◌≢◌, ℕ, zero, suc, ◌*◌, ◌<◌, ◌≤◌, true, false, List, length, get_or, set, refl, sym, ap, ◌∙◌, subst, Option, None, Some, Result, Ok, Err, arith}
+use Rattle.std.proofs.Common.{◌≡◌, ◌≢◌, ℕ, zero, suc, ◌*◌, ◌<◌, true, List, length, get_or, set, refl, sym, ap, subst, Option, None, Some, Result, Ok, Err, arith}
 use Rattle.std.specs.Prelude.{IsTrue}
 use Rattle.site_vector.specs.declared.ids.PartId.{PartId}
-use Rattle.disk_core.specs.States.{DiskState, GoesOn, Rose}
+use Rattle.disk_core.specs.States.{DiskState, GoesOn}
 use Rattle.gate_log.specs.Logs.{disk_of}
 use Rattle.gate_log.specs.declared.log.GateLog.{GateLog}
 use Rattle.world_model.specs.Event.{Event, Entry, Crashed, RestartCut, Ask}
@@ -19,7 +19,7 @@ use Rattle.partition_core.specs.Tables.{Tables, IsSame}
 use Rattle.site_partitions.specs.Held.{Held, IsSized, index_of}
 use Rattle.site_partitions.specs.Reaches.{Types, StandsAt, Reaches}
 use Rattle.site_partitions.specs.Faults.{CrashesAt, StaysDownAt, ComesUpAt, RestartsAt, ArmsAt, RevivesAt}
-use Rattle.site_partitions.proofs.Going.{changed_to, moves, stands_at, reached_as, reached_still}
+use Rattle.site_partitions.proofs.Going.{moves, stands_at, reached_as, reached_still}
 
 -- a disk in the same state but for its fuse has gone on
 gone_on : (old new : DiskState) → new.tells ≡ old.tells → new.room ≡ old.room → new.faults ≡ old.faults → new.starved ≡ old.starved → GoesOn old new

@@ -1,5 +1,5 @@
 -- Which partition stands where a cluster's code looks.
-use Rattle.std.proofs.Common.{◌≡◌, ℕ, ◌*◌, ◌<◌, Bool, List, length, get_or, set, sym, ap, ◌∙◌, subst}
+use Rattle.std.proofs.Common.{◌≡◌, ℕ, ◌*◌, ◌<◌, Bool, List, length, get_or, sym, ap, ◌∙◌, subst}
 use Rattle.std.proofs.lemmas.List.{get_or-set_same, set-get_or}
 use Rattle.site_vector.specs.declared.ids.PartId.{PartId}
 use Rattle.partition_core.specs.Durable.{Durable, is_down}

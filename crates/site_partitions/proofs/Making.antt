@@ -1,6 +1,6 @@
 -- What a partition made for a session can be put into a log.
-use Rattle.std.proofs.Common.{◌≡◌, ℕ, ◌*◌, ◌<◌, ◌≤◌, true, false, List, filter, length, get_or, sym, ap, ◌∙◌, subst, Option, Result, Ok, Err}
-use Rattle.std.specs.Prelude.{nat_le, IfOk, ◌&&◌}
+use Rattle.std.proofs.Common.{◌≡◌, ℕ, ◌*◌, ◌<◌, ◌≤◌, true, List, length, get_or, sym, subst, Option, Result, Ok}
+use Rattle.std.specs.Prelude.{nat_le, IfOk}
 use Rattle.field_codec.specs.FormLaws.{and_true, le_holds}
 use Rattle.site_vector.specs.declared.ids.PartId.{PartId}
 use Rattle.site_vector.specs.declared.ids.TxId.{TxId}
@@ -11,7 +11,7 @@ use Rattle.crdt_core.specs.Contents.{Content}
 use Rattle.crdt_core.specs.EffectForm.{IsReady}
 use Rattle.crdt_core.specs.Spelled.{is_between, is_tx}
 use Rattle.log_records.specs.Updates.{can_put_update}
-use Rattle.world_model.specs.Event.{AskUpdate, AskPrepare}
+use Rattle.world_model.specs.Event.{AskUpdate}
 use Rattle.world_model.specs.Partition.{PartState}
 use Rattle.world_model.specs.Plan.{IsPlace}
 use Rattle.world_model.proofs.Whole.{shown_begun}

@@ -1,4 +1,4 @@
-use Rattle.std.proofs.Common.{◌≡◌, ◌++◌, sym, ap, ◌∙◌, subst, arith}
+use Rattle.std.proofs.Common.{◌++◌, sym, ap, ◌∙◌, subst, arith}
 use Rattle.site_partitions.specs.Reaches.{types_of}
 use Rattle.site_partitions.proofs.Filling.{IsFilling, filling_start, fits, filling_more, filling_ends}
 use Rattle.site_partitions.proofs.sites.Sites.new.Goals as goal

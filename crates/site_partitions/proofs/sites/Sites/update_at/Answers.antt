@@ -1,7 +1,6 @@
-use Rattle.std.proofs.Common.{◌≡◌, ℕ, List, sym, refl, subst}
+use Rattle.std.proofs.Common.{◌≡◌, List, sym, refl, subst}
 use Rattle.world_model.specs.Event.{AskUpdate, Updated}
 use Rattle.partition_core.specs.Steps.{Anything}
-use Rattle.site_partitions.specs.Answers.{Any}
 use Rattle.site_partitions.specs.Reaches.{types_of, PutsEvent}
 use Rattle.site_partitions.proofs.Going.{IsShown, asked}
 use Rattle.site_partitions.proofs.Asking.{update_width}

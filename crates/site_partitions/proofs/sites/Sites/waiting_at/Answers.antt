@@ -1,4 +1,4 @@
-use Rattle.std.proofs.Common.{◌≡◌, ◌∙◌, ap, map}
+use Rattle.std.proofs.Common.{◌∙◌, ap, map}
 use Rattle.site_partitions.specs.Fates.{waiting_of}
 use Rattle.site_partitions.proofs.Asking.{up_place}
 use Rattle.site_partitions.proofs.Finding.{is_at}
