@@ -49,4 +49,5 @@ pub mod Premises
 pub mod Waiting
 pub mod PrepareTimes
 pub mod Told
+pub mod Settles
 pub mod PastJoins
