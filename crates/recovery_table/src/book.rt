@@ -2,7 +2,8 @@
 use crate::call::Call;
 use std::alloc::{AllocError, Global};
 
-/// What a call writes into the log. Times are in logical ticks; a transaction is named by the time that was drawn for it.
+/// What a call writes into the log. Times are in logical ticks; a transaction is named by the time that was drawn for
+/// it.
 #[derive(Clone, Copy)]
 pub(crate) enum Note {
     Lease { ceiling: u64 },
@@ -20,8 +21,8 @@ pub(crate) struct Waiting {
     amount: u64,
 }
 
-/// What a log tells: the ceiling of its last lease, what is pending, what was committed here and when, how far the other
-/// site's messages came and what they added, and the last transaction that was decided.
+/// What a log tells: the ceiling of its last lease, what is pending, what was committed here and when, how far the
+/// other site's messages came and what they added, and the last transaction that was decided.
 #[derive(Drop)]
 pub(crate) struct Sum {
     pub(crate) ceiling: u64,

@@ -46,7 +46,9 @@ fn is_down(answer: &Result<u64, Failure>) -> bool {
 fn telling_of(alloc: Global, place: &mut Place, up: &Restarted) -> Result<Telling, Failure> {
     let mut pending = Vec::new(alloc);
     for (tx, time) in up.pending.as_slice() {
-        pending.push((tx.time, *time)).map_err(|_| Failure::Unasked)?;
+        pending
+            .push((tx.time, *time))
+            .map_err(|_| Failure::Unasked)?;
     }
     let [own, other] = up.bounds.as_slice() else {
         return Err(Failure::Differs);
@@ -116,7 +118,9 @@ impl Scene {
     fn play(&mut self, alloc: Global, step: Step) -> Result<(), Failure> {
         match (step.cut, step.call) {
             (Some((at, kept)), call) => {
-                let _ = self.cut(call, at, kept)?;
+                if !self.cut(call, at, kept)? {
+                    return Err(Failure::Unasked);
+                }
             }
             (None, Call::Restart) => {
                 let _ = self.restart(alloc)?;
@@ -168,12 +172,7 @@ fn crash(
 }
 
 /// The same at each call of the disk. Answers how many it makes.
-fn crash_each(
-    alloc: Global,
-    out: &mut String,
-    point: &Point,
-    kept: u64,
-) -> Result<u64, Failure> {
+fn crash_each(alloc: Global, out: &mut String, point: &Point, kept: u64) -> Result<u64, Failure> {
     for at in 1..MOST_CALLS {
         if !crash(alloc, out, point, at, kept)? {
             return Ok(at - 1);
@@ -190,7 +189,8 @@ fn pass(alloc: Global, out: &mut String, point: &Point) -> Result<(u64, u64), Fa
         writeln!(out, "{}: {text}", point.step.text)?;
         return Ok((1, 16));
     }
-    let calls = 4 * scene.book.notes_of(point.step.call)?.len() as u64;
+    let records = scene.book.notes_of(point.step.call)?.len() as u64;
+    let calls = records.saturating_mul(4);
     match scene.ask(point.step.call)? {
         Ok(time) => {
             writeln!(out, "{}: {time}", point.step.text)?;

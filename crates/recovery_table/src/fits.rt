@@ -1,7 +1,7 @@
 // Records that a partition may have written or not, and what they tell.
 use crate::answers::Failure;
 use crate::call::words_of;
-use crate::words::{Brought, Vote, brought, vote};
+use crate::words::{Brought, Vote, batch_message, vote_record};
 use crdt_core::Record;
 use field_codec::ListOf;
 use log_recovery::{Rebuilt, rebuild, unfit};
@@ -27,25 +27,27 @@ fn vector(own: u64, other: u64) -> VTime {
 /// A vote for a transaction, one tick after it began.
 fn vote_of(alloc: Global, begun: u64, lead: u64) -> Result<Option<Record<i64>>, AllocError> {
     let wanted = Vote {
+        at: HERE.part,
         part: 2,
         begun,
         lead: lead.min(255) as u8,
         time: begun.saturating_add(1),
         amount: 1,
     };
-    vote(alloc, &wanted)
+    vote_record(alloc, &wanted)
 }
 
 /// What a message of the other site brought up to five ticks above its start.
 fn batch_of(alloc: Global, lo: u64) -> Result<Option<Record<i64>>, AllocError> {
     let wanted = Brought {
+        part: HERE.part,
         lo,
         hi: lo.saturating_add(5),
         begun: lo,
         time: lo.saturating_add(1),
         amount: 1,
     };
-    let message = brought(alloc, &wanted)?;
+    let message = batch_message(alloc, &wanted)?;
     Ok(message.map(|message| Record::Batch { message }))
 }
 

@@ -1,9 +1,9 @@
 //! A partition on its disk, cut off at each call of the disk and restarted, as a table.
 //!
-//! `recovery_table table` answers the lines of standard input, as table.rt says: its stored run is the test of the restart
-//! of partition_core and of log_recovery. It ends with status 1 where a partition comes up otherwise than the calls
-//! before allow. `recovery_table bench N` makes N transactions, and `recovery_table restart N TIMES` restarts their log
-//! so many times, for bench/recovery to measure.
+//! `recovery_table table` answers the lines of standard input, as table.rt says: its stored run is the test of the
+//! restart of partition_core and of log_recovery. It ends with status 1 where a partition comes up otherwise than the
+//! calls before allow. `recovery_table bench N` makes N transactions, and `recovery_table restart N TIMES` restarts
+//! their log so many times, for bench/recovery to measure.
 #![tactic(auto)]
 
 mod answers;

@@ -5,7 +5,7 @@ ghost use Rattle.recovery_table.specs.Places.{CanPut, CanPutMessage, MayTake};
 
 use crate::answers::Failure;
 use crate::call::Call;
-use crate::words::{Brought, Vote, brought, vote};
+use crate::words::{Brought, Vote, batch_message, key_of, vote_record};
 use crdt_core::{Kind, Message, ObjectId, Record, Value};
 use crdt_counters::CounterPn;
 use disk_core::{Fused, MemDisk};
@@ -47,9 +47,9 @@ impl Model for Place {
     ghost invariant = { λ p. IsAt p.id p.partition.tables × IsPlace 2 2 p.id };
 }
 
-/// The counter that all updates add to.
-fn milk(alloc: Global) -> Result<ObjectId, Failure> {
-    let (Some(bucket), Some(key)) = (Text::of(alloc, "b")?, Text::of(alloc, "milk")?) else {
+/// The counter that all updates of a partition add to.
+fn counter(alloc: Global, part: u8) -> Result<ObjectId, Failure> {
+    let (Some(bucket), Some(key)) = (Text::of(alloc, "b")?, Text::of(alloc, key_of(part))?) else {
         return Err(Failure::Unasked);
     };
     Ok(ObjectId {
@@ -157,9 +157,10 @@ impl Place {
         if tx.site != self.id.site || s.width() != SIZE || self.partition.knows(*tx) {
             return Err(Failure::Unasked);
         }
-        Ok(self
-            .partition
-            .prepare(self.alloc, *tx, s, *lead, updates.as_slice())?)
+        Ok(
+            self.partition
+                .prepare(self.alloc, *tx, s, *lead, updates.as_slice())?,
+        )
     }
 
     /// Asks it to commit a transaction of its site at a time: as the lead, or not.
@@ -196,8 +197,8 @@ impl Place {
             return Err(Failure::Unasked);
         }
         let tx = self.own(s.get(1));
-        let milk = milk(self.alloc)?;
-        match self.partition.read(self.alloc, tx, s, &milk, &[])? {
+        let counter = counter(self.alloc, self.id.part)?;
+        match self.partition.read(self.alloc, tx, s, &counter, &[])? {
             Value::Int(n) => Ok(n),
             _ => Err(Failure::Unasked),
         }
@@ -221,13 +222,14 @@ impl Place {
     fn ask_vote(&mut self, begun: u64, amount: u64, lead: u64) -> Result<u64, Failure> {
         let part = self.id.part;
         let wanted = Vote {
+            at: part,
             part,
             begun,
             lead: if lead == 0 { part } else { lead.min(16) as u8 },
             time: 0,
             amount,
         };
-        match vote(self.alloc, &wanted)? {
+        match vote_record(self.alloc, &wanted)? {
             Some(record) => self.prepare(&record),
             None => Err(Failure::Unasked),
         }
@@ -236,13 +238,14 @@ impl Place {
     /// Hands on a message of the other site, with one transaction, committed at the message's end.
     fn ask_take(&mut self, lo: u64, hi: u64, amount: u64) -> Result<(), Failure> {
         let wanted = Brought {
+            part: self.id.part,
             lo,
             hi,
             begun: lo,
             time: hi,
             amount,
         };
-        match brought(self.alloc, &wanted)? {
+        match batch_message(self.alloc, &wanted)? {
             Some(message) => self.take(&message),
             None => Err(Failure::Unasked),
         }

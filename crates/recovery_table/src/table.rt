@@ -1,10 +1,10 @@
 ghost use Rattle.std.specs.Prelude.{◌≤◌};
 
-// The table. Each line is copied. `crashes PART ROOM; ` and calls, which commas part, of this partition of the first site,
-// over a disk of so much room: what each answers after those before it, and what comes up where it is cut off at each
-// call of the disk. `wrong PART ROOM; ` and calls: what comes up where one byte is changed of those that they leave.
-// `elsewhere PART ROOM; ` and calls: what comes up over their disk as the second partition. `fits; ` and records: whether
-// they fit, and what they tell.
+// The table. Each line is copied. `crashes PART ROOM; ` and calls, which commas part, of this partition of the first
+// site, over a disk of so much room: what each answers after those before it, and what comes up where it is cut off at
+// each call of the disk. `wrong PART ROOM; ` and calls: what comes up where one byte is changed of those that they
+// leave. `elsewhere PART ROOM; ` and calls: what comes up over their disk as the second partition. `fits; ` and
+// records: whether they fit, and what they tell.
 use crate::answers::Failure;
 use crate::call::{steps_of, words_of};
 use crate::crashes::{Home, bytes_after, try_each, wake};
@@ -42,6 +42,7 @@ fn answer(alloc: Global, out: &mut String, line: &str) -> Result<(), Failure> {
         "elsewhere" => {
             let steps = steps_of(alloc, rest)?;
             let bytes = bytes_after(alloc, home, steps.as_slice())?;
+            out.push_str(" ")?;
             put_waking(alloc, out, 2, bytes.as_slice())
         }
         "fits" => fits::answer(alloc, out, rest),
@@ -55,8 +56,8 @@ fn put_waking(alloc: Global, out: &mut String, part: u8, bytes: &[u8]) -> Result
     requires most { part ≤ 2 }
 {
     match wake(alloc, part, bytes) {
-        Ok(text) => writeln!(out, "  {text}")?,
-        Err(failure) => writeln!(out, "  {failure}")?,
+        Ok(text) => writeln!(out, " {text}")?,
+        Err(failure) => writeln!(out, " {failure}")?,
     }
     Ok(())
 }
