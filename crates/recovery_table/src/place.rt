@@ -141,8 +141,8 @@ impl Place {
     }
 
     /// Asks for the vote that a record tells, whose own time doesn't count.
-    fn prepare(&mut self, record: &Record<i64>) -> Result<u64, Failure>
-        requires { CanPut record.now }
+    fn prepare(&mut self, voted: &Record<i64>) -> Result<u64, Failure>
+        requires { CanPut voted.now }
     {
         let Record::Prepare {
             tx,
@@ -150,7 +150,7 @@ impl Place {
             s,
             updates,
             ..
-        } = record
+        } = voted
         else {
             return Err(Failure::Unasked);
         };
