@@ -13,3 +13,6 @@ mod waiting;
 pub use fitting::unfit;
 pub use laws::law_fitting;
 pub use recovery::{Rebuilt, rebuild};
+
+#[cfg(test)]
+mod tests;
