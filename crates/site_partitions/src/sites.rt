@@ -1,6 +1,6 @@
 ghost use Rattle.std.specs.Prelude.{◌≡◌, ◌<◌, ◌≤◌, ◌*◌};
 ghost use Rattle.world_model.specs.Plan.{IsPlace};
-ghost use Rattle.site_partitions.specs.Held.{index_of, holds_site, holds_part, IsDownAt};
+ghost use Rattle.site_partitions.specs.Held.{index_of, holds_site, holds_part, IsDownAt, IsStarvedAt};
 
 use crdt_core::Crdt;
 use disk_core::Disk;
@@ -71,6 +71,15 @@ impl<C: Crdt, D: Disk + Drop> Sites<C, D> {
     {
         let i = index_of(at, self.sites, self.parts);
         self.partitions[i].is_down()
+    }
+
+    /// Whether a call of a partition's disk failed because it found no memory to grow.
+    pub fn starved_at(&self, at: PartId) -> bool
+        requires { IsPlace self.now.sites self.now.parts at }
+        ensures { IsStarvedAt D.state self.now at result }
+    {
+        let i = index_of(at, self.sites, self.parts);
+        self.partitions[i].starved()
     }
 }
 
