@@ -10,7 +10,8 @@ use Rattle.world_model.specs.Cluster.{parts_of}
 use Rattle.world_model.specs.Run.{Run}
 use Rattle.world_model.specs.ScriptCalls.{calls_of}
 use Rattle.world_model.specs.Updates.{lead}
-use Rattle.site_partitions.specs.Held.{Held, IsStarvedAt, holds_part}
+use Rattle.site_partitions.specs.Held.{Held, holds_part}
+use Rattle.site_partitions.specs.Starved.{IsStarvedAt}
 use Rattle.cluster.specs.Same.{faults_at}
 
 module _ {E D : Type 0} (state : D → DiskState) where

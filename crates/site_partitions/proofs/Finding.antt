@@ -2,9 +2,8 @@
 use Rattle.std.proofs.Common.{◌≡◌, ℕ, ◌*◌, ◌<◌, Bool, List, length, get_or, sym, ap, ◌∙◌, subst}
 use Rattle.std.proofs.lemmas.List.{get_or-set_same, set-get_or}
 use Rattle.site_vector.specs.declared.ids.PartId.{PartId}
-use Rattle.disk_core.specs.States.{DiskState}
-use Rattle.partition_core.specs.Durable.{Durable, disk_in, is_down}
-use Rattle.site_partitions.specs.Held.{Held, IsSized, IsAt, IsDownAt, IsStarvedAt, index_of}
+use Rattle.partition_core.specs.Durable.{Durable, is_down}
+use Rattle.site_partitions.specs.Held.{Held, IsSized, IsAt, IsDownAt, index_of}
 
 -- an element that is there doesn't depend on what would stand for none
 same_there : {A : Type 0} (xs : List A) (i : ℕ) (a b : A) → i < length xs → get_or xs i b ≡ get_or xs i a
@@ -25,6 +24,3 @@ module _ {E D : Type 0} (sites parts : ℕ) (items : List (Durable E D)) (c : He
 
   pub down_at : i < sites * parts → (t : Durable E D) → t ≡ get_or items i t → (b : Bool) → b ≡ is_down t → IsDownAt c at b
   down_at below t there b e u h = ap (λ (x : Durable E D). is_down x) (sym (h t) ∙ is_at below t there t) ∙ sym e
-
-  pub starved_at : (state : D → DiskState) → i < sites * parts → (t : Durable E D) → t ≡ get_or items i t → (b : Bool) → b ≡ (disk_in state t).starved → IsStarvedAt state c at b
-  starved_at state below t there b e u h = ap (λ (x : Durable E D). (disk_in state x).starved) (sym (h t) ∙ is_at below t there t) ∙ sym e

@@ -1,8 +1,7 @@
 -- The partitions of all sites on their disks, as contracts see them.
 use Rattle.std.specs.Prelude.{◌≡◌, ℕ, ◌+◌, ◌-◌, ◌*◌, ◌≤◌, Bool, ◌&&◌, nat_le, List, get_or, set}
 use Rattle.site_vector.specs.declared.ids.PartId.{PartId}
-use Rattle.disk_core.specs.States.{DiskState}
-use Rattle.partition_core.specs.Durable.{Durable, disk_in, is_down}
+use Rattle.partition_core.specs.Durable.{Durable, is_down}
 
 pub record Held (E D : Type 0) : Type 0 where
   pub sites : ℕ
@@ -42,7 +41,3 @@ module _ {E D : Type 0} where
   -- whether the partition there is down
   abbrev pub IsDownAt : Held E D → PartId → Bool → Type 0
   IsDownAt c at b = (t : Durable E D) → IsAt c at t → is_down t ≡ b
-
-  -- whether the disk there lacked memory to grow
-  abbrev pub IsStarvedAt : (D → DiskState) → Held E D → PartId → Bool → Type 0
-  IsStarvedAt state c at b = (t : Durable E D) → IsAt c at t → (disk_in state t).starved ≡ b

@@ -1,6 +1,7 @@
 ghost use Rattle.std.specs.Prelude.{◌≡◌, ◌<◌, ◌≤◌, ◌*◌};
 ghost use Rattle.world_model.specs.Plan.{IsPlace};
-ghost use Rattle.site_partitions.specs.Held.{index_of, holds_site, holds_part, IsDownAt, IsStarvedAt};
+ghost use Rattle.site_partitions.specs.Held.{index_of, holds_site, holds_part, IsDownAt};
+ghost use Rattle.site_partitions.specs.Starved.{IsStarvedAt};
 
 use crdt_core::Crdt;
 use disk_core::Disk;
