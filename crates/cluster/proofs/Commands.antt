@@ -5,7 +5,6 @@ use Rattle.site_vector.specs.declared.ids.PartId.{PartId}
 use Rattle.site_vector.specs.declared.ids.TxId.{TxId}
 use Rattle.crdt_core.specs.declared.object.ObjectId.{ObjectId}
 use Rattle.crdt_core.specs.declared.record.Upd.{Upd}
-use Rattle.crdt_core.specs.KindsOf.{Kinds}
 use Rattle.crdt_core.specs.Placing.{place_of}
 use Rattle.world_model.specs.declared.command.Command.TheVariants as command
 use Rattle.world_model.specs.declared.step.Step.{Step}
@@ -29,9 +28,10 @@ use Rattle.txn_session.specs.declared.phase.Phase.{Phase as Stage}
 use Rattle.txn_session.specs.Session as session
 use Rattle.txn_session.specs.Session.{Doing, Idle, Open, Ending, SessionState}
 use Rattle.txn_session.specs.Session.{own_updates, place_in}
+use Rattle.site_partitions.specs.Reaches.{Types}
 use Rattle.cluster.specs.Acts.{Acts, Reads}
 use Rattle.cluster.specs.Built.{is_built}
-use Rattle.cluster.specs.Held.{Held}
+use Rattle.site_partitions.specs.Held.{Held}
 use Rattle.cluster.specs.Live.{LiveState, session_in, phase_in, phase_about, is_open_phase, are_open}
 use Rattle.cluster.specs.Reached.{phase_as, StandsBy, GoesTo, AppliesLive}
 use Rattle.cluster.specs.Sees.{is_calm, Sees}
@@ -89,50 +89,50 @@ module _ {E : Type 0} where
     read_bears (Cut what) a c run name h = off c
     read_bears other a c run name h = absurd cc
 
-module _ {S E : Type 0} (kinds : Kinds S E) (c : LiveState E) (name : List ℕ) where
+module _ {S E D : Type 0} (types : Types S E D) (c : LiveState E D) (name : List ℕ) where
   -- its session isn't there
   pub absent_in : phase_in c.sessions name ≡ None → session_in c.sessions name ≡ None
   absent_in h = none_about (session_in c.sessions name) h
 
   module _ (o : ObjectId) where
-    pub read_absent : (steps : List Step) → steps ≡ step.NoSession ∷ [] → session_in c.sessions name ≡ None → AppliesLive kinds c (command.Read name o) steps c
-    read_absent steps is none = refused kinds c (command.Read name o) step.NoSession steps is refl
-        (λ run r. first_at (all_met run (command.Read name o)) 2 (refl, (has kinds c run r name, lacks_session kinds c run r name none)))
+    pub read_absent : (steps : List Step) → steps ≡ step.NoSession ∷ [] → session_in c.sessions name ≡ None → AppliesLive types c (command.Read name o) steps c
+    read_absent steps is none = refused types c (command.Read name o) step.NoSession steps is refl
+        (λ run r. first_at (all_met run (command.Read name o)) 2 (refl, (has types c run r name, lacks_session types c run r name none)))
         (λ run r who. refl)
 
-    pub read_shut : (steps : List Step) → steps ≡ step.NoTxn ∷ [] → IsShut (session_in c.sessions name) → AppliesLive kinds c (command.Read name o) steps c
-    read_shut steps is x = let s = x.found in let there = x.is in let shut = x.shut in refused kinds c (command.Read name o) step.NoTxn steps is refl
-        (λ run r. first_at (all_met run (command.Read name o)) 3 (refl, (has kinds c run r name, (has_session kinds c run r name s there, ap not (open_is kinds c run r name s there ∙ shut)))))
+    pub read_shut : (steps : List Step) → steps ≡ step.NoTxn ∷ [] → IsShut (session_in c.sessions name) → AppliesLive types c (command.Read name o) steps c
+    read_shut steps is x = let s = x.found in let there = x.is in let shut = x.shut in refused types c (command.Read name o) step.NoTxn steps is refl
+        (λ run r. first_at (all_met run (command.Read name o)) 3 (refl, (has types c run r name, (has_session types c run r name s there, ap not (open_is types c run r name s there ∙ shut)))))
         (λ run r who. refl)
 
-    pub read_applies : (later : Held E) (sessions : List (List ℕ × SessionState E)) (answer : Step) (steps : List Step) → steps ≡ answer ∷ [] → are_open (phase_in c.sessions name) ≡ true → Acts kinds c.sites c.sessions name later sessions (Reads kinds later o answer) → AppliesLive kinds c (command.Read name o) steps (record { sites = later; sessions = sessions })
+    pub read_applies : (later : Held E D) (sessions : List (List ℕ × SessionState E)) (answer : Step) (steps : List Step) → steps ≡ answer ∷ [] → are_open (phase_in c.sessions name) ≡ true → Acts types c.sites c.sessions name later sessions (Reads types later o answer) → AppliesLive types c (command.Read name o) steps (record { sites = later; sessions = sessions })
     read_applies later sessions answer steps is opened a number run r =
-        subst (λ l. IsAnswer is_built run (command.Read name o) l × GoesTo kinds c run r (record { sites = later; sessions = sessions }) (answered number (Some (command.Read name o)) l run)) (sym is)
+        subst (λ l. IsAnswer is_built run (command.Read name o) l × GoesTo types c run r (record { sites = later; sessions = sessions }) (answered number (Some (command.Read name o)) l run)) (sym is)
         (by_doing a.before.doing refl is_open d.1)
       where
         st : StandsBy run r.calls name a.before
-        st = by_name kinds c run r name a.before a.is
+        st = by_name types c run r name a.before a.is
 
-        d : Reads kinds later o answer a.before a.after r.calls
+        d : Reads types later o answer a.before a.after r.calls
         d = a.does r.calls r.sees st.holds
 
         is_open : session.is_open a.before.doing ≡ true
         is_open = sym (open_phase a.before.doing) ∙ subst (λ x. are_open (phase_about x) ≡ true) a.is opened
 
-        by_doing : (doing : Doing E) → a.before.doing ≡ doing → session.is_open doing ≡ true → MakesRead (λ h (p : Unit {0}) l. Sees kinds h l) (λ (p : Unit {0}) n. true) later tt r.calls a.before a.after o answer doing
-            → IsAnswer is_built run (command.Read name o) (answer ∷ []) × GoesTo kinds c run r (record { sites = later; sessions = sessions }) (answered number (Some (command.Read name o)) (answer ∷ []) run)
+        by_doing : (doing : Doing E) → a.before.doing ≡ doing → session.is_open doing ≡ true → MakesRead (λ h (p : Unit {0}) l. Sees types h l) (λ (p : Unit {0}) n. true) later tt r.calls a.before a.after o answer doing
+            → IsAnswer is_built run (command.Read name o) (answer ∷ []) × GoesTo types c run r (record { sites = later; sessions = sessions }) (answered number (Some (command.Read name o)) (answer ∷ []) run)
         by_doing Idle e h m = off h
         by_doing (Ending txn lead commit) e h m = off h
         by_doing (Open txn) e h m =
-            let t = turns kinds later tt r.calls a.before a.after (Some txn.by) _ _ answer m in
+            let t = turns types later tt r.calls a.before a.after (Some txn.by) _ _ answer m in
             let x = subst (HoldsDoing a.before.sites a.before.parts a.before.name a.before.site r.calls) e st.holds.doing in
             let mine : session_of (entries r.calls) txn.tx ≡ name = x.0.session ∙ st.name in
             let place : PartId = place_in a.before (place_of o.bucket o.key a.before.parts) in
             let bears = subst (Bears run (command.Read name o)) (sym t.shows) (read_bears (entries r.calls) place txn.tx txn.s o (own_updates txn.updates o) t.event t.asked t.seen.calm.0 run name mine) in
             let up = answer_up (entries r.calls) place t.event answer t.shows t.seen.calm.0 in (
-              (subst (AnswersBy run (command.Read name o) (answer ∷ [])) (sym (none_due (all_met run (command.Read name o)) (refl, (has kinds c run r name, (has_session kinds c run r name a.before a.is, (ap not (open_is kinds c run r name a.before a.is ∙ is_open), tt)))))) (answer, refl, ap (λ b. b && true) up.0, bears), ap (λ b. b && true) up.1),
-              acted kinds c run r number (command.Read name o) name a.before a.is a.after place (AskRead txn.tx txn.s o (own_updates txn.updates o)) answer later t sessions (record {
-                size = a.size;
+              (subst (AnswersBy run (command.Read name o) (answer ∷ [])) (sym (none_due (all_met run (command.Read name o)) (refl, (has types c run r name, (has_session types c run r name a.before a.is, (ap not (open_is types c run r name a.before a.is ∙ is_open), tt)))))) (answer, refl, ap (λ b. b && true) up.0, bears), ap (λ b. b && true) up.1),
+              acted types c run r number (command.Read name o) name a.before a.is a.after place (AskRead txn.tx txn.s o (own_updates txn.updates o)) answer later t sessions (record {
+                same = a.same;
                 put = a.put;
                 there = record { name = ap (λ y. y.name) d.0; site = ap (λ y. y.site) d.0; sites = ap (λ y. y.sites) d.0; parts = ap (λ y. y.parts) d.0 };
                 own = mine;

@@ -26,7 +26,6 @@ use Rattle.world_model.specs.ScriptCalls.{for_step}
 use Rattle.world_model.proofs.Names.{off}
 use Rattle.txn_session.specs.Session.{Txn, Doing, Idle, Open, Ending, SessionState, can_abort, giving_up, phase_of, stands_at, updates_of, numbers_from, participants}
 use Rattle.txn_session.specs.Opens.{told_of, dependency_told, EndsAs, begun_end, given_up_end, next_said, stepped}
-use Rattle.crdt_core.specs.KindsOf.{Kinds}
 use Rattle.world_model.specs.declared.commit.Next.{Next}
 use Rattle.world_model.specs.declared.commit.Next.TheVariants as next
 use Rattle.clocksi_commit.specs.Commit.{is_finishing}
@@ -35,10 +34,11 @@ use Rattle.txn_session.specs.declared.error.SessionError.{SessionError}
 use Rattle.txn_session.specs.declared.error.SessionError.TheVariants.{NoTxn}
 use Rattle.txn_session.specs.Calls.{Call}
 use Rattle.txn_session.specs.Holds.{Holds, MakesStep, next_of}
+use Rattle.site_partitions.specs.Reaches.{Types}
 use Rattle.cluster.specs.declared.commits.Way.{Way}
 use Rattle.cluster.specs.declared.commits.Way.TheVariants as way
 use Rattle.cluster.specs.Ends.{TakesStep, goes_on}
-use Rattle.cluster.specs.Held.{Held}
+use Rattle.site_partitions.specs.Held.{Held}
 use Rattle.cluster.specs.Sees.{is_calm, Sees}
 use Rattle.cluster.proofs.Applying.{ok_is}
 use Rattle.cluster.proofs.Sessions.{own_name}
@@ -188,15 +188,15 @@ module _ {E : Type 0} where
   gives_go (Open txn) answer h = refl
   gives_go (Ending txn lead commit) answer h = go_on commit.going answer h
 
-  module _ {S : Type 0} (kinds : Kinds S E) (held later : Held E) (old new : SessionState E) (w : Way) (goes : Bool) (answer : Step) where
+  module _ {S D : Type 0} (types : Types S E D) (held later : Held E D) (old new : SessionState E) (w : Way) (goes : Bool) (answer : Step) where
     abbrev MadeFrom : SessionState E → Step → Type 0
-    MadeFrom start s = (calls : List (Call E)) → Sees kinds held calls → Holds old calls → MakesStep (λ h (p : Unit {0}) l. Sees kinds h l) (λ (p : Unit {0}) n. true) later tt calls start new s start.doing (next_of start.doing)
+    MadeFrom start s = (calls : List (Call E)) → Sees types held calls → Holds old calls → MakesStep (λ h (p : Unit {0}) l. Sees types h l) (λ (p : Unit {0}) n. true) later tt calls start new s start.doing (next_of start.doing)
 
     abbrev StepsOn : Type 0
-    StepsOn = (calls : List (Call E)) → Sees kinds held calls → Holds old calls → TakesStep kinds later w answer goes old new calls
+    StepsOn = (calls : List (Call E)) → Sees types held calls → Holds old calls → TakesStep types later w answer goes old new calls
 
     pub commits_on : w ≡ way.Commits → (n : Next) (r : Result (Step × Next) SessionError) → r ≡ Ok (answer, n) → IfOk r (λ x. new ≡ stepped (begun_end old) x.0) → IfOk r (λ x. x.1 ≡ next_said (begun_end old).doing x.0) → IfOk r (λ x. EndsAs old.name (next_of (begun_end old).doing) x.0) → IfOk r (λ x. MadeFrom (begun_end old) x.0) → (p : Stage) → goes ≡ goes_on p n → p ≡ phase_of new.doing → StepsOn
-    commits_on e n r ok is said ended made p g stands calls seen holds = subst (λ x. TakesStep kinds later x answer goes old new calls) (sym e) (g ∙ (λ i. goes_on (stands i) (ok_is _ r (answer, n) ok said i)), record { is = ok_is _ r (answer, n) ok is; ended = ok_is _ r (answer, n) ok ended; made = ok_is _ r (answer, n) ok made calls seen holds })
+    commits_on e n r ok is said ended made p g stands calls seen holds = subst (λ x. TakesStep types later x answer goes old new calls) (sym e) (g ∙ (λ i. goes_on (stands i) (ok_is _ r (answer, n) ok said i)), record { is = ok_is _ r (answer, n) ok is; ended = ok_is _ r (answer, n) ok ended; made = ok_is _ r (answer, n) ok made calls seen holds })
 
     pub gives_on : w ≡ way.GivesUp → (r : Result Step SessionError) → r ≡ Ok answer → (r ≡ Err NoTxn) ↔ (can_abort old.doing ≡ false) → IfOk r (λ x. new ≡ stepped (given_up_end old) x) → IfOk r (λ x. EndsAs old.name (next_of (given_up_end old).doing) x) → IfOk r (λ x. MadeFrom (given_up_end old) x) → (p : Stage) → goes ≡ goes_on p next.Go → p ≡ phase_of new.doing → StepsOn
-    gives_on e r ok can is ended made p g stands calls seen holds = subst (λ x. TakesStep kinds later x answer goes old new calls) (sym e) (g ∙ (λ i. goes_on (stands i) (sym (gives_go old.doing answer (can_of (can_abort old.doing) r answer can ok)) i)), record { is = ok_is _ r answer ok is; ended = ok_is _ r answer ok ended; made = ok_is _ r answer ok made calls seen holds })
+    gives_on e r ok can is ended made p g stands calls seen holds = subst (λ x. TakesStep types later x answer goes old new calls) (sym e) (g ∙ (λ i. goes_on (stands i) (sym (gives_go old.doing answer (can_of (can_abort old.doing) r answer can ok)) i)), record { is = ok_is _ r answer ok is; ended = ok_is _ r answer ok ended; made = ok_is _ r answer ok made calls seen holds })

@@ -4,7 +4,6 @@ use Rattle.std.specs.Prelude.{not, ◌&&◌, ◌||◌, ◌==◌}
 use Rattle.std.proofs.lemmas.Bool.{or_parts, eqb-true, cases_Bool}
 use Rattle.site_vector.specs.declared.ids.PartId.{PartId}
 use Rattle.site_vector.specs.declared.ids.TxId.{TxId}
-use Rattle.crdt_core.specs.KindsOf.{Kinds}
 use Rattle.crdt_core.specs.Log as log
 use Rattle.crdt_core.specs.Log.{committed}
 use Rattle.world_model.specs.declared.command.Command.TheVariants as command
@@ -26,9 +25,10 @@ use Rattle.partition_core.specs.declared.answers.Fate.{Fate}
 use Rattle.partition_core.specs.declared.answers.Fate.TheVariants as fate
 use Rattle.partition_core.specs.Answers.{fate_told}
 use Rattle.txn_session.specs.Calls.{called, entries}
+use Rattle.site_partitions.specs.Reaches.{Types}
 use Rattle.cluster.specs.Built.{is_built}
 use Rattle.cluster.specs.Fates.{lacks_txn, lead_place, IsLead, OfState, Drops}
-use Rattle.cluster.specs.Held.{Held, holds_part}
+use Rattle.site_partitions.specs.Held.{Held, holds_part}
 use Rattle.cluster.specs.Live.{LiveState}
 use Rattle.cluster.specs.Reached.{ReachedLive, GoesTo, AppliesLive}
 use Rattle.cluster.specs.Sees.{Sees}
@@ -64,12 +64,12 @@ module _ {E : Type 0} where
       by_fate fate.Aborted m h = absurd (cc h)
       by_fate fate.Down m h = absurd (cc h)
 
-module _ {S E : Type 0} (kinds : Kinds S E) (c : LiveState E) (p : PartId) (t : TxId) where
-  lacks_in : (run : Run) → ReachedLive kinds c run → lacks_txn c.sites p t ≡ (not (has_part run p) || (not (t.site == p.site) || not (has_part run (home t))))
-  lacks_in run r = λ i. not (part_in kinds c run r p i) || (not (t.site == p.site) || not (part_in kinds c run r (home t) i))
+module _ {S E D : Type 0} (types : Types S E D) (c : LiveState E D) (p : PartId) (t : TxId) where
+  lacks_in : (run : Run) → ReachedLive types c run → lacks_txn c.sites p t ≡ (not (has_part run p) || (not (t.site == p.site) || not (has_part run (home t))))
+  lacks_in run r = λ i. not (part_in types c run r p i) || (not (t.site == p.site) || not (part_in types c run r (home t) i))
 
-  pub expire_nowhere : (steps : List Step) → steps ≡ step.NoPart ∷ [] → lacks_txn c.sites p t ≡ true → AppliesLive kinds c (command.Expire p t) steps c
-  expire_nowhere steps is lacks = refused kinds c (command.Expire p t) step.NoPart steps is refl
+  pub expire_nowhere : (steps : List Step) → steps ≡ step.NoPart ∷ [] → lacks_txn c.sites p t ≡ true → AppliesLive types c (command.Expire p t) steps c
+  expire_nowhere steps is lacks = refused types c (command.Expire p t) step.NoPart steps is refl
       (λ run r. first_at (all_met run (command.Expire p t)) 2 (refl, (ap not r.has, sym (lacks_in run r) ∙ lacks)))
       (λ run r who. refl)
 
@@ -81,51 +81,51 @@ module _ {S E : Type 0} (kinds : Kinds S E) (c : LiveState E) (p : PartId) (t : 
     of_site = eqb-true t.site p.site (none_lacks (t.site == p.site) (or_parts (not (t.site == p.site)) _ (or_parts (not (holds_part c.sites p)) _ has).1).0)
 
     -- p is up, and is asked for nothing
-    only_looks : (s : Step) (run : Run) → ReachedLive kinds c run → asks_abort (parts_of run) (calls_of run) p t ≡ false → s ≡ looked_up (calls_of run) p t → IsExpired run p t (s ∷ [])
-    only_looks s run r h k = either_false _ _ (is_down (calls_of run) p) (down_is kinds c run r p here) (either_false _ _ (asks_abort (parts_of run) (calls_of run) p t) h (ap (λ y. y ∷ []) k))
+    only_looks : (s : Step) (run : Run) → ReachedLive types c run → asks_abort (parts_of run) (calls_of run) p t ≡ false → s ≡ looked_up (calls_of run) p t → IsExpired run p t (s ∷ [])
+    only_looks s run r h k = either_false _ _ (is_down (calls_of run) p) (down_is types c run r p here) (either_false _ _ (asks_abort (parts_of run) (calls_of run) p t) h (ap (λ y. y ∷ []) k))
 
     -- or is asked for an abort
-    aborts : (run : Run) → ReachedLive kinds c run → asks_abort (parts_of run) (calls_of run) p t ≡ true → IsExpired run p t (step.Aborted p t ∷ [])
-    aborts run r h = either_false _ _ (is_down (calls_of run) p) (down_is kinds c run r p here) (either_true _ _ (asks_abort (parts_of run) (calls_of run) p t) h (step.Aborted p t, refl, refl, tt))
+    aborts : (run : Run) → ReachedLive types c run → asks_abort (parts_of run) (calls_of run) p t ≡ true → IsExpired run p t (step.Aborted p t ∷ [])
+    aborts run r h = either_false _ _ (is_down (calls_of run) p) (down_is types c run r p here) (either_true _ _ (asks_abort (parts_of run) (calls_of run) p t) h (step.Aborted p t, refl, refl, tt))
 
     -- one line, with the cluster after it
-    line_applies : (s : Step) (new : LiveState E) (steps : List Step) → steps ≡ s ∷ [] → is_sound s ≡ true → ((number : ℕ) (run : Run) (r : ReachedLive kinds c run) → IsExpired run p t (s ∷ []) × GoesTo kinds c run r new ((record { number = number; command = Some (command.Expire p t); step = s }) ∷ run)) → AppliesLive kinds c (command.Expire p t) steps new
+    line_applies : (s : Step) (new : LiveState E D) (steps : List Step) → steps ≡ s ∷ [] → is_sound s ≡ true → ((number : ℕ) (run : Run) (r : ReachedLive types c run) → IsExpired run p t (s ∷ []) × GoesTo types c run r new ((record { number = number; command = Some (command.Expire p t); step = s }) ∷ run)) → AppliesLive types c (command.Expire p t) steps new
     line_applies s new steps is sound f number run r =
         let x = f number run r in
-        subst (λ l. IsAnswer is_built run (command.Expire p t) l × GoesTo kinds c run r new (answered number (Some (command.Expire p t)) l run)) (sym is) (
+        subst (λ l. IsAnswer is_built run (command.Expire p t) l × GoesTo types c run r new (answered number (Some (command.Expire p t)) l run)) (sym is) (
           (subst (AnswersBy run (command.Expire p t) (s ∷ [])) (sym (none_due (all_met run (command.Expire p t)) (refl, (ap not r.has, (sym (lacks_in run r) ∙ has, tt))))) x.0, ap (λ b. b && true) sound),
           x.1,
         )
 
-    pub expire_pending : (n : ℕ) (steps : List Step) → steps ≡ step.Pending p t ∷ [] → OfState kinds c.sites p (λ q. IsLead q.log t (Some n)) → (n ≡ p.part → ⊥) → AppliesLive kinds c (command.Expire p t) steps c
+    pub expire_pending : (n : ℕ) (steps : List Step) → steps ≡ step.Pending p t ∷ [] → OfState types c.sites p (λ q. IsLead q.log t (Some n)) → (n ≡ p.part → ⊥) → AppliesLive types c (command.Expire p t) steps c
     expire_pending n steps is led other = line_applies (step.Pending p t) c steps is refl (λ number run r.
         let l = led (entries r.calls) r.sees.reached in (
-          only_looks (step.Pending p t) run r (asks_elsewhere (parts_of run) (calls_of run) p t (led_elsewhere (parts_of run) (calls_of run) p t n (lead_is kinds c run r p here t l.0 ∙ ap (lead_place p) (sym l.1)) other)) (looked_pending (calls_of run) p t (sym (waiting_is kinds c run r p here t) ∙ l.0)),
-          goes_quiet kinds c number (Some (command.Expire p t)) (step.Pending p t) run (record { called = refl; cluster = refl; sites = λ k. refl; parts = λ k. refl; site = λ who old. refl; count = λ k. refl; phase = λ who. refl }) refl r,
+          only_looks (step.Pending p t) run r (asks_elsewhere (parts_of run) (calls_of run) p t (led_elsewhere (parts_of run) (calls_of run) p t n (lead_is types c run r p here t l.0 ∙ ap (lead_place p) (sym l.1)) other)) (looked_pending (calls_of run) p t (sym (waiting_is types c run r p here t) ∙ l.0)),
+          goes_quiet types c number (Some (command.Expire p t)) (step.Pending p t) run (record { called = refl; cluster = refl; sites = λ k. refl; parts = λ k. refl; site = λ who old. refl; count = λ k. refl; phase = λ who. refl }) refl r,
         ))
 
-    pub expire_aborted : (n : ℕ) (later : Held E) (steps : List Step) → steps ≡ step.Aborted p t ∷ [] → OfState kinds c.sites p (λ q. IsLead q.log t (Some n)) → n ≡ p.part → Drops kinds c.sites later p t → AppliesLive kinds c (command.Expire p t) steps (record { sites = later; sessions = c.sessions })
+    pub expire_aborted : (n : ℕ) (later : Held E D) (steps : List Step) → steps ≡ step.Aborted p t ∷ [] → OfState types c.sites p (λ q. IsLead q.log t (Some n)) → n ≡ p.part → Drops types c.sites later p t → AppliesLive types c (command.Expire p t) steps (record { sites = later; sessions = c.sessions })
     expire_aborted n later steps is led own d = line_applies (step.Aborted p t) (record { sites = later; sessions = c.sessions }) steps is refl (λ number run r.
         let l = led (entries r.calls) r.sees.reached in
-        let lead_here : lead (parts_of run) (calls_of run) t ≡ p = lead_is kinds c run r p here t l.0 ∙ ap (lead_place p) (sym l.1 ∙ own) in
-        let allowed = (law.told kinds c.sites.sites c.sites.parts (entries r.calls) r.sees.reached.state r.sees.reached.is_run p).aborts t (inl (sym (lead_same kinds c run r t ∙ lead_here))) in
-        let seen : Sees kinds later (called 0 p (Aborted t false) ∷ r.calls) = record { reached = d.goes (entries r.calls) r.sees.reached l.0 allowed; calm = (refl, r.sees.calm); one_caller = (refl, r.sees.one_caller) } in (
-          aborts run r (asks_here (parts_of run) (calls_of run) p t (sym (waiting_is kinds c run r p here t) ∙ l.0) (led_here (parts_of run) (calls_of run) p t lead_here)),
-          turned_alone kinds c run r number (command.Expire p t) 0 p (Aborted t false) later d.size seen refl refl (λ who s. refl) (λ who. tt) tt,
+        let lead_here : lead (parts_of run) (calls_of run) t ≡ p = lead_is types c run r p here t l.0 ∙ ap (lead_place p) (sym l.1 ∙ own) in
+        let allowed = (law.told types.kinds c.sites.sites c.sites.parts (entries r.calls) r.sees.reached.state r.sees.reached.is_run p).aborts t (inl (sym (lead_same types c run r t ∙ lead_here))) in
+        let seen : Sees types later (called 0 p (Aborted t false) ∷ r.calls) = record { reached = d.goes (entries r.calls) r.sees.reached l.0 allowed; calm = (refl, r.sees.calm); one_caller = (refl, r.sees.one_caller) } in (
+          aborts run r (asks_here (parts_of run) (calls_of run) p t (sym (waiting_is types c run r p here t) ∙ l.0) (led_here (parts_of run) (calls_of run) p t lead_here)),
+          turned_alone types c run r number (command.Expire p t) 0 p (Aborted t false) later d.same seen refl refl (λ who s. refl) (λ who. tt) tt,
         ))
 
-    pub expire_finished : (v : List ℕ) (steps : List Step) → steps ≡ step.Finished p t ∷ [] → OfState kinds c.sites p (λ q. IsLead q.log t None) → OfState kinds c.sites p (λ q. ToldCommitted v ≡ fate_of q t) → AppliesLive kinds c (command.Expire p t) steps c
+    pub expire_finished : (v : List ℕ) (steps : List Step) → steps ≡ step.Finished p t ∷ [] → OfState types c.sites p (λ q. IsLead q.log t None) → OfState types c.sites p (λ q. ToldCommitted v ≡ fate_of q t) → AppliesLive types c (command.Expire p t) steps c
     expire_finished v steps is ended told = line_applies (step.Finished p t) c steps is refl (λ number run r.
         let k = ended (entries r.calls) r.sees.reached in
-        let done = told_committed (r.sees.reached.state p) t v (is_up kinds c run r p here) k (told (entries r.calls) r.sees.reached) in (
-          only_looks (step.Finished p t) run r (asks_ended (parts_of run) (calls_of run) p t (sym (waiting_is kinds c run r p here t) ∙ k)) (looked_finished (calls_of run) p t (sym (waiting_is kinds c run r p here t) ∙ k) (sym (ended_is kinds c run r p here t of_site) ∙ done)),
-          goes_quiet kinds c number (Some (command.Expire p t)) (step.Finished p t) run (record { called = refl; cluster = refl; sites = λ n. refl; parts = λ n. refl; site = λ who old. refl; count = λ n. refl; phase = λ who. refl }) refl r,
+        let done = told_committed (r.sees.reached.state p) t v (is_up types c run r p here) k (told (entries r.calls) r.sees.reached) in (
+          only_looks (step.Finished p t) run r (asks_ended (parts_of run) (calls_of run) p t (sym (waiting_is types c run r p here t) ∙ k)) (looked_finished (calls_of run) p t (sym (waiting_is types c run r p here t) ∙ k) (sym (ended_is types c run r p here t of_site) ∙ done)),
+          goes_quiet types c number (Some (command.Expire p t)) (step.Finished p t) run (record { called = refl; cluster = refl; sites = λ n. refl; parts = λ n. refl; site = λ who old. refl; count = λ n. refl; phase = λ who. refl }) refl r,
         ))
 
-    pub expire_gone : (f : Fate) (steps : List Step) → steps ≡ step.Gone p t ∷ [] → OfState kinds c.sites p (λ q. IsLead q.log t None) → OfState kinds c.sites p (λ q. fate_told f ≡ fate_of q t) → ((v : List ℕ) → f ≡ fate.Committed v → ⊥) → AppliesLive kinds c (command.Expire p t) steps c
+    pub expire_gone : (f : Fate) (steps : List Step) → steps ≡ step.Gone p t ∷ [] → OfState types c.sites p (λ q. IsLead q.log t None) → OfState types c.sites p (λ q. fate_told f ≡ fate_of q t) → ((v : List ℕ) → f ≡ fate.Committed v → ⊥) → AppliesLive types c (command.Expire p t) steps c
     expire_gone f steps is ended told not_so = line_applies (step.Gone p t) c steps is refl (λ number run r.
         let k = ended (entries r.calls) r.sees.reached in
-        let never = told_neither (r.sees.reached.state p) t f (is_up kinds c run r p here) k (told (entries r.calls) r.sees.reached) not_so in (
-          only_looks (step.Gone p t) run r (asks_ended (parts_of run) (calls_of run) p t (sym (waiting_is kinds c run r p here t) ∙ k)) (looked_gone (calls_of run) p t (sym (waiting_is kinds c run r p here t) ∙ k) (sym (ended_is kinds c run r p here t of_site) ∙ never)),
-          goes_quiet kinds c number (Some (command.Expire p t)) (step.Gone p t) run (record { called = refl; cluster = refl; sites = λ n. refl; parts = λ n. refl; site = λ who old. refl; count = λ n. refl; phase = λ who. refl }) refl r,
+        let never = told_neither (r.sees.reached.state p) t f (is_up types c run r p here) k (told (entries r.calls) r.sees.reached) not_so in (
+          only_looks (step.Gone p t) run r (asks_ended (parts_of run) (calls_of run) p t (sym (waiting_is types c run r p here t) ∙ k)) (looked_gone (calls_of run) p t (sym (waiting_is types c run r p here t) ∙ k) (sym (ended_is types c run r p here t of_site) ∙ never)),
+          goes_quiet types c number (Some (command.Expire p t)) (step.Gone p t) run (record { called = refl; cluster = refl; sites = λ n. refl; parts = λ n. refl; site = λ who old. refl; count = λ n. refl; phase = λ who. refl }) refl r,
         ))

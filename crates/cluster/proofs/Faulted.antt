@@ -3,13 +3,17 @@ use Rattle.std.proofs.Common.{◌≡◌, ℕ, zero, suc, ◌≤◌, List, [], �
 use Rattle.site_vector.specs.declared.ids.PartId.{PartId}
 use Rattle.disk_core.specs.States.{DiskState, Rose}
 use Rattle.partition_core.specs.Durable.{Durable, disk_in}
+use Rattle.site_vector.specs.declared.ids.TxId.{TxId}
+use Rattle.world_model.specs.Cluster.{parts_of}
 use Rattle.world_model.specs.Run.{Run}
+use Rattle.world_model.specs.ScriptCalls.{calls_of}
+use Rattle.world_model.specs.Updates.{lead}
 use Rattle.world_model.specs.declared.step.Step.{Step}
 use Rattle.world_model.specs.declared.step.Step.TheVariants as step
 use Rattle.site_partitions.specs.Held.{Held, index_of}
 use Rattle.site_partitions.specs.Moves.{Moves}
 use Rattle.cluster.specs.Same.{SameCluster, faults_at}
-use Rattle.cluster.specs.Faults.{FaultsRose, ShowsFault, ShowFaults}
+use Rattle.cluster.specs.Faults.{FaultsRose, TellsFault, ShowsFault, ShowFaults}
 
 then_more : (a b c : ℕ) → a ≤ b → b ≤ c → a ≤ c
 then_more a b c h k = omega arith
@@ -65,3 +69,9 @@ module _ {E D : Type 0} (state : D → DiskState) where
   shows_last run a b c (step.Disk p) k h = rose_last a b c p k h
   shows_last run a b c (step.Unsure t) k h = rose_last a b c _ k h
   shows_last run a b c other k h = tt
+
+  -- what a command's line tells, where its call tells so, and a decide in doubt was asked of the lead
+  pub shows_told : (run : Run) (old new : Held E D) (at : PartId) (line : Step) → TellsFault state old new at line → ((t : TxId) → line ≡ step.Unsure t → lead (parts_of run) (calls_of run) t ≡ at) → ShowsFault state run old new line
+  shows_told run old new at (step.Disk p) h led = h.1
+  shows_told run old new at (step.Unsure t) h led = subst (FaultsRose state old new) (sym (led t refl)) h
+  shows_told run old new at other h led = tt

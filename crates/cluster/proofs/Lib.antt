@@ -1,10 +1,4 @@
-pub mod Places
-pub mod Naming
-pub mod Widths
-pub mod Going
-pub mod Asking
-pub mod Fresh
-pub mod Messages
+pub mod Faulted
 pub mod Seeing
 pub mod Keeping
 pub mod Mere
@@ -16,6 +10,7 @@ pub mod Turned
 pub mod Sessions
 pub mod Meets
 pub mod Commands
+pub mod Failing
 pub mod Clocks
 pub mod Beginning
 pub mod Updating

@@ -11,7 +11,7 @@ use Rattle.crdt_core.specs.KindsOf.{Kinds}
 use Rattle.world_model.specs.declared.step.Step.{Step}
 use Rattle.world_model.specs.declared.step.Step.TheVariants as step
 use Rattle.world_model.specs.Asking.{MayCall, asked_by, is_own_word}
-use Rattle.world_model.specs.Event.{Ask, AskUpdate, Refusal, IsDown, IsBadOp, HasNoRoom, Event, Updated, Refused, Cut, Entry, attempt}
+use Rattle.world_model.specs.Event.{Ask, AskUpdate, Refusal, IsDown, IsBadOp, HasNoRoom, Event, Updated, Crashed, RestartCut, Restarted, Refused, Opened, Cut, Entry, attempt}
 use Rattle.world_model.specs.Lines.{session_of, refusal_shown, fault_shown, step_shown, tx_asked, number_asked}
 use Rattle.world_model.specs.Partition.{PartState, PartStep, IsRefused}
 use Rattle.world_model.specs.Plan.{IsPlace, IsFit}
@@ -37,9 +37,15 @@ refusal_is : {E : Type 0} (run : List (Entry E)) (p : PartId) (ask : Ask E) (why
 refusal_is run p ask IsDown = refl
 refusal_is run p ask other = refl
 
--- a partition answers so: whoever asks knows which operations fit
+-- a partition does so: whoever asks knows which operations fit, and what is cut off was a call that it would have done
 abbrev pub is_told : {E : Type 0} → Event E → Bool
 is_told (Refused asked IsBadOp) = false
+is_told (Cut (Refused asked why)) = false
+is_told (Cut (Restarted n b named listed)) = false
+is_told (Cut (Opened who)) = false
+is_told (Cut (Cut what)) = false
+is_told (Cut Crashed) = false
+is_told (Cut RestartCut) = false
 is_told other = true
 
 module _ {S E : Type 0} (kinds : Kinds S E) where
@@ -50,6 +56,13 @@ module _ {S E : Type 0} (kinds : Kinds S E) where
 
   told_step : (sites parts : ℕ) (id : PartId) (p q : PartState E) (e : Event E) → IsFit kinds e → PartStep kinds sites parts id p e q → is_told e ≡ true
   told_step sites parts id p q (Refused ask IsBadOp) fit s = absurd (never_bad sites parts id p ask fit s.0)
+  told_step sites parts id p q (Cut (Refused asked why)) fit s = absurd s.1
+  told_step sites parts id p q (Cut (Restarted n b named listed)) fit s = absurd s.1
+  told_step sites parts id p q (Cut (Opened who)) fit s = absurd s.1
+  told_step sites parts id p q (Cut (Cut what)) fit s = absurd s.1
+  told_step sites parts id p q (Cut Crashed) fit s = absurd s.1
+  told_step sites parts id p q (Cut RestartCut) fit s = absurd s.1
+  told_step sites parts id p q (Cut what) fit s = refl
   told_step sites parts id p q other fit s = refl
 
 module _ {S E D : Type 0} (types : Types S E D) where

@@ -4,7 +4,6 @@ use Rattle.std.specs.Prelude.{not, if◌then◌else◌}
 use Rattle.std.specs.Str.{bytes_eq}
 use Rattle.std.proofs.lemmas.Bool.{true≢false, cond-true, cond-false, cases_Bool}
 use Rattle.site_vector.specs.declared.ids.PartId.{PartId}
-use Rattle.crdt_core.specs.KindsOf.{Kinds}
 use Rattle.world_model.specs.declared.command.Command.{Command}
 use Rattle.world_model.specs.declared.commit.Next.{Next}
 use Rattle.world_model.specs.declared.commit.Next.TheVariants as next
@@ -30,10 +29,12 @@ use Rattle.txn_session.specs.Holds.{HoldsTxn, HoldsDoing, MakesStep, Waits, next
 use Rattle.txn_session.specs.Opens.{EndsAs, dependency_told, next_said, stepped_by}
 use Rattle.txn_session.specs.Session as session
 use Rattle.txn_session.specs.Session.{Txn, Doing, Idle, Open, Ending, SessionState, committed_so, participants, first_or_zero, has_step, doing_so, depends, place_in, phase_of, phase_in}
+use Rattle.site_partitions.specs.Reaches.{Types}
 use Rattle.cluster.specs.declared.commits.Way.{Way}
 use Rattle.cluster.specs.declared.commits.Way.TheVariants as way
 use Rattle.cluster.specs.Ends.{command_of, turned_to, MayFollow, goes_on, doing_on, on_way, can_go, stops, TakesStep}
-use Rattle.cluster.specs.Held.{Held, SameSize}
+use Rattle.site_partitions.specs.Held.{Held}
+use Rattle.cluster.specs.Same.{SameCluster}
 use Rattle.cluster.specs.Live.{LiveState, session_in, IsPut}
 use Rattle.cluster.specs.Reached.{phase_as, StandsBy, StandsAs, ReachedLive, GoesTo}
 use Rattle.cluster.proofs.Keeping.{grows_none, keeps_line}
@@ -110,38 +111,38 @@ module _ {E : Type 0} where
   size_on way.Commits site parts txn lead commit = refl
   size_on way.GivesUp site parts txn lead commit = refl
 
-module _ {S E : Type 0} (kinds : Kinds S E) where
-  step_turns : (later : Held E) (calls : List (Call E)) (start new : SessionState E) (txn : Txn E) (lead : ℕ) (commit : Committing) (answer : Step) (w : What) → is_step w ≡ true
-      → MakesStep (λ h (p : Unit {0}) l. Sees kinds h l) (λ (p : Unit {0}) n. true) later tt calls start new answer (Ending txn lead commit) w
-      → Turns kinds later calls new (place_in start (part_for w)) (ask_for start.parts txn lead w) answer
-  step_turns later calls start new txn lead commit answer (what.Prepare p) h m = turns kinds later tt calls start new (Some txn.by) _ _ answer m
-  step_turns later calls start new txn lead commit answer (what.Decide p c) h m = turns kinds later tt calls start new (Some txn.by) _ _ answer m
-  step_turns later calls start new txn lead commit answer (what.Finish p c) h m = turns kinds later tt calls start new None _ _ answer m
-  step_turns later calls start new txn lead commit answer (what.Abort p) h m = turns kinds later tt calls start new (Some txn.by) _ _ answer m
+module _ {S E D : Type 0} (types : Types S E D) where
+  step_turns : (later : Held E D) (calls : List (Call E)) (start new : SessionState E) (txn : Txn E) (lead : ℕ) (commit : Committing) (answer : Step) (w : What) → is_step w ≡ true
+      → MakesStep (λ h (p : Unit {0}) l. Sees types h l) (λ (p : Unit {0}) n. true) later tt calls start new answer (Ending txn lead commit) w
+      → Turns types later calls new (place_in start (part_for w)) (ask_for start.parts txn lead w) answer
+  step_turns later calls start new txn lead commit answer (what.Prepare p) h m = turns types later tt calls start new (Some txn.by) _ _ answer m
+  step_turns later calls start new txn lead commit answer (what.Decide p c) h m = turns types later tt calls start new (Some txn.by) _ _ answer m
+  step_turns later calls start new txn lead commit answer (what.Finish p c) h m = turns types later tt calls start new None _ _ answer m
+  step_turns later calls start new txn lead commit answer (what.Abort p) h m = turns types later tt calls start new (Some txn.by) _ _ answer m
   step_turns later calls start new txn lead commit answer what.Done h m = off h
 
-  done_sees : (later : Held E) (calls : List (Call E)) (start new : SessionState E) (answer : Step) (d : Doing E) (w : What) → w ≡ what.Done
-      → MakesStep (λ h (p : Unit {0}) l. Sees kinds h l) (λ (p : Unit {0}) n. true) later tt calls start new answer d w
-      → Sees kinds later calls
-  done_sees later calls start new answer d w e m = by_doing d (subst (λ x. MakesStep (λ h (p : Unit {0}) l. Sees kinds h l) (λ (p : Unit {0}) n. true) later tt calls start new answer d x) e m)
+  done_sees : (later : Held E D) (calls : List (Call E)) (start new : SessionState E) (answer : Step) (d : Doing E) (w : What) → w ≡ what.Done
+      → MakesStep (λ h (p : Unit {0}) l. Sees types h l) (λ (p : Unit {0}) n. true) later tt calls start new answer d w
+      → Sees types later calls
+  done_sees later calls start new answer d w e m = by_doing d (subst (λ x. MakesStep (λ h (p : Unit {0}) l. Sees types h l) (λ (p : Unit {0}) n. true) later tt calls start new answer d x) e m)
     where
-      of_wait : Waits (λ h (p : Unit {0}) l. Sees kinds h l) (λ (p : Unit {0}) n. true) later tt calls start new → Sees kinds later calls
-      of_wait x = subst (λ more. Sees kinds later (more ++ calls)) (nobody kinds x.more x.others) x.seen
+      of_wait : Waits (λ h (p : Unit {0}) l. Sees types h l) (λ (p : Unit {0}) n. true) later tt calls start new → Sees types later calls
+      of_wait x = subst (λ more. Sees types later (more ++ calls)) (nobody types x.more x.others) x.seen
 
-      by_doing : (d : Doing E) → MakesStep (λ h (p : Unit {0}) l. Sees kinds h l) (λ (p : Unit {0}) n. true) later tt calls start new answer d what.Done → Sees kinds later calls
+      by_doing : (d : Doing E) → MakesStep (λ h (p : Unit {0}) l. Sees types h l) (λ (p : Unit {0}) n. true) later tt calls start new answer d what.Done → Sees types later calls
       by_doing Idle x = of_wait x
       by_doing (Open txn) x = of_wait x
       by_doing (Ending txn lead commit) x = of_wait x
 
-  module _ (c : LiveState E) (run : Run) (r : ReachedLive kinds c run) (number : ℕ) (name : List ℕ) (s : SessionState E) (is : session_in c.sessions name ≡ Some s) where
+  module _ (c : LiveState E D) (run : Run) (r : ReachedLive types c run) (number : ℕ) (name : List ℕ) (s : SessionState E) (is : session_in c.sessions name ≡ Some s) where
     st : StandsBy run r.calls name s
-    st = by_name kinds c run r name s is
+    st = by_name types c run r name s is
 
     -- nothing is left: the session is idle
-    ended_line : (cmd : Command) (later : Held E) (sessions : List (List ℕ × SessionState E)) → SameSize c.sites later → IsPut c.sessions name (doing_so s Idle) sessions → Sees kinds later r.calls
-        → GoesTo kinds c run r (record { sites = later; sessions = sessions }) ((record { number = number; command = Some cmd; step = step.Ended name }) ∷ run)
+    ended_line : (cmd : Command) (later : Held E D) (sessions : List (List ℕ × SessionState E)) → SameCluster types.state c.sites later → IsPut c.sessions name (doing_so s Idle) sessions → Sees types later r.calls
+        → GoesTo types c run r (record { sites = later; sessions = sessions }) ((record { number = number; command = Some cmd; step = step.Ended name }) ∷ run)
     ended_line cmd later sessions size put seen = record {
-      size = size;
+      same = size;
       grows = grows_none r.calls;
       keeps = keeps_line number (Some cmd) (step.Ended name) run refl;
       reached = record {
@@ -180,7 +181,7 @@ module _ {S E : Type 0} (kinds : Kinds S E) where
             of_name true h = subst (λ n. StandsBy after_it r.calls n (doing_so s Idle)) (same_name name who h) mine
             of_name false h = stands_still after_it run r.calls r.calls who (session_in c.sessions who) (record { sites = refl; parts = refl; site = refl; phase = cond-false (bytes_eq name who) phases.Idle (phase run who) h; depends = refl }) (λ x e k. k) (r.each who)
 
-    module _ (w : Way) (steps : Option ℕ) (later : Held E) (sessions : List (List ℕ × SessionState E)) (new : SessionState E) (answer : Step) (goes : Bool) (same : SameSize c.sites later) (put : IsPut c.sessions name new sessions) (d : TakesStep kinds later w answer goes s new r.calls) where
+    module _ (w : Way) (steps : Option ℕ) (later : Held E D) (sessions : List (List ℕ × SessionState E)) (new : SessionState E) (answer : Step) (goes : Bool) (same : SameCluster types.state c.sites later) (put : IsPut c.sessions name new sessions) (d : TakesStep types later w answer goes s new r.calls) where
       abbrev start : SessionState E
       start = on_way w s
 
@@ -192,7 +193,7 @@ module _ {S E : Type 0} (kinds : Kinds S E) where
 
       -- the line and what follows it answer what is left of the command; the session may go on if the command does
       pub record GoesSo : Type 0 where
-        pub reached : GoesTo kinds c run r (record { sites = later; sessions = sessions }) after_it
+        pub reached : GoesTo types c run r (record { sites = later; sessions = sessions }) after_it
         pub follow : (left : Option ℕ) (rest : List Step) → (left ≡ Some 0 → next_of start.doing ≡ what.Done) → Follows goes w name after_it left rest → MayFollow w name run left (answer ∷ rest)
         pub stop : (left : Option ℕ) → goes ≡ true → stops left (Some new) ≡ true → MayFollow w name after_it left []
         pub more : (left : Option ℕ) → goes ≡ true → stops left (Some new) ≡ false → left ≡ Some 0 → next_of (on_way w new).doing ≡ what.Done
@@ -202,7 +203,7 @@ module _ {S E : Type 0} (kinds : Kinds S E) where
 
       over : ((left : Option ℕ) → MayFollow w name run left (step.Ended name ∷ [])) → next_of start.doing ≡ what.Done → GoesSo
       over lines e = record {
-        reached = subst (λ l. GoesTo kinds c run r (record { sites = later; sessions = sessions }) ((record { number = number; command = Some cmd; step = l }) ∷ run)) (sym said)
+        reached = subst (λ l. GoesTo types c run r (record { sites = later; sessions = sessions }) ((record { number = number; command = Some cmd; step = l }) ∷ run)) (sym said)
             (ended_line cmd later sessions same (subst (λ y. IsPut c.sessions name y sessions) idle put) (done_sees later r.calls start new answer start.doing (next_of start.doing) e d.1.made));
         follow = λ left rest k f. let none : rest ≡ [] = subst (λ b. Follows b w name after_it left rest) shut f in subst (λ l. MayFollow w name run left l) (λ i. sym said i ∷ sym none i) (lines left);
         stop = λ left h k. absurd (true≢false (sym h ∙ shut));
@@ -243,8 +244,8 @@ module _ {S E : Type 0} (kinds : Kinds S E) where
           abbrev place : PartId
           place = place_in start (part_for asked)
 
-          t : Turns kinds later r.calls new place (ask_for s.parts txn lead asked) answer
-          t = step_turns later r.calls start new txn lead commit answer asked asks (subst (λ y. MakesStep (λ h (p : Unit {0}) l. Sees kinds h l) (λ (p : Unit {0}) n. true) later tt r.calls start new answer y (next_of y)) e d.1.made)
+          t : Turns types later r.calls new place (ask_for s.parts txn lead asked) answer
+          t = step_turns later r.calls start new txn lead commit answer asked asks (subst (λ y. MakesStep (λ h (p : Unit {0}) l. Sees types h l) (λ (p : Unit {0}) n. true) later tt r.calls start new answer y (next_of y)) e d.1.made)
 
           new_is : new ≡ depends (doing_so s (Ending txn lead (committed_so commit gone))) (dependency_told s.dependency asked answer)
           new_is = d.1.is ∙ (ap (λ y. stepped_by start answer (next_of y)) e ∙ (stepped_is start answer asked asks ∙ ap (λ y. depends (doing_so start (session.answered y answer)) (dependency_told s.dependency asked answer)) e))
@@ -266,9 +267,9 @@ module _ {S E : Type 0} (kinds : Kinds S E) where
           placed : asked_of (calls_of run) run cmd ≡ record { at = place; call = call_asked (ask_for s.parts txn lead asked) }
           placed = asked_end w (calls_of run) run name steps ∙ (stage.placed ∙ ((λ i. for_step txn.tx (next_step ((x.site_is ∙ sym at_site) i) (sym snapshot i) commit.going)) ∙ placed_for s.parts txn lead asked s.site asks x.site_is))
 
-          now_reached : GoesTo kinds c run r (record { sites = later; sessions = sessions }) after_it
-          now_reached = acted kinds c run r number cmd name s is new place (ask_for s.parts txn lead asked) answer later t sessions (record {
-            size = same;
+          now_reached : GoesTo types c run r (record { sites = later; sessions = sessions }) after_it
+          now_reached = acted types c run r number cmd name s is new place (ask_for s.parts txn lead asked) answer later t sessions (record {
+            same = same;
             put = put;
             there = record { name = ap (λ y. y.name) new_is; site = ap (λ y. y.site) new_is; sites = ap (λ y. y.sites) new_is; parts = ap (λ y. y.parts) new_is };
             own = own_for s.parts txn lead (entries r.calls) name asked asks (x.session ∙ st.name);
