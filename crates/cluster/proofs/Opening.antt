@@ -38,6 +38,7 @@ use Rattle.cluster.proofs.Beginning.{IsDoing}
 use Rattle.txn_session.specs.Session.{moved_to}
 use Rattle.cluster.proofs.Clocks.{site_in}
 use Rattle.cluster.proofs.Meets.{all_met, first_at, none_due, refused, there_as, idle_is, absent, lacks_session, has_session, by_name}
+use Rattle.cluster.specs.Faults.{ShowFaults}
 use Rattle.cluster.proofs.Sessions.{own_name}
 use Rattle.cluster.proofs.Standing.{SameFor, stands_still}
 
@@ -97,8 +98,8 @@ module _ {S E D : Type 0} (types : Types S E D) where
         → ((who : List ℕ) → session_in sessions who ≡ (if bytes_eq name who then Some s else session_in c.sessions who)) → length sessions ≡ length c.sessions + 1
         → AppliesLive types c (command.Session name site) steps (record { sites = c.sites; sessions = sessions })
     session_made sessions s steps is there some none room new holds find count number run r =
-        subst (λ l. IsAnswer is_built run (command.Session name site) l × GoesTo types c run r (record { sites = c.sites; sessions = sessions }) (answered number (Some (command.Session name site)) l run)) (sym is) (
-          (subst (AnswersBy run (command.Session name site) (step.MadeSession name site ∷ [])) (sym (none_due (all_met run (command.Session name site)) (refl, (ap not r.has, (ap not (sym (site_in types c run r site) ∙ there), (gone none run r, (ap (λ n. n == 64) r.count ∙ room, tt))))))) refl, refl),
+        subst (λ l. IsAnswer is_built run (command.Session name site) l × GoesTo types c run r (record { sites = c.sites; sessions = sessions }) (answered number (Some (command.Session name site)) l run) × ShowFaults types.state run c.sites c.sites l) (sym is) (
+          subst (AnswersBy run (command.Session name site) (step.MadeSession name site ∷ [])) (sym (none_due (all_met run (command.Session name site)) (refl, (ap not r.has, (ap not (sym (site_in types c run r site) ∙ there), (gone none run r, (ap (λ n. n == 64) r.count ∙ room, tt))))))) refl,
           record {
             same = same_refl types.state c.sites;
             grows = grows_one (called 0 at (Opened name)) r.calls refl refl;
@@ -115,6 +116,7 @@ module _ {S E D : Type 0} (types : Types S E D) where
               count = ap (λ n. n + 1) r.count ∙ sym count;
             };
           },
+          (tt, tt),
         )
       where
         at : PartId
@@ -170,8 +172,8 @@ module _ {S E D : Type 0} (types : Types S E D) where
     pub session_lost : (sessions : List (List ℕ × SessionState E)) (steps : List Step) → steps ≡ step.Lost name ∷ [] → is_some (session_in c.sessions name) ≡ true → ((who : List ℕ) → session_in sessions who ≡ (if bytes_eq name who then None else session_in c.sessions who)) → length sessions + 1 ≡ length c.sessions
         → AppliesLive types c (command.Lose name) steps (record { sites = c.sites; sessions = sessions })
     session_lost sessions steps is some find count number run r =
-        subst (λ l. IsAnswer is_built run (command.Lose name) l × GoesTo types c run r (record { sites = c.sites; sessions = sessions }) (answered number (Some (command.Lose name)) l run)) (sym is) (
-          (subst (AnswersBy run (command.Lose name) (step.Lost name ∷ [])) (sym (none_due (all_met run (command.Lose name)) (refl, (ap not r.has, (was_there (session_in c.sessions name) refl some, tt))))) refl, refl),
+        subst (λ l. IsAnswer is_built run (command.Lose name) l × GoesTo types c run r (record { sites = c.sites; sessions = sessions }) (answered number (Some (command.Lose name)) l run) × ShowFaults types.state run c.sites c.sites l) (sym is) (
+          subst (AnswersBy run (command.Lose name) (step.Lost name ∷ [])) (sym (none_due (all_met run (command.Lose name)) (refl, (ap not r.has, (was_there (session_in c.sessions name) refl some, tt))))) refl,
           record {
             same = same_refl types.state c.sites;
             grows = grows_none r.calls;
@@ -188,6 +190,7 @@ module _ {S E D : Type 0} (types : Types S E D) where
               count = (let n = r.count in omega (arith, n, count));
             };
           },
+          (tt, tt),
         )
       where
         was_there : (o : Option (SessionState E)) → session_in c.sessions name ≡ o → is_some o ≡ true → not (phases.is_there (phase run name)) ≡ false
@@ -224,8 +227,8 @@ module _ {S E D : Type 0} (types : Types S E D) where
 
     pub session_moved : (sessions : List (List ℕ × SessionState E)) (answer : Step) (steps : List Step) → steps ≡ answer ∷ [] → holds_site c.sites site ≡ true → IsDoing (session_in c.sessions name) true → Moves c.sessions name site answer sessions → AppliesLive types c (command.Move name site) steps (record { sites = c.sites; sessions = sessions })
     session_moved sessions answer steps is there x m number run r =
-        subst (λ l. IsAnswer is_built run (command.Move name site) l × GoesTo types c run r (record { sites = c.sites; sessions = sessions }) (answered number (Some (command.Move name site)) l run)) (sym (is ∙ ap (λ s. s ∷ []) line)) (
-          (subst (AnswersBy run (command.Move name site) (step.Moved name site ∷ [])) (sym (none_due (all_met run (command.Move name site)) (refl, (ap not r.has, (ap not (sym (site_in types c run r site) ∙ there), (has_session types c run r name m.before m.is, (ap not (idle_is types c run r name x.found x.is ∙ x.so), tt))))))) refl, refl),
+        subst (λ l. IsAnswer is_built run (command.Move name site) l × GoesTo types c run r (record { sites = c.sites; sessions = sessions }) (answered number (Some (command.Move name site)) l run) × ShowFaults types.state run c.sites c.sites l) (sym (is ∙ ap (λ s. s ∷ []) line)) (
+          subst (AnswersBy run (command.Move name site) (step.Moved name site ∷ [])) (sym (none_due (all_met run (command.Move name site)) (refl, (ap not r.has, (ap not (sym (site_in types c run r site) ∙ there), (has_session types c run r name m.before m.is, (ap not (idle_is types c run r name x.found x.is ∙ x.so), tt))))))) refl,
           record {
             same = same_refl types.state c.sites;
             grows = grows_none r.calls;
@@ -242,6 +245,7 @@ module _ {S E D : Type 0} (types : Types S E D) where
               count = r.count ∙ sym m.put.count;
             };
           },
+          (tt, tt),
         )
       where
         st : StandsBy run r.calls name m.before

@@ -4,6 +4,8 @@ use Rattle.std.specs.Prelude.{not, if◌then◌else◌}
 use Rattle.std.specs.Str.{bytes_eq}
 use Rattle.std.proofs.lemmas.Bool.{true≢false, cond-true, cond-false, cases_Bool}
 use Rattle.site_vector.specs.declared.ids.PartId.{PartId}
+use Rattle.site_vector.specs.declared.ids.TxId.{TxId}
+use Rattle.world_model.specs.Updates.{lead}
 use Rattle.world_model.specs.declared.command.Command.{Command}
 use Rattle.world_model.specs.declared.commit.Next.{Next}
 use Rattle.world_model.specs.declared.commit.Next.TheVariants as next
@@ -20,12 +22,12 @@ use Rattle.world_model.specs.Phases.{Phase, phase, phase_after, by_command, goin
 use Rattle.world_model.specs.Plan.{home}
 use Rattle.world_model.specs.Run.{Run}
 use Rattle.world_model.specs.ScriptAnswers as script
-use Rattle.world_model.specs.ScriptAnswers.{StepsOf, is_sound, Either, Then, fewer}
+use Rattle.world_model.specs.ScriptAnswers.{StepsOf, Either, Then, fewer}
 use Rattle.world_model.specs.ScriptCalls.{is_answer, for_step, asked_of, calls_of}
 use Rattle.world_model.proofs.Names.{off}
 use Rattle.clocksi_commit.specs.Commit.{Committing}
-use Rattle.txn_session.specs.Calls.{Call, entries}
-use Rattle.txn_session.specs.Holds.{HoldsTxn, HoldsDoing, MakesStep, Waits, next_of}
+use Rattle.txn_session.specs.Calls.{Call, called, entries}
+use Rattle.txn_session.specs.Holds.{HoldsTxn, HoldsDoing, MakesStep, TellsStep, Waits, next_of}
 use Rattle.txn_session.specs.Opens.{EndsAs, dependency_told, next_said, stepped_by}
 use Rattle.txn_session.specs.Session as session
 use Rattle.txn_session.specs.Session.{Txn, Doing, Idle, Open, Ending, SessionState, committed_so, participants, first_or_zero, has_step, doing_so, depends, place_in, phase_of, phase_in}
@@ -38,7 +40,11 @@ use Rattle.cluster.specs.Same.{SameCluster}
 use Rattle.cluster.specs.Live.{LiveState, session_in, IsPut}
 use Rattle.cluster.specs.Reached.{phase_as, StandsBy, StandsAs, ReachedLive, GoesTo}
 use Rattle.cluster.proofs.Keeping.{grows_none, keeps_line}
+use Rattle.cluster.specs.Faults.{TellsFault, ShowsFault}
 use Rattle.cluster.specs.Sees.{Sees}
+use Rattle.cluster.proofs.Doubting.{decided_at}
+use Rattle.cluster.proofs.Faulted.{shows_told}
+use Rattle.cluster.proofs.Seeing.{told_last}
 use Rattle.cluster.proofs.Ends.{is_step, part_for, is_end_ask, step_left, holders_are, end_phase, shown_of, ask_for, end_ask, placed_for, own_for, past_for, depends_for}
 use Rattle.cluster.proofs.Meets.{by_name}
 use Rattle.cluster.proofs.Sessions.{Turns, nobody, turns, acted, own_name, same_name}
@@ -111,6 +117,14 @@ module _ {E : Type 0} where
   size_on way.Commits site parts txn lead commit = refl
   size_on way.GivesUp site parts txn lead commit = refl
 
+-- what the line of a step tells, its partition's tells
+told_at : {E X : Type 0} (tells : X → X → PartId → Step → Type 0) (old new : X) (start : SessionState E) (answer : Step) (w : What) → is_step w ≡ true → TellsStep tells old new start answer w → tells old new (place_in start (part_for w)) answer
+told_at tells old new start answer (what.Prepare p) h x = x
+told_at tells old new start answer (what.Decide p c) h x = x
+told_at tells old new start answer (what.Finish p c) h x = x
+told_at tells old new start answer (what.Abort p) h x = x
+told_at tells old new start answer what.Done h x = off h
+
 module _ {S E D : Type 0} (types : Types S E D) where
   step_turns : (later : Held E D) (calls : List (Call E)) (start new : SessionState E) (txn : Txn E) (lead : ℕ) (commit : Committing) (answer : Step) (w : What) → is_step w ≡ true
       → MakesStep (λ h (p : Unit {0}) l. Sees types h l) (λ (p : Unit {0}) n. true) later tt calls start new answer (Ending txn lead commit) w
@@ -181,7 +195,7 @@ module _ {S E D : Type 0} (types : Types S E D) where
             of_name true h = subst (λ n. StandsBy after_it r.calls n (doing_so s Idle)) (same_name name who h) mine
             of_name false h = stands_still after_it run r.calls r.calls who (session_in c.sessions who) (record { sites = refl; parts = refl; site = refl; phase = cond-false (bytes_eq name who) phases.Idle (phase run who) h; depends = refl }) (λ x e k. k) (r.each who)
 
-    module _ (w : Way) (steps : Option ℕ) (later : Held E D) (sessions : List (List ℕ × SessionState E)) (new : SessionState E) (answer : Step) (goes : Bool) (same : SameCluster types.state c.sites later) (put : IsPut c.sessions name new sessions) (d : TakesStep types later w answer goes s new r.calls) where
+    module _ (w : Way) (steps : Option ℕ) (later : Held E D) (sessions : List (List ℕ × SessionState E)) (new : SessionState E) (answer : Step) (goes : Bool) (same : SameCluster types.state c.sites later) (put : IsPut c.sessions name new sessions) (d : TakesStep types c.sites later w answer goes s new r.calls) where
       abbrev start : SessionState E
       start = on_way w s
 
@@ -199,7 +213,7 @@ module _ {S E D : Type 0} (types : Types S E D) where
         pub more : (left : Option ℕ) → goes ≡ true → stops left (Some new) ≡ false → left ≡ Some 0 → next_of (on_way w new).doing ≡ what.Done
         pub can : goes ≡ true → can_go w new.doing ≡ true
         pub less : goes ≡ true → steps_left w (Some new) < steps_left w (Some s)
-        pub sound : is_sound answer ≡ true
+        pub tells : ShowsFault types.state run c.sites later answer
 
       over : ((left : Option ℕ) → MayFollow w name run left (step.Ended name ∷ [])) → next_of start.doing ≡ what.Done → GoesSo
       over lines e = record {
@@ -210,7 +224,7 @@ module _ {S E D : Type 0} (types : Types S E D) where
         more = λ left h k l. absurd (true≢false (sym h ∙ shut));
         can = λ h. absurd (true≢false (sym h ∙ shut));
         less = λ h. absurd (true≢false (sym h ∙ shut));
-        sound = ap is_sound said;
+        tells = subst (ShowsFault types.state run c.sites later) (sym said) tt;
       }
         where
           idle : new ≡ doing_so s Idle
@@ -255,7 +269,7 @@ module _ {S E D : Type 0} (types : Types S E D) where
 
           phase_is : phase after_it name ≡ phases.Ending txn.tx txn.s gone
           phase_is = ap (phase_after (parts_of run) name (phase run name) (Some cmd)) t.shows
-              ∙ (end_phase (entries r.calls) place t.event (ap is_end_ask t.asked ∙ end_ask s.parts txn lead asked asks) t.seen.calm.0 (parts_of run) name (phase run name) (Some cmd)
+              ∙ (end_phase (entries r.calls) place t.event (ap is_end_ask t.asked ∙ end_ask s.parts txn lead asked asks) (parts_of run) name (phase run name) (Some cmd)
               ∙ (ap (by_command (parts_of run) name (phase run name) (Some cmd)) (sym t.shows) ∙ stage.by answer))
 
           goes_is : goes ≡ is_go (after commit.going answer).1
@@ -279,7 +293,7 @@ module _ {S E D : Type 0} (types : Types S E D) where
             idle = λ who h line. idle_end w (parts_of run) name who steps (phase run who) h line;
             few = subst (λ y. update_total (phase_as y) ≤ 256) (sym doing_is) (omega arith);
             phase = phase_is ∙ ap phase_as (sym doing_is);
-            depends = ap (λ y. y.dependency) new_is ∙ (ap (dependency_told s.dependency asked) t.shows ∙ depends_for s.parts txn lead (entries r.calls) place asked asks t.event t.asked t.seen.calm.0 (sites_of run) name s.dependency of_name);
+            depends = ap (λ y. y.dependency) new_is ∙ (ap (dependency_told s.dependency asked) t.shows ∙ depends_for s.parts txn lead (entries r.calls) place asked asks t.event t.asked (sites_of run) name s.dependency of_name);
           })
             where
               of_name : is_of (entries r.calls) name txn.tx ≡ true
@@ -295,8 +309,15 @@ module _ {S E D : Type 0} (types : Types S E D) where
           then_so left rest next.Stay k true h f = absurd (true≢false h)
           then_so left rest next.Stay k false h f = f
 
-          up : (is_answer answer ≡ true) × (is_sound answer ≡ true)
-          up = answer_up (entries r.calls) place t.event answer t.shows t.seen.calm.0
+          up : is_answer answer ≡ true
+          up = answer_up (entries r.calls) place t.event answer t.shows (told_last types later (called t.by place t.event) r.calls t.seen)
+
+          -- a decide in doubt was asked of the lead
+          led : (u : TxId) → answer ≡ step.Unsure u → lead (parts_of run) (calls_of run) u ≡ place
+          led u k = decided_at types c run r later same place t.by t.event t.seen u (sym t.shows ∙ k)
+
+          tells : ShowsFault types.state run c.sites later answer
+          tells = shows_told types.state run c.sites later place answer (told_at (TellsFault types.state) c.sites later start answer asked asks (subst (TellsStep (TellsFault types.state) c.sites later start answer) next_is d.1.tells)) led
 
           counted : (left : Option ℕ) → (left ≡ Some 0 → next_of start.doing ≡ what.Done) → left ≡ Some 0 → ⊥
           counted left k z = true≢false (sym asks ∙ ap is_step (sym next_is ∙ k z))
@@ -315,13 +336,13 @@ module _ {S E D : Type 0} (types : Types S E D) where
           going_on : GoesSo
           going_on = record {
             reached = now_reached;
-            follow = λ left rest k f. stage.lines left (answer ∷ rest) (either_false _ _ (is_done commit.going) todo (counted left k, up.0, then_so left rest (after commit.going answer).1 refl goes goes_is f));
+            follow = λ left rest k f. stage.lines left (answer ∷ rest) (either_false _ _ (is_done commit.going) todo (counted left k, up, then_so left rest (after commit.going answer).1 refl goes goes_is f));
             stop = λ left h k. stop_so left k;
             more = λ left h k z. more_so left k z;
             can = λ h. ap (can_go w) doing_is ∙ stage.can answer lead commit;
             less = λ h. subst (λ n. n < steps_left w (Some s)) (sym (ap (λ y. doing_size (doing_on w new.site new.parts y)) doing_is ∙ (size_on w new.site new.parts txn lead (committed_so commit gone) ∙ ap size (stage.again answer))))
                 (subst (λ n. size gone < n) (sym (ap doing_size e)) (shrinks commit.going answer todo (go_said h)));
-            sound = up.1;
+            tells = tells;
           }
 
       -- the transaction, and its commit as the command takes it up

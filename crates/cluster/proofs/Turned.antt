@@ -1,16 +1,18 @@
 -- The cluster after one more call: the run goes on by the line that shows it.
-use Rattle.std.proofs.Common.{◌≡◌, ℕ, true, false, List, ◌∷◌, length, refl, sym, ap, ◌∙◌, subst, Option, Some}
+use Rattle.std.proofs.Common.{◌≡◌, ℕ, Bool, true, false, true≢false, List, ◌∷◌, length, refl, sym, ap, ◌∙◌, subst, Option, Some}
 use Rattle.std.specs.Prelude.{◌||◌, ⊤}
 use Rattle.std.specs.Str.{bytes_eq}
 use Rattle.site_vector.specs.declared.ids.PartId.{PartId}
+use Rattle.site_vector.specs.declared.ids.TxId.{TxId}
 use Rattle.crdt_core.specs.KindsOf.{Kinds}
 use Rattle.world_model.specs.declared.command.Command.{Command}
 use Rattle.world_model.specs.declared.step.Step.{Step}
+use Rattle.world_model.specs.declared.step.Step.TheVariants as step
 use Rattle.world_model.specs.Asking.{asked_by}
 use Rattle.world_model.specs.Cluster.{has_cluster, sites_of, parts_of}
 use Rattle.world_model.specs.Dependency as lines
 use Rattle.world_model.specs.Dependency.{HandsOwn, IsOwnPast}
-use Rattle.world_model.specs.Event.{Ask, AskBegin, AskRead, AskUpdate, AskPrepare, AskDecide, AskFinish, AskAbort, AskTake, IsBadOp, HasGap, IsRepeat, Event, Began, Updated, Prepared, Decided, Aborted, Sent, Took, Reported, Heard, Crashed, RestartCut, Restarted, Refused, Opened, Cut, Entry, attempt, is_sent, is_report}
+use Rattle.world_model.specs.Event.{Ask, AskBegin, AskRead, AskUpdate, AskPrepare, AskDecide, AskFinish, AskAbort, AskTake, IsDown, IsBadOp, HasGap, IsRepeat, Event, Began, Updated, Prepared, Decided, Aborted, Sent, Took, Reported, Heard, Crashed, RestartCut, Restarted, Refused, Opened, Cut, Entry, attempt, is_sent, is_report}
 use Rattle.world_model.specs.Lines.{call_asked, step_shown, call_of, lines_of, session_of}
 use Rattle.world_model.specs.Meeting.{site_of, session_count}
 use Rattle.world_model.specs.Past.{dependency_after, dependency}
@@ -161,6 +163,18 @@ module _ {E : Type 0} where
   line_up run at (Refused a IsBadOp) c = off c
   line_up run at (Refused a why) c = refl
   line_up run at other c = refl
+
+  abbrev pub is_decide_ask : Ask E → Bool
+  is_decide_ask (AskDecide t c) = true
+  is_decide_ask other = false
+
+  -- only a decide is ever in doubt
+  pub sure : (run : List (Entry E)) (at : PartId) (e : Event E) → is_decide_ask (asked_by (attempt e)) ≡ false → (t : TxId) → step_shown run at e ≡ step.Unsure t → ⊥
+  sure run at (Cut (Decided u c)) h t k = true≢false h
+  sure run at (Cut what) h t k = cc
+  sure run at (Refused a IsDown) h t k = cc
+  sure run at (Refused a why) h t k = cc
+  sure run at other h t k = cc
 
   -- so does a line that shows its call
   pub answer_up : (run : List (Entry E)) (at : PartId) (e : Event E) (s : Step) → s ≡ step_shown run at e → is_told e ≡ true → is_answer s ≡ true
