@@ -1,5 +1,5 @@
 -- A call of one partition leaves the cluster the same, and its disk's count of faults rose where the call says so.
-use Rattle.std.proofs.Common.{◌≡◌, ℕ, zero, suc, ◌≤◌, List, [], ◌∷◌, get_or, set, refl, sym, ◌∙◌, subst, arith}
+use Rattle.std.proofs.Common.{◌≡◌, ℕ, zero, suc, ◌≤◌, List, [], ◌∷◌, ◌++◌, get_or, set, refl, sym, ◌∙◌, subst, arith}
 use Rattle.site_vector.specs.declared.ids.PartId.{PartId}
 use Rattle.disk_core.specs.States.{DiskState, Rose}
 use Rattle.partition_core.specs.Durable.{Durable, disk_in}
@@ -75,3 +75,13 @@ module _ {E D : Type 0} (state : D → DiskState) where
   shows_told run old new at (step.Disk p) h led = h.1
   shows_told run old new at (step.Unsure t) h led = subst (FaultsRose state old new) (sym (led t refl)) h
   shows_told run old new at other h led = tt
+
+  -- after any run that tells of the same leads
+  pub shows_as : (middle run : Run) (old new : Held E D) (s : Step) → ((t : TxId) → lead (parts_of middle) (calls_of middle) t ≡ lead (parts_of run) (calls_of run) t) → ShowsFault state middle old new s → ShowsFault state run old new s
+  shows_as middle run old new (step.Disk p) same h = h
+  shows_as middle run old new (step.Unsure t) same h = subst (FaultsRose state old new) (same t) h
+  shows_as middle run old new other same h = tt
+
+  pub show_more : (run : Run) (old new : Held E D) (lines : List Step) (s : Step) → ShowFaults state run old new lines → ShowsFault state run old new s → ShowFaults state run old new (lines ++ s ∷ [])
+  show_more run old new [] s h k = (k, tt)
+  show_more run old new (x ∷ lines) s h k = (h.0, show_more run old new lines s h.1 k)

@@ -15,7 +15,12 @@ use Rattle.world_model.specs.CommitSteps.{Going, Preparing, Finishing, Aborting}
 use Rattle.world_model.specs.Phases as phases
 use Rattle.world_model.specs.Phases.{Phase, phase, committing, aborting}
 use Rattle.world_model.specs.Run.{Run}
-use Rattle.world_model.specs.ScriptAnswers.{is_sound, are_sound, AnswersBy, IsAnswer, fewer}
+use Rattle.world_model.specs.ScriptAnswers.{AnswersBy, IsAnswer, fewer}
+use Rattle.world_model.specs.ScriptCalls.{calls_of}
+use Rattle.world_model.specs.Updates.{lead}
+use Rattle.site_vector.specs.declared.ids.TxId.{TxId}
+use Rattle.cluster.specs.Faults.{ShowFaults}
+use Rattle.cluster.proofs.Faulted.{show_first, show_more, shows_last, shows_as}
 use Rattle.world_model.proofs.Names.{off}
 use Rattle.txn_session.specs.Holds.{next_of}
 use Rattle.txn_session.specs.declared.phase.Phase.{Phase as Stage}
@@ -39,10 +44,6 @@ use Rattle.cluster.proofs.Stepping.{Follows, GoesSo, one_step, steps_left}
 pub answered_more : (number : ℕ) (asked : Option Command) (lines : List Step) (s : Step) (run : Run) → answered number asked (lines ++ s ∷ []) run ≡ (record { number = number; command = asked; step = s }) ∷ answered number asked lines run
 answered_more number asked [] s run = refl
 answered_more number asked (x ∷ lines) s run = answered_more number asked lines s ((record { number = number; command = asked; step = x }) ∷ run)
-
-pub sound_more : (lines : List Step) (s : Step) → are_sound lines ≡ true → is_sound s ≡ true → are_sound (lines ++ s ∷ []) ≡ true
-sound_more [] s h k = ap (λ b. b && true) k
-sound_more (x ∷ lines) s h k = let p = and_parts (is_sound x) (are_sound lines) h in and_from (is_sound x) (are_sound (lines ++ s ∷ [])) p.0 (sound_more lines s p.1 k)
 
 module _ {E : Type 0} where
   -- the session is there and may go on; with no more steps to make, none is left
@@ -68,18 +69,18 @@ module _ {S E D : Type 0} (types : Types S E D) (old : LiveState E D) (w : Way) 
     pub leads : Leads types old now w name steps left lines
 
   pub at_start : MayMake w steps → can_end w (session_in old.sessions name) ≡ true → IsReachedLive types old → IsOnWay old steps []
-  at_start m h r = record { may = may_start w name steps old.sessions m (session_in old.sessions name) refl h; reached = r; leads = λ number run x. record { goes = goes_none types old run x; sound = refl; follow = λ rest y. y } }
+  at_start m h r = record { may = may_start w name steps old.sessions m (session_in old.sessions name) refl h; reached = r; leads = λ number run x. record { goes = goes_none types old run x; tells = tt; leads = λ t. refl; follow = λ rest y. y } }
 
-  answers_so : MayMake w steps → can_end w (session_in old.sessions name) ≡ true → (run : Run) → ReachedLive types old run → (lines : List Step) → are_sound lines ≡ true → MayFollow w name run steps lines → IsAnswer is_built run (command_of w name steps) lines
-  answers_so m h run r lines sound f = by_session (session_in old.sessions name) refl h
+  answers_so : MayMake w steps → can_end w (session_in old.sessions name) ≡ true → (run : Run) → ReachedLive types old run → (lines : List Step) → MayFollow w name run steps lines → IsAnswer is_built run (command_of w name steps) lines
+  answers_so m h run r lines f = by_session (session_in old.sessions name) refl h
     where
       of_way : (x : Way) (s : SessionState E) → session_in old.sessions name ≡ Some s → can_go x s.doing ≡ true → MayMake x steps → MayFollow x name run steps lines → IsAnswer is_built run (command_of x name steps) lines
-      of_way way.Commits s is can may g = (subst (AnswersBy run (command.Commit name steps) lines) (sym (none_due (all_met run (command.Commit name steps)) (refl, (has types old run r name, (has_session types old run r name s is, (idle_is types old run r name s is ∙ not_so (session.is_idle s.doing) can, tt)))))) g, sound)
+      of_way way.Commits s is can may g = subst (AnswersBy run (command.Commit name steps) lines) (sym (none_due (all_met run (command.Commit name steps)) (refl, (has types old run r name, (has_session types old run r name s is, (idle_is types old run r name s is ∙ not_so (session.is_idle s.doing) can, tt)))))) g
         where
           not_so : (b : Bool) → not b ≡ true → b ≡ false
           not_so true k = off k
           not_so false k = refl
-      of_way way.GivesUp s is can may g = (subst (AnswersBy run (command.Abort name) lines) (sym (none_due (all_met run (command.Abort name)) (refl, (has types old run r name, (has_session types old run r name s is, (ap not (undecided_is types old run r name s is ∙ can), tt)))))) (subst (λ k. MayFollow way.GivesUp name run k lines) may g), sound)
+      of_way way.GivesUp s is can may g = subst (AnswersBy run (command.Abort name) lines) (sym (none_due (all_met run (command.Abort name)) (refl, (has types old run r name, (has_session types old run r name s is, (ap not (undecided_is types old run r name s is ∙ can), tt)))))) (subst (λ k. MayFollow way.GivesUp name run k lines) may g)
 
       by_session : (o : Option (SessionState E)) → session_in old.sessions name ≡ o → can_end w o ≡ true → IsAnswer is_built run (command_of w name steps) lines
       by_session None e k = off k
@@ -89,7 +90,7 @@ module _ {S E D : Type 0} (types : Types S E D) (old : LiveState E D) (w : Way) 
     pub may_end : can_end w (session_in now.sessions name) ≡ true
     may_end = ap (can_end w) on.may.is ∙ on.may.can
 
-    module _ (later : Held E D) (sessions : List (List ℕ × SessionState E)) (answer : Step) (goes : Bool) (a : Acts types now.sites now.sessions name later sessions (TakesStep types later w answer goes)) where
+    module _ (later : Held E D) (sessions : List (List ℕ × SessionState E)) (answer : Step) (goes : Bool) (a : Acts types now.sites now.sessions name later sessions (TakesStep types now.sites later w answer goes)) where
       abbrev new : LiveState E D
       new = record { sites = later; sessions = sessions }
 
@@ -112,8 +113,25 @@ module _ {S E D : Type 0} (types : Types S E D) (old : LiveState E D) (w : Way) 
       follows_so : (number : ℕ) (run : Run) (r : ReachedLive types old run) (rest : List Step) → Follows goes w name ((record { number = number; command = Some (command_of w name steps); step = answer }) ∷ answered number (Some (command_of w name steps)) lines run) left rest → MayFollow w name run steps (lines ++ answer ∷ rest)
       follows_so number run r rest f = let led = on.leads number run r in led.follow (answer ∷ rest) ((goes_so number (answered number (Some (command_of w name steps)) lines run) led.goes.reached).follow left rest count_before f)
 
-      sound_so : (number : ℕ) (run : Run) (r : ReachedLive types old run) → are_sound (lines ++ answer ∷ []) ≡ true
-      sound_so number run r = let led = on.leads number run r in sound_more lines answer led.sound (goes_so number (answered number (Some (command_of w name steps)) lines run) led.goes.reached).sound
+      abbrev lines_so : List Step
+      lines_so = lines ++ answer ∷ []
+
+      abbrev after_so : ℕ → Run → Run
+      after_so number run = answered number (Some (command_of w name steps)) lines_so run
+
+      -- each line tells of the disks before and after the command
+      tells_so : (number : ℕ) (run : Run) (r : ReachedLive types old run) → ShowFaults types.state run old.sites later lines_so
+      tells_so number run r =
+          let led = on.leads number run r in
+          let next = goes_so number (answered number (Some (command_of w name steps)) lines run) led.goes.reached in
+          show_more types.state run old.sites later lines answer (show_first types.state run old.sites now.sites later lines a.same led.tells)
+          (shows_last types.state run old.sites now.sites later answer led.goes.same (shows_as types.state (answered number (Some (command_of w name steps)) lines run) run now.sites later answer led.leads next.tells))
+
+      leads_so : (number : ℕ) (run : Run) (r : ReachedLive types old run) (t : TxId) → lead (parts_of (after_so number run)) (calls_of (after_so number run)) t ≡ lead (parts_of run) (calls_of run) t
+      leads_so number run r t =
+          let led = on.leads number run r in
+          let next = goes_so number (answered number (Some (command_of w name steps)) lines run) led.goes.reached in
+          ap (λ l. lead (parts_of l) (calls_of l) t) (answered_more number (Some (command_of w name steps)) lines answer run) ∙ (next.leads t ∙ led.leads t)
 
       reached_so : (number : ℕ) (run : Run) (r : ReachedLive types old run) → GoesTo types old run r new (answered number (Some (command_of w name steps)) (lines ++ answer ∷ []) run)
       reached_so number run r =
@@ -122,7 +140,7 @@ module _ {S E D : Type 0} (types : Types S E D) (old : LiveState E D) (w : Way) 
           subst (λ l. GoesTo types old run r new l) (sym (answered_more number (Some (command_of w name steps)) lines answer run)) (goes_both types old run r now middle led.goes new _ (goes_so number middle led.goes.reached).reached)
 
       applies_so : MayMake w steps → can_end w (session_in old.sessions name) ≡ true → ((number : ℕ) (run : Run) (r : ReachedLive types old run) → Follows goes w name ((record { number = number; command = Some (command_of w name steps); step = answer }) ∷ answered number (Some (command_of w name steps)) lines run) left []) → AppliesLive types old (command_of w name steps) (lines ++ answer ∷ []) new
-      applies_so m h f number run r = (answers_so m h run r (lines ++ answer ∷ []) (sound_so number run r) (follows_so number run r [] (f number run r)), reached_so number run r)
+      applies_so m h f number run r = (answers_so m h run r (lines ++ answer ∷ []) (follows_so number run r [] (f number run r)), reached_so number run r, tells_so number run r)
 
       -- it ended
       pub at_end : goes ≡ false → MayMake w steps → can_end w (session_in old.sessions name) ≡ true → AppliesLive types old (command_of w name steps) (lines ++ answer ∷ []) new
@@ -144,7 +162,8 @@ module _ {S E D : Type 0} (types : Types S E D) (old : LiveState E D) (w : Way) 
         reached = record { run = _; reached = in_some.reached.reached };
         leads = λ number run r. record {
           goes = reached_so number run r;
-          sound = sound_so number run r;
+          tells = tells_so number run r;
+          leads = λ t. leads_so number run r t;
           follow = λ rest f. subst (λ l. MayFollow w name run steps l) (sym (append_assoc lines (answer ∷ []) rest))
               (follows_so number run r rest (subst (λ b. Follows b w name ((record { number = number; command = Some (command_of w name steps); step = answer }) ∷ answered number (Some (command_of w name steps)) lines run) left rest) (sym g)
               (subst (λ l. MayFollow w name l (fewer left) rest) (answered_more number (Some (command_of w name steps)) lines answer run) f)));

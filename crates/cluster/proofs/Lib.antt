@@ -17,6 +17,7 @@ pub mod Updating
 pub mod Opening
 pub mod Ends
 pub mod Stages
+pub mod Unchanging
 pub mod Doubting
 pub mod Stepping
 pub mod Leading

@@ -16,7 +16,7 @@ use Rattle.world_model.specs.Meeting.{site_after, site_of}
 use Rattle.world_model.specs.Past.{dependency_after}
 use Rattle.world_model.specs.Phases.{phase, phase_after, by_command, update_total}
 use Rattle.world_model.specs.Run.{Run}
-use Rattle.world_model.specs.ScriptCalls.{asked_of, calls_of}
+use Rattle.world_model.specs.ScriptCalls.{is_answer, asked_of, numbered, calls_of}
 use Rattle.txn_session.specs.Calls.{Call, entries, called, NoneBears}
 use Rattle.txn_session.specs.Holds.{Holds, Makes}
 use Rattle.txn_session.specs.Session.{SessionState}
@@ -147,3 +147,16 @@ module _ {S E D : Type 0} (types : Types S E D) where
               by_name : (b : Bool) → bytes_eq name who ≡ b → StandsAs after (called t.by at t.event ∷ r.calls) who (if b then Some new else session_in c.sessions who)
               by_name true h = subst (λ n. StandsBy after (called t.by at t.event ∷ r.calls) n new) (same_name name who h) mine
               by_name false h = other_next types c run r number cmd t.by at t.event held o.same t.seen plain lines_are who (session_in c.sessions who) (o.idle who h) (silent (entries r.calls) name who h t.event own) (r.each who)
+
+      -- its line is that of the call
+      pub acted_calls : (sessions : List (List ℕ × SessionState E)) → Owes sessions → calls_of ((record { number = number; command = Some cmd; step = answer }) ∷ run) ≡ (record { at = at; call = call_asked ask; step = answer }) ∷ calls_of run
+      acted_calls sessions o = asked_lines number cmd run answer answer at (call_asked ask) o.of_session (ap is_answer t.shows ∙ told.answer) (ap (numbered run) t.shows ∙ (told.number ∙ sym t.shows)) o.placed
+        where
+          own : IsOwnAsk (entries r.calls) name (asked_by (attempt t.event))
+          own = subst (IsOwnAsk (entries r.calls) name) (sym t.asked) o.own
+
+          plain : is_numberless t.event ≡ true
+          plain = numberless types.kinds held.sites held.parts at (t.seen.reached.is_run.0 at) (entries r.calls) name (t.seen.reached.state at) t.event own t.seen.reached.is_run.2.step
+
+          told : IsCallLine run (step_shown (entries r.calls) at t.event)
+          told = call_line run (entries r.calls) at t.event (told_last types held (called t.by at t.event) r.calls t.seen) plain

@@ -5,7 +5,8 @@ use Rattle.std.specs.Str.{bytes_eq}
 use Rattle.std.proofs.lemmas.Bool.{true≢false, cond-true, cond-false, cases_Bool}
 use Rattle.site_vector.specs.declared.ids.PartId.{PartId}
 use Rattle.site_vector.specs.declared.ids.TxId.{TxId}
-use Rattle.world_model.specs.Updates.{lead}
+use Rattle.world_model.specs.Updates as world
+use Rattle.world_model.specs.Updates.{change_of}
 use Rattle.world_model.specs.declared.command.Command.{Command}
 use Rattle.world_model.specs.declared.commit.Next.{Next}
 use Rattle.world_model.specs.declared.commit.Next.TheVariants as next
@@ -45,9 +46,10 @@ use Rattle.cluster.specs.Sees.{Sees}
 use Rattle.cluster.proofs.Doubting.{decided_at}
 use Rattle.cluster.proofs.Faulted.{shows_told}
 use Rattle.cluster.proofs.Seeing.{told_last}
+use Rattle.cluster.proofs.Unchanging.{lead_stays, end_changes}
 use Rattle.cluster.proofs.Ends.{is_step, part_for, is_end_ask, step_left, holders_are, end_phase, shown_of, ask_for, end_ask, placed_for, own_for, past_for, depends_for}
 use Rattle.cluster.proofs.Meets.{by_name}
-use Rattle.cluster.proofs.Sessions.{Turns, nobody, turns, acted, own_name, same_name}
+use Rattle.cluster.proofs.Sessions.{Turns, Owes, nobody, turns, acted, acted_calls, own_name, same_name}
 use Rattle.cluster.proofs.Stages.{size, shrinks, asked_end, of_way, idle_end, IsStage, stage_opened, stage_committing, stage_giving, over_opened}
 use Rattle.cluster.proofs.Standing.{stands_still}
 use Rattle.cluster.proofs.Turned.{answer_up}
@@ -214,6 +216,7 @@ module _ {S E D : Type 0} (types : Types S E D) where
         pub can : goes ≡ true → can_go w new.doing ≡ true
         pub less : goes ≡ true → steps_left w (Some new) < steps_left w (Some s)
         pub tells : ShowsFault types.state run c.sites later answer
+        pub leads : (u : TxId) → world.lead (parts_of after_it) (calls_of after_it) u ≡ world.lead (parts_of run) (calls_of run) u
 
       over : ((left : Option ℕ) → MayFollow w name run left (step.Ended name ∷ [])) → next_of start.doing ≡ what.Done → GoesSo
       over lines e = record {
@@ -225,6 +228,7 @@ module _ {S E D : Type 0} (types : Types S E D) where
         can = λ h. absurd (true≢false (sym h ∙ shut));
         less = λ h. absurd (true≢false (sym h ∙ shut));
         tells = subst (ShowsFault types.state run c.sites later) (sym said) tt;
+        leads = subst (λ l. (u : TxId) → world.lead (parts_of ((record { number = number; command = Some cmd; step = l }) ∷ run)) (calls_of ((record { number = number; command = Some cmd; step = l }) ∷ run)) u ≡ world.lead (parts_of run) (calls_of run) u) (sym said) (λ u. refl);
       }
         where
           idle : new ≡ doing_so s Idle
@@ -281,8 +285,8 @@ module _ {S E D : Type 0} (types : Types S E D) where
           placed : asked_of (calls_of run) run cmd ≡ record { at = place; call = call_asked (ask_for s.parts txn lead asked) }
           placed = asked_end w (calls_of run) run name steps ∙ (stage.placed ∙ ((λ i. for_step txn.tx (next_step ((x.site_is ∙ sym at_site) i) (sym snapshot i) commit.going)) ∙ placed_for s.parts txn lead asked s.site asks x.site_is))
 
-          now_reached : GoesTo types c run r (record { sites = later; sessions = sessions }) after_it
-          now_reached = acted types c run r number cmd name s is new place (ask_for s.parts txn lead asked) answer later t sessions (record {
+          owed : Owes types c run r number cmd name s is new place (ask_for s.parts txn lead asked) answer later t sessions
+          owed = record {
             same = same;
             put = put;
             there = record { name = ap (λ y. y.name) new_is; site = ap (λ y. y.site) new_is; sites = ap (λ y. y.sites) new_is; parts = ap (λ y. y.parts) new_is };
@@ -294,10 +298,17 @@ module _ {S E D : Type 0} (types : Types S E D) where
             few = subst (λ y. update_total (phase_as y) ≤ 256) (sym doing_is) (omega arith);
             phase = phase_is ∙ ap phase_as (sym doing_is);
             depends = ap (λ y. y.dependency) new_is ∙ (ap (dependency_told s.dependency asked) t.shows ∙ depends_for s.parts txn lead (entries r.calls) place asked asks t.event t.asked (sites_of run) name s.dependency of_name);
-          })
+          }
             where
               of_name : is_of (entries r.calls) name txn.tx ≡ true
               of_name = subst (λ n. is_of (entries r.calls) n txn.tx ≡ true) st.name (shown_of (entries r.calls) (home txn.tx) s.name x.handed txn.tx txn.s x.shown)
+
+          now_reached : GoesTo types c run r (record { sites = later; sessions = sessions }) after_it
+          now_reached = acted types c run r number cmd name s is new place (ask_for s.parts txn lead asked) answer later t sessions owed
+
+          leads_stay : (u : TxId) → world.lead (parts_of after_it) (calls_of after_it) u ≡ world.lead (parts_of run) (calls_of run) u
+          leads_stay u = (λ i. world.lead ((sym now_reached.reached.parts ∙ (same.parts_are ∙ r.parts)) i) (acted_calls types c run r number cmd name s is new place (ask_for s.parts txn lead asked) answer later t sessions owed i) u)
+              ∙ lead_stays (parts_of run) (calls_of run) place (call_asked (ask_for s.parts txn lead asked)) answer (λ time index v. ap (λ l. change_of place time index (call_asked (ask_for s.parts txn lead asked)) l v) t.shows ∙ end_changes (entries r.calls) place t.event (ap is_end_ask t.asked ∙ end_ask s.parts txn lead asked asks) place time index (call_asked (ask_for s.parts txn lead asked)) v) u
 
           -- what may come after the line, where it stands so
           may_now : (left : Option ℕ) (rest : List Step) → script.Steps name (turned_to w gone) left rest → MayFollow w name after_it left rest
@@ -313,7 +324,7 @@ module _ {S E D : Type 0} (types : Types S E D) where
           up = answer_up (entries r.calls) place t.event answer t.shows (told_last types later (called t.by place t.event) r.calls t.seen)
 
           -- a decide in doubt was asked of the lead
-          led : (u : TxId) → answer ≡ step.Unsure u → lead (parts_of run) (calls_of run) u ≡ place
+          led : (u : TxId) → answer ≡ step.Unsure u → world.lead (parts_of run) (calls_of run) u ≡ place
           led u k = decided_at types c run r later same place t.by t.event t.seen u (sym t.shows ∙ k)
 
           tells : ShowsFault types.state run c.sites later answer
@@ -343,6 +354,7 @@ module _ {S E D : Type 0} (types : Types S E D) where
             less = λ h. subst (λ n. n < steps_left w (Some s)) (sym (ap (λ y. doing_size (doing_on w new.site new.parts y)) doing_is ∙ (size_on w new.site new.parts txn lead (committed_so commit gone) ∙ ap size (stage.again answer))))
                 (subst (λ n. size gone < n) (sym (ap doing_size e)) (shrinks commit.going answer todo (go_said h)));
             tells = tells;
+            leads = leads_stay;
           }
 
       -- the transaction, and its commit as the command takes it up

@@ -1,5 +1,6 @@
 -- How the transaction of a session in a cluster comes to its end: step by step, as it is committed or given up.
 use Rattle.std.specs.Prelude.{◌≡◌, ◌≢◌, ℕ, zero, Bool, true, false, not, List, ◌++◌, Option, None, Some}
+use Rattle.site_vector.specs.declared.ids.TxId.{TxId}
 use Rattle.world_model.specs.declared.command.Command.{Command}
 use Rattle.world_model.specs.declared.command.Command.TheVariants as command
 use Rattle.world_model.specs.declared.commit.Next.{Next}
@@ -11,6 +12,8 @@ use Rattle.world_model.specs.CommitSteps.{Going, given_up}
 use Rattle.world_model.specs.Phases as phases
 use Rattle.world_model.specs.Phases.{going_of}
 use Rattle.world_model.specs.Run.{Run}
+use Rattle.world_model.specs.ScriptCalls.{calls_of}
+use Rattle.world_model.specs.Updates.{lead}
 use Rattle.world_model.specs.ScriptAnswers.{StepsOf}
 use Rattle.txn_session.specs.declared.phase.Phase.{Phase}
 use Rattle.txn_session.specs.declared.phase.Phase.TheVariants as phase
@@ -97,6 +100,7 @@ module _ {S E D : Type 0} (types : Types S E D) where
   pub record LedTo (old now : LiveState E D) (w : Way) (name : List ℕ) (steps left : Option ℕ) (lines : List Step) (number : ℕ) (run : Run) (r : ReachedLive types old run) : Type 0 where
     pub goes : GoesTo types old run r now (answered number (Some (command_of w name steps)) lines run)
     pub tells : ShowFaults types.state run old.sites now.sites lines
+    pub leads : (t : TxId) → lead (parts_of (answered number (Some (command_of w name steps)) lines run)) (calls_of (answered number (Some (command_of w name steps)) lines run)) t ≡ lead (parts_of run) (calls_of run) t
     pub follow : (rest : List Step) → MayFollow w name (answered number (Some (command_of w name steps)) lines run) left rest → MayFollow w name run steps (lines ++ rest)
 
   -- whatever run had left the old cluster
