@@ -24,7 +24,8 @@ use Rattle.cluster.specs.Post.{WholeState, MailAs, NoteAs, kept_at}
 use Rattle.cluster.specs.Reached.{Applies, ReachedWhole}
 use Rattle.cluster.proofs.Keeping.{post_on, letter_at, note_at}
 use Rattle.cluster.proofs.Meets.{all_met, first_at, none_due}
-use Rattle.cluster.proofs.Mere.{is_mere, mere_sound, IsMere}
+use Rattle.cluster.specs.Faults.{ShowFaults}
+use Rattle.cluster.proofs.Mere.{is_mere, mere_faults, IsMere}
 use Rattle.cluster.proofs.Standing.{live_still, mere_still}
 
 module _ {E : Type 0} (sites parts : ℕ) (run : Run) where
@@ -53,11 +54,12 @@ module _ {S E D : Type 0} (types : Types S E D) (w : WholeState E D) where
   turned_down cmd s steps is h m idle number run r =
       let next : Run = (record { number = number; command = Some cmd; step = s }) ∷ run in
       let x = live_still types w.live number (Some cmd) s run h (idle run) r.live in (
-        (subst (λ o. AnswersBy run cmd steps o) (sym (m run r)) is, mere_sound s steps is h),
+        subst (λ o. AnswersBy run cmd steps o) (sym (m run r)) is,
         subst (λ l. ReachedWhole types w (answered number (Some cmd) l run)) (sym is) (record {
           live = x.reached;
           post = post_on w.live.sites.sites w.live.sites.parts run next r.live.calls x.reached.calls w.post x.keeps x.grows r.post;
         }),
+        mere_faults types.state run w.live.sites w.live.sites s steps is h,
       )
 
   module _ (number : ℕ) where
@@ -80,8 +82,8 @@ module _ {S E D : Type 0} (types : Types S E D) (w : WholeState E D) where
     pub message_dropped : (letters : List (ℕ × Message E)) (steps : List Step) → steps ≡ step.DroppedMessage number ∷ [] → is_some (kept_at w.post.letters number) ≡ true → ((k : ℕ) → kept_at letters k ≡ (if nat_eq number k then None else kept_at w.post.letters k)) → length letters + 1 ≡ length w.post.letters
         → Applies types (Some w) (command.DropMessage number) steps (Some (record { live = w.live; post = record { letters = letters; next_letter = w.post.next_letter; notes = w.post.notes; next_note = w.post.next_note } }))
     message_dropped letters steps is there find count line run r =
-        subst (λ l. IsAnswer is_built run (command.DropMessage number) l × ReachedWhole types (record { live = w.live; post = record { letters = letters; next_letter = w.post.next_letter; notes = w.post.notes; next_note = w.post.next_note } }) (answered line (Some (command.DropMessage number)) l run)) (sym is) (
-          (subst (AnswersBy run (command.DropMessage number) (step.DroppedMessage number ∷ [])) (sym (none_due (all_met run (command.DropMessage number)) (refl, (ap not r.live.has, (lacks_mail run r true there, tt))))) refl, refl),
+        subst (λ l. IsAnswer is_built run (command.DropMessage number) l × ReachedWhole types (record { live = w.live; post = record { letters = letters; next_letter = w.post.next_letter; notes = w.post.notes; next_note = w.post.next_note } }) (answered line (Some (command.DropMessage number)) l run) × ShowFaults types.state run w.live.sites w.live.sites l) (sym is) (
+          subst (AnswersBy run (command.DropMessage number) (step.DroppedMessage number ∷ [])) (sym (none_due (all_met run (command.DropMessage number)) (refl, (ap not r.live.has, (lacks_mail run r true there, tt))))) refl,
           record {
             live = mere_still types w.live line (Some (command.DropMessage number)) (step.DroppedMessage number) run (dropped_letter number) (λ who. refl) r.live;
             post = record {
@@ -97,6 +99,7 @@ module _ {S E D : Type 0} (types : Types S E D) (w : WholeState E D) where
               beyond = r.post.beyond;
             };
           },
+          (tt, tt),
         )
       where
         next : Run
@@ -112,8 +115,8 @@ module _ {S E D : Type 0} (types : Types S E D) (w : WholeState E D) where
     pub report_dropped : (notes : List (ℕ × Note)) (steps : List Step) → steps ≡ step.DroppedReport number ∷ [] → is_some (kept_at w.post.notes number) ≡ true → ((k : ℕ) → kept_at notes k ≡ (if nat_eq number k then None else kept_at w.post.notes k)) → length notes + 1 ≡ length w.post.notes
         → Applies types (Some w) (command.DropReport number) steps (Some (record { live = w.live; post = record { letters = w.post.letters; next_letter = w.post.next_letter; notes = notes; next_note = w.post.next_note } }))
     report_dropped notes steps is there find count line run r =
-        subst (λ l. IsAnswer is_built run (command.DropReport number) l × ReachedWhole types (record { live = w.live; post = record { letters = w.post.letters; next_letter = w.post.next_letter; notes = notes; next_note = w.post.next_note } }) (answered line (Some (command.DropReport number)) l run)) (sym is) (
-          (subst (AnswersBy run (command.DropReport number) (step.DroppedReport number ∷ [])) (sym (none_due (all_met run (command.DropReport number)) (refl, (ap not r.live.has, (lacks_notice run r true there, tt))))) refl, refl),
+        subst (λ l. IsAnswer is_built run (command.DropReport number) l × ReachedWhole types (record { live = w.live; post = record { letters = w.post.letters; next_letter = w.post.next_letter; notes = notes; next_note = w.post.next_note } }) (answered line (Some (command.DropReport number)) l run) × ShowFaults types.state run w.live.sites w.live.sites l) (sym is) (
+          subst (AnswersBy run (command.DropReport number) (step.DroppedReport number ∷ [])) (sym (none_due (all_met run (command.DropReport number)) (refl, (ap not r.live.has, (lacks_notice run r true there, tt))))) refl,
           record {
             live = mere_still types w.live line (Some (command.DropReport number)) (step.DroppedReport number) run (dropped_note number) (λ who. refl) r.live;
             post = record {
@@ -129,6 +132,7 @@ module _ {S E D : Type 0} (types : Types S E D) (w : WholeState E D) where
               beyond = λ k h. find k ∙ none_either (nat_eq number k) (kept_at w.post.notes k) (r.post.beyond k h);
             };
           },
+          (tt, tt),
         )
       where
         next : Run

@@ -84,7 +84,7 @@ module _ {S E D : Type 0} (types : Types S E D) (c : LiveState E D) (run : Run) 
       shown = shown_next;
       own = subst (λ n. HandsOwn n (calls_of ((record { number = number; command = Some cmd; step = s }) ∷ run))) (sym (told.sites (sites_of run))) (subst (λ ls. HandsOwn (sites_of run) ls) (sym lines_are) (own, r.own));
       each = λ who. stands_still ((record { number = number; command = Some cmd; step = s }) ∷ run) run later r.calls who (session_in c.sessions who) (same_next who)
-          (λ x is h. holds_other types.kinds held.sites held.parts (called 0 at e) r.calls x legal sees.calm.0 (silent x.name) h) (r.each who);
+          (λ x is h. holds_other types.kinds held.sites held.parts (called 0 at e) r.calls x legal (silent x.name) h) (r.each who);
       count = told.count (session_count run) ∙ r.count;
     };
     calls_are = refl;
