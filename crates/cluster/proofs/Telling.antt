@@ -149,9 +149,6 @@ module _ {S E D : Type 0} (types : Types S E D) (c : LiveState E D) (run : Run) 
   abbrev pub state : PartId → PartState E
   state = r.sees.reached.state
 
-  blank : PartId → Tables E
-  blank p = record { id = p; sites = 0; parts = 0; clock = 0; ceiling = 0; pending = []; held = []; bounds = []; heard = []; sent = [] }
-
   of_law : (p : PartId) → Told c.sites.sites c.sites.parts (entries r.calls) r.sees.reached.state p
   of_law p = law.told types.kinds c.sites.sites c.sites.parts (entries r.calls) r.sees.reached.state r.sees.reached.is_run p
 
@@ -164,10 +161,7 @@ module _ {S E D : Type 0} (types : Types S E D) (c : LiveState E D) (run : Run) 
       (subst (λ ls. IsFate ls (lead c.sites.parts ls t) t (fate_of (r.sees.reached.state (lead c.sites.parts ls t)) t)) r.shown
       ((law_world types.kinds c.sites.sites c.sites.parts (entries r.calls) r.sees.reached.state r.sees.reached.is_run).3 t))
 
-  module _ (p : PartId) (place : IsPlace c.sites.sites c.sites.parts p) where
-    pub is_up : (r.sees.reached.state p).up ≡ true
-    is_up = (r.sees.reached.each p place (blank p)).stands.up
-
+  module _ (p : PartId) (place : IsPlace c.sites.sites c.sites.parts p) (is_up : (r.sees.reached.state p).up ≡ true) where
     -- what is pending is of the partition's site
     pub site_is : (t : TxId) → log.pending (r.sees.reached.state p).log t ≡ true → t.site ≡ p.site
     site_is t h = let here = r.sees.reached.each p place (blank p) in here.stands.tells.waiting t h ∙ ap (λ (q : PartId). q.site) here.id

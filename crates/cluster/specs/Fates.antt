@@ -13,7 +13,8 @@ use Rattle.world_model.specs.ScriptCalls.{calls_of}
 use Rattle.world_model.specs.Settling.{settled, stays, is_unwritten, first_end, ends_as_lead}
 use Rattle.world_model.specs.Updates.{lead}
 use Rattle.world_model.specs.Waiting.{waiting}
-use Rattle.site_partitions.specs.Held.{Held, IsDownAt, holds_part}
+use Rattle.site_partitions.specs.Fates.{OfState}
+use Rattle.site_partitions.specs.Held.{Held, holds_part}
 use Rattle.site_partitions.specs.Reaches.{Types}
 use Rattle.cluster.specs.Faults.{ShowsFault}
 use Rattle.cluster.specs.Live.{LiveState}
@@ -35,7 +36,7 @@ module _ {S E D : Type 0} (types : Types S E D) where
   -- some run left the cluster so, and t pending with this lead at p, which is up
   pub record MaySettle (c : LiveState E D) (p : PartId) (t : TxId) (n : ℕ) : Type 0 where
     pub place : IsPlace c.sites.sites c.sites.parts p
-    pub up : IsDownAt c.sites p false
+    pub up : OfState types c.sites p (λ q. q.up ≡ true)
     pub run : Run
     pub reached : ReachedLive types c run
     pub waits : pending (calls_of run) p t ≡ true
@@ -49,7 +50,7 @@ module _ {S E D : Type 0} (types : Types S E D) where
     pub kept : (u : TxId) → stays (parts_of (settling number p s run)) (calls_of (settling number p s run)) p u ≡ stays (parts_of run) (calls_of run) p u
     pub leads : (u : TxId) → lead (parts_of (settling number p s run)) (calls_of (settling number p s run)) u ≡ lead (parts_of run) (calls_of run) u
     pub others : (u : TxId) → same_tx t u ≡ false → pending (calls_of (settling number p s run)) p u ≡ pending (calls_of run) p u
-    pub up : IsDownAt new.sites p false
+    pub up : OfState types new.sites p (λ q. q.up ≡ true)
 
   -- the end wasn't written; the run goes on by a line that says so, if no other one that waits is to be ended before it
   pub record UnwrittenTo (old new : LiveState E D) (p : PartId) (t : TxId) (s : Step) (number : ℕ) (run : Run) (r : ReachedLive types old run) : Type 0 where

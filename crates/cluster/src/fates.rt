@@ -1,6 +1,5 @@
 ghost use Rattle.std.specs.Prelude.{◌≡◌, true, false, IfOk, Option};
 ghost use Rattle.site_partitions.specs.Fates.{OfState, IsLead};
-ghost use Rattle.site_partitions.specs.Held.{IsDownAt};
 ghost use Rattle.site_partitions.specs.Reaches.{types_of};
 ghost use Rattle.cluster.specs.Built.{is_of_fates};
 ghost use Rattle.cluster.specs.Fates.{MaySettle, Settles, lacks_txn};
@@ -79,7 +78,7 @@ impl<C: Crdt, D: Disk + Drop> Live<C, D> {
     fn look_up(&self, part: PartId, tx: TxId) -> Result<Vec<Step>, AllocError>
         requires reached { IsReachedLive (types_of C.laws C.spells D.state) self.now }
         requires has { lacks_txn self.now.sites part tx ≡ false }
-        requires up { IsDownAt self.now.sites part false }
+        requires up { OfState (types_of C.laws C.spells D.state) self.now.sites part (λ p. p.up ≡ true) }
         requires ended { OfState (types_of C.laws C.spells D.state) self.now.sites part (λ p. IsLead p.log tx Option.None) }
         ensures { IfOk result (λ steps. AppliesLive (types_of C.laws C.spells D.state) self.now (Command.Expire part tx) steps.items self.now) }
     {

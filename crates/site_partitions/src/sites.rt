@@ -35,6 +35,10 @@ impl<C: Crdt, D: Disk + Drop> Model for Sites<C, D> {
 }
 
 impl<C: Crdt, D: Disk + Drop> Sites<C, D> {
+    ghost use Rattle.std.specs.Prelude.{not};
+    ghost use Rattle.site_partitions.specs.Fates.{OfState};
+    ghost use Rattle.site_partitions.specs.Reaches.{types_of};
+
     /// The number of sites, from 1 to 8.
     pub fn sites(&self) -> u8
         ensures is { result ≡ self.now.sites }
@@ -68,7 +72,8 @@ impl<C: Crdt, D: Disk + Drop> Sites<C, D> {
     /// Whether a partition crashed, or its disk failed, and it was not restarted since.
     pub fn is_down_at(&self, at: PartId) -> bool
         requires { IsPlace self.now.sites self.now.parts at }
-        ensures { IsDownAt self.now at result }
+        ensures down { IsDownAt self.now at result }
+        ensures up { OfState (types_of C.laws C.spells D.state) self.now at (λ p. p.up ≡ not result) }
     {
         let i = index_of(at, self.sites, self.parts);
         self.partitions[i].is_down()
