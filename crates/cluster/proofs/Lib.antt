@@ -25,6 +25,7 @@ pub mod Posting
 pub mod Dropping
 pub mod Delivering
 pub mod Sending
+pub mod Downed
 pub mod Waits
 pub mod Telling
 pub mod Aborting

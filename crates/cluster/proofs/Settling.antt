@@ -35,7 +35,7 @@ use Rattle.partition_core.specs.declared.answers.Fate.TheVariants as fate
 use Rattle.partition_core.specs.Answers.{fate_told}
 use Rattle.txn_session.specs.Calls.{called, entries}
 use Rattle.site_partitions.specs.Reaches.{Types}
-use Rattle.cluster.specs.declared.fates.Waiting.{Waiting}
+use Rattle.site_partitions.specs.declared.fates.Waiting.{Waiting}
 use Rattle.cluster.specs.Fates.{lead_place, settling, AreWaiting, OfState, Drops, MaySettle, SettledTo, Settles}
 use Rattle.site_partitions.specs.Held.{Held, holds_part}
 use Rattle.cluster.specs.Live.{LiveState}

@@ -37,8 +37,9 @@ use Rattle.partition_core.specs.Stands.{told, AreEntries}
 use Rattle.partition_core.specs.Tables.{Tables}
 use Rattle.txn_session.specs.Calls.{entries}
 use Rattle.site_partitions.specs.Reaches.{Types}
-use Rattle.cluster.specs.declared.fates.Waiting.{Waiting}
-use Rattle.cluster.specs.Fates.{lead_place, waiting_of, AreWaiting}
+use Rattle.site_partitions.specs.declared.fates.Waiting.{Waiting}
+use Rattle.site_partitions.specs.Fates.{waiting_of, AreWaiting}
+use Rattle.cluster.specs.Fates.{lead_place}
 use Rattle.cluster.specs.Live.{LiveState}
 use Rattle.cluster.specs.Reached.{ReachedLive}
 
@@ -160,6 +161,10 @@ module _ {S E D : Type 0} (types : Types S E D) (c : LiveState E D) (run : Run) 
   word t = subst (λ n. IsFate (calls_of run) (lead n (calls_of run) t) t (fate_of (r.sees.reached.state (lead n (calls_of run) t)) t)) r.parts
       (subst (λ ls. IsFate ls (lead c.sites.parts ls t) t (fate_of (r.sees.reached.state (lead c.sites.parts ls t)) t)) r.shown
       ((law_world types.kinds c.sites.sites c.sites.parts (entries r.calls) r.sees.reached.state r.sees.reached.is_run).3 t))
+
+  -- a partition that is down is so by the lines
+  pub low_is : (p : PartId) → (r.sees.reached.state p).up ≡ false → is_down (calls_of run) p ≡ true
+  low_is p h = ap (λ ls. is_down ls p) (sym r.shown) ∙ ((of_law p).down ∙ ap not h)
 
   module _ (p : PartId) (place : IsPlace c.sites.sites c.sites.parts p) (is_up : (r.sees.reached.state p).up ≡ true) where
     -- what is pending is of the partition's site

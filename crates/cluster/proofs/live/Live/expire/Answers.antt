@@ -1,7 +1,8 @@
 use Rattle.std.proofs.Common.{◌≡◌, ◌∙◌, false, sym, subst, None}
 use Rattle.site_partitions.specs.Reaches.{types_of}
 use Rattle.world_model.specs.declared.command.Command.TheVariants as command
-use Rattle.cluster.specs.Fates.{lacks_txn, IsLead, OfState}
+use Rattle.site_partitions.specs.Fates.{IsLead, OfState}
+use Rattle.cluster.specs.Fates.{lacks_txn}
 use Rattle.cluster.specs.Live.{LiveState}
 use Rattle.cluster.specs.Reached.{AppliesLive}
 use Rattle.cluster.proofs.Applying.{map_ok}

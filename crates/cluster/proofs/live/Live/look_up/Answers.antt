@@ -3,7 +3,8 @@ use Rattle.site_partitions.specs.Reaches.{types_of}
 use Rattle.world_model.specs.declared.command.Command.TheVariants as command
 use Rattle.world_model.specs.Partition.{fate_of}
 use Rattle.partition_core.specs.Answers.{fate_told}
-use Rattle.cluster.specs.Fates.{lacks_txn, IsLead, OfState}
+use Rattle.site_partitions.specs.Fates.{IsLead, OfState}
+use Rattle.cluster.specs.Fates.{lacks_txn}
 use Rattle.cluster.specs.Live.{LiveState}
 use Rattle.cluster.specs.Reached.{AppliesLive}
 use Rattle.cluster.proofs.Applying.{map_ok}

@@ -2,7 +2,7 @@ use Rattle.std.proofs.Common.{◌≡◌, ◌∙◌, ◌+◌, [], true, drop, get
 use Rattle.std.proofs.lemmas.List.{drop_more, drop_all}
 use Rattle.site_partitions.specs.Reaches.{types_of}
 use Rattle.cluster.specs.declared.fates.Waiting.{Waiting}
-use Rattle.cluster.specs.Fates.{AreWaiting, OfState}
+use Rattle.site_partitions.specs.Fates.{AreWaiting, OfState}
 use Rattle.site_partitions.specs.Held.{holds_part}
 use Rattle.cluster.specs.Live.{LiveState}
 use Rattle.cluster.proofs.Applying.{map_ok}
