@@ -85,3 +85,7 @@ module _ {E D : Type 0} (state : D → DiskState) where
   pub show_more : (run : Run) (old new : Held E D) (lines : List Step) (s : Step) → ShowFaults state run old new lines → ShowsFault state run old new s → ShowFaults state run old new (lines ++ s ∷ [])
   show_more run old new [] s h k = (k, tt)
   show_more run old new (x ∷ lines) s h k = (h.0, show_more run old new lines s h.1 k)
+
+  pub show_last : (run : Run) (a b c : Held E D) (lines : List Step) → SameCluster state a b → ShowFaults state run b c lines → ShowFaults state run a c lines
+  show_last run a b c [] k h = tt
+  show_last run a b c (s ∷ lines) k h = (shows_last run a b c s k h.0, show_last run a b c lines k h.1)

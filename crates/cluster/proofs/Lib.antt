@@ -12,6 +12,7 @@ pub mod Meets
 pub mod Commands
 pub mod Failing
 pub mod Clocks
+pub mod Striking
 pub mod Beginning
 pub mod Updating
 pub mod Opening
