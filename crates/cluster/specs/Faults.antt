@@ -17,7 +17,7 @@ use Rattle.cluster.specs.Same.{faults_at}
 module _ {E D : Type 0} (state : D → DiskState) where
   -- the count of this partition's disk rose
   abbrev pub FaultsRose : Held E D → Held E D → PartId → Type 0
-  FaultsRose old new p = (other : Durable E D) → Rose (faults_at old p other) (faults_at new p other)
+  FaultsRose old new p = (other : Durable E D) → Rose (faults_at state old p other) (faults_at state new p other)
 
   -- what the line of a call of this partition tells of its disk, before and after it
   abbrev pub TellsFault : Held E D → Held E D → PartId → Step → Type 0

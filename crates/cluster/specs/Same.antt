@@ -11,6 +11,9 @@ abbrev pub holds_place : {E D : Type 0} → Held E D → Option PartId → Bool
 holds_place c None = true
 holds_place c (Some p) = holds_part c p
 
+at_most : (a b c : ℕ) → a ≤ b → b ≤ c → a ≤ c
+at_most a b c h k = omega arith
+
 module _ {E D : Type 0} (state : D → DiskState) where
   -- the disk of the partition at this place, where one stands there
   abbrev pub disk_at : Held E D → PartId → Durable E D → DiskState
@@ -26,9 +29,6 @@ module _ {E D : Type 0} (state : D → DiskState) where
 
   pub same_refl : (c : Held E D) → SameCluster c c
   same_refl c = record { sites_are = refl; parts_are = refl; faults = λ p other. omega arith }
-
-  at_most : (a b c : ℕ) → a ≤ b → b ≤ c → a ≤ c
-  at_most a b c h k = omega arith
 
   pub same_trans : (a b c : Held E D) → SameCluster a b → SameCluster b c → SameCluster a c
   same_trans a b c s t = record {
