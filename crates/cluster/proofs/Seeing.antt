@@ -82,10 +82,10 @@ module _ {S E D : Type 0} (types : Types S E D) where
     abbrev pub SeesNext : Step → Type 0
     SeesNext line = (calls : List (Call E)) → Sees types old calls → MayCall old.sites old.parts (entries calls) at ask → Given (entries calls) → IfSome number (λ n. 0 ≡ n) → session.GoesOn (λ s (p : P) r. Sees types s r) (λ (p : P) n. true) new pass calls number at ask line
 
-    pub seen_on : (Shows : Event E → Type 0) → GoesOn types old new (Asks types old Given at ask) at ask Shows → (line : Step) → ((calls : List (Call E)) → Lines Shows line calls) → SeesNext line
-    seen_on Shows g line lines calls s may given b =
+    pub seen_at : (Shows : Event E → Type 0) → GoesOn types old new (Asks types old Given at ask) at ask Shows → (line : Step) (calls : List (Call E)) → Lines Shows line calls → Sees types old calls → MayCall old.sites old.parts (entries calls) at ask → Given (entries calls) → IfSome number (λ n. 0 ≡ n) → session.GoesOn (λ s (p : P) r. Sees types s r) (λ (p : P) n. true) new pass calls number at ask line
+    seen_at Shows g line calls lines s may given b =
         let x = (g.goes (entries calls) s.reached (may, given)).0 in
-        let l = lines calls x.event x.shows in record {
+        let l = lines x.event x.shows in record {
           more = [];
           others = tt;
           by = 0;
@@ -97,6 +97,9 @@ module _ {S E D : Type 0} (types : Types S E D) where
           shows = l.0;
           seen = record { reached = x.reached; one_caller = (refl, s.one_caller) };
         }
+
+    pub seen_on : (Shows : Event E → Type 0) → GoesOn types old new (Asks types old Given at ask) at ask Shows → (line : Step) → ((calls : List (Call E)) → Lines Shows line calls) → SeesNext line
+    seen_on Shows g line lines calls s may given b = seen_at Shows g line calls (lines calls) s may given b
 
     -- just this event
     pub exact_on : (event : Event E) → GoesOn types old new (Asks types old Given at ask) at ask (λ e. e ≡ event) → (line : Step) → ((calls : List (Call E)) → line ≡ step_shown (entries calls) at event) → is_own_word (attempt event) ≡ true → SeesNext line
@@ -212,19 +215,19 @@ module _ {S E D : Type 0} (types : Types S E D) where
         changes_of calls s b line None x.event x.asked (subst (λ y. is_own_word (attempt y) ≡ true) (sym x.shows) own) x.reached (subst (λ y. line ≡ step_shown (entries calls) at y) (sym x.shows) is) (subst (λ y. None ≡ effect_made y) (sym x.shows) none)
 
     -- one that wasn't
-    pub unchanged_on : {A X : Type 0} (Shows : A → Event E → Type 0) (error : DurableError) (line : Step) → Calls types old new Given at update Shows (Err error) → FailedAs {X = X} at (tx_asked update) (number_asked update) (step.Disk at) error (Ok line)
+    pub unchanged_on : {A : Type 0} (X : Type 0) (Shows : A → Event E → Type 0) (error : DurableError) (line : Step) → Calls types old new Given at update Shows (Err error) → FailedAs {X = X} at (tx_asked update) (number_asked update) (step.Disk at) error (Ok line)
         → ((x : A) (what : Event E) → Shows x what → (fault_shown at what ≡ step.Disk at) × (is_own_word what ≡ true))
         → (calls : List (Call E)) → Sees types old calls → MayCall old.sites old.parts (entries calls) at update → Given (entries calls) → 0 ≡ by
         → session.Changes (λ s (p : P) r. Sees types s r) (λ (p : P) n. true) new pass calls by at update line None
-    unchanged_on Shows call.NoMemory line g f faults calls s may given b = absurd f
-    unchanged_on Shows call.Down line g f faults calls s may given b = unmade_by (Refused update IsDown) g.1 line calls s may given b f refl refl
-    unchanged_on Shows call.Disk line g f faults calls s may given b =
+    unchanged_on X Shows call.NoMemory line g f faults calls s may given b = absurd f
+    unchanged_on X Shows call.Down line g f faults calls s may given b = unmade_by (Refused update IsDown) g.1 line calls s may given b f refl refl
+    unchanged_on X Shows call.Disk line g f faults calls s may given b =
         let x = (g.0.goes (entries calls) s.reached (may, given)).0 in
         let k : x.event ≡ Cut x.shows.0 = x.shows.2 in
         let cut = faults x.shows.1.0 x.shows.0 x.shows.1.1 in
         changes_of calls s b line None x.event x.asked (subst (λ y. is_own_word (attempt y) ≡ true) (sym k) cut.1) x.reached (subst (λ y. line ≡ step_shown (entries calls) at y) (sym k) (f ∙ sym cut.0)) (subst (λ y. None ≡ effect_made y) (sym k) refl)
-    unchanged_on Shows (call.Full room) line g f faults calls s may given b = unmade_by (Refused update (HasNoRoom room)) g.1 line calls s may given b f refl refl
-    unchanged_on Shows (call.Refused why) line g f faults calls s may given b = unmade_by (Refused update (cause why)) g line calls s may given b (f ∙ sym (refusal_is (entries calls) at update (cause why))) refl refl
+    unchanged_on X Shows (call.Full room) line g f faults calls s may given b = unmade_by (Refused update (HasNoRoom room)) g.1 line calls s may given b f refl refl
+    unchanged_on X Shows (call.Refused why) line g f faults calls s may given b = unmade_by (Refused update (cause why)) g line calls s may given b (f ∙ sym (refusal_is (entries calls) at update (cause why))) refl refl
 
 -- who calls by the number of its transaction calls by 0
 pub number_is : {E : Type 0} (calls : List (Call E)) (t : TxId) (by : ℕ) → AllBear 0 calls → by ≡ caller_of calls t → 0 ≡ by

@@ -9,7 +9,7 @@ use Rattle.cluster.proofs.Seeing.{calls_here, exact_on, failed_on, failed_stays,
 use Rattle.cluster.proofs.store.LocalStore.decide.Goals as goal
 
 pub decide_at-requires : goal.decide_at-requires
-decide_at-requires g c = may_here (types_of g.C.Crdt.laws g.C.Crdt.spells g.D.Disk.state) _ _ c.self.view_is c.args.pass (Some c.args.by) c.args.at (event.AskDecide c.args.tx c.args.c.now) c.requires
+decide_at-requires g c = may_here (types_of g.C.Crdt.laws g.C.Crdt.spells g.D.Disk.state) _ _ c.self.view_is c.args.pass (Some c.args.by) c.args.at (event.AskDecide c.args.tx c.args.c.now) c.requires.may
 
 pub returns-in-Ok-clause-ok : goal.returns-in-Ok-clause-ok
 returns-in-Ok-clause-ok g c run s a =

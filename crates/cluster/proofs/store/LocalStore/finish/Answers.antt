@@ -9,7 +9,7 @@ use Rattle.cluster.proofs.Seeing.{calls_here, exact_on, failed_on, failed_stays,
 use Rattle.cluster.proofs.store.LocalStore.finish.Goals as goal
 
 pub finish_at-requires : goal.finish_at-requires
-finish_at-requires g c = may_here (types_of g.C.Crdt.laws g.C.Crdt.spells g.D.Disk.state) _ _ c.self.view_is c.args.pass None c.args.at (event.AskFinish c.args.tx c.args.c.now) c.requires
+finish_at-requires g c = may_here (types_of g.C.Crdt.laws g.C.Crdt.spells g.D.Disk.state) _ _ c.self.view_is c.args.pass None c.args.at (event.AskFinish c.args.tx c.args.c.now) c.requires.may
 
 pub returns-in-Ok-clause-ok : goal.returns-in-Ok-clause-ok
 returns-in-Ok-clause-ok g c run s a =

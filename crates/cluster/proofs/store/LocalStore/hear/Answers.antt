@@ -9,7 +9,7 @@ use Rattle.cluster.proofs.Seeing.{calls_here, exact_on, failed_on, failed_stays,
 use Rattle.cluster.proofs.store.LocalStore.hear.Goals as goal
 
 pub hear_at-requires : goal.hear_at-requires
-hear_at-requires g c = (c.args.number, may_here (types_of g.C.Crdt.laws g.C.Crdt.spells g.D.Disk.state) _ _ c.self.view_is c.args.pass None c.args.at (event.AskHear c.args.number c.args.part c.args.bounds.now) c.requires)
+hear_at-requires g c = (c.args.number, may_here (types_of g.C.Crdt.laws g.C.Crdt.spells g.D.Disk.state) _ _ c.self.view_is c.args.pass None c.args.at (event.AskHear c.args.number c.args.part c.args.bounds.now) c.requires.may)
 
 pub returns-in-Ok-clause-ok : goal.returns-in-Ok-clause-ok
 returns-in-Ok-clause-ok g c run s a =

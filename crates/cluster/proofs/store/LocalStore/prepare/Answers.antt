@@ -9,7 +9,7 @@ use Rattle.cluster.proofs.Seeing.{calls_here, exact_on, failed_on, failed_stays,
 use Rattle.cluster.proofs.store.LocalStore.prepare.Goals as goal
 
 pub prepare_at-requires : goal.prepare_at-requires
-prepare_at-requires g c = may_here (types_of g.C.Crdt.laws g.C.Crdt.spells g.D.Disk.state) _ _ c.self.view_is c.args.pass (Some c.args.by) c.args.at (event.AskPrepare c.args.tx c.args.s.now c.args.lead c.args.updates.now) c.requires
+prepare_at-requires g c = may_here (types_of g.C.Crdt.laws g.C.Crdt.spells g.D.Disk.state) _ _ c.self.view_is c.args.pass (Some c.args.by) c.args.at (event.AskPrepare c.args.tx c.args.s.now c.args.lead c.args.updates.now) c.requires.may
 
 pub returns-in-Ok-clause-ok : goal.returns-in-Ok-clause-ok
 returns-in-Ok-clause-ok g c run s a =

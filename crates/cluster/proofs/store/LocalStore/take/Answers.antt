@@ -9,7 +9,7 @@ use Rattle.cluster.proofs.Seeing.{calls_here, exact_on, failed_on, failed_stays,
 use Rattle.cluster.proofs.store.LocalStore.take.Goals as goal
 
 pub take_at-requires : goal.take_at-requires
-take_at-requires g c = (c.args.number, may_here (types_of g.C.Crdt.laws g.C.Crdt.spells g.D.Disk.state) _ _ c.self.view_is c.args.pass None c.args.at (event.AskTake c.args.number c.args.message.now) c.requires)
+take_at-requires g c = (c.args.number, may_here (types_of g.C.Crdt.laws g.C.Crdt.spells g.D.Disk.state) _ _ c.self.view_is c.args.pass None c.args.at (event.AskTake c.args.number c.args.message.now) c.requires.may)
 
 pub returns-in-Ok-clause-ok : goal.returns-in-Ok-clause-ok
 returns-in-Ok-clause-ok g c run s a =
