@@ -33,7 +33,7 @@ use Rattle.cluster.specs.Sees.{refusal_line, FailedAs, AllBear, Sees, no_number}
 use Rattle.cluster.proofs.Faulted.{same_of, rose_of}
 
 -- the line of a refusal names what was asked of
-refusal_is : {E : Type 0} (run : List (Entry E)) (p : PartId) (ask : Ask E) (why : Refusal) → refusal_shown run p ask why ≡ refusal_line p (tx_asked ask) (number_asked ask) why
+pub refusal_is : {E : Type 0} (run : List (Entry E)) (p : PartId) (ask : Ask E) (why : Refusal) → refusal_shown run p ask why ≡ refusal_line p (tx_asked ask) (number_asked ask) why
 refusal_is run p ask IsDown = refl
 refusal_is run p ask other = refl
 
@@ -150,6 +150,16 @@ module _ {S E D : Type 0} (types : Types S E D) where
     failed_tells Shows fault tells (call.Full room) (Ok line) g f = subst (TellsFault types.state old new at) (sym f) tt
     failed_tells Shows fault tells (call.Refused why) (Ok line) g f = subst (TellsFault types.state old new at) (sym f) (no_fault (tx_asked ask) (number_asked ask) why)
     failed_tells Shows fault tells error (Err x) g f = tt
+
+    -- the same, where the result of the call is taken apart
+    pub failed_line : {A : Type 0} (X : Type 0) (Shows : A → Event E → Type 0) (fault : Step) → FaultsAs Shows fault → (error : DurableError) (line : Step) → Calls types old new Given at ask Shows (Err error) → FailedAs {X = X} at (tx_asked ask) (number_asked ask) fault error (Ok line) → SeesNext line
+    failed_line X Shows fault faults error line g f = let r : Result Step X = Ok line in failed_on Shows fault faults error r g f SeesNext (λ l q. q)
+
+    pub line_tells : {A : Type 0} (X : Type 0) (Shows : A → Event E → Type 0) (fault : Step) → (FaultsRose types.state old new at → TellsFault types.state old new at fault) → (error : DurableError) (line : Step) → Calls types old new Given at ask Shows (Err error) → FailedAs {X = X} at (tx_asked ask) (number_asked ask) fault error (Ok line) → TellsFault types.state old new at line
+    line_tells X Shows fault tells error line g f = let r : Result Step X = Ok line in failed_tells Shows fault tells error r g f
+
+    pub error_stays : {A : Type 0} (X : Type 0) (Shows : A → Event E → Type 0) (fault : Step) (error : DurableError) (x : X) → Calls types old new Given at ask Shows (Err error) → FailedAs {X = X} at (tx_asked ask) (number_asked ask) fault error (Err x) → (calls : List (Call E)) → Sees types old calls → session.Stays (λ s (p : P) r. Sees types s r) (λ (p : P) n. true) new pass calls
+    error_stays X Shows fault error x g f = let r : Result Step X = Err x in failed_stays Shows fault error r g f
 
     -- the cluster stays the same
     pub called_same : {A : Type 0} (Shows : A → Event E → Type 0) (r : Result A DurableError) → Calls types old new Given at ask Shows r → SameCluster types.state old new

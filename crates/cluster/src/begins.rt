@@ -26,7 +26,7 @@ impl<C: Crdt, D: Disk + Drop> Live<C, D> {
     pub(crate) fn make_session(&mut self, name: Text, site: u8) -> Result<Vec<Step>, AllocError>
         ensures { IfOk result (λ steps. AppliesLive (types_of C.laws C.spells D.state) self.old (Command.Session name site) steps.items self.new) }
     {
-        if !self.sites.all.has_site(site) {
+        if !self.has_site(site) {
             return only(self.alloc, Step::NoPart);
         }
         if self.sessions.contains_key(&name) {
@@ -59,7 +59,7 @@ impl<C: Crdt, D: Disk + Drop> Live<C, D> {
         requires { IsReachedLive (types_of C.laws C.spells D.state) self.old }
         ensures { IfOk result (λ steps. AppliesLive (types_of C.laws C.spells D.state) self.old (Command.Move name site) steps.items self.new) }
     {
-        if !self.sites.all.has_site(site) {
+        if !self.has_site(site) {
             return only(self.alloc, Step::NoPart);
         }
         let Some(phase) = self.phase(&name) else {
@@ -116,7 +116,7 @@ impl<C: Crdt, D: Disk + Drop> Live<C, D> {
     {
         let parts = self.sites.all.parts();
         match part {
-            Some(part) => self.sites.all.has_part(part),
+            Some(part) => self.has_part(part),
             None => 1 <= parts,
         }
     }

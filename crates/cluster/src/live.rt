@@ -68,7 +68,7 @@ impl<C: Crdt, D: Disk + Drop> Live<C, D> {
         requires { n ≤ end_of_time }
         ensures { IfOk result (λ steps. AppliesLive (types_of C.laws C.spells D.state) self.old (Command.Clock part n) steps.items self.new) }
     {
-        if !self.sites.all.has_part(part) {
+        if !self.has_part(part) {
             return only(self.alloc, Step::NoPart);
         }
         match self.sites.all.tick_at(part, n) {

@@ -2,14 +2,15 @@ use Rattle.std.proofs.Common.{◌≡◌, ◌+◌, refl, sym, ap, ◌∙◌, subs
 use Rattle.std.specs.Prelude.{ℕ, List, Option, Ok, Err}
 use Rattle.site_vector.specs.declared.ids.TxId.{TxId}
 use Rattle.crdt_core.specs.declared.record.Part.{Part}
+use Rattle.crdt_core.specs.declared.record.Message.{Message}
 use Rattle.world_model.specs.declared.step.Step.TheVariants as step
 use Rattle.world_model.specs.Event as event
-use Rattle.world_model.specs.Event.{Event}
+use Rattle.world_model.specs.Event.{Event, Entry}
 use Rattle.world_model.specs.Lines.{fault_shown}
 use Rattle.world_model.specs.Plan.{update_count}
 use Rattle.site_partitions.specs.Answers.{Any}
 use Rattle.site_partitions.specs.Reaches.{types_of}
-use Rattle.cluster.proofs.Seeing.{calls_here, exact_on, failed_on, failed_stays, failed_tells, called_same, changes_on, unchanged_on, fault_of, number_is, may_here}
+use Rattle.cluster.proofs.Seeing.{calls_here, exact_on, called_same, failed_line, line_tells, error_stays, changes_on, unchanged_on, fault_of, number_is, may_here, place_here}
 use Rattle.cluster.proofs.store.LocalStore.begin.Goals as goal
 
 pub begin_at-requires : goal.begin_at-requires
@@ -31,12 +32,21 @@ returns-in-Ok-failed-clause-stays g c =
     called_same types c.args.self.now c.begin_at.new.self Any c.args.at (event.AskBegin c.args.who.now c.args.dep.now) c.args.pass None (λ (x : TxId × List ℕ) (e : Event g.row.C-Effect.Denot). e ≡ event.Began c.args.who.now c.args.dep.now x.0 x.1) (Err c.in-Err-begin_at.error) (calls_here types _ c.args.self.now c.begin_at.new.self c.self.view_is Any c.args.at (event.AskBegin c.args.who.now c.args.dep.now) (λ (x : TxId × List ℕ) (e : Event g.row.C-Effect.Denot). e ≡ event.Began c.args.who.now c.args.dep.now x.0 x.1) (Err c.in-Err-begin_at.error) (c.in-Err-begin_at.ensures c.args.who.now))
 
 pub returns-in-Ok-failed-clause-ok : goal.returns-in-Ok-failed-clause-ok
-returns-in-Ok-failed-clause-ok g c =
+returns-in-Ok-failed-clause-ok g c run s a =
     let types = types_of g.C.Crdt.laws g.C.Crdt.spells g.D.Disk.state in
-    failed_on {X = Unit {0}} types c.args.self.now c.begin_at.new.self Any c.args.at (event.AskBegin c.args.who.now c.args.dep.now) c.args.pass (Some 0) (λ (x : TxId × List ℕ) (e : Event g.row.C-Effect.Denot). e ≡ event.Began c.args.who.now c.args.dep.now x.0 x.1) (step.Disk c.args.at) (λ x what k. fault_of c.args.at (step.Disk c.args.at) (event.Began c.args.who.now c.args.dep.now x.0 x.1) refl refl what k) c.in-Err-begin_at.error (Ok c.in-Ok-failed.line) (calls_here types _ c.args.self.now c.begin_at.new.self c.self.view_is Any c.args.at (event.AskBegin c.args.who.now c.args.dep.now) (λ (x : TxId × List ℕ) (e : Event g.row.C-Effect.Denot). e ≡ event.Began c.args.who.now c.args.dep.now x.0 x.1) (Err c.in-Err-begin_at.error) (c.in-Err-begin_at.ensures c.args.who.now)) c.in-Ok-failed.ensures _
-    (λ line q run s a. q run s a.may tt refl)
+    failed_line types c.args.self.now c.begin_at.new.self Any c.args.at (event.AskBegin c.args.who.now c.args.dep.now) c.args.pass (Some 0) (Unit {0}) (λ (x : TxId × List ℕ) (e : Event g.row.C-Effect.Denot). e ≡ event.Began c.args.who.now c.args.dep.now x.0 x.1) (step.Disk c.args.at) (λ x what k. fault_of c.args.at (step.Disk c.args.at) (event.Began c.args.who.now c.args.dep.now x.0 x.1) refl refl what k) c.in-Err-begin_at.error _ (calls_here types _ c.args.self.now c.begin_at.new.self c.self.view_is Any c.args.at (event.AskBegin c.args.who.now c.args.dep.now) (λ (x : TxId × List ℕ) (e : Event g.row.C-Effect.Denot). e ≡ event.Began c.args.who.now c.args.dep.now x.0 x.1) (Err c.in-Err-begin_at.error) (c.in-Err-begin_at.ensures c.args.who.now)) c.in-Ok-failed.ensures run s a.may tt refl
 
 pub returns-in-Ok-failed-clause-tells : goal.returns-in-Ok-failed-clause-tells
 returns-in-Ok-failed-clause-tells g c =
     let types = types_of g.C.Crdt.laws g.C.Crdt.spells g.D.Disk.state in
-    failed_tells {X = Unit {0}} types c.args.self.now c.begin_at.new.self Any c.args.at (event.AskBegin c.args.who.now c.args.dep.now) c.args.pass None (λ (x : TxId × List ℕ) (e : Event g.row.C-Effect.Denot). e ≡ event.Began c.args.who.now c.args.dep.now x.0 x.1) (step.Disk c.args.at) (λ r. (refl, r)) c.in-Err-begin_at.error (Ok c.in-Ok-failed.line) (calls_here types _ c.args.self.now c.begin_at.new.self c.self.view_is Any c.args.at (event.AskBegin c.args.who.now c.args.dep.now) (λ (x : TxId × List ℕ) (e : Event g.row.C-Effect.Denot). e ≡ event.Began c.args.who.now c.args.dep.now x.0 x.1) (Err c.in-Err-begin_at.error) (c.in-Err-begin_at.ensures c.args.who.now)) c.in-Ok-failed.ensures
+    line_tells types c.args.self.now c.begin_at.new.self Any c.args.at (event.AskBegin c.args.who.now c.args.dep.now) c.args.pass None (Unit {0}) (λ (x : TxId × List ℕ) (e : Event g.row.C-Effect.Denot). e ≡ event.Began c.args.who.now c.args.dep.now x.0 x.1) (step.Disk c.args.at) (λ r. (refl, r)) c.in-Err-begin_at.error _ (calls_here types _ c.args.self.now c.begin_at.new.self c.self.view_is Any c.args.at (event.AskBegin c.args.who.now c.args.dep.now) (λ (x : TxId × List ℕ) (e : Event g.row.C-Effect.Denot). e ≡ event.Began c.args.who.now c.args.dep.now x.0 x.1) (Err c.in-Err-begin_at.error) (c.in-Err-begin_at.ensures c.args.who.now)) c.in-Ok-failed.ensures
+
+pub returns-in-Err-failed-clause-stays : goal.returns-in-Err-failed-clause-stays
+returns-in-Err-failed-clause-stays g c =
+    let types = types_of g.C.Crdt.laws g.C.Crdt.spells g.D.Disk.state in
+    called_same types c.args.self.now c.begin_at.new.self Any c.args.at (event.AskBegin c.args.who.now c.args.dep.now) c.args.pass None (λ (x : TxId × List ℕ) (e : Event g.row.C-Effect.Denot). e ≡ event.Began c.args.who.now c.args.dep.now x.0 x.1) (Err c.in-Err-begin_at.error) (calls_here types _ c.args.self.now c.begin_at.new.self c.self.view_is Any c.args.at (event.AskBegin c.args.who.now c.args.dep.now) (λ (x : TxId × List ℕ) (e : Event g.row.C-Effect.Denot). e ≡ event.Began c.args.who.now c.args.dep.now x.0 x.1) (Err c.in-Err-begin_at.error) (c.in-Err-begin_at.ensures c.args.who.now))
+
+pub returns-in-Err-failed-clause-err : goal.returns-in-Err-failed-clause-err
+returns-in-Err-failed-clause-err g c =
+    let types = types_of g.C.Crdt.laws g.C.Crdt.spells g.D.Disk.state in
+    error_stays types c.args.self.now c.begin_at.new.self Any c.args.at (event.AskBegin c.args.who.now c.args.dep.now) c.args.pass None _ (λ (x : TxId × List ℕ) (e : Event g.row.C-Effect.Denot). e ≡ event.Began c.args.who.now c.args.dep.now x.0 x.1) (step.Disk c.args.at) c.in-Err-begin_at.error _ (calls_here types _ c.args.self.now c.begin_at.new.self c.self.view_is Any c.args.at (event.AskBegin c.args.who.now c.args.dep.now) (λ (x : TxId × List ℕ) (e : Event g.row.C-Effect.Denot). e ≡ event.Began c.args.who.now c.args.dep.now x.0 x.1) (Err c.in-Err-begin_at.error) (c.in-Err-begin_at.ensures c.args.who.now)) c.in-Err-failed.ensures
