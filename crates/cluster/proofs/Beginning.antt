@@ -96,6 +96,7 @@ module _ {E : Type 0} where
         bears = λ run part. ew;
       }
   begun events at old new (Cut (Began who dep t s)) a o idle few = unbegun events at old new _ _ o few (λ n. refl) (λ parts part p. refl) (λ run part. tt)
+  begun events at old new (Cut (Refused q why)) a o idle few = unbegun events at old new _ _ o few (λ n. refl) (λ parts part p. refl) (λ run part. tt)
   begun events at old new (Cut what) a o idle few = absurd cc
   begun events at old new (Refused q IsDown) a o idle few = unbegun events at old new _ _ o few (λ n. refl) (λ parts part p. refl) (λ run part. tt)
   begun events at old new (Refused q why) a o idle few = unbegun events at old new _ _ o few (λ n. refl) (λ parts part p. refl) (λ run part. tt)

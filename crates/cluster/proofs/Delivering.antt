@@ -48,7 +48,7 @@ use Rattle.cluster.proofs.Meets.{all_met, first_at, none_due}
 use Rattle.cluster.proofs.Posting.{IsPosted, Posted, posted}
 use Rattle.cluster.proofs.Failing.{failed_by}
 use Rattle.cluster.proofs.Faulted.{same_of, shows_told}
-use Rattle.cluster.proofs.Seeing.{is_told, told_of, failed_tells}
+use Rattle.cluster.proofs.Seeing.{is_told, told_of, line_tells}
 use Rattle.cluster.proofs.Turning.{IsSilentFor}
 
 -- a refusal of a take names no transaction
@@ -200,7 +200,7 @@ module _ {S E D : Type 0} (types : Types S E D) (w : WholeState E D) where
   struck held cmd asking at ask Shows error s steps is failing f g line run r may unmet placed past calls silent faults =
       let x = failed_by types w.live.sites held (Asks types w.live.sites Any at ask) at ask Shows (step.Disk at) (entries r.live.calls) r.live.sees.reached (may, tt) (IsStruck (entries r.live.calls) ask) (λ why reached. record { call = refl; silent = λ who. tt; unsent = refl; unreported = refl }) (λ a what k reached. record { call = calls a what k; silent = silent a what k; unsent = refl; unreported = refl }) faults error s g f in
       let seen : Sees types held (called 0 at x.event ∷ r.live.calls) = record { reached = x.reached; one_caller = (refl, r.live.sees.one_caller) } in
-      let tells = failed_tells {X = Unit {0}} types w.live.sites held Any at ask tt None Shows (step.Disk at) (λ rose. (refl, rose)) error (Ok s) g f in
+      let tells = line_tells types w.live.sites held Any at ask tt None (Unit {0}) Shows (step.Disk at) (λ rose. (refl, rose)) error s g f in
       subst (λ l. IsAnswer is_built run cmd l × Reached types (Some (after held)) (answered line (Some cmd) l run) × FaultsShown types (Some w) run l (Some (after held))) (sym is) (
         subst (AnswersBy run cmd (s ∷ [])) (sym unmet) (failing_replies run cmd asking s failing),
         called_on cmd held at x.event s line run r x.same seen (failing_posted cmd asking s failing) (failing_numbered run s failing ∙ x.shows) (placed ∙ ap (λ k. record { at = at; call = k }) (sym x.property.call)) x.property.silent (subst (IsOwnPast (sites_of run) (calls_of run)) (sym x.property.call) past) (failing_plain s failing) x.property.unsent x.property.unreported,

@@ -129,6 +129,7 @@ module _ {E : Type 0} where
     decide_depends t v (Refused q IsDown) a n who old h = refl
     decide_depends t v (Refused q why) a n who old h = refl
     decide_depends t v (Cut (Decided u w)) a n who old h = refl
+    decide_depends t v (Cut (Refused q why)) a n who old h = refl
     decide_depends t v (Cut e) a n who old h = absurd cc
     decide_depends t v other a n who old h = absurd cc
 

@@ -120,6 +120,7 @@ module _ {E : Type 0} where
           bears = λ run. (name, eo);
         }
     made (Cut (event.Updated t v o' w op' read u stamp)) a x = unmade _ _ x (λ n. refl) (λ parts p. refl) (λ run. tt)
+    made (Cut (Refused q why)) a x = unmade _ _ x (λ n. refl) (λ parts p. refl) (λ run. tt)
     made (Cut what) a x = absurd cc
     made (Refused q IsDown) a x = unmade _ _ x (λ n. refl) (λ parts p. refl) (λ run. tt)
     made (Refused q why) a x = unmade _ _ x (λ n. refl) (λ parts p. refl) (λ run. tt)
