@@ -26,17 +26,18 @@ module _ {E : Type 0} (old new : Tables E) where
   pub same_tables : new ≡ old → IsSame old new
   same_tables h = record { id = ap (λ (t : Tables E). t.id) h; sites = ap (λ (t : Tables E). t.sites) h; parts = ap (λ (t : Tables E). t.parts) h }
 
-module _ {S E D : Type 0} (kinds : Kinds S E) (codec : Codec E) (state : D → DiskState) (old new : Durable E D) where
+module _ {E D : Type 0} (old new : Durable E D) where
   same_state : new ≡ old → IsSame old.tables new.tables
   same_state h = same_tables old.tables new.tables (ap (λ (t : Durable E D). t.tables) h)
 
+module _ {S E D : Type 0} (kinds : Kinds S E) (codec : Codec E) (state : D → DiskState) (old new : Durable E D) where
   -- whatever a call answered, it is the same partition of the same cluster
   pub calls_same : (Given : PartState E → Type 0) (asked : Ask E) {A : Type 0} (Shows : A → Event E → Type 0) (r : Result A DurableError) → CallsOn kinds codec state old new Given asked Shows r → IsSame old.tables new.tables
   calls_same Given asked Shows (Ok x) h = h.same
-  calls_same Given asked Shows (Err call.NoMemory) h = same_state h
-  calls_same Given asked Shows (Err call.Down) h = same_state h.0
+  calls_same Given asked Shows (Err call.NoMemory) h = same_state old new h
+  calls_same Given asked Shows (Err call.Down) h = same_state old new h.0
   calls_same Given asked Shows (Err call.Disk) h = h.1.1.same
-  calls_same Given asked Shows (Err (call.Full room)) h = same_state h.0
+  calls_same Given asked Shows (Err (call.Full room)) h = same_state old new h.0
   calls_same Given asked Shows (Err (call.Refused why)) h = h.same
 
   pub restarts_same : (r : Result Restarted RestartError) → RestartsOn kinds codec state old new r → IsSame old.tables new.tables

@@ -6,7 +6,7 @@ ghost use Rattle.recovery_table.specs.Places.{CanPut, CanPutMessage, MayTake};
 use crate::answers::Failure;
 use crate::call::Call;
 use crate::words::{Brought, Vote, batch_message, key_of, vote_record};
-use crdt_core::{Kind, Message, ObjectId, Record, Value};
+use crdt_core::{Crdt, Kind, Message, ObjectId, Record, Value};
 use crdt_counters::CounterPn;
 use disk_core::{Fused, MemDisk};
 use field_codec::Text;
@@ -198,6 +198,9 @@ impl Place {
         }
         let tx = self.own(s.get(1));
         let counter = counter(self.alloc, self.id.part)?;
+        if !CounterPn::has(counter.kind) {
+            return Err(Failure::Unasked);
+        }
         match self.partition.read(self.alloc, tx, s, &counter, &[])? {
             Value::Int(n) => Ok(n),
             _ => Err(Failure::Unasked),
