@@ -36,7 +36,7 @@ module _ {S E D : Type 0} (kinds : Kinds S E) (codec : Codec E) (state : D → D
   calls_same Given asked Shows (Ok x) h = h.same
   calls_same Given asked Shows (Err call.NoMemory) h = same_state old new h
   calls_same Given asked Shows (Err call.Down) h = same_state old new h.0
-  calls_same Given asked Shows (Err call.Disk) h = h.1.1.same
+  calls_same Given asked Shows (Err call.Disk) h = h.2.same
   calls_same Given asked Shows (Err (call.Full room)) h = same_state old new h.0
   calls_same Given asked Shows (Err (call.Refused why)) h = h.same
 
