@@ -86,7 +86,10 @@ pub(crate) struct Brought {
 }
 
 /// The message.
-pub(crate) fn batch_message(alloc: Global, brought: &Brought) -> Result<Option<Message<i64>>, AllocError>
+pub(crate) fn batch_message(
+    alloc: Global,
+    brought: &Brought,
+) -> Result<Option<Message<i64>>, AllocError>
     ensures { IfOk result (λ o. IfSome o CanPutMessage) }
 {
     let mut bytes = Vec::new(alloc);
