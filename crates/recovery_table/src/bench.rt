@@ -24,13 +24,18 @@ fn commit_all(place: &mut Place, transactions: u64) -> Result<(), Failure> {
     Ok(())
 }
 
-/// So many transactions at one partition, and so many restarts of it. Answers what the counter shows then.
-pub(crate) fn run(alloc: Global, transactions: u64, restarts: u64) -> Result<i128, Failure> {
-    let mut place = Place::new(alloc, 1, MOST_ROOM)?;
-    commit_all(&mut place, transactions)?;
+/// So many transactions, and so many restarts. Answers what the counter shows then.
+fn run_at(place: &mut Place, transactions: u64, restarts: u64) -> Result<i128, Failure> {
+    commit_all(place, transactions)?;
     for _number in 0..restarts {
         let _up = place.restart()?;
     }
     let s = place.report()?;
     place.read(&s)
+}
+
+/// The same at one partition over a new disk.
+pub(crate) fn run(alloc: Global, transactions: u64, restarts: u64) -> Result<i128, Failure> {
+    let mut place = Place::new(alloc, 1, MOST_ROOM)?;
+    run_at(&mut place, transactions, restarts)
 }

@@ -64,6 +64,13 @@ fn telling_of(alloc: Global, place: &mut Place, up: &Restarted) -> Result<Tellin
     })
 }
 
+/// Comes up again. Answers what is told, in words.
+fn come_up(alloc: Global, place: &mut Place) -> Result<String, Failure> {
+    let up = place.restart()?;
+    let telling = telling_of(alloc, place, &up)?;
+    Ok(telling.text(alloc)?)
+}
+
 impl Scene {
     fn new(alloc: Global, home: Home) -> Result<Scene, Failure> {
         Ok(Scene {
@@ -102,9 +109,7 @@ impl Scene {
 
     /// Comes up again. Answers how many records of the call that was cut off are there, and what is told.
     fn restart(&mut self, alloc: Global) -> Result<(usize, String), Failure> {
-        let up = self.place.restart()?;
-        let telling = telling_of(alloc, &mut self.place, &up)?;
-        let text = telling.text(alloc)?;
+        let text = come_up(alloc, &mut self.place)?;
         match self.book.front_of(text.as_str())? {
             None => Err(Failure::Differs),
             Some(count) => {
@@ -112,6 +117,60 @@ impl Scene {
                 Ok((count, text))
             }
         }
+    }
+
+    /// Comes up again, and adds what is told behind a step's text. Answers how many calls of the disk that may make, at
+    /// least and at most.
+    fn pass_restart(
+        &mut self,
+        alloc: Global,
+        out: &mut String,
+        text: &str,
+    ) -> Result<(u64, u64), Failure> {
+        let (_, told) = self.restart(alloc)?;
+        writeln!(out, "{text}: {told}")?;
+        Ok((1, 16))
+    }
+
+    /// Makes a step as it is, and adds its answer. Answers how many calls of the disk it may make, at least and at
+    /// most.
+    fn pass(&mut self, alloc: Global, out: &mut String, step: Step) -> Result<(u64, u64), Failure> {
+        if step.call == Call::Restart {
+            return self.pass_restart(alloc, out, step.text);
+        }
+        let records = self.book.notes_of(step.call)?.len() as u64;
+        let calls = records.saturating_mul(4);
+        match self.ask(step.call)? {
+            Ok(time) => {
+                writeln!(out, "{}: {time}", step.text)?;
+                Ok((calls, calls))
+            }
+            Err(failure) => {
+                writeln!(out, "{}: {failure}", step.text)?;
+                Ok((0, 0))
+            }
+        }
+    }
+
+    /// Cuts a call off at a call of the disk, comes up again, and adds what is told. Answers whether it makes so many.
+    fn crash(
+        &mut self,
+        alloc: Global,
+        out: &mut String,
+        call: Call,
+        at: u64,
+        kept: u64,
+    ) -> Result<bool, Failure> {
+        if !self.cut(call, at, kept)? {
+            return Ok(false);
+        }
+        let torn = self.book.torn();
+        let (count, text) = self.restart(alloc)?;
+        writeln!(
+            out,
+            "  call {at}, {kept} bytes: with {count} of {torn} records {text}"
+        )?;
+        Ok(true)
     }
 
     /// Makes a step of a line.
@@ -159,16 +218,7 @@ fn crash(
     kept: u64,
 ) -> Result<bool, Failure> {
     let mut scene = Scene::after(alloc, point.home, point.before)?;
-    if !scene.cut(point.step.call, at, kept)? {
-        return Ok(false);
-    }
-    let torn = scene.book.torn();
-    let (count, text) = scene.restart(alloc)?;
-    writeln!(
-        out,
-        "  call {at}, {kept} bytes: with {count} of {torn} records {text}"
-    )?;
-    Ok(true)
+    scene.crash(alloc, out, point.step.call, at, kept)
 }
 
 /// The same at each call of the disk. Answers how many it makes.
@@ -184,23 +234,7 @@ fn crash_each(alloc: Global, out: &mut String, point: &Point, kept: u64) -> Resu
 /// Makes the step as it is. Answers how many calls of the disk it may make, at least and at most.
 fn pass(alloc: Global, out: &mut String, point: &Point) -> Result<(u64, u64), Failure> {
     let mut scene = Scene::after(alloc, point.home, point.before)?;
-    if point.step.call == Call::Restart {
-        let (_, text) = scene.restart(alloc)?;
-        writeln!(out, "{}: {text}", point.step.text)?;
-        return Ok((1, 16));
-    }
-    let records = scene.book.notes_of(point.step.call)?.len() as u64;
-    let calls = records.saturating_mul(4);
-    match scene.ask(point.step.call)? {
-        Ok(time) => {
-            writeln!(out, "{}: {time}", point.step.text)?;
-            Ok((calls, calls))
-        }
-        Err(failure) => {
-            writeln!(out, "{}: {failure}", point.step.text)?;
-            Ok((0, 0))
-        }
-    }
+    scene.pass(alloc, out, point.step)
 }
 
 /// Makes the step as it is, and cut off at each call of the disk.
@@ -257,6 +291,5 @@ pub(crate) fn wake(alloc: Global, part: u8, bytes: &[u8]) -> Result<String, Fail
     requires most { part ≤ 2 }
 {
     let mut place = Place::of_bytes(alloc, part, bytes)?;
-    let up = place.restart()?;
-    Ok(telling_of(alloc, &mut place, &up)?.text(alloc)?)
+    come_up(alloc, &mut place)
 }

@@ -106,6 +106,13 @@ fn put_committed(out: &mut String, told: &Rebuilt<i64>) -> Result<(), AllocError
     out.push_str("\n")
 }
 
+/// Adds all that records tell that fit.
+fn put_told(out: &mut String, told: &Rebuilt<i64>) -> Result<(), AllocError> {
+    out.push_str("  ")?;
+    put_rebuilt(out, told)?;
+    put_committed(out, told)
+}
+
 /// Adds whether the records of a line fit, and what they tell.
 pub(crate) fn answer(alloc: Global, out: &mut String, text: &str) -> Result<(), Failure> {
     let records = records_of(alloc, text)?;
@@ -113,9 +120,7 @@ pub(crate) fn answer(alloc: Global, out: &mut String, text: &str) -> Result<(), 
         Some(number) => writeln!(out, "  record {number} doesn't fit")?,
         None => {
             let told = rebuild(alloc, records, 2, HERE)?;
-            out.push_str("  ")?;
-            put_rebuilt(out, &told)?;
-            put_committed(out, &told)?;
+            put_told(out, &told)?;
         }
     }
     Ok(())

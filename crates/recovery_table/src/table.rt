@@ -30,24 +30,33 @@ fn answer(alloc: Global, out: &mut String, line: &str) -> Result<(), Failure> {
         room: words.numbers[1],
     };
     match words.word {
-        "crashes" => {
-            let steps = steps_of(alloc, rest)?;
-            try_each(alloc, out, home, steps.as_slice())
-        }
-        "wrong" => {
-            let steps = steps_of(alloc, rest)?;
-            let bytes = bytes_after(alloc, home, steps.as_slice())?;
-            change_each(alloc, out, bytes.as_slice())
-        }
-        "elsewhere" => {
-            let steps = steps_of(alloc, rest)?;
-            let bytes = bytes_after(alloc, home, steps.as_slice())?;
-            out.push_str(" ")?;
-            put_waking(alloc, out, 2, bytes.as_slice())
-        }
+        "crashes" => put_crashes(alloc, out, home, rest),
+        "wrong" => put_wrong(alloc, out, home, rest),
+        "elsewhere" => put_elsewhere(alloc, out, home, rest),
         "fits" => fits::answer(alloc, out, rest),
         _ => Ok(()),
     }
+}
+
+/// Adds what each call of a line answers, and what comes up where it is cut off.
+fn put_crashes(alloc: Global, out: &mut String, home: Home, text: &str) -> Result<(), Failure> {
+    let steps = steps_of(alloc, text)?;
+    try_each(alloc, out, home, steps.as_slice())
+}
+
+/// Adds what comes up over the disk that calls leave, with one byte changed.
+fn put_wrong(alloc: Global, out: &mut String, home: Home, text: &str) -> Result<(), Failure> {
+    let steps = steps_of(alloc, text)?;
+    let bytes = bytes_after(alloc, home, steps.as_slice())?;
+    change_each(alloc, out, bytes.as_slice())
+}
+
+/// Adds what comes up over the disk that calls leave, as the second partition.
+fn put_elsewhere(alloc: Global, out: &mut String, home: Home, text: &str) -> Result<(), Failure> {
+    let steps = steps_of(alloc, text)?;
+    let bytes = bytes_after(alloc, home, steps.as_slice())?;
+    out.push_str(" ")?;
+    put_waking(alloc, out, 2, bytes.as_slice())
 }
 
 /// Adds what comes up over a disk that holds these bytes.
