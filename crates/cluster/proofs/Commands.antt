@@ -5,7 +5,6 @@ use Rattle.site_vector.specs.declared.ids.PartId.{PartId}
 use Rattle.site_vector.specs.declared.ids.TxId.{TxId}
 use Rattle.crdt_core.specs.declared.object.ObjectId.{ObjectId}
 use Rattle.crdt_core.specs.declared.record.Upd.{Upd}
-use Rattle.crdt_core.specs.KindsOf.{Kinds}
 use Rattle.crdt_core.specs.Placing.{place_of}
 use Rattle.world_model.specs.declared.command.Command.TheVariants as command
 use Rattle.world_model.specs.declared.step.Step.{Step}
@@ -15,7 +14,7 @@ use Rattle.world_model.specs.Asking.{asked_by}
 use Rattle.world_model.specs.Cluster.{sites_of, parts_of}
 use Rattle.world_model.specs.CommitSteps.{Going, Preparing, Finishing, Aborting}
 use Rattle.world_model.specs.Event as event
-use Rattle.world_model.specs.Event.{AskRead, IsDown, Event, Refused, Cut, Entry, attempt}
+use Rattle.world_model.specs.Event.{AskRead, IsDown, Event, Decided, Refused, Cut, Entry, attempt}
 use Rattle.world_model.specs.Lines.{ReadOf, step_shown, session_of}
 use Rattle.world_model.specs.Past.{dependency_after}
 use Rattle.world_model.specs.Phases.{Phase, phase, phase_after, update_total}
@@ -23,21 +22,25 @@ use Rattle.world_model.specs.Run.{Run}
 use Rattle.world_model.specs.ScriptAnswers.{Bears, AnswersBy, IsAnswer}
 use Rattle.world_model.specs.ScriptCalls.{at_object}
 use Rattle.world_model.proofs.Names.{off}
-use Rattle.txn_session.specs.Calls.{entries}
+use Rattle.txn_session.specs.Calls.{called, entries}
 use Rattle.txn_session.specs.Holds.{HoldsDoing, MakesRead}
 use Rattle.txn_session.specs.declared.phase.Phase.{Phase as Stage}
 use Rattle.txn_session.specs.Session as session
 use Rattle.txn_session.specs.Session.{Doing, Idle, Open, Ending, SessionState}
 use Rattle.txn_session.specs.Session.{own_updates, place_in}
+use Rattle.site_partitions.specs.Reaches.{Types}
 use Rattle.cluster.specs.Acts.{Acts, Reads}
 use Rattle.cluster.specs.Built.{is_built}
-use Rattle.cluster.specs.Held.{Held}
+use Rattle.site_partitions.specs.Held.{Held}
 use Rattle.cluster.specs.Live.{LiveState, session_in, phase_in, phase_about, is_open_phase, are_open}
 use Rattle.cluster.specs.Reached.{phase_as, StandsBy, GoesTo, AppliesLive}
-use Rattle.cluster.specs.Sees.{is_calm, Sees}
+use Rattle.cluster.specs.Sees.{Sees}
+use Rattle.cluster.specs.Faults.{ShowFaults}
+use Rattle.cluster.proofs.Faulted.{shows_told}
+use Rattle.cluster.proofs.Seeing.{told_last}
 use Rattle.cluster.proofs.Meets.{all_met, first_at, none_due, refused, has, lacks_session, has_session, open_is, by_name}
 use Rattle.cluster.proofs.Sessions.{turns, acted}
-use Rattle.cluster.proofs.Turned.{answer_up}
+use Rattle.cluster.proofs.Turned.{sure, is_decide_ask, answer_up}
 
 pub open_about : (o : Option Stage) (p : Stage) → o ≡ Some p → is_open_phase p ≡ true → are_open o ≡ true
 open_about o p h k = ap are_open h ∙ k
@@ -69,79 +72,82 @@ module _ {E : Type 0} where
   shut_about (Some s) p h k = let e : session.phase_of s.doing ≡ p = cc in record { found = s; is = refl; shut = sym (open_phase s.doing) ∙ (ap is_open_phase e ∙ k) }
 
   module _ (events : List (Entry E)) (at : PartId) (tx : TxId) (s : List ℕ) (o : ObjectId) (own : List (Upd E)) where
-    read_phase : (e : Event E) → asked_by (attempt e) ≡ AskRead tx s o own → is_calm e ≡ true → (parts : ℕ) (who : List ℕ) (old : Phase) (name : List ℕ) → phase_after parts who old (Some (command.Read name o)) (step_shown events at e) ≡ old
-    read_phase (event.Read t v o' w read value) a c parts who old name = refl
-    read_phase (Refused q IsDown) a c parts who old name = off c
-    read_phase (Refused q why) a c parts who old name = refl
-    read_phase (Cut what) a c parts who old name = off c
-    read_phase other a c parts who old name = absurd cc
+    read_phase : (e : Event E) → asked_by (attempt e) ≡ AskRead tx s o own → (parts : ℕ) (who : List ℕ) (old : Phase) (name : List ℕ) → phase_after parts who old (Some (command.Read name o)) (step_shown events at e) ≡ old
+    read_phase (event.Read t v o' w read value) a parts who old name = refl
+    read_phase (Refused q IsDown) a parts who old name = refl
+    read_phase (Refused q why) a parts who old name = refl
+    read_phase (Cut (Decided t v)) a parts who old name = absurd cc
+    read_phase (Cut what) a parts who old name = refl
+    read_phase other a parts who old name = absurd cc
 
-    read_depends : (e : Event E) → asked_by (attempt e) ≡ AskRead tx s o own → is_calm e ≡ true → (n : ℕ) (who old : List ℕ) → dependency_after n events who old e ≡ old
-    read_depends (event.Read t v o' w read value) a c n who old = refl
-    read_depends (Refused q why) a c n who old = refl
-    read_depends (Cut what) a c n who old = off c
-    read_depends other a c n who old = absurd cc
+    read_depends : (e : Event E) → asked_by (attempt e) ≡ AskRead tx s o own → (n : ℕ) (who old : List ℕ) → dependency_after n events who old e ≡ old
+    read_depends (event.Read t v o' w read value) a n who old = refl
+    read_depends (Refused q why) a n who old = refl
+    read_depends (Cut what) a n who old = refl
+    read_depends other a n who old = absurd cc
 
-    read_bears : (e : Event E) → asked_by (attempt e) ≡ AskRead tx s o own → is_calm e ≡ true → (run : Run) (name : List ℕ) → session_of events tx ≡ name → Bears run (command.Read name o) (step_shown events at e)
-    read_bears (event.Read t v o' w read value) a c run name h = let et : t ≡ tx = cc in (ap (session_of events) et ∙ h, cc)
-    read_bears (Refused q IsDown) a c run name h = off c
-    read_bears (Refused q why) a c run name h = tt
-    read_bears (Cut what) a c run name h = off c
-    read_bears other a c run name h = absurd cc
+    read_bears : (e : Event E) → asked_by (attempt e) ≡ AskRead tx s o own → (run : Run) (name : List ℕ) → session_of events tx ≡ name → Bears run (command.Read name o) (step_shown events at e)
+    read_bears (event.Read t v o' w read value) a run name h = let et : t ≡ tx = cc in (ap (session_of events) et ∙ h, cc)
+    read_bears (Refused q IsDown) a run name h = tt
+    read_bears (Refused q why) a run name h = tt
+    read_bears (Cut (Decided t v)) a run name h = tt
+    read_bears (Cut what) a run name h = tt
+    read_bears other a run name h = absurd cc
 
-module _ {S E : Type 0} (kinds : Kinds S E) (c : LiveState E) (name : List ℕ) where
+module _ {S E D : Type 0} (types : Types S E D) (c : LiveState E D) (name : List ℕ) where
   -- its session isn't there
   pub absent_in : phase_in c.sessions name ≡ None → session_in c.sessions name ≡ None
   absent_in h = none_about (session_in c.sessions name) h
 
   module _ (o : ObjectId) where
-    pub read_absent : (steps : List Step) → steps ≡ step.NoSession ∷ [] → session_in c.sessions name ≡ None → AppliesLive kinds c (command.Read name o) steps c
-    read_absent steps is none = refused kinds c (command.Read name o) step.NoSession steps is refl
-        (λ run r. first_at (all_met run (command.Read name o)) 2 (refl, (has kinds c run r name, lacks_session kinds c run r name none)))
+    pub read_absent : (steps : List Step) → steps ≡ step.NoSession ∷ [] → session_in c.sessions name ≡ None → AppliesLive types c (command.Read name o) steps c
+    read_absent steps is none = refused types c (command.Read name o) step.NoSession steps is refl
+        (λ run r. first_at (all_met run (command.Read name o)) 2 (refl, (has types c run r name, lacks_session types c run r name none)))
         (λ run r who. refl)
 
-    pub read_shut : (steps : List Step) → steps ≡ step.NoTxn ∷ [] → IsShut (session_in c.sessions name) → AppliesLive kinds c (command.Read name o) steps c
-    read_shut steps is x = let s = x.found in let there = x.is in let shut = x.shut in refused kinds c (command.Read name o) step.NoTxn steps is refl
-        (λ run r. first_at (all_met run (command.Read name o)) 3 (refl, (has kinds c run r name, (has_session kinds c run r name s there, ap not (open_is kinds c run r name s there ∙ shut)))))
+    pub read_shut : (steps : List Step) → steps ≡ step.NoTxn ∷ [] → IsShut (session_in c.sessions name) → AppliesLive types c (command.Read name o) steps c
+    read_shut steps is x = let s = x.found in let there = x.is in let shut = x.shut in refused types c (command.Read name o) step.NoTxn steps is refl
+        (λ run r. first_at (all_met run (command.Read name o)) 3 (refl, (has types c run r name, (has_session types c run r name s there, ap not (open_is types c run r name s there ∙ shut)))))
         (λ run r who. refl)
 
-    pub read_applies : (later : Held E) (sessions : List (List ℕ × SessionState E)) (answer : Step) (steps : List Step) → steps ≡ answer ∷ [] → are_open (phase_in c.sessions name) ≡ true → Acts kinds c.sites c.sessions name later sessions (Reads kinds later o answer) → AppliesLive kinds c (command.Read name o) steps (record { sites = later; sessions = sessions })
+    pub read_applies : (later : Held E D) (sessions : List (List ℕ × SessionState E)) (answer : Step) (steps : List Step) → steps ≡ answer ∷ [] → are_open (phase_in c.sessions name) ≡ true → Acts types c.sites c.sessions name later sessions (Reads types c.sites later o answer) → AppliesLive types c (command.Read name o) steps (record { sites = later; sessions = sessions })
     read_applies later sessions answer steps is opened a number run r =
-        subst (λ l. IsAnswer is_built run (command.Read name o) l × GoesTo kinds c run r (record { sites = later; sessions = sessions }) (answered number (Some (command.Read name o)) l run)) (sym is)
-        (by_doing a.before.doing refl is_open d.1)
+        subst (λ l. IsAnswer is_built run (command.Read name o) l × GoesTo types c run r (record { sites = later; sessions = sessions }) (answered number (Some (command.Read name o)) l run) × ShowFaults types.state run c.sites later l) (sym is)
+        (by_doing a.before.doing refl is_open d.2)
       where
         st : StandsBy run r.calls name a.before
-        st = by_name kinds c run r name a.before a.is
+        st = by_name types c run r name a.before a.is
 
-        d : Reads kinds later o answer a.before a.after r.calls
+        d : Reads types c.sites later o answer a.before a.after r.calls
         d = a.does r.calls r.sees st.holds
 
         is_open : session.is_open a.before.doing ≡ true
         is_open = sym (open_phase a.before.doing) ∙ subst (λ x. are_open (phase_about x) ≡ true) a.is opened
 
-        by_doing : (doing : Doing E) → a.before.doing ≡ doing → session.is_open doing ≡ true → MakesRead (λ h (p : Unit {0}) l. Sees kinds h l) (λ (p : Unit {0}) n. true) later tt r.calls a.before a.after o answer doing
-            → IsAnswer is_built run (command.Read name o) (answer ∷ []) × GoesTo kinds c run r (record { sites = later; sessions = sessions }) (answered number (Some (command.Read name o)) (answer ∷ []) run)
+        by_doing : (doing : Doing E) → a.before.doing ≡ doing → session.is_open doing ≡ true → MakesRead (λ h (p : Unit {0}) l. Sees types h l) (λ (p : Unit {0}) n. true) later tt r.calls a.before a.after o answer doing
+            → IsAnswer is_built run (command.Read name o) (answer ∷ []) × GoesTo types c run r (record { sites = later; sessions = sessions }) (answered number (Some (command.Read name o)) (answer ∷ []) run) × ShowFaults types.state run c.sites later (answer ∷ [])
         by_doing Idle e h m = off h
         by_doing (Ending txn lead commit) e h m = off h
         by_doing (Open txn) e h m =
-            let t = turns kinds later tt r.calls a.before a.after (Some txn.by) _ _ answer m in
+            let t = turns types later tt r.calls a.before a.after (Some txn.by) _ _ answer m in
             let x = subst (HoldsDoing a.before.sites a.before.parts a.before.name a.before.site r.calls) e st.holds.doing in
             let mine : session_of (entries r.calls) txn.tx ≡ name = x.0.session ∙ st.name in
             let place : PartId = place_in a.before (place_of o.bucket o.key a.before.parts) in
-            let bears = subst (Bears run (command.Read name o)) (sym t.shows) (read_bears (entries r.calls) place txn.tx txn.s o (own_updates txn.updates o) t.event t.asked t.seen.calm.0 run name mine) in
-            let up = answer_up (entries r.calls) place t.event answer t.shows t.seen.calm.0 in (
-              (subst (AnswersBy run (command.Read name o) (answer ∷ [])) (sym (none_due (all_met run (command.Read name o)) (refl, (has kinds c run r name, (has_session kinds c run r name a.before a.is, (ap not (open_is kinds c run r name a.before a.is ∙ is_open), tt)))))) (answer, refl, ap (λ b. b && true) up.0, bears), ap (λ b. b && true) up.1),
-              acted kinds c run r number (command.Read name o) name a.before a.is a.after place (AskRead txn.tx txn.s o (own_updates txn.updates o)) answer later t sessions (record {
-                size = a.size;
+            let bears = subst (Bears run (command.Read name o)) (sym t.shows) (read_bears (entries r.calls) place txn.tx txn.s o (own_updates txn.updates o) t.event t.asked run name mine) in
+            let up = answer_up (entries r.calls) place t.event answer t.shows (told_last types later (called t.by place t.event) r.calls t.seen) in (
+              subst (AnswersBy run (command.Read name o) (answer ∷ [])) (sym (none_due (all_met run (command.Read name o)) (refl, (has types c run r name, (has_session types c run r name a.before a.is, (ap not (open_is types c run r name a.before a.is ∙ is_open), tt)))))) (answer, refl, ap (λ b. b && true) up, bears),
+              acted types c run r number (command.Read name o) name a.before a.is a.after place (AskRead txn.tx txn.s o (own_updates txn.updates o)) answer later t sessions (record {
+                same = a.same;
                 put = a.put;
-                there = record { name = ap (λ y. y.name) d.0; site = ap (λ y. y.site) d.0; sites = ap (λ y. y.sites) d.0; parts = ap (λ y. y.parts) d.0 };
+                there = record { name = ap (λ y. y.name) d.1; site = ap (λ y. y.site) d.1; sites = ap (λ y. y.sites) d.1; parts = ap (λ y. y.parts) d.1 };
                 own = mine;
                 of_session = refl;
                 placed = ap (λ p. at_object (parts_of run) o p (λ u. ReadOf u o)) (st.phase ∙ ap phase_as e) ∙ (λ i. record { at = record { site = x.0.site_is i; part = place_of o.bucket o.key (sym st.parts i) }; call = ReadOf txn.tx o });
                 past = tt;
-                few = subst (λ (y : SessionState E). update_total (phase_as y.doing) ≤ 256) (sym d.0) st.few;
+                few = subst (λ (y : SessionState E). update_total (phase_as y.doing) ≤ 256) (sym d.1) st.few;
                 idle = λ who h line. refl;
-                phase = ap (phase_after (parts_of run) name (phase run name) (Some (command.Read name o))) t.shows ∙ (read_phase (entries r.calls) place txn.tx txn.s o (own_updates txn.updates o) t.event t.asked t.seen.calm.0 (parts_of run) name (phase run name) name ∙ (st.phase ∙ ap (λ y. phase_as y.doing) (sym d.0)));
-                depends = ap (λ y. y.dependency) d.0 ∙ sym (read_depends (entries r.calls) place txn.tx txn.s o (own_updates txn.updates o) t.event t.asked t.seen.calm.0 (sites_of run) name a.before.dependency);
+                phase = ap (phase_after (parts_of run) name (phase run name) (Some (command.Read name o))) t.shows ∙ (read_phase (entries r.calls) place txn.tx txn.s o (own_updates txn.updates o) t.event t.asked (parts_of run) name (phase run name) name ∙ (st.phase ∙ ap (λ y. phase_as y.doing) (sym d.1)));
+                depends = ap (λ y. y.dependency) d.1 ∙ sym (read_depends (entries r.calls) place txn.tx txn.s o (own_updates txn.updates o) t.event t.asked (sites_of run) name a.before.dependency);
               }),
+              (shows_told types.state run c.sites later d.0.0 answer d.0.1 (λ u k. absurd (sure (entries r.calls) place t.event (ap is_decide_ask t.asked) u (sym t.shows ∙ k))), tt),
             )

@@ -1,10 +1,9 @@
 -- A message that is delivered and a report that is heard: calls of partitions that the script numbers anew.
-use Rattle.std.proofs.Common.{◌≡◌, ℕ, true, false, List, [], ◌∷◌, refl, sym, ap, ◌∙◌, subst, Some}
+use Rattle.std.proofs.Common.{◌≡◌, ℕ, true, false, List, [], ◌∷◌, refl, sym, ap, ◌∙◌, subst, true≢false, Option, None, Some}
 use Rattle.std.specs.Prelude.{not, ◌&&◌, ◌==◌, is_none, is_some, nat_le, Ok, Err}
 use Rattle.std.proofs.lemmas.Bool.{eqb-true, and_parts, leb-true}
 use Rattle.site_vector.specs.declared.ids.PartId.{PartId}
 use Rattle.site_vector.specs.declared.ids.TxId.{TxId}
-use Rattle.crdt_core.specs.KindsOf.{Kinds}
 use Rattle.crdt_core.specs.declared.record.Message.{Message}
 use Rattle.world_model.specs.declared.command.Command.{Command}
 use Rattle.world_model.specs.declared.command.Command.TheVariants as command
@@ -15,34 +14,41 @@ use Rattle.world_model.specs.Asking.{MayCall}
 use Rattle.world_model.specs.Cluster.{sites_of}
 use Rattle.world_model.specs.Dependency.{IsOwnPast}
 use Rattle.world_model.specs.Event as event
-use Rattle.world_model.specs.Event.{AskTake, AskHear, Event, Entry, Took, Heard, Refused, Refusal, ClockBehind, TxPending, StableBehind, ClockAtEnd, IsGone, HasGap, IsRepeat, IsDown, IsBadOp, HasNoRoom, IsDamaged, is_sent, is_report}
-use Rattle.world_model.specs.Lines.{call_of, step_shown}
+use Rattle.world_model.specs.Event.{Ask, AskTake, AskHear, Event, Entry, Took, Heard, Refused, Cut, Refusal, ClockBehind, TxPending, StableBehind, ClockAtEnd, IsGone, HasGap, IsRepeat, IsDown, IsBadOp, HasNoRoom, IsDamaged, is_sent, is_report}
+use Rattle.world_model.specs.Lines.{call_of, call_asked, fault_shown, step_shown, tx_asked, number_asked}
 use Rattle.world_model.specs.Plan.{IsPlace}
 use Rattle.world_model.specs.Run.{Run}
-use Rattle.world_model.specs.ScriptAnswers.{AnswersBy, IsAnswer, Bears, is_sound}
+use Rattle.world_model.specs.ScriptAnswers.{AnswersBy, IsAnswer, Bears, Replies}
 use Rattle.world_model.specs.ScriptCalls.{is_answer, asked_of, calls_of, numbered, for_message, for_report, own_of, own_report}
 use Rattle.world_model.specs.Messages.{message_of}
-use Rattle.world_model.specs.Meeting.{is_foreign}
+use Rattle.world_model.specs.Meeting.{met, is_foreign}
+use Rattle.world_model.specs.Phases.{Phase, by_command}
 use Rattle.world_model.proofs.Names.{off}
 use Rattle.partition_core.specs.Answers.{cause}
 use Rattle.partition_core.specs.declared.answers.Refusal as part
-use Rattle.partition_core.specs.declared.answers.CallError.{CallError}
-use Rattle.partition_core.specs.declared.answers.CallError.TheVariants as call
+use Rattle.partition_core.specs.declared.answers.Refusal.TheVariants as answer
+use Rattle.partition_core.specs.declared.durable.DurableError.{DurableError}
+use Rattle.partition_core.specs.declared.durable.DurableError.TheVariants as call
+use Rattle.disk_core.specs.States.{DiskState}
 use Rattle.txn_session.specs.Calls.{called, entries}
+use Rattle.site_partitions.specs.Reaches.{Types, MayAsk, Reaches}
 use Rattle.cluster.specs.declared.post.Note.{Note}
-use Rattle.cluster.specs.Answers.{Any, Calls, GoesOn}
-use Rattle.cluster.specs.Built.{is_built}
-use Rattle.cluster.specs.Held.{Held, SameSize, holds_site, holds_part}
+use Rattle.site_partitions.specs.Answers.{Any, Asks, Calls, GoesOn}
+use Rattle.cluster.specs.Built.{is_built, is_of_fates}
+use Rattle.cluster.specs.Faults.{ShowsFault, ShowFaults}
+use Rattle.site_partitions.specs.Held.{Held, holds_site, holds_part}
+use Rattle.cluster.specs.Same.{SameCluster}
 use Rattle.cluster.specs.Post.{WholeState, HasPost, IsLetter, MailAs, IsNote, NoteAs, kept_at}
-use Rattle.cluster.specs.Reached.{Applies, IsReached, ReachedWhole}
-use Rattle.cluster.specs.Reaches.{MayAsk, Reaches}
-use Rattle.cluster.specs.Sees.{Sees, FailedAs, is_plain, refusal_line}
+use Rattle.cluster.specs.Reached.{Applies, FaultsShown, IsReached, Reached, ReachedWhole}
+use Rattle.cluster.specs.Sees.{Sees, FailedAs, refusal_line}
 use Rattle.cluster.proofs.Clocks.{part_in}
 use Rattle.cluster.proofs.Dropping.{turned_down, lacks_mail, lacks_notice}
 use Rattle.cluster.proofs.Keeping.{is_postal, keeps_line, grows_one, post_on}
 use Rattle.cluster.proofs.Meets.{all_met, first_at, none_due}
 use Rattle.cluster.proofs.Posting.{IsPosted, Posted, posted}
-use Rattle.cluster.proofs.Seeing.{plain_refused}
+use Rattle.cluster.proofs.Failing.{failed_by}
+use Rattle.cluster.proofs.Faulted.{same_of, shows_told}
+use Rattle.cluster.proofs.Seeing.{is_told, told_of, line_tells}
 use Rattle.cluster.proofs.Turning.{IsSilentFor}
 
 -- a refusal of a take names no transaction
@@ -55,25 +61,89 @@ took_posted k number hi = record { alone = refl; answer = refl; cluster = refl; 
 heard_posted : (k number : ℕ) (at p : PartId) (stable : List ℕ) → IsPosted (command.Hear k at) (step.Heard number p stable)
 heard_posted k number at p stable = record { alone = refl; answer = refl; cluster = refl; sites = λ n. refl; parts = λ n. refl; site = λ who old. refl; count = λ n. refl; phase = λ parts who old. refl }
 
-refused_posted : (k : ℕ) (at : PartId) (number : ℕ) (why : Refusal) → is_plain why ≡ true → IsPosted (command.Deliver k) (refusal_line at no_tx number why)
-refused_posted k at number IsDown h = off h
-refused_posted k at number IsBadOp h = off h
-refused_posted k at number (HasNoRoom n) h = off h
-refused_posted k at number (IsDamaged n) h = off h
-refused_posted k at number (ClockBehind n) h = record { alone = refl; answer = refl; cluster = refl; sites = λ n. refl; parts = λ n. refl; site = λ who old. refl; count = λ n. refl; phase = λ parts who old. refl }
-refused_posted k at number (TxPending t n) h = record { alone = refl; answer = refl; cluster = refl; sites = λ n. refl; parts = λ n. refl; site = λ who old. refl; count = λ n. refl; phase = λ parts who old. refl }
-refused_posted k at number (StableBehind j n) h = record { alone = refl; answer = refl; cluster = refl; sites = λ n. refl; parts = λ n. refl; site = λ who old. refl; count = λ n. refl; phase = λ parts who old. refl }
-refused_posted k at number ClockAtEnd h = record { alone = refl; answer = refl; cluster = refl; sites = λ n. refl; parts = λ n. refl; site = λ who old. refl; count = λ n. refl; phase = λ parts who old. refl }
-refused_posted k at number IsGone h = record { alone = refl; answer = refl; cluster = refl; sites = λ n. refl; parts = λ n. refl; site = λ who old. refl; count = λ n. refl; phase = λ parts who old. refl }
-refused_posted k at number (HasGap n) h = record { alone = refl; answer = refl; cluster = refl; sites = λ n. refl; parts = λ n. refl; site = λ who old. refl; count = λ n. refl; phase = λ parts who old. refl }
-refused_posted k at number (IsRepeat n) h = record { alone = refl; answer = refl; cluster = refl; sites = λ n. refl; parts = λ n. refl; site = λ who old. refl; count = λ n. refl; phase = λ parts who old. refl }
+refused_posted : {E : Type 0} (ask : Ask E) (k : ℕ) (at : PartId) (number : ℕ) (why : Refusal) → is_told (Refused ask why) ≡ true → IsPosted (command.Deliver k) (refusal_line at no_tx number why)
+refused_posted ask k at number IsBadOp h = off h
+refused_posted ask k at number IsDown h = record { alone = refl; answer = refl; cluster = refl; sites = λ n. refl; parts = λ n. refl; site = λ who old. refl; count = λ n. refl; phase = λ parts who old. refl }
+refused_posted ask k at number (HasNoRoom n) h = record { alone = refl; answer = refl; cluster = refl; sites = λ n. refl; parts = λ n. refl; site = λ who old. refl; count = λ n. refl; phase = λ parts who old. refl }
+refused_posted ask k at number (IsDamaged n) h = record { alone = refl; answer = refl; cluster = refl; sites = λ n. refl; parts = λ n. refl; site = λ who old. refl; count = λ n. refl; phase = λ parts who old. refl }
+refused_posted ask k at number (ClockBehind n) h = record { alone = refl; answer = refl; cluster = refl; sites = λ n. refl; parts = λ n. refl; site = λ who old. refl; count = λ n. refl; phase = λ parts who old. refl }
+refused_posted ask k at number (TxPending t n) h = record { alone = refl; answer = refl; cluster = refl; sites = λ n. refl; parts = λ n. refl; site = λ who old. refl; count = λ n. refl; phase = λ parts who old. refl }
+refused_posted ask k at number (StableBehind j n) h = record { alone = refl; answer = refl; cluster = refl; sites = λ n. refl; parts = λ n. refl; site = λ who old. refl; count = λ n. refl; phase = λ parts who old. refl }
+refused_posted ask k at number ClockAtEnd h = record { alone = refl; answer = refl; cluster = refl; sites = λ n. refl; parts = λ n. refl; site = λ who old. refl; count = λ n. refl; phase = λ parts who old. refl }
+refused_posted ask k at number IsGone h = record { alone = refl; answer = refl; cluster = refl; sites = λ n. refl; parts = λ n. refl; site = λ who old. refl; count = λ n. refl; phase = λ parts who old. refl }
+refused_posted ask k at number (HasGap n) h = record { alone = refl; answer = refl; cluster = refl; sites = λ n. refl; parts = λ n. refl; site = λ who old. refl; count = λ n. refl; phase = λ parts who old. refl }
+refused_posted ask k at number (IsRepeat n) h = record { alone = refl; answer = refl; cluster = refl; sites = λ n. refl; parts = λ n. refl; site = λ who old. refl; count = λ n. refl; phase = λ parts who old. refl }
 
-refused_up : (at : PartId) (number : ℕ) (why : Refusal) → is_plain why ≡ true → (is_answer (refusal_line at no_tx number why) ≡ true) × (is_sound (refusal_line at no_tx number why) ≡ true)
-refused_up at number IsDown h = off h
-refused_up at number IsBadOp h = off h
-refused_up at number (HasNoRoom n) h = off h
-refused_up at number (IsDamaged n) h = off h
-refused_up at number other h = (refl, refl)
+-- a line that no number is in, of a disk or a partition that is down
+abbrev pub is_failing : Step → Bool
+is_failing (step.Down p) = true
+is_failing (step.Disk p) = true
+is_failing (step.Full room) = true
+is_failing other = false
+
+-- a command of messages and reports that asks a partition
+abbrev pub is_asking : Command → Bool
+is_asking (command.Send p site from) = true
+is_asking (command.Deliver number) = true
+is_asking (command.Report p) = true
+is_asking (command.Hear number p) = true
+is_asking other = false
+
+failing_by : (cmd : Command) → is_asking cmd ≡ true → (parts : ℕ) (who : List ℕ) (old : Phase) (s : Step) → by_command parts who old (Some cmd) s ≡ old
+failing_by (command.Commit name k) h parts who old s = off h
+failing_by (command.Abort name) h parts who old s = off h
+failing_by other h parts who old s = refl
+
+failing_alone : (cmd : Command) → is_asking cmd ≡ true → is_of_fates cmd ≡ false
+failing_alone (command.Expire p t) h = off h
+failing_alone (command.Settle p) h = off h
+failing_alone other h = refl
+
+pub failing_posted : (cmd : Command) → is_asking cmd ≡ true → (s : Step) → is_failing s ≡ true → IsPosted cmd s
+failing_posted cmd k (step.Down p) h = record { alone = failing_alone cmd k; answer = refl; cluster = refl; sites = λ n. refl; parts = λ n. refl; site = λ who old. refl; count = λ n. refl; phase = λ parts who old. failing_by cmd k parts who old _ }
+failing_posted cmd k (step.Disk p) h = record { alone = failing_alone cmd k; answer = refl; cluster = refl; sites = λ n. refl; parts = λ n. refl; site = λ who old. refl; count = λ n. refl; phase = λ parts who old. failing_by cmd k parts who old _ }
+failing_posted cmd k (step.Full room) h = record { alone = failing_alone cmd k; answer = refl; cluster = refl; sites = λ n. refl; parts = λ n. refl; site = λ who old. refl; count = λ n. refl; phase = λ parts who old. failing_by cmd k parts who old _ }
+failing_posted cmd k other h = off h
+
+failing_replies : (run : Run) (cmd : Command) → is_asking cmd ≡ true → (s : Step) → is_failing s ≡ true → Replies run cmd (s ∷ [])
+failing_replies run (command.Send p site from) h (step.Down q) k = (_, refl, refl, tt)
+failing_replies run (command.Send p site from) h (step.Disk q) k = (_, refl, refl, tt)
+failing_replies run (command.Send p site from) h (step.Full room) k = (_, refl, refl, tt)
+failing_replies run (command.Send p site from) h other k = off k
+failing_replies run (command.Deliver number) h (step.Down q) k = (_, refl, refl, tt)
+failing_replies run (command.Deliver number) h (step.Disk q) k = (_, refl, refl, tt)
+failing_replies run (command.Deliver number) h (step.Full room) k = (_, refl, refl, tt)
+failing_replies run (command.Deliver number) h other k = off k
+failing_replies run (command.Report p) h (step.Down q) k = (_, refl, refl, tt)
+failing_replies run (command.Report p) h (step.Disk q) k = (_, refl, refl, tt)
+failing_replies run (command.Report p) h (step.Full room) k = (_, refl, refl, tt)
+failing_replies run (command.Report p) h other k = off k
+failing_replies run (command.Hear number p) h (step.Down q) k = (_, refl, refl, tt)
+failing_replies run (command.Hear number p) h (step.Disk q) k = (_, refl, refl, tt)
+failing_replies run (command.Hear number p) h (step.Full room) k = (_, refl, refl, tt)
+failing_replies run (command.Hear number p) h other k = off k
+failing_replies run other h s k = off h
+
+failing_numbered : (run : Run) (s : Step) → is_failing s ≡ true → numbered run s ≡ s
+failing_numbered run (step.Down q) h = refl
+failing_numbered run (step.Disk q) h = refl
+failing_numbered run (step.Full room) h = refl
+failing_numbered run other h = off h
+
+failing_plain : (s : Step) → is_failing s ≡ true → is_postal s ≡ false
+failing_plain (step.Down q) h = refl
+failing_plain (step.Disk q) h = refl
+failing_plain (step.Full room) h = refl
+failing_plain other h = off h
+
+refused_up : {E : Type 0} (ask : Ask E) (at : PartId) (number : ℕ) (why : Refusal) → is_told (Refused ask why) ≡ true → is_answer (refusal_line at no_tx number why) ≡ true
+refused_up ask at number IsBadOp h = off h
+refused_up ask at number other h = refl
+
+-- what partitions refuse so is no fault
+refused_quiet : {E D : Type 0} (state : D → DiskState) (run : Run) (old new : Held E D) (at : PartId) (number : ℕ) (why : part.Refusal) → ShowsFault state run old new (refusal_line at no_tx number (cause why))
+refused_quiet state run old new at number answer.BadOp = tt
+refused_quiet state run old new at number other = tt
 
 refused_plain : (at : PartId) (number : ℕ) (why : Refusal) → is_postal (refusal_line at no_tx number why) ≡ false
 refused_plain at number IsDown = refl
@@ -91,126 +161,170 @@ refused_numbered run events at number own m (IsRepeat n) h = ap (λ o. step.Dup 
 refused_numbered run events at number own m IsDown h = refl
 refused_numbered run events at number own m other h = refl
 
-pub place_of_part : {E : Type 0} (c : Held E) (p : PartId) → holds_part c p ≡ true → IsPlace c.sites c.parts p
+pub place_of_part : {E D : Type 0} (c : Held E D) (p : PartId) → holds_part c p ≡ true → IsPlace c.sites c.parts p
 place_of_part c p h =
     let x = and_parts (holds_site c p.site) _ h in
     let site = and_parts (nat_le 1 p.site) _ x.0 in
     let part = and_parts (nat_le 1 p.part) _ x.1 in
     record { least_site = leb-true 1 p.site site.0; most_site = leb-true p.site c.sites site.1; least_part = leb-true 1 p.part part.0; most_part = leb-true p.part c.parts part.1 }
 
-module _ {S E : Type 0} (kinds : Kinds S E) (w : WholeState E) where
-  abbrev after : Held E → WholeState E
+module _ {S E D : Type 0} (types : Types S E D) (w : WholeState E D) where
+  abbrev after : Held E D → WholeState E D
   after held = record { live = record { sites = held; sessions = w.live.sessions }; post = w.post }
 
   -- a call that makes no message and no report leaves what is kept as it was
-  pub called_on : (cmd : Command) (held : Held E) (at : PartId) (e : Event E) (s : Step) (line : ℕ) (run : Run) (r : ReachedWhole kinds w run) → SameSize w.live.sites held → Sees kinds held (called 0 at e ∷ r.live.calls) → IsPosted cmd s → numbered run s ≡ step_shown (entries r.live.calls) at e → asked_of (calls_of run) run cmd ≡ record { at = at; call = call_of e }
+  pub called_on : (cmd : Command) (held : Held E D) (at : PartId) (e : Event E) (s : Step) (line : ℕ) (run : Run) (r : ReachedWhole types w run) → SameCluster types.state w.live.sites held → Sees types held (called 0 at e ∷ r.live.calls) → IsPosted cmd s → numbered run s ≡ step_shown (entries r.live.calls) at e → asked_of (calls_of run) run cmd ≡ record { at = at; call = call_of e }
       → ((who : List ℕ) → IsSilentFor (entries r.live.calls) who e) → IsOwnPast (sites_of run) (calls_of run) (call_of e) → is_postal s ≡ false → is_sent e ≡ false → is_report e ≡ false
-      → ReachedWhole kinds (after held) ((record { number = line; command = Some cmd; step = s }) ∷ run)
+      → ReachedWhole types (after held) ((record { number = line; command = Some cmd; step = s }) ∷ run)
   called_on cmd held at e s line run r size sees told numbers placed silent own plain unsent unreported =
       let next : Run = (record { number = line; command = Some cmd; step = s }) ∷ run in
-      let x : Posted kinds w.live run r.live line cmd at e held size sees s told numbers placed silent own = posted kinds w.live run r.live line cmd at e held size sees s told numbers placed silent own in
+      let x : Posted types w.live run r.live line cmd at e held size sees s told numbers placed silent own = posted types w.live run r.live line cmd at e held size sees s told numbers placed silent own in
       let kept : HasPost w.live.sites.sites w.live.sites.parts next (entries (called 0 at e ∷ r.live.calls)) w.post = post_on w.live.sites.sites w.live.sites.parts run next r.live.calls (called 0 at e ∷ r.live.calls) w.post (keeps_line line (Some cmd) s run plain) (grows_one (called 0 at e) r.live.calls unsent unreported) r.post in
       record {
         live = x.reached;
         post = subst (λ cs. HasPost held.sites held.parts next (entries cs) w.post) (sym x.calls_are) (subst (λ n. HasPost n held.parts next (entries (called 0 at e ∷ r.live.calls)) w.post) (sym size.sites_are) (subst (λ n. HasPost w.live.sites.sites n next (entries (called 0 at e ∷ r.live.calls)) w.post) (sym size.parts_are) kept));
       }
 
+  -- what the event of such a failure owes the run
+  pub record IsStruck (events : List (Entry E)) (ask : Ask E) (e : Event E) : Type 0 where
+    pub call : call_of e ≡ call_asked ask
+    pub silent : (who : List ℕ) → IsSilentFor events who e
+    pub unsent : is_sent e ≡ false
+    pub unreported : is_report e ≡ false
+
+  -- a call of messages or reports that fails
+  pub struck : {A : Type 0} (held : Held E D) (cmd : Command) → is_asking cmd ≡ true → (at : PartId) (ask : Ask E) (Shows : A → Event E → Type 0) (error : DurableError) (s : Step) (steps : List Step) → steps ≡ s ∷ [] → is_failing s ≡ true → FailedAs {X = Unit {0}} at (tx_asked ask) (number_asked ask) (step.Disk at) error (Ok s) → Calls types w.live.sites held Any at ask Shows (Err error)
+      → (line : ℕ) (run : Run) (r : ReachedWhole types w run) → MayCall w.live.sites.sites w.live.sites.parts (entries r.live.calls) at ask → met is_built run cmd ≡ None → asked_of (calls_of run) run cmd ≡ record { at = at; call = call_asked ask } → IsOwnPast (sites_of run) (calls_of run) (call_asked ask)
+      → ((x : A) (what : Event E) → Shows x what → call_of (Cut what) ≡ call_asked ask) → ((x : A) (what : Event E) → Shows x what → (who : List ℕ) → IsSilentFor (entries r.live.calls) who (Cut what)) → ((x : A) (what : Event E) → Shows x what → step.Disk at ≡ fault_shown at what)
+      → IsAnswer is_built run cmd steps × Reached types (Some (after held)) (answered line (Some cmd) steps run) × FaultsShown types (Some w) run steps (Some (after held))
+  struck held cmd asking at ask Shows error s steps is failing f g line run r may unmet placed past calls silent faults =
+      let x = failed_by types w.live.sites held (Asks types w.live.sites Any at ask) at ask Shows (step.Disk at) (entries r.live.calls) r.live.sees.reached (may, tt) (IsStruck (entries r.live.calls) ask) (λ why reached. record { call = refl; silent = λ who. tt; unsent = refl; unreported = refl }) (λ a what k reached. record { call = calls a what k; silent = silent a what k; unsent = refl; unreported = refl }) faults error s g f in
+      let seen : Sees types held (called 0 at x.event ∷ r.live.calls) = record { reached = x.reached; one_caller = (refl, r.live.sees.one_caller) } in
+      let tells = line_tells types w.live.sites held Any at ask tt None (Unit {0}) Shows (step.Disk at) (λ rose. (refl, rose)) error s g f in
+      subst (λ l. IsAnswer is_built run cmd l × Reached types (Some (after held)) (answered line (Some cmd) l run) × FaultsShown types (Some w) run l (Some (after held))) (sym is) (
+        subst (AnswersBy run cmd (s ∷ [])) (sym unmet) (failing_replies run cmd asking s failing),
+        called_on cmd held at x.event s line run r x.same seen (failing_posted cmd asking s failing) (failing_numbered run s failing ∙ x.shows) (placed ∙ ap (λ k. record { at = at; call = k }) (sym x.property.call)) x.property.silent (subst (IsOwnPast (sites_of run) (calls_of run)) (sym x.property.call) past) (failing_plain s failing) x.property.unsent x.property.unreported,
+        (shows_told types.state run w.live.sites held at s tells (λ t k. absurd (true≢false (sym failing ∙ ap is_failing k))), tt),
+      )
+
   module _ (number : ℕ) (m : Message E) (there : kept_at w.post.letters number ≡ Some m) where
     abbrev pub twin_there : PartId
     twin_there = record { site = m.to; part = m.part }
 
-    letter : (run : Run) (r : ReachedWhole kinds w run) → IsLetter w.live.sites.sites w.live.sites.parts run (entries r.live.calls) number m
+    letter : (run : Run) (r : ReachedWhole types w run) → IsLetter w.live.sites.sites w.live.sites.parts run (entries r.live.calls) number m
     letter run r = subst (λ o. MailAs w.live.sites.sites w.live.sites.parts run (entries r.live.calls) number o) there (r.post.mail number)
 
-    may : (run : Run) (r : ReachedWhole kinds w run) → MayCall w.live.sites.sites w.live.sites.parts (entries r.live.calls) (record { site = m.to; part = m.part }) (AskTake (letter run r).own m)
+    may : (run : Run) (r : ReachedWhole types w run) → MayCall w.live.sites.sites w.live.sites.parts (entries r.live.calls) (record { site = m.to; part = m.part }) (AskTake (letter run r).own m)
     may run r = let l = letter run r in record { from = l.other; to = refl; part = refl; asked = l.asked; shown = l.shown }
 
     -- so it may be taken, as the message with its number among its sender's own
-    pub may_take : IsReached kinds (Some w) → (n : ℕ) × MayAsk kinds w.live.sites (record { site = m.to; part = m.part }) (AskTake n m)
+    pub may_take : IsReached types (Some w) → (n : ℕ) × MayAsk types w.live.sites (record { site = m.to; part = m.part }) (AskTake n m)
     may_take r = ((letter r.run r.reached).own, record { place = (letter r.run r.reached).place; run = entries r.reached.live.calls; reached = r.reached.live.sees.reached; allowed = may r.run r.reached })
 
-    pub delivered : (held : Held E) (steps : List Step) → steps ≡ step.Took number m.hi ∷ [] → ((n : ℕ) → GoesOn kinds w.live.sites held Any (record { site = m.to; part = m.part }) (AskTake n m) (λ e. e ≡ Took n m)) → Applies kinds (Some w) (command.Deliver number) steps (Some (record { live = record { sites = held; sessions = w.live.sessions }; post = w.post }))
+    pub delivered : (held : Held E D) (steps : List Step) → steps ≡ step.Took number m.hi ∷ [] → ((n : ℕ) → GoesOn types w.live.sites held (Asks types w.live.sites Any (record { site = m.to; part = m.part }) (AskTake n m)) (record { site = m.to; part = m.part }) (AskTake n m) (λ e. e ≡ Took n m)) → Applies types (Some w) (command.Deliver number) steps (Some (record { live = record { sites = held; sessions = w.live.sessions }; post = w.post }))
     delivered held steps is g line run r =
         let at : PartId = record { site = m.to; part = m.part } in
         let l = letter run r in
         let own : ℕ = l.own in
-        let x = (g own).goes (entries r.live.calls) r.live.sees.reached (may run r) tt in
-        let reached : Reaches kinds held ((record { at = at; event = Took own m }) ∷ entries r.live.calls) = subst (λ e. Reaches kinds held ((record { at = at; event = e }) ∷ entries r.live.calls)) x.shows x.reached in
-        let size : SameSize w.live.sites held = record { sites_are = (g own).same_sites; parts_are = (g own).same_parts } in
+        let x = ((g own).goes (entries r.live.calls) r.live.sees.reached (may run r, tt)).0 in
+        let reached : Reaches types held ((record { at = at; event = Took own m }) ∷ entries r.live.calls) = subst (λ e. Reaches types held ((record { at = at; event = e }) ∷ entries r.live.calls)) x.shows x.reached in
+        let size : SameCluster types.state w.live.sites held = same_of types.state w.live.sites held _ (g own).moves in
         let s : Step = step.Took number m.hi in
-        subst (λ steps. IsAnswer is_built run (command.Deliver number) steps × ReachedWhole kinds (after held) (answered line (Some (command.Deliver number)) steps run)) (sym is) (
-          (subst (AnswersBy run (command.Deliver number) (step.Took number m.hi ∷ [])) (sym (none_due (all_met run (command.Deliver number)) (refl, (ap not r.live.has, (ap is_none l.letter, tt))))) (s, refl, refl, refl), refl),
-          called_on (command.Deliver number) held at (Took own m) s line run r size (record { reached = reached; calm = (refl, r.live.sees.calm); one_caller = (refl, r.live.sees.one_caller) }) (took_posted number number m.hi)
+        subst (λ steps. IsAnswer is_built run (command.Deliver number) steps × ReachedWhole types (after held) (answered line (Some (command.Deliver number)) steps run) × ShowFaults types.state run w.live.sites held steps) (sym is) (
+          subst (AnswersBy run (command.Deliver number) (step.Took number m.hi ∷ [])) (sym (none_due (all_met run (command.Deliver number)) (refl, (ap not r.live.has, (ap is_none l.letter, tt))))) (s, refl, refl, refl),
+          called_on (command.Deliver number) held at (Took own m) s line run r size (record { reached = reached; one_caller = (refl, r.live.sees.one_caller) }) (took_posted number number m.hi)
               (ap (λ o. step.Took (own_of o) m.hi) l.letter) (ap for_message l.letter) (λ who. tt) tt refl refl refl,
+          (tt, tt),
         )
 
-    pub not_taken : (held : Held E) (why : part.Refusal) (steps : List Step) → steps ≡ refusal_line (record { site = m.to; part = m.part }) (record { site = 0; part = 0; time = 0 }) number (cause why) ∷ [] → ((n : ℕ) → GoesOn kinds w.live.sites held Any (record { site = m.to; part = m.part }) (AskTake n m) (λ e. e ≡ Refused (AskTake n m) (cause why))) → Applies kinds (Some w) (command.Deliver number) steps (Some (record { live = record { sites = held; sessions = w.live.sessions }; post = w.post }))
+    pub not_taken : (held : Held E D) (why : part.Refusal) (steps : List Step) → steps ≡ refusal_line (record { site = m.to; part = m.part }) (record { site = 0; part = 0; time = 0 }) number (cause why) ∷ [] → ((n : ℕ) → GoesOn types w.live.sites held (Asks types w.live.sites Any (record { site = m.to; part = m.part }) (AskTake n m)) (record { site = m.to; part = m.part }) (AskTake n m) (λ e. e ≡ Refused (AskTake n m) (cause why))) → Applies types (Some w) (command.Deliver number) steps (Some (record { live = record { sites = held; sessions = w.live.sessions }; post = w.post }))
     not_taken held why steps is g line run r =
         let at : PartId = record { site = m.to; part = m.part } in
         let l = letter run r in
         let own : ℕ = l.own in
         let e : Event E = Refused (AskTake own m) (cause why) in
-        let x = (g own).goes (entries r.live.calls) r.live.sees.reached (may run r) tt in
-        let reached : Reaches kinds held ((record { at = at; event = Refused (AskTake own m) (cause why) }) ∷ entries r.live.calls) = subst (λ e. Reaches kinds held ((record { at = at; event = e }) ∷ entries r.live.calls)) x.shows x.reached in
-        let size : SameSize w.live.sites held = record { sites_are = (g own).same_sites; parts_are = (g own).same_parts } in
-        let plain : is_plain (cause why) ≡ true = plain_refused kinds held (entries r.live.calls) at (AskTake own m) why reached in
-        let up = refused_up at number (cause why) plain in
+        let x = ((g own).goes (entries r.live.calls) r.live.sees.reached (may run r, tt)).0 in
+        let reached : Reaches types held ((record { at = at; event = Refused (AskTake own m) (cause why) }) ∷ entries r.live.calls) = subst (λ e. Reaches types held ((record { at = at; event = e }) ∷ entries r.live.calls)) x.shows x.reached in
+        let size : SameCluster types.state w.live.sites held = same_of types.state w.live.sites held _ (g own).moves in
+        let plain : is_told (Refused (AskTake own m) (cause why)) ≡ true = told_of types held (record { at = at; event = Refused (AskTake own m) (cause why) }) (entries r.live.calls) reached in
+        let up = refused_up (AskTake own m) at number (cause why) plain in
         let s : Step = refusal_line at no_tx number (cause why) in
-        subst (λ steps. IsAnswer is_built run (command.Deliver number) steps × ReachedWhole kinds (after held) (answered line (Some (command.Deliver number)) steps run)) (sym is) (
-          (subst (AnswersBy run (command.Deliver number) (refusal_line at no_tx number (cause why) ∷ [])) (sym (none_due (all_met run (command.Deliver number)) (refl, (ap not r.live.has, (ap is_none l.letter, tt))))) (s, refl, ap (λ b. b && true) up.0, refused_bears run at number (cause why)), ap (λ b. b && true) up.1),
-          called_on (command.Deliver number) held at (Refused (AskTake own m) (cause why)) s line run r size (record { reached = reached; calm = (plain, r.live.sees.calm); one_caller = (refl, r.live.sees.one_caller) }) (refused_posted number at number (cause why) plain)
+        subst (λ steps. IsAnswer is_built run (command.Deliver number) steps × ReachedWhole types (after held) (answered line (Some (command.Deliver number)) steps run) × ShowFaults types.state run w.live.sites held steps) (sym is) (
+          subst (AnswersBy run (command.Deliver number) (refusal_line at no_tx number (cause why) ∷ [])) (sym (none_due (all_met run (command.Deliver number)) (refl, (ap not r.live.has, (ap is_none l.letter, tt))))) (s, refl, ap (λ b. b && true) up, refused_bears run at number (cause why)),
+          called_on (command.Deliver number) held at (Refused (AskTake own m) (cause why)) s line run r size (record { reached = reached; one_caller = (refl, r.live.sees.one_caller) }) (refused_posted (AskTake own m) number at number (cause why) plain)
               (refused_numbered run (entries r.live.calls) at number own m (cause why) (ap own_of l.letter)) (ap for_message l.letter) (λ who. tt) tt (refused_plain at number (cause why)) refl refl,
+          (refused_quiet types.state run w.live.sites held at number why, tt),
         )
 
-    pub refused_take : (X : Type 0) (held : Held E) (error : CallError) (s : Step) (steps : List Step) → steps ≡ s ∷ [] → FailedAs {X = X} (record { site = m.to; part = m.part }) (record { site = 0; part = 0; time = 0 }) number error (Ok s) → ((n : ℕ) → Calls kinds w.live.sites held Any (record { site = m.to; part = m.part }) (AskTake n m) (λ (u : Unit {0}) e. e ≡ Took n m) (Err error)) → Applies kinds (Some w) (command.Deliver number) steps (Some (record { live = record { sites = held; sessions = w.live.sessions }; post = w.post }))
+    -- one that fails, with a line that no number is in
+    pub struck_take : (held : Held E D) (error : DurableError) (s : Step) (steps : List Step) → steps ≡ s ∷ [] → is_failing s ≡ true → ((n : ℕ) → FailedAs {X = Unit {0}} (record { site = m.to; part = m.part }) no_tx n (step.Disk (record { site = m.to; part = m.part })) error (Ok s)) → ((n : ℕ) → Calls types w.live.sites held Any (record { site = m.to; part = m.part }) (AskTake n m) (λ (u : Unit {0}) e. e ≡ Took n m) (Err error)) → Applies types (Some w) (command.Deliver number) steps (Some (record { live = record { sites = held; sessions = w.live.sessions }; post = w.post }))
+    struck_take held error s steps is failing f g line run r =
+        let l = letter run r in
+        struck held (command.Deliver number) refl (record { site = m.to; part = m.part }) (AskTake l.own m) (λ (u : Unit {0}) e. e ≡ Took l.own m) error s steps is failing (f l.own) (g l.own) line run r (may run r)
+            (none_due (all_met run (command.Deliver number)) (refl, (ap not r.live.has, (ap is_none l.letter, tt))))
+            (ap for_message l.letter) tt (λ u what k. subst (λ e. call_of (Cut e) ≡ call_asked (AskTake l.own m)) (sym k) refl) (λ u what k. subst (λ e. (who : List ℕ) → IsSilentFor (entries r.live.calls) who (Cut e)) (sym k) (λ who. tt)) (λ u what k. subst (λ e. step.Disk (record { site = m.to; part = m.part }) ≡ fault_shown (record { site = m.to; part = m.part }) e) (sym k) refl)
+
+    pub refused_take : (X : Type 0) (held : Held E D) (error : DurableError) (s : Step) (steps : List Step) → steps ≡ s ∷ [] → FailedAs {X = X} (record { site = m.to; part = m.part }) (record { site = 0; part = 0; time = 0 }) number (step.Disk (record { site = m.to; part = m.part })) error (Ok s) → ((n : ℕ) → Calls types w.live.sites held Any (record { site = m.to; part = m.part }) (AskTake n m) (λ (u : Unit {0}) e. e ≡ Took n m) (Err error)) → Applies types (Some w) (command.Deliver number) steps (Some (record { live = record { sites = held; sessions = w.live.sessions }; post = w.post }))
     refused_take X held call.NoMemory s steps is f g = absurd f
+    refused_take X held call.Down s steps is f g = struck_take held call.Down s steps is (ap is_failing f) (λ n. f) g
+    refused_take X held call.Disk s steps is f g = struck_take held call.Disk s steps is (ap is_failing f) (λ n. f) g
+    refused_take X held (call.Full room) s steps is f g = struck_take held (call.Full room) s steps is (ap is_failing f) (λ n. f) g
     refused_take X held (call.Refused why) s steps is f g = not_taken held why steps (subst (λ (x : Step). steps ≡ x ∷ []) f is) g
 
   module _ (number : ℕ) (at : PartId) (n : Note) (there : kept_at w.post.notes number ≡ Some n) (same : (n.from.site == at.site) ≡ true) where
-    noted : (run : Run) (r : ReachedWhole kinds w run) → IsNote w.live.sites.sites w.live.sites.parts run (entries r.live.calls) number n
+    noted : (run : Run) (r : ReachedWhole types w run) → IsNote w.live.sites.sites w.live.sites.parts run (entries r.live.calls) number n
     noted run r = subst (λ o. NoteAs w.live.sites.sites w.live.sites.parts run (entries r.live.calls) number o) there (r.post.notes number)
 
     from_here : n.from ≡ record { site = at.site; part = n.from.part }
     from_here = ap (λ d. record { site = d; part = n.from.part }) (eqb-true n.from.site at.site same)
 
-    may_listen : (run : Run) (r : ReachedWhole kinds w run) → MayCall w.live.sites.sites w.live.sites.parts (entries r.live.calls) at (AskHear (noted run r).own n.from.part n.bounds)
+    may_listen : (run : Run) (r : ReachedWhole types w run) → MayCall w.live.sites.sites w.live.sites.parts (entries r.live.calls) at (AskHear (noted run r).own n.from.part n.bounds)
     may_listen run r = let l = noted run r in record { least = l.place.least_part; most = l.place.most_part; shown = subst (λ q. event.WasNumbered event.report_count (entries r.live.calls) l.own q (event.Reported n.bounds)) from_here l.shown }
 
-    pub may_hear : holds_part w.live.sites at ≡ true → IsReached kinds (Some w) → (k : ℕ) × MayAsk kinds w.live.sites at (AskHear k n.from.part n.bounds)
+    pub may_hear : holds_part w.live.sites at ≡ true → IsReached types (Some w) → (k : ℕ) × MayAsk types w.live.sites at (AskHear k n.from.part n.bounds)
     may_hear has r = ((noted r.run r.reached).own, record { place = place_of_part w.live.sites at has; run = entries r.reached.live.calls; reached = r.reached.live.sees.reached; allowed = may_listen r.run r.reached })
 
-    pub heard : (held : Held E) (stable : List ℕ) (steps : List Step) → steps ≡ step.Heard number at stable ∷ [] → holds_part w.live.sites at ≡ true → ((k : ℕ) → GoesOn kinds w.live.sites held Any at (AskHear k n.from.part n.bounds) (λ e. e ≡ Heard k n.from.part n.bounds stable)) → Applies kinds (Some w) (command.Hear number at) steps (Some (record { live = record { sites = held; sessions = w.live.sessions }; post = w.post }))
+    pub heard : (held : Held E D) (stable : List ℕ) (steps : List Step) → steps ≡ step.Heard number at stable ∷ [] → holds_part w.live.sites at ≡ true → ((k : ℕ) → GoesOn types w.live.sites held (Asks types w.live.sites Any at (AskHear k n.from.part n.bounds)) at (AskHear k n.from.part n.bounds) (λ e. e ≡ Heard k n.from.part n.bounds stable)) → Applies types (Some w) (command.Hear number at) steps (Some (record { live = record { sites = held; sessions = w.live.sessions }; post = w.post }))
     heard held stable steps is has g line run r =
         let l = noted run r in
         let own : ℕ = l.own in
-        let x = (g own).goes (entries r.live.calls) r.live.sees.reached (may_listen run r) tt in
-        let reached : Reaches kinds held ((record { at = at; event = Heard own n.from.part n.bounds stable }) ∷ entries r.live.calls) = subst (λ e. Reaches kinds held ((record { at = at; event = e }) ∷ entries r.live.calls)) x.shows x.reached in
-        let size : SameSize w.live.sites held = record { sites_are = (g own).same_sites; parts_are = (g own).same_parts } in
+        let x = ((g own).goes (entries r.live.calls) r.live.sees.reached (may_listen run r, tt)).0 in
+        let reached : Reaches types held ((record { at = at; event = Heard own n.from.part n.bounds stable }) ∷ entries r.live.calls) = subst (λ e. Reaches types held ((record { at = at; event = e }) ∷ entries r.live.calls)) x.shows x.reached in
+        let size : SameCluster types.state w.live.sites held = same_of types.state w.live.sites held _ (g own).moves in
         let s : Step = step.Heard number at stable in
-        subst (λ steps. IsAnswer is_built run (command.Hear number at) steps × ReachedWhole kinds (after held) (answered line (Some (command.Hear number at)) steps run)) (sym is) (
-          (subst (AnswersBy run (command.Hear number at) (step.Heard number at stable ∷ [])) (sym (none_due (all_met run (command.Hear number at)) (refl, (ap not r.live.has, (ap not (sym (part_in kinds w.live run r.live at) ∙ has), (ap is_none l.notice, (ap (λ o. is_foreign o at) l.notice ∙ ap not same, tt))))))) (s, refl, refl, refl), refl),
-          called_on (command.Hear number at) held at (Heard own n.from.part n.bounds stable) s line run r size (record { reached = reached; calm = (refl, r.live.sees.calm); one_caller = (refl, r.live.sees.one_caller) }) (heard_posted number number at at stable)
+        subst (λ steps. IsAnswer is_built run (command.Hear number at) steps × ReachedWhole types (after held) (answered line (Some (command.Hear number at)) steps run) × ShowFaults types.state run w.live.sites held steps) (sym is) (
+          subst (AnswersBy run (command.Hear number at) (step.Heard number at stable ∷ [])) (sym (none_due (all_met run (command.Hear number at)) (refl, (ap not r.live.has, (ap not (sym (part_in types w.live run r.live at) ∙ has), (ap is_none l.notice, (ap (λ o. is_foreign o at) l.notice ∙ ap not same, tt))))))) (s, refl, refl, refl),
+          called_on (command.Hear number at) held at (Heard own n.from.part n.bounds stable) s line run r size (record { reached = reached; one_caller = (refl, r.live.sees.one_caller) }) (heard_posted number number at at stable)
               (ap (λ o. step.Heard (own_report o) at stable) l.notice) (ap (for_report at) l.notice) (λ who. tt) tt refl refl refl,
+          (tt, tt),
         )
 
+    -- a hear that fails
+    pub hear_fails : (held : Held E D) (error : DurableError) (s : Step) (steps : List Step) → steps ≡ s ∷ [] → is_failing s ≡ true → holds_part w.live.sites at ≡ true → FailedAs {X = Unit {0}} at no_tx 0 (step.Disk at) error (Ok s) → ((k : ℕ) → Calls types w.live.sites held Any at (AskHear k n.from.part n.bounds) (λ (stable : List ℕ) e. e ≡ Heard k n.from.part n.bounds stable) (Err error)) → Applies types (Some w) (command.Hear number at) steps (Some (record { live = record { sites = held; sessions = w.live.sessions }; post = w.post }))
+    hear_fails held error s steps is failing has f g line run r =
+        let l = noted run r in
+        struck held (command.Hear number at) refl at (AskHear l.own n.from.part n.bounds) (λ (stable : List ℕ) e. e ≡ Heard l.own n.from.part n.bounds stable) error s steps is failing f (g l.own) line run r (may_listen run r)
+            (none_due (all_met run (command.Hear number at)) (refl, (ap not r.live.has, (ap not (sym (part_in types w.live run r.live at) ∙ has), (ap is_none l.notice, (ap (λ o. is_foreign o at) l.notice ∙ ap not same, tt))))))
+            (ap (for_report at) l.notice) tt (λ stable what k. subst (λ e. call_of (Cut e) ≡ call_asked (AskHear l.own n.from.part n.bounds)) (sym k) refl) (λ stable what k. subst (λ e. (who : List ℕ) → IsSilentFor (entries r.live.calls) who (Cut e)) (sym k) (λ who. tt)) (λ stable what k. subst (λ e. step.Disk at ≡ fault_shown at e) (sym k) refl)
+
   module _ (number : ℕ) where
-    pub deliver_absent : (steps : List Step) → steps ≡ step.NoMessage ∷ [] → is_some (kept_at w.post.letters number) ≡ false → Applies kinds (Some w) (command.Deliver number) steps (Some w)
-    deliver_absent steps is none = turned_down kinds w (command.Deliver number) step.NoMessage steps is refl
-        (λ run r. first_at (all_met run (command.Deliver number)) 2 (refl, (ap not r.live.has, lacks_mail kinds w number run r false none)))
+    pub deliver_absent : (steps : List Step) → steps ≡ step.NoMessage ∷ [] → is_some (kept_at w.post.letters number) ≡ false → Applies types (Some w) (command.Deliver number) steps (Some w)
+    deliver_absent steps is none = turned_down types w (command.Deliver number) step.NoMessage steps is refl
+        (λ run r. first_at (all_met run (command.Deliver number)) 2 (refl, (ap not r.live.has, lacks_mail types w number run r false none)))
         (λ run who. refl)
 
-    pub hear_nowhere : (at : PartId) (steps : List Step) → steps ≡ step.NoPart ∷ [] → holds_part w.live.sites at ≡ false → Applies kinds (Some w) (command.Hear number at) steps (Some w)
-    hear_nowhere at steps is lacks = turned_down kinds w (command.Hear number at) step.NoPart steps is refl
-        (λ run r. first_at (all_met run (command.Hear number at)) 2 (refl, (ap not r.live.has, ap not (sym (part_in kinds w.live run r.live at) ∙ lacks))))
+    pub hear_nowhere : (at : PartId) (steps : List Step) → steps ≡ step.NoPart ∷ [] → holds_part w.live.sites at ≡ false → Applies types (Some w) (command.Hear number at) steps (Some w)
+    hear_nowhere at steps is lacks = turned_down types w (command.Hear number at) step.NoPart steps is refl
+        (λ run r. first_at (all_met run (command.Hear number at)) 2 (refl, (ap not r.live.has, ap not (sym (part_in types w.live run r.live at) ∙ lacks))))
         (λ run who. refl)
 
-    pub hear_absent : (at : PartId) (steps : List Step) → steps ≡ step.NoMessage ∷ [] → holds_part w.live.sites at ≡ true → is_some (kept_at w.post.notes number) ≡ false → Applies kinds (Some w) (command.Hear number at) steps (Some w)
-    hear_absent at steps is has none = turned_down kinds w (command.Hear number at) step.NoMessage steps is refl
-        (λ run r. first_at (all_met run (command.Hear number at)) 3 (refl, (ap not r.live.has, (ap not (sym (part_in kinds w.live run r.live at) ∙ has), lacks_notice kinds w number run r false none))))
+    pub hear_absent : (at : PartId) (steps : List Step) → steps ≡ step.NoMessage ∷ [] → holds_part w.live.sites at ≡ true → is_some (kept_at w.post.notes number) ≡ false → Applies types (Some w) (command.Hear number at) steps (Some w)
+    hear_absent at steps is has none = turned_down types w (command.Hear number at) step.NoMessage steps is refl
+        (λ run r. first_at (all_met run (command.Hear number at)) 3 (refl, (ap not r.live.has, (ap not (sym (part_in types w.live run r.live at) ∙ has), lacks_notice types w number run r false none))))
         (λ run who. refl)
 
-    pub hear_foreign : (at : PartId) (n : Note) (steps : List Step) → steps ≡ step.NoPart ∷ [] → holds_part w.live.sites at ≡ true → kept_at w.post.notes number ≡ Some n → (n.from.site == at.site) ≡ false → Applies kinds (Some w) (command.Hear number at) steps (Some w)
-    hear_foreign at n steps is has there other = turned_down kinds w (command.Hear number at) step.NoPart steps is refl
+    pub hear_foreign : (at : PartId) (n : Note) (steps : List Step) → steps ≡ step.NoPart ∷ [] → holds_part w.live.sites at ≡ true → kept_at w.post.notes number ≡ Some n → (n.from.site == at.site) ≡ false → Applies types (Some w) (command.Hear number at) steps (Some w)
+    hear_foreign at n steps is has there other = turned_down types w (command.Hear number at) step.NoPart steps is refl
         (λ run r. let l : IsNote w.live.sites.sites w.live.sites.parts run (entries r.live.calls) number n = subst (λ o. NoteAs w.live.sites.sites w.live.sites.parts run (entries r.live.calls) number o) there (r.post.notes number) in
-        first_at (all_met run (command.Hear number at)) 4 (refl, (ap not r.live.has, (ap not (sym (part_in kinds w.live run r.live at) ∙ has), (ap is_none l.notice, ap (λ o. is_foreign o at) l.notice ∙ ap not other)))))
+        first_at (all_met run (command.Hear number at)) 4 (refl, (ap not r.live.has, (ap not (sym (part_in types w.live run r.live at) ∙ has), (ap is_none l.notice, ap (λ o. is_foreign o at) l.notice ∙ ap not other)))))
         (λ run who. refl)

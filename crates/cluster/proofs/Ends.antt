@@ -26,7 +26,6 @@ use Rattle.world_model.specs.ScriptCalls.{for_step}
 use Rattle.world_model.proofs.Names.{off}
 use Rattle.txn_session.specs.Session.{Txn, Doing, Idle, Open, Ending, SessionState, can_abort, giving_up, phase_of, stands_at, updates_of, numbers_from, participants}
 use Rattle.txn_session.specs.Opens.{told_of, dependency_told, EndsAs, begun_end, given_up_end, next_said, stepped}
-use Rattle.crdt_core.specs.KindsOf.{Kinds}
 use Rattle.world_model.specs.declared.commit.Next.{Next}
 use Rattle.world_model.specs.declared.commit.Next.TheVariants as next
 use Rattle.clocksi_commit.specs.Commit.{is_finishing}
@@ -34,12 +33,14 @@ use Rattle.txn_session.specs.declared.phase.Phase.{Phase as Stage}
 use Rattle.txn_session.specs.declared.error.SessionError.{SessionError}
 use Rattle.txn_session.specs.declared.error.SessionError.TheVariants.{NoTxn}
 use Rattle.txn_session.specs.Calls.{Call}
-use Rattle.txn_session.specs.Holds.{Holds, MakesStep, next_of}
+use Rattle.txn_session.specs.Holds.{Holds, MakesStep, TellsStep, next_of}
+use Rattle.site_partitions.specs.Reaches.{Types}
 use Rattle.cluster.specs.declared.commits.Way.{Way}
 use Rattle.cluster.specs.declared.commits.Way.TheVariants as way
 use Rattle.cluster.specs.Ends.{TakesStep, goes_on}
-use Rattle.cluster.specs.Held.{Held}
-use Rattle.cluster.specs.Sees.{is_calm, Sees}
+use Rattle.site_partitions.specs.Held.{Held}
+use Rattle.cluster.specs.Faults.{TellsFault}
+use Rattle.cluster.specs.Sees.{Sees}
 use Rattle.cluster.proofs.Applying.{ok_is}
 use Rattle.cluster.proofs.Sessions.{own_name}
 use Rattle.cluster.proofs.Turned.{IsOwnAsk}
@@ -107,28 +108,30 @@ module _ {E : Type 0} where
   is_quiet_ask other = false
 
   module _ (events : List (Entry E)) (at : PartId) where
-    pub end_phase : (e : Event E) → is_end_ask (asked_by (attempt e)) ≡ true → is_calm e ≡ true → (parts : ℕ) (who : List ℕ) (old : Phase) (asked : Option Command) → phase_after parts who old asked (step_shown events at e) ≡ by_command parts who old asked (step_shown events at e)
-    end_phase (Began name dep t s) h c parts who old asked = off h
-    end_phase (Updated t s o own op read u stamp) h c parts who old asked = off h
-    end_phase (Opened name) h c parts who old asked = off h
-    end_phase (Refused a IsDown) h c parts who old asked = off c
-    end_phase (Refused a why) h c parts who old asked = refl
-    end_phase (Cut e) h c parts who old asked = off c
-    end_phase other h c parts who old asked = refl
+    pub end_phase : (e : Event E) → is_end_ask (asked_by (attempt e)) ≡ true → (parts : ℕ) (who : List ℕ) (old : Phase) (asked : Option Command) → phase_after parts who old asked (step_shown events at e) ≡ by_command parts who old asked (step_shown events at e)
+    end_phase (Began name dep t s) h parts who old asked = off h
+    end_phase (Updated t s o own op read u stamp) h parts who old asked = off h
+    end_phase (Opened name) h parts who old asked = off h
+    end_phase (Refused a IsDown) h parts who old asked = refl
+    end_phase (Refused a why) h parts who old asked = refl
+    end_phase (Cut (Decided t v)) h parts who old asked = refl
+    end_phase (Cut e) h parts who old asked = refl
+    end_phase other h parts who old asked = refl
 
-    quiet_depends : (e : Event E) → is_quiet_ask (asked_by (attempt e)) ≡ true → is_calm e ≡ true → (n : ℕ) (who old : List ℕ) → dependency_after n events who old e ≡ old
-    quiet_depends (Began name dep t s) h c n who old = off h
-    quiet_depends (Decided t v) h c n who old = off h
-    quiet_depends (Opened name) h c n who old = off h
-    quiet_depends (Cut e) h c n who old = off c
-    quiet_depends other h c n who old = refl
+    quiet_depends : (e : Event E) → is_quiet_ask (asked_by (attempt e)) ≡ true → (n : ℕ) (who old : List ℕ) → dependency_after n events who old e ≡ old
+    quiet_depends (Began name dep t s) h n who old = off h
+    quiet_depends (Decided t v) h n who old = off h
+    quiet_depends (Opened name) h n who old = off h
+    quiet_depends other h n who old = refl
 
-    decide_depends : (t : TxId) (v : List ℕ) (e : Event E) → asked_by (attempt e) ≡ AskDecide t v → is_calm e ≡ true → (n : ℕ) (who old : List ℕ) → is_of events who t ≡ true → dependency_after n events who old e ≡ told_of old v (step_shown events at e)
-    decide_depends t v (Decided u w) a c n who old h = let eu : u ≡ t = cc in let ew : w ≡ v = cc in cond-true (is_of events who u) (join old w) old (ap (is_of events who) eu ∙ h) ∙ ap (join old) ew
-    decide_depends t v (Refused q IsDown) a c n who old h = off c
-    decide_depends t v (Refused q why) a c n who old h = refl
-    decide_depends t v (Cut e) a c n who old h = off c
-    decide_depends t v other a c n who old h = absurd cc
+    decide_depends : (t : TxId) (v : List ℕ) (e : Event E) → asked_by (attempt e) ≡ AskDecide t v → (n : ℕ) (who old : List ℕ) → is_of events who t ≡ true → dependency_after n events who old e ≡ told_of old v (step_shown events at e)
+    decide_depends t v (Decided u w) a n who old h = let eu : u ≡ t = cc in let ew : w ≡ v = cc in cond-true (is_of events who u) (join old w) old (ap (is_of events who) eu ∙ h) ∙ ap (join old) ew
+    decide_depends t v (Refused q IsDown) a n who old h = refl
+    decide_depends t v (Refused q why) a n who old h = refl
+    decide_depends t v (Cut (Decided u w)) a n who old h = refl
+    decide_depends t v (Cut (Refused q why)) a n who old h = refl
+    decide_depends t v (Cut e) a n who old h = absurd cc
+    decide_depends t v other a n who old h = absurd cc
 
   -- the session that began it
   pub shown_of : (events : List (Entry E)) (at : PartId) (name handed : List ℕ) (t : TxId) (s : List ℕ) → WasShown events at (Began name handed t s) → is_of events name t ≡ true
@@ -175,12 +178,12 @@ module _ {E : Type 0} where
     past_for n ls (what.Abort p) = tt
     past_for n ls what.Done = tt
 
-    pub depends_for : (events : List (Entry E)) (at : PartId) (w : What) → is_step w ≡ true → (e : Event E) → asked_by (attempt e) ≡ ask_for parts txn lead w → is_calm e ≡ true → (n : ℕ) (who old : List ℕ) → is_of events who txn.tx ≡ true → dependency_told old w (step_shown events at e) ≡ dependency_after n events who old e
-    depends_for events at (what.Prepare p) h e a c n who old o = sym (quiet_depends events at e (ap is_quiet_ask a) c n who old)
-    depends_for events at (what.Decide p v) h e a c n who old o = sym (decide_depends events at txn.tx v e a c n who old o)
-    depends_for events at (what.Finish p v) h e a c n who old o = sym (quiet_depends events at e (ap is_quiet_ask a) c n who old)
-    depends_for events at (what.Abort p) h e a c n who old o = sym (quiet_depends events at e (ap is_quiet_ask a) c n who old)
-    depends_for events at what.Done h e a c n who old o = off h
+    pub depends_for : (events : List (Entry E)) (at : PartId) (w : What) → is_step w ≡ true → (e : Event E) → asked_by (attempt e) ≡ ask_for parts txn lead w → (n : ℕ) (who old : List ℕ) → is_of events who txn.tx ≡ true → dependency_told old w (step_shown events at e) ≡ dependency_after n events who old e
+    depends_for events at (what.Prepare p) h e a n who old o = sym (quiet_depends events at e (ap is_quiet_ask a) n who old)
+    depends_for events at (what.Decide p v) h e a n who old o = sym (decide_depends events at txn.tx v e a n who old o)
+    depends_for events at (what.Finish p v) h e a n who old o = sym (quiet_depends events at e (ap is_quiet_ask a) n who old)
+    depends_for events at (what.Abort p) h e a n who old o = sym (quiet_depends events at e (ap is_quiet_ask a) n who old)
+    depends_for events at what.Done h e a n who old o = off h
 
   -- who gives up never stays
   gives_go : (d : Doing E) (answer : Step) → can_abort d ≡ true → next_said (giving_up d) answer ≡ next.Go
@@ -188,15 +191,18 @@ module _ {E : Type 0} where
   gives_go (Open txn) answer h = refl
   gives_go (Ending txn lead commit) answer h = go_on commit.going answer h
 
-  module _ {S : Type 0} (kinds : Kinds S E) (held later : Held E) (old new : SessionState E) (w : Way) (goes : Bool) (answer : Step) where
+  module _ {S D : Type 0} (types : Types S E D) (held later : Held E D) (old new : SessionState E) (w : Way) (goes : Bool) (answer : Step) where
     abbrev MadeFrom : SessionState E → Step → Type 0
-    MadeFrom start s = (calls : List (Call E)) → Sees kinds held calls → Holds old calls → MakesStep (λ h (p : Unit {0}) l. Sees kinds h l) (λ (p : Unit {0}) n. true) later tt calls start new s start.doing (next_of start.doing)
+    MadeFrom start s = (calls : List (Call E)) → Sees types held calls → Holds old calls → MakesStep (λ h (p : Unit {0}) l. Sees types h l) (λ (p : Unit {0}) n. true) later tt calls start new s start.doing (next_of start.doing)
+
+    abbrev TellsFrom : SessionState E → Step → Type 0
+    TellsFrom start s = TellsStep (TellsFault types.state) held later start s (next_of start.doing)
 
     abbrev StepsOn : Type 0
-    StepsOn = (calls : List (Call E)) → Sees kinds held calls → Holds old calls → TakesStep kinds later w answer goes old new calls
+    StepsOn = (calls : List (Call E)) → Sees types held calls → Holds old calls → TakesStep types held later w answer goes old new calls
 
-    pub commits_on : w ≡ way.Commits → (n : Next) (r : Result (Step × Next) SessionError) → r ≡ Ok (answer, n) → IfOk r (λ x. new ≡ stepped (begun_end old) x.0) → IfOk r (λ x. x.1 ≡ next_said (begun_end old).doing x.0) → IfOk r (λ x. EndsAs old.name (next_of (begun_end old).doing) x.0) → IfOk r (λ x. MadeFrom (begun_end old) x.0) → (p : Stage) → goes ≡ goes_on p n → p ≡ phase_of new.doing → StepsOn
-    commits_on e n r ok is said ended made p g stands calls seen holds = subst (λ x. TakesStep kinds later x answer goes old new calls) (sym e) (g ∙ (λ i. goes_on (stands i) (ok_is _ r (answer, n) ok said i)), record { is = ok_is _ r (answer, n) ok is; ended = ok_is _ r (answer, n) ok ended; made = ok_is _ r (answer, n) ok made calls seen holds })
+    pub commits_on : w ≡ way.Commits → (n : Next) (r : Result (Step × Next) SessionError) → r ≡ Ok (answer, n) → IfOk r (λ x. new ≡ stepped (begun_end old) x.0) → IfOk r (λ x. x.1 ≡ next_said (begun_end old).doing x.0) → IfOk r (λ x. EndsAs old.name (next_of (begun_end old).doing) x.0) → IfOk r (λ x. TellsFrom (begun_end old) x.0) → IfOk r (λ x. MadeFrom (begun_end old) x.0) → (p : Stage) → goes ≡ goes_on p n → p ≡ phase_of new.doing → StepsOn
+    commits_on e n r ok is said ended tells made p g stands calls seen holds = subst (λ x. TakesStep types held later x answer goes old new calls) (sym e) (g ∙ (λ i. goes_on (stands i) (ok_is _ r (answer, n) ok said i)), record { is = ok_is _ r (answer, n) ok is; ended = ok_is _ r (answer, n) ok ended; tells = ok_is _ r (answer, n) ok tells; made = ok_is _ r (answer, n) ok made calls seen holds })
 
-    pub gives_on : w ≡ way.GivesUp → (r : Result Step SessionError) → r ≡ Ok answer → (r ≡ Err NoTxn) ↔ (can_abort old.doing ≡ false) → IfOk r (λ x. new ≡ stepped (given_up_end old) x) → IfOk r (λ x. EndsAs old.name (next_of (given_up_end old).doing) x) → IfOk r (λ x. MadeFrom (given_up_end old) x) → (p : Stage) → goes ≡ goes_on p next.Go → p ≡ phase_of new.doing → StepsOn
-    gives_on e r ok can is ended made p g stands calls seen holds = subst (λ x. TakesStep kinds later x answer goes old new calls) (sym e) (g ∙ (λ i. goes_on (stands i) (sym (gives_go old.doing answer (can_of (can_abort old.doing) r answer can ok)) i)), record { is = ok_is _ r answer ok is; ended = ok_is _ r answer ok ended; made = ok_is _ r answer ok made calls seen holds })
+    pub gives_on : w ≡ way.GivesUp → (r : Result Step SessionError) → r ≡ Ok answer → (r ≡ Err NoTxn) ↔ (can_abort old.doing ≡ false) → IfOk r (λ x. new ≡ stepped (given_up_end old) x) → IfOk r (λ x. EndsAs old.name (next_of (given_up_end old).doing) x) → IfOk r (λ x. TellsFrom (given_up_end old) x) → IfOk r (λ x. MadeFrom (given_up_end old) x) → (p : Stage) → goes ≡ goes_on p next.Go → p ≡ phase_of new.doing → StepsOn
+    gives_on e r ok can is ended tells made p g stands calls seen holds = subst (λ x. TakesStep types held later x answer goes old new calls) (sym e) (g ∙ (λ i. goes_on (stands i) (sym (gives_go old.doing answer (can_of (can_abort old.doing) r answer can ok)) i)), record { is = ok_is _ r answer ok is; ended = ok_is _ r answer ok ended; tells = ok_is _ r answer ok tells; made = ok_is _ r answer ok made calls seen holds })

@@ -4,7 +4,6 @@ use Rattle.std.specs.Prelude.{not, ◌&&◌, ◌||◌, ◌==◌}
 use Rattle.std.proofs.lemmas.Bool.{or_parts, eqb-true, cases_Bool}
 use Rattle.site_vector.specs.declared.ids.PartId.{PartId}
 use Rattle.site_vector.specs.declared.ids.TxId.{TxId}
-use Rattle.crdt_core.specs.KindsOf.{Kinds}
 use Rattle.crdt_core.specs.Log as log
 use Rattle.crdt_core.specs.Log.{committed}
 use Rattle.world_model.specs.declared.command.Command.TheVariants as command
@@ -12,12 +11,13 @@ use Rattle.world_model.specs.declared.step.Step.{Step}
 use Rattle.world_model.specs.declared.step.Step.TheVariants as step
 use Rattle.world_model.specs.Answers.{answered}
 use Rattle.world_model.specs.Cluster.{has_part, parts_of}
-use Rattle.world_model.specs.Event.{Aborted}
+use Rattle.world_model.specs.Event.{AskAbort, IsDown, Aborted, Refused}
 use Rattle.world_model.specs.Partition.{PartState, ToldCommitted, fate_of}
 use Rattle.world_model.specs.Plan.{IsPlace, home}
 use Rattle.world_model.specs.Run.{Run}
-use Rattle.world_model.specs.ScriptAnswers.{is_sound, AnswersBy, IsAnswer, IsExpired}
-use Rattle.world_model.specs.ScriptCalls.{calls_of}
+use Rattle.world_model.specs.ScriptAnswers.{AnswersBy, IsAnswer, IsExpired}
+use Rattle.world_model.specs.Meeting.{met}
+use Rattle.world_model.specs.ScriptCalls.{is_called, calls_of}
 use Rattle.world_model.specs.Settling.{asks_abort, looked_up}
 use Rattle.world_model.specs.Pending.{is_down}
 use Rattle.world_model.specs.Updates.{lead}
@@ -26,18 +26,26 @@ use Rattle.partition_core.specs.declared.answers.Fate.{Fate}
 use Rattle.partition_core.specs.declared.answers.Fate.TheVariants as fate
 use Rattle.partition_core.specs.Answers.{fate_told}
 use Rattle.txn_session.specs.Calls.{called, entries}
+use Rattle.site_partitions.specs.Answers.{AbortsByLead, GoesOn}
+use Rattle.site_partitions.specs.Fates.{IsLead, OfState}
+use Rattle.site_partitions.specs.Reaches.{Types, Reaches}
 use Rattle.cluster.specs.Built.{is_built}
-use Rattle.cluster.specs.Fates.{lacks_txn, lead_place, IsLead, OfState, Drops}
-use Rattle.cluster.specs.Held.{Held, holds_part}
+use Rattle.cluster.specs.Fates.{lacks_txn, lead_place}
+use Rattle.cluster.specs.Faults.{ShowsFault, ShowFaults}
+use Rattle.cluster.specs.Same.{same_refl}
+use Rattle.site_partitions.specs.Held.{Held, holds_part}
 use Rattle.cluster.specs.Live.{LiveState}
 use Rattle.cluster.specs.Reached.{ReachedLive, GoesTo, AppliesLive}
 use Rattle.cluster.specs.Sees.{Sees}
 use Rattle.cluster.proofs.Clocks.{part_in}
 use Rattle.cluster.proofs.Delivering.{place_of_part}
+use Rattle.cluster.proofs.Downed.{down_abort}
+use Rattle.cluster.proofs.Faulted.{same_of}
+use Rattle.cluster.proofs.Keeping.{is_postal}
 use Rattle.cluster.proofs.Meets.{all_met, first_at, none_due, refused}
-use Rattle.cluster.proofs.Standing.{goes_quiet}
+use Rattle.cluster.proofs.Standing.{IsQuiet, goes_quiet}
 use Rattle.cluster.proofs.Stepping.{either_true, either_false}
-use Rattle.cluster.proofs.Telling.{led_here, led_elsewhere, asks_here, asks_elsewhere, asks_ended, looked_pending, looked_finished, looked_gone, is_up, down_is, waiting_is, ended_is, lead_is, lead_same}
+use Rattle.cluster.proofs.Telling.{led_here, led_elsewhere, asks_here, asks_elsewhere, asks_ended, looked_pending, looked_finished, looked_gone, low_is, down_is, waiting_is, ended_is, lead_is, lead_same}
 use Rattle.cluster.proofs.Turned.{turned_alone}
 
 none_lacks : (b : Bool) → not b ≡ false → b ≡ true
@@ -64,12 +72,12 @@ module _ {E : Type 0} where
       by_fate fate.Aborted m h = absurd (cc h)
       by_fate fate.Down m h = absurd (cc h)
 
-module _ {S E : Type 0} (kinds : Kinds S E) (c : LiveState E) (p : PartId) (t : TxId) where
-  lacks_in : (run : Run) → ReachedLive kinds c run → lacks_txn c.sites p t ≡ (not (has_part run p) || (not (t.site == p.site) || not (has_part run (home t))))
-  lacks_in run r = λ i. not (part_in kinds c run r p i) || (not (t.site == p.site) || not (part_in kinds c run r (home t) i))
+module _ {S E D : Type 0} (types : Types S E D) (c : LiveState E D) (p : PartId) (t : TxId) where
+  lacks_in : (run : Run) → ReachedLive types c run → lacks_txn c.sites p t ≡ (not (has_part run p) || (not (t.site == p.site) || not (has_part run (home t))))
+  lacks_in run r = λ i. not (part_in types c run r p i) || (not (t.site == p.site) || not (part_in types c run r (home t) i))
 
-  pub expire_nowhere : (steps : List Step) → steps ≡ step.NoPart ∷ [] → lacks_txn c.sites p t ≡ true → AppliesLive kinds c (command.Expire p t) steps c
-  expire_nowhere steps is lacks = refused kinds c (command.Expire p t) step.NoPart steps is refl
+  pub expire_nowhere : (steps : List Step) → steps ≡ step.NoPart ∷ [] → lacks_txn c.sites p t ≡ true → AppliesLive types c (command.Expire p t) steps c
+  expire_nowhere steps is lacks = refused types c (command.Expire p t) step.NoPart steps is refl
       (λ run r. first_at (all_met run (command.Expire p t)) 2 (refl, (ap not r.has, sym (lacks_in run r) ∙ lacks)))
       (λ run r who. refl)
 
@@ -80,52 +88,91 @@ module _ {S E : Type 0} (kinds : Kinds S E) (c : LiveState E) (p : PartId) (t : 
     pub of_site : t.site ≡ p.site
     of_site = eqb-true t.site p.site (none_lacks (t.site == p.site) (or_parts (not (t.site == p.site)) _ (or_parts (not (holds_part c.sites p)) _ has).1).0)
 
-    -- p is up, and is asked for nothing
-    only_looks : (s : Step) (run : Run) → ReachedLive kinds c run → asks_abort (parts_of run) (calls_of run) p t ≡ false → s ≡ looked_up (calls_of run) p t → IsExpired run p t (s ∷ [])
-    only_looks s run r h k = either_false _ _ (is_down (calls_of run) p) (down_is kinds c run r p here) (either_false _ _ (asks_abort (parts_of run) (calls_of run) p t) h (ap (λ y. y ∷ []) k))
-
-    -- or is asked for an abort
-    aborts : (run : Run) → ReachedLive kinds c run → asks_abort (parts_of run) (calls_of run) p t ≡ true → IsExpired run p t (step.Aborted p t ∷ [])
-    aborts run r h = either_false _ _ (is_down (calls_of run) p) (down_is kinds c run r p here) (either_true _ _ (asks_abort (parts_of run) (calls_of run) p t) h (step.Aborted p t, refl, refl, tt))
+    expires : (run : Run) → ReachedLive types c run → met is_built run (command.Expire p t) ≡ None
+    expires run r = none_due (all_met run (command.Expire p t)) (refl, (ap not r.has, (sym (lacks_in run r) ∙ has, tt)))
 
     -- one line, with the cluster after it
-    line_applies : (s : Step) (new : LiveState E) (steps : List Step) → steps ≡ s ∷ [] → is_sound s ≡ true → ((number : ℕ) (run : Run) (r : ReachedLive kinds c run) → IsExpired run p t (s ∷ []) × GoesTo kinds c run r new ((record { number = number; command = Some (command.Expire p t); step = s }) ∷ run)) → AppliesLive kinds c (command.Expire p t) steps new
-    line_applies s new steps is sound f number run r =
+    line_applies : (s : Step) (new : LiveState E D) (steps : List Step) → steps ≡ s ∷ [] → ((number : ℕ) (run : Run) (r : ReachedLive types c run) → IsExpired run p t (s ∷ []) × GoesTo types c run r new ((record { number = number; command = Some (command.Expire p t); step = s }) ∷ run) × ShowsFault types.state run c.sites new.sites s) → AppliesLive types c (command.Expire p t) steps new
+    line_applies s new steps is f number run r =
         let x = f number run r in
-        subst (λ l. IsAnswer is_built run (command.Expire p t) l × GoesTo kinds c run r new (answered number (Some (command.Expire p t)) l run)) (sym is) (
-          (subst (AnswersBy run (command.Expire p t) (s ∷ [])) (sym (none_due (all_met run (command.Expire p t)) (refl, (ap not r.has, (sym (lacks_in run r) ∙ has, tt))))) x.0, ap (λ b. b && true) sound),
+        subst (λ l. IsAnswer is_built run (command.Expire p t) l × GoesTo types c run r new (answered number (Some (command.Expire p t)) l run) × ShowFaults types.state run c.sites new.sites l) (sym is) (
+          subst (AnswersBy run (command.Expire p t) (s ∷ [])) (sym (expires run r)) x.0,
           x.1,
+          (x.2, tt),
         )
 
-    pub expire_pending : (n : ℕ) (steps : List Step) → steps ≡ step.Pending p t ∷ [] → OfState kinds c.sites p (λ q. IsLead q.log t (Some n)) → (n ≡ p.part → ⊥) → AppliesLive kinds c (command.Expire p t) steps c
-    expire_pending n steps is led other = line_applies (step.Pending p t) c steps is refl (λ number run r.
-        let l = led (entries r.calls) r.sees.reached in (
-          only_looks (step.Pending p t) run r (asks_elsewhere (parts_of run) (calls_of run) p t (led_elsewhere (parts_of run) (calls_of run) p t n (lead_is kinds c run r p here t l.0 ∙ ap (lead_place p) (sym l.1)) other)) (looked_pending (calls_of run) p t (sym (waiting_is kinds c run r p here t) ∙ l.0)),
-          goes_quiet kinds c number (Some (command.Expire p t)) (step.Pending p t) run (record { called = refl; cluster = refl; sites = λ k. refl; parts = λ k. refl; site = λ who old. refl; count = λ k. refl; phase = λ who. refl }) refl r,
+    -- p is down
+    pub expire_down : (steps : List Step) → steps ≡ step.Down p ∷ [] → OfState types c.sites p (λ q. q.up ≡ false) → AppliesLive types c (command.Expire p t) steps c
+    expire_down steps is down = line_applies (step.Down p) c steps is (λ number run r.
+        let low = down (entries r.calls) r.sees.reached in
+        let seen = down_abort types c.sites r.calls p here r.sees low t in (
+          either_true _ _ (is_down (calls_of run) p) (low_is types c run r p low) refl,
+          turned_alone types c run r number (command.Expire p t) 0 p (Refused (AskAbort t) IsDown) c.sites (same_refl types.state c.sites) seen refl refl (λ who s. refl) (λ who. tt) tt,
+          tt,
         ))
 
-    pub expire_aborted : (n : ℕ) (later : Held E) (steps : List Step) → steps ≡ step.Aborted p t ∷ [] → OfState kinds c.sites p (λ q. IsLead q.log t (Some n)) → n ≡ p.part → Drops kinds c.sites later p t → AppliesLive kinds c (command.Expire p t) steps (record { sites = later; sessions = c.sessions })
-    expire_aborted n later steps is led own d = line_applies (step.Aborted p t) (record { sites = later; sessions = c.sessions }) steps is refl (λ number run r.
-        let l = led (entries r.calls) r.sees.reached in
-        let lead_here : lead (parts_of run) (calls_of run) t ≡ p = lead_is kinds c run r p here t l.0 ∙ ap (lead_place p) (sym l.1 ∙ own) in
-        let allowed = (law.told kinds c.sites.sites c.sites.parts (entries r.calls) r.sees.reached.state r.sees.reached.is_run p).aborts t (inl (sym (lead_same kinds c run r t ∙ lead_here))) in
-        let seen : Sees kinds later (called 0 p (Aborted t false) ∷ r.calls) = record { reached = d.goes (entries r.calls) r.sees.reached l.0 allowed; calm = (refl, r.sees.calm); one_caller = (refl, r.sees.one_caller) } in (
-          aborts run r (asks_here (parts_of run) (calls_of run) p t (sym (waiting_is kinds c run r p here t) ∙ l.0) (led_here (parts_of run) (calls_of run) p t lead_here)),
-          turned_alone kinds c run r number (command.Expire p t) 0 p (Aborted t false) later d.size seen refl refl (λ who s. refl) (λ who. tt) tt,
-        ))
+    module _ (ups : OfState types c.sites p (λ q. q.up ≡ true)) where
+      up_in : (run : Run) (r : ReachedLive types c run) → (r.sees.reached.state p).up ≡ true
+      up_in run r = ups (entries r.calls) r.sees.reached
 
-    pub expire_finished : (v : List ℕ) (steps : List Step) → steps ≡ step.Finished p t ∷ [] → OfState kinds c.sites p (λ q. IsLead q.log t None) → OfState kinds c.sites p (λ q. ToldCommitted v ≡ fate_of q t) → AppliesLive kinds c (command.Expire p t) steps c
-    expire_finished v steps is ended told = line_applies (step.Finished p t) c steps is refl (λ number run r.
-        let k = ended (entries r.calls) r.sees.reached in
-        let done = told_committed (r.sees.reached.state p) t v (is_up kinds c run r p here) k (told (entries r.calls) r.sees.reached) in (
-          only_looks (step.Finished p t) run r (asks_ended (parts_of run) (calls_of run) p t (sym (waiting_is kinds c run r p here t) ∙ k)) (looked_finished (calls_of run) p t (sym (waiting_is kinds c run r p here t) ∙ k) (sym (ended_is kinds c run r p here t of_site) ∙ done)),
-          goes_quiet kinds c number (Some (command.Expire p t)) (step.Finished p t) run (record { called = refl; cluster = refl; sites = λ n. refl; parts = λ n. refl; site = λ who old. refl; count = λ n. refl; phase = λ who. refl }) refl r,
-        ))
+      not_down : (run : Run) (r : ReachedLive types c run) → is_down (calls_of run) p ≡ false
+      not_down run r = down_is types c run r p here (up_in run r)
 
-    pub expire_gone : (f : Fate) (steps : List Step) → steps ≡ step.Gone p t ∷ [] → OfState kinds c.sites p (λ q. IsLead q.log t None) → OfState kinds c.sites p (λ q. fate_told f ≡ fate_of q t) → ((v : List ℕ) → f ≡ fate.Committed v → ⊥) → AppliesLive kinds c (command.Expire p t) steps c
-    expire_gone f steps is ended told not_so = line_applies (step.Gone p t) c steps is refl (λ number run r.
-        let k = ended (entries r.calls) r.sees.reached in
-        let never = told_neither (r.sees.reached.state p) t f (is_up kinds c run r p here) k (told (entries r.calls) r.sees.reached) not_so in (
-          only_looks (step.Gone p t) run r (asks_ended (parts_of run) (calls_of run) p t (sym (waiting_is kinds c run r p here t) ∙ k)) (looked_gone (calls_of run) p t (sym (waiting_is kinds c run r p here t) ∙ k) (sym (ended_is kinds c run r p here t of_site) ∙ never)),
-          goes_quiet kinds c number (Some (command.Expire p t)) (step.Gone p t) run (record { called = refl; cluster = refl; sites = λ n. refl; parts = λ n. refl; site = λ who old. refl; count = λ n. refl; phase = λ who. refl }) refl r,
-        ))
+      -- p is asked for nothing
+      only_looks : (s : Step) (run : Run) → ReachedLive types c run → asks_abort (parts_of run) (calls_of run) p t ≡ false → s ≡ looked_up (calls_of run) p t → IsExpired run p t (s ∷ [])
+      only_looks s run r h k = either_false _ _ (is_down (calls_of run) p) (not_down run r) (either_false _ _ (asks_abort (parts_of run) (calls_of run) p t) h (ap (λ y. y ∷ []) k))
+
+      -- or is asked for an abort, which has this line
+      aborts : (s : Step) (run : Run) → ReachedLive types c run → asks_abort (parts_of run) (calls_of run) p t ≡ true → is_called (Some (command.Expire p t)) s ≡ true → IsExpired run p t (s ∷ [])
+      aborts s run r h k = either_false _ _ (is_down (calls_of run) p) (not_down run r) (either_true _ _ (asks_abort (parts_of run) (calls_of run) p t) h (s, refl, k, tt))
+
+      quiet : (number : ℕ) (run : Run) (r : ReachedLive types c run) (s : Step) → IsQuiet run (Some (command.Expire p t)) s → is_postal s ≡ false → GoesTo types c run r c ((record { number = number; command = Some (command.Expire p t); step = s }) ∷ run)
+      quiet number run r s q h = goes_quiet types c number (Some (command.Expire p t)) s run q h r
+
+      module _ (n : ℕ) (led : OfState types c.sites p (λ q. IsLead q.log t (Some n))) where
+        pub expire_pending : (steps : List Step) → steps ≡ step.Pending p t ∷ [] → (n ≡ p.part → ⊥) → AppliesLive types c (command.Expire p t) steps c
+        expire_pending steps is other = line_applies (step.Pending p t) c steps is (λ number run r.
+            let l = led (entries r.calls) r.sees.reached in (
+              only_looks (step.Pending p t) run r (asks_elsewhere (parts_of run) (calls_of run) p t (led_elsewhere (parts_of run) (calls_of run) p t n (lead_is types c run r p here (up_in run r) t l.0 ∙ ap (lead_place p) (sym l.1)) other)) (looked_pending (calls_of run) p t (sym (waiting_is types c run r p here (up_in run r) t) ∙ l.0)),
+              quiet number run r (step.Pending p t) (record { called = refl; cluster = refl; sites = λ k. refl; parts = λ k. refl; site = λ who old. refl; count = λ k. refl; phase = λ who. refl }) refl,
+              tt,
+            ))
+
+        module _ (own : n ≡ p.part) (later : Held E D) where
+          lead_here : (run : Run) (r : ReachedLive types c run) → lead (parts_of run) (calls_of run) t ≡ p
+          lead_here run r = let l = led (entries r.calls) r.sees.reached in lead_is types c run r p here (up_in run r) t l.0 ∙ ap (lead_place p) (sym l.1 ∙ own)
+
+          -- the rules allow the abort
+          pub may_drop : (run : Run) (r : ReachedLive types c run) → AbortsByLead types c.sites p t (entries r.calls) r.sees.reached
+          may_drop run r = (law.told types.kinds c.sites.sites c.sites.parts (entries r.calls) r.sees.reached.state r.sees.reached.is_run p).aborts t (inl (sym (lead_same types c run r t ∙ lead_here run r)))
+
+          asked : (run : Run) (r : ReachedLive types c run) → asks_abort (parts_of run) (calls_of run) p t ≡ true
+          asked run r = asks_here (parts_of run) (calls_of run) p t (sym (waiting_is types c run r p here (up_in run r) t) ∙ (led (entries r.calls) r.sees.reached).0) (led_here (parts_of run) (calls_of run) p t (lead_here run r))
+
+          pub expire_aborted : (steps : List Step) → steps ≡ step.Aborted p t ∷ [] → GoesOn types c.sites later (AbortsByLead types c.sites p t) p (AskAbort t) (λ e. e ≡ Aborted t false) → AppliesLive types c (command.Expire p t) steps (record { sites = later; sessions = c.sessions })
+          expire_aborted steps is g = line_applies (step.Aborted p t) (record { sites = later; sessions = c.sessions }) steps is (λ number run r.
+              let x = (g.goes (entries r.calls) r.sees.reached (may_drop run r)).0 in
+              let seen : Sees types later (called 0 p (Aborted t false) ∷ r.calls) = record { reached = subst (λ e. Reaches types later ((record { at = p; event = e }) ∷ entries r.calls)) x.shows x.reached; one_caller = (refl, r.sees.one_caller) } in (
+                aborts (step.Aborted p t) run r (asked run r) refl,
+                turned_alone types c run r number (command.Expire p t) 0 p (Aborted t false) later (same_of types.state c.sites later p g.moves) seen refl refl (λ who s. refl) (λ who. tt) tt,
+                tt,
+              ))
+
+      module _ (ended : OfState types c.sites p (λ q. IsLead q.log t None)) where
+        pub expire_finished : (v : List ℕ) (steps : List Step) → steps ≡ step.Finished p t ∷ [] → OfState types c.sites p (λ q. ToldCommitted v ≡ fate_of q t) → AppliesLive types c (command.Expire p t) steps c
+        expire_finished v steps is told = line_applies (step.Finished p t) c steps is (λ number run r.
+            let k = ended (entries r.calls) r.sees.reached in
+            let done = told_committed (r.sees.reached.state p) t v (up_in run r) k (told (entries r.calls) r.sees.reached) in (
+              only_looks (step.Finished p t) run r (asks_ended (parts_of run) (calls_of run) p t (sym (waiting_is types c run r p here (up_in run r) t) ∙ k)) (looked_finished (calls_of run) p t (sym (waiting_is types c run r p here (up_in run r) t) ∙ k) (sym (ended_is types c run r p here (up_in run r) t of_site) ∙ done)),
+              quiet number run r (step.Finished p t) (record { called = refl; cluster = refl; sites = λ n. refl; parts = λ n. refl; site = λ who old. refl; count = λ n. refl; phase = λ who. refl }) refl,
+              tt,
+            ))
+
+        pub expire_gone : (f : Fate) (steps : List Step) → steps ≡ step.Gone p t ∷ [] → OfState types c.sites p (λ q. fate_told f ≡ fate_of q t) → ((v : List ℕ) → f ≡ fate.Committed v → ⊥) → AppliesLive types c (command.Expire p t) steps c
+        expire_gone f steps is told not_so = line_applies (step.Gone p t) c steps is (λ number run r.
+            let k = ended (entries r.calls) r.sees.reached in
+            let never = told_neither (r.sees.reached.state p) t f (up_in run r) k (told (entries r.calls) r.sees.reached) not_so in (
+              only_looks (step.Gone p t) run r (asks_ended (parts_of run) (calls_of run) p t (sym (waiting_is types c run r p here (up_in run r) t) ∙ k)) (looked_gone (calls_of run) p t (sym (waiting_is types c run r p here (up_in run r) t) ∙ k) (sym (ended_is types c run r p here (up_in run r) t of_site) ∙ never)),
+              quiet number run r (step.Gone p t) (record { called = refl; cluster = refl; sites = λ n. refl; parts = λ n. refl; site = λ who old. refl; count = λ n. refl; phase = λ who. refl }) refl,
+              tt,
+            ))

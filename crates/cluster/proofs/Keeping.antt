@@ -8,7 +8,7 @@ use Rattle.world_model.specs.declared.command.Command.{Command}
 use Rattle.world_model.specs.declared.step.Step.{Step}
 use Rattle.world_model.specs.declared.step.Step.TheVariants as step
 use Rattle.world_model.specs.Event as event
-use Rattle.world_model.specs.Event.{Entry, Event, IsDown, Sent, Reported, Refused, Cut, is_sent, is_report, WasNumbered}
+use Rattle.world_model.specs.Event.{Entry, Event, IsDown, Decided, Sent, Reported, Refused, Cut, is_sent, is_report, WasNumbered}
 use Rattle.world_model.specs.Lines.{step_shown}
 use Rattle.world_model.specs.Messages.{message_of, report_of}
 use Rattle.world_model.specs.Run.{Run}
@@ -17,7 +17,6 @@ use Rattle.txn_session.specs.Calls.{Call, entries}
 use Rattle.crdt_core.specs.declared.record.Message.{Message}
 use Rattle.cluster.specs.declared.post.Note.{Note}
 use Rattle.cluster.specs.Post.{PostState, MailAs, NoteAs, kept_at, HasPost, Grows, KeepsPost}
-use Rattle.cluster.specs.Sees.{is_calm}
 
 -- a line that tells of a message or a report that is made or dropped
 abbrev pub is_postal : Step → Bool
@@ -45,13 +44,14 @@ none_and true b h = h
 none_and false b h = refl
 
 module _ {E : Type 0} where
-  pub call_plain : (run : List (Entry E)) (at : PartId) (e : Event E) → is_calm e ≡ true → is_sent e ≡ false → is_report e ≡ false → is_postal (step_shown run at e) ≡ false
-  call_plain run at (Sent asked m) c h k = off (sym h)
-  call_plain run at (Reported b) c h k = off (sym k)
-  call_plain run at (Cut what) c h k = off c
-  call_plain run at (Refused a IsDown) c h k = refl
-  call_plain run at (Refused a why) c h k = refl
-  call_plain run at other c h k = refl
+  pub call_plain : (run : List (Entry E)) (at : PartId) (e : Event E) → is_sent e ≡ false → is_report e ≡ false → is_postal (step_shown run at e) ≡ false
+  call_plain run at (Sent asked m) h k = off (sym h)
+  call_plain run at (Reported b) h k = off (sym k)
+  call_plain run at (Cut (Decided t v)) h k = refl
+  call_plain run at (Cut what) h k = refl
+  call_plain run at (Refused a IsDown) h k = refl
+  call_plain run at (Refused a why) h k = refl
+  call_plain run at other h k = refl
 
   pub grows_none : (calls : List (Call E)) → Grows calls calls
   grows_none calls = record { sent = λ q. refl; told = λ q. refl; mail = λ own q e h. h; note = λ own q e h. h }

@@ -2,7 +2,6 @@
 use Rattle.std.proofs.Common.{◌≡◌, ℕ, zero, suc, Bool, true, false, List, [], ◌∷◌, refl, sym, ap, ◌∙◌, subst, Option, None, Some}
 use Rattle.std.specs.Prelude.{not, ⊤}
 use Rattle.std.proofs.lemmas.Bool.{cond-false, cond-true}
-use Rattle.crdt_core.specs.KindsOf.{Kinds}
 use Rattle.world_model.specs.declared.command.Command.{Command}
 use Rattle.world_model.specs.declared.step.Step.{Step}
 use Rattle.world_model.specs.declared.step.Step.TheVariants as step
@@ -18,10 +17,11 @@ use Rattle.world_model.specs.ScriptAnswers.{AnswersBy}
 use Rattle.clocksi_commit.specs.Commit.{is_finishing}
 use Rattle.txn_session.specs.Session as session
 use Rattle.txn_session.specs.Session.{Doing, Idle, Open, Ending, SessionState}
+use Rattle.site_partitions.specs.Reaches.{Types}
 use Rattle.cluster.specs.Built.{is_built}
 use Rattle.cluster.specs.Live.{LiveState, session_in}
 use Rattle.cluster.specs.Reached.{phase_as, StandsBy, StandsAs, ReachedLive, GoesTo, AppliesLive}
-use Rattle.cluster.proofs.Mere.{is_mere, mere_sound}
+use Rattle.cluster.proofs.Mere.{is_mere, mere_faults}
 use Rattle.cluster.proofs.Standing.{live_still}
 
 -- all that a command may meet
@@ -79,22 +79,23 @@ module _ {E : Type 0} where
       by_going (Finishing left n) = refl
       by_going (Aborting left) = refl
 
-module _ {S E : Type 0} (kinds : Kinds S E) where
+module _ {S E D : Type 0} (types : Types S E D) where
   -- the command meets this refusal, whatever run left the cluster so
-  abbrev pub Meets : LiveState E → Command → Option Step → Type 0
-  Meets c cmd o = (run : Run) → ReachedLive kinds c run → met is_built run cmd ≡ o
+  abbrev pub Meets : LiveState E D → Command → Option Step → Type 0
+  Meets c cmd o = (run : Run) → ReachedLive types c run → met is_built run cmd ≡ o
 
   -- and its line gives no session another phase
-  abbrev pub StaysIdle : LiveState E → Command → Step → Type 0
-  StaysIdle c cmd s = (run : Run) → ReachedLive kinds c run → (who : List ℕ) → by_command (parts_of run) who (phase run who) (Some cmd) s ≡ phase run who
+  abbrev pub StaysIdle : LiveState E D → Command → Step → Type 0
+  StaysIdle c cmd s = (run : Run) → ReachedLive types c run → (who : List ℕ) → by_command (parts_of run) who (phase run who) (Some cmd) s ≡ phase run who
 
-  pub refused : (c : LiveState E) (cmd : Command) (s : Step) (steps : List Step) → steps ≡ s ∷ [] → is_mere s ≡ true → Meets c cmd (Some s) → StaysIdle c cmd s → AppliesLive kinds c cmd steps c
+  pub refused : (c : LiveState E D) (cmd : Command) (s : Step) (steps : List Step) → steps ≡ s ∷ [] → is_mere s ≡ true → Meets c cmd (Some s) → StaysIdle c cmd s → AppliesLive types c cmd steps c
   refused c cmd s steps is h m idle number run r = (
-    (subst (λ o. AnswersBy run cmd steps o) (sym (m run r)) is, mere_sound s steps is h),
-    subst (λ l. GoesTo kinds c run r c (answered number (Some cmd) l run)) (sym is) (live_still kinds c number (Some cmd) s run h (idle run r) r),
+    subst (λ o. AnswersBy run cmd steps o) (sym (m run r)) is,
+    subst (λ l. GoesTo types c run r c (answered number (Some cmd) l run)) (sym is) (live_still types c number (Some cmd) s run h (idle run r) r),
+    mere_faults types.state run c.sites c.sites s steps is h,
   )
 
-  module _ (c : LiveState E) (run : Run) (r : ReachedLive kinds c run) (name : List ℕ) where
+  module _ (c : LiveState E D) (run : Run) (r : ReachedLive types c run) (name : List ℕ) where
     pub has : not (has_cluster run) ≡ false
     has = ap not r.has
 

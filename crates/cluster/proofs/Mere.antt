@@ -1,5 +1,5 @@
 -- Lines that no partition answered, and that change nothing: refusals before any partition is asked.
-use Rattle.std.proofs.Common.{◌≡◌, ℕ, Bool, true, false, List, [], ◌∷◌, refl, ap, ◌∙◌, Option, Some}
+use Rattle.std.proofs.Common.{◌≡◌, ℕ, Bool, true, false, List, [], ◌∷◌, refl, sym, ap, ◌∙◌, subst, Option, Some}
 use Rattle.std.specs.Prelude.{if◌then◌else◌, ◌||◌, ◌&&◌, not}
 use Rattle.std.specs.Str.{bytes_eq}
 use Rattle.std.proofs.lemmas.Bool.{cond-false}
@@ -12,8 +12,10 @@ use Rattle.world_model.specs.Cluster.{is_cluster, has_cluster, sites_of, parts_o
 use Rattle.world_model.specs.Meeting.{site_after, site_of, count_after, session_count}
 use Rattle.world_model.specs.Phases.{Phase, Absent, phase, phase_after, by_command}
 use Rattle.world_model.specs.Run.{Run}
-use Rattle.world_model.specs.ScriptAnswers.{is_sound, are_sound}
 use Rattle.world_model.specs.ScriptCalls.{is_answer, is_looked_up, is_called, calls_of}
+use Rattle.disk_core.specs.States.{DiskState}
+use Rattle.site_partitions.specs.Held.{Held}
+use Rattle.cluster.specs.Faults.{ShowsFault, ShowFaults}
 use Rattle.cluster.specs.Reached.{IsBefore}
 use Rattle.cluster.proofs.Keeping.{is_postal, keeps_line, keeps_none, keeps_both}
 
@@ -71,17 +73,14 @@ mere step.LimitReports h = all_same _ refl refl (λ n. refl) (λ n. refl) (λ w 
 mere step.Unbuilt h = all_same _ refl refl (λ n. refl) (λ n. refl) (λ w o. refl) (λ n. refl) (λ n w o a. refl)
 mere other h = off h
 
-sound_mere : (s : Step) → is_mere s ≡ true → is_sound s ≡ true
-sound_mere (step.Down p) h = off h
-sound_mere (step.Disk p) h = off h
-sound_mere (step.Unsure t) h = off h
-sound_mere (step.Damaged p at) h = off h
-sound_mere (step.Full room) h = off h
-sound_mere other h = refl
+-- no disk failed for such a line
+pub mere_shows : {E D : Type 0} (state : D → DiskState) (run : Run) (old new : Held E D) (s : Step) → is_mere s ≡ true → ShowsFault state run old new s
+mere_shows state run old new (step.Disk p) h = off h
+mere_shows state run old new (step.Unsure t) h = off h
+mere_shows state run old new other h = tt
 
--- no partition failed for such a line
-pub mere_sound : (s : Step) (steps : List Step) → steps ≡ s ∷ [] → is_mere s ≡ true → are_sound steps ≡ true
-mere_sound s steps is h = ap are_sound is ∙ ap (λ b. b && true) (sound_mere s h)
+pub mere_faults : {E D : Type 0} (state : D → DiskState) (run : Run) (old new : Held E D) (s : Step) (steps : List Step) → steps ≡ s ∷ [] → is_mere s ≡ true → ShowFaults state run old new steps
+mere_faults state run old new s steps is h = subst (ShowFaults state run old new) (sym is) (mere_shows state run old new s h, tt)
 
 pub mere_plain : (s : Step) → is_mere s ≡ true → is_postal s ≡ false
 mere_plain (step.Sent n q to lo hi count) h = off h

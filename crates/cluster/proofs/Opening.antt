@@ -5,7 +5,6 @@ use Rattle.std.specs.Str.{bytes_eq}
 use Rattle.std.proofs.lemmas.Slice.Eq.{bytes_eq-Decides}
 use Rattle.std.proofs.lemmas.Bool.{cond-true, cond-false, and_parts, leb-true, eqb-true, false_from_ne_true}
 use Rattle.site_vector.specs.declared.ids.PartId.{PartId}
-use Rattle.crdt_core.specs.KindsOf.{Kinds}
 use Rattle.world_model.specs.declared.command.Command.TheVariants as command
 use Rattle.world_model.specs.declared.step.Step.{Step}
 use Rattle.world_model.specs.declared.step.Step.TheVariants as step
@@ -26,8 +25,10 @@ use Rattle.txn_session.specs.Calls.{Call, called, entries}
 use Rattle.txn_session.specs.Holds.{Holds, AreApart}
 use Rattle.txn_session.specs.Session.{Doing, Idle, Open as IsOpen, Ending, SessionState}
 use Rattle.txn_session.proofs.Frames.{holds_more}
+use Rattle.site_partitions.specs.Reaches.{Types}
 use Rattle.cluster.specs.Built.{is_built}
-use Rattle.cluster.specs.Held.{Held, holds_site, size_refl}
+use Rattle.site_partitions.specs.Held.{Held, holds_site}
+use Rattle.cluster.specs.Same.{same_refl}
 use Rattle.cluster.specs.Live.{LiveState, session_in}
 use Rattle.cluster.specs.Reached.{phase_as, StandsBy, StandsAs, ReachedLive, IsReachedLive, GoesTo, AppliesLive}
 use Rattle.cluster.proofs.Keeping.{grows_none, grows_one, keeps_line}
@@ -37,6 +38,7 @@ use Rattle.cluster.proofs.Beginning.{IsDoing}
 use Rattle.txn_session.specs.Session.{moved_to}
 use Rattle.cluster.proofs.Clocks.{site_in}
 use Rattle.cluster.proofs.Meets.{all_met, first_at, none_due, refused, there_as, idle_is, absent, lacks_session, has_session, by_name}
+use Rattle.cluster.specs.Faults.{ShowFaults}
 use Rattle.cluster.proofs.Sessions.{own_name}
 use Rattle.cluster.proofs.Standing.{SameFor, stands_still}
 
@@ -47,16 +49,16 @@ none_of (Some x) h = absurd cc
 pub not_many : (n m : ℕ) → m ≡ n → m ≢ 64 → (n == 64) ≡ false
 not_many n m e h = false_from_ne_true (n == 64) (λ k. h (e ∙ eqb-true n 64 k))
 
-module _ {S E : Type 0} (kinds : Kinds S E) where
+module _ {S E D : Type 0} (types : Types S E D) where
   -- a session is opened: no partition is changed
-  opened_at : (c : Held E) (calls : List (Call E)) (at : PartId) (name : List ℕ) → IsPlace c.sites c.parts at → Sees kinds c calls → Sees kinds c (called 0 at (Opened name) ∷ calls)
+  opened_at : (c : Held E D) (calls : List (Call E)) (at : PartId) (name : List ℕ) → IsPlace c.sites c.parts at → Sees types c calls → Sees types c (called 0 at (Opened name) ∷ calls)
   opened_at c calls at name place s = record {
     reached = record {
       state = s.reached.state;
       is_run = (s.reached.state, s.reached.is_run, record { place = place; allowed = tt; fit = tt; step = refl; others = λ q k. refl }, tt);
+      puts = (tt, s.reached.puts);
       each = s.reached.each;
     };
-    calm = (refl, s.calm);
     one_caller = (refl, s.one_caller);
   }
 
@@ -65,41 +67,41 @@ module _ {S E : Type 0} (kinds : Kinds S E) where
   apart_opened calls at name (IsOpen txn) = (refl, tt)
   apart_opened calls at name (Ending txn lead commit) = (refl, tt)
 
-  module _ (c : LiveState E) (name : List ℕ) (site : ℕ) where
-    pub session_nowhere : (steps : List Step) → steps ≡ step.NoPart ∷ [] → holds_site c.sites site ≡ false → AppliesLive kinds c (command.Session name site) steps c
-    session_nowhere steps is lacks = refused kinds c (command.Session name site) step.NoPart steps is refl
-        (λ run r. first_at (all_met run (command.Session name site)) 2 (refl, (ap not r.has, ap not (sym (site_in kinds c run r site) ∙ lacks))))
+  module _ (c : LiveState E D) (name : List ℕ) (site : ℕ) where
+    pub session_nowhere : (steps : List Step) → steps ≡ step.NoPart ∷ [] → holds_site c.sites site ≡ false → AppliesLive types c (command.Session name site) steps c
+    session_nowhere steps is lacks = refused types c (command.Session name site) step.NoPart steps is refl
+        (λ run r. first_at (all_met run (command.Session name site)) 2 (refl, (ap not r.has, ap not (sym (site_in types c run r site) ∙ lacks))))
         (λ run r who. refl)
 
-    pub session_again : (steps : List Step) → steps ≡ step.HasSession ∷ [] → holds_site c.sites site ≡ true → is_some (session_in c.sessions name) ≡ true → AppliesLive kinds c (command.Session name site) steps c
+    pub session_again : (steps : List Step) → steps ≡ step.HasSession ∷ [] → holds_site c.sites site ≡ true → is_some (session_in c.sessions name) ≡ true → AppliesLive types c (command.Session name site) steps c
     session_again steps is there some = by_session (session_in c.sessions name) refl some
       where
-        by_session : (o : Option (SessionState E)) → session_in c.sessions name ≡ o → is_some o ≡ true → AppliesLive kinds c (command.Session name site) steps c
+        by_session : (o : Option (SessionState E)) → session_in c.sessions name ≡ o → is_some o ≡ true → AppliesLive types c (command.Session name site) steps c
         by_session None e h = absurd cc
-        by_session (Some s) e h = refused kinds c (command.Session name site) step.HasSession steps is refl
-            (λ run r. first_at (all_met run (command.Session name site)) 3 (refl, (ap not r.has, (ap not (sym (site_in kinds c run r site) ∙ there), there_is run r s e))))
+        by_session (Some s) e h = refused types c (command.Session name site) step.HasSession steps is refl
+            (λ run r. first_at (all_met run (command.Session name site)) 3 (refl, (ap not r.has, (ap not (sym (site_in types c run r site) ∙ there), there_is run r s e))))
             (λ run r who. refl)
           where
-            there_is : (run : Run) (r : ReachedLive kinds c run) (s : SessionState E) → session_in c.sessions name ≡ Some s → phases.is_there (phase run name) ≡ true
-            there_is run r s e = ap phases.is_there (by_name kinds c run r name s e).phase ∙ there_as s.doing
+            there_is : (run : Run) (r : ReachedLive types c run) (s : SessionState E) → session_in c.sessions name ≡ Some s → phases.is_there (phase run name) ≡ true
+            there_is run r s e = ap phases.is_there (by_name types c run r name s e).phase ∙ there_as s.doing
 
-    gone : session_in c.sessions name ≡ None → (run : Run) (r : ReachedLive kinds c run) → phases.is_there (phase run name) ≡ false
-    gone none run r = ap phases.is_there (absent kinds c run r name none)
+    gone : session_in c.sessions name ≡ None → (run : Run) (r : ReachedLive types c run) → phases.is_there (phase run name) ≡ false
+    gone none run r = ap phases.is_there (absent types c run r name none)
 
-    pub session_full : (steps : List Step) → steps ≡ step.LimitSessions ∷ [] → holds_site c.sites site ≡ true → session_in c.sessions name ≡ None → length c.sessions ≡ 64 → AppliesLive kinds c (command.Session name site) steps c
-    session_full steps is there none all = refused kinds c (command.Session name site) step.LimitSessions steps is refl
-        (λ run r. first_at (all_met run (command.Session name site)) 4 (refl, (ap not r.has, (ap not (sym (site_in kinds c run r site) ∙ there), (gone none run r, ap (λ n. n == 64) (r.count ∙ all))))))
+    pub session_full : (steps : List Step) → steps ≡ step.LimitSessions ∷ [] → holds_site c.sites site ≡ true → session_in c.sessions name ≡ None → length c.sessions ≡ 64 → AppliesLive types c (command.Session name site) steps c
+    session_full steps is there none all = refused types c (command.Session name site) step.LimitSessions steps is refl
+        (λ run r. first_at (all_met run (command.Session name site)) 4 (refl, (ap not r.has, (ap not (sym (site_in types c run r site) ∙ there), (gone none run r, ap (λ n. n == 64) (r.count ∙ all))))))
         (λ run r who. refl)
 
     pub session_made : (sessions : List (List ℕ × SessionState E)) (s : SessionState E) (steps : List Step) → steps ≡ step.MadeSession name site ∷ [] → holds_site c.sites site ≡ true → 1 ≤ c.sites.parts → session_in c.sessions name ≡ None → (length c.sessions == 64) ≡ false
         → s ≡ record { name = name; site = site; sites = c.sites.sites; parts = c.sites.parts; dependency = replicate c.sites.sites 0; doing = Idle } → ((calls : List (Call E)) → Holds s calls)
         → ((who : List ℕ) → session_in sessions who ≡ (if bytes_eq name who then Some s else session_in c.sessions who)) → length sessions ≡ length c.sessions + 1
-        → AppliesLive kinds c (command.Session name site) steps (record { sites = c.sites; sessions = sessions })
+        → AppliesLive types c (command.Session name site) steps (record { sites = c.sites; sessions = sessions })
     session_made sessions s steps is there some none room new holds find count number run r =
-        subst (λ l. IsAnswer is_built run (command.Session name site) l × GoesTo kinds c run r (record { sites = c.sites; sessions = sessions }) (answered number (Some (command.Session name site)) l run)) (sym is) (
-          (subst (AnswersBy run (command.Session name site) (step.MadeSession name site ∷ [])) (sym (none_due (all_met run (command.Session name site)) (refl, (ap not r.has, (ap not (sym (site_in kinds c run r site) ∙ there), (gone none run r, (ap (λ n. n == 64) r.count ∙ room, tt))))))) refl, refl),
+        subst (λ l. IsAnswer is_built run (command.Session name site) l × GoesTo types c run r (record { sites = c.sites; sessions = sessions }) (answered number (Some (command.Session name site)) l run) × ShowFaults types.state run c.sites c.sites l) (sym is) (
+          subst (AnswersBy run (command.Session name site) (step.MadeSession name site ∷ [])) (sym (none_due (all_met run (command.Session name site)) (refl, (ap not r.has, (ap not (sym (site_in types c run r site) ∙ there), (gone none run r, (ap (λ n. n == 64) r.count ∙ room, tt))))))) refl,
           record {
-            size = size_refl c.sites;
+            same = same_refl types.state c.sites;
             grows = grows_one (called 0 at (Opened name)) r.calls refl refl;
             keeps = keeps_line number (Some (command.Session name site)) (step.MadeSession name site) run refl;
             reached = record {
@@ -114,6 +116,7 @@ module _ {S E : Type 0} (kinds : Kinds S E) where
               count = ap (λ n. n + 1) r.count ∙ sym count;
             };
           },
+          (tt, tt),
         )
       where
         at : PartId
@@ -137,7 +140,7 @@ module _ {S E : Type 0} (kinds : Kinds S E) where
           sites = ap (λ y. y.sites) new ∙ r.sites;
           parts = ap (λ y. y.parts) new ∙ r.parts;
           site = cond-true (bytes_eq name name) (Some site) (site_of run name) (own_name name) ∙ ap (λ y. Some y.site) (sym new);
-          there = ap (λ y. has_site run y.site) new ∙ (sym (site_in kinds c run r site) ∙ there);
+          there = ap (λ y. has_site run y.site) new ∙ (sym (site_in types c run r site) ∙ there);
           phase = cond-true (bytes_eq name name) phases.Idle (phase run name) (own_name name) ∙ ap (λ y. phase_as y.doing) (sym new);
           few = subst (λ (y : SessionState E). update_total (phase_as y.doing) ≤ 256) (sym new) (omega arith);
           depends = ap (λ y. y.dependency) new ∙ (ap (λ n. replicate n 0) r.sites ∙ sym (cond-true (bytes_eq name name) (replicate (sites_of run) 0) (lines.dependency (sites_of run) (calls_of run) name) (own_name name)));
@@ -160,19 +163,19 @@ module _ {S E : Type 0} (kinds : Kinds S E) where
             by_bool true h = subst (λ n. StandsBy next later n s) ((bytes_eq-Decides name who).0 h) mine
             by_bool false h = stands_still next run later r.calls who (session_in c.sessions who) (same who h) (λ x e k. holds_more x (called 0 at (Opened name) ∷ []) r.calls (apart_opened r.calls at name x.doing) k) (r.each who)
 
-  module _ (c : LiveState E) (name : List ℕ) where
-    pub lose_absent : (steps : List Step) → steps ≡ step.NoSession ∷ [] → session_in c.sessions name ≡ None → AppliesLive kinds c (command.Lose name) steps c
-    lose_absent steps is none = refused kinds c (command.Lose name) step.NoSession steps is refl
-        (λ run r. first_at (all_met run (command.Lose name)) 2 (refl, (ap not r.has, lacks_session kinds c run r name none)))
+  module _ (c : LiveState E D) (name : List ℕ) where
+    pub lose_absent : (steps : List Step) → steps ≡ step.NoSession ∷ [] → session_in c.sessions name ≡ None → AppliesLive types c (command.Lose name) steps c
+    lose_absent steps is none = refused types c (command.Lose name) step.NoSession steps is refl
+        (λ run r. first_at (all_met run (command.Lose name)) 2 (refl, (ap not r.has, lacks_session types c run r name none)))
         (λ run r who. refl)
 
     pub session_lost : (sessions : List (List ℕ × SessionState E)) (steps : List Step) → steps ≡ step.Lost name ∷ [] → is_some (session_in c.sessions name) ≡ true → ((who : List ℕ) → session_in sessions who ≡ (if bytes_eq name who then None else session_in c.sessions who)) → length sessions + 1 ≡ length c.sessions
-        → AppliesLive kinds c (command.Lose name) steps (record { sites = c.sites; sessions = sessions })
+        → AppliesLive types c (command.Lose name) steps (record { sites = c.sites; sessions = sessions })
     session_lost sessions steps is some find count number run r =
-        subst (λ l. IsAnswer is_built run (command.Lose name) l × GoesTo kinds c run r (record { sites = c.sites; sessions = sessions }) (answered number (Some (command.Lose name)) l run)) (sym is) (
-          (subst (AnswersBy run (command.Lose name) (step.Lost name ∷ [])) (sym (none_due (all_met run (command.Lose name)) (refl, (ap not r.has, (was_there (session_in c.sessions name) refl some, tt))))) refl, refl),
+        subst (λ l. IsAnswer is_built run (command.Lose name) l × GoesTo types c run r (record { sites = c.sites; sessions = sessions }) (answered number (Some (command.Lose name)) l run) × ShowFaults types.state run c.sites c.sites l) (sym is) (
+          subst (AnswersBy run (command.Lose name) (step.Lost name ∷ [])) (sym (none_due (all_met run (command.Lose name)) (refl, (ap not r.has, (was_there (session_in c.sessions name) refl some, tt))))) refl,
           record {
-            size = size_refl c.sites;
+            same = same_refl types.state c.sites;
             grows = grows_none r.calls;
             keeps = keeps_line number (Some (command.Lose name)) (step.Lost name) run refl;
             reached = record {
@@ -187,11 +190,12 @@ module _ {S E : Type 0} (kinds : Kinds S E) where
               count = (let n = r.count in omega (arith, n, count));
             };
           },
+          (tt, tt),
         )
       where
         was_there : (o : Option (SessionState E)) → session_in c.sessions name ≡ o → is_some o ≡ true → not (phases.is_there (phase run name)) ≡ false
         was_there None e h = absurd cc
-        was_there (Some s) e h = has_session kinds c run r name s e
+        was_there (Some s) e h = has_session types c run r name s e
 
         next : Run
         next = (record { number = number; command = Some (command.Lose name); step = step.Lost name }) ∷ run
@@ -205,28 +209,28 @@ module _ {S E : Type 0} (kinds : Kinds S E) where
                 (record { sites = refl; parts = refl; site = cond-false (bytes_eq name who) None (site_of run who) h; phase = cond-false (bytes_eq name who) phases.Absent (phase run who) h; depends = refl })
                 (λ x e k. k) (r.each who)
 
-  module _ (c : LiveState E) (name : List ℕ) (site : ℕ) where
-    pub move_nowhere : (steps : List Step) → steps ≡ step.NoPart ∷ [] → holds_site c.sites site ≡ false → AppliesLive kinds c (command.Move name site) steps c
-    move_nowhere steps is lacks = refused kinds c (command.Move name site) step.NoPart steps is refl
-        (λ run r. first_at (all_met run (command.Move name site)) 2 (refl, (ap not r.has, ap not (sym (site_in kinds c run r site) ∙ lacks))))
+  module _ (c : LiveState E D) (name : List ℕ) (site : ℕ) where
+    pub move_nowhere : (steps : List Step) → steps ≡ step.NoPart ∷ [] → holds_site c.sites site ≡ false → AppliesLive types c (command.Move name site) steps c
+    move_nowhere steps is lacks = refused types c (command.Move name site) step.NoPart steps is refl
+        (λ run r. first_at (all_met run (command.Move name site)) 2 (refl, (ap not r.has, ap not (sym (site_in types c run r site) ∙ lacks))))
         (λ run r who. refl)
 
-    pub move_absent : (steps : List Step) → steps ≡ step.NoSession ∷ [] → holds_site c.sites site ≡ true → session_in c.sessions name ≡ None → AppliesLive kinds c (command.Move name site) steps c
-    move_absent steps is there none = refused kinds c (command.Move name site) step.NoSession steps is refl
-        (λ run r. first_at (all_met run (command.Move name site)) 3 (refl, (ap not r.has, (ap not (sym (site_in kinds c run r site) ∙ there), lacks_session kinds c run r name none))))
+    pub move_absent : (steps : List Step) → steps ≡ step.NoSession ∷ [] → holds_site c.sites site ≡ true → session_in c.sessions name ≡ None → AppliesLive types c (command.Move name site) steps c
+    move_absent steps is there none = refused types c (command.Move name site) step.NoSession steps is refl
+        (λ run r. first_at (all_met run (command.Move name site)) 3 (refl, (ap not r.has, (ap not (sym (site_in types c run r site) ∙ there), lacks_session types c run r name none))))
         (λ run r who. refl)
 
-    pub move_busy : (steps : List Step) → steps ≡ step.HasTxn ∷ [] → holds_site c.sites site ≡ true → IsDoing (session_in c.sessions name) false → AppliesLive kinds c (command.Move name site) steps c
-    move_busy steps is there x = refused kinds c (command.Move name site) step.HasTxn steps is refl
-        (λ run r. first_at (all_met run (command.Move name site)) 4 (refl, (ap not r.has, (ap not (sym (site_in kinds c run r site) ∙ there), (has_session kinds c run r name x.found x.is, ap not (idle_is kinds c run r name x.found x.is ∙ x.so))))))
+    pub move_busy : (steps : List Step) → steps ≡ step.HasTxn ∷ [] → holds_site c.sites site ≡ true → IsDoing (session_in c.sessions name) false → AppliesLive types c (command.Move name site) steps c
+    move_busy steps is there x = refused types c (command.Move name site) step.HasTxn steps is refl
+        (λ run r. first_at (all_met run (command.Move name site)) 4 (refl, (ap not r.has, (ap not (sym (site_in types c run r site) ∙ there), (has_session types c run r name x.found x.is, ap not (idle_is types c run r name x.found x.is ∙ x.so))))))
         (λ run r who. refl)
 
-    pub session_moved : (sessions : List (List ℕ × SessionState E)) (answer : Step) (steps : List Step) → steps ≡ answer ∷ [] → holds_site c.sites site ≡ true → IsDoing (session_in c.sessions name) true → Moves c.sessions name site answer sessions → AppliesLive kinds c (command.Move name site) steps (record { sites = c.sites; sessions = sessions })
+    pub session_moved : (sessions : List (List ℕ × SessionState E)) (answer : Step) (steps : List Step) → steps ≡ answer ∷ [] → holds_site c.sites site ≡ true → IsDoing (session_in c.sessions name) true → Moves c.sessions name site answer sessions → AppliesLive types c (command.Move name site) steps (record { sites = c.sites; sessions = sessions })
     session_moved sessions answer steps is there x m number run r =
-        subst (λ l. IsAnswer is_built run (command.Move name site) l × GoesTo kinds c run r (record { sites = c.sites; sessions = sessions }) (answered number (Some (command.Move name site)) l run)) (sym (is ∙ ap (λ s. s ∷ []) line)) (
-          (subst (AnswersBy run (command.Move name site) (step.Moved name site ∷ [])) (sym (none_due (all_met run (command.Move name site)) (refl, (ap not r.has, (ap not (sym (site_in kinds c run r site) ∙ there), (has_session kinds c run r name m.before m.is, (ap not (idle_is kinds c run r name x.found x.is ∙ x.so), tt))))))) refl, refl),
+        subst (λ l. IsAnswer is_built run (command.Move name site) l × GoesTo types c run r (record { sites = c.sites; sessions = sessions }) (answered number (Some (command.Move name site)) l run) × ShowFaults types.state run c.sites c.sites l) (sym (is ∙ ap (λ s. s ∷ []) line)) (
+          subst (AnswersBy run (command.Move name site) (step.Moved name site ∷ [])) (sym (none_due (all_met run (command.Move name site)) (refl, (ap not r.has, (ap not (sym (site_in types c run r site) ∙ there), (has_session types c run r name m.before m.is, (ap not (idle_is types c run r name x.found x.is ∙ x.so), tt))))))) refl,
           record {
-            size = size_refl c.sites;
+            same = same_refl types.state c.sites;
             grows = grows_none r.calls;
             keeps = keeps_line number (Some (command.Move name site)) (step.Moved name site) run refl;
             reached = record {
@@ -241,10 +245,11 @@ module _ {S E : Type 0} (kinds : Kinds S E) where
               count = r.count ∙ sym m.put.count;
             };
           },
+          (tt, tt),
         )
       where
         st : StandsBy run r.calls name m.before
-        st = by_name kinds c run r name m.before m.is
+        st = by_name types c run r name m.before m.is
 
         line : answer ≡ step.Moved name site
         line = m.line ∙ ap (λ n. step.Moved n site) st.name
@@ -258,7 +263,7 @@ module _ {S E : Type 0} (kinds : Kinds S E) where
           sites = st.sites;
           parts = st.parts;
           site = cond-true (bytes_eq name name) (Some site) (site_of run name) (own_name name);
-          there = sym (site_in kinds c run r site) ∙ there;
+          there = sym (site_in types c run r site) ∙ there;
           phase = st.phase;
           few = st.few;
           depends = st.depends;
@@ -274,8 +279,8 @@ module _ {S E : Type 0} (kinds : Kinds S E) where
                 (record { sites = refl; parts = refl; site = cond-false (bytes_eq name who) (Some site) (site_of run who) h; phase = refl; depends = refl })
                 (λ x e k. k) (r.each who)
 
-    pub move_place : IsReachedLive kinds c → holds_site c.sites site ≡ true → (s : SessionState E) → session_in c.sessions name ≡ Some s → (1 ≤ site) × (site ≤ s.sites)
+    pub move_place : IsReachedLive types c → holds_site c.sites site ≡ true → (s : SessionState E) → session_in c.sessions name ≡ Some s → (1 ≤ site) × (site ≤ s.sites)
     move_place x there s is =
         let p = and_parts (nat_le 1 site) _ there in
-        let st = by_name kinds c x.run x.reached name s is in
+        let st = by_name types c x.run x.reached name s is in
         (leb-true 1 site p.0, subst (λ n. site ≤ n) (x.reached.sites ∙ sym st.sites) (leb-true site c.sites.sites p.1))

@@ -2,7 +2,6 @@
 use Rattle.std.proofs.Common.{◌≡◌, ℕ, true, false, List, ◌∷◌, refl, sym, ap, ◌∙◌, subst, Option, Some}
 use Rattle.std.specs.Prelude.{◌||◌}
 use Rattle.site_vector.specs.declared.ids.PartId.{PartId}
-use Rattle.crdt_core.specs.KindsOf.{Kinds}
 use Rattle.world_model.specs.declared.command.Command.{Command}
 use Rattle.world_model.specs.declared.step.Step.{Step}
 use Rattle.world_model.specs.Cluster.{is_cluster, has_cluster, sites_of, parts_of, sites_after, parts_after}
@@ -17,7 +16,9 @@ use Rattle.world_model.specs.Run.{Run}
 use Rattle.world_model.specs.ScriptCalls.{is_answer, asked_of, numbered, calls_of}
 use Rattle.world_model.proofs.LineViews.{dependency_is}
 use Rattle.txn_session.specs.Calls.{Call, called, entries, IsLegal}
-use Rattle.cluster.specs.Held.{Held, SameSize}
+use Rattle.site_partitions.specs.Held.{Held}
+use Rattle.site_partitions.specs.Reaches.{Types}
+use Rattle.cluster.specs.Same.{SameCluster}
 use Rattle.cluster.specs.Live.{LiveState, session_in}
 use Rattle.cluster.specs.Reached.{ReachedLive}
 use Rattle.cluster.specs.Sees.{Sees, sees_legal}
@@ -36,7 +37,7 @@ pub record IsPosted (cmd : Command) (s : Step) : Type 0 where
   pub count : (n : ℕ) → count_after n s ≡ n
   pub phase : (parts : ℕ) (who : List ℕ) (old : Phase) → phase_after parts who old (Some cmd) s ≡ old
 
-module _ {S E : Type 0} (kinds : Kinds S E) (c : LiveState E) (run : Run) (r : ReachedLive kinds c run) (number : ℕ) (cmd : Command) (at : PartId) (e : Event E) (held : Held E) (size : SameSize c.sites held) (sees : Sees kinds held (called 0 at e ∷ r.calls))
+module _ {S E D : Type 0} (types : Types S E D) (c : LiveState E D) (run : Run) (r : ReachedLive types c run) (number : ℕ) (cmd : Command) (at : PartId) (e : Event E) (held : Held E D) (size : SameCluster types.state c.sites held) (sees : Sees types held (called 0 at e ∷ r.calls))
     (s : Step) (told : IsPosted cmd s) (numbers : numbered run s ≡ step_shown (entries r.calls) at e) (placed : asked_of (calls_of run) run cmd ≡ record { at = at; call = call_of e }) (silent : (who : List ℕ) → IsSilentFor (entries r.calls) who e) (own : IsOwnPast (sites_of run) (calls_of run) (call_of e)) where
   next : Run
   next = (record { number = number; command = Some cmd; step = s }) ∷ run
@@ -50,11 +51,11 @@ module _ {S E : Type 0} (kinds : Kinds S E) (c : LiveState E) (run : Run) (r : R
   shown_next : lines_of (entries later) ≡ calls_of ((record { number = number; command = Some cmd; step = s }) ∷ run)
   shown_next = ap (λ ls. (record { at = at; call = call_of e; step = step_shown (entries r.calls) at e }) ∷ ls) r.shown ∙ sym lines_are
 
-  legal : IsLegal kinds held.sites held.parts later
-  legal = sees_legal kinds held later sees
+  legal : IsLegal types.kinds held.sites held.parts later
+  legal = sees_legal types held later sees
 
-  tail_legal : IsLegal kinds c.sites.sites c.sites.parts r.calls
-  tail_legal = sees_legal kinds c.sites r.calls r.sees
+  tail_legal : IsLegal types.kinds c.sites.sites c.sites.parts r.calls
+  tail_legal = sees_legal types c.sites r.calls r.sees
 
   same_next : (who : List ℕ) → SameFor ((record { number = number; command = Some cmd; step = s }) ∷ run) run who
   same_next who = record {
@@ -63,13 +64,13 @@ module _ {S E : Type 0} (kinds : Kinds S E) (c : LiveState E) (run : Run) (r : R
     site = told.site who _;
     phase = told.phase (parts_of run) who _;
     depends = (λ i. lines.dependency (told.sites (sites_of run) i) (sym shown_next i) who) ∙ (dependency_is (sites_of run) (entries later) who
-        ∙ (depends_other kinds c.sites.sites c.sites.parts r.calls tail_legal (sites_of run) who (dependency (sites_of run) (entries r.calls) who) e (silent who)
+        ∙ (depends_other types.kinds c.sites.sites c.sites.parts r.calls tail_legal (sites_of run) who (dependency (sites_of run) (entries r.calls) who) e (silent who)
         ∙ sym ((λ i. lines.dependency (sites_of run) (sym r.shown i) who) ∙ dependency_is (sites_of run) (entries r.calls) who)));
   }
 
   -- the cluster after it, and the calls that stand then
   pub record Posted : Type 0 where
-    pub reached : ReachedLive kinds (record { sites = held; sessions = c.sessions }) ((record { number = number; command = Some cmd; step = s }) ∷ run)
+    pub reached : ReachedLive types (record { sites = held; sessions = c.sessions }) ((record { number = number; command = Some cmd; step = s }) ∷ run)
     pub calls_are : reached.calls ≡ later
 
   pub posted : Posted
@@ -83,7 +84,7 @@ module _ {S E : Type 0} (kinds : Kinds S E) (c : LiveState E) (run : Run) (r : R
       shown = shown_next;
       own = subst (λ n. HandsOwn n (calls_of ((record { number = number; command = Some cmd; step = s }) ∷ run))) (sym (told.sites (sites_of run))) (subst (λ ls. HandsOwn (sites_of run) ls) (sym lines_are) (own, r.own));
       each = λ who. stands_still ((record { number = number; command = Some cmd; step = s }) ∷ run) run later r.calls who (session_in c.sessions who) (same_next who)
-          (λ x is h. holds_other kinds held.sites held.parts (called 0 at e) r.calls x legal sees.calm.0 (silent x.name) h) (r.each who);
+          (λ x is h. holds_other types.kinds held.sites held.parts (called 0 at e) r.calls x legal (silent x.name) h) (r.each who);
       count = told.count (session_count run) ∙ r.count;
     };
     calls_are = refl;

@@ -1,58 +1,91 @@
 -- A call of a cluster as the trait of stores tells it: nobody acted meanwhile, and the answer is the line of its event.
-use Rattle.std.proofs.Common.{◌≡◌, ℕ, true, List, [], ◌∷◌, refl, sym, ap, ◌∙◌, subst, true≢false, inr, Option, None, Some}
+use Rattle.std.proofs.Common.{◌≡◌, ℕ, Bool, true, false, List, [], ◌∷◌, refl, sym, ap, ◌∙◌, subst, true≢false, inr, Option, None, Some}
 use Rattle.std.specs.Prelude.{IfSome, IfOk, IfErr, Result, Ok, Err}
 use Rattle.site_vector.specs.declared.ids.PartId.{PartId}
 use Rattle.site_vector.specs.declared.ids.TxId.{TxId}
 use Rattle.crdt_core.specs.declared.object.ObjectId.{ObjectId}
 use Rattle.crdt_core.specs.declared.operation.Op.{Op}
-use Rattle.crdt_core.specs.declared.record.Message.{Message}
 use Rattle.crdt_core.specs.declared.record.Part.{Part}
 use Rattle.crdt_core.specs.declared.record.Upd.{Upd}
 use Rattle.crdt_core.specs.KindsOf.{Kinds}
 use Rattle.world_model.specs.declared.step.Step.{Step}
 use Rattle.world_model.specs.declared.step.Step.TheVariants as step
 use Rattle.world_model.specs.Asking.{MayCall, asked_by, is_own_word}
-use Rattle.world_model.specs.Event.{Ask, AskUpdate, AskMessage, Sent, Refusal, IsDown, IsBadOp, Event, Updated, Refused, Entry, attempt}
-use Rattle.world_model.specs.Lines.{session_of, refusal_shown, step_shown, tx_asked, number_asked}
-use Rattle.world_model.specs.Partition.{PartState, IsRefused}
-use Rattle.world_model.specs.Plan.{IsFit}
+use Rattle.world_model.specs.Event.{Ask, AskUpdate, Refusal, IsDown, IsBadOp, HasNoRoom, Event, Updated, Crashed, RestartCut, Restarted, Refused, Opened, Cut, Entry, attempt}
+use Rattle.world_model.specs.Lines.{session_of, refusal_shown, fault_shown, step_shown, tx_asked, number_asked}
+use Rattle.world_model.specs.Partition.{PartState, PartStep, IsRefused}
+use Rattle.world_model.specs.Plan.{IsPlace, IsFit}
+use Rattle.world_model.specs.World.{begun}
 use Rattle.partition_core.specs.declared.answers.Refusal as part
 use Rattle.partition_core.specs.declared.answers.Refusal.TheVariants as answer
-use Rattle.partition_core.specs.declared.answers.CallError.{CallError}
-use Rattle.partition_core.specs.declared.answers.CallError.TheVariants as call
+use Rattle.partition_core.specs.declared.durable.DurableError.{DurableError}
+use Rattle.partition_core.specs.declared.durable.DurableError.TheVariants as call
 use Rattle.partition_core.specs.Answers.{cause}
+use Rattle.partition_core.specs.Moments.{IsCutOff}
 use Rattle.txn_session.specs.Calls as session
 use Rattle.txn_session.specs.Calls.{Call, entries, caller_of, effect_made, Within}
-use Rattle.cluster.specs.Held.{Held, SameSize, size_refl}
-use Rattle.cluster.specs.Reaches.{Reaches}
-use Rattle.cluster.specs.Answers.{Any, GoesOn, Calls}
-use Rattle.cluster.specs.Sees.{is_plain, is_calm, refusal_line, FailedAs, AllBear, Sees, no_number}
+use Rattle.site_partitions.specs.Held.{Held}
+use Rattle.site_partitions.specs.Reaches.{Types, Reaches, MayAsk, HasBegun}
+use Rattle.site_partitions.specs.Answers.{Asks, GoesOn, Calls}
+use Rattle.cluster.specs.Faults.{FaultsRose, TellsFault}
+use Rattle.cluster.specs.Same.{SameCluster, same_refl}
+use Rattle.cluster.specs.Sees.{refusal_line, FailedAs, AllBear, Sees, no_number}
+use Rattle.cluster.proofs.Faulted.{same_of, rose_of}
 
 -- the line of a refusal names what was asked of
-refusal_is : {E : Type 0} (run : List (Entry E)) (p : PartId) (ask : Ask E) (why : Refusal) → refusal_shown run p ask why ≡ refusal_line p (tx_asked ask) (number_asked ask) why
+pub refusal_is : {E : Type 0} (run : List (Entry E)) (p : PartId) (ask : Ask E) (why : Refusal) → refusal_shown run p ask why ≡ refusal_line p (tx_asked ask) (number_asked ask) why
 refusal_is run p ask IsDown = refl
 refusal_is run p ask other = refl
 
+-- a partition does so: whoever asks knows which operations fit, and what is cut off was a call that it would have done
+abbrev pub is_told : {E : Type 0} → Event E → Bool
+is_told (Refused asked IsBadOp) = false
+is_told (Cut (Refused asked why)) = false
+is_told (Cut (Restarted n b named listed)) = false
+is_told (Cut (Opened who)) = false
+is_told (Cut (Cut what)) = false
+is_told (Cut Crashed) = false
+is_told (Cut RestartCut) = false
+is_told other = true
+
 module _ {S E : Type 0} (kinds : Kinds S E) where
-  -- whoever knows which operations fit is never told that one doesn't
+  -- so nobody is told that one doesn't
   never_bad : (sites parts : ℕ) (id : PartId) (p : PartState E) (ask : Ask E) → IsFit kinds (Refused ask IsBadOp) → IsRefused kinds sites parts id p ask IsBadOp → ⊥
   never_bad sites parts id p (AskUpdate t s o own op) f r = true≢false (sym f ∙ r.1)
   never_bad sites parts id p other f r = r.1
 
-  pub plain_refused : (c : Held E) (run : List (Entry E)) (at : PartId) (ask : Ask E) (why : part.Refusal) → Reaches kinds c ((record { at = at; event = Refused ask (cause why) }) ∷ run) → is_plain (cause why) ≡ true
-  plain_refused c run at ask answer.BadOp r = absurd (never_bad c.sites c.parts at (r.is_run.0 at) ask r.is_run.2.fit r.is_run.2.step.0)
-  plain_refused c run at ask other r = refl
+  told_step : (sites parts : ℕ) (id : PartId) (p q : PartState E) (e : Event E) → IsFit kinds e → PartStep kinds sites parts id p e q → is_told e ≡ true
+  told_step sites parts id p q (Refused ask IsBadOp) fit s = absurd (never_bad sites parts id p ask fit s.0)
+  told_step sites parts id p q (Cut (Refused asked why)) fit s = absurd s.1
+  told_step sites parts id p q (Cut (Restarted n b named listed)) fit s = absurd s.1
+  told_step sites parts id p q (Cut (Opened who)) fit s = absurd s.1
+  told_step sites parts id p q (Cut (Cut what)) fit s = absurd s.1
+  told_step sites parts id p q (Cut Crashed) fit s = absurd s.1
+  told_step sites parts id p q (Cut RestartCut) fit s = absurd s.1
+  told_step sites parts id p q (Cut what) fit s = refl
+  told_step sites parts id p q other fit s = refl
 
-  module _ {P : Type 0} (old new : Held E) (Given : List (Entry E) → Type 0) (at : PartId) (ask : Ask E) (pass : P) (number : Option ℕ) where
-    -- an event of this kind has this line, and no disk failed
+module _ {S E D : Type 0} (types : Types S E D) where
+  pub told_of : (c : Held E D) (e : Entry E) (run : List (Entry E)) → Reaches types c (e ∷ run) → is_told e.event ≡ true
+  told_of c e run r = told_step types.kinds c.sites c.parts e.at (r.is_run.0 e.at) (r.state e.at) e.event r.is_run.2.fit r.is_run.2.step
+
+  -- the last call of those that a cluster sees
+  pub told_last : (c : Held E D) (x : Call E) (calls : List (Call E)) → Sees types c (x ∷ calls) → is_told x.entry.event ≡ true
+  told_last c x calls s = told_of c x.entry (entries calls) s.reached
+
+  module _ {P : Type 0} (old new : Held E D) (Given : List (Entry E) → Type 0) (at : PartId) (ask : Ask E) (pass : P) (number : Option ℕ) where
+    -- an event of this kind has this line, and is on the word of who asks
     abbrev pub Lines : (Event E → Type 0) → Step → List (Call E) → Type 0
-    Lines Shows answer calls = (e : Event E) → Shows e → Reaches kinds new ((record { at = at; event = e }) ∷ entries calls) → (answer ≡ step_shown (entries calls) at e) × (is_calm e ≡ true)
+    Lines Shows line calls = (e : Event E) → Shows e → (line ≡ step_shown (entries calls) at e) × (is_own_word (attempt e) ≡ true)
 
-    pub seen_on : (Shows : Event E → Type 0) → GoesOn kinds old new Given at ask Shows → (answer : Step) (calls : List (Call E)) → Sees kinds old calls → MayCall old.sites old.parts (entries calls) at ask → Given (entries calls) → IfSome number (λ n. 0 ≡ n) → Lines Shows answer calls
-        → session.GoesOn (λ s (p : P) r. Sees kinds s r) (λ (p : P) n. true) new pass calls number at ask answer
-    seen_on Shows g answer calls s may given b lines =
-        let x = g.goes (entries calls) s.reached may given in
-        let l = lines x.event x.shows x.reached in record {
+    -- who sees these calls, and may ask, sees the call with this line
+    abbrev pub SeesNext : Step → Type 0
+    SeesNext line = (calls : List (Call E)) → Sees types old calls → MayCall old.sites old.parts (entries calls) at ask → Given (entries calls) → IfSome number (λ n. 0 ≡ n) → session.GoesOn (λ s (p : P) r. Sees types s r) (λ (p : P) n. true) new pass calls number at ask line
+
+    pub seen_at : (Shows : Event E → Type 0) → GoesOn types old new (Asks types old Given at ask) at ask Shows → (line : Step) (calls : List (Call E)) → Lines Shows line calls → Sees types old calls → MayCall old.sites old.parts (entries calls) at ask → Given (entries calls) → IfSome number (λ n. 0 ≡ n) → session.GoesOn (λ s (p : P) r. Sees types s r) (λ (p : P) n. true) new pass calls number at ask line
+    seen_at Shows g line calls lines s may given b =
+        let x = (g.goes (entries calls) s.reached (may, given)).0 in
+        let l = lines x.event x.shows in record {
           more = [];
           others = tt;
           by = 0;
@@ -60,71 +93,151 @@ module _ {S E : Type 0} (kinds : Kinds S E) where
           bears = b;
           event = x.event;
           asked = x.asked;
-          own_word = x.own_word;
+          own_word = l.1;
           shows = l.0;
-          seen = record { reached = x.reached; calm = (l.1, s.calm); one_caller = (refl, s.one_caller) };
+          seen = record { reached = x.reached; one_caller = (refl, s.one_caller) };
         }
 
+    pub seen_on : (Shows : Event E → Type 0) → GoesOn types old new (Asks types old Given at ask) at ask Shows → (line : Step) → ((calls : List (Call E)) → Lines Shows line calls) → SeesNext line
+    seen_on Shows g line lines calls s may given b = seen_at Shows g line calls (lines calls) s may given b
+
     -- just this event
-    pub exact_on : (event : Event E) → GoesOn kinds old new Given at ask (λ e. e ≡ event) → (answer : Step) (calls : List (Call E)) → Sees kinds old calls → MayCall old.sites old.parts (entries calls) at ask → Given (entries calls) → IfSome number (λ n. 0 ≡ n)
-        → answer ≡ step_shown (entries calls) at event → is_calm event ≡ true
-        → session.GoesOn (λ s (p : P) r. Sees kinds s r) (λ (p : P) n. true) new pass calls number at ask answer
-    exact_on event g answer calls s may given b line calm = seen_on (λ e. e ≡ event) g answer calls s may given b (λ e k r. subst (λ x. (answer ≡ step_shown (entries calls) at x) × (is_calm x ≡ true)) (sym k) (line, calm))
+    pub exact_on : (event : Event E) → GoesOn types old new (Asks types old Given at ask) at ask (λ e. e ≡ event) → (line : Step) → ((calls : List (Call E)) → line ≡ step_shown (entries calls) at event) → is_own_word (attempt event) ≡ true → SeesNext line
+    exact_on event g line is own = seen_on (λ e. e ≡ event) g line (λ calls e k. subst (λ x. (line ≡ step_shown (entries calls) at x) × (is_own_word (attempt x) ≡ true)) (sym k) (is calls, own))
 
     -- a refusal
-    pub refused_on : (why : part.Refusal) → GoesOn kinds old new Given at ask (λ e. e ≡ Refused ask (cause why)) → (line : Step) → line ≡ refusal_line at (tx_asked ask) (number_asked ask) (cause why)
-        → (calls : List (Call E)) → Sees kinds old calls → MayCall old.sites old.parts (entries calls) at ask → Given (entries calls) → IfSome number (λ n. 0 ≡ n)
-        → session.GoesOn (λ s (p : P) r. Sees kinds s r) (λ (p : P) n. true) new pass calls number at ask line
-    refused_on why g line is calls s may given b = seen_on (λ e. e ≡ Refused ask (cause why)) g line calls s may given b
-        (λ e k r.
-        let r' : Reaches kinds new ((record { at = at; event = Refused ask (cause why) }) ∷ entries calls) = subst (λ x. Reaches kinds new ((record { at = at; event = x }) ∷ entries calls)) k r in
-        subst (λ x. (line ≡ step_shown (entries calls) at x) × (is_calm x ≡ true)) (sym k) (is ∙ sym (refusal_is (entries calls) at ask (cause why)), plain_refused new (entries calls) at ask why r'))
+    pub refused_on : (why : Refusal) → GoesOn types old new (Asks types old Given at ask) at ask (λ e. e ≡ Refused ask why) → (line : Step) → line ≡ refusal_line at (tx_asked ask) (number_asked ask) why → SeesNext line
+    refused_on why g line is = exact_on (Refused ask why) g line (λ calls. is ∙ sym (refusal_is (entries calls) at ask why)) refl
 
-    -- the size of the cluster stays
-    pub size_on : (Shows : Event E → Type 0) → GoesOn kinds old new Given at ask Shows → SameSize old new
-    size_on Shows g = record { sites_are = g.same_sites; parts_are = g.same_parts }
+    -- a fault of the disk has this line, on the word of who asks
+    abbrev pub FaultsAs : {A : Type 0} → (A → Event E → Type 0) → Step → Type 0
+    FaultsAs {A} Shows fault = (x : A) (what : Event E) → Shows x what → (fault ≡ fault_shown at what) × (is_own_word what ≡ true)
 
-    -- a refusal, or want of memory
-    pub failed_on : {A X : Type 0} (Shows : A → Event E → Type 0) (error : CallError) (r : Result Step X) → Calls kinds old new Given at ask Shows (Err error) → FailedAs at (tx_asked ask) (number_asked ask) error r → (Q : Step → Type 0)
-        → ((line : Step) → ((calls : List (Call E)) → Sees kinds old calls → MayCall old.sites old.parts (entries calls) at ask → Given (entries calls) → IfSome number (λ n. 0 ≡ n) → session.GoesOn (λ s (p : P) r. Sees kinds s r) (λ (p : P) n. true) new pass calls number at ask line) → Q line)
-        → IfOk r Q
-    failed_on Shows call.NoMemory (Ok line) g f Q q = absurd f
-    failed_on Shows (call.Refused why) (Ok line) g f Q q = q line (refused_on why g line f)
-    failed_on Shows error (Err x) g f Q q = tt
+    pub cut_on : {A : Type 0} (Shows : A → Event E → Type 0) (fault : Step) → FaultsAs Shows fault → GoesOn types old new (Asks types old Given at ask) at ask (IsCutOff Shows) → (line : Step) → line ≡ fault → SeesNext line
+    cut_on Shows fault faults g line is = seen_on (IsCutOff Shows) g line
+        (λ calls e k. let f = faults k.1.0 k.0 k.1.1 in subst (λ x. (line ≡ step_shown (entries calls) at x) × (is_own_word (attempt x) ≡ true)) (sym k.2) (is ∙ f.0, f.1))
 
-    pub stays_if : new ≡ old → (calls : List (Call E)) → Sees kinds old calls → session.Stays (λ s (p : P) r. Sees kinds s r) (λ (p : P) n. true) new pass calls
-    stays_if same calls s = record { more = []; others = tt; seen = subst (λ c. Sees kinds c calls) (sym same) s }
+    -- a call that isn't answered
+    pub failed_on : {A X : Type 0} (Shows : A → Event E → Type 0) (fault : Step) → FaultsAs Shows fault → (error : DurableError) (r : Result Step X) → Calls types old new Given at ask Shows (Err error) → FailedAs at (tx_asked ask) (number_asked ask) fault error r → (Q : Step → Type 0) → ((line : Step) → SeesNext line → Q line) → IfOk r Q
+    failed_on Shows fault faults call.NoMemory (Ok line) g f Q q = absurd f
+    failed_on Shows fault faults call.Down (Ok line) g f Q q = q line (refused_on IsDown g.1 line f)
+    failed_on Shows fault faults call.Disk (Ok line) g f Q q = q line (cut_on Shows fault faults g.0 line f)
+    failed_on Shows fault faults (call.Full room) (Ok line) g f Q q = q line (refused_on (HasNoRoom room) g.1 line f)
+    failed_on Shows fault faults (call.Refused why) (Ok line) g f Q q = q line (refused_on (cause why) g line f)
+    failed_on Shows fault faults error (Err x) g f Q q = tt
 
-    pub failed_at : {A X : Type 0} (Shows : A → Event E → Type 0) (error : CallError) (x : X) → Calls kinds old new Given at ask Shows (Err error) → FailedAs at (tx_asked ask) (number_asked ask) error (Err x) → (calls : List (Call E)) → Sees kinds old calls → session.Stays (λ s (p : P) r. Sees kinds s r) (λ (p : P) n. true) new pass calls
-    failed_at Shows call.NoMemory x g f = stays_if g
-    failed_at Shows (call.Refused why) x g f = absurd f
+    stays_if : new ≡ old → (calls : List (Call E)) → Sees types old calls → session.Stays (λ s (p : P) r. Sees types s r) (λ (p : P) n. true) new pass calls
+    stays_if same calls s = record { more = []; others = tt; seen = subst (λ c. Sees types c calls) (sym same) s }
 
-    pub failed_stays : {A X : Type 0} (Shows : A → Event E → Type 0) (error : CallError) (r : Result Step X) → Calls kinds old new Given at ask Shows (Err error) → FailedAs at (tx_asked ask) (number_asked ask) error r
-        → IfErr r (λ e. (calls : List (Call E)) → Sees kinds old calls → session.Stays (λ s (p : P) r. Sees kinds s r) (λ (p : P) n. true) new pass calls)
-    failed_stays Shows call.NoMemory (Err x) g f = stays_if g
-    failed_stays Shows (call.Refused why) (Err x) g f = absurd f
-    failed_stays Shows error (Ok line) g f = tt
+    pub failed_stays : {A X : Type 0} (Shows : A → Event E → Type 0) (fault : Step) (error : DurableError) (r : Result Step X) → Calls types old new Given at ask Shows (Err error) → FailedAs at (tx_asked ask) (number_asked ask) fault error r
+        → IfErr r (λ e. (calls : List (Call E)) → Sees types old calls → session.Stays (λ s (p : P) r. Sees types s r) (λ (p : P) n. true) new pass calls)
+    failed_stays Shows fault call.NoMemory (Err x) g f = stays_if g
+    failed_stays Shows fault call.Down (Err x) g f = absurd f
+    failed_stays Shows fault call.Disk (Err x) g f = absurd f
+    failed_stays Shows fault (call.Full room) (Err x) g f = absurd f
+    failed_stays Shows fault (call.Refused why) (Err x) g f = absurd f
+    failed_stays Shows fault error (Ok line) g f = tt
 
-    pub called_size : {A : Type 0} (Shows : A → Event E → Type 0) (r : Result A CallError) → Calls kinds old new Given at ask Shows r → SameSize old new
-    called_size Shows (Ok x) g = size_on (Shows x) g
-    called_size Shows (Err call.NoMemory) same = subst (λ c. SameSize old c) (sym same) (size_refl old)
-    called_size Shows (Err (call.Refused why)) g = size_on (λ e. e ≡ Refused ask (cause why)) g
+    -- what such a call tells of a disk
+    no_fault : (tx : TxId) (n : ℕ) (why : part.Refusal) → TellsFault types.state old new at (refusal_line at tx n (cause why))
+    no_fault tx n answer.BadOp = tt
+    no_fault tx n other = tt
+
+    pub failed_tells : {A X : Type 0} (Shows : A → Event E → Type 0) (fault : Step) → (FaultsRose types.state old new at → TellsFault types.state old new at fault) → (error : DurableError) (r : Result Step X) → Calls types old new Given at ask Shows (Err error) → FailedAs at (tx_asked ask) (number_asked ask) fault error r → IfOk r (λ line. TellsFault types.state old new at line)
+    failed_tells Shows fault tells call.NoMemory (Ok line) g f = absurd f
+    failed_tells Shows fault tells call.Down (Ok line) g f = subst (TellsFault types.state old new at) (sym f) tt
+    failed_tells Shows fault tells call.Disk (Ok line) g f = subst (TellsFault types.state old new at) (sym f) (tells (rose_of types.state old new at g.0.moves g.1))
+    failed_tells Shows fault tells (call.Full room) (Ok line) g f = subst (TellsFault types.state old new at) (sym f) tt
+    failed_tells Shows fault tells (call.Refused why) (Ok line) g f = subst (TellsFault types.state old new at) (sym f) (no_fault (tx_asked ask) (number_asked ask) why)
+    failed_tells Shows fault tells error (Err x) g f = tt
+
+    -- the same, where the result of the call is taken apart
+    pub failed_line : {A : Type 0} (X : Type 0) (Shows : A → Event E → Type 0) (fault : Step) → FaultsAs Shows fault → (error : DurableError) (line : Step) → Calls types old new Given at ask Shows (Err error) → FailedAs {X = X} at (tx_asked ask) (number_asked ask) fault error (Ok line) → SeesNext line
+    failed_line X Shows fault faults error line g f = let r : Result Step X = Ok line in failed_on Shows fault faults error r g f SeesNext (λ l q. q)
+
+    pub line_tells : {A : Type 0} (X : Type 0) (Shows : A → Event E → Type 0) (fault : Step) → (FaultsRose types.state old new at → TellsFault types.state old new at fault) → (error : DurableError) (line : Step) → Calls types old new Given at ask Shows (Err error) → FailedAs {X = X} at (tx_asked ask) (number_asked ask) fault error (Ok line) → TellsFault types.state old new at line
+    line_tells X Shows fault tells error line g f = let r : Result Step X = Ok line in failed_tells Shows fault tells error r g f
+
+    pub error_stays : {A : Type 0} (X : Type 0) (Shows : A → Event E → Type 0) (fault : Step) (error : DurableError) (x : X) → Calls types old new Given at ask Shows (Err error) → FailedAs {X = X} at (tx_asked ask) (number_asked ask) fault error (Err x) → (calls : List (Call E)) → Sees types old calls → session.Stays (λ s (p : P) r. Sees types s r) (λ (p : P) n. true) new pass calls
+    error_stays X Shows fault error x g f = let r : Result Step X = Err x in failed_stays Shows fault error r g f
+
+    -- the cluster stays the same
+    pub called_same : {A : Type 0} (Shows : A → Event E → Type 0) (r : Result A DurableError) → Calls types old new Given at ask Shows r → SameCluster types.state old new
+    called_same Shows (Ok x) g = same_of types.state old new at g.moves
+    called_same Shows (Err call.NoMemory) same = subst (λ c. SameCluster types.state old c) (sym same) (same_refl types.state old)
+    called_same Shows (Err call.Down) g = same_of types.state old new at g.1.moves
+    called_same Shows (Err call.Disk) g = same_of types.state old new at g.0.moves
+    called_same Shows (Err (call.Full room)) g = same_of types.state old new at g.1.moves
+    called_same Shows (Err (call.Refused why)) g = same_of types.state old new at g.moves
 
     -- what was done, whatever line it has
-    pub did_on : (event : Event E) → GoesOn kinds old new Given at ask (λ e. e ≡ event) → (calls : List (Call E)) → Sees kinds old calls → MayCall old.sites old.parts (entries calls) at ask → Given (entries calls) → is_calm event ≡ true
-        → session.Did (λ s (p : P) r. Sees kinds s r) (λ (p : P) n. true) new pass calls at event
-    did_on event g calls s may given calm =
-        let x = g.goes (entries calls) s.reached may given in record {
+    pub did_on : (event : Event E) → GoesOn types old new (Asks types old Given at ask) at ask (λ e. e ≡ event) → (calls : List (Call E)) → Sees types old calls → MayCall old.sites old.parts (entries calls) at ask → Given (entries calls)
+        → session.Did (λ s (p : P) r. Sees types s r) (λ (p : P) n. true) new pass calls at event
+    did_on event g calls s may given =
+        let x = (g.goes (entries calls) s.reached (may, given)).0 in record {
           more = [];
           others = tt;
           by = 0;
           held = refl;
-          seen = record {
-            reached = subst (λ e. Reaches kinds new ((record { at = at; event = e }) ∷ entries calls)) x.shows x.reached;
-            calm = (calm, s.calm);
-            one_caller = (refl, s.one_caller);
-          };
+          seen = record { reached = subst (λ e. Reaches types new ((record { at = at; event = e }) ∷ entries calls)) x.shows x.reached; one_caller = (refl, s.one_caller) };
         }
+
+  -- the same, as the partitions stand in the code that calls them
+  pub calls_here : {A : Type 0} (inside old new : Held E D) → inside ≡ old → (Given : List (Entry E) → Type 0) (at : PartId) (ask : Ask E) (Shows : A → Event E → Type 0) (r : Result A DurableError) → Calls types inside new Given at ask Shows r → Calls types old new Given at ask Shows r
+  calls_here inside old new view Given at ask Shows r g = subst (λ h. Calls types h new Given at ask Shows r) view g
+
+  module _ {P : Type 0} (old new : Held E D) (Given : List (Entry E) → Type 0) (at : PartId) (tx : TxId) (v : List ℕ) (o : ObjectId) (own : List (Upd E)) (op : Op) (pass : P) (by : ℕ) where
+    abbrev update : Ask E
+    update = AskUpdate tx v o own op
+
+    changes_of : (calls : List (Call E)) → Sees types old calls → 0 ≡ by → (line : Step) (made : Option E) (e : Event E) → asked_by (attempt e) ≡ update → is_own_word (attempt e) ≡ true → Reaches types new ((record { at = at; event = e }) ∷ entries calls) → line ≡ step_shown (entries calls) at e → made ≡ effect_made e
+        → session.Changes (λ s (p : P) r. Sees types s r) (λ (p : P) n. true) new pass calls by at update line made
+    changes_of calls s b line made e asked own_word reached shows effect = record {
+      goes = record {
+        more = [];
+        others = tt;
+        by = 0;
+        held = refl;
+        bears = b;
+        event = e;
+        asked = asked;
+        own_word = own_word;
+        shows = shows;
+        seen = record { reached = reached; one_caller = (refl, s.one_caller) };
+      };
+      effect = effect;
+    }
+
+    -- an update that was made
+    pub changes_on : (u : Upd E) (stamp : Option ℕ) → GoesOn types old new (Asks types old Given at update) at update (λ e. (read : List (Part E)) × (e ≡ Updated tx v o own op read u stamp)) → (line : Step) (calls : List (Call E)) → Sees types old calls → MayCall old.sites old.parts (entries calls) at update → Given (entries calls) → 0 ≡ by
+        → line ≡ step.Updated (session_of (entries calls) tx) o stamp
+        → session.Changes (λ s (p : P) r. Sees types s r) (λ (p : P) n. true) new pass calls by at update line (Some u.effect)
+    changes_on u stamp g line calls s may given b is =
+        let x = (g.goes (entries calls) s.reached (may, given)).0 in
+        let k : x.event ≡ Updated tx v o own op x.shows.0 u stamp = x.shows.1 in
+        changes_of calls s b line (Some u.effect) x.event x.asked (subst (λ y. is_own_word (attempt y) ≡ true) (sym k) refl) x.reached (subst (λ y. line ≡ step_shown (entries calls) at y) (sym k) is) (ap effect_made (sym k))
+
+    unmade_by : (event : Event E) → GoesOn types old new (Asks types old Given at update) at update (λ e. e ≡ event) → (line : Step) (calls : List (Call E)) → Sees types old calls → MayCall old.sites old.parts (entries calls) at update → Given (entries calls) → 0 ≡ by
+        → line ≡ step_shown (entries calls) at event → is_own_word (attempt event) ≡ true → None ≡ effect_made event
+        → session.Changes (λ s (p : P) r. Sees types s r) (λ (p : P) n. true) new pass calls by at update line None
+    unmade_by event g line calls s may given b is own none =
+        let x = (g.goes (entries calls) s.reached (may, given)).0 in
+        changes_of calls s b line None x.event x.asked (subst (λ y. is_own_word (attempt y) ≡ true) (sym x.shows) own) x.reached (subst (λ y. line ≡ step_shown (entries calls) at y) (sym x.shows) is) (subst (λ y. None ≡ effect_made y) (sym x.shows) none)
+
+    -- one that wasn't
+    pub unchanged_on : {A : Type 0} (X : Type 0) (Shows : A → Event E → Type 0) (error : DurableError) (line : Step) → Calls types old new Given at update Shows (Err error) → FailedAs {X = X} at (tx_asked update) (number_asked update) (step.Disk at) error (Ok line)
+        → ((x : A) (what : Event E) → Shows x what → (fault_shown at what ≡ step.Disk at) × (is_own_word what ≡ true))
+        → (calls : List (Call E)) → Sees types old calls → MayCall old.sites old.parts (entries calls) at update → Given (entries calls) → 0 ≡ by
+        → session.Changes (λ s (p : P) r. Sees types s r) (λ (p : P) n. true) new pass calls by at update line None
+    unchanged_on X Shows call.NoMemory line g f faults calls s may given b = absurd f
+    unchanged_on X Shows call.Down line g f faults calls s may given b = unmade_by (Refused update IsDown) g.1 line calls s may given b f refl refl
+    unchanged_on X Shows call.Disk line g f faults calls s may given b =
+        let x = (g.0.goes (entries calls) s.reached (may, given)).0 in
+        let k : x.event ≡ Cut x.shows.0 = x.shows.2 in
+        let cut = faults x.shows.1.0 x.shows.0 x.shows.1.1 in
+        changes_of calls s b line None x.event x.asked (subst (λ y. is_own_word (attempt y) ≡ true) (sym k) cut.1) x.reached (subst (λ y. line ≡ step_shown (entries calls) at y) (sym k) (f ∙ sym cut.0)) (subst (λ y. None ≡ effect_made y) (sym k) refl)
+    unchanged_on X Shows (call.Full room) line g f faults calls s may given b = unmade_by (Refused update (HasNoRoom room)) g.1 line calls s may given b f refl refl
+    unchanged_on X Shows (call.Refused why) line g f faults calls s may given b = unmade_by (Refused update (cause why)) g line calls s may given b (f ∙ sym (refusal_is (entries calls) at update (cause why))) refl refl
 
 -- who calls by the number of its transaction calls by 0
 pub number_is : {E : Type 0} (calls : List (Call E)) (t : TxId) (by : ℕ) → AllBear 0 calls → by ≡ caller_of calls t → 0 ≡ by
@@ -135,49 +248,18 @@ pub all_within : {E : Type 0} (calls : List (Call E)) → Within calls calls
 all_within [] = refl
 all_within (c ∷ calls) = inr (calls, refl, all_within calls)
 
-pub released_on : {S E P X : Type 0} (kinds : Kinds S E) (old new : Held E) (at : PartId) (pass : P) (to : ℕ) (from : Option ℕ) (r : Result (Message E) X)
-    → IfOk r (λ m. (m.to ≡ to) × GoesOn kinds old new Any at (AskMessage to from) (λ e. e ≡ Sent from m))
-    → IfOk r (λ m. (m.to ≡ to) × ((calls : List (Call E)) → Sees kinds old calls → session.Did (λ s (p : P) r. Sees kinds s r) (λ (p : P) n. true) new pass calls at (Sent from m)))
-released_on kinds old new at pass to from (Ok m) g = (g.0, λ calls s. did_on kinds old new Any at (AskMessage to from) pass None (Sent from m) g.1 calls s tt tt refl)
-released_on kinds old new at pass to from (Err x) g = tt
+-- the line of a fault of what did just this
+pub fault_of : {E : Type 0} (at : PartId) (fault : Step) (event : Event E) → fault ≡ fault_shown at event → is_own_word event ≡ true → (what : Event E) → what ≡ event → (fault ≡ fault_shown at what) × (is_own_word what ≡ true)
+fault_of at fault event is own what k = subst (λ y. (fault ≡ fault_shown at y) × (is_own_word y ≡ true)) (sym k) (is, own)
 
-changes_of : {S E P : Type 0} (kinds : Kinds S E) (old new : Held E) (at : PartId) (ask : Ask E) (pass : P) (by : ℕ) (calls : List (Call E)) → Sees kinds old calls → 0 ≡ by → (answer : Step) (made : Option E) (e : Event E) → asked_by (attempt e) ≡ ask → is_own_word (attempt e) ≡ true → Reaches kinds new ((record { at = at; event = e }) ∷ entries calls) → answer ≡ step_shown (entries calls) at e → is_calm e ≡ true → made ≡ effect_made e
-    → session.Changes (λ s (p : P) r. Sees kinds s r) (λ (p : P) n. true) new pass calls by at ask answer made
-changes_of kinds old new at ask pass by calls s b answer made e asked own_word reached shows calm effect = record {
-  goes = record {
-    more = [];
-    others = tt;
-    by = 0;
-    held = refl;
-    bears = b;
-    event = e;
-    asked = asked;
-    own_word = own_word;
-    shows = shows;
-    seen = record { reached = reached; calm = (calm, s.calm); one_caller = (refl, s.one_caller) };
-  };
-  effect = effect;
-}
+-- what a store's caller may ask, the partitions may be asked
+module _ {S E D P : Type 0} (types : Types S E D) (inside old : Held E D) (view : inside ≡ old) (pass : P) (number : Option ℕ) (at : PartId) (ask : Ask E) (m : session.MayCall (λ s (p : P) l. Sees types s l) (λ (p : P) n. true) old.sites old.parts old pass number at ask) where
+  pub place_here : IsPlace inside.sites inside.parts at
+  place_here = subst (λ (h : Held E D). IsPlace h.sites h.parts at) (sym view) m.place
 
-module _ {S E P : Type 0} (kinds : Kinds S E) (old new : Held E) (Given : List (Entry E) → Type 0) (at : PartId) (tx : TxId) (v : List ℕ) (o : ObjectId) (own : List (Upd E)) (op : Op) (pass : P) (by : ℕ) where
-  abbrev ask : Ask E
-  ask = AskUpdate tx v o own op
+  pub may_here : MayAsk types inside at ask
+  may_here = subst (λ (h : Held E D). MayAsk types h at ask) (sym view) (record { place = m.place; run = entries m.run; reached = m.seen.reached; allowed = m.allowed.may })
 
-  -- an update that was made
-  pub changes_on : (u : Upd E) (stamp : Option ℕ) → GoesOn kinds old new Given at ask (λ e. (read : List (Part E)) × (e ≡ Updated tx v o own op read u stamp)) → (answer : Step) (calls : List (Call E)) → Sees kinds old calls → MayCall old.sites old.parts (entries calls) at ask → Given (entries calls) → 0 ≡ by
-      → answer ≡ step.Updated (session_of (entries calls) tx) o stamp
-      → session.Changes (λ s (p : P) r. Sees kinds s r) (λ (p : P) n. true) new pass calls by at ask answer (Some u.effect)
-  changes_on u stamp g answer calls s may given b line =
-      let x = g.goes (entries calls) s.reached may given in
-      let k : x.event ≡ Updated tx v o own op x.shows.0 u stamp = x.shows.1 in
-      changes_of kinds old new at ask pass by calls s b answer (Some u.effect) x.event x.asked x.own_word x.reached (subst (λ y. answer ≡ step_shown (entries calls) at y) (sym k) line) (subst (λ y. is_calm y ≡ true) (sym k) refl) (ap effect_made (sym k))
-
-  -- a refused one
-  pub unchanged_on : {A : Type 0} (X : Type 0) (Shows : A → Event E → Type 0) (error : CallError) (line : Step) → Calls kinds old new Given at ask Shows (Err error) → FailedAs {X = X} at (tx_asked ask) (number_asked ask) error (Ok line) → (calls : List (Call E)) → Sees kinds old calls → MayCall old.sites old.parts (entries calls) at ask → Given (entries calls) → 0 ≡ by
-      → session.Changes (λ s (p : P) r. Sees kinds s r) (λ (p : P) n. true) new pass calls by at ask line None
-  unchanged_on X Shows call.NoMemory line g f calls s may given b = absurd f
-  unchanged_on X Shows (call.Refused why) line g f calls s may given b =
-      let x = g.goes (entries calls) s.reached may given in
-      let k : x.event ≡ Refused ask (cause why) = x.shows in
-      let r : Reaches kinds new ((record { at = at; event = Refused ask (cause why) }) ∷ entries calls) = subst (λ y. Reaches kinds new ((record { at = at; event = y }) ∷ entries calls)) k x.reached in
-      changes_of kinds old new at ask pass by calls s b line None (Refused ask (cause why)) refl refl r (f ∙ sym (refusal_is (entries calls) at ask (cause why))) (plain_refused kinds new (entries calls) at ask why r) refl
+  -- what began, some run that they reached began
+  pub began_here : (t : TxId) → begun (entries m.run) t ≡ true → HasBegun types inside t
+  began_here t b = subst (λ (h : Held E D). HasBegun types h t) (sym view) (record { run = entries m.run; reached = m.seen.reached; begun = b })

@@ -1,10 +1,9 @@
 -- A message or a report that is made, and kept under the next number.
 use Rattle.std.proofs.Common.{◌≡◌, ◌≤◌, inl, inr, ℕ, ◌+◌, Bool, true, false, List, [], ◌∷◌, length, refl, sym, ap, ◌∙◌, subst, Option, Some, arith}
-use Rattle.std.specs.Prelude.{not, nat_eq, ◌&&◌, ◌||◌, ◌==◌, if◌then◌else◌}
+use Rattle.std.specs.Prelude.{not, nat_eq, ◌&&◌, ◌||◌, ◌==◌, if◌then◌else◌, Ok, Err}
 use Rattle.std.proofs.lemmas.Bool.{cond-false, cond-true, eqb-true}
 use Rattle.site_vector.specs.declared.ids.PartId.{PartId}
 use Rattle.site_vector.specs.Ids.{same_part}
-use Rattle.crdt_core.specs.KindsOf.{Kinds}
 use Rattle.crdt_core.specs.declared.record.Message.{Message}
 use Rattle.world_model.specs.declared.command.Command.TheVariants as command
 use Rattle.world_model.specs.declared.step.Step.{Step}
@@ -12,26 +11,33 @@ use Rattle.world_model.specs.declared.step.Step.TheVariants as step
 use Rattle.world_model.specs.Answers.{answered}
 use Rattle.world_model.specs.Cluster.{has_site, has_part}
 use Rattle.world_model.specs.Event as event
-use Rattle.world_model.specs.Event.{AskMessage, AskReport, Event, Entry, Sent, Reported, WasNumbered}
-use Rattle.world_model.specs.Lines.{SendTo}
+use Rattle.world_model.specs.Event.{AskMessage, AskReport, Event, Entry, Sent, Reported, Cut, WasNumbered}
+use Rattle.world_model.specs.Lines.{SendTo, call_of, call_asked, fault_shown}
 use Rattle.world_model.specs.Messages.{message_of, report_of}
 use Rattle.world_model.specs.Partition.{IsOther, IsMessage}
 use Rattle.world_model.specs.Plan.{IsPlace}
 use Rattle.world_model.specs.Run.{Run}
 use Rattle.world_model.specs.ScriptAnswers.{AnswersBy, IsAnswer}
+use Rattle.partition_core.specs.declared.durable.DurableError.{DurableError}
 use Rattle.txn_session.specs.Calls.{entries}
 use Rattle.cluster.specs.declared.post.Note.{Note}
-use Rattle.cluster.specs.Answers.{Any, GoesOn}
+use Rattle.site_partitions.specs.Answers.{Any, Asks, GoesOn, Calls}
 use Rattle.cluster.specs.Built.{is_built}
-use Rattle.cluster.specs.Held.{Held, SameSize, size_refl, holds_part}
+use Rattle.cluster.specs.Faults.{ShowFaults}
+use Rattle.cluster.specs.Sees.{FailedAs}
+use Rattle.site_partitions.specs.Held.{Held, holds_part}
+use Rattle.cluster.specs.Same.{SameCluster, same_refl}
 use Rattle.cluster.specs.Post.{WholeState, HasPost, IsLetter, MailAs, IsNote, NoteAs, kept_at, lacks_way}
 use Rattle.cluster.specs.Reached.{Applies, ReachedWhole}
-use Rattle.cluster.specs.Reaches.{Reaches}
+use Rattle.site_partitions.specs.Reaches.{Types, Reaches}
 use Rattle.cluster.proofs.Clocks.{site_in, part_in}
+use Rattle.cluster.proofs.Delivering.{is_failing, struck}
 use Rattle.cluster.proofs.Dropping.{turned_down}
+use Rattle.cluster.proofs.Faulted.{same_of}
 use Rattle.cluster.proofs.Keeping.{letter_at, note_at, none_and}
 use Rattle.cluster.proofs.Meets.{all_met, first_at, none_due}
 use Rattle.cluster.proofs.Posting.{IsPosted, posted}
+use Rattle.cluster.proofs.Turning.{IsSilentFor}
 
 sent_posted : (p at : PartId) (site to number lo hi count : ℕ) (from : Option ℕ) → IsPosted (command.Send p site from) (step.Sent number at to lo hi count)
 sent_posted p at site to number lo hi count from = record { alone = refl; answer = refl; cluster = refl; sites = λ n. refl; parts = λ n. refl; site = λ who old. refl; count = λ n. refl; phase = λ parts who old. refl }
@@ -50,35 +56,38 @@ not_next n k h = by_bool (nat_eq n k) refl
     by_bool true e = absurd (let x = eqb-true n k e in omega (arith, x, h))
     by_bool false e = refl
 
-module _ {S E : Type 0} (kinds : Kinds S E) (w : WholeState E) where
+module _ {S E D : Type 0} (types : Types S E D) (w : WholeState E D) where
   module _ (at : PartId) (site : ℕ) (from : Option ℕ) where
-    way_in : (run : Run) → ReachedWhole kinds w run → (not (has_part run at) || (not (has_site run site) || site == at.site)) ≡ lacks_way w.live.sites at site
-    way_in run r = λ i. not (sym (part_in kinds w.live run r.live at) i) || (not (sym (site_in kinds w.live run r.live site) i) || site == at.site)
+    way_in : (run : Run) → ReachedWhole types w run → (not (has_part run at) || (not (has_site run site) || site == at.site)) ≡ lacks_way w.live.sites at site
+    way_in run r = λ i. not (sym (part_in types w.live run r.live at) i) || (not (sym (site_in types w.live run r.live site) i) || site == at.site)
 
-    pub send_nowhere : (steps : List Step) → steps ≡ step.NoPart ∷ [] → lacks_way w.live.sites at site ≡ true → Applies kinds (Some w) (command.Send at site from) steps (Some w)
-    send_nowhere steps is lacks = turned_down kinds w (command.Send at site from) step.NoPart steps is refl
+    pub send_nowhere : (steps : List Step) → steps ≡ step.NoPart ∷ [] → lacks_way w.live.sites at site ≡ true → Applies types (Some w) (command.Send at site from) steps (Some w)
+    send_nowhere steps is lacks = turned_down types w (command.Send at site from) step.NoPart steps is refl
         (λ run r. first_at (all_met run (command.Send at site from)) 2 (refl, (ap not r.live.has, way_in run r ∙ lacks)))
         (λ run who. refl)
 
-    pub send_full : (steps : List Step) → steps ≡ step.LimitMessages ∷ [] → lacks_way w.live.sites at site ≡ false → (length w.post.letters == 4096) ≡ true → Applies kinds (Some w) (command.Send at site from) steps (Some w)
-    send_full steps is way full = turned_down kinds w (command.Send at site from) step.LimitMessages steps is refl
+    pub send_full : (steps : List Step) → steps ≡ step.LimitMessages ∷ [] → lacks_way w.live.sites at site ≡ false → (length w.post.letters == 4096) ≡ true → Applies types (Some w) (command.Send at site from) steps (Some w)
+    send_full steps is way full = turned_down types w (command.Send at site from) step.LimitMessages steps is refl
         (λ run r. first_at (all_met run (command.Send at site from)) 3 (refl, (ap not r.live.has, (way_in run r ∙ way, ap (λ n. n == 4096) (sym r.post.kept) ∙ full))))
         (λ run who. refl)
 
-    module _ (held : Held E) (m : Message E) (letters : List (ℕ × Message E)) (to : m.to ≡ site) (g : GoesOn kinds w.live.sites held Any at (AskMessage site from) (λ e. e ≡ Sent from m))
+    module _ (held : Held E D) (m : Message E) (letters : List (ℕ × Message E)) (g : GoesOn types w.live.sites held (Asks types w.live.sites Any at (AskMessage site from)) at (AskMessage site from) (λ e. (m.to ≡ site) × (e ≡ Sent from m)))
         (find : (k : ℕ) → kept_at letters k ≡ (if nat_eq w.post.next_letter k then Some m else kept_at w.post.letters k)) (count : length letters ≡ length w.post.letters + 1) where
-      abbrev pub after_send : WholeState E
+      abbrev pub after_send : WholeState E D
       after_send = record { live = record { sites = held; sessions = w.live.sessions }; post = record { letters = letters; next_letter = w.post.next_letter + 1; notes = w.post.notes; next_note = w.post.next_note } }
 
-      module _ (line : ℕ) (run : Run) (r : ReachedWhole kinds w run) where
+      module _ (line : ℕ) (run : Run) (r : ReachedWhole types w run) where
         abbrev next : Run
         next = (record { number = line; command = Some (command.Send at site from); step = step.Sent w.post.next_letter at site m.lo m.hi (length m.parts) }) ∷ run
 
         abbrev later : List (Entry E)
         later = (record { at = at; event = Sent from m }) ∷ entries r.live.calls
 
-        reached : Reaches kinds held later
-        reached = let x = g.goes (entries r.live.calls) r.live.sees.reached tt tt in subst (λ e. Reaches kinds held ((record { at = at; event = e }) ∷ entries r.live.calls)) x.shows x.reached
+        reached : Reaches types held later
+        reached = let x = (g.goes (entries r.live.calls) r.live.sees.reached (tt, tt)).0 in subst (λ e. Reaches types held ((record { at = at; event = e }) ∷ entries r.live.calls)) x.shows.1 x.reached
+
+        to : m.to ≡ site
+        to = (g.goes (entries r.live.calls) r.live.sees.reached (tt, tt)).0.shows.0
 
         abbrev made : IsMessage held.sites at (reached.is_run.0 at) from m
         made = reached.is_run.2.step.1
@@ -87,10 +96,10 @@ module _ {S E : Type 0} (kinds : Kinds S E) (w : WholeState E) where
         from_is = λ i. record { site = sym made.from i; part = sym made.part i }
 
         home : IsPlace w.live.sites.sites w.live.sites.parts at
-        home = subst (λ n. IsPlace n w.live.sites.parts at) g.same_sites (subst (λ n. IsPlace held.sites n at) g.same_parts reached.is_run.2.place)
+        home = subst (λ n. IsPlace n w.live.sites.parts at) g.moves.same_sites (subst (λ n. IsPlace held.sites n at) g.moves.same_parts reached.is_run.2.place)
 
         way : IsOther w.live.sites.sites at.site m.to
-        way = subst (λ n. IsOther n at.site m.to) g.same_sites made.to
+        way = subst (λ n. IsOther n at.site m.to) g.moves.same_sites made.to
 
         fresh : nat_eq w.post.next_letter w.post.next_letter ≡ true → IsLetter w.live.sites.sites w.live.sites.parts next later w.post.next_letter m
         fresh same = record {
@@ -123,53 +132,62 @@ module _ {S E : Type 0} (kinds : Kinds S E) (w : WholeState E) where
           beyond = r.post.beyond;
         }
 
-        whole : ReachedWhole kinds after_send next
+        whole : ReachedWhole types after_send next
         whole =
-            let size : SameSize w.live.sites held = record { sites_are = g.same_sites; parts_are = g.same_parts } in
+            let size : SameCluster types.state w.live.sites held = same_of types.state w.live.sites held at g.moves in
             let s : Step = step.Sent w.post.next_letter at site m.lo m.hi (length m.parts) in
-            let x = posted kinds w.live run r.live line (command.Send at site from) at (Sent from m) held size (record { reached = reached; calm = (refl, r.live.sees.calm); one_caller = (refl, r.live.sees.one_caller) }) s
+            let x = posted types w.live run r.live line (command.Send at site from) at (Sent from m) held size (record { reached = reached; one_caller = (refl, r.live.sees.one_caller) }) s
             (sent_posted at at site site w.post.next_letter m.lo m.hi (length m.parts) from) (λ i. step.Sent (r.post.sent at i + 1) at (sym to i) m.lo m.hi (length m.parts)) (λ i. record { at = at; call = SendTo (sym to i) from }) (λ who. tt) tt in
             record {
               live = x.reached;
-              post = subst (λ cs. HasPost held.sites held.parts next (entries cs) after_send.post) (sym x.calls_are) (subst (λ n. HasPost n held.parts next later after_send.post) (sym g.same_sites) (subst (λ n. HasPost w.live.sites.sites n next later after_send.post) (sym g.same_parts) post));
+              post = subst (λ cs. HasPost held.sites held.parts next (entries cs) after_send.post) (sym x.calls_are) (subst (λ n. HasPost n held.parts next later after_send.post) (sym g.moves.same_sites) (subst (λ n. HasPost w.live.sites.sites n next later after_send.post) (sym g.moves.same_parts) post));
             }
 
-      pub sent : (steps : List Step) → steps ≡ step.Sent w.post.next_letter at site m.lo m.hi (length m.parts) ∷ [] → lacks_way w.live.sites at site ≡ false → (length w.post.letters == 4096) ≡ false → Applies kinds (Some w) (command.Send at site from) steps (Some after_send)
+      pub sent : (steps : List Step) → steps ≡ step.Sent w.post.next_letter at site m.lo m.hi (length m.parts) ∷ [] → lacks_way w.live.sites at site ≡ false → (length w.post.letters == 4096) ≡ false → Applies types (Some w) (command.Send at site from) steps (Some after_send)
       sent steps is way room line run r =
           let s : Step = step.Sent w.post.next_letter at site m.lo m.hi (length m.parts) in
-          subst (λ steps. IsAnswer is_built run (command.Send at site from) steps × ReachedWhole kinds after_send (answered line (Some (command.Send at site from)) steps run)) (sym is) (
-            (subst (AnswersBy run (command.Send at site from) (s ∷ [])) (sym (none_due (all_met run (command.Send at site from)) (refl, (ap not r.live.has, (way_in run r ∙ way, (ap (λ n. n == 4096) (sym r.post.kept) ∙ room, tt)))))) (s, refl, refl, r.post.made), refl),
+          subst (λ steps. IsAnswer is_built run (command.Send at site from) steps × ReachedWhole types after_send (answered line (Some (command.Send at site from)) steps run) × ShowFaults types.state run w.live.sites held steps) (sym is) (
+            subst (AnswersBy run (command.Send at site from) (s ∷ [])) (sym (none_due (all_met run (command.Send at site from)) (refl, (ap not r.live.has, (way_in run r ∙ way, (ap (λ n. n == 4096) (sym r.post.kept) ∙ room, tt)))))) (s, refl, refl, r.post.made),
             whole line run r,
+            (tt, tt),
           )
 
-  module _ (at : PartId) where
-    part_there : (run : Run) → ReachedWhole kinds w run → has_part run at ≡ holds_part w.live.sites at
-    part_there run r = sym (part_in kinds w.live run r.live at)
+    -- a message that isn't made
+    pub send_fails : (held : Held E D) (error : DurableError) (s : Step) (steps : List Step) → steps ≡ s ∷ [] → is_failing s ≡ true → lacks_way w.live.sites at site ≡ false → (length w.post.letters == 4096) ≡ false → FailedAs {X = Unit {0}} at (record { site = 0; part = 0; time = 0 }) 0 (step.Disk at) error (Ok s) → Calls types w.live.sites held Any at (AskMessage site from) (λ (m : Message E) e. (m.to ≡ site) × (e ≡ Sent from m)) (Err error)
+        → Applies types (Some w) (command.Send at site from) steps (Some (record { live = record { sites = held; sessions = w.live.sessions }; post = w.post }))
+    send_fails held error s steps is failing way room f g line run r =
+        struck types w held (command.Send at site from) refl at (AskMessage site from) (λ (m : Message E) e. (m.to ≡ site) × (e ≡ Sent from m)) error s steps is failing f g line run r tt
+            (none_due (all_met run (command.Send at site from)) (refl, (ap not r.live.has, (way_in run r ∙ way, (ap (λ n. n == 4096) (sym r.post.kept) ∙ room, tt)))))
+            refl tt (λ m what k. subst (λ e. call_of (Cut e) ≡ call_asked (AskMessage site from)) (sym k.1) (ap (λ n. SendTo n from) k.0)) (λ m what k. subst (λ e. (who : List ℕ) → IsSilentFor (entries r.live.calls) who (Cut e)) (sym k.1) (λ who. tt)) (λ m what k. subst (λ e. step.Disk at ≡ fault_shown at e) (sym k.1) refl)
 
-    pub report_nowhere : (steps : List Step) → steps ≡ step.NoPart ∷ [] → holds_part w.live.sites at ≡ false → Applies kinds (Some w) (command.Report at) steps (Some w)
-    report_nowhere steps is lacks = turned_down kinds w (command.Report at) step.NoPart steps is refl
+  module _ (at : PartId) where
+    part_there : (run : Run) → ReachedWhole types w run → has_part run at ≡ holds_part w.live.sites at
+    part_there run r = sym (part_in types w.live run r.live at)
+
+    pub report_nowhere : (steps : List Step) → steps ≡ step.NoPart ∷ [] → holds_part w.live.sites at ≡ false → Applies types (Some w) (command.Report at) steps (Some w)
+    report_nowhere steps is lacks = turned_down types w (command.Report at) step.NoPart steps is refl
         (λ run r. first_at (all_met run (command.Report at)) 2 (refl, (ap not r.live.has, ap not (part_there run r ∙ lacks))))
         (λ run who. refl)
 
-    pub report_full : (steps : List Step) → steps ≡ step.LimitReports ∷ [] → holds_part w.live.sites at ≡ true → (length w.post.notes == 4096) ≡ true → Applies kinds (Some w) (command.Report at) steps (Some w)
-    report_full steps is there full = turned_down kinds w (command.Report at) step.LimitReports steps is refl
+    pub report_full : (steps : List Step) → steps ≡ step.LimitReports ∷ [] → holds_part w.live.sites at ≡ true → (length w.post.notes == 4096) ≡ true → Applies types (Some w) (command.Report at) steps (Some w)
+    report_full steps is there full = turned_down types w (command.Report at) step.LimitReports steps is refl
         (λ run r. first_at (all_met run (command.Report at)) 3 (refl, (ap not r.live.has, (ap not (part_there run r ∙ there), ap (λ n. n == 4096) (sym r.post.noted) ∙ full))))
         (λ run who. refl)
 
-    module _ (b : List ℕ) (notes : List (ℕ × Note)) (g : GoesOn kinds w.live.sites w.live.sites Any at AskReport (λ e. e ≡ Reported b))
+    module _ (b : List ℕ) (notes : List (ℕ × Note)) (g : GoesOn types w.live.sites w.live.sites (Asks types w.live.sites Any at AskReport) at AskReport (λ e. e ≡ Reported b))
         (find : (k : ℕ) → kept_at notes k ≡ (if nat_eq w.post.next_note k then Some (record { from = at; bounds = b }) else kept_at w.post.notes k)) (count : length notes ≡ length w.post.notes + 1) where
-      abbrev pub after_report : WholeState E
+      abbrev pub after_report : WholeState E D
       after_report = record { live = w.live; post = record { letters = w.post.letters; next_letter = w.post.next_letter; notes = notes; next_note = w.post.next_note + 1 } }
 
-      module _ (line : ℕ) (run : Run) (r : ReachedWhole kinds w run) where
+      module _ (line : ℕ) (run : Run) (r : ReachedWhole types w run) where
         abbrev next_told : Run
         next_told = (record { number = line; command = Some (command.Report at); step = step.Reported w.post.next_note at b }) ∷ run
 
         abbrev later_told : List (Entry E)
         later_told = (record { at = at; event = Reported b }) ∷ entries r.live.calls
 
-        reached_told : Reaches kinds w.live.sites later_told
-        reached_told = let x = g.goes (entries r.live.calls) r.live.sees.reached tt tt in subst (λ e. Reaches kinds w.live.sites ((record { at = at; event = e }) ∷ entries r.live.calls)) x.shows x.reached
+        reached_told : Reaches types w.live.sites later_told
+        reached_told = let x = (g.goes (entries r.live.calls) r.live.sees.reached (tt, tt)).0 in subst (λ e. Reaches types w.live.sites ((record { at = at; event = e }) ∷ entries r.live.calls)) x.shows x.reached
 
         note_made : nat_eq w.post.next_note w.post.next_note ≡ true → IsNote w.live.sites.sites w.live.sites.parts next_told later_told w.post.next_note (record { from = at; bounds = b })
         note_made same = record {
@@ -200,17 +218,26 @@ module _ {S E : Type 0} (kinds : Kinds S E) (w : WholeState E) where
           beyond = λ k h. find k ∙ (cond-false (nat_eq w.post.next_note k) (Some (record { from = at; bounds = b })) (kept_at w.post.notes k) (not_next w.post.next_note k h) ∙ r.post.beyond k (omega (arith, h)));
         }
 
-        whole_told : ReachedWhole kinds after_report next_told
+        whole_told : ReachedWhole types after_report next_told
         whole_told =
             let s : Step = step.Reported w.post.next_note at b in
-            let x = posted kinds w.live run r.live line (command.Report at) at (Reported b) w.live.sites (size_refl w.live.sites) (record { reached = reached_told; calm = (refl, r.live.sees.calm); one_caller = (refl, r.live.sees.one_caller) }) s
+            let x = posted types w.live run r.live line (command.Report at) at (Reported b) w.live.sites (same_refl types.state w.live.sites) (record { reached = reached_told; one_caller = (refl, r.live.sees.one_caller) }) s
             (reported_posted at at w.post.next_note b) (λ i. step.Reported (r.post.told at i + 1) at b) refl (λ who. tt) tt in
             record { live = x.reached; post = subst (λ cs. HasPost w.live.sites.sites w.live.sites.parts next_told (entries cs) after_report.post) (sym x.calls_are) post_told }
 
-      pub reported : (steps : List Step) → steps ≡ step.Reported w.post.next_note at b ∷ [] → holds_part w.live.sites at ≡ true → (length w.post.notes == 4096) ≡ false → Applies kinds (Some w) (command.Report at) steps (Some after_report)
+      pub reported : (steps : List Step) → steps ≡ step.Reported w.post.next_note at b ∷ [] → holds_part w.live.sites at ≡ true → (length w.post.notes == 4096) ≡ false → Applies types (Some w) (command.Report at) steps (Some after_report)
       reported steps is there room line run r =
           let s : Step = step.Reported w.post.next_note at b in
-          subst (λ steps. IsAnswer is_built run (command.Report at) steps × ReachedWhole kinds after_report (answered line (Some (command.Report at)) steps run)) (sym is) (
-            (subst (AnswersBy run (command.Report at) (s ∷ [])) (sym (none_due (all_met run (command.Report at)) (refl, (ap not r.live.has, (ap not (part_there run r ∙ there), (ap (λ n. n == 4096) (sym r.post.noted) ∙ room, tt)))))) (s, refl, refl, r.post.reported), refl),
+          subst (λ steps. IsAnswer is_built run (command.Report at) steps × ReachedWhole types after_report (answered line (Some (command.Report at)) steps run) × ShowFaults types.state run w.live.sites w.live.sites steps) (sym is) (
+            subst (AnswersBy run (command.Report at) (s ∷ [])) (sym (none_due (all_met run (command.Report at)) (refl, (ap not r.live.has, (ap not (part_there run r ∙ there), (ap (λ n. n == 4096) (sym r.post.noted) ∙ room, tt)))))) (s, refl, refl, r.post.reported),
             whole_told line run r,
+            (tt, tt),
           )
+
+    -- a report that isn't made
+    pub report_fails : (error : DurableError) (s : Step) (steps : List Step) → steps ≡ s ∷ [] → is_failing s ≡ true → holds_part w.live.sites at ≡ true → (length w.post.notes == 4096) ≡ false → FailedAs {X = Unit {0}} at (record { site = 0; part = 0; time = 0 }) 0 (step.Disk at) error (Ok s) → Calls types w.live.sites w.live.sites Any at AskReport (λ (b : List ℕ) e. e ≡ Reported b) (Err error)
+        → Applies types (Some w) (command.Report at) steps (Some w)
+    report_fails error s steps is failing there room f g line run r =
+        struck types w w.live.sites (command.Report at) refl at AskReport (λ (b : List ℕ) e. e ≡ Reported b) error s steps is failing f g line run r tt
+            (none_due (all_met run (command.Report at)) (refl, (ap not r.live.has, (ap not (part_there run r ∙ there), (ap (λ n. n == 4096) (sym r.post.noted) ∙ room, tt)))))
+            refl tt (λ b what k. subst (λ e. call_of (Cut e) ≡ call_asked {E = E} AskReport) (sym k) refl) (λ b what k. subst (λ e. (who : List ℕ) → IsSilentFor (entries r.live.calls) who (Cut e)) (sym k) (λ who. tt)) (λ b what k. subst (λ e. step.Disk at ≡ fault_shown at e) (sym k) refl)

@@ -5,27 +5,28 @@ use Rattle.std.specs.Str.{bytes_eq}
 use Rattle.std.proofs.lemmas.Slice.Eq.{bytes_eq-Decides}
 use Rattle.std.proofs.lemmas.Bool.{true≢false}
 use Rattle.site_vector.specs.declared.ids.PartId.{PartId}
-use Rattle.crdt_core.specs.KindsOf.{Kinds}
 use Rattle.world_model.specs.declared.command.Command.{Command}
 use Rattle.world_model.specs.declared.step.Step.{Step}
 use Rattle.world_model.specs.Asking.{asked_by}
 use Rattle.world_model.specs.Cluster.{sites_of, parts_of}
 use Rattle.world_model.specs.Dependency.{IsOwnPast}
-use Rattle.world_model.specs.Event.{Ask, IsDown, Event, Opened, Refused, Cut, Entry, attempt}
+use Rattle.world_model.specs.Event.{Ask, IsDown, Event, Decided, Opened, Refused, Cut, Entry, attempt}
 use Rattle.world_model.specs.Lines.{call_asked, step_shown, call_of}
 use Rattle.world_model.specs.Meeting.{site_after, site_of}
 use Rattle.world_model.specs.Past.{dependency_after}
 use Rattle.world_model.specs.Phases.{phase, phase_after, by_command, update_total}
 use Rattle.world_model.specs.Run.{Run}
-use Rattle.world_model.specs.ScriptCalls.{asked_of, calls_of}
-use Rattle.world_model.proofs.Names.{off}
+use Rattle.world_model.specs.ScriptCalls.{is_answer, asked_of, numbered, calls_of}
 use Rattle.txn_session.specs.Calls.{Call, entries, called, NoneBears}
 use Rattle.txn_session.specs.Holds.{Holds, Makes}
 use Rattle.txn_session.specs.Session.{SessionState}
-use Rattle.cluster.specs.Held.{Held, SameSize}
+use Rattle.site_partitions.specs.Held.{Held}
+use Rattle.site_partitions.specs.Reaches.{Types}
+use Rattle.cluster.specs.Same.{SameCluster}
 use Rattle.cluster.specs.Live.{LiveState, session_in, IsPut}
 use Rattle.cluster.specs.Reached.{phase_as, StandsBy, StandsAs, ReachedLive, GoesTo}
-use Rattle.cluster.specs.Sees.{is_calm, Sees}
+use Rattle.cluster.specs.Sees.{Sees}
+use Rattle.cluster.proofs.Seeing.{is_told, told_last}
 use Rattle.cluster.specs.Built.{is_of_fates}
 use Rattle.cluster.proofs.Turning.{is_numberless, IsCallLine, call_line, asked_lines}
 use Rattle.cluster.proofs.Turned.{IsOwnAsk, silent, call_is, numberless, next, depends_next, depended, other_next, turned}
@@ -43,47 +44,48 @@ pub record IsThere {E : Type 0} (old new : SessionState E) : Type 0 where
   pub sites : new.sites ≡ old.sites
   pub parts : new.parts ≡ old.parts
 
-module _ {S E : Type 0} (kinds : Kinds S E) where
+module _ {S E D : Type 0} (types : Types S E D) where
   -- a call that was made and answered, with nobody else acting
-  pub record Turns (held : Held E) (calls : List (Call E)) (new : SessionState E) (at : PartId) (ask : Ask E) (answer : Step) : Type 0 where
+  pub record Turns (held : Held E D) (calls : List (Call E)) (new : SessionState E) (at : PartId) (ask : Ask E) (answer : Step) : Type 0 where
     pub by : ℕ
     pub event : Event E
     pub asked : asked_by (attempt event) ≡ ask
     pub shows : answer ≡ step_shown (entries calls) at event
-    pub seen : Sees kinds held (called by at event ∷ calls)
+    pub seen : Sees types held (called by at event ∷ calls)
     pub holds : Holds new (called by at event ∷ calls)
 
   pub nobody : (more : List (Call E)) → NoneBears (λ n. true) more → more ≡ []
   nobody [] h = refl
   nobody (c ∷ more) h = absurd (true≢false h.0)
 
-  pub turns : {P : Type 0} (held : Held E) (pass : P) (calls : List (Call E)) (old new : SessionState E) (number : Option ℕ) (at : PartId) (ask : Ask E) (answer : Step) → Makes (λ s (p : P) l. Sees kinds s l) (λ (p : P) n. true) held pass calls old new number at ask answer → Turns held calls new at ask answer
+  pub turns : {P : Type 0} (held : Held E D) (pass : P) (calls : List (Call E)) (old new : SessionState E) (number : Option ℕ) (at : PartId) (ask : Ask E) (answer : Step) → Makes (λ s (p : P) l. Sees types s l) (λ (p : P) n. true) held pass calls old new number at ask answer → Turns held calls new at ask answer
   turns held pass calls old new number at ask answer m =
       let none : m.goes.more ≡ [] = nobody m.goes.more m.goes.others in record {
         by = m.goes.by;
         event = m.goes.event;
         asked = m.goes.asked;
         shows = subst (λ more. answer ≡ step_shown (entries (more ++ calls)) at m.goes.event) none m.goes.shows;
-        seen = subst (λ more. Sees kinds held (called m.goes.by at m.goes.event ∷ (more ++ calls))) none m.goes.seen;
+        seen = subst (λ more. Sees types held (called m.goes.by at m.goes.event ∷ (more ++ calls))) none m.goes.seen;
         holds = subst (λ more. Holds new (called m.goes.by at m.goes.event ∷ (more ++ calls))) none m.holds;
       }
 
-  site_any : (events : List (Entry E)) (at : PartId) (name who : List ℕ) (old : Option ℕ) (e : Event E) → is_calm e ≡ true → IsOwnAsk events name (asked_by (attempt e)) → site_after who old (step_shown events at e) ≡ old
-  site_any events at name who old (Opened n) c own = absurd own
-  site_any events at name who old (Cut what) c own = off c
-  site_any events at name who old (Refused a IsDown) c own = off c
-  site_any events at name who old (Refused a why) c own = refl
-  site_any events at name who old other c own = refl
+  site_any : (events : List (Entry E)) (at : PartId) (name who : List ℕ) (old : Option ℕ) (e : Event E) → IsOwnAsk events name (asked_by (attempt e)) → site_after who old (step_shown events at e) ≡ old
+  site_any events at name who old (Opened n) own = absurd own
+  site_any events at name who old (Cut (Decided t v)) own = refl
+  site_any events at name who old (Cut what) own = refl
+  site_any events at name who old (Refused a IsDown) own = refl
+  site_any events at name who old (Refused a why) own = refl
+  site_any events at name who old other own = refl
 
-  module _ (c : LiveState E) (run : Run) (r : ReachedLive kinds c run) (number : ℕ) (cmd : Command) (name : List ℕ) (s : SessionState E) (is : session_in c.sessions name ≡ Some s) where
+  module _ (c : LiveState E D) (run : Run) (r : ReachedLive types c run) (number : ℕ) (cmd : Command) (name : List ℕ) (s : SessionState E) (is : session_in c.sessions name ≡ Some s) where
     -- it stands
     abbrev pub stands : StandsBy run r.calls name s
     stands = subst (λ o. StandsAs run r.calls name o) is (r.each name)
 
-    module _ (new : SessionState E) (at : PartId) (ask : Ask E) (answer : Step) (held : Held E) (t : Turns held r.calls new at ask answer) where
+    module _ (new : SessionState E) (at : PartId) (ask : Ask E) (answer : Step) (held : Held E D) (t : Turns held r.calls new at ask answer) where
       -- what a call owes for the cluster to stand after it
       pub record Owes (sessions : List (List ℕ × SessionState E)) : Type 0 where
-        pub size : SameSize c.sites held
+        pub same : SameCluster types.state c.sites held
         pub put : IsPut c.sessions name new sessions
         pub there : IsThere s new
         pub own : IsOwnAsk (entries r.calls) name ask
@@ -95,24 +97,24 @@ module _ {S E : Type 0} (kinds : Kinds S E) where
         pub phase : phase_after (parts_of run) name (phase run name) (Some cmd) answer ≡ phase_as new.doing
         pub depends : new.dependency ≡ dependency_after (sites_of run) (entries r.calls) name s.dependency t.event
 
-      pub acted : (sessions : List (List ℕ × SessionState E)) → Owes sessions → GoesTo kinds c run r (record { sites = held; sessions = sessions }) ((record { number = number; command = Some cmd; step = answer }) ∷ run)
-      acted sessions o = subst (λ line. GoesTo kinds c run r (record { sites = held; sessions = sessions }) ((record { number = number; command = Some cmd; step = line }) ∷ run)) (sym t.shows)
-          (turned kinds c run r number cmd t.by at t.event held o.size t.seen plain lines_are sessions o.put.count past each)
+      pub acted : (sessions : List (List ℕ × SessionState E)) → Owes sessions → GoesTo types c run r (record { sites = held; sessions = sessions }) ((record { number = number; command = Some cmd; step = answer }) ∷ run)
+      acted sessions o = subst (λ line. GoesTo types c run r (record { sites = held; sessions = sessions }) ((record { number = number; command = Some cmd; step = line }) ∷ run)) (sym t.shows)
+          (turned types c run r number cmd t.by at t.event held o.same t.seen plain lines_are sessions o.put.count past each)
         where
           own : IsOwnAsk (entries r.calls) name (asked_by (attempt t.event))
           own = subst (IsOwnAsk (entries r.calls) name) (sym t.asked) o.own
 
-          calm : is_calm t.event ≡ true
-          calm = t.seen.calm.0
+          done : is_told t.event ≡ true
+          done = told_last types held (called t.by at t.event) r.calls t.seen
 
           call : call_of t.event ≡ call_asked ask
-          call = call_is (entries r.calls) name t.event calm own ∙ ap call_asked t.asked
+          call = call_is (entries r.calls) name t.event done own ∙ ap call_asked t.asked
 
           plain : is_numberless t.event ≡ true
-          plain = numberless kinds held.sites held.parts at (t.seen.reached.is_run.0 at) (entries r.calls) name (t.seen.reached.state at) t.event own t.seen.reached.is_run.2.step
+          plain = numberless types.kinds held.sites held.parts at (t.seen.reached.is_run.0 at) (entries r.calls) name (t.seen.reached.state at) t.event own t.seen.reached.is_run.2.step
 
           told : IsCallLine run (step_shown (entries r.calls) at t.event)
-          told = call_line run (entries r.calls) at t.event calm plain
+          told = call_line run (entries r.calls) at t.event done plain
 
           lines_are : calls_of ((record { number = number; command = Some cmd; step = step_shown (entries r.calls) at t.event }) ∷ run) ≡ (record { at = at; call = call_of t.event; step = step_shown (entries r.calls) at t.event }) ∷ calls_of run
           lines_are = asked_lines number cmd run (step_shown (entries r.calls) at t.event) (step_shown (entries r.calls) at t.event) at (call_of t.event) o.of_session told.answer told.number (o.placed ∙ ap (λ k. record { at = at; call = k }) (sym call))
@@ -121,7 +123,7 @@ module _ {S E : Type 0} (kinds : Kinds S E) where
           past = subst (IsOwnPast (sites_of run) (calls_of run)) (sym call) o.past
 
           after : Run
-          after = next kinds c run r number cmd t.by at t.event held o.size t.seen plain lines_are
+          after = next types c run r number cmd t.by at t.event held o.same t.seen plain lines_are
 
           st : StandsBy run r.calls name s
           st = stands
@@ -131,11 +133,11 @@ module _ {S E : Type 0} (kinds : Kinds S E) where
             name = o.there.name ∙ st.name;
             sites = o.there.sites ∙ (st.sites ∙ sym (told.sites (sites_of run)));
             parts = o.there.parts ∙ (st.parts ∙ sym (told.parts (parts_of run)));
-            site = site_any (entries r.calls) at name name (site_of run name) t.event calm own ∙ (st.site ∙ ap Some (sym o.there.site));
+            site = site_any (entries r.calls) at name name (site_of run name) t.event own ∙ (st.site ∙ ap Some (sym o.there.site));
             there = (λ i. nat_le 1 (o.there.site i) && nat_le (o.there.site i) (told.sites (sites_of run) i)) ∙ st.there;
             phase = ap (phase_after (parts_of run) name (phase run name) (Some cmd)) (sym t.shows) ∙ o.phase;
             few = o.few;
-            depends = o.depends ∙ (ap (λ d. dependency_after (sites_of run) (entries r.calls) name d t.event) (st.depends ∙ depended kinds c run r number cmd t.by at t.event held o.size t.seen plain lines_are name) ∙ sym (depends_next kinds c run r number cmd t.by at t.event held o.size t.seen plain lines_are name));
+            depends = o.depends ∙ (ap (λ d. dependency_after (sites_of run) (entries r.calls) name d t.event) (st.depends ∙ depended types c run r number cmd t.by at t.event held o.same t.seen plain lines_are name) ∙ sym (depends_next types c run r number cmd t.by at t.event held o.same t.seen plain lines_are name));
             holds = t.holds;
           }
 
@@ -144,4 +146,17 @@ module _ {S E : Type 0} (kinds : Kinds S E) where
             where
               by_name : (b : Bool) → bytes_eq name who ≡ b → StandsAs after (called t.by at t.event ∷ r.calls) who (if b then Some new else session_in c.sessions who)
               by_name true h = subst (λ n. StandsBy after (called t.by at t.event ∷ r.calls) n new) (same_name name who h) mine
-              by_name false h = other_next kinds c run r number cmd t.by at t.event held o.size t.seen plain lines_are who (session_in c.sessions who) (o.idle who h) (silent (entries r.calls) name who h t.event own) (r.each who)
+              by_name false h = other_next types c run r number cmd t.by at t.event held o.same t.seen plain lines_are who (session_in c.sessions who) (o.idle who h) (silent (entries r.calls) name who h t.event own) (r.each who)
+
+      -- its line is that of the call
+      pub acted_calls : (sessions : List (List ℕ × SessionState E)) → Owes sessions → calls_of ((record { number = number; command = Some cmd; step = answer }) ∷ run) ≡ (record { at = at; call = call_asked ask; step = answer }) ∷ calls_of run
+      acted_calls sessions o = asked_lines number cmd run answer answer at (call_asked ask) o.of_session (ap is_answer t.shows ∙ told.answer) (ap (numbered run) t.shows ∙ (told.number ∙ sym t.shows)) o.placed
+        where
+          own : IsOwnAsk (entries r.calls) name (asked_by (attempt t.event))
+          own = subst (IsOwnAsk (entries r.calls) name) (sym t.asked) o.own
+
+          plain : is_numberless t.event ≡ true
+          plain = numberless types.kinds held.sites held.parts at (t.seen.reached.is_run.0 at) (entries r.calls) name (t.seen.reached.state at) t.event own t.seen.reached.is_run.2.step
+
+          told : IsCallLine run (step_shown (entries r.calls) at t.event)
+          told = call_line run (entries r.calls) at t.event (told_last types held (called t.by at t.event) r.calls t.seen) plain

@@ -9,7 +9,6 @@ use Rattle.site_vector.specs.declared.ids.PartId.{PartId}
 use Rattle.site_vector.specs.declared.ids.TxId.{TxId}
 use Rattle.site_vector.specs.Ids.{same_part, same_tx}
 use Rattle.site_vector.specs.Order.{same_part_is, same_part_refl}
-use Rattle.crdt_core.specs.KindsOf.{Kinds}
 use Rattle.crdt_core.specs.Log as log
 use Rattle.world_model.specs.declared.command.Command.TheVariants as command
 use Rattle.world_model.specs.declared.step.Step.{Step}
@@ -35,9 +34,10 @@ use Rattle.partition_core.specs.declared.answers.Fate.{Fate}
 use Rattle.partition_core.specs.declared.answers.Fate.TheVariants as fate
 use Rattle.partition_core.specs.Answers.{fate_told}
 use Rattle.txn_session.specs.Calls.{called, entries}
-use Rattle.cluster.specs.declared.fates.Waiting.{Waiting}
+use Rattle.site_partitions.specs.Reaches.{Types}
+use Rattle.site_partitions.specs.declared.fates.Waiting.{Waiting}
 use Rattle.cluster.specs.Fates.{lead_place, settling, AreWaiting, OfState, Drops, MaySettle, SettledTo, Settles}
-use Rattle.cluster.specs.Held.{Held, holds_part}
+use Rattle.site_partitions.specs.Held.{Held, holds_part}
 use Rattle.cluster.specs.Live.{LiveState}
 use Rattle.cluster.specs.Reached.{ReachedLive, GoesTo, AppliesLive, IsReachedLive}
 use Rattle.cluster.specs.Reaches.{MayAsk}
@@ -102,94 +102,94 @@ module _ {E : Type 0} where
       (λ (u : q.up ≡ false). absurd (cc (rw u at f)))
       (cases_Bool q.up))
 
-module _ {S E : Type 0} (kinds : Kinds S E) (c : LiveState E) (p : PartId) (t : TxId) (n : ℕ) where
+module _ {S E D : Type 0} (types : Types S E D) (c : LiveState E D) (p : PartId) (t : TxId) (n : ℕ) where
   -- a line that shows no call
-  still : ((run : Run) (r : ReachedLive kinds c run) → pending (calls_of run) p t ≡ true → lead (parts_of run) (calls_of run) t ≡ lead_place p n → step.Pending p t ≡ settled (parts_of run) (calls_of run) p t) → Settles kinds c c p t n (step.Pending p t)
+  still : ((run : Run) (r : ReachedLive types c run) → pending (calls_of run) p t ≡ true → lead (parts_of run) (calls_of run) t ≡ lead_place p n → step.Pending p t ≡ settled (parts_of run) (calls_of run) p t) → Settles types c c p t n (step.Pending p t)
   still f number run r h l = record {
     line = f run r h l;
-    goes = goes_quiet kinds c number (Some (command.Settle p)) (step.Pending p t) run (record { called = refl; cluster = refl; sites = λ k. refl; parts = λ k. refl; site = λ who old. refl; count = λ k. refl; phase = λ who. refl }) refl r;
+    goes = goes_quiet types c number (Some (command.Settle p)) (step.Pending p t) run (record { called = refl; cluster = refl; sites = λ k. refl; parts = λ k. refl; site = λ who old. refl; count = λ k. refl; phase = λ who. refl }) refl r;
     same = λ u. refl;
     leads = λ u. refl;
     others = λ u k. refl;
   }
 
-  pub settle_own : n ≡ p.part → Settles kinds c c p t n (step.Pending p t)
+  pub settle_own : n ≡ p.part → Settles types c c p t n (step.Pending p t)
   settle_own own = still (λ run r h l. settled_own (parts_of run) (calls_of run) p t (led_here (parts_of run) (calls_of run) p t (l ∙ ap (lead_place p) own)))
 
-  module _ (other : n ≡ p.part → ⊥) (may : MaySettle kinds c p t n) where
+  module _ (other : n ≡ p.part → ⊥) (may : MaySettle types c p t n) where
     away_is : (run : Run) → lead (parts_of run) (calls_of run) t ≡ lead_place p n → same_part (lead (parts_of run) (calls_of run) t) p ≡ false
     away_is run l = led_elsewhere (parts_of run) (calls_of run) p t n l other
 
-    pub waits_at : (run : Run) (r : ReachedLive kinds c run) → pending (calls_of run) p t ≡ true → log.pending (r.sees.reached.state p).log t ≡ true
-    waits_at run r h = waiting_is kinds c run r p may.place t ∙ h
+    pub waits_at : (run : Run) (r : ReachedLive types c run) → pending (calls_of run) p t ≡ true → log.pending (r.sees.reached.state p).log t ≡ true
+    waits_at run r h = waiting_is types c run r p may.place t ∙ h
 
     -- the lead is in the cluster
     pub lead_in : IsPlace c.sites.sites c.sites.parts (lead_place p n)
-    lead_in = subst (IsPlace c.sites.sites c.sites.parts) may.led (lead_there kinds c may.run may.reached p may.place t (waits_at may.run may.reached may.waits))
+    lead_in = subst (IsPlace c.sites.sites c.sites.parts) may.led (lead_there types c may.run may.reached p may.place t (waits_at may.run may.reached may.waits))
 
     pub of_site : t.site ≡ p.site
-    of_site = site_is kinds c may.run may.reached p may.place t (waits_at may.run may.reached may.waits)
+    of_site = site_is types c may.run may.reached p may.place t (waits_at may.run may.reached may.waits)
 
-    fate_at : (f : Fate) → OfState kinds c.sites (lead_place p n) (λ q. fate_told f ≡ fate_of q t) → (run : Run) (r : ReachedLive kinds c run) → lead (parts_of run) (calls_of run) t ≡ lead_place p n → IsFate (calls_of run) (lead_place p n) t (fate_told f)
-    fate_at f told run r l = subst (IsFate (calls_of run) (lead_place p n) t) (sym (told (entries r.calls) r.sees.reached)) (subst (λ q. IsFate (calls_of run) q t (fate_of (r.sees.reached.state q) t)) l (word kinds c run r t))
+    fate_at : (f : Fate) → OfState types c.sites (lead_place p n) (λ q. fate_told f ≡ fate_of q t) → (run : Run) (r : ReachedLive types c run) → lead (parts_of run) (calls_of run) t ≡ lead_place p n → IsFate (calls_of run) (lead_place p n) t (fate_told f)
+    fate_at f told run r l = subst (IsFate (calls_of run) (lead_place p n) t) (sym (told (entries r.calls) r.sees.reached)) (subst (λ q. IsFate (calls_of run) q t (fate_of (r.sees.reached.state q) t)) l (word types c run r t))
 
-    up_lead : (run : Run) (r : ReachedLive kinds c run) → is_down (calls_of run) (lead_place p n) ≡ false
-    up_lead run r = down_is kinds c run r (lead_place p n) lead_in
+    up_lead : (run : Run) (r : ReachedLive types c run) → is_down (calls_of run) (lead_place p n) ≡ false
+    up_lead run r = down_is types c run r (lead_place p n) lead_in
 
-    untold_is : (run : Run) (r : ReachedLive kinds c run) → lead (parts_of run) (calls_of run) t ≡ lead_place p n → (b : Bool) → pending (calls_of run) (lead_place p n) t ≡ b → is_untold (parts_of run) (calls_of run) t ≡ b
+    untold_is : (run : Run) (r : ReachedLive types c run) → lead (parts_of run) (calls_of run) t ≡ lead_place p n → (b : Bool) → pending (calls_of run) (lead_place p n) t ≡ b → is_untold (parts_of run) (calls_of run) t ≡ b
     untold_is run r l b k = ap (λ q. is_down (calls_of run) q || pending (calls_of run) q t) l ∙ (λ i. up_lead run r i || k i)
 
-    not_down : (run : Run) (r : ReachedLive kinds c run) → is_down (calls_of run) (lead_place p n) ≡ true → ⊥
+    not_down : (run : Run) (r : ReachedLive types c run) → is_down (calls_of run) (lead_place p n) ≡ true → ⊥
     not_down run r d = true≢false (sym d ∙ up_lead run r)
 
     -- the lead has it pending, or tells nothing
-    pub settle_untold : (f : Fate) → OfState kinds c.sites (lead_place p n) (λ q. fate_told f ≡ fate_of q t) → ((v : List ℕ) → f ≡ fate.Committed v → ⊥) → (f ≡ fate.Aborted → ⊥) → Settles kinds c c p t n (step.Pending p t)
+    pub settle_untold : (f : Fate) → OfState types c.sites (lead_place p n) (λ q. fate_told f ≡ fate_of q t) → ((v : List ℕ) → f ≡ fate.Committed v → ⊥) → (f ≡ fate.Aborted → ⊥) → Settles types c c p t n (step.Pending p t)
     settle_untold f told a b = still (λ run r h l. settled_untold (parts_of run) (calls_of run) p t (away_is run l) (by_fate f a b run r l (fate_at f told run r l)))
       where
-        by_fate : (g : Fate) → ((v : List ℕ) → g ≡ fate.Committed v → ⊥) → (g ≡ fate.Aborted → ⊥) → (run : Run) (r : ReachedLive kinds c run) → lead (parts_of run) (calls_of run) t ≡ lead_place p n → IsFate (calls_of run) (lead_place p n) t (fate_told g) → is_untold (parts_of run) (calls_of run) t ≡ true
+        by_fate : (g : Fate) → ((v : List ℕ) → g ≡ fate.Committed v → ⊥) → (g ≡ fate.Aborted → ⊥) → (run : Run) (r : ReachedLive types c run) → lead (parts_of run) (calls_of run) t ≡ lead_place p n → IsFate (calls_of run) (lead_place p n) t (fate_told g) → is_untold (parts_of run) (calls_of run) t ≡ true
         by_fate fate.Pending x y run r l w = untold_is run r l true w.1
         by_fate (fate.Committed v) x y run r l w = absurd (x v refl)
         by_fate fate.Aborted x y run r l w = absurd (y refl)
         by_fate fate.Down x y run r l w = absurd (not_down run r w)
 
-    pub may_drop : (run : Run) (r : ReachedLive kinds c run) → lead (parts_of run) (calls_of run) t ≡ lead_place p n → OfState kinds c.sites (lead_place p n) (λ q. ToldAborted ≡ fate_of q t) → fate_of (r.sees.reached.state (lead c.sites.parts (lines_of (entries r.calls)) t)) t ≡ ToldAborted
-    may_drop run r l told = ap (λ q. fate_of (r.sees.reached.state q) t) (lead_same kinds c run r t ∙ l) ∙ sym (told (entries r.calls) r.sees.reached)
+    pub may_drop : (run : Run) (r : ReachedLive types c run) → lead (parts_of run) (calls_of run) t ≡ lead_place p n → OfState types c.sites (lead_place p n) (λ q. ToldAborted ≡ fate_of q t) → fate_of (r.sees.reached.state (lead c.sites.parts (lines_of (entries r.calls)) t)) t ≡ ToldAborted
+    may_drop run r l told = ap (λ q. fate_of (r.sees.reached.state q) t) (lead_same types c run r t ∙ l) ∙ sym (told (entries r.calls) r.sees.reached)
 
-    pub settle_aborted : (later : Held E) → OfState kinds c.sites (lead_place p n) (λ q. ToldAborted ≡ fate_of q t) → Drops kinds c.sites later p t → Settles kinds c (record { sites = later; sessions = c.sessions }) p t n (step.Aborted p t)
+    pub settle_aborted : (later : Held E D) → OfState types c.sites (lead_place p n) (λ q. ToldAborted ≡ fate_of q t) → Drops types c.sites later p t → Settles types c (record { sites = later; sessions = c.sessions }) p t n (step.Aborted p t)
     settle_aborted later told d number run r h l =
         let w : IsFate (calls_of run) (lead_place p n) t ToldAborted = fate_at fate.Aborted told run r l in
-        let allowed = (law.told kinds c.sites.sites c.sites.parts (entries r.calls) r.sees.reached.state r.sees.reached.is_run p).aborts t (inr (may_drop run r l told)) in
-        let seen : Sees kinds later (called 0 p (Aborted t false) ∷ r.calls) = record { reached = d.goes (entries r.calls) r.sees.reached (waits_at run r h) allowed; calm = (refl, r.sees.calm); one_caller = (refl, r.sees.one_caller) } in
+        let allowed = (law.told types.kinds c.sites.sites c.sites.parts (entries r.calls) r.sees.reached.state r.sees.reached.is_run p).aborts t (inr (may_drop run r l told)) in
+        let seen : Sees types later (called 0 p (Aborted t false) ∷ r.calls) = record { reached = d.goes (entries r.calls) r.sees.reached (waits_at run r h) allowed; calm = (refl, r.sees.calm); one_caller = (refl, r.sees.one_caller) } in
         record {
           line = settled_aborted (parts_of run) (calls_of run) p t (away_is run l) (untold_is run r l false w.1) w.0;
-          goes = turned_alone kinds c run r number (command.Settle p) 0 p (Aborted t false) later d.size seen refl refl (λ who s. refl) (λ who. tt) tt;
+          goes = turned_alone types c run r number (command.Settle p) 0 p (Aborted t false) later d.same seen refl refl (λ who s. refl) (λ who. tt) tt;
           same = end_settled (parts_of run) (calls_of run) p t (AbortOf t) (step.Aborted p t) (λ time index u. refl) (λ u. refl) (λ old. refl) (λ u old. refl);
           leads = end_leads (parts_of run) (calls_of run) p t (AbortOf t) (step.Aborted p t) (λ time index u. refl) (λ u. refl) (λ old. refl) (λ u old. refl);
           others = end_others (parts_of run) (calls_of run) p t (AbortOf t) (step.Aborted p t) (λ time index u. refl) (λ u. refl) (λ old. refl) (λ u old. refl);
         }
 
-    module _ (v : List ℕ) (told : OfState kinds c.sites (lead_place p n) (λ q. ToldCommitted v ≡ fate_of q t)) where
-      may_end : (run : Run) (r : ReachedLive kinds c run) → pending (calls_of run) p t ≡ true → lead (parts_of run) (calls_of run) t ≡ lead_place p n → MayCall c.sites.sites c.sites.parts (entries r.calls) p (AskFinish t v)
-      may_end run r h l = (law.told kinds c.sites.sites c.sites.parts (entries r.calls) r.sees.reached.state r.sees.reached.is_run p).finishes t v (waits_at run r h) (ap (λ q. fate_of (r.sees.reached.state q) t) (lead_same kinds c run r t ∙ l) ∙ sym (told (entries r.calls) r.sees.reached))
+    module _ (v : List ℕ) (told : OfState types c.sites (lead_place p n) (λ q. ToldCommitted v ≡ fate_of q t)) where
+      may_end : (run : Run) (r : ReachedLive types c run) → pending (calls_of run) p t ≡ true → lead (parts_of run) (calls_of run) t ≡ lead_place p n → MayCall c.sites.sites c.sites.parts (entries r.calls) p (AskFinish t v)
+      may_end run r h l = (law.told types.kinds c.sites.sites c.sites.parts (entries r.calls) r.sees.reached.state r.sees.reached.is_run p).finishes t v (waits_at run r h) (ap (λ q. fate_of (r.sees.reached.state q) t) (lead_same types c run r t ∙ l) ∙ sym (told (entries r.calls) r.sees.reached))
 
-      pub may_finish : MayAsk kinds c.sites p (AskFinish t v)
+      pub may_finish : MayAsk types c.sites p (AskFinish t v)
       may_finish = record { place = may.place; run = entries may.reached.calls; reached = may.reached.sees.reached; allowed = may_end may.run may.reached may.waits may.led }
 
-      pub settle_finished : (later : Held E) → Finishes kinds c.sites later p t v → Settles kinds c (record { sites = later; sessions = c.sessions }) p t n (step.Finished p t)
+      pub settle_finished : (later : Held E D) → Finishes types c.sites later p t v → Settles types c (record { sites = later; sessions = c.sessions }) p t n (step.Finished p t)
       settle_finished later d number run r h l =
           let w : IsFate (calls_of run) (lead_place p n) t (ToldCommitted v) = fate_at (fate.Committed v) told run r l in
-          let seen : Sees kinds later (called 0 p (Finished t v) ∷ r.calls) = record { reached = d.goes (entries r.calls) r.sees.reached (may_end run r h l); calm = (refl, r.sees.calm); one_caller = (refl, r.sees.one_caller) } in
+          let seen : Sees types later (called 0 p (Finished t v) ∷ r.calls) = record { reached = d.goes (entries r.calls) r.sees.reached (may_end run r h l); calm = (refl, r.sees.calm); one_caller = (refl, r.sees.one_caller) } in
           let unpending : pending (calls_of run) (lead_place p n) t ≡ false = ended_there run r l in
           record {
             line = settled_finished (parts_of run) (calls_of run) p t (away_is run l) (untold_is run r l false unpending) w.0;
-            goes = turned_alone kinds c run r number (command.Settle p) 0 p (Finished t v) later d.size seen refl refl (λ who s. refl) (λ who. tt) tt;
+            goes = turned_alone types c run r number (command.Settle p) 0 p (Finished t v) later d.same seen refl refl (λ who s. refl) (λ who. tt) tt;
             same = end_settled (parts_of run) (calls_of run) p t (FinishOf t) (step.Finished p t) (λ time index u. refl) (λ u. refl) (λ old. refl) (λ u old. refl);
             leads = end_leads (parts_of run) (calls_of run) p t (FinishOf t) (step.Finished p t) (λ time index u. refl) (λ u. refl) (λ old. refl) (λ u old. refl);
             others = end_others (parts_of run) (calls_of run) p t (FinishOf t) (step.Finished p t) (λ time index u. refl) (λ u. refl) (λ old. refl) (λ u old. refl);
           }
         where
-          ended_there : (run : Run) (r : ReachedLive kinds c run) → lead (parts_of run) (calls_of run) t ≡ lead_place p n → pending (calls_of run) (lead_place p n) t ≡ false
-          ended_there run r l = sym (waiting_is kinds c run r (lead_place p n) lead_in t) ∙ told_ended (r.sees.reached.state (lead_place p n)) t v (told (entries r.calls) r.sees.reached)
+          ended_there : (run : Run) (r : ReachedLive types c run) → lead (parts_of run) (calls_of run) t ≡ lead_place p n → pending (calls_of run) (lead_place p n) t ≡ false
+          ended_there run r l = sym (waiting_is types c run r (lead_place p n) lead_in t) ∙ told_ended (r.sees.reached.state (lead_place p n)) t v (told (entries r.calls) r.sees.reached)
 
 -- the lines of a settle that wrote every end
 module _ (parts : ℕ) (ls : List Line) (p : PartId) where
@@ -210,50 +210,50 @@ module _ (parts : ℕ) (ls : List Line) (p : PartId) where
   sound_all (x ∷ waits) = and_from (is_sound (settled parts ls p x.0)) (are_sound (lines_of_all waits)) (sound_if x.0 (stays parts ls p x.0) (in_history ls x.0)) (sound_all waits)
 
 -- what is left, one after another
-module _ {S E : Type 0} (kinds : Kinds S E) (old : LiveState E) (p : PartId) (items : List Waiting) where
+module _ {S E D : Type 0} (types : Types S E D) (old : LiveState E D) (p : PartId) (items : List Waiting) where
   abbrev lines_for : Run → List Waiting → List Step
   lines_for run ws = map (λ (w : Waiting). settled (parts_of run) (calls_of run) p w.tx) ws
 
   -- the lines so far led from the old cluster to this one, and with those of the rest they are all
-  pub record LedBy (now : LiveState E) (rest : List Waiting) (lines : List Step) (run : Run) (r : ReachedLive kinds old run) (later : Run) : Type 0 where
-    pub goes : GoesTo kinds old run r now later
+  pub record LedBy (now : LiveState E D) (rest : List Waiting) (lines : List Step) (run : Run) (r : ReachedLive types old run) (later : Run) : Type 0 where
+    pub goes : GoesTo types old run r now later
     pub all : lines ++ map (λ (w : Waiting). settled (parts_of run) (calls_of run) p w.tx) rest ≡ map (λ (w : Waiting). settled (parts_of run) (calls_of run) p w.tx) items
     pub same : (u : TxId) → settled (parts_of later) (calls_of later) p u ≡ settled (parts_of run) (calls_of run) p u
     pub left : AreLeft (parts_of later) (calls_of later) p rest
     pub listed : AreListed (parts_of run) (calls_of run) p items
 
-  pub record IsUnderWay (now : LiveState E) (rest : List Waiting) (lines : List Step) : Type 0 where
+  pub record IsUnderWay (now : LiveState E D) (rest : List Waiting) (lines : List Step) : Type 0 where
     pub has : holds_part old.sites p ≡ true
-    pub reached : IsReachedLive kinds old
+    pub reached : IsReachedLive types old
     pub apart : AreOnce (map (λ (w : Waiting). w.tx) rest)
-    pub led : (number : ℕ) (run : Run) (r : ReachedLive kinds old run) → LedBy now rest lines run r (answered number (Some (command.Settle p)) lines run)
+    pub led : (number : ℕ) (run : Run) (r : ReachedLive types old run) → LedBy now rest lines run r (answered number (Some (command.Settle p)) lines run)
 
-  pub at_start : holds_part old.sites p ≡ true → IsReachedLive kinds old → OfState kinds old.sites p (λ q. AreWaiting q.log items) → IsUnderWay old items []
+  pub at_start : holds_part old.sites p ≡ true → IsReachedLive types old → OfState types old.sites p (λ q. AreWaiting q.log items) → IsUnderWay old items []
   at_start has reached waits =
       let there = place_of_part old.sites p has in
-      let one = listed_are kinds old reached.run reached.reached p there items (waits (entries reached.reached.calls) reached.reached.sees.reached) in record {
+      let one = listed_are types old reached.run reached.reached p there items (waits (entries reached.reached.calls) reached.reached.sees.reached) in record {
         has = has;
         reached = reached;
         apart = subst AreOnce one.firsts (once (calls_of reached.run) p (waiting (calls_of reached.run) p) one.waits.times one.waits.order);
-        led = λ number run r. let l = listed_are kinds old run r p there items (waits (entries r.calls) r.sees.reached) in record { goes = goes_none kinds old run r; all = refl; same = λ u. refl; left = l.left; listed = l };
+        led = λ number run r. let l = listed_are types old run r p there items (waits (entries r.calls) r.sees.reached) in record { goes = goes_none types old run r; all = refl; same = λ u. refl; left = l.left; listed = l };
       }
 
-  pub may_settle : (now : LiveState E) (w : Waiting) (rest : List Waiting) (lines : List Step) → IsUnderWay now (w ∷ rest) lines → MaySettle kinds now p w.tx w.lead
+  pub may_settle : (now : LiveState E D) (w : Waiting) (rest : List Waiting) (lines : List Step) → IsUnderWay now (w ∷ rest) lines → MaySettle types now p w.tx w.lead
   may_settle now w rest lines u =
       let l = u.led 0 u.reached.run u.reached.reached in
       let there : IsPlace old.sites.sites old.sites.parts p = place_of_part old.sites p u.has in record {
-        place = subst (λ k. IsPlace k now.sites.parts p) (sym l.goes.size.sites_are) (subst (λ k. IsPlace old.sites.sites k p) (sym l.goes.size.parts_are) there);
+        place = subst (λ k. IsPlace k now.sites.parts p) (sym l.goes.same.sites_are) (subst (λ k. IsPlace old.sites.sites k p) (sym l.goes.same.parts_are) there);
         run = answered 0 (Some (command.Settle p)) lines u.reached.run;
         reached = l.goes.reached;
         waits = l.left.0;
         led = l.left.1;
       }
 
-  left_after : (now new : LiveState E) (w : Waiting) (s : Step) (number : ℕ) (run : Run) (r : ReachedLive kinds now run) → SettledTo kinds now new p w.tx s number run r → (ws : List Waiting) → AreOther w.tx (map (λ (x : Waiting). x.tx) ws) → AreLeft (parts_of run) (calls_of run) p ws → AreLeft (parts_of (settling number p s run)) (calls_of (settling number p s run)) p ws
+  left_after : (now new : LiveState E D) (w : Waiting) (s : Step) (number : ℕ) (run : Run) (r : ReachedLive types now run) → SettledTo types now new p w.tx s number run r → (ws : List Waiting) → AreOther w.tx (map (λ (x : Waiting). x.tx) ws) → AreLeft (parts_of run) (calls_of run) p ws → AreLeft (parts_of (settling number p s run)) (calls_of (settling number p s run)) p ws
   left_after now new w s number run r x [] a l = tt
   left_after now new w s number run r x (y ∷ ys) a l = (x.others y.tx a.0 ∙ l.0, x.leads y.tx ∙ l.1, left_after now new w s number run r x ys a.1 l.2)
 
-  pub at_next : (now new : LiveState E) (w : Waiting) (rest : List Waiting) (lines : List Step) (s : Step) → IsUnderWay now (w ∷ rest) lines → Settles kinds now new p w.tx w.lead s → IsUnderWay new rest (lines ++ s ∷ [])
+  pub at_next : (now new : LiveState E D) (w : Waiting) (rest : List Waiting) (lines : List Step) (s : Step) → IsUnderWay now (w ∷ rest) lines → Settles types now new p w.tx w.lead s → IsUnderWay new rest (lines ++ s ∷ [])
   at_next now new w rest lines s u x = record {
     has = u.has;
     reached = u.reached;
@@ -263,7 +263,7 @@ module _ {S E : Type 0} (kinds : Kinds S E) (old : LiveState E) (p : PartId) (it
         let middle : Run = answered number (Some (command.Settle p)) lines run in
         let y = x number middle l.goes.reached l.left.0 l.left.1 in
         subst (λ z. LedBy new rest (lines ++ s ∷ []) run r z) (sym (answered_more number (Some (command.Settle p)) lines s run)) (record {
-          goes = goes_both kinds old run r now middle l.goes new (settling number p s middle) y.goes;
+          goes = goes_both types old run r now middle l.goes new (settling number p s middle) y.goes;
           all = append_assoc lines (s ∷ []) (lines_for run rest) ∙ (ap (λ z. lines ++ z ∷ lines_for run rest) (y.line ∙ l.same w.tx) ∙ l.all);
           same = λ z. y.same z ∙ l.same z;
           left = left_after now new w s number middle l.goes.reached y rest u.apart.0 l.left.2;
@@ -271,25 +271,25 @@ module _ {S E : Type 0} (kinds : Kinds S E) (old : LiveState E) (p : PartId) (it
         });
   }
 
-  settle_has : (run : Run) → ReachedLive kinds old run → holds_part old.sites p ≡ true → not (has_part run p) ≡ false
-  settle_has run r h = ap not (sym (part_in kinds old run r p) ∙ h)
+  settle_has : (run : Run) → ReachedLive types old run → holds_part old.sites p ≡ true → not (has_part run p) ≡ false
+  settle_has run r h = ap not (sym (part_in types old run r p) ∙ h)
 
-  pub at_end : (now : LiveState E) (lines steps : List Step) → steps ≡ lines ++ step.Settled p ∷ [] → IsUnderWay now [] lines → AppliesLive kinds old (command.Settle p) steps now
+  pub at_end : (now : LiveState E D) (lines steps : List Step) → steps ≡ lines ++ step.Settled p ∷ [] → IsUnderWay now [] lines → AppliesLive types old (command.Settle p) steps now
   at_end now lines steps is u number run r =
       let l = u.led number run r in
       let middle : Run = answered number (Some (command.Settle p)) lines run in
-      let last = goes_quiet kinds now number (Some (command.Settle p)) (step.Settled p) middle (record { called = refl; cluster = refl; sites = λ n. refl; parts = λ n. refl; site = λ who old. refl; count = λ n. refl; phase = λ who. refl }) refl l.goes.reached in
+      let last = goes_quiet types now number (Some (command.Settle p)) (step.Settled p) middle (record { called = refl; cluster = refl; sites = λ n. refl; parts = λ n. refl; site = λ who old. refl; count = λ n. refl; phase = λ who. refl }) refl l.goes.reached in
       let by_items : lines ≡ lines_for run items = sym (append-nil lines) ∙ l.all in
       let by_times : lines_for run items ≡ map (λ (x : TxId × ℕ). settled (parts_of run) (calls_of run) p x.0) (waiting (calls_of run) p) =
       sym (map-map (λ t. settled (parts_of run) (calls_of run) p t) (λ (w : Waiting). w.tx) items) ∙ (ap (map (λ t. settled (parts_of run) (calls_of run) p t)) (sym l.listed.firsts) ∙ map-map (λ t. settled (parts_of run) (calls_of run) p t) (λ (x : TxId × ℕ). x.0) (waiting (calls_of run) p)) in
       let whole : steps ≡ lines_of_all (parts_of run) (calls_of run) p (waiting (calls_of run) p) = is ∙ ap (λ z. z ++ step.Settled p ∷ []) (by_items ∙ by_times) in
-      let up : is_down (calls_of run) p ≡ false = down_is kinds old run r p (place_of_part old.sites p u.has) in
+      let up : is_down (calls_of run) p ≡ false = down_is types old run r p (place_of_part old.sites p u.has) in
       let answer : IsSettled run p steps = either_false _ _ (is_down (calls_of run) p) up (subst (SettlesAll (parts_of run) (calls_of run) p (waiting (calls_of run) p)) (sym whole) (settles_all (parts_of run) (calls_of run) p (waiting (calls_of run) p))) in (
         (subst (AnswersBy run (command.Settle p) steps) (sym (none_due (all_met run (command.Settle p)) (refl, (ap not r.has, (settle_has run r u.has, tt))))) answer, ap are_sound whole ∙ sound_all (parts_of run) (calls_of run) p (waiting (calls_of run) p)),
-        subst (λ x. GoesTo kinds old run r now (answered number (Some (command.Settle p)) x run)) (sym is) (subst (λ z. GoesTo kinds old run r now z) (sym (answered_more number (Some (command.Settle p)) lines (step.Settled p) run)) (goes_both kinds old run r now middle l.goes now _ last)),
+        subst (λ x. GoesTo types old run r now (answered number (Some (command.Settle p)) x run)) (sym is) (subst (λ z. GoesTo types old run r now z) (sym (answered_more number (Some (command.Settle p)) lines (step.Settled p) run)) (goes_both types old run r now middle l.goes now _ last)),
       )
 
-  pub settle_nowhere : (steps : List Step) → steps ≡ step.NoPart ∷ [] → holds_part old.sites p ≡ false → AppliesLive kinds old (command.Settle p) steps old
-  settle_nowhere steps is lacks = refused kinds old (command.Settle p) step.NoPart steps is refl
-      (λ run r. first_at (all_met run (command.Settle p)) 2 (refl, (ap not r.has, ap not (sym (part_in kinds old run r p) ∙ lacks))))
+  pub settle_nowhere : (steps : List Step) → steps ≡ step.NoPart ∷ [] → holds_part old.sites p ≡ false → AppliesLive types old (command.Settle p) steps old
+  settle_nowhere steps is lacks = refused types old (command.Settle p) step.NoPart steps is refl
+      (λ run r. first_at (all_met run (command.Settle p)) 2 (refl, (ap not r.has, ap not (sym (part_in types old run r p) ∙ lacks))))
       (λ run r who. refl)

@@ -2,7 +2,6 @@
 use Rattle.std.proofs.Common.{◌≡◌, ℕ, true, false, List, ◌∷◌, refl, sym, ap, ◌∙◌, subst, Option, None, Some}
 use Rattle.std.specs.Prelude.{◌||◌, ◌&&◌, nat_le}
 use Rattle.std.proofs.lemmas.Bool.{cond-false}
-use Rattle.crdt_core.specs.KindsOf.{Kinds}
 use Rattle.world_model.specs.declared.command.Command.{Command}
 use Rattle.world_model.specs.declared.step.Step.{Step}
 use Rattle.world_model.specs.Cluster.{is_cluster, has_cluster, sites_of, parts_of, sites_after, parts_after}
@@ -14,7 +13,8 @@ use Rattle.world_model.specs.ScriptCalls.{is_called, calls_of}
 use Rattle.txn_session.specs.Calls.{Call}
 use Rattle.txn_session.specs.Holds.{Holds}
 use Rattle.txn_session.specs.Session.{SessionState}
-use Rattle.cluster.specs.Held.{size_refl, size_trans}
+use Rattle.site_partitions.specs.Reaches.{Types}
+use Rattle.cluster.specs.Same.{same_refl, same_trans}
 use Rattle.cluster.specs.Live.{LiveState, session_in}
 use Rattle.cluster.specs.Reached.{StandsAs, ReachedLive, GoesTo}
 use Rattle.cluster.proofs.Keeping.{is_postal, grows_none, grows_both, keeps_line, keeps_none, keeps_both}
@@ -52,9 +52,9 @@ pub record IsQuiet (run : Run) (asked : Option Command) (s : Step) : Type 0 wher
   pub count : (n : ℕ) → count_after n s ≡ n
   pub phase : (who : List ℕ) → phase_after (parts_of run) who (phase run who) asked s ≡ phase run who
 
-module _ {S E : Type 0} (kinds : Kinds S E) where
+module _ {S E D : Type 0} (types : Types S E D) where
   -- a line that shows no call, and that gives no session another phase, leaves the cluster as it was
-  abbrev pub quiet_still : (c : LiveState E) (number : ℕ) (asked : Option Command) (s : Step) (run : Run) → IsQuiet run asked s → ReachedLive kinds c run → ReachedLive kinds c ((record { number = number; command = asked; step = s }) ∷ run)
+  abbrev pub quiet_still : (c : LiveState E D) (number : ℕ) (asked : Option Command) (s : Step) (run : Run) → IsQuiet run asked s → ReachedLive types c run → ReachedLive types c ((record { number = number; command = asked; step = s }) ∷ run)
   quiet_still c number asked s run m r = record {
     has = ap (λ x. x || has_cluster run) m.cluster ∙ r.has;
     sites = r.sites ∙ sym (m.sites (sites_of run));
@@ -82,20 +82,20 @@ module _ {S E : Type 0} (kinds : Kinds S E) where
         depends = (λ i. dependency (m.sites (sites_of run) i) (lines i) who);
       }
 
-  pub goes_quiet : (c : LiveState E) (number : ℕ) (asked : Option Command) (s : Step) (run : Run) → IsQuiet run asked s → is_postal s ≡ false → (r : ReachedLive kinds c run) → GoesTo kinds c run r c ((record { number = number; command = asked; step = s }) ∷ run)
-  goes_quiet c number asked s run m h r = record { size = size_refl c.sites; reached = quiet_still c number asked s run m r; grows = grows_none r.calls; keeps = keeps_line number asked s run h }
+  pub goes_quiet : (c : LiveState E D) (number : ℕ) (asked : Option Command) (s : Step) (run : Run) → IsQuiet run asked s → is_postal s ≡ false → (r : ReachedLive types c run) → GoesTo types c run r c ((record { number = number; command = asked; step = s }) ∷ run)
+  goes_quiet c number asked s run m h r = record { same = same_refl types.state c.sites; reached = quiet_still c number asked s run m r; grows = grows_none r.calls; keeps = keeps_line number asked s run h }
 
   -- so does one that no partition answered
-  abbrev pub mere_still : (c : LiveState E) (number : ℕ) (asked : Option Command) (s : Step) (run : Run) → IsMere s → ((who : List ℕ) → by_command (parts_of run) who (phase run who) asked s ≡ phase run who) → ReachedLive kinds c run → ReachedLive kinds c ((record { number = number; command = asked; step = s }) ∷ run)
+  abbrev pub mere_still : (c : LiveState E D) (number : ℕ) (asked : Option Command) (s : Step) (run : Run) → IsMere s → ((who : List ℕ) → by_command (parts_of run) who (phase run who) asked s ≡ phase run who) → ReachedLive types c run → ReachedLive types c ((record { number = number; command = asked; step = s }) ∷ run)
   mere_still c number asked s run m idle r = quiet_still c number asked s run
       (record { called = uncalled asked s m.answer; cluster = m.cluster; sites = m.sites; parts = m.parts; site = m.site; count = m.count; phase = λ who. m.phase (parts_of run) who (phase run who) asked ∙ idle who }) r
 
   -- and so does a refusal
-  pub live_still : (c : LiveState E) (number : ℕ) (asked : Option Command) (s : Step) (run : Run) → is_mere s ≡ true → ((who : List ℕ) → by_command (parts_of run) who (phase run who) asked s ≡ phase run who) → (r : ReachedLive kinds c run) → GoesTo kinds c run r c ((record { number = number; command = asked; step = s }) ∷ run)
-  live_still c number asked s run h idle r = record { size = size_refl c.sites; reached = mere_still c number asked s run (mere s h) idle r; grows = grows_none r.calls; keeps = keeps_line number asked s run (mere_plain s h) }
+  pub live_still : (c : LiveState E D) (number : ℕ) (asked : Option Command) (s : Step) (run : Run) → is_mere s ≡ true → ((who : List ℕ) → by_command (parts_of run) who (phase run who) asked s ≡ phase run who) → (r : ReachedLive types c run) → GoesTo types c run r c ((record { number = number; command = asked; step = s }) ∷ run)
+  live_still c number asked s run h idle r = record { same = same_refl types.state c.sites; reached = mere_still c number asked s run (mere s h) idle r; grows = grows_none r.calls; keeps = keeps_line number asked s run (mere_plain s h) }
 
-  pub goes_none : (c : LiveState E) (run : Run) (r : ReachedLive kinds c run) → GoesTo kinds c run r c run
-  goes_none c run r = record { size = size_refl c.sites; reached = r; grows = grows_none r.calls; keeps = keeps_none run }
+  pub goes_none : (c : LiveState E D) (run : Run) (r : ReachedLive types c run) → GoesTo types c run r c run
+  goes_none c run r = record { same = same_refl types.state c.sites; reached = r; grows = grows_none r.calls; keeps = keeps_none run }
 
-  pub goes_both : (a : LiveState E) (run : Run) (r : ReachedLive kinds a run) (b : LiveState E) (next : Run) (x : GoesTo kinds a run r b next) (c : LiveState E) (last : Run) → GoesTo kinds b next x.reached c last → GoesTo kinds a run r c last
-  goes_both a run r b next x c last y = record { size = size_trans a.sites b.sites c.sites x.size y.size; reached = y.reached; grows = grows_both r.calls x.reached.calls y.reached.calls x.grows y.grows; keeps = keeps_both run next last x.keeps y.keeps }
+  pub goes_both : (a : LiveState E D) (run : Run) (r : ReachedLive types a run) (b : LiveState E D) (next : Run) (x : GoesTo types a run r b next) (c : LiveState E D) (last : Run) → GoesTo types b next x.reached c last → GoesTo types a run r c last
+  goes_both a run r b next x c last y = record { same = same_trans types.state a.sites b.sites c.sites x.same y.same; reached = y.reached; grows = grows_both r.calls x.reached.calls y.reached.calls x.grows y.grows; keeps = keeps_both run next last x.keeps y.keeps }

@@ -4,7 +4,9 @@ use Rattle.std.specs.Prelude.{not, if◌then◌else◌}
 use Rattle.std.specs.Str.{bytes_eq}
 use Rattle.std.proofs.lemmas.Bool.{true≢false, cond-true, cond-false, cases_Bool}
 use Rattle.site_vector.specs.declared.ids.PartId.{PartId}
-use Rattle.crdt_core.specs.KindsOf.{Kinds}
+use Rattle.site_vector.specs.declared.ids.TxId.{TxId}
+use Rattle.world_model.specs.Updates as world
+use Rattle.world_model.specs.Updates.{change_of}
 use Rattle.world_model.specs.declared.command.Command.{Command}
 use Rattle.world_model.specs.declared.commit.Next.{Next}
 use Rattle.world_model.specs.declared.commit.Next.TheVariants as next
@@ -21,26 +23,33 @@ use Rattle.world_model.specs.Phases.{Phase, phase, phase_after, by_command, goin
 use Rattle.world_model.specs.Plan.{home}
 use Rattle.world_model.specs.Run.{Run}
 use Rattle.world_model.specs.ScriptAnswers as script
-use Rattle.world_model.specs.ScriptAnswers.{StepsOf, is_sound, Either, Then, fewer}
+use Rattle.world_model.specs.ScriptAnswers.{StepsOf, Either, Then, fewer}
 use Rattle.world_model.specs.ScriptCalls.{is_answer, for_step, asked_of, calls_of}
 use Rattle.world_model.proofs.Names.{off}
 use Rattle.clocksi_commit.specs.Commit.{Committing}
-use Rattle.txn_session.specs.Calls.{Call, entries}
-use Rattle.txn_session.specs.Holds.{HoldsTxn, HoldsDoing, MakesStep, Waits, next_of}
+use Rattle.txn_session.specs.Calls.{Call, called, entries}
+use Rattle.txn_session.specs.Holds.{HoldsTxn, HoldsDoing, MakesStep, TellsStep, Waits, next_of}
 use Rattle.txn_session.specs.Opens.{EndsAs, dependency_told, next_said, stepped_by}
 use Rattle.txn_session.specs.Session as session
 use Rattle.txn_session.specs.Session.{Txn, Doing, Idle, Open, Ending, SessionState, committed_so, participants, first_or_zero, has_step, doing_so, depends, place_in, phase_of, phase_in}
+use Rattle.site_partitions.specs.Reaches.{Types}
 use Rattle.cluster.specs.declared.commits.Way.{Way}
 use Rattle.cluster.specs.declared.commits.Way.TheVariants as way
 use Rattle.cluster.specs.Ends.{command_of, turned_to, MayFollow, goes_on, doing_on, on_way, can_go, stops, TakesStep}
-use Rattle.cluster.specs.Held.{Held, SameSize}
+use Rattle.site_partitions.specs.Held.{Held}
+use Rattle.cluster.specs.Same.{SameCluster}
 use Rattle.cluster.specs.Live.{LiveState, session_in, IsPut}
 use Rattle.cluster.specs.Reached.{phase_as, StandsBy, StandsAs, ReachedLive, GoesTo}
 use Rattle.cluster.proofs.Keeping.{grows_none, keeps_line}
+use Rattle.cluster.specs.Faults.{TellsFault, ShowsFault}
 use Rattle.cluster.specs.Sees.{Sees}
+use Rattle.cluster.proofs.Doubting.{decided_at}
+use Rattle.cluster.proofs.Faulted.{shows_told}
+use Rattle.cluster.proofs.Seeing.{told_last}
+use Rattle.cluster.proofs.Unchanging.{lead_stays, end_changes}
 use Rattle.cluster.proofs.Ends.{is_step, part_for, is_end_ask, step_left, holders_are, end_phase, shown_of, ask_for, end_ask, placed_for, own_for, past_for, depends_for}
 use Rattle.cluster.proofs.Meets.{by_name}
-use Rattle.cluster.proofs.Sessions.{Turns, nobody, turns, acted, own_name, same_name}
+use Rattle.cluster.proofs.Sessions.{Turns, Owes, nobody, turns, acted, acted_calls, own_name, same_name}
 use Rattle.cluster.proofs.Stages.{size, shrinks, asked_end, of_way, idle_end, IsStage, stage_opened, stage_committing, stage_giving, over_opened}
 use Rattle.cluster.proofs.Standing.{stands_still}
 use Rattle.cluster.proofs.Turned.{answer_up}
@@ -110,38 +119,46 @@ module _ {E : Type 0} where
   size_on way.Commits site parts txn lead commit = refl
   size_on way.GivesUp site parts txn lead commit = refl
 
-module _ {S E : Type 0} (kinds : Kinds S E) where
-  step_turns : (later : Held E) (calls : List (Call E)) (start new : SessionState E) (txn : Txn E) (lead : ℕ) (commit : Committing) (answer : Step) (w : What) → is_step w ≡ true
-      → MakesStep (λ h (p : Unit {0}) l. Sees kinds h l) (λ (p : Unit {0}) n. true) later tt calls start new answer (Ending txn lead commit) w
-      → Turns kinds later calls new (place_in start (part_for w)) (ask_for start.parts txn lead w) answer
-  step_turns later calls start new txn lead commit answer (what.Prepare p) h m = turns kinds later tt calls start new (Some txn.by) _ _ answer m
-  step_turns later calls start new txn lead commit answer (what.Decide p c) h m = turns kinds later tt calls start new (Some txn.by) _ _ answer m
-  step_turns later calls start new txn lead commit answer (what.Finish p c) h m = turns kinds later tt calls start new None _ _ answer m
-  step_turns later calls start new txn lead commit answer (what.Abort p) h m = turns kinds later tt calls start new (Some txn.by) _ _ answer m
+-- what the line of a step tells, its partition's tells
+told_at : {E X : Type 0} (tells : X → X → PartId → Step → Type 0) (old new : X) (start : SessionState E) (answer : Step) (w : What) → is_step w ≡ true → TellsStep tells old new start answer w → tells old new (place_in start (part_for w)) answer
+told_at tells old new start answer (what.Prepare p) h x = x
+told_at tells old new start answer (what.Decide p c) h x = x
+told_at tells old new start answer (what.Finish p c) h x = x
+told_at tells old new start answer (what.Abort p) h x = x
+told_at tells old new start answer what.Done h x = off h
+
+module _ {S E D : Type 0} (types : Types S E D) where
+  step_turns : (later : Held E D) (calls : List (Call E)) (start new : SessionState E) (txn : Txn E) (lead : ℕ) (commit : Committing) (answer : Step) (w : What) → is_step w ≡ true
+      → MakesStep (λ h (p : Unit {0}) l. Sees types h l) (λ (p : Unit {0}) n. true) later tt calls start new answer (Ending txn lead commit) w
+      → Turns types later calls new (place_in start (part_for w)) (ask_for start.parts txn lead w) answer
+  step_turns later calls start new txn lead commit answer (what.Prepare p) h m = turns types later tt calls start new (Some txn.by) _ _ answer m
+  step_turns later calls start new txn lead commit answer (what.Decide p c) h m = turns types later tt calls start new (Some txn.by) _ _ answer m
+  step_turns later calls start new txn lead commit answer (what.Finish p c) h m = turns types later tt calls start new None _ _ answer m
+  step_turns later calls start new txn lead commit answer (what.Abort p) h m = turns types later tt calls start new (Some txn.by) _ _ answer m
   step_turns later calls start new txn lead commit answer what.Done h m = off h
 
-  done_sees : (later : Held E) (calls : List (Call E)) (start new : SessionState E) (answer : Step) (d : Doing E) (w : What) → w ≡ what.Done
-      → MakesStep (λ h (p : Unit {0}) l. Sees kinds h l) (λ (p : Unit {0}) n. true) later tt calls start new answer d w
-      → Sees kinds later calls
-  done_sees later calls start new answer d w e m = by_doing d (subst (λ x. MakesStep (λ h (p : Unit {0}) l. Sees kinds h l) (λ (p : Unit {0}) n. true) later tt calls start new answer d x) e m)
+  done_sees : (later : Held E D) (calls : List (Call E)) (start new : SessionState E) (answer : Step) (d : Doing E) (w : What) → w ≡ what.Done
+      → MakesStep (λ h (p : Unit {0}) l. Sees types h l) (λ (p : Unit {0}) n. true) later tt calls start new answer d w
+      → Sees types later calls
+  done_sees later calls start new answer d w e m = by_doing d (subst (λ x. MakesStep (λ h (p : Unit {0}) l. Sees types h l) (λ (p : Unit {0}) n. true) later tt calls start new answer d x) e m)
     where
-      of_wait : Waits (λ h (p : Unit {0}) l. Sees kinds h l) (λ (p : Unit {0}) n. true) later tt calls start new → Sees kinds later calls
-      of_wait x = subst (λ more. Sees kinds later (more ++ calls)) (nobody kinds x.more x.others) x.seen
+      of_wait : Waits (λ h (p : Unit {0}) l. Sees types h l) (λ (p : Unit {0}) n. true) later tt calls start new → Sees types later calls
+      of_wait x = subst (λ more. Sees types later (more ++ calls)) (nobody types x.more x.others) x.seen
 
-      by_doing : (d : Doing E) → MakesStep (λ h (p : Unit {0}) l. Sees kinds h l) (λ (p : Unit {0}) n. true) later tt calls start new answer d what.Done → Sees kinds later calls
+      by_doing : (d : Doing E) → MakesStep (λ h (p : Unit {0}) l. Sees types h l) (λ (p : Unit {0}) n. true) later tt calls start new answer d what.Done → Sees types later calls
       by_doing Idle x = of_wait x
       by_doing (Open txn) x = of_wait x
       by_doing (Ending txn lead commit) x = of_wait x
 
-  module _ (c : LiveState E) (run : Run) (r : ReachedLive kinds c run) (number : ℕ) (name : List ℕ) (s : SessionState E) (is : session_in c.sessions name ≡ Some s) where
+  module _ (c : LiveState E D) (run : Run) (r : ReachedLive types c run) (number : ℕ) (name : List ℕ) (s : SessionState E) (is : session_in c.sessions name ≡ Some s) where
     st : StandsBy run r.calls name s
-    st = by_name kinds c run r name s is
+    st = by_name types c run r name s is
 
     -- nothing is left: the session is idle
-    ended_line : (cmd : Command) (later : Held E) (sessions : List (List ℕ × SessionState E)) → SameSize c.sites later → IsPut c.sessions name (doing_so s Idle) sessions → Sees kinds later r.calls
-        → GoesTo kinds c run r (record { sites = later; sessions = sessions }) ((record { number = number; command = Some cmd; step = step.Ended name }) ∷ run)
+    ended_line : (cmd : Command) (later : Held E D) (sessions : List (List ℕ × SessionState E)) → SameCluster types.state c.sites later → IsPut c.sessions name (doing_so s Idle) sessions → Sees types later r.calls
+        → GoesTo types c run r (record { sites = later; sessions = sessions }) ((record { number = number; command = Some cmd; step = step.Ended name }) ∷ run)
     ended_line cmd later sessions size put seen = record {
-      size = size;
+      same = size;
       grows = grows_none r.calls;
       keeps = keeps_line number (Some cmd) (step.Ended name) run refl;
       reached = record {
@@ -180,7 +197,7 @@ module _ {S E : Type 0} (kinds : Kinds S E) where
             of_name true h = subst (λ n. StandsBy after_it r.calls n (doing_so s Idle)) (same_name name who h) mine
             of_name false h = stands_still after_it run r.calls r.calls who (session_in c.sessions who) (record { sites = refl; parts = refl; site = refl; phase = cond-false (bytes_eq name who) phases.Idle (phase run who) h; depends = refl }) (λ x e k. k) (r.each who)
 
-    module _ (w : Way) (steps : Option ℕ) (later : Held E) (sessions : List (List ℕ × SessionState E)) (new : SessionState E) (answer : Step) (goes : Bool) (same : SameSize c.sites later) (put : IsPut c.sessions name new sessions) (d : TakesStep kinds later w answer goes s new r.calls) where
+    module _ (w : Way) (steps : Option ℕ) (later : Held E D) (sessions : List (List ℕ × SessionState E)) (new : SessionState E) (answer : Step) (goes : Bool) (same : SameCluster types.state c.sites later) (put : IsPut c.sessions name new sessions) (d : TakesStep types c.sites later w answer goes s new r.calls) where
       abbrev start : SessionState E
       start = on_way w s
 
@@ -192,24 +209,26 @@ module _ {S E : Type 0} (kinds : Kinds S E) where
 
       -- the line and what follows it answer what is left of the command; the session may go on if the command does
       pub record GoesSo : Type 0 where
-        pub reached : GoesTo kinds c run r (record { sites = later; sessions = sessions }) after_it
+        pub reached : GoesTo types c run r (record { sites = later; sessions = sessions }) after_it
         pub follow : (left : Option ℕ) (rest : List Step) → (left ≡ Some 0 → next_of start.doing ≡ what.Done) → Follows goes w name after_it left rest → MayFollow w name run left (answer ∷ rest)
         pub stop : (left : Option ℕ) → goes ≡ true → stops left (Some new) ≡ true → MayFollow w name after_it left []
         pub more : (left : Option ℕ) → goes ≡ true → stops left (Some new) ≡ false → left ≡ Some 0 → next_of (on_way w new).doing ≡ what.Done
         pub can : goes ≡ true → can_go w new.doing ≡ true
         pub less : goes ≡ true → steps_left w (Some new) < steps_left w (Some s)
-        pub sound : is_sound answer ≡ true
+        pub tells : ShowsFault types.state run c.sites later answer
+        pub leads : (u : TxId) → world.lead (parts_of after_it) (calls_of after_it) u ≡ world.lead (parts_of run) (calls_of run) u
 
       over : ((left : Option ℕ) → MayFollow w name run left (step.Ended name ∷ [])) → next_of start.doing ≡ what.Done → GoesSo
       over lines e = record {
-        reached = subst (λ l. GoesTo kinds c run r (record { sites = later; sessions = sessions }) ((record { number = number; command = Some cmd; step = l }) ∷ run)) (sym said)
+        reached = subst (λ l. GoesTo types c run r (record { sites = later; sessions = sessions }) ((record { number = number; command = Some cmd; step = l }) ∷ run)) (sym said)
             (ended_line cmd later sessions same (subst (λ y. IsPut c.sessions name y sessions) idle put) (done_sees later r.calls start new answer start.doing (next_of start.doing) e d.1.made));
         follow = λ left rest k f. let none : rest ≡ [] = subst (λ b. Follows b w name after_it left rest) shut f in subst (λ l. MayFollow w name run left l) (λ i. sym said i ∷ sym none i) (lines left);
         stop = λ left h k. absurd (true≢false (sym h ∙ shut));
         more = λ left h k l. absurd (true≢false (sym h ∙ shut));
         can = λ h. absurd (true≢false (sym h ∙ shut));
         less = λ h. absurd (true≢false (sym h ∙ shut));
-        sound = ap is_sound said;
+        tells = subst (ShowsFault types.state run c.sites later) (sym said) tt;
+        leads = subst (λ l. (u : TxId) → world.lead (parts_of ((record { number = number; command = Some cmd; step = l }) ∷ run)) (calls_of ((record { number = number; command = Some cmd; step = l }) ∷ run)) u ≡ world.lead (parts_of run) (calls_of run) u) (sym said) (λ u. refl);
       }
         where
           idle : new ≡ doing_so s Idle
@@ -243,8 +262,8 @@ module _ {S E : Type 0} (kinds : Kinds S E) where
           abbrev place : PartId
           place = place_in start (part_for asked)
 
-          t : Turns kinds later r.calls new place (ask_for s.parts txn lead asked) answer
-          t = step_turns later r.calls start new txn lead commit answer asked asks (subst (λ y. MakesStep (λ h (p : Unit {0}) l. Sees kinds h l) (λ (p : Unit {0}) n. true) later tt r.calls start new answer y (next_of y)) e d.1.made)
+          t : Turns types later r.calls new place (ask_for s.parts txn lead asked) answer
+          t = step_turns later r.calls start new txn lead commit answer asked asks (subst (λ y. MakesStep (λ h (p : Unit {0}) l. Sees types h l) (λ (p : Unit {0}) n. true) later tt r.calls start new answer y (next_of y)) e d.1.made)
 
           new_is : new ≡ depends (doing_so s (Ending txn lead (committed_so commit gone))) (dependency_told s.dependency asked answer)
           new_is = d.1.is ∙ (ap (λ y. stepped_by start answer (next_of y)) e ∙ (stepped_is start answer asked asks ∙ ap (λ y. depends (doing_so start (session.answered y answer)) (dependency_told s.dependency asked answer)) e))
@@ -254,7 +273,7 @@ module _ {S E : Type 0} (kinds : Kinds S E) where
 
           phase_is : phase after_it name ≡ phases.Ending txn.tx txn.s gone
           phase_is = ap (phase_after (parts_of run) name (phase run name) (Some cmd)) t.shows
-              ∙ (end_phase (entries r.calls) place t.event (ap is_end_ask t.asked ∙ end_ask s.parts txn lead asked asks) t.seen.calm.0 (parts_of run) name (phase run name) (Some cmd)
+              ∙ (end_phase (entries r.calls) place t.event (ap is_end_ask t.asked ∙ end_ask s.parts txn lead asked asks) (parts_of run) name (phase run name) (Some cmd)
               ∙ (ap (by_command (parts_of run) name (phase run name) (Some cmd)) (sym t.shows) ∙ stage.by answer))
 
           goes_is : goes ≡ is_go (after commit.going answer).1
@@ -266,9 +285,9 @@ module _ {S E : Type 0} (kinds : Kinds S E) where
           placed : asked_of (calls_of run) run cmd ≡ record { at = place; call = call_asked (ask_for s.parts txn lead asked) }
           placed = asked_end w (calls_of run) run name steps ∙ (stage.placed ∙ ((λ i. for_step txn.tx (next_step ((x.site_is ∙ sym at_site) i) (sym snapshot i) commit.going)) ∙ placed_for s.parts txn lead asked s.site asks x.site_is))
 
-          now_reached : GoesTo kinds c run r (record { sites = later; sessions = sessions }) after_it
-          now_reached = acted kinds c run r number cmd name s is new place (ask_for s.parts txn lead asked) answer later t sessions (record {
-            size = same;
+          owed : Owes types c run r number cmd name s is new place (ask_for s.parts txn lead asked) answer later t sessions
+          owed = record {
+            same = same;
             put = put;
             there = record { name = ap (λ y. y.name) new_is; site = ap (λ y. y.site) new_is; sites = ap (λ y. y.sites) new_is; parts = ap (λ y. y.parts) new_is };
             own = own_for s.parts txn lead (entries r.calls) name asked asks (x.session ∙ st.name);
@@ -278,11 +297,18 @@ module _ {S E : Type 0} (kinds : Kinds S E) where
             idle = λ who h line. idle_end w (parts_of run) name who steps (phase run who) h line;
             few = subst (λ y. update_total (phase_as y) ≤ 256) (sym doing_is) (omega arith);
             phase = phase_is ∙ ap phase_as (sym doing_is);
-            depends = ap (λ y. y.dependency) new_is ∙ (ap (dependency_told s.dependency asked) t.shows ∙ depends_for s.parts txn lead (entries r.calls) place asked asks t.event t.asked t.seen.calm.0 (sites_of run) name s.dependency of_name);
-          })
+            depends = ap (λ y. y.dependency) new_is ∙ (ap (dependency_told s.dependency asked) t.shows ∙ depends_for s.parts txn lead (entries r.calls) place asked asks t.event t.asked (sites_of run) name s.dependency of_name);
+          }
             where
               of_name : is_of (entries r.calls) name txn.tx ≡ true
               of_name = subst (λ n. is_of (entries r.calls) n txn.tx ≡ true) st.name (shown_of (entries r.calls) (home txn.tx) s.name x.handed txn.tx txn.s x.shown)
+
+          now_reached : GoesTo types c run r (record { sites = later; sessions = sessions }) after_it
+          now_reached = acted types c run r number cmd name s is new place (ask_for s.parts txn lead asked) answer later t sessions owed
+
+          leads_stay : (u : TxId) → world.lead (parts_of after_it) (calls_of after_it) u ≡ world.lead (parts_of run) (calls_of run) u
+          leads_stay u = (λ i. world.lead ((sym now_reached.reached.parts ∙ (same.parts_are ∙ r.parts)) i) (acted_calls types c run r number cmd name s is new place (ask_for s.parts txn lead asked) answer later t sessions owed i) u)
+              ∙ lead_stays (parts_of run) (calls_of run) place (call_asked (ask_for s.parts txn lead asked)) answer (λ time index v. ap (λ l. change_of place time index (call_asked (ask_for s.parts txn lead asked)) l v) t.shows ∙ end_changes (entries r.calls) place t.event (ap is_end_ask t.asked ∙ end_ask s.parts txn lead asked asks) place time index (call_asked (ask_for s.parts txn lead asked)) v) u
 
           -- what may come after the line, where it stands so
           may_now : (left : Option ℕ) (rest : List Step) → script.Steps name (turned_to w gone) left rest → MayFollow w name after_it left rest
@@ -294,8 +320,15 @@ module _ {S E : Type 0} (kinds : Kinds S E) where
           then_so left rest next.Stay k true h f = absurd (true≢false h)
           then_so left rest next.Stay k false h f = f
 
-          up : (is_answer answer ≡ true) × (is_sound answer ≡ true)
-          up = answer_up (entries r.calls) place t.event answer t.shows t.seen.calm.0
+          up : is_answer answer ≡ true
+          up = answer_up (entries r.calls) place t.event answer t.shows (told_last types later (called t.by place t.event) r.calls t.seen)
+
+          -- a decide in doubt was asked of the lead
+          led : (u : TxId) → answer ≡ step.Unsure u → world.lead (parts_of run) (calls_of run) u ≡ place
+          led u k = decided_at types c run r later same place t.by t.event t.seen u (sym t.shows ∙ k)
+
+          tells : ShowsFault types.state run c.sites later answer
+          tells = shows_told types.state run c.sites later place answer (told_at (TellsFault types.state) c.sites later start answer asked asks (subst (TellsStep (TellsFault types.state) c.sites later start answer) next_is d.1.tells)) led
 
           counted : (left : Option ℕ) → (left ≡ Some 0 → next_of start.doing ≡ what.Done) → left ≡ Some 0 → ⊥
           counted left k z = true≢false (sym asks ∙ ap is_step (sym next_is ∙ k z))
@@ -314,13 +347,14 @@ module _ {S E : Type 0} (kinds : Kinds S E) where
           going_on : GoesSo
           going_on = record {
             reached = now_reached;
-            follow = λ left rest k f. stage.lines left (answer ∷ rest) (either_false _ _ (is_done commit.going) todo (counted left k, up.0, then_so left rest (after commit.going answer).1 refl goes goes_is f));
+            follow = λ left rest k f. stage.lines left (answer ∷ rest) (either_false _ _ (is_done commit.going) todo (counted left k, up, then_so left rest (after commit.going answer).1 refl goes goes_is f));
             stop = λ left h k. stop_so left k;
             more = λ left h k z. more_so left k z;
             can = λ h. ap (can_go w) doing_is ∙ stage.can answer lead commit;
             less = λ h. subst (λ n. n < steps_left w (Some s)) (sym (ap (λ y. doing_size (doing_on w new.site new.parts y)) doing_is ∙ (size_on w new.site new.parts txn lead (committed_so commit gone) ∙ ap size (stage.again answer))))
                 (subst (λ n. size gone < n) (sym (ap doing_size e)) (shrinks commit.going answer todo (go_said h)));
-            sound = up.1;
+            tells = tells;
+            leads = leads_stay;
           }
 
       -- the transaction, and its commit as the command takes it up

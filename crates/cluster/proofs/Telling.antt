@@ -7,7 +7,6 @@ use Rattle.site_vector.specs.declared.ids.PartId.{PartId}
 use Rattle.site_vector.specs.declared.ids.TxId.{TxId}
 use Rattle.site_vector.specs.Ids.{same_part, same_tx}
 use Rattle.site_vector.specs.Order.{same_part_is, same_part_refl, same_tx_is, same_tx_refl}
-use Rattle.crdt_core.specs.KindsOf.{Kinds}
 use Rattle.crdt_core.specs.Log as log
 use Rattle.crdt_core.specs.Log.{prepared_lead, prepare_time, committed}
 use Rattle.crdt_core.specs.Orders.{Precede, Ascends, pending_cmp}
@@ -37,8 +36,10 @@ use Rattle.world_model.proofs.Waiting.{same_pending}
 use Rattle.partition_core.specs.Stands.{told, AreEntries}
 use Rattle.partition_core.specs.Tables.{Tables}
 use Rattle.txn_session.specs.Calls.{entries}
-use Rattle.cluster.specs.declared.fates.Waiting.{Waiting}
-use Rattle.cluster.specs.Fates.{lead_place, waiting_of, AreWaiting}
+use Rattle.site_partitions.specs.Reaches.{Types}
+use Rattle.site_partitions.specs.declared.fates.Waiting.{Waiting}
+use Rattle.site_partitions.specs.Fates.{waiting_of, AreWaiting}
+use Rattle.cluster.specs.Fates.{lead_place}
 use Rattle.cluster.specs.Live.{LiveState}
 use Rattle.cluster.specs.Reached.{ReachedLive}
 
@@ -145,15 +146,12 @@ module _ {E : Type 0} where
   ascend [] h = tt
   ascend (x ∷ xs) h = (before_all x xs h.0, ascend xs h.1)
 
-module _ {S E : Type 0} (kinds : Kinds S E) (c : LiveState E) (run : Run) (r : ReachedLive kinds c run) where
+module _ {S E D : Type 0} (types : Types S E D) (c : LiveState E D) (run : Run) (r : ReachedLive types c run) where
   abbrev pub state : PartId → PartState E
   state = r.sees.reached.state
 
-  blank : PartId → Tables E
-  blank p = record { id = p; sites = 0; parts = 0; clock = 0; ceiling = 0; pending = []; held = []; bounds = []; heard = []; sent = [] }
-
   of_law : (p : PartId) → Told c.sites.sites c.sites.parts (entries r.calls) r.sees.reached.state p
-  of_law p = law.told kinds c.sites.sites c.sites.parts (entries r.calls) r.sees.reached.state r.sees.reached.is_run p
+  of_law p = law.told types.kinds c.sites.sites c.sites.parts (entries r.calls) r.sees.reached.state r.sees.reached.is_run p
 
   pub lead_same : (t : TxId) → lead c.sites.parts (lines_of (entries r.calls)) t ≡ lead (parts_of run) (calls_of run) t
   lead_same t = λ i. lead (r.parts i) (r.shown i) t
@@ -162,12 +160,13 @@ module _ {S E : Type 0} (kinds : Kinds S E) (c : LiveState E) (run : Run) (r : R
   pub word : (t : TxId) → IsFate (calls_of run) (lead (parts_of run) (calls_of run) t) t (fate_of (r.sees.reached.state (lead (parts_of run) (calls_of run) t)) t)
   word t = subst (λ n. IsFate (calls_of run) (lead n (calls_of run) t) t (fate_of (r.sees.reached.state (lead n (calls_of run) t)) t)) r.parts
       (subst (λ ls. IsFate ls (lead c.sites.parts ls t) t (fate_of (r.sees.reached.state (lead c.sites.parts ls t)) t)) r.shown
-      ((law_world kinds c.sites.sites c.sites.parts (entries r.calls) r.sees.reached.state r.sees.reached.is_run).3 t))
+      ((law_world types.kinds c.sites.sites c.sites.parts (entries r.calls) r.sees.reached.state r.sees.reached.is_run).3 t))
 
-  module _ (p : PartId) (place : IsPlace c.sites.sites c.sites.parts p) where
-    pub is_up : (r.sees.reached.state p).up ≡ true
-    is_up = (r.sees.reached.each p place (blank p)).stands.up
+  -- a partition that is down is so by the lines
+  pub low_is : (p : PartId) → (r.sees.reached.state p).up ≡ false → is_down (calls_of run) p ≡ true
+  low_is p h = ap (λ ls. is_down ls p) (sym r.shown) ∙ ((of_law p).down ∙ ap not h)
 
+  module _ (p : PartId) (place : IsPlace c.sites.sites c.sites.parts p) (is_up : (r.sees.reached.state p).up ≡ true) where
     -- what is pending is of the partition's site
     pub site_is : (t : TxId) → log.pending (r.sees.reached.state p).log t ≡ true → t.site ≡ p.site
     site_is t h = let here = r.sees.reached.each p place (blank p) in here.stands.tells.waiting t h ∙ ap (λ (q : PartId). q.site) here.id

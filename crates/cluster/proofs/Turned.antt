@@ -1,33 +1,37 @@
 -- The cluster after one more call: the run goes on by the line that shows it.
-use Rattle.std.proofs.Common.{◌≡◌, ℕ, true, false, List, ◌∷◌, length, refl, sym, ap, ◌∙◌, subst, Option, Some}
+use Rattle.std.proofs.Common.{◌≡◌, ℕ, Bool, true, false, true≢false, List, ◌∷◌, length, refl, sym, ap, ◌∙◌, subst, Option, Some}
 use Rattle.std.specs.Prelude.{◌||◌, ⊤}
 use Rattle.std.specs.Str.{bytes_eq}
 use Rattle.site_vector.specs.declared.ids.PartId.{PartId}
+use Rattle.site_vector.specs.declared.ids.TxId.{TxId}
 use Rattle.crdt_core.specs.KindsOf.{Kinds}
 use Rattle.world_model.specs.declared.command.Command.{Command}
 use Rattle.world_model.specs.declared.step.Step.{Step}
+use Rattle.world_model.specs.declared.step.Step.TheVariants as step
 use Rattle.world_model.specs.Asking.{asked_by}
 use Rattle.world_model.specs.Cluster.{has_cluster, sites_of, parts_of}
 use Rattle.world_model.specs.Dependency as lines
 use Rattle.world_model.specs.Dependency.{HandsOwn, IsOwnPast}
-use Rattle.world_model.specs.Event.{Ask, AskBegin, AskRead, AskUpdate, AskPrepare, AskDecide, AskFinish, AskAbort, AskTake, IsDown, IsBadOp, HasGap, IsRepeat, HasNoRoom, IsDamaged, Event, Began, Updated, Prepared, Decided, Aborted, Sent, Took, Reported, Heard, Crashed, RestartCut, Restarted, Refused, Opened, Cut, Entry, attempt, is_sent, is_report}
+use Rattle.world_model.specs.Event.{Ask, AskBegin, AskRead, AskUpdate, AskPrepare, AskDecide, AskFinish, AskAbort, AskTake, IsDown, IsBadOp, HasGap, IsRepeat, Event, Began, Updated, Prepared, Decided, Aborted, Sent, Took, Reported, Heard, Crashed, RestartCut, Restarted, Refused, Opened, Cut, Entry, attempt, is_sent, is_report}
 use Rattle.world_model.specs.Lines.{call_asked, step_shown, call_of, lines_of, session_of}
 use Rattle.world_model.specs.Meeting.{site_of, session_count}
 use Rattle.world_model.specs.Past.{dependency_after, dependency}
 use Rattle.world_model.specs.Partition.{PartState, PartStep, IsRefused}
 use Rattle.world_model.specs.Phases.{phase, by_command}
 use Rattle.world_model.specs.Run.{Run}
-use Rattle.world_model.specs.ScriptAnswers.{is_sound}
 use Rattle.world_model.specs.ScriptCalls.{is_answer, calls_of}
 use Rattle.world_model.proofs.LineViews.{dependency_is}
 use Rattle.world_model.proofs.Names.{off}
 use Rattle.txn_session.specs.Calls.{Call, entries, called, IsLegal}
 use Rattle.txn_session.specs.Session.{SessionState}
-use Rattle.cluster.specs.Held.{Held, SameSize}
+use Rattle.site_partitions.specs.Held.{Held}
+use Rattle.site_partitions.specs.Reaches.{Types}
+use Rattle.cluster.specs.Same.{SameCluster}
 use Rattle.cluster.specs.Live.{LiveState, session_in}
 use Rattle.cluster.specs.Reached.{StandsBy, StandsAs, ReachedLive, GoesTo}
 use Rattle.cluster.proofs.Keeping.{grows_one, keeps_line, call_plain}
-use Rattle.cluster.specs.Sees.{is_calm, Sees, sees_legal}
+use Rattle.cluster.specs.Sees.{Sees, sees_legal}
+use Rattle.cluster.proofs.Seeing.{is_told, told_last}
 use Rattle.cluster.proofs.Standing.{SameFor, stands_still}
 use Rattle.cluster.proofs.Turning.{is_numberless, IsCallLine, call_line, IsSilentFor, phase_other, site_other, depends_other, holds_other}
 
@@ -36,7 +40,7 @@ quiet_call (Sent asked m) h = off h
 quiet_call (Reported b) h = off h
 quiet_call other h = (refl, refl)
 
-module _ {S E : Type 0} (kinds : Kinds S E) (c : LiveState E) (run : Run) (r : ReachedLive kinds c run) (number : ℕ) (cmd : Command) (by : ℕ) (at : PartId) (e : Event E) (held : Held E) (size : SameSize c.sites held) (sees : Sees kinds held (called by at e ∷ r.calls)) (plain : is_numberless e ≡ true)
+module _ {S E D : Type 0} (types : Types S E D) (c : LiveState E D) (run : Run) (r : ReachedLive types c run) (number : ℕ) (cmd : Command) (by : ℕ) (at : PartId) (e : Event E) (held : Held E D) (size : SameCluster types.state c.sites held) (sees : Sees types held (called by at e ∷ r.calls)) (plain : is_numberless e ≡ true)
     (lines_are : calls_of ((record { number = number; command = Some cmd; step = step_shown (entries r.calls) at e }) ∷ run) ≡ (record { at = at; call = call_of e; step = step_shown (entries r.calls) at e }) ∷ calls_of run) where
   abbrev pub line : Step
   line = step_shown (entries r.calls) at e
@@ -48,16 +52,16 @@ module _ {S E : Type 0} (kinds : Kinds S E) (c : LiveState E) (run : Run) (r : R
   later = called by at e ∷ r.calls
 
   told : IsCallLine run line
-  told = call_line run (entries r.calls) at e sees.calm.0 plain
+  told = call_line run (entries r.calls) at e (told_last types held (called by at e) r.calls sees) plain
 
   pub shown_next : lines_of (entries later) ≡ calls_of next
   shown_next = ap (λ ls. (record { at = at; call = call_of e; step = line }) ∷ ls) r.shown ∙ sym lines_are
 
-  legal : IsLegal kinds held.sites held.parts later
-  legal = sees_legal kinds held later sees
+  legal : IsLegal types.kinds held.sites held.parts later
+  legal = sees_legal types held later sees
 
-  tail_legal : IsLegal kinds c.sites.sites c.sites.parts r.calls
-  tail_legal = sees_legal kinds c.sites r.calls r.sees
+  tail_legal : IsLegal types.kinds c.sites.sites c.sites.parts r.calls
+  tail_legal = sees_legal types c.sites r.calls r.sees
 
   -- what the session depends on, as the events tell
   pub depends_next : (who : List ℕ) → lines.dependency (sites_of next) (calls_of next) who ≡ dependency_after (sites_of run) (entries r.calls) who (dependency (sites_of run) (entries r.calls) who) e
@@ -70,9 +74,9 @@ module _ {S E : Type 0} (kinds : Kinds S E) (c : LiveState E) (run : Run) (r : R
   same_next who idle q = record {
     sites = told.sites (sites_of run);
     parts = told.parts (parts_of run);
-    site = site_other (entries r.calls) at who (site_of run who) e sees.calm.0 q;
-    phase = phase_other (entries r.calls) at who (parts_of run) (Some cmd) (phase run who) idle e sees.calm.0 q;
-    depends = depends_next who ∙ (depends_other kinds c.sites.sites c.sites.parts r.calls tail_legal (sites_of run) who (dependency (sites_of run) (entries r.calls) who) e q ∙ sym (depended who));
+    site = site_other (entries r.calls) at who (site_of run who) e q;
+    phase = phase_other (entries r.calls) at who (parts_of run) (Some cmd) (phase run who) idle e q;
+    depends = depends_next who ∙ (depends_other types.kinds c.sites.sites c.sites.parts r.calls tail_legal (sites_of run) who (dependency (sites_of run) (entries r.calls) who) e q ∙ sym (depended who));
   }
 
   -- another session
@@ -80,17 +84,17 @@ module _ {S E : Type 0} (kinds : Kinds S E) (c : LiveState E) (run : Run) (r : R
   other_next who o idle q st = stands_still next run later r.calls who o (same_next who idle q)
       (λ x is h.
       let x_is : StandsBy run r.calls who x = subst (λ y. StandsAs run r.calls who y) is st in
-      holds_other kinds held.sites held.parts (called by at e) r.calls x legal sees.calm.0 (subst (λ n. IsSilentFor (entries r.calls) n e) (sym x_is.name) q) h)
+      holds_other types.kinds held.sites held.parts (called by at e) r.calls x legal (subst (λ n. IsSilentFor (entries r.calls) n e) (sym x_is.name) q) h)
       st
 
   quiet : (is_sent e ≡ false) × (is_report e ≡ false)
   quiet = quiet_call e plain
 
-  pub turned : (sessions : List (List ℕ × SessionState E)) → length sessions ≡ length c.sessions → IsOwnPast (sites_of run) (calls_of run) (call_of e) → ((who : List ℕ) → StandsAs next later who (session_in sessions who)) → GoesTo kinds c run r (record { sites = held; sessions = sessions }) next
+  pub turned : (sessions : List (List ℕ × SessionState E)) → length sessions ≡ length c.sessions → IsOwnPast (sites_of run) (calls_of run) (call_of e) → ((who : List ℕ) → StandsAs next later who (session_in sessions who)) → GoesTo types c run r (record { sites = held; sessions = sessions }) next
   turned sessions count own each = record {
-    size = size;
+    same = size;
     grows = grows_one (called by at e) r.calls quiet.0 quiet.1;
-    keeps = keeps_line number (Some cmd) line run (call_plain (entries r.calls) at e sees.calm.0 quiet.0 quiet.1);
+    keeps = keeps_line number (Some cmd) line run (call_plain (entries r.calls) at e quiet.0 quiet.1);
     reached = record {
       has = ap (λ x. x || has_cluster run) told.cluster ∙ r.has;
       sites = size.sites_are ∙ (r.sites ∙ sym (told.sites (sites_of run)));
@@ -105,7 +109,7 @@ module _ {S E : Type 0} (kinds : Kinds S E) (c : LiveState E) (run : Run) (r : R
   }
 
   -- a call of no session's
-  pub turned_alone : ((who : List ℕ) (s : Step) → by_command (parts_of run) who (phase run who) (Some cmd) s ≡ phase run who) → ((who : List ℕ) → IsSilentFor (entries r.calls) who e) → IsOwnPast (sites_of run) (calls_of run) (call_of e) → GoesTo kinds c run r (record { sites = held; sessions = c.sessions }) next
+  pub turned_alone : ((who : List ℕ) (s : Step) → by_command (parts_of run) who (phase run who) (Some cmd) s ≡ phase run who) → ((who : List ℕ) → IsSilentFor (entries r.calls) who e) → IsOwnPast (sites_of run) (calls_of run) (call_of e) → GoesTo types c run r (record { sites = held; sessions = c.sessions }) next
   turned_alone idle q own = turned c.sessions refl own (λ who. other_next who (session_in c.sessions who) (idle who) (q who) (r.each who))
 
 as_other : (name who other : List ℕ) → bytes_eq name who ≡ false → other ≡ name → bytes_eq other who ≡ false
@@ -130,33 +134,51 @@ module _ {E : Type 0} where
   silent run name who q (Decided t c) own = as_other name who (session_of run t) q own
   silent run name who q (Aborted t true) own = as_other name who (session_of run t) q own
   silent run name who q (Aborted t false) own = tt
+  silent run name who q (Cut (Prepared t s l w n)) own = as_other name who (session_of run t) q own
+  silent run name who q (Cut (Decided t c)) own = as_other name who (session_of run t) q own
+  silent run name who q (Cut (Aborted t true)) own = as_other name who (session_of run t) q own
+  silent run name who q (Cut (Aborted t false)) own = tt
+  silent run name who q (Cut what) own = tt
   silent run name who q (Opened n) own = absurd own
   silent run name who q other own = tt
 
-  pub call_is : (run : List (Entry E)) (name : List ℕ) (e : Event E) → is_calm e ≡ true → IsOwnAsk run name (asked_by (attempt e)) → call_of e ≡ call_asked (asked_by (attempt e))
-  call_is run name (Cut what) c own = off c
-  call_is run name Crashed c own = off c
-  call_is run name RestartCut c own = off c
-  call_is run name (Restarted n b named listed) c own = off c
+  pub call_is : (run : List (Entry E)) (name : List ℕ) (e : Event E) → is_told e ≡ true → IsOwnAsk run name (asked_by (attempt e)) → call_of e ≡ call_asked (asked_by (attempt e))
+  call_is run name (Cut (Refused asked why)) c own = off c
+  call_is run name (Cut (Restarted n b named listed)) c own = off c
+  call_is run name (Cut (Opened who)) c own = off c
+  call_is run name (Cut (Cut what)) c own = off c
+  call_is run name (Cut Crashed) c own = off c
+  call_is run name (Cut RestartCut) c own = off c
+  call_is run name (Cut what) c own = refl
+  call_is run name Crashed c own = absurd own
+  call_is run name RestartCut c own = absurd own
+  call_is run name (Restarted n b named listed) c own = absurd own
   call_is run name (Opened n) c own = absurd own
   call_is run name other c own = refl
 
-  -- the partition answered, and is up
-  pub line_up : (run : List (Entry E)) (at : PartId) (e : Event E) → is_calm e ≡ true → (is_answer (step_shown run at e) ≡ true) × (is_sound (step_shown run at e) ≡ true)
-  line_up run at (Cut what) c = off c
-  line_up run at Crashed c = off c
-  line_up run at RestartCut c = off c
-  line_up run at (Restarted n b named listed) c = off c
-  line_up run at (Refused a IsDown) c = off c
+  -- a partition answered
+  pub line_up : (run : List (Entry E)) (at : PartId) (e : Event E) → is_told e ≡ true → is_answer (step_shown run at e) ≡ true
+  line_up run at (Cut (Decided t v)) c = refl
+  line_up run at (Cut what) c = refl
   line_up run at (Refused a IsBadOp) c = off c
-  line_up run at (Refused a (HasNoRoom n)) c = off c
-  line_up run at (Refused a (IsDamaged n)) c = off c
-  line_up run at (Refused a why) c = (refl, refl)
-  line_up run at other c = (refl, refl)
+  line_up run at (Refused a why) c = refl
+  line_up run at other c = refl
+
+  abbrev pub is_decide_ask : Ask E → Bool
+  is_decide_ask (AskDecide t c) = true
+  is_decide_ask other = false
+
+  -- only a decide is ever in doubt
+  pub sure : (run : List (Entry E)) (at : PartId) (e : Event E) → is_decide_ask (asked_by (attempt e)) ≡ false → (t : TxId) → step_shown run at e ≡ step.Unsure t → ⊥
+  sure run at (Cut (Decided u c)) h t k = true≢false h
+  sure run at (Cut what) h t k = cc
+  sure run at (Refused a IsDown) h t k = cc
+  sure run at (Refused a why) h t k = cc
+  sure run at other h t k = cc
 
   -- so does a line that shows its call
-  pub answer_up : (run : List (Entry E)) (at : PartId) (e : Event E) (s : Step) → s ≡ step_shown run at e → is_calm e ≡ true → (is_answer s ≡ true) × (is_sound s ≡ true)
-  answer_up run at e s is c = let up = line_up run at e c in (ap is_answer is ∙ up.0, ap is_sound is ∙ up.1)
+  pub answer_up : (run : List (Entry E)) (at : PartId) (e : Event E) (s : Step) → s ≡ step_shown run at e → is_told e ≡ true → is_answer s ≡ true
+  answer_up run at e s is c = ap is_answer is ∙ line_up run at e c
 
   module _ {S : Type 0} (kinds : Kinds S E) (sites parts : ℕ) (id : PartId) (p : PartState E) (run : List (Entry E)) (name : List ℕ) where
     never_gap : (ask : Ask E) (n : ℕ) → IsOwnAsk run name ask → IsRefused kinds sites parts id p ask (HasGap n) → ⊥

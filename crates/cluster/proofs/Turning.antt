@@ -13,7 +13,7 @@ use Rattle.crdt_core.specs.KindsOf.{Kinds}
 use Rattle.world_model.specs.declared.command.Command.{Command}
 use Rattle.world_model.specs.declared.step.Step.{Step}
 use Rattle.world_model.specs.Cluster.{is_cluster, sites_after, parts_after}
-use Rattle.world_model.specs.Event.{IsDown, IsBadOp, HasGap, IsRepeat, HasNoRoom, IsDamaged, Event, Began, Updated, Prepared, Decided, Aborted, Sent, Took, Reported, Heard, Crashed, RestartCut, Restarted, Refused, Opened, Cut, Entry}
+use Rattle.world_model.specs.Event.{IsDown, IsBadOp, HasGap, IsRepeat, Event, Began, Updated, Prepared, Decided, Aborted, Sent, Took, Reported, Heard, Refused, Opened, Cut, Entry}
 use Rattle.world_model.specs.Lines.{step_shown, session_after, session_of}
 use Rattle.world_model.specs.Meeting.{site_after, count_after}
 use Rattle.world_model.specs.Past.{begins_for, is_of, dependency_after}
@@ -30,8 +30,8 @@ use Rattle.txn_session.specs.Holds.{HoldsDoing, Holds, AreApart}
 use Rattle.txn_session.specs.Session.{Doing, Idle, Open, Ending, SessionState}
 use Rattle.txn_session.proofs.Frames.{holds_more}
 use Rattle.txn_session.proofs.Owning.{legal_tail, begins_new, untold}
-use Rattle.cluster.specs.Sees.{is_calm}
 use Rattle.cluster.proofs.Keeping.{none_and}
+use Rattle.cluster.proofs.Seeing.{is_told}
 
 eq_self : (name : List ℕ) → bytes_eq name name ≡ true
 eq_self name = (bytes_eq-Decides name name).1 refl
@@ -64,23 +64,18 @@ module _ {E : Type 0} where
   is_numberless (Opened who) = false
   is_numberless other = true
 
-  pub call_line : (run : Run) (events : List (Entry E)) (at : PartId) (e : Event E) → is_calm e ≡ true → is_numberless e ≡ true → IsCallLine run (step_shown events at e)
-  call_line run events at Crashed c h = off c
-  call_line run events at RestartCut c h = off c
-  call_line run events at (Restarted n b named listed) c h = off c
-  call_line run events at (Cut what) c h = off c
+  pub call_line : (run : Run) (events : List (Entry E)) (at : PartId) (e : Event E) → is_told e ≡ true → is_numberless e ≡ true → IsCallLine run (step_shown events at e)
   call_line run events at (Opened who) c h = off h
   call_line run events at (Sent asked m) c h = off h
   call_line run events at (Took number m) c h = off h
   call_line run events at (Reported b) c h = off h
   call_line run events at (Heard number q b stable) c h = off h
-  call_line run events at (Refused asked IsDown) c h = off c
   call_line run events at (Refused asked IsBadOp) c h = off c
-  call_line run events at (Refused asked (HasNoRoom n)) c h = off c
-  call_line run events at (Refused asked (IsDamaged k)) c h = off c
   call_line run events at (Refused asked (HasGap n)) c h = off h
   call_line run events at (Refused asked (IsRepeat n)) c h = off h
   call_line run events at (Refused asked why) c h = record { answer = refl; cluster = refl; sites = λ n. refl; parts = λ n. refl; count = λ n. refl; number = refl }
+  call_line run events at (Cut (Decided t v)) c h = record { answer = refl; cluster = refl; sites = λ n. refl; parts = λ n. refl; count = λ n. refl; number = refl }
+  call_line run events at (Cut what) c h = record { answer = refl; cluster = refl; sites = λ n. refl; parts = λ n. refl; count = λ n. refl; number = refl }
   call_line run events at e c h = record { answer = refl; cluster = refl; sites = λ n. refl; parts = λ n. refl; count = λ n. refl; number = refl }
 
   -- the event tells nothing of the session's transaction, nor of what it depends on
@@ -91,24 +86,29 @@ module _ {E : Type 0} where
   IsSilentFor run who (Decided t c) = bytes_eq (session_of run t) who ≡ false
   IsSilentFor run who (Aborted t true) = bytes_eq (session_of run t) who ≡ false
   IsSilentFor run who (Aborted t false) = ⊤
+  IsSilentFor run who (Cut (Prepared t s l w n)) = bytes_eq (session_of run t) who ≡ false
+  IsSilentFor run who (Cut (Decided t c)) = bytes_eq (session_of run t) who ≡ false
+  IsSilentFor run who (Cut (Aborted t true)) = bytes_eq (session_of run t) who ≡ false
   IsSilentFor run who (Opened name) = ⊥
   IsSilentFor run who other = ⊤
 
-  pub phase_other : (run : List (Entry E)) (at : PartId) (who : List ℕ) (parts : ℕ) (asked : Option Command) (old : Phase) → ((s : Step) → by_command parts who old asked s ≡ old) → (e : Event E) → is_calm e ≡ true → IsSilentFor run who e → phase_after parts who old asked (step_shown run at e) ≡ old
-  phase_other run at who parts asked old b (Began name dep t s) c q = cond-false (bytes_eq name who) _ old q
-  phase_other run at who parts asked old b (Updated t s o own op read u stamp) c q = cond-false (bytes_eq (session_of run t) who) _ old q
-  phase_other run at who parts asked old b (Opened name) c q = absurd q
-  phase_other run at who parts asked old b (Cut what) c q = off c
-  phase_other run at who parts asked old b (Refused a IsDown) c q = off c
-  phase_other run at who parts asked old b (Refused a why) c q = b _
-  phase_other run at who parts asked old b other c q = b _
+  pub phase_other : (run : List (Entry E)) (at : PartId) (who : List ℕ) (parts : ℕ) (asked : Option Command) (old : Phase) → ((s : Step) → by_command parts who old asked s ≡ old) → (e : Event E) → IsSilentFor run who e → phase_after parts who old asked (step_shown run at e) ≡ old
+  phase_other run at who parts asked old b (Began name dep t s) q = cond-false (bytes_eq name who) _ old q
+  phase_other run at who parts asked old b (Updated t s o own op read u stamp) q = cond-false (bytes_eq (session_of run t) who) _ old q
+  phase_other run at who parts asked old b (Opened name) q = absurd q
+  phase_other run at who parts asked old b (Cut (Decided t v)) q = b _
+  phase_other run at who parts asked old b (Cut what) q = b _
+  phase_other run at who parts asked old b (Refused a IsDown) q = b _
+  phase_other run at who parts asked old b (Refused a why) q = b _
+  phase_other run at who parts asked old b other q = b _
 
-  pub site_other : (run : List (Entry E)) (at : PartId) (who : List ℕ) (old : Option ℕ) (e : Event E) → is_calm e ≡ true → IsSilentFor run who e → site_after who old (step_shown run at e) ≡ old
-  site_other run at who old (Opened name) c q = absurd q
-  site_other run at who old (Cut what) c q = off c
-  site_other run at who old (Refused a IsDown) c q = off c
-  site_other run at who old (Refused a why) c q = refl
-  site_other run at who old other c q = refl
+  pub site_other : (run : List (Entry E)) (at : PartId) (who : List ℕ) (old : Option ℕ) (e : Event E) → IsSilentFor run who e → site_after who old (step_shown run at e) ≡ old
+  site_other run at who old (Opened name) q = absurd q
+  site_other run at who old (Cut (Decided t v)) q = refl
+  site_other run at who old (Cut what) q = refl
+  site_other run at who old (Refused a IsDown) q = refl
+  site_other run at who old (Refused a why) q = refl
+  site_other run at who old other q = refl
 
   module _ {S : Type 0} (kinds : Kinds S E) (sites parts : ℕ) where
     or_true : (b c : Bool) → c ≡ true → (b || c) ≡ true
@@ -149,21 +149,25 @@ module _ {E : Type 0} where
     apart_tx : (run : List (Entry E)) (who : List ℕ) (t u : TxId) → session_of run u ≡ who → bytes_eq (session_of run t) who ≡ false → same_tx t u ≡ false
     apart_tx run who t u h q = false_from_ne_true (same_tx t u) (λ k. true≢false (sym (eq_self who) ∙ (sym (ap (λ n. bytes_eq n who) (ap (λ x. session_of run x) (same_tx_is t u k) ∙ h)) ∙ q)))
 
-    pub touches_other : (c : Call E) (calls : List (Call E)) (who : List ℕ) (u : TxId) → IsLegal kinds sites parts (c ∷ calls) → begun (entries calls) u ≡ true → session_of (entries calls) u ≡ who → (e : Event E) → c.entry.event ≡ e → is_calm e ≡ true → IsSilentFor (entries calls) who e → touches e u ≡ false
-    touches_other c calls who u l b h (Began name dep t s) is calm q = or_none (same_tx t u) (false_from_ne_true (same_tx t u) (λ k. true≢false (sym b ∙ (untold (entries calls) u (begins_new kinds sites parts c calls u l (ap (λ y. is_begin y u) is ∙ k))).begun)))
-    touches_other c calls who u l b h (Updated t s o own op read x stamp) is calm q = or_none (same_tx t u) (apart_tx (entries calls) who t u h q)
-    touches_other c calls who u l b h (Prepared t s i w n) is calm q = or_none (same_tx t u) (apart_tx (entries calls) who t u h q)
-    touches_other c calls who u l b h (Decided t v) is calm q = or_none (same_tx t u) (apart_tx (entries calls) who t u h q)
-    touches_other c calls who u l b h (Aborted t true) is calm q = ap (λ x. x && true) (apart_tx (entries calls) who t u h q)
-    touches_other c calls who u l b h (Aborted t false) is calm q = none_and (same_tx t u) false refl
-    touches_other c calls who u l b h (Cut what) is calm q = off calm
-    touches_other c calls who u l b h (Opened name) is calm q = absurd q
-    touches_other c calls who u l b h other is calm q = refl
+    pub touches_other : (c : Call E) (calls : List (Call E)) (who : List ℕ) (u : TxId) → IsLegal kinds sites parts (c ∷ calls) → begun (entries calls) u ≡ true → session_of (entries calls) u ≡ who → (e : Event E) → c.entry.event ≡ e → IsSilentFor (entries calls) who e → touches e u ≡ false
+    touches_other c calls who u l b h (Began name dep t s) is q = or_none (same_tx t u) (false_from_ne_true (same_tx t u) (λ k. true≢false (sym b ∙ (untold (entries calls) u (begins_new kinds sites parts c calls u l (ap (λ y. is_begin y u) is ∙ k))).begun)))
+    touches_other c calls who u l b h (Updated t s o own op read x stamp) is q = or_none (same_tx t u) (apart_tx (entries calls) who t u h q)
+    touches_other c calls who u l b h (Prepared t s i w n) is q = or_none (same_tx t u) (apart_tx (entries calls) who t u h q)
+    touches_other c calls who u l b h (Decided t v) is q = or_none (same_tx t u) (apart_tx (entries calls) who t u h q)
+    touches_other c calls who u l b h (Aborted t true) is q = ap (λ x. x && true) (apart_tx (entries calls) who t u h q)
+    touches_other c calls who u l b h (Aborted t false) is q = none_and (same_tx t u) false refl
+    touches_other c calls who u l b h (Cut (Prepared t s i w n)) is q = or_none (same_tx t u) (apart_tx (entries calls) who t u h q)
+    touches_other c calls who u l b h (Cut (Decided t v)) is q = or_none (same_tx t u) (apart_tx (entries calls) who t u h q)
+    touches_other c calls who u l b h (Cut (Aborted t true)) is q = ap (λ x. x && true) (apart_tx (entries calls) who t u h q)
+    touches_other c calls who u l b h (Cut (Aborted t false)) is q = none_and (same_tx t u) false refl
+    touches_other c calls who u l b h (Cut what) is q = refl
+    touches_other c calls who u l b h (Opened name) is q = absurd q
+    touches_other c calls who u l b h other is q = refl
 
-    pub holds_other : (c : Call E) (calls : List (Call E)) (s : SessionState E) → IsLegal kinds sites parts (c ∷ calls) → is_calm c.entry.event ≡ true → IsSilentFor (entries calls) s.name c.entry.event → Holds s calls → Holds s (c ∷ calls)
-    holds_other c calls s l calm q h = holds_more s (c ∷ []) calls (by_doing s.doing h.doing) h
+    pub holds_other : (c : Call E) (calls : List (Call E)) (s : SessionState E) → IsLegal kinds sites parts (c ∷ calls) → IsSilentFor (entries calls) s.name c.entry.event → Holds s calls → Holds s (c ∷ calls)
+    holds_other c calls s l q h = holds_more s (c ∷ []) calls (by_doing s.doing h.doing) h
       where
         by_doing : (d : Doing E) → HoldsDoing s.sites s.parts s.name s.site calls d → AreApart d (c ∷ [])
         by_doing Idle x = tt
-        by_doing (Open txn) x = (touches_other c calls s.name txn.tx l x.0.begun x.0.session c.entry.event refl calm q, tt)
-        by_doing (Ending txn lead commit) x = (touches_other c calls s.name txn.tx l x.0.begun x.0.session c.entry.event refl calm q, tt)
+        by_doing (Open txn) x = (touches_other c calls s.name txn.tx l x.0.begun x.0.session c.entry.event refl q, tt)
+        by_doing (Ending txn lead commit) x = (touches_other c calls s.name txn.tx l x.0.begun x.0.session c.entry.event refl q, tt)

@@ -11,7 +11,6 @@ use Rattle.crdt_core.specs.declared.object.ObjectId.{ObjectId}
 use Rattle.crdt_core.specs.declared.operation.Op.{Op}
 use Rattle.crdt_core.specs.declared.record.Upd.{Upd}
 use Rattle.crdt_core.specs.Fits.{fits}
-use Rattle.crdt_core.specs.KindsOf.{Kinds}
 use Rattle.crdt_core.specs.Placing.{place_of}
 use Rattle.world_model.specs.declared.command.Command.TheVariants as command
 use Rattle.world_model.specs.declared.step.Step.{Step}
@@ -29,22 +28,26 @@ use Rattle.world_model.specs.Run.{Run}
 use Rattle.world_model.specs.ScriptAnswers.{Bears, AnswersBy, IsAnswer}
 use Rattle.world_model.specs.ScriptCalls.{at_object}
 use Rattle.world_model.proofs.Names.{off}
-use Rattle.txn_session.specs.Calls.{entries}
+use Rattle.txn_session.specs.Calls.{called, entries}
 use Rattle.txn_session.specs.declared.error.SessionError.{SessionError}
 use Rattle.txn_session.specs.declared.error.SessionError.TheVariants as error
 use Rattle.txn_session.specs.Holds.{HoldsDoing, MakesUpdate}
 use Rattle.txn_session.specs.Opens.{IsUpdated, refusal_of_update, update_refusal, with_update, updated}
 use Rattle.txn_session.specs.Session as session
 use Rattle.txn_session.specs.Session.{Txn, Doing, Idle, Open, Ending, SessionState, own_updates, place_in}
+use Rattle.site_partitions.specs.Reaches.{Types}
 use Rattle.cluster.specs.Acts.{Acts, Updates}
 use Rattle.cluster.specs.Built.{is_built}
-use Rattle.cluster.specs.Held.{Held}
+use Rattle.site_partitions.specs.Held.{Held}
 use Rattle.cluster.specs.Live.{LiveState, session_in, refusal_about, refused_line}
 use Rattle.cluster.specs.Reached.{phase_as, StandsBy, ReachedLive, GoesTo, AppliesLive}
-use Rattle.cluster.specs.Sees.{is_calm, Sees}
+use Rattle.cluster.specs.Sees.{Sees}
+use Rattle.cluster.specs.Faults.{ShowFaults}
+use Rattle.cluster.proofs.Faulted.{shows_told}
+use Rattle.cluster.proofs.Seeing.{told_last}
 use Rattle.cluster.proofs.Meets.{all_met, first_at, none_due, refused, lacks_session, has_session, open_is, by_name}
 use Rattle.cluster.proofs.Sessions.{IsThere, turns, acted, own_name}
-use Rattle.cluster.proofs.Turned.{answer_up}
+use Rattle.cluster.proofs.Turned.{sure, is_decide_ask, answer_up}
 
 module _ {E : Type 0} where
   -- a session whose update would be refused, or not
@@ -93,8 +96,18 @@ module _ {E : Type 0} where
       omega (arith, n, m, l)
 
   module _ (events : List (Entry E)) (at : PartId) (old new : SessionState E) (txn : Txn E) (o : ObjectId) (op : Op) (own : List (Upd E)) (is : old.doing ≡ Open txn) (mine : session_of events txn.tx ≡ old.name) (room : length txn.updates < 256) (few : update_total (phase_as old.doing) ≤ 256) where
-    pub made : (e : Event E) → asked_by (attempt e) ≡ AskUpdate txn.tx txn.s o own op → is_calm e ≡ true → IsUpdated old o (step_shown events at e) new → IsMade events o op old new e (step_shown events at e)
-    made (event.Updated t v o' w op' read u stamp) a c x =
+    -- one that changes no session
+    unmade : (e : Event E) (line : Step) → new ≡ old → ((n : ℕ) → dependency_after n events old.name old.dependency e ≡ old.dependency) → ((parts : ℕ) (p : Phase) → phase_after parts old.name p (Some (command.Update old.name o op)) line ≡ p) → ((run : Run) → Bears run (command.Update old.name o op) line) → IsMade events o op old new e line
+    unmade e line x depends phase bears = record {
+      there = record { name = ap (λ y. y.name) x; site = ap (λ y. y.site) x; sites = ap (λ y. y.sites) x; parts = ap (λ y. y.parts) x };
+      few = subst (λ (y : SessionState E). update_total (phase_as y.doing) ≤ 256) (sym x) few;
+      phase = λ parts p h. phase parts p ∙ (h ∙ ap (λ y. phase_as y.doing) (sym x));
+      depends = λ n. ap (λ y. y.dependency) x ∙ sym (depends n);
+      bears = bears;
+    }
+
+    pub made : (e : Event E) → asked_by (attempt e) ≡ AskUpdate txn.tx txn.s o own op → IsUpdated old o (step_shown events at e) new → IsMade events o op old new e (step_shown events at e)
+    made (event.Updated t v o' w op' read u stamp) a x =
         let et : t ≡ txn.tx = cc in
         let eo : o' ≡ o = cc in
         let name : session_of events t ≡ old.name = ap (session_of events) et ∙ mine in
@@ -106,100 +119,93 @@ module _ {E : Type 0} where
           depends = λ n. ap (λ y. y.dependency) x.1;
           bears = λ run. (name, eo);
         }
-    made (Cut what) a c x = off c
-    made (Refused q IsDown) a c x = off c
-    made (Refused q why) a c x = record {
-      there = record { name = ap (λ y. y.name) x; site = ap (λ y. y.site) x; sites = ap (λ y. y.sites) x; parts = ap (λ y. y.parts) x };
-      few = subst (λ (y : SessionState E). update_total (phase_as y.doing) ≤ 256) (sym x) few;
-      phase = λ parts p h. h ∙ ap (λ y. phase_as y.doing) (sym x);
-      depends = λ n. ap (λ y. y.dependency) x;
-      bears = λ run. tt;
-    }
-    made other a c x = absurd cc
+    made (Cut (event.Updated t v o' w op' read u stamp)) a x = unmade _ _ x (λ n. refl) (λ parts p. refl) (λ run. tt)
+    made (Cut (Refused q why)) a x = unmade _ _ x (λ n. refl) (λ parts p. refl) (λ run. tt)
+    made (Cut what) a x = absurd cc
+    made (Refused q IsDown) a x = unmade _ _ x (λ n. refl) (λ parts p. refl) (λ run. tt)
+    made (Refused q why) a x = unmade _ _ x (λ n. refl) (λ parts p. refl) (λ run. tt)
+    made other a x = absurd cc
 
-module _ {S E : Type 0} (kinds : Kinds S E) (c : LiveState E) (name : List ℕ) (o : ObjectId) (op : Op) where
-  pub update_absent : (steps : List Step) → steps ≡ step.NoSession ∷ [] → session_in c.sessions name ≡ None → AppliesLive kinds c (command.Update name o op) steps c
-  update_absent steps is none = refused kinds c (command.Update name o op) step.NoSession steps is refl
-      (λ run r. first_at (all_met run (command.Update name o op)) 2 (refl, (ap not r.has, lacks_session kinds c run r name none)))
+module _ {S E D : Type 0} (types : Types S E D) (c : LiveState E D) (name : List ℕ) (o : ObjectId) (op : Op) where
+  pub update_absent : (steps : List Step) → steps ≡ step.NoSession ∷ [] → session_in c.sessions name ≡ None → AppliesLive types c (command.Update name o op) steps c
+  update_absent steps is none = refused types c (command.Update name o op) step.NoSession steps is refl
+      (λ run r. first_at (all_met run (command.Update name o op)) 2 (refl, (ap not r.has, lacks_session types c run r name none)))
       (λ run r who. refl)
 
-  module _ (shallow : fits o.kind op.path op.act ≡ true → kinds.too_deep o.kind op.path ≡ false) where
-    not_open : (s : SessionState E) → session_in c.sessions name ≡ Some s → session.is_open s.doing ≡ false → (steps : List Step) → steps ≡ step.NoTxn ∷ [] → AppliesLive kinds c (command.Update name o op) steps c
-    not_open s is shut steps e = refused kinds c (command.Update name o op) step.NoTxn steps e refl
-        (λ run r. first_at (all_met run (command.Update name o op)) 3 (refl, (ap not r.has, (has_session kinds c run r name s is, ap not (open_is kinds c run r name s is ∙ shut)))))
+  module _ (shallow : fits o.kind op.path op.act ≡ true → types.kinds.too_deep o.kind op.path ≡ false) where
+    not_open : (s : SessionState E) → session_in c.sessions name ≡ Some s → session.is_open s.doing ≡ false → (steps : List Step) → steps ≡ step.NoTxn ∷ [] → AppliesLive types c (command.Update name o op) steps c
+    not_open s is shut steps e = refused types c (command.Update name o op) step.NoTxn steps e refl
+        (λ run r. first_at (all_met run (command.Update name o op)) 3 (refl, (ap not r.has, (has_session types c run r name s is, ap not (open_is types c run r name s is ∙ shut)))))
         (λ run r who. refl)
 
-    unfit : (s : SessionState E) → session_in c.sessions name ≡ Some s → session.is_open s.doing ≡ true → fits o.kind op.path op.act ≡ false → (steps : List Step) → steps ≡ step.BadOp ∷ [] → AppliesLive kinds c (command.Update name o op) steps c
-    unfit s is opened bad steps e = refused kinds c (command.Update name o op) step.BadOp steps e refl
-        (λ run r. first_at (all_met run (command.Update name o op)) 4 (refl, (ap not r.has, (has_session kinds c run r name s is, (ap not (open_is kinds c run r name s is ∙ opened), ap not bad)))))
+    unfit : (s : SessionState E) → session_in c.sessions name ≡ Some s → session.is_open s.doing ≡ true → fits o.kind op.path op.act ≡ false → (steps : List Step) → steps ≡ step.BadOp ∷ [] → AppliesLive types c (command.Update name o op) steps c
+    unfit s is opened bad steps e = refused types c (command.Update name o op) step.BadOp steps e refl
+        (λ run r. first_at (all_met run (command.Update name o op)) 4 (refl, (ap not r.has, (has_session types c run r name s is, (ap not (open_is types c run r name s is ∙ opened), ap not bad)))))
         (λ run r who. refl)
 
-    total_is : (run : Run) (r : ReachedLive kinds c run) (s : SessionState E) (is : session_in c.sessions name ≡ Some s) (txn : Txn E) → s.doing ≡ Open txn → update_total (phase run name) ≡ length txn.updates
-    total_is run r s is txn e = ap update_total ((by_name kinds c run r name s is).phase ∙ ap phase_as e) ∙ length-map txn.updates (λ (u : Upd E). u.object)
+    total_is : (run : Run) (r : ReachedLive types c run) (s : SessionState E) (is : session_in c.sessions name ≡ Some s) (txn : Txn E) → s.doing ≡ Open txn → update_total (phase run name) ≡ length txn.updates
+    total_is run r s is txn e = ap update_total ((by_name types c run r name s is).phase ∙ ap phase_as e) ∙ length-map txn.updates (λ (u : Upd E). u.object)
 
-    full : (s : SessionState E) (is : session_in c.sessions name ≡ Some s) (txn : Txn E) → s.doing ≡ Open txn → fits o.kind op.path op.act ≡ true → nat_lt (length txn.updates) 256 ≡ false → (steps : List Step) → steps ≡ step.LimitUpdates ∷ [] → AppliesLive kinds c (command.Update name o op) steps c
-    full s is txn e good most steps k = refused kinds c (command.Update name o op) step.LimitUpdates steps k refl
+    full : (s : SessionState E) (is : session_in c.sessions name ≡ Some s) (txn : Txn E) → s.doing ≡ Open txn → fits o.kind op.path op.act ≡ true → nat_lt (length txn.updates) 256 ≡ false → (steps : List Step) → steps ≡ step.LimitUpdates ∷ [] → AppliesLive types c (command.Update name o op) steps c
+    full s is txn e good most steps k = refused types c (command.Update name o op) step.LimitUpdates steps k refl
         (λ run r.
-        let few = subst (λ d. update_total (phase_as d) ≤ 256) e (by_name kinds c run r name s is).few in
+        let few = subst (λ d. update_total (phase_as d) ≤ 256) e (by_name types c run r name s is).few in
         let total = length-map txn.updates (λ (u : Upd E). u.object) in
         let least = ltb-false (length txn.updates) 256 most in
         let exact : length txn.updates ≡ 256 = omega (arith, few, total, least) in
-        first_at (all_met run (command.Update name o op)) 5 (refl, (ap not r.has, (has_session kinds c run r name s is, (ap not (open_is kinds c run r name s is ∙ ap session.is_open e), (ap not good, ap (λ n. n == 256) (total_is run r s is txn e ∙ exact)))))))
+        first_at (all_met run (command.Update name o op)) 5 (refl, (ap not r.has, (has_session types c run r name s is, (ap not (open_is types c run r name s is ∙ ap session.is_open e), (ap not good, ap (λ n. n == 256) (total_is run r s is txn e ∙ exact)))))))
         (λ run r who. refl)
 
-    pub update_refused : (steps : List Step) (why : SessionError) → steps ≡ refused_line why ∷ [] → Would kinds.too_deep o op (session_in c.sessions name) (Some why) → AppliesLive kinds c (command.Update name o op) steps c
+    pub update_refused : (steps : List Step) (why : SessionError) → steps ≡ refused_line why ∷ [] → Would types.kinds.too_deep o op (session_in c.sessions name) (Some why) → AppliesLive types c (command.Update name o op) steps c
     update_refused steps why is x = by_doing x.found.doing refl x.why_is
       where
         line : (w : SessionError) → Some w ≡ Some why → steps ≡ refused_line w ∷ []
         line w h = let e : why ≡ w = cc in is ∙ ap (λ y. refused_line y ∷ []) e
 
-        by_bools : (txn : Txn E) → x.found.doing ≡ Open txn → (a b d : Bool) → kinds.too_deep o.kind op.path ≡ a → fits o.kind op.path op.act ≡ b → nat_lt (length txn.updates) 256 ≡ d → (if a then Some error.TooDeep else (if b then (if d then None else Some error.TooMany) else Some error.BadOp)) ≡ Some why → AppliesLive kinds c (command.Update name o op) steps c
+        by_bools : (txn : Txn E) → x.found.doing ≡ Open txn → (a b d : Bool) → types.kinds.too_deep o.kind op.path ≡ a → fits o.kind op.path op.act ≡ b → nat_lt (length txn.updates) 256 ≡ d → (if a then Some error.TooDeep else (if b then (if d then None else Some error.TooMany) else Some error.BadOp)) ≡ Some why → AppliesLive types c (command.Update name o op) steps c
         by_bools txn e true b d ea eb ed k = unfit x.found x.is (ap session.is_open e) (false_from_ne_true _ (λ h. true≢false (sym ea ∙ shallow h))) steps (line error.TooDeep k)
         by_bools txn e false false d ea eb ed k = unfit x.found x.is (ap session.is_open e) eb steps (line error.BadOp k)
         by_bools txn e false true false ea eb ed k = full x.found x.is txn e eb ed steps (line error.TooMany k)
         by_bools txn e false true true ea eb ed k = absurd cc
 
-        by_doing : (d : Doing E) → x.found.doing ≡ d → update_refusal kinds.too_deep d o op ≡ Some why → AppliesLive kinds c (command.Update name o op) steps c
+        by_doing : (d : Doing E) → x.found.doing ≡ d → update_refusal types.kinds.too_deep d o op ≡ Some why → AppliesLive types c (command.Update name o op) steps c
         by_doing Idle e k = not_open x.found x.is (ap session.is_open e) steps (line error.NoTxn k)
         by_doing (Ending txn lead commit) e k = not_open x.found x.is (ap session.is_open e) steps (line error.NoTxn k)
         by_doing (Open txn) e k = by_bools txn e _ _ _ refl refl refl k
 
-  pub update_applies : (later : Held E) (sessions : List (List ℕ × SessionState E)) (answer : Step) (steps : List Step) → steps ≡ answer ∷ [] → Would kinds.too_deep o op (session_in c.sessions name) None → Acts kinds c.sites c.sessions name later sessions (Updates kinds later o op answer) → AppliesLive kinds c (command.Update name o op) steps (record { sites = later; sessions = sessions })
+  pub update_applies : (later : Held E D) (sessions : List (List ℕ × SessionState E)) (answer : Step) (steps : List Step) → steps ≡ answer ∷ [] → Would types.kinds.too_deep o op (session_in c.sessions name) None → Acts types c.sites c.sessions name later sessions (Updates types c.sites later o op answer) → AppliesLive types c (command.Update name o op) steps (record { sites = later; sessions = sessions })
   update_applies later sessions answer steps is w a number run r =
-      subst (λ l. IsAnswer is_built run (command.Update name o op) l × GoesTo kinds c run r (record { sites = later; sessions = sessions }) (answered number (Some (command.Update name o op)) l run)) (sym is)
-      (by_doing a.before.doing refl not_refused d.1)
+      subst (λ l. IsAnswer is_built run (command.Update name o op) l × GoesTo types c run r (record { sites = later; sessions = sessions }) (answered number (Some (command.Update name o op)) l run) × ShowFaults types.state run c.sites later l) (sym is)
+      (by_doing a.before.doing refl not_refused d.2)
     where
       st : StandsBy run r.calls name a.before
-      st = by_name kinds c run r name a.before a.is
+      st = by_name types c run r name a.before a.is
 
-      d : Updates kinds later o op answer a.before a.after r.calls
+      d : Updates types c.sites later o op answer a.before a.after r.calls
       d = a.does r.calls r.sees st.holds
 
-      not_refused : update_refusal kinds.too_deep a.before.doing o op ≡ None
-      not_refused = let e : Some w.found ≡ Some a.before = sym w.is ∙ a.is in let k : w.found ≡ a.before = cc in ap (λ (y : SessionState E). update_refusal kinds.too_deep y.doing o op) (sym k) ∙ w.why_is
+      not_refused : update_refusal types.kinds.too_deep a.before.doing o op ≡ None
+      not_refused = let e : Some w.found ≡ Some a.before = sym w.is ∙ a.is in let k : w.found ≡ a.before = cc in ap (λ (y : SessionState E). update_refusal types.kinds.too_deep y.doing o op) (sym k) ∙ w.why_is
 
-      by_doing : (doing : Doing E) → a.before.doing ≡ doing → update_refusal kinds.too_deep doing o op ≡ None → MakesUpdate (λ h (p : Unit {0}) l. Sees kinds h l) (λ (p : Unit {0}) n. true) later tt r.calls a.before a.after o op answer doing
-          → IsAnswer is_built run (command.Update name o op) (answer ∷ []) × GoesTo kinds c run r (record { sites = later; sessions = sessions }) (answered number (Some (command.Update name o op)) (answer ∷ []) run)
+      by_doing : (doing : Doing E) → a.before.doing ≡ doing → update_refusal types.kinds.too_deep doing o op ≡ None → MakesUpdate (λ h (p : Unit {0}) l. Sees types h l) (λ (p : Unit {0}) n. true) later tt r.calls a.before a.after o op answer doing
+          → IsAnswer is_built run (command.Update name o op) (answer ∷ []) × GoesTo types c run r (record { sites = later; sessions = sessions }) (answered number (Some (command.Update name o op)) (answer ∷ []) run) × ShowFaults types.state run c.sites later (answer ∷ [])
       by_doing Idle e h m = absurd cc
       by_doing (Ending txn lead commit) e h m = absurd cc
       by_doing (Open txn) e h m =
-          let may = accepted kinds.too_deep o op txn h in
+          let may = accepted types.kinds.too_deep o op txn h in
           let place : PartId = place_in a.before (place_of o.bucket o.key a.before.parts) in
           let own : List (Upd E) = own_updates txn.updates o in
-          let t = turns kinds later tt r.calls a.before a.after (Some txn.by) place (AskUpdate txn.tx txn.s o own op) answer m in
+          let t = turns types later tt r.calls a.before a.after (Some txn.by) place (AskUpdate txn.tx txn.s o own op) answer m in
           let x = subst (HoldsDoing a.before.sites a.before.parts a.before.name a.before.site r.calls) e st.holds.doing in
-          let u : IsUpdated a.before o (step_shown (entries r.calls) place t.event) a.after = subst (λ l. IsUpdated a.before o l a.after) t.shows d.0 in
-          let b = made (entries r.calls) place a.before a.after txn o op own e x.0.session may.room st.few t.event t.asked t.seen.calm.0 u in
-          let up = answer_up (entries r.calls) place t.event answer t.shows t.seen.calm.0 in
+          let u : IsUpdated a.before o (step_shown (entries r.calls) place t.event) a.after = subst (λ l. IsUpdated a.before o l a.after) t.shows d.1 in
+          let b = made (entries r.calls) place a.before a.after txn o op own e x.0.session may.room st.few t.event t.asked u in
+          let up = answer_up (entries r.calls) place t.event answer t.shows (told_last types later (called t.by place t.event) r.calls t.seen) in
           let most : length txn.updates < 256 = may.room in (
-            (
-              subst (AnswersBy run (command.Update name o op) (answer ∷ []))
-                  (sym (none_due (all_met run (command.Update name o op)) (refl, (ap not r.has, (has_session kinds c run r name a.before a.is, (ap not (open_is kinds c run r name a.before a.is ∙ ap session.is_open e), (ap not may.fit, (ap (λ n. n == 256) (ap update_total (st.phase ∙ ap phase_as e) ∙ length-map txn.updates (λ (v : Upd E). v.object)) ∙ false_from_ne_true _ (λ k. let q = eqb-true (length txn.updates) 256 k in absurd (omega (arith, q, most))), tt))))))))
-                  (answer, refl, ap (λ z. z && true) up.0, subst (λ n. Bears run (command.Update n o op) answer) st.name (subst (Bears run (command.Update a.before.name o op)) (sym t.shows) (b.bears run))),
-              ap (λ z. z && true) up.1,
-            ),
-            acted kinds c run r number (command.Update name o op) name a.before a.is a.after place (AskUpdate txn.tx txn.s o own op) answer later t sessions (record {
-              size = a.size;
+            subst (AnswersBy run (command.Update name o op) (answer ∷ []))
+                  (sym (none_due (all_met run (command.Update name o op)) (refl, (ap not r.has, (has_session types c run r name a.before a.is, (ap not (open_is types c run r name a.before a.is ∙ ap session.is_open e), (ap not may.fit, (ap (λ n. n == 256) (ap update_total (st.phase ∙ ap phase_as e) ∙ length-map txn.updates (λ (v : Upd E). v.object)) ∙ false_from_ne_true _ (λ k. let q = eqb-true (length txn.updates) 256 k in absurd (omega (arith, q, most))), tt))))))))
+                  (answer, refl, ap (λ z. z && true) up, subst (λ n. Bears run (command.Update n o op) answer) st.name (subst (Bears run (command.Update a.before.name o op)) (sym t.shows) (b.bears run))),
+            acted types c run r number (command.Update name o op) name a.before a.is a.after place (AskUpdate txn.tx txn.s o own op) answer later t sessions (record {
+              same = a.same;
               put = a.put;
               there = b.there;
               own = x.0.session ∙ st.name;
@@ -211,4 +217,5 @@ module _ {S E : Type 0} (kinds : Kinds S E) (c : LiveState E) (name : List ℕ) 
               phase = subst (λ n. phase_after (parts_of run) n (phase run name) (Some (command.Update n o op)) answer ≡ phase_as a.after.doing) st.name (ap (phase_after (parts_of run) a.before.name (phase run name) (Some (command.Update a.before.name o op))) t.shows ∙ b.phase (parts_of run) (phase run name) st.phase);
               depends = subst (λ n. a.after.dependency ≡ dependency_after (sites_of run) (entries r.calls) n a.before.dependency t.event) st.name (b.depends (sites_of run));
             }),
+            (shows_told types.state run c.sites later d.0.0 answer d.0.1 (λ u k. absurd (sure (entries r.calls) place t.event (ap is_decide_ask t.asked) u (sym t.shows ∙ k))), tt),
           )

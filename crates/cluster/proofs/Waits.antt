@@ -10,7 +10,7 @@ use Rattle.crdt_core.specs.Log.{prepared_lead}
 use Rattle.prepared_table.specs.declared.entry.Entry.{Entry}
 use Rattle.prepared_table.specs.Entries.{has_entry, found}
 use Rattle.partition_core.specs.Stands.{told, AreEntries, IsTable}
-use Rattle.cluster.specs.declared.fates.Waiting.{Waiting}
+use Rattle.site_partitions.specs.declared.fates.Waiting.{Waiting}
 use Rattle.cluster.specs.Fates.{waiting_of, AreWaiting, IsLead}
 
 module _ {E : Type 0} (l : List (Record E)) (t : TxId) where

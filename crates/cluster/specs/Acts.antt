@@ -1,7 +1,7 @@
 -- A session of a cluster acts: it alone is changed, and whatever the partitions had seen goes on by what it did.
 use Rattle.std.specs.Prelude.{◌≡◌, ℕ, true, List, Some, None}
+use Rattle.site_vector.specs.declared.ids.PartId.{PartId}
 use Rattle.crdt_core.specs.declared.object.ObjectId.{ObjectId}
-use Rattle.crdt_core.specs.KindsOf.{Kinds}
 use Rattle.world_model.specs.declared.step.Step.{Step}
 use Rattle.world_model.specs.declared.step.Step.TheVariants as step
 use Rattle.txn_session.specs.Calls.{Call}
@@ -10,7 +10,10 @@ use Rattle.txn_session.specs.Session.{SessionState, place_in, moved_to}
 use Rattle.txn_session.specs.Opens.{IsOpened, IsUpdated}
 use Rattle.world_model.specs.Event.{AskBegin}
 use Rattle.crdt_core.specs.declared.operation.Op.{Op}
-use Rattle.cluster.specs.Held.{Held, SameSize}
+use Rattle.site_partitions.specs.Held.{Held}
+use Rattle.site_partitions.specs.Reaches.{Types}
+use Rattle.cluster.specs.Faults.{TellsFault}
+use Rattle.cluster.specs.Same.{SameCluster}
 use Rattle.cluster.specs.Live.{session_in, IsPut}
 use Rattle.cluster.specs.Sees.{Sees}
 
@@ -22,23 +25,27 @@ pub record Moves {E : Type 0} (sessions : List (List ℕ × SessionState E)) (na
   pub line : answer ≡ step.Moved before.name site
   pub holds : (calls : List (Call E)) → Holds before calls → Holds (moved_to before site) calls
 
-module _ {S E : Type 0} (kinds : Kinds S E) where
-  pub record Acts (held : Held E) (sessions : List (List ℕ × SessionState E)) (name : List ℕ) (later : Held E) (new : List (List ℕ × SessionState E)) (Does : SessionState E → SessionState E → List (Call E) → Type 0) : Type 0 where
+module _ {S E D : Type 0} (types : Types S E D) where
+  pub record Acts (held : Held E D) (sessions : List (List ℕ × SessionState E)) (name : List ℕ) (later : Held E D) (new : List (List ℕ × SessionState E)) (Does : SessionState E → SessionState E → List (Call E) → Type 0) : Type 0 where
     pub before : SessionState E
     pub is : session_in sessions name ≡ Some before
     pub after : SessionState E
     pub put : IsPut sessions name after new
-    pub size : SameSize held later
-    pub does : (calls : List (Call E)) → Sees kinds held calls → Holds before calls → Does before after calls
+    pub same : SameCluster types.state held later
+    pub does : (calls : List (Call E)) → Sees types held calls → Holds before calls → Does before after calls
+
+  -- what the line of one of its partitions tells of a disk
+  abbrev pub Tells : Held E D → Held E D → Step → Type 0
+  Tells held later answer = (at : PartId) × TellsFault types.state held later at answer
 
   -- it read an object
-  abbrev pub Reads : Held E → ObjectId → Step → SessionState E → SessionState E → List (Call E) → Type 0
-  Reads later o answer s new calls = (new ≡ s) × MakesRead (λ h (p : Unit {0}) l. Sees kinds h l) (λ (p : Unit {0}) n. true) later tt calls s new o answer s.doing
+  abbrev pub Reads : Held E D → Held E D → ObjectId → Step → SessionState E → SessionState E → List (Call E) → Type 0
+  Reads held later o answer s new calls = Tells held later answer × (new ≡ s) × MakesRead (λ h (p : Unit {0}) l. Sees types h l) (λ (p : Unit {0}) n. true) later tt calls s new o answer s.doing
 
   -- it updated one
-  abbrev pub Updates : Held E → ObjectId → Op → Step → SessionState E → SessionState E → List (Call E) → Type 0
-  Updates later o op answer s new calls = IsUpdated s o answer new × MakesUpdate (λ h (p : Unit {0}) l. Sees kinds h l) (λ (p : Unit {0}) n. true) later tt calls s new o op answer s.doing
+  abbrev pub Updates : Held E D → Held E D → ObjectId → Op → Step → SessionState E → SessionState E → List (Call E) → Type 0
+  Updates held later o op answer s new calls = Tells held later answer × IsUpdated s o answer new × MakesUpdate (λ h (p : Unit {0}) l. Sees types h l) (λ (p : Unit {0}) n. true) later tt calls s new o op answer s.doing
 
   -- it began a transaction at the partition of its site with this number
-  abbrev pub Begins : Held E → ℕ → Step → SessionState E → SessionState E → List (Call E) → Type 0
-  Begins later part answer s new calls = IsOpened s answer new × Makes (λ h (p : Unit {0}) l. Sees kinds h l) (λ (p : Unit {0}) n. true) later tt calls s new None (place_in s part) (AskBegin s.name s.dependency) answer
+  abbrev pub Begins : Held E D → Held E D → ℕ → Step → SessionState E → SessionState E → List (Call E) → Type 0
+  Begins held later part answer s new calls = Tells held later answer × IsOpened s answer new × Makes (λ h (p : Unit {0}) l. Sees types h l) (λ (p : Unit {0}) n. true) later tt calls s new None (place_in s part) (AskBegin s.name s.dependency) answer

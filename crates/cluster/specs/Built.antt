@@ -7,12 +7,9 @@ use Rattle.crdt_core.specs.Log.{end_of_time}
 use Rattle.world_model.specs.declared.command.Command.{Command}
 use Rattle.world_model.specs.declared.command.Command.TheVariants as command
 
--- all commands but those that need disks
+-- all of them
 abbrev pub is_built : Command → Bool
-is_built (command.Crash p) = false
-is_built (command.Fuse p k n) = false
-is_built (command.Restart p) = false
-is_built other = true
+is_built c = true
 
 -- the commands of messages and reports
 abbrev pub is_of_post : Command → Bool
@@ -29,6 +26,18 @@ abbrev pub is_of_fates : Command → Bool
 is_of_fates (command.Expire p t) = true
 is_of_fates (command.Settle p) = true
 is_of_fates other = false
+
+-- the commands of crashes, restarts and fuses
+abbrev pub is_of_faults : Command → Bool
+is_of_faults (command.Crash p) = true
+is_of_faults (command.Fuse p k n) = true
+is_of_faults (command.Restart p) = true
+is_of_faults other = false
+
+-- the command makes a cluster
+abbrev pub is_making : Command → Bool
+is_making (command.Cluster sites parts) = true
+is_making other = false
 
 -- what the grammar of scripts gives, where objects are of kinds that the type has, and operations of a kind don't lead too deep
 abbrev pub IsSaid : (Kind → Bool) → (Kind → List Field → Bool) → Command → Type 0

@@ -1,6 +1,6 @@
 -- How the transaction of a session in a cluster comes to its end: step by step, as it is committed or given up.
 use Rattle.std.specs.Prelude.{◌≡◌, ◌≢◌, ℕ, zero, Bool, true, false, not, List, ◌++◌, Option, None, Some}
-use Rattle.crdt_core.specs.KindsOf.{Kinds}
+use Rattle.site_vector.specs.declared.ids.TxId.{TxId}
 use Rattle.world_model.specs.declared.command.Command.{Command}
 use Rattle.world_model.specs.declared.command.Command.TheVariants as command
 use Rattle.world_model.specs.declared.commit.Next.{Next}
@@ -12,16 +12,20 @@ use Rattle.world_model.specs.CommitSteps.{Going, given_up}
 use Rattle.world_model.specs.Phases as phases
 use Rattle.world_model.specs.Phases.{going_of}
 use Rattle.world_model.specs.Run.{Run}
-use Rattle.world_model.specs.ScriptAnswers.{are_sound, StepsOf}
+use Rattle.world_model.specs.ScriptCalls.{calls_of}
+use Rattle.world_model.specs.Updates.{lead}
+use Rattle.world_model.specs.ScriptAnswers.{StepsOf}
 use Rattle.txn_session.specs.declared.phase.Phase.{Phase}
 use Rattle.txn_session.specs.declared.phase.Phase.TheVariants as phase
 use Rattle.txn_session.specs.Calls.{Call}
-use Rattle.txn_session.specs.Holds.{MakesStep, next_of}
+use Rattle.txn_session.specs.Holds.{MakesStep, TellsStep, next_of}
 use Rattle.txn_session.specs.Opens.{EndsAs, next_said, stepped}
 use Rattle.txn_session.specs.Session.{Doing, SessionState, ending, giving_up, is_idle, can_abort, has_step, doing_so, phase_of}
 use Rattle.cluster.specs.declared.commits.Way.{Way}
 use Rattle.cluster.specs.declared.commits.Way.TheVariants as way
-use Rattle.cluster.specs.Held.{Held}
+use Rattle.site_partitions.specs.Held.{Held}
+use Rattle.site_partitions.specs.Reaches.{Types}
+use Rattle.cluster.specs.Faults.{TellsFault, ShowFaults}
 use Rattle.cluster.specs.Live.{LiveState}
 use Rattle.cluster.specs.Reached.{ReachedLive, GoesTo}
 use Rattle.cluster.specs.Sees.{Sees}
@@ -80,23 +84,25 @@ module _ {E : Type 0} where
   stops (Some zero) (Some s) = has_step s.doing
   stops steps other = false
 
-module _ {S E : Type 0} (kinds : Kinds S E) where
+module _ {S E D : Type 0} (types : Types S E D) where
   -- a step of its end was made
-  pub record MadeStep (later : Held E) (start : SessionState E) (answer : Step) (new : SessionState E) (calls : List (Call E)) : Type 0 where
+  pub record MadeStep (held later : Held E D) (start : SessionState E) (answer : Step) (new : SessionState E) (calls : List (Call E)) : Type 0 where
     pub is : new ≡ stepped start answer
     pub ended : EndsAs start.name (next_of start.doing) answer
-    pub made : MakesStep (λ h (p : Unit {0}) l. Sees kinds h l) (λ (p : Unit {0}) n. true) later tt calls start new answer start.doing (next_of start.doing)
+    pub tells : TellsStep (TellsFault types.state) held later start answer (next_of start.doing)
+    pub made : MakesStep (λ h (p : Unit {0}) l. Sees types h l) (λ (p : Unit {0}) n. true) later tt calls start new answer start.doing (next_of start.doing)
 
   -- and so the command goes on, or ends
-  abbrev pub TakesStep : Held E → Way → Step → Bool → SessionState E → SessionState E → List (Call E) → Type 0
-  TakesStep later w answer goes s new calls = (goes ≡ goes_on (phase_of new.doing) (next_said (on_way w s).doing answer)) × MadeStep later (on_way w s) answer new calls
+  abbrev pub TakesStep : Held E D → Held E D → Way → Step → Bool → SessionState E → SessionState E → List (Call E) → Type 0
+  TakesStep held later w answer goes s new calls = (goes ≡ goes_on (phase_of new.doing) (next_said (on_way w s).doing answer)) × MadeStep held later (on_way w s) answer new calls
 
   -- these lines led from the old cluster to this one, and with any that may follow them they may follow what was before
-  pub record LedTo (old now : LiveState E) (w : Way) (name : List ℕ) (steps left : Option ℕ) (lines : List Step) (number : ℕ) (run : Run) (r : ReachedLive kinds old run) : Type 0 where
-    pub goes : GoesTo kinds old run r now (answered number (Some (command_of w name steps)) lines run)
-    pub sound : are_sound lines ≡ true
+  pub record LedTo (old now : LiveState E D) (w : Way) (name : List ℕ) (steps left : Option ℕ) (lines : List Step) (number : ℕ) (run : Run) (r : ReachedLive types old run) : Type 0 where
+    pub goes : GoesTo types old run r now (answered number (Some (command_of w name steps)) lines run)
+    pub tells : ShowFaults types.state run old.sites now.sites lines
+    pub leads : (t : TxId) → lead (parts_of (answered number (Some (command_of w name steps)) lines run)) (calls_of (answered number (Some (command_of w name steps)) lines run)) t ≡ lead (parts_of run) (calls_of run) t
     pub follow : (rest : List Step) → MayFollow w name (answered number (Some (command_of w name steps)) lines run) left rest → MayFollow w name run steps (lines ++ rest)
 
   -- whatever run had left the old cluster
-  abbrev pub Leads : LiveState E → LiveState E → Way → List ℕ → Option ℕ → Option ℕ → List Step → Type 0
-  Leads old now w name steps left lines = (number : ℕ) (run : Run) (r : ReachedLive kinds old run) → LedTo old now w name steps left lines number run r
+  abbrev pub Leads : LiveState E D → LiveState E D → Way → List ℕ → Option ℕ → Option ℕ → List Step → Type 0
+  Leads old now w name steps left lines = (number : ℕ) (run : Run) (r : ReachedLive types old run) → LedTo old now w name steps left lines number run r

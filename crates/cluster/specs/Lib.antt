@@ -1,6 +1,5 @@
-pub mod Held
-pub mod Reaches
-pub mod Answers
+pub mod Same
+pub mod Faults
 pub mod Sees
 pub mod Live
 pub mod Built

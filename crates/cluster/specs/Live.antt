@@ -15,10 +15,10 @@ use Rattle.txn_session.specs.Opens.{update_refusal}
 use Rattle.txn_session.specs.declared.phase.Phase.{Phase}
 use Rattle.txn_session.specs.declared.phase.Phase.TheVariants as phase
 use Rattle.txn_session.specs.Session.{SessionState, phase_of}
-use Rattle.cluster.specs.Held.{Held}
+use Rattle.site_partitions.specs.Held.{Held}
 
-pub record LiveState (E : Type 0) : Type 0 where
-  pub sites : Held E
+pub record LiveState (E D : Type 0) : Type 0 where
+  pub sites : Held E D
   -- by their names
   pub sessions : List (List ℕ × SessionState E)
 

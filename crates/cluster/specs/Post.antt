@@ -12,7 +12,7 @@ use Rattle.world_model.specs.Plan.{IsPlace}
 use Rattle.world_model.specs.Run.{Run}
 use Rattle.txn_session.specs.Calls.{Call, entries}
 use Rattle.cluster.specs.declared.post.Note.{Note}
-use Rattle.cluster.specs.Held.{Held, holds_site, holds_part}
+use Rattle.site_partitions.specs.Held.{Held, holds_site, holds_part}
 use Rattle.cluster.specs.Live.{LiveState}
 
 -- messages and reports by their numbers, and the next number of each
@@ -31,12 +31,12 @@ abbrev pub new_post : {E : Type 0} → PostState E
 new_post = record { letters = []; next_letter = 1; notes = []; next_note = 1 }
 
 -- a cluster with its sessions, and what it keeps
-pub record WholeState (E : Type 0) : Type 0 where
-  pub live : LiveState E
+pub record WholeState (E D : Type 0) : Type 0 where
+  pub live : LiveState E D
   pub post : PostState E
 
 -- no such way from a partition to a site
-abbrev pub lacks_way : {E : Type 0} → Held E → PartId → ℕ → Bool
+abbrev pub lacks_way : {E D : Type 0} → Held E D → PartId → ℕ → Bool
 lacks_way c p site = not (holds_part c p) || (not (holds_site c site) || site == p.site)
 
 module _ {E : Type 0} where

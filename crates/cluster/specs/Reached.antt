@@ -1,6 +1,5 @@
 -- Where the run of a script left a cluster and its sessions.
-use Rattle.std.specs.Prelude.{◌≡◌, ◌≤◌, ℕ, true, false, List, [], length, map, Option, None, Some}
-use Rattle.crdt_core.specs.KindsOf.{Kinds}
+use Rattle.std.specs.Prelude.{◌≡◌, ◌≤◌, ℕ, true, false, List, [], length, map, Option, None, Some, ⊤}
 use Rattle.world_model.specs.declared.command.Command.{Command}
 use Rattle.world_model.specs.declared.step.Step.{Step}
 use Rattle.world_model.specs.Answers.{answered}
@@ -17,7 +16,11 @@ use Rattle.txn_session.specs.Calls.{Call, entries}
 use Rattle.txn_session.specs.Holds.{Holds}
 use Rattle.txn_session.specs.Session.{Doing, Idle, Open, Ending, SessionState}
 use Rattle.cluster.specs.Built.{is_built}
-use Rattle.cluster.specs.Held.{SameSize}
+use Rattle.disk_core.specs.States.{DiskState}
+use Rattle.partition_core.specs.Durable.{Durable}
+use Rattle.site_partitions.specs.Reaches.{Types}
+use Rattle.cluster.specs.Faults.{ShowFaults, AreFed}
+use Rattle.cluster.specs.Same.{SameCluster}
 use Rattle.cluster.specs.Live.{LiveState, session_in}
 use Rattle.cluster.specs.Post.{WholeState, HasPost, Grows, KeepsPost}
 use Rattle.cluster.specs.Sees.{Sees}
@@ -57,14 +60,24 @@ pub record IsBefore (run : Run) : Type 0 where
   -- and nothing was sent or reported
   pub post : KeepsPost [] run
 
-module _ {S E : Type 0} (kinds : Kinds S E) where
+-- the partitions of the cluster, if one is made
+abbrev pub partitions_in : {E D : Type 0} → Option (WholeState E D) → List (Durable E D)
+partitions_in None = []
+partitions_in (Some w) = w.live.sites.partitions
+
+-- no line tells of a disk that failed for want of memory
+abbrev pub FedIn : {E D : Type 0} → (D → DiskState) → Option (WholeState E D) → List Step → Type 0
+FedIn state None steps = ⊤
+FedIn state (Some w) steps = AreFed state w.live.sites steps
+
+module _ {S E D : Type 0} (types : Types S E D) where
   -- these calls show the lines of partitions in the run, and left the partitions and the sessions so
-  pub record ReachedLive (c : LiveState E) (run : Run) : Type 0 where
+  pub record ReachedLive (c : LiveState E D) (run : Run) : Type 0 where
     pub has : has_cluster run ≡ true
     pub sites : c.sites.sites ≡ sites_of run
     pub parts : c.sites.parts ≡ parts_of run
     pub calls : List (Call E)
-    pub sees : Sees kinds c.sites calls
+    pub sees : Sees types c.sites calls
     pub shown : lines_of (entries calls) ≡ calls_of run
     -- each begin was handed what its session depended on
     pub own : HandsOwn (sites_of run) (calls_of run)
@@ -72,35 +85,41 @@ module _ {S E : Type 0} (kinds : Kinds S E) where
     pub count : session_count run ≡ length c.sessions
 
   -- the new cluster's run goes on from that of the old one, and no message or report was made
-  pub record GoesTo (old : LiveState E) (run : Run) (r : ReachedLive old run) (new : LiveState E) (next : Run) : Type 0 where
-    pub size : SameSize old.sites new.sites
+  pub record GoesTo (old : LiveState E D) (run : Run) (r : ReachedLive old run) (new : LiveState E D) (next : Run) : Type 0 where
+    pub same : SameCluster types.state old.sites new.sites
     pub reached : ReachedLive new next
     pub grows : Grows r.calls reached.calls
     pub keeps : KeepsPost run next
 
-  -- whatever run had left the old cluster, these lines answer the command in it, and leave the new one
-  abbrev pub AppliesLive : LiveState E → Command → List Step → LiveState E → Type 0
-  AppliesLive old c steps new = (number : ℕ) (run : Run) (r : ReachedLive old run) → IsAnswer is_built run c steps × GoesTo old run r new (answered number (Some c) steps run)
+  -- whatever run had left the old cluster, these lines answer the command in it, and leave the new one; where a line tells that a
+  -- disk failed, its count of faults rose
+  abbrev pub AppliesLive : LiveState E D → Command → List Step → LiveState E D → Type 0
+  AppliesLive old c steps new = (number : ℕ) (run : Run) (r : ReachedLive old run) → IsAnswer is_built run c steps × GoesTo old run r new (answered number (Some c) steps run) × ShowFaults types.state run old.sites new.sites steps
 
   -- some run left it so
-  pub record IsReachedLive (c : LiveState E) : Type 0 where
+  pub record IsReachedLive (c : LiveState E D) : Type 0 where
     pub run : Run
     pub reached : ReachedLive c run
 
   -- and what is kept of messages and reports is what the run kept
-  pub record ReachedWhole (w : WholeState E) (run : Run) : Type 0 where
+  pub record ReachedWhole (w : WholeState E D) (run : Run) : Type 0 where
     pub live : ReachedLive w.live run
     pub post : HasPost w.live.sites.sites w.live.sites.parts run (entries live.calls) w.post
 
-  abbrev pub Reached : Option (WholeState E) → Run → Type 0
+  abbrev pub Reached : Option (WholeState E D) → Run → Type 0
   Reached None run = IsBefore run
   Reached (Some w) run = ReachedWhole w run
 
+  -- where a cluster stood and stands, and a line tells that a disk failed, its count of faults rose
+  abbrev pub FaultsShown : Option (WholeState E D) → Run → List Step → Option (WholeState E D) → Type 0
+  FaultsShown (Some old) run steps (Some new) = ShowFaults types.state run old.live.sites new.live.sites steps
+  FaultsShown old run steps new = ⊤
+
   -- whatever run had left the old cluster, these lines answer the command in it, and leave the new one
-  abbrev pub Applies : Option (WholeState E) → Command → List Step → Option (WholeState E) → Type 0
-  Applies old c steps new = (number : ℕ) (run : Run) → Reached old run → IsAnswer is_built run c steps × Reached new (answered number (Some c) steps run)
+  abbrev pub Applies : Option (WholeState E D) → Command → List Step → Option (WholeState E D) → Type 0
+  Applies old c steps new = (number : ℕ) (run : Run) → Reached old run → IsAnswer is_built run c steps × Reached new (answered number (Some c) steps run) × FaultsShown old run steps new
 
   -- some run left it so
-  pub record IsReached (w : Option (WholeState E)) : Type 0 where
+  pub record IsReached (w : Option (WholeState E D)) : Type 0 where
     pub run : Run
     pub reached : Reached w run

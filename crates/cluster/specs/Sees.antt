@@ -1,27 +1,18 @@
--- What the calls of sessions have made of a cluster on one thread: no disk failed, and all calls are of one caller.
-use Rattle.std.specs.Prelude.{◌≡◌, ℕ, Bool, true, false, cond, List, [], ◌∷◌, Result, Ok, Err, ⊤}
+-- What calls have made of a cluster on one thread: all are of one caller.
+use Rattle.std.specs.Prelude.{◌≡◌, ℕ, true, false, cond, List, [], ◌∷◌, Result, Ok, Err, ⊤}
 use Rattle.std.proofs.Common.{refl, sym, ◌∙◌, inr}
 use Rattle.site_vector.specs.declared.ids.TxId.{TxId}
-use Rattle.crdt_core.specs.KindsOf.{Kinds}
-use Rattle.world_model.specs.Event.{Refusal, IsDown, ClockBehind, TxPending, StableBehind, ClockAtEnd, IsGone, HasGap, IsRepeat, IsBadOp, HasNoRoom, IsDamaged, Event, Crashed, RestartCut, Restarted, Refused, Cut, EventsAre}
+use Rattle.world_model.specs.Event.{Refusal, IsDown, ClockBehind, TxPending, StableBehind, ClockAtEnd, IsGone, HasGap, IsRepeat, IsBadOp, HasNoRoom, IsDamaged}
 use Rattle.world_model.specs.declared.step.Step.{Step}
 use Rattle.world_model.specs.declared.step.Step.TheVariants as step
 use Rattle.world_model.specs.World.{is_begin}
-use Rattle.partition_core.specs.declared.answers.CallError.{CallError}
-use Rattle.partition_core.specs.declared.answers.CallError.TheVariants as call
+use Rattle.partition_core.specs.declared.durable.DurableError.{DurableError}
+use Rattle.partition_core.specs.declared.durable.DurableError.TheVariants as call
 use Rattle.partition_core.specs.Answers.{cause}
 use Rattle.site_vector.specs.declared.ids.PartId.{PartId}
 use Rattle.txn_session.specs.Calls.{Call, entries, caller_of, AreOwned, IsLegal}
-use Rattle.cluster.specs.Held.{Held}
-use Rattle.cluster.specs.Reaches.{Reaches}
-
--- a partition in memory refuses so: it is never down, out of room or damaged, and its caller knows which operations fit
-abbrev pub is_plain : Refusal → Bool
-is_plain IsDown = false
-is_plain IsBadOp = false
-is_plain (HasNoRoom n) = false
-is_plain (IsDamaged k) = false
-is_plain other = true
+use Rattle.site_partitions.specs.Held.{Held}
+use Rattle.site_partitions.specs.Reaches.{Types, Reaches}
 
 -- the line of a refusal at a partition, of a call that names this transaction or message
 abbrev pub refusal_line : PartId → TxId → ℕ → Refusal → Step
@@ -37,23 +28,17 @@ refusal_line p tx number IsBadOp = step.BadOp
 refusal_line p tx number (HasNoRoom n) = step.Full n
 refusal_line p tx number (IsDamaged k) = step.Damaged p k
 
--- what a call that isn't answered comes to
-abbrev pub FailedAs : {X : Type 0} → PartId → TxId → ℕ → CallError → Result Step X → Type 0
-FailedAs p tx number call.NoMemory (Ok s) = ⊥
-FailedAs p tx number call.NoMemory (Err x) = ⊤
-FailedAs p tx number (call.Refused why) (Ok s) = s ≡ refusal_line p tx number (cause why)
-FailedAs p tx number (call.Refused why) (Err x) = ⊥
+-- what a call that isn't answered comes to, if a fault of its disk has this line
+abbrev pub FailedAs : {X : Type 0} → PartId → TxId → ℕ → Step → DurableError → Result Step X → Type 0
+FailedAs p tx number fault call.NoMemory (Ok s) = ⊥
+FailedAs p tx number fault call.NoMemory (Err x) = ⊤
+FailedAs p tx number fault call.Down (Ok s) = s ≡ step.Down p
+FailedAs p tx number fault call.Disk (Ok s) = s ≡ fault
+FailedAs p tx number fault (call.Full room) (Ok s) = s ≡ step.Full room
+FailedAs p tx number fault (call.Refused why) (Ok s) = s ≡ refusal_line p tx number (cause why)
+FailedAs p tx number fault other (Err x) = ⊥
 
 module _ {E : Type 0} where
-  -- nothing crashed, and nothing was cut off
-  abbrev pub is_calm : Event E → Bool
-  is_calm Crashed = false
-  is_calm RestartCut = false
-  is_calm (Restarted n b named listed) = false
-  is_calm (Cut what) = false
-  is_calm (Refused asked why) = is_plain why
-  is_calm other = true
-
   -- each call bears this number
   abbrev pub AllBear : ℕ → List (Call E) → Type 0
   AllBear n [] = ⊤
@@ -72,11 +57,10 @@ module _ {E : Type 0} where
   all_owned (c ∷ calls) a = (all_owned calls a.1, λ t h. inr (a.0 ∙ sym (no_number calls a.1 t)))
 
 -- the partitions stand where these calls left them
-pub record Sees {S E : Type 0} (kinds : Kinds S E) (c : Held E) (calls : List (Call E)) : Type 0 where
-  pub reached : Reaches kinds c (entries calls)
-  pub calm : EventsAre (λ p event. is_calm event ≡ true) (entries calls)
+pub record Sees {S E D : Type 0} (types : Types S E D) (c : Held E D) (calls : List (Call E)) : Type 0 where
+  pub reached : Reaches types c (entries calls)
   pub one_caller : AllBear 0 calls
 
 -- which is a run of the world
-pub sees_legal : {S E : Type 0} (kinds : Kinds S E) (c : Held E) (calls : List (Call E)) → Sees kinds c calls → IsLegal kinds c.sites c.parts calls
-sees_legal kinds c calls s = record { state = s.reached.state; is_run = s.reached.is_run; owned = all_owned calls s.one_caller }
+pub sees_legal : {S E D : Type 0} (types : Types S E D) (c : Held E D) (calls : List (Call E)) → Sees types c calls → IsLegal types.kinds c.sites c.parts calls
+sees_legal types c calls s = record { state = s.reached.state; is_run = s.reached.is_run; owned = all_owned calls s.one_caller }

@@ -1,16 +1,17 @@
 ghost use Rattle.std.specs.Prelude.{◌≡◌, ◌≤◌, ◌+◌, ℕ, true, false, List, Some, None, IfOk, OnOk, if◌then◌else◌, length, is_some};
 ghost use Rattle.std.specs.Str.{bytes_eq};
-ghost use Rattle.crdt_core.specs.KindsOf.{kinds_of};
+ghost use Rattle.site_partitions.specs.Reaches.{types_of};
 ghost use Rattle.cluster.specs.Acts.{Acts, Begins, Moves};
 ghost use Rattle.txn_session.specs.Session.{SessionState};
-ghost use Rattle.cluster.specs.Held.{holds_place};
+ghost use Rattle.cluster.specs.Same.{holds_place};
 ghost use Rattle.cluster.specs.Live.{phase_in, are_idle, session_in, stands_in, number_of};
 ghost use Rattle.cluster.specs.Reached.{AppliesLive, IsReachedLive};
 
-use crate::Sites;
+use crate::local::Local;
 use crate::cluster::only;
 use crate::live::{Live, Sessions, is_idle};
 use crdt_core::Crdt;
+use disk_core::Disk;
 use field_codec::Text;
 use site_vector::PartId;
 use std::alloc::AllocError;
@@ -20,12 +21,12 @@ use world_model::{Command, Step};
 /// The most sessions at one time.
 const MOST_SESSIONS: usize = 64;
 
-impl<C: Crdt> Live<C> {
+impl<C: Crdt, D: Disk + Drop> Live<C, D> {
     /// Makes a session at a site.
     pub(crate) fn make_session(&mut self, name: Text, site: u8) -> Result<Vec<Step>, AllocError>
-        ensures { IfOk result (λ steps. AppliesLive (kinds_of C.laws) self.old (Command.Session name site) steps.items self.new) }
+        ensures { IfOk result (λ steps. AppliesLive (types_of C.laws C.spells D.state) self.old (Command.Session name site) steps.items self.new) }
     {
-        if !self.sites.has_site(site) {
+        if !self.has_site(site) {
             return only(self.alloc, Step::NoPart);
         }
         if self.sessions.contains_key(&name) {
@@ -36,7 +37,7 @@ impl<C: Crdt> Live<C> {
         }
         let key = name.copy(self.alloc)?;
         let named = name.copy(self.alloc)?;
-        let (sites, parts) = (self.sites.sites(), self.sites.parts());
+        let (sites, parts) = (self.sites.all.sites(), self.sites.all.parts());
         let session = Session::new(self.alloc, named, site, sites, parts);
         create(&mut self.sessions, key, session)?;
         only(self.alloc, Step::MadeSession { name, site })
@@ -44,7 +45,7 @@ impl<C: Crdt> Live<C> {
 
     /// Removes a session.
     pub(crate) fn lose(&mut self, name: Text) -> Result<Vec<Step>, AllocError>
-        ensures { IfOk result (λ steps. AppliesLive (kinds_of C.laws) self.old (Command.Lose name) steps.items self.new) }
+        ensures { IfOk result (λ steps. AppliesLive (types_of C.laws C.spells D.state) self.old (Command.Lose name) steps.items self.new) }
     {
         if !self.sessions.contains_key(&name) {
             return only(self.alloc, Step::NoSession);
@@ -55,10 +56,10 @@ impl<C: Crdt> Live<C> {
 
     /// A session goes on at another site.
     pub(crate) fn move_session(&mut self, name: Text, site: u8) -> Result<Vec<Step>, AllocError>
-        requires { IsReachedLive (kinds_of C.laws) self.old }
-        ensures { IfOk result (λ steps. AppliesLive (kinds_of C.laws) self.old (Command.Move name site) steps.items self.new) }
+        requires { IsReachedLive (types_of C.laws C.spells D.state) self.old }
+        ensures { IfOk result (λ steps. AppliesLive (types_of C.laws C.spells D.state) self.old (Command.Move name site) steps.items self.new) }
     {
-        if !self.sites.has_site(site) {
+        if !self.has_site(site) {
             return only(self.alloc, Step::NoPart);
         }
         let Some(phase) = self.phase(&name) else {
@@ -83,8 +84,8 @@ impl<C: Crdt> Live<C> {
         name: Text,
         part: Option<PartId>,
     ) -> Result<Vec<Step>, AllocError>
-        requires reached { IsReachedLive (kinds_of C.laws) self.old }
-        ensures { IfOk result (λ steps. AppliesLive (kinds_of C.laws) self.old (Command.Begin name part) steps.items self.new) }
+        requires reached { IsReachedLive (types_of C.laws C.spells D.state) self.old }
+        ensures { IfOk result (λ steps. AppliesLive (types_of C.laws C.spells D.state) self.old (Command.Begin name part) steps.items self.new) }
     {
         if !self.has_place(part) {
             return only(self.alloc, Step::NoPart);
@@ -113,9 +114,9 @@ impl<C: Crdt> Live<C> {
         ensures is { result ≡ holds_place self.now.sites part }
         ensures some { 1 ≤ self.now.sites.parts }
     {
-        let parts = self.sites.parts();
+        let parts = self.sites.all.parts();
         match part {
-            Some(part) => self.sites.has_part(part),
+            Some(part) => self.has_part(part),
             None => 1 <= parts,
         }
     }
@@ -145,8 +146,8 @@ fn number_of(part: Option<PartId>) -> u8
 }
 
 /// Begins a transaction of a session that is idle, at the partition of its site with this number.
-fn begin_in<C: Crdt>(
-    sites: &mut Sites<C>,
+fn begin_in<C: Crdt, D: Disk + Drop>(
+    sites: &mut Local<C, D>,
     sessions: &mut Sessions<C>,
     name: &Text,
     part: u8,
@@ -154,8 +155,8 @@ fn begin_in<C: Crdt>(
     requires least { 1 ≤ part }
     requires most { part ≤ sites.old.parts }
     requires idle { are_idle (phase_in sessions.old.entries name.now) ≡ true }
-    requires reached { IsReachedLive (kinds_of C.laws) (record { sites = sites.old; sessions = sessions.old.entries }) }
-    ensures { IfOk result (λ step. Acts (kinds_of C.laws) sites.old sessions.old.entries name.now sites.new sessions.new.entries (Begins (kinds_of C.laws) sites.new part step)) }
+    requires reached { IsReachedLive (types_of C.laws C.spells D.state) (record { sites = sites.old; sessions = sessions.old.entries }) }
+    ensures { IfOk result (λ step. Acts (types_of C.laws C.spells D.state) sites.old sessions.old.entries name.now sites.new sessions.new.entries (Begins (types_of C.laws C.spells D.state) sites.old sites.new part step)) }
 {
     match sessions.get_mut(name) {
         Some(session) => {

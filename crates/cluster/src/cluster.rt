@@ -1,11 +1,15 @@
-ghost use Rattle.std.specs.Prelude.{◌≡◌, List, [], ◌∷◌, true, None, IfOk, OnErr};
-ghost use Rattle.crdt_core.specs.KindsOf.{kinds_of};
-ghost use Rattle.cluster.specs.Built.{IsSaid, is_built};
-ghost use Rattle.cluster.specs.Reached.{Applies, IsReached, Reached};
-ghost use Rattle.world_model.specs.Run.{Run};
+ghost use Rattle.std.specs.Prelude.{◌≡◌, ◌≤◌, ◌*◌, [], ◌∷◌, length, false, None, IfOk, IfErr, OnErr};
+ghost use Rattle.disk_core.specs.Fuses.{fused_state};
+ghost use Rattle.site_partitions.specs.Made.{AreBlank, HandsBack};
+ghost use Rattle.site_partitions.specs.Reaches.{types_of};
+ghost use Rattle.cluster.specs.Built.{IsSaid, is_making};
+ghost use Rattle.cluster.specs.Reached.{Applies, IsReached, Reached, FedIn, partitions_in};
 
 use crate::running::Running;
 use crdt_core::Crdt;
+use disk_core::{Disk, Fused};
+use partition_core::DurablePartition;
+use site_partitions::{MakeError, Sites};
 use std::alloc::{AllocError, Global};
 use std::marker::Model;
 use world_model::{Command, Step};
@@ -14,45 +18,81 @@ use world_model::{Command, Step};
 ///
 /// Contracts see it where the run of some script left it (`Reached`).
 #[derive(Drop)]
-pub struct Cluster<C: Crdt> {
+pub struct Cluster<C: Crdt, D: Disk + Drop> {
     alloc: Global,
-    live: Option<Running<C>>,
+    live: Option<Running<C, Fused<D>>>,
 }
 
-impl<C: Crdt> Model for Cluster<C> {
+impl<C: Crdt, D: Disk + Drop> Model for Cluster<C, D> {
     ghost use Rattle.std.specs.Prelude.{Option};
-    ghost use Rattle.crdt_core.specs.KindsOf.{kinds_of};
+    ghost use Rattle.disk_core.specs.Fuses.{fused_state};
+    ghost use Rattle.disk_core.specs.declared.fused.Fused.{Fused as WithFuse};
+    ghost use Rattle.site_partitions.specs.Reaches.{types_of};
     ghost use Rattle.cluster.specs.Post.{WholeState};
     ghost use Rattle.cluster.specs.Reached.{IsReached};
 
-    ghost Value = { Option (WholeState C.Effect) };
+    ghost Value = { Option (WholeState C.Effect (WithFuse D)) };
 
     ghost view = { λ s. s.live };
 
-    ghost invariant = { λ s. IsReached (kinds_of C.laws) s.live };
+    ghost invariant = { λ s. IsReached (types_of C.laws C.spells (fused_state D.state)) s.live };
 }
 
-impl<C: Crdt> Cluster<C> {
+impl<C: Crdt, D: Disk + Drop> Cluster<C, D> {
     /// Before any command. Takes no memory.
-    pub fn new(alloc: Global) -> Cluster<C>
-        ensures { Reached (kinds_of C.laws) result [] }
+    pub fn new(alloc: Global) -> Cluster<C, D>
+        ensures { Reached (types_of C.laws C.spells (fused_state D.state)) result [] }
     {
         Cluster { alloc, live: None }
     }
 
-    /// The lines that answer a command.
+    /// Makes a cluster over formatted disks, one for each partition, site by site. Answers the lines of the command.
     ///
     /// # Errors
     ///
-    /// `AllocError` where memory runs out, or no number is left for a message or report: 2^64 were made. It is as new
-    /// then.
+    /// `Partition` where one doesn't come up, as its restart says; `NoMemory` where memory runs out. It is as new then.
+    pub fn start(
+        &mut self,
+        sites: u8,
+        parts: u8,
+        disks: Vec<Fused<D>>,
+    ) -> Result<Vec<Step>, MakeError<Fused<D>>>
+        requires lacks { self.old ≡ None }
+        requires least_site { 1 ≤ sites }
+        requires most_sites { sites ≤ 8 }
+        requires least_part { 1 ≤ parts }
+        requires most_parts { parts ≤ 16 }
+        requires all { length disks.items ≡ sites * parts }
+        requires blank { AreBlank (fused_state D.state) disks.items }
+        ensures ok { IfOk result (λ steps. Applies (types_of C.laws C.spells (fused_state D.state)) self.old (Command.Cluster sites parts) steps.items self.new) }
+        ensures err { OnErr result (self.new ≡ None) }
+        ensures failed { IfErr result (λ e. HandsBack (fused_state D.state) sites parts disks.items e) }
+    {
+        let steps = only(self.alloc, Step::MadeCluster { sites, parts })?;
+        let made = Sites::new(self.alloc, sites, parts, disks)?;
+        self.live = Some(Running::new(self.alloc, made));
+        Ok(steps)
+    }
+
+    /// The lines that answer a command, but for the one that makes a cluster where there is none.
+    ///
+    /// # Errors
+    ///
+    /// `AllocError` where memory runs out, also that of a disk which grows in memory; or no number is left for a message
+    /// or report: 2^64 were made. It is as new then.
     pub fn apply(&mut self, command: Command) -> Result<Vec<Step>, AllocError>
-        requires { IsSaid C.has C.too_deep command }
-        ensures ok { IfOk result (λ steps. Applies (kinds_of C.laws) self.old command steps.items self.new) }
+        requires said { IsSaid C.has C.too_deep command }
+        requires made { self.old ≡ None → is_making command ≡ false }
+        ensures ok { IfOk result (λ steps. Applies (types_of C.laws C.spells (fused_state D.state)) self.old command steps.items self.new) }
+        ensures fed { IfOk result (λ steps. FedIn (fused_state D.state) self.new steps.items) }
         ensures err { OnErr result (self.new ≡ None) }
     {
         match answer(self.alloc, &mut self.live, command) {
             Ok(steps) => {
+                if lacks_memory(&self.live, steps.as_slice()) {
+                    self.live = None;
+                    return Err(AllocError);
+                }
                 return Ok(steps);
             }
             Err(error) => {
@@ -61,61 +101,49 @@ impl<C: Crdt> Cluster<C> {
             }
         }
     }
+
+    /// The partitions, site by site, each with its disk; none where no cluster is made.
+    pub fn into_partitions(self) -> Vec<DurablePartition<C, Fused<D>>>
+        ensures { result.items ≡ partitions_in self }
+    {
+        match self.live {
+            Some(cluster) => cluster.into_partitions(),
+            None => Vec::new(self.alloc),
+        }
+    }
 }
 
 /// The lines that answer a command.
-fn answer<C: Crdt>(
+fn answer<C: Crdt, D: Disk + Drop>(
     alloc: Global,
-    live: &mut Option<Running<C>>,
+    live: &mut Option<Running<C, Fused<D>>>,
     command: Command,
 ) -> Result<Vec<Step>, AllocError>
     requires said { IsSaid C.has C.too_deep command }
-    requires reached { IsReached (kinds_of C.laws) live.old }
-    ensures { IfOk result (λ steps. Applies (kinds_of C.laws) live.old command steps.items live.new) }
+    requires made { live.old ≡ None → is_making command ≡ false }
+    requires reached { IsReached (types_of C.laws C.spells (fused_state D.state)) live.old }
+    ensures { IfOk result (λ steps. Applies (types_of C.laws C.spells (fused_state D.state)) live.old command steps.items live.new) }
 {
-    if !is_built(&command) {
-        return only(alloc, Step::Unbuilt);
-    }
     match live {
         Some(cluster) => {
             return cluster.apply(command);
         }
         None => {
-            return make(alloc, live, command);
-        }
-    }
-}
-
-/// The lines that answer a command that is built, where no cluster is made.
-fn make<C: Crdt>(
-    alloc: Global,
-    live: &mut Option<Running<C>>,
-    command: Command,
-) -> Result<Vec<Step>, AllocError>
-    requires built { is_built command ≡ true }
-    requires said { IsSaid C.has C.too_deep command }
-    requires lacks { live.old ≡ None }
-    ensures { IfOk result (λ steps. Applies (kinds_of C.laws) live.old command steps.items live.new) }
-{
-    match command {
-        Command::Cluster { sites, parts } => {
-            let made = Running::new(alloc, sites, parts)?;
-            *live = Some(made);
-            return only(alloc, Step::MadeCluster { sites, parts });
-        }
-        _ => {
             return only(alloc, Step::NoCluster);
         }
     }
 }
 
-/// Whether a command is built.
-fn is_built(command: &Command) -> bool
-    ensures { result ≡ is_built command.now }
+/// Whether one of these lines tells of a disk that failed for want of memory.
+fn lacks_memory<C: Crdt, D: Disk + Drop>(
+    live: &Option<Running<C, Fused<D>>>,
+    steps: &[Step],
+) -> bool
+    ensures { result ≡ false → FedIn (fused_state D.state) live.now steps.now }
 {
-    match command {
-        Command::Crash { .. } | Command::Fuse { .. } | Command::Restart { .. } => false,
-        _ => true,
+    match live {
+        Some(cluster) => cluster.live.lacks_memory(steps),
+        None => false,
     }
 }
 

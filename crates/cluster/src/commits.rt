@@ -1,20 +1,21 @@
 ghost use Rattle.std.specs.Prelude.{◌≡◌, ◌≢◌, ℕ, List, true, Option, Some, IfOk};
-ghost use Rattle.crdt_core.specs.KindsOf.{kinds_of};
+ghost use Rattle.site_partitions.specs.Reaches.{types_of};
 ghost use Rattle.world_model.specs.ScriptAnswers.{fewer};
 ghost use Rattle.txn_session.specs.Calls.{Call};
 ghost use Rattle.txn_session.specs.Holds.{Holds, Mays};
 ghost use Rattle.cluster.specs.Acts.{Acts};
 ghost use Rattle.cluster.specs.Built.{IsSaid};
 ghost use Rattle.cluster.specs.Ends.{MayMake, TakesStep, can_end, command_of, goes_on, is_undecided_phase, stops};
-ghost use Rattle.cluster.specs.Held.{SameSize};
+ghost use Rattle.cluster.specs.Same.{SameCluster};
 ghost use Rattle.cluster.specs.Live.{session_in};
 ghost use Rattle.cluster.specs.Reached.{AppliesLive, IsReachedLive};
 ghost use Rattle.cluster.specs.Sees.{Sees};
 
-use crate::Sites;
+use crate::local::Local;
 use crate::cluster::only;
 use crate::live::{Live, Sessions, is_idle};
 use crdt_core::Crdt;
+use disk_core::Disk;
 use field_codec::Text;
 use std::alloc::{AllocError, Global};
 use txn_session::{Phase, Session};
@@ -27,12 +28,12 @@ enum Way {
     GivesUp,
 }
 
-impl<C: Crdt> Live<C> {
+impl<C: Crdt, D: Disk + Drop> Live<C, D> {
     /// Commits a session's transaction, or makes so many steps of its commit.
     pub(crate) fn commit(&mut self, name: Text, steps: Option<u64>) -> Result<Vec<Step>, AllocError>
         requires said { IsSaid C.has C.too_deep (Command.Commit name steps) }
-        requires reached { IsReachedLive (kinds_of C.laws) self.old }
-        ensures { IfOk result (λ lines. AppliesLive (kinds_of C.laws) self.old (Command.Commit name steps) lines.items self.new) }
+        requires reached { IsReachedLive (types_of C.laws C.spells D.state) self.old }
+        ensures { IfOk result (λ lines. AppliesLive (types_of C.laws C.spells D.state) self.old (Command.Commit name steps) lines.items self.new) }
     {
         let Some(phase) = self.phase(&name) else {
             return only(self.alloc, Step::NoSession);
@@ -59,8 +60,8 @@ impl<C: Crdt> Live<C> {
 
     /// Gives a session's transaction up.
     pub(crate) fn abort(&mut self, name: Text) -> Result<Vec<Step>, AllocError>
-        requires reached { IsReachedLive (kinds_of C.laws) self.old }
-        ensures { IfOk result (λ lines. AppliesLive (kinds_of C.laws) self.old (Command.Abort name) lines.items self.new) }
+        requires reached { IsReachedLive (types_of C.laws C.spells D.state) self.old }
+        ensures { IfOk result (λ lines. AppliesLive (types_of C.laws C.spells D.state) self.old (Command.Abort name) lines.items self.new) }
     {
         let Some(phase) = self.phase(&name) else {
             return only(self.alloc, Step::NoSession);
@@ -87,9 +88,9 @@ impl<C: Crdt> Live<C> {
 }
 
 /// Makes the steps of the end of a session's transaction, at most so many.
-fn end_all<C: Crdt>(
+fn end_all<C: Crdt, D: Disk + Drop>(
     alloc: Global,
-    sites: &mut Sites<C>,
+    sites: &mut Local<C, D>,
     sessions: &mut Sessions<C>,
     name: &Text,
     way: Way,
@@ -97,8 +98,8 @@ fn end_all<C: Crdt>(
 ) -> Result<Vec<Step>, AllocError>
     requires some { MayMake way steps }
     requires can { can_end way (session_in sessions.old.entries name.now) ≡ true }
-    requires reached { IsReachedLive (kinds_of C.laws) (record { sites = sites.old; sessions = sessions.old.entries }) }
-    ensures { IfOk result (λ lines. AppliesLive (kinds_of C.laws) (record { sites = sites.old; sessions = sessions.old.entries }) (command_of way name.now steps) lines.items (record { sites = sites.new; sessions = sessions.new.entries })) }
+    requires reached { IsReachedLive (types_of C.laws C.spells D.state) (record { sites = sites.old; sessions = sessions.old.entries }) }
+    ensures { IfOk result (λ lines. AppliesLive (types_of C.laws C.spells D.state) (record { sites = sites.old; sessions = sessions.old.entries }) (command_of way name.now steps) lines.items (record { sites = sites.new; sessions = sessions.new.entries })) }
 {
     let mut lines = Vec::new(alloc);
     let mut left = steps;
@@ -116,15 +117,15 @@ fn end_all<C: Crdt>(
 }
 
 /// Makes the next step of the end of a session's transaction. Answers its line, and whether more follow.
-fn end_once<C: Crdt>(
-    sites: &mut Sites<C>,
+fn end_once<C: Crdt, D: Disk + Drop>(
+    sites: &mut Local<C, D>,
     sessions: &mut Sessions<C>,
     name: &Text,
     way: Way,
 ) -> Result<(Step, bool), AllocError>
     requires can { can_end way (session_in sessions.old.entries name.now) ≡ true }
-    requires reached { IsReachedLive (kinds_of C.laws) (record { sites = sites.old; sessions = sessions.old.entries }) }
-    ensures { IfOk result (λ r. Acts (kinds_of C.laws) sites.old sessions.old.entries name.now sites.new sessions.new.entries (TakesStep (kinds_of C.laws) sites.new way r.0 r.1)) }
+    requires reached { IsReachedLive (types_of C.laws C.spells D.state) (record { sites = sites.old; sessions = sessions.old.entries }) }
+    ensures { IfOk result (λ r. Acts (types_of C.laws C.spells D.state) sites.old sessions.old.entries name.now sites.new sessions.new.entries (TakesStep (types_of C.laws C.spells D.state) sites.old sites.new way r.0 r.1)) }
 {
     match sessions.get_mut(name) {
         Some(session) => {
@@ -137,16 +138,16 @@ fn end_once<C: Crdt>(
 }
 
 /// Makes the next step of the end of the session's transaction.
-fn step_on<C: Crdt>(
+fn step_on<C: Crdt, D: Disk + Drop>(
     session: &mut Session<C>,
-    sites: &mut Sites<C>,
+    sites: &mut Local<C, D>,
     way: Way,
 ) -> Result<(Step, bool), AllocError>
     requires sites { sites.old.sites ≡ session.old.sites }
     requires parts { sites.old.parts ≡ session.old.parts }
-    requires holds { Mays (λ h (p : Unit {0}) l. Sees (kinds_of C.laws) h l) (λ (p : Unit {0}) n. true) sites.old tt session.old }
-    ensures stays { SameSize sites.old sites.new }
-    ensures made { IfOk result (λ r. (calls : List (Call C.Effect)) → Sees (kinds_of C.laws) sites.old calls → Holds session.old calls → TakesStep (kinds_of C.laws) sites.new way r.0 r.1 session.old session.new calls) }
+    requires holds { Mays (λ h (p : Unit {0}) l. Sees (types_of C.laws C.spells D.state) h l) (λ (p : Unit {0}) n. true) sites.old tt session.old }
+    ensures stays { SameCluster D.state sites.old sites.new }
+    ensures made { IfOk result (λ r. (calls : List (Call C.Effect)) → Sees (types_of C.laws C.spells D.state) sites.old calls → Holds session.old calls → TakesStep (types_of C.laws C.spells D.state) sites.old sites.new way r.0 r.1 session.old session.new calls) }
 {
     match way {
         Way::Commits => {

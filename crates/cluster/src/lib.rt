@@ -1,19 +1,19 @@
-//! The partitions of all sites in one process. What they stand for together is a run of the world: each call of a partition
-//! that its rules allow is one more event of it.
+//! A cluster with its sessions, and with the messages and reports between its partitions: it answers the commands of a
+//! script. What its partitions stand for together is a run of the world, and each line of a partition is one more event
+//! of it.
 #![tactic(auto)]
 
 mod begins;
-mod calls;
 mod cluster;
 mod commits;
 mod fates;
+mod faults;
 mod live;
+mod local;
 mod post;
 mod posts;
 mod running;
-mod sites;
 mod store;
 mod updates;
 
 pub use cluster::Cluster;
-pub use sites::Sites;

@@ -1,22 +1,24 @@
-ghost use Rattle.std.specs.Prelude.{◌≡◌, ◌≤◌, ℕ, [], true, false, Some, IfOk};
+ghost use Rattle.std.specs.Prelude.{◌≡◌, ◌≤◌, ℕ, [], false, IfOk};
 ghost use Rattle.world_model.specs.Event.{AskMessage, AskTake, AskReport, AskHear, Sent, Took, Reported, Heard};
 ghost use Rattle.world_model.specs.Partition.{IsOther};
 ghost use Rattle.world_model.specs.Plan.{IsPlace};
-ghost use Rattle.cluster.specs.Answers.{Any, Calls, GoesOn};
-ghost use Rattle.cluster.specs.Held.{holds_site, holds_part};
-ghost use Rattle.cluster.specs.Reaches.{MayAsk, Reaches};
-ghost use Rattle.crdt_core.specs.KindsOf.{kinds_of};
+ghost use Rattle.site_partitions.specs.Answers.{Any, Calls};
+ghost use Rattle.site_partitions.specs.Held.{holds_site, holds_part};
+ghost use Rattle.site_partitions.specs.Reaches.{types_of, MayAsk};
 ghost use Rattle.crdt_core.specs.Log.{end_of_time};
-ghost use Rattle.cluster.specs.Built.{IsSaid, is_built, is_of_fates, is_of_post};
+ghost use Rattle.cluster.specs.Built.{IsSaid, is_of_fates, is_of_faults, is_of_post};
 ghost use Rattle.cluster.specs.Live.{phase_in, is_open_phase, is_idle_phase};
 ghost use Rattle.cluster.specs.Reached.{AppliesLive, IsReachedLive};
 
-use crate::Sites;
+use crate::local::Local;
 use crate::cluster::only;
+use crate::store::{NO_TX, failed};
 use crdt_core::{Crdt, Message};
+use disk_core::Disk;
 use field_codec::Text;
 use indexmap::IndexMap;
-use partition_core::CallError;
+use partition_core::{DurableError, DurablePartition};
+use site_partitions::Sites;
 use site_vector::{PartId, VTime};
 use std::alloc::{AllocError, Global};
 use std::marker::Model;
@@ -28,65 +30,70 @@ pub(crate) type Sessions<C> = IndexMap<Text, Session<C>>;
 
 /// A cluster that was made, and its sessions by their names.
 #[derive(Drop)]
-pub(crate) struct Live<C: Crdt> {
+pub(crate) struct Live<C: Crdt, D: Disk + Drop> {
     pub(crate) alloc: Global,
-    pub(crate) sites: Sites<C>,
+    pub(crate) sites: Local<C, D>,
     pub(crate) sessions: Sessions<C>,
 }
 
-impl<C: Crdt> Model for Live<C> {
+impl<C: Crdt, D: Disk + Drop> Model for Live<C, D> {
     ghost use Rattle.cluster.specs.Live.{LiveState};
 
-    ghost Value = { LiveState C.Effect };
+    ghost Value = { LiveState C.Effect D };
 
     ghost view = { λ s. record { sites = s.sites; sessions = s.sessions.entries } };
 }
 
-impl<C: Crdt> Live<C> {
-    /// A cluster without sessions, of 1 to 8 sites of 1 to 16 partitions each.
-    ///
-    /// # Errors
-    ///
-    /// `AllocError` where memory runs out.
-    pub(crate) fn new(alloc: Global, sites: u8, parts: u8) -> Result<Live<C>, AllocError>
-        requires least_site { 1 ≤ sites }
-        requires most_sites { sites ≤ 8 }
-        requires least_part { 1 ≤ parts }
-        requires most_parts { parts ≤ 16 }
-        ensures { IfOk result (λ c. (c.sites.sites ≡ sites) × (c.sites.parts ≡ parts) × Reaches (kinds_of C.laws) c.sites [] × (c.sessions ≡ [])) }
+impl<C: Crdt, D: Disk + Drop> Live<C, D> {
+    /// A cluster over its partitions, without sessions. Takes no memory.
+    pub(crate) fn new(alloc: Global, sites: Sites<C, D>) -> Live<C, D>
+        ensures { result ≡ record { sites = sites; sessions = [] } }
     {
-        let sites = Sites::new(alloc, sites, parts)?;
-        Ok(Live {
+        Live {
             alloc,
-            sites,
+            sites: Local { alloc, all: sites },
             sessions: IndexMap::new(alloc),
-        })
+        }
+    }
+
+    /// The partitions, site by site, each with its disk.
+    pub(crate) fn into_partitions(self) -> Vec<DurablePartition<C, D>>
+        ensures { result.items ≡ self.sites.partitions }
+    {
+        self.sites.all.into_partitions()
     }
 
     /// The clock of a partition reads a time.
     pub(crate) fn read_clock(&mut self, part: PartId, n: u64) -> Result<Vec<Step>, AllocError>
         requires { n ≤ end_of_time }
-        ensures { IfOk result (λ steps. AppliesLive (kinds_of C.laws) self.old (Command.Clock part n) steps.items self.new) }
+        ensures { IfOk result (λ steps. AppliesLive (types_of C.laws C.spells D.state) self.old (Command.Clock part n) steps.items self.new) }
     {
-        if !self.sites.has_part(part) {
+        if !self.has_part(part) {
             return only(self.alloc, Step::NoPart);
         }
-        let now = self.sites.tick_at(part, n);
-        only(self.alloc, Step::Ticked { part, now })
+        match self.sites.all.tick_at(part, n) {
+            Ok(now) => {
+                return only(self.alloc, Step::Ticked { part, now });
+            }
+            Err(error) => {
+                let line = failed(part, NO_TX, 0, error)?;
+                return only(self.alloc, line);
+            }
+        }
     }
 
-    /// The lines that answer a command that is built.
+    /// The lines that answer a command of sessions, or of clocks.
     ///
     /// # Errors
     ///
     /// `AllocError` where memory runs out. It may only be dropped then.
     pub(crate) fn apply(&mut self, command: Command) -> Result<Vec<Step>, AllocError>
-        requires built { is_built command ≡ true }
         requires no_post { is_of_post command ≡ false }
         requires no_fates { is_of_fates command ≡ false }
+        requires no_faults { is_of_faults command ≡ false }
         requires said { IsSaid C.has C.too_deep command }
-        requires reached { IsReachedLive (kinds_of C.laws) self.old }
-        ensures { IfOk result (λ steps. AppliesLive (kinds_of C.laws) self.old command steps.items self.new) }
+        requires reached { IsReachedLive (types_of C.laws C.spells D.state) self.old }
+        ensures { IfOk result (λ steps. AppliesLive (types_of C.laws C.spells D.state) self.old command steps.items self.new) }
     {
         match command {
             Command::Cluster { .. } => {
@@ -128,13 +135,13 @@ impl<C: Crdt> Live<C> {
     pub(crate) fn has_site(&self, site: u8) -> bool
         ensures { result ≡ holds_site self.now.sites site }
     {
-        self.sites.has_site(site)
+        self.sites.all.has_site(site)
     }
 
     pub(crate) fn has_part(&self, part: PartId) -> bool
         ensures { result ≡ holds_part self.now.sites part }
     {
-        self.sites.has_part(part)
+        self.sites.all.has_part(part)
     }
 
     /// A partition makes a message for another site.
@@ -143,39 +150,48 @@ impl<C: Crdt> Live<C> {
         at: PartId,
         to: u8,
         from: Option<u64>,
-    ) -> Result<Message<C::Effect>, AllocError>
+    ) -> Result<Message<C::Effect>, DurableError>
         requires place { IsOther self.old.sites.sites at.site to }
-        requires may { MayAsk (kinds_of C.laws) self.old.sites at (AskMessage to from) }
+        requires may { MayAsk (types_of C.laws C.spells D.state) self.old.sites at (AskMessage to from) }
         ensures same { self.new.sessions ≡ self.old.sessions }
-        ensures sent { IfOk result (λ m. (m.to ≡ to) × GoesOn (kinds_of C.laws) self.old.sites self.new.sites Any at (AskMessage to from) (λ e. e ≡ Sent from m)) }
+        ensures sent { Calls (types_of C.laws C.spells D.state) self.old.sites self.new.sites Any at (AskMessage to from) (λ m e. (m.to ≡ to) × (e ≡ Sent from m)) result }
     {
-        self.sites.release_at(at, to, from)
+        self.sites.all.release_at(at, to, from)
     }
 
     /// A partition takes a message that was sent.
-    pub(crate) fn take(&mut self, at: PartId, message: &Message<C::Effect>) -> Result<(), CallError>
-        requires { (number : ℕ) × MayAsk (kinds_of C.laws) self.old.sites at (AskTake number message.now) }
+    pub(crate) fn take(
+        &mut self,
+        at: PartId,
+        message: &Message<C::Effect>,
+    ) -> Result<(), DurableError>
+        requires { (number : ℕ) × MayAsk (types_of C.laws C.spells D.state) self.old.sites at (AskTake number message.now) }
         ensures same { self.new.sessions ≡ self.old.sessions }
-        ensures took { (number : ℕ) → Calls (kinds_of C.laws) self.old.sites self.new.sites Any at (AskTake number message.now) (λ n e. e ≡ Took number message.now) result }
+        ensures took { (number : ℕ) → Calls (types_of C.laws C.spells D.state) self.old.sites self.new.sites Any at (AskTake number message.now) (λ n e. e ≡ Took number message.now) result }
     {
-        self.sites.take_at(at, message)
+        self.sites.all.take_at(at, message)
     }
 
     /// A partition's bounds.
-    pub(crate) fn report(&self, at: PartId) -> VTime
+    pub(crate) fn report(&self, at: PartId) -> Result<VTime, DurableError>
         requires { IsPlace self.now.sites.sites self.now.sites.parts at }
-        ensures { GoesOn (kinds_of C.laws) self.now.sites self.now.sites Any at AskReport (λ e. e ≡ Reported result) }
+        ensures { Calls (types_of C.laws C.spells D.state) self.now.sites self.now.sites Any at AskReport (λ b e. e ≡ Reported b) result }
     {
-        self.sites.report_at(at)
+        self.sites.all.report_at(at)
     }
 
     /// A partition hears a report of its site.
-    pub(crate) fn hear(&mut self, at: PartId, part: u8, bounds: &VTime) -> VTime
-        requires { (number : ℕ) × MayAsk (kinds_of C.laws) self.old.sites at (AskHear number part bounds.now) }
+    pub(crate) fn hear(
+        &mut self,
+        at: PartId,
+        part: u8,
+        bounds: &VTime,
+    ) -> Result<VTime, DurableError>
+        requires { (number : ℕ) × MayAsk (types_of C.laws C.spells D.state) self.old.sites at (AskHear number part bounds.now) }
         ensures same { self.new.sessions ≡ self.old.sessions }
-        ensures heard { (number : ℕ) → GoesOn (kinds_of C.laws) self.old.sites self.new.sites Any at (AskHear number part bounds.now) (λ e. e ≡ Heard number part bounds.now result) }
+        ensures heard { (number : ℕ) → Calls (types_of C.laws C.spells D.state) self.old.sites self.new.sites Any at (AskHear number part bounds.now) (λ stable e. e ≡ Heard number part bounds.now stable) result }
     {
-        self.sites.hear_at(at, part, bounds)
+        self.sites.all.hear_at(at, part, bounds)
     }
 
     /// What the session of this name is about, if it is there.

@@ -1,5 +1,5 @@
 ghost use Rattle.std.specs.Prelude.{◌≡◌, ◌+◌, ℕ, true, Some, None, IfOk, OnOk, if◌then◌else◌, is_some, length, nat_eq};
-ghost use Rattle.crdt_core.specs.KindsOf.{kinds_of};
+ghost use Rattle.site_partitions.specs.Reaches.{types_of};
 ghost use Rattle.cluster.specs.Built.{is_of_post};
 ghost use Rattle.cluster.specs.Post.{kept_at, lacks_way};
 ghost use Rattle.cluster.specs.Reached.{Applies, IsReached};
@@ -9,6 +9,7 @@ use crate::post::Note;
 use crate::running::Running;
 use crate::store::{NO_TX, failed};
 use crdt_core::{Crdt, Message};
+use disk_core::Disk;
 use indexmap::IndexMap;
 use site_vector::PartId;
 use std::alloc::AllocError;
@@ -17,12 +18,12 @@ use world_model::{Command, Step};
 /// The most messages that are kept at one time, and the most reports.
 const MOST_KEPT: usize = 4096;
 
-impl<C: Crdt> Running<C> {
+impl<C: Crdt, D: Disk + Drop> Running<C, D> {
     /// The lines that answer a command of messages or reports.
     pub(crate) fn handle(&mut self, command: Command) -> Result<Vec<Step>, AllocError>
         requires of_post { is_of_post command ≡ true }
-        requires reached { IsReached (kinds_of C.laws) (Some self.old) }
-        ensures { IfOk result (λ steps. Applies (kinds_of C.laws) (Some self.old) command steps.items (Some self.new)) }
+        requires reached { IsReached (types_of C.laws C.spells D.state) (Some self.old) }
+        ensures { IfOk result (λ steps. Applies (types_of C.laws C.spells D.state) (Some self.old) command steps.items (Some self.new)) }
     {
         match command {
             Command::Send { part, site, from } => {
@@ -51,8 +52,8 @@ impl<C: Crdt> Running<C> {
 
     /// Has a partition make a message for another site, and keeps it.
     fn send(&mut self, part: PartId, site: u8, from: Option<u64>) -> Result<Vec<Step>, AllocError>
-        requires reached { IsReached (kinds_of C.laws) (Some self.old) }
-        ensures { IfOk result (λ steps. Applies (kinds_of C.laws) (Some self.old) (Command.Send part site from) steps.items (Some self.new)) }
+        requires reached { IsReached (types_of C.laws C.spells D.state) (Some self.old) }
+        ensures { IfOk result (λ steps. Applies (types_of C.laws C.spells D.state) (Some self.old) (Command.Send part site from) steps.items (Some self.new)) }
     {
         if self.lacks_way(part, site) {
             return only(self.alloc, Step::NoPart);
@@ -62,18 +63,25 @@ impl<C: Crdt> Running<C> {
         }
         let number = self.next_letter;
         let next = after(number)?;
-        let message = self.live.release(part, site, from)?;
-        let step = Step::Sent {
-            number,
-            part,
-            to: site,
-            lo: message.lo,
-            hi: message.hi,
-            count: message.parts.as_slice().len() as u64,
-        };
-        keep_message(&mut self.letters, number, message)?;
-        self.next_letter = next;
-        only(self.alloc, step)
+        match self.live.release(part, site, from) {
+            Ok(message) => {
+                let step = Step::Sent {
+                    number,
+                    part,
+                    to: site,
+                    lo: message.lo,
+                    hi: message.hi,
+                    count: message.parts.as_slice().len() as u64,
+                };
+                keep_message(&mut self.letters, number, message)?;
+                self.next_letter = next;
+                return only(self.alloc, step);
+            }
+            Err(error) => {
+                let line = failed(part, NO_TX, 0, error)?;
+                return only(self.alloc, line);
+            }
+        }
     }
 
     /// Whether a partition or a site isn't there, or the site is the partition's own.
@@ -85,8 +93,8 @@ impl<C: Crdt> Running<C> {
 
     /// Hands a message to the partition that it is for.
     fn deliver(&mut self, number: u64) -> Result<Vec<Step>, AllocError>
-        requires reached { IsReached (kinds_of C.laws) (Some self.old) }
-        ensures { IfOk result (λ steps. Applies (kinds_of C.laws) (Some self.old) (Command.Deliver number) steps.items (Some self.new)) }
+        requires reached { IsReached (types_of C.laws C.spells D.state) (Some self.old) }
+        ensures { IfOk result (λ steps. Applies (types_of C.laws C.spells D.state) (Some self.old) (Command.Deliver number) steps.items (Some self.new)) }
     {
         let Some(message) = self.letters.get(&number) else {
             return only(self.alloc, Step::NoMessage);
@@ -114,8 +122,8 @@ impl<C: Crdt> Running<C> {
 
     /// Has a partition report its bounds, and keeps the report.
     fn report(&mut self, part: PartId) -> Result<Vec<Step>, AllocError>
-        requires reached { IsReached (kinds_of C.laws) (Some self.old) }
-        ensures { IfOk result (λ steps. Applies (kinds_of C.laws) (Some self.old) (Command.Report part) steps.items (Some self.new)) }
+        requires reached { IsReached (types_of C.laws C.spells D.state) (Some self.old) }
+        ensures { IfOk result (λ steps. Applies (types_of C.laws C.spells D.state) (Some self.old) (Command.Report part) steps.items (Some self.new)) }
     {
         if !self.live.has_part(part) {
             return only(self.alloc, Step::NoPart);
@@ -125,23 +133,28 @@ impl<C: Crdt> Running<C> {
         }
         let number = self.next_note;
         let next = after(number)?;
-        let bounds = self.live.report(part);
-        keep_report(&mut self.notes, number, Note { from: part, bounds })?;
-        self.next_note = next;
-        only(
-            self.alloc,
-            Step::Reported {
-                number,
-                part,
-                bounds,
-            },
-        )
+        match self.live.report(part) {
+            Ok(bounds) => {
+                keep_report(&mut self.notes, number, Note { from: part, bounds })?;
+                self.next_note = next;
+                let step = Step::Reported {
+                    number,
+                    part,
+                    bounds,
+                };
+                return only(self.alloc, step);
+            }
+            Err(error) => {
+                let line = failed(part, NO_TX, 0, error)?;
+                return only(self.alloc, line);
+            }
+        }
     }
 
     /// Tells a partition what another one of its site reported.
     fn hear(&mut self, number: u64, part: PartId) -> Result<Vec<Step>, AllocError>
-        requires reached { IsReached (kinds_of C.laws) (Some self.old) }
-        ensures { IfOk result (λ steps. Applies (kinds_of C.laws) (Some self.old) (Command.Hear number part) steps.items (Some self.new)) }
+        requires reached { IsReached (types_of C.laws C.spells D.state) (Some self.old) }
+        ensures { IfOk result (λ steps. Applies (types_of C.laws C.spells D.state) (Some self.old) (Command.Hear number part) steps.items (Some self.new)) }
     {
         if !self.live.has_part(part) {
             return only(self.alloc, Step::NoPart);
@@ -152,20 +165,25 @@ impl<C: Crdt> Running<C> {
         if note.from.site != part.site {
             return only(self.alloc, Step::NoPart);
         }
-        let stable = self.live.hear(part, note.from.part, &note.bounds);
-        only(
-            self.alloc,
-            Step::Heard {
-                number,
-                part,
-                stable,
-            },
-        )
+        match self.live.hear(part, note.from.part, &note.bounds) {
+            Ok(stable) => {
+                let step = Step::Heard {
+                    number,
+                    part,
+                    stable,
+                };
+                return only(self.alloc, step);
+            }
+            Err(error) => {
+                let line = failed(part, NO_TX, 0, error)?;
+                return only(self.alloc, line);
+            }
+        }
     }
 
     /// Forgets a message.
     fn drop_message(&mut self, number: u64) -> Result<Vec<Step>, AllocError>
-        ensures { IfOk result (λ steps. Applies (kinds_of C.laws) (Some self.old) (Command.DropMessage number) steps.items (Some self.new)) }
+        ensures { IfOk result (λ steps. Applies (types_of C.laws C.spells D.state) (Some self.old) (Command.DropMessage number) steps.items (Some self.new)) }
     {
         if !self.letters.contains_key(&number) {
             return only(self.alloc, Step::NoMessage);
@@ -176,7 +194,7 @@ impl<C: Crdt> Running<C> {
 
     /// Forgets a report.
     fn drop_report(&mut self, number: u64) -> Result<Vec<Step>, AllocError>
-        ensures { IfOk result (λ steps. Applies (kinds_of C.laws) (Some self.old) (Command.DropReport number) steps.items (Some self.new)) }
+        ensures { IfOk result (λ steps. Applies (types_of C.laws C.spells D.state) (Some self.old) (Command.DropReport number) steps.items (Some self.new)) }
     {
         if !self.notes.contains_key(&number) {
             return only(self.alloc, Step::NoMessage);

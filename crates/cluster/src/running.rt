@@ -1,78 +1,84 @@
-ghost use Rattle.std.specs.Prelude.{◌≡◌, ◌≤◌, [], true, false, IfOk};
-ghost use Rattle.crdt_core.specs.KindsOf.{kinds_of};
-ghost use Rattle.cluster.specs.Built.{IsSaid, is_built, is_of_fates, is_of_post};
+ghost use Rattle.std.specs.Prelude.{◌≡◌, [], true, IfOk};
+ghost use Rattle.site_partitions.specs.Reaches.{types_of};
+ghost use Rattle.cluster.specs.Built.{IsSaid, is_of_fates, is_of_faults, is_of_post};
 ghost use Rattle.cluster.specs.Post.{new_post};
 ghost use Rattle.cluster.specs.Reached.{Applies, IsReached};
-ghost use Rattle.cluster.specs.Reaches.{Reaches};
 ghost use Rattle.std.specs.Prelude.{Some};
 
 use crate::live::Live;
 use crate::post::Note;
 use crdt_core::{Crdt, Message};
+use disk_core::{Disk, Fused};
 use indexmap::IndexMap;
+use partition_core::DurablePartition;
+use site_partitions::Sites;
 use std::alloc::{AllocError, Global};
 use std::marker::Model;
 use world_model::{Command, Step};
 
 /// A cluster that was made, its sessions, and the messages and reports that are kept, by their numbers.
 #[derive(Drop)]
-pub(crate) struct Running<C: Crdt> {
+pub(crate) struct Running<C: Crdt, D: Disk + Drop> {
     pub(crate) alloc: Global,
-    pub(crate) live: Live<C>,
+    pub(crate) live: Live<C, D>,
     pub(crate) letters: IndexMap<u64, Message<C::Effect>>,
     pub(crate) next_letter: u64,
     pub(crate) notes: IndexMap<u64, Note>,
     pub(crate) next_note: u64,
 }
 
-impl<C: Crdt> Model for Running<C> {
+impl<C: Crdt, D: Disk + Drop> Model for Running<C, D> {
     ghost use Rattle.cluster.specs.Post.{WholeState};
 
-    ghost Value = { WholeState C.Effect };
+    ghost Value = { WholeState C.Effect D };
 
     ghost view = { λ s. record { live = s.live; post = record { letters = s.letters.entries; next_letter = s.next_letter; notes = s.notes.entries; next_note = s.next_note } } };
 }
 
-impl<C: Crdt> Running<C> {
-    /// A cluster without sessions, of 1 to 8 sites of 1 to 16 partitions each, that keeps nothing.
-    ///
-    /// # Errors
-    ///
-    /// `AllocError` where memory runs out.
-    pub(crate) fn new(alloc: Global, sites: u8, parts: u8) -> Result<Running<C>, AllocError>
-        requires least_site { 1 ≤ sites }
-        requires most_sites { sites ≤ 8 }
-        requires least_part { 1 ≤ parts }
-        requires most_parts { parts ≤ 16 }
-        ensures { IfOk result (λ w. (w.live.sites.sites ≡ sites) × (w.live.sites.parts ≡ parts) × Reaches (kinds_of C.laws) w.live.sites [] × (w.live.sessions ≡ []) × (w.post ≡ new_post)) }
+impl<C: Crdt, D: Disk + Drop> Running<C, D> {
+    /// A cluster over its partitions, without sessions, that keeps nothing. Takes no memory.
+    pub(crate) fn new(alloc: Global, sites: Sites<C, D>) -> Running<C, D>
+        ensures { result ≡ record { live = record { sites = sites; sessions = [] }; post = new_post } }
     {
-        let live = Live::new(alloc, sites, parts)?;
-        Ok(Running {
+        Running {
             alloc,
-            live,
+            live: Live::new(alloc, sites),
             letters: IndexMap::new(alloc),
             next_letter: 1,
             notes: IndexMap::new(alloc),
             next_note: 1,
-        })
+        }
     }
 
-    /// The lines that answer a command that is built.
+    /// The partitions, site by site, each with its disk.
+    pub(crate) fn into_partitions(self) -> Vec<DurablePartition<C, D>>
+        ensures { result.items ≡ self.live.sites.partitions }
+    {
+        self.live.into_partitions()
+    }
+}
+
+impl<C: Crdt, D: Disk + Drop> Running<C, Fused<D>> {
+    ghost use Rattle.disk_core.specs.Fuses.{fused_state};
+
+    /// The lines that answer a command.
     ///
     /// # Errors
     ///
     /// `AllocError` where memory runs out. It may only be dropped then.
     pub(crate) fn apply(&mut self, command: Command) -> Result<Vec<Step>, AllocError>
-        requires built { is_built command ≡ true }
         requires said { IsSaid C.has C.too_deep command }
-        requires reached { IsReached (kinds_of C.laws) (Some self.old) }
-        ensures { IfOk result (λ steps. Applies (kinds_of C.laws) (Some self.old) command steps.items (Some self.new)) }
+        requires reached { IsReached (types_of C.laws C.spells (fused_state D.state)) (Some self.old) }
+        ensures { IfOk result (λ steps. Applies (types_of C.laws C.spells (fused_state D.state)) (Some self.old) command steps.items (Some self.new)) }
     {
         if is_of_post(&command) {
             return self.handle(command);
         }
         if is_of_fates(&command) {
             return self.live.end(command);
+        }
+        if is_of_faults(&command) {
+            return self.live.strike(command);
         }
         self.live.apply(command)
     }
@@ -98,4 +104,14 @@ fn is_of_fates(command: &Command) -> bool
     ensures { result ≡ is_of_fates command.now }
 {
     matches!(command, Command::Expire { .. } | Command::Settle { .. })
+}
+
+/// Whether a command is of crashes, restarts and fuses.
+fn is_of_faults(command: &Command) -> bool
+    ensures { result ≡ is_of_faults command.now }
+{
+    matches!(
+        command,
+        Command::Crash { .. } | Command::Fuse { .. } | Command::Restart { .. }
+    )
 }

@@ -1,13 +1,15 @@
 ghost use Rattle.std.specs.Prelude.{◌≡◌, ℕ, List, true};
-ghost use Rattle.crdt_core.specs.KindsOf.{kinds_of};
 ghost use Rattle.partition_core.specs.Answers.{cause};
-ghost use Rattle.cluster.specs.Held.{SameSize, size_refl, size_trans};
+ghost use Rattle.site_partitions.specs.Reaches.{types_of};
+ghost use Rattle.cluster.specs.Faults.{TellsFault};
+ghost use Rattle.cluster.specs.Same.{SameCluster, same_refl, same_trans};
 ghost use Rattle.cluster.specs.Sees.{Sees, FailedAs, refusal_line, sees_legal};
 
-use crate::Sites;
+use crate::local::Local;
 use crdt_core::{Crdt, Message, ObjectId, Op, Upd};
+use disk_core::Disk;
 use field_codec::Text;
-use partition_core::{CallError, Refusal};
+use partition_core::{DurableError, Refusal};
 use site_vector::{PartId, TxId, VTime};
 use std::alloc::AllocError;
 use txn_session::Store;
@@ -24,10 +26,10 @@ pub(crate) const NO_TX: TxId = TxId {
 };
 
 /// On one thread nobody acts meanwhile, and all calls are of one caller.
-impl<C: Crdt> Store<C> for Sites<C> {
+impl<C: Crdt, D: Disk + Drop> Store<C> for Local<C, D> {
     type Pass = ();
 
-    ghost sees = { λ c pass calls. Sees (kinds_of C.laws) c calls };
+    ghost sees = { λ c pass calls. Sees (types_of C.laws C.spells D.state) c calls };
 
     ghost numbers = { λ pass n. true };
 
@@ -35,11 +37,19 @@ impl<C: Crdt> Store<C> for Sites<C> {
 
     ghost parts = { λ c. c.parts };
 
-    ghost stays = { λ a b. SameSize a b };
+    ghost stays = { λ a b. SameCluster D.state a b };
+
+    ghost tells = { λ a b at line. TellsFault D.state a b at line };
 
     fn tick(&mut self, pass: (), at: PartId, r: u64) -> ((), Answer) {
-        let now = self.tick_at(at, r);
-        (pass, Ok(Step::Ticked { part: at, now }))
+        match self.all.tick_at(at, r) {
+            Ok(now) => {
+                return (pass, Ok(Step::Ticked { part: at, now }));
+            }
+            Err(error) => {
+                return (pass, failed(at, NO_TX, 0, error));
+            }
+        }
     }
 
     fn begin(
@@ -50,14 +60,19 @@ impl<C: Crdt> Store<C> for Sites<C> {
         dep: &VTime,
     ) -> ((), Result<(Step, u64), AllocError>) {
         match who.copy(self.alloc) {
-            Ok(name) => match self.begin_at(at, dep) {
+            Ok(name) => match self.all.begin_at(at, dep) {
                 Ok(begun) => {
                     let (tx, s) = begun;
                     return (pass, Ok((Step::Began { name, tx, s }, 0)));
                 }
-                Err(why) => {
-                    return (pass, Ok((refused(at, NO_TX, 0, why), 0)));
-                }
+                Err(error) => match failed(at, NO_TX, 0, error) {
+                    Ok(line) => {
+                        return (pass, Ok((line, 0)));
+                    }
+                    Err(_) => {
+                        return (pass, Err(AllocError));
+                    }
+                },
             },
             Err(_) => {
                 return (pass, Err(AllocError));
@@ -88,7 +103,7 @@ impl<C: Crdt> Store<C> for Sites<C> {
                 return (pass, Err(AllocError));
             }
         };
-        match self.read_at(at, tx, s, object, own) {
+        match self.all.read_at(at, tx, s, object, own) {
             Ok(value) => {
                 let step = Step::Value {
                     name,
@@ -128,7 +143,7 @@ impl<C: Crdt> Store<C> for Sites<C> {
                 return (pass, Err(AllocError));
             }
         };
-        match self.update_at(at, tx, s, object, own, op, index) {
+        match self.all.update_at(at, tx, s, object, own, op, index) {
             Ok(made) => {
                 let (effect, stamp) = made;
                 let step = Step::Updated {
@@ -159,7 +174,7 @@ impl<C: Crdt> Store<C> for Sites<C> {
         lead: u8,
         updates: &[Upd<C::Effect>],
     ) -> ((), Answer) {
-        match self.prepare_at(at, tx, s, lead, updates) {
+        match self.all.prepare_at(at, tx, s, lead, updates) {
             Ok(time) => {
                 return (pass, Ok(Step::Prepared { part: at, tx, time }));
             }
@@ -170,35 +185,35 @@ impl<C: Crdt> Store<C> for Sites<C> {
     }
 
     fn decide(&mut self, pass: (), at: PartId, by: u64, tx: TxId, c: &VTime) -> ((), Answer) {
-        match self.decide_at(at, tx, c) {
+        match self.all.decide_at(at, tx, c) {
             Ok(()) => {
                 let c = *c;
                 return (pass, Ok(Step::Decided { part: at, tx, c }));
             }
-            Err(why) => {
-                return (pass, Ok(refused(at, tx, 0, why)));
+            Err(error) => {
+                return (pass, undecided(at, tx, error));
             }
         }
     }
 
     fn finish(&mut self, pass: (), at: PartId, tx: TxId, c: &VTime) -> ((), Answer) {
-        match self.finish_at(at, tx, c) {
+        match self.all.finish_at(at, tx, c) {
             Ok(()) => {
                 return (pass, Ok(Step::Finished { part: at, tx }));
             }
-            Err(why) => {
-                return (pass, Ok(refused(at, tx, 0, why)));
+            Err(error) => {
+                return (pass, failed(at, tx, 0, error));
             }
         }
     }
 
     fn abort(&mut self, pass: (), at: PartId, by: u64, tx: TxId) -> ((), Answer) {
-        match self.abort_at(at, tx) {
+        match self.all.abort_at(at, tx) {
             Ok(()) => {
                 return (pass, Ok(Step::Aborted { part: at, tx }));
             }
-            Err(why) => {
-                return (pass, Ok(refused(at, tx, 0, why)));
+            Err(error) => {
+                return (pass, failed(at, tx, 0, error));
             }
         }
     }
@@ -209,9 +224,20 @@ impl<C: Crdt> Store<C> for Sites<C> {
         at: PartId,
         to: u8,
         from: Option<u64>,
-    ) -> ((), Result<Message<C::Effect>, AllocError>) {
-        let message = self.release_at(at, to, from);
-        (pass, message)
+    ) -> ((), Result<Result<Message<C::Effect>, Step>, AllocError>) {
+        match self.all.release_at(at, to, from) {
+            Ok(message) => {
+                return (pass, Ok(Ok(message)));
+            }
+            Err(error) => match failed(at, NO_TX, 0, error) {
+                Ok(line) => {
+                    return (pass, Ok(Err(line)));
+                }
+                Err(_) => {
+                    return (pass, Err(AllocError));
+                }
+            },
+        }
     }
 
     fn take(
@@ -221,7 +247,7 @@ impl<C: Crdt> Store<C> for Sites<C> {
         number: u64,
         message: &Message<C::Effect>,
     ) -> ((), Answer) {
-        match self.take_at(at, message) {
+        match self.all.take_at(at, message) {
             Ok(()) => {
                 let hi = message.hi;
                 return (pass, Ok(Step::Took { number, hi }));
@@ -232,9 +258,20 @@ impl<C: Crdt> Store<C> for Sites<C> {
         }
     }
 
-    fn report(&mut self, pass: (), at: PartId) -> ((), Result<VTime, AllocError>) {
-        let bounds = self.report_at(at);
-        (pass, Ok(bounds))
+    fn report(&mut self, pass: (), at: PartId) -> ((), Result<Result<VTime, Step>, AllocError>) {
+        match self.all.report_at(at) {
+            Ok(bounds) => {
+                return (pass, Ok(Ok(bounds)));
+            }
+            Err(error) => match failed(at, NO_TX, 0, error) {
+                Ok(line) => {
+                    return (pass, Ok(Err(line)));
+                }
+                Err(_) => {
+                    return (pass, Err(AllocError));
+                }
+            },
+        }
     }
 
     fn hear(
@@ -245,13 +282,19 @@ impl<C: Crdt> Store<C> for Sites<C> {
         part: u8,
         bounds: &VTime,
     ) -> ((), Answer) {
-        let stable = self.hear_at(at, part, bounds);
-        let step = Step::Heard {
-            number,
-            part: at,
-            stable,
-        };
-        (pass, Ok(step))
+        match self.all.hear_at(at, part, bounds) {
+            Ok(stable) => {
+                let step = Step::Heard {
+                    number,
+                    part: at,
+                    stable,
+                };
+                return (pass, Ok(step));
+            }
+            Err(error) => {
+                return (pass, failed(at, NO_TX, 0, error));
+            }
+        }
     }
 
     fn split(&mut self, pass: ()) -> Result<((), ()), ()> {
@@ -260,13 +303,13 @@ impl<C: Crdt> Store<C> for Sites<C> {
 
     fn meet(&mut self, first: (), second: ()) {}
 
-    ghost legal = { λ store pass calls s. sees_legal (kinds_of C.laws) store calls s };
+    ghost legal = { λ store pass calls s. sees_legal (types_of C.laws C.spells D.state) store calls s };
 
     ghost keeps = { λ a b s. (s.sites_are, s.parts_are) };
 
-    ghost rests = { λ a. size_refl a };
+    ghost rests = { λ a. same_refl D.state a };
 
-    ghost follows = { λ a b c s t. size_trans a b c s t };
+    ghost follows = { λ a b c s t. same_trans D.state a b c s t };
 }
 
 /// The line of a refusal, which may name a transaction or a message.
@@ -285,12 +328,28 @@ fn refused(at: PartId, tx: TxId, number: u64, why: Refusal) -> Step
     }
 }
 
-/// What a call that takes memory comes to, if it isn't answered.
-pub(crate) fn failed(at: PartId, tx: TxId, number: u64, error: CallError) -> Answer
-    ensures { FailedAs at tx number error result }
+/// What a call comes to that isn't answered.
+pub(crate) fn failed(at: PartId, tx: TxId, number: u64, error: DurableError) -> Answer
+    ensures { FailedAs at tx number (Step.Disk at) error result }
 {
     match error {
-        CallError::NoMemory => Err(AllocError),
-        CallError::Refused(why) => Ok(refused(at, tx, number, why)),
+        DurableError::NoMemory => Err(AllocError),
+        DurableError::Down => Ok(Step::Down { part: at }),
+        DurableError::Disk => Ok(Step::Disk { part: at }),
+        DurableError::Full { room } => Ok(Step::Full { room }),
+        DurableError::Refused(why) => Ok(refused(at, tx, number, why)),
+    }
+}
+
+/// What a decide comes to that isn't answered: where the disk failed, the transaction is in doubt.
+fn undecided(at: PartId, tx: TxId, error: DurableError) -> Answer
+    ensures { FailedAs at tx 0 (Step.Unsure tx) error result }
+{
+    match error {
+        DurableError::NoMemory => Err(AllocError),
+        DurableError::Down => Ok(Step::Down { part: at }),
+        DurableError::Disk => Ok(Step::Unsure { tx }),
+        DurableError::Full { room } => Ok(Step::Full { room }),
+        DurableError::Refused(why) => Ok(refused(at, tx, 0, why)),
     }
 }

@@ -1,25 +1,26 @@
 ghost use Rattle.std.specs.Prelude.{◌≡◌, true, false, Some, None, IfOk};
-ghost use Rattle.crdt_core.specs.KindsOf.{kinds_of};
+ghost use Rattle.site_partitions.specs.Reaches.{types_of};
 ghost use Rattle.crdt_core.specs.Fits.{fits};
 ghost use Rattle.cluster.specs.Acts.{Acts, Reads, Updates};
 ghost use Rattle.cluster.specs.Live.{phase_in, are_open, refusal_in, refused_line};
 ghost use Rattle.cluster.specs.Reached.{AppliesLive, IsReachedLive};
 
-use crate::Sites;
+use crate::local::Local;
 use crate::cluster::only;
 use crate::live::{Live, Sessions, is_open};
 use crdt_core::{Crdt, ObjectId, Op};
+use disk_core::Disk;
 use field_codec::Text;
 use std::alloc::AllocError;
 use txn_session::SessionError;
 use world_model::{Command, Step};
 
-impl<C: Crdt> Live<C> {
+impl<C: Crdt, D: Disk + Drop> Live<C, D> {
     /// Reads an object in a session's transaction.
     pub(crate) fn read(&mut self, name: Text, object: ObjectId) -> Result<Vec<Step>, AllocError>
         requires has { C.has object.kind ≡ true }
-        requires reached { IsReachedLive (kinds_of C.laws) self.old }
-        ensures { IfOk result (λ steps. AppliesLive (kinds_of C.laws) self.old (Command.Read name object) steps.items self.new) }
+        requires reached { IsReachedLive (types_of C.laws C.spells D.state) self.old }
+        ensures { IfOk result (λ steps. AppliesLive (types_of C.laws C.spells D.state) self.old (Command.Read name object) steps.items self.new) }
     {
         let Some(phase) = self.phase(&name) else {
             return only(self.alloc, Step::NoSession);
@@ -61,8 +62,8 @@ impl<C: Crdt> Live<C> {
     ) -> Result<Vec<Step>, AllocError>
         requires has { C.has object.kind ≡ true }
         requires shallow { fits object.kind op.path op.act ≡ true → C.too_deep object.kind op.path ≡ false }
-        requires reached { IsReachedLive (kinds_of C.laws) self.old }
-        ensures { IfOk result (λ steps. AppliesLive (kinds_of C.laws) self.old (Command.Update name object op) steps.items self.new) }
+        requires reached { IsReachedLive (types_of C.laws C.spells D.state) self.old }
+        ensures { IfOk result (λ steps. AppliesLive (types_of C.laws C.spells D.state) self.old (Command.Update name object op) steps.items self.new) }
     {
         let Some(refusal) = self.update_refusal(&name, &object, &op) else {
             return only(self.alloc, Step::NoSession);
@@ -82,16 +83,16 @@ impl<C: Crdt> Live<C> {
 }
 
 /// Reads an object in the transaction of a session that is open.
-fn read_in<C: Crdt>(
-    sites: &mut Sites<C>,
+fn read_in<C: Crdt, D: Disk + Drop>(
+    sites: &mut Local<C, D>,
     sessions: &mut Sessions<C>,
     name: &Text,
     object: &ObjectId,
 ) -> Result<Step, AllocError>
     requires has { C.has object.now.kind ≡ true }
     requires open { are_open (phase_in sessions.old.entries name.now) ≡ true }
-    requires reached { IsReachedLive (kinds_of C.laws) (record { sites = sites.old; sessions = sessions.old.entries }) }
-    ensures { IfOk result (λ step. Acts (kinds_of C.laws) sites.old sessions.old.entries name.now sites.new sessions.new.entries (Reads (kinds_of C.laws) sites.new object.now step)) }
+    requires reached { IsReachedLive (types_of C.laws C.spells D.state) (record { sites = sites.old; sessions = sessions.old.entries }) }
+    ensures { IfOk result (λ step. Acts (types_of C.laws C.spells D.state) sites.old sessions.old.entries name.now sites.new sessions.new.entries (Reads (types_of C.laws C.spells D.state) sites.old sites.new object.now step)) }
 {
     match sessions.get_mut(name) {
         Some(session) => {
@@ -112,8 +113,8 @@ fn read_in<C: Crdt>(
 }
 
 /// Makes an update that isn't refused, of a session that is there.
-fn update_in<C: Crdt>(
-    sites: &mut Sites<C>,
+fn update_in<C: Crdt, D: Disk + Drop>(
+    sites: &mut Local<C, D>,
     sessions: &mut Sessions<C>,
     name: &Text,
     object: &ObjectId,
@@ -121,8 +122,8 @@ fn update_in<C: Crdt>(
 ) -> Result<Step, AllocError>
     requires has { C.has object.now.kind ≡ true }
     requires fits { refusal_in C.too_deep sessions.old.entries name.now object.now op.now ≡ Some None }
-    requires reached { IsReachedLive (kinds_of C.laws) (record { sites = sites.old; sessions = sessions.old.entries }) }
-    ensures { IfOk result (λ step. Acts (kinds_of C.laws) sites.old sessions.old.entries name.now sites.new sessions.new.entries (Updates (kinds_of C.laws) sites.new object.now op.now step)) }
+    requires reached { IsReachedLive (types_of C.laws C.spells D.state) (record { sites = sites.old; sessions = sessions.old.entries }) }
+    ensures { IfOk result (λ step. Acts (types_of C.laws C.spells D.state) sites.old sessions.old.entries name.now sites.new sessions.new.entries (Updates (types_of C.laws C.spells D.state) sites.old sites.new object.now op.now step)) }
 {
     match sessions.get_mut(name) {
         Some(session) => {

@@ -11,3 +11,4 @@ pub mod Making
 pub mod Messages
 pub mod Waits
 pub mod Filling
+pub mod Starving

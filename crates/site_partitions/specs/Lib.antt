@@ -5,3 +5,4 @@ pub mod Answers
 pub mod Faults
 pub mod Fates
 pub mod Made
+pub mod Starved

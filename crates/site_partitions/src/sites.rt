@@ -1,6 +1,7 @@
 ghost use Rattle.std.specs.Prelude.{◌≡◌, ◌<◌, ◌≤◌, ◌*◌};
 ghost use Rattle.world_model.specs.Plan.{IsPlace};
 ghost use Rattle.site_partitions.specs.Held.{index_of, holds_site, holds_part, IsDownAt};
+ghost use Rattle.site_partitions.specs.Starved.{IsStarvedAt};
 
 use crdt_core::Crdt;
 use disk_core::Disk;
@@ -34,6 +35,10 @@ impl<C: Crdt, D: Disk + Drop> Model for Sites<C, D> {
 }
 
 impl<C: Crdt, D: Disk + Drop> Sites<C, D> {
+    ghost use Rattle.std.specs.Prelude.{not};
+    ghost use Rattle.site_partitions.specs.Fates.{OfState};
+    ghost use Rattle.site_partitions.specs.Reaches.{types_of};
+
     /// The number of sites, from 1 to 8.
     pub fn sites(&self) -> u8
         ensures is { result ≡ self.now.sites }
@@ -67,10 +72,20 @@ impl<C: Crdt, D: Disk + Drop> Sites<C, D> {
     /// Whether a partition crashed, or its disk failed, and it was not restarted since.
     pub fn is_down_at(&self, at: PartId) -> bool
         requires { IsPlace self.now.sites self.now.parts at }
-        ensures { IsDownAt self.now at result }
+        ensures down { IsDownAt self.now at result }
+        ensures up { OfState (types_of C.laws C.spells D.state) self.now at (λ p. p.up ≡ not result) }
     {
         let i = index_of(at, self.sites, self.parts);
         self.partitions[i].is_down()
+    }
+
+    /// Whether a call of a partition's disk failed because it found no memory to grow.
+    pub fn starved_at(&self, at: PartId) -> bool
+        requires { IsPlace self.now.sites self.now.parts at }
+        ensures { IsStarvedAt D.state self.now at result }
+    {
+        let i = index_of(at, self.sites, self.parts);
+        self.partitions[i].starved()
     }
 }
 

@@ -102,7 +102,7 @@ module _ {E : Type 0} (sites parts : ℕ) (name : List ℕ) (site : ℕ) (txn : 
   }
 
   pub abort_allowed : (p : ℕ) (left : List ℕ) → IsAborting (participants parts txn.updates) txn.tx run (p ∷ left) → IsAllowed sites parts run (Some txn.by) (at_site site p) (AskAbort txn.tx)
-  abort_allowed p left h = record { may = ⊎_elim (λ (e : p ∷ left ≡ []). absurd cc) (λ (e : decide_tried (entries run) txn.tx ≡ false). e) h.undecided; mine = t.caller }
+  abort_allowed p left h = record { may = ⊎_elim (λ (e : p ∷ left ≡ []). absurd cc) (λ (e : decide_tried (entries run) txn.tx ≡ false). e) h.undecided; mine = (t.caller, t.begun) }
 
 -- what asks of the end of a transaction show
 abbrev pub is_ending_ask : {E : Type 0} → Ask E → Bool

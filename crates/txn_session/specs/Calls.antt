@@ -1,5 +1,5 @@
 -- Calls of a store with their callers' numbers: which may be made, and what each comes to.
-use Rattle.std.specs.Prelude.{◌≡◌, ◌⊎◌, ℕ, Bool, true, false, ◌||◌, List, [], ◌∷◌, ◌++◌, Option, None, Some, IfSome, if◌then◌else◌, ⊤}
+use Rattle.std.specs.Prelude.{◌≡◌, ◌⊎◌, ℕ, Bool, true, false, ◌||◌, List, [], ◌∷◌, ◌++◌, Option, None, Some, IfSome, if◌then◌else◌, Result, Ok, Err, ⊤}
 use Rattle.site_vector.specs.declared.ids.PartId.{PartId}
 use Rattle.site_vector.specs.declared.ids.TxId.{TxId}
 use Rattle.site_vector.specs.Ids.{same_tx}
@@ -8,7 +8,7 @@ use Rattle.world_model.specs.declared.step.Step.{Step}
 use Rattle.world_model.specs.Event.{Ask, AskRead, AskUpdate, AskPrepare, AskDecide, AskAbort, Event, Updated, Entry, attempt, is_prepare, is_decide, is_own_abort}
 use Rattle.world_model.specs.Partition.{PartState}
 use Rattle.world_model.specs.Plan.{IsPlace}
-use Rattle.world_model.specs.World.{is_begin, IsWorldRun}
+use Rattle.world_model.specs.World.{is_begin, begun, IsWorldRun}
 use Rattle.world_model.specs.Lines.{step_shown}
 use Rattle.world_model.specs.Asking as asking
 use Rattle.world_model.specs.Asking.{asked_by, is_own_word}
@@ -62,13 +62,13 @@ module _ {E : Type 0} where
   NoneBears numbers [] = ⊤
   NoneBears numbers (c ∷ run) = (numbers c.by ≡ false) × NoneBears numbers run
 
-  -- the transaction that a call is of
+  -- the call is of the caller's transaction; what it aborts has begun
   abbrev pub IsCaller : List (Call E) → ℕ → Ask E → Type 0
   IsCaller run by (AskRead t s o own) = by ≡ caller_of run t
   IsCaller run by (AskUpdate t s o own op) = by ≡ caller_of run t
   IsCaller run by (AskPrepare t s l w) = by ≡ caller_of run t
   IsCaller run by (AskDecide t c) = by ≡ caller_of run t
-  IsCaller run by (AskAbort t) = by ≡ caller_of run t
+  IsCaller run by (AskAbort t) = (by ≡ caller_of run t) × (begun (entries run) t ≡ true)
   IsCaller run by other = ⊤
 
   -- by what these calls show, this may be asked here, by this number if the call is a transaction's
@@ -126,6 +126,11 @@ module _ {E : Type 0} where
       pub by : ℕ
       pub held : numbers pass by ≡ true
       pub seen : sees store pass (called by at event ∷ (more ++ run))
+
+    -- what was asked is done, or a line says why it isn't
+    abbrev pub Does : {A : Type 0} → S → P → List (Call E) → PartId → Ask E → (A → Event E) → Result A Step → Type 0
+    Does store pass run at ask done (Ok x) = Did store pass run at (done x)
+    Does store pass run at ask done (Err line) = GoesOn store pass run None at ask line
 
     -- what a pass has seen, another has
     pub record SeesStill (store : S) (pass : P) (run : List (Call E)) : Type 0 where

@@ -1,9 +1,10 @@
 ghost use Rattle.std.specs.Prelude.{◌≡◌, ◌≢◌, ◌⊎◌, ◌↔◌, ◌≤◌, ◌+◌, ◌++◌, ◌∷◌, ℕ, Bool, true, false, List, [], length, replicate, Option, Some, None, IfOk, IfErr, OnOk, OnErr, MatchOption};
 ghost use Rattle.txn_session.specs.Calls.{Call};
 ghost use Rattle.txn_session.specs.Opens.{refusal_of_update, told_of};
-ghost use Rattle.txn_session.specs.Session.{Idle, phase_in, phase_of, is_idle, is_open, can_abort, has_step, moved_to};
+ghost use Rattle.txn_session.specs.Session.{Idle, phase_in, phase_of, place_in, is_idle, is_open, can_abort, has_step, moved_to};
 ghost use Rattle.world_model.specs.declared.commit.What.TheVariants as what;
-ghost use Rattle.txn_session.specs.Holds.{Holds, Mays, Makes, MakesUpdate, MakesRead, MakesStep, Waits, next_of};
+ghost use Rattle.txn_session.specs.Holds.{Holds, Mays, Makes, MakesUpdate, MakesRead, MakesStep, TellsStep, Waits, next_of};
+ghost use Rattle.site_vector.specs.declared.ids.PartId.{PartId as Place};
 ghost use Rattle.world_model.specs.Plan.{IsPlace};
 ghost use Rattle.world_model.specs.Event.{AskBegin};
 
@@ -154,6 +155,7 @@ impl<C: Crdt> Session<C> {
         ensures only { IfErr result.1 (λ e. (e ≡ SessionError.HasTxn) ⊎ (e ≡ SessionError.NoMemory)) }
         ensures err { OnErr result.1 (self.new ≡ self.old) }
         ensures opened { IfOk result.1 (λ answer. IsOpened self.old answer self.new) }
+        ensures tells { IfOk result.1 (λ answer. S.tells store.old store.new (place_in self.old part) answer) }
         ensures opens { IfOk result.1 (λ answer. (run : List (Call C.Effect)) → S.sees store.old pass run →
             Holds self.old run →
             Makes S.sees S.numbers store.new result.0 run self.old self.new None (record {
@@ -222,6 +224,7 @@ impl<C: Crdt> Session<C> {
             e. e ≡ SessionError.NoMemory)) (λ e. (result.1 ≡ Err e) × (store.new ≡ store.old)) }
         ensures err { OnErr result.1 (self.new ≡ self.old) }
         ensures updated { IfOk result.1 (λ answer. IsUpdated self.old object.now answer self.new) }
+        ensures tells { IfOk result.1 (λ answer. (at : Place) × S.tells store.old store.new at answer) }
         ensures updates { IfOk result.1 (λ answer. (run : List (Call C.Effect)) → S.sees store.old pass run →
             Holds self.old run →
             MakesUpdate S.sees S.numbers store.new result.0 run self.old self.new object.now op.now answer
@@ -315,6 +318,7 @@ impl<C: Crdt> Session<C> {
         ensures no_txn { (result.1 ≡ Err SessionError.NoTxn) ↔ (is_open self.old.doing ≡ false) }
         ensures only { IfErr result.1 (λ e. (e ≡ SessionError.NoTxn) ⊎ (e ≡ SessionError.NoMemory)) }
         ensures as_before { self.new ≡ self.old }
+        ensures tells { IfOk result.1 (λ answer. (at : Place) × S.tells store.old store.new at answer) }
         ensures reads { IfOk result.1 (λ answer. (run : List (Call C.Effect)) → S.sees store.old pass run →
             Holds self.old run →
             MakesRead S.sees S.numbers store.new result.0 run self.old self.new object.now answer self.old.doing) }
@@ -380,6 +384,8 @@ impl<C: Crdt> Session<C> {
         ensures stepped { IfOk result.1 (λ r. self.new ≡ stepped (begun_end self.old) r.0) }
         ensures next { IfOk result.1 (λ r. r.1 ≡ next_said (begun_end self.old).doing r.0) }
         ensures ended { IfOk result.1 (λ r. EndsAs self.old.name (next_of (begun_end self.old).doing) r.0) }
+        ensures tells { IfOk result.1 (λ r. TellsStep S.tells store.old store.new (begun_end self.old) r.0 (next_of
+            (begun_end self.old).doing)) }
         ensures steps { IfOk result.1 (λ r. (run : List (Call C.Effect)) → S.sees store.old pass run →
             Holds self.old run →
             MakesStep S.sees S.numbers store.new result.0 run (begun_end self.old) self.new r.0 (begun_end
@@ -439,6 +445,7 @@ impl<C: Crdt> Session<C> {
         ensures stepped { IfOk result.1 (λ r. self.new ≡ stepped self.old r.0) }
         ensures next { IfOk result.1 (λ r. r.1 ≡ next_said self.old.doing r.0) }
         ensures ended { IfOk result.1 (λ r. EndsAs self.old.name (next_of self.old.doing) r.0) }
+        ensures tells { IfOk result.1 (λ r. TellsStep S.tells store.old store.new self.old r.0 (next_of self.old.doing)) }
         ensures steps { IfOk result.1 (λ r. (run : List (Call C.Effect)) → S.sees store.old pass run →
             Holds self.old run →
             MakesStep S.sees S.numbers store.new result.0 run self.old self.new r.0 self.old.doing (next_of
@@ -483,6 +490,7 @@ impl<C: Crdt> Session<C> {
         ensures stepped { IfOk result.1 (λ r. self.new ≡ stepped self.old r.0) }
         ensures next { IfOk result.1 (λ r. r.1 ≡ next_said self.old.doing r.0) }
         ensures ended { IfOk result.1 (λ r. EndsAs self.old.name (next_of self.old.doing) r.0) }
+        ensures tells { IfOk result.1 (λ r. TellsStep S.tells store.old store.new self.old r.0 (next_of self.old.doing)) }
         ensures steps { IfOk result.1 (λ r. (run : List (Call C.Effect)) → S.sees store.old pass run →
             Holds self.old run →
             MakesStep S.sees S.numbers store.new result.0 run self.old self.new r.0 self.old.doing (next_of
@@ -539,6 +547,7 @@ impl<C: Crdt> Session<C> {
         ensures stepped { IfOk result.1 (λ r. self.new ≡ stepped self.old r.0) }
         ensures next { IfOk result.1 (λ r. r.1 ≡ next_said self.old.doing r.0) }
         ensures ended { IfOk result.1 (λ r. EndsAs self.old.name (next_of self.old.doing) r.0) }
+        ensures tells { IfOk result.1 (λ r. TellsStep S.tells store.old store.new self.old r.0 (next_of self.old.doing)) }
         ensures steps { IfOk result.1 (λ r. (run : List (Call C.Effect)) → S.sees store.old pass run →
             Holds self.old run →
             MakesStep S.sees S.numbers store.new result.0 run self.old self.new r.0 self.old.doing (next_of
@@ -582,6 +591,7 @@ impl<C: Crdt> Session<C> {
         ensures stepped { IfOk result.1 (λ r. self.new ≡ stepped self.old r.0) }
         ensures next { IfOk result.1 (λ r. r.1 ≡ next_said self.old.doing r.0) }
         ensures ended { IfOk result.1 (λ r. EndsAs self.old.name (next_of self.old.doing) r.0) }
+        ensures tells { IfOk result.1 (λ r. TellsStep S.tells store.old store.new self.old r.0 (next_of self.old.doing)) }
         ensures steps { IfOk result.1 (λ r. (run : List (Call C.Effect)) → S.sees store.old pass run →
             Holds self.old run →
             MakesStep S.sees S.numbers store.new result.0 run self.old self.new r.0 self.old.doing (next_of
@@ -623,6 +633,7 @@ impl<C: Crdt> Session<C> {
         ensures stepped { IfOk result.1 (λ r. self.new ≡ stepped self.old r.0) }
         ensures next { IfOk result.1 (λ r. r.1 ≡ next_said self.old.doing r.0) }
         ensures ended { IfOk result.1 (λ r. EndsAs self.old.name (next_of self.old.doing) r.0) }
+        ensures tells { IfOk result.1 (λ r. TellsStep S.tells store.old store.new self.old r.0 (next_of self.old.doing)) }
         ensures steps { IfOk result.1 (λ r. (run : List (Call C.Effect)) → S.sees store.old pass run →
             Holds self.old run →
             MakesStep S.sees S.numbers store.new result.0 run self.old self.new r.0 self.old.doing (next_of
@@ -663,6 +674,7 @@ impl<C: Crdt> Session<C> {
         ensures stepped { IfOk result.1 (λ r. self.new ≡ stepped self.old r.0) }
         ensures next { IfOk result.1 (λ r. r.1 ≡ next_said self.old.doing r.0) }
         ensures ended { IfOk result.1 (λ r. EndsAs self.old.name (next_of self.old.doing) r.0) }
+        ensures tells { IfOk result.1 (λ r. TellsStep S.tells store.old store.new self.old r.0 (next_of self.old.doing)) }
         ensures steps { IfOk result.1 (λ r. (run : List (Call C.Effect)) → S.sees store.old pass run →
             Holds self.old run →
             MakesStep S.sees S.numbers store.new result.0 run self.old self.new r.0 self.old.doing (next_of
@@ -703,6 +715,8 @@ impl<C: Crdt> Session<C> {
         ensures err { OnErr result.1 (self.new ≡ given_up_end self.old) }
         ensures stepped { IfOk result.1 (λ answer. self.new ≡ stepped (given_up_end self.old) answer) }
         ensures ended { IfOk result.1 (λ answer. EndsAs self.old.name (next_of (given_up_end self.old).doing) answer) }
+        ensures tells { IfOk result.1 (λ answer. TellsStep S.tells store.old store.new (given_up_end self.old) answer
+            (next_of (given_up_end self.old).doing)) }
         ensures steps { IfOk result.1 (λ answer. (run : List (Call C.Effect)) → S.sees store.old pass run →
             Holds self.old run →
             MakesStep S.sees S.numbers store.new result.0 run (given_up_end self.old) self.new answer (given_up_end

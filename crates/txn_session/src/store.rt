@@ -1,11 +1,13 @@
 ghost use Rattle.std.specs.Prelude.{◌≡◌, ◌≢◌, ◌+◌, ◌≤◌, ◌||◌, ℕ, Bool, true, List, Option, Some, None, IfOk, IfErr};
 ghost use Rattle.crdt_core.specs.KindsOf.{kinds_of, fits_kind};
 ghost use Rattle.crdt_core.specs.Log.{end_of_time};
+ghost use Rattle.site_vector.specs.declared.ids.PartId.{PartId as Place};
+ghost use Rattle.world_model.specs.declared.step.Step.{Step as Line};
 ghost use Rattle.world_model.specs.Event.{AskTick, AskBegin, AskRead, AskUpdate, AskPrepare, AskDecide, AskFinish, AskAbort, AskMessage, AskTake, AskReport, AskHear, Sent, Reported};
 ghost use Rattle.world_model.specs.Plan.{update_count};
 ghost use Rattle.world_model.specs.Lines.{session_of};
 ghost use Rattle.world_model.specs.Partition.{IsOther};
-ghost use Rattle.txn_session.specs.Calls.{Call, entries, IsLegal, IsAllowed, MayCall, GoesOn, Changes, Did, Stays, SeesStill};
+ghost use Rattle.txn_session.specs.Calls.{Call, entries, IsLegal, IsAllowed, MayCall, GoesOn, Changes, Does, Stays, SeesStill};
 
 use crdt_core::{Crdt, Message, ObjectId, Op, Upd};
 use field_codec::Text;
@@ -35,6 +37,9 @@ pub trait Store<C: Crdt> {
     /// What a call leaves of the store, whatever others do: a shared one is the same.
     ghost stays: { Self → Self → Type 0 };
 
+    /// What the line of a call of this partition tells of the store before and after it, beside what the pass has seen.
+    ghost tells: { Self → Self → Place → Line → Type 0 };
+
     /// Reads the clock of a partition at `r`.
     fn tick(
         &mut self,
@@ -47,6 +52,7 @@ pub trait Store<C: Crdt> {
             (AskTick r) }
         ensures stays { stays self.old self.new }
         ensures same { (n : ℕ) → numbers result.0 n ≡ numbers pass n }
+        ensures tells { IfOk result.1 (λ line. tells self.old self.new at line) }
         ensures ok { IfOk result.1 (λ r'. (run : List (Call C.Effect)) → sees self.old pass run →
             GoesOn sees numbers self.new result.0 run None at (AskTick r) r') }
         ensures err { IfErr result.1 (λ e. (run : List (Call C.Effect)) → sees self.old pass run →
@@ -65,6 +71,7 @@ pub trait Store<C: Crdt> {
             dep.now) }
         ensures stays { stays self.old self.new }
         ensures same { (n : ℕ) → numbers result.0 n ≡ numbers pass n }
+        ensures tells { IfOk result.1 (λ r. tells self.old self.new at r.0) }
         ensures ok { IfOk result.1 (λ r. (run : List (Call C.Effect)) → sees self.old pass run →
             IsAllowed (sites self.old) (parts self.old) run None at (AskBegin who.now dep.now) →
             GoesOn sees numbers self.new result.0 run (Some r.1) at (AskBegin who.now dep.now) r.0) }
@@ -88,6 +95,7 @@ pub trait Store<C: Crdt> {
             s.now object.now own.now) }
         ensures stays { stays self.old self.new }
         ensures same { (n : ℕ) → numbers result.0 n ≡ numbers pass n }
+        ensures tells { IfOk result.1 (λ line. tells self.old self.new at line) }
         ensures ok { IfOk result.1 (λ r. (run : List (Call C.Effect)) → sees self.old pass run →
             IsAllowed (sites self.old) (parts self.old) run (Some by) at (AskRead tx s.now object.now own.now) →
             who.now ≡ session_of (entries run) tx →
@@ -95,8 +103,8 @@ pub trait Store<C: Crdt> {
         ensures err { IfErr result.1 (λ e. (run : List (Call C.Effect)) → sees self.old pass run →
             Stays sees numbers self.new result.0 run) };
 
-    /// Makes the effect of an operation, which fits the object's kind, as the transaction's update with this number. The effect is
-    /// there where the answer is that it was made.
+    /// Makes the effect of an operation, which fits the object's kind, as the transaction's update with this number,
+    /// from 1 to 256. The effect is there where the answer is that it was made.
     fn update(
         &mut self,
         pass: Self::Pass,
@@ -112,10 +120,13 @@ pub trait Store<C: Crdt> {
     ) -> (Self::Pass, Result<(Step, Option<C::Effect>), AllocError>)
         requires has { C.has object.now.kind ≡ true }
         requires fits { fits_kind C.too_deep object.now op.now ≡ true }
+        requires least { 1 ≤ index }
+        requires most { index ≤ 256 }
         requires may { MayCall sees numbers (sites self.old) (parts self.old) self.old pass (Some by) at (AskUpdate
             tx s.now object.now own.now op.now) }
         ensures stays { stays self.old self.new }
         ensures same { (n : ℕ) → numbers result.0 n ≡ numbers pass n }
+        ensures tells { IfOk result.1 (λ r. tells self.old self.new at r.0) }
         ensures ok { IfOk result.1 (λ r. (run : List (Call C.Effect)) → sees self.old pass run →
             IsAllowed (sites self.old) (parts self.old) run (Some by) at (AskUpdate tx s.now object.now own.now
             op.now) →
@@ -139,6 +150,7 @@ pub trait Store<C: Crdt> {
             tx s.now lead updates.now) }
         ensures stays { stays self.old self.new }
         ensures same { (n : ℕ) → numbers result.0 n ≡ numbers pass n }
+        ensures tells { IfOk result.1 (λ line. tells self.old self.new at line) }
         ensures ok { IfOk result.1 (λ r. (run : List (Call C.Effect)) → sees self.old pass run →
             IsAllowed (sites self.old) (parts self.old) run (Some by) at (AskPrepare tx s.now lead updates.now) →
             GoesOn sees numbers self.new result.0 run (Some by) at (AskPrepare tx s.now lead updates.now) r) }
@@ -158,6 +170,7 @@ pub trait Store<C: Crdt> {
             at (AskDecide tx c.now) }
         ensures stays { stays self.old self.new }
         ensures same { (n : ℕ) → numbers result.0 n ≡ numbers pass n }
+        ensures tells { IfOk result.1 (λ line. tells self.old self.new at line) }
         ensures ok { IfOk result.1 (λ r. (run : List (Call C.Effect)) → sees self.old pass run →
             IsAllowed (sites self.old) (parts self.old) run (Some by) at (AskDecide tx c.now) →
             GoesOn sees numbers self.new result.0 run (Some by) at (AskDecide tx c.now) r) }
@@ -176,6 +189,7 @@ pub trait Store<C: Crdt> {
             (AskFinish tx c.now) }
         ensures stays { stays self.old self.new }
         ensures same { (n : ℕ) → numbers result.0 n ≡ numbers pass n }
+        ensures tells { IfOk result.1 (λ line. tells self.old self.new at line) }
         ensures ok { IfOk result.1 (λ r. (run : List (Call C.Effect)) → sees self.old pass run →
             IsAllowed (sites self.old) (parts self.old) run None at (AskFinish tx c.now) →
             GoesOn sees numbers self.new result.0 run None at (AskFinish tx c.now) r) }
@@ -194,27 +208,34 @@ pub trait Store<C: Crdt> {
             at (AskAbort tx) }
         ensures stays { stays self.old self.new }
         ensures same { (n : ℕ) → numbers result.0 n ≡ numbers pass n }
+        ensures tells { IfOk result.1 (λ line. tells self.old self.new at line) }
         ensures ok { IfOk result.1 (λ r. (run : List (Call C.Effect)) → sees self.old pass run →
             IsAllowed (sites self.old) (parts self.old) run (Some by) at (AskAbort tx) →
             GoesOn sees numbers self.new result.0 run (Some by) at (AskAbort tx) r) }
         ensures err { IfErr result.1 (λ e. (run : List (Call C.Effect)) → sees self.old pass run →
             Stays sees numbers self.new result.0 run) };
 
-    /// Makes a message for another site, from the bound `from` or the last one sent. Who numbers messages shows its line.
+    /// Makes a message for another site, from the bound `from` or the last one sent: who numbers messages shows its
+    /// line. Or answers the line that says why it isn't made.
     fn release(
         &mut self,
         pass: Self::Pass,
         at: PartId,
         to: u8,
         from: Option<u64>,
-    ) -> (Self::Pass, Result<Message<C::Effect>, AllocError>)
+    ) -> (
+        Self::Pass,
+        Result<Result<Message<C::Effect>, Step>, AllocError>,
+    )
         requires other { IsOther (sites self.old) at.site to }
         requires may { MayCall {E = C.Effect} sees numbers (sites self.old) (parts self.old) self.old pass None at
             (AskMessage to from) }
         ensures stays { stays self.old self.new }
         ensures same { (n : ℕ) → numbers result.0 n ≡ numbers pass n }
-        ensures ok { IfOk result.1 (λ m. (m.to ≡ to) × ((run : List (Call C.Effect)) → sees self.old pass run →
-            Did sees numbers self.new result.0 run at (Sent from m))) }
+        ensures tells { IfOk result.1 (λ r. IfErr r (λ line. tells self.old self.new at line)) }
+        ensures ok { IfOk result.1 (λ r. IfOk r (λ m. m.to ≡ to) × ((run : List (Call C.Effect)) →
+            sees self.old pass run →
+            Does sees numbers self.new result.0 run at (AskMessage to from) (λ m. Sent from m) r)) }
         ensures err { IfErr result.1 (λ e. (run : List (Call C.Effect)) → sees self.old pass run →
             Stays sees numbers self.new result.0 run) };
 
@@ -230,20 +251,27 @@ pub trait Store<C: Crdt> {
             message.now) }
         ensures stays { stays self.old self.new }
         ensures same { (n : ℕ) → numbers result.0 n ≡ numbers pass n }
+        ensures tells { IfOk result.1 (λ line. tells self.old self.new at line) }
         ensures ok { IfOk result.1 (λ r. (run : List (Call C.Effect)) → sees self.old pass run →
             IsAllowed (sites self.old) (parts self.old) run None at (AskTake number message.now) →
             GoesOn sees numbers self.new result.0 run None at (AskTake number message.now) r) }
         ensures err { IfErr result.1 (λ e. (run : List (Call C.Effect)) → sees self.old pass run →
             Stays sees numbers self.new result.0 run) };
 
-    /// Asks for the bounds of a partition. Who numbers reports shows its line.
-    fn report(&mut self, pass: Self::Pass, at: PartId) -> (Self::Pass, Result<VTime, AllocError>)
+    /// Asks for the bounds of a partition: who numbers reports shows their line. Or answers the line that says why it
+    /// doesn't tell them.
+    fn report(
+        &mut self,
+        pass: Self::Pass,
+        at: PartId,
+    ) -> (Self::Pass, Result<Result<VTime, Step>, AllocError>)
         requires may { MayCall {E = C.Effect} sees numbers (sites self.old) (parts self.old) self.old pass None at
             AskReport }
         ensures stays { stays self.old self.new }
         ensures same { (n : ℕ) → numbers result.0 n ≡ numbers pass n }
-        ensures ok { IfOk result.1 (λ b. (run : List (Call C.Effect)) → sees self.old pass run →
-            Did sees numbers self.new result.0 run at (Reported b)) }
+        ensures tells { IfOk result.1 (λ r. IfErr r (λ line. tells self.old self.new at line)) }
+        ensures ok { IfOk result.1 (λ r. (run : List (Call C.Effect)) → sees self.old pass run →
+            Does sees numbers self.new result.0 run at AskReport (λ b. Reported b) r) }
         ensures err { IfErr result.1 (λ e. (run : List (Call C.Effect)) → sees self.old pass run →
             Stays sees numbers self.new result.0 run) };
 
@@ -260,6 +288,7 @@ pub trait Store<C: Crdt> {
             (AskHear number part bounds.now) }
         ensures stays { stays self.old self.new }
         ensures same { (n : ℕ) → numbers result.0 n ≡ numbers pass n }
+        ensures tells { IfOk result.1 (λ line. tells self.old self.new at line) }
         ensures ok { IfOk result.1 (λ r. (run : List (Call C.Effect)) → sees self.old pass run →
             IsAllowed (sites self.old) (parts self.old) run None at (AskHear number part bounds.now) →
             GoesOn sees numbers self.new result.0 run None at (AskHear number part bounds.now) r) }

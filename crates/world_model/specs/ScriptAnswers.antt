@@ -1,6 +1,6 @@
 -- The run of a cluster answers its script. What a command meets before any partition is asked is told by the run before; what a
 -- partition answers is exact by the law of lines, over the calls of the run.
-use Rattle.std.specs.Prelude.{◌≡◌, ◌≢◌, ℕ, ◌+◌, ◌-◌, Bool, true, false, ◌&&◌, List, [], ◌∷◌, length, Option, None, Some, ⊤}
+use Rattle.std.specs.Prelude.{◌≡◌, ◌≢◌, ℕ, ◌+◌, ◌-◌, Bool, true, false, List, [], ◌∷◌, length, Option, None, Some, ⊤}
 use Rattle.site_vector.specs.declared.ids.PartId.{PartId}
 use Rattle.site_vector.specs.declared.ids.TxId.{TxId}
 use Rattle.world_model.specs.declared.command.Command.{Command}
@@ -20,19 +20,6 @@ use Rattle.world_model.specs.Pending.{is_down}
 use Rattle.world_model.specs.ScriptCalls.{is_answer, is_called, calls_of}
 use Rattle.world_model.specs.Settling.{asks_abort, looked_up, SettlesAll}
 use Rattle.world_model.specs.Waiting.{waiting}
-
--- no partition fails, is down or runs out of room
-abbrev pub is_sound : Step → Bool
-is_sound (step.Down p) = false
-is_sound (step.Disk p) = false
-is_sound (step.Unsure t) = false
-is_sound (step.Damaged p at) = false
-is_sound (step.Full room) = false
-is_sound other = true
-
-abbrev pub are_sound : List Step → Bool
-are_sound [] = true
-are_sound (s ∷ rest) = is_sound s && are_sound rest
 
 -- the line names the session, the message or the report of its command; a new message or report has the next number
 abbrev pub Bears : Run → Command → Step → Type 0
@@ -108,10 +95,9 @@ abbrev pub AnswersBy : Run → Command → List Step → Option Step → Type 0
 AnswersBy run c steps None = Replies run c steps
 AnswersBy run c steps (Some refused) = steps ≡ refused ∷ []
 
--- these lines, the first first, answer a command after this run, where these commands are built; until there are disks no
--- partition fails, is down or runs out of room
+-- these lines, the first first, answer a command after this run, where these commands are built
 abbrev pub IsAnswer : (Command → Bool) → Run → Command → List Step → Type 0
-IsAnswer is_built run c steps = AnswersBy run c steps (met is_built run c) × (are_sound steps ≡ true)
+IsAnswer is_built run c steps = AnswersBy run c steps (met is_built run c)
 
 -- the run goes on with the answer to the line of this number
 abbrev pub GoesOn : (Command → Bool) → ℕ → Run → Asked → Run → Type 0

@@ -8,6 +8,6 @@ returns-in-Ok g c = record {
   is = search rules;
   after = c.open-answer.new.self;
   put = record { find = λ who. search rules; count = search rules };
-  size = c.open-answer.ensures.stays;
-  does = λ calls seen holds. (ok_is _ _ _ c.in-Ok.is c.open-answer.ensures.opened, ok_is _ _ _ c.in-Ok.is c.open-answer.ensures.opens calls seen holds);
+  same = c.open-answer.ensures.stays;
+  does = λ calls seen holds. ((_, ok_is _ _ _ c.in-Ok.is c.open-answer.ensures.tells), ok_is _ _ _ c.in-Ok.is c.open-answer.ensures.opened, ok_is _ _ _ c.in-Ok.is c.open-answer.ensures.opens calls seen holds);
 }

@@ -8,6 +8,6 @@ returns-in-Some g c = map_ok c.step_on.result (λ r f. record {
   is = search rules;
   after = c.step_on.new.session;
   put = record { find = λ who. search rules; count = search rules };
-  size = c.step_on.ensures.stays;
+  same = c.step_on.ensures.stays;
   does = λ calls seen holds. f calls seen holds;
 }) c.step_on.ensures.made

@@ -8,6 +8,6 @@ returns-in-Ok g c = record {
   is = search rules;
   after = c.read-answer.new.self;
   put = record { find = λ who. search rules; count = search rules };
-  size = c.read-answer.ensures.stays;
-  does = λ calls seen holds. (c.read-answer.ensures.as_before, ok_is _ _ _ c.in-Ok.is c.read-answer.ensures.reads calls seen holds);
+  same = c.read-answer.ensures.stays;
+  does = λ calls seen holds. (ok_is _ _ _ c.in-Ok.is c.read-answer.ensures.tells, c.read-answer.ensures.as_before, ok_is _ _ _ c.in-Ok.is c.read-answer.ensures.reads calls seen holds);
 }

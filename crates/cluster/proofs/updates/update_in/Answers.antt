@@ -8,6 +8,6 @@ returns-in-Ok g c = record {
   is = search rules;
   after = c.update-answer.new.self;
   put = record { find = λ who. search rules; count = search rules };
-  size = c.update-answer.ensures.stays;
-  does = λ calls seen holds. (ok_is _ _ _ c.in-Ok.is c.update-answer.ensures.updated, ok_is _ _ _ c.in-Ok.is c.update-answer.ensures.updates calls seen holds);
+  same = c.update-answer.ensures.stays;
+  does = λ calls seen holds. (ok_is _ _ _ c.in-Ok.is c.update-answer.ensures.tells, ok_is _ _ _ c.in-Ok.is c.update-answer.ensures.updated, ok_is _ _ _ c.in-Ok.is c.update-answer.ensures.updates calls seen holds);
 }

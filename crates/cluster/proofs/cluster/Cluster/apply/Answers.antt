@@ -1,11 +1,12 @@
 use Rattle.std.proofs.Common.{subst}
-use Rattle.crdt_core.specs.KindsOf.{kinds_of}
+use Rattle.disk_core.specs.Fuses.{fused_state}
+use Rattle.site_partitions.specs.Reaches.{types_of}
 use Rattle.cluster.specs.Reached.{Applies}
 use Rattle.cluster.proofs.Applying.{reached_on}
 use Rattle.cluster.proofs.cluster.Cluster.apply.Goals as goal
 
 pub invariant_of-self : goal.invariant_of-self
-invariant_of-self g c = reached_on (kinds_of g.C.Crdt.laws) _ c.answer.new.live c.args.command _ c.in-Ok.ensures c.self.invariant
+invariant_of-self g c = reached_on (types_of g.C.Crdt.laws g.C.Crdt.spells (fused_state g.D.Disk.state)) _ c.answer.new.live c.args.command _ c.in-Ok.ensures c.self.invariant
 
 pub returns-in-Ok-clause-ok : goal.returns-in-Ok-clause-ok
-returns-in-Ok-clause-ok g c = subst (λ l. Applies (kinds_of g.C.Crdt.laws) l c.args.command c.in-Ok.steps.items c.answer.new.live) c.self.view_is c.in-Ok.ensures
+returns-in-Ok-clause-ok g c = subst (λ l. Applies (types_of g.C.Crdt.laws g.C.Crdt.spells (fused_state g.D.Disk.state)) l c.args.command c.in-Ok.steps.items c.answer.new.live) c.self.view_is c.in-Ok.ensures

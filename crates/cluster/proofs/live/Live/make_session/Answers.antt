@@ -2,7 +2,7 @@ use Rattle.std.proofs.Common.{◌≡◌, ◌≤◌, ◌∙◌, sym, subst, Some,
 use Rattle.std.specs.Prelude.{if◌then◌else◌}
 use Rattle.std.specs.Str.{bytes_eq}
 use Rattle.txn_session.specs.Session.{Idle}
-use Rattle.crdt_core.specs.KindsOf.{kinds_of}
+use Rattle.site_partitions.specs.Reaches.{types_of}
 use Rattle.world_model.specs.declared.command.Command.TheVariants as command
 use Rattle.cluster.specs.Live.{LiveState, session_in}
 use Rattle.cluster.specs.Reached.{AppliesLive}
@@ -12,23 +12,23 @@ use Rattle.cluster.proofs.live.Live.make_session.Goals as goal
 
 pub returns-then-not-has_site : goal.returns-then-not-has_site
 returns-then-not-has_site g c =
-    let v : LiveState g.row.C-Effect.Denot = record { sites = c.self.inside.sites; sessions = c.self.inside.sessions.entries } in
-    map_ok c.only.result (λ steps is. subst (λ (x : LiveState g.row.C-Effect.Denot). AppliesLive (kinds_of g.C.Crdt.laws) x (command.Session c.args.name c.args.site) steps.items x) c.self.view_is (session_nowhere (kinds_of g.C.Crdt.laws) v c.args.name c.args.site steps.items is (sym c.has_site.ensures ∙ c.if-not-has_site.true))) c.only.ensures
+    let v : LiveState g.row.C-Effect.Denot _ = record { sites = c.self.inside.sites; sessions = c.self.inside.sessions.entries } in
+    map_ok c.only.result (λ steps is. subst (λ (x : LiveState g.row.C-Effect.Denot _). AppliesLive (types_of g.C.Crdt.laws g.C.Crdt.spells g.D.Disk.state) x (command.Session c.args.name c.args.site) steps.items x) c.self.view_is (session_nowhere (types_of g.C.Crdt.laws g.C.Crdt.spells g.D.Disk.state) v c.args.name c.args.site steps.items is (sym c.has_site.ensures ∙ c.if-not-has_site.true))) c.only.ensures
 
 pub returns-then-contains_key : goal.returns-then-contains_key
 returns-then-contains_key g c =
-    let v : LiveState g.row.C-Effect.Denot = record { sites = c.self.inside.sites; sessions = c.self.inside.sessions.entries } in
-    map_ok c.only-then-contains_key.result (λ steps is. subst (λ (x : LiveState g.row.C-Effect.Denot). AppliesLive (kinds_of g.C.Crdt.laws) x (command.Session c.args.name c.args.site) steps.items x) c.self.view_is (session_again (kinds_of g.C.Crdt.laws) v c.args.name c.args.site steps.items is (sym c.has_site.ensures ∙ c.if-not-has_site.false) (sym c.contains_key.ensures ∙ c.if-contains_key.true))) c.only-then-contains_key.ensures
+    let v : LiveState g.row.C-Effect.Denot _ = record { sites = c.self.inside.sites; sessions = c.self.inside.sessions.entries } in
+    map_ok c.only-then-contains_key.result (λ steps is. subst (λ (x : LiveState g.row.C-Effect.Denot _). AppliesLive (types_of g.C.Crdt.laws g.C.Crdt.spells g.D.Disk.state) x (command.Session c.args.name c.args.site) steps.items x) c.self.view_is (session_again (types_of g.C.Crdt.laws g.C.Crdt.spells g.D.Disk.state) v c.args.name c.args.site steps.items is (sym c.has_site.ensures ∙ c.if-not-has_site.false) (sym c.contains_key.ensures ∙ c.if-contains_key.true))) c.only-then-contains_key.ensures
 
 pub returns-then-len-eq-MOST_SESSIONS : goal.returns-then-len-eq-MOST_SESSIONS
 returns-then-len-eq-MOST_SESSIONS g c =
-    map_ok c.only-then-len-eq-MOST_SESSIONS.result (λ steps is. subst (λ (x : LiveState g.row.C-Effect.Denot). AppliesLive (kinds_of g.C.Crdt.laws) x (command.Session c.args.name c.args.site) steps.items x) c.self.view_is
-    (session_full (kinds_of g.C.Crdt.laws) (record { sites = c.self.inside.sites; sessions = c.self.inside.sessions.entries }) c.args.name c.args.site steps.items is (sym c.has_site.ensures ∙ c.if-not-has_site.false) (none_of _ (sym c.contains_key.ensures ∙ c.if-contains_key.false)) (sym c.len.ensures.len ∙ c.if-len-eq-MOST_SESSIONS.true))) c.only-then-len-eq-MOST_SESSIONS.ensures
+    map_ok c.only-then-len-eq-MOST_SESSIONS.result (λ steps is. subst (λ (x : LiveState g.row.C-Effect.Denot _). AppliesLive (types_of g.C.Crdt.laws g.C.Crdt.spells g.D.Disk.state) x (command.Session c.args.name c.args.site) steps.items x) c.self.view_is
+    (session_full (types_of g.C.Crdt.laws g.C.Crdt.spells g.D.Disk.state) (record { sites = c.self.inside.sites; sessions = c.self.inside.sessions.entries }) c.args.name c.args.site steps.items is (sym c.has_site.ensures ∙ c.if-not-has_site.false) (none_of _ (sym c.contains_key.ensures ∙ c.if-contains_key.false)) (sym c.len.ensures.len ∙ c.if-len-eq-MOST_SESSIONS.true))) c.only-then-len-eq-MOST_SESSIONS.ensures
 
 pub returns : goal.returns
 returns g c =
-    map_ok c.only-2.result (λ steps is. subst (λ (x : LiveState g.row.C-Effect.Denot). AppliesLive (kinds_of g.C.Crdt.laws) x (command.Session c.args.name c.args.site) steps.items (record { sites = c.self.inside.sites; sessions = c.create.new.sessions.entries })) c.self.view_is
-    (session_made (kinds_of g.C.Crdt.laws) (record { sites = c.self.inside.sites; sessions = c.self.inside.sessions.entries }) c.args.name c.args.site c.create.new.sessions.entries c.new-session.result steps.items is (sym c.has_site.ensures ∙ c.if-not-has_site.false)
+    map_ok c.only-2.result (λ steps is. subst (λ (x : LiveState g.row.C-Effect.Denot _). AppliesLive (types_of g.C.Crdt.laws g.C.Crdt.spells g.D.Disk.state) x (command.Session c.args.name c.args.site) steps.items (record { sites = c.self.inside.sites; sessions = c.create.new.sessions.entries })) c.self.view_is
+    (session_made (types_of g.C.Crdt.laws g.C.Crdt.spells g.D.Disk.state) (record { sites = c.self.inside.sites; sessions = c.self.inside.sessions.entries }) c.args.name c.args.site c.create.new.sessions.entries c.new-session.result steps.items is (sym c.has_site.ensures ∙ c.if-not-has_site.false)
     (subst (λ n. 1 ≤ n) c.parts-parts.ensures.is c.parts-parts.ensures.least)
     (none_of _ (sym c.contains_key.ensures ∙ c.if-contains_key.false))
     (not_many _ c.len.result c.len.ensures.len c.if-len-eq-MOST_SESSIONS.false)

@@ -1,8 +1,8 @@
 use Rattle.std.proofs.Common.{◌≡◌, ◌∙◌, length, sym, subst, Some, true, false, rules}
 use Rattle.std.specs.Prelude.{◌==◌}
-use Rattle.crdt_core.specs.KindsOf.{kinds_of}
+use Rattle.site_partitions.specs.Reaches.{types_of}
 use Rattle.world_model.specs.declared.command.Command.TheVariants as command
-use Rattle.cluster.specs.Held.{holds_part}
+use Rattle.site_partitions.specs.Held.{holds_part}
 use Rattle.cluster.specs.Post.{PostState, WholeState}
 use Rattle.cluster.specs.Reached.{Applies}
 use Rattle.cluster.proofs.Applying.{map_ok}
@@ -12,23 +12,23 @@ use Rattle.cluster.proofs.running.Running.report.Goals as goal
 pub returns-then-not-has_part : goal.returns-then-not-has_part
 returns-then-not-has_part g c =
     let post : PostState g.row.C-Effect.Denot = record { letters = c.self.inside.letters.entries; next_letter = c.self.inside.next_letter; notes = c.self.inside.notes.entries; next_note = c.self.inside.next_note } in
-    let w : WholeState g.row.C-Effect.Denot = record { live = c.self.inside.live; post = post } in
-    map_ok c.only.result (λ steps is. subst (λ (x : WholeState g.row.C-Effect.Denot). Applies (kinds_of g.C.Crdt.laws) (Some x) (command.Report c.args.part) steps.items (Some x)) c.self.view_is (report_nowhere (kinds_of g.C.Crdt.laws) w c.args.part steps.items is (sym c.has_part.ensures ∙ c.if-not-has_part.true))) c.only.ensures
+    let w : WholeState g.row.C-Effect.Denot _ = record { live = c.self.inside.live; post = post } in
+    map_ok c.only.result (λ steps is. subst (λ (x : WholeState g.row.C-Effect.Denot _). Applies (types_of g.C.Crdt.laws g.C.Crdt.spells g.D.Disk.state) (Some x) (command.Report c.args.part) steps.items (Some x)) c.self.view_is (report_nowhere (types_of g.C.Crdt.laws g.C.Crdt.spells g.D.Disk.state) w c.args.part steps.items is (sym c.has_part.ensures ∙ c.if-not-has_part.true))) c.only.ensures
 
 pub returns-then-len-eq-MOST_KEPT : goal.returns-then-len-eq-MOST_KEPT
 returns-then-len-eq-MOST_KEPT g c =
     let post : PostState g.row.C-Effect.Denot = record { letters = c.self.inside.letters.entries; next_letter = c.self.inside.next_letter; notes = c.self.inside.notes.entries; next_note = c.self.inside.next_note } in
-    let w : WholeState g.row.C-Effect.Denot = record { live = c.self.inside.live; post = post } in
+    let w : WholeState g.row.C-Effect.Denot _ = record { live = c.self.inside.live; post = post } in
     let there : holds_part c.self.inside.live.sites c.args.part ≡ true = sym c.has_part.ensures ∙ c.if-not-has_part.false in
     let full : (length c.self.inside.notes.entries == 4096) ≡ true = search rules in
-    map_ok c.only-then-len-eq-MOST_KEPT.result (λ steps is. subst (λ (x : WholeState g.row.C-Effect.Denot). Applies (kinds_of g.C.Crdt.laws) (Some x) (command.Report c.args.part) steps.items (Some x)) c.self.view_is (report_full (kinds_of g.C.Crdt.laws) w c.args.part steps.items is there full)) c.only-then-len-eq-MOST_KEPT.ensures
+    map_ok c.only-then-len-eq-MOST_KEPT.result (λ steps is. subst (λ (x : WholeState g.row.C-Effect.Denot _). Applies (types_of g.C.Crdt.laws g.C.Crdt.spells g.D.Disk.state) (Some x) (command.Report c.args.part) steps.items (Some x)) c.self.view_is (report_full (types_of g.C.Crdt.laws g.C.Crdt.spells g.D.Disk.state) w c.args.part steps.items is there full)) c.only-then-len-eq-MOST_KEPT.ensures
 
 pub returns : goal.returns
 returns g c =
     let post : PostState g.row.C-Effect.Denot = record { letters = c.self.inside.letters.entries; next_letter = c.self.inside.next_letter; notes = c.self.inside.notes.entries; next_note = c.self.inside.next_note } in
-    let w : WholeState g.row.C-Effect.Denot = record { live = c.self.inside.live; post = post } in
+    let w : WholeState g.row.C-Effect.Denot _ = record { live = c.self.inside.live; post = post } in
     let there : holds_part c.self.inside.live.sites c.args.part ≡ true = sym c.has_part.ensures ∙ c.if-not-has_part.false in
     let room : (length c.self.inside.notes.entries == 4096) ≡ false = search rules in
-    map_ok c.only-2.result (λ steps is. subst (λ (x : WholeState g.row.C-Effect.Denot). Applies (kinds_of g.C.Crdt.laws) (Some x) (command.Report c.args.part) steps.items (Some (record { live = c.self.inside.live; post = record { letters = c.self.inside.letters.entries; next_letter = c.self.inside.next_letter; notes = c.keep_report.new.notes.entries; next_note = c.in_ok-next.next } }))) c.self.view_is
-    (subst (λ n. Applies (kinds_of g.C.Crdt.laws) (Some w) (command.Report c.args.part) steps.items (Some (record { live = c.self.inside.live; post = record { letters = c.self.inside.letters.entries; next_letter = c.self.inside.next_letter; notes = c.keep_report.new.notes.entries; next_note = n } }))) (sym c.in_ok-next.ensures)
-    (reported (kinds_of g.C.Crdt.laws) w c.args.part c.report-bounds.result c.keep_report.new.notes.entries c.report-bounds.ensures c.in_ok-keep_report.ensures.find c.in_ok-keep_report.ensures.count steps.items is there room))) c.only-2.ensures
+    map_ok c.only-2.result (λ steps is. subst (λ (x : WholeState g.row.C-Effect.Denot _). Applies (types_of g.C.Crdt.laws g.C.Crdt.spells g.D.Disk.state) (Some x) (command.Report c.args.part) steps.items (Some (record { live = c.self.inside.live; post = record { letters = c.self.inside.letters.entries; next_letter = c.self.inside.next_letter; notes = c.keep_report.new.notes.entries; next_note = c.in_ok-next.next } }))) c.self.view_is
+    (subst (λ n. Applies (types_of g.C.Crdt.laws g.C.Crdt.spells g.D.Disk.state) (Some w) (command.Report c.args.part) steps.items (Some (record { live = c.self.inside.live; post = record { letters = c.self.inside.letters.entries; next_letter = c.self.inside.next_letter; notes = c.keep_report.new.notes.entries; next_note = n } }))) (sym c.in_ok-next.ensures)
+    (reported (types_of g.C.Crdt.laws g.C.Crdt.spells g.D.Disk.state) w c.args.part c.report-bounds.result c.keep_report.new.notes.entries c.report-bounds.ensures c.in_ok-keep_report.ensures.find c.in_ok-keep_report.ensures.count steps.items is there room))) c.only-2.ensures

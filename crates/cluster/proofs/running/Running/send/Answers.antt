@@ -1,6 +1,6 @@
 use Rattle.std.proofs.Common.{◌≡◌, ◌∙◌, ◌+◌, ℕ, List, [], ◌∷◌, length, ap, sym, subst, Some, true, false, rules}
 use Rattle.std.specs.Prelude.{◌==◌}
-use Rattle.crdt_core.specs.KindsOf.{kinds_of}
+use Rattle.site_partitions.specs.Reaches.{types_of}
 use Rattle.world_model.specs.declared.command.Command.TheVariants as command
 use Rattle.world_model.specs.declared.step.Step.TheVariants as step
 use Rattle.crdt_core.specs.declared.record.Part.{Part}
@@ -14,24 +14,24 @@ use Rattle.cluster.proofs.running.Running.send.Goals as goal
 pub returns-then-lacks_way : goal.returns-then-lacks_way
 returns-then-lacks_way g c =
     let post : PostState g.row.C-Effect.Denot = record { letters = c.self.inside.letters.entries; next_letter = c.self.inside.next_letter; notes = c.self.inside.notes.entries; next_note = c.self.inside.next_note } in
-    let w : WholeState g.row.C-Effect.Denot = record { live = c.self.inside.live; post = post } in
-    map_ok c.only.result (λ steps is. subst (λ (x : WholeState g.row.C-Effect.Denot). Applies (kinds_of g.C.Crdt.laws) (Some x) (command.Send c.args.part c.args.site c.args.from) steps.items (Some x)) c.self.view_is (send_nowhere (kinds_of g.C.Crdt.laws) w c.args.part c.args.site c.args.from steps.items is (ap (λ (x : WholeState g.row.C-Effect.Denot). lacks_way x.live.sites c.args.part c.args.site) c.self.view_is ∙ (sym c.lacks_way.ensures ∙ c.if-lacks_way.true)))) c.only.ensures
+    let w : WholeState g.row.C-Effect.Denot _ = record { live = c.self.inside.live; post = post } in
+    map_ok c.only.result (λ steps is. subst (λ (x : WholeState g.row.C-Effect.Denot _). Applies (types_of g.C.Crdt.laws g.C.Crdt.spells g.D.Disk.state) (Some x) (command.Send c.args.part c.args.site c.args.from) steps.items (Some x)) c.self.view_is (send_nowhere (types_of g.C.Crdt.laws g.C.Crdt.spells g.D.Disk.state) w c.args.part c.args.site c.args.from steps.items is (ap (λ (x : WholeState g.row.C-Effect.Denot _). lacks_way x.live.sites c.args.part c.args.site) c.self.view_is ∙ (sym c.lacks_way.ensures ∙ c.if-lacks_way.true)))) c.only.ensures
 
 pub returns-then-len-eq-MOST_KEPT : goal.returns-then-len-eq-MOST_KEPT
 returns-then-len-eq-MOST_KEPT g c =
     let post : PostState g.row.C-Effect.Denot = record { letters = c.self.inside.letters.entries; next_letter = c.self.inside.next_letter; notes = c.self.inside.notes.entries; next_note = c.self.inside.next_note } in
-    let w : WholeState g.row.C-Effect.Denot = record { live = c.self.inside.live; post = post } in
-    let way : lacks_way c.self.inside.live.sites c.args.part c.args.site ≡ false = ap (λ (x : WholeState g.row.C-Effect.Denot). lacks_way x.live.sites c.args.part c.args.site) c.self.view_is ∙ (sym c.lacks_way.ensures ∙ c.if-lacks_way.false) in
+    let w : WholeState g.row.C-Effect.Denot _ = record { live = c.self.inside.live; post = post } in
+    let way : lacks_way c.self.inside.live.sites c.args.part c.args.site ≡ false = ap (λ (x : WholeState g.row.C-Effect.Denot _). lacks_way x.live.sites c.args.part c.args.site) c.self.view_is ∙ (sym c.lacks_way.ensures ∙ c.if-lacks_way.false) in
     let full : (length c.self.inside.letters.entries == 4096) ≡ true = search rules in
-    map_ok c.only-then-len-eq-MOST_KEPT.result (λ steps is. subst (λ (x : WholeState g.row.C-Effect.Denot). Applies (kinds_of g.C.Crdt.laws) (Some x) (command.Send c.args.part c.args.site c.args.from) steps.items (Some x)) c.self.view_is (send_full (kinds_of g.C.Crdt.laws) w c.args.part c.args.site c.args.from steps.items is way full)) c.only-then-len-eq-MOST_KEPT.ensures
+    map_ok c.only-then-len-eq-MOST_KEPT.result (λ steps is. subst (λ (x : WholeState g.row.C-Effect.Denot _). Applies (types_of g.C.Crdt.laws g.C.Crdt.spells g.D.Disk.state) (Some x) (command.Send c.args.part c.args.site c.args.from) steps.items (Some x)) c.self.view_is (send_full (types_of g.C.Crdt.laws g.C.Crdt.spells g.D.Disk.state) w c.args.part c.args.site c.args.from steps.items is way full)) c.only-then-len-eq-MOST_KEPT.ensures
 
 pub returns : goal.returns
 returns g c =
     let post : PostState g.row.C-Effect.Denot = record { letters = c.self.inside.letters.entries; next_letter = c.self.inside.next_letter; notes = c.self.inside.notes.entries; next_note = c.self.inside.next_note } in
-    let w : WholeState g.row.C-Effect.Denot = record { live = c.self.inside.live; post = post } in
-    let way : lacks_way c.self.inside.live.sites c.args.part c.args.site ≡ false = ap (λ (x : WholeState g.row.C-Effect.Denot). lacks_way x.live.sites c.args.part c.args.site) c.self.view_is ∙ (sym c.lacks_way.ensures ∙ c.if-lacks_way.false) in
+    let w : WholeState g.row.C-Effect.Denot _ = record { live = c.self.inside.live; post = post } in
+    let way : lacks_way c.self.inside.live.sites c.args.part c.args.site ≡ false = ap (λ (x : WholeState g.row.C-Effect.Denot _). lacks_way x.live.sites c.args.part c.args.site) c.self.view_is ∙ (sym c.lacks_way.ensures ∙ c.if-lacks_way.false) in
     let room : (length c.self.inside.letters.entries == 4096) ≡ false = search rules in
-    map_ok c.only-2.result (λ steps is. subst (λ (x : WholeState g.row.C-Effect.Denot). Applies (kinds_of g.C.Crdt.laws) (Some x) (command.Send c.args.part c.args.site c.args.from) steps.items (Some (record { live = c.release.new.self; post = record { letters = c.keep_message.new.letters.entries; next_letter = c.in_ok-next.next; notes = c.self.inside.notes.entries; next_note = c.self.inside.next_note } }))) c.self.view_is
-    (subst (λ n. Applies (kinds_of g.C.Crdt.laws) (Some w) (command.Send c.args.part c.args.site c.args.from) steps.items (Some (record { live = record { sites = c.release.new.self.sites; sessions = c.release.new.self.sessions }; post = record { letters = c.keep_message.new.letters.entries; next_letter = n; notes = c.self.inside.notes.entries; next_note = c.self.inside.next_note } }))) (sym c.in_ok-next.ensures)
-    (subst (λ (ss : List (List ℕ × SessionState g.row.C-Effect.Denot)). Applies (kinds_of g.C.Crdt.laws) (Some w) (command.Send c.args.part c.args.site c.args.from) steps.items (Some (record { live = record { sites = c.release.new.self.sites; sessions = ss }; post = record { letters = c.keep_message.new.letters.entries; next_letter = c.self.inside.next_letter + 1; notes = c.self.inside.notes.entries; next_note = c.self.inside.next_note } }))) (sym c.release.ensures.same)
-    (sent (kinds_of g.C.Crdt.laws) w c.args.part c.args.site c.args.from c.release.new.self.sites c.in_ok-message.message c.keep_message.new.letters.entries c.in_ok-message.ensures.sent.0 c.in_ok-message.ensures.sent.1 c.in_ok-keep_message.ensures.find c.in_ok-keep_message.ensures.count steps.items (subst (λ (ps : List (Part g.row.C-Effect.Denot)). steps.items ≡ step.Sent c.self.inside.next_letter c.args.part c.args.site c.in_ok-message.message.lo c.in_ok-message.message.hi (length ps) ∷ []) c.as_slice.ensures is) way room)))) c.only-2.ensures
+    map_ok c.only-2.result (λ steps is. subst (λ (x : WholeState g.row.C-Effect.Denot _). Applies (types_of g.C.Crdt.laws g.C.Crdt.spells g.D.Disk.state) (Some x) (command.Send c.args.part c.args.site c.args.from) steps.items (Some (record { live = c.release.new.self; post = record { letters = c.keep_message.new.letters.entries; next_letter = c.in_ok-next.next; notes = c.self.inside.notes.entries; next_note = c.self.inside.next_note } }))) c.self.view_is
+    (subst (λ n. Applies (types_of g.C.Crdt.laws g.C.Crdt.spells g.D.Disk.state) (Some w) (command.Send c.args.part c.args.site c.args.from) steps.items (Some (record { live = record { sites = c.release.new.self.sites; sessions = c.release.new.self.sessions }; post = record { letters = c.keep_message.new.letters.entries; next_letter = n; notes = c.self.inside.notes.entries; next_note = c.self.inside.next_note } }))) (sym c.in_ok-next.ensures)
+    (subst (λ (ss : List (List ℕ × SessionState g.row.C-Effect.Denot)). Applies (types_of g.C.Crdt.laws g.C.Crdt.spells g.D.Disk.state) (Some w) (command.Send c.args.part c.args.site c.args.from) steps.items (Some (record { live = record { sites = c.release.new.self.sites; sessions = ss }; post = record { letters = c.keep_message.new.letters.entries; next_letter = c.self.inside.next_letter + 1; notes = c.self.inside.notes.entries; next_note = c.self.inside.next_note } }))) (sym c.release.ensures.same)
+    (sent (types_of g.C.Crdt.laws g.C.Crdt.spells g.D.Disk.state) w c.args.part c.args.site c.args.from c.release.new.self.sites c.in_ok-message.message c.keep_message.new.letters.entries c.in_ok-message.ensures.sent.0 c.in_ok-message.ensures.sent.1 c.in_ok-keep_message.ensures.find c.in_ok-keep_message.ensures.count steps.items (subst (λ (ps : List (Part g.row.C-Effect.Denot)). steps.items ≡ step.Sent c.self.inside.next_letter c.args.part c.args.site c.in_ok-message.message.lo c.in_ok-message.message.hi (length ps) ∷ []) c.as_slice.ensures is) way room)))) c.only-2.ensures

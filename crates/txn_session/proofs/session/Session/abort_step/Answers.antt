@@ -1,7 +1,7 @@
 use Rattle.std.proofs.Common.{◌≡◌, inr, sym, ap, ◌∙◌, subst}
 use Rattle.txn_session.specs.Session.{SessionState}
 use Rattle.txn_session.specs.Opens.{stepped, EndsAs}
-use Rattle.txn_session.specs.Holds.{Holds, MakesStep, Waits, next_of}
+use Rattle.txn_session.specs.Holds.{Holds, MakesStep, TellsStep, Waits, next_of}
 use Rattle.txn_session.proofs.Results.{if_ok, if_err, on_err}
 use Rattle.txn_session.proofs.Ending.{given_up_mays, given_up_holds}
 use Rattle.txn_session.proofs.session.Session.abort_step.Goals as goal
@@ -36,3 +36,6 @@ pub returns-in-Err-clause-waits : goal.returns-in-Err-clause-waits
 returns-in-Err-clause-waits g c run seen h =
     let all = on_err _ _ _ c.in-Err.is c.end_step-pass.ensures.waits in
     subst (λ (w : SessionState g.row.C-Effect.Denot). Waits g.S.Store.sees g.S.Store.numbers c.end_step-pass.new.store c.end_step-pass.result.0 run w c.end_step-pass.new.self) c.give_up.ensures (all run seen (subst (λ (w : SessionState g.row.C-Effect.Denot). Holds w run) (sym c.give_up.ensures) (given_up_holds c.args.self.now run h)))
+
+pub returns-in-Ok-clause-tells : goal.returns-in-Ok-clause-tells
+returns-in-Ok-clause-tells g c = subst (λ (w : SessionState g.row.C-Effect.Denot). TellsStep g.S.Store.tells c.args.store.now c.end_step-pass.new.store w c.in-Ok.done.0 (next_of w.doing)) c.give_up.ensures (if_ok _ _ _ c.in-Ok.is c.end_step-pass.ensures.tells)

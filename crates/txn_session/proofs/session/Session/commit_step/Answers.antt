@@ -5,7 +5,7 @@ use Rattle.txn_session.specs.Session.{SessionState}
 use Rattle.world_model.specs.declared.commit.Next.{Next}
 use Rattle.world_model.specs.declared.step.Step.{Step}
 use Rattle.txn_session.specs.Opens.{begun_end, stepped, next_said, EndsAs}
-use Rattle.txn_session.specs.Holds.{Holds, MakesStep, Waits, next_of}
+use Rattle.txn_session.specs.Holds.{Holds, MakesStep, TellsStep, Waits, next_of}
 use Rattle.txn_session.proofs.Results.{if_err, ok_map, err_map, on_err_map}
 use Rattle.txn_session.proofs.Ending.{begun_mays, begun_holds, begun_same, not_idle, waits_none}
 use Rattle.txn_session.proofs.session.Session.commit_step.Goals as goal
@@ -57,3 +57,6 @@ pub returns-in-Idle-clause-waits : goal.returns-in-Idle-clause-waits
 returns-in-Idle-clause-waits g c run seen h =
     let same = begun_same _ c.args.self.now c.self.view_is c.self.inside.stage (record { tx = c.self.inside.tx; s = c.self.inside.s; by = c.self.inside.by; updates = c.self.inside.updates.items }) c.self.inside.lead c.self.inside.commit refl (λ h. let e = c.in-Idle.is in absurd cc) in
     waits_none g.S.Store.sees g.S.Store.numbers c.args.store.now c.args.pass run c.args.self.now _ c.args.self.now same refl seen h c.requires.holds.held
+
+pub returns-clause-tells : goal.returns-clause-tells
+returns-clause-tells g c = subst (λ (w : SessionState g.row.C-Effect.Denot). IfOk c.end_step-pass.result.1 (λ r. TellsStep g.S.Store.tells c.args.store.now c.end_step-pass.new.store w r.0 (next_of w.doing))) c.start.ensures c.end_step-pass.ensures.tells

@@ -3,7 +3,7 @@ use Rattle.world_model.specs.declared.commit.What.TheVariants as what
 use Rattle.world_model.specs.Event.{AskDecide}
 use Rattle.txn_session.specs.Session.{SessionState, Txn}
 use Rattle.txn_session.specs.Opens.{EndsAs}
-use Rattle.txn_session.specs.Holds.{MakesStep, next_of}
+use Rattle.txn_session.specs.Holds.{MakesStep, TellsStep, next_of}
 use Rattle.txn_session.proofs.Results.{if_ok, if_err}
 use Rattle.txn_session.proofs.Acting.{legal_after, held_after, stays_waits}
 use Rattle.txn_session.proofs.Ending.{is_ending, doing_end, stepped_is, said_is, goes_here, may_here, number_held, decide_may, decide_makes, vector_width, told_width}
@@ -87,3 +87,8 @@ invariant_of-self g c =
     let i = c.self.invariant in
     let w : length f.dependency ≡ length c.args.c = ap (λ (w : SessionState g.row.C-Effect.Denot). length w.dependency) v ∙ vector_width c.args.self.now txn f.lead f.commit od m.run m.holds c.args.part c.args.c c.requires.next in
     record { least_site = i.least_site; most_site = i.most_site; most_sites = i.most_sites; least_parts = i.least_parts; most_parts = i.most_parts; width = ap length c.told-self-inside.ensures ∙ (told_width f.dependency c.args.c c.in-Ok.step w ∙ i.width); entries = i.entries }
+
+pub returns-in-Ok-clause-tells : goal.returns-in-Ok-clause-tells
+returns-in-Ok-clause-tells g c =
+    subst (λ x. TellsStep g.S.Store.tells c.args.store.now c.decide-pass.new.self c.args.self.now c.in-Ok.step x) (sym c.requires.next)
+    (subst (λ (w : SessionState g.row.C-Effect.Denot). g.S.Store.tells c.args.store.now c.decide-pass.new.self (record { site = w.site; part = c.args.part }) c.in-Ok.step) c.self.view_is (if_ok _ _ _ c.in-Ok.is c.decide-pass.ensures.tells))

@@ -3,7 +3,7 @@ use Rattle.world_model.specs.declared.commit.What.TheVariants as what
 use Rattle.world_model.specs.Event.{AskFinish}
 use Rattle.txn_session.specs.Session.{SessionState, Txn}
 use Rattle.txn_session.specs.Opens.{EndsAs}
-use Rattle.txn_session.specs.Holds.{MakesStep, next_of}
+use Rattle.txn_session.specs.Holds.{MakesStep, TellsStep, next_of}
 use Rattle.txn_session.proofs.Results.{if_ok, if_err}
 use Rattle.txn_session.proofs.Acting.{legal_after, held_after, stays_waits}
 use Rattle.txn_session.proofs.Ending.{is_ending, doing_end, stepped_is, said_is, goes_here, may_here, finish_may, finish_makes}
@@ -65,3 +65,8 @@ returns-in-Err-clause-waits g c run seen h =
     let legal = legal_after _ g.S.Store.sees g.S.Store.sites g.S.Store.parts g.S.Store.stays g.met.S.Store.legal g.met.S.Store.keeps c.args.store.now c.finish-pass.new.self c.finish-pass.ensures.stays c.finish-pass.result.0 c.args.self.now.sites c.args.self.now.parts c.requires.sites c.requires.parts in
     let held = held_after g.S.Store.numbers c.args.pass c.finish-pass.result.0 c.finish-pass.ensures.same c.args.self.now.doing c.requires.holds.held in
     stays_waits _ g.S.Store.sees g.S.Store.numbers c.finish-pass.new.self c.finish-pass.result.0 c.args.self.now legal held run h (if_err _ _ _ c.in-Err.is c.finish-pass.ensures.err run seen)
+
+pub returns-in-Ok-clause-tells : goal.returns-in-Ok-clause-tells
+returns-in-Ok-clause-tells g c =
+    subst (λ x. TellsStep g.S.Store.tells c.args.store.now c.finish-pass.new.self c.args.self.now c.in-Ok.step x) (sym c.requires.next)
+    (subst (λ (w : SessionState g.row.C-Effect.Denot). g.S.Store.tells c.args.store.now c.finish-pass.new.self (record { site = w.site; part = c.args.part }) c.in-Ok.step) c.self.view_is (if_ok _ _ _ c.in-Ok.is c.finish-pass.ensures.tells))

@@ -1,4 +1,4 @@
-use Rattle.std.proofs.Common.{◌≡◌, sym, ap, ◌∙◌, length}
+use Rattle.std.proofs.Common.{◌≡◌, sym, ap, ◌∙◌, subst, length}
 use Rattle.txn_session.specs.Session.{SessionState, is_idle}
 use Rattle.std.proofs.lemmas.Bool.{true≢false}
 use Rattle.txn_session.proofs.Results.{if_ok, if_err, bad_ok}
@@ -29,10 +29,16 @@ returns-in-Began-clause-opens g c =
     open_began _ g.S.Store.sees g.S.Store.numbers g.S.Store.sites g.S.Store.parts g.S.Store.stays g.met.S.Store.legal g.met.S.Store.keeps c.args.store.now c.begin-pass.new.self c.begin-pass.ensures.stays c.args.pass c.begin-pass.result.0 _ c.args.self.now c.self.view_is c.requires.sites c.requires.parts
     (idle_in c.self.inside.stage (record { tx = c.self.inside.tx; s = c.self.inside.s; by = c.self.inside.by; updates = c.self.inside.updates.items }) c.self.inside.lead c.self.inside.commit c.in-Idle.is) c.args.part c.in-Ok.by c.in-Ok.step (if_ok _ _ _ c.in-Ok.is c.begin-pass.ensures.ok) c.in-Began.name c.in-Began.tx c.in-Began.s c.in-Began.is c.join-self-inside.result c.clear.new.self.items c.join-self-inside.ensures c.clear.ensures.items
 
+pub returns-in-Began-clause-tells : goal.returns-in-Began-clause-tells
+returns-in-Began-clause-tells g c =
+    subst (λ x. g.S.Store.tells c.args.store.now c.begin-pass.new.self (record { site = c.args.self.now.site; part = c.args.part }) x) c.in-Began.is
+    (subst (λ (w : SessionState g.row.C-Effect.Denot). g.S.Store.tells c.args.store.now c.begin-pass.new.self (record { site = w.site; part = c.args.part }) c.in-Ok.step) c.self.view_is (if_ok _ _ _ c.in-Ok.is c.begin-pass.ensures.tells))
+
 pub returns-in_default-step : goal.returns-in_default-step
 returns-in_default-step g c = record {
   stays = c.begin-pass.ensures.stays;
   same = c.begin-pass.ensures.same;
+  tells = subst (λ (w : SessionState g.row.C-Effect.Denot). g.S.Store.tells c.args.store.now c.begin-pass.new.self (record { site = w.site; part = c.args.part }) c.in-Ok.step) c.self.view_is (if_ok _ _ _ c.in-Ok.is c.begin-pass.ensures.tells);
   has_txn = (λ e. absurd (bad_ok _ _ e), λ h. absurd (true≢false (sym (ap is_idle (sym (ap (λ (w : SessionState _). w.doing) c.self.view_is) ∙ idle_in c.self.inside.stage (record { tx = c.self.inside.tx; s = c.self.inside.s; by = c.self.inside.by; updates = c.self.inside.updates.items }) c.self.inside.lead c.self.inside.commit c.in-Idle.is)) ∙ h)));
   only = tt;
   err = tt;

@@ -3,7 +3,7 @@ use Rattle.world_model.specs.declared.commit.What.TheVariants as what
 use Rattle.world_model.specs.Event.{AskPrepare}
 use Rattle.txn_session.specs.Session.{SessionState, Txn, updates_of}
 use Rattle.txn_session.specs.Opens.{EndsAs}
-use Rattle.txn_session.specs.Holds.{MakesStep, next_of}
+use Rattle.txn_session.specs.Holds.{MakesStep, TellsStep, next_of}
 use Rattle.txn_session.proofs.Results.{if_ok, if_err}
 use Rattle.txn_session.proofs.Acting.{legal_after, held_after, stays_waits}
 use Rattle.txn_session.proofs.Ending.{is_ending, doing_end, stepped_is, said_is, goes_here, may_here, number_held, prepare_may, prepare_makes}
@@ -65,3 +65,8 @@ returns-in-Err-answer-clause-waits g c run seen h =
     let legal = legal_after _ g.S.Store.sees g.S.Store.sites g.S.Store.parts g.S.Store.stays g.met.S.Store.legal g.met.S.Store.keeps c.args.store.now c.prepare-pass.new.self c.prepare-pass.ensures.stays c.prepare-pass.result.0 c.args.self.now.sites c.args.self.now.parts c.requires.sites c.requires.parts in
     let held = held_after g.S.Store.numbers c.args.pass c.prepare-pass.result.0 c.prepare-pass.ensures.same c.args.self.now.doing c.requires.holds.held in
     stays_waits _ g.S.Store.sees g.S.Store.numbers c.prepare-pass.new.self c.prepare-pass.result.0 c.args.self.now legal held run h (if_err _ _ _ c.in-Err-answer.is c.prepare-pass.ensures.err run seen)
+
+pub returns-in-Ok-answer-clause-tells : goal.returns-in-Ok-answer-clause-tells
+returns-in-Ok-answer-clause-tells g c =
+    subst (λ x. TellsStep g.S.Store.tells c.args.store.now c.prepare-pass.new.self c.args.self.now c.in-Ok-answer.step x) (sym c.requires.next)
+    (subst (λ (w : SessionState g.row.C-Effect.Denot). g.S.Store.tells c.args.store.now c.prepare-pass.new.self (record { site = w.site; part = c.args.part }) c.in-Ok-answer.step) c.self.view_is (if_ok _ _ _ c.in-Ok-answer.is c.prepare-pass.ensures.tells))

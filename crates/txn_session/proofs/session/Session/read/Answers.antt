@@ -39,3 +39,6 @@ returns-in-Err-answer-clause-waits g c run seen h =
     let legal = legal_after _ g.S.Store.sees g.S.Store.sites g.S.Store.parts g.S.Store.stays g.met.S.Store.legal g.met.S.Store.keeps c.args.store.now c.read-pass.new.self c.read-pass.ensures.stays c.read-pass.result.0 c.args.self.now.sites c.args.self.now.parts c.requires.sites c.requires.parts in
     let held = held_after g.S.Store.numbers c.args.pass c.read-pass.result.0 c.read-pass.ensures.same c.args.self.now.doing c.requires.holds.held in
     stays_waits _ g.S.Store.sees g.S.Store.numbers c.read-pass.new.self c.read-pass.result.0 c.args.self.now legal held run h (if_err _ _ _ c.in-Err-answer.is c.read-pass.ensures.err run seen)
+
+pub returns-in-Ok-answer-clause-tells : goal.returns-in-Ok-answer-clause-tells
+returns-in-Ok-answer-clause-tells g c = (record { site = c.self.inside.site; part = c.partition_of.result }, if_ok _ _ _ c.in-Ok-answer.is c.read-pass.ensures.tells)

@@ -116,3 +116,9 @@ returns-in-Err-answer-clause-waits g c run seen h =
     let legal = legal_after _ g.S.Store.sees g.S.Store.sites g.S.Store.parts g.S.Store.stays g.met.S.Store.legal g.met.S.Store.keeps c.args.store.now c.update-pass.new.self c.update-pass.ensures.stays c.update-pass.result.0 c.args.self.now.sites c.args.self.now.parts c.requires.sites c.requires.parts in
     let held = held_after g.S.Store.numbers c.args.pass c.update-pass.result.0 c.update-pass.ensures.same c.args.self.now.doing c.requires.holds.held in
     subst (λ (w : SessionState g.row.C-Effect.Denot). Waits g.S.Store.sees g.S.Store.numbers c.update-pass.new.self c.update-pass.result.0 run c.args.self.now w) (sym same) (stays_waits _ g.S.Store.sees g.S.Store.numbers c.update-pass.new.self c.update-pass.result.0 c.args.self.now legal held run h (if_err _ _ _ c.in-Err-answer.is c.update-pass.ensures.err run seen))
+
+pub returns-in-Some-made-clause-tells : goal.returns-in-Some-made-clause-tells
+returns-in-Some-made-clause-tells g c = (record { site = c.self.inside.site; part = c.partition_of.result }, if_ok _ _ _ c.in-Ok-answer.is c.update-pass.ensures.tells)
+
+pub returns-in-None-clause-tells : goal.returns-in-None-clause-tells
+returns-in-None-clause-tells g c = (record { site = c.self.inside.site; part = c.partition_of.result }, if_ok _ _ _ c.in-Ok-answer.is c.update-pass.ensures.tells)

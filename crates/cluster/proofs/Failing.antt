@@ -1,0 +1,50 @@
+-- A call of no session that isn't answered: the run goes on by what its line shows.
+use Rattle.std.proofs.Common.{◌≡◌, ℕ, List, ◌∷◌, sym, ◌∙◌, subst, Option}
+use Rattle.std.specs.Prelude.{Ok, Err}
+use Rattle.site_vector.specs.declared.ids.PartId.{PartId}
+use Rattle.site_vector.specs.declared.ids.TxId.{TxId}
+use Rattle.world_model.specs.declared.step.Step.{Step}
+use Rattle.world_model.specs.declared.step.Step.TheVariants as step
+use Rattle.world_model.specs.Event.{Ask, Refusal, IsDown, HasNoRoom, Event, Refused, Cut, Entry}
+use Rattle.world_model.specs.Lines.{fault_shown, step_shown, tx_asked, number_asked, refusal_shown}
+use Rattle.partition_core.specs.declared.durable.DurableError.{DurableError}
+use Rattle.partition_core.specs.declared.durable.DurableError.TheVariants as call
+use Rattle.partition_core.specs.Answers.{cause}
+use Rattle.site_partitions.specs.Held.{Held}
+use Rattle.site_partitions.specs.Reaches.{Types, Reaches}
+use Rattle.site_partitions.specs.Answers.{OnRuns, GoesOn, CallsIf}
+use Rattle.cluster.specs.Same.{SameCluster}
+use Rattle.cluster.specs.Faults.{TellsFault}
+use Rattle.cluster.specs.Sees.{refusal_line, FailedAs}
+use Rattle.cluster.proofs.Faulted.{same_of, rose_of}
+use Rattle.cluster.proofs.Seeing.{refusal_is}
+
+module _ {S E D A : Type 0} (types : Types S E D) (old new : Held E D) (May : OnRuns types old) (at : PartId) (ask : Ask E) (Shows : A → Event E → Type 0) (fault : Step) where
+  -- an event with this property that has the line
+  pub record Fails (run : List (Entry E)) (P : Event E → Type 0) (line : Step) : Type 0 where
+    pub event : Event E
+    pub property : P event
+    pub shows : line ≡ step_shown run at event
+    pub reached : Reaches types new ((record { at = at; event = event }) ∷ run)
+    pub same : SameCluster types.state old new
+
+  module _ (run : List (Entry E)) (r : Reaches types old run) (may : May run r) (P : Event E → Type 0)
+      (refused : (why : Refusal) → Reaches types new ((record { at = at; event = Refused ask why }) ∷ run) → P (Refused ask why))
+      (cut : (x : A) (what : Event E) → Shows x what → Reaches types new ((record { at = at; event = Cut what }) ∷ run) → P (Cut what))
+      (faults : (x : A) (what : Event E) → Shows x what → fault ≡ fault_shown at what) where
+    by_refusal : (why : Refusal) (g : GoesOn types old new May at ask (λ e. e ≡ Refused ask why)) (line : Step) → line ≡ refusal_line at (tx_asked ask) (number_asked ask) why → Fails run P line
+    by_refusal why g line is =
+        let x = (g.goes run r may).0 in
+        let reached : Reaches types new ((record { at = at; event = Refused ask why }) ∷ run) = subst (λ e. Reaches types new ((record { at = at; event = e }) ∷ run)) x.shows x.reached in
+        record { event = Refused ask why; property = refused why reached; shows = is ∙ sym (refusal_is run at ask why); reached = reached; same = same_of types.state old new at g.moves }
+
+    pub failed_by : (error : DurableError) (line : Step) → CallsIf types old new May at ask Shows (Err error) → FailedAs {X = Unit {0}} at (tx_asked ask) (number_asked ask) fault error (Ok line) → Fails run P line
+    failed_by call.NoMemory line g f = absurd f
+    failed_by call.Down line g f = by_refusal IsDown g.1 line f
+    failed_by call.Disk line g f =
+        let x = (g.0.goes run r may).0 in
+        let k : x.event ≡ Cut x.shows.0 = x.shows.2 in
+        let reached : Reaches types new ((record { at = at; event = Cut x.shows.0 }) ∷ run) = subst (λ e. Reaches types new ((record { at = at; event = e }) ∷ run)) k x.reached in
+        record { event = Cut x.shows.0; property = cut x.shows.1.0 x.shows.0 x.shows.1.1 reached; shows = f ∙ faults x.shows.1.0 x.shows.0 x.shows.1.1; reached = reached; same = same_of types.state old new at g.0.moves }
+    failed_by (call.Full room) line g f = by_refusal (HasNoRoom room) g.1 line f
+    failed_by (call.Refused why) line g f = by_refusal (cause why) g line f

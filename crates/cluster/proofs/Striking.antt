@@ -1,0 +1,127 @@
+-- Crashes, restarts and fuses of partitions, as commands.
+use Rattle.std.proofs.Common.{◌≡◌, ℕ, true, false, List, [], ◌∷◌, refl, sym, ap, ◌∙◌, subst, None, Some}
+use Rattle.std.specs.Prelude.{not}
+use Rattle.site_vector.specs.declared.ids.PartId.{PartId}
+use Rattle.world_model.specs.declared.command.Command.{Command}
+use Rattle.world_model.specs.declared.command.Command.TheVariants as command
+use Rattle.world_model.specs.declared.step.Step.{Step}
+use Rattle.world_model.specs.declared.step.Step.TheVariants as step
+use Rattle.world_model.specs.Answers.{answered}
+use Rattle.world_model.specs.Event as event
+use Rattle.world_model.specs.Event.{Event, Entry, Crashed, RestartCut}
+use Rattle.world_model.specs.Lines.{Crash, Restart}
+use Rattle.world_model.specs.Meeting.{met}
+use Rattle.world_model.specs.Run.{Run}
+use Rattle.world_model.specs.ScriptAnswers.{AnswersBy, IsAnswer}
+use Rattle.disk_core.specs.States.{Rose}
+use Rattle.partition_core.specs.Durable.{disk_in}
+use Rattle.partition_core.specs.declared.restart.Restarted.{Restarted}
+use Rattle.txn_session.specs.Calls.{called, entries}
+use Rattle.site_partitions.specs.Faults.{CrashesAt, StaysDownAt, ComesUpAt, Keeps}
+use Rattle.site_partitions.specs.Held.{Held, holds_part}
+use Rattle.site_partitions.specs.Moves.{Moves}
+use Rattle.site_partitions.specs.Reaches.{Types}
+use Rattle.cluster.specs.Built.{is_built}
+use Rattle.cluster.specs.Faults.{ShowFaults}
+use Rattle.cluster.specs.Live.{LiveState}
+use Rattle.cluster.specs.Reached.{ReachedLive, GoesTo, AppliesLive}
+use Rattle.cluster.specs.Same.{SameCluster, same_trans}
+use Rattle.cluster.specs.Sees.{Sees}
+use Rattle.cluster.proofs.Clocks.{part_in}
+use Rattle.cluster.proofs.Faulted.{same_of, rose_of, show_last}
+use Rattle.cluster.proofs.Keeping.{grows_none, keeps_line}
+use Rattle.cluster.proofs.Meets.{all_met, first_at, none_due, refused}
+use Rattle.cluster.proofs.Standing.{quiet_still}
+use Rattle.cluster.proofs.Turned.{turned_alone}
+use Rattle.cluster.proofs.Turning.{asked_lines}
+
+module _ {S E D : Type 0} (types : Types S E D) (c : LiveState E D) (p : PartId) where
+  abbrev after : Held E D → LiveState E D
+  after later = record { sites = later; sessions = c.sessions }
+
+  -- the same sessions over a cluster that reaches all that it had reached
+  kept_live : (later : Held E D) → SameCluster types.state c.sites later → Keeps types c.sites later p → (run : Run) → ReachedLive types c run → ReachedLive types (after later) run
+  kept_live later same keeps run r = record {
+    has = r.has;
+    sites = same.sites_are ∙ r.sites;
+    parts = same.parts_are ∙ r.parts;
+    calls = r.calls;
+    sees = record { reached = keeps (entries r.calls) r.sees.reached; one_caller = r.sees.one_caller };
+    shown = r.shown;
+    own = r.own;
+    each = r.each;
+    count = r.count;
+  }
+
+  pub crash_nowhere : (steps : List Step) → steps ≡ step.NoPart ∷ [] → holds_part c.sites p ≡ false → AppliesLive types c (command.Crash p) steps c
+  crash_nowhere steps is lacks = refused types c (command.Crash p) step.NoPart steps is refl
+      (λ run r. first_at (all_met run (command.Crash p)) 2 (refl, (ap not r.has, ap not (sym (part_in types c run r p) ∙ lacks))))
+      (λ run r who. refl)
+
+  pub restart_nowhere : (steps : List Step) → steps ≡ step.NoPart ∷ [] → holds_part c.sites p ≡ false → AppliesLive types c (command.Restart p) steps c
+  restart_nowhere steps is lacks = refused types c (command.Restart p) step.NoPart steps is refl
+      (λ run r. first_at (all_met run (command.Restart p)) 2 (refl, (ap not r.has, ap not (sym (part_in types c run r p) ∙ lacks))))
+      (λ run r who. refl)
+
+  pub fuse_nowhere : (k n : ℕ) (steps : List Step) → steps ≡ step.NoPart ∷ [] → holds_part c.sites p ≡ false → AppliesLive types c (command.Fuse p k n) steps c
+  fuse_nowhere k n steps is lacks = refused types c (command.Fuse p k n) step.NoPart steps is refl
+      (λ run r. first_at (all_met run (command.Fuse p k n)) 2 (refl, (ap not r.has, ap not (sym (part_in types c run r p) ∙ lacks))))
+      (λ run r who. refl)
+
+  pub crash_applies : (later : Held E D) (steps : List Step) → steps ≡ step.Crashed p ∷ [] → holds_part c.sites p ≡ true → CrashesAt types c.sites later p → AppliesLive types c (command.Crash p) steps (after later)
+  crash_applies later steps is there k number run r =
+      let seen : Sees types later (called 0 p Crashed ∷ r.calls) = record { reached = k.goes (entries r.calls) r.sees.reached; one_caller = (refl, r.sees.one_caller) } in
+      subst (λ l. IsAnswer is_built run (command.Crash p) l × GoesTo types c run r (after later) (answered number (Some (command.Crash p)) l run) × ShowFaults types.state run c.sites later l) (sym is) (
+        subst (AnswersBy run (command.Crash p) (step.Crashed p ∷ [])) (sym (none_due (all_met run (command.Crash p)) (refl, (ap not r.has, (ap not (sym (part_in types c run r p) ∙ there), tt))))) refl,
+        turned_alone types c run r number (command.Crash p) 0 p Crashed later (same_of types.state c.sites later p k.moves) seen refl (asked_lines number (command.Crash p) run (step.Crashed p) (step.Crashed p) p Crash refl refl refl refl) (λ who s. refl) (λ who. tt) tt,
+        (tt, tt),
+      )
+
+  -- a fuse is no event
+  pub fuse_applies : (k n : ℕ) (later : Held E D) (steps : List Step) → steps ≡ step.Fused p k n ∷ [] → holds_part c.sites p ≡ true → Moves types.state c.sites later p → Keeps types c.sites later p → AppliesLive types c (command.Fuse p k n) steps (after later)
+  fuse_applies k n later steps is there moves keeps number run r =
+      let same = same_of types.state c.sites later p moves in
+      subst (λ l. IsAnswer is_built run (command.Fuse p k n) l × GoesTo types c run r (after later) (answered number (Some (command.Fuse p k n)) l run) × ShowFaults types.state run c.sites later l) (sym is) (
+        subst (AnswersBy run (command.Fuse p k n) (step.Fused p k n ∷ [])) (sym (none_due (all_met run (command.Fuse p k n)) (refl, (ap not r.has, (ap not (sym (part_in types c run r p) ∙ there), tt))))) refl,
+        record {
+          same = same;
+          reached = quiet_still types (after later) number (Some (command.Fuse p k n)) (step.Fused p k n) run (record { called = refl; cluster = refl; sites = λ i. refl; parts = λ i. refl; site = λ who old. refl; count = λ i. refl; phase = λ who. refl }) (kept_live later same keeps run r);
+          grows = grows_none r.calls;
+          keeps = keeps_line number (Some (command.Fuse p k n)) (step.Fused p k n) run refl;
+        },
+        (tt, tt),
+      )
+
+  restarts : (run : Run) → ReachedLive types c run → holds_part c.sites p ≡ true → met is_built run (command.Restart p) ≡ None
+  restarts run r there = none_due (all_met run (command.Restart p)) (refl, (ap not r.has, (ap not (sym (part_in types c run r p) ∙ there), tt)))
+
+  pub came_up : (later : Held E D) (x : Restarted) (steps : List Step) → steps ≡ step.Restarted p x.now x.bounds x.decided x.pending ∷ [] → holds_part c.sites p ≡ true → ComesUpAt types c.sites later p x → AppliesLive types c (command.Restart p) steps (after later)
+  came_up later x steps is there k number run r =
+      let e : Event E = event.Restarted x.now x.bounds x.decided x.pending in
+      let s : Step = step.Restarted p x.now x.bounds x.decided x.pending in
+      let seen : Sees types later (called 0 p (event.Restarted x.now x.bounds x.decided x.pending) ∷ r.calls) = record { reached = k.goes (entries r.calls) r.sees.reached; one_caller = (refl, r.sees.one_caller) } in
+      subst (λ l. IsAnswer is_built run (command.Restart p) l × GoesTo types c run r (after later) (answered number (Some (command.Restart p)) l run) × ShowFaults types.state run c.sites later l) (sym is) (
+        subst (AnswersBy run (command.Restart p) (s ∷ [])) (sym (restarts run r there)) (s, refl, refl, tt),
+        turned_alone types c run r number (command.Restart p) 0 p e later (same_of types.state c.sites later p k.moves) seen refl (asked_lines number (command.Restart p) run s s p Restart refl refl refl refl) (λ who y. refl) (λ who. tt) tt,
+        (tt, tt),
+      )
+
+  -- the disk failed in a restart
+  pub stayed_down : (later : Held E D) (steps : List Step) → steps ≡ step.Disk p ∷ [] → holds_part c.sites p ≡ true → (k : StaysDownAt types c.sites later p) → Rose (disk_in types.state k.moves.before).faults (disk_in types.state k.moves.after).faults → AppliesLive types c (command.Restart p) steps (after later)
+  stayed_down later steps is there k rose number run r =
+      let seen : Sees types later (called 0 p RestartCut ∷ r.calls) = record { reached = k.goes (entries r.calls) r.sees.reached; one_caller = (refl, r.sees.one_caller) } in
+      subst (λ l. IsAnswer is_built run (command.Restart p) l × GoesTo types c run r (after later) (answered number (Some (command.Restart p)) l run) × ShowFaults types.state run c.sites later l) (sym is) (
+        subst (AnswersBy run (command.Restart p) (step.Disk p ∷ [])) (sym (restarts run r there)) (step.Disk p, refl, refl, tt),
+        turned_alone types c run r number (command.Restart p) 0 p RestartCut later (same_of types.state c.sites later p k.moves) seen refl (asked_lines number (command.Restart p) run (step.Disk p) (step.Disk p) p Restart refl refl refl refl) (λ who y. refl) (λ who. tt) tt,
+        (rose_of types.state c.sites later p k.moves rose, tt),
+      )
+
+  -- after a fuse that has fired was taken away
+  pub revived : (mid : Held E D) (cmd : Command) (steps : List Step) (new : LiveState E D) → Moves types.state c.sites mid p → Keeps types c.sites mid p → AppliesLive types (after mid) cmd steps new → AppliesLive types c cmd steps new
+  revived mid cmd steps new moves keeps a number run r =
+      let same = same_of types.state c.sites mid p moves in
+      let x = a number run (kept_live mid same keeps run r) in (
+        x.0,
+        record { same = same_trans types.state c.sites mid new.sites same x.1.same; reached = x.1.reached; grows = x.1.grows; keeps = x.1.keeps },
+        show_last types.state run c.sites mid new.sites steps same x.2,
+      )

@@ -1,0 +1,46 @@
+use Rattle.std.proofs.Common.{◌≡◌, refl, true, Some, None}
+use Rattle.std.specs.Prelude.{ℕ, List, Ok, Err}
+use Rattle.world_model.specs.declared.step.Step.TheVariants as step
+use Rattle.world_model.specs.Event as event
+use Rattle.world_model.specs.Event.{Event}
+use Rattle.site_partitions.specs.Answers.{Any}
+use Rattle.site_partitions.specs.Reaches.{types_of}
+use Rattle.cluster.proofs.Seeing.{calls_here, exact_on, failed_on, failed_stays, failed_tells, called_same, fault_of, number_is, may_here, place_here, began_here}
+use Rattle.cluster.proofs.store.LocalStore.abort.Goals as goal
+
+pub abort_at-requires-clause-began : goal.abort_at-requires-clause-began
+abort_at-requires-clause-began g c = began_here (types_of g.C.Crdt.laws g.C.Crdt.spells g.D.Disk.state) _ _ c.self.view_is c.args.pass (Some c.args.by) c.args.at (event.AskAbort c.args.tx) c.requires.may c.args.tx c.requires.may.allowed.mine.1
+
+pub abort_at-requires-clause-may : goal.abort_at-requires-clause-may
+abort_at-requires-clause-may g c = may_here (types_of g.C.Crdt.laws g.C.Crdt.spells g.D.Disk.state) _ _ c.self.view_is c.args.pass (Some c.args.by) c.args.at (event.AskAbort c.args.tx) c.requires.may
+
+pub returns-in-Ok-clause-ok : goal.returns-in-Ok-clause-ok
+returns-in-Ok-clause-ok g c run s a =
+    let types = types_of g.C.Crdt.laws g.C.Crdt.spells g.D.Disk.state in
+    exact_on types c.args.self.now c.abort_at.new.self Any c.args.at (event.AskAbort c.args.tx) c.args.pass (Some c.args.by) (event.Aborted c.args.tx true) (calls_here types _ c.args.self.now c.abort_at.new.self c.self.view_is Any c.args.at (event.AskAbort c.args.tx) (λ (n : Unit {0}) (e : Event g.row.C-Effect.Denot). e ≡ event.Aborted c.args.tx true) (Ok tt) (c.in-Ok.ensures)) (step.Aborted c.args.at c.args.tx) (λ calls. refl) refl run s a.may tt (number_is run c.args.tx c.args.by s.one_caller a.mine.0)
+
+pub returns-in-Ok-clause-stays : goal.returns-in-Ok-clause-stays
+returns-in-Ok-clause-stays g c =
+    let types = types_of g.C.Crdt.laws g.C.Crdt.spells g.D.Disk.state in
+    called_same types c.args.self.now c.abort_at.new.self Any c.args.at (event.AskAbort c.args.tx) c.args.pass (Some c.args.by) (λ (n : Unit {0}) (e : Event g.row.C-Effect.Denot). e ≡ event.Aborted c.args.tx true) (Ok tt) (calls_here types _ c.args.self.now c.abort_at.new.self c.self.view_is Any c.args.at (event.AskAbort c.args.tx) (λ (n : Unit {0}) (e : Event g.row.C-Effect.Denot). e ≡ event.Aborted c.args.tx true) (Ok tt) (c.in-Ok.ensures))
+
+pub returns-in-Err-clause-ok : goal.returns-in-Err-clause-ok
+returns-in-Err-clause-ok g c =
+    let types = types_of g.C.Crdt.laws g.C.Crdt.spells g.D.Disk.state in
+    failed_on types c.args.self.now c.abort_at.new.self Any c.args.at (event.AskAbort c.args.tx) c.args.pass (Some c.args.by) (λ (n : Unit {0}) (e : Event g.row.C-Effect.Denot). e ≡ event.Aborted c.args.tx true) (step.Disk c.args.at) (λ n what k. fault_of c.args.at (step.Disk c.args.at) (event.Aborted c.args.tx true) refl refl what k) c.in-Err.error c.failed.result (calls_here types _ c.args.self.now c.abort_at.new.self c.self.view_is Any c.args.at (event.AskAbort c.args.tx) (λ (n : Unit {0}) (e : Event g.row.C-Effect.Denot). e ≡ event.Aborted c.args.tx true) (Err c.in-Err.error) (c.in-Err.ensures)) c.failed.ensures _
+    (λ line q run s a. q run s a.may tt (number_is run c.args.tx c.args.by s.one_caller a.mine.0))
+
+pub returns-in-Err-clause-stays : goal.returns-in-Err-clause-stays
+returns-in-Err-clause-stays g c =
+    let types = types_of g.C.Crdt.laws g.C.Crdt.spells g.D.Disk.state in
+    called_same types c.args.self.now c.abort_at.new.self Any c.args.at (event.AskAbort c.args.tx) c.args.pass (Some c.args.by) (λ (n : Unit {0}) (e : Event g.row.C-Effect.Denot). e ≡ event.Aborted c.args.tx true) (Err c.in-Err.error) (calls_here types _ c.args.self.now c.abort_at.new.self c.self.view_is Any c.args.at (event.AskAbort c.args.tx) (λ (n : Unit {0}) (e : Event g.row.C-Effect.Denot). e ≡ event.Aborted c.args.tx true) (Err c.in-Err.error) (c.in-Err.ensures))
+
+pub returns-in-Err-clause-err : goal.returns-in-Err-clause-err
+returns-in-Err-clause-err g c =
+    let types = types_of g.C.Crdt.laws g.C.Crdt.spells g.D.Disk.state in
+    failed_stays types c.args.self.now c.abort_at.new.self Any c.args.at (event.AskAbort c.args.tx) c.args.pass (Some c.args.by) (λ (n : Unit {0}) (e : Event g.row.C-Effect.Denot). e ≡ event.Aborted c.args.tx true) (step.Disk c.args.at) c.in-Err.error c.failed.result (calls_here types _ c.args.self.now c.abort_at.new.self c.self.view_is Any c.args.at (event.AskAbort c.args.tx) (λ (n : Unit {0}) (e : Event g.row.C-Effect.Denot). e ≡ event.Aborted c.args.tx true) (Err c.in-Err.error) (c.in-Err.ensures)) c.failed.ensures
+
+pub returns-in-Err-clause-tells : goal.returns-in-Err-clause-tells
+returns-in-Err-clause-tells g c =
+    let types = types_of g.C.Crdt.laws g.C.Crdt.spells g.D.Disk.state in
+    failed_tells types c.args.self.now c.abort_at.new.self Any c.args.at (event.AskAbort c.args.tx) c.args.pass (Some c.args.by) (λ (n : Unit {0}) (e : Event g.row.C-Effect.Denot). e ≡ event.Aborted c.args.tx true) (step.Disk c.args.at) (λ r. (refl, r)) c.in-Err.error c.failed.result (calls_here types _ c.args.self.now c.abort_at.new.self c.self.view_is Any c.args.at (event.AskAbort c.args.tx) (λ (n : Unit {0}) (e : Event g.row.C-Effect.Denot). e ≡ event.Aborted c.args.tx true) (Err c.in-Err.error) (c.in-Err.ensures)) c.failed.ensures

@@ -1,0 +1,54 @@
+use Rattle.std.proofs.Common.{◌≡◌, ◌+◌, refl, sym, ap, ◌∙◌, subst, true, Some, None}
+use Rattle.std.specs.Prelude.{ℕ, List, Option, Ok, Err}
+use Rattle.site_vector.specs.declared.ids.TxId.{TxId}
+use Rattle.crdt_core.specs.declared.record.Part.{Part}
+use Rattle.crdt_core.specs.declared.record.Message.{Message}
+use Rattle.world_model.specs.declared.step.Step.TheVariants as step
+use Rattle.world_model.specs.Event as event
+use Rattle.world_model.specs.Event.{Event, Entry}
+use Rattle.world_model.specs.Asking.{is_own_word}
+use Rattle.world_model.specs.Lines.{fault_shown}
+use Rattle.world_model.specs.Plan.{update_count}
+use Rattle.site_partitions.specs.Answers.{Any}
+use Rattle.site_partitions.specs.Reaches.{types_of}
+use Rattle.cluster.proofs.Seeing.{calls_here, exact_on, called_same, failed_line, line_tells, error_stays, changes_on, unchanged_on, fault_of, number_is, may_here, place_here}
+use Rattle.cluster.proofs.store.LocalStore.update.Goals as goal
+
+pub update_at-requires-clause-may : goal.update_at-requires-clause-may
+update_at-requires-clause-may g c = may_here (types_of g.C.Crdt.laws g.C.Crdt.spells g.D.Disk.state) _ _ c.self.view_is c.args.pass (Some c.args.by) c.args.at (event.AskUpdate c.args.tx c.args.s.now c.args.object.now c.args.own.now c.args.op.now) c.requires.may
+
+pub returns-in-Ok-update_at-clause-stays : goal.returns-in-Ok-update_at-clause-stays
+returns-in-Ok-update_at-clause-stays g c =
+    let types = types_of g.C.Crdt.laws g.C.Crdt.spells g.D.Disk.state in
+    called_same types c.args.self.now c.update_at.new.self (λ (run : List (Entry g.row.C-Effect.Denot)). c.args.index ≡ update_count run c.args.tx + 1) c.args.at (event.AskUpdate c.args.tx c.args.s.now c.args.object.now c.args.own.now c.args.op.now) c.args.pass None (λ (x : g.row.C-Effect.Denot × Option ℕ) (e : Event g.row.C-Effect.Denot). (read : List (Part g.row.C-Effect.Denot)) × (e ≡ event.Updated c.args.tx c.args.s.now c.args.object.now c.args.own.now c.args.op.now read (record { object = c.args.object.now; index = c.args.index; effect = x.0 }) x.1)) (Ok c.in-Ok-update_at.made) (calls_here types _ c.args.self.now c.update_at.new.self c.self.view_is (λ (run : List (Entry g.row.C-Effect.Denot)). c.args.index ≡ update_count run c.args.tx + 1) c.args.at (event.AskUpdate c.args.tx c.args.s.now c.args.object.now c.args.own.now c.args.op.now) (λ (x : g.row.C-Effect.Denot × Option ℕ) (e : Event g.row.C-Effect.Denot). (read : List (Part g.row.C-Effect.Denot)) × (e ≡ event.Updated c.args.tx c.args.s.now c.args.object.now c.args.own.now c.args.op.now read (record { object = c.args.object.now; index = c.args.index; effect = x.0 }) x.1)) (Ok c.in-Ok-update_at.made) c.in-Ok-update_at.ensures)
+
+pub returns-in-Ok-update_at-clause-ok : goal.returns-in-Ok-update_at-clause-ok
+returns-in-Ok-update_at-clause-ok g c run s a who index =
+    let types = types_of g.C.Crdt.laws g.C.Crdt.spells g.D.Disk.state in
+    changes_on types c.args.self.now c.update_at.new.self (λ (run : List (Entry g.row.C-Effect.Denot)). c.args.index ≡ update_count run c.args.tx + 1) c.args.at c.args.tx c.args.s.now c.args.object.now c.args.own.now c.args.op.now c.args.pass c.args.by _ c.in-Ok-update_at.made.1 (calls_here types _ c.args.self.now c.update_at.new.self c.self.view_is (λ (run : List (Entry g.row.C-Effect.Denot)). c.args.index ≡ update_count run c.args.tx + 1) c.args.at (event.AskUpdate c.args.tx c.args.s.now c.args.object.now c.args.own.now c.args.op.now) (λ (x : g.row.C-Effect.Denot × Option ℕ) (e : Event g.row.C-Effect.Denot). (read : List (Part g.row.C-Effect.Denot)) × (e ≡ event.Updated c.args.tx c.args.s.now c.args.object.now c.args.own.now c.args.op.now read (record { object = c.args.object.now; index = c.args.index; effect = x.0 }) x.1)) (Ok c.in-Ok-update_at.made) c.in-Ok-update_at.ensures) _ run s a.may index (number_is run c.args.tx c.args.by s.one_caller a.mine)
+    (λ i. step.Updated ((c.in-Ok.ensures ∙ who) i) (c.in-Ok-copy.ensures i) c.in-Ok-update_at.made.1)
+
+pub returns-in-Ok-failed-clause-stays : goal.returns-in-Ok-failed-clause-stays
+returns-in-Ok-failed-clause-stays g c =
+    let types = types_of g.C.Crdt.laws g.C.Crdt.spells g.D.Disk.state in
+    called_same types c.args.self.now c.update_at.new.self (λ (run : List (Entry g.row.C-Effect.Denot)). c.args.index ≡ update_count run c.args.tx + 1) c.args.at (event.AskUpdate c.args.tx c.args.s.now c.args.object.now c.args.own.now c.args.op.now) c.args.pass None (λ (x : g.row.C-Effect.Denot × Option ℕ) (e : Event g.row.C-Effect.Denot). (read : List (Part g.row.C-Effect.Denot)) × (e ≡ event.Updated c.args.tx c.args.s.now c.args.object.now c.args.own.now c.args.op.now read (record { object = c.args.object.now; index = c.args.index; effect = x.0 }) x.1)) (Err c.in-Err-update_at.error) (calls_here types _ c.args.self.now c.update_at.new.self c.self.view_is (λ (run : List (Entry g.row.C-Effect.Denot)). c.args.index ≡ update_count run c.args.tx + 1) c.args.at (event.AskUpdate c.args.tx c.args.s.now c.args.object.now c.args.own.now c.args.op.now) (λ (x : g.row.C-Effect.Denot × Option ℕ) (e : Event g.row.C-Effect.Denot). (read : List (Part g.row.C-Effect.Denot)) × (e ≡ event.Updated c.args.tx c.args.s.now c.args.object.now c.args.own.now c.args.op.now read (record { object = c.args.object.now; index = c.args.index; effect = x.0 }) x.1)) (Err c.in-Err-update_at.error) c.in-Err-update_at.ensures)
+
+pub returns-in-Ok-failed-clause-ok : goal.returns-in-Ok-failed-clause-ok
+returns-in-Ok-failed-clause-ok g c run s a who index =
+    let types = types_of g.C.Crdt.laws g.C.Crdt.spells g.D.Disk.state in
+    unchanged_on types c.args.self.now c.update_at.new.self (λ (run : List (Entry g.row.C-Effect.Denot)). c.args.index ≡ update_count run c.args.tx + 1) c.args.at c.args.tx c.args.s.now c.args.object.now c.args.own.now c.args.op.now c.args.pass c.args.by (Unit {0}) (λ (x : g.row.C-Effect.Denot × Option ℕ) (e : Event g.row.C-Effect.Denot). (read : List (Part g.row.C-Effect.Denot)) × (e ≡ event.Updated c.args.tx c.args.s.now c.args.object.now c.args.own.now c.args.op.now read (record { object = c.args.object.now; index = c.args.index; effect = x.0 }) x.1)) c.in-Err-update_at.error _ (calls_here types _ c.args.self.now c.update_at.new.self c.self.view_is (λ (run : List (Entry g.row.C-Effect.Denot)). c.args.index ≡ update_count run c.args.tx + 1) c.args.at (event.AskUpdate c.args.tx c.args.s.now c.args.object.now c.args.own.now c.args.op.now) (λ (x : g.row.C-Effect.Denot × Option ℕ) (e : Event g.row.C-Effect.Denot). (read : List (Part g.row.C-Effect.Denot)) × (e ≡ event.Updated c.args.tx c.args.s.now c.args.object.now c.args.own.now c.args.op.now read (record { object = c.args.object.now; index = c.args.index; effect = x.0 }) x.1)) (Err c.in-Err-update_at.error) c.in-Err-update_at.ensures) c.in-Ok-failed.ensures (λ x what k. subst (λ e. (fault_shown c.args.at e ≡ step.Disk c.args.at) × (is_own_word e ≡ true)) (sym k.1) (refl, refl)) run s a.may index (number_is run c.args.tx c.args.by s.one_caller a.mine)
+
+pub returns-in-Ok-failed-clause-tells : goal.returns-in-Ok-failed-clause-tells
+returns-in-Ok-failed-clause-tells g c =
+    let types = types_of g.C.Crdt.laws g.C.Crdt.spells g.D.Disk.state in
+    line_tells types c.args.self.now c.update_at.new.self (λ (run : List (Entry g.row.C-Effect.Denot)). c.args.index ≡ update_count run c.args.tx + 1) c.args.at (event.AskUpdate c.args.tx c.args.s.now c.args.object.now c.args.own.now c.args.op.now) c.args.pass None (Unit {0}) (λ (x : g.row.C-Effect.Denot × Option ℕ) (e : Event g.row.C-Effect.Denot). (read : List (Part g.row.C-Effect.Denot)) × (e ≡ event.Updated c.args.tx c.args.s.now c.args.object.now c.args.own.now c.args.op.now read (record { object = c.args.object.now; index = c.args.index; effect = x.0 }) x.1)) (step.Disk c.args.at) (λ r. (refl, r)) c.in-Err-update_at.error _ (calls_here types _ c.args.self.now c.update_at.new.self c.self.view_is (λ (run : List (Entry g.row.C-Effect.Denot)). c.args.index ≡ update_count run c.args.tx + 1) c.args.at (event.AskUpdate c.args.tx c.args.s.now c.args.object.now c.args.own.now c.args.op.now) (λ (x : g.row.C-Effect.Denot × Option ℕ) (e : Event g.row.C-Effect.Denot). (read : List (Part g.row.C-Effect.Denot)) × (e ≡ event.Updated c.args.tx c.args.s.now c.args.object.now c.args.own.now c.args.op.now read (record { object = c.args.object.now; index = c.args.index; effect = x.0 }) x.1)) (Err c.in-Err-update_at.error) c.in-Err-update_at.ensures) c.in-Ok-failed.ensures
+
+pub returns-in-Err-failed-clause-stays : goal.returns-in-Err-failed-clause-stays
+returns-in-Err-failed-clause-stays g c =
+    let types = types_of g.C.Crdt.laws g.C.Crdt.spells g.D.Disk.state in
+    called_same types c.args.self.now c.update_at.new.self (λ (run : List (Entry g.row.C-Effect.Denot)). c.args.index ≡ update_count run c.args.tx + 1) c.args.at (event.AskUpdate c.args.tx c.args.s.now c.args.object.now c.args.own.now c.args.op.now) c.args.pass None (λ (x : g.row.C-Effect.Denot × Option ℕ) (e : Event g.row.C-Effect.Denot). (read : List (Part g.row.C-Effect.Denot)) × (e ≡ event.Updated c.args.tx c.args.s.now c.args.object.now c.args.own.now c.args.op.now read (record { object = c.args.object.now; index = c.args.index; effect = x.0 }) x.1)) (Err c.in-Err-update_at.error) (calls_here types _ c.args.self.now c.update_at.new.self c.self.view_is (λ (run : List (Entry g.row.C-Effect.Denot)). c.args.index ≡ update_count run c.args.tx + 1) c.args.at (event.AskUpdate c.args.tx c.args.s.now c.args.object.now c.args.own.now c.args.op.now) (λ (x : g.row.C-Effect.Denot × Option ℕ) (e : Event g.row.C-Effect.Denot). (read : List (Part g.row.C-Effect.Denot)) × (e ≡ event.Updated c.args.tx c.args.s.now c.args.object.now c.args.own.now c.args.op.now read (record { object = c.args.object.now; index = c.args.index; effect = x.0 }) x.1)) (Err c.in-Err-update_at.error) c.in-Err-update_at.ensures)
+
+pub returns-in-Err-failed-clause-err : goal.returns-in-Err-failed-clause-err
+returns-in-Err-failed-clause-err g c =
+    let types = types_of g.C.Crdt.laws g.C.Crdt.spells g.D.Disk.state in
+    error_stays types c.args.self.now c.update_at.new.self (λ (run : List (Entry g.row.C-Effect.Denot)). c.args.index ≡ update_count run c.args.tx + 1) c.args.at (event.AskUpdate c.args.tx c.args.s.now c.args.object.now c.args.own.now c.args.op.now) c.args.pass None _ (λ (x : g.row.C-Effect.Denot × Option ℕ) (e : Event g.row.C-Effect.Denot). (read : List (Part g.row.C-Effect.Denot)) × (e ≡ event.Updated c.args.tx c.args.s.now c.args.object.now c.args.own.now c.args.op.now read (record { object = c.args.object.now; index = c.args.index; effect = x.0 }) x.1)) (step.Disk c.args.at) c.in-Err-update_at.error _ (calls_here types _ c.args.self.now c.update_at.new.self c.self.view_is (λ (run : List (Entry g.row.C-Effect.Denot)). c.args.index ≡ update_count run c.args.tx + 1) c.args.at (event.AskUpdate c.args.tx c.args.s.now c.args.object.now c.args.own.now c.args.op.now) (λ (x : g.row.C-Effect.Denot × Option ℕ) (e : Event g.row.C-Effect.Denot). (read : List (Part g.row.C-Effect.Denot)) × (e ≡ event.Updated c.args.tx c.args.s.now c.args.object.now c.args.own.now c.args.op.now read (record { object = c.args.object.now; index = c.args.index; effect = x.0 }) x.1)) (Err c.in-Err-update_at.error) c.in-Err-update_at.ensures) c.in-Err-failed.ensures
