@@ -1,5 +1,5 @@
 -- A message that is delivered and a report that is heard: calls of partitions that the script numbers anew.
-use Rattle.std.proofs.Common.{◌≡◌, ℕ, true, false, List, [], ◌∷◌, refl, sym, ap, ◌∙◌, subst, true≢false, Option, None, Some}
+use Rattle.std.proofs.Common.{Bool, ◌≡◌, ℕ, true, false, List, [], ◌∷◌, refl, sym, ap, ◌∙◌, subst, true≢false, Option, None, Some}
 use Rattle.std.specs.Prelude.{not, ◌&&◌, ◌==◌, is_none, is_some, nat_le, Ok, Err}
 use Rattle.std.proofs.lemmas.Bool.{eqb-true, and_parts, leb-true}
 use Rattle.site_vector.specs.declared.ids.PartId.{PartId}
@@ -200,7 +200,7 @@ module _ {S E D : Type 0} (types : Types S E D) (w : WholeState E D) where
   struck held cmd asking at ask Shows error s steps is failing f g line run r may unmet placed past calls silent faults =
       let x = failed_by types w.live.sites held (Asks types w.live.sites Any at ask) at ask Shows (step.Disk at) (entries r.live.calls) r.live.sees.reached (may, tt) (IsStruck (entries r.live.calls) ask) (λ why reached. record { call = refl; silent = λ who. tt; unsent = refl; unreported = refl }) (λ a what k reached. record { call = calls a what k; silent = silent a what k; unsent = refl; unreported = refl }) faults error s g f in
       let seen : Sees types held (called 0 at x.event ∷ r.live.calls) = record { reached = x.reached; one_caller = (refl, r.live.sees.one_caller) } in
-      let tells = line_tells types w.live.sites held Any at ask tt None (Unit {0}) Shows (step.Disk at) (λ rose. (refl, rose)) error s g f in
+      let tells = line_tells types {P = Unit {0}} w.live.sites held Any at ask tt None (Unit {0}) Shows (step.Disk at) (λ rose. (refl, rose)) error s g f in
       subst (λ l. IsAnswer is_built run cmd l × Reached types (Some (after held)) (answered line (Some cmd) l run) × FaultsShown types (Some w) run l (Some (after held))) (sym is) (
         subst (AnswersBy run cmd (s ∷ [])) (sym unmet) (failing_replies run cmd asking s failing),
         called_on cmd held at x.event s line run r x.same seen (failing_posted cmd asking s failing) (failing_numbered run s failing ∙ x.shows) (placed ∙ ap (λ k. record { at = at; call = k }) (sym x.property.call)) x.property.silent (subst (IsOwnPast (sites_of run) (calls_of run)) (sym x.property.call) past) (failing_plain s failing) x.property.unsent x.property.unreported,
@@ -305,7 +305,7 @@ module _ {S E D : Type 0} (types : Types S E D) (w : WholeState E D) where
         let l = noted run r in
         struck held (command.Hear number at) refl at (AskHear l.own n.from.part n.bounds) (λ (stable : List ℕ) e. e ≡ Heard l.own n.from.part n.bounds stable) error s steps is failing f (g l.own) line run r (may_listen run r)
             (none_due (all_met run (command.Hear number at)) (refl, (ap not r.live.has, (ap not (sym (part_in types w.live run r.live at) ∙ has), (ap is_none l.notice, (ap (λ o. is_foreign o at) l.notice ∙ ap not same, tt))))))
-            (ap (for_report at) l.notice) tt (λ stable what k. subst (λ e. call_of (Cut e) ≡ call_asked (AskHear l.own n.from.part n.bounds)) (sym k) refl) (λ stable what k. subst (λ e. (who : List ℕ) → IsSilentFor (entries r.live.calls) who (Cut e)) (sym k) (λ who. tt)) (λ stable what k. subst (λ e. step.Disk at ≡ fault_shown at e) (sym k) refl)
+            (ap (for_report at) l.notice) tt (λ stable what k. subst (λ e. call_of (Cut e) ≡ call_asked {E = E} (AskHear l.own n.from.part n.bounds)) (sym k) refl) (λ stable what k. subst (λ e. (who : List ℕ) → IsSilentFor (entries r.live.calls) who (Cut e)) (sym k) (λ who. tt)) (λ stable what k. subst (λ e. step.Disk at ≡ fault_shown at e) (sym k) refl)
 
   module _ (number : ℕ) where
     pub deliver_absent : (steps : List Step) → steps ≡ step.NoMessage ∷ [] → is_some (kept_at w.post.letters number) ≡ false → Applies types (Some w) (command.Deliver number) steps (Some w)

@@ -1,4 +1,6 @@
 pub mod Faulted
+pub mod Worlds
+pub mod Ups
 pub mod Seeing
 pub mod Keeping
 pub mod Mere
@@ -12,6 +14,7 @@ pub mod Meets
 pub mod Commands
 pub mod Failing
 pub mod Clocks
+pub mod Feeding
 pub mod Striking
 pub mod Beginning
 pub mod Updating
@@ -27,8 +30,8 @@ pub mod Dropping
 pub mod Delivering
 pub mod Sending
 pub mod Downed
-pub mod Waits
 pub mod Telling
 pub mod Aborting
 pub mod Expiring
+pub mod Queueing
 pub mod Settling

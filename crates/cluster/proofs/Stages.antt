@@ -26,7 +26,7 @@ use Rattle.cluster.specs.Ends.{command_of, turned_to, can_go}
 use Rattle.cluster.proofs.Sessions.{own_name}
 
 -- how many steps there may be at most
-abbrev pub same : Going → ℕ
+abbrev pub size : Going → ℕ
 size (Preparing voted left n) = suc (length voted + (length left + length left))
 size (Finishing left n) = length left
 size (Aborting left) = length left

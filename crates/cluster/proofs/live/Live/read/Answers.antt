@@ -15,4 +15,4 @@ returns-then-not-is_open g c = map_ok c.only-then-not-is_open.result (λ steps i
 pub returns-in-Ok : goal.returns-in-Ok
 returns-in-Ok g c = map_ok c.only-in-Ok.result (λ steps is. read_applies (types_of g.C.Crdt.laws g.C.Crdt.spells g.D.Disk.state) c.args.self.now c.args.name c.args.object c.read_in.new.sites c.read_in.new.sessions.entries c.in-Ok.step steps.items is
     (open_about _ c.in-Some.phase (sym c.phase.ensures ∙ c.in-Some.is) (sym c.is_open.ensures ∙ c.if-not-is_open.false))
-    (subst (λ (x : LiveState g.row.C-Effect.Denot _). Acts (types_of g.C.Crdt.laws g.C.Crdt.spells g.D.Disk.state) x.sites x.sessions c.args.name c.read_in.new.sites c.read_in.new.sessions.entries (Reads (types_of g.C.Crdt.laws g.C.Crdt.spells g.D.Disk.state) c.read_in.new.sites c.args.object c.in-Ok.step)) c.self.view_is c.in-Ok.ensures)) c.only-in-Ok.ensures
+    (subst (λ (x : LiveState g.row.C-Effect.Denot _). Acts (types_of g.C.Crdt.laws g.C.Crdt.spells g.D.Disk.state) x.sites x.sessions c.args.name c.read_in.new.sites c.read_in.new.sessions.entries (Reads (types_of g.C.Crdt.laws g.C.Crdt.spells g.D.Disk.state) x.sites c.read_in.new.sites c.args.object c.in-Ok.step)) c.self.view_is c.in-Ok.ensures)) c.only-in-Ok.ensures

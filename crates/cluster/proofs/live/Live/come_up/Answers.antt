@@ -1,0 +1,23 @@
+use Rattle.std.proofs.Common.{◌≡◌, ◌∙◌, true, false, [], ◌∷◌, sym, ap, subst}
+use Rattle.site_partitions.specs.Held.{holds_part}
+use Rattle.site_partitions.specs.Reaches.{types_of}
+use Rattle.world_model.specs.declared.command.Command.TheVariants as command
+use Rattle.cluster.specs.Live.{LiveState}
+use Rattle.cluster.specs.Reached.{AppliesLive, IsReachedLive}
+use Rattle.cluster.proofs.Applying.{map_ok}
+use Rattle.cluster.proofs.Striking.{came_up, stayed_down, never_damaged, never_unfit, holds_place}
+use Rattle.cluster.proofs.live.Live.come_up.Goals as goal
+
+pub returns-in-Ok : goal.returns-in-Ok
+returns-in-Ok g c =
+    let types = types_of g.C.Crdt.laws g.C.Crdt.spells g.D.Disk.state in
+    let v : LiveState g.row.C-Effect.Denot _ = record { sites = c.self-inside.inside.0.1.0.all; sessions = c.self-inside.inside.0.1.1.0.entries } in
+    map_ok c.only.result (λ steps is. subst (λ (x : LiveState g.row.C-Effect.Denot _). AppliesLive types x (command.Restart c.args.part) steps.items (record { sites = c.restart_at.new.self; sessions = c.self-inside.inside.0.1.1.0.entries })) ((λ i. record { sites = (c.self-inside.view_is i).sites; sessions = (c.self-inside.view_is i).sessions.entries }) ∙ c.self.view_is)
+    (came_up types v c.args.part c.restart_at.new.self c.in-Ok.restarted steps.items (is ∙ ap (λ l. l ∷ []) c.came_up.ensures) (holds_place v c.args.self.now ((λ i. record { sites = (c.self-inside.view_is i).sites; sessions = (c.self-inside.view_is i).sessions.entries }) ∙ c.self.view_is) c.args.part c.requires.place) c.in-Ok.ensures)) c.only.ensures
+
+pub returns-in-Disk : goal.returns-in-Disk
+returns-in-Disk g c =
+    let types = types_of g.C.Crdt.laws g.C.Crdt.spells g.D.Disk.state in
+    let v : LiveState g.row.C-Effect.Denot _ = record { sites = c.self-inside.inside.0.1.0.all; sessions = c.self-inside.inside.0.1.1.0.entries } in
+    map_ok c.only-in-Disk.result (λ steps is. subst (λ (x : LiveState g.row.C-Effect.Denot _). AppliesLive types x (command.Restart c.args.part) steps.items (record { sites = c.restart_at.new.self; sessions = c.self-inside.inside.0.1.1.0.entries })) ((λ i. record { sites = (c.self-inside.view_is i).sites; sessions = (c.self-inside.view_is i).sessions.entries }) ∙ c.self.view_is)
+    (stayed_down types v c.args.part c.restart_at.new.self steps.items is (holds_place v c.args.self.now ((λ i. record { sites = (c.self-inside.view_is i).sites; sessions = (c.self-inside.view_is i).sessions.entries }) ∙ c.self.view_is) c.args.part c.requires.place) c.in-Disk.ensures.0 c.in-Disk.ensures.1)) c.only-in-Disk.ensures
