@@ -13,7 +13,7 @@ use Rattle.world_model.specs.Run.{Run}
 use Rattle.site_partitions.specs.Reaches.{Types, Reaches}
 use Rattle.world_model.specs.ScriptAnswers.{AnswersBy, IsAnswer}
 use Rattle.cluster.specs.Built.{is_built, is_making}
-use Rattle.cluster.proofs.Mere.{before_still}
+use Rattle.cluster.proofs.Mere.{at_first, before_still}
 use Rattle.cluster.proofs.Meets.{all_met, first_at, none_due, refused}
 use Rattle.world_model.specs.declared.step.Step.{Step}
 use Rattle.world_model.specs.Answers.{answered}
@@ -21,7 +21,7 @@ use Rattle.cluster.specs.Post.{WholeState, new_post, HasPost}
 use Rattle.cluster.proofs.Keeping.{post_on}
 use Rattle.txn_session.specs.Calls.{entries}
 use Rattle.cluster.specs.Live.{LiveState, session_in}
-use Rattle.cluster.specs.Reached.{IsBefore, StandsAs, Applies, AppliesLive, FaultsShown, IsReached, Reached}
+use Rattle.cluster.specs.Reached.{IsBefore, StandsAs, Applies, AppliesLive, FaultsShown, IsReached, IsReachedLive, Reached}
 
 pub map_ok : {A X : Type 0} {P Q : A → Type 0} (r : Result A X) → ((x : A) → P x → Q x) → IfOk r P → IfOk r Q
 map_ok (Ok x) f p = f x p
@@ -37,6 +37,13 @@ not_making other h = refl
 module _ {S E D : Type 0} (types : Types S E D) where
   pub reached_on : (old new : Option (WholeState E D)) (c : Command) (steps : List Step) → Applies types old c steps new → IsReached types old → IsReached types new
   reached_on old new c steps a r = record { run = answered 0 (Some c) steps r.run; reached = (a 0 r.run r.reached).1 }
+
+  pub live_of : (w : WholeState E D) → IsReached types (Some w) → IsReachedLive types w.live
+  live_of w x = record { run = x.run; reached = x.reached.live }
+
+  -- the run of no line left no cluster
+  pub none_reached : IsReached types None
+  none_reached = record { run = []; reached = at_first }
 
   -- what answers a command of sessions leaves what is kept as it was
   pub lift : (w : WholeState E D) (new : LiveState E D) (c : Command) (steps : List Step) → AppliesLive types w.live c steps new → Applies types (Some w) c steps (Some (record { live = new; post = w.post }))

@@ -1,6 +1,8 @@
 -- A message that is delivered and a report that is heard: calls of partitions that the script numbers anew.
 use Rattle.std.proofs.Common.{Bool, ◌≡◌, ℕ, true, false, List, [], ◌∷◌, refl, sym, ap, ◌∙◌, subst, true≢false, Option, None, Some}
 use Rattle.std.specs.Prelude.{not, ◌&&◌, ◌==◌, is_none, is_some, nat_le, Ok, Err}
+use Rattle.crdt_core.specs.KindsOf.{Kinds}
+use Rattle.world_model.specs.Partition.{PartState, IsRefused}
 use Rattle.std.proofs.lemmas.Bool.{eqb-true, and_parts, leb-true}
 use Rattle.site_vector.specs.declared.ids.PartId.{PartId}
 use Rattle.site_vector.specs.declared.ids.TxId.{TxId}
@@ -14,7 +16,7 @@ use Rattle.world_model.specs.Asking.{MayCall}
 use Rattle.world_model.specs.Cluster.{sites_of}
 use Rattle.world_model.specs.Dependency.{IsOwnPast}
 use Rattle.world_model.specs.Event as event
-use Rattle.world_model.specs.Event.{Ask, AskTake, AskHear, Event, Entry, Took, Heard, Refused, Cut, Refusal, ClockBehind, TxPending, StableBehind, ClockAtEnd, IsGone, HasGap, IsRepeat, IsDown, IsBadOp, HasNoRoom, IsDamaged, is_sent, is_report}
+use Rattle.world_model.specs.Event.{Ask, AskMessage, AskReport, AskTake, AskHear, Event, Entry, Took, Heard, Refused, Cut, Refusal, ClockBehind, TxPending, StableBehind, ClockAtEnd, IsGone, HasGap, IsRepeat, IsDown, IsBadOp, HasNoRoom, IsDamaged, is_sent, is_report}
 use Rattle.world_model.specs.Lines.{call_of, call_asked, fault_shown, step_shown, tx_asked, number_asked}
 use Rattle.world_model.specs.Plan.{IsPlace}
 use Rattle.world_model.specs.Run.{Run}
@@ -168,6 +170,28 @@ place_of_part c p h =
     let part = and_parts (nat_le 1 p.part) _ x.1 in
     record { least_site = leb-true 1 p.site site.0; most_site = leb-true p.site c.sites site.1; least_part = leb-true 1 p.part part.0; most_part = leb-true p.part c.parts part.1 }
 
+-- what asks for a message, a report, or hears one is refused for no cause of the rules
+abbrev pub IsFree : {S E : Type 0} → Kinds S E → Ask E → Type 0
+IsFree {S} {E} kinds ask = (sites parts : ℕ) (id : PartId) (p : PartState E) (why : part.Refusal) → IsRefused kinds sites parts id p ask (cause why) → ⊥
+
+pub free_message : {S E : Type 0} (kinds : Kinds S E) (to : ℕ) (from : Option ℕ) → IsFree kinds (AskMessage to from)
+free_message kinds to from sites parts id p answer.BadOp x = x.1
+free_message kinds to from sites parts id p other x = x.1
+
+pub free_report : {S E : Type 0} (kinds : Kinds S E) → IsFree kinds AskReport
+free_report kinds sites parts id p answer.BadOp x = x.1
+free_report kinds sites parts id p other x = x.1
+
+pub free_hear : {S E : Type 0} (kinds : Kinds S E) (k q : ℕ) (b : List ℕ) → IsFree kinds (AskHear k q b)
+free_hear kinds k q b sites parts id p answer.BadOp x = x.1
+free_hear kinds k q b sites parts id p other x = x.1
+
+pub never_refused : {S E D : Type 0} (types : Types S E D) (old held : Held E D) (at : PartId) (ask : Ask E) (why : part.Refusal) → IsFree types.kinds ask → GoesOn types old held (Asks types old Any at ask) at ask (λ e. e ≡ Refused ask (cause why)) → (run : List (Entry E)) → Reaches types old run → MayCall old.sites old.parts run at ask → ⊥
+never_refused types old held at ask why free g run r may =
+    let x = (g.goes run r (may, tt)).0 in
+    let reached : Reaches types held ((record { at = at; event = Refused ask (cause why) }) ∷ run) = subst (λ e. Reaches types held ((record { at = at; event = e }) ∷ run)) x.shows x.reached in
+    free held.sites held.parts at (reached.is_run.0 at) why reached.is_run.2.step.0
+
 module _ {S E D : Type 0} (types : Types S E D) (w : WholeState E D) where
   abbrev after : Held E D → WholeState E D
   after held = record { live = record { sites = held; sessions = w.live.sessions }; post = w.post }
@@ -306,6 +330,13 @@ module _ {S E D : Type 0} (types : Types S E D) (w : WholeState E D) where
         struck held (command.Hear number at) refl at (AskHear l.own n.from.part n.bounds) (λ (stable : List ℕ) e. e ≡ Heard l.own n.from.part n.bounds stable) error s steps is failing f (g l.own) line run r (may_listen run r)
             (none_due (all_met run (command.Hear number at)) (refl, (ap not r.live.has, (ap not (sym (part_in types w.live run r.live at) ∙ has), (ap is_none l.notice, (ap (λ o. is_foreign o at) l.notice ∙ ap not same, tt))))))
             (ap (for_report at) l.notice) tt (λ stable what k. subst (λ e. call_of (Cut e) ≡ call_asked {E = E} (AskHear l.own n.from.part n.bounds)) (sym k) refl) (λ stable what k. subst (λ e. (who : List ℕ) → IsSilentFor (entries r.live.calls) who (Cut e)) (sym k) (λ who. tt)) (λ stable what k. subst (λ e. step.Disk at ≡ fault_shown at e) (sym k) refl)
+
+    pub hear_refused : (held : Held E D) (error : DurableError) (s : Step) (steps : List Step) → steps ≡ s ∷ [] → holds_part w.live.sites at ≡ true → FailedAs {X = Unit {0}} at no_tx 0 (step.Disk at) error (Ok s) → ((k : ℕ) → Calls types w.live.sites held Any at (AskHear k n.from.part n.bounds) (λ (stable : List ℕ) e. e ≡ Heard k n.from.part n.bounds stable) (Err error)) → Applies types (Some w) (command.Hear number at) steps (Some (record { live = record { sites = held; sessions = w.live.sessions }; post = w.post }))
+    hear_refused held call.NoMemory s steps is has f g = absurd f
+    hear_refused held call.Down s steps is has f g = hear_fails held call.Down s steps is (ap is_failing f) has f g
+    hear_refused held call.Disk s steps is has f g = hear_fails held call.Disk s steps is (ap is_failing f) has f g
+    hear_refused held (call.Full room) s steps is has f g = hear_fails held (call.Full room) s steps is (ap is_failing f) has f g
+    hear_refused held (call.Refused why) s steps is has f g = λ line run r. let l = noted run r in absurd (never_refused types w.live.sites held at (AskHear l.own n.from.part n.bounds) why (free_hear types.kinds l.own n.from.part n.bounds) (g l.own) (entries r.live.calls) r.live.sees.reached (may_listen run r))
 
   module _ (number : ℕ) where
     pub deliver_absent : (steps : List Step) → steps ≡ step.NoMessage ∷ [] → is_some (kept_at w.post.letters number) ≡ false → Applies types (Some w) (command.Deliver number) steps (Some w)

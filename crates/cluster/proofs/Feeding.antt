@@ -1,16 +1,14 @@
 -- Which lines tell of a disk that lacked memory to grow.
-use Rattle.std.proofs.Common.{◌≡◌, ℕ, suc, ◌+◌, ◌<◌, ◌≤◌, Bool, true, false, true≢false, List, [], ◌∷◌, drop, get_or, sym, ap, ◌∙◌, subst, arith}
-use Rattle.std.specs.Prelude.{◌&&◌, nat_le}
-use Rattle.std.proofs.lemmas.Bool.{and_parts}
-use Rattle.std.proofs.lemmas.List.{drop_more, drop_all}
-use Rattle.field_codec.specs.FormLaws.{le_holds}
+use Rattle.std.proofs.Common.{◌≡◌, ℕ, ◌+◌, ◌≤◌, leb, Bool, true, false, List, [], ◌∷◌, drop, refl, sym, subst, arith}
+use Rattle.std.proofs.lemmas.Bool.{leb-true, leb-false}
 use Rattle.site_vector.specs.declared.ids.PartId.{PartId}
+use Rattle.site_vector.specs.declared.ids.TxId.{TxId}
 use Rattle.disk_core.specs.States.{DiskState}
 use Rattle.world_model.specs.declared.step.Step.{Step}
 use Rattle.world_model.specs.declared.step.Step.TheVariants as step
-use Rattle.site_partitions.specs.Held.{Held, holds_part}
-use Rattle.site_partitions.specs.Starved.{IsStarvedAt}
+use Rattle.site_partitions.specs.Held.{Held}
 use Rattle.cluster.specs.Faults.{AreFed, IsFed}
+use Rattle.cluster.proofs.Delivering.{place_of_part}
 
 module _ {E D : Type 0} (state : D → DiskState) (c : Held E D) where
   pub fed_first : (s : Step) (steps : List Step) → AreFed state c (s ∷ []) → AreFed state c steps → AreFed state c (s ∷ steps)
@@ -31,3 +29,26 @@ module _ {E D : Type 0} (state : D → DiskState) (c : Held E D) where
   -- the first partitions of a site are fed
   abbrev pub AreFedUpTo : ℕ → ℕ → Type 0
   AreFedUpTo site i = (p : PartId) → p.site ≡ site → p.part ≤ i → IsFed state c p
+
+  pub fed_more : (site i : ℕ) → AreFedUpTo site i → IsFed state c (record { site = site; part = i + 1 }) → AreFedUpTo site (i + 1)
+  fed_more site i h k p e l = by_part (leb p.part i) refl
+    where
+      by_part : (b : Bool) → leb p.part i ≡ b → IsFed state c p
+      by_part true x = h p e (leb-true p.part i x)
+      by_part false x =
+          let above = leb-false p.part i x in
+          let last : p.part ≡ i + 1 = omega (arith, above, l) in
+          subst (λ (q : PartId). IsFed state c q) (λ j. record { site = sym e j; part = sym last j }) k
+
+  pub fed_none : (site : ℕ) → AreFedUpTo site 0
+  fed_none site p e l has = let least = (place_of_part c p has).least_part in absurd (omega (arith, least, l))
+
+  -- all of the site are
+  pub fed_site : (site i : ℕ) → c.parts ≤ i → AreFedUpTo site i → (p : PartId) → p.site ≡ site → IsFed state c p
+  fed_site site i far h p e has = let most = (place_of_part c p has).most_part in h p e (omega (arith, far, most)) has
+
+  -- another line
+  pub fed_other : (s : Step) → ((p : PartId) → s ≡ step.Disk p → ⊥) → ((t : TxId) → s ≡ step.Unsure t → ⊥) → AreFed state c (s ∷ [])
+  fed_other (step.Disk p) h k = absurd (h p refl)
+  fed_other (step.Unsure t) h k = absurd (k t refl)
+  fed_other s h k = tt

@@ -14,7 +14,6 @@ pub mod Meets
 pub mod Commands
 pub mod Failing
 pub mod Clocks
-pub mod Feeding
 pub mod Striking
 pub mod Beginning
 pub mod Updating
@@ -28,6 +27,7 @@ pub mod Leading
 pub mod Posting
 pub mod Dropping
 pub mod Delivering
+pub mod Feeding
 pub mod Sending
 pub mod Downed
 pub mod Telling

@@ -27,7 +27,7 @@ pub come_up-requires-clause-reached : goal.come_up-requires-clause-reached
 come_up-requires-clause-reached g c =
     let types = types_of g.C.Crdt.laws g.C.Crdt.spells (fused_state g.D.Disk.state) in
     let v : LiveState g.row.C-Effect.Denot _ = record { sites = c.self-inside.inside.0.1.0.all; sessions = c.self-inside.inside.0.1.1.0.entries } in
-    reached_still types v c.args.part c.revive_at.new.self c.revive_at.ensures.moves c.revive_at.ensures.keeps (subst (λ (x : LiveState g.row.C-Effect.Denot _). IsReachedLive types x) (sym ((λ i. record { sites = (c.self-inside.view_is i).sites; sessions = (c.self-inside.view_is i).sessions.entries }) ∙ c.self.view_is)) c.requires)
+    reached_still types v c.args.part c.revive_at.new.self c.revive_at.ensures.moves c.revive_at.ensures.keeps (subst (λ (x : LiveState g.row.C-Effect.Denot _). IsReachedLive types x) (sym ((λ i. record { sites = (c.self-inside.view_is i).sites; sessions = (c.self-inside.view_is i).sessions.entries }) ∙ c.self.view_is)) c.requires.reached)
 
 pub returns : goal.returns
 returns g c =

@@ -12,9 +12,9 @@ pub report_at-requires : goal.report_at-requires
 report_at-requires g c = place_here (types_of g.C.Crdt.laws g.C.Crdt.spells g.D.Disk.state) _ _ c.self.view_is c.args.pass None c.args.at event.AskReport c.requires.may
 
 pub returns-in-Ok-clause-ok : goal.returns-in-Ok-clause-ok
-returns-in-Ok-clause-ok g c = (tt, λ run s.
+returns-in-Ok-clause-ok g c run s =
     let types = types_of g.C.Crdt.laws g.C.Crdt.spells g.D.Disk.state in
-    did_on types c.args.self.now c.args.self.now Any c.args.at event.AskReport c.args.pass None (event.Reported c.in-Ok.bounds) (calls_still types _ c.args.self.now c.self.view_is Any c.args.at event.AskReport (λ (b : List ℕ) (e : Event g.row.C-Effect.Denot). e ≡ event.Reported b) (Ok c.in-Ok.bounds) c.in-Ok.ensures) run s tt tt)
+    did_on types c.args.self.now c.args.self.now Any c.args.at event.AskReport c.args.pass None (event.Reported c.in-Ok.bounds) (calls_still types _ c.args.self.now c.self.view_is Any c.args.at event.AskReport (λ (b : List ℕ) (e : Event g.row.C-Effect.Denot). e ≡ event.Reported b) (Ok c.in-Ok.bounds) c.in-Ok.ensures) run s tt tt
 
 pub returns-in-Ok-clause-stays : goal.returns-in-Ok-clause-stays
 returns-in-Ok-clause-stays g c =
@@ -27,9 +27,9 @@ returns-in-Ok-failed-clause-stays g c =
     called_same types c.args.self.now c.args.self.now Any c.args.at event.AskReport c.args.pass None (λ (b : List ℕ) (e : Event g.row.C-Effect.Denot). e ≡ event.Reported b) (Err c.in-Err.error) (calls_still types _ c.args.self.now c.self.view_is Any c.args.at event.AskReport (λ (b : List ℕ) (e : Event g.row.C-Effect.Denot). e ≡ event.Reported b) (Err c.in-Err.error) c.in-Err.ensures)
 
 pub returns-in-Ok-failed-clause-ok : goal.returns-in-Ok-failed-clause-ok
-returns-in-Ok-failed-clause-ok g c = (tt, λ run s.
+returns-in-Ok-failed-clause-ok g c run s =
     let types = types_of g.C.Crdt.laws g.C.Crdt.spells g.D.Disk.state in
-    failed_line types c.args.self.now c.args.self.now Any c.args.at event.AskReport c.args.pass None (Unit {0}) (λ (b : List ℕ) (e : Event g.row.C-Effect.Denot). e ≡ event.Reported b) (step.Disk c.args.at) (λ b what k. fault_of c.args.at (step.Disk c.args.at) (event.Reported b) refl refl what k) c.in-Err.error _ (calls_still types _ c.args.self.now c.self.view_is Any c.args.at event.AskReport (λ (b : List ℕ) (e : Event g.row.C-Effect.Denot). e ≡ event.Reported b) (Err c.in-Err.error) c.in-Err.ensures) c.in-Ok-failed.ensures run s tt tt tt)
+    failed_line types c.args.self.now c.args.self.now Any c.args.at event.AskReport c.args.pass None (Unit {0}) (λ (b : List ℕ) (e : Event g.row.C-Effect.Denot). e ≡ event.Reported b) (step.Disk c.args.at) (λ b what k. fault_of c.args.at (step.Disk c.args.at) (event.Reported b) refl refl what k) c.in-Err.error _ (calls_still types _ c.args.self.now c.self.view_is Any c.args.at event.AskReport (λ (b : List ℕ) (e : Event g.row.C-Effect.Denot). e ≡ event.Reported b) (Err c.in-Err.error) c.in-Err.ensures) c.in-Ok-failed.ensures run s tt tt tt
 
 pub returns-in-Ok-failed-clause-tells : goal.returns-in-Ok-failed-clause-tells
 returns-in-Ok-failed-clause-tells g c =
