@@ -1,5 +1,5 @@
 -- Ends that a partition makes on the word of a lead: what is pending is never gone, and a partition that is up never says it is down.
-use Rattle.std.proofs.Common.{◌≡◌, ℕ, true, false, List, ◌∷◌, sym, ap, ◌∙◌, subst, true≢false}
+use Rattle.std.proofs.Common.{◌≡◌, ℕ, true, List, ◌∷◌, sym, ap, ◌∙◌, subst, true≢false}
 use Rattle.std.specs.Prelude.{not}
 use Rattle.site_vector.specs.declared.ids.PartId.{PartId}
 use Rattle.site_vector.specs.declared.ids.TxId.{TxId}
@@ -7,7 +7,7 @@ use Rattle.crdt_core.specs.Log as log
 use Rattle.world_model.specs.Answering.{IsDueAt}
 use Rattle.world_model.specs.Asking.{MayCall}
 use Rattle.world_model.specs.Event.{AskFinish, AskAbort, Refused, Entry}
-use Rattle.world_model.specs.Partition.{PartState, PartStep, IsRefused}
+use Rattle.world_model.specs.Partition.{PartState, IsRefused}
 use Rattle.world_model.specs.Plan.{Plan, IsPlace}
 use Rattle.world_model.specs.World.{plan_of}
 use Rattle.world_model.specs.WorldLaw.{HasCauseAt}

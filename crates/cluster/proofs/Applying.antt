@@ -1,12 +1,12 @@
 -- What answers a command leaves a cluster where some run left it.
-use Rattle.std.proofs.Common.{◌≡◌, ℕ, ◌+◌, Bool, true, false, length, List, [], ◌∷◌, refl, sym, ap, ◌∙◌, subst, Option, None, Some}
+use Rattle.std.proofs.Common.{◌≡◌, ℕ, ◌+◌, true, false, length, List, [], ◌∷◌, refl, sym, ap, ◌∙◌, subst, Option, None, Some}
 use Rattle.std.specs.Prelude.{IfOk, Result, Ok, Err}
 use Rattle.world_model.specs.declared.command.Command.{Command}
 use Rattle.world_model.specs.declared.command.Command.TheVariants as command
 use Rattle.world_model.specs.declared.step.Step.TheVariants as step
 use Rattle.std.specs.Prelude.{not}
 use Rattle.std.proofs.lemmas.Bool.{true≢false}
-use Rattle.world_model.specs.Cluster.{has_cluster, parts_of}
+use Rattle.world_model.specs.Cluster.{has_cluster}
 use Rattle.world_model.specs.Dependency.{HandsOwn}
 use Rattle.world_model.specs.Refusals.{first_due}
 use Rattle.world_model.specs.Run.{Run}

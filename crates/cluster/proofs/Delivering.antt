@@ -285,8 +285,8 @@ module _ {S E D : Type 0} (types : Types S E D) (w : WholeState E D) where
     struck_take held error s steps is failing f g line run r =
         let l = letter run r in
         struck held (command.Deliver number) refl (record { site = m.to; part = m.part }) (AskTake l.own m) (λ (u : Unit {0}) e. e ≡ Took l.own m) error s steps is failing (f l.own) (g l.own) line run r (may run r)
-            (none_due (all_met run (command.Deliver number)) (refl, (ap not r.live.has, (ap is_none l.letter, tt))))
-            (ap for_message l.letter) tt (λ u what k. subst (λ e. call_of (Cut e) ≡ call_asked (AskTake l.own m)) (sym k) refl) (λ u what k. subst (λ e. (who : List ℕ) → IsSilentFor (entries r.live.calls) who (Cut e)) (sym k) (λ who. tt)) (λ u what k. subst (λ e. step.Disk (record { site = m.to; part = m.part }) ≡ fault_shown (record { site = m.to; part = m.part }) e) (sym k) refl)
+        (none_due (all_met run (command.Deliver number)) (refl, (ap not r.live.has, (ap is_none l.letter, tt))))
+        (ap for_message l.letter) tt (λ u what k. subst (λ e. call_of (Cut e) ≡ call_asked (AskTake l.own m)) (sym k) refl) (λ u what k. subst (λ e. (who : List ℕ) → IsSilentFor (entries r.live.calls) who (Cut e)) (sym k) (λ who. tt)) (λ u what k. subst (λ e. step.Disk (record { site = m.to; part = m.part }) ≡ fault_shown (record { site = m.to; part = m.part }) e) (sym k) refl)
 
     pub refused_take : (X : Type 0) (held : Held E D) (error : DurableError) (s : Step) (steps : List Step) → steps ≡ s ∷ [] → FailedAs {X = X} (record { site = m.to; part = m.part }) (record { site = 0; part = 0; time = 0 }) number (step.Disk (record { site = m.to; part = m.part })) error (Ok s) → ((n : ℕ) → Calls types w.live.sites held Any (record { site = m.to; part = m.part }) (AskTake n m) (λ (u : Unit {0}) e. e ≡ Took n m) (Err error)) → Applies types (Some w) (command.Deliver number) steps (Some (record { live = record { sites = held; sessions = w.live.sessions }; post = w.post }))
     refused_take X held call.NoMemory s steps is f g = absurd f
@@ -328,8 +328,8 @@ module _ {S E D : Type 0} (types : Types S E D) (w : WholeState E D) where
     hear_fails held error s steps is failing has f g line run r =
         let l = noted run r in
         struck held (command.Hear number at) refl at (AskHear l.own n.from.part n.bounds) (λ (stable : List ℕ) e. e ≡ Heard l.own n.from.part n.bounds stable) error s steps is failing f (g l.own) line run r (may_listen run r)
-            (none_due (all_met run (command.Hear number at)) (refl, (ap not r.live.has, (ap not (sym (part_in types w.live run r.live at) ∙ has), (ap is_none l.notice, (ap (λ o. is_foreign o at) l.notice ∙ ap not same, tt))))))
-            (ap (for_report at) l.notice) tt (λ stable what k. subst (λ e. call_of (Cut e) ≡ call_asked {E = E} (AskHear l.own n.from.part n.bounds)) (sym k) refl) (λ stable what k. subst (λ e. (who : List ℕ) → IsSilentFor (entries r.live.calls) who (Cut e)) (sym k) (λ who. tt)) (λ stable what k. subst (λ e. step.Disk at ≡ fault_shown at e) (sym k) refl)
+        (none_due (all_met run (command.Hear number at)) (refl, (ap not r.live.has, (ap not (sym (part_in types w.live run r.live at) ∙ has), (ap is_none l.notice, (ap (λ o. is_foreign o at) l.notice ∙ ap not same, tt))))))
+        (ap (for_report at) l.notice) tt (λ stable what k. subst (λ e. call_of (Cut e) ≡ call_asked {E = E} (AskHear l.own n.from.part n.bounds)) (sym k) refl) (λ stable what k. subst (λ e. (who : List ℕ) → IsSilentFor (entries r.live.calls) who (Cut e)) (sym k) (λ who. tt)) (λ stable what k. subst (λ e. step.Disk at ≡ fault_shown at e) (sym k) refl)
 
     pub hear_refused : (held : Held E D) (error : DurableError) (s : Step) (steps : List Step) → steps ≡ s ∷ [] → holds_part w.live.sites at ≡ true → FailedAs {X = Unit {0}} at no_tx 0 (step.Disk at) error (Ok s) → ((k : ℕ) → Calls types w.live.sites held Any at (AskHear k n.from.part n.bounds) (λ (stable : List ℕ) e. e ≡ Heard k n.from.part n.bounds stable) (Err error)) → Applies types (Some w) (command.Hear number at) steps (Some (record { live = record { sites = held; sessions = w.live.sessions }; post = w.post }))
     hear_refused held call.NoMemory s steps is has f g = absurd f

@@ -158,8 +158,8 @@ module _ {S E D : Type 0} (types : Types S E D) (w : WholeState E D) where
         → Applies types (Some w) (command.Send at site from) steps (Some (record { live = record { sites = held; sessions = w.live.sessions }; post = w.post }))
     send_fails held error s steps is failing way room f g line run r =
         struck types w held (command.Send at site from) refl at (AskMessage site from) (λ (m : Message E) e. (m.to ≡ site) × (e ≡ Sent from m)) error s steps is failing f g line run r tt
-            (none_due (all_met run (command.Send at site from)) (refl, (ap not r.live.has, (way_in run r ∙ way, (ap (λ n. n == 4096) (sym r.post.kept) ∙ room, tt)))))
-            refl tt (λ m what k. subst (λ e. call_of (Cut e) ≡ call_asked {E = E} (AskMessage site from)) (sym k.1) (ap (λ n. SendTo n from) k.0)) (λ m what k. subst (λ e. (who : List ℕ) → IsSilentFor (entries r.live.calls) who (Cut e)) (sym k.1) (λ who. tt)) (λ m what k. subst (λ e. step.Disk at ≡ fault_shown at e) (sym k.1) refl)
+        (none_due (all_met run (command.Send at site from)) (refl, (ap not r.live.has, (way_in run r ∙ way, (ap (λ n. n == 4096) (sym r.post.kept) ∙ room, tt)))))
+        refl tt (λ m what k. subst (λ e. call_of (Cut e) ≡ call_asked {E = E} (AskMessage site from)) (sym k.1) (ap (λ n. SendTo n from) k.0)) (λ m what k. subst (λ e. (who : List ℕ) → IsSilentFor (entries r.live.calls) who (Cut e)) (sym k.1) (λ who. tt)) (λ m what k. subst (λ e. step.Disk at ≡ fault_shown at e) (sym k.1) refl)
 
     pub may_send : lacks_way w.live.sites at site ≡ false → IsReached types (Some w) → MayAsk types w.live.sites at (AskMessage site from)
     may_send there r = record {
@@ -260,8 +260,8 @@ module _ {S E D : Type 0} (types : Types S E D) (w : WholeState E D) where
         → Applies types (Some w) (command.Report at) steps (Some w)
     report_fails error s steps is failing there room f g line run r =
         struck types w w.live.sites (command.Report at) refl at AskReport (λ (b : List ℕ) e. e ≡ Reported b) error s steps is failing f g line run r tt
-            (none_due (all_met run (command.Report at)) (refl, (ap not r.live.has, (ap not (part_there run r ∙ there), (ap (λ n. n == 4096) (sym r.post.noted) ∙ room, tt)))))
-            refl tt (λ b what k. subst (λ e. call_of (Cut e) ≡ call_asked {E = E} AskReport) (sym k) refl) (λ b what k. subst (λ e. (who : List ℕ) → IsSilentFor (entries r.live.calls) who (Cut e)) (sym k) (λ who. tt)) (λ b what k. subst (λ e. step.Disk at ≡ fault_shown at e) (sym k) refl)
+        (none_due (all_met run (command.Report at)) (refl, (ap not r.live.has, (ap not (part_there run r ∙ there), (ap (λ n. n == 4096) (sym r.post.noted) ∙ room, tt)))))
+        refl tt (λ b what k. subst (λ e. call_of (Cut e) ≡ call_asked {E = E} AskReport) (sym k) refl) (λ b what k. subst (λ e. (who : List ℕ) → IsSilentFor (entries r.live.calls) who (Cut e)) (sym k) (λ who. tt)) (λ b what k. subst (λ e. step.Disk at ≡ fault_shown at e) (sym k) refl)
 
     pub report_refused : (error : DurableError) (s : Step) (steps : List Step) → steps ≡ s ∷ [] → holds_part w.live.sites at ≡ true → (length w.post.notes == 4096) ≡ false → FailedAs {X = Unit {0}} at (record { site = 0; part = 0; time = 0 }) 0 (step.Disk at) error (Ok s) → Calls types w.live.sites w.live.sites Any at AskReport (λ (b : List ℕ) e. e ≡ Reported b) (Err error)
         → Applies types (Some w) (command.Report at) steps (Some w)

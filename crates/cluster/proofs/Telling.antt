@@ -34,7 +34,6 @@ use Rattle.world_model.proofs.Queue.{in_order}
 use Rattle.world_model.proofs.Told as law
 use Rattle.world_model.proofs.Waiting.{same_pending}
 use Rattle.partition_core.specs.Stands.{told, AreEntries}
-use Rattle.partition_core.specs.Tables.{Tables}
 use Rattle.txn_session.specs.Calls.{entries}
 use Rattle.site_partitions.specs.Reaches.{Types}
 use Rattle.site_partitions.specs.declared.fates.Waiting.{Waiting}

@@ -1,5 +1,5 @@
 -- Which partitions are up, by what stands there, after a call that changed one.
-use Rattle.std.proofs.Common.{◌≡◌, ℕ, zero, suc, Bool, true, false, true≢false, List, [], ◌∷◌, get_or, set, refl, sym, ap, ◌∙◌, subst}
+use Rattle.std.proofs.Common.{◌≡◌, ℕ, zero, suc, Bool, true, false, true≢false, List, [], ◌∷◌, get_or, set, refl, sym, ◌∙◌, subst}
 use Rattle.std.specs.Prelude.{not}
 use Rattle.site_vector.specs.declared.ids.PartId.{PartId}
 use Rattle.world_model.specs.Event.{Entry}

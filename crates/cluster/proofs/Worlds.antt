@@ -9,7 +9,7 @@ use Rattle.crdt_core.specs.Log.{pending}
 use Rattle.world_model.specs.Event.{Entry}
 use Rattle.world_model.specs.Partition.{PartState, Finds}
 use Rattle.world_model.specs.Plan.{Plan, IsRun, is_some_update}
-use Rattle.world_model.specs.World.{IsWorldRun, begun, plan_of}
+use Rattle.world_model.specs.World.{IsWorldRun, plan_of}
 use Rattle.world_model.proofs.Fate.{pending_parts}
 use Rattle.world_model.proofs.Fitted.{good_unfit, good_run}
 use Rattle.world_model.proofs.Handing.{IsHome, homes, planned_updates}

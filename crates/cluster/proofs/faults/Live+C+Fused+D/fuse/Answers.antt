@@ -1,4 +1,4 @@
-use Rattle.std.proofs.Common.{◌≡◌, ◌∙◌, true, false, sym, subst}
+use Rattle.std.proofs.Common.{◌≡◌, ◌∙◌, true, sym, subst}
 use Rattle.disk_core.specs.Fuses.{fused_state}
 use Rattle.site_partitions.specs.Held.{holds_part}
 use Rattle.site_partitions.specs.Reaches.{types_of}

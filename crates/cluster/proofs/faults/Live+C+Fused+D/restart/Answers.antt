@@ -1,4 +1,4 @@
-use Rattle.std.proofs.Common.{◌≡◌, ◌∙◌, true, false, sym, subst}
+use Rattle.std.proofs.Common.{◌∙◌, sym, subst}
 use Rattle.disk_core.specs.Fuses.{fused_state}
 use Rattle.world_model.specs.Plan.{IsPlace}
 use Rattle.site_partitions.specs.Reaches.{types_of}

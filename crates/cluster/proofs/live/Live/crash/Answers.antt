@@ -1,4 +1,4 @@
-use Rattle.std.proofs.Common.{◌≡◌, ◌∙◌, true, false, sym, subst}
+use Rattle.std.proofs.Common.{◌≡◌, ◌∙◌, true, sym, subst}
 use Rattle.site_partitions.specs.Held.{holds_part}
 use Rattle.site_partitions.specs.Reaches.{types_of}
 use Rattle.world_model.specs.declared.command.Command.TheVariants as command

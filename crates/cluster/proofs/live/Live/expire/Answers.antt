@@ -1,4 +1,4 @@
-use Rattle.std.proofs.Common.{◌≡◌, ◌∙◌, true, false, sym, ap, subst, None, Some}
+use Rattle.std.proofs.Common.{◌≡◌, ◌∙◌, true, false, sym, ap, subst, None}
 use Rattle.std.specs.Prelude.{not}
 use Rattle.site_partitions.specs.Reaches.{types_of}
 use Rattle.site_partitions.specs.Held.{IsDownAt}

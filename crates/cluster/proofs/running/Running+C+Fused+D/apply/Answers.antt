@@ -27,10 +27,8 @@ returns g c =
 pub end-requires-clause-reached : goal.end-requires-clause-reached
 end-requires-clause-reached g c = subst (λ (x : WholeState g.row.C-Effect.Denot _). IsReachedLive (types_of g.C.Crdt.laws g.C.Crdt.spells (fused_state g.D.Disk.state)) x.live) (sym c.self.view_is) (live_of (types_of g.C.Crdt.laws g.C.Crdt.spells (fused_state g.D.Disk.state)) c.args.self.now c.requires.reached)
 
-
 pub strike-requires-clause-reached : goal.strike-requires-clause-reached
 strike-requires-clause-reached g c = subst (λ (x : WholeState g.row.C-Effect.Denot _). IsReachedLive (types_of g.C.Crdt.laws g.C.Crdt.spells (fused_state g.D.Disk.state)) x.live) (sym c.self.view_is) (live_of (types_of g.C.Crdt.laws g.C.Crdt.spells (fused_state g.D.Disk.state)) c.args.self.now c.requires.reached)
-
 
 pub apply-requires-clause-reached : goal.apply-requires-clause-reached
 apply-requires-clause-reached g c = subst (λ (x : WholeState g.row.C-Effect.Denot _). IsReachedLive (types_of g.C.Crdt.laws g.C.Crdt.spells (fused_state g.D.Disk.state)) x.live) (sym c.self.view_is) (live_of (types_of g.C.Crdt.laws g.C.Crdt.spells (fused_state g.D.Disk.state)) c.args.self.now c.requires.reached)

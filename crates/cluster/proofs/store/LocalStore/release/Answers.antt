@@ -1,12 +1,12 @@
-use Rattle.std.proofs.Common.{◌≡◌, refl, true, None}
-use Rattle.std.specs.Prelude.{ℕ, List, Ok, Err}
+use Rattle.std.proofs.Common.{◌≡◌, refl, None}
+use Rattle.std.specs.Prelude.{Ok, Err}
 use Rattle.crdt_core.specs.declared.record.Message.{Message}
 use Rattle.world_model.specs.declared.step.Step.TheVariants as step
 use Rattle.world_model.specs.Event as event
 use Rattle.world_model.specs.Event.{Event}
 use Rattle.site_partitions.specs.Answers.{Any}
 use Rattle.site_partitions.specs.Reaches.{types_of}
-use Rattle.cluster.proofs.Seeing.{calls_here, did_on, exactly, fact_of, called_same, failed_line, line_tells, error_stays, fault_of, may_here, place_here}
+use Rattle.cluster.proofs.Seeing.{calls_here, did_on, exactly, fact_of, called_same, failed_line, line_tells, error_stays, fault_of, may_here}
 use Rattle.cluster.proofs.store.LocalStore.release.Goals as goal
 
 pub release_at-requires-clause-may : goal.release_at-requires-clause-may
@@ -31,9 +31,12 @@ returns-in-Ok-failed-clause-stays g c =
     called_same types c.args.self.now c.release_at.new.self Any c.args.at (event.AskMessage c.args.to c.args.from) c.args.pass None (λ (m : Message g.row.C-Effect.Denot) (e : Event g.row.C-Effect.Denot). (m.to ≡ c.args.to) × (e ≡ event.Sent c.args.from m)) (Err c.in-Err.error) (calls_here types _ c.args.self.now c.release_at.new.self c.self.view_is Any c.args.at (event.AskMessage c.args.to c.args.from) (λ (m : Message g.row.C-Effect.Denot) (e : Event g.row.C-Effect.Denot). (m.to ≡ c.args.to) × (e ≡ event.Sent c.args.from m)) (Err c.in-Err.error) c.in-Err.ensures)
 
 pub returns-in-Ok-failed-clause-ok : goal.returns-in-Ok-failed-clause-ok
-returns-in-Ok-failed-clause-ok g c = (tt, λ run s.
-    let types = types_of g.C.Crdt.laws g.C.Crdt.spells g.D.Disk.state in
-    failed_line types c.args.self.now c.release_at.new.self Any c.args.at (event.AskMessage c.args.to c.args.from) c.args.pass None (Unit {0}) (λ (m : Message g.row.C-Effect.Denot) (e : Event g.row.C-Effect.Denot). (m.to ≡ c.args.to) × (e ≡ event.Sent c.args.from m)) (step.Disk c.args.at) (λ m what k. fault_of c.args.at (step.Disk c.args.at) (event.Sent c.args.from m) refl refl what k.1) c.in-Err.error _ (calls_here types _ c.args.self.now c.release_at.new.self c.self.view_is Any c.args.at (event.AskMessage c.args.to c.args.from) (λ (m : Message g.row.C-Effect.Denot) (e : Event g.row.C-Effect.Denot). (m.to ≡ c.args.to) × (e ≡ event.Sent c.args.from m)) (Err c.in-Err.error) c.in-Err.ensures) c.in-Ok-failed.ensures run s tt tt tt)
+returns-in-Ok-failed-clause-ok g c = (
+  tt,
+  λ run s.
+      let types = types_of g.C.Crdt.laws g.C.Crdt.spells g.D.Disk.state in
+      failed_line types c.args.self.now c.release_at.new.self Any c.args.at (event.AskMessage c.args.to c.args.from) c.args.pass None (Unit {0}) (λ (m : Message g.row.C-Effect.Denot) (e : Event g.row.C-Effect.Denot). (m.to ≡ c.args.to) × (e ≡ event.Sent c.args.from m)) (step.Disk c.args.at) (λ m what k. fault_of c.args.at (step.Disk c.args.at) (event.Sent c.args.from m) refl refl what k.1) c.in-Err.error _ (calls_here types _ c.args.self.now c.release_at.new.self c.self.view_is Any c.args.at (event.AskMessage c.args.to c.args.from) (λ (m : Message g.row.C-Effect.Denot) (e : Event g.row.C-Effect.Denot). (m.to ≡ c.args.to) × (e ≡ event.Sent c.args.from m)) (Err c.in-Err.error) c.in-Err.ensures) c.in-Ok-failed.ensures run s tt tt tt,
+)
 
 pub returns-in-Ok-failed-clause-tells : goal.returns-in-Ok-failed-clause-tells
 returns-in-Ok-failed-clause-tells g c =
