@@ -65,6 +65,11 @@ abbrev pub partitions_in : {E D : Type 0} → Option (WholeState E D) → List (
 partitions_in None = []
 partitions_in (Some w) = w.live.sites.partitions
 
+-- how many each site has
+abbrev pub parts_in : {E D : Type 0} → Option (WholeState E D) → Option ℕ
+parts_in None = None
+parts_in (Some w) = Some w.live.sites.parts
+
 -- no line tells of a disk that failed for want of memory
 abbrev pub FedIn : {E D : Type 0} → (D → DiskState) → Option (WholeState E D) → List Step → Type 0
 FedIn state None steps = ⊤
