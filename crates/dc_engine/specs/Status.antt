@@ -11,6 +11,7 @@ code_of status.ReadFault = 3
 code_of status.WriteFault = 4
 code_of status.NoMemory = 5
 code_of status.TooLong = 6
+code_of status.NoDisk = 7
 
 -- the one line of a status, without its LF
 abbrev pub text_of : Status → Option (List ℕ)
@@ -21,3 +22,4 @@ text_of status.ReadFault = Some (codes "read fault")
 text_of status.WriteFault = Some (codes "write fault")
 text_of status.NoMemory = Some (codes "out of memory")
 text_of status.TooLong = Some (codes "script too long")
+text_of status.NoDisk = Some (codes "no disk")

@@ -11,6 +11,7 @@ use crate::lines::answer_lines;
 use crate::responder::Responder;
 use crate::sink::Sink;
 use crate::source::{Failed, Source};
+use crate::unanswered::Unanswered;
 use std::alloc::{AllocError, Global};
 use std::cmp::min;
 
@@ -76,6 +77,7 @@ fn write_all<K: Sink>(sink: &mut K, bytes: &[u8]) -> Result<(), Fault>
 fn answer_block<K: Sink, R: Responder>(
     sink: &mut K,
     responder: &mut R,
+    disks: &mut R::Maker,
     block: &[u8],
     kept: &mut Kept,
     out: &mut Vec<u8>,
@@ -87,14 +89,18 @@ fn answer_block<K: Sink, R: Responder>(
     ensures err { OnErr result (WritesPart R.reached responder.old block.now kept.old (K.held sink.old) (K.held sink.new)) }
 {
     out.clear();
-    match answer_lines(responder, block, kept, out) {
+    match answer_lines(responder, disks, block, kept, out) {
         Ok(()) => {
             write_all(sink, out)?;
             Ok(())
         }
-        Err(error) => {
+        Err(Unanswered::NoDisk) => {
+            write_all(sink, out)?;
+            Err(Fault::NoDisk)
+        }
+        Err(Unanswered::NoMemory) => {
             let _written = write_all(sink, out);
-            Err(Fault::from(error))
+            Err(Fault::NoMemory)
         }
     }
 }
@@ -104,6 +110,7 @@ fn answer_block<K: Sink, R: Responder>(
 fn answer_end<K: Sink, R: Responder>(
     sink: &mut K,
     responder: &mut R,
+    disks: &mut R::Maker,
     kept: &Kept,
     out: &mut Vec<u8>,
 ) -> Result<(), Fault>
@@ -117,7 +124,7 @@ fn answer_end<K: Sink, R: Responder>(
         return Ok(());
     }
     out.clear();
-    responder.answer(kept.as_slice(), out)?;
+    responder.answer(disks, kept.as_slice(), out)?;
     write_all(sink, out)?;
     Ok(())
 }
@@ -134,6 +141,7 @@ fn play_block<S: Source, K: Sink, R: Responder>(
     source: &mut S,
     sink: &mut K,
     responder: &mut R,
+    disks: &mut R::Maker,
     block: &mut [u8],
     room: usize,
     buffers: &mut Buffers,
@@ -151,13 +159,13 @@ fn play_block<S: Source, K: Sink, R: Responder>(
         Err(fault) => return Err(fault),
     };
     if count == 0 {
-        return match answer_end(sink, responder, &buffers.kept, &mut buffers.out) {
+        return match answer_end(sink, responder, disks, &buffers.kept, &mut buffers.out) {
             Ok(()) => Ok(0),
             Err(fault) => Err(fault),
         };
     }
     let Buffers { kept, out } = buffers;
-    match answer_block(sink, responder, &block[..count], kept, out) {
+    match answer_block(sink, responder, disks, &block[..count], kept, out) {
         Ok(()) => Ok(count),
         Err(fault) => Err(fault),
     }
@@ -168,6 +176,7 @@ fn play_end<S: Source, K: Sink, R: Responder>(
     source: &mut S,
     sink: &mut K,
     responder: &mut R,
+    disks: &mut R::Maker,
     buffers: &mut Buffers,
 ) -> Result<(), Fault>
     ensures read_later { S.faults source.old ≤ S.faults source.new }
@@ -178,7 +187,7 @@ fn play_end<S: Source, K: Sink, R: Responder>(
 {
     match has_more(source) {
         Ok(true) => Err(Fault::TooLong),
-        Ok(false) => match answer_end(sink, responder, &buffers.kept, &mut buffers.out) {
+        Ok(false) => match answer_end(sink, responder, disks, &buffers.kept, &mut buffers.out) {
             Ok(()) => Ok(()),
             Err(fault) => Err(fault),
         },
@@ -194,6 +203,7 @@ pub(crate) fn play_blocks<S: Source, K: Sink, R: Responder>(
     source: &mut S,
     sink: &mut K,
     responder: &mut R,
+    disks: &mut R::Maker,
 ) -> Result<(), Fault>
     requires fresh { R.reached responder.old [] [] }
     requires some { 0 < size }
@@ -212,11 +222,11 @@ pub(crate) fn play_blocks<S: Source, K: Sink, R: Responder>(
     };
     let mut room = most;
     while room > 0 {
-        match play_block(source, sink, responder, block, room, &mut buffers) {
+        match play_block(source, sink, responder, disks, block, room, &mut buffers) {
             Ok(0) => return Ok(()),
             Ok(count) => room -= count,
             Err(fault) => return Err(fault),
         }
     }
-    play_end(source, sink, responder, &mut buffers)
+    play_end(source, sink, responder, disks, &mut buffers)
 }

@@ -6,6 +6,7 @@ mod edge;
 mod fault;
 mod kept;
 mod lines;
+mod makers;
 mod memory;
 mod objects;
 mod player;
@@ -18,6 +19,7 @@ mod status;
 #[cfg(test)]
 mod tests;
 mod top;
+mod unanswered;
 mod words;
 
 pub use edge::{Reading, Writing};

@@ -5,8 +5,8 @@ ghost use Rattle.dc_engine.specs.Blocks.{EndsAt, Moves, MovesPart};
 
 use crate::kept::Kept;
 use crate::responder::{KEPT, Responder};
+use crate::unanswered::Unanswered;
 use memchr::memchr;
-use std::alloc::AllocError;
 use std::cmp::min;
 
 /// Where the first LF stands.
@@ -22,20 +22,21 @@ fn line_end(bytes: &[u8]) -> Option<usize>
 #[tactic(auto, using(crate::proofs::Moves::answers_front))]
 fn answer_line<R: Responder>(
     responder: &mut R,
+    disks: &mut R::Maker,
     piece: &[u8],
     kept: &mut Kept,
     out: &mut Vec<u8>,
-) -> Result<(), AllocError>
+) -> Result<(), Unanswered>
     ensures ok { OnOk result (AnswersLine R.reached responder.old responder.new (take 4098 (kept.old ++ piece.now)) out.old.items out.new.items) }
     ensures none_kept { OnOk result (kept.new ≡ []) }
     ensures err { OnErr result (out.new.items ≡ out.old.items) }
 {
     if kept.is_empty() {
-        responder.answer(&piece[..min(KEPT, piece.len())], out)?;
+        responder.answer(disks, &piece[..min(KEPT, piece.len())], out)?;
         return Ok(());
     }
     kept.extend(piece)?;
-    responder.answer(kept.as_slice(), out)?;
+    responder.answer(disks, kept.as_slice(), out)?;
     kept.clear();
     Ok(())
 }
@@ -44,17 +45,18 @@ fn answer_line<R: Responder>(
 #[tactic(auto, using(crate::proofs::Moves::moves_start, crate::proofs::Moves::moves_part))]
 pub(crate) fn answer_lines<R: Responder>(
     responder: &mut R,
+    disks: &mut R::Maker,
     block: &[u8],
     kept: &mut Kept,
     out: &mut Vec<u8>,
-) -> Result<(), AllocError>
+) -> Result<(), Unanswered>
     ensures ok { OnOk result (Moves R.reached responder.old responder.new block.now kept.old kept.new out.old.items out.new.items) }
     ensures err { OnErr result (MovesPart R.reached responder.old block.now kept.old out.old.items out.new.items) }
 {
     let mut rest = block;
     while let Some(end) = line_end(rest) {
         let (piece, more) = rest.split_at(end);
-        answer_line(responder, piece, kept, out)?;
+        answer_line(responder, disks, piece, kept, out)?;
         rest = &more[1..];
     }
     kept.extend(rest)?;

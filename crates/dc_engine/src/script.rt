@@ -23,11 +23,12 @@ pub(crate) fn play_script<S: Source, K: Sink, R: Responder>(
     source: &mut S,
     sink: &mut K,
     responder: &mut R,
+    disks: &mut R::Maker,
 ) -> Status
     requires { R.reached responder.old [] [] }
     ensures { Outcome (Replies R.reached) result (change S.left S.faults source.old source.new) (change K.held K.faults sink.old sink.new) }
 {
-    match play_blocks(alloc, BLOCK, MOST_BYTES, source, sink, responder) {
+    match play_blocks(alloc, BLOCK, MOST_BYTES, source, sink, responder, disks) {
         Ok(()) => {
             if responder.has_met_bad() {
                 return Status::BadLine;
@@ -38,5 +39,6 @@ pub(crate) fn play_script<S: Source, K: Sink, R: Responder>(
         Err(Fault::Write) => Status::WriteFault,
         Err(Fault::NoMemory) => Status::NoMemory,
         Err(Fault::TooLong) => Status::TooLong,
+        Err(Fault::NoDisk) => Status::NoDisk,
     }
 }
