@@ -3,6 +3,8 @@ pub mod Moves
 pub mod PlayedBy
 pub mod Progress
 pub mod Readings
+pub mod Returned
+pub mod Sizes
 pub mod Standing
 pub mod Takes
 pub mod Written

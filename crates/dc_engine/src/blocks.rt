@@ -1,9 +1,10 @@
 ghost use Rattle.std.specs.Prelude.{ℕ, List, Option, ◌≡◌, ◌≢◌, ◌≤◌, ◌<◌, ◌+◌, ◌-◌, ◌^◌, [], length, take, IfOk, IfErr, OnOk, OnErr, Err};
 ghost use Rattle.std.specs.Io.KnownBytes.{Appends, Consumes, Keeps, IsAtEnd};
 ghost use Rattle.dc_engine.specs.Causes.{Rose};
+ghost use Rattle.dc_engine.specs.Makers.{IsKept};
 ghost use Rattle.dc_engine.specs.Replies.{Replies};
 ghost use Rattle.dc_engine.specs.Played.{Played, PlayedEnded, PlayedTooLong, PlayedPart};
-ghost use Rattle.dc_engine.specs.Blocks.{AppendsPart, Writes, WritesPart, Ends, EndsPart, TakesOne, Progress, GoesOn, Finished};
+ghost use Rattle.dc_engine.specs.Blocks.{AppendsPart, Writes, WritesPart, WritesBefore, Ends, EndsPart, EndsBefore, TakesOne, Progress, GoesOn, Finished};
 
 use crate::fault::Fault;
 use crate::kept::Kept;
@@ -82,11 +83,17 @@ fn answer_block<K: Sink, R: Responder>(
     kept: &mut Kept,
     out: &mut Vec<u8>,
 ) -> Result<(), Fault>
+    requires held { R.holds responder.old (R.Maker.state disks.old).out }
+    ensures held { R.holds responder.new (R.Maker.state disks.new).out }
+    ensures disks_later { (R.Maker.state disks.old).faults ≤ (R.Maker.state disks.new).faults }
+    ensures disks_cause { result ≡ Err Fault.NoDisk → Rose (R.Maker.state disks.old).faults (R.Maker.state disks.new).faults }
+    ensures same { OnOk result (IsKept (R.Maker.state disks.old) (R.Maker.state disks.new)) }
     ensures later { K.faults sink.old ≤ K.faults sink.new }
     ensures cause { result ≡ Err Fault.Write → Rose (K.faults sink.old) (K.faults sink.new) }
     ensures kinds { IfErr result (λ e. (e ≢ Fault.Read) × (e ≢ Fault.TooLong)) }
     ensures ok { OnOk result (Writes R.reached responder.old responder.new block.now kept.old kept.new (K.held sink.old) (K.held sink.new)) }
     ensures err { OnErr result (WritesPart R.reached responder.old block.now kept.old (K.held sink.old) (K.held sink.new)) }
+    ensures before { result ≡ Err Fault.NoDisk → WritesBefore R.reached responder.old block.now kept.old (K.held sink.old) (K.held sink.new) }
 {
     out.clear();
     match answer_lines(responder, disks, block, kept, out) {
@@ -114,11 +121,17 @@ fn answer_end<K: Sink, R: Responder>(
     kept: &Kept,
     out: &mut Vec<u8>,
 ) -> Result<(), Fault>
+    requires held { R.holds responder.old (R.Maker.state disks.old).out }
+    ensures held { R.holds responder.new (R.Maker.state disks.new).out }
+    ensures disks_later { (R.Maker.state disks.old).faults ≤ (R.Maker.state disks.new).faults }
+    ensures disks_cause { result ≡ Err Fault.NoDisk → Rose (R.Maker.state disks.old).faults (R.Maker.state disks.new).faults }
+    ensures same { OnOk result (IsKept (R.Maker.state disks.old) (R.Maker.state disks.new)) }
     ensures later { K.faults sink.old ≤ K.faults sink.new }
     ensures cause { result ≡ Err Fault.Write → Rose (K.faults sink.old) (K.faults sink.new) }
     ensures kinds { IfErr result (λ e. (e ≢ Fault.Read) × (e ≢ Fault.TooLong)) }
     ensures ok { OnOk result (Ends R.reached responder.old responder.new kept.now (K.held sink.old) (K.held sink.new)) }
     ensures err { OnErr result (EndsPart R.reached responder.old kept.now (K.held sink.old) (K.held sink.new)) }
+    ensures before { result ≡ Err Fault.NoDisk → EndsBefore kept.now (K.held sink.old) (K.held sink.new) }
 {
     if kept.is_empty() {
         return Ok(());
@@ -148,6 +161,11 @@ fn play_block<S: Source, K: Sink, R: Responder>(
 ) -> Result<usize, Fault>
     requires size { 0 < length block.old }
     requires some { 0 < room }
+    requires held { R.holds responder.old (R.Maker.state disks.old).out }
+    ensures held { R.holds responder.new (R.Maker.state disks.new).out }
+    ensures disks_later { (R.Maker.state disks.old).faults ≤ (R.Maker.state disks.new).faults }
+    ensures disks_cause { result ≡ Err Fault.NoDisk → Rose (R.Maker.state disks.old).faults (R.Maker.state disks.new).faults }
+    ensures same { OnOk result (IsKept (R.Maker.state disks.old) (R.Maker.state disks.new)) }
     ensures read_later { S.faults source.old ≤ S.faults source.new }
     ensures write_later { K.faults sink.old ≤ K.faults sink.new }
     ensures read_cause { result ≡ Err Fault.Read → Rose (S.faults source.old) (S.faults source.new) }
@@ -179,6 +197,11 @@ fn play_end<S: Source, K: Sink, R: Responder>(
     disks: &mut R::Maker,
     buffers: &mut Buffers,
 ) -> Result<(), Fault>
+    requires held { R.holds responder.old (R.Maker.state disks.old).out }
+    ensures held { R.holds responder.new (R.Maker.state disks.new).out }
+    ensures disks_later { (R.Maker.state disks.old).faults ≤ (R.Maker.state disks.new).faults }
+    ensures disks_cause { result ≡ Err Fault.NoDisk → Rose (R.Maker.state disks.old).faults (R.Maker.state disks.new).faults }
+    ensures same { OnOk result (IsKept (R.Maker.state disks.old) (R.Maker.state disks.new)) }
     ensures read_later { S.faults source.old ≤ S.faults source.new }
     ensures write_later { K.faults sink.old ≤ K.faults sink.new }
     ensures read_cause { result ≡ Err Fault.Read → Rose (S.faults source.old) (S.faults source.new) }
@@ -207,6 +230,10 @@ pub(crate) fn play_blocks<S: Source, K: Sink, R: Responder>(
 ) -> Result<(), Fault>
     requires fresh { R.reached responder.old [] [] }
     requires some { 0 < size }
+    requires held { R.holds responder.old (R.Maker.state disks.old).out }
+    ensures held { R.holds responder.new (R.Maker.state disks.new).out }
+    ensures disks_cause { result ≡ Err Fault.NoDisk → Rose (R.Maker.state disks.old).faults (R.Maker.state disks.new).faults }
+    ensures same { OnOk result (IsKept (R.Maker.state disks.old) (R.Maker.state disks.new)) }
     ensures finished { Finished size most R.reached responder.new (S.left source.old) (S.left source.new) (K.held sink.old) (K.held sink.new) result }
     ensures read_cause { result ≡ Err Fault.Read → Rose (S.faults source.old) (S.faults source.new) }
     ensures write_cause { result ≡ Err Fault.Write → Rose (K.faults sink.old) (K.faults sink.new) }

@@ -1,11 +1,11 @@
-ghost use Rattle.std.specs.Prelude.{◌≡◌, ℕ, List, OnOk, OnErr, IfErr};
-ghost use Rattle.dc_engine.specs.Makers.{LentTo};
-ghost use Rattle.dc_engine.specs.Reading.{has_bad};
-ghost use Rattle.dc_engine.specs.Replies.{AnswersLine, MakesCluster};
+ghost use Rattle.std.specs.Prelude.{◌≡◌, ◌≤◌, true, ℕ, List, Err, OnOk, OnErr};
+ghost use Rattle.disk_core.specs.States.{Rose};
+ghost use Rattle.dc_engine.specs.Makers.{IsKept};
+ghost use Rattle.dc_engine.specs.Reading.{has_bad, makes_cluster};
+ghost use Rattle.dc_engine.specs.Replies.{AnswersLine};
 
 use crate::unanswered::Unanswered;
 use disk_makers::Disks;
-use std::alloc::Global;
 
 /// The most bytes of a line that are kept and answered. A line that is longer is as one of this many.
 pub(crate) const KEPT: usize = 4_098;
@@ -14,9 +14,12 @@ pub(crate) const KEPT: usize = 4_098;
 pub(crate) trait Responder {
     type Maker: Disks;
 
-    /// `reached (m, maker) lines bytes`: m and the maker stand where these lines, oldest first and each without its LF,
-    /// have been answered with these bytes.
-    ghost reached: { Self × Maker → List (List ℕ) → List ℕ → Type 0 };
+    /// `reached m lines bytes`: m stands where these lines, oldest first and each without its LF, have been answered with
+    /// these bytes.
+    ghost reached: { Self → List (List ℕ) → List ℕ → Type 0 };
+
+    /// `holds m out`: where so many disks are out, m may have those that it has.
+    ghost holds: { Self → ℕ → Type 0 };
 
     /// Answers one line, by its bytes without its LF, of which at most the first 4,098 are handed in. The reply comes
     /// behind what `out` holds.
@@ -30,8 +33,17 @@ pub(crate) trait Responder {
         disks: &mut Self::Maker,
         line: &[u8],
         out: &mut Vec<u8>,
-    ) -> Result<(), Unanswered>;
+    ) -> Result<(), Unanswered>
+        requires held { holds self.old (Self.Maker.state disks.old).out }
+        ensures held { holds self.new (Self.Maker.state disks.new).out }
+        ensures ok { OnOk result (AnswersLine reached self.old self.new line.now out.old.items out.new.items) }
+        ensures err { OnErr result (out.new.items ≡ out.old.items) }
+        ensures making { result ≡ Err Unanswered.NoDisk → makes_cluster line.now ≡ true }
+        ensures later { (Self.Maker.state disks.old).faults ≤ (Self.Maker.state disks.new).faults }
+        ensures cause { result ≡ Err Unanswered.NoDisk → Rose (Self.Maker.state disks.old).faults (Self.Maker.state disks.new).faults }
+        ensures same { OnOk result (IsKept (Self.Maker.state disks.old) (Self.Maker.state disks.new)) };
 
     /// Whether one of the lines answered isn't in the grammar.
-    fn has_met_bad(&self) -> bool;
+    fn has_met_bad(&self) -> bool
+        ensures { (lines : List (List ℕ)) (bytes : List ℕ) → reached self.now lines bytes → has_bad lines ≡ result };
 }
