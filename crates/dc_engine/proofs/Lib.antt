@@ -1,4 +1,5 @@
 pub mod Applied
+pub mod Making
 pub mod Moves
 pub mod PlayedBy
 pub mod Progress

@@ -79,15 +79,15 @@ ends_make name (Some g) f k steps h = steps_make name (f g) k steps h
 
 looked_makes : (ls : List Line) (p : PartId) (t : TxId) → is_cluster (looked_up ls p t) ≡ false
 looked_makes ls p t = elim (pending ls p t) as (λ b. is_cluster (if b then step.Pending p t else (if is_committed_at ls ls p t then step.Finished p t else step.Gone p t)) ≡ false) [
-      | true ↦ refl
-      | false ↦ elim (is_committed_at ls ls p t) as (λ b. is_cluster (if b then step.Finished p t else step.Gone p t) ≡ false) [ true ↦ refl | false ↦ refl ]
-    ]
+  | true ↦ refl
+  | false ↦ elim (is_committed_at ls ls p t) as (λ b. is_cluster (if b then step.Finished p t else step.Gone p t) ≡ false) [ true ↦ refl | false ↦ refl ]
+]
 
 settled_makes : (parts : ℕ) (ls : List Line) (p : PartId) (t : TxId) → is_cluster (settled parts ls p t) ≡ false
 settled_makes parts ls p t = elim (stays parts ls p t) as (λ b. is_cluster (if b then step.Pending p t else (if in_history ls t then step.Finished p t else step.Aborted p t)) ≡ false) [
-      | true ↦ refl
-      | false ↦ elim (in_history ls t) as (λ b. is_cluster (if b then step.Finished p t else step.Aborted p t) ≡ false) [ true ↦ refl | false ↦ refl ]
-    ]
+  | true ↦ refl
+  | false ↦ elim (in_history ls t) as (λ b. is_cluster (if b then step.Finished p t else step.Aborted p t) ≡ false) [ true ↦ refl | false ↦ refl ]
+]
 
 unwritten_makes : (s : Step) → is_unwritten s ≡ true → is_cluster s ≡ false
 unwritten_makes (step.MadeCluster sites parts) h = off h

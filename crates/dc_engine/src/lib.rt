@@ -12,6 +12,8 @@ mod objects;
 mod player;
 mod reading;
 mod responder;
+#[cfg(test)]
+mod rows;
 mod script;
 mod sink;
 mod source;

@@ -124,12 +124,7 @@ impl<M: Disks> Responder for Player<M> {
 
     ghost holds = { λ p out. HasOut M.Disk.state out p.cluster };
 
-    fn answer(
-        &mut self,
-        disks: &mut M,
-        line: &[u8],
-        out: &mut Vec<u8>,
-    ) -> Result<(), Unanswered> {
+    fn answer(&mut self, disks: &mut M, line: &[u8], out: &mut Vec<u8>) -> Result<(), Unanswered> {
         let end = out.len();
         match self.write_answer(disks, line, out) {
             Ok(()) => Ok(()),
