@@ -1,5 +1,5 @@
 -- What answers a command leaves a cluster where some run left it.
-use Rattle.std.proofs.Common.{◌≡◌, ℕ, ◌+◌, true, false, length, List, [], ◌∷◌, refl, sym, ap, ◌∙◌, subst, Option, None, Some}
+use Rattle.std.proofs.Common.{◌≡◌, ℕ, ◌+◌, true, false, length, List, [], ◌∷◌, refl, sym, ap, ◌∙◌, subst, inl, Option, None, Some}
 use Rattle.std.specs.Prelude.{IfOk, Result, Ok, Err}
 use Rattle.world_model.specs.declared.command.Command.{Command}
 use Rattle.world_model.specs.declared.command.Command.TheVariants as command
@@ -77,7 +77,7 @@ module _ {S E D : Type 0} (types : Types S E D) where
   pub cluster_made : (w : WholeState E D) (sites parts : ℕ) (steps : List Step) → steps ≡ step.MadeCluster sites parts ∷ [] → w.live.sites.sites ≡ sites → w.live.sites.parts ≡ parts → Reaches types w.live.sites [] → w.live.sessions ≡ [] → w.post ≡ new_post → Applies types None (command.Cluster sites parts) steps (Some w)
   cluster_made w sites parts steps is es ep r none post = λ number run b.
       subst (λ l. IsAnswer is_built run (command.Cluster sites parts) l × Reached types (Some w) (answered number (Some (command.Cluster sites parts)) l run) × FaultsShown types None run l (Some w)) (sym is) (
-        subst (AnswersBy run (command.Cluster sites parts) (step.MadeCluster sites parts ∷ [])) (sym (none_due (all_met run (command.Cluster sites parts)) (refl, (b.lacks, tt)))) refl,
+        subst (AnswersBy run (command.Cluster sites parts) (step.MadeCluster sites parts ∷ [])) (sym (none_due (all_met run (command.Cluster sites parts)) (refl, (b.lacks, tt)))) (inl refl),
         record {
           live = record {
             has = refl;
