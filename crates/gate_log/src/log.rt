@@ -1,5 +1,5 @@
 ghost use Rattle.std.specs.Prelude.{◌≡◌, ◌≢◌, ◌⊎◌, ◌↔◌, ◌+◌, ◌<◌, ◌≤◌, ◌^◌, ◌++◌, [], ◌∷◌, List, ℕ, length, false, true, IsTrue, IfOk, IfErr, MatchResult, OnOk, OnErr, Err};
-ghost use Rattle.disk_core.specs.States.{GoesOn, Rose, Rests, Syncs, bytes_of, fewer};
+ghost use Rattle.disk_core.specs.States.{GoesOn, Rose, Rests, Syncs, bytes_of, fewer, Spared};
 ghost use Rattle.disk_core.specs.Moments.{EachImage, AtEachMoment};
 ghost use Rattle.gate_log.specs.Log.{IsLog, AreSized, IsBeforeOrAfter};
 ghost use Rattle.gate_log.specs.Damage.{IsDamagedAt};
@@ -164,6 +164,7 @@ impl<D: Disk + Drop> GateLog<D> {
         ensures goes_on { GoesOn (D.state (disk_of self.old)) (D.state (disk_of self.new)) }
         ensures left { Lowers 4 (D.state (disk_of self.old)).left (D.state (disk_of self.new)).left }
         ensures left_ok { OnOk result ((D.state (disk_of self.new)).left ≡ fewer 4 (D.state (disk_of self.old)).left) }
+        ensures spared { OnOk result (Spared 4 (D.state (disk_of self.old)).left) }
     {
         if self.closed {
             return Err(AppendError::Closed);
