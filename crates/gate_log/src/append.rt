@@ -1,5 +1,5 @@
 // The calls of the disk that an append and an opening make.
-ghost use Rattle.std.specs.Prelude.{◌≡◌, ◌≢◌, ◌⊎◌, ◌+◌, ◌<◌, ◌≤◌, ◌^◌, ◌++◌, [], ◌∷◌, List, ℕ, length, IsTrue, Err, IfOk, OnOk, OnErr};
+ghost use Rattle.std.specs.Prelude.{◌≡◌, ◌≢◌, ◌⊎◌, ◌+◌, ◌<◌, ◌≤◌, ◌^◌, ◌++◌, [], ◌∷◌, List, ℕ, length, IsTrue, Some, Err, IfOk, OnOk, OnErr};
 ghost use Rattle.disk_core.specs.States.{GoesOn, Rose, IsWithin, Writes, MayTear, Syncs, Rests, bytes_of, fewer, Spared};
 ghost use Rattle.disk_core.specs.Moments.{AtEachMoment};
 ghost use Rattle.gate_log.specs.Log.{IsBeforeOrAfter};
@@ -74,6 +74,7 @@ pub(crate) fn read_durable<D: Disk>(alloc: Global, disk: &mut D) -> Result<Vec<u
     ensures failed { result ≡ Err OpenError.Failed → Rose (D.state disk.old).faults (D.state disk.new).faults }
     ensures undamaged { (at : ℕ) → result ≢ Err (OpenError.Damaged at) }
     ensures left { Lowers 3 (D.state disk.old).left (D.state disk.new).left }
+    ensures unfired { OnOk result ((D.state disk.new).left ≢ Some 0) }
 {
     if disk.sync().is_err() {
         return Err(OpenError::Failed);
