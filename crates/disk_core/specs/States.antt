@@ -1,5 +1,5 @@
 -- What a disk is, and how its calls change it.
-use Rattle.std.specs.Prelude.{◌≡◌, ◌⊎◌, ℕ, ◌+◌, ◌-◌, ◌^◌, ◌≤◌, min, Bool, List, ◌∷◌, length, IsTrue, Option, option_map, Result, OnOk, OnErr}
+use Rattle.std.specs.Prelude.{◌≡◌, ◌⊎◌, ℕ, ◌+◌, ◌-◌, ◌^◌, ◌≤◌, min, Bool, List, ◌∷◌, length, IsTrue, Option, None, Some, option_map, Result, OnOk, OnErr, ⊤}
 use Rattle.disk_core.specs.Images.{Content, Image, IsTorn, after_write, after_cut, after_sync}
 
 -- what it holds, and what it held before each change, the newest first
@@ -15,7 +15,7 @@ pub record DiskState : Type 0 where
   pub room : ℕ
   -- how many faults it counted
   pub faults : ℕ
-  -- how many calls are left until it is to fail, where it tells that
+  -- how many calls are left, up to and with the one that is to fail, where it tells that
   pub left : Option ℕ
   -- whether a call failed because it found no memory to grow
   pub starved : Bool
@@ -23,6 +23,11 @@ pub record DiskState : Type 0 where
 -- so many calls fewer
 abbrev pub fewer : ℕ → Option ℕ → Option ℕ
 fewer k left = option_map (λ n. n - k) left
+
+-- so many calls go by before the one that is to fail
+abbrev pub Spared : ℕ → Option ℕ → Type 0
+Spared k None = ⊤
+Spared k (Some n) = k ≤ n - 1
 
 -- a count of faults rose, or stands at its end
 abbrev pub Rose : ℕ → ℕ → Type 0
@@ -33,6 +38,8 @@ pub record Called {T E : Type 0} (result : Result T E) (old new : DiskState) : T
   pub tells : new.tells ≡ old.tells
   pub room : new.room ≡ old.room
   pub left : new.left ≡ fewer 1 old.left
+  -- the one that is to fail does, and so does each after it
+  pub spared : OnOk result (Spared 1 old.left)
   -- it fails only where the count rises, which never falls, and counts no fault where it doesn't fail
   pub later : old.faults ≤ new.faults
   pub failed : OnErr result (Rose old.faults new.faults)

@@ -1,9 +1,9 @@
 -- An append makes four calls of its disk. After each, whether it answers or fails: what a crash may leave at each moment, and what stands in the end.
-use Rattle.std.proofs.Common.{◌≡◌, ◌⊎◌, inl, inr, ℕ, ◌+◌, ◌-◌, ◌≤◌, Option, Some, None, Result, Ok, Err, OnOk, OnErr, ⊎_elim, Bool, false, List, [], ◌∷◌, ◌++◌, length, get_or, drop, IsTrue, refl, sym, ap, ◌∙◌, subst, arith, append_assoc}
+use Rattle.std.proofs.Common.{◌≡◌, ◌≢◌, ◌⊎◌, inl, inr, ℕ, ◌+◌, ◌-◌, ◌≤◌, Option, Some, None, Result, Ok, Err, OnOk, OnErr, ⊎_elim, Bool, false, List, [], ◌∷◌, ◌++◌, length, get_or, drop, IsTrue, refl, sym, ap, ◌∙◌, subst, arith, append_assoc}
 use Rattle.std.specs.Result.{is_err}
 use Rattle.std.proofs.lemmas.Bool.{false≢true}
 use Rattle.disk_core.specs.Images.{Content, Image, IsSettled, overwritten, after_write, after_sync}
-use Rattle.disk_core.specs.States.{Story, DiskState, fewer, moved, TearsAtMost}
+use Rattle.disk_core.specs.States.{Story, DiskState, fewer, Spared, moved, TearsAtMost}
 use Rattle.disk_core.specs.Moments.{AtEachMoment}
 use Rattle.disk_core.proofs.Inside.{only_settled, only_synced, synced}
 use Rattle.disk_core.proofs.Moments.{at_first, rested, moved_on, torn_on}
@@ -187,6 +187,17 @@ one_call before mid after most so_far is = record {
 
 pub first_call : (before after : Option ℕ) → after ≡ fewer 1 before → Lowers 1 before after
 first_call before after is = record { count = 1; less = omega arith; left = is }
+
+-- a call that is done leaves a fuse that has not fired
+pub unfired : (before after : Option ℕ) → after ≡ fewer 1 before → Spared 1 before → after ≢ Some 0
+unfired None after is spared h = nothing after is h
+  where
+    nothing : (o : Option ℕ) → o ≡ None → o ≡ Some 0 → ⊥
+    nothing o e f = absurd cc
+unfired (Some n) after is spared h = let none : n - 1 ≡ 0 = same_some (n - 1) 0 (sym is ∙ h) in omega (arith, spared, none)
+  where
+    same_some : (a b : ℕ) → Some a ≡ Some b → a ≡ b
+    same_some a b e = cc
 
 -- it goes on telling what it holds
 pub still : (old new : Bool) → new ≡ old → IsTrue old → IsTrue new

@@ -1,6 +1,6 @@
 // The calls of the disk that an append and an opening make.
-ghost use Rattle.std.specs.Prelude.{◌≡◌, ◌≢◌, ◌⊎◌, ◌+◌, ◌<◌, ◌≤◌, ◌^◌, ◌++◌, [], ◌∷◌, List, ℕ, length, IsTrue, Err, IfOk, OnOk, OnErr};
-ghost use Rattle.disk_core.specs.States.{GoesOn, Rose, IsWithin, Writes, MayTear, Syncs, Rests, bytes_of, fewer};
+ghost use Rattle.std.specs.Prelude.{◌≡◌, ◌≢◌, ◌⊎◌, ◌+◌, ◌<◌, ◌≤◌, ◌^◌, ◌++◌, [], ◌∷◌, List, ℕ, length, IsTrue, Some, Err, IfOk, OnOk, OnErr};
+ghost use Rattle.disk_core.specs.States.{GoesOn, Rose, IsWithin, Writes, MayTear, Syncs, Rests, bytes_of, fewer, Spared};
 ghost use Rattle.disk_core.specs.Moments.{AtEachMoment};
 ghost use Rattle.gate_log.specs.Log.{IsBeforeOrAfter};
 ghost use Rattle.gate_log.specs.Rest.{AtRest, Lowers, WritesDurably};
@@ -28,6 +28,7 @@ fn write_durable<D: Disk>(
     ensures failed { OnErr result (Rose (D.state disk.old).faults (D.state disk.new).faults) }
     ensures left { Lowers 2 (D.state disk.old).left (D.state disk.new).left }
     ensures left_ok { OnOk result ((D.state disk.new).left ≡ fewer 2 (D.state disk.old).left) }
+    ensures spared { OnOk result (Spared 2 (D.state disk.old).left) }
 {
     disk.write_parts(at, front, middle, back)?;
     disk.sync()?;
@@ -49,6 +50,7 @@ pub(crate) fn write_record<D: Disk>(disk: &mut D, end: u64, payload: &[u8]) -> R
     ensures failed { OnErr result (Rose (D.state disk.old).faults (D.state disk.new).faults) }
     ensures left { Lowers 4 (D.state disk.old).left (D.state disk.new).left }
     ensures left_ok { OnOk result ((D.state disk.new).left ≡ fewer 4 (D.state disk.old).left) }
+    ensures spared { OnOk result (Spared 4 (D.state disk.old).left) }
 {
     let count = (payload.len() as u32).to_be_bytes();
     write_durable(disk, end + 1, &count, payload, &[0])?;
@@ -72,6 +74,7 @@ pub(crate) fn read_durable<D: Disk>(alloc: Global, disk: &mut D) -> Result<Vec<u
     ensures failed { result ≡ Err OpenError.Failed → Rose (D.state disk.old).faults (D.state disk.new).faults }
     ensures undamaged { (at : ℕ) → result ≢ Err (OpenError.Damaged at) }
     ensures left { Lowers 3 (D.state disk.old).left (D.state disk.new).left }
+    ensures unfired { OnOk result ((D.state disk.new).left ≢ Some 0) }
 {
     if disk.sync().is_err() {
         return Err(OpenError::Failed);

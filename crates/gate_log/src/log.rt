@@ -1,5 +1,5 @@
-ghost use Rattle.std.specs.Prelude.{◌≡◌, ◌≢◌, ◌⊎◌, ◌↔◌, ◌+◌, ◌<◌, ◌≤◌, ◌^◌, ◌++◌, [], ◌∷◌, List, ℕ, length, false, true, IsTrue, IfOk, IfErr, MatchResult, OnOk, OnErr, Err};
-ghost use Rattle.disk_core.specs.States.{GoesOn, Rose, Rests, Syncs, bytes_of, fewer};
+ghost use Rattle.std.specs.Prelude.{◌≡◌, ◌≢◌, ◌⊎◌, ◌↔◌, ◌+◌, ◌<◌, ◌≤◌, ◌^◌, ◌++◌, [], ◌∷◌, List, ℕ, length, false, true, IsTrue, Some, IfOk, IfErr, MatchResult, OnOk, OnErr, Err};
+ghost use Rattle.disk_core.specs.States.{GoesOn, Rose, Rests, Syncs, bytes_of, fewer, Spared};
 ghost use Rattle.disk_core.specs.Moments.{EachImage, AtEachMoment};
 ghost use Rattle.gate_log.specs.Log.{IsLog, AreSized, IsBeforeOrAfter};
 ghost use Rattle.gate_log.specs.Damage.{IsDamagedAt};
@@ -55,6 +55,7 @@ impl<D: Disk + Drop> GateLog<D> {
             (λ e. GoesOn (D.state disk) (D.state e.0)) }
         ensures left { MatchResult result (λ log. Lowers 16 (D.state disk).left (D.state (disk_of log)).left)
             (λ e. Lowers 16 (D.state disk).left (D.state e.0).left) }
+        ensures unfired { IfOk result (λ log. (D.state (disk_of log)).left ≢ Some 0) }
     {
         let mut log = GateLog {
             disk,
@@ -96,6 +97,7 @@ impl<D: Disk + Drop> GateLog<D> {
             ⊎ Syncs (D.state (disk_of self.old)) (D.state (disk_of self.new))) }
         ensures goes_on { GoesOn (D.state (disk_of self.old)) (D.state (disk_of self.new)) }
         ensures left { Lowers 16 (D.state (disk_of self.old)).left (D.state (disk_of self.new)).left }
+        ensures unfired { OnOk result ((D.state (disk_of self.new)).left ≢ Some 0) }
     {
         self.shut();
         let bytes = read_durable(alloc, &mut self.disk)?;
@@ -164,6 +166,7 @@ impl<D: Disk + Drop> GateLog<D> {
         ensures goes_on { GoesOn (D.state (disk_of self.old)) (D.state (disk_of self.new)) }
         ensures left { Lowers 4 (D.state (disk_of self.old)).left (D.state (disk_of self.new)).left }
         ensures left_ok { OnOk result ((D.state (disk_of self.new)).left ≡ fewer 4 (D.state (disk_of self.old)).left) }
+        ensures spared { OnOk result (Spared 4 (D.state (disk_of self.old)).left) }
     {
         if self.closed {
             return Err(AppendError::Closed);
@@ -226,7 +229,7 @@ impl<D: Disk + Drop> GateLog<D> {
 }
 
 impl<D: Disk + Drop> GateLog<Fused<D>> {
-    ghost use Rattle.std.specs.Prelude.{Some, None};
+    ghost use Rattle.std.specs.Prelude.{None};
     ghost use Rattle.disk_core.specs.Fuses.{inside, calls_left, kept_bytes, fused_state};
     ghost use Rattle.gate_log.specs.Logs.{disk_of, gate_of, is_closed, read_at_opening, IsOpen, IsReady};
 

@@ -3,7 +3,7 @@ use Rattle.std.proofs.Common.{◌≡◌, ◌≢◌, ⊎_elim, ℕ, ◌+◌, ◌*
 use Rattle.std.specs.Prelude.{if◌then◌else◌, IsTrue}
 use Rattle.std.proofs.lemmas.Bool.{true≢false}
 use Rattle.disk_core.specs.Images.{Content, Image}
-use Rattle.disk_core.specs.States.{DiskState, Story, GoesOn, Rose, fewer}
+use Rattle.disk_core.specs.States.{DiskState, Story, GoesOn, Rose, fewer, Spared}
 use Rattle.disk_core.specs.Moments.{EachImage, EachImageOfAll, contents, AtEachMoment}
 use Rattle.disk_core.proofs.Moments.{at_first}
 use Rattle.gate_log.specs.Logs.{disk_of, gate_of, is_closed, IsReady}
@@ -99,11 +99,16 @@ module _ {S E D : Type 0} (kinds : Kinds S E) (codec : Codec E) (state : D → D
   none_spent None = refl
   none_spent (Some n) = let e : n ≡ n - 0 = omega arith in ap Some e
 
+  none_due : (left : Option ℕ) → Spared 0 left
+  none_due None = tt
+  none_due (Some n) = omega arith
+
   -- nothing was written
   pub unspent : (p : PartState E) (e : Event E) → records p (attempt e) ≡ [] → records p e ≡ [] → Spends kinds codec state old old p e
   unspent p e h k = record {
     most = record { count = 0; less = omega arith; left = none_spent (disk_in state old).left };
     exact = λ _. none_spent (disk_in state old).left ∙ ap (λ l. fewer (4 * length l) (disk_in state old).left) (sym k);
+    spared = λ _. subst (λ l. Spared (4 * length l) (disk_in state old).left) (sym k) (none_due (disk_in state old).left);
   }
 
   -- it is down
@@ -189,6 +194,7 @@ module _ {S E D : Type 0} (kinds : Kinds S E) (codec : Codec E) (state : D → D
               record {
                 most = subst (λ (l : List (Record E)). Lowers (4 * length l) (disk_in state old).left (disk_in state now).left) (sym (ap (λ e. records p e) w.whole ∙ w.adds)) a.left;
                 exact = λ _. a.left_ok ∙ ap (λ l. fewer (4 * length l) (disk_in state old).left) (sym w.adds);
+                spared = λ _. subst (λ l. Spared (4 * length l) (disk_in state old).left) (sym w.adds) a.spared;
               },
             );
       }
@@ -259,6 +265,7 @@ module _ {S E D : Type 0} (kinds : Kinds S E) (codec : Codec E) (state : D → D
                     record {
                       most = subst (λ (l : List (Record E)). Lowers (4 * length l) (disk_in state old).left (state (disk_of g)).left) (sym w.adds) a.left;
                       exact = λ h. absurd (true≢false h);
+                      spared = λ h. absurd (true≢false h);
                     },
                   );
             },

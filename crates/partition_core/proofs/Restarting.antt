@@ -176,12 +176,13 @@ module _ {S E D : Type 0} (kinds : Kinds S E) (codec : Codec E) (state : D → D
       unrecovered (restart.Unfit n) reads whole unfits = (stays, λ p h. (read, (finds p.log p.torn (leaves p h).front).0, unfits n refl))
       unrecovered restart.NoMemory reads whole unfits = stays
 
-      pub comes_up : is_closed g ≡ false → (t : Tables E) → IsSame old.tables t → (rebuilt : Rebuilt E) → IsToldBy old.tables.sites old.tables.parts old.tables.id read rebuilt → (Rises read → Stands t (resumed old.tables.sites old.tables.parts rebuilt.bounds read))
+      pub comes_up : is_closed g ≡ false → (state (disk_of g)).left ≢ Some 0 → (t : Tables E) → IsSame old.tables t → (rebuilt : Rebuilt E) → IsToldBy old.tables.sites old.tables.parts old.tables.id read rebuilt → (Rises read → Stands t (resumed old.tables.sites old.tables.parts rebuilt.bounds read))
           → (listed : List (TxId × ℕ)) → listed ≡ map (λ x. (x.tx, x.time)) t.pending
           → ComesUp kinds codec state old (on_disk t g false) (record { now = rebuilt.ceiling; bounds = rebuilt.bounds; decided = rebuilt.last_decided; pending = listed })
-      comes_up still_open t same rebuilt tells_it stands listed lists_it = record {
+      comes_up still_open unfired t same rebuilt tells_it stands listed lists_it = record {
         reads = record { same = same; goes_on = goes_on; left = left };
         up = still_open;
+        unfired = unfired;
         step = up_step (on_disk t g false) moments goes_on.tells still_open read finds rebuilt tells_it stands listed lists_it;
       }
 

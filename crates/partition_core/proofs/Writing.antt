@@ -2,7 +2,7 @@
 use Rattle.std.proofs.Common.{◌≡◌, ℕ, ◌+◌, ◌*◌, ◌-◌, ◌<◌, leb, Bool, true, false, List, [], ◌∷◌, ◌++◌, length, Option, None, Some, Result, Ok, Err, refl, sym, ap, ◌∙◌, subst, arith}
 use Rattle.std.specs.Prelude.{◌==◌, if◌then◌else◌, min}
 use Rattle.std.proofs.lemmas.Bool.{true≢false, ne_eqb}
-use Rattle.disk_core.specs.States.{DiskState, fewer}
+use Rattle.disk_core.specs.States.{DiskState, fewer, Spared}
 use Rattle.disk_core.specs.Moments.{EachImage}
 use Rattle.disk_core.proofs.Moments.{at_first}
 use Rattle.gate_log.specs.Logs.{disk_of, is_closed, IsReady}
@@ -26,6 +26,10 @@ use Rattle.crdt_core.specs.Parts.{above}
 use Rattle.crdt_core.specs.Log.{end_of_time}
 use Rattle.world_model.specs.Partition.{batch_of}
 use Rattle.partition_core.specs.Leases.{wanted, lease_at}
+
+none_due : (left : Option ℕ) → Spared 0 left
+none_due None = tt
+none_due (Some n) = omega arith
 
 same_left : (left : Option ℕ) → left ≡ fewer 0 left
 same_left None = refl
@@ -57,6 +61,7 @@ module _ {E D T : Type 0} (codec : Codec E) (state : D → DiskState) (log : Gat
     goes_on = record { tells = refl; room = refl; later = omega arith; starved = λ h. h };
     left = record { count = 0; less = omega arith; left = same_left (state (disk_of log)).left };
     left_ok = same_left (state (disk_of log)).left;
+    spared = none_due (state (disk_of log)).left;
   }
 
 module _ {E : Type 0} where

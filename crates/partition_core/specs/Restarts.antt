@@ -1,5 +1,5 @@
 -- What a restart of a partition on its disk owes.
-use Rattle.std.specs.Prelude.{◌≡◌, ℕ, Bool, true, false, List, [], ◌∷◌, map, Some, Result, Ok, Err}
+use Rattle.std.specs.Prelude.{◌≡◌, ◌≢◌, ℕ, Bool, true, false, List, [], ◌∷◌, map, Some, Result, Ok, Err}
 use Rattle.disk_core.specs.States.{DiskState, GoesOn, Rose}
 use Rattle.gate_log.specs.Rest.{Lowers}
 use Rattle.gate_log.specs.declared.error.OpenError.{OpenError}
@@ -42,9 +42,11 @@ module _ {S E D : Type 0} (kinds : Kinds S E) (codec : Codec E) (state : D → D
     pub down : is_down new ≡ true
     pub step : (p : PartState E) → StandsOn codec state old p → SteppedOn kinds codec state old new p (λ e. e ≡ RestartCut)
 
+  -- it is up, and no fuse of its disk has fired
   pub record ComesUp (r : Restarted) : Type 0 where
     pub reads : ReadsAgain
     pub up : is_down new ≡ false
+    pub unfired : (disk_in state new).left ≢ Some 0
     pub step : (p : PartState E) → StandsOn codec state old p → SteppedOn kinds codec state old new p (λ e. e ≡ event.Restarted r.now r.bounds r.decided r.pending)
 
   -- a restart may find a log whose record with this number is the first that doesn't fit

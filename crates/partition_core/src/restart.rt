@@ -104,6 +104,7 @@ fn read_again<C: Crdt, D: Disk + Drop>(
     ensures open { OnOk result (is_closed (gates_of log.new) ≡ false) }
     ensures goes_on { GoesOn (D.state (disk_of (gates_of log.old))) (D.state (disk_of (gates_of log.new))) }
     ensures left { Lowers 16 (D.state (disk_of (gates_of log.old))).left (D.state (disk_of (gates_of log.new))).left }
+    ensures unfired { OnOk result ((D.state (disk_of (gates_of log.new))).left ≢ Some 0) }
 {
     log.reopen(alloc)?;
     let Ok((_places, records)) = log.records(alloc) else {

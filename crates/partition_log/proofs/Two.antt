@@ -1,7 +1,7 @@
 -- Two appends, one after the other, where there is room for both.
-use Rattle.std.proofs.Common.{◌≡◌, ◌≢◌, inl, inr, ⊎_elim, ℕ, ◌+◌, ◌-◌, ◌≤◌, Bool, true, false, List, [], ◌∷◌, Option, None, Some, Result, Ok, Err, refl, ap, ◌∙◌, arith}
+use Rattle.std.proofs.Common.{◌≡◌, ◌≢◌, inl, inr, ⊎_elim, ℕ, ◌+◌, ◌-◌, ◌≤◌, Bool, true, false, List, [], ◌∷◌, Option, None, Some, Result, Ok, Err, refl, ap, ◌∙◌, subst, arith}
 use Rattle.std.specs.Prelude.{IfErr}
-use Rattle.disk_core.specs.States.{DiskState, GoesOn, Rose, fewer}
+use Rattle.disk_core.specs.States.{DiskState, GoesOn, Rose, fewer, Spared}
 use Rattle.disk_core.proofs.Moments.{weaker, joined}
 use Rattle.gate_log.specs.Logs.{disk_of, gate_of, is_closed}
 use Rattle.gate_log.specs.Rest.{Lowers}
@@ -23,6 +23,10 @@ refusal e = Err e
 fewer_twice : (n m : ℕ) (left : Option ℕ) → fewer n (fewer m left) ≡ fewer (m + n) left
 fewer_twice n m None = refl
 fewer_twice n m (Some k) = let same : k - m - n ≡ k - (m + n) = omega arith in ap Some same
+
+spared_twice : (n m : ℕ) (old mid : Option ℕ) → Spared n old → mid ≡ fewer n old → Spared m mid → Spared (n + m) old
+spared_twice n m None mid first is second = tt
+spared_twice n m (Some k) mid first is second = let behind : m ≤ k - n - 1 = subst (λ o. Spared m o) is second in omega (arith, first, behind)
 
 lowers_twice : (n m : ℕ) (a b c : Option ℕ) → Lowers n a b → Lowers m b c → Lowers (n + m) a c
 lowers_twice n m a b c p q = record {
@@ -74,6 +78,7 @@ module _ {E D T : Type 0} (codec : Codec E) (state : D → DiskState) (old mid :
     goes_on = first.goes_on;
     left = let l = first.left in let less = l.less in record { count = l.count; less = omega arith; left = l.left };
     left_ok = tt;
+    spared = tt;
   }
 
   module _ (new : GateLog D) (x : T) (first : Appends {T = T} codec state (Ok x) old mid (r ∷ [])) (open_still : is_closed old ≡ false) (fits : gate_of old + size codec (r ∷ s ∷ []) + 1 ≤ (state (disk_of old)).room) where
@@ -122,4 +127,5 @@ module _ {E D T : Type 0} (codec : Codec E) (state : D → DiskState) (old mid :
       goes_on = goes_on_twice (state (disk_of old)) (state (disk_of mid)) (state (disk_of new)) first.goes_on second.goes_on;
       left = lowers_twice 4 4 (state (disk_of old)).left (state (disk_of mid)).left (state (disk_of new)).left first.left second.left;
       left_ok = on_ok result (λ left. left ∙ ap (fewer 4) first.left_ok ∙ fewer_twice 4 4 (state (disk_of old)).left) second.left_ok;
+      spared = on_ok result (λ spared. spared_twice 4 4 (state (disk_of old)).left (state (disk_of mid)).left first.spared first.left_ok spared) second.spared;
     }

@@ -1,6 +1,6 @@
 -- What a call says that appends records to a log.
 use Rattle.std.specs.Prelude.{◌≡◌, ◌≢◌, ℕ, ◌+◌, ◌*◌, ◌<◌, true, false, List, length, Result, Err, OnOk, IfErr}
-use Rattle.disk_core.specs.States.{DiskState, GoesOn, Rose, fewer}
+use Rattle.disk_core.specs.States.{DiskState, GoesOn, Rose, fewer, Spared}
 use Rattle.disk_core.specs.Moments.{EachImage, AtEachMoment}
 use Rattle.gate_log.specs.Logs.{disk_of, gate_of, is_closed, read_at_opening, IsReady}
 use Rattle.gate_log.specs.Rest.{Lowers}
@@ -36,3 +36,4 @@ pub record Appends {E D T : Type 0} (codec : Codec E) (state : D → DiskState) 
   pub goes_on : GoesOn (state (disk_of old)) (state (disk_of new))
   pub left : Lowers (4 * length records) (state (disk_of old)).left (state (disk_of new)).left
   pub left_ok : OnOk result ((state (disk_of new)).left ≡ fewer (4 * length records) (state (disk_of old)).left)
+  pub spared : OnOk result (Spared (4 * length records) (state (disk_of old)).left)

@@ -1,4 +1,4 @@
-ghost use Rattle.std.specs.Prelude.{◌≡◌, ◌≢◌, ◌⊎◌, ◌++◌, ◌∷◌, [], List, ℕ, map, reverse, true, false, Err, IsTrue, IfOk, IfErr, OnOk, OnErr, MatchResult};
+ghost use Rattle.std.specs.Prelude.{◌≡◌, ◌≢◌, ◌⊎◌, ◌++◌, ◌∷◌, [], List, ℕ, map, reverse, true, false, Err, IsTrue, Some, IfOk, IfErr, OnOk, OnErr, MatchResult};
 ghost use Rattle.gate_log.specs.declared.error.AppendError.TheVariants.{NoMemory as OutOfMemory};
 ghost use Rattle.crdt_core.specs.Spelled.{is_tx};
 ghost use Rattle.crdt_core.specs.declared.record.Record.{Record};
@@ -64,6 +64,7 @@ impl<C: Crdt, D: Disk + Drop> PartLog<C, D> {
             (λ e. GoesOn (D.state disk) (D.state e.0)) }
         ensures left { MatchResult result (λ log. Lowers 16 (D.state disk).left (D.state (disk_of (gates_of log))).left)
             (λ e. Lowers 16 (D.state disk).left (D.state e.0).left) }
+        ensures unfired { IfOk result (λ log. (D.state (disk_of (gates_of log))).left ≢ Some 0) }
     {
         match GateLog::open(alloc, disk) {
             Err(refused) => Err(refused),
@@ -110,6 +111,7 @@ impl<C: Crdt, D: Disk + Drop> PartLog<C, D> {
         ensures goes_on { GoesOn (D.state (disk_of (gates_of self.old))) (D.state (disk_of (gates_of self.new))) }
         ensures left { Lowers 16
             (D.state (disk_of (gates_of self.old))).left (D.state (disk_of (gates_of self.new))).left }
+        ensures unfired { OnOk result ((D.state (disk_of (gates_of self.new))).left ≢ Some 0) }
         ensures finds { (log torn : List (Record C.Effect))
             → LeavesFront (codec_of C.spells) log torn (D.state (disk_of (gates_of self.old)))
             → OnOk result ((found : List (Record C.Effect)) × MayFind log torn found
@@ -287,7 +289,7 @@ impl<C: Crdt, D: Disk + Drop> PartLog<C, D> {
 }
 
 impl<C: Crdt, D: Disk + Drop> PartLog<C, Fused<D>> {
-    ghost use Rattle.std.specs.Prelude.{Some, None};
+    ghost use Rattle.std.specs.Prelude.{None};
     ghost use Rattle.disk_core.specs.Fuses.{inside, calls_left, kept_bytes, fused_state};
     ghost use Rattle.gate_log.specs.Logs.{disk_of, gate_of, is_closed, read_at_opening, IsReady};
     ghost use Rattle.partition_log.specs.Gates.{gates_of};

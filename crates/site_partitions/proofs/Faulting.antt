@@ -69,6 +69,7 @@ module _ {S E D : Type 0} (w : Types S E D) (sites parts : ℕ) (items : List (D
     moves = moves w sites parts items old view size at place i is below t u there s.reads.goes_on;
     left = s.reads.left;
     up = s.up;
+    unfired = s.unfired;
     goes = λ run r. reached_as w sites parts items old view size at place i is below t u there s.reads.same run r (event.Restarted a.now a.bounds a.decided a.pending) (s.step (r.state at) (stood run r).stands) tt tt tt tt;
   }
 

@@ -37,10 +37,12 @@ module _ {S E D : Type 0} (w : Types S E D) (old new : Held E D) (at : PartId) w
     pub down : is_down moves.after ≡ true
     pub goes : GoesBy RestartCut
 
+  -- it is up, and no fuse of its disk has fired
   pub record ComesUpAt (r : Restarted) : Type 0 where
     pub moves : Moves w.state old new at
     pub left : Lowers 16 (disk_in w.state moves.before).left (disk_in w.state moves.after).left
     pub up : is_down moves.after ≡ false
+    pub unfired : (disk_in w.state moves.after).left ≢ Some 0
     pub goes : GoesBy (event.Restarted r.now r.bounds r.decided r.pending)
 
   abbrev pub RestartsAt : Result Restarted RestartError → Type 0

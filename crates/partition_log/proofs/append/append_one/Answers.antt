@@ -27,4 +27,5 @@ returns-clause-appends g c = λ r spelled is.
       goes_on = does.goes_on;
       left = does.left;
       left_ok = does.left_ok;
+      spared = does.spared;
     }

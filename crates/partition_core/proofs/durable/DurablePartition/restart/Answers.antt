@@ -66,4 +66,4 @@ returns g c =
     let here = same_place (λ a b i. IsToldBy a b i records c.in_ok-told.told) c.place-sites.result.0 c.place-sites.result.1 c.place-sites.result.2 c.self.inside.tables at told in
     let place = c.in_ok-tables.ensures.place in
     let same = same_tables c.self.inside.tables c.in_ok-tables.tables (place.0 ∙ at.0) (place.1 ∙ at.1) (place.2 ∙ at.2) in
-    opened_up kinds codec g.D.Disk.state v c.args.self.now new _ c.self.view_is (comes_up kinds codec g.D.Disk.state v (gates_of c.read_again.new.log) r.goes_on r.left r.moments records r.found r.open c.in_ok-tables.tables same c.in_ok-told.told here (λ rises. same_place (λ a b i. Stands c.in_ok-tables.tables (resumed a b c.in_ok-told.told.bounds records)) c.place-sites.result.0 c.place-sites.result.1 c.place-sites.result.2 c.self.inside.tables at (c.in_ok-tables.ensures.stands records told rises)) c.in_ok-pending.pending (listed_same c.in_ok-pending.pending c.pending.result.now c.in_ok-tables.tables.pending c.in_ok-pending.ensures c.pending.ensures))
+    opened_up kinds codec g.D.Disk.state v c.args.self.now new _ c.self.view_is (comes_up kinds codec g.D.Disk.state v (gates_of c.read_again.new.log) r.goes_on r.left r.moments records r.found r.open r.unfired c.in_ok-tables.tables same c.in_ok-told.told here (λ rises. same_place (λ a b i. Stands c.in_ok-tables.tables (resumed a b c.in_ok-told.told.bounds records)) c.place-sites.result.0 c.place-sites.result.1 c.place-sites.result.2 c.self.inside.tables at (c.in_ok-tables.ensures.stands records told rises)) c.in_ok-pending.pending (listed_same c.in_ok-pending.pending c.pending.result.now c.in_ok-tables.tables.pending c.in_ok-pending.ensures c.pending.ensures))
