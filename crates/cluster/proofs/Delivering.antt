@@ -36,7 +36,7 @@ use Rattle.txn_session.specs.Calls.{called, entries}
 use Rattle.site_partitions.specs.Reaches.{Types, MayAsk, Reaches}
 use Rattle.cluster.specs.declared.post.Note.{Note}
 use Rattle.site_partitions.specs.Answers.{Any, Asks, Calls, GoesOn}
-use Rattle.cluster.specs.Built.{is_built, is_of_fates}
+use Rattle.cluster.specs.Built.{is_built}
 use Rattle.cluster.specs.Faults.{ShowsFault, ShowFaults}
 use Rattle.site_partitions.specs.Held.{Held, holds_site, holds_part}
 use Rattle.cluster.specs.Same.{SameCluster}
@@ -51,7 +51,7 @@ use Rattle.cluster.proofs.Posting.{IsPosted, Posted, posted}
 use Rattle.cluster.proofs.Failing.{failed_by}
 use Rattle.cluster.proofs.Faulted.{same_of, shows_told}
 use Rattle.cluster.proofs.Seeing.{is_told, told_of, line_tells}
-use Rattle.cluster.proofs.Turning.{IsSilentFor}
+use Rattle.cluster.proofs.Turning.{IsSilentFor, has_other_lines}
 
 -- a refusal of a take names no transaction
 abbrev no_tx : TxId
@@ -96,7 +96,8 @@ failing_by (command.Commit name k) h parts who old s = off h
 failing_by (command.Abort name) h parts who old s = off h
 failing_by other h parts who old s = refl
 
-failing_alone : (cmd : Command) → is_asking cmd ≡ true → is_of_fates cmd ≡ false
+failing_alone : (cmd : Command) → is_asking cmd ≡ true → has_other_lines cmd ≡ false
+failing_alone (command.Cluster sites parts) h = off h
 failing_alone (command.Expire p t) h = off h
 failing_alone (command.Settle p) h = off h
 failing_alone other h = refl
