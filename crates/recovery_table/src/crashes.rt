@@ -5,7 +5,7 @@ use crate::answers::Failure;
 use crate::book::{Book, Telling};
 use crate::call::{Call, Step};
 use crate::place::Place;
-use disk_core::Disk;
+use disk_core::{Disk, MemDisk};
 use partition_core::{DurableError, RestartError, Restarted};
 use std::alloc::Global;
 
@@ -271,10 +271,8 @@ pub(crate) fn try_each(
     Ok(())
 }
 
-/// What the disk holds after these steps.
-pub(crate) fn bytes_after(alloc: Global, home: Home, steps: &[Step]) -> Result<Vec<u8>, Failure> {
-    let scene = Scene::after(alloc, home, steps)?;
-    let mut disk = scene.place.into_disk();
+/// What a disk holds.
+fn held_by(alloc: Global, disk: &mut MemDisk) -> Result<Vec<u8>, Failure> {
     let Ok(len) = disk.len() else {
         return Err(Failure::Unasked);
     };
@@ -283,6 +281,13 @@ pub(crate) fn bytes_after(alloc: Global, home: Home, steps: &[Step]) -> Result<V
         Ok(()) => Ok(bytes),
         Err(_) => Err(Failure::Unasked),
     }
+}
+
+/// What the disk holds after these steps.
+pub(crate) fn bytes_after(alloc: Global, home: Home, steps: &[Step]) -> Result<Vec<u8>, Failure> {
+    let scene = Scene::after(alloc, home, steps)?;
+    let mut disk = scene.place.into_disk();
+    held_by(alloc, &mut disk)
 }
 
 /// What comes up over a disk that holds these bytes, as the first site's partition with this number.
