@@ -1,19 +1,19 @@
 -- What answers a command leaves a cluster where some run left it.
-use Rattle.std.proofs.Common.{◌≡◌, ℕ, ◌+◌, Bool, true, false, length, List, [], ◌∷◌, refl, sym, ap, ◌∙◌, subst, Option, None, Some}
+use Rattle.std.proofs.Common.{◌≡◌, ℕ, ◌+◌, true, false, length, List, [], ◌∷◌, refl, sym, ap, ◌∙◌, subst, inl, Option, None, Some}
 use Rattle.std.specs.Prelude.{IfOk, Result, Ok, Err}
 use Rattle.world_model.specs.declared.command.Command.{Command}
 use Rattle.world_model.specs.declared.command.Command.TheVariants as command
 use Rattle.world_model.specs.declared.step.Step.TheVariants as step
 use Rattle.std.specs.Prelude.{not}
 use Rattle.std.proofs.lemmas.Bool.{true≢false}
-use Rattle.world_model.specs.Cluster.{has_cluster, parts_of}
+use Rattle.world_model.specs.Cluster.{has_cluster}
 use Rattle.world_model.specs.Dependency.{HandsOwn}
 use Rattle.world_model.specs.Refusals.{first_due}
 use Rattle.world_model.specs.Run.{Run}
 use Rattle.site_partitions.specs.Reaches.{Types, Reaches}
 use Rattle.world_model.specs.ScriptAnswers.{AnswersBy, IsAnswer}
 use Rattle.cluster.specs.Built.{is_built, is_making}
-use Rattle.cluster.proofs.Mere.{before_still}
+use Rattle.cluster.proofs.Mere.{at_first, before_still}
 use Rattle.cluster.proofs.Meets.{all_met, first_at, none_due, refused}
 use Rattle.world_model.specs.declared.step.Step.{Step}
 use Rattle.world_model.specs.Answers.{answered}
@@ -21,7 +21,7 @@ use Rattle.cluster.specs.Post.{WholeState, new_post, HasPost}
 use Rattle.cluster.proofs.Keeping.{post_on}
 use Rattle.txn_session.specs.Calls.{entries}
 use Rattle.cluster.specs.Live.{LiveState, session_in}
-use Rattle.cluster.specs.Reached.{IsBefore, StandsAs, Applies, AppliesLive, FaultsShown, IsReached, Reached}
+use Rattle.cluster.specs.Reached.{IsBefore, StandsAs, Applies, AppliesLive, FaultsShown, IsReached, IsReachedLive, Reached}
 
 pub map_ok : {A X : Type 0} {P Q : A → Type 0} (r : Result A X) → ((x : A) → P x → Q x) → IfOk r P → IfOk r Q
 map_ok (Ok x) f p = f x p
@@ -37,6 +37,13 @@ not_making other h = refl
 module _ {S E D : Type 0} (types : Types S E D) where
   pub reached_on : (old new : Option (WholeState E D)) (c : Command) (steps : List Step) → Applies types old c steps new → IsReached types old → IsReached types new
   reached_on old new c steps a r = record { run = answered 0 (Some c) steps r.run; reached = (a 0 r.run r.reached).1 }
+
+  pub live_of : (w : WholeState E D) → IsReached types (Some w) → IsReachedLive types w.live
+  live_of w x = record { run = x.run; reached = x.reached.live }
+
+  -- the run of no line left no cluster
+  pub none_reached : IsReached types None
+  none_reached = record { run = []; reached = at_first }
 
   -- what answers a command of sessions leaves what is kept as it was
   pub lift : (w : WholeState E D) (new : LiveState E D) (c : Command) (steps : List Step) → AppliesLive types w.live c steps new → Applies types (Some w) c steps (Some (record { live = new; post = w.post }))
@@ -70,7 +77,7 @@ module _ {S E D : Type 0} (types : Types S E D) where
   pub cluster_made : (w : WholeState E D) (sites parts : ℕ) (steps : List Step) → steps ≡ step.MadeCluster sites parts ∷ [] → w.live.sites.sites ≡ sites → w.live.sites.parts ≡ parts → Reaches types w.live.sites [] → w.live.sessions ≡ [] → w.post ≡ new_post → Applies types None (command.Cluster sites parts) steps (Some w)
   cluster_made w sites parts steps is es ep r none post = λ number run b.
       subst (λ l. IsAnswer is_built run (command.Cluster sites parts) l × Reached types (Some w) (answered number (Some (command.Cluster sites parts)) l run) × FaultsShown types None run l (Some w)) (sym is) (
-        subst (AnswersBy run (command.Cluster sites parts) (step.MadeCluster sites parts ∷ [])) (sym (none_due (all_met run (command.Cluster sites parts)) (refl, (b.lacks, tt)))) refl,
+        subst (AnswersBy run (command.Cluster sites parts) (step.MadeCluster sites parts ∷ [])) (sym (none_due (all_met run (command.Cluster sites parts)) (refl, (b.lacks, tt)))) (inl refl),
         record {
           live = record {
             has = refl;

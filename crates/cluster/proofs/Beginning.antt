@@ -22,7 +22,6 @@ use Rattle.world_model.specs.Phases.{Phase, phase, phase_after, update_total}
 use Rattle.world_model.specs.Run.{Run}
 use Rattle.world_model.specs.ScriptAnswers.{Bears, AnswersBy, IsAnswer}
 use Rattle.world_model.specs.ScriptCalls.{calls_of}
-use Rattle.world_model.proofs.Names.{off}
 use Rattle.txn_session.specs.Calls.{called, entries}
 use Rattle.txn_session.specs.Opens.{IsOpened}
 use Rattle.txn_session.specs.declared.phase.Phase.{Phase as Stage}
@@ -161,9 +160,9 @@ module _ {S E D : Type 0} (types : Types S E D) (c : LiveState E D) (name : List
       let up = answer_up (entries r.calls) place t.event answer t.shows (told_last types later (called t.by place t.event) r.calls t.seen) in
       let b : IsBegun (entries r.calls) place a.before a.after t.event (step_shown (entries r.calls) place t.event) = begun (entries r.calls) place a.before a.after t.event t.asked o idle st.few in
       subst (λ l. IsAnswer is_built run (command.Begin name part) l × GoesTo types c run r (record { sites = later; sessions = sessions }) (answered number (Some (command.Begin name part)) l run) × ShowFaults types.state run c.sites later l) (sym is) (
-          subst (AnswersBy run (command.Begin name part) (answer ∷ []))
-              (sym (none_due (all_met run (command.Begin name part)) (refl, (ap not r.has, (lacks_in run r ∙ ap not there, (has_session types c run r name a.before a.is, (elsewhere_in run r a.before a.is ∙ ap not here, (ap not (idle_is types c run r name a.before a.is ∙ idle), tt))))))))
-              (answer, refl, ap (λ x. x && true) up, subst (λ n. Bears run (command.Begin n part) answer) st.name (subst (Bears run (command.Begin a.before.name part)) (sym t.shows) (b.bears run part))),
+        subst (AnswersBy run (command.Begin name part) (answer ∷ []))
+            (sym (none_due (all_met run (command.Begin name part)) (refl, (ap not r.has, (lacks_in run r ∙ ap not there, (has_session types c run r name a.before a.is, (elsewhere_in run r a.before a.is ∙ ap not here, (ap not (idle_is types c run r name a.before a.is ∙ idle), tt))))))))
+            (answer, refl, ap (λ x. x && true) up, subst (λ n. Bears run (command.Begin n part) answer) st.name (subst (Bears run (command.Begin a.before.name part)) (sym t.shows) (b.bears run part))),
         acted types c run r number (command.Begin name part) name a.before a.is a.after place (AskBegin a.before.name a.before.dependency) answer later t sessions (record {
           same = a.same;
           put = a.put;

@@ -89,7 +89,7 @@ module _ {S E D : Type 0} (types : Types S E D) (c : LiveState E D) where
         let seen : Sees types later (called 0 p x.event ∷ r.calls) = record { reached = x.reached; one_caller = (refl, r.sees.one_caller) } in
         let told : IsCallLine run (step_shown (entries r.calls) p x.event) = call_line run (entries r.calls) p x.event (told_last types later (called 0 p x.event) r.calls seen) x.property.plain in
         let lines = asked_lines number (command.Clock p n) run (step_shown (entries r.calls) p x.event) (step_shown (entries r.calls) p x.event) p (call_of x.event) refl told.answer told.number (ap (λ k. record { at = p; call = k }) (sym x.property.call)) in
-        let tells = line_tells types c.sites later Any p (AskTick n) tt None (Unit {0}) (λ (now : ℕ) (e : Event E). e ≡ Ticked n now) (step.Disk p) (λ rose. (refl, rose)) error line g f in
+        let tells = line_tells types {P = Unit {0}} c.sites later Any p (AskTick n) tt None (Unit {0}) (λ (now : ℕ) (e : Event E). e ≡ Ticked n now) (step.Disk p) (λ rose. (refl, rose)) error line g f in
         subst (λ l. IsAnswer is_built run (command.Clock p n) l × GoesTo types c run r (record { sites = later; sessions = c.sessions }) (answered number (Some (command.Clock p n)) l run) × ShowFaults types.state run c.sites later l) (sym is) (
           subst (AnswersBy run (command.Clock p n) (line ∷ [])) (sym (none_met run r there)) (line, refl, ap (λ s. is_answer s && true) x.shows ∙ ap (λ b. b && true) told.answer, tt),
           subst (λ s. GoesTo types c run r (record { sites = later; sessions = c.sessions }) ((record { number = number; command = Some (command.Clock p n); step = s }) ∷ run)) (sym x.shows)

@@ -1,6 +1,8 @@
 -- A message that is delivered and a report that is heard: calls of partitions that the script numbers anew.
-use Rattle.std.proofs.Common.{◌≡◌, ℕ, true, false, List, [], ◌∷◌, refl, sym, ap, ◌∙◌, subst, true≢false, Option, None, Some}
+use Rattle.std.proofs.Common.{Bool, ◌≡◌, ℕ, true, false, List, [], ◌∷◌, refl, sym, ap, ◌∙◌, subst, true≢false, Option, None, Some}
 use Rattle.std.specs.Prelude.{not, ◌&&◌, ◌==◌, is_none, is_some, nat_le, Ok, Err}
+use Rattle.crdt_core.specs.KindsOf.{Kinds}
+use Rattle.world_model.specs.Partition.{PartState, IsRefused}
 use Rattle.std.proofs.lemmas.Bool.{eqb-true, and_parts, leb-true}
 use Rattle.site_vector.specs.declared.ids.PartId.{PartId}
 use Rattle.site_vector.specs.declared.ids.TxId.{TxId}
@@ -14,7 +16,7 @@ use Rattle.world_model.specs.Asking.{MayCall}
 use Rattle.world_model.specs.Cluster.{sites_of}
 use Rattle.world_model.specs.Dependency.{IsOwnPast}
 use Rattle.world_model.specs.Event as event
-use Rattle.world_model.specs.Event.{Ask, AskTake, AskHear, Event, Entry, Took, Heard, Refused, Cut, Refusal, ClockBehind, TxPending, StableBehind, ClockAtEnd, IsGone, HasGap, IsRepeat, IsDown, IsBadOp, HasNoRoom, IsDamaged, is_sent, is_report}
+use Rattle.world_model.specs.Event.{Ask, AskMessage, AskReport, AskTake, AskHear, Event, Entry, Took, Heard, Refused, Cut, Refusal, ClockBehind, TxPending, StableBehind, ClockAtEnd, IsGone, HasGap, IsRepeat, IsDown, IsBadOp, HasNoRoom, IsDamaged, is_sent, is_report}
 use Rattle.world_model.specs.Lines.{call_of, call_asked, fault_shown, step_shown, tx_asked, number_asked}
 use Rattle.world_model.specs.Plan.{IsPlace}
 use Rattle.world_model.specs.Run.{Run}
@@ -34,7 +36,7 @@ use Rattle.txn_session.specs.Calls.{called, entries}
 use Rattle.site_partitions.specs.Reaches.{Types, MayAsk, Reaches}
 use Rattle.cluster.specs.declared.post.Note.{Note}
 use Rattle.site_partitions.specs.Answers.{Any, Asks, Calls, GoesOn}
-use Rattle.cluster.specs.Built.{is_built, is_of_fates}
+use Rattle.cluster.specs.Built.{is_built}
 use Rattle.cluster.specs.Faults.{ShowsFault, ShowFaults}
 use Rattle.site_partitions.specs.Held.{Held, holds_site, holds_part}
 use Rattle.cluster.specs.Same.{SameCluster}
@@ -49,7 +51,7 @@ use Rattle.cluster.proofs.Posting.{IsPosted, Posted, posted}
 use Rattle.cluster.proofs.Failing.{failed_by}
 use Rattle.cluster.proofs.Faulted.{same_of, shows_told}
 use Rattle.cluster.proofs.Seeing.{is_told, told_of, line_tells}
-use Rattle.cluster.proofs.Turning.{IsSilentFor}
+use Rattle.cluster.proofs.Turning.{IsSilentFor, has_other_lines}
 
 -- a refusal of a take names no transaction
 abbrev no_tx : TxId
@@ -94,7 +96,8 @@ failing_by (command.Commit name k) h parts who old s = off h
 failing_by (command.Abort name) h parts who old s = off h
 failing_by other h parts who old s = refl
 
-failing_alone : (cmd : Command) → is_asking cmd ≡ true → is_of_fates cmd ≡ false
+failing_alone : (cmd : Command) → is_asking cmd ≡ true → has_other_lines cmd ≡ false
+failing_alone (command.Cluster sites parts) h = off h
 failing_alone (command.Expire p t) h = off h
 failing_alone (command.Settle p) h = off h
 failing_alone other h = refl
@@ -168,6 +171,28 @@ place_of_part c p h =
     let part = and_parts (nat_le 1 p.part) _ x.1 in
     record { least_site = leb-true 1 p.site site.0; most_site = leb-true p.site c.sites site.1; least_part = leb-true 1 p.part part.0; most_part = leb-true p.part c.parts part.1 }
 
+-- what asks for a message, a report, or hears one is refused for no cause of the rules
+abbrev pub IsFree : {S E : Type 0} → Kinds S E → Ask E → Type 0
+IsFree {S} {E} kinds ask = (sites parts : ℕ) (id : PartId) (p : PartState E) (why : part.Refusal) → IsRefused kinds sites parts id p ask (cause why) → ⊥
+
+pub free_message : {S E : Type 0} (kinds : Kinds S E) (to : ℕ) (from : Option ℕ) → IsFree kinds (AskMessage to from)
+free_message kinds to from sites parts id p answer.BadOp x = x.1
+free_message kinds to from sites parts id p other x = x.1
+
+pub free_report : {S E : Type 0} (kinds : Kinds S E) → IsFree kinds AskReport
+free_report kinds sites parts id p answer.BadOp x = x.1
+free_report kinds sites parts id p other x = x.1
+
+pub free_hear : {S E : Type 0} (kinds : Kinds S E) (k q : ℕ) (b : List ℕ) → IsFree kinds (AskHear k q b)
+free_hear kinds k q b sites parts id p answer.BadOp x = x.1
+free_hear kinds k q b sites parts id p other x = x.1
+
+pub never_refused : {S E D : Type 0} (types : Types S E D) (old held : Held E D) (at : PartId) (ask : Ask E) (why : part.Refusal) → IsFree types.kinds ask → GoesOn types old held (Asks types old Any at ask) at ask (λ e. e ≡ Refused ask (cause why)) → (run : List (Entry E)) → Reaches types old run → MayCall old.sites old.parts run at ask → ⊥
+never_refused types old held at ask why free g run r may =
+    let x = (g.goes run r (may, tt)).0 in
+    let reached : Reaches types held ((record { at = at; event = Refused ask (cause why) }) ∷ run) = subst (λ e. Reaches types held ((record { at = at; event = e }) ∷ run)) x.shows x.reached in
+    free held.sites held.parts at (reached.is_run.0 at) why reached.is_run.2.step.0
+
 module _ {S E D : Type 0} (types : Types S E D) (w : WholeState E D) where
   abbrev after : Held E D → WholeState E D
   after held = record { live = record { sites = held; sessions = w.live.sessions }; post = w.post }
@@ -200,7 +225,7 @@ module _ {S E D : Type 0} (types : Types S E D) (w : WholeState E D) where
   struck held cmd asking at ask Shows error s steps is failing f g line run r may unmet placed past calls silent faults =
       let x = failed_by types w.live.sites held (Asks types w.live.sites Any at ask) at ask Shows (step.Disk at) (entries r.live.calls) r.live.sees.reached (may, tt) (IsStruck (entries r.live.calls) ask) (λ why reached. record { call = refl; silent = λ who. tt; unsent = refl; unreported = refl }) (λ a what k reached. record { call = calls a what k; silent = silent a what k; unsent = refl; unreported = refl }) faults error s g f in
       let seen : Sees types held (called 0 at x.event ∷ r.live.calls) = record { reached = x.reached; one_caller = (refl, r.live.sees.one_caller) } in
-      let tells = line_tells types w.live.sites held Any at ask tt None (Unit {0}) Shows (step.Disk at) (λ rose. (refl, rose)) error s g f in
+      let tells = line_tells types {P = Unit {0}} w.live.sites held Any at ask tt None (Unit {0}) Shows (step.Disk at) (λ rose. (refl, rose)) error s g f in
       subst (λ l. IsAnswer is_built run cmd l × Reached types (Some (after held)) (answered line (Some cmd) l run) × FaultsShown types (Some w) run l (Some (after held))) (sym is) (
         subst (AnswersBy run cmd (s ∷ [])) (sym unmet) (failing_replies run cmd asking s failing),
         called_on cmd held at x.event s line run r x.same seen (failing_posted cmd asking s failing) (failing_numbered run s failing ∙ x.shows) (placed ∙ ap (λ k. record { at = at; call = k }) (sym x.property.call)) x.property.silent (subst (IsOwnPast (sites_of run) (calls_of run)) (sym x.property.call) past) (failing_plain s failing) x.property.unsent x.property.unreported,
@@ -261,8 +286,8 @@ module _ {S E D : Type 0} (types : Types S E D) (w : WholeState E D) where
     struck_take held error s steps is failing f g line run r =
         let l = letter run r in
         struck held (command.Deliver number) refl (record { site = m.to; part = m.part }) (AskTake l.own m) (λ (u : Unit {0}) e. e ≡ Took l.own m) error s steps is failing (f l.own) (g l.own) line run r (may run r)
-            (none_due (all_met run (command.Deliver number)) (refl, (ap not r.live.has, (ap is_none l.letter, tt))))
-            (ap for_message l.letter) tt (λ u what k. subst (λ e. call_of (Cut e) ≡ call_asked (AskTake l.own m)) (sym k) refl) (λ u what k. subst (λ e. (who : List ℕ) → IsSilentFor (entries r.live.calls) who (Cut e)) (sym k) (λ who. tt)) (λ u what k. subst (λ e. step.Disk (record { site = m.to; part = m.part }) ≡ fault_shown (record { site = m.to; part = m.part }) e) (sym k) refl)
+        (none_due (all_met run (command.Deliver number)) (refl, (ap not r.live.has, (ap is_none l.letter, tt))))
+        (ap for_message l.letter) tt (λ u what k. subst (λ e. call_of (Cut e) ≡ call_asked (AskTake l.own m)) (sym k) refl) (λ u what k. subst (λ e. (who : List ℕ) → IsSilentFor (entries r.live.calls) who (Cut e)) (sym k) (λ who. tt)) (λ u what k. subst (λ e. step.Disk (record { site = m.to; part = m.part }) ≡ fault_shown (record { site = m.to; part = m.part }) e) (sym k) refl)
 
     pub refused_take : (X : Type 0) (held : Held E D) (error : DurableError) (s : Step) (steps : List Step) → steps ≡ s ∷ [] → FailedAs {X = X} (record { site = m.to; part = m.part }) (record { site = 0; part = 0; time = 0 }) number (step.Disk (record { site = m.to; part = m.part })) error (Ok s) → ((n : ℕ) → Calls types w.live.sites held Any (record { site = m.to; part = m.part }) (AskTake n m) (λ (u : Unit {0}) e. e ≡ Took n m) (Err error)) → Applies types (Some w) (command.Deliver number) steps (Some (record { live = record { sites = held; sessions = w.live.sessions }; post = w.post }))
     refused_take X held call.NoMemory s steps is f g = absurd f
@@ -304,8 +329,15 @@ module _ {S E D : Type 0} (types : Types S E D) (w : WholeState E D) where
     hear_fails held error s steps is failing has f g line run r =
         let l = noted run r in
         struck held (command.Hear number at) refl at (AskHear l.own n.from.part n.bounds) (λ (stable : List ℕ) e. e ≡ Heard l.own n.from.part n.bounds stable) error s steps is failing f (g l.own) line run r (may_listen run r)
-            (none_due (all_met run (command.Hear number at)) (refl, (ap not r.live.has, (ap not (sym (part_in types w.live run r.live at) ∙ has), (ap is_none l.notice, (ap (λ o. is_foreign o at) l.notice ∙ ap not same, tt))))))
-            (ap (for_report at) l.notice) tt (λ stable what k. subst (λ e. call_of (Cut e) ≡ call_asked (AskHear l.own n.from.part n.bounds)) (sym k) refl) (λ stable what k. subst (λ e. (who : List ℕ) → IsSilentFor (entries r.live.calls) who (Cut e)) (sym k) (λ who. tt)) (λ stable what k. subst (λ e. step.Disk at ≡ fault_shown at e) (sym k) refl)
+        (none_due (all_met run (command.Hear number at)) (refl, (ap not r.live.has, (ap not (sym (part_in types w.live run r.live at) ∙ has), (ap is_none l.notice, (ap (λ o. is_foreign o at) l.notice ∙ ap not same, tt))))))
+        (ap (for_report at) l.notice) tt (λ stable what k. subst (λ e. call_of (Cut e) ≡ call_asked {E = E} (AskHear l.own n.from.part n.bounds)) (sym k) refl) (λ stable what k. subst (λ e. (who : List ℕ) → IsSilentFor (entries r.live.calls) who (Cut e)) (sym k) (λ who. tt)) (λ stable what k. subst (λ e. step.Disk at ≡ fault_shown at e) (sym k) refl)
+
+    pub hear_refused : (held : Held E D) (error : DurableError) (s : Step) (steps : List Step) → steps ≡ s ∷ [] → holds_part w.live.sites at ≡ true → FailedAs {X = Unit {0}} at no_tx 0 (step.Disk at) error (Ok s) → ((k : ℕ) → Calls types w.live.sites held Any at (AskHear k n.from.part n.bounds) (λ (stable : List ℕ) e. e ≡ Heard k n.from.part n.bounds stable) (Err error)) → Applies types (Some w) (command.Hear number at) steps (Some (record { live = record { sites = held; sessions = w.live.sessions }; post = w.post }))
+    hear_refused held call.NoMemory s steps is has f g = absurd f
+    hear_refused held call.Down s steps is has f g = hear_fails held call.Down s steps is (ap is_failing f) has f g
+    hear_refused held call.Disk s steps is has f g = hear_fails held call.Disk s steps is (ap is_failing f) has f g
+    hear_refused held (call.Full room) s steps is has f g = hear_fails held (call.Full room) s steps is (ap is_failing f) has f g
+    hear_refused held (call.Refused why) s steps is has f g = λ line run r. let l = noted run r in absurd (never_refused types w.live.sites held at (AskHear l.own n.from.part n.bounds) why (free_hear types.kinds l.own n.from.part n.bounds) (g l.own) (entries r.live.calls) r.live.sees.reached (may_listen run r))
 
   module _ (number : ℕ) where
     pub deliver_absent : (steps : List Step) → steps ≡ step.NoMessage ∷ [] → is_some (kept_at w.post.letters number) ≡ false → Applies types (Some w) (command.Deliver number) steps (Some w)

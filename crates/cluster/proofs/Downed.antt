@@ -1,10 +1,10 @@
 -- A partition that is down is asked, and answers so: no call is made, and the run goes on by that.
-use Rattle.std.proofs.Common.{◌≡◌, ℕ, false, List, ◌∷◌, refl, Some}
+use Rattle.std.proofs.Common.{◌≡◌, false, List, ◌∷◌, refl}
 use Rattle.site_vector.specs.declared.ids.PartId.{PartId}
 use Rattle.site_vector.specs.declared.ids.TxId.{TxId}
 use Rattle.world_model.specs.Event.{AskAbort, AskReport, IsDown, Refused}
 use Rattle.world_model.specs.Plan.{IsPlace}
-use Rattle.txn_session.specs.Calls.{Call, called, entries}
+use Rattle.txn_session.specs.Calls.{Call, called}
 use Rattle.site_partitions.specs.Held.{Held}
 use Rattle.site_partitions.specs.Reaches.{Types}
 use Rattle.cluster.specs.Sees.{Sees}

@@ -1,6 +1,6 @@
 -- How an expire answers, and what it leaves.
-use Rattle.std.proofs.Common.{◌≡◌, ℕ, Bool, true, false, List, [], ◌∷◌, refl, sym, ap, ◌∙◌, subst, ⊎_elim, inl, None, Some}
-use Rattle.std.specs.Prelude.{not, ◌&&◌, ◌||◌, ◌==◌}
+use Rattle.std.proofs.Common.{◌≡◌, ℕ, Bool, true, false, List, [], ◌∷◌, refl, sym, ap, ◌∙◌, subst, ⊎_elim, inl, None, Some, Ok, Err}
+use Rattle.std.specs.Prelude.{not, ◌||◌, ◌==◌}
 use Rattle.std.proofs.lemmas.Bool.{or_parts, eqb-true, cases_Bool}
 use Rattle.site_vector.specs.declared.ids.PartId.{PartId}
 use Rattle.site_vector.specs.declared.ids.TxId.{TxId}
@@ -11,7 +11,7 @@ use Rattle.world_model.specs.declared.step.Step.{Step}
 use Rattle.world_model.specs.declared.step.Step.TheVariants as step
 use Rattle.world_model.specs.Answers.{answered}
 use Rattle.world_model.specs.Cluster.{has_part, parts_of}
-use Rattle.world_model.specs.Event.{AskAbort, IsDown, Aborted, Refused}
+use Rattle.world_model.specs.Event.{AskAbort, IsDown, HasNoRoom, Aborted, Refused, Cut}
 use Rattle.world_model.specs.Partition.{PartState, ToldCommitted, fate_of}
 use Rattle.world_model.specs.Plan.{IsPlace, home}
 use Rattle.world_model.specs.Run.{Run}
@@ -24,29 +24,33 @@ use Rattle.world_model.specs.Updates.{lead}
 use Rattle.world_model.proofs.Told as law
 use Rattle.partition_core.specs.declared.answers.Fate.{Fate}
 use Rattle.partition_core.specs.declared.answers.Fate.TheVariants as fate
+use Rattle.partition_core.specs.declared.durable.DurableError.{DurableError}
+use Rattle.partition_core.specs.declared.durable.DurableError.TheVariants as call
 use Rattle.partition_core.specs.Answers.{fate_told}
 use Rattle.txn_session.specs.Calls.{called, entries}
-use Rattle.site_partitions.specs.Answers.{AbortsByLead, GoesOn}
+use Rattle.site_partitions.specs.Answers.{AbortsByLead, GoesOn, CallsIf}
 use Rattle.site_partitions.specs.Fates.{IsLead, OfState}
-use Rattle.site_partitions.specs.Reaches.{Types, Reaches}
+use Rattle.site_partitions.specs.Reaches.{Types, Reaches, HasBegun}
 use Rattle.cluster.specs.Built.{is_built}
 use Rattle.cluster.specs.Fates.{lacks_txn, lead_place}
 use Rattle.cluster.specs.Faults.{ShowsFault, ShowFaults}
 use Rattle.cluster.specs.Same.{same_refl}
 use Rattle.site_partitions.specs.Held.{Held, holds_part}
 use Rattle.cluster.specs.Live.{LiveState}
-use Rattle.cluster.specs.Reached.{ReachedLive, GoesTo, AppliesLive}
-use Rattle.cluster.specs.Sees.{Sees}
+use Rattle.cluster.specs.Reached.{ReachedLive, GoesTo, AppliesLive, IsReachedLive}
+use Rattle.cluster.specs.Sees.{FailedAs, Sees}
+use Rattle.cluster.proofs.Aborting.{never_down, never_undropped}
 use Rattle.cluster.proofs.Clocks.{part_in}
 use Rattle.cluster.proofs.Delivering.{place_of_part}
 use Rattle.cluster.proofs.Downed.{down_abort}
-use Rattle.cluster.proofs.Faulted.{same_of}
+use Rattle.cluster.proofs.Faulted.{same_of, rose_of}
 use Rattle.cluster.proofs.Keeping.{is_postal}
 use Rattle.cluster.proofs.Meets.{all_met, first_at, none_due, refused}
 use Rattle.cluster.proofs.Standing.{IsQuiet, goes_quiet}
 use Rattle.cluster.proofs.Stepping.{either_true, either_false}
 use Rattle.cluster.proofs.Telling.{led_here, led_elsewhere, asks_here, asks_elsewhere, asks_ended, looked_pending, looked_finished, looked_gone, low_is, down_is, waiting_is, ended_is, lead_is, lead_same}
 use Rattle.cluster.proofs.Turned.{turned_alone}
+use Rattle.cluster.proofs.Worlds.{pending_home}
 
 none_lacks : (b : Bool) → not b ≡ false → b ≡ true
 none_lacks true h = refl
@@ -157,6 +161,39 @@ module _ {S E D : Type 0} (types : Types S E D) (c : LiveState E D) (p : PartId)
                 turned_alone types c run r number (command.Expire p t) 0 p (Aborted t false) later (same_of types.state c.sites later p g.moves) seen refl refl (λ who s. refl) (λ who. tt) tt,
                 tt,
               ))
+
+          -- the abort wasn't made; where its disk failed, that count rose
+          pub expire_failed : (error : DurableError) (s : Step) (steps : List Step) → steps ≡ s ∷ [] → CallsIf types c.sites later (AbortsByLead types c.sites p t) p (AskAbort t) (λ (x : Unit {0}) e. e ≡ Aborted t false) (Err error) → FailedAs {X = Unit {0}} p t 0 (step.Disk p) error (Ok s) → AppliesLive types c (command.Expire p t) steps (record { sites = later; sessions = c.sessions })
+          expire_failed call.NoMemory s steps is g f = absurd f
+          expire_failed call.Down s steps is g f = line_applies s (record { sites = later; sessions = c.sessions }) steps is (λ number run r. absurd (never_down types c.sites later p here g.1.moves g.2 (entries r.calls) r.sees.reached (up_in run r)))
+          expire_failed call.Disk s steps is g f = line_applies s (record { sites = later; sessions = c.sessions }) steps is (λ number run r.
+              let x = (g.0.goes (entries r.calls) r.sees.reached (may_drop run r)).0 in
+              let event : x.event ≡ Cut (Aborted t false) = x.shows.2 ∙ ap Cut x.shows.1.1 in
+              let seen : Sees types later (called 0 p (Cut (Aborted t false)) ∷ r.calls) = record { reached = subst (λ e. Reaches types later ((record { at = p; event = e }) ∷ entries r.calls)) event x.reached; one_caller = (refl, r.sees.one_caller) } in
+              subst (λ y. IsExpired run p t (y ∷ []) × GoesTo types c run r (record { sites = later; sessions = c.sessions }) ((record { number = number; command = Some (command.Expire p t); step = y }) ∷ run) × ShowsFault types.state run c.sites later y) (sym f) (
+                aborts (step.Disk p) run r (asked run r) refl,
+                turned_alone types c run r number (command.Expire p t) 0 p (Cut (Aborted t false)) later (same_of types.state c.sites later p g.0.moves) seen refl refl (λ who k. refl) (λ who. tt) tt,
+                rose_of types.state c.sites later p g.0.moves g.1,
+              ))
+          expire_failed (call.Full room) s steps is g f = line_applies s (record { sites = later; sessions = c.sessions }) steps is (λ number run r.
+              let x = (g.1.goes (entries r.calls) r.sees.reached (may_drop run r)).0 in
+              let seen : Sees types later (called 0 p (Refused (AskAbort t) (HasNoRoom room)) ∷ r.calls) = record { reached = subst (λ e. Reaches types later ((record { at = p; event = e }) ∷ entries r.calls)) x.shows x.reached; one_caller = (refl, r.sees.one_caller) } in
+              subst (λ y. IsExpired run p t (y ∷ []) × GoesTo types c run r (record { sites = later; sessions = c.sessions }) ((record { number = number; command = Some (command.Expire p t); step = y }) ∷ run) × ShowsFault types.state run c.sites later y) (sym f) (
+                aborts (step.Full room) run r (asked run r) refl,
+                turned_alone types c run r number (command.Expire p t) 0 p (Refused (AskAbort t) (HasNoRoom room)) later (same_of types.state c.sites later p g.1.moves) seen refl refl (λ who k. refl) (λ who. tt) tt,
+                tt,
+              ))
+          expire_failed (call.Refused why) s steps is g f = line_applies s (record { sites = later; sessions = c.sessions }) steps is (λ number run r.
+              absurd (never_undropped types c.sites later p t why (entries r.calls) r.sees.reached g (may_drop run r) (up_in run r) (led (entries r.calls) r.sees.reached).0))
+
+          -- it has begun
+          pub drop_begun : IsReachedLive types c → HasBegun types c.sites t
+          drop_begun x =
+              let r = x.reached in record {
+                run = entries r.calls;
+                reached = r.sees.reached;
+                begun = (pending_home types.kinds c.sites.sites c.sites.parts (entries r.calls) r.sees.reached.state r.sees.reached.is_run p t (led (entries r.calls) r.sees.reached).0).begun;
+              }
 
       module _ (ended : OfState types c.sites p (λ q. IsLead q.log t None)) where
         pub expire_finished : (v : List ℕ) (steps : List Step) → steps ≡ step.Finished p t ∷ [] → OfState types c.sites p (λ q. ToldCommitted v ≡ fate_of q t) → AppliesLive types c (command.Expire p t) steps c

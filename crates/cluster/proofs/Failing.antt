@@ -1,12 +1,10 @@
 -- A call of no session that isn't answered: the run goes on by what its line shows.
-use Rattle.std.proofs.Common.{◌≡◌, ℕ, List, ◌∷◌, sym, ◌∙◌, subst, Option}
+use Rattle.std.proofs.Common.{◌≡◌, List, ◌∷◌, sym, ◌∙◌, subst}
 use Rattle.std.specs.Prelude.{Ok, Err}
 use Rattle.site_vector.specs.declared.ids.PartId.{PartId}
-use Rattle.site_vector.specs.declared.ids.TxId.{TxId}
 use Rattle.world_model.specs.declared.step.Step.{Step}
-use Rattle.world_model.specs.declared.step.Step.TheVariants as step
 use Rattle.world_model.specs.Event.{Ask, Refusal, IsDown, HasNoRoom, Event, Refused, Cut, Entry}
-use Rattle.world_model.specs.Lines.{fault_shown, step_shown, tx_asked, number_asked, refusal_shown}
+use Rattle.world_model.specs.Lines.{fault_shown, step_shown, tx_asked, number_asked}
 use Rattle.partition_core.specs.declared.durable.DurableError.{DurableError}
 use Rattle.partition_core.specs.declared.durable.DurableError.TheVariants as call
 use Rattle.partition_core.specs.Answers.{cause}
@@ -14,9 +12,8 @@ use Rattle.site_partitions.specs.Held.{Held}
 use Rattle.site_partitions.specs.Reaches.{Types, Reaches}
 use Rattle.site_partitions.specs.Answers.{OnRuns, GoesOn, CallsIf}
 use Rattle.cluster.specs.Same.{SameCluster}
-use Rattle.cluster.specs.Faults.{TellsFault}
 use Rattle.cluster.specs.Sees.{refusal_line, FailedAs}
-use Rattle.cluster.proofs.Faulted.{same_of, rose_of}
+use Rattle.cluster.proofs.Faulted.{same_of}
 use Rattle.cluster.proofs.Seeing.{refusal_is}
 
 module _ {S E D A : Type 0} (types : Types S E D) (old new : Held E D) (May : OnRuns types old) (at : PartId) (ask : Ask E) (Shows : A → Event E → Type 0) (fault : Step) where

@@ -1,4 +1,6 @@
 pub mod Faulted
+pub mod Worlds
+pub mod Ups
 pub mod Seeing
 pub mod Keeping
 pub mod Mere
@@ -25,10 +27,11 @@ pub mod Leading
 pub mod Posting
 pub mod Dropping
 pub mod Delivering
+pub mod Feeding
 pub mod Sending
 pub mod Downed
-pub mod Waits
 pub mod Telling
 pub mod Aborting
 pub mod Expiring
+pub mod Queueing
 pub mod Settling

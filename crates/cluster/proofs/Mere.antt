@@ -12,7 +12,7 @@ use Rattle.world_model.specs.Cluster.{is_cluster, has_cluster, sites_of, parts_o
 use Rattle.world_model.specs.Meeting.{site_after, site_of, count_after, session_count}
 use Rattle.world_model.specs.Phases.{Phase, Absent, phase, phase_after, by_command}
 use Rattle.world_model.specs.Run.{Run}
-use Rattle.world_model.specs.ScriptCalls.{is_answer, is_looked_up, is_called, calls_of}
+use Rattle.world_model.specs.ScriptCalls.{is_answer, is_unasked, is_called, calls_of}
 use Rattle.disk_core.specs.States.{DiskState}
 use Rattle.site_partitions.specs.Held.{Held}
 use Rattle.cluster.specs.Faults.{ShowsFault, ShowFaults}
@@ -50,7 +50,7 @@ pub record IsMere (s : Step) : Type 0 where
 
 -- and no call is shown by it
 pub uncalled : (asked : Option Command) (s : Step) → is_answer s ≡ false → is_called asked s ≡ false
-uncalled asked s h = ap (λ b. b && not (is_looked_up asked s)) h
+uncalled asked s h = ap (λ b. b && not (is_unasked asked s)) h
 
 all_same : (s : Step) → is_answer s ≡ false → is_cluster s ≡ false → ((n : ℕ) → sites_after n s ≡ n) → ((n : ℕ) → parts_after n s ≡ n) → ((who : List ℕ) (old : Option ℕ) → site_after who old s ≡ old) → ((n : ℕ) → count_after n s ≡ n) → ((parts : ℕ) (who : List ℕ) (old : Phase) (asked : Option Command) → phase_after parts who old asked s ≡ by_command parts who old asked s) → IsMere s
 all_same s a b c d e f g = record { answer = a; cluster = b; sites = c; parts = d; site = e; count = f; phase = g }

@@ -23,12 +23,11 @@ use Rattle.cluster.specs.Live.{LiveState, session_in}
 use Rattle.cluster.specs.Reached.{ReachedLive}
 use Rattle.cluster.specs.Sees.{Sees, sees_legal}
 use Rattle.cluster.proofs.Standing.{SameFor, stands_still}
-use Rattle.cluster.specs.Built.{is_of_fates}
-use Rattle.cluster.proofs.Turning.{IsSilentFor, asked_lines, depends_other, holds_other}
+use Rattle.cluster.proofs.Turning.{IsSilentFor, asked_lines, has_other_lines, depends_other, holds_other}
 
 -- what such a line leaves as it was
 pub record IsPosted (cmd : Command) (s : Step) : Type 0 where
-  pub alone : is_of_fates cmd ≡ false
+  pub alone : has_other_lines cmd ≡ false
   pub answer : is_answer s ≡ true
   pub cluster : is_cluster s ≡ false
   pub sites : (n : ℕ) → sites_after n s ≡ n

@@ -182,9 +182,24 @@ module _ {S E D : Type 0} (types : Types S E D) where
           seen = record { reached = subst (λ e. Reaches types new ((record { at = at; event = e }) ∷ entries calls)) x.shows x.reached; one_caller = (refl, s.one_caller) };
         }
 
+    -- an event of this kind is just this one
+    pub exactly : (Shows : Event E → Type 0) (event : Event E) → ((e : Event E) → Shows e → e ≡ event) → GoesOn types old new (Asks types old Given at ask) at ask Shows → GoesOn types old new (Asks types old Given at ask) at ask (λ e. e ≡ event)
+    exactly Shows event f g = record {
+      moves = g.moves;
+      goes = λ run r m. let x = g.goes run r m in (record { event = x.0.event; asked = x.0.asked; shows = f x.0.event x.0.shows; reached = x.0.reached }, x.1);
+    }
+
+    -- what such an event tells, where some run allows the call
+    pub fact_of : (F : Type 0) (Shows : Event E → Type 0) → ((e : Event E) → Shows e → F) → GoesOn types old new (Asks types old Given at ask) at ask Shows → session.MayCall (λ s (p : P) l. Sees types s l) (λ (p : P) n. true) old.sites old.parts old pass number at ask → ((calls : List (Call E)) → Given (entries calls)) → F
+    fact_of F Shows f g m given = let x = (g.goes (entries m.run) m.seen.reached (m.allowed.may, given m.run)).0 in f x.event x.shows
+
   -- the same, as the partitions stand in the code that calls them
   pub calls_here : {A : Type 0} (inside old new : Held E D) → inside ≡ old → (Given : List (Entry E) → Type 0) (at : PartId) (ask : Ask E) (Shows : A → Event E → Type 0) (r : Result A DurableError) → Calls types inside new Given at ask Shows r → Calls types old new Given at ask Shows r
   calls_here inside old new view Given at ask Shows r g = subst (λ h. Calls types h new Given at ask Shows r) view g
+
+  -- of a call that changes nothing
+  pub calls_still : {A : Type 0} (inside old : Held E D) → inside ≡ old → (Given : List (Entry E) → Type 0) (at : PartId) (ask : Ask E) (Shows : A → Event E → Type 0) (r : Result A DurableError) → Calls types inside inside Given at ask Shows r → Calls types old old Given at ask Shows r
+  calls_still inside old view Given at ask Shows r g = subst (λ h. Calls types h h Given at ask Shows r) view g
 
   module _ {P : Type 0} (old new : Held E D) (Given : List (Entry E) → Type 0) (at : PartId) (tx : TxId) (v : List ℕ) (o : ObjectId) (own : List (Upd E)) (op : Op) (pass : P) (by : ℕ) where
     abbrev update : Ask E

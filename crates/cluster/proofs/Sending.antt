@@ -1,7 +1,7 @@
 -- A message or a report that is made, and kept under the next number.
 use Rattle.std.proofs.Common.{◌≡◌, ◌≤◌, inl, inr, ℕ, ◌+◌, Bool, true, false, List, [], ◌∷◌, length, refl, sym, ap, ◌∙◌, subst, Option, Some, arith}
 use Rattle.std.specs.Prelude.{not, nat_eq, ◌&&◌, ◌||◌, ◌==◌, if◌then◌else◌, Ok, Err}
-use Rattle.std.proofs.lemmas.Bool.{cond-false, cond-true, eqb-true}
+use Rattle.std.proofs.lemmas.Bool.{or_parts, cond-false, cond-true, eqb-true}
 use Rattle.site_vector.specs.declared.ids.PartId.{PartId}
 use Rattle.site_vector.specs.Ids.{same_part}
 use Rattle.crdt_core.specs.declared.record.Message.{Message}
@@ -19,6 +19,7 @@ use Rattle.world_model.specs.Plan.{IsPlace}
 use Rattle.world_model.specs.Run.{Run}
 use Rattle.world_model.specs.ScriptAnswers.{AnswersBy, IsAnswer}
 use Rattle.partition_core.specs.declared.durable.DurableError.{DurableError}
+use Rattle.partition_core.specs.declared.durable.DurableError.TheVariants as call
 use Rattle.txn_session.specs.Calls.{entries}
 use Rattle.cluster.specs.declared.post.Note.{Note}
 use Rattle.site_partitions.specs.Answers.{Any, Asks, GoesOn, Calls}
@@ -28,10 +29,10 @@ use Rattle.cluster.specs.Sees.{FailedAs}
 use Rattle.site_partitions.specs.Held.{Held, holds_part}
 use Rattle.cluster.specs.Same.{SameCluster, same_refl}
 use Rattle.cluster.specs.Post.{WholeState, HasPost, IsLetter, MailAs, IsNote, NoteAs, kept_at, lacks_way}
-use Rattle.cluster.specs.Reached.{Applies, ReachedWhole}
-use Rattle.site_partitions.specs.Reaches.{Types, Reaches}
+use Rattle.cluster.specs.Reached.{IsReached, Applies, ReachedWhole}
+use Rattle.site_partitions.specs.Reaches.{MayAsk, Types, Reaches}
 use Rattle.cluster.proofs.Clocks.{site_in, part_in}
-use Rattle.cluster.proofs.Delivering.{is_failing, struck}
+use Rattle.cluster.proofs.Delivering.{place_of_part, free_message, free_report, never_refused, is_failing, struck}
 use Rattle.cluster.proofs.Dropping.{turned_down}
 use Rattle.cluster.proofs.Faulted.{same_of}
 use Rattle.cluster.proofs.Keeping.{letter_at, note_at, none_and}
@@ -157,8 +158,28 @@ module _ {S E D : Type 0} (types : Types S E D) (w : WholeState E D) where
         → Applies types (Some w) (command.Send at site from) steps (Some (record { live = record { sites = held; sessions = w.live.sessions }; post = w.post }))
     send_fails held error s steps is failing way room f g line run r =
         struck types w held (command.Send at site from) refl at (AskMessage site from) (λ (m : Message E) e. (m.to ≡ site) × (e ≡ Sent from m)) error s steps is failing f g line run r tt
-            (none_due (all_met run (command.Send at site from)) (refl, (ap not r.live.has, (way_in run r ∙ way, (ap (λ n. n == 4096) (sym r.post.kept) ∙ room, tt)))))
-            refl tt (λ m what k. subst (λ e. call_of (Cut e) ≡ call_asked (AskMessage site from)) (sym k.1) (ap (λ n. SendTo n from) k.0)) (λ m what k. subst (λ e. (who : List ℕ) → IsSilentFor (entries r.live.calls) who (Cut e)) (sym k.1) (λ who. tt)) (λ m what k. subst (λ e. step.Disk at ≡ fault_shown at e) (sym k.1) refl)
+        (none_due (all_met run (command.Send at site from)) (refl, (ap not r.live.has, (way_in run r ∙ way, (ap (λ n. n == 4096) (sym r.post.kept) ∙ room, tt)))))
+        refl tt (λ m what k. subst (λ e. call_of (Cut e) ≡ call_asked {E = E} (AskMessage site from)) (sym k.1) (ap (λ n. SendTo n from) k.0)) (λ m what k. subst (λ e. (who : List ℕ) → IsSilentFor (entries r.live.calls) who (Cut e)) (sym k.1) (λ who. tt)) (λ m what k. subst (λ e. step.Disk at ≡ fault_shown at e) (sym k.1) refl)
+
+    pub may_send : lacks_way w.live.sites at site ≡ false → IsReached types (Some w) → MayAsk types w.live.sites at (AskMessage site from)
+    may_send there r = record {
+      place = place_of_part w.live.sites at (there_in (holds_part w.live.sites at) (or_parts (not (holds_part w.live.sites at)) _ there).0);
+      run = entries r.reached.live.calls;
+      reached = r.reached.live.sees.reached;
+      allowed = tt;
+    }
+      where
+        there_in : (b : Bool) → not b ≡ false → b ≡ true
+        there_in true h = refl
+        there_in false h = sym h
+
+    pub send_refused : (held : Held E D) (error : DurableError) (s : Step) (steps : List Step) → steps ≡ s ∷ [] → lacks_way w.live.sites at site ≡ false → (length w.post.letters == 4096) ≡ false → FailedAs {X = Unit {0}} at (record { site = 0; part = 0; time = 0 }) 0 (step.Disk at) error (Ok s) → Calls types w.live.sites held Any at (AskMessage site from) (λ (m : Message E) e. (m.to ≡ site) × (e ≡ Sent from m)) (Err error)
+        → Applies types (Some w) (command.Send at site from) steps (Some (record { live = record { sites = held; sessions = w.live.sessions }; post = w.post }))
+    send_refused held call.NoMemory s steps is has room f g = absurd f
+    send_refused held call.Down s steps is has room f g = send_fails held call.Down s steps is (ap is_failing f) has room f g
+    send_refused held call.Disk s steps is has room f g = send_fails held call.Disk s steps is (ap is_failing f) has room f g
+    send_refused held (call.Full n) s steps is has room f g = send_fails held (call.Full n) s steps is (ap is_failing f) has room f g
+    send_refused held (call.Refused why) s steps is has room f g = λ line run r. absurd (never_refused types w.live.sites held at (AskMessage site from) why (free_message types.kinds site from) g (entries r.live.calls) r.live.sees.reached tt)
 
   module _ (at : PartId) where
     part_there : (run : Run) → ReachedWhole types w run → has_part run at ≡ holds_part w.live.sites at
@@ -239,5 +260,13 @@ module _ {S E D : Type 0} (types : Types S E D) (w : WholeState E D) where
         → Applies types (Some w) (command.Report at) steps (Some w)
     report_fails error s steps is failing there room f g line run r =
         struck types w w.live.sites (command.Report at) refl at AskReport (λ (b : List ℕ) e. e ≡ Reported b) error s steps is failing f g line run r tt
-            (none_due (all_met run (command.Report at)) (refl, (ap not r.live.has, (ap not (part_there run r ∙ there), (ap (λ n. n == 4096) (sym r.post.noted) ∙ room, tt)))))
-            refl tt (λ b what k. subst (λ e. call_of (Cut e) ≡ call_asked {E = E} AskReport) (sym k) refl) (λ b what k. subst (λ e. (who : List ℕ) → IsSilentFor (entries r.live.calls) who (Cut e)) (sym k) (λ who. tt)) (λ b what k. subst (λ e. step.Disk at ≡ fault_shown at e) (sym k) refl)
+        (none_due (all_met run (command.Report at)) (refl, (ap not r.live.has, (ap not (part_there run r ∙ there), (ap (λ n. n == 4096) (sym r.post.noted) ∙ room, tt)))))
+        refl tt (λ b what k. subst (λ e. call_of (Cut e) ≡ call_asked {E = E} AskReport) (sym k) refl) (λ b what k. subst (λ e. (who : List ℕ) → IsSilentFor (entries r.live.calls) who (Cut e)) (sym k) (λ who. tt)) (λ b what k. subst (λ e. step.Disk at ≡ fault_shown at e) (sym k) refl)
+
+    pub report_refused : (error : DurableError) (s : Step) (steps : List Step) → steps ≡ s ∷ [] → holds_part w.live.sites at ≡ true → (length w.post.notes == 4096) ≡ false → FailedAs {X = Unit {0}} at (record { site = 0; part = 0; time = 0 }) 0 (step.Disk at) error (Ok s) → Calls types w.live.sites w.live.sites Any at AskReport (λ (b : List ℕ) e. e ≡ Reported b) (Err error)
+        → Applies types (Some w) (command.Report at) steps (Some w)
+    report_refused call.NoMemory s steps is there room f g = absurd f
+    report_refused call.Down s steps is there room f g = report_fails call.Down s steps is (ap is_failing f) there room f g
+    report_refused call.Disk s steps is there room f g = report_fails call.Disk s steps is (ap is_failing f) there room f g
+    report_refused (call.Full n) s steps is there room f g = report_fails (call.Full n) s steps is (ap is_failing f) there room f g
+    report_refused (call.Refused why) s steps is there room f g = λ line run r. absurd (never_refused types w.live.sites w.live.sites at AskReport why (free_report types.kinds) g (entries r.live.calls) r.live.sees.reached tt)

@@ -27,8 +27,7 @@ use Rattle.cluster.specs.Live.{LiveState, session_in, IsPut}
 use Rattle.cluster.specs.Reached.{phase_as, StandsBy, StandsAs, ReachedLive, GoesTo}
 use Rattle.cluster.specs.Sees.{Sees}
 use Rattle.cluster.proofs.Seeing.{is_told, told_last}
-use Rattle.cluster.specs.Built.{is_of_fates}
-use Rattle.cluster.proofs.Turning.{is_numberless, IsCallLine, call_line, asked_lines}
+use Rattle.cluster.proofs.Turning.{is_numberless, IsCallLine, call_line, asked_lines, has_other_lines}
 use Rattle.cluster.proofs.Turned.{IsOwnAsk, silent, call_is, numberless, next, depends_next, depended, other_next, turned}
 
 pub same_name : (a b : List ℕ) → bytes_eq a b ≡ true → a ≡ b
@@ -89,7 +88,7 @@ module _ {S E D : Type 0} (types : Types S E D) where
         pub put : IsPut c.sessions name new sessions
         pub there : IsThere s new
         pub own : IsOwnAsk (entries r.calls) name ask
-        pub of_session : is_of_fates cmd ≡ false
+        pub of_session : has_other_lines cmd ≡ false
         pub placed : asked_of (calls_of run) run cmd ≡ record { at = at; call = call_asked ask }
         pub past : IsOwnPast (sites_of run) (calls_of run) (call_asked ask)
         pub idle : (who : List ℕ) → bytes_eq name who ≡ false → (line : Step) → by_command (parts_of run) who (phase run who) (Some cmd) line ≡ phase run who

@@ -21,12 +21,12 @@ use Rattle.clocksi_commit.specs.Commit.{Committing, is_finishing}
 use Rattle.txn_session.specs.Session.{Txn, Ending, committed_so}
 use Rattle.cluster.specs.declared.commits.Way.{Way}
 use Rattle.cluster.specs.declared.commits.Way.TheVariants as way
-use Rattle.cluster.specs.Built.{is_of_fates}
+use Rattle.cluster.proofs.Turning.{has_other_lines}
 use Rattle.cluster.specs.Ends.{command_of, turned_to, can_go}
 use Rattle.cluster.proofs.Sessions.{own_name}
 
 -- how many steps there may be at most
-abbrev pub same : Going → ℕ
+abbrev pub size : Going → ℕ
 size (Preparing voted left n) = suc (length voted + (length left + length left))
 size (Finishing left n) = length left
 size (Aborting left) = length left
@@ -62,7 +62,7 @@ pub asked_end : (w : Way) (ls : List Line) (run : Run) (name : List ℕ) (steps 
 asked_end way.Commits ls run name steps = refl
 asked_end way.GivesUp ls run name steps = refl
 
-pub of_way : (w : Way) (name : List ℕ) (steps : Option ℕ) → is_of_fates (command_of w name steps) ≡ false
+pub of_way : (w : Way) (name : List ℕ) (steps : Option ℕ) → has_other_lines (command_of w name steps) ≡ false
 of_way way.Commits name steps = refl
 of_way way.GivesUp name steps = refl
 

@@ -1,6 +1,8 @@
 -- Crashes, restarts and fuses of partitions, as commands.
-use Rattle.std.proofs.Common.{◌≡◌, ℕ, true, false, List, [], ◌∷◌, refl, sym, ap, ◌∙◌, subst, None, Some}
-use Rattle.std.specs.Prelude.{not}
+use Rattle.std.proofs.Common.{◌≡◌, ℕ, true, false, List, [], ◌∷◌, refl, sym, ap, ◌∙◌, subst, None, Some, Err}
+use Rattle.std.specs.Prelude.{not, ◌≤◌, ◌&&◌, nat_le}
+use Rattle.std.proofs.lemmas.Bool.{and_from}
+use Rattle.field_codec.specs.FormLaws.{le_holds}
 use Rattle.site_vector.specs.declared.ids.PartId.{PartId}
 use Rattle.world_model.specs.declared.command.Command.{Command}
 use Rattle.world_model.specs.declared.command.Command.TheVariants as command
@@ -11,29 +13,45 @@ use Rattle.world_model.specs.Event as event
 use Rattle.world_model.specs.Event.{Event, Entry, Crashed, RestartCut}
 use Rattle.world_model.specs.Lines.{Crash, Restart}
 use Rattle.world_model.specs.Meeting.{met}
+use Rattle.world_model.specs.Plan.{IsPlace}
 use Rattle.world_model.specs.Run.{Run}
 use Rattle.world_model.specs.ScriptAnswers.{AnswersBy, IsAnswer}
+use Rattle.crdt_core.specs.Fitting.{unfit}
 use Rattle.disk_core.specs.States.{Rose}
 use Rattle.partition_core.specs.Durable.{disk_in}
 use Rattle.partition_core.specs.declared.restart.Restarted.{Restarted}
+use Rattle.partition_core.specs.declared.restart.RestartError.TheVariants as restart
 use Rattle.txn_session.specs.Calls.{called, entries}
-use Rattle.site_partitions.specs.Faults.{CrashesAt, StaysDownAt, ComesUpAt, Keeps}
-use Rattle.site_partitions.specs.Held.{Held, holds_part}
+use Rattle.site_partitions.specs.Faults.{CrashesAt, StaysDownAt, ComesUpAt, RestartsAt, Keeps}
+use Rattle.site_partitions.specs.Held.{Held, holds_site, holds_part}
 use Rattle.site_partitions.specs.Moves.{Moves}
-use Rattle.site_partitions.specs.Reaches.{Types}
+use Rattle.site_partitions.specs.Reaches.{Types, StandsAt}
 use Rattle.cluster.specs.Built.{is_built}
 use Rattle.cluster.specs.Faults.{ShowFaults}
 use Rattle.cluster.specs.Live.{LiveState}
-use Rattle.cluster.specs.Reached.{ReachedLive, GoesTo, AppliesLive}
+use Rattle.cluster.specs.Reached.{ReachedLive, GoesTo, AppliesLive, IsReachedLive}
 use Rattle.cluster.specs.Same.{SameCluster, same_trans}
 use Rattle.cluster.specs.Sees.{Sees}
 use Rattle.cluster.proofs.Clocks.{part_in}
+use Rattle.cluster.proofs.Delivering.{place_of_part}
 use Rattle.cluster.proofs.Faulted.{same_of, rose_of, show_last}
 use Rattle.cluster.proofs.Keeping.{grows_none, keeps_line}
 use Rattle.cluster.proofs.Meets.{all_met, first_at, none_due, refused}
 use Rattle.cluster.proofs.Standing.{quiet_still}
 use Rattle.cluster.proofs.Turned.{turned_alone}
 use Rattle.cluster.proofs.Turning.{asked_lines}
+use Rattle.cluster.proofs.Worlds.{all_fit}
+
+-- a partition that is there, as the code sees the cluster
+pub place_of_here : {E D : Type 0} (inside old : LiveState E D) → inside ≡ old → (p : PartId) → holds_part old.sites p ≡ true → IsPlace inside.sites.sites inside.sites.parts p
+place_of_here {E} {D} inside old view p has = subst (λ (x : LiveState E D). IsPlace x.sites.sites x.sites.parts p) (sym view) (place_of_part old.sites p has)
+
+within : (n most : ℕ) → 1 ≤ n → n ≤ most → (nat_le 1 n && nat_le n most) ≡ true
+within n most a b = and_from (nat_le 1 n) (nat_le n most) (le_holds 1 n a) (le_holds n most b)
+
+pub holds_place : {E D : Type 0} (inside old : LiveState E D) → inside ≡ old → (p : PartId) → IsPlace old.sites.sites old.sites.parts p → holds_part inside.sites p ≡ true
+holds_place {E} {D} inside old view p at = subst (λ (x : LiveState E D). holds_part x.sites p ≡ true) (sym view)
+    (and_from (holds_site old.sites p.site) (nat_le 1 p.part && nat_le p.part old.sites.parts) (within p.site old.sites.sites at.least_site at.most_site) (within p.part old.sites.parts at.least_part at.most_part))
 
 module _ {S E D : Type 0} (types : Types S E D) (c : LiveState E D) (p : PartId) where
   abbrev after : Held E D → LiveState E D
@@ -52,6 +70,10 @@ module _ {S E D : Type 0} (types : Types S E D) (c : LiveState E D) (p : PartId)
     each = r.each;
     count = r.count;
   }
+
+  -- a run that left the cluster, left it so after a fuse was taken away
+  pub reached_still : (mid : Held E D) → Moves types.state c.sites mid p → Keeps types c.sites mid p → IsReachedLive types c → IsReachedLive types (after mid)
+  reached_still mid moves keeps x = record { run = x.run; reached = kept_live mid (same_of types.state c.sites mid p moves) keeps x.run x.reached }
 
   pub crash_nowhere : (steps : List Step) → steps ≡ step.NoPart ∷ [] → holds_part c.sites p ≡ false → AppliesLive types c (command.Crash p) steps c
   crash_nowhere steps is lacks = refused types c (command.Crash p) step.NoPart steps is refl
@@ -79,6 +101,7 @@ module _ {S E D : Type 0} (types : Types S E D) (c : LiveState E D) (p : PartId)
 
   -- a fuse is no event
   pub fuse_applies : (k n : ℕ) (later : Held E D) (steps : List Step) → steps ≡ step.Fused p k n ∷ [] → holds_part c.sites p ≡ true → Moves types.state c.sites later p → Keeps types c.sites later p → AppliesLive types c (command.Fuse p k n) steps (after later)
+  unfolding kept_live
   fuse_applies k n later steps is there moves keeps number run r =
       let same = same_of types.state c.sites later p moves in
       subst (λ l. IsAnswer is_built run (command.Fuse p k n) l × GoesTo types c run r (after later) (answered number (Some (command.Fuse p k n)) l run) × ShowFaults types.state run c.sites later l) (sym is) (
@@ -118,6 +141,7 @@ module _ {S E D : Type 0} (types : Types S E D) (c : LiveState E D) (p : PartId)
 
   -- after a fuse that has fired was taken away
   pub revived : (mid : Held E D) (cmd : Command) (steps : List Step) (new : LiveState E D) → Moves types.state c.sites mid p → Keeps types c.sites mid p → AppliesLive types (after mid) cmd steps new → AppliesLive types c cmd steps new
+  unfolding kept_live
   revived mid cmd steps new moves keeps a number run r =
       let same = same_of types.state c.sites mid p moves in
       let x = a number run (kept_live mid same keeps run r) in (
@@ -125,3 +149,20 @@ module _ {S E D : Type 0} (types : Types S E D) (c : LiveState E D) (p : PartId)
         record { same = same_trans types.state c.sites mid new.sites same x.1.same; reached = x.1.reached; grows = x.1.grows; keeps = x.1.keeps },
         show_last types.state run c.sites mid new.sites steps same x.2,
       )
+
+  some_none : {A : Type 0} (x : A) → None ≡ Some x → ⊥
+  some_none x h = absurd (cc h)
+
+  -- a restart finds no log but one that fits, where some run left the cluster so
+  pub never_unfit : (later : Held E D) (n : ℕ) → IsPlace c.sites.sites c.sites.parts p → IsReachedLive types c → RestartsAt types c.sites later p (Err (restart.Unfit n)) → ⊥
+  never_unfit later n place x k =
+      let r = x.reached.sees.reached in
+      let m = k.0.moves in
+      let finds = k.1 (entries x.reached.calls) r in
+      let here : StandsAt types c.sites.sites c.sites.parts p m.before (r.state p) = subst (λ t. StandsAt types c.sites.sites c.sites.parts p t (r.state p)) (m.there m.before) (r.each p place m.before) in
+      let fit = all_fit types.kinds c.sites.sites c.sites.parts (entries x.reached.calls) r.state r.is_run p finds.0 finds.1 in
+      some_none n (sym fit ∙ ((λ i. unfit (sym here.sites_are i) (sym here.parts_are i) (sym here.id i) finds.0) ∙ finds.2))
+
+  -- nor one that can't be read
+  pub never_damaged : (later : Held E D) (at : ℕ) → IsReachedLive types c → RestartsAt types c.sites later p (Err (restart.Damaged at)) → ⊥
+  never_damaged later at x k = k.1 (entries x.reached.calls) x.reached.sees.reached

@@ -34,7 +34,6 @@ use Rattle.world_model.proofs.Queue.{in_order}
 use Rattle.world_model.proofs.Told as law
 use Rattle.world_model.proofs.Waiting.{same_pending}
 use Rattle.partition_core.specs.Stands.{told, AreEntries}
-use Rattle.partition_core.specs.Tables.{Tables}
 use Rattle.txn_session.specs.Calls.{entries}
 use Rattle.site_partitions.specs.Reaches.{Types}
 use Rattle.site_partitions.specs.declared.fates.Waiting.{Waiting}
@@ -42,6 +41,7 @@ use Rattle.site_partitions.specs.Fates.{waiting_of, AreWaiting}
 use Rattle.cluster.specs.Fates.{lead_place}
 use Rattle.cluster.specs.Live.{LiveState}
 use Rattle.cluster.specs.Reached.{ReachedLive}
+use Rattle.cluster.proofs.Worlds.{pending_home}
 
 or_later : (b d : Bool) → d ≡ true → (b || d) ≡ true
 or_later true d h = refl
@@ -169,7 +169,7 @@ module _ {S E D : Type 0} (types : Types S E D) (c : LiveState E D) (run : Run) 
   module _ (p : PartId) (place : IsPlace c.sites.sites c.sites.parts p) (is_up : (r.sees.reached.state p).up ≡ true) where
     -- what is pending is of the partition's site
     pub site_is : (t : TxId) → log.pending (r.sees.reached.state p).log t ≡ true → t.site ≡ p.site
-    site_is t h = let here = r.sees.reached.each p place (blank p) in here.stands.tells.waiting t h ∙ ap (λ (q : PartId). q.site) here.id
+    site_is t h = sym (pending_home types.kinds c.sites.sites c.sites.parts (entries r.calls) r.sees.reached.state r.sees.reached.is_run p t h).site
 
     pub down_is : is_down (calls_of run) p ≡ false
     down_is = ap (λ ls. is_down ls p) (sym r.shown) ∙ ((of_law p).down ∙ ap not is_up)

@@ -22,7 +22,6 @@ use Rattle.world_model.specs.Run.{Run}
 use Rattle.world_model.specs.declared.command.Command.TheVariants as command
 use Rattle.world_model.specs.Lines as world
 use Rattle.world_model.specs.ScriptCalls.{is_answer, asked_of, numbered, line_on, calls_of}
-use Rattle.cluster.specs.Built.{is_of_fates}
 use Rattle.world_model.specs.World.{is_begin, begun}
 use Rattle.world_model.proofs.Names.{off}
 use Rattle.txn_session.specs.Calls.{Call, entries, touches, IsLegal}
@@ -45,9 +44,17 @@ pub record IsCallLine (run : Run) (s : Step) : Type 0 where
   pub count : (n : ℕ) → count_after n s ≡ n
   pub number : numbered run s ≡ s
 
+-- a command of which some line shows another call than its own, or none
+abbrev pub has_other_lines : Command → Bool
+has_other_lines (command.Cluster sites parts) = true
+has_other_lines (command.Expire p t) = true
+has_other_lines (command.Settle p) = true
+has_other_lines other = false
+
 -- the line of a command that partitions answer by its own call
-pub asked_lines : (number : ℕ) (cmd : Command) (run : Run) (s shown : Step) (at : PartId) (call : world.Call) → is_of_fates cmd ≡ false → is_answer s ≡ true → numbered run s ≡ shown → asked_of (calls_of run) run cmd ≡ record { at = at; call = call }
+pub asked_lines : (number : ℕ) (cmd : Command) (run : Run) (s shown : Step) (at : PartId) (call : world.Call) → has_other_lines cmd ≡ false → is_answer s ≡ true → numbered run s ≡ shown → asked_of (calls_of run) run cmd ≡ record { at = at; call = call }
     → calls_of ((record { number = number; command = Some cmd; step = s }) ∷ run) ≡ (record { at = at; call = call; step = shown }) ∷ calls_of run
+asked_lines number (command.Cluster sites parts) run s shown at call f a n k = absurd (true≢false f)
 asked_lines number (command.Expire p t) run s shown at call f a n k = absurd (true≢false f)
 asked_lines number (command.Settle p) run s shown at call f a n k = absurd (true≢false f)
 asked_lines number cmd run s shown at call f a n k = cond-true (is_answer s && true) (line_on (calls_of run) (asked_of (calls_of run) run cmd) (numbered run s)) (calls_of run) (ap (λ b. b && true) a) ∙ (λ i. line_on (calls_of run) (k i) (n i))

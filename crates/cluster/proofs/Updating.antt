@@ -27,7 +27,6 @@ use Rattle.world_model.specs.Phases.{Phase, phase, phase_after, with_object, upd
 use Rattle.world_model.specs.Run.{Run}
 use Rattle.world_model.specs.ScriptAnswers.{Bears, AnswersBy, IsAnswer}
 use Rattle.world_model.specs.ScriptCalls.{at_object}
-use Rattle.world_model.proofs.Names.{off}
 use Rattle.txn_session.specs.Calls.{called, entries}
 use Rattle.txn_session.specs.declared.error.SessionError.{SessionError}
 use Rattle.txn_session.specs.declared.error.SessionError.TheVariants as error
@@ -202,8 +201,8 @@ module _ {S E D : Type 0} (types : Types S E D) (c : LiveState E D) (name : List
           let up = answer_up (entries r.calls) place t.event answer t.shows (told_last types later (called t.by place t.event) r.calls t.seen) in
           let most : length txn.updates < 256 = may.room in (
             subst (AnswersBy run (command.Update name o op) (answer ∷ []))
-                  (sym (none_due (all_met run (command.Update name o op)) (refl, (ap not r.has, (has_session types c run r name a.before a.is, (ap not (open_is types c run r name a.before a.is ∙ ap session.is_open e), (ap not may.fit, (ap (λ n. n == 256) (ap update_total (st.phase ∙ ap phase_as e) ∙ length-map txn.updates (λ (v : Upd E). v.object)) ∙ false_from_ne_true _ (λ k. let q = eqb-true (length txn.updates) 256 k in absurd (omega (arith, q, most))), tt))))))))
-                  (answer, refl, ap (λ z. z && true) up, subst (λ n. Bears run (command.Update n o op) answer) st.name (subst (Bears run (command.Update a.before.name o op)) (sym t.shows) (b.bears run))),
+                (sym (none_due (all_met run (command.Update name o op)) (refl, (ap not r.has, (has_session types c run r name a.before a.is, (ap not (open_is types c run r name a.before a.is ∙ ap session.is_open e), (ap not may.fit, (ap (λ n. n == 256) (ap update_total (st.phase ∙ ap phase_as e) ∙ length-map txn.updates (λ (v : Upd E). v.object)) ∙ false_from_ne_true _ (λ k. let q = eqb-true (length txn.updates) 256 k in absurd (omega (arith, q, most))), tt))))))))
+                (answer, refl, ap (λ z. z && true) up, subst (λ n. Bears run (command.Update n o op) answer) st.name (subst (Bears run (command.Update a.before.name o op)) (sym t.shows) (b.bears run))),
             acted types c run r number (command.Update name o op) name a.before a.is a.after place (AskUpdate txn.tx txn.s o own op) answer later t sessions (record {
               same = a.same;
               put = a.put;

@@ -1,5 +1,5 @@
 -- How what is pending at the partitions of a cluster ends without its session.
-use Rattle.std.specs.Prelude.{◌≡◌, ℕ, ◌||◌, ◌==◌, not, Bool, true, false, ◌∷◌, Some}
+use Rattle.std.specs.Prelude.{◌≡◌, ℕ, ◌||◌, ◌==◌, not, if◌then◌else◌, Bool, true, false, ◌∷◌, Some}
 use Rattle.site_vector.specs.declared.ids.PartId.{PartId}
 use Rattle.site_vector.specs.declared.ids.TxId.{TxId}
 use Rattle.site_vector.specs.Ids.{same_tx}
@@ -12,7 +12,7 @@ use Rattle.world_model.specs.Run.{Run}
 use Rattle.world_model.specs.ScriptCalls.{calls_of}
 use Rattle.world_model.specs.Settling.{settled, stays, is_unwritten, first_end, ends_as_lead}
 use Rattle.world_model.specs.Updates.{lead}
-use Rattle.world_model.specs.Waiting.{waiting}
+use Rattle.world_model.specs.Waiting.{waiting, without}
 use Rattle.site_partitions.specs.Fates.{OfState}
 use Rattle.site_partitions.specs.Held.{Held, holds_part}
 use Rattle.site_partitions.specs.Reaches.{Types}
@@ -50,6 +50,7 @@ module _ {S E D : Type 0} (types : Types S E D) where
     pub kept : (u : TxId) → stays (parts_of (settling number p s run)) (calls_of (settling number p s run)) p u ≡ stays (parts_of run) (calls_of run) p u
     pub leads : (u : TxId) → lead (parts_of (settling number p s run)) (calls_of (settling number p s run)) u ≡ lead (parts_of run) (calls_of run) u
     pub others : (u : TxId) → same_tx t u ≡ false → pending (calls_of (settling number p s run)) p u ≡ pending (calls_of run) p u
+    pub queue : waiting (calls_of (settling number p s run)) p ≡ (if stays (parts_of run) (calls_of run) p t then waiting (calls_of run) p else without t (waiting (calls_of run) p))
     pub up : OfState types new.sites p (λ q. q.up ≡ true)
 
   -- the end wasn't written; the run goes on by a line that says so, if no other one that waits is to be ended before it

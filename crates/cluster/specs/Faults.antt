@@ -1,7 +1,6 @@
 -- Which lines tell of a disk that failed, and that its count of faults rose where they do.
-use Rattle.std.specs.Prelude.{◌≡◌, ℕ, true, false, List, [], ◌∷◌, ⊤}
+use Rattle.std.specs.Prelude.{◌≡◌, true, false, List, [], ◌∷◌, ⊤}
 use Rattle.site_vector.specs.declared.ids.PartId.{PartId}
-use Rattle.site_vector.specs.declared.ids.TxId.{TxId}
 use Rattle.disk_core.specs.States.{DiskState, Rose}
 use Rattle.partition_core.specs.Durable.{Durable}
 use Rattle.world_model.specs.declared.step.Step.{Step}

@@ -18,6 +18,7 @@ use Rattle.txn_session.specs.Session.{Doing, Idle, Open, Ending, SessionState}
 use Rattle.cluster.specs.Built.{is_built}
 use Rattle.disk_core.specs.States.{DiskState}
 use Rattle.partition_core.specs.Durable.{Durable}
+use Rattle.site_partitions.specs.Held.{IsSized}
 use Rattle.site_partitions.specs.Reaches.{Types}
 use Rattle.cluster.specs.Faults.{ShowFaults, AreFed}
 use Rattle.cluster.specs.Same.{SameCluster}
@@ -64,6 +65,16 @@ pub record IsBefore (run : Run) : Type 0 where
 abbrev pub partitions_in : {E D : Type 0} → Option (WholeState E D) → List (Durable E D)
 partitions_in None = []
 partitions_in (Some w) = w.live.sites.partitions
+
+-- how many each site has
+abbrev pub parts_in : {E D : Type 0} → Option (WholeState E D) → Option ℕ
+parts_in None = None
+parts_in (Some w) = Some w.live.sites.parts
+
+-- and each place of it has one
+abbrev pub SizedIn : {E D : Type 0} → Option (WholeState E D) → Type 0
+SizedIn None = ⊤
+SizedIn (Some w) = IsSized w.live.sites.sites w.live.sites.parts (length w.live.sites.partitions)
 
 -- no line tells of a disk that failed for want of memory
 abbrev pub FedIn : {E D : Type 0} → (D → DiskState) → Option (WholeState E D) → List Step → Type 0

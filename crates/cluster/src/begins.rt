@@ -7,9 +7,9 @@ ghost use Rattle.cluster.specs.Same.{holds_place};
 ghost use Rattle.cluster.specs.Live.{phase_in, are_idle, session_in, stands_in, number_of};
 ghost use Rattle.cluster.specs.Reached.{AppliesLive, IsReachedLive};
 
-use crate::local::Local;
 use crate::cluster::only;
 use crate::live::{Live, Sessions, is_idle};
+use crate::local::Local;
 use crdt_core::Crdt;
 use disk_core::Disk;
 use field_codec::Text;

@@ -3,7 +3,7 @@ ghost use Rattle.disk_core.specs.Fuses.{fused_state};
 ghost use Rattle.site_partitions.specs.Made.{AreBlank, HandsBack};
 ghost use Rattle.site_partitions.specs.Reaches.{types_of};
 ghost use Rattle.cluster.specs.Built.{IsSaid, is_making};
-ghost use Rattle.cluster.specs.Reached.{Applies, IsReached, Reached, FedIn, partitions_in};
+ghost use Rattle.cluster.specs.Reached.{Applies, IsReached, Reached, FedIn, SizedIn, parts_in, partitions_in};
 
 use crate::running::Running;
 use crdt_core::Crdt;
@@ -44,6 +44,17 @@ impl<C: Crdt, D: Disk + Drop> Cluster<C, D> {
         ensures { Reached (types_of C.laws C.spells (fused_state D.state)) result [] }
     {
         Cluster { alloc, live: None }
+    }
+
+    /// The number of partitions of each site, where a cluster is made.
+    pub fn parts(&self) -> Option<u8>
+        ensures is { result ≡ parts_in self.now }
+        ensures sized { SizedIn self.now }
+    {
+        match &self.live {
+            Some(cluster) => Some(cluster.live.sites.all.parts()),
+            None => None,
+        }
     }
 
     /// Makes a cluster over formatted disks, one for each partition, site by site. Answers the lines of the command.

@@ -11,9 +11,9 @@ ghost use Rattle.cluster.specs.Live.{session_in};
 ghost use Rattle.cluster.specs.Reached.{AppliesLive, IsReachedLive};
 ghost use Rattle.cluster.specs.Sees.{Sees};
 
-use crate::local::Local;
 use crate::cluster::only;
 use crate::live::{Live, Sessions, is_idle};
+use crate::local::Local;
 use crdt_core::Crdt;
 use disk_core::Disk;
 use field_codec::Text;

@@ -118,12 +118,7 @@ impl<C: Crdt, D: Disk + Drop> Live<C, D> {
 
     /// Ends a transaction that is pending at a partition, which is up, if its lead is another one and has ended it.
     /// Answers the line, and whether the settle goes on: not where the end couldn't be written.
-    fn settle_one(
-        &mut self,
-        part: PartId,
-        tx: TxId,
-        lead: u8,
-    ) -> Result<(Step, bool), AllocError>
+    fn settle_one(&mut self, part: PartId, tx: TxId, lead: u8) -> Result<(Step, bool), AllocError>
         requires { MaySettle (types_of C.laws C.spells D.state) self.old part tx lead }
         ensures { IfOk result (λ r. Settles (types_of C.laws C.spells D.state) self.old self.new part tx lead r.0 r.1) }
     {

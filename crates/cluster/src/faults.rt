@@ -88,20 +88,22 @@ impl<C: Crdt, D: Disk + Drop> Live<C, D> {
             Ok(restarted) => {
                 return only(self.alloc, came_up(part, restarted));
             }
-            Err(RestartError::Disk) => {
-                return only(self.alloc, Step::Disk { part });
-            }
-            Err(RestartError::NoMemory) => {
-                return Err(AllocError);
-            }
-            // No run leaves a log on a disk that a restart can't read.
-            Err(RestartError::Damaged { at }) => {
-                return only(self.alloc, Step::Damaged { part, at });
-            }
-            Err(RestartError::Unfit { number }) => {
-                let at = number as u64;
-                return only(self.alloc, Step::Damaged { part, at });
-            }
+            Err(error) => match error {
+                RestartError::Disk => {
+                    return only(self.alloc, Step::Disk { part });
+                }
+                RestartError::NoMemory => {
+                    return Err(AllocError);
+                }
+                // No run leaves a log on a disk that a restart can't read.
+                RestartError::Damaged { at } => {
+                    return only(self.alloc, Step::Damaged { part, at });
+                }
+                RestartError::Unfit { number } => {
+                    let at = number as u64;
+                    return only(self.alloc, Step::Damaged { part, at });
+                }
+            },
         }
     }
 

@@ -10,8 +10,8 @@ ghost use Rattle.cluster.specs.Built.{IsSaid, is_of_fates, is_of_faults, is_of_p
 ghost use Rattle.cluster.specs.Live.{phase_in, is_open_phase, is_idle_phase};
 ghost use Rattle.cluster.specs.Reached.{AppliesLive, IsReachedLive};
 
-use crate::local::Local;
 use crate::cluster::only;
+use crate::local::Local;
 use crate::store::{NO_TX, failed};
 use crdt_core::{Crdt, Message};
 use disk_core::Disk;

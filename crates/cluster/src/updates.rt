@@ -5,9 +5,9 @@ ghost use Rattle.cluster.specs.Acts.{Acts, Reads, Updates};
 ghost use Rattle.cluster.specs.Live.{phase_in, are_open, refusal_in, refused_line};
 ghost use Rattle.cluster.specs.Reached.{AppliesLive, IsReachedLive};
 
-use crate::local::Local;
 use crate::cluster::only;
 use crate::live::{Live, Sessions, is_open};
+use crate::local::Local;
 use crdt_core::{Crdt, ObjectId, Op};
 use disk_core::Disk;
 use field_codec::Text;

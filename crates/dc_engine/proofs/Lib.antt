@@ -1,8 +1,11 @@
 pub mod Applied
+pub mod Making
 pub mod Moves
 pub mod PlayedBy
 pub mod Progress
 pub mod Readings
+pub mod Returned
+pub mod Sizes
 pub mod Standing
 pub mod Takes
 pub mod Written

@@ -1,9 +1,10 @@
 -- A state that answers lines, and what it has read, kept and replied.
 use Rattle.std.proofs.Common.{◌≡◌, ℕ, ◌+◌, List, [], ◌∷◌, ◌++◌, ◌-◌, length, take, drop, min, ◌==◌, true, refl, sym, ap, ◌∙◌, subst, append_assoc}
 use Rattle.std.proofs.lemmas.List.{append-nil, take-append-drop}
+use Rattle.dc_engine.specs.Reading.{makes_cluster}
 use Rattle.dc_engine.specs.Replies.{AnswersLine}
 use Rattle.script_text.specs.Ends.{HasNoEnd}
-use Rattle.dc_engine.specs.Blocks.{EndsAt, Stands, At, Moves, MovesPart}
+use Rattle.dc_engine.specs.Blocks.{EndsAt, Stands, At, Moves, MovesPart, MovesBefore}
 use Rattle.dc_engine.proofs.Standing.{stands_piece, stands_end}
 use Rattle.dc_engine.proofs.Takes.{take-cut, front_of, rest_of}
 
@@ -97,3 +98,18 @@ moves_on {M} reached old mid new block rest piece more kept mid_kept new_kept ou
     let next : MovesTo reached old new block (drop (at + 1) rest) kept [] out new_out = moves_more reached old mid new block rest kept mid_kept out mid_out new_out at t e (subst (λ l. AnswersLine reached mid new (take 4098 (mid_kept ++ l)) mid_out new_out) p a) in
     subst (λ k. MovesTo reached old new block (take (length more - 1) (drop 1 more)) kept k out new_out) (sym n)
     (subst (λ r. MovesTo reached old new block r kept [] out new_out) (sym (rest_of rest more at d)) next)
+
+-- all before a line that makes a cluster, whose LF stands at this place of the rest
+pub moves_before : {M : Type 0} (reached : M → List (List ℕ) → List ℕ → Type 0) (old mid : M) (block rest piece kept mid_kept out mid_out new_out : List ℕ) (at : ℕ) →
+    MovesTo reached old mid block rest kept mid_kept out mid_out → EndsAt rest at → piece ≡ take at rest → makes_cluster (take 4098 (mid_kept ++ piece)) ≡ true → new_out ≡ mid_out → MovesBefore reached old block kept out new_out
+moves_before reached old mid block rest piece kept mid_kept out mid_out new_out at t e p h k = subst (MovesBefore reached old block kept out) (sym k) (record {
+  new = mid;
+  done = t.done;
+  piece = take at rest;
+  later = drop (at + 1) rest;
+  new_kept = mid_kept;
+  split = t.split ∙ ap (λ l. t.done ++ l) (sym (take-append-drop at rest) ∙ ap (λ l. take at rest ++ l) e.here);
+  no_end = e.none_before;
+  making = subst (λ l. makes_cluster (take 4098 (mid_kept ++ l)) ≡ true) p h;
+  moves = t.moves;
+})

@@ -1,13 +1,17 @@
 -- What was played, told by another relation between lines and bytes.
-use Rattle.std.proofs.Common.{ℕ, false, true, List, Option}
-use Rattle.dc_engine.specs.Played.{Played, PlayedEnded, PlayedTooLong, PlayedPart}
-use Rattle.dc_engine.specs.Outcome.{Change, Outcome, And, most_bytes, block_bytes}
+use Rattle.std.proofs.Common.{◌≡◌, ℕ, ◌≤◌, Bool, false, true, List, Option, refl, arith}
+use Rattle.disk_core.specs.States.{DiskState, Rose}
+use Rattle.disk_makers.specs.Makers.{Maker}
+use Rattle.dc_engine.specs.Played.{Played, PlayedEnded, PlayedTooLong, PlayedPart, PlayedBefore}
+use Rattle.dc_engine.specs.Makers.{IsKept, ReturnsAll}
+use Rattle.dc_engine.specs.Outcome.{Change, Outcome, PlayOutcome, And, most_bytes, block_bytes}
 use Rattle.dc_engine.specs.Replies.{Replies}
-use Rattle.dc_engine.specs.Player.{ReachedBy}
-use Rattle.dc_engine.specs.Answered.{Answered}
+use Rattle.dc_engine.specs.Player.{PlayerState, ReachedBy}
+use Rattle.dc_engine.specs.Answered.{Answered, AnsweredWhole}
 use Rattle.dc_engine.specs.declared.status.Status.{Status}
 use Rattle.dc_engine.specs.declared.status.Status.TheVariants as status
-use Rattle.dc_engine.proofs.Applied.{reached_answered}
+use Rattle.dc_engine.specs.Status.{ends_whole}
+use Rattle.dc_engine.proofs.Returned.{reached_answered, reached_whole}
 
 module _ (most : ℕ) (P Q : List (List ℕ) → List ℕ → Type 0) (f : (lines : List (List ℕ)) (bytes : List ℕ) → P lines bytes → Q lines bytes) (input left before after : Option (List ℕ)) where
   played_by : Played most P input left before after → Played most Q input left before after
@@ -37,16 +41,39 @@ module _ (most : ℕ) (P Q : List (List ℕ) → List ℕ → Type 0) (f : (line
     to_sink = p.to_sink;
   }
 
-module _ (P Q : List (List ℕ) → List ℕ → Type 0) (f : (lines : List (List ℕ)) (bytes : List ℕ) → P lines bytes → Q lines bytes) where
-  outcome_by : (s : Status) (source sink : Change) → Outcome P s source sink → Outcome Q s source sink
-  outcome_by status.Done source sink h = played_by most_bytes (And P false) (And Q false) (λ lines bytes r. (f lines bytes r.0, r.1)) source.before source.after sink.before sink.after h
-  outcome_by status.BadLine source sink h = played_by most_bytes (And P true) (And Q true) (λ lines bytes r. (f lines bytes r.0, r.1)) source.before source.after sink.before sink.after h
-  outcome_by status.Usage source sink h = h
-  outcome_by status.ReadFault source sink h = (ended_by most_bytes P Q f source.before source.after sink.before sink.after h.0, h.1)
-  outcome_by status.WriteFault source sink h = (part_by most_bytes P Q f source.before source.after sink.before sink.after block_bytes h.0, h.1)
-  outcome_by status.NoMemory source sink h = part_by most_bytes P Q f source.before source.after sink.before sink.after block_bytes h
-  outcome_by status.TooLong source sink h = too_long_by most_bytes P Q f source.before source.after sink.before sink.after h
+  before_by : (size : ℕ) → PlayedBefore size most P input left before after → PlayedBefore size most Q input left before after
+  before_by size p = record {
+    earlier = p.earlier;
+    block = p.block;
+    lines = p.lines;
+    line = p.line;
+    written = p.written;
+    from_source = p.from_source;
+    fits = p.fits;
+    in_hand = p.in_hand;
+    are_later = p.are_later;
+    are_read = p.are_read;
+    are_first = p.are_first;
+    making = p.making;
+    replied = f _ _ p.replied;
+    to_sink = p.to_sink;
+  }
 
--- what a player answered is what the program promises
-pub outcome_lawful : (s : Status) (source sink : Change) → Outcome (Replies ReachedBy) s source sink → Outcome Answered s source sink
-outcome_lawful = outcome_by (Replies ReachedBy) Answered (λ lines bytes r. reached_answered r.0.cluster lines bytes r.1.reached)
+module _ (W V P Q : List (List ℕ) → List ℕ → Type 0) (X Y : Type 0) (f : (lines : List (List ℕ)) (bytes : List ℕ) → P lines bytes → Q lines bytes) (x : X → Y) where
+  outcome_by : (s : Status) (source sink : Change) → (ends_whole s ≡ true → (lines : List (List ℕ)) (bytes : List ℕ) → W lines bytes → V lines bytes) → Outcome W P X s source sink → Outcome V Q Y s source sink
+  outcome_by status.Done source sink g h = played_by most_bytes (And W false) (And V false) (λ lines bytes r. (g refl lines bytes r.0, r.1)) source.before source.after sink.before sink.after h
+  outcome_by status.BadLine source sink g h = played_by most_bytes (And W true) (And V true) (λ lines bytes r. (g refl lines bytes r.0, r.1)) source.before source.after sink.before sink.after h
+  outcome_by status.Usage source sink g h = h
+  outcome_by status.ReadFault source sink g h = (ended_by most_bytes P Q f source.before source.after sink.before sink.after h.0, h.1)
+  outcome_by status.WriteFault source sink g h = (part_by most_bytes P Q f source.before source.after sink.before sink.after block_bytes h.0, h.1)
+  outcome_by status.NoMemory source sink g h = part_by most_bytes P Q f source.before source.after sink.before sink.after block_bytes h
+  outcome_by status.TooLong source sink g h = too_long_by most_bytes P Q f source.before source.after sink.before sink.after h
+  outcome_by status.NoDisk source sink g h = (before_by most_bytes P Q f source.before source.after sink.before sink.after block_bytes h.0, x h.1)
+
+-- what a player answered is what the program promises, once its disks are given back
+pub outcome_lawful : {D : Type 0} (state : D → DiskState) (p : PlayerState D) (start mid end : Maker D) (s : Status) (source sink : Change) → (ends_whole s ≡ true → IsKept start mid) → ReturnsAll p.cluster mid end
+    → Outcome (ReachedBy state p) (Replies (ReachedBy state)) (Rose start.faults mid.faults) s source sink → PlayOutcome state start end s source sink
+outcome_lawful state p start mid end s source sink kept back = outcome_by (ReachedBy state p) (AnsweredWhole state start end) (Replies (ReachedBy state)) Answered (Rose start.faults mid.faults) (Rose start.faults end.faults)
+    (λ lines bytes r. reached_answered state r.0.cluster lines bytes r.1.reached)
+    (λ rose. let same = back.back.faults in omega (arith, same, rose))
+    s source sink (λ e lines bytes r. reached_whole state p.cluster start mid end (kept e) back lines bytes r.reached)

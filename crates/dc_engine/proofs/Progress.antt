@@ -2,16 +2,18 @@
 use Rattle.std.specs.Prelude.{Ok}
 use Rattle.std.proofs.Common.{◌≡◌, ◌≢◌, ℕ, zero, suc, ◌-◌, ◌≤◌, Bool, true, List, [], ◌∷◌, ◌++◌, Option, Some, None, length, take, refl, sym, ap, zero-add, ◌∙◌, subst, arith, append_assoc, length-append}
 use Rattle.std.proofs.lemmas.List.{append-nil, length-take-le}
-use Rattle.std.specs.Io.KnownBytes.{Consumes, Keeps, IsAtEnd}
+use Rattle.std.specs.Io.KnownBytes.{Appends, Consumes, Keeps, IsAtEnd}
 use Rattle.dc_engine.specs.Lines.{lines_of, ended_lines}
-use Rattle.dc_engine.specs.Reading.{has_bad}
+use Rattle.dc_engine.specs.Reading.{has_bad, makes_cluster, asks_cluster, asked_of}
 use Rattle.dc_engine.specs.Replies.{Replies}
 use Rattle.dc_engine.specs.Outcome.{And}
 use Rattle.dc_engine.specs.declared.fault.Fault.{Fault}
 use Rattle.dc_engine.specs.declared.fault.Fault.TheVariants as fault
-use Rattle.dc_engine.specs.Played.{Played, PlayedEnded, PlayedTooLong, PlayedPart, AreFirst, IsFront}
-use Rattle.dc_engine.specs.Blocks.{Progress, Stopped, GoesOn, At, prefixed_first, Writes, WritesPart, Ends, EndsPart, TakesOne}
-use Rattle.dc_engine.proofs.Standing.{stands_start, stands-ended, stands-first, stands-more}
+use Rattle.dc_engine.specs.Played.{Played, PlayedEnded, PlayedTooLong, PlayedPart, PlayedBefore, AreFirst, IsFront}
+use Rattle.dc_engine.specs.Blocks.{Progress, Stopped, GoesOn, At, prefixed_first, Writes, WritesPart, WritesBefore, Ends, EndsPart, EndsBefore, TakesOne, Stands}
+use Rattle.dc_engine.proofs.Standing.{stands_start, stands-ended, stands-first, stands-last, stands-more, stands_piece, stands_end}
+use Rattle.dc_engine.proofs.Readings.{asked_of-take}
+use Rattle.dc_engine.proofs.Takes.{take-cut}
 use Rattle.dc_engine.proofs.Written.{written_none, appends_more}
 
 taken_none : (input : Option (List ℕ)) → Consumes input input []
@@ -43,6 +45,13 @@ first_at_end : (input left : Option (List ℕ)) (read : List ℕ) (lines later :
 first_at_end None left read lines later f c e = tt
 first_at_end (Some xs) None read lines later f c e = absurd c
 first_at_end (Some xs) (Some ys) read lines later f c e = (later, ap lines_of (c ∙ ap (λ s. read ++ s) e ∙ append-nil read) ∙ f)
+
+-- a line of which the first bytes are kept makes a cluster as what is kept does
+making_whole : (kept pending piece : List ℕ) → kept ≡ take 4098 pending → makes_cluster (take 4098 (kept ++ piece)) ≡ true → makes_cluster (pending ++ piece) ≡ true
+making_whole kept pending piece e h = ap asks_cluster (sym (asked_of-take (pending ++ piece)) ∙ ap asked_of (sym (take-cut 4098 pending piece) ∙ ap (λ k. take 4098 (k ++ piece)) (sym e))) ∙ h
+
+making_last : (kept pending : List ℕ) → kept ≡ take 4098 pending → makes_cluster kept ≡ true → makes_cluster pending ≡ true
+making_last kept pending e h = ap asks_cluster (sym (asked_of-take pending) ∙ ap asked_of (sym e)) ∙ h
 
 module _ {M : Type 0} (most : ℕ) (reached : M → List (List ℕ) → List ℕ → Type 0) where
   pub progress_start : (m : M) (input before : Option (List ℕ)) → reached m [] [] → Progress most reached m input input before before [] most
@@ -171,14 +180,67 @@ module _ {M : Type 0} (most : ℕ) (reached : M → List (List ℕ) → List ℕ
         to_sink = appends_more before mid after p.written (take w.to_sink.0 w.reply) (p.written ++ take w.to_sink.0 w.reply) p.to_sink w.to_sink.1 refl;
       }
 
+  pub before_block : (size : ℕ) (m : M) (input left rest before mid after : Option (List ℕ)) (kept piece : List ℕ) (room : ℕ) →
+      length piece ≤ size → length piece ≤ room → Progress most reached m input left before mid kept room → Consumes left rest piece → WritesBefore reached m piece kept mid after → PlayedBefore size most (Replies reached) input rest before after
+  before_block size m input left rest before mid after kept piece room within fits p c w =
+      let at = w.moved p.read p.written p.at in
+      let line = at.pending ++ w.piece in
+      let all : Consumes input rest (p.read ++ piece) = taken_more input left rest p.read piece p.from_source c in
+      let past : Stands (((p.read ++ w.done) ++ w.piece) ++ 10 ∷ []) (at.lines ++ line ∷ []) [] = stands_end ((p.read ++ w.done) ++ w.piece) at.lines line (stands_piece (p.read ++ w.done) at.lines at.pending w.piece w.no_end at.stands) in
+      let spelled : p.read ++ piece ≡ (((p.read ++ w.done) ++ w.piece) ++ 10 ∷ []) ++ w.later = ap (λ s. p.read ++ s) w.split ∙ (sym (append_assoc p.read w.done (w.piece ++ 10 ∷ w.later)) ∙ (sym (append_assoc (p.read ++ w.done) w.piece (10 ∷ w.later)) ∙ sym (append_assoc ((p.read ++ w.done) ++ w.piece) (10 ∷ []) w.later))) in
+      let front : (more : List ℕ) → (later : List (List ℕ)) × (lines_of ((p.read ++ piece) ++ more) ≡ (at.lines ++ line ∷ []) ++ later) =
+      λ more. let first = stands-first (((p.read ++ w.done) ++ w.piece) ++ 10 ∷ []) (w.later ++ more) (at.lines ++ line ∷ []) [] past in
+      (first.0, ap lines_of (ap (λ s. s ++ more) spelled ∙ append_assoc (((p.read ++ w.done) ++ w.piece) ++ 10 ∷ []) w.later more) ∙ first.1) in
+      record {
+        earlier = p.read;
+        block = piece;
+        lines = at.lines;
+        line = line;
+        written = p.written ++ w.reply;
+        from_source = all;
+        fits = omega (arith, length-append p.read piece, p.count);
+        in_hand = within;
+        are_later = (prefixed_first p.at.pending (ended_lines w.done), stands-more p.read w.done p.at.lines at.lines p.at.pending at.pending p.at.stands at.stands);
+        are_read = ((front []).0, ap lines_of (sym (append-nil (p.read ++ piece))) ∙ (front []).1);
+        are_first = first_of_input input rest (p.read ++ piece) (at.lines ++ line ∷ []) front all;
+        making = making_whole w.new_kept at.pending w.piece at.is_kept w.making;
+        replied = (w.new, at.replied);
+        to_sink = appends_more before mid after p.written w.reply (p.written ++ w.reply) p.to_sink w.to_sink refl;
+      }
+
+  pub before_end : (size : ℕ) (m : M) (input left rest before mid after : Option (List ℕ)) (kept : List ℕ) (room : ℕ) →
+      Progress most reached m input left before mid kept room → Consumes left rest [] → IsAtEnd rest → EndsBefore kept mid after → PlayedBefore size most (Replies reached) input rest before after
+  before_end size m input left rest before mid after kept room p c e w =
+      let at = p.at in
+      let some : at.pending ≢ [] = λ h. w.some (at.is_kept ∙ ap (take 4098) h) in
+      let all = taken_more input left rest p.read [] p.from_source c in
+      let last : lines_of p.read ≡ (at.lines ++ at.pending ∷ []) ++ [] = stands-last p.read at.lines at.pending some at.stands ∙ sym (append-nil (at.lines ++ at.pending ∷ [])) in
+      record {
+        earlier = p.read;
+        block = [];
+        lines = at.lines;
+        line = at.pending;
+        written = p.written;
+        from_source = all;
+        fits = omega (arith, length-append p.read [], p.count);
+        in_hand = omega arith;
+        are_later = ([], sym (stands-ended p.read at.lines at.pending at.stands) ∙ sym (append-nil (ended_lines p.read)));
+        are_read = ([], ap lines_of (append-nil p.read) ∙ last);
+        are_first = first_at_end input rest p.read (at.lines ++ at.pending ∷ []) [] last (subst (Consumes input rest) (append-nil p.read) all) e;
+        making = making_last kept at.pending at.is_kept w.making;
+        replied = (m, at.replied);
+        to_sink = subst (λ s. Appends before after s) (append-nil p.written) (appends_more before mid after p.written [] (p.written ++ []) p.to_sink w.same refl);
+      }
+
   pub stopped_read : (size : ℕ) (e : Fault) (input left before after : Option (List ℕ)) → e ≡ fault.Read → PlayedEnded most (Replies reached) input left before after → Stopped size most reached input left before after e
   stopped_read size e input left before after h p = subst (Stopped size most reached input left before after) (sym h) p
 
-  pub stopped_part : (size : ℕ) (e : Fault) (input left before after : Option (List ℕ)) → (e ≢ fault.Read) × (e ≢ fault.TooLong) → PlayedPart size most (Replies reached) input left before after → Stopped size most reached input left before after e
-  stopped_part size fault.Read input left before after h p = absurd (h.0 refl)
-  stopped_part size fault.Write input left before after h p = p
-  stopped_part size fault.NoMemory input left before after h p = p
-  stopped_part size fault.TooLong input left before after h p = absurd (h.1 refl)
+  pub stopped_part : (size : ℕ) (e : Fault) (input left before after : Option (List ℕ)) → (e ≢ fault.Read) × (e ≢ fault.TooLong) → PlayedPart size most (Replies reached) input left before after → (e ≡ fault.NoDisk → PlayedBefore size most (Replies reached) input left before after) → Stopped size most reached input left before after e
+  stopped_part size fault.Read input left before after h p b = absurd (h.0 refl)
+  stopped_part size fault.Write input left before after h p b = p
+  stopped_part size fault.NoMemory input left before after h p b = p
+  stopped_part size fault.TooLong input left before after h p b = absurd (h.1 refl)
+  stopped_part size fault.NoDisk input left before after h p b = b refl
 
   pub goes_on : (size : ℕ) (m new : M) (input left rest before mid after : Option (List ℕ)) (kept new_kept block : List ℕ) (room count : ℕ) →
       Progress most reached m input left before mid kept room → Consumes left rest (take count block) → count ≤ length block → count ≤ room → (count ≡ 0 → ⊥) → Writes reached m new (take count block) kept new_kept mid after →
@@ -201,7 +263,7 @@ module _ {M : Type 0} (most : ℕ) (reached : M → List (List ℕ) → List ℕ
 
 -- a script that was read to its end, and whether a line of it isn't in the grammar
 pub played_all : {M : Type 0} (most : ℕ) (reached : M → List (List ℕ) → List ℕ → Type 0) (m : M) (met bad : Bool) (input left before after : Option (List ℕ)) →
-    met ≡ bad → Played most (reached m) input left before after → ((lines : List (List ℕ)) (bytes : List ℕ) → reached m lines bytes → has_bad lines ≡ met) → Played most (And (Replies reached) bad) input left before after
+    met ≡ bad → Played most (reached m) input left before after → ((lines : List (List ℕ)) (bytes : List ℕ) → reached m lines bytes → has_bad lines ≡ met) → Played most (And (reached m) bad) input left before after
 played_all most reached m met bad input left before after e p h = record {
   read = p.read;
   written = p.written;
@@ -209,5 +271,5 @@ played_all most reached m met bad input left before after e p h = record {
   at_end = p.at_end;
   fits = p.fits;
   to_sink = p.to_sink;
-  replied = ((m, p.replied), h (lines_of p.read) p.written p.replied ∙ e);
+  replied = (p.replied, h (lines_of p.read) p.written p.replied ∙ e);
 }

@@ -5,8 +5,9 @@ use Rattle.std.proofs.lemmas.List.{append-nil, length-take, take-take, drop-take
 use Rattle.std.specs.Prelude.{Result, Ok, Err, OnErr}
 use Rattle.std.specs.Io.KnownBytes.{Appends}
 use Rattle.dc_engine.specs.Lines.{lines_of, ended_lines}
+use Rattle.dc_engine.specs.Reading.{makes_cluster}
 use Rattle.dc_engine.specs.Replies.{AnswersLine}
-use Rattle.dc_engine.specs.Blocks.{Stands, At, Moves, MovesPart, AppendsPart, Writes, WritesPart, Ends, EndsPart}
+use Rattle.dc_engine.specs.Blocks.{Stands, At, Moves, MovesPart, MovesBefore, AppendsPart, Writes, WritesPart, WritesBefore, Ends, EndsPart, EndsBefore}
 use Rattle.dc_engine.proofs.Standing.{stands-whole, stands-last, stands-first, stands-ended}
 
 take_split : (bytes : List ℕ) (k n : ℕ) → take k bytes ++ take n (drop k bytes) ≡ take (k + n) bytes
@@ -54,12 +55,28 @@ pub writes_front : {M : Type 0} (reached : M → List (List ℕ) → List ℕ �
 writes_front reached old new fresh kept new_kept out new_out before after m e a =
     writes_some reached old fresh kept out new_out before after (record { new = new; done = fresh; later = []; new_kept = new_kept; split = sym (append-nil fresh); moves = m }) e a
 
+pub writes_before : {M : Type 0} (reached : M → List (List ℕ) → List ℕ → Type 0) (old : M) (fresh kept out new_out : List ℕ) (before after : Option (List ℕ)) →
+    MovesBefore reached old fresh kept out new_out → out ≡ [] → Appends before after new_out → WritesBefore reached old fresh kept before after
+writes_before reached old fresh kept out new_out before after m e a = record {
+  new = m.new;
+  done = m.done;
+  piece = m.piece;
+  later = m.later;
+  new_kept = m.new_kept;
+  split = m.split;
+  no_end = m.no_end;
+  making = m.making;
+  reply = m.moves.reply;
+  to_sink = subst (Appends before after) (sym (replies_of out new_out m.moves.reply m.moves.appended e)) a;
+  moved = m.moves.moved;
+}
+
 none_pending : (kept pending : List ℕ) → (length kept == 0) ≡ true → kept ≡ take 4098 pending → pending ≡ []
 none_pending kept [] h e = refl
 none_pending [] (b ∷ pending) h e = absurd (omega (arith, ap length e, length-take 4098 (b ∷ pending)))
 none_pending (c ∷ kept) (b ∷ pending) h e = absurd (omega (arith, eqb-true _ _ h))
 
-some_pending : (kept pending : List ℕ) → (length kept == 0) ≡ false → kept ≡ take 4098 pending → pending ≢ []
+pub some_pending : (kept pending : List ℕ) → (length kept == 0) ≡ false → kept ≡ take 4098 pending → pending ≢ []
 some_pending [] pending h e p = eqb-false 0 0 h refl
 some_pending (c ∷ kept) pending h e p = absurd (omega (arith, ap length (e ∙ ap (take 4098) p)))
 
@@ -115,6 +132,9 @@ ends_before reached m kept before = record {
         replied = subst (λ l. reached m l (bytes ++ [])) all (subst (reached m s.lines) (sym (append-nil bytes)) s.replied);
       };
 }
+
+pub ends_with : (kept : List ℕ) (before : Option (List ℕ)) → (length kept == 0) ≡ false → makes_cluster kept ≡ true → EndsBefore kept before before
+ends_with kept before h m = record { some = λ e. eqb-false (length kept) 0 h (ap length e); making = m; same = written_none before }
 
 pub on_err : {T X : Type 0} (r : Result T X) (P : Type 0) → P → OnErr r P
 on_err (Ok x) P p = tt

@@ -1,9 +1,12 @@
--- What the program promises of the bytes that it writes.
-use Rattle.std.specs.Prelude.{◌≡◌, ℕ, List, map, reverse}
+-- What the program promises of the bytes that it writes, and of the disks that it gives back.
+use Rattle.std.specs.Prelude.{◌≡◌, ℕ, List, map, reverse, IsTrue}
+use Rattle.disk_core.specs.States.{DiskState}
+use Rattle.disk_makers.specs.Makers.{Maker}
 use Rattle.world_model.specs.Run.{Run, lines_of}
 use Rattle.world_model.specs.ScriptAnswers.{Answers}
 use Rattle.cluster.specs.Built.{is_built}
 use Rattle.cluster.specs.History.{ShowsHistory}
+use Rattle.dc_engine.specs.GivenBack.{GivenBack}
 use Rattle.dc_engine.specs.ObjectKinds.{kinds}
 use Rattle.dc_engine.specs.Reading.{asked_of}
 use Rattle.dc_engine.specs.Held.{spelled}
@@ -15,3 +18,8 @@ pub record Answered (lines : List (List ℕ)) (bytes : List ℕ) : Type 0 where
   pub answers : Answers is_built (reverse (map asked_of lines)) run
   pub history : ShowsHistory kinds run
   pub written : bytes ≡ lines_of spelled run
+
+-- and the disks of the cluster that stands at the end are given back, with the logs of that history, where their maker tells them
+pub record AnsweredWhole {D : Type 0} (state : D → DiskState) (old new : Maker D) (lines : List (List ℕ)) (bytes : List ℕ) : Type 0 where
+  pub answered : Answered lines bytes
+  pub given_back : IsTrue old.tells → GivenBack state answered.run answered.history.events old new

@@ -1,9 +1,10 @@
 -- How a script is read block by block.
-use Rattle.std.specs.Prelude.{◌≡◌, ℕ, zero, suc, ◌+◌, ◌-◌, ◌<◌, ◌≤◌, Result, Ok, Err, Bool, true, false, List, [], ◌∷◌, ◌++◌, length, take, drop, Option}
+use Rattle.std.specs.Prelude.{◌≡◌, ◌≢◌, ℕ, zero, suc, ◌+◌, ◌-◌, ◌<◌, ◌≤◌, Result, Ok, Err, Bool, true, false, List, [], ◌∷◌, ◌++◌, length, take, drop, Option}
 use Rattle.std.specs.Io.KnownBytes.{Appends, Consumes, IsAtEnd}
 use Rattle.script_text.specs.Ends.{HasNoEnd}
 use Rattle.dc_engine.specs.Replies.{Replies}
-use Rattle.dc_engine.specs.Played.{Played, PlayedEnded, PlayedTooLong, PlayedPart}
+use Rattle.dc_engine.specs.Played.{Played, PlayedEnded, PlayedTooLong, PlayedPart, PlayedBefore}
+use Rattle.dc_engine.specs.Reading.{makes_cluster}
 use Rattle.dc_engine.specs.declared.fault.Fault.{Fault}
 use Rattle.dc_engine.specs.declared.fault.Fault.TheVariants as fault
 use Rattle.dc_engine.specs.Lines.{onto, lines_of, onto_first, ended_lines}
@@ -52,6 +53,18 @@ pub record MovesPart {M : Type 0} (reached : M → List (List ℕ) → List ℕ 
   pub split : fresh ≡ done ++ later
   pub moves : Moves reached old new done old_kept new_kept old_out new_out
 
+-- all fresh bytes before a line that makes a cluster do, and a LF ends that line
+pub record MovesBefore {M : Type 0} (reached : M → List (List ℕ) → List ℕ → Type 0) (old : M) (fresh old_kept old_out new_out : List ℕ) : Type 0 where
+  pub new : M
+  pub done : List ℕ
+  pub piece : List ℕ
+  pub later : List ℕ
+  pub new_kept : List ℕ
+  pub split : fresh ≡ done ++ (piece ++ 10 ∷ later)
+  pub no_end : HasNoEnd piece
+  pub making : makes_cluster (take 4098 (new_kept ++ piece)) ≡ true
+  pub moves : Moves reached old new done old_kept new_kept old_out new_out
+
 -- a front of the bytes was written
 abbrev pub AppendsPart : Option (List ℕ) → Option (List ℕ) → List ℕ → Type 0
 AppendsPart before after bytes = (n : ℕ) × Appends before after (take n bytes)
@@ -71,6 +84,20 @@ pub record WritesPart {M : Type 0} (reached : M → List (List ℕ) → List ℕ
   pub split : fresh ≡ done ++ later
   pub reply : List ℕ
   pub to_sink : AppendsPart before after reply
+  pub moved : (read bytes : List ℕ) → At reached old read old_kept bytes → At reached new (read ++ done) new_kept (bytes ++ reply)
+
+-- all fresh bytes before a line that makes a cluster do, and the replies were written
+pub record WritesBefore {M : Type 0} (reached : M → List (List ℕ) → List ℕ → Type 0) (old : M) (fresh old_kept : List ℕ) (before after : Option (List ℕ)) : Type 0 where
+  pub new : M
+  pub done : List ℕ
+  pub piece : List ℕ
+  pub later : List ℕ
+  pub new_kept : List ℕ
+  pub split : fresh ≡ done ++ (piece ++ 10 ∷ later)
+  pub no_end : HasNoEnd piece
+  pub making : makes_cluster (take 4098 (new_kept ++ piece)) ≡ true
+  pub reply : List ℕ
+  pub to_sink : Appends before after reply
   pub moved : (read bytes : List ℕ) → At reached old read old_kept bytes → At reached new (read ++ done) new_kept (bytes ++ reply)
 
 -- at the end of the input all lines are answered, and the last reply was written
@@ -93,6 +120,12 @@ pub record EndsPart {M : Type 0} (reached : M → List (List ℕ) → List ℕ �
   pub to_sink : AppendsPart before after reply
   pub moved : (read bytes : List ℕ) → At reached old read kept bytes → AnswersFirst reached new read (bytes ++ reply)
 
+-- at the end of the input all lines were answered but the last, which makes a cluster
+pub record EndsBefore (kept : List ℕ) (before after : Option (List ℕ)) : Type 0 where
+  pub some : kept ≢ []
+  pub making : makes_cluster kept ≡ true
+  pub same : Appends before after []
+
 -- one byte more was taken, or the end was met
 abbrev pub TakesOne : Option (List ℕ) → Option (List ℕ) → Bool → Type 0
 TakesOne left rest true = (next : ℕ) × Consumes left rest (next ∷ [])
@@ -113,6 +146,7 @@ Stopped size most reached input left before after fault.Read = PlayedEnded most 
 Stopped size most reached input left before after fault.TooLong = PlayedTooLong most (Replies reached) input left before after
 Stopped size most reached input left before after fault.Write = PlayedPart size most (Replies reached) input left before after
 Stopped size most reached input left before after fault.NoMemory = PlayedPart size most (Replies reached) input left before after
+Stopped size most reached input left before after fault.NoDisk = PlayedBefore size most (Replies reached) input left before after
 
 -- a script is played to its end, where m has answered it, or left at a fault
 abbrev pub Finished : {M T : Type 0} → ℕ → ℕ → (M → List (List ℕ) → List ℕ → Type 0) → M → Option (List ℕ) → Option (List ℕ) → Option (List ℕ) → Option (List ℕ) → Result T Fault → Type 0

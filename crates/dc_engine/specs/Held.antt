@@ -1,22 +1,41 @@
 -- Where the lines of a script left the cluster.
-use Rattle.std.specs.Prelude.{◌≡◌, ℕ, List, map, reverse, Option}
+use Rattle.std.specs.Prelude.{◌≡◌, ℕ, ◌*◌, ◌≤◌, List, map, reverse, Option}
+use Rattle.disk_core.specs.States.{DiskState}
+use Rattle.disk_core.specs.Fuses.{fused_state}
+use Rattle.disk_core.specs.declared.fused.Fused.{Fused}
 use Rattle.world_model.specs.declared.step.Step.{Step}
+use Rattle.world_model.specs.Cluster.{sites_of, parts_of}
 use Rattle.world_model.specs.Run.{Run, lines_of}
 use Rattle.world_model.specs.ScriptAnswers.{Answers}
 use Rattle.reply_text.specs.Text.{text_of}
 use Rattle.cluster.specs.Built.{is_built}
 use Rattle.cluster.specs.Post.{WholeState}
 use Rattle.cluster.specs.Reached as cluster
-use Rattle.dc_engine.specs.ObjectKinds.{Effect, kinds}
+use Rattle.dc_engine.specs.ObjectKinds.{Effect, types}
 use Rattle.dc_engine.specs.Reading.{asked_of}
 
 -- a step's line of text
 abbrev pub spelled : ℕ → Step → List ℕ
 spelled number step = text_of step
 
--- a run of the cluster, which left it so, answers these lines, the first first, with these bytes
-pub record Reached (c : Option (WholeState Effect)) (lines : List (List ℕ)) (bytes : List ℕ) : Type 0 where
-  pub run : Run
-  pub left : cluster.Reached kinds c run
-  pub answers : Answers is_built (reverse (map asked_of lines)) run
-  pub written : bytes ≡ lines_of spelled run
+-- a cluster over disks with fuses, if one is made
+abbrev pub Standing : Type 0 → Type 0
+Standing D = Option (WholeState Effect (Fused D))
+
+module _ {D : Type 0} (state : D → DiskState) where
+  -- this run left it so
+  abbrev pub IsLeft : Standing D → Run → Type 0
+  IsLeft c run = cluster.Reached (types (fused_state state)) c run
+
+  -- a run of the cluster, which left it so, answers these lines, the first first, with these bytes
+  pub record Reached (c : Standing D) (lines : List (List ℕ)) (bytes : List ℕ) : Type 0 where
+    pub run : Run
+    pub left : IsLeft c run
+    pub answers : Answers is_built (reverse (map asked_of lines)) run
+    pub written : bytes ≡ lines_of spelled run
+
+  -- some run left it so, and of the disks that are out there is one for each partition
+  pub record HasOut (out : ℕ) (c : Standing D) : Type 0 where
+    pub run : Run
+    pub left : IsLeft c run
+    pub enough : sites_of run * parts_of run ≤ out

@@ -1,8 +1,11 @@
 pub mod Answered
 pub mod Blocks
 pub mod Causes
+pub mod Faults
+pub mod GivenBack
 pub mod Held
 pub mod Lines
+pub mod Makers
 pub mod Memory
 pub mod ObjectKinds
 pub mod Played

@@ -1,28 +1,55 @@
 -- The kinds of objects that the program has: all, with maps to the fourth depth.
 use Rattle.std.proofs.Common.{◌≡◌, ◌≤◌, ℕ, suc, Bool, true, false, List, [], ◌∷◌, length, refl, arith}
+use Rattle.std.specs.Prelude.{Err}
 use Rattle.std.proofs.lemmas.Bool.{and_parts, leb-true}
+use Rattle.field_codec.specs.Reading.{Read}
+use Rattle.field_codec.specs.declared.error.TakeError.TheVariants.{Bad}
 use Rattle.crdt_core.specs.declared.kind.Kind.{Kind}
 use Rattle.crdt_core.specs.declared.kind.Kind.TheVariants as kind
 use Rattle.crdt_core.specs.declared.object.Field.{Field}
 use Rattle.crdt_core.specs.declared.operation.Act.{Act}
+use Rattle.crdt_core.specs.Contents.{Content}
+use Rattle.crdt_core.specs.EffectForm.{SpellsEffects}
 use Rattle.crdt_core.specs.Fits.{fits, leads_to}
 use Rattle.crdt_core.specs.InMaps.{KeepsInMaps}
 use Rattle.crdt_any.specs.declared.state.LayerState.{LayerState}
 use Rattle.crdt_any.specs.declared.effect.LayerEffect.{LayerEffect}
 use Rattle.crdt_any.specs.Layer.{layer_has, layer_too_deep, layer_blank}
+use Rattle.crdt_any.specs.LayerForm.{layer_is_of, layer_can_put, layer_is_spelled, layer_contents, layer_spelling, layer_reading, layer_spells}
 use Rattle.crdt_any.specs.LayerLaws.{layer_law, layer_in_maps}
-use Rattle.crdt_any.specs.NothingLaws.{nothing_law, nothing_in_maps}
+use Rattle.crdt_any.specs.NothingLaws.{nothing_law, nothing_in_maps, nothing_spells}
 use Rattle.crdt_core.specs.KindsOf.{Kinds, kinds_of}
+use Rattle.disk_core.specs.States.{DiskState}
+use Rattle.partition_log.specs.Codec.{Codec, codec_of}
+use Rattle.site_partitions.specs.Reaches.{Types, types_of}
 
--- kinds, and what they owe to a map around them
+-- kinds, what they owe to a map around them, and the bytes of their effects
 pub record Layered (S E : Type 0) : Type 0 where
   pub kinds : Kinds S E
   pub is_blank : S → Bool
   pub in_maps : KeepsInMaps kinds.has kinds.too_deep kinds.initial kinds.step kinds.made is_blank
+  pub is_of : Kind → E → Bool
+  pub can_put : E → Bool
+  pub is_spelled : E → Bool
+  pub contents : E → List Content
+  pub spelling : E → List ℕ
+  pub reading : Kind → List ℕ → ℕ → Read E
+  pub spells : SpellsEffects kinds.has is_of can_put is_spelled contents spelling reading
 
 -- no kind
 abbrev pub nothing : Layered (Unit {0}) (Unit {0})
-nothing = record { kinds = kinds_of nothing_law; is_blank = λ s. true; in_maps = nothing_in_maps }
+nothing = record {
+  kinds = kinds_of nothing_law;
+  is_blank = λ s. true;
+  in_maps = nothing_in_maps;
+  is_of = λ k e. true;
+  can_put = λ e. true;
+  is_spelled = λ e. true;
+  contents = λ e. [];
+  spelling = λ e. [];
+  reading = λ k bytes at. Err (Bad at);
+  spells = nothing_spells;
+}
 
 -- all kinds, whose maps have fields of those within
 abbrev pub layer : {S E : Type 0} → Layered S E → Layered (LayerState S) (LayerEffect E)
@@ -30,6 +57,13 @@ layer l = record {
   kinds = kinds_of (layer_law l.kinds.laws l.in_maps);
   is_blank = layer_blank l.is_blank;
   in_maps = layer_in_maps l.kinds.laws l.in_maps;
+  is_of = layer_is_of;
+  can_put = layer_can_put l.kinds.has l.is_of l.can_put l.spelling;
+  is_spelled = layer_is_spelled l.kinds.has l.is_of l.is_spelled l.spelling;
+  contents = layer_contents l.contents;
+  spelling = layer_spelling l.spelling;
+  reading = layer_reading l.kinds.has l.reading;
+  spells = layer_spells l.spells;
 }
 
 abbrev pub ObjectState : Type 0
@@ -38,8 +72,19 @@ ObjectState = LayerState (LayerState (LayerState (LayerState (Unit {0}))))
 abbrev pub Effect : Type 0
 Effect = LayerEffect (LayerEffect (LayerEffect (LayerEffect (Unit {0}))))
 
+abbrev pub all_kinds : Layered ObjectState Effect
+all_kinds = layer (layer (layer (layer nothing)))
+
 abbrev pub kinds : Kinds ObjectState Effect
-kinds = (layer (layer (layer (layer nothing)))).kinds
+kinds = all_kinds.kinds
+
+-- the bytes of records of such effects
+abbrev pub codec : Codec Effect
+codec = codec_of all_kinds.spells
+
+-- over disks of this state
+abbrev pub types : {D : Type 0} → (D → DiskState) → Types ObjectState Effect D
+types state = types_of all_kinds.kinds.laws all_kinds.spells state
 
 -- a path of no field is not too deep, and a layer has room for one more
 first_deep : (k : Kind) (p : List Field) → length p ≤ 0 → layer_too_deep (λ k. false) (λ k p. false) k p ≡ false

@@ -1,7 +1,10 @@
 -- What a run owes, by the status that it ends with.
 use Rattle.std.specs.Prelude.{◌≡◌, ℕ, Bool, true, false, List, Option}
 use Rattle.dc_engine.specs.Causes.{Rose}
-use Rattle.dc_engine.specs.Played.{Played, PlayedEnded, PlayedTooLong, PlayedPart}
+use Rattle.disk_core.specs.States.{DiskState}
+use Rattle.disk_makers.specs.Makers.{Maker}
+use Rattle.dc_engine.specs.Answered.{Answered, AnsweredWhole}
+use Rattle.dc_engine.specs.Played.{Played, PlayedEnded, PlayedTooLong, PlayedPart, PlayedBefore}
 use Rattle.dc_engine.specs.Reading.{has_bad}
 use Rattle.dc_engine.specs.declared.status.Status.{Status}
 use Rattle.dc_engine.specs.declared.status.Status.TheVariants as status
@@ -30,14 +33,20 @@ HasFailed c = Rose c.faults c.faults_after
 abbrev pub And : (List (List ℕ) → List ℕ → Type 0) → Bool → List (List ℕ) → List ℕ → Type 0
 And replies bad lines bytes = replies lines bytes × (has_bad lines ≡ bad)
 
-module _ (replies : List (List ℕ) → List ℕ → Type 0) where
+module _ (whole replies : List (List ℕ) → List ℕ → Type 0) (no_disk : Type 0) where
   -- all replies where the script was read to its end, those to the lines whose LF was read where the source fails or the script is
-  -- too long, and else a front of the next ones; a source or a sink is called faulty only where it failed
+  -- too long, those to all lines before a cluster whose disk couldn't be made, and else a front of the next ones; a source, a sink or
+  -- a maker is called faulty only where it failed
   abbrev pub Outcome : Status → Change → Change → Type 0
-  Outcome status.Done source sink = Played most_bytes (And replies false) source.before source.after sink.before sink.after
-  Outcome status.BadLine source sink = Played most_bytes (And replies true) source.before source.after sink.before sink.after
+  Outcome status.Done source sink = Played most_bytes (And whole false) source.before source.after sink.before sink.after
+  Outcome status.BadLine source sink = Played most_bytes (And whole true) source.before source.after sink.before sink.after
   Outcome status.Usage source sink = ⊥
   Outcome status.ReadFault source sink = PlayedEnded most_bytes replies source.before source.after sink.before sink.after × HasFailed source
   Outcome status.WriteFault source sink = PlayedPart block_bytes most_bytes replies source.before source.after sink.before sink.after × HasFailed sink
   Outcome status.NoMemory source sink = PlayedPart block_bytes most_bytes replies source.before source.after sink.before sink.after
   Outcome status.TooLong source sink = PlayedTooLong most_bytes replies source.before source.after sink.before sink.after
+  Outcome status.NoDisk source sink = PlayedBefore block_bytes most_bytes replies source.before source.after sink.before sink.after × no_disk
+
+-- with the maker of the disks before and after
+abbrev pub PlayOutcome : {D : Type 0} → (D → DiskState) → Maker D → Maker D → Status → Change → Change → Type 0
+PlayOutcome state old new = Outcome (AnsweredWhole state old new) Answered (Rose old.faults new.faults)

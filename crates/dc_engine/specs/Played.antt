@@ -1,8 +1,9 @@
 -- What the bytes written have to do with the bytes read, where source and sink tell them.
 -- `replies lines bytes` says that these bytes are the replies to these lines.
-use Rattle.std.specs.Prelude.{◌≡◌, ℕ, ◌≤◌, List, [], ◌∷◌, ◌++◌, length, take, Option, None, Some, ⊤}
+use Rattle.std.specs.Prelude.{◌≡◌, ℕ, ◌≤◌, true, List, [], ◌∷◌, ◌++◌, length, take, Option, None, Some, ⊤}
 use Rattle.std.specs.Io.KnownBytes.{Appends, Consumes, IsAtEnd}
 use Rattle.dc_engine.specs.Lines.{lines_of, ended_lines}
+use Rattle.dc_engine.specs.Reading.{makes_cluster}
 
 -- the whole input was read, and the replies to its lines were written
 pub record Played (most : ℕ) (replies : List (List ℕ) → List ℕ → Type 0) (input left before after : Option (List ℕ)) : Type 0 where
@@ -59,3 +60,21 @@ pub record PlayedPart (size most : ℕ) (replies : List (List ℕ) → List ℕ 
   pub replied_earlier : replies (ended_lines earlier) written
   pub replied : replies (ended_lines earlier ++ more) (written ++ reply)
   pub to_sink : Appends before after (written ++ take count reply)
+
+-- at most `most` bytes were read, at most `size` of them as the last block: the replies to all lines before one that makes a cluster
+-- were written, and that one wasn't answered
+pub record PlayedBefore (size most : ℕ) (replies : List (List ℕ) → List ℕ → Type 0) (input left before after : Option (List ℕ)) : Type 0 where
+  pub earlier : List ℕ
+  pub block : List ℕ
+  pub lines : List (List ℕ)
+  pub line : List ℕ
+  pub written : List ℕ
+  pub from_source : Consumes input left (earlier ++ block)
+  pub fits : length (earlier ++ block) ≤ most
+  pub in_hand : length block ≤ size
+  pub are_later : IsFront (ended_lines earlier) lines
+  pub are_read : IsFront (lines ++ line ∷ []) (lines_of (earlier ++ block))
+  pub are_first : AreFirst (lines ++ line ∷ []) input
+  pub making : makes_cluster line ≡ true
+  pub replied : replies lines written
+  pub to_sink : Appends before after written

@@ -8,7 +8,7 @@ use Rattle.script_text.specs.Split.{words}
 use Rattle.script_text.specs.declared.Parsed.{Parsed}
 use Rattle.script_text.specs.declared.Parsed.TheVariants as parsed
 use Rattle.world_model.specs.Answers.{Asked, nothing, unreadable, asks}
-use Rattle.cluster.specs.Built.{IsSaid}
+use Rattle.cluster.specs.Built.{IsSaid, is_making}
 use Rattle.dc_engine.specs.ObjectKinds.{kinds}
 
 -- what a line reads as: at most 4,096 bytes of UTF-8, whose words are in the grammar
@@ -27,6 +27,14 @@ asked_of line = asked_as (reading_of (strip_last 13 line))
 abbrev pub is_unreadable : Asked → Bool
 is_unreadable unreadable = true
 is_unreadable other = false
+
+-- the line makes a cluster
+abbrev pub asks_cluster : Asked → Bool
+asks_cluster (asks c) = is_making c
+asks_cluster other = false
+
+abbrev pub makes_cluster : List ℕ → Bool
+makes_cluster line = asks_cluster (asked_of line)
 
 -- some line isn't in the grammar
 abbrev pub has_bad : List (List ℕ) → Bool

@@ -1,5 +1,5 @@
 -- What a status is to the process: its code, and what it prints on standard error.
-use Rattle.std.specs.Prelude.{ℕ, List, Option, None, Some, codes}
+use Rattle.std.specs.Prelude.{ℕ, Bool, true, false, List, Option, None, Some, codes}
 use Rattle.dc_engine.specs.declared.status.Status.{Status}
 use Rattle.dc_engine.specs.declared.status.Status.TheVariants as status
 
@@ -11,6 +11,7 @@ code_of status.ReadFault = 3
 code_of status.WriteFault = 4
 code_of status.NoMemory = 5
 code_of status.TooLong = 6
+code_of status.NoDisk = 7
 
 -- the one line of a status, without its LF
 abbrev pub text_of : Status → Option (List ℕ)
@@ -21,3 +22,10 @@ text_of status.ReadFault = Some (codes "read fault")
 text_of status.WriteFault = Some (codes "write fault")
 text_of status.NoMemory = Some (codes "out of memory")
 text_of status.TooLong = Some (codes "script too long")
+text_of status.NoDisk = Some (codes "no disk")
+
+-- the script was read to its end
+abbrev pub ends_whole : Status → Bool
+ends_whole status.Done = true
+ends_whole status.BadLine = true
+ends_whole other = false

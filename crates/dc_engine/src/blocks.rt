@@ -1,9 +1,10 @@
 ghost use Rattle.std.specs.Prelude.{ℕ, List, Option, ◌≡◌, ◌≢◌, ◌≤◌, ◌<◌, ◌+◌, ◌-◌, ◌^◌, [], length, take, IfOk, IfErr, OnOk, OnErr, Err};
 ghost use Rattle.std.specs.Io.KnownBytes.{Appends, Consumes, Keeps, IsAtEnd};
 ghost use Rattle.dc_engine.specs.Causes.{Rose};
+ghost use Rattle.dc_engine.specs.Makers.{IsKept};
 ghost use Rattle.dc_engine.specs.Replies.{Replies};
 ghost use Rattle.dc_engine.specs.Played.{Played, PlayedEnded, PlayedTooLong, PlayedPart};
-ghost use Rattle.dc_engine.specs.Blocks.{AppendsPart, Writes, WritesPart, Ends, EndsPart, TakesOne, Progress, GoesOn, Finished};
+ghost use Rattle.dc_engine.specs.Blocks.{AppendsPart, Writes, WritesPart, WritesBefore, Ends, EndsPart, EndsBefore, TakesOne, Progress, GoesOn, Finished};
 
 use crate::fault::Fault;
 use crate::kept::Kept;
@@ -11,6 +12,7 @@ use crate::lines::answer_lines;
 use crate::responder::Responder;
 use crate::sink::Sink;
 use crate::source::{Failed, Source};
+use crate::unanswered::Unanswered;
 use std::alloc::{AllocError, Global};
 use std::cmp::min;
 
@@ -76,25 +78,36 @@ fn write_all<K: Sink>(sink: &mut K, bytes: &[u8]) -> Result<(), Fault>
 fn answer_block<K: Sink, R: Responder>(
     sink: &mut K,
     responder: &mut R,
+    disks: &mut R::Maker,
     block: &[u8],
     kept: &mut Kept,
     out: &mut Vec<u8>,
 ) -> Result<(), Fault>
+    requires held { R.holds responder.old (R.Maker.state disks.old).out }
+    ensures held { R.holds responder.new (R.Maker.state disks.new).out }
+    ensures disks_later { (R.Maker.state disks.old).faults ≤ (R.Maker.state disks.new).faults }
+    ensures disks_cause { result ≡ Err Fault.NoDisk → Rose (R.Maker.state disks.old).faults (R.Maker.state disks.new).faults }
+    ensures same { OnOk result (IsKept (R.Maker.state disks.old) (R.Maker.state disks.new)) }
     ensures later { K.faults sink.old ≤ K.faults sink.new }
     ensures cause { result ≡ Err Fault.Write → Rose (K.faults sink.old) (K.faults sink.new) }
     ensures kinds { IfErr result (λ e. (e ≢ Fault.Read) × (e ≢ Fault.TooLong)) }
     ensures ok { OnOk result (Writes R.reached responder.old responder.new block.now kept.old kept.new (K.held sink.old) (K.held sink.new)) }
     ensures err { OnErr result (WritesPart R.reached responder.old block.now kept.old (K.held sink.old) (K.held sink.new)) }
+    ensures before { result ≡ Err Fault.NoDisk → WritesBefore R.reached responder.old block.now kept.old (K.held sink.old) (K.held sink.new) }
 {
     out.clear();
-    match answer_lines(responder, block, kept, out) {
+    match answer_lines(responder, disks, block, kept, out) {
         Ok(()) => {
             write_all(sink, out)?;
             Ok(())
         }
-        Err(error) => {
+        Err(Unanswered::NoDisk) => {
+            write_all(sink, out)?;
+            Err(Fault::NoDisk)
+        }
+        Err(Unanswered::NoMemory) => {
             let _written = write_all(sink, out);
-            Err(Fault::from(error))
+            Err(Fault::NoMemory)
         }
     }
 }
@@ -104,20 +117,27 @@ fn answer_block<K: Sink, R: Responder>(
 fn answer_end<K: Sink, R: Responder>(
     sink: &mut K,
     responder: &mut R,
+    disks: &mut R::Maker,
     kept: &Kept,
     out: &mut Vec<u8>,
 ) -> Result<(), Fault>
+    requires held { R.holds responder.old (R.Maker.state disks.old).out }
+    ensures held { R.holds responder.new (R.Maker.state disks.new).out }
+    ensures disks_later { (R.Maker.state disks.old).faults ≤ (R.Maker.state disks.new).faults }
+    ensures disks_cause { result ≡ Err Fault.NoDisk → Rose (R.Maker.state disks.old).faults (R.Maker.state disks.new).faults }
+    ensures same { OnOk result (IsKept (R.Maker.state disks.old) (R.Maker.state disks.new)) }
     ensures later { K.faults sink.old ≤ K.faults sink.new }
     ensures cause { result ≡ Err Fault.Write → Rose (K.faults sink.old) (K.faults sink.new) }
     ensures kinds { IfErr result (λ e. (e ≢ Fault.Read) × (e ≢ Fault.TooLong)) }
     ensures ok { OnOk result (Ends R.reached responder.old responder.new kept.now (K.held sink.old) (K.held sink.new)) }
     ensures err { OnErr result (EndsPart R.reached responder.old kept.now (K.held sink.old) (K.held sink.new)) }
+    ensures before { result ≡ Err Fault.NoDisk → EndsBefore kept.now (K.held sink.old) (K.held sink.new) }
 {
     if kept.is_empty() {
         return Ok(());
     }
     out.clear();
-    responder.answer(kept.as_slice(), out)?;
+    responder.answer(disks, kept.as_slice(), out)?;
     write_all(sink, out)?;
     Ok(())
 }
@@ -134,12 +154,18 @@ fn play_block<S: Source, K: Sink, R: Responder>(
     source: &mut S,
     sink: &mut K,
     responder: &mut R,
+    disks: &mut R::Maker,
     block: &mut [u8],
     room: usize,
     buffers: &mut Buffers,
 ) -> Result<usize, Fault>
     requires size { 0 < length block.old }
     requires some { 0 < room }
+    requires held { R.holds responder.old (R.Maker.state disks.old).out }
+    ensures held { R.holds responder.new (R.Maker.state disks.new).out }
+    ensures disks_later { (R.Maker.state disks.old).faults ≤ (R.Maker.state disks.new).faults }
+    ensures disks_cause { result ≡ Err Fault.NoDisk → Rose (R.Maker.state disks.old).faults (R.Maker.state disks.new).faults }
+    ensures same { OnOk result (IsKept (R.Maker.state disks.old) (R.Maker.state disks.new)) }
     ensures read_later { S.faults source.old ≤ S.faults source.new }
     ensures write_later { K.faults sink.old ≤ K.faults sink.new }
     ensures read_cause { result ≡ Err Fault.Read → Rose (S.faults source.old) (S.faults source.new) }
@@ -151,13 +177,13 @@ fn play_block<S: Source, K: Sink, R: Responder>(
         Err(fault) => return Err(fault),
     };
     if count == 0 {
-        return match answer_end(sink, responder, &buffers.kept, &mut buffers.out) {
+        return match answer_end(sink, responder, disks, &buffers.kept, &mut buffers.out) {
             Ok(()) => Ok(0),
             Err(fault) => Err(fault),
         };
     }
     let Buffers { kept, out } = buffers;
-    match answer_block(sink, responder, &block[..count], kept, out) {
+    match answer_block(sink, responder, disks, &block[..count], kept, out) {
         Ok(()) => Ok(count),
         Err(fault) => Err(fault),
     }
@@ -168,8 +194,14 @@ fn play_end<S: Source, K: Sink, R: Responder>(
     source: &mut S,
     sink: &mut K,
     responder: &mut R,
+    disks: &mut R::Maker,
     buffers: &mut Buffers,
 ) -> Result<(), Fault>
+    requires held { R.holds responder.old (R.Maker.state disks.old).out }
+    ensures held { R.holds responder.new (R.Maker.state disks.new).out }
+    ensures disks_later { (R.Maker.state disks.old).faults ≤ (R.Maker.state disks.new).faults }
+    ensures disks_cause { result ≡ Err Fault.NoDisk → Rose (R.Maker.state disks.old).faults (R.Maker.state disks.new).faults }
+    ensures same { OnOk result (IsKept (R.Maker.state disks.old) (R.Maker.state disks.new)) }
     ensures read_later { S.faults source.old ≤ S.faults source.new }
     ensures write_later { K.faults sink.old ≤ K.faults sink.new }
     ensures read_cause { result ≡ Err Fault.Read → Rose (S.faults source.old) (S.faults source.new) }
@@ -178,7 +210,7 @@ fn play_end<S: Source, K: Sink, R: Responder>(
 {
     match has_more(source) {
         Ok(true) => Err(Fault::TooLong),
-        Ok(false) => match answer_end(sink, responder, &buffers.kept, &mut buffers.out) {
+        Ok(false) => match answer_end(sink, responder, disks, &buffers.kept, &mut buffers.out) {
             Ok(()) => Ok(()),
             Err(fault) => Err(fault),
         },
@@ -194,9 +226,14 @@ pub(crate) fn play_blocks<S: Source, K: Sink, R: Responder>(
     source: &mut S,
     sink: &mut K,
     responder: &mut R,
+    disks: &mut R::Maker,
 ) -> Result<(), Fault>
     requires fresh { R.reached responder.old [] [] }
     requires some { 0 < size }
+    requires held { R.holds responder.old (R.Maker.state disks.old).out }
+    ensures held { R.holds responder.new (R.Maker.state disks.new).out }
+    ensures disks_cause { result ≡ Err Fault.NoDisk → Rose (R.Maker.state disks.old).faults (R.Maker.state disks.new).faults }
+    ensures same { OnOk result (IsKept (R.Maker.state disks.old) (R.Maker.state disks.new)) }
     ensures finished { Finished size most R.reached responder.new (S.left source.old) (S.left source.new) (K.held sink.old) (K.held sink.new) result }
     ensures read_cause { result ≡ Err Fault.Read → Rose (S.faults source.old) (S.faults source.new) }
     ensures write_cause { result ≡ Err Fault.Write → Rose (K.faults sink.old) (K.faults sink.new) }
@@ -212,11 +249,11 @@ pub(crate) fn play_blocks<S: Source, K: Sink, R: Responder>(
     };
     let mut room = most;
     while room > 0 {
-        match play_block(source, sink, responder, block, room, &mut buffers) {
+        match play_block(source, sink, responder, disks, block, room, &mut buffers) {
             Ok(0) => return Ok(()),
             Ok(count) => room -= count,
             Err(fault) => return Err(fault),
         }
     }
-    play_end(source, sink, responder, &mut buffers)
+    play_end(source, sink, responder, disks, &mut buffers)
 }

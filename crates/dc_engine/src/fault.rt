@@ -1,7 +1,7 @@
 ghost use Rattle.std.specs.Prelude.{◌≡◌};
-ghost use Rattle.dc_engine.specs.declared.fault.Fault.TheVariants.{NoMemory};
+ghost use Rattle.dc_engine.specs.Faults.{fault_of};
 
-use std::alloc::AllocError;
+use crate::unanswered::Unanswered;
 use thiserror::Error;
 
 /// Why a script isn't played to its end.
@@ -15,12 +15,17 @@ pub(crate) enum Fault {
     NoMemory,
     #[error("script too long")]
     TooLong,
+    #[error("no disk")]
+    NoDisk,
 }
 
-impl From<AllocError> for Fault {
-    ghost from_gives = { λ e r. r ≡ NoMemory };
+impl From<Unanswered> for Fault {
+    ghost from_gives = { λ e r. r ≡ fault_of e };
 
-    fn from(_: AllocError) -> Self {
-        Fault::NoMemory
+    fn from(error: Unanswered) -> Self {
+        match error {
+            Unanswered::NoMemory => Fault::NoMemory,
+            Unanswered::NoDisk => Fault::NoDisk,
+        }
     }
 }

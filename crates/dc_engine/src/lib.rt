@@ -6,11 +6,14 @@ mod edge;
 mod fault;
 mod kept;
 mod lines;
+mod makers;
 mod memory;
 mod objects;
 mod player;
 mod reading;
 mod responder;
+#[cfg(test)]
+mod rows;
 mod script;
 mod sink;
 mod source;
@@ -18,6 +21,7 @@ mod status;
 #[cfg(test)]
 mod tests;
 mod top;
+mod unanswered;
 mod words;
 
 pub use edge::{Reading, Writing};

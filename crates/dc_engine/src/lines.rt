@@ -1,12 +1,15 @@
-ghost use Rattle.std.specs.Prelude.{◌≡◌, ◌++◌, ◌∷◌, [], length, take, IfSome, IfNone, OnOk, OnErr};
+ghost use Rattle.std.specs.Prelude.{◌≡◌, ◌≤◌, ◌++◌, ◌∷◌, [], true, length, take, Err, IfSome, IfNone, OnOk, OnErr};
+ghost use Rattle.disk_core.specs.States.{Rose};
+ghost use Rattle.dc_engine.specs.Makers.{IsKept};
+ghost use Rattle.dc_engine.specs.Reading.{makes_cluster};
 ghost use Rattle.dc_engine.specs.Replies.{AnswersLine};
 ghost use Rattle.script_text.specs.Ends.{HasNoEnd};
-ghost use Rattle.dc_engine.specs.Blocks.{EndsAt, Moves, MovesPart};
+ghost use Rattle.dc_engine.specs.Blocks.{EndsAt, Moves, MovesPart, MovesBefore};
 
 use crate::kept::Kept;
 use crate::responder::{KEPT, Responder};
+use crate::unanswered::Unanswered;
 use memchr::memchr;
-use std::alloc::AllocError;
 use std::cmp::min;
 
 /// Where the first LF stands.
@@ -22,20 +25,27 @@ fn line_end(bytes: &[u8]) -> Option<usize>
 #[tactic(auto, using(crate::proofs::Moves::answers_front))]
 fn answer_line<R: Responder>(
     responder: &mut R,
+    disks: &mut R::Maker,
     piece: &[u8],
     kept: &mut Kept,
     out: &mut Vec<u8>,
-) -> Result<(), AllocError>
+) -> Result<(), Unanswered>
+    requires held { R.holds responder.old (R.Maker.state disks.old).out }
+    ensures held { R.holds responder.new (R.Maker.state disks.new).out }
+    ensures later { (R.Maker.state disks.old).faults ≤ (R.Maker.state disks.new).faults }
+    ensures cause { result ≡ Err Unanswered.NoDisk → Rose (R.Maker.state disks.old).faults (R.Maker.state disks.new).faults }
+    ensures same { OnOk result (IsKept (R.Maker.state disks.old) (R.Maker.state disks.new)) }
+    ensures making { result ≡ Err Unanswered.NoDisk → makes_cluster (take 4098 (kept.old ++ piece.now)) ≡ true }
     ensures ok { OnOk result (AnswersLine R.reached responder.old responder.new (take 4098 (kept.old ++ piece.now)) out.old.items out.new.items) }
     ensures none_kept { OnOk result (kept.new ≡ []) }
     ensures err { OnErr result (out.new.items ≡ out.old.items) }
 {
     if kept.is_empty() {
-        responder.answer(&piece[..min(KEPT, piece.len())], out)?;
+        responder.answer(disks, &piece[..min(KEPT, piece.len())], out)?;
         return Ok(());
     }
     kept.extend(piece)?;
-    responder.answer(kept.as_slice(), out)?;
+    responder.answer(disks, kept.as_slice(), out)?;
     kept.clear();
     Ok(())
 }
@@ -44,17 +54,24 @@ fn answer_line<R: Responder>(
 #[tactic(auto, using(crate::proofs::Moves::moves_start, crate::proofs::Moves::moves_part))]
 pub(crate) fn answer_lines<R: Responder>(
     responder: &mut R,
+    disks: &mut R::Maker,
     block: &[u8],
     kept: &mut Kept,
     out: &mut Vec<u8>,
-) -> Result<(), AllocError>
+) -> Result<(), Unanswered>
+    requires held { R.holds responder.old (R.Maker.state disks.old).out }
+    ensures held { R.holds responder.new (R.Maker.state disks.new).out }
+    ensures later { (R.Maker.state disks.old).faults ≤ (R.Maker.state disks.new).faults }
+    ensures cause { result ≡ Err Unanswered.NoDisk → Rose (R.Maker.state disks.old).faults (R.Maker.state disks.new).faults }
+    ensures same { OnOk result (IsKept (R.Maker.state disks.old) (R.Maker.state disks.new)) }
+    ensures before { result ≡ Err Unanswered.NoDisk → MovesBefore R.reached responder.old block.now kept.old out.old.items out.new.items }
     ensures ok { OnOk result (Moves R.reached responder.old responder.new block.now kept.old kept.new out.old.items out.new.items) }
     ensures err { OnErr result (MovesPart R.reached responder.old block.now kept.old out.old.items out.new.items) }
 {
     let mut rest = block;
     while let Some(end) = line_end(rest) {
         let (piece, more) = rest.split_at(end);
-        answer_line(responder, piece, kept, out)?;
+        answer_line(responder, disks, piece, kept, out)?;
         rest = &more[1..];
     }
     kept.extend(rest)?;

@@ -1,35 +1,57 @@
-ghost use Rattle.std.specs.Prelude.{◌≡◌, ◌++◌, [], ◌∷◌, length, take, false, true, IfOk, OnOk, OnErr};
+ghost use Rattle.std.specs.Prelude.{◌≡◌, ◌≤◌, ◌++◌, [], ◌∷◌, length, take, true, false, None, Err, IfSome, IfNone, IfOk, OnOk, OnErr};
 ghost use Rattle.std.specs.List.{flat_map};
-ghost use Rattle.std.specs.Io.BufRead.{strip_last};
-ghost use Rattle.dc_engine.specs.Reading.{reading_of, asked_as, asked_of, AsksSaid};
+ghost use Rattle.disk_core.specs.Fuses.{fused_state};
+ghost use Rattle.disk_core.specs.States.{Rose};
+ghost use Rattle.cluster.specs.Built.{IsSaid, is_making};
+ghost use Rattle.cluster.specs.Reached.{Applies};
+ghost use Rattle.dc_engine.specs.Held.{HasOut};
+ghost use Rattle.dc_engine.specs.Makers.{FailsAt, IsKept};
+ghost use Rattle.dc_engine.specs.ObjectKinds.{kinds, types};
 ghost use Rattle.reply_text.specs.Text.{text_of};
 
+use crate::makers::{give_back_all, make_all};
 use crate::objects::Objects;
 use crate::reading::reading;
 use crate::responder::Responder;
+use crate::unanswered::Unanswered;
 use cluster::Cluster;
+use disk_core::{Disk, Fused};
+use disk_makers::Disks;
+use partition_core::RestartError;
 use reply_text::line;
 use script_text::Parsed;
+use site_partitions::MakeError;
 use std::alloc::{AllocError, Global};
-use world_model::Step;
+use std::marker::Model;
+use world_model::{Command, Step};
 
 /// Answers the lines of a script: the cluster that its commands work on, and whether a line wasn't in the grammar.
 #[derive(Drop)]
-pub(crate) struct Player {
+pub(crate) struct Player<M: Disks> {
     alloc: Global,
-    cluster: Cluster<Objects>,
+    cluster: Cluster<Objects, M::Disk>,
     met_bad: bool,
 }
 
-impl Player {
-    ghost use Rattle.std.specs.Prelude.{◌≡◌, [], length, take, false, IfOk, OnOk, OnErr};
+impl<M: Disks> Model for Player<M> {
+    ghost use Rattle.dc_engine.specs.Player.{PlayerState};
+
+    ghost Value = { PlayerState M.Disk };
+
+    ghost view = { λ p. record { cluster = p.cluster; met_bad = p.met_bad } };
+}
+
+impl<M: Disks> Player<M> {
+    ghost use Rattle.std.specs.Io.BufRead.{strip_last};
+    ghost use Rattle.dc_engine.specs.Makers.{ReturnsAll};
     ghost use Rattle.dc_engine.specs.Player.{AnswersAsked, ReachedBy};
-    ghost use Rattle.dc_engine.specs.Reading.{asked_of};
+    ghost use Rattle.dc_engine.specs.Reading.{asked_of, makes_cluster};
     ghost use Rattle.dc_engine.specs.Replies.{AnswersLine};
 
     /// A player before any line. Takes no memory.
-    pub(crate) fn new(alloc: Global) -> Player
-        ensures { ReachedBy result [] [] }
+    pub(crate) fn new(alloc: Global) -> Player<M>
+        ensures reached { ReachedBy M.Disk.state result [] [] }
+        ensures holds { HasOut M.Disk.state 0 result.cluster }
     {
         Player {
             alloc,
@@ -38,42 +60,73 @@ impl Player {
         }
     }
 
+    /// Gives the disks of the cluster that stands back to their maker.
+    pub(crate) fn give_back(self, disks: &mut M)
+        requires { HasOut M.Disk.state (M.state disks.old).out self.cluster }
+        ensures { ReturnsAll self.cluster (M.state disks.old) (M.state disks.new) }
+    {
+        if let Some(parts) = self.cluster.parts() {
+            give_back_all(disks, parts, self.cluster.into_partitions());
+        }
+    }
+
     /// The steps that answer a line.
-    fn steps_of(&mut self, line: &[u8]) -> Result<Vec<Step>, AllocError>
-        ensures { IfOk result (λ steps. AnswersAsked self.old (asked_of line.now) steps.items self.new) }
+    fn steps_of(&mut self, disks: &mut M, line: &[u8]) -> Result<Vec<Step>, Unanswered>
+        requires held { HasOut M.Disk.state (M.state disks.old).out self.old.cluster }
+        ensures held { HasOut M.Disk.state (M.state disks.new).out self.new.cluster }
+        ensures ok { IfOk result (λ steps. AnswersAsked M.Disk.state self.old (asked_of line.now) steps.items self.new) }
+        ensures making { result ≡ Err Unanswered.NoDisk → makes_cluster line.now ≡ true }
+        ensures later { (M.state disks.old).faults ≤ (M.state disks.new).faults }
+        ensures cause { result ≡ Err Unanswered.NoDisk → Rose (M.state disks.old).faults (M.state disks.new).faults }
+        ensures same { OnOk result (IsKept (M.state disks.old) (M.state disks.new)) }
     {
         match reading(self.alloc, line)? {
-            Some(Parsed::Command(command)) => self.cluster.apply(command),
+            Some(Parsed::Command(command)) => obey(self.alloc, &mut self.cluster, disks, command),
             Some(Parsed::Nothing) => Ok(Vec::new(self.alloc)),
             None => {
                 self.met_bad = true;
-                bad(self.alloc)
+                Ok(only(self.alloc, Step::Bad)?)
             }
         }
     }
 
     /// Answers a line, and on an error leaves at the end of `out` what was written of it.
     #[tactic(auto, using(crate::proofs::Applied::line_answered))]
-    fn write_answer(&mut self, line: &[u8], out: &mut Vec<u8>) -> Result<(), AllocError>
-        ensures ok { OnOk result (AnswersLine ReachedBy self.old self.new line.now out.old.items out.new.items) }
+    fn write_answer(
+        &mut self,
+        disks: &mut M,
+        line: &[u8],
+        out: &mut Vec<u8>,
+    ) -> Result<(), Unanswered>
+        requires held { HasOut M.Disk.state (M.state disks.old).out self.old.cluster }
+        ensures held { HasOut M.Disk.state (M.state disks.new).out self.new.cluster }
+        ensures ok { OnOk result (AnswersLine (ReachedBy M.Disk.state) self.old self.new line.now out.old.items out.new.items) }
         ensures err { OnErr result (take (length out.old.items) out.new.items ≡ out.old.items) }
+        ensures making { result ≡ Err Unanswered.NoDisk → makes_cluster line.now ≡ true }
+        ensures later { (M.state disks.old).faults ≤ (M.state disks.new).faults }
+        ensures cause { result ≡ Err Unanswered.NoDisk → Rose (M.state disks.old).faults (M.state disks.new).faults }
+        ensures same { OnOk result (IsKept (M.state disks.old) (M.state disks.new)) }
     {
         let alloc = self.alloc;
-        match self.steps_of(line) {
-            Ok(steps) => write_lines(alloc, steps.as_slice(), out),
+        match self.steps_of(disks, line) {
+            Ok(steps) => Ok(write_lines(alloc, steps.as_slice(), out)?),
             Err(error) => Err(error),
         }
     }
 }
 
-impl Responder for Player {
+impl<M: Disks> Responder for Player<M> {
     ghost use Rattle.dc_engine.specs.Player.{ReachedBy};
 
-    ghost reached = { ReachedBy };
+    type Maker = M;
 
-    fn answer(&mut self, line: &[u8], out: &mut Vec<u8>) -> Result<(), AllocError> {
+    ghost reached = { ReachedBy M.Disk.state };
+
+    ghost holds = { λ p out. HasOut M.Disk.state out p.cluster };
+
+    fn answer(&mut self, disks: &mut M, line: &[u8], out: &mut Vec<u8>) -> Result<(), Unanswered> {
         let end = out.len();
-        match self.write_answer(line, out) {
+        match self.write_answer(disks, line, out) {
             Ok(()) => Ok(()),
             Err(error) => {
                 out.truncate(end);
@@ -84,6 +137,95 @@ impl Responder for Player {
 
     fn has_met_bad(&self) -> bool {
         self.met_bad
+    }
+}
+
+/// The lines that answer a command: one that makes a cluster, where none stands, makes its disks first.
+fn obey<M: Disks>(
+    alloc: Global,
+    cluster: &mut Cluster<Objects, M::Disk>,
+    disks: &mut M,
+    command: Command,
+) -> Result<Vec<Step>, Unanswered>
+    requires said { IsSaid kinds.has kinds.too_deep command }
+    requires held { HasOut M.Disk.state (M.state disks.old).out cluster.old }
+    ensures held { HasOut M.Disk.state (M.state disks.new).out cluster.new }
+    ensures ok { IfOk result (λ steps. Applies (types (fused_state M.Disk.state)) cluster.old command steps.items cluster.new) }
+    ensures making { result ≡ Err Unanswered.NoDisk → is_making command ≡ true }
+    ensures later { (M.state disks.old).faults ≤ (M.state disks.new).faults }
+    ensures cause { result ≡ Err Unanswered.NoDisk → Rose (M.state disks.old).faults (M.state disks.new).faults }
+    ensures same { OnOk result (IsKept (M.state disks.old) (M.state disks.new)) }
+{
+    let Some((sites, parts)) = size_asked(&command) else {
+        return Ok(cluster.apply(command)?);
+    };
+    if cluster.parts().is_some() {
+        return Ok(cluster.apply(command)?);
+    }
+    make_cluster(alloc, cluster, disks, sites, parts)
+}
+
+/// The numbers of sites and of partitions of each, where the command makes a cluster.
+fn size_asked(command: &Command) -> Option<(u8, u8)>
+    ensures some { IfSome result (λ size. command.now ≡ Command.Cluster size.0 size.1) }
+    ensures none { IfNone result (is_making command.now ≡ false) }
+{
+    match command {
+        Command::Cluster { sites, parts } => Some((*sites, *parts)),
+        _ => None,
+    }
+}
+
+/// Makes the disks of a cluster, and the cluster over them.
+fn make_cluster<M: Disks>(
+    alloc: Global,
+    cluster: &mut Cluster<Objects, M::Disk>,
+    disks: &mut M,
+    sites: u8,
+    parts: u8,
+) -> Result<Vec<Step>, Unanswered>
+    requires lacks { cluster.old ≡ None }
+    requires least_site { 1 ≤ sites }
+    requires most_sites { sites ≤ 8 }
+    requires least_part { 1 ≤ parts }
+    requires most_parts { parts ≤ 16 }
+    ensures held { HasOut M.Disk.state (M.state disks.new).out cluster.new }
+    ensures ok { IfOk result (λ steps. Applies (types (fused_state M.Disk.state)) None (Command.Cluster sites parts) steps.items cluster.new) }
+    ensures later { (M.state disks.old).faults ≤ (M.state disks.new).faults }
+    ensures cause { result ≡ Err Unanswered.NoDisk → Rose (M.state disks.old).faults (M.state disks.new).faults }
+    ensures same { OnOk result (IsKept (M.state disks.old) (M.state disks.new)) }
+{
+    let made = make_all(alloc, disks, sites, parts)?;
+    match cluster.start(sites, parts, made) {
+        Ok(steps) => Ok(steps),
+        Err(error) => Ok(unmade(alloc, error)?),
+    }
+}
+
+/// The line that tells why a cluster doesn't come up, whose disks are lost: the disk of a partition failed.
+///
+/// # Errors
+///
+/// `AllocError` where memory ran out, also that of a disk which grows in memory.
+fn unmade<D: Disk + Drop>(
+    alloc: Global,
+    error: MakeError<Fused<D>>,
+) -> Result<Vec<Step>, AllocError>
+    ensures { IfOk result (λ steps. FailsAt error steps.items) }
+{
+    match error {
+        MakeError::Partition {
+            part,
+            disk,
+            error: RestartError::Disk,
+        } => {
+            if disk.starved() {
+                return Err(AllocError);
+            }
+            only(alloc, Step::Disk { part })
+        }
+        // A disk that holds a log without a record is neither damaged nor another partition's.
+        _ => Err(AllocError),
     }
 }
 
@@ -98,11 +240,11 @@ fn write_lines(alloc: Global, steps: &[Step], out: &mut Vec<u8>) -> Result<(), A
     Ok(())
 }
 
-/// The line that answers one which isn't in the grammar.
-fn bad(alloc: Global) -> Result<Vec<Step>, AllocError>
-    ensures { IfOk result (λ steps. steps.items ≡ Step.Bad ∷ []) }
+/// One line.
+fn only(alloc: Global, step: Step) -> Result<Vec<Step>, AllocError>
+    ensures { IfOk result (λ steps. steps.items ≡ step ∷ []) }
 {
     let mut steps = Vec::new(alloc);
-    steps.push(Step::Bad)?;
+    steps.push(step)?;
     Ok(steps)
 }

@@ -1,25 +1,47 @@
-ghost use Rattle.std.specs.Prelude.{◌≡◌, ℕ, List, OnOk, OnErr};
-ghost use Rattle.dc_engine.specs.Reading.{has_bad};
+ghost use Rattle.std.specs.Prelude.{◌≡◌, ◌≤◌, true, ℕ, List, Err, OnOk, OnErr};
+ghost use Rattle.disk_core.specs.States.{Rose};
+ghost use Rattle.dc_engine.specs.Makers.{IsKept};
+ghost use Rattle.dc_engine.specs.Reading.{has_bad, makes_cluster};
 ghost use Rattle.dc_engine.specs.Replies.{AnswersLine};
 
-use std::alloc::AllocError;
+use crate::unanswered::Unanswered;
+use disk_makers::Disks;
 
 /// The most bytes of a line that are kept and answered. A line that is longer is as one of this many.
 pub(crate) const KEPT: usize = 4_098;
 
-/// What answers the lines of a script, one by one.
+/// What answers the lines of a script, one by one. At each line it is lent the maker of its disks.
 pub(crate) trait Responder {
-    /// `reached m lines bytes`: m stands where these lines, oldest first and each without its LF, have been answered with these bytes.
+    type Maker: Disks;
+
+    /// `reached m lines bytes`: m stands where these lines, oldest first and each without its LF, have been answered with
+    /// these bytes.
     ghost reached: { Self → List (List ℕ) → List ℕ → Type 0 };
 
-    /// Answers one line, by its bytes without its LF, of which at most the first 4,098 are handed in. The reply comes behind what `out` holds.
+    /// `holds m out`: where so many disks are out, m may have those that it has.
+    ghost holds: { Self → ℕ → Type 0 };
+
+    /// Answers one line, by its bytes without its LF, of which at most the first 4,098 are handed in. The reply comes
+    /// behind what `out` holds.
     ///
     /// # Errors
     ///
-    /// `AllocError` where memory runs out. `out` is as before then.
-    fn answer(&mut self, line: &[u8], out: &mut Vec<u8>) -> Result<(), AllocError>
+    /// `NoDisk` only where the line makes a cluster and the maker's count of faults rose; `NoMemory` where memory runs
+    /// out. `out` is as before then.
+    fn answer(
+        &mut self,
+        disks: &mut Self::Maker,
+        line: &[u8],
+        out: &mut Vec<u8>,
+    ) -> Result<(), Unanswered>
+        requires held { holds self.old (Self.Maker.state disks.old).out }
+        ensures held { holds self.new (Self.Maker.state disks.new).out }
         ensures ok { OnOk result (AnswersLine reached self.old self.new line.now out.old.items out.new.items) }
-        ensures err { OnErr result (out.new.items ≡ out.old.items) };
+        ensures err { OnErr result (out.new.items ≡ out.old.items) }
+        ensures making { result ≡ Err Unanswered.NoDisk → makes_cluster line.now ≡ true }
+        ensures later { (Self.Maker.state disks.old).faults ≤ (Self.Maker.state disks.new).faults }
+        ensures cause { result ≡ Err Unanswered.NoDisk → Rose (Self.Maker.state disks.old).faults (Self.Maker.state disks.new).faults }
+        ensures same { OnOk result (IsKept (Self.Maker.state disks.old) (Self.Maker.state disks.new)) };
 
     /// Whether one of the lines answered isn't in the grammar.
     fn has_met_bad(&self) -> bool

@@ -1,6 +1,9 @@
-ghost use Rattle.std.specs.Prelude.{[]};
+ghost use Rattle.std.specs.Prelude.{◌≡◌, true, []};
+ghost use Rattle.disk_core.specs.States.{Rose};
+ghost use Rattle.dc_engine.specs.Makers.{IsKept};
 ghost use Rattle.dc_engine.specs.Outcome.{Outcome, change};
 ghost use Rattle.dc_engine.specs.Replies.{Replies};
+ghost use Rattle.dc_engine.specs.Status.{ends_whole};
 
 use crate::blocks::play_blocks;
 use crate::fault::Fault;
@@ -23,11 +26,15 @@ pub(crate) fn play_script<S: Source, K: Sink, R: Responder>(
     source: &mut S,
     sink: &mut K,
     responder: &mut R,
+    disks: &mut R::Maker,
 ) -> Status
-    requires { R.reached responder.old [] [] }
-    ensures { Outcome (Replies R.reached) result (change S.left S.faults source.old source.new) (change K.held K.faults sink.old sink.new) }
+    requires fresh { R.reached responder.old [] [] }
+    requires held { R.holds responder.old (R.Maker.state disks.old).out }
+    ensures held { R.holds responder.new (R.Maker.state disks.new).out }
+    ensures same { ends_whole result ≡ true → IsKept (R.Maker.state disks.old) (R.Maker.state disks.new) }
+    ensures played { Outcome (R.reached responder.new) (Replies R.reached) (Rose (R.Maker.state disks.old).faults (R.Maker.state disks.new).faults) result (change S.left S.faults source.old source.new) (change K.held K.faults sink.old sink.new) }
 {
-    match play_blocks(alloc, BLOCK, MOST_BYTES, source, sink, responder) {
+    match play_blocks(alloc, BLOCK, MOST_BYTES, source, sink, responder, disks) {
         Ok(()) => {
             if responder.has_met_bad() {
                 return Status::BadLine;
@@ -38,5 +45,6 @@ pub(crate) fn play_script<S: Source, K: Sink, R: Responder>(
         Err(Fault::Write) => Status::WriteFault,
         Err(Fault::NoMemory) => Status::NoMemory,
         Err(Fault::TooLong) => Status::TooLong,
+        Err(Fault::NoDisk) => Status::NoDisk,
     }
 }

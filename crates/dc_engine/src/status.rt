@@ -18,10 +18,12 @@ pub enum Status {
     NoMemory,
     /// 6: the script has more bytes than may be read.
     TooLong,
+    /// 7: a disk couldn't be made.
+    NoDisk,
 }
 
 impl Status {
-    /// The code that the process ends with, from 0 to 6.
+    /// The code that the process ends with, from 0 to 7.
     pub fn code(self) -> u8
         ensures { result ≡ code_of self }
     {
@@ -33,6 +35,7 @@ impl Status {
             Status::WriteFault => 4,
             Status::NoMemory => 5,
             Status::TooLong => 6,
+            Status::NoDisk => 7,
         }
     }
 
@@ -50,6 +53,7 @@ impl Status {
             Status::WriteFault => Some("write fault"),
             Status::NoMemory => Some("out of memory"),
             Status::TooLong => Some("script too long"),
+            Status::NoDisk => Some("no disk"),
         }
     }
 }

@@ -1,8 +1,10 @@
 //! What no clause says: that calls succeed, for each way in which a script ends.
 use crate::edge::{Reading, Writing};
 use crate::memory::{SliceSource, VecSink};
+use crate::rows::ROWS;
 use crate::status::Status;
 use crate::top::run;
+use disk_makers::MemDisks;
 use std::alloc::{AllocError, Global};
 use std::io::{Error, ErrorKind, Read, Write};
 
@@ -40,12 +42,36 @@ impl Write for Full {
     }
 }
 
-/// The status for this script, and the sink with what was written.
-fn played(rt: &HostRuntime, script: &[u8]) -> Result<(Status, VecSink), AllocError> {
+/// A maker of disks of the greatest room.
+fn disks(alloc: Global) -> MemDisks {
+    MemDisks::new(alloc, 2_147_483_648)
+}
+
+/// The status for this script over these disks, and the sink with what was written.
+fn played_over(
+    rt: &HostRuntime,
+    script: &[u8],
+    disks: &mut MemDisks,
+) -> Result<(Status, VecSink), AllocError> {
     let mut source = SliceSource::new(rt.alloc(), script);
     let mut sink = VecSink::new(rt.alloc(), 10_000)?;
-    let status = run(rt.alloc(), &["play"], &mut source, &mut sink);
+    let status = run(rt.alloc(), &["play"], &mut source, &mut sink, disks);
     Ok((status, sink))
+}
+
+/// The status for this script, and the sink with what was written.
+fn played(rt: &HostRuntime, script: &[u8]) -> Result<(Status, VecSink), AllocError> {
+    played_over(rt, script, &mut disks(rt.alloc()))
+}
+
+/// These lines, each with its line feed.
+fn text_of(alloc: Global, lines: &[&str]) -> Result<Vec<u8>, AllocError> {
+    let mut text = Vec::new(alloc);
+    for line in lines {
+        text.extend_from_slice(line.as_bytes())?;
+        text.push(b'\n')?;
+    }
+    Ok(text)
 }
 
 /// A text with a piece of it so many times.
@@ -111,10 +137,22 @@ fn the_first_read_fails(rt: HostRuntime) -> Result<(), AllocError> {
     let mut source = SliceSource::new(rt.alloc(), b"cluster 1 1\n");
     source.fail_at(&[1])?;
     let mut sink = VecSink::new(rt.alloc(), 100)?;
-    let status = run(rt.alloc(), &["play"], &mut source, &mut sink);
+    let status = run(
+        rt.alloc(),
+        &["play"],
+        &mut source,
+        &mut sink,
+        &mut disks(rt.alloc()),
+    );
     assert_eq!(rt; status, Status::ReadFault);
     assert_eq!(rt; sink.held(), b"".as_slice());
-    let status = run(rt.alloc(), &["play"], &mut Reading::new(Broken), &mut sink);
+    let status = run(
+        rt.alloc(),
+        &["play"],
+        &mut Reading::new(Broken),
+        &mut sink,
+        &mut disks(rt.alloc()),
+    );
     assert_eq!(rt; status, Status::ReadFault);
     assert_eq!(rt; sink.held(), b"".as_slice());
     Ok(())
@@ -124,7 +162,13 @@ fn the_first_read_fails(rt: HostRuntime) -> Result<(), AllocError> {
 fn a_sink_without_room_fails(rt: HostRuntime) -> Result<(), AllocError> {
     let mut source = SliceSource::new(rt.alloc(), b"cluster 1 1\n");
     let mut sink = VecSink::new(rt.alloc(), 0)?;
-    let status = run(rt.alloc(), &["play"], &mut source, &mut sink);
+    let status = run(
+        rt.alloc(),
+        &["play"],
+        &mut source,
+        &mut sink,
+        &mut disks(rt.alloc()),
+    );
     assert_eq!(rt; status, Status::WriteFault);
     assert_eq!(rt; sink.held(), b"".as_slice());
     let mut source = SliceSource::new(rt.alloc(), b"cluster 1 1\n");
@@ -133,10 +177,17 @@ fn a_sink_without_room_fails(rt: HostRuntime) -> Result<(), AllocError> {
         &["play"],
         &mut source,
         &mut Writing::new(Broken),
+        &mut disks(rt.alloc()),
     );
     assert_eq!(rt; status, Status::WriteFault);
     let mut source = SliceSource::new(rt.alloc(), b"cluster 1 1\n");
-    let status = run(rt.alloc(), &["play"], &mut source, &mut Writing::new(Full));
+    let status = run(
+        rt.alloc(),
+        &["play"],
+        &mut source,
+        &mut Writing::new(Full),
+        &mut disks(rt.alloc()),
+    );
     assert_eq!(rt; status, Status::WriteFault);
     Ok(())
 }
@@ -145,8 +196,67 @@ fn a_sink_without_room_fails(rt: HostRuntime) -> Result<(), AllocError> {
 fn other_words_are_no_call(rt: HostRuntime) -> Result<(), AllocError> {
     let mut source = SliceSource::new(rt.alloc(), b"cluster 1 1\n");
     let mut sink = VecSink::new(rt.alloc(), 100)?;
-    let status = run(rt.alloc(), &["plya"], &mut source, &mut sink);
+    let status = run(
+        rt.alloc(),
+        &["plya"],
+        &mut source,
+        &mut sink,
+        &mut disks(rt.alloc()),
+    );
     assert_eq!(rt; status, Status::Usage);
     assert_eq!(rt; sink.held(), b"".as_slice());
+    Ok(())
+}
+
+#[test]
+fn plays_crashes_and_faults(rt: HostRuntime) -> Result<(), AllocError> {
+    for row in ROWS {
+        let (status, sink) = played(&rt, &text_of(rt.alloc(), row.script)?)?;
+        assert_eq!(rt; sink.held(), text_of(rt.alloc(), row.replies)?.as_slice());
+        assert_eq!(rt; status.code(), row.code);
+    }
+    Ok(())
+}
+
+#[test]
+fn a_disk_is_not_made(rt: HostRuntime) -> Result<(), AllocError> {
+    let mut disks = disks(rt.alloc());
+    disks.fail_at(&[2])?;
+    let (status, sink) = played_over(&rt, b"cluster 1 2\nclock 1.1 5\n", &mut disks)?;
+    assert_eq!(rt; status, Status::NoDisk);
+    assert_eq!(rt; sink.held(), b"".as_slice());
+    assert_eq!(rt; disks.disks().len(), 1);
+    disks.fail_at(&[3])?;
+    let (status, sink) = played_over(&rt, b"clock 1.1 5\ncluster 1 2", &mut disks)?;
+    assert_eq!(rt; status, Status::NoDisk);
+    assert_eq!(rt; sink.held(), b"no cluster\n".as_slice());
+    assert_eq!(rt; disks.disks().len(), 1);
+    Ok(())
+}
+
+#[test]
+fn a_disk_fails_as_it_is_opened(rt: HostRuntime) -> Result<(), AllocError> {
+    let mut disks = disks(rt.alloc());
+    disks.fail_disks_at(&[1, 2, 3, 4])?;
+    let (status, sink) = played_over(&rt, b"cluster 1 1\nclock 1.1 5\ncluster 2 1\n", &mut disks)?;
+    assert_eq!(rt; status, Status::Done);
+    assert_eq!(rt; sink.held(), b"disk 1.1\nno cluster\ndisk 1.1\n".as_slice());
+    assert_eq!(rt; disks.disks().len(), 0);
+    Ok(())
+}
+
+#[test]
+fn disks_are_given_back(rt: HostRuntime) -> Result<(), AllocError> {
+    let mut disks = disks(rt.alloc());
+    let (status, _) = played_over(&rt, b"cluster 2 2\nclock 2.1 5\n", &mut disks)?;
+    assert_eq!(rt; status, Status::Done);
+    let mut places = Vec::new(rt.alloc());
+    for (part, _) in disks.disks() {
+        places.push((part.site, part.part))?;
+    }
+    assert_eq!(rt;
+        places.as_slice(),
+        [(1, 1), (1, 2), (2, 1), (2, 2)].as_slice()
+    );
     Ok(())
 }

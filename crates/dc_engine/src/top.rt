@@ -1,6 +1,5 @@
 ghost use Rattle.std.specs.Prelude.{◌≡◌, true, false, map};
-ghost use Rattle.dc_engine.specs.Answered.{Answered};
-ghost use Rattle.dc_engine.specs.Outcome.{Outcome, change};
+ghost use Rattle.dc_engine.specs.Outcome.{PlayOutcome, change};
 ghost use Rattle.dc_engine.specs.Words.{asks_play};
 
 use crate::player::Player;
@@ -9,32 +8,42 @@ use crate::sink::Sink;
 use crate::source::Source;
 use crate::status::Status;
 use crate::words::is_play;
+use disk_makers::Disks;
 use std::alloc::Global;
 
 /// Plays a script from the source to the sink. The bytes written are the lines of one run that answers the script's lines, and
 /// what a partition answered in it is lawful (Cure over Clock-SI): all of them where the script was read to its end, those whose
-/// line feed was read where the source fails or the script is too long, and else a front of such a run's lines. A script that is
-/// read to its end has the status `BadLine` exactly where one of its lines isn't in the grammar.
-pub fn play<S: Source, K: Sink>(alloc: Global, source: &mut S, sink: &mut K) -> Status
-    ensures { Outcome Answered result (change S.left S.faults source.old source.new) (change K.held K.faults sink.old sink.new) }
+/// line feed was read where the source fails or the script is too long, those before a cluster whose disk can't be made, and else a
+/// front of such a run's lines. A script that is read to its end has the status `BadLine` exactly where one of its lines isn't in the
+/// grammar. Then the disks of its cluster go back to their maker, each that is up with the log that the run leaves.
+pub fn play<S: Source, K: Sink, M: Disks>(
+    alloc: Global,
+    source: &mut S,
+    sink: &mut K,
+    disks: &mut M,
+) -> Status
+    ensures { PlayOutcome M.Disk.state (M.state disks.old) (M.state disks.new) result (change S.left S.faults source.old source.new) (change K.held K.faults sink.old sink.new) }
 {
     let mut player = Player::new(alloc);
-    play_script(alloc, source, sink, &mut player)
+    let status = play_script(alloc, source, sink, &mut player, disks);
+    player.give_back(disks);
+    status
 }
 
 /// Does what the process's words ask for, its own name left out. For the one word `play` it plays the script; every other
 /// list of words is a fault of usage, which reads and writes nothing.
-pub fn run<S: Source, K: Sink>(
+pub fn run<S: Source, K: Sink, M: Disks>(
     alloc: Global,
     words: &[&str],
     source: &mut S,
     sink: &mut K,
+    disks: &mut M,
 ) -> Status
-    ensures played { asks_play (map (λ word. word.now) words.now) ≡ true → Outcome Answered result (change S.left S.faults source.old source.new) (change K.held K.faults sink.old sink.new) }
-    ensures usage { asks_play (map (λ word. word.now) words.now) ≡ false → (result ≡ Status.Usage) × (source.new ≡ source.old) × (sink.new ≡ sink.old) }
+    ensures played { asks_play (map (λ word. word.now) words.now) ≡ true → PlayOutcome M.Disk.state (M.state disks.old) (M.state disks.new) result (change S.left S.faults source.old source.new) (change K.held K.faults sink.old sink.new) }
+    ensures usage { asks_play (map (λ word. word.now) words.now) ≡ false → (result ≡ Status.Usage) × (source.new ≡ source.old) × (sink.new ≡ sink.old) × (disks.new ≡ disks.old) }
 {
     if !is_play(words) {
         return Status::Usage;
     }
-    play(alloc, source, sink)
+    play(alloc, source, sink, disks)
 }

@@ -12,6 +12,7 @@ ghost use Rattle.dc_engine.specs.Words.{asks_play};
 ghost use Rattle.dc_shell.specs.Told.{told};
 
 use dc_engine::{Reading, Sink, Source, Status, Writing, run};
+use disk_makers::{Disks, RealDisks};
 use std::alloc::{AllocError, Global};
 use std::env::Args;
 use std::io::{ErrorKind, Write};
@@ -83,11 +84,12 @@ fn texts_of<'a>(alloc: Global, words: &'a [String]) -> Result<Vec<&'a str>, Allo
 /// # Errors
 ///
 /// `AllocError` where there is no memory for the words. Nothing is read or written then.
-fn play_words<S: Source, K: Sink>(
+fn play_words<S: Source, K: Sink, M: Disks>(
     alloc: Global,
     words: &[String],
     source: &mut S,
     sink: &mut K,
+    disks: &mut M,
 ) -> Result<Status, AllocError>
     ensures played { asks_play (map string_bytes words.now) ≡ true → IfOk result (λ status. Outcome Answered status (change S.left S.faults source.old source.new) (change K.held K.faults sink.old sink.new)) }
     ensures usage { asks_play (map string_bytes words.now) ≡ false → IfOk result (λ status. (status ≡ Status.Usage) × (source.new ≡ source.old) × (sink.new ≡ sink.old)) }
@@ -95,7 +97,7 @@ fn play_words<S: Source, K: Sink>(
     ensures unwritten { OnErr result (sink.new ≡ sink.old) }
 {
     let texts = texts_of(alloc, words)?;
-    Ok(run(alloc, texts.as_slice(), source, sink))
+    Ok(run(alloc, texts.as_slice(), source, sink, disks))
 }
 
 /// The status that a run had, which is want of memory where it didn't begin.
@@ -136,7 +138,14 @@ fn main(rt: HostRuntime) -> ExitCode {
         Ok(words) => {
             let mut source = Reading::new(rt.stdin());
             let mut sink = Writing::new(rt.stdout());
-            status_of(play_words(rt.alloc(), behind_name(&words), &mut source, &mut sink))
+            let mut disks = RealDisks::new();
+            status_of(play_words(
+                rt.alloc(),
+                behind_name(&words),
+                &mut source,
+                &mut sink,
+                &mut disks,
+            ))
         }
         Err(status) => status,
     };

@@ -16,9 +16,9 @@ pub record Maker (D : Type 0) : Type 0 where
   -- the disks that were given back, each with its partition, in the order in which they came
   pub given : List (PartId × D)
 
--- A disk as it is made: where it tells what it holds, that is a log without a record, and all of it is durable.
+-- A disk as it is made: it tells what it holds, which is a log without a record, and all of it is durable.
 pub record IsMade (disk : DiskState) : Type 0 where
-  pub log : IsTrue disk.tells → AtRest disk 8 []
+  pub log : AtRest disk 8 []
   pub roomy : 64 ≤ disk.room
   pub sound : disk.faults ≡ 0
   pub fed : disk.starved ≡ false

@@ -4,7 +4,9 @@
 mod disks;
 mod error;
 mod memory;
+mod real;
 
 pub use disks::Disks;
 pub use error::MakeFault;
 pub use memory::MemDisks;
+pub use real::RealDisks;

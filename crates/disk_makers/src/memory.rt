@@ -26,7 +26,7 @@ pub struct MemDisks {
 }
 
 // A disk in memory that is formatted, of which these calls are to fail.
-fn formatted(alloc: Global, room: u64, calls: &[u64]) -> Result<MemDisk, AllocError>
+pub(crate) fn formatted(alloc: Global, room: u64, calls: &[u64]) -> Result<MemDisk, AllocError>
     requires least { 64 ≤ room }
     requires most { room ≤ 2 ^ 31 }
     ensures made { IfOk result (λ disk. IsMade (mem_state disk)) }

@@ -35,8 +35,9 @@ impl<C: Crdt, D: Disk + Drop> Model for Sites<C, D> {
 }
 
 impl<C: Crdt, D: Disk + Drop> Sites<C, D> {
-    ghost use Rattle.std.specs.Prelude.{not};
+    ghost use Rattle.std.specs.Prelude.{length, not};
     ghost use Rattle.site_partitions.specs.Fates.{OfState};
+    ghost use Rattle.site_partitions.specs.Held.{IsSized};
     ghost use Rattle.site_partitions.specs.Reaches.{types_of};
 
     /// The number of sites, from 1 to 8.
@@ -53,6 +54,7 @@ impl<C: Crdt, D: Disk + Drop> Sites<C, D> {
         ensures is { result ≡ self.now.parts }
         ensures least { 1 ≤ result }
         ensures most { result ≤ 16 }
+        ensures sized { IsSized self.now.sites self.now.parts (length self.now.partitions) }
     {
         self.parts
     }

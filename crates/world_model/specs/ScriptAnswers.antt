@@ -1,6 +1,6 @@
 -- The run of a cluster answers its script. What a command meets before any partition is asked is told by the run before; what a
 -- partition answers is exact by the law of lines, over the calls of the run.
-use Rattle.std.specs.Prelude.{◌≡◌, ◌≢◌, ℕ, ◌+◌, ◌-◌, Bool, true, false, List, [], ◌∷◌, length, Option, None, Some, ⊤}
+use Rattle.std.specs.Prelude.{◌≡◌, ◌≢◌, ◌⊎◌, ℕ, ◌+◌, ◌-◌, Bool, true, false, List, [], ◌∷◌, length, Option, None, Some, ⊤}
 use Rattle.site_vector.specs.declared.ids.PartId.{PartId}
 use Rattle.site_vector.specs.declared.ids.TxId.{TxId}
 use Rattle.world_model.specs.declared.command.Command.{Command}
@@ -17,6 +17,7 @@ use Rattle.world_model.specs.Phases.{going_of, phase}
 use Rattle.world_model.specs.Messages.{messages, reports}
 use Rattle.world_model.specs.Meeting.{met}
 use Rattle.world_model.specs.Pending.{is_down}
+use Rattle.world_model.specs.Plan.{IsPlace}
 use Rattle.world_model.specs.ScriptCalls.{is_answer, is_called, calls_of}
 use Rattle.world_model.specs.Settling.{asks_abort, looked_up, SettlesAll}
 use Rattle.world_model.specs.Waiting.{waiting}
@@ -75,9 +76,13 @@ IsSettled run p steps = Either (is_down (calls_of run) p)
     (steps ≡ step.Down p ∷ [])
     (SettlesAll (parts_of run) (calls_of run) p (waiting (calls_of run) p) steps)
 
+-- a cluster is made; or the disk of one of its partitions failed, and none is
+abbrev pub IsMade : ℕ → ℕ → List Step → Type 0
+IsMade sites parts steps = (steps ≡ step.MadeCluster sites parts ∷ []) ⊎ ((at : PartId) × IsPlace sites parts at × (steps ≡ step.Disk at ∷ []))
+
 -- the lines of a command that meets no refusal
 abbrev pub Replies : Run → Command → List Step → Type 0
-Replies run (command.Cluster sites parts) steps = steps ≡ step.MadeCluster sites parts ∷ []
+Replies run (command.Cluster sites parts) steps = IsMade sites parts steps
 Replies run (command.Session name site) steps = steps ≡ step.MadeSession name site ∷ []
 Replies run (command.Move name site) steps = steps ≡ step.Moved name site ∷ []
 Replies run (command.Lose name) steps = steps ≡ step.Lost name ∷ []

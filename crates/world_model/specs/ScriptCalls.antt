@@ -49,15 +49,17 @@ is_answer (step.Settled p) = false
 is_answer (step.Fused p k n) = false
 is_answer other = true
 
--- an expire asks for an abort alone, and only looks up what is finished or gone
-abbrev pub is_looked_up : Option Command → Step → Bool
-is_looked_up (Some (command.Expire p t)) (step.Finished q u) = true
-is_looked_up (Some (command.Expire p t)) (step.Gone q u) = true
-is_looked_up asked s = false
+-- an expire asks for an abort alone, and only looks up what is finished or gone; where a disk fails as a cluster is made, there is
+-- no partition yet
+abbrev pub is_unasked : Option Command → Step → Bool
+is_unasked (Some (command.Expire p t)) (step.Finished q u) = true
+is_unasked (Some (command.Expire p t)) (step.Gone q u) = true
+is_unasked (Some (command.Cluster sites parts)) (step.Disk p) = true
+is_unasked asked s = false
 
 -- a partition was asked for this line
 abbrev pub is_called : Option Command → Step → Bool
-is_called asked s = is_answer s && not (is_looked_up asked s)
+is_called asked s = is_answer s && not (is_unasked asked s)
 
 -- a call, and the partition that it is made of
 pub record Placed : Type 0 where

@@ -1,5 +1,5 @@
 use Rattle.std.proofs.Common.{sym, subst}
-use Rattle.std.specs.Prelude.{IfOk, Option, Some, None}
+use Rattle.std.specs.Prelude.{IfOk, Option, Some}
 use Rattle.disk_core.specs.Fuses.{fused_state}
 use Rattle.site_partitions.specs.Reaches.{types_of}
 use Rattle.cluster.specs.Post.{WholeState}

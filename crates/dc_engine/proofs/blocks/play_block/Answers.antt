@@ -1,6 +1,7 @@
-use Rattle.std.proofs.Common.{◌≡◌, length, take, arith}
+use Rattle.std.specs.Prelude.{Err}
+use Rattle.std.proofs.Common.{◌≡◌, ◌∙◌, ap, length, take, arith}
 use Rattle.std.proofs.lemmas.List.{length-take-le}
-use Rattle.dc_engine.proofs.Progress.{progress_end, progress_fault, part_end, part_block, stopped_read, stopped_part, goes_on}
+use Rattle.dc_engine.proofs.Progress.{progress_end, progress_fault, part_end, part_block, before_end, before_block, stopped_read, stopped_part, goes_on}
 use Rattle.dc_engine.proofs.blocks.play_block.Goals as goal
 
 pub returns-in-Err-clause-goes_on : goal.returns-in-Err-clause-goes_on
@@ -25,6 +26,7 @@ returns-in-Err-answer_end-clause-goes_on g c =
     let ends = rw c.in-Err-answer_end.is at c.answer_end.ensures.err in
     λ size most input before le p. stopped_part most g.R.Responder.reached size c.in-Err-answer_end.fault input (g.S.Source.left c.read_block.new.source) before (g.K.Sink.held c.answer_end.new.sink) kinds
     (part_end most g.R.Responder.reached size _ input (g.S.Source.left c.args.source.now) (g.S.Source.left c.read_block.new.source) before (g.K.Sink.held c.args.sink.now) (g.K.Sink.held c.answer_end.new.sink) _ c.args.room p bytes (end c.if-count-eq0.true c.requires.some c.requires.size) ends)
+    (λ e. before_end most g.R.Responder.reached size _ input (g.S.Source.left c.args.source.now) (g.S.Source.left c.read_block.new.source) before (g.K.Sink.held c.args.sink.now) (g.K.Sink.held c.answer_end.new.sink) _ c.args.room p bytes (end c.if-count-eq0.true c.requires.some c.requires.size) (c.answer_end.ensures.before (c.in-Err-answer_end.is ∙ ap Err e)))
 
 pub returns-in-Ok-answer_block-clause-goes_on : goal.returns-in-Ok-answer_block-clause-goes_on
 returns-in-Ok-answer_block-clause-goes_on g c =
@@ -44,3 +46,4 @@ returns-in-Err-answer_block-clause-goes_on g c =
     let counted : length (take c.in-Ok.count c.read_block.new.block) ≡ c.in-Ok.count = length-take-le c.in-Ok.count c.read_block.new.block (let lengths = c.read_block.auto.block in omega (arith, within)) in
     λ size most input before le p. stopped_part most g.R.Responder.reached size c.in-Err-answer_block.fault input (g.S.Source.left c.read_block.new.source) before (g.K.Sink.held c.answer_block.new.sink) kinds
     (part_block most g.R.Responder.reached size _ input (g.S.Source.left c.args.source.now) (g.S.Source.left c.read_block.new.source) before (g.K.Sink.held c.args.sink.now) (g.K.Sink.held c.answer_block.new.sink) _ (take c.in-Ok.count c.read_block.new.block) c.args.room (omega (arith, counted, within, le)) (omega (arith, counted, room)) p bytes writes)
+    (λ e. before_block most g.R.Responder.reached size _ input (g.S.Source.left c.args.source.now) (g.S.Source.left c.read_block.new.source) before (g.K.Sink.held c.args.sink.now) (g.K.Sink.held c.answer_block.new.sink) _ (take c.in-Ok.count c.read_block.new.block) c.args.room (omega (arith, counted, within, le)) (omega (arith, counted, room)) p bytes (c.answer_block.ensures.before (c.in-Err-answer_block.is ∙ ap Err e)))

@@ -1,5 +1,6 @@
-use Rattle.dc_engine.proofs.Progress.{progress_too_long, progress_end, progress_fault, part_end, stopped_read, stopped_part}
-use Rattle.std.proofs.Common.{arith}
+use Rattle.dc_engine.proofs.Progress.{progress_too_long, progress_end, progress_fault, part_end, before_end, stopped_read, stopped_part}
+use Rattle.std.specs.Prelude.{Err}
+use Rattle.std.proofs.Common.{◌∙◌, ap, arith}
 use Rattle.dc_engine.proofs.blocks.play_end.Goals as goal
 
 pub returns-in-Ok-true-clause-finished : goal.returns-in-Ok-true-clause-finished
@@ -23,6 +24,7 @@ returns-in-Err-answer_end-clause-finished g c =
     let ends = rw c.in-Err-answer_end.is at c.answer_end.ensures.err in
     λ size most input before p. stopped_part most g.R.Responder.reached size c.in-Err-answer_end.fault input (g.S.Source.left c.has_more.new.source) before (g.K.Sink.held c.answer_end.new.sink) kinds
     (part_end most g.R.Responder.reached size _ input (g.S.Source.left c.args.source.now) (g.S.Source.left c.has_more.new.source) before (g.K.Sink.held c.args.sink.now) (g.K.Sink.held c.answer_end.new.sink) _ 0 p taken.0 taken.1 ends)
+    (λ e. before_end most g.R.Responder.reached size _ input (g.S.Source.left c.args.source.now) (g.S.Source.left c.has_more.new.source) before (g.K.Sink.held c.args.sink.now) (g.K.Sink.held c.answer_end.new.sink) _ 0 p taken.0 taken.1 (c.answer_end.ensures.before (c.in-Err-answer_end.is ∙ ap Err e)))
 
 pub returns-in-Err-clause-finished : goal.returns-in-Err-clause-finished
 returns-in-Err-clause-finished g c =

@@ -3,7 +3,8 @@ use Rattle.site_partitions.specs.Reaches.{types_of}
 use Rattle.cluster.specs.Live.{LiveState}
 use Rattle.cluster.proofs.Applying.{map_ok}
 use Rattle.cluster.specs.Acts.{Acts, Begins}
-use Rattle.site_partitions.specs.Held.{Held, holds_place}
+use Rattle.site_partitions.specs.Held.{Held}
+use Rattle.cluster.specs.Same.{holds_place}
 use Rattle.cluster.specs.Live.{number_of}
 use Rattle.cluster.proofs.Commands.{none_about}
 use Rattle.cluster.proofs.Beginning.{doing_about, begin_nowhere, begin_absent, begin_elsewhere, begin_busy, begin_applies, idle_about, part_most}
@@ -35,5 +36,5 @@ returns-in-Ok g c =
     map_ok c.only-in-Ok.result (λ steps is. begin_applies (types_of g.C.Crdt.laws g.C.Crdt.spells g.D.Disk.state) c.args.self.now c.args.name c.args.part c.begin_in.new.sites c.begin_in.new.sessions.entries c.in-Ok.step steps.items is
     (sym c.has_place.ensures.is ∙ c.if-not-has_place.false) (sym c.stands_at.ensures ∙ c.if-not-stands_at.false)
     (idle_about _ c.in-Some.phase (sym c.phase.ensures ∙ c.in-Some.is) (sym c.is_idle.ensures ∙ c.if-not-is_idle.false))
-    (subst (λ (x : LiveState g.row.C-Effect.Denot _). Acts (types_of g.C.Crdt.laws g.C.Crdt.spells g.D.Disk.state) x.sites x.sessions c.args.name c.begin_in.new.sites c.begin_in.new.sessions.entries (Begins (types_of g.C.Crdt.laws g.C.Crdt.spells g.D.Disk.state) c.begin_in.new.sites (number_of c.args.part) c.in-Ok.step)) c.self.view_is
-    (subst (λ n. Acts (types_of g.C.Crdt.laws g.C.Crdt.spells g.D.Disk.state) c.self.inside.sites c.self.inside.sessions.entries c.args.name c.begin_in.new.sites c.begin_in.new.sessions.entries (Begins (types_of g.C.Crdt.laws g.C.Crdt.spells g.D.Disk.state) c.begin_in.new.sites n c.in-Ok.step)) c.number_of.ensures c.in-Ok.ensures))) c.only-in-Ok.ensures
+    (subst (λ (x : LiveState g.row.C-Effect.Denot _). Acts (types_of g.C.Crdt.laws g.C.Crdt.spells g.D.Disk.state) x.sites x.sessions c.args.name c.begin_in.new.sites c.begin_in.new.sessions.entries (Begins (types_of g.C.Crdt.laws g.C.Crdt.spells g.D.Disk.state) x.sites c.begin_in.new.sites (number_of c.args.part) c.in-Ok.step)) c.self.view_is
+    (subst (λ n. Acts (types_of g.C.Crdt.laws g.C.Crdt.spells g.D.Disk.state) c.self.inside.sites c.self.inside.sessions.entries c.args.name c.begin_in.new.sites c.begin_in.new.sessions.entries (Begins (types_of g.C.Crdt.laws g.C.Crdt.spells g.D.Disk.state) c.self.inside.sites c.begin_in.new.sites n c.in-Ok.step)) c.number_of.ensures c.in-Ok.ensures))) c.only-in-Ok.ensures

@@ -4,4 +4,4 @@ use Rattle.cluster.proofs.Settling.{IsUnderWay}
 use Rattle.cluster.proofs.live.Live.settle.Given as goal
 
 abbrev pub invariant-loop-one : goal.invariant-loop-one
-invariant-loop-one g l = IsUnderWay (types_of g.C.Crdt.laws g.C.Crdt.spells g.D.Disk.state) l.fn.self l.part l.one-items l.self (drop l.one-index l.one-items) l.lines.items
+invariant-loop-one g l = IsUnderWay (types_of g.C.Crdt.laws g.C.Crdt.spells g.D.Disk.state) l.fn.self l.part l.self (drop l.one-index l.one-items) l.lines.items

@@ -2,6 +2,7 @@ use Rattle.std.proofs.Common.{◌∙◌, ap, sym, subst, Some, ◌∷◌, []}
 use Rattle.site_partitions.specs.Reaches.{types_of}
 use Rattle.cluster.specs.Acts.{Acts, Updates}
 use Rattle.cluster.specs.Live.{LiveState}
+use Rattle.cluster.specs.Reached.{IsReachedLive}
 use Rattle.cluster.proofs.Applying.{map_ok}
 use Rattle.cluster.proofs.Updating.{would, none_would, update_absent, update_refused, update_applies}
 use Rattle.cluster.proofs.live.Live.update.Goals as goal
@@ -14,4 +15,7 @@ returns-in-Some-refusal g c = map_ok c.only-in-Some-refusal.result (λ steps is.
 
 pub returns-in-Ok : goal.returns-in-Ok
 returns-in-Ok g c = map_ok c.only-in-Ok.result (λ steps is. update_applies (types_of g.C.Crdt.laws g.C.Crdt.spells g.D.Disk.state) c.args.self.now c.args.name c.args.object c.args.op c.update_in.new.sites c.update_in.new.sessions.entries c.in-Ok.step steps.items is (would g.C.Crdt.too_deep c.args.object c.args.op _ _ (sym c.update_refusal.ensures ∙ (c.in-Some.is ∙ ap Some c.in_default-refusal.is)))
-    (subst (λ (x : LiveState g.row.C-Effect.Denot _). Acts (types_of g.C.Crdt.laws g.C.Crdt.spells g.D.Disk.state) x.sites x.sessions c.args.name c.update_in.new.sites c.update_in.new.sessions.entries (Updates (types_of g.C.Crdt.laws g.C.Crdt.spells g.D.Disk.state) c.update_in.new.sites c.args.object c.args.op c.in-Ok.step)) c.self.view_is c.in-Ok.ensures)) c.only-in-Ok.ensures
+    (subst (λ (x : LiveState g.row.C-Effect.Denot _). Acts (types_of g.C.Crdt.laws g.C.Crdt.spells g.D.Disk.state) x.sites x.sessions c.args.name c.update_in.new.sites c.update_in.new.sessions.entries (Updates (types_of g.C.Crdt.laws g.C.Crdt.spells g.D.Disk.state) x.sites c.update_in.new.sites c.args.object c.args.op c.in-Ok.step)) c.self.view_is c.in-Ok.ensures)) c.only-in-Ok.ensures
+
+pub update_in-requires-clause-reached : goal.update_in-requires-clause-reached
+update_in-requires-clause-reached g c = subst (λ (x : LiveState g.row.C-Effect.Denot _). IsReachedLive (types_of g.C.Crdt.laws g.C.Crdt.spells g.D.Disk.state) x) (sym c.self.view_is) c.requires.reached

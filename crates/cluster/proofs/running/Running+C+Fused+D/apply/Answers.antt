@@ -1,9 +1,9 @@
-use Rattle.std.proofs.Common.{subst, Some}
+use Rattle.std.proofs.Common.{sym, subst, Some}
 use Rattle.disk_core.specs.Fuses.{fused_state}
 use Rattle.site_partitions.specs.Reaches.{types_of}
 use Rattle.cluster.specs.Post.{PostState, WholeState}
-use Rattle.cluster.specs.Reached.{Applies}
-use Rattle.cluster.proofs.Applying.{map_ok, lift}
+use Rattle.cluster.specs.Reached.{Applies, IsReachedLive}
+use Rattle.cluster.proofs.Applying.{map_ok, lift, live_of}
 use Rattle.cluster.proofs.running.Running+C+Fused+D.apply.Goals as goal
 
 pub returns-then-is_of_fates : goal.returns-then-is_of_fates
@@ -12,8 +12,23 @@ returns-then-is_of_fates g c =
     map_ok c.end.result (λ steps a. subst (λ (x : WholeState g.row.C-Effect.Denot _). Applies (types_of g.C.Crdt.laws g.C.Crdt.spells (fused_state g.D.Disk.state)) (Some x) c.args.command steps.items (Some (record { live = c.end.new.self; post = post }))) c.self.view_is
     (lift (types_of g.C.Crdt.laws g.C.Crdt.spells (fused_state g.D.Disk.state)) (record { live = c.self.inside.live; post = post }) c.end.new.self c.args.command steps.items a)) c.end.ensures
 
+pub returns-then-is_of_faults : goal.returns-then-is_of_faults
+returns-then-is_of_faults g c =
+    let post : PostState g.row.C-Effect.Denot = record { letters = c.self.inside.letters.entries; next_letter = c.self.inside.next_letter; notes = c.self.inside.notes.entries; next_note = c.self.inside.next_note } in
+    map_ok c.strike.result (λ steps a. subst (λ (x : WholeState g.row.C-Effect.Denot _). Applies (types_of g.C.Crdt.laws g.C.Crdt.spells (fused_state g.D.Disk.state)) (Some x) c.args.command steps.items (Some (record { live = c.strike.new.self; post = post }))) c.self.view_is
+    (lift (types_of g.C.Crdt.laws g.C.Crdt.spells (fused_state g.D.Disk.state)) (record { live = c.self.inside.live; post = post }) c.strike.new.self c.args.command steps.items a)) c.strike.ensures
+
 pub returns : goal.returns
 returns g c =
     let post : PostState g.row.C-Effect.Denot = record { letters = c.self.inside.letters.entries; next_letter = c.self.inside.next_letter; notes = c.self.inside.notes.entries; next_note = c.self.inside.next_note } in
     map_ok c.apply.result (λ steps a. subst (λ (x : WholeState g.row.C-Effect.Denot _). Applies (types_of g.C.Crdt.laws g.C.Crdt.spells (fused_state g.D.Disk.state)) (Some x) c.args.command steps.items (Some (record { live = c.apply.new.self; post = post }))) c.self.view_is
     (lift (types_of g.C.Crdt.laws g.C.Crdt.spells (fused_state g.D.Disk.state)) (record { live = c.self.inside.live; post = post }) c.apply.new.self c.args.command steps.items a)) c.apply.ensures
+
+pub end-requires-clause-reached : goal.end-requires-clause-reached
+end-requires-clause-reached g c = subst (λ (x : WholeState g.row.C-Effect.Denot _). IsReachedLive (types_of g.C.Crdt.laws g.C.Crdt.spells (fused_state g.D.Disk.state)) x.live) (sym c.self.view_is) (live_of (types_of g.C.Crdt.laws g.C.Crdt.spells (fused_state g.D.Disk.state)) c.args.self.now c.requires.reached)
+
+pub strike-requires-clause-reached : goal.strike-requires-clause-reached
+strike-requires-clause-reached g c = subst (λ (x : WholeState g.row.C-Effect.Denot _). IsReachedLive (types_of g.C.Crdt.laws g.C.Crdt.spells (fused_state g.D.Disk.state)) x.live) (sym c.self.view_is) (live_of (types_of g.C.Crdt.laws g.C.Crdt.spells (fused_state g.D.Disk.state)) c.args.self.now c.requires.reached)
+
+pub apply-requires-clause-reached : goal.apply-requires-clause-reached
+apply-requires-clause-reached g c = subst (λ (x : WholeState g.row.C-Effect.Denot _). IsReachedLive (types_of g.C.Crdt.laws g.C.Crdt.spells (fused_state g.D.Disk.state)) x.live) (sym c.self.view_is) (live_of (types_of g.C.Crdt.laws g.C.Crdt.spells (fused_state g.D.Disk.state)) c.args.self.now c.requires.reached)

@@ -37,4 +37,4 @@ returns-in-Err g c =
     let there : kept_at c.self.inside.letters.entries c.args.number ≡ Some c.in-Some.message.now = search rules in
     map_ok c.only-in-Err.result (λ steps is. subst (λ (x : WholeState g.row.C-Effect.Denot _). Applies (types_of g.C.Crdt.laws g.C.Crdt.spells g.D.Disk.state) (Some x) (command.Deliver c.args.number) steps.items (Some (record { live = c.take.new.self; post = post }))) c.self.view_is
     (subst (λ (ss : List (List ℕ × SessionState g.row.C-Effect.Denot)). Applies (types_of g.C.Crdt.laws g.C.Crdt.spells g.D.Disk.state) (Some w) (command.Deliver c.args.number) steps.items (Some (record { live = record { sites = c.take.new.self.sites; sessions = ss }; post = post }))) (sym c.take.ensures.same)
-    (refused_take (types_of g.C.Crdt.laws g.C.Crdt.spells g.D.Disk.state) w c.args.number c.in-Some.message.now there _ c.take.new.self.sites c.in-Err.error c.in_ok-line-in-Err.line steps.items is c.in_ok-line-in-Err.ensures c.in-Err.ensures.took))) c.only-in-Err.ensures
+    (refused_take (types_of g.C.Crdt.laws g.C.Crdt.spells g.D.Disk.state) w c.args.number c.in-Some.message.now there (Unit {0}) c.take.new.self.sites c.in-Err.error c.in_ok-line-in-Err.line steps.items is c.in_ok-line-in-Err.ensures c.in-Err.ensures.took))) c.only-in-Err.ensures

@@ -7,7 +7,7 @@ use Rattle.site_partitions.specs.Held.{holds_part}
 use Rattle.cluster.specs.Post.{PostState, WholeState, kept_at}
 use Rattle.cluster.specs.Reached.{Applies, IsReached}
 use Rattle.cluster.proofs.Applying.{map_ok}
-use Rattle.cluster.proofs.Delivering.{may_hear, heard, hear_nowhere, hear_absent, hear_foreign}
+use Rattle.cluster.proofs.Delivering.{may_hear, heard, hear_refused, hear_nowhere, hear_absent, hear_foreign}
 use Rattle.cluster.proofs.running.Running.hear.Goals as goal
 
 pub returns-then-not-has_part : goal.returns-then-not-has_part
@@ -32,8 +32,8 @@ returns-then-note-part g c =
     let other : (c.in-Some.note.now.from.site == c.args.part.site) ≡ false = search rules in
     map_ok c.only-then-note-part.result (λ steps is. subst (λ (x : WholeState g.row.C-Effect.Denot _). Applies (types_of g.C.Crdt.laws g.C.Crdt.spells g.D.Disk.state) (Some x) (command.Hear c.args.number c.args.part) steps.items (Some x)) c.self.view_is (hear_foreign (types_of g.C.Crdt.laws g.C.Crdt.spells g.D.Disk.state) w c.args.number c.args.part c.in-Some.note.now steps.items is has there other)) c.only-then-note-part.ensures
 
-pub hear-stable-requires : goal.hear-stable-requires
-hear-stable-requires g c =
+pub hear-requires : goal.hear-requires
+hear-requires g c =
     let post : PostState g.row.C-Effect.Denot = record { letters = c.self.inside.letters.entries; next_letter = c.self.inside.next_letter; notes = c.self.inside.notes.entries; next_note = c.self.inside.next_note } in
     let w : WholeState g.row.C-Effect.Denot _ = record { live = c.self.inside.live; post = post } in
     let reached : IsReached (types_of g.C.Crdt.laws g.C.Crdt.spells g.D.Disk.state) (Some w) = subst (λ (x : WholeState g.row.C-Effect.Denot _). IsReached (types_of g.C.Crdt.laws g.C.Crdt.spells g.D.Disk.state) (Some x)) (sym c.self.view_is) c.requires.reached in
@@ -42,13 +42,24 @@ hear-stable-requires g c =
     let same : (c.in-Some.note.now.from.site == c.args.part.site) ≡ true = search rules in
     may_hear (types_of g.C.Crdt.laws g.C.Crdt.spells g.D.Disk.state) w c.args.number c.args.part c.in-Some.note.now there same has reached
 
-pub returns : goal.returns
-returns g c =
+pub returns-in-Ok : goal.returns-in-Ok
+returns-in-Ok g c =
     let post : PostState g.row.C-Effect.Denot = record { letters = c.self.inside.letters.entries; next_letter = c.self.inside.next_letter; notes = c.self.inside.notes.entries; next_note = c.self.inside.next_note } in
     let w : WholeState g.row.C-Effect.Denot _ = record { live = c.self.inside.live; post = post } in
     let has : holds_part c.self.inside.live.sites c.args.part ≡ true = sym c.has_part.ensures ∙ c.if-not-has_part.false in
     let there : kept_at c.self.inside.notes.entries c.args.number ≡ Some c.in-Some.note.now = search rules in
     let same : (c.in-Some.note.now.from.site == c.args.part.site) ≡ true = search rules in
-    map_ok c.only-2.result (λ steps is. subst (λ (x : WholeState g.row.C-Effect.Denot _). Applies (types_of g.C.Crdt.laws g.C.Crdt.spells g.D.Disk.state) (Some x) (command.Hear c.args.number c.args.part) steps.items (Some (record { live = c.hear-stable.new.self; post = post }))) c.self.view_is
-    (subst (λ (ss : List (List ℕ × SessionState g.row.C-Effect.Denot)). Applies (types_of g.C.Crdt.laws g.C.Crdt.spells g.D.Disk.state) (Some w) (command.Hear c.args.number c.args.part) steps.items (Some (record { live = record { sites = c.hear-stable.new.self.sites; sessions = ss }; post = post }))) (sym c.hear-stable.ensures.same)
-    (heard (types_of g.C.Crdt.laws g.C.Crdt.spells g.D.Disk.state) w c.args.number c.args.part c.in-Some.note.now there same c.hear-stable.new.self.sites c.hear-stable.result steps.items is has c.hear-stable.ensures.heard))) c.only-2.ensures
+    map_ok c.only-in-Ok.result (λ steps is. subst (λ (x : WholeState g.row.C-Effect.Denot _). Applies (types_of g.C.Crdt.laws g.C.Crdt.spells g.D.Disk.state) (Some x) (command.Hear c.args.number c.args.part) steps.items (Some (record { live = c.hear.new.self; post = post }))) c.self.view_is
+    (subst (λ (ss : List (List ℕ × SessionState g.row.C-Effect.Denot)). Applies (types_of g.C.Crdt.laws g.C.Crdt.spells g.D.Disk.state) (Some w) (command.Hear c.args.number c.args.part) steps.items (Some (record { live = record { sites = c.hear.new.self.sites; sessions = ss }; post = post }))) (sym c.hear.ensures.same)
+    (heard (types_of g.C.Crdt.laws g.C.Crdt.spells g.D.Disk.state) w c.args.number c.args.part c.in-Some.note.now there same c.hear.new.self.sites c.in-Ok.stable steps.items is has c.in-Ok.ensures.heard))) c.only-in-Ok.ensures
+
+pub returns-in-Err : goal.returns-in-Err
+returns-in-Err g c =
+    let post : PostState g.row.C-Effect.Denot = record { letters = c.self.inside.letters.entries; next_letter = c.self.inside.next_letter; notes = c.self.inside.notes.entries; next_note = c.self.inside.next_note } in
+    let w : WholeState g.row.C-Effect.Denot _ = record { live = c.self.inside.live; post = post } in
+    let has : holds_part c.self.inside.live.sites c.args.part ≡ true = sym c.has_part.ensures ∙ c.if-not-has_part.false in
+    let there : kept_at c.self.inside.notes.entries c.args.number ≡ Some c.in-Some.note.now = search rules in
+    let same : (c.in-Some.note.now.from.site == c.args.part.site) ≡ true = search rules in
+    map_ok c.only-in-Err.result (λ steps is. subst (λ (x : WholeState g.row.C-Effect.Denot _). Applies (types_of g.C.Crdt.laws g.C.Crdt.spells g.D.Disk.state) (Some x) (command.Hear c.args.number c.args.part) steps.items (Some (record { live = c.hear.new.self; post = post }))) c.self.view_is
+    (subst (λ (ss : List (List ℕ × SessionState g.row.C-Effect.Denot)). Applies (types_of g.C.Crdt.laws g.C.Crdt.spells g.D.Disk.state) (Some w) (command.Hear c.args.number c.args.part) steps.items (Some (record { live = record { sites = c.hear.new.self.sites; sessions = ss }; post = post }))) (sym c.hear.ensures.same)
+    (hear_refused (types_of g.C.Crdt.laws g.C.Crdt.spells g.D.Disk.state) w c.args.number c.args.part c.in-Some.note.now there same c.hear.new.self.sites c.in-Err.error c.in_ok-line-in-Err.line steps.items is has c.in_ok-line-in-Err.ensures c.in-Err.ensures.heard))) c.only-in-Err.ensures

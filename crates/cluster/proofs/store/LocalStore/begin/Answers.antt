@@ -1,16 +1,12 @@
-use Rattle.std.proofs.Common.{◌≡◌, ◌+◌, refl, sym, ap, ◌∙◌, subst, true, Some, None}
-use Rattle.std.specs.Prelude.{ℕ, List, Option, Ok, Err}
+use Rattle.std.proofs.Common.{◌≡◌, refl, ap, Some, None}
+use Rattle.std.specs.Prelude.{ℕ, List, Ok, Err}
 use Rattle.site_vector.specs.declared.ids.TxId.{TxId}
-use Rattle.crdt_core.specs.declared.record.Part.{Part}
-use Rattle.crdt_core.specs.declared.record.Message.{Message}
 use Rattle.world_model.specs.declared.step.Step.TheVariants as step
 use Rattle.world_model.specs.Event as event
 use Rattle.world_model.specs.Event.{Event, Entry}
-use Rattle.world_model.specs.Lines.{fault_shown}
-use Rattle.world_model.specs.Plan.{update_count}
 use Rattle.site_partitions.specs.Answers.{Any}
 use Rattle.site_partitions.specs.Reaches.{types_of}
-use Rattle.cluster.proofs.Seeing.{calls_here, exact_on, called_same, failed_line, line_tells, error_stays, changes_on, unchanged_on, fault_of, number_is, may_here, place_here}
+use Rattle.cluster.proofs.Seeing.{calls_here, exact_on, called_same, failed_line, line_tells, error_stays, fault_of, may_here}
 use Rattle.cluster.proofs.store.LocalStore.begin.Goals as goal
 
 pub begin_at-requires : goal.begin_at-requires

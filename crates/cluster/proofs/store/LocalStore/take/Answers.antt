@@ -1,11 +1,11 @@
-use Rattle.std.proofs.Common.{◌≡◌, refl, true, Some, None}
-use Rattle.std.specs.Prelude.{ℕ, List, Ok, Err}
+use Rattle.std.proofs.Common.{◌≡◌, refl, None}
+use Rattle.std.specs.Prelude.{Ok, Err}
 use Rattle.world_model.specs.declared.step.Step.TheVariants as step
 use Rattle.world_model.specs.Event as event
 use Rattle.world_model.specs.Event.{Event}
 use Rattle.site_partitions.specs.Answers.{Any}
 use Rattle.site_partitions.specs.Reaches.{types_of}
-use Rattle.cluster.proofs.Seeing.{calls_here, exact_on, failed_on, failed_stays, failed_tells, called_same, fault_of, number_is, may_here, place_here, began_here}
+use Rattle.cluster.proofs.Seeing.{calls_here, exact_on, failed_on, failed_stays, failed_tells, called_same, fault_of, may_here}
 use Rattle.cluster.proofs.store.LocalStore.take.Goals as goal
 
 pub take_at-requires : goal.take_at-requires

@@ -1,17 +1,14 @@
-use Rattle.std.proofs.Common.{◌≡◌, ◌+◌, refl, sym, ap, ◌∙◌, subst, true, Some, None}
+use Rattle.std.proofs.Common.{◌≡◌, ◌+◌, refl, sym, ◌∙◌, subst, true, Some, None}
 use Rattle.std.specs.Prelude.{ℕ, List, Option, Ok, Err}
-use Rattle.site_vector.specs.declared.ids.TxId.{TxId}
 use Rattle.crdt_core.specs.declared.record.Part.{Part}
-use Rattle.crdt_core.specs.declared.record.Message.{Message}
 use Rattle.world_model.specs.declared.step.Step.TheVariants as step
 use Rattle.world_model.specs.Event as event
 use Rattle.world_model.specs.Event.{Event, Entry}
 use Rattle.world_model.specs.Asking.{is_own_word}
 use Rattle.world_model.specs.Lines.{fault_shown}
 use Rattle.world_model.specs.Plan.{update_count}
-use Rattle.site_partitions.specs.Answers.{Any}
 use Rattle.site_partitions.specs.Reaches.{types_of}
-use Rattle.cluster.proofs.Seeing.{calls_here, exact_on, called_same, failed_line, line_tells, error_stays, changes_on, unchanged_on, fault_of, number_is, may_here, place_here}
+use Rattle.cluster.proofs.Seeing.{calls_here, called_same, line_tells, error_stays, changes_on, unchanged_on, number_is, may_here}
 use Rattle.cluster.proofs.store.LocalStore.update.Goals as goal
 
 pub update_at-requires-clause-may : goal.update_at-requires-clause-may
