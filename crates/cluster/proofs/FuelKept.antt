@@ -1,6 +1,6 @@
 -- What each line of a script's run leaves of its fuses, whatever the whole run will be.
 use Rattle.std.proofs.Common.{◌≡◌, ℕ, ◌≤◌, Bool, true, false, List, [], ◌∷◌, refl, sym, ap, ◌∙◌, subst, Option, None, Some}
-use Rattle.std.specs.Prelude.{◌||◌}
+use Rattle.std.specs.Prelude.{◌||◌, if◌then◌else◌}
 use Rattle.site_vector.specs.declared.ids.PartId.{PartId}
 use Rattle.site_vector.specs.declared.ids.TxId.{TxId}
 use Rattle.site_vector.specs.Ids.{same_part}
@@ -9,6 +9,7 @@ use Rattle.disk_core.specs.States.{DiskState}
 use Rattle.gate_log.specs.Logs.{disk_of}
 use Rattle.gate_log.specs.declared.log.GateLog.{GateLog}
 use Rattle.crdt_core.specs.KindsOf.{Kinds}
+use Rattle.world_model.specs.declared.command.Command.{Command}
 use Rattle.world_model.specs.declared.step.Step.TheVariants as step
 use Rattle.world_model.specs.Cluster.{parts_of}
 use Rattle.world_model.specs.Event as event
@@ -72,6 +73,16 @@ none_fires o e = subst IsUnfired (sym e) tt
 pub unlit_next : (run : Run) (l : script.Line) → IsIdle l → Unlit run → Unlit (l ∷ run)
 unlit_next run l idle u whole =
     let none : (p : PartId) → fuse whole (l ∷ run) p ≡ None = λ p. idle_fuse whole run l idle p ∙ (u whole).none p in
+    record { keeps = (λ p. none_fires _ (none p), (u whole).keeps); none = none }
+
+none_either : (b : Bool) (o : Option Fuse) → o ≡ None → (if b then None else o) ≡ None
+none_either true o h = refl
+none_either false o h = h
+
+-- a disk that failed as a cluster was to be made
+pub unlit_failed : (run : Run) (number : ℕ) (asked : Option Command) (at : PartId) → Unlit run → Unlit ((record { number = number; command = asked; step = step.Disk at }) ∷ run)
+unlit_failed run number asked at u whole =
+    let none : (p : PartId) → fuse whole ((record { number = number; command = asked; step = step.Disk at }) ∷ run) p ≡ None = λ p. none_either (same_part at p) (fuse whole run p) ((u whole).none p) in
     record { keeps = (λ p. none_fires _ (none p), (u whole).keeps); none = none }
 
 module _ {E D : Type 0} (state : D → DiskState) where

@@ -15,6 +15,7 @@ use Rattle.partition_core.specs.Moments.{Spends}
 use Rattle.site_partitions.specs.Held.{Held, index_of, holds_part}
 use Rattle.site_partitions.specs.Moves.{Moves}
 use Rattle.site_partitions.specs.Reaches.{Types, Reaches}
+use Rattle.cluster.specs.Faults.{TellsFault}
 
 -- A fuse burns, and of the calls that are left the one that fires it is this one at the latest.
 pub record IsBurning (left : Option ℕ) (most : ℕ) : Type 0 where
@@ -80,3 +81,7 @@ pub record Spent {S E D : Type 0} (w : Types S E D) (old new : Held E D) (at : P
   pub shows : step_shown run at event ≡ line
   pub next : Reaches w new ((record { at = at; event = event }) ∷ run)
   pub spends : Spends w.kinds w.codec w.state moves.before moves.after (reached.state at) event
+
+-- what the line of a call of this partition tells of its disk: that it failed, where it did, and what it took of its calls
+abbrev pub TellsCall : {S E D : Type 0} (w : Types S E D) → Held E D → Held E D → PartId → Step → Type 0
+TellsCall w old new at line = TellsFault w.state old new at line × Spent w old new at line
