@@ -18,6 +18,7 @@ use Rattle.cluster.proofs.Meets.{all_met, first_at, none_due, refused}
 use Rattle.world_model.specs.declared.step.Step.{Step}
 use Rattle.world_model.specs.Answers.{answered}
 use Rattle.cluster.specs.Post.{WholeState, new_post, HasPost}
+use Rattle.cluster.proofs.FuelKept.{fueled_made}
 use Rattle.cluster.proofs.Keeping.{post_on}
 use Rattle.txn_session.specs.Calls.{entries}
 use Rattle.cluster.specs.Live.{LiveState, session_in}
@@ -87,6 +88,7 @@ module _ {S E D : Type 0} (types : Types S E D) where
             sees = record { reached = r; one_caller = tt };
             shown = sym b.calls;
             own = subst (λ ls. HandsOwn sites ls) (sym b.calls) tt;
+            fuel = fueled_made types.state w.live.sites run (record { number = number; command = Some (command.Cluster sites parts); step = step.MadeCluster sites parts }) (record { lets = refl; untaken = refl; unchanged = λ h ls p. refl }) b.unlit;
             each = λ who. subst (λ l. StandsAs ((record { number = number; command = Some (command.Cluster sites parts); step = step.MadeCluster sites parts }) ∷ run) [] who (session_in l who)) (sym none) (b.phases who, b.site who);
             count = b.count ∙ ap length (sym none);
           };

@@ -171,12 +171,13 @@ module _ {S E D : Type 0} (types : Types S E D) (c : LiveState E D) (name : List
           of_session = refl;
           placed = (λ i. record { at = place_is run r a.before a.is here i; call = Begin (sym st.name i) (sym st.depends i) });
           past = st.depends ∙ ap (lines.dependency (sites_of run) (calls_of run)) (sym st.name);
+          spent = d.0.1;
           few = b.few;
           idle = λ who h line. refl;
           phase = subst (λ n. phase_after (parts_of run) n (phase run name) (Some (command.Begin n part)) answer ≡ phase_as a.after.doing) st.name (ap (phase_after (parts_of run) a.before.name (phase run name) (Some (command.Begin a.before.name part))) t.shows ∙ b.phase (parts_of run) part (phase run name) st.phase);
           depends = subst (λ n. a.after.dependency ≡ dependency_after (sites_of run) (entries r.calls) n a.before.dependency t.event) st.name (b.depends (sites_of run));
         }),
-        (shows_told types.state run c.sites later d.0.0 answer d.0.1 (λ u k. absurd (sure (entries r.calls) place t.event (ap is_decide_ask t.asked) u (sym t.shows ∙ k))), tt),
+        (shows_told types.state run c.sites later place answer d.0.0 (λ u k. absurd (sure (entries r.calls) place t.event (ap is_decide_ask t.asked) u (sym t.shows ∙ k))), tt),
       )
 
 pub idle_about : (o : Option Stage) (p : Stage) → o ≡ Some p → is_idle_phase p ≡ true → are_idle o ≡ true

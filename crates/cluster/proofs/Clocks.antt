@@ -27,11 +27,11 @@ use Rattle.cluster.specs.Live.{LiveState}
 use Rattle.cluster.specs.Reached.{ReachedLive, GoesTo, AppliesLive}
 use Rattle.cluster.specs.Same.{SameCluster}
 use Rattle.cluster.specs.Sees.{FailedAs, Sees}
-use Rattle.cluster.proofs.Failing.{failed_by}
+use Rattle.cluster.proofs.Failing.{spends_of, failed_by}
 use Rattle.cluster.proofs.Faulted.{same_of, shows_told}
 use Rattle.cluster.proofs.Meets.{all_met, first_at, none_due, refused}
 use Rattle.cluster.proofs.Seeing.{line_tells, told_last}
-use Rattle.cluster.proofs.Turned.{turned_alone}
+use Rattle.cluster.proofs.Turned.{fuel_next, turned_alone}
 use Rattle.cluster.proofs.Turning.{is_numberless, IsCallLine, IsSilentFor, call_line, asked_lines}
 
 module _ {S E D : Type 0} (types : Types S E D) (c : LiveState E D) where
@@ -57,7 +57,8 @@ module _ {S E D : Type 0} (types : Types S E D) (c : LiveState E D) where
         let seen : Sees types later (called 0 p (Ticked n now) ∷ r.calls) = record { reached = subst (λ (e : Event E). Reaches types later ((record { at = p; event = e }) ∷ entries r.calls)) x.shows x.reached; one_caller = (refl, r.sees.one_caller) } in
         subst (λ l. IsAnswer is_built run (command.Clock p n) l × GoesTo types c run r (record { sites = later; sessions = c.sessions }) (answered number (Some (command.Clock p n)) l run) × ShowFaults types.state run c.sites later l) (sym is) (
           subst (AnswersBy run (command.Clock p n) (step.Ticked p now ∷ [])) (sym (none_met run r there)) (step.Ticked p now, refl, refl, tt),
-          turned_alone types c run r number (command.Clock p n) 0 p (Ticked n now) later size seen refl (asked_lines number (command.Clock p n) run (step.Ticked p now) (step.Ticked p now) p (Tick n) refl refl refl refl) (λ who s. refl) (λ who. tt) tt,
+          turned_alone types c run r number (command.Clock p n) 0 p (Ticked n now) later size seen refl (asked_lines number (command.Clock p n) run (step.Ticked p now) (step.Ticked p now) p (Tick n) refl refl refl refl) (λ who s. refl) (λ who. tt) tt
+              (fuel_next types c run r number (command.Clock p n) 0 p (Ticked n now) later size seen refl (asked_lines number (command.Clock p n) run (step.Ticked p now) (step.Ticked p now) p (Tick n) refl refl refl refl) g.moves (spends_of types c.sites later (Asks types c.sites Any p (AskTick n)) p (AskTick n) (Ticked n now) g (entries r.calls) r.sees.reached (tt, tt))),
           (tt, tt),
         )
 
@@ -93,6 +94,7 @@ module _ {S E D : Type 0} (types : Types S E D) (c : LiveState E D) where
         subst (λ l. IsAnswer is_built run (command.Clock p n) l × GoesTo types c run r (record { sites = later; sessions = c.sessions }) (answered number (Some (command.Clock p n)) l run) × ShowFaults types.state run c.sites later l) (sym is) (
           subst (AnswersBy run (command.Clock p n) (line ∷ [])) (sym (none_met run r there)) (line, refl, ap (λ s. is_answer s && true) x.shows ∙ ap (λ b. b && true) told.answer, tt),
           subst (λ s. GoesTo types c run r (record { sites = later; sessions = c.sessions }) ((record { number = number; command = Some (command.Clock p n); step = s }) ∷ run)) (sym x.shows)
-              (turned_alone types c run r number (command.Clock p n) 0 p x.event later x.same seen x.property.plain lines (λ who s. refl) x.property.silent (subst (IsOwnPast (sites_of run) (calls_of run)) (sym x.property.call) tt)),
+              (turned_alone types c run r number (command.Clock p n) 0 p x.event later x.same seen x.property.plain lines (λ who s. refl) x.property.silent (subst (IsOwnPast (sites_of run) (calls_of run)) (sym x.property.call) tt)
+              (fuel_next types c run r number (command.Clock p n) 0 p x.event later x.same seen x.property.plain lines x.moves x.spends)),
           (shows_told types.state run c.sites later p line tells (λ t k. absurd (x.property.sure t (sym x.shows ∙ k))), tt),
         )

@@ -47,8 +47,10 @@ use Rattle.cluster.proofs.Clocks.{part_in}
 use Rattle.cluster.proofs.Dropping.{turned_down, lacks_mail, lacks_notice}
 use Rattle.cluster.proofs.Keeping.{is_postal, keeps_line, grows_one, post_on}
 use Rattle.cluster.proofs.Meets.{all_met, first_at, none_due}
+use Rattle.partition_core.specs.Moments.{Spends}
+use Rattle.site_partitions.specs.Moves.{Moves}
 use Rattle.cluster.proofs.Posting.{IsPosted, Posted, posted}
-use Rattle.cluster.proofs.Failing.{failed_by}
+use Rattle.cluster.proofs.Failing.{spends_of, failed_by}
 use Rattle.cluster.proofs.Faulted.{same_of, shows_told}
 use Rattle.cluster.proofs.Seeing.{is_told, told_of, line_tells}
 use Rattle.cluster.proofs.Turning.{IsSilentFor, has_other_lines}
@@ -200,10 +202,11 @@ module _ {S E D : Type 0} (types : Types S E D) (w : WholeState E D) where
   -- a call that makes no message and no report leaves what is kept as it was
   pub called_on : (cmd : Command) (held : Held E D) (at : PartId) (e : Event E) (s : Step) (line : ℕ) (run : Run) (r : ReachedWhole types w run) → SameCluster types.state w.live.sites held → Sees types held (called 0 at e ∷ r.live.calls) → IsPosted cmd s → numbered run s ≡ step_shown (entries r.live.calls) at e → asked_of (calls_of run) run cmd ≡ record { at = at; call = call_of e }
       → ((who : List ℕ) → IsSilentFor (entries r.live.calls) who e) → IsOwnPast (sites_of run) (calls_of run) (call_of e) → is_postal s ≡ false → is_sent e ≡ false → is_report e ≡ false
+      → (m : Moves types.state w.live.sites held at) → Spends types.kinds types.codec types.state m.before m.after (r.live.sees.reached.state at) e
       → ReachedWhole types (after held) ((record { number = line; command = Some cmd; step = s }) ∷ run)
-  called_on cmd held at e s line run r size sees told numbers placed silent own plain unsent unreported =
+  called_on cmd held at e s line run r size sees told numbers placed silent own plain unsent unreported m spends =
       let next : Run = (record { number = line; command = Some cmd; step = s }) ∷ run in
-      let x : Posted types w.live run r.live line cmd at e held size sees s told numbers placed silent own = posted types w.live run r.live line cmd at e held size sees s told numbers placed silent own in
+      let x : Posted types w.live run r.live line cmd at e held size sees s told numbers placed silent own = posted types w.live run r.live line cmd at e held size sees s told numbers placed silent own m spends in
       let kept : HasPost w.live.sites.sites w.live.sites.parts next (entries (called 0 at e ∷ r.live.calls)) w.post = post_on w.live.sites.sites w.live.sites.parts run next r.live.calls (called 0 at e ∷ r.live.calls) w.post (keeps_line line (Some cmd) s run plain) (grows_one (called 0 at e) r.live.calls unsent unreported) r.post in
       record {
         live = x.reached;
@@ -228,7 +231,7 @@ module _ {S E D : Type 0} (types : Types S E D) (w : WholeState E D) where
       let tells = line_tells types {P = Unit {0}} w.live.sites held Any at ask tt None (Unit {0}) Shows (step.Disk at) (λ rose. (refl, rose)) error s g f in
       subst (λ l. IsAnswer is_built run cmd l × Reached types (Some (after held)) (answered line (Some cmd) l run) × FaultsShown types (Some w) run l (Some (after held))) (sym is) (
         subst (AnswersBy run cmd (s ∷ [])) (sym unmet) (failing_replies run cmd asking s failing),
-        called_on cmd held at x.event s line run r x.same seen (failing_posted cmd asking s failing) (failing_numbered run s failing ∙ x.shows) (placed ∙ ap (λ k. record { at = at; call = k }) (sym x.property.call)) x.property.silent (subst (IsOwnPast (sites_of run) (calls_of run)) (sym x.property.call) past) (failing_plain s failing) x.property.unsent x.property.unreported,
+        called_on cmd held at x.event s line run r x.same seen (failing_posted cmd asking s failing) (failing_numbered run s failing ∙ x.shows) (placed ∙ ap (λ k. record { at = at; call = k }) (sym x.property.call)) x.property.silent (subst (IsOwnPast (sites_of run) (calls_of run)) (sym x.property.call) past) (failing_plain s failing) x.property.unsent x.property.unreported x.moves x.spends,
         (shows_told types.state run w.live.sites held at s tells (λ t k. absurd (true≢false (sym failing ∙ ap is_failing k))), tt),
       )
 
@@ -258,7 +261,8 @@ module _ {S E D : Type 0} (types : Types S E D) (w : WholeState E D) where
         subst (λ steps. IsAnswer is_built run (command.Deliver number) steps × ReachedWhole types (after held) (answered line (Some (command.Deliver number)) steps run) × ShowFaults types.state run w.live.sites held steps) (sym is) (
           subst (AnswersBy run (command.Deliver number) (step.Took number m.hi ∷ [])) (sym (none_due (all_met run (command.Deliver number)) (refl, (ap not r.live.has, (ap is_none l.letter, tt))))) (s, refl, refl, refl),
           called_on (command.Deliver number) held at (Took own m) s line run r size (record { reached = reached; one_caller = (refl, r.live.sees.one_caller) }) (took_posted number number m.hi)
-              (ap (λ o. step.Took (own_of o) m.hi) l.letter) (ap for_message l.letter) (λ who. tt) tt refl refl refl,
+              (ap (λ o. step.Took (own_of o) m.hi) l.letter) (ap for_message l.letter) (λ who. tt) tt refl refl refl
+              (g own).moves (spends_of types w.live.sites held (Asks types w.live.sites Any at (AskTake own m)) at (AskTake own m) (Took own m) (g own) (entries r.live.calls) r.live.sees.reached (may run r, tt)),
           (tt, tt),
         )
 
@@ -277,7 +281,8 @@ module _ {S E D : Type 0} (types : Types S E D) (w : WholeState E D) where
         subst (λ steps. IsAnswer is_built run (command.Deliver number) steps × ReachedWhole types (after held) (answered line (Some (command.Deliver number)) steps run) × ShowFaults types.state run w.live.sites held steps) (sym is) (
           subst (AnswersBy run (command.Deliver number) (refusal_line at no_tx number (cause why) ∷ [])) (sym (none_due (all_met run (command.Deliver number)) (refl, (ap not r.live.has, (ap is_none l.letter, tt))))) (s, refl, ap (λ b. b && true) up, refused_bears run at number (cause why)),
           called_on (command.Deliver number) held at (Refused (AskTake own m) (cause why)) s line run r size (record { reached = reached; one_caller = (refl, r.live.sees.one_caller) }) (refused_posted (AskTake own m) number at number (cause why) plain)
-              (refused_numbered run (entries r.live.calls) at number own m (cause why) (ap own_of l.letter)) (ap for_message l.letter) (λ who. tt) tt (refused_plain at number (cause why)) refl refl,
+              (refused_numbered run (entries r.live.calls) at number own m (cause why) (ap own_of l.letter)) (ap for_message l.letter) (λ who. tt) tt (refused_plain at number (cause why)) refl refl
+              (g own).moves (spends_of types w.live.sites held (Asks types w.live.sites Any at (AskTake own m)) at (AskTake own m) (Refused (AskTake own m) (cause why)) (g own) (entries r.live.calls) r.live.sees.reached (may run r, tt)),
           (refused_quiet types.state run w.live.sites held at number why, tt),
         )
 
@@ -320,7 +325,8 @@ module _ {S E D : Type 0} (types : Types S E D) (w : WholeState E D) where
         subst (λ steps. IsAnswer is_built run (command.Hear number at) steps × ReachedWhole types (after held) (answered line (Some (command.Hear number at)) steps run) × ShowFaults types.state run w.live.sites held steps) (sym is) (
           subst (AnswersBy run (command.Hear number at) (step.Heard number at stable ∷ [])) (sym (none_due (all_met run (command.Hear number at)) (refl, (ap not r.live.has, (ap not (sym (part_in types w.live run r.live at) ∙ has), (ap is_none l.notice, (ap (λ o. is_foreign o at) l.notice ∙ ap not same, tt))))))) (s, refl, refl, refl),
           called_on (command.Hear number at) held at (Heard own n.from.part n.bounds stable) s line run r size (record { reached = reached; one_caller = (refl, r.live.sees.one_caller) }) (heard_posted number number at at stable)
-              (ap (λ o. step.Heard (own_report o) at stable) l.notice) (ap (for_report at) l.notice) (λ who. tt) tt refl refl refl,
+              (ap (λ o. step.Heard (own_report o) at stable) l.notice) (ap (for_report at) l.notice) (λ who. tt) tt refl refl refl
+              (g own).moves (spends_of types w.live.sites held (Asks types w.live.sites Any at (AskHear own n.from.part n.bounds)) at (AskHear own n.from.part n.bounds) (Heard own n.from.part n.bounds stable) (g own) (entries r.live.calls) r.live.sees.reached (may_listen run r, tt)),
           (tt, tt),
         )
 

@@ -43,10 +43,10 @@ none_either true o h = refl
 none_either false o h = h
 
 dropped_letter : (number : ℕ) → IsMere (step.DroppedMessage number)
-dropped_letter number = record { answer = refl; cluster = refl; sites = λ n. refl; parts = λ n. refl; site = λ who old. refl; count = λ n. refl; phase = λ parts who old asked. refl }
+dropped_letter number = record { answer = refl; cluster = refl; sites = λ n. refl; parts = λ n. refl; site = λ who old. refl; count = λ n. refl; phase = λ parts who old asked. refl; lets = refl; untaken = refl }
 
 dropped_note : (number : ℕ) → IsMere (step.DroppedReport number)
-dropped_note number = record { answer = refl; cluster = refl; sites = λ n. refl; parts = λ n. refl; site = λ who old. refl; count = λ n. refl; phase = λ parts who old asked. refl }
+dropped_note number = record { answer = refl; cluster = refl; sites = λ n. refl; parts = λ n. refl; site = λ who old. refl; count = λ n. refl; phase = λ parts who old asked. refl; lets = refl; untaken = refl }
 
 module _ {S E D : Type 0} (types : Types S E D) (w : WholeState E D) where
   -- a command that meets a refusal, whatever run left the cluster so

@@ -39,9 +39,10 @@ use Rattle.cluster.specs.declared.commits.Way.{Way}
 use Rattle.cluster.specs.declared.commits.Way.TheVariants as way
 use Rattle.cluster.specs.Ends.{TakesStep, goes_on}
 use Rattle.site_partitions.specs.Held.{Held}
-use Rattle.cluster.specs.Faults.{TellsFault}
+use Rattle.cluster.specs.Fuel.{TellsCall}
 use Rattle.cluster.specs.Sees.{Sees}
 use Rattle.cluster.proofs.Applying.{ok_is}
+use Rattle.cluster.proofs.Unchanging.{is_end_ask}
 use Rattle.cluster.proofs.Sessions.{own_name}
 use Rattle.cluster.proofs.Turned.{IsOwnAsk}
 
@@ -92,15 +93,7 @@ module _ {E : Type 0} where
   pub holders_are : (parts : ℕ) (updates : List (Upd E)) → holders parts (map (λ u. u.object) updates) ≡ participants parts updates
   holders_are parts updates = λ i. filter (λ n. any_here parts n updates i) (numbers_same 1 parts i)
 
-  -- what a step of the end of a transaction asks
-  abbrev pub is_end_ask : Ask E → Bool
-  is_end_ask (AskPrepare t s l w) = true
-  is_end_ask (AskDecide t c) = true
-  is_end_ask (AskFinish t c) = true
-  is_end_ask (AskAbort t) = true
-  is_end_ask other = false
-
-  -- and all but a decision
+  -- a step of an end, but for a decision
   abbrev pub is_quiet_ask : Ask E → Bool
   is_quiet_ask (AskPrepare t s l w) = true
   is_quiet_ask (AskFinish t c) = true
@@ -196,7 +189,7 @@ module _ {E : Type 0} where
     MadeFrom start s = (calls : List (Call E)) → Sees types held calls → Holds old calls → MakesStep (λ h (p : Unit {0}) l. Sees types h l) (λ (p : Unit {0}) n. true) later tt calls start new s start.doing (next_of start.doing)
 
     abbrev TellsFrom : SessionState E → Step → Type 0
-    TellsFrom start s = TellsStep (TellsFault types.state) held later start s (next_of start.doing)
+    TellsFrom start s = TellsStep (TellsCall types) held later start s (next_of start.doing)
 
     abbrev StepsOn : Type 0
     StepsOn = (calls : List (Call E)) → Sees types held calls → Holds old calls → TakesStep types held later w answer goes old new calls

@@ -27,6 +27,7 @@ use Rattle.partition_core.specs.declared.answers.Fate.TheVariants as fate
 use Rattle.partition_core.specs.declared.durable.DurableError.{DurableError}
 use Rattle.partition_core.specs.declared.durable.DurableError.TheVariants as call
 use Rattle.partition_core.specs.Answers.{fate_told}
+use Rattle.partition_core.specs.Moments.{Spends}
 use Rattle.txn_session.specs.Calls.{called, entries}
 use Rattle.site_partitions.specs.Answers.{AbortsByLead, GoesOn, CallsIf}
 use Rattle.site_partitions.specs.Fates.{IsLead, OfState}
@@ -43,13 +44,17 @@ use Rattle.cluster.proofs.Aborting.{never_down, never_undropped}
 use Rattle.cluster.proofs.Clocks.{part_in}
 use Rattle.cluster.proofs.Delivering.{place_of_part}
 use Rattle.cluster.proofs.Downed.{down_abort}
+use Rattle.cluster.proofs.Failing.{spends_of}
 use Rattle.cluster.proofs.Faulted.{same_of, rose_of}
+use Rattle.cluster.proofs.FuelKept.{fueled_idle}
+use Rattle.cluster.proofs.FuelLines.{lets_burn}
+use Rattle.cluster.proofs.FuelWrites.{is_took}
 use Rattle.cluster.proofs.Keeping.{is_postal}
 use Rattle.cluster.proofs.Meets.{all_met, first_at, none_due, refused}
 use Rattle.cluster.proofs.Standing.{IsQuiet, goes_quiet}
 use Rattle.cluster.proofs.Stepping.{either_true, either_false}
 use Rattle.cluster.proofs.Telling.{led_here, led_elsewhere, asks_here, asks_elsewhere, asks_ended, looked_pending, looked_finished, looked_gone, low_is, down_is, waiting_is, ended_is, lead_is, lead_same}
-use Rattle.cluster.proofs.Turned.{turned_alone}
+use Rattle.cluster.proofs.Turned.{fuel_next, turned_alone}
 use Rattle.cluster.proofs.Worlds.{pending_home}
 
 none_lacks : (b : Bool) → not b ≡ false → b ≡ true
@@ -111,7 +116,8 @@ module _ {S E D : Type 0} (types : Types S E D) (c : LiveState E D) (p : PartId)
         let low = down (entries r.calls) r.sees.reached in
         let seen = down_abort types c.sites r.calls p here r.sees low t in (
           either_true _ _ (is_down (calls_of run) p) (low_is types c run r p low) refl,
-          turned_alone types c run r number (command.Expire p t) 0 p (Refused (AskAbort t) IsDown) c.sites (same_refl types.state c.sites) seen refl refl (λ who s. refl) (λ who. tt) tt,
+          turned_alone types c run r number (command.Expire p t) 0 p (Refused (AskAbort t) IsDown) c.sites (same_refl types.state c.sites) seen refl refl (λ who s. refl) (λ who. tt) tt
+              (fueled_idle types.state c.sites run (record { number = number; command = Some (command.Expire p t); step = step.Down p }) (entries r.calls) (entries (called 0 p (Refused (AskAbort t) IsDown) ∷ r.calls)) (record { lets = refl; untaken = refl; unchanged = λ h ls q. refl }) (λ whole b. b.1) r.fuel),
           tt,
         ))
 
@@ -130,15 +136,15 @@ module _ {S E D : Type 0} (types : Types S E D) (c : LiveState E D) (p : PartId)
       aborts : (s : Step) (run : Run) → ReachedLive types c run → asks_abort (parts_of run) (calls_of run) p t ≡ true → is_called (Some (command.Expire p t)) s ≡ true → IsExpired run p t (s ∷ [])
       aborts s run r h k = either_false _ _ (is_down (calls_of run) p) (not_down run r) (either_true _ _ (asks_abort (parts_of run) (calls_of run) p t) h (s, refl, k, tt))
 
-      quiet : (number : ℕ) (run : Run) (r : ReachedLive types c run) (s : Step) → IsQuiet run (Some (command.Expire p t)) s → is_postal s ≡ false → GoesTo types c run r c ((record { number = number; command = Some (command.Expire p t); step = s }) ∷ run)
-      quiet number run r s q h = goes_quiet types c number (Some (command.Expire p t)) s run q h r
+      quiet : (number : ℕ) (run : Run) (r : ReachedLive types c run) (s : Step) → IsQuiet run (Some (command.Expire p t)) s → is_postal s ≡ false → lets_burn s ≡ true → is_took s ≡ false → GoesTo types c run r c ((record { number = number; command = Some (command.Expire p t); step = s }) ∷ run)
+      quiet number run r s q h lets untaken = goes_quiet types c number (Some (command.Expire p t)) s run q h lets untaken r
 
       module _ (n : ℕ) (led : OfState types c.sites p (λ q. IsLead q.log t (Some n))) where
         pub expire_pending : (steps : List Step) → steps ≡ step.Pending p t ∷ [] → (n ≡ p.part → ⊥) → AppliesLive types c (command.Expire p t) steps c
         expire_pending steps is other = line_applies (step.Pending p t) c steps is (λ number run r.
             let l = led (entries r.calls) r.sees.reached in (
               only_looks (step.Pending p t) run r (asks_elsewhere (parts_of run) (calls_of run) p t (led_elsewhere (parts_of run) (calls_of run) p t n (lead_is types c run r p here (up_in run r) t l.0 ∙ ap (lead_place p) (sym l.1)) other)) (looked_pending (calls_of run) p t (sym (waiting_is types c run r p here (up_in run r) t) ∙ l.0)),
-              quiet number run r (step.Pending p t) (record { called = refl; cluster = refl; sites = λ k. refl; parts = λ k. refl; site = λ who old. refl; count = λ k. refl; phase = λ who. refl }) refl,
+              quiet number run r (step.Pending p t) (record { called = refl; cluster = refl; sites = λ k. refl; parts = λ k. refl; site = λ who old. refl; count = λ k. refl; phase = λ who. refl }) refl refl refl,
               tt,
             ))
 
@@ -158,7 +164,8 @@ module _ {S E D : Type 0} (types : Types S E D) (c : LiveState E D) (p : PartId)
               let x = (g.goes (entries r.calls) r.sees.reached (may_drop run r)).0 in
               let seen : Sees types later (called 0 p (Aborted t false) ∷ r.calls) = record { reached = subst (λ e. Reaches types later ((record { at = p; event = e }) ∷ entries r.calls)) x.shows x.reached; one_caller = (refl, r.sees.one_caller) } in (
                 aborts (step.Aborted p t) run r (asked run r) refl,
-                turned_alone types c run r number (command.Expire p t) 0 p (Aborted t false) later (same_of types.state c.sites later p g.moves) seen refl refl (λ who s. refl) (λ who. tt) tt,
+                turned_alone types c run r number (command.Expire p t) 0 p (Aborted t false) later (same_of types.state c.sites later p g.moves) seen refl refl (λ who s. refl) (λ who. tt) tt
+                    (fuel_next types c run r number (command.Expire p t) 0 p (Aborted t false) later (same_of types.state c.sites later p g.moves) seen refl refl g.moves (spends_of types c.sites later (AbortsByLead types c.sites p t) p (AskAbort t) (Aborted t false) g (entries r.calls) r.sees.reached (may_drop run r))),
                 tt,
               ))
 
@@ -172,7 +179,8 @@ module _ {S E D : Type 0} (types : Types S E D) (c : LiveState E D) (p : PartId)
               let seen : Sees types later (called 0 p (Cut (Aborted t false)) ∷ r.calls) = record { reached = subst (λ e. Reaches types later ((record { at = p; event = e }) ∷ entries r.calls)) event x.reached; one_caller = (refl, r.sees.one_caller) } in
               subst (λ y. IsExpired run p t (y ∷ []) × GoesTo types c run r (record { sites = later; sessions = c.sessions }) ((record { number = number; command = Some (command.Expire p t); step = y }) ∷ run) × ShowsFault types.state run c.sites later y) (sym f) (
                 aborts (step.Disk p) run r (asked run r) refl,
-                turned_alone types c run r number (command.Expire p t) 0 p (Cut (Aborted t false)) later (same_of types.state c.sites later p g.0.moves) seen refl refl (λ who k. refl) (λ who. tt) tt,
+                turned_alone types c run r number (command.Expire p t) 0 p (Cut (Aborted t false)) later (same_of types.state c.sites later p g.0.moves) seen refl refl (λ who k. refl) (λ who. tt) tt
+                    (fuel_next types c run r number (command.Expire p t) 0 p (Cut (Aborted t false)) later (same_of types.state c.sites later p g.0.moves) seen refl refl g.0.moves (subst (λ e. Spends types.kinds types.codec types.state g.0.moves.before g.0.moves.after (r.sees.reached.state p) e) event (g.0.goes (entries r.calls) r.sees.reached (may_drop run r)).1)),
                 rose_of types.state c.sites later p g.0.moves g.1,
               ))
           expire_failed (call.Full room) s steps is g f = line_applies s (record { sites = later; sessions = c.sessions }) steps is (λ number run r.
@@ -180,7 +188,8 @@ module _ {S E D : Type 0} (types : Types S E D) (c : LiveState E D) (p : PartId)
               let seen : Sees types later (called 0 p (Refused (AskAbort t) (HasNoRoom room)) ∷ r.calls) = record { reached = subst (λ e. Reaches types later ((record { at = p; event = e }) ∷ entries r.calls)) x.shows x.reached; one_caller = (refl, r.sees.one_caller) } in
               subst (λ y. IsExpired run p t (y ∷ []) × GoesTo types c run r (record { sites = later; sessions = c.sessions }) ((record { number = number; command = Some (command.Expire p t); step = y }) ∷ run) × ShowsFault types.state run c.sites later y) (sym f) (
                 aborts (step.Full room) run r (asked run r) refl,
-                turned_alone types c run r number (command.Expire p t) 0 p (Refused (AskAbort t) (HasNoRoom room)) later (same_of types.state c.sites later p g.1.moves) seen refl refl (λ who k. refl) (λ who. tt) tt,
+                turned_alone types c run r number (command.Expire p t) 0 p (Refused (AskAbort t) (HasNoRoom room)) later (same_of types.state c.sites later p g.1.moves) seen refl refl (λ who k. refl) (λ who. tt) tt
+                    (fuel_next types c run r number (command.Expire p t) 0 p (Refused (AskAbort t) (HasNoRoom room)) later (same_of types.state c.sites later p g.1.moves) seen refl refl g.1.moves (spends_of types c.sites later (AbortsByLead types c.sites p t) p (AskAbort t) (Refused (AskAbort t) (HasNoRoom room)) g.1 (entries r.calls) r.sees.reached (may_drop run r))),
                 tt,
               ))
           expire_failed (call.Refused why) s steps is g f = line_applies s (record { sites = later; sessions = c.sessions }) steps is (λ number run r.
@@ -201,7 +210,7 @@ module _ {S E D : Type 0} (types : Types S E D) (c : LiveState E D) (p : PartId)
             let k = ended (entries r.calls) r.sees.reached in
             let done = told_committed (r.sees.reached.state p) t v (up_in run r) k (told (entries r.calls) r.sees.reached) in (
               only_looks (step.Finished p t) run r (asks_ended (parts_of run) (calls_of run) p t (sym (waiting_is types c run r p here (up_in run r) t) ∙ k)) (looked_finished (calls_of run) p t (sym (waiting_is types c run r p here (up_in run r) t) ∙ k) (sym (ended_is types c run r p here (up_in run r) t of_site) ∙ done)),
-              quiet number run r (step.Finished p t) (record { called = refl; cluster = refl; sites = λ n. refl; parts = λ n. refl; site = λ who old. refl; count = λ n. refl; phase = λ who. refl }) refl,
+              quiet number run r (step.Finished p t) (record { called = refl; cluster = refl; sites = λ n. refl; parts = λ n. refl; site = λ who old. refl; count = λ n. refl; phase = λ who. refl }) refl refl refl,
               tt,
             ))
 
@@ -210,6 +219,6 @@ module _ {S E D : Type 0} (types : Types S E D) (c : LiveState E D) (p : PartId)
             let k = ended (entries r.calls) r.sees.reached in
             let never = told_neither (r.sees.reached.state p) t f (up_in run r) k (told (entries r.calls) r.sees.reached) not_so in (
               only_looks (step.Gone p t) run r (asks_ended (parts_of run) (calls_of run) p t (sym (waiting_is types c run r p here (up_in run r) t) ∙ k)) (looked_gone (calls_of run) p t (sym (waiting_is types c run r p here (up_in run r) t) ∙ k) (sym (ended_is types c run r p here (up_in run r) t of_site) ∙ never)),
-              quiet number run r (step.Gone p t) (record { called = refl; cluster = refl; sites = λ n. refl; parts = λ n. refl; site = λ who old. refl; count = λ n. refl; phase = λ who. refl }) refl,
+              quiet number run r (step.Gone p t) (record { called = refl; cluster = refl; sites = λ n. refl; parts = λ n. refl; site = λ who old. refl; count = λ n. refl; phase = λ who. refl }) refl refl refl,
               tt,
             ))

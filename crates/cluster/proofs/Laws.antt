@@ -1,6 +1,6 @@
 -- What whoever runs a cluster may rest on: the run that left it shows one history, whose logs its partitions that are up hold, and
 -- lines outside the grammar change nothing.
-use Rattle.std.proofs.Common.{◌≡◌, ℕ, true, false, not, get_or, List, [], ◌∷◌, refl, sym, ap, ◌∙◌, subst, inr, Option, None, Some}
+use Rattle.std.proofs.Common.{◌≡◌, ℕ, true, false, get_or, List, [], ◌∷◌, refl, sym, ap, ◌∙◌, subst, inr, Option, None, Some}
 use Rattle.std.proofs.lemmas.Bool.{not-false, true≢false}
 use Rattle.site_vector.specs.declared.ids.PartId.{PartId}
 use Rattle.world_model.specs.declared.command.Command.TheVariants as command
@@ -10,6 +10,7 @@ use Rattle.world_model.specs.Answers.{answered}
 use Rattle.world_model.specs.Cluster.{sites_of, parts_of}
 use Rattle.world_model.specs.Dependency.{HandsOwn}
 use Rattle.world_model.specs.Event.{Entry}
+use Rattle.world_model.specs.Fuses.{HoldsFuses}
 use Rattle.world_model.specs.Lawful.{IsLawful}
 use Rattle.world_model.specs.Lines.{lines_of}
 use Rattle.world_model.specs.Logs.{IsLogOf}
@@ -17,7 +18,7 @@ use Rattle.world_model.specs.Partition.{PartState, new_part}
 use Rattle.world_model.specs.Pending.{is_down}
 use Rattle.world_model.specs.Plan.{IsPlace}
 use Rattle.world_model.specs.Run.{Run}
-use Rattle.world_model.specs.ScriptAnswers.{AnswersBy, IsAnswer}
+use Rattle.world_model.specs.ScriptAnswers.{AnswersBy}
 use Rattle.world_model.specs.ScriptCalls.{calls_of}
 use Rattle.world_model.specs.Told.{Told}
 use Rattle.world_model.specs.World.{IsWorldRun, plan_of}
@@ -33,23 +34,24 @@ use Rattle.txn_session.specs.Calls.{entries}
 use Rattle.site_partitions.specs.Reaches.{Types, StandsAt}
 use Rattle.cluster.specs.History.{ShowsHistory}
 use Rattle.cluster.specs.Post.{WholeState}
-use Rattle.cluster.specs.Built.{is_built}
 use Rattle.cluster.specs.Reached.{IsBefore, Applies, Reached}
 use Rattle.cluster.proofs.Keeping.{post_on, keeps_line, keeps_both}
 use Rattle.cluster.proofs.Meets.{all_met, none_due}
+use Rattle.cluster.proofs.FuelKept.{holds_fuses, unlit_failed, unlit_holds}
 use Rattle.cluster.proofs.Mere.{before_still}
 use Rattle.cluster.proofs.Standing.{live_still}
 
 module _ {S E D : Type 0} (types : Types S E D) where
-  abbrev shows : (sites parts : ℕ) (run : Run) (events : List (Entry E)) (state : PartId → PartState E) → sites ≡ sites_of run → parts ≡ parts_of run → IsWorldRun types.kinds sites parts events state → lines_of events ≡ calls_of run → HandsOwn (sites_of run) (calls_of run) → ShowsHistory types.kinds run
-  shows sites parts run events state es ep is shown own =
+  abbrev shows : (sites parts : ℕ) (run : Run) (events : List (Entry E)) (state : PartId → PartState E) → sites ≡ sites_of run → parts ≡ parts_of run → IsWorldRun types.kinds sites parts events state → lines_of events ≡ calls_of run → HandsOwn (sites_of run) (calls_of run) → HoldsFuses run → ShowsHistory types.kinds run
+  shows sites parts run events state es ep is shown own fuses =
       let there : IsWorldRun types.kinds (sites_of run) (parts_of run) events state = subst (λ n. IsWorldRun types.kinds n (parts_of run) events state) es (subst (λ n. IsWorldRun types.kinds sites n events state) ep is) in
       let lawful : IsLawful types.kinds.too_deep types.kinds.meaning (sites_of run) (parts_of run) (calls_of run) = subst (λ ls. IsLawful types.kinds.too_deep types.kinds.meaning (sites_of run) (parts_of run) ls) shown (law_world types.kinds (sites_of run) (parts_of run) events state there).2 in
-      record { events = events; state = state; is_run = there; shown = shown; lawful = lawful; past = lawful.past own }
+      record { events = events; state = state; is_run = there; shown = shown; lawful = lawful; past = lawful.past own; fuses = fuses }
 
   abbrev pub history : (c : Option (WholeState E D)) (run : Run) → Reached types c run → ShowsHistory types.kinds run
-  history None run b = shows 0 0 run [] (λ p. new_part 0 0) (sym b.sites) (sym b.parts) (λ p. refl) (sym b.calls) (subst (λ ls. HandsOwn (sites_of run) ls) (sym b.calls) tt)
+  history None run b = shows 0 0 run [] (λ p. new_part 0 0) (sym b.sites) (sym b.parts) (λ p. refl) (sym b.calls) (subst (λ ls. HandsOwn (sites_of run) ls) (sym b.calls) tt) (unlit_holds run b.unlit)
   history (Some w) run r = shows w.live.sites.sites w.live.sites.parts run (entries r.live.calls) r.live.sees.reached.state r.live.sites r.live.parts r.live.sees.reached.is_run r.live.shown r.live.own
+      (holds_fuses types.kinds types.state w.live.sites w.live.sites.sites w.live.sites.parts run (entries r.live.calls) r.live.sees.reached.state r.live.sees.reached.is_run r.live.shown r.live.fuel)
 
   pub bad_still : (c : Option (WholeState E D)) (number : ℕ) (run : Run) → Reached types c run → Reached types c ((record { number = number; command = None; step = step.Bad }) ∷ run)
   bad_still None number run b = before_still number None step.Bad run refl b
@@ -70,6 +72,7 @@ module _ {S E D : Type 0} (types : Types S E D) where
       site = b.site;
       count = b.count;
       post = keeps_both [] run _ b.post (keeps_line number (Some (command.Cluster sites parts)) (step.Disk at) run refl);
+      unlit = unlit_failed run number (Some (command.Cluster sites parts)) at b.unlit;
     }),
     tt,
   )
@@ -82,9 +85,9 @@ module _ {S E D : Type 0} (types : Types S E D) where
 
   stands_up : (t : Durable E D) (q : PartState E) → q.up ≡ true → StandsOn types.codec types.state t q → StandsUp types.codec types.state t q
   stands_up t q u = elim (durable.is_down t) as (λ b. StandsSo types.codec types.state t q b → StandsUp types.codec types.state t q) [
-        | true ↦ λ s. absurd (true≢false (sym u ∙ s.down))
-        | false ↦ λ s. s
-      ]
+    | true ↦ λ s. absurd (true≢false (sym u ∙ s.down))
+    | false ↦ λ s. s
+  ]
 
   -- a partition that is up by the lines of the run holds one
   pub log_left : (w : WholeState E D) (run : Run) (r : Reached types (Some w) run) (p : PartId) (t : Durable E D) → IsPlace (sites_of run) (parts_of run) p → is_down (calls_of run) p ≡ false → ((other : Durable E D) → get_or w.live.sites.partitions (index_of (parts_of run) p) other ≡ t) → HoldsLeft (sites_of run) (parts_of run) (history (Some w) run r).events p t

@@ -1,7 +1,15 @@
+pub mod FuelBurns
+pub mod FuelTakes
+pub mod FuelLines
+pub mod FuelWrites
+pub mod FuelTold
+pub mod FuelCalls
+pub mod FuelKept
 pub mod Faulted
 pub mod Worlds
 pub mod Ups
 pub mod Seeing
+pub mod FuelStore
 pub mod Keeping
 pub mod Mere
 pub mod Applying

@@ -2,7 +2,7 @@
 use Rattle.std.proofs.Common.{◌≡◌, ℕ, Bool, true, false, List, [], ◌∷◌, refl, sym, ap, ◌∙◌, subst, Option, Some}
 use Rattle.std.specs.Prelude.{if◌then◌else◌, ◌||◌, ◌&&◌, not}
 use Rattle.std.specs.Str.{bytes_eq}
-use Rattle.std.proofs.lemmas.Bool.{cond-false}
+use Rattle.std.proofs.lemmas.Bool.{cond-false, true≢false}
 use Rattle.world_model.proofs.Names.{off}
 use Rattle.world_model.specs.declared.command.Command.{Command}
 use Rattle.world_model.specs.declared.command.Command.TheVariants as command
@@ -17,6 +17,9 @@ use Rattle.disk_core.specs.States.{DiskState}
 use Rattle.site_partitions.specs.Held.{Held}
 use Rattle.cluster.specs.Faults.{ShowsFault, ShowFaults}
 use Rattle.cluster.specs.Reached.{IsBefore}
+use Rattle.cluster.proofs.FuelKept.{IsIdle, unlit_first, unlit_next}
+use Rattle.cluster.proofs.FuelLines.{lets_burn}
+use Rattle.cluster.proofs.FuelWrites.{is_took}
 use Rattle.cluster.proofs.Keeping.{is_postal, keeps_line, keeps_none, keeps_both}
 
 -- a refusal that no partition gives, or a line outside the grammar
@@ -47,30 +50,32 @@ pub record IsMere (s : Step) : Type 0 where
   pub site : (who : List ℕ) (old : Option ℕ) → site_after who old s ≡ old
   pub count : (n : ℕ) → count_after n s ≡ n
   pub phase : (parts : ℕ) (who : List ℕ) (old : Phase) (asked : Option Command) → phase_after parts who old asked s ≡ by_command parts who old asked s
+  pub lets : lets_burn s ≡ true
+  pub untaken : is_took s ≡ false
 
 -- and no call is shown by it
 pub uncalled : (asked : Option Command) (s : Step) → is_answer s ≡ false → is_called asked s ≡ false
 uncalled asked s h = ap (λ b. b && not (is_unasked asked s)) h
 
-all_same : (s : Step) → is_answer s ≡ false → is_cluster s ≡ false → ((n : ℕ) → sites_after n s ≡ n) → ((n : ℕ) → parts_after n s ≡ n) → ((who : List ℕ) (old : Option ℕ) → site_after who old s ≡ old) → ((n : ℕ) → count_after n s ≡ n) → ((parts : ℕ) (who : List ℕ) (old : Phase) (asked : Option Command) → phase_after parts who old asked s ≡ by_command parts who old asked s) → IsMere s
-all_same s a b c d e f g = record { answer = a; cluster = b; sites = c; parts = d; site = e; count = f; phase = g }
+all_same : (s : Step) → is_answer s ≡ false → is_cluster s ≡ false → ((n : ℕ) → sites_after n s ≡ n) → ((n : ℕ) → parts_after n s ≡ n) → ((who : List ℕ) (old : Option ℕ) → site_after who old s ≡ old) → ((n : ℕ) → count_after n s ≡ n) → ((parts : ℕ) (who : List ℕ) (old : Phase) (asked : Option Command) → phase_after parts who old asked s ≡ by_command parts who old asked s) → lets_burn s ≡ true → is_took s ≡ false → IsMere s
+all_same s a b c d e f g h k = record { answer = a; cluster = b; sites = c; parts = d; site = e; count = f; phase = g; lets = h; untaken = k }
 
 pub mere : (s : Step) → is_mere s ≡ true → IsMere s
-mere step.Bad h = all_same _ refl refl (λ n. refl) (λ n. refl) (λ w o. refl) (λ n. refl) (λ n w o a. refl)
-mere step.NoCluster h = all_same _ refl refl (λ n. refl) (λ n. refl) (λ w o. refl) (λ n. refl) (λ n w o a. refl)
-mere step.HasCluster h = all_same _ refl refl (λ n. refl) (λ n. refl) (λ w o. refl) (λ n. refl) (λ n w o a. refl)
-mere step.NoPart h = all_same _ refl refl (λ n. refl) (λ n. refl) (λ w o. refl) (λ n. refl) (λ n w o a. refl)
-mere step.NoSession h = all_same _ refl refl (λ n. refl) (λ n. refl) (λ w o. refl) (λ n. refl) (λ n w o a. refl)
-mere step.HasSession h = all_same _ refl refl (λ n. refl) (λ n. refl) (λ w o. refl) (λ n. refl) (λ n w o a. refl)
-mere step.NoTxn h = all_same _ refl refl (λ n. refl) (λ n. refl) (λ w o. refl) (λ n. refl) (λ n w o a. refl)
-mere step.HasTxn h = all_same _ refl refl (λ n. refl) (λ n. refl) (λ w o. refl) (λ n. refl) (λ n w o a. refl)
-mere step.NoMessage h = all_same _ refl refl (λ n. refl) (λ n. refl) (λ w o. refl) (λ n. refl) (λ n w o a. refl)
-mere step.BadOp h = all_same _ refl refl (λ n. refl) (λ n. refl) (λ w o. refl) (λ n. refl) (λ n w o a. refl)
-mere step.LimitSessions h = all_same _ refl refl (λ n. refl) (λ n. refl) (λ w o. refl) (λ n. refl) (λ n w o a. refl)
-mere step.LimitUpdates h = all_same _ refl refl (λ n. refl) (λ n. refl) (λ w o. refl) (λ n. refl) (λ n w o a. refl)
-mere step.LimitMessages h = all_same _ refl refl (λ n. refl) (λ n. refl) (λ w o. refl) (λ n. refl) (λ n w o a. refl)
-mere step.LimitReports h = all_same _ refl refl (λ n. refl) (λ n. refl) (λ w o. refl) (λ n. refl) (λ n w o a. refl)
-mere step.Unbuilt h = all_same _ refl refl (λ n. refl) (λ n. refl) (λ w o. refl) (λ n. refl) (λ n w o a. refl)
+mere step.Bad h = all_same _ refl refl (λ n. refl) (λ n. refl) (λ w o. refl) (λ n. refl) (λ n w o a. refl) refl refl
+mere step.NoCluster h = all_same _ refl refl (λ n. refl) (λ n. refl) (λ w o. refl) (λ n. refl) (λ n w o a. refl) refl refl
+mere step.HasCluster h = all_same _ refl refl (λ n. refl) (λ n. refl) (λ w o. refl) (λ n. refl) (λ n w o a. refl) refl refl
+mere step.NoPart h = all_same _ refl refl (λ n. refl) (λ n. refl) (λ w o. refl) (λ n. refl) (λ n w o a. refl) refl refl
+mere step.NoSession h = all_same _ refl refl (λ n. refl) (λ n. refl) (λ w o. refl) (λ n. refl) (λ n w o a. refl) refl refl
+mere step.HasSession h = all_same _ refl refl (λ n. refl) (λ n. refl) (λ w o. refl) (λ n. refl) (λ n w o a. refl) refl refl
+mere step.NoTxn h = all_same _ refl refl (λ n. refl) (λ n. refl) (λ w o. refl) (λ n. refl) (λ n w o a. refl) refl refl
+mere step.HasTxn h = all_same _ refl refl (λ n. refl) (λ n. refl) (λ w o. refl) (λ n. refl) (λ n w o a. refl) refl refl
+mere step.NoMessage h = all_same _ refl refl (λ n. refl) (λ n. refl) (λ w o. refl) (λ n. refl) (λ n w o a. refl) refl refl
+mere step.BadOp h = all_same _ refl refl (λ n. refl) (λ n. refl) (λ w o. refl) (λ n. refl) (λ n w o a. refl) refl refl
+mere step.LimitSessions h = all_same _ refl refl (λ n. refl) (λ n. refl) (λ w o. refl) (λ n. refl) (λ n w o a. refl) refl refl
+mere step.LimitUpdates h = all_same _ refl refl (λ n. refl) (λ n. refl) (λ w o. refl) (λ n. refl) (λ n w o a. refl) refl refl
+mere step.LimitMessages h = all_same _ refl refl (λ n. refl) (λ n. refl) (λ w o. refl) (λ n. refl) (λ n w o a. refl) refl refl
+mere step.LimitReports h = all_same _ refl refl (λ n. refl) (λ n. refl) (λ w o. refl) (λ n. refl) (λ n w o a. refl) refl refl
+mere step.Unbuilt h = all_same _ refl refl (λ n. refl) (λ n. refl) (λ w o. refl) (λ n. refl) (λ n w o a. refl) refl refl
 mere other h = off h
 
 -- no disk failed for such a line
@@ -95,6 +100,13 @@ absent_stays parts who (Some (command.Commit name k)) s = elim (bytes_eq name wh
 absent_stays parts who (Some (command.Abort name)) s = elim (bytes_eq name who) as (λ b. (if b then Absent else Absent) ≡ Absent) [ true ↦ refl | false ↦ refl ]
 absent_stays parts who other s = refl
 
+-- a line that shows no call, and ends no fuse
+pub uncalled_idle : (number : ℕ) (asked : Option Command) (s : Step) → is_called asked s ≡ false → lets_burn s ≡ true → is_took s ≡ false → IsIdle (record { number = number; command = asked; step = s })
+uncalled_idle number asked s none lets untaken = record { lets = lets; untaken = untaken; unchanged = λ h ls p. absurd (true≢false (sym h ∙ none)) }
+
+pub mere_idle : (number : ℕ) (asked : Option Command) (s : Step) → IsMere s → IsIdle (record { number = number; command = asked; step = s })
+mere_idle number asked s m = uncalled_idle number asked s (uncalled asked s m.answer) m.lets m.untaken
+
 -- before a cluster is made
 pub before_still : (number : ℕ) (asked : Option Command) (s : Step) (run : Run) → is_mere s ≡ true → IsBefore run → IsBefore ((record { number = number; command = asked; step = s }) ∷ run)
 before_still number asked s run h b =
@@ -107,8 +119,9 @@ before_still number asked s run h b =
       site = λ who. m.site who (site_of run who) ∙ b.site who;
       count = m.count (session_count run) ∙ b.count;
       post = keeps_both [] run _ b.post (keeps_line number asked s run (mere_plain s h));
+      unlit = unlit_next run _ (mere_idle number asked s m) b.unlit;
     }
 
 -- before any line
 pub at_first : IsBefore []
-at_first = record { lacks = refl; sites = refl; parts = refl; calls = refl; phases = λ who. refl; site = λ who. refl; count = refl; post = keeps_none [] }
+at_first = record { lacks = refl; sites = refl; parts = refl; calls = refl; phases = λ who. refl; site = λ who. refl; count = refl; post = keeps_none []; unlit = unlit_first }

@@ -40,7 +40,8 @@ use Rattle.cluster.proofs.Clocks.{site_in}
 use Rattle.cluster.proofs.Meets.{all_met, first_at, none_due, refused, there_as, idle_is, absent, lacks_session, has_session, by_name}
 use Rattle.cluster.specs.Faults.{ShowFaults}
 use Rattle.cluster.proofs.Sessions.{own_name}
-use Rattle.cluster.proofs.Standing.{SameFor, stands_still}
+use Rattle.cluster.proofs.FuelKept.{fueled_idle}
+use Rattle.cluster.proofs.Standing.{SameFor, stands_still, idle_fuel}
 
 pub none_of : {A : Type 0} (o : Option A) → is_some o ≡ false → o ≡ None
 none_of None h = refl
@@ -112,6 +113,7 @@ module _ {S E D : Type 0} (types : Types S E D) where
               sees = opened_at c.sites r.calls at name place r.sees;
               shown = shown;
               own = (tt, r.own);
+              fuel = fueled_idle types.state c.sites run (record { number = number; command = Some (command.Session name site); step = step.MadeSession name site }) (entries r.calls) (entries later) (record { lets = refl; untaken = refl; unchanged = λ h ls p. refl }) (λ whole b. b.1) r.fuel;
               each = each;
               count = ap (λ n. n + 1) r.count ∙ sym count;
             };
@@ -186,6 +188,7 @@ module _ {S E D : Type 0} (types : Types S E D) where
               sees = r.sees;
               shown = r.shown;
               own = r.own;
+              fuel = idle_fuel types c number (Some (command.Lose name)) (step.Lost name) run (record { lets = refl; untaken = refl; unchanged = λ h ls p. refl }) r;
               each = each;
               count = (let n = r.count in omega (arith, n, count));
             };
@@ -241,6 +244,7 @@ module _ {S E D : Type 0} (types : Types S E D) where
               sees = r.sees;
               shown = r.shown;
               own = r.own;
+              fuel = idle_fuel types c number (Some (command.Move name site)) (step.Moved name site) run (record { lets = refl; untaken = refl; unchanged = λ h ls p. refl }) r;
               each = each;
               count = r.count ∙ sym m.put.count;
             };

@@ -13,15 +13,22 @@ use Rattle.world_model.specs.Meeting.{site_after, count_after, session_count}
 use Rattle.world_model.specs.Past.{dependency}
 use Rattle.world_model.specs.Phases.{Phase, phase_after}
 use Rattle.world_model.specs.Run.{Run}
+use Rattle.world_model.specs.Run as script
 use Rattle.world_model.specs.ScriptCalls.{is_answer, asked_of, numbered, calls_of}
 use Rattle.world_model.proofs.LineViews.{dependency_is}
 use Rattle.txn_session.specs.Calls.{Call, called, entries, IsLegal}
+use Rattle.partition_core.specs.Moments.{Spends}
 use Rattle.site_partitions.specs.Held.{Held}
+use Rattle.site_partitions.specs.Moves.{Moves}
 use Rattle.site_partitions.specs.Reaches.{Types}
+use Rattle.cluster.specs.Fuel.{Fueled}
 use Rattle.cluster.specs.Same.{SameCluster}
 use Rattle.cluster.specs.Live.{LiveState, session_in}
 use Rattle.cluster.specs.Reached.{ReachedLive}
 use Rattle.cluster.specs.Sees.{Sees, sees_legal}
+use Rattle.cluster.proofs.Doubting.{decided_at}
+use Rattle.cluster.proofs.FuelCalls.{asked_at, asked_call}
+use Rattle.cluster.proofs.FuelKept.{fueled_call}
 use Rattle.cluster.proofs.Standing.{SameFor, stands_still}
 use Rattle.cluster.proofs.Turning.{IsSilentFor, asked_lines, has_other_lines, depends_other, holds_other}
 
@@ -67,13 +74,24 @@ module _ {S E D : Type 0} (types : Types S E D) (c : LiveState E D) (run : Run) 
         ∙ sym ((λ i. lines.dependency (sites_of run) (sym r.shown i) who) ∙ dependency_is (sites_of run) (entries r.calls) who)));
   }
 
+  abbrev line : script.Line
+  line = record { number = number; command = Some cmd; step = s }
+
+  fuel_next : (m : Moves types.state c.sites held at) → Spends types.kinds types.codec types.state m.before m.after (r.sees.reached.state at) e → Fueled types.state held ((record { number = number; command = Some cmd; step = s }) ∷ run) (entries later)
+  fuel_next m spends = fueled_call types c.sites held at run line (entries r.calls) r.sees.reached r.shown
+      (λ called. asked_at run line (record { at = at; call = call_of e; step = step_shown (entries r.calls) at e }) lines_are called)
+      (λ u k. decided_at types c run r held size at 0 e sees u (sym numbers ∙ ap (numbered run) k))
+      m e sees.reached numbers
+      (λ called. asked_call run line (record { at = at; call = call_of e; step = step_shown (entries r.calls) at e }) lines_are called)
+      spends r.fuel
+
   -- the cluster after it, and the calls that stand then
   pub record Posted : Type 0 where
     pub reached : ReachedLive types (record { sites = held; sessions = c.sessions }) ((record { number = number; command = Some cmd; step = s }) ∷ run)
     pub calls_are : reached.calls ≡ later
 
-  pub posted : Posted
-  posted = record {
+  pub posted : (m : Moves types.state c.sites held at) → Spends types.kinds types.codec types.state m.before m.after (r.sees.reached.state at) e → Posted
+  posted m spends = record {
     reached = record {
       has = ap (λ x. x || has_cluster run) told.cluster ∙ r.has;
       sites = size.sites_are ∙ (r.sites ∙ sym (told.sites (sites_of run)));
@@ -82,6 +100,7 @@ module _ {S E D : Type 0} (types : Types S E D) (c : LiveState E D) (run : Run) 
       sees = sees;
       shown = shown_next;
       own = subst (λ n. HandsOwn n (calls_of ((record { number = number; command = Some cmd; step = s }) ∷ run))) (sym (told.sites (sites_of run))) (subst (λ ls. HandsOwn (sites_of run) ls) (sym lines_are) (own, r.own));
+      fuel = fuel_next m spends;
       each = λ who. stands_still ((record { number = number; command = Some cmd; step = s }) ∷ run) run later r.calls who (session_in c.sessions who) (same_next who)
           (λ x is h. holds_other types.kinds held.sites held.parts (called 0 at e) r.calls x legal (silent x.name) h) (r.each who);
       count = told.count (session_count run) ∙ r.count;

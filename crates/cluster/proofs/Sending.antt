@@ -34,6 +34,8 @@ use Rattle.site_partitions.specs.Reaches.{MayAsk, Types, Reaches}
 use Rattle.cluster.proofs.Clocks.{site_in, part_in}
 use Rattle.cluster.proofs.Delivering.{place_of_part, free_message, free_report, never_refused, is_failing, struck}
 use Rattle.cluster.proofs.Dropping.{turned_down}
+use Rattle.partition_core.specs.Moments.{Spends}
+use Rattle.cluster.proofs.Failing.{spends_of}
 use Rattle.cluster.proofs.Faulted.{same_of}
 use Rattle.cluster.proofs.Keeping.{letter_at, note_at, none_and}
 use Rattle.cluster.proofs.Meets.{all_met, first_at, none_due}
@@ -138,7 +140,8 @@ module _ {S E D : Type 0} (types : Types S E D) (w : WholeState E D) where
             let size : SameCluster types.state w.live.sites held = same_of types.state w.live.sites held at g.moves in
             let s : Step = step.Sent w.post.next_letter at site m.lo m.hi (length m.parts) in
             let x = posted types w.live run r.live line (command.Send at site from) at (Sent from m) held size (record { reached = reached; one_caller = (refl, r.live.sees.one_caller) }) s
-            (sent_posted at at site site w.post.next_letter m.lo m.hi (length m.parts) from) (λ i. step.Sent (r.post.sent at i + 1) at (sym to i) m.lo m.hi (length m.parts)) (λ i. record { at = at; call = SendTo (sym to i) from }) (λ who. tt) tt in
+            (sent_posted at at site site w.post.next_letter m.lo m.hi (length m.parts) from) (λ i. step.Sent (r.post.sent at i + 1) at (sym to i) m.lo m.hi (length m.parts)) (λ i. record { at = at; call = SendTo (sym to i) from }) (λ who. tt) tt
+            g.moves (let y = g.goes (entries r.live.calls) r.live.sees.reached (tt, tt) in subst (λ e. Spends types.kinds types.codec types.state g.moves.before g.moves.after (r.live.sees.reached.state at) e) y.0.shows.1 y.1) in
             record {
               live = x.reached;
               post = subst (λ cs. HasPost held.sites held.parts next (entries cs) after_send.post) (sym x.calls_are) (subst (λ n. HasPost n held.parts next later after_send.post) (sym g.moves.same_sites) (subst (λ n. HasPost w.live.sites.sites n next later after_send.post) (sym g.moves.same_parts) post));
@@ -243,7 +246,8 @@ module _ {S E D : Type 0} (types : Types S E D) (w : WholeState E D) where
         whole_told =
             let s : Step = step.Reported w.post.next_note at b in
             let x = posted types w.live run r.live line (command.Report at) at (Reported b) w.live.sites (same_refl types.state w.live.sites) (record { reached = reached_told; one_caller = (refl, r.live.sees.one_caller) }) s
-            (reported_posted at at w.post.next_note b) (λ i. step.Reported (r.post.told at i + 1) at b) refl (λ who. tt) tt in
+            (reported_posted at at w.post.next_note b) (λ i. step.Reported (r.post.told at i + 1) at b) refl (λ who. tt) tt
+            g.moves (spends_of types w.live.sites w.live.sites (Asks types w.live.sites Any at AskReport) at AskReport (Reported b) g (entries r.live.calls) r.live.sees.reached (tt, tt)) in
             record { live = x.reached; post = subst (λ cs. HasPost w.live.sites.sites w.live.sites.parts next_told (entries cs) after_report.post) (sym x.calls_are) post_told }
 
       pub reported : (steps : List Step) → steps ≡ step.Reported w.post.next_note at b ∷ [] → holds_part w.live.sites at ≡ true → (length w.post.notes == 4096) ≡ false → Applies types (Some w) (command.Report at) steps (Some after_report)

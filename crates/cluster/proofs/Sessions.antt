@@ -22,13 +22,14 @@ use Rattle.txn_session.specs.Holds.{Holds, Makes}
 use Rattle.txn_session.specs.Session.{SessionState}
 use Rattle.site_partitions.specs.Held.{Held}
 use Rattle.site_partitions.specs.Reaches.{Types}
+use Rattle.cluster.specs.Fuel.{Spent}
 use Rattle.cluster.specs.Same.{SameCluster}
 use Rattle.cluster.specs.Live.{LiveState, session_in, IsPut}
 use Rattle.cluster.specs.Reached.{phase_as, StandsBy, StandsAs, ReachedLive, GoesTo}
 use Rattle.cluster.specs.Sees.{Sees}
 use Rattle.cluster.proofs.Seeing.{is_told, told_last}
 use Rattle.cluster.proofs.Turning.{is_numberless, IsCallLine, call_line, asked_lines, has_other_lines}
-use Rattle.cluster.proofs.Turned.{IsOwnAsk, silent, call_is, numberless, next, depends_next, depended, other_next, turned}
+use Rattle.cluster.proofs.Turned.{IsOwnAsk, silent, call_is, numberless, next, depends_next, depended, other_next, fuel_told, turned}
 
 pub same_name : (a b : List ℕ) → bytes_eq a b ≡ true → a ≡ b
 same_name a b h = (bytes_eq-Decides a b).0 h
@@ -91,6 +92,7 @@ module _ {S E D : Type 0} (types : Types S E D) where
         pub of_session : has_other_lines cmd ≡ false
         pub placed : asked_of (calls_of run) run cmd ≡ record { at = at; call = call_asked ask }
         pub past : IsOwnPast (sites_of run) (calls_of run) (call_asked ask)
+        pub spent : Spent types c.sites held at answer
         pub idle : (who : List ℕ) → bytes_eq name who ≡ false → (line : Step) → by_command (parts_of run) who (phase run who) (Some cmd) line ≡ phase run who
         pub few : update_total (phase_as new.doing) ≤ 256
         pub phase : phase_after (parts_of run) name (phase run name) (Some cmd) answer ≡ phase_as new.doing
@@ -98,7 +100,8 @@ module _ {S E D : Type 0} (types : Types S E D) where
 
       pub acted : (sessions : List (List ℕ × SessionState E)) → Owes sessions → GoesTo types c run r (record { sites = held; sessions = sessions }) ((record { number = number; command = Some cmd; step = answer }) ∷ run)
       acted sessions o = subst (λ line. GoesTo types c run r (record { sites = held; sessions = sessions }) ((record { number = number; command = Some cmd; step = line }) ∷ run)) (sym t.shows)
-          (turned types c run r number cmd t.by at t.event held o.same t.seen plain lines_are sessions o.put.count past each)
+          (turned types c run r number cmd t.by at t.event held o.same t.seen plain lines_are sessions o.put.count past each
+          (fuel_told types c run r number cmd t.by at t.event held o.same t.seen plain lines_are (subst (Spent types c.sites held at) t.shows o.spent)))
         where
           own : IsOwnAsk (entries r.calls) name (asked_by (attempt t.event))
           own = subst (IsOwnAsk (entries r.calls) name) (sym t.asked) o.own

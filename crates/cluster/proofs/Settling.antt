@@ -59,10 +59,14 @@ use Rattle.cluster.proofs.Faulted.{same_of, rose_of, show_more, shows_last}
 use Rattle.cluster.proofs.Leading.{answered_more}
 use Rattle.cluster.proofs.Meets.{all_met, first_at, none_due, refused}
 use Rattle.cluster.proofs.Queueing.{AllSo, all_so_more, names_of, without_one, first_is, lines_for, settles_all, settles_front, lines_more}
+use Rattle.cluster.proofs.Failing.{spends_of}
+use Rattle.cluster.proofs.FuelKept.{fueled_idle}
+use Rattle.site_partitions.specs.Moves.{Moves}
+use Rattle.partition_core.specs.Moments.{Spends}
 use Rattle.cluster.proofs.Standing.{goes_none, goes_both, goes_quiet}
 use Rattle.cluster.proofs.Stepping.{either_true, either_false}
 use Rattle.cluster.proofs.Telling.{led_here, led_elsewhere, AreOther, AreOnce, once, AreLeft, down_is, low_is, waiting_is, site_is, lead_there, lead_same, word, listed_are}
-use Rattle.cluster.proofs.Turned.{turned_alone}
+use Rattle.cluster.proofs.Turned.{fuel_next, turned_alone}
 use Rattle.cluster.proofs.Turning.{is_numberless, IsSilentFor}
 use Rattle.cluster.proofs.Ups.{up_after}
 use Rattle.cluster.proofs.Worlds.{pending_home}
@@ -145,7 +149,7 @@ module _ {S E D : Type 0} (types : Types S E D) (c : LiveState E D) (p : PartId)
   still : ((run : Run) (r : ReachedLive types c run) → pending (calls_of run) p t ≡ true → lead (parts_of run) (calls_of run) t ≡ lead_place p n → stays (parts_of run) (calls_of run) p t ≡ true) → Settles types c c p t n (step.Pending p t) true
   still f number run r h l = record {
     line = sym (cond-true (stays (parts_of run) (calls_of run) p t) _ _ (f run r h l));
-    goes = goes_quiet types c number (Some (command.Settle p)) (step.Pending p t) run (record { called = refl; cluster = refl; sites = λ k. refl; parts = λ k. refl; site = λ who old. refl; count = λ k. refl; phase = λ who. refl }) refl r;
+    goes = goes_quiet types c number (Some (command.Settle p)) (step.Pending p t) run (record { called = refl; cluster = refl; sites = λ k. refl; parts = λ k. refl; site = λ who old. refl; count = λ k. refl; phase = λ who. refl }) refl refl refl r;
     same = λ u. refl;
     kept = λ u. refl;
     leads = λ u. refl;
@@ -211,10 +215,11 @@ module _ {S E D : Type 0} (types : Types S E D) (c : LiveState E D) (p : PartId)
 
     -- a line of a disk that failed, or has no room
     unwritten_goes : (later : Held E D) (same : SameCluster types.state c.sites later) (number : ℕ) (run : Run) (r : ReachedLive types c run) (e : Event E) (s : Step) → s ≡ step_shown (entries r.calls) p e → is_unwritten s ≡ true → is_numberless e ≡ true → ((who : List ℕ) → IsSilentFor (entries r.calls) who e) → IsOwnPast (sites_of run) (calls_of run) (call_of e) → Sees types later (called 0 p e ∷ r.calls)
-        → ends_as_lead (calls_of run) t ≡ call_of e → first_end (parts_of run) (calls_of run) p (waiting (calls_of run) p) ≡ ends_as_lead (calls_of run) t → GoesTo types c run r (with_sites later) (settling number p s run)
-    unwritten_goes later same number run r e s shows un plain silent own seen ends first =
+        → (m : Moves types.state c.sites later p) → Spends types.kinds types.codec types.state m.before m.after (r.sees.reached.state p) e → ends_as_lead (calls_of run) t ≡ call_of e → first_end (parts_of run) (calls_of run) p (waiting (calls_of run) p) ≡ ends_as_lead (calls_of run) t → GoesTo types c run r (with_sites later) (settling number p s run)
+    unwritten_goes later same number run r e s shows un plain silent own seen m spends ends first =
         subst (λ x. GoesTo types c run r (with_sites later) (settling number p x run)) (sym shows)
-        (turned_alone types c run r number (command.Settle p) 0 p e later same seen plain (unwritten_lines (step_shown (entries r.calls) p e) (ap is_unwritten (sym shows) ∙ un)) (λ who x. refl) silent own)
+        (turned_alone types c run r number (command.Settle p) 0 p e later same seen plain (unwritten_lines (step_shown (entries r.calls) p e) (ap is_unwritten (sym shows) ∙ un)) (λ who x. refl) silent own
+        (fuel_next types c run r number (command.Settle p) 0 p e later same seen plain (unwritten_lines (step_shown (entries r.calls) p e) (ap is_unwritten (sym shows) ∙ un)) m spends))
       where
         unwritten_lines : (x : Step) → is_unwritten x ≡ true → calls_of (settling number p x run) ≡ (record { at = p; call = call_of e; step = x }) ∷ calls_of run
         unwritten_lines (step.Disk q) h = λ i. (record { at = p; call = (first ∙ ends) i; step = step.Disk q }) ∷ calls_of run
@@ -244,7 +249,8 @@ module _ {S E D : Type 0} (types : Types S E D) (c : LiveState E D) (p : PartId)
           let place = subst (λ k. IsPlace k later.parts p) (sym same.sites_are) (subst (λ k. IsPlace c.sites.sites k p) (sym same.parts_are) may.place) in
           record {
             line = sym (cond-false (stays (parts_of run) (calls_of run) p t) _ _ (aborted_stays run r l) ∙ cond-false (in_history (calls_of run) t) _ _ (aborted_fate run r l).0);
-            goes = turned_alone types c run r number (command.Settle p) 0 p (Aborted t false) later same seen refl refl (λ who s. refl) (λ who. tt) tt;
+            goes = turned_alone types c run r number (command.Settle p) 0 p (Aborted t false) later same seen refl refl (λ who s. refl) (λ who. tt) tt
+                (fuel_next types c run r number (command.Settle p) 0 p (Aborted t false) later same seen refl refl g.moves (spends_of types c.sites later (AbortsByLead types c.sites p t) p (AskAbort t) (Aborted t false) g (entries r.calls) r.sees.reached (may_drop run r l)));
             same = end_settled (parts_of run) (calls_of run) p t (AbortOf t) (step.Aborted p t) (λ time index u. refl) (λ u. refl) (λ old. refl) (λ u old. refl);
             kept = end_kept (parts_of run) (calls_of run) p t (AbortOf t) (step.Aborted p t) (λ time index u. refl) (λ u. refl) (λ old. refl) (λ u old. refl);
             leads = end_leads (parts_of run) (calls_of run) p t (AbortOf t) (step.Aborted p t) (λ time index u. refl) (λ u. refl) (λ old. refl) (λ u old. refl);
@@ -265,7 +271,7 @@ module _ {S E D : Type 0} (types : Types S E D) (c : LiveState E D) (p : PartId)
             ends = aborted_stays run r l;
             unwritten = ap is_unwritten f;
             tells = subst (ShowsFault types.state run c.sites later) (sym f) (rose_of types.state c.sites later p g.0.moves g.1);
-            goes = unwritten_goes later (same_of types.state c.sites later p g.0.moves) number run r (Cut (Aborted t false)) s f (ap is_unwritten f) refl (λ who. tt) tt seen (cond-false (in_history (calls_of run) t) _ _ (aborted_fate run r l).0);
+            goes = unwritten_goes later (same_of types.state c.sites later p g.0.moves) number run r (Cut (Aborted t false)) s f (ap is_unwritten f) refl (λ who. tt) tt seen g.0.moves (subst (λ e. Spends types.kinds types.codec types.state g.0.moves.before g.0.moves.after (r.sees.reached.state p) e) is (g.0.goes (entries r.calls) r.sees.reached (may_drop run r l)).1) (cond-false (in_history (calls_of run) t) _ _ (aborted_fate run r l).0);
           }
       settle_undropped later (call.Full room) s g f number run r h l =
           let x = (g.1.goes (entries r.calls) r.sees.reached (may_drop run r l)).0 in
@@ -274,7 +280,7 @@ module _ {S E D : Type 0} (types : Types S E D) (c : LiveState E D) (p : PartId)
             ends = aborted_stays run r l;
             unwritten = ap is_unwritten f;
             tells = subst (ShowsFault types.state run c.sites later) (sym f) tt;
-            goes = unwritten_goes later (same_of types.state c.sites later p g.1.moves) number run r (Refused (AskAbort t) (HasNoRoom room)) s f (ap is_unwritten f) refl (λ who. tt) tt seen (cond-false (in_history (calls_of run) t) _ _ (aborted_fate run r l).0);
+            goes = unwritten_goes later (same_of types.state c.sites later p g.1.moves) number run r (Refused (AskAbort t) (HasNoRoom room)) s f (ap is_unwritten f) refl (λ who. tt) tt seen g.1.moves (spends_of types c.sites later (AbortsByLead types c.sites p t) p (AskAbort t) (Refused (AskAbort t) (HasNoRoom room)) g.1 (entries r.calls) r.sees.reached (may_drop run r l)) (cond-false (in_history (calls_of run) t) _ _ (aborted_fate run r l).0);
           }
       settle_undropped later (call.Refused why) s g f number run r h l = absurd (never_undropped types c.sites later p t why (entries r.calls) r.sees.reached g (may_drop run r l) (up_in run r) (waits_at run r h))
 
@@ -306,7 +312,8 @@ module _ {S E D : Type 0} (types : Types S E D) (c : LiveState E D) (p : PartId)
           let place = subst (λ k. IsPlace k later.parts p) (sym same.sites_are) (subst (λ k. IsPlace c.sites.sites k p) (sym same.parts_are) may.place) in
           record {
             line = sym (cond-false (stays (parts_of run) (calls_of run) p t) _ _ (committed_stays run r l) ∙ cond-true (in_history (calls_of run) t) _ _ (committed_fate run r l).0);
-            goes = turned_alone types c run r number (command.Settle p) 0 p (Finished t v) later same seen refl refl (λ who s. refl) (λ who. tt) tt;
+            goes = turned_alone types c run r number (command.Settle p) 0 p (Finished t v) later same seen refl refl (λ who s. refl) (λ who. tt) tt
+                (fuel_next types c run r number (command.Settle p) 0 p (Finished t v) later same seen refl refl g.moves (spends_of types c.sites later (Asks types c.sites Any p (AskFinish t v)) p (AskFinish t v) (Finished t v) g (entries r.calls) r.sees.reached (may_end run r h l, tt)));
             same = end_settled (parts_of run) (calls_of run) p t (FinishOf t) (step.Finished p t) (λ time index u. refl) (λ u. refl) (λ old. refl) (λ u old. refl);
             kept = end_kept (parts_of run) (calls_of run) p t (FinishOf t) (step.Finished p t) (λ time index u. refl) (λ u. refl) (λ old. refl) (λ u old. refl);
             leads = end_leads (parts_of run) (calls_of run) p t (FinishOf t) (step.Finished p t) (λ time index u. refl) (λ u. refl) (λ old. refl) (λ u old. refl);
@@ -327,7 +334,7 @@ module _ {S E D : Type 0} (types : Types S E D) (c : LiveState E D) (p : PartId)
             ends = committed_stays run r l;
             unwritten = ap is_unwritten f;
             tells = subst (ShowsFault types.state run c.sites later) (sym f) (rose_of types.state c.sites later p g.0.moves g.1);
-            goes = unwritten_goes later (same_of types.state c.sites later p g.0.moves) number run r (Cut (Finished t v)) s f (ap is_unwritten f) refl (λ who. tt) tt seen (cond-true (in_history (calls_of run) t) _ _ (committed_fate run r l).0);
+            goes = unwritten_goes later (same_of types.state c.sites later p g.0.moves) number run r (Cut (Finished t v)) s f (ap is_unwritten f) refl (λ who. tt) tt seen g.0.moves (subst (λ e. Spends types.kinds types.codec types.state g.0.moves.before g.0.moves.after (r.sees.reached.state p) e) is (g.0.goes (entries r.calls) r.sees.reached (may_end run r h l, tt)).1) (cond-true (in_history (calls_of run) t) _ _ (committed_fate run r l).0);
           }
       settle_unfinished later (call.Full room) s g f number run r h l =
           let x = (g.1.goes (entries r.calls) r.sees.reached (may_end run r h l, tt)).0 in
@@ -336,7 +343,7 @@ module _ {S E D : Type 0} (types : Types S E D) (c : LiveState E D) (p : PartId)
             ends = committed_stays run r l;
             unwritten = ap is_unwritten f;
             tells = subst (ShowsFault types.state run c.sites later) (sym f) tt;
-            goes = unwritten_goes later (same_of types.state c.sites later p g.1.moves) number run r (Refused (AskFinish t v) (HasNoRoom room)) s f (ap is_unwritten f) refl (λ who. tt) tt seen (cond-true (in_history (calls_of run) t) _ _ (committed_fate run r l).0);
+            goes = unwritten_goes later (same_of types.state c.sites later p g.1.moves) number run r (Refused (AskFinish t v) (HasNoRoom room)) s f (ap is_unwritten f) refl (λ who. tt) tt seen g.1.moves (spends_of types c.sites later (Asks types c.sites Any p (AskFinish t v)) p (AskFinish t v) (Refused (AskFinish t v) (HasNoRoom room)) g.1 (entries r.calls) r.sees.reached (may_end run r h l, tt)) (cond-true (in_history (calls_of run) t) _ _ (committed_fate run r l).0);
           }
       settle_unfinished later (call.Refused why) s g f number run r h l = absurd (never_unfinished types c.sites later p t why (entries r.calls) r.sees.reached v g (may_end run r h l))
 
@@ -539,7 +546,7 @@ module _ {S E D : Type 0} (types : Types S E D) (old : LiveState E D) (p : PartI
   at_end now lines steps is u number run r =
       let l = u.led number run r in
       let middle : Run = answered number (Some (command.Settle p)) lines run in
-      let last = goes_quiet types now number (Some (command.Settle p)) (step.Settled p) middle (record { called = refl; cluster = refl; sites = λ n. refl; parts = λ n. refl; site = λ who old. refl; count = λ n. refl; phase = λ who. refl }) refl l.goes.reached in
+      let last = goes_quiet types now number (Some (command.Settle p)) (step.Settled p) middle (record { called = refl; cluster = refl; sites = λ n. refl; parts = λ n. refl; site = λ who old. refl; count = λ n. refl; phase = λ who. refl }) refl refl refl l.goes.reached in
       let whole : waiting (calls_of run) p ≡ l.done = l.whole ∙ (ap (λ x. l.done ++ x) (no_names l.todo l.firsts) ∙ append-nil l.done) in
       let all : lines ≡ lines_for (parts_of run) (calls_of run) p (waiting (calls_of run) p) = l.written ∙ ap (lines_for (parts_of run) (calls_of run) p) (sym whole) in
       subst (λ z. IsAnswer is_built run (command.Settle p) z × GoesTo types old run r now (answered number (Some (command.Settle p)) z run) × ShowFaults types.state run old.sites now.sites z) (sym is) (
@@ -560,6 +567,7 @@ module _ {S E D : Type 0} (types : Types S E D) (old : LiveState E D) (p : PartI
       let seen = down_report types old.sites r.calls p (place_of_part old.sites p has) r.sees low in
       subst (λ z. IsAnswer is_built run (command.Settle p) z × GoesTo types old run r old (answered number (Some (command.Settle p)) z run) × ShowFaults types.state run old.sites old.sites z) (sym is) (
         subst (AnswersBy run (command.Settle p) (step.Down p ∷ [])) (sym (settle_met run r has)) (either_true _ _ (is_down (calls_of run) p) (low_is types old run r p low) refl),
-        turned_alone types old run r number (command.Settle p) 0 p (Refused AskReport IsDown) old.sites (same_refl types.state old.sites) seen refl refl (λ who s. refl) (λ who. tt) tt,
+        turned_alone types old run r number (command.Settle p) 0 p (Refused AskReport IsDown) old.sites (same_refl types.state old.sites) seen refl refl (λ who s. refl) (λ who. tt) tt
+            (fueled_idle types.state old.sites run (record { number = number; command = Some (command.Settle p); step = step.Down p }) (entries r.calls) (entries (called 0 p (Refused AskReport IsDown) ∷ r.calls)) (record { lets = refl; untaken = refl; unchanged = λ h ls q. refl }) (λ whole b. b.1) r.fuel),
         (tt, tt),
       )

@@ -41,17 +41,18 @@ use Rattle.cluster.specs.Same.{SameCluster}
 use Rattle.cluster.specs.Live.{LiveState, session_in, IsPut}
 use Rattle.cluster.specs.Reached.{phase_as, StandsBy, StandsAs, ReachedLive, GoesTo}
 use Rattle.cluster.proofs.Keeping.{grows_none, keeps_line}
-use Rattle.cluster.specs.Faults.{TellsFault, ShowsFault}
+use Rattle.cluster.specs.Faults.{ShowsFault}
+use Rattle.cluster.specs.Fuel.{Fueled, TellsCall}
 use Rattle.cluster.specs.Sees.{Sees}
 use Rattle.cluster.proofs.Doubting.{decided_at}
 use Rattle.cluster.proofs.Faulted.{shows_told}
 use Rattle.cluster.proofs.Seeing.{told_last}
-use Rattle.cluster.proofs.Unchanging.{lead_stays, end_changes}
-use Rattle.cluster.proofs.Ends.{is_step, part_for, is_end_ask, step_left, holders_are, end_phase, shown_of, ask_for, end_ask, placed_for, own_for, past_for, depends_for}
+use Rattle.cluster.proofs.Unchanging.{is_end_ask, lead_stays, end_changes}
+use Rattle.cluster.proofs.Ends.{is_step, part_for, step_left, holders_are, end_phase, shown_of, ask_for, end_ask, placed_for, own_for, past_for, depends_for}
 use Rattle.cluster.proofs.Meets.{by_name}
 use Rattle.cluster.proofs.Sessions.{Turns, Owes, nobody, turns, acted, acted_calls, own_name, same_name}
 use Rattle.cluster.proofs.Stages.{size, shrinks, asked_end, of_way, idle_end, IsStage, stage_opened, stage_committing, stage_giving, over_opened}
-use Rattle.cluster.proofs.Standing.{stands_still}
+use Rattle.cluster.proofs.Standing.{stands_still, idle_fuel}
 use Rattle.cluster.proofs.Turned.{answer_up}
 
 -- what may come after a step that lets the command go on, or doesn't
@@ -155,9 +156,9 @@ module _ {S E D : Type 0} (types : Types S E D) where
     st = by_name types c run r name s is
 
     -- nothing is left: the session is idle
-    ended_line : (cmd : Command) (later : Held E D) (sessions : List (List ℕ × SessionState E)) → SameCluster types.state c.sites later → IsPut c.sessions name (doing_so s Idle) sessions → Sees types later r.calls
+    ended_line : (cmd : Command) (later : Held E D) (sessions : List (List ℕ × SessionState E)) → SameCluster types.state c.sites later → later ≡ c.sites → IsPut c.sessions name (doing_so s Idle) sessions → Sees types later r.calls
         → GoesTo types c run r (record { sites = later; sessions = sessions }) ((record { number = number; command = Some cmd; step = step.Ended name }) ∷ run)
-    ended_line cmd later sessions size put seen = record {
+    ended_line cmd later sessions size still put seen = record {
       same = size;
       grows = grows_none r.calls;
       keeps = keeps_line number (Some cmd) (step.Ended name) run refl;
@@ -169,6 +170,7 @@ module _ {S E D : Type 0} (types : Types S E D) where
         sees = seen;
         shown = r.shown;
         own = r.own;
+        fuel = subst (λ (h : Held E D). Fueled types.state h ((record { number = number; command = Some cmd; step = step.Ended name }) ∷ run) (entries r.calls)) (sym still) (idle_fuel types c number (Some cmd) (step.Ended name) run (record { lets = refl; untaken = refl; unchanged = λ h ls p. refl }) r);
         each = each;
         count = r.count ∙ sym put.count;
       };
@@ -221,7 +223,7 @@ module _ {S E D : Type 0} (types : Types S E D) where
       over : ((left : Option ℕ) → MayFollow w name run left (step.Ended name ∷ [])) → next_of start.doing ≡ what.Done → GoesSo
       over lines e = record {
         reached = subst (λ l. GoesTo types c run r (record { sites = later; sessions = sessions }) ((record { number = number; command = Some cmd; step = l }) ∷ run)) (sym said)
-            (ended_line cmd later sessions same (subst (λ y. IsPut c.sessions name y sessions) idle put) (done_sees later r.calls start new answer start.doing (next_of start.doing) e d.1.made));
+            (ended_line cmd later sessions same (subst (TellsStep (TellsCall types) c.sites later start answer) e d.1.tells) (subst (λ y. IsPut c.sessions name y sessions) idle put) (done_sees later r.calls start new answer start.doing (next_of start.doing) e d.1.made));
         follow = λ left rest k f. let none : rest ≡ [] = subst (λ b. Follows b w name after_it left rest) shut f in subst (λ l. MayFollow w name run left l) (λ i. sym said i ∷ sym none i) (lines left);
         stop = λ left h k. absurd (true≢false (sym h ∙ shut));
         more = λ left h k l. absurd (true≢false (sym h ∙ shut));
@@ -285,6 +287,10 @@ module _ {S E D : Type 0} (types : Types S E D) where
           placed : asked_of (calls_of run) run cmd ≡ record { at = place; call = call_asked (ask_for s.parts txn lead asked) }
           placed = asked_end w (calls_of run) run name steps ∙ (stage.placed ∙ ((λ i. for_step txn.tx (next_step ((x.site_is ∙ sym at_site) i) (sym snapshot i) commit.going)) ∙ placed_for s.parts txn lead asked s.site asks x.site_is))
 
+          -- what the line of its call tells
+          call_tells : TellsCall types c.sites later place answer
+          call_tells = told_at (TellsCall types) c.sites later start answer asked asks (subst (TellsStep (TellsCall types) c.sites later start answer) next_is d.1.tells)
+
           owed : Owes types c run r number cmd name s is new place (ask_for s.parts txn lead asked) answer later t sessions
           owed = record {
             same = same;
@@ -294,6 +300,7 @@ module _ {S E D : Type 0} (types : Types S E D) where
             of_session = of_way w name steps;
             placed = placed;
             past = past_for s.parts txn lead (sites_of run) (calls_of run) asked;
+            spent = call_tells.1;
             idle = λ who h line. idle_end w (parts_of run) name who steps (phase run who) h line;
             few = subst (λ y. update_total (phase_as y) ≤ 256) (sym doing_is) (omega arith);
             phase = phase_is ∙ ap phase_as (sym doing_is);
@@ -328,7 +335,7 @@ module _ {S E D : Type 0} (types : Types S E D) where
           led u k = decided_at types c run r later same place t.by t.event t.seen u (sym t.shows ∙ k)
 
           tells : ShowsFault types.state run c.sites later answer
-          tells = shows_told types.state run c.sites later place answer (told_at (TellsFault types.state) c.sites later start answer asked asks (subst (TellsStep (TellsFault types.state) c.sites later start answer) next_is d.1.tells)) led
+          tells = shows_told types.state run c.sites later place answer call_tells.0 led
 
           counted : (left : Option ℕ) → (left ≡ Some 0 → next_of start.doing ≡ what.Done) → left ≡ Some 0 → ⊥
           counted left k z = true≢false (sym asks ∙ ap is_step (sym next_is ∙ k z))

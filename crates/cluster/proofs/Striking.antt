@@ -22,12 +22,12 @@ use Rattle.partition_core.specs.Durable.{disk_in}
 use Rattle.partition_core.specs.declared.restart.Restarted.{Restarted}
 use Rattle.partition_core.specs.declared.restart.RestartError.TheVariants as restart
 use Rattle.txn_session.specs.Calls.{called, entries}
-use Rattle.site_partitions.specs.Faults.{CrashesAt, StaysDownAt, ComesUpAt, RestartsAt, Keeps}
+use Rattle.site_partitions.specs.Faults.{CrashesAt, StaysDownAt, ComesUpAt, RestartsAt, ArmsAt, RevivesAt, Keeps}
 use Rattle.site_partitions.specs.Held.{Held, holds_site, holds_part}
-use Rattle.site_partitions.specs.Moves.{Moves}
 use Rattle.site_partitions.specs.Reaches.{Types, StandsAt}
 use Rattle.cluster.specs.Built.{is_built}
 use Rattle.cluster.specs.Faults.{ShowFaults}
+use Rattle.cluster.specs.Fuel.{Fueled}
 use Rattle.cluster.specs.Live.{LiveState}
 use Rattle.cluster.specs.Reached.{ReachedLive, GoesTo, AppliesLive, IsReachedLive}
 use Rattle.cluster.specs.Same.{SameCluster, same_trans}
@@ -37,7 +37,8 @@ use Rattle.cluster.proofs.Delivering.{place_of_part}
 use Rattle.cluster.proofs.Faulted.{same_of, rose_of, show_last}
 use Rattle.cluster.proofs.Keeping.{grows_none, keeps_line}
 use Rattle.cluster.proofs.Meets.{all_met, first_at, none_due, refused}
-use Rattle.cluster.proofs.Standing.{quiet_still}
+use Rattle.cluster.proofs.FuelKept.{fueled_crashed, fueled_stopped, fueled_up, fueled_armed, fueled_revived}
+use Rattle.cluster.proofs.Standing.{quiet_on}
 use Rattle.cluster.proofs.Turned.{turned_alone}
 use Rattle.cluster.proofs.Turning.{asked_lines}
 use Rattle.cluster.proofs.Worlds.{all_fit}
@@ -58,8 +59,8 @@ module _ {S E D : Type 0} (types : Types S E D) (c : LiveState E D) (p : PartId)
   after later = record { sites = later; sessions = c.sessions }
 
   -- the same sessions over a cluster that reaches all that it had reached
-  kept_live : (later : Held E D) → SameCluster types.state c.sites later → Keeps types c.sites later p → (run : Run) → ReachedLive types c run → ReachedLive types (after later) run
-  kept_live later same keeps run r = record {
+  kept_live : (later : Held E D) → SameCluster types.state c.sites later → Keeps types c.sites later p → (run : Run) (r : ReachedLive types c run) → Fueled types.state later run (entries r.calls) → ReachedLive types (after later) run
+  kept_live later same keeps run r fuel = record {
     has = r.has;
     sites = same.sites_are ∙ r.sites;
     parts = same.parts_are ∙ r.parts;
@@ -67,13 +68,14 @@ module _ {S E D : Type 0} (types : Types S E D) (c : LiveState E D) (p : PartId)
     sees = record { reached = keeps (entries r.calls) r.sees.reached; one_caller = r.sees.one_caller };
     shown = r.shown;
     own = r.own;
+    fuel = fuel;
     each = r.each;
     count = r.count;
   }
 
   -- a run that left the cluster, left it so after a fuse was taken away
-  pub reached_still : (mid : Held E D) → Moves types.state c.sites mid p → Keeps types c.sites mid p → IsReachedLive types c → IsReachedLive types (after mid)
-  reached_still mid moves keeps x = record { run = x.run; reached = kept_live mid (same_of types.state c.sites mid p moves) keeps x.run x.reached }
+  pub reached_still : (mid : Held E D) → holds_part c.sites p ≡ true → RevivesAt types c.sites mid p → IsReachedLive types c → IsReachedLive types (after mid)
+  reached_still mid there v x = record { run = x.run; reached = kept_live mid (same_of types.state c.sites mid p v.moves) v.keeps x.run x.reached (fueled_revived types c.sites mid p x.run (entries x.reached.calls) (place_of_part c.sites p there) there v x.reached.fuel) }
 
   pub crash_nowhere : (steps : List Step) → steps ≡ step.NoPart ∷ [] → holds_part c.sites p ≡ false → AppliesLive types c (command.Crash p) steps c
   crash_nowhere steps is lacks = refused types c (command.Crash p) step.NoPart steps is refl
@@ -95,20 +97,21 @@ module _ {S E D : Type 0} (types : Types S E D) (c : LiveState E D) (p : PartId)
       let seen : Sees types later (called 0 p Crashed ∷ r.calls) = record { reached = k.goes (entries r.calls) r.sees.reached; one_caller = (refl, r.sees.one_caller) } in
       subst (λ l. IsAnswer is_built run (command.Crash p) l × GoesTo types c run r (after later) (answered number (Some (command.Crash p)) l run) × ShowFaults types.state run c.sites later l) (sym is) (
         subst (AnswersBy run (command.Crash p) (step.Crashed p ∷ [])) (sym (none_due (all_met run (command.Crash p)) (refl, (ap not r.has, (ap not (sym (part_in types c run r p) ∙ there), tt))))) refl,
-        turned_alone types c run r number (command.Crash p) 0 p Crashed later (same_of types.state c.sites later p k.moves) seen refl (asked_lines number (command.Crash p) run (step.Crashed p) (step.Crashed p) p Crash refl refl refl refl) (λ who s. refl) (λ who. tt) tt,
+        turned_alone types c run r number (command.Crash p) 0 p Crashed later (same_of types.state c.sites later p k.moves) seen refl (asked_lines number (command.Crash p) run (step.Crashed p) (step.Crashed p) p Crash refl refl refl refl) (λ who s. refl) (λ who. tt) tt
+            (fueled_crashed types c.sites later p run (record { number = number; command = Some (command.Crash p); step = step.Crashed p }) (entries r.calls) r.sees.reached r.shown (λ h. refl) (λ t h. absurd cc) k refl (λ h. refl) r.fuel),
         (tt, tt),
       )
 
   -- a fuse is no event
-  pub fuse_applies : (k n : ℕ) (later : Held E D) (steps : List Step) → steps ≡ step.Fused p k n ∷ [] → holds_part c.sites p ≡ true → Moves types.state c.sites later p → Keeps types c.sites later p → AppliesLive types c (command.Fuse p k n) steps (after later)
-  unfolding kept_live
-  fuse_applies k n later steps is there moves keeps number run r =
-      let same = same_of types.state c.sites later p moves in
+  pub fuse_applies : (k n : ℕ) (later : Held E D) (steps : List Step) → steps ≡ step.Fused p k n ∷ [] → holds_part c.sites p ≡ true → 1 ≤ k → ArmsAt types c.sites later p k → AppliesLive types c (command.Fuse p k n) steps (after later)
+  fuse_applies k n later steps is there some arms number run r =
+      let same = same_of types.state c.sites later p arms.moves in
+      let fuel = fueled_armed types c.sites later p run (entries r.calls) (place_of_part c.sites p there) there (record { number = number; command = Some (command.Fuse p k n); step = step.Fused p k n }) k n refl some arms r.fuel in
       subst (λ l. IsAnswer is_built run (command.Fuse p k n) l × GoesTo types c run r (after later) (answered number (Some (command.Fuse p k n)) l run) × ShowFaults types.state run c.sites later l) (sym is) (
         subst (AnswersBy run (command.Fuse p k n) (step.Fused p k n ∷ [])) (sym (none_due (all_met run (command.Fuse p k n)) (refl, (ap not r.has, (ap not (sym (part_in types c run r p) ∙ there), tt))))) refl,
         record {
           same = same;
-          reached = quiet_still types (after later) number (Some (command.Fuse p k n)) (step.Fused p k n) run (record { called = refl; cluster = refl; sites = λ i. refl; parts = λ i. refl; site = λ who old. refl; count = λ i. refl; phase = λ who. refl }) (kept_live later same keeps run r);
+          reached = quiet_on types c (after later) same refl number (Some (command.Fuse p k n)) (step.Fused p k n) run (record { called = refl; cluster = refl; sites = λ i. refl; parts = λ i. refl; site = λ who old. refl; count = λ i. refl; phase = λ who. refl }) r (record { reached = arms.keeps (entries r.calls) r.sees.reached; one_caller = r.sees.one_caller }) fuel;
           grows = grows_none r.calls;
           keeps = keeps_line number (Some (command.Fuse p k n)) (step.Fused p k n) run refl;
         },
@@ -125,7 +128,8 @@ module _ {S E D : Type 0} (types : Types S E D) (c : LiveState E D) (p : PartId)
       let seen : Sees types later (called 0 p (event.Restarted x.now x.bounds x.decided x.pending) ∷ r.calls) = record { reached = k.goes (entries r.calls) r.sees.reached; one_caller = (refl, r.sees.one_caller) } in
       subst (λ l. IsAnswer is_built run (command.Restart p) l × GoesTo types c run r (after later) (answered number (Some (command.Restart p)) l run) × ShowFaults types.state run c.sites later l) (sym is) (
         subst (AnswersBy run (command.Restart p) (s ∷ [])) (sym (restarts run r there)) (s, refl, refl, tt),
-        turned_alone types c run r number (command.Restart p) 0 p e later (same_of types.state c.sites later p k.moves) seen refl (asked_lines number (command.Restart p) run s s p Restart refl refl refl refl) (λ who y. refl) (λ who. tt) tt,
+        turned_alone types c run r number (command.Restart p) 0 p e later (same_of types.state c.sites later p k.moves) seen refl (asked_lines number (command.Restart p) run s s p Restart refl refl refl refl) (λ who y. refl) (λ who. tt) tt
+            (fueled_up types c.sites later p run (record { number = number; command = Some (command.Restart p); step = s }) (entries r.calls) r.sees.reached r.shown (λ h. refl) (λ t h. absurd cc) x k refl (λ h. refl) r.fuel),
         (tt, tt),
       )
 
@@ -135,16 +139,17 @@ module _ {S E D : Type 0} (types : Types S E D) (c : LiveState E D) (p : PartId)
       let seen : Sees types later (called 0 p RestartCut ∷ r.calls) = record { reached = k.goes (entries r.calls) r.sees.reached; one_caller = (refl, r.sees.one_caller) } in
       subst (λ l. IsAnswer is_built run (command.Restart p) l × GoesTo types c run r (after later) (answered number (Some (command.Restart p)) l run) × ShowFaults types.state run c.sites later l) (sym is) (
         subst (AnswersBy run (command.Restart p) (step.Disk p ∷ [])) (sym (restarts run r there)) (step.Disk p, refl, refl, tt),
-        turned_alone types c run r number (command.Restart p) 0 p RestartCut later (same_of types.state c.sites later p k.moves) seen refl (asked_lines number (command.Restart p) run (step.Disk p) (step.Disk p) p Restart refl refl refl refl) (λ who y. refl) (λ who. tt) tt,
+        turned_alone types c run r number (command.Restart p) 0 p RestartCut later (same_of types.state c.sites later p k.moves) seen refl (asked_lines number (command.Restart p) run (step.Disk p) (step.Disk p) p Restart refl refl refl refl) (λ who y. refl) (λ who. tt) tt
+            (fueled_stopped types c.sites later p run (record { number = number; command = Some (command.Restart p); step = step.Disk p }) (entries r.calls) r.sees.reached r.shown (λ h. refl) (λ t h. absurd cc) k refl refl (λ h. refl) r.fuel),
         (rose_of types.state c.sites later p k.moves rose, tt),
       )
 
   -- after a fuse that has fired was taken away
-  pub revived : (mid : Held E D) (cmd : Command) (steps : List Step) (new : LiveState E D) → Moves types.state c.sites mid p → Keeps types c.sites mid p → AppliesLive types (after mid) cmd steps new → AppliesLive types c cmd steps new
+  pub revived : (mid : Held E D) (cmd : Command) (steps : List Step) (new : LiveState E D) → holds_part c.sites p ≡ true → RevivesAt types c.sites mid p → AppliesLive types (after mid) cmd steps new → AppliesLive types c cmd steps new
   unfolding kept_live
-  revived mid cmd steps new moves keeps a number run r =
-      let same = same_of types.state c.sites mid p moves in
-      let x = a number run (kept_live mid same keeps run r) in (
+  revived mid cmd steps new there v a number run r =
+      let same = same_of types.state c.sites mid p v.moves in
+      let x = a number run (kept_live mid same v.keeps run r (fueled_revived types c.sites mid p run (entries r.calls) (place_of_part c.sites p there) there v r.fuel)) in (
         x.0,
         record { same = same_trans types.state c.sites mid new.sites same x.1.same; reached = x.1.reached; grows = x.1.grows; keeps = x.1.keeps },
         show_last types.state run c.sites mid new.sites steps same x.2,

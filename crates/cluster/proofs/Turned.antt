@@ -19,16 +19,25 @@ use Rattle.world_model.specs.Past.{dependency_after, dependency}
 use Rattle.world_model.specs.Partition.{PartState, PartStep, IsRefused}
 use Rattle.world_model.specs.Phases.{phase, by_command}
 use Rattle.world_model.specs.Run.{Run}
-use Rattle.world_model.specs.ScriptCalls.{is_answer, calls_of}
+use Rattle.world_model.specs.ScriptCalls.{is_answer, is_called, calls_of}
+use Rattle.world_model.specs.ScriptCalls as script
+use Rattle.world_model.specs.Updates.{lead}
 use Rattle.world_model.proofs.LineViews.{dependency_is}
 use Rattle.world_model.proofs.Names.{off}
 use Rattle.txn_session.specs.Calls.{Call, entries, called, IsLegal}
 use Rattle.txn_session.specs.Session.{SessionState}
+use Rattle.partition_core.specs.Moments.{Spends}
 use Rattle.site_partitions.specs.Held.{Held}
+use Rattle.site_partitions.specs.Moves.{Moves}
 use Rattle.site_partitions.specs.Reaches.{Types}
+use Rattle.cluster.specs.Fuel.{Fueled, Spent}
 use Rattle.cluster.specs.Same.{SameCluster}
 use Rattle.cluster.specs.Live.{LiveState, session_in}
 use Rattle.cluster.specs.Reached.{StandsBy, StandsAs, ReachedLive, GoesTo}
+use Rattle.cluster.proofs.Doubting.{decided_at}
+use Rattle.cluster.proofs.FuelCalls.{asked_at, asked_call}
+use Rattle.cluster.proofs.FuelKept.{fueled_spent, fueled_call}
+use Rattle.cluster.proofs.FuelWrites.{is_took}
 use Rattle.cluster.proofs.Keeping.{grows_one, keeps_line, call_plain}
 use Rattle.cluster.specs.Sees.{Sees, sees_legal}
 use Rattle.cluster.proofs.Seeing.{is_told, told_last}
@@ -40,6 +49,15 @@ quiet_call (Sent asked m) h = off h
 quiet_call (Reported b) h = off h
 quiet_call other h = (refl, refl)
 
+-- nor was a message taken
+plain_untaken : {E : Type 0} (events : List (Entry E)) (at : PartId) (e : Event E) → is_numberless e ≡ true → is_took (step_shown events at e) ≡ false
+plain_untaken events at (Took number m) h = off h
+plain_untaken events at (Cut (Decided t v)) h = refl
+plain_untaken events at (Cut what) h = refl
+plain_untaken events at (Refused a IsDown) h = refl
+plain_untaken events at (Refused a why) h = refl
+plain_untaken events at other h = refl
+
 module _ {S E D : Type 0} (types : Types S E D) (c : LiveState E D) (run : Run) (r : ReachedLive types c run) (number : ℕ) (cmd : Command) (by : ℕ) (at : PartId) (e : Event E) (held : Held E D) (size : SameCluster types.state c.sites held) (sees : Sees types held (called by at e ∷ r.calls)) (plain : is_numberless e ≡ true)
     (lines_are : calls_of ((record { number = number; command = Some cmd; step = step_shown (entries r.calls) at e }) ∷ run) ≡ (record { at = at; call = call_of e; step = step_shown (entries r.calls) at e }) ∷ calls_of run) where
   abbrev pub line : Step
@@ -50,6 +68,16 @@ module _ {S E D : Type 0} (types : Types S E D) (c : LiveState E D) (run : Run) 
 
   abbrev pub later : List (Call E)
   later = called by at e ∷ r.calls
+
+  -- the call is asked where it is made, and a decide in doubt of its lead
+  placed_at : is_called (Some cmd) line ≡ true → (script.asked_by (calls_of run) run (Some cmd) line).at ≡ at
+  placed_at called = asked_at run (record { number = number; command = Some cmd; step = line }) (record { at = at; call = call_of e; step = line }) lines_are called
+
+  asks_so : is_called (Some cmd) line ≡ true → (script.asked_by (calls_of run) run (Some cmd) line).call ≡ call_of e
+  asks_so called = asked_call run (record { number = number; command = Some cmd; step = line }) (record { at = at; call = call_of e; step = line }) lines_are called
+
+  doubted : (u : TxId) → line ≡ step.Unsure u → lead (parts_of run) (calls_of run) u ≡ at
+  doubted u k = decided_at types c run r held size at by e sees u k
 
   told : IsCallLine run line
   told = call_line run (entries r.calls) at e (told_last types held (called by at e) r.calls sees) plain
@@ -87,11 +115,19 @@ module _ {S E D : Type 0} (types : Types S E D) (c : LiveState E D) (run : Run) 
       holds_other types.kinds held.sites held.parts (called by at e) r.calls x legal (subst (λ n. IsSilentFor (entries r.calls) n e) (sym x_is.name) q) h)
       st
 
+  -- the fuses after it, by what it took of the calls of its disk
+  pub fuel_next : (m : Moves types.state c.sites held at) → Spends types.kinds types.codec types.state m.before m.after (r.sees.reached.state at) e → Fueled types.state held next (entries later)
+  fuel_next m spends = fueled_call types c.sites held at run (record { number = number; command = Some cmd; step = line }) (entries r.calls) r.sees.reached r.shown placed_at doubted m e sees.reached told.number asks_so spends r.fuel
+
+  -- or as the store tells it
+  pub fuel_told : Spent types c.sites held at line → Fueled types.state held next (entries later)
+  fuel_told spent = fueled_spent types c.sites held at run (record { number = number; command = Some cmd; step = line }) (entries r.calls) r.sees.reached r.shown placed_at doubted (entries later) (λ whole b. b.1) spent (plain_untaken (entries r.calls) at e plain) r.fuel
+
   quiet : (is_sent e ≡ false) × (is_report e ≡ false)
   quiet = quiet_call e plain
 
-  pub turned : (sessions : List (List ℕ × SessionState E)) → length sessions ≡ length c.sessions → IsOwnPast (sites_of run) (calls_of run) (call_of e) → ((who : List ℕ) → StandsAs next later who (session_in sessions who)) → GoesTo types c run r (record { sites = held; sessions = sessions }) next
-  turned sessions count own each = record {
+  pub turned : (sessions : List (List ℕ × SessionState E)) → length sessions ≡ length c.sessions → IsOwnPast (sites_of run) (calls_of run) (call_of e) → ((who : List ℕ) → StandsAs next later who (session_in sessions who)) → Fueled types.state held next (entries later) → GoesTo types c run r (record { sites = held; sessions = sessions }) next
+  turned sessions count own each fuel = record {
     same = size;
     grows = grows_one (called by at e) r.calls quiet.0 quiet.1;
     keeps = keeps_line number (Some cmd) line run (call_plain (entries r.calls) at e quiet.0 quiet.1);
@@ -103,14 +139,15 @@ module _ {S E D : Type 0} (types : Types S E D) (c : LiveState E D) (run : Run) 
       sees = sees;
       shown = shown_next;
       own = subst (λ n. HandsOwn n (calls_of next)) (sym (told.sites (sites_of run))) (subst (λ ls. HandsOwn (sites_of run) ls) (sym lines_are) (own, r.own));
+      fuel = fuel;
       each = each;
       count = told.count (session_count run) ∙ (r.count ∙ sym count);
     };
   }
 
   -- a call of no session's
-  pub turned_alone : ((who : List ℕ) (s : Step) → by_command (parts_of run) who (phase run who) (Some cmd) s ≡ phase run who) → ((who : List ℕ) → IsSilentFor (entries r.calls) who e) → IsOwnPast (sites_of run) (calls_of run) (call_of e) → GoesTo types c run r (record { sites = held; sessions = c.sessions }) next
-  turned_alone idle q own = turned c.sessions refl own (λ who. other_next who (session_in c.sessions who) (idle who) (q who) (r.each who))
+  pub turned_alone : ((who : List ℕ) (s : Step) → by_command (parts_of run) who (phase run who) (Some cmd) s ≡ phase run who) → ((who : List ℕ) → IsSilentFor (entries r.calls) who e) → IsOwnPast (sites_of run) (calls_of run) (call_of e) → Fueled types.state held next (entries later) → GoesTo types c run r (record { sites = held; sessions = c.sessions }) next
+  turned_alone idle q own fuel = turned c.sessions refl own (λ who. other_next who (session_in c.sessions who) (idle who) (q who) (r.each who)) fuel
 
 as_other : (name who other : List ℕ) → bytes_eq name who ≡ false → other ≡ name → bytes_eq other who ≡ false
 as_other name who other q h = ap (λ n. bytes_eq n who) h ∙ q

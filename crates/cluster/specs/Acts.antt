@@ -1,6 +1,5 @@
 -- A session of a cluster acts: it alone is changed, and whatever the partitions had seen goes on by what it did.
 use Rattle.std.specs.Prelude.{◌≡◌, ℕ, true, List, Some, None}
-use Rattle.site_vector.specs.declared.ids.PartId.{PartId}
 use Rattle.crdt_core.specs.declared.object.ObjectId.{ObjectId}
 use Rattle.world_model.specs.declared.step.Step.{Step}
 use Rattle.world_model.specs.declared.step.Step.TheVariants as step
@@ -10,9 +9,10 @@ use Rattle.txn_session.specs.Session.{SessionState, place_in, moved_to}
 use Rattle.txn_session.specs.Opens.{IsOpened, IsUpdated}
 use Rattle.world_model.specs.Event.{AskBegin}
 use Rattle.crdt_core.specs.declared.operation.Op.{Op}
+use Rattle.crdt_core.specs.Placing.{place_of}
 use Rattle.site_partitions.specs.Held.{Held}
 use Rattle.site_partitions.specs.Reaches.{Types}
-use Rattle.cluster.specs.Faults.{TellsFault}
+use Rattle.cluster.specs.Fuel.{TellsCall}
 use Rattle.cluster.specs.Same.{SameCluster}
 use Rattle.cluster.specs.Live.{session_in, IsPut}
 use Rattle.cluster.specs.Sees.{Sees}
@@ -34,18 +34,14 @@ module _ {S E D : Type 0} (types : Types S E D) where
     pub same : SameCluster types.state held later
     pub does : (calls : List (Call E)) → Sees types held calls → Holds before calls → Does before after calls
 
-  -- what the line of one of its partitions tells of a disk
-  abbrev pub Tells : Held E D → Held E D → Step → Type 0
-  Tells held later answer = (at : PartId) × TellsFault types.state held later at answer
-
   -- it read an object
   abbrev pub Reads : Held E D → Held E D → ObjectId → Step → SessionState E → SessionState E → List (Call E) → Type 0
-  Reads held later o answer s new calls = Tells held later answer × (new ≡ s) × MakesRead (λ h (p : Unit {0}) l. Sees types h l) (λ (p : Unit {0}) n. true) later tt calls s new o answer s.doing
+  Reads held later o answer s new calls = TellsCall types held later (place_in s (place_of o.bucket o.key s.parts)) answer × (new ≡ s) × MakesRead (λ h (p : Unit {0}) l. Sees types h l) (λ (p : Unit {0}) n. true) later tt calls s new o answer s.doing
 
   -- it updated one
   abbrev pub Updates : Held E D → Held E D → ObjectId → Op → Step → SessionState E → SessionState E → List (Call E) → Type 0
-  Updates held later o op answer s new calls = Tells held later answer × IsUpdated s o answer new × MakesUpdate (λ h (p : Unit {0}) l. Sees types h l) (λ (p : Unit {0}) n. true) later tt calls s new o op answer s.doing
+  Updates held later o op answer s new calls = TellsCall types held later (place_in s (place_of o.bucket o.key s.parts)) answer × IsUpdated s o answer new × MakesUpdate (λ h (p : Unit {0}) l. Sees types h l) (λ (p : Unit {0}) n. true) later tt calls s new o op answer s.doing
 
   -- it began a transaction at the partition of its site with this number
   abbrev pub Begins : Held E D → Held E D → ℕ → Step → SessionState E → SessionState E → List (Call E) → Type 0
-  Begins held later part answer s new calls = Tells held later answer × IsOpened s answer new × Makes (λ h (p : Unit {0}) l. Sees types h l) (λ (p : Unit {0}) n. true) later tt calls s new None (place_in s part) (AskBegin s.name s.dependency) answer
+  Begins held later part answer s new calls = TellsCall types held later (place_in s part) answer × IsOpened s answer new × Makes (λ h (p : Unit {0}) l. Sees types h l) (λ (p : Unit {0}) n. true) later tt calls s new None (place_in s part) (AskBegin s.name s.dependency) answer

@@ -46,4 +46,5 @@ IsSaid has too_deep (command.Clock p n) = n ≤ end_of_time
 IsSaid has too_deep (command.Read name o) = has o.kind ≡ true
 IsSaid has too_deep (command.Update name o op) = (has o.kind ≡ true) × (fits o.kind op.path op.act ≡ true → too_deep o.kind op.path ≡ false)
 IsSaid has too_deep (command.Commit name (Some k)) = 1 ≤ k
+IsSaid has too_deep (command.Fuse p k n) = 1 ≤ k
 IsSaid has too_deep other = ⊤

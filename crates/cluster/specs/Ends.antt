@@ -25,7 +25,8 @@ use Rattle.cluster.specs.declared.commits.Way.{Way}
 use Rattle.cluster.specs.declared.commits.Way.TheVariants as way
 use Rattle.site_partitions.specs.Held.{Held}
 use Rattle.site_partitions.specs.Reaches.{Types}
-use Rattle.cluster.specs.Faults.{TellsFault, ShowFaults}
+use Rattle.cluster.specs.Faults.{ShowFaults}
+use Rattle.cluster.specs.Fuel.{TellsCall}
 use Rattle.cluster.specs.Live.{LiveState}
 use Rattle.cluster.specs.Reached.{ReachedLive, GoesTo}
 use Rattle.cluster.specs.Sees.{Sees}
@@ -89,7 +90,7 @@ module _ {S E D : Type 0} (types : Types S E D) where
   pub record MadeStep (held later : Held E D) (start : SessionState E) (answer : Step) (new : SessionState E) (calls : List (Call E)) : Type 0 where
     pub is : new ≡ stepped start answer
     pub ended : EndsAs start.name (next_of start.doing) answer
-    pub tells : TellsStep (TellsFault types.state) held later start answer (next_of start.doing)
+    pub tells : TellsStep (TellsCall types) held later start answer (next_of start.doing)
     pub made : MakesStep (λ h (p : Unit {0}) l. Sees types h l) (λ (p : Unit {0}) n. true) later tt calls start new answer start.doing (next_of start.doing)
 
   -- and so the command goes on, or ends

@@ -5,6 +5,7 @@ use Rattle.crdt_core.specs.KindsOf.{Kinds}
 use Rattle.world_model.specs.Cluster.{sites_of, parts_of}
 use Rattle.world_model.specs.Dependency.{KeepsPast}
 use Rattle.world_model.specs.Event.{Entry}
+use Rattle.world_model.specs.Fuses.{HoldsFuses}
 use Rattle.world_model.specs.Lawful.{IsLawful}
 use Rattle.world_model.specs.Lines.{lines_of}
 use Rattle.world_model.specs.Partition.{PartState}
@@ -13,7 +14,7 @@ use Rattle.world_model.specs.ScriptCalls.{calls_of}
 use Rattle.world_model.specs.World.{IsWorldRun}
 
 -- a run of the world shows exactly the lines that partitions answered, with their calls; they are lawful, and each snapshot
--- holds its session's past
+-- holds its session's past; and no fuse of a disk let more pass than it may
 pub record ShowsHistory {S E : Type 0} (kinds : Kinds S E) (run : Run) : Type 0 where
   pub events : List (Entry E)
   pub state : PartId → PartState E
@@ -21,3 +22,4 @@ pub record ShowsHistory {S E : Type 0} (kinds : Kinds S E) (run : Run) : Type 0 
   pub shown : lines_of events ≡ calls_of run
   pub lawful : IsLawful kinds.too_deep kinds.meaning (sites_of run) (parts_of run) (calls_of run)
   pub past : KeepsPast (sites_of run) (calls_of run)
+  pub fuses : HoldsFuses run

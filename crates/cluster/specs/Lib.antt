@@ -1,5 +1,6 @@
 pub mod Same
 pub mod Faults
+pub mod Fuel
 pub mod Sees
 pub mod Live
 pub mod Built

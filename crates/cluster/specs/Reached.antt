@@ -21,6 +21,7 @@ use Rattle.partition_core.specs.Durable.{Durable}
 use Rattle.site_partitions.specs.Held.{IsSized}
 use Rattle.site_partitions.specs.Reaches.{Types}
 use Rattle.cluster.specs.Faults.{ShowFaults, AreFed}
+use Rattle.cluster.specs.Fuel.{Fueled, Unlit}
 use Rattle.cluster.specs.Same.{SameCluster}
 use Rattle.cluster.specs.Live.{LiveState, session_in}
 use Rattle.cluster.specs.Post.{WholeState, HasPost, Grows, KeepsPost}
@@ -60,6 +61,8 @@ pub record IsBefore (run : Run) : Type 0 where
   pub count : session_count run ≡ 0
   -- and nothing was sent or reported
   pub post : KeepsPost [] run
+  -- and no fuse is in force
+  pub unlit : Unlit run
 
 -- the partitions of the cluster, if one is made
 abbrev pub partitions_in : {E D : Type 0} → Option (WholeState E D) → List (Durable E D)
@@ -92,6 +95,8 @@ module _ {S E D : Type 0} (types : Types S E D) where
     pub shown : lines_of (entries calls) ≡ calls_of run
     -- each begin was handed what its session depended on
     pub own : HandsOwn (sites_of run) (calls_of run)
+    -- and the fuses in force burn on the disks
+    pub fuel : Fueled types.state c.sites run (entries calls)
     pub each : (who : List ℕ) → StandsAs run calls who (session_in c.sessions who)
     pub count : session_count run ≡ length c.sessions
 

@@ -1,8 +1,8 @@
 // Crashes, restarts and fuses; and which disk failed for want of memory.
-ghost use Rattle.std.specs.Prelude.{◌≡◌, true, false, IfOk, [], ◌∷◌};
+ghost use Rattle.std.specs.Prelude.{◌≡◌, ◌≤◌, true, false, IfOk, [], ◌∷◌};
 ghost use Rattle.site_vector.specs.declared.ids.PartId.{PartId as Place};
 ghost use Rattle.site_partitions.specs.Reaches.{types_of};
-ghost use Rattle.cluster.specs.Built.{is_of_faults};
+ghost use Rattle.cluster.specs.Built.{IsSaid, is_of_faults};
 ghost use Rattle.cluster.specs.Faults.{AreFed, IsFed};
 ghost use Rattle.cluster.specs.Reached.{AppliesLive, IsReachedLive};
 
@@ -21,6 +21,7 @@ impl<C: Crdt, D: Disk + Drop> Live<C, Fused<D>> {
     /// The lines that answer a command of crashes, restarts and fuses.
     pub(crate) fn strike(&mut self, command: Command) -> Result<Vec<Step>, AllocError>
         requires of_faults { is_of_faults command ≡ true }
+        requires said { IsSaid C.has C.too_deep command }
         requires reached { IsReachedLive (types_of C.laws C.spells (fused_state D.state)) self.old }
         ensures { IfOk result (λ steps. AppliesLive (types_of C.laws C.spells (fused_state D.state)) self.old command steps.items self.new) }
     {
@@ -54,6 +55,7 @@ impl<C: Crdt, D: Disk + Drop> Live<C, Fused<D>> {
 
     /// Arms the fuse of a partition's disk.
     fn fuse(&mut self, part: PartId, call: u64, keep: u64) -> Result<Vec<Step>, AllocError>
+        requires { 1 ≤ call }
         ensures { IfOk result (λ steps. AppliesLive (types_of C.laws C.spells (fused_state D.state)) self.old (Command.Fuse part call keep) steps.items self.new) }
     {
         if !self.has_part(part) {

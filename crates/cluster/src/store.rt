@@ -1,7 +1,7 @@
 ghost use Rattle.std.specs.Prelude.{◌≡◌, ℕ, List, true};
 ghost use Rattle.partition_core.specs.Answers.{cause};
 ghost use Rattle.site_partitions.specs.Reaches.{types_of};
-ghost use Rattle.cluster.specs.Faults.{TellsFault};
+ghost use Rattle.cluster.specs.Fuel.{TellsCall};
 ghost use Rattle.cluster.specs.Same.{SameCluster, same_refl, same_trans};
 ghost use Rattle.cluster.specs.Sees.{Sees, FailedAs, refusal_line, sees_legal};
 
@@ -39,7 +39,7 @@ impl<C: Crdt, D: Disk + Drop> Store<C> for Local<C, D> {
 
     ghost stays = { λ a b. SameCluster D.state a b };
 
-    ghost tells = { λ a b at line. TellsFault D.state a b at line };
+    ghost tells = { λ a b at line. TellsCall (types_of C.laws C.spells D.state) a b at line };
 
     fn tick(&mut self, pass: (), at: PartId, r: u64) -> ((), Answer) {
         match self.all.tick_at(at, r) {

@@ -181,12 +181,13 @@ send_said (p ∷ d ∷ ws) =
     chained (λ p. option_and_then (λ d. option_map (λ n. command.Send p d n) (grammar.maybe places.time ws)) (places.site d)) (places.part p)
     (λ p. chained (λ d. option_map (λ n. command.Send p d n) (grammar.maybe places.time ws)) (places.site d) (λ d. mapped (λ n. command.Send p d n) (grammar.maybe places.time ws) (λ n. tt)))
 
+-- and so is the number of a call
 fuse_said : (ws : List (List ℕ)) → IsAsked (grammar.fuse ws)
 fuse_said [] = tt
 fuse_said (p ∷ ws) =
     chained (λ w. option_and_then (λ p. option_and_then (λ k. option_map (λ n. command.Fuse p k n) (places.number w.1)) (grammar.steps w.0)) (places.part p)) (grammar.two ws)
     (λ w. chained (λ p. option_and_then (λ k. option_map (λ n. command.Fuse p k n) (places.number w.1)) (grammar.steps w.0)) (places.part p)
-    (λ p. chained (λ k. option_map (λ n. command.Fuse p k n) (places.number w.1)) (grammar.steps w.0) (λ k. mapped (λ n. command.Fuse p k n) (places.number w.1) (λ n. tt))))
+    (λ p. chained_in 1 places.below_2_48 (λ k. option_map (λ n. command.Fuse p k n) (places.number w.1)) (grammar.steps w.0) (ranged_in 1 places.below_2_48 w.0) (λ k some most. mapped (λ n. command.Fuse p k n) (places.number w.1) (λ n. some))))
 
 drop_said : (w : List ℕ) → IsAsked (grammar.drop w)
 drop_said [] = tt

@@ -185,7 +185,32 @@ module _ {S E T P : Type 0} (kinds : Kinds S E) (sees : T → P → List (Call E
         let q = read_quiet (entries (goes.more ++ run)) here goes.event txn.tx txn.s o (own_updates txn.updates o) goes.asked in
         subst (MakesRead sees numbers store pass run s s o answer) (sym is_open) (quiet_makes kinds sees numbers store pass s legal held run h (Some txn.by) here (AskRead txn.tx txn.s o (own_updates txn.updates o)) answer goes q)
 
+    -- what the store tells of the call in a run that allows it
+    pub read_tells : (tells : T → T → PartId → Step → Type 0) (who : List ℕ) → who ≡ s.name → (answer : Step) →
+        ((run : List (Call E)) → sees before given run → IsAllowed (sites_of before) (parts_of before) run (Some txn.by) (record { site = site; part = part }) (AskRead txn.tx txn.s o own) → who ≡ session_of (entries run) txn.tx → tells before store (record { site = site; part = part }) answer) →
+        Mays sees numbers before given s → tells before store (place_in s (place_of o.bucket o.key s.parts)) answer
+    unfolding here
+    read_tells tells who ew answer f m =
+        let t = txn_of m.run m.holds in
+        let g = subst
+        (λ (w : PartId × List (Upd E)). (r : List (Call E)) → sees before given r → IsAllowed (sites_of before) (parts_of before) r (Some txn.by) w.0 (AskRead txn.tx txn.s o w.1) → who ≡ session_of (entries r) txn.tx → tells before store w.0 answer)
+        asked_at
+        f in
+        g m.run m.seen (allowed_by m.run (Some txn.by) here (AskRead txn.tx txn.s o (own_updates txn.updates o)) (read_allowed s txn m.run t.0 o)) (ew ∙ sym t.0.session)
+
     module _ (op : Op) where
+      pub update_tells : (tells : T → T → PartId → Step → Type 0) (who : List ℕ) (index : ℕ) → who ≡ s.name → index ≡ length txn.updates + 1 → (answer : Step) →
+          ((run : List (Call E)) → sees before given run → IsAllowed (sites_of before) (parts_of before) run (Some txn.by) (record { site = site; part = part }) (AskUpdate txn.tx txn.s o own op) → who ≡ session_of (entries run) txn.tx → index ≡ update_count (entries run) txn.tx + 1 → tells before store (record { site = site; part = part }) answer) →
+          Mays sees numbers before given s → tells before store (place_in s (place_of o.bucket o.key s.parts)) answer
+      unfolding here
+      update_tells tells who index ew ei answer f m =
+          let t = txn_of m.run m.holds in
+          let g = subst
+          (λ (w : PartId × List (Upd E)). (r : List (Call E)) → sees before given r → IsAllowed (sites_of before) (parts_of before) r (Some txn.by) w.0 (AskUpdate txn.tx txn.s o w.1 op) → who ≡ session_of (entries r) txn.tx → index ≡ update_count (entries r) txn.tx + 1 → tells before store w.0 answer)
+          asked_at
+          f in
+          g m.run m.seen (allowed_by m.run (Some txn.by) here (AskUpdate txn.tx txn.s o (own_updates txn.updates o) op) (update_allowed s txn m.run t.0 o op t.1)) (ew ∙ sym t.0.session) (ei ∙ ap (λ n. n + 1) (sym t.0.count))
+
       pub update_may : Mays sees numbers before given s → MayCall sees numbers (sites_of before) (parts_of before) before given (Some txn.by) (record { site = site; part = part }) (AskUpdate txn.tx txn.s o own op)
       unfolding here
       update_may m =

@@ -154,10 +154,11 @@ module _ {E : Type 0} where
     MakesStep store pass run old new answer (Ending txn lead commit) (what.Abort p) = Makes store pass run old new (Some txn.by) (place_in old p) (AskAbort txn.tx) answer
     MakesStep store pass run old new answer doing other = Waits store pass run old new
 
-  -- the line of the step that is next at the end of a transaction, as its partition's tells of the store before and after it
+  -- the line of the step that is next at the end of a transaction, as its partition's tells of the store before and after it; where none is left,
+  -- the store stays as it is
   abbrev pub TellsStep : {S : Type 0} → (S → S → PartId → Step → Type 0) → S → S → SessionState E → Step → What → Type 0
   TellsStep tells old new s answer (what.Prepare p) = tells old new (place_in s p) answer
   TellsStep tells old new s answer (what.Decide p c) = tells old new (place_in s p) answer
   TellsStep tells old new s answer (what.Finish p c) = tells old new (place_in s p) answer
   TellsStep tells old new s answer (what.Abort p) = tells old new (place_in s p) answer
-  TellsStep tells old new s answer what.Done = ⊤
+  TellsStep tells old new s answer what.Done = new ≡ old

@@ -4,7 +4,7 @@ ghost use Rattle.txn_session.specs.Opens.{refusal_of_update, told_of};
 ghost use Rattle.txn_session.specs.Session.{Idle, phase_in, phase_of, place_in, is_idle, is_open, can_abort, has_step, moved_to};
 ghost use Rattle.world_model.specs.declared.commit.What.TheVariants as what;
 ghost use Rattle.txn_session.specs.Holds.{Holds, Mays, Makes, MakesUpdate, MakesRead, MakesStep, TellsStep, Waits, next_of};
-ghost use Rattle.site_vector.specs.declared.ids.PartId.{PartId as Place};
+ghost use Rattle.crdt_core.specs.Placing.{place_of};
 ghost use Rattle.world_model.specs.Plan.{IsPlace};
 ghost use Rattle.world_model.specs.Event.{AskBegin};
 
@@ -224,7 +224,7 @@ impl<C: Crdt> Session<C> {
             e. e ≡ SessionError.NoMemory)) (λ e. (result.1 ≡ Err e) × (store.new ≡ store.old)) }
         ensures err { OnErr result.1 (self.new ≡ self.old) }
         ensures updated { IfOk result.1 (λ answer. IsUpdated self.old object.now answer self.new) }
-        ensures tells { IfOk result.1 (λ answer. (at : Place) × S.tells store.old store.new at answer) }
+        ensures tells { IfOk result.1 (λ answer. S.tells store.old store.new (place_in self.old (place_of object.now.bucket object.now.key self.old.parts)) answer) }
         ensures updates { IfOk result.1 (λ answer. (run : List (Call C.Effect)) → S.sees store.old pass run →
             Holds self.old run →
             MakesUpdate S.sees S.numbers store.new result.0 run self.old self.new object.now op.now answer
@@ -318,7 +318,7 @@ impl<C: Crdt> Session<C> {
         ensures no_txn { (result.1 ≡ Err SessionError.NoTxn) ↔ (is_open self.old.doing ≡ false) }
         ensures only { IfErr result.1 (λ e. (e ≡ SessionError.NoTxn) ⊎ (e ≡ SessionError.NoMemory)) }
         ensures as_before { self.new ≡ self.old }
-        ensures tells { IfOk result.1 (λ answer. (at : Place) × S.tells store.old store.new at answer) }
+        ensures tells { IfOk result.1 (λ answer. S.tells store.old store.new (place_in self.old (place_of object.now.bucket object.now.key self.old.parts)) answer) }
         ensures reads { IfOk result.1 (λ answer. (run : List (Call C.Effect)) → S.sees store.old pass run →
             Holds self.old run →
             MakesRead S.sees S.numbers store.new result.0 run self.old self.new object.now answer self.old.doing) }

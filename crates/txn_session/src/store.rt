@@ -95,7 +95,9 @@ pub trait Store<C: Crdt> {
             s.now object.now own.now) }
         ensures stays { stays self.old self.new }
         ensures same { (n : ℕ) → numbers result.0 n ≡ numbers pass n }
-        ensures tells { IfOk result.1 (λ line. tells self.old self.new at line) }
+        ensures tells { IfOk result.1 (λ line. (run : List (Call C.Effect)) → sees self.old pass run →
+            IsAllowed (sites self.old) (parts self.old) run (Some by) at (AskRead tx s.now object.now own.now) →
+            who.now ≡ session_of (entries run) tx → tells self.old self.new at line) }
         ensures ok { IfOk result.1 (λ r. (run : List (Call C.Effect)) → sees self.old pass run →
             IsAllowed (sites self.old) (parts self.old) run (Some by) at (AskRead tx s.now object.now own.now) →
             who.now ≡ session_of (entries run) tx →
@@ -126,7 +128,11 @@ pub trait Store<C: Crdt> {
             tx s.now object.now own.now op.now) }
         ensures stays { stays self.old self.new }
         ensures same { (n : ℕ) → numbers result.0 n ≡ numbers pass n }
-        ensures tells { IfOk result.1 (λ r. tells self.old self.new at r.0) }
+        ensures tells { IfOk result.1 (λ r. (run : List (Call C.Effect)) → sees self.old pass run →
+            IsAllowed (sites self.old) (parts self.old) run (Some by) at (AskUpdate tx s.now object.now own.now
+            op.now) →
+            who.now ≡ session_of (entries run) tx → index ≡ update_count (entries run) tx + 1 →
+            tells self.old self.new at r.0) }
         ensures ok { IfOk result.1 (λ r. (run : List (Call C.Effect)) → sees self.old pass run →
             IsAllowed (sites self.old) (parts self.old) run (Some by) at (AskUpdate tx s.now object.now own.now
             op.now) →

@@ -9,5 +9,5 @@ returns-in-Ok g c = record {
   after = c.open-answer.new.self;
   put = record { find = λ who. search rules; count = search rules };
   same = c.open-answer.ensures.stays;
-  does = λ calls seen holds. ((_, ok_is _ _ _ c.in-Ok.is c.open-answer.ensures.tells), ok_is _ _ _ c.in-Ok.is c.open-answer.ensures.opened, ok_is _ _ _ c.in-Ok.is c.open-answer.ensures.opens calls seen holds);
+  does = λ calls seen holds. (ok_is _ _ _ c.in-Ok.is c.open-answer.ensures.tells, ok_is _ _ _ c.in-Ok.is c.open-answer.ensures.opened, ok_is _ _ _ c.in-Ok.is c.open-answer.ensures.opens calls seen holds);
 }

@@ -22,4 +22,4 @@ returns g c =
     let types = types_of g.C.Crdt.laws g.C.Crdt.spells (fused_state g.D.Disk.state) in
     let v : LiveState g.row.C-Effect.Denot _ = record { sites = c.self-inside.inside.0.1.0.all; sessions = c.self-inside.inside.0.1.1.0.entries } in
     map_ok c.only-2.result (λ steps is. subst (λ (x : LiveState g.row.C-Effect.Denot _). AppliesLive types x (command.Fuse c.args.part c.args.call c.args.keep) steps.items (record { sites = c.arm_at.new.self; sessions = c.self-inside.inside.0.1.1.0.entries })) ((λ i. record { sites = (c.self-inside.view_is i).sites; sessions = (c.self-inside.view_is i).sessions.entries }) ∙ c.self.view_is)
-    (fuse_applies types v c.args.part c.args.call c.args.keep c.arm_at.new.self steps.items is (subst (λ (x : LiveState g.row.C-Effect.Denot _). holds_part x.sites c.args.part ≡ true) (sym ((λ i. record { sites = (c.self-inside.view_is i).sites; sessions = (c.self-inside.view_is i).sessions.entries }) ∙ c.self.view_is)) (sym c.has_part.ensures ∙ c.if-not-has_part.false)) c.arm_at.ensures.moves c.arm_at.ensures.keeps)) c.only-2.ensures
+    (fuse_applies types v c.args.part c.args.call c.args.keep c.arm_at.new.self steps.items is (subst (λ (x : LiveState g.row.C-Effect.Denot _). holds_part x.sites c.args.part ≡ true) (sym ((λ i. record { sites = (c.self-inside.view_is i).sites; sessions = (c.self-inside.view_is i).sessions.entries }) ∙ c.self.view_is)) (sym c.has_part.ensures ∙ c.if-not-has_part.false)) c.requires c.arm_at.ensures)) c.only-2.ensures

@@ -1,6 +1,7 @@
-use Rattle.std.proofs.Common.{◌∙◌, sym, subst}
+use Rattle.std.proofs.Common.{◌≡◌, ◌∙◌, sym, subst, true}
 use Rattle.disk_core.specs.Fuses.{fused_state}
 use Rattle.world_model.specs.Plan.{IsPlace}
+use Rattle.site_partitions.specs.Held.{holds_part}
 use Rattle.site_partitions.specs.Reaches.{types_of}
 use Rattle.world_model.specs.declared.command.Command.TheVariants as command
 use Rattle.cluster.specs.Live.{LiveState}
@@ -27,11 +28,11 @@ pub come_up-requires-clause-reached : goal.come_up-requires-clause-reached
 come_up-requires-clause-reached g c =
     let types = types_of g.C.Crdt.laws g.C.Crdt.spells (fused_state g.D.Disk.state) in
     let v : LiveState g.row.C-Effect.Denot _ = record { sites = c.self-inside.inside.0.1.0.all; sessions = c.self-inside.inside.0.1.1.0.entries } in
-    reached_still types v c.args.part c.revive_at.new.self c.revive_at.ensures.moves c.revive_at.ensures.keeps (subst (λ (x : LiveState g.row.C-Effect.Denot _). IsReachedLive types x) (sym ((λ i. record { sites = (c.self-inside.view_is i).sites; sessions = (c.self-inside.view_is i).sessions.entries }) ∙ c.self.view_is)) c.requires.reached)
+    reached_still types v c.args.part c.revive_at.new.self (subst (λ (x : LiveState g.row.C-Effect.Denot _). holds_part x.sites c.args.part ≡ true) (sym ((λ i. record { sites = (c.self-inside.view_is i).sites; sessions = (c.self-inside.view_is i).sessions.entries }) ∙ c.self.view_is)) (sym c.has_part.ensures ∙ c.if-not-has_part.false)) c.revive_at.ensures (subst (λ (x : LiveState g.row.C-Effect.Denot _). IsReachedLive types x) (sym ((λ i. record { sites = (c.self-inside.view_is i).sites; sessions = (c.self-inside.view_is i).sessions.entries }) ∙ c.self.view_is)) c.requires.reached)
 
 pub returns : goal.returns
 returns g c =
     let types = types_of g.C.Crdt.laws g.C.Crdt.spells (fused_state g.D.Disk.state) in
     let v : LiveState g.row.C-Effect.Denot _ = record { sites = c.self-inside.inside.0.1.0.all; sessions = c.self-inside.inside.0.1.1.0.entries } in
     map_ok c.come_up.result (λ steps a. subst (λ (x : LiveState g.row.C-Effect.Denot _). AppliesLive types x (command.Restart c.args.part) steps.items c.come_up.new.self) ((λ i. record { sites = (c.self-inside.view_is i).sites; sessions = (c.self-inside.view_is i).sessions.entries }) ∙ c.self.view_is)
-    (revived types v c.args.part c.revive_at.new.self (command.Restart c.args.part) steps.items c.come_up.new.self c.revive_at.ensures.moves c.revive_at.ensures.keeps a)) c.come_up.ensures
+    (revived types v c.args.part c.revive_at.new.self (command.Restart c.args.part) steps.items c.come_up.new.self (subst (λ (x : LiveState g.row.C-Effect.Denot _). holds_part x.sites c.args.part ≡ true) (sym ((λ i. record { sites = (c.self-inside.view_is i).sites; sessions = (c.self-inside.view_is i).sessions.entries }) ∙ c.self.view_is)) (sym c.has_part.ensures ∙ c.if-not-has_part.false)) c.revive_at.ensures a)) c.come_up.ensures

@@ -2,7 +2,7 @@ use Rattle.std.proofs.Common.{◌∙◌, sym, subst}
 use Rattle.site_partitions.specs.Reaches.{types_of}
 use Rattle.world_model.specs.declared.command.Command.TheVariants as command
 use Rattle.cluster.specs.Live.{LiveState}
-use Rattle.cluster.specs.Reached.{AppliesLive}
+use Rattle.cluster.specs.Reached.{AppliesLive, IsReachedLive}
 use Rattle.cluster.proofs.Applying.{map_ok}
 use Rattle.cluster.proofs.Commands.{none_about}
 use Rattle.cluster.proofs.Leading.{abort_absent, abort_decided}
@@ -16,3 +16,6 @@ returns-then-not-is_undecided g c = map_ok c.only-then-not-is_undecided.result (
 
 pub returns-in-Ok : goal.returns-in-Ok
 returns-in-Ok g c = subst (λ (x : LiveState g.row.C-Effect.Denot _). AppliesLive (types_of g.C.Crdt.laws g.C.Crdt.spells g.D.Disk.state) x (command.Abort c.args.name) c.in-Ok.lines.items (record { sites = c.end_all.new.sites; sessions = c.end_all.new.sessions.entries })) c.self.view_is c.in-Ok.ensures
+
+pub end_all-requires-clause-reached : goal.end_all-requires-clause-reached
+end_all-requires-clause-reached g c = subst (λ (x : LiveState g.row.C-Effect.Denot _). IsReachedLive (types_of g.C.Crdt.laws g.C.Crdt.spells g.D.Disk.state) x) (sym c.self.view_is) c.requires.reached

@@ -1,6 +1,7 @@
 use Rattle.std.proofs.Common.{◌≤◌, refl, ◌∙◌, ap, sym, subst}
 use Rattle.site_partitions.specs.Reaches.{types_of}
 use Rattle.cluster.specs.Live.{LiveState}
+use Rattle.cluster.specs.Reached.{IsReachedLive}
 use Rattle.cluster.proofs.Applying.{map_ok}
 use Rattle.cluster.specs.Acts.{Acts, Begins}
 use Rattle.site_partitions.specs.Held.{Held}
@@ -38,3 +39,6 @@ returns-in-Ok g c =
     (idle_about _ c.in-Some.phase (sym c.phase.ensures ∙ c.in-Some.is) (sym c.is_idle.ensures ∙ c.if-not-is_idle.false))
     (subst (λ (x : LiveState g.row.C-Effect.Denot _). Acts (types_of g.C.Crdt.laws g.C.Crdt.spells g.D.Disk.state) x.sites x.sessions c.args.name c.begin_in.new.sites c.begin_in.new.sessions.entries (Begins (types_of g.C.Crdt.laws g.C.Crdt.spells g.D.Disk.state) x.sites c.begin_in.new.sites (number_of c.args.part) c.in-Ok.step)) c.self.view_is
     (subst (λ n. Acts (types_of g.C.Crdt.laws g.C.Crdt.spells g.D.Disk.state) c.self.inside.sites c.self.inside.sessions.entries c.args.name c.begin_in.new.sites c.begin_in.new.sessions.entries (Begins (types_of g.C.Crdt.laws g.C.Crdt.spells g.D.Disk.state) c.self.inside.sites c.begin_in.new.sites n c.in-Ok.step)) c.number_of.ensures c.in-Ok.ensures))) c.only-in-Ok.ensures
+
+pub begin_in-requires-clause-reached : goal.begin_in-requires-clause-reached
+begin_in-requires-clause-reached g c = subst (λ (x : LiveState g.row.C-Effect.Denot _). IsReachedLive (types_of g.C.Crdt.laws g.C.Crdt.spells g.D.Disk.state) x) (sym c.self.view_is) c.requires.reached

@@ -5,7 +5,8 @@ use Rattle.world_model.specs.Event as event
 use Rattle.world_model.specs.Event.{Event}
 use Rattle.site_partitions.specs.Answers.{Any}
 use Rattle.site_partitions.specs.Reaches.{types_of}
-use Rattle.cluster.proofs.Seeing.{calls_here, exact_on, failed_on, failed_stays, failed_tells, called_same, fault_of, number_is, may_here}
+use Rattle.cluster.proofs.Seeing.{calls_here, exact_on, failed_on, failed_stays, called_same, fault_of, number_is, may_here}
+use Rattle.cluster.proofs.FuelStore.{exact_tells, failed_tells_call}
 use Rattle.cluster.proofs.store.LocalStore.decide.Goals as goal
 
 pub decide_at-requires : goal.decide_at-requires
@@ -40,4 +41,10 @@ returns-in-Err-clause-err g c =
 pub returns-in-Err-clause-tells : goal.returns-in-Err-clause-tells
 returns-in-Err-clause-tells g c =
     let types = types_of g.C.Crdt.laws g.C.Crdt.spells g.D.Disk.state in
-    failed_tells types c.args.self.now c.decide_at.new.self Any c.args.at (event.AskDecide c.args.tx c.args.c.now) c.args.pass (Some c.args.by) (λ (n : Unit {0}) (e : Event g.row.C-Effect.Denot). e ≡ event.Decided c.args.tx c.args.c.now) (step.Unsure c.args.tx) (λ r. r) c.in-Err.error c.undecided.result (calls_here types _ c.args.self.now c.decide_at.new.self c.self.view_is Any c.args.at (event.AskDecide c.args.tx c.args.c.now) (λ (n : Unit {0}) (e : Event g.row.C-Effect.Denot). e ≡ event.Decided c.args.tx c.args.c.now) (Err c.in-Err.error) (c.in-Err.ensures)) c.undecided.ensures
+    failed_tells_call types c.args.self.now c.decide_at.new.self Any c.args.at (event.AskDecide c.args.tx c.args.c.now) c.args.pass (Some c.args.by) (λ (n : Unit {0}) (e : Event g.row.C-Effect.Denot). e ≡ event.Decided c.args.tx c.args.c.now) (step.Unsure c.args.tx) (λ n what k. fault_of c.args.at (step.Unsure c.args.tx) (event.Decided c.args.tx c.args.c.now) refl refl what k) (λ r. r) c.in-Err.error c.undecided.result (calls_here types _ c.args.self.now c.decide_at.new.self c.self.view_is Any c.args.at (event.AskDecide c.args.tx c.args.c.now) (λ (n : Unit {0}) (e : Event g.row.C-Effect.Denot). e ≡ event.Decided c.args.tx c.args.c.now) (Err c.in-Err.error) (c.in-Err.ensures)) c.undecided.ensures _
+    (λ line q. q c.requires.may.run (c.requires.may.seen, c.requires.may.allowed.may, tt))
+
+pub returns-in-Ok-clause-tells : goal.returns-in-Ok-clause-tells
+returns-in-Ok-clause-tells g c =
+    let types = types_of g.C.Crdt.laws g.C.Crdt.spells g.D.Disk.state in
+    exact_tells types c.args.self.now c.decide_at.new.self Any c.args.at (event.AskDecide c.args.tx c.args.c.now) c.args.pass (Some c.args.by) (event.Decided c.args.tx c.args.c.now) (calls_here types _ c.args.self.now c.decide_at.new.self c.self.view_is Any c.args.at (event.AskDecide c.args.tx c.args.c.now) (λ (n : Unit {0}) (e : Event g.row.C-Effect.Denot). e ≡ event.Decided c.args.tx c.args.c.now) (Ok tt) (c.in-Ok.ensures)) (step.Decided c.args.at c.args.tx c.args.c.now) c.requires.may.run (refl) tt (c.requires.may.seen, c.requires.may.allowed.may, tt)

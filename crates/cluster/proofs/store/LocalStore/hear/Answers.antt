@@ -5,7 +5,8 @@ use Rattle.world_model.specs.Event as event
 use Rattle.world_model.specs.Event.{Event}
 use Rattle.site_partitions.specs.Answers.{Any}
 use Rattle.site_partitions.specs.Reaches.{types_of}
-use Rattle.cluster.proofs.Seeing.{calls_here, exact_on, failed_on, failed_stays, failed_tells, called_same, fault_of, may_here}
+use Rattle.cluster.proofs.Seeing.{calls_here, exact_on, failed_on, failed_stays, called_same, fault_of, may_here}
+use Rattle.cluster.proofs.FuelStore.{exact_tells, failed_tells_call}
 use Rattle.cluster.proofs.store.LocalStore.hear.Goals as goal
 
 pub hear_at-requires : goal.hear_at-requires
@@ -40,4 +41,10 @@ returns-in-Err-clause-err g c =
 pub returns-in-Err-clause-tells : goal.returns-in-Err-clause-tells
 returns-in-Err-clause-tells g c =
     let types = types_of g.C.Crdt.laws g.C.Crdt.spells g.D.Disk.state in
-    failed_tells types c.args.self.now c.hear_at.new.self Any c.args.at (event.AskHear c.args.number c.args.part c.args.bounds.now) c.args.pass None (λ (n : List ℕ) (e : Event g.row.C-Effect.Denot). e ≡ event.Heard c.args.number c.args.part c.args.bounds.now n) (step.Disk c.args.at) (λ r. (refl, r)) c.in-Err.error c.failed.result (calls_here types _ c.args.self.now c.hear_at.new.self c.self.view_is Any c.args.at (event.AskHear c.args.number c.args.part c.args.bounds.now) (λ (n : List ℕ) (e : Event g.row.C-Effect.Denot). e ≡ event.Heard c.args.number c.args.part c.args.bounds.now n) (Err c.in-Err.error) (c.in-Err.ensures c.args.number)) c.failed.ensures
+    failed_tells_call types c.args.self.now c.hear_at.new.self Any c.args.at (event.AskHear c.args.number c.args.part c.args.bounds.now) c.args.pass None (λ (n : List ℕ) (e : Event g.row.C-Effect.Denot). e ≡ event.Heard c.args.number c.args.part c.args.bounds.now n) (step.Disk c.args.at) (λ n what k. fault_of c.args.at (step.Disk c.args.at) (event.Heard c.args.number c.args.part c.args.bounds.now n) refl refl what k) (λ r. (refl, r)) c.in-Err.error c.failed.result (calls_here types _ c.args.self.now c.hear_at.new.self c.self.view_is Any c.args.at (event.AskHear c.args.number c.args.part c.args.bounds.now) (λ (n : List ℕ) (e : Event g.row.C-Effect.Denot). e ≡ event.Heard c.args.number c.args.part c.args.bounds.now n) (Err c.in-Err.error) (c.in-Err.ensures c.args.number)) c.failed.ensures _
+    (λ line q. q c.requires.may.run (c.requires.may.seen, c.requires.may.allowed.may, tt))
+
+pub returns-in-Ok-clause-tells : goal.returns-in-Ok-clause-tells
+returns-in-Ok-clause-tells g c =
+    let types = types_of g.C.Crdt.laws g.C.Crdt.spells g.D.Disk.state in
+    exact_tells types c.args.self.now c.hear_at.new.self Any c.args.at (event.AskHear c.args.number c.args.part c.args.bounds.now) c.args.pass None (event.Heard c.args.number c.args.part c.args.bounds.now c.in-Ok.stable) (calls_here types _ c.args.self.now c.hear_at.new.self c.self.view_is Any c.args.at (event.AskHear c.args.number c.args.part c.args.bounds.now) (λ (n : List ℕ) (e : Event g.row.C-Effect.Denot). e ≡ event.Heard c.args.number c.args.part c.args.bounds.now n) (Ok c.in-Ok.stable) (c.in-Ok.ensures c.args.number)) (step.Heard c.args.number c.args.at c.in-Ok.stable) c.requires.may.run (refl) tt (c.requires.may.seen, c.requires.may.allowed.may, tt)

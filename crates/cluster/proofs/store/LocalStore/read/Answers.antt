@@ -10,7 +10,8 @@ use Rattle.world_model.specs.Lines.{step_shown}
 use Rattle.txn_session.specs.Calls.{entries}
 use Rattle.site_partitions.specs.Answers.{Any}
 use Rattle.site_partitions.specs.Reaches.{types_of}
-use Rattle.cluster.proofs.Seeing.{calls_here, seen_at, failed_on, failed_stays, failed_tells, called_same, fault_of, number_is, may_here}
+use Rattle.cluster.proofs.FuelStore.{failed_tells_call, seen_tells}
+use Rattle.cluster.proofs.Seeing.{calls_here, seen_at, failed_on, failed_stays, called_same, fault_of, number_is, may_here}
 use Rattle.cluster.proofs.store.LocalStore.read.Goals as goal
 
 pub read_at-requires-clause-may : goal.read_at-requires-clause-may
@@ -46,4 +47,11 @@ returns-in-Err-read_at-clause-stays g c =
 pub returns-in-Err-read_at-clause-tells : goal.returns-in-Err-read_at-clause-tells
 returns-in-Err-read_at-clause-tells g c =
     let types = types_of g.C.Crdt.laws g.C.Crdt.spells g.D.Disk.state in
-    failed_tells types c.args.self.now c.read_at.new.self Any c.args.at (event.AskRead c.args.tx c.args.s.now c.args.object.now c.args.own.now) c.args.pass (Some c.args.by) (λ (v : Value) (e : Event g.row.C-Effect.Denot). (read : List (Part g.row.C-Effect.Denot)) × (e ≡ event.Read c.args.tx c.args.s.now c.args.object.now c.args.own.now read v)) (step.Disk c.args.at) (λ r. (refl, r)) c.in-Err-read_at.error c.failed.result (calls_here types _ c.args.self.now c.read_at.new.self c.self.view_is Any c.args.at (event.AskRead c.args.tx c.args.s.now c.args.object.now c.args.own.now) (λ (v : Value) (e : Event g.row.C-Effect.Denot). (read : List (Part g.row.C-Effect.Denot)) × (e ≡ event.Read c.args.tx c.args.s.now c.args.object.now c.args.own.now read v)) (Err c.in-Err-read_at.error) c.in-Err-read_at.ensures) c.failed.ensures
+    failed_tells_call types c.args.self.now c.read_at.new.self Any c.args.at (event.AskRead c.args.tx c.args.s.now c.args.object.now c.args.own.now) c.args.pass (Some c.args.by) (λ (v : Value) (e : Event g.row.C-Effect.Denot). (read : List (Part g.row.C-Effect.Denot)) × (e ≡ event.Read c.args.tx c.args.s.now c.args.object.now c.args.own.now read v)) (step.Disk c.args.at) (λ v what k. fault_of c.args.at (step.Disk c.args.at) (event.Read c.args.tx c.args.s.now c.args.object.now c.args.own.now k.0 v) refl refl what k.1) (λ r. (refl, r)) c.in-Err-read_at.error c.failed.result (calls_here types _ c.args.self.now c.read_at.new.self c.self.view_is Any c.args.at (event.AskRead c.args.tx c.args.s.now c.args.object.now c.args.own.now) (λ (v : Value) (e : Event g.row.C-Effect.Denot). (read : List (Part g.row.C-Effect.Denot)) × (e ≡ event.Read c.args.tx c.args.s.now c.args.object.now c.args.own.now read v)) (Err c.in-Err-read_at.error) c.in-Err-read_at.ensures) c.failed.ensures _
+    (λ line q run s a who. q run (s, a.may, tt))
+
+pub returns-in-Ok-read_at-clause-tells : goal.returns-in-Ok-read_at-clause-tells
+returns-in-Ok-read_at-clause-tells g c run s a who =
+    let types = types_of g.C.Crdt.laws g.C.Crdt.spells g.D.Disk.state in
+    seen_tells types c.args.self.now c.read_at.new.self Any c.args.at (event.AskRead c.args.tx c.args.s.now c.args.object.now c.args.own.now) c.args.pass (Some c.args.by) ((λ (v : Value) (e : Event g.row.C-Effect.Denot). (read : List (Part g.row.C-Effect.Denot)) × (e ≡ event.Read c.args.tx c.args.s.now c.args.object.now c.args.own.now read v)) c.in-Ok-read_at.value) (calls_here types _ c.args.self.now c.read_at.new.self c.self.view_is Any c.args.at (event.AskRead c.args.tx c.args.s.now c.args.object.now c.args.own.now) (λ (v : Value) (e : Event g.row.C-Effect.Denot). (read : List (Part g.row.C-Effect.Denot)) × (e ≡ event.Read c.args.tx c.args.s.now c.args.object.now c.args.own.now read v)) (Ok c.in-Ok-read_at.value) c.in-Ok-read_at.ensures) (step.Value c.in-Ok.name c.in-Ok-copy.copy c.in-Ok-read_at.value)
+    run (λ e k. subst (λ x. step.Value c.in-Ok.name c.in-Ok-copy.copy c.in-Ok-read_at.value ≡ step_shown (entries run) c.args.at x) (sym k.1) (λ i. step.Value ((c.in-Ok.ensures ∙ who) i) (c.in-Ok-copy.ensures i) c.in-Ok-read_at.value)) tt (s, a.may, tt)

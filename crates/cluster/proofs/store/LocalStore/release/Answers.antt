@@ -6,7 +6,8 @@ use Rattle.world_model.specs.Event as event
 use Rattle.world_model.specs.Event.{Event}
 use Rattle.site_partitions.specs.Answers.{Any}
 use Rattle.site_partitions.specs.Reaches.{types_of}
-use Rattle.cluster.proofs.Seeing.{calls_here, did_on, exactly, fact_of, called_same, failed_line, line_tells, error_stays, fault_of, may_here}
+use Rattle.cluster.proofs.Seeing.{calls_here, did_on, exactly, fact_of, called_same, failed_line, error_stays, fault_of, may_here}
+use Rattle.cluster.proofs.FuelStore.{line_tells_call}
 use Rattle.cluster.proofs.store.LocalStore.release.Goals as goal
 
 pub release_at-requires-clause-may : goal.release_at-requires-clause-may
@@ -41,7 +42,7 @@ returns-in-Ok-failed-clause-ok g c = (
 pub returns-in-Ok-failed-clause-tells : goal.returns-in-Ok-failed-clause-tells
 returns-in-Ok-failed-clause-tells g c =
     let types = types_of g.C.Crdt.laws g.C.Crdt.spells g.D.Disk.state in
-    line_tells types c.args.self.now c.release_at.new.self Any c.args.at (event.AskMessage c.args.to c.args.from) c.args.pass None (Unit {0}) (λ (m : Message g.row.C-Effect.Denot) (e : Event g.row.C-Effect.Denot). (m.to ≡ c.args.to) × (e ≡ event.Sent c.args.from m)) (step.Disk c.args.at) (λ r. (refl, r)) c.in-Err.error _ (calls_here types _ c.args.self.now c.release_at.new.self c.self.view_is Any c.args.at (event.AskMessage c.args.to c.args.from) (λ (m : Message g.row.C-Effect.Denot) (e : Event g.row.C-Effect.Denot). (m.to ≡ c.args.to) × (e ≡ event.Sent c.args.from m)) (Err c.in-Err.error) c.in-Err.ensures) c.in-Ok-failed.ensures
+    line_tells_call types c.args.self.now c.release_at.new.self Any c.args.at (event.AskMessage c.args.to c.args.from) c.args.pass None (Unit {0}) (λ (m : Message g.row.C-Effect.Denot) (e : Event g.row.C-Effect.Denot). (m.to ≡ c.args.to) × (e ≡ event.Sent c.args.from m)) (step.Disk c.args.at) (λ m what k. fault_of c.args.at (step.Disk c.args.at) (event.Sent c.args.from m) refl refl what k.1) (λ r. (refl, r)) c.in-Err.error _ (calls_here types _ c.args.self.now c.release_at.new.self c.self.view_is Any c.args.at (event.AskMessage c.args.to c.args.from) (λ (m : Message g.row.C-Effect.Denot) (e : Event g.row.C-Effect.Denot). (m.to ≡ c.args.to) × (e ≡ event.Sent c.args.from m)) (Err c.in-Err.error) c.in-Err.ensures) c.in-Ok-failed.ensures c.requires.may.run (c.requires.may.seen, c.requires.may.allowed.may, tt)
 
 pub returns-in-Err-failed-clause-stays : goal.returns-in-Err-failed-clause-stays
 returns-in-Err-failed-clause-stays g c =

@@ -5,7 +5,8 @@ use Rattle.world_model.specs.Event as event
 use Rattle.world_model.specs.Event.{Event}
 use Rattle.site_partitions.specs.Answers.{Any}
 use Rattle.site_partitions.specs.Reaches.{types_of}
-use Rattle.cluster.proofs.Seeing.{calls_still, did_on, called_same, failed_line, line_tells, error_stays, fault_of, place_here}
+use Rattle.cluster.proofs.Seeing.{calls_still, did_on, called_same, failed_line, error_stays, fault_of, place_here}
+use Rattle.cluster.proofs.FuelStore.{line_tells_call}
 use Rattle.cluster.proofs.store.LocalStore.report.Goals as goal
 
 pub report_at-requires : goal.report_at-requires
@@ -34,7 +35,7 @@ returns-in-Ok-failed-clause-ok g c run s =
 pub returns-in-Ok-failed-clause-tells : goal.returns-in-Ok-failed-clause-tells
 returns-in-Ok-failed-clause-tells g c =
     let types = types_of g.C.Crdt.laws g.C.Crdt.spells g.D.Disk.state in
-    line_tells types c.args.self.now c.args.self.now Any c.args.at event.AskReport c.args.pass None (Unit {0}) (λ (b : List ℕ) (e : Event g.row.C-Effect.Denot). e ≡ event.Reported b) (step.Disk c.args.at) (λ r. (refl, r)) c.in-Err.error _ (calls_still types _ c.args.self.now c.self.view_is Any c.args.at event.AskReport (λ (b : List ℕ) (e : Event g.row.C-Effect.Denot). e ≡ event.Reported b) (Err c.in-Err.error) c.in-Err.ensures) c.in-Ok-failed.ensures
+    line_tells_call types c.args.self.now c.args.self.now Any c.args.at event.AskReport c.args.pass None (Unit {0}) (λ (b : List ℕ) (e : Event g.row.C-Effect.Denot). e ≡ event.Reported b) (step.Disk c.args.at) (λ b what k. fault_of c.args.at (step.Disk c.args.at) (event.Reported b) refl refl what k) (λ r. (refl, r)) c.in-Err.error _ (calls_still types _ c.args.self.now c.self.view_is Any c.args.at event.AskReport (λ (b : List ℕ) (e : Event g.row.C-Effect.Denot). e ≡ event.Reported b) (Err c.in-Err.error) c.in-Err.ensures) c.in-Ok-failed.ensures c.requires.may.run (c.requires.may.seen, c.requires.may.allowed.may, tt)
 
 pub returns-in-Err-failed-clause-stays : goal.returns-in-Err-failed-clause-stays
 returns-in-Err-failed-clause-stays g c =

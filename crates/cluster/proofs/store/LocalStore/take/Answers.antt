@@ -5,7 +5,8 @@ use Rattle.world_model.specs.Event as event
 use Rattle.world_model.specs.Event.{Event}
 use Rattle.site_partitions.specs.Answers.{Any}
 use Rattle.site_partitions.specs.Reaches.{types_of}
-use Rattle.cluster.proofs.Seeing.{calls_here, exact_on, failed_on, failed_stays, failed_tells, called_same, fault_of, may_here}
+use Rattle.cluster.proofs.Seeing.{calls_here, exact_on, failed_on, failed_stays, called_same, fault_of, may_here}
+use Rattle.cluster.proofs.FuelStore.{exact_tells, failed_tells_call}
 use Rattle.cluster.proofs.store.LocalStore.take.Goals as goal
 
 pub take_at-requires : goal.take_at-requires
@@ -40,4 +41,10 @@ returns-in-Err-clause-err g c =
 pub returns-in-Err-clause-tells : goal.returns-in-Err-clause-tells
 returns-in-Err-clause-tells g c =
     let types = types_of g.C.Crdt.laws g.C.Crdt.spells g.D.Disk.state in
-    failed_tells types c.args.self.now c.take_at.new.self Any c.args.at (event.AskTake c.args.number c.args.message.now) c.args.pass None (λ (n : Unit {0}) (e : Event g.row.C-Effect.Denot). e ≡ event.Took c.args.number c.args.message.now) (step.Disk c.args.at) (λ r. (refl, r)) c.in-Err.error c.failed.result (calls_here types _ c.args.self.now c.take_at.new.self c.self.view_is Any c.args.at (event.AskTake c.args.number c.args.message.now) (λ (n : Unit {0}) (e : Event g.row.C-Effect.Denot). e ≡ event.Took c.args.number c.args.message.now) (Err c.in-Err.error) (c.in-Err.ensures c.args.number)) c.failed.ensures
+    failed_tells_call types c.args.self.now c.take_at.new.self Any c.args.at (event.AskTake c.args.number c.args.message.now) c.args.pass None (λ (n : Unit {0}) (e : Event g.row.C-Effect.Denot). e ≡ event.Took c.args.number c.args.message.now) (step.Disk c.args.at) (λ n what k. fault_of c.args.at (step.Disk c.args.at) (event.Took c.args.number c.args.message.now) refl refl what k) (λ r. (refl, r)) c.in-Err.error c.failed.result (calls_here types _ c.args.self.now c.take_at.new.self c.self.view_is Any c.args.at (event.AskTake c.args.number c.args.message.now) (λ (n : Unit {0}) (e : Event g.row.C-Effect.Denot). e ≡ event.Took c.args.number c.args.message.now) (Err c.in-Err.error) (c.in-Err.ensures c.args.number)) c.failed.ensures _
+    (λ line q. q c.requires.may.run (c.requires.may.seen, c.requires.may.allowed.may, tt))
+
+pub returns-in-Ok-clause-tells : goal.returns-in-Ok-clause-tells
+returns-in-Ok-clause-tells g c =
+    let types = types_of g.C.Crdt.laws g.C.Crdt.spells g.D.Disk.state in
+    exact_tells types c.args.self.now c.take_at.new.self Any c.args.at (event.AskTake c.args.number c.args.message.now) c.args.pass None (event.Took c.args.number c.args.message.now) (calls_here types _ c.args.self.now c.take_at.new.self c.self.view_is Any c.args.at (event.AskTake c.args.number c.args.message.now) (λ (n : Unit {0}) (e : Event g.row.C-Effect.Denot). e ≡ event.Took c.args.number c.args.message.now) (Ok tt) (c.in-Ok.ensures c.args.number)) (step.Took c.args.number c.args.message.now.hi) c.requires.may.run (refl) tt (c.requires.may.seen, c.requires.may.allowed.may, tt)

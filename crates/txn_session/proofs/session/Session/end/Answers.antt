@@ -1,4 +1,4 @@
-use Rattle.std.proofs.Common.{sym, ap, ◌∙◌, subst}
+use Rattle.std.proofs.Common.{refl, sym, ap, ◌∙◌, subst}
 use Rattle.world_model.specs.declared.step.Step.TheVariants as step
 use Rattle.txn_session.specs.Session.{SessionState, Idle, doing_so}
 use Rattle.txn_session.specs.Opens.{stepped_by, EndsAs}
@@ -19,4 +19,4 @@ pub returns-in-Ok-clause-steps : goal.returns-in-Ok-clause-steps
 returns-in-Ok-clause-steps g c run seen h = makes_none g.S.Store.sees g.S.Store.numbers c.args.store.now c.args.pass run c.args.self.now _ (step.Ended c.in-Ok.name) c.requires.next (λ i. doing_so (c.self.view_is i) Idle) seen h
 
 pub returns-in-Ok-clause-tells : goal.returns-in-Ok-clause-tells
-returns-in-Ok-clause-tells g c = subst (λ x. TellsStep g.S.Store.tells c.args.store.now c.args.store.now c.args.self.now (step.Ended c.in-Ok.name) x) (sym c.requires.next) tt
+returns-in-Ok-clause-tells g c = subst (λ x. TellsStep g.S.Store.tells c.args.store.now c.args.store.now c.args.self.now (step.Ended c.in-Ok.name) x) (sym c.requires.next) refl

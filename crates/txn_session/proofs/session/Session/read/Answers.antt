@@ -4,7 +4,7 @@ use Rattle.crdt_core.specs.Placing.{place_of}
 use Rattle.txn_session.specs.Session.{SessionState, Txn, own_updates}
 use Rattle.txn_session.proofs.Results.{if_ok, if_err}
 use Rattle.txn_session.proofs.Acting.{legal_after, held_after, stays_waits}
-use Rattle.txn_session.proofs.Updating.{doing_open, read_may, read_makes}
+use Rattle.txn_session.proofs.Updating.{doing_open, read_may, read_makes, read_tells}
 use Rattle.txn_session.proofs.session.Session.read.Goals as goal
 
 pub read-pass-requires-clause-may : goal.read-pass-requires-clause-may
@@ -41,4 +41,14 @@ returns-in-Err-answer-clause-waits g c run seen h =
     stays_waits _ g.S.Store.sees g.S.Store.numbers c.read-pass.new.self c.read-pass.result.0 c.args.self.now legal held run h (if_err _ _ _ c.in-Err-answer.is c.read-pass.ensures.err run seen)
 
 pub returns-in-Ok-answer-clause-tells : goal.returns-in-Ok-answer-clause-tells
-returns-in-Ok-answer-clause-tells g c = (record { site = c.self.inside.site; part = c.partition_of.result }, if_ok _ _ _ c.in-Ok-answer.is c.read-pass.ensures.tells)
+returns-in-Ok-answer-clause-tells g c =
+    let f = c.self.inside in
+    let v = c.self.view_is in
+    let txn : Txn g.row.C-Effect.Denot = record { tx = f.tx; s = f.s; by = f.by; updates = f.updates.items } in
+    let od = doing_open _ c.args.self.now v f.stage txn f.lead f.commit refl c.in-Open.is in
+    let eo : c.as_slice-2.result.now ≡ own_updates f.updates.items c.args.object.now = c.as_slice-2.ensures ∙ (c.in-Ok.ensures ∙ ap (λ l. own_updates l c.args.object.now) c.as_slice.ensures.value) in
+    let et = ap (λ (w : SessionState g.row.C-Effect.Denot). w.site) v in
+    let eq = c.partition_of.ensures.place ∙ ap (λ (w : SessionState g.row.C-Effect.Denot). place_of c.args.object.now.bucket c.args.object.now.key w.parts) v in
+    let some = subst (λ (w : SessionState g.row.C-Effect.Denot). 1 ≤ w.parts) v c.self.invariant.least_parts in
+    let ew = ap (λ (w : SessionState g.row.C-Effect.Denot). w.name) v in
+    read_tells (kinds_of g.C.Crdt.laws) g.S.Store.sees g.S.Store.numbers g.S.Store.sites g.S.Store.parts c.args.store.now c.read-pass.new.self c.args.pass c.read-pass.result.0 c.args.self.now txn od c.requires.sites c.requires.parts some c.args.object.now c.as_slice-2.result.now f.site c.partition_of.result eo et eq g.S.Store.tells f.name ew c.in-Ok-answer.step (if_ok _ _ _ c.in-Ok-answer.is c.read-pass.ensures.tells) c.requires.holds

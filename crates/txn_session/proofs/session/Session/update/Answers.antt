@@ -7,7 +7,7 @@ use Rattle.txn_session.specs.Opens.{IsUpdated}
 use Rattle.txn_session.specs.Holds.{MakesUpdate, Waits}
 use Rattle.txn_session.proofs.Results.{if_ok, if_err}
 use Rattle.txn_session.proofs.Acting.{legal_after, held_after, stays_waits}
-use Rattle.txn_session.proofs.Updating.{is_opened, doing_open, pushed_is, kept_is, update_may, unmade_quiet, unmade_same, made_same, made_makes}
+use Rattle.txn_session.proofs.Updating.{is_opened, doing_open, pushed_is, kept_is, update_may, update_tells, unmade_quiet, unmade_same, made_same, made_makes}
 use Rattle.txn_session.proofs.session.Session.update.Goals as goal
 
 pub update-pass-requires-clause-may : goal.update-pass-requires-clause-may
@@ -118,7 +118,31 @@ returns-in-Err-answer-clause-waits g c run seen h =
     subst (λ (w : SessionState g.row.C-Effect.Denot). Waits g.S.Store.sees g.S.Store.numbers c.update-pass.new.self c.update-pass.result.0 run c.args.self.now w) (sym same) (stays_waits _ g.S.Store.sees g.S.Store.numbers c.update-pass.new.self c.update-pass.result.0 c.args.self.now legal held run h (if_err _ _ _ c.in-Err-answer.is c.update-pass.ensures.err run seen))
 
 pub returns-in-Some-made-clause-tells : goal.returns-in-Some-made-clause-tells
-returns-in-Some-made-clause-tells g c = (record { site = c.self.inside.site; part = c.partition_of.result }, if_ok _ _ _ c.in-Ok-answer.is c.update-pass.ensures.tells)
+returns-in-Some-made-clause-tells g c =
+    let f = c.self.inside in
+    let v = c.self.view_is in
+    let txn : Txn g.row.C-Effect.Denot = record { tx = f.tx; s = f.s; by = f.by; updates = f.updates.items } in
+    let k = is_opened g.C.Crdt.too_deep c.args.object.now c.args.op.now _ c.args.self.now v f.stage txn f.lead f.commit refl c.in_default.ensures in
+    let od = doing_open _ c.args.self.now v f.stage txn f.lead f.commit refl k in
+    let eo : c.as_slice-2.result.now ≡ own_updates f.updates.items c.args.object.now = c.as_slice-2.ensures ∙ (c.in-Ok.ensures ∙ ap (λ l. own_updates l c.args.object.now) c.as_slice.ensures.value) in
+    let et = ap (λ (w : SessionState g.row.C-Effect.Denot). w.site) v in
+    let eq = c.partition_of.ensures.place ∙ ap (λ (w : SessionState g.row.C-Effect.Denot). place_of c.args.object.now.bucket c.args.object.now.key w.parts) v in
+    let some = subst (λ (w : SessionState g.row.C-Effect.Denot). 1 ≤ w.parts) v c.self.invariant.least_parts in
+    let ew = ap (λ (w : SessionState g.row.C-Effect.Denot). w.name) v in
+    let ei : c.len.result + 1 ≡ length f.updates.items + 1 = ap (λ n. n + 1) (c.len.ensures ∙ (c.reserve.ensures.len ∙ (sym c.as_slice.ensures.len ∙ ap length c.as_slice.ensures.value))) in
+    update_tells (kinds_of g.C.Crdt.laws) g.S.Store.sees g.S.Store.numbers g.S.Store.sites g.S.Store.parts c.args.store.now c.update-pass.new.self c.args.pass c.update-pass.result.0 c.args.self.now txn od c.requires.sites c.requires.parts some c.args.object.now c.as_slice-2.result.now f.site c.partition_of.result eo et eq c.args.op.now g.S.Store.tells f.name (c.len.result + 1) ew ei c.in-Ok-answer.step (if_ok _ _ _ c.in-Ok-answer.is c.update-pass.ensures.tells) c.requires.holds
 
 pub returns-in-None-clause-tells : goal.returns-in-None-clause-tells
-returns-in-None-clause-tells g c = (record { site = c.self.inside.site; part = c.partition_of.result }, if_ok _ _ _ c.in-Ok-answer.is c.update-pass.ensures.tells)
+returns-in-None-clause-tells g c =
+    let f = c.self.inside in
+    let v = c.self.view_is in
+    let txn : Txn g.row.C-Effect.Denot = record { tx = f.tx; s = f.s; by = f.by; updates = f.updates.items } in
+    let k = is_opened g.C.Crdt.too_deep c.args.object.now c.args.op.now _ c.args.self.now v f.stage txn f.lead f.commit refl c.in_default.ensures in
+    let od = doing_open _ c.args.self.now v f.stage txn f.lead f.commit refl k in
+    let eo : c.as_slice-2.result.now ≡ own_updates f.updates.items c.args.object.now = c.as_slice-2.ensures ∙ (c.in-Ok.ensures ∙ ap (λ l. own_updates l c.args.object.now) c.as_slice.ensures.value) in
+    let et = ap (λ (w : SessionState g.row.C-Effect.Denot). w.site) v in
+    let eq = c.partition_of.ensures.place ∙ ap (λ (w : SessionState g.row.C-Effect.Denot). place_of c.args.object.now.bucket c.args.object.now.key w.parts) v in
+    let some = subst (λ (w : SessionState g.row.C-Effect.Denot). 1 ≤ w.parts) v c.self.invariant.least_parts in
+    let ew = ap (λ (w : SessionState g.row.C-Effect.Denot). w.name) v in
+    let ei : c.len.result + 1 ≡ length f.updates.items + 1 = ap (λ n. n + 1) (c.len.ensures ∙ (c.reserve.ensures.len ∙ (sym c.as_slice.ensures.len ∙ ap length c.as_slice.ensures.value))) in
+    update_tells (kinds_of g.C.Crdt.laws) g.S.Store.sees g.S.Store.numbers g.S.Store.sites g.S.Store.parts c.args.store.now c.update-pass.new.self c.args.pass c.update-pass.result.0 c.args.self.now txn od c.requires.sites c.requires.parts some c.args.object.now c.as_slice-2.result.now f.site c.partition_of.result eo et eq c.args.op.now g.S.Store.tells f.name (c.len.result + 1) ew ei c.in-Ok-answer.step (if_ok _ _ _ c.in-Ok-answer.is c.update-pass.ensures.tells) c.requires.holds

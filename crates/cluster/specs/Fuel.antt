@@ -1,0 +1,87 @@
+-- How the fuse of a partition's disk burns down, and that no fuse of a script lets more pass than it may.
+use Rattle.std.specs.Prelude.{◌≡◌, ℕ, ◌+◌, ◌*◌, ◌≤◌, Bool, true, false, List, [], ◌∷◌, get_or, Option, None, Some, ⊤}
+use Rattle.site_vector.specs.declared.ids.PartId.{PartId}
+use Rattle.disk_core.specs.States.{DiskState}
+use Rattle.world_model.specs.Bounds.{bound}
+use Rattle.world_model.specs.Event.{Event, Entry, Took}
+use Rattle.world_model.specs.Fuses.{Fuse, fuse, IsUnfired, KeepFuses}
+use Rattle.world_model.specs.Lines.{Line, lines_of, step_shown}
+use Rattle.world_model.specs.declared.step.Step.{Step}
+use Rattle.world_model.specs.Restarts as restarts
+use Rattle.world_model.specs.Resumed.{brings}
+use Rattle.world_model.specs.Run.{Run}
+use Rattle.partition_core.specs.Durable.{Durable, disk_in}
+use Rattle.partition_core.specs.Moments.{Spends}
+use Rattle.site_partitions.specs.Held.{Held, index_of, holds_part}
+use Rattle.site_partitions.specs.Moves.{Moves}
+use Rattle.site_partitions.specs.Reaches.{Types, Reaches}
+use Rattle.cluster.specs.Faults.{TellsFault}
+
+-- A fuse burns, and of the calls that are left the one that fires it is this one at the latest.
+pub record IsBurning (left : Option ℕ) (most : ℕ) : Type 0 where
+  pub calls : ℕ
+  pub is : left ≡ Some calls
+  pub some : 1 ≤ calls
+  pub few : calls ≤ most
+
+-- A fuse that burns burns still, and so many calls at least are taken off.
+abbrev pub Burns : ℕ → Option ℕ → Option ℕ → Type 0
+Burns n old new = (most : ℕ) → IsBurning old (most + n) → IsBurning new most
+
+-- a fuse of the script burns on the disk, and four calls are taken off for each line that shows that its partition wrote
+abbrev pub BurnsBy : Option Fuse → Option ℕ → Type 0
+BurnsBy None left = ⊤
+BurnsBy (Some f) left = (most : ℕ) × (most + f.written * 4 ≤ f.fires_at) × IsBurning left most
+
+-- and there is none where no partition is
+abbrev pub BurnsAt : Bool → Option Fuse → Option ℕ → Type 0
+BurnsAt true f left = BurnsBy f left
+BurnsAt false f left = f ≡ None
+
+module _ {E : Type 0} where
+  -- what was taken brought a part above the bound where the whole run tells so
+  abbrev pub IsBrought : List Line → List Line → PartId → Event E → Type 0
+  IsBrought whole ls p (Took number m) = restarts.brings whole p m.from (bound ls p m.from) m.hi ≡ true → brings m (bound ls p m.from) ≡ true
+  IsBrought whole ls p other = ⊤
+
+  abbrev pub AreBrought : List Line → List (Entry E) → Type 0
+  AreBrought whole [] = ⊤
+  AreBrought whole (e ∷ run) = IsBrought whole (lines_of run) e.at e.event × AreBrought whole run
+
+module _ {E D : Type 0} (state : D → DiskState) where
+  -- the calls that are left of the disk of the partition at this place, where one stands there
+  abbrev pub left_at : Held E D → PartId → Durable E D → Option ℕ
+  left_at c p other = (disk_in state (get_or c.partitions (index_of c.parts p) other)).left
+
+  -- the fuses in force after this run of a script burn on the disks of the cluster, and none let more pass than it may
+  pub record IsFueled (c : Held E D) (whole : List Line) (run : Run) : Type 0 where
+    pub keeps : KeepFuses whole run
+    pub unfired : (p : PartId) → IsUnfired (fuse whole run p)
+    pub burns : (p : PartId) (other : Durable E D) → BurnsAt (holds_part c p) (fuse whole run p) (left_at c p other)
+
+  -- whatever the whole run will be, if it tells of these events what they brought
+  abbrev pub Fueled : Held E D → Run → List (Entry E) → Type 0
+  Fueled c run events = (whole : List Line) → AreBrought whole events → IsFueled c whole run
+
+-- no fuse was in force after any of these lines
+pub record IsUnlit (whole : List Line) (run : Run) : Type 0 where
+  pub keeps : KeepFuses whole run
+  pub none : (p : PartId) → fuse whole run p ≡ None
+
+abbrev pub Unlit : Run → Type 0
+Unlit run = (whole : List Line) → IsUnlit whole run
+
+-- some run that the old cluster had reached goes on by an event of this partition alone that shows the line, with what that takes of the
+-- calls of its disk
+pub record Spent {S E D : Type 0} (w : Types S E D) (old new : Held E D) (at : PartId) (line : Step) : Type 0 where
+  pub moves : Moves w.state old new at
+  pub run : List (Entry E)
+  pub reached : Reaches w old run
+  pub event : Event E
+  pub shows : step_shown run at event ≡ line
+  pub next : Reaches w new ((record { at = at; event = event }) ∷ run)
+  pub spends : Spends w.kinds w.codec w.state moves.before moves.after (reached.state at) event
+
+-- what the line of a call of this partition tells of its disk: that it failed, where it did, and what it took of its calls
+abbrev pub TellsCall : {S E D : Type 0} (w : Types S E D) → Held E D → Held E D → PartId → Step → Type 0
+TellsCall w old new at line = TellsFault w.state old new at line × Spent w old new at line
