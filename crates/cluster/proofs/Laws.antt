@@ -82,9 +82,9 @@ module _ {S E D : Type 0} (types : Types S E D) where
 
   stands_up : (t : Durable E D) (q : PartState E) → q.up ≡ true → StandsOn types.codec types.state t q → StandsUp types.codec types.state t q
   stands_up t q u = elim (durable.is_down t) as (λ b. StandsSo types.codec types.state t q b → StandsUp types.codec types.state t q) [
-        | true ↦ λ s. absurd (true≢false (sym u ∙ s.down))
-        | false ↦ λ s. s
-      ]
+    | true ↦ λ s. absurd (true≢false (sym u ∙ s.down))
+    | false ↦ λ s. s
+  ]
 
   -- a partition that is up by the lines of the run holds one
   pub log_left : (w : WholeState E D) (run : Run) (r : Reached types (Some w) run) (p : PartId) (t : Durable E D) → IsPlace (sites_of run) (parts_of run) p → is_down (calls_of run) p ≡ false → ((other : Durable E D) → get_or w.live.sites.partitions (index_of (parts_of run) p) other ≡ t) → HoldsLeft (sites_of run) (parts_of run) (history (Some w) run r).events p t
