@@ -13,6 +13,7 @@ use Rattle.world_model.specs.declared.command.Command.TheVariants as command
 use Rattle.world_model.specs.declared.step.Step.{Step}
 use Rattle.world_model.specs.declared.step.Step.TheVariants as step
 use Rattle.world_model.specs.Cluster.{has_cluster, sites_of, parts_of}
+use Rattle.world_model.specs.Plan.{IsPlace}
 use Rattle.world_model.specs.Run.{Run, lines_of}
 use Rattle.world_model.specs.Answers.{Asked, nothing, unreadable, asks, answered}
 use Rattle.world_model.specs.ScriptAnswers.{GoesOn, Answers, IsMade, AnswersBy, IsAnswer}
@@ -122,7 +123,7 @@ module _ {D : Type 0} (state : D → DiskState) where
   made_size : (sites parts : ℕ) (steps : List Step) → IsMade sites parts steps → (sites_of (answered 0 (Some (command.Cluster sites parts)) steps []) * parts_of (answered 0 (Some (command.Cluster sites parts)) steps [])) ≤ sites * parts
   made_size sites parts steps m = ⊎_elim
       (λ (e : steps ≡ step.MadeCluster sites parts ∷ []). subst (λ l. (sites_of (answered 0 (Some (command.Cluster sites parts)) l []) * parts_of (answered 0 (Some (command.Cluster sites parts)) l [])) ≤ sites * parts) (sym e) (omega arith))
-      (λ (x : (at : PartId) × _ × (steps ≡ step.Disk at ∷ [])). subst (λ l. (sites_of (answered 0 (Some (command.Cluster sites parts)) l []) * parts_of (answered 0 (Some (command.Cluster sites parts)) l [])) ≤ sites * parts) (sym x.1.1) (omega arith))
+      (λ (x : (at : PartId) × IsPlace sites parts at × (steps ≡ step.Disk at ∷ [])). subst (λ l. (sites_of (answered 0 (Some (command.Cluster sites parts)) l []) * parts_of (answered 0 (Some (command.Cluster sites parts)) l [])) ≤ sites * parts) (sym x.2) (omega arith))
       m
 
   pub out_made : (new : Standing D) (sites parts : ℕ) (steps : List Step) (out : ℕ) → sites * parts ≤ out → Applies (types (fused_state state)) None (command.Cluster sites parts) steps new → HasOut state out new

@@ -8,7 +8,9 @@ use Rattle.disk_core.specs.declared.fused.Fused.{Fused}
 use Rattle.disk_makers.specs.Makers.{Maker, IsMade}
 use Rattle.gate_log.specs.Rest.{AtRest}
 use Rattle.site_partitions.specs.Made.{AreBlank}
-use Rattle.dc_engine.specs.Makers.{IsKept}
+use Rattle.site_vector.specs.declared.ids.PartId.{PartId}
+use Rattle.dc_engine.specs.Makers.{IsKept, first_place, next_place}
+use Rattle.dc_engine.proofs.Returned.{close_by}
 
 module _ {D : Type 0} (state : D → DiskState) where
   -- one more disk, with a fuse that isn't armed
@@ -16,20 +18,20 @@ module _ {D : Type 0} (state : D → DiskState) where
   blank_more [] disk fused m e b = ((8, subst (λ s. AtRest s 8 []) (sym e) (record { tells = m.log.tells; settled = m.log.settled; log = m.log.log; place = m.log.place })), tt)
   blank_more (f ∷ made) disk fused m e b = (b.0, blank_more made disk fused m e b.1)
 
-  -- so many are made, and as many more are out
-  pub record IsMaking (count : ℕ) (start now : Maker D) (made : List (Fused D)) (site : ℕ) : Type 0 where
-    pub most : length made ≤ count
+  -- some are made, and as many more are out; so many are left to make
+  pub record IsMaking (count : ℕ) (start now : Maker D) (made : List (Fused D)) (at : PartId) (left : ℕ) : Type 0 where
+    pub all : length made + left ≡ count
     pub few : count ≤ 128
-    pub near : site ≤ 1 + length made
+    pub near : at.site ≤ 1 + length made
     pub blank : AreBlank (fused_state state) made
     pub out : now.out ≡ start.out + length made
     pub later : start.faults ≤ now.faults
     pub same : IsKept start now
 
-  pub making_start : (sites parts count : ℕ) (start : Maker D) → sites ≤ 8 → parts ≤ 16 → count ≡ sites * parts → IsMaking count start start [] 1
-  making_start sites parts count start s p e = record {
-    most = omega arith;
-    few = let up : sites * parts ≤ 8 * 16 = mul-le sites parts 8 16 s p in omega (arith, up, e);
+  pub making_start : (sites parts : ℕ) (start : Maker D) → sites ≤ 8 → parts ≤ 16 → IsMaking (sites * parts) start start [] first_place (sites * parts)
+  making_start sites parts start s p = record {
+    all = omega arith;
+    few = let up : sites * parts ≤ 8 * 16 = mul-le sites parts 8 16 s p in omega (arith, up);
     near = omega arith;
     blank = tt;
     out = omega arith;
@@ -37,11 +39,11 @@ module _ {D : Type 0} (state : D → DiskState) where
     same = record { tells = refl; given = refl };
   }
 
-  pub making_more : (count : ℕ) (start now new : Maker D) (made more : List (Fused D)) (site next : ℕ) → IsMaking count start now made site → length made < count → length more ≡ length made + 1 → next ≤ site + 1 → AreBlank (fused_state state) more → new.out ≡ now.out + 1 → now.faults ≤ new.faults → IsKept now new → IsMaking count start new more next
-  making_more count start now new made more site next m below counted close blank out later same = record {
-    most = omega (arith, below, counted);
+  pub making_more : (count : ℕ) (start now new : Maker D) (made more : List (Fused D)) (parts : ℕ) (at next : PartId) (left : ℕ) → IsMaking count start now made at left → 0 < left → length more ≡ length made + 1 → next ≡ next_place parts at → AreBlank (fused_state state) more → new.out ≡ now.out + 1 → now.faults ≤ new.faults → IsKept now new → IsMaking count start new more next (left - 1)
+  making_more count start now new made more parts at next left m some counted e blank out later same = record {
+    all = let a = m.all in omega (arith, a, some, counted);
     few = m.few;
-    near = let a = m.near in omega (arith, a, counted, close);
+    near = let a = m.near in let b = close_by parts at next e in omega (arith, a, counted, b);
     blank = blank;
     out = let a = m.out in omega (arith, a, out, counted);
     later = let a = m.later in omega (arith, a, later);

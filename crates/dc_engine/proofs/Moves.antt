@@ -1,5 +1,6 @@
 -- A state that answers lines, and what it has read, kept and replied.
 use Rattle.std.proofs.Common.{◌≡◌, ℕ, ◌+◌, List, [], ◌∷◌, ◌++◌, ◌-◌, length, take, drop, min, ◌==◌, true, refl, sym, ap, ◌∙◌, subst, append_assoc}
+use Rattle.std.specs.Prelude.{Result, Ok, Err, OnOk}
 use Rattle.std.proofs.lemmas.List.{append-nil, take-append-drop}
 use Rattle.dc_engine.specs.Reading.{makes_cluster}
 use Rattle.dc_engine.specs.Replies.{AnswersLine}
@@ -113,3 +114,19 @@ moves_before reached old mid block rest piece kept mid_kept out mid_out new_out 
   making = subst (λ l. makes_cluster (take 4098 (mid_kept ++ l)) ≡ true) p h;
   moves = t.moves;
 })
+
+-- a line of which nothing was kept before makes a cluster as its front does
+pub makes_front : (kept piece : List ℕ) (n : ℕ) → (length kept == 0) ≡ true → n ≡ min 4098 (length piece) → makes_cluster (take n piece) ≡ true → makes_cluster (take 4098 (kept ++ piece)) ≡ true
+makes_front kept piece n h e m = subst (λ l. makes_cluster l ≡ true) (front_of kept piece n h e) m
+
+pub on_ok : {T X : Type 0} (r : Result T X) (P Q : Type 0) → (P → Q) → OnOk r P → OnOk r Q
+on_ok (Ok x) P Q f p = f p
+on_ok (Err e) P Q f p = tt
+
+-- an error in place of another value
+abbrev other_err : {A B X : Type 0} → X → Result A X → Result B X
+other_err d (Ok a) = Err d
+other_err d (Err e) = Err e
+
+pub err_as : {A B X : Type 0} (x y : X) → ◌≡◌ {A = Result A X} (Err x) (Err y) → ◌≡◌ {A = Result B X} (Err x) (Err y)
+err_as x y e = ap (other_err x) e

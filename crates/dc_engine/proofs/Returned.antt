@@ -1,6 +1,7 @@
 -- The disks of a cluster that go back to their maker.
 use Rattle.std.proofs.Common.{◌≡◌, ℕ, zero, suc, ◌+◌, ◌-◌, ◌*◌, ◌<◌, ◌≤◌, List, [], ◌∷◌, ◌++◌, length, get_or, Option, None, Some, refl, sym, ap, ◌∙◌, subst, arith, append_assoc}
-use Rattle.std.specs.Prelude.{map, IsTrue}
+use Rattle.std.proofs.lemmas.Bool.{true≢false}
+use Rattle.std.specs.Prelude.{map, is_some, IsTrue, true, false, nat_lt, if◌then◌else◌}
 use Rattle.std.proofs.lemmas.List.{append-nil}
 use Rattle.std.proofs.lemmas.Nat.{mul-le}
 use Rattle.std.proofs.Math.Nat.{add-mul}
@@ -19,29 +20,40 @@ use Rattle.world_model.specs.Run.{Run}
 use Rattle.world_model.specs.ScriptCalls.{calls_of}
 use Rattle.site_partitions.specs.Held.{index_of, IsSized}
 use Rattle.cluster.specs.Post.{WholeState}
-use Rattle.cluster.specs.Reached.{partitions_in, SizedIn}
-use Rattle.cluster.proofs.Laws.{history, log_left}
+use Rattle.site_partitions.specs.Made.{HandsBack}
+use Rattle.site_partitions.specs.declared.make.MakeError.{MakeError}
+use Rattle.site_partitions.specs.declared.make.MakeError.TheVariants as make
+use Rattle.world_model.specs.declared.command.Command.TheVariants as command
+use Rattle.world_model.specs.declared.step.Step.{Step}
+use Rattle.cluster.specs.Reached.{Applies, parts_in, partitions_in, SizedIn}
+use Rattle.cluster.proofs.Laws.{history, log_left, none_made}
 use Rattle.dc_engine.specs.Answered.{Answered, AnsweredWhole}
 use Rattle.dc_engine.specs.GivenBack.{HoldsLogOf, GivenBack}
 use Rattle.dc_engine.specs.Held.{Standing, IsLeft, Reached, HasOut}
-use Rattle.dc_engine.specs.Makers.{IsKept, GivesBack, ReturnsAll, disk_from, with_places, next_place, first_place}
+use Rattle.dc_engine.specs.Makers.{IsKept, GivesBack, ReturnsAll, FailsAt, number_or_none, disk_from, with_places, next_place, first_place}
 use Rattle.dc_engine.specs.ObjectKinds.{Effect, kinds, types}
+
+pub close_by : (parts : ℕ) (at next : PartId) → next ≡ next_place parts at → next.site ≤ at.site + 1
+close_by parts at next e = elim (nat_lt at.part parts) as (λ b. next ≡ (if b then record { site = at.site; part = at.part + 1 } else record { site = at.site + 1; part = 1 }) → next.site ≤ at.site + 1) [
+  | true ↦ λ k. subst (λ (p : PartId). p.site ≤ at.site + 1) (sym k) (omega arith)
+  | false ↦ λ k. subst (λ (p : PartId). p.site ≤ at.site + 1) (sym k) (omega arith)
+] e
 
 module _ {D : Type 0} where
   -- the first disks were given back, and with the rest all are
   pub record IsGiving (parts : ℕ) (all : List D) (start : Maker D) (at : PartId) (rest : List D) (now : Maker D) : Type 0 where
     pub enough : length rest ≤ now.out
     pub near : at.site + length rest ≤ 129
-    pub then : (end : Maker D) → GivesBack parts at rest now end → GivesBack parts first_place all start end
+    pub goes : (end : Maker D) → GivesBack parts at rest now end → GivesBack parts first_place all start end
 
   pub giving_start : (parts : ℕ) (all : List D) (start : Maker D) → length all ≤ 128 → length all ≤ start.out → IsGiving parts all start first_place all start
-  giving_start parts all start few enough = record { enough = enough; near = omega (arith, few); then = λ end g. g }
+  giving_start parts all start few enough = record { enough = enough; near = omega (arith, few); goes = λ end g. g }
 
-  pub giving_more : (parts : ℕ) (all : List D) (start : Maker D) (at : PartId) (d : D) (rest : List D) (now new : Maker D) → IsGiving parts all start at (d ∷ rest) now → TakesBack at d now new → (next : PartId) → next ≡ next_place parts at → next.site ≤ at.site + 1 → IsGiving parts all start next rest new
-  giving_more parts all start at d rest now new g t next e close = record {
+  pub giving_more : (parts : ℕ) (all : List D) (start : Maker D) (at : PartId) (d : D) (rest : List D) (now new : Maker D) → IsGiving parts all start at (d ∷ rest) now → TakesBack at d now new → (next : PartId) → next ≡ next_place parts at → IsGiving parts all start next rest new
+  giving_more parts all start at d rest now new g t next e = record {
     enough = let a = g.enough in let b = t.out in omega (arith, a, b);
-    near = let a = g.near in omega (arith, a, close);
-    then = λ end h. g.then end (record {
+    near = let a = g.near in let b = close_by parts at next e in omega (arith, a, b);
+    goes = λ end h. g.goes end (record {
       out = let a = t.out in let b = h.out in omega (arith, a, b);
       faults = h.faults ∙ t.faults;
       tells = h.tells ∙ t.tells;
@@ -49,8 +61,9 @@ module _ {D : Type 0} where
     });
   }
 
-  pub giving_end : (parts : ℕ) (all : List D) (start : Maker D) (at : PartId) (rest : List D) (now : Maker D) → rest ≡ [] → IsGiving parts all start at rest now → GivesBack parts first_place all start now
-  giving_end parts all start at rest now e g = g.then now (subst (λ l. GivesBack parts at l now now) (sym e) (record { out = omega arith; faults = refl; tells = refl; given = λ t. sym (append-nil now.given) }))
+  pub giving_end : {A : Type 0} (f : A → D) (parts : ℕ) (all : List D) (start : Maker D) (at : PartId) (rest : List A) (now : Maker D) → length rest ≤ 0 → IsGiving parts all start at (map f rest) now → GivesBack parts first_place all start now
+  giving_end f parts all start at [] now e g = g.goes now (record { out = omega arith; faults = refl; tells = refl; given = λ t. sym (append-nil now.given) })
+  giving_end f parts all start at (x ∷ rest) now e g = absurd (omega (arith, e))
 
 -- a place lies within the list
 row_after : (parts site : ℕ) → 1 ≤ site → site * parts ≡ (site - 1) * parts + parts
@@ -81,22 +94,45 @@ stands_in f (x ∷ xs) (suc i) other h = let more = stands_in f xs i other (omeg
 pub few_of : (sites parts n : ℕ) → IsSized sites parts n → n ≤ 128
 few_of sites parts n s = let up : sites * parts ≤ 8 * 16 = mul-le sites parts 8 16 s.most_sites s.most_parts in let all = s.all in omega (arith, up, all)
 
+some_none : {n : ℕ} → Some n ≡ None → ⊥
+some_none {n} e = true≢false (ap is_some e)
+
 module _ {D : Type 0} (state : D → DiskState) where
   -- a disk without its fuse holds what it holds with it
   unfused : (disk : Fused D) (end : ℕ) (payloads : List (List ℕ)) → AtRest (fused_state state disk) end payloads → AtRest (state (inside disk)) end payloads
   unfused disk end payloads a = record { tells = a.tells; settled = a.settled; log = a.log; place = a.place }
 
+  pub few_in : (c : Standing D) → SizedIn c → length (partitions_in c) ≤ 128
+  few_in None s = omega arith
+  few_in (Some w) s = few_of w.live.sites.sites w.live.sites.parts (length w.live.sites.partitions) s
+
   -- as many disks are out as the cluster has partitions
-  pub enough_out : (w : WholeState Effect (Fused D)) (out : ℕ) → SizedIn (Some w) → HasOut state out (Some w) → length w.live.sites.partitions ≤ out
-  enough_out w out s h =
+  pub enough_in : (c : Standing D) (out : ℕ) → SizedIn c → HasOut state out c → length (partitions_in c) ≤ out
+  enough_in None out s h = omega arith
+  enough_in (Some w) out s h =
       let e : length w.live.sites.partitions ≡ sites_of h.run * parts_of h.run = s.all ∙ (λ i. h.left.live.sites i * h.left.live.parts i) in
       let enough = h.enough in omega (arith, e, enough)
+
+  pub returns_some : (c : Standing D) (n : ℕ) (items : List (Durable Effect (Fused D))) (old new : Maker D) → parts_in c ≡ Some n → items ≡ partitions_in c → SizedIn c → GivesBack n first_place (map disk_from items) old new → ReturnsAll c old new
+  returns_some c n items old new e is s b = record {
+    sized = s;
+    back = subst (λ k. GivesBack k first_place (map disk_from (partitions_in c)) old new) (sym (ap number_or_none e)) (subst (λ l. GivesBack n first_place (map disk_from l) old new) is b);
+  }
+
+  pub returns_none : (c : Standing D) (old : Maker D) → parts_in c ≡ None → SizedIn c → ReturnsAll c old old
+  returns_none None old e s = record { sized = s; back = record { out = omega arith; faults = refl; tells = refl; given = λ t. sym (append-nil old.given) } }
+  returns_none (Some w) old e s = absurd (some_none e)
+
+  -- a cluster that doesn't come up for the disk of one of its partitions
+  pub failed_applies : (sites parts : ℕ) (disks : List (Fused D)) (error : MakeError (Fused D)) (steps : List Step) (new : Standing D) → new ≡ None → HandsBack (fused_state state) sites parts disks error → FailsAt error steps → Applies (types (fused_state state)) None (command.Cluster sites parts) steps new
+  failed_applies sites parts disks make.NoMemory steps new n h f = absurd f
+  failed_applies sites parts disks (make.Partition at disk why) steps new n h f = subst (λ (c : Standing D). Applies (types (fused_state state)) None (command.Cluster sites parts) steps c) (sym n) (none_made (types (fused_state state)) sites parts at steps h.0 f.1)
 
   -- what was played is told of the disks too
   returned : (c : Standing D) (run : Run) (left : IsLeft state c run) (start mid end : Maker D) → IsKept start mid → ReturnsAll c mid end → IsTrue start.tells → GivenBack state run (history (types (fused_state state)) c run left).events start end
   returned None run b start mid end kept back tells = record {
     disks = [];
-    all = let e = b.sites in sym (ap (λ n. n * parts_of run) e);
+    all = let e = b.sites in let none : 0 * parts_of run ≡ 0 = omega arith in sym (ap (λ n. n * parts_of run) e ∙ none);
     given = back.back.given (subst IsTrue (sym kept.tells) tells) ∙ ap (λ l. l ++ []) kept.given;
     logs = λ p place up other. let e = b.sites in let least = place.least_site in let most = place.most_site in absurd (omega (arith, e, least, most));
   }
@@ -114,7 +150,7 @@ module _ {D : Type 0} (state : D → DiskState) where
             (record { log = l.log; left = l.left; end = _; at_rest = unfused (disk_of s.one.gates) _ _ l.records.is_open.at_rest; spelled = l.records.spelled });
       }
 
-  pub reached_answered : (c : Standing D) (lines : List (List ℕ)) (bytes : List ℕ) → Reached state c lines bytes → Answered lines bytes
+  abbrev pub reached_answered : (c : Standing D) (lines : List (List ℕ)) (bytes : List ℕ) → Reached state c lines bytes → Answered lines bytes
   reached_answered c lines bytes r = record { run = r.run; answers = r.answers; history = history (types (fused_state state)) c r.run r.left; written = r.written }
 
   pub reached_whole : (c : Standing D) (start mid end : Maker D) → IsKept start mid → ReturnsAll c mid end → (lines : List (List ℕ)) (bytes : List ℕ) → Reached state c lines bytes → AnsweredWhole state start end lines bytes

@@ -53,7 +53,7 @@ one_makes : (s : Step) (steps : List Step) → steps ≡ s ∷ [] → is_cluster
 one_makes s steps e h = subst MakeNone (sym e) (h, tt)
 
 called_makes : (run : Run) (c : Command) (steps : List Step) → IsOneAnswer run c steps → MakeNone steps
-called_makes run c steps a = one_makes a.0 steps a.1.0 (answer_makes a.0 (and_parts (is_answer a.0) _ a.1.1.0).0)
+called_makes run c steps a = one_makes a.0 steps a.1 (answer_makes a.0 (and_parts (is_answer a.0) _ a.2).0)
 
 either_makes : (b : Bool) (A B C : Type 0) → (A → C) → (B → C) → Either b A B → C
 either_makes true A B C f g h = f h
@@ -62,16 +62,16 @@ either_makes false A B C f g h = g h
 end_makes : (rest : List Step) → rest ≡ [] → MakeNone rest
 end_makes rest e = subst MakeNone (sym e) tt
 
+then_makes : (n : Next) (A : Type 0) (rest : List Step) → (A → MakeNone rest) → Then n (rest ≡ []) A → MakeNone rest
+then_makes next.Stay A rest f x = end_makes rest x
+then_makes next.Go A rest f x = f x
+
 steps_make : (name : List ℕ) (g : Going) (k : Option ℕ) (steps : List Step) → Steps name g k steps → MakeNone steps
 steps_make name g k [] h = tt
 steps_make name g k (s ∷ rest) h = either_makes (is_done g) _ _ (MakeNone (s ∷ rest))
     (λ x. (ap is_cluster x.0, end_makes rest x.1))
-    (λ x. (answer_makes s x.1.0, then_makes (after g s).1 x.1.1))
+    (λ x. (answer_makes s x.1, then_makes (after g s).1 (Steps name (after g s).0 (fewer k) rest) rest (steps_make name (after g s).0 (fewer k) rest) x.2))
     h
-  where
-    then_makes : (n : Next) → Then n (rest ≡ []) (Steps name (after g s).0 (fewer k) rest) → MakeNone rest
-    then_makes next.Stay x = end_makes rest x
-    then_makes next.Go x = steps_make name (after g s).0 (fewer k) rest x
 
 ends_make : (name : List ℕ) (o : Option Going) (f : Going → Going) (k : Option ℕ) (steps : List Step) → StepsOf name o f k steps → MakeNone steps
 ends_make name None f k steps h = absurd h
@@ -98,7 +98,7 @@ settles_make parts ls p waits [] h = absurd h
 settles_make parts ls p [] (s ∷ rest) h = (ap is_cluster h.0, end_makes rest h.1)
 settles_make parts ls p (x ∷ waits) (s ∷ rest) h = ⊎_elim
     (λ (y : (s ≡ settled parts ls p x.0) × SettlesAll parts ls p waits rest). (ap is_cluster y.0 ∙ settled_makes parts ls p x.0, settles_make parts ls p waits rest y.1))
-    (λ (y : (stays parts ls p x.0 ≡ false) × (is_unwritten s ≡ true) × (rest ≡ [])). (unwritten_makes s y.1.0, end_makes rest y.1.1))
+    (λ (y : (stays parts ls p x.0 ≡ false) × (is_unwritten s ≡ true) × (rest ≡ [])). (unwritten_makes s y.1, end_makes rest y.2))
     h
 
 replies_make : (run : Run) (c : Command) (steps : List Step) → is_making c ≡ false → Replies run c steps → MakeNone steps
@@ -132,26 +132,26 @@ due_makes (x ∷ rest) h = elim x.0 as (λ b. OnDue (if b then Some x.1 else fir
 
 refuse_only : (run : Run) (c : Command) → RefuseOnly (meets run c)
 refuse_only run (command.Cluster sites parts) = (refl, tt)
-refuse_only run (command.Clock p n) = (refl, refl, tt)
-refuse_only run (command.Session name site) = (refl, refl, refl, refl, tt)
-refuse_only run (command.Move name site) = (refl, refl, refl, refl, tt)
-refuse_only run (command.Lose name) = (refl, refl, tt)
-refuse_only run (command.Begin name part) = (refl, refl, refl, refl, refl, tt)
-refuse_only run (command.Read name o) = (refl, refl, refl, tt)
-refuse_only run (command.Update name o op) = (refl, refl, refl, refl, refl, tt)
-refuse_only run (command.Commit name steps) = (refl, refl, refl, tt)
-refuse_only run (command.Abort name) = (refl, refl, refl, tt)
-refuse_only run (command.Send p site from) = (refl, refl, refl, tt)
-refuse_only run (command.Deliver number) = (refl, refl, tt)
-refuse_only run (command.DropMessage number) = (refl, refl, tt)
-refuse_only run (command.DropReport number) = (refl, refl, tt)
-refuse_only run (command.Report p) = (refl, refl, refl, tt)
-refuse_only run (command.Hear number p) = (refl, refl, refl, refl, tt)
-refuse_only run (command.Expire p t) = (refl, refl, tt)
-refuse_only run (command.Settle p) = (refl, refl, tt)
-refuse_only run (command.Crash p) = (refl, refl, tt)
-refuse_only run (command.Fuse p k n) = (refl, refl, tt)
-refuse_only run (command.Restart p) = (refl, refl, tt)
+refuse_only run (command.Clock p n) = (refl, (refl, tt))
+refuse_only run (command.Session name site) = (refl, (refl, (refl, (refl, tt))))
+refuse_only run (command.Move name site) = (refl, (refl, (refl, (refl, tt))))
+refuse_only run (command.Lose name) = (refl, (refl, tt))
+refuse_only run (command.Begin name part) = (refl, (refl, (refl, (refl, (refl, tt)))))
+refuse_only run (command.Read name o) = (refl, (refl, (refl, tt)))
+refuse_only run (command.Update name o op) = (refl, (refl, (refl, (refl, (refl, tt)))))
+refuse_only run (command.Commit name steps) = (refl, (refl, (refl, tt)))
+refuse_only run (command.Abort name) = (refl, (refl, (refl, tt)))
+refuse_only run (command.Send p site from) = (refl, (refl, (refl, tt)))
+refuse_only run (command.Deliver number) = (refl, (refl, tt))
+refuse_only run (command.DropMessage number) = (refl, (refl, tt))
+refuse_only run (command.DropReport number) = (refl, (refl, tt))
+refuse_only run (command.Report p) = (refl, (refl, (refl, tt)))
+refuse_only run (command.Hear number p) = (refl, (refl, (refl, (refl, tt))))
+refuse_only run (command.Expire p t) = (refl, (refl, tt))
+refuse_only run (command.Settle p) = (refl, (refl, tt))
+refuse_only run (command.Crash p) = (refl, (refl, tt))
+refuse_only run (command.Fuse p k n) = (refl, (refl, tt))
+refuse_only run (command.Restart p) = (refl, (refl, tt))
 
 by_met : (run : Run) (c : Command) (steps : List Step) (o : Option Step) → OnDue o → (o ≡ None → Replies run c steps → MakeNone steps) → AnswersBy run c steps o → MakeNone steps
 by_met run c steps None d f h = f refl h
@@ -170,7 +170,7 @@ not_again run (command.Cluster sites parts) m h e = absurd (elim (has_cluster ru
 not_again run other m h e = off m
 
 pub answer_makes_none : (run : Run) (c : Command) (steps : List Step) → (is_making c ≡ true → has_cluster run ≡ true) → IsAnswer is_built run c steps → MakeNone steps
-answer_makes_none run c steps once a = by_met run c steps (met is_built run c) (due_makes _ (refl, refuse_only run c))
+answer_makes_none run c steps once a = by_met run c steps (met is_built run c) (due_makes ((not (is_built c), step.Unbuilt) ∷ meets run c) (refl, refuse_only run c))
     (λ none. elim (is_making c) as (λ b. is_making c ≡ b → Replies run c steps → MakeNone steps) [
       | true ↦ λ m h. absurd (not_again run c m (once m) none)
       | false ↦ λ m h. replies_make run c steps m h

@@ -27,6 +27,10 @@ abbrev pub with_places : {D : Type 0} → ℕ → PartId → List D → List (Pa
 with_places parts at [] = []
 with_places parts at (d ∷ ds) = (at, d) ∷ with_places parts (next_place parts at) ds
 
+abbrev pub number_or_none : Option ℕ → ℕ
+number_or_none None = 0
+number_or_none (Some n) = n
+
 module _ {D : Type 0} where
   -- it keeps what it kept, and nothing more was given back
   pub record IsKept (old new : Maker D) : Type 0 where
@@ -43,10 +47,6 @@ module _ {D : Type 0} where
   -- the disk of a partition, without its fuse
   abbrev pub disk_from : Durable Effect (Fused D) → D
   disk_from t = inside (disk_of t.gates)
-
-  abbrev pub number_or_none : Option ℕ → ℕ
-  number_or_none None = 0
-  number_or_none (Some n) = n
 
   -- the disks of all partitions of the cluster were given back, site by site
   pub record ReturnsAll (c : Standing D) (old new : Maker D) : Type 0 where

@@ -41,8 +41,7 @@ fn answer_line<R: Responder>(
     ensures err { OnErr result (out.new.items ≡ out.old.items) }
 {
     if kept.is_empty() {
-        responder.answer(disks, &piece[..min(KEPT, piece.len())], out)?;
-        return Ok(());
+        return responder.answer(disks, &piece[..min(KEPT, piece.len())], out);
     }
     kept.extend(piece)?;
     responder.answer(disks, kept.as_slice(), out)?;
@@ -51,7 +50,7 @@ fn answer_line<R: Responder>(
 }
 
 /// Answers each line that ends in the block, in place, and keeps what stands behind the last LF.
-#[tactic(auto, using(crate::proofs::Moves::moves_start, crate::proofs::Moves::moves_part))]
+#[tactic(auto, using(crate::proofs::Moves::moves_start, crate::proofs::Moves::moves_part, crate::proofs::Making::kept_refl))]
 pub(crate) fn answer_lines<R: Responder>(
     responder: &mut R,
     disks: &mut R::Maker,
@@ -71,8 +70,10 @@ pub(crate) fn answer_lines<R: Responder>(
     let mut rest = block;
     while let Some(end) = line_end(rest) {
         let (piece, more) = rest.split_at(end);
-        answer_line(responder, disks, piece, kept, out)?;
-        rest = &more[1..];
+        match answer_line(responder, disks, piece, kept, out) {
+            Ok(()) => rest = &more[1..],
+            Err(error) => return Err(error),
+        }
     }
     kept.extend(rest)?;
     Ok(())

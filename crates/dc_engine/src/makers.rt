@@ -89,15 +89,16 @@ pub(crate) fn make_all<M: Disks>(
     ensures cause { result ≡ Err Unanswered.NoDisk → Rose (M.state disks.old).faults (M.state disks.new).faults }
     ensures same { OnOk result (IsKept (M.state disks.old) (M.state disks.new)) }
 {
-    let count = sites as usize * parts as usize;
     let mut made = Vec::new(alloc);
     let mut at = FIRST;
-    while made.len() < count {
+    let mut left = sites as usize * parts as usize;
+    while left > 0 {
         if let Err(error) = make_one(alloc, disks, at, &mut made) {
             give_back_made(disks, parts, made);
             return Err(error);
         }
         at = next(at, parts);
+        left -= 1;
     }
     Ok(made)
 }

@@ -7,6 +7,8 @@ ghost use Rattle.cluster.specs.Reached.{Applies};
 ghost use Rattle.dc_engine.specs.Held.{HasOut};
 ghost use Rattle.dc_engine.specs.Makers.{FailsAt, IsKept};
 ghost use Rattle.dc_engine.specs.ObjectKinds.{kinds, types};
+ghost use Rattle.dc_engine.specs.Player.{AnswersAsked};
+ghost use Rattle.dc_engine.specs.Reading.{asked_of, makes_cluster};
 ghost use Rattle.reply_text.specs.Text.{text_of};
 
 use crate::makers::{give_back_all, make_all};
@@ -42,10 +44,8 @@ impl<M: Disks> Model for Player<M> {
 }
 
 impl<M: Disks> Player<M> {
-    ghost use Rattle.std.specs.Io.BufRead.{strip_last};
     ghost use Rattle.dc_engine.specs.Makers.{ReturnsAll};
-    ghost use Rattle.dc_engine.specs.Player.{AnswersAsked, ReachedBy};
-    ghost use Rattle.dc_engine.specs.Reading.{asked_of, makes_cluster};
+    ghost use Rattle.dc_engine.specs.Player.{ReachedBy};
     ghost use Rattle.dc_engine.specs.Replies.{AnswersLine};
 
     /// A player before any line. Takes no memory.
@@ -80,14 +80,13 @@ impl<M: Disks> Player<M> {
         ensures cause { result ≡ Err Unanswered.NoDisk → Rose (M.state disks.old).faults (M.state disks.new).faults }
         ensures same { OnOk result (IsKept (M.state disks.old) (M.state disks.new)) }
     {
-        match reading(self.alloc, line)? {
-            Some(Parsed::Command(command)) => obey(self.alloc, &mut self.cluster, disks, command),
-            Some(Parsed::Nothing) => Ok(Vec::new(self.alloc)),
-            None => {
-                self.met_bad = true;
-                Ok(only(self.alloc, Step::Bad)?)
-            }
-        }
+        answer_to(
+            self.alloc,
+            &mut self.cluster,
+            &mut self.met_bad,
+            disks,
+            line,
+        )
     }
 
     /// Answers a line, and on an error leaves at the end of `out` what was written of it.
@@ -137,6 +136,32 @@ impl<M: Disks> Responder for Player<M> {
 
     fn has_met_bad(&self) -> bool {
         self.met_bad
+    }
+}
+
+/// The steps that answer a line, by the cluster and by whether a line wasn't in the grammar.
+fn answer_to<M: Disks>(
+    alloc: Global,
+    cluster: &mut Cluster<Objects, M::Disk>,
+    met_bad: &mut bool,
+    disks: &mut M,
+    line: &[u8],
+) -> Result<Vec<Step>, Unanswered>
+    requires held { HasOut M.Disk.state (M.state disks.old).out cluster.old }
+    ensures held { HasOut M.Disk.state (M.state disks.new).out cluster.new }
+    ensures ok { IfOk result (λ steps. AnswersAsked M.Disk.state (record { cluster = cluster.old; met_bad = met_bad.old }) (asked_of line.now) steps.items (record { cluster = cluster.new; met_bad = met_bad.new })) }
+    ensures making { result ≡ Err Unanswered.NoDisk → makes_cluster line.now ≡ true }
+    ensures later { (M.state disks.old).faults ≤ (M.state disks.new).faults }
+    ensures cause { result ≡ Err Unanswered.NoDisk → Rose (M.state disks.old).faults (M.state disks.new).faults }
+    ensures same { OnOk result (IsKept (M.state disks.old) (M.state disks.new)) }
+{
+    match reading(alloc, line)? {
+        Some(Parsed::Command(command)) => obey(alloc, cluster, disks, command),
+        Some(Parsed::Nothing) => Ok(Vec::new(alloc)),
+        None => {
+            *met_bad = true;
+            Ok(only(alloc, Step::Bad)?)
+        }
     }
 }
 

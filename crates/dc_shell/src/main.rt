@@ -5,8 +5,7 @@ ghost use Rattle.std.specs.Prelude.{◌≡◌, ◌⊎◌, true, false, drop, map
 ghost use Rattle.std.specs.Io.KnownBytes.{Appends};
 ghost use Rattle.std.specs.Vec.Iter.{into_iter_items};
 ghost use Rattle.std.specs.Process.{exit_status};
-ghost use Rattle.dc_engine.specs.Answered.{Answered};
-ghost use Rattle.dc_engine.specs.Outcome.{Outcome, change};
+ghost use Rattle.dc_engine.specs.Outcome.{PlayOutcome, change};
 ghost use Rattle.dc_engine.specs.Status.{code_of};
 ghost use Rattle.dc_engine.specs.Words.{asks_play};
 ghost use Rattle.dc_shell.specs.Told.{told};
@@ -91,10 +90,11 @@ fn play_words<S: Source, K: Sink, M: Disks>(
     sink: &mut K,
     disks: &mut M,
 ) -> Result<Status, AllocError>
-    ensures played { asks_play (map string_bytes words.now) ≡ true → IfOk result (λ status. Outcome Answered status (change S.left S.faults source.old source.new) (change K.held K.faults sink.old sink.new)) }
-    ensures usage { asks_play (map string_bytes words.now) ≡ false → IfOk result (λ status. (status ≡ Status.Usage) × (source.new ≡ source.old) × (sink.new ≡ sink.old)) }
+    ensures played { asks_play (map string_bytes words.now) ≡ true → IfOk result (λ status. PlayOutcome M.Disk.state (M.state disks.old) (M.state disks.new) status (change S.left S.faults source.old source.new) (change K.held K.faults sink.old sink.new)) }
+    ensures usage { asks_play (map string_bytes words.now) ≡ false → IfOk result (λ status. (status ≡ Status.Usage) × (source.new ≡ source.old) × (sink.new ≡ sink.old) × (disks.new ≡ disks.old)) }
     ensures unread { OnErr result (source.new ≡ source.old) }
     ensures unwritten { OnErr result (sink.new ≡ sink.old) }
+    ensures unmade { OnErr result (disks.new ≡ disks.old) }
 {
     let texts = texts_of(alloc, words)?;
     Ok(run(alloc, texts.as_slice(), source, sink, disks))

@@ -1,4 +1,6 @@
 use Rattle.std.proofs.Common.{◌≡◌, arith}
+use Rattle.dc_engine.proofs.Making.{kept_both, rose_later}
+use Rattle.dc_engine.proofs.Moves.{err_as}
 use Rattle.dc_engine.proofs.Progress.{goes_on_end, goes_on_more, part_none, room_for}
 use Rattle.dc_engine.proofs.blocks.play_blocks.Goals as goal
 
@@ -22,6 +24,9 @@ loop-room-preserved g c =
       read = omega (arith, c.loop-room.invariant.read, c.play_block.ensures.read_later);
       wrote = omega (arith, c.loop-room.invariant.wrote, c.play_block.ensures.write_later);
       progress = goes_on_more c.args.most g.R.Responder.reached c.args.size _ _ _ _ _ _ _ _ on c.in-Ok-play_block.count-test.1;
+      held = c.play_block.ensures.held;
+      counted = omega (arith, c.loop-room.invariant.counted, c.play_block.ensures.disks_later);
+      same = kept_both _ _ _ c.loop-room.invariant.same (rw c.in-Ok-play_block.is at c.play_block.ensures.same);
     }
 
 pub returns-in-Err-play_block-clause-finished : goal.returns-in-Err-play_block-clause-finished
@@ -31,3 +36,14 @@ pub returns-clause-finished : goal.returns-clause-finished
 returns-clause-finished g c =
     let none : c.loop-room.room ≡ 0 = omega (arith, c.loop-room-test.false) in
     c.play_end.ensures.finished c.args.size c.args.most _ _ (rw none at c.loop-room.invariant.progress)
+
+pub returns-in-Ok-eq0-clause-same : goal.returns-in-Ok-eq0-clause-same
+returns-in-Ok-eq0-clause-same g c = kept_both _ _ _ c.loop-room.invariant.same (rw c.in-Ok-eq0.is at c.play_block.ensures.same)
+
+pub returns-in-Err-play_block-clause-disks_cause : goal.returns-in-Err-play_block-clause-disks_cause
+returns-in-Err-play_block-clause-disks_cause g c =
+    let cause = rw c.in-Err-play_block.is at c.play_block.ensures.disks_cause in
+    λ e. rose_later _ _ _ c.loop-room.invariant.counted (cause (err_as _ _ e))
+
+pub returns-clause-disks_cause : goal.returns-clause-disks_cause
+returns-clause-disks_cause g c = λ e. rose_later _ _ _ c.loop-room.invariant.counted (c.play_end.ensures.disks_cause e)

@@ -1,8 +1,13 @@
+use Rattle.std.proofs.Common.{arith}
+use Rattle.dc_engine.proofs.Applied.{out_more}
 use Rattle.dc_engine.proofs.PlayedBy.{outcome_lawful}
 use Rattle.dc_engine.proofs.top.play.Goals as goal
 
-pub play_script-requires : goal.play_script-requires
-play_script-requires g c = c.new-player.ensures
+pub play_script-status-requires-clause-fresh : goal.play_script-status-requires-clause-fresh
+play_script-status-requires-clause-fresh g c = c.new-player.ensures.reached
+
+pub play_script-status-requires-clause-held : goal.play_script-status-requires-clause-held
+play_script-status-requires-clause-held g c = out_more g.M.Disk.Disk.state _ 0 _ (omega arith) c.new-player.ensures.holds
 
 pub returns : goal.returns
-returns g c = outcome_lawful _ _ _ c.play_script.ensures
+returns g c = outcome_lawful g.M.Disk.Disk.state _ _ _ _ _ _ _ c.play_script-status.ensures.same c.give_back.ensures c.play_script-status.ensures.played

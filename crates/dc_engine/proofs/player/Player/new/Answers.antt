@@ -1,6 +1,9 @@
 use Rattle.std.proofs.Common.{refl}
-use Rattle.dc_engine.proofs.Applied.{reached_none}
+use Rattle.dc_engine.proofs.Applied.{reached_none, out_first}
 use Rattle.dc_engine.proofs.player.Player.new.Goals as goal
 
-pub returns : goal.returns
-returns c = reached_none _ c.new.ensures refl
+pub returns-clause-reached : goal.returns-clause-reached
+returns-clause-reached g c = reached_none g.M.Disk.Disk.state _ c.new.ensures refl
+
+pub returns-clause-holds : goal.returns-clause-holds
+returns-clause-holds g c = out_first g.M.Disk.Disk.state _ 0 c.new.ensures
