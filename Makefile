@@ -9,7 +9,7 @@ help:
 	@echo 'make play SCRIPT=PATH   proves the program and plays a script (about 20 minutes the first time, then at once)'
 	@echo 'make try SCRIPT=PATH    plays a script before any proof (about a minute)'
 	@echo 'make view SCRIPT=PATH   plays as make play does, and draws the run as a page beside the script'
-	@echo 'make bench              proves and measures the play, of sites too, and reading and printing (minutes, after make play)'
+	@echo 'make bench              proves and measures the play, of sites and crashes too, and reading and printing (minutes, after make play)'
 	@echo
 	@echo 'The times are for four processors with nothing else to do. Without SCRIPT, $(SCRIPT) is played.'
 
@@ -51,5 +51,6 @@ bench:
 	@cd crates/dc_shell && rt run -- play < /dev/null
 	python3 bench/play/measure.py
 	python3 bench/sites/measure.py
+	python3 bench/crashes/measure.py
 	@cd crates/text_bench && rt run -- show < stdin > /dev/null
 	python3 bench/text/measure.py
