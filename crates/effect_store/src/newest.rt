@@ -23,7 +23,7 @@ use site_vector::{Dot, VTime};
 use std::alloc::{AllocError, Global};
 use std::collections::HashMap;
 
-/// How many updates an older state stands before the end at least: parts that come late seldom stand before those.
+/// How many updates an older state stays behind what is read: few parts come later than that.
 const SHORT: u32 = 32;
 
 /// The state of an object with a front of its updates applied.
@@ -264,8 +264,8 @@ fn keep<S: Drop>(
     }
 }
 
-/// Brings the kept state of the object forward over what the snapshot shows, so that it stands `short` updates before the end of
-/// that, or makes it. It is left where it is, if that is less than twice as far from there.
+/// Brings the kept state of the object forward over what the snapshot shows, up to `short` updates before the end of that, or makes
+/// it. It is left as it is where that would be over no more than `short` updates.
 fn bring<C: Crdt>(
     alloc: Global,
     parts: &[Part<C::Effect>],

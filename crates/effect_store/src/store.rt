@@ -218,8 +218,9 @@ impl<C: Crdt> Store<C> {
         Ok(())
     }
 
-    /// The state of an object at a snapshot. Where the snapshot shows all updates of the object, what comes after the last such read
-    /// is applied, and the state is copied; else the updates that the snapshot shows are applied.
+    /// The state of an object at a snapshot. Two states of each object are kept: the newest has what the last snapshot shows before the
+    /// first update that it doesn't show, and an older one stays behind for parts that come late. The newest that the snapshot shows is
+    /// brought forward and copied, and what else the snapshot shows is applied to the copy.
     ///
     /// # Errors
     ///
@@ -253,8 +254,8 @@ impl<C: Crdt> Store<C> {
         )
     }
 
-    /// What an object shows at a snapshot. It costs what `state` costs, but where the snapshot shows all updates of the object no
-    /// state is copied.
+    /// What an object shows at a snapshot. It costs what `state` costs, but where the newest state has all that the snapshot shows it
+    /// isn't copied.
     ///
     /// # Errors
     ///
