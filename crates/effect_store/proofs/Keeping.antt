@@ -5,7 +5,7 @@ use Rattle.std.specs.List.{filter, slice_get}
 use Rattle.std.specs.HashMap.{get}
 use Rattle.std.specs.Option.{option_map}
 use Rattle.std.proofs.lemmas.Bool.{eqb-true, eq-eqb}
-use Rattle.std.proofs.lemmas.List.{append-nil, length-replicate}
+use Rattle.std.proofs.lemmas.List.{append-nil, append_cancel_right, length-replicate}
 use Rattle.std.proofs.lemmas.Option.{slice_get_past}
 use Rattle.site_vector.specs.declared.ids.Dot.{Dot}
 use Rattle.site_vector.specs.Vector.{le, join}
@@ -27,10 +27,10 @@ use Rattle.effect_store.specs.Spots.{Spot, spots, spots_in, spots_from, tag_of, 
 use Rattle.effect_store.specs.Links.{or_none, spot}
 use Rattle.effect_store.specs.Wanted.{pair, IsReading}
 use Rattle.effect_store.specs.Applied.{applied, mine, shows, shown}
-use Rattle.effect_store.specs.Newest.{own, front, own_after, IsNewest, AreNewest, IsApplying, IsWhole}
+use Rattle.effect_store.specs.Newest.{own, front, own_after, IsNewest, AreNewest, IsApplying, IsFront}
 use Rattle.effect_store.proofs.Arranging.{eqv, each_more, each-added_all, filter-added_out, filter_same, filter_same_on, get_in}
-use Rattle.effect_store.proofs.Chaining.{bools, dec, all_of, at_of}
-use Rattle.effect_store.proofs.Walking.{head_least, chain_head, chain_start, none_in}
+use Rattle.effect_store.proofs.Chaining.{bools}
+use Rattle.effect_store.proofs.Walking.{chain_head, chain_start}
 use Rattle.effect_store.proofs.Linking.{is_there, link_read}
 use Rattle.effect_store.proofs.Flattening.{coarser}
 use Rattle.effect_store.proofs.Ordering.{before_order}
@@ -52,16 +52,6 @@ and_swap false false = refl
 or_right : (a b : Bool) → b ≡ true → a || b ≡ true
 or_right true b h = refl
 or_right false b h = h
-
-weaker_front : (own before seen : Bool) → not own || seen ≡ true → not (own && not before) || seen ≡ true
-weaker_front true true seen h = refl
-weaker_front true false seen h = h
-weaker_front false before seen h = refl
-
-nothing_left : (own left seen : Bool) → not (own && left) ≡ true → not (own && not left) || seen ≡ true → not own || seen ≡ true
-nothing_left true true seen h k = cc
-nothing_left true false seen h k = k
-nothing_left false left seen h k = refl
 
 same_front : (own shown before : Bool) → (own && not before ≡ true → shown ≡ true) → eqv ((own && shown) && not before) (own && not before) ≡ true
 same_front true true true h = refl
@@ -95,16 +85,25 @@ module _ {X : Type 0} (lt : X → X → Bool) (o : IsOrder lt) where
   split q t [] a = refl
   split q t (y ∷ ys) a = split_by q y t ys (t y) (lt q y) refl refl a.0 (split q t ys a.1)
 
-  whole : (q : X) (t : X → Bool) (l : List X) → Rises lt l → filter (λ z. t z && lt q z) l ≡ [] → filter (λ z. t z && not (lt q z)) l ≡ filter t l
-  whole q t l a e = sym (append-nil (filter (λ z. t z && not (lt q z)) l)) ∙ (ap (λ r. filter (λ z. t z && not (lt q z)) l ++ r) (sym e) ∙ split q t l a)
+each_push : {X : Type 0} (t : X → Bool) (xs : List X) (x : X) → Each t xs → t x ≡ true → Each t (xs ++ x ∷ [])
+each_push t [] x e h = (h, tt)
+each_push t (y ∷ ys) x e h = (e.0, each_push t ys x e.1 h)
 
-both_each : {X : Type 0} (t u v : X → Bool) → ((x : X) → t x ≡ true → u x ≡ true → v x ≡ true) → (l : List X) → Each t l → Each u l → Each v l
-both_each t u v h [] a b = tt
-both_each t u v h (x ∷ xs) a b = (h x a.0 b.0, both_each t u v h xs a.1 b.1)
+-- of those that pass a test each passes another
+each_in : {X : Type 0} (t u : X → Bool) (l : List X) → Each (λ y. not (t y) || u y) l → Each u (filter t l)
+each_in t u [] e = tt
+each_in t u (x ∷ xs) e = elim (bools (t x)) [
+  | inl y ↦ rw y (of_either (t x) (u x) e.0 y, each_in t u xs e.1)
+  | inr n ↦ rw n (each_in t u xs e.1)
+]
 
-every : {X : Type 0} (t : X → Bool) (l : List X) → ((x : X) → t x ≡ true) → Each t l
-every t [] h = tt
-every t (x ∷ xs) h = (h x, every t xs h)
+out_of : {X : Type 0} (t u : X → Bool) (x : X) (xs : List X) (b : Bool) → t x ≡ b → Each u (cond b (x ∷ filter t xs) (filter t xs)) → (not (t x) || u x ≡ true) × Each u (filter t xs)
+out_of t u x xs true h e = (rw h e.0, e.1)
+out_of t u x xs false h e = (rw h refl, e)
+
+each_out : {X : Type 0} (t u : X → Bool) (l : List X) → Each u (filter t l) → Each (λ y. not (t y) || u y) l
+each_out t u [] e = tt
+each_out t u (x ∷ xs) e = let k = out_of t u x xs (t x) refl e in (k.0, each_out t u xs k.1)
 
 filter-added_all_out : {X : Type 0} (lt : X → X → Bool) (t : X → Bool) (acc ys : List X) → Each (λ y. not (t y)) ys → filter t (added_all lt acc ys) ≡ filter t acc
 filter-added_all_out lt t acc [] e = refl
@@ -166,40 +165,24 @@ neither_if : {A : Type 0} (b : Bool) (x y z : A) → x ≡ (if b then y else z) 
 neither_if true x y z e h = cc
 neither_if false x y z e h = e
 
-covered : (own left before after_x le_seen le_new : Bool) → (le_seen ≡ true → le_new ≡ true) → not (own && not left) || le_seen ≡ true → not (own && left) || not before ≡ true → after_x || before ≡ true → not (own && not after_x) || le_new ≡ true
-covered true true true a ls ln h c d e = cc
-covered true true false a ls ln h c d e = grind arith
-covered true false b true ls ln h c d e = grind arith
-covered true false b false ls ln h c d e = let k : ln ≡ true = h (grind arith) in grind arith
-covered false left b a ls ln h c d e = refl
-
 module _ {S E : Type 0} (first : Kind → S) (step : S → Dot → E → S) (sites : ℕ) (parts : List (Part E)) (links : Links) (r : IsReading parts links) where
   own_applied : (o : ObjectId) (a b : ℕ) (x : Spot E) (n : Newest S) → slice_get (spots parts) a ≡ Some x → b ≡ get_or links.next.items a b → own o x ≡ true → length x.part.c ≡ sites → IsApplying first step o sites (spots parts) a n
       → IsApplying first step o sites (spots parts) b (record { at = a; seen = join n.seen x.part.c; state = step n.state (record { tx = x.part.tx; index = x.update.index }) x.update.effect })
   own_applied o a b x n g e h wide w =
       let xs : List (Spot E) = spots parts in
       let l : List (Spot E) = arranged before xs in
-      let now : filter (own o) (chain tag_of before xs a) ≡ x ∷ filter (own o) (chain tag_of before xs b) = own_first o x (chain tag_of before xs a) (chain tag_of before xs b) (chain_step parts links r a b x g e) h in
-      let rest : filter (own o) (chain tag_of before xs b) ≡ filter (own_after o x) l = rest_after parts links r o a b x h g e in
-      let least : Each (λ y. not (own o y && w.left y) || not (before y x)) l = head_least before before_order (λ y. own o y && w.left y) x (filter (own o) (chain tag_of before xs b)) l r.linked.ahead.ordered (sym w.rest ∙ now) in
+      let left : List (Spot E) = filter (own o) (chain tag_of before xs b) in
+      let now : filter (own o) (chain tag_of before xs a) ≡ x ∷ left = own_first o x (chain tag_of before xs a) (chain tag_of before xs b) (chain_step parts links r a b x g e) h in
+      let rest : left ≡ filter (own_after o x) l = rest_after parts links r o a b x h g e in
       let same_width : length n.seen ≡ length x.part.c = w.width ∙ sym wide in
+      let seen : List ℕ = join n.seen x.part.c in
       record {
-        left = before x;
-        rest = rest;
+        done = w.done ++ x ∷ [];
+        parted = append_assoc w.done (x ∷ []) left ∙ (ap (λ z. w.done ++ z) (sym now) ∙ w.parted);
         width = length_join n.seen x.part.c same_width ∙ w.width;
-        covers = all_of before (λ y. not (own o y && not (before x y)) || le y.part.c (join n.seen x.part.c)) xs (λ k y f. elim (dec k a) [
-          | inl m ↦
-              (let z : slice_get xs a ≡ Some y = rw (← m) f in
-              let same : x ≡ y = cc in
-              let here : le y.part.c (join n.seen x.part.c) ≡ true = rw (← same) (le_join_right n.seen x.part.c same_width) in
-              or_right (not (own o y && not (before x y))) (le y.part.c (join n.seen x.part.c)) here)
-          | inr m ↦ covered (own o y) (w.left y) (before y x) (before x y) (le y.part.c n.seen) (le y.part.c (join n.seen x.part.c))
-              (λ v. le_trans y.part.c n.seen (join n.seen x.part.c) v (le_join n.seen x.part.c same_width))
-              (at_of before (λ z. not (own o z && not (w.left z)) || le z.part.c n.seen) xs k y w.covers f)
-              (at_of before (λ z. not (own o z && w.left z) || not (before z x)) xs k y least f)
-              (r.linked.apart a k x y g f (λ v. m (sym v)))
-        ]);
-        state = ap (λ z. applied step n.state (map pair z)) (sym now) ∙ w.state;
+        covers = each_push (λ y. le y.part.c seen) w.done x (each_more (λ y. le y.part.c n.seen) (λ y. le y.part.c seen) (λ y v. le_trans y.part.c n.seen seen v (le_join n.seen x.part.c same_width)) w.done w.covers) (le_join_right n.seen x.part.c same_width);
+        state = ap (λ z. step z (record { tx = x.part.tx; index = x.update.index }) x.update.effect) w.state
+            ∙ sym (ap (applied step (first o.kind)) (map-append pair w.done (x ∷ [])) ∙ applied-append step (first o.kind) (map pair w.done) (pair x ∷ []));
         last = λ q f. (let same : x ≡ q = cc in (rw (← same) h, rw (← same) rest));
       }
 
@@ -215,48 +198,38 @@ module _ {S E : Type 0} (first : Kind → S) (step : S → Dot → E → S) (sit
         | inr v ↦
             (let same : filter (own o) (chain tag_of before (spots parts) a) ≡ filter (own o) (chain tag_of before (spots parts) b) = own_skip o x (chain tag_of before (spots parts) a) (chain tag_of before (spots parts) b) (chain_step parts links r a b x g e) v in
             rw (neither_if (own o x) n' _ _ k2 v) (record {
-              left = w.left;
-              rest = sym same ∙ w.rest;
+              done = w.done;
+              parted = ap (λ z. w.done ++ z) (sym same) ∙ w.parted;
               width = w.width;
               covers = w.covers;
-              state = ap (λ z. applied step n.state (map pair z)) (sym same) ∙ w.state;
+              state = w.state;
               last = λ q z. ((w.last q z).0, sym same ∙ (w.last q z).1);
             }))
       ]
 
-  pub applying_end : (o : ObjectId) (a : ℕ) (n : Newest S) → length links.entries.items ≤ a → IsApplying first step o sites (spots parts) a n → IsWhole first step o sites (spots parts) n
-  applying_end o a n h w =
-      let xs : List (Spot E) = spots parts in
-      let l : List (Spot E) = arranged before xs in
-      let end : filter (own o) (chain tag_of before xs a) ≡ [] = rw (slice_get_past xs a (omega (arith, r.linked.many))) refl in
-      let none_left : Each (λ y. not (own o y && w.left y)) l = none_in (λ y. own o y && w.left y) l (sym w.rest ∙ end) in
-      record {
-        width = w.width;
-        covers = both_each (λ y. not (own o y && w.left y)) (λ y. not (own o y && not (w.left y)) || le y.part.c n.seen) (λ y. not (own o y) || le y.part.c n.seen) (λ y f g. nothing_left (own o y) (w.left y) (le y.part.c n.seen) f g) l none_left w.covers;
-        state = ap (λ z. applied step n.state (map pair z)) (sym end) ∙ w.state;
-        last = λ q f. ((w.last q f).0, sym (w.last q f).1 ∙ end);
-      }
-
-  -- a state with all updates of an object is a newest one
-  pub newest_of_whole : (o : ObjectId) (tag : ℕ) (n : Newest S) → n.at < length links.entries.items → tag ≡ tag_of_object o → IsWhole first step o sites (spots parts) n → IsNewest first step sites (spots parts) tag n
-  newest_of_whole o tag n h e w =
-      let xs : List (Spot E) = spots parts in
-      let l : List (Spot E) = arranged before xs in
-      let there = is_there xs n.at (omega (arith, r.linked.many)) in
-      let q : Spot E = there.0 in
-      let here = w.last q there.1 in
-      let same : q.update.object ≡ o = same_object-true q.update.object o here.0 in
-      let P : ObjectId → Type 0 = λ z. IsWhole first step z sites xs n in
-      let v : IsWhole first step q.update.object sites xs n = subst P (sym same) w in
-      let none_after : filter (own_after q.update.object q) l ≡ [] = (v.last q there.1).1 in
-      record {
-        last = q;
-        there = there.1;
-        tagged = ap tag_of_object same ∙ sym e;
-        width = v.width;
-        covers = each_more (λ y. not (own q.update.object y) || le y.part.c n.seen) (λ y. not (front q y) || le y.part.c n.seen) (λ y f. weaker_front (own q.update.object y) (before q y) (le y.part.c n.seen) f) l v.covers;
-        state = v.state ∙ ap (λ z. applied step (first q.update.object.kind) (map pair z)) (sym (whole before before_order q (own q.update.object) l r.linked.ahead.ordered none_after));
-      }
+  -- wherever the walk stops, the state is one with a front of the updates
+  pub applying_front : (o : ObjectId) (a : ℕ) (n : Newest S) → IsApplying first step o sites (spots parts) a n → IsFront first step o sites (spots parts) n
+  applying_front o a n w = record {
+    newest = λ q f.
+        (let xs : List (Spot E) = spots parts in
+        let l : List (Spot E) = arranged before xs in
+        let same : q.update.object ≡ o = same_object-true q.update.object o (w.last q f).0 in
+        let P : ObjectId → Type 0 = λ z. IsApplying first step z sites xs a n in
+        let v : IsApplying first step q.update.object sites xs a n = subst P (sym same) w in
+        let t : Spot E → Bool = own q.update.object in
+        let rest : List (Spot E) = filter (own_after q.update.object q) l in
+        let all : v.done ++ rest ≡ filter t l = ap (λ z. v.done ++ z) (sym (v.last q f).1) ∙ v.parted in
+        let upto : v.done ≡ filter (front q) l = append_cancel_right v.done (filter (front q) l) rest (all ∙ sym (split before before_order q t l r.linked.ahead.ordered)) in
+        let Q : List (Spot E) → Type 0 = λ z. Each (λ y. le y.part.c n.seen) z in
+        record {
+          last = q;
+          there = f;
+          tagged = ap tag_of_object same;
+          width = v.width;
+          covers = each_out (front q) (λ y. le y.part.c n.seen) l (subst Q upto v.covers);
+          state = v.state ∙ ap (λ z. applied step (first q.update.object.kind) (map pair z)) upto;
+        });
+  }
 
   applied_both : (s : S) (t u v : Spot E → Bool) (l m : List (Spot E)) → filter t l ++ filter u l ≡ filter v l → m ≡ filter u l → applied step (applied step s (map pair (filter t l))) (map pair m) ≡ applied step s (map pair (filter v l))
   applied_both s t u v l m e f =
@@ -274,12 +247,11 @@ module _ {S E : Type 0} (first : Kind → S) (step : S → Dot → E → S) (sit
       let mine : own q.update.object q ≡ true = same_object-refl q.update.object in
       let rest : filter (own q.update.object) (chain tag_of before (spots parts) from) ≡ filter (own_after q.update.object q) l = rest_after parts links r q.update.object n.at from q mine k.there e in
       subst P same (record {
-        left = before q;
-        rest = rest;
+        done = filter (front q) l;
+        parted = ap (λ z. filter (front q) l ++ z) rest ∙ split before before_order q (own q.update.object) l r.linked.ahead.ordered;
         width = k.width;
-        covers = k.covers;
-        state = ap (λ z. applied step z (map pair (filter (own q.update.object) (chain tag_of before (spots parts) from)))) k.state
-            ∙ applied_both (first q.update.object.kind) (front q) (own_after q.update.object q) (own q.update.object) l (filter (own q.update.object) (chain tag_of before (spots parts) from)) (split before before_order q (own q.update.object) l r.linked.ahead.ordered) rest;
+        covers = each_in (front q) (λ y. le y.part.c n.seen) l k.covers;
+        state = k.state;
         last = λ x f. (let there : slice_get (spots parts) n.at ≡ Some q = k.there in let z : q ≡ x = cc in (rw (← z) mine, rw (← z) rest));
       })
 
@@ -289,11 +261,11 @@ module _ {S E : Type 0} (first : Kind → S) (step : S → Dot → E → S) (sit
       let l : List (Spot E) = arranged before (spots parts) in
       let rest : filter (own o) (chain tag_of before (spots parts) from) ≡ filter (own o) l = rest_from parts links r o tag from h e in
       record {
-        left = λ y. true;
-        rest = rest ∙ filter_same (own o) (λ y. own o y && true) (λ y. grind arith) l;
+        done = [];
+        parted = rest;
         width = ap (λ (z : List ℕ). length z) seen ∙ length-replicate sites 0;
-        covers = every (λ y. not (own o y && not true) || le y.part.c n.seen) l (λ y. grind arith);
-        state = ap (λ z. applied step z (map pair (filter (own o) (chain tag_of before (spots parts) from)))) state ∙ ap (λ z. applied step (first o.kind) (map pair z)) rest;
+        covers = tt;
+        state = state;
         last = λ q f. (let z : slice_get (spots parts) n.at ≡ None = slice_get_past (spots parts) n.at (rw at (small parts links r)) in let v : ⊥ = cc in absurd v);
       }
 
@@ -371,11 +343,17 @@ module _ {S E : Type 0} (first : Kind → S) (step : S → Dot → E → S) (sit
   newest_within newest h i n e = let k = h i n e in let small : n.at < length (spots parts) = get_in (spots parts) n.at k.last k.there in (omega (arith, r.linked.many), k.width)
 
   -- what is kept is a newest state
-  pub newest_kept : (o : ObjectId) (whole : Newest S) (old left new : ℕ → Option (Newest S)) → AreNewest first step sites (spots parts) old → ((i : ℕ) (n : Newest S) → left i ≡ Some n → old i ≡ Some n) → IsWhole first step o sites (spots parts) whole
-      → ((i : ℕ) (n : Newest S) → new i ≡ Some n → (left i ≡ Some n) ⊎ ((i ≡ tag_of_object o) × (n ≡ whole) × (n.at < length links.entries.items))) → AreNewest first step sites (spots parts) new
-  newest_kept o whole old left new h f w g i n e = elim (g i n e) [
+  pub newest_kept : (o : ObjectId) (front : Newest S) (old left new : ℕ → Option (Newest S)) → AreNewest first step sites (spots parts) old → ((i : ℕ) (n : Newest S) → left i ≡ Some n → old i ≡ Some n) → IsFront first step o sites (spots parts) front
+      → ((i : ℕ) (n : Newest S) → new i ≡ Some n → (left i ≡ Some n) ⊎ ((i ≡ tag_of_object o) × (n ≡ front) × (n.at < length links.entries.items))) → AreNewest first step sites (spots parts) new
+  newest_kept o front old left new h f w g i n e = elim (g i n e) [
     | inl a ↦ h i n (f i n a)
-    | inr a ↦ (let P : Newest S → Type 0 = λ z. IsWhole first step o sites (spots parts) z in newest_of_whole first step sites parts links r o i n a.2 a.0 (subst P (sym a.1) w))
+    | inr a ↦
+        (let P : Newest S → Type 0 = λ z. IsFront first step o sites (spots parts) z in
+        let Q : ℕ → Type 0 = λ z. IsNewest first step sites (spots parts) z n in
+        let v : IsFront first step o sites (spots parts) n = subst P (sym a.1) w in
+        let inside : n.at < length links.entries.items = a.2 in
+        let there = is_there (spots parts) n.at (omega (arith, r.linked.many, inside)) in
+        subst Q (sym a.0) (v.newest there.0 there.1))
   ]
 
 module _ {S E : Type 0} (first : Kind → S) (step : S → Dot → E → S) where
@@ -388,8 +366,15 @@ module _ {S E : Type 0} (first : Kind → S) (step : S → Dot → E → S) wher
   pub applying_width : (o : ObjectId) (a b : ℕ) (xs : List (Spot E)) (from : ℕ) (n : Newest S) → b ≡ a → IsApplying first step o a xs from n → IsApplying first step o b xs from n
   applying_width o a b xs from n e h = rw e h
 
-  pub whole_width : (o : ObjectId) (a b : ℕ) (xs : List (Spot E)) (n : Newest S) → b ≡ a → IsWhole first step o a xs n → IsWhole first step o b xs n
-  whole_width o a b xs n e h = rw e h
+  pub front_width : (o : ObjectId) (a b : ℕ) (xs : List (Spot E)) (n : Newest S) → b ≡ a → IsFront first step o a xs n → IsFront first step o b xs n
+  front_width o a b xs n e h = rw e h
+
+  -- states of two maps
+  pub newest_either : (sites : ℕ) (xs : List (Spot E)) (a b new : ℕ → Option (Newest S)) → AreNewest first step sites xs a → AreNewest first step sites xs b → ((i : ℕ) (n : Newest S) → new i ≡ Some n → (a i ≡ Some n) ⊎ (b i ≡ Some n)) → AreNewest first step sites xs new
+  newest_either sites xs a b new h k f i n e = elim (f i n e) [
+    | inl y ↦ h i n y
+    | inr z ↦ k i n z
+  ]
 
 of_both : (a b : Bool) → a && b ≡ true → a ≡ true
 of_both true b h = refl
@@ -416,10 +401,6 @@ pub record IsForgetting {S E : Type 0} (parts : List (Part E)) (p : Part E) (old
   pub within : n ≤ count
   pub left : (i : ℕ) (k : Newest S) → now i ≡ Some k → old i ≡ Some k
   pub clear : (i : ℕ) (k : Newest S) → now i ≡ Some k → (q : Spot E) → slice_get (spots parts) k.at ≡ Some q → Each (λ x. not (has_tag tag_of i x) || before q x) (spots_from p 0 (take n p.updates))
-
-each_push : {X : Type 0} (t : X → Bool) (xs : List X) (x : X) → Each t xs → t x ≡ true → Each t (xs ++ x ∷ [])
-each_push t [] x e h = (h, tt)
-each_push t (y ∷ ys) x e h = (e.0, each_push t ys x e.1 h)
 
 module _ {S E : Type 0} (parts : List (Part E)) (p : Part E) where
   pub forgetting_next : (old now new : ℕ → Option (Newest S)) (count n : ℕ) (u : Upd E) → IsForgetting parts p old now count n → n < count → slice_get p.updates n ≡ Some u

@@ -11,7 +11,7 @@ ghost use Rattle.effect_store.specs.Spots.{Spot, spots, spots_in, tag_of, tag_of
 ghost use Rattle.effect_store.specs.Links.{or_none, spot};
 ghost use Rattle.effect_store.specs.Wanted.{IsReading};
 ghost use Rattle.effect_store.specs.Applied.{AreWide, shown};
-ghost use Rattle.effect_store.specs.Newest.{own, AreNewest, IsApplying, IsWhole};
+ghost use Rattle.effect_store.specs.Newest.{own, AreNewest, IsApplying, IsFront};
 
 use crate::fold::is_shown;
 use crate::hooks::head;
@@ -22,6 +22,9 @@ use crdt_core::{Crdt, Kind, ObjectId, Part, Upd};
 use site_vector::{Dot, VTime};
 use std::alloc::{AllocError, Global};
 use std::collections::HashMap;
+
+/// How many updates an older state stays behind what is read: few parts come later than that.
+const SHORT: u32 = 32;
 
 /// The state of an object with a front of its updates applied.
 #[derive(Drop)]
@@ -68,22 +71,26 @@ fn apply_own<C: Crdt>(
     Ok(())
 }
 
-/// Applies all updates of the object from a place on.
+/// Applies the updates of the object among so many from a place on.
 fn bring_forward<C: Crdt>(
     alloc: Global,
     parts: &[Part<C::Effect>],
     links: &Links,
     object: &ObjectId,
     from: u32,
+    steps: u32,
     newest: &mut Newest<C::State>,
 ) -> Result<(), AllocError>
     requires reading { IsReading parts.now links.now }
     requires wide { AreWide (length newest.old.seen) parts.now }
     requires applying { IsApplying C.initial C.step object.now (length newest.old.seen) (spots parts.now) from newest.old }
-    ensures { OnOk result (IsWhole C.initial C.step object.now (length newest.old.seen) (spots parts.now) newest.new) }
+    ensures { OnOk result (IsFront C.initial C.step object.now (length newest.old.seen) (spots parts.now) newest.new) }
 {
     let mut at = from;
-    while (at as usize) < links.entries.len() {
+    for _step in 0..steps {
+        if at as usize >= links.entries.len() {
+            return Ok(());
+        }
         let (part, update) = update_at(parts, links, at);
         apply_own::<C>(alloc, part, update, object, at, newest)?;
         at = links.next[at as usize];
@@ -111,26 +118,28 @@ pub(crate) fn kept_for<'a, E, S>(
     None
 }
 
-/// Whether the snapshot shows all updates of the object from a place on.
-fn is_all_shown<E>(
+/// How many updates stand from a place on before the first of the object that the snapshot doesn't show.
+fn shown_from<E>(
     parts: &[Part<E>],
     links: &Links,
     from: u32,
     object: &ObjectId,
     snapshot: &VTime,
-) -> bool
+) -> u32
     requires reading { IsReading parts.now links.now }
     requires wide { AreWide (length snapshot.now) parts.now }
 {
+    let mut count: u32 = 0;
     let mut at = from;
     while (at as usize) < links.entries.len() {
         let (part, update) = update_at(parts, links, at);
         if update.object == *object && !part.c.le(snapshot) {
-            return false;
+            return count;
         }
+        count = count.saturating_add(1);
         at = links.next[at as usize];
     }
-    true
+    count
 }
 
 /// Whether the snapshot shows no update of the object from a place on.
@@ -215,8 +224,8 @@ fn rest_of<E, S>(
     }
 }
 
-/// The state of the object with all of its updates applied. A kept state that serves is taken out.
-fn whole_state<C: Crdt>(
+/// The state of the object with those of its updates applied that are among so many more. A kept state that serves is taken out.
+fn front_state<C: Crdt>(
     alloc: Global,
     parts: &[Part<C::Effect>],
     links: &Links,
@@ -224,6 +233,7 @@ fn whole_state<C: Crdt>(
     object: &ObjectId,
     sites: u8,
     rest: Rest,
+    steps: u32,
 ) -> Result<Newest<C::State>, AllocError>
     requires least { 1 ≤ sites }
     requires most { sites ≤ 8 }
@@ -233,11 +243,11 @@ fn whole_state<C: Crdt>(
     requires kept { rest.serves ≡ true → (n : Newest C.State) × (get nat_eq newest.old (tag_of_object object.now) ≡ Some n) × ((q : Spot C.Effect) → slice_get (spots parts.now) n.at ≡ Some q → own object.now q ≡ true) × (rest.from ≡ slice_index_or links.now.next.items n.at rest.from) }
     requires fresh { rest.serves ≡ false → rest.from ≡ or_none (get nat_eq links.now.first (tag_of_object object.now)) }
     ensures left { (i : ℕ) (n : Newest C.State) → get nat_eq newest.new i ≡ Some n → get nat_eq newest.old i ≡ Some n }
-    ensures whole { IfOk result (IsWhole C.initial C.step object.now sites (spots parts.now)) }
+    ensures front { IfOk result (λ n. IsFront C.initial C.step object.now sites (spots parts.now) n) }
 {
-    let mut whole = start::<C>(alloc, newest, rest.serves, object, sites)?;
-    bring_forward::<C>(alloc, parts, links, object, rest.from, &mut whole)?;
-    Ok(whole)
+    let mut front = start::<C>(alloc, newest, rest.serves, object, sites)?;
+    bring_forward::<C>(alloc, parts, links, object, rest.from, steps, &mut front)?;
+    Ok(front)
 }
 
 /// Keeps a state of the object, if memory allows it.
@@ -245,24 +255,25 @@ fn keep<S: Drop>(
     links: &Links,
     newest: &mut HashMap<u64, Newest<S>>,
     object: &ObjectId,
-    whole: Newest<S>,
+    front: Newest<S>,
 )
-    ensures others { (i : ℕ) (n : Newest S) → get nat_eq newest.new i ≡ Some n → (get nat_eq newest.old i ≡ Some n) ⊎ ((i ≡ tag_of_object object.now) × (n ≡ whole) × (n.at < length links.now.entries.items)) }
+    ensures others { (i : ℕ) (n : Newest S) → get nat_eq newest.new i ≡ Some n → (get nat_eq newest.old i ≡ Some n) ⊎ ((i ≡ tag_of_object object.now) × (n ≡ front) × (n.at < length links.now.entries.items)) }
 {
-    if (whole.at as usize) < links.entries.len() {
-        let _kept = newest.insert(tag_of(object), whole);
+    if (front.at as usize) < links.entries.len() {
+        let _kept = newest.insert(tag_of(object), front);
     }
 }
 
-/// Brings the newest state of the object forward to all of its updates, if the snapshot shows them all, or makes it. Nothing but
-/// what later reads cost depends on whether it is kept.
-pub(crate) fn advance<C: Crdt>(
+/// Brings the kept state of the object forward over what the snapshot shows, up to `short` updates before the end of that, or makes
+/// it. It is left as it is where that would be over no more than `short` updates.
+fn bring<C: Crdt>(
     alloc: Global,
     parts: &[Part<C::Effect>],
     links: &Links,
     newest: &mut HashMap<u64, Newest<C::State>>,
     object: &ObjectId,
     snapshot: &VTime,
+    short: u32,
 ) -> Result<(), AllocError>
     requires reading { IsReading parts.now links.now }
     requires wide { AreWide (length snapshot.now) parts.now }
@@ -270,16 +281,90 @@ pub(crate) fn advance<C: Crdt>(
     ensures hold { AreNewest C.initial C.step (length snapshot.now) (spots parts.now) (get nat_eq newest.new) }
 {
     let rest = rest_of(parts, links, newest, object, snapshot);
-    if rest.from as usize >= links.entries.len() {
-        return Ok(());
-    }
-    if !is_all_shown(parts, links, rest.from, object, snapshot) {
+    let many = shown_from(parts, links, rest.from, object, snapshot);
+    let steps = many.saturating_sub(short);
+    if steps <= short {
         return Ok(());
     }
     let sites = snapshot.width();
-    let whole = whole_state::<C>(alloc, parts, links, newest, object, sites, rest)?;
-    keep(links, newest, object, whole);
+    let front = front_state::<C>(alloc, parts, links, newest, object, sites, rest, steps)?;
+    keep(links, newest, object, front);
     Ok(())
+}
+
+/// Puts a copy of the older state of the object in the place of the newest, if it serves and memory allows it.
+fn renew<C: Crdt>(
+    alloc: Global,
+    parts: &[Part<C::Effect>],
+    links: &Links,
+    newest: &mut HashMap<u64, Newest<C::State>>,
+    older: &HashMap<u64, Newest<C::State>>,
+    object: &ObjectId,
+    snapshot: &VTime,
+)
+    requires reading { IsReading parts.now links.now }
+    requires within { (i : ℕ) (n : Newest C.State) → get nat_eq older.now i ≡ Some n → (n.at < length links.now.entries.items) × (length n.seen ≡ length snapshot.now) }
+    ensures { (i : ℕ) (n : Newest C.State) → get nat_eq newest.new i ≡ Some n → (get nat_eq newest.old i ≡ Some n) ⊎ (get nat_eq older.now i ≡ Some n) }
+{
+    let Some(kept) = kept_for(parts, links, older, object, snapshot) else {
+        return;
+    };
+    let Ok(state) = C::copy(alloc, &kept.state) else {
+        return;
+    };
+    let copied = Newest {
+        at: kept.at,
+        seen: kept.seen,
+        state,
+    };
+    let _kept = newest.insert(tag_of(object), copied);
+}
+
+/// Where no newest state serves, brings the older state of the object forward, and puts a copy of it in the newest one's place. If
+/// memory runs out, there may be neither.
+fn fall_back<C: Crdt>(
+    alloc: Global,
+    parts: &[Part<C::Effect>],
+    links: &Links,
+    newest: &mut HashMap<u64, Newest<C::State>>,
+    older: &mut HashMap<u64, Newest<C::State>>,
+    object: &ObjectId,
+    snapshot: &VTime,
+)
+    requires reading { IsReading parts.now links.now }
+    requires wide { AreWide (length snapshot.now) parts.now }
+    requires hold { AreNewest C.initial C.step (length snapshot.now) (spots parts.now) (get nat_eq newest.old) }
+    requires hold_older { AreNewest C.initial C.step (length snapshot.now) (spots parts.now) (get nat_eq older.old) }
+    ensures hold { AreNewest C.initial C.step (length snapshot.now) (spots parts.now) (get nat_eq newest.new) }
+    ensures hold_older { AreNewest C.initial C.step (length snapshot.now) (spots parts.now) (get nat_eq older.new) }
+{
+    if kept_for(parts, links, newest, object, snapshot).is_some() {
+        return;
+    }
+    let _brought = bring::<C>(alloc, parts, links, older, object, snapshot, SHORT);
+    renew::<C>(alloc, parts, links, newest, older, object, snapshot);
+}
+
+/// Brings the newest state of the object forward over what the snapshot shows, or makes it, from the older one on where that serves.
+/// Nothing but what later reads cost depends on which states are kept.
+pub(crate) fn advance<C: Crdt>(
+    alloc: Global,
+    parts: &[Part<C::Effect>],
+    links: &Links,
+    newest: &mut HashMap<u64, Newest<C::State>>,
+    older: &mut HashMap<u64, Newest<C::State>>,
+    object: &ObjectId,
+    snapshot: &VTime,
+) -> Result<(), AllocError>
+    requires reading { IsReading parts.now links.now }
+    requires wide { AreWide (length snapshot.now) parts.now }
+    requires hold { AreNewest C.initial C.step (length snapshot.now) (spots parts.now) (get nat_eq newest.old) }
+    requires hold_older { AreNewest C.initial C.step (length snapshot.now) (spots parts.now) (get nat_eq older.old) }
+    ensures hold { AreNewest C.initial C.step (length snapshot.now) (spots parts.now) (get nat_eq newest.new) }
+    ensures hold_older { AreNewest C.initial C.step (length snapshot.now) (spots parts.now) (get nat_eq older.new) }
+{
+    fall_back::<C>(alloc, parts, links, newest, older, object, snapshot);
+    bring::<C>(alloc, parts, links, newest, object, snapshot, 0)
 }
 
 /// Drops the newest state at the tag of an update, unless the update comes after all that the state has.

@@ -33,6 +33,7 @@ pub struct Store<C: Crdt> {
     links: Links,
     lists: [Commits; 8],
     newest: HashMap<u64, Newest<C::State>>,
+    older: HashMap<u64, Newest<C::State>>,
     room: usize,
     update_room: usize,
 }
@@ -53,7 +54,7 @@ impl<C: Crdt> Model for Store<C> {
 
     ghost view = { λ s. record { sites = s.sites; parts = arranged earlier s.parts.items; room = s.room; update_room = s.update_room } };
 
-    ghost invariant = { λ s. IsStore s.sites s.parts.items (get ⟦<TxId as PartialEq>⟧.eq s.ids) × IsReading s.parts.items s.links × PartRoom s.room (vec_len s.parts) (vec_capacity s.parts) (spare s.ids) × Roomy s.links s.update_room × AreLists s.sites s.parts.items s.lists × ListRoom s.sites s.room s.lists × AreNewest C.initial C.step s.sites (spots s.parts.items) (get nat_eq s.newest) × (1 ≤ s.sites) × (s.sites ≤ 8) };
+    ghost invariant = { λ s. IsStore s.sites s.parts.items (get ⟦<TxId as PartialEq>⟧.eq s.ids) × IsReading s.parts.items s.links × PartRoom s.room (vec_len s.parts) (vec_capacity s.parts) (spare s.ids) × Roomy s.links s.update_room × AreLists s.sites s.parts.items s.lists × ListRoom s.sites s.room s.lists × AreNewest C.initial C.step s.sites (spots s.parts.items) (get nat_eq s.newest) × AreNewest C.initial C.step s.sites (spots s.parts.items) (get nat_eq s.older) × (1 ≤ s.sites) × (s.sites ≤ 8) };
 }
 
 impl<C: Crdt> Store<C> {
@@ -82,6 +83,7 @@ impl<C: Crdt> Store<C> {
                 Commits::new(alloc),
             ],
             newest: HashMap::new(alloc),
+            older: HashMap::new(alloc),
             room: 0,
             update_room: 0,
         }
@@ -181,6 +183,7 @@ impl<C: Crdt> Store<C> {
         let updates = part.updates.as_slice().len();
         let _room_was_reserved = self.ids.insert(part.tx, place);
         forget(self.parts.as_slice(), &self.links, &mut self.newest, &part);
+        forget(self.parts.as_slice(), &self.links, &mut self.older, &part);
         list_part(
             self.parts.as_slice(),
             &mut self.lists,
@@ -215,8 +218,9 @@ impl<C: Crdt> Store<C> {
         Ok(())
     }
 
-    /// The state of an object at a snapshot. Where the snapshot shows all updates of the object, what comes after the last such read
-    /// is applied, and the state is copied; else the updates that the snapshot shows are applied.
+    /// The state of an object at a snapshot. Two states of each object are kept: the newest has what the last snapshot shows before the
+    /// first update that it doesn't show, and an older one stays behind for parts that come late. The newest that the snapshot shows is
+    /// brought forward and copied, and what else the snapshot shows is applied to the copy.
     ///
     /// # Errors
     ///
@@ -236,6 +240,7 @@ impl<C: Crdt> Store<C> {
             self.parts.as_slice(),
             &self.links,
             &mut self.newest,
+            &mut self.older,
             object,
             snapshot,
         )?;
@@ -249,8 +254,8 @@ impl<C: Crdt> Store<C> {
         )
     }
 
-    /// What an object shows at a snapshot. It costs what `state` costs, but where the snapshot shows all updates of the object no
-    /// state is copied.
+    /// What an object shows at a snapshot. It costs what `state` costs, but where the newest state has all that the snapshot shows it
+    /// isn't copied.
     ///
     /// # Errors
     ///
@@ -270,6 +275,7 @@ impl<C: Crdt> Store<C> {
             self.parts.as_slice(),
             &self.links,
             &mut self.newest,
+            &mut self.older,
             object,
             snapshot,
         )?;

@@ -12,6 +12,7 @@ invariant_of-result g c = (
   search rules,
   search rules,
   newest_none _ _ _ _ _ (λ i. ap (lookup (nat_eq i)) c.new-12.ensures.empty),
+  newest_none _ _ _ _ _ (λ i. ap (lookup (nat_eq i)) c.new-13.ensures.empty),
   c.requires.least,
   c.requires.most,
 )

@@ -14,8 +14,9 @@ invariant_of-self g c = (
   lists_in _ _ _ c.self.inside.lists c.self.invariant.4 c.make_room.ensures.parts,
   c.self.invariant.5,
   newest_in _ _ _ _ _ _ _ refl c.make_room.ensures.parts c.self.invariant.6,
-  c.self.invariant.7,
+  newest_in _ _ _ _ _ _ _ refl c.make_room.ensures.parts c.self.invariant.7,
   c.self.invariant.8,
+  c.self.invariant.9,
 )
 
 pub invariant_of-self-in_err-make_room-2 : goal.invariant_of-self-in_err-make_room-2
@@ -27,8 +28,9 @@ invariant_of-self-in_err-make_room-2 g c = (
   lists_same _ _ _ c.self.inside.lists c.make_room-2.new.lists c.self.invariant.4 c.make_room.ensures.parts c.make_room-2.ensures.same,
   c.make_room-2.ensures.kept _ c.self.invariant.5,
   newest_in _ _ _ _ _ _ _ refl c.make_room.ensures.parts c.self.invariant.6,
-  c.self.invariant.7,
+  newest_in _ _ _ _ _ _ _ refl c.make_room.ensures.parts c.self.invariant.7,
   c.self.invariant.8,
+  c.self.invariant.9,
 )
 
 pub invariant_of-self-in_err-make_room-3 : goal.invariant_of-self-in_err-make_room-3
@@ -40,8 +42,9 @@ invariant_of-self-in_err-make_room-3 g c = (
   lists_same _ _ _ c.self.inside.lists c.make_room-2.new.lists c.self.invariant.4 c.make_room.ensures.parts c.make_room-2.ensures.same,
   list_room_max _ _ _ _ c.make_room-2.new.lists c.max-self-inside.ensures (c.make_room-2.ensures.kept _ c.self.invariant.5) c.in_ok-make_room-2.ensures.ok,
   newest_in _ _ _ _ _ _ _ refl c.make_room.ensures.parts c.self.invariant.6,
-  c.self.invariant.7,
+  newest_in _ _ _ _ _ _ _ refl c.make_room.ensures.parts c.self.invariant.7,
   c.self.invariant.8,
+  c.self.invariant.9,
 )
 
 pub invariant_of-self-2 : goal.invariant_of-self-2
@@ -53,6 +56,7 @@ invariant_of-self-2 g c = (
   lists_same _ _ _ c.self.inside.lists c.make_room-2.new.lists c.self.invariant.4 c.make_room.ensures.parts c.make_room-2.ensures.same,
   list_room_max _ _ _ _ c.make_room-2.new.lists c.max-self-inside.ensures (c.make_room-2.ensures.kept _ c.self.invariant.5) c.in_ok-make_room-2.ensures.ok,
   newest_in _ _ _ _ _ _ _ refl c.make_room.ensures.parts c.self.invariant.6,
-  c.self.invariant.7,
+  newest_in _ _ _ _ _ _ _ refl c.make_room.ensures.parts c.self.invariant.7,
   c.self.invariant.8,
+  c.self.invariant.9,
 )

@@ -1,4 +1,4 @@
-use Rattle.std.proofs.Common.{◌≡◌, refl, sym, ap, ◌∙◌, subst}
+use Rattle.std.proofs.Common.{◌≡◌, length, refl, sym, ap, ◌∙◌, subst}
 use Rattle.std.specs.Prelude.{IfOk}
 use Rattle.effect_store.specs.Stored.{Stored}
 use Rattle.effect_store.proofs.Holding.{apart}
@@ -10,11 +10,18 @@ advance-requires-clause-hold g c =
     let sites : c.self.inside.sites ≡ c.args.self.now.sites = ap (λ (h : Stored g.row.C-Effect.Denot). h.sites) c.self.view_is in
     newest_in _ _ _ _ _ _ _ (c.requires.width ∙ sym sites) c.as_slice.ensures.value c.self.invariant.6
 
+pub advance-requires-clause-hold_older : goal.advance-requires-clause-hold_older
+advance-requires-clause-hold_older g c =
+    let sites : c.self.inside.sites ≡ c.args.self.now.sites = ap (λ (h : Stored g.row.C-Effect.Denot). h.sites) c.self.view_is in
+    newest_in _ _ _ _ _ _ _ (c.requires.width ∙ sym sites) c.as_slice.ensures.value c.self.invariant.7
+
 pub invariant_of-self : goal.invariant_of-self
 invariant_of-self g c =
     let sites : c.self.inside.sites ≡ c.args.self.now.sites = ap (λ (h : Stored g.row.C-Effect.Denot). h.sites) c.self.view_is in
     let i = c.self.invariant in
-    (i.0, i.1, i.2, i.3, i.4, i.5, newest_in _ _ _ _ _ _ _ (sites ∙ sym c.requires.width) (sym c.as_slice.ensures.value) c.advance.ensures.hold, i.7, i.8)
+    let width : c.self.inside.sites ≡ length c.args.snapshot.now = sites ∙ sym c.requires.width in
+    let parts = sym c.as_slice.ensures.value in
+    (i.0, i.1, i.2, i.3, i.4, i.5, newest_in _ _ _ _ _ _ _ width parts c.advance.ensures.hold, newest_in _ _ _ _ _ _ _ width parts c.advance.ensures.hold_older, i.8, i.9)
 
 pub read_value-requires-clause-hold : goal.read_value-requires-clause-hold
 read_value-requires-clause-hold g c = newest_in _ _ _ _ _ _ _ refl (c.as_slice-2.ensures.value ∙ sym c.as_slice.ensures.value) c.advance.ensures.hold
@@ -23,7 +30,9 @@ pub invariant_of-self-2 : goal.invariant_of-self-2
 invariant_of-self-2 g c =
     let sites : c.self.inside.sites ≡ c.args.self.now.sites = ap (λ (h : Stored g.row.C-Effect.Denot). h.sites) c.self.view_is in
     let i = c.self.invariant in
-    (i.0, i.1, i.2, i.3, i.4, i.5, newest_in _ _ _ _ _ _ _ (sites ∙ sym c.requires.width) (sym c.as_slice.ensures.value) c.advance.ensures.hold, i.7, i.8)
+    let width : c.self.inside.sites ≡ length c.args.snapshot.now = sites ∙ sym c.requires.width in
+    let parts = sym c.as_slice.ensures.value in
+    (i.0, i.1, i.2, i.3, i.4, i.5, newest_in _ _ _ _ _ _ _ width parts c.advance.ensures.hold, newest_in _ _ _ _ _ _ _ width parts c.advance.ensures.hold_older, i.8, i.9)
 
 pub returns-clause-value : goal.returns-clause-value
 returns-clause-value g c =

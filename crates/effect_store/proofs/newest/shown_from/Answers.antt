@@ -1,7 +1,7 @@
 use Rattle.std.proofs.Common.{◌<◌, length, arith}
 use Rattle.effect_store.proofs.Reading.{at_place, chain_falls}
 use Rattle.effect_store.proofs.Folding.{width_at}
-use Rattle.effect_store.proofs.newest.is_all_shown.Goals as goal
+use Rattle.effect_store.proofs.newest.shown_from.Goals as goal
 
 pub le-requires : goal.le-requires
 le-requires g c =
