@@ -38,6 +38,10 @@ module _ {E : Type 0} where
     sent = refl;
   }
 
+  -- and so do tables that are equal to these
+  pub made_stands : (t : Tables E) (id : PartId) (sites parts : ℕ) → t ≡ empty_tables id sites parts → Stands t (new_part sites parts)
+  made_stands t id sites parts e = subst (λ u. Stands u (new_part sites parts)) (sym e) (empty_stands id sites parts)
+
 -- a list whose members are all 0
 zeros : (n : ℕ) (b : List ℕ) → length b ≡ n → ((i : ℕ) → i < n → slice_index b i ≡ 0) → b ≡ replicate n 0
 zeros zero [] e f = refl
