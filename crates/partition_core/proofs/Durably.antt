@@ -1,12 +1,12 @@
 -- A call of a partition on its disk, from its call on the tables and its append to the log.
-use Rattle.std.proofs.Common.{◌≡◌, ◌≢◌, ⊎_elim, ℕ, ◌+◌, ◌*◌, ◌-◌, ◌<◌, Bool, true, false, ◌||◌, List, [], ◌∷◌, ◌++◌, length, Option, None, Some, Result, Ok, Err, refl, sym, ap, ◌∙◌, subst, arith}
+use Rattle.std.proofs.Common.{◌≡◌, ℕ, ◌+◌, ◌*◌, ◌-◌, ◌<◌, Bool, true, false, ◌||◌, List, [], ◌∷◌, ◌++◌, length, Option, None, Some, Ok, Err, refl, sym, ap, ◌∙◌, subst, arith}
 use Rattle.std.specs.Prelude.{if◌then◌else◌, IsTrue}
 use Rattle.std.proofs.lemmas.Bool.{true≢false}
-use Rattle.disk_core.specs.Images.{Content, Image}
-use Rattle.disk_core.specs.States.{DiskState, Story, GoesOn, Rose, fewer, Spared}
+use Rattle.disk_core.specs.Images.{Content}
+use Rattle.disk_core.specs.States.{DiskState, Story, GoesOn, fewer, Spared}
 use Rattle.disk_core.specs.Moments.{EachImage, EachImageOfAll, contents, AtEachMoment}
 use Rattle.disk_core.proofs.Moments.{at_first}
-use Rattle.gate_log.specs.Logs.{disk_of, gate_of, is_closed, IsReady}
+use Rattle.gate_log.specs.Logs.{disk_of, gate_of, is_closed}
 use Rattle.gate_log.specs.Rest.{Lowers}
 use Rattle.gate_log.proofs.Steps.{is_log}
 use Rattle.gate_log.specs.declared.log.GateLog.{GateLog}
@@ -21,15 +21,14 @@ use Rattle.crdt_core.specs.KindsOf.{Kinds}
 use Rattle.crdt_core.specs.Log.{grown}
 use Rattle.log_recovery.specs.Rising.{Rises}
 use Rattle.world_model.specs.Event.{Ask, Event, Refused, Cut, attempt, is_restart, IsDown, HasNoRoom}
-use Rattle.world_model.specs.Partition.{PartState, PartStep, MayDo, IsDue, IsRefused, records, cut}
-use Rattle.partition_core.specs.declared.durable.DurableError.{DurableError}
+use Rattle.world_model.specs.Partition.{PartState, PartStep, MayDo, IsDue, records, cut}
 use Rattle.partition_core.specs.declared.durable.DurableError.TheVariants as call
 use Rattle.partition_core.specs.declared.answers.Refusal.{Refusal}
 use Rattle.partition_core.specs.Answers.{cause}
 use Rattle.partition_core.specs.Durable.{Durable, is_down, disk_in, StandsUp, StandsDown, StandsSo, StandsOn}
-use Rattle.partition_core.specs.Moments.{underway, is_cut, SteppedOn, Spends, StepsOn, IsFull, CallsOn, AnySuch}
+use Rattle.partition_core.specs.Moments.{underway, Spends, StepsOn, CallsOn, AnySuch}
 use Rattle.partition_core.specs.Stands.{Stands}
-use Rattle.partition_core.specs.Steps.{Stepped, Steps}
+use Rattle.partition_core.specs.Steps.{Steps}
 use Rattle.partition_core.specs.Stopped.{stopped}
 use Rattle.partition_core.specs.Tables.{Tables, IsSame}
 

@@ -1,5 +1,5 @@
 -- The calls that decide, finish, abort and tell a fate.
-use Rattle.std.proofs.Common.{◌≡◌, ⊎_elim, ℕ, Bool, true, false, ◌||◌, List, [], ◌∷◌, ◌++◌, Option, None, Some, refl, sym, ap, ◌∙◌, subst}
+use Rattle.std.proofs.Common.{◌≡◌, ⊎_elim, ℕ, Bool, true, false, ◌||◌, List, [], ◌∷◌, ◌++◌, None, Some, refl, sym, ap, ◌∙◌, subst}
 use Rattle.std.specs.Prelude.{if◌then◌else◌, Result, Ok, Err}
 use Rattle.std.proofs.lemmas.Bool.{true≢false, cases_Bool, false_from_ne_true}
 use Rattle.site_vector.specs.declared.ids.TxId.{TxId}
@@ -10,13 +10,13 @@ use Rattle.crdt_core.specs.declared.record.Part.{Part}
 use Rattle.crdt_core.specs.declared.record.Record.{Record}
 use Rattle.crdt_core.specs.declared.record.Record.TheVariants.{Decide, Finish, Abort}
 use Rattle.crdt_core.specs.KindsOf.{Kinds}
-use Rattle.crdt_core.specs.Log.{ceiling, committed, committed_at, taken, taken_at, pending, held_at, grown}
+use Rattle.crdt_core.specs.Log.{ceiling, committed, committed_at, taken_at, pending, grown}
 use Rattle.crdt_core.specs.Orders.{insert_by, fold_cmp}
 use Rattle.crdt_core.specs.Parts.{lists, vector_in, AreParts}
 use Rattle.prepared_table.specs.declared.entry.Entry.{Entry}
 use Rattle.prepared_table.specs.Entries.{has_entry, found, IsTakenOut}
-use Rattle.world_model.specs.Event.{Event, Ask, AskDecide, AskFinish, AskAbort, Decided, Finished, Aborted, Refused, IsGone}
-use Rattle.world_model.specs.Partition.{PartState, Fate, ToldPending, ToldCommitted, ToldAborted, ToldDown, fate_of, IsRefused, done}
+use Rattle.world_model.specs.Event.{Event, AskDecide, AskFinish, AskAbort, Decided, Finished, Aborted, Refused, IsGone}
+use Rattle.world_model.specs.Partition.{PartState, Fate, ToldPending, ToldCommitted, ToldAborted, ToldDown, fate_of, done}
 use Rattle.partition_core.specs.Tables.{Tables, knows}
 use Rattle.partition_core.specs.Stands.{Tells, Stands}
 use Rattle.partition_core.specs.Steps.{Anything, Steps}

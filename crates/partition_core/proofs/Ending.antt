@@ -8,7 +8,7 @@ use Rattle.site_vector.specs.Order.{same_tx_is, same_tx_refl}
 use Rattle.crdt_core.specs.declared.record.Part.{Part}
 use Rattle.crdt_core.specs.declared.record.Record.{Record}
 use Rattle.crdt_core.specs.declared.record.Record.TheVariants.{Decide, Finish, Abort}
-use Rattle.crdt_core.specs.Log.{prepared, prepared_changes, committed, committed_at, aborted, pending, taken, taken_at, taken_changes, holds, held_at, held_changes}
+use Rattle.crdt_core.specs.Log.{prepared, prepared_changes, committed, committed_at, aborted, pending, taken, taken_at, taken_changes, held_at, held_changes}
 use Rattle.crdt_core.specs.Orders.{insert_by, fold_cmp}
 use Rattle.crdt_core.specs.Parts.{lists}
 use Rattle.prepared_table.specs.declared.entry.Entry.{Entry}

@@ -1,13 +1,13 @@
 -- What a message brings above a bound has a spelling where the message has one.
-use Rattle.std.proofs.Common.{◌≡◌, ℕ, ltb, Bool, true, false, ◌&&◌, List, [], ◌∷◌, Option, None, Some, refl, sym, ap, ◌∙◌, subst}
-use Rattle.std.specs.Ordering.{is_lt, nat_cmp, ordering_then}
+use Rattle.std.proofs.Common.{◌≡◌, ℕ, ltb, Bool, true, List, [], ◌∷◌, Option, None, Some, refl, ap, ◌∙◌}
+use Rattle.std.specs.Ordering.{is_lt}
 use Rattle.std.specs.declared.cmp.Ordering.{Ordering}
 use Rattle.std.specs.declared.cmp.Ordering.TheVariants.{Less, Equal, Greater}
 use Rattle.std.specs.Cmp.{IsTotalOrder}
 use Rattle.std.specs.List.{list_all}
 use Rattle.field_codec.specs.FormLaws.{both_true, and_true}
 use Rattle.std.proofs.lemmas.Cmp.{nat_cmp_total, on_total, then_total}
-use Rattle.field_codec.specs.Spelling.{may_follow, are_in_order, are_members, is_below}
+use Rattle.field_codec.specs.Spelling.{may_follow, are_in_order, is_below}
 use Rattle.site_vector.specs.Order.{tx_cmp_total}
 use Rattle.site_vector.specs.Vector.{entry}
 use Rattle.crdt_core.specs.declared.kind.Kind.{Kind}

@@ -1,11 +1,11 @@
 -- What the calls of a partition on its disk write, and what they would have written.
-use Rattle.std.proofs.Common.{◌≡◌, ⊎_elim, ℕ, ◌+◌, ◌<◌, ◌≤◌, max, Bool, true, false, ◌||◌, List, [], ◌∷◌, ◌++◌, length, Option, None, Some, Result, Ok, Err, refl, sym, ap, ◌∙◌, subst, arith}
+use Rattle.std.proofs.Common.{◌≡◌, ⊎_elim, ℕ, ◌+◌, ◌<◌, ◌≤◌, max, Bool, true, false, ◌||◌, List, [], ◌∷◌, ◌++◌, Option, Result, Ok, Err, refl, sym, ap, ◌∙◌, subst, arith}
 use Rattle.std.specs.Prelude.{if◌then◌else◌}
 use Rattle.std.proofs.lemmas.Bool.{true≢false, cases_Bool}
 use Rattle.disk_core.specs.States.{DiskState}
 use Rattle.disk_core.specs.Moments.{EachImage}
 use Rattle.disk_core.proofs.Moments.{at_first}
-use Rattle.gate_log.specs.Logs.{is_closed, IsReady}
+use Rattle.gate_log.specs.Logs.{IsReady}
 use Rattle.gate_log.specs.declared.log.GateLog.{GateLog}
 use Rattle.gate_log.specs.declared.error.AppendError.{AppendError}
 use Rattle.partition_log.specs.Codec.{Codec}
@@ -31,7 +31,7 @@ use Rattle.world_model.proofs.Moves.{grown_last}
 use Rattle.prepared_table.specs.Entries.{has_entry}
 use Rattle.world_model.specs.Event.{Ask, AskTick, AskBegin, AskPrepare, AskDecide, AskFinish, AskAbort, AskTake, Event, Refused, HasNoRoom, Ticked, Began, Prepared, Decided, Finished, Aborted, Took, Sent, Reported, Heard, Updated, Crashed, attempt}
 use Rattle.world_model.specs.Event as event
-use Rattle.world_model.specs.Partition.{PartState, PartStep, MayDo, IsDue, IsStableEnough, IsBegin, IsRefused, records, down, batch_of, fate_of, ToldDown, ToldPending, ToldCommitted, ToldAborted}
+use Rattle.world_model.specs.Partition.{PartState, PartStep, MayDo, IsDue, IsBegin, IsRefused, records, down, batch_of, fate_of, ToldDown, ToldPending, ToldCommitted, ToldAborted}
 use Rattle.partition_core.specs.declared.durable.DurableError.{DurableError}
 use Rattle.partition_core.specs.declared.answers.Refusal.{Refusal}
 use Rattle.partition_core.specs.declared.answers.Refusal.TheVariants as answer
@@ -40,12 +40,12 @@ use Rattle.partition_core.specs.declared.answers.CallError.TheVariants as tables
 use Rattle.partition_core.specs.Answers.{cause, Called}
 use Rattle.partition_core.specs.Durable.{Durable, StandsUp, StandsDown, StandsOn, disk_in, is_down}
 use Rattle.partition_core.specs.Leases.{wanted, leased, lease_at, showing}
-use Rattle.partition_core.specs.Moments.{SteppedOn, StepsOn, CallsOn, AnySuch, Crashes, underway}
+use Rattle.partition_core.specs.Moments.{SteppedOn, StepsOn, CallsOn, Crashes, underway}
 use Rattle.partition_core.specs.Stands.{Stands}
 use Rattle.partition_core.specs.Steps.{Steps, Anything, NamesNowhere}
 use Rattle.partition_core.specs.Stopped.{stopped, uncalled}
 use Rattle.partition_core.specs.Tables.{Tables}
-use Rattle.partition_core.proofs.Durably.{IsWritten, Would, with_log, alive, done_call, stopped_call, stands_up, stands_down, underway_down, images, still}
+use Rattle.partition_core.proofs.Durably.{IsWritten, with_log, alive, done_call, stopped_call, stands_up, stands_down, underway_down, images, still}
 use Rattle.partition_core.proofs.Writing.{nothing_appended, leases_wanted}
 use Rattle.partition_core.proofs.Leasing.{ticks, refuses}
 

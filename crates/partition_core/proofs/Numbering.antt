@@ -1,5 +1,5 @@
 -- What a read finds holds updates alone whose ids can be spelled, where the ids of what it folds can be.
-use Rattle.std.proofs.Common.{◌≡◌, ⊎_elim, ℕ, Bool, true, false, ◌&&◌, List, [], ◌∷◌, refl, sym, ◌∙◌, subst}
+use Rattle.std.proofs.Common.{◌≡◌, ⊎_elim, ℕ, Bool, true, ◌&&◌, List, [], ◌∷◌, refl, sym, ◌∙◌, subst}
 use Rattle.std.specs.Prelude.{if◌then◌else◌, filter, ⊤}
 use Rattle.std.specs.List.{list_all}
 use Rattle.std.proofs.lemmas.Bool.{true≢false, or_cases}

@@ -1,7 +1,7 @@
 -- Lists of parts: one part more, those that pass a test, and those in order.
-use Rattle.std.proofs.Common.{◌≡◌, ◌≢◌, ⊎_elim, ℕ, Bool, true, false, ◌&&◌, ◌||◌, List, [], ◌∷◌, refl, sym, ap, ◌∙◌, subst}
+use Rattle.std.proofs.Common.{◌≡◌, ◌≢◌, ℕ, Bool, true, false, ◌&&◌, ◌||◌, List, [], ◌∷◌, refl, sym, ap, ◌∙◌}
 use Rattle.std.specs.Prelude.{if◌then◌else◌, filter}
-use Rattle.std.proofs.lemmas.Bool.{true≢false, cases_Bool, false_from_ne_true, or_left, or_right}
+use Rattle.std.proofs.lemmas.Bool.{true≢false, or_left, or_right}
 use Rattle.std.proofs.lemmas.Cmp.{nat_cmp_total, on_total, then_total}
 use Rattle.std.specs.Cmp.{IsTotalOrder}
 use Rattle.std.specs.Ordering.{nat_cmp}
@@ -16,7 +16,7 @@ use Rattle.crdt_core.specs.declared.record.Part.{Part}
 use Rattle.crdt_core.specs.Orders.{Ascends, is_less, insert_by, sorted_by, fold_cmp, stream_cmp}
 use Rattle.crdt_core.specs.Parts.{lists, AreParts}
 use Rattle.partition_core.specs.Messages.{AreApart}
-use Rattle.partition_core.proofs.Choices.{chosen, or_swap, or_falses, first_false, second_false}
+use Rattle.partition_core.proofs.Choices.{chosen, or_swap, first_false, second_false}
 use Rattle.partition_core.proofs.Sorting.{TiesWithNone, then_equal, ascends_inserted}
 
 -- where x is u, it is among them exactly if it passes

@@ -1,5 +1,5 @@
 -- The call that prepares.
-use Rattle.std.proofs.Common.{◌≡◌, ℕ, ◌+◌, ◌<◌, ◌≤◌, true, List, [], ◌∷◌, ◌++◌, refl, sym, ap, ◌∙◌, subst, arith}
+use Rattle.std.proofs.Common.{◌≡◌, ℕ, ◌+◌, ◌<◌, ◌≤◌, true, List, [], refl, sym, ap, ◌∙◌, subst, arith}
 use Rattle.site_vector.specs.declared.ids.TxId.{TxId}
 use Rattle.site_vector.specs.Vector.{entry}
 use Rattle.crdt_core.specs.declared.record.Upd.{Upd}
@@ -13,7 +13,7 @@ use Rattle.prepared_table.specs.Entries.{entry_cmp}
 use Rattle.prepared_table.specs.Leases.{Lent}
 use Rattle.crdt_core.specs.declared.record.Part.{Part}
 use Rattle.world_model.specs.Event.{Event, AskPrepare, Prepared, Refused, ClockBehind, ClockAtEnd}
-use Rattle.world_model.specs.Partition.{PartState, done}
+use Rattle.world_model.specs.Partition.{done}
 use Rattle.world_model.proofs.Moves.{grown_last}
 use Rattle.partition_core.specs.Tables.{Tables}
 use Rattle.partition_core.specs.Leases.{leased}

@@ -12,9 +12,8 @@ use Rattle.crdt_core.specs.declared.record.Record.TheVariants.{Prepare}
 use Rattle.crdt_core.specs.Log.{prepared, prepare_time, prepared_lead, prepared_snapshot, prepared_changes, committed, aborted, pending, taken_changes, held_at, held_changes}
 use Rattle.crdt_core.specs.Orders.{insert_by}
 use Rattle.prepared_table.specs.declared.entry.Entry.{Entry}
-use Rattle.prepared_table.specs.Entries.{has_entry, entry_cmp}
+use Rattle.prepared_table.specs.Entries.{entry_cmp}
 use Rattle.partition_core.specs.Stands.{told, IsTable, IsStore, Tells, IsNew}
-use Rattle.partition_core.proofs.Choices.{and_none}
 use Rattle.partition_core.proofs.Sorting.{ascends_inserted}
 use Rattle.partition_core.proofs.PartLists.{parts_alike}
 use Rattle.partition_core.proofs.EntryLists.{entry_total, entries_apart, has_inserted, entries_inserted, entries_alike}

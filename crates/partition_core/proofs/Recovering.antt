@@ -1,7 +1,7 @@
 -- The tables of a partition that comes up are those that its log tells of.
-use Rattle.std.proofs.Common.{◌≡◌, ◌≢◌, ⊎_elim, ℕ, ◌+◌, ◌≤◌, Bool, true, false, ◌||◌, leb, List, [], ◌∷◌, ◌++◌, length, None, refl, sym, ap, ◌∙◌, subst, arith}
-use Rattle.std.specs.Prelude.{if◌then◌else◌, replicate}
-use Rattle.std.proofs.lemmas.Bool.{true≢false, cases_Bool, false_from_ne_true, or_left, or_right, leb-true}
+use Rattle.std.proofs.Common.{◌≡◌, ℕ, ◌+◌, ◌≤◌, Bool, true, false, ◌||◌, List, [], ◌∷◌, length, None, refl, sym, ap, ◌∙◌, subst, arith}
+use Rattle.std.specs.Prelude.{replicate}
+use Rattle.std.proofs.lemmas.Bool.{true≢false, false_from_ne_true, or_left, or_right, leb-true}
 use Rattle.site_vector.specs.declared.ids.PartId.{PartId}
 use Rattle.site_vector.specs.declared.ids.TxId.{TxId}
 use Rattle.site_vector.specs.Ids.{same_tx}
@@ -11,7 +11,7 @@ use Rattle.crdt_core.specs.declared.record.Part.{Part}
 use Rattle.crdt_core.specs.declared.record.Record.{Record}
 use Rattle.crdt_core.specs.declared.record.Record.TheVariants.{Lease, Prepare, Decide, Finish, Abort, Batch}
 use Rattle.crdt_core.specs.Fitting.{unfit, fits_record}
-use Rattle.crdt_core.specs.Log.{end_of_time, ceiling, pending, holds, held_at, held_changes}
+use Rattle.crdt_core.specs.Log.{end_of_time, ceiling, held_at, held_changes}
 use Rattle.crdt_core.specs.Orders.{Ascends, insert_by, fold_cmp}
 use Rattle.crdt_core.specs.Parts.{lists, AreParts}
 use Rattle.prepared_table.specs.declared.entry.Entry.{Entry}
@@ -29,7 +29,7 @@ use Rattle.partition_core.specs.Tables.{Tables}
 use Rattle.partition_core.proofs.Choices.{or_falses}
 use Rattle.partition_core.proofs.EntryLists.{has_inserted, entries_inserted}
 use Rattle.partition_core.proofs.PartLists.{fold_total, fold_apart, parts_inserted}
-use Rattle.partition_core.proofs.Rooms.{single_inserted, updates_inserted, length_inserted}
+use Rattle.partition_core.proofs.Rooms.{single_inserted, updates_inserted}
 use Rattle.partition_core.proofs.Sorting.{ascends_inserted}
 use Rattle.partition_core.proofs.Taking.{lists_all}
 

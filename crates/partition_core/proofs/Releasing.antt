@@ -1,10 +1,9 @@
 -- A message to another site: what was committed here between two times.
-use Rattle.std.proofs.Common.{◌≡◌, ◌≢◌, ⊎_elim, ℕ, ltb, leb, Bool, true, false, ◌&&◌, ◌||◌, List, [], ◌∷◌, Option, None, Some, refl, sym, ap, ◌∙◌, subst}
-use Rattle.std.specs.Prelude.{◌==◌, if◌then◌else◌, filter}
-use Rattle.std.proofs.lemmas.Bool.{true≢false, cases_Bool, false_from_ne_true, eqb-true, eq-eqb, and_parts}
+use Rattle.std.proofs.Common.{◌≡◌, ◌≢◌, ℕ, ltb, leb, Bool, true, false, ◌&&◌, ◌||◌, List, [], ◌∷◌, Option, None, Some, refl, sym, ap, ◌∙◌, subst}
+use Rattle.std.specs.Prelude.{◌==◌, if◌then◌else◌}
+use Rattle.std.proofs.lemmas.Bool.{true≢false, false_from_ne_true, eqb-true, eq-eqb, and_parts}
 use Rattle.std.specs.Ordering.{nat_cmp, ordering_then}
 use Rattle.site_vector.specs.declared.ids.TxId.{TxId}
-use Rattle.site_vector.specs.Ids.{same_tx}
 use Rattle.site_vector.specs.Order.{same_tx_is, tx_cmp}
 use Rattle.site_vector.specs.Vector.{entry, sum, replaced}
 use Rattle.crdt_core.specs.declared.record.Upd.{Upd}
@@ -16,11 +15,10 @@ use Rattle.crdt_core.specs.Log.{committed, committed_at, prepared_changes, taken
 use Rattle.crdt_core.specs.Orders.{Precede, Ascends, sorted_by, fold_cmp, stream_cmp}
 use Rattle.crdt_core.specs.Parts.{lists, AreParts, parts_between}
 use Rattle.world_model.specs.Event.{Sent}
-use Rattle.world_model.specs.Partition.{PartState, IsOther, IsMessage, done}
+use Rattle.world_model.specs.Partition.{IsOther, done}
 use Rattle.partition_core.specs.Tables.{Tables}
 use Rattle.partition_core.specs.Bounds.{own_bound}
 use Rattle.partition_core.specs.Messages.{AreApart, start_of}
-use Rattle.partition_core.specs.Stands.{Tells, Stands}
 use Rattle.partition_core.specs.Steps.{Anything, Steps}
 use Rattle.partition_core.proofs.Choices.{or_falses}
 use Rattle.partition_core.proofs.Sorting.{not_itself, ascends_filter}

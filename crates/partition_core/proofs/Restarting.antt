@@ -1,11 +1,9 @@
 -- A restart is a restart of the rules.
-use Rattle.std.proofs.Common.{◌≡◌, ◌≢◌, ⊎_elim, ℕ, ◌≤◌, Bool, true, false, ◌||◌, List, [], ◌∷◌, map, Option, None, Some, Result, Ok, Err, refl, sym, ap, ◌∙◌, subst}
-use Rattle.std.specs.Prelude.{if◌then◌else◌, IsTrue}
-use Rattle.std.specs.List.{list_any}
-use Rattle.std.specs.declared.cmp.Ordering.TheVariants.{Less}
+use Rattle.std.proofs.Common.{◌≡◌, ◌≢◌, ⊎_elim, ℕ, true, false, ◌||◌, List, [], ◌∷◌, map, Some, Result, Err, refl, sym, ap, ◌∙◌, subst}
+use Rattle.std.specs.Prelude.{IsTrue}
 use Rattle.std.proofs.lemmas.Bool.{cases_Bool}
 use Rattle.disk_core.specs.States.{DiskState, GoesOn, Rose}
-use Rattle.disk_core.specs.Moments.{EachImage, AtEachMoment}
+use Rattle.disk_core.specs.Moments.{AtEachMoment}
 use Rattle.gate_log.specs.Rest.{Lowers}
 use Rattle.gate_log.specs.declared.error.OpenError.{OpenError}
 use Rattle.gate_log.specs.declared.error.OpenError.TheVariants as open_error
@@ -16,11 +14,10 @@ use Rattle.partition_log.specs.Logs.{HasRecords, HoldsFront, LeavesFront}
 use Rattle.site_vector.specs.declared.ids.PartId.{PartId}
 use Rattle.site_vector.specs.declared.ids.TxId.{TxId}
 use Rattle.site_vector.specs.Ids.{same_tx}
-use Rattle.site_vector.specs.Vector.{entry}
 use Rattle.crdt_core.specs.declared.record.Record.{Record}
 use Rattle.crdt_core.specs.Fitting.{unfit}
 use Rattle.crdt_core.specs.KindsOf.{Kinds}
-use Rattle.crdt_core.specs.Log.{MayFind, grown, ceiling, pending, prepare_time, last_decided}
+use Rattle.crdt_core.specs.Log.{MayFind, grown}
 use Rattle.crdt_core.specs.Orders.{Ascends, Precede, pending_cmp}
 use Rattle.prepared_table.specs.declared.entry.Entry.{Entry}
 use Rattle.prepared_table.specs.Entries.{has_entry, entry_cmp}
@@ -29,8 +26,8 @@ use Rattle.log_recovery.specs.Rising.{Rises}
 use Rattle.log_recovery.specs.RisingLaws.{found_rises}
 use Rattle.world_model.specs.Event.{RestartCut, attempt}
 use Rattle.world_model.specs.Event as event
-use Rattle.world_model.specs.Partition.{PartState, names_pending, AreTimed, IsBounds, IsRestart, down, records}
-use Rattle.partition_core.specs.Durable.{Durable, StandsUp, StandsDown, StandsSo, StandsOn, disk_in, is_down}
+use Rattle.world_model.specs.Partition.{PartState, names_pending, AreTimed, down, records}
+use Rattle.partition_core.specs.Durable.{Durable, StandsOn, disk_in, is_down}
 use Rattle.partition_core.specs.Moments.{SteppedOn, underway}
 use Rattle.partition_core.specs.Recovered.{IsToldBy, resumed}
 use Rattle.partition_core.specs.Restarts.{StaysDown, ComesUp, RestartsOn, unopened}

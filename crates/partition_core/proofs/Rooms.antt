@@ -1,11 +1,9 @@
 -- The room for what is pending, as entries come and go.
-use Rattle.std.proofs.Common.{◌≡◌, ⊎_elim, ℕ, suc, ◌+◌, ◌≤◌, Bool, true, false, ◌||◌, List, [], ◌∷◌, ◌++◌, length, Option, None, Some, refl, sym, ap, ◌∙◌, subst, arith, length-append}
-use Rattle.std.specs.Prelude.{if◌then◌else◌}
+use Rattle.std.proofs.Common.{◌≡◌, ⊎_elim, ℕ, ◌+◌, ◌≤◌, true, false, ◌||◌, List, [], ◌∷◌, ◌++◌, length, None, Some, refl, sym, ap, ◌∙◌, subst, arith}
 use Rattle.std.proofs.lemmas.Bool.{true≢false, cases_Bool, false_from_ne_true, or_left, or_right}
 use Rattle.site_vector.specs.declared.ids.TxId.{TxId}
 use Rattle.site_vector.specs.Ids.{same_tx}
 use Rattle.site_vector.specs.Order.{same_tx_is, same_tx_refl, same_tx_symm}
-use Rattle.crdt_core.specs.declared.record.Part.{Part}
 use Rattle.crdt_core.specs.Orders.{is_less, insert_by, fold_cmp}
 use Rattle.crdt_core.specs.Parts.{lists}
 use Rattle.prepared_table.specs.declared.entry.Entry.{Entry}

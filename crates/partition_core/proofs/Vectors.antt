@@ -1,5 +1,5 @@
 -- Entries of vectors.
-use Rattle.std.proofs.Common.{◌≡◌, ◌≢◌, ℕ, ◌-◌, ◌≤◌, ◌<◌, List, length, arith, length-set, get_or-set_same, get_or-set_other}
+use Rattle.std.proofs.Common.{◌≡◌, ◌≢◌, ℕ, ◌-◌, ◌≤◌, List, length, arith, length-set, get_or-set_same, get_or-set_other}
 use Rattle.site_vector.specs.Vector.{entry, replaced}
 
 pub entry_replaced : (v : List ℕ) (site n : ℕ) → 1 ≤ site → site ≤ length v → entry (replaced v site n) site ≡ n

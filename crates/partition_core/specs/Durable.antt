@@ -1,6 +1,6 @@
 -- A partition on its disk, as contracts see it, and when it stands for a partition's state.
-use Rattle.std.specs.Prelude.{◌≡◌, ℕ, ◌||◌, Bool, true, false, List, IsTrue}
-use Rattle.disk_core.specs.States.{DiskState, Story}
+use Rattle.std.specs.Prelude.{◌≡◌, ◌||◌, Bool, true, false, IsTrue}
+use Rattle.disk_core.specs.States.{DiskState}
 use Rattle.disk_core.specs.Moments.{EachImage}
 use Rattle.gate_log.specs.declared.log.GateLog.{GateLog}
 use Rattle.gate_log.specs.Logs.{disk_of, is_closed}

@@ -1,5 +1,5 @@
 -- What a restart of a partition on its disk owes.
-use Rattle.std.specs.Prelude.{◌≡◌, ◌≢◌, ℕ, Bool, true, false, List, [], ◌∷◌, map, Some, Result, Ok, Err}
+use Rattle.std.specs.Prelude.{◌≡◌, ◌≢◌, ℕ, true, false, List, map, Some, Result, Ok, Err}
 use Rattle.disk_core.specs.States.{DiskState, GoesOn, Rose}
 use Rattle.gate_log.specs.Rest.{Lowers}
 use Rattle.gate_log.specs.declared.error.OpenError.{OpenError}

@@ -1,5 +1,5 @@
 -- When a read has to wait, and when it may go on.
-use Rattle.std.specs.Prelude.{◌≡◌, ℕ, ◌<◌, ◌≤◌, List, Option, None, Some}
+use Rattle.std.specs.Prelude.{◌≡◌, ℕ, ◌<◌, ◌≤◌, List, None, Some}
 use Rattle.site_vector.specs.Vector.{entry}
 use Rattle.crdt_core.specs.declared.object.ObjectId.{ObjectId}
 use Rattle.prepared_table.specs.declared.entry.Entry.{Entry}

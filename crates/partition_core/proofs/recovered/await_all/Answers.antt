@@ -1,4 +1,4 @@
-use Rattle.std.proofs.Common.{◌≡◌, ◌+◌, ap, sym, ◌∙◌, length, arith}
+use Rattle.std.proofs.Common.{ap, length, arith}
 use Rattle.partition_core.proofs.Recovering.{filling_more, filling_fits, filling_ends, none_left}
 use Rattle.partition_core.proofs.recovered.await_all.Goals as goal
 

@@ -1,4 +1,4 @@
-use Rattle.std.proofs.Common.{◌≡◌, ◌∙◌, ap, sym, subst, false}
+use Rattle.std.proofs.Common.{◌∙◌, ap, sym, subst}
 use Rattle.partition_log.specs.Codec.{codec_of}
 use Rattle.partition_log.specs.Gates.{gates_of}
 use Rattle.partition_core.specs.Durable.{StandsOn, is_down}

@@ -1,6 +1,5 @@
-use Rattle.std.proofs.Common.{◌≡◌, ◌≤◌, ◌<◌, ◌+◌, ◌∙◌, ap, sym, refl, subst, false, Err}
+use Rattle.std.proofs.Common.{◌≡◌, ◌∙◌, ap, sym, refl, Err}
 use Rattle.std.proofs.lemmas.Result.{err_from_is_err_and}
-use Rattle.site_vector.specs.Vector.{entry}
 use Rattle.crdt_core.specs.KindsOf.{kinds_of}
 use Rattle.partition_log.specs.Codec.{codec_of}
 use Rattle.partition_log.specs.Gates.{gates_of}
@@ -10,7 +9,7 @@ use Rattle.partition_core.specs.Durable.{is_down}
 use Rattle.partition_core.specs.Steps.{NamesNowhere}
 use Rattle.partition_core.specs.Stopped.{stopped}
 use Rattle.partition_core.proofs.Durably.{down_call}
-use Rattle.partition_core.proofs.Logged.{on_disk, opened_on, opened_steps, opened_rest, opened_onto, refused_on, vote_done, vote_stopped}
+use Rattle.partition_core.proofs.Logged.{on_disk, opened_steps, opened_rest, opened_onto, refused_on, vote_done, vote_stopped}
 use Rattle.partition_core.proofs.durable.DurablePartition.prepare.Goals as goal
 
 pub returns-then-is_down : goal.returns-then-is_down

@@ -1,4 +1,4 @@
-use Rattle.std.proofs.Common.{◌≡◌, ◌∙◌, true, false, Err, Some, reverse, sym, ap, subst, refl}
+use Rattle.std.proofs.Common.{◌≡◌, ◌∙◌, true, false, Err, Some, reverse}
 use Rattle.std.proofs.lemmas.Result.{err_from_is_err_and}
 use Rattle.crdt_core.specs.Fitting.{unfit}
 use Rattle.crdt_core.specs.KindsOf.{kinds_of}

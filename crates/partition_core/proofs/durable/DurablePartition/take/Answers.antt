@@ -1,4 +1,4 @@
-use Rattle.std.proofs.Common.{◌≡◌, ◌∙◌, ap, sym, refl, false, Err}
+use Rattle.std.proofs.Common.{◌≡◌, ◌∙◌, ap, sym, refl, Err}
 use Rattle.std.proofs.lemmas.Result.{err_from_is_err_and}
 use Rattle.crdt_core.specs.KindsOf.{kinds_of}
 use Rattle.partition_log.specs.Codec.{codec_of}
@@ -9,7 +9,7 @@ use Rattle.partition_core.specs.Durable.{is_down}
 use Rattle.partition_core.specs.Steps.{Anything}
 use Rattle.partition_core.specs.Stopped.{stopped}
 use Rattle.partition_core.proofs.Durably.{down_call}
-use Rattle.partition_core.proofs.Logged.{on_disk, opened_on, opened_steps, opened_rest, opened_onto, refused_on, take_done, take_stopped}
+use Rattle.partition_core.proofs.Logged.{on_disk, opened_steps, opened_rest, opened_onto, refused_on, take_done, take_stopped}
 use Rattle.partition_core.proofs.durable.DurablePartition.take.Goals as goal
 
 pub returns-then-is_down : goal.returns-then-is_down

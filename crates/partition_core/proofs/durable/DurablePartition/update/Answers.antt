@@ -1,11 +1,10 @@
-use Rattle.std.proofs.Common.{◌≡◌, ◌∙◌, ap, sym, refl, subst, false, Err, ℕ, List, Option}
+use Rattle.std.proofs.Common.{◌≡◌, ◌∙◌, ap, sym, refl, subst, Err, ℕ, List, Option}
 use Rattle.std.proofs.lemmas.Result.{err_from_is_err_and}
 use Rattle.crdt_core.specs.declared.record.Part.{Part}
 use Rattle.crdt_core.specs.KindsOf.{kinds_of}
 use Rattle.partition_log.specs.Codec.{codec_of}
 use Rattle.partition_log.specs.Gates.{gates_of}
 use Rattle.world_model.specs.Event.{AskUpdate, Updated}
-use Rattle.world_model.specs.Event as event
 use Rattle.partition_core.specs.Durable.{StandsOn, is_down}
 use Rattle.partition_core.specs.Steps.{Anything}
 use Rattle.partition_core.specs.Stopped.{uncalled}

@@ -1,4 +1,4 @@
-use Rattle.std.proofs.Common.{◌≡◌, ◌<◌, ◌+◌, ap, sym, ◌∙◌, refl, arith}
+use Rattle.std.proofs.Common.{◌<◌, ◌+◌, ap, sym, ◌∙◌, refl, arith}
 use Rattle.crdt_core.specs.Log.{end_of_time}
 use Rattle.partition_core.specs.Leases.{leased}
 use Rattle.partition_core.proofs.Leasing.{unchanged, opened_to}

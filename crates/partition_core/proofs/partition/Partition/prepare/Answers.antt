@@ -1,4 +1,4 @@
-use Rattle.std.proofs.Common.{◌≡◌, ◌+◌, ◌<◌, ◌≤◌, false, length, arith, ap, sym, ◌∙◌, subst}
+use Rattle.std.proofs.Common.{◌+◌, ◌<◌, ◌≤◌, length, arith, ap, sym, ◌∙◌}
 use Rattle.site_vector.specs.Vector.{entry}
 use Rattle.crdt_core.specs.Log.{end_of_time}
 use Rattle.crdt_core.specs.Orders.{insert_by}

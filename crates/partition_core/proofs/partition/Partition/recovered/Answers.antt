@@ -1,6 +1,5 @@
-use Rattle.std.proofs.Common.{◌≡◌, ◌+◌, ◌≤◌, length, ap, sym, ◌∙◌, refl, arith}
+use Rattle.std.proofs.Common.{◌+◌, ◌≤◌, length, ap, ◌∙◌, refl, arith}
 use Rattle.std.proofs.lemmas.List.{length-replicate}
-use Rattle.crdt_core.specs.Log.{end_of_time}
 use Rattle.partition_core.specs.Messages.{inserted, updates_in}
 use Rattle.partition_core.proofs.Recovering.{ceiling_ends, recovered_home, recovered_room, recovered_stands}
 use Rattle.partition_core.proofs.partition.Partition.recovered.Goals as goal

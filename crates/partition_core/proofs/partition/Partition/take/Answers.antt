@@ -1,5 +1,4 @@
 use Rattle.std.proofs.Common.{◌≡◌, ◌+◌, ◌<◌, ◌≤◌, length, ap, sym, ◌∙◌, refl, subst, arith}
-use Rattle.site_vector.specs.Vector.{entry}
 use Rattle.crdt_core.specs.Parts.{above}
 use Rattle.partition_core.specs.Messages.{AreWideParts, inserted, updates_in}
 use Rattle.partition_core.proofs.Leasing.{opened}
