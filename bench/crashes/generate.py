@@ -7,21 +7,17 @@ In a round one session of each site moves a counter of each partition and commit
 sends to its twins, and all is delivered, reported and heard. In each third round a partition crashes before that and
 restarts, and the round after a fuse stops the disk of another while it votes. Clocks are ahead of each snapshot, so
 that nothing waits. LINES is 100,000; the script ends with the last round that fits."""
+import os
 import sys
+
+sys.path.insert(0, os.path.join(os.path.dirname(os.path.abspath(__file__)), ".."))
+from placing import place
 
 LINES = int(sys.argv[1]) if len(sys.argv) > 1 else 100_000
 SITES, PARTS = 3, 4
 OBJECTS = 200
 # The clock of a partition that restarts stands at the end of its lease, at most so far ahead.
 LEASE = 1_000
-
-
-def place(key):
-    """The one of four partitions that holds an object without a bucket."""
-    number = 7
-    for byte in b"\0" + key.encode():
-        number = (31 * number + byte) % 65536
-    return 1 + number % PARTS
 
 
 def clocks(site, time):
@@ -76,7 +72,7 @@ def faults(number, time, keys):
 
 def main():
     keys = ["k%d" % number for number in range(OBJECTS)]
-    held = [[key for key in keys if place(key) == part] for part in range(1, PARTS + 1)]
+    held = [[key for key in keys if place(key, PARTS) == part] for part in range(1, PARTS + 1)]
     out = ["cluster %d %d" % (SITES, PARTS)] + ["session s%d %d" % (site, site) for site in range(1, SITES + 1)]
     counts = {"m": 0, "g": 0}
     number, time = 0, 10

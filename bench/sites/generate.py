@@ -7,19 +7,15 @@ One session after another updates a counter at both partitions of its site, read
 partitions send what was committed to each other site, where it is delivered, reported and heard, so that all later
 snapshots show it. Nothing is refused, and nothing waits. LINES is 1,000,000; the script ends with the last transaction
 that fits."""
+import os
 import sys
+
+sys.path.insert(0, os.path.join(os.path.dirname(os.path.abspath(__file__)), ".."))
+from placing import place
 
 LINES = int(sys.argv[1]) if len(sys.argv) > 1 else 1_000_000
 SITES = 8
 OBJECTS = 1_000
-
-
-def place(key):
-    """The one of two partitions that holds an object without a bucket."""
-    number = 7
-    for byte in b"\0" + key.encode():
-        number = (31 * number + byte) % 65536
-    return 1 + number % 2
 
 
 def transaction(site, time, keys):
@@ -52,7 +48,7 @@ def streams(site, round_number):
 
 def main():
     keys = ["k%d" % number for number in range(OBJECTS)]
-    held = [[key for key in keys if place(key) == part] for part in (1, 2)]
+    held = [[key for key in keys if place(key, 2) == part] for part in (1, 2)]
     out = ["cluster %d 2\n" % SITES] + ["session s%d %d\n" % (site, site) for site in range(1, SITES + 1)]
     number = 0
     lines = []
