@@ -1,4 +1,5 @@
 pub mod FormLaws
+pub mod Inline
 pub mod Lawful
 pub mod Reading
 pub mod Refusals

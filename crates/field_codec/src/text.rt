@@ -9,8 +9,10 @@ ghost use Rattle.std.proofs.Common.{rules};
 ghost use Rattle.field_codec.specs.Spelling.{text as spelled, is_text, is_below};
 ghost use Rattle.field_codec.specs.FormLaws.{any_text_form};
 ghost use Rattle.field_codec.specs.Reading.{Gives, text_at, bytes_at};
+ghost use Rattle.field_codec.specs.Inline.{bytes_of};
 
 use crate::{Form, TakeError, put_u16, take_u16};
+use arrayvec::ArrayString;
 use std::alloc::{AllocError, Global};
 use std::cmp::Ordering;
 use std::hash::{Hash, Hasher};
@@ -19,20 +21,31 @@ use std::marker::Model;
 /// The most bytes of a text.
 pub const MOST_BYTES: usize = 256;
 
-/// A text of at most 256 bytes in UTF-8. Contracts see it as its bytes.
+/// The most bytes of a text that takes no memory of its own.
+const MOST_INLINE: usize = 16;
+
+/// Where a text's bytes lie: in the value itself, or in memory of their own.
+#[derive(Debug, Drop)]
+enum Bytes {
+    Inline(ArrayString<16>),
+    Apart(String),
+}
+
+/// A text of at most 256 bytes in UTF-8. Contracts see it as its bytes. One of at most 16 bytes takes no memory.
 #[derive(Debug, Drop)]
 pub struct Text {
-    text: String,
+    bytes: Bytes,
 }
 
 impl Model for Text {
-    ghost use Rattle.std.specs.Prelude.{ℕ, List, ◌≤◌, length, string_bytes};
+    ghost use Rattle.std.specs.Prelude.{ℕ, List, ◌≤◌, length};
+    ghost use Rattle.field_codec.specs.Inline.{bytes_of};
 
     ghost Value = { List ℕ };
 
-    ghost view = { λ t. string_bytes t.text };
+    ghost view = { λ t. bytes_of t.bytes };
 
-    ghost invariant = { λ t. length (string_bytes t.text) ≤ 256 };
+    ghost invariant = { λ t. length (bytes_of t.bytes) ≤ 256 };
 }
 
 impl Text {
@@ -49,16 +62,34 @@ impl Text {
         if s.len() > MOST_BYTES {
             return Ok(None);
         }
-        let text = String::from_str(alloc, s)?;
-        Ok(Some(Text { text }))
+        Ok(Some(Text::short(alloc, s)?))
+    }
+
+    #[tactic(auto, unfolding(crate::specs::Inline::bytes_of))]
+    fn short(alloc: Global, s: &str) -> Result<Text, AllocError>
+        requires { length s.now ≤ 256 }
+        ensures { IfOk result (λ t. t ≡ s.now) }
+    {
+        let bytes = if s.len() <= MOST_INLINE {
+            let mut inline = ArrayString::new();
+            inline.push_str(s);
+            Bytes::Inline(inline)
+        } else {
+            Bytes::Apart(String::from_str(alloc, s)?)
+        };
+        Ok(Text { bytes })
     }
 
     /// The text's characters.
+    #[tactic(auto, unfolding(crate::specs::Inline::bytes_of))]
     pub fn as_str(&self) -> &str
         ensures value { result.now ≡ self.now }
         ensures small { length self.now ≤ 256 }
     {
-        self.text.as_str()
+        match &self.bytes {
+            Bytes::Inline(bytes) => bytes.as_str(),
+            Bytes::Apart(bytes) => bytes.as_str(),
+        }
     }
 
     /// An equal text.
@@ -66,11 +97,15 @@ impl Text {
     /// # Errors
     ///
     /// `AllocError` where memory runs out.
+    #[tactic(auto, unfolding(crate::specs::Inline::bytes_of))]
     pub fn copy(&self, alloc: Global) -> Result<Text, AllocError>
         ensures { IfOk result (λ t. t ≡ self.now) }
     {
-        let text = String::from_str(alloc, self.text.as_str())?;
-        Ok(Text { text })
+        let bytes = match &self.bytes {
+            Bytes::Inline(bytes) => Bytes::Inline(*bytes),
+            Bytes::Apart(bytes) => Bytes::Apart(String::from_str(alloc, bytes.as_str())?),
+        };
+        Ok(Text { bytes })
     }
 }
 
@@ -132,8 +167,8 @@ fn take_bytes(
     }
     match str::from_utf8(&bytes[at..at + len]) {
         Ok(s) => {
-            let text = String::from_str(alloc, s)?;
-            Ok((Text { text }, at + len))
+            let text = Text::short(alloc, s)?;
+            Ok((text, at + len))
         }
         Err(_) => Err(TakeError::Bad { at }),
     }

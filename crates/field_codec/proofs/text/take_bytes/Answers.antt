@@ -4,7 +4,7 @@ use Rattle.field_codec.proofs.text.take_bytes.Goals as goal
 
 pub returns-in_ok-text-in-Ok-clause-answer : goal.returns-in_ok-text-in-Ok-clause-answer
 returns-in_ok-text-in-Ok-clause-answer c =
-    bytes_ok c.args.len c.args.bytes.now c.args.at c.in_ok-text-in-Ok.text.bytes.items (omega arith) (c.in_ok-text-in-Ok.ensures.ok ∙ c.in-Ok.ensures.cases.0) c.in-Ok.ensures.cases.1
+    bytes_ok c.args.len c.args.bytes.now c.args.at _ (omega arith) (c.in_ok-text-in-Ok.ensures ∙ c.in-Ok.ensures.cases.0) c.in-Ok.ensures.cases.1
 
 pub returns-in-Err-clause-answer : goal.returns-in-Err-clause-answer
 returns-in-Err-clause-answer c = bytes_bad c.args.len c.args.bytes.now c.args.at (omega arith) c.in-Err.ensures.cases.0
