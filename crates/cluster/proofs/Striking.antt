@@ -159,15 +159,11 @@ module _ {S E D : Type 0} (types : Types S E D) (c : LiveState E D) (p : PartId)
   some_none x h = absurd (cc h)
 
   -- a restart finds no log but one that fits, where some run left the cluster so
-  pub never_unfit : (later : Held E D) (n : ℕ) → IsPlace c.sites.sites c.sites.parts p → IsReachedLive types c → RestartsAt types c.sites later p (Err (restart.Unfit n)) → ⊥
-  never_unfit later n place x k =
+  pub never_damaged : (later : Held E D) (at : ℕ) → IsPlace c.sites.sites c.sites.parts p → IsReachedLive types c → RestartsAt types c.sites later p (Err (restart.Damaged at)) → ⊥
+  never_damaged later at place x k =
       let r = x.reached.sees.reached in
       let m = k.0.moves in
       let finds = k.1 (entries x.reached.calls) r in
       let here : StandsAt types c.sites.sites c.sites.parts p m.before (r.state p) = subst (λ t. StandsAt types c.sites.sites c.sites.parts p t (r.state p)) (m.there m.before) (r.each p place m.before) in
-      let fit = all_fit types.kinds c.sites.sites c.sites.parts (entries x.reached.calls) r.state r.is_run p finds.0 finds.1 in
-      some_none n (sym fit ∙ ((λ i. unfit (sym here.sites_are i) (sym here.parts_are i) (sym here.id i) finds.0) ∙ finds.2))
-
-  -- nor one that can't be read
-  pub never_damaged : (later : Held E D) (at : ℕ) → IsReachedLive types c → RestartsAt types c.sites later p (Err (restart.Damaged at)) → ⊥
-  never_damaged later at x k = k.1 (entries x.reached.calls) x.reached.sees.reached
+      let fit = all_fit types.kinds c.sites.sites c.sites.parts (entries x.reached.calls) r.state r.is_run p finds.log finds.found in
+      some_none finds.unfit.number (sym fit ∙ ((λ i. unfit (sym here.sites_are i) (sym here.parts_are i) (sym here.id i) finds.log) ∙ finds.unfit.first))

@@ -97,12 +97,8 @@ impl<C: Crdt, D: Disk + Drop> Live<C, D> {
                 RestartError::NoMemory => {
                     return Err(AllocError);
                 }
-                // No run leaves a log on a disk that a restart can't read.
+                // No run leaves a log on a disk that isn't the partition's.
                 RestartError::Damaged { at } => {
-                    return only(self.alloc, Step::Damaged { part, at });
-                }
-                RestartError::Unfit { number } => {
-                    let at = number as u64;
                     return only(self.alloc, Step::Damaged { part, at });
                 }
             },

@@ -8,3 +8,4 @@ pub mod Records
 pub mod Replacing
 pub mod Seeing
 pub mod Slots
+pub mod Steps

@@ -5,3 +5,4 @@ pub mod Recovered
 pub mod Rising
 pub mod FittingLaws
 pub mod RisingLaws
+pub mod Told

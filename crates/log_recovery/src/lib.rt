@@ -12,7 +12,7 @@ mod waiting;
 
 pub use fitting::unfit;
 pub use laws::law_fitting;
-pub use recovery::{Rebuilt, rebuild};
+pub use recovery::{Rebuilt, Recovery, rebuild};
 
 #[cfg(test)]
 mod tests;

@@ -1,12 +1,13 @@
-ghost use Rattle.std.specs.Prelude.{◌≡◌, ◌≤◌, ℕ, None, length, reverse, IfOk};
+ghost use Rattle.std.specs.Prelude.{◌≡◌, ◌≤◌, [], ℕ, List, None, length, reverse, IfOk};
 ghost use Rattle.site_vector.specs.declared.ids.PartId.{PartId};
+ghost use Rattle.crdt_core.specs.declared.record.Record.{Record};
 ghost use Rattle.crdt_core.specs.Fitting.{unfit};
-ghost use Rattle.crdt_core.specs.Log.{ceiling, last_decided};
 ghost use Rattle.log_recovery.specs.Ledgers.{IsLedger};
 ghost use Rattle.log_recovery.specs.Lists.{least_below};
-ghost use Rattle.log_recovery.specs.Recovered.{IsPending, IsCommitted, AreKnown};
+ghost use Rattle.log_recovery.specs.Told.{HasRead, ReadsNext, IsToldBy};
 
 use crate::ledger::Ledger;
+use crate::seen::Seen;
 use crdt_core::{Part, Record};
 use field_codec::ListOf;
 use prepared_table::Entry;
@@ -29,6 +30,63 @@ pub struct Rebuilt<E> {
     pub last_decided: Option<TxId>,
 }
 
+/// The log of a partition as far as it was read, record by record, the oldest first. It keeps what later records are
+/// judged by, and what the log tells in the end.
+#[derive(Drop)]
+pub struct Recovery<E> {
+    seen: Seen,
+    ledger: Ledger<E>,
+}
+
+impl<E: Drop> Recovery<E> {
+    /// Nothing was read yet of the log of this partition, in a cluster of 1 to 8 sites with so many partitions each.
+    /// Takes no memory.
+    pub fn new(alloc: Global, id: PartId, sites: u8, parts: u8) -> Recovery<E>
+        requires least { 1 ≤ sites }
+        requires most { sites ≤ 8 }
+        requires first { 1 ≤ id.site }
+        requires last { id.site ≤ sites }
+        requires some { 1 ≤ parts }
+        ensures { HasRead sites parts id [] result }
+    {
+        Recovery {
+            seen: Seen::new(alloc, id, sites, parts),
+            ledger: Ledger::new(alloc, sites),
+        }
+    }
+
+    /// Reads the next record, if it fits the partition: whether it does.
+    ///
+    /// # Errors
+    ///
+    /// `AllocError` where memory runs out. What was read is of no use then, nor where the record doesn't fit.
+    pub fn read(&mut self, next: Record<E>) -> Result<bool, AllocError>
+        requires { (sites parts : ℕ) × (id : PartId) × (log : List (Record E)) × HasRead sites parts id log self.old }
+        ensures { (sites parts : ℕ) (id : PartId) (log : List (Record E)) → HasRead sites parts id log self.old
+            → IfOk result (ReadsNext sites parts id log next self.new) }
+    {
+        if !self.seen.see(&next)? {
+            return Ok(false);
+        }
+        self.ledger.read(next)?;
+        Ok(true)
+    }
+
+    /// What the records tell that were read.
+    ///
+    /// # Errors
+    ///
+    /// `AllocError` where memory runs out.
+    pub fn finish(self, alloc: Global) -> Result<Rebuilt<E>, AllocError>
+        requires { (sites parts : ℕ) × (id : PartId) × (log : List (Record E)) × HasRead sites parts id log self }
+        ensures { (sites parts : ℕ) (id : PartId) (log : List (Record E)) → HasRead sites parts id log self
+            → IfOk result (IsToldBy sites parts id log) }
+    {
+        let Recovery { seen, ledger } = self;
+        tell(alloc, ledger, seen.id)
+    }
+}
+
 /// What the log of a partition tells, whose records, oldest first, all fit it.
 ///
 /// # Errors
@@ -45,13 +103,20 @@ pub fn rebuild<E: Drop>(
     requires first { 1 ≤ id.site }
     requires last { id.site ≤ sites }
     requires fits { (parts : ℕ) × (unfit sites parts id (reverse records) ≡ None) }
-    ensures ceiling { IfOk result (λ r. r.ceiling ≡ ceiling (reverse records)) }
-    ensures pending { IfOk result (λ r. IsPending sites (reverse records) r.pending) }
-    ensures committed { IfOk result (λ r. IsCommitted sites (reverse records) r.committed) }
-    ensures bounds { IfOk result (λ r. AreKnown sites id.site (reverse records) r.bounds) }
-    ensures last_decided { IfOk result (λ r. r.last_decided ≡ last_decided (reverse records)) }
+    ensures { (parts : ℕ) → unfit sites parts id (reverse records) ≡ None
+        → IfOk result (IsToldBy sites parts id (reverse records)) }
 {
     let ledger = read_all(alloc, records, sites)?;
+    tell(alloc, ledger, id)
+}
+
+/// What the records tell that a ledger has read.
+fn tell<E: Drop>(alloc: Global, ledger: Ledger<E>, id: PartId) -> Result<Rebuilt<E>, AllocError>
+    requires first { 1 ≤ id.site }
+    requires last { id.site ≤ length ledger.bounds }
+    ensures { (sites parts : ℕ) (log : List (Record E)) → unfit sites parts id log ≡ None → IsLedger log ledger
+        → length ledger.bounds ≡ sites → IfOk result (IsToldBy sites parts id log) }
+{
     let pending = ledger.waiting.into_list(alloc)?;
     let own = own_bound(ledger.ceiling, pending.as_slice());
     Ok(Rebuilt {

@@ -11,7 +11,7 @@ use crdt_counters::CounterPn;
 use disk_core::{Disk, Fused, MemDisk, SureDisk};
 use gate_log::{AppendError, OpenError, format};
 use log_records::take;
-use partition_log::PartLog;
+use partition_log::{PartLog, record_at};
 use site_vector::{TxId, VTime};
 use std::alloc::{AllocError, Global};
 
@@ -49,23 +49,38 @@ fn put_answer(out: &mut String, answer: Result<(), AppendError>) -> Result<(), A
     }
 }
 
+fn put_refusal(out: &mut String, error: &OpenError) -> Result<(), AllocError> {
+    match error {
+        OpenError::Failed => out.push_str("failed"),
+        OpenError::Damaged { at } => write!(out, "damaged at {at}"),
+        OpenError::NoMemory => out.push_str("no memory"),
+    }
+}
+
+/// Adds the records of an open log with their places, or where the first payload is damaged that is none.
+fn put_records<D: Disk + Drop>(
+    alloc: Global,
+    out: &mut String,
+    log: &PartLog<CounterPn, D>,
+) -> Result<(), AllocError> {
+    let mut names = String::new(alloc);
+    for (place, payload) in log.payloads() {
+        match record_at::<CounterPn>(alloc, place, payload) {
+            Ok(record) => write!(&mut names, " {place} {}", name_of(&record))?,
+            Err(error) => {
+                return put_refusal(out, &error);
+            }
+        }
+    }
+    out.push_str("opened")?;
+    out.push_str(names.as_str())
+}
+
 /// Adds what opening the log of a disk answers: the records with their places.
 fn put_opening<D: Disk + Drop>(alloc: Global, out: &mut String, disk: D) -> Result<(), AllocError> {
     match PartLog::<CounterPn, D>::open(alloc, disk) {
-        Ok(log) => {
-            out.push_str("opened")?;
-            let (places, records) = log.records(alloc)?;
-            let mut at: usize = 0;
-            for record in records.as_slice() {
-                let place = places.as_slice().get(at).copied().unwrap_or(0);
-                write!(out, " {place} {}", name_of(record))?;
-                at = at.saturating_add(1);
-            }
-            Ok(())
-        }
-        Err((_, OpenError::Failed)) => out.push_str("failed"),
-        Err((_, OpenError::Damaged { at })) => write!(out, "damaged at {at}"),
-        Err((_, OpenError::NoMemory)) => out.push_str("no memory"),
+        Ok(log) => put_records(alloc, out, &log),
+        Err((_, error)) => put_refusal(out, &error),
     }
 }
 

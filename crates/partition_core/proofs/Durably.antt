@@ -1,7 +1,7 @@
 -- A call of a partition on its disk, from its call on the tables and its append to the log.
-use Rattle.std.proofs.Common.{◌≡◌, ℕ, ◌+◌, ◌*◌, ◌-◌, ◌<◌, Bool, true, false, ◌||◌, List, [], ◌∷◌, ◌++◌, length, Option, None, Some, Ok, Err, refl, sym, ap, ◌∙◌, subst, arith}
+use Rattle.std.proofs.Common.{◌≡◌, ◌≢◌, ⊎_elim, ℕ, ◌+◌, ◌*◌, ◌-◌, ◌<◌, ◌≤◌, Result, Bool, true, false, ◌||◌, List, [], ◌∷◌, ◌++◌, length, Option, None, Some, Ok, Err, refl, sym, ap, ◌∙◌, subst, arith}
 use Rattle.std.specs.Prelude.{if◌then◌else◌, IsTrue}
-use Rattle.std.proofs.lemmas.Bool.{true≢false}
+use Rattle.std.proofs.lemmas.Bool.{true≢false, cases_lt}
 use Rattle.disk_core.specs.Images.{Content}
 use Rattle.disk_core.specs.States.{DiskState, Story, GoesOn, fewer, Spared}
 use Rattle.disk_core.specs.Moments.{EachImage, EachImageOfAll, contents, AtEachMoment}
@@ -108,7 +108,16 @@ module _ {S E D : Type 0} (kinds : Kinds S E) (codec : Codec E) (state : D → D
     most = record { count = 0; less = omega arith; left = none_spent (disk_in state old).left };
     exact = λ _. none_spent (disk_in state old).left ∙ ap (λ l. fewer (4 * length l) (disk_in state old).left) (sym k);
     spared = λ _. subst (λ l. Spared (4 * length l) (disk_in state old).left) (sym k) (none_due (disk_in state old).left);
+    fits = λ some. let none : length (records p (attempt e)) ≡ 0 = ap length h in absurd (omega (arith, none, some));
   }
+
+  -- an append that isn't refused for want of room or memory had the room
+  roomy : {R : Type 0} (r : Result R AppendError) (g : GateLog D) (recs : List (Record E)) → Appends codec state r old.gates g recs → is_closed old.gates ≡ false → ((room : ℕ) → r ≢ Err (append.Full room)) → r ≢ Err append.NoMemory
+      → gate_of old.gates + size codec recs + 1 ≤ (disk_in state old).room
+  roomy r g recs a still_open not_full fed = ⊎_elim
+      (λ (past : (disk_in state old).room < gate_of old.gates + size codec recs + 1). absurd (not_full (disk_in state old).room (a.full still_open past fed)))
+      (λ (room : gate_of old.gates + size codec recs + 1 ≤ (disk_in state old).room). room)
+      (cases_lt (disk_in state old).room (gate_of old.gates + size codec recs + 1))
 
   -- it is down
   pub down_call : {A : Type 0} (asked : Ask E) (Shows : A → Event E → Type 0) → is_down old ≡ true → is_restart asked ≡ false → CallsOn kinds codec state old old Given asked Shows (Err call.Down)
@@ -194,6 +203,7 @@ module _ {S E D : Type 0} (kinds : Kinds S E) (codec : Codec E) (state : D → D
                 most = subst (λ (l : List (Record E)). Lowers (4 * length l) (disk_in state old).left (disk_in state now).left) (sym (ap (λ e. records p e) w.whole ∙ w.adds)) a.left;
                 exact = λ _. a.left_ok ∙ ap (λ l. fewer (4 * length l) (disk_in state old).left) (sym w.adds);
                 spared = λ _. subst (λ l. Spared (4 * length l) (disk_in state old).left) (sym w.adds) a.spared;
+                fits = λ _. subst (λ (l : List (Record E)). gate_of old.gates + size codec l + 1 ≤ (disk_in state old).room) (sym (ap (λ e. records p e) w.whole ∙ w.adds)) (roomy (Ok x) now.gates recs a alive.1 (λ room h. cc) (λ h. cc));
               },
             );
       }
@@ -265,6 +275,7 @@ module _ {S E D : Type 0} (kinds : Kinds S E) (codec : Codec E) (state : D → D
                       most = subst (λ (l : List (Record E)). Lowers (4 * length l) (disk_in state old).left (state (disk_of g)).left) (sym w.adds) a.left;
                       exact = λ h. absurd (true≢false h);
                       spared = λ h. absurd (true≢false h);
+                      fits = λ _. subst (λ (l : List (Record E)). gate_of old.gates + size codec l + 1 ≤ (disk_in state old).room) (sym w.adds) (roomy (Err append.Failed) g recs a alive.1 (λ room h. cc) (λ h. cc));
                     },
                   );
             },

@@ -5,6 +5,7 @@ mod Logged
 mod Recovering
 mod Rereading
 mod Restarting
+mod Telling
 mod Leasing
 mod Making
 mod Choices

@@ -22,7 +22,8 @@ use Rattle.log_recovery.specs.Lists as recovery
 use Rattle.log_recovery.specs.FittingLaws.{fits_first, pending_home, committed_home, taken_away, pending_unheld, pending_under}
 use Rattle.log_recovery.specs.Rising.{Rises}
 use Rattle.partition_core.specs.Messages.{AreApart, AreWideParts, CanPut, inserted, updates_in}
-use Rattle.partition_core.specs.Recovered.{IsToldBy, IsTableOf, resumed}
+use Rattle.log_recovery.specs.Told.{IsToldBy}
+use Rattle.partition_core.specs.Recovered.{IsTableOf, resumed}
 use Rattle.partition_core.specs.Sound.{AreSingle, HasRoom, updates_pending}
 use Rattle.partition_core.specs.Stands.{AreEntries, Tells, Stands}
 use Rattle.partition_core.specs.Tables.{Tables}

@@ -5,8 +5,6 @@ use Rattle.std.proofs.lemmas.Bool.{cases_Bool}
 use Rattle.disk_core.specs.States.{DiskState, GoesOn, Rose}
 use Rattle.disk_core.specs.Moments.{AtEachMoment}
 use Rattle.gate_log.specs.Rest.{Lowers}
-use Rattle.gate_log.specs.declared.error.OpenError.{OpenError}
-use Rattle.gate_log.specs.declared.error.OpenError.TheVariants as open_error
 use Rattle.gate_log.specs.declared.log.GateLog.{GateLog}
 use Rattle.gate_log.specs.Logs.{disk_of, is_closed}
 use Rattle.partition_log.specs.Codec.{Codec}
@@ -15,7 +13,6 @@ use Rattle.site_vector.specs.declared.ids.PartId.{PartId}
 use Rattle.site_vector.specs.declared.ids.TxId.{TxId}
 use Rattle.site_vector.specs.Ids.{same_tx}
 use Rattle.crdt_core.specs.declared.record.Record.{Record}
-use Rattle.crdt_core.specs.Fitting.{unfit}
 use Rattle.crdt_core.specs.KindsOf.{Kinds}
 use Rattle.crdt_core.specs.Log.{MayFind, grown}
 use Rattle.crdt_core.specs.Orders.{Ascends, Precede, pending_cmp}
@@ -23,19 +20,21 @@ use Rattle.prepared_table.specs.declared.entry.Entry.{Entry}
 use Rattle.prepared_table.specs.Entries.{has_entry, entry_cmp}
 use Rattle.log_recovery.specs.declared.recovery.Rebuilt.{Rebuilt}
 use Rattle.log_recovery.specs.Rising.{Rises}
+use Rattle.log_recovery.specs.Told.{IsToldBy}
 use Rattle.log_recovery.specs.RisingLaws.{found_rises}
 use Rattle.world_model.specs.Event.{RestartCut, attempt}
 use Rattle.world_model.specs.Event as event
 use Rattle.world_model.specs.Partition.{PartState, names_pending, AreTimed, down, records}
 use Rattle.partition_core.specs.Durable.{Durable, StandsOn, disk_in, is_down}
 use Rattle.partition_core.specs.Moments.{SteppedOn, underway}
-use Rattle.partition_core.specs.Recovered.{IsToldBy, resumed}
-use Rattle.partition_core.specs.Restarts.{StaysDown, ComesUp, RestartsOn, unopened}
+use Rattle.partition_core.specs.Recovered.{resumed}
+use Rattle.partition_core.specs.Restarts.{StaysDown, ComesUp, RestartsOn}
 use Rattle.partition_core.specs.declared.restart.Restarted.{Restarted}
 use Rattle.partition_core.specs.declared.restart.RestartError.{RestartError}
 use Rattle.partition_core.specs.declared.restart.RestartError.TheVariants as restart
 use Rattle.partition_core.specs.Stands.{AreEntries, Stands, told}
 use Rattle.partition_core.specs.Tables.{Tables, IsSame}
+use Rattle.partition_core.specs.Unfit.{IsUnfitAt}
 use Rattle.partition_core.proofs.Durably.{stands_up, stands_down, up_stands, down_stands, underway_up, underway_down, images, at_last}
 use Rattle.partition_core.proofs.Logged.{on_disk}
 
@@ -152,27 +151,24 @@ module _ {S E D : Type 0} (kinds : Kinds S E) (codec : Codec E) (state : D → D
 
   module _ (g : GateLog D) (goes_on : GoesOn (disk_in state old) (state (disk_of g))) (left : Lowers 16 (disk_in state old).left (state (disk_of g)).left)
       (moments : (l torn : List (Record E)) → LeavesFront codec l torn (disk_in state old) → AtEachMoment (disk_in state old).story (state (disk_of g)).story (HoldsFront codec l torn)) where
-    pub stays : StaysDown kinds codec state old (on_disk old.tables g true)
-    stays = record {
-      reads = record { same = record { id = refl; sites = refl; parts = refl }; goes_on = goes_on; left = left };
+    pub stays : (t : Tables E) → IsSame old.tables t → StaysDown kinds codec state old (on_disk t g true)
+    stays t same = record {
+      reads = record { same = same; goes_on = goes_on; left = left };
       down = refl;
-      step = cut_step (on_disk old.tables g true) moments goes_on.tells refl;
+      step = cut_step (on_disk t g true) moments goes_on.tells refl;
     }
 
-    pub unread : {A : Type 0} (e : OpenError) → (failing {A = A} e ≡ Err open_error.Failed → Rose (disk_in state old).faults (state (disk_of g)).faults)
-        → ((l torn : List (Record E)) → LeavesFront codec l torn (disk_in state old) → (at : ℕ) → failing {A = A} e ≢ Err (open_error.Damaged at)) → RestartsOn kinds codec state old (on_disk old.tables g true) (Err (unopened e))
-    unread open_error.Failed failed whole = (failed refl, stays)
-    unread (open_error.Damaged at) failed whole = (stays, λ p h. whole p.log p.torn (leaves p h).front at refl)
-    unread open_error.NoMemory failed whole = stays
+    -- what a restart may find is a log whose first record that doesn't fit lies there
+    abbrev pub FoundUnfit : ℕ → Type 0
+    FoundUnfit at = (l torn : List (Record E)) → LeavesFront codec l torn (disk_in state old) → (found : List (Record E)) × MayFind l torn found × IsUnfitAt codec old.tables.sites old.tables.parts old.tables.id found at
+
+    pub unread : {A : Type 0} (t : Tables E) → IsSame old.tables t → (e : RestartError) → (failing {A = A} e ≡ Err restart.Disk → Rose (disk_in state old).faults (state (disk_of g)).faults) → ((at : ℕ) → failing {A = A} e ≡ Err (restart.Damaged at) → FoundUnfit at)
+        → RestartsOn kinds codec state old (on_disk t g true) (Err e)
+    unread t same restart.Disk failed damaged = (failed refl, stays t same)
+    unread t same (restart.Damaged at) failed damaged = (stays t same, λ p h. let f = damaged at refl p.log p.torn (leaves p h).front in record { log = f.0; found = f.1; unfit = f.2 })
+    unread t same restart.NoMemory failed damaged = stays t same
 
     module _ (read : List (Record E)) (finds : (l torn : List (Record E)) → LeavesFront codec l torn (disk_in state old) → MayFind l torn read × HasRecords codec state g read) where
-      pub unrecovered : {A : Type 0} (e : RestartError) → failing {A = A} e ≢ Err restart.Disk → ((at : ℕ) → failing {A = A} e ≢ Err (restart.Damaged at)) → ((n : ℕ) → failing {A = A} e ≡ Err (restart.Unfit n) → unfit old.tables.sites old.tables.parts old.tables.id read ≡ Some n)
-          → RestartsOn kinds codec state old (on_disk old.tables g true) (Err e)
-      unrecovered restart.Disk reads whole unfits = absurd (reads refl)
-      unrecovered (restart.Damaged at) reads whole unfits = absurd (whole at refl)
-      unrecovered (restart.Unfit n) reads whole unfits = (stays, λ p h. (read, (finds p.log p.torn (leaves p h).front).0, unfits n refl))
-      unrecovered restart.NoMemory reads whole unfits = stays
-
       pub comes_up : is_closed g ≡ false → (state (disk_of g)).left ≢ Some 0 → (t : Tables E) → IsSame old.tables t → (rebuilt : Rebuilt E) → IsToldBy old.tables.sites old.tables.parts old.tables.id read rebuilt → (Rises read → Stands t (resumed old.tables.sites old.tables.parts rebuilt.bounds read))
           → (listed : List (TxId × ℕ)) → listed ≡ map (λ x. (x.tx, x.time)) t.pending
           → ComesUp kinds codec state old (on_disk t g false) (record { now = rebuilt.ceiling; bounds = rebuilt.bounds; decided = rebuilt.last_decided; pending = listed })

@@ -15,4 +15,5 @@ pub mod Durable
 pub mod Stopped
 pub mod Moments
 pub mod Recovered
+pub mod Unfit
 pub mod Restarts

@@ -1,6 +1,6 @@
 -- What a call of a partition on its disk owes: whatever it stood for took a step, at each moment of which a crash leaves what a
 -- restart may find.
-use Rattle.std.specs.Prelude.{◌≡◌, ℕ, ◌+◌, ◌*◌, ◌<◌, Bool, true, false, if◌then◌else◌, List, length, Result, Ok, Err}
+use Rattle.std.specs.Prelude.{◌≡◌, ℕ, ◌+◌, ◌*◌, ◌<◌, ◌≤◌, Bool, true, false, if◌then◌else◌, List, length, Result, Ok, Err}
 use Rattle.disk_core.specs.States.{DiskState, GoesOn, Rose, fewer, Spared}
 use Rattle.disk_core.specs.Moments.{AtEachMoment}
 use Rattle.gate_log.specs.Logs.{gate_of}
@@ -46,11 +46,13 @@ module _ {S E D : Type 0} (kinds : Kinds S E) (codec : Codec E) (state : D → D
     pub stands : StandsOn codec state new after
     pub moments : AtEachMoment (disk_in state old).story (disk_in state new).story (HoldsFront codec p.log (underway p event))
 
-  -- four calls of the disk for each record at most; exactly, once the call is done, and none that was to fail
+  -- Four calls of the disk for each record at most; exactly, once the call is done, and none that was to fail. What it
+  -- wrote, or a front of it, fits the room of the disk as a whole.
   pub record Spends (p : PartState E) (e : Event E) : Type 0 where
     pub most : Lowers (4 * length (records p (attempt e))) (disk_in state old).left (disk_in state new).left
     pub exact : is_cut e ≡ false → (disk_in state new).left ≡ fewer (4 * length (records p e)) (disk_in state old).left
     pub spared : is_cut e ≡ false → Spared (4 * length (records p e)) (disk_in state old).left
+    pub fits : 1 ≤ length (records p (attempt e)) → gate_of old.gates + size codec (records p (attempt e)) + 1 ≤ (disk_in state old).room
 
   -- each state that it stood for, and that meets the premise, took such a step
   pub record StepsOn (Given : PartState E → Type 0) (Shows : Event E → Type 0) : Type 0 where

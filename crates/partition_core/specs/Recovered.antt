@@ -1,31 +1,18 @@
 -- What a log tells a partition that reads it again, and the state in which the partition comes up.
-use Rattle.std.specs.Prelude.{◌≡◌, ℕ, true, List, [], None, replicate}
-use Rattle.site_vector.specs.declared.ids.PartId.{PartId}
+use Rattle.std.specs.Prelude.{◌≡◌, ℕ, true, List, [], replicate}
 use Rattle.site_vector.specs.declared.ids.TxId.{TxId}
 use Rattle.crdt_core.specs.declared.record.Upd.{Upd}
 use Rattle.crdt_core.specs.declared.record.Record.{Record}
-use Rattle.crdt_core.specs.Fitting.{unfit}
-use Rattle.crdt_core.specs.Log.{ceiling, last_decided}
+use Rattle.crdt_core.specs.Log.{ceiling}
 use Rattle.crdt_core.specs.Orders.{Ascends}
 use Rattle.prepared_table.specs.declared.entry.Entry.{Entry}
 use Rattle.prepared_table.specs.Entries.{has_entry, entry_cmp}
-use Rattle.log_recovery.specs.declared.recovery.Rebuilt.{Rebuilt}
-use Rattle.log_recovery.specs.Recovered.{IsPending, IsCommitted, AreKnown}
 use Rattle.log_recovery.specs.Lists as recovery
 use Rattle.world_model.specs.Partition.{PartState}
 use Rattle.partition_core.specs.Sound.{AreSingle, updates_pending}
 use Rattle.partition_core.specs.Stands.{AreEntries}
 
 module _ {E : Type 0} where
-  -- its records fit the partition, and this is what they tell
-  pub record IsToldBy (sites parts : ℕ) (id : PartId) (log : List (Record E)) (told : Rebuilt E) : Type 0 where
-    pub fits : unfit sites parts id log ≡ None
-    pub ceiling : told.ceiling ≡ ceiling log
-    pub pending : IsPending sites log told.pending
-    pub committed : IsCommitted sites log told.committed
-    pub bounds : AreKnown sites id.site log told.bounds
-    pub last : told.last_decided ≡ last_decided log
-
   -- up, with a clock that shows the ceiling; what was heard and sent is forgotten
   abbrev pub resumed : ℕ → ℕ → List ℕ → List (Record E) → PartState E
   resumed sites parts bounds log = record { up = true; now = ceiling log; log = log; torn = []; bounds = bounds; heard = replicate parts (replicate sites 0); sent = replicate sites 0 }

@@ -6,7 +6,6 @@ use Rattle.gate_log.specs.declared.error.OpenError.{OpenError}
 use Rattle.gate_log.specs.declared.error.OpenError.TheVariants as open_error
 use Rattle.partition_log.specs.Codec.{Codec}
 use Rattle.crdt_core.specs.declared.record.Record.{Record}
-use Rattle.crdt_core.specs.Fitting.{unfit}
 use Rattle.crdt_core.specs.KindsOf.{Kinds}
 use Rattle.site_vector.specs.declared.ids.TxId.{TxId}
 use Rattle.prepared_table.specs.declared.entry.Entry.{Entry}
@@ -19,6 +18,7 @@ use Rattle.partition_core.specs.declared.restart.RestartError.TheVariants as res
 use Rattle.partition_core.specs.Durable.{Durable, StandsOn, disk_in, is_down}
 use Rattle.partition_core.specs.Moments.{SteppedOn}
 use Rattle.partition_core.specs.Tables.{IsSame}
+use Rattle.partition_core.specs.Unfit.{IsUnfitAt}
 
 abbrev pub unopened : OpenError → RestartError
 unopened open_error.Failed = restart.Disk
@@ -49,14 +49,15 @@ module _ {S E D : Type 0} (kinds : Kinds S E) (codec : Codec E) (state : D → D
     pub unfired : (disk_in state new).left ≢ Some 0
     pub step : (p : PartState E) → StandsOn codec state old p → SteppedOn kinds codec state old new p (λ e. e ≡ event.Restarted r.now r.bounds r.decided r.pending)
 
-  -- a restart may find a log whose record with this number is the first that doesn't fit
-  abbrev pub FindsUnfit : PartState E → ℕ → Type 0
-  FindsUnfit p n = (found : List (Record E)) × Finds p found × (unfit old.tables.sites old.tables.parts old.tables.id found ≡ Some n)
+  -- a restart may find a log whose first record that doesn't fit lies there
+  pub record FindsUnfit (p : PartState E) (at : ℕ) : Type 0 where
+    pub log : List (Record E)
+    pub found : Finds p log
+    pub unfit : IsUnfitAt codec old.tables.sites old.tables.parts old.tables.id log at
 
   abbrev pub RestartsOn : Result Restarted RestartError → Type 0
   RestartsOn (Ok r) = ComesUp r
   RestartsOn (Err restart.Disk) = Rose (disk_in state old).faults (disk_in state new).faults × StaysDown
   RestartsOn (Err restart.NoMemory) = StaysDown
-  -- never where the log is one that the partition's calls may have left
-  RestartsOn (Err (restart.Damaged at)) = StaysDown × ((p : PartState E) → StandsOn codec state old p → ⊥)
-  RestartsOn (Err (restart.Unfit n)) = StaysDown × ((p : PartState E) → StandsOn codec state old p → FindsUnfit p n)
+  -- a log that the partition's calls may have left is damaged only where a record doesn't fit
+  RestartsOn (Err (restart.Damaged at)) = StaysDown × ((p : PartState E) → StandsOn codec state old p → FindsUnfit p at)

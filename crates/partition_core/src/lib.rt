@@ -15,6 +15,7 @@ mod recovered;
 mod report;
 mod restart;
 mod stream;
+mod told;
 
 pub use answers::{CallError, Fate, Refusal};
 pub use durable::{DurableError, DurablePartition};

@@ -3,7 +3,8 @@ ghost use Rattle.std.specs.Prelude.{◌≡◌, ◌≤◌, List, IfOk};
 ghost use Rattle.crdt_core.specs.declared.record.Record.{Record};
 ghost use Rattle.log_recovery.specs.Lists.{AreSingle};
 ghost use Rattle.log_recovery.specs.Rising.{Rises};
-ghost use Rattle.partition_core.specs.Recovered.{IsToldBy, IsTableOf, resumed};
+ghost use Rattle.log_recovery.specs.Told.{IsToldBy};
+ghost use Rattle.partition_core.specs.Recovered.{IsTableOf, resumed};
 ghost use Rattle.partition_core.specs.Stands.{Stands};
 
 use crate::Partition;

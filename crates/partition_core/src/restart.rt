@@ -1,33 +1,31 @@
 // How a partition on its disk comes up, and comes up again.
-ghost use Rattle.std.specs.Prelude.{◌≡◌, ◌≢◌, ◌≤◌, ◌⊎◌, ℕ, List, [], true, false, reverse, Some, Err, IsTrue, IfOk, IfErr, OnOk, MatchResult};
-ghost use Rattle.disk_core.specs.Moments.{AtEachMoment};
+ghost use Rattle.std.specs.Prelude.{◌≡◌, ◌≢◌, ◌≤◌, ◌⊎◌, ℕ, List, [], false, Err, IsTrue, IfOk, IfErr, MatchResult};
 ghost use Rattle.disk_core.specs.States.{GoesOn, Rose, bytes_of};
 ghost use Rattle.gate_log.specs.Logs.{disk_of, is_closed, read_at_opening, IsReady};
-ghost use Rattle.gate_log.specs.Rest.{AtRest, Lowers};
-ghost use Rattle.gate_log.specs.declared.error.OpenError.TheVariants as open_error;
+ghost use Rattle.gate_log.specs.Payloads.{placed};
+ghost use Rattle.gate_log.specs.Rest.{AtRest};
 ghost use Rattle.partition_log.specs.Codec.{codec_of};
 ghost use Rattle.partition_log.specs.Gates.{gates_of};
-ghost use Rattle.partition_log.specs.Damage.{AreRecords};
-ghost use Rattle.partition_log.specs.Logs.{HasRecords, HoldsFront, HoldsLog, LeavesFront};
+ghost use Rattle.partition_log.specs.Damage.{AreRecords, IsDamaged, IsRefusedAt};
+ghost use Rattle.partition_log.specs.Logs.{HasRecords, HoldsLog};
 ghost use Rattle.crdt_core.specs.declared.record.Record.{Record};
-ghost use Rattle.crdt_core.specs.Fitting.{unfit};
 ghost use Rattle.crdt_core.specs.KindsOf.{kinds_of};
-ghost use Rattle.crdt_core.specs.Log.{MayFind};
 ghost use Rattle.log_recovery.specs.Recovered.{AreKnown};
 ghost use Rattle.log_recovery.specs.Rising.{Rises};
 ghost use Rattle.world_model.specs.Partition.{new_part};
 ghost use Rattle.partition_core.specs.Durable.{StandsOn, is_down};
-ghost use Rattle.partition_core.specs.Recovered.{IsToldBy, resumed};
+ghost use Rattle.partition_core.specs.Recovered.{resumed};
 ghost use Rattle.partition_core.specs.Stands.{Stands};
 ghost use Rattle.partition_core.specs.Restarts.{RestartsOn, unopened, IsListed};
-ghost use Rattle.partition_core.specs.declared.restart.RestartError.TheVariants.{Disk as DiskFailed, Damaged as DamagedAt, NoMemory, Unfit};
+ghost use Rattle.partition_core.specs.Unfit.{IsUnfitAt};
+ghost use Rattle.partition_core.specs.declared.restart.RestartError.TheVariants.{Disk as DiskFailed, Damaged as DamagedAt, NoMemory};
 
+use crate::told::{read_again, told_by};
 use crate::{DurablePartition, Partition};
-use crdt_core::{Crdt, Record};
+use crdt_core::Crdt;
 use disk_core::Disk;
 use field_codec::ListOf;
 use gate_log::OpenError;
-use log_recovery::{Rebuilt, rebuild, unfit};
 use partition_log::PartLog;
 use prepared_table::Entry;
 use site_vector::{PartId, TxId, VTime};
@@ -53,12 +51,10 @@ pub enum RestartError {
     /// The disk failed.
     #[error("the disk failed")]
     Disk,
-    /// The disk holds no log of records: its bytes are damaged at this place.
+    /// The disk holds no log that the partition may have written: it is damaged at this place, which for a record that
+    /// isn't the partition's is the first byte of its payload.
     #[error("the log is damaged at {at}")]
     Damaged { at: u64 },
-    /// The record with this number, from 0, is none that the partition may have written.
-    #[error("record {number} of the log isn't the partition's")]
-    Unfit { number: usize },
     /// Memory ran out.
     #[error("out of memory")]
     NoMemory,
@@ -84,70 +80,11 @@ impl From<OpenError> for RestartError {
     }
 }
 
-/// The records of a log, read again from its disk, the oldest first.
-///
-/// # Errors
-///
-/// As `PartLog::reopen`.
-fn read_again<C: Crdt, D: Disk + Drop>(
-    alloc: Global,
-    log: &mut PartLog<C, D>,
-) -> Result<ListOf<Record<C::Effect>>, OpenError>
-    ensures found { (l torn : List (Record C.Effect)) → LeavesFront (codec_of C.spells) l torn (D.state (disk_of (gates_of log.old)))
-        → IfOk result (λ rs. MayFind l torn (reverse rs) × HasRecords (codec_of C.spells) D.state (gates_of log.new) (reverse rs)) }
-    ensures moments { (l torn : List (Record C.Effect)) → LeavesFront (codec_of C.spells) l torn (D.state (disk_of (gates_of log.old)))
-        → AtEachMoment (D.state (disk_of (gates_of log.old))).story (D.state (disk_of (gates_of log.new))).story (HoldsFront (codec_of C.spells) l torn) }
-    ensures whole { (l torn : List (Record C.Effect)) → LeavesFront (codec_of C.spells) l torn (D.state (disk_of (gates_of log.old)))
-        → (at : ℕ) → result ≢ Err (open_error.Damaged at) }
-    ensures failed { result ≡ Err open_error.Failed → Rose (D.state (disk_of (gates_of log.old))).faults (D.state (disk_of (gates_of log.new))).faults }
-    ensures ready { IsReady D.state (gates_of log.old) → IsReady D.state (gates_of log.new) }
-    ensures open { OnOk result (is_closed (gates_of log.new) ≡ false) }
-    ensures goes_on { GoesOn (D.state (disk_of (gates_of log.old))) (D.state (disk_of (gates_of log.new))) }
-    ensures left { Lowers 16 (D.state (disk_of (gates_of log.old))).left (D.state (disk_of (gates_of log.new))).left }
-    ensures unfired { OnOk result ((D.state (disk_of (gates_of log.new))).left ≢ Some 0) }
-{
-    log.reopen(alloc)?;
-    let Ok((_places, records)) = log.records(alloc) else {
-        return Err(OpenError::NoMemory);
-    };
-    log.forget_read();
-    Ok(records)
-}
-
-/// What records tell a partition, the oldest first.
-///
-/// # Errors
-///
-/// `Unfit` exactly where one of them doesn't fit it, with the number of the first; `NoMemory` where memory runs out.
-fn recover<E: Drop>(
-    alloc: Global,
-    records: ListOf<Record<E>>,
-    id: PartId,
-    sites: u8,
-    parts: u8,
-) -> Result<Rebuilt<E>, RestartError>
-    requires least { 1 ≤ sites }
-    requires most { sites ≤ 8 }
-    requires first { 1 ≤ id.site }
-    requires last { id.site ≤ sites }
-    requires some { 1 ≤ parts }
-    ensures told { IfOk result (λ told. IsToldBy sites parts id (reverse records) told) }
-    ensures unfit { (n : ℕ) → result ≡ Err (Unfit n) → unfit sites parts id (reverse records) ≡ Some n }
-    ensures reads { result ≢ Err DiskFailed }
-    ensures whole { (at : ℕ) → result ≢ Err (DamagedAt at) }
-{
-    if let Some(number) = unfit(alloc, records.as_slice(), id, sites, parts)? {
-        return Err(RestartError::Unfit { number });
-    }
-    let told = rebuild(alloc, records, sites, id)?;
-    Ok(told)
-}
-
 /// The tables that a log tells of, which was read at its opening.
 ///
 /// # Errors
 ///
-/// As `recover`.
+/// As `told_by`.
 fn tables_of<C: Crdt, D: Disk + Drop>(
     alloc: Global,
     log: &PartLog<C, D>,
@@ -161,14 +98,15 @@ fn tables_of<C: Crdt, D: Disk + Drop>(
     requires least_part { 1 ≤ id.part }
     requires most_part { id.part ≤ parts }
     requires most_parts { parts ≤ 16 }
-    requires read { (l : List (Record C.Effect)) × AreRecords (codec_of C.spells) (read_at_opening (gates_of log.now)) l }
+    requires placed { (payloads : List (List ℕ)) × (read_at_opening (gates_of log.now) ≡ placed 8 payloads) }
     ensures place { IfOk result (λ t. (t.id ≡ id) × (t.sites ≡ sites) × (t.parts ≡ parts)) }
     ensures stands { IfOk result (λ t. (l : List (Record C.Effect)) × AreRecords (codec_of C.spells) (read_at_opening (gates_of log.now)) l
         × ((b : List ℕ) × AreKnown sites id.site l b × (Rises l → Stands t (resumed sites parts b l)))) }
+    ensures damaged { (at : ℕ) → result ≡ Err (DamagedAt at) → IsRefusedAt (codec_of C.spells) (read_at_opening (gates_of log.now)) at
+        ⊎ ((l : List (Record C.Effect)) × AreRecords (codec_of C.spells) (read_at_opening (gates_of log.now)) l × IsUnfitAt (codec_of C.spells) sites parts id l at) }
     ensures reads { result ≢ Err DiskFailed }
 {
-    let (_places, records) = log.records(alloc)?;
-    let told = recover(alloc, records, id, sites, parts)?;
+    let told = told_by(alloc, log, id, sites, parts)?;
     let tables = Partition::recovered(alloc, id, sites, parts, told)?;
     Ok(tables)
 }
@@ -177,7 +115,7 @@ fn tables_of<C: Crdt, D: Disk + Drop>(
 ///
 /// # Errors
 ///
-/// As `recover`.
+/// As `told_by`.
 fn wake<C: Crdt, D: Disk + Drop>(
     alloc: Global,
     log: PartLog<C, D>,
@@ -191,13 +129,15 @@ fn wake<C: Crdt, D: Disk + Drop>(
     requires least_part { 1 ≤ id.part }
     requires most_part { id.part ≤ parts }
     requires most_parts { parts ≤ 16 }
-    requires read { (l : List (Record C.Effect)) × AreRecords (codec_of C.spells) (read_at_opening (gates_of log)) l }
+    requires placed { (payloads : List (List ℕ)) × (read_at_opening (gates_of log) ≡ placed 8 payloads) }
     requires ready { IsReady D.state (gates_of log) }
     requires open { is_closed (gates_of log) ≡ false }
     ensures place { IfOk result (λ p. (p.tables.id ≡ id) × (p.tables.sites ≡ sites) × (p.tables.parts ≡ parts)) }
     ensures up { IfOk result (λ p. is_down p ≡ false) }
     ensures stands { IfOk result (λ p. (l : List (Record C.Effect)) × AreRecords (codec_of C.spells) (read_at_opening (gates_of log)) l
         × ((b : List ℕ) × AreKnown sites id.site l b × (HasRecords (codec_of C.spells) D.state (gates_of log) l → Rises l → StandsOn (codec_of C.spells) D.state p (resumed sites parts b l)))) }
+    ensures damaged { IfErr result (λ e. (at : ℕ) → e.1 ≡ DamagedAt at → IsRefusedAt (codec_of C.spells) (read_at_opening (gates_of log)) at
+        ⊎ ((l : List (Record C.Effect)) × AreRecords (codec_of C.spells) (read_at_opening (gates_of log)) l × IsUnfitAt (codec_of C.spells) sites parts id l at)) }
     ensures disk { MatchResult result (λ p. disk_of p.gates ≡ disk_of (gates_of log)) (λ e. (e.0 ≡ disk_of (gates_of log)) × (e.1 ≢ DiskFailed)) }
 {
     let mut log = log;
@@ -254,6 +194,8 @@ impl<C: Crdt, D: Disk + Drop> DurablePartition<C, D> {
         ensures stands { IfOk result (λ p. IsTrue (D.state disk).tells → (log : List (Record C.Effect)) → HoldsLog (codec_of C.spells) (bytes_of (D.state disk)) log → Rises log
             → (b : List ℕ) × AreKnown sites id.site log b × StandsOn (codec_of C.spells) D.state p (resumed sites parts b log)) }
         ensures new { IfOk result (λ p. (end : ℕ) → AtRest (D.state disk) end [] → StandsOn (codec_of C.spells) D.state p (new_part sites parts)) }
+        ensures damaged { IfErr result (λ e. (at : ℕ) → e.1 ≡ DamagedAt at → IsTrue (D.state disk).tells → IsDamaged (codec_of C.spells) (bytes_of (D.state disk)) at
+            ⊎ ((log : List (Record C.Effect)) × HoldsLog (codec_of C.spells) (bytes_of (D.state disk)) log × IsUnfitAt (codec_of C.spells) sites parts id log at)) }
         ensures goes_on { MatchResult result (λ p. GoesOn (D.state disk) (D.state (disk_of p.gates))) (λ e. GoesOn (D.state disk) (D.state e.0)) }
         ensures failed { IfErr result (λ e. e.1 ≡ DiskFailed → Rose (D.state disk).faults (D.state e.0).faults) }
     {
@@ -263,19 +205,19 @@ impl<C: Crdt, D: Disk + Drop> DurablePartition<C, D> {
         }
     }
 
-    /// Comes up again, also where it is up: reads the log of its disk, and forgets all that the log doesn't tell.
+    /// Comes up again, also where it is up: forgets all that it has in memory, and reads the log of its disk.
     ///
     /// # Errors
     ///
-    /// `Disk` only where the disk fails; `Damaged` and `Unfit` only where the disk holds no log that the partition may
-    /// have written; `NoMemory` where memory runs out. It is down then, and every crash still leaves what it left.
+    /// `Disk` only where the disk fails; `Damaged` only where the disk holds no log that the partition may have
+    /// written; `NoMemory` where memory runs out. It is down then, and every crash still leaves what it left.
     pub fn restart(&mut self, alloc: Global) -> Result<Restarted, RestartError>
         ensures { RestartsOn (kinds_of C.laws) (codec_of C.spells) D.state self.old self.new result }
     {
         self.crashed = true;
         let (id, sites, parts) = self.tables.place();
-        let records = read_again(alloc, &mut self.log)?;
-        let told = recover(alloc, records, id, sites, parts)?;
+        self.tables = Partition::make(alloc, id, sites, parts);
+        let told = read_again(alloc, &mut self.log, id, sites, parts)?;
         let (now, bounds, decided) = (told.ceiling, told.bounds, told.last_decided);
         let tables = Partition::recovered(alloc, id, sites, parts, told)?;
         let pending = list_pending(alloc, tables.pending())?;

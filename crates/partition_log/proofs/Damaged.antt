@@ -94,6 +94,14 @@ module _ {E : Type 0} (codec : Codec E) (reads : (bytes : List ℕ) (r : Record 
       let rest = append_cancel_right (payloads_of codec log) (payloads_of codec other) (codec.bytes s ∷ []) (ap (λ b. payloads_of codec log ++ b ∷ []) (sym last) ∙ e) in
       ap (λ x. x ∷ log) same ∙ ap (λ l. s ∷ l) (same_log log other p.1 q.1 rest)
 
+  -- items are the payloads of one log at most
+  pub same_read : (items : List Item) (log other : List (Record E)) → AreRecords codec items log → AreRecords codec items other → log ≡ other
+  same_read items log other p q = same_log log other p.spelled q.spelled (sym p.payloads ∙ q.payloads)
+
+  -- and where they are those of a log, none is refused
+  pub never_refused : (items : List Item) (log : List (Record E)) (at : ℕ) → AreRecords codec items log → IsRefusedAt codec items at → ⊥
+  never_refused items log at read r = among r.front r.back (r.place, r.payload) r.within (subst (λ l. EachRecord codec (map (λ item. item.1) l)) r.is (each_read items log read)) r.damaged
+
   pub one_log_of : (bytes : List ℕ) (log other : List (Record E)) → HoldsLog codec bytes log → HoldsLog codec bytes other → log ≡ other
   one_log_of bytes log other p q = same_log log other p.spelled q.spelled (one_list bytes (payloads_of codec log) (payloads_of codec other) p.is_log q.is_log)
 

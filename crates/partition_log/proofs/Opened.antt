@@ -1,37 +1,36 @@
 -- What is read of a log of payloads, as records.
-use Rattle.std.proofs.Common.{◌≡◌, inr, ℕ, List, sym, subst}
-use Rattle.disk_core.specs.States.{DiskState}
-use Rattle.gate_log.specs.Log.{IsLog, AreSized}
+use Rattle.std.proofs.Common.{inr, ℕ, List, ap, ◌∙◌, subst, IsTrue}
+use Rattle.std.specs.Prelude.{map}
+use Rattle.disk_core.specs.States.{DiskState, bytes_of}
+use Rattle.gate_log.specs.Log.{IsLog}
 use Rattle.gate_log.specs.Logs.{IsOpen, read_at_opening}
-use Rattle.gate_log.specs.Payloads.{placed}
 use Rattle.gate_log.specs.declared.log.GateLog.{GateLog}
+use Rattle.gate_log.proofs.Unique.{one_list}
 use Rattle.crdt_core.specs.declared.record.Record.{Record}
 use Rattle.partition_log.specs.Codec.{Codec}
-use Rattle.partition_log.specs.Logs.{HoldsLog, HasRecords}
+use Rattle.partition_log.specs.Logs.{payloads_of, HoldsLog, HasRecords, IsOpened}
 use Rattle.partition_log.specs.Damage.{AreRecords, IsRefusedAt, IsDamaged}
-use Rattle.partition_log.proofs.Reading.{same_payloads}
+use Rattle.partition_log.proofs.Reading.{same_payloads, unplaced}
 
-module _ {E D : Type 0} (codec : Codec E) (state : D → DiskState) (Tells : Type 0) (bytes : List ℕ) (gates : GateLog D) where
-  abbrev pub IsOpened : Type 0
-  IsOpened = (payloads : List (List ℕ)) × (read_at_opening gates ≡ placed 8 payloads) × AreSized payloads × (Tells → IsLog bytes payloads × IsOpen state gates payloads)
-
-  opened_here : IsOpened → (read : (records : List (Record E)) × AreRecords codec (read_at_opening gates) records) → (records : List (Record E)) × AreRecords codec (read_at_opening gates) records × (Tells → HoldsLog codec bytes records × HasRecords codec state gates records)
-  opened_here opened read =
-      let same = same_payloads codec (read_at_opening gates) opened.0 read.0 opened.1 read.1 in (
-        read.0,
-        read.1,
-        λ told. let log = opened.3 told in (
-          record { is_log = subst (λ payloads. IsLog bytes payloads) same log.0; spelled = read.1.spelled },
-          record { is_open = subst (λ payloads. IsOpen state gates payloads) same log.1; spelled = read.1.spelled },
-        ),
+module _ {E D : Type 0} (codec : Codec E) (state : D → DiskState) (disk : DiskState) (gates : GateLog D) (opened : IsOpened state disk gates) where
+  -- its payloads are the records of what the disk held, where that is a log of records
+  pub opened_holds : IsTrue disk.tells → (log : List (Record E)) → HoldsLog codec (bytes_of disk) log → AreRecords codec (read_at_opening gates) log × HasRecords codec state gates log
+  opened_holds told log holds =
+      let h = opened.holds told in
+      let same = one_list (bytes_of disk) opened.payloads (payloads_of codec log) h.0 holds.is_log in (
+        record { payloads = ap (map (λ item. item.1)) opened.read ∙ unplaced 8 opened.payloads ∙ same; spelled = holds.spelled },
+        record { is_open = subst (λ payloads. IsOpen state gates payloads) same h.1; spelled = holds.spelled },
       )
 
-  -- its payloads are records, and the log stands as it was opened
-  pub opened_records : (now : GateLog D) → now ≡ gates → IsOpened → (read : (records : List (Record E)) × AreRecords codec (read_at_opening gates) records)
-      → (records : List (Record E)) × AreRecords codec (read_at_opening now) records × (Tells → HoldsLog codec bytes records × HasRecords codec state now records)
-  opened_records now same opened read =
-      subst (λ (g : GateLog D). (records : List (Record E)) × AreRecords codec (read_at_opening g) records × (Tells → HoldsLog codec bytes records × HasRecords codec state g records)) (sym same) (opened_here opened read)
+  -- and where its payloads are records, it is a log of these
+  pub opened_records : (log : List (Record E)) → AreRecords codec (read_at_opening gates) log → IsTrue disk.tells → HoldsLog codec (bytes_of disk) log × HasRecords codec state gates log
+  opened_records log read told =
+      let h = opened.holds told in
+      let same = same_payloads codec (read_at_opening gates) opened.payloads log opened.read read in (
+        record { is_log = subst (λ payloads. IsLog (bytes_of disk) payloads) same h.0; spelled = read.spelled },
+        record { is_open = subst (λ payloads. IsOpen state gates payloads) same h.1; spelled = read.spelled },
+      )
 
   -- one of its payloads is no record
-  pub opened_damaged : IsOpened → (at : ℕ) → IsRefusedAt codec (read_at_opening gates) at → Tells → IsDamaged codec bytes at
-  opened_damaged opened at refused told = inr (opened.0, (opened.3 told).0, subst (λ items. IsRefusedAt codec items at) opened.1 refused)
+  pub opened_damaged : (at : ℕ) → IsRefusedAt codec (read_at_opening gates) at → IsTrue disk.tells → IsDamaged codec (bytes_of disk) at
+  opened_damaged at refused told = inr (opened.payloads, (opened.holds told).0, subst (λ items. IsRefusedAt codec items at) opened.read refused)

@@ -27,13 +27,13 @@ map_more [] x = refl
 map_more (y ∷ front) x = ap (λ l. y.1 ∷ l) (map_more front x)
 
 module _ {E : Type 0} (codec : Codec E) (all : List Item) where
-  pub started : AreWithin all → SoFar codec all all
+  abbrev pub started : AreWithin all → SoFar codec all all
   started within = record { front = []; is = refl; log = []; read = record { payloads = refl; spelled = refl }; within = within }
 
   pub first_within : (left : List Item) (x : Item) (rest : List Item) → left ≡ x ∷ rest → SoFar codec all left → x.0 + length x.1 ≤ 2 ^ 32
   first_within left x rest e so = (subst AreWithin e so.within).0
 
-  pub went_on : (left : List Item) (x : Item) (rest : List Item) (r : Record E) → left ≡ x ∷ rest → codec.spelled r ≡ true → x.1 ≡ codec.bytes r → SoFar codec all left → SoFar codec all rest
+  abbrev pub went_on : (left : List Item) (x : Item) (rest : List Item) (r : Record E) → left ≡ x ∷ rest → codec.spelled r ≡ true → x.1 ≡ codec.bytes r → SoFar codec all left → SoFar codec all rest
   went_on left x rest r e spelled is so = record {
     front = so.front ++ x ∷ [];
     is = so.is ∙ ap (λ l. so.front ++ l) e ∙ sym (append_assoc so.front (x ∷ []) rest);

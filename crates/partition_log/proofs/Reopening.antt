@@ -1,5 +1,5 @@
 -- A log that is read again, of a disk of which every crash leaves a log with the first of some records.
-use Rattle.std.proofs.Common.{◌≡◌, ◌⊎◌, ⊎_elim, ℕ, true, List, Ok, subst, IsTrue}
+use Rattle.std.proofs.Common.{◌≡◌, ◌⊎◌, inr, ⊎_elim, ℕ, true, List, Result, Ok, Err, OnOk, OnErr, IsTrue}
 use Rattle.disk_core.specs.States.{DiskState, Rests, Syncs, ReadsAnImage, bytes_of}
 use Rattle.disk_core.specs.Moments.{AtEachMoment}
 use Rattle.disk_core.proofs.Moments.{at_first, at_last, rested, over_sync}
@@ -7,12 +7,18 @@ use Rattle.crdt_core.specs.declared.record.Record.{Record}
 use Rattle.crdt_core.specs.Log.{MayFind}
 use Rattle.log_records.specs.Whole.{whole_at}
 use Rattle.partition_log.specs.Codec.{Codec}
-use Rattle.partition_log.specs.Logs.{HoldsLog, HoldsFront, LeavesFront, HasRecords}
-use Rattle.partition_log.specs.Damage.{IsDamaged}
-use Rattle.partition_log.proofs.Damaged.{one_log_of, never_both_of}
+use Rattle.partition_log.specs.Logs.{HoldsFront, LeavesFront, HasRecords, IsOpened}
+use Rattle.partition_log.specs.Damage.{AreRecords, IsDamaged}
+use Rattle.partition_log.proofs.Opened.{opened_holds}
+use Rattle.partition_log.proofs.Damaged.{never_both_of}
 use Rattle.partition_log.proofs.Unchanged.{image_at_rest}
-use Rattle.gate_log.specs.Logs.{disk_of}
+use Rattle.gate_log.specs.Logs.{disk_of, read_at_opening}
 use Rattle.gate_log.specs.declared.log.GateLog.{GateLog}
+
+-- whatever is answered
+pub either_way : {T X A B : Type 0} (r : Result T X) → OnOk r A → OnErr r (B ⊎ A) → B ⊎ A
+either_way (Ok x) a b = inr a
+either_way (Err e) a b = b
 
 module _ {E : Type 0} (codec : Codec E) where
   -- what a call leaves, also one that was cut off
@@ -35,9 +41,10 @@ module _ {E : Type 0} (codec : Codec E) (log torn : List (Record E)) (disk : Dis
       (λ syncs. over_sync disk.story new.story (HoldsFront codec log torn) leaves.each (image leaves.tells) (syncs leaves.tells))
       did
 
-  module _ (reads : (bytes : List ℕ) (r : Record E) → codec.spelled r ≡ true → bytes ≡ codec.bytes r → whole_at codec.reading bytes ≡ Ok r) where
-    pub front_found : (found : List (Record E)) → HoldsLog codec (bytes_of disk) found → MayFind log torn found
-    front_found found holds = let front = front_read in subst (MayFind log torn) (one_log_of codec reads (bytes_of disk) front.0 found front.2 holds) front.1
+  -- and so are the records that are read
+  pub front_found : {D : Type 0} (state : D → DiskState) (gates : GateLog D) → IsOpened state disk gates → (found : List (Record E)) × MayFind log torn found × AreRecords codec (read_at_opening gates) found × HasRecords codec state gates found
+  front_found state gates opened = let front = front_read in let has = opened_holds codec state disk gates opened leaves.tells front.0 front.2 in (front.0, front.1, has.0, has.1)
 
+  module _ (reads : (bytes : List ℕ) (r : Record E) → codec.spelled r ≡ true → bytes ≡ codec.bytes r → whole_at codec.reading bytes ≡ Ok r) where
     pub front_whole : (at : ℕ) → IsDamaged codec (bytes_of disk) at → ⊥
     front_whole at damaged = let front = front_read in never_both_of codec reads (bytes_of disk) front.0 at front.2 damaged

@@ -1,10 +1,11 @@
 -- A partition's log as a list of records, newest first, in the payloads of a log of byte strings.
 use Rattle.std.specs.Prelude.{◌≡◌, ℕ, ◌+◌, Bool, true, List, [], ◌∷◌, ◌++◌, length, IsTrue}
 use Rattle.std.specs.List.{list_all}
-use Rattle.disk_core.specs.States.{DiskState}
+use Rattle.disk_core.specs.States.{DiskState, bytes_of}
 use Rattle.disk_core.specs.Moments.{EachImage}
 use Rattle.gate_log.specs.Log.{IsLog}
-use Rattle.gate_log.specs.Logs.{IsOpen}
+use Rattle.gate_log.specs.Logs.{IsOpen, read_at_opening}
+use Rattle.gate_log.specs.Payloads.{placed}
 use Rattle.gate_log.specs.declared.log.GateLog.{GateLog}
 use Rattle.crdt_core.specs.declared.record.Record.{Record}
 use Rattle.crdt_core.specs.Log.{MayFind}
@@ -42,3 +43,9 @@ module _ {E : Type 0} (codec : Codec E) where
   abbrev pub size : List (Record E) → ℕ
   size [] = 0
   size (r ∷ records) = 5 + length (codec.bytes r) + size records
+
+-- What was read at opening are the payloads of what the disk held, if it tells that, and the log is open with them.
+pub record IsOpened {D : Type 0} (state : D → DiskState) (disk : DiskState) (gates : GateLog D) : Type 0 where
+  pub payloads : List (List ℕ)
+  pub read : read_at_opening gates ≡ placed 8 payloads
+  pub holds : IsTrue disk.tells → IsLog (bytes_of disk) payloads × IsOpen state gates payloads

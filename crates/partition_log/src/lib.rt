@@ -9,3 +9,4 @@ mod payload;
 
 pub use laws::{law_fronts, law_part_log, law_sizes};
 pub use log::PartLog;
+pub use opening::record_at;

@@ -1,4 +1,4 @@
-ghost use Rattle.std.specs.Prelude.{◌≡◌, ◌≢◌, ◌⊎◌, ◌++◌, ◌∷◌, [], List, ℕ, map, reverse, true, false, Err, IsTrue, Some, IfOk, IfErr, OnOk, OnErr, MatchResult};
+ghost use Rattle.std.specs.Prelude.{◌≡◌, ◌≢◌, ◌⊎◌, ◌++◌, ◌∷◌, [], List, ℕ, true, false, Err, IsTrue, Some, IfOk, IfErr, OnOk, OnErr, MatchResult};
 ghost use Rattle.gate_log.specs.declared.error.AppendError.TheVariants.{NoMemory as OutOfMemory};
 ghost use Rattle.crdt_core.specs.Spelled.{is_tx};
 ghost use Rattle.crdt_core.specs.declared.record.Record.{Record};
@@ -7,22 +7,23 @@ ghost use Rattle.log_records.specs.Messages.{can_put_batch};
 ghost use Rattle.log_records.specs.Records.{can_put_record};
 ghost use Rattle.partition_log.specs.Codec.{codec_of};
 ghost use Rattle.partition_log.specs.Appends.{Appends};
-ghost use Rattle.partition_log.specs.Logs.{HoldsLog, HoldsFront, LeavesFront, HasRecords};
-ghost use Rattle.partition_log.specs.Damage.{AreRecords, IsDamaged};
+ghost use Rattle.gate_log.specs.Damage.{IsDamagedAt};
+ghost use Rattle.gate_log.specs.Payloads.{AreWithin};
+ghost use Rattle.partition_log.specs.Logs.{HoldsLog, HoldsFront, LeavesFront, HasRecords, IsOpened};
+ghost use Rattle.partition_log.specs.Damage.{AreRecords, IsRefusedAt};
 ghost use Rattle.disk_core.specs.States.{GoesOn, Rose, Rests, Syncs, bytes_of};
 ghost use Rattle.disk_core.specs.Moments.{AtEachMoment};
 ghost use Rattle.crdt_core.specs.Log.{MayFind};
 
 use crate::append::{append_one, append_two};
-use crate::opening::{check_log, read_records};
+use crate::opening::check_records;
 use crate::payload::{payload_of, payload_of_batch};
 use crdt_core::{Crdt, Message, Record};
 use disk_core::{Disk, Fused};
-use field_codec::ListOf;
-use gate_log::{AppendError, GateLog, OpenError};
+use gate_log::{AppendError, GateLog, OpenError, Payloads};
 use log_records::Short;
 use site_vector::{TxId, VTime};
-use std::alloc::{AllocError, Global};
+use std::alloc::Global;
 use std::marker::PhantomData;
 
 /// The log of a partition: a list of records on a disk.
@@ -41,20 +42,22 @@ impl<C: Crdt, D: Disk + Drop> PartLog<C, D> {
     ghost use Rattle.gate_log.specs.declared.error.OpenError.TheVariants.{Failed as OpenFailed, Damaged};
     ghost use Rattle.partition_log.specs.Gates.{gates_of, leases};
 
-    /// Opens the log that a disk holds: makes all of it durable, and reads it twice, once for its payloads and once for
-    /// its records. An `Err` hands the disk back.
+    /// Opens the log that a disk holds: makes all of it durable, and reads its payloads. Whether they are records
+    /// `record_at` tells, or `check`. An `Err` hands the disk back.
     ///
     /// # Errors
     ///
-    /// `Failed` where the disk fails, `Damaged` exactly where its bytes are no log of records, and `NoMemory` where they
-    /// don't fit the memory.
+    /// `Failed` where the disk fails, `Damaged` exactly where its bytes are no log of payloads, and `NoMemory` where
+    /// they don't fit the memory.
     pub fn open(alloc: Global, disk: D) -> Result<PartLog<C, D>, (D, OpenError)>
-        ensures opened { IfOk result (λ log. (records : List (Record C.Effect)) × AreRecords (codec_of C.spells) (read_at_opening (gates_of log)) records
-            × (IsTrue (D.state disk).tells → HoldsLog (codec_of C.spells) (bytes_of (D.state disk)) records
-            × HasRecords (codec_of C.spells) D.state (gates_of log) records)) }
+        ensures opened { IfOk result (λ log. IsOpened D.state (D.state disk) (gates_of log)) }
+        ensures holds { IfOk result (λ log. IsTrue (D.state disk).tells → (records : List (Record C.Effect))
+            → HoldsLog (codec_of C.spells) (bytes_of (D.state disk)) records
+            → AreRecords (codec_of C.spells) (read_at_opening (gates_of log)) records
+            × HasRecords (codec_of C.spells) D.state (gates_of log) records) }
         ensures ready { IfOk result (λ log. IsReady D.state (gates_of log) × (is_closed (gates_of log) ≡ false)) }
         ensures damaged { (at : ℕ) → IfErr result (λ e. e.1 ≡ Damaged at → IsTrue (D.state disk).tells
-            → IsDamaged (codec_of C.spells) (bytes_of (D.state disk)) at) }
+            → IsDamagedAt (bytes_of (D.state disk)) at) }
         ensures failed { IfErr result (λ e. e.1 ≡ OpenFailed → Rose (D.state disk).faults (D.state e.0).faults) }
         // All that the disk does is to sync, and that only once.
         ensures synced { IfOk result (λ log. Syncs (D.state disk) (D.state (disk_of (gates_of log)))) }
@@ -68,13 +71,10 @@ impl<C: Crdt, D: Disk + Drop> PartLog<C, D> {
     {
         match GateLog::open(alloc, disk) {
             Err(refused) => Err(refused),
-            Ok(mut log) => match check_log::<C, D>(alloc, &mut log) {
-                Err(error) => Err((log.close(), error)),
-                Ok(()) => Ok(PartLog {
-                    log,
-                    kinds: PhantomData,
-                }),
-            },
+            Ok(log) => Ok(PartLog {
+                log,
+                kinds: PhantomData,
+            }),
         }
     }
 
@@ -82,24 +82,21 @@ impl<C: Crdt, D: Disk + Drop> PartLog<C, D> {
     /// An `Err` leaves the log closed, with nothing read.
     ///
     /// Where every crash leaves a log with the first of some records, or none, or all, as after a call that was cut
-    /// off, the log has such a list again, it isn't damaged, and a crash inside the call leaves such a log too.
+    /// off, what is read are the records of such a list, it isn't damaged, and a crash inside the call leaves such a
+    /// log too.
     ///
     /// # Errors
     ///
     /// As `open`.
     pub fn reopen(&mut self, alloc: Global) -> Result<(), OpenError>
-        ensures opened { OnOk result ((records : List (Record C.Effect))
-            × AreRecords (codec_of C.spells) (read_at_opening (gates_of self.new)) records
-            × (IsTrue (D.state (disk_of (gates_of self.old))).tells
-            → HoldsLog (codec_of C.spells) (bytes_of (D.state (disk_of (gates_of self.old)))) records
-            × HasRecords (codec_of C.spells) D.state (gates_of self.new) records)) }
+        ensures opened { OnOk result (IsOpened D.state (D.state (disk_of (gates_of self.old))) (gates_of self.new)) }
         ensures opened_ready { OnOk result (IsReady D.state (gates_of self.new)
             × (is_closed (gates_of self.new) ≡ false)) }
         ensures closed { OnErr result ((is_closed (gates_of self.new) ≡ true)
             × (read_at_opening (gates_of self.new) ≡ [])) }
         ensures ready { IsReady D.state (gates_of self.old) → IsReady D.state (gates_of self.new) }
         ensures damaged { (at : ℕ) → result ≡ Err (Damaged at) → IsTrue (D.state (disk_of (gates_of self.old))).tells
-            → IsDamaged (codec_of C.spells) (bytes_of (D.state (disk_of (gates_of self.old)))) at }
+            → IsDamagedAt (bytes_of (D.state (disk_of (gates_of self.old)))) at }
         ensures failed { result ≡ Err OpenFailed
             → Rose (D.state (disk_of (gates_of self.old))).faults (D.state (disk_of (gates_of self.new))).faults }
         // All that the disk does is to sync, and that only once.
@@ -115,6 +112,7 @@ impl<C: Crdt, D: Disk + Drop> PartLog<C, D> {
         ensures finds { (log torn : List (Record C.Effect))
             → LeavesFront (codec_of C.spells) log torn (D.state (disk_of (gates_of self.old)))
             → OnOk result ((found : List (Record C.Effect)) × MayFind log torn found
+            × AreRecords (codec_of C.spells) (read_at_opening (gates_of self.new)) found
             × HasRecords (codec_of C.spells) D.state (gates_of self.new) found) }
         ensures whole { (log torn : List (Record C.Effect))
             → LeavesFront (codec_of C.spells) log torn (D.state (disk_of (gates_of self.old)))
@@ -124,9 +122,30 @@ impl<C: Crdt, D: Disk + Drop> PartLog<C, D> {
             → AtEachMoment (D.state (disk_of (gates_of self.old))).story (D.state (disk_of (gates_of self.new))).story
             (HoldsFront (codec_of C.spells) log torn) }
     {
-        self.log.reopen(alloc)?;
-        check_log::<C, D>(alloc, &mut self.log)?;
-        Ok(())
+        self.log.reopen(alloc)
+    }
+
+    /// The payloads that were read at opening, each with its place, in their order.
+    pub fn payloads(&self) -> Payloads<'_>
+        ensures read { result ≡ read_at_opening (gates_of self.now) }
+        ensures within { AreWithin (read_at_opening (gates_of self.now)) }
+    {
+        self.log.payloads()
+    }
+
+    /// Whether the payloads that were read at opening are all records.
+    ///
+    /// # Errors
+    ///
+    /// `Damaged` exactly where one is none, with the place of the first, and `NoMemory` where memory runs out.
+    pub fn check(&self, alloc: Global) -> Result<(), OpenError>
+        ensures records { OnOk result ((log : List (Record C.Effect))
+            × AreRecords (codec_of C.spells) (read_at_opening (gates_of self.now)) log) }
+        ensures damaged { (at : ℕ) → result ≡ Err (Damaged at)
+            → IsRefusedAt (codec_of C.spells) (read_at_opening (gates_of self.now)) at }
+        ensures reads { result ≢ Err OpenFailed }
+    {
+        check_records::<C>(alloc, self.log.payloads())
     }
 
     /// Lets go what was read at opening, with its memory, once its records are taken. The log is as before.
@@ -247,23 +266,6 @@ impl<C: Crdt, D: Disk + Drop> PartLog<C, D> {
             return Err(AppendError::NoMemory);
         };
         append_one::<C, D>(&mut self.log, &payload)
-    }
-
-    /// The places of the payloads that were read at opening, and their records, the oldest first. `open` says that they
-    /// are records.
-    ///
-    /// # Errors
-    ///
-    /// `AllocError` where memory runs out.
-    pub fn records(
-        &self,
-        alloc: Global,
-    ) -> Result<(ListOf<u64>, ListOf<Record<C::Effect>>), AllocError>
-        requires { (log : List (Record C.Effect)) × AreRecords (codec_of C.spells) (read_at_opening (gates_of self.now)) log }
-        ensures places { IfOk result (λ x. x.0 ≡ map (λ item. item.0) (read_at_opening (gates_of self.now))) }
-        ensures records { IfOk result (λ x. AreRecords (codec_of C.spells) (read_at_opening (gates_of self.now)) (reverse x.1)) }
-    {
-        read_records::<C>(alloc, self.log.payloads())
     }
 
     /// The disk.

@@ -45,4 +45,3 @@ module _ {S E D : Type 0} (kinds : Kinds S E) (codec : Codec E) (state : D → D
   restarts_same (Err restart.Disk) h = h.1.reads.same
   restarts_same (Err restart.NoMemory) h = h.reads.same
   restarts_same (Err (restart.Damaged at)) h = h.0.reads.same
-  restarts_same (Err (restart.Unfit n)) h = h.0.reads.same

@@ -79,7 +79,6 @@ module _ {S E D : Type 0} (w : Types S E D) (sites parts : ℕ) (items : List (D
   restarted (Err restart.Disk) s = (stayed s.1, s.0)
   restarted (Err restart.NoMemory) s = stayed s
   restarted (Err (restart.Damaged place)) s = (stayed s.0, λ run r. s.1 (r.state at) (stood run r).stands)
-  restarted (Err (restart.Unfit n)) s = (stayed s.0, λ run r. s.1 (r.state at) (stood run r).stands)
 
   pub armed : (k : ℕ) → disk_in w.state u ≡ record (disk_in w.state t) { left = Some k } → (u.tables ≡ t.tables) × (is_down u ≡ is_down t) → ((p : PartState E) → StandsOn w.codec w.state t p → StandsOn w.codec w.state u p) → ArmsAt w old new at k
   armed k left same stands = record {

@@ -49,9 +49,8 @@ module _ {S E D : Type 0} (w : Types S E D) (old new : Held E D) (at : PartId) w
   RestartsAt (Ok r) = ComesUpAt r
   RestartsAt (Err restart.Disk) = (s : StaysDownAt) × Rose (disk_in w.state s.moves.before).faults (disk_in w.state s.moves.after).faults
   RestartsAt (Err restart.NoMemory) = StaysDownAt
-  -- never where a run left the cluster so
-  RestartsAt (Err (restart.Damaged place)) = StaysDownAt × ((run : List (Entry E)) → Reaches w old run → ⊥)
-  RestartsAt (Err (restart.Unfit n)) = (s : StaysDownAt) × ((run : List (Entry E)) (r : Reaches w old run) → FindsUnfit w.kinds w.codec w.state s.moves.before s.moves.after (r.state at) n)
+  -- of a log that a run left only where a record doesn't fit
+  RestartsAt (Err (restart.Damaged place)) = (s : StaysDownAt) × ((run : List (Entry E)) (r : Reaches w old run) → FindsUnfit w.kinds w.codec w.state s.moves.before s.moves.after (r.state at) place)
 
   -- of the disk's calls from now on, the one with this number fails
   pub record ArmsAt (k : ℕ) : Type 0 where

@@ -8,7 +8,7 @@ use Rattle.world_model.specs.declared.command.Command.TheVariants as command
 use Rattle.cluster.specs.Live.{LiveState}
 use Rattle.cluster.specs.Reached.{AppliesLive, IsReachedLive}
 use Rattle.cluster.proofs.Applying.{map_ok}
-use Rattle.cluster.proofs.Striking.{came_up, stayed_down, never_damaged, never_unfit, holds_place}
+use Rattle.cluster.proofs.Striking.{came_up, stayed_down, never_damaged, holds_place}
 use Rattle.cluster.proofs.live.Live.come_up.Goals as goal
 
 pub returns-in-Ok : goal.returns-in-Ok
@@ -29,9 +29,4 @@ returns-in-Disk g c =
 pub returns-in-Damaged : goal.returns-in-Damaged
 returns-in-Damaged g c =
     let v : LiveState g.row.C-Effect.Denot _ = record { sites = c.self-inside.inside.0.1.0.all; sessions = c.self-inside.inside.0.1.1.0.entries } in
-    absurd (never_damaged (types_of g.C.Crdt.laws g.C.Crdt.spells g.D.Disk.state) v c.args.part c.restart_at.new.self c.in-Damaged.at (subst (λ (x : LiveState g.row.C-Effect.Denot _). IsReachedLive (types_of g.C.Crdt.laws g.C.Crdt.spells g.D.Disk.state) x) (sym ((λ i. record { sites = (c.self-inside.view_is i).sites; sessions = (c.self-inside.view_is i).sessions.entries }) ∙ c.self.view_is)) c.requires.reached) (subst (λ (e : RestartError). RestartsAt (types_of g.C.Crdt.laws g.C.Crdt.spells g.D.Disk.state) v.sites c.restart_at.new.self c.args.part (Err e)) c.in-Damaged.is c.in-Err.ensures))
-
-pub returns-in-Unfit : goal.returns-in-Unfit
-returns-in-Unfit g c =
-    let v : LiveState g.row.C-Effect.Denot _ = record { sites = c.self-inside.inside.0.1.0.all; sessions = c.self-inside.inside.0.1.1.0.entries } in
-    absurd (never_unfit (types_of g.C.Crdt.laws g.C.Crdt.spells g.D.Disk.state) v c.args.part c.restart_at.new.self c.in-Unfit.number (subst (λ (x : LiveState g.row.C-Effect.Denot _). IsPlace x.sites.sites x.sites.parts c.args.part) (sym ((λ i. record { sites = (c.self-inside.view_is i).sites; sessions = (c.self-inside.view_is i).sessions.entries }) ∙ c.self.view_is)) c.requires.place) (subst (λ (x : LiveState g.row.C-Effect.Denot _). IsReachedLive (types_of g.C.Crdt.laws g.C.Crdt.spells g.D.Disk.state) x) (sym ((λ i. record { sites = (c.self-inside.view_is i).sites; sessions = (c.self-inside.view_is i).sessions.entries }) ∙ c.self.view_is)) c.requires.reached) (subst (λ (e : RestartError). RestartsAt (types_of g.C.Crdt.laws g.C.Crdt.spells g.D.Disk.state) v.sites c.restart_at.new.self c.args.part (Err e)) c.in-Unfit.is c.in-Err.ensures))
+    absurd (never_damaged (types_of g.C.Crdt.laws g.C.Crdt.spells g.D.Disk.state) v c.args.part c.restart_at.new.self c.in-Damaged.at (subst (λ (x : LiveState g.row.C-Effect.Denot _). IsPlace x.sites.sites x.sites.parts c.args.part) (sym ((λ i. record { sites = (c.self-inside.view_is i).sites; sessions = (c.self-inside.view_is i).sessions.entries }) ∙ c.self.view_is)) c.requires.place) (subst (λ (x : LiveState g.row.C-Effect.Denot _). IsReachedLive (types_of g.C.Crdt.laws g.C.Crdt.spells g.D.Disk.state) x) (sym ((λ i. record { sites = (c.self-inside.view_is i).sites; sessions = (c.self-inside.view_is i).sessions.entries }) ∙ c.self.view_is)) c.requires.reached) (subst (λ (e : RestartError). RestartsAt (types_of g.C.Crdt.laws g.C.Crdt.spells g.D.Disk.state) v.sites c.restart_at.new.self c.args.part (Err e)) c.in-Damaged.is c.in-Err.ensures))
