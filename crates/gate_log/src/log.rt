@@ -160,6 +160,7 @@ impl<D: Disk + Drop> GateLog<D> {
         ensures refused { IfErr result (λ e. e ≢ DiskFailed → self.new ≡ self.old) }
         ensures fed { result ≢ Err OutOfMemory }
         ensures gate { OnOk result (gate_of self.new ≡ gate_of self.old + 5 + length payload.now) }
+        ensures gate_err { OnErr result (gate_of self.new ≡ gate_of self.old) }
         ensures stays_open { OnOk result (is_closed self.new ≡ false) }
         ensures read { read_at_opening self.new ≡ read_at_opening self.old }
         ensures ready { IsReady D.state self.new }
