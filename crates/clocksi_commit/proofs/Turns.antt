@@ -187,7 +187,7 @@ keeps site s parts (GivenUp ∷ turns) = keeps_given_up parts (steps_made site s
 -- what is kept is what the law says of the next step
 means : (site : ℕ) (s parts : List ℕ) (made : List Made) (g : Going) → Keeps parts made g → IsCommit site s parts made (next_step site s g)
 means site s parts made (Preparing done (q ∷ left) n) k = record {
-  asks = λ p e. let is : q ≡ p = cc in subst (λ l. is_among l p ≡ true) k.parts_are (list_any-append (λ x. x == p) done (q ∷ left) ∙ behind_or (is_among done p) (is_among (q ∷ left) p) (here q p (is_among left p) is));
+  asks = λ p e. let is : q ≡ p = cc in record { front = done; back = left; are = sym k.parts_are ∙ ap (λ x. done ++ x ∷ left) is; votes = k.votes };
   lead = λ p c e. absurd cc;
   all = λ p r c e h. absurd cc;
   decides = λ p c e. absurd cc;

@@ -1,5 +1,5 @@
 -- What a commit comes to, whatever answers its steps (Clock-SI, with one commit point at the lead).
-use Rattle.std.specs.Prelude.{◌≡◌, ◌⊎◌, ℕ, max, Bool, true, false, ◌||◌, ◌==◌, List, [], ◌∷◌}
+use Rattle.std.specs.Prelude.{◌≡◌, ◌⊎◌, ℕ, max, Bool, true, false, ◌||◌, ◌==◌, List, [], ◌∷◌, ◌++◌}
 use Rattle.std.specs.List.{list_any}
 use Rattle.site_vector.specs.Vector.{replaced}
 use Rattle.world_model.specs.declared.commit.What.{What}
@@ -102,10 +102,17 @@ abbrev pub is_nothing : What → Bool
 is_nothing what.Done = true
 is_nothing other = false
 
+-- it is the turn of p among these: all before it voted, and nobody else did
+pub record IsInTurn (parts : List ℕ) (made : List Made) (p : ℕ) : Type 0 where
+  pub front : List ℕ
+  pub back : List ℕ
+  pub are : parts ≡ front ++ p ∷ back
+  pub votes : (q : ℕ) → voted made q ≡ is_among front q
+
 -- of a transaction of this site with this snapshot, at these participants: what was made, and what is next
 pub record IsCommit (site : ℕ) (s parts : List ℕ) (made : List Made) (next : What) : Type 0 where
   -- each participant is asked for its vote in turn
-  pub asks : (p : ℕ) → next ≡ what.Prepare p → is_among parts p ≡ true
+  pub asks : (p : ℕ) → next ≡ what.Prepare p → IsInTurn parts made p
   -- the lead decides, once all have voted, and with the greatest vote
   pub lead : (p : ℕ) (c : List ℕ) → next ≡ what.Decide p c → is_first parts p ≡ true
   pub all : (p q : ℕ) (c : List ℕ) → next ≡ what.Decide p c → is_among parts q ≡ true → voted made q ≡ true

@@ -8,7 +8,7 @@ use Rattle.crdt_sets.proofs.elements.copy_elements.Goals as goal
 
 pub loop-text-preserved-in_ok-insert : goal.loop-text-preserved-in_ok-insert
 loop-text-preserved-in_ok-insert c =
-    copy_more text_cmp_total c.args.elements.now.entries c.loop-text.copied.entries c.loop-text.text-iterator c.next.new.self c.insert.new.self.entries c.in-Some.text.now c.in-Some.kept.now
+    copy_more text_cmp_total c.args.elements.now.entries c.loop-text.copied.entries c.loop-text.text-iterator c.next.new.self c.insert-in-loop-text.new.self.entries c.in-Some.text.now c.in-Some.kept.now
     c.iter-text-items.ensures.ordered
     c.loop-text.invariant
     (rest_more deref_pair c.loop-text.text-iterator c.next.new.self c.next.result (c.in-Some.text, c.in-Some.kept) c.in-Some.is c.next.ensures.steps)
@@ -16,7 +16,7 @@ loop-text-preserved-in_ok-insert c =
 
 pub loop-text-preserved : goal.loop-text-preserved
 loop-text-preserved c =
-    copy_more text_cmp_total c.args.elements.now.entries c.loop-text.copied.entries c.loop-text.text-iterator c.next.new.self c.insert.new.self.entries c.in-Some.text.now c.in-Some.kept.now
+    copy_more text_cmp_total c.args.elements.now.entries c.loop-text.copied.entries c.loop-text.text-iterator c.next.new.self c.insert-in-loop-text.new.self.entries c.in-Some.text.now c.in-Some.kept.now
     c.iter-text-items.ensures.ordered
     c.loop-text.invariant
     (rest_more deref_pair c.loop-text.text-iterator c.next.new.self c.next.result (c.in-Some.text, c.in-Some.kept) c.in-Some.is c.next.ensures.steps)
