@@ -40,7 +40,7 @@ use Rattle.cluster.proofs.FuelWrites.{can_write, is_took, no_bringing, writes, n
 
 module _ {A X : Type 0} (f : A → X) (R : X → X → Type 0) where
   -- what holds of an element and of what is put in its place
-  at_set : (xs : List A) (i : ℕ) (t u : A) → ((other : A) → get_or xs i other ≡ t) → R (f t) (f u) → (other : A) → R (f (get_or xs i other)) (f (get_or (set xs i u) i other))
+  pub at_set : (xs : List A) (i : ℕ) (t u : A) → ((other : A) → get_or xs i other ≡ t) → R (f t) (f u) → (other : A) → R (f (get_or xs i other)) (f (get_or (set xs i u) i other))
   at_set [] i t u h k other = subst (λ y. R (f y) (f other)) (sym (h other)) (subst (λ y. R (f t) (f y)) (h u ∙ sym (h other)) k)
   at_set (x ∷ xs) zero t u h k other = subst (λ y. R (f y) (f u)) (sym (h x)) k
   at_set (x ∷ xs) (suc i) t u h k other = at_set xs i t u h k other

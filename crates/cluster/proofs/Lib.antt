@@ -5,6 +5,7 @@ pub mod FuelWrites
 pub mod FuelTold
 pub mod FuelCalls
 pub mod FuelKept
+pub mod Fusing
 pub mod Faulted
 pub mod Worlds
 pub mod Ups

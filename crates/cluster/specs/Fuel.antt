@@ -2,6 +2,8 @@
 use Rattle.std.specs.Prelude.{◌≡◌, ℕ, ◌+◌, ◌*◌, ◌≤◌, Bool, true, false, List, [], ◌∷◌, get_or, Option, None, Some, ⊤}
 use Rattle.site_vector.specs.declared.ids.PartId.{PartId}
 use Rattle.disk_core.specs.States.{DiskState}
+use Rattle.world_model.specs.declared.command.Command.{Command}
+use Rattle.world_model.specs.declared.command.Command.TheVariants as command
 use Rattle.world_model.specs.Bounds.{bound}
 use Rattle.world_model.specs.Event.{Event, Entry, Took}
 use Rattle.world_model.specs.Fuses.{Fuse, fuse, IsUnfired, KeepFuses}
@@ -85,3 +87,14 @@ pub record Spent {S E D : Type 0} (w : Types S E D) (old new : Held E D) (at : P
 -- what the line of a call of this partition tells of its disk: that it failed, where it did, and what it took of its calls
 abbrev pub TellsCall : {S E D : Type 0} (w : Types S E D) → Held E D → Held E D → PartId → Step → Type 0
 TellsCall w old new at line = TellsFault w.state old new at line × Spent w old new at line
+
+-- where no fuse is on the disk of this partition, none comes
+abbrev pub StaysUnarmed : {E D : Type 0} → (D → DiskState) → Held E D → Held E D → PartId → Type 0
+StaysUnarmed {E} {D} state old new p = (other : Durable E D) → left_at state old p other ≡ None → left_at state new p other ≡ None
+
+-- What a command does to the fuse of a partition that is there: it is armed at the call that is named, and a restart takes one away that
+-- has fired.
+abbrev pub SetsFuse : {E D : Type 0} → (D → DiskState) → Command → Held E D → Held E D → Type 0
+SetsFuse {E} {D} state (command.Fuse p k n) old new = holds_part old p ≡ true → (other : Durable E D) → left_at state new p other ≡ Some k
+SetsFuse {E} {D} state (command.Restart p) old new = holds_part old p ≡ true → (other : Durable E D) → left_at state old p other ≡ Some 0 → left_at state new p other ≡ None
+SetsFuse state other old new = ⊤

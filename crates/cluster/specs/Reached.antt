@@ -21,7 +21,7 @@ use Rattle.partition_core.specs.Durable.{Durable}
 use Rattle.site_partitions.specs.Held.{IsSized}
 use Rattle.site_partitions.specs.Reaches.{Types}
 use Rattle.cluster.specs.Faults.{ShowFaults, AreFed}
-use Rattle.cluster.specs.Fuel.{Fueled, Unlit}
+use Rattle.cluster.specs.Fuel.{Fueled, SetsFuse, Unlit}
 use Rattle.cluster.specs.Same.{SameCluster}
 use Rattle.cluster.specs.Live.{LiveState, session_in}
 use Rattle.cluster.specs.Post.{WholeState, HasPost, Grows, KeepsPost}
@@ -83,6 +83,11 @@ SizedIn (Some w) = IsSized w.live.sites.sites w.live.sites.parts (length w.live.
 abbrev pub FedIn : {E D : Type 0} → (D → DiskState) → Option (WholeState E D) → List Step → Type 0
 FedIn state None steps = ⊤
 FedIn state (Some w) steps = AreFed state w.live.sites steps
+
+-- what a command of fuses leaves of the disks of a cluster
+abbrev pub SetsFuseIn : {E D : Type 0} → (D → DiskState) → Command → Option (WholeState E D) → Option (WholeState E D) → Type 0
+SetsFuseIn state c (Some old) (Some new) = SetsFuse state c old.live.sites new.live.sites
+SetsFuseIn state c old new = ⊤
 
 module _ {S E D : Type 0} (types : Types S E D) where
   -- these calls show the lines of partitions in the run, and left the partitions and the sessions so

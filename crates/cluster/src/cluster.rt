@@ -3,7 +3,7 @@ ghost use Rattle.disk_core.specs.Fuses.{fused_state};
 ghost use Rattle.site_partitions.specs.Made.{AreBlank, HandsBack};
 ghost use Rattle.site_partitions.specs.Reaches.{types_of};
 ghost use Rattle.cluster.specs.Built.{IsSaid, is_making};
-ghost use Rattle.cluster.specs.Reached.{Applies, IsReached, Reached, FedIn, SizedIn, parts_in, partitions_in};
+ghost use Rattle.cluster.specs.Reached.{Applies, IsReached, Reached, FedIn, SetsFuseIn, SizedIn, parts_in, partitions_in};
 
 use crate::running::Running;
 use crdt_core::Crdt;
@@ -96,6 +96,7 @@ impl<C: Crdt, D: Disk + Drop> Cluster<C, D> {
         requires made { self.old ≡ None → is_making command ≡ false }
         ensures ok { IfOk result (λ steps. Applies (types_of C.laws C.spells (fused_state D.state)) self.old command steps.items self.new) }
         ensures fed { IfOk result (λ steps. FedIn (fused_state D.state) self.new steps.items) }
+        ensures fuse { IfOk result (λ steps. SetsFuseIn (fused_state D.state) command self.old self.new) }
         ensures err { OnErr result (self.new ≡ None) }
     {
         match answer(self.alloc, &mut self.live, command) {
@@ -133,7 +134,8 @@ fn answer<C: Crdt, D: Disk + Drop>(
     requires said { IsSaid C.has C.too_deep command }
     requires made { live.old ≡ None → is_making command ≡ false }
     requires reached { IsReached (types_of C.laws C.spells (fused_state D.state)) live.old }
-    ensures { IfOk result (λ steps. Applies (types_of C.laws C.spells (fused_state D.state)) live.old command steps.items live.new) }
+    ensures applies { IfOk result (λ steps. Applies (types_of C.laws C.spells (fused_state D.state)) live.old command steps.items live.new) }
+    ensures fuse { IfOk result (λ steps. SetsFuseIn (fused_state D.state) command live.old live.new) }
 {
     match live {
         Some(cluster) => {

@@ -4,6 +4,7 @@ ghost use Rattle.site_vector.specs.declared.ids.PartId.{PartId as Place};
 ghost use Rattle.site_partitions.specs.Reaches.{types_of};
 ghost use Rattle.cluster.specs.Built.{IsSaid, is_of_faults};
 ghost use Rattle.cluster.specs.Faults.{AreFed, IsFed};
+ghost use Rattle.cluster.specs.Fuel.{SetsFuse, StaysUnarmed};
 ghost use Rattle.cluster.specs.Reached.{AppliesLive, IsReachedLive};
 
 use crate::cluster::only;
@@ -23,7 +24,8 @@ impl<C: Crdt, D: Disk + Drop> Live<C, Fused<D>> {
         requires of_faults { is_of_faults command ≡ true }
         requires said { IsSaid C.has C.too_deep command }
         requires reached { IsReachedLive (types_of C.laws C.spells (fused_state D.state)) self.old }
-        ensures { IfOk result (λ steps. AppliesLive (types_of C.laws C.spells (fused_state D.state)) self.old command steps.items self.new) }
+        ensures applies { IfOk result (λ steps. AppliesLive (types_of C.laws C.spells (fused_state D.state)) self.old command steps.items self.new) }
+        ensures fuse { IfOk result (λ steps. SetsFuse (fused_state D.state) command self.old.sites self.new.sites) }
     {
         match command {
             Command::Crash { part } => {
@@ -44,7 +46,8 @@ impl<C: Crdt, D: Disk + Drop> Live<C, Fused<D>> {
     /// Has a partition come up again from its log. A fuse of its disk that has fired is taken away before.
     fn restart(&mut self, part: PartId) -> Result<Vec<Step>, AllocError>
         requires reached { IsReachedLive (types_of C.laws C.spells (fused_state D.state)) self.old }
-        ensures { IfOk result (λ steps. AppliesLive (types_of C.laws C.spells (fused_state D.state)) self.old (Command.Restart part) steps.items self.new) }
+        ensures applies { IfOk result (λ steps. AppliesLive (types_of C.laws C.spells (fused_state D.state)) self.old (Command.Restart part) steps.items self.new) }
+        ensures fuse { IfOk result (λ steps. SetsFuse (fused_state D.state) (Command.Restart part) self.old.sites self.new.sites) }
     {
         if !self.has_part(part) {
             return only(self.alloc, Step::NoPart);
@@ -56,7 +59,8 @@ impl<C: Crdt, D: Disk + Drop> Live<C, Fused<D>> {
     /// Arms the fuse of a partition's disk.
     fn fuse(&mut self, part: PartId, call: u64, keep: u64) -> Result<Vec<Step>, AllocError>
         requires { 1 ≤ call }
-        ensures { IfOk result (λ steps. AppliesLive (types_of C.laws C.spells (fused_state D.state)) self.old (Command.Fuse part call keep) steps.items self.new) }
+        ensures applies { IfOk result (λ steps. AppliesLive (types_of C.laws C.spells (fused_state D.state)) self.old (Command.Fuse part call keep) steps.items self.new) }
+        ensures fuse { IfOk result (λ steps. SetsFuse (fused_state D.state) (Command.Fuse part call keep) self.old.sites self.new.sites) }
     {
         if !self.has_part(part) {
             return only(self.alloc, Step::NoPart);
@@ -84,7 +88,8 @@ impl<C: Crdt, D: Disk + Drop> Live<C, D> {
     fn come_up(&mut self, part: PartId) -> Result<Vec<Step>, AllocError>
         requires place { IsPlace self.old.sites.sites self.old.sites.parts part }
         requires reached { IsReachedLive (types_of C.laws C.spells D.state) self.old }
-        ensures { IfOk result (λ steps. AppliesLive (types_of C.laws C.spells D.state) self.old (Command.Restart part) steps.items self.new) }
+        ensures applies { IfOk result (λ steps. AppliesLive (types_of C.laws C.spells D.state) self.old (Command.Restart part) steps.items self.new) }
+        ensures unarmed { IfOk result (λ steps. StaysUnarmed D.state self.old.sites self.new.sites part) }
     {
         match self.sites.all.restart_at(part) {
             Ok(restarted) => {

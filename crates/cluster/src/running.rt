@@ -2,7 +2,7 @@ ghost use Rattle.std.specs.Prelude.{◌≡◌, [], true, IfOk};
 ghost use Rattle.site_partitions.specs.Reaches.{types_of};
 ghost use Rattle.cluster.specs.Built.{IsSaid, is_of_fates, is_of_faults, is_of_post};
 ghost use Rattle.cluster.specs.Post.{new_post};
-ghost use Rattle.cluster.specs.Reached.{Applies, IsReached};
+ghost use Rattle.cluster.specs.Reached.{Applies, IsReached, SetsFuseIn};
 ghost use Rattle.std.specs.Prelude.{Some};
 
 use crate::live::Live;
@@ -69,7 +69,8 @@ impl<C: Crdt, D: Disk + Drop> Running<C, Fused<D>> {
     pub(crate) fn apply(&mut self, command: Command) -> Result<Vec<Step>, AllocError>
         requires said { IsSaid C.has C.too_deep command }
         requires reached { IsReached (types_of C.laws C.spells (fused_state D.state)) (Some self.old) }
-        ensures { IfOk result (λ steps. Applies (types_of C.laws C.spells (fused_state D.state)) (Some self.old) command steps.items (Some self.new)) }
+        ensures applies { IfOk result (λ steps. Applies (types_of C.laws C.spells (fused_state D.state)) (Some self.old) command steps.items (Some self.new)) }
+        ensures fuse { IfOk result (λ steps. SetsFuseIn (fused_state D.state) command (Some self.old) (Some self.new)) }
     {
         if is_of_post(&command) {
             return self.handle(command);
