@@ -57,7 +57,13 @@ module _ {E D : Type 0} (state : D → DiskState) where
   no_fault other old new h = tt
 
 pub post_no_fault : (c : Command) → is_of_post c ≡ true → is_of_faults c ≡ false
-post_no_fault c h = grind
+post_no_fault (command.Crash p) h = absurd (true≢false (sym h))
+post_no_fault (command.Fuse p k n) h = absurd (true≢false (sym h))
+post_no_fault (command.Restart p) h = absurd (true≢false (sym h))
+post_no_fault other h = refl
 
 pub fates_no_fault : (c : Command) → is_of_fates c ≡ true → is_of_faults c ≡ false
-fates_no_fault c h = grind
+fates_no_fault (command.Crash p) h = absurd (true≢false (sym h))
+fates_no_fault (command.Fuse p k n) h = absurd (true≢false (sym h))
+fates_no_fault (command.Restart p) h = absurd (true≢false (sym h))
+fates_no_fault other h = refl
