@@ -1,7 +1,8 @@
 -- What the program promises of the bytes that it writes, and of the disks that it gives back.
-use Rattle.std.specs.Prelude.{◌≡◌, ℕ, List, map, reverse, IsTrue}
+use Rattle.std.specs.Prelude.{◌≡◌, ℕ, List, map, reverse, IsTrue, false}
 use Rattle.disk_core.specs.States.{DiskState}
 use Rattle.disk_makers.specs.Makers.{Maker}
+use Rattle.world_model.specs.Cluster.{has_cluster}
 use Rattle.world_model.specs.Run.{Run, lines_of}
 use Rattle.world_model.specs.ScriptAnswers.{Answers}
 use Rattle.cluster.specs.Built.{is_built}
@@ -18,6 +19,11 @@ pub record Answered (lines : List (List ℕ)) (bytes : List ℕ) : Type 0 where
   pub answers : Answers is_built (reverse (map asked_of lines)) run
   pub history : ShowsHistory kinds run
   pub written : bytes ≡ lines_of spelled run
+
+-- and no cluster stands then
+pub record AnsweredBare (lines : List (List ℕ)) (bytes : List ℕ) : Type 0 where
+  pub answered : Answered lines bytes
+  pub lacks : has_cluster answered.run ≡ false
 
 -- and the disks of the cluster that stands at the end are given back, with the logs of that history, where their maker tells them
 pub record AnsweredWhole {D : Type 0} (state : D → DiskState) (old new : Maker D) (lines : List (List ℕ)) (bytes : List ℕ) : Type 0 where

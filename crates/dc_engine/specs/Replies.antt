@@ -6,6 +6,10 @@ use Rattle.std.specs.Prelude.{◌≡◌, ℕ, List, [], ◌∷◌, ◌++◌, tak
 abbrev pub Replies : {M : Type 0} → (M → List (List ℕ) → List ℕ → Type 0) → List (List ℕ) → List ℕ → Type 0
 Replies {M} reached lines bytes = (m : M) × reached m lines bytes
 
+-- and no cluster stands there
+abbrev pub BareReplies : {M : Type 0} → (M → List (List ℕ) → List ℕ → Type 0) → (M → Type 0) → List (List ℕ) → List ℕ → Type 0
+BareReplies reached bare = Replies (λ m lines bytes. reached m lines bytes × bare m)
+
 -- one more line is answered, of which only the first 4,098 bytes count: the replies to all before are followed by these bytes
 pub record AnswersLine {M : Type 0} (reached : M → List (List ℕ) → List ℕ → Type 0) (old new : M) (kept old_out new_out : List ℕ) : Type 0 where
   pub reply : List ℕ
