@@ -2,6 +2,7 @@ ghost use Rattle.std.specs.Prelude.{◌≡◌, ◌++◌, [], ◌∷◌, ℕ, ◌
 ghost use Rattle.std.specs.List.{filter, slice_get};
 ghost use Rattle.std.specs.Ordering.{nat_cmp, ordering_then};
 ghost use Rattle.std.specs.HashMap.{get, spare};
+ghost use Rattle.site_vector.specs.Vector.{sum};
 ghost use Rattle.crdt_core.specs.Orders.{is_less, fold_cmp};
 ghost use Rattle.effect_store.specs.Arranged.{arranged};
 ghost use Rattle.effect_store.specs.Chains.{none, Points, after, IsApart};
@@ -72,29 +73,39 @@ impl Links {
     }
 }
 
-/// Fold order.
-pub(crate) fn fold_order<E>(p: &Part<E>, q: &Part<E>) -> Ordering
+/// Fold order, where the sum of the second part's vector is known.
+pub(crate) fn fold_order<E>(p: &Part<E>, q: &Part<E>, total: u128) -> Ordering
+    requires { total ≡ sum q.now.c }
     ensures { result ≡ fold_cmp p.now q.now }
 {
-    p.c.sum().cmp(&q.c.sum()).then(p.tx.cmp(&q.tx))
+    p.c.sum().cmp(&total).then(p.tx.cmp(&q.tx))
 }
 
 /// Whether the update at a place of a part comes before that at a place of another.
-fn comes_before<E>(p: &Part<E>, i: u32, q: &Part<E>, j: u32) -> bool
+fn comes_before<E>(p: &Part<E>, i: u32, q: &Part<E>, total: u128, j: u32) -> bool
+    requires { total ≡ sum q.now.c }
     ensures { result ≡ is_less (ordering_then (fold_cmp p.now q.now) (nat_cmp i j)) }
 {
-    match fold_order(p, q).then(i.cmp(&j)) {
+    match fold_order(p, q, total).then(i.cmp(&j)) {
         Ordering::Less => true,
         _ => false,
     }
 }
 
-/// Whether the update that an entry names comes before that at a place of a part.
-pub(crate) fn stands_before<E>(parts: &[Part<E>], entry: Entry, part: &Part<E>, at: u32) -> bool
-    requires { entry.part < length parts.now }
+/// Whether the update that an entry names comes before that at a place of a part, the sum of whose vector is known: a
+/// walk asks this again and again of one part.
+pub(crate) fn stands_before<E>(
+    parts: &[Part<E>],
+    entry: Entry,
+    part: &Part<E>,
+    total: u128,
+    at: u32,
+) -> bool
+    requires there { entry.part < length parts.now }
+    requires total { total ≡ sum part.now.c }
     ensures { (q : Part E) → slice_get parts.now entry.part ≡ Some q → result ≡ is_less (ordering_then (fold_cmp q part.now) (nat_cmp entry.at at)) }
 {
-    comes_before(&parts[entry.part as usize], entry.at, part, at)
+    comes_before(&parts[entry.part as usize], entry.at, part, total, at)
 }
 
 /// The place of the last update of the tag that comes before that at a place of a part, or `NONE`: a walk from the newest.
@@ -112,9 +123,10 @@ fn last_before<E>(
     requires tagged { tag ≡ tag_of_object update.now.object }
     ensures { Points (spots_to parts.now place at) result (filter (after tag_of later (spot part.now at update.now)) (arranged later (spots_to parts.now place at))) }
 {
+    let total = part.c.sum();
     let mut k = head(&links.last, tag);
     while (k as usize) < links.entries.len() {
-        if stands_before(parts, links.entries[k as usize], part, at) {
+        if stands_before(parts, links.entries[k as usize], part, total, at) {
             return k;
         }
         k = links.back[k as usize];

@@ -385,7 +385,7 @@ fn forget_update<E, S: Drop>(
     let Some(end) = end_of(newest, tag) else {
         return;
     };
-    if stands_before(parts, links.entries[end as usize], part, at) {
+    if stands_before(parts, links.entries[end as usize], part, part.c.sum(), at) {
         return;
     }
     let _old = newest.remove(&tag);
@@ -404,6 +404,10 @@ pub(crate) fn forget<E, S: Drop>(
     ensures left { (i : ℕ) (n : Newest S) → get nat_eq newest.new i ≡ Some n → get nat_eq newest.old i ≡ Some n }
     ensures clear { (i : ℕ) (n : Newest S) → get nat_eq newest.new i ≡ Some n → (q : Spot E) → slice_get (spots parts.now) n.at ≡ Some q → Each (λ x. not (has_tag tag_of i x) || before q x) (spots_in part.now) }
 {
+    // After a restart there is none yet.
+    if newest.is_empty() {
+        return;
+    }
     let count = part.updates.as_slice().len() as u32;
     for at in 0..count {
         forget_update(parts, links, newest, part, at);

@@ -7,8 +7,8 @@ use Rattle.effect_store.proofs.links.last_before.Goals as goal
 pub loop-k-init : goal.loop-k-init
 loop-k-init g c = find_start _ _ _ _ _ _ _ c.requires.linked _ _ _ c.requires.tagged c.head-k.ensures
 
-pub stands_before-requires : goal.stands_before-requires
-stands_before-requires g c =
+pub stands_before-requires-clause-there : goal.stands_before-requires-clause-there
+stands_before-requires-clause-there g c =
     let n : c.loop-k.k < length c.args.links.now.entries.items = omega arith in
     let there = slice_get_read c.args.links.now.entries.items _ c.loop-k.k _ refl n c.index.ensures in
     let q = stands _ _ _ _ _ _ _ c.requires.linked _ _ there in

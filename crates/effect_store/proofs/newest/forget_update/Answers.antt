@@ -6,8 +6,8 @@ use Rattle.effect_store.proofs.Linking.{stands, before_at}
 use Rattle.effect_store.proofs.Keeping.{mapped_some, read_of, clear_after, clear_gone}
 use Rattle.effect_store.proofs.newest.forget_update.Goals as goal
 
-pub stands_before-requires : goal.stands_before-requires
-stands_before-requires g c =
+pub stands_before-requires-clause-there : goal.stands_before-requires-clause-there
+stands_before-requires-clause-there g c =
     let m = mapped_some (λ k. k.at) _ c.in-Some.end (sym c.in-Some.is ∙ c.end_of.ensures) in
     let n : c.in-Some.end < length c.args.links.now.entries.items = (let k = c.requires.within _ m.0 m.1 in let e : m.0.at ≡ c.in-Some.end = m.2 in omega (arith, k, e)) in
     let there = slice_get_read c.args.links.now.entries.items _ c.in-Some.end _ refl n c.index.ensures in
