@@ -12,14 +12,10 @@ mod objects;
 mod player;
 mod reading;
 mod responder;
-#[cfg(test)]
-mod rows;
 mod script;
 mod sink;
 mod source;
 mod status;
-#[cfg(test)]
-mod tests;
 mod top;
 mod unanswered;
 mod words;

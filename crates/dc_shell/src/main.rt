@@ -19,6 +19,10 @@ use std::process::ExitCode;
 use std::{env, io};
 
 #[cfg(test)]
+mod plays;
+#[cfg(test)]
+mod rows;
+#[cfg(test)]
 mod tests;
 
 /// The status where the process's words can't be had: no memory, or a word that isn't UTF-8, which is no call.

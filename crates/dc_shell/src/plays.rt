@@ -1,9 +1,6 @@
-//! What no clause says: that calls succeed, for each way in which a script ends.
-use crate::edge::{Reading, Writing};
-use crate::memory::{SliceSource, VecSink};
+//! What no clause says: that calls of the engine succeed, for each way in which a script ends.
 use crate::rows::ROWS;
-use crate::status::Status;
-use crate::top::run;
+use dc_engine::{Reading, SliceSource, Status, VecSink, Writing, run};
 use disk_makers::MemDisks;
 use std::alloc::{AllocError, Global};
 use std::io::{Error, ErrorKind, Read, Write};
