@@ -1,6 +1,6 @@
 -- Texts joined by commas, one more at a time.
 use Rattle.std.proofs.Common.{◌≡◌, ℕ, ◌+◌, ◌<◌, List, [], ◌∷◌, ◌++◌, length, take, get_or, Bool, true, if◌then◌else◌, nat_lt, sym, ap, ◌∙◌, append_assoc, arith, suc}
-use Rattle.std.proofs.Common.{Bor, String, Global, string_bytes, string_cmp, nat_cmp, Ordering, Less, Equal, Greater, refl, map}
+use Rattle.std.proofs.Common.{Bor, Vec, vec_items, String, Global, string_bytes, string_cmp, nat_cmp, Ordering, Less, Equal, Greater, refl, map}
 use Rattle.std.specs.List.{join_by, flat_map}
 use Rattle.std.specs.Ordering.{match_ordering}
 use Rattle.std.specs.BTreeMap.{insert_entry}
@@ -37,55 +37,49 @@ pub some_now : {X : Type 0} (xs : List X) (x : X) → true ≡ nat_lt 0 (length 
 some_now [] x = sym (positive 0)
 some_now (y ∷ xs) x = sym (positive (length (xs ++ x ∷ [])))
 
-entries_of-match_ordering : (o : Ordering) (a b c : List (String Global × String Global)) → entries_of (match_ordering o a b c) ≡ match_ordering o (entries_of a) (entries_of b) (entries_of c)
+entries_of-match_ordering : (o : Ordering) (a b c : List (String Global × Vec ℕ Global)) → entries_of (match_ordering o a b c) ≡ match_ordering o (entries_of a) (entries_of b) (entries_of c)
 entries_of-match_ordering Less a b c = refl
 entries_of-match_ordering Equal a b c = refl
 entries_of-match_ordering Greater a b c = refl
 
 -- one member more of an object
-pub member_more : (ms : List (String Global × String Global)) (name value : String Global) → join_by member_text (44 ∷ []) (entries_of ms) ++ ((if nat_lt 0 (length ms) then 44 ∷ [] else []) ++ member_text (string_bytes name, string_bytes value))
+pub member_more : (ms : List (String Global × Vec ℕ Global)) (name : String Global) (value : Vec ℕ Global) → join_by member_text (44 ∷ []) (entries_of ms) ++ ((if nat_lt 0 (length ms) then 44 ∷ [] else []) ++ member_text (string_bytes name, vec_items value))
     ≡ join_by member_text (44 ∷ []) (entries_of (ms ++ (name, value) ∷ []))
 member_more ms name value =
-    sym (ap (λ es. join_by member_text (44 ∷ []) es) (map-append (λ (m : String Global × String Global). (string_bytes m.0, string_bytes m.1)) ms ((name, value) ∷ []))
-    ∙ joined-push member_text (44 ∷ []) (entries_of ms) (string_bytes name, string_bytes value)
-    ∙ ap (λ n. join_by member_text (44 ∷ []) (entries_of ms) ++ ((if nat_lt 0 n then 44 ∷ [] else []) ++ member_text (string_bytes name, string_bytes value))) (length-map ms (λ (m : String Global × String Global). (string_bytes m.0, string_bytes m.1))))
+    sym (ap (λ es. join_by member_text (44 ∷ []) es) (map-append (λ (m : String Global × Vec ℕ Global). (string_bytes m.0, vec_items m.1)) ms ((name, value) ∷ []))
+    ∙ joined-push member_text (44 ∷ []) (entries_of ms) (string_bytes name, vec_items value)
+    ∙ ap (λ n. join_by member_text (44 ∷ []) (entries_of ms) ++ ((if nat_lt 0 n then 44 ∷ [] else []) ++ member_text (string_bytes name, vec_items value))) (length-map ms (λ (m : String Global × Vec ℕ Global). (string_bytes m.0, vec_items m.1))))
 
 -- the entries with a member put in
-pub entries_of-insert_entry : (es : List (String Global × String Global)) (k v : String Global) → entries_of (insert_entry string_cmp es k v) ≡ insert_entry (slice_cmp nat_cmp) (entries_of es) (string_bytes k) (string_bytes v)
+pub entries_of-insert_entry : (es : List (String Global × Vec ℕ Global)) (k : String Global) (v : Vec ℕ Global) → entries_of (insert_entry string_cmp es k v) ≡ insert_entry (slice_cmp nat_cmp) (entries_of es) (string_bytes k) (vec_items v)
 entries_of-insert_entry [] k v = refl
 entries_of-insert_entry (e ∷ es) k v = entries_of-match_ordering (string_cmp k e.0) _ _ _ ∙ rw (entries_of-insert_entry es k v)
 
 pub members-push : (fs : List (Field × List ℕ)) (f : Field × List ℕ) → members (fs ++ f ∷ []) ≡ insert_entry (slice_cmp nat_cmp) (members fs) (member_name f.0) f.1
 members-push fs f = fold-append _ [] fs (f ∷ [])
 
-abbrev now_of : Bor (String Global) × Bor (String Global) → String Global × String Global
+abbrev now_of : Bor (String Global) × Bor (Vec ℕ Global) → String Global × Vec ℕ Global
 now_of m = (m.0.now, m.1.now)
 
-pub object_more : (ys : List (Bor (String Global) × Bor (String Global))) (name value : Bor (String Global)) (old new item : List ℕ) (later : Bool) → later ≡ nat_lt 0 (length ys)
-    → old ≡ 123 ∷ join_by member_text (44 ∷ []) (entries_of (map (λ m. (m.0.now, m.1.now)) ys)) → item ≡ member_text (string_bytes name.now, string_bytes value.now) → new ≡ old ++ ((if later then 44 ∷ [] else []) ++ item)
-    → new ≡ 123 ∷ join_by member_text (44 ∷ []) (entries_of (map (λ m. (m.0.now, m.1.now)) (ys ++ (name, value) ∷ [])))
-object_more ys name value old new item later is_later is_old is_item is_new =
+pub members_more : (ys : List (Bor (String Global) × Bor (Vec ℕ Global))) (name : Bor (String Global)) (value : Bor (Vec ℕ Global)) (start old new item : List ℕ) (later : Bool) → later ≡ nat_lt 0 (length ys)
+    → old ≡ start ++ join_by member_text (44 ∷ []) (entries_of (map (λ m. (m.0.now, m.1.now)) ys)) → item ≡ member_text (string_bytes name.now, vec_items value.now) → new ≡ old ++ ((if later then 44 ∷ [] else []) ++ item)
+    → new ≡ start ++ join_by member_text (44 ∷ []) (entries_of (map (λ m. (m.0.now, m.1.now)) (ys ++ (name, value) ∷ [])))
+members_more ys name value start old new item later is_later is_old is_item is_new =
     let J : List ℕ = join_by member_text (44 ∷ []) (entries_of (map now_of ys)) in
-    let v : List ℕ = member_text (string_bytes name.now, string_bytes value.now) in
+    let v : List ℕ = member_text (string_bytes name.now, vec_items value.now) in
     let counted : J ++ ((if later then 44 ∷ [] else []) ++ v) ≡ J ++ ((if nat_lt 0 (length (map now_of ys)) then 44 ∷ [] else []) ++ v) =
     ap (λ b. J ++ ((if b then 44 ∷ [] else []) ++ v)) (is_later ∙ ap (λ n. nat_lt 0 n) (sym (length-map ys now_of))) in
-    is_new ∙ ap (λ i. old ++ ((if later then 44 ∷ [] else []) ++ i)) is_item ∙ ap (λ o. o ++ ((if later then 44 ∷ [] else []) ++ v)) is_old
-    ∙ ap (λ s. 123 ∷ s) (counted ∙ member_more (map now_of ys) name.now value.now ∙ ap (λ ms. join_by member_text (44 ∷ []) (entries_of ms)) (sym (map-append now_of ys ((name, value) ∷ []))))
+    is_new ∙ ap (λ i. old ++ ((if later then 44 ∷ [] else []) ++ i)) is_item ∙ ap (λ o. o ++ ((if later then 44 ∷ [] else []) ++ v)) is_old ∙ append_assoc start J ((if later then 44 ∷ [] else []) ++ v)
+    ∙ ap (λ s. start ++ s) (counted ∙ member_more (map now_of ys) name.now value.now ∙ ap (λ ms. join_by member_text (44 ∷ []) (entries_of ms)) (sym (map-append now_of ys ((name, value) ∷ []))))
 
 -- one field more
-pub field_more : (ys : List (Bor (Field × Value))) (y : Bor (Field × Value)) (es new : List (String Global × String Global)) (name text : String Global) → entries_of es ≡ members (texts_of (map (λ f. f.now) ys)) → string_bytes name ≡ member_name y.now.0
-    → string_bytes text ≡ value_text y.now.1 → new ≡ insert_entry string_cmp es name text → entries_of new ≡ members (texts_of (map (λ f. f.now) (ys ++ y ∷ [])))
+pub field_more : (ys : List (Bor (Field × Value))) (y : Bor (Field × Value)) (es new : List (String Global × Vec ℕ Global)) (name : String Global) (text : Vec ℕ Global) → entries_of es ≡ members (texts_of (map (λ f. f.now) ys)) → string_bytes name ≡ member_name y.now.0
+    → vec_items text ≡ value_text y.now.1 → new ≡ insert_entry string_cmp es name text → entries_of new ≡ members (texts_of (map (λ f. f.now) (ys ++ y ∷ [])))
 field_more ys y es new name text so is holds put =
     let fs : List (Field × Value) = map (λ f. f.now) ys in
     let last : texts_of (map (λ f. f.now) (ys ++ y ∷ [])) ≡ texts_of fs ++ (y.now.0, value_text y.now.1) ∷ [] =
     ap texts_of (map-append (λ (f : Bor (Field × Value)). f.now) ys (y ∷ [])) ∙ map-append (λ (f : Field × Value). (f.0, value_text f.1)) fs (y.now ∷ []) in
     ap entries_of put ∙ entries_of-insert_entry es name text ∙ rw (so, is, holds) (sym (ap members last ∙ members-push (texts_of fs) (y.now.0, value_text y.now.1)))
-
-pub array_more : (ws : List (List ℕ)) (i : ℕ) (w old new item : List ℕ) → i < length ws → w ≡ get_or ws i w → old ≡ 91 ∷ join_by quoted (44 ∷ []) (take i ws) → item ≡ quoted w → new ≡ old ++ ((if nat_lt 0 i then 44 ∷ [] else []) ++ item)
-    → new ≡ 91 ∷ join_by quoted (44 ∷ []) (take (i + 1) ws)
-array_more ws i w old new item within is is_old is_item is_new =
-    is_new ∙ ap (λ s. old ++ ((if nat_lt 0 i then 44 ∷ [] else []) ++ s)) is_item ∙ ap (λ o. o ++ ((if nat_lt 0 i then 44 ∷ [] else []) ++ quoted w)) is_old
-    ∙ ap (λ s. 91 ∷ s) (joined_more quoted (44 ∷ []) ws i w w within is)
 
 -- one more of the texts that a loop adds
 pub loop_more : {X : Type 0} (f : X → List ℕ) (sep : List ℕ) (xs : List X) (i : ℕ) (x d : X) (start old new : List ℕ) → i < length xs → x ≡ get_or xs i d → old ≡ start ++ join_by f sep (take i xs) → new ≡ old ++ ((if nat_lt 0 i then sep else []) ++ f x)

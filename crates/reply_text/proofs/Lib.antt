@@ -1,2 +1,3 @@
 pub mod Joined
 pub mod Front
+pub mod Plain

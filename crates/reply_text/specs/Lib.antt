@@ -1,4 +1,5 @@
 pub mod Places
+pub mod Plain
 pub mod Values
 pub mod Texts
 pub mod Text

@@ -1,6 +1,8 @@
 //! The text of a reply line.
 #![tactic(auto)]
 
+mod bytes;
+mod quoted;
 mod restarted;
 mod shapes;
 mod step;

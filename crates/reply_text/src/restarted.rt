@@ -5,7 +5,8 @@ ghost use Rattle.std.specs.List.{flat_map};
 ghost use Rattle.reply_text.specs.Updated.{restarted_text, decided_text, pending_text};
 ghost use Rattle.reply_text.specs.Words.{Begins};
 
-use crate::words::{Word, put, put_words};
+use crate::bytes::put_byte;
+use crate::words::{Word, put_words};
 use site_vector::{PartId, TxId, VTime};
 use std::alloc::{AllocError, Global};
 
@@ -17,7 +18,7 @@ fn put_decided(alloc: Global, out: &mut Vec<u8>, decided: Option<TxId>) -> Resul
     match decided {
         None => Ok(()),
         Some(tx) => {
-            put(out, b" ")?;
+            put_byte(out, b' ')?;
             put_words(alloc, out, &[Word::Name("decided"), Word::Tx(tx)])
         }
     }
@@ -28,7 +29,7 @@ fn put_one_pending(alloc: Global, out: &mut Vec<u8>, tx: TxId, time: u64) -> Res
     ensures ok { OnOk result (out.new.items ≡ out.old.items ++ pending_text (tx, time)) }
     ensures err { OnErr result (Begins out.old.items out.new.items) }
 {
-    put(out, b" ")?;
+    put_byte(out, b' ')?;
     put_words(
         alloc,
         out,
@@ -73,6 +74,6 @@ pub fn put_restarted(
     )?;
     put_decided(alloc, out, decided)?;
     put_pending(alloc, out, pending)?;
-    put(out, b"\n")?;
+    put_byte(out, b'\n')?;
     Ok(())
 }

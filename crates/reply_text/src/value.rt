@@ -1,8 +1,15 @@
-ghost use Rattle.std.specs.Prelude.{◌≡◌, ◌++◌, if◌then◌else◌, [], ◌∷◌, map, codes, IfOk, OnOk, string_bytes};
+#![tactic(auto, using(crate::specs::Words::begins_same, crate::specs::Words::begins_after))]
+
+ghost use Rattle.std.specs.Prelude.{◌≡◌, ◌++◌, if◌then◌else◌, [], ◌∷◌, map, codes, IfOk, OnOk, OnErr, string_bytes};
+ghost use Rattle.std.specs.Fmt.{signed_decimal};
+ghost use Rattle.std.specs.List.{join_by};
 ghost use Rattle.json.specs.Print.{quoted};
 ghost use Rattle.reply_text.specs.Values.{value_text, array_text, object_text, members, member_name, member_text};
 ghost use Rattle.reply_text.specs.Texts.{texts_of, entries_of};
+ghost use Rattle.reply_text.specs.Words.{Begins};
 
+use crate::bytes::{put, put_byte, put_if};
+use crate::quoted::put_quoted;
 use crdt_core::{Field, Value};
 use field_codec::Text;
 use itoa::Buffer;
@@ -10,33 +17,34 @@ use script_words::kind_name;
 use std::alloc::{AllocError, Global};
 use std::collections::{BTreeMap, LinkedList};
 
-/// The text as JSON writes it.
-pub fn quote(alloc: Global, text: &str) -> Result<String, AllocError>
-    ensures { IfOk result (λ s. string_bytes s ≡ quoted text.now) }
+/// Adds a text of an array, after a comma where something stands before.
+fn put_item(alloc: Global, out: &mut Vec<u8>, later: bool, item: &Text) -> Result<(), AllocError>
+    ensures ok { OnOk result (out.new.items ≡ out.old.items ++ ((if later then codes "," else []) ++ quoted item.now)) }
+    ensures err { OnErr result (Begins out.old.items out.new.items) }
 {
-    serde_json::Value::try_from_str(alloc, text)?.to_string(alloc)
+    put_if(out, later, b',')?;
+    put_quoted(alloc, out, item.as_str())
 }
 
-/// Adds the text, after a comma where something stands before.
-fn put_item(text: &mut String, later: bool, item: &str) -> Result<(), AllocError>
-    ensures { OnOk result (string_bytes text.new ≡ string_bytes text.old ++ ((if later then codes "," else []) ++ item.now)) }
+/// Adds the texts with a comma between neighbors.
+fn put_items(alloc: Global, out: &mut Vec<u8>, items: &[Text]) -> Result<(), AllocError>
+    ensures ok { OnOk result (out.new.items ≡ out.old.items ++ join_by quoted (codes ",") items.now) }
+    ensures err { OnErr result (Begins out.old.items out.new.items) }
 {
-    if later {
-        text.push(',')?;
+    for (i, item) in items.iter().enumerate() {
+        put_item(alloc, out, i > 0, item)?;
     }
-    text.push_str(item)
+    Ok(())
 }
 
-/// The texts as a JSON array.
-fn array(alloc: Global, words: &[Text]) -> Result<String, AllocError>
-    ensures { IfOk result (λ s. string_bytes s ≡ array_text words.now) }
+/// Adds the texts as a JSON array.
+fn put_array(alloc: Global, out: &mut Vec<u8>, items: &[Text]) -> Result<(), AllocError>
+    ensures ok { OnOk result (out.new.items ≡ out.old.items ++ array_text items.now) }
+    ensures err { OnErr result (Begins out.old.items out.new.items) }
 {
-    let mut text = String::from_str(alloc, "[")?;
-    for (i, word) in words.iter().enumerate() {
-        put_item(&mut text, i > 0, &quote(alloc, word.as_str())?)?;
-    }
-    text.push(']')?;
-    Ok(text)
+    put_byte(out, b'[')?;
+    put_items(alloc, out, items)?;
+    put_byte(out, b']')
 }
 
 /// A member's name: the field's kind, a colon and its name.
@@ -49,28 +57,52 @@ fn name_of(alloc: Global, field: &Field) -> Result<String, AllocError>
     Ok(name)
 }
 
-/// A member of a JSON object.
-fn member(alloc: Global, name: &str, value: &str) -> Result<String, AllocError>
-    ensures { IfOk result (λ s. string_bytes s ≡ member_text (name.now, value.now)) }
+/// Adds a member of a JSON object, after a comma where something stands before.
+fn put_member(
+    alloc: Global,
+    out: &mut Vec<u8>,
+    later: bool,
+    name: &str,
+    value: &[u8],
+) -> Result<(), AllocError>
+    ensures ok { OnOk result (out.new.items ≡ out.old.items ++ ((if later then codes "," else []) ++ member_text (name.now, value.now))) }
+    ensures err { OnErr result (Begins out.old.items out.new.items) }
 {
-    let mut text = quote(alloc, name)?;
-    text.push(':')?;
-    text.push_str(value)?;
-    Ok(text)
+    put_if(out, later, b',')?;
+    put_quoted(alloc, out, name)?;
+    put_byte(out, b':')?;
+    put(out, value)
 }
 
-/// The members as a JSON object.
-fn object(alloc: Global, members: &BTreeMap<String, String>) -> Result<String, AllocError>
-    ensures { IfOk result (λ s. string_bytes s ≡ object_text (entries_of members.now.entries)) }
+/// Adds the members with a comma between neighbors.
+fn put_members(
+    alloc: Global,
+    out: &mut Vec<u8>,
+    members: &BTreeMap<String, Vec<u8>>,
+) -> Result<(), AllocError>
+    ensures ok { OnOk result (out.new.items ≡ out.old.items ++ join_by member_text (codes ",") (entries_of members.now.entries)) }
+    ensures err { OnErr result (Begins out.old.items out.new.items) }
 {
-    let mut text = String::from_str(alloc, "{")?;
     let mut later = false;
     for (name, value) in members {
-        put_item(&mut text, later, &member(alloc, name, value)?)?;
+        put_member(alloc, out, later, name, value)?;
         later = true;
     }
-    text.push('}')?;
-    Ok(text)
+    Ok(())
+}
+
+/// Adds the members as a JSON object.
+fn put_object(
+    alloc: Global,
+    out: &mut Vec<u8>,
+    members: &BTreeMap<String, Vec<u8>>,
+) -> Result<(), AllocError>
+    ensures ok { OnOk result (out.new.items ≡ out.old.items ++ object_text (entries_of members.now.entries)) }
+    ensures err { OnErr result (Begins out.old.items out.new.items) }
+{
+    put_byte(out, b'{')?;
+    put_members(alloc, out, members)?;
+    put_byte(out, b'}')
 }
 
 /// The texts of the fields' values, under the members' names.
@@ -78,29 +110,39 @@ fn object(alloc: Global, members: &BTreeMap<String, String>) -> Result<String, A
 fn members_of(
     alloc: Global,
     fields: &LinkedList<(Field, Value)>,
-) -> Result<BTreeMap<String, String>, AllocError>
+) -> Result<BTreeMap<String, Vec<u8>>, AllocError>
     ensures { IfOk result (λ m. entries_of m.entries ≡ members (texts_of fields.now)) }
 {
     let mut members = BTreeMap::new(alloc);
     for (field, value) in fields {
         let name = name_of(alloc, field)?;
-        let text = value_string(alloc, value)?;
+        let mut text = Vec::new(alloc);
+        put_value(alloc, &mut text, value)?;
         members.insert(name, text)?;
     }
     Ok(members)
 }
 
-/// The value as JSON, without spaces.
+/// Adds the number.
+fn put_signed(out: &mut Vec<u8>, n: i128) -> Result<(), AllocError>
+    ensures ok { OnOk result (out.new.items ≡ out.old.items ++ signed_decimal n) }
+    ensures err { OnErr result (Begins out.old.items out.new.items) }
+{
+    put(out, Buffer::new().format(n).as_bytes())
+}
+
+/// Adds the value as JSON, without spaces.
 #[cycle(text)]
-pub fn value_string(alloc: Global, value: &Value) -> Result<String, AllocError>
-    ensures { IfOk result (λ s. string_bytes s ≡ value_text value.now) }
+pub fn put_value(alloc: Global, out: &mut Vec<u8>, value: &Value) -> Result<(), AllocError>
+    ensures ok { OnOk result (out.new.items ≡ out.old.items ++ value_text value.now) }
+    ensures err { OnErr result (Begins out.old.items out.new.items) }
 {
     match value {
-        Value::Int(n) => String::from_str(alloc, Buffer::new().format(*n)),
-        Value::Flag(true) => String::from_str(alloc, "true"),
-        Value::Flag(false) => String::from_str(alloc, "false"),
-        Value::Word(word) => quote(alloc, word.as_str()),
-        Value::Words(words) => array(alloc, words.as_slice()),
-        Value::Fields(fields) => object(alloc, &members_of(alloc, fields)?),
+        Value::Int(n) => put_signed(out, *n),
+        Value::Flag(true) => put(out, b"true"),
+        Value::Flag(false) => put(out, b"false"),
+        Value::Word(word) => put_quoted(alloc, out, word.as_str()),
+        Value::Words(words) => put_array(alloc, out, words.as_slice()),
+        Value::Fields(fields) => put_object(alloc, out, &members_of(alloc, fields)?),
     }
 }

@@ -7,10 +7,11 @@ ghost use Rattle.site_vector.specs.Printed.{part_text, tx_text};
 ghost use Rattle.reply_text.specs.Places.{vector_text, word_text, object_text, bucket_text, interval_text};
 ghost use Rattle.reply_text.specs.Words.{text_of_word, words_text, Begins};
 
-use crate::value::{quote, value_string};
+use crate::bytes::{put, put_byte, put_if, put_number};
+use crate::quoted::put_quoted;
+use crate::value::put_value;
 use crdt_core::{ObjectId, Value};
 use field_codec::Text;
-use itoa::Buffer;
 use script_words::{is_bare, kind_name};
 use site_vector::{PartId, TxId, VTime};
 use std::alloc::{AllocError, Global};
@@ -35,38 +36,12 @@ pub enum Word<'a> {
     Interval(u64, u64),
 }
 
-/// Adds the bytes.
-pub fn put(out: &mut Vec<u8>, bytes: &[u8]) -> Result<(), AllocError>
-    ensures ok { OnOk result (out.new.items ≡ out.old.items ++ bytes.now) }
-    ensures err { OnErr result (Begins out.old.items out.new.items) }
-{
-    out.extend_from_slice(bytes)
-}
-
-/// Adds the bytes, where something stands before.
-fn put_if(out: &mut Vec<u8>, later: bool, bytes: &[u8]) -> Result<(), AllocError>
-    ensures ok { OnOk result (out.new.items ≡ out.old.items ++ (if later then bytes.now else [])) }
-    ensures err { OnErr result (Begins out.old.items out.new.items) }
-{
-    if later {
-        return put(out, bytes);
-    }
-    Ok(())
-}
-
-fn put_number(out: &mut Vec<u8>, n: u64) -> Result<(), AllocError>
-    ensures ok { OnOk result (out.new.items ≡ out.old.items ++ decimal n) }
-    ensures err { OnErr result (Begins out.old.items out.new.items) }
-{
-    put(out, Buffer::new().format(n).as_bytes())
-}
-
 fn put_part(out: &mut Vec<u8>, part: PartId) -> Result<(), AllocError>
     ensures ok { OnOk result (out.new.items ≡ out.old.items ++ part_text part) }
     ensures err { OnErr result (Begins out.old.items out.new.items) }
 {
     put_number(out, part.site as u64)?;
-    put(out, b".")?;
+    put_byte(out, b'.')?;
     put_number(out, part.part as u64)
 }
 
@@ -75,9 +50,9 @@ fn put_tx(out: &mut Vec<u8>, tx: TxId) -> Result<(), AllocError>
     ensures err { OnErr result (Begins out.old.items out.new.items) }
 {
     put_number(out, tx.site as u64)?;
-    put(out, b".")?;
+    put_byte(out, b'.')?;
     put_number(out, tx.part as u64)?;
-    put(out, b"#")?;
+    put_byte(out, b'#')?;
     put_number(out, tx.time)
 }
 
@@ -86,7 +61,7 @@ fn put_time(out: &mut Vec<u8>, later: bool, time: u64) -> Result<(), AllocError>
     ensures ok { OnOk result (out.new.items ≡ out.old.items ++ ((if later then codes "," else []) ++ decimal time)) }
     ensures err { OnErr result (Begins out.old.items out.new.items) }
 {
-    put_if(out, later, b",")?;
+    put_if(out, later, b',')?;
     put_number(out, time)
 }
 
@@ -105,9 +80,9 @@ fn put_vector(out: &mut Vec<u8>, v: &VTime) -> Result<(), AllocError>
     ensures ok { OnOk result (out.new.items ≡ out.old.items ++ vector_text v.now) }
     ensures err { OnErr result (Begins out.old.items out.new.items) }
 {
-    put(out, b"[")?;
+    put_byte(out, b'[')?;
     put_times(out, v.as_slice())?;
-    put(out, b"]")
+    put_byte(out, b']')
 }
 
 /// Adds a text, bare where it may be, and else as JSON writes it.
@@ -119,7 +94,7 @@ fn put_text(alloc: Global, out: &mut Vec<u8>, text: &Text) -> Result<(), AllocEr
     if is_bare(text.as_bytes()) {
         return put(out, text.as_bytes());
     }
-    put(out, quote(alloc, text)?.as_bytes())
+    put_quoted(alloc, out, text)
 }
 
 /// Adds a space, an at sign and the bucket, where it isn't empty.
@@ -139,16 +114,9 @@ fn put_object(alloc: Global, out: &mut Vec<u8>, object: &ObjectId) -> Result<(),
     ensures err { OnErr result (Begins out.old.items out.new.items) }
 {
     put_text(alloc, out, &object.key)?;
-    put(out, b" ")?;
+    put_byte(out, b' ')?;
     put(out, kind_name(object.kind).as_bytes())?;
     put_bucket(alloc, out, &object.bucket)
-}
-
-fn put_value(alloc: Global, out: &mut Vec<u8>, value: &Value) -> Result<(), AllocError>
-    ensures ok { OnOk result (out.new.items ≡ out.old.items ++ value_text value.now) }
-    ensures err { OnErr result (Begins out.old.items out.new.items) }
-{
-    put(out, value_string(alloc, value)?.as_bytes())
 }
 
 fn put_numbered(out: &mut Vec<u8>, letter: &[u8], n: u64) -> Result<(), AllocError>
@@ -163,11 +131,11 @@ fn put_interval(out: &mut Vec<u8>, lo: u64, hi: u64) -> Result<(), AllocError>
     ensures ok { OnOk result (out.new.items ≡ out.old.items ++ interval_text lo hi) }
     ensures err { OnErr result (Begins out.old.items out.new.items) }
 {
-    put(out, b"(")?;
+    put_byte(out, b'(')?;
     put_number(out, lo)?;
-    put(out, b",")?;
+    put_byte(out, b',')?;
     put_number(out, hi)?;
-    put(out, b"]")
+    put_byte(out, b']')
 }
 
 fn put_word(alloc: Global, out: &mut Vec<u8>, word: &Word) -> Result<(), AllocError>
@@ -194,7 +162,7 @@ fn put_next(alloc: Global, out: &mut Vec<u8>, later: bool, word: &Word) -> Resul
     ensures ok { OnOk result (out.new.items ≡ out.old.items ++ ((if later then codes " " else []) ++ text_of_word word.now)) }
     ensures err { OnErr result (Begins out.old.items out.new.items) }
 {
-    put_if(out, later, b" ")?;
+    put_if(out, later, b' ')?;
     put_word(alloc, out, word)
 }
 
@@ -215,5 +183,5 @@ pub fn put_line(alloc: Global, out: &mut Vec<u8>, words: &[Word]) -> Result<(), 
     ensures err { OnErr result (Begins out.old.items out.new.items) }
 {
     put_words(alloc, out, words)?;
-    put(out, b"\n")
+    put_byte(out, b'\n')
 }

@@ -1,1 +1,2 @@
 pub mod KindNames
+pub mod Spelled

@@ -21,9 +21,25 @@ pub fn is_bare(text: &[u8]) -> bool
     !text.is_empty()
 }
 
+/// Whether the bytes are the same. One after another, since names are short and mostly differ in their first byte.
+#[tactic(auto, using(crate::proofs::Spelled::other_length, crate::proofs::Spelled::same_byte, crate::proofs::Spelled::other_byte))]
+fn is_same(bytes: &[u8], name: &[u8]) -> bool
+    ensures { result ≡ bytes_eq bytes.now name.now }
+{
+    if bytes.len() != name.len() {
+        return false;
+    }
+    for (i, byte) in name.iter().enumerate() {
+        if bytes[i] != *byte {
+            return false;
+        }
+    }
+    true
+}
+
 /// Whether the bytes are those of the name.
 pub fn spells(bytes: &[u8], name: &str) -> bool
     ensures { result ≡ bytes_eq bytes.now name.now }
 {
-    bytes == name.as_bytes()
+    is_same(bytes, name.as_bytes())
 }

@@ -1,0 +1,8 @@
+use Rattle.std.proofs.Common.{arith, codes}
+use Rattle.json.specs.Print.{quoted}
+use Rattle.reply_text.proofs.Joined.{loop_more}
+use Rattle.reply_text.proofs.value.put_items.Goals as goal
+
+pub loop-i-preserved : goal.loop-i-preserved
+loop-i-preserved c =
+    loop_more quoted (codes ",") c.args.items.now c.loop-i.i c.index-items-i.result _ c.args.out.now.items _ _ (omega arith) c.index-items-i.is c.loop-i.invariant c.in_ok-put_item.ensures.ok

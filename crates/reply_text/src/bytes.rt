@@ -1,0 +1,43 @@
+#![tactic(auto, using(crate::specs::Words::begins_same, crate::specs::Words::begins_after))]
+
+ghost use Rattle.std.specs.Prelude.{◌≡◌, ◌++◌, ◌∷◌, if◌then◌else◌, [], decimal, OnOk, OnErr};
+ghost use Rattle.reply_text.specs.Words.{Begins};
+
+use itoa::Buffer;
+use std::alloc::AllocError;
+
+/// Adds the bytes.
+pub fn put(out: &mut Vec<u8>, bytes: &[u8]) -> Result<(), AllocError>
+    ensures ok { OnOk result (out.new.items ≡ out.old.items ++ bytes.now) }
+    ensures err { OnErr result (Begins out.old.items out.new.items) }
+{
+    out.extend_from_slice(bytes)
+}
+
+/// Adds one byte.
+pub fn put_byte(out: &mut Vec<u8>, byte: u8) -> Result<(), AllocError>
+    ensures ok { OnOk result (out.new.items ≡ out.old.items ++ byte ∷ []) }
+    ensures err { OnErr result (Begins out.old.items out.new.items) }
+{
+    out.push(byte)?;
+    Ok(())
+}
+
+/// Adds one byte, where something stands before.
+pub fn put_if(out: &mut Vec<u8>, later: bool, byte: u8) -> Result<(), AllocError>
+    ensures ok { OnOk result (out.new.items ≡ out.old.items ++ (if later then byte ∷ [] else [])) }
+    ensures err { OnErr result (Begins out.old.items out.new.items) }
+{
+    if later {
+        return put_byte(out, byte);
+    }
+    Ok(())
+}
+
+/// Adds the number.
+pub fn put_number(out: &mut Vec<u8>, n: u64) -> Result<(), AllocError>
+    ensures ok { OnOk result (out.new.items ≡ out.old.items ++ decimal n) }
+    ensures err { OnErr result (Begins out.old.items out.new.items) }
+{
+    put(out, Buffer::new().format(n).as_bytes())
+}
