@@ -4,8 +4,8 @@ ghost use Rattle.field_codec.specs.Reading.{Gives, list_at};
 ghost use Rattle.crdt_core.specs.declared.kind.Kind.TheVariants.{MapRr};
 ghost use Rattle.crdt_maps.specs.EffectForm.{may_stand, entry, entry_below, can_put_reset, is_reset_spelled, reset_at, go_can_put, go_is_spelled, go_spelling, go_at, go_form, rr_can_put, rr_is_spelled, rr_spelling, rr_at, rr_form};
 
-use crate::MapEffect;
 use crate::entry_form::{ResetForm, put_entry, take_entry};
+use crate::{Boxed, MapEffect};
 use crdt_core::{Crdt, Field, Kind, take_small};
 use field_codec::{Form, ListOf, TakeError, put_list, put_u8, take_list};
 use std::alloc::{AllocError, Global};
@@ -40,7 +40,7 @@ impl<I: Crdt> Form for GoForm<I> {
         match value {
             MapEffect::At(field, effect) => {
                 put_u8(out, AT)?;
-                put_entry::<I>(out, field, effect)
+                put_entry::<I>(out, field, effect.get())
             }
             MapEffect::Resets(_) => unreachable!(),
         }
@@ -75,7 +75,7 @@ fn take_go<I: Crdt>(
     let (_, entry_at) = take_small(bytes, at, AT, AT)?;
     let (entry, end) = take_entry::<I>(alloc, Kind::MapGo, bytes, entry_at)?;
     let (field, effect) = entry;
-    Ok((MapEffect::At(field, effect), end))
+    Ok((MapEffect::At(field, Boxed::new(alloc, effect)?), end))
 }
 
 /// The form of the effects of a map whose fields can be dropped.
@@ -101,7 +101,7 @@ impl<I: Crdt> Form for RrForm<I> {
         match value {
             MapEffect::At(field, effect) => {
                 put_u8(out, AT)?;
-                put_entry::<I>(out, field, effect)
+                put_entry::<I>(out, field, effect.get())
             }
             MapEffect::Resets(resets) => put_resets::<I>(out, resets.as_slice()),
         }
@@ -161,7 +161,7 @@ fn take_rr<I: Crdt>(
     if mark == AT {
         let (entry, end) = take_entry::<I>(alloc, Kind::MapRr, bytes, rest_at)?;
         let (field, effect) = entry;
-        return Ok((MapEffect::At(field, effect), end));
+        return Ok((MapEffect::At(field, Boxed::new(alloc, effect)?), end));
     }
     let (resets, end) = take_resets::<I>(alloc, bytes, rest_at)?;
     Ok((MapEffect::Resets(resets), end))

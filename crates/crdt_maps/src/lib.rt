@@ -1,6 +1,7 @@
 //! Maps whose fields are of the kinds of an inner type: one whose fields stay, and one whose fields can be dropped.
 #![tactic(auto)]
 
+mod boxed;
 mod copies;
 mod effect;
 mod effect_form;
@@ -13,6 +14,7 @@ mod map_rr;
 mod steps;
 mod values;
 
+pub use boxed::Boxed;
 pub use effect::MapEffect;
 pub use fields::Fields;
 pub use laws::law_resets;

@@ -110,7 +110,7 @@ impl<I: Crdt> Crdt for MapGo<I> {
 
     fn stamp(effect: &MapEffect<I::Effect>) -> Option<u64> {
         match effect {
-            MapEffect::At(_, inner) => I::stamp(inner),
+            MapEffect::At(_, inner) => I::stamp(inner.get()),
             MapEffect::Resets(_) => None,
         }
     }
