@@ -12,12 +12,21 @@ use Rattle.crdt_core.specs.declared.record.Record.{Record}
 use Rattle.crdt_core.specs.Fitting.{are_apart}
 use Rattle.crdt_core.specs.Log.{pending, is_named_in}
 use Rattle.crdt_core.specs.Parts.{lists}
-use Rattle.log_recovery.specs.declared.seen.Fate.{Fate}
-use Rattle.log_recovery.specs.declared.seen.Fate.TheVariants.{Waits, Ended}
-use Rattle.log_recovery.specs.declared.seen.Vote.{Vote}
-use Rattle.log_recovery.specs.Fates.{fate_of, vote_of, AreWideVotes, are_new}
+use Rattle.log_recovery.specs.declared.named.Fate.{Fate}
+use Rattle.log_recovery.specs.declared.named.Fate.TheVariants.{Waits, Ended}
+use Rattle.log_recovery.specs.declared.named.Vote.{Vote}
+use Rattle.log_recovery.specs.Fates.{fate_of, fate_with, vote_of, AreWideVotes, are_new}
 use Rattle.log_recovery.specs.FittingLaws.{prepared_named, pending_prepared}
 use Rattle.log_recovery.proofs.Choices.{and_none}
+
+-- a vote more, or a name more in its place, in the two tables
+pub votes_more : (b : Bool) (v : Vote) (o : Option Vote) (n : Bool) → fate_with (cond b (Some v) o) n ≡ cond b (Some (Waits v)) (fate_with o n)
+votes_more true v o n = refl
+votes_more false v o n = refl
+
+pub ends_more : (b : Bool) (o : Option Vote) (n : Bool) → fate_with (cond b None o) (cond b true n) ≡ cond b (Some Ended) (fate_with o n)
+ends_more true o n = refl
+ends_more false o n = refl
 
 -- what begins waits, and what ends has ended
 pub begun : (b p c a m : Bool) (v w : Vote) → (b ≡ true → c ≡ false) → (b ≡ true → a ≡ false) → cond b (Some (Waits v)) (fate_of (p && not (c || a)) m w) ≡ fate_of ((b || p) && not (c || a)) (b || m) (if b then v else w)

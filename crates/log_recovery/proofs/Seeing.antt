@@ -16,8 +16,8 @@ use Rattle.crdt_core.specs.declared.record.Record.TheVariants.{Lease, Prepare, D
 use Rattle.crdt_core.specs.Fitting.{is_vector, fits_part, are_apart, fits_record, unfit, unfit_next}
 use Rattle.crdt_core.specs.Log.{end_of_time, prepared, committed, aborted, pending, logged_bound, is_named_in, grown}
 use Rattle.crdt_core.specs.Parts.{lists}
-use Rattle.log_recovery.specs.declared.seen.Fate.TheVariants.{Waits, Ended}
-use Rattle.log_recovery.specs.declared.seen.Vote.{Vote}
+use Rattle.log_recovery.specs.declared.named.Fate.TheVariants.{Waits, Ended}
+use Rattle.log_recovery.specs.declared.named.Vote.{Vote}
 use Rattle.log_recovery.specs.declared.seen.Seen.{Seen}
 use Rattle.log_recovery.specs.Fates.{fate_of, vote_of, fates_of, vote_in, IsSeen, IsSound, IsSamePlace, IsEmpty, Judges, Sees, may_commit, may_end, may_prepare, is_for, may_bring, are_new}
 use Rattle.log_recovery.specs.FittingLaws.{unknown, part_new, prepares, brings}

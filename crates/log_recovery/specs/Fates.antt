@@ -1,6 +1,7 @@
 -- What became of the transactions that a log names, and how a record is judged by it.
 use Rattle.std.specs.Prelude.{◌≡◌, ℕ, ◌≤◌, leb, ltb, Bool, true, false, not, ◌&&◌, ◌==◌, if◌then◌else◌, is_none, List, ◌∷◌, length, Option, None, Some}
 use Rattle.std.specs.HashMap.{get}
+use Rattle.std.specs.HashSet.{contains}
 use Rattle.std.specs.List.{list_all}
 use Rattle.std.specs.Str.{bytes_eq}
 use Rattle.site_vector.specs.declared.ids.PartId.{PartId}
@@ -13,9 +14,10 @@ use Rattle.crdt_core.specs.declared.record.Message.{Message}
 use Rattle.crdt_core.specs.declared.record.Record.{Record}
 use Rattle.crdt_core.specs.Fitting.{is_vector, stand_at, fits_part, are_apart, fits_record}
 use Rattle.crdt_core.specs.Log.{end_of_time, ceiling, pending, prepare_time, prepared_lead, prepared_snapshot, is_named_in}
-use Rattle.log_recovery.specs.declared.seen.Fate.{Fate}
-use Rattle.log_recovery.specs.declared.seen.Fate.TheVariants.{Waits, Ended}
-use Rattle.log_recovery.specs.declared.seen.Vote.{Vote}
+use Rattle.log_recovery.specs.declared.named.Fate.{Fate}
+use Rattle.log_recovery.specs.declared.named.Fate.TheVariants.{Waits, Ended}
+use Rattle.log_recovery.specs.declared.named.Vote.{Vote}
+use Rattle.log_recovery.specs.declared.named.Named.{Named}
 use Rattle.log_recovery.specs.declared.seen.Seen.{Seen}
 use Rattle.log_recovery.specs.Ledgers.{AreBounds}
 
@@ -30,9 +32,18 @@ vote_of None = None
 vote_of (Some Ended) = None
 vote_of (Some (Waits vote)) = Some vote
 
+-- who has a vote waits, and of the others those have ended whose name was kept
+abbrev pub fate_with : Option Vote → Bool → Option Fate
+fate_with (Some vote) named = Some (Waits vote)
+fate_with None true = Some Ended
+fate_with None false = None
+
 -- the fates by transaction
+abbrev pub fate_at : Named → TxId → Option Fate
+fate_at named u = fate_with (get same_tx named.votes u) (contains same_tx named.ended u)
+
 abbrev pub fates_of : Seen → TxId → Option Fate
-fates_of seen u = get same_tx seen.fates u
+fates_of seen u = fate_at seen.named u
 
 -- the snapshots of what is waiting have an entry for each site
 abbrev pub AreWideVotes : ℕ → (TxId → Option Fate) → Type 0

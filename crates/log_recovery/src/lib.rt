@@ -5,6 +5,7 @@ mod fitting;
 mod laws;
 mod ledger;
 mod messages;
+mod named;
 mod recovery;
 mod seen;
 mod vectors;

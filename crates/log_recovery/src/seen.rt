@@ -1,37 +1,18 @@
 ghost use Rattle.std.specs.Prelude.{◌≡◌, ◌≤◌, ◌&&◌, true, leb, ltb, cond, is_some, length, Some, IfOk, OnOk};
-ghost use Rattle.std.specs.HashMap.{get};
 ghost use Rattle.site_vector.specs.declared.ids.TxId.{TxId};
-ghost use Rattle.site_vector.specs.Ids.{same_tx};
 ghost use Rattle.site_vector.specs.Vector.{entry};
 ghost use Rattle.crdt_core.specs.declared.record.Record.TheVariants.{Lease, Prepare, Decide, Finish, Abort, Batch};
 ghost use Rattle.crdt_core.specs.Parts.{lists};
-ghost use Rattle.log_recovery.specs.declared.seen.Fate.TheVariants.{Waits, Ended};
-ghost use Rattle.log_recovery.specs.Fates.{fates_of, IsEmpty, may_end, vote_of, IsSound, IsSamePlace, IsSeen, Judges, Sees, may_commit, may_prepare, is_vote, may_bring, are_new};
+ghost use Rattle.log_recovery.specs.declared.named.Fate.TheVariants.{Ended};
+ghost use Rattle.log_recovery.specs.Fates.{fate_at, fates_of, IsEmpty, may_end, vote_of, IsSound, IsSamePlace, IsSeen, Judges, Sees, may_commit, may_prepare, is_vote, may_bring, are_new};
 ghost use Rattle.log_recovery.specs.Ledgers.{raised};
 
 use crate::messages::{fit_all, is_for, stand_at};
+use crate::named::{Fate, Named, Vote};
 use crate::vectors::{END_OF_TIME, is_vector, raise};
 use crdt_core::{Message, Part, Record, Upd};
 use site_vector::{PartId, TxId, VTime};
 use std::alloc::{AllocError, Global};
-use std::collections::HashMap;
-
-/// How a partition voted for a transaction.
-#[derive(Clone, Copy)]
-pub(crate) struct Vote {
-    pub(crate) lead: u8,
-    pub(crate) time: u64,
-    pub(crate) s: VTime,
-}
-
-/// What became of a transaction that a log names.
-#[derive(Clone, Copy)]
-pub(crate) enum Fate {
-    /// It was prepared and hasn't ended.
-    Waits(Vote),
-    /// It was committed, aborted, or brought from another site.
-    Ended,
-}
 
 /// What was seen of the log of a partition, as far as later records are judged by it.
 #[derive(Drop)]
@@ -40,7 +21,7 @@ pub(crate) struct Seen {
     pub(crate) sites: u8,
     pub(crate) parts: u8,
     pub(crate) ceiling: u64,
-    pub(crate) fates: HashMap<TxId, Fate>,
+    pub(crate) named: Named,
     pub(crate) bounds: VTime,
 }
 
@@ -63,7 +44,7 @@ impl Seen {
             sites,
             parts,
             ceiling: 0,
-            fates: HashMap::new(alloc),
+            named: Named::new(alloc),
             bounds: VTime::zero(sites),
         }
     }
@@ -98,22 +79,22 @@ impl Seen {
                     s: *s,
                 };
                 let fits = self.may_prepare(*tx, &vote, updates.as_slice());
-                put(&mut self.fates, *tx, Fate::Waits(vote))?;
+                self.named.wait(*tx, vote)?;
                 Ok(fits)
             }
             Record::Decide { tx, c } => {
                 let fits = self.may_commit(*tx, c, true);
-                put(&mut self.fates, *tx, Fate::Ended)?;
+                self.named.end(*tx)?;
                 Ok(fits)
             }
             Record::Finish { tx, c } => {
                 let fits = self.may_commit(*tx, c, false);
-                put(&mut self.fates, *tx, Fate::Ended)?;
+                self.named.end(*tx)?;
                 Ok(fits)
             }
             Record::Abort { tx } => {
                 let fits = self.vote(*tx).is_some();
-                put(&mut self.fates, *tx, Fate::Ended)?;
+                self.named.end(*tx)?;
                 Ok(fits)
             }
             Record::Batch { message } => self.bring(message),
@@ -124,8 +105,8 @@ impl Seen {
     fn vote(&self, tx: TxId) -> Option<Vote>
         ensures { result ≡ vote_of (fates_of self.now tx) }
     {
-        match self.fates.get(&tx) {
-            Some(Fate::Waits(vote)) => Some(*vote),
+        match self.named.fate(tx) {
+            Some(Fate::Waits(vote)) => Some(vote),
             Some(Fate::Ended) => None,
             None => None,
         }
@@ -139,7 +120,7 @@ impl Seen {
         tx.site == self.id.site
             && tx.part >= 1
             && tx.part <= self.parts
-            && !self.fates.contains_key(&tx)
+            && self.named.fate(tx).is_none()
             && vote.lead >= 1
             && vote.lead <= self.id.part
             && self.is_vote(vote, updates)
@@ -210,27 +191,20 @@ impl Seen {
             return Ok(false);
         }
         self.bounds = raise(&self.bounds, message.from, message.hi);
-        name_all(&mut self.fates, message.parts.as_slice())
+        name_all(&mut self.named, message.parts.as_slice())
     }
 }
 
-/// Notes what became of a transaction.
-fn put(fates: &mut HashMap<TxId, Fate>, tx: TxId, fate: Fate) -> Result<(), AllocError>
-    ensures { OnOk result ((u : TxId) → get same_tx fates.new u ≡ cond (same_tx tx u) (Some fate) (get same_tx fates.old u)) }
-{
-    fates.insert(tx, fate)?;
-    Ok(())
-}
-
 /// Notes that the transactions of these parts ended, as long as they are new: whether all are.
-fn name_all<E>(fates: &mut HashMap<TxId, Fate>, parts: &[Part<E>]) -> Result<bool, AllocError>
-    ensures new { IfOk result (λ new. new ≡ are_new (get same_tx fates.old) parts.now) }
-    ensures named { IfOk result (λ new. new ≡ true → (u : TxId) → get same_tx fates.new u ≡ cond (lists parts.now u) (Some Ended) (get same_tx fates.old u)) }
+fn name_all<E>(named: &mut Named, parts: &[Part<E>]) -> Result<bool, AllocError>
+    ensures new { IfOk result (λ new. new ≡ are_new (fate_at named.old) parts.now) }
+    ensures named { IfOk result (λ new. new ≡ true → (u : TxId) → fate_at named.new u ≡ cond (lists parts.now u) (Some Ended) (fate_at named.old u)) }
 {
     for part in parts {
-        if fates.insert(part.tx, Fate::Ended)?.is_some() {
+        if named.fate(part.tx).is_some() {
             return Ok(false);
         }
+        named.end(part.tx)?;
     }
     Ok(true)
 }

@@ -1,7 +1,10 @@
 use Rattle.std.proofs.Common.{reverse}
 use Rattle.log_recovery.proofs.FateSteps.{rest_of}
-use Rattle.log_recovery.proofs.Seeing.{seeing_more, seeing_stops}
+use Rattle.log_recovery.proofs.Seeing.{seeing_starts, seeing_more, seeing_stops}
 use Rattle.log_recovery.proofs.fitting.unfit.Goals as goal
+
+pub loop-number-init : goal.loop-number-init
+loop-number-init g c = seeing_starts c.args.sites c.args.parts c.args.id c.args.records.now c.new-seen.result c.new-seen.ensures.empty c.new-seen.ensures.sound c.new-seen.ensures.id c.new-seen.ensures.sites c.new-seen.ensures.parts
 
 pub returns-then-not-branch : goal.returns-then-not-branch
 returns-then-not-branch g c =
