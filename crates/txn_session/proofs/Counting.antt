@@ -1,8 +1,8 @@
 -- Counting the participants.
 use Rattle.std.proofs.Common.{◌≡◌, ⊎_elim, ℕ, zero, suc, ◌+◌, ◌<◌, cond, Bool, true, false, List, [], ◌∷◌, ◌++◌, length, get_or, set, take, refl, sym, ap, ◌∙◌, arith, add-one}
-use Rattle.std.specs.Prelude.{◌||◌, ◌&&◌, filter}
-use Rattle.std.specs.List.{list_any, list_all}
-use Rattle.std.proofs.lemmas.Bool.{cases_Bool, cond-true, cond-false, true≢false}
+use Rattle.std.specs.Prelude.{◌||◌, filter}
+use Rattle.std.specs.List.{list_any}
+use Rattle.std.proofs.lemmas.Bool.{cases_Bool, cond-true, cond-false}
 use Rattle.std.proofs.lemmas.List.{append-nil, take_more_set}
 use Rattle.std.proofs.lemmas.List.Elements.{filter-append}
 use Rattle.std.proofs.lemmas.List.Folds.{list_any_at}
@@ -17,14 +17,6 @@ module _ {E : Type 0} where
       (λ (k : f u ≡ true). ap (λ b. b || list_any f us) k ∙ ap is_some_update (sym (cond-true _ (u ∷ filter f us) (filter f us) k)))
       (λ (k : f u ≡ false). ap (λ b. b || list_any f us) k ∙ (any_some f us ∙ ap is_some_update (sym (cond-false _ (u ∷ filter f us) (filter f us) k))))
       (cases_Bool (f u))
-
-  kept_all : (b c : Bool) (u : Upd E) (us vs : List (Upd E)) → (b && c) ≡ true → (c ≡ true → vs ≡ us) → cond b (u ∷ vs) vs ≡ u ∷ us
-  kept_all true c u us vs h f = ap (λ l. u ∷ l) (f h)
-  kept_all false c u us vs h f = absurd (true≢false (sym h))
-
-  pub all_there : (parts q : ℕ) (us : List (Upd E)) → list_all (stands_at parts q) us ≡ true → updates_of parts us q ≡ us
-  all_there parts q [] h = refl
-  all_there parts q (u ∷ us) h = kept_all (stands_at parts q u) (list_all (stands_at parts q) us) u us (updates_of parts us q) h (all_there parts q us)
 
   pub some_there : (parts q : ℕ) (us : List (Upd E)) (i : ℕ) (d : Upd E) → i < length us → stands_at parts q (get_or us i d) ≡ true → true ≡ is_some_update (updates_of parts us q)
   some_there parts q us i d low h = sym (list_any_at (stands_at parts q) us i d low h) ∙ any_some (stands_at parts q) us

@@ -1,9 +1,7 @@
 ghost use Rattle.std.specs.Prelude.{◌≡◌, ◌≤◌, ◌+◌, length, take, IfOk, Bool};
-ghost use Rattle.std.specs.List.{list_all};
 ghost use Rattle.crdt_core.specs.Objects.{same_object};
 ghost use Rattle.world_model.specs.Plan.{is_some_update};
-ghost use Rattle.txn_session.specs.Here.{updates_here};
-ghost use Rattle.txn_session.specs.Session.{own_updates, updates_of, stands_at, participants, first_or_zero};
+ghost use Rattle.txn_session.specs.Session.{own_updates, updates_of, participants, first_or_zero};
 
 use crdt_core::{Crdt, ObjectId, Upd, copy_update, partition_of};
 use field_codec::ListOf;
@@ -29,58 +27,8 @@ pub fn own_of<C: Crdt>(
     Ok(own)
 }
 
-/// What a transaction changes at one partition.
-#[derive(Drop)]
-pub enum Here<'a, E> {
-    /// All of its updates.
-    All(&'a [Upd<E>]),
-    /// Copies of those that stand there.
-    Copies(ListOf<Upd<E>>),
-}
-
-impl<'a, E> Here<'a, E> {
-    /// In the order of the transaction.
-    pub fn as_slice(&self) -> &[Upd<E>]
-        ensures { result.now ≡ updates_here self.now }
-    {
-        match self {
-            Here::All(updates) => updates,
-            Here::Copies(updates) => updates.as_slice(),
-        }
-    }
-}
-
-/// The updates at a partition. They are copied only where others stand elsewhere.
-pub fn part_of<'a, C: Crdt>(
-    alloc: Global,
-    updates: &'a [Upd<C::Effect>],
-    parts: u8,
-    part: u8,
-) -> Result<Here<'a, C::Effect>, AllocError>
-    requires { 1 ≤ parts }
-    ensures { IfOk result (λ h. updates_here h ≡ updates_of parts updates.now part) }
-{
-    if are_all_at::<C>(updates, parts, part) {
-        return Ok(Here::All(updates));
-    }
-    Ok(Here::Copies(copies_at::<C>(alloc, updates, parts, part)?))
-}
-
-/// Whether all updates stand at the partition.
-fn are_all_at<C: Crdt>(updates: &[Upd<C::Effect>], parts: u8, part: u8) -> bool
-    requires { 1 ≤ parts }
-    ensures { result ≡ list_all (stands_at parts part) updates.now }
-{
-    for update in updates {
-        if partition_of(&update.object, parts) != part {
-            return false;
-        }
-    }
-    true
-}
-
 /// Copies of the updates at a partition.
-fn copies_at<C: Crdt>(
+pub fn part_of<C: Crdt>(
     alloc: Global,
     updates: &[Upd<C::Effect>],
     parts: u8,
