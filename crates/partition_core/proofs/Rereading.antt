@@ -10,6 +10,10 @@ pub map_ok : {A X : Type 0} {P Q : A → Type 0} (r : Result A X) → ((x : A) �
 map_ok (Ok x) f p = f x p
 map_ok (Err x) f p = tt
 
+pub map_both : {A X : Type 0} {P Q R : A → Type 0} (r : Result A X) → ((x : A) → P x → Q x → R x) → IfOk r P → IfOk r Q → IfOk r R
+map_both (Ok x) f p q = f x p q
+map_both (Err x) f p q = tt
+
 pub map_err : {A X : Type 0} {P Q : X → Type 0} (r : Result A X) → ((x : X) → P x → Q x) → IfErr r P → IfErr r Q
 map_err (Ok x) f p = tt
 map_err (Err x) f p = f x p

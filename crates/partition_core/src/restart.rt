@@ -1,5 +1,5 @@
 // How a partition on its disk comes up, and comes up again.
-ghost use Rattle.std.specs.Prelude.{◌≡◌, ◌≢◌, ◌≤◌, ◌⊎◌, ℕ, List, [], false, Err, IsTrue, IfOk, IfErr, MatchResult};
+ghost use Rattle.std.specs.Prelude.{◌≡◌, ◌≢◌, ◌≤◌, ◌⊎◌, ℕ, List, [], false, None, Err, IsTrue, IfOk, IfErr, MatchResult};
 ghost use Rattle.disk_core.specs.States.{GoesOn, Rose, bytes_of};
 ghost use Rattle.gate_log.specs.Logs.{disk_of, is_closed, read_at_opening, IsReady};
 ghost use Rattle.gate_log.specs.Payloads.{placed};
@@ -9,6 +9,7 @@ ghost use Rattle.partition_log.specs.Gates.{gates_of};
 ghost use Rattle.partition_log.specs.Damage.{AreRecords, IsDamaged, IsRefusedAt};
 ghost use Rattle.partition_log.specs.Logs.{HasRecords, HoldsLog};
 ghost use Rattle.crdt_core.specs.declared.record.Record.{Record};
+ghost use Rattle.crdt_core.specs.Fitting.{unfit};
 ghost use Rattle.crdt_core.specs.KindsOf.{kinds_of};
 ghost use Rattle.log_recovery.specs.Recovered.{AreKnown};
 ghost use Rattle.log_recovery.specs.Rising.{Rises};
@@ -16,7 +17,7 @@ ghost use Rattle.world_model.specs.Partition.{new_part};
 ghost use Rattle.partition_core.specs.Durable.{StandsOn, is_down};
 ghost use Rattle.partition_core.specs.Recovered.{resumed};
 ghost use Rattle.partition_core.specs.Stands.{Stands};
-ghost use Rattle.partition_core.specs.Restarts.{RestartsOn, unopened, IsListed};
+ghost use Rattle.partition_core.specs.Restarts.{RestartsOn, ComesUpOver, unopened, IsListed};
 ghost use Rattle.partition_core.specs.Unfit.{IsUnfitAt};
 ghost use Rattle.partition_core.specs.declared.restart.RestartError.TheVariants.{Disk as DiskFailed, Damaged as DamagedAt, NoMemory};
 
@@ -101,7 +102,7 @@ fn tables_of<C: Crdt, D: Disk + Drop>(
     requires placed { (payloads : List (List ℕ)) × (read_at_opening (gates_of log.now) ≡ placed 8 payloads) }
     ensures place { IfOk result (λ t. (t.id ≡ id) × (t.sites ≡ sites) × (t.parts ≡ parts)) }
     ensures stands { IfOk result (λ t. (l : List (Record C.Effect)) × AreRecords (codec_of C.spells) (read_at_opening (gates_of log.now)) l
-        × ((b : List ℕ) × AreKnown sites id.site l b × (Rises l → Stands t (resumed sites parts b l)))) }
+        × (unfit sites parts id l ≡ None) × ((b : List ℕ) × AreKnown sites id.site l b × (Rises l → Stands t (resumed sites parts b l)))) }
     ensures damaged { (at : ℕ) → result ≡ Err (DamagedAt at) → IsRefusedAt (codec_of C.spells) (read_at_opening (gates_of log.now)) at
         ⊎ ((l : List (Record C.Effect)) × AreRecords (codec_of C.spells) (read_at_opening (gates_of log.now)) l × IsUnfitAt (codec_of C.spells) sites parts id l at) }
     ensures reads { result ≢ Err DiskFailed }
@@ -134,8 +135,9 @@ fn wake<C: Crdt, D: Disk + Drop>(
     requires open { is_closed (gates_of log) ≡ false }
     ensures place { IfOk result (λ p. (p.tables.id ≡ id) × (p.tables.sites ≡ sites) × (p.tables.parts ≡ parts)) }
     ensures up { IfOk result (λ p. is_down p ≡ false) }
+    ensures has { IfOk result (λ p. (l : List (Record C.Effect)) → HasRecords (codec_of C.spells) D.state (gates_of log) l → HasRecords (codec_of C.spells) D.state p.gates l) }
     ensures stands { IfOk result (λ p. (l : List (Record C.Effect)) × AreRecords (codec_of C.spells) (read_at_opening (gates_of log)) l
-        × ((b : List ℕ) × AreKnown sites id.site l b × (HasRecords (codec_of C.spells) D.state (gates_of log) l → Rises l → StandsOn (codec_of C.spells) D.state p (resumed sites parts b l)))) }
+        × (unfit sites parts id l ≡ None) × ((b : List ℕ) × AreKnown sites id.site l b × (HasRecords (codec_of C.spells) D.state (gates_of log) l → Rises l → StandsOn (codec_of C.spells) D.state p (resumed sites parts b l)))) }
     ensures damaged { IfErr result (λ e. (at : ℕ) → e.1 ≡ DamagedAt at → IsRefusedAt (codec_of C.spells) (read_at_opening (gates_of log)) at
         ⊎ ((l : List (Record C.Effect)) × AreRecords (codec_of C.spells) (read_at_opening (gates_of log)) l × IsUnfitAt (codec_of C.spells) sites parts id l at)) }
     ensures disk { MatchResult result (λ p. disk_of p.gates ≡ disk_of (gates_of log)) (λ e. (e.0 ≡ disk_of (gates_of log)) × (e.1 ≢ DiskFailed)) }
@@ -193,6 +195,7 @@ impl<C: Crdt, D: Disk + Drop> DurablePartition<C, D> {
         ensures up { IfOk result (λ p. is_down p ≡ false) }
         ensures stands { IfOk result (λ p. IsTrue (D.state disk).tells → (log : List (Record C.Effect)) → HoldsLog (codec_of C.spells) (bytes_of (D.state disk)) log → Rises log
             → (b : List ℕ) × AreKnown sites id.site log b × StandsOn (codec_of C.spells) D.state p (resumed sites parts b log)) }
+        ensures read { IfOk result (λ p. IsTrue (D.state disk).tells → ComesUpOver (codec_of C.spells) D.state sites parts id (bytes_of (D.state disk)) p) }
         ensures new { IfOk result (λ p. (end : ℕ) → AtRest (D.state disk) end [] → StandsOn (codec_of C.spells) D.state p (new_part sites parts)) }
         ensures damaged { IfErr result (λ e. (at : ℕ) → e.1 ≡ DamagedAt at → IsTrue (D.state disk).tells → IsDamaged (codec_of C.spells) (bytes_of (D.state disk)) at
             ⊎ ((log : List (Record C.Effect)) × HoldsLog (codec_of C.spells) (bytes_of (D.state disk)) log × IsUnfitAt (codec_of C.spells) sites parts id log at)) }

@@ -1,4 +1,4 @@
-ghost use Rattle.std.specs.Prelude.{◌≡◌, ◌≢◌, ◌≤◌, ◌+◌, ℕ, true, false, length, IfOk, IfSome, OnOk, OnErr};
+ghost use Rattle.std.specs.Prelude.{◌≡◌, ◌≢◌, ◌≤◌, ◌+◌, ◌++◌, ℕ, true, false, length, vec_len, option_to_list, MatchOption, IfOk, IfSome, OnOk, OnErr};
 ghost use Rattle.site_vector.specs.declared.ids.TxId.{TxId};
 ghost use Rattle.site_vector.specs.Vector.{entry};
 ghost use Rattle.crdt_core.specs.KindsOf.{kinds_of};
@@ -18,6 +18,9 @@ use field_codec::ListOf;
 use repl_stream::cut_at;
 use site_vector::TxId;
 use std::alloc::{AllocError, Global};
+
+/// After how many parts memory is let go.
+const PARTS_BETWEEN: usize = 4096;
 
 impl<C: Crdt> Partition<C> {
     /// Takes a message of another site, with what it brings above the bound that the partition has of that site.
@@ -168,7 +171,19 @@ pub(crate) fn put_all<C: Crdt>(store: &mut Store<C>, parts: Vec<Part<C::Effect>>
     let mut left = parts;
     // A part that comes last is put in one step, and the parts of a message ascend.
     left.reverse();
-    while let Some(part) = left.pop() {
+    while let Some(part) = take_last(&mut left) {
         store.insert(part);
     }
+}
+
+/// Takes the last of some parts. From time to time the memory goes that held what was taken before, so that many parts
+/// don't take it twice while they move.
+fn take_last<E>(parts: &mut Vec<Part<E>>) -> Option<Part<E>>
+    ensures items { parts.old.items ≡ parts.new.items ++ option_to_list result }
+    ensures cases { MatchOption result ((vec_len parts.old ≡ 0) × (vec_len parts.new ≡ 0)) (λ _. vec_len parts.new + 1 ≡ vec_len parts.old) }
+{
+    if parts.len() % PARTS_BETWEEN == 0 {
+        parts.shrink_to_fit();
+    }
+    parts.pop()
 }
