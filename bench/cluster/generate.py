@@ -1,0 +1,73 @@
+#!/usr/bin/env python3
+"""Writes a script to standard output.
+
+    python3 bench/cluster/generate.py PROFILE [LINES]
+
+PROFILE is one of
+
+    counter  one partition: begin, five updates of 1,000 counters in turn, commit
+    reads    one partition: twenty objects with a history of a hundred updates each, then twenty reads a transaction
+    kinds    one partition and objects of all kinds, as bench/play/generate.py
+    sites    eight sites of two partitions that send to one another, as bench/sites/generate.py
+    crash    three sites whose partitions crash and restart, as bench/crashes/generate.py
+
+LINES is 100,000. Nothing is refused, and nothing waits."""
+import os
+import subprocess
+import sys
+
+HERE = os.path.dirname(os.path.abspath(__file__))
+OTHERS = {"kinds": "../play/generate.py", "sites": "../sites/generate.py", "crash": "../crashes/generate.py"}
+KINDS = ["counter_fat", "set_go", "set_aw", "set_rw", "register_lww", "register_mv", "map_go", "map_rr"]
+
+
+def counter(lines):
+    """Transactions of seven lines."""
+    yield "cluster 1 1"
+    yield "session a 1"
+    for number in range((lines - 2) // 7):
+        yield "begin a"
+        for k in range(5 * number, 5 * number + 5):
+            yield "update a k%d counter_pn increment %d" % (k % 1000, 1 + k % 99)
+        yield "commit a"
+
+
+def act(kind, number):
+    """An operation of a kind; texts come from twenty."""
+    text = "text%d" % (number % 20)
+    if kind == "counter_fat":
+        return "increment %d" % (1 + number % 99)
+    if kind in ("set_go", "set_aw", "set_rw"):
+        return "add %s" % text
+    if kind in ("register_lww", "register_mv"):
+        return "assign %s" % text
+    return "in f%d set_aw add %s" % (number % 5, text)
+
+
+def reads(lines):
+    """A history, and then transactions of 22 lines."""
+    objects = [("k%d" % k, KINDS[k % len(KINDS)]) for k in range(20)]
+    yield "cluster 1 1"
+    yield "session a 1"
+    for number in range(100):
+        yield "begin a"
+        for key, kind in objects:
+            yield "update a %s %s %s" % (key, kind, act(kind, number))
+        yield "commit a"
+    for _ in range(max(0, (lines - 2202) // 22)):
+        yield "begin a"
+        for key, kind in objects:
+            yield "read a %s %s" % (key, kind)
+        yield "commit a"
+
+
+def main():
+    profile = sys.argv[1]
+    lines = int(sys.argv[2]) if len(sys.argv) > 2 else 100_000
+    if profile in OTHERS:
+        sys.exit(subprocess.call([sys.executable, os.path.join(HERE, OTHERS[profile]), str(lines)]))
+    made = {"counter": counter, "reads": reads}[profile](lines)
+    sys.stdout.write("".join(line + "\n" for line in made))
+
+
+main()
