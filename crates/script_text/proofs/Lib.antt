@@ -1,3 +1,4 @@
 pub mod Digits
 pub mod Utf8
 pub mod Lists
+pub mod Quoted

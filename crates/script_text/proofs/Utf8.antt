@@ -11,11 +11,18 @@ use Rattle.std.specs.Prelude.{option_and_then}
 use Rattle.std.proofs.lemmas.Bool.Decides.{nat_tests}
 use Rattle.serde_json.specs.Read.{read}
 use Rattle.serde_json.specs.Find.{as_str}
+use Rattle.script_text.specs.Ascii.{is_ascii_byte}
 use Rattle.script_text.specs.Texts.{string_of}
 use Rattle.script_words.specs.Bare.{is_bare, is_bare_byte}
 
 pub valid_len : (w : List ℕ) → IsUtf8 w → utf8_valid_len w ≡ length w
 valid_len w h = utf8_valid_len-IsUtf8 w h
+
+ascii_below_128 : (c : ℕ) → is_ascii_byte c ≡ true → c < 128
+ascii_below_128 c h = grind (arith, nat_tests)
+
+pub ascii_utf8 : (w : List ℕ) → list_all is_ascii_byte w ≡ true → IsUtf8 w
+ascii_utf8 w h = IsUtf8-from_ascii w (IsAscii-from_all w (λ k d within. ascii_below_128 _ (AllPass-from_list_all is_ascii_byte w h k d within)))
 
 below_128 : (c : ℕ) → is_bare_byte c ≡ true → c < 128
 below_128 c h = grind (arith, nat_tests)

@@ -8,3 +8,4 @@ pub mod Acts
 pub mod Objects
 pub mod Line
 pub mod Ends
+pub mod Ascii

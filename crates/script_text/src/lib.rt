@@ -2,9 +2,12 @@
 #![tactic(auto)]
 
 ghost use Rattle.std.specs.Prelude.{◌≡◌, List, ℕ, Err, IfOk, None, Some, true, false};
+ghost use Rattle.std.specs.List.{list_all};
+ghost use Rattle.std.specs.Str.{IsUtf8};
 ghost use Rattle.script_text.specs.declared.Parsed.{Parsed};
 ghost use Rattle.script_text.specs.Line.{IsLine, Reads, reading};
 ghost use Rattle.script_text.specs.Split.{words};
+ghost use Rattle.script_text.specs.Ascii.{is_ascii_byte};
 
 mod act;
 mod commands;
@@ -50,6 +53,30 @@ pub enum Parsed {
     Command(Command),
 }
 
+/// Whether all bytes are ASCII.
+fn is_ascii(bytes: &[u8]) -> bool
+    ensures { result ≡ list_all is_ascii_byte bytes.now }
+{
+    for byte in bytes {
+        if *byte >= 128 {
+            return false;
+        }
+    }
+    true
+}
+
+/// Whether the bytes are UTF-8. Most lines are ASCII, which a test of each byte alone sees faster.
+#[tactic(auto, using(crate::proofs::Utf8::ascii_utf8))]
+fn is_utf8(bytes: &[u8]) -> bool
+    ensures yes { result ≡ true → IsUtf8 bytes.now }
+    ensures no { result ≡ false → ¬ (IsUtf8 bytes.now) }
+{
+    if is_ascii(bytes) {
+        return true;
+    }
+    std::str::from_utf8(bytes).is_ok()
+}
+
 /// Whether the bytes may be a line: at most 4,096, in UTF-8.
 fn is_line(line: &[u8]) -> bool
     ensures yes { result ≡ true → IsLine line.now }
@@ -58,7 +85,7 @@ fn is_line(line: &[u8]) -> bool
     if line.len() > MOST_BYTES {
         return false;
     }
-    std::str::from_utf8(line).is_ok()
+    is_utf8(line)
 }
 
 /// What the words of the line read as.

@@ -47,8 +47,8 @@ fn is_end(place: Place, byte: u8) -> bool
     }
 }
 
-/// The number of bytes of the word at the front.
-fn end_of_word(bytes: &[u8]) -> usize
+/// The number of bytes of the word at the front, whatever stands in it.
+fn end_of_quoted(bytes: &[u8]) -> usize
     ensures at { result ≡ word_end outside bytes.now }
     ensures within { result ≤ length bytes.now }
 {
@@ -58,6 +58,22 @@ fn end_of_word(bytes: &[u8]) -> usize
             return i;
         }
         place = after_byte(place, *byte);
+    }
+    bytes.len()
+}
+
+/// The number of bytes of the word at the front. Up to a quote only a space matters.
+fn end_of_word(bytes: &[u8]) -> usize
+    ensures at { result ≡ word_end outside bytes.now }
+    ensures within { result ≤ length bytes.now }
+{
+    for (i, byte) in bytes.iter().enumerate() {
+        if *byte == b' ' {
+            return i;
+        }
+        if *byte == b'"' {
+            return i + end_of_quoted(&bytes[i..]);
+        }
     }
     bytes.len()
 }

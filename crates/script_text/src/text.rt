@@ -1,4 +1,4 @@
-ghost use Rattle.std.specs.Prelude.{◌≡◌, ◌≢◌, [], Err, IfOk, Some, None, string_bytes, option_and_then, true};
+ghost use Rattle.std.specs.Prelude.{◌≡◌, ◌≢◌, ◌++◌, ◌∷◌, [], Err, IfOk, IfSome, Some, None, string_bytes, option_and_then, true};
 ghost use Rattle.serde_json.specs.Read.{read};
 ghost use Rattle.serde_json.specs.Find.{as_str};
 ghost use Rattle.script_words.specs.Bare.{is_bare};
@@ -6,7 +6,7 @@ ghost use Rattle.script_text.specs.Texts as texts;
 
 use crate::ParseError;
 use field_codec::Text;
-use script_words::is_bare;
+use script_words::{is_bare, is_plain};
 use serde_json::Value;
 use std::alloc::Global;
 
@@ -74,6 +74,43 @@ fn bare(alloc: Global, word: &[u8]) -> Result<Text, ParseError>
     }
 }
 
+/// What stands between the quotes.
+#[tactic(auto, using(crate::proofs::Quoted::between))]
+fn between(word: &[u8]) -> &[u8]
+    requires { texts.is_quoted word.now ≡ true }
+    ensures { word.now ≡ 34 ∷ (result.now ++ 34 ∷ []) }
+{
+    let (_, rest) = word.split_at(1);
+    let (text, _) = rest.split_at(rest.len() - 1);
+    text
+}
+
+/// The text in quotes, where each of its bytes stands for itself.
+#[tactic(auto, using(crate::proofs::Quoted::string_plain))]
+fn plain(word: &[u8]) -> Option<&str>
+    requires { texts.is_quoted word.now ≡ true }
+    ensures { IfSome result (λ t. texts.string_of word.now ≡ Some t.now) }
+{
+    let text = between(word);
+    if !is_plain(text) {
+        return None;
+    }
+    std::str::from_utf8(text).ok()
+}
+
+/// The text of a word in quotes. Most hold no escape, and need no reader of JSON.
+fn quoted(alloc: Global, word: &[u8]) -> Result<Text, ParseError>
+    requires { texts.is_quoted word.now ≡ true }
+    ensures ok { IfOk result (λ t. option_and_then texts.at_most_256 (texts.string_of word.now) ≡ Some t) }
+    ensures bad { result ≡ Err ParseError.Bad → option_and_then texts.at_most_256 (texts.string_of word.now) ≡ None }
+{
+    if let Some(text) = plain(word) {
+        return fitting(alloc, text);
+    }
+    let text = string(alloc, word)?;
+    fitting(alloc, &text)
+}
+
 /// The text that a word stands for, bare or in quotes.
 pub fn text(alloc: Global, word: &[u8]) -> Result<Text, ParseError>
     ensures ok { IfOk result (λ t. texts.text word.now ≡ Some t) }
@@ -85,8 +122,7 @@ pub fn text(alloc: Global, word: &[u8]) -> Result<Text, ParseError>
     if !is_quoted(word) {
         return Err(ParseError::Bad);
     }
-    let text = string(alloc, word)?;
-    fitting(alloc, &text)
+    quoted(alloc, word)
 }
 
 /// The empty text.

@@ -1,0 +1,7 @@
+use Rattle.std.proofs.Common.{◌≡◌, ◌+◌, drop}
+use Rattle.script_text.specs.Split.{outside}
+use Rattle.script_text.specs.Front.{word_end, where_of}
+use Rattle.script_text.proofs.split.end_of_quoted.Given as goal
+
+abbrev pub invariant-loop-i : goal.invariant-loop-i
+invariant-loop-i l = word_end outside l.bytes ≡ l.i + word_end (where_of l.place) (drop l.i l.bytes)
