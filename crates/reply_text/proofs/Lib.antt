@@ -1,3 +1,4 @@
 pub mod Joined
 pub mod Front
 pub mod Plain
+pub mod OneDigit

@@ -1,5 +1,4 @@
 pub mod Places
-pub mod Plain
 pub mod Values
 pub mod Texts
 pub mod Text

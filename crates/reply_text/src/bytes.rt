@@ -34,10 +34,14 @@ pub fn put_if(out: &mut Vec<u8>, later: bool, byte: u8) -> Result<(), AllocError
     Ok(())
 }
 
-/// Adds the number.
+/// Adds the number. Most are a site or a place of one digit.
+#[tactic(auto, using(crate::specs::Words::begins_same, crate::specs::Words::begins_after, crate::proofs::OneDigit::one_digit))]
 pub fn put_number(out: &mut Vec<u8>, n: u64) -> Result<(), AllocError>
     ensures ok { OnOk result (out.new.items ≡ out.old.items ++ decimal n) }
     ensures err { OnErr result (Begins out.old.items out.new.items) }
 {
+    if n < 10 {
+        return put_byte(out, b'0' + n as u8);
+    }
     put(out, Buffer::new().format(n).as_bytes())
 }

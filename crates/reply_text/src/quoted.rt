@@ -1,32 +1,12 @@
 #![tactic(auto, using(crate::specs::Words::begins_same, crate::specs::Words::begins_after))]
 
 ghost use Rattle.std.specs.Prelude.{◌≡◌, ◌++◌, codes, IfOk, OnOk, OnErr, string_bytes};
-ghost use Rattle.std.specs.List.{list_all};
 ghost use Rattle.json.specs.Print.{quoted};
-ghost use Rattle.reply_text.specs.Plain as plain;
 ghost use Rattle.reply_text.specs.Words.{Begins};
 
 use crate::bytes::{put, put_byte};
+use script_words::is_plain;
 use std::alloc::{AllocError, Global};
-
-/// Whether JSON writes the byte as it is.
-fn is_plain_byte(byte: u8) -> bool
-    ensures { result ≡ plain.is_plain_byte byte }
-{
-    !(byte == b'"' || byte == b'\\' || byte < b' ')
-}
-
-/// Whether JSON writes all of the bytes as they are.
-fn is_plain(bytes: &[u8]) -> bool
-    ensures { result ≡ list_all plain.is_plain_byte bytes.now }
-{
-    for byte in bytes {
-        if !is_plain_byte(*byte) {
-            return false;
-        }
-    }
-    true
-}
 
 /// Adds the bytes between quotes, with memory taken once.
 fn put_between(out: &mut Vec<u8>, bytes: &[u8]) -> Result<(), AllocError>
