@@ -1,4 +1,4 @@
-ghost use Rattle.std.specs.Prelude.{◌≡◌, ◌++◌, [], ◌∷◌, OnOk, OnErr};
+ghost use Rattle.std.specs.Prelude.{◌≡◌, ◌++◌, [], ◌∷◌, IfOk, OnOk, OnErr};
 
 use std::alloc::{AllocError, Global};
 use std::marker::Model;
@@ -25,6 +25,14 @@ impl<T> ListOf<T> {
         ListOf {
             items: Vec::new(alloc),
         }
+    }
+
+    /// The empty list, with memory for so many members, but for no more than a first member takes by itself.
+    pub(crate) fn with_room(alloc: Global, count: u32) -> Result<ListOf<T>, AllocError>
+        ensures { IfOk result (λ l. l ≡ []) }
+    {
+        let items = Vec::with_capacity(alloc, count.min(4) as usize)?;
+        Ok(ListOf { items })
     }
 
     /// The vector of the members.

@@ -77,7 +77,7 @@ fn take_members<F: Form>(
     ensures answer { Gives result (members_at (F.follows form.now) (F.reading form.now) None count bytes.now at) }
     ensures within { IfOk result (λ x. x.1 ≤ length bytes.now) }
 {
-    let mut members = ListOf::new(alloc);
+    let mut members = ListOf::with_room(alloc, count)?;
     let mut place = at;
     for _ in 0..count {
         let (member, end) = form.take(alloc, bytes, place)?;

@@ -6,7 +6,7 @@ use Rattle.field_codec.proofs.members.take_members.Goals as goal
 
 pub returns-in_err-member-clause-answer : goal.returns-in_err-member-clause-answer
 returns-in_err-member-clause-answer g c =
-    let p = err_from_is_err_and c.from_residual.result c.from_residual.ensures.1 in
+    let p = err_from_is_err_and c.from_residual-in_err-member.result c.from_residual-in_err-member.ensures.1 in
     rw (p.1, p.2) (fails _ _ c.loop.members c.args.count c.loop.counter c.args.bytes.now c.loop.place c.in_err-member.field-0.0 _ c.loop-test.true c.in_err-member.ensures.answer c.loop.invariant.answer)
 
 pub returns-then-not-goes_on-clause-answer : goal.returns-then-not-goes_on-clause-answer
