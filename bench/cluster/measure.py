@@ -17,22 +17,14 @@ import sys
 import tempfile
 
 HERE = os.path.dirname(os.path.abspath(__file__))
+sys.path.insert(0, os.path.join(HERE, ".."))
+from playing import play
+
 PROGRAM = os.path.join(HERE, "../../crates/dc_shell/out/dc_shell")
 PROFILES = ("counter", "kinds", "reads", "sites", "crash")
 LENGTHS = (10_000, 100_000, 1_000_000, 3_000_000)
 COLOURS = ("#1b6ca8", "#c8553d", "#3a7d44", "#8e5ea2", "#b8860b")
 RUNS = 3
-
-
-def play(command, script, replies):
-    """Plays a script once: seconds of a processor, and the peak in megabytes."""
-    with open(script, "rb") as source, open(replies, "wb") as sink:
-        child = subprocess.Popen(command, stdin=source, stdout=sink)
-        _, status, usage = os.wait4(child.pid, 0)
-    child.returncode = os.waitstatus_to_exitcode(status)
-    if child.returncode != 0:
-        sys.exit("%s ended with %d" % (" ".join(command), child.returncode))
-    return usage.ru_utime + usage.ru_stime, usage.ru_maxrss / 1024
 
 
 def same(first, second):

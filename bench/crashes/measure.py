@@ -13,6 +13,9 @@ import sys
 import tempfile
 
 HERE = os.path.dirname(os.path.abspath(__file__))
+sys.path.insert(0, os.path.join(HERE, ".."))
+from playing import play
+
 PROGRAM = sys.argv[1] if len(sys.argv) > 1 else os.path.join(HERE, "../../crates/dc_shell/out/dc_shell")
 LINES = int(sys.argv[2]) if len(sys.argv) > 2 else 100_000
 OTHER = sys.argv[3:]
@@ -20,20 +23,9 @@ RUNS = 3
 TOLD = (b"crashed", b"disk", b"restarted", b"down")
 
 
-def play(command, script, replies):
-    """Plays a script once: seconds of a processor."""
-    with open(script, "rb") as source, open(replies, "wb") as sink:
-        child = subprocess.Popen(command, stdin=source, stdout=sink)
-        _, status, usage = os.wait4(child.pid, 0)
-    child.returncode = os.waitstatus_to_exitcode(status)
-    if child.returncode != 0:
-        sys.exit("%s ended with %d" % (" ".join(command), child.returncode))
-    return usage.ru_utime + usage.ru_stime
-
-
 def measure(command, script, replies, lines):
     """Plays a script some times, and answers the least time of a processor."""
-    least = min(play(command, script, replies) for _ in range(RUNS))
+    least = min(play(command, script, replies)[0] for _ in range(RUNS))
     print("  %s: %.3f s of a processor, %.0f lines a second of it" % (os.path.basename(command[0]), least, lines / least))
     return least
 

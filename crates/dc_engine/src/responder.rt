@@ -29,8 +29,8 @@ pub(crate) trait Responder {
     ///
     /// # Errors
     ///
-    /// `NoDisk` only where the line makes a cluster, none stands, and the maker's count of faults rose; `NoMemory` where memory runs
-    /// out. `out` is as before then.
+    /// `NoDisk` only where the line makes a cluster, none stands, and the maker's count of faults rose; `NoMemory` where
+    /// memory runs out. `out` is as before then.
     fn answer(
         &mut self,
         disks: &mut Self::Maker,
