@@ -101,9 +101,9 @@ moves_on {M} reached old mid new block rest piece more kept mid_kept new_kept ou
     (subst (λ r. MovesTo reached old new block r kept [] out new_out) (sym (rest_of rest more at d)) next)
 
 -- all before a line that makes a cluster, whose LF stands at this place of the rest
-pub moves_before : {M : Type 0} (reached : M → List (List ℕ) → List ℕ → Type 0) (bare : M → Type 0) (old mid : M) (block rest piece kept mid_kept out mid_out new_out : List ℕ) (at : ℕ) →
-    MovesTo reached old mid block rest kept mid_kept out mid_out → EndsAt rest at → piece ≡ take at rest → makes_cluster (take 4098 (mid_kept ++ piece)) ≡ true → bare mid → new_out ≡ mid_out → MovesBefore reached bare old block kept out new_out
-moves_before reached bare old mid block rest piece kept mid_kept out mid_out new_out at t e p h b k = subst (MovesBefore reached bare old block kept out) (sym k) (record {
+pub moves_before : {M : Type 0} (reached : M → List (List ℕ) → List ℕ → Type 0) (lacks : M → Type 0) (old mid : M) (block rest piece kept mid_kept out mid_out new_out : List ℕ) (at : ℕ) →
+    MovesTo reached old mid block rest kept mid_kept out mid_out → EndsAt rest at → piece ≡ take at rest → makes_cluster (take 4098 (mid_kept ++ piece)) ≡ true → lacks mid → new_out ≡ mid_out → MovesBefore reached lacks old block kept out new_out
+moves_before reached lacks old mid block rest piece kept mid_kept out mid_out new_out at t e p h b k = subst (MovesBefore reached lacks old block kept out) (sym k) (record {
   new = mid;
   done = t.done;
   piece = take at rest;
@@ -113,7 +113,7 @@ moves_before reached bare old mid block rest piece kept mid_kept out mid_out new
   no_end = e.none_before;
   making = subst (λ l. makes_cluster (take 4098 (mid_kept ++ l)) ≡ true) p h;
   moves = t.moves;
-  is_bare = b;
+  lacks_cluster = b;
 })
 
 -- a line of which nothing was kept before makes a cluster as its front does

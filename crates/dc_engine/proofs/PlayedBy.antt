@@ -5,9 +5,9 @@ use Rattle.disk_makers.specs.Makers.{Maker}
 use Rattle.dc_engine.specs.Played.{Played, PlayedEnded, PlayedTooLong, PlayedPart, PlayedBefore}
 use Rattle.dc_engine.specs.Makers.{IsKept, ReturnsAll}
 use Rattle.dc_engine.specs.Outcome.{Change, Outcome, PlayOutcome, And, most_bytes, block_bytes}
-use Rattle.dc_engine.specs.Replies.{Replies, BareReplies}
+use Rattle.dc_engine.specs.Replies.{Replies, RepliesBefore}
 use Rattle.dc_engine.specs.Player.{PlayerState, ReachedBy}
-use Rattle.dc_engine.specs.Answered.{Answered, AnsweredWhole, AnsweredBare}
+use Rattle.dc_engine.specs.Answered.{Answered, AnsweredWhole, AnsweredBefore}
 use Rattle.dc_engine.specs.Held.{IsLeft, Standing}
 use Rattle.dc_engine.specs.declared.status.Status.{Status}
 use Rattle.dc_engine.specs.declared.status.Status.TheVariants as status
@@ -72,16 +72,16 @@ module _ (W V P Q A B : List (List ℕ) → List ℕ → Type 0) (X Y : Type 0) 
   outcome_by status.NoDisk source sink g h = (before_by most_bytes A B b source.before source.after sink.before sink.after block_bytes h.0, x h.1)
 
 -- where no cluster stands, its run has made none
-bare_answered : {D : Type 0} (state : D → DiskState) (lines : List (List ℕ)) (bytes : List ℕ) → BareReplies (ReachedBy state) (λ q. q.cluster ≡ None) lines bytes → AnsweredBare lines bytes
-bare_answered {D} state lines bytes r =
+before_answered : {D : Type 0} (state : D → DiskState) (lines : List (List ℕ)) (bytes : List ℕ) → RepliesBefore (ReachedBy state) (λ q. q.cluster ≡ None) lines bytes → AnsweredBefore lines bytes
+before_answered {D} state lines bytes r =
     let left : IsLeft state None r.1.0.reached.run = subst (λ (c : Standing D). IsLeft state c r.1.0.reached.run) r.1.1 r.1.0.reached.left in
     record { answered = reached_answered state r.0.cluster lines bytes r.1.0.reached; lacks = left.lacks }
 
 -- what a player answered is what the program promises, once its disks are given back
 pub outcome_lawful : {D : Type 0} (state : D → DiskState) (p : PlayerState D) (start mid end : Maker D) (s : Status) (source sink : Change) → (ends_whole s ≡ true → IsKept start mid) → ReturnsAll p.cluster mid end
-    → Outcome (ReachedBy state p) (Replies (ReachedBy state)) (BareReplies (ReachedBy state) (λ q. q.cluster ≡ None)) (Rose start.faults mid.faults) s source sink → PlayOutcome state start end s source sink
-outcome_lawful state p start mid end s source sink kept back = outcome_by (ReachedBy state p) (AnsweredWhole state start end) (Replies (ReachedBy state)) Answered (BareReplies (ReachedBy state) (λ q. q.cluster ≡ None)) AnsweredBare (Rose start.faults mid.faults) (Rose start.faults end.faults)
+    → Outcome (ReachedBy state p) (Replies (ReachedBy state)) (RepliesBefore (ReachedBy state) (λ q. q.cluster ≡ None)) (Rose start.faults mid.faults) s source sink → PlayOutcome state start end s source sink
+outcome_lawful state p start mid end s source sink kept back = outcome_by (ReachedBy state p) (AnsweredWhole state start end) (Replies (ReachedBy state)) Answered (RepliesBefore (ReachedBy state) (λ q. q.cluster ≡ None)) AnsweredBefore (Rose start.faults mid.faults) (Rose start.faults end.faults)
     (λ lines bytes r. reached_answered state r.0.cluster lines bytes r.1.reached)
-    (bare_answered state)
+    (before_answered state)
     (λ rose. let same = back.back.faults in omega (arith, same, rose))
     s source sink (λ e lines bytes r. reached_whole state p.cluster start mid end (kept e) back lines bytes r.reached)

@@ -5,7 +5,7 @@ use Rattle.std.proofs.lemmas.List.{append-nil, length-take-le}
 use Rattle.std.specs.Io.KnownBytes.{Appends, Consumes, Keeps, IsAtEnd}
 use Rattle.dc_engine.specs.Lines.{lines_of, ended_lines}
 use Rattle.dc_engine.specs.Reading.{has_bad, makes_cluster, asks_cluster, asked_of}
-use Rattle.dc_engine.specs.Replies.{Replies, BareReplies}
+use Rattle.dc_engine.specs.Replies.{Replies, RepliesBefore}
 use Rattle.dc_engine.specs.Outcome.{And}
 use Rattle.dc_engine.specs.declared.fault.Fault.{Fault}
 use Rattle.dc_engine.specs.declared.fault.Fault.TheVariants as fault
@@ -180,9 +180,9 @@ module _ {M : Type 0} (most : ℕ) (reached : M → List (List ℕ) → List ℕ
         to_sink = appends_more before mid after p.written (take w.to_sink.0 w.reply) (p.written ++ take w.to_sink.0 w.reply) p.to_sink w.to_sink.1 refl;
       }
 
-module _ {M : Type 0} (most : ℕ) (reached : M → List (List ℕ) → List ℕ → Type 0) (bare : M → Type 0) where
+module _ {M : Type 0} (most : ℕ) (reached : M → List (List ℕ) → List ℕ → Type 0) (lacks : M → Type 0) where
   pub before_block : (size : ℕ) (m : M) (input left rest before mid after : Option (List ℕ)) (kept piece : List ℕ) (room : ℕ) →
-      length piece ≤ size → length piece ≤ room → Progress most reached m input left before mid kept room → Consumes left rest piece → WritesBefore reached bare m piece kept mid after → PlayedBefore size most (BareReplies reached bare) input rest before after
+      length piece ≤ size → length piece ≤ room → Progress most reached m input left before mid kept room → Consumes left rest piece → WritesBefore reached lacks m piece kept mid after → PlayedBefore size most (RepliesBefore reached lacks) input rest before after
   before_block size m input left rest before mid after kept piece room within fits p c w =
       let at = w.moved p.read p.written p.at in
       let line = at.pending ++ w.piece in
@@ -205,12 +205,12 @@ module _ {M : Type 0} (most : ℕ) (reached : M → List (List ℕ) → List ℕ
         are_read = ((front []).0, ap lines_of (sym (append-nil (p.read ++ piece))) ∙ (front []).1);
         are_first = first_of_input input rest (p.read ++ piece) (at.lines ++ line ∷ []) front all;
         making = making_whole w.new_kept at.pending w.piece at.is_kept w.making;
-        replied = (w.new, (at.replied, w.is_bare));
+        replied = (w.new, (at.replied, w.lacks_cluster));
         to_sink = appends_more before mid after p.written w.reply (p.written ++ w.reply) p.to_sink w.to_sink refl;
       }
 
   pub before_end : (size : ℕ) (m : M) (input left rest before mid after : Option (List ℕ)) (kept : List ℕ) (room : ℕ) →
-      Progress most reached m input left before mid kept room → Consumes left rest [] → IsAtEnd rest → EndsBefore bare m kept mid after → PlayedBefore size most (BareReplies reached bare) input rest before after
+      Progress most reached m input left before mid kept room → Consumes left rest [] → IsAtEnd rest → EndsBefore lacks m kept mid after → PlayedBefore size most (RepliesBefore reached lacks) input rest before after
   before_end size m input left rest before mid after kept room p c e w =
       let at = p.at in
       let some : at.pending ≢ [] = λ h. w.some (at.is_kept ∙ ap (take 4098) h) in
@@ -229,14 +229,14 @@ module _ {M : Type 0} (most : ℕ) (reached : M → List (List ℕ) → List ℕ
         are_read = ([], ap lines_of (append-nil p.read) ∙ last);
         are_first = first_at_end input rest p.read (at.lines ++ at.pending ∷ []) [] last (subst (Consumes input rest) (append-nil p.read) all) e;
         making = making_last kept at.pending at.is_kept w.making;
-        replied = (m, (at.replied, w.is_bare));
+        replied = (m, (at.replied, w.lacks_cluster));
         to_sink = subst (λ s. Appends before after s) (append-nil p.written) (appends_more before mid after p.written [] (p.written ++ []) p.to_sink w.same refl);
       }
 
-  pub stopped_read : (size : ℕ) (e : Fault) (input left before after : Option (List ℕ)) → e ≡ fault.Read → PlayedEnded most (Replies reached) input left before after → Stopped size most reached bare input left before after e
-  stopped_read size e input left before after h p = subst (Stopped size most reached bare input left before after) (sym h) p
+  pub stopped_read : (size : ℕ) (e : Fault) (input left before after : Option (List ℕ)) → e ≡ fault.Read → PlayedEnded most (Replies reached) input left before after → Stopped size most reached lacks input left before after e
+  stopped_read size e input left before after h p = subst (Stopped size most reached lacks input left before after) (sym h) p
 
-  pub stopped_part : (size : ℕ) (e : Fault) (input left before after : Option (List ℕ)) → (e ≢ fault.Read) × (e ≢ fault.TooLong) → PlayedPart size most (Replies reached) input left before after → (e ≡ fault.NoDisk → PlayedBefore size most (BareReplies reached bare) input left before after) → Stopped size most reached bare input left before after e
+  pub stopped_part : (size : ℕ) (e : Fault) (input left before after : Option (List ℕ)) → (e ≢ fault.Read) × (e ≢ fault.TooLong) → PlayedPart size most (Replies reached) input left before after → (e ≡ fault.NoDisk → PlayedBefore size most (RepliesBefore reached lacks) input left before after) → Stopped size most reached lacks input left before after e
   stopped_part size fault.Read input left before after h p b = absurd (h.0 refl)
   stopped_part size fault.Write input left before after h p b = p
   stopped_part size fault.NoMemory input left before after h p b = p
@@ -245,20 +245,20 @@ module _ {M : Type 0} (most : ℕ) (reached : M → List (List ℕ) → List ℕ
 
   pub goes_on : (size : ℕ) (m new : M) (input left rest before mid after : Option (List ℕ)) (kept new_kept block : List ℕ) (room count : ℕ) →
       Progress most reached m input left before mid kept room → Consumes left rest (take count block) → count ≤ length block → count ≤ room → (count ≡ 0 → ⊥) → Writes reached m new (take count block) kept new_kept mid after →
-      GoesOn size most reached bare new input rest before after new_kept room (Ok count)
+      GoesOn size most reached lacks new input rest before after new_kept room (Ok count)
   goes_on size m new input left rest before mid after kept new_kept block room zero p c l r n w = absurd (n refl)
   goes_on size m new input left rest before mid after kept new_kept block room (suc count) p c l r n w =
       (r, progress_more most reached m new input left rest before mid after kept new_kept (take (suc count) block) room (suc count) p c (length-take-le (suc count) block l) r w)
 
-  pub room_for : (size : ℕ) (m : M) (input left before after : Option (List ℕ)) (kept : List ℕ) (room count : ℕ) → GoesOn size most reached bare m input left before after kept room (Ok count) → count ≤ room
+  pub room_for : (size : ℕ) (m : M) (input left before after : Option (List ℕ)) (kept : List ℕ) (room count : ℕ) → GoesOn size most reached lacks m input left before after kept room (Ok count) → count ≤ room
   room_for size m input left before after kept room zero h = omega arith
   room_for size m input left before after kept room (suc count) h = h.0
 
-  pub goes_on_end : (size : ℕ) (m : M) (input left before after : Option (List ℕ)) (kept : List ℕ) (room count : ℕ) → GoesOn size most reached bare m input left before after kept room (Ok count) → count ≡ 0 → Played most (reached m) input left before after
+  pub goes_on_end : (size : ℕ) (m : M) (input left before after : Option (List ℕ)) (kept : List ℕ) (room count : ℕ) → GoesOn size most reached lacks m input left before after kept room (Ok count) → count ≡ 0 → Played most (reached m) input left before after
   goes_on_end size m input left before after kept room zero h e = h
   goes_on_end size m input left before after kept room (suc count) h e = absurd (omega arith)
 
-  pub goes_on_more : (size : ℕ) (m : M) (input left before after : Option (List ℕ)) (kept : List ℕ) (room count : ℕ) → GoesOn size most reached bare m input left before after kept room (Ok count) → (count ≡ 0 → ⊥) → Progress most reached m input left before after kept (room - count)
+  pub goes_on_more : (size : ℕ) (m : M) (input left before after : Option (List ℕ)) (kept : List ℕ) (room count : ℕ) → GoesOn size most reached lacks m input left before after kept room (Ok count) → (count ≡ 0 → ⊥) → Progress most reached m input left before after kept (room - count)
   goes_on_more size m input left before after kept room zero h e = absurd (e refl)
   goes_on_more size m input left before after kept room (suc count) h e = h.1
 

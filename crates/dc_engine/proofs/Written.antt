@@ -55,9 +55,9 @@ pub writes_front : {M : Type 0} (reached : M → List (List ℕ) → List ℕ �
 writes_front reached old new fresh kept new_kept out new_out before after m e a =
     writes_some reached old fresh kept out new_out before after (record { new = new; done = fresh; later = []; new_kept = new_kept; split = sym (append-nil fresh); moves = m }) e a
 
-pub writes_before : {M : Type 0} (reached : M → List (List ℕ) → List ℕ → Type 0) (bare : M → Type 0) (old : M) (fresh kept out new_out : List ℕ) (before after : Option (List ℕ)) →
-    MovesBefore reached bare old fresh kept out new_out → out ≡ [] → Appends before after new_out → WritesBefore reached bare old fresh kept before after
-writes_before reached bare old fresh kept out new_out before after m e a = record {
+pub writes_before : {M : Type 0} (reached : M → List (List ℕ) → List ℕ → Type 0) (lacks : M → Type 0) (old : M) (fresh kept out new_out : List ℕ) (before after : Option (List ℕ)) →
+    MovesBefore reached lacks old fresh kept out new_out → out ≡ [] → Appends before after new_out → WritesBefore reached lacks old fresh kept before after
+writes_before reached lacks old fresh kept out new_out before after m e a = record {
   new = m.new;
   done = m.done;
   piece = m.piece;
@@ -69,7 +69,7 @@ writes_before reached bare old fresh kept out new_out before after m e a = recor
   reply = m.moves.reply;
   to_sink = subst (Appends before after) (sym (replies_of out new_out m.moves.reply m.moves.appended e)) a;
   moved = m.moves.moved;
-  is_bare = m.is_bare;
+  lacks_cluster = m.lacks_cluster;
 }
 
 none_pending : (kept pending : List ℕ) → (length kept == 0) ≡ true → kept ≡ take 4098 pending → pending ≡ []
@@ -134,8 +134,8 @@ ends_before reached m kept before = record {
       };
 }
 
-pub ends_with : {M : Type 0} (bare : M → Type 0) (old : M) (kept : List ℕ) (before : Option (List ℕ)) → (length kept == 0) ≡ false → makes_cluster kept ≡ true → bare old → EndsBefore bare old kept before before
-ends_with bare old kept before h m b = record { some = λ e. eqb-false (length kept) 0 h (ap length e); making = m; same = written_none before; is_bare = b }
+pub ends_with : {M : Type 0} (lacks : M → Type 0) (old : M) (kept : List ℕ) (before : Option (List ℕ)) → (length kept == 0) ≡ false → makes_cluster kept ≡ true → lacks old → EndsBefore lacks old kept before before
+ends_with lacks old kept before h m b = record { some = λ e. eqb-false (length kept) 0 h (ap length e); making = m; same = written_none before; lacks_cluster = b }
 
 pub on_err : {T X : Type 0} (r : Result T X) (P : Type 0) → P → OnErr r P
 on_err (Ok x) P p = tt

@@ -21,7 +21,7 @@ pub record Answered (lines : List (List ℕ)) (bytes : List ℕ) : Type 0 where
   pub written : bytes ≡ lines_of spelled run
 
 -- and no cluster stands then
-pub record AnsweredBare (lines : List (List ℕ)) (bytes : List ℕ) : Type 0 where
+pub record AnsweredBefore (lines : List (List ℕ)) (bytes : List ℕ) : Type 0 where
   pub answered : Answered lines bytes
   pub lacks : has_cluster answered.run ≡ false
 

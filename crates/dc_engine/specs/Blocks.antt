@@ -2,7 +2,7 @@
 use Rattle.std.specs.Prelude.{◌≡◌, ◌≢◌, ℕ, zero, suc, ◌+◌, ◌-◌, ◌<◌, ◌≤◌, Result, Ok, Err, Bool, true, false, List, [], ◌∷◌, ◌++◌, length, take, drop, Option}
 use Rattle.std.specs.Io.KnownBytes.{Appends, Consumes, IsAtEnd}
 use Rattle.script_text.specs.Ends.{HasNoEnd}
-use Rattle.dc_engine.specs.Replies.{Replies, BareReplies}
+use Rattle.dc_engine.specs.Replies.{Replies, RepliesBefore}
 use Rattle.dc_engine.specs.Played.{Played, PlayedEnded, PlayedTooLong, PlayedPart, PlayedBefore}
 use Rattle.dc_engine.specs.Reading.{makes_cluster}
 use Rattle.dc_engine.specs.declared.fault.Fault.{Fault}
@@ -54,7 +54,7 @@ pub record MovesPart {M : Type 0} (reached : M → List (List ℕ) → List ℕ 
   pub moves : Moves reached old new done old_kept new_kept old_out new_out
 
 -- all fresh bytes before a line that makes a cluster do, where none stands, and a LF ends that line
-pub record MovesBefore {M : Type 0} (reached : M → List (List ℕ) → List ℕ → Type 0) (bare : M → Type 0) (old : M) (fresh old_kept old_out new_out : List ℕ) : Type 0 where
+pub record MovesBefore {M : Type 0} (reached : M → List (List ℕ) → List ℕ → Type 0) (lacks : M → Type 0) (old : M) (fresh old_kept old_out new_out : List ℕ) : Type 0 where
   pub new : M
   pub done : List ℕ
   pub piece : List ℕ
@@ -64,7 +64,7 @@ pub record MovesBefore {M : Type 0} (reached : M → List (List ℕ) → List �
   pub no_end : HasNoEnd piece
   pub making : makes_cluster (take 4098 (new_kept ++ piece)) ≡ true
   pub moves : Moves reached old new done old_kept new_kept old_out new_out
-  pub is_bare : bare new
+  pub lacks_cluster : lacks new
 
 -- a front of the bytes was written
 abbrev pub AppendsPart : Option (List ℕ) → Option (List ℕ) → List ℕ → Type 0
@@ -88,7 +88,7 @@ pub record WritesPart {M : Type 0} (reached : M → List (List ℕ) → List ℕ
   pub moved : (read bytes : List ℕ) → At reached old read old_kept bytes → At reached new (read ++ done) new_kept (bytes ++ reply)
 
 -- all fresh bytes before a line that makes a cluster do, where none stands, and the replies were written
-pub record WritesBefore {M : Type 0} (reached : M → List (List ℕ) → List ℕ → Type 0) (bare : M → Type 0) (old : M) (fresh old_kept : List ℕ) (before after : Option (List ℕ)) : Type 0 where
+pub record WritesBefore {M : Type 0} (reached : M → List (List ℕ) → List ℕ → Type 0) (lacks : M → Type 0) (old : M) (fresh old_kept : List ℕ) (before after : Option (List ℕ)) : Type 0 where
   pub new : M
   pub done : List ℕ
   pub piece : List ℕ
@@ -100,7 +100,7 @@ pub record WritesBefore {M : Type 0} (reached : M → List (List ℕ) → List �
   pub reply : List ℕ
   pub to_sink : Appends before after reply
   pub moved : (read bytes : List ℕ) → At reached old read old_kept bytes → At reached new (read ++ done) new_kept (bytes ++ reply)
-  pub is_bare : bare new
+  pub lacks_cluster : lacks new
 
 -- at the end of the input all lines are answered, and the last reply was written
 pub record Ends {M : Type 0} (reached : M → List (List ℕ) → List ℕ → Type 0) (old new : M) (kept : List ℕ) (before after : Option (List ℕ)) : Type 0 where
@@ -123,11 +123,11 @@ pub record EndsPart {M : Type 0} (reached : M → List (List ℕ) → List ℕ �
   pub moved : (read bytes : List ℕ) → At reached old read kept bytes → AnswersFirst reached new read (bytes ++ reply)
 
 -- at the end of the input all lines were answered but the last, which makes a cluster where none stands
-pub record EndsBefore {M : Type 0} (bare : M → Type 0) (old : M) (kept : List ℕ) (before after : Option (List ℕ)) : Type 0 where
+pub record EndsBefore {M : Type 0} (lacks : M → Type 0) (old : M) (kept : List ℕ) (before after : Option (List ℕ)) : Type 0 where
   pub some : kept ≢ []
   pub making : makes_cluster kept ≡ true
   pub same : Appends before after []
-  pub is_bare : bare old
+  pub lacks_cluster : lacks old
 
 -- one byte more was taken, or the end was met
 abbrev pub TakesOne : Option (List ℕ) → Option (List ℕ) → Bool → Type 0
@@ -145,19 +145,19 @@ pub record Progress {M : Type 0} (most : ℕ) (reached : M → List (List ℕ) �
 
 -- how a script that is read by blocks of at most `size` bytes is left at a fault
 abbrev pub Stopped : {M : Type 0} → ℕ → ℕ → (M → List (List ℕ) → List ℕ → Type 0) → (M → Type 0) → Option (List ℕ) → Option (List ℕ) → Option (List ℕ) → Option (List ℕ) → Fault → Type 0
-Stopped size most reached bare input left before after fault.Read = PlayedEnded most (Replies reached) input left before after
-Stopped size most reached bare input left before after fault.TooLong = PlayedTooLong most (Replies reached) input left before after
-Stopped size most reached bare input left before after fault.Write = PlayedPart size most (Replies reached) input left before after
-Stopped size most reached bare input left before after fault.NoMemory = PlayedPart size most (Replies reached) input left before after
-Stopped size most reached bare input left before after fault.NoDisk = PlayedBefore size most (BareReplies reached bare) input left before after
+Stopped size most reached lacks input left before after fault.Read = PlayedEnded most (Replies reached) input left before after
+Stopped size most reached lacks input left before after fault.TooLong = PlayedTooLong most (Replies reached) input left before after
+Stopped size most reached lacks input left before after fault.Write = PlayedPart size most (Replies reached) input left before after
+Stopped size most reached lacks input left before after fault.NoMemory = PlayedPart size most (Replies reached) input left before after
+Stopped size most reached lacks input left before after fault.NoDisk = PlayedBefore size most (RepliesBefore reached lacks) input left before after
 
 -- a script is played to its end, where m has answered it, or left at a fault
 abbrev pub Finished : {M T : Type 0} → ℕ → ℕ → (M → List (List ℕ) → List ℕ → Type 0) → (M → Type 0) → M → Option (List ℕ) → Option (List ℕ) → Option (List ℕ) → Option (List ℕ) → Result T Fault → Type 0
-Finished size most reached bare m input left before after (Ok done) = Played most (reached m) input left before after
-Finished size most reached bare m input left before after (Err e) = Stopped size most reached bare input left before after e
+Finished size most reached lacks m input left before after (Ok done) = Played most (reached m) input left before after
+Finished size most reached lacks m input left before after (Err e) = Stopped size most reached lacks input left before after e
 
 -- the script goes on by a block of so many bytes, or is played to its end where there are none, or is left at a fault
 abbrev pub GoesOn : {M : Type 0} → ℕ → ℕ → (M → List (List ℕ) → List ℕ → Type 0) → (M → Type 0) → M → Option (List ℕ) → Option (List ℕ) → Option (List ℕ) → Option (List ℕ) → List ℕ → ℕ → Result ℕ Fault → Type 0
-GoesOn size most reached bare m input left before after kept room (Ok zero) = Played most (reached m) input left before after
-GoesOn size most reached bare m input left before after kept room (Ok (suc n)) = (suc n ≤ room) × Progress most reached m input left before after kept (room - suc n)
-GoesOn size most reached bare m input left before after kept room (Err e) = Stopped size most reached bare input left before after e
+GoesOn size most reached lacks m input left before after kept room (Ok zero) = Played most (reached m) input left before after
+GoesOn size most reached lacks m input left before after kept room (Ok (suc n)) = (suc n ≤ room) × Progress most reached m input left before after kept (room - suc n)
+GoesOn size most reached lacks m input left before after kept room (Err e) = Stopped size most reached lacks input left before after e

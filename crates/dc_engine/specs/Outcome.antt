@@ -3,7 +3,7 @@ use Rattle.std.specs.Prelude.{◌≡◌, ℕ, Bool, true, false, List, Option}
 use Rattle.dc_engine.specs.Causes.{Rose}
 use Rattle.disk_core.specs.States.{DiskState}
 use Rattle.disk_makers.specs.Makers.{Maker}
-use Rattle.dc_engine.specs.Answered.{Answered, AnsweredWhole, AnsweredBare}
+use Rattle.dc_engine.specs.Answered.{Answered, AnsweredWhole, AnsweredBefore}
 use Rattle.dc_engine.specs.Played.{Played, PlayedEnded, PlayedTooLong, PlayedPart, PlayedBefore}
 use Rattle.dc_engine.specs.Reading.{has_bad}
 use Rattle.dc_engine.specs.declared.status.Status.{Status}
@@ -33,7 +33,7 @@ HasFailed c = Rose c.faults c.faults_after
 abbrev pub And : (List (List ℕ) → List ℕ → Type 0) → Bool → List (List ℕ) → List ℕ → Type 0
 And replies bad lines bytes = replies lines bytes × (has_bad lines ≡ bad)
 
-module _ (whole replies bare : List (List ℕ) → List ℕ → Type 0) (no_disk : Type 0) where
+module _ (whole replies earlier : List (List ℕ) → List ℕ → Type 0) (no_disk : Type 0) where
   -- all replies where the script was read to its end, those to the lines whose LF was read where the source fails or the script is
   -- too long, those to all lines before a cluster whose disk couldn't be made, where none stood yet, and else a front of the next
   -- ones; a source, a sink or a maker is called faulty only where it failed
@@ -45,8 +45,8 @@ module _ (whole replies bare : List (List ℕ) → List ℕ → Type 0) (no_disk
   Outcome status.WriteFault source sink = PlayedPart block_bytes most_bytes replies source.before source.after sink.before sink.after × HasFailed sink
   Outcome status.NoMemory source sink = PlayedPart block_bytes most_bytes replies source.before source.after sink.before sink.after
   Outcome status.TooLong source sink = PlayedTooLong most_bytes replies source.before source.after sink.before sink.after
-  Outcome status.NoDisk source sink = PlayedBefore block_bytes most_bytes bare source.before source.after sink.before sink.after × no_disk
+  Outcome status.NoDisk source sink = PlayedBefore block_bytes most_bytes earlier source.before source.after sink.before sink.after × no_disk
 
 -- with the maker of the disks before and after
 abbrev pub PlayOutcome : {D : Type 0} → (D → DiskState) → Maker D → Maker D → Status → Change → Change → Type 0
-PlayOutcome state old new = Outcome (AnsweredWhole state old new) Answered AnsweredBare (Rose old.faults new.faults)
+PlayOutcome state old new = Outcome (AnsweredWhole state old new) Answered AnsweredBefore (Rose old.faults new.faults)

@@ -7,8 +7,8 @@ abbrev pub Replies : {M : Type 0} → (M → List (List ℕ) → List ℕ → Ty
 Replies {M} reached lines bytes = (m : M) × reached m lines bytes
 
 -- and no cluster stands there
-abbrev pub BareReplies : {M : Type 0} → (M → List (List ℕ) → List ℕ → Type 0) → (M → Type 0) → List (List ℕ) → List ℕ → Type 0
-BareReplies reached bare = Replies (λ m lines bytes. reached m lines bytes × bare m)
+abbrev pub RepliesBefore : {M : Type 0} → (M → List (List ℕ) → List ℕ → Type 0) → (M → Type 0) → List (List ℕ) → List ℕ → Type 0
+RepliesBefore reached lacks = Replies (λ m lines bytes. reached m lines bytes × lacks m)
 
 -- one more line is answered, of which only the first 4,098 bytes count: the replies to all before are followed by these bytes
 pub record AnswersLine {M : Type 0} (reached : M → List (List ℕ) → List ℕ → Type 0) (old new : M) (kept old_out new_out : List ℕ) : Type 0 where

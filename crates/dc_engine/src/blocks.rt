@@ -93,7 +93,7 @@ fn answer_block<K: Sink, R: Responder>(
     ensures kinds { IfErr result (λ e. (e ≢ Fault.Read) × (e ≢ Fault.TooLong)) }
     ensures ok { OnOk result (Writes R.reached responder.old responder.new block.now kept.old kept.new (K.held sink.old) (K.held sink.new)) }
     ensures err { OnErr result (WritesPart R.reached responder.old block.now kept.old (K.held sink.old) (K.held sink.new)) }
-    ensures before { result ≡ Err Fault.NoDisk → WritesBefore R.reached R.bare responder.old block.now kept.old (K.held sink.old) (K.held sink.new) }
+    ensures before { result ≡ Err Fault.NoDisk → WritesBefore R.reached R.lacks responder.old block.now kept.old (K.held sink.old) (K.held sink.new) }
 {
     out.clear();
     match answer_lines(responder, disks, block, kept, out) {
@@ -131,7 +131,7 @@ fn answer_end<K: Sink, R: Responder>(
     ensures kinds { IfErr result (λ e. (e ≢ Fault.Read) × (e ≢ Fault.TooLong)) }
     ensures ok { OnOk result (Ends R.reached responder.old responder.new kept.now (K.held sink.old) (K.held sink.new)) }
     ensures err { OnErr result (EndsPart R.reached responder.old kept.now (K.held sink.old) (K.held sink.new)) }
-    ensures before { result ≡ Err Fault.NoDisk → EndsBefore R.bare responder.old kept.now (K.held sink.old) (K.held sink.new) }
+    ensures before { result ≡ Err Fault.NoDisk → EndsBefore R.lacks responder.old kept.now (K.held sink.old) (K.held sink.new) }
 {
     if kept.is_empty() {
         return Ok(());
@@ -170,7 +170,7 @@ fn play_block<S: Source, K: Sink, R: Responder>(
     ensures write_later { K.faults sink.old ≤ K.faults sink.new }
     ensures read_cause { result ≡ Err Fault.Read → Rose (S.faults source.old) (S.faults source.new) }
     ensures write_cause { result ≡ Err Fault.Write → Rose (K.faults sink.old) (K.faults sink.new) }
-    ensures goes_on { (size most : ℕ) (input before : Option (List ℕ)) → length block.old ≤ size → Progress most R.reached responder.old input (S.left source.old) before (K.held sink.old) buffers.old.kept room → GoesOn size most R.reached R.bare responder.new input (S.left source.new) before (K.held sink.new) buffers.new.kept room result }
+    ensures goes_on { (size most : ℕ) (input before : Option (List ℕ)) → length block.old ≤ size → Progress most R.reached responder.old input (S.left source.old) before (K.held sink.old) buffers.old.kept room → GoesOn size most R.reached R.lacks responder.new input (S.left source.new) before (K.held sink.new) buffers.new.kept room result }
 {
     let count = match read_block(source, block, room) {
         Ok(count) => count,
@@ -206,7 +206,7 @@ fn play_end<S: Source, K: Sink, R: Responder>(
     ensures write_later { K.faults sink.old ≤ K.faults sink.new }
     ensures read_cause { result ≡ Err Fault.Read → Rose (S.faults source.old) (S.faults source.new) }
     ensures write_cause { result ≡ Err Fault.Write → Rose (K.faults sink.old) (K.faults sink.new) }
-    ensures finished { (size most : ℕ) (input before : Option (List ℕ)) → Progress most R.reached responder.old input (S.left source.old) before (K.held sink.old) buffers.old.kept 0 → Finished size most R.reached R.bare responder.new input (S.left source.new) before (K.held sink.new) result }
+    ensures finished { (size most : ℕ) (input before : Option (List ℕ)) → Progress most R.reached responder.old input (S.left source.old) before (K.held sink.old) buffers.old.kept 0 → Finished size most R.reached R.lacks responder.new input (S.left source.new) before (K.held sink.new) result }
 {
     match has_more(source) {
         Ok(true) => Err(Fault::TooLong),
@@ -234,7 +234,7 @@ pub(crate) fn play_blocks<S: Source, K: Sink, R: Responder>(
     ensures held { R.holds responder.new (R.Maker.state disks.new).out }
     ensures disks_cause { result ≡ Err Fault.NoDisk → Rose (R.Maker.state disks.old).faults (R.Maker.state disks.new).faults }
     ensures same { OnOk result (IsKept (R.Maker.state disks.old) (R.Maker.state disks.new)) }
-    ensures finished { Finished size most R.reached R.bare responder.new (S.left source.old) (S.left source.new) (K.held sink.old) (K.held sink.new) result }
+    ensures finished { Finished size most R.reached R.lacks responder.new (S.left source.old) (S.left source.new) (K.held sink.old) (K.held sink.new) result }
     ensures read_cause { result ≡ Err Fault.Read → Rose (S.faults source.old) (S.faults source.new) }
     ensures write_cause { result ≡ Err Fault.Write → Rose (K.faults sink.old) (K.faults sink.new) }
 {

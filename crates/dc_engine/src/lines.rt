@@ -36,7 +36,7 @@ fn answer_line<R: Responder>(
     ensures cause { result ≡ Err Unanswered.NoDisk → Rose (R.Maker.state disks.old).faults (R.Maker.state disks.new).faults }
     ensures same { OnOk result (IsKept (R.Maker.state disks.old) (R.Maker.state disks.new)) }
     ensures making { result ≡ Err Unanswered.NoDisk → makes_cluster (take 4098 (kept.old ++ piece.now)) ≡ true }
-    ensures bare { result ≡ Err Unanswered.NoDisk → R.bare responder.old }
+    ensures lacks { result ≡ Err Unanswered.NoDisk → R.lacks responder.old }
     ensures ok { OnOk result (AnswersLine R.reached responder.old responder.new (take 4098 (kept.old ++ piece.now)) out.old.items out.new.items) }
     ensures none_kept { OnOk result (kept.new ≡ []) }
     ensures err { OnErr result (out.new.items ≡ out.old.items) }
@@ -64,7 +64,7 @@ pub(crate) fn answer_lines<R: Responder>(
     ensures later { (R.Maker.state disks.old).faults ≤ (R.Maker.state disks.new).faults }
     ensures cause { result ≡ Err Unanswered.NoDisk → Rose (R.Maker.state disks.old).faults (R.Maker.state disks.new).faults }
     ensures same { OnOk result (IsKept (R.Maker.state disks.old) (R.Maker.state disks.new)) }
-    ensures before { result ≡ Err Unanswered.NoDisk → MovesBefore R.reached R.bare responder.old block.now kept.old out.old.items out.new.items }
+    ensures before { result ≡ Err Unanswered.NoDisk → MovesBefore R.reached R.lacks responder.old block.now kept.old out.old.items out.new.items }
     ensures ok { OnOk result (Moves R.reached responder.old responder.new block.now kept.old kept.new out.old.items out.new.items) }
     ensures err { OnErr result (MovesPart R.reached responder.old block.now kept.old out.old.items out.new.items) }
 {

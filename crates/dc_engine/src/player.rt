@@ -76,7 +76,7 @@ impl<M: Disks> Player<M> {
         ensures held { HasOut M.Disk.state (M.state disks.new).out self.new.cluster }
         ensures ok { IfOk result (λ steps. AnswersAsked M.Disk.state self.old (asked_of line.now) steps.items self.new) }
         ensures making { result ≡ Err Unanswered.NoDisk → makes_cluster line.now ≡ true }
-        ensures bare { result ≡ Err Unanswered.NoDisk → self.old.cluster ≡ None }
+        ensures lacks { result ≡ Err Unanswered.NoDisk → self.old.cluster ≡ None }
         ensures later { (M.state disks.old).faults ≤ (M.state disks.new).faults }
         ensures cause { result ≡ Err Unanswered.NoDisk → Rose (M.state disks.old).faults (M.state disks.new).faults }
         ensures same { OnOk result (IsKept (M.state disks.old) (M.state disks.new)) }
@@ -103,7 +103,7 @@ impl<M: Disks> Player<M> {
         ensures ok { OnOk result (AnswersLine (ReachedBy M.Disk.state) self.old self.new line.now out.old.items out.new.items) }
         ensures err { OnErr result (take (length out.old.items) out.new.items ≡ out.old.items) }
         ensures making { result ≡ Err Unanswered.NoDisk → makes_cluster line.now ≡ true }
-        ensures bare { result ≡ Err Unanswered.NoDisk → self.old.cluster ≡ None }
+        ensures lacks { result ≡ Err Unanswered.NoDisk → self.old.cluster ≡ None }
         ensures later { (M.state disks.old).faults ≤ (M.state disks.new).faults }
         ensures cause { result ≡ Err Unanswered.NoDisk → Rose (M.state disks.old).faults (M.state disks.new).faults }
         ensures same { OnOk result (IsKept (M.state disks.old) (M.state disks.new)) }
@@ -125,7 +125,7 @@ impl<M: Disks> Responder for Player<M> {
 
     ghost holds = { λ p out. HasOut M.Disk.state out p.cluster };
 
-    ghost bare = { λ p. p.cluster ≡ None };
+    ghost lacks = { λ p. p.cluster ≡ None };
 
     fn answer(&mut self, disks: &mut M, line: &[u8], out: &mut Vec<u8>) -> Result<(), Unanswered> {
         let end = out.len();
@@ -155,7 +155,7 @@ fn answer_to<M: Disks>(
     ensures held { HasOut M.Disk.state (M.state disks.new).out cluster.new }
     ensures ok { IfOk result (λ steps. AnswersAsked M.Disk.state (record { cluster = cluster.old; met_bad = met_bad.old }) (asked_of line.now) steps.items (record { cluster = cluster.new; met_bad = met_bad.new })) }
     ensures making { result ≡ Err Unanswered.NoDisk → makes_cluster line.now ≡ true }
-    ensures bare { result ≡ Err Unanswered.NoDisk → cluster.old ≡ None }
+    ensures lacks { result ≡ Err Unanswered.NoDisk → cluster.old ≡ None }
     ensures later { (M.state disks.old).faults ≤ (M.state disks.new).faults }
     ensures cause { result ≡ Err Unanswered.NoDisk → Rose (M.state disks.old).faults (M.state disks.new).faults }
     ensures same { OnOk result (IsKept (M.state disks.old) (M.state disks.new)) }
@@ -182,7 +182,7 @@ fn obey<M: Disks>(
     ensures held { HasOut M.Disk.state (M.state disks.new).out cluster.new }
     ensures ok { IfOk result (λ steps. Applies (types (fused_state M.Disk.state)) cluster.old command steps.items cluster.new) }
     ensures making { result ≡ Err Unanswered.NoDisk → is_making command ≡ true }
-    ensures bare { result ≡ Err Unanswered.NoDisk → cluster.old ≡ None }
+    ensures lacks { result ≡ Err Unanswered.NoDisk → cluster.old ≡ None }
     ensures later { (M.state disks.old).faults ≤ (M.state disks.new).faults }
     ensures cause { result ≡ Err Unanswered.NoDisk → Rose (M.state disks.old).faults (M.state disks.new).faults }
     ensures same { OnOk result (IsKept (M.state disks.old) (M.state disks.new)) }

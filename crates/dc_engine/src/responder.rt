@@ -21,8 +21,8 @@ pub(crate) trait Responder {
     /// `holds m out`: where so many disks are out, m may have those that it has.
     ghost holds: { Self → ℕ → Type 0 };
 
-    /// `bare m`: m has no cluster.
-    ghost bare: { Self → Type 0 };
+    /// `lacks m`: m has no cluster.
+    ghost lacks: { Self → Type 0 };
 
     /// Answers one line, by its bytes without its LF, of which at most the first 4,098 are handed in. The reply comes
     /// behind what `out` holds.
@@ -42,7 +42,7 @@ pub(crate) trait Responder {
         ensures ok { OnOk result (AnswersLine reached self.old self.new line.now out.old.items out.new.items) }
         ensures err { OnErr result (out.new.items ≡ out.old.items) }
         ensures making { result ≡ Err Unanswered.NoDisk → makes_cluster line.now ≡ true }
-        ensures bare { result ≡ Err Unanswered.NoDisk → bare self.old }
+        ensures lacks { result ≡ Err Unanswered.NoDisk → lacks self.old }
         ensures later { (Self.Maker.state disks.old).faults ≤ (Self.Maker.state disks.new).faults }
         ensures cause { result ≡ Err Unanswered.NoDisk → Rose (Self.Maker.state disks.old).faults (Self.Maker.state disks.new).faults }
         ensures same { OnOk result (IsKept (Self.Maker.state disks.old) (Self.Maker.state disks.new)) };

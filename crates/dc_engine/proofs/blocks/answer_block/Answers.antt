@@ -24,7 +24,7 @@ returns-in_ok-write_all-in-Err-NoDisk-clause-err g c =
 pub returns-in_ok-write_all-in-Err-NoDisk-clause-before : goal.returns-in_ok-write_all-in-Err-NoDisk-clause-before
 returns-in_ok-write_all-in-Err-NoDisk-clause-before g c =
     let bytes = rw c.deref-in-Err-NoDisk.ensures.value at (rw c.in_ok-write_all-in-Err-NoDisk.was at c.write_all-in-Err-NoDisk.ensures.bytes) in
-    λ e. writes_before g.R.Responder.reached g.R.Responder.bare _ _ _ _ _ _ _ (c.answer_lines.ensures.before (c.in-Err-NoDisk.is ∙ ap Err c.in-Err-NoDisk.field-0-is)) c.clear.ensures.items bytes
+    λ e. writes_before g.R.Responder.reached g.R.Responder.lacks _ _ _ _ _ _ _ (c.answer_lines.ensures.before (c.in-Err-NoDisk.is ∙ ap Err c.in-Err-NoDisk.field-0-is)) c.clear.ensures.items bytes
 
 pub returns-in-Err-NoMemory-clause-err : goal.returns-in-Err-NoMemory-clause-err
 returns-in-Err-NoMemory-clause-err g c =

@@ -20,9 +20,9 @@ pub returns-in-Err-clause-before : goal.returns-in-Err-clause-before
 returns-in-Err-clause-before g c =
     let ends = rw c.in-Some.is at c.line_end.ensures.found in
     let making = rw c.in-Err.is at c.answer_line.ensures.making in
-    let bare = rw c.in-Err.is at c.answer_line.ensures.bare in
+    let lacks = rw c.in-Err.is at c.answer_line.ensures.lacks in
     let kept = rw c.in-Err.is at c.answer_line.ensures.err in
-    λ e. moves_before g.R.Responder.reached g.R.Responder.bare _ _ _ c.loop-end.rest.now _ _ _ _ _ _ c.in-Some.end c.loop-end.invariant.moves ends c.split_at.ensures.front (making e) (bare e) kept
+    λ e. moves_before g.R.Responder.reached g.R.Responder.lacks _ _ _ c.loop-end.rest.now _ _ _ _ _ _ c.in-Some.end c.loop-end.invariant.moves ends c.split_at.ensures.front (making e) (lacks e) kept
 
 pub returns-in-Err-clause-cause : goal.returns-in-Err-clause-cause
 returns-in-Err-clause-cause g c =

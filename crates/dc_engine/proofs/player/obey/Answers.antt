@@ -28,5 +28,5 @@ returns-clause-ok g c =
     subst (λ (k : Command). IfOk c.make_cluster.result (λ steps. Applies (types (fused_state g.M.Disk.Disk.state)) c.args.cluster.now k steps.items c.make_cluster.new.cluster)) (sym c.in-Some.ensures.some)
     (subst (λ (o : Standing g.row.M-Disk.Denot). IfOk c.make_cluster.result (λ steps. Applies (types (fused_state g.M.Disk.Disk.state)) o (command.Cluster c.in-Some.sites c.in-Some.parts) steps.items c.make_cluster.new.cluster)) (sym lacks) c.make_cluster.ensures.ok)
 
-pub returns-clause-bare : goal.returns-clause-bare
-returns-clause-bare g c = λ e. lacks_of g.M.Disk.Disk.state c.args.cluster.now (ap is_some (sym c.parts.ensures.is) ∙ (sym c.is_some.ensures ∙ c.if-is_some.false))
+pub returns-clause-lacks : goal.returns-clause-lacks
+returns-clause-lacks g c = λ e. lacks_of g.M.Disk.Disk.state c.args.cluster.now (ap is_some (sym c.parts.ensures.is) ∙ (sym c.is_some.ensures ∙ c.if-is_some.false))
