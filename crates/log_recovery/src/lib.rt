@@ -14,6 +14,3 @@ mod waiting;
 pub use fitting::unfit;
 pub use laws::law_fitting;
 pub use recovery::{Rebuilt, Recovery, rebuild};
-
-#[cfg(test)]
-mod tests;
