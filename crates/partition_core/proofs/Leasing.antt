@@ -82,9 +82,5 @@ module _ {S E : Type 0} (kinds : Kinds S E) where
     };
   }
 
-  -- with the clock that the code has then
-  pub ticks_by : (t : Tables E) (r n : ℕ) (k : Lent) → r ≤ end_of_time → n ≡ max r t.clock → k ≡ record { clock = n; ceiling = leased t.ceiling n } → Steps kinds t Anything (λ e. e ≡ Ticked r n) (at_time t k.clock k.ceiling)
-  ticks_by t r n k low is e = subst (λ (x : Lent). Steps kinds t Anything (λ e. e ≡ Ticked r n) (at_time t x.clock x.ceiling)) (sym e) (ticks t r n (leased t.ceiling n) low is refl)
-
   pub opened_answer : {A : Type 0} (G : PartState E → Type 0) (asked : Ask E) (Shows : A → Event E → Type 0) (r : Result A answers.Refusal) (v t new : Tables E) → v ≡ t → Answered kinds v G asked Shows r new → Answered kinds t G asked Shows r new
   opened_answer G asked Shows r v t new e h = subst (λ x. Answered kinds x G asked Shows r new) e h

@@ -13,26 +13,13 @@ use crdt_core::Crdt;
 use site_vector::{TxId, VTime};
 
 impl<C: Crdt> Partition<C> {
-    /// Begins a transaction, of a session that depends on these times: its id, and its snapshot. Takes no memory.
+    /// What a begin would answer now, of a session that depends on these times: the id of the transaction, and its
+    /// snapshot.
     ///
     /// # Errors
     ///
     /// `StableBehind` where of some other site less is stable here than the session depends on, with the first such
     /// site and what is stable of it; else `ClockAtEnd` where the clock shows 2^62.
-    pub fn begin(&mut self, dependency: &VTime) -> Result<(TxId, VTime), Refusal>
-        requires { length dependency.now ≡ self.old.sites }
-        ensures { (who : List ℕ) → Answered (kinds_of C.laws) self.old Anything (AskBegin who dependency.now) (λ x e. e ≡ Began who dependency.now x.0 x.1) result self.new }
-    {
-        let (tx, s) = self.next_begin(dependency)?;
-        self.advance(tx.time);
-        Ok((tx, s))
-    }
-
-    /// What a begin would answer now.
-    ///
-    /// # Errors
-    ///
-    /// As `begin`.
     pub(crate) fn next_begin(&self, dependency: &VTime) -> Result<(TxId, VTime), Refusal>
         requires { length dependency.now ≡ self.now.sites }
         ensures answers { (who : List ℕ) → Answered (kinds_of C.laws) self.now Anything (AskBegin who dependency.now) (λ x e. e ≡ Began who dependency.now x.0 x.1) result (begun self.now result) }

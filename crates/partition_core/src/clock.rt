@@ -1,9 +1,6 @@
-ghost use Rattle.std.specs.Prelude.{◌≡◌, ◌≤◌, ◌<◌, ◌+◌};
-ghost use Rattle.crdt_core.specs.KindsOf.{kinds_of};
+ghost use Rattle.std.specs.Prelude.{◌≡◌, ◌≤◌};
 ghost use Rattle.crdt_core.specs.Log.{end_of_time};
-ghost use Rattle.world_model.specs.Event.{Ticked};
 ghost use Rattle.partition_core.specs.Leases.{leased, showing, wanted};
-ghost use Rattle.partition_core.specs.Steps.{Anything, Steps};
 
 use crate::Partition;
 use crdt_core::Crdt;
@@ -13,16 +10,6 @@ use prepared_table::Leased;
 pub(crate) const END_OF_TIME: u64 = 1 << 62;
 
 impl<C: Crdt> Partition<C> {
-    /// The clock reads a time, at most 2^62, and shows it unless it shows a later one. Answers what it shows.
-    pub fn tick(&mut self, reading: u64) -> u64
-        requires { reading ≤ end_of_time }
-        ensures { Steps (kinds_of C.laws) self.old Anything (λ e. e ≡ Ticked reading result) self.new }
-    {
-        let time = reading.max(self.clock.now());
-        show(&mut self.clock, time);
-        time
-    }
-
     /// The ceiling of the lease that the clock needs before it shows a time, at most 2^62, if it needs one.
     pub(crate) fn lease_before(&self, time: u64) -> Option<u64>
         requires { time ≤ end_of_time }
@@ -49,17 +36,6 @@ pub(crate) fn show(clock: &mut Leased, time: u64)
 {
     lease(clock, time);
     clock.tick(time);
-}
-
-/// The next time, which the clock shows from then on, under a lease where that is above its ceiling.
-pub(crate) fn draw(clock: &mut Leased) -> u64
-    requires { clock.old.clock < end_of_time }
-    ensures next { result ≡ clock.old.clock + 1 }
-    ensures shown { clock.new ≡ record { clock = result; ceiling = leased clock.old.ceiling result } }
-{
-    let time = clock.now() + 1;
-    lease(clock, time);
-    clock.draw()
 }
 
 /// Takes the lease that the clock needs before it shows a time.

@@ -1,72 +1,22 @@
-ghost use Rattle.std.specs.Prelude.{◌≡◌, ◌≤◌, ◌<◌, ◌+◌, Bool, true, false, length, IfOk, MatchOption};
+ghost use Rattle.std.specs.Prelude.{◌≡◌, ◌≤◌, ◌+◌, Bool, true, false, length, IfOk, MatchOption};
 ghost use Rattle.crdt_core.specs.KindsOf.{kinds_of};
 ghost use Rattle.prepared_table.specs.Entries.{has_entry, IsTakenOut};
-ghost use Rattle.world_model.specs.Event.{AskPrepare, AskDecide, AskFinish, AskAbort, Decided, Finished, Aborted};
-ghost use Rattle.world_model.specs.Event as event;
+ghost use Rattle.world_model.specs.Event.{AskDecide, AskFinish, AskAbort, Decided, Finished, Aborted};
 ghost use Rattle.world_model.specs.Partition.{PartState, fate_of};
-ghost use Rattle.partition_core.specs.Answers.{Answered, Called, fate_told};
+ghost use Rattle.partition_core.specs.Answers.{Answered, fate_told};
 ghost use Rattle.partition_core.specs.Committed.{Commits};
 ghost use Rattle.partition_core.specs.Sound.{HasRoom, updates_pending};
 ghost use Rattle.partition_core.specs.Stands.{Stands};
-ghost use Rattle.partition_core.specs.Steps.{Anything, NamesNowhere};
-ghost use Rattle.partition_core.specs.Tables.{knows};
+ghost use Rattle.partition_core.specs.Steps.{Anything};
 
-use crate::clock::{END_OF_TIME, draw};
-use crate::{CallError, Fate, Partition, Refusal};
-use crdt_core::{Crdt, Part, Upd, copy_updates};
+use crate::{Fate, Partition, Refusal};
+use crdt_core::{Crdt, Part};
 use effect_store::Store;
 use prepared_table::{Entry, Prepared};
 use site_vector::{TxId, VTime};
-use std::alloc::{AllocError, Global};
+use std::alloc::AllocError;
 
 impl<C: Crdt> Partition<C> {
-    /// Votes for a transaction of this site, with its snapshot, the number of its lead, and what it changes here, in
-    /// the order of its updates' numbers: the prepare time. Takes all the memory that its commit will need. It is none
-    /// that the partition knows (`knows`).
-    ///
-    /// # Errors
-    ///
-    /// `ClockBehind` where the clock hasn't reached the snapshot, with what it shows; else `ClockAtEnd` where it shows
-    /// 2^62; else `NoMemory` where memory runs out.
-    pub fn prepare(
-        &mut self,
-        alloc: Global,
-        tx: TxId,
-        s: &VTime,
-        lead: u8,
-        updates: &[Upd<C::Effect>],
-    ) -> Result<u64, CallError>
-        requires place { tx.site ≡ self.old.id.site }
-        requires width { length s.now ≡ self.old.sites }
-        requires unknown { knows self.old tx ≡ false }
-        ensures { Called (kinds_of C.laws) self.old (NamesNowhere tx) (AskPrepare tx s.now lead updates.now) (λ n e. e ≡ event.Prepared tx s.now lead updates.now n) result self.new }
-    {
-        let at = self.clock.now();
-        if at < s.get(self.id.site) {
-            return Err(CallError::Refused(Refusal::ClockBehind { at }));
-        }
-        if at == END_OF_TIME {
-            return Err(CallError::Refused(Refusal::ClockAtEnd));
-        }
-        let promised = promise(
-            &mut self.prepared,
-            &mut self.store,
-            self.promised,
-            updates.len(),
-        )?;
-        let updates = copy_updates::<C>(alloc, updates)?;
-        let time = draw(&mut self.clock);
-        self.prepared.add(Entry {
-            tx,
-            lead,
-            time,
-            s: *s,
-            updates,
-        });
-        self.promised = promised;
-        Ok(time)
-    }
-
     /// The commit point of a transaction of this site, of which this partition is the lead, with its commit vector.
     /// Done already where it is committed here. Takes no memory.
     ///

@@ -86,9 +86,9 @@ impl From<AppendError> for DurableError {
 /// A partition with its log on a disk. It keeps in memory what the log tells (`Partition`), and each record that a call
 /// adds is durable before the call answers.
 ///
-/// Contracts say of each call, as those of `Partition` do, that whatever state of a partition it stood for (`StandsOn`)
-/// took a step of the world's step relation, which the answer shows; and that at each moment of the call every crash
-/// leaves on the disk what a restart may find after it (`StepsOn`).
+/// Contracts say of each call that whatever state of a partition it stood for (`StandsOn`) took a step of the world's
+/// step relation, which the answer shows; and that at each moment of the call every crash leaves on the disk what a
+/// restart may find after it (`StepsOn`).
 #[derive(Drop)]
 pub struct DurablePartition<C: Crdt, D: Disk + Drop> {
     pub(crate) tables: Partition<C>,

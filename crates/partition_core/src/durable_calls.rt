@@ -54,7 +54,9 @@ impl<C: Crdt, D: Disk + Drop> DurablePartition<C, D> {
     ///
     /// # Errors
     ///
-    /// As `Partition::begin`; `Down`, `Full`, `Disk` as `DurableError` says: at most a lease is written.
+    /// `StableBehind` where of some other site less is stable here than the session depends on, with the first such
+    /// site and what is stable of it; else `ClockAtEnd` where the clock shows 2^62. `Down`, `Full`, `Disk` as
+    /// `DurableError` says: at most a lease is written.
     pub fn begin(&mut self, dependency: &VTime) -> Result<(TxId, VTime), DurableError>
         requires { length dependency.now ≡ self.old.tables.sites }
         ensures { (who : List ℕ) → CallsOn (kinds_of C.laws) (codec_of C.spells) D.state self.old self.new Anything (AskBegin who dependency.now) (λ x e. e ≡ event.Began who dependency.now x.0 x.1) result }
@@ -142,7 +144,8 @@ impl<C: Crdt, D: Disk + Drop> DurablePartition<C, D> {
     ///
     /// # Errors
     ///
-    /// As `Partition::prepare`; `Down`, `Full`, `Disk` as `DurableError` says: a lease is written, where the clock needs
+    /// `ClockBehind` where the clock hasn't reached the snapshot, with what it shows; else `ClockAtEnd` where it shows
+    /// 2^62; else `NoMemory`. `Down`, `Full`, `Disk` as `DurableError` says: a lease is written, where the clock needs
     /// one, and the vote.
     pub fn prepare(
         &mut self,
@@ -172,8 +175,9 @@ impl<C: Crdt, D: Disk + Drop> DurablePartition<C, D> {
     ///
     /// # Errors
     ///
-    /// As `Partition::take`; `Down`, `Full`, `Disk` as `DurableError` says: what the message brings is written, if it
-    /// brings anything.
+    /// `Gap` where the message starts above the bound, with the bound; else `Repeat` where it ends at or below it, with
+    /// the bound; else `NoMemory`. `Down`, `Full`, `Disk` as `DurableError` says: what the message brings is written, if
+    /// it brings anything.
     pub fn take(&mut self, alloc: Global, message: &Message<C::Effect>) -> Result<(), DurableError>
         requires least { 1 ≤ message.now.from }
         requires most { message.now.from ≤ self.old.tables.sites }
@@ -197,7 +201,9 @@ impl<C: Crdt, D: Disk + Drop> DurablePartition<C, D> {
     ///
     /// # Errors
     ///
-    /// As `Partition::read`; `Down` as `DurableError` says.
+    /// `ClockBehind` where the clock hasn't reached the snapshot, with what it shows; else `TxPending` where what is
+    /// pending here changes the object and may belong to the snapshot, with the first such transaction; else `NoMemory`.
+    /// `Down` as `DurableError` says.
     pub fn read(
         &mut self,
         alloc: Global,
@@ -223,7 +229,9 @@ impl<C: Crdt, D: Disk + Drop> DurablePartition<C, D> {
     ///
     /// # Errors
     ///
-    /// As `Partition::update`; `Down` as `DurableError` says.
+    /// `BadOp` where the operation isn't one of the object's kind, or leads deeper than the type reaches; else, where
+    /// the kind's effects depend on the state, `ClockBehind` and `TxPending` as in a read; else `NoMemory`. `Down` as
+    /// `DurableError` says.
     pub fn update(
         &mut self,
         alloc: Global,

@@ -19,5 +19,5 @@ mod told;
 
 pub use answers::{CallError, Fate, Refusal};
 pub use durable::{DurableError, DurablePartition};
-pub use partition::Partition;
+pub(crate) use partition::Partition;
 pub use restart::{RestartError, Restarted};

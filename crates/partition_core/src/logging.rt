@@ -99,7 +99,8 @@ impl<C: Crdt> Partition<C> {
     ///
     /// # Errors
     ///
-    /// As `prepare`, but for memory.
+    /// `ClockBehind` where the clock hasn't reached the snapshot, with what it shows; else `ClockAtEnd` where it shows
+    /// 2^62.
     pub(crate) fn vote_time(&self, s: &VTime) -> Result<u64, Refusal>
         requires width { length s.now ≡ self.now.sites }
         ensures reached { IfOk result (λ n. entry s.now self.now.id.site ≤ self.now.clock) }
@@ -117,7 +118,7 @@ impl<C: Crdt> Partition<C> {
         Ok(at + 1)
     }
 
-    /// Votes for a transaction at a time, once its record is durable.
+    /// Votes for a transaction at a time, once its record is durable. Takes all the memory that its commit will need.
     ///
     /// # Errors
     ///
@@ -172,7 +173,8 @@ impl<C: Crdt> Partition<C> {
     ///
     /// # Errors
     ///
-    /// As `take`, but for memory.
+    /// `Gap` where the message starts above the bound, with the bound; else `Repeat` where it ends at or below it, with
+    /// the bound.
     pub(crate) fn may_take(&self, message: &Message<C::Effect>) -> Result<(), Refusal>
         requires least { 1 ≤ message.now.from }
         requires most { message.now.from ≤ self.now.sites }

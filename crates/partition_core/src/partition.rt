@@ -1,4 +1,4 @@
-ghost use Rattle.std.specs.Prelude.{◌≡◌, ◌≤◌, false};
+ghost use Rattle.std.specs.Prelude.{◌≡◌, ◌≤◌};
 ghost use Rattle.site_vector.specs.Vector.{entry};
 ghost use Rattle.crdt_core.specs.Log.{end_of_time};
 ghost use Rattle.prepared_table.specs.Entries.{first_on, has_entry};
@@ -15,14 +15,14 @@ use stable_gossip::Matrix;
 use std::alloc::Global;
 use std::marker::Model;
 
-/// The partition of a site with the number of its place. Sites and partitions are numbered from 1, and times are in
-/// logical ticks.
+/// What a partition keeps in memory, of the site and with the number of its place. Sites and partitions are numbered
+/// from 1, and times are in logical ticks.
 ///
 /// Contracts see its tables (`Tables`), and say of each call that whatever state of a partition the tables stood for
 /// (`Stands`) took a step of the world's step relation, which the answer shows, and that they stand for the state after
 /// it (`Steps`).
 #[derive(Drop)]
-pub struct Partition<C: Crdt> {
+pub(crate) struct Partition<C: Crdt> {
     pub(crate) id: PartId,
     pub(crate) sites: u8,
     pub(crate) parts: u8,
@@ -134,12 +134,5 @@ impl<C: Crdt> Partition<C> {
         ensures lies { IsPlace result.1 result.2 result.0 × (result.1 ≤ 8) × (result.2 ≤ 16) }
     {
         (self.id, self.sites, self.parts)
-    }
-
-    /// Whether it crashed and was not restarted since. A partition without a disk never is.
-    pub fn is_down(&self) -> bool
-        ensures { result ≡ false }
-    {
-        false
     }
 }

@@ -1,58 +1,23 @@
-ghost use Rattle.std.specs.Prelude.{◌≡◌, ◌≢◌, ◌≤◌, ◌+◌, ◌++◌, ℕ, true, false, length, vec_len, option_to_list, MatchOption, IfOk, IfSome, OnOk, OnErr};
-ghost use Rattle.site_vector.specs.declared.ids.TxId.{TxId};
-ghost use Rattle.site_vector.specs.Vector.{entry};
+ghost use Rattle.std.specs.Prelude.{◌≡◌, ◌≤◌, ◌+◌, ◌++◌, length, vec_len, option_to_list, MatchOption, IfOk, IfSome, OnOk, OnErr};
 ghost use Rattle.crdt_core.specs.KindsOf.{kinds_of};
 ghost use Rattle.crdt_core.specs.Orders.{sorted_by, stream_cmp};
-ghost use Rattle.crdt_core.specs.Parts.{above, lists, parts_between};
-ghost use Rattle.world_model.specs.Event.{AskTake, Sent, Took};
+ghost use Rattle.crdt_core.specs.Parts.{parts_between};
+ghost use Rattle.world_model.specs.Event.{Sent};
 ghost use Rattle.world_model.specs.Partition.{IsOther};
-ghost use Rattle.partition_core.specs.Answers.{Called};
-ghost use Rattle.partition_core.specs.Messages.{AreApart, AreWideParts, CanPut, inserted, start_of, updates_in};
+ghost use Rattle.partition_core.specs.Messages.{CanPut, inserted, start_of, updates_in};
 ghost use Rattle.partition_core.specs.Steps.{Anything, Steps};
 
 use crate::report::own_bound;
-use crate::{CallError, Partition, Refusal};
+use crate::Partition;
 use crdt_core::{Crdt, Message, Part, copy_part};
 use effect_store::Store;
 use field_codec::ListOf;
-use repl_stream::cut_at;
-use site_vector::TxId;
 use std::alloc::{AllocError, Global};
 
 /// After how many parts memory is let go.
 const PARTS_BETWEEN: usize = 4096;
 
 impl<C: Crdt> Partition<C> {
-    /// Takes a message of another site, with what it brings above the bound that the partition has of that site.
-    ///
-    /// # Errors
-    ///
-    /// `Gap` where the message starts above the bound, with the bound; else `Repeat` where it ends at or below it, with
-    /// the bound; else `NoMemory` where memory runs out.
-    pub fn take(&mut self, alloc: Global, message: &Message<C::Effect>) -> Result<(), CallError>
-        requires least { 1 ≤ message.now.from }
-        requires most { message.now.from ≤ self.old.sites }
-        requires wide { AreWideParts self.old.sites message.now.parts }
-        requires apart { AreApart message.now.parts }
-        requires away { (u : TxId) → lists message.now.parts u ≡ true → u.site ≢ self.old.id.site }
-        requires not_held { (u : TxId) → lists (above message.now.from (entry self.old.bounds message.now.from) message.now.parts) u ≡ true → lists self.old.held u ≡ false }
-        ensures { (number : ℕ) → Called (kinds_of C.laws) self.old Anything (AskTake number message.now) (λ n e. e ≡ Took number message.now) result self.new }
-    {
-        let have = self.bounds.get(message.from);
-        if have < message.lo {
-            return Err(CallError::Refused(Refusal::Gap { have }));
-        }
-        if message.hi <= have {
-            return Err(CallError::Refused(Refusal::Repeat { have }));
-        }
-        let news = cut_at::<C>(alloc, message, have)?.parts.into_vec();
-        let pending = self.prepared.entries().len();
-        make_room(&mut self.store, pending, self.promised, news.as_slice())?;
-        put_all(&mut self.store, news);
-        self.bounds = self.bounds.with(message.from, message.hi);
-        Ok(())
-    }
-
     /// A message to another site, up to the own bound: all that was committed here above a time that is given, or else
     /// above the end of the last message to that site.
     ///
