@@ -1,102 +1,100 @@
 #!/usr/bin/env python3
-"""The table of the gate: for each crate its lines, the minutes that its proof took, and the minutes of its edits.
+"""The table of the gate: for each crate its lines, and the minutes of a processor that its proof and its edits took.
 
-    rt ci 2>&1 | bench/gate/table.py stamp > gate.log
-    rt must-fail NAME 2>&1 | bench/gate/table.py stamp >> edits.log      (for each crate, one after another)
-    bench/gate/table.py table [gate.log [edits.log]]
+    bench/gate/table.py watch FILE      beside a gate, from its start until it is stopped
+    bench/gate/table.py table [FILE]    prints the table
 
-The tools print no times, so `stamp` puts before each line the seconds since the start. A crate's proof is counted from when the last crate that it
-stands on was proved, beside whatever else ran. The gate says of edits only when they begin, so their minutes come from runs of their own. Where
-there is no log, its column stays empty.
+The tools print no times, and those of a clock say little where other work goes on. So `watch` looks every other second
+at the processes of the prover, and keeps in FILE what each has spent of a processor. What is proved in the crate's own
+folder counts as its proof, tests and the programs of both compilers too; what is proved elsewhere, as its edits: the
+gate proves a crate once more before it tries them. A crate that an earlier run proved has empty columns, as all have
+where there is no FILE.
 """
+import collections
 import glob
+import json
 import os
-import re
 import sys
 import time
 
 TOP = os.path.dirname(os.path.dirname(os.path.dirname(os.path.abspath(__file__))))
-
-
-def stamp():
-    """Copies standard input, each line behind the seconds since the start."""
-    start = time.monotonic()
-    print("0.0 start", flush=True)
-    for line in sys.stdin:
-        print(f"{time.monotonic() - start:.1f} {line.rstrip()}", flush=True)
-    print(f"{time.monotonic() - start:.1f} end", flush=True)
+TICKS = os.sysconf("SC_CLK_TCK")
 
 
 def crates():
-    """The crates and those that each stands on, in the order of crates.txt."""
-    found = {}
+    """The crates in the order of crates.txt."""
     with open(f"{TOP}/crates.txt") as text:
-        for line in text:
-            name, colon, below = line.split("#")[0].partition(":")
-            if colon:
-                found[name.split()[0]] = below.split()
-    return {name: [it for it in below if it in found] for name, below in found.items()}
+        lines = (line.split("#")[0].partition(":") for line in text)
+        return [name.strip() for name, colon, _ in lines if colon]
 
 
 def lines_of(crate, folder):
     """The lines of the crate's files in src, specs or proofs."""
-    files = glob.glob(f"{TOP}/crates/{crate}/{folder}/**/*.*t", recursive=True)
     count = 0
-    for file in files:
+    for file in glob.glob(f"{TOP}/crates/{crate}/{folder}/**/*.*t", recursive=True):
         if file.endswith((".rt", ".antt")):
             with open(file) as text:
                 count += sum(1 for _ in text)
     return count
 
 
-def stamped(path):
-    """The lines of a log with their seconds."""
-    with open(path) as text:
-        for line in text:
-            seconds, _, said = line.rstrip("\n").partition(" ")
-            yield float(seconds), said
+def looked_at(number):
+    """What a process of the prover is known by, its crate, its folder and its seconds of a processor; of another, None."""
+    with open(f"/proc/{number}/stat") as text:
+        head, _, rest = text.read().rpartition(") ")
+    if not head.endswith("(rattle"):
+        return None
+    with open(f"/proc/{number}/cmdline") as text:
+        words = text.read().split("\0")
+    if "--crate-name" not in words:
+        return None
+    fields = rest.split()
+    # its own and that of the processes which it started and waited for
+    spent = sum(map(int, fields[11:15])) / TICKS
+    crate = words[words.index("--crate-name") + 1]
+    return f"{number}-{fields[19]}", crate, os.readlink(f"/proc/{number}/cwd"), spent
 
 
-def proved(path, below):
-    """The minutes of each crate's proof, from the end of the last one below it."""
-    at = {}
-    for seconds, said in stamped(path):
-        found = re.fullmatch(r"rt: (\w+) proved", said)
-        if found:
-            at[found[1]] = seconds
-    return {it: (at[it] - max([at.get(dep, 0) for dep in below[it]], default=0)) / 60 for it in at if it in below}
+def watch(path):
+    """Keeps in a file what each process of the prover has spent, until this is stopped."""
+    seen = {}
+    while True:
+        for number in filter(str.isdigit, os.listdir("/proc")):
+            try:
+                found = looked_at(number)
+            except OSError:
+                # it has ended
+                continue
+            if found:
+                name, crate, folder, spent = found
+                kind = "proof" if folder.endswith(f"/crates/{crate}") else "edits"
+                seen[name] = (crate, kind, spent)
+        with open(f"{path}.new", "w") as text:
+            json.dump(sorted(seen.values()), text)
+        os.replace(f"{path}.new", path)
+        time.sleep(2)
 
 
-def edits(path):
-    """The minutes of the run in which each crate's edits were tried alone."""
-    took, crate = {}, None
-    for seconds, said in stamped(path):
-        found = re.search(r"must-fail (\w+)/", said)
-        if said == "start":
-            crate = None
-        elif found:
-            crate = found[1]
-        elif said == "end" and crate:
-            took[crate] = seconds / 60
-    return took
-
-
-def table(logs):
-    below = crates()
-    proof = proved(logs[0], below) if logs else {}
-    tried = edits(logs[1]) if len(logs) > 1 else {}
-    minutes = lambda of, crate: f"{of[crate]:.1f}" if crate in of else ""
-    print("| crate | lines of src, specs, proofs | minutes proved | edits | minutes of edits |")
+def table(path):
+    spent = collections.Counter()
+    for crate, kind, seconds in json.load(open(path)) if path else []:
+        spent[crate, kind] += seconds / 60
+    shown = lambda minutes: f"{minutes:.1f}" if minutes else ""
+    total = collections.Counter()
+    print("| crate | lines of src, specs, proofs | minutes of its proof | edits | minutes of edits |")
     print("|---|---|---|---|---|")
-    for crate in below:
+    for crate in crates():
         lines = ", ".join(str(lines_of(crate, it)) for it in ("src", "specs", "proofs"))
         count = len(glob.glob(f"{TOP}/crates/{crate}/must-fail/*.edit"))
-        print(f"| {crate} | {lines} | {minutes(proof, crate)} | {count} | {minutes(tried, crate)} |")
+        proof, edits = spent[crate, "proof"], spent[crate, "edits"]
+        total.update(proof=proof, edits=edits, count=count)
+        print(f"| {crate} | {lines} | {shown(proof)} | {count or ''} | {shown(edits)} |")
+    print(f"| all | | {shown(total['proof'])} | {total['count']} | {shown(total['edits'])} |")
 
 
-if sys.argv[1:] == ["stamp"]:
-    stamp()
-elif sys.argv[1:2] == ["table"]:
-    table(sys.argv[2:4])
+if sys.argv[1:2] == ["watch"] and len(sys.argv) == 3:
+    watch(sys.argv[2])
+elif sys.argv[1:2] == ["table"] and len(sys.argv) <= 3:
+    table(sys.argv[2] if len(sys.argv) == 3 else None)
 else:
     sys.exit(__doc__)

@@ -7,8 +7,8 @@ ghost use Rattle.world_model.specs.Partition.{IsOther};
 ghost use Rattle.partition_core.specs.Messages.{CanPut, inserted, start_of, updates_in};
 ghost use Rattle.partition_core.specs.Steps.{Anything, Steps};
 
-use crate::report::own_bound;
 use crate::Partition;
+use crate::report::own_bound;
 use crdt_core::{Crdt, Message, Part, copy_part};
 use effect_store::Store;
 use field_codec::ListOf;
