@@ -105,7 +105,7 @@ pub fn copy_updates<C: Crdt>(
 ) -> Result<ListOf<Upd<C::Effect>>, AllocError>
     ensures { IfOk result (λ l. l ≡ updates.now) }
 {
-    let mut all = ListOf::new(alloc);
+    let mut all = ListOf::with_capacity(alloc, updates.len())?;
     for update in updates {
         all.push(copy_update::<C>(alloc, update)?)?;
     }

@@ -1,6 +1,7 @@
 //! Texts and lists, the fields that everything stored or sent is made of.
 #![tactic(auto)]
 
+mod compare;
 mod error;
 mod form;
 mod laws;

@@ -35,6 +35,14 @@ impl<T> ListOf<T> {
         Ok(ListOf { items })
     }
 
+    /// The empty list, with memory for so many members.
+    pub fn with_capacity(alloc: Global, count: usize) -> Result<ListOf<T>, AllocError>
+        ensures { IfOk result (λ l. l ≡ []) }
+    {
+        let items = Vec::with_capacity(alloc, count)?;
+        Ok(ListOf { items })
+    }
+
     /// The vector of the members.
     pub fn into_vec(self) -> Vec<T>
         ensures { result.items ≡ self }

@@ -11,6 +11,7 @@ ghost use Rattle.field_codec.specs.FormLaws.{any_text_form};
 ghost use Rattle.field_codec.specs.Reading.{Gives, text_at, bytes_at};
 ghost use Rattle.field_codec.specs.Inline.{bytes_of};
 
+use crate::compare::{is_same, order_of};
 use crate::{Form, TakeError, put_u16, take_u16};
 use arrayvec::ArrayString;
 use std::alloc::{AllocError, Global};
@@ -180,7 +181,7 @@ impl PartialEq for Text {
     ghost laws = { Prim.search (comparing, rules) };
 
     fn eq(&self, other: &Text) -> bool {
-        self.as_str() == other.as_str()
+        is_same(self.as_str().as_bytes(), other.as_str().as_bytes())
     }
 }
 
@@ -198,7 +199,7 @@ impl Ord for Text {
     ghost matches_eq = { Prim.search (comparing, rules) };
 
     fn cmp(&self, other: &Text) -> Ordering {
-        self.as_str().cmp(&other.as_str())
+        order_of(self.as_str().as_bytes(), other.as_str().as_bytes())
     }
 }
 

@@ -9,6 +9,9 @@ use crdt_core::{Crdt, Message, Record};
 use log_records::{put, put_batch};
 use std::alloc::{AllocError, Global};
 
+/// What most records take, so that their bytes grow in place.
+const MOST_RECORDS: usize = 512;
+
 pub(crate) fn payload_of<C: Crdt>(
     alloc: Global,
     value: &Record<C::Effect>,
@@ -17,7 +20,7 @@ pub(crate) fn payload_of<C: Crdt>(
     ensures spelled { IfOk result (λ payload. (codec_of C.spells).spelled value.now ≡ true) }
     ensures bytes { IfOk result (λ payload. payload.items ≡ (codec_of C.spells).bytes value.now) }
 {
-    let mut payload = Vec::new(alloc);
+    let mut payload = Vec::with_capacity(alloc, MOST_RECORDS)?;
     put::<C>(&mut payload, value)?;
     Ok(payload)
 }
@@ -30,7 +33,7 @@ pub(crate) fn payload_of_batch<C: Crdt>(
     ensures spelled { IfOk result (λ payload. (codec_of C.spells).spelled (Batch message.now) ≡ true) }
     ensures bytes { IfOk result (λ payload. payload.items ≡ (codec_of C.spells).bytes (Batch message.now)) }
 {
-    let mut payload = Vec::new(alloc);
+    let mut payload = Vec::with_capacity(alloc, MOST_RECORDS)?;
     put_batch::<C>(&mut payload, message)?;
     Ok(payload)
 }
