@@ -23,13 +23,13 @@ const MOST_SESSIONS: usize = 64;
 
 impl<C: Crdt, D: Disk + Drop> Live<C, D> {
     /// Makes a session at a site.
-    pub(crate) fn make_session(&mut self, name: Text, site: u8) -> Result<Vec<Step>, AllocError>
-        ensures { IfOk result (λ steps. AppliesLive (types_of C.laws C.spells D.state) self.old (Command.Session name site) steps.items self.new) }
+    pub(crate) fn make_session(&mut self, name: &Text, site: u8) -> Result<Vec<Step>, AllocError>
+        ensures { IfOk result (λ steps. AppliesLive (types_of C.laws C.spells D.state) self.old (Command.Session name.now site) steps.items self.new) }
     {
         if !self.has_site(site) {
             return only(self.alloc, Step::NoPart);
         }
-        if self.sessions.contains_key(&name) {
+        if self.sessions.contains_key(name) {
             return only(self.alloc, Step::HasSession);
         }
         if self.sessions.len() == MOST_SESSIONS {
@@ -40,35 +40,40 @@ impl<C: Crdt, D: Disk + Drop> Live<C, D> {
         let (sites, parts) = (self.sites.all.sites(), self.sites.all.parts());
         let session = Session::new(self.alloc, named, site, sites, parts);
         create(&mut self.sessions, key, session)?;
-        only(self.alloc, Step::MadeSession { name, site })
+        let step = Step::MadeSession {
+            name: name.copy(self.alloc)?,
+            site,
+        };
+        only(self.alloc, step)
     }
 
     /// Removes a session.
-    pub(crate) fn lose(&mut self, name: Text) -> Result<Vec<Step>, AllocError>
-        ensures { IfOk result (λ steps. AppliesLive (types_of C.laws C.spells D.state) self.old (Command.Lose name) steps.items self.new) }
+    pub(crate) fn lose(&mut self, name: &Text) -> Result<Vec<Step>, AllocError>
+        ensures { IfOk result (λ steps. AppliesLive (types_of C.laws C.spells D.state) self.old (Command.Lose name.now) steps.items self.new) }
     {
-        if !self.sessions.contains_key(&name) {
+        if !self.sessions.contains_key(name) {
             return only(self.alloc, Step::NoSession);
         }
-        remove(&mut self.sessions, &name);
-        only(self.alloc, Step::Lost { name })
+        let lost = name.copy(self.alloc)?;
+        remove(&mut self.sessions, name);
+        only(self.alloc, Step::Lost { name: lost })
     }
 
     /// A session goes on at another site.
-    pub(crate) fn move_session(&mut self, name: Text, site: u8) -> Result<Vec<Step>, AllocError>
+    pub(crate) fn move_session(&mut self, name: &Text, site: u8) -> Result<Vec<Step>, AllocError>
         requires { IsReachedLive (types_of C.laws C.spells D.state) self.old }
-        ensures { IfOk result (λ steps. AppliesLive (types_of C.laws C.spells D.state) self.old (Command.Move name site) steps.items self.new) }
+        ensures { IfOk result (λ steps. AppliesLive (types_of C.laws C.spells D.state) self.old (Command.Move name.now site) steps.items self.new) }
     {
         if !self.has_site(site) {
             return only(self.alloc, Step::NoPart);
         }
-        let Some(phase) = self.phase(&name) else {
+        let Some(phase) = self.phase(name) else {
             return only(self.alloc, Step::NoSession);
         };
         if !is_idle(phase) {
             return only(self.alloc, Step::HasTxn);
         }
-        match move_in(&mut self.sessions, &name, site) {
+        match move_in(&mut self.sessions, name, site) {
             Ok(step) => {
                 return only(self.alloc, step);
             }
@@ -81,25 +86,25 @@ impl<C: Crdt, D: Disk + Drop> Live<C, D> {
     /// Begins a transaction of a session, at the partition that is named or the first of its site.
     pub(crate) fn begin(
         &mut self,
-        name: Text,
+        name: &Text,
         part: Option<PartId>,
     ) -> Result<Vec<Step>, AllocError>
         requires reached { IsReachedLive (types_of C.laws C.spells D.state) self.old }
-        ensures { IfOk result (λ steps. AppliesLive (types_of C.laws C.spells D.state) self.old (Command.Begin name part) steps.items self.new) }
+        ensures { IfOk result (λ steps. AppliesLive (types_of C.laws C.spells D.state) self.old (Command.Begin name.now part) steps.items self.new) }
     {
         if !self.has_place(part) {
             return only(self.alloc, Step::NoPart);
         }
-        let Some(phase) = self.phase(&name) else {
+        let Some(phase) = self.phase(name) else {
             return only(self.alloc, Step::NoSession);
         };
-        if !self.stands_at(&name, part) {
+        if !self.stands_at(name, part) {
             return only(self.alloc, Step::NoPart);
         }
         if !is_idle(phase) {
             return only(self.alloc, Step::HasTxn);
         }
-        match begin_in(&mut self.sites, &mut self.sessions, &name, number_of(part)) {
+        match begin_in(&mut self.sites, &mut self.sessions, name, number_of(part)) {
             Ok(step) => {
                 return only(self.alloc, step);
             }

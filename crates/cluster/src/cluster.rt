@@ -91,12 +91,12 @@ impl<C: Crdt, D: Disk + Drop> Cluster<C, D> {
     ///
     /// `AllocError` where memory runs out, also that of a disk which grows in memory; or no number is left for a message
     /// or report: 2^64 were made. It is as new then.
-    pub fn apply(&mut self, command: Command) -> Result<Vec<Step>, AllocError>
-        requires said { IsSaid C.has C.too_deep command }
-        requires made { self.old ≡ None → is_making command ≡ false }
-        ensures ok { IfOk result (λ steps. Applies (types_of C.laws C.spells (fused_state D.state)) self.old command steps.items self.new) }
+    pub fn apply(&mut self, command: &Command) -> Result<Vec<Step>, AllocError>
+        requires said { IsSaid C.has C.too_deep command.now }
+        requires made { self.old ≡ None → is_making command.now ≡ false }
+        ensures ok { IfOk result (λ steps. Applies (types_of C.laws C.spells (fused_state D.state)) self.old command.now steps.items self.new) }
         ensures fed { IfOk result (λ steps. FedIn (fused_state D.state) self.new steps.items) }
-        ensures fuse { IfOk result (λ steps. SetsFuseIn (fused_state D.state) command self.old self.new) }
+        ensures fuse { IfOk result (λ steps. SetsFuseIn (fused_state D.state) command.now self.old self.new) }
         ensures err { OnErr result (self.new ≡ None) }
     {
         match answer(self.alloc, &mut self.live, command) {
@@ -129,13 +129,13 @@ impl<C: Crdt, D: Disk + Drop> Cluster<C, D> {
 fn answer<C: Crdt, D: Disk + Drop>(
     alloc: Global,
     live: &mut Option<Running<C, Fused<D>>>,
-    command: Command,
+    command: &Command,
 ) -> Result<Vec<Step>, AllocError>
-    requires said { IsSaid C.has C.too_deep command }
-    requires made { live.old ≡ None → is_making command ≡ false }
+    requires said { IsSaid C.has C.too_deep command.now }
+    requires made { live.old ≡ None → is_making command.now ≡ false }
     requires reached { IsReached (types_of C.laws C.spells (fused_state D.state)) live.old }
-    ensures applies { IfOk result (λ steps. Applies (types_of C.laws C.spells (fused_state D.state)) live.old command steps.items live.new) }
-    ensures fuse { IfOk result (λ steps. SetsFuseIn (fused_state D.state) command live.old live.new) }
+    ensures applies { IfOk result (λ steps. Applies (types_of C.laws C.spells (fused_state D.state)) live.old command.now steps.items live.new) }
+    ensures fuse { IfOk result (λ steps. SetsFuseIn (fused_state D.state) command.now live.old live.new) }
 {
     match live {
         Some(cluster) => {

@@ -30,12 +30,16 @@ enum Way {
 
 impl<C: Crdt, D: Disk + Drop> Live<C, D> {
     /// Commits a session's transaction, or makes so many steps of its commit.
-    pub(crate) fn commit(&mut self, name: Text, steps: Option<u64>) -> Result<Vec<Step>, AllocError>
-        requires said { IsSaid C.has C.too_deep (Command.Commit name steps) }
+    pub(crate) fn commit(
+        &mut self,
+        name: &Text,
+        steps: Option<u64>,
+    ) -> Result<Vec<Step>, AllocError>
+        requires said { IsSaid C.has C.too_deep (Command.Commit name.now steps) }
         requires reached { IsReachedLive (types_of C.laws C.spells D.state) self.old }
-        ensures { IfOk result (λ lines. AppliesLive (types_of C.laws C.spells D.state) self.old (Command.Commit name steps) lines.items self.new) }
+        ensures { IfOk result (λ lines. AppliesLive (types_of C.laws C.spells D.state) self.old (Command.Commit name.now steps) lines.items self.new) }
     {
-        let Some(phase) = self.phase(&name) else {
+        let Some(phase) = self.phase(name) else {
             return only(self.alloc, Step::NoSession);
         };
         if is_idle(phase) {
@@ -45,7 +49,7 @@ impl<C: Crdt, D: Disk + Drop> Live<C, D> {
             self.alloc,
             &mut self.sites,
             &mut self.sessions,
-            &name,
+            name,
             Way::Commits,
             steps,
         ) {
@@ -59,11 +63,11 @@ impl<C: Crdt, D: Disk + Drop> Live<C, D> {
     }
 
     /// Gives a session's transaction up.
-    pub(crate) fn abort(&mut self, name: Text) -> Result<Vec<Step>, AllocError>
+    pub(crate) fn abort(&mut self, name: &Text) -> Result<Vec<Step>, AllocError>
         requires reached { IsReachedLive (types_of C.laws C.spells D.state) self.old }
-        ensures { IfOk result (λ lines. AppliesLive (types_of C.laws C.spells D.state) self.old (Command.Abort name) lines.items self.new) }
+        ensures { IfOk result (λ lines. AppliesLive (types_of C.laws C.spells D.state) self.old (Command.Abort name.now) lines.items self.new) }
     {
-        let Some(phase) = self.phase(&name) else {
+        let Some(phase) = self.phase(name) else {
             return only(self.alloc, Step::NoSession);
         };
         if !is_undecided(phase) {
@@ -73,7 +77,7 @@ impl<C: Crdt, D: Disk + Drop> Live<C, D> {
             self.alloc,
             &mut self.sites,
             &mut self.sessions,
-            &name,
+            name,
             Way::GivesUp,
             None,
         ) {

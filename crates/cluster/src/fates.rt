@@ -17,17 +17,17 @@ use world_model::{Command, Step};
 
 impl<C: Crdt, D: Disk + Drop> Live<C, D> {
     /// The lines that answer a command by which partitions end what no session ends.
-    pub(crate) fn end(&mut self, command: Command) -> Result<Vec<Step>, AllocError>
-        requires of_fates { is_of_fates command ≡ true }
+    pub(crate) fn end(&mut self, command: &Command) -> Result<Vec<Step>, AllocError>
+        requires of_fates { is_of_fates command.now ≡ true }
         requires reached { IsReachedLive (types_of C.laws C.spells D.state) self.old }
-        ensures { IfOk result (λ steps. AppliesLive (types_of C.laws C.spells D.state) self.old command steps.items self.new) }
+        ensures { IfOk result (λ steps. AppliesLive (types_of C.laws C.spells D.state) self.old command.now steps.items self.new) }
     {
         match command {
             Command::Expire { part, tx } => {
-                return self.expire(part, tx);
+                return self.expire(*part, *tx);
             }
             Command::Settle { part } => {
-                return self.settle(part);
+                return self.settle(*part);
             }
             _ => {
                 return only(self.alloc, Step::Unbuilt);

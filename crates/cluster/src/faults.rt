@@ -20,22 +20,22 @@ impl<C: Crdt, D: Disk + Drop> Live<C, Fused<D>> {
     ghost use Rattle.disk_core.specs.Fuses.{fused_state};
 
     /// The lines that answer a command of crashes, restarts and fuses.
-    pub(crate) fn strike(&mut self, command: Command) -> Result<Vec<Step>, AllocError>
-        requires of_faults { is_of_faults command ≡ true }
-        requires said { IsSaid C.has C.too_deep command }
+    pub(crate) fn strike(&mut self, command: &Command) -> Result<Vec<Step>, AllocError>
+        requires of_faults { is_of_faults command.now ≡ true }
+        requires said { IsSaid C.has C.too_deep command.now }
         requires reached { IsReachedLive (types_of C.laws C.spells (fused_state D.state)) self.old }
-        ensures applies { IfOk result (λ steps. AppliesLive (types_of C.laws C.spells (fused_state D.state)) self.old command steps.items self.new) }
-        ensures fuse { IfOk result (λ steps. SetsFuse (fused_state D.state) command self.old.sites self.new.sites) }
+        ensures applies { IfOk result (λ steps. AppliesLive (types_of C.laws C.spells (fused_state D.state)) self.old command.now steps.items self.new) }
+        ensures fuse { IfOk result (λ steps. SetsFuse (fused_state D.state) command.now self.old.sites self.new.sites) }
     {
         match command {
             Command::Crash { part } => {
-                return self.crash(part);
+                return self.crash(*part);
             }
             Command::Restart { part } => {
-                return self.restart(part);
+                return self.restart(*part);
             }
             Command::Fuse { part, call, keep } => {
-                return self.fuse(part, call, keep);
+                return self.fuse(*part, *call, *keep);
             }
             _ => {
                 return only(self.alloc, Step::Unbuilt);

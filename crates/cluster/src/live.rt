@@ -87,32 +87,32 @@ impl<C: Crdt, D: Disk + Drop> Live<C, D> {
     /// # Errors
     ///
     /// `AllocError` where memory runs out. It may only be dropped then.
-    pub(crate) fn apply(&mut self, command: Command) -> Result<Vec<Step>, AllocError>
-        requires no_post { is_of_post command ≡ false }
-        requires no_fates { is_of_fates command ≡ false }
-        requires no_faults { is_of_faults command ≡ false }
-        requires said { IsSaid C.has C.too_deep command }
+    pub(crate) fn apply(&mut self, command: &Command) -> Result<Vec<Step>, AllocError>
+        requires no_post { is_of_post command.now ≡ false }
+        requires no_fates { is_of_fates command.now ≡ false }
+        requires no_faults { is_of_faults command.now ≡ false }
+        requires said { IsSaid C.has C.too_deep command.now }
         requires reached { IsReachedLive (types_of C.laws C.spells D.state) self.old }
-        ensures { IfOk result (λ steps. AppliesLive (types_of C.laws C.spells D.state) self.old command steps.items self.new) }
+        ensures { IfOk result (λ steps. AppliesLive (types_of C.laws C.spells D.state) self.old command.now steps.items self.new) }
     {
         match command {
             Command::Cluster { .. } => {
                 return only(self.alloc, Step::HasCluster);
             }
             Command::Clock { part, n } => {
-                return self.read_clock(part, n);
+                return self.read_clock(*part, *n);
             }
             Command::Session { name, site } => {
-                return self.make_session(name, site);
+                return self.make_session(name, *site);
             }
             Command::Lose { name } => {
                 return self.lose(name);
             }
             Command::Move { name, site } => {
-                return self.move_session(name, site);
+                return self.move_session(name, *site);
             }
             Command::Begin { name, part } => {
-                return self.begin(name, part);
+                return self.begin(name, *part);
             }
             Command::Read { name, object } => {
                 return self.read(name, object);
@@ -121,7 +121,7 @@ impl<C: Crdt, D: Disk + Drop> Live<C, D> {
                 return self.update(name, object, op);
             }
             Command::Commit { name, steps } => {
-                return self.commit(name, steps);
+                return self.commit(name, *steps);
             }
             Command::Abort { name } => {
                 return self.abort(name);

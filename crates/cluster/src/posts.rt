@@ -20,29 +20,29 @@ const MOST_KEPT: usize = 4096;
 
 impl<C: Crdt, D: Disk + Drop> Running<C, D> {
     /// The lines that answer a command of messages or reports.
-    pub(crate) fn handle(&mut self, command: Command) -> Result<Vec<Step>, AllocError>
-        requires of_post { is_of_post command ≡ true }
+    pub(crate) fn handle(&mut self, command: &Command) -> Result<Vec<Step>, AllocError>
+        requires of_post { is_of_post command.now ≡ true }
         requires reached { IsReached (types_of C.laws C.spells D.state) (Some self.old) }
-        ensures { IfOk result (λ steps. Applies (types_of C.laws C.spells D.state) (Some self.old) command steps.items (Some self.new)) }
+        ensures { IfOk result (λ steps. Applies (types_of C.laws C.spells D.state) (Some self.old) command.now steps.items (Some self.new)) }
     {
         match command {
             Command::Send { part, site, from } => {
-                return self.send(part, site, from);
+                return self.send(*part, *site, *from);
             }
             Command::Deliver { number } => {
-                return self.deliver(number);
+                return self.deliver(*number);
             }
             Command::Report { part } => {
-                return self.report(part);
+                return self.report(*part);
             }
             Command::Hear { number, part } => {
-                return self.hear(number, part);
+                return self.hear(*number, *part);
             }
             Command::DropMessage { number } => {
-                return self.drop_message(number);
+                return self.drop_message(*number);
             }
             Command::DropReport { number } => {
-                return self.drop_report(number);
+                return self.drop_report(*number);
             }
             _ => {
                 return only(self.alloc, Step::Unbuilt);

@@ -66,19 +66,19 @@ impl<C: Crdt, D: Disk + Drop> Running<C, Fused<D>> {
     /// # Errors
     ///
     /// `AllocError` where memory runs out. It may only be dropped then.
-    pub(crate) fn apply(&mut self, command: Command) -> Result<Vec<Step>, AllocError>
-        requires said { IsSaid C.has C.too_deep command }
+    pub(crate) fn apply(&mut self, command: &Command) -> Result<Vec<Step>, AllocError>
+        requires said { IsSaid C.has C.too_deep command.now }
         requires reached { IsReached (types_of C.laws C.spells (fused_state D.state)) (Some self.old) }
-        ensures applies { IfOk result (λ steps. Applies (types_of C.laws C.spells (fused_state D.state)) (Some self.old) command steps.items (Some self.new)) }
-        ensures fuse { IfOk result (λ steps. SetsFuseIn (fused_state D.state) command (Some self.old) (Some self.new)) }
+        ensures applies { IfOk result (λ steps. Applies (types_of C.laws C.spells (fused_state D.state)) (Some self.old) command.now steps.items (Some self.new)) }
+        ensures fuse { IfOk result (λ steps. SetsFuseIn (fused_state D.state) command.now (Some self.old) (Some self.new)) }
     {
-        if is_of_post(&command) {
+        if is_of_post(command) {
             return self.handle(command);
         }
-        if is_of_fates(&command) {
+        if is_of_fates(command) {
             return self.live.end(command);
         }
-        if is_of_faults(&command) {
+        if is_of_faults(command) {
             return self.live.strike(command);
         }
         self.live.apply(command)

@@ -17,18 +17,18 @@ use world_model::{Command, Step};
 
 impl<C: Crdt, D: Disk + Drop> Live<C, D> {
     /// Reads an object in a session's transaction.
-    pub(crate) fn read(&mut self, name: Text, object: ObjectId) -> Result<Vec<Step>, AllocError>
-        requires has { C.has object.kind ≡ true }
+    pub(crate) fn read(&mut self, name: &Text, object: &ObjectId) -> Result<Vec<Step>, AllocError>
+        requires has { C.has object.now.kind ≡ true }
         requires reached { IsReachedLive (types_of C.laws C.spells D.state) self.old }
-        ensures { IfOk result (λ steps. AppliesLive (types_of C.laws C.spells D.state) self.old (Command.Read name object) steps.items self.new) }
+        ensures { IfOk result (λ steps. AppliesLive (types_of C.laws C.spells D.state) self.old (Command.Read name.now object.now) steps.items self.new) }
     {
-        let Some(phase) = self.phase(&name) else {
+        let Some(phase) = self.phase(name) else {
             return only(self.alloc, Step::NoSession);
         };
         if !is_open(phase) {
             return only(self.alloc, Step::NoTxn);
         }
-        match read_in(&mut self.sites, &mut self.sessions, &name, &object) {
+        match read_in(&mut self.sites, &mut self.sessions, name, object) {
             Ok(step) => {
                 return only(self.alloc, step);
             }
@@ -56,22 +56,22 @@ impl<C: Crdt, D: Disk + Drop> Live<C, D> {
     /// Updates an object in a session's transaction.
     pub(crate) fn update(
         &mut self,
-        name: Text,
-        object: ObjectId,
-        op: Op,
+        name: &Text,
+        object: &ObjectId,
+        op: &Op,
     ) -> Result<Vec<Step>, AllocError>
-        requires has { C.has object.kind ≡ true }
-        requires shallow { fits object.kind op.path op.act ≡ true → C.too_deep object.kind op.path ≡ false }
+        requires has { C.has object.now.kind ≡ true }
+        requires shallow { fits object.now.kind op.now.path op.now.act ≡ true → C.too_deep object.now.kind op.now.path ≡ false }
         requires reached { IsReachedLive (types_of C.laws C.spells D.state) self.old }
-        ensures { IfOk result (λ steps. AppliesLive (types_of C.laws C.spells D.state) self.old (Command.Update name object op) steps.items self.new) }
+        ensures { IfOk result (λ steps. AppliesLive (types_of C.laws C.spells D.state) self.old (Command.Update name.now object.now op.now) steps.items self.new) }
     {
-        let Some(refusal) = self.update_refusal(&name, &object, &op) else {
+        let Some(refusal) = self.update_refusal(name, object, op) else {
             return only(self.alloc, Step::NoSession);
         };
         if let Some(error) = refusal {
             return only(self.alloc, refused(&error));
         }
-        match update_in(&mut self.sites, &mut self.sessions, &name, &object, &op) {
+        match update_in(&mut self.sites, &mut self.sessions, name, object, op) {
             Ok(step) => {
                 return only(self.alloc, step);
             }

@@ -21,7 +21,7 @@ use disk_core::{Disk, Fused};
 use disk_makers::Disks;
 use partition_core::RestartError;
 use reply_text::line;
-use script_text::Parsed;
+use script_text::{ParseError, Parsed};
 use site_partitions::MakeError;
 use std::alloc::{AllocError, Global};
 use std::marker::Model;
@@ -160,13 +160,14 @@ fn answer_to<M: Disks>(
     ensures cause { result ≡ Err Unanswered.NoDisk → Rose (M.state disks.old).faults (M.state disks.new).faults }
     ensures same { OnOk result (IsKept (M.state disks.old) (M.state disks.new)) }
 {
-    match reading(alloc, line)? {
-        Some(Parsed::Command(command)) => obey(alloc, cluster, disks, command),
-        Some(Parsed::Nothing) => Ok(Vec::new(alloc)),
-        None => {
+    match reading(alloc, line) {
+        Ok(Parsed::Command(command)) => obey(alloc, cluster, disks, &command),
+        Ok(Parsed::Nothing) => Ok(Vec::new(alloc)),
+        Err(ParseError::Bad) => {
             *met_bad = true;
             Ok(only(alloc, Step::Bad)?)
         }
+        Err(ParseError::NoMemory) => Err(Unanswered::NoMemory),
     }
 }
 
@@ -175,19 +176,19 @@ fn obey<M: Disks>(
     alloc: Global,
     cluster: &mut Cluster<Objects, M::Disk>,
     disks: &mut M,
-    command: Command,
+    command: &Command,
 ) -> Result<Vec<Step>, Unanswered>
-    requires said { IsSaid kinds.has kinds.too_deep command }
+    requires said { IsSaid kinds.has kinds.too_deep command.now }
     requires held { HasOut M.Disk.state (M.state disks.old).out cluster.old }
     ensures held { HasOut M.Disk.state (M.state disks.new).out cluster.new }
-    ensures ok { IfOk result (λ steps. Applies (types (fused_state M.Disk.state)) cluster.old command steps.items cluster.new) }
-    ensures making { result ≡ Err Unanswered.NoDisk → is_making command ≡ true }
+    ensures ok { IfOk result (λ steps. Applies (types (fused_state M.Disk.state)) cluster.old command.now steps.items cluster.new) }
+    ensures making { result ≡ Err Unanswered.NoDisk → is_making command.now ≡ true }
     ensures lacks { result ≡ Err Unanswered.NoDisk → cluster.old ≡ None }
     ensures later { (M.state disks.old).faults ≤ (M.state disks.new).faults }
     ensures cause { result ≡ Err Unanswered.NoDisk → Rose (M.state disks.old).faults (M.state disks.new).faults }
     ensures same { OnOk result (IsKept (M.state disks.old) (M.state disks.new)) }
 {
-    let Some((sites, parts)) = size_asked(&command) else {
+    let Some((sites, parts)) = size_asked(command) else {
         return Ok(cluster.apply(command)?);
     };
     if cluster.parts().is_some() {

@@ -9,14 +9,14 @@ use Rattle.cluster.proofs.Applying.{map_ok, lacks_cluster}
 use Rattle.cluster.proofs.cluster.answer.Goals as goal
 
 pub returns-in-Some-clause-applies : goal.returns-in-Some-clause-applies
-returns-in-Some-clause-applies g c = subst (λ (o : Option (WholeState g.row.C-Effect.Denot _)). IfOk c.apply.result (λ steps. Applies (types_of g.C.Crdt.laws g.C.Crdt.spells (fused_state g.D.Disk.state)) o c.args.command steps.items (Some c.apply.new.self))) (sym c.in-Some.is) c.apply.ensures.applies
+returns-in-Some-clause-applies g c = subst (λ (o : Option (WholeState g.row.C-Effect.Denot _)). IfOk c.apply.result (λ steps. Applies (types_of g.C.Crdt.laws g.C.Crdt.spells (fused_state g.D.Disk.state)) o c.args.command.now steps.items (Some c.apply.new.self))) (sym c.in-Some.is) c.apply.ensures.applies
 
 pub returns-in-None-clause-applies : goal.returns-in-None-clause-applies
-returns-in-None-clause-applies g c = subst (λ (o : Option (WholeState g.row.C-Effect.Denot _)). IfOk c.only.result (λ steps. Applies (types_of g.C.Crdt.laws g.C.Crdt.spells (fused_state g.D.Disk.state)) o c.args.command steps.items o)) (sym c.in-None.is)
-    (map_ok c.only.result (λ steps is. lacks_cluster (types_of g.C.Crdt.laws g.C.Crdt.spells (fused_state g.D.Disk.state)) c.args.command steps.items is (c.requires.made c.in-None.is)) c.only.ensures)
+returns-in-None-clause-applies g c = subst (λ (o : Option (WholeState g.row.C-Effect.Denot _)). IfOk c.only.result (λ steps. Applies (types_of g.C.Crdt.laws g.C.Crdt.spells (fused_state g.D.Disk.state)) o c.args.command.now steps.items o)) (sym c.in-None.is)
+    (map_ok c.only.result (λ steps is. lacks_cluster (types_of g.C.Crdt.laws g.C.Crdt.spells (fused_state g.D.Disk.state)) c.args.command.now steps.items is (c.requires.made c.in-None.is)) c.only.ensures)
 
 pub returns-in-Some-clause-fuse : goal.returns-in-Some-clause-fuse
-returns-in-Some-clause-fuse g c = subst (λ (o : Option (WholeState g.row.C-Effect.Denot _)). IfOk c.apply.result (λ steps. SetsFuseIn (fused_state g.D.Disk.state) c.args.command o (Some c.apply.new.self))) (sym c.in-Some.is) c.apply.ensures.fuse
+returns-in-Some-clause-fuse g c = subst (λ (o : Option (WholeState g.row.C-Effect.Denot _)). IfOk c.apply.result (λ steps. SetsFuseIn (fused_state g.D.Disk.state) c.args.command.now o (Some c.apply.new.self))) (sym c.in-Some.is) c.apply.ensures.fuse
 
 pub returns-in-None-clause-fuse : goal.returns-in-None-clause-fuse
-returns-in-None-clause-fuse g c = subst (λ (o : Option (WholeState g.row.C-Effect.Denot _)). IfOk c.only.result (λ steps. SetsFuseIn (fused_state g.D.Disk.state) c.args.command o o)) (sym c.in-None.is) (ever_ok c.only.result (λ steps. tt))
+returns-in-None-clause-fuse g c = subst (λ (o : Option (WholeState g.row.C-Effect.Denot _)). IfOk c.only.result (λ steps. SetsFuseIn (fused_state g.D.Disk.state) c.args.command.now o o)) (sym c.in-None.is) (ever_ok c.only.result (λ steps. tt))

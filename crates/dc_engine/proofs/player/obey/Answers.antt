@@ -14,13 +14,13 @@ pub returns-in_err-apply-clause-held : goal.returns-in_err-apply-clause-held
 returns-in_err-apply-clause-held g c = out_none g.M.Disk.Disk.state _ _ c.in_err-apply.ensures.err
 
 pub returns-in_default-clause-held : goal.returns-in_default-clause-held
-returns-in_default-clause-held g c = out_applied g.M.Disk.Disk.state c.args.cluster.now c.apply.new.self c.args.command c.in_ok-apply.field-0.items _ (λ m. absurd (true≢false (sym m ∙ c.in_default.ensures.none))) c.in_ok-apply.ensures.ok c.requires.held
+returns-in_default-clause-held g c = out_applied g.M.Disk.Disk.state c.args.cluster.now c.apply.new.self c.args.command.now c.in_ok-apply.field-0.items _ (λ m. absurd (true≢false (sym m ∙ c.in_default.ensures.none))) c.in_ok-apply.ensures.ok c.requires.held
 
 pub returns-in_err-apply-2-clause-held : goal.returns-in_err-apply-2-clause-held
 returns-in_err-apply-2-clause-held g c = out_none g.M.Disk.Disk.state _ _ c.in_err-apply-2.ensures.err
 
 pub returns-then-is_some-clause-held : goal.returns-then-is_some-clause-held
-returns-then-is_some-clause-held g c = out_applied g.M.Disk.Disk.state c.args.cluster.now c.apply-then-is_some.new.self c.args.command c.in_ok-apply-2.field-0.items _ (λ m. ap is_some (sym c.parts.ensures.is) ∙ (sym c.is_some.ensures ∙ c.if-is_some.true)) c.in_ok-apply-2.ensures.ok c.requires.held
+returns-then-is_some-clause-held g c = out_applied g.M.Disk.Disk.state c.args.cluster.now c.apply-then-is_some.new.self c.args.command.now c.in_ok-apply-2.field-0.items _ (λ m. ap is_some (sym c.parts.ensures.is) ∙ (sym c.is_some.ensures ∙ c.if-is_some.true)) c.in_ok-apply-2.ensures.ok c.requires.held
 
 pub returns-clause-ok : goal.returns-clause-ok
 returns-clause-ok g c =

@@ -9,10 +9,10 @@ pub invariant_of-self : goal.invariant_of-self
 invariant_of-self g c = none_reached (types_of g.C.Crdt.laws g.C.Crdt.spells (fused_state g.D.Disk.state))
 
 pub invariant_of-self-else-lacks_memory : goal.invariant_of-self-else-lacks_memory
-invariant_of-self-else-lacks_memory g c = reached_on (types_of g.C.Crdt.laws g.C.Crdt.spells (fused_state g.D.Disk.state)) _ c.answer.new.live c.args.command _ c.in-Ok.ensures.applies c.self.invariant
+invariant_of-self-else-lacks_memory g c = reached_on (types_of g.C.Crdt.laws g.C.Crdt.spells (fused_state g.D.Disk.state)) _ c.answer.new.live c.args.command.now _ c.in-Ok.ensures.applies c.self.invariant
 
 pub returns-in-Ok-clause-ok : goal.returns-in-Ok-clause-ok
-returns-in-Ok-clause-ok g c = subst (λ l. Applies (types_of g.C.Crdt.laws g.C.Crdt.spells (fused_state g.D.Disk.state)) l c.args.command c.in-Ok.steps.items c.answer.new.live) c.self.view_is c.in-Ok.ensures.applies
+returns-in-Ok-clause-ok g c = subst (λ l. Applies (types_of g.C.Crdt.laws g.C.Crdt.spells (fused_state g.D.Disk.state)) l c.args.command.now c.in-Ok.steps.items c.answer.new.live) c.self.view_is c.in-Ok.ensures.applies
 
 pub returns-in-Ok-clause-fuse : goal.returns-in-Ok-clause-fuse
-returns-in-Ok-clause-fuse g c = subst (λ l. SetsFuseIn (fused_state g.D.Disk.state) c.args.command l c.answer.new.live) c.self.view_is c.in-Ok.ensures.fuse
+returns-in-Ok-clause-fuse g c = subst (λ l. SetsFuseIn (fused_state g.D.Disk.state) c.args.command.now l c.answer.new.live) c.self.view_is c.in-Ok.ensures.fuse

@@ -9,13 +9,13 @@ use Rattle.cluster.proofs.Leading.{commit_absent, commit_idle}
 use Rattle.cluster.proofs.live.Live.commit.Goals as goal
 
 pub returns-in_default : goal.returns-in_default
-returns-in_default g c = map_ok c.only.result (λ lines is. commit_absent (types_of g.C.Crdt.laws g.C.Crdt.spells g.D.Disk.state) c.args.self.now c.args.name lines.items c.args.steps is (none_about _ (sym c.phase.ensures ∙ c.in_default.is))) c.only.ensures
+returns-in_default g c = map_ok c.only.result (λ lines is. commit_absent (types_of g.C.Crdt.laws g.C.Crdt.spells g.D.Disk.state) c.args.self.now c.args.name.now lines.items c.args.steps is (none_about _ (sym c.phase.ensures ∙ c.in_default.is))) c.only.ensures
 
 pub returns-then-is_idle : goal.returns-then-is_idle
-returns-then-is_idle g c = map_ok c.only-then-is_idle.result (λ lines is. commit_idle (types_of g.C.Crdt.laws g.C.Crdt.spells g.D.Disk.state) c.args.self.now c.args.name lines.items c.args.steps c.in-Some.phase is (sym c.phase.ensures ∙ c.in-Some.is) (sym c.is_idle.ensures ∙ c.if-is_idle.true)) c.only-then-is_idle.ensures
+returns-then-is_idle g c = map_ok c.only-then-is_idle.result (λ lines is. commit_idle (types_of g.C.Crdt.laws g.C.Crdt.spells g.D.Disk.state) c.args.self.now c.args.name.now lines.items c.args.steps c.in-Some.phase is (sym c.phase.ensures ∙ c.in-Some.is) (sym c.is_idle.ensures ∙ c.if-is_idle.true)) c.only-then-is_idle.ensures
 
 pub returns-in-Ok : goal.returns-in-Ok
-returns-in-Ok g c = subst (λ (x : LiveState g.row.C-Effect.Denot _). AppliesLive (types_of g.C.Crdt.laws g.C.Crdt.spells g.D.Disk.state) x (command.Commit c.args.name c.args.steps) c.in-Ok.lines.items (record { sites = c.end_all.new.sites; sessions = c.end_all.new.sessions.entries })) c.self.view_is c.in-Ok.ensures
+returns-in-Ok g c = subst (λ (x : LiveState g.row.C-Effect.Denot _). AppliesLive (types_of g.C.Crdt.laws g.C.Crdt.spells g.D.Disk.state) x (command.Commit c.args.name.now c.args.steps) c.in-Ok.lines.items (record { sites = c.end_all.new.sites; sessions = c.end_all.new.sessions.entries })) c.self.view_is c.in-Ok.ensures
 
 pub end_all-requires-clause-reached : goal.end_all-requires-clause-reached
 end_all-requires-clause-reached g c = subst (λ (x : LiveState g.row.C-Effect.Denot _). IsReachedLive (types_of g.C.Crdt.laws g.C.Crdt.spells g.D.Disk.state) x) (sym c.self.view_is) c.requires.reached

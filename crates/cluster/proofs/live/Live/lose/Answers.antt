@@ -11,11 +11,11 @@ use Rattle.cluster.proofs.live.Live.lose.Goals as goal
 pub returns-then-not-contains_key : goal.returns-then-not-contains_key
 returns-then-not-contains_key g c =
     let v : LiveState g.row.C-Effect.Denot _ = record { sites = c.self.inside.sites; sessions = c.self.inside.sessions.entries } in
-    map_ok c.only.result (λ steps is. subst (λ (x : LiveState g.row.C-Effect.Denot _). AppliesLive (types_of g.C.Crdt.laws g.C.Crdt.spells g.D.Disk.state) x (command.Lose c.args.name) steps.items x) c.self.view_is (lose_absent (types_of g.C.Crdt.laws g.C.Crdt.spells g.D.Disk.state) v c.args.name steps.items is (none_of _ (sym c.contains_key.ensures ∙ c.if-not-contains_key.true)))) c.only.ensures
+    map_ok c.only.result (λ steps is. subst (λ (x : LiveState g.row.C-Effect.Denot _). AppliesLive (types_of g.C.Crdt.laws g.C.Crdt.spells g.D.Disk.state) x (command.Lose c.args.name.now) steps.items x) c.self.view_is (lose_absent (types_of g.C.Crdt.laws g.C.Crdt.spells g.D.Disk.state) v c.args.name.now steps.items is (none_of _ (sym c.contains_key.ensures ∙ c.if-not-contains_key.true)))) c.only.ensures
 
 pub returns : goal.returns
 returns g c =
     let v : LiveState g.row.C-Effect.Denot _ = record { sites = c.self.inside.sites; sessions = c.self.inside.sessions.entries } in
-    let there : is_some (session_in c.self.inside.sessions.entries c.args.name) ≡ true = search rules in
-    map_ok c.only-2.result (λ steps is. subst (λ (x : LiveState g.row.C-Effect.Denot _). AppliesLive (types_of g.C.Crdt.laws g.C.Crdt.spells g.D.Disk.state) x (command.Lose c.args.name) steps.items (record { sites = c.self.inside.sites; sessions = c.remove.new.sessions.entries })) c.self.view_is
-    (session_lost (types_of g.C.Crdt.laws g.C.Crdt.spells g.D.Disk.state) v c.args.name c.remove.new.sessions.entries steps.items is there c.remove.ensures.find c.remove.ensures.count)) c.only-2.ensures
+    let there : is_some (session_in c.self.inside.sessions.entries c.args.name.now) ≡ true = search rules in
+    map_ok c.only-2.result (λ steps is. subst (λ (x : LiveState g.row.C-Effect.Denot _). AppliesLive (types_of g.C.Crdt.laws g.C.Crdt.spells g.D.Disk.state) x (command.Lose c.args.name.now) steps.items (record { sites = c.self.inside.sites; sessions = c.remove.new.sessions.entries })) c.self.view_is
+    (session_lost (types_of g.C.Crdt.laws g.C.Crdt.spells g.D.Disk.state) v c.args.name.now c.remove.new.sessions.entries steps.items is there c.remove.ensures.find c.remove.ensures.count)) c.only-2.ensures

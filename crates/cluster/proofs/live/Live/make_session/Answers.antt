@@ -13,24 +13,24 @@ use Rattle.cluster.proofs.live.Live.make_session.Goals as goal
 
 pub returns-then-not-has_site : goal.returns-then-not-has_site
 returns-then-not-has_site g c =
-    map_ok c.only.result (λ steps is. session_nowhere (types_of g.C.Crdt.laws g.C.Crdt.spells g.D.Disk.state) c.args.self.now c.args.name c.args.site steps.items is (sym c.has_site.ensures ∙ c.if-not-has_site.true)) c.only.ensures
+    map_ok c.only.result (λ steps is. session_nowhere (types_of g.C.Crdt.laws g.C.Crdt.spells g.D.Disk.state) c.args.self.now c.args.name.now c.args.site steps.items is (sym c.has_site.ensures ∙ c.if-not-has_site.true)) c.only.ensures
 
 pub returns-then-contains_key : goal.returns-then-contains_key
 returns-then-contains_key g c =
     let v : LiveState g.row.C-Effect.Denot _ = record { sites = c.self-inside.inside.0.1.0.all; sessions = c.self-inside.inside.0.1.1.0.entries } in
-    map_ok c.only-then-contains_key.result (λ steps is. subst (λ (x : LiveState g.row.C-Effect.Denot _). AppliesLive (types_of g.C.Crdt.laws g.C.Crdt.spells g.D.Disk.state) x (command.Session c.args.name c.args.site) steps.items x) ((λ i. record { sites = (c.self-inside.view_is i).sites; sessions = (c.self-inside.view_is i).sessions.entries }) ∙ c.self.view_is) (session_again (types_of g.C.Crdt.laws g.C.Crdt.spells g.D.Disk.state) v c.args.name c.args.site steps.items is (ap (λ (x : LiveState g.row.C-Effect.Denot _). holds_site x.sites c.args.site) ((λ i. record { sites = (c.self-inside.view_is i).sites; sessions = (c.self-inside.view_is i).sessions.entries }) ∙ c.self.view_is) ∙ (sym c.has_site.ensures ∙ c.if-not-has_site.false)) (sym c.contains_key.ensures ∙ c.if-contains_key.true))) c.only-then-contains_key.ensures
+    map_ok c.only-then-contains_key.result (λ steps is. subst (λ (x : LiveState g.row.C-Effect.Denot _). AppliesLive (types_of g.C.Crdt.laws g.C.Crdt.spells g.D.Disk.state) x (command.Session c.args.name.now c.args.site) steps.items x) ((λ i. record { sites = (c.self-inside.view_is i).sites; sessions = (c.self-inside.view_is i).sessions.entries }) ∙ c.self.view_is) (session_again (types_of g.C.Crdt.laws g.C.Crdt.spells g.D.Disk.state) v c.args.name.now c.args.site steps.items is (ap (λ (x : LiveState g.row.C-Effect.Denot _). holds_site x.sites c.args.site) ((λ i. record { sites = (c.self-inside.view_is i).sites; sessions = (c.self-inside.view_is i).sessions.entries }) ∙ c.self.view_is) ∙ (sym c.has_site.ensures ∙ c.if-not-has_site.false)) (sym c.contains_key.ensures ∙ c.if-contains_key.true))) c.only-then-contains_key.ensures
 
 pub returns-then-len-eq-MOST_SESSIONS : goal.returns-then-len-eq-MOST_SESSIONS
 returns-then-len-eq-MOST_SESSIONS g c =
     let v : LiveState g.row.C-Effect.Denot _ = record { sites = c.self-inside.inside.0.1.0.all; sessions = c.self-inside.inside.0.1.1.0.entries } in
-    map_ok c.only-then-len-eq-MOST_SESSIONS.result (λ steps is. subst (λ (x : LiveState g.row.C-Effect.Denot _). AppliesLive (types_of g.C.Crdt.laws g.C.Crdt.spells g.D.Disk.state) x (command.Session c.args.name c.args.site) steps.items x) ((λ i. record { sites = (c.self-inside.view_is i).sites; sessions = (c.self-inside.view_is i).sessions.entries }) ∙ c.self.view_is)
-    (session_full (types_of g.C.Crdt.laws g.C.Crdt.spells g.D.Disk.state) v c.args.name c.args.site steps.items is (ap (λ (x : LiveState g.row.C-Effect.Denot _). holds_site x.sites c.args.site) ((λ i. record { sites = (c.self-inside.view_is i).sites; sessions = (c.self-inside.view_is i).sessions.entries }) ∙ c.self.view_is) ∙ (sym c.has_site.ensures ∙ c.if-not-has_site.false)) (none_of _ (sym c.contains_key.ensures ∙ c.if-contains_key.false)) (sym c.len.ensures.len ∙ c.if-len-eq-MOST_SESSIONS.true))) c.only-then-len-eq-MOST_SESSIONS.ensures
+    map_ok c.only-then-len-eq-MOST_SESSIONS.result (λ steps is. subst (λ (x : LiveState g.row.C-Effect.Denot _). AppliesLive (types_of g.C.Crdt.laws g.C.Crdt.spells g.D.Disk.state) x (command.Session c.args.name.now c.args.site) steps.items x) ((λ i. record { sites = (c.self-inside.view_is i).sites; sessions = (c.self-inside.view_is i).sessions.entries }) ∙ c.self.view_is)
+    (session_full (types_of g.C.Crdt.laws g.C.Crdt.spells g.D.Disk.state) v c.args.name.now c.args.site steps.items is (ap (λ (x : LiveState g.row.C-Effect.Denot _). holds_site x.sites c.args.site) ((λ i. record { sites = (c.self-inside.view_is i).sites; sessions = (c.self-inside.view_is i).sessions.entries }) ∙ c.self.view_is) ∙ (sym c.has_site.ensures ∙ c.if-not-has_site.false)) (none_of _ (sym c.contains_key.ensures ∙ c.if-contains_key.false)) (sym c.len.ensures.len ∙ c.if-len-eq-MOST_SESSIONS.true))) c.only-then-len-eq-MOST_SESSIONS.ensures
 
 pub returns : goal.returns
 returns g c =
     let v : LiveState g.row.C-Effect.Denot _ = record { sites = c.self-inside.inside.0.1.0.all; sessions = c.self-inside.inside.0.1.1.0.entries } in
-    map_ok c.only-2.result (λ steps is. subst (λ (x : LiveState g.row.C-Effect.Denot _). AppliesLive (types_of g.C.Crdt.laws g.C.Crdt.spells g.D.Disk.state) x (command.Session c.args.name c.args.site) steps.items (record { sites = c.self-inside.inside.0.1.0.all; sessions = c.create.new.sessions.entries })) ((λ i. record { sites = (c.self-inside.view_is i).sites; sessions = (c.self-inside.view_is i).sessions.entries }) ∙ c.self.view_is)
-    (session_made (types_of g.C.Crdt.laws g.C.Crdt.spells g.D.Disk.state) v c.args.name c.args.site c.create.new.sessions.entries c.new-session.result steps.items is (ap (λ (x : LiveState g.row.C-Effect.Denot _). holds_site x.sites c.args.site) ((λ i. record { sites = (c.self-inside.view_is i).sites; sessions = (c.self-inside.view_is i).sessions.entries }) ∙ c.self.view_is) ∙ (sym c.has_site.ensures ∙ c.if-not-has_site.false))
+    map_ok c.only-2.result (λ steps is. subst (λ (x : LiveState g.row.C-Effect.Denot _). AppliesLive (types_of g.C.Crdt.laws g.C.Crdt.spells g.D.Disk.state) x (command.Session c.args.name.now c.args.site) steps.items (record { sites = c.self-inside.inside.0.1.0.all; sessions = c.create.new.sessions.entries })) ((λ i. record { sites = (c.self-inside.view_is i).sites; sessions = (c.self-inside.view_is i).sessions.entries }) ∙ c.self.view_is)
+    (session_made (types_of g.C.Crdt.laws g.C.Crdt.spells g.D.Disk.state) v c.args.name.now c.args.site c.create.new.sessions.entries c.new-session.result steps.items is (ap (λ (x : LiveState g.row.C-Effect.Denot _). holds_site x.sites c.args.site) ((λ i. record { sites = (c.self-inside.view_is i).sites; sessions = (c.self-inside.view_is i).sessions.entries }) ∙ c.self.view_is) ∙ (sym c.has_site.ensures ∙ c.if-not-has_site.false))
     (subst (λ n. 1 ≤ n) c.parts-parts.ensures.is c.parts-parts.ensures.least)
     (none_of _ (sym c.contains_key.ensures ∙ c.if-contains_key.false))
     (not_many _ c.len.result c.len.ensures.len c.if-len-eq-MOST_SESSIONS.false)
