@@ -1,4 +1,4 @@
-ghost use Rattle.std.specs.Prelude.{◌≡◌, length, nat_eq, IfOk, map};
+ghost use Rattle.std.specs.Prelude.{◌≡◌, length, nat_eq, IfOk, IfSome, map, option_copied};
 ghost use Rattle.std.specs.List.{filter};
 ghost use Rattle.std.specs.HashMap.{get};
 ghost use Rattle.effect_store.specs.Arranged.{arranged};
@@ -12,7 +12,7 @@ use crate::hooks::head;
 use crate::links::Links;
 use crate::newest::{Newest, is_none_shown, kept_for};
 use crate::tags::tag_of;
-use crdt_core::{Crdt, ObjectId, Part, Value};
+use crdt_core::{Crdt, ObjectId, Part};
 use site_vector::VTime;
 use std::alloc::{AllocError, Global};
 use std::collections::HashMap;
@@ -58,26 +58,25 @@ pub(crate) fn read_state<C: Crdt>(
     Ok(state)
 }
 
-/// What the object shows at the snapshot, without a copy where its kept state has all that the snapshot shows.
-pub(crate) fn read_value<C: Crdt>(
-    alloc: Global,
+/// The kept state of the object, where it has all that the snapshot shows.
+pub(crate) fn standing_state<'a, C: Crdt>(
     parts: &[Part<C::Effect>],
     links: &Links,
-    newest: &HashMap<u64, Newest<C::State>>,
+    newest: &'a HashMap<u64, Newest<C::State>>,
     object: &ObjectId,
     snapshot: &VTime,
-) -> Result<Value, AllocError>
+) -> Option<&'a C::State>
     requires reading { IsReading parts.now links.now }
     requires wide { AreWide (length snapshot.now) parts.now }
     requires hold { AreNewest C.initial C.step (length snapshot.now) (spots parts.now) (get nat_eq newest.now) }
-    ensures { IfOk result (λ v. v ≡ C.value_of (applied C.step (C.initial object.now.kind) (map pair (filter (mine object.now (shows snapshot.now)) (arranged before (spots parts.now)))))) }
+    ensures { IfSome (option_copied result) (λ s. s ≡ applied C.step (C.initial object.now.kind) (map pair (filter (mine object.now (shows snapshot.now)) (arranged before (spots parts.now))))) }
 {
-    if let Some(kept) = kept_for(parts, links, newest, object, snapshot) {
-        let from = links.next[kept.at as usize];
-        if is_none_shown(parts, links, from, object, snapshot) {
-            return C::value(alloc, &kept.state);
-        }
+    let Some(kept) = kept_for(parts, links, newest, object, snapshot) else {
+        return None;
+    };
+    let from = links.next[kept.at as usize];
+    if is_none_shown(parts, links, from, object, snapshot) {
+        return Some(&kept.state);
     }
-    let state = read_state::<C>(alloc, parts, links, newest, object, snapshot)?;
-    C::value(alloc, &state)
+    None
 }

@@ -1,4 +1,4 @@
-ghost use Rattle.std.specs.Prelude.{◌≡◌, ◌+◌, ◌≤◌, ℕ, [], length, false, Some, None, IfOk, IfSome, OnOk, if◌then◌else◌, vec_len, vec_capacity};
+ghost use Rattle.std.specs.Prelude.{◌≡◌, ◌+◌, ◌≤◌, ℕ, [], length, false, Some, None, IfOk, IfSome, OnOk, if◌then◌else◌, vec_len, vec_capacity, option_copied};
 ghost use Rattle.std.specs.List.{filter};
 ghost use Rattle.std.specs.HashMap.{get, spare};
 ghost use Rattle.site_vector.specs.declared.ids.TxId.{TxId};
@@ -15,7 +15,7 @@ use crate::commits::{Commits, Parts, list_part, stretch};
 use crate::hooks::head;
 use crate::links::{Links, NONE, link_part};
 use crate::newest::{Newest, advance, forget};
-use crate::reads::{read_state, read_value};
+use crate::reads::{read_state, standing_state};
 use crate::tags::tag_of;
 use crate::updates::Updates;
 use crdt_core::{Crdt, ObjectId, Part, Value};
@@ -218,9 +218,49 @@ impl<C: Crdt> Store<C> {
         Ok(())
     }
 
-    /// The state of an object at a snapshot. Two states of each object are kept: the newest has what the last snapshot shows before the
-    /// first update that it doesn't show, and an older one stays behind for parts that come late. The newest that the snapshot shows is
-    /// brought forward and copied, and what else the snapshot shows is applied to the copy.
+    /// Brings the newest state of the object forward over what the snapshot shows, for the reads that follow. What the store
+    /// answers doesn't change. Two states of each object are kept: the newest has what the last snapshot shows before the first
+    /// update that it doesn't show, and an older one stays behind for parts that come late.
+    ///
+    /// # Errors
+    ///
+    /// `AllocError` where memory runs out.
+    pub fn bring_forward(
+        &mut self,
+        alloc: Global,
+        object: &ObjectId,
+        snapshot: &VTime,
+    ) -> Result<(), AllocError>
+        requires width { length snapshot.now ≡ self.old.sites }
+        ensures { self.new ≡ self.old }
+    {
+        advance::<C>(
+            alloc,
+            self.parts.as_slice(),
+            &self.links,
+            &mut self.newest,
+            &mut self.older,
+            object,
+            snapshot,
+        )
+    }
+
+    /// The state of an object at a snapshot as it is kept, where a kept one has all that the snapshot shows.
+    pub fn standing(&self, object: &ObjectId, snapshot: &VTime) -> Option<&C::State>
+        requires width { length snapshot.now ≡ self.now.sites }
+        ensures { IfSome (option_copied result) (λ s. s ≡ folded (C.initial object.now.kind) C.step (effects_of object.now [] (seen_parts object.now snapshot.now self.now.parts))) }
+    {
+        standing_state::<C>(
+            self.parts.as_slice(),
+            &self.links,
+            &self.newest,
+            object,
+            snapshot,
+        )
+    }
+
+    /// The state of an object at a snapshot. The newest that is kept and that the snapshot shows is brought forward and copied, and
+    /// what else the snapshot shows is applied to the copy.
     ///
     /// # Errors
     ///
@@ -235,23 +275,8 @@ impl<C: Crdt> Store<C> {
         ensures state { IfOk result (λ s. s ≡ folded (C.initial object.now.kind) C.step (effects_of object.now [] (seen_parts object.now snapshot.now self.old.parts))) }
         ensures same { self.new ≡ self.old }
     {
-        advance::<C>(
-            alloc,
-            self.parts.as_slice(),
-            &self.links,
-            &mut self.newest,
-            &mut self.older,
-            object,
-            snapshot,
-        )?;
-        read_state::<C>(
-            alloc,
-            self.parts.as_slice(),
-            &self.links,
-            &self.newest,
-            object,
-            snapshot,
-        )
+        self.bring_forward(alloc, object, snapshot)?;
+        self.copied(alloc, object, snapshot)
     }
 
     /// What an object shows at a snapshot. It costs what `state` costs, but where the newest state has all that the snapshot shows it
@@ -270,16 +295,25 @@ impl<C: Crdt> Store<C> {
         ensures value { IfOk result (λ v. v ≡ C.value_of (folded (C.initial object.now.kind) C.step (effects_of object.now [] (seen_parts object.now snapshot.now self.old.parts)))) }
         ensures same { self.new ≡ self.old }
     {
-        advance::<C>(
-            alloc,
-            self.parts.as_slice(),
-            &self.links,
-            &mut self.newest,
-            &mut self.older,
-            object,
-            snapshot,
-        )?;
-        read_value::<C>(
+        self.bring_forward(alloc, object, snapshot)?;
+        if let Some(state) = self.standing(object, snapshot) {
+            return C::value(alloc, state);
+        }
+        let state = self.copied(alloc, object, snapshot)?;
+        C::value(alloc, &state)
+    }
+
+    /// The state of an object at a snapshot, made from a copy of a kept one where that serves.
+    fn copied(
+        &self,
+        alloc: Global,
+        object: &ObjectId,
+        snapshot: &VTime,
+    ) -> Result<C::State, AllocError>
+        requires width { length snapshot.now ≡ self.now.sites }
+        ensures { IfOk result (λ s. s ≡ folded (C.initial object.now.kind) C.step (effects_of object.now [] (seen_parts object.now snapshot.now self.now.parts))) }
+    {
+        read_state::<C>(
             alloc,
             self.parts.as_slice(),
             &self.links,

@@ -93,8 +93,8 @@ impl<C: Crdt> Partition<C> {
         if let Some(why) = wait_for(&self.clock, &self.prepared, self.id.site, s, object) {
             return Err(CallError::Refused(why));
         }
-        let state = state_read::<C>(alloc, &mut self.store, tx, s, object, own)?;
-        let made = made::<C>(alloc, kind, op, &state, self.clock.now())?;
+        let now = self.clock.now();
+        let made = made_under::<C>(alloc, &mut self.store, tx, s, object, own, op, now)?;
         Ok(made)
     }
 }
@@ -139,6 +139,36 @@ fn state_read<C: Crdt>(
     let mut state = store.state(alloc, object, s)?;
     apply_own::<C>(alloc, &mut state, tx, own, object)?;
     Ok(state)
+}
+
+/// The effect of an operation of the object's kind on what the object shows under a snapshot, with a transaction's own
+/// updates applied, at a clock value; and its stamp. The state is copied only where it must be changed for that.
+fn made_under<C: Crdt>(
+    alloc: Global,
+    store: &mut Store<C>,
+    tx: TxId,
+    s: &VTime,
+    object: &ObjectId,
+    own: &[Upd<C::Effect>],
+    op: &Op,
+    now: u64,
+) -> Result<(C::Effect, Option<u64>), AllocError>
+    requires has { C.has object.now.kind ≡ true }
+    requires width { length s.now ≡ store.old.sites }
+    requires fit { (fits object.now.kind op.now.path op.now.act && not (C.too_deep object.now.kind op.now.path)) ≡ true }
+    ensures same { store.new ≡ store.old }
+    ensures effect { IfOk result (λ x. x.0 ≡ C.made object.now.kind (applied C.step object.now tx (folded (C.initial object.now.kind) C.step (effects_of object.now [] (seen_parts object.now s.now store.old.parts))) own.now) op.now.path op.now.act now) }
+    ensures ready { HoldsSpelled C.holds (applied C.step object.now tx (folded (C.initial object.now.kind) C.step (effects_of object.now [] (seen_parts object.now s.now store.old.parts))) own.now) → IfOk result (λ x. IsReady C.is_of C.can_put C.contents C.spelling object.now.kind op.now.path op.now.act x.0) }
+    ensures stamp { IfOk result (λ x. x.1 ≡ C.stamp_of x.0) }
+{
+    if own.len() == 0 {
+        store.bring_forward(alloc, object, s)?;
+        if let Some(state) = store.standing(object, s) {
+            return made::<C>(alloc, object.kind, op, state, now);
+        }
+    }
+    let state = state_read::<C>(alloc, store, tx, s, object, own)?;
+    made::<C>(alloc, object.kind, op, &state, now)
 }
 
 /// Applies those of a transaction's updates that are of the object.

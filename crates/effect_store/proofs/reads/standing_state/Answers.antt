@@ -1,7 +1,6 @@
-use Rattle.std.proofs.Common.{◌≡◌, ◌<◌, length, subst, arith}
-use Rattle.std.specs.Prelude.{IfOk}
+use Rattle.std.proofs.Common.{◌<◌, length, arith}
 use Rattle.effect_store.proofs.Keeping.{newest_within, read_at_end}
-use Rattle.effect_store.proofs.reads.read_value.Goals as goal
+use Rattle.effect_store.proofs.reads.standing_state.Goals as goal
 
 pub kept_for-requires-clause-within : goal.kept_for-requires-clause-within
 kept_for-requires-clause-within g c = newest_within _ _ _ _ _ c.requires.reading _ c.requires.hold
@@ -14,5 +13,4 @@ index-from-requires g c =
 pub returns-then-is_none_shown : goal.returns-then-is_none_shown
 returns-then-is_none_shown g c =
     let kept = c.in-Some.ensures in
-    let P : g.row.C-State.Denot → Type 0 = λ z. IfOk c.value.result (λ v. v ≡ g.C.Crdt.value_of z) in
-    subst P (read_at_end g.C.Crdt.initial g.C.Crdt.step _ _ c.requires.reading _ c.args.object.now c.args.snapshot.now _ _ c.in-Some.kept.now _ c.requires.hold kept.0 kept.1 kept.2 c.index-from.ensures (c.is_none_shown.ensures c.if-is_none_shown.true)) c.value.ensures
+    read_at_end g.C.Crdt.initial g.C.Crdt.step _ _ c.requires.reading _ c.args.object.now c.args.snapshot.now _ _ c.in-Some.kept.now _ c.requires.hold kept.0 kept.1 kept.2 c.index-from.ensures (c.is_none_shown.ensures c.if-is_none_shown.true)
