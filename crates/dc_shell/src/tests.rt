@@ -1,22 +1,8 @@
 //! What no clause says: that the line of a status is written to a writer that takes it, and that a call reads and writes all that it can.
+use crate::plays::Broken;
 use crate::{end, tell};
 use dc_engine::{Reading, Sink, Source, Status, Writing};
-use std::io::{Error, ErrorKind, Write};
 use std::test::*;
-
-/// Fails at each call.
-#[derive(Drop)]
-struct Broken;
-
-impl Write for Broken {
-    fn write(&mut self, _: &[u8]) -> std::io::Result<usize> {
-        Err(Error::from(ErrorKind::TimedOut))
-    }
-
-    fn flush(&mut self) -> std::io::Result<()> {
-        Ok(())
-    }
-}
 
 #[test]
 fn tells_a_status(rt: HostRuntime) {
