@@ -1,6 +1,6 @@
 -- What lines read as.
 use Rattle.std.proofs.Common.{◌≡◌, ℕ, ◌-◌, ◌<◌, ◌≤◌, Bool, true, false, ◌&&◌, ◌||◌, ◌==◌, nat_lt, List, [], ◌∷◌, ◌++◌, length, take, Option, Some, None, option_map, option_and_then, codes, refl, ap, sym, ◌∙◌, inl, inr, arith, length-take}
-use Rattle.std.specs.Prelude.{nat_le, if◌then◌else◌, ◌^◌}
+use Rattle.std.specs.Prelude.{nat_le, if◌then◌else◌, ◌^◌, Result, Ok, Err, IfOk}
 use Rattle.std.specs.Io.BufRead.{strip_last, ends_with_byte}
 use Rattle.std.specs.List.{list_all, list_any}
 use Rattle.std.specs.Char.{is_ascii_digit}
@@ -26,6 +26,11 @@ use Rattle.dc_engine.specs.Reading.{reading_of, asked_of, asked_as, is_unreadabl
 use Rattle.dc_engine.specs.ObjectKinds.{kinds, shallow}
 use Rattle.crdt_core.specs.Log.{end_of_time}
 use Rattle.cluster.specs.Built.{IsSaid}
+
+-- what holds of a value that came, by what else does
+pub whenever_ok : {A X : Type 0} {P Q : A → Type 0} (r : Result A X) → ((x : A) → P x → Q x) → IfOk r P → IfOk r Q
+whenever_ok (Ok x) f p = f x p
+whenever_ok (Err x) f p = tt
 
 -- what was read
 pub read_ok : (line : List ℕ) (p : Parsed) → Reads line p → Some p ≡ reading_of line

@@ -1,16 +1,13 @@
-use Rattle.std.specs.Prelude.{Err}
-use Rattle.std.proofs.Common.{sym, subst, ◌∙◌, ap, Some}
-use Rattle.std.specs.Io.BufRead.{strip_last}
-use Rattle.cluster.proofs.Applying.{map_ok}
+use Rattle.std.proofs.Common.{sym, subst, ◌∙◌, ap}
 use Rattle.dc_engine.specs.Reading.{reading_of, AsksSaid}
-use Rattle.dc_engine.proofs.Readings.{read_ok, read_bad, reads_said}
+use Rattle.dc_engine.proofs.Readings.{whenever_ok, read_ok, read_bad, reads_said}
 use Rattle.dc_engine.proofs.reading.reading.Goals as goal
 
 pub returns-clause-read : goal.returns-clause-read
-returns-clause-read c = map_ok c.parse.result (λ p r. read_ok c.without_return.result.now p r ∙ ap reading_of c.without_return.ensures) c.parse.ensures.ok
+returns-clause-read c = whenever_ok c.parse.result (λ p r. read_ok c.without_return.result.now p r ∙ ap reading_of c.without_return.ensures) c.parse.ensures.ok
 
 pub returns-clause-said : goal.returns-clause-said
-returns-clause-said c = map_ok c.parse.result (λ p r. let line = c.without_return.result.now in subst AsksSaid (sym (read_ok line p r)) (reads_said line)) c.parse.ensures.ok
+returns-clause-said c = whenever_ok c.parse.result (λ p r. let line = c.without_return.result.now in subst AsksSaid (sym (read_ok line p r)) (reads_said line)) c.parse.ensures.ok
 
 pub returns-clause-bad : goal.returns-clause-bad
 returns-clause-bad c e = read_bad c.without_return.result.now (c.parse.ensures.bad e) ∙ ap reading_of c.without_return.ensures

@@ -1,10 +1,11 @@
-use Rattle.std.proofs.Common.{◌≡◌, ◌≤◌, ◌∙◌, ap, sym, subst, Some, replicate}
+use Rattle.std.proofs.Common.{◌≡◌, ◌≤◌, ◌∙◌, ap, sym, subst, Some, ◌∷◌, [], replicate}
 use Rattle.std.specs.Prelude.{if◌then◌else◌}
 use Rattle.std.specs.Str.{bytes_eq}
 use Rattle.txn_session.specs.Session.{Idle}
 use Rattle.site_partitions.specs.Held.{holds_site}
 use Rattle.site_partitions.specs.Reaches.{types_of}
 use Rattle.world_model.specs.declared.command.Command.TheVariants as command
+use Rattle.world_model.specs.declared.step.Step.TheVariants as step
 use Rattle.cluster.specs.Live.{LiveState, session_in}
 use Rattle.cluster.specs.Reached.{AppliesLive}
 use Rattle.cluster.proofs.Applying.{map_ok}
@@ -30,7 +31,7 @@ pub returns : goal.returns
 returns g c =
     let v : LiveState g.row.C-Effect.Denot _ = record { sites = c.self-inside.inside.0.1.0.all; sessions = c.self-inside.inside.0.1.1.0.entries } in
     map_ok c.only-2.result (λ steps is. subst (λ (x : LiveState g.row.C-Effect.Denot _). AppliesLive (types_of g.C.Crdt.laws g.C.Crdt.spells g.D.Disk.state) x (command.Session c.args.name.now c.args.site) steps.items (record { sites = c.self-inside.inside.0.1.0.all; sessions = c.create.new.sessions.entries })) ((λ i. record { sites = (c.self-inside.view_is i).sites; sessions = (c.self-inside.view_is i).sessions.entries }) ∙ c.self.view_is)
-    (session_made (types_of g.C.Crdt.laws g.C.Crdt.spells g.D.Disk.state) v c.args.name.now c.args.site c.create.new.sessions.entries c.new-session.result steps.items is (ap (λ (x : LiveState g.row.C-Effect.Denot _). holds_site x.sites c.args.site) ((λ i. record { sites = (c.self-inside.view_is i).sites; sessions = (c.self-inside.view_is i).sessions.entries }) ∙ c.self.view_is) ∙ (sym c.has_site.ensures ∙ c.if-not-has_site.false))
+    (session_made (types_of g.C.Crdt.laws g.C.Crdt.spells g.D.Disk.state) v c.args.name.now c.args.site c.create.new.sessions.entries c.new-session.result steps.items (is ∙ ap (λ n. step.MadeSession n c.args.site ∷ []) c.in_ok-copy.ensures) (ap (λ (x : LiveState g.row.C-Effect.Denot _). holds_site x.sites c.args.site) ((λ i. record { sites = (c.self-inside.view_is i).sites; sessions = (c.self-inside.view_is i).sessions.entries }) ∙ c.self.view_is) ∙ (sym c.has_site.ensures ∙ c.if-not-has_site.false))
     (subst (λ n. 1 ≤ n) c.parts-parts.ensures.is c.parts-parts.ensures.least)
     (none_of _ (sym c.contains_key.ensures ∙ c.if-contains_key.false))
     (not_many _ c.len.result c.len.ensures.len c.if-len-eq-MOST_SESSIONS.false)
