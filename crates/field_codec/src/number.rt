@@ -15,7 +15,8 @@ pub fn put_u8(out: &mut Vec<u8>, n: u8) -> Result<(), AllocError>
     ensures ok { OnOk result (out.new.items ≡ out.old.items ++ number 1 n) }
     ensures err { OnErr result (out.new.items ≡ out.old.items) }
 {
-    out.extend_from_slice(&[n])
+    out.push(n)?;
+    Ok(())
 }
 
 /// Appends a number in two bytes, the high one first.
@@ -29,7 +30,10 @@ pub fn put_u16(out: &mut Vec<u8>, n: u16) -> Result<(), AllocError>
 {
     let mut bytes = [0; 2];
     BigEndian::write_u16(&mut bytes, n);
-    out.extend_from_slice(&bytes)
+    out.reserve(2)?;
+    out.push_reserved(bytes[0]);
+    out.push_reserved(bytes[1]);
+    Ok(())
 }
 
 /// Appends a number in four bytes, the highest first.

@@ -10,7 +10,7 @@ use log_records::{put, put_batch};
 use std::alloc::{AllocError, Global};
 
 /// What most records take, so that their bytes grow in place.
-const MOST_RECORDS: usize = 512;
+const USUAL_BYTES: usize = 512;
 
 pub(crate) fn payload_of<C: Crdt>(
     alloc: Global,
@@ -20,7 +20,7 @@ pub(crate) fn payload_of<C: Crdt>(
     ensures spelled { IfOk result (λ payload. (codec_of C.spells).spelled value.now ≡ true) }
     ensures bytes { IfOk result (λ payload. payload.items ≡ (codec_of C.spells).bytes value.now) }
 {
-    let mut payload = Vec::with_capacity(alloc, MOST_RECORDS)?;
+    let mut payload = Vec::with_capacity(alloc, USUAL_BYTES)?;
     put::<C>(&mut payload, value)?;
     Ok(payload)
 }
@@ -33,7 +33,7 @@ pub(crate) fn payload_of_batch<C: Crdt>(
     ensures spelled { IfOk result (λ payload. (codec_of C.spells).spelled (Batch message.now) ≡ true) }
     ensures bytes { IfOk result (λ payload. payload.items ≡ (codec_of C.spells).bytes (Batch message.now)) }
 {
-    let mut payload = Vec::with_capacity(alloc, MOST_RECORDS)?;
+    let mut payload = Vec::with_capacity(alloc, USUAL_BYTES)?;
     put_batch::<C>(&mut payload, message)?;
     Ok(payload)
 }
