@@ -5,20 +5,23 @@
     bench/gate/table.py table [FILE]    prints the table
 
 The tools print no times, and those of a clock say little where other work goes on. So `watch` looks every other second
-at the processes of the prover, and keeps in FILE what each has spent of a processor. What is proved in the crate's own
-folder counts as its proof, tests and the programs of both compilers too; what is proved elsewhere, as its edits: the
-gate proves a crate once more before it tries them. A crate that an earlier run proved has empty columns, as all have
-where there is no FILE.
+at the processes of the prover that a gate started, and keeps in FILE what each has spent of a processor. What is proved
+in a gate's copy of the repository counts as the crate's proof, tests and the programs of both compilers too; what is
+proved in a copy for edits, as its edits: the gate proves a crate once more before it tries them. A crate that an
+earlier run proved has empty columns, as all have where there is no FILE.
 """
 import collections
 import glob
 import json
 import os
+import re
 import sys
 import time
 
 TOP = os.path.dirname(os.path.dirname(os.path.dirname(os.path.abspath(__file__))))
 TICKS = os.sysconf("SC_CLK_TCK")
+# the folders in which `rt ci` proves, and tries edits
+GATES = re.compile("/rt-(copy|edit)-")
 
 
 def crates():
@@ -39,7 +42,7 @@ def lines_of(crate, folder):
 
 
 def looked_at(number):
-    """What a process of the prover is known by, its crate, its folder and its seconds of a processor; of another, None."""
+    """What a gate's prover is known by, its crate, its folder and its seconds of a processor; of another process, None."""
     with open(f"/proc/{number}/stat") as text:
         head, _, rest = text.read().rpartition(") ")
     if not head.endswith("(rattle"):
@@ -48,11 +51,14 @@ def looked_at(number):
         words = text.read().split("\0")
     if "--crate-name" not in words:
         return None
+    folder = os.readlink(f"/proc/{number}/cwd")
+    if not GATES.search(folder):
+        return None
     fields = rest.split()
     # its own and that of the processes which it started and waited for
     spent = sum(map(int, fields[11:15])) / TICKS
     crate = words[words.index("--crate-name") + 1]
-    return f"{number}-{fields[19]}", crate, os.readlink(f"/proc/{number}/cwd"), spent
+    return f"{number}-{fields[19]}", crate, folder, spent
 
 
 def watch(path):

@@ -38,7 +38,7 @@ use Rattle.site_partitions.specs.Reaches.{Types}
 use Rattle.cluster.specs.Acts.{Acts, Updates}
 use Rattle.cluster.specs.Built.{is_built}
 use Rattle.site_partitions.specs.Held.{Held}
-use Rattle.cluster.specs.Live.{LiveState, session_in, refusal_about, refused_line}
+use Rattle.cluster.specs.Live.{LiveState, session_in, refused_line}
 use Rattle.cluster.specs.Reached.{phase_as, StandsBy, ReachedLive, GoesTo, AppliesLive}
 use Rattle.cluster.specs.Sees.{Sees}
 use Rattle.cluster.specs.Faults.{ShowFaults}
@@ -54,14 +54,6 @@ module _ {E : Type 0} where
     pub found : SessionState E
     pub is : x ≡ Some found
     pub why_is : update_refusal too_deep found.doing o op ≡ why
-
-  pub would : (too_deep : Kind → List Field → Bool) (o : ObjectId) (op : Op) (x : Option (SessionState E)) (why : Option SessionError) → refusal_about too_deep o op x ≡ Some why → Would too_deep o op x why
-  would too_deep o op None why h = absurd cc
-  would too_deep o op (Some s) why h = record { found = s; is = refl; why_is = cc }
-
-  pub none_would : (too_deep : Kind → List Field → Bool) (o : ObjectId) (op : Op) (x : Option (SessionState E)) → refusal_about too_deep o op x ≡ None → x ≡ None
-  none_would too_deep o op None h = refl
-  none_would too_deep o op (Some s) h = absurd cc
 
   -- an update that isn't refused
   pub record MayUpdate (o : ObjectId) (op : Op) (txn : Txn E) : Type 0 where

@@ -3,15 +3,10 @@ use Rattle.std.specs.Prelude.{◌≡◌, ℕ, Bool, true, false, List, length, O
 use Rattle.std.specs.Map.{lookup}
 use Rattle.std.specs.Str.{bytes_eq}
 use Rattle.site_vector.specs.declared.ids.PartId.{PartId}
-use Rattle.crdt_core.specs.declared.kind.Kind.{Kind}
-use Rattle.crdt_core.specs.declared.object.Field.{Field}
-use Rattle.crdt_core.specs.declared.object.ObjectId.{ObjectId}
-use Rattle.crdt_core.specs.declared.operation.Op.{Op}
 use Rattle.world_model.specs.declared.step.Step.{Step}
 use Rattle.world_model.specs.declared.step.Step.TheVariants as step
 use Rattle.txn_session.specs.declared.error.SessionError.{SessionError}
 use Rattle.txn_session.specs.declared.error.SessionError.TheVariants as error
-use Rattle.txn_session.specs.Opens.{update_refusal}
 use Rattle.txn_session.specs.declared.phase.Phase.{Phase}
 use Rattle.txn_session.specs.declared.phase.Phase.TheVariants as phase
 use Rattle.txn_session.specs.Session.{SessionState, phase_of}
@@ -64,15 +59,7 @@ abbrev pub number_of : Option PartId → ℕ
 number_of None = 1
 number_of (Some p) = p.part
 
--- why the session's update would be refused before any partition is asked
-abbrev pub refusal_about : {E : Type 0} → (Kind → List Field → Bool) → ObjectId → Op → Option (SessionState E) → Option (Option SessionError)
-refusal_about too_deep o op None = None
-refusal_about too_deep o op (Some s) = Some (update_refusal too_deep s.doing o op)
-
-abbrev pub refusal_in : {E : Type 0} → (Kind → List Field → Bool) → List (List ℕ × SessionState E) → List ℕ → ObjectId → Op → Option (Option SessionError)
-refusal_in too_deep sessions name o op = refusal_about too_deep o op (session_in sessions name)
-
--- and its line
+-- the line of an update that is refused before any partition is asked
 abbrev pub refused_line : SessionError → Step
 refused_line error.NoTxn = step.NoTxn
 refused_line error.TooMany = step.LimitUpdates

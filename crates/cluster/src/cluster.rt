@@ -102,13 +102,13 @@ impl<C: Crdt, D: Disk + Drop> Cluster<C, D> {
         match answer(self.alloc, &mut self.live, command) {
             Ok(steps) => {
                 if lacks_memory(&self.live, steps.as_slice()) {
-                    self.live = None;
+                    drop_live(&mut self.live);
                     return Err(AllocError);
                 }
                 return Ok(steps);
             }
             Err(error) => {
-                self.live = None;
+                drop_live(&mut self.live);
                 return Err(error);
             }
         }
@@ -145,6 +145,13 @@ fn answer<C: Crdt, D: Disk + Drop>(
             return only(alloc, Step::NoCluster);
         }
     }
+}
+
+/// Drops what memory ran out for. Rare, and kept out of the way of each command.
+fn drop_live<C: Crdt, D: Disk + Drop>(live: &mut Option<Running<C, Fused<D>>>)
+    ensures { live.new ≡ None }
+{
+    *live = None;
 }
 
 /// Whether one of these lines tells of a disk that failed for want of memory.

@@ -6,3 +6,4 @@ pub mod LayerLaws
 pub mod LayerResets
 pub mod NothingLaws
 pub mod Parts
+pub mod Meanings

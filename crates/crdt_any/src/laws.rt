@@ -4,8 +4,9 @@ ghost use Rattle.crdt_core.specs.declared.object.Field.{Field};
 ghost use Rattle.crdt_core.specs.declared.operation.Act.{Act};
 ghost use Rattle.crdt_core.specs.Fits.{fits};
 ghost use Rattle.crdt_any.specs.Depth.{leads_past};
+ghost use Rattle.crdt_any.specs.Meanings.{HasMeanings};
 
-use crate::Any;
+use crate::{Any, Layer};
 use crdt_core::Crdt;
 
 /// What `Any` reaches: every kind, and in maps three fields below the object, as deep as an operation of a kind leads.
@@ -14,4 +15,11 @@ pub fn law_any()
     ensures kinds { (k : Kind) → ⟦<Any as Crdt>⟧.has k ≡ true }
     ensures too_deep { (k : Kind) (p : List Field) → ⟦<Any as Crdt>⟧.too_deep k p ≡ leads_past 3 k p }
     ensures fits { (k : Kind) (p : List Field) (a : Act) → fits k p a ≡ true → ⟦<Any as Crdt>⟧.too_deep k p ≡ false }
+{}
+
+/// What each kind of a layer means, by the definition of its crate: the fields of a map mean what they mean in the layer
+/// within.
+#[tactic(auto, using(crate::specs::Meanings::layer_meanings))]
+pub fn law_meanings<I: Crdt>()
+    ensures { HasMeanings I.has I.meaning ⟦<Layer<I> as Crdt>⟧.meaning }
 {}

@@ -10,7 +10,7 @@ mod part;
 mod state;
 
 pub use effect::LayerEffect;
-pub use laws::law_any;
+pub use laws::{law_any, law_meanings};
 pub use layer::Layer;
 pub use nothing::Nothing;
 pub use state::LayerState;

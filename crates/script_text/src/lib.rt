@@ -53,16 +53,15 @@ pub enum Parsed {
     Command(Command),
 }
 
-/// Whether all bytes are ASCII.
+/// Whether all bytes are ASCII. A loop that looks at each takes many at once.
 fn is_ascii(bytes: &[u8]) -> bool
     ensures { result ≡ list_all is_ascii_byte bytes.now }
 {
+    let mut greatest = 0;
     for byte in bytes {
-        if *byte >= 128 {
-            return false;
-        }
+        greatest = greatest.max(*byte);
     }
-    true
+    greatest < 128
 }
 
 /// Whether the bytes are UTF-8. Most lines are ASCII, which a test of each byte alone sees faster.

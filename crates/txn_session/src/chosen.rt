@@ -1,4 +1,4 @@
-ghost use Rattle.std.specs.Prelude.{◌≡◌, ◌≤◌, ◌+◌, length, take, IfOk, Bool};
+ghost use Rattle.std.specs.Prelude.{◌≡◌, ◌≤◌, ◌+◌, length, take, [], true, IfOk, OnOk, Bool};
 ghost use Rattle.crdt_core.specs.Objects.{same_object};
 ghost use Rattle.world_model.specs.Plan.{is_some_update};
 ghost use Rattle.txn_session.specs.Session.{own_updates, updates_of, participants, first_or_zero};
@@ -27,23 +27,56 @@ pub fn own_of<C: Crdt>(
     Ok(own)
 }
 
-/// Copies of the updates at a partition.
-pub fn part_of<C: Crdt>(
+/// The updates at a partition: where all stand there, as they are, and else copies, which go into `copies`.
+pub fn part_of<'a, C: Crdt>(
+    alloc: Global,
+    updates: &'a [Upd<C::Effect>],
+    parts: u8,
+    part: u8,
+    copies: &'a mut ListOf<Upd<C::Effect>>,
+) -> Result<&'a [Upd<C::Effect>], AllocError>
+    requires least { 1 ≤ parts }
+    requires none { copies.old ≡ [] }
+    ensures { IfOk result (λ l. l.now ≡ updates_of parts updates.now part) }
+{
+    if are_at::<C>(updates, parts, part) {
+        return Ok(updates);
+    }
+    copy_part::<C>(alloc, updates, parts, part, copies)?;
+    Ok(copies.as_slice())
+}
+
+/// Whether all updates stand at the partition.
+fn are_at<C: Crdt>(updates: &[Upd<C::Effect>], parts: u8, part: u8) -> bool
+    requires { 1 ≤ parts }
+    ensures { result ≡ true → updates_of parts updates.now part ≡ updates.now }
+{
+    for update in updates {
+        if partition_of(&update.object, parts) != part {
+            return false;
+        }
+    }
+    true
+}
+
+/// Copies the updates at a partition.
+fn copy_part<C: Crdt>(
     alloc: Global,
     updates: &[Upd<C::Effect>],
     parts: u8,
     part: u8,
-) -> Result<ListOf<Upd<C::Effect>>, AllocError>
-    requires { 1 ≤ parts }
-    ensures { IfOk result (λ l. l ≡ updates_of parts updates.now part) }
+    copies: &mut ListOf<Upd<C::Effect>>,
+) -> Result<(), AllocError>
+    requires least { 1 ≤ parts }
+    requires none { copies.old ≡ [] }
+    ensures { OnOk result (copies.new ≡ updates_of parts updates.now part) }
 {
-    let mut here = ListOf::new(alloc);
     for update in updates {
         if partition_of(&update.object, parts) == part {
-            here.push(copy_update::<C>(alloc, update)?)?;
+            copies.push(copy_update::<C>(alloc, update)?)?;
         }
     }
-    Ok(here)
+    Ok(())
 }
 
 /// The numbers of the participants of a transaction with these updates, in ascending order, and how many they are.

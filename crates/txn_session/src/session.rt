@@ -12,7 +12,7 @@ use crate::chosen::{first_of, own_of, part_of, participants_of};
 use crate::{Phase, SessionError, Store};
 use clocksi_commit::Commit;
 use crdt_core::{Crdt, ObjectId, Op, Upd, fits, partition_of};
-use field_codec::Text;
+use field_codec::{ListOf, Text};
 use site_vector::{PartId, TxId, VTime};
 use std::alloc::Global;
 use std::marker::Model;
@@ -498,7 +498,14 @@ impl<C: Crdt> Session<C> {
         ensures waits { OnErr result.1 ((run : List (Call C.Effect)) → S.sees store.old pass run →
             Holds self.old run → Waits S.sees S.numbers store.new result.0 run self.old self.new) }
     {
-        let updates = match part_of::<C>(self.alloc, self.updates.as_slice(), self.parts, part) {
+        let mut copies = ListOf::new(self.alloc);
+        let updates = match part_of::<C>(
+            self.alloc,
+            self.updates.as_slice(),
+            self.parts,
+            part,
+            &mut copies,
+        ) {
             Ok(updates) => updates,
             Err(_) => {
                 return (pass, Err(SessionError::NoMemory));
@@ -515,7 +522,7 @@ impl<C: Crdt> Session<C> {
             self.tx,
             &self.s,
             self.lead,
-            updates.as_slice(),
+            updates,
         );
         match answer {
             Ok(step) => {
