@@ -42,7 +42,7 @@ def lines_of(crate, folder):
 
 
 def looked_at(number):
-    """What a gate's prover is known by, its crate, its folder and its seconds of a processor; of another process, None."""
+    """What a gate's prover is known by, its crate, its folder and its seconds of a processor; of others, None."""
     with open(f"/proc/{number}/stat") as text:
         head, _, rest = text.read().rpartition(") ")
     if not head.endswith("(rattle"):
