@@ -24,7 +24,6 @@ use Rattle.world_model.specs.ScriptCalls.{at_object}
 use Rattle.world_model.proofs.Names.{off}
 use Rattle.txn_session.specs.Calls.{called, entries}
 use Rattle.txn_session.specs.Holds.{HoldsDoing, MakesRead}
-use Rattle.txn_session.specs.declared.phase.Phase.{Phase as Stage}
 use Rattle.txn_session.specs.Session as session
 use Rattle.txn_session.specs.Session.{Doing, Idle, Open, Ending, SessionState}
 use Rattle.txn_session.specs.Session.{own_updates, place_in}
@@ -32,7 +31,7 @@ use Rattle.site_partitions.specs.Reaches.{Types}
 use Rattle.cluster.specs.Acts.{Acts, Reads}
 use Rattle.cluster.specs.Built.{is_built}
 use Rattle.site_partitions.specs.Held.{Held}
-use Rattle.cluster.specs.Live.{LiveState, session_in, phase_in, phase_about, is_open_phase, are_open}
+use Rattle.cluster.specs.Live.{LiveState, session_in, phase_about, is_open_phase}
 use Rattle.cluster.specs.Reached.{phase_as, StandsBy, GoesTo, AppliesLive}
 use Rattle.cluster.specs.Sees.{Sees}
 use Rattle.cluster.specs.Faults.{ShowFaults}
@@ -41,9 +40,6 @@ use Rattle.cluster.proofs.Seeing.{told_last}
 use Rattle.cluster.proofs.Meets.{all_met, first_at, none_due, refused, has, lacks_session, has_session, open_is, by_name}
 use Rattle.cluster.proofs.Sessions.{turns, acted}
 use Rattle.cluster.proofs.Turned.{sure, is_decide_ask, answer_up}
-
-pub open_about : (o : Option Stage) (p : Stage) → o ≡ Some p → is_open_phase p ≡ true → are_open o ≡ true
-open_about o p h k = ap are_open h ∙ k
 
 module _ {E : Type 0} where
   -- of a session that is there
@@ -60,16 +56,6 @@ module _ {E : Type 0} where
   pub none_about : (o : Option (SessionState E)) → phase_about o ≡ None → o ≡ None
   none_about None h = refl
   none_about (Some s) h = absurd cc
-
-  -- a session that isn't open
-  pub record IsShut (o : Option (SessionState E)) : Type 0 where
-    pub found : SessionState E
-    pub is : o ≡ Some found
-    pub shut : session.is_open found.doing ≡ false
-
-  pub shut_about : (o : Option (SessionState E)) (p : Stage) → phase_about o ≡ Some p → is_open_phase p ≡ false → IsShut o
-  shut_about None p h k = absurd cc
-  shut_about (Some s) p h k = let e : session.phase_of s.doing ≡ p = cc in record { found = s; is = refl; shut = sym (open_phase s.doing) ∙ (ap is_open_phase e ∙ k) }
 
   module _ (events : List (Entry E)) (at : PartId) (tx : TxId) (s : List ℕ) (o : ObjectId) (own : List (Upd E)) where
     read_phase : (e : Event E) → asked_by (attempt e) ≡ AskRead tx s o own → (parts : ℕ) (who : List ℕ) (old : Phase) (name : List ℕ) → phase_after parts who old (Some (command.Read name o)) (step_shown events at e) ≡ old
@@ -95,23 +81,19 @@ module _ {E : Type 0} where
     read_bears other a run name h = absurd cc
 
 module _ {S E D : Type 0} (types : Types S E D) (c : LiveState E D) (name : List ℕ) where
-  -- its session isn't there
-  pub absent_in : phase_in c.sessions name ≡ None → session_in c.sessions name ≡ None
-  absent_in h = none_about (session_in c.sessions name) h
-
   module _ (o : ObjectId) where
     pub read_absent : (steps : List Step) → steps ≡ step.NoSession ∷ [] → session_in c.sessions name ≡ None → AppliesLive types c (command.Read name o) steps c
     read_absent steps is none = refused types c (command.Read name o) step.NoSession steps is refl
         (λ run r. first_at (all_met run (command.Read name o)) 2 (refl, (has types c run r name, lacks_session types c run r name none)))
         (λ run r who. refl)
 
-    pub read_shut : (steps : List Step) → steps ≡ step.NoTxn ∷ [] → IsShut (session_in c.sessions name) → AppliesLive types c (command.Read name o) steps c
-    read_shut steps is x = let s = x.found in let there = x.is in let shut = x.shut in refused types c (command.Read name o) step.NoTxn steps is refl
+    pub read_shut : (steps : List Step) → steps ≡ step.NoTxn ∷ [] → (s : SessionState E) → session_in c.sessions name ≡ Some s → session.is_open s.doing ≡ false → AppliesLive types c (command.Read name o) steps c
+    read_shut steps is s there shut = refused types c (command.Read name o) step.NoTxn steps is refl
         (λ run r. first_at (all_met run (command.Read name o)) 3 (refl, (has types c run r name, (has_session types c run r name s there, ap not (open_is types c run r name s there ∙ shut)))))
         (λ run r who. refl)
 
-    pub read_applies : (later : Held E D) (sessions : List (List ℕ × SessionState E)) (answer : Step) (steps : List Step) → steps ≡ answer ∷ [] → are_open (phase_in c.sessions name) ≡ true → Acts types c.sites c.sessions name later sessions (Reads types c.sites later o answer) → AppliesLive types c (command.Read name o) steps (record { sites = later; sessions = sessions })
-    read_applies later sessions answer steps is opened a number run r =
+    pub read_applies : (later : Held E D) (sessions : List (List ℕ × SessionState E)) (answer : Step) (steps : List Step) → steps ≡ answer ∷ [] → (a : Acts types c.sites c.sessions name later sessions (Reads types c.sites later o answer)) → session.is_open a.before.doing ≡ true → AppliesLive types c (command.Read name o) steps (record { sites = later; sessions = sessions })
+    read_applies later sessions answer steps is a is_open number run r =
         subst (λ l. IsAnswer is_built run (command.Read name o) l × GoesTo types c run r (record { sites = later; sessions = sessions }) (answered number (Some (command.Read name o)) l run) × ShowFaults types.state run c.sites later l) (sym is)
         (by_doing a.before.doing refl is_open d.2)
       where
@@ -120,9 +102,6 @@ module _ {S E D : Type 0} (types : Types S E D) (c : LiveState E D) (name : List
 
         d : Reads types c.sites later o answer a.before a.after r.calls
         d = a.does r.calls r.sees st.holds
-
-        is_open : session.is_open a.before.doing ≡ true
-        is_open = sym (open_phase a.before.doing) ∙ subst (λ x. are_open (phase_about x) ≡ true) a.is opened
 
         by_doing : (doing : Doing E) → a.before.doing ≡ doing → session.is_open doing ≡ true → MakesRead (λ h (p : Unit {0}) l. Sees types h l) (λ (p : Unit {0}) n. true) later tt r.calls a.before a.after o answer doing
             → IsAnswer is_built run (command.Read name o) (answer ∷ []) × GoesTo types c run r (record { sites = later; sessions = sessions }) (answered number (Some (command.Read name o)) (answer ∷ []) run) × ShowFaults types.state run c.sites later (answer ∷ [])

@@ -49,12 +49,6 @@ use Rattle.cluster.proofs.Sessions.{IsThere, turns, acted, own_name}
 use Rattle.cluster.proofs.Turned.{sure, is_decide_ask, answer_up}
 
 module _ {E : Type 0} where
-  -- a session whose update would be refused, or not
-  pub record Would (too_deep : Kind → List Field → Bool) (o : ObjectId) (op : Op) (x : Option (SessionState E)) (why : Option SessionError) : Type 0 where
-    pub found : SessionState E
-    pub is : x ≡ Some found
-    pub why_is : update_refusal too_deep found.doing o op ≡ why
-
   -- an update that isn't refused
   pub record MayUpdate (o : ObjectId) (op : Op) (txn : Txn E) : Type 0 where
     pub fit : fits o.kind op.path op.act ≡ true
@@ -147,25 +141,25 @@ module _ {S E D : Type 0} (types : Types S E D) (c : LiveState E D) (name : List
         first_at (all_met run (command.Update name o op)) 5 (refl, (ap not r.has, (has_session types c run r name s is, (ap not (open_is types c run r name s is ∙ ap session.is_open e), (ap not good, ap (λ n. n == 256) (total_is run r s is txn e ∙ exact)))))))
         (λ run r who. refl)
 
-    pub update_refused : (steps : List Step) (why : SessionError) → steps ≡ refused_line why ∷ [] → Would types.kinds.too_deep o op (session_in c.sessions name) (Some why) → AppliesLive types c (command.Update name o op) steps c
-    update_refused steps why is x = by_doing x.found.doing refl x.why_is
+    pub update_refused : (steps : List Step) (why : SessionError) → steps ≡ refused_line why ∷ [] → (s : SessionState E) → session_in c.sessions name ≡ Some s → update_refusal types.kinds.too_deep s.doing o op ≡ Some why → AppliesLive types c (command.Update name o op) steps c
+    update_refused steps why is s there due = by_doing s.doing refl due
       where
         line : (w : SessionError) → Some w ≡ Some why → steps ≡ refused_line w ∷ []
         line w h = let e : why ≡ w = cc in is ∙ ap (λ y. refused_line y ∷ []) e
 
-        by_bools : (txn : Txn E) → x.found.doing ≡ Open txn → (a b d : Bool) → types.kinds.too_deep o.kind op.path ≡ a → fits o.kind op.path op.act ≡ b → nat_lt (length txn.updates) 256 ≡ d → (if a then Some error.TooDeep else (if b then (if d then None else Some error.TooMany) else Some error.BadOp)) ≡ Some why → AppliesLive types c (command.Update name o op) steps c
-        by_bools txn e true b d ea eb ed k = unfit x.found x.is (ap session.is_open e) (false_from_ne_true _ (λ h. true≢false (sym ea ∙ shallow h))) steps (line error.TooDeep k)
-        by_bools txn e false false d ea eb ed k = unfit x.found x.is (ap session.is_open e) eb steps (line error.BadOp k)
-        by_bools txn e false true false ea eb ed k = full x.found x.is txn e eb ed steps (line error.TooMany k)
+        by_bools : (txn : Txn E) → s.doing ≡ Open txn → (a b d : Bool) → types.kinds.too_deep o.kind op.path ≡ a → fits o.kind op.path op.act ≡ b → nat_lt (length txn.updates) 256 ≡ d → (if a then Some error.TooDeep else (if b then (if d then None else Some error.TooMany) else Some error.BadOp)) ≡ Some why → AppliesLive types c (command.Update name o op) steps c
+        by_bools txn e true b d ea eb ed k = unfit s there (ap session.is_open e) (false_from_ne_true _ (λ h. true≢false (sym ea ∙ shallow h))) steps (line error.TooDeep k)
+        by_bools txn e false false d ea eb ed k = unfit s there (ap session.is_open e) eb steps (line error.BadOp k)
+        by_bools txn e false true false ea eb ed k = full s there txn e eb ed steps (line error.TooMany k)
         by_bools txn e false true true ea eb ed k = absurd cc
 
-        by_doing : (d : Doing E) → x.found.doing ≡ d → update_refusal types.kinds.too_deep d o op ≡ Some why → AppliesLive types c (command.Update name o op) steps c
-        by_doing Idle e k = not_open x.found x.is (ap session.is_open e) steps (line error.NoTxn k)
-        by_doing (Ending txn lead commit) e k = not_open x.found x.is (ap session.is_open e) steps (line error.NoTxn k)
+        by_doing : (d : Doing E) → s.doing ≡ d → update_refusal types.kinds.too_deep d o op ≡ Some why → AppliesLive types c (command.Update name o op) steps c
+        by_doing Idle e k = not_open s there (ap session.is_open e) steps (line error.NoTxn k)
+        by_doing (Ending txn lead commit) e k = not_open s there (ap session.is_open e) steps (line error.NoTxn k)
         by_doing (Open txn) e k = by_bools txn e _ _ _ refl refl refl k
 
-  pub update_applies : (later : Held E D) (sessions : List (List ℕ × SessionState E)) (answer : Step) (steps : List Step) → steps ≡ answer ∷ [] → Would types.kinds.too_deep o op (session_in c.sessions name) None → Acts types c.sites c.sessions name later sessions (Updates types c.sites later o op answer) → AppliesLive types c (command.Update name o op) steps (record { sites = later; sessions = sessions })
-  update_applies later sessions answer steps is w a number run r =
+  pub update_applies : (later : Held E D) (sessions : List (List ℕ × SessionState E)) (answer : Step) (steps : List Step) → steps ≡ answer ∷ [] → (a : Acts types c.sites c.sessions name later sessions (Updates types c.sites later o op answer)) → update_refusal types.kinds.too_deep a.before.doing o op ≡ None → AppliesLive types c (command.Update name o op) steps (record { sites = later; sessions = sessions })
+  update_applies later sessions answer steps is a not_refused number run r =
       subst (λ l. IsAnswer is_built run (command.Update name o op) l × GoesTo types c run r (record { sites = later; sessions = sessions }) (answered number (Some (command.Update name o op)) l run) × ShowFaults types.state run c.sites later l) (sym is)
       (by_doing a.before.doing refl not_refused d.2)
     where
@@ -174,9 +168,6 @@ module _ {S E D : Type 0} (types : Types S E D) (c : LiveState E D) (name : List
 
       d : Updates types c.sites later o op answer a.before a.after r.calls
       d = a.does r.calls r.sees st.holds
-
-      not_refused : update_refusal types.kinds.too_deep a.before.doing o op ≡ None
-      not_refused = let e : Some w.found ≡ Some a.before = sym w.is ∙ a.is in let k : w.found ≡ a.before = cc in ap (λ (y : SessionState E). update_refusal types.kinds.too_deep y.doing o op) (sym k) ∙ w.why_is
 
       by_doing : (doing : Doing E) → a.before.doing ≡ doing → update_refusal types.kinds.too_deep doing o op ≡ None → MakesUpdate (λ h (p : Unit {0}) l. Sees types h l) (λ (p : Unit {0}) n. true) later tt r.calls a.before a.after o op answer doing
           → IsAnswer is_built run (command.Update name o op) (answer ∷ []) × GoesTo types c run r (record { sites = later; sessions = sessions }) (answered number (Some (command.Update name o op)) (answer ∷ []) run) × ShowFaults types.state run c.sites later (answer ∷ [])

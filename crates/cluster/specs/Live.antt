@@ -33,11 +33,6 @@ abbrev pub is_open_phase : Phase → Bool
 is_open_phase phase.Open = true
 is_open_phase other = false
 
--- the session is there, and open
-abbrev pub are_open : Option Phase → Bool
-are_open None = false
-are_open (Some p) = is_open_phase p
-
 abbrev pub is_idle_phase : Phase → Bool
 is_idle_phase phase.Idle = true
 is_idle_phase other = false

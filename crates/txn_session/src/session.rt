@@ -515,15 +515,7 @@ impl<C: Crdt> Session<C> {
             site: self.site,
             part,
         };
-        let (pass, answer) = store.prepare(
-            pass,
-            at,
-            self.by,
-            self.tx,
-            &self.s,
-            self.lead,
-            updates,
-        );
+        let (pass, answer) = store.prepare(pass, at, self.by, self.tx, &self.s, self.lead, updates);
         match answer {
             Ok(step) => {
                 let next = self.commit.answer(&step);
