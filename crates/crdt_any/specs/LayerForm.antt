@@ -1,5 +1,5 @@
 -- The bytes of a layer's effects are those of its kinds.
-use Rattle.std.proofs.Common.{◌≡◌, ℕ, Bool, true, ◌&&◌, List, refl}
+use Rattle.std.proofs.Common.{◌≡◌, ℕ, Bool, true, false, ◌&&◌, List, refl}
 use Rattle.std.specs.Prelude.{is_some}
 use Rattle.std.proofs.lemmas.Bool.{false≢true}
 use Rattle.field_codec.specs.Reading.{Read, mapped_at}
@@ -175,10 +175,10 @@ module _ {E : Type 0} {has : Kind → Bool} {is_of : Kind → E → Bool} {can_p
   form_at kinds.CounterPn = shape_form effect.CounterPn is_amount_number is_amount_number amount_spelling amount_at (fits_at kinds.CounterPn) (spelled_at kinds.CounterPn) (layer_spelling spelling) (λ v. refl) (λ v. refl) (λ v. refl) counter_pn_shape ((pn_spells pn_has).form kinds.CounterPn refl)
   form_at kinds.CounterFat = shape_form effect.CounterFat can_put_fat is_fat_spelled fat_spelling fat_at (fits_at kinds.CounterFat) (spelled_at kinds.CounterFat) (layer_spelling spelling) (λ v. refl) (λ v. refl) (λ v. refl) counter_fat_shape ((fat_spells fat_has).form kinds.CounterFat refl)
   form_at kinds.SetGo = shape_form effect.SetGo can_put_texts are_texts_spelled texts_spelling texts_at (fits_at kinds.SetGo) (spelled_at kinds.SetGo) (layer_spelling spelling) (λ v. refl) (λ v. refl) (λ v. refl) set_go_shape ((set_go_spells set.go_has).form kinds.SetGo refl)
-  form_at kinds.SetAw = shape_form effect.SetAw can_put_set is_set_spelled set_spelling set_at (fits_at kinds.SetAw) (spelled_at kinds.SetAw) (layer_spelling spelling) (λ v. refl) (λ v. refl) (λ v. refl) set_aw_shape ((set_spells sets.aw_has).form kinds.SetAw refl)
-  form_at kinds.SetRw = shape_form effect.SetRw can_put_set is_set_spelled set_spelling set_at (fits_at kinds.SetRw) (spelled_at kinds.SetRw) (layer_spelling spelling) (λ v. refl) (λ v. refl) (λ v. refl) set_rw_shape ((set_spells sets.rw_has).form kinds.SetRw refl)
-  form_at kinds.FlagEw = shape_form effect.FlagEw can_put_flag is_flag_spelled flag_spelling flag_at (fits_at kinds.FlagEw) (spelled_at kinds.FlagEw) (layer_spelling spelling) (λ v. refl) (λ v. refl) (λ v. refl) flag_ew_shape ((flag_spells flags.ew_has).form kinds.FlagEw refl)
-  form_at kinds.FlagDw = shape_form effect.FlagDw can_put_flag is_flag_spelled flag_spelling flag_at (fits_at kinds.FlagDw) (spelled_at kinds.FlagDw) (layer_spelling spelling) (λ v. refl) (λ v. refl) (λ v. refl) flag_dw_shape ((flag_spells flags.dw_has).form kinds.FlagDw refl)
+  form_at kinds.SetAw = shape_form effect.SetAw can_put_set is_set_spelled set_spelling set_at (fits_at kinds.SetAw) (spelled_at kinds.SetAw) (layer_spelling spelling) (λ v. refl) (λ v. refl) (λ v. refl) set_aw_shape ((set_spells (sets.set_has false)).form kinds.SetAw refl)
+  form_at kinds.SetRw = shape_form effect.SetRw can_put_set is_set_spelled set_spelling set_at (fits_at kinds.SetRw) (spelled_at kinds.SetRw) (layer_spelling spelling) (λ v. refl) (λ v. refl) (λ v. refl) set_rw_shape ((set_spells (sets.set_has true)).form kinds.SetRw refl)
+  form_at kinds.FlagEw = shape_form effect.FlagEw can_put_flag is_flag_spelled flag_spelling flag_at (fits_at kinds.FlagEw) (spelled_at kinds.FlagEw) (layer_spelling spelling) (λ v. refl) (λ v. refl) (λ v. refl) flag_ew_shape ((flag_spells (flags.flag_has false)).form kinds.FlagEw refl)
+  form_at kinds.FlagDw = shape_form effect.FlagDw can_put_flag is_flag_spelled flag_spelling flag_at (fits_at kinds.FlagDw) (spelled_at kinds.FlagDw) (layer_spelling spelling) (λ v. refl) (λ v. refl) (λ v. refl) flag_dw_shape ((flag_spells (flags.flag_has true)).form kinds.FlagDw refl)
   form_at kinds.RegisterLww = shape_form effect.RegisterLww can_put_lww is_lww_spelled lww_spelling lww_at (fits_at kinds.RegisterLww) (spelled_at kinds.RegisterLww) (layer_spelling spelling) (λ v. refl) (λ v. refl) (λ v. refl) register_lww_shape ((lww_spells lww_has).form kinds.RegisterLww refl)
   form_at kinds.RegisterMv = shape_form effect.RegisterMv can_put_mv is_mv_spelled mv_spelling mv_at (fits_at kinds.RegisterMv) (spelled_at kinds.RegisterMv) (layer_spelling spelling) (λ v. refl) (λ v. refl) (λ v. refl) register_mv_shape ((mv_spells mv_has).form kinds.RegisterMv refl)
   form_at kinds.MapGo = shape_form effect.MapGo (map_can_put false has is_of can_put spelling) (map_is_spelled false has is_of is_spelled spelling) (map_spelling false spelling) (map_at false has reading) (fits_at kinds.MapGo) (spelled_at kinds.MapGo) (layer_spelling spelling) (λ v. refl) (λ v. refl) (λ v. refl) map_go_shape ((map_spells forms false (map_has false)).form kinds.MapGo refl)

@@ -46,8 +46,8 @@ use Rattle.crdt_core.specs.Confluence.{confluence}
 use Rattle.crdt_counters.specs.PnLaw.{pn_law, pn_in_maps}
 use Rattle.crdt_counters.specs.FatLaw.{fat_law, fat_in_maps}
 use Rattle.crdt_sets.specs.GoLaw.{go_law as set_go_law, go_in_maps as set_go_in_maps}
-use Rattle.crdt_sets.specs.RemovableLaws.{aw_law, rw_law, aw_in_maps, rw_in_maps}
-use Rattle.crdt_flags.specs.FlagLaws.{ew_law, dw_law, ew_in_maps, dw_in_maps}
+use Rattle.crdt_sets.specs.RemovableLaws.{set_law, set_in_maps}
+use Rattle.crdt_flags.specs.FlagLaws.{flag_law, flag_in_maps}
 use Rattle.crdt_registers.specs.LwwLaw.{lww_law, lww_in_maps}
 use Rattle.crdt_registers.specs.MvLaw.{mv_law, mv_in_maps}
 use Rattle.crdt_maps.specs.MapLaws.{map_law, map_in_maps}
@@ -72,10 +72,10 @@ module _ {S E : Type 0} {has : Kind → Bool} {too_deep : Kind → List Field �
   means_at kinds.CounterPn us h fit st = part_means pn_law kinds.CounterPn refl state.CounterPn effect.CounterPn moves (makes kinds.CounterPn) (layer_stamp stamp_of) (λ _ _ _. refl) (λ _ _. refl) (λ _. refl) (layer_value value_of) (λ _. refl) us h fit st
   means_at kinds.CounterFat us h fit st = part_means fat_law kinds.CounterFat refl state.CounterFat effect.CounterFat moves (makes kinds.CounterFat) (layer_stamp stamp_of) (λ _ _ _. refl) (λ _ _. refl) (λ _. refl) (layer_value value_of) (λ _. refl) us h fit st
   means_at kinds.SetGo us h fit st = part_means set_go_law kinds.SetGo refl state.SetGo effect.SetGo moves (makes kinds.SetGo) (layer_stamp stamp_of) (λ _ _ _. refl) (λ _ _. refl) (λ _. refl) (layer_value value_of) (λ _. refl) us h fit st
-  means_at kinds.SetAw us h fit st = part_means aw_law kinds.SetAw refl state.SetAw effect.SetAw moves (makes kinds.SetAw) (layer_stamp stamp_of) (λ _ _ _. refl) (λ _ _. refl) (λ _. refl) (layer_value value_of) (λ _. refl) us h fit st
-  means_at kinds.SetRw us h fit st = part_means rw_law kinds.SetRw refl state.SetRw effect.SetRw moves (makes kinds.SetRw) (layer_stamp stamp_of) (λ _ _ _. refl) (λ _ _. refl) (λ _. refl) (layer_value value_of) (λ _. refl) us h fit st
-  means_at kinds.FlagEw us h fit st = part_means ew_law kinds.FlagEw refl state.FlagEw effect.FlagEw moves (makes kinds.FlagEw) (layer_stamp stamp_of) (λ _ _ _. refl) (λ _ _. refl) (λ _. refl) (layer_value value_of) (λ _. refl) us h fit st
-  means_at kinds.FlagDw us h fit st = part_means dw_law kinds.FlagDw refl state.FlagDw effect.FlagDw moves (makes kinds.FlagDw) (layer_stamp stamp_of) (λ _ _ _. refl) (λ _ _. refl) (λ _. refl) (layer_value value_of) (λ _. refl) us h fit st
+  means_at kinds.SetAw us h fit st = part_means (set_law false) kinds.SetAw refl state.SetAw effect.SetAw moves (makes kinds.SetAw) (layer_stamp stamp_of) (λ _ _ _. refl) (λ _ _. refl) (λ _. refl) (layer_value value_of) (λ _. refl) us h fit st
+  means_at kinds.SetRw us h fit st = part_means (set_law true) kinds.SetRw refl state.SetRw effect.SetRw moves (makes kinds.SetRw) (layer_stamp stamp_of) (λ _ _ _. refl) (λ _ _. refl) (λ _. refl) (layer_value value_of) (λ _. refl) us h fit st
+  means_at kinds.FlagEw us h fit st = part_means (flag_law false) kinds.FlagEw refl state.FlagEw effect.FlagEw moves (makes kinds.FlagEw) (layer_stamp stamp_of) (λ _ _ _. refl) (λ _ _. refl) (λ _. refl) (layer_value value_of) (λ _. refl) us h fit st
+  means_at kinds.FlagDw us h fit st = part_means (flag_law true) kinds.FlagDw refl state.FlagDw effect.FlagDw moves (makes kinds.FlagDw) (layer_stamp stamp_of) (λ _ _ _. refl) (λ _ _. refl) (λ _. refl) (layer_value value_of) (λ _. refl) us h fit st
   means_at kinds.RegisterLww us h fit st = part_means lww_law kinds.RegisterLww refl state.RegisterLww effect.RegisterLww moves (makes kinds.RegisterLww) (layer_stamp stamp_of) (λ _ _ _. refl) (λ _ _. refl) (λ _. refl) (layer_value value_of) (λ _. refl) us h fit st
   means_at kinds.RegisterMv us h fit st = part_means mv_law kinds.RegisterMv refl state.RegisterMv effect.RegisterMv moves (makes kinds.RegisterMv) (layer_stamp stamp_of) (λ _ _ _. refl) (λ _ _. refl) (λ _. refl) (layer_value value_of) (λ _. refl) us h fit st
   means_at kinds.MapGo us h fit st = part_means (map_law inner owed false) kinds.MapGo refl state.MapGo effect.MapGo moves (makes kinds.MapGo) (layer_stamp stamp_of) (λ _ _ _. refl) (λ _ _. refl) (λ _. refl) (layer_value value_of) (λ _. refl) us h fit st
@@ -85,10 +85,10 @@ module _ {S E : Type 0} {has : Kind → Bool} {too_deep : Kind → List Field �
   stamps_at kinds.CounterPn u us h fit st = part_stamps pn_law kinds.CounterPn refl state.CounterPn effect.CounterPn moves (makes kinds.CounterPn) (layer_stamp stamp_of) (λ _ _ _. refl) (λ _ _. refl) (λ _. refl) u us h fit st
   stamps_at kinds.CounterFat u us h fit st = part_stamps fat_law kinds.CounterFat refl state.CounterFat effect.CounterFat moves (makes kinds.CounterFat) (layer_stamp stamp_of) (λ _ _ _. refl) (λ _ _. refl) (λ _. refl) u us h fit st
   stamps_at kinds.SetGo u us h fit st = part_stamps set_go_law kinds.SetGo refl state.SetGo effect.SetGo moves (makes kinds.SetGo) (layer_stamp stamp_of) (λ _ _ _. refl) (λ _ _. refl) (λ _. refl) u us h fit st
-  stamps_at kinds.SetAw u us h fit st = part_stamps aw_law kinds.SetAw refl state.SetAw effect.SetAw moves (makes kinds.SetAw) (layer_stamp stamp_of) (λ _ _ _. refl) (λ _ _. refl) (λ _. refl) u us h fit st
-  stamps_at kinds.SetRw u us h fit st = part_stamps rw_law kinds.SetRw refl state.SetRw effect.SetRw moves (makes kinds.SetRw) (layer_stamp stamp_of) (λ _ _ _. refl) (λ _ _. refl) (λ _. refl) u us h fit st
-  stamps_at kinds.FlagEw u us h fit st = part_stamps ew_law kinds.FlagEw refl state.FlagEw effect.FlagEw moves (makes kinds.FlagEw) (layer_stamp stamp_of) (λ _ _ _. refl) (λ _ _. refl) (λ _. refl) u us h fit st
-  stamps_at kinds.FlagDw u us h fit st = part_stamps dw_law kinds.FlagDw refl state.FlagDw effect.FlagDw moves (makes kinds.FlagDw) (layer_stamp stamp_of) (λ _ _ _. refl) (λ _ _. refl) (λ _. refl) u us h fit st
+  stamps_at kinds.SetAw u us h fit st = part_stamps (set_law false) kinds.SetAw refl state.SetAw effect.SetAw moves (makes kinds.SetAw) (layer_stamp stamp_of) (λ _ _ _. refl) (λ _ _. refl) (λ _. refl) u us h fit st
+  stamps_at kinds.SetRw u us h fit st = part_stamps (set_law true) kinds.SetRw refl state.SetRw effect.SetRw moves (makes kinds.SetRw) (layer_stamp stamp_of) (λ _ _ _. refl) (λ _ _. refl) (λ _. refl) u us h fit st
+  stamps_at kinds.FlagEw u us h fit st = part_stamps (flag_law false) kinds.FlagEw refl state.FlagEw effect.FlagEw moves (makes kinds.FlagEw) (layer_stamp stamp_of) (λ _ _ _. refl) (λ _ _. refl) (λ _. refl) u us h fit st
+  stamps_at kinds.FlagDw u us h fit st = part_stamps (flag_law true) kinds.FlagDw refl state.FlagDw effect.FlagDw moves (makes kinds.FlagDw) (layer_stamp stamp_of) (λ _ _ _. refl) (λ _ _. refl) (λ _. refl) u us h fit st
   stamps_at kinds.RegisterLww u us h fit st = part_stamps lww_law kinds.RegisterLww refl state.RegisterLww effect.RegisterLww moves (makes kinds.RegisterLww) (layer_stamp stamp_of) (λ _ _ _. refl) (λ _ _. refl) (λ _. refl) u us h fit st
   stamps_at kinds.RegisterMv u us h fit st = part_stamps mv_law kinds.RegisterMv refl state.RegisterMv effect.RegisterMv moves (makes kinds.RegisterMv) (layer_stamp stamp_of) (λ _ _ _. refl) (λ _ _. refl) (λ _. refl) u us h fit st
   stamps_at kinds.MapGo u us h fit st = part_stamps (map_law inner owed false) kinds.MapGo refl state.MapGo effect.MapGo moves (makes kinds.MapGo) (layer_stamp stamp_of) (λ _ _ _. refl) (λ _ _. refl) (λ _. refl) u us h fit st
@@ -98,10 +98,10 @@ module _ {S E : Type 0} {has : Kind → Bool} {too_deep : Kind → List Field �
   orderless_at kinds.CounterPn us vs same = pn_law.orderless kinds.CounterPn us vs refl same
   orderless_at kinds.CounterFat us vs same = fat_law.orderless kinds.CounterFat us vs refl same
   orderless_at kinds.SetGo us vs same = set_go_law.orderless kinds.SetGo us vs refl same
-  orderless_at kinds.SetAw us vs same = aw_law.orderless kinds.SetAw us vs refl same
-  orderless_at kinds.SetRw us vs same = rw_law.orderless kinds.SetRw us vs refl same
-  orderless_at kinds.FlagEw us vs same = ew_law.orderless kinds.FlagEw us vs refl same
-  orderless_at kinds.FlagDw us vs same = dw_law.orderless kinds.FlagDw us vs refl same
+  orderless_at kinds.SetAw us vs same = (set_law false).orderless kinds.SetAw us vs refl same
+  orderless_at kinds.SetRw us vs same = (set_law true).orderless kinds.SetRw us vs refl same
+  orderless_at kinds.FlagEw us vs same = (flag_law false).orderless kinds.FlagEw us vs refl same
+  orderless_at kinds.FlagDw us vs same = (flag_law true).orderless kinds.FlagDw us vs refl same
   orderless_at kinds.RegisterLww us vs same = lww_law.orderless kinds.RegisterLww us vs refl same
   orderless_at kinds.RegisterMv us vs same = mv_law.orderless kinds.RegisterMv us vs refl same
   orderless_at kinds.MapGo us vs same = (map_law inner owed false).orderless kinds.MapGo us vs refl same
@@ -142,7 +142,7 @@ module _ {S E : Type 0} {has : Kind → Bool} {too_deep : Kind → List Field �
 
   pub set_aw_holds : (s : LayerState S) (d : Dot) → keeps_dot (unwrap_or (set_aw_state s) empty) d ≡ true → layer_holds holds s d ≡ true
   set_aw_holds (state.SetAw s) d h = h
-  set_aw_holds _ d h = absurd (true≢false (sym h ∙ (aw_law.steps kinds.SetAw refl).none_held d))
+  set_aw_holds _ d h = absurd (true≢false (sym h ∙ ((set_law false).steps kinds.SetAw refl).none_held d))
 
   set_rw_unnamed : (e : LayerEffect E) (d : Dot) → layer_names has names e d ≡ false → named_by sets.set_names (set_rw_effect e) d ≡ false
   set_rw_unnamed (effect.SetRw e) d h = h
@@ -150,7 +150,7 @@ module _ {S E : Type 0} {has : Kind → Bool} {too_deep : Kind → List Field �
 
   pub set_rw_holds : (s : LayerState S) (d : Dot) → keeps_dot (unwrap_or (set_rw_state s) empty) d ≡ true → layer_holds holds s d ≡ true
   set_rw_holds (state.SetRw s) d h = h
-  set_rw_holds _ d h = absurd (true≢false (sym h ∙ (rw_law.steps kinds.SetRw refl).none_held d))
+  set_rw_holds _ d h = absurd (true≢false (sym h ∙ ((set_law true).steps kinds.SetRw refl).none_held d))
 
   flag_ew_unnamed : (e : LayerEffect E) (d : Dot) → layer_names has names e d ≡ false → named_by flags.flag_names (flag_ew_effect e) d ≡ false
   flag_ew_unnamed (effect.FlagEw e) d h = h
@@ -158,7 +158,7 @@ module _ {S E : Type 0} {has : Kind → Bool} {too_deep : Kind → List Field �
 
   pub flag_ew_holds : (s : LayerState S) (d : Dot) → is_kept (unwrap_or (flag_ew_state s) empty) d ≡ true → layer_holds holds s d ≡ true
   flag_ew_holds (state.FlagEw s) d h = h
-  flag_ew_holds _ d h = absurd (true≢false (sym h ∙ (ew_law.steps kinds.FlagEw refl).none_held d))
+  flag_ew_holds _ d h = absurd (true≢false (sym h ∙ ((flag_law false).steps kinds.FlagEw refl).none_held d))
 
   flag_dw_unnamed : (e : LayerEffect E) (d : Dot) → layer_names has names e d ≡ false → named_by flags.flag_names (flag_dw_effect e) d ≡ false
   flag_dw_unnamed (effect.FlagDw e) d h = h
@@ -166,7 +166,7 @@ module _ {S E : Type 0} {has : Kind → Bool} {too_deep : Kind → List Field �
 
   pub flag_dw_holds : (s : LayerState S) (d : Dot) → is_kept (unwrap_or (flag_dw_state s) empty) d ≡ true → layer_holds holds s d ≡ true
   flag_dw_holds (state.FlagDw s) d h = h
-  flag_dw_holds _ d h = absurd (true≢false (sym h ∙ (dw_law.steps kinds.FlagDw refl).none_held d))
+  flag_dw_holds _ d h = absurd (true≢false (sym h ∙ ((flag_law true).steps kinds.FlagDw refl).none_held d))
 
   register_lww_unnamed : (e : LayerEffect E) (d : Dot) → layer_names has names e d ≡ false → named_by lww_names (register_lww_effect e) d ≡ false
   register_lww_unnamed (effect.RegisterLww e) d h = h
@@ -204,10 +204,10 @@ module _ {S E : Type 0} {has : Kind → Bool} {too_deep : Kind → List Field �
   swaps_at (state.CounterPn s) a b d e apart na nb = ap state.CounterPn (moved_swaps pn_step names_none (pn_law.steps kinds.CounterPn refl).swaps s (counter_pn_effect a) (counter_pn_effect b) d e apart (counter_pn_unnamed a e na) (counter_pn_unnamed b d nb))
   swaps_at (state.CounterFat s) a b d e apart na nb = ap state.CounterFat (moved_swaps fat_step fat_names (fat_law.steps kinds.CounterFat refl).swaps s (counter_fat_effect a) (counter_fat_effect b) d e apart (counter_fat_unnamed a e na) (counter_fat_unnamed b d nb))
   swaps_at (state.SetGo s) a b d e apart na nb = ap state.SetGo (moved_swaps set.go_step set.go_names (set_go_law.steps kinds.SetGo refl).swaps s (set_go_effect a) (set_go_effect b) d e apart (set_go_unnamed a e na) (set_go_unnamed b d nb))
-  swaps_at (state.SetAw s) a b d e apart na nb = ap state.SetAw (moved_swaps sets.aw_step sets.set_names (aw_law.steps kinds.SetAw refl).swaps s (set_aw_effect a) (set_aw_effect b) d e apart (set_aw_unnamed a e na) (set_aw_unnamed b d nb))
-  swaps_at (state.SetRw s) a b d e apart na nb = ap state.SetRw (moved_swaps sets.rw_step sets.set_names (rw_law.steps kinds.SetRw refl).swaps s (set_rw_effect a) (set_rw_effect b) d e apart (set_rw_unnamed a e na) (set_rw_unnamed b d nb))
-  swaps_at (state.FlagEw s) a b d e apart na nb = ap state.FlagEw (moved_swaps flags.ew_step flags.flag_names (ew_law.steps kinds.FlagEw refl).swaps s (flag_ew_effect a) (flag_ew_effect b) d e apart (flag_ew_unnamed a e na) (flag_ew_unnamed b d nb))
-  swaps_at (state.FlagDw s) a b d e apart na nb = ap state.FlagDw (moved_swaps flags.dw_step flags.flag_names (dw_law.steps kinds.FlagDw refl).swaps s (flag_dw_effect a) (flag_dw_effect b) d e apart (flag_dw_unnamed a e na) (flag_dw_unnamed b d nb))
+  swaps_at (state.SetAw s) a b d e apart na nb = ap state.SetAw (moved_swaps (sets.set_step false) sets.set_names ((set_law false).steps kinds.SetAw refl).swaps s (set_aw_effect a) (set_aw_effect b) d e apart (set_aw_unnamed a e na) (set_aw_unnamed b d nb))
+  swaps_at (state.SetRw s) a b d e apart na nb = ap state.SetRw (moved_swaps (sets.set_step true) sets.set_names ((set_law true).steps kinds.SetRw refl).swaps s (set_rw_effect a) (set_rw_effect b) d e apart (set_rw_unnamed a e na) (set_rw_unnamed b d nb))
+  swaps_at (state.FlagEw s) a b d e apart na nb = ap state.FlagEw (moved_swaps (flags.flag_step false) flags.flag_names ((flag_law false).steps kinds.FlagEw refl).swaps s (flag_ew_effect a) (flag_ew_effect b) d e apart (flag_ew_unnamed a e na) (flag_ew_unnamed b d nb))
+  swaps_at (state.FlagDw s) a b d e apart na nb = ap state.FlagDw (moved_swaps (flags.flag_step true) flags.flag_names ((flag_law true).steps kinds.FlagDw refl).swaps s (flag_dw_effect a) (flag_dw_effect b) d e apart (flag_dw_unnamed a e na) (flag_dw_unnamed b d nb))
   swaps_at (state.RegisterLww s) a b d e apart na nb = ap state.RegisterLww (moved_swaps lww_step lww_names (lww_law.steps kinds.RegisterLww refl).swaps s (register_lww_effect a) (register_lww_effect b) d e apart (register_lww_unnamed a e na) (register_lww_unnamed b d nb))
   swaps_at (state.RegisterMv s) a b d e apart na nb = ap state.RegisterMv (moved_swaps mv_step mv_names (mv_law.steps kinds.RegisterMv refl).swaps s (register_mv_effect a) (register_mv_effect b) d e apart (register_mv_unnamed a e na) (register_mv_unnamed b d nb))
   swaps_at (state.MapGo s) a b d e apart na nb = ap state.MapGo (moved_swaps (map_step has initial step) (map_names has names) ((map_law inner owed false).steps kinds.MapGo refl).swaps s (map_go_effect a) (map_go_effect b) d e apart (map_go_unnamed a e na) (map_go_unnamed b d nb))
@@ -217,10 +217,10 @@ module _ {S E : Type 0} {has : Kind → Bool} {too_deep : Kind → List Field �
   held_at (state.CounterPn s) d e x h = moved_held pn_step holds_none (pn_law.steps kinds.CounterPn refl).held s d (counter_pn_effect e) x h
   held_at (state.CounterFat s) d e x h = moved_held fat_step is_kept (fat_law.steps kinds.CounterFat refl).held s d (counter_fat_effect e) x h
   held_at (state.SetGo s) d e x h = moved_held set.go_step set.go_holds (set_go_law.steps kinds.SetGo refl).held s d (set_go_effect e) x h
-  held_at (state.SetAw s) d e x h = moved_held sets.aw_step keeps_dot (aw_law.steps kinds.SetAw refl).held s d (set_aw_effect e) x h
-  held_at (state.SetRw s) d e x h = moved_held sets.rw_step keeps_dot (rw_law.steps kinds.SetRw refl).held s d (set_rw_effect e) x h
-  held_at (state.FlagEw s) d e x h = moved_held flags.ew_step is_kept (ew_law.steps kinds.FlagEw refl).held s d (flag_ew_effect e) x h
-  held_at (state.FlagDw s) d e x h = moved_held flags.dw_step is_kept (dw_law.steps kinds.FlagDw refl).held s d (flag_dw_effect e) x h
+  held_at (state.SetAw s) d e x h = moved_held (sets.set_step false) keeps_dot ((set_law false).steps kinds.SetAw refl).held s d (set_aw_effect e) x h
+  held_at (state.SetRw s) d e x h = moved_held (sets.set_step true) keeps_dot ((set_law true).steps kinds.SetRw refl).held s d (set_rw_effect e) x h
+  held_at (state.FlagEw s) d e x h = moved_held (flags.flag_step false) is_kept ((flag_law false).steps kinds.FlagEw refl).held s d (flag_ew_effect e) x h
+  held_at (state.FlagDw s) d e x h = moved_held (flags.flag_step true) is_kept ((flag_law true).steps kinds.FlagDw refl).held s d (flag_dw_effect e) x h
   held_at (state.RegisterLww s) d e x h = moved_held lww_step lww_holds (lww_law.steps kinds.RegisterLww refl).held s d (register_lww_effect e) x h
   held_at (state.RegisterMv s) d e x h = moved_held mv_step is_kept (mv_law.steps kinds.RegisterMv refl).held s d (register_mv_effect e) x h
   held_at (state.MapGo s) d e x h = moved_held (map_step has initial step) (map_holds holds) ((map_law inner owed false).steps kinds.MapGo refl).held s d (map_go_effect e) x h
@@ -230,10 +230,10 @@ module _ {S E : Type 0} {has : Kind → Bool} {too_deep : Kind → List Field �
   named_at kinds.CounterPn s u d h = counter_pn_holds s d ((pn_law.steps kinds.CounterPn refl).named (unwrap_or (counter_pn_state s) (pos 0)) u d h)
   named_at kinds.CounterFat s u d h = counter_fat_holds s d ((fat_law.steps kinds.CounterFat refl).named (unwrap_or (counter_fat_state s) empty) u d h)
   named_at kinds.SetGo s u d h = set_go_holds s d ((set_go_law.steps kinds.SetGo refl).named (unwrap_or (set_go_state s) empty) u d h)
-  named_at kinds.SetAw s u d h = set_aw_holds s d ((aw_law.steps kinds.SetAw refl).named (unwrap_or (set_aw_state s) empty) u d h)
-  named_at kinds.SetRw s u d h = set_rw_holds s d ((rw_law.steps kinds.SetRw refl).named (unwrap_or (set_rw_state s) empty) u d h)
-  named_at kinds.FlagEw s u d h = flag_ew_holds s d ((ew_law.steps kinds.FlagEw refl).named (unwrap_or (flag_ew_state s) empty) u d h)
-  named_at kinds.FlagDw s u d h = flag_dw_holds s d ((dw_law.steps kinds.FlagDw refl).named (unwrap_or (flag_dw_state s) empty) u d h)
+  named_at kinds.SetAw s u d h = set_aw_holds s d (((set_law false).steps kinds.SetAw refl).named (unwrap_or (set_aw_state s) empty) u d h)
+  named_at kinds.SetRw s u d h = set_rw_holds s d (((set_law true).steps kinds.SetRw refl).named (unwrap_or (set_rw_state s) empty) u d h)
+  named_at kinds.FlagEw s u d h = flag_ew_holds s d (((flag_law false).steps kinds.FlagEw refl).named (unwrap_or (flag_ew_state s) empty) u d h)
+  named_at kinds.FlagDw s u d h = flag_dw_holds s d (((flag_law true).steps kinds.FlagDw refl).named (unwrap_or (flag_dw_state s) empty) u d h)
   named_at kinds.RegisterLww s u d h = register_lww_holds s d ((lww_law.steps kinds.RegisterLww refl).named (unwrap_or (register_lww_state s) None) u d h)
   named_at kinds.RegisterMv s u d h = register_mv_holds s d ((mv_law.steps kinds.RegisterMv refl).named (unwrap_or (register_mv_state s) empty) u d h)
   named_at kinds.MapGo s u d h = map_go_holds s d (((map_law inner owed false).steps kinds.MapGo refl).named (unwrap_or (map_go_state s) empty) u d h)
@@ -243,10 +243,10 @@ module _ {S E : Type 0} {has : Kind → Bool} {too_deep : Kind → List Field �
   none_at kinds.CounterPn x = (pn_law.steps kinds.CounterPn refl).none_held x
   none_at kinds.CounterFat x = (fat_law.steps kinds.CounterFat refl).none_held x
   none_at kinds.SetGo x = (set_go_law.steps kinds.SetGo refl).none_held x
-  none_at kinds.SetAw x = (aw_law.steps kinds.SetAw refl).none_held x
-  none_at kinds.SetRw x = (rw_law.steps kinds.SetRw refl).none_held x
-  none_at kinds.FlagEw x = (ew_law.steps kinds.FlagEw refl).none_held x
-  none_at kinds.FlagDw x = (dw_law.steps kinds.FlagDw refl).none_held x
+  none_at kinds.SetAw x = ((set_law false).steps kinds.SetAw refl).none_held x
+  none_at kinds.SetRw x = ((set_law true).steps kinds.SetRw refl).none_held x
+  none_at kinds.FlagEw x = ((flag_law false).steps kinds.FlagEw refl).none_held x
+  none_at kinds.FlagDw x = ((flag_law true).steps kinds.FlagDw refl).none_held x
   none_at kinds.RegisterLww x = (lww_law.steps kinds.RegisterLww refl).none_held x
   none_at kinds.RegisterMv x = (mv_law.steps kinds.RegisterMv refl).none_held x
   none_at kinds.MapGo x = ((map_law inner owed false).steps kinds.MapGo refl).none_held x
@@ -291,33 +291,33 @@ module _ {S E : Type 0} {has : Kind → Bool} {too_deep : Kind → List Field �
 
   pub set_aw_blank : (s : LayerState S) → layer_blank is_blank s ≡ true → lacks_all (unwrap_or (set_aw_state s) empty) ≡ true
   set_aw_blank (state.SetAw s) h = h
-  set_aw_blank _ h = aw_in_maps.first_blank kinds.SetAw refl
+  set_aw_blank _ h = (set_in_maps false).first_blank kinds.SetAw refl
 
-  set_aw_stays : (t : LayerState S) (d : Dot) (e : SetEffect) → ((r : Elements) → sets.aw_step r d e ≡ r) → moves t d (effect.SetAw e) ≡ t
+  set_aw_stays : (t : LayerState S) (d : Dot) (e : SetEffect) → ((r : Elements) → sets.set_step false r d e ≡ r) → moves t d (effect.SetAw e) ≡ t
   set_aw_stays (state.SetAw r) d e h = ap state.SetAw (h r)
   set_aw_stays _ d e h = refl
 
   pub set_rw_blank : (s : LayerState S) → layer_blank is_blank s ≡ true → lacks_all (unwrap_or (set_rw_state s) empty) ≡ true
   set_rw_blank (state.SetRw s) h = h
-  set_rw_blank _ h = rw_in_maps.first_blank kinds.SetRw refl
+  set_rw_blank _ h = (set_in_maps true).first_blank kinds.SetRw refl
 
-  set_rw_stays : (t : LayerState S) (d : Dot) (e : SetEffect) → ((r : Elements) → sets.rw_step r d e ≡ r) → moves t d (effect.SetRw e) ≡ t
+  set_rw_stays : (t : LayerState S) (d : Dot) (e : SetEffect) → ((r : Elements) → sets.set_step true r d e ≡ r) → moves t d (effect.SetRw e) ≡ t
   set_rw_stays (state.SetRw r) d e h = ap state.SetRw (h r)
   set_rw_stays _ d e h = refl
 
   pub flag_ew_blank : (s : LayerState S) → layer_blank is_blank s ≡ true → keeps_none (unwrap_or (flag_ew_state s) empty) ≡ true
   flag_ew_blank (state.FlagEw s) h = h
-  flag_ew_blank _ h = ew_in_maps.first_blank kinds.FlagEw refl
+  flag_ew_blank _ h = (flag_in_maps false).first_blank kinds.FlagEw refl
 
-  flag_ew_stays : (t : LayerState S) (d : Dot) (e : FlagEffect) → ((r : KeptAt Bool) → flags.ew_step r d e ≡ r) → moves t d (effect.FlagEw e) ≡ t
+  flag_ew_stays : (t : LayerState S) (d : Dot) (e : FlagEffect) → ((r : KeptAt Bool) → flags.flag_step false r d e ≡ r) → moves t d (effect.FlagEw e) ≡ t
   flag_ew_stays (state.FlagEw r) d e h = ap state.FlagEw (h r)
   flag_ew_stays _ d e h = refl
 
   pub flag_dw_blank : (s : LayerState S) → layer_blank is_blank s ≡ true → keeps_none (unwrap_or (flag_dw_state s) empty) ≡ true
   flag_dw_blank (state.FlagDw s) h = h
-  flag_dw_blank _ h = dw_in_maps.first_blank kinds.FlagDw refl
+  flag_dw_blank _ h = (flag_in_maps true).first_blank kinds.FlagDw refl
 
-  flag_dw_stays : (t : LayerState S) (d : Dot) (e : FlagEffect) → ((r : KeptAt Bool) → flags.dw_step r d e ≡ r) → moves t d (effect.FlagDw e) ≡ t
+  flag_dw_stays : (t : LayerState S) (d : Dot) (e : FlagEffect) → ((r : KeptAt Bool) → flags.flag_step true r d e ≡ r) → moves t d (effect.FlagDw e) ≡ t
   flag_dw_stays (state.FlagDw r) d e h = ap state.FlagDw (h r)
   flag_dw_stays _ d e h = refl
 
@@ -357,10 +357,10 @@ module _ {S E : Type 0} {has : Kind → Bool} {too_deep : Kind → List Field �
   first_at kinds.CounterPn = pn_in_maps.first_blank kinds.CounterPn refl
   first_at kinds.CounterFat = fat_in_maps.first_blank kinds.CounterFat refl
   first_at kinds.SetGo = set_go_in_maps.first_blank kinds.SetGo refl
-  first_at kinds.SetAw = aw_in_maps.first_blank kinds.SetAw refl
-  first_at kinds.SetRw = rw_in_maps.first_blank kinds.SetRw refl
-  first_at kinds.FlagEw = ew_in_maps.first_blank kinds.FlagEw refl
-  first_at kinds.FlagDw = dw_in_maps.first_blank kinds.FlagDw refl
+  first_at kinds.SetAw = (set_in_maps false).first_blank kinds.SetAw refl
+  first_at kinds.SetRw = (set_in_maps true).first_blank kinds.SetRw refl
+  first_at kinds.FlagEw = (flag_in_maps false).first_blank kinds.FlagEw refl
+  first_at kinds.FlagDw = (flag_in_maps true).first_blank kinds.FlagDw refl
   first_at kinds.RegisterLww = lww_in_maps.first_blank kinds.RegisterLww refl
   first_at kinds.RegisterMv = mv_in_maps.first_blank kinds.RegisterMv refl
   first_at kinds.MapGo = (map_in_maps inner owed false).first_blank kinds.MapGo refl
@@ -370,10 +370,10 @@ module _ {S E : Type 0} {has : Kind → Bool} {too_deep : Kind → List Field �
   undoes_at kinds.CounterPn s t d n resets blank = counter_pn_stays t d (pn_made kinds.CounterPn (unwrap_or (counter_pn_state s) (pos 0)) [] act.Reset n) (λ r. pn_in_maps.undoes_none kinds.CounterPn (unwrap_or (counter_pn_state s) (pos 0)) r d n refl resets (counter_pn_blank s blank))
   undoes_at kinds.CounterFat s t d n resets blank = counter_fat_stays t d (fat_made kinds.CounterFat (unwrap_or (counter_fat_state s) empty) [] act.Reset n) (λ r. fat_in_maps.undoes_none kinds.CounterFat (unwrap_or (counter_fat_state s) empty) r d n refl resets (counter_fat_blank s blank))
   undoes_at kinds.SetGo s t d n resets blank = set_go_stays t d (set.go_made kinds.SetGo (unwrap_or (set_go_state s) empty) [] act.Reset n) (λ r. set_go_in_maps.undoes_none kinds.SetGo (unwrap_or (set_go_state s) empty) r d n refl resets (set_go_blank s blank))
-  undoes_at kinds.SetAw s t d n resets blank = set_aw_stays t d (sets.kind_made kinds.SetAw (unwrap_or (set_aw_state s) empty) [] act.Reset n) (λ r. aw_in_maps.undoes_none kinds.SetAw (unwrap_or (set_aw_state s) empty) r d n refl resets (set_aw_blank s blank))
-  undoes_at kinds.SetRw s t d n resets blank = set_rw_stays t d (sets.kind_made kinds.SetRw (unwrap_or (set_rw_state s) empty) [] act.Reset n) (λ r. rw_in_maps.undoes_none kinds.SetRw (unwrap_or (set_rw_state s) empty) r d n refl resets (set_rw_blank s blank))
-  undoes_at kinds.FlagEw s t d n resets blank = flag_ew_stays t d (flags.kind_made kinds.FlagEw (unwrap_or (flag_ew_state s) empty) [] act.Reset n) (λ r. ew_in_maps.undoes_none kinds.FlagEw (unwrap_or (flag_ew_state s) empty) r d n refl resets (flag_ew_blank s blank))
-  undoes_at kinds.FlagDw s t d n resets blank = flag_dw_stays t d (flags.kind_made kinds.FlagDw (unwrap_or (flag_dw_state s) empty) [] act.Reset n) (λ r. dw_in_maps.undoes_none kinds.FlagDw (unwrap_or (flag_dw_state s) empty) r d n refl resets (flag_dw_blank s blank))
+  undoes_at kinds.SetAw s t d n resets blank = set_aw_stays t d (sets.kind_made kinds.SetAw (unwrap_or (set_aw_state s) empty) [] act.Reset n) (λ r. (set_in_maps false).undoes_none kinds.SetAw (unwrap_or (set_aw_state s) empty) r d n refl resets (set_aw_blank s blank))
+  undoes_at kinds.SetRw s t d n resets blank = set_rw_stays t d (sets.kind_made kinds.SetRw (unwrap_or (set_rw_state s) empty) [] act.Reset n) (λ r. (set_in_maps true).undoes_none kinds.SetRw (unwrap_or (set_rw_state s) empty) r d n refl resets (set_rw_blank s blank))
+  undoes_at kinds.FlagEw s t d n resets blank = flag_ew_stays t d (flags.kind_made kinds.FlagEw (unwrap_or (flag_ew_state s) empty) [] act.Reset n) (λ r. (flag_in_maps false).undoes_none kinds.FlagEw (unwrap_or (flag_ew_state s) empty) r d n refl resets (flag_ew_blank s blank))
+  undoes_at kinds.FlagDw s t d n resets blank = flag_dw_stays t d (flags.kind_made kinds.FlagDw (unwrap_or (flag_dw_state s) empty) [] act.Reset n) (λ r. (flag_in_maps true).undoes_none kinds.FlagDw (unwrap_or (flag_dw_state s) empty) r d n refl resets (flag_dw_blank s blank))
   undoes_at kinds.RegisterLww s t d n resets blank = register_lww_stays t d (lww_made kinds.RegisterLww (unwrap_or (register_lww_state s) None) [] act.Reset n) (λ r. lww_in_maps.undoes_none kinds.RegisterLww (unwrap_or (register_lww_state s) None) r d n refl resets (register_lww_blank s blank))
   undoes_at kinds.RegisterMv s t d n resets blank = register_mv_stays t d (mv_made kinds.RegisterMv (unwrap_or (register_mv_state s) empty) [] act.Reset n) (λ r. mv_in_maps.undoes_none kinds.RegisterMv (unwrap_or (register_mv_state s) empty) r d n refl resets (register_mv_blank s blank))
   undoes_at kinds.MapGo s t d n resets blank = map_go_stays t d ((map_made has initial made is_blank) kinds.MapGo (unwrap_or (map_go_state s) empty) [] act.Reset n) (λ r. (map_in_maps inner owed false).undoes_none kinds.MapGo (unwrap_or (map_go_state s) empty) r d n refl resets (map_go_blank s blank))

@@ -17,8 +17,8 @@ use Rattle.crdt_core.specs.Law.{KeepsLaw, made_by, all_fit}
 use Rattle.crdt_core.specs.InMaps.{KeepsInMaps}
 use Rattle.crdt_core.specs.Resets.{ResetsWhatIsLeft}
 use Rattle.crdt_counters.specs.FatLaw.{fat_resets}
-use Rattle.crdt_sets.specs.SetResets.{aw_resets, rw_resets}
-use Rattle.crdt_flags.specs.FlagLaws.{ew_resets, dw_resets}
+use Rattle.crdt_sets.specs.SetResets.{set_resets}
+use Rattle.crdt_flags.specs.FlagLaws.{flag_resets}
 use Rattle.crdt_registers.specs.MvLaw.{mv_resets}
 use Rattle.crdt_maps.specs.MapResets.{map_resets}
 use Rattle.crdt_any.specs.declared.state.LayerState.{LayerState}
@@ -49,20 +49,20 @@ module _ {S E : Type 0} {has : Kind → Bool} {too_deep : Kind → List Field �
 
   none_at : (k : Kind) (s : LayerState S) (n : ℕ) (d : Dot) → stands_in kinds.MapRr k ≡ true → blank s ≡ true → names_it (makes k s [] act.Reset n) d ≡ false
   none_at kinds.CounterFat s n d resets h = fat_resets.none_left kinds.CounterFat (unwrap_or (counter_fat_state s) empty) n d refl resets (counter_fat_blank inner owed s h)
-  none_at kinds.SetAw s n d resets h = aw_resets.none_left kinds.SetAw (unwrap_or (set_aw_state s) empty) n d refl resets (set_aw_blank inner owed s h)
-  none_at kinds.SetRw s n d resets h = rw_resets.none_left kinds.SetRw (unwrap_or (set_rw_state s) empty) n d refl resets (set_rw_blank inner owed s h)
-  none_at kinds.FlagEw s n d resets h = ew_resets.none_left kinds.FlagEw (unwrap_or (flag_ew_state s) empty) n d refl resets (flag_ew_blank inner owed s h)
-  none_at kinds.FlagDw s n d resets h = dw_resets.none_left kinds.FlagDw (unwrap_or (flag_dw_state s) empty) n d refl resets (flag_dw_blank inner owed s h)
+  none_at kinds.SetAw s n d resets h = (set_resets false).none_left kinds.SetAw (unwrap_or (set_aw_state s) empty) n d refl resets (set_aw_blank inner owed s h)
+  none_at kinds.SetRw s n d resets h = (set_resets true).none_left kinds.SetRw (unwrap_or (set_rw_state s) empty) n d refl resets (set_rw_blank inner owed s h)
+  none_at kinds.FlagEw s n d resets h = (flag_resets false).none_left kinds.FlagEw (unwrap_or (flag_ew_state s) empty) n d refl resets (flag_ew_blank inner owed s h)
+  none_at kinds.FlagDw s n d resets h = (flag_resets true).none_left kinds.FlagDw (unwrap_or (flag_dw_state s) empty) n d refl resets (flag_dw_blank inner owed s h)
   none_at kinds.RegisterMv s n d resets h = mv_resets.none_left kinds.RegisterMv (unwrap_or (register_mv_state s) empty) n d refl resets (register_mv_blank inner owed s h)
   none_at kinds.MapRr s n d resets h = (map_resets inner owed fields true).none_left kinds.MapRr (unwrap_or (map_rr_state s) empty) n d refl resets (map_rr_blank inner owed s h)
   none_at _ s n d resets h = absurd (true≢false (sym resets))
 
   some_at : (k : Kind) (us : List Update) (n : ℕ) → stands_in kinds.MapRr k ≡ true → IsHistory us → all_fit (layer_too_deep has too_deep) k us ≡ true → blank (after k us) ≡ false → (d : Dot) × (names_it (makes k (after k us) [] act.Reset n) d ≡ true)
   some_at kinds.CounterFat us n resets h fit left = part_left fat_resets kinds.CounterFat refl state.CounterFat effect.CounterFat moves makes blank names_it (λ _ _ _. refl) (λ _ _ _ _. refl) (λ _. refl) (λ _ _. refl) us n resets h fit left
-  some_at kinds.SetAw us n resets h fit left = part_left aw_resets kinds.SetAw refl state.SetAw effect.SetAw moves makes blank names_it (λ _ _ _. refl) (λ _ _ _ _. refl) (λ _. refl) (λ _ _. refl) us n resets h fit left
-  some_at kinds.SetRw us n resets h fit left = part_left rw_resets kinds.SetRw refl state.SetRw effect.SetRw moves makes blank names_it (λ _ _ _. refl) (λ _ _ _ _. refl) (λ _. refl) (λ _ _. refl) us n resets h fit left
-  some_at kinds.FlagEw us n resets h fit left = part_left ew_resets kinds.FlagEw refl state.FlagEw effect.FlagEw moves makes blank names_it (λ _ _ _. refl) (λ _ _ _ _. refl) (λ _. refl) (λ _ _. refl) us n resets h fit left
-  some_at kinds.FlagDw us n resets h fit left = part_left dw_resets kinds.FlagDw refl state.FlagDw effect.FlagDw moves makes blank names_it (λ _ _ _. refl) (λ _ _ _ _. refl) (λ _. refl) (λ _ _. refl) us n resets h fit left
+  some_at kinds.SetAw us n resets h fit left = part_left (set_resets false) kinds.SetAw refl state.SetAw effect.SetAw moves makes blank names_it (λ _ _ _. refl) (λ _ _ _ _. refl) (λ _. refl) (λ _ _. refl) us n resets h fit left
+  some_at kinds.SetRw us n resets h fit left = part_left (set_resets true) kinds.SetRw refl state.SetRw effect.SetRw moves makes blank names_it (λ _ _ _. refl) (λ _ _ _ _. refl) (λ _. refl) (λ _ _. refl) us n resets h fit left
+  some_at kinds.FlagEw us n resets h fit left = part_left (flag_resets false) kinds.FlagEw refl state.FlagEw effect.FlagEw moves makes blank names_it (λ _ _ _. refl) (λ _ _ _ _. refl) (λ _. refl) (λ _ _. refl) us n resets h fit left
+  some_at kinds.FlagDw us n resets h fit left = part_left (flag_resets true) kinds.FlagDw refl state.FlagDw effect.FlagDw moves makes blank names_it (λ _ _ _. refl) (λ _ _ _ _. refl) (λ _. refl) (λ _ _. refl) us n resets h fit left
   some_at kinds.RegisterMv us n resets h fit left = part_left mv_resets kinds.RegisterMv refl state.RegisterMv effect.RegisterMv moves makes blank names_it (λ _ _ _. refl) (λ _ _ _ _. refl) (λ _. refl) (λ _ _. refl) us n resets h fit left
   some_at kinds.MapRr us n resets h fit left = part_left (map_resets inner owed fields true) kinds.MapRr refl state.MapRr effect.MapRr moves makes blank names_it (λ _ _ _. refl) (λ _ _ _ _. refl) (λ _. refl) (λ _ _. refl) us n resets h fit left
   some_at _ us n resets h fit left = absurd (true≢false (sym resets))

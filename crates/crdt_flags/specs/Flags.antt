@@ -1,5 +1,6 @@
 -- The states and effects of flags.
 use Rattle.std.specs.Prelude.{ℕ, Bool, true, false, not, ◌&&◌, List, [], Option, Some, None}
+use Rattle.std.specs.Bool.{then_some}
 use Rattle.site_vector.specs.declared.ids.Dot.{Dot}
 use Rattle.crdt_core.specs.declared.kind.Kind.{Kind}
 use Rattle.crdt_core.specs.declared.kind.Kind.TheVariants.{FlagEw, FlagDw}
@@ -14,11 +15,13 @@ use Rattle.crdt_core.specs.Kept.{KeptAt, kept_step, dots_of, has_marked, has_unm
 use Rattle.crdt_flags.specs.declared.effect.FlagEffect.{FlagEffect}
 use Rattle.crdt_flags.specs.declared.effect.FlagEffect.TheVariants.{Enable, Disable, Reset}
 
-abbrev pub ew_has : Kind → Bool
-ew_has k = same_kind k FlagEw
+-- the kind, by whether disables win over the enables that haven't seen them
+abbrev pub flag_kind : Bool → Kind
+flag_kind false = FlagEw
+flag_kind true = FlagDw
 
-abbrev pub dw_has : Kind → Bool
-dw_has k = same_kind k FlagDw
+abbrev pub flag_has : Bool → Kind → Bool
+flag_has disables_win k = same_kind k (flag_kind disables_win)
 
 -- the dots that an effect takes out
 abbrev pub flag_out : FlagEffect → List Dot
@@ -26,22 +29,18 @@ flag_out (Enable dots) = dots
 flag_out (Disable dots) = dots
 flag_out (Reset dots) = dots
 
--- what it puts at its own dot: true for an enable, and where disables win, false for a disable
-abbrev pub ew_own : FlagEffect → Option Bool
-ew_own (Enable dots) = Some true
-ew_own (Disable dots) = None
-ew_own (Reset dots) = None
+-- what a disable puts at its own dot: no mark where disables win, and nothing where enables do
+abbrev pub disable_own : Bool → Option Bool
+disable_own disables_win = then_some disables_win false
 
-abbrev pub dw_own : FlagEffect → Option Bool
-dw_own (Enable dots) = Some true
-dw_own (Disable dots) = Some false
-dw_own (Reset dots) = None
+-- what an effect puts at its own dot: a mark for an enable
+abbrev pub flag_own : Bool → FlagEffect → Option Bool
+flag_own disables_win (Enable dots) = Some true
+flag_own disables_win (Disable dots) = disable_own disables_win
+flag_own disables_win (Reset dots) = None
 
-abbrev pub ew_step : KeptAt Bool → Dot → FlagEffect → KeptAt Bool
-ew_step s d e = kept_step s d (flag_out e) (ew_own e)
-
-abbrev pub dw_step : KeptAt Bool → Dot → FlagEffect → KeptAt Bool
-dw_step s d e = kept_step s d (flag_out e) (dw_own e)
+abbrev pub flag_step : Bool → KeptAt Bool → Dot → FlagEffect → KeptAt Bool
+flag_step disables_win s d e = kept_step s d (flag_out e) (flag_own disables_win e)
 
 abbrev pub flag_made : KeptAt Bool → Act → FlagEffect
 flag_made s act.Enable = Enable (dots_of s)
@@ -52,11 +51,10 @@ flag_made s _ = Reset []
 abbrev pub kind_made : Kind → KeptAt Bool → List Field → Act → ℕ → FlagEffect
 kind_made k s p a now = flag_made s a
 
-abbrev pub ew_value : KeptAt Bool → Value
-ew_value s = Flag (has_marked s)
-
-abbrev pub dw_value : KeptAt Bool → Value
-dw_value s = Flag (has_marked s && not (has_unmarked s))
+-- on by an enable that is kept, where disables win, if no disable is
+abbrev pub flag_value : Bool → KeptAt Bool → Value
+flag_value false s = Flag (has_marked s)
+flag_value true s = Flag (has_marked s && not (has_unmarked s))
 
 abbrev pub no_stamp : FlagEffect → Option ℕ
 no_stamp e = None

@@ -23,3 +23,7 @@ ew_meaning k us = Flag (add_wins enables disables us)
 -- a live enable, and each live disable seen by one
 abbrev pub dw_meaning : Kind → List Update → Value
 dw_meaning k us = Flag (remove_wins enables disables us)
+
+abbrev pub flag_meaning : Bool → Kind → List Update → Value
+flag_meaning false = ew_meaning
+flag_meaning true = dw_meaning

@@ -1,5 +1,5 @@
 -- The effects that are generated of flags can be put.
-use Rattle.std.proofs.Common.{◌≡◌, Bool, true, List, [], ◌∷◌, refl, sym, subst}
+use Rattle.std.proofs.Common.{◌≡◌, Bool, true, false, List, [], ◌∷◌, refl, sym, ap, ◌∙◌, subst}
 use Rattle.std.proofs.lemmas.Bool.{false≢true}
 use Rattle.crdt_core.specs.declared.kind.Kind.{Kind}
 use Rattle.crdt_core.specs.declared.object.Field.{Field}
@@ -11,7 +11,7 @@ use Rattle.crdt_core.specs.Spelled.{ascend}
 use Rattle.crdt_core.specs.EffectForm.{HoldsSpelled, IsReady, reset_tag, begins_with, asks_reset}
 use Rattle.crdt_core.specs.Ready.{kept_spelled, kept_ascend}
 use Rattle.crdt_core.specs.Contents.{Updates, sets_ascend}
-use Rattle.crdt_flags.specs.Flags.{flag_made}
+use Rattle.crdt_flags.specs.Flags.{flag_kind, flag_made}
 use Rattle.crdt_flags.specs.EffectForm.{is_of_kind, can_put_flag, flag_contents, flag_spelling}
 
 one_set : (s : KeptAt Bool) → sets_ascend (Updates (dots_of s) ∷ []) ≡ true
@@ -34,11 +34,14 @@ reset_made s [] act.Reset h = refl
 reset_made s [] _ h = absurd (false≢true h)
 reset_made s (f ∷ p) a h = absurd (false≢true h)
 
--- for the kinds whose reset is marked by 2, as both flags are
-pub flag_ready : (k : Kind) → reset_tag k ≡ 2 → (s : KeptAt Bool) (p : List Field) (a : Act) → HoldsSpelled is_kept s → IsReady is_of_kind can_put_flag flag_contents flag_spelling k p a (flag_made s a)
-flag_ready k tag s p a h = record {
+reset_mark : (w : Bool) → reset_tag (flag_kind w) ≡ 2
+reset_mark false = refl
+reset_mark true = refl
+
+pub flag_ready : (w : Bool) (k : Kind) → k ≡ flag_kind w → (s : KeptAt Bool) (p : List Field) (a : Act) → HoldsSpelled is_kept s → IsReady is_of_kind can_put_flag flag_contents flag_spelling k p a (flag_made s a)
+flag_ready w k e s p a h = record {
   kind = refl;
   fit = can_put_made s a h;
   sets = set_made s a;
-  opened = λ asked. subst (λ n. begins_with n (flag_spelling (flag_made s a)) ≡ true) (sym tag) (reset_made s p a asked);
+  opened = λ asked. subst (λ n. begins_with n (flag_spelling (flag_made s a)) ≡ true) (sym (ap reset_tag e ∙ reset_mark w)) (reset_made s p a asked);
 }

@@ -3,9 +3,7 @@
 
 mod effect;
 mod effect_form;
-mod flag_dw;
-mod flag_ew;
+mod flag_of;
 
 pub use effect::FlagEffect;
-pub use flag_dw::FlagDw;
-pub use flag_ew::FlagEw;
+pub use flag_of::{FlagDw, FlagEw, FlagOf};

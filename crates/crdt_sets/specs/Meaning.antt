@@ -1,5 +1,5 @@
 -- What sets mean.
-use Rattle.std.specs.Prelude.{ℕ, Bool, false, List, [], ◌∷◌, ◌++◌, filter}
+use Rattle.std.specs.Prelude.{ℕ, Bool, true, false, List, [], ◌∷◌, ◌++◌, filter}
 use Rattle.crdt_core.specs.declared.kind.Kind.{Kind}
 use Rattle.crdt_core.specs.declared.operation.Act.{Act}
 use Rattle.crdt_core.specs.declared.operation.Act.TheVariants.{Add, Remove}
@@ -37,3 +37,7 @@ aw_meaning k us = Words (ascending (filter (λ x. add_wins (adds x) (removes x) 
 -- each element with a live add, where a live add of it has seen each live remove of it
 abbrev pub rw_meaning : Kind → List Update → Value
 rw_meaning k us = Words (ascending (filter (λ x. remove_wins (adds x) (removes x) us) (added us)))
+
+abbrev pub set_meaning : Bool → Kind → List Update → Value
+set_meaning false = aw_meaning
+set_meaning true = rw_meaning

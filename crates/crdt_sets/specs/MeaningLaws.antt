@@ -1,5 +1,5 @@
 -- The meaning of sets depends on no order.
-use Rattle.std.proofs.Common.{◌≡◌, ℕ, Bool, ◌&&◌, ◌||◌, List, [], ◌∷◌, refl, sym, ap, ◌∙◌}
+use Rattle.std.proofs.Common.{◌≡◌, ℕ, Bool, true, false, ◌&&◌, ◌||◌, List, [], ◌∷◌, refl, sym, ap, ◌∙◌}
 use Rattle.std.specs.Prelude.{filter}
 use Rattle.std.specs.List.{list_any}
 use Rattle.std.proofs.lemmas.List.Folds.{list_any-append}
@@ -12,7 +12,7 @@ use Rattle.crdt_core.specs.Seen.{Update}
 use Rattle.crdt_core.specs.Confluence.{any_same}
 use Rattle.crdt_core.specs.Texts.{is_in, same_text, ascending, same_ascending, in_filter}
 use Rattle.crdt_core.specs.WinsLaw.{add_wins_same, remove_wins_same}
-use Rattle.crdt_sets.specs.Meaning.{adds, removes, added_by, added, go_meaning, aw_meaning, rw_meaning}
+use Rattle.crdt_sets.specs.Meaning.{adds, removes, added_by, added, go_meaning, set_meaning}
 
 in_act : (a : Act) (x : List ℕ) → is_in (added_by a) x ≡ adds x a
 in_act (act.Add xs) x = refl
@@ -32,8 +32,6 @@ tested_same p q is us vs s = same_ascending _ _ (λ x. in_filter p (added us) x 
 pub go_orderless : (k : Kind) (us vs : List Update) → Same us vs → go_meaning k us ≡ go_meaning k vs
 go_orderless k us vs s = ap Words (same_ascending _ _ (added_same us vs s))
 
-pub aw_orderless : (k : Kind) (us vs : List Update) → Same us vs → aw_meaning k us ≡ aw_meaning k vs
-aw_orderless k us vs s = ap Words (tested_same _ _ (λ x. add_wins_same (adds x) (removes x) us vs s) us vs s)
-
-pub rw_orderless : (k : Kind) (us vs : List Update) → Same us vs → rw_meaning k us ≡ rw_meaning k vs
-rw_orderless k us vs s = ap Words (tested_same _ _ (λ x. remove_wins_same (adds x) (removes x) us vs s) us vs s)
+pub set_orderless : (w : Bool) (k : Kind) (us vs : List Update) → Same us vs → set_meaning w k us ≡ set_meaning w k vs
+set_orderless false k us vs s = ap Words (tested_same _ _ (λ x. add_wins_same (adds x) (removes x) us vs s) us vs s)
+set_orderless true k us vs s = ap Words (tested_same _ _ (λ x. remove_wins_same (adds x) (removes x) us vs s) us vs s)

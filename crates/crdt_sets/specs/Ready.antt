@@ -22,7 +22,7 @@ use Rattle.crdt_sets.specs.Elements.{Elements, at, named_at, keeps_dot}
 use Rattle.crdt_sets.specs.ElementSteps.{kept_in}
 use Rattle.crdt_sets.specs.Meaning.{added_by}
 use Rattle.crdt_sets.specs.SetGo.{Grown, go_made}
-use Rattle.crdt_sets.specs.Sets.{set_made}
+use Rattle.crdt_sets.specs.Sets.{set_kind, set_made}
 use Rattle.crdt_sets.specs.EffectForm.{has_some, can_put_texts, texts_spelling, named_cmp, can_put_list, can_put_set, texts_contents, named_list_contents, set_contents, set_spelling, is_of_kind}
 
 -- ---- texts in order, of which there are some
@@ -103,28 +103,21 @@ reset_made m [] act.Reset h = refl
 reset_made m [] _ h = absurd (false≢true h)
 reset_made m (f ∷ p) a h = absurd (false≢true h)
 
-set_ready : (k : Kind) → reset_tag k ≡ 2 → (m : Elements) (p : List Field) (a : Act) → allows SetAw a ≡ true → HoldsSpelled keeps_dot m → IsReady is_of_kind can_put_set set_contents set_spelling k p a (set_made m a)
-set_ready k tag m p a ok h = record {
+-- both kinds mark a reset by 2, and allow the same acts
+kind_ready : (w : Bool) → (reset_tag (set_kind w) ≡ 2) × ((p : List Field) (a : Act) → fits (set_kind w) p a ≡ true → allows SetAw a ≡ true)
+kind_ready false = (refl, λ p a ok. (fits_leaf SetAw (λ l. refl) p a ok).1)
+kind_ready true = (refl, λ p a ok. (fits_leaf SetRw (λ l. refl) p a ok).1)
+
+pub set_ready : (w : Bool) (k : Kind) → k ≡ set_kind w → (m : Elements) (p : List Field) (a : Act) → fits k p a ≡ true → HoldsSpelled keeps_dot m → IsReady is_of_kind can_put_set set_contents set_spelling k p a (set_made m a)
+set_ready w k e m p a ok h = record {
   kind = refl;
-  fit = set_allowed m h a ok;
+  fit = set_allowed m h a ((kind_ready w).1 p a (subst (λ l. fits l p a ≡ true) e ok));
   sets = made_ascend m a;
-  opened = λ asked. subst (λ n. begins_with n (set_spelling (set_made m a)) ≡ true) (sym tag) (reset_made m p a asked);
+  opened = λ asked. subst (λ n. begins_with n (set_spelling (set_made m a)) ≡ true) (sym (ap reset_tag e ∙ (kind_ready w).0)) (reset_made m p a asked);
 }
-
-aw_leaf : IsLeaf SetAw
-aw_leaf l = refl
-
-rw_leaf : IsLeaf SetRw
-rw_leaf l = refl
 
 go_leaf : IsLeaf SetGo
 go_leaf l = refl
-
-pub aw_ready : (k : Kind) → k ≡ SetAw → (m : Elements) (p : List Field) (a : Act) → fits k p a ≡ true → HoldsSpelled keeps_dot m → IsReady is_of_kind can_put_set set_contents set_spelling k p a (set_made m a)
-aw_ready k e m p a ok h = set_ready k (ap reset_tag e) m p a (fits_leaf SetAw aw_leaf p a (subst (λ l. fits l p a ≡ true) e ok)).1 h
-
-pub rw_ready : (k : Kind) → k ≡ SetRw → (m : Elements) (p : List Field) (a : Act) → fits k p a ≡ true → HoldsSpelled keeps_dot m → IsReady is_of_kind can_put_set set_contents set_spelling k p a (set_made m a)
-rw_ready k e m p a ok h = set_ready k (ap reset_tag e) m p a (fits_leaf SetRw rw_leaf p a (subst (λ l. fits l p a ≡ true) e ok)).1 h
 
 go_allowed : (a : Act) → allows SetGo a ≡ true → (can_put_texts (ascending (added_by a)) ≡ true) × ((p : List Field) → asks_reset p a ≡ true → false ≡ true)
 go_allowed (act.Add xs) ok = (and_true (has_some (ascending xs)) _ (some_ascending xs ok) (and_true (are_in_order (is_below text_cmp) None (ascending xs)) _ (in_order xs) (all_true (ascending xs))), λ p. no_reset p)

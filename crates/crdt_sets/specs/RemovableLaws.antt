@@ -8,7 +8,7 @@ use Rattle.site_vector.specs.declared.ids.Dot.{Dot}
 use Rattle.site_vector.specs.Ids.{same_dot}
 use Rattle.site_vector.specs.Order.{dot_cmp}
 use Rattle.crdt_core.specs.declared.kind.Kind.{Kind}
-use Rattle.crdt_core.specs.declared.kind.Kind.TheVariants.{SetAw, SetRw, RegisterLww}
+use Rattle.crdt_core.specs.declared.kind.Kind.TheVariants.{RegisterLww}
 use Rattle.crdt_core.specs.declared.operation.Act.{Act}
 use Rattle.crdt_core.specs.declared.operation.Act.TheVariants as act
 use Rattle.crdt_core.specs.declared.value.Value.TheVariants.{Words}
@@ -30,21 +30,17 @@ use Rattle.crdt_core.specs.KeptKinds.{stays, holding, any_pairs, kept_entries}
 use Rattle.crdt_core.specs.Members.{one_of, any_of}
 use Rattle.crdt_core.specs.Wins.{lives, add_wins, remove_wins}
 use Rattle.crdt_core.specs.WinsLaw.{undoes, add_stays, remove_stays}
-use Rattle.crdt_sets.specs.Meaning.{adds, removes, added, aw_meaning, rw_meaning}
-use Rattle.crdt_sets.specs.MeaningLaws.{in_added, aw_orderless, rw_orderless}
+use Rattle.crdt_sets.specs.Meaning.{adds, removes, added, set_meaning}
+use Rattle.crdt_sets.specs.MeaningLaws.{in_added, set_orderless}
 use Rattle.crdt_sets.specs.Elements.{Elements, lacks_all, at, take_named, named_at, passing, names_dot, keeps_dot, shows}
 use Rattle.crdt_sets.specs.ElementSteps.{dots_at, at-take_named, take_swaps, take_held, keeps_none, at_none, names_kept, lists_named, dots_named}
-use Rattle.crdt_sets.specs.Sets.{aw_has, rw_has, named_of, aw_own, rw_own, aw_step, rw_step, set_made, kind_made, aw_value, rw_value, no_stamp, set_names}
+use Rattle.crdt_sets.specs.Sets.{set_kind, set_has, named_of, remove_own, set_own, set_step, set_made, kind_made, set_value, no_stamp, set_names}
 
 -- what an act puts of an element
-abbrev aw_given : List ℕ → Act → Option Bool
-aw_given x (act.Add xs) = cond (is_in xs x) (Some true) None
-aw_given x _ = None
-
-abbrev rw_given : List ℕ → Act → Option Bool
-rw_given x (act.Add xs) = cond (is_in xs x) (Some true) None
-rw_given x (act.Remove xs) = cond (is_in xs x) (Some false) None
-rw_given x _ = None
+abbrev set_given : Bool → List ℕ → Act → Option Bool
+set_given w x (act.Add xs) = cond (is_in xs x) (Some true) None
+set_given w x (act.Remove xs) = cond (is_in xs x) (remove_own w) None
+set_given w x _ = None
 
 abbrev takes : List ℕ → Update → Bool
 takes x u = undoes (adds x) (removes x) u.act
@@ -87,38 +83,19 @@ none_kept r x q (Some k) h = absurd (true≢false h)
 absent : (r : Elements) (x : List ℕ) (q : Dot) → is_in (keys r) x ≡ false → is_kept (at r x) q ≡ false
 absent r x q h = none_kept r x q (get r x) (contains_key-keys r x ∙ h)
 
-nothing : (l : Bool) (o : Option Bool) → o ≡ None → cond l o None ≡ None
-nothing true o h = h
-nothing false o h = refl
-
-aw_sees : (s r : Elements) (d : Dot) (a : Act) (x : List ℕ) (q : Dot) → get (at (aw_step s d (set_made r a)) x) q ≡ given (same_dot d q) (aw_given x a) (cond (undoes (adds x) (removes x) a && is_some (get (at r x) q)) None (get (at s x) q))
-aw_sees s r d (act.Add xs) x q =
+set_sees : (w : Bool) (s r : Elements) (d : Dot) (a : Act) (x : List ℕ) (q : Dot) → get (at (set_step w s d (set_made r a)) x) q ≡ given (same_dot d q) (set_given w x a) (cond (undoes (adds x) (removes x) a && is_some (get (at r x) q)) None (get (at s x) q))
+set_sees w s r d (act.Add xs) x q =
     at_named s r (ascending xs) d (Some true) x q
     ∙ ap (λ l. cond l (given (same_dot d q) (Some true) (cond (l && is_kept (at r x) q) None (get (at s x) q))) (get (at s x) q)) (in_ascending xs x)
     ∙ add_case (same_dot d q) (is_in xs x) (is_kept (at r x) q) (get (at s x) q)
-aw_sees s r d (act.Remove xs) x q =
-    at_named s r (ascending xs) d None x q
-    ∙ ap (λ l. cond l (given (same_dot d q) None (cond (l && is_kept (at r x) q) None (get (at s x) q))) (get (at s x) q)) (in_ascending xs x)
-    ∙ remove_case (same_dot d q) (is_in xs x) (is_kept (at r x) q) None (get (at s x) q)
-    ∙ ap (λ own. given (same_dot d q) own (cond ((false || (is_in xs x || false)) && is_kept (at r x) q) None (get (at s x) q))) (nothing (is_in xs x) None refl)
-aw_sees s r d act.Reset x q =
+set_sees w s r d (act.Remove xs) x q =
+    at_named s r (ascending xs) d (remove_own w) x q
+    ∙ ap (λ l. cond l (given (same_dot d q) (remove_own w) (cond (l && is_kept (at r x) q) None (get (at s x) q))) (get (at s x) q)) (in_ascending xs x)
+    ∙ remove_case (same_dot d q) (is_in xs x) (is_kept (at r x) q) (remove_own w) (get (at s x) q)
+set_sees w s r d act.Reset x q =
     at_named s r (keys r) d None x q
     ∙ reset_case (same_dot d q) (is_in (keys r) x) (is_kept (at r x) q) (get (at s x) q) (absent r x q)
-aw_sees s r d _ x q = other_case (same_dot d q) (get (at s x) q)
-
-rw_sees : (s r : Elements) (d : Dot) (a : Act) (x : List ℕ) (q : Dot) → get (at (rw_step s d (set_made r a)) x) q ≡ given (same_dot d q) (rw_given x a) (cond (undoes (adds x) (removes x) a && is_some (get (at r x) q)) None (get (at s x) q))
-rw_sees s r d (act.Add xs) x q =
-    at_named s r (ascending xs) d (Some true) x q
-    ∙ ap (λ l. cond l (given (same_dot d q) (Some true) (cond (l && is_kept (at r x) q) None (get (at s x) q))) (get (at s x) q)) (in_ascending xs x)
-    ∙ add_case (same_dot d q) (is_in xs x) (is_kept (at r x) q) (get (at s x) q)
-rw_sees s r d (act.Remove xs) x q =
-    at_named s r (ascending xs) d (Some false) x q
-    ∙ ap (λ l. cond l (given (same_dot d q) (Some false) (cond (l && is_kept (at r x) q) None (get (at s x) q))) (get (at s x) q)) (in_ascending xs x)
-    ∙ remove_case (same_dot d q) (is_in xs x) (is_kept (at r x) q) (Some false) (get (at s x) q)
-rw_sees s r d act.Reset x q =
-    at_named s r (keys r) d None x q
-    ∙ reset_case (same_dot d q) (is_in (keys r) x) (is_kept (at r x) q) (get (at s x) q) (absent r x q)
-rw_sees s r d _ x q = other_case (same_dot d q) (get (at s x) q)
+set_sees w s r d _ x q = other_case (same_dot d q) (get (at s x) q)
 
 names_held : (s : Elements) (a : Act) (q : Dot) → names_dot (named_of (set_made s a)) q ≡ true → keeps_dot s q ≡ true
 names_held s (act.Add xs) q h = names_kept s (ascending xs) q h
@@ -126,19 +103,11 @@ names_held s (act.Remove xs) q h = names_kept s (ascending xs) q h
 names_held s act.Reset q h = names_kept s (keys s) q h
 names_held s _ q h = absurd (false≢true h)
 
-aw_steps : (k : Kind) → KeepsSteps empty aw_step (made_by kind_made k) set_names keeps_dot
-aw_steps k = record {
-  swaps = λ s a b d e apart na nb. take_swaps s d e (named_of a) (named_of b) (aw_own a) (aw_own b) apart na nb;
+set_steps : (w : Bool) (k : Kind) → KeepsSteps empty (set_step w) (made_by kind_made k) set_names keeps_dot
+set_steps w k = record {
+  swaps = λ s a b d e apart na nb. take_swaps s d e (named_of a) (named_of b) (set_own w a) (set_own w b) apart na nb;
   named = λ s u d h. names_held s u.act d h;
-  held = λ s d e x h. take_held s d (aw_own e) (named_of e) x h;
-  none_held = keeps_none;
-}
-
-rw_steps : (k : Kind) → KeepsSteps empty rw_step (made_by kind_made k) set_names keeps_dot
-rw_steps k = record {
-  swaps = λ s a b d e apart na nb. take_swaps s d e (named_of a) (named_of b) (rw_own a) (rw_own b) apart na nb;
-  named = λ s u d h. names_held s u.act d h;
-  held = λ s d e x h. take_held s d (rw_own e) (named_of e) x h;
+  held = λ s d e x h. take_held s d (set_own w e) (named_of e) x h;
   none_held = keeps_none;
 }
 
@@ -164,36 +133,36 @@ unmarks : (l : Bool) → holding not (cond l (Some false) None) ≡ l
 unmarks true = refl
 unmarks false = refl
 
-no_unmarks : (l : Bool) → holding (λ b. b) (cond l (Some false) None) ≡ false
-no_unmarks true = refl
-no_unmarks false = refl
+no_unmarks : (w l : Bool) → holding (λ b. b) (cond l (remove_own w) None) ≡ false
+no_unmarks w false = refl
+no_unmarks false true = refl
+no_unmarks true true = refl
 
-aw_marks : (x : List ℕ) (a : Act) → holding (λ b. b) (aw_given x a) ≡ adds x a
-aw_marks x (act.Add xs) = marks (is_in xs x)
-aw_marks x _ = refl
+set_marks : (w : Bool) (x : List ℕ) (a : Act) → holding (λ b. b) (set_given w x a) ≡ adds x a
+set_marks w x (act.Add xs) = marks (is_in xs x)
+set_marks w x (act.Remove xs) = no_unmarks w (is_in xs x)
+set_marks w x _ = refl
 
-rw_marks : (x : List ℕ) (a : Act) → holding (λ b. b) (rw_given x a) ≡ adds x a
-rw_marks x (act.Add xs) = marks (is_in xs x)
-rw_marks x (act.Remove xs) = no_unmarks (is_in xs x)
-rw_marks x _ = refl
-
-rw_unmarks : (x : List ℕ) (a : Act) → holding not (rw_given x a) ≡ removes x a
-rw_unmarks x (act.Add xs) = no_marks (is_in xs x)
-rw_unmarks x (act.Remove xs) = unmarks (is_in xs x)
-rw_unmarks x _ = refl
+set_unmarks : (x : List ℕ) (a : Act) → holding not (set_given true x a) ≡ removes x a
+set_unmarks x (act.Add xs) = no_marks (is_in xs x)
+set_unmarks x (act.Remove xs) = unmarks (is_in xs x)
+set_unmarks x _ = refl
 
 none_at : (x : List ℕ) (q : Dot) → get (at empty x) q ≡ None
 none_at x q = ap (λ (k : KeptAt Bool). get k q) (at_none x) ∙ get-empty dot_cmp q
 
-aw_at : (k : Kind) (us : List Update) → IsHistory us → (x : List ℕ) → has_marked (at (state_after empty aw_step (made_by kind_made k) us) x) ≡ add_wins (adds x) (removes x) us
-aw_at k us h x =
-    let kept = kept_after empty aw_step (made_by kind_made k) (λ u. aw_given x u.act) (takes x) (λ s q. get (at s x) q) (none_at x) (λ s r u q. aw_sees s r u.dot u.act x q) us h in
-    kept_any x (aw_given x) (λ b. b) (adds x) (aw_marks x) us h _ kept ∙ add_stays (adds x) (removes x) us h
+abbrev after : Bool → Kind → List Update → Elements
+after w k us = state_after empty (set_step w) (made_by kind_made k) us
 
-rw_at : (k : Kind) (us : List Update) → IsHistory us → (x : List ℕ) → shows true (at (state_after empty rw_step (made_by kind_made k) us) x) ≡ remove_wins (adds x) (removes x) us
-rw_at k us h x =
-    let kept = kept_after empty rw_step (made_by kind_made k) (λ u. rw_given x u.act) (takes x) (λ s q. get (at s x) q) (none_at x) (λ s r u q. rw_sees s r u.dot u.act x q) us h in
-    (λ i. kept_any x (rw_given x) (λ b. b) (adds x) (rw_marks x) us h _ kept i && not (kept_any x (rw_given x) not (removes x) (rw_unmarks x) us h _ kept i)) ∙ remove_stays (adds x) (removes x) us h
+kept_at : (w : Bool) (k : Kind) (us : List Update) → IsHistory us → (x : List ℕ) (q : Dot) → get (at (after w k us) x) q ≡ left (λ u. set_given w x u.act) (takes x) (λ _. true) us q
+kept_at w k us h x = kept_after empty (set_step w) (made_by kind_made k) (λ u. set_given w x u.act) (takes x) (λ s q. get (at s x) q) (none_at x) (λ s r u q. set_sees w s r u.dot u.act x q) us h
+
+-- of an element, the adds are kept that no add, remove or reset has seen, and where removes win, such removes too
+marked : (w : Bool) (k : Kind) (us : List Update) → IsHistory us → (x : List ℕ) → has_marked (at (after w k us) x) ≡ list_any (λ u. adds x u.act && stays (takes x) us u) us
+marked w k us h x = kept_any x (set_given w x) (λ b. b) (adds x) (set_marks w x) us h _ (kept_at w k us h x)
+
+unmarked : (k : Kind) (us : List Update) → IsHistory us → (x : List ℕ) → has_unmarked (at (after true k us) x) ≡ list_any (λ u. removes x u.act && stays (takes x) us u) us
+unmarked k us h x = kept_any x (set_given true x) not (removes x) (set_unmarks x) us h _ (kept_at true k us h x)
 
 -- a test of what stands at a key
 abbrev tests : (KeptAt Bool → Bool) → Option (KeptAt Bool) → Bool
@@ -256,52 +225,35 @@ no_any t (x ∷ xs) h = absurd (omega arith)
 marks_none : has_marked empty ≡ false
 marks_none = no_any (λ e. e.1) (entries empty) (sym (len-entries empty) ∙ len-empty dot_cmp Bool)
 
-aw_means : (k : Kind) (us : List Update) → IsHistory us → aw_value (state_after empty aw_step (made_by kind_made k) us) ≡ aw_meaning k us
-aw_means k us h = ap Words (shown (shows false) marks_none (λ x. add_wins (adds x) (removes x) us) us _ (aw_at k us h) (aw_some us))
+set_means : (w : Bool) (k : Kind) (us : List Update) → IsHistory us → set_value w (after w k us) ≡ set_meaning w k us
+set_means false k us h =
+    ap Words (shown (shows false) marks_none (λ x. add_wins (adds x) (removes x) us) us _ (λ x. marked false k us h x ∙ add_stays (adds x) (removes x) us h) (aw_some us))
+set_means true k us h =
+    ap Words (shown (shows true) (ap (λ b. b && not (has_unmarked empty)) marks_none) (λ x. remove_wins (adds x) (removes x) us) us _
+    (λ x. (λ i. marked true k us h x i && not (unmarked k us h x i)) ∙ remove_stays (adds x) (removes x) us h) (rw_some us))
 
-rw_means : (k : Kind) (us : List Update) → IsHistory us → rw_value (state_after empty rw_step (made_by kind_made k) us) ≡ rw_meaning k us
-rw_means k us h = ap Words (shown (shows true) (ap (λ b. b && not (has_unmarked empty)) marks_none) (λ x. remove_wins (adds x) (removes x) us) us _ (rw_at k us h) (rw_some us))
+-- both kinds have no fields and no stamps, and their effects depend on the state
+kind_is : (w : Bool) → IsLeaf (set_kind w) × (same_kind (set_kind w) RegisterLww ≡ false) × (reads_state (set_kind w) ≡ true)
+kind_is false = (λ l. refl, refl, refl)
+kind_is true = (λ l. refl, refl, refl)
 
-aw_leaf : IsLeaf SetAw
-aw_leaf l = refl
-
-rw_leaf : IsLeaf SetRw
-rw_leaf l = refl
-
-pub aw_law : KeepsLaw aw_has (λ k p. false) (λ k. empty) aw_step kind_made aw_value no_stamp aw_meaning set_names keeps_dot
-aw_law = record {
-  means = λ k us has h fit stamped. aw_means k us h;
-  stamps = λ k u us has h fit stamped. no_stamp_due (λ k p. false) k (subst IsLeaf (sym (same_kind_is k SetAw has)) aw_leaf) (ap (λ l. same_kind l RegisterLww) (same_kind_is k SetAw has)) u us fit;
-  confluent = λ k us vs has. confluence empty aw_step (made_by kind_made k) set_names keeps_dot (aw_steps k) us vs;
-  orderless = λ k us vs has s. aw_orderless k us vs s;
-  unread = λ k s t p a n has r. absurd (true≢false (sym (ap reads_state (same_kind_is k SetAw has)) ∙ r));
-  steps = λ k has. aw_steps k;
-}
-
-pub rw_law : KeepsLaw rw_has (λ k p. false) (λ k. empty) rw_step kind_made rw_value no_stamp rw_meaning set_names keeps_dot
-rw_law = record {
-  means = λ k us has h fit stamped. rw_means k us h;
-  stamps = λ k u us has h fit stamped. no_stamp_due (λ k p. false) k (subst IsLeaf (sym (same_kind_is k SetRw has)) rw_leaf) (ap (λ l. same_kind l RegisterLww) (same_kind_is k SetRw has)) u us fit;
-  confluent = λ k us vs has. confluence empty rw_step (made_by kind_made k) set_names keeps_dot (rw_steps k) us vs;
-  orderless = λ k us vs has s. rw_orderless k us vs s;
-  unread = λ k s t p a n has r. absurd (true≢false (sym (ap reads_state (same_kind_is k SetRw has)) ∙ r));
-  steps = λ k has. rw_steps k;
+pub set_law : (w : Bool) → KeepsLaw (set_has w) (λ k p. false) (λ k. empty) (set_step w) kind_made (set_value w) no_stamp (set_meaning w) set_names keeps_dot
+set_law w = record {
+  means = λ k us has h fit stamped. set_means w k us h;
+  stamps = λ k u us has h fit stamped. let same = same_kind_is k (set_kind w) has in
+      no_stamp_due (λ k p. false) k (subst IsLeaf (sym same) (kind_is w).0) (ap (λ l. same_kind l RegisterLww) same ∙ (kind_is w).1) u us fit;
+  confluent = λ k us vs has. confluence empty (set_step w) (made_by kind_made k) set_names keeps_dot (set_steps w k) us vs;
+  orderless = λ k us vs has s. set_orderless w k us vs s;
+  unread = λ k s t p a n has r. absurd (true≢false (sym (ap reads_state (same_kind_is k (set_kind w) has) ∙ (kind_is w).2) ∙ r));
+  steps = λ k has. set_steps w k;
 }
 
 -- nothing is named where no element stands
 no_named : (s t : Elements) (d : Dot) (own : Option Bool) → lacks_all s ≡ true → take_named t d own (named_at s (keys s)) ≡ t
 no_named s t d own h = ap (λ xs. take_named t d own (named_at s xs)) (no_keys s h)
 
-pub aw_in_maps : KeepsInMaps aw_has (λ k p. false) (λ k. empty) aw_step kind_made lacks_all
-aw_in_maps = record {
-  first_blank = λ k has. empty_none text_cmp (KeptAt Bool);
-  undoes_none = λ k s t d n has resets blank. no_named s t d None blank;
-  shallow = λ k. refl;
-  flat = λ k p has out. refl;
-}
-
-pub rw_in_maps : KeepsInMaps rw_has (λ k p. false) (λ k. empty) rw_step kind_made lacks_all
-rw_in_maps = record {
+pub set_in_maps : (w : Bool) → KeepsInMaps (set_has w) (λ k p. false) (λ k. empty) (set_step w) kind_made lacks_all
+set_in_maps w = record {
   first_blank = λ k has. empty_none text_cmp (KeptAt Bool);
   undoes_none = λ k s t d n has resets blank. no_named s t d None blank;
   shallow = λ k. refl;

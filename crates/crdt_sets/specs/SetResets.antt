@@ -4,7 +4,6 @@ use Rattle.std.specs.Prelude.{map, is_some, unwrap_or, ◌==◌}
 use Rattle.std.proofs.lemmas.Bool.{true≢false, or_left}
 use Rattle.std.specs.FinMap.{empty, get, find, keys, len, get-empty, get-entries}
 use Rattle.site_vector.specs.declared.ids.Dot.{Dot}
-use Rattle.crdt_core.specs.declared.kind.Kind.{Kind}
 use Rattle.crdt_core.specs.DotSet.{has_dot}
 use Rattle.crdt_core.specs.History.{folded, effects}
 use Rattle.crdt_core.specs.Law.{made_by}
@@ -17,7 +16,7 @@ use Rattle.crdt_sets.specs.declared.named.Named.{Named}
 use Rattle.crdt_sets.specs.declared.effect.SetEffect.{SetEffect}
 use Rattle.crdt_sets.specs.Elements.{Elements, lacks_all, at, take_named, named_at, names_dot}
 use Rattle.crdt_sets.specs.ElementSteps.{standing, lists, dots_at, at_none, get-take_named, at-take_named}
-use Rattle.crdt_sets.specs.Sets.{aw_has, rw_has, named_of, aw_own, rw_own, aw_step, rw_step, kind_made, set_names}
+use Rattle.crdt_sets.specs.Sets.{set_has, named_of, set_own, set_step, kind_made, set_names}
 
 -- an element stands only where something is kept of it
 abbrev IsTidy : Elements → Type 0
@@ -47,22 +46,12 @@ some_named m tidy h =
     let dot = some_dot k (stands_kept k (sym there ∙ tidy x ∙ ap standing same)) in
     (dot.0, ap (λ es. names_dot (named_at m (map (λ e. e.0) es)) dot.0) w.2 ∙ or_left (has_dot (dots_of (at m x)) dot.0) _ (ap (λ j. has_dot (dots_of j) dot.0) same ∙ dot.1))
 
-module _ (own : SetEffect → Option Bool) where
-  abbrev steps : Elements → Dot → SetEffect → Elements
-  steps m d e = take_named m d (own e) (named_of e)
+tidy_after : (w : Bool) (es : List (Dot × SetEffect)) → IsTidy (folded empty (set_step w) es)
+tidy_after w [] = tidy_none
+tidy_after w (e ∷ es) = tidy_named (named_of e.1) (folded empty (set_step w) es) e.0 (set_own w e.1) (tidy_after w es)
 
-  tidy_after : (es : List (Dot × SetEffect)) → IsTidy (folded empty steps es)
-  tidy_after [] = tidy_none
-  tidy_after (e ∷ es) = tidy_named (named_of e.1) (folded empty steps es) e.0 (own e.1) (tidy_after es)
-
-  set_resets : (has : Kind → Bool) → ResetsWhatIsLeft has (λ k p. false) (λ k. empty) steps kind_made lacks_all set_names
-  set_resets has = record {
-    none_left = λ k s n d is resets blank. ap (λ xs. names_dot (named_at s xs) d) (no_keys s blank);
-    some_left = λ k us n is resets h fit left. some_named _ (tidy_after (effects empty steps (made_by kind_made k) us)) left;
-  }
-
-pub aw_resets : ResetsWhatIsLeft aw_has (λ k p. false) (λ k. empty) aw_step kind_made lacks_all set_names
-aw_resets = set_resets aw_own aw_has
-
-pub rw_resets : ResetsWhatIsLeft rw_has (λ k p. false) (λ k. empty) rw_step kind_made lacks_all set_names
-rw_resets = set_resets rw_own rw_has
+pub set_resets : (w : Bool) → ResetsWhatIsLeft (set_has w) (λ k p. false) (λ k. empty) (set_step w) kind_made lacks_all set_names
+set_resets w = record {
+  none_left = λ k s n d is resets blank. ap (λ xs. names_dot (named_at s xs) d) (no_keys s blank);
+  some_left = λ k us n is resets h fit left. some_named _ (tidy_after w (effects empty (set_step w) (made_by kind_made k) us)) left;
+}

@@ -1,6 +1,7 @@
 -- The states and effects of sets from which elements can be removed.
 use Rattle.std.specs.Prelude.{ℕ, Bool, true, false, List, [], Option, Some, None}
 use Rattle.std.specs.FinMap.{keys}
+use Rattle.std.specs.Bool.{then_some}
 use Rattle.site_vector.specs.declared.ids.Dot.{Dot}
 use Rattle.crdt_core.specs.declared.kind.Kind.{Kind}
 use Rattle.crdt_core.specs.declared.kind.Kind.TheVariants.{SetAw, SetRw}
@@ -16,33 +17,31 @@ use Rattle.crdt_sets.specs.declared.named.Named.{Named}
 use Rattle.crdt_sets.specs.declared.effect.SetEffect.{SetEffect}
 use Rattle.crdt_sets.specs.declared.effect.SetEffect.TheVariants.{Add, Remove, Reset}
 
-abbrev pub aw_has : Kind → Bool
-aw_has k = same_kind k SetAw
+-- the kind, by whether removes win over the adds that haven't seen them
+abbrev pub set_kind : Bool → Kind
+set_kind false = SetAw
+set_kind true = SetRw
 
-abbrev pub rw_has : Kind → Bool
-rw_has k = same_kind k SetRw
+abbrev pub set_has : Bool → Kind → Bool
+set_has removes_win k = same_kind k (set_kind removes_win)
 
 abbrev pub named_of : SetEffect → List Named
 named_of (Add ns) = ns
 named_of (Remove ns) = ns
 named_of (Reset ns) = ns
 
--- what an effect puts at its own dot, of each element that it names: a mark for an add, and where removes win, no mark for a remove
-abbrev pub aw_own : SetEffect → Option Bool
-aw_own (Add ns) = Some true
-aw_own (Remove ns) = None
-aw_own (Reset ns) = None
+-- what a remove puts at its own dot: no mark where removes win, and nothing where adds do
+abbrev pub remove_own : Bool → Option Bool
+remove_own removes_win = then_some removes_win false
 
-abbrev pub rw_own : SetEffect → Option Bool
-rw_own (Add ns) = Some true
-rw_own (Remove ns) = Some false
-rw_own (Reset ns) = None
+-- what an effect puts at its own dot, of each element that it names: a mark for an add
+abbrev pub set_own : Bool → SetEffect → Option Bool
+set_own removes_win (Add ns) = Some true
+set_own removes_win (Remove ns) = remove_own removes_win
+set_own removes_win (Reset ns) = None
 
-abbrev pub aw_step : Elements → Dot → SetEffect → Elements
-aw_step m d e = take_named m d (aw_own e) (named_of e)
-
-abbrev pub rw_step : Elements → Dot → SetEffect → Elements
-rw_step m d e = take_named m d (rw_own e) (named_of e)
+abbrev pub set_step : Bool → Elements → Dot → SetEffect → Elements
+set_step removes_win m d e = take_named m d (set_own removes_win e) (named_of e)
 
 abbrev pub set_made : Elements → Act → SetEffect
 set_made m (act.Add xs) = Add (named_at m (ascending xs))
@@ -53,11 +52,8 @@ set_made m _ = Reset []
 abbrev pub kind_made : Kind → Elements → List Field → Act → ℕ → SetEffect
 kind_made k m p a now = set_made m a
 
-abbrev pub aw_value : Elements → Value
-aw_value m = Words (passing (shows false) m)
-
-abbrev pub rw_value : Elements → Value
-rw_value m = Words (passing (shows true) m)
+abbrev pub set_value : Bool → Elements → Value
+set_value removes_win m = Words (passing (shows removes_win) m)
 
 abbrev pub no_stamp : SetEffect → Option ℕ
 no_stamp e = None

@@ -6,15 +6,13 @@ mod effect_form;
 mod elements;
 mod named;
 mod named_form;
-mod set_aw;
 mod set_go;
-mod set_rw;
+mod set_of;
 mod texts;
 
 pub use effect::SetEffect;
 pub use elements::Elements;
 pub use named::Named;
-pub use set_aw::SetAw;
 pub use set_go::SetGo;
-pub use set_rw::SetRw;
+pub use set_of::{SetAw, SetOf, SetRw};
 pub use texts::TextSet;

@@ -1,11 +1,11 @@
 ghost use Rattle.std.specs.Prelude.{◌≡◌, false};
 ghost use Rattle.std.specs.FinMap.{empty};
-ghost use Rattle.crdt_sets.specs.Meaning.{rw_meaning};
+ghost use Rattle.crdt_sets.specs.Meaning.{set_meaning};
 ghost use Rattle.crdt_sets.specs.Elements.{keeps_dot, lacks_all};
-ghost use Rattle.crdt_sets.specs.Sets.{rw_has, rw_step, rw_value, kind_made, no_stamp, set_names};
+ghost use Rattle.crdt_sets.specs.Sets.{set_kind, set_has, set_step, set_value, kind_made, no_stamp, set_names};
 ghost use Rattle.crdt_sets.specs.EffectForm.{is_of_kind, can_put_set, is_set_spelled, set_contents, set_spelling, set_at, set_spells, set_stands};
-ghost use Rattle.crdt_sets.specs.RemovableLaws.{rw_law, rw_in_maps};
-ghost use Rattle.crdt_sets.specs.SetResets.{rw_resets};
+ghost use Rattle.crdt_sets.specs.RemovableLaws.{set_law, set_in_maps};
+ghost use Rattle.crdt_sets.specs.SetResets.{set_resets};
 
 use crate::effect::effect_of;
 use crate::effect_form::SetForm;
@@ -15,41 +15,48 @@ use field_codec::{Form, TakeError, put_whole};
 use site_vector::Dot;
 use std::alloc::{AllocError, Global};
 
-/// The set where a remove wins over an add that hasn't seen it.
-pub struct SetRw;
+/// The set from which elements can be removed. Of an add and a remove that haven't seen each other one wins: the remove
+/// where `REMOVES_WIN` is true, and else the add.
+pub struct SetOf<const REMOVES_WIN: bool>;
 
-impl Crdt for SetRw {
+/// The set where an add wins over a remove that hasn't seen it.
+pub type SetAw = SetOf<false>;
+
+/// The set where a remove wins over an add that hasn't seen it.
+pub type SetRw = SetOf<true>;
+
+impl<const REMOVES_WIN: bool> Crdt for SetOf<REMOVES_WIN> {
     type State = Elements;
 
     type Effect = SetEffect;
 
-    ghost has = { rw_has };
+    ghost has = { set_has REMOVES_WIN };
 
     ghost too_deep = { λ k p. false };
 
     ghost initial = { λ k. empty };
 
-    ghost step = { rw_step };
+    ghost step = { set_step REMOVES_WIN };
 
     ghost made = { kind_made };
 
-    ghost value_of = { rw_value };
+    ghost value_of = { set_value REMOVES_WIN };
 
     ghost stamp_of = { no_stamp };
 
-    ghost meaning = { rw_meaning };
+    ghost meaning = { set_meaning REMOVES_WIN };
 
     ghost names = { set_names };
 
     ghost holds = { keeps_dot };
 
-    ghost laws = { rw_law };
+    ghost laws = { set_law REMOVES_WIN };
 
     ghost is_blank = { lacks_all };
 
-    ghost in_maps = { rw_in_maps };
+    ghost in_maps = { set_in_maps REMOVES_WIN };
 
-    ghost resets = { rw_resets };
+    ghost resets = { set_resets REMOVES_WIN };
 
     ghost is_of = { is_of_kind };
 
@@ -63,12 +70,12 @@ impl Crdt for SetRw {
 
     ghost reading = { λ k. set_at };
 
-    ghost spells = { set_spells rw_has };
+    ghost spells = { set_spells (set_has REMOVES_WIN) };
 
     ghost stands = { set_stands };
 
     fn has(kind: Kind) -> bool {
-        kind == Kind::SetRw
+        kind == kind_where(REMOVES_WIN)
     }
 
     fn empty(alloc: Global, kind: Kind) -> Result<Elements, AllocError> {
@@ -111,9 +118,10 @@ impl Crdt for SetRw {
         dot: Dot,
         effect: &SetEffect,
     ) -> Result<(), AllocError> {
+        let remove_own = REMOVES_WIN.then_some(false);
         match effect {
             SetEffect::Add(named) => state.take_named(alloc, dot, Some(true), named.as_slice()),
-            SetEffect::Remove(named) => state.take_named(alloc, dot, Some(false), named.as_slice()),
+            SetEffect::Remove(named) => state.take_named(alloc, dot, remove_own, named.as_slice()),
             SetEffect::Reset(named) => state.take_named(alloc, dot, None, named.as_slice()),
         }
     }
@@ -127,7 +135,7 @@ impl Crdt for SetRw {
     }
 
     fn value(alloc: Global, state: &Elements) -> Result<Value, AllocError> {
-        Ok(Value::Words(state.shown(alloc, true)?))
+        Ok(Value::Words(state.shown(alloc, REMOVES_WIN)?))
     }
 
     fn put_effect(out: &mut Vec<u8>, effect: &SetEffect) -> Result<(), AllocError> {
@@ -141,5 +149,15 @@ impl Crdt for SetRw {
         at: usize,
     ) -> Result<(SetEffect, usize), TakeError> {
         SetForm.take(alloc, bytes, at)
+    }
+}
+
+fn kind_where(removes_win: bool) -> Kind
+    ensures { result ≡ set_kind removes_win }
+{
+    if removes_win {
+        Kind::SetRw
+    } else {
+        Kind::SetAw
     }
 }

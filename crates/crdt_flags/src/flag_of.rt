@@ -1,55 +1,62 @@
-ghost use Rattle.std.specs.Prelude.{◌≡◌, false};
+ghost use Rattle.std.specs.Prelude.{◌≡◌, false, Option, Bool, OnOk};
 ghost use Rattle.std.specs.FinMap.{empty};
-ghost use Rattle.crdt_core.specs.Kept.{is_kept, keeps_none};
-ghost use Rattle.crdt_flags.specs.Meaning.{ew_meaning};
-ghost use Rattle.crdt_flags.specs.Flags.{ew_has, ew_step, ew_value, kind_made, no_stamp, flag_names};
+ghost use Rattle.crdt_core.specs.Kept.{kept_step, is_kept, keeps_none};
+ghost use Rattle.crdt_flags.specs.Meaning.{flag_meaning};
+ghost use Rattle.crdt_flags.specs.Flags.{flag_kind, flag_has, flag_step, flag_value, kind_made, no_stamp, flag_names};
 ghost use Rattle.crdt_flags.specs.EffectForm.{is_of_kind, can_put_flag, is_flag_spelled, flag_contents, flag_spelling, flag_at, flag_spells, flag_stands};
-ghost use Rattle.crdt_flags.specs.FlagLaws.{ew_law, ew_in_maps, ew_resets};
+ghost use Rattle.crdt_flags.specs.FlagLaws.{flag_law, flag_in_maps, flag_resets};
 
 use crate::FlagEffect;
 use crate::effect::effect_of;
 use crate::effect_form::FlagForm;
-use crdt_core::{Act, Crdt, Field, GenError, Kept, Kind, Op, Value, fits_at, reads_state};
+use crdt_core::{Act, Crdt, Dots, Field, GenError, Kept, Kind, Op, Value, fits_at, reads_state};
 use field_codec::{Form, TakeError, put_whole};
 use site_vector::Dot;
 use std::alloc::{AllocError, Global};
 
-/// The flag where an enable wins over a disable that hasn't seen it: a state is the enables that no later update has
-/// taken out.
-pub struct FlagEw;
+/// The flag. Of an enable and a disable that haven't seen each other one wins: the disable where `DISABLES_WIN` is true,
+/// and else the enable. A state is the enables that no later update has taken out, and where disables win, such disables
+/// too.
+pub struct FlagOf<const DISABLES_WIN: bool>;
 
-impl Crdt for FlagEw {
+/// The flag where an enable wins over a disable that hasn't seen it.
+pub type FlagEw = FlagOf<false>;
+
+/// The flag where a disable wins over an enable that hasn't seen it.
+pub type FlagDw = FlagOf<true>;
+
+impl<const DISABLES_WIN: bool> Crdt for FlagOf<DISABLES_WIN> {
     type State = Kept<bool>;
 
     type Effect = FlagEffect;
 
-    ghost has = { ew_has };
+    ghost has = { flag_has DISABLES_WIN };
 
     ghost too_deep = { λ k p. false };
 
     ghost initial = { λ k. empty };
 
-    ghost step = { ew_step };
+    ghost step = { flag_step DISABLES_WIN };
 
     ghost made = { kind_made };
 
-    ghost value_of = { ew_value };
+    ghost value_of = { flag_value DISABLES_WIN };
 
     ghost stamp_of = { no_stamp };
 
-    ghost meaning = { ew_meaning };
+    ghost meaning = { flag_meaning DISABLES_WIN };
 
     ghost names = { flag_names };
 
     ghost holds = { is_kept };
 
-    ghost laws = { ew_law };
+    ghost laws = { flag_law DISABLES_WIN };
 
     ghost is_blank = { keeps_none };
 
-    ghost in_maps = { ew_in_maps };
+    ghost in_maps = { flag_in_maps DISABLES_WIN };
 
-    ghost resets = { ew_resets };
+    ghost resets = { flag_resets DISABLES_WIN };
 
     ghost is_of = { is_of_kind };
 
@@ -63,12 +70,12 @@ impl Crdt for FlagEw {
 
     ghost reading = { λ k. flag_at };
 
-    ghost spells = { flag_spells ew_has };
+    ghost spells = { flag_spells (flag_has DISABLES_WIN) };
 
     ghost stands = { flag_stands };
 
     fn has(kind: Kind) -> bool {
-        kind == Kind::FlagEw
+        kind == kind_where(DISABLES_WIN)
     }
 
     fn empty(alloc: Global, kind: Kind) -> Result<Kept<bool>, AllocError> {
@@ -112,14 +119,9 @@ impl Crdt for FlagEw {
         effect: &FlagEffect,
     ) -> Result<(), AllocError> {
         match effect {
-            FlagEffect::Enable(dots) => {
-                state.take_out(dots.as_slice());
-                state.put(dot, true)
-            }
-            FlagEffect::Disable(dots) | FlagEffect::Reset(dots) => {
-                state.take_out(dots.as_slice());
-                Ok(())
-            }
+            FlagEffect::Enable(dots) => step(state, dot, Some(true), dots),
+            FlagEffect::Disable(dots) => step(state, dot, DISABLES_WIN.then_some(false), dots),
+            FlagEffect::Reset(dots) => step(state, dot, None, dots),
         }
     }
 
@@ -132,6 +134,9 @@ impl Crdt for FlagEw {
     }
 
     fn value(alloc: Global, state: &Kept<bool>) -> Result<Value, AllocError> {
+        if DISABLES_WIN {
+            return Ok(Value::Flag(state.has_marked() && !state.has_unmarked()));
+        }
         Ok(Value::Flag(state.has_marked()))
     }
 
@@ -146,5 +151,26 @@ impl Crdt for FlagEw {
         at: usize,
     ) -> Result<(FlagEffect, usize), TakeError> {
         FlagForm.take(alloc, bytes, at)
+    }
+}
+
+fn kind_where(disables_win: bool) -> Kind
+    ensures { result ≡ flag_kind disables_win }
+{
+    if disables_win {
+        Kind::FlagDw
+    } else {
+        Kind::FlagEw
+    }
+}
+
+/// Takes out what stands at the dots, and puts a value at this one, where there is one.
+fn step(kept: &mut Kept<bool>, dot: Dot, own: Option<bool>, dots: &Dots) -> Result<(), AllocError>
+    ensures { OnOk result (kept.new ≡ kept_step kept.old dot dots.now own) }
+{
+    kept.take_out(dots.as_slice());
+    match own {
+        Some(mark) => kept.put(dot, mark),
+        None => Ok(()),
     }
 }
