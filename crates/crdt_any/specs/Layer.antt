@@ -29,7 +29,7 @@ use Rattle.crdt_flags.specs.Meaning.{ew_meaning, dw_meaning}
 use Rattle.crdt_registers.specs.Meaning.{lww_meaning, mv_meaning, word_of}
 use Rattle.crdt_registers.specs.RegisterLww.{unassigned, lww_step, lww_made, lww_stamp, lww_names, lww_holds}
 use Rattle.crdt_registers.specs.RegisterMv.{mv_step, mv_made, mv_value, mv_stamp, mv_names}
-use Rattle.crdt_maps.specs.Maps.{map_step, map_made, map_stamp, map_too_deep, map_names, map_holds, go_value, rr_value, go_blank, rr_blank}
+use Rattle.crdt_maps.specs.Maps.{map_step, map_made, map_stamp, map_too_deep, map_names, map_holds, map_value, map_blank}
 use Rattle.crdt_maps.specs.Meaning.{go_meaning, rr_meaning}
 use Rattle.crdt_any.specs.Cases.{counter_pn_state, counter_pn_effect, counter_fat_state, counter_fat_effect, set_go_state, set_go_effect, set_aw_state, set_aw_effect, set_rw_state, set_rw_effect, flag_ew_state, flag_ew_effect, flag_dw_state, flag_dw_effect, register_lww_state, register_lww_effect, register_mv_state, register_mv_effect, map_go_state, map_go_effect, map_rr_state, map_rr_effect}
 
@@ -96,8 +96,8 @@ layer_value value_of (state.FlagEw s) = flags.flag_value false s
 layer_value value_of (state.FlagDw s) = flags.flag_value true s
 layer_value value_of (state.RegisterLww s) = word_of s
 layer_value value_of (state.RegisterMv s) = mv_value s
-layer_value value_of (state.MapGo s) = (go_value value_of) s
-layer_value value_of (state.MapRr s) = (rr_value value_of) s
+layer_value value_of (state.MapGo s) = (map_value false value_of) s
+layer_value value_of (state.MapRr s) = (map_value true value_of) s
 
 abbrev pub layer_stamp : {E : Type 0} → (E → Option ℕ) → LayerEffect E → Option ℕ
 layer_stamp stamp_of (effect.CounterPn e) = (no_stamp {E = ℤ}) e
@@ -161,5 +161,5 @@ layer_blank is_blank (state.FlagEw s) = keeps_none s
 layer_blank is_blank (state.FlagDw s) = keeps_none s
 layer_blank is_blank (state.RegisterLww s) = unassigned s
 layer_blank is_blank (state.RegisterMv s) = keeps_none s
-layer_blank is_blank (state.MapGo s) = go_blank s
-layer_blank is_blank (state.MapRr s) = (rr_blank is_blank) s
+layer_blank is_blank (state.MapGo s) = (map_blank false is_blank) s
+layer_blank is_blank (state.MapRr s) = (map_blank true is_blank) s

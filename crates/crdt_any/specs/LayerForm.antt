@@ -35,8 +35,8 @@ use Rattle.crdt_registers.specs.RegisterLww.{lww_has}
 use Rattle.crdt_registers.specs.RegisterMv.{mv_has}
 use Rattle.crdt_registers.specs.LwwForm.{can_put_lww, lww_contents, is_lww_spelled, lww_spelling, lww_at, lww_spells, lww_all, lww_stands}
 use Rattle.crdt_registers.specs.MvForm.{can_put_mv, is_mv_spelled, mv_spelling, mv_at, mv_spells, mv_contents, mv_all, mv_stands}
-use Rattle.crdt_maps.specs.Maps.{go_has, rr_has}
-use Rattle.crdt_maps.specs.EffectForm.{go_can_put, go_is_spelled, go_spelling, go_at, go_spells, go_contents, go_all, rr_contents, rr_all, rr_can_put, rr_is_spelled, rr_spelling, rr_at, rr_spells, go_stands, rr_stands}
+use Rattle.crdt_maps.specs.Maps.{map_has}
+use Rattle.crdt_maps.specs.EffectForm.{map_can_put, map_is_spelled, map_spelling, map_at, map_spells, map_contents, map_all, map_stands}
 use Rattle.crdt_any.specs.Layer.{layer_has, layer_names}
 use Rattle.crdt_any.specs.Cases.{counter_pn_effect, counter_fat_effect, set_go_effect, set_aw_effect, set_rw_effect, flag_ew_effect, flag_dw_effect, register_lww_effect, register_mv_effect, map_go_effect, map_rr_effect}
 
@@ -63,8 +63,8 @@ layer_can_put has is_of can_put spelling (effect.FlagEw e) = can_put_flag e
 layer_can_put has is_of can_put spelling (effect.FlagDw e) = can_put_flag e
 layer_can_put has is_of can_put spelling (effect.RegisterLww e) = can_put_lww e
 layer_can_put has is_of can_put spelling (effect.RegisterMv e) = can_put_mv e
-layer_can_put has is_of can_put spelling (effect.MapGo e) = (go_can_put has is_of can_put) e
-layer_can_put has is_of can_put spelling (effect.MapRr e) = (rr_can_put has is_of can_put spelling) e
+layer_can_put has is_of can_put spelling (effect.MapGo e) = (map_can_put false has is_of can_put spelling) e
+layer_can_put has is_of can_put spelling (effect.MapRr e) = (map_can_put true has is_of can_put spelling) e
 
 abbrev pub layer_is_spelled : {E : Type 0} → (Kind → Bool) → (Kind → E → Bool) → (E → Bool) → (E → List ℕ) → LayerEffect E → Bool
 layer_is_spelled has is_of is_spelled spelling (effect.CounterPn e) = is_amount_number e
@@ -76,8 +76,8 @@ layer_is_spelled has is_of is_spelled spelling (effect.FlagEw e) = is_flag_spell
 layer_is_spelled has is_of is_spelled spelling (effect.FlagDw e) = is_flag_spelled e
 layer_is_spelled has is_of is_spelled spelling (effect.RegisterLww e) = is_lww_spelled e
 layer_is_spelled has is_of is_spelled spelling (effect.RegisterMv e) = is_mv_spelled e
-layer_is_spelled has is_of is_spelled spelling (effect.MapGo e) = (go_is_spelled has is_of is_spelled) e
-layer_is_spelled has is_of is_spelled spelling (effect.MapRr e) = (rr_is_spelled has is_of is_spelled spelling) e
+layer_is_spelled has is_of is_spelled spelling (effect.MapGo e) = (map_is_spelled false has is_of is_spelled spelling) e
+layer_is_spelled has is_of is_spelled spelling (effect.MapRr e) = (map_is_spelled true has is_of is_spelled spelling) e
 
 abbrev pub layer_spelling : {E : Type 0} → (E → List ℕ) → LayerEffect E → List ℕ
 layer_spelling spelling (effect.CounterPn e) = amount_spelling e
@@ -89,8 +89,8 @@ layer_spelling spelling (effect.FlagEw e) = flag_spelling e
 layer_spelling spelling (effect.FlagDw e) = flag_spelling e
 layer_spelling spelling (effect.RegisterLww e) = lww_spelling e
 layer_spelling spelling (effect.RegisterMv e) = mv_spelling e
-layer_spelling spelling (effect.MapGo e) = (go_spelling spelling) e
-layer_spelling spelling (effect.MapRr e) = (rr_spelling spelling) e
+layer_spelling spelling (effect.MapGo e) = (map_spelling false spelling) e
+layer_spelling spelling (effect.MapRr e) = (map_spelling true spelling) e
 
 -- what stands in the bytes of an effect
 abbrev pub layer_contents : {E : Type 0} → (E → List Content) → LayerEffect E → List Content
@@ -103,8 +103,8 @@ layer_contents contents (effect.FlagEw e) = flag_contents e
 layer_contents contents (effect.FlagDw e) = flag_contents e
 layer_contents contents (effect.RegisterLww e) = lww_contents e
 layer_contents contents (effect.RegisterMv e) = mv_contents e
-layer_contents contents (effect.MapGo e) = go_contents contents e
-layer_contents contents (effect.MapRr e) = rr_contents contents e
+layer_contents contents (effect.MapGo e) = map_contents contents e
+layer_contents contents (effect.MapRr e) = map_contents contents e
 
 abbrev pub layer_reading : {E : Type 0} → (Kind → Bool) → (Kind → List ℕ → ℕ → Read E) → Kind → List ℕ → ℕ → Read (LayerEffect E)
 layer_reading has reading kinds.CounterPn = mapped_at effect.CounterPn amount_at
@@ -116,8 +116,8 @@ layer_reading has reading kinds.FlagEw = mapped_at effect.FlagEw flag_at
 layer_reading has reading kinds.FlagDw = mapped_at effect.FlagDw flag_at
 layer_reading has reading kinds.RegisterLww = mapped_at effect.RegisterLww lww_at
 layer_reading has reading kinds.RegisterMv = mapped_at effect.RegisterMv mv_at
-layer_reading has reading kinds.MapGo = mapped_at effect.MapGo (go_at has reading)
-layer_reading has reading kinds.MapRr = mapped_at effect.MapRr (rr_at has reading)
+layer_reading has reading kinds.MapGo = mapped_at effect.MapGo (map_at false has reading)
+layer_reading has reading kinds.MapRr = mapped_at effect.MapRr (map_at true has reading)
 
 module _ {E : Type 0} {has : Kind → Bool} {is_of : Kind → E → Bool} {can_put is_spelled : E → Bool} {contents : E → List Content} {spelling : E → List ℕ} {reading : Kind → List ℕ → ℕ → Read E}
     (forms : SpellsEffects has is_of can_put is_spelled contents spelling reading) where
@@ -181,8 +181,8 @@ module _ {E : Type 0} {has : Kind → Bool} {is_of : Kind → E → Bool} {can_p
   form_at kinds.FlagDw = shape_form effect.FlagDw can_put_flag is_flag_spelled flag_spelling flag_at (fits_at kinds.FlagDw) (spelled_at kinds.FlagDw) (layer_spelling spelling) (λ v. refl) (λ v. refl) (λ v. refl) flag_dw_shape ((flag_spells (flags.flag_has true)).form kinds.FlagDw refl)
   form_at kinds.RegisterLww = shape_form effect.RegisterLww can_put_lww is_lww_spelled lww_spelling lww_at (fits_at kinds.RegisterLww) (spelled_at kinds.RegisterLww) (layer_spelling spelling) (λ v. refl) (λ v. refl) (λ v. refl) register_lww_shape ((lww_spells lww_has).form kinds.RegisterLww refl)
   form_at kinds.RegisterMv = shape_form effect.RegisterMv can_put_mv is_mv_spelled mv_spelling mv_at (fits_at kinds.RegisterMv) (spelled_at kinds.RegisterMv) (layer_spelling spelling) (λ v. refl) (λ v. refl) (λ v. refl) register_mv_shape ((mv_spells mv_has).form kinds.RegisterMv refl)
-  form_at kinds.MapGo = shape_form effect.MapGo (go_can_put has is_of can_put) (go_is_spelled has is_of is_spelled) (go_spelling spelling) (go_at has reading) (fits_at kinds.MapGo) (spelled_at kinds.MapGo) (layer_spelling spelling) (λ v. refl) (λ v. refl) (λ v. refl) map_go_shape ((go_spells forms go_has).form kinds.MapGo refl)
-  form_at kinds.MapRr = shape_form effect.MapRr (rr_can_put has is_of can_put spelling) (rr_is_spelled has is_of is_spelled spelling) (rr_spelling spelling) (rr_at has reading) (fits_at kinds.MapRr) (spelled_at kinds.MapRr) (layer_spelling spelling) (λ v. refl) (λ v. refl) (λ v. refl) map_rr_shape ((rr_spells forms rr_has).form kinds.MapRr refl)
+  form_at kinds.MapGo = shape_form effect.MapGo (map_can_put false has is_of can_put spelling) (map_is_spelled false has is_of is_spelled spelling) (map_spelling false spelling) (map_at false has reading) (fits_at kinds.MapGo) (spelled_at kinds.MapGo) (layer_spelling spelling) (λ v. refl) (λ v. refl) (λ v. refl) map_go_shape ((map_spells forms false (map_has false)).form kinds.MapGo refl)
+  form_at kinds.MapRr = shape_form effect.MapRr (map_can_put true has is_of can_put spelling) (map_is_spelled true has is_of is_spelled spelling) (map_spelling true spelling) (map_at true has reading) (fits_at kinds.MapRr) (spelled_at kinds.MapRr) (layer_spelling spelling) (λ v. refl) (λ v. refl) (λ v. refl) map_rr_shape ((map_spells forms true (map_has true)).form kinds.MapRr refl)
 
   pub layer_all : SpellsAll (layer_can_put has is_of can_put spelling) (layer_is_spelled has is_of is_spelled spelling) (pieces_of (layer_contents contents)) (layer_spelling spelling)
   layer_all = record { spells = by; held = held; stand = stand }
@@ -200,8 +200,8 @@ module _ {E : Type 0} {has : Kind → Bool} {is_of : Kind → E → Bool} {can_p
       by (effect.FlagDw e) h all = flag_all.spells e h all
       by (effect.RegisterLww e) h all = lww_all.spells e h all
       by (effect.RegisterMv e) h all = mv_all.spells e h all
-      by (effect.MapGo e) h all = (go_all forms).spells e h all
-      by (effect.MapRr e) h all = (rr_all forms).spells e h all
+      by (effect.MapGo e) h all = (map_all forms false).spells e h all
+      by (effect.MapRr e) h all = (map_all forms true).spells e h all
 
       held : (e : LayerEffect E) → layer_is_spelled has is_of is_spelled spelling e ≡ true → all_hold (pieces_of (layer_contents contents) e) ≡ true
       held (effect.CounterPn e) h = amounts.held e h
@@ -213,8 +213,8 @@ module _ {E : Type 0} {has : Kind → Bool} {is_of : Kind → E → Bool} {can_p
       held (effect.FlagDw e) h = flag_all.held e h
       held (effect.RegisterLww e) h = lww_all.held e h
       held (effect.RegisterMv e) h = mv_all.held e h
-      held (effect.MapGo e) h = (go_all forms).held e h
-      held (effect.MapRr e) h = (rr_all forms).held e h
+      held (effect.MapGo e) h = (map_all forms false).held e h
+      held (effect.MapRr e) h = (map_all forms true).held e h
 
       stand : (e : LayerEffect E) → StandInTurn (pieces_of (layer_contents contents) e) (layer_spelling spelling e)
       stand (effect.CounterPn e) = amounts.stand e
@@ -226,8 +226,8 @@ module _ {E : Type 0} {has : Kind → Bool} {is_of : Kind → E → Bool} {can_p
       stand (effect.FlagDw e) = flag_all.stand e
       stand (effect.RegisterLww e) = lww_all.stand e
       stand (effect.RegisterMv e) = mv_all.stand e
-      stand (effect.MapGo e) = (go_all forms).stand e
-      stand (effect.MapRr e) = (rr_all forms).stand e
+      stand (effect.MapGo e) = (map_all forms false).stand e
+      stand (effect.MapRr e) = (map_all forms true).stand e
 
   abbrev pub layer_spells : SpellsEffects layer_has layer_is_of (layer_can_put has is_of can_put spelling) (layer_is_spelled has is_of is_spelled spelling) (layer_contents contents) (layer_spelling spelling) (layer_reading has reading)
   layer_spells = record { form = λ k is. form_at k; all = layer_all }
@@ -244,8 +244,8 @@ module _ {E : Type 0} {has : Kind → Bool} {is_of : Kind → E → Bool} {can_p
   layer_exact (effect.FlagDw e) d can = flag_stands.exact e d can
   layer_exact (effect.RegisterLww e) d can = lww_stands.exact e d can
   layer_exact (effect.RegisterMv e) d can = mv_stands.exact e d can
-  layer_exact (effect.MapGo e) d can = (go_stands forms inner).exact e d can
-  layer_exact (effect.MapRr e) d can = (rr_stands forms inner).exact e d can
+  layer_exact (effect.MapGo e) d can = (map_stands forms inner false).exact e d can
+  layer_exact (effect.MapRr e) d can = (map_stands forms inner true).exact e d can
 
   pub layer_stands : NamesStand (layer_can_put has is_of can_put spelling) (layer_names has names) (layer_contents contents) (layer_spelling spelling)
   layer_stands = names_stand (layer_all forms) layer_exact

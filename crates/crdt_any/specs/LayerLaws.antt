@@ -33,7 +33,7 @@ use Rattle.crdt_sets.specs.Sets as sets
 use Rattle.crdt_flags.specs.Flags as flags
 use Rattle.crdt_registers.specs.RegisterLww.{unassigned, lww_step, lww_made, lww_names, lww_holds}
 use Rattle.crdt_registers.specs.RegisterMv.{mv_step, mv_made, mv_names}
-use Rattle.crdt_maps.specs.Maps.{FieldMap, map_step, map_made, map_names, map_holds, go_blank, rr_blank}
+use Rattle.crdt_maps.specs.Maps.{FieldMap, map_step, map_made, map_names, map_holds, map_blank}
 use Rattle.crdt_core.specs.declared.operation.Act.TheVariants as act
 use Rattle.crdt_core.specs.Kinds.{reads_state}
 use Rattle.crdt_core.specs.Fits.{stands_in, is_map}
@@ -50,7 +50,7 @@ use Rattle.crdt_sets.specs.RemovableLaws.{set_law, set_in_maps}
 use Rattle.crdt_flags.specs.FlagLaws.{flag_law, flag_in_maps}
 use Rattle.crdt_registers.specs.LwwLaw.{lww_law, lww_in_maps}
 use Rattle.crdt_registers.specs.MvLaw.{mv_law, mv_in_maps}
-use Rattle.crdt_maps.specs.MapLaws.{go_law, rr_law, go_in_maps, rr_in_maps}
+use Rattle.crdt_maps.specs.MapLaws.{map_law, map_in_maps}
 use Rattle.crdt_any.specs.Cases.{counter_pn_state, counter_pn_effect, counter_fat_state, counter_fat_effect, set_go_state, set_go_effect, set_aw_state, set_aw_effect, set_rw_state, set_rw_effect, flag_ew_state, flag_ew_effect, flag_dw_state, flag_dw_effect, register_lww_state, register_lww_effect, register_mv_state, register_mv_effect, map_go_state, map_go_effect, map_rr_state, map_rr_effect}
 use Rattle.crdt_any.specs.Layer.{layer_has, layer_too_deep, layer_initial, layer_step, layer_made, layer_value, layer_stamp, layer_meaning, layer_names, layer_holds, layer_blank}
 use Rattle.crdt_any.specs.Parts.{part_means, part_stamps, named_by, moved_swaps, moved_held}
@@ -78,8 +78,8 @@ module _ {S E : Type 0} {has : Kind → Bool} {too_deep : Kind → List Field �
   means_at kinds.FlagDw us h fit st = part_means (flag_law true) kinds.FlagDw refl state.FlagDw effect.FlagDw moves (makes kinds.FlagDw) (layer_stamp stamp_of) (λ _ _ _. refl) (λ _ _. refl) (λ _. refl) (layer_value value_of) (λ _. refl) us h fit st
   means_at kinds.RegisterLww us h fit st = part_means lww_law kinds.RegisterLww refl state.RegisterLww effect.RegisterLww moves (makes kinds.RegisterLww) (layer_stamp stamp_of) (λ _ _ _. refl) (λ _ _. refl) (λ _. refl) (layer_value value_of) (λ _. refl) us h fit st
   means_at kinds.RegisterMv us h fit st = part_means mv_law kinds.RegisterMv refl state.RegisterMv effect.RegisterMv moves (makes kinds.RegisterMv) (layer_stamp stamp_of) (λ _ _ _. refl) (λ _ _. refl) (λ _. refl) (layer_value value_of) (λ _. refl) us h fit st
-  means_at kinds.MapGo us h fit st = part_means (go_law inner owed) kinds.MapGo refl state.MapGo effect.MapGo moves (makes kinds.MapGo) (layer_stamp stamp_of) (λ _ _ _. refl) (λ _ _. refl) (λ _. refl) (layer_value value_of) (λ _. refl) us h fit st
-  means_at kinds.MapRr us h fit st = part_means (rr_law inner owed) kinds.MapRr refl state.MapRr effect.MapRr moves (makes kinds.MapRr) (layer_stamp stamp_of) (λ _ _ _. refl) (λ _ _. refl) (λ _. refl) (layer_value value_of) (λ _. refl) us h fit st
+  means_at kinds.MapGo us h fit st = part_means (map_law inner owed false) kinds.MapGo refl state.MapGo effect.MapGo moves (makes kinds.MapGo) (layer_stamp stamp_of) (λ _ _ _. refl) (λ _ _. refl) (λ _. refl) (layer_value value_of) (λ _. refl) us h fit st
+  means_at kinds.MapRr us h fit st = part_means (map_law inner owed true) kinds.MapRr refl state.MapRr effect.MapRr moves (makes kinds.MapRr) (layer_stamp stamp_of) (λ _ _ _. refl) (λ _ _. refl) (λ _. refl) (layer_value value_of) (λ _. refl) us h fit st
 
   stamps_at : (k : Kind) (u : Update) (us : List Update) → IsHistory (u ∷ us) → all_fit deep k (u ∷ us) ≡ true → LayerStamped k us → layer_stamp stamp_of (effect_after (layer_initial {S = S} k) moves (makes k) us u) ≡ stamp_due k us u
   stamps_at kinds.CounterPn u us h fit st = part_stamps pn_law kinds.CounterPn refl state.CounterPn effect.CounterPn moves (makes kinds.CounterPn) (layer_stamp stamp_of) (λ _ _ _. refl) (λ _ _. refl) (λ _. refl) u us h fit st
@@ -91,8 +91,8 @@ module _ {S E : Type 0} {has : Kind → Bool} {too_deep : Kind → List Field �
   stamps_at kinds.FlagDw u us h fit st = part_stamps (flag_law true) kinds.FlagDw refl state.FlagDw effect.FlagDw moves (makes kinds.FlagDw) (layer_stamp stamp_of) (λ _ _ _. refl) (λ _ _. refl) (λ _. refl) u us h fit st
   stamps_at kinds.RegisterLww u us h fit st = part_stamps lww_law kinds.RegisterLww refl state.RegisterLww effect.RegisterLww moves (makes kinds.RegisterLww) (layer_stamp stamp_of) (λ _ _ _. refl) (λ _ _. refl) (λ _. refl) u us h fit st
   stamps_at kinds.RegisterMv u us h fit st = part_stamps mv_law kinds.RegisterMv refl state.RegisterMv effect.RegisterMv moves (makes kinds.RegisterMv) (layer_stamp stamp_of) (λ _ _ _. refl) (λ _ _. refl) (λ _. refl) u us h fit st
-  stamps_at kinds.MapGo u us h fit st = part_stamps (go_law inner owed) kinds.MapGo refl state.MapGo effect.MapGo moves (makes kinds.MapGo) (layer_stamp stamp_of) (λ _ _ _. refl) (λ _ _. refl) (λ _. refl) u us h fit st
-  stamps_at kinds.MapRr u us h fit st = part_stamps (rr_law inner owed) kinds.MapRr refl state.MapRr effect.MapRr moves (makes kinds.MapRr) (layer_stamp stamp_of) (λ _ _ _. refl) (λ _ _. refl) (λ _. refl) u us h fit st
+  stamps_at kinds.MapGo u us h fit st = part_stamps (map_law inner owed false) kinds.MapGo refl state.MapGo effect.MapGo moves (makes kinds.MapGo) (layer_stamp stamp_of) (λ _ _ _. refl) (λ _ _. refl) (λ _. refl) u us h fit st
+  stamps_at kinds.MapRr u us h fit st = part_stamps (map_law inner owed true) kinds.MapRr refl state.MapRr effect.MapRr moves (makes kinds.MapRr) (layer_stamp stamp_of) (λ _ _ _. refl) (λ _ _. refl) (λ _. refl) u us h fit st
 
   orderless_at : (k : Kind) (us vs : List Update) → Same us vs → layer_meaning has meaning k us ≡ layer_meaning has meaning k vs
   orderless_at kinds.CounterPn us vs same = pn_law.orderless kinds.CounterPn us vs refl same
@@ -104,8 +104,8 @@ module _ {S E : Type 0} {has : Kind → Bool} {too_deep : Kind → List Field �
   orderless_at kinds.FlagDw us vs same = (flag_law true).orderless kinds.FlagDw us vs refl same
   orderless_at kinds.RegisterLww us vs same = lww_law.orderless kinds.RegisterLww us vs refl same
   orderless_at kinds.RegisterMv us vs same = mv_law.orderless kinds.RegisterMv us vs refl same
-  orderless_at kinds.MapGo us vs same = (go_law inner owed).orderless kinds.MapGo us vs refl same
-  orderless_at kinds.MapRr us vs same = (rr_law inner owed).orderless kinds.MapRr us vs refl same
+  orderless_at kinds.MapGo us vs same = (map_law inner owed false).orderless kinds.MapGo us vs refl same
+  orderless_at kinds.MapRr us vs same = (map_law inner owed true).orderless kinds.MapRr us vs refl same
 
   unread_at : (k : Kind) (s t : LayerState S) (p : List Field) (a : Act) (n : ℕ) → reads_state k ≡ false → layer_made has initial made is_blank k s p a n ≡ layer_made has initial made is_blank k t p a n
   unread_at kinds.CounterPn s t p a n r = ap effect.CounterPn (pn_law.unread kinds.CounterPn (unwrap_or (counter_pn_state s) (pos 0)) (unwrap_or (counter_pn_state t) (pos 0)) p a n refl refl)
@@ -190,7 +190,7 @@ module _ {S E : Type 0} {has : Kind → Bool} {too_deep : Kind → List Field �
 
   pub map_go_holds : (s : LayerState S) (d : Dot) → (map_holds holds) (unwrap_or (map_go_state s) empty) d ≡ true → layer_holds holds s d ≡ true
   map_go_holds (state.MapGo s) d h = h
-  map_go_holds _ d h = absurd (true≢false (sym h ∙ ((go_law inner owed).steps kinds.MapGo refl).none_held d))
+  map_go_holds _ d h = absurd (true≢false (sym h ∙ ((map_law inner owed false).steps kinds.MapGo refl).none_held d))
 
   map_rr_unnamed : (e : LayerEffect E) (d : Dot) → layer_names has names e d ≡ false → named_by (map_names has names) (map_rr_effect e) d ≡ false
   map_rr_unnamed (effect.MapRr e) d h = h
@@ -198,7 +198,7 @@ module _ {S E : Type 0} {has : Kind → Bool} {too_deep : Kind → List Field �
 
   pub map_rr_holds : (s : LayerState S) (d : Dot) → (map_holds holds) (unwrap_or (map_rr_state s) empty) d ≡ true → layer_holds holds s d ≡ true
   map_rr_holds (state.MapRr s) d h = h
-  map_rr_holds _ d h = absurd (true≢false (sym h ∙ ((rr_law inner owed).steps kinds.MapRr refl).none_held d))
+  map_rr_holds _ d h = absurd (true≢false (sym h ∙ ((map_law inner owed true).steps kinds.MapRr refl).none_held d))
 
   swaps_at : (s : LayerState S) (a b : LayerEffect E) (d e : Dot) → same_dot d e ≡ false → layer_names has names a e ≡ false → layer_names has names b d ≡ false → moves (moves s d a) e b ≡ moves (moves s e b) d a
   swaps_at (state.CounterPn s) a b d e apart na nb = ap state.CounterPn (moved_swaps pn_step names_none (pn_law.steps kinds.CounterPn refl).swaps s (counter_pn_effect a) (counter_pn_effect b) d e apart (counter_pn_unnamed a e na) (counter_pn_unnamed b d nb))
@@ -210,8 +210,8 @@ module _ {S E : Type 0} {has : Kind → Bool} {too_deep : Kind → List Field �
   swaps_at (state.FlagDw s) a b d e apart na nb = ap state.FlagDw (moved_swaps (flags.flag_step true) flags.flag_names ((flag_law true).steps kinds.FlagDw refl).swaps s (flag_dw_effect a) (flag_dw_effect b) d e apart (flag_dw_unnamed a e na) (flag_dw_unnamed b d nb))
   swaps_at (state.RegisterLww s) a b d e apart na nb = ap state.RegisterLww (moved_swaps lww_step lww_names (lww_law.steps kinds.RegisterLww refl).swaps s (register_lww_effect a) (register_lww_effect b) d e apart (register_lww_unnamed a e na) (register_lww_unnamed b d nb))
   swaps_at (state.RegisterMv s) a b d e apart na nb = ap state.RegisterMv (moved_swaps mv_step mv_names (mv_law.steps kinds.RegisterMv refl).swaps s (register_mv_effect a) (register_mv_effect b) d e apart (register_mv_unnamed a e na) (register_mv_unnamed b d nb))
-  swaps_at (state.MapGo s) a b d e apart na nb = ap state.MapGo (moved_swaps (map_step has initial step) (map_names has names) ((go_law inner owed).steps kinds.MapGo refl).swaps s (map_go_effect a) (map_go_effect b) d e apart (map_go_unnamed a e na) (map_go_unnamed b d nb))
-  swaps_at (state.MapRr s) a b d e apart na nb = ap state.MapRr (moved_swaps (map_step has initial step) (map_names has names) ((rr_law inner owed).steps kinds.MapRr refl).swaps s (map_rr_effect a) (map_rr_effect b) d e apart (map_rr_unnamed a e na) (map_rr_unnamed b d nb))
+  swaps_at (state.MapGo s) a b d e apart na nb = ap state.MapGo (moved_swaps (map_step has initial step) (map_names has names) ((map_law inner owed false).steps kinds.MapGo refl).swaps s (map_go_effect a) (map_go_effect b) d e apart (map_go_unnamed a e na) (map_go_unnamed b d nb))
+  swaps_at (state.MapRr s) a b d e apart na nb = ap state.MapRr (moved_swaps (map_step has initial step) (map_names has names) ((map_law inner owed true).steps kinds.MapRr refl).swaps s (map_rr_effect a) (map_rr_effect b) d e apart (map_rr_unnamed a e na) (map_rr_unnamed b d nb))
 
   held_at : (s : LayerState S) (d : Dot) (e : LayerEffect E) (x : Dot) → layer_holds holds (moves s d e) x ≡ true → (layer_holds holds s x || same_dot d x) ≡ true
   held_at (state.CounterPn s) d e x h = moved_held pn_step holds_none (pn_law.steps kinds.CounterPn refl).held s d (counter_pn_effect e) x h
@@ -223,8 +223,8 @@ module _ {S E : Type 0} {has : Kind → Bool} {too_deep : Kind → List Field �
   held_at (state.FlagDw s) d e x h = moved_held (flags.flag_step true) is_kept ((flag_law true).steps kinds.FlagDw refl).held s d (flag_dw_effect e) x h
   held_at (state.RegisterLww s) d e x h = moved_held lww_step lww_holds (lww_law.steps kinds.RegisterLww refl).held s d (register_lww_effect e) x h
   held_at (state.RegisterMv s) d e x h = moved_held mv_step is_kept (mv_law.steps kinds.RegisterMv refl).held s d (register_mv_effect e) x h
-  held_at (state.MapGo s) d e x h = moved_held (map_step has initial step) (map_holds holds) ((go_law inner owed).steps kinds.MapGo refl).held s d (map_go_effect e) x h
-  held_at (state.MapRr s) d e x h = moved_held (map_step has initial step) (map_holds holds) ((rr_law inner owed).steps kinds.MapRr refl).held s d (map_rr_effect e) x h
+  held_at (state.MapGo s) d e x h = moved_held (map_step has initial step) (map_holds holds) ((map_law inner owed false).steps kinds.MapGo refl).held s d (map_go_effect e) x h
+  held_at (state.MapRr s) d e x h = moved_held (map_step has initial step) (map_holds holds) ((map_law inner owed true).steps kinds.MapRr refl).held s d (map_rr_effect e) x h
 
   named_at : (k : Kind) (s : LayerState S) (u : Update) (d : Dot) → layer_names has names (makes k s u) d ≡ true → layer_holds holds s d ≡ true
   named_at kinds.CounterPn s u d h = counter_pn_holds s d ((pn_law.steps kinds.CounterPn refl).named (unwrap_or (counter_pn_state s) (pos 0)) u d h)
@@ -236,8 +236,8 @@ module _ {S E : Type 0} {has : Kind → Bool} {too_deep : Kind → List Field �
   named_at kinds.FlagDw s u d h = flag_dw_holds s d (((flag_law true).steps kinds.FlagDw refl).named (unwrap_or (flag_dw_state s) empty) u d h)
   named_at kinds.RegisterLww s u d h = register_lww_holds s d ((lww_law.steps kinds.RegisterLww refl).named (unwrap_or (register_lww_state s) None) u d h)
   named_at kinds.RegisterMv s u d h = register_mv_holds s d ((mv_law.steps kinds.RegisterMv refl).named (unwrap_or (register_mv_state s) empty) u d h)
-  named_at kinds.MapGo s u d h = map_go_holds s d (((go_law inner owed).steps kinds.MapGo refl).named (unwrap_or (map_go_state s) empty) u d h)
-  named_at kinds.MapRr s u d h = map_rr_holds s d (((rr_law inner owed).steps kinds.MapRr refl).named (unwrap_or (map_rr_state s) empty) u d h)
+  named_at kinds.MapGo s u d h = map_go_holds s d (((map_law inner owed false).steps kinds.MapGo refl).named (unwrap_or (map_go_state s) empty) u d h)
+  named_at kinds.MapRr s u d h = map_rr_holds s d (((map_law inner owed true).steps kinds.MapRr refl).named (unwrap_or (map_rr_state s) empty) u d h)
 
   none_at : (k : Kind) (x : Dot) → layer_holds holds (layer_initial {S = S} k) x ≡ false
   none_at kinds.CounterPn x = (pn_law.steps kinds.CounterPn refl).none_held x
@@ -249,8 +249,8 @@ module _ {S E : Type 0} {has : Kind → Bool} {too_deep : Kind → List Field �
   none_at kinds.FlagDw x = ((flag_law true).steps kinds.FlagDw refl).none_held x
   none_at kinds.RegisterLww x = (lww_law.steps kinds.RegisterLww refl).none_held x
   none_at kinds.RegisterMv x = (mv_law.steps kinds.RegisterMv refl).none_held x
-  none_at kinds.MapGo x = ((go_law inner owed).steps kinds.MapGo refl).none_held x
-  none_at kinds.MapRr x = ((rr_law inner owed).steps kinds.MapRr refl).none_held x
+  none_at kinds.MapGo x = ((map_law inner owed false).steps kinds.MapGo refl).none_held x
+  none_at kinds.MapRr x = ((map_law inner owed true).steps kinds.MapRr refl).none_held x
 
   layer_steps : (k : Kind) → KeepsSteps (layer_initial {S = S} k) moves (makes k) (layer_names has names) (layer_holds holds)
   layer_steps k = record { swaps = swaps_at; named = named_at k; held = held_at; none_held = none_at k }
@@ -337,17 +337,17 @@ module _ {S E : Type 0} {has : Kind → Bool} {too_deep : Kind → List Field �
   register_mv_stays (state.RegisterMv r) d e h = ap state.RegisterMv (h r)
   register_mv_stays _ d e h = refl
 
-  map_go_blank : (s : LayerState S) → layer_blank is_blank s ≡ true → go_blank (unwrap_or (map_go_state s) empty) ≡ true
+  map_go_blank : (s : LayerState S) → layer_blank is_blank s ≡ true → (map_blank false is_blank) (unwrap_or (map_go_state s) empty) ≡ true
   map_go_blank (state.MapGo s) h = h
-  map_go_blank _ h = (go_in_maps inner owed).first_blank kinds.MapGo refl
+  map_go_blank _ h = (map_in_maps inner owed false).first_blank kinds.MapGo refl
 
   map_go_stays : (t : LayerState S) (d : Dot) (e : MapEffect E) → ((r : FieldMap S) → (map_step has initial step) r d e ≡ r) → moves t d (effect.MapGo e) ≡ t
   map_go_stays (state.MapGo r) d e h = ap state.MapGo (h r)
   map_go_stays _ d e h = refl
 
-  pub map_rr_blank : (s : LayerState S) → layer_blank is_blank s ≡ true → (rr_blank is_blank) (unwrap_or (map_rr_state s) empty) ≡ true
+  pub map_rr_blank : (s : LayerState S) → layer_blank is_blank s ≡ true → (map_blank true is_blank) (unwrap_or (map_rr_state s) empty) ≡ true
   map_rr_blank (state.MapRr s) h = h
-  map_rr_blank _ h = (rr_in_maps inner owed).first_blank kinds.MapRr refl
+  map_rr_blank _ h = (map_in_maps inner owed true).first_blank kinds.MapRr refl
 
   map_rr_stays : (t : LayerState S) (d : Dot) (e : MapEffect E) → ((r : FieldMap S) → (map_step has initial step) r d e ≡ r) → moves t d (effect.MapRr e) ≡ t
   map_rr_stays (state.MapRr r) d e h = ap state.MapRr (h r)
@@ -363,8 +363,8 @@ module _ {S E : Type 0} {has : Kind → Bool} {too_deep : Kind → List Field �
   first_at kinds.FlagDw = (flag_in_maps true).first_blank kinds.FlagDw refl
   first_at kinds.RegisterLww = lww_in_maps.first_blank kinds.RegisterLww refl
   first_at kinds.RegisterMv = mv_in_maps.first_blank kinds.RegisterMv refl
-  first_at kinds.MapGo = (go_in_maps inner owed).first_blank kinds.MapGo refl
-  first_at kinds.MapRr = (rr_in_maps inner owed).first_blank kinds.MapRr refl
+  first_at kinds.MapGo = (map_in_maps inner owed false).first_blank kinds.MapGo refl
+  first_at kinds.MapRr = (map_in_maps inner owed true).first_blank kinds.MapRr refl
 
   undoes_at : (k : Kind) (s t : LayerState S) (d : Dot) (n : ℕ) → stands_in kinds.MapRr k ≡ true → layer_blank is_blank s ≡ true → moves t d (layer_made has initial made is_blank k s [] act.Reset n) ≡ t
   undoes_at kinds.CounterPn s t d n resets blank = counter_pn_stays t d (pn_made kinds.CounterPn (unwrap_or (counter_pn_state s) (pos 0)) [] act.Reset n) (λ r. pn_in_maps.undoes_none kinds.CounterPn (unwrap_or (counter_pn_state s) (pos 0)) r d n refl resets (counter_pn_blank s blank))
@@ -376,8 +376,8 @@ module _ {S E : Type 0} {has : Kind → Bool} {too_deep : Kind → List Field �
   undoes_at kinds.FlagDw s t d n resets blank = flag_dw_stays t d (flags.kind_made kinds.FlagDw (unwrap_or (flag_dw_state s) empty) [] act.Reset n) (λ r. (flag_in_maps true).undoes_none kinds.FlagDw (unwrap_or (flag_dw_state s) empty) r d n refl resets (flag_dw_blank s blank))
   undoes_at kinds.RegisterLww s t d n resets blank = register_lww_stays t d (lww_made kinds.RegisterLww (unwrap_or (register_lww_state s) None) [] act.Reset n) (λ r. lww_in_maps.undoes_none kinds.RegisterLww (unwrap_or (register_lww_state s) None) r d n refl resets (register_lww_blank s blank))
   undoes_at kinds.RegisterMv s t d n resets blank = register_mv_stays t d (mv_made kinds.RegisterMv (unwrap_or (register_mv_state s) empty) [] act.Reset n) (λ r. mv_in_maps.undoes_none kinds.RegisterMv (unwrap_or (register_mv_state s) empty) r d n refl resets (register_mv_blank s blank))
-  undoes_at kinds.MapGo s t d n resets blank = map_go_stays t d ((map_made has initial made is_blank) kinds.MapGo (unwrap_or (map_go_state s) empty) [] act.Reset n) (λ r. (go_in_maps inner owed).undoes_none kinds.MapGo (unwrap_or (map_go_state s) empty) r d n refl resets (map_go_blank s blank))
-  undoes_at kinds.MapRr s t d n resets blank = map_rr_stays t d ((map_made has initial made is_blank) kinds.MapRr (unwrap_or (map_rr_state s) empty) [] act.Reset n) (λ r. (rr_in_maps inner owed).undoes_none kinds.MapRr (unwrap_or (map_rr_state s) empty) r d n refl resets (map_rr_blank s blank))
+  undoes_at kinds.MapGo s t d n resets blank = map_go_stays t d ((map_made has initial made is_blank) kinds.MapGo (unwrap_or (map_go_state s) empty) [] act.Reset n) (λ r. (map_in_maps inner owed false).undoes_none kinds.MapGo (unwrap_or (map_go_state s) empty) r d n refl resets (map_go_blank s blank))
+  undoes_at kinds.MapRr s t d n resets blank = map_rr_stays t d ((map_made has initial made is_blank) kinds.MapRr (unwrap_or (map_rr_state s) empty) [] act.Reset n) (λ r. (map_in_maps inner owed true).undoes_none kinds.MapRr (unwrap_or (map_rr_state s) empty) r d n refl resets (map_rr_blank s blank))
 
   shallow_at : (k : Kind) → deep k [] ≡ false
   shallow_at kinds.CounterPn = refl

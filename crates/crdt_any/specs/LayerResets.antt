@@ -20,7 +20,7 @@ use Rattle.crdt_counters.specs.FatLaw.{fat_resets}
 use Rattle.crdt_sets.specs.SetResets.{set_resets}
 use Rattle.crdt_flags.specs.FlagLaws.{flag_resets}
 use Rattle.crdt_registers.specs.MvLaw.{mv_resets}
-use Rattle.crdt_maps.specs.MapResets.{rr_resets}
+use Rattle.crdt_maps.specs.MapResets.{map_resets}
 use Rattle.crdt_any.specs.declared.state.LayerState.{LayerState}
 use Rattle.crdt_any.specs.declared.state.LayerState.TheVariants as state
 use Rattle.crdt_any.specs.declared.effect.LayerEffect.{LayerEffect}
@@ -54,7 +54,7 @@ module _ {S E : Type 0} {has : Kind → Bool} {too_deep : Kind → List Field �
   none_at kinds.FlagEw s n d resets h = (flag_resets false).none_left kinds.FlagEw (unwrap_or (flag_ew_state s) empty) n d refl resets (flag_ew_blank inner owed s h)
   none_at kinds.FlagDw s n d resets h = (flag_resets true).none_left kinds.FlagDw (unwrap_or (flag_dw_state s) empty) n d refl resets (flag_dw_blank inner owed s h)
   none_at kinds.RegisterMv s n d resets h = mv_resets.none_left kinds.RegisterMv (unwrap_or (register_mv_state s) empty) n d refl resets (register_mv_blank inner owed s h)
-  none_at kinds.MapRr s n d resets h = (rr_resets inner owed fields).none_left kinds.MapRr (unwrap_or (map_rr_state s) empty) n d refl resets (map_rr_blank inner owed s h)
+  none_at kinds.MapRr s n d resets h = (map_resets inner owed fields true).none_left kinds.MapRr (unwrap_or (map_rr_state s) empty) n d refl resets (map_rr_blank inner owed s h)
   none_at _ s n d resets h = absurd (true≢false (sym resets))
 
   some_at : (k : Kind) (us : List Update) (n : ℕ) → stands_in kinds.MapRr k ≡ true → IsHistory us → all_fit (layer_too_deep has too_deep) k us ≡ true → blank (after k us) ≡ false → (d : Dot) × (names_it (makes k (after k us) [] act.Reset n) d ≡ true)
@@ -64,7 +64,7 @@ module _ {S E : Type 0} {has : Kind → Bool} {too_deep : Kind → List Field �
   some_at kinds.FlagEw us n resets h fit left = part_left (flag_resets false) kinds.FlagEw refl state.FlagEw effect.FlagEw moves makes blank names_it (λ _ _ _. refl) (λ _ _ _ _. refl) (λ _. refl) (λ _ _. refl) us n resets h fit left
   some_at kinds.FlagDw us n resets h fit left = part_left (flag_resets true) kinds.FlagDw refl state.FlagDw effect.FlagDw moves makes blank names_it (λ _ _ _. refl) (λ _ _ _ _. refl) (λ _. refl) (λ _ _. refl) us n resets h fit left
   some_at kinds.RegisterMv us n resets h fit left = part_left mv_resets kinds.RegisterMv refl state.RegisterMv effect.RegisterMv moves makes blank names_it (λ _ _ _. refl) (λ _ _ _ _. refl) (λ _. refl) (λ _ _. refl) us n resets h fit left
-  some_at kinds.MapRr us n resets h fit left = part_left (rr_resets inner owed fields) kinds.MapRr refl state.MapRr effect.MapRr moves makes blank names_it (λ _ _ _. refl) (λ _ _ _ _. refl) (λ _. refl) (λ _ _. refl) us n resets h fit left
+  some_at kinds.MapRr us n resets h fit left = part_left (map_resets inner owed fields true) kinds.MapRr refl state.MapRr effect.MapRr moves makes blank names_it (λ _ _ _. refl) (λ _ _ _ _. refl) (λ _. refl) (λ _ _. refl) us n resets h fit left
   some_at _ us n resets h fit left = absurd (true≢false (sym resets))
 
   pub layer_resets : ResetsWhatIsLeft layer_has (layer_too_deep has too_deep) (layer_initial {S = S}) (layer_step has initial step) (layer_made has initial made is_blank) (layer_blank is_blank) (layer_names has names)

@@ -1,5 +1,5 @@
 -- The bytes of maps' effects: a field with an effect of its kind, or what a reset undoes of each field.
-use Rattle.std.specs.Prelude.{◌≡◌, ℕ, zero, suc, ◌+◌, ◌^◌, ◌<◌, ◌≤◌, ◌==◌, Bool, true, false, ◌&&◌, ◌||◌, eqb, nat_le, nat_lt, List, [], ◌∷◌, ◌++◌, ◌≢◌, length, take, drop, None, Ok, Err, if◌then◌else◌, refl}
+use Rattle.std.specs.Prelude.{◌≡◌, ℕ, zero, suc, cond, ◌+◌, ◌^◌, ◌<◌, ◌≤◌, ◌==◌, Bool, true, false, ◌&&◌, ◌||◌, eqb, nat_le, nat_lt, List, [], ◌∷◌, ◌++◌, ◌≢◌, length, take, drop, None, Ok, Err, if◌then◌else◌, refl}
 use Rattle.std.proofs.Common.{arith, ap, sym, subst, ◌∙◌, ⊎_elim, append_assoc, length-append}
 use Rattle.std.proofs.lemmas.List.{drop_at}
 use Rattle.std.proofs.lemmas.Bool.{true≢false, false≢true, eqb-true, eq-eqb}
@@ -27,7 +27,7 @@ use Rattle.crdt_core.specs.Contents.{Content, Words, list_contents, pieces_of, h
 use Rattle.crdt_core.specs.ContentsLaws.{or_none, pieces_of_list, update_of_list}
 use Rattle.crdt_core.specs.Stands.{NamesStand}
 use Rattle.crdt_core.specs.StandsLaws.{names_stand}
-use Rattle.crdt_maps.specs.Maps.{map_names}
+use Rattle.crdt_maps.specs.Maps.{map_kind, map_names}
 use Rattle.crdt_maps.specs.declared.effect.MapEffect.{MapEffect}
 use Rattle.crdt_maps.specs.declared.effect.MapEffect.TheVariants.{At, Resets}
 
@@ -254,71 +254,47 @@ reset_at allowed reading = then_at (field_at allowed) (λ f. opened_at (reset_ta
 abbrev pub entry_below : {E : Type 0} → Field × E → Field × E → Bool
 entry_below x y = is_below field_cmp x.0 y.0
 
--- ---- effects of a map whose fields stay: a zero, and an entry
-
-abbrev pub go_can_put : {E : Type 0} → (Kind → Bool) → (Kind → E → Bool) → (E → Bool) → MapEffect E → Bool
-go_can_put has is_of can_put (At f e) = can_put_entry (may_stand kinds.MapGo has) is_of can_put (f, e)
-go_can_put has is_of can_put (Resets xs) = false
-
-abbrev pub go_is_spelled : {E : Type 0} → (Kind → Bool) → (Kind → E → Bool) → (E → Bool) → MapEffect E → Bool
-go_is_spelled has is_of is_spelled (At f e) = is_entry_spelled (may_stand kinds.MapGo has) is_of is_spelled (f, e)
-go_is_spelled has is_of is_spelled (Resets xs) = false
-
 pub entry_first : {E : Type 0} (spelling : E → List ℕ) (x : Field × E) → 0 < length (entry spelling x)
 entry_first spelling x = longer (field x.0) (spelling x.1) (longer (text x.0.name) (kind x.0.kind) (text_first x.0.name))
 
-abbrev pub go_rest : {E : Type 0} → (E → List ℕ) → MapEffect E → List ℕ
-go_rest spelling (At f e) = entry spelling (f, e)
-go_rest spelling (Resets xs) = []
+-- ---- effects of a map: a zero and an entry, or, where fields can be dropped, a one and the resets of fields, ascending
 
-abbrev pub go_spelling : {E : Type 0} → (E → List ℕ) → MapEffect E → List ℕ
-go_spelling spelling e = number 1 0 ++ go_rest spelling e
+abbrev pub map_can_put : {E : Type 0} → Bool → (Kind → Bool) → (Kind → E → Bool) → (E → Bool) → (E → List ℕ) → MapEffect E → Bool
+map_can_put drops has is_of can_put spelling (At f e) = can_put_entry (may_stand (map_kind drops) has) is_of can_put (f, e)
+map_can_put drops has is_of can_put spelling (Resets xs) = drops && are_members entry_below (can_put_reset (may_stand kinds.MapRr has) is_of can_put spelling) xs
 
-abbrev pub go_contents : {E : Type 0} → (E → List Content) → MapEffect E → List Content
-go_contents contents (At f e) = entry_contents contents (f, e)
-go_contents contents (Resets xs) = []
+abbrev pub map_is_spelled : {E : Type 0} → Bool → (Kind → Bool) → (Kind → E → Bool) → (E → Bool) → (E → List ℕ) → MapEffect E → Bool
+map_is_spelled drops has is_of is_spelled spelling (At f e) = is_entry_spelled (may_stand (map_kind drops) has) is_of is_spelled (f, e)
+map_is_spelled drops has is_of is_spelled spelling (Resets xs) = drops && is_list entry_below (is_reset_spelled (may_stand kinds.MapRr has) is_of is_spelled spelling) xs
+
+abbrev pub last_mark : Bool → ℕ
+last_mark drops = cond drops 1 0
+
+abbrev pub map_mark : {E : Type 0} → Bool → MapEffect E → ℕ
+map_mark drops (At f e) = 0
+map_mark drops (Resets xs) = last_mark drops
+
+abbrev pub map_rest : {E : Type 0} → (E → List ℕ) → MapEffect E → List ℕ
+map_rest spelling (At f e) = entry spelling (f, e)
+map_rest spelling (Resets xs) = list (entry spelling) xs
+
+abbrev pub map_spelling : {E : Type 0} → Bool → (E → List ℕ) → MapEffect E → List ℕ
+map_spelling drops spelling e = number 1 (map_mark drops e) ++ map_rest spelling e
+
+abbrev pub map_contents : {E : Type 0} → (E → List Content) → MapEffect E → List Content
+map_contents contents (At f e) = entry_contents contents (f, e)
+map_contents contents (Resets xs) = list_contents (entry_contents contents) xs
 
 abbrev pub at_of : {E : Type 0} → Field × E → MapEffect E
 at_of x = At x.0 x.1
 
-unfoldable pub go_rest_at : {E : Type 0} → (Kind → Bool) → (Kind → List ℕ → ℕ → Read E) → ℕ → List ℕ → ℕ → Read (MapEffect E)
-go_rest_at has reading mark = mapped_at at_of (entry_at (may_stand kinds.MapGo has) reading)
-
-unfoldable pub go_at : {E : Type 0} → (Kind → Bool) → (Kind → List ℕ → ℕ → Read E) → List ℕ → ℕ → Read (MapEffect E)
-go_at has reading = tagged_at (is_between 0 0) (go_rest_at has reading)
-
--- ---- effects of a map whose fields can be dropped: a zero and an entry, or a one and the resets of fields, ascending
-
-abbrev pub rr_can_put : {E : Type 0} → (Kind → Bool) → (Kind → E → Bool) → (E → Bool) → (E → List ℕ) → MapEffect E → Bool
-rr_can_put has is_of can_put spelling (At f e) = can_put_entry (may_stand kinds.MapRr has) is_of can_put (f, e)
-rr_can_put has is_of can_put spelling (Resets xs) = are_members entry_below (can_put_reset (may_stand kinds.MapRr has) is_of can_put spelling) xs
-
-abbrev pub rr_is_spelled : {E : Type 0} → (Kind → Bool) → (Kind → E → Bool) → (E → Bool) → (E → List ℕ) → MapEffect E → Bool
-rr_is_spelled has is_of is_spelled spelling (At f e) = is_entry_spelled (may_stand kinds.MapRr has) is_of is_spelled (f, e)
-rr_is_spelled has is_of is_spelled spelling (Resets xs) = is_list entry_below (is_reset_spelled (may_stand kinds.MapRr has) is_of is_spelled spelling) xs
-
-abbrev pub rr_mark : {E : Type 0} → MapEffect E → ℕ
-rr_mark (At f e) = 0
-rr_mark (Resets xs) = 1
-
-abbrev pub rr_rest : {E : Type 0} → (E → List ℕ) → MapEffect E → List ℕ
-rr_rest spelling (At f e) = entry spelling (f, e)
-rr_rest spelling (Resets xs) = list (entry spelling) xs
-
-abbrev pub rr_spelling : {E : Type 0} → (E → List ℕ) → MapEffect E → List ℕ
-rr_spelling spelling e = number 1 (rr_mark e) ++ rr_rest spelling e
-
-abbrev pub rr_contents : {E : Type 0} → (E → List Content) → MapEffect E → List Content
-rr_contents contents (At f e) = entry_contents contents (f, e)
-rr_contents contents (Resets xs) = list_contents (entry_contents contents) xs
-
-unfoldable pub rr_rest_at : {E : Type 0} → (Kind → Bool) → (Kind → List ℕ → ℕ → Read E) → ℕ → List ℕ → ℕ → Read (MapEffect E)
-rr_rest_at has reading mark =
-    if mark == 0 then mapped_at at_of (entry_at (may_stand kinds.MapRr has) reading)
+unfoldable pub map_rest_at : {E : Type 0} → Bool → (Kind → Bool) → (Kind → List ℕ → ℕ → Read E) → ℕ → List ℕ → ℕ → Read (MapEffect E)
+map_rest_at drops has reading mark =
+    if mark == 0 then mapped_at at_of (entry_at (may_stand (map_kind drops) has) reading)
     else mapped_at Resets (list_at entry_below (reset_at (may_stand kinds.MapRr has) reading))
 
-unfoldable pub rr_at : {E : Type 0} → (Kind → Bool) → (Kind → List ℕ → ℕ → Read E) → List ℕ → ℕ → Read (MapEffect E)
-rr_at has reading = tagged_at (is_between 0 1) (rr_rest_at has reading)
+unfoldable pub map_at : {E : Type 0} → Bool → (Kind → Bool) → (Kind → List ℕ → ℕ → Read E) → List ℕ → ℕ → Read (MapEffect E)
+map_at drops has reading = tagged_at (is_between 0 (last_mark drops)) (map_rest_at drops has reading)
 
 -- every effect is one of the kind
 abbrev pub is_of_map : {E : Type 0} → Kind → MapEffect E → Bool
@@ -329,6 +305,10 @@ in_field outer has f h = (both_true (stands_in outer f.kind) (has f.kind) (both_
 
 small_tag : (most : ℕ) → most < 256 → (n : ℕ) → is_between 0 most n ≡ true → is_number 1 n ≡ true
 small_tag most few n h = let le = le_from n most (both_true (nat_le 0 n) _ h).1 in lt_holds n (256 ^ 1) (omega (arith, le, few))
+
+small_mark : (drops : Bool) (n : ℕ) → is_between 0 (last_mark drops) n ≡ true → is_number 1 n ≡ true
+small_mark false = small_tag 0 (omega arith)
+small_mark true = small_tag 1 (omega arith)
 
 module _ {E : Type 0} {has : Kind → Bool} {is_of : Kind → E → Bool} {can_put is_spelled : E → Bool} {contents : E → List Content} {spelling : E → List ℕ} {reading : Kind → List ℕ → ℕ → Read E} (spells : SpellsEffects has is_of can_put is_spelled contents spelling reading) where
   pub entry_form : (outer : Kind) → IsForm (can_put_entry (may_stand outer has) is_of can_put) (is_entry_spelled (may_stand outer has) is_of is_spelled) (entry spelling) (entry_at (may_stand outer has) reading)
@@ -343,40 +323,37 @@ module _ {E : Type 0} {has : Kind → Bool} {is_of : Kind → E → Bool} {can_p
       (λ f e. begins_with (reset_tag f.kind) (spelling e) && (is_of f.kind e && can_put e)) (λ f e. begins_with (reset_tag f.kind) (spelling e) && (is_of f.kind e && is_spelled e)) (λ _. spelling) (λ f. opened_at (reset_tag f.kind) (reading f.kind)) (field_form allowed)
       (λ f h. opened_form (reset_tag f.kind) (tag_byte f.kind) (tag_small f.kind) (λ e. is_of f.kind e && can_put e) (λ e. is_of f.kind e && is_spelled e) spelling (reading f.kind) (spells.form f.kind (in_field outer has f h)))
 
-  go_shape : (e : MapEffect E) → (eqb 0 0 && go_is_spelled has is_of is_spelled e) ≡ true → (x : Field × E) × (at_of x ≡ e)
-  go_shape (At f e) h = ((f, e), refl)
-  go_shape (Resets xs) h = absurd (false≢true h)
+  abbrev can : Bool → MapEffect E → Bool
+  can drops e = map_can_put drops has is_of can_put spelling e
 
-  go_rest_form : (n : ℕ) → is_between 0 0 n ≡ true → IsForm (λ e. eqb 0 n && go_can_put has is_of can_put e) (λ e. eqb 0 n && go_is_spelled has is_of is_spelled e) (go_rest spelling) (go_rest_at has reading n)
-  unfolding go_rest_at
-  go_rest_form zero h = shape_form at_of _ _ (entry spelling) _ _ _ _ (λ x. refl) (λ x. refl) (λ x. refl) go_shape (entry_form kinds.MapGo)
-  go_rest_form (suc n) h = let le = le_from (suc n) 0 (both_true (nat_le 0 (suc n)) _ h).1 in absurd (omega arith)
+  abbrev spelled : Bool → MapEffect E → Bool
+  spelled drops e = map_is_spelled drops has is_of is_spelled spelling e
 
-  pub go_form : IsForm (go_can_put has is_of can_put) (go_is_spelled has is_of is_spelled) (go_spelling spelling) (go_at has reading)
-  unfolding go_at
-  go_form = tagged_form (is_between 0 0) (λ _. 0) _ _ (go_rest spelling) (go_rest_at has reading) (λ e. refl) (small_tag 0 (omega arith)) go_rest_form
+  at_shape : (drops : Bool) (e : MapEffect E) → (eqb (map_mark drops e) 0 && spelled drops e) ≡ true → (x : Field × E) × (at_of x ≡ e)
+  at_shape drops (At f e) h = ((f, e), refl)
+  at_shape false (Resets xs) h = absurd (false≢true h)
+  at_shape true (Resets xs) h = absurd (false≢true h)
 
-  rr_at_shape : (e : MapEffect E) → (eqb (rr_mark e) 0 && rr_is_spelled has is_of is_spelled spelling e) ≡ true → (x : Field × E) × (at_of x ≡ e)
-  rr_at_shape (At f e) h = ((f, e), refl)
-  rr_at_shape (Resets xs) h = absurd (false≢true h)
+  resets_shape : (e : MapEffect E) → (eqb (map_mark true e) 1 && spelled true e) ≡ true → (xs : List (Field × E)) × (Resets xs ≡ e)
+  resets_shape (At f e) h = absurd (false≢true h)
+  resets_shape (Resets xs) h = (xs, refl)
 
-  rr_resets_shape : (e : MapEffect E) → (eqb (rr_mark e) 1 && rr_is_spelled has is_of is_spelled spelling e) ≡ true → (xs : List (Field × E)) × (Resets xs ≡ e)
-  rr_resets_shape (At f e) h = absurd (false≢true h)
-  rr_resets_shape (Resets xs) h = (xs, refl)
+  rest_form : (drops : Bool) (n : ℕ) → is_between 0 (last_mark drops) n ≡ true → IsForm (λ e. eqb (map_mark drops e) n && can drops e) (λ e. eqb (map_mark drops e) n && spelled drops e) (map_rest spelling) (map_rest_at drops has reading n)
+  unfolding map_rest_at
+  rest_form drops zero h = shape_form at_of _ _ (entry spelling) _ _ _ _ (λ x. refl) (λ x. refl) (λ x. refl) (at_shape drops) (entry_form (map_kind drops))
+  rest_form true (suc zero) h = shape_form Resets _ _ (list (entry spelling)) _ _ _ _ (λ xs. refl) (λ xs. refl) (λ xs. refl) resets_shape (list_form entry_below _ _ (entry spelling) (reset_at (may_stand kinds.MapRr has) reading) (reset_form kinds.MapRr))
+  rest_form true (suc (suc n)) h = let le = le_from (suc (suc n)) 1 (both_true (nat_le 0 (suc (suc n))) _ h).1 in absurd (omega arith)
+  rest_form false (suc n) h = let le = le_from (suc n) 0 (both_true (nat_le 0 (suc n)) _ h).1 in absurd (omega arith)
 
-  rr_rest_form : (n : ℕ) → is_between 0 1 n ≡ true → IsForm (λ e. eqb (rr_mark e) n && rr_can_put has is_of can_put spelling e) (λ e. eqb (rr_mark e) n && rr_is_spelled has is_of is_spelled spelling e) (rr_rest spelling) (rr_rest_at has reading n)
-  unfolding rr_rest_at
-  rr_rest_form zero h = shape_form at_of _ _ (entry spelling) _ _ _ _ (λ x. refl) (λ x. refl) (λ x. refl) rr_at_shape (entry_form kinds.MapRr)
-  rr_rest_form (suc zero) h = shape_form Resets _ _ (list (entry spelling)) _ _ _ _ (λ xs. refl) (λ xs. refl) (λ xs. refl) rr_resets_shape (list_form entry_below _ _ (entry spelling) (reset_at (may_stand kinds.MapRr has) reading) (reset_form kinds.MapRr))
-  rr_rest_form (suc (suc n)) h = let le = le_from (suc (suc n)) 1 (both_true (nat_le 0 (suc (suc n))) _ h).1 in absurd (omega arith)
+  mark_known : (drops : Bool) (e : MapEffect E) → is_between 0 (last_mark drops) (map_mark drops e) ≡ true
+  mark_known false (At f e) = refl
+  mark_known true (At f e) = refl
+  mark_known false (Resets xs) = refl
+  mark_known true (Resets xs) = refl
 
-  rr_known : (e : MapEffect E) → is_between 0 1 (rr_mark e) ≡ true
-  rr_known (At f e) = refl
-  rr_known (Resets xs) = refl
-
-  pub rr_form : IsForm (rr_can_put has is_of can_put spelling) (rr_is_spelled has is_of is_spelled spelling) (rr_spelling spelling) (rr_at has reading)
-  unfolding rr_at
-  rr_form = tagged_form (is_between 0 1) rr_mark _ _ (rr_rest spelling) (rr_rest_at has reading) rr_known (small_tag 1 (omega arith)) rr_rest_form
+  pub map_form : (drops : Bool) → IsForm (map_can_put drops has is_of can_put spelling) (map_is_spelled drops has is_of is_spelled spelling) (map_spelling drops spelling) (map_at drops has reading)
+  unfolding map_at
+  map_form drops = tagged_form (is_between 0 (last_mark drops)) (map_mark drops) _ _ (map_rest spelling) (map_rest_at drops has reading) (mark_known drops) (small_mark drops) (rest_form drops)
 
   entry_all : (outer : Kind) → SpellsAll (can_put_entry (may_stand outer has) is_of can_put) (is_entry_spelled (may_stand outer has) is_of is_spelled) (pieces_of (entry_contents contents)) (entry spelling)
   entry_all outer = then_spells (field_all (may_stand outer has)) (λ f. checked_spells (is_of f.kind) spells.all)
@@ -384,50 +361,29 @@ module _ {E : Type 0} {has : Kind → Bool} {is_of : Kind → E → Bool} {can_p
   pub reset_all : (outer : Kind) → SpellsAll (can_put_reset (may_stand outer has) is_of can_put spelling) (is_reset_spelled (may_stand outer has) is_of is_spelled spelling) (pieces_of (entry_contents contents)) (entry spelling)
   reset_all outer = then_spells (field_all (may_stand outer has)) (λ f. checked_spells (λ e. begins_with (reset_tag f.kind) (spelling e)) (checked_spells (is_of f.kind) spells.all))
 
-  go_rest_all : SpellsAll (go_can_put has is_of can_put) (go_is_spelled has is_of is_spelled) (pieces_of (go_contents contents)) (go_rest spelling)
-  go_rest_all = record { spells = by; held = held; stand = stand }
-    where
-      by : (e : MapEffect E) → go_can_put has is_of can_put e ≡ true → all_hold (pieces_of (go_contents contents) e) ≡ true → go_is_spelled has is_of is_spelled e ≡ true
-      by (At f e) h all = (entry_all kinds.MapGo).spells (f, e) h all
-      by (Resets xs) h all = absurd (false≢true h)
-
-      held : (e : MapEffect E) → go_is_spelled has is_of is_spelled e ≡ true → all_hold (pieces_of (go_contents contents) e) ≡ true
-      held (At f e) h = (entry_all kinds.MapGo).held (f, e) h
-      held (Resets xs) h = absurd (false≢true h)
-
-      stand : (e : MapEffect E) → StandInTurn (pieces_of (go_contents contents) e) (go_rest spelling e)
-      stand (At f e) = (entry_all kinds.MapGo).stand (f, e)
-      stand (Resets xs) = tt
-
-  pub go_all : SpellsAll (go_can_put has is_of can_put) (go_is_spelled has is_of is_spelled) (pieces_of (go_contents contents)) (go_spelling spelling)
-  go_all = behind_spells (λ _. number 1 0) go_rest_all
-
   resets_all : SpellsAll (are_members entry_below (can_put_reset (may_stand kinds.MapRr has) is_of can_put spelling)) (is_list entry_below (is_reset_spelled (may_stand kinds.MapRr has) is_of is_spelled spelling)) (pieces_of (list_contents (entry_contents contents))) (list (entry spelling))
   resets_all = told_spells (pieces_of (list_contents (entry_contents contents))) (pieces_of_list (entry_contents contents)) (list_spells entry_below (entry_first spelling) (reset_all kinds.MapRr))
 
-  rr_rest_all : SpellsAll (rr_can_put has is_of can_put spelling) (rr_is_spelled has is_of is_spelled spelling) (pieces_of (rr_contents contents)) (rr_rest spelling)
-  rr_rest_all = record { spells = by; held = held; stand = stand }
+  rest_all : (drops : Bool) → SpellsAll (can drops) (spelled drops) (pieces_of (map_contents contents)) (map_rest spelling)
+  rest_all drops = record { spells = by; held = held; stand = stand }
     where
-      by : (e : MapEffect E) → rr_can_put has is_of can_put spelling e ≡ true → all_hold (pieces_of (rr_contents contents) e) ≡ true → rr_is_spelled has is_of is_spelled spelling e ≡ true
-      by (At f e) h all = (entry_all kinds.MapRr).spells (f, e) h all
-      by (Resets xs) h all = resets_all.spells xs h all
+      by : (e : MapEffect E) → can drops e ≡ true → all_hold (pieces_of (map_contents contents) e) ≡ true → spelled drops e ≡ true
+      by (At f e) h all = (entry_all (map_kind drops)).spells (f, e) h all
+      by (Resets xs) h all = let two = both_true drops _ h in and_true drops _ two.0 (resets_all.spells xs two.1 all)
 
-      held : (e : MapEffect E) → rr_is_spelled has is_of is_spelled spelling e ≡ true → all_hold (pieces_of (rr_contents contents) e) ≡ true
-      held (At f e) h = (entry_all kinds.MapRr).held (f, e) h
-      held (Resets xs) h = resets_all.held xs h
+      held : (e : MapEffect E) → spelled drops e ≡ true → all_hold (pieces_of (map_contents contents) e) ≡ true
+      held (At f e) h = (entry_all (map_kind drops)).held (f, e) h
+      held (Resets xs) h = resets_all.held xs (both_true drops _ h).1
 
-      stand : (e : MapEffect E) → StandInTurn (pieces_of (rr_contents contents) e) (rr_rest spelling e)
-      stand (At f e) = (entry_all kinds.MapRr).stand (f, e)
+      stand : (e : MapEffect E) → StandInTurn (pieces_of (map_contents contents) e) (map_rest spelling e)
+      stand (At f e) = (entry_all (map_kind drops)).stand (f, e)
       stand (Resets xs) = resets_all.stand xs
 
-  pub rr_all : SpellsAll (rr_can_put has is_of can_put spelling) (rr_is_spelled has is_of is_spelled spelling) (pieces_of (rr_contents contents)) (rr_spelling spelling)
-  rr_all = behind_spells (λ e. number 1 (rr_mark e)) rr_rest_all
+  pub map_all : (drops : Bool) → SpellsAll (map_can_put drops has is_of can_put spelling) (map_is_spelled drops has is_of is_spelled spelling) (pieces_of (map_contents contents)) (map_spelling drops spelling)
+  map_all drops = behind_spells (λ e. number 1 (map_mark drops e)) (rest_all drops)
 
-  abbrev pub go_spells : (of_map : Kind → Bool) → SpellsEffects of_map is_of_map (go_can_put has is_of can_put) (go_is_spelled has is_of is_spelled) (go_contents contents) (go_spelling spelling) (λ k. go_at has reading)
-  go_spells of_map = record { form = λ k h. go_form; all = go_all }
-
-  abbrev pub rr_spells : (of_map : Kind → Bool) → SpellsEffects of_map is_of_map (rr_can_put has is_of can_put spelling) (rr_is_spelled has is_of is_spelled spelling) (rr_contents contents) (rr_spelling spelling) (λ k. rr_at has reading)
-  rr_spells of_map = record { form = λ k h. rr_form; all = rr_all }
+  abbrev pub map_spells : (drops : Bool) (of_map : Kind → Bool) → SpellsEffects of_map is_of_map (map_can_put drops has is_of can_put spelling) (map_is_spelled drops has is_of is_spelled spelling) (map_contents contents) (map_spelling drops spelling) (λ k. map_at drops has reading)
+  map_spells drops of_map = record { form = λ k h. map_form drops; all = map_all drops }
 
 -- ---- an effect names exactly the updates in the sets that stand in its bytes
 
@@ -458,20 +414,14 @@ module _ {E : Type 0} (has : Kind → Bool) (is_of : Kind → E → Bool) {can_p
       let two = both_true (can_put_reset (may_stand outer has) is_of can_put spelling x) _ can in
       λ i. reset_exact outer x d two.0 i || resets_exact outer xs d two.1 i
 
-  go_exact : (e : MapEffect E) (d : Dot) → go_can_put has is_of can_put e ≡ true → map_names has names e d ≡ have_update (go_contents contents e) d
-  go_exact (At f e) d can = or_none (has f.kind && names e d) ∙ entry_exact kinds.MapGo (f, e) d can
-  go_exact (Resets xs) d can = absurd (false≢true can)
-
-  rr_exact : (e : MapEffect E) (d : Dot) → rr_can_put has is_of can_put spelling e ≡ true → map_names has names e d ≡ have_update (rr_contents contents e) d
-  rr_exact (At f e) d can = or_none (has f.kind && names e d) ∙ entry_exact kinds.MapRr (f, e) d can
-  rr_exact (Resets xs) d can =
-      let good = both_true (are_in_order entry_below None xs) (list_all (can_put_reset (may_stand kinds.MapRr has) is_of can_put spelling) xs) can in
+  map_exact : (drops : Bool) (e : MapEffect E) (d : Dot) → map_can_put drops has is_of can_put spelling e ≡ true → map_names has names e d ≡ have_update (map_contents contents e) d
+  map_exact drops (At f e) d can = or_none (has f.kind && names e d) ∙ entry_exact (map_kind drops) (f, e) d can
+  map_exact drops (Resets xs) d can =
+      let members = (both_true drops _ can).1 in
+      let good = both_true (are_in_order entry_below None xs) (list_all (can_put_reset (may_stand kinds.MapRr has) is_of can_put spelling) xs) members in
       resets_exact kinds.MapRr xs d good.1 ∙ sym (update_of_list (entry_contents contents) xs d)
 
 module _ {E : Type 0} {has : Kind → Bool} {is_of : Kind → E → Bool} {can_put is_spelled : E → Bool} {names : E → Dot → Bool} {contents : E → List Content} {spelling : E → List ℕ} {reading : Kind → List ℕ → ℕ → Read E}
     (spells : SpellsEffects has is_of can_put is_spelled contents spelling reading) (inner : NamesStand can_put names contents spelling) where
-  pub go_stands : NamesStand (go_can_put has is_of can_put) (map_names has names) (go_contents contents) (go_spelling spelling)
-  go_stands = names_stand (go_all spells) (go_exact has is_of inner)
-
-  pub rr_stands : NamesStand (rr_can_put has is_of can_put spelling) (map_names has names) (rr_contents contents) (rr_spelling spelling)
-  rr_stands = names_stand (rr_all spells) (rr_exact has is_of inner)
+  pub map_stands : (drops : Bool) → NamesStand (map_can_put drops has is_of can_put spelling) (map_names has names) (map_contents contents) (map_spelling drops spelling)
+  map_stands drops = names_stand (map_all spells drops) (map_exact has is_of inner drops)

@@ -26,8 +26,8 @@ use Rattle.crdt_core.specs.Blank.{no_entries, empty_none, never_reset}
 use Rattle.crdt_core.specs.Confluence.{any_same, confluence}
 use Rattle.crdt_core.specs.Leaves.{same_kind_is}
 use Rattle.crdt_core.specs.FieldOrder.{field_cmp, field_cmp_total, field_ties, same_field_is}
-use Rattle.crdt_maps.specs.Maps.{FieldMap, at, go_has, rr_has, step_each, map_step, is_undone, resets_of, map_made, map_stamp, map_too_deep, map_names, map_holds, members, shown, go_value, rr_value, go_blank, rr_blank}
-use Rattle.crdt_maps.specs.Meaning.{with_some, entered, of_field, at_field, updated, meanings, go_meaning, rr_meaning}
+use Rattle.crdt_maps.specs.Maps.{FieldMap, at, map_has, step_each, map_step, is_undone, resets_of, map_made, map_stamp, map_too_deep, map_names, map_holds, members, shown, map_value, map_blank}
+use Rattle.crdt_maps.specs.Meaning.{with_some, entered, of_field, at_field, updated, meanings, map_meaning}
 use Rattle.crdt_maps.specs.Picked.{picked_same}
 use Rattle.crdt_maps.specs.FieldSteps.{found, same_fields}
 use Rattle.crdt_maps.specs.FieldHistory.{reset_stands, history_of_field, fits_of_field}
@@ -98,6 +98,11 @@ one_known has q (f ∷ p) fs rest h = elim (has f.kind) as (λ b. has f.kind ≡
   | false ↦ λ t k. rest k
 ] refl h
 
+-- what holds of both kinds of map
+of_both : {A : Type 0} (g : Kind → A) (x : A) (drops : Bool) (k : Kind) → map_has drops k ≡ true → g MapGo ≡ x → g MapRr ≡ x → g k ≡ x
+of_both g x false k is go rr = ap g (same_kind_is k MapGo is) ∙ go
+of_both g x true k is go rr = ap g (same_kind_is k MapRr is) ∙ rr
+
 blank_stays : (a b c : Bool) → c ≡ true → (a && (b && not c)) ≡ false
 blank_stays true true c h = ap not h
 blank_stays true false c h = refl
@@ -148,38 +153,22 @@ module _ {S E : Type 0} {has : Kind → Bool} {too_deep : Kind → List Field �
       ∙ ap (λ b. cond b (Some (at_vs q)) None) (any_same (same_field q) (updated has us) (updated has vs) (picked_same (λ u. entered has u.path) us vs s))
       ∙ sym (get-from_entries field_cmp_total (map (λ f. (f, at_vs f)) (updated has vs)) q ∙ found_named at_vs q (updated has vs))))
 
-  go_own : (k : Kind) → go_has k ≡ true → (f : Field) → stands_in k f.kind ≡ true → reset_stands k f
-  go_own k is f stands a h = absurd (true≢false (sym h ∙ ap (λ l. allows l a) (same_kind_is k MapGo is)))
+  pub own : (drops : Bool) (k : Kind) → map_has drops k ≡ true → (f : Field) → stands_in k f.kind ≡ true → reset_stands k f
+  own false k is f stands a h = absurd (true≢false (sym h ∙ ap (λ l. allows l a) (same_kind_is k MapGo is)))
+  own true k is f stands a h = sym (ap (λ l. stands_in l f.kind) (same_kind_is k MapRr is)) ∙ stands
 
-  pub rr_own : (k : Kind) → rr_has k ≡ true → (f : Field) → stands_in k f.kind ≡ true → reset_stands k f
-  rr_own k is f stands a h = sym (ap (λ l. stands_in l f.kind) (same_kind_is k MapRr is)) ∙ stands
+  shown_means : (drops : Bool) (k : Kind) (us : List Update) → Fields (shown drops (meanings has meaning us)) ≡ map_meaning drops has meaning k us
+  shown_means false k us = ap Fields (all_kept (meanings has meaning us))
+  shown_means true k us = refl
 
-  pub go_law : KeepsLaw go_has (map_too_deep has too_deep) (λ k. empty) (map_step has initial step) (map_made has initial made is_blank) (go_value value_of) (map_stamp stamp_of) (go_meaning has meaning) (map_names has names) (map_holds holds)
-  go_law = record {
-    means = λ k us is h fit st. ap Fields (members_mean k (go_own k is) us h fit st);
-    stamps = λ k u us is h fit st. map_stamps inner owed k (go_own k is) (ap (λ l. same_kind l RegisterLww) (same_kind_is k MapGo is)) u us h fit st;
+  pub map_law : (drops : Bool) → KeepsLaw (map_has drops) (map_too_deep has too_deep) (λ k. empty) (map_step has initial step) (map_made has initial made is_blank) (map_value drops value_of) (map_stamp stamp_of) (map_meaning drops has meaning) (map_names has names) (map_holds holds)
+  map_law drops = record {
+    means = λ k us is h fit st. ap (λ ms. Fields (shown drops ms)) (members_mean k (own drops k is) us h fit st) ∙ shown_means drops k us;
+    stamps = λ k u us is h fit st. map_stamps inner owed k (own drops k is) (of_both (λ l. same_kind l RegisterLww) false drops k is refl refl) u us h fit st;
     confluent = λ k us vs is. confluence empty (map_step has initial step) (made_by (map_made has initial made is_blank) k) (map_names has names) (map_holds holds) (map_steps inner is_blank k) us vs;
-    orderless = λ k us vs is s. ap Fields (meanings_same us vs s);
-    unread = λ k s t p a n is r. absurd (true≢false (sym (ap reads_state (same_kind_is k MapGo is)) ∙ r));
+    orderless = λ k us vs is s. sym (shown_means drops k us) ∙ ap (λ ms. Fields (shown drops ms)) (meanings_same us vs s) ∙ shown_means drops k vs;
+    unread = λ k s t p a n is r. absurd (true≢false (sym (of_both reads_state true drops k is refl refl) ∙ r));
     steps = λ k is. map_steps inner is_blank k;
-  }
-
-  pub rr_law : KeepsLaw rr_has (map_too_deep has too_deep) (λ k. empty) (map_step has initial step) (map_made has initial made is_blank) (rr_value value_of) (map_stamp stamp_of) (rr_meaning has meaning) (map_names has names) (map_holds holds)
-  rr_law = record {
-    means = λ k us is h fit st. ap (λ ms. Fields (shown ms)) (members_mean k (rr_own k is) us h fit st);
-    stamps = λ k u us is h fit st. map_stamps inner owed k (rr_own k is) (ap (λ l. same_kind l RegisterLww) (same_kind_is k MapRr is)) u us h fit st;
-    confluent = λ k us vs is. confluence empty (map_step has initial step) (made_by (map_made has initial made is_blank) k) (map_names has names) (map_holds holds) (map_steps inner is_blank k) us vs;
-    orderless = λ k us vs is s. ap (λ ms. Fields (shown ms)) (meanings_same us vs s);
-    unread = λ k s t p a n is r. absurd (true≢false (sym (ap reads_state (same_kind_is k MapRr is)) ∙ r));
-    steps = λ k is. map_steps inner is_blank k;
-  }
-
-  pub go_in_maps : KeepsInMaps go_has (map_too_deep has too_deep) (λ k. empty) (map_step has initial step) (map_made has initial made is_blank) go_blank
-  go_in_maps = record {
-    first_blank = λ k is. empty_none field_cmp S;
-    undoes_none = λ k s t d n is resets blank. absurd (true≢false (never_reset k MapGo is refl resets));
-    shallow = λ k. refl;
-    flat = λ k p is out. absurd (true≢false (sym (ap is_map (same_kind_is k MapGo is)) ∙ out));
   }
 
   pub undoes_nothing : (n : ℕ) (es : List (Field × S)) → list_all (λ e. is_blank e.1) es ≡ true → resets_of has made is_blank n es ≡ []
@@ -190,10 +179,20 @@ module _ {S E : Type 0} {has : Kind → Bool} {too_deep : Kind → List Field �
       ap (λ b. map reset (cond b (e ∷ filter (is_undone has is_blank) es) (filter (is_undone has is_blank) es))) (blank_stays (has e.0.kind) (stands_in MapRr e.0.kind) (is_blank e.1) two.0)
       ∙ undoes_nothing n es two.1
 
-  pub rr_in_maps : KeepsInMaps rr_has (map_too_deep has too_deep) (λ k. empty) (map_step has initial step) (map_made has initial made is_blank) (rr_blank is_blank)
-  rr_in_maps = record {
-    first_blank = λ k is. ap (λ es. list_all (λ e. is_blank e.1) es) (no_entries {X = S} {R = field_cmp} empty (empty_none field_cmp S));
-    undoes_none = λ k s t d n is resets blank. ap (step_each has initial step t d) (undoes_nothing n (entries s) blank);
+  -- a map with no field is blank
+  pub none_blank : (drops : Bool) (m : FieldMap S) → map_blank false is_blank m ≡ true → map_blank drops is_blank m ≡ true
+  none_blank false m h = h
+  none_blank true m h = ap (λ es. list_all (λ e. is_blank e.1) es) (no_entries m h)
+
+  -- a reset made on a blank map undoes nothing
+  blank_undone : (drops : Bool) (k : Kind) (s t : FieldMap S) (d : Dot) (n : ℕ) → map_has drops k ≡ true → stands_in MapRr k ≡ true → map_blank drops is_blank s ≡ true → map_step has initial step t d (map_made has initial made is_blank k s [] act.Reset n) ≡ t
+  blank_undone false k s t d n is resets blank = absurd (true≢false (never_reset k MapGo is refl resets))
+  blank_undone true k s t d n is resets blank = ap (step_each has initial step t d) (undoes_nothing n (entries s) blank)
+
+  pub map_in_maps : (drops : Bool) → KeepsInMaps (map_has drops) (map_too_deep has too_deep) (λ k. empty) (map_step has initial step) (map_made has initial made is_blank) (map_blank drops is_blank)
+  map_in_maps drops = record {
+    first_blank = λ k is. none_blank drops empty (empty_none field_cmp S);
+    undoes_none = blank_undone drops;
     shallow = λ k. refl;
-    flat = λ k p is out. absurd (true≢false (sym (ap is_map (same_kind_is k MapRr is)) ∙ out));
+    flat = λ k p is out. absurd (true≢false (sym (of_both is_map true drops k is refl refl) ∙ out));
   }

@@ -24,13 +24,13 @@ use Rattle.crdt_core.specs.FieldOrder.{field_cmp, field_ties, same_field_is, sam
 use Rattle.crdt_core.specs.MapLists.{IsDistinct, distinct_entries}
 use Rattle.crdt_core.specs.Members.{In}
 use Rattle.crdt_maps.specs.declared.effect.MapEffect.{MapEffect}
-use Rattle.crdt_maps.specs.Maps.{FieldMap, at, go_has, rr_has, listed, map_step, is_undone, resets_of, reset_by, map_made, map_too_deep, map_names, go_blank, rr_blank}
+use Rattle.crdt_maps.specs.Maps.{FieldMap, at, map_has, listed, map_step, is_undone, resets_of, reset_by, map_made, map_too_deep, map_names, map_blank}
 use Rattle.crdt_maps.specs.Meaning.{of_field, updated}
 use Rattle.crdt_maps.specs.FieldSteps.{found}
 use Rattle.crdt_maps.specs.FieldHistory.{history_of_field, fits_of_field}
 use Rattle.crdt_maps.specs.FieldFold.{outer}
 use Rattle.crdt_maps.specs.Presence.{among, may_stand, stands_updated}
-use Rattle.crdt_maps.specs.MapLaws.{state_at, all_outer, rr_own, undoes_nothing}
+use Rattle.crdt_maps.specs.MapLaws.{state_at, all_outer, own, undoes_nothing}
 
 -- each effect of a field that an effect of a map lists names an update
 abbrev pub EachNames : {E : Type 0} → (E → Dot → Bool) → MapEffect E → Type 0
@@ -80,7 +80,7 @@ module _ {S E : Type 0} {has : Kind → Bool} {too_deep : Kind → List Field �
   abbrev Names : Kind → ℕ → FieldMap S → Type 0
   Names k n m = (d : Dot) × (map_names has names (map_made has initial made is_blank k m [] act.Reset n) d ≡ true)
 
-  module _ (k : Kind) (is : rr_has k ≡ true) (us : List Update) (n : ℕ) (h : IsHistory us) (fit : all_fit (map_too_deep has too_deep) k us ≡ true) where
+  module _ (k : Kind) (is : map_has true k ≡ true) (us : List Update) (n : ℕ) (h : IsHistory us) (fit : all_fit (map_too_deep has too_deep) k us ≡ true) where
     abbrev whole : FieldMap S
     whole = outer owed k (λ d. true) us
 
@@ -90,15 +90,15 @@ module _ {S E : Type 0} {has : Kind → Bool} {too_deep : Kind → List Field �
         let up : among f (updated has us) ≡ true = sym (stands_updated owed k f us) ∙ ap is_some there in
         let may = may_stand has too_deep k f us fit up in
         let stands : stands_in MapRr f.kind ≡ true = sym (ap (λ l. stands_in l f.kind) (same_kind_is k MapRr is)) ∙ may.1 in
-        let same : s ≡ state_after (initial f.kind) step (made_by made f.kind) (of_field f us) = sym (ap (λ o. unwrap_or o (initial f.kind)) there) ∙ state_at inner owed k (rr_own inner owed k is) us fit f up in
-        let d = fields.some_left f.kind (of_field f us) n may.0 stands (history_of_field f us h) (fits_of_field has too_deep owed.shallow k f (rr_own inner owed k is f may.1) us fit) (sym (ap is_blank same) ∙ left) in
+        let same : s ≡ state_after (initial f.kind) step (made_by made f.kind) (of_field f us) = sym (ap (λ o. unwrap_or o (initial f.kind)) there) ∙ state_at inner owed k (own inner owed true k is) us fit f up in
+        let d = fields.some_left f.kind (of_field f us) n may.0 stands (history_of_field f us h) (fits_of_field has too_deep owed.shallow k f (own inner owed true k is f may.1) us fit) (sym (ap is_blank same) ∙ left) in
         (may.0, stands, (d.0, ap (λ t. names (made f.kind t [] act.Reset n) d.0) same ∙ d.1))
 
     entry_at : (e : Field × S) → In e (entries whole) → get whole e.0 ≡ Some e.1
     entry_at e i = get-entries whole e.0 ∙ found_entry (entries whole) (distinct_entries whole) e i
 
     -- a map that isn't blank has a field that isn't
-    left_of_field : rr_blank is_blank whole ≡ false → Names k n whole
+    left_of_field : map_blank true is_blank whole ≡ false → Names k n whole
     left_of_field left =
         let w = not_all (λ e. is_blank e.1) (entries whole) left in
         let l = left_at w.0.0 w.0.1 (entry_at w.0 w.1) w.2 in
@@ -128,17 +128,15 @@ module _ {S E : Type 0} {has : Kind → Bool} {too_deep : Kind → List Field �
     acts_name _ x i = absurd i
 
   -- what a drop or a reset lists names an update, field by field
-  pub each_names : (k : Kind) (us : List Update) (a : Act) (n : ℕ) → rr_has k ≡ true → IsHistory us → all_fit (map_too_deep has too_deep) k us ≡ true
+  pub each_names : (k : Kind) (us : List Update) (a : Act) (n : ℕ) → map_has true k ≡ true → IsHistory us → all_fit (map_too_deep has too_deep) k us ≡ true
       → EachNames names (map_made has initial made is_blank k (state_after empty (map_step has initial step) (made_by (map_made has initial made is_blank) k) us) [] a n)
   each_names k us a n is h fit x =
-      subst (λ m. In x (resets_of has made is_blank n (reset_by initial m a)) → NamesOne x) (all_outer inner owed k (rr_own inner owed k is) us) (acts_name k is us n h fit a x)
+      subst (λ m. In x (resets_of has made is_blank n (reset_by initial m a)) → NamesOne x) (all_outer inner owed k (own inner owed true k is) us) (acts_name k is us n h fit a x)
 
-  pub rr_resets : ResetsWhatIsLeft rr_has (map_too_deep has too_deep) (λ k. empty) (map_step has initial step) (map_made has initial made is_blank) (rr_blank is_blank) (map_names has names)
-  rr_resets = record {
+  pub map_resets : (drops : Bool) → ResetsWhatIsLeft (map_has drops) (map_too_deep has too_deep) (λ k. empty) (map_step has initial step) (map_made has initial made is_blank) (map_blank drops is_blank) (map_names has names)
+  map_resets false = never_resets MapGo refl
+  map_resets true = record {
     none_left = λ k s n d is resets blank. ap (list_any (names_at d)) (undoes_nothing inner owed n (entries s) blank);
     some_left = λ k us n is resets h fit left.
-        subst (λ m. rr_blank is_blank m ≡ false → Names k n m) (all_outer inner owed k (rr_own inner owed k is) us) (left_of_field k is us n h fit) left;
+        subst (λ m. map_blank true is_blank m ≡ false → Names k n m) (all_outer inner owed k (own inner owed true k is) us) (left_of_field k is us n h fit) left;
   }
-
-  pub go_resets : ResetsWhatIsLeft go_has (map_too_deep has too_deep) (λ k. empty) (map_step has initial step) (map_made has initial made is_blank) go_blank (map_names has names)
-  go_resets = never_resets MapGo refl

@@ -20,11 +20,12 @@ use Rattle.crdt_maps.specs.declared.effect.MapEffect.TheVariants.{At, Resets}
 abbrev pub FieldMap : Type 0 → Type 0
 FieldMap S = FinMap field_cmp S
 
-abbrev pub go_has : Kind → Bool
-go_has k = same_kind k MapGo
+-- the kind of the maps whose fields can be dropped, or stay
+abbrev pub map_kind : Bool → Kind
+map_kind drops = cond drops MapRr MapGo
 
-abbrev pub rr_has : Kind → Bool
-rr_has k = same_kind k MapRr
+abbrev pub map_has : Bool → Kind → Bool
+map_has drops k = same_kind k (map_kind drops)
 
 -- the state of a field, that of no update where it has none
 abbrev pub at : {S : Type 0} → (Kind → S) → FieldMap S → Field → S
@@ -103,20 +104,17 @@ empty_step (Value-F.Fields ms) = has_none ms
 abbrev pub is_empty : Value → Bool
 is_empty = fold-Value Bool empty_step
 
--- those whose value isn't empty
-abbrev pub shown : List (Field × Value) → List (Field × Value)
-shown ms = filter (λ m. not (is_empty m.1)) ms
+-- whether a field with this value is shown: where fields can be dropped, only if the value isn't empty
+abbrev pub is_shown : Bool → Value → Bool
+is_shown drops v = not (drops && is_empty v)
 
-abbrev pub go_value : {S : Type 0} → (S → Value) → FieldMap S → Value
-go_value value_of m = Fields (members value_of m)
+abbrev pub shown : Bool → List (Field × Value) → List (Field × Value)
+shown drops ms = filter (λ m. is_shown drops m.1) ms
 
-abbrev pub rr_value : {S : Type 0} → (S → Value) → FieldMap S → Value
-rr_value value_of m = Fields (shown (members value_of m))
+abbrev pub map_value : {S : Type 0} → Bool → (S → Value) → FieldMap S → Value
+map_value drops value_of m = Fields (shown drops (members value_of m))
 
--- no field was updated
-abbrev pub go_blank : {S : Type 0} → FieldMap S → Bool
-go_blank m = len m == 0
-
--- nothing is left of any field
-abbrev pub rr_blank : {S : Type 0} → (S → Bool) → FieldMap S → Bool
-rr_blank is_blank m = list_all (λ e. is_blank e.1) (entries m)
+-- no field was updated, or, where fields can be dropped, nothing is left of any
+abbrev pub map_blank : {S : Type 0} → Bool → (S → Bool) → FieldMap S → Bool
+map_blank false is_blank m = len m == 0
+map_blank true is_blank m = list_all (λ e. is_blank e.1) (entries m)

@@ -1,5 +1,5 @@
 -- What maps mean.
-use Rattle.std.specs.Prelude.{Bool, cond, List, [], ◌∷◌, map, Option, Some, None}
+use Rattle.std.specs.Prelude.{Bool, true, cond, List, [], ◌∷◌, map, Option, Some, None}
 use Rattle.std.specs.Option.{option_map}
 use Rattle.std.specs.FinMap.{from_entries, entries}
 use Rattle.crdt_core.specs.declared.kind.Kind.{Kind}
@@ -57,4 +57,7 @@ abbrev pub go_meaning : (Kind → Bool) → (Kind → List Update → Value) →
 go_meaning has meaning k us = Fields (meanings has meaning us)
 
 abbrev pub rr_meaning : (Kind → Bool) → (Kind → List Update → Value) → Kind → List Update → Value
-rr_meaning has meaning k us = Fields (shown (meanings has meaning us))
+rr_meaning has meaning k us = Fields (shown true (meanings has meaning us))
+
+abbrev pub map_meaning : Bool → (Kind → Bool) → (Kind → List Update → Value) → Kind → List Update → Value
+map_meaning drops = cond drops rr_meaning go_meaning

@@ -25,10 +25,10 @@ use Rattle.crdt_core.specs.ContentsLaws.{ascend_joined}
 use Rattle.crdt_core.specs.EffectForm.{HoldsSpelled, IsReady, reset_tag, begins_with}
 use Rattle.crdt_maps.specs.declared.effect.MapEffect.{MapEffect}
 use Rattle.crdt_maps.specs.declared.effect.MapEffect.TheVariants.{At, Resets}
-use Rattle.crdt_maps.specs.Maps.{FieldMap, at, go_has, rr_has, is_undone, resets_of, reset_by, map_made, map_too_deep, map_holds}
+use Rattle.crdt_maps.specs.Maps.{FieldMap, at, map_kind, map_has, is_undone, resets_of, reset_by, map_made, map_too_deep, map_holds}
 use Rattle.crdt_maps.specs.FieldHistory.{outer_fits, enters, own_act}
 use Rattle.crdt_maps.specs.MapSteps.{some_found, held_here}
-use Rattle.crdt_maps.specs.EffectForm.{may_stand, entry_below, entry_contents, go_can_put, go_contents, go_spelling, rr_can_put, rr_contents, rr_spelling, is_of_map}
+use Rattle.crdt_maps.specs.EffectForm.{may_stand, entry_below, entry_contents, map_can_put, map_contents, map_spelling, is_of_map}
 
 -- an effect of a field that can be put, whose sets of updates ascend
 abbrev pub is_ready_at : {E : Type 0} → (Kind → E → Bool) → (E → Bool) → (E → List Content) → Kind → E → Bool
@@ -149,16 +149,13 @@ module _ {S E : Type 0} (has : Kind → Bool) (initial : Kind → S) (made : Kin
         → (may_stand k has f.kind && (is_of f.kind (made f.kind (at initial m f) p a n) && can_put (made f.kind (at initial m f) p a n))) ≡ true
     entered_ready k m f p a n fit h = let e = enters has too_deep k f p a fit in and_from _ _ (and_from _ _ e.stands e.known) h
 
-    go_at_ready : (m : FieldMap S) (p : List Field) (a : Act) (n : ℕ) → outer_fits has too_deep kinds.MapGo p a ≡ true → parts_ready is_of can_put contents spelling (effect kinds.MapGo m p a n) ≡ true
-        → IsReady is_of_map (go_can_put has is_of can_put) (go_contents contents) (go_spelling spelling) kinds.MapGo p a (effect kinds.MapGo m p a n)
-    go_at_ready m [] a n fit h = absurd (false≢true (own_act has too_deep kinds.MapGo a fit))
-    go_at_ready m (f ∷ p) a n fit h =
-        let two = and_parts _ (sets_ascend (contents (made f.kind (at initial m f) p a n))) h in
-        record { kind = refl; fit = entered_ready kinds.MapGo m f p a n fit two.0; sets = two.1; opened = λ asked. absurd (false≢true asked) }
+    abbrev Ready : Bool → Kind → List Field → Act → MapEffect E → Type 0
+    Ready drops k p a e = IsReady is_of_map (map_can_put drops has is_of can_put spelling) (map_contents contents) (map_spelling drops spelling) k p a e
 
-    rr_at_ready : (m : FieldMap S) (p : List Field) (a : Act) (n : ℕ) → outer_fits has too_deep kinds.MapRr p a ≡ true → parts_ready is_of can_put contents spelling (effect kinds.MapRr m p a n) ≡ true
-        → IsReady is_of_map (rr_can_put has is_of can_put spelling) (rr_contents contents) (rr_spelling spelling) kinds.MapRr p a (effect kinds.MapRr m p a n)
-    rr_at_ready m [] a n fit h =
+    at_ready : (drops : Bool) (m : FieldMap S) (p : List Field) (a : Act) (n : ℕ) → outer_fits has too_deep (map_kind drops) p a ≡ true → parts_ready is_of can_put contents spelling (effect (map_kind drops) m p a n) ≡ true
+        → Ready drops (map_kind drops) p a (effect (map_kind drops) m p a n)
+    at_ready false m [] a n fit h = absurd (false≢true (own_act has too_deep kinds.MapGo a fit))
+    at_ready true m [] a n fit h =
         let es = reset_by initial m a in
         let ready = resets_ready is_of can_put contents spelling (resets n es) h in
         record {
@@ -167,25 +164,16 @@ module _ {S E : Type 0} (has : Kind → Bool) (initial : Kind → S) (made : Kin
           sets = ready.1;
           opened = λ asked. refl;
         }
-    rr_at_ready m (f ∷ p) a n fit h =
+    at_ready drops m (f ∷ p) a n fit h =
         let two = and_parts _ (sets_ascend (contents (made f.kind (at initial m f) p a n))) h in
-        record { kind = refl; fit = entered_ready kinds.MapRr m f p a n fit two.0; sets = two.1; opened = λ asked. absurd (false≢true asked) }
+        record { kind = refl; fit = entered_ready (map_kind drops) m f p a n fit two.0; sets = two.1; opened = λ asked. absurd (false≢true asked) }
 
-    abbrev GoReady : Kind → FieldMap S → List Field → Act → ℕ → Type 0
-    GoReady k m p a n = outer_fits has too_deep k p a ≡ true → parts_ready is_of can_put contents spelling (effect k m p a n) ≡ true → IsReady is_of_map (go_can_put has is_of can_put) (go_contents contents) (go_spelling spelling) k p a (effect k m p a n)
-
-    abbrev RrReady : Kind → FieldMap S → List Field → Act → ℕ → Type 0
-    RrReady k m p a n = outer_fits has too_deep k p a ≡ true → parts_ready is_of can_put contents spelling (effect k m p a n) ≡ true → IsReady is_of_map (rr_can_put has is_of can_put spelling) (rr_contents contents) (rr_spelling spelling) k p a (effect k m p a n)
+    abbrev IsReadyAt : Bool → Kind → FieldMap S → List Field → Act → ℕ → Type 0
+    IsReadyAt drops k m p a n = outer_fits has too_deep k p a ≡ true → parts_ready is_of can_put contents spelling (effect k m p a n) ≡ true → Ready drops k p a (effect k m p a n)
 
     -- what is generated of a map can be put
-    pub go_ready : (k : Kind) → go_has k ≡ true → (m : FieldMap S) (p : List Field) (a : Act) (n : ℕ) → fits k p a ≡ true → map_too_deep has too_deep k p ≡ false → (e : MapEffect E) → e ≡ effect k m p a n → parts_ready is_of can_put contents spelling e ≡ true
-        → IsReady is_of_map (go_can_put has is_of can_put) (go_contents contents) (go_spelling spelling) k p a e
-    go_ready k is m p a n fit shallow e same h =
-        subst (IsReady is_of_map (go_can_put has is_of can_put) (go_contents contents) (go_spelling spelling) k p a) (sym same)
-        (subst (λ l. GoReady l m p a n) (sym (same_kind_is k kinds.MapGo is)) (go_at_ready m p a n) (and_from _ _ fit (ap not shallow)) (ap (parts_ready is_of can_put contents spelling) (sym same) ∙ h))
-
-    pub rr_ready : (k : Kind) → rr_has k ≡ true → (m : FieldMap S) (p : List Field) (a : Act) (n : ℕ) → fits k p a ≡ true → map_too_deep has too_deep k p ≡ false → (e : MapEffect E) → e ≡ effect k m p a n → parts_ready is_of can_put contents spelling e ≡ true
-        → IsReady is_of_map (rr_can_put has is_of can_put spelling) (rr_contents contents) (rr_spelling spelling) k p a e
-    rr_ready k is m p a n fit shallow e same h =
-        subst (IsReady is_of_map (rr_can_put has is_of can_put spelling) (rr_contents contents) (rr_spelling spelling) k p a) (sym same)
-        (subst (λ l. RrReady l m p a n) (sym (same_kind_is k kinds.MapRr is)) (rr_at_ready m p a n) (and_from _ _ fit (ap not shallow)) (ap (parts_ready is_of can_put contents spelling) (sym same) ∙ h))
+    pub map_ready : (drops : Bool) (k : Kind) → map_has drops k ≡ true → (m : FieldMap S) (p : List Field) (a : Act) (n : ℕ) → fits k p a ≡ true → map_too_deep has too_deep k p ≡ false → (e : MapEffect E) → e ≡ effect k m p a n → parts_ready is_of can_put contents spelling e ≡ true
+        → IsReady is_of_map (map_can_put drops has is_of can_put spelling) (map_contents contents) (map_spelling drops spelling) k p a e
+    map_ready drops k is m p a n fit shallow e same h =
+        subst (Ready drops k p a) (sym same)
+        (subst (λ l. IsReadyAt drops l m p a n) (sym (same_kind_is k (map_kind drops) is)) (at_ready drops m p a n) (and_from _ _ fit (ap not shallow)) (ap (parts_ready is_of can_put contents spelling) (sym same) ∙ h))

@@ -2,11 +2,12 @@ ghost use Rattle.std.specs.Prelude.{◌≡◌, ◌≤◌, ◌++◌, true, length
 ghost use Rattle.field_codec.specs.Spelling.{number, list, are_members, is_list, Keeps};
 ghost use Rattle.field_codec.specs.Reading.{Gives, list_at};
 ghost use Rattle.crdt_core.specs.declared.kind.Kind.TheVariants.{MapRr};
-ghost use Rattle.crdt_maps.specs.EffectForm.{may_stand, entry, entry_below, can_put_reset, is_reset_spelled, reset_at, go_can_put, go_is_spelled, go_spelling, go_at, go_form, rr_can_put, rr_is_spelled, rr_spelling, rr_at, rr_form};
+ghost use Rattle.crdt_maps.specs.EffectForm.{may_stand, entry, entry_below, can_put_reset, is_reset_spelled, reset_at, map_can_put, map_is_spelled, map_spelling, map_at, map_form};
 
 use crate::entry_form::{ResetForm, put_entry, take_entry};
+use crate::values::kind_of;
 use crate::{Boxed, MapEffect};
-use crdt_core::{Crdt, Field, Kind, take_small};
+use crdt_core::{Crdt, Field, take_small};
 use field_codec::{Form, ListOf, TakeError, put_list, put_u8, take_list};
 use std::alloc::{AllocError, Global};
 use std::marker::PhantomData;
@@ -17,83 +18,23 @@ const AT: u8 = 0;
 /// The mark of a reset or a drop.
 const RESETS: u8 = 1;
 
-/// The form of the effects of a map whose fields stay.
+/// The form of the effects of a map, by whether its fields can be dropped.
 #[derive(Drop)]
-pub(crate) struct GoForm<I: Crdt> {
+pub(crate) struct MapForm<I: Crdt> {
+    pub(crate) drops: bool,
     pub(crate) inner: PhantomData<I>,
 }
 
-impl<I: Crdt> Form for GoForm<I> {
+impl<I: Crdt> Form for MapForm<I> {
     type Value = MapEffect<I::Effect>;
 
-    ghost fits = { λ _ e. go_can_put I.has I.is_of I.can_put e };
+    ghost fits = { λ f e. map_can_put f.drops I.has I.is_of I.can_put I.spelling e };
 
-    ghost is_spelled = { λ _ e. go_is_spelled I.has I.is_of I.is_spelled e };
+    ghost is_spelled = { λ f e. map_is_spelled f.drops I.has I.is_of I.is_spelled I.spelling e };
 
-    ghost spelling = { λ _ e. go_spelling I.spelling e };
+    ghost spelling = { λ f e. map_spelling f.drops I.spelling e };
 
-    ghost reading = { λ _ bytes at. go_at I.has I.reading bytes at };
-
-    ghost follows = { λ _ before e. true };
-
-    fn put(&self, out: &mut Vec<u8>, value: &MapEffect<I::Effect>) -> Result<(), AllocError> {
-        match value {
-            MapEffect::At(field, effect) => {
-                put_u8(out, AT)?;
-                put_entry::<I>(out, field, effect.get())
-            }
-            MapEffect::Resets(_) => unreachable!(),
-        }
-    }
-
-    fn take(
-        &self,
-        alloc: Global,
-        bytes: &[u8],
-        at: usize,
-    ) -> Result<(MapEffect<I::Effect>, usize), TakeError> {
-        take_go::<I>(alloc, bytes, at)
-    }
-
-    fn may_follow(&self, before: &MapEffect<I::Effect>, value: &MapEffect<I::Effect>) -> bool {
-        true
-    }
-
-    ghost laws = { λ _. go_form I.spells };
-}
-
-#[tactic(auto, unfolding(crate::specs::EffectForm::go_at, crate::specs::EffectForm::go_rest_at))]
-fn take_go<I: Crdt>(
-    alloc: Global,
-    bytes: &[u8],
-    at: usize,
-) -> Result<(MapEffect<I::Effect>, usize), TakeError>
-    requires { at ≤ length bytes.now }
-    ensures answer { Gives result (go_at I.has I.reading bytes.now at) }
-    ensures within { IfOk result (λ x. x.1 ≤ length bytes.now) }
-{
-    let (_, entry_at) = take_small(bytes, at, AT, AT)?;
-    let (entry, end) = take_entry::<I>(alloc, Kind::MapGo, bytes, entry_at)?;
-    let (field, effect) = entry;
-    Ok((MapEffect::At(field, Boxed::new(alloc, effect)?), end))
-}
-
-/// The form of the effects of a map whose fields can be dropped.
-#[derive(Drop)]
-pub(crate) struct RrForm<I: Crdt> {
-    pub(crate) inner: PhantomData<I>,
-}
-
-impl<I: Crdt> Form for RrForm<I> {
-    type Value = MapEffect<I::Effect>;
-
-    ghost fits = { λ _ e. rr_can_put I.has I.is_of I.can_put I.spelling e };
-
-    ghost is_spelled = { λ _ e. rr_is_spelled I.has I.is_of I.is_spelled I.spelling e };
-
-    ghost spelling = { λ _ e. rr_spelling I.spelling e };
-
-    ghost reading = { λ _ bytes at. rr_at I.has I.reading bytes at };
+    ghost reading = { λ f bytes at. map_at f.drops I.has I.reading bytes at };
 
     ghost follows = { λ _ before e. true };
 
@@ -113,14 +54,14 @@ impl<I: Crdt> Form for RrForm<I> {
         bytes: &[u8],
         at: usize,
     ) -> Result<(MapEffect<I::Effect>, usize), TakeError> {
-        take_rr::<I>(alloc, bytes, at)
+        take_map::<I>(alloc, self.drops, bytes, at)
     }
 
     fn may_follow(&self, before: &MapEffect<I::Effect>, value: &MapEffect<I::Effect>) -> bool {
         true
     }
 
-    ghost laws = { λ _. rr_form I.spells };
+    ghost laws = { λ f. map_form I.spells f.drops };
 }
 
 fn put_resets<I: Crdt>(out: &mut Vec<u8>, resets: &[(Field, I::Effect)]) -> Result<(), AllocError>
@@ -147,19 +88,20 @@ fn take_resets<I: Crdt>(
     take_list(&form, alloc, bytes, at)
 }
 
-#[tactic(auto, unfolding(crate::specs::EffectForm::rr_at, crate::specs::EffectForm::rr_rest_at))]
-fn take_rr<I: Crdt>(
+#[tactic(auto, unfolding(crate::specs::EffectForm::map_at, crate::specs::EffectForm::map_rest_at))]
+fn take_map<I: Crdt>(
     alloc: Global,
+    drops: bool,
     bytes: &[u8],
     at: usize,
 ) -> Result<(MapEffect<I::Effect>, usize), TakeError>
     requires { at ≤ length bytes.now }
-    ensures answer { Gives result (rr_at I.has I.reading bytes.now at) }
+    ensures answer { Gives result (map_at drops I.has I.reading bytes.now at) }
     ensures within { IfOk result (λ x. x.1 ≤ length bytes.now) }
 {
-    let (mark, rest_at) = take_small(bytes, at, AT, RESETS)?;
+    let (mark, rest_at) = take_small(bytes, at, AT, if drops { RESETS } else { AT })?;
     if mark == AT {
-        let (entry, end) = take_entry::<I>(alloc, Kind::MapRr, bytes, rest_at)?;
+        let (entry, end) = take_entry::<I>(alloc, kind_of(drops), bytes, rest_at)?;
         let (field, effect) = entry;
         return Ok((MapEffect::At(field, Boxed::new(alloc, effect)?), end));
     }

@@ -9,8 +9,7 @@ mod entry_form;
 mod fields;
 mod laws;
 mod made;
-mod map_go;
-mod map_rr;
+mod map_of;
 mod steps;
 mod values;
 
@@ -18,5 +17,4 @@ pub use boxed::Boxed;
 pub use effect::MapEffect;
 pub use fields::Fields;
 pub use laws::law_resets;
-pub use map_go::MapGo;
-pub use map_rr::MapRr;
+pub use map_of::{MapGo, MapOf, MapRr};

@@ -1,46 +1,34 @@
-ghost use Rattle.std.specs.Prelude.{◌≡◌, ◌++◌, ◌∷◌, [], IfOk};
+ghost use Rattle.std.specs.Prelude.{◌≡◌, ◌++◌, ◌∷◌, [], true, IfOk};
 ghost use Rattle.crdt_maps.specs.Maps as spec;
 
 use crate::Fields;
-use crdt_core::{Crdt, Field, Value};
+use crdt_core::{Crdt, Field, Kind, Value};
 use std::alloc::{AllocError, Global};
 use std::collections::LinkedList;
 
-/// The fields with their values, in order.
-///
-/// # Errors
-///
-/// `AllocError` where memory runs out.
-pub fn members<I: Crdt>(
-    alloc: Global,
-    fields: &Fields<I::State>,
-) -> Result<LinkedList<(Field, Value)>, AllocError>
-    ensures { IfOk result (λ l. l ≡ spec.members I.value_of fields.now) }
+/// The kind of the maps whose fields can be dropped, or stay.
+pub(crate) fn kind_of(drops: bool) -> Kind
+    ensures { result ≡ spec.map_kind drops }
 {
-    let mut all = LinkedList::new(alloc);
-    for (field, state) in fields.iter() {
-        let name = field.copy(alloc)?;
-        let value = I::value(alloc, state)?;
-        all.push_back((name, value))?;
-    }
-    Ok(all)
+    if drops { Kind::MapRr } else { Kind::MapGo }
 }
 
-/// The fields whose values aren't empty, with these, in order.
+/// The fields with their values, in order: where fields can be dropped, only those whose values aren't empty.
 ///
 /// # Errors
 ///
 /// `AllocError` where memory runs out.
 pub fn shown<I: Crdt>(
     alloc: Global,
+    drops: bool,
     fields: &Fields<I::State>,
 ) -> Result<LinkedList<(Field, Value)>, AllocError>
-    ensures { IfOk result (λ l. l ≡ spec.shown (spec.members I.value_of fields.now)) }
+    ensures { IfOk result (λ l. l ≡ spec.shown drops (spec.members I.value_of fields.now)) }
 {
     let mut all = LinkedList::new(alloc);
     for (field, state) in fields.iter() {
         let value = I::value(alloc, state)?;
-        if !is_empty(&value) {
+        if !(drops && is_empty(&value)) {
             all.push_back((field.copy(alloc)?, value))?;
         }
     }
@@ -62,7 +50,7 @@ fn is_empty(value: &Value) -> bool
 
 /// Whether nothing is left of any field.
 pub fn all_blank<I: Crdt>(fields: &Fields<I::State>) -> bool
-    ensures { result ≡ spec.rr_blank I.is_blank fields.now }
+    ensures { result ≡ spec.map_blank true I.is_blank fields.now }
 {
     for (_field, state) in fields.iter() {
         if !I::is_blank(state) {

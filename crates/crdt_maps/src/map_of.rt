@@ -1,15 +1,15 @@
 ghost use Rattle.std.specs.Prelude.{◌≡◌, IfOk};
 ghost use Rattle.std.specs.FinMap.{empty};
-ghost use Rattle.crdt_maps.specs.Maps.{rr_has, map_step, map_made, map_stamp, map_too_deep, map_names, map_holds, rr_value, rr_blank};
-ghost use Rattle.crdt_maps.specs.Meaning.{rr_meaning};
-ghost use Rattle.crdt_maps.specs.EffectForm.{is_of_map, rr_can_put, rr_is_spelled, rr_contents, rr_spelling, rr_at, rr_spells, rr_stands};
-ghost use Rattle.crdt_maps.specs.MapLaws.{rr_law, rr_in_maps};
-ghost use Rattle.crdt_maps.specs.MapResets.{rr_resets};
+ghost use Rattle.crdt_maps.specs.Maps.{map_has, map_step, map_made, map_stamp, map_too_deep, map_names, map_holds, map_value, map_blank};
+ghost use Rattle.crdt_maps.specs.Meaning.{map_meaning};
+ghost use Rattle.crdt_maps.specs.EffectForm.{is_of_map, map_can_put, map_is_spelled, map_contents, map_spelling, map_at, map_spells, map_stands};
+ghost use Rattle.crdt_maps.specs.MapLaws.{map_law, map_in_maps};
+ghost use Rattle.crdt_maps.specs.MapResets.{map_resets};
 
-use crate::effect_form::RrForm;
+use crate::effect_form::MapForm;
 use crate::made::{effect_of, leads_too_deep};
 use crate::steps::apply_effect;
-use crate::values::{all_blank, shown};
+use crate::values::{all_blank, kind_of, shown};
 use crate::{Fields, MapEffect, copies};
 use crdt_core::{Act, Crdt, Field, GenError, Kind, Op, Value, fits_at, reads_state};
 use field_codec::{Form, TakeError, put_whole};
@@ -17,17 +17,23 @@ use site_vector::Dot;
 use std::alloc::{AllocError, Global};
 use std::marker::PhantomData;
 
+/// The map whose fields stay: it shows each field that was updated.
+pub type MapGo<I> = MapOf<false, I>;
+
 /// The map whose fields can be dropped: it shows each field whose value isn't empty.
-pub struct MapRr<I: Crdt> {
+pub type MapRr<I> = MapOf<true, I>;
+
+/// A map, by whether its fields can be dropped.
+pub struct MapOf<const DROPS: bool, I: Crdt> {
     inner: PhantomData<I>,
 }
 
-impl<I: Crdt> Crdt for MapRr<I> {
+impl<const DROPS: bool, I: Crdt> Crdt for MapOf<DROPS, I> {
     type State = Fields<I::State>;
 
     type Effect = MapEffect<I::Effect>;
 
-    ghost has = { rr_has };
+    ghost has = { map_has DROPS };
 
     ghost too_deep = { map_too_deep I.has I.too_deep };
 
@@ -37,42 +43,42 @@ impl<I: Crdt> Crdt for MapRr<I> {
 
     ghost made = { map_made I.has I.initial I.made I.is_blank };
 
-    ghost value_of = { rr_value I.value_of };
+    ghost value_of = { map_value DROPS I.value_of };
 
     ghost stamp_of = { map_stamp I.stamp_of };
 
-    ghost meaning = { rr_meaning I.has I.meaning };
+    ghost meaning = { map_meaning DROPS I.has I.meaning };
 
     ghost names = { map_names I.has I.names };
 
     ghost holds = { map_holds I.holds };
 
-    ghost laws = { rr_law I.laws I.in_maps };
+    ghost laws = { map_law I.laws I.in_maps DROPS };
 
     ghost is_of = { is_of_map };
 
-    ghost can_put = { rr_can_put I.has I.is_of I.can_put I.spelling };
+    ghost can_put = { map_can_put DROPS I.has I.is_of I.can_put I.spelling };
 
-    ghost is_spelled = { rr_is_spelled I.has I.is_of I.is_spelled I.spelling };
+    ghost is_spelled = { map_is_spelled DROPS I.has I.is_of I.is_spelled I.spelling };
 
-    ghost contents = { rr_contents I.contents };
+    ghost contents = { map_contents I.contents };
 
-    ghost spelling = { rr_spelling I.spelling };
+    ghost spelling = { map_spelling DROPS I.spelling };
 
-    ghost reading = { λ k. rr_at I.has I.reading };
+    ghost reading = { λ k. map_at DROPS I.has I.reading };
 
-    ghost spells = { rr_spells I.spells rr_has };
+    ghost spells = { map_spells I.spells DROPS (map_has DROPS) };
 
-    ghost stands = { rr_stands I.spells I.stands };
+    ghost stands = { map_stands I.spells I.stands DROPS };
 
-    ghost is_blank = { rr_blank I.is_blank };
+    ghost is_blank = { map_blank DROPS I.is_blank };
 
-    ghost in_maps = { rr_in_maps I.laws I.in_maps };
+    ghost in_maps = { map_in_maps I.laws I.in_maps DROPS };
 
-    ghost resets = { rr_resets I.laws I.in_maps I.resets };
+    ghost resets = { map_resets I.laws I.in_maps I.resets DROPS };
 
     fn has(kind: Kind) -> bool {
-        kind == Kind::MapRr
+        kind == kind_of(DROPS)
     }
 
     fn empty(alloc: Global, kind: Kind) -> Result<Fields<I::State>, AllocError> {
@@ -88,7 +94,11 @@ impl<I: Crdt> Crdt for MapRr<I> {
     }
 
     fn is_blank(state: &Fields<I::State>) -> bool {
-        all_blank::<I>(state)
+        if DROPS {
+            all_blank::<I>(state)
+        } else {
+            state.is_empty()
+        }
     }
 
     fn generate(
@@ -136,11 +146,14 @@ impl<I: Crdt> Crdt for MapRr<I> {
     }
 
     fn value(alloc: Global, state: &Fields<I::State>) -> Result<Value, AllocError> {
-        Ok(Value::Fields(shown::<I>(alloc, state)?))
+        Ok(Value::Fields(shown::<I>(alloc, DROPS, state)?))
     }
 
     fn put_effect(out: &mut Vec<u8>, effect: &MapEffect<I::Effect>) -> Result<(), AllocError> {
-        let form: RrForm<I> = RrForm { inner: PhantomData };
+        let form: MapForm<I> = MapForm {
+            drops: DROPS,
+            inner: PhantomData,
+        };
         put_whole(&form, out, effect)
     }
 
@@ -150,7 +163,10 @@ impl<I: Crdt> Crdt for MapRr<I> {
         bytes: &[u8],
         at: usize,
     ) -> Result<(MapEffect<I::Effect>, usize), TakeError> {
-        let form: RrForm<I> = RrForm { inner: PhantomData };
+        let form: MapForm<I> = MapForm {
+            drops: DROPS,
+            inner: PhantomData,
+        };
         form.take(alloc, bytes, at)
     }
 }

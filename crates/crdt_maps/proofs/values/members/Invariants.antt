@@ -1,6 +1,0 @@
-use Rattle.std.proofs.Common.{◌≡◌, ◌++◌, map}
-use Rattle.crdt_maps.specs.Maps.{members}
-use Rattle.crdt_maps.proofs.values.members.Given as goal
-
-abbrev pub invariant-loop-field : goal.invariant-loop-field
-invariant-loop-field g l = let I = g.I.Crdt in l.all ++ map (λ e. (e.0, I.value_of e.1)) l.field-iterator ≡ members I.value_of l.fields
