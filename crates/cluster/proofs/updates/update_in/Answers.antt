@@ -1,19 +1,36 @@
-use Rattle.std.proofs.Common.{List, ◌×◌, ◌∷◌, [], refl, rules, sym, ap, ◌∙◌, subst}
+use Rattle.std.proofs.Common.{◌≡◌, ◌∷◌, [], None, refl, rules, sym, ap, ◌∙◌, subst}
 use Rattle.std.proofs.lemmas.Map.Steps.{set_value_same}
 use Rattle.world_model.specs.declared.command.Command.TheVariants as command
-use Rattle.txn_session.specs.Session.{SessionState}
+use Rattle.world_model.specs.declared.step.Step.TheVariants as step
 use Rattle.site_partitions.specs.Reaches.{types_of}
 use Rattle.cluster.specs.Acts.{Acts, Updates}
+use Rattle.cluster.specs.Live.{session_in}
 use Rattle.cluster.specs.Reached.{AppliesLive}
 use Rattle.cluster.proofs.Applying.{ok_is}
 use Rattle.cluster.proofs.Updating.{update_absent, update_refused, update_applies}
 use Rattle.cluster.proofs.updates.update_in.Goals as goal
 
-pub returns-in-Some-error : goal.returns-in-Some-error
-returns-in-Some-error g c = ?
+pub returns-in-Some-update_refusal : goal.returns-in-Some-update_refusal
+returns-in-Some-update_refusal g c =
+    let same : (c.get_mut.follows.lender c.in-Some.session.now).entries ≡ c.args.sessions.now.entries = search (rules, set_value_same) in
+    subst (λ l. AppliesLive (types_of g.C.Crdt.laws g.C.Crdt.spells g.D.Disk.state) (record { sites = c.args.sites.now; sessions = c.args.sessions.now.entries }) (command.Update c.args.name.now c.args.object.now c.args.op.now) (c.refused.result ∷ []) (record { sites = c.args.sites.now; sessions = l })) (sym same)
+    (update_refused (types_of g.C.Crdt.laws g.C.Crdt.spells g.D.Disk.state) (record { sites = c.args.sites.now; sessions = c.args.sessions.now.entries }) c.args.name.now c.args.object.now c.args.op.now c.requires.shallow (c.refused.result ∷ []) c.in-Some-update_refusal.error (ap (λ l. l ∷ []) c.refused.ensures) c.in-Some.session.now (search rules) (sym c.update_refusal.ensures ∙ c.in-Some-update_refusal.is))
 
 pub returns-in-Ok : goal.returns-in-Ok
-returns-in-Ok g c = ?
+returns-in-Ok g c =
+    let acts : Acts (types_of g.C.Crdt.laws g.C.Crdt.spells g.D.Disk.state) c.args.sites.now c.args.sessions.now.entries c.args.name.now c.update-answer.new.store (c.get_mut.follows.lender c.update-answer.new.self).entries (Updates (types_of g.C.Crdt.laws g.C.Crdt.spells g.D.Disk.state) c.args.sites.now c.update-answer.new.store c.args.object.now c.args.op.now c.in-Ok.step) = record {
+      before = c.in-Some.session.now;
+      is = search rules;
+      after = c.update-answer.new.self;
+      put = record { find = λ who. search rules; count = search rules };
+      same = c.update-answer.ensures.stays;
+      does = λ calls seen holds. (ok_is _ _ _ c.in-Ok.is c.update-answer.ensures.tells, ok_is _ _ _ c.in-Ok.is c.update-answer.ensures.updated, ok_is _ _ _ c.in-Ok.is c.update-answer.ensures.updates calls seen holds);
+    } in
+    update_applies (types_of g.C.Crdt.laws g.C.Crdt.spells g.D.Disk.state) (record { sites = c.args.sites.now; sessions = c.args.sessions.now.entries }) c.args.name.now c.args.object.now c.args.op.now c.update-answer.new.store (c.get_mut.follows.lender c.update-answer.new.self).entries c.in-Ok.step (c.in-Ok.step ∷ []) refl acts (sym c.update_refusal.ensures ∙ c.in_default.is)
 
 pub returns-in-None : goal.returns-in-None
-returns-in-None g c = ?
+returns-in-None g c =
+    let same : c.get_mut.follows.lender-at-none.entries ≡ c.args.sessions.now.entries = search rules in
+    let none : session_in c.args.sessions.now.entries c.args.name.now ≡ None = search rules in
+    subst (λ l. AppliesLive (types_of g.C.Crdt.laws g.C.Crdt.spells g.D.Disk.state) (record { sites = c.args.sites.now; sessions = c.args.sessions.now.entries }) (command.Update c.args.name.now c.args.object.now c.args.op.now) (step.NoSession ∷ []) (record { sites = c.args.sites.now; sessions = l })) (sym same)
+    (update_absent (types_of g.C.Crdt.laws g.C.Crdt.spells g.D.Disk.state) (record { sites = c.args.sites.now; sessions = c.args.sessions.now.entries }) c.args.name.now c.args.object.now c.args.op.now (step.NoSession ∷ []) refl none)

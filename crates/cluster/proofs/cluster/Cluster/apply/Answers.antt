@@ -1,12 +1,12 @@
-use Rattle.std.proofs.Common.{subst}
+use Rattle.std.proofs.Common.{sym, subst}
 use Rattle.disk_core.specs.Fuses.{fused_state}
 use Rattle.site_partitions.specs.Reaches.{types_of}
-use Rattle.cluster.specs.Reached.{Applies, SetsFuseIn}
+use Rattle.cluster.specs.Reached.{Applies, IsReached, SetsFuseIn}
 use Rattle.cluster.proofs.Applying.{none_reached, reached_on}
 use Rattle.cluster.proofs.cluster.Cluster.apply.Goals as goal
 
 pub invariant_of-self : goal.invariant_of-self
-invariant_of-self g c = none_reached (types_of g.C.Crdt.laws g.C.Crdt.spells (fused_state g.D.Disk.state))
+invariant_of-self g c = subst (IsReached (types_of g.C.Crdt.laws g.C.Crdt.spells (fused_state g.D.Disk.state))) (sym c.drop_live.ensures) (none_reached (types_of g.C.Crdt.laws g.C.Crdt.spells (fused_state g.D.Disk.state)))
 
 pub invariant_of-self-else-lacks_memory : goal.invariant_of-self-else-lacks_memory
 invariant_of-self-else-lacks_memory g c = reached_on (types_of g.C.Crdt.laws g.C.Crdt.spells (fused_state g.D.Disk.state)) _ c.answer.new.live c.args.command.now _ c.in-Ok.ensures.applies c.self.invariant
