@@ -208,7 +208,8 @@ fn size_asked(command: &Command) -> Option<(u8, u8)>
     }
 }
 
-/// Makes the disks of a cluster, and the cluster over them.
+/// Makes the disks of a cluster, and the cluster over them. Not inlined: its values would lie in each line's frame.
+#[inline(never)]
 fn make_cluster<M: Disks>(
     alloc: Global,
     cluster: &mut Cluster<Objects, M::Disk>,
