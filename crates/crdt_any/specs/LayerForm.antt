@@ -4,7 +4,7 @@ use Rattle.std.specs.Prelude.{is_some}
 use Rattle.std.proofs.lemmas.Bool.{false≢true}
 use Rattle.field_codec.specs.Reading.{Read, mapped_at}
 use Rattle.field_codec.specs.Lawful.{all_hold, StandInTurn, IsForm, SpellsAll}
-use Rattle.field_codec.specs.SpellsAllLaws.{alike_spells}
+use Rattle.field_codec.proofs.SpellsAllLaws.{alike_spells}
 use Rattle.field_codec.specs.Tagged.{shape_form}
 use Rattle.std.specs.Prelude.{ℤ}
 use Rattle.site_vector.specs.declared.ids.Dot.{Dot}
@@ -22,7 +22,7 @@ use Rattle.crdt_any.specs.declared.effect.LayerEffect.TheVariants as effect
 use Rattle.crdt_core.specs.EffectForm.{SpellsEffects}
 use Rattle.crdt_core.specs.Contents.{Content, pieces_of, have_update}
 use Rattle.crdt_core.specs.Stands.{NamesStand}
-use Rattle.crdt_core.specs.StandsLaws.{names_stand}
+use Rattle.crdt_core.proofs.StandsLaws.{names_stand}
 use Rattle.crdt_counters.specs.CounterPn.{pn_has}
 use Rattle.crdt_counters.specs.CounterFat.{fat_has}
 use Rattle.crdt_counters.specs.EffectForm.{is_amount_number, amount_contents, amount_spelling, amount_at, pn_spells, can_put_fat, fat_contents, is_fat_spelled, fat_spelling, fat_at, fat_spells, fat_all, pn_stands, fat_stands}

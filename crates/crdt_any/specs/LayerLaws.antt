@@ -42,7 +42,7 @@ use Rattle.crdt_core.specs.Stamps.{stamp_due}
 use Rattle.crdt_core.specs.History.{IsHistory, IsStamped, effect_after, state_after}
 use Rattle.crdt_core.specs.Law.{KeepsSteps, KeepsLaw, made_by, all_fit}
 use Rattle.crdt_core.specs.InMaps.{KeepsInMaps}
-use Rattle.crdt_core.specs.Confluence.{confluence}
+use Rattle.crdt_core.proofs.Confluence.{confluence}
 use Rattle.crdt_counters.specs.PnLaw.{pn_law, pn_in_maps}
 use Rattle.crdt_counters.specs.FatLaw.{fat_law, fat_in_maps}
 use Rattle.crdt_sets.specs.GoLaw.{go_law as set_go_law, go_in_maps as set_go_in_maps}

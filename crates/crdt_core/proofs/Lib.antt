@@ -1,5 +1,17 @@
+pub mod Blank
+pub mod Confluence
+pub mod ContentsLaws
 pub mod DotSet
 pub mod FormSteps
+pub mod KeptKinds
+pub mod KeptLaw
+pub mod KeptSteps
+pub mod Live
+pub mod Members
+pub mod Ready
+pub mod ResetsLaws
 pub mod Sorted
+pub mod StandsLaws
 pub mod Trees
 pub mod VectorSteps
+pub mod WinsLaw

@@ -8,7 +8,7 @@ use Rattle.std.proofs.lemmas.Bool.{false≢true}
 use Rattle.field_codec.specs.Spelling.{number, is_number}
 use Rattle.field_codec.specs.Reading.{Read, number_at, checked_at, mapped_at}
 use Rattle.field_codec.specs.Lawful.{all_hold, StandInTurn, IsForm, SpellsAll}
-use Rattle.field_codec.specs.SpellsAllLaws.{alike_spells, behind_spells}
+use Rattle.field_codec.proofs.SpellsAllLaws.{alike_spells, behind_spells}
 use Rattle.field_codec.specs.FormLaws.{number_form, width8, lt_holds, lt_from, le_from, both_true}
 use Rattle.field_codec.specs.Tagged.{tagged_at, tagged_form, shape_form, within_form}
 use Rattle.site_vector.specs.declared.ids.Dot.{Dot}
@@ -17,10 +17,10 @@ use Rattle.crdt_core.specs.DotSet.{has_dot}
 use Rattle.crdt_core.specs.Spelled.{is_between, are_dots, is_dots, dots, dots_at}
 use Rattle.crdt_core.specs.SpelledLaws.{dots_held_form, dots_spell}
 use Rattle.crdt_core.specs.Contents.{Content, Updates, pieces_of, have_update}
-use Rattle.crdt_core.specs.ContentsLaws.{or_none}
+use Rattle.crdt_core.proofs.ContentsLaws.{or_none}
 use Rattle.crdt_core.specs.EffectForm.{SpellsEffects}
 use Rattle.crdt_core.specs.Stands.{NamesStand}
-use Rattle.crdt_core.specs.StandsLaws.{names_stand}
+use Rattle.crdt_core.proofs.StandsLaws.{names_stand}
 use Rattle.crdt_counters.specs.CounterPn.{names_none}
 use Rattle.crdt_counters.specs.CounterFat.{fat_names}
 use Rattle.crdt_counters.specs.declared.counter_fat.FatEffect.{FatEffect}

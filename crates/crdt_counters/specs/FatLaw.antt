@@ -18,12 +18,12 @@ use Rattle.crdt_core.specs.History.{IsHistory, state_after}
 use Rattle.crdt_core.specs.Law.{KeepsSteps, KeepsLaw, made_by}
 use Rattle.crdt_core.specs.InMaps.{KeepsInMaps}
 use Rattle.crdt_core.specs.Resets.{ResetsWhatIsLeft}
-use Rattle.crdt_core.specs.Blank.{without_blank, empty_kept}
-use Rattle.crdt_core.specs.ResetsLaws.{kept_resets}
+use Rattle.crdt_core.proofs.Blank.{without_blank, empty_kept}
+use Rattle.crdt_core.proofs.ResetsLaws.{kept_resets}
 use Rattle.crdt_core.specs.Leaves.{IsLeaf, same_kind_is, no_stamp_due}
-use Rattle.crdt_core.specs.Confluence.{confluence}
+use Rattle.crdt_core.proofs.Confluence.{confluence}
 use Rattle.crdt_core.specs.Kept.{KeptAt, dots_if, is_kept, keeps_none}
-use Rattle.crdt_core.specs.KeptKinds.{pairs, with_pair, kept_keeps_steps, state_entries}
+use Rattle.crdt_core.proofs.KeptKinds.{pairs, with_pair, kept_keeps_steps, state_entries}
 use Rattle.crdt_counters.specs.Meaning.{amount, total_by, total, counter_meaning}
 use Rattle.crdt_counters.specs.Totals.{total_same, counter_orderless}
 use Rattle.crdt_counters.specs.CounterPn.{no_stamp}

@@ -19,10 +19,10 @@ use Rattle.crdt_core.specs.History.{state_after}
 use Rattle.crdt_core.specs.Law.{KeepsSteps, KeepsLaw, made_by, all_fit}
 use Rattle.crdt_core.specs.InMaps.{KeepsInMaps}
 use Rattle.crdt_core.specs.Resets.{ResetsWhatIsLeft}
-use Rattle.crdt_core.specs.Blank.{never_reset}
-use Rattle.crdt_core.specs.ResetsLaws.{never_resets}
+use Rattle.crdt_core.proofs.Blank.{never_reset}
+use Rattle.crdt_core.proofs.ResetsLaws.{never_resets}
 use Rattle.crdt_core.specs.Leaves.{IsLeaf, same_kind_is, first_fits, rest_fits, no_stamp_due}
-use Rattle.crdt_core.specs.Confluence.{confluence}
+use Rattle.crdt_core.proofs.Confluence.{confluence}
 use Rattle.crdt_counters.specs.Meaning.{amount, total, counter_meaning}
 use Rattle.crdt_counters.specs.Totals.{counter_orderless, nothing_wraps}
 use Rattle.crdt_counters.specs.CounterPn.{is_zero, pn_has, pn_step, pn_made, pn_value, no_stamp, names_none, holds_none}

@@ -7,7 +7,7 @@ use Rattle.crdt_core.specs.declared.kind.Kind.{Kind}
 use Rattle.crdt_core.specs.declared.value.Value.TheVariants.{Int}
 use Rattle.crdt_core.specs.Same.{Same}
 use Rattle.crdt_core.specs.Seen.{Update}
-use Rattle.crdt_core.specs.Live.{lives_same}
+use Rattle.crdt_core.proofs.Live.{lives_same}
 use Rattle.crdt_counters.specs.Meaning.{amount, total_by, counter_meaning}
 
 add_last : (a b c : ℤ) → ((a +ℤ b) +ℤ c) ≡ ((a +ℤ c) +ℤ b)

@@ -4,17 +4,17 @@ use Rattle.std.proofs.Common.{sym, arith}
 use Rattle.field_codec.specs.Spelling.{number}
 use Rattle.field_codec.specs.Reading.{Read}
 use Rattle.field_codec.specs.Lawful.{IsForm, SpellsAll}
-use Rattle.field_codec.specs.SpellsAllLaws.{behind_spells, mapped_spells}
+use Rattle.field_codec.proofs.SpellsAllLaws.{behind_spells, mapped_spells}
 use Rattle.site_vector.specs.declared.ids.Dot.{Dot}
 use Rattle.crdt_core.specs.declared.kind.Kind.{Kind}
 use Rattle.crdt_core.specs.DotSet.{has_dot}
 use Rattle.crdt_core.specs.Spelled.{are_dots, is_dots, dots, dots_at}
 use Rattle.crdt_core.specs.SpelledLaws.{marked_at, marked_form, dots_held_form, dots_spell}
 use Rattle.crdt_core.specs.Contents.{Content, Updates, pieces_of}
-use Rattle.crdt_core.specs.ContentsLaws.{or_none}
+use Rattle.crdt_core.proofs.ContentsLaws.{or_none}
 use Rattle.crdt_core.specs.EffectForm.{SpellsEffects}
 use Rattle.crdt_core.specs.Stands.{NamesStand}
-use Rattle.crdt_core.specs.StandsLaws.{names_stand}
+use Rattle.crdt_core.proofs.StandsLaws.{names_stand}
 use Rattle.crdt_flags.specs.Flags.{flag_out, flag_names}
 use Rattle.crdt_flags.specs.declared.effect.FlagEffect.{FlagEffect}
 use Rattle.crdt_flags.specs.declared.effect.FlagEffect.TheVariants.{Enable, Disable, Reset}

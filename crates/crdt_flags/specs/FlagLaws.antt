@@ -16,13 +16,13 @@ use Rattle.crdt_core.specs.History.{IsHistory, state_after}
 use Rattle.crdt_core.specs.Law.{KeepsSteps, KeepsLaw, made_by}
 use Rattle.crdt_core.specs.InMaps.{KeepsInMaps}
 use Rattle.crdt_core.specs.Resets.{ResetsWhatIsLeft}
-use Rattle.crdt_core.specs.Blank.{without_blank, empty_kept}
-use Rattle.crdt_core.specs.ResetsLaws.{kept_resets}
+use Rattle.crdt_core.proofs.Blank.{without_blank, empty_kept}
+use Rattle.crdt_core.proofs.ResetsLaws.{kept_resets}
 use Rattle.crdt_core.specs.Leaves.{IsLeaf, same_kind_is, no_stamp_due}
-use Rattle.crdt_core.specs.Confluence.{confluence, any_same}
+use Rattle.crdt_core.proofs.Confluence.{confluence, any_same}
 use Rattle.crdt_core.specs.Kept.{KeptAt, dots_if, is_kept, keeps_none}
-use Rattle.crdt_core.specs.KeptKinds.{pairs, stays, holding, any_pairs, kept_keeps_steps, state_entries}
-use Rattle.crdt_core.specs.WinsLaw.{undoes, add_stays, remove_stays, add_wins_same, remove_wins_same}
+use Rattle.crdt_core.proofs.KeptKinds.{pairs, stays, holding, any_pairs, kept_keeps_steps, state_entries}
+use Rattle.crdt_core.proofs.WinsLaw.{undoes, add_stays, remove_stays, add_wins_same, remove_wins_same}
 use Rattle.crdt_flags.specs.Meaning.{enables, disables, flag_meaning}
 use Rattle.crdt_flags.specs.Flags.{flag_kind, flag_has, flag_out, disable_own, flag_own, flag_step, flag_made, kind_made, flag_value, no_stamp, flag_names}
 

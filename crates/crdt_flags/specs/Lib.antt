@@ -2,4 +2,3 @@ pub mod EffectForm
 pub mod FlagLaws
 pub mod Flags
 pub mod Meaning
-pub mod Ready

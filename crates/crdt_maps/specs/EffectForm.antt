@@ -12,7 +12,7 @@ use Rattle.field_codec.specs.Lawful.{IsBytes, text_piece, all_hold, StandInTurn,
 use Rattle.field_codec.specs.Steps.{by_length, bind_err, lt_from, IsBytes-append}
 use Rattle.field_codec.specs.Refusals.{steady_form, enough_from, tested_short, ends_at}
 use Rattle.field_codec.specs.FormLaws.{any_text_form, number_form, number_short, length-number, width1, list_form, checked_form, then_form, mapped_form, lt_holds, le_from, both_true, and_true, bind_ok, spans_first}
-use Rattle.field_codec.specs.SpellsAllLaws.{longer, text_first, alike_spells, any_text_spells, checked_spells, behind_spells, then_spells, mapped_spells, told_spells, list_spells}
+use Rattle.field_codec.proofs.SpellsAllLaws.{longer, text_first, alike_spells, any_text_spells, checked_spells, behind_spells, then_spells, mapped_spells, told_spells, list_spells}
 use Rattle.field_codec.specs.Tagged.{tagged_at, tagged_form, shape_form}
 use Rattle.site_vector.specs.declared.ids.Dot.{Dot}
 use Rattle.crdt_core.specs.declared.kind.Kind.{Kind}
@@ -24,9 +24,9 @@ use Rattle.crdt_core.specs.Spelled.{is_between, kind, kind_at}
 use Rattle.crdt_core.specs.SpelledLaws.{kind_form}
 use Rattle.crdt_core.specs.EffectForm.{SpellsEffects, reset_tag, begins_with}
 use Rattle.crdt_core.specs.Contents.{Content, Words, list_contents, pieces_of, have_update}
-use Rattle.crdt_core.specs.ContentsLaws.{or_none, pieces_of_list, update_of_list}
+use Rattle.crdt_core.proofs.ContentsLaws.{or_none, pieces_of_list, update_of_list}
 use Rattle.crdt_core.specs.Stands.{NamesStand}
-use Rattle.crdt_core.specs.StandsLaws.{names_stand}
+use Rattle.crdt_core.proofs.StandsLaws.{names_stand}
 use Rattle.crdt_maps.specs.Maps.{map_kind, map_names}
 use Rattle.crdt_maps.specs.declared.effect.MapEffect.{MapEffect}
 use Rattle.crdt_maps.specs.declared.effect.MapEffect.TheVariants.{At, Resets}

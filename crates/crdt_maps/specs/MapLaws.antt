@@ -22,8 +22,8 @@ use Rattle.crdt_core.specs.Seen.{Update}
 use Rattle.crdt_core.specs.History.{IsHistory, folded, effects, state_after}
 use Rattle.crdt_core.specs.Law.{KeepsLaw, made_by, all_fit}
 use Rattle.crdt_core.specs.InMaps.{KeepsInMaps}
-use Rattle.crdt_core.specs.Blank.{no_entries, empty_none, never_reset}
-use Rattle.crdt_core.specs.Confluence.{any_same, confluence}
+use Rattle.crdt_core.proofs.Blank.{no_entries, empty_none, never_reset}
+use Rattle.crdt_core.proofs.Confluence.{any_same, confluence}
 use Rattle.crdt_core.specs.Leaves.{same_kind_is}
 use Rattle.crdt_core.specs.FieldOrder.{field_cmp, field_cmp_total, field_ties, same_field_is}
 use Rattle.crdt_maps.specs.Maps.{FieldMap, at, map_has, step_each, map_step, is_undone, resets_of, map_made, map_stamp, map_too_deep, map_names, map_holds, members, shown, map_value, map_blank}

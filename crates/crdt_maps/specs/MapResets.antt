@@ -18,11 +18,11 @@ use Rattle.crdt_core.specs.History.{IsHistory, state_after}
 use Rattle.crdt_core.specs.Law.{KeepsLaw, made_by, all_fit}
 use Rattle.crdt_core.specs.InMaps.{KeepsInMaps}
 use Rattle.crdt_core.specs.Resets.{ResetsWhatIsLeft}
-use Rattle.crdt_core.specs.ResetsLaws.{never_resets}
+use Rattle.crdt_core.proofs.ResetsLaws.{never_resets}
 use Rattle.crdt_core.specs.Leaves.{same_kind_is}
 use Rattle.crdt_core.specs.FieldOrder.{field_cmp, field_ties, same_field_is, same_field_itself}
 use Rattle.crdt_core.specs.MapLists.{IsDistinct, distinct_entries}
-use Rattle.crdt_core.specs.Members.{In}
+use Rattle.crdt_core.proofs.Members.{In}
 use Rattle.crdt_maps.specs.declared.effect.MapEffect.{MapEffect}
 use Rattle.crdt_maps.specs.Maps.{FieldMap, at, map_has, listed, map_step, is_undone, resets_of, reset_by, map_made, map_too_deep, map_names, map_blank}
 use Rattle.crdt_maps.specs.Meaning.{of_field, updated}

@@ -18,7 +18,7 @@ use Rattle.crdt_core.specs.declared.value.Value.{Value}
 use Rattle.crdt_core.specs.Kinds.{same_field}
 use Rattle.crdt_core.specs.Seen.{Update}
 use Rattle.crdt_core.specs.Law.{KeepsSteps, KeepsLaw, made_by}
-use Rattle.crdt_core.specs.Blank.{no_entries, empty_none}
+use Rattle.crdt_core.proofs.Blank.{no_entries, empty_none}
 use Rattle.crdt_core.specs.FieldOrder.{field_cmp, field_cmp_total, same_field_is, same_field_symm}
 use Rattle.crdt_maps.specs.Maps.{FieldMap, at, step_at, step_each, listed, map_step, is_undone, resets_of, reset_by, map_made, map_names, map_holds}
 use Rattle.crdt_maps.specs.Meaning.{within}

@@ -21,7 +21,7 @@ use Rattle.crdt_core.specs.Seen.{Update}
 use Rattle.crdt_core.specs.Law.{KeepsLaw}
 use Rattle.crdt_core.specs.Spelled.{is_dot}
 use Rattle.crdt_core.specs.Contents.{Content, sets_ascend}
-use Rattle.crdt_core.specs.ContentsLaws.{ascend_joined}
+use Rattle.crdt_core.proofs.ContentsLaws.{ascend_joined}
 use Rattle.crdt_core.specs.EffectForm.{HoldsSpelled, IsReady, reset_tag, begins_with}
 use Rattle.crdt_maps.specs.declared.effect.MapEffect.{MapEffect}
 use Rattle.crdt_maps.specs.declared.effect.MapEffect.TheVariants.{At, Resets}

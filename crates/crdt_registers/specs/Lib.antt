@@ -5,7 +5,6 @@ pub mod LwwLaw
 pub mod Meaning
 pub mod MvForm
 pub mod MvLaw
-pub mod Ready
 pub mod RegisterLww
 pub mod RegisterMv
 pub mod Sorted

@@ -4,7 +4,7 @@ use Rattle.std.proofs.Common.{arith}
 use Rattle.field_codec.specs.Spelling.{number, text, is_text}
 use Rattle.field_codec.specs.Reading.{Read, text_at, then_at, mapped_at}
 use Rattle.field_codec.specs.Lawful.{IsForm, SpellsAll}
-use Rattle.field_codec.specs.SpellsAllLaws.{alike_spells, any_text_spells, then_spells}
+use Rattle.field_codec.proofs.SpellsAllLaws.{alike_spells, any_text_spells, then_spells}
 use Rattle.field_codec.specs.FormLaws.{any_text_form, width8, then_form, mapped_form, both_true, and_true}
 use Rattle.crdt_core.specs.declared.kind.Kind.{Kind}
 use Rattle.crdt_core.specs.Spelled.{is_between, between_at}
@@ -12,7 +12,7 @@ use Rattle.crdt_core.specs.SpelledLaws.{between_form}
 use Rattle.crdt_core.specs.Contents.{Content, Words, pieces_of}
 use Rattle.crdt_core.specs.EffectForm.{SpellsEffects}
 use Rattle.crdt_core.specs.Stands.{NamesStand}
-use Rattle.crdt_core.specs.StandsLaws.{names_stand}
+use Rattle.crdt_core.proofs.StandsLaws.{names_stand}
 use Rattle.crdt_core.specs.Stamps.{last_stamp}
 use Rattle.crdt_registers.specs.EffectForm.{is_of_kind}
 use Rattle.crdt_registers.specs.RegisterLww.{lww_names}

@@ -26,10 +26,10 @@ use Rattle.crdt_core.specs.History.{IsStamped, folded, effects, effect_after, st
 use Rattle.crdt_core.specs.Law.{KeepsSteps, KeepsLaw, made_by, all_fit}
 use Rattle.crdt_core.specs.InMaps.{KeepsInMaps}
 use Rattle.crdt_core.specs.Resets.{ResetsWhatIsLeft}
-use Rattle.crdt_core.specs.Blank.{never_reset}
-use Rattle.crdt_core.specs.ResetsLaws.{never_resets}
+use Rattle.crdt_core.proofs.Blank.{never_reset}
+use Rattle.crdt_core.proofs.ResetsLaws.{never_resets}
 use Rattle.crdt_core.specs.Leaves.{IsLeaf, same_kind_is, first_fits, rest_fits}
-use Rattle.crdt_core.specs.Confluence.{confluence}
+use Rattle.crdt_core.proofs.Confluence.{confluence}
 use Rattle.crdt_core.specs.Texts.{text_cmp, text_cmp_total, text_cmp_exact}
 use Rattle.crdt_registers.specs.Later.{stamped_cmp, greater, later}
 use Rattle.crdt_registers.specs.Meaning.{text_of, assigned, last_assign, word_of, lww_meaning}

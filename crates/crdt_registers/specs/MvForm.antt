@@ -6,7 +6,7 @@ use Rattle.std.proofs.lemmas.Bool.{false≢true, eqb-true, or_cases}
 use Rattle.field_codec.specs.Spelling.{number, is_number, text, is_text}
 use Rattle.field_codec.specs.Reading.{Read, text_at, then_at, mapped_at}
 use Rattle.field_codec.specs.Lawful.{text_piece, all_hold, StandInTurn, IsForm, SpellsAll}
-use Rattle.field_codec.specs.SpellsAllLaws.{any_text_spells, behind_spells, then_spells}
+use Rattle.field_codec.proofs.SpellsAllLaws.{any_text_spells, behind_spells, then_spells}
 use Rattle.field_codec.specs.FormLaws.{any_text_form, then_form}
 use Rattle.field_codec.specs.Tagged.{tagged_at, tagged_form, shape_form}
 use Rattle.site_vector.specs.declared.ids.Dot.{Dot}
@@ -15,10 +15,10 @@ use Rattle.crdt_core.specs.Spelled.{are_dots, is_dots, dots, dots_at, set_piece}
 use Rattle.crdt_core.specs.SpelledLaws.{dots_held_form, dots_spell}
 use Rattle.crdt_core.specs.EffectForm.{SpellsEffects}
 use Rattle.crdt_core.specs.Contents.{Content, Words, Updates, pieces_of, have_update}
-use Rattle.crdt_core.specs.ContentsLaws.{or_none}
+use Rattle.crdt_core.proofs.ContentsLaws.{or_none}
 use Rattle.crdt_core.specs.DotSet.{has_dot}
 use Rattle.crdt_core.specs.Stands.{NamesStand}
-use Rattle.crdt_core.specs.StandsLaws.{names_stand}
+use Rattle.crdt_core.proofs.StandsLaws.{names_stand}
 use Rattle.crdt_registers.specs.EffectForm.{is_of_kind}
 use Rattle.crdt_registers.specs.RegisterMv.{mv_out, mv_names}
 use Rattle.crdt_registers.specs.declared.mv_effect.MvEffect.{MvEffect}

@@ -16,16 +16,16 @@ use Rattle.crdt_core.specs.History.{IsHistory, state_after}
 use Rattle.crdt_core.specs.Law.{KeepsSteps, KeepsLaw, made_by}
 use Rattle.crdt_core.specs.InMaps.{KeepsInMaps}
 use Rattle.crdt_core.specs.Resets.{ResetsWhatIsLeft}
-use Rattle.crdt_core.specs.Blank.{without_blank, empty_kept}
-use Rattle.crdt_core.specs.ResetsLaws.{kept_resets}
+use Rattle.crdt_core.proofs.Blank.{without_blank, empty_kept}
+use Rattle.crdt_core.proofs.ResetsLaws.{kept_resets}
 use Rattle.crdt_core.specs.Leaves.{IsLeaf, same_kind_is, no_stamp_due}
-use Rattle.crdt_core.specs.Confluence.{confluence, any_same}
+use Rattle.crdt_core.proofs.Confluence.{confluence, any_same}
 use Rattle.crdt_core.specs.Kept.{KeptAt, dots_if, is_kept, keeps_none}
-use Rattle.crdt_core.specs.KeptKinds.{pairs, with_pair, stays, kept_keeps_steps, state_entries}
-use Rattle.crdt_core.specs.Live.{live_same, tested_same}
-use Rattle.crdt_core.specs.Members.{In, clash, none_of}
+use Rattle.crdt_core.proofs.KeptKinds.{pairs, with_pair, stays, kept_keeps_steps, state_entries}
+use Rattle.crdt_core.proofs.Live.{live_same, tested_same}
+use Rattle.crdt_core.proofs.Members.{In, clash, none_of}
 use Rattle.crdt_core.specs.Wins.{lives}
-use Rattle.crdt_core.specs.WinsLaw.{undoes, same_truth, lives_on, stays_lives, stays_if, not_stays, adds_takes, any_by}
+use Rattle.crdt_core.proofs.WinsLaw.{undoes, same_truth, lives_on, stays_lives, stays_if, not_stays, adds_takes, any_by}
 use Rattle.crdt_registers.specs.Meaning.{text_of, remains, mv_meaning}
 use Rattle.crdt_registers.specs.RegisterMv.{mv_has, mv_out, mv_own, mv_step, mv_made_on, mv_made, mv_value, mv_stamp, mv_names}
 use Rattle.crdt_registers.specs.Sorted.{sorted, sorted_same}

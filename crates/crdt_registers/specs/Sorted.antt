@@ -8,7 +8,7 @@ use Rattle.std.specs.Ordering.{ordering_reverse, is_lt}
 use Rattle.std.specs.Cmp.{tied_itself}
 use Rattle.std.proofs.lemmas.Bool.{true≢false, false≢true}
 use Rattle.crdt_core.specs.Same.{Same}
-use Rattle.crdt_core.specs.Confluence.{filter_append}
+use Rattle.crdt_core.proofs.Confluence.{filter_append}
 use Rattle.crdt_core.specs.Texts.{text_cmp, text_cmp_total, text_cmp_exact}
 
 -- before the first that isn't less

@@ -12,9 +12,9 @@ use Rattle.crdt_core.specs.DotSet.{has_dot}
 use Rattle.crdt_core.specs.Texts.{text_cmp, text_cmp_total, text_cmp_exact, same_text, same_text_is, same_text_itself, is_in}
 use Rattle.crdt_core.specs.MapLists.{IsDistinct, distinct_entries}
 use Rattle.crdt_core.specs.Kept.{KeptAt, kept_step, dots_of, is_kept}
-use Rattle.crdt_core.specs.KeptSteps.{get-kept_step, same_kept, has_dots_of}
-use Rattle.crdt_core.specs.KeptLaw.{given}
-use Rattle.crdt_core.specs.KeptKinds.{kept_swaps, kept_held}
+use Rattle.crdt_core.proofs.KeptSteps.{get-kept_step, same_kept, has_dots_of}
+use Rattle.crdt_core.proofs.KeptLaw.{given}
+use Rattle.crdt_core.proofs.KeptKinds.{kept_swaps, kept_held}
 use Rattle.crdt_sets.specs.Elements.{Elements, at, put_back, take_one, take_named, named_at, names_dot, keeps_dot}
 use Rattle.crdt_sets.specs.declared.named.Named.{Named}
 

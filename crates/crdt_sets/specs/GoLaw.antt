@@ -13,10 +13,10 @@ use Rattle.crdt_core.specs.History.{state_after}
 use Rattle.crdt_core.specs.Law.{KeepsSteps, KeepsLaw, made_by}
 use Rattle.crdt_core.specs.InMaps.{KeepsInMaps}
 use Rattle.crdt_core.specs.Resets.{ResetsWhatIsLeft}
-use Rattle.crdt_core.specs.Blank.{no_keys, empty_none, never_reset}
-use Rattle.crdt_core.specs.ResetsLaws.{never_resets}
+use Rattle.crdt_core.proofs.Blank.{no_keys, empty_none, never_reset}
+use Rattle.crdt_core.proofs.ResetsLaws.{never_resets}
 use Rattle.crdt_core.specs.Leaves.{IsLeaf, same_kind_is, no_stamp_due}
-use Rattle.crdt_core.specs.Confluence.{confluence}
+use Rattle.crdt_core.proofs.Confluence.{confluence}
 use Rattle.crdt_core.specs.Texts.{text_cmp, text_cmp_total, text_cmp_exact, same_text, is_in, ascending, in_ascending, is_marked, nothing_beside}
 use Rattle.crdt_sets.specs.Meaning.{added_by, added, go_meaning}
 use Rattle.crdt_sets.specs.MeaningLaws.{go_orderless}

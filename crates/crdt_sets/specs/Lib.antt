@@ -4,7 +4,6 @@ pub mod Elements
 pub mod GoLaw
 pub mod Meaning
 pub mod MeaningLaws
-pub mod Ready
 pub mod RemovableLaws
 pub mod SetGo
 pub mod SetResets

@@ -9,9 +9,9 @@ use Rattle.crdt_core.specs.declared.operation.Act.TheVariants as act
 use Rattle.crdt_core.specs.declared.value.Value.TheVariants.{Words}
 use Rattle.crdt_core.specs.Same.{Same}
 use Rattle.crdt_core.specs.Seen.{Update}
-use Rattle.crdt_core.specs.Confluence.{any_same}
+use Rattle.crdt_core.proofs.Confluence.{any_same}
 use Rattle.crdt_core.specs.Texts.{is_in, same_text, ascending, same_ascending, in_filter}
-use Rattle.crdt_core.specs.WinsLaw.{add_wins_same, remove_wins_same}
+use Rattle.crdt_core.proofs.WinsLaw.{add_wins_same, remove_wins_same}
 use Rattle.crdt_sets.specs.Meaning.{adds, removes, added_by, added, go_meaning, set_meaning}
 
 in_act : (a : Act) (x : List ℕ) → is_in (added_by a) x ≡ adds x a

@@ -18,18 +18,18 @@ use Rattle.crdt_core.specs.Seen.{Update, sees, is_live}
 use Rattle.crdt_core.specs.History.{IsHistory, state_after}
 use Rattle.crdt_core.specs.Law.{KeepsSteps, KeepsLaw, made_by}
 use Rattle.crdt_core.specs.InMaps.{KeepsInMaps}
-use Rattle.crdt_core.specs.Blank.{no_keys, empty_none}
+use Rattle.crdt_core.proofs.Blank.{no_keys, empty_none}
 use Rattle.crdt_core.specs.Leaves.{IsLeaf, same_kind_is, no_stamp_due}
-use Rattle.crdt_core.specs.Confluence.{confluence, any_same}
+use Rattle.crdt_core.proofs.Confluence.{confluence, any_same}
 use Rattle.crdt_core.specs.Texts.{text_cmp, same_text, same_text_is, is_in, ascending, in_ascending, same_ascending, in_filter, ascending_sorted}
 use Rattle.crdt_core.specs.MapLists.{IsDistinct, distinct_entries}
 use Rattle.crdt_core.specs.Kept.{KeptAt, kept_step, is_kept, has_marked, has_unmarked}
-use Rattle.crdt_core.specs.KeptSteps.{get-kept_step}
-use Rattle.crdt_core.specs.KeptLaw.{given, left, kept_after}
-use Rattle.crdt_core.specs.KeptKinds.{stays, holding, any_pairs, kept_entries}
-use Rattle.crdt_core.specs.Members.{one_of, any_of}
+use Rattle.crdt_core.proofs.KeptSteps.{get-kept_step}
+use Rattle.crdt_core.proofs.KeptLaw.{given, left, kept_after}
+use Rattle.crdt_core.proofs.KeptKinds.{stays, holding, any_pairs, kept_entries}
+use Rattle.crdt_core.proofs.Members.{one_of, any_of}
 use Rattle.crdt_core.specs.Wins.{lives, add_wins, remove_wins}
-use Rattle.crdt_core.specs.WinsLaw.{undoes, add_stays, remove_stays}
+use Rattle.crdt_core.proofs.WinsLaw.{undoes, add_stays, remove_stays}
 use Rattle.crdt_sets.specs.Meaning.{adds, removes, added, set_meaning}
 use Rattle.crdt_sets.specs.MeaningLaws.{in_added, set_orderless}
 use Rattle.crdt_sets.specs.Elements.{Elements, lacks_all, at, take_named, named_at, passing, names_dot, keeps_dot, shows}

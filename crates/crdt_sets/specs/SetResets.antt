@@ -9,9 +9,9 @@ use Rattle.crdt_core.specs.History.{folded, effects}
 use Rattle.crdt_core.specs.Law.{made_by}
 use Rattle.crdt_core.specs.Texts.{text_cmp, same_text_itself}
 use Rattle.crdt_core.specs.Kept.{KeptAt, kept_step, dots_of, keeps_none}
-use Rattle.crdt_core.specs.Blank.{no_keys, empty_kept}
+use Rattle.crdt_core.proofs.Blank.{no_keys, empty_kept}
 use Rattle.crdt_core.specs.Resets.{ResetsWhatIsLeft}
-use Rattle.crdt_core.specs.ResetsLaws.{first_entry, some_dot}
+use Rattle.crdt_core.proofs.ResetsLaws.{first_entry, some_dot}
 use Rattle.crdt_sets.specs.declared.named.Named.{Named}
 use Rattle.crdt_sets.specs.declared.effect.SetEffect.{SetEffect}
 use Rattle.crdt_sets.specs.Elements.{Elements, lacks_all, at, take_named, named_at, names_dot}

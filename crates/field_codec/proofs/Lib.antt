@@ -1,4 +1,5 @@
 pub mod Compared
 pub mod Forms
 pub mod Loops
+pub mod SpellsAllLaws
 pub mod Texts

@@ -6,7 +6,7 @@ use Rattle.field_codec.specs.Spelling.{number, is_number, is_text}
 use Rattle.field_codec.specs.Reading.{Read, number_at}
 use Rattle.field_codec.specs.Lawful.{Piece, text_piece, IsForm, SpellsAll}
 use Rattle.field_codec.specs.FormLaws.{IsWidth, number_form, both_true, and_true}
-use Rattle.field_codec.specs.SpellsAllLaws.{alike_spells, any_text_spells, then_spells, mapped_spells}
+use Rattle.field_codec.proofs.SpellsAllLaws.{alike_spells, any_text_spells, then_spells, mapped_spells}
 use Rattle.crdt_core.specs.declared.kind.Kind.{Kind}
 use Rattle.crdt_core.specs.declared.object.ObjectId.{ObjectId}
 use Rattle.crdt_core.specs.Spelled.{vector, is_vector, vector_at, kind, is_object, object, object_at}

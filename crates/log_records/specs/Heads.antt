@@ -4,7 +4,7 @@ use Rattle.field_codec.specs.Spelling.{number, is_number}
 use Rattle.field_codec.specs.Reading.{Read, number_at, then_at, mapped_at}
 use Rattle.field_codec.specs.Lawful.{Piece, IsForm, SpellsAll}
 use Rattle.field_codec.specs.FormLaws.{width1, width8, then_form, mapped_form}
-use Rattle.field_codec.specs.SpellsAllLaws.{then_spells, mapped_spells}
+use Rattle.field_codec.proofs.SpellsAllLaws.{then_spells, mapped_spells}
 use Rattle.log_records.specs.declared.head.Head.{Head}
 use Rattle.log_records.specs.Fields.{number_piece, any_number_form, any_number_spells}
 

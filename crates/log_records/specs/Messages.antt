@@ -3,7 +3,7 @@ use Rattle.std.specs.Prelude.{ℕ, Bool, true, ◌&&◌, List, ◌++◌, refl}
 use Rattle.field_codec.specs.Reading.{Read, checked_at, then_at, mapped_at}
 use Rattle.field_codec.specs.Lawful.{Piece, IsForm, SpellsAll}
 use Rattle.field_codec.specs.FormLaws.{checked_form, then_form, mapped_form}
-use Rattle.field_codec.specs.SpellsAllLaws.{checked_spells, then_spells, mapped_spells}
+use Rattle.field_codec.proofs.SpellsAllLaws.{checked_spells, then_spells, mapped_spells}
 use Rattle.crdt_core.specs.declared.kind.Kind.{Kind}
 use Rattle.crdt_core.specs.declared.record.Part.{Part}
 use Rattle.crdt_core.specs.declared.record.Message.{Message}

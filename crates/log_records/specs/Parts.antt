@@ -7,7 +7,7 @@ use Rattle.field_codec.specs.Spelling.{number, list, are_members, is_list, is_be
 use Rattle.field_codec.specs.Reading.{Read, list_at, then_at, mapped_at}
 use Rattle.field_codec.specs.Lawful.{Piece, list_pieces, IsForm, SpellsAll}
 use Rattle.field_codec.specs.FormLaws.{list_form, then_form, mapped_form}
-use Rattle.field_codec.specs.SpellsAllLaws.{longer, number_first, alike_spells, then_spells, mapped_spells, list_spells}
+use Rattle.field_codec.proofs.SpellsAllLaws.{longer, number_first, alike_spells, then_spells, mapped_spells, list_spells}
 use Rattle.site_vector.specs.declared.ids.TxId.{TxId}
 use Rattle.site_vector.specs.Order.{tx_cmp}
 use Rattle.site_vector.specs.Vector.{entry}

@@ -6,7 +6,7 @@ use Rattle.field_codec.specs.Spelling.{number, is_number}
 use Rattle.field_codec.specs.Reading.{Read, number_at, then_at, mapped_at}
 use Rattle.field_codec.specs.Lawful.{Piece, all_hold, StandInTurn, IsForm, SpellsAll}
 use Rattle.field_codec.specs.FormLaws.{width1, width8, then_form, lt_holds, le_from, both_true, and_true}
-use Rattle.field_codec.specs.SpellsAllLaws.{alike_spells, behind_spells, then_spells}
+use Rattle.field_codec.proofs.SpellsAllLaws.{alike_spells, behind_spells, then_spells}
 use Rattle.field_codec.specs.Tagged.{tagged_at, tagged_form, shape_form}
 use Rattle.site_vector.specs.declared.ids.TxId.{TxId}
 use Rattle.crdt_core.specs.declared.kind.Kind.{Kind}

@@ -5,7 +5,7 @@ use Rattle.field_codec.specs.Spelling.{number, is_text, list, are_members, is_li
 use Rattle.field_codec.specs.Reading.{Read, list_at, checked_at, then_at, mapped_at}
 use Rattle.field_codec.specs.Lawful.{Piece, list_pieces, IsForm, SpellsAll}
 use Rattle.field_codec.specs.FormLaws.{width2, list_form, checked_form, then_form, mapped_form, both_true}
-use Rattle.field_codec.specs.SpellsAllLaws.{number_first, alike_spells, checked_spells, then_spells, mapped_spells, list_spells}
+use Rattle.field_codec.proofs.SpellsAllLaws.{number_first, alike_spells, checked_spells, then_spells, mapped_spells, list_spells}
 use Rattle.crdt_core.specs.declared.kind.Kind.{Kind}
 use Rattle.crdt_core.specs.declared.object.ObjectId.{ObjectId}
 use Rattle.crdt_core.specs.declared.record.Upd.{Upd}

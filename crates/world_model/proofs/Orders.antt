@@ -16,7 +16,7 @@ use Rattle.crdt_core.specs.Kinds.{same_kind, same_path, kind_at, reads_state}
 use Rattle.crdt_core.specs.Seen.{Update, sees, is_assign}
 use Rattle.crdt_core.specs.Stamps.{last_stamp, one_more, above_all, assigns_seen, stamp_due}
 use Rattle.crdt_core.specs.Same.{Same}
-use Rattle.crdt_core.specs.Confluence.{filter_same}
+use Rattle.crdt_core.proofs.Confluence.{filter_same}
 use Rattle.world_model.proofs.Names.{clash, off}
 
 above_middle : (now : ℕ) (front : List Update) (u : Update) (back : List Update) → above_all now (front ++ u ∷ back) ≡ max (one_more u.stamp) (above_all now (front ++ back))

@@ -5,7 +5,7 @@ use Rattle.site_vector.specs.declared.ids.Dot.{Dot}
 use Rattle.site_vector.specs.Order.{dot_cmp_total, dot_cmp_exact}
 use Rattle.crdt_core.specs.Kept.{without}
 use Rattle.crdt_core.specs.MapLists.{one_gone}
-use Rattle.crdt_core.specs.KeptSteps.{without_none, without_more}
+use Rattle.crdt_core.proofs.KeptSteps.{without_none, without_more}
 use Rattle.crdt_core.proofs.kept.take_each.Goals as goal
 
 pub loop-dot-init : goal.loop-dot-init

@@ -1,5 +1,5 @@
 use Rattle.field_codec.specs.FormLaws.{list_form}
-use Rattle.field_codec.specs.SpellsAllLaws.{list_spells}
+use Rattle.field_codec.proofs.SpellsAllLaws.{list_spells}
 use Rattle.field_codec.proofs.Forms.{prefix_free}
 use Rattle.field_codec.proofs.laws.law_list.Goals as goal
 

@@ -3,7 +3,7 @@ use Rattle.std.specs.Prelude.{◌==◌}
 use Rattle.crdt_core.specs.Leaves.{same_kind_is}
 use Rattle.crdt_core.specs.Spelled.{are_dots, ascend}
 use Rattle.crdt_core.specs.EffectForm.{reset_tag}
-use Rattle.crdt_core.specs.Ready.{kept_spelled, kept_ascend}
+use Rattle.crdt_core.proofs.Ready.{kept_spelled, kept_ascend}
 use Rattle.crdt_core.specs.Kept.{dots_of}
 use Rattle.crdt_core.specs.Contents.{Updates, sets_ascend}
 use Rattle.field_codec.specs.FormLaws.{and_true}

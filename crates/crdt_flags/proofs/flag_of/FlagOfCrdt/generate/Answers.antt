@@ -2,7 +2,7 @@ use Rattle.std.proofs.Common.{sym, subst}
 use Rattle.crdt_core.specs.Leaves.{same_kind_is}
 use Rattle.crdt_core.specs.EffectForm.{IsReady}
 use Rattle.crdt_flags.specs.EffectForm.{is_of_kind, can_put_flag, flag_contents, flag_spelling}
-use Rattle.crdt_flags.specs.Ready.{flag_ready}
+use Rattle.crdt_flags.proofs.Ready.{flag_ready}
 use Rattle.crdt_flags.proofs.flag_of.FlagOfCrdt.generate.Goals as goal
 
 pub returns-clause-ready : goal.returns-clause-ready

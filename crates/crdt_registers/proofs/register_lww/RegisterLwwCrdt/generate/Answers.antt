@@ -2,7 +2,7 @@ use Rattle.std.proofs.Common.{sym, subst, ◌∙◌}
 use Rattle.crdt_core.specs.EffectForm.{IsReady}
 use Rattle.crdt_registers.specs.EffectForm.{is_of_kind}
 use Rattle.crdt_registers.specs.LwwForm.{can_put_lww, lww_contents, lww_spelling}
-use Rattle.crdt_registers.specs.Ready.{lww_ready}
+use Rattle.crdt_registers.proofs.Ready.{lww_ready}
 use Rattle.crdt_registers.proofs.register_lww.RegisterLwwCrdt.generate.Goals as goal
 
 pub returns-clause-ready : goal.returns-clause-ready

@@ -2,7 +2,7 @@ use Rattle.std.proofs.Common.{sym, subst}
 use Rattle.crdt_core.specs.EffectForm.{IsReady}
 use Rattle.crdt_registers.specs.EffectForm.{is_of_kind}
 use Rattle.crdt_registers.specs.MvForm.{can_put_mv, mv_contents, mv_spelling}
-use Rattle.crdt_registers.specs.Ready.{mv_ready}
+use Rattle.crdt_registers.proofs.Ready.{mv_ready}
 use Rattle.crdt_registers.proofs.register_mv.RegisterMvCrdt.generate.Goals as goal
 
 pub returns-clause-ready : goal.returns-clause-ready

@@ -3,7 +3,7 @@ use Rattle.crdt_core.specs.Leaves.{same_kind_is}
 use Rattle.crdt_core.specs.EffectForm.{IsReady}
 use Rattle.crdt_core.specs.declared.kind.Kind.TheVariants.{SetGo}
 use Rattle.crdt_sets.specs.EffectForm.{is_of_kind, can_put_texts, texts_contents, texts_spelling}
-use Rattle.crdt_sets.specs.Ready.{go_ready}
+use Rattle.crdt_sets.proofs.Ready.{go_ready}
 use Rattle.crdt_sets.proofs.set_go.SetGoCrdt.generate.Goals as goal
 
 pub returns-clause-ready : goal.returns-clause-ready

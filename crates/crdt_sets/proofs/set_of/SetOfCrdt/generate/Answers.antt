@@ -2,7 +2,7 @@ use Rattle.std.proofs.Common.{rules, sym, subst}
 use Rattle.crdt_core.specs.Leaves.{same_kind_is}
 use Rattle.crdt_core.specs.EffectForm.{IsReady}
 use Rattle.crdt_sets.specs.EffectForm.{is_of_kind, can_put_set, set_contents, set_spelling}
-use Rattle.crdt_sets.specs.Ready.{set_ready}
+use Rattle.crdt_sets.proofs.Ready.{set_ready}
 use Rattle.crdt_sets.proofs.set_of.SetOfCrdt.generate.Goals as goal
 
 pub returns-clause-ready : goal.returns-clause-ready

@@ -12,7 +12,7 @@ use Rattle.field_codec.specs.Spelling.{are_in_order, is_below}
 use Rattle.field_codec.specs.FormLaws.{both_true, and_true}
 use Rattle.crdt_core.specs.DotSet.{has_dot}
 use Rattle.crdt_core.specs.Kept.{KeptAt, dots_of, is_kept}
-use Rattle.crdt_core.specs.KeptSteps.{has_dots_of}
+use Rattle.crdt_core.proofs.KeptSteps.{has_dots_of}
 use Rattle.crdt_core.specs.Spelled.{is_dot, are_dots, ascend}
 use Rattle.crdt_core.specs.EffectForm.{HoldsSpelled}
 

@@ -3,7 +3,7 @@ use Rattle.std.proofs.Common.{◌≡◌, Bool, cond, not, ◌&&◌, List, [], �
 use Rattle.std.specs.Prelude.{filter}
 use Rattle.crdt_core.specs.Same.{Same}
 use Rattle.crdt_core.specs.Seen.{Update, sees, is_reset, is_live}
-use Rattle.crdt_core.specs.Confluence.{any_same, filter_same}
+use Rattle.crdt_core.proofs.Confluence.{any_same, filter_same}
 
 pub filter_by : {A : Type 0} (p q : A → Bool) → ((x : A) → p x ≡ q x) → (xs : List A) → filter p xs ≡ filter q xs
 filter_by p q same [] = refl

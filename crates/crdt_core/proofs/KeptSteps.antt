@@ -9,7 +9,7 @@ use Rattle.site_vector.specs.Ids.{same_dot}
 use Rattle.site_vector.specs.Order.{dot_cmp, dot_cmp_total, dot_cmp_exact, same_dot_symm, same_dot_ties}
 use Rattle.crdt_core.specs.DotSet.{has_dot}
 use Rattle.crdt_core.specs.Kept.{KeptAt, without, with_own, kept_step, dots_of, dots_if, is_kept}
-use Rattle.crdt_core.specs.KeptLaw.{given}
+use Rattle.crdt_core.proofs.KeptLaw.{given}
 
 turned : {V : Type 0} (b : Bool) (x y : Option V) → cond (not b) x y ≡ cond b y x
 turned true x y = refl

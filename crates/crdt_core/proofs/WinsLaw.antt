@@ -6,10 +6,10 @@ use Rattle.crdt_core.specs.declared.operation.Act.{Act}
 use Rattle.crdt_core.specs.Same.{Same}
 use Rattle.crdt_core.specs.Seen.{Update, sees, is_reset, is_live}
 use Rattle.crdt_core.specs.History.{IsHistory}
-use Rattle.crdt_core.specs.Live.{live_same}
-use Rattle.crdt_core.specs.Confluence.{any_same}
-use Rattle.crdt_core.specs.KeptKinds.{stays}
-use Rattle.crdt_core.specs.Members.{In, any_of, one_of, none_of, clash, all_of, each_of, passes_on, newest}
+use Rattle.crdt_core.proofs.Live.{live_same}
+use Rattle.crdt_core.proofs.Confluence.{any_same}
+use Rattle.crdt_core.proofs.KeptKinds.{stays}
+use Rattle.crdt_core.proofs.Members.{In, any_of, one_of, none_of, clash, all_of, each_of, passes_on, newest}
 use Rattle.crdt_core.specs.Wins.{lives, add_wins, remove_wins}
 
 pub same_truth : (a b : Bool) → (a ≡ true → b ≡ true) → (b ≡ true → a ≡ true) → a ≡ b

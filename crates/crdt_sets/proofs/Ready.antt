@@ -16,7 +16,7 @@ use Rattle.crdt_core.specs.Kept.{dots_of}
 use Rattle.crdt_core.specs.Texts.{text_cmp, is_in, ascending, in_ascending, same_text_itself}
 use Rattle.crdt_core.specs.Spelled.{are_dots, ascend}
 use Rattle.crdt_core.specs.EffectForm.{HoldsSpelled, IsReady, reset_tag, begins_with, asks_reset}
-use Rattle.crdt_core.specs.Ready.{keys_in_order, kept_spelled, kept_ascend}
+use Rattle.crdt_core.proofs.Ready.{keys_in_order, kept_spelled, kept_ascend}
 use Rattle.crdt_core.specs.Contents.{sets_ascend}
 use Rattle.crdt_sets.specs.Elements.{Elements, at, named_at, keeps_dot}
 use Rattle.crdt_sets.specs.ElementSteps.{kept_in}

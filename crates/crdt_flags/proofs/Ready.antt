@@ -9,7 +9,7 @@ use Rattle.field_codec.specs.FormLaws.{and_true}
 use Rattle.crdt_core.specs.Kept.{KeptAt, dots_of, is_kept}
 use Rattle.crdt_core.specs.Spelled.{ascend}
 use Rattle.crdt_core.specs.EffectForm.{HoldsSpelled, IsReady, reset_tag, begins_with, asks_reset}
-use Rattle.crdt_core.specs.Ready.{kept_spelled, kept_ascend}
+use Rattle.crdt_core.proofs.Ready.{kept_spelled, kept_ascend}
 use Rattle.crdt_core.specs.Contents.{Updates, sets_ascend}
 use Rattle.crdt_flags.specs.Flags.{flag_kind, flag_made}
 use Rattle.crdt_flags.specs.EffectForm.{is_of_kind, can_put_flag, flag_contents, flag_spelling}

@@ -13,7 +13,7 @@ use Rattle.crdt_core.specs.Contents.{Updates, sets_ascend}
 use Rattle.crdt_core.specs.EffectForm.{HoldsSpelled, IsReady, reset_tag, begins_with, asks_reset}
 use Rattle.crdt_core.specs.Fits.{fits}
 use Rattle.crdt_core.specs.Leaves.{IsLeaf, same_kind_is, fits_leaf}
-use Rattle.crdt_core.specs.Ready.{kept_spelled, kept_ascend}
+use Rattle.crdt_core.proofs.Ready.{kept_spelled, kept_ascend}
 use Rattle.crdt_core.specs.Seen.{is_assign}
 use Rattle.crdt_core.specs.Spelled.{is_between, ascend}
 use Rattle.crdt_core.specs.Stamps.{last_stamp}

@@ -11,7 +11,7 @@ use Rattle.crdt_core.specs.Kinds.{same_kind}
 use Rattle.crdt_core.specs.Fits.{stands_in}
 use Rattle.crdt_core.specs.Leaves.{same_kind_is}
 use Rattle.crdt_core.specs.Kept.{KeptAt, without, keeps_none}
-use Rattle.crdt_core.specs.KeptSteps.{without_none}
+use Rattle.crdt_core.proofs.KeptSteps.{without_none}
 
 no_length : {A : Type 0} (xs : List A) → length xs ≡ 0 → xs ≡ []
 no_length [] h = refl

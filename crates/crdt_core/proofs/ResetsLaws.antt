@@ -16,7 +16,7 @@ use Rattle.crdt_core.specs.Kinds.{same_kind}
 use Rattle.crdt_core.specs.Fits.{stands_in}
 use Rattle.crdt_core.specs.DotSet.{has_dot}
 use Rattle.crdt_core.specs.Kept.{KeptAt, dots_of, keeps_none}
-use Rattle.crdt_core.specs.Blank.{no_keys, never_reset}
+use Rattle.crdt_core.proofs.Blank.{no_keys, never_reset}
 use Rattle.crdt_core.specs.Resets.{ResetsWhatIsLeft}
 
 first_of : {A : Type 0} (xs : List A) → (length xs == 0) ≡ false → (x : A) × (rest : List A) × (xs ≡ x ∷ rest)

@@ -15,8 +15,8 @@ use Rattle.crdt_core.specs.History.{IsHistory, state_after}
 use Rattle.crdt_core.specs.Law.{KeepsSteps}
 use Rattle.crdt_core.specs.MapLists.{IsDistinct, distinct_entries, same_finds}
 use Rattle.crdt_core.specs.Kept.{KeptAt, kept_step, dots_if, is_kept}
-use Rattle.crdt_core.specs.KeptSteps.{get-kept_step, same_kept, has_dots_if}
-use Rattle.crdt_core.specs.KeptLaw.{given, put_at, left, taken, new_put, none_either, kept_after}
+use Rattle.crdt_core.proofs.KeptSteps.{get-kept_step, same_kept, has_dots_if}
+use Rattle.crdt_core.proofs.KeptLaw.{given, put_at, left, taken, new_put, none_either, kept_after}
 
 -- no update of the list that takes what it has seen has seen this one
 abbrev pub stays : (Update → Bool) → List Update → Update → Bool
