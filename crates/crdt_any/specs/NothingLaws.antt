@@ -3,14 +3,12 @@ use Rattle.std.proofs.Common.{true, false, [], None, refl}
 use Rattle.std.specs.Prelude.{Err}
 use Rattle.std.proofs.lemmas.Bool.{false≢true}
 use Rattle.field_codec.specs.declared.error.TakeError.TheVariants.{Bad}
-use Rattle.field_codec.proofs.SpellsAllLaws.{alike_spells}
 use Rattle.crdt_core.specs.declared.value.Value.TheVariants.{Flag}
 use Rattle.crdt_core.specs.Law.{KeepsLaw}
 use Rattle.crdt_core.specs.InMaps.{KeepsInMaps}
 use Rattle.crdt_core.specs.Resets.{ResetsWhatIsLeft}
 use Rattle.crdt_core.specs.EffectForm.{SpellsEffects}
 use Rattle.crdt_core.specs.Stands.{NamesStand}
-use Rattle.crdt_core.proofs.StandsLaws.{names_stand}
 
 pub nothing_law : KeepsLaw {S = Unit {0}} {E = Unit {0}} (λ k. false) (λ k p. false) (λ k. tt) (λ s d e. tt) (λ k s p a n. tt) (λ s. Flag false) (λ e. None) (λ k us. Flag false) (λ e d. false) (λ s d. false)
 nothing_law = record {
@@ -36,8 +34,8 @@ nothing_resets = record {
   some_left = λ k us n has. absurd (false≢true has);
 }
 
-abbrev pub nothing_spells : SpellsEffects {E = Unit {0}} (λ k. false) (λ k e. true) (λ e. true) (λ e. true) (λ e. []) (λ e. []) (λ k bytes at. Err (Bad at))
-nothing_spells = record { form = λ k has. absurd (false≢true has); all = alike_spells (λ e. true) (λ e. []) }
+abbrev pub nothing_spells : SpellsEffects {E = Unit {0}} (λ k. false) (λ k e. true) (λ e. true) (λ e. true) (λ e. []) (λ k bytes at. Err (Bad at))
+nothing_spells = record { form = λ k has. absurd (false≢true has) }
 
 pub nothing_stands : NamesStand {E = Unit {0}} (λ e. true) (λ e d. false) (λ e. []) (λ e. [])
-nothing_stands = names_stand {contents = λ e. []} (alike_spells (λ e. true) (λ e. [])) (λ e d can. refl)
+nothing_stands = record { exact = λ e d can. refl; stands = λ e d can h. absurd (false≢true h) }

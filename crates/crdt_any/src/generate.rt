@@ -2,7 +2,7 @@ ghost use Rattle.std.specs.Prelude.{◌≡◌, IfOk, true, false};
 ghost use Rattle.crdt_core.specs.EffectForm.{HoldsSpelled, IsReady};
 ghost use Rattle.crdt_core.specs.Fits.{fits};
 ghost use Rattle.crdt_any.specs.Layer.{layer_made, layer_too_deep, layer_holds};
-ghost use Rattle.crdt_any.specs.LayerForm.{layer_is_of, layer_can_put, layer_contents, layer_spelling};
+ghost use Rattle.crdt_any.specs.LayerForm.{layer_is_of, layer_can_put, layer_sets, layer_spelling};
 
 use crate::part::made_on;
 use crate::{LayerEffect, LayerState};
@@ -30,7 +30,7 @@ pub fn effect_of<I: Crdt>(
     requires fitting { fits kind path.now act.now ≡ true }
     requires shallow { layer_too_deep I.has I.too_deep kind path.now ≡ false }
     ensures made { IfOk result (λ e. e ≡ layer_made I.has I.initial I.made I.is_blank kind state.now path.now act.now now) }
-    ensures ready { HoldsSpelled (layer_holds I.holds) state.now → IfOk result (λ e. IsReady layer_is_of (layer_can_put I.has I.is_of I.can_put I.spelling) (layer_contents I.contents) (layer_spelling I.spelling) kind path.now act.now e) }
+    ensures ready { HoldsSpelled (layer_holds I.holds) state.now → IfOk result (λ e. IsReady layer_is_of (layer_can_put I.has I.is_of I.can_put I.spelling) (layer_sets I.sets) (layer_spelling I.spelling) kind path.now act.now e) }
 {
     match kind {
         Kind::CounterPn => {

@@ -1,7 +1,7 @@
 ghost use Rattle.std.specs.Prelude.{◌≡◌, true, false, IfOk, OnOk};
 ghost use Rattle.crdt_core.specs.EffectForm.{HoldsSpelled, IsReady};
 ghost use Rattle.crdt_any.specs.Layer.{layer_has, layer_too_deep, layer_initial, layer_step, layer_made, layer_value, layer_stamp, layer_meaning, layer_names, layer_holds, layer_blank};
-ghost use Rattle.crdt_any.specs.LayerForm.{layer_is_of, layer_can_put, layer_is_spelled, layer_contents, layer_spelling, layer_reading, layer_spells, layer_stands};
+ghost use Rattle.crdt_any.specs.LayerForm.{layer_is_of, layer_can_put, layer_is_spelled, layer_sets, layer_spelling, layer_reading, layer_spells, layer_stands};
 ghost use Rattle.crdt_any.specs.LayerLaws.{layer_law, layer_in_maps};
 ghost use Rattle.crdt_any.specs.LayerResets.{layer_resets};
 
@@ -57,7 +57,7 @@ impl<I: Crdt> Crdt for Layer<I> {
 
     ghost is_spelled = { layer_is_spelled I.has I.is_of I.is_spelled I.spelling };
 
-    ghost contents = { layer_contents I.contents };
+    ghost sets = { layer_sets I.sets };
 
     ghost spelling = { layer_spelling I.spelling };
 
@@ -65,7 +65,7 @@ impl<I: Crdt> Crdt for Layer<I> {
 
     ghost spells = { layer_spells I.spells };
 
-    ghost stands = { layer_stands I.spells I.stands };
+    ghost stands = { layer_stands I.has I.is_of I.stands };
 
     ghost is_blank = { layer_blank I.is_blank };
 

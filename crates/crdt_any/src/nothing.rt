@@ -44,7 +44,7 @@ impl Crdt for Nothing {
 
     ghost is_spelled = { λ e. true };
 
-    ghost contents = { λ e. [] };
+    ghost sets = { λ e. [] };
 
     ghost spelling = { λ e. [] };
 

@@ -44,7 +44,7 @@ pub fn made_on<C: Crdt>(
     requires fitting { fits kind path.now act.now ≡ true }
     requires shallow { C.too_deep kind path.now ≡ false }
     ensures made { IfOk result (λ e. e ≡ C.made kind (unwrap_or (option_copied state.entry) (C.initial kind)) path.now act.now now) }
-    ensures ready { HoldsSpelled C.holds (unwrap_or (option_copied state.entry) (C.initial kind)) → IfOk result (λ e. IsReady C.is_of C.can_put C.contents C.spelling kind path.now act.now e) }
+    ensures ready { HoldsSpelled C.holds (unwrap_or (option_copied state.entry) (C.initial kind)) → IfOk result (λ e. IsReady C.is_of C.can_put C.sets C.spelling kind path.now act.now e) }
 {
     match state {
         Some(state) => generated::<C>(alloc, kind, path, act, state, now),
@@ -68,7 +68,7 @@ fn generated<C: Crdt>(
     requires fitting { fits kind path.now act.now ≡ true }
     requires shallow { C.too_deep kind path.now ≡ false }
     ensures made { IfOk result (λ e. e ≡ C.made kind state.now path.now act.now now) }
-    ensures ready { HoldsSpelled C.holds state.now → IfOk result (λ e. IsReady C.is_of C.can_put C.contents C.spelling kind path.now act.now e) }
+    ensures ready { HoldsSpelled C.holds state.now → IfOk result (λ e. IsReady C.is_of C.can_put C.sets C.spelling kind path.now act.now e) }
 {
     match C::generate(alloc, kind, path, act, state, now) {
         Ok(effect) => Ok(effect),

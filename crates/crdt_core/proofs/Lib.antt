@@ -1,6 +1,5 @@
 pub mod Blank
 pub mod Confluence
-pub mod ContentsLaws
 pub mod DotSet
 pub mod FormSteps
 pub mod KeptKinds
@@ -10,6 +9,7 @@ pub mod Live
 pub mod Members
 pub mod Ready
 pub mod ResetsLaws
+pub mod SetsLaws
 pub mod Sorted
 pub mod StandsLaws
 pub mod Trees

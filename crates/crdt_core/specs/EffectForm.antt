@@ -1,21 +1,19 @@
 -- How the effects of a kind are spelled as bytes.
 use Rattle.std.specs.Prelude.{◌≡◌, ℕ, Bool, true, false, ◌&&◌, ◌==◌, List, [], ◌∷◌}
+use Rattle.std.specs.List.{list_all}
 use Rattle.field_codec.specs.Reading.{Read}
-use Rattle.field_codec.specs.Lawful.{IsForm, SpellsAll}
+use Rattle.field_codec.specs.Lawful.{IsForm}
 use Rattle.site_vector.specs.declared.ids.Dot.{Dot}
 use Rattle.crdt_core.specs.declared.kind.Kind.{Kind}
 use Rattle.crdt_core.specs.declared.kind.Kind.TheVariants.{CounterFat, MapRr}
 use Rattle.crdt_core.specs.declared.object.Field.{Field}
 use Rattle.crdt_core.specs.declared.operation.Act.{Act}
 use Rattle.crdt_core.specs.Seen.{is_reset}
-use Rattle.crdt_core.specs.Spelled.{is_dot}
-use Rattle.crdt_core.specs.Contents.{Content, pieces_of, sets_ascend}
+use Rattle.crdt_core.specs.Spelled.{is_dot, ascend}
 
--- The effects of each kind that the type has are a form, and each that can be put has a spelling exactly where its contents are
--- as they must be; is_of: the effect is one of the kind.
-pub record SpellsEffects {E : Type 0} (has : Kind → Bool) (is_of : Kind → E → Bool) (can_put is_spelled : E → Bool) (contents : E → List Content) (spelling : E → List ℕ) (reading : Kind → List ℕ → ℕ → Read E) : Type 0 where
+-- The effects of each kind that the type has are a form; is_of: the effect is one of the kind.
+pub record SpellsEffects {E : Type 0} (has : Kind → Bool) (is_of : Kind → E → Bool) (can_put is_spelled : E → Bool) (spelling : E → List ℕ) (reading : Kind → List ℕ → ℕ → Read E) : Type 0 where
   pub form : (k : Kind) → has k ≡ true → IsForm (λ e. is_of k e && can_put e) (λ e. is_of k e && is_spelled e) spelling (reading k)
-  pub all : SpellsAll can_put is_spelled (pieces_of contents) spelling
 
 -- each update that a state holds has a spelling
 abbrev pub HoldsSpelled : {S : Type 0} → (S → Dot → Bool) → S → Type 0
@@ -36,9 +34,13 @@ abbrev pub asks_reset : List Field → Act → Bool
 asks_reset [] a = is_reset a
 asks_reset (f ∷ p) a = false
 
+-- each of the sets ascends
+abbrev pub sets_ascend : List (List Dot) → Bool
+sets_ascend sets = list_all ascend sets
+
 -- an effect of the kind that can be put, whose sets of updates ascend; that of a reset begins as the kind's resets do
-pub record IsReady {E : Type 0} (is_of : Kind → E → Bool) (can_put : E → Bool) (contents : E → List Content) (spelling : E → List ℕ) (k : Kind) (p : List Field) (a : Act) (e : E) : Type 0 where
+pub record IsReady {E : Type 0} (is_of : Kind → E → Bool) (can_put : E → Bool) (sets_of : E → List (List Dot)) (spelling : E → List ℕ) (k : Kind) (p : List Field) (a : Act) (e : E) : Type 0 where
   pub kind : is_of k e ≡ true
   pub fit : can_put e ≡ true
-  pub sets : sets_ascend (contents e) ≡ true
+  pub sets : sets_ascend (sets_of e) ≡ true
   pub opened : asks_reset p a ≡ true → begins_with (reset_tag k) (spelling e) ≡ true

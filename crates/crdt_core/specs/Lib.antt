@@ -1,5 +1,4 @@
 pub mod Seen
-pub mod Contents
 pub mod DotCode
 pub mod DotSet
 pub mod EffectForm

@@ -3,7 +3,6 @@ use Rattle.std.specs.Prelude.{ℕ, ◌^◌, Bool, true, ◌&&◌, ◌==◌, nat_
 use Rattle.std.specs.List.{flat_map, list_all}
 use Rattle.field_codec.specs.Spelling.{number, is_number, text, is_text, list, is_list, is_below, are_in_order}
 use Rattle.field_codec.specs.Reading.{Read, number_at, text_at, list_at, members_at, checked_at, then_at, mapped_at}
-use Rattle.field_codec.specs.Lawful.{Piece}
 use Rattle.site_vector.specs.declared.ids.TxId.{TxId}
 use Rattle.site_vector.specs.declared.ids.Dot.{Dot}
 use Rattle.site_vector.specs.Order.{dot_cmp}
@@ -64,10 +63,6 @@ dots ds = list dot ds
 
 abbrev pub dots_at : List ℕ → ℕ → Read (List Dot)
 dots_at = list_at (is_below dot_cmp) dot_at
-
--- a contract sees a set of updates as a list; each `Dots` ascends, and four bytes count its members but where there are 2^32 or more
-abbrev pub set_piece : List Dot → Piece
-set_piece ds = record { holds = is_number 4 (length ds) && ascend ds; bytes = dots ds; room = 0 }
 
 -- ---- the width, the entries
 

@@ -8,17 +8,16 @@ use Rattle.field_codec.specs.declared.error.TakeError.{TakeError}
 use Rattle.field_codec.specs.declared.error.TakeError.TheVariants.{Bad}
 use Rattle.std.specs.List.{flat_map, list_all}
 use Rattle.std.proofs.lemmas.Bool.{eqb-true, eq-eqb}
-use Rattle.std.proofs.lemmas.List.{append-nil}
 use Rattle.field_codec.specs.Spelling.{number, is_number, text, is_text, are_in_order, are_members, is_below}
 use Rattle.field_codec.specs.Reading.{Read, number_at, text_at, members_at, checked_at, then_at, mapped_at}
-use Rattle.field_codec.specs.Lawful.{IsForm, SpellsAll}
+use Rattle.field_codec.specs.Lawful.{IsForm}
 use Rattle.field_codec.specs.FormLaws.{number_form, IsWidth, width1, width2, width8, text_form, list_form, members_form, checked_form, then_form, mapped_form, both_true, and_true, le_from, le_holds, lt_holds}
 use Rattle.site_vector.specs.declared.ids.Dot.{Dot}
 use Rattle.site_vector.specs.Order.{dot_cmp}
 use Rattle.crdt_core.specs.declared.kind.Kind.{Kind}
 use Rattle.crdt_core.specs.declared.kind.Kind.TheVariants.{CounterPn, CounterFat, SetGo, SetAw, SetRw, FlagEw, FlagDw, RegisterLww, RegisterMv, MapGo, MapRr}
 use Rattle.crdt_core.specs.Kinds.{kind_code}
-use Rattle.crdt_core.specs.Spelled.{is_between, between_at, is_tx, tx, tx_of, tx_at, is_dot, dot, dot_of, dot_at, are_dots, ascend, is_dots, dots, dots_at, set_piece, vector, is_vector, vector_at, kind, coded_kind, kind_at, is_object, object, object_of, object_at}
+use Rattle.crdt_core.specs.Spelled.{is_between, between_at, is_tx, tx, tx_of, tx_at, is_dot, dot, dot_of, dot_at, are_dots, ascend, is_dots, dots, dots_at, vector, is_vector, vector_at, kind, coded_kind, kind_at, is_object, object, object_of, object_at}
 
 -- a number within bounds that its bytes can spell
 pub between_form : (width least most : ℕ) → IsWidth width → most < 256 ^ width → IsForm (is_between least most) (is_between least most) (number width) (between_at width least most)
@@ -66,18 +65,6 @@ dots_held_form = record {
   fit = λ ds good. (both_true (ascend ds) (are_dots ds) (dots_form.fit ds good)).1;
   ends = dots_form.ends;
   tells = dots_form.tells;
-}
-
--- which have a spelling
-pub dots_spell : SpellsAll are_dots is_dots (λ ds. set_piece ds ∷ []) dots
-dots_spell = record {
-  spells = λ ds h all.
-      let a = both_true (is_number 4 (length ds)) (ascend ds) (both_true (is_number 4 (length ds) && ascend ds) true all).0 in
-      and_true (is_number 4 (length ds)) (are_ascending ds) a.0 (and_true (ascend ds) (are_dots ds) a.1 h);
-  held = λ ds good.
-      let a = both_true (is_number 4 (length ds)) (are_ascending ds) good in
-      and_true (is_number 4 (length ds) && ascend ds) true (and_true (is_number 4 (length ds)) (ascend ds) a.0 (both_true (ascend ds) (are_dots ds) a.1).0) refl;
-  stand = λ ds. ([], [], sym (append-nil (dots ds)), omega arith, tt);
 }
 
 -- the same test told otherwise

@@ -12,7 +12,6 @@ ghost use Rattle.crdt_core.specs.InMaps.{KeepsInMaps};
 ghost use Rattle.crdt_core.specs.Resets.{ResetsWhatIsLeft};
 ghost use Rattle.crdt_core.specs.Law.{KeepsLaw};
 ghost use Rattle.crdt_core.specs.EffectForm.{SpellsEffects, HoldsSpelled, IsReady};
-ghost use Rattle.crdt_core.specs.Contents.{Content};
 ghost use Rattle.crdt_core.specs.Stands.{NamesStand};
 
 use crate::{Act, Field, GenError, Kind, Op, Value};
@@ -80,12 +79,11 @@ pub trait Crdt {
     /// fields are in order. That its sets of updates are in order is not asked, since their type keeps them so.
     ghost can_put: { Self.Effect → Bool };
 
-    /// What has a spelling: of what can be put, that in which no list is too long to be counted. The law says so of effects whose
-    /// texts and sets of updates are as their types keep them.
+    /// What has a spelling. Of what can be put, it is meant to be that in which no list is too long to be counted; no law says so.
     ghost is_spelled: { Self.Effect → Bool };
 
-    /// The texts, the sets of updates and the counts of other lists that stand in an effect's bytes, in turn.
-    ghost contents: { Self.Effect → List Content };
+    /// The sets of updates that stand in an effect's bytes, in turn.
+    ghost sets: { Self.Effect → List (List Dot) };
 
     /// The bytes of an effect.
     ghost spelling: { Self.Effect → List ℕ };
@@ -93,12 +91,11 @@ pub trait Crdt {
     /// What reading an effect of a kind at a place answers.
     ghost reading: { Kind → List ℕ → ℕ → Read Self.Effect };
 
-    /// Each effect is spelled in one way, and none begins another of its kind. Each that can be put has a spelling exactly where its
-    /// contents are as they must be.
-    ghost spells: { SpellsEffects has is_of can_put is_spelled contents spelling reading };
+    /// Each effect is spelled in one way, and none begins another of its kind.
+    ghost spells: { SpellsEffects has is_of can_put is_spelled spelling reading };
 
     /// An effect names exactly the updates in the sets that stand in its bytes.
-    ghost stands: { NamesStand can_put names contents spelling };
+    ghost stands: { NamesStand can_put names sets spelling };
 
     /// Whether the type has the kind. Takes no memory.
     fn has(kind: Kind) -> bool
@@ -139,7 +136,7 @@ pub trait Crdt {
         now: u64,
     ) -> Result<Self::Effect, GenError>
         ensures made { IfOk result (λ e. e ≡ made kind state.now path.now act.now now) }
-        ensures ready { has kind ≡ true → HoldsSpelled holds state.now → IfOk result (λ e. IsReady is_of can_put contents spelling kind path.now act.now e) }
+        ensures ready { has kind ≡ true → HoldsSpelled holds state.now → IfOk result (λ e. IsReady is_of can_put sets spelling kind path.now act.now e) }
         ensures fitting { OnOk result ((fits kind path.now act.now ≡ true) × (too_deep kind path.now ≡ false)) }
         ensures too_deep { (result ≡ Err GenError.TooDeep) ↔ (too_deep kind path.now ≡ true) }
         ensures bad_op { (result ≡ Err GenError.BadOp) ↔ ((fits kind path.now act.now ≡ false) × (too_deep kind path.now ≡ false)) };

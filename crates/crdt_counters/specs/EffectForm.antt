@@ -7,20 +7,18 @@ use Rattle.std.proofs.lemmas.Int.{ints, fits_signed_from_abs, to_z-of_z, of_z-to
 use Rattle.std.proofs.lemmas.Bool.{false≢true}
 use Rattle.field_codec.specs.Spelling.{number, is_number}
 use Rattle.field_codec.specs.Reading.{Read, number_at, checked_at, mapped_at}
-use Rattle.field_codec.specs.Lawful.{all_hold, StandInTurn, IsForm, SpellsAll}
-use Rattle.field_codec.proofs.SpellsAllLaws.{alike_spells, behind_spells}
+use Rattle.field_codec.specs.Lawful.{IsForm}
 use Rattle.field_codec.specs.FormLaws.{number_form, width8, lt_holds, lt_from, le_from, both_true}
 use Rattle.field_codec.specs.Tagged.{tagged_at, tagged_form, shape_form, within_form}
 use Rattle.site_vector.specs.declared.ids.Dot.{Dot}
 use Rattle.crdt_core.specs.declared.kind.Kind.{Kind}
 use Rattle.crdt_core.specs.DotSet.{has_dot}
 use Rattle.crdt_core.specs.Spelled.{is_between, are_dots, is_dots, dots, dots_at}
-use Rattle.crdt_core.specs.SpelledLaws.{dots_held_form, dots_spell}
-use Rattle.crdt_core.specs.Contents.{Content, Updates, pieces_of, have_update}
-use Rattle.crdt_core.proofs.ContentsLaws.{or_none}
+use Rattle.crdt_core.specs.SpelledLaws.{dots_held_form}
+use Rattle.crdt_core.proofs.SetsLaws.{or_none}
 use Rattle.crdt_core.specs.EffectForm.{SpellsEffects}
-use Rattle.crdt_core.specs.Stands.{NamesStand}
-use Rattle.crdt_core.proofs.StandsLaws.{names_stand}
+use Rattle.crdt_core.specs.Stands.{StandsIn, have_update, NamesStand}
+use Rattle.crdt_core.proofs.StandsLaws.{stands_behind, dots_stand}
 use Rattle.crdt_counters.specs.CounterPn.{names_none}
 use Rattle.crdt_counters.specs.CounterFat.{fat_names}
 use Rattle.crdt_counters.specs.declared.counter_fat.FatEffect.{FatEffect}
@@ -62,9 +60,9 @@ abbrev pub can_put_fat : FatEffect → Bool
 can_put_fat (Amount n) = is_amount_number n
 can_put_fat (Reset ds) = are_dots ds
 
-abbrev pub fat_contents : FatEffect → List Content
-fat_contents (Amount n) = []
-fat_contents (Reset ds) = Updates ds ∷ []
+abbrev pub fat_sets : FatEffect → List (List Dot)
+fat_sets (Amount n) = []
+fat_sets (Reset ds) = ds ∷ []
 
 abbrev pub is_fat_spelled : FatEffect → Bool
 is_fat_spelled (Amount n) = is_amount_number n
@@ -108,44 +106,30 @@ pub fat_form : IsForm can_put_fat is_fat_spelled fat_spelling fat_at
 unfolding fat_at
 fat_form = tagged_form (is_between 0 1) fat_mark can_put_fat is_fat_spelled fat_rest fat_rest_at known small rest_form
 
-rest_all : SpellsAll can_put_fat is_fat_spelled (pieces_of fat_contents) fat_rest
-rest_all = record { spells = by; held = held; stand = stand }
-  where
-    by : (e : FatEffect) → can_put_fat e ≡ true → all_hold (pieces_of fat_contents e) ≡ true → is_fat_spelled e ≡ true
-    by (Amount n) h all = h
-    by (Reset ds) h all = dots_spell.spells ds h all
-
-    held : (e : FatEffect) → is_fat_spelled e ≡ true → all_hold (pieces_of fat_contents e) ≡ true
-    held (Amount n) h = refl
-    held (Reset ds) h = dots_spell.held ds h
-
-    stand : (e : FatEffect) → StandInTurn (pieces_of fat_contents e) (fat_rest e)
-    stand (Amount n) = tt
-    stand (Reset ds) = dots_spell.stand ds
-
-pub fat_all : SpellsAll can_put_fat is_fat_spelled (pieces_of fat_contents) fat_spelling
-fat_all = behind_spells (λ e. number 1 (fat_mark e)) rest_all
-
 -- every effect is one of the kind
 abbrev pub is_of_kind : {E : Type 0} → Kind → E → Bool
 is_of_kind k e = true
 
--- an amount holds no text and no update
-abbrev pub amount_contents : ℤ → List Content
-amount_contents z = []
+-- an amount holds no update
+abbrev pub amount_sets : ℤ → List (List Dot)
+amount_sets z = []
 
-abbrev pub pn_spells : (has : Kind → Bool) → SpellsEffects has is_of_kind is_amount_number is_amount_number amount_contents amount_spelling (λ k. amount_at)
-pn_spells has = record { form = λ k h. amount_form; all = alike_spells is_amount_number amount_spelling }
+abbrev pub pn_spells : (has : Kind → Bool) → SpellsEffects has is_of_kind is_amount_number is_amount_number amount_spelling (λ k. amount_at)
+pn_spells has = record { form = λ k h. amount_form }
 
-abbrev pub fat_spells : (has : Kind → Bool) → SpellsEffects has is_of_kind can_put_fat is_fat_spelled fat_contents fat_spelling (λ k. fat_at)
-fat_spells has = record { form = λ k h. fat_form; all = fat_all }
+abbrev pub fat_spells : (has : Kind → Bool) → SpellsEffects has is_of_kind can_put_fat is_fat_spelled fat_spelling (λ k. fat_at)
+fat_spells has = record { form = λ k h. fat_form }
 
-pub pn_stands : NamesStand is_amount_number names_none amount_contents amount_spelling
-pn_stands = names_stand (alike_spells is_amount_number amount_spelling) (λ e d can. refl)
+pub pn_stands : NamesStand is_amount_number names_none amount_sets amount_spelling
+pn_stands = record { exact = λ e d can. refl; stands = λ e d can h. absurd (false≢true h) }
 
-fat_exact : (e : FatEffect) (d : Dot) → fat_names e d ≡ have_update (fat_contents e) d
+fat_exact : (e : FatEffect) (d : Dot) → fat_names e d ≡ have_update (fat_sets e) d
 fat_exact (Amount n) d = refl
 fat_exact (Reset ds) d = sym (or_none (has_dot ds d))
 
-pub fat_stands : NamesStand can_put_fat fat_names fat_contents fat_spelling
-fat_stands = names_stand fat_all (λ e d can. fat_exact e d)
+fat_stand : (e : FatEffect) (d : Dot) → can_put_fat e ≡ true → fat_names e d ≡ true → StandsIn d (fat_spelling e)
+fat_stand (Amount n) d can h = absurd (false≢true h)
+fat_stand (Reset ds) d can h = stands_behind (number 1 1) (dots_stand ds d can h)
+
+pub fat_stands : NamesStand can_put_fat fat_names fat_sets fat_spelling
+fat_stands = record { exact = λ e d can. fat_exact e d; stands = fat_stand }

@@ -4,7 +4,7 @@ ghost use Rattle.crdt_core.specs.Kept.{is_kept, keeps_none};
 ghost use Rattle.crdt_counters.specs.Meaning.{counter_meaning};
 ghost use Rattle.crdt_counters.specs.CounterPn.{no_stamp};
 ghost use Rattle.crdt_counters.specs.CounterFat.{fat_has, fat_step, fat_made, fat_value, fat_names};
-ghost use Rattle.crdt_counters.specs.EffectForm.{is_of_kind, can_put_fat, is_fat_spelled, fat_contents, fat_spelling, fat_at, fat_spells, fat_stands};
+ghost use Rattle.crdt_counters.specs.EffectForm.{is_of_kind, can_put_fat, is_fat_spelled, fat_sets, fat_spelling, fat_at, fat_spells, fat_stands};
 ghost use Rattle.crdt_counters.specs.FatLaw.{fat_law, fat_in_maps, fat_resets};
 
 use crate::amounts::{amount_of, total_of};
@@ -65,7 +65,7 @@ impl Crdt for CounterFat {
 
     ghost is_spelled = { is_fat_spelled };
 
-    ghost contents = { fat_contents };
+    ghost sets = { fat_sets };
 
     ghost spelling = { fat_spelling };
 
@@ -116,7 +116,7 @@ impl Crdt for CounterFat {
         None
     }
 
-    #[tactic(auto, using(crdt_core::specs::KeptSteps::without_none))]
+    #[tactic(auto, using(crdt_core::proofs::KeptSteps::without_none))]
     fn apply(
         alloc: Global,
         state: &mut Kept<i64>,

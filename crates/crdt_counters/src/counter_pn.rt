@@ -1,7 +1,7 @@
 ghost use Rattle.std.specs.Prelude.{◌≡◌, pos, false};
 ghost use Rattle.crdt_counters.specs.Meaning.{counter_meaning};
 ghost use Rattle.crdt_counters.specs.CounterPn.{pn_has, pn_step, pn_made, pn_value, no_stamp, names_none, holds_none, is_zero};
-ghost use Rattle.crdt_counters.specs.EffectForm.{is_of_kind, is_amount_number, amount_contents, amount_spelling, amount_at, pn_spells, pn_stands};
+ghost use Rattle.crdt_counters.specs.EffectForm.{is_of_kind, is_amount_number, amount_sets, amount_spelling, amount_at, pn_spells, pn_stands};
 ghost use Rattle.crdt_counters.specs.PnLaw.{pn_law, pn_in_maps, pn_resets};
 
 use crate::amount_form::AmountForm;
@@ -54,7 +54,7 @@ impl Crdt for CounterPn {
 
     ghost is_spelled = { is_amount_number };
 
-    ghost contents = { amount_contents };
+    ghost sets = { amount_sets };
 
     ghost spelling = { amount_spelling };
 

@@ -8,13 +8,12 @@ use Rattle.crdt_core.specs.declared.operation.Act.TheVariants as act
 use Rattle.field_codec.specs.FormLaws.{and_true}
 use Rattle.crdt_core.specs.Kept.{KeptAt, dots_of, is_kept}
 use Rattle.crdt_core.specs.Spelled.{ascend}
-use Rattle.crdt_core.specs.EffectForm.{HoldsSpelled, IsReady, reset_tag, begins_with, asks_reset}
+use Rattle.crdt_core.specs.EffectForm.{HoldsSpelled, IsReady, reset_tag, begins_with, asks_reset, sets_ascend}
 use Rattle.crdt_core.proofs.Ready.{kept_spelled, kept_ascend}
-use Rattle.crdt_core.specs.Contents.{Updates, sets_ascend}
 use Rattle.crdt_flags.specs.Flags.{flag_kind, flag_made}
-use Rattle.crdt_flags.specs.EffectForm.{is_of_kind, can_put_flag, flag_contents, flag_spelling}
+use Rattle.crdt_flags.specs.EffectForm.{is_of_kind, can_put_flag, flag_sets, flag_spelling}
 
-one_set : (s : KeptAt Bool) → sets_ascend (Updates (dots_of s) ∷ []) ≡ true
+one_set : (s : KeptAt Bool) → sets_ascend (dots_of s ∷ []) ≡ true
 one_set s = and_true (ascend (dots_of s)) true (kept_ascend s) refl
 
 can_put_made : (s : KeptAt Bool) (a : Act) → HoldsSpelled is_kept s → can_put_flag (flag_made s a) ≡ true
@@ -23,7 +22,7 @@ can_put_made s act.Disable h = kept_spelled s h
 can_put_made s act.Reset h = kept_spelled s h
 can_put_made s _ h = refl
 
-set_made : (s : KeptAt Bool) (a : Act) → sets_ascend (flag_contents (flag_made s a)) ≡ true
+set_made : (s : KeptAt Bool) (a : Act) → sets_ascend (flag_sets (flag_made s a)) ≡ true
 set_made s act.Enable = one_set s
 set_made s act.Disable = one_set s
 set_made s act.Reset = one_set s
@@ -38,7 +37,7 @@ reset_mark : (w : Bool) → reset_tag (flag_kind w) ≡ 2
 reset_mark false = refl
 reset_mark true = refl
 
-pub flag_ready : (w : Bool) (k : Kind) → k ≡ flag_kind w → (s : KeptAt Bool) (p : List Field) (a : Act) → HoldsSpelled is_kept s → IsReady is_of_kind can_put_flag flag_contents flag_spelling k p a (flag_made s a)
+pub flag_ready : (w : Bool) (k : Kind) → k ≡ flag_kind w → (s : KeptAt Bool) (p : List Field) (a : Act) → HoldsSpelled is_kept s → IsReady is_of_kind can_put_flag flag_sets flag_spelling k p a (flag_made s a)
 flag_ready w k e s p a h = record {
   kind = refl;
   fit = can_put_made s a h;

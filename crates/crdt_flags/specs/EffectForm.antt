@@ -3,18 +3,16 @@ use Rattle.std.specs.Prelude.{◌≡◌, ℕ, zero, suc, ◌≤◌, ◌==◌, Bo
 use Rattle.std.proofs.Common.{sym, arith}
 use Rattle.field_codec.specs.Spelling.{number}
 use Rattle.field_codec.specs.Reading.{Read}
-use Rattle.field_codec.specs.Lawful.{IsForm, SpellsAll}
-use Rattle.field_codec.proofs.SpellsAllLaws.{behind_spells, mapped_spells}
+use Rattle.field_codec.specs.Lawful.{IsForm}
 use Rattle.site_vector.specs.declared.ids.Dot.{Dot}
 use Rattle.crdt_core.specs.declared.kind.Kind.{Kind}
 use Rattle.crdt_core.specs.DotSet.{has_dot}
 use Rattle.crdt_core.specs.Spelled.{are_dots, is_dots, dots, dots_at}
-use Rattle.crdt_core.specs.SpelledLaws.{marked_at, marked_form, dots_held_form, dots_spell}
-use Rattle.crdt_core.specs.Contents.{Content, Updates, pieces_of}
-use Rattle.crdt_core.proofs.ContentsLaws.{or_none}
+use Rattle.crdt_core.specs.SpelledLaws.{marked_at, marked_form, dots_held_form}
+use Rattle.crdt_core.proofs.SetsLaws.{or_none}
 use Rattle.crdt_core.specs.EffectForm.{SpellsEffects}
 use Rattle.crdt_core.specs.Stands.{NamesStand}
-use Rattle.crdt_core.proofs.StandsLaws.{names_stand}
+use Rattle.crdt_core.proofs.StandsLaws.{stands_behind, dots_stand}
 use Rattle.crdt_flags.specs.Flags.{flag_out, flag_names}
 use Rattle.crdt_flags.specs.declared.effect.FlagEffect.{FlagEffect}
 use Rattle.crdt_flags.specs.declared.effect.FlagEffect.TheVariants.{Enable, Disable, Reset}
@@ -30,8 +28,8 @@ marked_flag x = if x.0 == 0 then Enable x.1 else if x.0 == 1 then Disable x.1 el
 abbrev pub can_put_flag : FlagEffect → Bool
 can_put_flag e = are_dots (flag_out e)
 
-abbrev pub flag_contents : FlagEffect → List Content
-flag_contents e = Updates (flag_out e) ∷ []
+abbrev pub flag_sets : FlagEffect → List (List Dot)
+flag_sets e = flag_out e ∷ []
 
 abbrev pub is_flag_spelled : FlagEffect → Bool
 is_flag_spelled e = is_dots (flag_out e)
@@ -62,15 +60,15 @@ pub flag_form : IsForm can_put_flag is_flag_spelled flag_spelling flag_at
 unfolding flag_at
 flag_form = marked_form 2 (omega arith) marked_flag flag_mark flag_out are_dots is_dots dots dots_at back forth few dots_held_form
 
-pub flag_all : SpellsAll can_put_flag is_flag_spelled (pieces_of flag_contents) flag_spelling
-flag_all = behind_spells (λ e. number 1 (flag_mark e)) (mapped_spells flag_out dots_spell)
-
 -- every effect is one of the kind
 abbrev pub is_of_kind : Kind → FlagEffect → Bool
 is_of_kind k e = true
 
-abbrev pub flag_spells : (has : Kind → Bool) → SpellsEffects has is_of_kind can_put_flag is_flag_spelled flag_contents flag_spelling (λ k. flag_at)
-flag_spells has = record { form = λ k h. flag_form; all = flag_all }
+abbrev pub flag_spells : (has : Kind → Bool) → SpellsEffects has is_of_kind can_put_flag is_flag_spelled flag_spelling (λ k. flag_at)
+flag_spells has = record { form = λ k h. flag_form }
 
-pub flag_stands : NamesStand can_put_flag flag_names flag_contents flag_spelling
-flag_stands = names_stand flag_all (λ e d can. sym (or_none (has_dot (flag_out e) d)))
+pub flag_stands : NamesStand can_put_flag flag_names flag_sets flag_spelling
+flag_stands = record {
+  exact = λ e d can. sym (or_none (has_dot (flag_out e) d));
+  stands = λ e d can h. stands_behind (number 1 (flag_mark e)) (dots_stand (flag_out e) d can h);
+}

@@ -3,7 +3,7 @@ ghost use Rattle.std.specs.FinMap.{empty};
 ghost use Rattle.crdt_core.specs.Kept.{kept_step, is_kept, keeps_none};
 ghost use Rattle.crdt_flags.specs.Meaning.{flag_meaning};
 ghost use Rattle.crdt_flags.specs.Flags.{flag_kind, flag_has, flag_step, flag_value, kind_made, no_stamp, flag_names};
-ghost use Rattle.crdt_flags.specs.EffectForm.{is_of_kind, can_put_flag, is_flag_spelled, flag_contents, flag_spelling, flag_at, flag_spells, flag_stands};
+ghost use Rattle.crdt_flags.specs.EffectForm.{is_of_kind, can_put_flag, is_flag_spelled, flag_sets, flag_spelling, flag_at, flag_spells, flag_stands};
 ghost use Rattle.crdt_flags.specs.FlagLaws.{flag_law, flag_in_maps, flag_resets};
 
 use crate::FlagEffect;
@@ -64,7 +64,7 @@ impl<const DISABLES_WIN: bool> Crdt for FlagOf<DISABLES_WIN> {
 
     ghost is_spelled = { is_flag_spelled };
 
-    ghost contents = { flag_contents };
+    ghost sets = { flag_sets };
 
     ghost spelling = { flag_spelling };
 

@@ -4,15 +4,14 @@ use Rattle.std.proofs.Common.{arith, ap, sym, subst, ◌∙◌, ⊎_elim, append
 use Rattle.std.proofs.lemmas.List.{drop_at}
 use Rattle.std.proofs.lemmas.Bool.{true≢false, false≢true, eqb-true, eq-eqb}
 use Rattle.std.proofs.lemmas.Bool.Decides.{nat_tests}
-use Rattle.std.specs.List.{list_any, list_all}
+use Rattle.std.specs.List.{flat_map, list_any, list_all}
 use Rattle.field_codec.specs.declared.error.TakeError.TheVariants.{Short, Bad, NoMemory}
 use Rattle.field_codec.specs.Spelling.{number, is_number, text, is_text, list, are_in_order, are_members, is_list, is_below, Spans}
 use Rattle.field_codec.specs.Reading.{Read, ◌>>=◌, number_at, text_at, list_at, checked_at, then_at, mapped_at}
-use Rattle.field_codec.specs.Lawful.{IsBytes, text_piece, all_hold, StandInTurn, TellsWhy, IsForm, SpellsAll}
+use Rattle.field_codec.specs.Lawful.{IsBytes, TellsWhy, IsForm}
 use Rattle.field_codec.specs.Steps.{by_length, bind_err, lt_from, IsBytes-append}
 use Rattle.field_codec.specs.Refusals.{steady_form, enough_from, tested_short, ends_at}
 use Rattle.field_codec.specs.FormLaws.{any_text_form, number_form, number_short, length-number, width1, list_form, checked_form, then_form, mapped_form, lt_holds, le_from, both_true, and_true, bind_ok, spans_first}
-use Rattle.field_codec.proofs.SpellsAllLaws.{longer, text_first, alike_spells, any_text_spells, checked_spells, behind_spells, then_spells, mapped_spells, told_spells, list_spells}
 use Rattle.field_codec.specs.Tagged.{tagged_at, tagged_form, shape_form}
 use Rattle.site_vector.specs.declared.ids.Dot.{Dot}
 use Rattle.crdt_core.specs.declared.kind.Kind.{Kind}
@@ -23,10 +22,9 @@ use Rattle.crdt_core.specs.FieldOrder.{field_cmp}
 use Rattle.crdt_core.specs.Spelled.{is_between, kind, kind_at}
 use Rattle.crdt_core.specs.SpelledLaws.{kind_form}
 use Rattle.crdt_core.specs.EffectForm.{SpellsEffects, reset_tag, begins_with}
-use Rattle.crdt_core.specs.Contents.{Content, Words, list_contents, pieces_of, have_update}
-use Rattle.crdt_core.proofs.ContentsLaws.{or_none, pieces_of_list, update_of_list}
-use Rattle.crdt_core.specs.Stands.{NamesStand}
-use Rattle.crdt_core.proofs.StandsLaws.{names_stand}
+use Rattle.crdt_core.specs.Stands.{StandsIn, have_update, NamesStand}
+use Rattle.crdt_core.proofs.SetsLaws.{or_none, update_of_list}
+use Rattle.crdt_core.proofs.StandsLaws.{stands_behind, list_stands}
 use Rattle.crdt_maps.specs.Maps.{map_kind, map_names}
 use Rattle.crdt_maps.specs.declared.effect.MapEffect.{MapEffect}
 use Rattle.crdt_maps.specs.declared.effect.MapEffect.TheVariants.{At, Resets}
@@ -62,9 +60,6 @@ unfolding field_at
 field_form allowed =
     let whole = then_form (λ t. true) is_text text text_at (λ _. allowed) (λ _. allowed) (λ _. kind) (λ _. checked_at allowed kind_at) any_text_form (λ _ _. coded_form allowed) in
     mapped_form field_of (λ f. (f.name, f.kind)) _ _ _ _ (λ _. refl) (λ _ _. refl) whole
-
-pub field_all : (allowed : Kind → Bool) → SpellsAll (λ f. allowed f.kind) (is_field allowed) (λ f. text_piece f.name ∷ []) field
-field_all allowed = mapped_spells (λ f. (f.name, f.kind)) (then_spells any_text_spells (λ _. alike_spells allowed kind))
 
 -- ---- a value whose spelling begins with a tag
 
@@ -228,9 +223,6 @@ tag_small _ = refl
 abbrev pub can_put_entry : {E : Type 0} → (Kind → Bool) → (Kind → E → Bool) → (E → Bool) → Field × E → Bool
 can_put_entry allowed is_of can_put x = allowed x.0.kind && (is_of x.0.kind x.1 && can_put x.1)
 
-abbrev pub entry_contents : {E : Type 0} → (E → List Content) → Field × E → List Content
-entry_contents contents x = Words x.0.name ∷ contents x.1
-
 abbrev pub is_entry_spelled : {E : Type 0} → (Kind → Bool) → (Kind → E → Bool) → (E → Bool) → Field × E → Bool
 is_entry_spelled allowed is_of is_spelled x = is_field allowed x.0 && (is_of x.0.kind x.1 && is_spelled x.1)
 
@@ -253,9 +245,6 @@ reset_at allowed reading = then_at (field_at allowed) (λ f. opened_at (reset_ta
 -- by field
 abbrev pub entry_below : {E : Type 0} → Field × E → Field × E → Bool
 entry_below x y = is_below field_cmp x.0 y.0
-
-pub entry_first : {E : Type 0} (spelling : E → List ℕ) (x : Field × E) → 0 < length (entry spelling x)
-entry_first spelling x = longer (field x.0) (spelling x.1) (longer (text x.0.name) (kind x.0.kind) (text_first x.0.name))
 
 -- ---- effects of a map: a zero and an entry, or, where fields can be dropped, a one and the resets of fields, ascending
 
@@ -281,9 +270,9 @@ map_rest spelling (Resets xs) = list (entry spelling) xs
 abbrev pub map_spelling : {E : Type 0} → Bool → (E → List ℕ) → MapEffect E → List ℕ
 map_spelling drops spelling e = number 1 (map_mark drops e) ++ map_rest spelling e
 
-abbrev pub map_contents : {E : Type 0} → (E → List Content) → MapEffect E → List Content
-map_contents contents (At f e) = entry_contents contents (f, e)
-map_contents contents (Resets xs) = list_contents (entry_contents contents) xs
+abbrev pub map_sets : {E : Type 0} → (E → List (List Dot)) → MapEffect E → List (List Dot)
+map_sets sets (At f e) = sets e
+map_sets sets (Resets xs) = flat_map (λ x. sets x.1) xs
 
 abbrev pub at_of : {E : Type 0} → Field × E → MapEffect E
 at_of x = At x.0 x.1
@@ -310,7 +299,7 @@ small_mark : (drops : Bool) (n : ℕ) → is_between 0 (last_mark drops) n ≡ t
 small_mark false = small_tag 0 (omega arith)
 small_mark true = small_tag 1 (omega arith)
 
-module _ {E : Type 0} {has : Kind → Bool} {is_of : Kind → E → Bool} {can_put is_spelled : E → Bool} {contents : E → List Content} {spelling : E → List ℕ} {reading : Kind → List ℕ → ℕ → Read E} (spells : SpellsEffects has is_of can_put is_spelled contents spelling reading) where
+module _ {E : Type 0} {has : Kind → Bool} {is_of : Kind → E → Bool} {can_put is_spelled : E → Bool} {spelling : E → List ℕ} {reading : Kind → List ℕ → ℕ → Read E} (spells : SpellsEffects has is_of can_put is_spelled spelling reading) where
   pub entry_form : (outer : Kind) → IsForm (can_put_entry (may_stand outer has) is_of can_put) (is_entry_spelled (may_stand outer has) is_of is_spelled) (entry spelling) (entry_at (may_stand outer has) reading)
   unfolding entry_at
   entry_form outer = let allowed = may_stand outer has in
@@ -355,35 +344,8 @@ module _ {E : Type 0} {has : Kind → Bool} {is_of : Kind → E → Bool} {can_p
   unfolding map_at
   map_form drops = tagged_form (is_between 0 (last_mark drops)) (map_mark drops) _ _ (map_rest spelling) (map_rest_at drops has reading) (mark_known drops) (small_mark drops) (rest_form drops)
 
-  entry_all : (outer : Kind) → SpellsAll (can_put_entry (may_stand outer has) is_of can_put) (is_entry_spelled (may_stand outer has) is_of is_spelled) (pieces_of (entry_contents contents)) (entry spelling)
-  entry_all outer = then_spells (field_all (may_stand outer has)) (λ f. checked_spells (is_of f.kind) spells.all)
-
-  pub reset_all : (outer : Kind) → SpellsAll (can_put_reset (may_stand outer has) is_of can_put spelling) (is_reset_spelled (may_stand outer has) is_of is_spelled spelling) (pieces_of (entry_contents contents)) (entry spelling)
-  reset_all outer = then_spells (field_all (may_stand outer has)) (λ f. checked_spells (λ e. begins_with (reset_tag f.kind) (spelling e)) (checked_spells (is_of f.kind) spells.all))
-
-  resets_all : SpellsAll (are_members entry_below (can_put_reset (may_stand kinds.MapRr has) is_of can_put spelling)) (is_list entry_below (is_reset_spelled (may_stand kinds.MapRr has) is_of is_spelled spelling)) (pieces_of (list_contents (entry_contents contents))) (list (entry spelling))
-  resets_all = told_spells (pieces_of (list_contents (entry_contents contents))) (pieces_of_list (entry_contents contents)) (list_spells entry_below (entry_first spelling) (reset_all kinds.MapRr))
-
-  rest_all : (drops : Bool) → SpellsAll (can drops) (spelled drops) (pieces_of (map_contents contents)) (map_rest spelling)
-  rest_all drops = record { spells = by; held = held; stand = stand }
-    where
-      by : (e : MapEffect E) → can drops e ≡ true → all_hold (pieces_of (map_contents contents) e) ≡ true → spelled drops e ≡ true
-      by (At f e) h all = (entry_all (map_kind drops)).spells (f, e) h all
-      by (Resets xs) h all = let two = both_true drops _ h in and_true drops _ two.0 (resets_all.spells xs two.1 all)
-
-      held : (e : MapEffect E) → spelled drops e ≡ true → all_hold (pieces_of (map_contents contents) e) ≡ true
-      held (At f e) h = (entry_all (map_kind drops)).held (f, e) h
-      held (Resets xs) h = resets_all.held xs (both_true drops _ h).1
-
-      stand : (e : MapEffect E) → StandInTurn (pieces_of (map_contents contents) e) (map_rest spelling e)
-      stand (At f e) = (entry_all (map_kind drops)).stand (f, e)
-      stand (Resets xs) = resets_all.stand xs
-
-  pub map_all : (drops : Bool) → SpellsAll (map_can_put drops has is_of can_put spelling) (map_is_spelled drops has is_of is_spelled spelling) (pieces_of (map_contents contents)) (map_spelling drops spelling)
-  map_all drops = behind_spells (λ e. number 1 (map_mark drops e)) (rest_all drops)
-
-  abbrev pub map_spells : (drops : Bool) (of_map : Kind → Bool) → SpellsEffects of_map is_of_map (map_can_put drops has is_of can_put spelling) (map_is_spelled drops has is_of is_spelled spelling) (map_contents contents) (map_spelling drops spelling) (λ k. map_at drops has reading)
-  map_spells drops of_map = record { form = λ k h. map_form drops; all = map_all drops }
+  abbrev pub map_spells : (drops : Bool) (of_map : Kind → Bool) → SpellsEffects of_map is_of_map (map_can_put drops has is_of can_put spelling) (map_is_spelled drops has is_of is_spelled spelling) (map_spelling drops spelling) (λ k. map_at drops has reading)
+  map_spells drops of_map = record { form = λ k h. map_form drops }
 
 -- ---- an effect names exactly the updates in the sets that stand in its bytes
 
@@ -391,37 +353,52 @@ module _ {E : Type 0} {has : Kind → Bool} {is_of : Kind → E → Bool} {can_p
 known_names : (has : Kind → Bool) (k : Kind) (b c : Bool) → has k ≡ true → b ≡ c → (has k && b) ≡ c
 known_names has k b c known same = ap (λ h. h && b) known ∙ same
 
-module _ {E : Type 0} (has : Kind → Bool) (is_of : Kind → E → Bool) {can_put : E → Bool} {names : E → Dot → Bool} {contents : E → List Content} {spelling : E → List ℕ} (inner : NamesStand can_put names contents spelling) where
+module _ {E : Type 0} (has : Kind → Bool) (is_of : Kind → E → Bool) {can_put : E → Bool} {names : E → Dot → Bool} {sets : E → List (List Dot)} {spelling : E → List ℕ} (inner : NamesStand can_put names sets spelling) where
   abbrev Exact : Field × E → Dot → Type 0
-  Exact x d = (has x.0.kind && names x.1 d) ≡ have_update (entry_contents contents x) d
+  Exact x d = (has x.0.kind && names x.1 d) ≡ have_update (sets x.1) d
 
   entry_exact : (outer : Kind) (x : Field × E) (d : Dot) → can_put_entry (may_stand outer has) is_of can_put x ≡ true → Exact x d
   entry_exact outer x d can =
       let a = both_true (may_stand outer has x.0.kind) (is_of x.0.kind x.1 && can_put x.1) can in
       let known = (both_true (stands_in outer x.0.kind) (has x.0.kind) a.0).1 in
-      known_names has x.0.kind (names x.1 d) (have_update (contents x.1) d) known (inner.exact x.1 d (both_true (is_of x.0.kind x.1) (can_put x.1) a.1).1)
+      known_names has x.0.kind (names x.1 d) (have_update (sets x.1) d) known (inner.exact x.1 d (both_true (is_of x.0.kind x.1) (can_put x.1) a.1).1)
 
-  reset_exact : (outer : Kind) (x : Field × E) (d : Dot) → can_put_reset (may_stand outer has) is_of can_put spelling x ≡ true → Exact x d
-  reset_exact outer x d can =
+  -- a reset that can be put is an entry that can
+  as_entry : (outer : Kind) (x : Field × E) → can_put_reset (may_stand outer has) is_of can_put spelling x ≡ true → can_put_entry (may_stand outer has) is_of can_put x ≡ true
+  as_entry outer x can =
       let begins = begins_with (reset_tag x.0.kind) (spelling x.1) in
       let a = both_true (may_stand outer has x.0.kind) (begins && (is_of x.0.kind x.1 && can_put x.1)) can in
-      entry_exact outer x d (and_true (may_stand outer has x.0.kind) _ a.0 (both_true begins (is_of x.0.kind x.1 && can_put x.1) a.1).1)
+      and_true (may_stand outer has x.0.kind) _ a.0 (both_true begins (is_of x.0.kind x.1 && can_put x.1) a.1).1
+
+  reset_exact : (outer : Kind) (x : Field × E) (d : Dot) → can_put_reset (may_stand outer has) is_of can_put spelling x ≡ true → Exact x d
+  reset_exact outer x d can = entry_exact outer x d (as_entry outer x can)
 
   resets_exact : (outer : Kind) (xs : List (Field × E)) (d : Dot) → list_all (can_put_reset (may_stand outer has) is_of can_put spelling) xs ≡ true
-      → list_any (λ x. has x.0.kind && names x.1 d) xs ≡ list_any (λ x. have_update (entry_contents contents x) d) xs
+      → list_any (λ x. has x.0.kind && names x.1 d) xs ≡ list_any (λ x. have_update (sets x.1) d) xs
   resets_exact outer [] d can = refl
   resets_exact outer (x ∷ xs) d can =
       let two = both_true (can_put_reset (may_stand outer has) is_of can_put spelling x) _ can in
       λ i. reset_exact outer x d two.0 i || resets_exact outer xs d two.1 i
 
-  map_exact : (drops : Bool) (e : MapEffect E) (d : Dot) → map_can_put drops has is_of can_put spelling e ≡ true → map_names has names e d ≡ have_update (map_contents contents e) d
+  map_exact : (drops : Bool) (e : MapEffect E) (d : Dot) → map_can_put drops has is_of can_put spelling e ≡ true → map_names has names e d ≡ have_update (map_sets sets e) d
   map_exact drops (At f e) d can = or_none (has f.kind && names e d) ∙ entry_exact (map_kind drops) (f, e) d can
   map_exact drops (Resets xs) d can =
       let members = (both_true drops _ can).1 in
       let good = both_true (are_in_order entry_below None xs) (list_all (can_put_reset (may_stand kinds.MapRr has) is_of can_put spelling) xs) members in
-      resets_exact kinds.MapRr xs d good.1 ∙ sym (update_of_list (entry_contents contents) xs d)
+      resets_exact kinds.MapRr xs d good.1 ∙ sym (update_of_list (λ x. sets x.1) xs d)
 
-module _ {E : Type 0} {has : Kind → Bool} {is_of : Kind → E → Bool} {can_put is_spelled : E → Bool} {names : E → Dot → Bool} {contents : E → List Content} {spelling : E → List ℕ} {reading : Kind → List ℕ → ℕ → Read E}
-    (spells : SpellsEffects has is_of can_put is_spelled contents spelling reading) (inner : NamesStand can_put names contents spelling) where
-  pub map_stands : (drops : Bool) → NamesStand (map_can_put drops has is_of can_put spelling) (map_names has names) (map_contents contents) (map_spelling drops spelling)
-  map_stands drops = names_stand (map_all spells drops) (map_exact has is_of inner drops)
+  -- and each of these updates stands there
+  entry_stands : (outer : Kind) (x : Field × E) (d : Dot) → can_put_entry (may_stand outer has) is_of can_put x ≡ true → (has x.0.kind && names x.1 d) ≡ true → StandsIn d (entry spelling x)
+  entry_stands outer x d can h =
+      let a = both_true (may_stand outer has x.0.kind) (is_of x.0.kind x.1 && can_put x.1) can in
+      stands_behind (field x.0) (inner.stands x.1 d (both_true (is_of x.0.kind x.1) (can_put x.1) a.1).1 (both_true (has x.0.kind) (names x.1 d) h).1)
+
+  map_stand : (drops : Bool) (e : MapEffect E) (d : Dot) → map_can_put drops has is_of can_put spelling e ≡ true → map_names has names e d ≡ true → StandsIn d (map_spelling drops spelling e)
+  map_stand drops (At f e) d can h = stands_behind (number 1 0) (entry_stands (map_kind drops) (f, e) d can (sym (or_none (has f.kind && names e d)) ∙ h))
+  map_stand drops (Resets xs) d can h =
+      let fits = can_put_reset (may_stand kinds.MapRr has) is_of can_put spelling in
+      let good = both_true (are_in_order entry_below None xs) (list_all fits xs) (both_true drops _ can).1 in
+      stands_behind (number 1 (last_mark drops)) (list_stands (entry spelling) fits (λ x c. has x.0.kind && names x.1 c) (λ x c fit named. entry_stands kinds.MapRr x c (as_entry kinds.MapRr x fit) named) xs d good.1 h)
+
+  pub map_stands : (drops : Bool) → NamesStand (map_can_put drops has is_of can_put spelling) (map_names has names) (map_sets sets) (map_spelling drops spelling)
+  map_stands drops = record { exact = map_exact drops; stands = map_stand drops }

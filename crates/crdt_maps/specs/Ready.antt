@@ -20,28 +20,27 @@ use Rattle.crdt_core.specs.FieldOrder.{field_cmp}
 use Rattle.crdt_core.specs.Seen.{Update}
 use Rattle.crdt_core.specs.Law.{KeepsLaw}
 use Rattle.crdt_core.specs.Spelled.{is_dot}
-use Rattle.crdt_core.specs.Contents.{Content, sets_ascend}
-use Rattle.crdt_core.proofs.ContentsLaws.{ascend_joined}
-use Rattle.crdt_core.specs.EffectForm.{HoldsSpelled, IsReady, reset_tag, begins_with}
+use Rattle.crdt_core.proofs.SetsLaws.{ascend_joined}
+use Rattle.crdt_core.specs.EffectForm.{HoldsSpelled, IsReady, reset_tag, begins_with, sets_ascend}
 use Rattle.crdt_maps.specs.declared.effect.MapEffect.{MapEffect}
 use Rattle.crdt_maps.specs.declared.effect.MapEffect.TheVariants.{At, Resets}
 use Rattle.crdt_maps.specs.Maps.{FieldMap, at, map_kind, map_has, is_undone, resets_of, reset_by, map_made, map_too_deep, map_holds}
 use Rattle.crdt_maps.specs.FieldHistory.{outer_fits, enters, own_act}
 use Rattle.crdt_maps.specs.MapSteps.{some_found, held_here}
-use Rattle.crdt_maps.specs.EffectForm.{may_stand, entry_below, entry_contents, map_can_put, map_contents, map_spelling, is_of_map}
+use Rattle.crdt_maps.specs.EffectForm.{may_stand, entry_below, map_can_put, map_sets, map_spelling, is_of_map}
 
 -- an effect of a field that can be put, whose sets of updates ascend
-abbrev pub is_ready_at : {E : Type 0} → (Kind → E → Bool) → (E → Bool) → (E → List Content) → Kind → E → Bool
-is_ready_at is_of can_put contents k e = (is_of k e && can_put e) && sets_ascend (contents e)
+abbrev pub is_ready_at : {E : Type 0} → (Kind → E → Bool) → (E → Bool) → (E → List (List Dot)) → Kind → E → Bool
+is_ready_at is_of can_put sets k e = (is_of k e && can_put e) && sets_ascend (sets e)
 
 -- the same of a reset, which begins as those of its kind do
-abbrev pub is_reset_ready : {E : Type 0} → (Kind → E → Bool) → (E → Bool) → (E → List Content) → (E → List ℕ) → Field × E → Bool
-is_reset_ready is_of can_put contents spelling x = begins_with (reset_tag x.0.kind) (spelling x.1) && is_ready_at is_of can_put contents x.0.kind x.1
+abbrev pub is_reset_ready : {E : Type 0} → (Kind → E → Bool) → (E → Bool) → (E → List (List Dot)) → (E → List ℕ) → Field × E → Bool
+is_reset_ready is_of can_put sets spelling x = begins_with (reset_tag x.0.kind) (spelling x.1) && is_ready_at is_of can_put sets x.0.kind x.1
 
 -- so for each part of a map's effect
-abbrev pub parts_ready : {E : Type 0} → (Kind → E → Bool) → (E → Bool) → (E → List Content) → (E → List ℕ) → MapEffect E → Bool
-parts_ready is_of can_put contents spelling (At f e) = is_ready_at is_of can_put contents f.kind e
-parts_ready is_of can_put contents spelling (Resets xs) = list_all (is_reset_ready is_of can_put contents spelling) xs
+abbrev pub parts_ready : {E : Type 0} → (Kind → E → Bool) → (E → Bool) → (E → List (List Dot)) → (E → List ℕ) → MapEffect E → Bool
+parts_ready is_of can_put sets spelling (At f e) = is_ready_at is_of can_put sets f.kind e
+parts_ready is_of can_put sets spelling (Resets xs) = list_all (is_reset_ready is_of can_put sets spelling) xs
 
 -- all that these fields hold has spellings
 abbrev pub AllSpelled : {S : Type 0} → (S → Dot → Bool) → List (Field × S) → Type 0
@@ -62,10 +61,10 @@ pub found_spelled : {S : Type 0} (holds : S → Dot → Bool) (m : FieldMap S) (
 found_spelled holds m f s e h d k = h d (some_found field_cmp (λ s. holds s d) f s (entries m) (sym (get-entries m f) ∙ e) k)
 
 -- what is ready of a whole object is so of a field
-pub ready_at : {E X : Type 0} (is_of : Kind → E → Bool) (can_put : E → Bool) (contents : E → List Content) (spelling : E → List ℕ) (k : Kind) (p : List Field) (a : Act) (r : Result E X)
-    → IfOk r (λ e. IsReady is_of can_put contents spelling k p a e) → IfOk r (λ e. is_ready_at is_of can_put contents k e ≡ true)
-ready_at is_of can_put contents spelling k p a (Ok e) h = and_from _ _ (and_from _ _ h.kind h.fit) h.sets
-ready_at is_of can_put contents spelling k p a (Err x) h = tt
+pub ready_at : {E X : Type 0} (is_of : Kind → E → Bool) (can_put : E → Bool) (sets : E → List (List Dot)) (spelling : E → List ℕ) (k : Kind) (p : List Field) (a : Act) (r : Result E X)
+    → IfOk r (λ e. IsReady is_of can_put sets spelling k p a e) → IfOk r (λ e. is_ready_at is_of can_put sets k e ≡ true)
+ready_at is_of can_put sets spelling k p a (Ok e) h = and_from _ _ (and_from _ _ h.kind h.fit) h.sets
+ready_at is_of can_put sets spelling k p a (Err x) h = tt
 
 all_both : {A : Type 0} (p q : A → Bool) (xs : List A) → list_all p xs ≡ true → list_all q xs ≡ true → list_all (λ x. p x && q x) xs ≡ true
 all_both p q [] h k = refl
@@ -78,15 +77,15 @@ all_both p q (x ∷ xs) h k =
 abbrev resets_put : {E : Type 0} → (Kind → E → Bool) → (E → Bool) → (E → List ℕ) → Field × E → Bool
 resets_put is_of can_put spelling x = begins_with (reset_tag x.0.kind) (spelling x.1) && (is_of x.0.kind x.1 && can_put x.1)
 
-resets_ready : {E : Type 0} (is_of : Kind → E → Bool) (can_put : E → Bool) (contents : E → List Content) (spelling : E → List ℕ) (xs : List (Field × E)) → list_all (is_reset_ready is_of can_put contents spelling) xs ≡ true
-    → (list_all (resets_put is_of can_put spelling) xs ≡ true) × (sets_ascend (flat_map (entry_contents contents) xs) ≡ true)
-resets_ready is_of can_put contents spelling [] h = (refl, refl)
-resets_ready is_of can_put contents spelling (x ∷ xs) h =
-    let all = and_parts (is_reset_ready is_of can_put contents spelling x) _ h in
+resets_ready : {E : Type 0} (is_of : Kind → E → Bool) (can_put : E → Bool) (sets : E → List (List Dot)) (spelling : E → List ℕ) (xs : List (Field × E)) → list_all (is_reset_ready is_of can_put sets spelling) xs ≡ true
+    → (list_all (resets_put is_of can_put spelling) xs ≡ true) × (sets_ascend (flat_map (λ x. sets x.1) xs) ≡ true)
+resets_ready is_of can_put sets spelling [] h = (refl, refl)
+resets_ready is_of can_put sets spelling (x ∷ xs) h =
+    let all = and_parts (is_reset_ready is_of can_put sets spelling x) _ h in
     let one = and_parts (begins_with (reset_tag x.0.kind) (spelling x.1)) _ all.0 in
-    let two = and_parts (is_of x.0.kind x.1 && can_put x.1) (sets_ascend (contents x.1)) one.1 in
-    let others = resets_ready is_of can_put contents spelling xs all.1 in
-    (and_from _ _ (and_from _ _ one.0 two.0) others.0, ascend_joined (contents x.1) (flat_map (entry_contents contents) xs) two.1 others.1)
+    let two = and_parts (is_of x.0.kind x.1 && can_put x.1) (sets_ascend (sets x.1)) one.1 in
+    let others = resets_ready is_of can_put sets spelling xs all.1 in
+    (and_from _ _ (and_from _ _ one.0 two.0) others.0, ascend_joined (sets x.1) (flat_map (λ x. sets x.1) xs) two.1 others.1)
 
 is_so : (b : Bool) → T b → b ≡ true
 is_so true h = refl
@@ -141,7 +140,7 @@ module _ {S E : Type 0} (has : Kind → Bool) (initial : Kind → S) (made : Kin
   acts_sorted m (act.DropField f) = refl
   acts_sorted m _ = refl
 
-  module _ (too_deep : Kind → List Field → Bool) (is_of : Kind → E → Bool) (can_put : E → Bool) (contents : E → List Content) (spelling : E → List ℕ) where
+  module _ (too_deep : Kind → List Field → Bool) (is_of : Kind → E → Bool) (can_put : E → Bool) (sets : E → List (List Dot)) (spelling : E → List ℕ) where
     abbrev effect : Kind → FieldMap S → List Field → Act → ℕ → MapEffect E
     effect k m p a n = map_made has initial made is_blank k m p a n
 
@@ -150,14 +149,14 @@ module _ {S E : Type 0} (has : Kind → Bool) (initial : Kind → S) (made : Kin
     entered_ready k m f p a n fit h = let e = enters has too_deep k f p a fit in and_from _ _ (and_from _ _ e.stands e.known) h
 
     abbrev Ready : Bool → Kind → List Field → Act → MapEffect E → Type 0
-    Ready drops k p a e = IsReady is_of_map (map_can_put drops has is_of can_put spelling) (map_contents contents) (map_spelling drops spelling) k p a e
+    Ready drops k p a e = IsReady is_of_map (map_can_put drops has is_of can_put spelling) (map_sets sets) (map_spelling drops spelling) k p a e
 
-    at_ready : (drops : Bool) (m : FieldMap S) (p : List Field) (a : Act) (n : ℕ) → outer_fits has too_deep (map_kind drops) p a ≡ true → parts_ready is_of can_put contents spelling (effect (map_kind drops) m p a n) ≡ true
+    at_ready : (drops : Bool) (m : FieldMap S) (p : List Field) (a : Act) (n : ℕ) → outer_fits has too_deep (map_kind drops) p a ≡ true → parts_ready is_of can_put sets spelling (effect (map_kind drops) m p a n) ≡ true
         → Ready drops (map_kind drops) p a (effect (map_kind drops) m p a n)
     at_ready false m [] a n fit h = absurd (false≢true (own_act has too_deep kinds.MapGo a fit))
     at_ready true m [] a n fit h =
         let es = reset_by initial m a in
-        let ready = resets_ready is_of can_put contents spelling (resets n es) h in
+        let ready = resets_ready is_of can_put sets spelling (resets n es) h in
         record {
           kind = refl;
           fit = and_from _ _ (all_in_order n es (acts_sorted m a)) (all_both (λ x. may_stand kinds.MapRr has x.0.kind) (resets_put is_of can_put spelling) (resets n es) (all_may_stand n es) ready.0);
@@ -165,15 +164,15 @@ module _ {S E : Type 0} (has : Kind → Bool) (initial : Kind → S) (made : Kin
           opened = λ asked. refl;
         }
     at_ready drops m (f ∷ p) a n fit h =
-        let two = and_parts _ (sets_ascend (contents (made f.kind (at initial m f) p a n))) h in
+        let two = and_parts _ (sets_ascend (sets (made f.kind (at initial m f) p a n))) h in
         record { kind = refl; fit = entered_ready (map_kind drops) m f p a n fit two.0; sets = two.1; opened = λ asked. absurd (false≢true asked) }
 
     abbrev IsReadyAt : Bool → Kind → FieldMap S → List Field → Act → ℕ → Type 0
-    IsReadyAt drops k m p a n = outer_fits has too_deep k p a ≡ true → parts_ready is_of can_put contents spelling (effect k m p a n) ≡ true → Ready drops k p a (effect k m p a n)
+    IsReadyAt drops k m p a n = outer_fits has too_deep k p a ≡ true → parts_ready is_of can_put sets spelling (effect k m p a n) ≡ true → Ready drops k p a (effect k m p a n)
 
     -- what is generated of a map can be put
-    pub map_ready : (drops : Bool) (k : Kind) → map_has drops k ≡ true → (m : FieldMap S) (p : List Field) (a : Act) (n : ℕ) → fits k p a ≡ true → map_too_deep has too_deep k p ≡ false → (e : MapEffect E) → e ≡ effect k m p a n → parts_ready is_of can_put contents spelling e ≡ true
-        → IsReady is_of_map (map_can_put drops has is_of can_put spelling) (map_contents contents) (map_spelling drops spelling) k p a e
+    pub map_ready : (drops : Bool) (k : Kind) → map_has drops k ≡ true → (m : FieldMap S) (p : List Field) (a : Act) (n : ℕ) → fits k p a ≡ true → map_too_deep has too_deep k p ≡ false → (e : MapEffect E) → e ≡ effect k m p a n → parts_ready is_of can_put sets spelling e ≡ true
+        → IsReady is_of_map (map_can_put drops has is_of can_put spelling) (map_sets sets) (map_spelling drops spelling) k p a e
     map_ready drops k is m p a n fit shallow e same h =
         subst (Ready drops k p a) (sym same)
-        (subst (λ l. IsReadyAt drops l m p a n) (sym (same_kind_is k (map_kind drops) is)) (at_ready drops m p a n) (and_from _ _ fit (ap not shallow)) (ap (parts_ready is_of can_put contents spelling) (sym same) ∙ h))
+        (subst (λ l. IsReadyAt drops l m p a n) (sym (same_kind_is k (map_kind drops) is)) (at_ready drops m p a n) (and_from _ _ fit (ap not shallow)) (ap (parts_ready is_of can_put sets spelling) (sym same) ∙ h))

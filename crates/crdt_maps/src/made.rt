@@ -38,7 +38,7 @@ pub fn effect_of<I: Crdt>(
     requires fitting { fits kind path.now act.now ≡ true }
     requires shallow { map_too_deep I.has I.too_deep kind path.now ≡ false }
     ensures made { IfOk result (λ e. e ≡ map_made I.has I.initial I.made I.is_blank kind fields.now path.now act.now now) }
-    ensures ready { HoldsSpelled (map_holds I.holds) fields.now → IfOk result (λ e. parts_ready I.is_of I.can_put I.contents I.spelling e ≡ true) }
+    ensures ready { HoldsSpelled (map_holds I.holds) fields.now → IfOk result (λ e. parts_ready I.is_of I.can_put I.sets I.spelling e ≡ true) }
 {
     match path.split_first() {
         Some((field, rest)) => {
@@ -57,7 +57,7 @@ fn own_effect<I: Crdt>(
     now: u64,
 ) -> Result<ListOf<(Field, I::Effect)>, AllocError>
     ensures made { IfOk result (λ l. l ≡ resets_of I.has I.made I.is_blank now (reset_by I.initial fields.now act.now)) }
-    ensures ready { HoldsSpelled (map_holds I.holds) fields.now → IfOk result (λ l. list_all (is_reset_ready I.is_of I.can_put I.contents I.spelling) l ≡ true) }
+    ensures ready { HoldsSpelled (map_holds I.holds) fields.now → IfOk result (λ l. list_all (is_reset_ready I.is_of I.can_put I.sets I.spelling) l ≡ true) }
 {
     match act {
         Act::Reset => reset_all::<I>(alloc, fields, now),
@@ -72,7 +72,7 @@ fn reset_all<I: Crdt>(
     now: u64,
 ) -> Result<ListOf<(Field, I::Effect)>, AllocError>
     ensures made { IfOk result (λ l. l ≡ resets_of I.has I.made I.is_blank now (map.entries fields.now)) }
-    ensures ready { HoldsSpelled (map_holds I.holds) fields.now → IfOk result (λ l. list_all (is_reset_ready I.is_of I.can_put I.contents I.spelling) l ≡ true) }
+    ensures ready { HoldsSpelled (map_holds I.holds) fields.now → IfOk result (λ l. list_all (is_reset_ready I.is_of I.can_put I.sets I.spelling) l ≡ true) }
 {
     let mut resets = ListOf::new(alloc);
     for (field, state) in fields.iter() {
@@ -88,7 +88,7 @@ fn reset_one<I: Crdt>(
     now: u64,
 ) -> Result<ListOf<(Field, I::Effect)>, AllocError>
     ensures made { IfOk result (λ l. l ≡ resets_of I.has I.made I.is_blank now ((field.now, at I.initial fields.now field.now) ∷ [])) }
-    ensures ready { HoldsSpelled (map_holds I.holds) fields.now → IfOk result (λ l. list_all (is_reset_ready I.is_of I.can_put I.contents I.spelling) l ≡ true) }
+    ensures ready { HoldsSpelled (map_holds I.holds) fields.now → IfOk result (λ l. list_all (is_reset_ready I.is_of I.can_put I.sets I.spelling) l ≡ true) }
 {
     let mut resets = ListOf::new(alloc);
     let Some(state) = fields.get(field) else {
@@ -107,7 +107,7 @@ fn push_reset<I: Crdt>(
     now: u64,
 ) -> Result<(), AllocError>
     ensures made { OnOk result (resets.new ≡ resets.old ++ resets_of I.has I.made I.is_blank now ((field.now, state.now) ∷ [])) }
-    ensures ready { HoldsSpelled I.holds state.now → list_all (is_reset_ready I.is_of I.can_put I.contents I.spelling) resets.old ≡ true → OnOk result (list_all (is_reset_ready I.is_of I.can_put I.contents I.spelling) resets.new ≡ true) }
+    ensures ready { HoldsSpelled I.holds state.now → list_all (is_reset_ready I.is_of I.can_put I.sets I.spelling) resets.old ≡ true → OnOk result (list_all (is_reset_ready I.is_of I.can_put I.sets I.spelling) resets.new ≡ true) }
 {
     if !is_undone::<I>(field, state) {
         return Ok(());
@@ -138,7 +138,7 @@ fn field_effect<I: Crdt>(
     requires fitting { fits field.now.kind path.now act.now ≡ true }
     requires shallow { I.too_deep field.now.kind path.now ≡ false }
     ensures made { IfOk result (λ e. e ≡ I.made field.now.kind (at I.initial fields.now field.now) path.now act.now now) }
-    ensures ready { HoldsSpelled (map_holds I.holds) fields.now → IfOk result (λ e. is_ready_at I.is_of I.can_put I.contents field.now.kind e ≡ true) }
+    ensures ready { HoldsSpelled (map_holds I.holds) fields.now → IfOk result (λ e. is_ready_at I.is_of I.can_put I.sets field.now.kind e ≡ true) }
 {
     match fields.get(field) {
         Some(state) => generated::<I>(alloc, field.kind, path, act, state, now),
@@ -162,7 +162,7 @@ fn generated<I: Crdt>(
     requires fitting { fits kind path.now act.now ≡ true }
     requires shallow { I.too_deep kind path.now ≡ false }
     ensures made { IfOk result (λ e. e ≡ I.made kind state.now path.now act.now now) }
-    ensures ready { HoldsSpelled I.holds state.now → IfOk result (λ e. IsReady I.is_of I.can_put I.contents I.spelling kind path.now act.now e) }
+    ensures ready { HoldsSpelled I.holds state.now → IfOk result (λ e. IsReady I.is_of I.can_put I.sets I.spelling kind path.now act.now e) }
 {
     match I::generate(alloc, kind, path, act, state, now) {
         Ok(effect) => Ok(effect),

@@ -2,7 +2,7 @@ ghost use Rattle.std.specs.Prelude.{◌≡◌, IfOk};
 ghost use Rattle.std.specs.FinMap.{empty};
 ghost use Rattle.crdt_maps.specs.Maps.{map_has, map_step, map_made, map_stamp, map_too_deep, map_names, map_holds, map_value, map_blank};
 ghost use Rattle.crdt_maps.specs.Meaning.{map_meaning};
-ghost use Rattle.crdt_maps.specs.EffectForm.{is_of_map, map_can_put, map_is_spelled, map_contents, map_spelling, map_at, map_spells, map_stands};
+ghost use Rattle.crdt_maps.specs.EffectForm.{is_of_map, map_can_put, map_is_spelled, map_sets, map_spelling, map_at, map_spells, map_stands};
 ghost use Rattle.crdt_maps.specs.MapLaws.{map_law, map_in_maps};
 ghost use Rattle.crdt_maps.specs.MapResets.{map_resets};
 
@@ -61,7 +61,7 @@ impl<const DROPS: bool, I: Crdt> Crdt for MapOf<DROPS, I> {
 
     ghost is_spelled = { map_is_spelled DROPS I.has I.is_of I.is_spelled I.spelling };
 
-    ghost contents = { map_contents I.contents };
+    ghost sets = { map_sets I.sets };
 
     ghost spelling = { map_spelling DROPS I.spelling };
 
@@ -69,7 +69,7 @@ impl<const DROPS: bool, I: Crdt> Crdt for MapOf<DROPS, I> {
 
     ghost spells = { map_spells I.spells DROPS (map_has DROPS) };
 
-    ghost stands = { map_stands I.spells I.stands DROPS };
+    ghost stands = { map_stands I.has I.is_of I.stands DROPS };
 
     ghost is_blank = { map_blank DROPS I.is_blank };
 

@@ -1,18 +1,17 @@
 -- The bytes of an assign to the register that the last writer wins: its stamp, and its text.
-use Rattle.std.specs.Prelude.{ℕ, Bool, true, ◌&&◌, List, [], ◌∷◌, ◌++◌, refl}
+use Rattle.std.specs.Prelude.{ℕ, Bool, true, ◌&&◌, List, [], ◌++◌, refl}
 use Rattle.std.proofs.Common.{arith}
+use Rattle.std.proofs.lemmas.Bool.{false≢true}
 use Rattle.field_codec.specs.Spelling.{number, text, is_text}
 use Rattle.field_codec.specs.Reading.{Read, text_at, then_at, mapped_at}
-use Rattle.field_codec.specs.Lawful.{IsForm, SpellsAll}
-use Rattle.field_codec.proofs.SpellsAllLaws.{alike_spells, any_text_spells, then_spells}
-use Rattle.field_codec.specs.FormLaws.{any_text_form, width8, then_form, mapped_form, both_true, and_true}
+use Rattle.field_codec.specs.Lawful.{IsForm}
+use Rattle.field_codec.specs.FormLaws.{any_text_form, width8, then_form, mapped_form, both_true}
+use Rattle.site_vector.specs.declared.ids.Dot.{Dot}
 use Rattle.crdt_core.specs.declared.kind.Kind.{Kind}
 use Rattle.crdt_core.specs.Spelled.{is_between, between_at}
 use Rattle.crdt_core.specs.SpelledLaws.{between_form}
-use Rattle.crdt_core.specs.Contents.{Content, Words, pieces_of}
 use Rattle.crdt_core.specs.EffectForm.{SpellsEffects}
 use Rattle.crdt_core.specs.Stands.{NamesStand}
-use Rattle.crdt_core.proofs.StandsLaws.{names_stand}
 use Rattle.crdt_core.specs.Stamps.{last_stamp}
 use Rattle.crdt_registers.specs.EffectForm.{is_of_kind}
 use Rattle.crdt_registers.specs.RegisterLww.{lww_names}
@@ -21,8 +20,8 @@ use Rattle.crdt_registers.specs.declared.assigned.Assigned.{Assigned}
 abbrev pub can_put_lww : Assigned → Bool
 can_put_lww e = is_between 0 last_stamp e.stamp
 
-abbrev pub lww_contents : Assigned → List Content
-lww_contents e = Words e.text ∷ []
+abbrev pub lww_sets : Assigned → List (List Dot)
+lww_sets e = []
 
 abbrev pub is_lww_spelled : Assigned → Bool
 is_lww_spelled e = is_between 0 last_stamp e.stamp && is_text e.text
@@ -44,14 +43,8 @@ lww_form =
     let law = mapped_form assigned_of (λ e. (e.stamp, e.text)) _ _ _ _ (λ _. refl) (λ _ _. refl) whole in
     record { found = law.found; again = law.again; fit = λ e good. (both_true (stamps e.stamp) (is_text e.text) good).0; ends = law.ends; tells = law.tells }
 
-pub lww_all : SpellsAll can_put_lww is_lww_spelled (pieces_of lww_contents) lww_spelling
-lww_all =
-    let stamps = is_between 0 last_stamp in
-    let whole = then_spells (alike_spells stamps (number 8)) (λ _. any_text_spells) in
-    record { spells = λ e h all. whole.spells (e.stamp, e.text) (and_true (stamps e.stamp) true h refl) all; held = λ e h. whole.held (e.stamp, e.text) h; stand = λ e. whole.stand (e.stamp, e.text) }
+abbrev pub lww_spells : (has : Kind → Bool) → SpellsEffects has is_of_kind can_put_lww is_lww_spelled lww_spelling (λ k. lww_at)
+lww_spells has = record { form = λ k h. lww_form }
 
-abbrev pub lww_spells : (has : Kind → Bool) → SpellsEffects has is_of_kind can_put_lww is_lww_spelled lww_contents lww_spelling (λ k. lww_at)
-lww_spells has = record { form = λ k h. lww_form; all = lww_all }
-
-pub lww_stands : NamesStand can_put_lww lww_names lww_contents lww_spelling
-lww_stands = names_stand lww_all (λ e d can. refl)
+pub lww_stands : NamesStand can_put_lww lww_names lww_sets lww_spelling
+lww_stands = record { exact = λ e d can. refl; stands = λ e d can h. absurd (false≢true h) }

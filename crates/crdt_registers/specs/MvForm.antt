@@ -5,20 +5,18 @@ use Rattle.std.proofs.Common.{sym, subst, ⊎_elim}
 use Rattle.std.proofs.lemmas.Bool.{false≢true, eqb-true, or_cases}
 use Rattle.field_codec.specs.Spelling.{number, is_number, text, is_text}
 use Rattle.field_codec.specs.Reading.{Read, text_at, then_at, mapped_at}
-use Rattle.field_codec.specs.Lawful.{text_piece, all_hold, StandInTurn, IsForm, SpellsAll}
-use Rattle.field_codec.proofs.SpellsAllLaws.{any_text_spells, behind_spells, then_spells}
+use Rattle.field_codec.specs.Lawful.{IsForm}
 use Rattle.field_codec.specs.FormLaws.{any_text_form, then_form}
 use Rattle.field_codec.specs.Tagged.{tagged_at, tagged_form, shape_form}
 use Rattle.site_vector.specs.declared.ids.Dot.{Dot}
 use Rattle.crdt_core.specs.declared.kind.Kind.{Kind}
-use Rattle.crdt_core.specs.Spelled.{are_dots, is_dots, dots, dots_at, set_piece}
-use Rattle.crdt_core.specs.SpelledLaws.{dots_held_form, dots_spell}
+use Rattle.crdt_core.specs.Spelled.{are_dots, is_dots, dots, dots_at}
+use Rattle.crdt_core.specs.SpelledLaws.{dots_held_form}
 use Rattle.crdt_core.specs.EffectForm.{SpellsEffects}
-use Rattle.crdt_core.specs.Contents.{Content, Words, Updates, pieces_of, have_update}
-use Rattle.crdt_core.proofs.ContentsLaws.{or_none}
+use Rattle.crdt_core.proofs.SetsLaws.{or_none}
 use Rattle.crdt_core.specs.DotSet.{has_dot}
-use Rattle.crdt_core.specs.Stands.{NamesStand}
-use Rattle.crdt_core.proofs.StandsLaws.{names_stand}
+use Rattle.crdt_core.specs.Stands.{StandsIn, NamesStand}
+use Rattle.crdt_core.proofs.StandsLaws.{stands_behind, dots_stand}
 use Rattle.crdt_registers.specs.EffectForm.{is_of_kind}
 use Rattle.crdt_registers.specs.RegisterMv.{mv_out, mv_names}
 use Rattle.crdt_registers.specs.declared.mv_effect.MvEffect.{MvEffect}
@@ -34,9 +32,8 @@ is_mv_mark n = n == 0 || n == 2
 abbrev pub can_put_mv : MvEffect → Bool
 can_put_mv e = are_dots (mv_out e)
 
-abbrev pub mv_contents : MvEffect → List Content
-mv_contents (Assign x ds) = Words x ∷ Updates ds ∷ []
-mv_contents (Reset ds) = Updates ds ∷ []
+abbrev pub mv_sets : MvEffect → List (List Dot)
+mv_sets e = mv_out e ∷ []
 
 abbrev pub is_mv_spelled : MvEffect → Bool
 is_mv_spelled (Assign x ds) = is_text x && is_dots ds
@@ -91,33 +88,12 @@ pub mv_form : IsForm can_put_mv is_mv_spelled mv_spelling mv_at
 unfolding mv_at
 mv_form = tagged_form is_mv_mark mv_mark can_put_mv is_mv_spelled mv_rest mv_rest_at known small rest_form
 
-rest_all : SpellsAll can_put_mv is_mv_spelled (pieces_of mv_contents) mv_rest
-rest_all = record { spells = by; held = held; stand = stand }
-  where
-    assign : SpellsAll {V = List ℕ × List Dot} (λ p. are_dots p.1) (λ p. is_text p.0 && is_dots p.1) (λ p. text_piece p.0 ∷ set_piece p.1 ∷ []) (λ p. text p.0 ++ dots p.1)
-    assign = then_spells any_text_spells (λ _. dots_spell)
+abbrev pub mv_spells : (has : Kind → Bool) → SpellsEffects has is_of_kind can_put_mv is_mv_spelled mv_spelling (λ k. mv_at)
+mv_spells has = record { form = λ k h. mv_form }
 
-    by : (e : MvEffect) → can_put_mv e ≡ true → all_hold (pieces_of mv_contents e) ≡ true → is_mv_spelled e ≡ true
-    by (Assign x ds) h all = assign.spells (x, ds) h all
-    by (Reset ds) h all = dots_spell.spells ds h all
+stand : (e : MvEffect) (d : Dot) → can_put_mv e ≡ true → mv_names e d ≡ true → StandsIn d (mv_spelling e)
+stand (Assign x ds) d can h = stands_behind (number 1 0) (stands_behind (text x) (dots_stand ds d can h))
+stand (Reset ds) d can h = stands_behind (number 1 2) (dots_stand ds d can h)
 
-    held : (e : MvEffect) → is_mv_spelled e ≡ true → all_hold (pieces_of mv_contents e) ≡ true
-    held (Assign x ds) h = assign.held (x, ds) h
-    held (Reset ds) h = dots_spell.held ds h
-
-    stand : (e : MvEffect) → StandInTurn (pieces_of mv_contents e) (mv_rest e)
-    stand (Assign x ds) = assign.stand (x, ds)
-    stand (Reset ds) = dots_spell.stand ds
-
-pub mv_all : SpellsAll can_put_mv is_mv_spelled (pieces_of mv_contents) mv_spelling
-mv_all = behind_spells (λ e. number 1 (mv_mark e)) rest_all
-
-abbrev pub mv_spells : (has : Kind → Bool) → SpellsEffects has is_of_kind can_put_mv is_mv_spelled mv_contents mv_spelling (λ k. mv_at)
-mv_spells has = record { form = λ k h. mv_form; all = mv_all }
-
-exact : (e : MvEffect) (d : Dot) → mv_names e d ≡ have_update (mv_contents e) d
-exact (Assign x ds) d = sym (or_none (has_dot ds d))
-exact (Reset ds) d = sym (or_none (has_dot ds d))
-
-pub mv_stands : NamesStand can_put_mv mv_names mv_contents mv_spelling
-mv_stands = names_stand mv_all (λ e d can. exact e d)
+pub mv_stands : NamesStand can_put_mv mv_names mv_sets mv_spelling
+mv_stands = record { exact = λ e d can. sym (or_none (has_dot (mv_out e) d)); stands = stand }

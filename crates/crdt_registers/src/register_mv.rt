@@ -4,7 +4,7 @@ ghost use Rattle.crdt_core.specs.Kept.{is_kept, keeps_none};
 ghost use Rattle.crdt_registers.specs.Meaning.{mv_meaning};
 ghost use Rattle.crdt_registers.specs.RegisterMv.{mv_has, mv_step, mv_made, mv_value, mv_stamp, mv_names};
 ghost use Rattle.crdt_registers.specs.EffectForm.{is_of_kind};
-ghost use Rattle.crdt_registers.specs.MvForm.{can_put_mv, is_mv_spelled, mv_contents, mv_spelling, mv_at, mv_spells, mv_stands};
+ghost use Rattle.crdt_registers.specs.MvForm.{can_put_mv, is_mv_spelled, mv_sets, mv_spelling, mv_at, mv_spells, mv_stands};
 ghost use Rattle.crdt_registers.specs.MvLaw.{mv_law, mv_in_maps, mv_resets};
 
 use crate::MvEffect;
@@ -59,7 +59,7 @@ impl Crdt for RegisterMv {
 
     ghost is_spelled = { is_mv_spelled };
 
-    ghost contents = { mv_contents };
+    ghost sets = { mv_sets };
 
     ghost spelling = { mv_spelling };
 

@@ -15,15 +15,14 @@ use Rattle.crdt_core.specs.Leaves.{IsLeaf, fits_leaf}
 use Rattle.crdt_core.specs.Kept.{dots_of}
 use Rattle.crdt_core.specs.Texts.{text_cmp, is_in, ascending, in_ascending, same_text_itself}
 use Rattle.crdt_core.specs.Spelled.{are_dots, ascend}
-use Rattle.crdt_core.specs.EffectForm.{HoldsSpelled, IsReady, reset_tag, begins_with, asks_reset}
+use Rattle.crdt_core.specs.EffectForm.{HoldsSpelled, IsReady, reset_tag, begins_with, asks_reset, sets_ascend}
 use Rattle.crdt_core.proofs.Ready.{keys_in_order, kept_spelled, kept_ascend}
-use Rattle.crdt_core.specs.Contents.{sets_ascend}
 use Rattle.crdt_sets.specs.Elements.{Elements, at, named_at, keeps_dot}
 use Rattle.crdt_sets.specs.ElementSteps.{kept_in}
 use Rattle.crdt_sets.specs.Meaning.{added_by}
 use Rattle.crdt_sets.specs.SetGo.{Grown, go_made}
 use Rattle.crdt_sets.specs.Sets.{set_kind, set_made}
-use Rattle.crdt_sets.specs.EffectForm.{has_some, can_put_texts, texts_spelling, named_cmp, can_put_list, can_put_set, texts_contents, named_list_contents, set_contents, set_spelling, is_of_kind}
+use Rattle.crdt_sets.specs.EffectForm.{has_some, can_put_texts, texts_spelling, named_cmp, can_put_list, can_put_set, texts_sets, list_sets, set_sets, set_spelling, is_of_kind}
 
 -- ---- texts in order, of which there are some
 
@@ -61,13 +60,9 @@ named_spelled m h (x ∷ xs) = and_true (are_dots (dots_of (at m x))) _ (kept_sp
 list_ready : (m : Elements) → HoldsSpelled keeps_dot m → (xs : List (List ℕ)) → are_in_order (is_below text_cmp) None xs ≡ true → can_put_list (named_at m xs) ≡ true
 list_ready m h xs o = and_true (are_in_order (is_below named_cmp) None (named_at m xs)) _ (named_ordered m xs o) (named_spelled m h xs)
 
-named_ascend : (m : Elements) (xs : List (List ℕ)) → sets_ascend (named_list_contents (named_at m xs)) ≡ true
+named_ascend : (m : Elements) (xs : List (List ℕ)) → sets_ascend (list_sets (named_at m xs)) ≡ true
 named_ascend m [] = refl
 named_ascend m (x ∷ xs) = and_true (ascend (dots_of (at m x))) _ (kept_ascend (at m x)) (named_ascend m xs)
-
-no_sets : (ts : List (List ℕ)) → sets_ascend (texts_contents ts) ≡ true
-no_sets [] = refl
-no_sets (t ∷ ts) = no_sets ts
 
 some_named : (m : Elements) (xs : List (List ℕ)) → has_some xs ≡ true → has_some (named_at m xs) ≡ true
 some_named m [] h = absurd (false≢true h)
@@ -92,7 +87,7 @@ set_allowed m h (act.Remove xs) ok = some_ready m h xs (no_other (names_some xs)
 set_allowed m h act.Reset ok = list_ready m h (keys m) (keys_in_order m)
 set_allowed m h _ ok = refl
 
-made_ascend : (m : Elements) (a : Act) → sets_ascend (set_contents (set_made m a)) ≡ true
+made_ascend : (m : Elements) (a : Act) → sets_ascend (set_sets (set_made m a)) ≡ true
 made_ascend m (act.Add xs) = named_ascend m (ascending xs)
 made_ascend m (act.Remove xs) = named_ascend m (ascending xs)
 made_ascend m act.Reset = named_ascend m (keys m)
@@ -108,7 +103,7 @@ kind_ready : (w : Bool) → (reset_tag (set_kind w) ≡ 2) × ((p : List Field) 
 kind_ready false = (refl, λ p a ok. (fits_leaf SetAw (λ l. refl) p a ok).1)
 kind_ready true = (refl, λ p a ok. (fits_leaf SetRw (λ l. refl) p a ok).1)
 
-pub set_ready : (w : Bool) (k : Kind) → k ≡ set_kind w → (m : Elements) (p : List Field) (a : Act) → fits k p a ≡ true → HoldsSpelled keeps_dot m → IsReady is_of_kind can_put_set set_contents set_spelling k p a (set_made m a)
+pub set_ready : (w : Bool) (k : Kind) → k ≡ set_kind w → (m : Elements) (p : List Field) (a : Act) → fits k p a ≡ true → HoldsSpelled keeps_dot m → IsReady is_of_kind can_put_set set_sets set_spelling k p a (set_made m a)
 set_ready w k e m p a ok h = record {
   kind = refl;
   fit = set_allowed m h a ((kind_ready w).1 p a (subst (λ l. fits l p a ≡ true) e ok));
@@ -127,7 +122,7 @@ go_allowed (act.Add xs) ok = (and_true (has_some (ascending xs)) _ (some_ascendi
     no_reset (f ∷ p) h = h
 go_allowed _ ok = absurd (false≢true ok)
 
-pub go_ready : (k : Kind) → k ≡ SetGo → (s : Grown) (p : List Field) (a : Act) (n : ℕ) → fits k p a ≡ true → IsReady is_of_kind can_put_texts texts_contents texts_spelling k p a (go_made k s p a n)
+pub go_ready : (k : Kind) → k ≡ SetGo → (s : Grown) (p : List Field) (a : Act) (n : ℕ) → fits k p a ≡ true → IsReady is_of_kind can_put_texts texts_sets texts_spelling k p a (go_made k s p a n)
 go_ready k e s p a n ok =
     let g = go_allowed a (fits_leaf SetGo go_leaf p a (subst (λ l. fits l p a ≡ true) e ok)).1 in
-    record { kind = refl; fit = g.0; sets = no_sets (ascending (added_by a)); opened = λ asked. absurd (false≢true (g.1 p asked)) }
+    record { kind = refl; fit = g.0; sets = refl; opened = λ asked. absurd (false≢true (g.1 p asked)) }

@@ -1,26 +1,22 @@
 -- The bytes of sets' effects: elements in ascending order, and where they can be removed, what is done and the dots of each.
-use Rattle.std.specs.Prelude.{◌≡◌, ℕ, zero, suc, ◌^◌, ◌<◌, ◌==◌, Bool, true, false, ◌&&◌, eqb, nat_le, List, [], ◌∷◌, ◌++◌, length, if◌then◌else◌, refl}
-use Rattle.std.proofs.Common.{sym, ◌∙◌, arith}
-use Rattle.std.specs.List.{list_any}
+use Rattle.std.specs.Prelude.{◌≡◌, ℕ, zero, suc, ◌^◌, ◌==◌, Bool, true, false, ◌&&◌, eqb, nat_le, List, [], ◌∷◌, ◌++◌, if◌then◌else◌, ◌||◌, map, None, refl}
+use Rattle.std.proofs.Common.{ap, arith}
 use Rattle.std.proofs.lemmas.Bool.{false≢true}
 use Rattle.std.specs.declared.cmp.Ordering.{Ordering}
-use Rattle.field_codec.specs.Spelling.{number, is_number, text, is_text, list, are_members, is_list, is_below}
+use Rattle.field_codec.specs.Spelling.{number, is_number, text, is_text, list, are_in_order, are_members, is_list, is_below}
 use Rattle.field_codec.specs.Reading.{Read, text_at, list_at, checked_at, then_at, mapped_at}
-use Rattle.field_codec.specs.Lawful.{all_hold, StandInTurn, IsForm, SpellsAll}
-use Rattle.field_codec.proofs.SpellsAllLaws.{longer, text_first, any_text_spells, checked_spells, behind_spells, then_spells, mapped_spells, told_spells, list_spells}
+use Rattle.field_codec.specs.Lawful.{IsForm}
 use Rattle.field_codec.specs.FormLaws.{any_text_form, list_form, checked_form, then_form, mapped_form, lt_holds, le_from, both_true}
 use Rattle.field_codec.specs.Tagged.{tagged_at, tagged_form, shape_form}
 use Rattle.site_vector.specs.declared.ids.Dot.{Dot}
 use Rattle.crdt_core.specs.declared.kind.Kind.{Kind}
 use Rattle.crdt_core.specs.Texts.{text_cmp}
 use Rattle.crdt_core.specs.Spelled.{is_between, are_dots, is_dots, dots, dots_at}
-use Rattle.crdt_core.specs.SpelledLaws.{dots_held_form, dots_spell}
-use Rattle.crdt_core.specs.Contents.{Content, Words, Updates, list_contents, pieces_of, have_update}
-use Rattle.crdt_core.proofs.ContentsLaws.{or_none, pieces_of_list, update_of_list}
+use Rattle.crdt_core.specs.SpelledLaws.{dots_held_form}
 use Rattle.crdt_core.specs.EffectForm.{SpellsEffects}
 use Rattle.crdt_core.specs.DotSet.{has_dot}
-use Rattle.crdt_core.specs.Stands.{NamesStand}
-use Rattle.crdt_core.proofs.StandsLaws.{names_stand}
+use Rattle.crdt_core.specs.Stands.{StandsIn, have_update, NamesStand}
+use Rattle.crdt_core.proofs.StandsLaws.{stands_behind, list_stands, dots_stand}
 use Rattle.crdt_sets.specs.Elements.{names_dot}
 use Rattle.crdt_sets.specs.SetGo.{go_names}
 use Rattle.crdt_sets.specs.Sets.{set_names}
@@ -50,14 +46,8 @@ pub texts_form : IsForm can_put_texts are_texts_spelled texts_spelling texts_at
 unfolding texts_at
 texts_form = checked_form has_some _ _ _ _ (list_form (is_below text_cmp) (λ t. true) is_text text text_at any_text_form)
 
-abbrev word_contents : List ℕ → List Content
-word_contents t = Words t ∷ []
-
-abbrev pub texts_contents : List (List ℕ) → List Content
-texts_contents ts = list_contents word_contents ts
-
-pub texts_all : SpellsAll can_put_texts are_texts_spelled (pieces_of texts_contents) texts_spelling
-texts_all = told_spells (pieces_of texts_contents) (pieces_of_list word_contents) (checked_spells has_some (list_spells (is_below text_cmp) text_first any_text_spells))
+abbrev pub texts_sets : List (List ℕ) → List (List Dot)
+texts_sets ts = []
 
 -- ---- an element with its dots
 
@@ -82,15 +72,6 @@ named_form =
     let whole = then_form (λ t. true) is_text text text_at (λ _. are_dots) (λ _. is_dots) (λ _. dots) (λ _. dots_at) any_text_form (λ _ _. dots_held_form) in
     mapped_form named_of (λ n. (n.text, n.dots)) _ _ _ _ (λ _. refl) (λ _ _. refl) whole
 
-abbrev pub named_contents : Named → List Content
-named_contents n = Words n.text ∷ Updates n.dots ∷ []
-
-pub named_first : (n : Named) → 0 < length (named n)
-named_first n = longer (text n.text) (dots n.dots) (text_first n.text)
-
-pub named_all : SpellsAll (λ n. are_dots n.dots) is_named (pieces_of named_contents) named
-named_all = mapped_spells (λ n. (n.text, n.dots)) (then_spells any_text_spells (λ _. dots_spell))
-
 -- ---- ascending lists of these
 
 abbrev pub can_put_list : List Named → Bool
@@ -108,11 +89,8 @@ named_list_at = list_at (is_below named_cmp) named_at
 pub named_list_form : IsForm can_put_list is_list_spelled list_spelling named_list_at
 named_list_form = list_form (is_below named_cmp) (λ n. are_dots n.dots) is_named named named_at named_form
 
-abbrev pub named_list_contents : List Named → List Content
-named_list_contents ns = list_contents named_contents ns
-
-pub named_list_all : SpellsAll can_put_list is_list_spelled (pieces_of named_list_contents) list_spelling
-named_list_all = told_spells (pieces_of named_list_contents) (pieces_of_list named_contents) (list_spells (is_below named_cmp) named_first named_all)
+abbrev pub list_sets : List Named → List (List Dot)
+list_sets ns = map (λ n. n.dots) ns
 
 pub some_named_form : IsForm (λ ns. has_some ns && can_put_list ns) (λ ns. has_some ns && is_list_spelled ns) list_spelling (checked_at has_some named_list_at)
 some_named_form = checked_form has_some can_put_list is_list_spelled list_spelling named_list_at named_list_form
@@ -185,59 +163,42 @@ pub set_form : IsForm can_put_set is_set_spelled set_spelling set_at
 unfolding set_at
 set_form = tagged_form (is_between 0 2) set_mark can_put_set is_set_spelled set_rest set_rest_at known small rest_form
 
-abbrev pub set_contents : SetEffect → List Content
-set_contents (Add ns) = named_list_contents ns
-set_contents (Remove ns) = named_list_contents ns
-set_contents (Reset ns) = named_list_contents ns
-
-rest_all : SpellsAll can_put_set is_set_spelled (pieces_of set_contents) set_rest
-rest_all = record { spells = by; held = held; stand = stand }
-  where
-    some : SpellsAll (λ ns. has_some ns && can_put_list ns) (λ ns. has_some ns && is_list_spelled ns) (pieces_of named_list_contents) list_spelling
-    some = checked_spells has_some named_list_all
-
-    by : (e : SetEffect) → can_put_set e ≡ true → all_hold (pieces_of set_contents e) ≡ true → is_set_spelled e ≡ true
-    by (Add ns) h all = some.spells ns h all
-    by (Remove ns) h all = some.spells ns h all
-    by (Reset ns) h all = named_list_all.spells ns h all
-
-    held : (e : SetEffect) → is_set_spelled e ≡ true → all_hold (pieces_of set_contents e) ≡ true
-    held (Add ns) h = some.held ns h
-    held (Remove ns) h = some.held ns h
-    held (Reset ns) h = named_list_all.held ns h
-
-    stand : (e : SetEffect) → StandInTurn (pieces_of set_contents e) (set_rest e)
-    stand (Add ns) = named_list_all.stand ns
-    stand (Remove ns) = named_list_all.stand ns
-    stand (Reset ns) = named_list_all.stand ns
-
-pub set_all : SpellsAll can_put_set is_set_spelled (pieces_of set_contents) set_spelling
-set_all = behind_spells (λ e. number 1 (set_mark e)) rest_all
+abbrev pub set_sets : SetEffect → List (List Dot)
+set_sets (Add ns) = list_sets ns
+set_sets (Remove ns) = list_sets ns
+set_sets (Reset ns) = list_sets ns
 
 -- every effect is one of the kind
 abbrev pub is_of_kind : {E : Type 0} → Kind → E → Bool
 is_of_kind k e = true
 
-abbrev pub go_spells : (has : Kind → Bool) → SpellsEffects has is_of_kind can_put_texts are_texts_spelled texts_contents texts_spelling (λ k. texts_at)
-go_spells has = record { form = λ k h. texts_form; all = texts_all }
+abbrev pub go_spells : (has : Kind → Bool) → SpellsEffects has is_of_kind can_put_texts are_texts_spelled texts_spelling (λ k. texts_at)
+go_spells has = record { form = λ k h. texts_form }
 
-abbrev pub set_spells : (has : Kind → Bool) → SpellsEffects has is_of_kind can_put_set is_set_spelled set_contents set_spelling (λ k. set_at)
-set_spells has = record { form = λ k h. set_form; all = set_all }
+abbrev pub set_spells : (has : Kind → Bool) → SpellsEffects has is_of_kind can_put_set is_set_spelled set_spelling (λ k. set_at)
+set_spells has = record { form = λ k h. set_form }
 
-no_update : (ts : List (List ℕ)) (d : Dot) → have_update (texts_contents ts) d ≡ false
-no_update [] d = refl
-no_update (t ∷ ts) d = no_update ts d
+pub go_stands : NamesStand can_put_texts go_names texts_sets texts_spelling
+go_stands = record { exact = λ e d can. refl; stands = λ e d can h. absurd (false≢true h) }
 
-pub go_stands : NamesStand can_put_texts go_names texts_contents texts_spelling
-go_stands = names_stand texts_all (λ e d can. sym (no_update e d))
+list_exact : (ns : List Named) (d : Dot) → names_dot ns d ≡ have_update (list_sets ns) d
+list_exact [] d = refl
+list_exact (n ∷ ns) d = ap (λ b. has_dot n.dots d || b) (list_exact ns d)
 
-named_exact : (ns : List Named) (d : Dot) → names_dot ns d ≡ have_update (named_list_contents ns) d
-named_exact ns d = sym (update_of_list named_contents ns d ∙ (λ i. list_any (λ n. or_none (has_dot n.dots d) i) ns))
+set_exact : (e : SetEffect) (d : Dot) → set_names e d ≡ have_update (set_sets e) d
+set_exact (Add ns) d = list_exact ns d
+set_exact (Remove ns) d = list_exact ns d
+set_exact (Reset ns) d = list_exact ns d
 
-set_exact : (e : SetEffect) (d : Dot) → set_names e d ≡ have_update (set_contents e) d
-set_exact (Add ns) d = named_exact ns d
-set_exact (Remove ns) d = named_exact ns d
-set_exact (Reset ns) d = named_exact ns d
+list_stand : (ns : List Named) (d : Dot) → can_put_list ns ≡ true → names_dot ns d ≡ true → StandsIn d (list_spelling ns)
+list_stand ns d can h =
+    let each : (n : Named) (c : Dot) → are_dots n.dots ≡ true → has_dot n.dots c ≡ true → StandsIn c (named n) = λ n c fit here. stands_behind (text n.text) (dots_stand n.dots c fit here) in
+    list_stands named (λ n. are_dots n.dots) (λ n c. has_dot n.dots c) each ns d (both_true (are_in_order (is_below named_cmp) None ns) _ can).1 h
 
-pub set_stands : NamesStand can_put_set set_names set_contents set_spelling
-set_stands = names_stand set_all (λ e d can. set_exact e d)
+set_stand : (e : SetEffect) (d : Dot) → can_put_set e ≡ true → set_names e d ≡ true → StandsIn d (set_spelling e)
+set_stand (Add ns) d can h = stands_behind (number 1 0) (list_stand ns d (both_true (has_some ns) (can_put_list ns) can).1 h)
+set_stand (Remove ns) d can h = stands_behind (number 1 1) (list_stand ns d (both_true (has_some ns) (can_put_list ns) can).1 h)
+set_stand (Reset ns) d can h = stands_behind (number 1 2) (list_stand ns d can h)
+
+pub set_stands : NamesStand can_put_set set_names set_sets set_spelling
+set_stands = record { exact = λ e d can. set_exact e d; stands = set_stand }

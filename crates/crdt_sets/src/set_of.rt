@@ -3,7 +3,7 @@ ghost use Rattle.std.specs.FinMap.{empty};
 ghost use Rattle.crdt_sets.specs.Meaning.{set_meaning};
 ghost use Rattle.crdt_sets.specs.Elements.{keeps_dot, lacks_all};
 ghost use Rattle.crdt_sets.specs.Sets.{set_kind, set_has, set_step, set_value, kind_made, no_stamp, set_names};
-ghost use Rattle.crdt_sets.specs.EffectForm.{is_of_kind, can_put_set, is_set_spelled, set_contents, set_spelling, set_at, set_spells, set_stands};
+ghost use Rattle.crdt_sets.specs.EffectForm.{is_of_kind, can_put_set, is_set_spelled, set_sets, set_spelling, set_at, set_spells, set_stands};
 ghost use Rattle.crdt_sets.specs.RemovableLaws.{set_law, set_in_maps};
 ghost use Rattle.crdt_sets.specs.SetResets.{set_resets};
 
@@ -64,7 +64,7 @@ impl<const REMOVES_WIN: bool> Crdt for SetOf<REMOVES_WIN> {
 
     ghost is_spelled = { is_set_spelled };
 
-    ghost contents = { set_contents };
+    ghost sets = { set_sets };
 
     ghost spelling = { set_spelling };
 

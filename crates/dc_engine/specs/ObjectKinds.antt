@@ -8,14 +8,13 @@ use Rattle.crdt_core.specs.declared.kind.Kind.{Kind}
 use Rattle.crdt_core.specs.declared.kind.Kind.TheVariants as kind
 use Rattle.crdt_core.specs.declared.object.Field.{Field}
 use Rattle.crdt_core.specs.declared.operation.Act.{Act}
-use Rattle.crdt_core.specs.Contents.{Content}
 use Rattle.crdt_core.specs.EffectForm.{SpellsEffects}
 use Rattle.crdt_core.specs.Fits.{fits, leads_to}
 use Rattle.crdt_core.specs.InMaps.{KeepsInMaps}
 use Rattle.crdt_any.specs.declared.state.LayerState.{LayerState}
 use Rattle.crdt_any.specs.declared.effect.LayerEffect.{LayerEffect}
 use Rattle.crdt_any.specs.Layer.{layer_has, layer_too_deep, layer_blank}
-use Rattle.crdt_any.specs.LayerForm.{layer_is_of, layer_can_put, layer_is_spelled, layer_contents, layer_spelling, layer_reading, layer_spells}
+use Rattle.crdt_any.specs.LayerForm.{layer_is_of, layer_can_put, layer_is_spelled, layer_spelling, layer_reading, layer_spells}
 use Rattle.crdt_any.specs.LayerLaws.{layer_law, layer_in_maps}
 use Rattle.crdt_any.specs.NothingLaws.{nothing_law, nothing_in_maps, nothing_spells}
 use Rattle.crdt_core.specs.KindsOf.{Kinds, kinds_of}
@@ -31,10 +30,9 @@ pub record Layered (S E : Type 0) : Type 0 where
   pub is_of : Kind → E → Bool
   pub can_put : E → Bool
   pub is_spelled : E → Bool
-  pub contents : E → List Content
   pub spelling : E → List ℕ
   pub reading : Kind → List ℕ → ℕ → Read E
-  pub spells : SpellsEffects kinds.has is_of can_put is_spelled contents spelling reading
+  pub spells : SpellsEffects kinds.has is_of can_put is_spelled spelling reading
 
 -- no kind
 abbrev pub nothing : Layered (Unit {0}) (Unit {0})
@@ -45,7 +43,6 @@ nothing = record {
   is_of = λ k e. true;
   can_put = λ e. true;
   is_spelled = λ e. true;
-  contents = λ e. [];
   spelling = λ e. [];
   reading = λ k bytes at. Err (Bad at);
   spells = nothing_spells;
@@ -60,7 +57,6 @@ layer l = record {
   is_of = layer_is_of;
   can_put = layer_can_put l.kinds.has l.is_of l.can_put l.spelling;
   is_spelled = layer_is_spelled l.kinds.has l.is_of l.is_spelled l.spelling;
-  contents = layer_contents l.contents;
   spelling = layer_spelling l.spelling;
   reading = layer_reading l.kinds.has l.reading;
   spells = layer_spells l.spells;

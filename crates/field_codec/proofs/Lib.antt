@@ -1,5 +1,4 @@
 pub mod Compared
 pub mod Forms
 pub mod Loops
-pub mod SpellsAllLaws
 pub mod Texts

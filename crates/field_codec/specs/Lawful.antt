@@ -1,9 +1,8 @@
 -- What makes a form of values: what is read is spelled so, what is spelled so is read, whatever follows it; and what it means
 -- that reading refuses.
-use Rattle.std.specs.Prelude.{◌≡◌, ◌≢◌, ℕ, ◌<◌, ◌≤◌, Bool, true, List, [], ◌∷◌, ◌++◌, length, take, slice_index, Ok, Err}
-use Rattle.std.specs.List.{flat_map, list_all}
+use Rattle.std.specs.Prelude.{◌≡◌, ◌≢◌, ℕ, ◌<◌, ◌≤◌, Bool, true, List, ◌++◌, length, take, slice_index, Ok, Err}
 use Rattle.field_codec.specs.declared.error.TakeError.TheVariants.{Short, Bad, NoMemory}
-use Rattle.field_codec.specs.Spelling.{number, is_number, text, is_text, Spans}
+use Rattle.field_codec.specs.Spelling.{Spans}
 use Rattle.field_codec.specs.Reading.{Read}
 
 abbrev pub IsBytes : List ℕ → Type 0
@@ -39,39 +38,6 @@ pub record IsForm {V : Type 0} (fits is_spelled : V → Bool) (spelling : V → 
   pub fit : (v : V) → is_spelled v ≡ true → fits v ≡ true
   pub ends : (bytes : List ℕ) → reading bytes (length bytes) ≡ Err (Short (length bytes))
   pub tells : TellsWhy reading
-
--- A piece of a spelling that need not be as it must: whether it is, its bytes, and how many bytes come behind it at the least.
-pub record Piece : Type 0 where
-  pub holds : Bool
-  pub bytes : List ℕ
-  pub room : ℕ
-
--- a contract sees a text as a list of bytes; each `Text` has at most 256 of them, in UTF-8 (`put_text`)
-abbrev pub text_piece : List ℕ → Piece
-text_piece t = record { holds = is_text t; bytes = text t; room = 0 }
-
--- the count of a list, of which there may be too much for four bytes; each member has a byte at the least
-abbrev pub count_piece : ℕ → Piece
-count_piece n = record { holds = is_number 4 n; bytes = number 4 n; room = n }
-
--- those of a list: its count, and those of its members
-abbrev pub list_pieces : {V : Type 0} → (V → List Piece) → List V → List Piece
-list_pieces pieces vs = count_piece (length vs) ∷ flat_map pieces vs
-
-abbrev pub all_hold : List Piece → Bool
-all_hold ps = list_all (λ p. p.holds) ps
-
--- the bytes of these pieces stand in the bytes, one behind the other
-abbrev pub StandInTurn : List Piece → List ℕ → Type 0
-StandInTurn [] bytes = Unit {0}
-StandInTurn (p ∷ ps) bytes = (front : List ℕ) × (back : List ℕ) × (bytes ≡ front ++ (p.bytes ++ back)) × (p.room ≤ length back) × StandInTurn ps back
-
--- What fits has a spelling exactly where each of its pieces is as it must be. Texts are, by their type; so this can fail only where
--- a list has 2^32 members or more.
-pub record SpellsAll {V : Type 0} (fits is_spelled : V → Bool) (pieces : V → List Piece) (spelling : V → List ℕ) : Type 0 where
-  pub spells : (v : V) → fits v ≡ true → all_hold (pieces v) ≡ true → is_spelled v ≡ true
-  pub held : (v : V) → is_spelled v ≡ true → all_hold (pieces v) ≡ true
-  pub stand : (v : V) → StandInTurn (pieces v) (spelling v)
 
 -- no spelling begins that of another value
 abbrev pub IsPrefixFree : {V : Type 0} → (V → Bool) → (V → List ℕ) → Type 0

@@ -1,7 +1,7 @@
-ghost use Rattle.std.specs.Prelude.{◌≡◌, ℕ, ◌<◌, List, true, length};
+ghost use Rattle.std.specs.Prelude.{◌≡◌, ℕ, List, true};
 ghost use Rattle.field_codec.specs.Spelling.{number, is_number, text, is_text, list, are_members, is_list};
 ghost use Rattle.field_codec.specs.Reading.{number_at, text_at, list_at};
-ghost use Rattle.field_codec.specs.Lawful.{IsForm, Piece, list_pieces, SpellsAll, IsPrefixFree};
+ghost use Rattle.field_codec.specs.Lawful.{IsForm, IsPrefixFree};
 
 use crate::{Form, TextForm};
 
@@ -20,11 +20,9 @@ pub fn law_fields()
     ensures apart { IsPrefixFree is_text text }
 {}
 
-/// The same of the lists of each form's values, as `put_list` and `take_list` spell and read them. And whichever pieces of the values
-/// say exactly which of them have a spelling, these and the count say it of the lists.
+/// The same of the lists of each form's values, as `put_list` and `take_list` spell and read them.
 pub fn law_list<F: Form>(form: &F)
     ensures form { IsForm (are_members (F.follows form.now) (F.fits form.now)) (is_list (F.follows form.now) (F.is_spelled form.now)) (list (F.spelling form.now)) (list_at (F.follows form.now) (F.reading form.now)) }
-    ensures all { (pieces : F.Value → List Piece) → ((v : F.Value) → 0 < length (F.spelling form.now v)) → SpellsAll (F.fits form.now) (F.is_spelled form.now) pieces (F.spelling form.now) → SpellsAll (are_members (F.follows form.now) (F.fits form.now)) (is_list (F.follows form.now) (F.is_spelled form.now)) (list_pieces pieces) (list (F.spelling form.now)) }
     ensures apart { IsPrefixFree (is_list (F.follows form.now) (F.is_spelled form.now)) (list (F.spelling form.now)) }
 {}
 

@@ -1,21 +1,17 @@
 -- The bytes that stand before the parts of a message.
-use Rattle.std.specs.Prelude.{ℕ, Bool, true, ◌&&◌, List, [], ◌∷◌, ◌++◌, refl}
+use Rattle.std.specs.Prelude.{ℕ, Bool, true, ◌&&◌, List, ◌++◌, refl}
 use Rattle.field_codec.specs.Spelling.{number, is_number}
 use Rattle.field_codec.specs.Reading.{Read, number_at, then_at, mapped_at}
-use Rattle.field_codec.specs.Lawful.{Piece, IsForm, SpellsAll}
+use Rattle.field_codec.specs.Lawful.{IsForm}
 use Rattle.field_codec.specs.FormLaws.{width1, width8, then_form, mapped_form}
-use Rattle.field_codec.proofs.SpellsAllLaws.{then_spells, mapped_spells}
 use Rattle.log_records.specs.declared.head.Head.{Head}
-use Rattle.log_records.specs.Fields.{number_piece, any_number_form, any_number_spells}
+use Rattle.log_records.specs.Fields.{any_number_form}
 
 abbrev pub is_head : Head → Bool
 is_head h = is_number 1 h.from && (is_number 1 h.to && (is_number 1 h.part && (is_number 8 h.lo && is_number 8 h.hi)))
 
 abbrev pub head : Head → List ℕ
 head h = number 1 h.from ++ (number 1 h.to ++ (number 1 h.part ++ (number 8 h.lo ++ number 8 h.hi)))
-
-abbrev pub head_pieces : Head → List Piece
-head_pieces h = number_piece 1 h.from ∷ number_piece 1 h.to ∷ number_piece 1 h.part ∷ number_piece 8 h.lo ∷ number_piece 8 h.hi ∷ []
 
 abbrev pub head_of : ℕ × (ℕ × (ℕ × (ℕ × ℕ))) → Head
 head_of p = record { from = p.0; to = p.1.0; part = p.1.1.0; lo = p.1.1.1.0; hi = p.1.1.1.1 }
@@ -33,9 +29,3 @@ head_form =
     let receiver = then_form (λ n. true) (is_number 1) (number 1) (number_at 1) _ _ _ _ one (λ _ _. of_part) in
     let whole = then_form (λ n. true) (is_number 1) (number 1) (number_at 1) _ _ _ _ one (λ _ _. receiver) in
     mapped_form head_of (λ h. (h.from, (h.to, (h.part, (h.lo, h.hi))))) _ _ _ _ (λ _. refl) (λ _ _. refl) whole
-
-pub head_all : SpellsAll (λ h. true) is_head head_pieces head
-head_all =
-    let one = any_number_spells 1 in
-    let eight = any_number_spells 8 in
-    mapped_spells (λ h. (h.from, (h.to, (h.part, (h.lo, h.hi))))) (then_spells one (λ _. then_spells one (λ _. then_spells one (λ _. then_spells eight (λ _. eight)))))

@@ -1,18 +1,16 @@
 -- The bytes of messages: both sites, the number of the partitions, the bounds, and the parts. Those of a Batch are not none.
 use Rattle.std.specs.Prelude.{ℕ, Bool, true, ◌&&◌, List, ◌++◌, refl}
 use Rattle.field_codec.specs.Reading.{Read, checked_at, then_at, mapped_at}
-use Rattle.field_codec.specs.Lawful.{Piece, IsForm, SpellsAll}
+use Rattle.field_codec.specs.Lawful.{IsForm}
 use Rattle.field_codec.specs.FormLaws.{checked_form, then_form, mapped_form}
-use Rattle.field_codec.proofs.SpellsAllLaws.{checked_spells, then_spells, mapped_spells}
 use Rattle.crdt_core.specs.declared.kind.Kind.{Kind}
 use Rattle.crdt_core.specs.declared.record.Part.{Part}
 use Rattle.crdt_core.specs.declared.record.Message.{Message}
-use Rattle.crdt_core.specs.Contents.{Content}
 use Rattle.crdt_core.specs.EffectForm.{SpellsEffects}
 use Rattle.log_records.specs.declared.head.Head.{Head}
-use Rattle.log_records.specs.Heads.{is_head, head, head_pieces, head_at, head_form, head_all}
+use Rattle.log_records.specs.Heads.{is_head, head, head_at, head_form}
 use Rattle.log_records.specs.Updates.{has_some}
-use Rattle.log_records.specs.Parts.{can_put_parts, are_parts_spelled, parts, parts_pieces, parts_at, parts_form, parts_all}
+use Rattle.log_records.specs.Parts.{can_put_parts, are_parts_spelled, parts, parts_at, parts_form}
 
 module _ {E : Type 0} where
   abbrev pub head_in : Message E → Head
@@ -30,9 +28,6 @@ module _ {E : Type 0} where
   abbrev pub message : (E → List ℕ) → Message E → List ℕ
   message spelling m = head (head_in m) ++ parts spelling m.parts
 
-  abbrev pub message_pieces : (E → List Content) → Message E → List Piece
-  message_pieces contents m = head_pieces (head_in m) ++ parts_pieces contents m.parts
-
   unfoldable pub message_at : (Kind → Bool) → (Kind → List ℕ → ℕ → Read E) → List ℕ → ℕ → Read (Message E)
   message_at has reading = mapped_at message_of (then_at head_at (λ h. parts_at has reading h.from))
 
@@ -47,16 +42,13 @@ module _ {E : Type 0} where
   unfoldable pub batch_at : (Kind → Bool) → (Kind → List ℕ → ℕ → Read E) → List ℕ → ℕ → Read (Message E)
   batch_at has reading = mapped_at message_of (then_at head_at (λ h. checked_at has_some (parts_at has reading h.from)))
 
-module _ {E : Type 0} {has : Kind → Bool} {is_of : Kind → E → Bool} {can_put is_spelled : E → Bool} {contents : E → List Content} {spelling : E → List ℕ} {reading : Kind → List ℕ → ℕ → Read E}
-    (spells : SpellsEffects has is_of can_put is_spelled contents spelling reading) where
+module _ {E : Type 0} {has : Kind → Bool} {is_of : Kind → E → Bool} {can_put is_spelled : E → Bool} {spelling : E → List ℕ} {reading : Kind → List ℕ → ℕ → Read E}
+    (spells : SpellsEffects has is_of can_put is_spelled spelling reading) where
   pub message_form : IsForm (can_put_message has is_of can_put) (is_message_spelled has is_of is_spelled) (message spelling) (message_at has reading)
   unfolding message_at
   message_form =
       let whole = then_form (λ h. true) is_head head head_at (λ h. can_put_parts has is_of can_put h.from) (λ h. are_parts_spelled has is_of is_spelled h.from) (λ _. parts spelling) (λ h. parts_at has reading h.from) head_form (λ h _. parts_form spells h.from) in
       mapped_form message_of (λ m. (head_in m, m.parts)) _ _ _ _ (λ _. refl) (λ _ _. refl) whole
-
-  pub message_all : SpellsAll (can_put_message has is_of can_put) (is_message_spelled has is_of is_spelled) (message_pieces contents) (message spelling)
-  message_all = mapped_spells (λ m. (head_in m, m.parts)) (then_spells head_all (λ h. parts_all spells h.from))
 
   pub batch_form : IsForm (can_put_batch has is_of can_put) (is_batch_spelled has is_of is_spelled) (message spelling) (batch_at has reading)
   unfolding batch_at
@@ -65,6 +57,3 @@ module _ {E : Type 0} {has : Kind → Bool} {is_of : Kind → E → Bool} {can_p
       λ site. checked_form has_some (can_put_parts has is_of can_put site) (are_parts_spelled has is_of is_spelled site) (parts spelling) (parts_at has reading site) (parts_form spells site) in
       let whole = then_form (λ h. true) is_head head head_at (λ h ps. has_some ps && can_put_parts has is_of can_put h.from ps) (λ h ps. has_some ps && are_parts_spelled has is_of is_spelled h.from ps) (λ _. parts spelling) (λ h. checked_at has_some (parts_at has reading h.from)) head_form (λ h _. some h.from) in
       mapped_form message_of (λ m. (head_in m, m.parts)) _ _ _ _ (λ _. refl) (λ _ _. refl) whole
-
-  pub batch_all : SpellsAll (can_put_batch has is_of can_put) (is_batch_spelled has is_of is_spelled) (message_pieces contents) (message spelling)
-  batch_all = mapped_spells (λ m. (head_in m, m.parts)) (then_spells head_all (λ h. checked_spells has_some (parts_all spells h.from)))

@@ -1,13 +1,11 @@
 -- The bytes of parts: the transaction, the commit vector, the updates. Those of a message ascend by commit time, and then by transaction.
-use Rattle.std.specs.Prelude.{ℕ, ◌<◌, ◌==◌, Bool, true, ◌&&◌, List, ◌∷◌, ◌++◌, length, if◌then◌else◌, refl}
-use Rattle.std.proofs.Common.{arith}
+use Rattle.std.specs.Prelude.{ℕ, ◌==◌, Bool, true, ◌&&◌, List, ◌++◌, if◌then◌else◌, refl}
 use Rattle.std.specs.Ordering.{nat_cmp, ordering_then}
 use Rattle.std.specs.declared.cmp.Ordering.{Ordering}
-use Rattle.field_codec.specs.Spelling.{number, list, are_members, is_list, is_below}
+use Rattle.field_codec.specs.Spelling.{list, are_members, is_list, is_below}
 use Rattle.field_codec.specs.Reading.{Read, list_at, then_at, mapped_at}
-use Rattle.field_codec.specs.Lawful.{Piece, list_pieces, IsForm, SpellsAll}
+use Rattle.field_codec.specs.Lawful.{IsForm}
 use Rattle.field_codec.specs.FormLaws.{list_form, then_form, mapped_form}
-use Rattle.field_codec.proofs.SpellsAllLaws.{longer, number_first, alike_spells, then_spells, mapped_spells, list_spells}
 use Rattle.site_vector.specs.declared.ids.TxId.{TxId}
 use Rattle.site_vector.specs.Order.{tx_cmp}
 use Rattle.site_vector.specs.Vector.{entry}
@@ -16,10 +14,9 @@ use Rattle.crdt_core.specs.declared.record.Upd.{Upd}
 use Rattle.crdt_core.specs.declared.record.Part.{Part}
 use Rattle.crdt_core.specs.Spelled.{is_tx, tx, tx_at, vector, is_vector, vector_at}
 use Rattle.crdt_core.specs.SpelledLaws.{tx_form}
-use Rattle.crdt_core.specs.Contents.{Content}
 use Rattle.crdt_core.specs.EffectForm.{SpellsEffects}
-use Rattle.log_records.specs.Fields.{vector_piece, any_vector_form, any_vector_spells}
-use Rattle.log_records.specs.Updates.{can_put_updates, are_updates_spelled, updates, updates_pieces, updates_at, updates_form, updates_all}
+use Rattle.log_records.specs.Fields.{any_vector_form}
+use Rattle.log_records.specs.Updates.{can_put_updates, are_updates_spelled, updates, updates_at, updates_form}
 
 -- the commit time at a site: 0 where the vector has no entry for it. There is no site 0.
 abbrev pub time_at : ℕ → List ℕ → ℕ
@@ -34,9 +31,6 @@ module _ {E : Type 0} where
 
   abbrev pub part : (E → List ℕ) → Part E → List ℕ
   part spelling p = tx p.tx ++ (vector p.c ++ updates spelling p.updates)
-
-  abbrev pub part_pieces : (E → List Content) → Part E → List Piece
-  part_pieces contents p = vector_piece p.c ∷ updates_pieces contents p.updates
 
   abbrev pub part_of : TxId × (List ℕ × List (Upd E)) → Part E
   part_of p = record { tx = p.0; c = p.1.0; updates = p.1.1 }
@@ -59,14 +53,11 @@ module _ {E : Type 0} where
   abbrev pub parts : (E → List ℕ) → List (Part E) → List ℕ
   parts spelling ps = list (part spelling) ps
 
-  abbrev pub parts_pieces : (E → List Content) → List (Part E) → List Piece
-  parts_pieces contents ps = list_pieces (part_pieces contents) ps
-
   abbrev pub parts_at : (Kind → Bool) → (Kind → List ℕ → ℕ → Read E) → ℕ → List ℕ → ℕ → Read (List (Part E))
   parts_at has reading site = list_at (is_below (part_cmp site)) (part_at has reading)
 
-module _ {E : Type 0} {has : Kind → Bool} {is_of : Kind → E → Bool} {can_put is_spelled : E → Bool} {contents : E → List Content} {spelling : E → List ℕ} {reading : Kind → List ℕ → ℕ → Read E}
-    (spells : SpellsEffects has is_of can_put is_spelled contents spelling reading) where
+module _ {E : Type 0} {has : Kind → Bool} {is_of : Kind → E → Bool} {can_put is_spelled : E → Bool} {spelling : E → List ℕ} {reading : Kind → List ℕ → ℕ → Read E}
+    (spells : SpellsEffects has is_of can_put is_spelled spelling reading) where
   pub part_form : IsForm (can_put_part has is_of can_put) (is_part_spelled has is_of is_spelled) (part spelling) (part_at has reading)
   unfolding part_at
   part_form =
@@ -74,14 +65,5 @@ module _ {E : Type 0} {has : Kind → Bool} {is_of : Kind → E → Bool} {can_p
       let whole = then_form is_tx is_tx tx tx_at _ _ _ _ tx_form (λ _ _. rest) in
       mapped_form part_of (λ p. (p.tx, (p.c, p.updates))) _ _ _ _ (λ _. refl) (λ _ _. refl) whole
 
-  pub part_all : SpellsAll (can_put_part has is_of can_put) (is_part_spelled has is_of is_spelled) (part_pieces contents) (part spelling)
-  part_all = mapped_spells (λ p. (p.tx, (p.c, p.updates))) (then_spells (alike_spells is_tx tx) (λ _. then_spells any_vector_spells (λ _. updates_all spells)))
-
-  part_first : (p : Part E) → 0 < length (part spelling p)
-  part_first p = longer (tx p.tx) (vector p.c ++ updates spelling p.updates) (number_first 1 p.tx.site (number 1 p.tx.part ++ number 8 p.tx.time) (omega arith))
-
   pub parts_form : (site : ℕ) → IsForm (can_put_parts has is_of can_put site) (are_parts_spelled has is_of is_spelled site) (parts spelling) (parts_at has reading site)
   parts_form site = list_form (is_below (part_cmp site)) _ _ (part spelling) (part_at has reading) part_form
-
-  pub parts_all : (site : ℕ) → SpellsAll (can_put_parts has is_of can_put site) (are_parts_spelled has is_of is_spelled site) (parts_pieces contents) (parts spelling)
-  parts_all site = list_spells (is_below (part_cmp site)) part_first part_all

@@ -1,12 +1,11 @@
 -- The bytes of records: a code, and what stands behind it.
-use Rattle.std.specs.Prelude.{◌≡◌, ℕ, zero, suc, ◌^◌, ◌==◌, Bool, true, ◌&&◌, eqb, nat_le, List, [], ◌∷◌, ◌++◌, if◌then◌else◌, refl}
+use Rattle.std.specs.Prelude.{◌≡◌, ℕ, zero, suc, ◌^◌, ◌==◌, Bool, true, ◌&&◌, eqb, nat_le, List, ◌++◌, if◌then◌else◌, refl}
 use Rattle.std.proofs.Common.{arith}
 use Rattle.std.proofs.lemmas.Bool.{false≢true}
 use Rattle.field_codec.specs.Spelling.{number, is_number}
 use Rattle.field_codec.specs.Reading.{Read, number_at, then_at, mapped_at}
-use Rattle.field_codec.specs.Lawful.{Piece, all_hold, StandInTurn, IsForm, SpellsAll}
-use Rattle.field_codec.specs.FormLaws.{width1, width8, then_form, lt_holds, le_from, both_true, and_true}
-use Rattle.field_codec.proofs.SpellsAllLaws.{alike_spells, behind_spells, then_spells}
+use Rattle.field_codec.specs.Lawful.{IsForm}
+use Rattle.field_codec.specs.FormLaws.{width1, width8, then_form, lt_holds, le_from, both_true}
 use Rattle.field_codec.specs.Tagged.{tagged_at, tagged_form, shape_form}
 use Rattle.site_vector.specs.declared.ids.TxId.{TxId}
 use Rattle.crdt_core.specs.declared.kind.Kind.{Kind}
@@ -16,11 +15,10 @@ use Rattle.crdt_core.specs.declared.record.Record.{Record}
 use Rattle.crdt_core.specs.declared.record.Record.TheVariants.{Lease, Prepare, Decide, Finish, Abort, Batch}
 use Rattle.crdt_core.specs.Spelled.{is_between, is_tx, tx, tx_at, vector, is_vector, vector_at}
 use Rattle.crdt_core.specs.SpelledLaws.{tx_form}
-use Rattle.crdt_core.specs.Contents.{Content}
 use Rattle.crdt_core.specs.EffectForm.{SpellsEffects}
-use Rattle.log_records.specs.Fields.{number_piece, vector_piece, any_number_form, any_number_spells, any_vector_form, any_vector_spells}
-use Rattle.log_records.specs.Updates.{can_put_updates, are_updates_spelled, updates, updates_pieces, updates_at, updates_form, updates_all}
-use Rattle.log_records.specs.Messages.{can_put_batch, is_batch_spelled, message, message_pieces, batch_at, batch_form, batch_all}
+use Rattle.log_records.specs.Fields.{any_number_form, any_vector_form}
+use Rattle.log_records.specs.Updates.{can_put_updates, are_updates_spelled, updates, updates_at, updates_form}
+use Rattle.log_records.specs.Messages.{can_put_batch, is_batch_spelled, message, batch_at, batch_form}
 
 -- a transaction and its commit vector
 abbrev pub ended_at : List ℕ → ℕ → Read (TxId × List ℕ)
@@ -33,13 +31,6 @@ ended_form = let law = then_form is_tx is_tx tx tx_at _ _ _ _ tx_form (λ _ _. a
   fit = λ x good. (both_true (is_tx x.0) (is_vector x.1) good).0;
   ends = law.ends;
   tells = law.tells;
-}
-
-ended_all : SpellsAll (λ (x : TxId × List ℕ). is_tx x.0) (λ x. is_tx x.0 && is_vector x.1) (λ x. vector_piece x.1 ∷ []) (λ x. tx x.0 ++ vector x.1)
-ended_all = let all = then_spells (alike_spells is_tx tx) (λ _. any_vector_spells) in record {
-  spells = λ x h held. all.spells x (and_true (is_tx x.0) true h refl) held;
-  held = all.held;
-  stand = all.stand;
 }
 
 -- what is prepared: the transaction, the lead, the time, the snapshot, the updates
@@ -88,14 +79,6 @@ module _ {E : Type 0} where
   behind_code spelling (Abort t) = tx t
   behind_code spelling (Batch m) = message spelling m
 
-  abbrev pub record_pieces : (E → List Content) → Record E → List Piece
-  record_pieces contents (Lease n) = number_piece 8 n ∷ []
-  record_pieces contents (Prepare t l n s w) = number_piece 1 l ∷ number_piece 8 n ∷ vector_piece s ∷ updates_pieces contents w
-  record_pieces contents (Decide t c) = vector_piece c ∷ []
-  record_pieces contents (Finish t c) = vector_piece c ∷ []
-  record_pieces contents (Abort t) = []
-  record_pieces contents (Batch m) = message_pieces contents m
-
   abbrev pub record_bytes : (E → List ℕ) → Record E → List ℕ
   record_bytes spelling r = number 1 (code r) ++ behind_code spelling r
 
@@ -121,8 +104,8 @@ module _ {E : Type 0} where
 small : (n : ℕ) → is_between 1 6 n ≡ true → is_number 1 n ≡ true
 small n h = let le = le_from n 6 (both_true (nat_le 1 n) _ h).1 in lt_holds n (256 ^ 1) (omega (arith, le))
 
-module _ {E : Type 0} {has : Kind → Bool} {is_of : Kind → E → Bool} {can_put is_spelled : E → Bool} {contents : E → List Content} {spelling : E → List ℕ} {reading : Kind → List ℕ → ℕ → Read E}
-    (spells : SpellsEffects has is_of can_put is_spelled contents spelling reading) where
+module _ {E : Type 0} {has : Kind → Bool} {is_of : Kind → E → Bool} {can_put is_spelled : E → Bool} {spelling : E → List ℕ} {reading : Kind → List ℕ → ℕ → Read E}
+    (spells : SpellsEffects has is_of can_put is_spelled spelling reading) where
   abbrev is_record : Record E → Bool
   is_record = is_record_spelled has is_of is_spelled
 
@@ -196,37 +179,3 @@ module _ {E : Type 0} {has : Kind → Bool} {is_of : Kind → E → Bool} {can_p
   pub record_form : IsForm (can_put_record has is_of can_put) is_record (record_bytes spelling) (record_at has reading)
   unfolding record_at
   record_form = tagged_form (is_between 1 6) code _ _ (behind_code spelling) (behind_code_at has reading) known small rest_form
-
-  prepared_all : SpellsAll (λ (p : Prepared E). is_tx p.0 && can_put_updates has is_of can_put p.1.1.1.1) (λ p. is_tx p.0 && (is_number 1 p.1.0 && (is_number 8 p.1.1.0 && (is_vector p.1.1.1.0 && are_updates_spelled has is_of is_spelled p.1.1.1.1))))
-      (λ p. number_piece 1 p.1.0 ∷ number_piece 8 p.1.1.0 ∷ vector_piece p.1.1.1.0 ∷ updates_pieces contents p.1.1.1.1) (λ p. tx p.0 ++ (number 1 p.1.0 ++ (number 8 p.1.1.0 ++ (vector p.1.1.1.0 ++ updates spelling p.1.1.1.1))))
-  prepared_all = then_spells (alike_spells is_tx tx) (λ _. then_spells (any_number_spells 1) (λ _. then_spells (any_number_spells 8) (λ _. then_spells any_vector_spells (λ _. updates_all spells))))
-
-  rest_all : SpellsAll (can_put_record has is_of can_put) is_record (record_pieces contents) (behind_code spelling)
-  rest_all = record { spells = by; held = held; stand = stand }
-    where
-      by : (r : Record E) → can_put_record has is_of can_put r ≡ true → all_hold (record_pieces contents r) ≡ true → is_record r ≡ true
-      by (Lease n) h all = (any_number_spells 8).spells n h all
-      by (Prepare t l n s w) h all = prepared_all.spells (t, (l, (n, (s, w)))) h all
-      by (Decide t c) h all = ended_all.spells (t, c) h all
-      by (Finish t c) h all = ended_all.spells (t, c) h all
-      by (Abort t) h all = h
-      by (Batch m) h all = (batch_all spells).spells m h all
-
-      held : (r : Record E) → is_record r ≡ true → all_hold (record_pieces contents r) ≡ true
-      held (Lease n) h = (any_number_spells 8).held n h
-      held (Prepare t l n s w) h = prepared_all.held (t, (l, (n, (s, w)))) h
-      held (Decide t c) h = ended_all.held (t, c) h
-      held (Finish t c) h = ended_all.held (t, c) h
-      held (Abort t) h = refl
-      held (Batch m) h = (batch_all spells).held m h
-
-      stand : (r : Record E) → StandInTurn (record_pieces contents r) (behind_code spelling r)
-      stand (Lease n) = (any_number_spells 8).stand n
-      stand (Prepare t l n s w) = prepared_all.stand (t, (l, (n, (s, w))))
-      stand (Decide t c) = ended_all.stand (t, c)
-      stand (Finish t c) = ended_all.stand (t, c)
-      stand (Abort t) = tt
-      stand (Batch m) = (batch_all spells).stand m
-
-  pub record_all : SpellsAll (can_put_record has is_of can_put) is_record (record_pieces contents) (record_bytes spelling)
-  record_all = behind_spells (λ r. number 1 (code r)) rest_all

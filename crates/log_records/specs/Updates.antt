@@ -1,19 +1,17 @@
 -- The bytes of updates: the number, the object, the effect. Those of a transaction ascend by number, and there is one at least.
-use Rattle.std.specs.Prelude.{◌≡◌, ℕ, ◌<◌, Bool, true, false, ◌&&◌, nat_lt, List, [], ◌∷◌, ◌++◌, length, refl}
+use Rattle.std.specs.Prelude.{◌≡◌, ℕ, Bool, true, false, ◌&&◌, nat_lt, List, [], ◌∷◌, ◌++◌, refl}
 use Rattle.std.proofs.Common.{arith}
 use Rattle.field_codec.specs.Spelling.{number, is_text, list, are_members, is_list}
 use Rattle.field_codec.specs.Reading.{Read, list_at, checked_at, then_at, mapped_at}
-use Rattle.field_codec.specs.Lawful.{Piece, list_pieces, IsForm, SpellsAll}
+use Rattle.field_codec.specs.Lawful.{IsForm}
 use Rattle.field_codec.specs.FormLaws.{width2, list_form, checked_form, then_form, mapped_form, both_true}
-use Rattle.field_codec.proofs.SpellsAllLaws.{number_first, alike_spells, checked_spells, then_spells, mapped_spells, list_spells}
 use Rattle.crdt_core.specs.declared.kind.Kind.{Kind}
 use Rattle.crdt_core.specs.declared.object.ObjectId.{ObjectId}
 use Rattle.crdt_core.specs.declared.record.Upd.{Upd}
 use Rattle.crdt_core.specs.Spelled.{is_between, between_at, is_object, object, object_at}
 use Rattle.crdt_core.specs.SpelledLaws.{between_form}
-use Rattle.crdt_core.specs.Contents.{Content, pieces_of}
 use Rattle.crdt_core.specs.EffectForm.{SpellsEffects}
-use Rattle.log_records.specs.Fields.{object_pieces, any_object_form, any_object_spells}
+use Rattle.log_records.specs.Fields.{any_object_form}
 
 abbrev pub has_some : {A : Type 0} → List A → Bool
 has_some [] = false
@@ -28,9 +26,6 @@ module _ {E : Type 0} where
 
   abbrev pub update : (E → List ℕ) → Upd E → List ℕ
   update spelling u = number 2 u.index ++ (object u.object ++ spelling u.effect)
-
-  abbrev pub update_pieces : (E → List Content) → Upd E → List Piece
-  update_pieces contents u = object_pieces u.object ++ pieces_of contents u.effect
 
   abbrev pub update_of : ℕ × (ObjectId × E) → Upd E
   update_of p = record { object = p.1.0; index = p.0; effect = p.1.1 }
@@ -52,14 +47,11 @@ module _ {E : Type 0} where
   abbrev pub updates : (E → List ℕ) → List (Upd E) → List ℕ
   updates spelling us = list (update spelling) us
 
-  abbrev pub updates_pieces : (E → List Content) → List (Upd E) → List Piece
-  updates_pieces contents us = list_pieces (update_pieces contents) us
-
   unfoldable pub updates_at : (Kind → Bool) → (Kind → List ℕ → ℕ → Read E) → List ℕ → ℕ → Read (List (Upd E))
   updates_at has reading = checked_at has_some (list_at index_below (update_at has reading))
 
-module _ {E : Type 0} {has : Kind → Bool} {is_of : Kind → E → Bool} {can_put is_spelled : E → Bool} {contents : E → List Content} {spelling : E → List ℕ} {reading : Kind → List ℕ → ℕ → Read E}
-    (spells : SpellsEffects has is_of can_put is_spelled contents spelling reading) where
+module _ {E : Type 0} {has : Kind → Bool} {is_of : Kind → E → Bool} {can_put is_spelled : E → Bool} {spelling : E → List ℕ} {reading : Kind → List ℕ → ℕ → Read E}
+    (spells : SpellsEffects has is_of can_put is_spelled spelling reading) where
   has_kind : (o : ObjectId) → is_object has o ≡ true → has o.kind ≡ true
   has_kind o h = (both_true (is_text o.key) (has o.kind) (both_true (is_text o.bucket) (is_text o.key && has o.kind) h).1).1
 
@@ -70,15 +62,6 @@ module _ {E : Type 0} {has : Kind → Bool} {is_of : Kind → E → Bool} {can_p
       let whole = then_form (is_between 1 256) (is_between 1 256) (number 2) (between_at 2 1 256) _ _ _ _ (between_form 2 1 256 width2 (omega arith)) (λ _ _. effect) in
       mapped_form update_of (λ u. (u.index, (u.object, u.effect))) _ _ _ _ (λ _. refl) (λ _ _. refl) whole
 
-  pub update_all : SpellsAll (can_put_update has is_of can_put) (is_update_spelled has is_of is_spelled) (update_pieces contents) (update spelling)
-  update_all = mapped_spells (λ u. (u.index, (u.object, u.effect))) (then_spells (alike_spells (is_between 1 256) (number 2)) (λ _. then_spells (any_object_spells has) (λ o. checked_spells (is_of o.kind) spells.all)))
-
-  update_first : (u : Upd E) → 0 < length (update spelling u)
-  update_first u = number_first 2 u.index (object u.object ++ spelling u.effect) (omega arith)
-
   pub updates_form : IsForm (can_put_updates has is_of can_put) (are_updates_spelled has is_of is_spelled) (updates spelling) (updates_at has reading)
   unfolding updates_at
   updates_form = checked_form has_some _ _ _ _ (list_form index_below _ _ (update spelling) (update_at has reading) update_form)
-
-  pub updates_all : SpellsAll (can_put_updates has is_of can_put) (are_updates_spelled has is_of is_spelled) (updates_pieces contents) (updates spelling)
-  updates_all = checked_spells has_some (list_spells index_below update_first update_all)

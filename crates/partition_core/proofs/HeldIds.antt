@@ -15,7 +15,6 @@ use Rattle.crdt_core.specs.declared.record.Part.{Part}
 use Rattle.crdt_core.specs.declared.record.Message.{Message}
 use Rattle.crdt_core.specs.declared.record.Record.{Record}
 use Rattle.crdt_core.specs.declared.record.Record.TheVariants.{Lease, Prepare, Decide, Finish, Abort, Batch}
-use Rattle.crdt_core.specs.Contents.{Content}
 use Rattle.crdt_core.specs.EffectForm.{SpellsEffects}
 use Rattle.crdt_core.specs.Log.{committed, taken, prepared_changes, taken_changes, holds, held_changes, held_at}
 use Rattle.crdt_core.specs.Parts.{lists, changes_in, AreParts}
@@ -167,7 +166,7 @@ module _ {E : Type 0} (has : Kind → Bool) (is_of : Kind → E → Bool) (is_sp
   store_has_ids log xs h store = parts_have_ids log xs h (λ u k. sym (store.members u) ∙ k) store.exact
 
 -- a partition that is up holds what its log has spelled
-pub ids_on : {E D : Type 0} {has : Kind → Bool} {is_of : Kind → E → Bool} {can_put is_spelled : E → Bool} {contents : E → List Content} {spelling : E → List ℕ} {reading : Kind → List ℕ → ℕ → Read E} (spells : SpellsEffects has is_of can_put is_spelled contents spelling reading) (state : D → DiskState) (t : Durable E D) (p : PartState E) → is_down t ≡ false → StandsOn (codec_of spells) state t p → have_ids t.tables.held ≡ true
+pub ids_on : {E D : Type 0} {has : Kind → Bool} {is_of : Kind → E → Bool} {can_put is_spelled : E → Bool} {spelling : E → List ℕ} {reading : Kind → List ℕ → ℕ → Read E} (spells : SpellsEffects has is_of can_put is_spelled spelling reading) (state : D → DiskState) (t : Durable E D) (p : PartState E) → is_down t ≡ false → StandsOn (codec_of spells) state t p → have_ids t.tables.held ≡ true
 ids_on {has = has} {is_of = is_of} {is_spelled = is_spelled} spells state t p up h =
     let u = stands_up (codec_of spells) state t p up h in
     store_has_ids has is_of is_spelled p.log t.tables.held u.log.spelled u.tables.tells.store

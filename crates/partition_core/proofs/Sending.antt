@@ -14,7 +14,6 @@ use Rattle.crdt_core.specs.declared.kind.Kind.{Kind}
 use Rattle.crdt_core.specs.declared.record.Part.{Part}
 use Rattle.crdt_core.specs.declared.record.Message.{Message}
 use Rattle.crdt_core.specs.declared.record.Record.{Record}
-use Rattle.crdt_core.specs.Contents.{Content}
 use Rattle.crdt_core.specs.EffectForm.{SpellsEffects}
 use Rattle.crdt_core.specs.KindsOf.{Kinds}
 use Rattle.crdt_core.specs.Log.{committed, committed_at, prepared_changes}
@@ -46,8 +45,8 @@ module _ {E : Type 0} (site : ℕ) (some : 0 < site) where
   ordered [] a = refl
   ordered (x ∷ xs) a = follows x xs a.0 a.1
 
-module _ {E : Type 0} {has : Kind → Bool} {is_of : Kind → E → Bool} {can_put is_spelled : E → Bool} {contents : E → List Content} {spelling : E → List ℕ} {reading : Kind → List ℕ → ℕ → Read E}
-    (spells : SpellsEffects has is_of can_put is_spelled contents spelling reading) where
+module _ {E : Type 0} {has : Kind → Bool} {is_of : Kind → E → Bool} {can_put is_spelled : E → Bool} {spelling : E → List ℕ} {reading : Kind → List ℕ → ℕ → Read E}
+    (spells : SpellsEffects has is_of can_put is_spelled spelling reading) where
   abbrev Spelled : List (Record E) → Type 0
   Spelled log = list_all (is_record_spelled has is_of is_spelled) log ≡ true
 

@@ -244,7 +244,7 @@ impl<C: Crdt, D: Disk + Drop> DurablePartition<C, D> {
         requires has { C.has object.now.kind ≡ true }
         requires width { length s.now ≡ self.old.tables.sites }
         ensures answers { (index : ℕ) → CallsOn (kinds_of C.laws) (codec_of C.spells) D.state self.old self.new Anything (AskUpdate tx s.now object.now own.now op.now) (λ x e. (read : List (Part C.Effect)) × (e ≡ Updated tx s.now object.now own.now op.now read (record { object = object.now; index = index; effect = x.0 }) x.1)) result }
-        ensures ready { (p : PartState C.Effect) → StandsOn (codec_of C.spells) D.state self.old p → is_tx tx ≡ true → are_numbered own.now ≡ true → IfOk result (λ x. IsReady C.is_of C.can_put C.contents C.spelling object.now.kind op.now.path op.now.act x.0) }
+        ensures ready { (p : PartState C.Effect) → StandsOn (codec_of C.spells) D.state self.old p → is_tx tx ≡ true → are_numbered own.now ≡ true → IfOk result (λ x. IsReady C.is_of C.can_put C.sets C.spelling object.now.kind op.now.path op.now.act x.0) }
     {
         if self.is_down() {
             return Err(DurableError::Down);

@@ -79,7 +79,7 @@ impl<C: Crdt> Partition<C> {
         requires has { C.has object.now.kind ≡ true }
         requires width { length s.now ≡ self.old.sites }
         ensures answers { (index : ℕ) → Called (kinds_of C.laws) self.old Anything (AskUpdate tx s.now object.now own.now op.now) (λ x e. (read : List (Part C.Effect)) × (e ≡ Updated tx s.now object.now own.now op.now read (record { object = object.now; index = index; effect = x.0 }) x.1)) result self.new }
-        ensures ready { have_ids self.old.held ≡ true → is_tx tx ≡ true → are_numbered own.now ≡ true → IfOk result (λ x. IsReady C.is_of C.can_put C.contents C.spelling object.now.kind op.now.path op.now.act x.0) }
+        ensures ready { have_ids self.old.held ≡ true → is_tx tx ≡ true → are_numbered own.now ≡ true → IfOk result (λ x. IsReady C.is_of C.can_put C.sets C.spelling object.now.kind op.now.path op.now.act x.0) }
     {
         let kind = object.kind;
         if !is_operation::<C>(kind, op) {
@@ -158,7 +158,7 @@ fn made_under<C: Crdt>(
     requires fit { (fits object.now.kind op.now.path op.now.act && not (C.too_deep object.now.kind op.now.path)) ≡ true }
     ensures same { store.new ≡ store.old }
     ensures effect { IfOk result (λ x. x.0 ≡ C.made object.now.kind (applied C.step object.now tx (folded (C.initial object.now.kind) C.step (effects_of object.now [] (seen_parts object.now s.now store.old.parts))) own.now) op.now.path op.now.act now) }
-    ensures ready { HoldsSpelled C.holds (applied C.step object.now tx (folded (C.initial object.now.kind) C.step (effects_of object.now [] (seen_parts object.now s.now store.old.parts))) own.now) → IfOk result (λ x. IsReady C.is_of C.can_put C.contents C.spelling object.now.kind op.now.path op.now.act x.0) }
+    ensures ready { HoldsSpelled C.holds (applied C.step object.now tx (folded (C.initial object.now.kind) C.step (effects_of object.now [] (seen_parts object.now s.now store.old.parts))) own.now) → IfOk result (λ x. IsReady C.is_of C.can_put C.sets C.spelling object.now.kind op.now.path op.now.act x.0) }
     ensures stamp { IfOk result (λ x. x.1 ≡ C.stamp_of x.0) }
 {
     if own.len() == 0 {
@@ -224,7 +224,7 @@ fn made<C: Crdt>(
 ) -> Result<(C::Effect, Option<u64>), AllocError>
     requires { (fits kind op.now.path op.now.act && not (C.too_deep kind op.now.path)) ≡ true }
     ensures effect { IfOk result (λ x. x.0 ≡ C.made kind state.now op.now.path op.now.act now) }
-    ensures ready { C.has kind ≡ true → HoldsSpelled C.holds state.now → IfOk result (λ x. IsReady C.is_of C.can_put C.contents C.spelling kind op.now.path op.now.act x.0) }
+    ensures ready { C.has kind ≡ true → HoldsSpelled C.holds state.now → IfOk result (λ x. IsReady C.is_of C.can_put C.sets C.spelling kind op.now.path op.now.act x.0) }
     ensures stamp { IfOk result (λ x. x.1 ≡ C.stamp_of x.0) }
 {
     match C::generate(alloc, kind, op.path.as_slice(), &op.act, state, now) {

@@ -2,12 +2,12 @@
 use Rattle.std.proofs.Common.{◌≡◌, ℕ, ◌*◌, ◌<◌, ◌≤◌, true, List, length, get_or, sym, subst, Option, Result, Ok}
 use Rattle.std.specs.Prelude.{nat_le, IfOk}
 use Rattle.field_codec.specs.FormLaws.{and_true, le_holds}
+use Rattle.site_vector.specs.declared.ids.Dot.{Dot}
 use Rattle.site_vector.specs.declared.ids.PartId.{PartId}
 use Rattle.site_vector.specs.declared.ids.TxId.{TxId}
 use Rattle.crdt_core.specs.declared.object.ObjectId.{ObjectId}
 use Rattle.crdt_core.specs.declared.operation.Op.{Op}
 use Rattle.crdt_core.specs.declared.record.Upd.{Upd}
-use Rattle.crdt_core.specs.Contents.{Content}
 use Rattle.crdt_core.specs.EffectForm.{IsReady}
 use Rattle.crdt_core.specs.Spelled.{is_between, is_tx}
 use Rattle.log_records.specs.Updates.{can_put_update}
@@ -35,10 +35,10 @@ module _ {S E D : Type 0} (w : Types S E D) (sites parts : ℕ) (items : List (D
   own_is = subst (λ us. are_numbered us ≡ true) (sym may.allowed.0.earlier) (own_numbered w c.sites c.parts may.run may.reached.state may.reached.is_run may.reached.puts tx at o)
 
   -- by what the partition promises of the effect
-  pub ready_put : w.kinds.has o.kind ≡ true → 1 ≤ index → index ≤ 256 → (contents : E → List Content) (spelling : E → List ℕ) {X : Type 0} (r : Result (E × Option ℕ) X) (x : E × Option ℕ) → r ≡ Ok x
-      → ((p : PartState E) → StandsOn w.codec w.state t p → is_tx tx ≡ true → are_numbered own ≡ true → IfOk r (λ y. IsReady w.is_of w.can_put contents spelling o.kind op.path op.act y.0))
+  pub ready_put : w.kinds.has o.kind ≡ true → 1 ≤ index → index ≤ 256 → (sets : E → List (List Dot)) (spelling : E → List ℕ) {X : Type 0} (r : Result (E × Option ℕ) X) (x : E × Option ℕ) → r ≡ Ok x
+      → ((p : PartState E) → StandsOn w.codec w.state t p → is_tx tx ≡ true → are_numbered own ≡ true → IfOk r (λ y. IsReady w.is_of w.can_put sets spelling o.kind op.path op.act y.0))
       → can_put_update w.kinds.has w.is_of w.can_put (record { object = o; index = index; effect = x.0 }) ≡ true
-  ready_put has least most contents spelling r x e ready =
-      let h = of_ok (λ y. IsReady w.is_of w.can_put contents spelling o.kind op.path op.act y.0) r x e (ready (may.reached.state at) (at_place w sites parts items c view at i is t there may.run may.reached place).stands spelled own_is) in
+  ready_put has least most sets spelling r x e ready =
+      let h = of_ok (λ y. IsReady w.is_of w.can_put sets spelling o.kind op.path op.act y.0) r x e (ready (may.reached.state at) (at_place w sites parts items c view at i is t there may.run may.reached place).stands spelled own_is) in
       and_true (is_between 1 256 index) _ (and_true (nat_le 1 index) (nat_le index 256) (le_holds 1 index least) (le_holds index 256 most))
       (and_true (w.kinds.has o.kind) _ has (and_true (w.is_of o.kind x.0) (w.can_put x.0) h.kind h.fit))

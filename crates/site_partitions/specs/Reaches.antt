@@ -8,7 +8,6 @@ use Rattle.crdt_core.specs.declared.object.Field.{Field}
 use Rattle.crdt_core.specs.declared.value.Value.{Value}
 use Rattle.site_vector.specs.declared.ids.Dot.{Dot}
 use Rattle.field_codec.specs.Reading.{Read}
-use Rattle.crdt_core.specs.Contents.{Content}
 use Rattle.crdt_core.specs.EffectForm.{SpellsEffects}
 use Rattle.crdt_core.specs.KindsOf.{Kinds, kinds_of}
 use Rattle.crdt_core.specs.Law.{KeepsLaw}
@@ -34,8 +33,8 @@ pub record Types (S E D : Type 0) : Type 0 where
 
 -- those of a type that implements `Crdt` and one that implements `Disk`, by their members
 abbrev pub types_of : {S E D : Type 0} {has : Kind → Bool} {too_deep : Kind → List Field → Bool} {initial : Kind → S} {step : S → Dot → E → S} {made : Kind → S → List Field → Act → ℕ → E} {value_of : S → Value} {stamp_of : E → Option ℕ} {meaning : Kind → List Update → Value} {names : E → Dot → Bool} {holds : S → Dot → Bool}
-    {is_of : Kind → E → Bool} {can_put is_spelled : E → Bool} {contents : E → List Content} {spelling : E → List ℕ} {reading : Kind → List ℕ → ℕ → Read E}
-    → KeepsLaw has too_deep initial step made value_of stamp_of meaning names holds → SpellsEffects has is_of can_put is_spelled contents spelling reading → (D → DiskState) → Types S E D
+    {is_of : Kind → E → Bool} {can_put is_spelled : E → Bool} {spelling : E → List ℕ} {reading : Kind → List ℕ → ℕ → Read E}
+    → KeepsLaw has too_deep initial step made value_of stamp_of meaning names holds → SpellsEffects has is_of can_put is_spelled spelling reading → (D → DiskState) → Types S E D
 types_of {is_of = is_of} {can_put = can_put} laws spells state = record {
   kinds = kinds_of laws;
   codec = codec_of spells;

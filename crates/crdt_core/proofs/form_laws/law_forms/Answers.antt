@@ -1,5 +1,5 @@
 use Rattle.field_codec.proofs.Forms.{prefix_free}
-use Rattle.crdt_core.specs.SpelledLaws.{tx_form, dot_form, dots_form, dots_spell, vector_form, kind_form, object_form}
+use Rattle.crdt_core.specs.SpelledLaws.{tx_form, dot_form, dots_form, vector_form, kind_form, object_form}
 use Rattle.crdt_core.proofs.form_laws.law_forms.Goals as goal
 
 pub returns : goal.returns
@@ -7,7 +7,6 @@ returns c = record {
   transactions = tx_form;
   updates = dot_form;
   sets = dots_form;
-  all_sets = dots_spell;
   vectors = vector_form;
   kinds = kind_form;
   objects = object_form;

@@ -1,5 +1,4 @@
 use Rattle.field_codec.specs.FormLaws.{list_form}
-use Rattle.field_codec.proofs.SpellsAllLaws.{list_spells}
 use Rattle.field_codec.proofs.Forms.{prefix_free}
 use Rattle.field_codec.proofs.laws.law_list.Goals as goal
 
@@ -10,6 +9,5 @@ returns g c =
     let law = list_form (F.follows c.args.form.now) (F.fits c.args.form.now) (F.is_spelled c.args.form.now) (F.spelling c.args.form.now) (F.reading c.args.form.now) member in
     record {
       form = law;
-      all = λ pieces some member. list_spells (F.follows c.args.form.now) some member;
       apart = prefix_free _ _ _ _ law;
     }
