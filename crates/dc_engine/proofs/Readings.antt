@@ -1,6 +1,6 @@
 -- What lines read as.
 use Rattle.std.proofs.Common.{◌≡◌, ℕ, ◌-◌, ◌<◌, ◌≤◌, Bool, true, false, ◌&&◌, ◌||◌, ◌==◌, nat_lt, List, [], ◌∷◌, ◌++◌, length, take, Option, Some, None, option_map, option_and_then, codes, refl, ap, sym, ◌∙◌, inl, inr, arith, length-take}
-use Rattle.std.specs.Prelude.{nat_le, if◌then◌else◌, ◌^◌, Result, Ok, Err, IfOk}
+use Rattle.std.specs.Prelude.{nat_le, if◌then◌else◌, ◌^◌, Result, Ok, Err, IfOk, OnOk}
 use Rattle.std.specs.Io.BufRead.{strip_last, ends_with_byte}
 use Rattle.std.specs.List.{list_all, list_any}
 use Rattle.std.specs.Char.{is_ascii_digit}
@@ -31,6 +31,10 @@ use Rattle.cluster.specs.Built.{IsSaid}
 pub whenever_ok : {A X : Type 0} {P Q : A → Type 0} (r : Result A X) → ((x : A) → P x → Q x) → IfOk r P → IfOk r Q
 whenever_ok (Ok x) f p = f x p
 whenever_ok (Err x) f p = tt
+
+pub whenever_done : {X P Q : Type 0} (r : Result Unit X) → (P → Q) → OnOk r P → OnOk r Q
+whenever_done (Ok x) f p = f p
+whenever_done (Err x) f p = tt
 
 -- what was read
 pub read_ok : (line : List ℕ) (p : Parsed) → Reads line p → Some p ≡ reading_of line

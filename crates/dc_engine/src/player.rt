@@ -160,9 +160,12 @@ fn answer_to<M: Disks>(
     ensures cause { result ≡ Err Unanswered.NoDisk → Rose (M.state disks.old).faults (M.state disks.new).faults }
     ensures same { OnOk result (IsKept (M.state disks.old) (M.state disks.new)) }
 {
-    match reading(alloc, line) {
-        Ok(Parsed::Command(command)) => obey(alloc, cluster, disks, &command),
-        Ok(Parsed::Nothing) => Ok(Vec::new(alloc)),
+    let mut parsed = Parsed::Nothing;
+    match reading(alloc, line, &mut parsed) {
+        Ok(()) => match &parsed {
+            Parsed::Command(command) => obey(alloc, cluster, disks, command),
+            Parsed::Nothing => Ok(Vec::new(alloc)),
+        },
         Err(ParseError::Bad) => {
             *met_bad = true;
             Ok(only(alloc, Step::Bad)?)

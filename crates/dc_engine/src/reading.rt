@@ -1,4 +1,4 @@
-ghost use Rattle.std.specs.Prelude.{◌≡◌, Some, None, Err, IfOk};
+ghost use Rattle.std.specs.Prelude.{◌≡◌, Some, None, Err, OnOk};
 ghost use Rattle.std.specs.Io.BufRead.{strip_last};
 ghost use Rattle.dc_engine.specs.Reading.{reading_of, AsksSaid};
 
@@ -15,15 +15,15 @@ fn without_return(line: &[u8]) -> &[u8]
     }
 }
 
-/// What a line without its line feed reads as.
+/// Reads a line without its line feed into `parsed`.
 ///
 /// # Errors
 ///
-/// `Bad` exactly where the line isn't in the grammar; `NoMemory` where memory runs out.
-pub(crate) fn reading(alloc: Global, line: &[u8]) -> Result<Parsed, ParseError>
-    ensures read { IfOk result (λ p. Some p ≡ reading_of (strip_last 13 line.now)) }
-    ensures said { IfOk result (λ p. AsksSaid (Some p)) }
+/// `Bad` exactly where the line isn't in the grammar; `NoMemory` where memory runs out. `parsed` may only be dropped then.
+pub(crate) fn reading(alloc: Global, line: &[u8], parsed: &mut Parsed) -> Result<(), ParseError>
+    ensures read { OnOk result (Some parsed.new ≡ reading_of (strip_last 13 line.now)) }
+    ensures said { OnOk result (AsksSaid (Some parsed.new)) }
     ensures bad { result ≡ Err ParseError.Bad → None ≡ reading_of (strip_last 13 line.now) }
 {
-    parse(alloc, without_return(line))
+    parse(alloc, without_return(line), parsed)
 }

@@ -1,6 +1,7 @@
 -- What a line of a script reads as.
 use Rattle.std.specs.Prelude.{◌≡◌, ◌≤◌, ◌==◌, ℕ, List, [], ◌∷◌, length, Option, Some, None, option_map, if◌then◌else◌}
 use Rattle.std.specs.Str.{IsUtf8}
+use Rattle.world_model.specs.declared.command.Command.{Command}
 use Rattle.script_text.specs.Split.{words}
 use Rattle.script_text.specs.Grammar.{command_named}
 use Rattle.script_text.specs.declared.Parsed.{Parsed}
@@ -9,11 +10,14 @@ use Rattle.script_text.specs.declared.Parsed.TheVariants as parsed
 abbrev pub hash : ℕ
 hash = 35
 
+abbrev pub command_as : Option Command → Option Parsed
+command_as c = option_map parsed.Command c
+
 -- nothing, where there is no word or the first begins with `#`; else the command that the words spell
 abbrev pub reading : List (List ℕ) → Option Parsed
 reading [] = Some parsed.Nothing
 reading ([] ∷ ws) = None
-reading ((c ∷ w) ∷ ws) = if c == hash then Some parsed.Nothing else option_map parsed.Command (command_named (c ∷ w) ws)
+reading ((c ∷ w) ∷ ws) = if c == hash then Some parsed.Nothing else command_as (command_named (c ∷ w) ws)
 
 -- a line, without its end: at most 4,096 bytes of UTF-8
 pub record IsLine (line : List ℕ) : Type 0 where

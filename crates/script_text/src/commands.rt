@@ -1,15 +1,16 @@
-ghost use Rattle.std.specs.Prelude.{◌≡◌, Err, IfOk, Some, None, option_and_then};
+ghost use Rattle.std.specs.Prelude.{◌≡◌, Err, OnOk, Some, None, option_and_then};
+ghost use Rattle.script_text.specs.Line.{command_as};
 ghost use Rattle.script_text.specs.Grammar as grammar;
 ghost use Rattle.script_text.specs.Places as places;
 ghost use Rattle.script_text.specs.Split.{words};
 
-use crate::ParseError;
 use crate::act::op;
 use crate::number::{ranged, small};
 use crate::object::object;
 use crate::place::{MOST, number, numbered, part, site, time, tx};
 use crate::split::{next, only, only_two};
 use crate::text::text;
+use crate::{ParseError, Parsed};
 use script_words::spells;
 use site_vector::PartId;
 use std::alloc::Global;
@@ -108,8 +109,9 @@ fn drop(line: &[u8]) -> Option<Command>
     dropped(only(line)?)
 }
 
-fn session(alloc: Global, line: &[u8]) -> Result<Command, ParseError>
-    ensures ok { IfOk result (λ c. grammar.with_two grammar.session (words line.now) ≡ Some c) }
+#[inline(never)]
+fn session(alloc: Global, line: &[u8], parsed: &mut Parsed) -> Result<(), ParseError>
+    ensures ok { OnOk result (Some parsed.new ≡ command_as (grammar.with_two grammar.session (words line.now))) }
     ensures bad { result ≡ Err ParseError.Bad → grammar.with_two grammar.session (words line.now) ≡ None }
 {
     let Some((name, at)) = only_two(line) else {
@@ -117,13 +119,17 @@ fn session(alloc: Global, line: &[u8]) -> Result<Command, ParseError>
     };
     let name = text(alloc, name)?;
     match site(at) {
-        Some(site) => Ok(Command::Session { name, site }),
+        Some(site) => {
+            *parsed = Parsed::Command(Command::Session { name, site });
+            Ok(())
+        }
         None => Err(ParseError::Bad),
     }
 }
 
-fn moved(alloc: Global, line: &[u8]) -> Result<Command, ParseError>
-    ensures ok { IfOk result (λ c. grammar.with_two grammar.moved (words line.now) ≡ Some c) }
+#[inline(never)]
+fn moved(alloc: Global, line: &[u8], parsed: &mut Parsed) -> Result<(), ParseError>
+    ensures ok { OnOk result (Some parsed.new ≡ command_as (grammar.with_two grammar.moved (words line.now))) }
     ensures bad { result ≡ Err ParseError.Bad → grammar.with_two grammar.moved (words line.now) ≡ None }
 {
     let Some((name, at)) = only_two(line) else {
@@ -131,31 +137,38 @@ fn moved(alloc: Global, line: &[u8]) -> Result<Command, ParseError>
     };
     let name = text(alloc, name)?;
     match site(at) {
-        Some(site) => Ok(Command::Move { name, site }),
+        Some(site) => {
+            *parsed = Parsed::Command(Command::Move { name, site });
+            Ok(())
+        }
         None => Err(ParseError::Bad),
     }
 }
 
-fn lose(alloc: Global, line: &[u8]) -> Result<Command, ParseError>
-    ensures ok { IfOk result (λ c. grammar.with_one grammar.lose (words line.now) ≡ Some c) }
+#[inline(never)]
+fn lose(alloc: Global, line: &[u8], parsed: &mut Parsed) -> Result<(), ParseError>
+    ensures ok { OnOk result (Some parsed.new ≡ command_as (grammar.with_one grammar.lose (words line.now))) }
     ensures bad { result ≡ Err ParseError.Bad → grammar.with_one grammar.lose (words line.now) ≡ None }
 {
     let Some(name) = only(line) else {
         return Err(ParseError::Bad);
     };
     let name = text(alloc, name)?;
-    Ok(Command::Lose { name })
+    *parsed = Parsed::Command(Command::Lose { name });
+    Ok(())
 }
 
-fn abort(alloc: Global, line: &[u8]) -> Result<Command, ParseError>
-    ensures ok { IfOk result (λ c. grammar.with_one grammar.abort (words line.now) ≡ Some c) }
+#[inline(never)]
+fn abort(alloc: Global, line: &[u8], parsed: &mut Parsed) -> Result<(), ParseError>
+    ensures ok { OnOk result (Some parsed.new ≡ command_as (grammar.with_one grammar.abort (words line.now))) }
     ensures bad { result ≡ Err ParseError.Bad → grammar.with_one grammar.abort (words line.now) ≡ None }
 {
     let Some(name) = only(line) else {
         return Err(ParseError::Bad);
     };
     let name = text(alloc, name)?;
-    Ok(Command::Abort { name })
+    *parsed = Parsed::Command(Command::Abort { name });
+    Ok(())
 }
 
 /// The place, where the line goes on with one, and no more.
@@ -203,8 +216,9 @@ fn maybe_time(line: &[u8]) -> Option<Option<u64>>
     }
 }
 
-fn begin(alloc: Global, line: &[u8]) -> Result<Command, ParseError>
-    ensures ok { IfOk result (λ c. grammar.begin (words line.now) ≡ Some c) }
+#[inline(never)]
+fn begin(alloc: Global, line: &[u8], parsed: &mut Parsed) -> Result<(), ParseError>
+    ensures ok { OnOk result (Some parsed.new ≡ command_as (grammar.begin (words line.now))) }
     ensures bad { result ≡ Err ParseError.Bad → grammar.begin (words line.now) ≡ None }
 {
     let Some((name, rest)) = next(line) else {
@@ -212,13 +226,17 @@ fn begin(alloc: Global, line: &[u8]) -> Result<Command, ParseError>
     };
     let name = text(alloc, name)?;
     match maybe_part(rest) {
-        Some(part) => Ok(Command::Begin { name, part }),
+        Some(part) => {
+            *parsed = Parsed::Command(Command::Begin { name, part });
+            Ok(())
+        }
         None => Err(ParseError::Bad),
     }
 }
 
-fn commit(alloc: Global, line: &[u8]) -> Result<Command, ParseError>
-    ensures ok { IfOk result (λ c. grammar.commit (words line.now) ≡ Some c) }
+#[inline(never)]
+fn commit(alloc: Global, line: &[u8], parsed: &mut Parsed) -> Result<(), ParseError>
+    ensures ok { OnOk result (Some parsed.new ≡ command_as (grammar.commit (words line.now))) }
     ensures bad { result ≡ Err ParseError.Bad → grammar.commit (words line.now) ≡ None }
 {
     let Some((name, rest)) = next(line) else {
@@ -226,7 +244,10 @@ fn commit(alloc: Global, line: &[u8]) -> Result<Command, ParseError>
     };
     let name = text(alloc, name)?;
     match maybe_steps(rest) {
-        Some(steps) => Ok(Command::Commit { name, steps }),
+        Some(steps) => {
+            *parsed = Parsed::Command(Command::Commit { name, steps });
+            Ok(())
+        }
         None => Err(ParseError::Bad),
     }
 }
@@ -253,8 +274,9 @@ fn fuse(line: &[u8]) -> Option<Command>
     Some(Command::Fuse { part, call, keep })
 }
 
-fn read(alloc: Global, line: &[u8]) -> Result<Command, ParseError>
-    ensures ok { IfOk result (λ c. grammar.read (words line.now) ≡ Some c) }
+#[inline(never)]
+fn read(alloc: Global, line: &[u8], parsed: &mut Parsed) -> Result<(), ParseError>
+    ensures ok { OnOk result (Some parsed.new ≡ command_as (grammar.read (words line.now))) }
     ensures bad { result ≡ Err ParseError.Bad → grammar.read (words line.now) ≡ None }
 {
     let Some((name, rest)) = next(line) else {
@@ -263,13 +285,17 @@ fn read(alloc: Global, line: &[u8]) -> Result<Command, ParseError>
     let name = text(alloc, name)?;
     let (object, rest) = object(alloc, rest)?;
     match next(rest) {
-        None => Ok(Command::Read { name, object }),
+        None => {
+            *parsed = Parsed::Command(Command::Read { name, object });
+            Ok(())
+        }
         Some(_) => Err(ParseError::Bad),
     }
 }
 
-fn update(alloc: Global, line: &[u8]) -> Result<Command, ParseError>
-    ensures ok { IfOk result (λ c. grammar.update (words line.now) ≡ Some c) }
+#[inline(never)]
+fn update(alloc: Global, line: &[u8], parsed: &mut Parsed) -> Result<(), ParseError>
+    ensures ok { OnOk result (Some parsed.new ≡ command_as (grammar.update (words line.now))) }
     ensures bad { result ≡ Err ParseError.Bad → grammar.update (words line.now) ≡ None }
 {
     let Some((name, rest)) = next(line) else {
@@ -278,10 +304,12 @@ fn update(alloc: Global, line: &[u8]) -> Result<Command, ParseError>
     let name = text(alloc, name)?;
     let (object, rest) = object(alloc, rest)?;
     let op = op(alloc, rest)?;
-    Ok(Command::Update { name, object, op })
+    *parsed = Parsed::Command(Command::Update { name, object, op });
+    Ok(())
 }
 
 /// The command of this name, where it keeps no text.
+#[inline(never)]
 fn plain(name: &[u8], line: &[u8]) -> Option<Command>
     ensures { result ≡ grammar.plain_named name.now (words line.now) }
 {
@@ -324,37 +352,46 @@ fn plain(name: &[u8], line: &[u8]) -> Option<Command>
     None
 }
 
-/// The command of this name, with the words after it.
-pub fn command(alloc: Global, name: &[u8], line: &[u8]) -> Result<Command, ParseError>
-    ensures ok { IfOk result (λ c. grammar.command_named name.now (words line.now) ≡ Some c) }
+/// Reads the command of this name, with the words after it, into its place. No command is moved on the way, and what
+/// each way needs is set up only where it is gone: a line's reading is dear by its moves.
+pub fn command(
+    alloc: Global,
+    name: &[u8],
+    line: &[u8],
+    parsed: &mut Parsed,
+) -> Result<(), ParseError>
+    ensures ok { OnOk result (Some parsed.new ≡ command_as (grammar.command_named name.now (words line.now))) }
     ensures bad { result ≡ Err ParseError.Bad → grammar.command_named name.now (words line.now) ≡ None }
 {
     if spells(name, "session") {
-        return session(alloc, line);
+        return session(alloc, line, parsed);
     }
     if spells(name, "move") {
-        return moved(alloc, line);
+        return moved(alloc, line, parsed);
     }
     if spells(name, "lose") {
-        return lose(alloc, line);
+        return lose(alloc, line, parsed);
     }
     if spells(name, "abort") {
-        return abort(alloc, line);
+        return abort(alloc, line, parsed);
     }
     if spells(name, "begin") {
-        return begin(alloc, line);
+        return begin(alloc, line, parsed);
     }
     if spells(name, "commit") {
-        return commit(alloc, line);
+        return commit(alloc, line, parsed);
     }
     if spells(name, "read") {
-        return read(alloc, line);
+        return read(alloc, line, parsed);
     }
     if spells(name, "update") {
-        return update(alloc, line);
+        return update(alloc, line, parsed);
     }
     match plain(name, line) {
-        Some(command) => Ok(command),
+        Some(command) => {
+            *parsed = Parsed::Command(command);
+            Ok(())
+        }
         None => Err(ParseError::Bad),
     }
 }

@@ -1,7 +1,7 @@
 //! The commands of a script: what a line reads as.
 #![tactic(auto)]
 
-ghost use Rattle.std.specs.Prelude.{◌≡◌, List, ℕ, Err, IfOk, None, Some, true, false};
+ghost use Rattle.std.specs.Prelude.{◌≡◌, List, ℕ, Err, OnOk, None, Some, true, false};
 ghost use Rattle.std.specs.List.{list_all};
 ghost use Rattle.std.specs.Str.{IsUtf8};
 ghost use Rattle.script_text.specs.declared.Parsed.{Parsed};
@@ -87,35 +87,39 @@ fn is_line(line: &[u8]) -> bool
     is_utf8(line)
 }
 
-/// What the words of the line read as.
-fn parse_words(alloc: Global, line: &[u8]) -> Result<Parsed, ParseError>
-    ensures ok { IfOk result (λ p. reading (words line.now) ≡ Some p) }
+/// Reads the words of the line.
+fn parse_words(alloc: Global, line: &[u8], parsed: &mut Parsed) -> Result<(), ParseError>
+    ensures ok { OnOk result (Some parsed.new ≡ reading (words line.now)) }
     ensures bad { result ≡ Err ParseError.Bad → reading (words line.now) ≡ None }
 {
     let Some((name, rest)) = next(line) else {
-        return Ok(Parsed::Nothing);
+        *parsed = Parsed::Nothing;
+        return Ok(());
     };
     match name {
         [] => Err(ParseError::Bad),
-        [b'#', ..] => Ok(Parsed::Nothing),
-        _ => Ok(Parsed::Command(command(alloc, name, rest)?)),
+        [b'#', ..] => {
+            *parsed = Parsed::Nothing;
+            Ok(())
+        }
+        _ => command(alloc, name, rest, parsed),
     }
 }
 
-/// What a line of a script reads as. The line has no end: no line feed, and no carriage return before one.
+/// Reads a line of a script into `parsed`. The line has no end: no line feed, and no carriage return before one.
 ///
 /// # Errors
 ///
 /// `Bad` exactly where the line isn't in the grammar (docs/SCRIPT.md): longer than 4,096 bytes, not UTF-8, or
-/// with words that spell no command. `NoMemory` where memory runs out.
-pub fn parse(alloc: Global, line: &[u8]) -> Result<Parsed, ParseError>
-    ensures ok { IfOk result (λ p. Reads line.now p) }
+/// with words that spell no command. `NoMemory` where memory runs out. `parsed` may only be dropped then.
+pub fn parse(alloc: Global, line: &[u8], parsed: &mut Parsed) -> Result<(), ParseError>
+    ensures ok { OnOk result (Reads line.now parsed.new) }
     ensures bad { result ≡ Err ParseError.Bad → (p : Parsed) → ¬ (Reads line.now p) }
 {
     if !is_line(line) {
         return Err(ParseError::Bad);
     }
-    parse_words(alloc, line)
+    parse_words(alloc, line, parsed)
 }
 
 /// The law of the grammar: it reads at most one command from a line.

@@ -68,11 +68,14 @@ fn end_of_word(bytes: &[u8]) -> usize
     ensures within { result ≤ length bytes.now }
 {
     for (i, byte) in bytes.iter().enumerate() {
-        if *byte == b' ' {
-            return i;
-        }
-        if *byte == b'"' {
-            return i + end_of_quoted(&bytes[i..]);
+        // Both ends stand below the letters and digits, so most bytes are tested once.
+        if *byte <= b'"' {
+            if *byte == b' ' {
+                return i;
+            }
+            if *byte == b'"' {
+                return i + end_of_quoted(&bytes[i..]);
+            }
         }
     }
     bytes.len()

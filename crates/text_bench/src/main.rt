@@ -27,9 +27,12 @@ fn command_of(alloc: Global, text: &[u8]) -> Result<Option<Command>, AllocError>
     ensures some { IfOk result (λ found. IfSome found (λ c. Reads text.now (parsed.Command c))) }
     ensures none { result ≡ Ok None → (c : Command) → ¬ (Reads text.now (parsed.Command c)) }
 {
-    match parse(alloc, text) {
-        Ok(Parsed::Command(command)) => Ok(Some(command)),
-        Ok(Parsed::Nothing) => Ok(None),
+    let mut parsed = Parsed::Nothing;
+    match parse(alloc, text, &mut parsed) {
+        Ok(()) => match parsed {
+            Parsed::Command(command) => Ok(Some(command)),
+            Parsed::Nothing => Ok(None),
+        },
         Err(ParseError::Bad) => Ok(None),
         Err(ParseError::NoMemory) => Err(AllocError),
     }
@@ -69,9 +72,12 @@ fn put_step(alloc: Global, command: &Command, out: &mut Vec<u8>) -> Result<(), A
 
 /// Adds what the line reads as: `nothing`, `bad`, or the step of its command.
 fn put_reading(alloc: Global, text: &[u8], out: &mut Vec<u8>) -> Result<(), AllocError> {
-    match parse(alloc, text) {
-        Ok(Parsed::Nothing) => out.extend_from_slice(b"nothing\n"),
-        Ok(Parsed::Command(command)) => put_step(alloc, &command, out),
+    let mut parsed = Parsed::Nothing;
+    match parse(alloc, text, &mut parsed) {
+        Ok(()) => match &parsed {
+            Parsed::Nothing => out.extend_from_slice(b"nothing\n"),
+            Parsed::Command(command) => put_step(alloc, command, out),
+        },
         Err(ParseError::Bad) => line(alloc, &Step::Bad, out),
         Err(ParseError::NoMemory) => Err(AllocError),
     }
