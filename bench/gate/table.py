@@ -6,9 +6,9 @@
 
 The tools print no times, and those of a clock say little where other work goes on. So `watch` looks every other second
 at the processes of the prover that a gate started, and keeps in FILE what each has spent of a processor. What is proved
-in a gate's copy of the repository counts as the crate's proof, tests and the programs of both compilers too; what is
-proved in a copy for edits, as its edits: the gate proves a crate once more before it tries them. A crate that an
-earlier run proved has empty columns, as all have where there is no FILE.
+in the repository, or in a gate's copy of it, counts as the crate's proof, tests and the programs of both compilers too;
+what is proved in a copy for edits, as its edits: the gate proves a crate once more before it tries them. A crate that
+an earlier run proved has empty columns, as all have where there is no FILE.
 """
 import collections
 import glob
@@ -20,8 +20,8 @@ import time
 
 TOP = os.path.dirname(os.path.dirname(os.path.dirname(os.path.abspath(__file__))))
 TICKS = os.sysconf("SC_CLK_TCK")
-# the folders in which `rt ci` proves, and tries edits
-GATES = re.compile("/rt-(copy|edit)-")
+# the folders in which `rt ci` proves, and tries edits: the repository's own where it was given no names
+GATES = re.compile(f"/rt-(copy|edit)-|^{re.escape(TOP)}/crates/")
 
 
 def crates():
