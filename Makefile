@@ -6,7 +6,7 @@ export SCRIPT
 
 help:
 	@echo 'make test               the gate: proves every crate, tries the must-fail edits, runs tests and programs (80 minutes)'
-	@echo 'make play SCRIPT=PATH   proves the program and plays a script (about 20 minutes the first time, then at once)'
+	@echo 'make play SCRIPT=PATH   proves the program and plays a script (about an hour the first time, then at once)'
 	@echo 'make try SCRIPT=PATH    plays a script before any proof (about a minute)'
 	@echo 'make view SCRIPT=PATH   plays as make play does, and draws the run as a page beside the script'
 	@echo 'make bench              proves and measures the play, of sites and crashes too, and reading and printing (minutes, after make play)'
@@ -21,7 +21,7 @@ script:
 
 # A run that reads no line proves and builds.
 built:
-	@echo 'make play: proves dc_shell and the crates below it, the lowest first: about 20 minutes the first time,' >&2
+	@echo 'make play: proves dc_shell and the crates below it, the lowest first: about an hour the first time,' >&2
 	@echo 'seconds where nothing has changed. "chose --jobs N for NAME" tells which crate is at hand. Then it plays the script.' >&2
 	@cd crates/dc_shell && rt run -- play < /dev/null >&2
 
