@@ -2,20 +2,20 @@
 use Rattle.std.proofs.Common.{ℕ, Bool, List, Option, Some, None}
 use Rattle.std.specs.Prelude.{ℤ}
 use Rattle.crdt_core.specs.Kept.{KeptAt}
-use Rattle.crdt_counters.specs.declared.counter_fat.FatEffect.{FatEffect}
-use Rattle.crdt_sets.specs.SetGo.{Grown}
-use Rattle.crdt_sets.specs.Elements.{Elements}
-use Rattle.crdt_sets.specs.declared.effect.SetEffect.{SetEffect}
-use Rattle.crdt_flags.specs.declared.effect.FlagEffect.{FlagEffect}
-use Rattle.crdt_registers.specs.declared.assigned.Stamped.{Stamped}
-use Rattle.crdt_registers.specs.declared.assigned.Assigned.{Assigned}
-use Rattle.crdt_registers.specs.declared.mv_effect.MvEffect.{MvEffect}
-use Rattle.crdt_maps.specs.declared.effect.MapEffect.{MapEffect}
+use Rattle.crdt_meanings.specs.declared.counters.FatEffect.{FatEffect}
+use Rattle.crdt_meanings.specs.SetGo.{Grown}
+use Rattle.crdt_meanings.specs.Elements.{Elements}
+use Rattle.crdt_meanings.specs.declared.sets.SetEffect.{SetEffect}
+use Rattle.crdt_meanings.specs.declared.flags.FlagEffect.{FlagEffect}
+use Rattle.crdt_meanings.specs.declared.registers.Stamped.{Stamped}
+use Rattle.crdt_meanings.specs.declared.registers.Assigned.{Assigned}
+use Rattle.crdt_meanings.specs.declared.registers.MvEffect.{MvEffect}
+use Rattle.crdt_meanings.specs.declared.maps.MapEffect.{MapEffect}
 use Rattle.crdt_any.specs.declared.state.LayerState.{LayerState}
 use Rattle.crdt_any.specs.declared.state.LayerState.TheVariants as state
 use Rattle.crdt_any.specs.declared.effect.LayerEffect.{LayerEffect}
 use Rattle.crdt_any.specs.declared.effect.LayerEffect.TheVariants as effect
-use Rattle.crdt_maps.specs.Maps.{FieldMap}
+use Rattle.crdt_meanings.specs.Maps.{FieldMap}
 
 abbrev pub counter_pn_state : {S : Type 0} → LayerState S → Option (ℤ)
 counter_pn_state (state.CounterPn s) = Some s

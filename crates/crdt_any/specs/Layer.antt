@@ -10,27 +10,27 @@ use Rattle.crdt_core.specs.declared.operation.Act.{Act}
 use Rattle.crdt_core.specs.declared.value.Value.{Value}
 use Rattle.crdt_core.specs.Seen.{Update}
 use Rattle.crdt_core.specs.Kept.{is_kept, keeps_none}
-use Rattle.crdt_counters.specs.declared.counter_fat.FatEffect.{FatEffect}
-use Rattle.crdt_sets.specs.SetGo.{Grown}
-use Rattle.crdt_sets.specs.Elements.{keeps_dot, lacks_all}
+use Rattle.crdt_meanings.specs.declared.counters.FatEffect.{FatEffect}
+use Rattle.crdt_meanings.specs.SetGo.{Grown}
+use Rattle.crdt_meanings.specs.Elements.{keeps_dot, lacks_all}
 use Rattle.crdt_any.specs.declared.state.LayerState.{LayerState}
 use Rattle.crdt_any.specs.declared.state.LayerState.TheVariants as state
 use Rattle.crdt_any.specs.declared.effect.LayerEffect.{LayerEffect}
 use Rattle.crdt_any.specs.declared.effect.LayerEffect.TheVariants as effect
 use Rattle.std.specs.FinMap.{empty}
-use Rattle.crdt_counters.specs.Meaning.{counter_meaning}
-use Rattle.crdt_counters.specs.CounterPn.{is_zero, pn_step, pn_made, pn_value, no_stamp, names_none, holds_none}
-use Rattle.crdt_counters.specs.CounterFat.{fat_step, fat_made, fat_value, fat_names}
-use Rattle.crdt_sets.specs.SetGo as set
-use Rattle.crdt_sets.specs.Sets as sets
-use Rattle.crdt_sets.specs.Meaning.{go_meaning as set_go_meaning, aw_meaning, rw_meaning}
-use Rattle.crdt_flags.specs.Flags as flags
-use Rattle.crdt_flags.specs.Meaning.{ew_meaning, dw_meaning}
-use Rattle.crdt_registers.specs.Meaning.{lww_meaning, mv_meaning, word_of}
-use Rattle.crdt_registers.specs.RegisterLww.{unassigned, lww_step, lww_made, lww_stamp, lww_names, lww_holds}
-use Rattle.crdt_registers.specs.RegisterMv.{mv_step, mv_made, mv_value, mv_stamp, mv_names}
-use Rattle.crdt_maps.specs.Maps.{map_step, map_made, map_stamp, map_too_deep, map_names, map_holds, map_value, map_blank}
-use Rattle.crdt_maps.specs.Meaning.{go_meaning, rr_meaning}
+use Rattle.crdt_meanings.specs.CounterMeaning.{counter_meaning}
+use Rattle.crdt_meanings.specs.CounterPn.{is_zero, pn_step, pn_made, pn_value, no_stamp, names_none, holds_none}
+use Rattle.crdt_meanings.specs.CounterFat.{fat_step, fat_made, fat_value, fat_names}
+use Rattle.crdt_meanings.specs.SetGo as set
+use Rattle.crdt_meanings.specs.Sets as sets
+use Rattle.crdt_meanings.specs.SetMeaning.{go_meaning as set_go_meaning, aw_meaning, rw_meaning}
+use Rattle.crdt_meanings.specs.Flags as flags
+use Rattle.crdt_meanings.specs.FlagMeaning.{ew_meaning, dw_meaning}
+use Rattle.crdt_meanings.specs.RegisterMeaning.{lww_meaning, mv_meaning, word_of}
+use Rattle.crdt_meanings.specs.RegisterLww.{unassigned, lww_step, lww_made, lww_stamp, lww_names, lww_holds}
+use Rattle.crdt_meanings.specs.RegisterMv.{mv_step, mv_made, mv_value, mv_stamp, mv_names}
+use Rattle.crdt_meanings.specs.Maps.{map_step, map_made, map_stamp, map_too_deep, map_names, map_holds, map_value, map_blank}
+use Rattle.crdt_meanings.specs.MapMeaning.{go_meaning, rr_meaning}
 use Rattle.crdt_any.specs.Cases.{counter_pn_state, counter_pn_effect, counter_fat_state, counter_fat_effect, set_go_state, set_go_effect, set_aw_state, set_aw_effect, set_rw_state, set_rw_effect, flag_ew_state, flag_ew_effect, flag_dw_state, flag_dw_effect, register_lww_state, register_lww_effect, register_mv_state, register_mv_effect, map_go_state, map_go_effect, map_rr_state, map_rr_effect}
 
 -- the layer has every kind

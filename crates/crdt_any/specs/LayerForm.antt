@@ -9,30 +9,30 @@ use Rattle.std.specs.Prelude.{ℤ}
 use Rattle.site_vector.specs.declared.ids.Dot.{Dot}
 use Rattle.crdt_core.specs.declared.kind.Kind.{Kind}
 use Rattle.crdt_core.specs.declared.kind.Kind.TheVariants as kinds
-use Rattle.crdt_counters.specs.declared.counter_fat.FatEffect.{FatEffect}
-use Rattle.crdt_sets.specs.SetGo.{Grown}
-use Rattle.crdt_sets.specs.declared.effect.SetEffect.{SetEffect}
-use Rattle.crdt_flags.specs.declared.effect.FlagEffect.{FlagEffect}
-use Rattle.crdt_registers.specs.declared.assigned.Assigned.{Assigned}
-use Rattle.crdt_registers.specs.declared.mv_effect.MvEffect.{MvEffect}
-use Rattle.crdt_maps.specs.declared.effect.MapEffect.{MapEffect}
+use Rattle.crdt_meanings.specs.declared.counters.FatEffect.{FatEffect}
+use Rattle.crdt_meanings.specs.SetGo.{Grown}
+use Rattle.crdt_meanings.specs.declared.sets.SetEffect.{SetEffect}
+use Rattle.crdt_meanings.specs.declared.flags.FlagEffect.{FlagEffect}
+use Rattle.crdt_meanings.specs.declared.registers.Assigned.{Assigned}
+use Rattle.crdt_meanings.specs.declared.registers.MvEffect.{MvEffect}
+use Rattle.crdt_meanings.specs.declared.maps.MapEffect.{MapEffect}
 use Rattle.crdt_any.specs.declared.effect.LayerEffect.{LayerEffect}
 use Rattle.crdt_any.specs.declared.effect.LayerEffect.TheVariants as effect
 use Rattle.crdt_core.specs.EffectForm.{SpellsEffects}
 use Rattle.crdt_core.specs.Stands.{StandsIn, have_update, NamesStand}
-use Rattle.crdt_counters.specs.CounterPn.{pn_has}
-use Rattle.crdt_counters.specs.CounterFat.{fat_has}
+use Rattle.crdt_meanings.specs.CounterPn.{pn_has}
+use Rattle.crdt_meanings.specs.CounterFat.{fat_has}
 use Rattle.crdt_counters.specs.EffectForm.{is_amount_number, amount_sets, amount_spelling, amount_at, pn_spells, can_put_fat, fat_sets, is_fat_spelled, fat_spelling, fat_at, fat_spells, pn_stands, fat_stands}
-use Rattle.crdt_sets.specs.SetGo as set
-use Rattle.crdt_sets.specs.Sets.{set_has}
+use Rattle.crdt_meanings.specs.SetGo as set
+use Rattle.crdt_meanings.specs.Sets.{set_has}
 use Rattle.crdt_sets.specs.EffectForm.{can_put_texts, are_texts_spelled, texts_spelling, texts_at, texts_sets, set_sets, go_spells as set_go_spells, can_put_set, is_set_spelled, set_spelling, set_at, set_spells, go_stands as set_go_stands, set_stands}
-use Rattle.crdt_flags.specs.Flags as flags
+use Rattle.crdt_meanings.specs.Flags as flags
 use Rattle.crdt_flags.specs.EffectForm.{can_put_flag, flag_sets, is_flag_spelled, flag_spelling, flag_at, flag_spells, flag_stands}
-use Rattle.crdt_registers.specs.RegisterLww.{lww_has}
-use Rattle.crdt_registers.specs.RegisterMv.{mv_has}
+use Rattle.crdt_meanings.specs.RegisterLww.{lww_has}
+use Rattle.crdt_meanings.specs.RegisterMv.{mv_has}
 use Rattle.crdt_registers.specs.LwwForm.{can_put_lww, lww_sets, is_lww_spelled, lww_spelling, lww_at, lww_spells, lww_stands}
 use Rattle.crdt_registers.specs.MvForm.{can_put_mv, is_mv_spelled, mv_spelling, mv_at, mv_spells, mv_sets, mv_stands}
-use Rattle.crdt_maps.specs.Maps.{map_has}
+use Rattle.crdt_meanings.specs.Maps.{map_has}
 use Rattle.crdt_maps.specs.EffectForm.{map_can_put, map_is_spelled, map_spelling, map_at, map_spells, map_sets, map_stands}
 use Rattle.crdt_any.specs.Layer.{layer_has, layer_names}
 use Rattle.crdt_any.specs.Cases.{counter_pn_effect, counter_fat_effect, set_go_effect, set_aw_effect, set_rw_effect, flag_ew_effect, flag_dw_effect, register_lww_effect, register_mv_effect, map_go_effect, map_rr_effect}

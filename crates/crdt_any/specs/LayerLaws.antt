@@ -12,28 +12,28 @@ use Rattle.crdt_core.specs.declared.operation.Act.{Act}
 use Rattle.crdt_core.specs.declared.value.Value.{Value}
 use Rattle.crdt_core.specs.Seen.{Update}
 use Rattle.crdt_core.specs.Kept.{KeptAt, is_kept, keeps_none}
-use Rattle.crdt_counters.specs.declared.counter_fat.FatEffect.{FatEffect}
-use Rattle.crdt_sets.specs.SetGo.{Grown}
-use Rattle.crdt_sets.specs.Elements.{Elements, keeps_dot, lacks_all}
-use Rattle.crdt_sets.specs.declared.effect.SetEffect.{SetEffect}
-use Rattle.crdt_flags.specs.declared.effect.FlagEffect.{FlagEffect}
-use Rattle.crdt_registers.specs.declared.assigned.Stamped.{Stamped}
-use Rattle.crdt_registers.specs.declared.assigned.Assigned.{Assigned}
-use Rattle.crdt_registers.specs.declared.mv_effect.MvEffect.{MvEffect}
-use Rattle.crdt_maps.specs.declared.effect.MapEffect.{MapEffect}
+use Rattle.crdt_meanings.specs.declared.counters.FatEffect.{FatEffect}
+use Rattle.crdt_meanings.specs.SetGo.{Grown}
+use Rattle.crdt_meanings.specs.Elements.{Elements, keeps_dot, lacks_all}
+use Rattle.crdt_meanings.specs.declared.sets.SetEffect.{SetEffect}
+use Rattle.crdt_meanings.specs.declared.flags.FlagEffect.{FlagEffect}
+use Rattle.crdt_meanings.specs.declared.registers.Stamped.{Stamped}
+use Rattle.crdt_meanings.specs.declared.registers.Assigned.{Assigned}
+use Rattle.crdt_meanings.specs.declared.registers.MvEffect.{MvEffect}
+use Rattle.crdt_meanings.specs.declared.maps.MapEffect.{MapEffect}
 use Rattle.crdt_any.specs.declared.state.LayerState.{LayerState}
 use Rattle.crdt_any.specs.declared.state.LayerState.TheVariants as state
 use Rattle.crdt_any.specs.declared.effect.LayerEffect.{LayerEffect}
 use Rattle.crdt_any.specs.declared.effect.LayerEffect.TheVariants as effect
 use Rattle.std.specs.FinMap.{empty}
-use Rattle.crdt_counters.specs.CounterPn.{is_zero, pn_step, pn_made, names_none, holds_none}
-use Rattle.crdt_counters.specs.CounterFat.{fat_step, fat_made, fat_names}
-use Rattle.crdt_sets.specs.SetGo as set
-use Rattle.crdt_sets.specs.Sets as sets
-use Rattle.crdt_flags.specs.Flags as flags
-use Rattle.crdt_registers.specs.RegisterLww.{unassigned, lww_step, lww_made, lww_names, lww_holds}
-use Rattle.crdt_registers.specs.RegisterMv.{mv_step, mv_made, mv_names}
-use Rattle.crdt_maps.specs.Maps.{FieldMap, map_step, map_made, map_names, map_holds, map_blank}
+use Rattle.crdt_meanings.specs.CounterPn.{is_zero, pn_step, pn_made, names_none, holds_none}
+use Rattle.crdt_meanings.specs.CounterFat.{fat_step, fat_made, fat_names}
+use Rattle.crdt_meanings.specs.SetGo as set
+use Rattle.crdt_meanings.specs.Sets as sets
+use Rattle.crdt_meanings.specs.Flags as flags
+use Rattle.crdt_meanings.specs.RegisterLww.{unassigned, lww_step, lww_made, lww_names, lww_holds}
+use Rattle.crdt_meanings.specs.RegisterMv.{mv_step, mv_made, mv_names}
+use Rattle.crdt_meanings.specs.Maps.{FieldMap, map_step, map_made, map_names, map_holds, map_blank}
 use Rattle.crdt_core.specs.declared.operation.Act.TheVariants as act
 use Rattle.crdt_core.specs.Kinds.{reads_state}
 use Rattle.crdt_core.specs.Fits.{stands_in, is_map}
@@ -43,14 +43,14 @@ use Rattle.crdt_core.specs.History.{IsHistory, IsStamped, effect_after, state_af
 use Rattle.crdt_core.specs.Law.{KeepsSteps, KeepsLaw, made_by, all_fit}
 use Rattle.crdt_core.specs.InMaps.{KeepsInMaps}
 use Rattle.crdt_core.proofs.Confluence.{confluence}
-use Rattle.crdt_counters.specs.PnLaw.{pn_law, pn_in_maps}
-use Rattle.crdt_counters.specs.FatLaw.{fat_law, fat_in_maps}
-use Rattle.crdt_sets.specs.GoLaw.{go_law as set_go_law, go_in_maps as set_go_in_maps}
-use Rattle.crdt_sets.specs.RemovableLaws.{set_law, set_in_maps}
-use Rattle.crdt_flags.specs.FlagLaws.{flag_law, flag_in_maps}
-use Rattle.crdt_registers.specs.LwwLaw.{lww_law, lww_in_maps}
-use Rattle.crdt_registers.specs.MvLaw.{mv_law, mv_in_maps}
-use Rattle.crdt_maps.specs.MapLaws.{map_law, map_in_maps}
+use Rattle.crdt_meanings.proofs.PnLaw.{pn_law, pn_in_maps}
+use Rattle.crdt_meanings.proofs.FatLaw.{fat_law, fat_in_maps}
+use Rattle.crdt_meanings.proofs.GoLaw.{go_law as set_go_law, go_in_maps as set_go_in_maps}
+use Rattle.crdt_meanings.proofs.RemovableLaws.{set_law, set_in_maps}
+use Rattle.crdt_meanings.proofs.FlagLaws.{flag_law, flag_in_maps}
+use Rattle.crdt_meanings.proofs.LwwLaw.{lww_law, lww_in_maps}
+use Rattle.crdt_meanings.proofs.MvLaw.{mv_law, mv_in_maps}
+use Rattle.crdt_meanings.proofs.MapLaws.{map_law, map_in_maps}
 use Rattle.crdt_any.specs.Cases.{counter_pn_state, counter_pn_effect, counter_fat_state, counter_fat_effect, set_go_state, set_go_effect, set_aw_state, set_aw_effect, set_rw_state, set_rw_effect, flag_ew_state, flag_ew_effect, flag_dw_state, flag_dw_effect, register_lww_state, register_lww_effect, register_mv_state, register_mv_effect, map_go_state, map_go_effect, map_rr_state, map_rr_effect}
 use Rattle.crdt_any.specs.Layer.{layer_has, layer_too_deep, layer_initial, layer_step, layer_made, layer_value, layer_stamp, layer_meaning, layer_names, layer_holds, layer_blank}
 use Rattle.crdt_any.specs.Parts.{part_means, part_stamps, named_by, moved_swaps, moved_held}

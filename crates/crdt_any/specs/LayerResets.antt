@@ -16,11 +16,11 @@ use Rattle.crdt_core.specs.History.{IsHistory, state_after}
 use Rattle.crdt_core.specs.Law.{KeepsLaw, made_by, all_fit}
 use Rattle.crdt_core.specs.InMaps.{KeepsInMaps}
 use Rattle.crdt_core.specs.Resets.{ResetsWhatIsLeft}
-use Rattle.crdt_counters.specs.FatLaw.{fat_resets}
-use Rattle.crdt_sets.specs.SetResets.{set_resets}
-use Rattle.crdt_flags.specs.FlagLaws.{flag_resets}
-use Rattle.crdt_registers.specs.MvLaw.{mv_resets}
-use Rattle.crdt_maps.specs.MapResets.{map_resets}
+use Rattle.crdt_meanings.proofs.FatLaw.{fat_resets}
+use Rattle.crdt_meanings.proofs.SetResets.{set_resets}
+use Rattle.crdt_meanings.proofs.FlagLaws.{flag_resets}
+use Rattle.crdt_meanings.proofs.MvLaw.{mv_resets}
+use Rattle.crdt_meanings.proofs.MapResets.{map_resets}
 use Rattle.crdt_any.specs.declared.state.LayerState.{LayerState}
 use Rattle.crdt_any.specs.declared.state.LayerState.TheVariants as state
 use Rattle.crdt_any.specs.declared.effect.LayerEffect.{LayerEffect}

@@ -4,11 +4,11 @@ use Rattle.crdt_core.specs.declared.kind.Kind.{Kind}
 use Rattle.crdt_core.specs.declared.kind.Kind.TheVariants as kinds
 use Rattle.crdt_core.specs.declared.value.Value.{Value}
 use Rattle.crdt_core.specs.Seen.{Update}
-use Rattle.crdt_counters.specs.Meaning.{counter_meaning}
-use Rattle.crdt_sets.specs.Meaning.{go_meaning as set_go_meaning, aw_meaning, rw_meaning}
-use Rattle.crdt_flags.specs.Meaning.{ew_meaning, dw_meaning}
-use Rattle.crdt_registers.specs.Meaning.{lww_meaning, mv_meaning}
-use Rattle.crdt_maps.specs.Meaning.{go_meaning, rr_meaning}
+use Rattle.crdt_meanings.specs.CounterMeaning.{counter_meaning}
+use Rattle.crdt_meanings.specs.SetMeaning.{go_meaning as set_go_meaning, aw_meaning, rw_meaning}
+use Rattle.crdt_meanings.specs.FlagMeaning.{ew_meaning, dw_meaning}
+use Rattle.crdt_meanings.specs.RegisterMeaning.{lww_meaning, mv_meaning}
+use Rattle.crdt_meanings.specs.MapMeaning.{go_meaning, rr_meaning}
 use Rattle.crdt_any.specs.Layer.{layer_meaning}
 
 -- the fields of a map mean what they mean in the layer within

@@ -3,7 +3,7 @@ use Rattle.std.proofs.Common.{◌≡◌, List, [], ◌∷◌, sym, ap, ◌∙◌
 use Rattle.std.specs.Prelude.{ℤ, pos, ◌+ℤ◌}
 use Rattle.std.specs.Int.{int_wrap, w128}
 use Rattle.std.proofs.lemmas.Int.{ints, int_wrap_fits, int_wrap-add_left}
-use Rattle.crdt_counters.specs.Meaning.{total_by}
+use Rattle.crdt_meanings.specs.CounterMeaning.{total_by}
 
 turned : (t x r : ℤ) → ((t +ℤ x) +ℤ r) ≡ (t +ℤ (r +ℤ x))
 turned t x r = omega (arith, ints)

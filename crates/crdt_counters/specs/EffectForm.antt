@@ -19,10 +19,10 @@ use Rattle.crdt_core.proofs.SetsLaws.{or_none}
 use Rattle.crdt_core.specs.EffectForm.{SpellsEffects}
 use Rattle.crdt_core.specs.Stands.{StandsIn, have_update, NamesStand}
 use Rattle.crdt_core.proofs.StandsLaws.{stands_behind, dots_stand}
-use Rattle.crdt_counters.specs.CounterPn.{names_none}
-use Rattle.crdt_counters.specs.CounterFat.{fat_names}
-use Rattle.crdt_counters.specs.declared.counter_fat.FatEffect.{FatEffect}
-use Rattle.crdt_counters.specs.declared.counter_fat.FatEffect.TheVariants.{Amount, Reset}
+use Rattle.crdt_meanings.specs.CounterPn.{names_none}
+use Rattle.crdt_meanings.specs.CounterFat.{fat_names}
+use Rattle.crdt_meanings.specs.declared.counters.FatEffect.{FatEffect}
+use Rattle.crdt_meanings.specs.declared.counters.FatEffect.TheVariants.{Amount, Reset}
 
 -- from -2^31 to 2^31
 abbrev pub is_amount_number : ℤ → Bool

@@ -8,7 +8,7 @@ use Rattle.field_codec.specs.FormLaws.{both_true, and_true}
 use Rattle.crdt_core.specs.declared.kind.Kind.{Kind}
 use Rattle.crdt_core.specs.declared.value.Value.TheVariants.{Int}
 use Rattle.crdt_core.specs.Seen.{Update, is_live}
-use Rattle.crdt_counters.specs.Meaning.{amount, total, counter_meaning}
+use Rattle.crdt_meanings.specs.CounterMeaning.{amount, total, counter_meaning}
 use Rattle.crdt_counters.specs.EffectForm.{is_amount_number}
 
 -- each amount is from -2^31 to 2^31

@@ -1,7 +1,7 @@
 ghost use Rattle.std.specs.Prelude.{◌≡◌, ◌+ℤ◌, true};
 ghost use Rattle.std.specs.FinMap.{entries};
 ghost use Rattle.std.specs.Int.{int_wrap, w128};
-ghost use Rattle.crdt_counters.specs.Meaning.{amount, total_by};
+ghost use Rattle.crdt_meanings.specs.CounterMeaning.{amount, total_by};
 ghost use Rattle.crdt_counters.specs.EffectForm.{is_amount_number};
 
 use crdt_core::{Act, Kept};

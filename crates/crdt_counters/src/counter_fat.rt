@@ -1,27 +1,19 @@
 ghost use Rattle.std.specs.Prelude.{◌≡◌, pos, false, IfOk, OnOk};
 ghost use Rattle.std.specs.FinMap.{empty};
 ghost use Rattle.crdt_core.specs.Kept.{is_kept, keeps_none};
-ghost use Rattle.crdt_counters.specs.Meaning.{counter_meaning};
-ghost use Rattle.crdt_counters.specs.CounterPn.{no_stamp};
-ghost use Rattle.crdt_counters.specs.CounterFat.{fat_has, fat_step, fat_made, fat_value, fat_names};
+ghost use Rattle.crdt_meanings.specs.CounterMeaning.{counter_meaning};
+ghost use Rattle.crdt_meanings.specs.CounterPn.{no_stamp};
+ghost use Rattle.crdt_meanings.specs.CounterFat.{fat_has, fat_step, fat_made, fat_value, fat_names};
 ghost use Rattle.crdt_counters.specs.EffectForm.{is_of_kind, can_put_fat, is_fat_spelled, fat_sets, fat_spelling, fat_at, fat_spells, fat_stands};
-ghost use Rattle.crdt_counters.specs.FatLaw.{fat_law, fat_in_maps, fat_resets};
+ghost use Rattle.crdt_meanings.proofs.FatLaw.{fat_law, fat_in_maps, fat_resets};
 
 use crate::amounts::{amount_of, total_of};
 use crate::fat_form::FatForm;
-use crdt_core::{Act, Crdt, Dots, Field, GenError, Kept, Kind, Op, Value, fits_at, reads_state};
+use crdt_core::{Act, Crdt, Field, GenError, Kept, Kind, Op, Value, fits_at, reads_state};
+use crdt_meanings::FatEffect;
 use field_codec::{Form, TakeError, put_whole};
 use site_vector::Dot;
 use std::alloc::{AllocError, Global};
-
-/// What an update of a `CounterFat` does.
-#[derive(Drop)]
-pub enum FatEffect {
-    /// Puts an amount from -2^31 to 2^31 at its dot.
-    Amount(i64),
-    /// Takes out the amounts at these dots.
-    Reset(Dots),
-}
 
 /// The counter whose updates a reset undoes: a state is the amounts that no reset has taken, each at its dot.
 pub struct CounterFat;

@@ -9,6 +9,7 @@ mod exact;
 mod fat_form;
 
 pub use amounts::amount_of;
-pub use counter_fat::{CounterFat, FatEffect};
+pub use counter_fat::CounterFat;
 pub use counter_pn::CounterPn;
+pub use crdt_meanings::FatEffect;
 pub use exact::law_exact_sums;

@@ -10,7 +10,7 @@ use Rattle.crdt_core.specs.Kept.{KeptAt, dots_of, is_kept}
 use Rattle.crdt_core.specs.Spelled.{ascend}
 use Rattle.crdt_core.specs.EffectForm.{HoldsSpelled, IsReady, reset_tag, begins_with, asks_reset, sets_ascend}
 use Rattle.crdt_core.proofs.Ready.{kept_spelled, kept_ascend}
-use Rattle.crdt_flags.specs.Flags.{flag_kind, flag_made}
+use Rattle.crdt_meanings.specs.Flags.{flag_kind, flag_made}
 use Rattle.crdt_flags.specs.EffectForm.{is_of_kind, can_put_flag, flag_sets, flag_spelling}
 
 one_set : (s : KeptAt Bool) → sets_ascend (dots_of s ∷ []) ≡ true

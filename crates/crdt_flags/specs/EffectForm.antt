@@ -13,9 +13,9 @@ use Rattle.crdt_core.proofs.SetsLaws.{or_none}
 use Rattle.crdt_core.specs.EffectForm.{SpellsEffects}
 use Rattle.crdt_core.specs.Stands.{NamesStand}
 use Rattle.crdt_core.proofs.StandsLaws.{stands_behind, dots_stand}
-use Rattle.crdt_flags.specs.Flags.{flag_out, flag_names}
-use Rattle.crdt_flags.specs.declared.effect.FlagEffect.{FlagEffect}
-use Rattle.crdt_flags.specs.declared.effect.FlagEffect.TheVariants.{Enable, Disable, Reset}
+use Rattle.crdt_meanings.specs.Flags.{flag_out, flag_names}
+use Rattle.crdt_meanings.specs.declared.flags.FlagEffect.{FlagEffect}
+use Rattle.crdt_meanings.specs.declared.flags.FlagEffect.TheVariants.{Enable, Disable, Reset}
 
 abbrev pub flag_mark : FlagEffect → ℕ
 flag_mark (Enable ds) = 0

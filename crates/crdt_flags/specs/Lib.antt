@@ -1,4 +1,1 @@
 pub mod EffectForm
-pub mod FlagLaws
-pub mod Flags
-pub mod Meaning

@@ -5,5 +5,5 @@ mod effect;
 mod effect_form;
 mod flag_of;
 
-pub use effect::FlagEffect;
+pub use crdt_meanings::FlagEffect;
 pub use flag_of::{FlagDw, FlagEw, FlagOf};

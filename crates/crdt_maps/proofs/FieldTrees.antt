@@ -13,8 +13,8 @@ use Rattle.crdt_core.specs.MapLists.{IsDistinct, distinct_entries}
 use Rattle.crdt_core.specs.declared.kind.Kind.{Kind}
 use Rattle.crdt_core.specs.declared.object.Field.{Field}
 use Rattle.crdt_core.specs.FieldOrder.{field_cmp, field_cmp_total, field_cmp_exact}
-use Rattle.crdt_maps.specs.Maps.{FieldMap, is_undone, resets_of}
-use Rattle.crdt_maps.specs.FieldSteps.{found, same_fields}
+use Rattle.crdt_meanings.specs.Maps.{FieldMap, is_undone, resets_of}
+use Rattle.crdt_meanings.proofs.FieldSteps.{found, same_fields}
 
 skip : {X : Type 0} (b : Bool) (y o p : Option X) → p ≡ cond b None o → cond b y p ≡ cond b y o
 skip true y o p h = refl

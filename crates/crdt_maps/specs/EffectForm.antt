@@ -25,9 +25,9 @@ use Rattle.crdt_core.specs.EffectForm.{SpellsEffects, reset_tag, begins_with}
 use Rattle.crdt_core.specs.Stands.{StandsIn, have_update, NamesStand}
 use Rattle.crdt_core.proofs.SetsLaws.{or_none, update_of_list}
 use Rattle.crdt_core.proofs.StandsLaws.{stands_behind, list_stands}
-use Rattle.crdt_maps.specs.Maps.{map_kind, map_names}
-use Rattle.crdt_maps.specs.declared.effect.MapEffect.{MapEffect}
-use Rattle.crdt_maps.specs.declared.effect.MapEffect.TheVariants.{At, Resets}
+use Rattle.crdt_meanings.specs.Maps.{map_kind, map_names}
+use Rattle.crdt_meanings.specs.declared.maps.MapEffect.{MapEffect}
+use Rattle.crdt_meanings.specs.declared.maps.MapEffect.TheVariants.{At, Resets}
 
 -- ---- a field: its name, and the code of a kind that may stand in the map and that the inner type has
 

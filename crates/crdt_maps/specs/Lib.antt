@@ -1,13 +1,2 @@
 pub mod EffectForm
-pub mod FieldFold
-pub mod FieldHistory
-pub mod FieldStamps
-pub mod FieldSteps
-pub mod MapLaws
-pub mod MapResets
-pub mod MapSteps
-pub mod Maps
-pub mod Meaning
-pub mod Picked
-pub mod Presence
 pub mod Ready

@@ -22,11 +22,11 @@ use Rattle.crdt_core.specs.Law.{KeepsLaw}
 use Rattle.crdt_core.specs.Spelled.{is_dot}
 use Rattle.crdt_core.proofs.SetsLaws.{ascend_joined}
 use Rattle.crdt_core.specs.EffectForm.{HoldsSpelled, IsReady, reset_tag, begins_with, sets_ascend}
-use Rattle.crdt_maps.specs.declared.effect.MapEffect.{MapEffect}
-use Rattle.crdt_maps.specs.declared.effect.MapEffect.TheVariants.{At, Resets}
-use Rattle.crdt_maps.specs.Maps.{FieldMap, at, map_kind, map_has, is_undone, resets_of, reset_by, map_made, map_too_deep, map_holds}
-use Rattle.crdt_maps.specs.FieldHistory.{outer_fits, enters, own_act}
-use Rattle.crdt_maps.specs.MapSteps.{some_found, held_here}
+use Rattle.crdt_meanings.specs.declared.maps.MapEffect.{MapEffect}
+use Rattle.crdt_meanings.specs.declared.maps.MapEffect.TheVariants.{At, Resets}
+use Rattle.crdt_meanings.specs.Maps.{FieldMap, at, map_kind, map_has, is_undone, resets_of, reset_by, map_made, map_too_deep, map_holds}
+use Rattle.crdt_meanings.proofs.FieldHistory.{outer_fits, enters, own_act}
+use Rattle.crdt_meanings.proofs.MapSteps.{some_found, held_here}
 use Rattle.crdt_maps.specs.EffectForm.{may_stand, entry_below, map_can_put, map_sets, map_spelling, is_of_map}
 
 -- an effect of a field that can be put, whose sets of updates ascend

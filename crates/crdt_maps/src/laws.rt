@@ -4,7 +4,7 @@ ghost use Rattle.crdt_core.specs.declared.operation.Act.{Act};
 ghost use Rattle.crdt_core.specs.Seen.{Update};
 ghost use Rattle.crdt_core.specs.History.{IsHistory, state_after};
 ghost use Rattle.crdt_core.specs.Law.{made_by, all_fit};
-ghost use Rattle.crdt_maps.specs.MapResets.{EachNames};
+ghost use Rattle.crdt_meanings.specs.Maps.{EachNames};
 
 use crate::MapRr;
 use crdt_core::Crdt;

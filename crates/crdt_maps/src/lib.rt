@@ -1,9 +1,7 @@
 //! Maps whose fields are of the kinds of an inner type: one whose fields stay, and one whose fields can be dropped.
 #![tactic(auto)]
 
-mod boxed;
 mod copies;
-mod effect;
 mod effect_form;
 mod entry_form;
 mod fields;
@@ -13,8 +11,7 @@ mod map_of;
 mod steps;
 mod values;
 
-pub use boxed::Boxed;
-pub use effect::MapEffect;
+pub use crdt_meanings::{Boxed, MapEffect};
 pub use fields::Fields;
 pub use laws::law_resets;
 pub use map_of::{MapGo, MapOf, MapRr};

@@ -5,7 +5,7 @@ ghost use Rattle.std.specs.List.{list_all};
 ghost use Rattle.crdt_core.specs.EffectForm.{HoldsSpelled, IsReady};
 ghost use Rattle.crdt_core.specs.Fits.{fits};
 ghost use Rattle.crdt_maps.specs.Ready.{is_ready_at, is_reset_ready, parts_ready};
-ghost use Rattle.crdt_maps.specs.Maps.{at, is_undone, resets_of, reset_by, map_made, map_too_deep, map_holds};
+ghost use Rattle.crdt_meanings.specs.Maps.{at, is_undone, resets_of, reset_by, map_made, map_too_deep, map_holds};
 
 use crate::{Boxed, Fields, MapEffect};
 use crdt_core::{Act, Crdt, Field, GenError, Kind, stands_in};

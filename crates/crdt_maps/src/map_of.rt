@@ -1,10 +1,10 @@
 ghost use Rattle.std.specs.Prelude.{◌≡◌, IfOk};
 ghost use Rattle.std.specs.FinMap.{empty};
-ghost use Rattle.crdt_maps.specs.Maps.{map_has, map_step, map_made, map_stamp, map_too_deep, map_names, map_holds, map_value, map_blank};
-ghost use Rattle.crdt_maps.specs.Meaning.{map_meaning};
+ghost use Rattle.crdt_meanings.specs.Maps.{map_has, map_step, map_made, map_stamp, map_too_deep, map_names, map_holds, map_value, map_blank};
+ghost use Rattle.crdt_meanings.specs.MapMeaning.{map_meaning};
 ghost use Rattle.crdt_maps.specs.EffectForm.{is_of_map, map_can_put, map_is_spelled, map_sets, map_spelling, map_at, map_spells, map_stands};
-ghost use Rattle.crdt_maps.specs.MapLaws.{map_law, map_in_maps};
-ghost use Rattle.crdt_maps.specs.MapResets.{map_resets};
+ghost use Rattle.crdt_meanings.proofs.MapLaws.{map_law, map_in_maps};
+ghost use Rattle.crdt_meanings.proofs.MapResets.{map_resets};
 
 use crate::effect_form::MapForm;
 use crate::made::{effect_of, leads_too_deep};

@@ -1,6 +1,6 @@
 ghost use Rattle.std.specs.Prelude.{◌≡◌, OnOk, IfOk};
 ghost use Rattle.std.specs.FinMap as map;
-ghost use Rattle.crdt_maps.specs.Maps.{at, step_at, step_each, map_step};
+ghost use Rattle.crdt_meanings.specs.Maps.{at, step_at, step_each, map_step};
 
 use crate::{Fields, MapEffect};
 use crdt_core::{Crdt, Field};

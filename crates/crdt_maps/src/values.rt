@@ -1,5 +1,5 @@
 ghost use Rattle.std.specs.Prelude.{◌≡◌, ◌++◌, ◌∷◌, [], true, IfOk};
-ghost use Rattle.crdt_maps.specs.Maps as spec;
+ghost use Rattle.crdt_meanings.specs.Maps as spec;
 
 use crate::Fields;
 use crdt_core::{Crdt, Field, Kind, Value};

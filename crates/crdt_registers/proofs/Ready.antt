@@ -19,9 +19,9 @@ use Rattle.crdt_core.specs.Stamps.{last_stamp}
 use Rattle.crdt_registers.specs.EffectForm.{is_of_kind}
 use Rattle.crdt_registers.specs.LwwForm.{can_put_lww, lww_sets, lww_spelling}
 use Rattle.crdt_registers.specs.MvForm.{can_put_mv, mv_sets, mv_spelling}
-use Rattle.crdt_registers.specs.RegisterLww.{lww_has, above, lww_made_on}
-use Rattle.crdt_registers.specs.RegisterMv.{mv_has, mv_made_on}
-use Rattle.crdt_registers.specs.declared.assigned.Stamped.{Stamped}
+use Rattle.crdt_meanings.specs.RegisterLww.{lww_has, above, lww_made_on}
+use Rattle.crdt_meanings.specs.RegisterMv.{mv_has, mv_made_on}
+use Rattle.crdt_meanings.specs.declared.registers.Stamped.{Stamped}
 
 -- ---- the last writer wins
 

@@ -2,9 +2,9 @@
 use Rattle.std.proofs.Common.{◌≡◌, true, false, cond, Option, Some, None, refl, sym, ap}
 use Rattle.std.proofs.lemmas.Bool.{false≢true}
 use Rattle.site_vector.specs.declared.ids.Dot.{Dot}
-use Rattle.crdt_registers.specs.RegisterLww.{lww_step, stands}
-use Rattle.crdt_registers.specs.declared.assigned.Stamped.{Stamped}
-use Rattle.crdt_registers.specs.declared.assigned.Assigned.{Assigned}
+use Rattle.crdt_meanings.specs.RegisterLww.{lww_step, stands}
+use Rattle.crdt_meanings.specs.declared.registers.Stamped.{Stamped}
+use Rattle.crdt_meanings.specs.declared.registers.Assigned.{Assigned}
 
 pub step_stays : (s : Option Stamped) (d : Dot) (e : Assigned) → stands s d e ≡ true → s ≡ lww_step s d e
 step_stays None d e h = absurd (false≢true h)

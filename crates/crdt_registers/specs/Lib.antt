@@ -1,10 +1,3 @@
 pub mod EffectForm
-pub mod Later
 pub mod LwwForm
-pub mod LwwLaw
-pub mod Meaning
 pub mod MvForm
-pub mod MvLaw
-pub mod RegisterLww
-pub mod RegisterMv
-pub mod Sorted

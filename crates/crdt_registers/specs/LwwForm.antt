@@ -14,8 +14,8 @@ use Rattle.crdt_core.specs.EffectForm.{SpellsEffects}
 use Rattle.crdt_core.specs.Stands.{NamesStand}
 use Rattle.crdt_core.specs.Stamps.{last_stamp}
 use Rattle.crdt_registers.specs.EffectForm.{is_of_kind}
-use Rattle.crdt_registers.specs.RegisterLww.{lww_names}
-use Rattle.crdt_registers.specs.declared.assigned.Assigned.{Assigned}
+use Rattle.crdt_meanings.specs.RegisterLww.{lww_names}
+use Rattle.crdt_meanings.specs.declared.registers.Assigned.{Assigned}
 
 abbrev pub can_put_lww : Assigned → Bool
 can_put_lww e = is_between 0 last_stamp e.stamp

@@ -18,9 +18,9 @@ use Rattle.crdt_core.specs.DotSet.{has_dot}
 use Rattle.crdt_core.specs.Stands.{StandsIn, NamesStand}
 use Rattle.crdt_core.proofs.StandsLaws.{stands_behind, dots_stand}
 use Rattle.crdt_registers.specs.EffectForm.{is_of_kind}
-use Rattle.crdt_registers.specs.RegisterMv.{mv_out, mv_names}
-use Rattle.crdt_registers.specs.declared.mv_effect.MvEffect.{MvEffect}
-use Rattle.crdt_registers.specs.declared.mv_effect.MvEffect.TheVariants.{Assign, Reset}
+use Rattle.crdt_meanings.specs.RegisterMv.{mv_out, mv_names}
+use Rattle.crdt_meanings.specs.declared.registers.MvEffect.{MvEffect}
+use Rattle.crdt_meanings.specs.declared.registers.MvEffect.TheVariants.{Assign, Reset}
 
 abbrev pub mv_mark : MvEffect → ℕ
 mv_mark (Assign x ds) = 0

@@ -1,63 +1,13 @@
 ghost use Rattle.std.specs.Prelude.{◌≡◌, [], IfOk};
 ghost use Rattle.std.specs.Ordering.{is_lt};
-ghost use Rattle.crdt_registers.specs.Later.{stamped_cmp};
-ghost use Rattle.crdt_registers.specs.Meaning.{text_of};
+ghost use Rattle.crdt_meanings.specs.Later.{stamped_cmp};
+ghost use Rattle.crdt_meanings.specs.RegisterMeaning.{text_of};
 
+use crate::{Assigned, Stamped};
 use crdt_core::Act;
 use field_codec::Text;
 use site_vector::Dot;
 use std::alloc::{AllocError, Global};
-
-/// What an assign to a register that the last writer wins does.
-#[derive(Drop)]
-pub struct Assigned {
-    /// Below 2^63.
-    pub stamp: u64,
-    pub text: Text,
-}
-
-/// An assign with its dot. The later of two has the greater stamp, or else the greater dot.
-#[derive(Drop)]
-pub struct Stamped {
-    pub stamp: u64,
-    pub dot: Dot,
-    pub text: Text,
-}
-
-impl Assigned {
-    /// An equal assign.
-    ///
-    /// # Errors
-    ///
-    /// `AllocError` where memory runs out.
-    pub fn copy(&self, alloc: Global) -> Result<Assigned, AllocError>
-        ensures { IfOk result (λ a. a ≡ self.now) }
-    {
-        let text = self.text.copy(alloc)?;
-        Ok(Assigned {
-            stamp: self.stamp,
-            text,
-        })
-    }
-}
-
-impl Stamped {
-    /// An equal assign.
-    ///
-    /// # Errors
-    ///
-    /// `AllocError` where memory runs out.
-    pub fn copy(&self, alloc: Global) -> Result<Stamped, AllocError>
-        ensures { IfOk result (λ a. a ≡ self.now) }
-    {
-        let text = self.text.copy(alloc)?;
-        Ok(Stamped {
-            stamp: self.stamp,
-            dot: self.dot,
-            text,
-        })
-    }
-}
 
 /// Whether an assign comes before this one.
 pub fn is_before(assigned: &Assigned, dot: Dot, other: &Stamped) -> bool

@@ -9,7 +9,6 @@ mod register_lww;
 mod register_mv;
 mod texts;
 
-pub use assigned::{Assigned, Stamped};
-pub use mv_effect::MvEffect;
+pub use crdt_meanings::{Assigned, MvEffect, Stamped};
 pub use register_lww::RegisterLww;
 pub use register_mv::RegisterMv;

@@ -1,10 +1,10 @@
 ghost use Rattle.std.specs.Prelude.{◌≡◌, ◌+◌, min, max, false, None, IfOk};
 ghost use Rattle.crdt_core.specs.Stamps.{last_stamp};
-ghost use Rattle.crdt_registers.specs.Meaning.{lww_meaning, word_of};
-ghost use Rattle.crdt_registers.specs.RegisterLww.{lww_has, lww_step, lww_made_on, lww_made, lww_stamp, lww_names, lww_holds, above, stands, unassigned};
+ghost use Rattle.crdt_meanings.specs.RegisterMeaning.{lww_meaning, word_of};
+ghost use Rattle.crdt_meanings.specs.RegisterLww.{lww_has, lww_step, lww_made_on, lww_made, lww_stamp, lww_names, lww_holds, above, stands, unassigned};
 ghost use Rattle.crdt_registers.specs.EffectForm.{is_of_kind};
 ghost use Rattle.crdt_registers.specs.LwwForm.{can_put_lww, is_lww_spelled, lww_sets, lww_spelling, lww_at, lww_spells, lww_stands};
-ghost use Rattle.crdt_registers.specs.LwwLaw.{lww_law, lww_in_maps, lww_resets};
+ghost use Rattle.crdt_meanings.proofs.LwwLaw.{lww_law, lww_in_maps, lww_resets};
 
 use crate::assigned::{empty_text, is_before, text_of};
 use crate::lww_form::LwwForm;

@@ -1,6 +1,6 @@
 ghost use Rattle.std.specs.Prelude.{◌≡◌, IfOk};
-ghost use Rattle.crdt_registers.specs.RegisterMv.{texts_kept};
-ghost use Rattle.crdt_registers.specs.Sorted.{sorted};
+ghost use Rattle.crdt_meanings.specs.RegisterMv.{texts_kept};
+ghost use Rattle.crdt_meanings.specs.Sorted.{sorted};
 
 use crdt_core::Kept;
 use field_codec::{ListOf, Text};

@@ -7,12 +7,12 @@ use Rattle.site_vector.specs.declared.ids.Dot.{Dot}
 use Rattle.site_vector.specs.Order.{dot_cmp}
 use Rattle.crdt_core.specs.Kept.{KeptAt, dots_of}
 use Rattle.crdt_core.specs.Texts.{text_cmp, text_cmp_total, text_cmp_exact, same_text, is_in, marked, ascending, is_marked}
-use Rattle.crdt_sets.specs.SetGo.{Grown, with_each}
+use Rattle.crdt_meanings.specs.SetGo.{Grown, with_each}
 use Rattle.std.specs.Map.{lookup}
 use Rattle.std.specs.BTreeMap.{is_at}
 use Rattle.crdt_core.specs.MapLists.{get_at}
-use Rattle.crdt_sets.specs.Elements.{Elements, shows, at, put_back}
-use Rattle.crdt_sets.specs.GoLaw.{same_grown, stands_each}
+use Rattle.crdt_meanings.specs.Elements.{Elements, shows, at, put_back}
+use Rattle.crdt_meanings.proofs.GoLaw.{same_grown, stands_each}
 
 or_nothing : (a b : Bool) → b ≡ false → (a || b) ≡ a
 or_nothing true b h = refl

@@ -17,11 +17,11 @@ use Rattle.crdt_core.specs.Texts.{text_cmp, is_in, ascending, in_ascending, same
 use Rattle.crdt_core.specs.Spelled.{are_dots, ascend}
 use Rattle.crdt_core.specs.EffectForm.{HoldsSpelled, IsReady, reset_tag, begins_with, asks_reset, sets_ascend}
 use Rattle.crdt_core.proofs.Ready.{keys_in_order, kept_spelled, kept_ascend}
-use Rattle.crdt_sets.specs.Elements.{Elements, at, named_at, keeps_dot}
-use Rattle.crdt_sets.specs.ElementSteps.{kept_in}
-use Rattle.crdt_sets.specs.Meaning.{added_by}
-use Rattle.crdt_sets.specs.SetGo.{Grown, go_made}
-use Rattle.crdt_sets.specs.Sets.{set_kind, set_made}
+use Rattle.crdt_meanings.specs.Elements.{Elements, at, named_at, keeps_dot}
+use Rattle.crdt_meanings.proofs.ElementSteps.{kept_in}
+use Rattle.crdt_meanings.specs.SetMeaning.{added_by}
+use Rattle.crdt_meanings.specs.SetGo.{Grown, go_made}
+use Rattle.crdt_meanings.specs.Sets.{set_kind, set_made}
 use Rattle.crdt_sets.specs.EffectForm.{has_some, can_put_texts, texts_spelling, named_cmp, can_put_list, can_put_set, texts_sets, list_sets, set_sets, set_spelling, is_of_kind}
 
 -- ---- texts in order, of which there are some

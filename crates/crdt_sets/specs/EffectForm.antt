@@ -17,12 +17,12 @@ use Rattle.crdt_core.specs.EffectForm.{SpellsEffects}
 use Rattle.crdt_core.specs.DotSet.{has_dot}
 use Rattle.crdt_core.specs.Stands.{StandsIn, have_update, NamesStand}
 use Rattle.crdt_core.proofs.StandsLaws.{stands_behind, list_stands, dots_stand}
-use Rattle.crdt_sets.specs.Elements.{names_dot}
-use Rattle.crdt_sets.specs.SetGo.{go_names}
-use Rattle.crdt_sets.specs.Sets.{set_names}
-use Rattle.crdt_sets.specs.declared.named.Named.{Named}
-use Rattle.crdt_sets.specs.declared.effect.SetEffect.{SetEffect}
-use Rattle.crdt_sets.specs.declared.effect.SetEffect.TheVariants.{Add, Remove, Reset}
+use Rattle.crdt_meanings.specs.Elements.{names_dot}
+use Rattle.crdt_meanings.specs.SetGo.{go_names}
+use Rattle.crdt_meanings.specs.Sets.{set_names}
+use Rattle.crdt_meanings.specs.declared.sets.Named.{Named}
+use Rattle.crdt_meanings.specs.declared.sets.SetEffect.{SetEffect}
+use Rattle.crdt_meanings.specs.declared.sets.SetEffect.TheVariants.{Add, Remove, Reset}
 
 abbrev pub has_some : {A : Type 0} → List A → Bool
 has_some [] = false

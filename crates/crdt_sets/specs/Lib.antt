@@ -1,11 +1,2 @@
 pub mod EffectForm
-pub mod ElementSteps
-pub mod Elements
-pub mod GoLaw
-pub mod Meaning
-pub mod MeaningLaws
-pub mod RemovableLaws
-pub mod SetGo
-pub mod SetResets
-pub mod Sets
 pub mod TextCode

@@ -2,7 +2,7 @@ ghost use Rattle.std.specs.Prelude.{◌≡◌, ◌++◌, Option, Bool, OnOk, IfO
 ghost use Rattle.std.specs.FinMap as map;
 ghost use Rattle.crdt_core.specs.Texts.{text_cmp};
 ghost use Rattle.crdt_core.specs.Kept.{kept_step, dots_of};
-ghost use Rattle.crdt_sets.specs.Elements as spec;
+ghost use Rattle.crdt_meanings.specs.Elements as spec;
 
 use crate::Named;
 use crdt_core::{Dots, Kept};

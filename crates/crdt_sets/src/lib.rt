@@ -4,15 +4,13 @@
 mod effect;
 mod effect_form;
 mod elements;
-mod named;
 mod named_form;
 mod set_go;
 mod set_of;
 mod texts;
 
-pub use effect::SetEffect;
+pub use crdt_meanings::{Named, SetEffect};
 pub use elements::Elements;
-pub use named::Named;
 pub use set_go::SetGo;
 pub use set_of::{SetAw, SetOf, SetRw};
 pub use texts::TextSet;

@@ -2,7 +2,7 @@ ghost use Rattle.std.specs.Prelude.{◌≡◌, OnOk, OnErr, IfOk};
 ghost use Rattle.std.specs.FinMap as map;
 ghost use Rattle.std.specs.List.Sorted.{IsStrictlySortedBy};
 ghost use Rattle.crdt_core.specs.Texts.{text_cmp, ascending};
-ghost use Rattle.crdt_sets.specs.SetGo.{has_none, with_each};
+ghost use Rattle.crdt_meanings.specs.SetGo.{has_none, with_each};
 
 use field_codec::{ListOf, Text};
 use std::alloc::{AllocError, Global};

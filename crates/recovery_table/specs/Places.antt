@@ -6,7 +6,7 @@ use Rattle.site_vector.specs.Vector.{entry}
 use Rattle.crdt_core.specs.declared.record.Message.{Message}
 use Rattle.crdt_core.specs.declared.record.Record.{Record}
 use Rattle.crdt_core.specs.Parts.{lists, above}
-use Rattle.crdt_counters.specs.CounterPn.{pn_has}
+use Rattle.crdt_meanings.specs.CounterPn.{pn_has}
 use Rattle.crdt_counters.specs.EffectForm.{is_amount_number, is_of_kind}
 use Rattle.log_records.specs.Messages.{can_put_message}
 use Rattle.log_records.specs.Records.{can_put_record}

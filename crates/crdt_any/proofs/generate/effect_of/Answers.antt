@@ -2,8 +2,8 @@ use Rattle.std.proofs.Common.{ap}
 use Rattle.std.specs.Option.{option_copied}
 use Rattle.std.specs.FinMap.{empty}
 use Rattle.crdt_core.specs.Kept.{is_kept}
-use Rattle.crdt_sets.specs.Elements.{keeps_dot}
-use Rattle.crdt_maps.specs.Maps.{map_holds}
+use Rattle.crdt_meanings.specs.Elements.{keeps_dot}
+use Rattle.crdt_meanings.specs.Maps.{map_holds}
 use Rattle.crdt_any.specs.declared.effect.LayerEffect.TheVariants as effect
 use Rattle.crdt_any.specs.Cases.{counter_fat_state, set_aw_state, set_rw_state, flag_ew_state, flag_dw_state, register_mv_state, map_go_state, map_rr_state}
 use Rattle.crdt_any.specs.Layer.{layer_holds}

@@ -3,7 +3,7 @@ use Rattle.std.specs.Int.{int_wrap, w128}
 use Rattle.std.specs.Map.Iter.{deref_pair}
 use Rattle.std.proofs.lemmas.Int.{ints, to_z-of_z}
 use Rattle.std.proofs.lemmas.Map.Iter.{rest_more, rest_all}
-use Rattle.crdt_counters.specs.Meaning.{total_by}
+use Rattle.crdt_meanings.specs.CounterMeaning.{total_by}
 use Rattle.crdt_counters.proofs.Sums.{sum_more, sum_all, starts}
 use Rattle.crdt_counters.proofs.amounts.total_of.Goals as goal
 

@@ -1,7 +1,7 @@
 use Rattle.std.proofs.Common.{◌≡◌, ◌+ℤ◌}
 use Rattle.std.specs.FinMap.{entries}
 use Rattle.std.specs.Int.{int_wrap, w128}
-use Rattle.crdt_counters.specs.Meaning.{total_by}
+use Rattle.crdt_meanings.specs.CounterMeaning.{total_by}
 use Rattle.crdt_counters.proofs.amounts.total_of.Given as goal
 
 abbrev pub invariant-loop-dot : goal.invariant-loop-dot

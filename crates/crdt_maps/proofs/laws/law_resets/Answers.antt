@@ -1,4 +1,4 @@
-use Rattle.crdt_maps.specs.MapResets.{each_names}
+use Rattle.crdt_meanings.proofs.MapResets.{each_names}
 use Rattle.crdt_maps.proofs.laws.law_resets.Goals as goal
 
 pub returns : goal.returns

@@ -2,7 +2,7 @@ use Rattle.std.proofs.Common.{ap, ◌∙◌, ◌∷◌, []}
 use Rattle.std.specs.FinMap.{entries}
 use Rattle.std.specs.Map.Iter.{deref_pair}
 use Rattle.std.proofs.lemmas.Map.Iter.{rest_more}
-use Rattle.crdt_maps.specs.Maps.{resets_of}
+use Rattle.crdt_meanings.specs.Maps.{resets_of}
 use Rattle.crdt_maps.specs.Ready.{first_spelled, rest_spelled}
 use Rattle.crdt_maps.proofs.FieldTrees.{grow_by, resets_more}
 use Rattle.crdt_maps.proofs.made.reset_all.Goals as goal

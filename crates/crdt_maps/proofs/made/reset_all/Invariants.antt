@@ -2,7 +2,7 @@ use Rattle.std.proofs.Common.{◌≡◌, ◌++◌, true}
 use Rattle.std.specs.List.{list_all}
 use Rattle.std.specs.FinMap.{entries}
 use Rattle.crdt_core.specs.EffectForm.{HoldsSpelled}
-use Rattle.crdt_maps.specs.Maps.{resets_of, map_holds}
+use Rattle.crdt_meanings.specs.Maps.{resets_of, map_holds}
 use Rattle.crdt_maps.specs.Ready.{AllSpelled, is_reset_ready}
 use Rattle.crdt_maps.proofs.made.reset_all.Given as goal
 

@@ -1,5 +1,5 @@
 use Rattle.std.proofs.Common.{◌≡◌, drop}
-use Rattle.crdt_maps.specs.Maps.{step_each}
+use Rattle.crdt_meanings.specs.Maps.{step_each}
 use Rattle.crdt_maps.proofs.steps.apply_each.Given as goal
 
 abbrev pub invariant-loop-field : goal.invariant-loop-field

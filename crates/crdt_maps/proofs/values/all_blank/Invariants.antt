@@ -1,6 +1,6 @@
 use Rattle.std.proofs.Common.{◌≡◌, true}
 use Rattle.std.specs.List.{list_all}
-use Rattle.crdt_maps.specs.Maps.{map_blank}
+use Rattle.crdt_meanings.specs.Maps.{map_blank}
 use Rattle.crdt_maps.proofs.values.all_blank.Given as goal
 
 abbrev pub invariant-loop-field : goal.invariant-loop-field

@@ -1,5 +1,5 @@
 use Rattle.std.proofs.Common.{◌≡◌, ◌++◌, map}
-use Rattle.crdt_maps.specs.Maps.{members, shown}
+use Rattle.crdt_meanings.specs.Maps.{members, shown}
 use Rattle.crdt_maps.proofs.values.shown.Given as goal
 
 abbrev pub invariant-loop-field : goal.invariant-loop-field

@@ -1,5 +1,6 @@
 use Rattle.std.proofs.Common.{◌≡◌, IfOk, ap, ◌∙◌, subst}
-use Rattle.crdt_registers.specs.Sorted.{sorted, sorted_is}
+use Rattle.crdt_meanings.specs.Sorted.{sorted}
+use Rattle.crdt_meanings.proofs.SortedLaws.{sorted_is}
 use Rattle.crdt_registers.proofs.texts.in_order.Goals as goal
 
 pub returns : goal.returns

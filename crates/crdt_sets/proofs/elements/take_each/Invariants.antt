@@ -1,6 +1,6 @@
 use Rattle.std.proofs.Common.{◌≡◌, drop}
 use Rattle.std.specs.FinMap.{from_entries}
-use Rattle.crdt_sets.specs.Elements.{take_named}
+use Rattle.crdt_meanings.specs.Elements.{take_named}
 use Rattle.crdt_sets.proofs.elements.take_each.Given as goal
 
 abbrev pub invariant-loop-one : goal.invariant-loop-one

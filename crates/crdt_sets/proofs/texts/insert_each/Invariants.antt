@@ -1,5 +1,5 @@
 use Rattle.std.proofs.Common.{◌≡◌, drop}
-use Rattle.crdt_sets.specs.SetGo.{with_each}
+use Rattle.crdt_meanings.specs.SetGo.{with_each}
 use Rattle.crdt_sets.proofs.texts.insert_each.Given as goal
 
 abbrev pub invariant-loop-text : goal.invariant-loop-text

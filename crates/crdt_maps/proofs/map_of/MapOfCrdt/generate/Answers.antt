@@ -1,7 +1,7 @@
 use Rattle.std.proofs.Common.{◌≡◌, true, false, not, rules, ◌∙◌, sym}
 use Rattle.std.specs.Prelude.{eqb}
 use Rattle.crdt_core.specs.Fits.{fits}
-use Rattle.crdt_maps.specs.Maps.{map_too_deep}
+use Rattle.crdt_meanings.specs.Maps.{map_too_deep}
 use Rattle.crdt_maps.specs.Ready.{map_ready}
 use Rattle.crdt_maps.proofs.map_of.MapOfCrdt.generate.Goals as goal
 

@@ -1,0 +1,16 @@
+pub mod CounterFat
+pub mod CounterMeaning
+pub mod CounterPn
+pub mod Elements
+pub mod FlagMeaning
+pub mod Flags
+pub mod Later
+pub mod MapMeaning
+pub mod Maps
+pub mod RegisterLww
+pub mod RegisterMeaning
+pub mod RegisterMv
+pub mod SetGo
+pub mod SetMeaning
+pub mod Sets
+pub mod Sorted

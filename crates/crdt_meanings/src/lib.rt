@@ -1,0 +1,14 @@
+//! What the kinds mean: what their updates and states are, what each shows of a history, and the law that each keeps.
+#![tactic(auto)]
+
+mod counters;
+mod flags;
+mod maps;
+mod registers;
+mod sets;
+
+pub use counters::FatEffect;
+pub use flags::FlagEffect;
+pub use maps::{Boxed, MapEffect};
+pub use registers::{Assigned, MvEffect, Stamped};
+pub use sets::{Named, SetEffect};
