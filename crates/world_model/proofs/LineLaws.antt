@@ -21,45 +21,45 @@ use Rattle.crdt_core.specs.Stamps.{stamp_due}
 use Rattle.crdt_core.specs.Parts as part_list
 use Rattle.crdt_core.specs.Log.{end_of_time}
 use Rattle.crdt_core.specs.Parts.{lists}
-use Rattle.world_model.specs.Event.{Ask, AskBegin, AskRead, AskUpdate, AskPrepare, AskTick, AskDecide, AskFinish, AskAbort, AskTake, AskRestart, is_restart, IsDown, ClockBehind, TxPending, StableBehind, ClockAtEnd, IsGone, HasGap, IsRepeat, HasNoRoom, IsDamaged, Event, Ticked, Began, Updated, Read, Prepared, Decided, Finished, Aborted, Sent, Took, Reported, Heard, Crashed, RestartCut, Restarted, Refused, Opened, Cut, Entry, EventsAre, WasShown, is_abort, was_aborted, voted, is_decided, time_of, shown, sent_count}
+use Rattle.world_model.specs.rules.Event.{Ask, AskBegin, AskRead, AskUpdate, AskPrepare, AskTick, AskDecide, AskFinish, AskAbort, AskTake, AskRestart, is_restart, IsDown, ClockBehind, TxPending, StableBehind, ClockAtEnd, IsGone, HasGap, IsRepeat, HasNoRoom, IsDamaged, Event, Ticked, Began, Updated, Read, Prepared, Decided, Finished, Aborted, Sent, Took, Reported, Heard, Crashed, RestartCut, Restarted, Refused, Opened, Cut, Entry, EventsAre, WasShown, is_abort, was_aborted, voted, is_decided, time_of, shown, sent_count}
 use Rattle.crdt_core.specs.KindsOf.{Kinds}
-use Rattle.world_model.specs.Partition.{IsOther}
-use Rattle.world_model.specs.Plan.{Plan, IsPlace, first_of, home, twin, is_some_update, takes_part, commit_vector, MayTake}
-use Rattle.world_model.specs.Cluster.{partitions}
-use Rattle.world_model.specs.World.{plan_of}
-use Rattle.world_model.specs.WorldLaw.{sees_tx, ClockIs, ClocksAre, KeepsIs, KeepsDecided, HasCauseAt, HaveCausesAt, IsRightFold, IsExact, IsRight}
-use Rattle.world_model.specs.Past as events
-use Rattle.world_model.specs.Downs.{AnswersAsUp, AnswerAsUp}
-use Rattle.world_model.specs.Answering.{IsDueAt, AreDue, IsKnown}
-use Rattle.world_model.specs.Doubt.{SettlesAt, SettleDoubts}
-use Rattle.world_model.specs.Shown.{IsBefore, bound_shown, pending_shown, pending_time, time_after, committed_shown, TellsAbortedAt, MayAbortAt, IsReadyAt, IsFirstPending, ShowsAt, ShowAt}
-use Rattle.world_model.specs.Stable.{heard_from, heard_shown, known_shown, IsLeast, IsBehindAt, IsFreshAt, AreFresh}
-use Rattle.world_model.specs.Clear.{IsClearAt, AreClear}
-use Rattle.world_model.specs.Votes.{IsDecision, VotesAt, KeepVotes, ShowsVector}
-use Rattle.world_model.specs.Handed.{IsPlacedAt, HandedAt, AreHanded, IsNew, AreNew}
-use Rattle.world_model.specs.Meaning as meaning
-use Rattle.world_model.specs.Meaning.{Asked, asked_at}
-use Rattle.world_model.specs.Resumed.{is_call, brings, brought_after, brought, decided_after, last_shown, IsTakeable, cut_call, IsAsBefore, IsAsDone, ResumesAt, Resume}
-use Rattle.world_model.specs.Sends.{low_of, SendsAt, Send}
-use Rattle.world_model.specs.LawfulWorld.{IsLawfulWorld}
-use Rattle.world_model.specs.Lines.{Call, Line, EachLine, session_after, session_of, call_asked, call_cut, call_of, step_shown, lines_of}
-use Rattle.world_model.specs.Clock as clock
-use Rattle.world_model.specs.History as past
-use Rattle.world_model.specs.Dependency as session
-use Rattle.world_model.specs.Bounds as bounds
-use Rattle.world_model.specs.Updates as updates
-use Rattle.world_model.specs.Updates.{IsPlaced}
-use Rattle.world_model.specs.Commit as commit
-use Rattle.world_model.specs.Reads as reads
-use Rattle.world_model.specs.LineAnswers as answers
-use Rattle.world_model.specs.Ops as ops
-use Rattle.world_model.specs.Pending.{is_down, prepare_time}
-use Rattle.world_model.specs.Fate as fates
-use Rattle.world_model.specs.Restarts as restarts
-use Rattle.world_model.specs.Fresh as fresh
-use Rattle.world_model.specs.Streams as streams
-use Rattle.world_model.specs.Causes as causes
-use Rattle.world_model.specs.Lawful.{IsAgreed, IsLawful}
+use Rattle.world_model.specs.rules.Partition.{IsOther}
+use Rattle.world_model.specs.rules.Plan.{Plan, IsPlace, first_of, home, twin, is_some_update, takes_part, commit_vector, MayTake}
+use Rattle.world_model.specs.commands.Cluster.{partitions}
+use Rattle.world_model.specs.rules.World.{plan_of}
+use Rattle.world_model.specs.events.WorldLaw.{sees_tx, ClockIs, ClocksAre, KeepsIs, KeepsDecided, HasCauseAt, HaveCausesAt, IsRightFold, IsExact, IsRight}
+use Rattle.world_model.specs.rules.Dependency as events
+use Rattle.world_model.specs.events.Downs.{AnswersAsUp, AnswerAsUp}
+use Rattle.world_model.specs.events.Answers.{IsDueAt, AreDue, IsKnown}
+use Rattle.world_model.specs.events.Doubt.{SettlesAt, SettleDoubts}
+use Rattle.world_model.specs.events.Shown.{IsBefore, bound_shown, pending_shown, pending_time, time_after, committed_shown, TellsAbortedAt, MayAbortAt, IsReadyAt, IsFirstPending, ShowsAt, ShowAt}
+use Rattle.world_model.specs.events.Fresh.{heard_from, heard_shown, known_shown, IsLeast, IsBehindAt, IsFreshAt, AreFresh}
+use Rattle.world_model.specs.events.Clear.{IsClearAt, AreClear}
+use Rattle.world_model.specs.events.Commit.{IsDecision, VotesAt, KeepVotes, ShowsVector}
+use Rattle.world_model.specs.rules.Handed.{IsPlacedAt, HandedAt, AreHanded, IsNew, AreNew}
+use Rattle.world_model.specs.events.Meaning as meaning
+use Rattle.world_model.specs.events.Meaning.{Asked, asked_at}
+use Rattle.world_model.specs.events.Restarts.{is_call, brings, brought_after, brought, decided_after, last_shown, IsTakeable, cut_call, IsAsBefore, IsAsDone, ResumesAt, Resume}
+use Rattle.world_model.specs.events.Streams.{low_of, SendsAt, Send}
+use Rattle.world_model.specs.events.Lawful.{IsLawfulWorld}
+use Rattle.world_model.specs.lines.Lines.{Call, Line, EachLine, session_after, session_of, call_asked, call_cut, call_of, step_shown, lines_of}
+use Rattle.world_model.specs.lines.Clock as clock
+use Rattle.world_model.specs.lines.History as past
+use Rattle.world_model.specs.lines.Dependency as session
+use Rattle.world_model.specs.lines.Bounds as bounds
+use Rattle.world_model.specs.lines.Updates as updates
+use Rattle.world_model.specs.lines.Updates.{IsPlaced}
+use Rattle.world_model.specs.lines.Commit as commit
+use Rattle.world_model.specs.lines.Reads as reads
+use Rattle.world_model.specs.lines.Answers as answers
+use Rattle.world_model.specs.lines.Ops as ops
+use Rattle.world_model.specs.lines.Pending.{is_down, prepare_time}
+use Rattle.world_model.specs.lines.Fate as fates
+use Rattle.world_model.specs.lines.Restarts as restarts
+use Rattle.world_model.specs.lines.Fresh as fresh
+use Rattle.world_model.specs.lines.Streams as streams
+use Rattle.world_model.specs.lines.Causes as causes
+use Rattle.world_model.specs.lines.Lawful.{IsAgreed, IsLawful}
 use Rattle.world_model.proofs.Names.{clash, off, part_same}
 use Rattle.world_model.proofs.Fate.{voted_tried}
 use Rattle.world_model.proofs.Later.{at_own}

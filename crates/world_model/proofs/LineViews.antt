@@ -8,26 +8,26 @@ use Rattle.site_vector.specs.Ids.{same_part}
 use Rattle.site_vector.specs.Order.{same_part_is}
 use Rattle.site_vector.specs.Vector.{le, entry, join, replaced}
 use Rattle.crdt_core.specs.declared.record.Message.{Message}
-use Rattle.world_model.specs.Event.{IsDown, Event, Ticked, Began, Prepared, Decided, Sent, Reported, Heard, Refused, Cut, Entry, attempt, is_decide, decide_tried, shows_decided, is_decided, is_prepare, time_shown, time_of, shown_after, shown, missed_after, missed, voted, is_sent, sent_count, is_report, report_count, WasNumbered}
-use Rattle.world_model.specs.World.{is_begin, begin_vector, snapshot_of}
-use Rattle.world_model.specs.Past as events
-use Rattle.world_model.specs.WorldLaw.{ClockIs, ClocksAre}
-use Rattle.world_model.specs.Shown as told
-use Rattle.world_model.specs.Stable.{heard_from, heard_shown, known_shown, IsLeast}
-use Rattle.world_model.specs.Doubt as doubt
-use Rattle.world_model.specs.Downs as downs
-use Rattle.world_model.specs.Sends as sends
-use Rattle.world_model.specs.Lines.{call_of, step_shown, lines_of}
+use Rattle.world_model.specs.rules.Event.{IsDown, Event, Ticked, Began, Prepared, Decided, Sent, Reported, Heard, Refused, Cut, Entry, attempt, is_decide, decide_tried, shows_decided, is_decided, is_prepare, time_shown, time_of, shown_after, shown, missed_after, missed, voted, is_sent, sent_count, is_report, report_count, WasNumbered}
+use Rattle.world_model.specs.rules.World.{is_begin, begin_vector, snapshot_of}
+use Rattle.world_model.specs.rules.Dependency as events
+use Rattle.world_model.specs.events.WorldLaw.{ClockIs, ClocksAre}
+use Rattle.world_model.specs.events.Shown as told
+use Rattle.world_model.specs.events.Fresh.{heard_from, heard_shown, known_shown, IsLeast}
+use Rattle.world_model.specs.events.Doubt as doubt
+use Rattle.world_model.specs.events.Downs as downs
+use Rattle.world_model.specs.events.Streams as sends
+use Rattle.world_model.specs.lines.Lines.{call_of, step_shown, lines_of}
 use Rattle.world_model.specs.declared.step.Step.TheVariants as step
-use Rattle.world_model.specs.Clock as clock
-use Rattle.world_model.specs.History as past
-use Rattle.world_model.specs.Dependency as session
-use Rattle.world_model.specs.Pending as fate
-use Rattle.world_model.specs.Restarts as restarts
-use Rattle.world_model.specs.Resumed as resumed
-use Rattle.world_model.specs.Bounds as bounds
-use Rattle.world_model.specs.Commit as commit
-use Rattle.world_model.specs.Streams as streams
+use Rattle.world_model.specs.lines.Clock as clock
+use Rattle.world_model.specs.lines.History as past
+use Rattle.world_model.specs.lines.Dependency as session
+use Rattle.world_model.specs.lines.Pending as fate
+use Rattle.world_model.specs.lines.Restarts as restarts
+use Rattle.world_model.specs.events.Restarts as resumed
+use Rattle.world_model.specs.lines.Bounds as bounds
+use Rattle.world_model.specs.lines.Commit as commit
+use Rattle.world_model.specs.lines.Streams as streams
 
 none_more : (b : Bool) (old n : ℕ) → max old (cond b n 0) ≡ cond b (max old n) old
 none_more true old n = refl

@@ -1,0 +1,13 @@
+pub mod WorldLaw
+pub mod Meaning
+pub mod Shown
+pub mod Logs
+pub mod Fresh
+pub mod Clear
+pub mod Downs
+pub mod Answers
+pub mod Doubt
+pub mod Commit
+pub mod Restarts
+pub mod Streams
+pub mod Lawful
