@@ -8,9 +8,10 @@ use Rattle.world_model.specs.events.Answers.{IsDueAt}
 use Rattle.world_model.specs.rules.Asking.{MayCall}
 use Rattle.world_model.specs.rules.Event.{AskFinish, AskAbort, Refused, Entry}
 use Rattle.world_model.specs.rules.Partition.{PartState, IsRefused}
-use Rattle.world_model.specs.rules.Plan.{Plan, IsPlace}
+use Rattle.world_model.specs.rules.Plan.{Plan}
+use Rattle.world_model.specs.lines.Places.{IsPlace}
 use Rattle.world_model.specs.rules.World.{plan_of}
-use Rattle.world_model.specs.events.WorldLaw.{HasCauseAt}
+use Rattle.world_model.specs.events.Causes.{HasCauseAt}
 use Rattle.world_model.proofs.Law.{law_world}
 use Rattle.world_model.proofs.Told as law
 use Rattle.partition_core.specs.declared.answers.Refusal.{Refusal}

@@ -14,9 +14,10 @@ use Rattle.world_model.specs.commands.Cluster.{sites_of, parts_of}
 use Rattle.world_model.specs.commands.CommitSteps.{Going, Preparing, Finishing, Aborting}
 use Rattle.world_model.specs.lines.Dependency as lines
 use Rattle.world_model.specs.rules.Event.{AskBegin, IsDown, Event, Began, Refused, Cut, Entry, attempt}
-use Rattle.world_model.specs.lines.Lines.{Begin, step_shown}
+use Rattle.world_model.specs.lines.Lines.{Begin}
+use Rattle.world_model.specs.rules.Lines.{step_shown}
 use Rattle.world_model.specs.commands.Meeting.{begin_place, is_at, is_elsewhere, lacks_part, site_of, site_or_none}
-use Rattle.world_model.specs.rules.Dependency.{dependency_after}
+use Rattle.world_model.proofs.Dependency.{dependency_after}
 use Rattle.world_model.specs.commands.Phases as phases
 use Rattle.world_model.specs.commands.Phases.{Phase, phase, phase_after, update_total}
 use Rattle.world_model.specs.commands.Run.{Run}

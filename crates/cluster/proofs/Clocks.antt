@@ -10,7 +10,8 @@ use Rattle.world_model.specs.commands.Answers.{answered}
 use Rattle.world_model.specs.commands.Cluster.{sites_of, has_site, has_part}
 use Rattle.world_model.specs.lines.Dependency.{IsOwnPast}
 use Rattle.world_model.specs.rules.Event.{AskTick, Refusal, HasGap, IsRepeat, Event, Entry, Ticked, Refused, Cut}
-use Rattle.world_model.specs.lines.Lines.{Tick, call_of, fault_shown, step_shown}
+use Rattle.world_model.specs.lines.Lines.{Tick}
+use Rattle.world_model.specs.rules.Lines.{call_of, fault_shown, step_shown}
 use Rattle.world_model.specs.commands.Meeting.{met}
 use Rattle.world_model.specs.rules.Partition.{PartState, IsRefused}
 use Rattle.world_model.specs.commands.Run.{Run}

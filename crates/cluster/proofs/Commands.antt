@@ -15,8 +15,9 @@ use Rattle.world_model.specs.commands.Cluster.{sites_of, parts_of}
 use Rattle.world_model.specs.commands.CommitSteps.{Going, Preparing, Finishing, Aborting}
 use Rattle.world_model.specs.rules.Event as event
 use Rattle.world_model.specs.rules.Event.{AskRead, IsDown, Event, Decided, Refused, Cut, Entry, attempt}
-use Rattle.world_model.specs.lines.Lines.{ReadOf, step_shown, session_of}
-use Rattle.world_model.specs.rules.Dependency.{dependency_after}
+use Rattle.world_model.specs.lines.Lines.{ReadOf}
+use Rattle.world_model.specs.rules.Lines.{step_shown, session_of}
+use Rattle.world_model.proofs.Dependency.{dependency_after}
 use Rattle.world_model.specs.commands.Phases.{Phase, phase, phase_after, update_total}
 use Rattle.world_model.specs.commands.Run.{Run}
 use Rattle.world_model.specs.commands.ScriptAnswers.{Bears, AnswersBy, IsAnswer}

@@ -17,8 +17,8 @@ use Rattle.world_model.specs.commands.Cluster.{sites_of}
 use Rattle.world_model.specs.lines.Dependency.{IsOwnPast}
 use Rattle.world_model.specs.rules.Event as event
 use Rattle.world_model.specs.rules.Event.{Ask, AskMessage, AskReport, AskTake, AskHear, Event, Entry, Took, Heard, Refused, Cut, Refusal, ClockBehind, TxPending, StableBehind, ClockAtEnd, IsGone, HasGap, IsRepeat, IsDown, IsBadOp, HasNoRoom, IsDamaged, is_sent, is_report}
-use Rattle.world_model.specs.lines.Lines.{call_of, call_asked, fault_shown, step_shown, tx_asked, number_asked}
-use Rattle.world_model.specs.rules.Plan.{IsPlace}
+use Rattle.world_model.specs.rules.Lines.{call_of, call_asked, fault_shown, step_shown, tx_asked, number_asked}
+use Rattle.world_model.specs.lines.Places.{IsPlace}
 use Rattle.world_model.specs.commands.Run.{Run}
 use Rattle.world_model.specs.commands.ScriptAnswers.{AnswersBy, IsAnswer, Bears, Replies}
 use Rattle.world_model.specs.commands.ScriptCalls.{is_answer, asked_of, calls_of, numbered, for_message, for_report, own_of, own_report}

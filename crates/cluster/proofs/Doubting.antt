@@ -5,7 +5,8 @@ use Rattle.site_vector.specs.declared.ids.TxId.{TxId}
 use Rattle.world_model.specs.declared.step.Step.TheVariants as step
 use Rattle.world_model.specs.commands.Cluster.{parts_of}
 use Rattle.world_model.specs.rules.Event.{IsDown, Event, Decided, Refused, Cut, Entry}
-use Rattle.world_model.specs.lines.Lines.{DecideOf, lines_of, step_shown}
+use Rattle.world_model.specs.lines.Lines.{DecideOf}
+use Rattle.world_model.specs.rules.Lines.{lines_of, step_shown}
 use Rattle.world_model.specs.commands.Run.{Run}
 use Rattle.world_model.specs.commands.ScriptCalls.{calls_of}
 use Rattle.world_model.specs.lines.Updates.{lead}

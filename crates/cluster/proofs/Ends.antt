@@ -17,8 +17,10 @@ use Rattle.world_model.specs.rules.Asking.{asked_by}
 use Rattle.world_model.specs.commands.CommitSteps.{Going, Preparing, Finishing, Aborting, given_up, next_step, is_done, after}
 use Rattle.world_model.specs.lines.Dependency.{IsOwnPast}
 use Rattle.world_model.specs.rules.Event.{Ask, AskPrepare, AskDecide, AskFinish, AskAbort, AskReport, IsDown, Event, Began, Updated, Decided, Opened, Refused, Cut, Entry, attempt, WasShown}
-use Rattle.world_model.specs.lines.Lines.{Line, call_asked, step_shown, session_of}
-use Rattle.world_model.specs.rules.Dependency.{begins_for, is_of, dependency_after}
+use Rattle.world_model.specs.lines.Lines.{Line}
+use Rattle.world_model.specs.rules.Lines.{call_asked, step_shown, session_of}
+use Rattle.world_model.specs.events.Dependency.{begins_for, is_of}
+use Rattle.world_model.proofs.Dependency.{dependency_after}
 use Rattle.world_model.specs.commands.Phases as phases
 use Rattle.world_model.specs.commands.Phases.{Phase, phase_after, by_command, holders}
 use Rattle.world_model.specs.rules.Plan.{is_some_update}

@@ -13,7 +13,7 @@ use Rattle.world_model.specs.commands.Answers.{answered}
 use Rattle.world_model.specs.commands.Cluster.{has_part, parts_of}
 use Rattle.world_model.specs.rules.Event.{AskAbort, IsDown, HasNoRoom, Aborted, Refused, Cut}
 use Rattle.world_model.specs.rules.Partition.{PartState, ToldCommitted, fate_of}
-use Rattle.world_model.specs.rules.Plan.{IsPlace, home}
+use Rattle.world_model.specs.lines.Places.{IsPlace, home}
 use Rattle.world_model.specs.commands.Run.{Run}
 use Rattle.world_model.specs.commands.ScriptAnswers.{AnswersBy, IsAnswer, IsExpired}
 use Rattle.world_model.specs.commands.Meeting.{met}

@@ -17,10 +17,11 @@ use Rattle.world_model.specs.commands.Cluster.{parts_of}
 use Rattle.world_model.specs.rules.Event.{Event, Took, Entry}
 use Rattle.world_model.specs.commands.Fuses.{Fuse, fuse, fuse_after, is_change, is_bringing, shows_written}
 use Rattle.world_model.specs.lines.Lines as world
-use Rattle.world_model.specs.lines.Lines.{Call, lines_of, call_of, step_shown}
+use Rattle.world_model.specs.lines.Lines.{Call}
+use Rattle.world_model.specs.rules.Lines.{lines_of, call_of, step_shown}
 use Rattle.world_model.specs.rules.Partition.{records}
 use Rattle.world_model.specs.lines.Pending.{pending}
-use Rattle.world_model.specs.rules.Plan.{IsPlace}
+use Rattle.world_model.specs.lines.Places.{IsPlace}
 use Rattle.world_model.specs.commands.Run.{Run}
 use Rattle.world_model.specs.commands.Run as script
 use Rattle.world_model.specs.commands.ScriptCalls.{Placed, is_called, asked_by, numbered, line_on, calls_of}

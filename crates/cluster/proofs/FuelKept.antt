@@ -16,9 +16,9 @@ use Rattle.world_model.specs.rules.Event as event
 use Rattle.world_model.specs.rules.Event.{Event, Entry, Crashed, RestartCut}
 use Rattle.world_model.specs.commands.Fuses.{Fuse, counted, fuse, IsUnfired, HoldsFuses, is_change, is_bringing, shows_written}
 use Rattle.world_model.specs.lines.Lines as world
-use Rattle.world_model.specs.lines.Lines.{lines_of, call_of, step_shown}
+use Rattle.world_model.specs.rules.Lines.{lines_of, call_of, step_shown}
 use Rattle.world_model.specs.rules.Partition.{PartState}
-use Rattle.world_model.specs.rules.Plan.{IsPlace}
+use Rattle.world_model.specs.lines.Places.{IsPlace}
 use Rattle.world_model.specs.commands.Run.{Run}
 use Rattle.world_model.specs.commands.Run as script
 use Rattle.world_model.specs.commands.ScriptCalls.{is_called, asked_by, numbered, calls_of}

@@ -5,7 +5,7 @@ use Rattle.site_vector.specs.declared.ids.PartId.{PartId}
 use Rattle.world_model.specs.declared.step.Step.{Step}
 use Rattle.world_model.specs.rules.Asking.{MayCall, is_own_word}
 use Rattle.world_model.specs.rules.Event.{Ask, Refusal, IsDown, HasNoRoom, Event, Refused, Entry}
-use Rattle.world_model.specs.lines.Lines.{fault_shown, step_shown, tx_asked, number_asked}
+use Rattle.world_model.specs.rules.Lines.{fault_shown, step_shown, tx_asked, number_asked}
 use Rattle.partition_core.specs.declared.durable.DurableError.{DurableError}
 use Rattle.partition_core.specs.declared.durable.DurableError.TheVariants as call
 use Rattle.partition_core.specs.Answers.{cause}

@@ -8,18 +8,21 @@ use Rattle.crdt_core.specs.declared.record.Message.{Message}
 use Rattle.crdt_core.specs.KindsOf.{Kinds}
 use Rattle.crdt_core.specs.Parts.{lists}
 use Rattle.world_model.specs.rules.Event.{Event, Sent, Took, Entry, EventsAre, is_decided, time_of, sent_count}
-use Rattle.world_model.specs.rules.Handed.{HandedAt, AreHanded}
+use Rattle.world_model.specs.events.Handed.{HandedAt, AreHanded}
 use Rattle.world_model.specs.lines.History.{history, commit_time}
 use Rattle.world_model.specs.events.Lawful.{IsLawfulWorld}
-use Rattle.world_model.specs.lines.Lines.{Line, lines_of}
+use Rattle.world_model.specs.lines.Lines.{Line}
+use Rattle.world_model.specs.rules.Lines.{lines_of}
 use Rattle.world_model.specs.rules.Partition.{PartState}
-use Rattle.world_model.specs.rules.Plan.{Plan, twin, is_some_update, takes_part, commit_vector, MayTake}
+use Rattle.world_model.specs.rules.Plan.{Plan, is_some_update, takes_part, commit_vector, MayTake}
+use Rattle.world_model.specs.lines.Places.{twin}
 use Rattle.world_model.specs.lines.Restarts as restarts
 use Rattle.world_model.specs.events.Restarts.{brings}
-use Rattle.world_model.specs.events.Shown.{bound_shown, ShowsAt, ShowAt}
+use Rattle.world_model.specs.events.Bounds.{bound_shown}
+use Rattle.world_model.specs.events.Causes.{ShowsAt, ShowAt}
 use Rattle.world_model.specs.lines.Updates as updates
 use Rattle.world_model.specs.rules.World.{plan_of, IsWorldRun}
-use Rattle.world_model.specs.events.WorldLaw.{IsExact, IsRight}
+use Rattle.world_model.specs.events.Reads.{IsExact, IsRight}
 use Rattle.world_model.proofs.Intervals.{numbered_shown, shown_has}
 use Rattle.world_model.proofs.Later.{at_own}
 use Rattle.world_model.proofs.Law.{law_world}

@@ -10,10 +10,11 @@ use Rattle.crdt_core.specs.KindsOf.{Kinds}
 use Rattle.crdt_core.specs.Log as log
 use Rattle.world_model.specs.lines.Bounds.{bound}
 use Rattle.world_model.specs.rules.Event.{Event, Prepared, Decided, Finished, Aborted, Took, Entry}
-use Rattle.world_model.specs.lines.Lines.{lines_of}
-use Rattle.world_model.specs.rules.Partition.{PartState, PartStep, IsOther}
+use Rattle.world_model.specs.rules.Lines.{lines_of}
+use Rattle.world_model.specs.rules.Partition.{PartState, PartStep}
+use Rattle.world_model.specs.lines.Places.{IsOther, IsPlace}
 use Rattle.world_model.specs.lines.Pending as lines
-use Rattle.world_model.specs.rules.Plan.{IsPlace, MayTake}
+use Rattle.world_model.specs.rules.Plan.{MayTake}
 use Rattle.world_model.specs.rules.World.{plan_of, IsWorldRun}
 use Rattle.world_model.proofs.LineViews.{bound_is}
 use Rattle.world_model.proofs.Names.{off}

@@ -17,7 +17,8 @@ use Rattle.world_model.specs.declared.step.Step.TheVariants as step
 use Rattle.world_model.specs.lines.Bounds.{bound}
 use Rattle.world_model.specs.rules.Event.{IsDown, Event, Prepared, Decided, Finished, Aborted, Took, RestartCut, Refused, Cut, Entry}
 use Rattle.world_model.specs.commands.Fuses.{is_change, is_bringing}
-use Rattle.world_model.specs.lines.Lines.{Call, TakeOf, Line, call_of, step_shown}
+use Rattle.world_model.specs.lines.Lines.{Call, TakeOf, Line}
+use Rattle.world_model.specs.rules.Lines.{call_of, step_shown}
 use Rattle.world_model.specs.rules.Partition.{PartState, batch_of, records}
 use Rattle.world_model.specs.lines.Pending.{pending}
 use Rattle.world_model.specs.events.Restarts.{is_some_part, brings}

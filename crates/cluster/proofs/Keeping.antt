@@ -9,7 +9,7 @@ use Rattle.world_model.specs.declared.step.Step.{Step}
 use Rattle.world_model.specs.declared.step.Step.TheVariants as step
 use Rattle.world_model.specs.rules.Event as event
 use Rattle.world_model.specs.rules.Event.{Entry, Event, IsDown, Decided, Sent, Reported, Refused, Cut, is_sent, is_report, WasNumbered}
-use Rattle.world_model.specs.lines.Lines.{step_shown}
+use Rattle.world_model.specs.rules.Lines.{step_shown}
 use Rattle.world_model.specs.commands.Messages.{message_of, report_of}
 use Rattle.world_model.specs.commands.Run.{Run}
 use Rattle.world_model.proofs.Names.{off}

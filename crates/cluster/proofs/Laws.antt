@@ -12,11 +12,11 @@ use Rattle.world_model.specs.lines.Dependency.{HandsOwn}
 use Rattle.world_model.specs.rules.Event.{Entry}
 use Rattle.world_model.specs.commands.Fuses.{HoldsFuses}
 use Rattle.world_model.specs.lines.Lawful.{IsLawful}
-use Rattle.world_model.specs.lines.Lines.{lines_of}
+use Rattle.world_model.specs.rules.Lines.{lines_of}
 use Rattle.world_model.specs.events.Logs.{IsLogOf}
 use Rattle.world_model.specs.rules.Partition.{PartState, new_part}
 use Rattle.world_model.specs.lines.Pending.{is_down}
-use Rattle.world_model.specs.rules.Plan.{IsPlace}
+use Rattle.world_model.specs.lines.Places.{IsPlace}
 use Rattle.world_model.specs.commands.Run.{Run}
 use Rattle.world_model.specs.commands.ScriptAnswers.{AnswersBy}
 use Rattle.world_model.specs.commands.ScriptCalls.{calls_of}

@@ -13,11 +13,12 @@ use Rattle.world_model.specs.commands.Cluster.{has_site, sites_of}
 use Rattle.world_model.specs.lines.Dependency as lines
 use Rattle.world_model.specs.lines.Dependency.{HandsOwn}
 use Rattle.world_model.specs.rules.Event.{Opened}
-use Rattle.world_model.specs.lines.Lines.{Open, lines_of}
+use Rattle.world_model.specs.lines.Lines.{Open}
+use Rattle.world_model.specs.rules.Lines.{lines_of}
 use Rattle.world_model.specs.commands.Meeting.{site_of}
 use Rattle.world_model.specs.commands.Phases as phases
 use Rattle.world_model.specs.commands.Phases.{phase, update_total}
-use Rattle.world_model.specs.rules.Plan.{IsPlace}
+use Rattle.world_model.specs.lines.Places.{IsPlace}
 use Rattle.world_model.specs.commands.Run.{Run}
 use Rattle.world_model.specs.commands.ScriptAnswers.{AnswersBy, IsAnswer}
 use Rattle.world_model.specs.commands.ScriptCalls.{calls_of}

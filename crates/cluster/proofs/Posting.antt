@@ -8,9 +8,9 @@ use Rattle.world_model.specs.commands.Cluster.{is_cluster, has_cluster, sites_of
 use Rattle.world_model.specs.lines.Dependency as lines
 use Rattle.world_model.specs.lines.Dependency.{HandsOwn, IsOwnPast}
 use Rattle.world_model.specs.rules.Event.{Event}
-use Rattle.world_model.specs.lines.Lines.{call_of, step_shown, lines_of}
+use Rattle.world_model.specs.rules.Lines.{call_of, step_shown, lines_of}
 use Rattle.world_model.specs.commands.Meeting.{site_after, count_after, session_count}
-use Rattle.world_model.specs.rules.Dependency.{dependency}
+use Rattle.world_model.proofs.Dependency.{dependency}
 use Rattle.world_model.specs.commands.Phases.{Phase, phase_after}
 use Rattle.world_model.specs.commands.Run.{Run}
 use Rattle.world_model.specs.commands.Run as script

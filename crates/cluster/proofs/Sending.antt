@@ -12,10 +12,11 @@ use Rattle.world_model.specs.commands.Answers.{answered}
 use Rattle.world_model.specs.commands.Cluster.{has_site, has_part}
 use Rattle.world_model.specs.rules.Event as event
 use Rattle.world_model.specs.rules.Event.{AskMessage, AskReport, Event, Entry, Sent, Reported, Cut, WasNumbered}
-use Rattle.world_model.specs.lines.Lines.{SendTo, call_of, call_asked, fault_shown}
+use Rattle.world_model.specs.lines.Lines.{SendTo}
+use Rattle.world_model.specs.rules.Lines.{call_of, call_asked, fault_shown}
 use Rattle.world_model.specs.commands.Messages.{message_of, report_of}
-use Rattle.world_model.specs.rules.Partition.{IsOther, IsMessage}
-use Rattle.world_model.specs.rules.Plan.{IsPlace}
+use Rattle.world_model.specs.lines.Places.{IsOther, IsPlace}
+use Rattle.world_model.specs.rules.Partition.{IsMessage}
 use Rattle.world_model.specs.commands.Run.{Run}
 use Rattle.world_model.specs.commands.ScriptAnswers.{AnswersBy, IsAnswer}
 use Rattle.partition_core.specs.declared.durable.DurableError.{DurableError}

@@ -11,9 +11,9 @@ use Rattle.world_model.specs.rules.Asking.{asked_by}
 use Rattle.world_model.specs.commands.Cluster.{sites_of, parts_of}
 use Rattle.world_model.specs.lines.Dependency.{IsOwnPast}
 use Rattle.world_model.specs.rules.Event.{Ask, IsDown, Event, Decided, Opened, Refused, Cut, Entry, attempt}
-use Rattle.world_model.specs.lines.Lines.{call_asked, step_shown, call_of}
+use Rattle.world_model.specs.rules.Lines.{call_asked, step_shown, call_of}
 use Rattle.world_model.specs.commands.Meeting.{site_after, site_of}
-use Rattle.world_model.specs.rules.Dependency.{dependency_after}
+use Rattle.world_model.proofs.Dependency.{dependency_after}
 use Rattle.world_model.specs.commands.Phases.{phase, phase_after, by_command, update_total}
 use Rattle.world_model.specs.commands.Run.{Run}
 use Rattle.world_model.specs.commands.ScriptCalls.{is_answer, asked_of, numbered, calls_of}

@@ -15,16 +15,17 @@ use Rattle.world_model.specs.declared.step.Step.{Step}
 use Rattle.world_model.specs.declared.step.Step.TheVariants as step
 use Rattle.world_model.specs.commands.Answers.{answered}
 use Rattle.world_model.specs.rules.Asking.{MayCall}
-use Rattle.world_model.specs.commands.Cluster.{has_part, sites_of, parts_of, partitions}
+use Rattle.world_model.specs.commands.Cluster.{has_part, sites_of, parts_of}
+use Rattle.world_model.specs.lines.Places.{partitions, IsPlace, first_of, home}
 use Rattle.world_model.specs.lines.Dependency.{IsOwnPast}
 use Rattle.world_model.specs.rules.Event.{AskFinish, AskAbort, AskReport, IsDown, HasNoRoom, Entry, Event, Finished, Aborted, Refused, Cut}
-use Rattle.world_model.specs.lines.Fate.{IsFate}
+use Rattle.world_model.specs.rules.Fate.{IsFate}
 use Rattle.world_model.specs.lines.History.{in_history, decides}
-use Rattle.world_model.specs.lines.Lines.{Call, Line, FinishOf, AbortOf, step_shown, call_of}
+use Rattle.world_model.specs.lines.Lines.{Call, Line, FinishOf, AbortOf}
+use Rattle.world_model.specs.rules.Lines.{step_shown, call_of}
 use Rattle.world_model.specs.commands.Meeting.{met}
 use Rattle.world_model.specs.rules.Partition.{PartState, ToldCommitted, ToldAborted, ToldDown, fate_of}
 use Rattle.world_model.specs.lines.Pending.{pending, pending_after, is_down, down_after}
-use Rattle.world_model.specs.rules.Plan.{IsPlace, first_of, home}
 use Rattle.world_model.specs.commands.Run.{Run}
 use Rattle.world_model.specs.commands.ScriptAnswers.{AnswersBy, IsAnswer}
 use Rattle.world_model.specs.commands.ScriptCalls.{calls_of}

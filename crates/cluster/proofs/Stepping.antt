@@ -16,11 +16,11 @@ use Rattle.world_model.specs.declared.step.Step.{Step}
 use Rattle.world_model.specs.declared.step.Step.TheVariants as step
 use Rattle.world_model.specs.commands.Cluster.{parts_of, sites_of}
 use Rattle.world_model.specs.commands.CommitSteps.{Going, Preparing, Finishing, Aborting, starting, given_up, next_step, is_done, after}
-use Rattle.world_model.specs.lines.Lines.{call_asked}
-use Rattle.world_model.specs.rules.Dependency.{is_of}
+use Rattle.world_model.specs.rules.Lines.{call_asked}
+use Rattle.world_model.specs.events.Dependency.{is_of}
 use Rattle.world_model.specs.commands.Phases as phases
 use Rattle.world_model.specs.commands.Phases.{Phase, phase, phase_after, by_command, going_of, update_total}
-use Rattle.world_model.specs.rules.Plan.{home}
+use Rattle.world_model.specs.lines.Places.{home}
 use Rattle.world_model.specs.commands.Run.{Run}
 use Rattle.world_model.specs.commands.ScriptAnswers as script
 use Rattle.world_model.specs.commands.ScriptAnswers.{StepsOf, Either, Then, fewer}

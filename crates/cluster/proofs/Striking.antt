@@ -13,7 +13,7 @@ use Rattle.world_model.specs.rules.Event as event
 use Rattle.world_model.specs.rules.Event.{Event, Entry, Crashed, RestartCut}
 use Rattle.world_model.specs.lines.Lines.{Crash, Restart}
 use Rattle.world_model.specs.commands.Meeting.{met}
-use Rattle.world_model.specs.rules.Plan.{IsPlace}
+use Rattle.world_model.specs.lines.Places.{IsPlace}
 use Rattle.world_model.specs.commands.Run.{Run}
 use Rattle.world_model.specs.commands.ScriptAnswers.{AnswersBy, IsAnswer}
 use Rattle.crdt_core.specs.Fitting.{unfit}

@@ -13,9 +13,9 @@ use Rattle.world_model.specs.commands.Cluster.{has_cluster, sites_of, parts_of}
 use Rattle.world_model.specs.lines.Dependency as lines
 use Rattle.world_model.specs.lines.Dependency.{HandsOwn, IsOwnPast}
 use Rattle.world_model.specs.rules.Event.{Ask, AskBegin, AskRead, AskUpdate, AskPrepare, AskDecide, AskFinish, AskAbort, AskTake, IsDown, IsBadOp, HasGap, IsRepeat, Event, Began, Updated, Prepared, Decided, Aborted, Sent, Took, Reported, Heard, Crashed, RestartCut, Restarted, Refused, Opened, Cut, Entry, attempt, is_sent, is_report}
-use Rattle.world_model.specs.lines.Lines.{call_asked, step_shown, call_of, lines_of, session_of}
+use Rattle.world_model.specs.rules.Lines.{call_asked, step_shown, call_of, lines_of, session_of}
 use Rattle.world_model.specs.commands.Meeting.{site_of, session_count}
-use Rattle.world_model.specs.rules.Dependency.{dependency_after, dependency}
+use Rattle.world_model.proofs.Dependency.{dependency_after, dependency}
 use Rattle.world_model.specs.rules.Partition.{PartState, PartStep, IsRefused}
 use Rattle.world_model.specs.commands.Phases.{phase, by_command}
 use Rattle.world_model.specs.commands.Run.{Run}

@@ -14,9 +14,10 @@ use Rattle.world_model.specs.declared.command.Command.{Command}
 use Rattle.world_model.specs.declared.step.Step.{Step}
 use Rattle.world_model.specs.commands.Cluster.{is_cluster, sites_after, parts_after}
 use Rattle.world_model.specs.rules.Event.{IsDown, IsBadOp, HasGap, IsRepeat, Event, Began, Updated, Prepared, Decided, Aborted, Sent, Took, Reported, Heard, Refused, Opened, Cut, Entry}
-use Rattle.world_model.specs.lines.Lines.{step_shown, session_after, session_of}
+use Rattle.world_model.specs.rules.Lines.{step_shown, session_after, session_of}
 use Rattle.world_model.specs.commands.Meeting.{site_after, count_after}
-use Rattle.world_model.specs.rules.Dependency.{begins_for, is_of, dependency_after}
+use Rattle.world_model.specs.events.Dependency.{begins_for, is_of}
+use Rattle.world_model.proofs.Dependency.{dependency_after}
 use Rattle.world_model.specs.commands.Phases.{Phase, phase_after, by_command}
 use Rattle.world_model.specs.commands.Run.{Run}
 use Rattle.world_model.specs.declared.command.Command.TheVariants as command

@@ -8,10 +8,10 @@ use Rattle.site_vector.specs.declared.ids.TxId.{TxId}
 use Rattle.site_vector.specs.Ids.{same_part}
 use Rattle.world_model.specs.declared.step.Step.{Step}
 use Rattle.world_model.specs.rules.Asking.{asked_by}
-use Rattle.world_model.specs.commands.Cluster.{partitions}
+use Rattle.world_model.specs.lines.Places.{partitions, first_of, home}
 use Rattle.world_model.specs.rules.Event.{Ask, AskPrepare, AskDecide, AskFinish, AskAbort, IsDown, Event, Updated, Decided, Refused, Cut, Entry, attempt}
-use Rattle.world_model.specs.lines.Lines.{Call, Line, step_shown}
-use Rattle.world_model.specs.rules.Plan.{first_of, home}
+use Rattle.world_model.specs.lines.Lines.{Call, Line}
+use Rattle.world_model.specs.rules.Lines.{step_shown}
 use Rattle.world_model.specs.lines.Updates.{Change, changes, change_of, lead}
 use Rattle.world_model.proofs.Names.{off}
 

@@ -20,8 +20,9 @@ use Rattle.world_model.specs.rules.Asking.{asked_by}
 use Rattle.world_model.specs.commands.Cluster.{sites_of, parts_of}
 use Rattle.world_model.specs.rules.Event as event
 use Rattle.world_model.specs.rules.Event.{AskUpdate, IsDown, Event, Refused, Cut, Entry, attempt}
-use Rattle.world_model.specs.lines.Lines.{UpdateOf, step_shown, session_of}
-use Rattle.world_model.specs.rules.Dependency.{dependency_after}
+use Rattle.world_model.specs.lines.Lines.{UpdateOf}
+use Rattle.world_model.specs.rules.Lines.{step_shown, session_of}
+use Rattle.world_model.proofs.Dependency.{dependency_after}
 use Rattle.world_model.specs.commands.Phases as phases
 use Rattle.world_model.specs.commands.Phases.{Phase, phase, phase_after, with_object, update_total}
 use Rattle.world_model.specs.commands.Run.{Run}

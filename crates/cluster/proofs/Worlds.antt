@@ -8,7 +8,8 @@ use Rattle.crdt_core.specs.KindsOf.{Kinds}
 use Rattle.crdt_core.specs.Log.{pending}
 use Rattle.world_model.specs.rules.Event.{Entry}
 use Rattle.world_model.specs.rules.Partition.{PartState, Finds}
-use Rattle.world_model.specs.rules.Plan.{Plan, IsRun, is_some_update}
+use Rattle.world_model.specs.rules.Plan.{Plan, is_some_update}
+use Rattle.world_model.proofs.Runs.{IsRun}
 use Rattle.world_model.specs.rules.World.{IsWorldRun, plan_of}
 use Rattle.world_model.proofs.Fate.{pending_parts}
 use Rattle.world_model.proofs.Fitted.{good_unfit, good_run}

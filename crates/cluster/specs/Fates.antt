@@ -7,7 +7,7 @@ use Rattle.world_model.specs.declared.command.Command.TheVariants as command
 use Rattle.world_model.specs.declared.step.Step.{Step}
 use Rattle.world_model.specs.commands.Cluster.{parts_of}
 use Rattle.world_model.specs.lines.Pending.{pending}
-use Rattle.world_model.specs.rules.Plan.{IsPlace, home}
+use Rattle.world_model.specs.lines.Places.{IsPlace, home}
 use Rattle.world_model.specs.commands.Run.{Run}
 use Rattle.world_model.specs.commands.ScriptCalls.{calls_of}
 use Rattle.world_model.specs.commands.Settling.{settled, stays, is_unwritten, first_end, ends_as_lead}

@@ -7,7 +7,8 @@ use Rattle.world_model.specs.declared.command.Command.TheVariants as command
 use Rattle.world_model.specs.lines.Bounds.{bound}
 use Rattle.world_model.specs.rules.Event.{Event, Entry, Took}
 use Rattle.world_model.specs.commands.Fuses.{Fuse, fuse, IsUnfired, KeepFuses}
-use Rattle.world_model.specs.lines.Lines.{Line, lines_of, step_shown}
+use Rattle.world_model.specs.lines.Lines.{Line}
+use Rattle.world_model.specs.rules.Lines.{lines_of, step_shown}
 use Rattle.world_model.specs.declared.step.Step.{Step}
 use Rattle.world_model.specs.lines.Restarts as restarts
 use Rattle.world_model.specs.events.Restarts.{brings}

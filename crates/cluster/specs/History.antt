@@ -7,7 +7,7 @@ use Rattle.world_model.specs.lines.Dependency.{KeepsPast}
 use Rattle.world_model.specs.rules.Event.{Entry}
 use Rattle.world_model.specs.commands.Fuses.{HoldsFuses}
 use Rattle.world_model.specs.lines.Lawful.{IsLawful}
-use Rattle.world_model.specs.lines.Lines.{lines_of}
+use Rattle.world_model.specs.rules.Lines.{lines_of}
 use Rattle.world_model.specs.rules.Partition.{PartState}
 use Rattle.world_model.specs.commands.Run.{Run}
 use Rattle.world_model.specs.commands.ScriptCalls.{calls_of}

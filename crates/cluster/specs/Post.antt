@@ -7,8 +7,7 @@ use Rattle.world_model.specs.rules.Event as event
 use Rattle.world_model.specs.rules.Event.{Entry, Event, Sent, Reported, WasNumbered}
 use Rattle.world_model.specs.commands.Messages as script
 use Rattle.world_model.specs.commands.Messages.{message_of, report_of, messages, reports}
-use Rattle.world_model.specs.rules.Partition.{IsOther}
-use Rattle.world_model.specs.rules.Plan.{IsPlace}
+use Rattle.world_model.specs.lines.Places.{IsOther, IsPlace}
 use Rattle.world_model.specs.commands.Run.{Run}
 use Rattle.txn_session.specs.Calls.{Call, entries}
 use Rattle.cluster.specs.declared.post.Note.{Note}

@@ -5,7 +5,7 @@ use Rattle.world_model.specs.declared.step.Step.{Step}
 use Rattle.world_model.specs.commands.Answers.{answered}
 use Rattle.world_model.specs.commands.Cluster.{has_cluster, has_site, sites_of, parts_of}
 use Rattle.world_model.specs.lines.Dependency.{dependency, HandsOwn}
-use Rattle.world_model.specs.lines.Lines.{lines_of}
+use Rattle.world_model.specs.rules.Lines.{lines_of}
 use Rattle.world_model.specs.commands.Meeting.{site_of, session_count}
 use Rattle.world_model.specs.commands.Phases as phases
 use Rattle.world_model.specs.commands.Phases.{Phase, Absent, phase, update_total}

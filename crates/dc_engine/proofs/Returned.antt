@@ -15,7 +15,7 @@ use Rattle.gate_log.specs.Logs.{disk_of}
 use Rattle.partition_core.specs.Durable.{Durable}
 use Rattle.world_model.specs.commands.Cluster.{sites_of, parts_of}
 use Rattle.world_model.specs.lines.Pending.{is_down}
-use Rattle.world_model.specs.rules.Plan.{IsPlace}
+use Rattle.world_model.specs.lines.Places.{IsPlace}
 use Rattle.world_model.specs.commands.Run.{Run}
 use Rattle.world_model.specs.commands.ScriptCalls.{calls_of}
 use Rattle.site_partitions.specs.Held.{index_of, IsSized}

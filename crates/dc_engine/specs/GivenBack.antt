@@ -10,7 +10,7 @@ use Rattle.world_model.specs.commands.Cluster.{sites_of, parts_of}
 use Rattle.world_model.specs.rules.Event.{Entry}
 use Rattle.world_model.specs.events.Logs.{IsLogOf}
 use Rattle.world_model.specs.lines.Pending.{is_down}
-use Rattle.world_model.specs.rules.Plan.{IsPlace}
+use Rattle.world_model.specs.lines.Places.{IsPlace}
 use Rattle.world_model.specs.commands.Run.{Run}
 use Rattle.world_model.specs.commands.ScriptCalls.{calls_of}
 use Rattle.world_model.specs.rules.World.{plan_of}

@@ -14,7 +14,8 @@ use Rattle.crdt_core.specs.Parts.{lists, above}
 use Rattle.world_model.specs.rules.Event.{Ask, Event, attempt}
 use Rattle.world_model.specs.rules.Event as event
 use Rattle.world_model.specs.rules.Partition.{PartState, PartStep}
-use Rattle.world_model.specs.rules.Plan.{Plan, IsPlace, IsAllowed, IsFit, WorldStep}
+use Rattle.world_model.specs.rules.Plan.{Plan, IsAllowed, IsFit, WorldStep}
+use Rattle.world_model.specs.lines.Places.{IsPlace}
 use Rattle.partition_core.specs.declared.answers.Refusal.{Refusal}
 use Rattle.partition_core.specs.declared.answers.CallError.{CallError}
 use Rattle.partition_core.specs.declared.answers.CallError.TheVariants as call

@@ -15,7 +15,8 @@ use Rattle.crdt_core.specs.Log.{committed, committed_at, prepared_changes, taken
 use Rattle.crdt_core.specs.Orders.{Precede, Ascends, sorted_by, fold_cmp, stream_cmp}
 use Rattle.crdt_core.specs.Parts.{lists, AreParts, parts_between}
 use Rattle.world_model.specs.rules.Event.{Sent}
-use Rattle.world_model.specs.rules.Partition.{IsOther, done}
+use Rattle.world_model.specs.lines.Places.{IsOther}
+use Rattle.world_model.specs.rules.Partition.{done}
 use Rattle.partition_core.specs.Tables.{Tables}
 use Rattle.partition_core.specs.Bounds.{own_bound}
 use Rattle.partition_core.specs.Messages.{AreApart, start_of}

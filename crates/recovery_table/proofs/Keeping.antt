@@ -6,7 +6,7 @@ use Rattle.crdt_core.specs.KindsOf.{Kinds}
 use Rattle.partition_log.specs.Codec.{Codec}
 use Rattle.world_model.specs.rules.Event.{Ask, Event}
 use Rattle.world_model.specs.rules.Partition.{PartState}
-use Rattle.world_model.specs.rules.Plan.{IsPlace}
+use Rattle.world_model.specs.lines.Places.{IsPlace}
 use Rattle.partition_core.specs.Durable.{Durable}
 use Rattle.partition_core.specs.Moments.{CallsOn}
 use Rattle.partition_core.specs.Restarts.{RestartsOn}

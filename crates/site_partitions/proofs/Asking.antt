@@ -11,8 +11,7 @@ use Rattle.field_codec.specs.FormLaws.{and_true}
 use Rattle.log_records.specs.Records.{can_put_record}
 use Rattle.log_records.specs.Updates.{can_put_updates}
 use Rattle.world_model.specs.rules.Event.{Ask, AskBegin, AskRead, AskUpdate, AskPrepare, AskDecide, AskFinish, AskMessage, AskHear, Reported, Refused, IsGone, Entry, time_of, report_count}
-use Rattle.world_model.specs.rules.Partition.{IsOther}
-use Rattle.world_model.specs.rules.Plan.{IsPlace}
+use Rattle.world_model.specs.lines.Places.{IsOther, IsPlace}
 use Rattle.world_model.specs.rules.World.{plan_of}
 use Rattle.world_model.specs.rules.Asking.{MayCall}
 use Rattle.world_model.proofs.Asks.{asks}

@@ -10,7 +10,7 @@ use Rattle.crdt_core.specs.KindsOf.{Kinds}
 use Rattle.crdt_core.specs.Spelled.{is_between, is_tx}
 use Rattle.world_model.specs.rules.Event.{Event, Began, Entry}
 use Rattle.world_model.specs.rules.Partition.{PartState, PartStep, IsBegin}
-use Rattle.world_model.specs.rules.Plan.{IsPlace}
+use Rattle.world_model.specs.lines.Places.{IsPlace}
 use Rattle.world_model.specs.rules.World.{IsWorldRun, is_begin, begun}
 use Rattle.world_model.proofs.Names.{off}
 

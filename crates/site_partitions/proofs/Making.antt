@@ -13,7 +13,7 @@ use Rattle.crdt_core.specs.Spelled.{is_between, is_tx}
 use Rattle.log_records.specs.Updates.{can_put_update}
 use Rattle.world_model.specs.rules.Event.{AskUpdate}
 use Rattle.world_model.specs.rules.Partition.{PartState}
-use Rattle.world_model.specs.rules.Plan.{IsPlace}
+use Rattle.world_model.specs.lines.Places.{IsPlace}
 use Rattle.world_model.proofs.Whole.{shown_begun}
 use Rattle.partition_core.specs.Durable.{Durable, StandsOn}
 use Rattle.partition_core.specs.Numbered.{are_numbered}

@@ -8,7 +8,8 @@ use Rattle.site_vector.specs.VectorLaws.{length_join}
 use Rattle.crdt_core.specs.KindsOf.{Kinds}
 use Rattle.world_model.specs.rules.Event.{Event, Began, Decided, Reported, Entry, WasShown, attempt, voted, time_of}
 use Rattle.world_model.specs.rules.Partition.{PartState, PartStep}
-use Rattle.world_model.specs.rules.Dependency.{joined, ShowsVector, WasVector, WereVectors, IsKnownJoin}
+use Rattle.world_model.specs.lines.Dependency.{joined}
+use Rattle.world_model.specs.rules.Dependency.{ShowsVector, WasVector, WereVectors, IsKnownJoin}
 use Rattle.world_model.specs.rules.Plan.{IsAllowed, takes_part}
 use Rattle.world_model.specs.rules.World.{IsWorldRun, snapshot_of, plan_of}
 use Rattle.world_model.proofs.Handing.{snapshot_width}

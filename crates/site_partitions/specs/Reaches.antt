@@ -18,7 +18,7 @@ use Rattle.partition_log.specs.Codec.{Codec, codec_of}
 use Rattle.world_model.specs.rules.Asking.{MayCall, asked_by}
 use Rattle.world_model.specs.rules.Event.{Ask, Event, Updated, Entry, EventsAre, attempt}
 use Rattle.world_model.specs.rules.Partition.{PartState, new_part}
-use Rattle.world_model.specs.rules.Plan.{IsPlace}
+use Rattle.world_model.specs.lines.Places.{IsPlace}
 use Rattle.world_model.specs.rules.World.{IsWorldRun, begun}
 use Rattle.partition_core.specs.Durable.{Durable, StandsOn}
 use Rattle.site_partitions.specs.Held.{Held, index_of}

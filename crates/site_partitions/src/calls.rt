@@ -4,8 +4,9 @@ ghost use Rattle.crdt_core.specs.KindsOf.{fits_kind};
 ghost use Rattle.crdt_core.specs.Log.{end_of_time};
 ghost use Rattle.world_model.specs.rules.Event.{AskTick, AskBegin, AskRead, AskUpdate, AskPrepare, AskDecide, AskFinish, AskAbort, AskMessage, AskTake, AskReport, AskHear, Ticked, Began, Updated, Decided, Finished, Aborted, Sent, Took, Reported, Heard};
 ghost use Rattle.world_model.specs.rules.Event as event;
-ghost use Rattle.world_model.specs.rules.Partition.{IsOther};
-ghost use Rattle.world_model.specs.rules.Plan.{IsPlace, update_count};
+ghost use Rattle.world_model.specs.lines.Places.{IsOther};
+ghost use Rattle.world_model.specs.lines.Places.{IsPlace};
+ghost use Rattle.world_model.specs.rules.Plan.{update_count};
 ghost use Rattle.site_partitions.specs.Reaches.{types_of, MayAsk, HasBegun};
 ghost use Rattle.site_partitions.specs.Answers.{Any, Calls};
 

@@ -11,7 +11,7 @@ use Rattle.crdt_core.specs.declared.record.Part.{Part}
 use Rattle.world_model.specs.declared.step.Step.{Step}
 use Rattle.world_model.specs.declared.step.Step.TheVariants as step
 use Rattle.world_model.specs.rules.Event.{Ask, AskBegin, AskRead, AskUpdate, Refusal, IsDown, ClockBehind, TxPending, StableBehind, ClockAtEnd, IsGone, HasGap, IsRepeat, IsBadOp, HasNoRoom, IsDamaged, Event, Began, Updated, Read, Decided, Refused, Cut, Entry, attempt}
-use Rattle.world_model.specs.lines.Lines.{refusal_shown, fault_shown, step_shown}
+use Rattle.world_model.specs.rules.Lines.{refusal_shown, fault_shown, step_shown}
 use Rattle.world_model.specs.rules.Asking.{asked_by}
 use Rattle.txn_session.specs.Calls.{touches, effect_made}
 

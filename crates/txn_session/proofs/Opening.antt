@@ -15,9 +15,9 @@ use Rattle.world_model.specs.declared.step.Step.TheVariants as step
 use Rattle.world_model.specs.rules.Event.{AskBegin, Began, tried, voted}
 use Rattle.world_model.specs.rules.Partition.{IsBegin}
 use Rattle.world_model.specs.rules.Dependency.{ShowsVector, IsKnownJoin}
-use Rattle.world_model.specs.rules.Plan.{IsPlace, home}
+use Rattle.world_model.specs.lines.Places.{IsPlace, home}
 use Rattle.world_model.specs.rules.World.{snapshot_of}
-use Rattle.world_model.specs.lines.Lines.{session_of}
+use Rattle.world_model.specs.rules.Lines.{session_of}
 use Rattle.txn_session.specs.Calls.{Call, entries, called, caller_of, IsLegal, IsAllowed, GoesOn, Stays}
 use Rattle.txn_session.specs.Session.{Txn, Idle, Open, SessionState, doing_so, depends}
 use Rattle.clocksi_commit.specs.Commit.{Committing}

@@ -7,9 +7,9 @@ use Rattle.crdt_core.specs.KindsOf.{Kinds}
 use Rattle.world_model.specs.declared.step.Step.{Step}
 use Rattle.world_model.specs.rules.Event.{Ask, AskRead, AskUpdate, AskPrepare, AskDecide, AskAbort, Event, Updated, Entry, attempt, is_prepare, is_decide, is_own_abort}
 use Rattle.world_model.specs.rules.Partition.{PartState}
-use Rattle.world_model.specs.rules.Plan.{IsPlace}
+use Rattle.world_model.specs.lines.Places.{IsPlace}
 use Rattle.world_model.specs.rules.World.{is_begin, begun, IsWorldRun}
-use Rattle.world_model.specs.lines.Lines.{step_shown}
+use Rattle.world_model.specs.rules.Lines.{step_shown}
 use Rattle.world_model.specs.rules.Asking as asking
 use Rattle.world_model.specs.rules.Asking.{asked_by, is_own_word}
 

@@ -6,8 +6,9 @@ use Rattle.crdt_core.specs.declared.record.Record.{Record}
 use Rattle.crdt_core.specs.Fitting.{unfit}
 use Rattle.crdt_core.specs.KindsOf.{Kinds}
 use Rattle.world_model.specs.rules.Partition.{PartState, Finds, MayDo, PartStep}
-use Rattle.world_model.specs.rules.Plan.{Plan, IsFit, IsRun}
-use Rattle.world_model.specs.events.WorldLaw.{HasCauseAt, HaveCausesAt}
+use Rattle.world_model.specs.rules.Plan.{Plan, IsFit}
+use Rattle.world_model.proofs.Runs.{IsRun}
+use Rattle.world_model.specs.events.Causes.{HasCauseAt, HaveCausesAt}
 use Rattle.world_model.specs.events.Restarts.{is_call}
 use Rattle.world_model.specs.events.Answers.{IsDueAt, AreDue, IsKnown}
 use Rattle.world_model.proofs.Names.{clash}

@@ -4,7 +4,8 @@ use Rattle.site_vector.specs.declared.ids.PartId.{PartId}
 use Rattle.site_vector.specs.declared.ids.TxId.{TxId}
 use Rattle.world_model.specs.rules.Event.{AskBegin, AskRead, AskUpdate, AskPrepare, AskDecide, AskFinish, AskTake, Event, Began, Updated, Read, Prepared, Decided, Finished, Aborted, Took, Heard, Refused, Entry, attempt}
 use Rattle.world_model.specs.rules.Partition.{PartState}
-use Rattle.world_model.specs.rules.Plan.{home, is_some_update, change_by, updates_at, MayAbort, IsAllowed}
+use Rattle.world_model.specs.lines.Places.{home}
+use Rattle.world_model.specs.rules.Plan.{is_some_update, change_by, updates_at, MayAbort, IsAllowed}
 use Rattle.world_model.specs.rules.World.{is_begin, begin_vector, snapshot_of, changes_of, plan_of}
 use Rattle.world_model.specs.rules.Asking.{MayCall, asked_by, is_own_word}
 use Rattle.std.proofs.lemmas.Bool.{cond-false}

@@ -20,8 +20,7 @@ use Rattle.world_model.specs.rules.Event.{Entry, is_decided}
 use Rattle.crdt_core.specs.KindsOf.{Kinds}
 use Rattle.crdt_core.specs.Folds.{effects_from, effects_of, state_read}
 use Rattle.world_model.specs.rules.Plan.{Plan, changes_at, commit_vector, takes_part, is_some_update}
-use Rattle.world_model.specs.events.WorldLaw.{sees_tx, IsRightFold}
-use Rattle.world_model.specs.events.Meaning.{Asked, asked_at, update_of, AreCausal}
+use Rattle.world_model.specs.events.Reads.{sees_tx, IsRightFold, Asked, asked_at, update_of, AreCausal}
 use Rattle.world_model.proofs.Names.{clash, off}
 use Rattle.world_model.proofs.Histories.{IsMade, AreMade}
 

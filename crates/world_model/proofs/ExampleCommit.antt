@@ -21,7 +21,7 @@ use Rattle.crdt_core.specs.Orders.{pending_cmp}
 use Rattle.crdt_core.specs.Parts.{touches}
 use Rattle.world_model.specs.rules.Event.{Event, Entry, Began, Updated, Read, Prepared, Decided, Finished, Ticked, Refused, Opened, AskRead, AskUpdate, AskPrepare, AskDecide, ClockBehind, TxPending, HasNoRoom, voted}
 use Rattle.world_model.specs.lines.Lawful.{IsLawful}
-use Rattle.world_model.specs.lines.Lines.{lines_of}
+use Rattle.world_model.specs.rules.Lines.{lines_of}
 use Rattle.world_model.specs.rules.Partition.{PartState, new_part, done}
 use Rattle.world_model.specs.rules.Plan.{takes_part}
 use Rattle.world_model.specs.rules.World.{plan_of, is_own, IsWorldRun}

@@ -13,7 +13,7 @@ use Rattle.crdt_core.specs.declared.record.Record.TheVariants.{Prepare}
 use Rattle.crdt_core.specs.KindsOf.{Kinds}
 use Rattle.world_model.specs.rules.Event.{Event, Entry, Began, Updated, Prepared, Aborted, Sent, Crashed, RestartCut, Restarted, Refused, Cut, AskReport, IsDown}
 use Rattle.world_model.specs.lines.Lawful.{IsLawful}
-use Rattle.world_model.specs.lines.Lines.{lines_of}
+use Rattle.world_model.specs.rules.Lines.{lines_of}
 use Rattle.world_model.specs.rules.Partition.{PartState, new_part, done, cut, down}
 use Rattle.world_model.specs.rules.World.{IsWorldRun}
 use Rattle.world_model.proofs.Names.{off}

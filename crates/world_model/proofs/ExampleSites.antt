@@ -17,7 +17,7 @@ use Rattle.crdt_core.specs.Log.{end_of_time}
 use Rattle.crdt_core.specs.Parts.{touches}
 use Rattle.world_model.specs.rules.Event.{Event, Entry, Began, Updated, Read, Ticked, Sent, Took, Reported, Heard, Refused, AskBegin, AskPrepare, AskTake, StableBehind, ClockAtEnd, HasGap, IsRepeat, sent_count, report_count}
 use Rattle.world_model.specs.lines.Lawful.{IsLawful}
-use Rattle.world_model.specs.lines.Lines.{lines_of}
+use Rattle.world_model.specs.rules.Lines.{lines_of}
 use Rattle.world_model.specs.rules.Partition.{PartState, done}
 use Rattle.world_model.specs.rules.World.{IsWorldRun}
 use Rattle.world_model.proofs.Names.{clash, off}

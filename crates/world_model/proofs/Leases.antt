@@ -17,7 +17,7 @@ use Rattle.crdt_core.specs.KindsOf.{Kinds}
 use Rattle.world_model.specs.rules.Partition.{PartState, Finds, batch_of, records, now_after, MayDo, done, cut, PartStep}
 use Rattle.crdt_core.specs.Log.{lease_for}
 use Rattle.crdt_core.specs.Parts.{above}
-use Rattle.world_model.specs.events.WorldLaw.{ClockIs}
+use Rattle.world_model.specs.events.Clock.{ClockIs}
 use Rattle.world_model.proofs.Names.{clash, part_cases, part_other}
 use Rattle.world_model.proofs.Moves.{image_log, grown_image, grown_last}
 

@@ -21,13 +21,14 @@ use Rattle.crdt_core.specs.Parts.{touches, lists}
 use Rattle.world_model.specs.rules.Event.{IsDown, Event, Updated, Decided, Refused, Cut, Entry, is_decided}
 use Rattle.crdt_core.specs.Orders.{Ascends, fold_cmp}
 use Rattle.crdt_core.specs.Parts.{AreParts}
-use Rattle.world_model.specs.rules.Plan.{Plan, twin, changes_at, commit_vector, updates_at}
-use Rattle.world_model.specs.rules.Handed.{HandedAt, AreHanded, AreNew}
+use Rattle.world_model.specs.rules.Plan.{Plan, changes_at, commit_vector, updates_at}
+use Rattle.world_model.specs.lines.Places.{twin}
+use Rattle.world_model.specs.events.Handed.{HandedAt, AreHanded, AreNew}
 use Rattle.world_model.specs.rules.World.{plan_of}
-use Rattle.world_model.specs.events.WorldLaw.{sees_tx, IsRightFold}
-use Rattle.world_model.specs.events.Meaning as events
-use Rattle.world_model.specs.events.Meaning.{Asked, asked_at}
-use Rattle.world_model.specs.lines.Lines.{Line, call_of, step_shown, lines_of}
+use Rattle.world_model.specs.events.Reads.{sees_tx, IsRightFold, Asked, asked_at}
+use Rattle.world_model.specs.events.Reads as events
+use Rattle.world_model.specs.lines.Lines.{Line}
+use Rattle.world_model.specs.rules.Lines.{call_of, step_shown, lines_of}
 use Rattle.world_model.specs.declared.step.Step.{Step}
 use Rattle.world_model.specs.declared.step.Step.TheVariants as step
 use Rattle.world_model.specs.lines.Clock.{now}

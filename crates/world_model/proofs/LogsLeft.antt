@@ -13,8 +13,9 @@ use Rattle.crdt_core.specs.KindsOf.{Kinds}
 use Rattle.world_model.specs.rules.Partition.{PartState, Finds, IsOwnBound, batch_of, written, done, PartStep}
 use Rattle.crdt_core.specs.Log.{lease_for}
 use Rattle.crdt_core.specs.Parts.{above}
-use Rattle.world_model.specs.rules.Plan.{Plan, IsAllowed, IsRun}
-use Rattle.world_model.specs.events.Shown.{bound_shown}
+use Rattle.world_model.specs.rules.Plan.{Plan, IsAllowed}
+use Rattle.world_model.proofs.Runs.{IsRun}
+use Rattle.world_model.specs.events.Bounds.{bound_shown}
 use Rattle.world_model.specs.events.Logs.{taken_of, records_of, IsLogAfter, IsLogOf, LeavesLogs}
 use Rattle.world_model.proofs.Names.{part_cases}
 use Rattle.world_model.proofs.Queue.{in_order}

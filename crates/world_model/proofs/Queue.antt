@@ -10,7 +10,7 @@ use Rattle.site_vector.specs.Order.{tx_cmp}
 use Rattle.site_vector.specs.Vector.{entry}
 use Rattle.crdt_core.specs.declared.record.Part.{Part}
 use Rattle.crdt_core.specs.Orders.{pending_cmp, stream_cmp, Precede, Ascends}
-use Rattle.world_model.specs.events.Shown.{IsIdBefore, IsBefore, IsBeforeAll, AreInOrder}
+use Rattle.world_model.specs.lines.Listed.{IsIdBefore, IsBefore, IsBeforeAll, AreInOrder}
 use Rattle.world_model.specs.events.Streams.{IsSentBefore}
 
 -- by a number, and then by what is left

@@ -9,13 +9,15 @@ use Rattle.crdt_core.specs.declared.record.Record.{Record}
 use Rattle.crdt_core.specs.KindsOf.{Kinds}
 use Rattle.crdt_core.specs.Log.{pending, prepared_lead}
 use Rattle.world_model.specs.rules.Asking.{MayCall}
-use Rattle.world_model.specs.events.Downs as downs
+use Rattle.world_model.specs.events.Pending as downs
 use Rattle.world_model.specs.rules.Event.{AskFinish, Entry, attempt, is_prepare, tried, EventsAre}
-use Rattle.world_model.specs.lines.Fate.{IsFate, is_ended_at}
+use Rattle.world_model.specs.rules.Fate.{IsFate}
+use Rattle.world_model.specs.lines.Fate.{is_ended_at}
 use Rattle.world_model.specs.events.Lawful.{IsLawfulWorld}
-use Rattle.world_model.specs.lines.Lines.{lines_of}
+use Rattle.world_model.specs.rules.Lines.{lines_of}
 use Rattle.world_model.specs.rules.Partition.{PartState, ToldCommitted, ToldAborted, fate_of}
-use Rattle.world_model.specs.rules.Plan.{Plan, home, takes_part, IsPlace}
+use Rattle.world_model.specs.rules.Plan.{Plan, takes_part}
+use Rattle.world_model.specs.lines.Places.{home, IsPlace}
 use Rattle.world_model.specs.rules.Told.{Told}
 use Rattle.world_model.specs.lines.Updates.{lead}
 use Rattle.world_model.specs.rules.World.{plan_of, IsWorldRun}

@@ -8,7 +8,8 @@ use Rattle.crdt_core.specs.Log.{prepared, committed, pending}
 use Rattle.world_model.specs.rules.Event.{Event, Prepared, Decided, Finished, Cut, Entry, attempt, EventsAre, is_decided}
 use Rattle.crdt_core.specs.KindsOf.{Kinds}
 use Rattle.world_model.specs.rules.Partition.{PartState, PartStep}
-use Rattle.world_model.specs.rules.Plan.{Plan, commit_vector, IsAllowed, IsRun}
+use Rattle.world_model.specs.rules.Plan.{Plan, commit_vector, IsAllowed}
+use Rattle.world_model.proofs.Runs.{IsRun}
 use Rattle.world_model.specs.events.Commit.{VotesAt, KeepVotes, ShowsVector, IsAgreed}
 use Rattle.world_model.proofs.Names.{clash}
 use Rattle.world_model.proofs.Moves.{moved, image_log}

@@ -17,3 +17,4 @@ pub mod Reads
 pub mod Answers
 pub mod Ops
 pub mod Lawful
+pub mod Places

@@ -1,5 +1,5 @@
 -- The cluster that a run has made, and its places.
-use Rattle.std.specs.Prelude.{ℕ, zero, suc, ◌+◌, Bool, true, false, ◌&&◌, ◌||◌, nat_le, List, [], ◌∷◌}
+use Rattle.std.specs.Prelude.{ℕ, Bool, true, false, ◌&&◌, ◌||◌, nat_le, [], ◌∷◌}
 use Rattle.site_vector.specs.declared.ids.PartId.{PartId}
 use Rattle.world_model.specs.declared.step.Step.{Step}
 use Rattle.world_model.specs.declared.step.Step.TheVariants as step
@@ -36,8 +36,3 @@ has_site run site = nat_le 1 site && nat_le site (sites_of run)
 
 abbrev pub has_part : Run → PartId → Bool
 has_part run p = has_site run p.site && (nat_le 1 p.part && nat_le p.part (parts_of run))
-
--- the partitions of a site from `first` on, so many
-abbrev pub partitions : ℕ → ℕ → ℕ → List PartId
-partitions site first zero = []
-partitions site first (suc n) = (record { site = site; part = first }) ∷ partitions site (first + 1) n

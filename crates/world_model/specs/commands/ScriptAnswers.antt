@@ -17,7 +17,7 @@ use Rattle.world_model.specs.commands.Phases.{going_of, phase}
 use Rattle.world_model.specs.commands.Messages.{messages, reports}
 use Rattle.world_model.specs.commands.Meeting.{met}
 use Rattle.world_model.specs.lines.Pending.{is_down}
-use Rattle.world_model.specs.rules.Plan.{IsPlace}
+use Rattle.world_model.specs.lines.Places.{IsPlace}
 use Rattle.world_model.specs.commands.ScriptCalls.{is_answer, is_called, calls_of}
 use Rattle.world_model.specs.commands.Settling.{asks_abort, looked_up, SettlesAll}
 use Rattle.world_model.specs.lines.Waiting.{waiting}

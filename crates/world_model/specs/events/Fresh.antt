@@ -5,14 +5,10 @@ use Rattle.site_vector.specs.declared.ids.TxId.{TxId}
 use Rattle.site_vector.specs.Ids.{same_part}
 use Rattle.site_vector.specs.Vector.{entry}
 use Rattle.world_model.specs.rules.Event.{AskBegin, StableBehind, ClockAtEnd, Event, Began, Heard, Restarted, Refused, Entry}
-use Rattle.world_model.specs.rules.Partition.{IsOther}
+use Rattle.world_model.specs.lines.Places.{IsOther}
 use Rattle.world_model.specs.rules.Plan.{Plan}
-use Rattle.world_model.specs.events.Shown.{bound_shown, IsOwnBoundAt}
-
--- the least of what is known of the partitions 1 to n: at most each, and that of one of them
-pub record IsLeast (n : ℕ) (known : ℕ → ℕ) (m : ℕ) : Type 0 where
-  pub below : (q : ℕ) → 1 ≤ q → q ≤ n → m ≤ known q
-  pub reached : (q : ℕ) × (1 ≤ q) × (q ≤ n) × (m ≡ known q)
+use Rattle.world_model.specs.events.Bounds.{bound_shown, IsOwnBoundAt}
+use Rattle.world_model.specs.lines.Bounds.{IsLeast}
 
 module _ {E : Type 0} where
   -- the greatest entry for site j in the reports of partition q that were heard since the last restart

@@ -5,20 +5,18 @@ use Rattle.site_vector.specs.declared.ids.TxId.{TxId}
 use Rattle.site_vector.specs.Vector.{entry}
 use Rattle.world_model.specs.rules.Event.{Entry, EventsAre, is_decided, time_of, was_aborted}
 use Rattle.crdt_core.specs.KindsOf.{Kinds}
-use Rattle.world_model.specs.rules.Plan.{Plan, IsPlace, updates_at}
-use Rattle.world_model.specs.events.WorldLaw.{sees_tx, IsRight, ClocksAre, KeepsDecided, HaveCausesAt}
-use Rattle.world_model.specs.rules.Dependency.{KeepPast}
+use Rattle.world_model.specs.rules.Plan.{Plan, updates_at}
+use Rattle.world_model.specs.lines.Places.{IsPlace}
+use Rattle.world_model.specs.events.Reads.{sees_tx, IsRight, HaveMeaning, AreCausal}
+use Rattle.world_model.specs.events.Clock.{ClocksAre}
+use Rattle.world_model.specs.events.Restarts.{KeepsDecided, Resume, SettleDoubts}
+use Rattle.world_model.specs.events.Causes.{HaveCausesAt, AnswerAsUp, ShowAt, AreClear}
+use Rattle.world_model.specs.events.Dependency.{KeepPast}
 use Rattle.world_model.specs.events.Answers.{AreDue, IsKnown}
-use Rattle.world_model.specs.events.Restarts.{Resume}
 use Rattle.world_model.specs.events.Streams.{Send}
-use Rattle.world_model.specs.rules.Handed.{AreHanded, AreNew}
+use Rattle.world_model.specs.events.Handed.{AreHanded, AreNew}
 use Rattle.world_model.specs.events.Commit.{KeepVotes, ShowsVector, IsAgreed}
-use Rattle.world_model.specs.events.Doubt.{SettleDoubts}
-use Rattle.world_model.specs.events.Downs.{AnswerAsUp}
-use Rattle.world_model.specs.events.Shown.{ShowAt}
 use Rattle.world_model.specs.events.Fresh.{AreFresh}
-use Rattle.world_model.specs.events.Clear.{AreClear}
-use Rattle.world_model.specs.events.Meaning.{HaveMeaning, AreCausal}
 
 pub record IsLawfulWorld {S E : Type 0} (kinds : Kinds S E) (plan : Plan E) (run : List (Entry E)) : Type 0 where
   -- each step is made at a partition of the cluster

@@ -9,9 +9,11 @@ use Rattle.crdt_core.specs.declared.record.Record.{Record}
 use Rattle.crdt_core.specs.declared.record.Record.TheVariants.{Lease, Prepare, Decide, Finish, Abort, Batch}
 use Rattle.crdt_core.specs.Log.{ceiling, pending, last_decided, logged_bound, grown, MayFind}
 use Rattle.world_model.specs.rules.Event.{Event, Ticked, Began, Prepared, Decided, Finished, Aborted, Took, Restarted, Cut, Entry}
-use Rattle.world_model.specs.rules.Partition.{PartState, Finds, IsOther, IsOwnBound, names_pending, AreTimed}
+use Rattle.world_model.specs.rules.Partition.{PartState, Finds, IsOwnBound, AreTimed}
+use Rattle.world_model.specs.lines.Places.{IsOther}
+use Rattle.world_model.specs.lines.Listed.{names_pending, IsBefore, AreInOrder}
 use Rattle.world_model.specs.rules.Plan.{Plan, commit_vector}
-use Rattle.world_model.specs.events.Shown.{IsBefore, AreInOrder, bound_shown}
+use Rattle.world_model.specs.events.Bounds.{bound_shown}
 
 module _ {E : Type 0} where
   -- what a restart reads from a log

@@ -1,19 +1,38 @@
 -- What a restart lists: what was before, where a call that was cut off may have been done.
-use Rattle.std.specs.Prelude.{◌≡◌, ◌⊎◌, ℕ, ◌≤◌, max, Bool, true, false, ◌&&◌, ◌==◌, if◌then◌else◌, List, [], ◌∷◌, Option, None, Some, ⊤}
+use Rattle.std.specs.Prelude.{◌≡◌, ◌⊎◌, ℕ, ◌≤◌, max, Bool, true, false, ◌&&◌, ◌==◌, if◌then◌else◌, List, [], ◌∷◌, Option, None, Some, ⊤, not}
 use Rattle.site_vector.specs.declared.ids.PartId.{PartId}
 use Rattle.site_vector.specs.declared.ids.TxId.{TxId}
 use Rattle.site_vector.specs.Ids.{same_part}
 use Rattle.site_vector.specs.Vector.{entry}
 use Rattle.crdt_core.specs.declared.record.Part.{Part}
 use Rattle.crdt_core.specs.declared.record.Message.{Message}
-use Rattle.world_model.specs.rules.Event.{Event, Decided, Took, Crashed, RestartCut, Restarted, Refused, Opened, Cut, Entry}
-use Rattle.world_model.specs.rules.Partition.{IsOther, names_pending}
+use Rattle.world_model.specs.rules.Event.{Event, Decided, Took, Crashed, RestartCut, Restarted, Refused, Opened, Cut, Entry, is_decided}
+use Rattle.world_model.specs.lines.Places.{IsOther}
+use Rattle.world_model.specs.lines.Listed.{names_pending, AreTimed, is_named}
 use Rattle.crdt_core.specs.Parts.{above}
 use Rattle.world_model.specs.rules.Plan.{Plan, MayTake}
-use Rattle.world_model.specs.lines.Listed.{AreTimed}
-use Rattle.world_model.specs.events.Shown.{bound_shown, pending_after, pending_shown, time_after, pending_time}
+use Rattle.world_model.specs.events.Bounds.{bound_shown}
+use Rattle.world_model.specs.events.Pending.{pending_after, pending_shown, time_after, pending_time, in_doubt}
 
 module _ {E : Type 0} where
+  -- no restart lists a decided transaction as pending at its lead
+  abbrev pub KeepsIs : Plan E → List (Entry E) → PartId → Event E → Type 0
+  KeepsIs plan run p (Restarted n b named listed) = (t : TxId) → is_decided run t ≡ true → plan.lead t ≡ p → names_pending listed t ≡ false
+  KeepsIs plan run p other = ⊤
+
+  abbrev pub KeepsDecided : Plan E → List (Entry E) → Type 0
+  KeepsDecided plan [] = ⊤
+  KeepsDecided plan (e ∷ run) = KeepsIs plan run e.at e.event × KeepsDecided plan run
+
+  -- the restart either lists it as pending, or names it as decided, and not both
+  abbrev pub SettlesAt : List (Entry E) → PartId → Event E → Type 0
+  SettlesAt run p (Restarted n b named listed) = (t : TxId) → in_doubt run p t ≡ true → names_pending listed t ≡ not (is_named named t)
+  SettlesAt run p other = ⊤
+
+  abbrev pub SettleDoubts : List (Entry E) → Type 0
+  SettleDoubts [] = ⊤
+  SettleDoubts (e ∷ run) = SettlesAt run e.at e.event × SettleDoubts run
+
   -- a call of a partition
   abbrev pub is_call : Event E → Bool
   is_call Crashed = false

@@ -1,19 +1,15 @@
 -- What a message bears: its sender, where it begins, as asked or where the last one to the site ended, and its parts in order.
-use Rattle.std.specs.Prelude.{◌≡◌, ◌⊎◌, ℕ, ◌<◌, ◌==◌, if◌then◌else◌, List, [], ◌∷◌, Option, None, Some, ⊤}
+use Rattle.std.specs.Prelude.{◌≡◌, ◌⊎◌, ℕ, ◌<◌, ◌==◌, if◌then◌else◌, List, [], ◌∷◌, Option, ⊤}
 use Rattle.site_vector.specs.declared.ids.PartId.{PartId}
 use Rattle.site_vector.specs.Ids.{same_part}
 use Rattle.site_vector.specs.Vector.{entry}
 use Rattle.crdt_core.specs.declared.record.Part.{Part}
 use Rattle.crdt_core.specs.declared.record.Message.{Message}
 use Rattle.world_model.specs.rules.Event.{Event, Sent, Restarted, Entry}
-use Rattle.world_model.specs.rules.Partition.{IsOther}
+use Rattle.world_model.specs.lines.Places.{IsOther}
 use Rattle.world_model.specs.rules.Plan.{Plan}
-use Rattle.world_model.specs.events.Shown.{IsIdBefore, AreInOrder}
-
--- the lower end, where a caller says so or not
-abbrev pub low_of : Option ℕ → ℕ → ℕ
-low_of None last = last
-low_of (Some n) last = n
+use Rattle.world_model.specs.lines.Listed.{IsIdBefore, AreInOrder}
+use Rattle.world_model.specs.lines.Streams.{low_of}
 
 module _ {E : Type 0} where
   abbrev pub sent_after : ℕ → ℕ → Event E → ℕ

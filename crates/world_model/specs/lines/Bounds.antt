@@ -6,10 +6,14 @@ use Rattle.site_vector.specs.Ids.{same_part}
 use Rattle.site_vector.specs.Vector.{entry}
 use Rattle.world_model.specs.declared.step.Step.{Step}
 use Rattle.world_model.specs.declared.step.Step.TheVariants as step
-use Rattle.world_model.specs.events.Fresh.{IsLeast}
 use Rattle.world_model.specs.lines.Lines.{Call, TakeOf, HearOf, Line}
 use Rattle.world_model.specs.lines.Clock.{now}
 use Rattle.world_model.specs.lines.Pending.{pending, prepare_time}
+
+-- the least of what is known of the partitions 1 to n: at most each, and that of one of them
+pub record IsLeast (n : ℕ) (known : ℕ → ℕ) (m : ℕ) : Type 0 where
+  pub below : (q : ℕ) → 1 ≤ q → q ≤ n → m ≤ known q
+  pub reached : (q : ℕ) × (1 ≤ q) × (q ≤ n) × (m ≡ known q)
 
 -- the site of a message that a call was handed
 abbrev pub is_from : Call → ℕ → Bool

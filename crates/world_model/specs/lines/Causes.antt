@@ -7,8 +7,8 @@ use Rattle.crdt_core.specs.declared.object.ObjectId.{ObjectId}
 use Rattle.crdt_core.specs.Kinds.{reads_state}
 use Rattle.world_model.specs.declared.step.Step.{Step}
 use Rattle.world_model.specs.declared.step.Step.TheVariants as step
-use Rattle.world_model.specs.rules.Partition.{IsOther}
-use Rattle.world_model.specs.events.Shown.{IsBefore}
+use Rattle.world_model.specs.lines.Places.{IsOther}
+use Rattle.world_model.specs.lines.Listed.{IsBefore}
 use Rattle.world_model.specs.lines.Lines.{Call, Begin, ReadOf, UpdateOf, PrepareOf, DecideOf, FinishOf, AbortOf, TakeOf, Restart, Line}
 use Rattle.world_model.specs.lines.Clock.{now}
 use Rattle.world_model.specs.lines.History.{snapshot}

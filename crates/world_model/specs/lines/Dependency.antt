@@ -7,8 +7,12 @@ use Rattle.site_vector.specs.Ids.{same_tx}
 use Rattle.site_vector.specs.Vector.{le, join}
 use Rattle.world_model.specs.declared.step.Step.{Step}
 use Rattle.world_model.specs.declared.step.Step.TheVariants as step
-use Rattle.world_model.specs.rules.Dependency.{joined}
 use Rattle.world_model.specs.lines.Lines.{Call, Begin, Line, EachLine}
+
+-- the join of vectors with one entry for each site
+abbrev pub joined : ℕ → List (List ℕ) → List ℕ
+joined sites [] = replicate sites 0
+joined sites (v ∷ vs) = join (joined sites vs) v
 
 -- t is of the session
 abbrev pub begins_for : Step → List ℕ → TxId → Bool

@@ -4,10 +4,9 @@ use Rattle.site_vector.specs.declared.ids.PartId.{PartId}
 use Rattle.site_vector.specs.declared.ids.TxId.{TxId}
 use Rattle.world_model.specs.declared.step.Step.{Step}
 use Rattle.world_model.specs.declared.step.Step.TheVariants as step
-use Rattle.world_model.specs.rules.Partition.{PartState, Fate, ToldPending, ToldCommitted, ToldAborted, ToldDown, fate_of}
-use Rattle.world_model.specs.rules.Plan.{twin}
+use Rattle.world_model.specs.lines.Places.{twin}
 use Rattle.world_model.specs.lines.Lines.{Call, Line}
-use Rattle.world_model.specs.lines.History.{in_history, commit_time, commit_vector}
+use Rattle.world_model.specs.lines.History.{in_history, commit_time}
 use Rattle.world_model.specs.lines.Bounds.{bound}
 use Rattle.world_model.specs.lines.Updates.{takes_part, lead}
 use Rattle.world_model.specs.lines.Pending.{pending, is_down}
@@ -45,14 +44,3 @@ abbrev pub ShowsFate : ℕ → ℕ → List Line → List Line → PartId → Ca
 ShowsFate sites parts whole before p call (step.Aborted q t) = (pending before p t ≡ true) × (in_history whole t ≡ false) × MayAbort parts whole before p t
 ShowsFate sites parts whole before p call (step.Restarted q n bounds named listed) = IsResumed sites parts whole before p n bounds named listed
 ShowsFate sites parts whole before p call other = ⊤
-
--- what p tells of t, which it leads: decided with its commit vector, or pending there, or neither
-abbrev pub IsFate : List Line → PartId → TxId → Fate → Type 0
-IsFate ls p t (ToldCommitted c) = (in_history ls t ≡ true) × (c ≡ commit_vector ls t)
-IsFate ls p t ToldPending = (in_history ls t ≡ false) × (pending ls p t ≡ true)
-IsFate ls p t ToldAborted = (in_history ls t ≡ false) × (pending ls p t ≡ false)
-IsFate ls p t ToldDown = is_down ls p ≡ true
-
--- where these lines are shown, what each lead tells is the fate of its transaction
-abbrev pub TellFates : {E : Type 0} → ℕ → List Line → (PartId → PartState E) → Type 0
-TellFates parts ls state = (t : TxId) → IsFate ls (lead parts ls t) t (fate_of (state (lead parts ls t)) t)

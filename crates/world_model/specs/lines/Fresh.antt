@@ -5,10 +5,9 @@ use Rattle.site_vector.specs.declared.ids.TxId.{TxId}
 use Rattle.site_vector.specs.Vector.{entry}
 use Rattle.world_model.specs.declared.step.Step.{Step}
 use Rattle.world_model.specs.declared.step.Step.TheVariants as step
-use Rattle.world_model.specs.rules.Partition.{IsOther}
-use Rattle.world_model.specs.events.Fresh.{IsLeast}
+use Rattle.world_model.specs.lines.Places.{IsOther}
+use Rattle.world_model.specs.lines.Bounds.{IsLeast, bound, IsOwnBound, heard, heard_after, IsStableEntry}
 use Rattle.world_model.specs.lines.Lines.{Call, Begin, Line}
-use Rattle.world_model.specs.lines.Bounds.{bound, IsOwnBound, heard, heard_after, IsStableEntry}
 
 -- a snapshot has the stable entry of each other site, and for its own the greater of the drawn time and that of the dependency
 pub record IsSnapshot (sites parts : ℕ) (before : List Line) (p : PartId) (dependency : List ℕ) (t : TxId) (s : List ℕ) : Type 0 where

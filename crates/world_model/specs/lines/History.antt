@@ -5,7 +5,7 @@ use Rattle.site_vector.specs.Ids.{same_tx}
 use Rattle.site_vector.specs.Vector.{le, replaced}
 use Rattle.world_model.specs.declared.step.Step.{Step}
 use Rattle.world_model.specs.declared.step.Step.TheVariants as step
-use Rattle.world_model.specs.rules.Event.{is_named}
+use Rattle.world_model.specs.lines.Listed.{is_named}
 use Rattle.world_model.specs.lines.Lines.{Line}
 
 -- the line shows that t is decided

@@ -6,7 +6,7 @@ use Rattle.crdt_core.specs.declared.kind.Kind.{Kind}
 use Rattle.crdt_core.specs.declared.object.Field.{Field}
 use Rattle.crdt_core.specs.declared.value.Value.{Value}
 use Rattle.crdt_core.specs.Seen.{Update}
-use Rattle.world_model.specs.rules.Plan.{IsPlace}
+use Rattle.world_model.specs.lines.Places.{IsPlace}
 use Rattle.world_model.specs.lines.Lines.{Line, EachLine}
 use Rattle.world_model.specs.lines.Clock.{FollowsClock}
 use Rattle.world_model.specs.lines.Dependency.{HandsKnown, HoldsHanded, HandsOwn, KeepsPast}

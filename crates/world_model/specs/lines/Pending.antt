@@ -5,8 +5,7 @@ use Rattle.site_vector.specs.declared.ids.TxId.{TxId}
 use Rattle.site_vector.specs.Ids.{same_part, same_tx}
 use Rattle.world_model.specs.declared.step.Step.{Step}
 use Rattle.world_model.specs.declared.step.Step.TheVariants as step
-use Rattle.world_model.specs.rules.Partition.{names_pending}
-use Rattle.world_model.specs.events.Shown.{listed_time}
+use Rattle.world_model.specs.lines.Listed.{names_pending, listed_time}
 use Rattle.world_model.specs.lines.Lines.{Line}
 
 -- a prepare adds t, a decide, finish or abort removes it, a restart tells anew

@@ -7,11 +7,8 @@ use Rattle.site_vector.specs.Ids.{same_part, same_tx}
 use Rattle.site_vector.specs.Vector.{entry}
 use Rattle.world_model.specs.declared.step.Step.{Step}
 use Rattle.world_model.specs.declared.step.Step.TheVariants as step
-use Rattle.world_model.specs.rules.Event.{is_named}
-use Rattle.world_model.specs.rules.Partition.{IsOther, names_pending}
-use Rattle.world_model.specs.rules.Plan.{twin}
-use Rattle.world_model.specs.events.Shown.{IsBefore, AreInOrder, IsOwnBoundOf}
-use Rattle.world_model.specs.lines.Listed.{AreTimed}
+use Rattle.world_model.specs.lines.Listed.{is_named, names_pending, IsBefore, AreInOrder, IsOwnBoundOf, AreTimed}
+use Rattle.world_model.specs.lines.Places.{IsOther, twin}
 use Rattle.world_model.specs.lines.Lines.{Call, TakeOf, PrepareOf, DecideOf, FinishOf, AbortOf, Restart, Line}
 use Rattle.world_model.specs.lines.Clock.{now}
 use Rattle.world_model.specs.lines.History.{in_history, history, commit_time}

@@ -1,16 +1,19 @@
 -- Messages between sites, over the lines of a run.
-use Rattle.std.specs.Prelude.{◌≡◌, ◌⊎◌, ℕ, ◌+◌, Bool, true, false, ◌<◌, ◌≤◌, leb, ltb, ◌&&◌, ◌==◌, if◌then◌else◌, List, [], ◌∷◌, length, filter, Option, ⊤}
+use Rattle.std.specs.Prelude.{◌≡◌, ◌⊎◌, ℕ, ◌+◌, Bool, true, false, ◌<◌, ◌≤◌, leb, ltb, ◌&&◌, ◌==◌, if◌then◌else◌, List, [], ◌∷◌, length, filter, Option, ⊤, None, Some}
 use Rattle.site_vector.specs.declared.ids.PartId.{PartId}
 use Rattle.site_vector.specs.Ids.{same_part}
 use Rattle.world_model.specs.declared.step.Step.{Step}
 use Rattle.world_model.specs.declared.step.Step.TheVariants as step
-use Rattle.world_model.specs.rules.Partition.{IsOther}
-use Rattle.world_model.specs.rules.Plan.{twin}
-use Rattle.world_model.specs.events.Streams.{low_of}
+use Rattle.world_model.specs.lines.Places.{IsOther, twin}
 use Rattle.world_model.specs.lines.Lines.{Call, SendTo, TakeOf, HearOf, Line}
 use Rattle.world_model.specs.lines.History.{history, commit_time}
 use Rattle.world_model.specs.lines.Updates.{takes_part}
 use Rattle.world_model.specs.lines.Bounds.{bound, IsOwnBound}
+
+-- the lower end, where a caller says so or not
+abbrev pub low_of : Option ℕ → ℕ → ℕ
+low_of None last = last
+low_of (Some n) last = n
 
 -- how many decided transactions of the whole run updated something at p and have a commit time in this stretch
 abbrev pub stream_count : List Line → PartId → ℕ → ℕ → ℕ

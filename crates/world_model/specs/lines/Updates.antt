@@ -10,8 +10,7 @@ use Rattle.crdt_core.specs.Objects.{same_object}
 use Rattle.crdt_core.specs.Placing.{place_of}
 use Rattle.world_model.specs.declared.step.Step.{Step}
 use Rattle.world_model.specs.declared.step.Step.TheVariants as step
-use Rattle.world_model.specs.commands.Cluster.{partitions}
-use Rattle.world_model.specs.rules.Plan.{first_of, home}
+use Rattle.world_model.specs.lines.Places.{partitions, first_of, home}
 use Rattle.world_model.specs.lines.Lines.{Call, ReadOf, UpdateOf, Line}
 use Rattle.world_model.specs.lines.Clock.{now}
 

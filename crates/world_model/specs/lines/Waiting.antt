@@ -5,10 +5,8 @@ use Rattle.site_vector.specs.declared.ids.TxId.{TxId}
 use Rattle.site_vector.specs.Ids.{same_part, same_tx}
 use Rattle.world_model.specs.declared.step.Step.{Step}
 use Rattle.world_model.specs.declared.step.Step.TheVariants as step
-use Rattle.world_model.specs.rules.Partition.{names_pending}
-use Rattle.world_model.specs.events.Shown.{IsBefore, AreInOrder}
+use Rattle.world_model.specs.lines.Listed.{names_pending, IsBefore, AreInOrder, AreTimed}
 use Rattle.world_model.specs.lines.Lines.{Line}
-use Rattle.world_model.specs.lines.Listed.{AreTimed}
 use Rattle.world_model.specs.lines.Pending.{pending, prepare_time}
 
 abbrev pub without : TxId → List (TxId × ℕ) → List (TxId × ℕ)

@@ -1,5 +1,5 @@
 -- What happens at a partition, and what a list of such events shows, the newest first.
-use Rattle.std.specs.Prelude.{◌≡◌, ◌⊎◌, ℕ, ◌+◌, max, Bool, true, false, ◌&&◌, ◌||◌, if◌then◌else◌, List, [], ◌∷◌, Option, None, Some, ⊤}
+use Rattle.std.specs.Prelude.{◌≡◌, ◌⊎◌, ℕ, ◌+◌, max, Bool, true, false, ◌&&◌, ◌||◌, if◌then◌else◌, List, [], ◌∷◌, Option, ⊤}
 use Rattle.site_vector.specs.declared.ids.PartId.{PartId}
 use Rattle.site_vector.specs.declared.ids.TxId.{TxId}
 use Rattle.site_vector.specs.Ids.{same_part, same_tx}
@@ -9,6 +9,7 @@ use Rattle.crdt_core.specs.declared.value.Value.{Value}
 use Rattle.crdt_core.specs.declared.record.Upd.{Upd}
 use Rattle.crdt_core.specs.declared.record.Part.{Part}
 use Rattle.crdt_core.specs.declared.record.Message.{Message}
+use Rattle.world_model.specs.lines.Listed.{is_named}
 
 -- a call that is refused
 pub data Ask (E : Type 0) : Type 0 where
@@ -88,10 +89,6 @@ pub data Event (E : Type 0) : Type 0 where
 pub record Entry (E : Type 0) : Type 0 where
   pub at : PartId
   pub event : Event E
-
-abbrev pub is_named : Option TxId → TxId → Bool
-is_named None t = false
-is_named (Some u) t = same_tx u t
 
 module _ {E : Type 0} where
   -- the call that an event answered; of what is no call it is one that is never refused but where the partition is down
@@ -183,11 +180,6 @@ module _ {E : Type 0} where
   time_shown (Prepared u s l w n) = n
   time_shown other = 0
 
-  -- the time of p's vote for t
-  abbrev pub vote : List (Entry E) → TxId → PartId → ℕ
-  vote [] t p = 0
-  vote (e ∷ run) t p = if same_part e.at p && is_prepare e.event t then time_shown e.event else vote run t p
-
   -- the greatest prepare time of t
   abbrev pub time_of : List (Entry E) → TxId → ℕ
   time_of [] t = 0
@@ -217,15 +209,6 @@ module _ {E : Type 0} where
   abbrev pub missed : List (Entry E) → PartId → ℕ
   missed [] p = 0
   missed (e ∷ run) p = if same_part e.at p then missed_after (missed run p) e.event else missed run p
-
-  -- the greatest `hi` of a message that p sent
-  abbrev pub sent_after : ℕ → Event E → ℕ
-  sent_after old (Sent asked m) = max m.hi old
-  sent_after old other = old
-
-  abbrev pub sent : List (Entry E) → PartId → ℕ
-  sent [] p = 0
-  sent (e ∷ run) p = if same_part e.at p then sent_after (sent run p) e.event else sent run p
 
   -- this event stands in the run
   abbrev pub WasShown : List (Entry E) → PartId → Event E → Type 0

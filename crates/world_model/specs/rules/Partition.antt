@@ -1,10 +1,8 @@
 -- The state of a partition, and what each of its calls may answer and leave.
 use Rattle.std.specs.Prelude.{◌≡◌, ◌≢◌, ◌⊎◌, ℕ, ◌+◌, ◌-◌, ◌<◌, ◌≤◌, max, leb, ltb, Bool, true, false, ◌&&◌, ◌||◌, ◌==◌, if◌then◌else◌, List, [], ◌∷◌, ◌++◌, length, replicate, Option, None, Some, slice_set, ⊤}
-use Rattle.std.specs.List.{list_any}
 use Rattle.std.specs.declared.cmp.Ordering.TheVariants.{Less}
 use Rattle.site_vector.specs.declared.ids.PartId.{PartId}
 use Rattle.site_vector.specs.declared.ids.TxId.{TxId}
-use Rattle.site_vector.specs.Ids.{same_tx}
 use Rattle.site_vector.specs.Known.{vector_of, lowest}
 use Rattle.site_vector.specs.Vector.{entry, join, replaced}
 use Rattle.crdt_core.specs.declared.object.ObjectId.{ObjectId}
@@ -22,6 +20,8 @@ use Rattle.crdt_core.specs.Log.{end_of_time, ceiling, lease_for, prepare_time, p
 use Rattle.crdt_core.specs.Parts.{touches, lists, AreParts, above}
 use Rattle.world_model.specs.rules.Event.{Ask, AskBegin, AskRead, AskUpdate, AskPrepare, AskDecide, AskFinish, AskAbort, AskTake, AskTick, AskRestart, is_restart, Refusal, IsDown, ClockBehind, TxPending, StableBehind, ClockAtEnd, IsGone, HasGap, IsRepeat, IsBadOp, HasNoRoom, IsDamaged, Event, Refused, Ticked, Began, Updated, Read, Prepared, Decided, Finished, Aborted, Sent, Took, Reported, Heard, Crashed, RestartCut, Restarted, Opened, Cut}
 use Rattle.crdt_core.specs.Fitting.{unfit}
+use Rattle.world_model.specs.lines.Places.{IsOther}
+use Rattle.world_model.specs.lines.Listed.{names_pending}
 
 -- all else is told by the log. While it is up, `torn` is empty; while it is down, a restart finds what `MayFind` says of both
 pub record PartState (E : Type 0) : Type 0 where
@@ -37,21 +37,12 @@ pub record PartState (E : Type 0) : Type 0 where
   -- the last `hi` sent to each site
   pub sent : List ℕ
 
--- j is a site other than d
-pub record IsOther (sites d j : ℕ) : Type 0 where
-  pub least : 1 ≤ j
-  pub most : j ≤ sites
-  pub apart : j ≢ d
-
 -- what a partition answers when it is asked for the fate of a transaction
 pub data Fate : Type 0 where
   ToldPending : Fate
   ToldCommitted : (c : List ℕ) → Fate
   ToldAborted : Fate
   ToldDown : Fate
-
-abbrev pub names_pending : List (TxId × ℕ) → TxId → Bool
-names_pending xs t = list_any (λ x. same_tx x.0 t) xs
 
 module _ {E : Type 0} where
   -- a restart of the partition may find this log

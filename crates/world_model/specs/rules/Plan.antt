@@ -12,7 +12,8 @@ use Rattle.crdt_core.specs.Placing.{place_of}
 use Rattle.world_model.specs.rules.Event.{Ask, AskBegin, AskRead, AskUpdate, AskPrepare, AskDecide, AskFinish, AskTake, Refused, Event, Began, Updated, Read, Prepared, Decided, Finished, Aborted, Sent, Took, Reported, Heard, Entry, attempt, tried, voted, decide_tried, gave_up, is_decided, time_of, WasShown, sent_count, report_count, WasNumbered}
 use Rattle.world_model.specs.rules.Dependency.{IsKnownJoin}
 use Rattle.crdt_core.specs.KindsOf.{Kinds, fits_kind}
-use Rattle.world_model.specs.rules.Partition.{PartState, IsOther, ToldAborted, fate_of, new_part, PartStep}
+use Rattle.world_model.specs.rules.Partition.{PartState, ToldAborted, fate_of, PartStep}
+use Rattle.world_model.specs.lines.Places.{IsOther, IsPlace, twin, home}
 
 abbrev pub is_some_update : {E : Type 0} → List (Upd E) → Bool
 is_some_update [] = false
@@ -32,24 +33,6 @@ pub record Plan (E : Type 0) : Type 0 where
   pub least : (t : TxId) (p : PartId) → is_some_update (updates t p) ≡ true → 1 ≤ t.site
   pub most : (t : TxId) (p : PartId) → is_some_update (updates t p) ≡ true → t.site ≤ sites
   pub entered : (t : TxId) (p : PartId) → is_some_update (updates t p) ≡ true → t.site ≤ length (snapshot t)
-
-pub record IsPlace (sites parts : ℕ) (p : PartId) : Type 0 where
-  pub least_site : 1 ≤ p.site
-  pub most_site : p.site ≤ sites
-  pub least_part : 1 ≤ p.part
-  pub most_part : p.part ≤ parts
-
--- the partition of a site with the number of p
-abbrev pub twin : ℕ → PartId → PartId
-twin site p = record { site = site; part = p.part }
-
-abbrev pub first_of : PartId → List PartId → PartId
-first_of p [] = p
-first_of p (q ∷ qs) = q
-
--- where a transaction began
-abbrev pub home : TxId → PartId
-home t = record { site = t.site; part = t.part }
 
 module _ {E : Type 0} where
   abbrev pub takes_part : Plan E → TxId → PartId → Bool
@@ -167,11 +150,6 @@ module _ {E : Type 0} where
   IsAllowed plan run parts at (Refused asked why) = MayAsk plan run at asked
   IsAllowed plan run parts at other = ⊤
 
-  -- what the plan says of a transaction that began, and of its updates
-  abbrev pub IsPlanned : Plan E → PartId → Event E → Type 0
-  IsPlanned plan at (Began who dep t s) = s ≡ plan.snapshot t
-  IsPlanned plan at other = ⊤
-
   -- a session hands a partition no operation that isn't one of the kind
   abbrev pub IsFit : {S : Type 0} → Kinds S E → Event E → Type 0
   IsFit kinds (Refused (AskUpdate t s o own op) why) = fits_kind kinds.too_deep o op ≡ true
@@ -184,8 +162,3 @@ module _ {E : Type 0} where
     pub fit : IsFit kinds e.event
     pub step : PartStep kinds plan.sites plan.parts e.at (before e.at) e.event (after e.at)
     pub others : (q : PartId) → q ≢ e.at → after q ≡ before q
-
-  -- a run under a plan, and where it leaves each partition
-  abbrev pub IsRun : {S : Type 0} → Kinds S E → Plan E → List (Entry E) → (PartId → PartState E) → Type 0
-  IsRun kinds plan [] parts = (p : PartId) → parts p ≡ new_part plan.sites plan.parts
-  IsRun kinds plan (e ∷ run) parts = (before : PartId → PartState E) × IsRun kinds plan run before × WorldStep kinds plan run before e parts × IsPlanned plan e.at e.event

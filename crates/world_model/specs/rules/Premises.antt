@@ -8,9 +8,11 @@ use Rattle.crdt_core.specs.declared.record.Message.{Message}
 use Rattle.crdt_core.specs.KindsOf.{Kinds}
 use Rattle.crdt_core.specs.Parts.{lists, above}
 use Rattle.crdt_core.specs.Log.{is_named_in}
-use Rattle.world_model.specs.rules.Event.{AskRead, AskUpdate, AskPrepare, Event, Began, Updated, Read, Prepared, Decided, Finished, Aborted, Sent, Took, Restarted, Refused, Cut, Entry, is_named, tried}
-use Rattle.world_model.specs.rules.Partition.{PartState, names_pending}
-use Rattle.world_model.specs.rules.Plan.{IsPlace, home, MayTake}
+use Rattle.world_model.specs.rules.Event.{AskRead, AskUpdate, AskPrepare, Event, Began, Updated, Read, Prepared, Decided, Finished, Aborted, Sent, Took, Restarted, Refused, Cut, Entry, tried}
+use Rattle.world_model.specs.lines.Listed.{is_named, names_pending}
+use Rattle.world_model.specs.rules.Partition.{PartState}
+use Rattle.world_model.specs.lines.Places.{IsPlace, home}
+use Rattle.world_model.specs.rules.Plan.{MayTake}
 use Rattle.world_model.specs.rules.World.{plan_of, IsWorldRun}
 
 module _ {E : Type 0} where

@@ -7,10 +7,11 @@ use Rattle.crdt_core.specs.Log.{pending, prepare_time, prepared_lead, committed}
 use Rattle.world_model.specs.rules.Asking.{MayCall}
 use Rattle.world_model.specs.rules.Event.{AskFinish, Aborted, Entry}
 use Rattle.world_model.specs.lines.Fate.{is_committed_at}
-use Rattle.world_model.specs.lines.Lines.{lines_of}
+use Rattle.world_model.specs.rules.Lines.{lines_of}
 use Rattle.world_model.specs.rules.Partition.{PartState, ToldCommitted, ToldAborted, fate_of}
 use Rattle.world_model.specs.lines.Pending as lines
-use Rattle.world_model.specs.rules.Plan.{IsPlace, IsAllowed}
+use Rattle.world_model.specs.lines.Places.{IsPlace}
+use Rattle.world_model.specs.rules.Plan.{IsAllowed}
 use Rattle.world_model.specs.lines.Updates.{lead}
 use Rattle.world_model.specs.lines.Waiting.{waiting, ArePending}
 use Rattle.world_model.specs.rules.World.{plan_of, IsWorldRun}

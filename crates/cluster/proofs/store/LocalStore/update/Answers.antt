@@ -5,7 +5,7 @@ use Rattle.world_model.specs.declared.step.Step.TheVariants as step
 use Rattle.world_model.specs.rules.Event as event
 use Rattle.world_model.specs.rules.Event.{Event, Entry}
 use Rattle.world_model.specs.rules.Asking.{is_own_word}
-use Rattle.world_model.specs.lines.Lines.{fault_shown, step_shown}
+use Rattle.world_model.specs.rules.Lines.{fault_shown, step_shown}
 use Rattle.txn_session.specs.Calls.{entries}
 use Rattle.world_model.specs.rules.Plan.{update_count}
 use Rattle.site_partitions.specs.Reaches.{types_of}

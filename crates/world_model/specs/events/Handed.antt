@@ -1,13 +1,14 @@
 -- Where steps are made, and what they are handed.
-use Rattle.std.specs.Prelude.{◌≡◌, ℕ, ◌+◌, true, false, List, [], ◌∷◌, ⊤}
+use Rattle.std.specs.Prelude.{◌≡◌, ℕ, true, List, [], ◌∷◌, ⊤}
 use Rattle.site_vector.specs.declared.ids.PartId.{PartId}
 use Rattle.site_vector.specs.declared.ids.TxId.{TxId}
 use Rattle.crdt_core.specs.declared.object.ObjectId.{ObjectId}
-use Rattle.crdt_core.specs.declared.record.Upd.{Upd}
 use Rattle.crdt_core.specs.Placing.{place_of}
-use Rattle.world_model.specs.rules.Event.{AskRead, AskUpdate, AskPrepare, AskDecide, AskTake, Event, Began, Updated, Read, Prepared, Took, Heard, Refused, Cut, Entry, tried}
-use Rattle.world_model.specs.rules.Dependency.{is_of}
-use Rattle.world_model.specs.rules.Plan.{Plan, home, takes_part, update_count, MayTake, MayHear}
+use Rattle.world_model.specs.rules.Event.{AskRead, AskUpdate, AskPrepare, AskDecide, AskTake, Event, Began, Updated, Read, Prepared, Took, Heard, Refused, Cut, Entry}
+use Rattle.world_model.specs.events.Dependency.{is_of}
+use Rattle.world_model.specs.rules.Plan.{Plan, takes_part, MayTake, MayHear}
+use Rattle.world_model.specs.lines.Places.{home}
+use Rattle.world_model.specs.rules.World.{IsNew}
 
 module _ {E : Type 0} where
   -- t reads and updates the object where it stands, at its own site
@@ -37,15 +38,6 @@ module _ {E : Type 0} where
   HandedAt plan run p (Refused (AskDecide t c) why) = p.site ≡ t.site
   HandedAt plan run p (Heard number q b stable) = MayHear plan run p number q b
   HandedAt plan run p other = ⊤
-
-  -- an update comes before any prepare, and bears the next number
-  pub record IsNewUpdate (run : List (Entry E)) (t : TxId) (u : Upd E) : Type 0 where
-    pub early : (p : PartId) → tried run t p ≡ false
-    pub number : u.index ≡ update_count run t + 1
-
-  abbrev pub IsNew : List (Entry E) → Event E → Type 0
-  IsNew run (Updated t s o own op read u stamp) = IsNewUpdate run t u
-  IsNew run other = ⊤
 
   abbrev pub AreNew : List (Entry E) → Type 0
   AreNew [] = ⊤
