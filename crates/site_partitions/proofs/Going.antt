@@ -9,9 +9,9 @@ use Rattle.site_vector.specs.Order.{same_part_is, same_part_refl}
 use Rattle.disk_core.specs.States.{GoesOn as DiskGoesOn, Rose}
 use Rattle.world_model.specs.rules.Asking.{MayCall, asked_by, is_own_word}
 use Rattle.world_model.specs.rules.Event.{Ask, Event, Entry, Refusal, Refused, IsDown, HasNoRoom, Cut, attempt}
-use Rattle.world_model.specs.rules.World.{IsNew, plan_of}
+use Rattle.world_model.specs.rules.World.{plan_of}
 use Rattle.world_model.specs.rules.Partition.{PartState, PartStep}
-use Rattle.world_model.specs.rules.Plan.{Plan, IsAllowed, IsFit, WorldStep}
+use Rattle.world_model.specs.rules.Plan.{Plan, IsAllowed, IsFit, WorldStep, IsNew}
 use Rattle.world_model.specs.lines.Places.{IsPlace}
 use Rattle.world_model.proofs.Asks.{asks}
 use Rattle.partition_core.specs.declared.durable.DurableError.{DurableError}

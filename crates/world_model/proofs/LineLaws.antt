@@ -24,8 +24,8 @@ use Rattle.crdt_core.specs.Parts.{lists}
 use Rattle.world_model.specs.rules.Event.{Ask, AskBegin, AskRead, AskUpdate, AskPrepare, AskTick, AskDecide, AskFinish, AskAbort, AskTake, AskRestart, is_restart, IsDown, ClockBehind, TxPending, StableBehind, ClockAtEnd, IsGone, HasGap, IsRepeat, HasNoRoom, IsDamaged, Event, Ticked, Began, Updated, Read, Prepared, Decided, Finished, Aborted, Sent, Took, Reported, Heard, Crashed, RestartCut, Restarted, Refused, Opened, Cut, Entry, EventsAre, WasShown, is_abort, was_aborted, voted, is_decided, time_of, shown, sent_count}
 use Rattle.crdt_core.specs.KindsOf.{Kinds}
 use Rattle.world_model.specs.lines.Places.{IsOther, IsPlace, first_of, home, twin, partitions}
-use Rattle.world_model.specs.rules.Plan.{Plan, is_some_update, takes_part, commit_vector, MayTake}
-use Rattle.world_model.specs.rules.World.{plan_of, IsNew}
+use Rattle.world_model.specs.rules.Plan.{Plan, is_some_update, takes_part, commit_vector, MayTake, IsNew}
+use Rattle.world_model.specs.rules.World.{plan_of}
 use Rattle.world_model.specs.events.Reads.{sees_tx, IsRightFold, IsExact, IsRight, Asked, asked_at}
 use Rattle.world_model.specs.events.Clock.{ClockIs, ClocksAre}
 use Rattle.world_model.specs.events.Restarts.{KeepsIs, KeepsDecided, SettlesAt, SettleDoubts, is_call, brings, brought_after, brought, decided_after, last_shown, IsTakeable, cut_call, IsAsBefore, IsAsDone, ResumesAt, Resume}

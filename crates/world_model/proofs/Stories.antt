@@ -22,9 +22,9 @@ use Rattle.world_model.specs.rules.Event.{Event, Updated, Read, Entry, shown, Ev
 use Rattle.crdt_core.specs.KindsOf.{Kinds}
 use Rattle.world_model.specs.rules.Partition.{PartState, PartStep}
 use Rattle.crdt_core.specs.Folds.{effects_from, effects_of, state_read}
-use Rattle.world_model.specs.rules.Plan.{Plan, is_some_update, takes_part, IsAllowed, change_by, updates_at, update_count}
+use Rattle.world_model.specs.rules.Plan.{Plan, is_some_update, takes_part, IsAllowed, change_by, updates_at, update_count, IsNew}
 use Rattle.world_model.specs.events.Reads.{IsRightFold, IsRight, Asked, asked_by, asked_at, read_by, HasMeaning, HaveMeaning}
-use Rattle.world_model.specs.rules.World.{IsNew, plan_of, own_parts, is_own, changes_of, IsWorldRun}
+use Rattle.world_model.specs.rules.World.{plan_of, own_parts, is_own, changes_of, IsWorldRun}
 use Rattle.world_model.proofs.Names.{off}
 use Rattle.world_model.proofs.Leases.{Leases}
 use Rattle.world_model.proofs.Histories.{Facts, IsMade, AreMade, has_index}

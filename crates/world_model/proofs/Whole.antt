@@ -13,9 +13,9 @@ use Rattle.crdt_core.specs.Log.{end_of_time, ceiling, prepared, pending, committ
 use Rattle.world_model.specs.rules.Event.{AskPrepare, AskFinish, AskTake, Refused, Event, Began, Updated, Read, Prepared, Decided, Finished, Aborted, Took, Heard, Cut, Entry, attempt, is_prepare, tried, voted, shown, shown_after, time_of, is_decided, WasShown}
 use Rattle.crdt_core.specs.KindsOf.{Kinds}
 use Rattle.world_model.specs.rules.Partition.{PartState, PartStep, MayDo}
-use Rattle.world_model.specs.rules.Plan.{Plan, is_some_update, takes_part, commit_vector, updates_at, change_by, IsAllowed, TellsAborted}
+use Rattle.world_model.specs.rules.Plan.{Plan, is_some_update, takes_part, commit_vector, updates_at, change_by, IsAllowed, TellsAborted, IsNew}
 use Rattle.world_model.proofs.Runs.{IsPlanned, IsRun}
-use Rattle.world_model.specs.rules.World.{IsNew, is_begin, begin_vector, begun, snapshot_of, is_own, changes_of, lead_of, own_parts, plan_of, IsWorldRun}
+use Rattle.world_model.specs.rules.World.{is_begin, begin_vector, begun, snapshot_of, is_own, changes_of, lead_of, own_parts, plan_of, IsWorldRun}
 use Rattle.world_model.proofs.Names.{clash, off}
 use Rattle.world_model.proofs.Moves.{image_log}
 use Rattle.world_model.proofs.Fate.{pending_parts, voted_tried}

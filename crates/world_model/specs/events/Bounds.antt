@@ -1,11 +1,11 @@
 -- The bounds of a partition, by what a run shows.
-use Rattle.std.specs.Prelude.{◌≡◌, ◌⊎◌, ℕ, ◌+◌, ◌<◌, ◌≤◌, true, ◌==◌, if◌then◌else◌, List, [], ◌∷◌}
+use Rattle.std.specs.Prelude.{ℕ, ◌==◌, if◌then◌else◌, List, [], ◌∷◌}
 use Rattle.site_vector.specs.declared.ids.PartId.{PartId}
-use Rattle.site_vector.specs.declared.ids.TxId.{TxId}
 use Rattle.site_vector.specs.Ids.{same_part}
 use Rattle.site_vector.specs.Vector.{entry}
 use Rattle.world_model.specs.rules.Event.{Event, Took, Restarted, Entry, shown}
 use Rattle.world_model.specs.events.Pending.{pending_shown, pending_time}
+use Rattle.world_model.specs.lines.Listed.{IsBoundBy}
 
 module _ {E : Type 0} where
   -- the bound for site j: the end of the last message taken from there, or what a later restart showed
@@ -19,7 +19,5 @@ module _ {E : Type 0} where
   bound_shown (e ∷ run) p j = if same_part e.at p then bound_after j (bound_shown run p j) e.event else bound_shown run p j
 
   -- the own bound, by what was shown
-  pub record IsOwnBoundAt (run : List (Entry E)) (p : PartId) (b : ℕ) : Type 0 where
-    pub most : b ≤ shown run p
-    pub below : (u : TxId) → pending_shown run p u ≡ true → b < pending_time run p u
-    pub reached : (b ≡ shown run p) ⊎ ((u : TxId) × (pending_shown run p u ≡ true) × (pending_time run p u ≡ b + 1))
+  abbrev pub IsOwnBoundAt : List (Entry E) → PartId → ℕ → Type 0
+  IsOwnBoundAt run p b = IsBoundBy (shown run p) (pending_shown run p) (pending_time run p) b

@@ -1,5 +1,5 @@
 -- The causes of refusals, and of answers that aren't, by what a run shows.
-use Rattle.std.specs.Prelude.{◌≡◌, ◌≢◌, ℕ, ◌<◌, ◌≤◌, true, false, ◌||◌, List, [], ◌∷◌, length, ⊤}
+use Rattle.std.specs.Prelude.{◌≡◌, ℕ, ◌<◌, ◌≤◌, true, false, ◌||◌, List, [], ◌∷◌, length, ⊤}
 use Rattle.site_vector.specs.declared.ids.PartId.{PartId}
 use Rattle.site_vector.specs.declared.ids.TxId.{TxId}
 use Rattle.site_vector.specs.Vector.{entry}
@@ -14,7 +14,7 @@ use Rattle.world_model.specs.rules.Plan.{Plan}
 use Rattle.world_model.specs.events.Bounds.{bound_shown, IsOwnBoundAt}
 use Rattle.world_model.specs.events.Fate.{committed_shown, MayAbortAt}
 use Rattle.world_model.specs.events.Fresh.{known_shown}
-use Rattle.world_model.specs.lines.Listed.{IsBefore, AreInOrder, IsOwnBoundOf}
+use Rattle.world_model.specs.lines.Listed.{IsBefore, AreInOrder, IsReadyBy, IsFirstBy, IsOwnBoundOf}
 
 module _ {E : Type 0} where
   -- a wait for the clock shows the last value shown, which the transaction's snapshot exceeds; a finish is never refused but where the partition is down
@@ -45,19 +45,13 @@ module _ {E : Type 0} where
   AnswerAsUp [] = ⊤
   AnswerAsUp (e ∷ run) = AnswersAsUp run e.at e.event × AnswerAsUp run
 
-  -- of all that are pending and change the object it is the first, and it may belong to the snapshot of t
-  pub record IsFirstPending (plan : Plan E) (run : List (Entry E)) (p : PartId) (s : List ℕ) (o : ObjectId) (u : TxId) (n : ℕ) : Type 0 where
-    pub clock : entry s p.site ≤ shown run p
-    pub waiting : pending_shown run p u ≡ true
-    pub changes : touches (plan.updates u p) o ≡ true
-    pub time : n ≡ pending_time run p u
-    pub early : n ≤ entry s p.site
-    pub first : (w : TxId) → w ≢ u → pending_shown run p w ≡ true → touches (plan.updates w p) o ≡ true → IsBefore (u, n) (w, pending_time run p w)
+  -- the first of all that are pending and change the object, for a read under s
+  abbrev pub IsFirstPending : Plan E → List (Entry E) → PartId → List ℕ → ObjectId → TxId → ℕ → Type 0
+  IsFirstPending plan run p s o u n = IsFirstBy (shown run p) (pending_shown run p) (pending_time run p) (entry s p.site) (λ w. touches (plan.updates w p) o) u n
 
   -- no wait was due for a read of the object under s
-  pub record IsReadyAt (plan : Plan E) (run : List (Entry E)) (p : PartId) (s : List ℕ) (o : ObjectId) : Type 0 where
-    pub clock : entry s p.site ≤ shown run p
-    pub free : (u : TxId) → pending_shown run p u ≡ true → touches (plan.updates u p) o ≡ true → entry s p.site < pending_time run p u
+  abbrev pub IsReadyAt : Plan E → List (Entry E) → PartId → List ℕ → ObjectId → Type 0
+  IsReadyAt plan run p s o = IsReadyBy (shown run p) (pending_shown run p) (pending_time run p) (entry s p.site) (λ u. touches (plan.updates u p) o)
 
   -- what an event shows of bounds and of what is pending
   abbrev pub ShowsAt : Plan E → List (Entry E) → PartId → Event E → Type 0

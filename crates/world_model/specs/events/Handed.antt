@@ -6,9 +6,8 @@ use Rattle.crdt_core.specs.declared.object.ObjectId.{ObjectId}
 use Rattle.crdt_core.specs.Placing.{place_of}
 use Rattle.world_model.specs.rules.Event.{AskRead, AskUpdate, AskPrepare, AskDecide, AskTake, Event, Began, Updated, Read, Prepared, Took, Heard, Refused, Cut, Entry}
 use Rattle.world_model.specs.events.Dependency.{is_of}
-use Rattle.world_model.specs.rules.Plan.{Plan, takes_part, MayTake, MayHear}
+use Rattle.world_model.specs.rules.Plan.{Plan, takes_part, MayTake, MayHear, IsNew}
 use Rattle.world_model.specs.lines.Places.{home}
-use Rattle.world_model.specs.rules.World.{IsNew}
 
 module _ {E : Type 0} where
   -- t reads and updates the object where it stands, at its own site

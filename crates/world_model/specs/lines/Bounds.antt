@@ -1,13 +1,13 @@
 -- The bounds of a partition, over the lines of a run.
-use Rattle.std.specs.Prelude.{◌≡◌, ◌⊎◌, ℕ, ◌+◌, ◌<◌, ◌≤◌, max, ◌==◌, Bool, true, false, if◌then◌else◌, List, [], ◌∷◌}
+use Rattle.std.specs.Prelude.{◌≡◌, ℕ, ◌≤◌, max, ◌==◌, Bool, false, if◌then◌else◌, List, [], ◌∷◌}
 use Rattle.site_vector.specs.declared.ids.PartId.{PartId}
-use Rattle.site_vector.specs.declared.ids.TxId.{TxId}
 use Rattle.site_vector.specs.Ids.{same_part}
 use Rattle.site_vector.specs.Vector.{entry}
 use Rattle.world_model.specs.declared.step.Step.{Step}
 use Rattle.world_model.specs.declared.step.Step.TheVariants as step
 use Rattle.world_model.specs.lines.Lines.{Call, TakeOf, HearOf, Line}
 use Rattle.world_model.specs.lines.Clock.{now}
+use Rattle.world_model.specs.lines.Listed.{IsBoundBy}
 use Rattle.world_model.specs.lines.Pending.{pending, prepare_time}
 
 -- the least of what is known of the partitions 1 to n: at most each, and that of one of them
@@ -30,11 +30,9 @@ abbrev pub bound : List Line → PartId → ℕ → ℕ
 bound [] p j = 0
 bound (l ∷ ls) p j = if same_part l.at p then bound_after j (bound ls p j) l.call l.step else bound ls p j
 
--- the own bound: the lesser of the time and of one below the least pending prepare time
-pub record IsOwnBound (ls : List Line) (p : PartId) (b : ℕ) : Type 0 where
-  pub most : b ≤ now ls p
-  pub below : (u : TxId) → pending ls p u ≡ true → b < prepare_time ls p u
-  pub reached : (b ≡ now ls p) ⊎ ((u : TxId) × (pending ls p u ≡ true) × (prepare_time ls p u ≡ b + 1))
+-- the own bound
+abbrev pub IsOwnBound : List Line → PartId → ℕ → Type 0
+IsOwnBound ls p b = IsBoundBy (now ls p) (pending ls p) (prepare_time ls p) b
 
 -- the entry for site j in a report of partition q that a call was handed
 abbrev pub told_by : Call → ℕ → ℕ → ℕ

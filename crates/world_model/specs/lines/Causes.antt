@@ -1,5 +1,5 @@
 -- The causes of refusals, over the lines of a run: each stands exactly where its cause holds.
-use Rattle.std.specs.Prelude.{◌≡◌, ◌≢◌, ℕ, ◌^◌, ◌<◌, ◌≤◌, true, false, List, ⊤}
+use Rattle.std.specs.Prelude.{◌≡◌, ℕ, ◌^◌, ◌<◌, ◌≤◌, true, false, List, ⊤}
 use Rattle.site_vector.specs.declared.ids.PartId.{PartId}
 use Rattle.site_vector.specs.declared.ids.TxId.{TxId}
 use Rattle.site_vector.specs.Vector.{entry}
@@ -8,7 +8,7 @@ use Rattle.crdt_core.specs.Kinds.{reads_state}
 use Rattle.world_model.specs.declared.step.Step.{Step}
 use Rattle.world_model.specs.declared.step.Step.TheVariants as step
 use Rattle.world_model.specs.lines.Places.{IsOther}
-use Rattle.world_model.specs.lines.Listed.{IsBefore}
+use Rattle.world_model.specs.lines.Listed.{IsReadyBy, IsFirstBy}
 use Rattle.world_model.specs.lines.Lines.{Call, Begin, ReadOf, UpdateOf, PrepareOf, DecideOf, FinishOf, AbortOf, TakeOf, Restart, Line}
 use Rattle.world_model.specs.lines.Clock.{now}
 use Rattle.world_model.specs.lines.History.{snapshot}
@@ -18,22 +18,16 @@ use Rattle.world_model.specs.lines.Fate.{is_known_at}
 use Rattle.world_model.specs.lines.Bounds.{bound, known, IsStableEntry}
 
 -- no wait is due for what reads the object
-pub record IsReady (whole before : List Line) (p : PartId) (t : TxId) (o : ObjectId) : Type 0 where
-  pub clock : entry (snapshot whole t) p.site ≤ now before p
-  pub free : (u : TxId) → pending before p u ≡ true → touches whole u p o ≡ true → entry (snapshot whole t) p.site < prepare_time before p u
+abbrev pub IsReady : List Line → List Line → PartId → TxId → ObjectId → Type 0
+IsReady whole before p t o = IsReadyBy (now before p) (pending before p) (prepare_time before p) (entry (snapshot whole t) p.site) (λ u. touches whole u p o)
 
 -- the clock has not reached the snapshot
 abbrev pub IsBehind : List Line → List Line → PartId → TxId → ℕ → Type 0
 IsBehind whole before p t n = (n ≡ now before p) × (n < entry (snapshot whole t) p.site)
 
--- of all that are pending and update the object it is the first, and it may belong to the snapshot
-pub record IsFirstPending (whole before : List Line) (p : PartId) (t : TxId) (o : ObjectId) (u : TxId) (n : ℕ) : Type 0 where
-  pub clock : entry (snapshot whole t) p.site ≤ now before p
-  pub waiting : pending before p u ≡ true
-  pub changes : touches whole u p o ≡ true
-  pub time : n ≡ prepare_time before p u
-  pub early : n ≤ entry (snapshot whole t) p.site
-  pub first : (w : TxId) → w ≢ u → pending before p w ≡ true → touches whole w p o ≡ true → IsBefore (u, n) (w, prepare_time before p w)
+-- the first of all that are pending and update the object
+abbrev pub IsFirstPending : List Line → List Line → PartId → TxId → ObjectId → TxId → ℕ → Type 0
+IsFirstPending whole before p t o u n = IsFirstBy (now before p) (pending before p) (prepare_time before p) (entry (snapshot whole t) p.site) (λ w. touches whole w p o) u n
 
 -- the least other site with a stable entry below what the session depends on: there one partition is not known to have come so far
 pub record IsStableBehind (sites parts : ℕ) (before : List Line) (p : PartId) (dependency : List ℕ) (j n : ℕ) : Type 0 where

@@ -1,4 +1,4 @@
--- The lines that a run of the world shows: one for each step, with the call that it answers.
+-- Lines: what a partition was asked, and the step that its answer shows.
 use Rattle.std.specs.Prelude.{ℕ, List, [], ◌∷◌, Option, ⊤}
 use Rattle.site_vector.specs.declared.ids.PartId.{PartId}
 use Rattle.site_vector.specs.declared.ids.TxId.{TxId}

@@ -1,5 +1,5 @@
--- Lists of transactions, each with a time.
-use Rattle.std.specs.Prelude.{◌≡◌, ℕ, List, [], ◌∷◌, ⊤, ◌⊎◌, ◌+◌, ◌<◌, ◌≤◌, Bool, true, false, if◌then◌else◌, Option, None, Some}
+-- What is pending, each with its prepare time: lists of it, and what its times allow.
+use Rattle.std.specs.Prelude.{◌≡◌, ◌≢◌, ℕ, List, [], ◌∷◌, ⊤, ◌⊎◌, ◌+◌, ◌<◌, ◌≤◌, Bool, true, false, if◌then◌else◌, Option, None, Some}
 use Rattle.site_vector.specs.declared.ids.TxId.{TxId}
 use Rattle.std.specs.List.{list_any}
 use Rattle.site_vector.specs.Ids.{same_tx}
@@ -33,11 +33,29 @@ abbrev pub AreInOrder : {A : Type 0} → (A → A → Type 0) → List A → Typ
 AreInOrder Before [] = ⊤
 AreInOrder Before (x ∷ xs) = IsBeforeAll Before x xs × AreInOrder Before xs
 
--- the own bound of a partition that restarts at this time with this list
-pub record IsOwnBoundOf (now : ℕ) (listed : List (TxId × ℕ)) (b : ℕ) : Type 0 where
+-- the own bound, by the time and by what is pending with which prepare times: the lesser of the time and of one below the least of these
+pub record IsBoundBy (now : ℕ) (pending : TxId → Bool) (prepared : TxId → ℕ) (b : ℕ) : Type 0 where
   pub most : b ≤ now
-  pub below : (u : TxId) → names_pending listed u ≡ true → b < listed_time listed u
-  pub reached : (b ≡ now) ⊎ ((u : TxId) × (names_pending listed u ≡ true) × (listed_time listed u ≡ b + 1))
+  pub below : (u : TxId) → pending u ≡ true → b < prepared u
+  pub reached : (b ≡ now) ⊎ ((u : TxId) × (pending u ≡ true) × (prepared u ≡ b + 1))
+
+-- no wait is due for a read up to s of what these transactions touch
+pub record IsReadyBy (now : ℕ) (pending : TxId → Bool) (prepared : TxId → ℕ) (s : ℕ) (touches : TxId → Bool) : Type 0 where
+  pub clock : s ≤ now
+  pub free : (u : TxId) → pending u ≡ true → touches u ≡ true → s < prepared u
+
+-- of all that are pending and touch it u is the first, and it may belong to the read
+pub record IsFirstBy (now : ℕ) (pending : TxId → Bool) (prepared : TxId → ℕ) (s : ℕ) (touches : TxId → Bool) (u : TxId) (n : ℕ) : Type 0 where
+  pub clock : s ≤ now
+  pub waiting : pending u ≡ true
+  pub changes : touches u ≡ true
+  pub time : n ≡ prepared u
+  pub early : n ≤ s
+  pub first : (w : TxId) → w ≢ u → pending w ≡ true → touches w ≡ true → IsBefore (u, n) (w, prepared w)
+
+-- the own bound of a partition that restarts at this time with this list
+abbrev pub IsOwnBoundOf : ℕ → List (TxId × ℕ) → ℕ → Type 0
+IsOwnBoundOf now listed b = IsBoundBy now (names_pending listed) (listed_time listed) b
 
 -- each stands with its own time
 abbrev pub AreTimed : (TxId → ℕ) → List (TxId × ℕ) → Type 0

@@ -6,7 +6,7 @@ use Rattle.site_vector.specs.Ids.{same_tx}
 use Rattle.world_model.specs.declared.step.Step.{Step}
 use Rattle.world_model.specs.declared.step.Step.TheVariants as step
 use Rattle.world_model.specs.rules.Event.{Ask, AskTick, AskBegin, AskRead, AskUpdate, AskPrepare, AskDecide, AskFinish, AskAbort, AskMessage, AskTake, AskReport, AskHear, AskRestart, Refusal, IsDown, ClockBehind, TxPending, StableBehind, ClockAtEnd, IsGone, HasGap, IsRepeat, IsBadOp, HasNoRoom, IsDamaged, Event, Ticked, Began, Updated, Read, Prepared, Decided, Finished, Aborted, Sent, Took, Reported, Heard, Crashed, RestartCut, Restarted, Refused, Opened, Cut, Entry, sent_count, report_count}
-use Rattle.world_model.specs.lines.Lines.{AbortOf, Tick, Restart, PrepareOf, Crash, UpdateOf, DecideOf, HearOf, TakeOf, ReadOf, SendTo, Line, FinishOf, Open, Call, Report, Begin}
+use Rattle.world_model.specs.lines.Lines.{Call, Tick, Begin, ReadOf, UpdateOf, PrepareOf, DecideOf, FinishOf, AbortOf, SendTo, TakeOf, Report, HearOf, Crash, Restart, Open, Line}
 
 module _ {E : Type 0} where
   abbrev pub session_after : TxId → List ℕ → Event E → List ℕ

@@ -150,6 +150,15 @@ module _ {E : Type 0} where
   IsAllowed plan run parts at (Refused asked why) = MayAsk plan run at asked
   IsAllowed plan run parts at other = ⊤
 
+  -- an update comes before any prepare, and bears the next number
+  pub record IsNewUpdate (run : List (Entry E)) (t : TxId) (u : Upd E) : Type 0 where
+    pub early : (p : PartId) → tried run t p ≡ false
+    pub number : u.index ≡ update_count run t + 1
+
+  abbrev pub IsNew : List (Entry E) → Event E → Type 0
+  IsNew run (Updated t s o own op read u stamp) = IsNewUpdate run t u
+  IsNew run other = ⊤
+
   -- a session hands a partition no operation that isn't one of the kind
   abbrev pub IsFit : {S : Type 0} → Kinds S E → Event E → Type 0
   IsFit kinds (Refused (AskUpdate t s o own op) why) = fits_kind kinds.too_deep o op ≡ true

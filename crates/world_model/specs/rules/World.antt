@@ -1,15 +1,15 @@
 -- Runs of the world whose transactions are what their own events say.
-use Rattle.std.specs.Prelude.{◌≡◌, ℕ, leb, Bool, true, false, ◌&&◌, ◌||◌, ◌==◌, if◌then◌else◌, cond, List, [], ◌∷◌, length, filter, ◌+◌, ⊤}
+use Rattle.std.specs.Prelude.{◌≡◌, ℕ, leb, Bool, true, false, ◌&&◌, ◌||◌, ◌==◌, if◌then◌else◌, cond, List, [], ◌∷◌, length, filter}
 use Rattle.std.proofs.lemmas.Bool.{and_parts, eqb-true, leb-true}
 use Rattle.site_vector.specs.declared.ids.PartId.{PartId}
 use Rattle.site_vector.specs.declared.ids.TxId.{TxId}
 use Rattle.site_vector.specs.Ids.{same_tx}
 use Rattle.crdt_core.specs.declared.record.Upd.{Upd}
 use Rattle.world_model.specs.lines.Places.{partitions, first_of, home}
-use Rattle.world_model.specs.rules.Event.{Event, Began, Entry, Updated, tried}
+use Rattle.world_model.specs.rules.Event.{Event, Began, Entry}
 use Rattle.crdt_core.specs.KindsOf.{Kinds}
 use Rattle.world_model.specs.rules.Partition.{PartState, new_part}
-use Rattle.world_model.specs.rules.Plan.{Plan, is_some_update, updates_at, WorldStep, update_count}
+use Rattle.world_model.specs.rules.Plan.{Plan, is_some_update, updates_at, WorldStep}
 use Rattle.world_model.specs.events.Lawful.{IsLawfulWorld}
 use Rattle.world_model.specs.events.Logs.{LeavesLogs}
 use Rattle.world_model.specs.rules.Lines.{lines_of}
@@ -17,15 +17,6 @@ use Rattle.world_model.specs.rules.Fate.{TellFates}
 use Rattle.world_model.specs.lines.Lawful.{IsLawful}
 
 module _ {E : Type 0} where
-  -- an update comes before any prepare, and bears the next number
-  pub record IsNewUpdate (run : List (Entry E)) (t : TxId) (u : Upd E) : Type 0 where
-    pub early : (p : PartId) → tried run t p ≡ false
-    pub number : u.index ≡ update_count run t + 1
-
-  abbrev pub IsNew : List (Entry E) → Event E → Type 0
-  IsNew run (Updated t s o own op read u stamp) = IsNewUpdate run t u
-  IsNew run other = ⊤
-
   abbrev pub is_begin : Event E → TxId → Bool
   is_begin (Began who dep u s) t = same_tx u t
   is_begin other t = false
