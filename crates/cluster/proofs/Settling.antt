@@ -31,7 +31,8 @@ use Rattle.world_model.specs.commands.ScriptAnswers.{AnswersBy, IsAnswer}
 use Rattle.world_model.specs.commands.ScriptCalls.{calls_of}
 use Rattle.world_model.specs.commands.Settling.{settled, stays, is_untold, is_unwritten, first_end, ends_as_lead, SettlesAll}
 use Rattle.world_model.specs.lines.Updates.{Change, changes, change_of, lead}
-use Rattle.world_model.specs.lines.Waiting.{waiting, without, ArePending}
+use Rattle.world_model.specs.lines.Waiting.{waiting, without}
+use Rattle.world_model.specs.rules.Waiting.{ArePending}
 use Rattle.world_model.proofs.Names.{off}
 use Rattle.world_model.proofs.Told as law
 use Rattle.partition_core.specs.declared.answers.Fate.{Fate}

@@ -29,7 +29,8 @@ use Rattle.world_model.specs.commands.ScriptCalls.{calls_of}
 use Rattle.world_model.specs.commands.Settling.{asks_abort, looked_up, settled, is_untold}
 use Rattle.world_model.specs.rules.Told.{Told}
 use Rattle.world_model.specs.lines.Updates.{lead}
-use Rattle.world_model.specs.lines.Waiting.{waiting, ArePending}
+use Rattle.world_model.specs.lines.Waiting.{waiting}
+use Rattle.world_model.specs.rules.Waiting.{ArePending}
 use Rattle.world_model.proofs.Law.{law_world}
 use Rattle.world_model.proofs.Queue.{in_order}
 use Rattle.world_model.proofs.Told as law

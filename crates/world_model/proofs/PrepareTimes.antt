@@ -21,7 +21,8 @@ use Rattle.world_model.specs.lines.Listed.{names_pending, listed_time, AreTimed}
 use Rattle.world_model.specs.rules.Partition as partition
 use Rattle.world_model.specs.lines.Pending as lines
 use Rattle.world_model.specs.rules.Plan.{IsAllowed}
-use Rattle.world_model.specs.lines.Waiting.{waiting, ArePending}
+use Rattle.world_model.specs.lines.Waiting.{waiting}
+use Rattle.world_model.specs.rules.Waiting.{ArePending}
 use Rattle.world_model.specs.rules.World.{plan_of, IsWorldRun}
 use Rattle.world_model.proofs.Names.{clash, part_cases}
 use Rattle.world_model.proofs.Queue.{in_order}

@@ -11,7 +11,8 @@ use Rattle.world_model.specs.declared.step.Step.TheVariants as step
 use Rattle.world_model.specs.lines.Lines.{Line, EachLine}
 use Rattle.world_model.specs.lines.Listed.{names_pending, listed_time, IsIdBefore, IsBefore, IsBeforeAll, AreInOrder, AreTimed}
 use Rattle.world_model.specs.lines.Pending.{pending, pending_after, prepare_time, prepare_time_after}
-use Rattle.world_model.specs.lines.Waiting.{without, waiting_after, waiting, ArePending}
+use Rattle.world_model.specs.lines.Waiting.{without, waiting_after, waiting}
+use Rattle.world_model.specs.rules.Waiting.{ArePending}
 use Rattle.world_model.proofs.Listed.{names_first, names_later, timed_as}
 use Rattle.world_model.proofs.Names.{clash, off}
 

@@ -9,3 +9,4 @@ pub mod Asking
 pub mod Told
 pub mod Lines
 pub mod Fate
+pub mod Waiting

@@ -1,13 +1,11 @@
 -- What waits at a partition, over the lines of a run: all that is pending there, in order.
-use Rattle.std.specs.Prelude.{◌≡◌, ℕ, not, if◌then◌else◌, List, [], ◌∷◌, ◌++◌, filter}
+use Rattle.std.specs.Prelude.{ℕ, not, if◌then◌else◌, List, [], ◌∷◌, ◌++◌, filter}
 use Rattle.site_vector.specs.declared.ids.PartId.{PartId}
 use Rattle.site_vector.specs.declared.ids.TxId.{TxId}
 use Rattle.site_vector.specs.Ids.{same_part, same_tx}
 use Rattle.world_model.specs.declared.step.Step.{Step}
 use Rattle.world_model.specs.declared.step.Step.TheVariants as step
-use Rattle.world_model.specs.lines.Listed.{names_pending, IsBefore, AreInOrder, AreTimed}
 use Rattle.world_model.specs.lines.Lines.{Line}
-use Rattle.world_model.specs.lines.Pending.{pending, prepare_time}
 
 abbrev pub without : TxId → List (TxId × ℕ) → List (TxId × ℕ)
 without t xs = filter (λ x. not (same_tx t x.0)) xs
@@ -25,9 +23,3 @@ waiting_after old other = old
 abbrev pub waiting : List Line → PartId → List (TxId × ℕ)
 waiting [] p = []
 waiting (l ∷ ls) p = if same_part l.at p then waiting_after (waiting ls p) l.step else waiting ls p
-
--- all that are pending at p, each once, by prepare time and then by id
-pub record ArePending (ls : List Line) (p : PartId) (listed : List (TxId × ℕ)) : Type 0 where
-  pub members : (t : TxId) → names_pending listed t ≡ pending ls p t
-  pub times : AreTimed (prepare_time ls p) listed
-  pub order : AreInOrder IsBefore listed

@@ -13,7 +13,8 @@ use Rattle.world_model.specs.lines.Pending as lines
 use Rattle.world_model.specs.lines.Places.{IsPlace}
 use Rattle.world_model.specs.rules.Plan.{IsAllowed}
 use Rattle.world_model.specs.lines.Updates.{lead}
-use Rattle.world_model.specs.lines.Waiting.{waiting, ArePending}
+use Rattle.world_model.specs.lines.Waiting.{waiting}
+use Rattle.world_model.specs.rules.Waiting.{ArePending}
 use Rattle.world_model.specs.rules.World.{plan_of, IsWorldRun}
 
 module _ {E : Type 0} where
