@@ -9,7 +9,7 @@ use Rattle.std.proofs.Math.Dec.{eqb-suc-zero}
 use Rattle.world_model.specs.declared.step.Step.{Step}
 use Rattle.world_model.specs.declared.step.Step.TheVariants as step
 use Rattle.world_model.specs.declared.commit.Next.TheVariants as next
-use Rattle.world_model.specs.CommitSteps.{Going, Preparing, Finishing, Aborting, next_step, is_done, after, after_vote, after_decision, after_finish}
+use Rattle.world_model.specs.commands.CommitSteps.{Going, Preparing, Finishing, Aborting, next_step, is_done, after, after_vote, after_decision, after_finish}
 use Rattle.clocksi_commit.specs.declared.commit.Stage.{Stage}
 use Rattle.clocksi_commit.specs.declared.commit.Stage.TheVariants.{Prepares, Finishes, Aborts}
 use Rattle.clocksi_commit.specs.declared.commit.Vote.TheVariants as vote

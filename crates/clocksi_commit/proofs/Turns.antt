@@ -10,7 +10,7 @@ use Rattle.site_vector.specs.Vector.{replaced}
 use Rattle.world_model.specs.declared.commit.What.TheVariants as what
 use Rattle.world_model.specs.declared.step.Step.{Step}
 use Rattle.world_model.specs.declared.step.Step.TheVariants as step
-use Rattle.world_model.specs.CommitSteps.{Going, Preparing, Finishing, Aborting, given_up, next_step, after}
+use Rattle.world_model.specs.commands.CommitSteps.{Going, Preparing, Finishing, Aborting, given_up, next_step, after}
 use Rattle.clocksi_commit.specs.Law.{Turn, Answered, GivenUp, standing, Made, steps_made, voted, greatest_vote, decided, in_doubt, ended, is_among, is_first, IsCommit, LawCommit}
 
 -- these voted, these are left to ask, and this is the greatest vote

@@ -1,6 +1,6 @@
 -- A commit as contracts see it.
 use Rattle.std.specs.Prelude.{ℕ, Bool, true, false, List}
-use Rattle.world_model.specs.CommitSteps.{Going, Preparing, Finishing, Aborting}
+use Rattle.world_model.specs.commands.CommitSteps.{Going, Preparing, Finishing, Aborting}
 use Rattle.clocksi_commit.specs.declared.commit.Stage.{Stage}
 use Rattle.clocksi_commit.specs.declared.commit.Stage.TheVariants.{Prepares, Finishes, Aborts}
 

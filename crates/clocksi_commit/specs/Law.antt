@@ -6,7 +6,7 @@ use Rattle.world_model.specs.declared.commit.What.{What}
 use Rattle.world_model.specs.declared.commit.What.TheVariants as what
 use Rattle.world_model.specs.declared.step.Step.{Step}
 use Rattle.world_model.specs.declared.step.Step.TheVariants as step
-use Rattle.world_model.specs.CommitSteps.{Going, starting, given_up, next_step, after}
+use Rattle.world_model.specs.commands.CommitSteps.{Going, starting, given_up, next_step, after}
 
 -- what happens to a commit: its next step is made and answered, or its session gives it up
 pub data Turn : Type 0 where

@@ -1,7 +1,7 @@
 ghost use Rattle.std.specs.Prelude.{◌≡◌, ◌≤◌, ◌<◌, take, length};
 ghost use Rattle.clocksi_commit.specs.Answers.{vote_of, decision_of, ends_finish};
 ghost use Rattle.clocksi_commit.specs.Commit.{is_finishing};
-ghost use Rattle.world_model.specs.CommitSteps.{starting, given_up, next_step, is_done, after};
+ghost use Rattle.world_model.specs.commands.CommitSteps.{starting, given_up, next_step, is_done, after};
 
 use site_vector::VTime;
 use std::marker::Model;

@@ -4,13 +4,14 @@ use Rattle.std.specs.Prelude.{not}
 use Rattle.site_vector.specs.declared.ids.PartId.{PartId}
 use Rattle.site_vector.specs.declared.ids.TxId.{TxId}
 use Rattle.crdt_core.specs.Log as log
-use Rattle.world_model.specs.Answering.{IsDueAt}
-use Rattle.world_model.specs.Asking.{MayCall}
-use Rattle.world_model.specs.Event.{AskFinish, AskAbort, Refused, Entry}
-use Rattle.world_model.specs.Partition.{PartState, IsRefused}
-use Rattle.world_model.specs.Plan.{Plan, IsPlace}
-use Rattle.world_model.specs.World.{plan_of}
-use Rattle.world_model.specs.WorldLaw.{HasCauseAt}
+use Rattle.world_model.specs.events.Answers.{IsDueAt}
+use Rattle.world_model.specs.rules.Asking.{MayCall}
+use Rattle.world_model.specs.rules.Event.{AskFinish, AskAbort, Refused, Entry}
+use Rattle.world_model.specs.rules.Partition.{PartState, IsRefused}
+use Rattle.world_model.specs.rules.Plan.{Plan}
+use Rattle.world_model.specs.lines.Places.{IsPlace}
+use Rattle.world_model.specs.rules.World.{plan_of}
+use Rattle.world_model.specs.events.Causes.{HasCauseAt}
 use Rattle.world_model.proofs.Law.{law_world}
 use Rattle.world_model.proofs.Told as law
 use Rattle.partition_core.specs.declared.answers.Refusal.{Refusal}

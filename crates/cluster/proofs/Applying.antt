@@ -6,17 +6,17 @@ use Rattle.world_model.specs.declared.command.Command.TheVariants as command
 use Rattle.world_model.specs.declared.step.Step.TheVariants as step
 use Rattle.std.specs.Prelude.{not}
 use Rattle.std.proofs.lemmas.Bool.{true≢false}
-use Rattle.world_model.specs.Cluster.{has_cluster}
-use Rattle.world_model.specs.Dependency.{HandsOwn}
-use Rattle.world_model.specs.Refusals.{first_due}
-use Rattle.world_model.specs.Run.{Run}
+use Rattle.world_model.specs.commands.Cluster.{has_cluster}
+use Rattle.world_model.specs.lines.Dependency.{HandsOwn}
+use Rattle.world_model.specs.commands.Refusals.{first_due}
+use Rattle.world_model.specs.commands.Run.{Run}
 use Rattle.site_partitions.specs.Reaches.{Types, Reaches}
-use Rattle.world_model.specs.ScriptAnswers.{AnswersBy, IsAnswer}
+use Rattle.world_model.specs.commands.ScriptAnswers.{AnswersBy, IsAnswer}
 use Rattle.cluster.specs.Built.{is_built, is_making}
 use Rattle.cluster.proofs.Mere.{at_first, before_still}
 use Rattle.cluster.proofs.Meets.{all_met, first_at, none_due, refused}
 use Rattle.world_model.specs.declared.step.Step.{Step}
-use Rattle.world_model.specs.Answers.{answered}
+use Rattle.world_model.specs.commands.Answers.{answered}
 use Rattle.cluster.specs.Post.{WholeState, new_post, HasPost}
 use Rattle.cluster.proofs.FuelKept.{fueled_made}
 use Rattle.cluster.proofs.Keeping.{post_on}

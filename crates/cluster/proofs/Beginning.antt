@@ -8,20 +8,21 @@ use Rattle.site_vector.specs.declared.ids.PartId.{PartId}
 use Rattle.world_model.specs.declared.command.Command.TheVariants as command
 use Rattle.world_model.specs.declared.step.Step.{Step}
 use Rattle.world_model.specs.declared.step.Step.TheVariants as step
-use Rattle.world_model.specs.Answers.{answered}
-use Rattle.world_model.specs.Asking.{asked_by}
-use Rattle.world_model.specs.Cluster.{sites_of, parts_of}
-use Rattle.world_model.specs.CommitSteps.{Going, Preparing, Finishing, Aborting}
-use Rattle.world_model.specs.Dependency as lines
-use Rattle.world_model.specs.Event.{AskBegin, IsDown, Event, Began, Refused, Cut, Entry, attempt}
-use Rattle.world_model.specs.Lines.{Begin, step_shown}
-use Rattle.world_model.specs.Meeting.{begin_place, is_at, is_elsewhere, lacks_part, site_of, site_or_none}
-use Rattle.world_model.specs.Past.{dependency_after}
-use Rattle.world_model.specs.Phases as phases
-use Rattle.world_model.specs.Phases.{Phase, phase, phase_after, update_total}
-use Rattle.world_model.specs.Run.{Run}
-use Rattle.world_model.specs.ScriptAnswers.{Bears, AnswersBy, IsAnswer}
-use Rattle.world_model.specs.ScriptCalls.{calls_of}
+use Rattle.world_model.specs.commands.Answers.{answered}
+use Rattle.world_model.specs.rules.Asking.{asked_by}
+use Rattle.world_model.specs.commands.Cluster.{sites_of, parts_of}
+use Rattle.world_model.specs.commands.CommitSteps.{Going, Preparing, Finishing, Aborting}
+use Rattle.world_model.specs.lines.Dependency as lines
+use Rattle.world_model.specs.rules.Event.{AskBegin, IsDown, Event, Began, Refused, Cut, Entry, attempt}
+use Rattle.world_model.specs.lines.Lines.{Begin}
+use Rattle.world_model.specs.rules.Lines.{step_shown}
+use Rattle.world_model.specs.commands.Meeting.{begin_place, is_at, is_elsewhere, lacks_part, site_of, site_or_none}
+use Rattle.world_model.proofs.Dependency.{dependency_after}
+use Rattle.world_model.specs.commands.Phases as phases
+use Rattle.world_model.specs.commands.Phases.{Phase, phase, phase_after, update_total}
+use Rattle.world_model.specs.commands.Run.{Run}
+use Rattle.world_model.specs.commands.ScriptAnswers.{Bears, AnswersBy, IsAnswer}
+use Rattle.world_model.specs.commands.ScriptCalls.{calls_of}
 use Rattle.txn_session.specs.Calls.{called, entries}
 use Rattle.txn_session.specs.Opens.{IsOpened}
 use Rattle.txn_session.specs.declared.phase.Phase.{Phase as Stage}

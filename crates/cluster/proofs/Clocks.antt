@@ -6,16 +6,17 @@ use Rattle.site_vector.specs.declared.ids.TxId.{TxId}
 use Rattle.world_model.specs.declared.command.Command.TheVariants as command
 use Rattle.world_model.specs.declared.step.Step.{Step}
 use Rattle.world_model.specs.declared.step.Step.TheVariants as step
-use Rattle.world_model.specs.Answers.{answered}
-use Rattle.world_model.specs.Cluster.{sites_of, has_site, has_part}
-use Rattle.world_model.specs.Dependency.{IsOwnPast}
-use Rattle.world_model.specs.Event.{AskTick, Refusal, HasGap, IsRepeat, Event, Entry, Ticked, Refused, Cut}
-use Rattle.world_model.specs.Lines.{Tick, call_of, fault_shown, step_shown}
-use Rattle.world_model.specs.Meeting.{met}
-use Rattle.world_model.specs.Partition.{PartState, IsRefused}
-use Rattle.world_model.specs.Run.{Run}
-use Rattle.world_model.specs.ScriptAnswers.{AnswersBy, IsAnswer}
-use Rattle.world_model.specs.ScriptCalls.{is_answer, calls_of}
+use Rattle.world_model.specs.commands.Answers.{answered}
+use Rattle.world_model.specs.commands.Cluster.{sites_of, has_site, has_part}
+use Rattle.world_model.specs.lines.Dependency.{IsOwnPast}
+use Rattle.world_model.specs.rules.Event.{AskTick, Refusal, HasGap, IsRepeat, Event, Entry, Ticked, Refused, Cut}
+use Rattle.world_model.specs.lines.Lines.{Tick}
+use Rattle.world_model.specs.rules.Lines.{call_of, fault_shown, step_shown}
+use Rattle.world_model.specs.commands.Meeting.{met}
+use Rattle.world_model.specs.rules.Partition.{PartState, IsRefused}
+use Rattle.world_model.specs.commands.Run.{Run}
+use Rattle.world_model.specs.commands.ScriptAnswers.{AnswersBy, IsAnswer}
+use Rattle.world_model.specs.commands.ScriptCalls.{is_answer, calls_of}
 use Rattle.partition_core.specs.declared.durable.DurableError.{DurableError}
 use Rattle.txn_session.specs.Calls.{called, entries}
 use Rattle.site_partitions.specs.Answers.{Any, Asks, GoesOn, Calls}

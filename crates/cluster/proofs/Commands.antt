@@ -9,18 +9,19 @@ use Rattle.crdt_core.specs.Placing.{place_of}
 use Rattle.world_model.specs.declared.command.Command.TheVariants as command
 use Rattle.world_model.specs.declared.step.Step.{Step}
 use Rattle.world_model.specs.declared.step.Step.TheVariants as step
-use Rattle.world_model.specs.Answers.{answered}
-use Rattle.world_model.specs.Asking.{asked_by}
-use Rattle.world_model.specs.Cluster.{sites_of, parts_of}
-use Rattle.world_model.specs.CommitSteps.{Going, Preparing, Finishing, Aborting}
-use Rattle.world_model.specs.Event as event
-use Rattle.world_model.specs.Event.{AskRead, IsDown, Event, Decided, Refused, Cut, Entry, attempt}
-use Rattle.world_model.specs.Lines.{ReadOf, step_shown, session_of}
-use Rattle.world_model.specs.Past.{dependency_after}
-use Rattle.world_model.specs.Phases.{Phase, phase, phase_after, update_total}
-use Rattle.world_model.specs.Run.{Run}
-use Rattle.world_model.specs.ScriptAnswers.{Bears, AnswersBy, IsAnswer}
-use Rattle.world_model.specs.ScriptCalls.{at_object}
+use Rattle.world_model.specs.commands.Answers.{answered}
+use Rattle.world_model.specs.rules.Asking.{asked_by}
+use Rattle.world_model.specs.commands.Cluster.{sites_of, parts_of}
+use Rattle.world_model.specs.commands.CommitSteps.{Going, Preparing, Finishing, Aborting}
+use Rattle.world_model.specs.rules.Event as event
+use Rattle.world_model.specs.rules.Event.{AskRead, IsDown, Event, Decided, Refused, Cut, Entry, attempt}
+use Rattle.world_model.specs.lines.Lines.{ReadOf}
+use Rattle.world_model.specs.rules.Lines.{step_shown, session_of}
+use Rattle.world_model.proofs.Dependency.{dependency_after}
+use Rattle.world_model.specs.commands.Phases.{Phase, phase, phase_after, update_total}
+use Rattle.world_model.specs.commands.Run.{Run}
+use Rattle.world_model.specs.commands.ScriptAnswers.{Bears, AnswersBy, IsAnswer}
+use Rattle.world_model.specs.commands.ScriptCalls.{at_object}
 use Rattle.world_model.proofs.Names.{off}
 use Rattle.txn_session.specs.Calls.{called, entries}
 use Rattle.txn_session.specs.Holds.{HoldsDoing, MakesRead}

@@ -2,7 +2,7 @@
 use Rattle.std.proofs.Common.{Bool, ◌≡◌, ℕ, true, false, List, [], ◌∷◌, refl, sym, ap, ◌∙◌, subst, true≢false, Option, None, Some}
 use Rattle.std.specs.Prelude.{not, ◌&&◌, ◌==◌, is_none, is_some, nat_le, Ok, Err}
 use Rattle.crdt_core.specs.KindsOf.{Kinds}
-use Rattle.world_model.specs.Partition.{PartState, IsRefused}
+use Rattle.world_model.specs.rules.Partition.{PartState, IsRefused}
 use Rattle.std.proofs.lemmas.Bool.{eqb-true, and_parts, leb-true}
 use Rattle.site_vector.specs.declared.ids.PartId.{PartId}
 use Rattle.site_vector.specs.declared.ids.TxId.{TxId}
@@ -11,20 +11,20 @@ use Rattle.world_model.specs.declared.command.Command.{Command}
 use Rattle.world_model.specs.declared.command.Command.TheVariants as command
 use Rattle.world_model.specs.declared.step.Step.{Step}
 use Rattle.world_model.specs.declared.step.Step.TheVariants as step
-use Rattle.world_model.specs.Answers.{answered}
-use Rattle.world_model.specs.Asking.{MayCall}
-use Rattle.world_model.specs.Cluster.{sites_of}
-use Rattle.world_model.specs.Dependency.{IsOwnPast}
-use Rattle.world_model.specs.Event as event
-use Rattle.world_model.specs.Event.{Ask, AskMessage, AskReport, AskTake, AskHear, Event, Entry, Took, Heard, Refused, Cut, Refusal, ClockBehind, TxPending, StableBehind, ClockAtEnd, IsGone, HasGap, IsRepeat, IsDown, IsBadOp, HasNoRoom, IsDamaged, is_sent, is_report}
-use Rattle.world_model.specs.Lines.{call_of, call_asked, fault_shown, step_shown, tx_asked, number_asked}
-use Rattle.world_model.specs.Plan.{IsPlace}
-use Rattle.world_model.specs.Run.{Run}
-use Rattle.world_model.specs.ScriptAnswers.{AnswersBy, IsAnswer, Bears, Replies}
-use Rattle.world_model.specs.ScriptCalls.{is_answer, asked_of, calls_of, numbered, for_message, for_report, own_of, own_report}
-use Rattle.world_model.specs.Messages.{message_of}
-use Rattle.world_model.specs.Meeting.{met, is_foreign}
-use Rattle.world_model.specs.Phases.{Phase, by_command}
+use Rattle.world_model.specs.commands.Answers.{answered}
+use Rattle.world_model.specs.rules.Asking.{MayCall}
+use Rattle.world_model.specs.commands.Cluster.{sites_of}
+use Rattle.world_model.specs.lines.Dependency.{IsOwnPast}
+use Rattle.world_model.specs.rules.Event as event
+use Rattle.world_model.specs.rules.Event.{Ask, AskMessage, AskReport, AskTake, AskHear, Event, Entry, Took, Heard, Refused, Cut, Refusal, ClockBehind, TxPending, StableBehind, ClockAtEnd, IsGone, HasGap, IsRepeat, IsDown, IsBadOp, HasNoRoom, IsDamaged, is_sent, is_report}
+use Rattle.world_model.specs.rules.Lines.{call_of, call_asked, fault_shown, step_shown, tx_asked, number_asked}
+use Rattle.world_model.specs.lines.Places.{IsPlace}
+use Rattle.world_model.specs.commands.Run.{Run}
+use Rattle.world_model.specs.commands.ScriptAnswers.{AnswersBy, IsAnswer, Bears, Replies}
+use Rattle.world_model.specs.commands.ScriptCalls.{is_answer, asked_of, calls_of, numbered, for_message, for_report, own_of, own_report}
+use Rattle.world_model.specs.commands.Messages.{message_of}
+use Rattle.world_model.specs.commands.Meeting.{met, is_foreign}
+use Rattle.world_model.specs.commands.Phases.{Phase, by_command}
 use Rattle.world_model.proofs.Names.{off}
 use Rattle.partition_core.specs.Answers.{cause}
 use Rattle.partition_core.specs.declared.answers.Refusal as part

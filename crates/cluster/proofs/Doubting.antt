@@ -3,12 +3,13 @@ use Rattle.std.proofs.Common.{◌≡◌, ℕ, ◌∷◌, refl, sym, ap, ◌∙�
 use Rattle.site_vector.specs.declared.ids.PartId.{PartId}
 use Rattle.site_vector.specs.declared.ids.TxId.{TxId}
 use Rattle.world_model.specs.declared.step.Step.TheVariants as step
-use Rattle.world_model.specs.Cluster.{parts_of}
-use Rattle.world_model.specs.Event.{IsDown, Event, Decided, Refused, Cut, Entry}
-use Rattle.world_model.specs.Lines.{DecideOf, lines_of, step_shown}
-use Rattle.world_model.specs.Run.{Run}
-use Rattle.world_model.specs.ScriptCalls.{calls_of}
-use Rattle.world_model.specs.Updates.{lead}
+use Rattle.world_model.specs.commands.Cluster.{parts_of}
+use Rattle.world_model.specs.rules.Event.{IsDown, Event, Decided, Refused, Cut, Entry}
+use Rattle.world_model.specs.lines.Lines.{DecideOf}
+use Rattle.world_model.specs.rules.Lines.{lines_of, step_shown}
+use Rattle.world_model.specs.commands.Run.{Run}
+use Rattle.world_model.specs.commands.ScriptCalls.{calls_of}
+use Rattle.world_model.specs.lines.Updates.{lead}
 use Rattle.world_model.proofs.Law.{law_world}
 use Rattle.world_model.proofs.LineLaws.{lead_eq}
 use Rattle.txn_session.specs.Calls.{called, entries}

@@ -2,8 +2,8 @@
 use Rattle.std.proofs.Common.{◌≡◌, false, List, ◌∷◌, refl}
 use Rattle.site_vector.specs.declared.ids.PartId.{PartId}
 use Rattle.site_vector.specs.declared.ids.TxId.{TxId}
-use Rattle.world_model.specs.Event.{AskAbort, AskReport, IsDown, Refused}
-use Rattle.world_model.specs.Plan.{IsPlace}
+use Rattle.world_model.specs.rules.Event.{AskAbort, AskReport, IsDown, Refused}
+use Rattle.world_model.specs.lines.Places.{IsPlace}
 use Rattle.txn_session.specs.Calls.{Call, called}
 use Rattle.site_partitions.specs.Held.{Held}
 use Rattle.site_partitions.specs.Reaches.{Types}

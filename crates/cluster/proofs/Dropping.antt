@@ -7,15 +7,15 @@ use Rattle.world_model.specs.declared.command.Command.{Command}
 use Rattle.world_model.specs.declared.command.Command.TheVariants as command
 use Rattle.world_model.specs.declared.step.Step.{Step}
 use Rattle.world_model.specs.declared.step.Step.TheVariants as step
-use Rattle.world_model.specs.Answers.{answered}
-use Rattle.world_model.specs.Cluster.{parts_of}
-use Rattle.world_model.specs.Event as event
-use Rattle.world_model.specs.Event.{Event, WasNumbered}
-use Rattle.world_model.specs.Meeting.{met}
-use Rattle.world_model.specs.Messages.{message_of, report_of}
-use Rattle.world_model.specs.Phases.{phase, by_command}
-use Rattle.world_model.specs.Run.{Run}
-use Rattle.world_model.specs.ScriptAnswers.{AnswersBy, IsAnswer}
+use Rattle.world_model.specs.commands.Answers.{answered}
+use Rattle.world_model.specs.commands.Cluster.{parts_of}
+use Rattle.world_model.specs.rules.Event as event
+use Rattle.world_model.specs.rules.Event.{Event, WasNumbered}
+use Rattle.world_model.specs.commands.Meeting.{met}
+use Rattle.world_model.specs.commands.Messages.{message_of, report_of}
+use Rattle.world_model.specs.commands.Phases.{phase, by_command}
+use Rattle.world_model.specs.commands.Run.{Run}
+use Rattle.world_model.specs.commands.ScriptAnswers.{AnswersBy, IsAnswer}
 use Rattle.txn_session.specs.Calls.{entries}
 use Rattle.site_partitions.specs.Reaches.{Types}
 use Rattle.cluster.specs.declared.post.Note.{Note}

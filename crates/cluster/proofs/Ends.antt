@@ -13,16 +13,18 @@ use Rattle.world_model.specs.declared.command.Command.{Command}
 use Rattle.world_model.specs.declared.commit.What.{What}
 use Rattle.world_model.specs.declared.commit.What.TheVariants as what
 use Rattle.world_model.specs.declared.step.Step.{Step}
-use Rattle.world_model.specs.Asking.{asked_by}
-use Rattle.world_model.specs.CommitSteps.{Going, Preparing, Finishing, Aborting, given_up, next_step, is_done, after}
-use Rattle.world_model.specs.Dependency.{IsOwnPast}
-use Rattle.world_model.specs.Event.{Ask, AskPrepare, AskDecide, AskFinish, AskAbort, AskReport, IsDown, Event, Began, Updated, Decided, Opened, Refused, Cut, Entry, attempt, WasShown}
-use Rattle.world_model.specs.Lines.{Line, call_asked, step_shown, session_of}
-use Rattle.world_model.specs.Past.{begins_for, is_of, dependency_after}
-use Rattle.world_model.specs.Phases as phases
-use Rattle.world_model.specs.Phases.{Phase, phase_after, by_command, holders}
-use Rattle.world_model.specs.Plan.{is_some_update}
-use Rattle.world_model.specs.ScriptCalls.{for_step}
+use Rattle.world_model.specs.rules.Asking.{asked_by}
+use Rattle.world_model.specs.commands.CommitSteps.{Going, Preparing, Finishing, Aborting, given_up, next_step, is_done, after}
+use Rattle.world_model.specs.lines.Dependency.{IsOwnPast}
+use Rattle.world_model.specs.rules.Event.{Ask, AskPrepare, AskDecide, AskFinish, AskAbort, AskReport, IsDown, Event, Began, Updated, Decided, Opened, Refused, Cut, Entry, attempt, WasShown}
+use Rattle.world_model.specs.lines.Lines.{Line}
+use Rattle.world_model.specs.rules.Lines.{call_asked, step_shown, session_of}
+use Rattle.world_model.specs.events.Dependency.{begins_for, is_of}
+use Rattle.world_model.proofs.Dependency.{dependency_after}
+use Rattle.world_model.specs.commands.Phases as phases
+use Rattle.world_model.specs.commands.Phases.{Phase, phase_after, by_command, holders}
+use Rattle.world_model.specs.rules.Plan.{is_some_update}
+use Rattle.world_model.specs.commands.ScriptCalls.{for_step}
 use Rattle.world_model.proofs.Names.{off}
 use Rattle.txn_session.specs.Session.{Txn, Doing, Idle, Open, Ending, SessionState, can_abort, giving_up, phase_of, stands_at, updates_of, numbers_from, participants}
 use Rattle.txn_session.specs.Opens.{told_of, dependency_told, EndsAs, begun_end, given_up_end, next_said, stepped}

@@ -9,18 +9,18 @@ use Rattle.crdt_core.specs.Log.{committed}
 use Rattle.world_model.specs.declared.command.Command.TheVariants as command
 use Rattle.world_model.specs.declared.step.Step.{Step}
 use Rattle.world_model.specs.declared.step.Step.TheVariants as step
-use Rattle.world_model.specs.Answers.{answered}
-use Rattle.world_model.specs.Cluster.{has_part, parts_of}
-use Rattle.world_model.specs.Event.{AskAbort, IsDown, HasNoRoom, Aborted, Refused, Cut}
-use Rattle.world_model.specs.Partition.{PartState, ToldCommitted, fate_of}
-use Rattle.world_model.specs.Plan.{IsPlace, home}
-use Rattle.world_model.specs.Run.{Run}
-use Rattle.world_model.specs.ScriptAnswers.{AnswersBy, IsAnswer, IsExpired}
-use Rattle.world_model.specs.Meeting.{met}
-use Rattle.world_model.specs.ScriptCalls.{is_called, calls_of}
-use Rattle.world_model.specs.Settling.{asks_abort, looked_up}
-use Rattle.world_model.specs.Pending.{is_down}
-use Rattle.world_model.specs.Updates.{lead}
+use Rattle.world_model.specs.commands.Answers.{answered}
+use Rattle.world_model.specs.commands.Cluster.{has_part, parts_of}
+use Rattle.world_model.specs.rules.Event.{AskAbort, IsDown, HasNoRoom, Aborted, Refused, Cut}
+use Rattle.world_model.specs.rules.Partition.{PartState, ToldCommitted, fate_of}
+use Rattle.world_model.specs.lines.Places.{IsPlace, home}
+use Rattle.world_model.specs.commands.Run.{Run}
+use Rattle.world_model.specs.commands.ScriptAnswers.{AnswersBy, IsAnswer, IsExpired}
+use Rattle.world_model.specs.commands.Meeting.{met}
+use Rattle.world_model.specs.commands.ScriptCalls.{is_called, calls_of}
+use Rattle.world_model.specs.commands.Settling.{asks_abort, looked_up}
+use Rattle.world_model.specs.lines.Pending.{is_down}
+use Rattle.world_model.specs.lines.Updates.{lead}
 use Rattle.world_model.proofs.Told as law
 use Rattle.partition_core.specs.declared.answers.Fate.{Fate}
 use Rattle.partition_core.specs.declared.answers.Fate.TheVariants as fate

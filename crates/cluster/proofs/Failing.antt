@@ -3,8 +3,8 @@ use Rattle.std.proofs.Common.{◌≡◌, List, ◌∷◌, sym, ◌∙◌, subst}
 use Rattle.std.specs.Prelude.{Ok, Err}
 use Rattle.site_vector.specs.declared.ids.PartId.{PartId}
 use Rattle.world_model.specs.declared.step.Step.{Step}
-use Rattle.world_model.specs.Event.{Ask, Refusal, IsDown, HasNoRoom, Event, Refused, Cut, Entry}
-use Rattle.world_model.specs.Lines.{fault_shown, step_shown, tx_asked, number_asked}
+use Rattle.world_model.specs.rules.Event.{Ask, Refusal, IsDown, HasNoRoom, Event, Refused, Cut, Entry}
+use Rattle.world_model.specs.rules.Lines.{fault_shown, step_shown, tx_asked, number_asked}
 use Rattle.partition_core.specs.declared.durable.DurableError.{DurableError}
 use Rattle.partition_core.specs.declared.durable.DurableError.TheVariants as call
 use Rattle.partition_core.specs.Answers.{cause}

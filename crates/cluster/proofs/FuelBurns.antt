@@ -2,7 +2,7 @@
 use Rattle.std.proofs.Common.{◌≡◌, ◌≢◌, ℕ, ◌-◌, ◌≤◌, Bool, true, false, Option, None, Some, refl, sym, ap, ◌∙◌, subst, arith}
 use Rattle.disk_core.specs.States.{fewer, Spared}
 use Rattle.gate_log.specs.Rest.{Lowers}
-use Rattle.world_model.specs.Fuses.{Fuse, counted, IsUnfired}
+use Rattle.world_model.specs.commands.Fuses.{Fuse, counted, IsUnfired}
 use Rattle.cluster.specs.Fuel.{IsBurning, Burns, BurnsBy, BurnsAt}
 
 none_left : {P : Type 0} (n : ℕ) → None ≡ Some n → P

@@ -12,19 +12,20 @@ use Rattle.crdt_core.specs.declared.record.Message.{Message}
 use Rattle.crdt_core.specs.Log as log
 use Rattle.world_model.specs.declared.step.Step.{Step}
 use Rattle.world_model.specs.declared.step.Step.TheVariants as step
-use Rattle.world_model.specs.Bounds.{bound}
-use Rattle.world_model.specs.Cluster.{parts_of}
-use Rattle.world_model.specs.Event.{Event, Took, Entry}
-use Rattle.world_model.specs.Fuses.{Fuse, fuse, fuse_after, is_change, is_bringing, shows_written}
-use Rattle.world_model.specs.Lines as world
-use Rattle.world_model.specs.Lines.{Call, lines_of, call_of, step_shown}
-use Rattle.world_model.specs.Partition.{records}
-use Rattle.world_model.specs.Pending.{pending}
-use Rattle.world_model.specs.Plan.{IsPlace}
-use Rattle.world_model.specs.Run.{Run}
-use Rattle.world_model.specs.Run as script
-use Rattle.world_model.specs.ScriptCalls.{Placed, is_called, asked_by, numbered, line_on, calls_of}
-use Rattle.world_model.specs.Updates.{lead}
+use Rattle.world_model.specs.lines.Bounds.{bound}
+use Rattle.world_model.specs.commands.Cluster.{parts_of}
+use Rattle.world_model.specs.rules.Event.{Event, Took, Entry}
+use Rattle.world_model.specs.commands.Fuses.{Fuse, fuse, fuse_after, is_change, is_bringing, shows_written}
+use Rattle.world_model.specs.lines.Lines as world
+use Rattle.world_model.specs.lines.Lines.{Call}
+use Rattle.world_model.specs.rules.Lines.{lines_of, call_of, step_shown}
+use Rattle.world_model.specs.rules.Partition.{records}
+use Rattle.world_model.specs.lines.Pending.{pending}
+use Rattle.world_model.specs.lines.Places.{IsPlace}
+use Rattle.world_model.specs.commands.Run.{Run}
+use Rattle.world_model.specs.commands.Run as script
+use Rattle.world_model.specs.commands.ScriptCalls.{Placed, is_called, asked_by, numbered, line_on, calls_of}
+use Rattle.world_model.specs.lines.Updates.{lead}
 use Rattle.world_model.proofs.Names.{off}
 use Rattle.partition_core.specs.Durable.{Durable, disk_in}
 use Rattle.partition_core.specs.Moments.{Spends, is_cut}

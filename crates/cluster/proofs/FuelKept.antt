@@ -11,19 +11,19 @@ use Rattle.gate_log.specs.declared.log.GateLog.{GateLog}
 use Rattle.crdt_core.specs.KindsOf.{Kinds}
 use Rattle.world_model.specs.declared.command.Command.{Command}
 use Rattle.world_model.specs.declared.step.Step.TheVariants as step
-use Rattle.world_model.specs.Cluster.{parts_of}
-use Rattle.world_model.specs.Event as event
-use Rattle.world_model.specs.Event.{Event, Entry, Crashed, RestartCut}
-use Rattle.world_model.specs.Fuses.{Fuse, counted, fuse, IsUnfired, HoldsFuses, is_change, is_bringing, shows_written}
-use Rattle.world_model.specs.Lines as world
-use Rattle.world_model.specs.Lines.{lines_of, call_of, step_shown}
-use Rattle.world_model.specs.Partition.{PartState}
-use Rattle.world_model.specs.Plan.{IsPlace}
-use Rattle.world_model.specs.Run.{Run}
-use Rattle.world_model.specs.Run as script
-use Rattle.world_model.specs.ScriptCalls.{is_called, asked_by, numbered, calls_of}
-use Rattle.world_model.specs.Updates.{lead}
-use Rattle.world_model.specs.World.{IsWorldRun}
+use Rattle.world_model.specs.commands.Cluster.{parts_of}
+use Rattle.world_model.specs.rules.Event as event
+use Rattle.world_model.specs.rules.Event.{Event, Entry, Crashed, RestartCut}
+use Rattle.world_model.specs.commands.Fuses.{Fuse, counted, fuse, IsUnfired, HoldsFuses, is_change, is_bringing, shows_written}
+use Rattle.world_model.specs.lines.Lines as world
+use Rattle.world_model.specs.rules.Lines.{lines_of, call_of, step_shown}
+use Rattle.world_model.specs.rules.Partition.{PartState}
+use Rattle.world_model.specs.lines.Places.{IsPlace}
+use Rattle.world_model.specs.commands.Run.{Run}
+use Rattle.world_model.specs.commands.Run as script
+use Rattle.world_model.specs.commands.ScriptCalls.{is_called, asked_by, numbered, calls_of}
+use Rattle.world_model.specs.lines.Updates.{lead}
+use Rattle.world_model.specs.rules.World.{IsWorldRun}
 use Rattle.partition_core.specs.Durable.{Durable, disk_in}
 use Rattle.partition_core.specs.Moments.{Spends}
 use Rattle.partition_core.specs.declared.restart.Restarted.{Restarted}

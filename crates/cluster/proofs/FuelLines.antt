@@ -8,13 +8,13 @@ use Rattle.site_vector.specs.Order.{same_part_is, same_part_refl}
 use Rattle.disk_core.specs.States.{DiskState}
 use Rattle.world_model.specs.declared.step.Step.{Step}
 use Rattle.world_model.specs.declared.step.Step.TheVariants as step
-use Rattle.world_model.specs.Cluster.{parts_of}
-use Rattle.world_model.specs.Fuses.{Fuse, counted, fuse, fuse_after, IsUnfired, is_written, shows_written}
-use Rattle.world_model.specs.Lines as world
-use Rattle.world_model.specs.Run.{Run}
-use Rattle.world_model.specs.Run as script
-use Rattle.world_model.specs.ScriptCalls.{is_called, asked_by, calls_of}
-use Rattle.world_model.specs.Updates.{lead}
+use Rattle.world_model.specs.commands.Cluster.{parts_of}
+use Rattle.world_model.specs.commands.Fuses.{Fuse, counted, fuse, fuse_after, IsUnfired, is_written, shows_written}
+use Rattle.world_model.specs.lines.Lines as world
+use Rattle.world_model.specs.commands.Run.{Run}
+use Rattle.world_model.specs.commands.Run as script
+use Rattle.world_model.specs.commands.ScriptCalls.{is_called, asked_by, calls_of}
+use Rattle.world_model.specs.lines.Updates.{lead}
 use Rattle.world_model.proofs.Names.{off}
 use Rattle.partition_core.specs.Durable.{Durable}
 use Rattle.site_partitions.specs.Held.{Held, holds_part}

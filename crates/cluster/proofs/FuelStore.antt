@@ -3,9 +3,9 @@ use Rattle.std.proofs.Common.{◌≡◌, ℕ, true, List, sym, ◌∙◌, subst,
 use Rattle.std.specs.Prelude.{IfOk, Result, Ok, Err}
 use Rattle.site_vector.specs.declared.ids.PartId.{PartId}
 use Rattle.world_model.specs.declared.step.Step.{Step}
-use Rattle.world_model.specs.Asking.{MayCall, is_own_word}
-use Rattle.world_model.specs.Event.{Ask, Refusal, IsDown, HasNoRoom, Event, Refused, Entry}
-use Rattle.world_model.specs.Lines.{fault_shown, step_shown, tx_asked, number_asked}
+use Rattle.world_model.specs.rules.Asking.{MayCall, is_own_word}
+use Rattle.world_model.specs.rules.Event.{Ask, Refusal, IsDown, HasNoRoom, Event, Refused, Entry}
+use Rattle.world_model.specs.rules.Lines.{fault_shown, step_shown, tx_asked, number_asked}
 use Rattle.partition_core.specs.declared.durable.DurableError.{DurableError}
 use Rattle.partition_core.specs.declared.durable.DurableError.TheVariants as call
 use Rattle.partition_core.specs.Answers.{cause}

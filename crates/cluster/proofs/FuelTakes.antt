@@ -7,19 +7,22 @@ use Rattle.site_vector.specs.Vector.{entry}
 use Rattle.crdt_core.specs.declared.record.Message.{Message}
 use Rattle.crdt_core.specs.KindsOf.{Kinds}
 use Rattle.crdt_core.specs.Parts.{lists}
-use Rattle.world_model.specs.Event.{Event, Sent, Took, Entry, EventsAre, is_decided, time_of, sent_count}
-use Rattle.world_model.specs.Handed.{HandedAt, AreHanded}
-use Rattle.world_model.specs.History.{history, commit_time}
-use Rattle.world_model.specs.LawfulWorld.{IsLawfulWorld}
-use Rattle.world_model.specs.Lines.{Line, lines_of}
-use Rattle.world_model.specs.Partition.{PartState}
-use Rattle.world_model.specs.Plan.{Plan, twin, is_some_update, takes_part, commit_vector, MayTake}
-use Rattle.world_model.specs.Restarts as restarts
-use Rattle.world_model.specs.Resumed.{brings}
-use Rattle.world_model.specs.Shown.{bound_shown, ShowsAt, ShowAt}
-use Rattle.world_model.specs.Updates as updates
-use Rattle.world_model.specs.World.{plan_of, IsWorldRun}
-use Rattle.world_model.specs.WorldLaw.{IsExact, IsRight}
+use Rattle.world_model.specs.rules.Event.{Event, Sent, Took, Entry, EventsAre, is_decided, time_of, sent_count}
+use Rattle.world_model.specs.events.Handed.{HandedAt, AreHanded}
+use Rattle.world_model.specs.lines.History.{history, commit_time}
+use Rattle.world_model.specs.events.Lawful.{IsLawfulWorld}
+use Rattle.world_model.specs.lines.Lines.{Line}
+use Rattle.world_model.specs.rules.Lines.{lines_of}
+use Rattle.world_model.specs.rules.Partition.{PartState}
+use Rattle.world_model.specs.rules.Plan.{Plan, is_some_update, takes_part, commit_vector, MayTake}
+use Rattle.world_model.specs.lines.Places.{twin}
+use Rattle.world_model.specs.lines.Restarts as restarts
+use Rattle.world_model.specs.events.Restarts.{brings}
+use Rattle.world_model.specs.events.Bounds.{bound_shown}
+use Rattle.world_model.specs.events.Causes.{ShowsAt, ShowAt}
+use Rattle.world_model.specs.lines.Updates as updates
+use Rattle.world_model.specs.rules.World.{plan_of, IsWorldRun}
+use Rattle.world_model.specs.events.Reads.{IsExact, IsRight}
 use Rattle.world_model.proofs.Intervals.{numbered_shown, shown_has}
 use Rattle.world_model.proofs.Later.{at_own}
 use Rattle.world_model.proofs.Law.{law_world}

@@ -8,13 +8,14 @@ use Rattle.site_vector.specs.Vector.{entry}
 use Rattle.crdt_core.specs.declared.record.Message.{Message}
 use Rattle.crdt_core.specs.KindsOf.{Kinds}
 use Rattle.crdt_core.specs.Log as log
-use Rattle.world_model.specs.Bounds.{bound}
-use Rattle.world_model.specs.Event.{Event, Prepared, Decided, Finished, Aborted, Took, Entry}
-use Rattle.world_model.specs.Lines.{lines_of}
-use Rattle.world_model.specs.Partition.{PartState, PartStep, IsOther}
-use Rattle.world_model.specs.Pending as lines
-use Rattle.world_model.specs.Plan.{IsPlace, MayTake}
-use Rattle.world_model.specs.World.{plan_of, IsWorldRun}
+use Rattle.world_model.specs.lines.Bounds.{bound}
+use Rattle.world_model.specs.rules.Event.{Event, Prepared, Decided, Finished, Aborted, Took, Entry}
+use Rattle.world_model.specs.rules.Lines.{lines_of}
+use Rattle.world_model.specs.rules.Partition.{PartState, PartStep}
+use Rattle.world_model.specs.lines.Places.{IsOther, IsPlace}
+use Rattle.world_model.specs.lines.Pending as lines
+use Rattle.world_model.specs.rules.Plan.{MayTake}
+use Rattle.world_model.specs.rules.World.{plan_of, IsWorldRun}
 use Rattle.world_model.proofs.LineViews.{bound_is}
 use Rattle.world_model.proofs.Names.{off}
 use Rattle.world_model.proofs.Shows.{shown_run}

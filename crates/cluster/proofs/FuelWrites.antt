@@ -14,15 +14,16 @@ use Rattle.crdt_core.specs.Log.{lease_for}
 use Rattle.crdt_core.specs.Parts.{above}
 use Rattle.world_model.specs.declared.step.Step.{Step}
 use Rattle.world_model.specs.declared.step.Step.TheVariants as step
-use Rattle.world_model.specs.Bounds.{bound}
-use Rattle.world_model.specs.Event.{IsDown, Event, Prepared, Decided, Finished, Aborted, Took, RestartCut, Refused, Cut, Entry}
-use Rattle.world_model.specs.Fuses.{is_change, is_bringing}
-use Rattle.world_model.specs.Lines.{Call, TakeOf, Line, call_of, step_shown}
-use Rattle.world_model.specs.Partition.{PartState, batch_of, records}
-use Rattle.world_model.specs.Pending.{pending}
-use Rattle.world_model.specs.Resumed.{is_some_part, brings}
-use Rattle.world_model.specs.Run.{Run}
-use Rattle.world_model.specs.ScriptCalls.{numbered}
+use Rattle.world_model.specs.lines.Bounds.{bound}
+use Rattle.world_model.specs.rules.Event.{IsDown, Event, Prepared, Decided, Finished, Aborted, Took, RestartCut, Refused, Cut, Entry}
+use Rattle.world_model.specs.commands.Fuses.{is_change, is_bringing}
+use Rattle.world_model.specs.lines.Lines.{Call, TakeOf, Line}
+use Rattle.world_model.specs.rules.Lines.{call_of, step_shown}
+use Rattle.world_model.specs.rules.Partition.{PartState, batch_of, records}
+use Rattle.world_model.specs.lines.Pending.{pending}
+use Rattle.world_model.specs.events.Restarts.{is_some_part, brings}
+use Rattle.world_model.specs.commands.Run.{Run}
+use Rattle.world_model.specs.commands.ScriptCalls.{numbered}
 use Rattle.world_model.proofs.Names.{off}
 use Rattle.partition_core.specs.Moments.{is_cut}
 use Rattle.cluster.specs.Fuel.{IsBrought}

@@ -7,11 +7,11 @@ use Rattle.site_vector.specs.Ids.{same_part}
 use Rattle.world_model.specs.declared.command.Command.{Command}
 use Rattle.world_model.specs.declared.step.Step.{Step}
 use Rattle.world_model.specs.declared.step.Step.TheVariants as step
-use Rattle.world_model.specs.Event as event
-use Rattle.world_model.specs.Event.{Entry, Event, IsDown, Decided, Sent, Reported, Refused, Cut, is_sent, is_report, WasNumbered}
-use Rattle.world_model.specs.Lines.{step_shown}
-use Rattle.world_model.specs.Messages.{message_of, report_of}
-use Rattle.world_model.specs.Run.{Run}
+use Rattle.world_model.specs.rules.Event as event
+use Rattle.world_model.specs.rules.Event.{Entry, Event, IsDown, Decided, Sent, Reported, Refused, Cut, is_sent, is_report, WasNumbered}
+use Rattle.world_model.specs.rules.Lines.{step_shown}
+use Rattle.world_model.specs.commands.Messages.{message_of, report_of}
+use Rattle.world_model.specs.commands.Run.{Run}
 use Rattle.world_model.proofs.Names.{off}
 use Rattle.txn_session.specs.Calls.{Call, entries}
 use Rattle.crdt_core.specs.declared.record.Message.{Message}

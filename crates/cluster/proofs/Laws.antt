@@ -6,22 +6,22 @@ use Rattle.site_vector.specs.declared.ids.PartId.{PartId}
 use Rattle.world_model.specs.declared.command.Command.TheVariants as command
 use Rattle.world_model.specs.declared.step.Step.{Step}
 use Rattle.world_model.specs.declared.step.Step.TheVariants as step
-use Rattle.world_model.specs.Answers.{answered}
-use Rattle.world_model.specs.Cluster.{sites_of, parts_of}
-use Rattle.world_model.specs.Dependency.{HandsOwn}
-use Rattle.world_model.specs.Event.{Entry}
-use Rattle.world_model.specs.Fuses.{HoldsFuses}
-use Rattle.world_model.specs.Lawful.{IsLawful}
-use Rattle.world_model.specs.Lines.{lines_of}
-use Rattle.world_model.specs.Logs.{IsLogOf}
-use Rattle.world_model.specs.Partition.{PartState, new_part}
-use Rattle.world_model.specs.Pending.{is_down}
-use Rattle.world_model.specs.Plan.{IsPlace}
-use Rattle.world_model.specs.Run.{Run}
-use Rattle.world_model.specs.ScriptAnswers.{AnswersBy}
-use Rattle.world_model.specs.ScriptCalls.{calls_of}
-use Rattle.world_model.specs.Told.{Told}
-use Rattle.world_model.specs.World.{IsWorldRun, plan_of}
+use Rattle.world_model.specs.commands.Answers.{answered}
+use Rattle.world_model.specs.commands.Cluster.{sites_of, parts_of}
+use Rattle.world_model.specs.lines.Dependency.{HandsOwn}
+use Rattle.world_model.specs.rules.Event.{Entry}
+use Rattle.world_model.specs.commands.Fuses.{HoldsFuses}
+use Rattle.world_model.specs.lines.Lawful.{IsLawful}
+use Rattle.world_model.specs.rules.Lines.{lines_of}
+use Rattle.world_model.specs.events.Logs.{IsLogOf}
+use Rattle.world_model.specs.rules.Partition.{PartState, new_part}
+use Rattle.world_model.specs.lines.Pending.{is_down}
+use Rattle.world_model.specs.lines.Places.{IsPlace}
+use Rattle.world_model.specs.commands.Run.{Run}
+use Rattle.world_model.specs.commands.ScriptAnswers.{AnswersBy}
+use Rattle.world_model.specs.commands.ScriptCalls.{calls_of}
+use Rattle.world_model.specs.rules.Told.{Told}
+use Rattle.world_model.specs.rules.World.{IsWorldRun, plan_of}
 use Rattle.world_model.proofs.Law.{law_world}
 use Rattle.world_model.proofs.Told as law
 use Rattle.crdt_core.specs.Log.{MayFind}

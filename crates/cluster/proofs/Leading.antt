@@ -9,15 +9,15 @@ use Rattle.world_model.specs.declared.command.Command.TheVariants as command
 use Rattle.world_model.specs.declared.commit.What.TheVariants as what
 use Rattle.world_model.specs.declared.step.Step.{Step}
 use Rattle.world_model.specs.declared.step.Step.TheVariants as step
-use Rattle.world_model.specs.Answers.{answered}
-use Rattle.world_model.specs.Cluster.{parts_of}
-use Rattle.world_model.specs.CommitSteps.{Going, Preparing, Finishing, Aborting}
-use Rattle.world_model.specs.Phases as phases
-use Rattle.world_model.specs.Phases.{Phase, phase, committing, aborting}
-use Rattle.world_model.specs.Run.{Run}
-use Rattle.world_model.specs.ScriptAnswers.{AnswersBy, IsAnswer, fewer}
-use Rattle.world_model.specs.ScriptCalls.{calls_of}
-use Rattle.world_model.specs.Updates.{lead}
+use Rattle.world_model.specs.commands.Answers.{answered}
+use Rattle.world_model.specs.commands.Cluster.{parts_of}
+use Rattle.world_model.specs.commands.CommitSteps.{Going, Preparing, Finishing, Aborting}
+use Rattle.world_model.specs.commands.Phases as phases
+use Rattle.world_model.specs.commands.Phases.{Phase, phase, committing, aborting}
+use Rattle.world_model.specs.commands.Run.{Run}
+use Rattle.world_model.specs.commands.ScriptAnswers.{AnswersBy, IsAnswer, fewer}
+use Rattle.world_model.specs.commands.ScriptCalls.{calls_of}
+use Rattle.world_model.specs.lines.Updates.{lead}
 use Rattle.site_vector.specs.declared.ids.TxId.{TxId}
 use Rattle.cluster.specs.Faults.{ShowFaults}
 use Rattle.cluster.proofs.Faulted.{show_first, show_more, shows_last, shows_as}

@@ -5,15 +5,15 @@ use Rattle.std.proofs.lemmas.Bool.{cond-false, cond-true}
 use Rattle.world_model.specs.declared.command.Command.{Command}
 use Rattle.world_model.specs.declared.step.Step.{Step}
 use Rattle.world_model.specs.declared.step.Step.TheVariants as step
-use Rattle.world_model.specs.Answers.{answered}
-use Rattle.world_model.specs.Cluster.{has_cluster, parts_of}
-use Rattle.world_model.specs.CommitSteps.{Going, Preparing, Finishing, Aborting}
-use Rattle.world_model.specs.Meeting.{meets, met}
-use Rattle.world_model.specs.Phases as phases
-use Rattle.world_model.specs.Phases.{Phase, Absent, phase, by_command, is_undecided, update_total}
-use Rattle.world_model.specs.Refusals.{first_due}
-use Rattle.world_model.specs.Run.{Run}
-use Rattle.world_model.specs.ScriptAnswers.{AnswersBy}
+use Rattle.world_model.specs.commands.Answers.{answered}
+use Rattle.world_model.specs.commands.Cluster.{has_cluster, parts_of}
+use Rattle.world_model.specs.commands.CommitSteps.{Going, Preparing, Finishing, Aborting}
+use Rattle.world_model.specs.commands.Meeting.{meets, met}
+use Rattle.world_model.specs.commands.Phases as phases
+use Rattle.world_model.specs.commands.Phases.{Phase, Absent, phase, by_command, is_undecided, update_total}
+use Rattle.world_model.specs.commands.Refusals.{first_due}
+use Rattle.world_model.specs.commands.Run.{Run}
+use Rattle.world_model.specs.commands.ScriptAnswers.{AnswersBy}
 use Rattle.clocksi_commit.specs.Commit.{is_finishing}
 use Rattle.txn_session.specs.Session as session
 use Rattle.txn_session.specs.Session.{Doing, Idle, Open, Ending, SessionState}

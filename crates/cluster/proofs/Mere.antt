@@ -8,11 +8,11 @@ use Rattle.world_model.specs.declared.command.Command.{Command}
 use Rattle.world_model.specs.declared.command.Command.TheVariants as command
 use Rattle.world_model.specs.declared.step.Step.{Step}
 use Rattle.world_model.specs.declared.step.Step.TheVariants as step
-use Rattle.world_model.specs.Cluster.{is_cluster, has_cluster, sites_of, parts_of, sites_after, parts_after}
-use Rattle.world_model.specs.Meeting.{site_after, site_of, count_after, session_count}
-use Rattle.world_model.specs.Phases.{Phase, Absent, phase, phase_after, by_command}
-use Rattle.world_model.specs.Run.{Run}
-use Rattle.world_model.specs.ScriptCalls.{is_answer, is_unasked, is_called, calls_of}
+use Rattle.world_model.specs.commands.Cluster.{is_cluster, has_cluster, sites_of, parts_of, sites_after, parts_after}
+use Rattle.world_model.specs.commands.Meeting.{site_after, site_of, count_after, session_count}
+use Rattle.world_model.specs.commands.Phases.{Phase, Absent, phase, phase_after, by_command}
+use Rattle.world_model.specs.commands.Run.{Run}
+use Rattle.world_model.specs.commands.ScriptCalls.{is_answer, is_unasked, is_called, calls_of}
 use Rattle.disk_core.specs.States.{DiskState}
 use Rattle.site_partitions.specs.Held.{Held}
 use Rattle.cluster.specs.Faults.{ShowsFault, ShowFaults}

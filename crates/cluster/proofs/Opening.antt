@@ -8,19 +8,20 @@ use Rattle.site_vector.specs.declared.ids.PartId.{PartId}
 use Rattle.world_model.specs.declared.command.Command.TheVariants as command
 use Rattle.world_model.specs.declared.step.Step.{Step}
 use Rattle.world_model.specs.declared.step.Step.TheVariants as step
-use Rattle.world_model.specs.Answers.{answered}
-use Rattle.world_model.specs.Cluster.{has_site, sites_of}
-use Rattle.world_model.specs.Dependency as lines
-use Rattle.world_model.specs.Dependency.{HandsOwn}
-use Rattle.world_model.specs.Event.{Opened}
-use Rattle.world_model.specs.Lines.{Open, lines_of}
-use Rattle.world_model.specs.Meeting.{site_of}
-use Rattle.world_model.specs.Phases as phases
-use Rattle.world_model.specs.Phases.{phase, update_total}
-use Rattle.world_model.specs.Plan.{IsPlace}
-use Rattle.world_model.specs.Run.{Run}
-use Rattle.world_model.specs.ScriptAnswers.{AnswersBy, IsAnswer}
-use Rattle.world_model.specs.ScriptCalls.{calls_of}
+use Rattle.world_model.specs.commands.Answers.{answered}
+use Rattle.world_model.specs.commands.Cluster.{has_site, sites_of}
+use Rattle.world_model.specs.lines.Dependency as lines
+use Rattle.world_model.specs.lines.Dependency.{HandsOwn}
+use Rattle.world_model.specs.rules.Event.{Opened}
+use Rattle.world_model.specs.lines.Lines.{Open}
+use Rattle.world_model.specs.rules.Lines.{lines_of}
+use Rattle.world_model.specs.commands.Meeting.{site_of}
+use Rattle.world_model.specs.commands.Phases as phases
+use Rattle.world_model.specs.commands.Phases.{phase, update_total}
+use Rattle.world_model.specs.lines.Places.{IsPlace}
+use Rattle.world_model.specs.commands.Run.{Run}
+use Rattle.world_model.specs.commands.ScriptAnswers.{AnswersBy, IsAnswer}
+use Rattle.world_model.specs.commands.ScriptCalls.{calls_of}
 use Rattle.txn_session.specs.Calls.{Call, called, entries}
 use Rattle.txn_session.specs.Holds.{Holds, AreApart}
 use Rattle.txn_session.specs.Session.{Doing, Idle, Open as IsOpen, Ending, SessionState}

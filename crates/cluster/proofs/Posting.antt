@@ -4,17 +4,17 @@ use Rattle.std.specs.Prelude.{◌||◌}
 use Rattle.site_vector.specs.declared.ids.PartId.{PartId}
 use Rattle.world_model.specs.declared.command.Command.{Command}
 use Rattle.world_model.specs.declared.step.Step.{Step}
-use Rattle.world_model.specs.Cluster.{is_cluster, has_cluster, sites_of, parts_of, sites_after, parts_after}
-use Rattle.world_model.specs.Dependency as lines
-use Rattle.world_model.specs.Dependency.{HandsOwn, IsOwnPast}
-use Rattle.world_model.specs.Event.{Event}
-use Rattle.world_model.specs.Lines.{call_of, step_shown, lines_of}
-use Rattle.world_model.specs.Meeting.{site_after, count_after, session_count}
-use Rattle.world_model.specs.Past.{dependency}
-use Rattle.world_model.specs.Phases.{Phase, phase_after}
-use Rattle.world_model.specs.Run.{Run}
-use Rattle.world_model.specs.Run as script
-use Rattle.world_model.specs.ScriptCalls.{is_answer, asked_of, numbered, calls_of}
+use Rattle.world_model.specs.commands.Cluster.{is_cluster, has_cluster, sites_of, parts_of, sites_after, parts_after}
+use Rattle.world_model.specs.lines.Dependency as lines
+use Rattle.world_model.specs.lines.Dependency.{HandsOwn, IsOwnPast}
+use Rattle.world_model.specs.rules.Event.{Event}
+use Rattle.world_model.specs.rules.Lines.{call_of, step_shown, lines_of}
+use Rattle.world_model.specs.commands.Meeting.{site_after, count_after, session_count}
+use Rattle.world_model.proofs.Dependency.{dependency}
+use Rattle.world_model.specs.commands.Phases.{Phase, phase_after}
+use Rattle.world_model.specs.commands.Run.{Run}
+use Rattle.world_model.specs.commands.Run as script
+use Rattle.world_model.specs.commands.ScriptCalls.{is_answer, asked_of, numbered, calls_of}
 use Rattle.world_model.proofs.LineViews.{dependency_is}
 use Rattle.txn_session.specs.Calls.{Call, called, entries, IsLegal}
 use Rattle.partition_core.specs.Moments.{Spends}

@@ -8,9 +8,9 @@ use Rattle.site_vector.specs.Ids.{same_tx}
 use Rattle.site_vector.specs.Order.{same_tx_is, same_tx_refl}
 use Rattle.world_model.specs.declared.step.Step.{Step}
 use Rattle.world_model.specs.declared.step.Step.TheVariants as step
-use Rattle.world_model.specs.Lines.{Line}
-use Rattle.world_model.specs.Settling.{settled, stays, is_unwritten, first_end, ends_as_lead, SettlesAll}
-use Rattle.world_model.specs.Waiting.{without}
+use Rattle.world_model.specs.lines.Lines.{Line}
+use Rattle.world_model.specs.commands.Settling.{settled, stays, is_unwritten, first_end, ends_as_lead, SettlesAll}
+use Rattle.world_model.specs.lines.Waiting.{without}
 use Rattle.cluster.proofs.Telling.{AreOther, AreOnce}
 
 abbrev pub names_of : List (TxId × ℕ) → List TxId

@@ -10,12 +10,13 @@ use Rattle.crdt_core.specs.declared.record.Upd.{Upd}
 use Rattle.crdt_core.specs.KindsOf.{Kinds}
 use Rattle.world_model.specs.declared.step.Step.{Step}
 use Rattle.world_model.specs.declared.step.Step.TheVariants as step
-use Rattle.world_model.specs.Asking.{MayCall, asked_by, is_own_word}
-use Rattle.world_model.specs.Event.{Ask, AskUpdate, Refusal, IsDown, IsBadOp, HasNoRoom, Event, Updated, Crashed, RestartCut, Restarted, Refused, Opened, Cut, Entry, attempt}
-use Rattle.world_model.specs.Lines.{session_of, refusal_shown, fault_shown, step_shown, tx_asked, number_asked}
-use Rattle.world_model.specs.Partition.{PartState, PartStep, IsRefused}
-use Rattle.world_model.specs.Plan.{IsPlace, IsFit}
-use Rattle.world_model.specs.World.{begun}
+use Rattle.world_model.specs.rules.Asking.{MayCall, asked_by, is_own_word}
+use Rattle.world_model.specs.rules.Event.{Ask, AskUpdate, Refusal, IsDown, IsBadOp, HasNoRoom, Event, Updated, Crashed, RestartCut, Restarted, Refused, Opened, Cut, Entry, attempt}
+use Rattle.world_model.specs.rules.Lines.{session_of, refusal_shown, fault_shown, step_shown, tx_asked, number_asked}
+use Rattle.world_model.specs.rules.Partition.{PartState, PartStep, IsRefused}
+use Rattle.world_model.specs.lines.Places.{IsPlace}
+use Rattle.world_model.specs.rules.Plan.{IsFit}
+use Rattle.world_model.specs.rules.World.{begun}
 use Rattle.partition_core.specs.declared.answers.Refusal as part
 use Rattle.partition_core.specs.declared.answers.Refusal.TheVariants as answer
 use Rattle.partition_core.specs.declared.durable.DurableError.{DurableError}

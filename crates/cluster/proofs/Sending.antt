@@ -8,16 +8,17 @@ use Rattle.crdt_core.specs.declared.record.Message.{Message}
 use Rattle.world_model.specs.declared.command.Command.TheVariants as command
 use Rattle.world_model.specs.declared.step.Step.{Step}
 use Rattle.world_model.specs.declared.step.Step.TheVariants as step
-use Rattle.world_model.specs.Answers.{answered}
-use Rattle.world_model.specs.Cluster.{has_site, has_part}
-use Rattle.world_model.specs.Event as event
-use Rattle.world_model.specs.Event.{AskMessage, AskReport, Event, Entry, Sent, Reported, Cut, WasNumbered}
-use Rattle.world_model.specs.Lines.{SendTo, call_of, call_asked, fault_shown}
-use Rattle.world_model.specs.Messages.{message_of, report_of}
-use Rattle.world_model.specs.Partition.{IsOther, IsMessage}
-use Rattle.world_model.specs.Plan.{IsPlace}
-use Rattle.world_model.specs.Run.{Run}
-use Rattle.world_model.specs.ScriptAnswers.{AnswersBy, IsAnswer}
+use Rattle.world_model.specs.commands.Answers.{answered}
+use Rattle.world_model.specs.commands.Cluster.{has_site, has_part}
+use Rattle.world_model.specs.rules.Event as event
+use Rattle.world_model.specs.rules.Event.{AskMessage, AskReport, Event, Entry, Sent, Reported, Cut, WasNumbered}
+use Rattle.world_model.specs.lines.Lines.{SendTo}
+use Rattle.world_model.specs.rules.Lines.{call_of, call_asked, fault_shown}
+use Rattle.world_model.specs.commands.Messages.{message_of, report_of}
+use Rattle.world_model.specs.lines.Places.{IsOther, IsPlace}
+use Rattle.world_model.specs.rules.Partition.{IsMessage}
+use Rattle.world_model.specs.commands.Run.{Run}
+use Rattle.world_model.specs.commands.ScriptAnswers.{AnswersBy, IsAnswer}
 use Rattle.partition_core.specs.declared.durable.DurableError.{DurableError}
 use Rattle.partition_core.specs.declared.durable.DurableError.TheVariants as call
 use Rattle.txn_session.specs.Calls.{entries}

@@ -7,16 +7,16 @@ use Rattle.std.proofs.lemmas.Bool.{true≢false}
 use Rattle.site_vector.specs.declared.ids.PartId.{PartId}
 use Rattle.world_model.specs.declared.command.Command.{Command}
 use Rattle.world_model.specs.declared.step.Step.{Step}
-use Rattle.world_model.specs.Asking.{asked_by}
-use Rattle.world_model.specs.Cluster.{sites_of, parts_of}
-use Rattle.world_model.specs.Dependency.{IsOwnPast}
-use Rattle.world_model.specs.Event.{Ask, IsDown, Event, Decided, Opened, Refused, Cut, Entry, attempt}
-use Rattle.world_model.specs.Lines.{call_asked, step_shown, call_of}
-use Rattle.world_model.specs.Meeting.{site_after, site_of}
-use Rattle.world_model.specs.Past.{dependency_after}
-use Rattle.world_model.specs.Phases.{phase, phase_after, by_command, update_total}
-use Rattle.world_model.specs.Run.{Run}
-use Rattle.world_model.specs.ScriptCalls.{is_answer, asked_of, numbered, calls_of}
+use Rattle.world_model.specs.rules.Asking.{asked_by}
+use Rattle.world_model.specs.commands.Cluster.{sites_of, parts_of}
+use Rattle.world_model.specs.lines.Dependency.{IsOwnPast}
+use Rattle.world_model.specs.rules.Event.{Ask, IsDown, Event, Decided, Opened, Refused, Cut, Entry, attempt}
+use Rattle.world_model.specs.rules.Lines.{call_asked, step_shown, call_of}
+use Rattle.world_model.specs.commands.Meeting.{site_after, site_of}
+use Rattle.world_model.proofs.Dependency.{dependency_after}
+use Rattle.world_model.specs.commands.Phases.{phase, phase_after, by_command, update_total}
+use Rattle.world_model.specs.commands.Run.{Run}
+use Rattle.world_model.specs.commands.ScriptCalls.{is_answer, asked_of, numbered, calls_of}
 use Rattle.txn_session.specs.Calls.{Call, entries, called, NoneBears}
 use Rattle.txn_session.specs.Holds.{Holds, Makes}
 use Rattle.txn_session.specs.Session.{SessionState}

@@ -13,24 +13,26 @@ use Rattle.disk_core.specs.States.{DiskState}
 use Rattle.world_model.specs.declared.command.Command.TheVariants as command
 use Rattle.world_model.specs.declared.step.Step.{Step}
 use Rattle.world_model.specs.declared.step.Step.TheVariants as step
-use Rattle.world_model.specs.Answers.{answered}
-use Rattle.world_model.specs.Asking.{MayCall}
-use Rattle.world_model.specs.Cluster.{has_part, sites_of, parts_of, partitions}
-use Rattle.world_model.specs.Dependency.{IsOwnPast}
-use Rattle.world_model.specs.Event.{AskFinish, AskAbort, AskReport, IsDown, HasNoRoom, Entry, Event, Finished, Aborted, Refused, Cut}
-use Rattle.world_model.specs.Fate.{IsFate}
-use Rattle.world_model.specs.History.{in_history, decides}
-use Rattle.world_model.specs.Lines.{Call, Line, FinishOf, AbortOf, step_shown, call_of}
-use Rattle.world_model.specs.Meeting.{met}
-use Rattle.world_model.specs.Partition.{PartState, ToldCommitted, ToldAborted, ToldDown, fate_of}
-use Rattle.world_model.specs.Pending.{pending, pending_after, is_down, down_after}
-use Rattle.world_model.specs.Plan.{IsPlace, first_of, home}
-use Rattle.world_model.specs.Run.{Run}
-use Rattle.world_model.specs.ScriptAnswers.{AnswersBy, IsAnswer}
-use Rattle.world_model.specs.ScriptCalls.{calls_of}
-use Rattle.world_model.specs.Settling.{settled, stays, is_untold, is_unwritten, first_end, ends_as_lead, SettlesAll}
-use Rattle.world_model.specs.Updates.{Change, changes, change_of, lead}
-use Rattle.world_model.specs.Waiting.{waiting, without, ArePending}
+use Rattle.world_model.specs.commands.Answers.{answered}
+use Rattle.world_model.specs.rules.Asking.{MayCall}
+use Rattle.world_model.specs.commands.Cluster.{has_part, sites_of, parts_of}
+use Rattle.world_model.specs.lines.Places.{partitions, IsPlace, first_of, home}
+use Rattle.world_model.specs.lines.Dependency.{IsOwnPast}
+use Rattle.world_model.specs.rules.Event.{AskFinish, AskAbort, AskReport, IsDown, HasNoRoom, Entry, Event, Finished, Aborted, Refused, Cut}
+use Rattle.world_model.specs.rules.Fate.{IsFate}
+use Rattle.world_model.specs.lines.History.{in_history, decides}
+use Rattle.world_model.specs.lines.Lines.{Call, Line, FinishOf, AbortOf}
+use Rattle.world_model.specs.rules.Lines.{step_shown, call_of}
+use Rattle.world_model.specs.commands.Meeting.{met}
+use Rattle.world_model.specs.rules.Partition.{PartState, ToldCommitted, ToldAborted, ToldDown, fate_of}
+use Rattle.world_model.specs.lines.Pending.{pending, pending_after, is_down, down_after}
+use Rattle.world_model.specs.commands.Run.{Run}
+use Rattle.world_model.specs.commands.ScriptAnswers.{AnswersBy, IsAnswer}
+use Rattle.world_model.specs.commands.ScriptCalls.{calls_of}
+use Rattle.world_model.specs.commands.Settling.{settled, stays, is_untold, is_unwritten, first_end, ends_as_lead, SettlesAll}
+use Rattle.world_model.specs.lines.Updates.{Change, changes, change_of, lead}
+use Rattle.world_model.specs.lines.Waiting.{waiting, without}
+use Rattle.world_model.specs.rules.Waiting.{ArePending}
 use Rattle.world_model.proofs.Names.{off}
 use Rattle.world_model.proofs.Told as law
 use Rattle.partition_core.specs.declared.answers.Fate.{Fate}

@@ -7,15 +7,15 @@ use Rattle.std.proofs.lemmas.List.{length-append}
 use Rattle.world_model.specs.declared.commit.Next.TheVariants as next
 use Rattle.world_model.specs.declared.step.Step.{Step}
 use Rattle.world_model.specs.declared.step.Step.TheVariants as step
-use Rattle.world_model.specs.Cluster.{parts_of}
-use Rattle.world_model.specs.CommitSteps.{Going, Preparing, Finishing, Aborting, starting, given_up, next_step, is_done, after, after_vote, after_decision, after_finish}
-use Rattle.world_model.specs.Lines.{Line}
-use Rattle.world_model.specs.Phases as phases
-use Rattle.world_model.specs.Phases.{Phase, phase, by_command, going_of, holders}
-use Rattle.world_model.specs.Run.{Run}
-use Rattle.world_model.specs.ScriptAnswers as script
-use Rattle.world_model.specs.ScriptAnswers.{StepsOf, Either, Then, fewer}
-use Rattle.world_model.specs.ScriptCalls.{for_step, for_commit, asked_of}
+use Rattle.world_model.specs.commands.Cluster.{parts_of}
+use Rattle.world_model.specs.commands.CommitSteps.{Going, Preparing, Finishing, Aborting, starting, given_up, next_step, is_done, after, after_vote, after_decision, after_finish}
+use Rattle.world_model.specs.lines.Lines.{Line}
+use Rattle.world_model.specs.commands.Phases as phases
+use Rattle.world_model.specs.commands.Phases.{Phase, phase, by_command, going_of, holders}
+use Rattle.world_model.specs.commands.Run.{Run}
+use Rattle.world_model.specs.commands.ScriptAnswers as script
+use Rattle.world_model.specs.commands.ScriptAnswers.{StepsOf, Either, Then, fewer}
+use Rattle.world_model.specs.commands.ScriptCalls.{for_step, for_commit, asked_of}
 use Rattle.world_model.proofs.Names.{off}
 use Rattle.clocksi_commit.specs.Commit.{Committing, is_finishing}
 use Rattle.txn_session.specs.Session.{Txn, Ending, committed_so}

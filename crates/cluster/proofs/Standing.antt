@@ -4,12 +4,12 @@ use Rattle.std.specs.Prelude.{◌||◌, ◌&&◌, nat_le}
 use Rattle.std.proofs.lemmas.Bool.{cond-false}
 use Rattle.world_model.specs.declared.command.Command.{Command}
 use Rattle.world_model.specs.declared.step.Step.{Step}
-use Rattle.world_model.specs.Cluster.{is_cluster, has_cluster, sites_of, parts_of, sites_after, parts_after}
-use Rattle.world_model.specs.Dependency.{dependency, HandsOwn}
-use Rattle.world_model.specs.Meeting.{site_after, site_of, count_after, session_count}
-use Rattle.world_model.specs.Phases.{phase, phase_after, by_command}
-use Rattle.world_model.specs.Run.{Run}
-use Rattle.world_model.specs.ScriptCalls.{is_called, calls_of}
+use Rattle.world_model.specs.commands.Cluster.{is_cluster, has_cluster, sites_of, parts_of, sites_after, parts_after}
+use Rattle.world_model.specs.lines.Dependency.{dependency, HandsOwn}
+use Rattle.world_model.specs.commands.Meeting.{site_after, site_of, count_after, session_count}
+use Rattle.world_model.specs.commands.Phases.{phase, phase_after, by_command}
+use Rattle.world_model.specs.commands.Run.{Run}
+use Rattle.world_model.specs.commands.ScriptCalls.{is_called, calls_of}
 use Rattle.txn_session.specs.Calls.{Call, entries}
 use Rattle.txn_session.specs.Holds.{Holds}
 use Rattle.txn_session.specs.Session.{SessionState}

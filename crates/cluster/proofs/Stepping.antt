@@ -5,8 +5,8 @@ use Rattle.std.specs.Str.{bytes_eq}
 use Rattle.std.proofs.lemmas.Bool.{true≢false, cond-true, cond-false, cases_Bool}
 use Rattle.site_vector.specs.declared.ids.PartId.{PartId}
 use Rattle.site_vector.specs.declared.ids.TxId.{TxId}
-use Rattle.world_model.specs.Updates as world
-use Rattle.world_model.specs.Updates.{change_of}
+use Rattle.world_model.specs.lines.Updates as world
+use Rattle.world_model.specs.lines.Updates.{change_of}
 use Rattle.world_model.specs.declared.command.Command.{Command}
 use Rattle.world_model.specs.declared.commit.Next.{Next}
 use Rattle.world_model.specs.declared.commit.Next.TheVariants as next
@@ -14,17 +14,17 @@ use Rattle.world_model.specs.declared.commit.What.{What}
 use Rattle.world_model.specs.declared.commit.What.TheVariants as what
 use Rattle.world_model.specs.declared.step.Step.{Step}
 use Rattle.world_model.specs.declared.step.Step.TheVariants as step
-use Rattle.world_model.specs.Cluster.{parts_of, sites_of}
-use Rattle.world_model.specs.CommitSteps.{Going, Preparing, Finishing, Aborting, starting, given_up, next_step, is_done, after}
-use Rattle.world_model.specs.Lines.{call_asked}
-use Rattle.world_model.specs.Past.{is_of}
-use Rattle.world_model.specs.Phases as phases
-use Rattle.world_model.specs.Phases.{Phase, phase, phase_after, by_command, going_of, update_total}
-use Rattle.world_model.specs.Plan.{home}
-use Rattle.world_model.specs.Run.{Run}
-use Rattle.world_model.specs.ScriptAnswers as script
-use Rattle.world_model.specs.ScriptAnswers.{StepsOf, Either, Then, fewer}
-use Rattle.world_model.specs.ScriptCalls.{is_answer, for_step, asked_of, calls_of}
+use Rattle.world_model.specs.commands.Cluster.{parts_of, sites_of}
+use Rattle.world_model.specs.commands.CommitSteps.{Going, Preparing, Finishing, Aborting, starting, given_up, next_step, is_done, after}
+use Rattle.world_model.specs.rules.Lines.{call_asked}
+use Rattle.world_model.specs.events.Dependency.{is_of}
+use Rattle.world_model.specs.commands.Phases as phases
+use Rattle.world_model.specs.commands.Phases.{Phase, phase, phase_after, by_command, going_of, update_total}
+use Rattle.world_model.specs.lines.Places.{home}
+use Rattle.world_model.specs.commands.Run.{Run}
+use Rattle.world_model.specs.commands.ScriptAnswers as script
+use Rattle.world_model.specs.commands.ScriptAnswers.{StepsOf, Either, Then, fewer}
+use Rattle.world_model.specs.commands.ScriptCalls.{is_answer, for_step, asked_of, calls_of}
 use Rattle.world_model.proofs.Names.{off}
 use Rattle.clocksi_commit.specs.Commit.{Committing}
 use Rattle.txn_session.specs.Calls.{Call, called, entries}

@@ -8,14 +8,14 @@ use Rattle.world_model.specs.declared.command.Command.{Command}
 use Rattle.world_model.specs.declared.command.Command.TheVariants as command
 use Rattle.world_model.specs.declared.step.Step.{Step}
 use Rattle.world_model.specs.declared.step.Step.TheVariants as step
-use Rattle.world_model.specs.Answers.{answered}
-use Rattle.world_model.specs.Event as event
-use Rattle.world_model.specs.Event.{Event, Entry, Crashed, RestartCut}
-use Rattle.world_model.specs.Lines.{Crash, Restart}
-use Rattle.world_model.specs.Meeting.{met}
-use Rattle.world_model.specs.Plan.{IsPlace}
-use Rattle.world_model.specs.Run.{Run}
-use Rattle.world_model.specs.ScriptAnswers.{AnswersBy, IsAnswer}
+use Rattle.world_model.specs.commands.Answers.{answered}
+use Rattle.world_model.specs.rules.Event as event
+use Rattle.world_model.specs.rules.Event.{Event, Entry, Crashed, RestartCut}
+use Rattle.world_model.specs.lines.Lines.{Crash, Restart}
+use Rattle.world_model.specs.commands.Meeting.{met}
+use Rattle.world_model.specs.lines.Places.{IsPlace}
+use Rattle.world_model.specs.commands.Run.{Run}
+use Rattle.world_model.specs.commands.ScriptAnswers.{AnswersBy, IsAnswer}
 use Rattle.crdt_core.specs.Fitting.{unfit}
 use Rattle.disk_core.specs.States.{Rose}
 use Rattle.partition_core.specs.Durable.{disk_in}

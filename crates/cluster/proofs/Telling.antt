@@ -13,22 +13,24 @@ use Rattle.crdt_core.specs.Orders.{Precede, Ascends, pending_cmp}
 use Rattle.prepared_table.specs.declared.entry.Entry.{Entry}
 use Rattle.prepared_table.specs.Entries.{has_entry, entry_cmp}
 use Rattle.world_model.specs.declared.step.Step.TheVariants as step
-use Rattle.world_model.specs.Cluster.{parts_of}
-use Rattle.world_model.specs.Fate.{IsFate, is_committed_at}
-use Rattle.world_model.specs.History.{in_history}
-use Rattle.world_model.specs.Lines.{Line, lines_of}
-use Rattle.world_model.specs.Partition.{PartState, fate_of, names_pending}
-use Rattle.world_model.specs.Pending as lines
-use Rattle.world_model.specs.Pending.{pending, is_down}
-use Rattle.world_model.specs.Plan.{IsPlace}
-use Rattle.world_model.specs.Run.{Run}
-use Rattle.world_model.specs.ScriptCalls.{calls_of}
-use Rattle.world_model.specs.Settling.{asks_abort, looked_up, settled, is_untold}
-use Rattle.world_model.specs.Shown.{IsIdBefore, IsBefore, IsBeforeAll, AreInOrder}
-use Rattle.world_model.specs.Told.{Told}
-use Rattle.world_model.specs.Updates.{lead}
-use Rattle.world_model.specs.Listed.{AreTimed}
-use Rattle.world_model.specs.Waiting.{waiting, ArePending}
+use Rattle.world_model.specs.commands.Cluster.{parts_of}
+use Rattle.world_model.specs.rules.Fate.{IsFate}
+use Rattle.world_model.specs.lines.Fate.{is_committed_at}
+use Rattle.world_model.specs.lines.History.{in_history}
+use Rattle.world_model.specs.lines.Lines.{Line}
+use Rattle.world_model.specs.rules.Lines.{lines_of}
+use Rattle.world_model.specs.rules.Partition.{PartState, fate_of}
+use Rattle.world_model.specs.lines.Listed.{names_pending, IsIdBefore, IsBefore, IsBeforeAll, AreInOrder, AreTimed}
+use Rattle.world_model.specs.lines.Pending as lines
+use Rattle.world_model.specs.lines.Pending.{pending, is_down}
+use Rattle.world_model.specs.lines.Places.{IsPlace}
+use Rattle.world_model.specs.commands.Run.{Run}
+use Rattle.world_model.specs.commands.ScriptCalls.{calls_of}
+use Rattle.world_model.specs.commands.Settling.{asks_abort, looked_up, settled, is_untold}
+use Rattle.world_model.specs.rules.Told.{Told}
+use Rattle.world_model.specs.lines.Updates.{lead}
+use Rattle.world_model.specs.lines.Waiting.{waiting}
+use Rattle.world_model.specs.rules.Waiting.{ArePending}
 use Rattle.world_model.proofs.Law.{law_world}
 use Rattle.world_model.proofs.Queue.{in_order}
 use Rattle.world_model.proofs.Told as law

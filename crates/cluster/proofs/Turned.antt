@@ -8,20 +8,20 @@ use Rattle.crdt_core.specs.KindsOf.{Kinds}
 use Rattle.world_model.specs.declared.command.Command.{Command}
 use Rattle.world_model.specs.declared.step.Step.{Step}
 use Rattle.world_model.specs.declared.step.Step.TheVariants as step
-use Rattle.world_model.specs.Asking.{asked_by}
-use Rattle.world_model.specs.Cluster.{has_cluster, sites_of, parts_of}
-use Rattle.world_model.specs.Dependency as lines
-use Rattle.world_model.specs.Dependency.{HandsOwn, IsOwnPast}
-use Rattle.world_model.specs.Event.{Ask, AskBegin, AskRead, AskUpdate, AskPrepare, AskDecide, AskFinish, AskAbort, AskTake, IsDown, IsBadOp, HasGap, IsRepeat, Event, Began, Updated, Prepared, Decided, Aborted, Sent, Took, Reported, Heard, Crashed, RestartCut, Restarted, Refused, Opened, Cut, Entry, attempt, is_sent, is_report}
-use Rattle.world_model.specs.Lines.{call_asked, step_shown, call_of, lines_of, session_of}
-use Rattle.world_model.specs.Meeting.{site_of, session_count}
-use Rattle.world_model.specs.Past.{dependency_after, dependency}
-use Rattle.world_model.specs.Partition.{PartState, PartStep, IsRefused}
-use Rattle.world_model.specs.Phases.{phase, by_command}
-use Rattle.world_model.specs.Run.{Run}
-use Rattle.world_model.specs.ScriptCalls.{is_answer, is_called, calls_of}
-use Rattle.world_model.specs.ScriptCalls as script
-use Rattle.world_model.specs.Updates.{lead}
+use Rattle.world_model.specs.rules.Asking.{asked_by}
+use Rattle.world_model.specs.commands.Cluster.{has_cluster, sites_of, parts_of}
+use Rattle.world_model.specs.lines.Dependency as lines
+use Rattle.world_model.specs.lines.Dependency.{HandsOwn, IsOwnPast}
+use Rattle.world_model.specs.rules.Event.{Ask, AskBegin, AskRead, AskUpdate, AskPrepare, AskDecide, AskFinish, AskAbort, AskTake, IsDown, IsBadOp, HasGap, IsRepeat, Event, Began, Updated, Prepared, Decided, Aborted, Sent, Took, Reported, Heard, Crashed, RestartCut, Restarted, Refused, Opened, Cut, Entry, attempt, is_sent, is_report}
+use Rattle.world_model.specs.rules.Lines.{call_asked, step_shown, call_of, lines_of, session_of}
+use Rattle.world_model.specs.commands.Meeting.{site_of, session_count}
+use Rattle.world_model.proofs.Dependency.{dependency_after, dependency}
+use Rattle.world_model.specs.rules.Partition.{PartState, PartStep, IsRefused}
+use Rattle.world_model.specs.commands.Phases.{phase, by_command}
+use Rattle.world_model.specs.commands.Run.{Run}
+use Rattle.world_model.specs.commands.ScriptCalls.{is_answer, is_called, calls_of}
+use Rattle.world_model.specs.commands.ScriptCalls as script
+use Rattle.world_model.specs.lines.Updates.{lead}
 use Rattle.world_model.proofs.LineViews.{dependency_is}
 use Rattle.world_model.proofs.Names.{off}
 use Rattle.txn_session.specs.Calls.{Call, entries, called, IsLegal}

@@ -12,17 +12,18 @@ use Rattle.site_vector.specs.Vector.{join}
 use Rattle.crdt_core.specs.KindsOf.{Kinds}
 use Rattle.world_model.specs.declared.command.Command.{Command}
 use Rattle.world_model.specs.declared.step.Step.{Step}
-use Rattle.world_model.specs.Cluster.{is_cluster, sites_after, parts_after}
-use Rattle.world_model.specs.Event.{IsDown, IsBadOp, HasGap, IsRepeat, Event, Began, Updated, Prepared, Decided, Aborted, Sent, Took, Reported, Heard, Refused, Opened, Cut, Entry}
-use Rattle.world_model.specs.Lines.{step_shown, session_after, session_of}
-use Rattle.world_model.specs.Meeting.{site_after, count_after}
-use Rattle.world_model.specs.Past.{begins_for, is_of, dependency_after}
-use Rattle.world_model.specs.Phases.{Phase, phase_after, by_command}
-use Rattle.world_model.specs.Run.{Run}
+use Rattle.world_model.specs.commands.Cluster.{is_cluster, sites_after, parts_after}
+use Rattle.world_model.specs.rules.Event.{IsDown, IsBadOp, HasGap, IsRepeat, Event, Began, Updated, Prepared, Decided, Aborted, Sent, Took, Reported, Heard, Refused, Opened, Cut, Entry}
+use Rattle.world_model.specs.rules.Lines.{step_shown, session_after, session_of}
+use Rattle.world_model.specs.commands.Meeting.{site_after, count_after}
+use Rattle.world_model.specs.events.Dependency.{begins_for, is_of}
+use Rattle.world_model.proofs.Dependency.{dependency_after}
+use Rattle.world_model.specs.commands.Phases.{Phase, phase_after, by_command}
+use Rattle.world_model.specs.commands.Run.{Run}
 use Rattle.world_model.specs.declared.command.Command.TheVariants as command
-use Rattle.world_model.specs.Lines as world
-use Rattle.world_model.specs.ScriptCalls.{is_answer, asked_of, numbered, line_on, calls_of}
-use Rattle.world_model.specs.World.{is_begin, begun}
+use Rattle.world_model.specs.lines.Lines as world
+use Rattle.world_model.specs.commands.ScriptCalls.{is_answer, asked_of, numbered, line_on, calls_of}
+use Rattle.world_model.specs.rules.World.{is_begin, begun}
 use Rattle.world_model.proofs.Names.{off}
 use Rattle.txn_session.specs.Calls.{Call, entries, touches, IsLegal}
 use Rattle.txn_session.specs.Holds.{HoldsDoing, Holds, AreApart}

@@ -7,12 +7,12 @@ use Rattle.site_vector.specs.declared.ids.PartId.{PartId}
 use Rattle.site_vector.specs.declared.ids.TxId.{TxId}
 use Rattle.site_vector.specs.Ids.{same_part}
 use Rattle.world_model.specs.declared.step.Step.{Step}
-use Rattle.world_model.specs.Asking.{asked_by}
-use Rattle.world_model.specs.Cluster.{partitions}
-use Rattle.world_model.specs.Event.{Ask, AskPrepare, AskDecide, AskFinish, AskAbort, IsDown, Event, Updated, Decided, Refused, Cut, Entry, attempt}
-use Rattle.world_model.specs.Lines.{Call, Line, step_shown}
-use Rattle.world_model.specs.Plan.{first_of, home}
-use Rattle.world_model.specs.Updates.{Change, changes, change_of, lead}
+use Rattle.world_model.specs.rules.Asking.{asked_by}
+use Rattle.world_model.specs.lines.Places.{partitions, first_of, home}
+use Rattle.world_model.specs.rules.Event.{Ask, AskPrepare, AskDecide, AskFinish, AskAbort, IsDown, Event, Updated, Decided, Refused, Cut, Entry, attempt}
+use Rattle.world_model.specs.lines.Lines.{Call, Line}
+use Rattle.world_model.specs.rules.Lines.{step_shown}
+use Rattle.world_model.specs.lines.Updates.{Change, changes, change_of, lead}
 use Rattle.world_model.proofs.Names.{off}
 
 module _ (parts : ℕ) (ls : List Line) (p : PartId) (call : Call) (s : Step) (unchanged : (time index : ℕ) (u : TxId) → change_of p time index call s u ≡ []) where

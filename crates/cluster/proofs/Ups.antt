@@ -2,9 +2,9 @@
 use Rattle.std.proofs.Common.{◌≡◌, ℕ, zero, suc, Bool, true, false, true≢false, List, [], ◌∷◌, get_or, set, refl, sym, ◌∙◌, subst}
 use Rattle.std.specs.Prelude.{not}
 use Rattle.site_vector.specs.declared.ids.PartId.{PartId}
-use Rattle.world_model.specs.Event.{Entry}
-use Rattle.world_model.specs.Partition.{PartState}
-use Rattle.world_model.specs.Plan.{IsPlace}
+use Rattle.world_model.specs.rules.Event.{Entry}
+use Rattle.world_model.specs.rules.Partition.{PartState}
+use Rattle.world_model.specs.lines.Places.{IsPlace}
 use Rattle.partition_core.specs.Durable.{Durable, StandsOn, StandsUp, StandsSo, is_down}
 use Rattle.site_partitions.specs.Fates.{OfState}
 use Rattle.site_partitions.specs.Held.{Held, index_of}

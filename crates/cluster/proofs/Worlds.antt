@@ -6,10 +6,11 @@ use Rattle.crdt_core.specs.declared.record.Record.{Record}
 use Rattle.crdt_core.specs.Fitting.{unfit}
 use Rattle.crdt_core.specs.KindsOf.{Kinds}
 use Rattle.crdt_core.specs.Log.{pending}
-use Rattle.world_model.specs.Event.{Entry}
-use Rattle.world_model.specs.Partition.{PartState, Finds}
-use Rattle.world_model.specs.Plan.{Plan, IsRun, is_some_update}
-use Rattle.world_model.specs.World.{IsWorldRun, plan_of}
+use Rattle.world_model.specs.rules.Event.{Entry}
+use Rattle.world_model.specs.rules.Partition.{PartState, Finds}
+use Rattle.world_model.specs.rules.Plan.{Plan, is_some_update}
+use Rattle.world_model.proofs.Runs.{IsRun}
+use Rattle.world_model.specs.rules.World.{IsWorldRun, plan_of}
 use Rattle.world_model.proofs.Fate.{pending_parts}
 use Rattle.world_model.proofs.Fitted.{good_unfit, good_run}
 use Rattle.world_model.proofs.Handing.{IsHome, homes, planned_updates}

@@ -7,7 +7,7 @@ use Rattle.txn_session.specs.Calls.{Call}
 use Rattle.txn_session.specs.Holds.{Holds, Makes, MakesRead, MakesUpdate}
 use Rattle.txn_session.specs.Session.{SessionState, place_in, moved_to}
 use Rattle.txn_session.specs.Opens.{IsOpened, IsUpdated}
-use Rattle.world_model.specs.Event.{AskBegin}
+use Rattle.world_model.specs.rules.Event.{AskBegin}
 use Rattle.crdt_core.specs.declared.operation.Op.{Op}
 use Rattle.crdt_core.specs.Placing.{place_of}
 use Rattle.site_partitions.specs.Held.{Held}

@@ -6,15 +6,15 @@ use Rattle.world_model.specs.declared.command.Command.TheVariants as command
 use Rattle.world_model.specs.declared.commit.Next.{Next}
 use Rattle.world_model.specs.declared.commit.Next.TheVariants as next
 use Rattle.world_model.specs.declared.step.Step.{Step}
-use Rattle.world_model.specs.Answers.{answered}
-use Rattle.world_model.specs.Cluster.{parts_of}
-use Rattle.world_model.specs.CommitSteps.{Going, given_up}
-use Rattle.world_model.specs.Phases as phases
-use Rattle.world_model.specs.Phases.{going_of}
-use Rattle.world_model.specs.Run.{Run}
-use Rattle.world_model.specs.ScriptCalls.{calls_of}
-use Rattle.world_model.specs.Updates.{lead}
-use Rattle.world_model.specs.ScriptAnswers.{StepsOf}
+use Rattle.world_model.specs.commands.Answers.{answered}
+use Rattle.world_model.specs.commands.Cluster.{parts_of}
+use Rattle.world_model.specs.commands.CommitSteps.{Going, given_up}
+use Rattle.world_model.specs.commands.Phases as phases
+use Rattle.world_model.specs.commands.Phases.{going_of}
+use Rattle.world_model.specs.commands.Run.{Run}
+use Rattle.world_model.specs.commands.ScriptCalls.{calls_of}
+use Rattle.world_model.specs.lines.Updates.{lead}
+use Rattle.world_model.specs.commands.ScriptAnswers.{StepsOf}
 use Rattle.txn_session.specs.declared.phase.Phase.{Phase}
 use Rattle.txn_session.specs.declared.phase.Phase.TheVariants as phase
 use Rattle.txn_session.specs.Calls.{Call}

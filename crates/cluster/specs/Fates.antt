@@ -5,14 +5,14 @@ use Rattle.site_vector.specs.declared.ids.TxId.{TxId}
 use Rattle.site_vector.specs.Ids.{same_tx}
 use Rattle.world_model.specs.declared.command.Command.TheVariants as command
 use Rattle.world_model.specs.declared.step.Step.{Step}
-use Rattle.world_model.specs.Cluster.{parts_of}
-use Rattle.world_model.specs.Pending.{pending}
-use Rattle.world_model.specs.Plan.{IsPlace, home}
-use Rattle.world_model.specs.Run.{Run}
-use Rattle.world_model.specs.ScriptCalls.{calls_of}
-use Rattle.world_model.specs.Settling.{settled, stays, is_unwritten, first_end, ends_as_lead}
-use Rattle.world_model.specs.Updates.{lead}
-use Rattle.world_model.specs.Waiting.{waiting, without}
+use Rattle.world_model.specs.commands.Cluster.{parts_of}
+use Rattle.world_model.specs.lines.Pending.{pending}
+use Rattle.world_model.specs.lines.Places.{IsPlace, home}
+use Rattle.world_model.specs.commands.Run.{Run}
+use Rattle.world_model.specs.commands.ScriptCalls.{calls_of}
+use Rattle.world_model.specs.commands.Settling.{settled, stays, is_unwritten, first_end, ends_as_lead}
+use Rattle.world_model.specs.lines.Updates.{lead}
+use Rattle.world_model.specs.lines.Waiting.{waiting, without}
 use Rattle.site_partitions.specs.Fates.{OfState}
 use Rattle.site_partitions.specs.Held.{Held, holds_part}
 use Rattle.site_partitions.specs.Reaches.{Types}

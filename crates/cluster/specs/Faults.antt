@@ -5,10 +5,10 @@ use Rattle.disk_core.specs.States.{DiskState, Rose}
 use Rattle.partition_core.specs.Durable.{Durable}
 use Rattle.world_model.specs.declared.step.Step.{Step}
 use Rattle.world_model.specs.declared.step.Step.TheVariants as step
-use Rattle.world_model.specs.Cluster.{parts_of}
-use Rattle.world_model.specs.Run.{Run}
-use Rattle.world_model.specs.ScriptCalls.{calls_of}
-use Rattle.world_model.specs.Updates.{lead}
+use Rattle.world_model.specs.commands.Cluster.{parts_of}
+use Rattle.world_model.specs.commands.Run.{Run}
+use Rattle.world_model.specs.commands.ScriptCalls.{calls_of}
+use Rattle.world_model.specs.lines.Updates.{lead}
 use Rattle.site_partitions.specs.Held.{Held, holds_part}
 use Rattle.site_partitions.specs.Starved.{IsStarvedAt}
 use Rattle.cluster.specs.Same.{faults_at}

@@ -4,14 +4,15 @@ use Rattle.site_vector.specs.declared.ids.PartId.{PartId}
 use Rattle.disk_core.specs.States.{DiskState}
 use Rattle.world_model.specs.declared.command.Command.{Command}
 use Rattle.world_model.specs.declared.command.Command.TheVariants as command
-use Rattle.world_model.specs.Bounds.{bound}
-use Rattle.world_model.specs.Event.{Event, Entry, Took}
-use Rattle.world_model.specs.Fuses.{Fuse, fuse, IsUnfired, KeepFuses}
-use Rattle.world_model.specs.Lines.{Line, lines_of, step_shown}
+use Rattle.world_model.specs.lines.Bounds.{bound}
+use Rattle.world_model.specs.rules.Event.{Event, Entry, Took}
+use Rattle.world_model.specs.commands.Fuses.{Fuse, fuse, IsUnfired, KeepFuses}
+use Rattle.world_model.specs.lines.Lines.{Line}
+use Rattle.world_model.specs.rules.Lines.{lines_of, step_shown}
 use Rattle.world_model.specs.declared.step.Step.{Step}
-use Rattle.world_model.specs.Restarts as restarts
-use Rattle.world_model.specs.Resumed.{brings}
-use Rattle.world_model.specs.Run.{Run}
+use Rattle.world_model.specs.lines.Restarts as restarts
+use Rattle.world_model.specs.events.Restarts.{brings}
+use Rattle.world_model.specs.commands.Run.{Run}
 use Rattle.partition_core.specs.Durable.{Durable, disk_in}
 use Rattle.partition_core.specs.Moments.{Spends}
 use Rattle.site_partitions.specs.Held.{Held, index_of, holds_part}

@@ -2,16 +2,16 @@
 use Rattle.std.specs.Prelude.{◌≡◌, List}
 use Rattle.site_vector.specs.declared.ids.PartId.{PartId}
 use Rattle.crdt_core.specs.KindsOf.{Kinds}
-use Rattle.world_model.specs.Cluster.{sites_of, parts_of}
-use Rattle.world_model.specs.Dependency.{KeepsPast}
-use Rattle.world_model.specs.Event.{Entry}
-use Rattle.world_model.specs.Fuses.{HoldsFuses}
-use Rattle.world_model.specs.Lawful.{IsLawful}
-use Rattle.world_model.specs.Lines.{lines_of}
-use Rattle.world_model.specs.Partition.{PartState}
-use Rattle.world_model.specs.Run.{Run}
-use Rattle.world_model.specs.ScriptCalls.{calls_of}
-use Rattle.world_model.specs.World.{IsWorldRun}
+use Rattle.world_model.specs.commands.Cluster.{sites_of, parts_of}
+use Rattle.world_model.specs.lines.Dependency.{KeepsPast}
+use Rattle.world_model.specs.rules.Event.{Entry}
+use Rattle.world_model.specs.commands.Fuses.{HoldsFuses}
+use Rattle.world_model.specs.lines.Lawful.{IsLawful}
+use Rattle.world_model.specs.rules.Lines.{lines_of}
+use Rattle.world_model.specs.rules.Partition.{PartState}
+use Rattle.world_model.specs.commands.Run.{Run}
+use Rattle.world_model.specs.commands.ScriptCalls.{calls_of}
+use Rattle.world_model.specs.rules.World.{IsWorldRun}
 
 -- a run of the world shows exactly the lines that partitions answered, with their calls; they are lawful, and each snapshot
 -- holds its session's past; and no fuse of a disk let more pass than it may

@@ -3,13 +3,12 @@ use Rattle.std.specs.Prelude.{◌≡◌, ◌≤◌, ℕ, ◌+◌, nat_eq, not, �
 use Rattle.std.specs.Map.{lookup}
 use Rattle.site_vector.specs.declared.ids.PartId.{PartId}
 use Rattle.crdt_core.specs.declared.record.Message.{Message}
-use Rattle.world_model.specs.Event as event
-use Rattle.world_model.specs.Event.{Entry, Event, Sent, Reported, WasNumbered}
-use Rattle.world_model.specs.Messages as script
-use Rattle.world_model.specs.Messages.{message_of, report_of, messages, reports}
-use Rattle.world_model.specs.Partition.{IsOther}
-use Rattle.world_model.specs.Plan.{IsPlace}
-use Rattle.world_model.specs.Run.{Run}
+use Rattle.world_model.specs.rules.Event as event
+use Rattle.world_model.specs.rules.Event.{Entry, Event, Sent, Reported, WasNumbered}
+use Rattle.world_model.specs.commands.Messages as script
+use Rattle.world_model.specs.commands.Messages.{message_of, report_of, messages, reports}
+use Rattle.world_model.specs.lines.Places.{IsOther, IsPlace}
+use Rattle.world_model.specs.commands.Run.{Run}
 use Rattle.txn_session.specs.Calls.{Call, entries}
 use Rattle.cluster.specs.declared.post.Note.{Note}
 use Rattle.site_partitions.specs.Held.{Held, holds_site, holds_part}

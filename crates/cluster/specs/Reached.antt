@@ -2,16 +2,16 @@
 use Rattle.std.specs.Prelude.{◌≡◌, ◌≤◌, ℕ, true, false, List, [], length, map, Option, None, Some, ⊤}
 use Rattle.world_model.specs.declared.command.Command.{Command}
 use Rattle.world_model.specs.declared.step.Step.{Step}
-use Rattle.world_model.specs.Answers.{answered}
-use Rattle.world_model.specs.Cluster.{has_cluster, has_site, sites_of, parts_of}
-use Rattle.world_model.specs.Dependency.{dependency, HandsOwn}
-use Rattle.world_model.specs.Lines.{lines_of}
-use Rattle.world_model.specs.Meeting.{site_of, session_count}
-use Rattle.world_model.specs.Phases as phases
-use Rattle.world_model.specs.Phases.{Phase, Absent, phase, update_total}
-use Rattle.world_model.specs.Run.{Run}
-use Rattle.world_model.specs.ScriptAnswers.{IsAnswer}
-use Rattle.world_model.specs.ScriptCalls.{calls_of}
+use Rattle.world_model.specs.commands.Answers.{answered}
+use Rattle.world_model.specs.commands.Cluster.{has_cluster, has_site, sites_of, parts_of}
+use Rattle.world_model.specs.lines.Dependency.{dependency, HandsOwn}
+use Rattle.world_model.specs.rules.Lines.{lines_of}
+use Rattle.world_model.specs.commands.Meeting.{site_of, session_count}
+use Rattle.world_model.specs.commands.Phases as phases
+use Rattle.world_model.specs.commands.Phases.{Phase, Absent, phase, update_total}
+use Rattle.world_model.specs.commands.Run.{Run}
+use Rattle.world_model.specs.commands.ScriptAnswers.{IsAnswer}
+use Rattle.world_model.specs.commands.ScriptCalls.{calls_of}
 use Rattle.txn_session.specs.Calls.{Call, entries}
 use Rattle.txn_session.specs.Holds.{Holds}
 use Rattle.txn_session.specs.Session.{Doing, Idle, Open, Ending, SessionState}

@@ -1,6 +1,6 @@
 ghost use Rattle.std.specs.Prelude.{◌≡◌, ◌≢◌, ℕ, List, true, Option, Some, IfOk};
 ghost use Rattle.site_partitions.specs.Reaches.{types_of};
-ghost use Rattle.world_model.specs.ScriptAnswers.{fewer};
+ghost use Rattle.world_model.specs.commands.ScriptAnswers.{fewer};
 ghost use Rattle.txn_session.specs.Calls.{Call};
 ghost use Rattle.txn_session.specs.Holds.{Holds, Mays};
 ghost use Rattle.cluster.specs.Acts.{Acts};

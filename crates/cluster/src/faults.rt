@@ -71,7 +71,7 @@ impl<C: Crdt, D: Disk + Drop> Live<C, Fused<D>> {
 }
 
 impl<C: Crdt, D: Disk + Drop> Live<C, D> {
-    ghost use Rattle.world_model.specs.Plan.{IsPlace};
+    ghost use Rattle.world_model.specs.lines.Places.{IsPlace};
 
     /// Stops a partition.
     fn crash(&mut self, part: PartId) -> Result<Vec<Step>, AllocError>

@@ -1,7 +1,7 @@
 ghost use Rattle.std.specs.Prelude.{◌≡◌, ◌≤◌, ℕ, [], false, IfOk};
-ghost use Rattle.world_model.specs.Event.{AskMessage, AskTake, AskReport, AskHear, Sent, Took, Reported, Heard};
-ghost use Rattle.world_model.specs.Partition.{IsOther};
-ghost use Rattle.world_model.specs.Plan.{IsPlace};
+ghost use Rattle.world_model.specs.rules.Event.{AskMessage, AskTake, AskReport, AskHear, Sent, Took, Reported, Heard};
+ghost use Rattle.world_model.specs.lines.Places.{IsOther};
+ghost use Rattle.world_model.specs.lines.Places.{IsPlace};
 ghost use Rattle.site_partitions.specs.Answers.{Any, Calls};
 ghost use Rattle.site_partitions.specs.Held.{holds_site, holds_part};
 ghost use Rattle.site_partitions.specs.Reaches.{types_of, MayAsk};

@@ -12,11 +12,11 @@ use Rattle.world_model.specs.declared.command.Command.{Command}
 use Rattle.world_model.specs.declared.command.Command.TheVariants as command
 use Rattle.world_model.specs.declared.step.Step.{Step}
 use Rattle.world_model.specs.declared.step.Step.TheVariants as step
-use Rattle.world_model.specs.Cluster.{has_cluster, sites_of, parts_of}
-use Rattle.world_model.specs.Plan.{IsPlace}
-use Rattle.world_model.specs.Run.{Run, lines_of}
-use Rattle.world_model.specs.Answers.{Asked, nothing, unreadable, asks, answered}
-use Rattle.world_model.specs.ScriptAnswers.{GoesOn, Answers, IsMade, AnswersBy, IsAnswer}
+use Rattle.world_model.specs.commands.Cluster.{has_cluster, sites_of, parts_of}
+use Rattle.world_model.specs.lines.Places.{IsPlace}
+use Rattle.world_model.specs.commands.Run.{Run, lines_of}
+use Rattle.world_model.specs.commands.Answers.{Asked, nothing, unreadable, asks, answered}
+use Rattle.world_model.specs.commands.ScriptAnswers.{GoesOn, Answers, IsMade, AnswersBy, IsAnswer}
 use Rattle.reply_text.specs.Text.{text_of}
 use Rattle.cluster.specs.Built.{is_built, is_making}
 use Rattle.cluster.specs.Reached.{Applies, parts_in}

@@ -13,11 +13,11 @@ use Rattle.disk_makers.specs.Makers.{Maker, TakesBack}
 use Rattle.gate_log.specs.Rest.{AtRest}
 use Rattle.gate_log.specs.Logs.{disk_of}
 use Rattle.partition_core.specs.Durable.{Durable}
-use Rattle.world_model.specs.Cluster.{sites_of, parts_of}
-use Rattle.world_model.specs.Pending.{is_down}
-use Rattle.world_model.specs.Plan.{IsPlace}
-use Rattle.world_model.specs.Run.{Run}
-use Rattle.world_model.specs.ScriptCalls.{calls_of}
+use Rattle.world_model.specs.commands.Cluster.{sites_of, parts_of}
+use Rattle.world_model.specs.lines.Pending.{is_down}
+use Rattle.world_model.specs.lines.Places.{IsPlace}
+use Rattle.world_model.specs.commands.Run.{Run}
+use Rattle.world_model.specs.commands.ScriptCalls.{calls_of}
 use Rattle.site_partitions.specs.Held.{index_of, IsSized}
 use Rattle.cluster.specs.Post.{WholeState}
 use Rattle.site_partitions.specs.Made.{HandsBack}

@@ -11,21 +11,21 @@ use Rattle.world_model.specs.declared.commit.Next.{Next}
 use Rattle.world_model.specs.declared.commit.Next.TheVariants as next
 use Rattle.world_model.specs.declared.step.Step.{Step}
 use Rattle.world_model.specs.declared.step.Step.TheVariants as step
-use Rattle.world_model.specs.Answers.{answered}
-use Rattle.world_model.specs.Cluster.{is_cluster, has_cluster, sites_of, parts_of, sites_after, parts_after}
-use Rattle.world_model.specs.CommitSteps.{Going, is_done, after}
-use Rattle.world_model.specs.Fate.{is_committed_at}
-use Rattle.world_model.specs.History.{in_history}
-use Rattle.world_model.specs.Lines.{Line}
-use Rattle.world_model.specs.Meeting.{meets, met}
-use Rattle.world_model.specs.Pending.{pending, is_down}
-use Rattle.world_model.specs.Phases.{going_of, phase}
-use Rattle.world_model.specs.Refusals.{first_due}
-use Rattle.world_model.specs.Run.{Run}
-use Rattle.world_model.specs.ScriptAnswers.{AnswersBy, IsAnswer, Replies, IsOneAnswer, Either, Then, Steps, StepsOf, fewer}
-use Rattle.world_model.specs.ScriptCalls.{is_answer, is_called, calls_of}
-use Rattle.world_model.specs.Settling.{SettlesAll, settled, stays, looked_up, is_unwritten, asks_abort}
-use Rattle.world_model.specs.Waiting.{waiting}
+use Rattle.world_model.specs.commands.Answers.{answered}
+use Rattle.world_model.specs.commands.Cluster.{is_cluster, has_cluster, sites_of, parts_of, sites_after, parts_after}
+use Rattle.world_model.specs.commands.CommitSteps.{Going, is_done, after}
+use Rattle.world_model.specs.lines.Fate.{is_committed_at}
+use Rattle.world_model.specs.lines.History.{in_history}
+use Rattle.world_model.specs.lines.Lines.{Line}
+use Rattle.world_model.specs.commands.Meeting.{meets, met}
+use Rattle.world_model.specs.lines.Pending.{pending, is_down}
+use Rattle.world_model.specs.commands.Phases.{going_of, phase}
+use Rattle.world_model.specs.commands.Refusals.{first_due}
+use Rattle.world_model.specs.commands.Run.{Run}
+use Rattle.world_model.specs.commands.ScriptAnswers.{AnswersBy, IsAnswer, Replies, IsOneAnswer, Either, Then, Steps, StepsOf, fewer}
+use Rattle.world_model.specs.commands.ScriptCalls.{is_answer, is_called, calls_of}
+use Rattle.world_model.specs.commands.Settling.{SettlesAll, settled, stays, looked_up, is_unwritten, asks_abort}
+use Rattle.world_model.specs.lines.Waiting.{waiting}
 use Rattle.cluster.specs.Built.{is_built, is_making}
 
 -- no line makes a cluster

@@ -2,9 +2,9 @@
 use Rattle.std.specs.Prelude.{◌≡◌, ℕ, List, map, reverse, IsTrue, false}
 use Rattle.disk_core.specs.States.{DiskState}
 use Rattle.disk_makers.specs.Makers.{Maker}
-use Rattle.world_model.specs.Cluster.{has_cluster}
-use Rattle.world_model.specs.Run.{Run, lines_of}
-use Rattle.world_model.specs.ScriptAnswers.{Answers}
+use Rattle.world_model.specs.commands.Cluster.{has_cluster}
+use Rattle.world_model.specs.commands.Run.{Run, lines_of}
+use Rattle.world_model.specs.commands.ScriptAnswers.{Answers}
 use Rattle.cluster.specs.Built.{is_built}
 use Rattle.cluster.specs.History.{ShowsHistory}
 use Rattle.dc_engine.specs.GivenBack.{GivenBack}

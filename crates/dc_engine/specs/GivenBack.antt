@@ -6,14 +6,14 @@ use Rattle.disk_core.specs.States.{DiskState}
 use Rattle.disk_makers.specs.Makers.{Maker}
 use Rattle.gate_log.specs.Rest.{AtRest}
 use Rattle.partition_log.specs.Logs.{payloads_of, are_spelled}
-use Rattle.world_model.specs.Cluster.{sites_of, parts_of}
-use Rattle.world_model.specs.Event.{Entry}
-use Rattle.world_model.specs.Logs.{IsLogOf}
-use Rattle.world_model.specs.Pending.{is_down}
-use Rattle.world_model.specs.Plan.{IsPlace}
-use Rattle.world_model.specs.Run.{Run}
-use Rattle.world_model.specs.ScriptCalls.{calls_of}
-use Rattle.world_model.specs.World.{plan_of}
+use Rattle.world_model.specs.commands.Cluster.{sites_of, parts_of}
+use Rattle.world_model.specs.rules.Event.{Entry}
+use Rattle.world_model.specs.events.Logs.{IsLogOf}
+use Rattle.world_model.specs.lines.Pending.{is_down}
+use Rattle.world_model.specs.lines.Places.{IsPlace}
+use Rattle.world_model.specs.commands.Run.{Run}
+use Rattle.world_model.specs.commands.ScriptCalls.{calls_of}
+use Rattle.world_model.specs.rules.World.{plan_of}
 use Rattle.site_partitions.specs.Held.{index_of}
 use Rattle.dc_engine.specs.Makers.{first_place, with_places}
 use Rattle.dc_engine.specs.ObjectKinds.{Effect, codec}

@@ -4,9 +4,9 @@ use Rattle.disk_core.specs.States.{DiskState}
 use Rattle.disk_core.specs.Fuses.{fused_state}
 use Rattle.disk_core.specs.declared.fused.Fused.{Fused}
 use Rattle.world_model.specs.declared.step.Step.{Step}
-use Rattle.world_model.specs.Cluster.{sites_of, parts_of}
-use Rattle.world_model.specs.Run.{Run, lines_of}
-use Rattle.world_model.specs.ScriptAnswers.{Answers}
+use Rattle.world_model.specs.commands.Cluster.{sites_of, parts_of}
+use Rattle.world_model.specs.commands.Run.{Run, lines_of}
+use Rattle.world_model.specs.commands.ScriptAnswers.{Answers}
 use Rattle.reply_text.specs.Text.{text_of}
 use Rattle.cluster.specs.Built.{is_built}
 use Rattle.cluster.specs.Post.{WholeState}

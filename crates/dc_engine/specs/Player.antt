@@ -4,7 +4,7 @@ use Rattle.disk_core.specs.States.{DiskState}
 use Rattle.disk_core.specs.Fuses.{fused_state}
 use Rattle.world_model.specs.declared.step.Step.{Step}
 use Rattle.world_model.specs.declared.step.Step.TheVariants as step
-use Rattle.world_model.specs.Answers.{Asked, nothing, unreadable, asks}
+use Rattle.world_model.specs.commands.Answers.{Asked, nothing, unreadable, asks}
 use Rattle.cluster.specs.Reached.{Applies}
 use Rattle.dc_engine.specs.Held.{Standing, Reached}
 use Rattle.dc_engine.specs.ObjectKinds.{types}

@@ -7,7 +7,7 @@ use Rattle.script_text.specs.Line.{reading}
 use Rattle.script_text.specs.Split.{words}
 use Rattle.script_text.specs.declared.Parsed.{Parsed}
 use Rattle.script_text.specs.declared.Parsed.TheVariants as parsed
-use Rattle.world_model.specs.Answers.{Asked, nothing, unreadable, asks}
+use Rattle.world_model.specs.commands.Answers.{Asked, nothing, unreadable, asks}
 use Rattle.cluster.specs.Built.{IsSaid, is_making}
 use Rattle.dc_engine.specs.ObjectKinds.{kinds}
 

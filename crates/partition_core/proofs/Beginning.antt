@@ -8,9 +8,9 @@ use Rattle.crdt_core.specs.KindsOf.{Kinds}
 use Rattle.crdt_core.specs.Log.{end_of_time}
 use Rattle.prepared_table.specs.Leases.{Lent}
 use Rattle.stable_gossip.specs.Gossip.{told}
-use Rattle.world_model.specs.Event.{Event, AskBegin, Began, Refused, StableBehind, ClockAtEnd}
-use Rattle.world_model.specs.Plan.{IsPlace}
-use Rattle.world_model.specs.Partition.{PartState, IsOther, done, stable_entry}
+use Rattle.world_model.specs.rules.Event.{Event, AskBegin, Began, Refused, StableBehind, ClockAtEnd}
+use Rattle.world_model.specs.lines.Places.{IsPlace, IsOther}
+use Rattle.world_model.specs.rules.Partition.{PartState, done, stable_entry}
 use Rattle.partition_core.specs.Tables.{Tables}
 use Rattle.partition_core.specs.Bounds.{AreStable, IsBehind, AreEnough}
 use Rattle.partition_core.specs.Leases.{leased, at_time}

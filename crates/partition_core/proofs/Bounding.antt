@@ -13,8 +13,9 @@ use Rattle.crdt_core.specs.Log.{pending, prepare_time}
 use Rattle.prepared_table.specs.declared.entry.Entry.{Entry}
 use Rattle.prepared_table.specs.Entries.{has_entry, first_time}
 use Rattle.stable_gossip.specs.Gossip as gossip
-use Rattle.world_model.specs.Event.{Reported, Heard}
-use Rattle.world_model.specs.Partition.{PartState, IsOther, IsOwnBound, done}
+use Rattle.world_model.specs.rules.Event.{Reported, Heard}
+use Rattle.world_model.specs.rules.Partition.{PartState, IsOwnBound, done}
+use Rattle.world_model.specs.lines.Places.{IsOther}
 use Rattle.partition_core.specs.Tables.{Tables}
 use Rattle.partition_core.specs.Bounds.{own_bound, AreStable}
 use Rattle.partition_core.specs.Stands.{told, Tells, Stands}

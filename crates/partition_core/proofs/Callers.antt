@@ -11,10 +11,11 @@ use Rattle.crdt_core.specs.declared.record.Message.{Message}
 use Rattle.crdt_core.specs.KindsOf.{Kinds}
 use Rattle.crdt_core.specs.Log.{committed, aborted, holds}
 use Rattle.crdt_core.specs.Parts.{lists, above}
-use Rattle.world_model.specs.Event.{Ask, Event, attempt}
-use Rattle.world_model.specs.Event as event
-use Rattle.world_model.specs.Partition.{PartState, PartStep}
-use Rattle.world_model.specs.Plan.{Plan, IsPlace, IsAllowed, IsFit, WorldStep}
+use Rattle.world_model.specs.rules.Event.{Ask, Event, attempt}
+use Rattle.world_model.specs.rules.Event as event
+use Rattle.world_model.specs.rules.Partition.{PartState, PartStep}
+use Rattle.world_model.specs.rules.Plan.{Plan, IsAllowed, IsFit, WorldStep}
+use Rattle.world_model.specs.lines.Places.{IsPlace}
 use Rattle.partition_core.specs.declared.answers.Refusal.{Refusal}
 use Rattle.partition_core.specs.declared.answers.CallError.{CallError}
 use Rattle.partition_core.specs.declared.answers.CallError.TheVariants as call

@@ -20,8 +20,8 @@ use Rattle.crdt_core.specs.declared.record.Record.{Record}
 use Rattle.crdt_core.specs.KindsOf.{Kinds}
 use Rattle.crdt_core.specs.Log.{grown}
 use Rattle.log_recovery.specs.Rising.{Rises}
-use Rattle.world_model.specs.Event.{Ask, Event, Refused, Cut, attempt, is_restart, IsDown, HasNoRoom}
-use Rattle.world_model.specs.Partition.{PartState, PartStep, MayDo, IsDue, records, cut}
+use Rattle.world_model.specs.rules.Event.{Ask, Event, Refused, Cut, attempt, is_restart, IsDown, HasNoRoom}
+use Rattle.world_model.specs.rules.Partition.{PartState, PartStep, MayDo, IsDue, records, cut}
 use Rattle.partition_core.specs.declared.durable.DurableError.TheVariants as call
 use Rattle.partition_core.specs.declared.answers.Refusal.{Refusal}
 use Rattle.partition_core.specs.Answers.{cause}

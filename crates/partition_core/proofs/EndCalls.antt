@@ -15,8 +15,8 @@ use Rattle.crdt_core.specs.Orders.{insert_by, fold_cmp}
 use Rattle.crdt_core.specs.Parts.{lists, vector_in, AreParts}
 use Rattle.prepared_table.specs.declared.entry.Entry.{Entry}
 use Rattle.prepared_table.specs.Entries.{has_entry, found, IsTakenOut}
-use Rattle.world_model.specs.Event.{Event, AskDecide, AskFinish, AskAbort, Decided, Finished, Aborted, Refused, IsGone}
-use Rattle.world_model.specs.Partition.{PartState, Fate, ToldPending, ToldCommitted, ToldAborted, ToldDown, fate_of, done}
+use Rattle.world_model.specs.rules.Event.{Event, AskDecide, AskFinish, AskAbort, Decided, Finished, Aborted, Refused, IsGone}
+use Rattle.world_model.specs.rules.Partition.{PartState, Fate, ToldPending, ToldCommitted, ToldAborted, ToldDown, fate_of, done}
 use Rattle.partition_core.specs.Tables.{Tables, knows}
 use Rattle.partition_core.specs.Stands.{Tells, Stands}
 use Rattle.partition_core.specs.Steps.{Anything, Steps}

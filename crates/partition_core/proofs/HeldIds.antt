@@ -25,7 +25,7 @@ use Rattle.log_records.specs.Messages.{head_in}
 use Rattle.log_records.specs.Heads.{is_head}
 use Rattle.log_records.specs.Records.{is_record_spelled}
 use Rattle.partition_log.specs.Codec.{codec_of}
-use Rattle.world_model.specs.Partition.{PartState}
+use Rattle.world_model.specs.rules.Partition.{PartState}
 use Rattle.partition_core.specs.Durable.{Durable, StandsOn, is_down}
 use Rattle.partition_core.specs.Numbered.{are_numbered, have_ids}
 use Rattle.partition_core.specs.Stands.{IsStore}

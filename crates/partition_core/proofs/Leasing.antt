@@ -7,8 +7,8 @@ use Rattle.crdt_core.specs.declared.record.Record.TheVariants.{Lease}
 use Rattle.crdt_core.specs.KindsOf.{Kinds}
 use Rattle.crdt_core.specs.Log.{end_of_time, ceiling, lease_for, grown}
 use Rattle.prepared_table.specs.declared.entry.Entry.{Entry}
-use Rattle.world_model.specs.Event.{Event, Ask, Refusal, Refused, Ticked}
-use Rattle.world_model.specs.Partition.{PartState, IsRefused, done}
+use Rattle.world_model.specs.rules.Event.{Event, Ask, Refusal, Refused, Ticked}
+use Rattle.world_model.specs.rules.Partition.{PartState, IsRefused, done}
 use Rattle.partition_core.specs.Tables.{Tables}
 use Rattle.partition_core.specs.Stands.{Tells, Stands}
 use Rattle.partition_core.specs.Steps.{Anything, Steps}

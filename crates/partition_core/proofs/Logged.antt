@@ -29,9 +29,9 @@ use Rattle.log_recovery.specs.Rising.{Rises}
 use Rattle.log_recovery.specs.RisingLaws.{lease_rises}
 use Rattle.world_model.proofs.Moves.{grown_last}
 use Rattle.prepared_table.specs.Entries.{has_entry}
-use Rattle.world_model.specs.Event.{Ask, AskTick, AskBegin, AskPrepare, AskDecide, AskFinish, AskAbort, AskTake, Event, Refused, HasNoRoom, Ticked, Began, Prepared, Decided, Finished, Aborted, Took, Sent, Reported, Heard, Updated, Crashed, attempt}
-use Rattle.world_model.specs.Event as event
-use Rattle.world_model.specs.Partition.{PartState, PartStep, MayDo, IsDue, IsBegin, IsRefused, records, down, batch_of, fate_of, ToldDown, ToldPending, ToldCommitted, ToldAborted}
+use Rattle.world_model.specs.rules.Event.{Ask, AskTick, AskBegin, AskPrepare, AskDecide, AskFinish, AskAbort, AskTake, Event, Refused, HasNoRoom, Ticked, Began, Prepared, Decided, Finished, Aborted, Took, Sent, Reported, Heard, Updated, Crashed, attempt}
+use Rattle.world_model.specs.rules.Event as event
+use Rattle.world_model.specs.rules.Partition.{PartState, PartStep, MayDo, IsDue, IsBegin, IsRefused, records, down, batch_of, fate_of, ToldDown, ToldPending, ToldCommitted, ToldAborted}
 use Rattle.partition_core.specs.declared.durable.DurableError.{DurableError}
 use Rattle.partition_core.specs.declared.answers.Refusal.{Refusal}
 use Rattle.partition_core.specs.declared.answers.Refusal.TheVariants as answer

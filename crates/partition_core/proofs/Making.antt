@@ -7,7 +7,7 @@ use Rattle.site_vector.specs.Vector.{entry}
 use Rattle.disk_core.specs.States.{DiskState}
 use Rattle.log_recovery.specs.Recovered.{AreKnown}
 use Rattle.partition_log.specs.Codec.{Codec}
-use Rattle.world_model.specs.Partition.{new_part}
+use Rattle.world_model.specs.rules.Partition.{new_part}
 use Rattle.partition_core.specs.Durable.{Durable, StandsOn}
 use Rattle.partition_core.specs.Recovered.{resumed}
 use Rattle.partition_core.specs.Tables.{Tables}

@@ -12,8 +12,8 @@ use Rattle.prepared_table.specs.declared.entry.Entry.{Entry}
 use Rattle.prepared_table.specs.Entries.{entry_cmp}
 use Rattle.prepared_table.specs.Leases.{Lent}
 use Rattle.crdt_core.specs.declared.record.Part.{Part}
-use Rattle.world_model.specs.Event.{Event, AskPrepare, Prepared, Refused, ClockBehind, ClockAtEnd}
-use Rattle.world_model.specs.Partition.{done}
+use Rattle.world_model.specs.rules.Event.{Event, AskPrepare, Prepared, Refused, ClockBehind, ClockAtEnd}
+use Rattle.world_model.specs.rules.Partition.{done}
 use Rattle.world_model.proofs.Moves.{grown_last}
 use Rattle.partition_core.specs.Tables.{Tables}
 use Rattle.partition_core.specs.Leases.{leased}

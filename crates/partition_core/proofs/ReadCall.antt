@@ -15,8 +15,8 @@ use Rattle.crdt_core.specs.KindsOf.{Kinds}
 use Rattle.crdt_core.specs.Folds.{effects_of, state_read}
 use Rattle.crdt_core.specs.Parts.{seen_parts}
 use Rattle.prepared_table.specs.Entries.{first_on}
-use Rattle.world_model.specs.Event.{Event, Read, Updated, AskRead, AskUpdate, Refused, ClockBehind, TxPending, IsBadOp}
-use Rattle.world_model.specs.Partition.{PartState, IsReady, IsTxPending, done}
+use Rattle.world_model.specs.rules.Event.{Event, Read, Updated, AskRead, AskUpdate, Refused, ClockBehind, TxPending, IsBadOp}
+use Rattle.world_model.specs.rules.Partition.{PartState, IsReady, IsTxPending, done}
 use Rattle.partition_core.specs.declared.answers.Refusal.{Refusal}
 use Rattle.partition_core.specs.declared.answers.Refusal.TheVariants as answer
 use Rattle.partition_core.specs.Answers.{cause}

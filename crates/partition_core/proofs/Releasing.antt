@@ -14,8 +14,9 @@ use Rattle.crdt_core.specs.KindsOf.{Kinds}
 use Rattle.crdt_core.specs.Log.{committed, committed_at, prepared_changes, taken, taken_at, taken_changes, holds, held_at, held_changes}
 use Rattle.crdt_core.specs.Orders.{Precede, Ascends, sorted_by, fold_cmp, stream_cmp}
 use Rattle.crdt_core.specs.Parts.{lists, AreParts, parts_between}
-use Rattle.world_model.specs.Event.{Sent}
-use Rattle.world_model.specs.Partition.{IsOther, done}
+use Rattle.world_model.specs.rules.Event.{Sent}
+use Rattle.world_model.specs.lines.Places.{IsOther}
+use Rattle.world_model.specs.rules.Partition.{done}
 use Rattle.partition_core.specs.Tables.{Tables}
 use Rattle.partition_core.specs.Bounds.{own_bound}
 use Rattle.partition_core.specs.Messages.{AreApart, start_of}

@@ -22,9 +22,10 @@ use Rattle.log_recovery.specs.declared.recovery.Rebuilt.{Rebuilt}
 use Rattle.log_recovery.specs.Rising.{Rises}
 use Rattle.log_recovery.specs.Told.{IsToldBy}
 use Rattle.log_recovery.specs.RisingLaws.{found_rises}
-use Rattle.world_model.specs.Event.{RestartCut, attempt}
-use Rattle.world_model.specs.Event as event
-use Rattle.world_model.specs.Partition.{PartState, names_pending, AreTimed, down, records}
+use Rattle.world_model.specs.rules.Event.{RestartCut, attempt}
+use Rattle.world_model.specs.rules.Event as event
+use Rattle.world_model.specs.rules.Partition.{PartState, AreTimed, down, records}
+use Rattle.world_model.specs.lines.Listed.{names_pending}
 use Rattle.partition_core.specs.Durable.{Durable, StandsOn, disk_in, is_down}
 use Rattle.partition_core.specs.Moments.{SteppedOn, underway}
 use Rattle.partition_core.specs.Recovered.{resumed}

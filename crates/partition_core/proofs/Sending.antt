@@ -26,8 +26,8 @@ use Rattle.log_records.specs.Messages.{can_put_message}
 use Rattle.log_records.specs.Records.{is_record_spelled}
 use Rattle.log_records.proofs.Streams.{same_order}
 use Rattle.partition_log.specs.Codec.{codec_of}
-use Rattle.world_model.specs.Event.{Event, Sent}
-use Rattle.world_model.specs.Partition.{PartState, PartStep}
+use Rattle.world_model.specs.rules.Event.{Event, Sent}
+use Rattle.world_model.specs.rules.Partition.{PartState, PartStep}
 use Rattle.partition_core.specs.Durable.{Durable, StandsOn, is_down}
 use Rattle.partition_core.specs.Messages.{have_updates}
 use Rattle.partition_core.specs.Steps.{Anything, Steps}

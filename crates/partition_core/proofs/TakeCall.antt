@@ -13,8 +13,8 @@ use Rattle.crdt_core.specs.Parts.{lists, above}
 use Rattle.prepared_table.specs.declared.entry.Entry.{Entry}
 use Rattle.prepared_table.specs.Entries.{has_entry}
 use Rattle.effect_store.specs.Stored.{Stored}
-use Rattle.world_model.specs.Event.{Took, AskTake, Refused, HasGap, IsRepeat}
-use Rattle.world_model.specs.Partition.{batch_of, done}
+use Rattle.world_model.specs.rules.Event.{Took, AskTake, Refused, HasGap, IsRepeat}
+use Rattle.world_model.specs.rules.Partition.{batch_of, done}
 use Rattle.partition_core.specs.Tables.{Tables}
 use Rattle.partition_core.specs.Messages.{AreApart, AreWideParts, CanPut, inserted, updates_in}
 use Rattle.partition_core.specs.Sound.{HasRoom}

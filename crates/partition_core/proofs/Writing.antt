@@ -24,7 +24,7 @@ use Rattle.site_vector.specs.declared.ids.TxId.{TxId}
 use Rattle.prepared_table.specs.declared.entry.Entry.{Entry}
 use Rattle.crdt_core.specs.Parts.{above}
 use Rattle.crdt_core.specs.Log.{end_of_time}
-use Rattle.world_model.specs.Partition.{batch_of}
+use Rattle.world_model.specs.rules.Partition.{batch_of}
 use Rattle.partition_core.specs.Leases.{wanted, lease_at}
 
 none_due : (left : Option ℕ) → Spared 0 left

@@ -1,9 +1,9 @@
 -- The events that answers of calls show.
 use Rattle.std.specs.Prelude.{◌≡◌, Result, Ok, Err}
-use Rattle.world_model.specs.Event.{Event, Ask, Refused}
-use Rattle.world_model.specs.Event as event
-use Rattle.world_model.specs.Partition.{PartState}
-use Rattle.world_model.specs.Partition as state
+use Rattle.world_model.specs.rules.Event.{Event, Ask, Refused}
+use Rattle.world_model.specs.rules.Event as event
+use Rattle.world_model.specs.rules.Partition.{PartState}
+use Rattle.world_model.specs.rules.Partition as state
 use Rattle.crdt_core.specs.KindsOf.{Kinds}
 use Rattle.partition_core.specs.declared.answers.Refusal.{Refusal}
 use Rattle.partition_core.specs.declared.answers.Refusal.TheVariants as answer

@@ -4,7 +4,7 @@ use Rattle.site_vector.specs.Vector.{entry}
 use Rattle.site_vector.specs.Known.{lowest}
 use Rattle.prepared_table.specs.declared.entry.Entry.{Entry}
 use Rattle.stable_gossip.specs.Gossip.{told}
-use Rattle.world_model.specs.Partition.{IsOther}
+use Rattle.world_model.specs.lines.Places.{IsOther}
 
 -- the own bound, where these are pending in the order of their prepare times
 abbrev pub own_bound : {E : Type 0} → ℕ → List (Entry E) → ℕ

@@ -8,7 +8,7 @@ use Rattle.partition_log.specs.Codec.{Codec}
 use Rattle.partition_log.specs.Logs.{HasRecords, HoldsFront}
 use Rattle.crdt_core.specs.Log.{grown}
 use Rattle.log_recovery.specs.Rising.{Rises}
-use Rattle.world_model.specs.Partition.{PartState}
+use Rattle.world_model.specs.rules.Partition.{PartState}
 use Rattle.partition_core.specs.Stands.{Stands}
 use Rattle.partition_core.specs.Tables.{Tables}
 

@@ -9,9 +9,9 @@ use Rattle.partition_log.specs.Codec.{Codec}
 use Rattle.partition_log.specs.Logs.{HoldsFront, size}
 use Rattle.crdt_core.specs.declared.record.Record.{Record}
 use Rattle.crdt_core.specs.KindsOf.{Kinds}
-use Rattle.world_model.specs.Event.{Ask, Event, Refused, Crashed, Cut, attempt}
-use Rattle.world_model.specs.Event as event
-use Rattle.world_model.specs.Partition.{PartState, PartStep, MayDo, records}
+use Rattle.world_model.specs.rules.Event.{Ask, Event, Refused, Crashed, Cut, attempt}
+use Rattle.world_model.specs.rules.Event as event
+use Rattle.world_model.specs.rules.Partition.{PartState, PartStep, MayDo, records}
 use Rattle.partition_core.specs.declared.durable.DurableError.{DurableError}
 use Rattle.partition_core.specs.declared.durable.DurableError.TheVariants as call
 use Rattle.partition_core.specs.Answers.{cause}

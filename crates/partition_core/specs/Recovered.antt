@@ -8,7 +8,7 @@ use Rattle.crdt_core.specs.Orders.{Ascends}
 use Rattle.prepared_table.specs.declared.entry.Entry.{Entry}
 use Rattle.prepared_table.specs.Entries.{has_entry, entry_cmp}
 use Rattle.log_recovery.specs.Lists as recovery
-use Rattle.world_model.specs.Partition.{PartState}
+use Rattle.world_model.specs.rules.Partition.{PartState}
 use Rattle.partition_core.specs.Sound.{AreSingle, updates_pending}
 use Rattle.partition_core.specs.Stands.{AreEntries}
 

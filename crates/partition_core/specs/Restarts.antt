@@ -14,9 +14,9 @@ use Rattle.log_recovery.specs.Rising.{Rises}
 use Rattle.site_vector.specs.declared.ids.PartId.{PartId}
 use Rattle.site_vector.specs.declared.ids.TxId.{TxId}
 use Rattle.prepared_table.specs.declared.entry.Entry.{Entry}
-use Rattle.world_model.specs.Event.{RestartCut}
-use Rattle.world_model.specs.Event as event
-use Rattle.world_model.specs.Partition.{PartState, Finds}
+use Rattle.world_model.specs.rules.Event.{RestartCut}
+use Rattle.world_model.specs.rules.Event as event
+use Rattle.world_model.specs.rules.Partition.{PartState, Finds}
 use Rattle.partition_core.specs.declared.restart.Restarted.{Restarted}
 use Rattle.partition_core.specs.declared.restart.RestartError.{RestartError}
 use Rattle.partition_core.specs.declared.restart.RestartError.TheVariants as restart

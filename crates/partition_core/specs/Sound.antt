@@ -6,7 +6,7 @@ use Rattle.crdt_core.specs.Parts.{lists}
 use Rattle.prepared_table.specs.declared.entry.Entry.{Entry}
 use Rattle.prepared_table.specs.Entries.{has_entry}
 use Rattle.effect_store.specs.Stored.{Stored}
-use Rattle.world_model.specs.Plan.{IsPlace}
+use Rattle.world_model.specs.lines.Places.{IsPlace}
 
 -- its place, and the width of its vectors
 pub record IsPlaced (id : PartId) (sites parts : ℕ) (bounds sent : List ℕ) : Type 0 where

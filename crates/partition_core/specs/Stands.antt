@@ -9,7 +9,7 @@ use Rattle.crdt_core.specs.Orders.{Ascends, fold_cmp}
 use Rattle.crdt_core.specs.Parts.{lists, AreParts}
 use Rattle.prepared_table.specs.declared.entry.Entry.{Entry}
 use Rattle.prepared_table.specs.Entries.{has_entry, entry_cmp}
-use Rattle.world_model.specs.Partition.{PartState}
+use Rattle.world_model.specs.rules.Partition.{PartState}
 use Rattle.partition_core.specs.Tables.{Tables}
 
 module _ {E : Type 0} where

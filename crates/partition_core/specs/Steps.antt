@@ -1,6 +1,6 @@
 -- What a call of a partition owes: whatever its tables stood for took a step.
-use Rattle.world_model.specs.Event.{Event}
-use Rattle.world_model.specs.Partition.{PartState, PartStep}
+use Rattle.world_model.specs.rules.Event.{Event}
+use Rattle.world_model.specs.rules.Partition.{PartState, PartStep}
 use Rattle.crdt_core.specs.KindsOf.{Kinds}
 use Rattle.partition_core.specs.Tables.{Tables, IsSame}
 use Rattle.site_vector.specs.declared.ids.TxId.{TxId}

@@ -1,7 +1,7 @@
 ghost use Rattle.std.specs.Prelude.{◌≡◌, ◌≤◌, ◌<◌, ◌+◌, ℕ, List, length, MatchOption, IfOk, OnOk};
 ghost use Rattle.crdt_core.specs.KindsOf.{kinds_of};
 ghost use Rattle.crdt_core.specs.Log.{end_of_time};
-ghost use Rattle.world_model.specs.Event.{AskBegin, Began};
+ghost use Rattle.world_model.specs.rules.Event.{AskBegin, Began};
 ghost use Rattle.partition_core.specs.Answers.{Answered};
 ghost use Rattle.partition_core.specs.Begun.{begun};
 ghost use Rattle.partition_core.specs.Bounds.{IsBehind, AreEnough};

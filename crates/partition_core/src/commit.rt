@@ -1,8 +1,8 @@
 ghost use Rattle.std.specs.Prelude.{◌≡◌, ◌≤◌, ◌+◌, Bool, true, false, length, IfOk, MatchOption};
 ghost use Rattle.crdt_core.specs.KindsOf.{kinds_of};
 ghost use Rattle.prepared_table.specs.Entries.{has_entry, IsTakenOut};
-ghost use Rattle.world_model.specs.Event.{AskDecide, AskFinish, AskAbort, Decided, Finished, Aborted};
-ghost use Rattle.world_model.specs.Partition.{PartState, fate_of};
+ghost use Rattle.world_model.specs.rules.Event.{AskDecide, AskFinish, AskAbort, Decided, Finished, Aborted};
+ghost use Rattle.world_model.specs.rules.Partition.{PartState, fate_of};
 ghost use Rattle.partition_core.specs.Answers.{Answered, fate_told};
 ghost use Rattle.partition_core.specs.Committed.{Commits};
 ghost use Rattle.partition_core.specs.Sound.{HasRoom, updates_pending};

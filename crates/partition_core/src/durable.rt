@@ -183,7 +183,7 @@ impl<C: Crdt, D: Disk + Drop> DurablePartition<C, Fused<D>> {
     ghost use Rattle.std.specs.Prelude.{Some, None, ◌≢◌};
     ghost use Rattle.disk_core.specs.Fuses.{fused_state, calls_left, kept_bytes};
     ghost use Rattle.partition_log.specs.Codec.{codec_of};
-    ghost use Rattle.world_model.specs.Partition.{PartState};
+    ghost use Rattle.world_model.specs.rules.Partition.{PartState};
     ghost use Rattle.partition_core.specs.Durable.{StandsOn, disk_in};
 
     /// Arms the fuse of the disk, also where the partition is down: of its calls from now on the one with this number,

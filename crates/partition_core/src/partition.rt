@@ -2,8 +2,8 @@ ghost use Rattle.std.specs.Prelude.{◌≡◌, ◌≤◌};
 ghost use Rattle.site_vector.specs.Vector.{entry};
 ghost use Rattle.crdt_core.specs.Log.{end_of_time};
 ghost use Rattle.prepared_table.specs.Entries.{first_on, has_entry};
-ghost use Rattle.world_model.specs.Partition.{new_part};
-ghost use Rattle.world_model.specs.Plan.{IsPlace};
+ghost use Rattle.world_model.specs.rules.Partition.{new_part};
+ghost use Rattle.world_model.specs.lines.Places.{IsPlace};
 ghost use Rattle.partition_core.specs.Stands.{Stands};
 ghost use Rattle.partition_core.specs.Tables.{knows};
 

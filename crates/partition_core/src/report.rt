@@ -1,7 +1,7 @@
 ghost use Rattle.std.specs.Prelude.{◌≡◌, ◌≤◌, ℕ, length};
 ghost use Rattle.site_vector.specs.Vector.{replaced};
 ghost use Rattle.crdt_core.specs.KindsOf.{kinds_of};
-ghost use Rattle.world_model.specs.Event.{Heard, Reported};
+ghost use Rattle.world_model.specs.rules.Event.{Heard, Reported};
 ghost use Rattle.partition_core.specs.Bounds.{own_bound};
 ghost use Rattle.partition_core.specs.Steps.{Anything, Steps};
 

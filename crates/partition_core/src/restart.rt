@@ -13,7 +13,7 @@ ghost use Rattle.crdt_core.specs.Fitting.{unfit};
 ghost use Rattle.crdt_core.specs.KindsOf.{kinds_of};
 ghost use Rattle.log_recovery.specs.Recovered.{AreKnown};
 ghost use Rattle.log_recovery.specs.Rising.{Rises};
-ghost use Rattle.world_model.specs.Partition.{new_part};
+ghost use Rattle.world_model.specs.rules.Partition.{new_part};
 ghost use Rattle.partition_core.specs.Durable.{StandsOn, is_down};
 ghost use Rattle.partition_core.specs.Recovered.{resumed};
 ghost use Rattle.partition_core.specs.Stands.{Stands};

@@ -2,8 +2,8 @@ ghost use Rattle.std.specs.Prelude.{◌≡◌, ◌≤◌, ◌+◌, ◌++◌, len
 ghost use Rattle.crdt_core.specs.KindsOf.{kinds_of};
 ghost use Rattle.crdt_core.specs.Orders.{sorted_by, stream_cmp};
 ghost use Rattle.crdt_core.specs.Parts.{parts_between};
-ghost use Rattle.world_model.specs.Event.{Sent};
-ghost use Rattle.world_model.specs.Partition.{IsOther};
+ghost use Rattle.world_model.specs.rules.Event.{Sent};
+ghost use Rattle.world_model.specs.lines.Places.{IsOther};
 ghost use Rattle.partition_core.specs.Messages.{CanPut, inserted, start_of, updates_in};
 ghost use Rattle.partition_core.specs.Steps.{Anything, Steps};
 

@@ -4,9 +4,9 @@ use Rattle.disk_core.specs.States.{DiskState}
 use Rattle.site_vector.specs.declared.ids.PartId.{PartId}
 use Rattle.crdt_core.specs.KindsOf.{Kinds}
 use Rattle.partition_log.specs.Codec.{Codec}
-use Rattle.world_model.specs.Event.{Ask, Event}
-use Rattle.world_model.specs.Partition.{PartState}
-use Rattle.world_model.specs.Plan.{IsPlace}
+use Rattle.world_model.specs.rules.Event.{Ask, Event}
+use Rattle.world_model.specs.rules.Partition.{PartState}
+use Rattle.world_model.specs.lines.Places.{IsPlace}
 use Rattle.partition_core.specs.Durable.{Durable}
 use Rattle.partition_core.specs.Moments.{CallsOn}
 use Rattle.partition_core.specs.Restarts.{RestartsOn}

@@ -37,7 +37,7 @@ pub(crate) struct Place {
 impl Model for Place {
     ghost use Rattle.std.specs.Prelude.{ℤ};
     ghost use Rattle.partition_core.specs.Tables.{Tables};
-    ghost use Rattle.world_model.specs.Plan.{IsPlace};
+    ghost use Rattle.world_model.specs.lines.Places.{IsPlace};
     ghost use Rattle.recovery_table.specs.Places.{IsAt};
 
     ghost Value = { Tables ℤ };

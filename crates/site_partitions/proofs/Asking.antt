@@ -10,11 +10,10 @@ use Rattle.crdt_core.specs.Spelled.{is_tx}
 use Rattle.field_codec.specs.FormLaws.{and_true}
 use Rattle.log_records.specs.Records.{can_put_record}
 use Rattle.log_records.specs.Updates.{can_put_updates}
-use Rattle.world_model.specs.Event.{Ask, AskBegin, AskRead, AskUpdate, AskPrepare, AskDecide, AskFinish, AskMessage, AskHear, Reported, Refused, IsGone, Entry, time_of, report_count}
-use Rattle.world_model.specs.Partition.{IsOther}
-use Rattle.world_model.specs.Plan.{IsPlace}
-use Rattle.world_model.specs.World.{plan_of}
-use Rattle.world_model.specs.Asking.{MayCall}
+use Rattle.world_model.specs.rules.Event.{Ask, AskBegin, AskRead, AskUpdate, AskPrepare, AskDecide, AskFinish, AskMessage, AskHear, Reported, Refused, IsGone, Entry, time_of, report_count}
+use Rattle.world_model.specs.lines.Places.{IsOther, IsPlace}
+use Rattle.world_model.specs.rules.World.{plan_of}
+use Rattle.world_model.specs.rules.Asking.{MayCall}
 use Rattle.world_model.proofs.Asks.{asks}
 use Rattle.world_model.proofs.Fate.{voted_tried}
 use Rattle.world_model.proofs.Intervals.{numbered_shown}

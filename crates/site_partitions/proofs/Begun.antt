@@ -8,10 +8,10 @@ use Rattle.site_vector.specs.declared.ids.TxId.{TxId}
 use Rattle.site_vector.specs.Order.{same_tx_is}
 use Rattle.crdt_core.specs.KindsOf.{Kinds}
 use Rattle.crdt_core.specs.Spelled.{is_between, is_tx}
-use Rattle.world_model.specs.Event.{Event, Began, Entry}
-use Rattle.world_model.specs.Partition.{PartState, PartStep, IsBegin}
-use Rattle.world_model.specs.Plan.{IsPlace}
-use Rattle.world_model.specs.World.{IsWorldRun, is_begin, begun}
+use Rattle.world_model.specs.rules.Event.{Event, Began, Entry}
+use Rattle.world_model.specs.rules.Partition.{PartState, PartStep, IsBegin}
+use Rattle.world_model.specs.lines.Places.{IsPlace}
+use Rattle.world_model.specs.rules.World.{IsWorldRun, is_begin, begun}
 use Rattle.world_model.proofs.Names.{off}
 
 is_within : (least most n : ℕ) → least ≤ n → n ≤ most → is_between least most n ≡ true

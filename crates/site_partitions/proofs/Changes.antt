@@ -16,11 +16,10 @@ use Rattle.crdt_core.specs.declared.record.Upd.{Upd}
 use Rattle.crdt_core.specs.Objects.{same_object}
 use Rattle.crdt_core.specs.Spelled.{is_between}
 use Rattle.log_records.specs.Updates.{has_some, can_put_update, index_below, can_put_updates}
-use Rattle.world_model.specs.Event.{Event, Updated, Entry}
-use Rattle.world_model.specs.Handed.{IsNew}
-use Rattle.world_model.specs.Partition.{PartState}
-use Rattle.world_model.specs.Plan.{is_some_update, change_by, updates_at, update_count, takes_part}
-use Rattle.world_model.specs.World.{IsWorldRun, changes_of, plan_of}
+use Rattle.world_model.specs.rules.Event.{Event, Updated, Entry}
+use Rattle.world_model.specs.rules.World.{IsWorldRun, changes_of, plan_of}
+use Rattle.world_model.specs.rules.Partition.{PartState}
+use Rattle.world_model.specs.rules.Plan.{is_some_update, change_by, updates_at, update_count, takes_part, IsNew}
 use Rattle.world_model.proofs.Handing.{planned_updates}
 use Rattle.partition_core.specs.Numbered.{are_numbered}
 use Rattle.site_partitions.specs.Reaches.{Types, PutsEvent, Puts}

@@ -6,8 +6,8 @@ use Rattle.std.proofs.lemmas.Nat.{mul-le}
 use Rattle.std.proofs.lemmas.List.{get_or_push, get_or_append_left, length_push}
 use Rattle.site_vector.specs.declared.ids.PartId.{PartId}
 use Rattle.gate_log.specs.Rest.{AtRest}
-use Rattle.world_model.specs.Partition.{new_part}
-use Rattle.world_model.specs.Plan.{IsPlace}
+use Rattle.world_model.specs.rules.Partition.{new_part}
+use Rattle.world_model.specs.lines.Places.{IsPlace}
 use Rattle.partition_core.specs.Durable.{Durable, StandsOn}
 use Rattle.site_partitions.specs.Held.{index_of}
 use Rattle.site_partitions.specs.Made.{AreBlank}

@@ -7,12 +7,12 @@ use Rattle.site_vector.specs.declared.ids.PartId.{PartId}
 use Rattle.site_vector.specs.Ids.{same_part}
 use Rattle.site_vector.specs.Order.{same_part_is, same_part_refl}
 use Rattle.disk_core.specs.States.{GoesOn as DiskGoesOn, Rose}
-use Rattle.world_model.specs.Asking.{MayCall, asked_by, is_own_word}
-use Rattle.world_model.specs.Event.{Ask, Event, Entry, Refusal, Refused, IsDown, HasNoRoom, Cut, attempt}
-use Rattle.world_model.specs.Handed.{IsNew}
-use Rattle.world_model.specs.Partition.{PartState, PartStep}
-use Rattle.world_model.specs.Plan.{Plan, IsPlace, IsAllowed, IsFit, WorldStep}
-use Rattle.world_model.specs.World.{plan_of}
+use Rattle.world_model.specs.rules.Asking.{MayCall, asked_by, is_own_word}
+use Rattle.world_model.specs.rules.Event.{Ask, Event, Entry, Refusal, Refused, IsDown, HasNoRoom, Cut, attempt}
+use Rattle.world_model.specs.rules.World.{plan_of}
+use Rattle.world_model.specs.rules.Partition.{PartState, PartStep}
+use Rattle.world_model.specs.rules.Plan.{Plan, IsAllowed, IsFit, WorldStep, IsNew}
+use Rattle.world_model.specs.lines.Places.{IsPlace}
 use Rattle.world_model.proofs.Asks.{asks}
 use Rattle.partition_core.specs.declared.durable.DurableError.{DurableError}
 use Rattle.partition_core.specs.declared.durable.DurableError.TheVariants as call

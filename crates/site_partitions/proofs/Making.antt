@@ -11,9 +11,9 @@ use Rattle.crdt_core.specs.declared.record.Upd.{Upd}
 use Rattle.crdt_core.specs.EffectForm.{IsReady}
 use Rattle.crdt_core.specs.Spelled.{is_between, is_tx}
 use Rattle.log_records.specs.Updates.{can_put_update}
-use Rattle.world_model.specs.Event.{AskUpdate}
-use Rattle.world_model.specs.Partition.{PartState}
-use Rattle.world_model.specs.Plan.{IsPlace}
+use Rattle.world_model.specs.rules.Event.{AskUpdate}
+use Rattle.world_model.specs.rules.Partition.{PartState}
+use Rattle.world_model.specs.lines.Places.{IsPlace}
 use Rattle.world_model.proofs.Whole.{shown_begun}
 use Rattle.partition_core.specs.Durable.{Durable, StandsOn}
 use Rattle.partition_core.specs.Numbered.{are_numbered}

@@ -24,11 +24,12 @@ use Rattle.log_records.specs.Messages.{can_put_message}
 use Rattle.log_records.proofs.Streams.{same_order}
 use Rattle.crdt_core.specs.Orders.{Precede, Ascends, stream_cmp}
 use Rattle.crdt_core.specs.Parts.{lists, above, AreParts}
-use Rattle.world_model.specs.Event.{AskTake, Entry, Sent, is_decided, sent_count}
-use Rattle.world_model.specs.Partition.{PartState}
-use Rattle.world_model.specs.Plan.{twin, takes_part, commit_vector, MayTake}
-use Rattle.world_model.specs.World.{plan_of, IsWorldRun}
-use Rattle.world_model.specs.WorldLaw.{IsExact}
+use Rattle.world_model.specs.rules.Event.{AskTake, Entry, Sent, is_decided, sent_count}
+use Rattle.world_model.specs.rules.Partition.{PartState}
+use Rattle.world_model.specs.lines.Places.{twin}
+use Rattle.world_model.specs.rules.Plan.{takes_part, commit_vector, MayTake}
+use Rattle.world_model.specs.rules.World.{plan_of, IsWorldRun}
+use Rattle.world_model.specs.events.Reads.{IsExact}
 use Rattle.world_model.proofs.Completeness.{IsBacked}
 use Rattle.world_model.proofs.Intervals.{numbered_shown, shown_has}
 use Rattle.world_model.proofs.Kept.{Kept, law_plan}

@@ -6,11 +6,12 @@ use Rattle.site_vector.specs.declared.ids.PartId.{PartId}
 use Rattle.site_vector.specs.declared.ids.TxId.{TxId}
 use Rattle.site_vector.specs.VectorLaws.{length_join}
 use Rattle.crdt_core.specs.KindsOf.{Kinds}
-use Rattle.world_model.specs.Event.{Event, Began, Decided, Reported, Entry, WasShown, attempt, voted, time_of}
-use Rattle.world_model.specs.Partition.{PartState, PartStep}
-use Rattle.world_model.specs.Past.{joined, ShowsVector, WasVector, WereVectors, IsKnownJoin}
-use Rattle.world_model.specs.Plan.{IsAllowed, takes_part}
-use Rattle.world_model.specs.World.{IsWorldRun, snapshot_of, plan_of}
+use Rattle.world_model.specs.rules.Event.{Event, Began, Decided, Reported, Entry, WasShown, attempt, voted, time_of}
+use Rattle.world_model.specs.rules.Partition.{PartState, PartStep}
+use Rattle.world_model.specs.lines.Dependency.{joined}
+use Rattle.world_model.specs.rules.Dependency.{ShowsVector, WasVector, WereVectors, IsKnownJoin}
+use Rattle.world_model.specs.rules.Plan.{IsAllowed, takes_part}
+use Rattle.world_model.specs.rules.World.{IsWorldRun, snapshot_of, plan_of}
 use Rattle.world_model.proofs.Handing.{snapshot_width}
 use Rattle.world_model.proofs.Whole.{part_begun, tried_begun}
 use Rattle.world_model.proofs.Fate.{voted_tried}

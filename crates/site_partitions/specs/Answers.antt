@@ -3,10 +3,10 @@ use Rattle.std.specs.Prelude.{◌≡◌, ℕ, true, false, List, ◌∷◌, Resu
 use Rattle.site_vector.specs.declared.ids.PartId.{PartId}
 use Rattle.site_vector.specs.declared.ids.TxId.{TxId}
 use Rattle.disk_core.specs.States.{Rose}
-use Rattle.world_model.specs.Asking.{MayCall}
-use Rattle.world_model.specs.Event.{Ask, Event, Entry, Aborted, Refused, IsDown, HasNoRoom}
-use Rattle.world_model.specs.Plan.{IsAllowed}
-use Rattle.world_model.specs.World.{plan_of}
+use Rattle.world_model.specs.rules.Asking.{MayCall}
+use Rattle.world_model.specs.rules.Event.{Ask, Event, Entry, Aborted, Refused, IsDown, HasNoRoom}
+use Rattle.world_model.specs.rules.Plan.{IsAllowed}
+use Rattle.world_model.specs.rules.World.{plan_of}
 use Rattle.partition_core.specs.declared.durable.DurableError.{DurableError}
 use Rattle.partition_core.specs.declared.durable.DurableError.TheVariants as call
 use Rattle.partition_core.specs.Answers.{cause}

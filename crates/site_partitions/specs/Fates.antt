@@ -6,8 +6,8 @@ use Rattle.crdt_core.specs.declared.record.Record.{Record}
 use Rattle.crdt_core.specs.Log as log
 use Rattle.crdt_core.specs.Log.{prepared_lead}
 use Rattle.prepared_table.specs.declared.entry.Entry.{Entry}
-use Rattle.world_model.specs.Event as event
-use Rattle.world_model.specs.Partition.{PartState}
+use Rattle.world_model.specs.rules.Event as event
+use Rattle.world_model.specs.rules.Partition.{PartState}
 use Rattle.partition_core.specs.Stands.{IsTable}
 use Rattle.site_partitions.specs.declared.fates.Waiting.{Waiting}
 use Rattle.site_partitions.specs.Held.{Held}

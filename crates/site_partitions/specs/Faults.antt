@@ -3,8 +3,8 @@ use Rattle.std.specs.Prelude.{◌≡◌, ◌≢◌, ℕ, true, false, List, ◌�
 use Rattle.site_vector.specs.declared.ids.PartId.{PartId}
 use Rattle.disk_core.specs.States.{Rose}
 use Rattle.gate_log.specs.Rest.{Lowers}
-use Rattle.world_model.specs.Event.{Event, Entry, Crashed, RestartCut}
-use Rattle.world_model.specs.Event as event
+use Rattle.world_model.specs.rules.Event.{Event, Entry, Crashed, RestartCut}
+use Rattle.world_model.specs.rules.Event as event
 use Rattle.partition_core.specs.declared.restart.Restarted.{Restarted}
 use Rattle.partition_core.specs.declared.restart.RestartError.{RestartError}
 use Rattle.partition_core.specs.declared.restart.RestartError.TheVariants as restart

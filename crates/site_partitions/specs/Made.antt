@@ -2,7 +2,7 @@
 use Rattle.std.specs.Prelude.{◌≡◌, ℕ, List, [], ◌∷◌, ◌++◌, length, ⊤}
 use Rattle.disk_core.specs.States.{DiskState, GoesOn, Rose}
 use Rattle.gate_log.specs.Rest.{AtRest}
-use Rattle.world_model.specs.Plan.{IsPlace}
+use Rattle.world_model.specs.lines.Places.{IsPlace}
 use Rattle.partition_core.specs.declared.restart.RestartError.TheVariants as restart
 use Rattle.site_partitions.specs.declared.make.MakeError.{MakeError}
 use Rattle.site_partitions.specs.declared.make.MakeError.TheVariants as make

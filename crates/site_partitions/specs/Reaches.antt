@@ -15,11 +15,11 @@ use Rattle.crdt_core.specs.Seen.{Update}
 use Rattle.disk_core.specs.States.{DiskState}
 use Rattle.log_records.specs.Updates.{can_put_update}
 use Rattle.partition_log.specs.Codec.{Codec, codec_of}
-use Rattle.world_model.specs.Asking.{MayCall, asked_by}
-use Rattle.world_model.specs.Event.{Ask, Event, Updated, Entry, EventsAre, attempt}
-use Rattle.world_model.specs.Partition.{PartState, new_part}
-use Rattle.world_model.specs.Plan.{IsPlace}
-use Rattle.world_model.specs.World.{IsWorldRun, begun}
+use Rattle.world_model.specs.rules.Asking.{MayCall, asked_by}
+use Rattle.world_model.specs.rules.Event.{Ask, Event, Updated, Entry, EventsAre, attempt}
+use Rattle.world_model.specs.rules.Partition.{PartState, new_part}
+use Rattle.world_model.specs.lines.Places.{IsPlace}
+use Rattle.world_model.specs.rules.World.{IsWorldRun, begun}
 use Rattle.partition_core.specs.Durable.{Durable, StandsOn}
 use Rattle.site_partitions.specs.Held.{Held, index_of}
 

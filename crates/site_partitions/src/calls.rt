@@ -2,10 +2,11 @@ ghost use Rattle.std.specs.Prelude.{◌≡◌, ◌≤◌, ◌+◌, ℕ, List, tr
 ghost use Rattle.crdt_core.specs.declared.record.Part.{Part};
 ghost use Rattle.crdt_core.specs.KindsOf.{fits_kind};
 ghost use Rattle.crdt_core.specs.Log.{end_of_time};
-ghost use Rattle.world_model.specs.Event.{AskTick, AskBegin, AskRead, AskUpdate, AskPrepare, AskDecide, AskFinish, AskAbort, AskMessage, AskTake, AskReport, AskHear, Ticked, Began, Updated, Decided, Finished, Aborted, Sent, Took, Reported, Heard};
-ghost use Rattle.world_model.specs.Event as event;
-ghost use Rattle.world_model.specs.Partition.{IsOther};
-ghost use Rattle.world_model.specs.Plan.{IsPlace, update_count};
+ghost use Rattle.world_model.specs.rules.Event.{AskTick, AskBegin, AskRead, AskUpdate, AskPrepare, AskDecide, AskFinish, AskAbort, AskMessage, AskTake, AskReport, AskHear, Ticked, Began, Updated, Decided, Finished, Aborted, Sent, Took, Reported, Heard};
+ghost use Rattle.world_model.specs.rules.Event as event;
+ghost use Rattle.world_model.specs.lines.Places.{IsOther};
+ghost use Rattle.world_model.specs.lines.Places.{IsPlace};
+ghost use Rattle.world_model.specs.rules.Plan.{update_count};
 ghost use Rattle.site_partitions.specs.Reaches.{types_of, MayAsk, HasBegun};
 ghost use Rattle.site_partitions.specs.Answers.{Any, Calls};
 

@@ -2,9 +2,9 @@
 ghost use Rattle.std.specs.Prelude.{◌≡◌, false, List, Option, IfOk, option_map, map};
 ghost use Rattle.site_vector.specs.Ids.{same_tx};
 ghost use Rattle.prepared_table.specs.Entries.{found};
-ghost use Rattle.world_model.specs.Event.{Entry as Happened, AskAbort, Aborted};
-ghost use Rattle.world_model.specs.Partition.{fate_of};
-ghost use Rattle.world_model.specs.Plan.{IsPlace};
+ghost use Rattle.world_model.specs.rules.Event.{Entry as Happened, AskAbort, Aborted};
+ghost use Rattle.world_model.specs.rules.Partition.{fate_of};
+ghost use Rattle.world_model.specs.lines.Places.{IsPlace};
 ghost use Rattle.partition_core.specs.Answers.{fate_told};
 ghost use Rattle.site_partitions.specs.Answers.{AbortsByLead, CallsIf};
 ghost use Rattle.site_partitions.specs.Fates.{OfState, IsLead, AreWaiting, waiting_of};

@@ -1,6 +1,6 @@
 // Crashes, restarts and fuses.
 ghost use Rattle.std.specs.Prelude.{◌≡◌};
-ghost use Rattle.world_model.specs.Plan.{IsPlace};
+ghost use Rattle.world_model.specs.lines.Places.{IsPlace};
 ghost use Rattle.site_partitions.specs.Faults.{CrashesAt, RestartsAt};
 ghost use Rattle.site_partitions.specs.Reaches.{types_of};
 

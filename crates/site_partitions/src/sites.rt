@@ -1,5 +1,5 @@
 ghost use Rattle.std.specs.Prelude.{◌≡◌, ◌<◌, ◌≤◌, ◌*◌};
-ghost use Rattle.world_model.specs.Plan.{IsPlace};
+ghost use Rattle.world_model.specs.lines.Places.{IsPlace};
 ghost use Rattle.site_partitions.specs.Held.{index_of, holds_site, holds_part, IsDownAt};
 ghost use Rattle.site_partitions.specs.Starved.{IsStarvedAt};
 

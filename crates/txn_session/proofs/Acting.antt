@@ -5,7 +5,7 @@ use Rattle.site_vector.specs.declared.ids.PartId.{PartId}
 use Rattle.site_vector.specs.declared.ids.TxId.{TxId}
 use Rattle.crdt_core.specs.KindsOf.{Kinds}
 use Rattle.world_model.specs.declared.step.Step.{Step}
-use Rattle.world_model.specs.Event.{Ask}
+use Rattle.world_model.specs.rules.Event.{Ask}
 use Rattle.txn_session.specs.Calls.{Call, called, touches, IsLegal, AreOthers, NoneBears, GoesOn, Stays}
 use Rattle.txn_session.specs.Session.{Txn, Doing, Idle, Open, Ending, SessionState}
 use Rattle.txn_session.specs.Holds.{HoldsTxn, HoldsDoing, Holds, HoldsNumber, AreApart, Makes, Waits}

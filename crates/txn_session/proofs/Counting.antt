@@ -7,7 +7,7 @@ use Rattle.std.proofs.lemmas.List.{append-nil, take_more_set}
 use Rattle.std.proofs.lemmas.List.Elements.{filter-append}
 use Rattle.std.proofs.lemmas.List.Folds.{list_any_at}
 use Rattle.crdt_core.specs.declared.record.Upd.{Upd}
-use Rattle.world_model.specs.Plan.{is_some_update}
+use Rattle.world_model.specs.rules.Plan.{is_some_update}
 use Rattle.txn_session.specs.Session.{updates_of, stands_at, numbers_from}
 
 module _ {E : Type 0} where

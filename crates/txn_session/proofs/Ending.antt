@@ -13,12 +13,12 @@ use Rattle.world_model.specs.declared.commit.What.TheVariants as what
 use Rattle.world_model.specs.declared.commit.Next.TheVariants as next
 use Rattle.world_model.specs.declared.step.Step.{Step}
 use Rattle.world_model.specs.declared.step.Step.TheVariants as step
-use Rattle.world_model.specs.Event.{Ask, AskPrepare, AskDecide, AskFinish, AskAbort, Event, Decided, Refused, Cut, attempt}
-use Rattle.world_model.specs.Past.{IsKnownJoin}
-use Rattle.world_model.specs.Plan.{IsPlace}
-use Rattle.world_model.specs.Lines.{step_shown}
-use Rattle.world_model.specs.Asking.{asked_by}
-use Rattle.world_model.specs.CommitSteps.{Going, Preparing, Finishing, Aborting, starting, given_up, next_step, after}
+use Rattle.world_model.specs.rules.Event.{Ask, AskPrepare, AskDecide, AskFinish, AskAbort, Event, Decided, Refused, Cut, attempt}
+use Rattle.world_model.specs.rules.Dependency.{IsKnownJoin}
+use Rattle.world_model.specs.lines.Places.{IsPlace}
+use Rattle.world_model.specs.rules.Lines.{step_shown}
+use Rattle.world_model.specs.rules.Asking.{asked_by}
+use Rattle.world_model.specs.commands.CommitSteps.{Going, Preparing, Finishing, Aborting, starting, given_up, next_step, after}
 use Rattle.clocksi_commit.specs.Commit.{Committing, is_finishing}
 use Rattle.clocksi_commit.specs.Law.{is_nothing}
 use Rattle.txn_session.specs.declared.session.Stage.{Stage}

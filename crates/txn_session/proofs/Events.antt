@@ -10,9 +10,9 @@ use Rattle.crdt_core.specs.declared.record.Upd.{Upd}
 use Rattle.crdt_core.specs.declared.record.Part.{Part}
 use Rattle.world_model.specs.declared.step.Step.{Step}
 use Rattle.world_model.specs.declared.step.Step.TheVariants as step
-use Rattle.world_model.specs.Event.{Ask, AskBegin, AskRead, AskUpdate, Refusal, IsDown, ClockBehind, TxPending, StableBehind, ClockAtEnd, IsGone, HasGap, IsRepeat, IsBadOp, HasNoRoom, IsDamaged, Event, Began, Updated, Read, Decided, Refused, Cut, Entry, attempt}
-use Rattle.world_model.specs.Lines.{refusal_shown, fault_shown, step_shown}
-use Rattle.world_model.specs.Asking.{asked_by}
+use Rattle.world_model.specs.rules.Event.{Ask, AskBegin, AskRead, AskUpdate, Refusal, IsDown, ClockBehind, TxPending, StableBehind, ClockAtEnd, IsGone, HasGap, IsRepeat, IsBadOp, HasNoRoom, IsDamaged, Event, Began, Updated, Read, Decided, Refused, Cut, Entry, attempt}
+use Rattle.world_model.specs.rules.Lines.{refusal_shown, fault_shown, step_shown}
+use Rattle.world_model.specs.rules.Asking.{asked_by}
 use Rattle.txn_session.specs.Calls.{touches, effect_made}
 
 -- what a call that was done answers

@@ -7,12 +7,13 @@ use Rattle.site_vector.specs.declared.ids.PartId.{PartId}
 use Rattle.site_vector.specs.declared.ids.TxId.{TxId}
 use Rattle.site_vector.specs.Ids.{same_part}
 use Rattle.crdt_core.specs.declared.record.Upd.{Upd}
-use Rattle.world_model.specs.Event.{Event, Began, Updated, Prepared, Entry, attempt, is_prepare, is_decide, tried, voted, decide_tried, gave_up, is_decided, time_shown, time_of, WasShown}
-use Rattle.world_model.specs.Past.{WereVectors, IsKnownJoin}
-use Rattle.world_model.specs.Plan.{home, change_by, updates_at, update_count}
-use Rattle.world_model.specs.World.{is_begin, begin_vector, begun, snapshot_of}
-use Rattle.world_model.specs.Lines.{session_after, session_of}
-use Rattle.world_model.specs.CommitSteps.{Going, Preparing, Finishing, Aborting}
+use Rattle.world_model.specs.rules.Event.{Event, Began, Updated, Prepared, Entry, attempt, is_prepare, is_decide, tried, voted, decide_tried, gave_up, is_decided, time_shown, time_of, WasShown}
+use Rattle.world_model.specs.rules.Dependency.{WereVectors, IsKnownJoin}
+use Rattle.world_model.specs.lines.Places.{home}
+use Rattle.world_model.specs.rules.Plan.{change_by, updates_at, update_count}
+use Rattle.world_model.specs.rules.World.{is_begin, begin_vector, begun, snapshot_of}
+use Rattle.world_model.specs.rules.Lines.{session_after, session_of}
+use Rattle.world_model.specs.commands.CommitSteps.{Going, Preparing, Finishing, Aborting}
 use Rattle.txn_session.specs.Calls.{Call, entries, caller_of, is_update, touches, AreOthers}
 use Rattle.txn_session.specs.Session.{Txn, Doing, Idle, Open, Ending, SessionState}
 use Rattle.txn_session.specs.Holds.{HoldsTxn, IsUntried, HoldsGoing, HoldsDoing, Holds, AreApart}

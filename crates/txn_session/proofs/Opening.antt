@@ -12,12 +12,12 @@ use Rattle.crdt_core.specs.declared.record.Upd.{Upd}
 use Rattle.crdt_core.specs.KindsOf.{Kinds}
 use Rattle.world_model.specs.declared.step.Step.{Step}
 use Rattle.world_model.specs.declared.step.Step.TheVariants as step
-use Rattle.world_model.specs.Event.{AskBegin, Began, tried, voted}
-use Rattle.world_model.specs.Partition.{IsBegin}
-use Rattle.world_model.specs.Past.{ShowsVector, IsKnownJoin}
-use Rattle.world_model.specs.Plan.{IsPlace, home}
-use Rattle.world_model.specs.World.{snapshot_of}
-use Rattle.world_model.specs.Lines.{session_of}
+use Rattle.world_model.specs.rules.Event.{AskBegin, Began, tried, voted}
+use Rattle.world_model.specs.rules.Partition.{IsBegin}
+use Rattle.world_model.specs.rules.Dependency.{ShowsVector, IsKnownJoin}
+use Rattle.world_model.specs.lines.Places.{IsPlace, home}
+use Rattle.world_model.specs.rules.World.{snapshot_of}
+use Rattle.world_model.specs.rules.Lines.{session_of}
 use Rattle.txn_session.specs.Calls.{Call, entries, called, caller_of, IsLegal, IsAllowed, GoesOn, Stays}
 use Rattle.txn_session.specs.Session.{Txn, Idle, Open, SessionState, doing_so, depends}
 use Rattle.clocksi_commit.specs.Commit.{Committing}

@@ -7,11 +7,12 @@ use Rattle.site_vector.specs.declared.ids.TxId.{TxId}
 use Rattle.site_vector.specs.Ids.{same_part, same_tx}
 use Rattle.site_vector.specs.Order.{same_tx_is}
 use Rattle.crdt_core.specs.KindsOf.{Kinds}
-use Rattle.world_model.specs.Event.{Event, Began, Updated, Prepared, Decided, Aborted, Cut, Entry, attempt, is_prepare, is_decide, is_own_abort, tried, voted, decide_tried, gave_up, time_of, time_shown}
-use Rattle.world_model.specs.Partition.{PartState, PartStep}
-use Rattle.world_model.specs.Plan.{home, change_by, updates_at, update_count}
-use Rattle.world_model.specs.Premises.{names, is_told_of}
-use Rattle.world_model.specs.World.{is_begin, begun, IsWorldRun}
+use Rattle.world_model.specs.rules.Event.{Event, Began, Updated, Prepared, Decided, Aborted, Cut, Entry, attempt, is_prepare, is_decide, is_own_abort, tried, voted, decide_tried, gave_up, time_of, time_shown}
+use Rattle.world_model.specs.rules.Partition.{PartState, PartStep}
+use Rattle.world_model.specs.lines.Places.{home}
+use Rattle.world_model.specs.rules.Plan.{change_by, updates_at, update_count}
+use Rattle.world_model.specs.rules.Premises.{names, is_told_of}
+use Rattle.world_model.specs.rules.World.{is_begin, begun, IsWorldRun}
 use Rattle.world_model.proofs.Names.{off}
 use Rattle.world_model.proofs.Premises.{premises}
 use Rattle.txn_session.specs.Calls.{Call, entries, caller_of, touches, IsLegal, AreOthers, NoneBears}

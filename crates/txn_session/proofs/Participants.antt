@@ -5,9 +5,9 @@ use Rattle.std.proofs.lemmas.Bool.{cases_Bool, cond-true, cond-false, eq-eqb, eq
 use Rattle.std.proofs.lemmas.List.Folds.{list_any-append}
 use Rattle.site_vector.specs.declared.ids.PartId.{PartId}
 use Rattle.crdt_core.specs.declared.record.Upd.{Upd}
-use Rattle.world_model.specs.Cluster.{partitions}
-use Rattle.world_model.specs.Plan.{first_of, is_some_update, home, updates_at}
-use Rattle.world_model.specs.World.{snapshot_of, is_own, changes_of, participants_of, lead_of}
+use Rattle.world_model.specs.lines.Places.{partitions, first_of, home}
+use Rattle.world_model.specs.rules.Plan.{is_some_update, updates_at}
+use Rattle.world_model.specs.rules.World.{snapshot_of, is_own, changes_of, participants_of, lead_of}
 use Rattle.txn_session.specs.Calls.{Call, entries}
 use Rattle.txn_session.specs.Session.{Txn, updates_of, stands_at, numbers_from, participants}
 use Rattle.txn_session.specs.Holds.{HoldsTxn, changed_at, has, has_place}

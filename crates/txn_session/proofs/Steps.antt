@@ -10,12 +10,13 @@ use Rattle.site_vector.specs.Ids.{same_part, same_tx}
 use Rattle.site_vector.specs.Order.{same_tx_refl}
 use Rattle.site_vector.specs.Vector.{replaced}
 use Rattle.crdt_core.specs.declared.record.Upd.{Upd}
-use Rattle.world_model.specs.Event.{Ask, AskPrepare, AskDecide, AskFinish, AskAbort, IsDown, IsGone, Event, Began, Updated, Prepared, Decided, Finished, Aborted, Refused, Cut, attempt, tried, voted, decide_tried, time_of}
-use Rattle.world_model.specs.Plan.{IsPlace, commit_vector}
-use Rattle.world_model.specs.World.{is_begin, lead_of, plan_of}
-use Rattle.world_model.specs.Lines.{step_shown}
-use Rattle.world_model.specs.Asking.{asked_by}
-use Rattle.world_model.specs.CommitSteps.{Preparing, Finishing, after}
+use Rattle.world_model.specs.rules.Event.{Ask, AskPrepare, AskDecide, AskFinish, AskAbort, IsDown, IsGone, Event, Began, Updated, Prepared, Decided, Finished, Aborted, Refused, Cut, attempt, tried, voted, decide_tried, time_of}
+use Rattle.world_model.specs.lines.Places.{IsPlace}
+use Rattle.world_model.specs.rules.Plan.{commit_vector}
+use Rattle.world_model.specs.rules.World.{is_begin, lead_of, plan_of}
+use Rattle.world_model.specs.rules.Lines.{step_shown}
+use Rattle.world_model.specs.rules.Asking.{asked_by}
+use Rattle.world_model.specs.commands.CommitSteps.{Preparing, Finishing, after}
 use Rattle.txn_session.specs.Calls.{Call, entries, called, is_update, IsAllowed}
 use Rattle.txn_session.specs.Session.{Txn, updates_of, participants, first_or_zero}
 use Rattle.txn_session.specs.Holds.{HoldsTxn, IsAsking, IsFinishing, IsAborting, HoldsGoing, has, has_place}

@@ -18,9 +18,10 @@ use Rattle.crdt_core.specs.Objects.{same_object, same_object-true}
 use Rattle.crdt_core.specs.Placing.{place_of}
 use Rattle.world_model.specs.declared.step.Step.{Step}
 use Rattle.world_model.specs.declared.step.Step.TheVariants as step
-use Rattle.world_model.specs.Event.{Ask, AskRead, AskUpdate, Updated}
-use Rattle.world_model.specs.Plan.{IsPlace, updates_at, update_count}
-use Rattle.world_model.specs.Lines.{session_of, step_shown}
+use Rattle.world_model.specs.rules.Event.{Ask, AskRead, AskUpdate, Updated}
+use Rattle.world_model.specs.lines.Places.{IsPlace}
+use Rattle.world_model.specs.rules.Plan.{updates_at, update_count}
+use Rattle.world_model.specs.rules.Lines.{session_of, step_shown}
 use Rattle.txn_session.specs.Calls.{Call, entries, called, IsLegal, IsAllowed, MayCall, GoesOn, Changes}
 use Rattle.txn_session.specs.Session.{Txn, Open, SessionState, doing_so, own_updates, updates_of, stands_at, place_in}
 use Rattle.clocksi_commit.specs.Commit.{Committing}

@@ -5,13 +5,13 @@ use Rattle.site_vector.specs.declared.ids.TxId.{TxId}
 use Rattle.site_vector.specs.Ids.{same_tx}
 use Rattle.crdt_core.specs.KindsOf.{Kinds}
 use Rattle.world_model.specs.declared.step.Step.{Step}
-use Rattle.world_model.specs.Event.{Ask, AskRead, AskUpdate, AskPrepare, AskDecide, AskAbort, Event, Updated, Entry, attempt, is_prepare, is_decide, is_own_abort}
-use Rattle.world_model.specs.Partition.{PartState}
-use Rattle.world_model.specs.Plan.{IsPlace}
-use Rattle.world_model.specs.World.{is_begin, begun, IsWorldRun}
-use Rattle.world_model.specs.Lines.{step_shown}
-use Rattle.world_model.specs.Asking as asking
-use Rattle.world_model.specs.Asking.{asked_by, is_own_word}
+use Rattle.world_model.specs.rules.Event.{Ask, AskRead, AskUpdate, AskPrepare, AskDecide, AskAbort, Event, Updated, Entry, attempt, is_prepare, is_decide, is_own_abort}
+use Rattle.world_model.specs.rules.Partition.{PartState}
+use Rattle.world_model.specs.lines.Places.{IsPlace}
+use Rattle.world_model.specs.rules.World.{is_begin, begun, IsWorldRun}
+use Rattle.world_model.specs.rules.Lines.{step_shown}
+use Rattle.world_model.specs.rules.Asking as asking
+use Rattle.world_model.specs.rules.Asking.{asked_by, is_own_word}
 
 -- an event with the number of its caller
 pub record Call (E : Type 0) : Type 0 where

@@ -10,12 +10,13 @@ use Rattle.crdt_core.specs.Placing.{place_of}
 use Rattle.world_model.specs.declared.commit.What.{What}
 use Rattle.world_model.specs.declared.commit.What.TheVariants as what
 use Rattle.world_model.specs.declared.step.Step.{Step}
-use Rattle.world_model.specs.Event.{Ask, AskRead, AskUpdate, AskPrepare, AskDecide, AskFinish, AskAbort, Began, tried, voted, decide_tried, gave_up, is_decided, time_of, WasShown}
-use Rattle.world_model.specs.Past.{IsKnownJoin}
-use Rattle.world_model.specs.Plan.{IsPlace, home, updates_at, update_count}
-use Rattle.world_model.specs.World.{begun, snapshot_of}
-use Rattle.world_model.specs.Lines.{session_of}
-use Rattle.world_model.specs.CommitSteps.{Going, Preparing, Finishing, Aborting, next_step}
+use Rattle.world_model.specs.rules.Event.{Ask, AskRead, AskUpdate, AskPrepare, AskDecide, AskFinish, AskAbort, Began, tried, voted, decide_tried, gave_up, is_decided, time_of, WasShown}
+use Rattle.world_model.specs.rules.Dependency.{IsKnownJoin}
+use Rattle.world_model.specs.lines.Places.{IsPlace, home}
+use Rattle.world_model.specs.rules.Plan.{updates_at, update_count}
+use Rattle.world_model.specs.rules.World.{begun, snapshot_of}
+use Rattle.world_model.specs.rules.Lines.{session_of}
+use Rattle.world_model.specs.commands.CommitSteps.{Going, Preparing, Finishing, Aborting, next_step}
 use Rattle.clocksi_commit.specs.Commit.{Committing}
 use Rattle.txn_session.specs.Calls.{Call, entries, called, caller_of, AreOthers, NoneBears, GoesOn}
 use Rattle.txn_session.specs.Session.{Txn, Doing, Idle, Open, Ending, SessionState, own_updates, updates_of, participants, first_or_zero, place_in}

@@ -13,7 +13,7 @@ use Rattle.world_model.specs.declared.commit.Next.{Next}
 use Rattle.world_model.specs.declared.commit.Next.TheVariants as next
 use Rattle.world_model.specs.declared.step.Step.{Step}
 use Rattle.world_model.specs.declared.step.Step.TheVariants as step
-use Rattle.world_model.specs.CommitSteps.{after}
+use Rattle.world_model.specs.commands.CommitSteps.{after}
 use Rattle.txn_session.specs.declared.error.SessionError.{SessionError}
 use Rattle.txn_session.specs.declared.error.SessionError.TheVariants.{NoTxn, TooMany, BadOp, TooDeep}
 use Rattle.txn_session.specs.Session.{Txn, Doing, Idle, Open, Ending, SessionState, ending, giving_up, answered, doing_so, depends}

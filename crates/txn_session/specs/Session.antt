@@ -7,8 +7,8 @@ use Rattle.crdt_core.specs.declared.record.Upd.{Upd}
 use Rattle.crdt_core.specs.Objects.{same_object}
 use Rattle.crdt_core.specs.Placing.{place_of}
 use Rattle.world_model.specs.declared.step.Step.{Step}
-use Rattle.world_model.specs.Plan.{is_some_update}
-use Rattle.world_model.specs.CommitSteps.{Going, Finishing, starting, given_up, is_done, after}
+use Rattle.world_model.specs.rules.Plan.{is_some_update}
+use Rattle.world_model.specs.commands.CommitSteps.{Going, Finishing, starting, given_up, is_done, after}
 use Rattle.clocksi_commit.specs.Commit.{Committing, is_finishing}
 use Rattle.txn_session.specs.declared.phase.Phase.{Phase}
 use Rattle.txn_session.specs.declared.phase.Phase.TheVariants as phase

@@ -1,6 +1,6 @@
 ghost use Rattle.std.specs.Prelude.{◌≡◌, ◌≤◌, ◌+◌, length, take, [], true, IfOk, OnOk, Bool};
 ghost use Rattle.crdt_core.specs.Objects.{same_object};
-ghost use Rattle.world_model.specs.Plan.{is_some_update};
+ghost use Rattle.world_model.specs.rules.Plan.{is_some_update};
 ghost use Rattle.txn_session.specs.Session.{own_updates, updates_of, participants, first_or_zero};
 
 use crdt_core::{Crdt, ObjectId, Upd, copy_update, partition_of};

@@ -5,8 +5,8 @@ ghost use Rattle.txn_session.specs.Session.{Idle, phase_in, phase_of, place_in, 
 ghost use Rattle.world_model.specs.declared.commit.What.TheVariants as what;
 ghost use Rattle.txn_session.specs.Holds.{Holds, Mays, Makes, MakesUpdate, MakesRead, MakesStep, TellsStep, Waits, next_of};
 ghost use Rattle.crdt_core.specs.Placing.{place_of};
-ghost use Rattle.world_model.specs.Plan.{IsPlace};
-ghost use Rattle.world_model.specs.Event.{AskBegin};
+ghost use Rattle.world_model.specs.lines.Places.{IsPlace};
+ghost use Rattle.world_model.specs.rules.Event.{AskBegin};
 
 use crate::chosen::{first_of, own_of, part_of, participants_of};
 use crate::{Phase, SessionError, Store};

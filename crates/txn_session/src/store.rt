@@ -3,10 +3,10 @@ ghost use Rattle.crdt_core.specs.KindsOf.{kinds_of, fits_kind};
 ghost use Rattle.crdt_core.specs.Log.{end_of_time};
 ghost use Rattle.site_vector.specs.declared.ids.PartId.{PartId as Place};
 ghost use Rattle.world_model.specs.declared.step.Step.{Step as Line};
-ghost use Rattle.world_model.specs.Event.{AskTick, AskBegin, AskRead, AskUpdate, AskPrepare, AskDecide, AskFinish, AskAbort, AskMessage, AskTake, AskReport, AskHear, Sent, Reported};
-ghost use Rattle.world_model.specs.Plan.{update_count};
-ghost use Rattle.world_model.specs.Lines.{session_of};
-ghost use Rattle.world_model.specs.Partition.{IsOther};
+ghost use Rattle.world_model.specs.rules.Event.{AskTick, AskBegin, AskRead, AskUpdate, AskPrepare, AskDecide, AskFinish, AskAbort, AskMessage, AskTake, AskReport, AskHear, Sent, Reported};
+ghost use Rattle.world_model.specs.rules.Plan.{update_count};
+ghost use Rattle.world_model.specs.rules.Lines.{session_of};
+ghost use Rattle.world_model.specs.lines.Places.{IsOther};
 ghost use Rattle.txn_session.specs.Calls.{Call, entries, IsLegal, IsAllowed, MayCall, GoesOn, Changes, Does, Stays, SeesStill};
 
 use crdt_core::{Crdt, Message, ObjectId, Op, Upd};

@@ -12,12 +12,14 @@ use Rattle.crdt_core.specs.declared.record.Part.{Part}
 use Rattle.crdt_core.specs.declared.record.Record.{Record}
 use Rattle.crdt_core.specs.Parts.{touches, lists}
 use Rattle.crdt_core.specs.Log.{prepared, prepare_time, prepared_changes, committed, committed_at, aborted, pending, taken, taken_at, taken_changes, holds, held_at, held_changes}
-use Rattle.world_model.specs.Event.{Event, Began, Updated, Read, Entry, attempt, is_decided, time_of, sent}
+use Rattle.world_model.specs.rules.Event.{Event, Began, Updated, Read, Entry, attempt, is_decided, time_of}
+use Rattle.world_model.proofs.Runs.{sent}
 use Rattle.crdt_core.specs.KindsOf.{Kinds}
-use Rattle.world_model.specs.Partition.{PartState, Finds, IsOther, IsReady, PartStep}
+use Rattle.world_model.specs.rules.Partition.{PartState, Finds, IsReady, PartStep}
+use Rattle.world_model.specs.lines.Places.{IsOther, IsPlace, twin, home}
 use Rattle.crdt_core.specs.Folds.{IsFold, state_read}
-use Rattle.world_model.specs.Plan.{Plan, IsPlace, takes_part, twin, home, changes_at, vector_at, commit_vector, is_some_update, IsAllowed, IsAsked}
-use Rattle.world_model.specs.WorldLaw.{IsRightFold}
+use Rattle.world_model.specs.rules.Plan.{Plan, takes_part, changes_at, vector_at, commit_vector, is_some_update, IsAllowed, IsAsked}
+use Rattle.world_model.specs.events.Reads.{IsRightFold}
 use Rattle.world_model.proofs.Names.{clash, le_at}
 use Rattle.world_model.proofs.Parts.{parts_map}
 use Rattle.world_model.proofs.Moves.{Move, image_log}

@@ -1,15 +1,16 @@
 -- A refusal answers a call that it may answer.
 use Rattle.std.proofs.Common.{◌≡◌, ℕ, true, not, List, [], ◌∷◌, None, Some, refl, sym, ap, ◌∙◌}
 use Rattle.site_vector.specs.declared.ids.PartId.{PartId}
-use Rattle.world_model.specs.Event.{AskTick, AskBegin, AskRead, AskUpdate, AskPrepare, AskDecide, AskFinish, AskAbort, AskTake, AskRestart, IsDown, ClockBehind, TxPending, StableBehind, ClockAtEnd, IsGone, HasGap, IsRepeat, IsBadOp, HasNoRoom, IsDamaged, Event, Updated, Read, Crashed, RestartCut, Restarted, Refused, Opened, Cut, Entry, EventsAre}
+use Rattle.world_model.specs.rules.Event.{AskTick, AskBegin, AskRead, AskUpdate, AskPrepare, AskDecide, AskFinish, AskAbort, AskTake, AskRestart, IsDown, ClockBehind, TxPending, StableBehind, ClockAtEnd, IsGone, HasGap, IsRepeat, IsBadOp, HasNoRoom, IsDamaged, Event, Updated, Read, Crashed, RestartCut, Restarted, Refused, Opened, Cut, Entry, EventsAre}
 use Rattle.crdt_core.specs.declared.record.Record.{Record}
 use Rattle.crdt_core.specs.Fitting.{unfit}
 use Rattle.crdt_core.specs.KindsOf.{Kinds}
-use Rattle.world_model.specs.Partition.{PartState, Finds, MayDo, PartStep}
-use Rattle.world_model.specs.Plan.{Plan, IsFit, IsRun}
-use Rattle.world_model.specs.WorldLaw.{HasCauseAt, HaveCausesAt}
-use Rattle.world_model.specs.Resumed.{is_call}
-use Rattle.world_model.specs.Answering.{IsDueAt, AreDue, IsKnown}
+use Rattle.world_model.specs.rules.Partition.{PartState, Finds, MayDo, PartStep}
+use Rattle.world_model.specs.rules.Plan.{Plan, IsFit}
+use Rattle.world_model.proofs.Runs.{IsRun}
+use Rattle.world_model.specs.events.Causes.{HasCauseAt, HaveCausesAt}
+use Rattle.world_model.specs.events.Restarts.{is_call}
+use Rattle.world_model.specs.events.Answers.{IsDueAt, AreDue, IsKnown}
 use Rattle.world_model.proofs.Names.{clash}
 use Rattle.world_model.proofs.Fitted.{PlanFits, good_unfit, good_run}
 

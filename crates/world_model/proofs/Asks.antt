@@ -2,11 +2,12 @@
 use Rattle.std.proofs.Common.{◌≡◌, ℕ, Bool, true, false, List, [], ◌∷◌, refl, ap, ◌∙◌}
 use Rattle.site_vector.specs.declared.ids.PartId.{PartId}
 use Rattle.site_vector.specs.declared.ids.TxId.{TxId}
-use Rattle.world_model.specs.Event.{AskBegin, AskRead, AskUpdate, AskPrepare, AskDecide, AskFinish, AskTake, Event, Began, Updated, Read, Prepared, Decided, Finished, Aborted, Took, Heard, Refused, Entry, attempt}
-use Rattle.world_model.specs.Partition.{PartState}
-use Rattle.world_model.specs.Plan.{home, is_some_update, change_by, updates_at, MayAbort, IsAllowed}
-use Rattle.world_model.specs.World.{is_begin, begin_vector, snapshot_of, changes_of, plan_of}
-use Rattle.world_model.specs.Asking.{MayCall, asked_by, is_own_word}
+use Rattle.world_model.specs.rules.Event.{AskBegin, AskRead, AskUpdate, AskPrepare, AskDecide, AskFinish, AskTake, Event, Began, Updated, Read, Prepared, Decided, Finished, Aborted, Took, Heard, Refused, Entry, attempt}
+use Rattle.world_model.specs.rules.Partition.{PartState}
+use Rattle.world_model.specs.lines.Places.{home}
+use Rattle.world_model.specs.rules.Plan.{is_some_update, change_by, updates_at, MayAbort, IsAllowed}
+use Rattle.world_model.specs.rules.World.{is_begin, begin_vector, snapshot_of, changes_of, plan_of}
+use Rattle.world_model.specs.rules.Asking.{MayCall, asked_by, is_own_word}
 use Rattle.std.proofs.lemmas.Bool.{cond-false}
 use Rattle.world_model.proofs.Names.{off}
 use Rattle.world_model.proofs.LineChanges.{first_site}

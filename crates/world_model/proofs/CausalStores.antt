@@ -16,12 +16,11 @@ use Rattle.crdt_core.specs.Kinds.{reads_state}
 use Rattle.crdt_core.specs.Objects.{same_object}
 use Rattle.crdt_core.specs.History.{folded}
 use Rattle.crdt_core.specs.Parts.{touches, lists}
-use Rattle.world_model.specs.Event.{Entry, is_decided}
+use Rattle.world_model.specs.rules.Event.{Entry, is_decided}
 use Rattle.crdt_core.specs.KindsOf.{Kinds}
 use Rattle.crdt_core.specs.Folds.{effects_from, effects_of, state_read}
-use Rattle.world_model.specs.Plan.{Plan, changes_at, commit_vector, takes_part, is_some_update}
-use Rattle.world_model.specs.WorldLaw.{sees_tx, IsRightFold}
-use Rattle.world_model.specs.Meaning.{Asked, asked_at, update_of, AreCausal}
+use Rattle.world_model.specs.rules.Plan.{Plan, changes_at, commit_vector, takes_part, is_some_update}
+use Rattle.world_model.specs.events.Reads.{sees_tx, IsRightFold, Asked, asked_at, update_of, AreCausal}
 use Rattle.world_model.proofs.Names.{clash, off}
 use Rattle.world_model.proofs.Histories.{IsMade, AreMade}
 

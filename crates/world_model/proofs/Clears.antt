@@ -5,10 +5,12 @@ use Rattle.site_vector.specs.declared.ids.PartId.{PartId}
 use Rattle.site_vector.specs.Vector.{entry}
 use Rattle.crdt_core.specs.KindsOf.{Kinds}
 use Rattle.crdt_core.specs.Log.{end_of_time}
-use Rattle.world_model.specs.Event.{AskTick, AskBegin, AskRead, AskUpdate, AskPrepare, AskDecide, AskFinish, AskAbort, AskTake, IsDown, HasNoRoom, Event, Began, Updated, Read, Prepared, Decided, Finished, Aborted, Took, Refused, Cut, Entry, EventsAre, attempt}
-use Rattle.world_model.specs.Partition.{PartState, PartStep}
-use Rattle.world_model.specs.Plan.{Plan, home, IsAllowed, IsPlanned, IsRun}
-use Rattle.world_model.specs.Clear.{IsClearAt, AreClear}
+use Rattle.world_model.specs.rules.Event.{AskTick, AskBegin, AskRead, AskUpdate, AskPrepare, AskDecide, AskFinish, AskAbort, AskTake, IsDown, HasNoRoom, Event, Began, Updated, Read, Prepared, Decided, Finished, Aborted, Took, Refused, Cut, Entry, EventsAre, attempt}
+use Rattle.world_model.specs.rules.Partition.{PartState, PartStep}
+use Rattle.world_model.specs.rules.Plan.{Plan, IsAllowed}
+use Rattle.world_model.specs.lines.Places.{home}
+use Rattle.world_model.proofs.Runs.{IsPlanned, IsRun}
+use Rattle.world_model.specs.events.Causes.{IsClearAt, AreClear}
 use Rattle.world_model.proofs.Intervals.{shown_has}
 use Rattle.world_model.proofs.Fate.{Fate}
 use Rattle.world_model.proofs.Leases.{Leases}

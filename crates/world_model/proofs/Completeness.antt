@@ -11,13 +11,15 @@ use Rattle.crdt_core.specs.declared.record.Record.{Record}
 use Rattle.crdt_core.specs.declared.record.Record.TheVariants.{Lease, Prepare, Decide, Finish, Abort, Batch}
 use Rattle.crdt_core.specs.Parts.{lists, vector_in, changes_in}
 use Rattle.crdt_core.specs.Log.{taken, taken_at, taken_changes, logged_bound, grown, MayFind}
-use Rattle.world_model.specs.Event.{Refused, Event, Ticked, Began, Updated, Read, Prepared, Decided, Finished, Aborted, Sent, Took, Reported, Heard, Crashed, RestartCut, Restarted, Opened, Cut, Entry, attempt, is_decided, time_of, sent, sent_count, report_count, EventsAre}
+use Rattle.world_model.specs.rules.Event.{Refused, Event, Ticked, Began, Updated, Read, Prepared, Decided, Finished, Aborted, Sent, Took, Reported, Heard, Crashed, RestartCut, Restarted, Opened, Cut, Entry, attempt, is_decided, time_of, sent_count, report_count, EventsAre}
+use Rattle.world_model.proofs.Runs.{sent}
 use Rattle.crdt_core.specs.KindsOf.{Kinds}
 use Rattle.site_vector.specs.Known.{vector_of}
-use Rattle.world_model.specs.Partition.{PartState, Finds, IsOther, IsBegin, batch_of, known, done, PartStep}
+use Rattle.world_model.specs.rules.Partition.{PartState, Finds, IsBegin, batch_of, known, done, PartStep}
+use Rattle.world_model.specs.lines.Places.{IsOther, twin}
 use Rattle.crdt_core.specs.Parts.{AreParts, above}
-use Rattle.world_model.specs.Plan.{Plan, takes_part, twin, changes_at, vector_at, commit_vector, IsAllowed, MayTake, MayHear}
-use Rattle.world_model.specs.WorldLaw.{IsExact}
+use Rattle.world_model.specs.rules.Plan.{Plan, takes_part, changes_at, vector_at, commit_vector, IsAllowed, MayTake, MayHear}
+use Rattle.world_model.specs.events.Reads.{IsExact}
 use Rattle.world_model.proofs.Names.{clash, off, part_cases, entry_cases, vectors_cases, join_below, lowest_below}
 use Rattle.world_model.proofs.Parts.{parts_vector, parts_changes, lists_above, above_parts}
 use Rattle.world_model.proofs.Moves.{Because, IsCut, Move, image_log}

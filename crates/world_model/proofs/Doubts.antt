@@ -8,11 +8,14 @@ use Rattle.site_vector.specs.Order.{same_part_refl, same_tx_is}
 use Rattle.crdt_core.specs.declared.record.Record.{Record}
 use Rattle.crdt_core.specs.declared.record.Record.TheVariants.{Decide}
 use Rattle.crdt_core.specs.Log.{prepared, committed, aborted, pending, last_decided, MayFind}
-use Rattle.world_model.specs.Event.{Event, Decided, Crashed, RestartCut, Restarted, Refused, Opened, Cut, Entry, attempt, is_named, decide_tried}
+use Rattle.world_model.specs.rules.Event.{Event, Decided, Crashed, RestartCut, Restarted, Refused, Opened, Cut, Entry, attempt, decide_tried}
+use Rattle.world_model.specs.lines.Listed.{is_named}
 use Rattle.crdt_core.specs.KindsOf.{Kinds}
-use Rattle.world_model.specs.Partition.{PartState, Finds, PartStep}
-use Rattle.world_model.specs.Plan.{Plan, IsAllowed, IsRun}
-use Rattle.world_model.specs.Doubt.{doubt_after, in_doubt, SettlesAt, SettleDoubts}
+use Rattle.world_model.specs.rules.Partition.{PartState, Finds, PartStep}
+use Rattle.world_model.specs.rules.Plan.{Plan, IsAllowed}
+use Rattle.world_model.proofs.Runs.{IsRun}
+use Rattle.world_model.specs.events.Pending.{doubt_after, in_doubt}
+use Rattle.world_model.specs.events.Restarts.{SettlesAt, SettleDoubts}
 use Rattle.world_model.proofs.Names.{clash, off, part_cases, part_other}
 use Rattle.world_model.proofs.Moves.{last_is_decided}
 use Rattle.world_model.proofs.Fate.{Fate, decided_committed}

@@ -3,9 +3,9 @@
 use Rattle.std.proofs.Common.{◌≡◌, ◌≢◌, ⊎_elim, inl, inr, ℕ, ◌≤◌, cond, leb, ltb, Bool, true, false, not, ◌&&◌, ◌||◌, List, [], ◌∷◌, None, Some, refl, sym, subst, arith, lit≤, lit<, le_refl}
 use Rattle.std.specs.Prelude.{if◌then◌else◌, pos, map, reverse}
 use Rattle.world_model.specs.declared.step.Step.TheVariants as step
-use Rattle.world_model.specs.Lines.{lines_of}
-use Rattle.world_model.specs.Fate.{is_committed_at}
-use Rattle.world_model.specs.Lawful.{IsLawful}
+use Rattle.world_model.specs.rules.Lines.{lines_of}
+use Rattle.world_model.specs.lines.Fate.{is_committed_at}
+use Rattle.world_model.specs.lines.Lawful.{IsLawful}
 use Rattle.std.specs.declared.cmp.Ordering.TheVariants.{Less}
 use Rattle.std.proofs.lemmas.Bool.{cases_Bool, cond-false, or_from, and_right}
 use Rattle.site_vector.specs.declared.ids.PartId.{PartId}
@@ -24,14 +24,15 @@ use Rattle.crdt_core.specs.declared.record.Message.{Message}
 use Rattle.crdt_core.specs.declared.record.Record.TheVariants.{Decide}
 use Rattle.crdt_core.specs.Parts.{touches}
 use Rattle.crdt_core.specs.Log.{prepare_time, pending, logged_bound}
-use Rattle.world_model.specs.Event.{Event, Began, Updated, Read, Prepared, Decided, Sent, Took, Reported, Heard, Restarted, Refused, Opened, Cut, Entry, AskTake, AskRead, IsRepeat, TxPending, voted}
+use Rattle.world_model.specs.rules.Event.{Event, Began, Updated, Read, Prepared, Decided, Sent, Took, Reported, Heard, Restarted, Refused, Opened, Cut, Entry, AskTake, AskRead, IsRepeat, TxPending, voted}
 use Rattle.crdt_core.specs.KindsOf.{Kinds}
-use Rattle.world_model.specs.Partition.{PartState, IsOther, IsOwnBound, ToldCommitted, fate_of, stable_entry, new_part, done, cut}
+use Rattle.world_model.specs.rules.Partition.{PartState, IsOwnBound, ToldCommitted, fate_of, stable_entry, new_part, done, cut}
+use Rattle.world_model.specs.lines.Places.{IsOther, IsPlace}
 use Rattle.crdt_core.specs.Orders.{pending_cmp}
 use Rattle.crdt_core.specs.Folds.{state_read}
-use Rattle.world_model.specs.Plan.{is_some_update, IsPlace, takes_part}
-use Rattle.world_model.specs.World.{plan_of, is_own, IsWorldRun}
-use Rattle.world_model.specs.LawfulWorld.{IsLawfulWorld}
+use Rattle.world_model.specs.rules.Plan.{is_some_update, takes_part}
+use Rattle.world_model.specs.rules.World.{plan_of, is_own, IsWorldRun}
+use Rattle.world_model.specs.events.Lawful.{IsLawfulWorld}
 use Rattle.world_model.proofs.Names.{clash, off, part_other}
 use Rattle.world_model.proofs.Law.{law_world}
 

@@ -7,11 +7,11 @@ use Rattle.site_vector.specs.declared.ids.TxId.{TxId}
 use Rattle.crdt_core.specs.declared.kind.Kind.TheVariants.{CounterPn}
 use Rattle.crdt_core.specs.declared.record.Upd.{Upd}
 use Rattle.crdt_core.specs.KindsOf.{Kinds}
-use Rattle.world_model.specs.Event.{Event, Entry, Began, Updated, Prepared, Aborted, Ticked, Refused, AskDecide, AskAbort, IsGone}
-use Rattle.world_model.specs.Lawful.{IsLawful}
-use Rattle.world_model.specs.Lines.{lines_of}
-use Rattle.world_model.specs.Partition.{PartState, done, fate_of, ToldAborted}
-use Rattle.world_model.specs.World.{IsWorldRun}
+use Rattle.world_model.specs.rules.Event.{Event, Entry, Began, Updated, Prepared, Aborted, Ticked, Refused, AskDecide, AskAbort, IsGone}
+use Rattle.world_model.specs.lines.Lawful.{IsLawful}
+use Rattle.world_model.specs.rules.Lines.{lines_of}
+use Rattle.world_model.specs.rules.Partition.{PartState, done, fate_of, ToldAborted}
+use Rattle.world_model.specs.rules.World.{IsWorldRun}
 use Rattle.world_model.proofs.Names.{off}
 use Rattle.world_model.proofs.Law.{law_world}
 use Rattle.world_model.proofs.ExampleCluster.{here1, here2, place_here1, place_here2, at_second, counter1, counter2, more, ann, ben, was_shown, was_vector, put, go, stay, HaveBoth, fits_more, untried}

@@ -11,12 +11,12 @@ use Rattle.crdt_core.specs.declared.operation.Op.{Op}
 use Rattle.crdt_core.specs.declared.operation.Act.TheVariants.{Increment, Enable}
 use Rattle.crdt_core.specs.declared.record.Upd.{Upd}
 use Rattle.crdt_core.specs.KindsOf.{Kinds, fits_kind}
-use Rattle.world_model.specs.Event.{Event, Entry, WasShown, WasNumbered, attempt, is_prepare, tried}
-use Rattle.world_model.specs.Handed.{IsNew}
-use Rattle.world_model.specs.Partition.{PartState, IsOther, PartStep}
-use Rattle.world_model.specs.Past.{WasVector}
-use Rattle.world_model.specs.Plan.{is_some_update, IsPlace, IsAllowed, IsFit}
-use Rattle.world_model.specs.World.{plan_of, IsWorldRun}
+use Rattle.world_model.specs.rules.Event.{Event, Entry, WasShown, WasNumbered, attempt, is_prepare, tried}
+use Rattle.world_model.specs.rules.World.{plan_of, IsWorldRun}
+use Rattle.world_model.specs.rules.Partition.{PartState, PartStep}
+use Rattle.world_model.specs.lines.Places.{IsOther, IsPlace}
+use Rattle.world_model.specs.rules.Dependency.{WasVector}
+use Rattle.world_model.specs.rules.Plan.{is_some_update, IsAllowed, IsFit, IsNew}
 use Rattle.world_model.proofs.Names.{off, part_other}
 
 abbrev pub here1 : PartId

@@ -19,16 +19,16 @@ use Rattle.crdt_core.specs.Folds.{state_read}
 use Rattle.crdt_core.specs.Log.{prepare_time, pending}
 use Rattle.crdt_core.specs.Orders.{pending_cmp}
 use Rattle.crdt_core.specs.Parts.{touches}
-use Rattle.world_model.specs.Event.{Event, Entry, Began, Updated, Read, Prepared, Decided, Finished, Ticked, Refused, Opened, AskRead, AskUpdate, AskPrepare, AskDecide, ClockBehind, TxPending, HasNoRoom, voted}
-use Rattle.world_model.specs.Lawful.{IsLawful}
-use Rattle.world_model.specs.Lines.{lines_of}
-use Rattle.world_model.specs.Partition.{PartState, new_part, done}
-use Rattle.world_model.specs.Plan.{takes_part}
-use Rattle.world_model.specs.World.{plan_of, is_own, IsWorldRun}
+use Rattle.world_model.specs.rules.Event.{Event, Entry, Began, Updated, Read, Prepared, Decided, Finished, Ticked, Refused, Opened, AskRead, AskUpdate, AskPrepare, AskDecide, ClockBehind, TxPending, HasNoRoom, voted}
+use Rattle.world_model.specs.lines.Lawful.{IsLawful}
+use Rattle.world_model.specs.rules.Lines.{lines_of}
+use Rattle.world_model.specs.rules.Partition.{PartState, new_part, done}
+use Rattle.world_model.specs.rules.Plan.{takes_part}
+use Rattle.world_model.specs.rules.World.{plan_of, is_own, IsWorldRun}
 use Rattle.world_model.proofs.Names.{clash, off}
 use Rattle.world_model.proofs.Law.{law_world}
 use Rattle.world_model.proofs.ExampleCluster.{here1, here2, place_here1, place_here2, at_second, counter1, flag1, counter2, flag2, more, on, ann, ben, none, no_updates, none_left, was_shown, was_vector, put, go, stay, HaveBoth, fits_more, fits_on, untried}
-use Rattle.world_model.specs.Dependency.{HandsOwn, KeepsPast}
+use Rattle.world_model.specs.lines.Dependency.{HandsOwn, KeepsPast}
 use Rattle.world_model.specs.declared.step.Step.TheVariants as step
 
 abbrev pub both : TxId

@@ -11,11 +11,11 @@ use Rattle.crdt_core.specs.declared.record.Upd.{Upd}
 use Rattle.crdt_core.specs.declared.record.Message.{Message}
 use Rattle.crdt_core.specs.declared.record.Record.TheVariants.{Prepare}
 use Rattle.crdt_core.specs.KindsOf.{Kinds}
-use Rattle.world_model.specs.Event.{Event, Entry, Began, Updated, Prepared, Aborted, Sent, Crashed, RestartCut, Restarted, Refused, Cut, AskReport, IsDown}
-use Rattle.world_model.specs.Lawful.{IsLawful}
-use Rattle.world_model.specs.Lines.{lines_of}
-use Rattle.world_model.specs.Partition.{PartState, new_part, done, cut, down}
-use Rattle.world_model.specs.World.{IsWorldRun}
+use Rattle.world_model.specs.rules.Event.{Event, Entry, Began, Updated, Prepared, Aborted, Sent, Crashed, RestartCut, Restarted, Refused, Cut, AskReport, IsDown}
+use Rattle.world_model.specs.lines.Lawful.{IsLawful}
+use Rattle.world_model.specs.rules.Lines.{lines_of}
+use Rattle.world_model.specs.rules.Partition.{PartState, new_part, done, cut, down}
+use Rattle.world_model.specs.rules.World.{IsWorldRun}
 use Rattle.world_model.proofs.Names.{off}
 use Rattle.world_model.proofs.Law.{law_world}
 use Rattle.world_model.proofs.ExampleCluster.{here1, here2, place_here1, place_here2, second_of_first, at_second, counter1, more, ben, none, was_shown, put, go, stay, HaveBoth, fits_more, untried}

@@ -15,15 +15,15 @@ use Rattle.crdt_core.specs.KindsOf.{Kinds}
 use Rattle.crdt_core.specs.Folds.{state_read}
 use Rattle.crdt_core.specs.Log.{end_of_time}
 use Rattle.crdt_core.specs.Parts.{touches}
-use Rattle.world_model.specs.Event.{Event, Entry, Began, Updated, Read, Ticked, Sent, Took, Reported, Heard, Refused, AskBegin, AskPrepare, AskTake, StableBehind, ClockAtEnd, HasGap, IsRepeat, sent_count, report_count}
-use Rattle.world_model.specs.Lawful.{IsLawful}
-use Rattle.world_model.specs.Lines.{lines_of}
-use Rattle.world_model.specs.Partition.{PartState, done}
-use Rattle.world_model.specs.World.{IsWorldRun}
+use Rattle.world_model.specs.rules.Event.{Event, Entry, Began, Updated, Read, Ticked, Sent, Took, Reported, Heard, Refused, AskBegin, AskPrepare, AskTake, StableBehind, ClockAtEnd, HasGap, IsRepeat, sent_count, report_count}
+use Rattle.world_model.specs.lines.Lawful.{IsLawful}
+use Rattle.world_model.specs.rules.Lines.{lines_of}
+use Rattle.world_model.specs.rules.Partition.{PartState, done}
+use Rattle.world_model.specs.rules.World.{IsWorldRun}
 use Rattle.world_model.proofs.Names.{clash, off}
 use Rattle.world_model.proofs.Law.{law_world}
 use Rattle.world_model.proofs.ExampleCluster.{here1, here2, there1, there2, place_here1, place_here2, place_there1, place_there2, second_of_first, first_of_second, at_first, counter1, counter2, more, ann, none, none_left, was_shown, was_numbered, was_vector, put, go, stay, HaveBoth, fits_more, untried}
-use Rattle.world_model.specs.Dependency.{HandsOwn, KeepsPast}
+use Rattle.world_model.specs.lines.Dependency.{HandsOwn, KeepsPast}
 use Rattle.world_model.proofs.ExampleCommit.{both, change1, change2, change3, part1, r21, p21, run21, own_past}
 use Rattle.world_model.specs.declared.step.Step.TheVariants as step
 

@@ -10,9 +10,10 @@ use Rattle.crdt_core.specs.declared.record.Upd.{Upd}
 use Rattle.crdt_core.specs.declared.record.Record.{Record}
 use Rattle.crdt_core.specs.declared.record.Record.TheVariants.{Lease, Prepare, Decide, Finish, Abort, Batch}
 use Rattle.crdt_core.specs.Log.{prepared, prepare_time, prepared_changes, decided, committed, committed_at, aborted, pending, last_decided}
-use Rattle.world_model.specs.Event.{Event, Prepared, Aborted, Entry, attempt, is_prepare, is_decide, is_abort, is_own_abort, shows_decided, tried, voted, decide_tried, gave_up, was_aborted, is_decided, vote, time_of}
-use Rattle.world_model.specs.Partition.{PartState, Finds, ToldAborted, fate_of}
-use Rattle.world_model.specs.Plan.{Plan, takes_part, vector_at, commit_vector, IsAllowed, MayPrepare, MayAbort, TellsAborted}
+use Rattle.world_model.specs.rules.Event.{Event, Prepared, Aborted, Entry, attempt, is_prepare, is_decide, is_abort, is_own_abort, shows_decided, tried, voted, decide_tried, gave_up, was_aborted, is_decided, time_of}
+use Rattle.world_model.proofs.Runs.{vote}
+use Rattle.world_model.specs.rules.Partition.{PartState, Finds, ToldAborted, fate_of}
+use Rattle.world_model.specs.rules.Plan.{Plan, takes_part, vector_at, commit_vector, IsAllowed, MayPrepare, MayAbort, TellsAborted}
 use Rattle.world_model.proofs.Names.{clash, off, part_same}
 use Rattle.world_model.proofs.Moves.{Because, Move, image_log, last_is_decided, named_by}
 

@@ -19,15 +19,16 @@ use Rattle.crdt_core.specs.Log.{end_of_time, ceiling, prepared, prepare_time, pe
 use Rattle.crdt_core.specs.Parts.{lists, vector_in}
 use Rattle.crdt_core.specs.Fitting.{is_vector, stand_at, fits_commit, fits_part, are_apart, fits_message, fits_record, unfit_next, unfit}
 use Rattle.crdt_core.specs.Log.{is_named_in, prepared_lead, prepared_snapshot}
-use Rattle.world_model.specs.Event.{Event, Ticked, Began, Updated, Read, Prepared, Decided, Finished, Aborted, Sent, Took, Reported, Heard, Crashed, RestartCut, Restarted, Refused, Opened, Cut, Entry, attempt, is_prepare, time_shown, voted, is_decided, time_of, sent, sent_count}
+use Rattle.world_model.specs.rules.Event.{Event, Ticked, Began, Updated, Read, Prepared, Decided, Finished, Aborted, Sent, Took, Reported, Heard, Crashed, RestartCut, Restarted, Refused, Opened, Cut, Entry, attempt, is_prepare, time_shown, voted, is_decided, time_of, sent_count}
+use Rattle.world_model.proofs.Runs.{sent, IsRun}
 use Rattle.crdt_core.specs.KindsOf.{Kinds}
-use Rattle.world_model.specs.Partition.{PartState, Finds, IsOther, batch_of, records, done, MayDo, PartStep}
+use Rattle.world_model.specs.rules.Partition.{PartState, Finds, batch_of, records, done, MayDo, PartStep}
+use Rattle.world_model.specs.lines.Places.{IsOther, first_of, twin, IsPlace, partitions}
 use Rattle.crdt_core.specs.Orders.{Ascends, stream_cmp}
 use Rattle.crdt_core.specs.Parts.{AreParts, above}
 use Rattle.crdt_core.specs.Log.{lease_for}
-use Rattle.world_model.specs.Plan.{Plan, first_of, twin, takes_part, commit_vector, IsPlace, IsAllowed, MayPrepare, MayDecide, MayFinish, MayTake, IsRun}
-use Rattle.world_model.specs.Cluster.{partitions}
-use Rattle.world_model.specs.WorldLaw.{IsExact}
+use Rattle.world_model.specs.rules.Plan.{Plan, takes_part, commit_vector, IsAllowed, MayPrepare, MayDecide, MayFinish, MayTake}
+use Rattle.world_model.specs.events.Reads.{IsExact}
 use Rattle.world_model.proofs.Names.{clash, off, part_cases, entry_same, entry_cases, join_below}
 use Rattle.world_model.proofs.Parts.{lists_above, above_parts}
 use Rattle.world_model.proofs.Moves.{image_log, grown_image, grown_last}
@@ -39,7 +40,7 @@ use Rattle.world_model.proofs.Completeness.{IsBacked, zeros_at}
 use Rattle.world_model.proofs.Kept.{Kept, law_plan}
 use Rattle.world_model.proofs.Shows.{Shown, shown_run}
 use Rattle.world_model.proofs.Resuming.{batch_bound, leased_bound, if_bound}
-use Rattle.world_model.specs.Resumed.{is_some_part}
+use Rattle.world_model.specs.events.Restarts.{is_some_part}
 use Rattle.world_model.proofs.LineCounts.{stream_apart}
 
 -- no entry is past the end of time

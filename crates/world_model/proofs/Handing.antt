@@ -7,13 +7,15 @@ use Rattle.site_vector.specs.declared.ids.TxId.{TxId}
 use Rattle.site_vector.specs.Ids.{same_part, same_tx}
 use Rattle.site_vector.specs.Order.{same_part_is, same_tx_is, same_tx_refl}
 use Rattle.crdt_core.specs.declared.record.Upd.{Upd}
-use Rattle.world_model.specs.Event.{AskRead, AskUpdate, AskPrepare, AskDecide, AskTake, Event, Began, Updated, Read, Prepared, Took, Heard, Refused, Cut, Entry, attempt, WasShown, EventsAre}
+use Rattle.world_model.specs.rules.Event.{AskRead, AskUpdate, AskPrepare, AskDecide, AskTake, Event, Began, Updated, Read, Prepared, Took, Heard, Refused, Cut, Entry, attempt, WasShown, EventsAre}
 use Rattle.crdt_core.specs.KindsOf.{Kinds}
-use Rattle.world_model.specs.Partition.{PartState, PartStep}
-use Rattle.world_model.specs.Plan.{Plan, home, is_some_update, change_by, updates_at, IsPlace, IsAllowed, IsPlanned, IsRun}
-use Rattle.world_model.specs.Past.{begins_for, is_of}
-use Rattle.world_model.specs.Handed.{HandedAt, AreHanded, AreNew}
-use Rattle.world_model.specs.World.{is_begin, begin_vector, begun, snapshot_of, is_own, changes_of, plan_of, IsWorldRun}
+use Rattle.world_model.specs.rules.Partition.{PartState, PartStep}
+use Rattle.world_model.specs.rules.Plan.{Plan, is_some_update, change_by, updates_at, IsAllowed}
+use Rattle.world_model.specs.lines.Places.{home, IsPlace}
+use Rattle.world_model.proofs.Runs.{IsPlanned, IsRun}
+use Rattle.world_model.specs.events.Dependency.{begins_for, is_of}
+use Rattle.world_model.specs.events.Handed.{HandedAt, AreHanded, AreNew}
+use Rattle.world_model.specs.rules.World.{is_begin, begin_vector, begun, snapshot_of, is_own, changes_of, plan_of, IsWorldRun}
 use Rattle.world_model.proofs.Names.{off}
 use Rattle.world_model.proofs.Intervals.{shown_has}
 use Rattle.world_model.proofs.Kept.{law_plan}

@@ -8,14 +8,17 @@ use Rattle.site_vector.specs.Ids.{same_part}
 use Rattle.site_vector.specs.Order.{same_part_refl}
 use Rattle.site_vector.specs.Vector.{entry, join}
 use Rattle.site_vector.specs.VectorLaws.{length_join}
-use Rattle.world_model.specs.Event.{AskBegin, StableBehind, ClockAtEnd, Event, Ticked, Began, Updated, Read, Prepared, Decided, Finished, Aborted, Sent, Took, Reported, Heard, Crashed, RestartCut, Restarted, Refused, Opened, Cut, Entry, attempt, report_count, EventsAre}
+use Rattle.world_model.specs.rules.Event.{AskBegin, StableBehind, ClockAtEnd, Event, Ticked, Began, Updated, Read, Prepared, Decided, Finished, Aborted, Sent, Took, Reported, Heard, Crashed, RestartCut, Restarted, Refused, Opened, Cut, Entry, attempt, report_count, EventsAre}
 use Rattle.crdt_core.specs.KindsOf.{Kinds}
 use Rattle.site_vector.specs.Known.{vector_of}
-use Rattle.world_model.specs.Partition.{PartState, IsOther, known, stable_entry, new_part, done, PartStep}
+use Rattle.world_model.specs.rules.Partition.{PartState, known, stable_entry, new_part, done, PartStep}
+use Rattle.world_model.specs.lines.Places.{IsOther}
 use Rattle.site_vector.specs.Known.{lowest}
-use Rattle.world_model.specs.Plan.{Plan, IsAllowed, IsRun}
-use Rattle.world_model.specs.Shown.{bound_shown}
-use Rattle.world_model.specs.Stable.{heard_from, heard_shown, known_shown, IsLeast, IsStableAt, IsFreshAt, AreFresh}
+use Rattle.world_model.specs.rules.Plan.{Plan, IsAllowed}
+use Rattle.world_model.proofs.Runs.{IsRun}
+use Rattle.world_model.specs.events.Bounds.{bound_shown}
+use Rattle.world_model.specs.events.Fresh.{heard_from, heard_shown, known_shown, IsStableAt, IsFreshAt, AreFresh}
+use Rattle.world_model.specs.lines.Bounds.{IsLeast}
 use Rattle.world_model.proofs.Names.{clash, part_cases, part_other, lowest_below, lowest_reached}
 use Rattle.world_model.proofs.Intervals.{numbered_shown, shown_has}
 use Rattle.world_model.proofs.Completeness.{numbered, rows_at}

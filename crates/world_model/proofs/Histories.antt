@@ -21,14 +21,13 @@ use Rattle.crdt_core.specs.Seen.{Update, sees}
 use Rattle.crdt_core.specs.History.{IsClosed, IsNext, IsHistory, IsStamped, folded, seen_by, effects, effect_after}
 use Rattle.crdt_core.specs.Law.{made_by, all_fit}
 use Rattle.crdt_core.specs.Parts.{touches, lists}
-use Rattle.world_model.specs.Event.{Entry, is_decided, time_of}
+use Rattle.world_model.specs.rules.Event.{Entry, is_decided, time_of}
 use Rattle.crdt_core.specs.KindsOf.{Kinds}
 use Rattle.crdt_core.specs.Orders.{Ascends, fold_cmp}
 use Rattle.crdt_core.specs.Parts.{AreParts}
 use Rattle.crdt_core.specs.Folds.{effects_from, effects_of, state_read}
-use Rattle.world_model.specs.Plan.{Plan, changes_at, commit_vector}
-use Rattle.world_model.specs.WorldLaw.{sees_tx, IsRightFold}
-use Rattle.world_model.specs.Meaning.{Asked, has_seen, update_of, updates_from}
+use Rattle.world_model.specs.rules.Plan.{Plan, changes_at, commit_vector}
+use Rattle.world_model.specs.events.Reads.{sees_tx, IsRightFold, Asked, has_seen, update_of, updates_from}
 use Rattle.world_model.proofs.Names.{clash, le_at, entry_same}
 use Rattle.world_model.proofs.Folds.{sum_le, sum_raised, before, before_sum, one_fold, filter_parts, filter_ascends, filter_lists}
 

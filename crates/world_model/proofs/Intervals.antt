@@ -9,11 +9,12 @@ use Rattle.site_vector.specs.Vector.{entry}
 use Rattle.crdt_core.specs.declared.record.Message.{Message}
 use Rattle.crdt_core.specs.declared.record.Record.{Record}
 use Rattle.crdt_core.specs.Log.{committed_at, prepared, prepare_time, prepared_changes, committed, aborted}
-use Rattle.world_model.specs.Event.{Event, Sent, Entry, is_decided, time_of, sent_after, sent, WasShown, WasNumbered, EventsAre}
+use Rattle.world_model.specs.rules.Event.{Event, Sent, Entry, is_decided, time_of, WasShown, WasNumbered, EventsAre}
+use Rattle.world_model.proofs.Runs.{sent_after, sent}
 use Rattle.crdt_core.specs.KindsOf.{Kinds}
-use Rattle.world_model.specs.Partition.{PartState, Finds, PartStep, IsMessage}
-use Rattle.world_model.specs.Plan.{Plan, takes_part, vector_at, commit_vector}
-use Rattle.world_model.specs.WorldLaw.{IsExact}
+use Rattle.world_model.specs.rules.Partition.{PartState, Finds, PartStep, IsMessage}
+use Rattle.world_model.specs.rules.Plan.{Plan, takes_part, vector_at, commit_vector}
+use Rattle.world_model.specs.events.Reads.{IsExact}
 use Rattle.world_model.proofs.Names.{part_cases, part_same, part_other}
 use Rattle.world_model.proofs.Parts.{parts_map}
 use Rattle.world_model.proofs.Moves.{Move, image_log}

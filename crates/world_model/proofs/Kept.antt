@@ -8,13 +8,18 @@ use Rattle.site_vector.specs.Vector.{le, entry}
 use Rattle.crdt_core.specs.declared.record.Message.{Message}
 use Rattle.crdt_core.specs.declared.record.Record.{Record}
 use Rattle.crdt_core.specs.Log.{end_of_time, ceiling, prepared, committed, aborted, decided, pending, taken, logged_bound}
-use Rattle.world_model.specs.Event.{AskRead, AskUpdate, AskPrepare, AskBegin, AskFinish, ClockBehind, ClockAtEnd, IsGone, Refused, shown, Event, Began, Updated, Read, Sent, Restarted, Entry, attempt, was_aborted, is_decided, time_of, sent, EventsAre, Cut}
+use Rattle.world_model.specs.rules.Event.{AskRead, AskUpdate, AskPrepare, AskBegin, AskFinish, ClockBehind, ClockAtEnd, IsGone, Refused, shown, Event, Began, Updated, Read, Sent, Restarted, Entry, attempt, was_aborted, is_decided, time_of, EventsAre, Cut}
+use Rattle.world_model.proofs.Runs.{sent, IsPlanned, IsRun}
 use Rattle.crdt_core.specs.KindsOf.{Kinds}
 use Rattle.site_vector.specs.Known.{vector_of}
-use Rattle.world_model.specs.Partition.{PartState, Finds, IsOther, IsBegin, new_part, PartStep}
-use Rattle.world_model.specs.Plan.{Plan, home, takes_part, commit_vector, IsAllowed, IsSession, IsPlanned, WorldStep, IsRun}
-use Rattle.world_model.specs.WorldLaw.{sees_tx, IsExact, IsRight, ClocksAre, KeepsIs, KeepsDecided, HasCauseAt, HaveCausesAt}
-use Rattle.world_model.specs.Past.{HoldsPast, KeepPast}
+use Rattle.world_model.specs.rules.Partition.{PartState, Finds, IsBegin, new_part, PartStep}
+use Rattle.world_model.specs.lines.Places.{IsOther, home}
+use Rattle.world_model.specs.rules.Plan.{Plan, takes_part, commit_vector, IsAllowed, IsSession, WorldStep}
+use Rattle.world_model.specs.events.Reads.{sees_tx, IsExact, IsRight}
+use Rattle.world_model.specs.events.Clock.{ClocksAre}
+use Rattle.world_model.specs.events.Restarts.{KeepsIs, KeepsDecided}
+use Rattle.world_model.specs.events.Causes.{HasCauseAt, HaveCausesAt}
+use Rattle.world_model.specs.events.Dependency.{HoldsPast, KeepPast}
 use Rattle.world_model.proofs.Histories.{Facts}
 use Rattle.world_model.proofs.Names.{clash, off, le_from, le_onward, le_raised}
 use Rattle.world_model.proofs.Moves.{moved, image_log}

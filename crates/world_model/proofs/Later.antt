@@ -8,9 +8,10 @@ use Rattle.site_vector.specs.Vector.{entry}
 use Rattle.crdt_core.specs.declared.record.Record.{Record}
 use Rattle.crdt_core.specs.declared.record.Record.TheVariants.{Lease, Prepare, Decide, Finish, Abort, Batch}
 use Rattle.crdt_core.specs.Log.{committed_at, prepared, prepare_time, committed, aborted, pending, last_decided}
-use Rattle.world_model.specs.Event.{Event, Entry, is_prepare, tried, decide_tried, gave_up, is_decided, vote, time_of, time_shown}
-use Rattle.world_model.specs.Partition.{PartState, Finds}
-use Rattle.world_model.specs.Plan.{Plan, takes_part, vector_at, commit_vector}
+use Rattle.world_model.specs.rules.Event.{Event, Entry, is_prepare, tried, decide_tried, gave_up, is_decided, time_of, time_shown}
+use Rattle.world_model.proofs.Runs.{vote}
+use Rattle.world_model.specs.rules.Partition.{PartState, Finds}
+use Rattle.world_model.specs.rules.Plan.{Plan, takes_part, vector_at, commit_vector}
 use Rattle.world_model.proofs.Names.{clash, part_cases, entry_same}
 use Rattle.world_model.proofs.Moves.{Because, Move, image_log}
 use Rattle.world_model.proofs.Fate.{Full, Fate, more_aborted, not_again}

@@ -11,18 +11,20 @@ use Rattle.site_vector.specs.Vector.{entry}
 use Rattle.crdt_core.specs.Placing.{place_of}
 use Rattle.crdt_core.specs.Log.{end_of_time}
 use Rattle.crdt_core.specs.Fitting.{stand_at}
-use Rattle.world_model.specs.Past.{joined, ShowsVector, WasVector, WereVectors}
-use Rattle.world_model.specs.Event.{Event, Began, Updated, Prepared, Decided, Entry, attempt, is_prepare, time_shown, time_of}
+use Rattle.world_model.specs.lines.Dependency.{joined}
+use Rattle.world_model.specs.rules.Dependency.{ShowsVector, WasVector, WereVectors}
+use Rattle.world_model.specs.rules.Event.{Event, Began, Updated, Prepared, Decided, Entry, attempt, is_prepare, time_shown, time_of}
 use Rattle.crdt_core.specs.KindsOf.{Kinds}
-use Rattle.world_model.specs.Partition.{PartState, IsOther, IsBegin, PartStep}
-use Rattle.world_model.specs.Plan.{Plan, home, twin, is_some_update, takes_part, change_by, updates_at, IsPlace, IsAllowed}
-use Rattle.world_model.specs.Handed.{HandedAt, AreHanded}
-use Rattle.world_model.specs.World.{is_begin, begin_vector, begun, snapshot_of, plan_of, IsWorldRun}
-use Rattle.world_model.specs.LawfulWorld.{IsLawfulWorld}
-use Rattle.world_model.specs.Logs.{LeavesLogs}
-use Rattle.world_model.specs.Lines.{lines_of}
-use Rattle.world_model.specs.Fate.{TellFates}
-use Rattle.world_model.specs.Lawful.{IsLawful}
+use Rattle.world_model.specs.rules.Partition.{PartState, IsBegin, PartStep}
+use Rattle.world_model.specs.lines.Places.{IsOther, home, twin, IsPlace}
+use Rattle.world_model.specs.rules.Plan.{Plan, is_some_update, takes_part, change_by, updates_at, IsAllowed}
+use Rattle.world_model.specs.events.Handed.{HandedAt, AreHanded}
+use Rattle.world_model.specs.rules.World.{is_begin, begin_vector, begun, snapshot_of, plan_of, IsWorldRun}
+use Rattle.world_model.specs.events.Lawful.{IsLawfulWorld}
+use Rattle.world_model.specs.events.Logs.{LeavesLogs}
+use Rattle.world_model.specs.rules.Lines.{lines_of}
+use Rattle.world_model.specs.rules.Fate.{TellFates}
+use Rattle.world_model.specs.lines.Lawful.{IsLawful}
 use Rattle.world_model.proofs.Names.{off}
 use Rattle.world_model.proofs.Completeness.{numbered}
 use Rattle.world_model.proofs.Kept.{Kept, law_plan, right_all, facts_of, strict, closed, never_both, past_end}

@@ -4,16 +4,16 @@ use Rattle.std.proofs.lemmas.Bool.{cases_Bool, false_from_ne_true}
 use Rattle.site_vector.specs.declared.ids.PartId.{PartId}
 use Rattle.site_vector.specs.declared.ids.TxId.{TxId}
 use Rattle.crdt_core.specs.Log.{pending, committed, committed_at}
-use Rattle.world_model.specs.Event.{Entry}
-use Rattle.world_model.specs.Downs.{is_down}
+use Rattle.world_model.specs.rules.Event.{Entry}
+use Rattle.world_model.specs.events.Pending.{is_down}
 use Rattle.crdt_core.specs.KindsOf.{Kinds}
-use Rattle.world_model.specs.Partition.{PartState, ToldPending, ToldCommitted, ToldAborted, ToldDown, fate_of}
-use Rattle.world_model.specs.World.{plan_of}
-use Rattle.world_model.specs.LawfulWorld.{IsLawfulWorld}
-use Rattle.world_model.specs.Lines.{lines_of}
-use Rattle.world_model.specs.History.{in_history}
-use Rattle.world_model.specs.Pending as lines
-use Rattle.world_model.specs.Fate.{IsFate, TellFates}
+use Rattle.world_model.specs.rules.Partition.{PartState, ToldPending, ToldCommitted, ToldAborted, ToldDown, fate_of}
+use Rattle.world_model.specs.rules.World.{plan_of}
+use Rattle.world_model.specs.events.Lawful.{IsLawfulWorld}
+use Rattle.world_model.specs.rules.Lines.{lines_of}
+use Rattle.world_model.specs.lines.History.{in_history}
+use Rattle.world_model.specs.lines.Pending as lines
+use Rattle.world_model.specs.rules.Fate.{IsFate, TellFates}
 use Rattle.world_model.proofs.Names.{clash, off}
 use Rattle.world_model.proofs.Moves.{image_log}
 use Rattle.world_model.proofs.Fate.{Fate, pending_parts}

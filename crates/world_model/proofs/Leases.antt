@@ -12,12 +12,12 @@ use Rattle.crdt_core.specs.declared.record.Message.{Message}
 use Rattle.crdt_core.specs.declared.record.Record.{Record}
 use Rattle.crdt_core.specs.declared.record.Record.TheVariants.{Lease, Prepare, Decide, Finish, Abort, Batch}
 use Rattle.crdt_core.specs.Log.{end_of_time, ceiling, pending, grown, MayFind}
-use Rattle.world_model.specs.Event.{Refused, Event, Ticked, Began, Updated, Read, Prepared, Decided, Finished, Aborted, Sent, Took, Reported, Heard, Crashed, RestartCut, Restarted, Opened, Cut, Entry, shown_after, shown, missed_after, missed}
+use Rattle.world_model.specs.rules.Event.{Refused, Event, Ticked, Began, Updated, Read, Prepared, Decided, Finished, Aborted, Sent, Took, Reported, Heard, Crashed, RestartCut, Restarted, Opened, Cut, Entry, shown_after, shown, missed_after, missed}
 use Rattle.crdt_core.specs.KindsOf.{Kinds}
-use Rattle.world_model.specs.Partition.{PartState, Finds, batch_of, records, now_after, MayDo, done, cut, PartStep}
+use Rattle.world_model.specs.rules.Partition.{PartState, Finds, batch_of, records, now_after, MayDo, done, cut, PartStep}
 use Rattle.crdt_core.specs.Log.{lease_for}
 use Rattle.crdt_core.specs.Parts.{above}
-use Rattle.world_model.specs.WorldLaw.{ClockIs}
+use Rattle.world_model.specs.events.Clock.{ClockIs}
 use Rattle.world_model.proofs.Names.{clash, part_cases, part_other}
 use Rattle.world_model.proofs.Moves.{image_log, grown_image, grown_last}
 

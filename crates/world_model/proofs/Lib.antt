@@ -51,3 +51,5 @@ pub mod PrepareTimes
 pub mod Told
 pub mod Settles
 pub mod PastJoins
+pub mod Runs
+pub mod Dependency

@@ -13,14 +13,14 @@ use Rattle.crdt_core.specs.declared.object.ObjectId.{ObjectId}
 use Rattle.crdt_core.specs.declared.record.Upd.{Upd}
 use Rattle.crdt_core.specs.Objects.{same_object}
 use Rattle.crdt_core.specs.Parts as part_list
-use Rattle.world_model.specs.Event.{IsDown, Event, Updated, Decided, Refused, Cut, Entry, shown}
-use Rattle.world_model.specs.Plan.{Plan, first_of, home, is_some_update, change_by, updates_at, update_count}
-use Rattle.world_model.specs.Cluster.{partitions}
-use Rattle.world_model.specs.Handed.{HandedAt, AreHanded, IsNew, AreNew}
-use Rattle.world_model.specs.Meaning.{Asked, asked_by, asked_at}
-use Rattle.world_model.specs.Lines.{call_of, step_shown, lines_of}
-use Rattle.world_model.specs.Clock.{now}
-use Rattle.world_model.specs.Updates.{Change, change_of, changes, takes_part, touches, lead}
+use Rattle.world_model.specs.rules.Event.{IsDown, Event, Updated, Decided, Refused, Cut, Entry, shown}
+use Rattle.world_model.specs.rules.Plan.{Plan, is_some_update, change_by, updates_at, update_count, IsNew}
+use Rattle.world_model.specs.lines.Places.{first_of, home, partitions}
+use Rattle.world_model.specs.events.Handed.{HandedAt, AreHanded, AreNew}
+use Rattle.world_model.specs.events.Reads.{Asked, asked_by, asked_at}
+use Rattle.world_model.specs.rules.Lines.{call_of, step_shown, lines_of}
+use Rattle.world_model.specs.lines.Clock.{now}
+use Rattle.world_model.specs.lines.Updates.{Change, change_of, changes, takes_part, touches, lead}
 use Rattle.world_model.proofs.Stories.{asked_changes}
 use Rattle.world_model.proofs.LineViews.{now_is}
 

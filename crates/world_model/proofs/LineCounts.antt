@@ -17,7 +17,7 @@ use Rattle.crdt_core.specs.declared.record.Part.{Part}
 use Rattle.crdt_core.specs.Parts.{lists}
 use Rattle.crdt_core.specs.Orders.{Precede, Ascends, stream_cmp}
 use Rattle.crdt_core.specs.Parts.{AreParts, above}
-use Rattle.world_model.specs.Resumed.{is_some_part}
+use Rattle.world_model.specs.events.Restarts.{is_some_part}
 use Rattle.world_model.proofs.Names.{clash, off}
 use Rattle.world_model.proofs.Orders.{is_in, IsOnce, with_one, one_longer, none_pass}
 

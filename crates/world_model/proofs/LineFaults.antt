@@ -5,13 +5,14 @@ use Rattle.site_vector.specs.declared.ids.PartId.{PartId}
 use Rattle.site_vector.specs.declared.ids.TxId.{TxId}
 use Rattle.site_vector.specs.Ids.{same_part, same_tx}
 use Rattle.site_vector.specs.Order.{same_part_is}
-use Rattle.world_model.specs.Event.{IsDown, Event, Prepared, Decided, Crashed, RestartCut, Restarted, Refused, Opened, Cut, Entry}
-use Rattle.world_model.specs.Shown.{pending_after, time_after}
-use Rattle.world_model.specs.WorldLaw.{ClockIs, ClocksAre}
-use Rattle.world_model.specs.Resumed.{is_call, cut_after, cut_call}
-use Rattle.world_model.specs.Lines.{Call, call_cut, call_of, step_shown, lines_of}
-use Rattle.world_model.specs.Clock.{now}
-use Rattle.world_model.specs.Restarts.{pending_done, time_done, fault_after, faulted}
+use Rattle.world_model.specs.rules.Event.{IsDown, Event, Prepared, Decided, Crashed, RestartCut, Restarted, Refused, Opened, Cut, Entry}
+use Rattle.world_model.specs.events.Pending.{pending_after, time_after}
+use Rattle.world_model.specs.events.Clock.{ClockIs, ClocksAre}
+use Rattle.world_model.specs.events.Restarts.{is_call, cut_after, cut_call}
+use Rattle.world_model.specs.lines.Lines.{Call}
+use Rattle.world_model.specs.rules.Lines.{call_cut, call_of, step_shown, lines_of}
+use Rattle.world_model.specs.lines.Clock.{now}
+use Rattle.world_model.specs.lines.Restarts.{pending_done, time_done, fault_after, faulted}
 use Rattle.world_model.proofs.Names.{off}
 use Rattle.world_model.proofs.LineViews.{now_is}
 

@@ -21,45 +21,49 @@ use Rattle.crdt_core.specs.Stamps.{stamp_due}
 use Rattle.crdt_core.specs.Parts as part_list
 use Rattle.crdt_core.specs.Log.{end_of_time}
 use Rattle.crdt_core.specs.Parts.{lists}
-use Rattle.world_model.specs.Event.{Ask, AskBegin, AskRead, AskUpdate, AskPrepare, AskTick, AskDecide, AskFinish, AskAbort, AskTake, AskRestart, is_restart, IsDown, ClockBehind, TxPending, StableBehind, ClockAtEnd, IsGone, HasGap, IsRepeat, HasNoRoom, IsDamaged, Event, Ticked, Began, Updated, Read, Prepared, Decided, Finished, Aborted, Sent, Took, Reported, Heard, Crashed, RestartCut, Restarted, Refused, Opened, Cut, Entry, EventsAre, WasShown, is_abort, was_aborted, voted, is_decided, time_of, shown, sent_count}
+use Rattle.world_model.specs.rules.Event.{Ask, AskBegin, AskRead, AskUpdate, AskPrepare, AskTick, AskDecide, AskFinish, AskAbort, AskTake, AskRestart, is_restart, IsDown, ClockBehind, TxPending, StableBehind, ClockAtEnd, IsGone, HasGap, IsRepeat, HasNoRoom, IsDamaged, Event, Ticked, Began, Updated, Read, Prepared, Decided, Finished, Aborted, Sent, Took, Reported, Heard, Crashed, RestartCut, Restarted, Refused, Opened, Cut, Entry, EventsAre, WasShown, is_abort, was_aborted, voted, is_decided, time_of, shown, sent_count}
 use Rattle.crdt_core.specs.KindsOf.{Kinds}
-use Rattle.world_model.specs.Partition.{IsOther}
-use Rattle.world_model.specs.Plan.{Plan, IsPlace, first_of, home, twin, is_some_update, takes_part, commit_vector, MayTake}
-use Rattle.world_model.specs.Cluster.{partitions}
-use Rattle.world_model.specs.World.{plan_of}
-use Rattle.world_model.specs.WorldLaw.{sees_tx, ClockIs, ClocksAre, KeepsIs, KeepsDecided, HasCauseAt, HaveCausesAt, IsRightFold, IsExact, IsRight}
-use Rattle.world_model.specs.Past as events
-use Rattle.world_model.specs.Downs.{AnswersAsUp, AnswerAsUp}
-use Rattle.world_model.specs.Answering.{IsDueAt, AreDue, IsKnown}
-use Rattle.world_model.specs.Doubt.{SettlesAt, SettleDoubts}
-use Rattle.world_model.specs.Shown.{IsBefore, bound_shown, pending_shown, pending_time, time_after, committed_shown, TellsAbortedAt, MayAbortAt, IsReadyAt, IsFirstPending, ShowsAt, ShowAt}
-use Rattle.world_model.specs.Stable.{heard_from, heard_shown, known_shown, IsLeast, IsBehindAt, IsFreshAt, AreFresh}
-use Rattle.world_model.specs.Clear.{IsClearAt, AreClear}
-use Rattle.world_model.specs.Votes.{IsDecision, VotesAt, KeepVotes, ShowsVector}
-use Rattle.world_model.specs.Handed.{IsPlacedAt, HandedAt, AreHanded, IsNew, AreNew}
-use Rattle.world_model.specs.Meaning as meaning
-use Rattle.world_model.specs.Meaning.{Asked, asked_at}
-use Rattle.world_model.specs.Resumed.{is_call, brings, brought_after, brought, decided_after, last_shown, IsTakeable, cut_call, IsAsBefore, IsAsDone, ResumesAt, Resume}
-use Rattle.world_model.specs.Sends.{low_of, SendsAt, Send}
-use Rattle.world_model.specs.LawfulWorld.{IsLawfulWorld}
-use Rattle.world_model.specs.Lines.{Call, Line, EachLine, session_after, session_of, call_asked, call_cut, call_of, step_shown, lines_of}
-use Rattle.world_model.specs.Clock as clock
-use Rattle.world_model.specs.History as past
-use Rattle.world_model.specs.Dependency as session
-use Rattle.world_model.specs.Bounds as bounds
-use Rattle.world_model.specs.Updates as updates
-use Rattle.world_model.specs.Updates.{IsPlaced}
-use Rattle.world_model.specs.Commit as commit
-use Rattle.world_model.specs.Reads as reads
-use Rattle.world_model.specs.LineAnswers as answers
-use Rattle.world_model.specs.Ops as ops
-use Rattle.world_model.specs.Pending.{is_down, prepare_time}
-use Rattle.world_model.specs.Fate as fates
-use Rattle.world_model.specs.Restarts as restarts
-use Rattle.world_model.specs.Fresh as fresh
-use Rattle.world_model.specs.Streams as streams
-use Rattle.world_model.specs.Causes as causes
-use Rattle.world_model.specs.Lawful.{IsAgreed, IsLawful}
+use Rattle.world_model.specs.lines.Places.{IsOther, IsPlace, first_of, home, twin, partitions}
+use Rattle.world_model.specs.rules.Plan.{Plan, is_some_update, takes_part, commit_vector, MayTake, IsNew}
+use Rattle.world_model.specs.rules.World.{plan_of}
+use Rattle.world_model.specs.events.Reads.{sees_tx, IsRightFold, IsExact, IsRight, Asked, asked_at}
+use Rattle.world_model.specs.events.Clock.{ClockIs, ClocksAre}
+use Rattle.world_model.specs.events.Restarts.{KeepsIs, KeepsDecided, SettlesAt, SettleDoubts, is_call, brings, brought_after, brought, decided_after, last_shown, IsTakeable, cut_call, IsAsBefore, IsAsDone, ResumesAt, Resume}
+use Rattle.world_model.specs.events.Causes.{HasCauseAt, HaveCausesAt, AnswersAsUp, AnswerAsUp, IsReadyAt, IsFirstPending, ShowsAt, ShowAt, IsClearAt, AreClear}
+use Rattle.world_model.specs.rules.Dependency as events
+use Rattle.world_model.specs.events.Dependency as dependency
+use Rattle.world_model.specs.events.Answers.{IsDueAt, AreDue, IsKnown}
+use Rattle.world_model.specs.lines.Listed.{IsBefore}
+use Rattle.world_model.specs.events.Bounds.{bound_shown}
+use Rattle.world_model.specs.events.Pending.{pending_shown, pending_time, time_after}
+use Rattle.world_model.specs.events.Fate.{committed_shown, TellsAbortedAt, MayAbortAt}
+use Rattle.world_model.specs.events.Fresh.{heard_from, heard_shown, known_shown, IsBehindAt, IsFreshAt, AreFresh}
+use Rattle.world_model.specs.lines.Bounds.{IsLeast}
+use Rattle.world_model.specs.events.Commit.{IsDecision, VotesAt, KeepVotes, ShowsVector}
+use Rattle.world_model.specs.events.Handed.{IsPlacedAt, HandedAt, AreHanded, AreNew}
+use Rattle.world_model.specs.events.Reads as meaning
+use Rattle.world_model.specs.lines.Streams.{low_of}
+use Rattle.world_model.specs.events.Streams.{SendsAt, Send}
+use Rattle.world_model.specs.events.Lawful.{IsLawfulWorld}
+use Rattle.world_model.specs.lines.Lines.{Call, Line, EachLine}
+use Rattle.world_model.specs.rules.Lines.{session_after, session_of, call_asked, call_cut, call_of, step_shown, lines_of}
+use Rattle.world_model.specs.lines.Clock as clock
+use Rattle.world_model.specs.lines.History as past
+use Rattle.world_model.specs.lines.Dependency as session
+use Rattle.world_model.specs.lines.Bounds as bounds
+use Rattle.world_model.specs.lines.Updates as updates
+use Rattle.world_model.specs.lines.Updates.{IsPlaced}
+use Rattle.world_model.specs.lines.Commit as commit
+use Rattle.world_model.specs.lines.Reads as reads
+use Rattle.world_model.specs.lines.Answers as answers
+use Rattle.world_model.specs.lines.Ops as ops
+use Rattle.world_model.specs.lines.Pending.{is_down, prepare_time}
+use Rattle.world_model.specs.lines.Fate as fates
+use Rattle.world_model.specs.lines.Restarts as restarts
+use Rattle.world_model.specs.lines.Fresh as fresh
+use Rattle.world_model.specs.lines.Streams as streams
+use Rattle.world_model.specs.lines.Causes as causes
+use Rattle.world_model.specs.lines.Lawful.{IsAgreed, IsLawful}
 use Rattle.world_model.proofs.Names.{clash, off, part_same}
 use Rattle.world_model.proofs.Fate.{voted_tried}
 use Rattle.world_model.proofs.Later.{at_own}
@@ -107,7 +111,7 @@ module _ {E : Type 0} where
   known_join : (sites : ℕ) (run : List (Entry E)) (dep : List ℕ) → events.IsKnownJoin sites run dep → session.IsKnownJoin sites (lines_of run) dep
   known_join sites run dep h = record { vectors = h.vectors; known = vectors_were run h.vectors h.known; is = h.is }
 
-  hands_line : (sites : ℕ) (run : List (Entry E)) (p : PartId) (event : Event E) → events.HoldsPast sites run p event → session.HandsKnown sites (lines_of run) (call_of event)
+  hands_line : (sites : ℕ) (run : List (Entry E)) (p : PartId) (event : Event E) → dependency.HoldsPast sites run p event → session.HandsKnown sites (lines_of run) (call_of event)
   hands_line sites run p (Began who dep t s) h = known_join sites run dep h.0
   hands_line sites run p (Cut (Began who dep t s)) h = known_join sites run dep h
   hands_line sites run p (Cut (Refused asked why)) h = tt
@@ -116,11 +120,11 @@ module _ {E : Type 0} where
   hands_line sites run p (Refused asked why) h = tt
   hands_line sites run p event h = tt
 
-  hands_lines : (sites : ℕ) (run : List (Entry E)) → events.KeepPast sites run → EachLine (λ before p call step. session.HandsKnown sites before call) (lines_of run)
+  hands_lines : (sites : ℕ) (run : List (Entry E)) → dependency.KeepPast sites run → EachLine (λ before p call step. session.HandsKnown sites before call) (lines_of run)
   hands_lines sites [] h = tt
   hands_lines sites (e ∷ run) h = (hands_line sites run e.at e.event h.0, hands_lines sites run h.1)
 
-  holds_line : (sites : ℕ) (run : List (Entry E)) (p : PartId) (event : Event E) → events.HoldsPast sites run p event → session.HoldsHanded (lines_of run) p (call_of event) (step_shown run p event)
+  holds_line : (sites : ℕ) (run : List (Entry E)) (p : PartId) (event : Event E) → dependency.HoldsPast sites run p event → session.HoldsHanded (lines_of run) p (call_of event) (step_shown run p event)
   holds_line sites run p (Refused asked IsDown) h = tt
   holds_line sites run p (Refused asked why) h = tt
   holds_line sites run p (Cut (Decided t c)) h = tt
@@ -128,12 +132,12 @@ module _ {E : Type 0} where
   holds_line sites run p (Began who dep t s) h = h.1
   holds_line sites run p event h = tt
 
-  holds_lines : (sites : ℕ) (run : List (Entry E)) → events.KeepPast sites run → EachLine session.HoldsHanded (lines_of run)
+  holds_lines : (sites : ℕ) (run : List (Entry E)) → dependency.KeepPast sites run → EachLine session.HoldsHanded (lines_of run)
   holds_lines sites [] h = tt
   holds_lines sites (e ∷ run) h = (holds_line sites run e.at e.event h.0, holds_lines sites run h.1)
 
   -- who was handed its session's past holds it
-  past_line : (sites : ℕ) (run : List (Entry E)) (p : PartId) (event : Event E) → events.HoldsPast sites run p event → session.IsOwnPast sites (lines_of run) (call_of event) → session.HoldsPast sites (lines_of run) p (call_of event) (step_shown run p event)
+  past_line : (sites : ℕ) (run : List (Entry E)) (p : PartId) (event : Event E) → dependency.HoldsPast sites run p event → session.IsOwnPast sites (lines_of run) (call_of event) → session.HoldsPast sites (lines_of run) p (call_of event) (step_shown run p event)
   past_line sites run p (Refused asked IsDown) h o = tt
   past_line sites run p (Refused asked why) h o = tt
   past_line sites run p (Cut (Decided t c)) h o = tt
@@ -141,7 +145,7 @@ module _ {E : Type 0} where
   past_line sites run p (Began who dep t s) h o = subst (λ d. le d s ≡ true) o h.1
   past_line sites run p event h o = tt
 
-  past_lines : (sites : ℕ) (run : List (Entry E)) → events.KeepPast sites run → session.HandsOwn sites (lines_of run) → session.KeepsPast sites (lines_of run)
+  past_lines : (sites : ℕ) (run : List (Entry E)) → dependency.KeepPast sites run → session.HandsOwn sites (lines_of run) → session.KeepsPast sites (lines_of run)
   past_lines sites [] h o = tt
   past_lines sites (e ∷ run) h o = (past_line sites run e.at e.event h.0 o.0, past_lines sites run h.1 o.1)
 
@@ -168,7 +172,7 @@ module _ {E : Type 0} where
   placed_lines plan [] h = tt
   placed_lines plan (e ∷ run) h = (placed_line plan run e.at e.event h.0, placed_lines plan run h.1)
 
-  fresh_line : (plan : Plan E) (run : List (Entry E)) (p : PartId) (event : Event E) → events.HoldsPast plan.sites run p event → IsFreshAt plan run p event → ShowsAt plan run p event → fresh.IsFresh plan.sites plan.parts (lines_of run) p (call_of event) (step_shown run p event)
+  fresh_line : (plan : Plan E) (run : List (Entry E)) (p : PartId) (event : Event E) → dependency.HoldsPast plan.sites run p event → IsFreshAt plan run p event → ShowsAt plan run p event → fresh.IsFresh plan.sites plan.parts (lines_of run) p (call_of event) (step_shown run p event)
   fresh_line plan run p (Refused asked IsDown) h f s = tt
   fresh_line plan run p (Refused asked why) h f s = tt
   fresh_line plan run p (Cut (Decided t c)) h f s = tt
@@ -187,7 +191,7 @@ module _ {E : Type 0} where
   fresh_line plan run p (Reported b) h f s = record { width = s.0; own = own_bound_is run p (entry b p.site) s.1; others = λ j o. s.2 j o ∙ sym (bound_is run p j) }
   fresh_line plan run p event h f s = tt
 
-  fresh_lines : (plan : Plan E) (run : List (Entry E)) → events.KeepPast plan.sites run → AreFresh plan run → ShowAt plan run → EachLine (fresh.IsFresh plan.sites plan.parts) (lines_of run)
+  fresh_lines : (plan : Plan E) (run : List (Entry E)) → dependency.KeepPast plan.sites run → AreFresh plan run → ShowAt plan run → EachLine (fresh.IsFresh plan.sites plan.parts) (lines_of run)
   fresh_lines plan [] h f s = tt
   fresh_lines plan (e ∷ run) h f s = (fresh_line plan run e.at e.event h.0 f.0 s.0, fresh_lines plan run h.1 f.1 s.1)
 
@@ -195,16 +199,16 @@ module _ {E : Type 0} where
   handed_line plan run p number m h = record { from = h.from; sent = subst (λ j. streams.WasSent (lines_of run) (twin m.from p) number j m.lo m.hi) h.to (sent_line run number (twin m.from p) h.asked m h.shown) }
 
   -- who began t is its session
-  session_has : (run : List (Entry E)) (who : List ℕ) (t : TxId) → events.is_of run who t ≡ true → events.is_of run (session_of run t) t ≡ true
+  session_has : (run : List (Entry E)) (who : List ℕ) (t : TxId) → dependency.is_of run who t ≡ true → dependency.is_of run (session_of run t) t ≡ true
   session_has [] who t h = h
   session_has (e ∷ run) who t h = session_step e.event run who t h (session_has run who t)
     where
-      session_step : (event : Event E) (run : List (Entry E)) (who : List ℕ) (t : TxId) → (events.begins_for event who t || events.is_of run who t) ≡ true → (events.is_of run who t ≡ true → events.is_of run (session_of run t) t ≡ true) → (events.begins_for event (session_after t (session_of run t) event) t || events.is_of run (session_after t (session_of run t) event) t) ≡ true
+      session_step : (event : Event E) (run : List (Entry E)) (who : List ℕ) (t : TxId) → (dependency.begins_for event who t || dependency.is_of run who t) ≡ true → (dependency.is_of run who t ≡ true → dependency.is_of run (session_of run t) t ≡ true) → (dependency.begins_for event (session_after t (session_of run t) event) t || dependency.is_of run (session_after t (session_of run t) event) t) ≡ true
       session_step (Began name dep u s) run who t h ih = ⊎_elim
           (λ (k : same_tx u t ≡ true). or_left _ _ (subst (λ y. (bytes_eq name y && same_tx u t) ≡ true) (sym (cond-true _ name (session_of run t) k)) (and_from _ _ ((bytes_eq-Decides name name).1 refl) k)))
           (λ (k : same_tx u t ≡ false).
-          let rest : events.is_of run who t ≡ true = ⊎_elim (λ (x : (bytes_eq name who && same_tx u t) ≡ true). clash (and_parts (bytes_eq name who) _ x).1 k) (λ (x : events.is_of run who t ≡ true). x) (or_cases _ _ h) in
-          or_right _ _ (subst (λ y. events.is_of run y t ≡ true) (sym (cond-false _ name (session_of run t) k)) (ih rest)))
+          let rest : dependency.is_of run who t ≡ true = ⊎_elim (λ (x : (bytes_eq name who && same_tx u t) ≡ true). clash (and_parts (bytes_eq name who) _ x).1 k) (λ (x : dependency.is_of run who t ≡ true). x) (or_cases _ _ h) in
+          or_right _ _ (subst (λ y. dependency.is_of run y t ≡ true) (sym (cond-false _ name (session_of run t) k)) (ih rest)))
           (cases_Bool (same_tx u t))
       session_step event run who t h ih = ih h
 

@@ -18,22 +18,23 @@ use Rattle.crdt_core.specs.Placing.{place_of}
 use Rattle.crdt_core.specs.Seen.{Update}
 use Rattle.crdt_core.specs.Same.{Same}
 use Rattle.crdt_core.specs.Parts.{touches, lists}
-use Rattle.world_model.specs.Event.{IsDown, Event, Updated, Decided, Refused, Cut, Entry, is_decided}
+use Rattle.world_model.specs.rules.Event.{IsDown, Event, Updated, Decided, Refused, Cut, Entry, is_decided}
 use Rattle.crdt_core.specs.Orders.{Ascends, fold_cmp}
 use Rattle.crdt_core.specs.Parts.{AreParts}
-use Rattle.world_model.specs.Plan.{Plan, twin, changes_at, commit_vector, updates_at}
-use Rattle.world_model.specs.Handed.{HandedAt, AreHanded, AreNew}
-use Rattle.world_model.specs.World.{plan_of}
-use Rattle.world_model.specs.WorldLaw.{sees_tx, IsRightFold}
-use Rattle.world_model.specs.Meaning as events
-use Rattle.world_model.specs.Meaning.{Asked, asked_at}
-use Rattle.world_model.specs.Lines.{Line, call_of, step_shown, lines_of}
+use Rattle.world_model.specs.rules.Plan.{Plan, changes_at, commit_vector, updates_at}
+use Rattle.world_model.specs.lines.Places.{twin}
+use Rattle.world_model.specs.events.Handed.{HandedAt, AreHanded, AreNew}
+use Rattle.world_model.specs.rules.World.{plan_of}
+use Rattle.world_model.specs.events.Reads.{sees_tx, IsRightFold, Asked, asked_at}
+use Rattle.world_model.specs.events.Reads as events
+use Rattle.world_model.specs.lines.Lines.{Line}
+use Rattle.world_model.specs.rules.Lines.{call_of, step_shown, lines_of}
 use Rattle.world_model.specs.declared.step.Step.{Step}
 use Rattle.world_model.specs.declared.step.Step.TheVariants as step
-use Rattle.world_model.specs.Clock.{now}
-use Rattle.world_model.specs.History as past
-use Rattle.world_model.specs.Updates.{Change, change_of, changes}
-use Rattle.world_model.specs.Reads as reads
+use Rattle.world_model.specs.lines.Clock.{now}
+use Rattle.world_model.specs.lines.History as past
+use Rattle.world_model.specs.lines.Updates.{Change, change_of, changes}
+use Rattle.world_model.specs.lines.Reads as reads
 use Rattle.world_model.proofs.Names.{clash}
 use Rattle.world_model.proofs.Folds.{before, before_self, precede_lists}
 use Rattle.world_model.proofs.Stories.{asked_changes}

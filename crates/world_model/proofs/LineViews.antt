@@ -8,26 +8,29 @@ use Rattle.site_vector.specs.Ids.{same_part}
 use Rattle.site_vector.specs.Order.{same_part_is}
 use Rattle.site_vector.specs.Vector.{le, entry, join, replaced}
 use Rattle.crdt_core.specs.declared.record.Message.{Message}
-use Rattle.world_model.specs.Event.{IsDown, Event, Ticked, Began, Prepared, Decided, Sent, Reported, Heard, Refused, Cut, Entry, attempt, is_decide, decide_tried, shows_decided, is_decided, is_prepare, time_shown, time_of, shown_after, shown, missed_after, missed, voted, is_sent, sent_count, is_report, report_count, WasNumbered}
-use Rattle.world_model.specs.World.{is_begin, begin_vector, snapshot_of}
-use Rattle.world_model.specs.Past as events
-use Rattle.world_model.specs.WorldLaw.{ClockIs, ClocksAre}
-use Rattle.world_model.specs.Shown as told
-use Rattle.world_model.specs.Stable.{heard_from, heard_shown, known_shown, IsLeast}
-use Rattle.world_model.specs.Doubt as doubt
-use Rattle.world_model.specs.Downs as downs
-use Rattle.world_model.specs.Sends as sends
-use Rattle.world_model.specs.Lines.{call_of, step_shown, lines_of}
+use Rattle.world_model.specs.rules.Event.{IsDown, Event, Ticked, Began, Prepared, Decided, Sent, Reported, Heard, Refused, Cut, Entry, attempt, is_decide, decide_tried, shows_decided, is_decided, is_prepare, time_shown, time_of, shown_after, shown, missed_after, missed, voted, is_sent, sent_count, is_report, report_count, WasNumbered}
+use Rattle.world_model.specs.rules.World.{is_begin, begin_vector, snapshot_of}
+use Rattle.world_model.proofs.Dependency as events
+use Rattle.world_model.specs.events.Dependency as dependency
+use Rattle.world_model.specs.events.Clock.{ClockIs, ClocksAre}
+use Rattle.world_model.specs.events.Bounds as told
+use Rattle.world_model.specs.events.Pending as pending
+use Rattle.world_model.specs.events.Fresh.{heard_from, heard_shown, known_shown}
+use Rattle.world_model.specs.lines.Bounds.{IsLeast}
+use Rattle.world_model.specs.events.Pending as doubt
+use Rattle.world_model.specs.events.Pending as downs
+use Rattle.world_model.specs.events.Streams as sends
+use Rattle.world_model.specs.rules.Lines.{call_of, step_shown, lines_of}
 use Rattle.world_model.specs.declared.step.Step.TheVariants as step
-use Rattle.world_model.specs.Clock as clock
-use Rattle.world_model.specs.History as past
-use Rattle.world_model.specs.Dependency as session
-use Rattle.world_model.specs.Pending as fate
-use Rattle.world_model.specs.Restarts as restarts
-use Rattle.world_model.specs.Resumed as resumed
-use Rattle.world_model.specs.Bounds as bounds
-use Rattle.world_model.specs.Commit as commit
-use Rattle.world_model.specs.Streams as streams
+use Rattle.world_model.specs.lines.Clock as clock
+use Rattle.world_model.specs.lines.History as past
+use Rattle.world_model.specs.lines.Dependency as session
+use Rattle.world_model.specs.lines.Pending as fate
+use Rattle.world_model.specs.lines.Restarts as restarts
+use Rattle.world_model.specs.events.Restarts as resumed
+use Rattle.world_model.specs.lines.Bounds as bounds
+use Rattle.world_model.specs.lines.Commit as commit
+use Rattle.world_model.specs.lines.Streams as streams
 
 none_more : (b : Bool) (old n : ℕ) → max old (cond b n 0) ≡ cond b (max old n) old
 none_more true old n = refl
@@ -93,14 +96,14 @@ module _ {E : Type 0} where
   pub visible_is : (run : List (Entry E)) (v : List ℕ) (t : TxId) → past.visible (lines_of run) v t ≡ (is_decided run t && le (replaced (snapshot_of run t) t.site (time_of run t)) v)
   visible_is run v t = λ i. (in_history_is run t i && le (vector_is run t i) v)
 
-  begins_for_here : (run : List (Entry E)) (p : PartId) (who : List ℕ) (t : TxId) (event : Event E) → session.begins_for (step_shown run p event) who t ≡ events.begins_for event who t
+  begins_for_here : (run : List (Entry E)) (p : PartId) (who : List ℕ) (t : TxId) (event : Event E) → session.begins_for (step_shown run p event) who t ≡ dependency.begins_for event who t
   begins_for_here run p who t (Refused asked IsDown) = refl
   begins_for_here run p who t (Refused asked why) = refl
   begins_for_here run p who t (Cut (Decided u c)) = refl
   begins_for_here run p who t (Cut a) = refl
   begins_for_here run p who t event = refl
 
-  pub is_of_is : (run : List (Entry E)) (who : List ℕ) (t : TxId) → session.is_of (lines_of run) who t ≡ events.is_of run who t
+  pub is_of_is : (run : List (Entry E)) (who : List ℕ) (t : TxId) → session.is_of (lines_of run) who t ≡ dependency.is_of run who t
   is_of_is [] who t = refl
   is_of_is (e ∷ run) who t = λ i. (begins_for_here run e.at who t e.event i || is_of_is run who t i)
 
@@ -116,27 +119,27 @@ module _ {E : Type 0} where
   dependency_is sites [] who = refl
   dependency_is sites (e ∷ run) who = ap (λ o. session.dependency_after sites (lines_of run) who o (step_shown run e.at e.event)) (dependency_is sites run who) ∙ dependency_here sites run e.at who (events.dependency sites run who) e.event
 
-  pending_here : (run : List (Entry E)) (p : PartId) (t : TxId) (old : Bool) (event : Event E) → fate.pending_after t old (step_shown run p event) ≡ told.pending_after t old event
+  pending_here : (run : List (Entry E)) (p : PartId) (t : TxId) (old : Bool) (event : Event E) → fate.pending_after t old (step_shown run p event) ≡ pending.pending_after t old event
   pending_here run p t old (Refused asked IsDown) = refl
   pending_here run p t old (Refused asked why) = refl
   pending_here run p t old (Cut (Decided u c)) = refl
   pending_here run p t old (Cut a) = refl
   pending_here run p t old event = refl
 
-  pub pending_is : (run : List (Entry E)) (p : PartId) (t : TxId) → fate.pending (lines_of run) p t ≡ told.pending_shown run p t
+  pub pending_is : (run : List (Entry E)) (p : PartId) (t : TxId) → fate.pending (lines_of run) p t ≡ pending.pending_shown run p t
   pending_is [] p t = refl
-  pending_is (e ∷ run) p t = λ i. cond (same_part e.at p) ((ap (λ o. fate.pending_after t o (step_shown run e.at e.event)) (pending_is run p t) ∙ pending_here run e.at t (told.pending_shown run p t) e.event) i) (pending_is run p t i)
+  pending_is (e ∷ run) p t = λ i. cond (same_part e.at p) ((ap (λ o. fate.pending_after t o (step_shown run e.at e.event)) (pending_is run p t) ∙ pending_here run e.at t (pending.pending_shown run p t) e.event) i) (pending_is run p t i)
 
-  prepare_time_here : (run : List (Entry E)) (p : PartId) (t : TxId) (old : ℕ) (event : Event E) → fate.prepare_time_after t old (step_shown run p event) ≡ told.time_after t old event
+  prepare_time_here : (run : List (Entry E)) (p : PartId) (t : TxId) (old : ℕ) (event : Event E) → fate.prepare_time_after t old (step_shown run p event) ≡ pending.time_after t old event
   prepare_time_here run p t old (Refused asked IsDown) = refl
   prepare_time_here run p t old (Refused asked why) = refl
   prepare_time_here run p t old (Cut (Decided u c)) = refl
   prepare_time_here run p t old (Cut a) = refl
   prepare_time_here run p t old event = refl
 
-  pub prepare_time_is : (run : List (Entry E)) (p : PartId) (t : TxId) → fate.prepare_time (lines_of run) p t ≡ told.pending_time run p t
+  pub prepare_time_is : (run : List (Entry E)) (p : PartId) (t : TxId) → fate.prepare_time (lines_of run) p t ≡ pending.pending_time run p t
   prepare_time_is [] p t = refl
-  prepare_time_is (e ∷ run) p t = λ i. cond (same_part e.at p) ((ap (λ o. fate.prepare_time_after t o (step_shown run e.at e.event)) (prepare_time_is run p t) ∙ prepare_time_here run e.at t (told.pending_time run p t) e.event) i) (prepare_time_is run p t i)
+  prepare_time_is (e ∷ run) p t = λ i. cond (same_part e.at p) ((ap (λ o. fate.prepare_time_after t o (step_shown run e.at e.event)) (prepare_time_is run p t) ∙ prepare_time_here run e.at t (pending.pending_time run p t) e.event) i) (prepare_time_is run p t i)
 
   doubt_here : (run : List (Entry E)) (p : PartId) (t : TxId) (old : Bool) (event : Event E) → fate.doubt_after t old (step_shown run p event) ≡ doubt.doubt_after t old event
   doubt_here run p t old (Refused asked IsDown) = refl
@@ -217,7 +220,7 @@ module _ {E : Type 0} where
     below = λ u h. subst (λ n. b < n) (sym (prepare_time_is run p u)) (o.below u (sym (pending_is run p u) ∙ h));
     reached = ⊎_elim
         (λ (e : b ≡ shown run p). inl (e ∙ sym (now_is run p)))
-        (λ (e : (u : TxId) × (told.pending_shown run p u ≡ true) × (told.pending_time run p u ≡ b + 1)). inr (e.0, pending_is run p e.0 ∙ e.1, prepare_time_is run p e.0 ∙ e.2))
+        (λ (e : (u : TxId) × (pending.pending_shown run p u ≡ true) × (pending.pending_time run p u ≡ b + 1)). inr (e.0, pending_is run p e.0 ∙ e.1, prepare_time_is run p e.0 ∙ e.2))
         o.reached;
   }
 

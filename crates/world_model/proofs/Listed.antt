@@ -6,9 +6,8 @@ use Rattle.site_vector.specs.Ids.{same_tx}
 use Rattle.site_vector.specs.Order.{same_tx_refl}
 use Rattle.crdt_core.specs.declared.record.Record.{Record}
 use Rattle.crdt_core.specs.Log.{prepare_time}
-use Rattle.world_model.specs.Listed.{AreTimed}
-use Rattle.world_model.specs.Partition as partition
-use Rattle.world_model.specs.Partition.{names_pending}
+use Rattle.world_model.specs.lines.Listed.{AreTimed, names_pending}
+use Rattle.world_model.specs.rules.Partition as partition
 
 pub names_first : (x : TxId × ℕ) (xs : List (TxId × ℕ)) → names_pending (x ∷ xs) x.0 ≡ true
 names_first x xs = or_left (same_tx x.0 x.0) (names_pending xs x.0) (same_tx_refl x.0)

@@ -8,14 +8,15 @@ use Rattle.crdt_core.specs.declared.record.Message.{Message}
 use Rattle.crdt_core.specs.declared.record.Record.{Record}
 use Rattle.crdt_core.specs.declared.record.Record.TheVariants.{Prepare, Decide, Finish, Batch}
 use Rattle.crdt_core.specs.Log.{pending, grown, MayFind}
-use Rattle.world_model.specs.Event.{Event, Ticked, Began, Updated, Read, Prepared, Decided, Finished, Aborted, Sent, Took, Reported, Heard, Crashed, RestartCut, Restarted, Refused, Opened, Cut, Entry, attempt}
+use Rattle.world_model.specs.rules.Event.{Event, Ticked, Began, Updated, Read, Prepared, Decided, Finished, Aborted, Sent, Took, Reported, Heard, Crashed, RestartCut, Restarted, Refused, Opened, Cut, Entry, attempt}
 use Rattle.crdt_core.specs.KindsOf.{Kinds}
-use Rattle.world_model.specs.Partition.{PartState, Finds, IsOwnBound, batch_of, written, done, PartStep}
+use Rattle.world_model.specs.rules.Partition.{PartState, Finds, IsOwnBound, batch_of, written, done, PartStep}
 use Rattle.crdt_core.specs.Log.{lease_for}
 use Rattle.crdt_core.specs.Parts.{above}
-use Rattle.world_model.specs.Plan.{Plan, IsAllowed, IsRun}
-use Rattle.world_model.specs.Shown.{bound_shown}
-use Rattle.world_model.specs.Logs.{taken_of, records_of, IsLogAfter, IsLogOf, LeavesLogs}
+use Rattle.world_model.specs.rules.Plan.{Plan, IsAllowed}
+use Rattle.world_model.proofs.Runs.{IsRun}
+use Rattle.world_model.specs.events.Bounds.{bound_shown}
+use Rattle.world_model.specs.events.Logs.{taken_of, records_of, IsLogAfter, IsLogOf, LeavesLogs}
 use Rattle.world_model.proofs.Names.{part_cases}
 use Rattle.world_model.proofs.Queue.{in_order}
 use Rattle.world_model.proofs.Moves.{image_log}

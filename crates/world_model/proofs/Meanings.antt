@@ -17,12 +17,12 @@ use Rattle.crdt_core.specs.Seen.{Update}
 use Rattle.crdt_core.specs.History.{folded}
 use Rattle.crdt_core.specs.Stamps.{stamp_due}
 use Rattle.crdt_core.specs.Parts.{touches, lists}
-use Rattle.world_model.specs.Event.{Entry, is_decided}
+use Rattle.world_model.specs.rules.Event.{Entry, is_decided}
 use Rattle.crdt_core.specs.KindsOf.{Kinds}
 use Rattle.crdt_core.specs.Folds.{state_read}
-use Rattle.world_model.specs.Plan.{Plan, is_some_update, twin, takes_part, changes_at, commit_vector}
-use Rattle.world_model.specs.WorldLaw.{sees_tx, IsRightFold}
-use Rattle.world_model.specs.Meaning.{Asked, asked_at, update_of, updates_from, updates_of}
+use Rattle.world_model.specs.rules.Plan.{Plan, is_some_update, takes_part, changes_at, commit_vector}
+use Rattle.world_model.specs.lines.Places.{twin}
+use Rattle.world_model.specs.events.Reads.{sees_tx, IsRightFold, Asked, asked_at, update_of, updates_from, updates_of}
 use Rattle.world_model.proofs.Names.{clash, off}
 use Rattle.world_model.proofs.Orders.{none_due}
 use Rattle.world_model.proofs.Folds.{before, before_self, before_back, lists_append, front_before, before_front, parts_front, parts_back, ascends_front}

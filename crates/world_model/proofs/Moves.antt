@@ -13,12 +13,13 @@ use Rattle.crdt_core.specs.declared.record.Message.{Message}
 use Rattle.crdt_core.specs.declared.record.Record.{Record}
 use Rattle.crdt_core.specs.declared.record.Record.TheVariants.{Lease, Prepare, Decide, Finish, Abort, Batch}
 use Rattle.crdt_core.specs.Log.{end_of_time, prepared, prepare_time, prepared_changes, decided, committed, committed_at, aborted, pending, last_decided, taken, taken_at, taken_changes, logged_bound, ceiling, grown, MayFind}
-use Rattle.world_model.specs.Event.{Ask, Refusal, Refused, Event, Ticked, Began, Updated, Read, Prepared, Decided, Finished, Aborted, Sent, Took, Reported, Heard, Crashed, RestartCut, Restarted, Opened, Cut, Entry, attempt, is_prepare, is_decide, is_abort, is_named, shows_decided, time_shown}
+use Rattle.world_model.specs.rules.Event.{Ask, Refusal, Refused, Event, Ticked, Began, Updated, Read, Prepared, Decided, Finished, Aborted, Sent, Took, Reported, Heard, Crashed, RestartCut, Restarted, Opened, Cut, Entry, attempt, is_prepare, is_decide, is_abort, shows_decided, time_shown}
+use Rattle.world_model.specs.lines.Listed.{is_named}
 use Rattle.crdt_core.specs.KindsOf.{Kinds}
-use Rattle.world_model.specs.Partition.{PartState, Finds, batch_of, records, MayDo, done, down, cut, PartStep}
+use Rattle.world_model.specs.rules.Partition.{PartState, Finds, batch_of, records, MayDo, done, down, cut, PartStep}
 use Rattle.crdt_core.specs.Log.{lease_for}
 use Rattle.crdt_core.specs.Parts.{above}
-use Rattle.world_model.specs.Plan.{Plan, IsAllowed, MayPrepare, MayDecide, MayFinish, MayAbort, MayTake}
+use Rattle.world_model.specs.rules.Plan.{Plan, IsAllowed, MayPrepare, MayDecide, MayFinish, MayAbort, MayTake}
 use Rattle.world_model.proofs.Names.{clash, off, part_cases}
 
 -- an image of the log itself

@@ -3,8 +3,10 @@ use Rattle.std.proofs.Common.{◌≡◌, inl, inr, ℕ, Bool, true, false, List,
 use Rattle.std.specs.Prelude.{replicate}
 use Rattle.std.specs.Str.{bytes_eq}
 use Rattle.site_vector.specs.Vector.{join}
-use Rattle.world_model.specs.Event.{Event, Began, Decided, Opened, Entry}
-use Rattle.world_model.specs.Past.{is_of, dependency_after, dependency, WereVectors, ShowsVector, IsKnownJoin}
+use Rattle.world_model.specs.rules.Event.{Event, Began, Decided, Opened, Entry}
+use Rattle.world_model.specs.events.Dependency.{is_of}
+use Rattle.world_model.proofs.Dependency.{dependency_after, dependency}
+use Rattle.world_model.specs.rules.Dependency.{WereVectors, ShowsVector, IsKnownJoin}
 
 module _ {E : Type 0} where
   were_more : (e : Entry E) (run : List (Entry E)) (vs : List (List ℕ)) → WereVectors run vs → WereVectors (e ∷ run) vs

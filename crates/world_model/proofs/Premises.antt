@@ -10,11 +10,13 @@ use Rattle.crdt_core.specs.declared.record.Record.{Record}
 use Rattle.crdt_core.specs.KindsOf.{Kinds}
 use Rattle.crdt_core.specs.Parts.{lists}
 use Rattle.crdt_core.specs.Log.{prepared, pending, committed}
-use Rattle.world_model.specs.Event.{AskRead, AskUpdate, AskPrepare, Event, Began, Updated, Read, Prepared, Decided, Finished, Aborted, Sent, Took, Restarted, Refused, Cut, Entry, attempt, is_named, voted, is_decided, WasShown, sent_count}
-use Rattle.world_model.specs.Partition.{PartState, Finds, IsMessage, names_pending, PartStep}
-use Rattle.world_model.specs.Plan.{Plan, home, twin, takes_part, IsAllowed, MayTake}
-use Rattle.world_model.specs.World.{begun, lead_of, plan_of, IsWorldRun}
-use Rattle.world_model.specs.Premises.{names, is_told_of, Premises}
+use Rattle.world_model.specs.rules.Event.{AskRead, AskUpdate, AskPrepare, Event, Began, Updated, Read, Prepared, Decided, Finished, Aborted, Sent, Took, Restarted, Refused, Cut, Entry, attempt, voted, is_decided, WasShown, sent_count}
+use Rattle.world_model.specs.lines.Listed.{is_named, names_pending}
+use Rattle.world_model.specs.rules.Partition.{PartState, Finds, IsMessage, PartStep}
+use Rattle.world_model.specs.rules.Plan.{Plan, takes_part, IsAllowed, MayTake}
+use Rattle.world_model.specs.lines.Places.{home, twin}
+use Rattle.world_model.specs.rules.World.{begun, lead_of, plan_of, IsWorldRun}
+use Rattle.world_model.specs.rules.Premises.{names, is_told_of, Premises}
 use Rattle.world_model.proofs.Names.{clash, off}
 use Rattle.world_model.proofs.Moves.{image_log, last_is_decided}
 use Rattle.world_model.proofs.Fate.{pending_parts, voted_tried, decided_committed}

@@ -13,16 +13,17 @@ use Rattle.crdt_core.specs.declared.record.Record.TheVariants.{Lease, Prepare, D
 use Rattle.crdt_core.specs.KindsOf.{Kinds}
 use Rattle.crdt_core.specs.Log.{end_of_time, ceiling, pending, prepare_time, lease_for, grown, MayFind}
 use Rattle.crdt_core.specs.Parts.{above}
-use Rattle.world_model.specs.Event.{Ask, Refusal, IsDown, Event, Ticked, Began, Prepared, Decided, Finished, Aborted, Took, Crashed, RestartCut, Restarted, Refused, Opened, Cut, Entry, attempt, tried}
-use Rattle.world_model.specs.Lines.{EachLine, refusal_shown, fault_shown, step_shown, lines_of}
-use Rattle.world_model.specs.Partition.{PartState, Finds, batch_of, records, now_after, done, cut, down, MayDo, PartStep, IsRestart, names_pending}
-use Rattle.world_model.specs.Partition as partition
-use Rattle.world_model.specs.Pending as lines
-use Rattle.world_model.specs.Plan.{IsAllowed}
-use Rattle.world_model.specs.Shown.{listed_time}
-use Rattle.world_model.specs.Listed.{AreTimed}
-use Rattle.world_model.specs.Waiting.{waiting, ArePending}
-use Rattle.world_model.specs.World.{plan_of, IsWorldRun}
+use Rattle.world_model.specs.rules.Event.{Ask, Refusal, IsDown, Event, Ticked, Began, Prepared, Decided, Finished, Aborted, Took, Crashed, RestartCut, Restarted, Refused, Opened, Cut, Entry, attempt, tried}
+use Rattle.world_model.specs.lines.Lines.{EachLine}
+use Rattle.world_model.specs.rules.Lines.{refusal_shown, fault_shown, step_shown, lines_of}
+use Rattle.world_model.specs.rules.Partition.{PartState, Finds, batch_of, records, now_after, done, cut, down, MayDo, PartStep, IsRestart}
+use Rattle.world_model.specs.lines.Listed.{names_pending, listed_time, AreTimed}
+use Rattle.world_model.specs.rules.Partition as partition
+use Rattle.world_model.specs.lines.Pending as lines
+use Rattle.world_model.specs.rules.Plan.{IsAllowed}
+use Rattle.world_model.specs.lines.Waiting.{waiting}
+use Rattle.world_model.specs.rules.Waiting.{ArePending}
+use Rattle.world_model.specs.rules.World.{plan_of, IsWorldRun}
 use Rattle.world_model.proofs.Names.{clash, part_cases}
 use Rattle.world_model.proofs.Queue.{in_order}
 use Rattle.world_model.proofs.Moves.{image_log, grown_image, grown_last}

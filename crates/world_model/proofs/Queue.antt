@@ -10,8 +10,8 @@ use Rattle.site_vector.specs.Order.{tx_cmp}
 use Rattle.site_vector.specs.Vector.{entry}
 use Rattle.crdt_core.specs.declared.record.Part.{Part}
 use Rattle.crdt_core.specs.Orders.{pending_cmp, stream_cmp, Precede, Ascends}
-use Rattle.world_model.specs.Shown.{IsIdBefore, IsBefore, IsBeforeAll, AreInOrder}
-use Rattle.world_model.specs.Sends.{IsSentBefore}
+use Rattle.world_model.specs.lines.Listed.{IsIdBefore, IsBefore, IsBeforeAll, AreInOrder}
+use Rattle.world_model.specs.events.Streams.{IsSentBefore}
 
 -- by a number, and then by what is left
 then_ranks : (A Q B : Type 0) (m n : ℕ) (s : Ordering) → MatchOrdering s A Q B → MatchOrdering (ordering_then (nat_cmp m n) s) ((m < n) ⊎ ((m ≡ n) × A)) ((m ≡ n) × Q) ((n < m) ⊎ ((n ≡ m) × B))

@@ -12,15 +12,18 @@ use Rattle.crdt_core.specs.declared.record.Message.{Message}
 use Rattle.crdt_core.specs.declared.record.Record.{Record}
 use Rattle.crdt_core.specs.declared.record.Record.TheVariants.{Lease, Prepare, Decide, Finish, Abort, Batch}
 use Rattle.crdt_core.specs.Log.{end_of_time, ceiling, pending, prepare_time, last_decided, logged_bound, grown, MayFind}
-use Rattle.world_model.specs.Event.{Event, Ticked, Began, Updated, Read, Prepared, Decided, Finished, Aborted, Sent, Took, Reported, Heard, Crashed, RestartCut, Restarted, Refused, Opened, Cut, Entry, attempt, sent_count, WasNumbered}
+use Rattle.world_model.specs.rules.Event.{Event, Ticked, Began, Updated, Read, Prepared, Decided, Finished, Aborted, Sent, Took, Reported, Heard, Crashed, RestartCut, Restarted, Refused, Opened, Cut, Entry, attempt, sent_count, WasNumbered}
 use Rattle.crdt_core.specs.KindsOf.{Kinds}
-use Rattle.world_model.specs.Partition.{PartState, Finds, IsOther, batch_of, records, done, MayDo, PartStep}
+use Rattle.world_model.specs.rules.Partition.{PartState, Finds, batch_of, records, done, MayDo, PartStep}
+use Rattle.world_model.specs.lines.Places.{IsOther, twin}
 use Rattle.crdt_core.specs.Log.{lease_for}
 use Rattle.crdt_core.specs.Parts.{above}
-use Rattle.world_model.specs.Plan.{Plan, twin, IsAllowed, IsRun}
-use Rattle.world_model.specs.Shown.{bound_after, bound_shown, pending_after, pending_shown, time_after, pending_time}
-use Rattle.world_model.specs.Resumed.{is_call, IsTakeable, cut_call, is_some_part, brings, brought_after, brought, decided_after, last_shown, ResumesAt, Resume}
-use Rattle.world_model.specs.Listed.{AreTimed}
+use Rattle.world_model.specs.rules.Plan.{Plan, IsAllowed}
+use Rattle.world_model.proofs.Runs.{IsRun}
+use Rattle.world_model.specs.events.Bounds.{bound_after, bound_shown}
+use Rattle.world_model.specs.events.Pending.{pending_after, pending_shown, time_after, pending_time}
+use Rattle.world_model.specs.events.Restarts.{is_call, IsTakeable, cut_call, is_some_part, brings, brought_after, brought, decided_after, last_shown, ResumesAt, Resume}
+use Rattle.world_model.specs.lines.Listed.{AreTimed}
 use Rattle.world_model.proofs.Listed.{timed_as, timed_in}
 use Rattle.world_model.proofs.Names.{clash, part_cases, part_other}
 use Rattle.world_model.proofs.Moves.{grown_last}

@@ -9,11 +9,14 @@ use Rattle.site_vector.specs.Order.{same_part_refl}
 use Rattle.site_vector.specs.Vector.{entry, replaced}
 use Rattle.site_vector.specs.VectorLaws.{length_replaced}
 use Rattle.crdt_core.specs.declared.record.Message.{Message}
-use Rattle.world_model.specs.Event.{Event, Sent, Crashed, RestartCut, Restarted, Refused, Opened, Cut, Entry}
+use Rattle.world_model.specs.rules.Event.{Event, Sent, Crashed, RestartCut, Restarted, Refused, Opened, Cut, Entry}
 use Rattle.crdt_core.specs.KindsOf.{Kinds}
-use Rattle.world_model.specs.Partition.{PartState, IsOther, PartStep}
-use Rattle.world_model.specs.Plan.{Plan, IsRun}
-use Rattle.world_model.specs.Sends.{low_of, sent_after, last_sent, SendsAt, Send}
+use Rattle.world_model.specs.rules.Partition.{PartState, PartStep}
+use Rattle.world_model.specs.lines.Places.{IsOther}
+use Rattle.world_model.specs.rules.Plan.{Plan}
+use Rattle.world_model.proofs.Runs.{IsRun}
+use Rattle.world_model.specs.lines.Streams.{low_of}
+use Rattle.world_model.specs.events.Streams.{sent_after, last_sent, SendsAt, Send}
 use Rattle.world_model.proofs.Queue.{sent_in_order}
 use Rattle.world_model.proofs.Names.{clash, part_cases, part_other, entry_same, entry_cases}
 use Rattle.world_model.proofs.Completeness.{zeros_at}

@@ -4,9 +4,9 @@ use Rattle.site_vector.specs.declared.ids.PartId.{PartId}
 use Rattle.site_vector.specs.declared.ids.TxId.{TxId}
 use Rattle.world_model.specs.declared.step.Step.{Step}
 use Rattle.world_model.specs.declared.step.Step.TheVariants as step
-use Rattle.world_model.specs.History.{in_history}
-use Rattle.world_model.specs.Lines.{Line}
-use Rattle.world_model.specs.Settling.{stays, settled, is_unwritten, SettlesAll}
+use Rattle.world_model.specs.lines.History.{in_history}
+use Rattle.world_model.specs.lines.Lines.{Line}
+use Rattle.world_model.specs.commands.Settling.{stays, settled, is_unwritten, SettlesAll}
 use Rattle.world_model.proofs.Names.{clash}
 
 written_if : (p : PartId) (t : TxId) (b d : Bool) → is_unwritten (cond b (step.Pending p t) (cond d (step.Finished p t) (step.Aborted p t))) ≡ false

@@ -17,14 +17,19 @@ use Rattle.crdt_core.specs.declared.record.Part.{Part}
 use Rattle.crdt_core.specs.declared.record.Message.{Message}
 use Rattle.crdt_core.specs.Log.{end_of_time, prepared, prepare_time, prepared_changes, committed, aborted, pending, ceiling, grown}
 use Rattle.crdt_core.specs.Parts.{touches}
-use Rattle.world_model.specs.Event.{AskRead, AskUpdate, AskDecide, AskAbort, AskTake, TxPending, IsGone, HasGap, IsRepeat, Event, Ticked, Began, Updated, Read, Prepared, Decided, Finished, Aborted, Sent, Took, Reported, Heard, Crashed, RestartCut, Restarted, Refused, Opened, Cut, Entry, attempt, tried, is_decided}
+use Rattle.world_model.specs.rules.Event.{AskRead, AskUpdate, AskDecide, AskAbort, AskTake, TxPending, IsGone, HasGap, IsRepeat, Event, Ticked, Began, Updated, Read, Prepared, Decided, Finished, Aborted, Sent, Took, Reported, Heard, Crashed, RestartCut, Restarted, Refused, Opened, Cut, Entry, attempt, tried, is_decided}
 use Rattle.crdt_core.specs.KindsOf.{Kinds}
-use Rattle.world_model.specs.Partition.{PartState, Finds, IsOther, IsOwnBound, IsReady, IsTxPending, AreTimed, names_pending, batch_of, new_part, PartStep}
+use Rattle.world_model.specs.rules.Partition.{PartState, Finds, IsOwnBound, IsReady, IsTxPending, AreTimed, batch_of, new_part, PartStep}
+use Rattle.world_model.specs.lines.Places.{IsOther}
+use Rattle.world_model.specs.lines.Listed.{names_pending, listed_time, IsBefore}
 use Rattle.crdt_core.specs.Log.{lease_for}
 use Rattle.crdt_core.specs.Parts.{above}
-use Rattle.world_model.specs.Plan.{Plan, TellsAborted, MayAbort, takes_part, IsAllowed, IsRun}
-use Rattle.world_model.specs.Downs.{is_down}
-use Rattle.world_model.specs.Shown.{listed_time, IsBefore, bound_after, bound_shown, pending_after, pending_shown, time_after, pending_time, committed_shown, MayAbortAt, IsOwnBoundAt, IsFirstPending, IsReadyAt, ShowsAt, ShowAt}
+use Rattle.world_model.specs.rules.Plan.{Plan, TellsAborted, MayAbort, takes_part, IsAllowed}
+use Rattle.world_model.proofs.Runs.{IsRun}
+use Rattle.world_model.specs.events.Pending.{is_down, pending_after, pending_shown, time_after, pending_time}
+use Rattle.world_model.specs.events.Bounds.{bound_after, bound_shown, IsOwnBoundAt}
+use Rattle.world_model.specs.events.Fate.{committed_shown, MayAbortAt}
+use Rattle.world_model.specs.events.Causes.{IsFirstPending, IsReadyAt, ShowsAt, ShowAt}
 use Rattle.world_model.proofs.Queue.{first_is, in_order}
 use Rattle.world_model.proofs.Names.{clash, off, part_cases, part_other, entry_same, entry_cases}
 use Rattle.world_model.proofs.Moves.{Because, Move, moved, image_log, grown_last}

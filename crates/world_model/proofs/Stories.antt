@@ -18,15 +18,13 @@ use Rattle.crdt_core.specs.Fits.{fits}
 use Rattle.crdt_core.specs.Objects.{same_object}
 use Rattle.crdt_core.specs.History.{folded}
 use Rattle.crdt_core.specs.Parts.{touches}
-use Rattle.world_model.specs.Event.{Event, Updated, Read, Entry, shown, EventsAre, attempt}
+use Rattle.world_model.specs.rules.Event.{Event, Updated, Read, Entry, shown, EventsAre, attempt}
 use Rattle.crdt_core.specs.KindsOf.{Kinds}
-use Rattle.world_model.specs.Partition.{PartState, PartStep}
+use Rattle.world_model.specs.rules.Partition.{PartState, PartStep}
 use Rattle.crdt_core.specs.Folds.{effects_from, effects_of, state_read}
-use Rattle.world_model.specs.Plan.{Plan, is_some_update, takes_part, IsAllowed, change_by, updates_at, update_count}
-use Rattle.world_model.specs.WorldLaw.{IsRightFold, IsRight}
-use Rattle.world_model.specs.Meaning.{Asked, asked_by, asked_at, read_by, HasMeaning, HaveMeaning}
-use Rattle.world_model.specs.Handed.{IsNew}
-use Rattle.world_model.specs.World.{plan_of, own_parts, is_own, changes_of, IsWorldRun}
+use Rattle.world_model.specs.rules.Plan.{Plan, is_some_update, takes_part, IsAllowed, change_by, updates_at, update_count, IsNew}
+use Rattle.world_model.specs.events.Reads.{IsRightFold, IsRight, Asked, asked_by, asked_at, read_by, HasMeaning, HaveMeaning}
+use Rattle.world_model.specs.rules.World.{plan_of, own_parts, is_own, changes_of, IsWorldRun}
 use Rattle.world_model.proofs.Names.{off}
 use Rattle.world_model.proofs.Leases.{Leases}
 use Rattle.world_model.proofs.Histories.{Facts, IsMade, AreMade, has_index}

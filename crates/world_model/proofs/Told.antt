@@ -8,17 +8,19 @@ use Rattle.site_vector.specs.Order.{same_part_is}
 use Rattle.crdt_core.specs.declared.record.Record.{Record}
 use Rattle.crdt_core.specs.KindsOf.{Kinds}
 use Rattle.crdt_core.specs.Log.{pending, prepared_lead}
-use Rattle.world_model.specs.Asking.{MayCall}
-use Rattle.world_model.specs.Downs as downs
-use Rattle.world_model.specs.Event.{AskFinish, Entry, attempt, is_prepare, tried, EventsAre}
-use Rattle.world_model.specs.Fate.{IsFate, is_ended_at}
-use Rattle.world_model.specs.LawfulWorld.{IsLawfulWorld}
-use Rattle.world_model.specs.Lines.{lines_of}
-use Rattle.world_model.specs.Partition.{PartState, ToldCommitted, ToldAborted, fate_of}
-use Rattle.world_model.specs.Plan.{Plan, home, takes_part, IsPlace}
-use Rattle.world_model.specs.Told.{Told}
-use Rattle.world_model.specs.Updates.{lead}
-use Rattle.world_model.specs.World.{plan_of, IsWorldRun}
+use Rattle.world_model.specs.rules.Asking.{MayCall}
+use Rattle.world_model.specs.events.Pending as downs
+use Rattle.world_model.specs.rules.Event.{AskFinish, Entry, attempt, is_prepare, tried, EventsAre}
+use Rattle.world_model.specs.rules.Fate.{IsFate}
+use Rattle.world_model.specs.lines.Fate.{is_ended_at}
+use Rattle.world_model.specs.events.Lawful.{IsLawfulWorld}
+use Rattle.world_model.specs.rules.Lines.{lines_of}
+use Rattle.world_model.specs.rules.Partition.{PartState, ToldCommitted, ToldAborted, fate_of}
+use Rattle.world_model.specs.rules.Plan.{Plan, takes_part}
+use Rattle.world_model.specs.lines.Places.{home, IsPlace}
+use Rattle.world_model.specs.rules.Told.{Told}
+use Rattle.world_model.specs.lines.Updates.{lead}
+use Rattle.world_model.specs.rules.World.{plan_of, IsWorldRun}
 use Rattle.world_model.proofs.Names.{off, part_cases}
 use Rattle.world_model.proofs.Moves.{image_log}
 use Rattle.world_model.proofs.Fate.{pending_parts, voted_tried}

@@ -5,10 +5,10 @@ use Rattle.site_vector.specs.declared.ids.PartId.{PartId}
 use Rattle.site_vector.specs.Ids.{same_part}
 use Rattle.site_vector.specs.Order.{same_part_is, same_part_refl}
 use Rattle.crdt_core.specs.KindsOf.{Kinds}
-use Rattle.world_model.specs.Event.{Entry}
-use Rattle.world_model.specs.Partition.{PartState, PartStep}
-use Rattle.world_model.specs.World.{IsWorldRun}
-use Rattle.world_model.specs.Traces.{trace_of, IsTrace}
+use Rattle.world_model.specs.rules.Event.{Entry}
+use Rattle.world_model.specs.rules.Partition.{PartState, PartStep}
+use Rattle.world_model.specs.rules.World.{IsWorldRun}
+use Rattle.world_model.specs.rules.Traces.{trace_of, IsTrace}
 use Rattle.world_model.proofs.Names.{clash}
 
 module _ {E : Type 0} where

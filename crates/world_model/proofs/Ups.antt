@@ -4,11 +4,13 @@ use Rattle.std.proofs.lemmas.Bool.{cond-true, cond-false, not-true, not-false}
 use Rattle.site_vector.specs.declared.ids.PartId.{PartId}
 use Rattle.site_vector.specs.Ids.{same_part}
 use Rattle.site_vector.specs.Order.{same_part_refl}
-use Rattle.world_model.specs.Event.{AskRestart, IsDown, IsDamaged, Event, Crashed, RestartCut, Restarted, Refused, Opened, Cut, Entry}
+use Rattle.world_model.specs.rules.Event.{AskRestart, IsDown, IsDamaged, Event, Crashed, RestartCut, Restarted, Refused, Opened, Cut, Entry}
 use Rattle.crdt_core.specs.KindsOf.{Kinds}
-use Rattle.world_model.specs.Partition.{PartState, PartStep}
-use Rattle.world_model.specs.Plan.{Plan, IsRun}
-use Rattle.world_model.specs.Downs.{down_after, is_down, AnswersAsUp, AnswerAsUp}
+use Rattle.world_model.specs.rules.Partition.{PartState, PartStep}
+use Rattle.world_model.specs.rules.Plan.{Plan}
+use Rattle.world_model.proofs.Runs.{IsRun}
+use Rattle.world_model.specs.events.Pending.{down_after, is_down}
+use Rattle.world_model.specs.events.Causes.{AnswersAsUp, AnswerAsUp}
 use Rattle.world_model.proofs.Names.{part_cases, part_other}
 
 module _ {E : Type 0} {S : Type 0} (kinds : Kinds S E) (plan : Plan E) where

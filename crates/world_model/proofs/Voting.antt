@@ -5,11 +5,12 @@ use Rattle.site_vector.specs.declared.ids.PartId.{PartId}
 use Rattle.site_vector.specs.declared.ids.TxId.{TxId}
 use Rattle.site_vector.specs.Order.{same_tx_refl}
 use Rattle.crdt_core.specs.Log.{prepared, committed, pending}
-use Rattle.world_model.specs.Event.{Event, Prepared, Decided, Finished, Cut, Entry, attempt, EventsAre, is_decided}
+use Rattle.world_model.specs.rules.Event.{Event, Prepared, Decided, Finished, Cut, Entry, attempt, EventsAre, is_decided}
 use Rattle.crdt_core.specs.KindsOf.{Kinds}
-use Rattle.world_model.specs.Partition.{PartState, PartStep}
-use Rattle.world_model.specs.Plan.{Plan, commit_vector, IsAllowed, IsRun}
-use Rattle.world_model.specs.Votes.{VotesAt, KeepVotes, ShowsVector, IsAgreed}
+use Rattle.world_model.specs.rules.Partition.{PartState, PartStep}
+use Rattle.world_model.specs.rules.Plan.{Plan, commit_vector, IsAllowed}
+use Rattle.world_model.proofs.Runs.{IsRun}
+use Rattle.world_model.specs.events.Commit.{VotesAt, KeepVotes, ShowsVector, IsAgreed}
 use Rattle.world_model.proofs.Names.{clash}
 use Rattle.world_model.proofs.Moves.{moved, image_log}
 use Rattle.world_model.proofs.Fate.{Fate, fate_step, voted_tried, pending_parts}

@@ -8,12 +8,11 @@ use Rattle.site_vector.specs.Ids.{same_part, same_tx}
 use Rattle.site_vector.specs.Order.{same_part_is, same_tx_is, same_tx_refl}
 use Rattle.world_model.specs.declared.step.Step.{Step}
 use Rattle.world_model.specs.declared.step.Step.TheVariants as step
-use Rattle.world_model.specs.Lines.{Line, EachLine}
-use Rattle.world_model.specs.Partition.{names_pending}
-use Rattle.world_model.specs.Pending.{pending, pending_after, prepare_time, prepare_time_after}
-use Rattle.world_model.specs.Shown.{listed_time, IsIdBefore, IsBefore, IsBeforeAll, AreInOrder}
-use Rattle.world_model.specs.Waiting.{without, waiting_after, waiting, ArePending}
-use Rattle.world_model.specs.Listed.{AreTimed}
+use Rattle.world_model.specs.lines.Lines.{Line, EachLine}
+use Rattle.world_model.specs.lines.Listed.{names_pending, listed_time, IsIdBefore, IsBefore, IsBeforeAll, AreInOrder, AreTimed}
+use Rattle.world_model.specs.lines.Pending.{pending, pending_after, prepare_time, prepare_time_after}
+use Rattle.world_model.specs.lines.Waiting.{without, waiting_after, waiting}
+use Rattle.world_model.specs.rules.Waiting.{ArePending}
 use Rattle.world_model.proofs.Listed.{names_first, names_later, timed_as}
 use Rattle.world_model.proofs.Names.{clash, off}
 

@@ -8,14 +8,14 @@ use Rattle.site_vector.specs.Ids.{same_part, same_tx}
 use Rattle.site_vector.specs.Order.{same_part_refl, same_tx_is, same_tx_refl}
 use Rattle.site_vector.specs.Vector.{replaced}
 use Rattle.crdt_core.specs.declared.record.Upd.{Upd}
-use Rattle.world_model.specs.Cluster.{partitions}
+use Rattle.world_model.specs.lines.Places.{partitions, first_of, home}
 use Rattle.crdt_core.specs.Log.{end_of_time, ceiling, prepared, pending, committed}
-use Rattle.world_model.specs.Event.{AskPrepare, AskFinish, AskTake, Refused, Event, Began, Updated, Read, Prepared, Decided, Finished, Aborted, Took, Heard, Cut, Entry, attempt, is_prepare, tried, voted, shown, shown_after, time_of, is_decided, WasShown}
+use Rattle.world_model.specs.rules.Event.{AskPrepare, AskFinish, AskTake, Refused, Event, Began, Updated, Read, Prepared, Decided, Finished, Aborted, Took, Heard, Cut, Entry, attempt, is_prepare, tried, voted, shown, shown_after, time_of, is_decided, WasShown}
 use Rattle.crdt_core.specs.KindsOf.{Kinds}
-use Rattle.world_model.specs.Partition.{PartState, PartStep, MayDo}
-use Rattle.world_model.specs.Plan.{Plan, first_of, is_some_update, home, takes_part, commit_vector, updates_at, change_by, IsAllowed, IsPlanned, TellsAborted, IsRun}
-use Rattle.world_model.specs.Handed.{IsNew}
-use Rattle.world_model.specs.World.{is_begin, begin_vector, begun, snapshot_of, is_own, changes_of, lead_of, own_parts, plan_of, IsWorldRun}
+use Rattle.world_model.specs.rules.Partition.{PartState, PartStep, MayDo}
+use Rattle.world_model.specs.rules.Plan.{Plan, is_some_update, takes_part, commit_vector, updates_at, change_by, IsAllowed, TellsAborted, IsNew}
+use Rattle.world_model.proofs.Runs.{IsPlanned, IsRun}
+use Rattle.world_model.specs.rules.World.{is_begin, begin_vector, begun, snapshot_of, is_own, changes_of, lead_of, own_parts, plan_of, IsWorldRun}
 use Rattle.world_model.proofs.Names.{clash, off}
 use Rattle.world_model.proofs.Moves.{image_log}
 use Rattle.world_model.proofs.Fate.{pending_parts, voted_tried}

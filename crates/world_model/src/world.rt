@@ -1,8 +1,8 @@
-ghost use Rattle.world_model.specs.World.{LawWorld};
-ghost use Rattle.world_model.specs.Premises.{LawPremises};
-ghost use Rattle.world_model.specs.Traces.{LawTraces};
-ghost use Rattle.world_model.specs.Asking.{LawAsks};
-ghost use Rattle.world_model.specs.Told.{LawTold};
+ghost use Rattle.world_model.specs.rules.World.{LawWorld};
+ghost use Rattle.world_model.specs.rules.Premises.{LawPremises};
+ghost use Rattle.world_model.specs.rules.Traces.{LawTraces};
+ghost use Rattle.world_model.specs.rules.Asking.{LawAsks};
+ghost use Rattle.world_model.specs.rules.Told.{LawTold};
 
 /// The law of the world: any run of it is lawful, for any number of sites and partitions, whatever their kinds of objects
 /// do (with states `S` and effects `E`), with any call cut off by a crash, and whatever a restart finds then. The function

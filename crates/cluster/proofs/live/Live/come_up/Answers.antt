@@ -1,5 +1,5 @@
 use Rattle.std.proofs.Common.{◌∙◌, [], ◌∷◌, sym, ap, subst}
-use Rattle.world_model.specs.Plan.{IsPlace}
+use Rattle.world_model.specs.lines.Places.{IsPlace}
 use Rattle.std.specs.Prelude.{Err}
 use Rattle.partition_core.specs.declared.restart.RestartError.{RestartError}
 use Rattle.site_partitions.specs.Faults.{RestartsAt}

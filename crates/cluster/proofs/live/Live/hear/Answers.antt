@@ -1,7 +1,7 @@
 use Rattle.std.proofs.Common.{◌≡◌, ◌∙◌, ℕ, sym, subst}
 use Rattle.site_partitions.specs.Answers.{Any, Calls}
 use Rattle.site_partitions.specs.Reaches.{types_of, MayAsk}
-use Rattle.world_model.specs.Event.{AskHear, Heard}
+use Rattle.world_model.specs.rules.Event.{AskHear, Heard}
 use Rattle.cluster.specs.Live.{LiveState}
 use Rattle.cluster.proofs.live.Live.hear.Goals as goal
 

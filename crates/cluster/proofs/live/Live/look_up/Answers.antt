@@ -1,7 +1,7 @@
 use Rattle.std.proofs.Common.{◌≡◌, ◌∙◌, true, false, sym, subst, None}
 use Rattle.site_partitions.specs.Reaches.{types_of}
 use Rattle.world_model.specs.declared.command.Command.TheVariants as command
-use Rattle.world_model.specs.Partition.{fate_of}
+use Rattle.world_model.specs.rules.Partition.{fate_of}
 use Rattle.partition_core.specs.Answers.{fate_told}
 use Rattle.site_partitions.specs.Fates.{IsLead, OfState}
 use Rattle.cluster.specs.Fates.{lacks_txn}

@@ -1,8 +1,8 @@
 use Rattle.std.proofs.Common.{◌≡◌, ◌∙◌, sym, subst}
 use Rattle.site_partitions.specs.Answers.{Any, Calls}
 use Rattle.site_partitions.specs.Reaches.{types_of, MayAsk}
-use Rattle.world_model.specs.Event.{AskMessage, Sent}
-use Rattle.world_model.specs.Partition.{IsOther}
+use Rattle.world_model.specs.rules.Event.{AskMessage, Sent}
+use Rattle.world_model.specs.lines.Places.{IsOther}
 use Rattle.cluster.specs.Live.{LiveState}
 use Rattle.cluster.proofs.live.Live.release.Goals as goal
 

@@ -1,8 +1,8 @@
 use Rattle.std.proofs.Common.{◌≡◌, ◌∙◌, sym, subst}
 use Rattle.site_partitions.specs.Answers.{Any, Calls}
 use Rattle.site_partitions.specs.Reaches.{types_of}
-use Rattle.world_model.specs.Event.{AskReport, Reported}
-use Rattle.world_model.specs.Plan.{IsPlace}
+use Rattle.world_model.specs.rules.Event.{AskReport, Reported}
+use Rattle.world_model.specs.lines.Places.{IsPlace}
 use Rattle.cluster.specs.Live.{LiveState}
 use Rattle.cluster.proofs.live.Live.report.Goals as goal
 

@@ -1,7 +1,7 @@
 use Rattle.std.proofs.Common.{◌≡◌, ◌∙◌, ◌+◌, true, false, drop, get_or, ap, sym, subst, arith}
 use Rattle.std.specs.Prelude.{not}
 use Rattle.std.proofs.lemmas.List.{drop_more, drop_all}
-use Rattle.world_model.specs.Plan.{IsPlace}
+use Rattle.world_model.specs.lines.Places.{IsPlace}
 use Rattle.site_partitions.specs.Reaches.{types_of}
 use Rattle.site_partitions.specs.declared.fates.Waiting.{Waiting}
 use Rattle.site_partitions.specs.Fates.{AreWaiting, OfState}

@@ -1,7 +1,7 @@
 use Rattle.std.proofs.Common.{◌≡◌, ◌∙◌, true, false, sym, subst}
 use Rattle.site_partitions.specs.Reaches.{types_of}
 use Rattle.world_model.specs.declared.step.Step.TheVariants as step
-use Rattle.world_model.specs.Partition.{fate_of}
+use Rattle.world_model.specs.rules.Partition.{fate_of}
 use Rattle.partition_core.specs.Answers.{fate_told}
 use Rattle.partition_core.specs.declared.answers.Fate.{Fate}
 use Rattle.cluster.specs.Fates.{lead_place, MaySettle, Settles}

@@ -1,7 +1,7 @@
 use Rattle.std.proofs.Common.{◌≡◌, ◌∙◌, ℕ, sym, subst}
 use Rattle.site_partitions.specs.Answers.{Any, Calls}
 use Rattle.site_partitions.specs.Reaches.{types_of, MayAsk}
-use Rattle.world_model.specs.Event.{AskTake, Took}
+use Rattle.world_model.specs.rules.Event.{AskTake, Took}
 use Rattle.cluster.specs.Live.{LiveState}
 use Rattle.cluster.proofs.live.Live.take.Goals as goal
 

@@ -1,8 +1,8 @@
 use Rattle.std.proofs.Common.{◌≡◌, refl, None}
 use Rattle.std.specs.Prelude.{Ok, Err}
 use Rattle.world_model.specs.declared.step.Step.TheVariants as step
-use Rattle.world_model.specs.Event as event
-use Rattle.world_model.specs.Event.{Event}
+use Rattle.world_model.specs.rules.Event as event
+use Rattle.world_model.specs.rules.Event.{Event}
 use Rattle.site_partitions.specs.Answers.{Any}
 use Rattle.site_partitions.specs.Reaches.{types_of}
 use Rattle.cluster.proofs.Seeing.{calls_here, exact_on, failed_on, failed_stays, called_same, fault_of, may_here}

@@ -3,10 +3,10 @@ use Rattle.std.specs.Prelude.{List, Ok, Err}
 use Rattle.crdt_core.specs.declared.record.Part.{Part}
 use Rattle.crdt_core.specs.declared.value.Value.{Value}
 use Rattle.world_model.specs.declared.step.Step.TheVariants as step
-use Rattle.world_model.specs.Event as event
-use Rattle.world_model.specs.Event.{Event, attempt}
-use Rattle.world_model.specs.Asking.{is_own_word}
-use Rattle.world_model.specs.Lines.{step_shown}
+use Rattle.world_model.specs.rules.Event as event
+use Rattle.world_model.specs.rules.Event.{Event, attempt}
+use Rattle.world_model.specs.rules.Asking.{is_own_word}
+use Rattle.world_model.specs.rules.Lines.{step_shown}
 use Rattle.txn_session.specs.Calls.{entries}
 use Rattle.site_partitions.specs.Answers.{Any}
 use Rattle.site_partitions.specs.Reaches.{types_of}

@@ -2,8 +2,8 @@ use Rattle.std.proofs.Common.{◌≡◌, refl, None}
 use Rattle.std.specs.Prelude.{Ok, Err}
 use Rattle.crdt_core.specs.declared.record.Message.{Message}
 use Rattle.world_model.specs.declared.step.Step.TheVariants as step
-use Rattle.world_model.specs.Event as event
-use Rattle.world_model.specs.Event.{Event}
+use Rattle.world_model.specs.rules.Event as event
+use Rattle.world_model.specs.rules.Event.{Event}
 use Rattle.site_partitions.specs.Answers.{Any}
 use Rattle.site_partitions.specs.Reaches.{types_of}
 use Rattle.cluster.proofs.Seeing.{calls_here, did_on, exactly, fact_of, called_same, failed_line, error_stays, fault_of, may_here}

@@ -2,12 +2,12 @@ use Rattle.std.proofs.Common.{◌≡◌, ◌+◌, refl, sym, ◌∙◌, subst, t
 use Rattle.std.specs.Prelude.{ℕ, List, Option, Ok, Err}
 use Rattle.crdt_core.specs.declared.record.Part.{Part}
 use Rattle.world_model.specs.declared.step.Step.TheVariants as step
-use Rattle.world_model.specs.Event as event
-use Rattle.world_model.specs.Event.{Event, Entry}
-use Rattle.world_model.specs.Asking.{is_own_word}
-use Rattle.world_model.specs.Lines.{fault_shown, step_shown}
+use Rattle.world_model.specs.rules.Event as event
+use Rattle.world_model.specs.rules.Event.{Event, Entry}
+use Rattle.world_model.specs.rules.Asking.{is_own_word}
+use Rattle.world_model.specs.rules.Lines.{fault_shown, step_shown}
 use Rattle.txn_session.specs.Calls.{entries}
-use Rattle.world_model.specs.Plan.{update_count}
+use Rattle.world_model.specs.rules.Plan.{update_count}
 use Rattle.site_partitions.specs.Reaches.{types_of}
 use Rattle.cluster.proofs.Seeing.{calls_here, called_same, error_stays, changes_on, unchanged_on, number_is, may_here, fault_of}
 use Rattle.cluster.proofs.FuelStore.{line_tells_call, seen_tells}

@@ -4,7 +4,7 @@ use Rattle.site_vector.specs.declared.ids.TxId.{TxId}
 use Rattle.crdt_core.specs.KindsOf.{kinds_of}
 use Rattle.partition_log.specs.Codec.{codec_of}
 use Rattle.partition_log.specs.Gates.{gates_of}
-use Rattle.world_model.specs.Event.{AskBegin, Began, Refused}
+use Rattle.world_model.specs.rules.Event.{AskBegin, Began, Refused}
 use Rattle.partition_core.specs.Answers.{cause}
 use Rattle.partition_core.specs.Durable.{is_down}
 use Rattle.partition_core.specs.Steps.{Anything}

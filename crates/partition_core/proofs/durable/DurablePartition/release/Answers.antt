@@ -4,7 +4,7 @@ use Rattle.crdt_core.specs.declared.record.Message.{Message}
 use Rattle.crdt_core.specs.KindsOf.{kinds_of}
 use Rattle.partition_log.specs.Codec.{codec_of}
 use Rattle.partition_log.specs.Gates.{gates_of}
-use Rattle.world_model.specs.Event.{AskMessage, Sent}
+use Rattle.world_model.specs.rules.Event.{AskMessage, Sent}
 use Rattle.partition_core.specs.Durable.{StandsOn, is_down}
 use Rattle.partition_core.specs.Steps.{Anything}
 use Rattle.partition_core.proofs.Durably.{down_call}

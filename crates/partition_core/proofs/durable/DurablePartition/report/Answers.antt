@@ -2,7 +2,7 @@ use Rattle.std.proofs.Common.{◌≡◌, ◌∙◌, ap, sym, refl}
 use Rattle.crdt_core.specs.KindsOf.{kinds_of}
 use Rattle.partition_log.specs.Codec.{codec_of}
 use Rattle.partition_log.specs.Gates.{gates_of}
-use Rattle.world_model.specs.Event.{AskReport, Reported}
+use Rattle.world_model.specs.rules.Event.{AskReport, Reported}
 use Rattle.partition_core.specs.Durable.{is_down}
 use Rattle.partition_core.specs.Steps.{Anything}
 use Rattle.partition_core.proofs.Durably.{down_call}

@@ -3,7 +3,7 @@ use Rattle.std.proofs.lemmas.Result.{err_from_is_err_and}
 use Rattle.crdt_core.specs.KindsOf.{kinds_of}
 use Rattle.partition_log.specs.Codec.{codec_of}
 use Rattle.partition_log.specs.Gates.{gates_of}
-use Rattle.world_model.specs.Event.{AskTake, Took, Refused}
+use Rattle.world_model.specs.rules.Event.{AskTake, Took, Refused}
 use Rattle.partition_core.specs.Answers.{cause}
 use Rattle.partition_core.specs.Durable.{is_down}
 use Rattle.partition_core.specs.Steps.{Anything}

@@ -1,11 +1,11 @@
 use Rattle.std.proofs.Common.{◌≡◌, List, sym, refl, subst}
-use Rattle.world_model.specs.Event.{AskRead}
+use Rattle.world_model.specs.rules.Event.{AskRead}
 use Rattle.partition_core.specs.Steps.{Anything}
 use Rattle.site_partitions.specs.Answers.{Any}
 use Rattle.site_partitions.specs.Reaches.{types_of, PutsEvent}
 use Rattle.site_partitions.proofs.Going.{IsShown, asked}
 use Rattle.site_partitions.proofs.Asking.{read_width}
-use Rattle.world_model.specs.Event as event
+use Rattle.world_model.specs.rules.Event as event
 use Rattle.crdt_core.specs.declared.record.Part.{Part}
 use Rattle.site_partitions.proofs.sites.Sites.read_at.Goals as goal
 

@@ -1,5 +1,5 @@
 use Rattle.std.proofs.Common.{◌≡◌, sym, refl, subst}
-use Rattle.world_model.specs.Event.{AskReport, Reported}
+use Rattle.world_model.specs.rules.Event.{AskReport, Reported}
 use Rattle.partition_core.specs.Steps.{Anything}
 use Rattle.site_partitions.specs.Answers.{Any, Calls}
 use Rattle.site_partitions.specs.Reaches.{types_of, PutsEvent}

@@ -1,12 +1,12 @@
 use Rattle.std.proofs.Common.{◌≡◌, List, sym, refl, subst}
-use Rattle.world_model.specs.Event.{AskUpdate, Updated}
+use Rattle.world_model.specs.rules.Event.{AskUpdate, Updated}
 use Rattle.partition_core.specs.Steps.{Anything}
 use Rattle.site_partitions.specs.Reaches.{types_of, PutsEvent}
 use Rattle.site_partitions.proofs.Going.{IsShown, asked}
 use Rattle.site_partitions.proofs.Asking.{update_width}
 use Rattle.crdt_core.specs.declared.record.Part.{Part}
 use Rattle.std.specs.Prelude.{◌+◌}
-use Rattle.world_model.specs.Plan.{update_count}
+use Rattle.world_model.specs.rules.Plan.{update_count}
 use Rattle.site_partitions.proofs.Making.{ready_put}
 use Rattle.site_partitions.proofs.sites.Sites.update_at.Goals as goal
 

@@ -1,6 +1,6 @@
 use Rattle.std.proofs.Common.{None, ◌≡◌, refl, sym, ap, ◌∙◌, subst}
 use Rattle.world_model.specs.declared.commit.What.TheVariants as what
-use Rattle.world_model.specs.Event.{AskFinish}
+use Rattle.world_model.specs.rules.Event.{AskFinish}
 use Rattle.txn_session.specs.Session.{SessionState, Txn}
 use Rattle.txn_session.specs.Opens.{EndsAs}
 use Rattle.txn_session.specs.Holds.{MakesStep, TellsStep, next_of}

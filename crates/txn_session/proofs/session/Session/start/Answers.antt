@@ -1,5 +1,5 @@
 use Rattle.std.proofs.Common.{refl, ap, ◌∙◌, List, ℕ}
-use Rattle.world_model.specs.CommitSteps.{starting}
+use Rattle.world_model.specs.commands.CommitSteps.{starting}
 use Rattle.clocksi_commit.specs.Commit.{Committing}
 use Rattle.txn_session.specs.Session.{Txn, participants, first_or_zero}
 use Rattle.txn_session.proofs.Ending.{begun_is, begun_same}

@@ -1,0 +1,12 @@
+pub mod Run
+pub mod Cluster
+pub mod Refusals
+pub mod Answers
+pub mod CommitSteps
+pub mod Phases
+pub mod Messages
+pub mod Meeting
+pub mod Settling
+pub mod ScriptCalls
+pub mod ScriptAnswers
+pub mod Fuses

@@ -1,0 +1,15 @@
+pub mod Logs
+pub mod Fresh
+pub mod Answers
+pub mod Commit
+pub mod Restarts
+pub mod Streams
+pub mod Lawful
+pub mod Handed
+pub mod Dependency
+pub mod Reads
+pub mod Clock
+pub mod Causes
+pub mod Pending
+pub mod Bounds
+pub mod Fate

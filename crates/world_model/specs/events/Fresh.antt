@@ -1,0 +1,56 @@
+-- Fresh snapshots: the stable entries of a partition, by what a run shows.
+use Rattle.std.specs.Prelude.{◌≡◌, ℕ, ◌<◌, ◌≤◌, max, ◌==◌, if◌then◌else◌, List, [], ◌∷◌, length, ⊤}
+use Rattle.site_vector.specs.declared.ids.PartId.{PartId}
+use Rattle.site_vector.specs.declared.ids.TxId.{TxId}
+use Rattle.site_vector.specs.Ids.{same_part}
+use Rattle.site_vector.specs.Vector.{entry}
+use Rattle.world_model.specs.rules.Event.{AskBegin, StableBehind, ClockAtEnd, Event, Began, Heard, Restarted, Refused, Entry}
+use Rattle.world_model.specs.lines.Places.{IsOther}
+use Rattle.world_model.specs.rules.Plan.{Plan}
+use Rattle.world_model.specs.events.Bounds.{bound_shown, IsOwnBoundAt}
+use Rattle.world_model.specs.lines.Bounds.{IsLeast}
+
+module _ {E : Type 0} where
+  -- the greatest entry for site j in the reports of partition q that were heard since the last restart
+  abbrev pub heard_from : ℕ → ℕ → ℕ → Event E → ℕ
+  heard_from q j old (Heard number k b stable) = if k == q then max old (entry b j) else old
+  heard_from q j old (Restarted n b named listed) = 0
+  heard_from q j old other = old
+
+  abbrev pub heard_shown : List (Entry E) → PartId → ℕ → ℕ → ℕ
+  heard_shown [] p q j = 0
+  heard_shown (e ∷ run) p q j = if same_part e.at p then heard_from q j (heard_shown run p q j) e.event else heard_shown run p q j
+
+  -- what p knows of how far partition q of its site has come with site j: its own bound, or what it heard
+  abbrev pub known_shown : List (Entry E) → PartId → ℕ → ℕ → ℕ
+  known_shown run p j q = if p.part == q then bound_shown run p j else heard_shown run p q j
+
+  -- the least other site with a stable entry below what the session depends on: there one partition is not known to have come so far
+  pub record IsBehindAt (plan : Plan E) (run : List (Entry E)) (p : PartId) (dependency : List ℕ) (j n : ℕ) : Type 0 where
+    pub other : IsOther plan.sites p.site j
+    pub have : IsLeast plan.parts (known_shown run p j) n
+    pub behind : n < entry dependency j
+    pub least : (i q : ℕ) → IsOther plan.sites p.site i → 1 ≤ q → q ≤ plan.parts → known_shown run p i q < entry dependency i → j ≤ i
+
+  -- the entries that p tells, once it has heard so much: for its own site by its own bound
+  pub record IsStableAt (plan : Plan E) (run : List (Entry E)) (p : PartId) (heard : ℕ → ℕ → ℕ) (stable : List ℕ) : Type 0 where
+    pub width : length stable ≡ plan.sites
+    pub others : (j : ℕ) → IsOther plan.sites p.site j → IsLeast plan.parts (λ q. if p.part == q then bound_shown run p j else heard q j) (entry stable j)
+    pub own : (b : ℕ) × IsOwnBoundAt run p b × IsLeast plan.parts (λ q. if p.part == q then b else heard q p.site) (entry stable p.site)
+
+  -- a snapshot has an entry for each site: the stable one for another, and for the own the greater of the drawn time and the dependency's
+  pub record IsSnapshotAt (plan : Plan E) (run : List (Entry E)) (p : PartId) (dependency : List ℕ) (t : TxId) (s : List ℕ) : Type 0 where
+    pub width : length s ≡ plan.sites
+    pub own : entry s p.site ≡ max t.time (entry dependency p.site)
+    pub others : (j : ℕ) → IsOther plan.sites p.site j → IsLeast plan.parts (known_shown run p j) (entry s j)
+
+  abbrev pub IsFreshAt : Plan E → List (Entry E) → PartId → Event E → Type 0
+  IsFreshAt plan run p (Began who dep t s) = IsSnapshotAt plan run p dep t s
+  IsFreshAt plan run p (Heard number k b stable) = IsStableAt plan run p (λ q j. heard_from q j (heard_shown run p q j) (Heard number k b stable)) stable
+  IsFreshAt plan run p (Refused (AskBegin who dep) ClockAtEnd) = (j q : ℕ) → IsOther plan.sites p.site j → 1 ≤ q → q ≤ plan.parts → entry dep j ≤ known_shown run p j q
+  IsFreshAt plan run p (Refused (AskBegin who dep) (StableBehind j n)) = IsBehindAt plan run p dep j n
+  IsFreshAt plan run p other = ⊤
+
+  abbrev pub AreFresh : Plan E → List (Entry E) → Type 0
+  AreFresh plan [] = ⊤
+  AreFresh plan (e ∷ run) = IsFreshAt plan run e.at e.event × AreFresh plan run

@@ -1,0 +1,12 @@
+pub mod Event
+pub mod Dependency
+pub mod Partition
+pub mod Plan
+pub mod World
+pub mod Premises
+pub mod Traces
+pub mod Asking
+pub mod Told
+pub mod Lines
+pub mod Fate
+pub mod Waiting
