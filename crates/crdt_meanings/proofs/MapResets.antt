@@ -23,7 +23,6 @@ use Rattle.crdt_core.specs.Leaves.{same_kind_is}
 use Rattle.crdt_core.specs.FieldOrder.{field_cmp, field_ties, same_field_is, same_field_itself}
 use Rattle.crdt_core.specs.MapLists.{IsDistinct, distinct_entries}
 use Rattle.crdt_core.proofs.Members.{In}
-use Rattle.crdt_meanings.specs.declared.maps.MapEffect.{MapEffect}
 use Rattle.crdt_meanings.specs.Maps.{EachNames, FieldMap, at, map_has, listed, map_step, is_undone, resets_of, reset_by, map_made, map_too_deep, map_names, map_blank}
 use Rattle.crdt_meanings.specs.MapMeaning.{of_field, updated}
 use Rattle.crdt_meanings.proofs.FieldSteps.{found}
