@@ -1,7 +1,7 @@
 -- A layer of kinds: those from one to nine, and the two maps over the kinds of the layer within.
 use Rattle.std.proofs.Common.{ℕ, Bool, true, false, List, Option, Some, None}
 use Rattle.std.specs.Prelude.{unwrap_or}
-use Rattle.std.specs.Prelude.{ℤ, pos}
+use Rattle.std.specs.Prelude.{pos}
 use Rattle.site_vector.specs.declared.ids.Dot.{Dot}
 use Rattle.crdt_core.specs.declared.kind.Kind.{Kind}
 use Rattle.crdt_core.specs.declared.kind.Kind.TheVariants as kinds
@@ -10,8 +10,6 @@ use Rattle.crdt_core.specs.declared.operation.Act.{Act}
 use Rattle.crdt_core.specs.declared.value.Value.{Value}
 use Rattle.crdt_core.specs.Seen.{Update}
 use Rattle.crdt_core.specs.Kept.{is_kept, keeps_none}
-use Rattle.crdt_meanings.specs.declared.counters.FatEffect.{FatEffect}
-use Rattle.crdt_meanings.specs.SetGo.{Grown}
 use Rattle.crdt_meanings.specs.Elements.{keeps_dot, lacks_all}
 use Rattle.crdt_any.specs.declared.state.LayerState.{LayerState}
 use Rattle.crdt_any.specs.declared.state.LayerState.TheVariants as state
@@ -19,7 +17,7 @@ use Rattle.crdt_any.specs.declared.effect.LayerEffect.{LayerEffect}
 use Rattle.crdt_any.specs.declared.effect.LayerEffect.TheVariants as effect
 use Rattle.std.specs.FinMap.{empty}
 use Rattle.crdt_meanings.specs.CounterMeaning.{counter_meaning}
-use Rattle.crdt_meanings.specs.CounterPn.{is_zero, pn_step, pn_made, pn_value, no_stamp, names_none, holds_none}
+use Rattle.crdt_meanings.specs.CounterPn.{is_zero, pn_step, pn_made, pn_value}
 use Rattle.crdt_meanings.specs.CounterFat.{fat_step, fat_made, fat_value, fat_names}
 use Rattle.crdt_meanings.specs.SetGo as set
 use Rattle.crdt_meanings.specs.Sets as sets
@@ -28,9 +26,10 @@ use Rattle.crdt_meanings.specs.Flags as flags
 use Rattle.crdt_meanings.specs.FlagMeaning.{ew_meaning, dw_meaning}
 use Rattle.crdt_meanings.specs.RegisterMeaning.{lww_meaning, mv_meaning, word_of}
 use Rattle.crdt_meanings.specs.RegisterLww.{unassigned, lww_step, lww_made, lww_stamp, lww_names, lww_holds}
-use Rattle.crdt_meanings.specs.RegisterMv.{mv_step, mv_made, mv_value, mv_stamp, mv_names}
+use Rattle.crdt_meanings.specs.RegisterMv.{mv_step, mv_made, mv_value, mv_names}
 use Rattle.crdt_meanings.specs.Maps.{map_step, map_made, map_stamp, map_too_deep, map_names, map_holds, map_value, map_blank}
 use Rattle.crdt_meanings.specs.MapMeaning.{go_meaning, rr_meaning}
+use Rattle.crdt_meanings.specs.Without.{no_stamp, no_dot}
 use Rattle.crdt_any.specs.Cases.{counter_pn_state, counter_pn_effect, counter_fat_state, counter_fat_effect, set_go_state, set_go_effect, set_aw_state, set_aw_effect, set_rw_state, set_rw_effect, flag_ew_state, flag_ew_effect, flag_dw_state, flag_dw_effect, register_lww_state, register_lww_effect, register_mv_state, register_mv_effect, map_go_state, map_go_effect, map_rr_state, map_rr_effect}
 
 -- the layer has every kind
@@ -100,15 +99,15 @@ layer_value value_of (state.MapGo s) = (map_value false value_of) s
 layer_value value_of (state.MapRr s) = (map_value true value_of) s
 
 abbrev pub layer_stamp : {E : Type 0} → (E → Option ℕ) → LayerEffect E → Option ℕ
-layer_stamp stamp_of (effect.CounterPn e) = (no_stamp {E = ℤ}) e
-layer_stamp stamp_of (effect.CounterFat e) = (no_stamp {E = FatEffect}) e
-layer_stamp stamp_of (effect.SetGo e) = set.go_stamp e
-layer_stamp stamp_of (effect.SetAw e) = sets.no_stamp e
-layer_stamp stamp_of (effect.SetRw e) = sets.no_stamp e
-layer_stamp stamp_of (effect.FlagEw e) = flags.no_stamp e
-layer_stamp stamp_of (effect.FlagDw e) = flags.no_stamp e
+layer_stamp stamp_of (effect.CounterPn e) = no_stamp e
+layer_stamp stamp_of (effect.CounterFat e) = no_stamp e
+layer_stamp stamp_of (effect.SetGo e) = no_stamp e
+layer_stamp stamp_of (effect.SetAw e) = no_stamp e
+layer_stamp stamp_of (effect.SetRw e) = no_stamp e
+layer_stamp stamp_of (effect.FlagEw e) = no_stamp e
+layer_stamp stamp_of (effect.FlagDw e) = no_stamp e
 layer_stamp stamp_of (effect.RegisterLww e) = lww_stamp e
-layer_stamp stamp_of (effect.RegisterMv e) = mv_stamp e
+layer_stamp stamp_of (effect.RegisterMv e) = no_stamp e
 layer_stamp stamp_of (effect.MapGo e) = (map_stamp stamp_of) e
 layer_stamp stamp_of (effect.MapRr e) = (map_stamp stamp_of) e
 
@@ -126,9 +125,9 @@ layer_meaning has meaning kinds.MapGo us = (go_meaning has meaning) kinds.MapGo 
 layer_meaning has meaning kinds.MapRr us = (rr_meaning has meaning) kinds.MapRr us
 
 abbrev pub layer_names : {E : Type 0} → (Kind → Bool) → (E → Dot → Bool) → LayerEffect E → Dot → Bool
-layer_names has names (effect.CounterPn e) d = names_none e d
+layer_names has names (effect.CounterPn e) d = no_dot e d
 layer_names has names (effect.CounterFat e) d = fat_names e d
-layer_names has names (effect.SetGo e) d = set.go_names e d
+layer_names has names (effect.SetGo e) d = no_dot e d
 layer_names has names (effect.SetAw e) d = sets.set_names e d
 layer_names has names (effect.SetRw e) d = sets.set_names e d
 layer_names has names (effect.FlagEw e) d = flags.flag_names e d
@@ -139,9 +138,9 @@ layer_names has names (effect.MapGo e) d = (map_names has names) e d
 layer_names has names (effect.MapRr e) d = (map_names has names) e d
 
 abbrev pub layer_holds : {S : Type 0} → (S → Dot → Bool) → LayerState S → Dot → Bool
-layer_holds holds (state.CounterPn s) d = holds_none s d
+layer_holds holds (state.CounterPn s) d = no_dot s d
 layer_holds holds (state.CounterFat s) d = is_kept s d
-layer_holds holds (state.SetGo s) d = set.go_holds s d
+layer_holds holds (state.SetGo s) d = no_dot s d
 layer_holds holds (state.SetAw s) d = keeps_dot s d
 layer_holds holds (state.SetRw s) d = keeps_dot s d
 layer_holds holds (state.FlagEw s) d = is_kept s d

@@ -26,7 +26,7 @@ use Rattle.crdt_any.specs.declared.state.LayerState.TheVariants as state
 use Rattle.crdt_any.specs.declared.effect.LayerEffect.{LayerEffect}
 use Rattle.crdt_any.specs.declared.effect.LayerEffect.TheVariants as effect
 use Rattle.std.specs.FinMap.{empty}
-use Rattle.crdt_meanings.specs.CounterPn.{is_zero, pn_step, pn_made, names_none, holds_none}
+use Rattle.crdt_meanings.specs.CounterPn.{is_zero, pn_step, pn_made}
 use Rattle.crdt_meanings.specs.CounterFat.{fat_step, fat_made, fat_names}
 use Rattle.crdt_meanings.specs.SetGo as set
 use Rattle.crdt_meanings.specs.Sets as sets
@@ -51,6 +51,7 @@ use Rattle.crdt_meanings.proofs.FlagLaws.{flag_law, flag_in_maps}
 use Rattle.crdt_meanings.proofs.LwwLaw.{lww_law, lww_in_maps}
 use Rattle.crdt_meanings.proofs.MvLaw.{mv_law, mv_in_maps}
 use Rattle.crdt_meanings.proofs.MapLaws.{map_law, map_in_maps}
+use Rattle.crdt_meanings.specs.Without.{no_dot}
 use Rattle.crdt_any.specs.Cases.{counter_pn_state, counter_pn_effect, counter_fat_state, counter_fat_effect, set_go_state, set_go_effect, set_aw_state, set_aw_effect, set_rw_state, set_rw_effect, flag_ew_state, flag_ew_effect, flag_dw_state, flag_dw_effect, register_lww_state, register_lww_effect, register_mv_state, register_mv_effect, map_go_state, map_go_effect, map_rr_state, map_rr_effect}
 use Rattle.crdt_any.specs.Layer.{layer_has, layer_too_deep, layer_initial, layer_step, layer_made, layer_value, layer_stamp, layer_meaning, layer_names, layer_holds, layer_blank}
 use Rattle.crdt_any.specs.Parts.{part_means, part_stamps, named_by, moved_swaps, moved_held}
@@ -112,11 +113,11 @@ module _ {S E : Type 0} {has : Kind → Bool} {too_deep : Kind → List Field �
   unread_at kinds.SetGo s t p a n r = ap effect.SetGo (set_go_law.unread kinds.SetGo (unwrap_or (set_go_state s) empty) (unwrap_or (set_go_state t) empty) p a n refl refl)
   unread_at _ s t p a n r = absurd (true≢false r)
 
-  counter_pn_unnamed : (e : LayerEffect E) (d : Dot) → layer_names has names e d ≡ false → named_by names_none (counter_pn_effect e) d ≡ false
+  counter_pn_unnamed : (e : LayerEffect E) (d : Dot) → layer_names has names e d ≡ false → named_by no_dot (counter_pn_effect e) d ≡ false
   counter_pn_unnamed (effect.CounterPn e) d h = h
   counter_pn_unnamed _ d h = refl
 
-  pub counter_pn_holds : (s : LayerState S) (d : Dot) → holds_none (unwrap_or (counter_pn_state s) (pos 0)) d ≡ true → layer_holds holds s d ≡ true
+  pub counter_pn_holds : (s : LayerState S) (d : Dot) → no_dot (unwrap_or (counter_pn_state s) (pos 0)) d ≡ true → layer_holds holds s d ≡ true
   counter_pn_holds (state.CounterPn s) d h = h
   counter_pn_holds _ d h = absurd (true≢false (sym h ∙ (pn_law.steps kinds.CounterPn refl).none_held d))
 
@@ -128,11 +129,11 @@ module _ {S E : Type 0} {has : Kind → Bool} {too_deep : Kind → List Field �
   counter_fat_holds (state.CounterFat s) d h = h
   counter_fat_holds _ d h = absurd (true≢false (sym h ∙ (fat_law.steps kinds.CounterFat refl).none_held d))
 
-  set_go_unnamed : (e : LayerEffect E) (d : Dot) → layer_names has names e d ≡ false → named_by set.go_names (set_go_effect e) d ≡ false
+  set_go_unnamed : (e : LayerEffect E) (d : Dot) → layer_names has names e d ≡ false → named_by no_dot (set_go_effect e) d ≡ false
   set_go_unnamed (effect.SetGo e) d h = h
   set_go_unnamed _ d h = refl
 
-  pub set_go_holds : (s : LayerState S) (d : Dot) → set.go_holds (unwrap_or (set_go_state s) empty) d ≡ true → layer_holds holds s d ≡ true
+  pub set_go_holds : (s : LayerState S) (d : Dot) → no_dot (unwrap_or (set_go_state s) empty) d ≡ true → layer_holds holds s d ≡ true
   set_go_holds (state.SetGo s) d h = h
   set_go_holds _ d h = absurd (true≢false (sym h ∙ (set_go_law.steps kinds.SetGo refl).none_held d))
 
@@ -201,9 +202,9 @@ module _ {S E : Type 0} {has : Kind → Bool} {too_deep : Kind → List Field �
   map_rr_holds _ d h = absurd (true≢false (sym h ∙ ((map_law inner owed true).steps kinds.MapRr refl).none_held d))
 
   swaps_at : (s : LayerState S) (a b : LayerEffect E) (d e : Dot) → same_dot d e ≡ false → layer_names has names a e ≡ false → layer_names has names b d ≡ false → moves (moves s d a) e b ≡ moves (moves s e b) d a
-  swaps_at (state.CounterPn s) a b d e apart na nb = ap state.CounterPn (moved_swaps pn_step names_none (pn_law.steps kinds.CounterPn refl).swaps s (counter_pn_effect a) (counter_pn_effect b) d e apart (counter_pn_unnamed a e na) (counter_pn_unnamed b d nb))
+  swaps_at (state.CounterPn s) a b d e apart na nb = ap state.CounterPn (moved_swaps pn_step no_dot (pn_law.steps kinds.CounterPn refl).swaps s (counter_pn_effect a) (counter_pn_effect b) d e apart (counter_pn_unnamed a e na) (counter_pn_unnamed b d nb))
   swaps_at (state.CounterFat s) a b d e apart na nb = ap state.CounterFat (moved_swaps fat_step fat_names (fat_law.steps kinds.CounterFat refl).swaps s (counter_fat_effect a) (counter_fat_effect b) d e apart (counter_fat_unnamed a e na) (counter_fat_unnamed b d nb))
-  swaps_at (state.SetGo s) a b d e apart na nb = ap state.SetGo (moved_swaps set.go_step set.go_names (set_go_law.steps kinds.SetGo refl).swaps s (set_go_effect a) (set_go_effect b) d e apart (set_go_unnamed a e na) (set_go_unnamed b d nb))
+  swaps_at (state.SetGo s) a b d e apart na nb = ap state.SetGo (moved_swaps set.go_step no_dot (set_go_law.steps kinds.SetGo refl).swaps s (set_go_effect a) (set_go_effect b) d e apart (set_go_unnamed a e na) (set_go_unnamed b d nb))
   swaps_at (state.SetAw s) a b d e apart na nb = ap state.SetAw (moved_swaps (sets.set_step false) sets.set_names ((set_law false).steps kinds.SetAw refl).swaps s (set_aw_effect a) (set_aw_effect b) d e apart (set_aw_unnamed a e na) (set_aw_unnamed b d nb))
   swaps_at (state.SetRw s) a b d e apart na nb = ap state.SetRw (moved_swaps (sets.set_step true) sets.set_names ((set_law true).steps kinds.SetRw refl).swaps s (set_rw_effect a) (set_rw_effect b) d e apart (set_rw_unnamed a e na) (set_rw_unnamed b d nb))
   swaps_at (state.FlagEw s) a b d e apart na nb = ap state.FlagEw (moved_swaps (flags.flag_step false) flags.flag_names ((flag_law false).steps kinds.FlagEw refl).swaps s (flag_ew_effect a) (flag_ew_effect b) d e apart (flag_ew_unnamed a e na) (flag_ew_unnamed b d nb))
@@ -214,9 +215,9 @@ module _ {S E : Type 0} {has : Kind → Bool} {too_deep : Kind → List Field �
   swaps_at (state.MapRr s) a b d e apart na nb = ap state.MapRr (moved_swaps (map_step has initial step) (map_names has names) ((map_law inner owed true).steps kinds.MapRr refl).swaps s (map_rr_effect a) (map_rr_effect b) d e apart (map_rr_unnamed a e na) (map_rr_unnamed b d nb))
 
   held_at : (s : LayerState S) (d : Dot) (e : LayerEffect E) (x : Dot) → layer_holds holds (moves s d e) x ≡ true → (layer_holds holds s x || same_dot d x) ≡ true
-  held_at (state.CounterPn s) d e x h = moved_held pn_step holds_none (pn_law.steps kinds.CounterPn refl).held s d (counter_pn_effect e) x h
+  held_at (state.CounterPn s) d e x h = moved_held pn_step no_dot (pn_law.steps kinds.CounterPn refl).held s d (counter_pn_effect e) x h
   held_at (state.CounterFat s) d e x h = moved_held fat_step is_kept (fat_law.steps kinds.CounterFat refl).held s d (counter_fat_effect e) x h
-  held_at (state.SetGo s) d e x h = moved_held set.go_step set.go_holds (set_go_law.steps kinds.SetGo refl).held s d (set_go_effect e) x h
+  held_at (state.SetGo s) d e x h = moved_held set.go_step no_dot (set_go_law.steps kinds.SetGo refl).held s d (set_go_effect e) x h
   held_at (state.SetAw s) d e x h = moved_held (sets.set_step false) keeps_dot ((set_law false).steps kinds.SetAw refl).held s d (set_aw_effect e) x h
   held_at (state.SetRw s) d e x h = moved_held (sets.set_step true) keeps_dot ((set_law true).steps kinds.SetRw refl).held s d (set_rw_effect e) x h
   held_at (state.FlagEw s) d e x h = moved_held (flags.flag_step false) is_kept ((flag_law false).steps kinds.FlagEw refl).held s d (flag_ew_effect e) x h

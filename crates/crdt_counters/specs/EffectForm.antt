@@ -19,10 +19,10 @@ use Rattle.crdt_core.proofs.SetsLaws.{or_none}
 use Rattle.crdt_core.specs.EffectForm.{SpellsEffects}
 use Rattle.crdt_core.specs.Stands.{StandsIn, have_update, NamesStand}
 use Rattle.crdt_core.proofs.StandsLaws.{stands_behind, dots_stand}
-use Rattle.crdt_meanings.specs.CounterPn.{names_none}
 use Rattle.crdt_meanings.specs.CounterFat.{fat_names}
 use Rattle.crdt_meanings.specs.declared.counters.FatEffect.{FatEffect}
 use Rattle.crdt_meanings.specs.declared.counters.FatEffect.TheVariants.{Amount, Reset}
+use Rattle.crdt_meanings.specs.Without.{no_dot}
 
 -- from -2^31 to 2^31
 abbrev pub is_amount_number : ℤ → Bool
@@ -120,7 +120,7 @@ pn_spells has = record { form = λ k h. amount_form }
 abbrev pub fat_spells : (has : Kind → Bool) → SpellsEffects has is_of_kind can_put_fat is_fat_spelled fat_spelling (λ k. fat_at)
 fat_spells has = record { form = λ k h. fat_form }
 
-pub pn_stands : NamesStand is_amount_number names_none amount_sets amount_spelling
+pub pn_stands : NamesStand is_amount_number no_dot amount_sets amount_spelling
 pn_stands = record { exact = λ e d can. refl; stands = λ e d can h. absurd (false≢true h) }
 
 fat_exact : (e : FatEffect) (d : Dot) → fat_names e d ≡ have_update (fat_sets e) d

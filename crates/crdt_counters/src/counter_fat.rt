@@ -2,10 +2,10 @@ ghost use Rattle.std.specs.Prelude.{◌≡◌, pos, false, IfOk, OnOk};
 ghost use Rattle.std.specs.FinMap.{empty};
 ghost use Rattle.crdt_core.specs.Kept.{is_kept, keeps_none};
 ghost use Rattle.crdt_meanings.specs.CounterMeaning.{counter_meaning};
-ghost use Rattle.crdt_meanings.specs.CounterPn.{no_stamp};
 ghost use Rattle.crdt_meanings.specs.CounterFat.{fat_has, fat_step, fat_made, fat_value, fat_names};
 ghost use Rattle.crdt_counters.specs.EffectForm.{is_of_kind, can_put_fat, is_fat_spelled, fat_sets, fat_spelling, fat_at, fat_spells, fat_stands};
 ghost use Rattle.crdt_meanings.proofs.FatLaw.{fat_law, fat_in_maps, fat_resets};
+ghost use Rattle.crdt_meanings.specs.Without.{no_stamp};
 
 use crate::amounts::{amount_of, total_of};
 use crate::fat_form::FatForm;

@@ -1,8 +1,9 @@
 ghost use Rattle.std.specs.Prelude.{◌≡◌, pos, false};
 ghost use Rattle.crdt_meanings.specs.CounterMeaning.{counter_meaning};
-ghost use Rattle.crdt_meanings.specs.CounterPn.{pn_has, pn_step, pn_made, pn_value, no_stamp, names_none, holds_none, is_zero};
+ghost use Rattle.crdt_meanings.specs.CounterPn.{pn_has, pn_step, pn_made, pn_value, is_zero};
 ghost use Rattle.crdt_counters.specs.EffectForm.{is_of_kind, is_amount_number, amount_sets, amount_spelling, amount_at, pn_spells, pn_stands};
 ghost use Rattle.crdt_meanings.proofs.PnLaw.{pn_law, pn_in_maps, pn_resets};
+ghost use Rattle.crdt_meanings.specs.Without.{no_stamp, no_dot};
 
 use crate::amount_form::AmountForm;
 use crate::amounts::{amount_of, sum};
@@ -36,9 +37,9 @@ impl Crdt for CounterPn {
 
     ghost meaning = { counter_meaning };
 
-    ghost names = { names_none };
+    ghost names = { no_dot };
 
-    ghost holds = { holds_none };
+    ghost holds = { no_dot };
 
     ghost laws = { pn_law };
 

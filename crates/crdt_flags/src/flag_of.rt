@@ -2,9 +2,10 @@ ghost use Rattle.std.specs.Prelude.{◌≡◌, false, Option, Bool, OnOk};
 ghost use Rattle.std.specs.FinMap.{empty};
 ghost use Rattle.crdt_core.specs.Kept.{kept_step, is_kept, keeps_none};
 ghost use Rattle.crdt_meanings.specs.FlagMeaning.{flag_meaning};
-ghost use Rattle.crdt_meanings.specs.Flags.{flag_kind, flag_has, flag_step, flag_value, kind_made, no_stamp, flag_names};
+ghost use Rattle.crdt_meanings.specs.Flags.{flag_kind, flag_has, flag_step, flag_value, kind_made, flag_names};
 ghost use Rattle.crdt_flags.specs.EffectForm.{is_of_kind, can_put_flag, is_flag_spelled, flag_sets, flag_spelling, flag_at, flag_spells, flag_stands};
 ghost use Rattle.crdt_meanings.proofs.FlagLaws.{flag_law, flag_in_maps, flag_resets};
+ghost use Rattle.crdt_meanings.specs.Without.{no_stamp};
 
 use crate::FlagEffect;
 use crate::effect::effect_of;

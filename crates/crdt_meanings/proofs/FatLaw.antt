@@ -26,8 +26,8 @@ use Rattle.crdt_core.specs.Kept.{KeptAt, dots_if, is_kept, keeps_none}
 use Rattle.crdt_core.proofs.KeptKinds.{pairs, with_pair, kept_keeps_steps, state_entries}
 use Rattle.crdt_meanings.specs.CounterMeaning.{amount, total_by, total, counter_meaning}
 use Rattle.crdt_meanings.proofs.Totals.{total_same, counter_orderless}
-use Rattle.crdt_meanings.specs.CounterPn.{no_stamp}
 use Rattle.crdt_meanings.specs.CounterFat.{fat_has, fat_out, fat_own, fat_step, fat_made, fat_value, fat_names}
+use Rattle.crdt_meanings.specs.Without.{no_stamp}
 
 -- what an act puts at its dot
 abbrev given : Act → Option ℤ

@@ -24,7 +24,8 @@ use Rattle.crdt_core.specs.Kept.{KeptAt, dots_if, is_kept, keeps_none}
 use Rattle.crdt_core.proofs.KeptKinds.{pairs, stays, holding, any_pairs, kept_keeps_steps, state_entries}
 use Rattle.crdt_core.proofs.WinsLaw.{undoes, add_stays, remove_stays, add_wins_same, remove_wins_same}
 use Rattle.crdt_meanings.specs.FlagMeaning.{enables, disables, flag_meaning}
-use Rattle.crdt_meanings.specs.Flags.{flag_kind, flag_has, flag_out, disable_own, flag_own, flag_step, flag_made, kind_made, flag_value, no_stamp, flag_names}
+use Rattle.crdt_meanings.specs.Flags.{flag_kind, flag_has, flag_out, disable_own, flag_own, flag_step, flag_made, kind_made, flag_value, flag_names}
+use Rattle.crdt_meanings.specs.Without.{no_stamp}
 
 -- what an act puts at its dot
 abbrev flag_given : Bool → Act → Option Bool

@@ -20,7 +20,8 @@ use Rattle.crdt_core.proofs.Confluence.{confluence}
 use Rattle.crdt_core.specs.Texts.{text_cmp, text_cmp_total, text_cmp_exact, same_text, is_in, ascending, in_ascending, is_marked, nothing_beside}
 use Rattle.crdt_meanings.specs.SetMeaning.{added_by, added, go_meaning}
 use Rattle.crdt_meanings.proofs.SetMeaningLaws.{go_orderless}
-use Rattle.crdt_meanings.specs.SetGo.{has_none, Grown, go_has, with_each, go_step, go_made, go_value, go_stamp, go_names, go_holds}
+use Rattle.crdt_meanings.specs.SetGo.{has_none, Grown, go_has, with_each, go_step, go_made, go_value}
+use Rattle.crdt_meanings.specs.Without.{no_stamp, no_dot}
 
 abbrev stands : Grown → List ℕ → Bool
 stands s q = is_some (get s q)
@@ -44,7 +45,7 @@ stands_each (x ∷ xs) s q =
 turned : (a b c : Bool) → (b || (a || c)) ≡ (a || (b || c))
 turned a b c = grind arith
 
-go_steps : (k : Kind) → KeepsSteps empty go_step (made_by go_made k) go_names go_holds
+go_steps : (k : Kind) → KeepsSteps empty go_step (made_by go_made k) no_dot no_dot
 go_steps k = record {
   swaps = λ s a b d e apart na nb. same_grown _ _ (λ q.
       stands_each b (with_each s a) q ∙ ap (λ c. is_in b q || c) (stands_each a s q) ∙ turned (is_in a q) (is_in b q) (stands s q)
@@ -68,11 +69,11 @@ go_means k us = ap (λ s. Words (keys s)) (same_grown _ _ (λ q. stands_after k 
 leaf : IsLeaf SetGo
 leaf l = refl
 
-pub go_law : KeepsLaw go_has (λ k p. false) (λ k. empty) go_step go_made go_value go_stamp go_meaning go_names go_holds
+pub go_law : KeepsLaw go_has (λ k p. false) (λ k. empty) go_step go_made go_value no_stamp go_meaning no_dot no_dot
 go_law = record {
   means = λ k us has h fit stamped. go_means k us;
   stamps = λ k u us has h fit stamped. no_stamp_due (λ k p. false) k (subst IsLeaf (sym (same_kind_is k SetGo has)) leaf) (ap (λ l. same_kind l RegisterLww) (same_kind_is k SetGo has)) u us fit;
-  confluent = λ k us vs has. confluence empty go_step (made_by go_made k) go_names go_holds (go_steps k) us vs;
+  confluent = λ k us vs has. confluence empty go_step (made_by go_made k) no_dot no_dot (go_steps k) us vs;
   orderless = λ k us vs has s. go_orderless k us vs s;
   unread = λ k s t p a n has reads. refl;
   steps = λ k has. go_steps k;
@@ -86,5 +87,5 @@ go_in_maps = record {
   flat = λ k p has out. refl;
 }
 
-pub go_resets : ResetsWhatIsLeft go_has (λ k p. false) (λ k. empty) go_step go_made has_none go_names
+pub go_resets : ResetsWhatIsLeft go_has (λ k p. false) (λ k. empty) go_step go_made has_none no_dot
 go_resets = never_resets SetGo refl

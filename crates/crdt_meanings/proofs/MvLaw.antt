@@ -27,9 +27,10 @@ use Rattle.crdt_core.proofs.Members.{In, clash, none_of}
 use Rattle.crdt_core.specs.Wins.{lives}
 use Rattle.crdt_core.proofs.WinsLaw.{undoes, same_truth, lives_on, stays_lives, stays_if, not_stays, adds_takes, any_by}
 use Rattle.crdt_meanings.specs.RegisterMeaning.{text_of, remains, mv_meaning}
-use Rattle.crdt_meanings.specs.RegisterMv.{mv_has, mv_out, mv_own, mv_step, mv_made_on, mv_made, mv_value, mv_stamp, mv_names}
+use Rattle.crdt_meanings.specs.RegisterMv.{mv_has, mv_out, mv_own, mv_step, mv_made_on, mv_made, mv_value, mv_names}
 use Rattle.crdt_meanings.specs.Sorted.{sorted}
 use Rattle.crdt_meanings.proofs.SortedLaws.{sorted_same}
+use Rattle.crdt_meanings.specs.Without.{no_stamp}
 
 -- no act of a register removes but a reset
 abbrev removes : Act → Bool
@@ -125,7 +126,7 @@ mv_orderless k us vs s = ap Words (sorted_same _ _ (map_same (λ u. text_of u.ac
 leaf : IsLeaf RegisterMv
 leaf l = refl
 
-pub mv_law : KeepsLaw mv_has (λ k p. false) (λ k. empty) mv_step mv_made mv_value mv_stamp mv_meaning mv_names is_kept
+pub mv_law : KeepsLaw mv_has (λ k p. false) (λ k. empty) mv_step mv_made mv_value no_stamp mv_meaning mv_names is_kept
 mv_law = record {
   means = λ k us has h fit stamped. mv_means k us h;
   stamps = λ k u us has h fit stamped. no_stamp_due (λ k p. false) k (subst IsLeaf (sym (same_kind_is k RegisterMv has)) leaf) (ap (λ l. same_kind l RegisterLww) (same_kind_is k RegisterMv has)) u us fit;

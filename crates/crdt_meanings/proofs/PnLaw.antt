@@ -25,7 +25,8 @@ use Rattle.crdt_core.specs.Leaves.{IsLeaf, same_kind_is, first_fits, rest_fits, 
 use Rattle.crdt_core.proofs.Confluence.{confluence}
 use Rattle.crdt_meanings.specs.CounterMeaning.{amount, total, counter_meaning}
 use Rattle.crdt_meanings.proofs.Totals.{counter_orderless, nothing_wraps}
-use Rattle.crdt_meanings.specs.CounterPn.{is_zero, pn_has, pn_step, pn_made, pn_value, no_stamp, names_none, holds_none}
+use Rattle.crdt_meanings.specs.CounterPn.{is_zero, pn_has, pn_step, pn_made, pn_value}
+use Rattle.crdt_meanings.specs.Without.{no_stamp, no_dot}
 
 abbrev deep : Kind → List Field → Bool
 deep k p = false
@@ -57,7 +58,7 @@ swapped s a b =
     let turned : ((s +ℤ a) +ℤ b) ≡ ((s +ℤ b) +ℤ a) = omega (arith, ints) in
     int_wrap-add_left w128 (s +ℤ a) b ∙ ap (int_wrap w128) turned ∙ sym (int_wrap-add_left w128 (s +ℤ b) a)
 
-pn_steps : (k : Kind) → KeepsSteps (pos 0) pn_step (made_by pn_made k) names_none holds_none
+pn_steps : (k : Kind) → KeepsSteps (pos 0) pn_step (made_by pn_made k) no_dot no_dot
 pn_steps k = record {
   swaps = λ s a b d e apart na nb. swapped s a b;
   named = λ s u d h. absurd (true≢false (sym h));
@@ -65,11 +66,11 @@ pn_steps k = record {
   none_held = λ x. refl;
 }
 
-pub pn_law : KeepsLaw pn_has (λ k p. false) (λ k. pos 0) pn_step pn_made pn_value no_stamp counter_meaning names_none holds_none
+pub pn_law : KeepsLaw pn_has (λ k p. false) (λ k. pos 0) pn_step pn_made pn_value no_stamp counter_meaning no_dot no_dot
 pn_law = record {
   means = λ k us has h fit stamped. subst (λ l. all_fit deep l us ≡ true → pn_value (state_after (pos 0) pn_step (made_by pn_made l) us) ≡ counter_meaning l us) (sym (same_kind_is k CounterPn has)) (pn_means us) fit;
   stamps = λ k u us has h fit stamped. no_stamp_due deep k (subst IsLeaf (sym (same_kind_is k CounterPn has)) leaf) (ap (λ l. same_kind l RegisterLww) (same_kind_is k CounterPn has)) u us fit;
-  confluent = λ k us vs has. confluence (pos 0) pn_step (made_by pn_made k) names_none holds_none (pn_steps k) us vs;
+  confluent = λ k us vs has. confluence (pos 0) pn_step (made_by pn_made k) no_dot no_dot (pn_steps k) us vs;
   orderless = λ k us vs has. counter_orderless k us vs;
   unread = λ k s t p a n has reads. refl;
   steps = λ k has. pn_steps k;
@@ -83,5 +84,5 @@ pn_in_maps = record {
   flat = λ k p has out. refl;
 }
 
-pub pn_resets : ResetsWhatIsLeft pn_has deep (λ k. pos 0) pn_step pn_made is_zero names_none
+pub pn_resets : ResetsWhatIsLeft pn_has deep (λ k. pos 0) pn_step pn_made is_zero no_dot
 pn_resets = never_resets CounterPn refl

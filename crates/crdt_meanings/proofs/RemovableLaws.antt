@@ -34,7 +34,8 @@ use Rattle.crdt_meanings.specs.SetMeaning.{adds, removes, added, set_meaning}
 use Rattle.crdt_meanings.proofs.SetMeaningLaws.{in_added, set_orderless}
 use Rattle.crdt_meanings.specs.Elements.{Elements, lacks_all, at, take_named, named_at, passing, names_dot, keeps_dot, shows}
 use Rattle.crdt_meanings.proofs.ElementSteps.{dots_at, at-take_named, take_swaps, take_held, keeps_none, at_none, names_kept, lists_named, dots_named}
-use Rattle.crdt_meanings.specs.Sets.{set_kind, set_has, named_of, remove_own, set_own, set_step, set_made, kind_made, set_value, no_stamp, set_names}
+use Rattle.crdt_meanings.specs.Sets.{set_kind, set_has, named_of, remove_own, set_own, set_step, set_made, kind_made, set_value, set_names}
+use Rattle.crdt_meanings.specs.Without.{no_stamp}
 
 -- what an act puts of an element
 abbrev set_given : Bool → List ℕ → Act → Option Bool

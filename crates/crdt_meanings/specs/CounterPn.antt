@@ -1,5 +1,5 @@
 -- The states and effects of the counter whose updates stay.
-use Rattle.std.specs.Prelude.{ℕ, Bool, false, List, Option, None, ℤ, pos, negsuc, ◌==◌, ◌+ℤ◌}
+use Rattle.std.specs.Prelude.{ℕ, Bool, false, List, ℤ, pos, negsuc, ◌==◌, ◌+ℤ◌}
 use Rattle.std.specs.Int.{int_wrap, w128}
 use Rattle.site_vector.specs.declared.ids.Dot.{Dot}
 use Rattle.crdt_core.specs.declared.kind.Kind.{Kind}
@@ -22,15 +22,6 @@ pn_made k s p a now = amount a
 
 abbrev pub pn_value : ℤ → Value
 pn_value s = Int s
-
-abbrev pub no_stamp : {E : Type 0} → E → Option ℕ
-no_stamp e = None
-
-abbrev pub names_none : ℤ → Dot → Bool
-names_none e d = false
-
-abbrev pub holds_none : ℤ → Dot → Bool
-holds_none s d = false
 
 abbrev pub is_zero : ℤ → Bool
 is_zero (pos n) = n == 0

@@ -56,8 +56,5 @@ abbrev pub flag_value : Bool → KeptAt Bool → Value
 flag_value false s = Flag (has_marked s)
 flag_value true s = Flag (has_marked s && not (has_unmarked s))
 
-abbrev pub no_stamp : FlagEffect → Option ℕ
-no_stamp e = None
-
 abbrev pub flag_names : FlagEffect → Dot → Bool
 flag_names e d = has_dot (flag_out e) d

@@ -14,3 +14,4 @@ pub mod SetGo
 pub mod SetMeaning
 pub mod Sets
 pub mod Sorted
+pub mod Without

@@ -46,8 +46,5 @@ texts_kept s = map (λ e. e.1) (entries s)
 abbrev pub mv_value : KeptAt (List ℕ) → Value
 mv_value s = Words (sorted (texts_kept s))
 
-abbrev pub mv_stamp : MvEffect → Option ℕ
-mv_stamp e = None
-
 abbrev pub mv_names : MvEffect → Dot → Bool
 mv_names e d = has_dot (mv_out e) d

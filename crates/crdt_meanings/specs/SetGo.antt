@@ -1,5 +1,5 @@
 -- The states and effects of the set that only grows.
-use Rattle.std.specs.Prelude.{ℕ, Bool, false, List, [], ◌∷◌, Option, None, length, ◌==◌}
+use Rattle.std.specs.Prelude.{ℕ, Bool, List, [], ◌∷◌, length, ◌==◌}
 use Rattle.std.specs.FinMap.{FinMap, insert, keys}
 use Rattle.site_vector.specs.declared.ids.Dot.{Dot}
 use Rattle.crdt_core.specs.declared.kind.Kind.{Kind}
@@ -34,12 +34,3 @@ go_made k s p a now = ascending (added_by a)
 
 abbrev pub go_value : Grown → Value
 go_value s = Words (keys s)
-
-abbrev pub go_stamp : List (List ℕ) → Option ℕ
-go_stamp e = None
-
-abbrev pub go_names : List (List ℕ) → Dot → Bool
-go_names e d = false
-
-abbrev pub go_holds : Grown → Dot → Bool
-go_holds s d = false

@@ -55,8 +55,5 @@ kind_made k m p a now = set_made m a
 abbrev pub set_value : Bool → Elements → Value
 set_value removes_win m = Words (passing (shows removes_win) m)
 
-abbrev pub no_stamp : SetEffect → Option ℕ
-no_stamp e = None
-
 abbrev pub set_names : SetEffect → Dot → Bool
 set_names e d = names_dot (named_of e) d

@@ -2,10 +2,11 @@ ghost use Rattle.std.specs.Prelude.{◌≡◌, false};
 ghost use Rattle.std.specs.FinMap.{empty};
 ghost use Rattle.crdt_core.specs.Kept.{is_kept, keeps_none};
 ghost use Rattle.crdt_meanings.specs.RegisterMeaning.{mv_meaning};
-ghost use Rattle.crdt_meanings.specs.RegisterMv.{mv_has, mv_step, mv_made, mv_value, mv_stamp, mv_names};
+ghost use Rattle.crdt_meanings.specs.RegisterMv.{mv_has, mv_step, mv_made, mv_value, mv_names};
 ghost use Rattle.crdt_registers.specs.EffectForm.{is_of_kind};
 ghost use Rattle.crdt_registers.specs.MvForm.{can_put_mv, is_mv_spelled, mv_sets, mv_spelling, mv_at, mv_spells, mv_stands};
 ghost use Rattle.crdt_meanings.proofs.MvLaw.{mv_law, mv_in_maps, mv_resets};
+ghost use Rattle.crdt_meanings.specs.Without.{no_stamp};
 
 use crate::MvEffect;
 use crate::mv_effect::effect_of;
@@ -37,7 +38,7 @@ impl Crdt for RegisterMv {
 
     ghost value_of = { mv_value };
 
-    ghost stamp_of = { mv_stamp };
+    ghost stamp_of = { no_stamp };
 
     ghost meaning = { mv_meaning };
 

@@ -18,11 +18,11 @@ use Rattle.crdt_core.specs.DotSet.{has_dot}
 use Rattle.crdt_core.specs.Stands.{StandsIn, have_update, NamesStand}
 use Rattle.crdt_core.proofs.StandsLaws.{stands_behind, list_stands, dots_stand}
 use Rattle.crdt_meanings.specs.Elements.{names_dot}
-use Rattle.crdt_meanings.specs.SetGo.{go_names}
 use Rattle.crdt_meanings.specs.Sets.{set_names}
 use Rattle.crdt_meanings.specs.declared.sets.Named.{Named}
 use Rattle.crdt_meanings.specs.declared.sets.SetEffect.{SetEffect}
 use Rattle.crdt_meanings.specs.declared.sets.SetEffect.TheVariants.{Add, Remove, Reset}
+use Rattle.crdt_meanings.specs.Without.{no_dot}
 
 abbrev pub has_some : {A : Type 0} → List A → Bool
 has_some [] = false
@@ -178,7 +178,7 @@ go_spells has = record { form = λ k h. texts_form }
 abbrev pub set_spells : (has : Kind → Bool) → SpellsEffects has is_of_kind can_put_set is_set_spelled set_spelling (λ k. set_at)
 set_spells has = record { form = λ k h. set_form }
 
-pub go_stands : NamesStand can_put_texts go_names texts_sets texts_spelling
+pub go_stands : NamesStand can_put_texts no_dot texts_sets texts_spelling
 go_stands = record { exact = λ e d can. refl; stands = λ e d can h. absurd (false≢true h) }
 
 list_exact : (ns : List Named) (d : Dot) → names_dot ns d ≡ have_update (list_sets ns) d

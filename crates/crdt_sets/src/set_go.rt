@@ -2,9 +2,10 @@ ghost use Rattle.std.specs.Prelude.{◌≡◌, false, IfOk};
 ghost use Rattle.std.specs.FinMap.{empty};
 ghost use Rattle.crdt_core.specs.Texts.{ascending};
 ghost use Rattle.crdt_meanings.specs.SetMeaning.{go_meaning, added_by};
-ghost use Rattle.crdt_meanings.specs.SetGo.{go_has, go_step, go_made, go_value, go_stamp, go_names, go_holds, has_none};
+ghost use Rattle.crdt_meanings.specs.SetGo.{go_has, go_step, go_made, go_value, has_none};
 ghost use Rattle.crdt_sets.specs.EffectForm.{is_of_kind, can_put_texts, are_texts_spelled, texts_sets, texts_spelling, texts_at, go_spells, go_stands};
 ghost use Rattle.crdt_meanings.proofs.GoLaw.{go_law, go_in_maps, go_resets};
+ghost use Rattle.crdt_meanings.specs.Without.{no_stamp, no_dot};
 
 use crate::TextSet;
 use crate::texts::{copy_set, copy_texts, in_order, insert_each};
@@ -33,13 +34,13 @@ impl Crdt for SetGo {
 
     ghost value_of = { go_value };
 
-    ghost stamp_of = { go_stamp };
+    ghost stamp_of = { no_stamp };
 
     ghost meaning = { go_meaning };
 
-    ghost names = { go_names };
+    ghost names = { no_dot };
 
-    ghost holds = { go_holds };
+    ghost holds = { no_dot };
 
     ghost laws = { go_law };
 
