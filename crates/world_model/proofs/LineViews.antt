@@ -17,8 +17,6 @@ use Rattle.world_model.specs.events.Bounds as told
 use Rattle.world_model.specs.events.Pending as pending
 use Rattle.world_model.specs.events.Fresh.{heard_from, heard_shown, known_shown}
 use Rattle.world_model.specs.lines.Bounds.{IsLeast}
-use Rattle.world_model.specs.events.Pending as doubt
-use Rattle.world_model.specs.events.Pending as downs
 use Rattle.world_model.specs.events.Streams as sends
 use Rattle.world_model.specs.rules.Lines.{call_of, step_shown, lines_of}
 use Rattle.world_model.specs.declared.step.Step.TheVariants as step
@@ -141,16 +139,16 @@ module _ {E : Type 0} where
   prepare_time_is [] p t = refl
   prepare_time_is (e ∷ run) p t = λ i. cond (same_part e.at p) ((ap (λ o. fate.prepare_time_after t o (step_shown run e.at e.event)) (prepare_time_is run p t) ∙ prepare_time_here run e.at t (pending.pending_time run p t) e.event) i) (prepare_time_is run p t i)
 
-  doubt_here : (run : List (Entry E)) (p : PartId) (t : TxId) (old : Bool) (event : Event E) → fate.doubt_after t old (step_shown run p event) ≡ doubt.doubt_after t old event
+  doubt_here : (run : List (Entry E)) (p : PartId) (t : TxId) (old : Bool) (event : Event E) → fate.doubt_after t old (step_shown run p event) ≡ pending.doubt_after t old event
   doubt_here run p t old (Refused asked IsDown) = refl
   doubt_here run p t old (Refused asked why) = refl
   doubt_here run p t old (Cut (Decided u c)) = refl
   doubt_here run p t old (Cut a) = refl
   doubt_here run p t old event = refl
 
-  pub doubt_is : (run : List (Entry E)) (p : PartId) (t : TxId) → fate.in_doubt (lines_of run) p t ≡ doubt.in_doubt run p t
+  pub doubt_is : (run : List (Entry E)) (p : PartId) (t : TxId) → fate.in_doubt (lines_of run) p t ≡ pending.in_doubt run p t
   doubt_is [] p t = refl
-  doubt_is (e ∷ run) p t = λ i. cond (same_part e.at p) ((ap (λ o. fate.doubt_after t o (step_shown run e.at e.event)) (doubt_is run p t) ∙ doubt_here run e.at t (doubt.in_doubt run p t) e.event) i) (doubt_is run p t i)
+  doubt_is (e ∷ run) p t = λ i. cond (same_part e.at p) ((ap (λ o. fate.doubt_after t o (step_shown run e.at e.event)) (doubt_is run p t) ∙ doubt_here run e.at t (pending.in_doubt run p t) e.event) i) (doubt_is run p t i)
 
   asks_here : (run : List (Entry E)) (p : PartId) (t : TxId) (event : Event E) → commit.asks_decide (step_shown run p event) t ≡ is_decide (attempt event) t
   asks_here run p t (Refused asked IsDown) = refl
@@ -163,16 +161,16 @@ module _ {E : Type 0} where
   asked_is [] t = refl
   asked_is (e ∷ run) t = λ i. (asks_here run e.at t e.event i || asked_is run t i)
 
-  down_here : (run : List (Entry E)) (p : PartId) (old : Bool) (event : Event E) → fate.down_after old (step_shown run p event) ≡ downs.down_after old event
+  down_here : (run : List (Entry E)) (p : PartId) (old : Bool) (event : Event E) → fate.down_after old (step_shown run p event) ≡ pending.down_after old event
   down_here run p old (Refused asked IsDown) = refl
   down_here run p old (Refused asked why) = refl
   down_here run p old (Cut (Decided u c)) = refl
   down_here run p old (Cut a) = refl
   down_here run p old event = refl
 
-  pub down_is : (run : List (Entry E)) (p : PartId) → fate.is_down (lines_of run) p ≡ downs.is_down run p
+  pub down_is : (run : List (Entry E)) (p : PartId) → fate.is_down (lines_of run) p ≡ pending.is_down run p
   down_is [] p = refl
-  down_is (e ∷ run) p = λ i. cond (same_part e.at p) ((ap (λ o. fate.down_after o (step_shown run e.at e.event)) (down_is run p) ∙ down_here run e.at (downs.is_down run p) e.event) i) (down_is run p i)
+  down_is (e ∷ run) p = λ i. cond (same_part e.at p) ((ap (λ o. fate.down_after o (step_shown run e.at e.event)) (down_is run p) ∙ down_here run e.at (pending.is_down run p) e.event) i) (down_is run p i)
 
   last_here : (run : List (Entry E)) (p : PartId) (old : Option TxId) (event : Event E) → restarts.decided_after old (step_shown run p event) ≡ resumed.decided_after old event
   last_here run p old (Refused asked IsDown) = refl

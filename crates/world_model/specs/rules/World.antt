@@ -9,7 +9,7 @@ use Rattle.world_model.specs.lines.Places.{partitions, first_of, home}
 use Rattle.world_model.specs.rules.Event.{Event, Began, Entry}
 use Rattle.crdt_core.specs.KindsOf.{Kinds}
 use Rattle.world_model.specs.rules.Partition.{PartState, new_part}
-use Rattle.world_model.specs.rules.Plan.{Plan, is_some_update, updates_at, WorldStep}
+use Rattle.world_model.specs.rules.Plan.{Plan, is_some_update, updates_at, WorldStep, IsNew}
 use Rattle.world_model.specs.events.Lawful.{IsLawfulWorld}
 use Rattle.world_model.specs.events.Logs.{LeavesLogs}
 use Rattle.world_model.specs.rules.Lines.{lines_of}
