@@ -205,7 +205,6 @@ pub trait Crdt {
         bytes: &[u8],
         at: usize,
     ) -> Result<(Self::Effect, usize), TakeError>
-        requires { at ≤ length bytes.now }
         ensures answer { Gives result (reading kind bytes.now at) }
         ensures end { IfOk result (λ x. x.1 ≤ length bytes.now) };
 }

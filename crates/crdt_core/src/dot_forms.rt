@@ -78,7 +78,6 @@ fn put_ascending(out: &mut Vec<u8>, d: &[Dot]) -> Result<(), AllocError>
 /// The first field that fails: `Short` where it is cut off, `Bad` where it is whole. An update that isn't
 /// above the one before it is `Bad` at its own first byte, once it is read.
 pub fn take_dots(alloc: Global, bytes: &[u8], at: usize) -> Result<(Dots, usize), TakeError>
-    requires { at ≤ length bytes.now }
     ensures answer { Gives result (dots_at bytes.now at) }
     ensures within { IfOk result (λ x. x.1 ≤ length bytes.now) }
 {
@@ -87,7 +86,6 @@ pub fn take_dots(alloc: Global, bytes: &[u8], at: usize) -> Result<(Dots, usize)
 }
 
 fn take_ascending(alloc: Global, bytes: &[u8], at: usize) -> Result<(ListOf<Dot>, usize), TakeError>
-    requires { at ≤ length bytes.now }
     ensures answer { Gives result (dots_at bytes.now at) }
     ensures ascending { IfOk result (λ x. IsAscending x.0) }
     ensures within { IfOk result (λ x. x.1 ≤ length bytes.now) }

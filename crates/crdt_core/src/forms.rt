@@ -37,7 +37,6 @@ pub fn put_tx(out: &mut Vec<u8>, tx: TxId) -> Result<(), AllocError>
 /// bounds: a site of 1 to 8, a partition of 1 to 16, a time of at most 2^62.
 #[tactic(auto, unfolding(crate::specs::Spelled::tx_at))]
 pub fn take_tx(bytes: &[u8], at: usize) -> Result<(TxId, usize), TakeError>
-    requires { at ≤ length bytes.now }
     ensures answer { result ≡ tx_at bytes.now at }
     ensures within { IfOk result (λ x. x.1 ≤ length bytes.now) }
 {
@@ -86,7 +85,6 @@ pub fn put_dot(out: &mut Vec<u8>, dot: Dot) -> Result<(), AllocError>
 /// bounds: those of the transaction, and a number of 1 to 256.
 #[tactic(auto, unfolding(crate::specs::Spelled::dot_at))]
 pub fn take_dot(bytes: &[u8], at: usize) -> Result<(Dot, usize), TakeError>
-    requires { at ≤ length bytes.now }
     ensures answer { result ≡ dot_at bytes.now at }
     ensures within { IfOk result (λ x. x.1 ≤ length bytes.now) }
 {
@@ -116,7 +114,6 @@ pub fn put_kind(out: &mut Vec<u8>, kind: Kind) -> Result<(), AllocError>
 ///
 /// At the place: `Short` where the bytes end there, `Bad` where the code isn't one from 1 to 11.
 pub fn take_kind(bytes: &[u8], at: usize) -> Result<(Kind, usize), TakeError>
-    requires { at ≤ length bytes.now }
     ensures answer { result ≡ kind_at bytes.now at }
     ensures within { IfOk result (λ x. x.1 ≤ length bytes.now) }
 {
@@ -133,7 +130,6 @@ pub fn take_kind(bytes: &[u8], at: usize) -> Result<(Kind, usize), TakeError>
 ///
 /// At the place: `Short` where the bytes end there, `Bad` where the number is out of its bounds.
 pub fn take_small(bytes: &[u8], at: usize, least: u8, most: u8) -> Result<(u8, usize), TakeError>
-    requires { at ≤ length bytes.now }
     ensures answer { result ≡ between_at 1 least most bytes.now at }
     ensures within { IfOk result (λ x. x.1 ≤ length bytes.now) }
     ensures low { IfOk result (λ x. least ≤ x.0) }

@@ -48,7 +48,6 @@ pub fn take_object<C: Crdt>(
     bytes: &[u8],
     at: usize,
 ) -> Result<(ObjectId, usize), TakeError>
-    requires { at ≤ length bytes.now }
     ensures answer { Gives result (object_at C.has bytes.now at) }
     ensures within { IfOk result (λ x. x.1 ≤ length bytes.now) }
 {

@@ -49,7 +49,6 @@ fn put_entries(out: &mut Vec<u8>, width: u8, v: &[u64]) -> Result<(), AllocError
 /// from 1 to 8.
 #[tactic(auto, unfolding(crate::specs::Spelled::vector_at))]
 pub fn take_vector(bytes: &[u8], at: usize) -> Result<(VTime, usize), TakeError>
-    requires { at ≤ length bytes.now }
     ensures answer { result ≡ vector_at bytes.now at }
     ensures within { IfOk result (λ x. x.1 ≤ length bytes.now) }
 {

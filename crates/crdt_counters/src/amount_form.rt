@@ -54,7 +54,6 @@ pub(crate) fn put_amount(out: &mut Vec<u8>, amount: i64) -> Result<(), AllocErro
 /// The amount at a place, and the place after it.
 #[tactic(auto, unfolding(crate::specs::EffectForm::amount_at))]
 pub(crate) fn take_amount(bytes: &[u8], at: usize) -> Result<(i64, usize), TakeError>
-    requires { at ≤ length bytes.now }
     ensures answer { result ≡ amount_at bytes.now at }
     ensures within { IfOk result (λ x. x.1 ≤ length bytes.now) }
 {

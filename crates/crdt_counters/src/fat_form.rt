@@ -70,7 +70,6 @@ fn put_marked_dots(out: &mut Vec<u8>, dots: &Dots) -> Result<(), AllocError>
 
 #[tactic(auto, unfolding(crate::specs::EffectForm::fat_at, crate::specs::EffectForm::fat_rest_at))]
 fn take_fat(alloc: Global, bytes: &[u8], at: usize) -> Result<(FatEffect, usize), TakeError>
-    requires { at ≤ length bytes.now }
     ensures answer { Gives result (fat_at bytes.now at) }
     ensures within { IfOk result (λ x. x.1 ≤ length bytes.now) }
 {

@@ -62,7 +62,6 @@ fn put_marked(out: &mut Vec<u8>, mark: u8, dots: &Dots) -> Result<(), AllocError
 
 #[tactic(auto, unfolding(crate::specs::EffectForm::flag_at))]
 fn take_flag(alloc: Global, bytes: &[u8], at: usize) -> Result<(FlagEffect, usize), TakeError>
-    requires { at ≤ length bytes.now }
     ensures answer { Gives result (flag_at bytes.now at) }
     ensures within { IfOk result (λ x. x.1 ≤ length bytes.now) }
 {

@@ -203,7 +203,7 @@ module _ {V : Type 0} (tag : ℕ) (one : number 1 tag ≡ tag ∷ []) (small : i
     fit = λ v good.
         let p = both_true (begins_with tag (spelling v)) (is_spelled v) good in
         and_true (begins_with tag (spelling v)) (fits v) p.0 (form.fit v p.1);
-    ends = λ bytes. ap (λ r. r >>= λ x. reading bytes (length bytes)) (tags.ends bytes);
+    ends = λ bytes at far. ap (λ r. r >>= λ x. reading bytes at) (tags.ends bytes at far);
     tells = opened_tells;
   }
 

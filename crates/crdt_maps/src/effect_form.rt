@@ -80,7 +80,6 @@ fn take_resets<I: Crdt>(
     bytes: &[u8],
     at: usize,
 ) -> Result<(ListOf<(Field, I::Effect)>, usize), TakeError>
-    requires { at ≤ length bytes.now }
     ensures answer { Gives result (list_at entry_below (reset_at (may_stand MapRr I.has) I.reading) bytes.now at) }
     ensures within { IfOk result (λ x. x.1 ≤ length bytes.now) }
 {
@@ -95,7 +94,6 @@ fn take_map<I: Crdt>(
     bytes: &[u8],
     at: usize,
 ) -> Result<(MapEffect<I::Effect>, usize), TakeError>
-    requires { at ≤ length bytes.now }
     ensures answer { Gives result (map_at drops I.has I.reading bytes.now at) }
     ensures within { IfOk result (λ x. x.1 ≤ length bytes.now) }
 {

@@ -43,7 +43,6 @@ fn take_field<I: Crdt>(
     bytes: &[u8],
     at: usize,
 ) -> Result<(Field, usize), TakeError>
-    requires { at ≤ length bytes.now }
     ensures answer { Gives result (field_at (may_stand outer I.has) bytes.now at) }
     ensures within { IfOk result (λ x. x.1 ≤ length bytes.now) }
     ensures known { IfOk result (λ x. I.has x.0.kind ≡ true) }
@@ -71,7 +70,6 @@ pub(crate) fn take_entry<I: Crdt>(
     bytes: &[u8],
     at: usize,
 ) -> Result<((Field, I::Effect), usize), TakeError>
-    requires { at ≤ length bytes.now }
     ensures answer { Gives result (entry_at (may_stand outer I.has) I.reading bytes.now at) }
     ensures within { IfOk result (λ x. x.1 ≤ length bytes.now) }
 {
@@ -102,7 +100,6 @@ fn take_opened<I: Crdt>(
     at: usize,
 ) -> Result<(I::Effect, usize), TakeError>
     requires known { IsTrue (I.has kind) }
-    requires within { at ≤ length bytes.now }
     ensures answer { Gives result (opened_at (reset_tag kind) (I.reading kind) bytes.now at) }
     ensures within { IfOk result (λ x. x.1 ≤ length bytes.now) }
 {
@@ -119,7 +116,6 @@ fn take_reset<I: Crdt>(
     bytes: &[u8],
     at: usize,
 ) -> Result<((Field, I::Effect), usize), TakeError>
-    requires { at ≤ length bytes.now }
     ensures answer { Gives result (reset_at (may_stand MapRr I.has) I.reading bytes.now at) }
     ensures within { IfOk result (λ x. x.1 ≤ length bytes.now) }
 {

@@ -42,7 +42,6 @@ impl Form for LwwForm {
 
 #[tactic(auto, unfolding(crate::specs::LwwForm::lww_at))]
 fn take_assigned(alloc: Global, bytes: &[u8], at: usize) -> Result<(Assigned, usize), TakeError>
-    requires { at ≤ length bytes.now }
     ensures answer { Gives result (lww_at bytes.now at) }
     ensures within { IfOk result (λ x. x.1 ≤ length bytes.now) }
 {

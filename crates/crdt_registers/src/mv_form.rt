@@ -74,7 +74,6 @@ fn put_reset(out: &mut Vec<u8>, dots: &Dots) -> Result<(), AllocError>
 
 #[tactic(auto, unfolding(crate::specs::MvForm::mv_at))]
 fn take_effect(alloc: Global, bytes: &[u8], at: usize) -> Result<(MvEffect, usize), TakeError>
-    requires { at ≤ length bytes.now }
     ensures answer { Gives result (mv_at bytes.now at) }
     ensures within { IfOk result (λ x. x.1 ≤ length bytes.now) }
 {
@@ -92,7 +91,6 @@ fn take_rest(
     bytes: &[u8],
     at: usize,
 ) -> Result<(MvEffect, usize), TakeError>
-    requires { at ≤ length bytes.now }
     ensures answer { Gives result (mv_rest_at mark bytes.now at) }
     ensures within { IfOk result (λ x. x.1 ≤ length bytes.now) }
 {
@@ -104,7 +102,6 @@ fn take_rest(
 }
 
 fn take_assign(alloc: Global, bytes: &[u8], at: usize) -> Result<(MvEffect, usize), TakeError>
-    requires { at ≤ length bytes.now }
     ensures answer { Gives result (mv_rest_at 0 bytes.now at) }
     ensures within { IfOk result (λ x. x.1 ≤ length bytes.now) }
 {

@@ -62,7 +62,6 @@ fn put_marked(out: &mut Vec<u8>, mark: u8, named: &[Named]) -> Result<(), AllocE
 
 #[tactic(auto, unfolding(crate::specs::EffectForm::set_at, crate::specs::EffectForm::set_rest_at))]
 fn take_set(alloc: Global, bytes: &[u8], at: usize) -> Result<(SetEffect, usize), TakeError>
-    requires { at ≤ length bytes.now }
     ensures answer { Gives result (set_at bytes.now at) }
     ensures within { IfOk result (λ x. x.1 ≤ length bytes.now) }
 {
@@ -80,7 +79,6 @@ fn take_set(alloc: Global, bytes: &[u8], at: usize) -> Result<(SetEffect, usize)
 }
 
 fn take_named(alloc: Global, bytes: &[u8], at: usize) -> Result<(ListOf<Named>, usize), TakeError>
-    requires { at ≤ length bytes.now }
     ensures answer { Gives result (named_list_at bytes.now at) }
     ensures within { IfOk result (λ x. x.1 ≤ length bytes.now) }
 {
@@ -93,7 +91,6 @@ fn take_some_named(
     bytes: &[u8],
     at: usize,
 ) -> Result<(ListOf<Named>, usize), TakeError>
-    requires { at ≤ length bytes.now }
     ensures answer { Gives result (checked_at has_some named_list_at bytes.now at) }
     ensures within { IfOk result (λ x. x.1 ≤ length bytes.now) }
 {

@@ -114,7 +114,7 @@ module _ (n : ℕ) (width : IsWidth n) where
         let same : big_number n (drop at bytes) ≡ v = ap (big_number n) spans.stands ∙ big_number-reads_back n v (drop end bytes) (lt_from v (256 ^ n) good) in
         rw (le, same, sym to) refl;
     fit = λ v good. good;
-    ends = λ bytes. cut_number bytes (length bytes) (omega (arith, width.some));
+    ends = λ bytes at far. cut_number bytes at (omega (arith, far, width.some));
     tells = number_tells;
   }
 
@@ -262,7 +262,7 @@ text_form = record {
       ∙ ap (λ b. cond b (bytes_at (length t) bytes (at + length len)) (Err (Bad at))) p.0
       ∙ second;
   fit = λ t good. good;
-  ends = λ bytes. ap (λ r. r >>= λ n. cond (nat_le n.0 256) (bytes_at n.0 bytes n.1) (Err (Bad (length bytes)))) ((number_form 2 width2).ends bytes);
+  ends = λ bytes at far. ap (λ r. r >>= λ n. cond (nat_le n.0 256) (bytes_at n.0 bytes n.1) (Err (Bad at))) ((number_form 2 width2).ends bytes at far);
   tells = text_tells;
 }
 
@@ -389,14 +389,14 @@ module _ {V : Type 0} (follows : V → V → Bool) (fits is_spelled : V → Bool
         let p = both_true (is_number 4 (length vs)) (are_members follows is_spelled vs) good in
         let q = both_true (are_in_order follows None vs) (list_all is_spelled vs) p.1 in
         and_true (are_in_order follows None vs) (list_all fits vs) q.0 (all_fit vs q.1);
-    ends = λ bytes. ap (λ r. r >>= λ n. members_at follows reading None n.0 bytes n.1) ((number_form 4 width4).ends bytes);
+    ends = λ bytes at far. ap (λ r. r >>= λ n. members_at follows reading None n.0 bytes n.1) ((number_form 4 width4).ends bytes at far);
     tells = let count = number_form 4 width4 in following_tells (number_at 4) (λ n. members_at follows reading None n) (steady_form count) count.tells (λ bytes at x ok le h. members_tells x.0 None);
   }
 
-  no_members_ends : (n : ℕ) → 0 < n → (bytes : List ℕ) → members_at follows reading None n bytes (length bytes) ≡ Err (Short (length bytes))
+  no_members_ends : (n : ℕ) → 0 < n → (bytes : List ℕ) (at : ℕ) → length bytes ≤ at → members_at follows reading None n bytes at ≡ Err (Short at)
   unfolding members_at
-  no_members_ends zero some bytes = absurd (omega (arith, some))
-  no_members_ends (suc n) some bytes = ap (λ r. r >>= λ first. members_at follows reading (Some first.0) n bytes first.1 >>= λ others. Ok (first.0 ∷ others.0, others.1)) (member.ends bytes)
+  no_members_ends zero some bytes at far = absurd (omega (arith, some))
+  no_members_ends (suc n) some bytes at far = ap (λ r. r >>= λ first. members_at follows reading (Some first.0) n bytes first.1 >>= λ others. Ok (first.0 ∷ others.0, others.1)) (member.ends bytes at far)
 
   -- n members, which no count stands before
   pub members_form : (n : ℕ) → 0 < n → IsForm (λ vs. eqb (length vs) n && are_members follows fits vs) (λ vs. eqb (length vs) n && are_members follows is_spelled vs) (flat_map spelling) (members_at follows reading None n)
@@ -430,7 +430,7 @@ checked_form {V} test fits is_spelled spelling reading form = record {
       let p = both_true (test v) (is_spelled v) good in
       ap (λ r. r >>= λ x. cond (test x.0) (Ok x) (Err (Bad at))) (form.again bytes at v end p.1 spans) ∙ ap (λ b. cond b (Ok (v, end)) (Err (Bad at))) p.0;
   fit = λ v good. let p = both_true (test v) (is_spelled v) good in and_true (test v) (fits v) p.0 (form.fit v p.1);
-  ends = λ bytes. ap (λ r. r >>= λ x. cond (test x.0) (Ok x) (Err (Bad (length bytes)))) (form.ends bytes);
+  ends = λ bytes at far. ap (λ r. r >>= λ x. cond (test x.0) (Ok x) (Err (Bad at))) (form.ends bytes at far);
   tells = checked_tells test reading (steady_form form) form.ends form.tells;
 }
 
@@ -453,7 +453,7 @@ then_form {V} {W} fits1 spelled1 spelling1 reading1 fits2 spelled2 spelling2 rea
       let second = (form2 x.0 p.0).again bytes mid x.1 end p.1 (spans_second bytes (spelling1 x.0) (spelling2 x.0 x.1) at end spans) in
       ap (λ r. r >>= λ v. reading2 v.0 bytes v.1 >>= λ w. Ok ((v.0, w.0), w.1)) first ∙ ap (λ r. r >>= λ w. Ok ((x.0, w.0), w.1)) second;
   fit = λ x good. let p = both_true (spelled1 x.0) (spelled2 x.0 x.1) good in and_true (fits1 x.0) (fits2 x.0 x.1) (form1.fit x.0 p.0) ((form2 x.0 p.0).fit x.1 p.1);
-  ends = λ bytes. ap (λ r. r >>= λ v. reading2 v.0 bytes v.1 >>= λ w. Ok ((v.0, w.0), w.1)) (form1.ends bytes);
+  ends = λ bytes at far. ap (λ r. r >>= λ v. reading2 v.0 bytes v.1 >>= λ w. Ok ((v.0, w.0), w.1)) (form1.ends bytes at far);
   tells = following_tells reading1 (λ v. mapped_at (λ w. (v, w)) (reading2 v)) (steady_form form1) form1.tells
       (λ bytes at x ok le h. mapped_tells (λ w. (x.0, w)) (reading2 x.0) (form2 x.0 (form1.found bytes at x.0 x.1 ok le h).0).tells);
 }
@@ -472,7 +472,7 @@ mapped_form {V} {W} made parts fits is_spelled spelling reading back forth form 
   again = λ bytes at w end good spans.
       ap (λ r. r >>= λ v. Ok (made v.0, v.1)) (form.again bytes at (parts w) end good spans) ∙ ap (λ x. Ok (x, end)) (back w);
   fit = λ w good. form.fit (parts w) good;
-  ends = λ bytes. ap (λ r. r >>= λ v. Ok (made v.0, v.1)) (form.ends bytes);
+  ends = λ bytes at far. ap (λ r. r >>= λ v. Ok (made v.0, v.1)) (form.ends bytes at far);
   tells = mapped_tells made reading form.tells;
 }
 

@@ -31,12 +31,12 @@ pub record TellsWhy {V : Type 0} (reading : List ℕ → ℕ → Read V) : Type 
   pub memory : (bytes : List ℕ) (at : ℕ) → IsBytes bytes → at ≤ length bytes → reading bytes at ≢ Err NoMemory
 
 -- fits: what a put takes; is_spelled: what has a spelling, which only want of a count can keep from what fits. Where no bytes
--- are left the first field is cut off, so that no spelling is empty.
+-- are left, at their end and beyond it, the first field is cut off, so that no spelling is empty.
 pub record IsForm {V : Type 0} (fits is_spelled : V → Bool) (spelling : V → List ℕ) (reading : List ℕ → ℕ → Read V) : Type 0 where
   pub found : (bytes : List ℕ) (at : ℕ) (v : V) (end : ℕ) → IsBytes bytes → at ≤ length bytes → reading bytes at ≡ Ok (v, end) → (is_spelled v ≡ true) × Spans bytes at (spelling v) end
   pub again : (bytes : List ℕ) (at : ℕ) (v : V) (end : ℕ) → is_spelled v ≡ true → Spans bytes at (spelling v) end → reading bytes at ≡ Ok (v, end)
   pub fit : (v : V) → is_spelled v ≡ true → fits v ≡ true
-  pub ends : (bytes : List ℕ) → reading bytes (length bytes) ≡ Err (Short (length bytes))
+  pub ends : (bytes : List ℕ) (at : ℕ) → length bytes ≤ at → reading bytes at ≡ Err (Short at)
   pub tells : TellsWhy reading
 
 -- no spelling begins that of another value

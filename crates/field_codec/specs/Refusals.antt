@@ -22,7 +22,7 @@ pub record IsSteady {V : Type 0} (reading : List ℕ → ℕ → Read V) : Type 
 module _ {V : Type 0} {fits is_spelled : V → Bool} {spelling : V → List ℕ} {reading : List ℕ → ℕ → Read V} (form : IsForm fits is_spelled spelling reading) where
   -- no spelling is empty
   pub some_spelled : (v : V) (s : List ℕ) → is_spelled v ≡ true → spelling v ≡ s → 0 < length s
-  some_spelled v [] good e = absurd (not_both (reading [] 0) (v, 0) (Short 0) (form.again [] 0 v 0 good (subst (λ s. Spans [] 0 s 0) (sym e) (spans_none [] 0 (omega arith)))) (form.ends []))
+  some_spelled v [] good e = absurd (not_both (reading [] 0) (v, 0) (Short 0) (form.again [] 0 v 0 good (subst (λ s. Spans [] 0 s 0) (sym e) (spans_none [] 0 (omega arith)))) (form.ends [] 0 (omega arith)))
   some_spelled v (b ∷ s) good e = omega arith
 
   pub steady_form : IsSteady reading
@@ -121,10 +121,10 @@ checked_steady {V} test reading s = record {
 
 -- the bytes up to a place end there
 abbrev pub IsCutAtEnd : {V : Type 0} → (List ℕ → ℕ → Read V) → Type 0
-IsCutAtEnd reading = (bytes : List ℕ) → reading bytes (length bytes) ≡ Err (Short (length bytes))
+IsCutAtEnd reading = (bytes : List ℕ) (at : ℕ) → length bytes ≤ at → reading bytes at ≡ Err (Short at)
 
 pub ends_at : {V : Type 0} (reading : List ℕ → ℕ → Read V) (ends : IsCutAtEnd reading) (bytes : List ℕ) (at : ℕ) → at ≤ length bytes → reading (take at bytes) at ≡ Err (Short at)
-ends_at reading ends bytes at le = subst (λ n. reading (take at bytes) n ≡ Err (Short n)) (length-take-le at bytes le) (ends (take at bytes))
+ends_at reading ends bytes at le = ends (take at bytes) at (omega (arith, length-take-le at bytes le))
 
 module _ {V : Type 0} (test : V → Bool) (reading : List ℕ → ℕ → Read V) (steady : IsSteady reading) (ends : IsCutAtEnd reading) where
   refused_here : (bytes : List ℕ) (at : ℕ) (x : V × ℕ) → IsBytes bytes → at ≤ length bytes → reading bytes at ≡ Ok x → test x.0 ≡ false → IsRefused (checked_at test reading) bytes at at

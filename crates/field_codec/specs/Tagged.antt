@@ -34,7 +34,7 @@ shape_form {V} {W} made fits is_spelled spelling reading made_fits made_is_spell
   fit = λ w good.
       let s = shape w good in
       ap made_fits (sym s.1) ∙ same_fits s.0 ∙ form.fit s.0 (sym (same_spelled s.0) ∙ ap made_is_spelled s.1 ∙ good);
-  ends = λ bytes. ap (λ r. r >>= λ v. Ok (made v.0, v.1)) (form.ends bytes);
+  ends = λ bytes at far. ap (λ r. r >>= λ v. Ok (made v.0, v.1)) (form.ends bytes at far);
   tells = mapped_tells made reading form.tells;
 }
 
@@ -57,8 +57,8 @@ within_form {V} {W} made parts test fits is_spelled spelling reading back spelle
       ∙ ap (λ x. cond (test x) (Ok (x, end)) (Err (Bad at))) (back w good)
       ∙ ap (λ b. cond b (Ok (w, end)) (Err (Bad at))) good;
   fit = λ w good. good;
-  ends = λ bytes. ap (λ r. (r >>= λ v. Ok (made v.0, v.1)) >>= λ x. cond (test x.0) (Ok x) (Err (Bad (length bytes)))) (form.ends bytes);
-  tells = checked_tells test (mapped_at made reading) (mapped_steady made reading (steady_form form)) (λ bytes. ap (λ r. r >>= λ v. Ok (made v.0, v.1)) (form.ends bytes)) (mapped_tells made reading form.tells);
+  ends = λ bytes at far. ap (λ r. (r >>= λ v. Ok (made v.0, v.1)) >>= λ x. cond (test x.0) (Ok x) (Err (Bad at))) (form.ends bytes at far);
+  tells = checked_tells test (mapped_at made reading) (mapped_steady made reading (steady_form form)) (λ bytes at far. ap (λ r. r >>= λ v. Ok (made v.0, v.1)) (form.ends bytes at far)) (mapped_tells made reading form.tells);
 }
 
 -- the tag is that of the value's shape
@@ -81,7 +81,7 @@ tagged_form {W} known tag fits is_spelled spelling reading all small form =
           let second = (form (tag w) (all w)).again bytes mid w end (and_true (eqb (tag w) (tag w)) (is_spelled w) (eq-eqb (tag w) (tag w) refl) good) (spans_second bytes (number 1 (tag w)) (spelling w) at end spans) in
           ap (λ r. r >>= λ t. reading t.0 bytes t.1) first ∙ second;
       fit = λ w good. (both_true (eqb (tag w) (tag w)) (fits w) ((form (tag w) (all w)).fit w (and_true (eqb (tag w) (tag w)) (is_spelled w) (eq-eqb (tag w) (tag w) refl) good))).1;
-      ends = λ bytes. ap (λ r. r >>= λ t. reading t.0 bytes t.1) (tags.ends bytes);
+      ends = λ bytes at far. ap (λ r. r >>= λ t. reading t.0 bytes t.1) (tags.ends bytes at far);
       tells = following_tells (checked_at known (number_at 1)) reading (steady_form tags) tags.tells
           (λ bytes at x ok le h. (form x.0 (both_true (known x.0) (is_number 1 x.0) (tags.found bytes at x.0 x.1 ok le h).0).0).tells);
     }

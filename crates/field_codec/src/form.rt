@@ -41,14 +41,14 @@ pub trait Form {
     ///
     /// # Errors
     ///
-    /// The first field that fails: `Short` where it is cut off, `Bad` where it is whole.
+    /// The first field that fails: `Short` where it is cut off, `Bad` where it is whole. At a place beyond the end it is
+    /// cut off.
     fn take(
         &self,
         alloc: Global,
         bytes: &[u8],
         at: usize,
     ) -> Result<(Self::Value, usize), TakeError>
-        requires { at ≤ length bytes.now }
         ensures answer { Gives result (reading self.now bytes.now at) }
         ensures within { IfOk result (λ x. x.1 ≤ length bytes.now) };
 

@@ -58,7 +58,6 @@ pub fn take_list<F: Form>(
     bytes: &[u8],
     at: usize,
 ) -> Result<(ListOf<F::Value>, usize), TakeError>
-    requires { at ≤ length bytes.now }
     ensures answer { Gives result (list_at (F.follows form.now) (F.reading form.now) bytes.now at) }
     ensures within { IfOk result (λ x. x.1 ≤ length bytes.now) }
 {

@@ -68,13 +68,12 @@ pub fn put_u64(out: &mut Vec<u8>, n: u64) -> Result<(), AllocError>
 ///
 /// # Errors
 ///
-/// `Short` at the place where the bytes end there.
+/// `Short` at the place where the bytes end there or before it.
 pub fn take_u8(bytes: &[u8], at: usize) -> Result<(u8, usize), TakeError>
-    requires { at ≤ length bytes.now }
     ensures answer { result ≡ number_at 1 bytes.now at }
     ensures within { IfOk result (λ x. x.1 ≤ length bytes.now) }
 {
-    if bytes.len() - at < 1 {
+    if bytes.len().saturating_sub(at) < 1 {
         return Err(TakeError::Short { at });
     }
     Ok((bytes[at], at + 1))
@@ -86,11 +85,10 @@ pub fn take_u8(bytes: &[u8], at: usize) -> Result<(u8, usize), TakeError>
 ///
 /// `Short` at the place where the bytes end before.
 pub fn take_u16(bytes: &[u8], at: usize) -> Result<(u16, usize), TakeError>
-    requires { at ≤ length bytes.now }
     ensures answer { result ≡ number_at 2 bytes.now at }
     ensures within { IfOk result (λ x. x.1 ≤ length bytes.now) }
 {
-    if bytes.len() - at < 2 {
+    if bytes.len().saturating_sub(at) < 2 {
         return Err(TakeError::Short { at });
     }
     Ok((BigEndian::read_u16(&bytes[at..]), at + 2))
@@ -102,11 +100,10 @@ pub fn take_u16(bytes: &[u8], at: usize) -> Result<(u16, usize), TakeError>
 ///
 /// `Short` at the place where the bytes end before.
 pub fn take_u32(bytes: &[u8], at: usize) -> Result<(u32, usize), TakeError>
-    requires { at ≤ length bytes.now }
     ensures answer { result ≡ number_at 4 bytes.now at }
     ensures within { IfOk result (λ x. x.1 ≤ length bytes.now) }
 {
-    if bytes.len() - at < 4 {
+    if bytes.len().saturating_sub(at) < 4 {
         return Err(TakeError::Short { at });
     }
     Ok((BigEndian::read_u32(&bytes[at..]), at + 4))
@@ -118,11 +115,10 @@ pub fn take_u32(bytes: &[u8], at: usize) -> Result<(u32, usize), TakeError>
 ///
 /// `Short` at the place where the bytes end before.
 pub fn take_u64(bytes: &[u8], at: usize) -> Result<(u64, usize), TakeError>
-    requires { at ≤ length bytes.now }
     ensures answer { result ≡ number_at 8 bytes.now at }
     ensures within { IfOk result (λ x. x.1 ≤ length bytes.now) }
 {
-    if bytes.len() - at < 8 {
+    if bytes.len().saturating_sub(at) < 8 {
         return Err(TakeError::Short { at });
     }
     Ok((BigEndian::read_u64(&bytes[at..]), at + 8))

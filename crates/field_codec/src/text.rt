@@ -139,7 +139,6 @@ pub fn put_text(out: &mut Vec<u8>, t: &Text) -> Result<(), AllocError>
 /// the place of the length where it is more than 256, and at that of the bytes where they aren't UTF-8.
 #[tactic(auto, unfolding(crate::specs::Reading::text_at))]
 pub fn take_text(alloc: Global, bytes: &[u8], at: usize) -> Result<(Text, usize), TakeError>
-    requires { at ≤ length bytes.now }
     ensures answer { Gives result (text_at bytes.now at) }
     ensures within { IfOk result (λ x. x.1 ≤ length bytes.now) }
 {

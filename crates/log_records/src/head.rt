@@ -30,7 +30,6 @@ pub(crate) fn put_head(out: &mut Vec<u8>, head: Head) -> Result<(), AllocError>
 
 #[tactic(auto, unfolding(crate::specs::Heads::head_at))]
 pub(crate) fn take_head(bytes: &[u8], at: usize) -> Result<(Head, usize), TakeError>
-    requires { at ≤ length bytes.now }
     ensures answer { result ≡ head_at bytes.now at }
     ensures within { IfOk result (λ x. x.1 ≤ length bytes.now) }
 {

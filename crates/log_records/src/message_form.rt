@@ -65,7 +65,6 @@ pub fn take_message<C: Crdt>(
     bytes: &[u8],
     at: usize,
 ) -> Result<(Message<C::Effect>, usize), TakeError>
-    requires { at ≤ length bytes.now }
     ensures answer { Gives result (message_at C.has C.reading bytes.now at) }
     ensures fit { IfOk result (λ x. can_put_message C.has C.is_of C.can_put x.0 ≡ true) }
     ensures within { IfOk result (λ x. x.1 ≤ length bytes.now) }
@@ -94,7 +93,6 @@ pub(crate) fn take_batch<C: Crdt>(
     bytes: &[u8],
     at: usize,
 ) -> Result<(Message<C::Effect>, usize), TakeError>
-    requires { at ≤ length bytes.now }
     ensures answer { Gives result (batch_at C.has C.reading bytes.now at) }
     ensures within { IfOk result (λ x. x.1 ≤ length bytes.now) }
 {

@@ -101,7 +101,6 @@ pub(crate) fn take_parts<C: Crdt>(
     bytes: &[u8],
     at: usize,
 ) -> Result<(ListOf<Part<C::Effect>>, usize), TakeError>
-    requires { at ≤ length bytes.now }
     ensures answer { Gives result (parts_at C.has C.reading from bytes.now at) }
     ensures within { IfOk result (λ x. x.1 ≤ length bytes.now) }
 {
@@ -123,7 +122,6 @@ pub(crate) fn take_some_parts<C: Crdt>(
     bytes: &[u8],
     at: usize,
 ) -> Result<(ListOf<Part<C::Effect>>, usize), TakeError>
-    requires { at ≤ length bytes.now }
     ensures answer { Gives result (checked_at has_some (parts_at C.has C.reading from) bytes.now at) }
     ensures within { IfOk result (λ x. x.1 ≤ length bytes.now) }
 {

@@ -150,7 +150,6 @@ pub(crate) fn take_record<C: Crdt>(
     bytes: &[u8],
     at: usize,
 ) -> Result<(Record<C::Effect>, usize), TakeError>
-    requires { at ≤ length bytes.now }
     ensures answer { Gives result (record_at C.has C.reading bytes.now at) }
     ensures within { IfOk result (λ x. x.1 ≤ length bytes.now) }
 {
@@ -165,7 +164,6 @@ fn take_behind_code<C: Crdt>(
     bytes: &[u8],
     at: usize,
 ) -> Result<(Record<C::Effect>, usize), TakeError>
-    requires { at ≤ length bytes.now }
     ensures answer { Gives result (behind_code_at C.has C.reading code bytes.now at) }
     ensures within { IfOk result (λ x. x.1 ≤ length bytes.now) }
 {
@@ -199,7 +197,6 @@ fn take_prepare<C: Crdt>(
     bytes: &[u8],
     at: usize,
 ) -> Result<(Record<C::Effect>, usize), TakeError>
-    requires { at ≤ length bytes.now }
     ensures answer { Gives result (mapped_at prepare_of (prepared_at C.has C.reading) bytes.now at) }
     ensures within { IfOk result (λ x. x.1 ≤ length bytes.now) }
 {
@@ -220,7 +217,6 @@ fn take_prepare<C: Crdt>(
 
 /// The transaction and the commit vector at a place, and the place after them.
 fn take_ended(bytes: &[u8], at: usize) -> Result<((TxId, VTime), usize), TakeError>
-    requires { at ≤ length bytes.now }
     ensures answer { result ≡ ended_at bytes.now at }
     ensures within { IfOk result (λ x. x.1 ≤ length bytes.now) }
 {

@@ -67,7 +67,6 @@ impl<C: Crdt> Form for UpdateForm<C> {
 ///
 /// At the place: `Short` where it is cut off, `Bad` where it isn't from 1 to 256.
 fn take_index(bytes: &[u8], at: usize) -> Result<(u16, usize), TakeError>
-    requires { at ≤ length bytes.now }
     ensures answer { result ≡ between_at 2 1 256 bytes.now at }
     ensures within { IfOk result (λ x. x.1 ≤ length bytes.now) }
 {
@@ -107,7 +106,6 @@ pub(crate) fn take_updates<C: Crdt>(
     bytes: &[u8],
     at: usize,
 ) -> Result<(ListOf<Upd<C::Effect>>, usize), TakeError>
-    requires { at ≤ length bytes.now }
     ensures answer { Gives result (updates_at C.has C.reading bytes.now at) }
     ensures within { IfOk result (λ x. x.1 ≤ length bytes.now) }
 {
@@ -123,7 +121,6 @@ fn take_any_updates<C: Crdt>(
     bytes: &[u8],
     at: usize,
 ) -> Result<(ListOf<Upd<C::Effect>>, usize), TakeError>
-    requires { at ≤ length bytes.now }
     ensures answer { Gives result (list_at index_below (update_at C.has C.reading) bytes.now at) }
     ensures within { IfOk result (λ x. x.1 ≤ length bytes.now) }
 {
