@@ -1,5 +1,5 @@
 -- The bytes of a layer's effects are those of its kinds.
-use Rattle.std.proofs.Common.{◌≡◌, ℕ, Bool, true, false, ◌&&◌, List, refl}
+use Rattle.std.proofs.Common.{◌≡◌, ℕ, Bool, true, false, ◌&&◌, List, [], refl}
 use Rattle.std.specs.Prelude.{is_some}
 use Rattle.std.proofs.lemmas.Bool.{false≢true}
 use Rattle.field_codec.specs.Reading.{Read, mapped_at}
@@ -18,22 +18,22 @@ use Rattle.crdt_meanings.specs.declared.registers.MvEffect.{MvEffect}
 use Rattle.crdt_meanings.specs.declared.maps.MapEffect.{MapEffect}
 use Rattle.crdt_any.specs.declared.effect.LayerEffect.{LayerEffect}
 use Rattle.crdt_any.specs.declared.effect.LayerEffect.TheVariants as effect
-use Rattle.crdt_core.specs.EffectForm.{SpellsEffects}
+use Rattle.crdt_core.specs.EffectForm.{HasSpelling, SpellsEffects}
 use Rattle.crdt_core.specs.Stands.{StandsIn, have_update, NamesStand}
 use Rattle.crdt_meanings.specs.CounterPn.{pn_has}
 use Rattle.crdt_meanings.specs.CounterFat.{fat_has}
 use Rattle.crdt_counters.specs.EffectForm.{is_amount_number, amount_sets, amount_spelling, amount_at, pn_spells, can_put_fat, fat_sets, is_fat_spelled, fat_spelling, fat_at, fat_spells, pn_stands, fat_stands}
 use Rattle.crdt_meanings.specs.SetGo as set
 use Rattle.crdt_meanings.specs.Sets.{set_has}
-use Rattle.crdt_sets.specs.EffectForm.{can_put_texts, are_texts_spelled, texts_spelling, texts_at, texts_sets, set_sets, go_spells as set_go_spells, can_put_set, is_set_spelled, set_spelling, set_at, set_spells, go_stands as set_go_stands, set_stands}
+use Rattle.crdt_sets.specs.EffectForm.{can_put_texts, are_texts_spelled, texts_spelling, texts_at, texts_sets, own_texts, set_sets, set_texts, go_spells as set_go_spells, can_put_set, is_set_spelled, set_spelling, set_at, set_spells, go_stands as set_go_stands, set_stands}
 use Rattle.crdt_meanings.specs.Flags as flags
 use Rattle.crdt_flags.specs.EffectForm.{can_put_flag, flag_sets, is_flag_spelled, flag_spelling, flag_at, flag_spells, flag_stands}
 use Rattle.crdt_meanings.specs.RegisterLww.{lww_has}
 use Rattle.crdt_meanings.specs.RegisterMv.{mv_has}
-use Rattle.crdt_registers.specs.LwwForm.{can_put_lww, lww_sets, is_lww_spelled, lww_spelling, lww_at, lww_spells, lww_stands}
-use Rattle.crdt_registers.specs.MvForm.{can_put_mv, is_mv_spelled, mv_spelling, mv_at, mv_spells, mv_sets, mv_stands}
+use Rattle.crdt_registers.specs.LwwForm.{can_put_lww, lww_sets, lww_texts, is_lww_spelled, lww_spelling, lww_at, lww_spells, lww_stands}
+use Rattle.crdt_registers.specs.MvForm.{can_put_mv, is_mv_spelled, mv_spelling, mv_at, mv_spells, mv_sets, mv_texts, mv_stands}
 use Rattle.crdt_meanings.specs.Maps.{map_has}
-use Rattle.crdt_maps.specs.EffectForm.{map_can_put, map_is_spelled, map_spelling, map_at, map_spells, map_sets, map_stands}
+use Rattle.crdt_maps.specs.EffectForm.{map_can_put, map_is_spelled, map_spelling, map_at, map_spells, map_sets, map_texts, map_stands}
 use Rattle.crdt_any.specs.Layer.{layer_has, layer_names}
 use Rattle.crdt_any.specs.Cases.{counter_pn_effect, counter_fat_effect, set_go_effect, set_aw_effect, set_rw_effect, flag_ew_effect, flag_dw_effect, register_lww_effect, register_mv_effect, map_go_effect, map_rr_effect}
 
@@ -103,6 +103,16 @@ layer_sets sets (effect.RegisterMv e) = mv_sets e
 layer_sets sets (effect.MapGo e) = map_sets sets e
 layer_sets sets (effect.MapRr e) = map_sets sets e
 
+abbrev pub layer_texts : {E : Type 0} → (E → List (List ℕ)) → LayerEffect E → List (List ℕ)
+layer_texts texts (effect.SetGo e) = own_texts e
+layer_texts texts (effect.SetAw e) = set_texts e
+layer_texts texts (effect.SetRw e) = set_texts e
+layer_texts texts (effect.RegisterLww e) = lww_texts e
+layer_texts texts (effect.RegisterMv e) = mv_texts e
+layer_texts texts (effect.MapGo e) = map_texts texts e
+layer_texts texts (effect.MapRr e) = map_texts texts e
+layer_texts texts e = []
+
 abbrev pub layer_reading : {E : Type 0} → (Kind → Bool) → (Kind → List ℕ → ℕ → Read E) → Kind → List ℕ → ℕ → Read (LayerEffect E)
 layer_reading has reading kinds.CounterPn = mapped_at effect.CounterPn amount_at
 layer_reading has reading kinds.CounterFat = mapped_at effect.CounterFat fat_at
@@ -116,8 +126,8 @@ layer_reading has reading kinds.RegisterMv = mapped_at effect.RegisterMv mv_at
 layer_reading has reading kinds.MapGo = mapped_at effect.MapGo (map_at false has reading)
 layer_reading has reading kinds.MapRr = mapped_at effect.MapRr (map_at true has reading)
 
-module _ {E : Type 0} {has : Kind → Bool} {is_of : Kind → E → Bool} {can_put is_spelled : E → Bool} {spelling : E → List ℕ} {reading : Kind → List ℕ → ℕ → Read E}
-    (forms : SpellsEffects has is_of can_put is_spelled spelling reading) where
+module _ {E : Type 0} {has : Kind → Bool} {is_of : Kind → E → Bool} {can_put is_spelled : E → Bool} {sets : E → List (List Dot)} {texts : E → List (List ℕ)} {spelling : E → List ℕ} {reading : Kind → List ℕ → ℕ → Read E}
+    (forms : SpellsEffects has is_of can_put is_spelled sets texts spelling reading) where
   abbrev fits_at : Kind → LayerEffect E → Bool
   fits_at k e = layer_is_of k e && layer_can_put has is_of can_put spelling e
 
@@ -181,8 +191,21 @@ module _ {E : Type 0} {has : Kind → Bool} {is_of : Kind → E → Bool} {can_p
   form_at kinds.MapGo = shape_form effect.MapGo (map_can_put false has is_of can_put spelling) (map_is_spelled false has is_of is_spelled spelling) (map_spelling false spelling) (map_at false has reading) (fits_at kinds.MapGo) (spelled_at kinds.MapGo) (layer_spelling spelling) (λ v. refl) (λ v. refl) (λ v. refl) map_go_shape ((map_spells forms false (map_has false)).form kinds.MapGo refl)
   form_at kinds.MapRr = shape_form effect.MapRr (map_can_put true has is_of can_put spelling) (map_is_spelled true has is_of is_spelled spelling) (map_spelling true spelling) (map_at true has reading) (fits_at kinds.MapRr) (spelled_at kinds.MapRr) (layer_spelling spelling) (λ v. refl) (λ v. refl) (λ v. refl) map_rr_shape ((map_spells forms true (map_has true)).form kinds.MapRr refl)
 
-  abbrev pub layer_spells : SpellsEffects layer_has layer_is_of (layer_can_put has is_of can_put spelling) (layer_is_spelled has is_of is_spelled spelling) (layer_spelling spelling) (layer_reading has reading)
-  layer_spells = record { form = λ k is. form_at k }
+  pub layer_all : HasSpelling (layer_can_put has is_of can_put spelling) (layer_is_spelled has is_of is_spelled spelling) (layer_sets sets) (layer_texts texts) (layer_spelling spelling)
+  layer_all (effect.CounterPn e) = (pn_spells pn_has).all e
+  layer_all (effect.CounterFat e) = (fat_spells fat_has).all e
+  layer_all (effect.SetGo e) = (set_go_spells set.go_has).all e
+  layer_all (effect.SetAw e) = (set_spells (set_has false)).all e
+  layer_all (effect.SetRw e) = (set_spells (set_has true)).all e
+  layer_all (effect.FlagEw e) = (flag_spells (flags.flag_has false)).all e
+  layer_all (effect.FlagDw e) = (flag_spells (flags.flag_has true)).all e
+  layer_all (effect.RegisterLww e) = (lww_spells lww_has).all e
+  layer_all (effect.RegisterMv e) = (mv_spells mv_has).all e
+  layer_all (effect.MapGo e) = (map_spells forms false (map_has false)).all e
+  layer_all (effect.MapRr e) = (map_spells forms true (map_has true)).all e
+
+  abbrev pub layer_spells : SpellsEffects layer_has layer_is_of (layer_can_put has is_of can_put spelling) (layer_is_spelled has is_of is_spelled spelling) (layer_sets sets) (layer_texts texts) (layer_spelling spelling) (layer_reading has reading)
+  layer_spells = record { form = λ k is. form_at k; all = layer_all }
 
 module _ {E : Type 0} (has : Kind → Bool) (is_of : Kind → E → Bool) {can_put : E → Bool} {names : E → Dot → Bool} {sets : E → List (List Dot)} {spelling : E → List ℕ} (inner : NamesStand can_put names sets spelling) where
   -- both of one effect

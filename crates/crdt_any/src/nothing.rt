@@ -46,6 +46,8 @@ impl Crdt for Nothing {
 
     ghost sets = { λ e. [] };
 
+    ghost texts = { λ e. [] };
+
     ghost spelling = { λ e. [] };
 
     ghost reading = { λ k bytes at. Err (Bad at) };

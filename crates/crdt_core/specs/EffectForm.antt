@@ -1,6 +1,7 @@
 -- How the effects of a kind are spelled as bytes.
-use Rattle.std.specs.Prelude.{◌≡◌, ℕ, Bool, true, false, ◌&&◌, ◌==◌, List, [], ◌∷◌}
+use Rattle.std.specs.Prelude.{◌≡◌, ℕ, ◌^◌, ◌<◌, Bool, true, false, ◌&&◌, ◌==◌, List, [], ◌∷◌, length}
 use Rattle.std.specs.List.{list_all}
+use Rattle.field_codec.specs.Spelling.{is_text}
 use Rattle.field_codec.specs.Reading.{Read}
 use Rattle.field_codec.specs.Lawful.{IsForm}
 use Rattle.site_vector.specs.declared.ids.Dot.{Dot}
@@ -11,9 +12,19 @@ use Rattle.crdt_core.specs.declared.operation.Act.{Act}
 use Rattle.crdt_core.specs.Seen.{is_reset}
 use Rattle.crdt_core.specs.Spelled.{is_dot, ascend}
 
--- The effects of each kind that the type has are a form; is_of: the effect is one of the kind.
-pub record SpellsEffects {E : Type 0} (has : Kind → Bool) (is_of : Kind → E → Bool) (can_put is_spelled : E → Bool) (spelling : E → List ℕ) (reading : Kind → List ℕ → ℕ → Read E) : Type 0 where
+-- each of the sets ascends
+abbrev pub sets_ascend : List (List Dot) → Bool
+sets_ascend sets = list_all ascend sets
+
+-- What fits has a spelling, where its sets of updates ascend and its texts are texts, as each `Dots` and each `Text` does. Only
+-- where its bytes would be 2^32 or more need it have none, as each member of a list has a byte.
+abbrev pub HasSpelling : {V : Type 0} → (V → Bool) → (V → Bool) → (V → List (List Dot)) → (V → List (List ℕ)) → (V → List ℕ) → Type 0
+HasSpelling {V} fits is_spelled sets texts spelling = (v : V) → fits v ≡ true → sets_ascend (sets v) ≡ true → list_all is_text (texts v) ≡ true → length (spelling v) < 2 ^ 32 → is_spelled v ≡ true
+
+-- The effects of each kind that the type has are a form, and what can be put has a spelling; is_of: the effect is one of the kind.
+pub record SpellsEffects {E : Type 0} (has : Kind → Bool) (is_of : Kind → E → Bool) (can_put is_spelled : E → Bool) (sets : E → List (List Dot)) (texts : E → List (List ℕ)) (spelling : E → List ℕ) (reading : Kind → List ℕ → ℕ → Read E) : Type 0 where
   pub form : (k : Kind) → has k ≡ true → IsForm (λ e. is_of k e && can_put e) (λ e. is_of k e && is_spelled e) spelling (reading k)
+  pub all : HasSpelling can_put is_spelled sets texts spelling
 
 -- each update that a state holds has a spelling
 abbrev pub HoldsSpelled : {S : Type 0} → (S → Dot → Bool) → S → Type 0
@@ -33,10 +44,6 @@ begins_with n (b ∷ bytes) = b == n
 abbrev pub asks_reset : List Field → Act → Bool
 asks_reset [] a = is_reset a
 asks_reset (f ∷ p) a = false
-
--- each of the sets ascends
-abbrev pub sets_ascend : List (List Dot) → Bool
-sets_ascend sets = list_all ascend sets
 
 -- an effect of the kind that can be put, whose sets of updates ascend; that of a reset begins as the kind's resets do
 pub record IsReady {E : Type 0} (is_of : Kind → E → Bool) (can_put : E → Bool) (sets_of : E → List (List Dot)) (spelling : E → List ℕ) (k : Kind) (p : List Field) (a : Act) (e : E) : Type 0 where

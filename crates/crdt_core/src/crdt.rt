@@ -79,11 +79,14 @@ pub trait Crdt {
     /// fields are in order. That its sets of updates are in order is not asked, since their type keeps them so.
     ghost can_put: { Self.Effect → Bool };
 
-    /// What has a spelling. Of what can be put, it is meant to be that in which no list is too long to be counted; no law says so.
+    /// What has a spelling. Of what can be put, all has one whose bytes are fewer than 2^32 (`all` of `spells`).
     ghost is_spelled: { Self.Effect → Bool };
 
     /// The sets of updates that stand in an effect's bytes, in turn.
     ghost sets: { Self.Effect → List (List Dot) };
+
+    /// The texts that stand in an effect's bytes.
+    ghost texts: { Self.Effect → List (List ℕ) };
 
     /// The bytes of an effect.
     ghost spelling: { Self.Effect → List ℕ };
@@ -91,8 +94,8 @@ pub trait Crdt {
     /// What reading an effect of a kind at a place answers.
     ghost reading: { Kind → List ℕ → ℕ → Read Self.Effect };
 
-    /// Each effect is spelled in one way, and none begins another of its kind.
-    ghost spells: { SpellsEffects has is_of can_put is_spelled spelling reading };
+    /// Each effect is spelled in one way, none begins another of its kind, and what can be put has a spelling.
+    ghost spells: { SpellsEffects has is_of can_put is_spelled sets texts spelling reading };
 
     /// An effect names exactly the updates in the sets that stand in its bytes.
     ghost stands: { NamesStand can_put names sets spelling };

@@ -3,6 +3,7 @@ ghost use Rattle.field_codec.specs.Lawful.{IsForm, IsPrefixFree};
 ghost use Rattle.crdt_core.specs.declared.kind.Kind.{Kind};
 ghost use Rattle.crdt_core.specs.Spelled.{is_tx, tx, tx_at, is_dot, dot, dot_at, is_dots, dots, dots_at, is_vector, vector, vector_at, kind, kind_at, is_object, object, object_at};
 ghost use Rattle.crdt_core.specs.SpelledLaws.{are_ascending};
+ghost use Rattle.crdt_core.specs.EffectForm.{HasSpelling};
 ghost use Rattle.crdt_core.specs.Stands.{NamesStand};
 
 use crate::Crdt;
@@ -27,9 +28,11 @@ pub fn law_forms()
 
 /// The same of the effects of each kind that a type has: reading answers an effect of the kind and the place after it
 /// exactly where its spelling stands at the place, each refusal means what it says, and no spelling begins that of another of
-/// the kind. An effect names exactly the updates in the sets that stand in its bytes.
+/// the kind. What can be put has a spelling but where that would be 2^32 bytes or more. An effect names exactly the updates in
+/// the sets that stand in its bytes.
 pub fn law_effects<C: Crdt>()
     ensures form { (k : Kind) → C.has k ≡ true → IsForm (λ e. C.is_of k e && C.can_put e) (λ e. C.is_of k e && C.is_spelled e) C.spelling (C.reading k) }
+    ensures all { HasSpelling C.can_put C.is_spelled C.sets C.texts C.spelling }
     ensures named { NamesStand C.can_put C.names C.sets C.spelling }
     ensures apart { (k : Kind) → C.has k ≡ true → IsPrefixFree (λ e. C.is_of k e && C.is_spelled e) C.spelling }
 {}

@@ -1,4 +1,4 @@
-ghost use Rattle.std.specs.Prelude.{◌≡◌, pos, false, IfOk, OnOk};
+ghost use Rattle.std.specs.Prelude.{◌≡◌, pos, false, IfOk, OnOk, []};
 ghost use Rattle.std.specs.FinMap.{empty};
 ghost use Rattle.crdt_core.specs.Kept.{is_kept, keeps_none};
 ghost use Rattle.crdt_meanings.specs.CounterMeaning.{counter_meaning};
@@ -58,6 +58,8 @@ impl Crdt for CounterFat {
     ghost is_spelled = { is_fat_spelled };
 
     ghost sets = { fat_sets };
+
+    ghost texts = { λ e. [] };
 
     ghost spelling = { fat_spelling };
 

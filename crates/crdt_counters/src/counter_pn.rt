@@ -1,4 +1,4 @@
-ghost use Rattle.std.specs.Prelude.{◌≡◌, pos, false};
+ghost use Rattle.std.specs.Prelude.{◌≡◌, pos, false, []};
 ghost use Rattle.crdt_meanings.specs.CounterMeaning.{counter_meaning};
 ghost use Rattle.crdt_meanings.specs.CounterPn.{pn_has, pn_step, pn_made, pn_value, is_zero};
 ghost use Rattle.crdt_counters.specs.EffectForm.{is_of_kind, is_amount_number, amount_sets, amount_spelling, amount_at, pn_spells, pn_stands};
@@ -56,6 +56,8 @@ impl Crdt for CounterPn {
     ghost is_spelled = { is_amount_number };
 
     ghost sets = { amount_sets };
+
+    ghost texts = { λ e. [] };
 
     ghost spelling = { amount_spelling };
 

@@ -10,7 +10,8 @@ use Rattle.crdt_core.specs.DotSet.{has_dot}
 use Rattle.crdt_core.specs.Spelled.{are_dots, is_dots, dots, dots_at}
 use Rattle.crdt_core.specs.SpelledLaws.{marked_at, marked_form, dots_held_form}
 use Rattle.crdt_core.proofs.SetsLaws.{or_none}
-use Rattle.crdt_core.specs.EffectForm.{SpellsEffects}
+use Rattle.crdt_core.specs.EffectForm.{HasSpelling, SpellsEffects}
+use Rattle.crdt_core.proofs.HaveSpelling.{dots_behind}
 use Rattle.crdt_core.specs.Stands.{NamesStand}
 use Rattle.crdt_core.proofs.StandsLaws.{stands_behind, dots_stand}
 use Rattle.crdt_meanings.specs.Flags.{flag_out, flag_names}
@@ -64,8 +65,11 @@ flag_form = marked_form 2 (omega arith) marked_flag flag_mark flag_out are_dots 
 abbrev pub is_of_kind : Kind → FlagEffect → Bool
 is_of_kind k e = true
 
-abbrev pub flag_spells : (has : Kind → Bool) → SpellsEffects has is_of_kind can_put_flag is_flag_spelled flag_spelling (λ k. flag_at)
-flag_spells has = record { form = λ k h. flag_form }
+pub flag_all : HasSpelling can_put_flag is_flag_spelled flag_sets (λ e. []) flag_spelling
+flag_all e can ascends words short = dots_behind (number 1 (flag_mark e)) (flag_out e) can ascends short
+
+abbrev pub flag_spells : (has : Kind → Bool) → SpellsEffects has is_of_kind can_put_flag is_flag_spelled flag_sets (λ e. []) flag_spelling (λ k. flag_at)
+flag_spells has = record { form = λ k h. flag_form; all = flag_all }
 
 pub flag_stands : NamesStand can_put_flag flag_names flag_sets flag_spelling
 flag_stands = record {

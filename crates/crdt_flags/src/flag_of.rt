@@ -1,4 +1,4 @@
-ghost use Rattle.std.specs.Prelude.{◌≡◌, false, Option, Bool, OnOk};
+ghost use Rattle.std.specs.Prelude.{◌≡◌, false, Option, Bool, OnOk, []};
 ghost use Rattle.std.specs.FinMap.{empty};
 ghost use Rattle.crdt_core.specs.Kept.{kept_step, is_kept, keeps_none};
 ghost use Rattle.crdt_meanings.specs.FlagMeaning.{flag_meaning};
@@ -66,6 +66,8 @@ impl<const DISABLES_WIN: bool> Crdt for FlagOf<DISABLES_WIN> {
     ghost is_spelled = { is_flag_spelled };
 
     ghost sets = { flag_sets };
+
+    ghost texts = { λ e. [] };
 
     ghost spelling = { flag_spelling };
 

@@ -1,11 +1,11 @@
 -- The bytes of an assign to the register that the last writer wins: its stamp, and its text.
-use Rattle.std.specs.Prelude.{ℕ, Bool, true, ◌&&◌, List, [], ◌++◌, refl}
+use Rattle.std.specs.Prelude.{ℕ, Bool, true, ◌&&◌, List, [], ◌∷◌, ◌++◌, refl}
 use Rattle.std.proofs.Common.{arith}
 use Rattle.std.proofs.lemmas.Bool.{false≢true}
 use Rattle.field_codec.specs.Spelling.{number, text, is_text}
 use Rattle.field_codec.specs.Reading.{Read, text_at, then_at, mapped_at}
 use Rattle.field_codec.specs.Lawful.{IsForm}
-use Rattle.field_codec.specs.FormLaws.{any_text_form, width8, then_form, mapped_form, both_true}
+use Rattle.field_codec.specs.FormLaws.{any_text_form, width8, then_form, mapped_form, both_true, and_true}
 use Rattle.site_vector.specs.declared.ids.Dot.{Dot}
 use Rattle.crdt_core.specs.declared.kind.Kind.{Kind}
 use Rattle.crdt_core.specs.Spelled.{is_between, between_at}
@@ -22,6 +22,9 @@ can_put_lww e = is_between 0 last_stamp e.stamp
 
 abbrev pub lww_sets : Assigned → List (List Dot)
 lww_sets e = []
+
+abbrev pub lww_texts : Assigned → List (List ℕ)
+lww_texts e = e.text ∷ []
 
 abbrev pub is_lww_spelled : Assigned → Bool
 is_lww_spelled e = is_between 0 last_stamp e.stamp && is_text e.text
@@ -43,8 +46,8 @@ lww_form =
     let law = mapped_form assigned_of (λ e. (e.stamp, e.text)) _ _ _ _ (λ _. refl) (λ _ _. refl) whole in
     record { found = law.found; again = law.again; fit = λ e good. (both_true (stamps e.stamp) (is_text e.text) good).0; ends = law.ends; tells = law.tells }
 
-abbrev pub lww_spells : (has : Kind → Bool) → SpellsEffects has is_of_kind can_put_lww is_lww_spelled lww_spelling (λ k. lww_at)
-lww_spells has = record { form = λ k h. lww_form }
+abbrev pub lww_spells : (has : Kind → Bool) → SpellsEffects has is_of_kind can_put_lww is_lww_spelled lww_sets lww_texts lww_spelling (λ k. lww_at)
+lww_spells has = record { form = λ k h. lww_form; all = λ e can ascends words short. and_true (can_put_lww e) (is_text e.text) can (both_true (is_text e.text) true words).0 }
 
 pub lww_stands : NamesStand can_put_lww lww_names lww_sets lww_spelling
 lww_stands = record { exact = λ e d can. refl; stands = λ e d can h. absurd (false≢true h) }

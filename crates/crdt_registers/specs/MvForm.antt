@@ -6,13 +6,14 @@ use Rattle.std.proofs.lemmas.Bool.{false≢true, eqb-true, or_cases}
 use Rattle.field_codec.specs.Spelling.{number, is_number, text, is_text}
 use Rattle.field_codec.specs.Reading.{Read, text_at, then_at, mapped_at}
 use Rattle.field_codec.specs.Lawful.{IsForm}
-use Rattle.field_codec.specs.FormLaws.{any_text_form, then_form}
+use Rattle.field_codec.specs.FormLaws.{any_text_form, then_form, both_true, and_true}
 use Rattle.field_codec.specs.Tagged.{tagged_at, tagged_form, shape_form}
 use Rattle.site_vector.specs.declared.ids.Dot.{Dot}
 use Rattle.crdt_core.specs.declared.kind.Kind.{Kind}
 use Rattle.crdt_core.specs.Spelled.{are_dots, is_dots, dots, dots_at}
 use Rattle.crdt_core.specs.SpelledLaws.{dots_held_form}
-use Rattle.crdt_core.specs.EffectForm.{SpellsEffects}
+use Rattle.crdt_core.specs.EffectForm.{HasSpelling, SpellsEffects}
+use Rattle.crdt_core.proofs.HaveSpelling.{back_short, dots_behind}
 use Rattle.crdt_core.proofs.SetsLaws.{or_none}
 use Rattle.crdt_core.specs.DotSet.{has_dot}
 use Rattle.crdt_core.specs.Stands.{StandsIn, NamesStand}
@@ -34,6 +35,10 @@ can_put_mv e = are_dots (mv_out e)
 
 abbrev pub mv_sets : MvEffect → List (List Dot)
 mv_sets e = mv_out e ∷ []
+
+abbrev pub mv_texts : MvEffect → List (List ℕ)
+mv_texts (Assign x ds) = x ∷ []
+mv_texts (Reset ds) = []
 
 abbrev pub is_mv_spelled : MvEffect → Bool
 is_mv_spelled (Assign x ds) = is_text x && is_dots ds
@@ -88,8 +93,12 @@ pub mv_form : IsForm can_put_mv is_mv_spelled mv_spelling mv_at
 unfolding mv_at
 mv_form = tagged_form is_mv_mark mv_mark can_put_mv is_mv_spelled mv_rest mv_rest_at known small rest_form
 
-abbrev pub mv_spells : (has : Kind → Bool) → SpellsEffects has is_of_kind can_put_mv is_mv_spelled mv_spelling (λ k. mv_at)
-mv_spells has = record { form = λ k h. mv_form }
+pub mv_all : HasSpelling can_put_mv is_mv_spelled mv_sets mv_texts mv_spelling
+mv_all (Assign x ds) can ascends words short = and_true (is_text x) (is_dots ds) (both_true (is_text x) true words).0 (dots_behind (text x) ds can ascends (back_short (number 1 0) (text x ++ dots ds) short))
+mv_all (Reset ds) can ascends words short = dots_behind (number 1 2) ds can ascends short
+
+abbrev pub mv_spells : (has : Kind → Bool) → SpellsEffects has is_of_kind can_put_mv is_mv_spelled mv_sets mv_texts mv_spelling (λ k. mv_at)
+mv_spells has = record { form = λ k h. mv_form; all = mv_all }
 
 stand : (e : MvEffect) (d : Dot) → can_put_mv e ≡ true → mv_names e d ≡ true → StandsIn d (mv_spelling e)
 stand (Assign x ds) d can h = stands_behind (number 1 0) (stands_behind (text x) (dots_stand ds d can h))

@@ -3,7 +3,7 @@ ghost use Rattle.crdt_core.specs.Stamps.{last_stamp};
 ghost use Rattle.crdt_meanings.specs.RegisterMeaning.{lww_meaning, word_of};
 ghost use Rattle.crdt_meanings.specs.RegisterLww.{lww_has, lww_step, lww_made_on, lww_made, lww_stamp, lww_names, lww_holds, above, stands, unassigned};
 ghost use Rattle.crdt_registers.specs.EffectForm.{is_of_kind};
-ghost use Rattle.crdt_registers.specs.LwwForm.{can_put_lww, is_lww_spelled, lww_sets, lww_spelling, lww_at, lww_spells, lww_stands};
+ghost use Rattle.crdt_registers.specs.LwwForm.{can_put_lww, is_lww_spelled, lww_sets, lww_texts, lww_spelling, lww_at, lww_spells, lww_stands};
 ghost use Rattle.crdt_meanings.proofs.LwwLaw.{lww_law, lww_in_maps, lww_resets};
 
 use crate::assigned::{empty_text, is_before, text_of};
@@ -60,6 +60,8 @@ impl Crdt for RegisterLww {
     ghost is_spelled = { is_lww_spelled };
 
     ghost sets = { lww_sets };
+
+    ghost texts = { lww_texts };
 
     ghost spelling = { lww_spelling };
 

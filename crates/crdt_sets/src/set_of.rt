@@ -3,7 +3,7 @@ ghost use Rattle.std.specs.FinMap.{empty};
 ghost use Rattle.crdt_meanings.specs.SetMeaning.{set_meaning};
 ghost use Rattle.crdt_meanings.specs.Elements.{keeps_dot, lacks_all};
 ghost use Rattle.crdt_meanings.specs.Sets.{set_kind, set_has, set_step, set_value, kind_made, set_names};
-ghost use Rattle.crdt_sets.specs.EffectForm.{is_of_kind, can_put_set, is_set_spelled, set_sets, set_spelling, set_at, set_spells, set_stands};
+ghost use Rattle.crdt_sets.specs.EffectForm.{is_of_kind, can_put_set, is_set_spelled, set_sets, set_texts, set_spelling, set_at, set_spells, set_stands};
 ghost use Rattle.crdt_meanings.proofs.RemovableLaws.{set_law, set_in_maps};
 ghost use Rattle.crdt_meanings.proofs.SetResets.{set_resets};
 ghost use Rattle.crdt_meanings.specs.Without.{no_stamp};
@@ -66,6 +66,8 @@ impl<const REMOVES_WIN: bool> Crdt for SetOf<REMOVES_WIN> {
     ghost is_spelled = { is_set_spelled };
 
     ghost sets = { set_sets };
+
+    ghost texts = { set_texts };
 
     ghost spelling = { set_spelling };
 

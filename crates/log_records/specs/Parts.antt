@@ -6,6 +6,7 @@ use Rattle.field_codec.specs.Spelling.{list, are_members, is_list, is_below}
 use Rattle.field_codec.specs.Reading.{Read, list_at, then_at, mapped_at}
 use Rattle.field_codec.specs.Lawful.{IsForm}
 use Rattle.field_codec.specs.FormLaws.{list_form, then_form, mapped_form}
+use Rattle.site_vector.specs.declared.ids.Dot.{Dot}
 use Rattle.site_vector.specs.declared.ids.TxId.{TxId}
 use Rattle.site_vector.specs.Order.{tx_cmp}
 use Rattle.site_vector.specs.Vector.{entry}
@@ -56,8 +57,8 @@ module _ {E : Type 0} where
   abbrev pub parts_at : (Kind → Bool) → (Kind → List ℕ → ℕ → Read E) → ℕ → List ℕ → ℕ → Read (List (Part E))
   parts_at has reading site = list_at (is_below (part_cmp site)) (part_at has reading)
 
-module _ {E : Type 0} {has : Kind → Bool} {is_of : Kind → E → Bool} {can_put is_spelled : E → Bool} {spelling : E → List ℕ} {reading : Kind → List ℕ → ℕ → Read E}
-    (spells : SpellsEffects has is_of can_put is_spelled spelling reading) where
+module _ {E : Type 0} {has : Kind → Bool} {is_of : Kind → E → Bool} {can_put is_spelled : E → Bool} {sets : E → List (List Dot)} {texts : E → List (List ℕ)} {spelling : E → List ℕ} {reading : Kind → List ℕ → ℕ → Read E}
+    (spells : SpellsEffects has is_of can_put is_spelled sets texts spelling reading) where
   pub part_form : IsForm (can_put_part has is_of can_put) (is_part_spelled has is_of is_spelled) (part spelling) (part_at has reading)
   unfolding part_at
   part_form =

@@ -5,6 +5,7 @@ use Rattle.field_codec.specs.Spelling.{number, is_text, list, are_members, is_li
 use Rattle.field_codec.specs.Reading.{Read, list_at, checked_at, then_at, mapped_at}
 use Rattle.field_codec.specs.Lawful.{IsForm}
 use Rattle.field_codec.specs.FormLaws.{width2, list_form, checked_form, then_form, mapped_form, both_true}
+use Rattle.site_vector.specs.declared.ids.Dot.{Dot}
 use Rattle.crdt_core.specs.declared.kind.Kind.{Kind}
 use Rattle.crdt_core.specs.declared.object.ObjectId.{ObjectId}
 use Rattle.crdt_core.specs.declared.record.Upd.{Upd}
@@ -50,8 +51,8 @@ module _ {E : Type 0} where
   unfoldable pub updates_at : (Kind → Bool) → (Kind → List ℕ → ℕ → Read E) → List ℕ → ℕ → Read (List (Upd E))
   updates_at has reading = checked_at has_some (list_at index_below (update_at has reading))
 
-module _ {E : Type 0} {has : Kind → Bool} {is_of : Kind → E → Bool} {can_put is_spelled : E → Bool} {spelling : E → List ℕ} {reading : Kind → List ℕ → ℕ → Read E}
-    (spells : SpellsEffects has is_of can_put is_spelled spelling reading) where
+module _ {E : Type 0} {has : Kind → Bool} {is_of : Kind → E → Bool} {can_put is_spelled : E → Bool} {sets : E → List (List Dot)} {texts : E → List (List ℕ)} {spelling : E → List ℕ} {reading : Kind → List ℕ → ℕ → Read E}
+    (spells : SpellsEffects has is_of can_put is_spelled sets texts spelling reading) where
   has_kind : (o : ObjectId) → is_object has o ≡ true → has o.kind ≡ true
   has_kind o h = (both_true (is_text o.key) (has o.kind) (both_true (is_text o.bucket) (is_text o.key && has o.kind) h).1).1
 
