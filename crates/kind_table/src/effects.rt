@@ -45,15 +45,12 @@ pub(crate) fn taken<C: Crdt>(
 ) -> Result<String, AllocError>
     requires { C.has kind ≡ true }
 {
-    if at > bytes.len() {
-        return String::from_str(alloc, "no place\n");
-    }
     let mut out = String::new(alloc);
     match C::take_effect(alloc, kind, bytes, at) {
         Ok((effect, end)) => {
             write!(out, "up to {end}, put as ")?;
             let again = put_bytes::<C>(alloc, &mut out, &effect)?;
-            let same = bytes[at..].starts_with(again.as_slice());
+            let same = bytes[..end].ends_with(again.as_slice());
             write!(out, ", the same: {same}, shows ")?;
             put_shown::<C>(alloc, &mut out, kind, &effect)?;
         }

@@ -21,7 +21,6 @@ fn again<F: Form>(
     bytes: &[u8],
     at: usize,
 ) -> Result<usize, TakeError>
-    requires { at ≤ length bytes.now }
     ensures { IfOk result (λ end. end ≤ length bytes.now) }
 {
     let (value, end) = form.take(alloc, bytes, at)?;
@@ -37,7 +36,6 @@ fn list_again<F: Form>(
     bytes: &[u8],
     at: usize,
 ) -> Result<usize, TakeError>
-    requires { at ≤ length bytes.now }
     ensures { IfOk result (λ end. end ≤ length bytes.now) }
 {
     let (list, end) = take_list(form, alloc, bytes, at)?;
@@ -47,7 +45,6 @@ fn list_again<F: Form>(
 
 /// The number at a place is put again.
 fn number_again(name: &str, out: &mut Vec<u8>, bytes: &[u8], at: usize) -> Result<usize, TakeError>
-    requires { at ≤ length bytes.now }
     ensures { IfOk result (λ end. end ≤ length bytes.now) }
 {
     match name {
@@ -75,7 +72,6 @@ fn number_again(name: &str, out: &mut Vec<u8>, bytes: &[u8], at: usize) -> Resul
 }
 
 fn tx_again(out: &mut Vec<u8>, bytes: &[u8], at: usize) -> Result<usize, TakeError>
-    requires { at ≤ length bytes.now }
     ensures { IfOk result (λ end. end ≤ length bytes.now) }
 {
     let (tx, end) = take_tx(bytes, at)?;
@@ -84,7 +80,6 @@ fn tx_again(out: &mut Vec<u8>, bytes: &[u8], at: usize) -> Result<usize, TakeErr
 }
 
 fn dots_again(alloc: Global, out: &mut Vec<u8>, bytes: &[u8], at: usize) -> Result<usize, TakeError>
-    requires { at ≤ length bytes.now }
     ensures { IfOk result (λ end. end ≤ length bytes.now) }
 {
     let (dots, end) = take_dots(alloc, bytes, at)?;
@@ -100,7 +95,6 @@ fn other_again(
     bytes: &[u8],
     at: usize,
 ) -> Result<usize, TakeError>
-    requires { at ≤ length bytes.now }
     ensures { IfOk result (λ end. end ≤ length bytes.now) }
 {
     match name {
@@ -131,7 +125,6 @@ fn named_again(
     bytes: &[u8],
     at: usize,
 ) -> Result<usize, TakeError>
-    requires { at ≤ length bytes.now }
     ensures { IfOk result (λ end. end ≤ length bytes.now) }
 {
     match name {
@@ -152,13 +145,10 @@ pub(crate) fn answer(
     at: usize,
     bytes: &[u8],
 ) -> Result<(), AllocError> {
-    if at > bytes.len() {
-        return out.push_str("no place\n");
-    }
     let mut put = Vec::new(alloc);
     match named_again(name, alloc, &mut put, bytes, at) {
         Ok(end) => {
-            let same = bytes[at..].starts_with(put.as_slice());
+            let same = bytes[..end].ends_with(put.as_slice());
             write!(out, "up to {end}, put as the same: {same}")?;
         }
         Err(error) => put_refusal(out, error)?,

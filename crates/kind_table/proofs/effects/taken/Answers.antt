@@ -6,4 +6,4 @@ pub put_bytes-requires : goal.put_bytes-requires
 put_bytes-requires g c =
     let C = g.C.Crdt in
     right (C.is_of c.args.kind c.in-Ok.effect) (C.can_put c.in-Ok.effect)
-    (read_fits (C.spells.form c.args.kind c.requires) c.args.bytes.now c.args.at c.in-Ok.effect c.in-Ok.end (λ i. omega (arith, c.type_inv.bytes i)) (omega (arith, c.if-at-bytes.false)) c.in-Ok.ensures.answer)
+    (read_fits (C.spells.form c.args.kind c.requires) c.args.bytes.now c.args.at c.in-Ok.effect c.in-Ok.end (λ i. omega (arith, c.type_inv.bytes i)) c.in-Ok.ensures.answer)

@@ -9,4 +9,4 @@ put_list-requires g c =
     let F = g.F.Form in
     let f = c.args.form.now in
     let form = list_form (F.follows f) (F.fits f) (F.is_spelled f) (F.spelling f) (F.reading f) (g.met.F.Form.laws f) in
-    subst (λ l. are_members (F.follows f) (F.fits f) l ≡ true) (sym c.as_slice.ensures) (read_fits form c.args.bytes.now c.args.at c.in_ok-list.list c.in_ok-list.end (λ i. omega (arith, c.type_inv.bytes i)) c.requires c.in_ok-list.ensures.answer)
+    subst (λ l. are_members (F.follows f) (F.fits f) l ≡ true) (sym c.as_slice.ensures) (read_fits form c.args.bytes.now c.args.at c.in_ok-list.list c.in_ok-list.end (λ i. omega (arith, c.type_inv.bytes i)) c.in_ok-list.ensures.answer)
