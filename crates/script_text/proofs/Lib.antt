@@ -2,3 +2,4 @@ pub mod Digits
 pub mod Utf8
 pub mod Lists
 pub mod Quoted
+pub mod Fronts

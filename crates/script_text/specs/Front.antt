@@ -1,5 +1,5 @@
 -- The word at the front of a line, as the code finds it.
-use Rattle.std.specs.Prelude.{◌≡◌, ℕ, suc, ◌<◌, true, false, ◌==◌, List, [], ◌∷◌, length, take, drop, if◌then◌else◌}
+use Rattle.std.specs.Prelude.{◌≡◌, ℕ, suc, ◌<◌, true, false, ◌==◌, List, [], ◌∷◌, length, take, drop, Option, Some, None, if◌then◌else◌}
 use Rattle.std.specs.List.{filter}
 use Rattle.std.proofs.Common.{refl, sym, ap, ◌∙◌, arith}
 use Rattle.script_text.specs.Split.{Where, outside, within, after_backslash, after, ends_word, onto_first, pieces, is_some_bytes, words, space}
@@ -19,6 +19,16 @@ word_end at (c ∷ cs) = if ends_word at c then 0 else suc (word_end (after at c
 abbrev pub IsTrimmed : List ℕ → Type 0
 IsTrimmed [] = Unit {0}
 IsTrimmed (c ∷ cs) = (c == space) ≡ false
+
+-- what follows `in` and the space after it, where they stand at the front
+abbrev pub after_in : List ℕ → Option (List ℕ)
+after_in (a ∷ b ∷ c ∷ cs) = if a == 105 then (if b == 110 then (if c == space then Some cs else None) else None) else None
+after_in bytes = None
+
+-- what follows an at sign at the front
+abbrev pub after_at : List ℕ → Option (List ℕ)
+after_at [] = None
+after_at (c ∷ cs) = if c == 64 then Some cs else None
 
 -- the pieces after the first, where a space stands at the front
 abbrev pub further : List ℕ → List (List ℕ)

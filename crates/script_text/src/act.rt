@@ -1,12 +1,13 @@
 ghost use Rattle.std.specs.Prelude.{◌≡◌, ◌<◌, ◌++◌, ◌∷◌, [], length, Err, IfOk, IfSome, IfNone, Some, None, option_map, option_and_then};
 ghost use Rattle.script_text.specs.Acts as acts;
+ghost use Rattle.script_text.specs.Front as front;
 ghost use Rattle.script_text.specs.Objects as objects;
 ghost use Rattle.script_text.specs.Split.{words};
 
 use crate::ParseError;
 use crate::number::integer;
 use crate::object::field;
-use crate::split::{next, only, only_two};
+use crate::split::{next, only, only_two, trimmed};
 use crate::text::text;
 use crdt_core::{Act, Field, Op};
 use field_codec::{ListOf, Text};
@@ -39,20 +40,29 @@ fn some_texts(alloc: Global, line: &[u8]) -> Result<ListOf<Text>, ParseError>
     texts(alloc, line)
 }
 
+/// What follows `in` and the space after it, where they stand at the front.
+fn after_in(line: &[u8]) -> Option<&[u8]>
+    ensures some { IfSome result (λ r. front.after_in line.now ≡ Some r.now) }
+    ensures none { IfNone result (front.after_in line.now ≡ None) }
+{
+    match line {
+        [b'i', b'n', b' ', rest @ ..] => Some(rest),
+        _ => None,
+    }
+}
+
 /// The name and the kind after `in`, and what follows them, where `in` and two words stand at the front.
+#[tactic(auto, using(crate::proofs::Fronts::in_front, crate::proofs::Fronts::not_in))]
 fn next_field(line: &[u8]) -> Option<(&[u8], &[u8], &[u8])>
     ensures some { IfSome result (λ p. objects.path (words line.now)
         ≡ option_and_then (λ f. option_map (λ q. (f ∷ q.0, q.1)) (objects.path (words p.2.now))) (objects.field p.0.now p.1.now)) }
     ensures shorter { IfSome result (λ p. length (words p.2.now) < length (words line.now)) }
     ensures none { IfNone result (objects.path (words line.now) ≡ Some ([], words line.now)) }
 {
-    let (word, rest) = next(line)?;
+    let rest = after_in(trimmed(line))?;
     let (name, rest) = next(rest)?;
     let (kind, rest) = next(rest)?;
-    if spells(word, "in") {
-        return Some((name, kind, rest));
-    }
-    None
+    Some((name, kind, rest))
 }
 
 /// The fields that lead to what changes, each after `in`, and what follows them.

@@ -1,9 +1,11 @@
-ghost use Rattle.std.specs.Prelude.{◌≡◌, Err, IfOk, Some, None};
+ghost use Rattle.std.specs.Prelude.{◌≡◌, Err, IfOk, IfSome, IfNone, Some, None, [], option_map};
+ghost use Rattle.script_text.specs.Front.{after_at};
 ghost use Rattle.script_text.specs.Objects as objects;
 ghost use Rattle.script_text.specs.Split.{words};
+ghost use Rattle.script_text.specs.Texts as texts;
 
 use crate::ParseError;
-use crate::split::next;
+use crate::split::{end_of_word, next, trimmed};
 use crate::text::{empty, text};
 use crdt_core::{Field, ObjectId};
 use field_codec::Text;
@@ -22,17 +24,35 @@ pub fn field(alloc: Global, name: &[u8], kind: &[u8]) -> Result<Field, ParseErro
     }
 }
 
+/// What follows an at sign at the front.
+fn after_at(line: &[u8]) -> Option<&[u8]>
+    ensures some { IfSome result (λ r. after_at line.now ≡ Some r.now) }
+    ensures none { IfNone result (after_at line.now ≡ None) }
+{
+    match line {
+        [b'@', rest @ ..] => Some(rest),
+        _ => None,
+    }
+}
+
+/// The name of the bucket after an at sign, where one stands at the front, and what follows it.
+#[tactic(auto, using(crate::proofs::Fronts::not_at))]
+fn named(line: &[u8]) -> Option<(&[u8], &[u8])>
+    ensures some { IfSome result (λ p. objects.bucket (words line.now) ≡ option_map (λ t. (t, words p.1.now)) (texts.text p.0.now)) }
+    ensures none { IfNone result (objects.bucket (words line.now) ≡ Some ([], words line.now)) }
+{
+    let rest = after_at(trimmed(line))?;
+    Some(rest.split_at(end_of_word(rest)))
+}
+
 /// The bucket after an at sign, where it stands at the front, and what follows it; else the empty text.
 fn bucket(alloc: Global, line: &[u8]) -> Result<(Text, &[u8]), ParseError>
     ensures ok { IfOk result (λ p. objects.bucket (words line.now) ≡ Some (p.0, words p.1.now)) }
     ensures bad { result ≡ Err ParseError.Bad → objects.bucket (words line.now) ≡ None }
 {
-    let Some((word, after)) = next(line) else {
-        return Ok((empty(alloc)?, line));
-    };
-    match word {
-        [b'@', name @ ..] => Ok((text(alloc, name)?, after)),
-        _ => Ok((empty(alloc)?, line)),
+    match named(line) {
+        Some((name, after)) => Ok((text(alloc, name)?, after)),
+        None => Ok((empty(alloc)?, line)),
     }
 }
 

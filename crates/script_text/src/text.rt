@@ -96,7 +96,9 @@ fn plain(word: &[u8]) -> Option<&str>
     std::str::from_utf8(text).ok()
 }
 
-/// The text of a word in quotes. Most hold no escape, and need no reader of JSON.
+/// The text of a word in quotes. Most hold no escape, and need no reader of JSON. The reader takes much of the stack, and
+/// so stands apart.
+#[inline(never)]
 fn quoted(alloc: Global, word: &[u8]) -> Result<Text, ParseError>
     requires { texts.is_quoted word.now ≡ true }
     ensures ok { IfOk result (λ t. option_and_then texts.at_most_256 (texts.string_of word.now) ≡ Some t) }

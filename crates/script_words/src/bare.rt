@@ -14,7 +14,7 @@ pub fn is_bare(text: &[u8]) -> bool
     ensures { result ≡ bare.is_bare text.now }
 {
     for byte in text {
-        if !is_bare_byte(*byte) {
+        if !byte.is_ascii_lowercase() && !is_bare_byte(*byte) {
             return false;
         }
     }
