@@ -1,4 +1,5 @@
 pub mod ElementSteps
+pub mod Empties
 pub mod FatLaw
 pub mod FieldFold
 pub mod FieldHistory
@@ -18,4 +19,5 @@ pub mod RemovableLaws
 pub mod SetMeaningLaws
 pub mod SetResets
 pub mod SortedLaws
+pub mod StampsSeen
 pub mod Totals

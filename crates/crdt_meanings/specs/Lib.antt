@@ -7,6 +7,7 @@ pub mod Flags
 pub mod Later
 pub mod MapMeaning
 pub mod Maps
+pub mod Nothing
 pub mod RegisterLww
 pub mod RegisterMeaning
 pub mod RegisterMv
