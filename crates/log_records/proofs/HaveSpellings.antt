@@ -17,7 +17,7 @@ use Rattle.crdt_core.specs.EffectForm.{sets_ascend, HasSpelling, SpellsEffects}
 use Rattle.crdt_core.proofs.HaveSpelling.{back_short, list_spelled, checked_spelled}
 use Rattle.log_records.specs.Heads.{is_head, head}
 use Rattle.log_records.specs.Updates.{has_some, can_put_update, is_update_spelled, update, index_below, can_put_updates, are_updates_spelled, updates}
-use Rattle.log_records.specs.Parts.{part_cmp, can_put_part, is_part_spelled, part, can_put_parts, are_parts_spelled, parts}
+use Rattle.log_records.specs.Parts.{part_cmp, can_put_part, is_part_spelled, part, are_parts_spelled, parts}
 use Rattle.log_records.specs.Messages.{head_in, can_put_message, is_message_spelled, message, is_batch_spelled}
 use Rattle.log_records.specs.Records.{keeps_update, keeps_message, keeps_record, code, can_put_record, is_record_spelled, behind_code, record_bytes}
 
@@ -44,7 +44,7 @@ none_in p (x ∷ xs) = none_in p xs
 abbrev Spelled : {V : Type 0} → (V → Bool) → (V → Bool) → (V → List ℕ) → Type 0
 Spelled fits is_spelled spelling = HasSpelling fits is_spelled (λ v. []) (λ v. []) spelling
 
-module _ {V : Type 0} {kept fits is_spelled : V → Bool} (spelling : V → List ℕ) (follows : V → V → Bool) (some : (v : V) → 0 < length (spelling v)) (member : Spelled (λ v. kept v && fits v) is_spelled spelling) where
+module _ {V : Type 0} (kept fits : V → Bool) {is_spelled : V → Bool} (spelling : V → List ℕ) (follows : V → V → Bool) (some : (v : V) → 0 < length (spelling v)) (member : Spelled (λ v. kept v && fits v) is_spelled spelling) where
   spelled_list : (vs : List V) → list_all kept vs ≡ true → are_members follows fits vs ≡ true → length (list spelling vs) < 2 ^ 32 → is_list follows is_spelled vs ≡ true
   spelled_list vs keep can short =
       let o = both_true (are_in_order follows None vs) (list_all fits vs) can in
@@ -74,7 +74,7 @@ module _ {E : Type 0} {has : Kind → Bool} {is_of : Kind → E → Bool} {can_p
   updates_all us keep can short =
       let c = both_true (has_some us) (are_members index_below (can_put_update has is_of can_put) us) can in
       let some : (u : Upd E) → 0 < length (update spelling u) = λ u. omega (arith, length-append (number 2 u.index) (object u.object ++ spelling u.effect), length-number 2 u.index) in
-      and_true (has_some us) (is_list index_below (is_update_spelled has is_of is_spelled) us) c.0 (spelled_list (update spelling) index_below some update_all us keep c.1 short)
+      and_true (has_some us) (is_list index_below (is_update_spelled has is_of is_spelled) us) c.0 (spelled_list kept (can_put_update has is_of can_put) (update spelling) index_below some update_all us keep c.1 short)
 
   part_all : Spelled (λ p. (is_vector p.c && list_all kept p.updates) && can_put_part has is_of can_put p) (is_part_spelled has is_of is_spelled) (part spelling)
   part_all p fit none nor short =
@@ -88,7 +88,7 @@ module _ {E : Type 0} {has : Kind → Bool} {is_of : Kind → E → Bool} {can_p
   pub message_all : (m : Message E) → can_put_message has is_of can_put m ≡ true → keeps_message sets texts m ≡ true → length (message spelling m) < 2 ^ 32 → is_message_spelled has is_of is_spelled m ≡ true
   message_all m can keep short =
       let h = both_true (is_head (head_in m)) (list_all (λ p. is_vector p.c && list_all kept p.updates) m.parts) keep in
-      let behind = spelled_list (part spelling) (is_below (part_cmp m.from)) (tx_first spelling) part_all m.parts h.1 can (back_short (head (head_in m)) (parts spelling m.parts) short) in
+      let behind = spelled_list (λ p. is_vector p.c && list_all kept p.updates) (can_put_part has is_of can_put) (part spelling) (is_below (part_cmp m.from)) (tx_first spelling) part_all m.parts h.1 can (back_short (head (head_in m)) (parts spelling m.parts) short) in
       and_true (is_head (head_in m)) (are_parts_spelled has is_of is_spelled m.from m.parts) h.0 behind
 
   batch_all : (m : Message E) → has_some m.parts ≡ true → is_message_spelled has is_of is_spelled m ≡ true → is_batch_spelled has is_of is_spelled m ≡ true
