@@ -86,4 +86,15 @@ impl Leased {
     {
         self.clock = self.clock.max(n);
     }
+
+    /// The next time, which the clock shows from then on.
+    pub fn draw(&mut self) -> u64
+        requires { self.old.clock + 1 ≤ self.old.ceiling }
+        ensures drawn { result ≡ self.old.clock + 1 }
+        ensures value { self.new ≡ record self.old { clock = self.old.clock + 1 } }
+        ensures sound { IsLent self.new.clock self.new.ceiling }
+    {
+        self.clock += 1;
+        self.clock
+    }
 }

@@ -75,6 +75,16 @@ impl Matrix {
     {
         least_of(own_part, own, &self.heard[..self.parts as usize])
     }
+
+    /// Forgets all that was heard, as where the partition restarts.
+    pub fn forget(&mut self)
+        ensures heard { self.new ≡ record self.old { heard = replicate self.old.parts (replicate self.old.sites 0) } }
+        ensures sound { IsGossip self.new }
+    {
+        let sites = self.sites;
+        let parts = self.parts;
+        *self = Matrix::new(sites, parts);
+    }
 }
 
 /// How far a partition has come: the own vector where it is the own one, else what was heard of it.
