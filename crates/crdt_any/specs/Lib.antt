@@ -1,9 +1,10 @@
-pub mod Cases
 pub mod Depth
 pub mod Layer
 pub mod LayerForm
 pub mod LayerLaws
-pub mod LayerResets
 pub mod NothingLaws
 pub mod Parts
 pub mod Meanings
+pub mod Simple
+pub mod SimpleForm
+pub mod SimpleLaws

@@ -8,7 +8,7 @@ use Rattle.crdt_core.specs.Law.{KeepsLaw}
 use Rattle.crdt_core.specs.InMaps.{KeepsInMaps}
 use Rattle.crdt_core.specs.Resets.{ResetsWhatIsLeft}
 use Rattle.crdt_core.specs.EffectForm.{SpellsEffects}
-use Rattle.crdt_core.specs.Stands.{NamesStand}
+use Rattle.crdt_core.specs.NamedDots.{NamesAreSpelled}
 
 pub nothing_law : KeepsLaw {S = Unit {0}} {E = Unit {0}} (λ k. false) (λ k p. false) (λ k. tt) (λ s d e. tt) (λ k s p a n. tt) (λ s. Flag false) (λ e. None) (λ k us. Flag false) (λ e d. false) (λ s d. false)
 nothing_law = record {
@@ -18,6 +18,7 @@ nothing_law = record {
   orderless = λ k us vs has. absurd (false≢true has);
   unread = λ k s t p a n has. absurd (false≢true has);
   steps = λ k has. absurd (false≢true has);
+  kept = λ k us d has. absurd (false≢true has);
 }
 
 pub nothing_in_maps : KeepsInMaps {S = Unit {0}} {E = Unit {0}} (λ k. false) (λ k p. false) (λ k. tt) (λ s d e. tt) (λ k s p a n. tt) (λ s. true)
@@ -37,5 +38,5 @@ nothing_resets = record {
 abbrev pub nothing_spells : SpellsEffects {E = Unit {0}} (λ k. false) (λ k e. true) (λ e. true) (λ e. true) (λ e. []) (λ e. []) (λ e. []) (λ k bytes at. Err (Bad at))
 nothing_spells = record { form = λ k has. absurd (false≢true has); all = λ e can ascends words short. refl }
 
-pub nothing_stands : NamesStand {E = Unit {0}} (λ e. true) (λ e d. false) (λ e. []) (λ e. [])
-nothing_stands = record { exact = λ e d can. refl; stands = λ e d can h. absurd (false≢true h) }
+pub nothing_named : NamesAreSpelled {E = Unit {0}} (λ e. true) (λ e d. false) (λ e. []) (λ e. [])
+nothing_named = record { exact = λ e d can. refl; stands = λ e d can h. absurd (false≢true h) }

@@ -12,11 +12,13 @@ use Rattle.crdt_core.specs.declared.operation.Act.TheVariants.{Reset}
 use Rattle.crdt_core.specs.declared.value.Value.{Value}
 use Rattle.crdt_core.specs.Fits.{stands_in}
 use Rattle.crdt_core.specs.Seen.{Update, sees}
+use Rattle.crdt_core.specs.Kinds.{reads_state}
+use Rattle.crdt_core.specs.Same.{Same}
 use Rattle.crdt_core.specs.Stamps.{stamp_due}
 use Rattle.crdt_core.specs.History.{IsHistory, IsStamped, folded, seen_by, effects, effect_after, state_after}
-use Rattle.crdt_core.specs.Law.{KeepsLaw, made_by, all_fit}
+use Rattle.crdt_core.specs.Law.{KeepsLaw, CanBeNamed, made_by, all_fit}
 use Rattle.crdt_core.specs.Resets.{ResetsWhatIsLeft}
-use Rattle.crdt_any.specs.Layer.{moved}
+use Rattle.crdt_any.specs.Simple.{moved}
 
 -- states and effects that stand for others
 module _ {S E R F : Type 0} (wrap : R → S) (wrap_effect : F → E) (step : S → Dot → E → S) (make : S → Update → E) (start : R) (part_step : R → Dot → F → R) (part_make : R → Update → F)
@@ -85,16 +87,42 @@ part_left {initial} {part_step} {part_made} resets k known wrap wrap_effect step
     let w = resets.some_left k us n known stands h fit (sym (ap is_blank same ∙ blanks_so s) ∙ left) in
     (w.0, ap (λ t. names (made k t [] Reset n) w.0) same ∙ ap (λ e. names e w.0) (makes_so s [] Reset n) ∙ names_so (part_made k s [] Reset n) w.0 ∙ w.1)
 
--- whether an effect of the kind names a dot; of another kind, it names none
-abbrev pub named_by : {E : Type 0} → (E → Dot → Bool) → Option E → Dot → Bool
-named_by names None d = false
-named_by names (Some e) d = names e d
+-- what is held of the kind alone can be named, and so what is held
+pub part_kept : {S E R F : Type 0} {has : Kind → Bool} {too_deep : Kind → List Field → Bool} {initial : Kind → R} {part_step : R → Dot → F → R} {part_made : Kind → R → List Field → Act → ℕ → F} {part_value : R → Value} {part_stamp : F → Option ℕ} {meaning : Kind → List Update → Value} {part_names : F → Dot → Bool} {part_holds : R → Dot → Bool} (law : KeepsLaw has too_deep initial part_step part_made part_value part_stamp meaning part_names part_holds)
+    (k : Kind) (known : has k ≡ true) (wrap : R → S) (wrap_effect : F → E) (step : S → Dot → E → S) (made : Kind → S → List Field → Act → ℕ → E) (names : E → Dot → Bool) (holds : S → Dot → Bool)
+    → ((s : R) (d : Dot) (e : F) → step (wrap s) d (wrap_effect e) ≡ wrap (part_step s d e)) → ((s : R) (p : List Field) (a : Act) (n : ℕ) → made k (wrap s) p a n ≡ wrap_effect (part_made k s p a n))
+    → ((e : F) (d : Dot) → names (wrap_effect e) d ≡ part_names e d) → ((s : R) (d : Dot) → holds (wrap s) d ≡ part_holds s d)
+    → (us : List Update) (d : Dot) → all_fit too_deep k us ≡ true → holds (state_after (wrap (initial k)) step (made_by made k) us) d ≡ true → CanBeNamed too_deep made names k (state_after (wrap (initial k)) step (made_by made k) us) d
+part_kept {initial} {part_step} {part_made} law k known wrap wrap_effect step made names holds steps_so makes_so names_so holds_so us d fit h =
+    let s = state_after (initial k) part_step (made_by part_made k) us in
+    let same = state_so wrap wrap_effect step (made_by made k) (initial k) part_step (made_by part_made k) steps_so (λ s u. makes_so s u.path u.act u.now) us in
+    let w = law.kept k us d known fit (sym (holds_so s d) ∙ sym (ap (λ t. holds t d) same) ∙ h) in
+    (w.0, w.1, w.2, w.3, λ n. ap (λ t. names (made k t w.0 w.1 n) d) same ∙ ap (λ e. names e d) (makes_so s w.0 w.1 n) ∙ names_so (part_made k s w.0 w.1 n) d ∙ w.4 n)
 
-pub moved_swaps : {S E : Type 0} (step : S → Dot → E → S) (names : E → Dot → Bool) → ((s : S) (a b : E) (d e : Dot) → same_dot d e ≡ false → names a e ≡ false → names b d ≡ false → step (step s d a) e b ≡ step (step s e b) d a)
-    → (s : S) (a b : Option E) (d e : Dot) → same_dot d e ≡ false → named_by names a e ≡ false → named_by names b d ≡ false → moved step (moved step s d a) e b ≡ moved step (moved step s e b) d a
-moved_swaps step names swaps s None b d e apart na nb = refl
-moved_swaps step names swaps s (Some a) None d e apart na nb = refl
-moved_swaps step names swaps s (Some a) (Some b) d e apart na nb = swaps s a b d e apart na nb
+-- the law of a kind, all but what is owed step by step to states of other kinds
+pub record LawAt {S E : Type 0} (k : Kind) (deep : List Field → Bool) (start : S) (step : S → Dot → E → S) (made : S → List Field → Act → ℕ → E) (value_of : S → Value) (stamp_of : E → Option ℕ) (meaning : List Update → Value) (names : E → Dot → Bool) (holds : S → Dot → Bool) : Type 0 where
+  pub means : (us : List Update) → IsHistory us → all_fit (λ _. deep) k us ≡ true → IsStamped start step (made_by (λ _. made) k) stamp_of us → value_of (state_after start step (made_by (λ _. made) k) us) ≡ meaning us
+  pub stamps : (u : Update) (us : List Update) → IsHistory (u ∷ us) → all_fit (λ _. deep) k (u ∷ us) ≡ true → IsStamped start step (made_by (λ _. made) k) stamp_of us → stamp_of (effect_after start step (made_by (λ _. made) k) us u) ≡ stamp_due k us u
+  pub orderless : (us vs : List Update) → Same us vs → meaning us ≡ meaning vs
+  pub unread : (s t : S) (p : List Field) (a : Act) (n : ℕ) → reads_state k ≡ false → made s p a n ≡ made t p a n
+  pub named : (s : S) (u : Update) (d : Dot) → names (made s u.path u.act u.now) d ≡ true → holds s d ≡ true
+  pub kept : (us : List Update) (d : Dot) → all_fit (λ _. deep) k us ≡ true → holds (state_after start step (made_by (λ _. made) k) us) d ≡ true → CanBeNamed (λ _. deep) (λ _. made) names k (state_after start step (made_by (λ _. made) k) us) d
+
+-- a kind that stands among others keeps it, where an effect is made on the state as one of the kind
+pub part_law : {S E R F : Type 0} {has : Kind → Bool} {too_deep : Kind → List Field → Bool} {initial : Kind → R} {part_step : R → Dot → F → R} {part_made : Kind → R → List Field → Act → ℕ → F} {part_value : R → Value} {part_stamp : F → Option ℕ} {meaning : Kind → List Update → Value} {part_names : F → Dot → Bool} {part_holds : R → Dot → Bool} (law : KeepsLaw has too_deep initial part_step part_made part_value part_stamp meaning part_names part_holds)
+    (k : Kind) (known : has k ≡ true) (wrap : R → S) (wrap_effect : F → E) (as_kind : S → R) (step : S → Dot → E → S) (made : S → List Field → Act → ℕ → E) (value_of : S → Value) (stamp_of : E → Option ℕ) (names : E → Dot → Bool) (holds : S → Dot → Bool)
+    → ((s : R) (d : Dot) (e : F) → step (wrap s) d (wrap_effect e) ≡ wrap (part_step s d e)) → ((s : R) (p : List Field) (a : Act) (n : ℕ) → made (wrap s) p a n ≡ wrap_effect (part_made k s p a n))
+    → ((s : S) (p : List Field) (a : Act) (n : ℕ) → made s p a n ≡ wrap_effect (part_made k (as_kind s) p a n))
+    → ((s : R) → value_of (wrap s) ≡ part_value s) → ((e : F) → stamp_of (wrap_effect e) ≡ part_stamp e) → ((e : F) (d : Dot) → names (wrap_effect e) d ≡ part_names e d) → ((s : R) (d : Dot) → holds (wrap s) d ≡ part_holds s d)
+    → ((s : S) (d : Dot) → part_holds (as_kind s) d ≡ true → holds s d ≡ true) → LawAt k (too_deep k) (wrap (initial k)) step made value_of stamp_of (meaning k) names holds
+part_law {part_made} law k known wrap wrap_effect as_kind step made value_of stamp_of names holds steps_so wrapped_so made_so values_so stamps_so names_so holds_so inside = record {
+  means = λ us h fit st. part_means law k known wrap wrap_effect step (made_by (λ _. made) k) stamp_of steps_so (λ s u. wrapped_so s u.path u.act u.now) stamps_so value_of values_so us h fit st;
+  stamps = λ u us h fit st. part_stamps law k known wrap wrap_effect step (made_by (λ _. made) k) stamp_of steps_so (λ s u. wrapped_so s u.path u.act u.now) stamps_so u us h fit st;
+  orderless = λ us vs same. law.orderless k us vs known same;
+  unread = λ s t p a n r. made_so s p a n ∙ ap wrap_effect (law.unread k (as_kind s) (as_kind t) p a n known r) ∙ sym (made_so t p a n);
+  named = λ s u d h. inside s d ((law.steps k known).named (as_kind s) u d (sym (ap (λ e. names e d) (made_so s u.path u.act u.now) ∙ names_so (part_made k (as_kind s) u.path u.act u.now) d) ∙ h));
+  kept = λ us d fit h. part_kept law k known wrap wrap_effect step (λ _. made) names holds steps_so wrapped_so names_so holds_so us d fit h;
+}
 
 pub moved_held : {S E : Type 0} (step : S → Dot → E → S) (holds : S → Dot → Bool) → ((s : S) (d : Dot) (e : E) (x : Dot) → holds (step s d e) x ≡ true → (holds s x || same_dot d x) ≡ true)
     → (s : S) (d : Dot) (e : Option E) (x : Dot) → holds (moved step s d e) x ≡ true → (holds s x || same_dot d x) ≡ true

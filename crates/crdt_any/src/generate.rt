@@ -5,13 +5,9 @@ ghost use Rattle.crdt_any.specs.Layer.{layer_made, layer_too_deep, layer_holds};
 ghost use Rattle.crdt_any.specs.LayerForm.{layer_is_of, layer_can_put, layer_sets, layer_spelling};
 
 use crate::part::made_on;
-use crate::{LayerEffect, LayerState};
+use crate::{LayerEffect, LayerState, Simple};
 use crdt_core::{Act, Crdt, Field, Kind};
-use crdt_counters::{CounterFat, CounterPn};
-use crdt_flags::{FlagDw, FlagEw};
 use crdt_maps::{MapGo, MapRr};
-use crdt_registers::{RegisterLww, RegisterMv};
-use crdt_sets::{SetAw, SetGo, SetRw};
 use std::alloc::{AllocError, Global};
 
 /// The effect of an act that the kind has.
@@ -29,46 +25,10 @@ pub fn effect_of<I: Crdt>(
 ) -> Result<LayerEffect<I::Effect>, AllocError>
     requires fitting { fits kind path.now act.now ≡ true }
     requires shallow { layer_too_deep I.has I.too_deep kind path.now ≡ false }
-    ensures made { IfOk result (λ e. e ≡ layer_made I.has I.initial I.made I.is_blank kind state.now path.now act.now now) }
+    ensures made { IfOk result (λ e. e ≡ layer_made I.has I.initial I.generated I.is_blank kind state.now path.now act.now now) }
     ensures ready { HoldsSpelled (layer_holds I.holds) state.now → IfOk result (λ e. IsReady layer_is_of (layer_can_put I.has I.is_of I.can_put I.spelling) (layer_sets I.sets) (layer_spelling I.spelling) kind path.now act.now e) }
 {
     match kind {
-        Kind::CounterPn => {
-            let effect = made_on::<CounterPn>(alloc, kind, path, act, state.counter_pn(), now)?;
-            Ok(LayerEffect::CounterPn(effect))
-        }
-        Kind::CounterFat => {
-            let effect = made_on::<CounterFat>(alloc, kind, path, act, state.counter_fat(), now)?;
-            Ok(LayerEffect::CounterFat(effect))
-        }
-        Kind::SetGo => {
-            let effect = made_on::<SetGo>(alloc, kind, path, act, state.set_go(), now)?;
-            Ok(LayerEffect::SetGo(effect))
-        }
-        Kind::SetAw => {
-            let effect = made_on::<SetAw>(alloc, kind, path, act, state.set_aw(), now)?;
-            Ok(LayerEffect::SetAw(effect))
-        }
-        Kind::SetRw => {
-            let effect = made_on::<SetRw>(alloc, kind, path, act, state.set_rw(), now)?;
-            Ok(LayerEffect::SetRw(effect))
-        }
-        Kind::FlagEw => {
-            let effect = made_on::<FlagEw>(alloc, kind, path, act, state.flag_ew(), now)?;
-            Ok(LayerEffect::FlagEw(effect))
-        }
-        Kind::FlagDw => {
-            let effect = made_on::<FlagDw>(alloc, kind, path, act, state.flag_dw(), now)?;
-            Ok(LayerEffect::FlagDw(effect))
-        }
-        Kind::RegisterLww => {
-            let effect = made_on::<RegisterLww>(alloc, kind, path, act, state.register_lww(), now)?;
-            Ok(LayerEffect::RegisterLww(effect))
-        }
-        Kind::RegisterMv => {
-            let effect = made_on::<RegisterMv>(alloc, kind, path, act, state.register_mv(), now)?;
-            Ok(LayerEffect::RegisterMv(effect))
-        }
         Kind::MapGo => {
             let effect = made_on::<MapGo<I>>(alloc, kind, path, act, state.map_go(), now)?;
             Ok(LayerEffect::MapGo(effect))
@@ -76,6 +36,10 @@ pub fn effect_of<I: Crdt>(
         Kind::MapRr => {
             let effect = made_on::<MapRr<I>>(alloc, kind, path, act, state.map_rr(), now)?;
             Ok(LayerEffect::MapRr(effect))
+        }
+        _ => {
+            let effect = made_on::<Simple>(alloc, kind, path, act, state.simple(), now)?;
+            Ok(LayerEffect::Simple(effect))
         }
     }
 }

@@ -1,19 +1,14 @@
 ghost use Rattle.std.specs.Prelude.{◌≡◌, true, false, IfOk, OnOk};
 ghost use Rattle.crdt_core.specs.EffectForm.{HoldsSpelled, IsReady};
 ghost use Rattle.crdt_any.specs.Layer.{layer_has, layer_too_deep, layer_initial, layer_step, layer_made, layer_value, layer_stamp, layer_meaning, layer_names, layer_holds, layer_blank};
-ghost use Rattle.crdt_any.specs.LayerForm.{layer_is_of, layer_can_put, layer_is_spelled, layer_sets, layer_texts, layer_spelling, layer_reading, layer_spells, layer_stands};
-ghost use Rattle.crdt_any.specs.LayerLaws.{layer_law, layer_in_maps};
-ghost use Rattle.crdt_any.specs.LayerResets.{layer_resets};
+ghost use Rattle.crdt_any.specs.LayerForm.{layer_is_of, layer_can_put, layer_is_spelled, layer_sets, layer_texts, layer_spelling, layer_reading, layer_spells, layer_named};
+ghost use Rattle.crdt_any.specs.LayerLaws.{layer_law, layer_in_maps, layer_resets};
 
 use crate::generate::effect_of;
 use crate::part::apply_if;
-use crate::{LayerEffect, LayerState};
-use crdt_core::{Act, Crdt, Field, GenError, Kind, Op, Value, fits_at, reads_state};
-use crdt_counters::{CounterFat, CounterPn};
-use crdt_flags::{FlagDw, FlagEw};
+use crate::{LayerEffect, LayerState, Simple};
+use crdt_core::{Act, Crdt, Field, Kind, Op, Value, reads_state};
 use crdt_maps::{MapGo, MapRr};
-use crdt_registers::{RegisterLww, RegisterMv};
-use crdt_sets::{SetAw, SetGo, SetRw};
 use field_codec::TakeError;
 use site_vector::Dot;
 use std::alloc::{AllocError, Global};
@@ -35,9 +30,9 @@ impl<I: Crdt> Crdt for Layer<I> {
 
     ghost initial = { layer_initial };
 
-    ghost step = { layer_step I.has I.initial I.step };
+    ghost applied = { layer_step I.has I.initial I.applied };
 
-    ghost made = { layer_made I.has I.initial I.made I.is_blank };
+    ghost generated = { layer_made I.has I.initial I.generated I.is_blank };
 
     ghost value_of = { layer_value I.value_of };
 
@@ -67,7 +62,7 @@ impl<I: Crdt> Crdt for Layer<I> {
 
     ghost spells = { layer_spells I.spells };
 
-    ghost stands = { layer_stands I.has I.is_of I.stands };
+    ghost named = { layer_named I.has I.is_of I.named };
 
     ghost is_blank = { layer_blank I.is_blank };
 
@@ -81,17 +76,9 @@ impl<I: Crdt> Crdt for Layer<I> {
 
     fn empty(alloc: Global, kind: Kind) -> Result<LayerState<I::State>, AllocError> {
         match kind {
-            Kind::CounterPn => Ok(LayerState::CounterPn(CounterPn::empty(alloc, kind)?)),
-            Kind::CounterFat => Ok(LayerState::CounterFat(CounterFat::empty(alloc, kind)?)),
-            Kind::SetGo => Ok(LayerState::SetGo(SetGo::empty(alloc, kind)?)),
-            Kind::SetAw => Ok(LayerState::SetAw(SetAw::empty(alloc, kind)?)),
-            Kind::SetRw => Ok(LayerState::SetRw(SetRw::empty(alloc, kind)?)),
-            Kind::FlagEw => Ok(LayerState::FlagEw(FlagEw::empty(alloc, kind)?)),
-            Kind::FlagDw => Ok(LayerState::FlagDw(FlagDw::empty(alloc, kind)?)),
-            Kind::RegisterLww => Ok(LayerState::RegisterLww(RegisterLww::empty(alloc, kind)?)),
-            Kind::RegisterMv => Ok(LayerState::RegisterMv(RegisterMv::empty(alloc, kind)?)),
             Kind::MapGo => Ok(LayerState::MapGo(MapGo::<I>::empty(alloc, kind)?)),
             Kind::MapRr => Ok(LayerState::MapRr(MapRr::<I>::empty(alloc, kind)?)),
+            _ => Ok(LayerState::Simple(Simple::empty(alloc, kind)?)),
         }
     }
 
@@ -109,48 +96,26 @@ impl<I: Crdt> Crdt for Layer<I> {
 
     fn is_blank(state: &LayerState<I::State>) -> bool {
         match state {
-            LayerState::CounterPn(state) => CounterPn::is_blank(state),
-            LayerState::CounterFat(state) => CounterFat::is_blank(state),
-            LayerState::SetGo(state) => SetGo::is_blank(state),
-            LayerState::SetAw(state) => SetAw::is_blank(state),
-            LayerState::SetRw(state) => SetRw::is_blank(state),
-            LayerState::FlagEw(state) => FlagEw::is_blank(state),
-            LayerState::FlagDw(state) => FlagDw::is_blank(state),
-            LayerState::RegisterLww(state) => RegisterLww::is_blank(state),
-            LayerState::RegisterMv(state) => RegisterMv::is_blank(state),
+            LayerState::Simple(state) => Simple::is_blank(state),
             LayerState::MapGo(state) => MapGo::<I>::is_blank(state),
             LayerState::MapRr(state) => MapRr::<I>::is_blank(state),
         }
     }
 
-    fn generate(
+    fn effect(
         alloc: Global,
         kind: Kind,
         path: &[Field],
         act: &Act,
         state: &LayerState<I::State>,
         now: u64,
-    ) -> Result<LayerEffect<I::Effect>, GenError> {
-        if Self::is_too_deep(kind, path) {
-            return Err(GenError::TooDeep);
-        }
-        if !fits_at(kind, path, act) {
-            return Err(GenError::BadOp);
-        }
-        Ok(effect_of::<I>(alloc, kind, path, act, state, now)?)
+    ) -> Result<LayerEffect<I::Effect>, AllocError> {
+        effect_of::<I>(alloc, kind, path, act, state, now)
     }
 
     fn stamp(effect: &LayerEffect<I::Effect>) -> Option<u64> {
         match effect {
-            LayerEffect::CounterPn(effect) => CounterPn::stamp(effect),
-            LayerEffect::CounterFat(effect) => CounterFat::stamp(effect),
-            LayerEffect::SetGo(effect) => SetGo::stamp(effect),
-            LayerEffect::SetAw(effect) => SetAw::stamp(effect),
-            LayerEffect::SetRw(effect) => SetRw::stamp(effect),
-            LayerEffect::FlagEw(effect) => FlagEw::stamp(effect),
-            LayerEffect::FlagDw(effect) => FlagDw::stamp(effect),
-            LayerEffect::RegisterLww(effect) => RegisterLww::stamp(effect),
-            LayerEffect::RegisterMv(effect) => RegisterMv::stamp(effect),
+            LayerEffect::Simple(effect) => Simple::stamp(effect),
             LayerEffect::MapGo(effect) => MapGo::<I>::stamp(effect),
             LayerEffect::MapRr(effect) => MapRr::<I>::stamp(effect),
         }
@@ -163,35 +128,7 @@ impl<I: Crdt> Crdt for Layer<I> {
         effect: &LayerEffect<I::Effect>,
     ) -> Result<(), AllocError> {
         match state {
-            LayerState::CounterPn(state) => apply_if::<CounterPn>(
-                alloc,
-                state,
-                dot,
-                effect.counter_pn(),
-            ),
-            LayerState::CounterFat(state) => apply_if::<CounterFat>(
-                alloc,
-                state,
-                dot,
-                effect.counter_fat(),
-            ),
-            LayerState::SetGo(state) => apply_if::<SetGo>(alloc, state, dot, effect.set_go()),
-            LayerState::SetAw(state) => apply_if::<SetAw>(alloc, state, dot, effect.set_aw()),
-            LayerState::SetRw(state) => apply_if::<SetRw>(alloc, state, dot, effect.set_rw()),
-            LayerState::FlagEw(state) => apply_if::<FlagEw>(alloc, state, dot, effect.flag_ew()),
-            LayerState::FlagDw(state) => apply_if::<FlagDw>(alloc, state, dot, effect.flag_dw()),
-            LayerState::RegisterLww(state) => apply_if::<RegisterLww>(
-                alloc,
-                state,
-                dot,
-                effect.register_lww(),
-            ),
-            LayerState::RegisterMv(state) => apply_if::<RegisterMv>(
-                alloc,
-                state,
-                dot,
-                effect.register_mv(),
-            ),
+            LayerState::Simple(state) => apply_if::<Simple>(alloc, state, dot, effect.simple()),
             LayerState::MapGo(state) => apply_if::<MapGo<I>>(alloc, state, dot, effect.map_go()),
             LayerState::MapRr(state) => apply_if::<MapRr<I>>(alloc, state, dot, effect.map_rr()),
         }
@@ -202,23 +139,7 @@ impl<I: Crdt> Crdt for Layer<I> {
         state: &LayerState<I::State>,
     ) -> Result<LayerState<I::State>, AllocError> {
         match state {
-            LayerState::CounterPn(state) => Ok(LayerState::CounterPn(CounterPn::copy(
-                alloc, state,
-            )?)),
-            LayerState::CounterFat(state) => Ok(LayerState::CounterFat(CounterFat::copy(
-                alloc, state,
-            )?)),
-            LayerState::SetGo(state) => Ok(LayerState::SetGo(SetGo::copy(alloc, state)?)),
-            LayerState::SetAw(state) => Ok(LayerState::SetAw(SetAw::copy(alloc, state)?)),
-            LayerState::SetRw(state) => Ok(LayerState::SetRw(SetRw::copy(alloc, state)?)),
-            LayerState::FlagEw(state) => Ok(LayerState::FlagEw(FlagEw::copy(alloc, state)?)),
-            LayerState::FlagDw(state) => Ok(LayerState::FlagDw(FlagDw::copy(alloc, state)?)),
-            LayerState::RegisterLww(state) => Ok(LayerState::RegisterLww(RegisterLww::copy(
-                alloc, state,
-            )?)),
-            LayerState::RegisterMv(state) => Ok(LayerState::RegisterMv(RegisterMv::copy(
-                alloc, state,
-            )?)),
+            LayerState::Simple(state) => Ok(LayerState::Simple(Simple::copy(alloc, state)?)),
             LayerState::MapGo(state) => Ok(LayerState::MapGo(MapGo::<I>::copy(alloc, state)?)),
             LayerState::MapRr(state) => Ok(LayerState::MapRr(MapRr::<I>::copy(alloc, state)?)),
         }
@@ -229,31 +150,7 @@ impl<I: Crdt> Crdt for Layer<I> {
         effect: &LayerEffect<I::Effect>,
     ) -> Result<LayerEffect<I::Effect>, AllocError> {
         match effect {
-            LayerEffect::CounterPn(effect) => Ok(LayerEffect::CounterPn(CounterPn::copy_effect(
-                alloc, effect,
-            )?)),
-            LayerEffect::CounterFat(effect) => Ok(LayerEffect::CounterFat(CounterFat::copy_effect(
-                alloc, effect,
-            )?)),
-            LayerEffect::SetGo(effect) => Ok(LayerEffect::SetGo(SetGo::copy_effect(
-                alloc, effect,
-            )?)),
-            LayerEffect::SetAw(effect) => Ok(LayerEffect::SetAw(SetAw::copy_effect(
-                alloc, effect,
-            )?)),
-            LayerEffect::SetRw(effect) => Ok(LayerEffect::SetRw(SetRw::copy_effect(
-                alloc, effect,
-            )?)),
-            LayerEffect::FlagEw(effect) => Ok(LayerEffect::FlagEw(FlagEw::copy_effect(
-                alloc, effect,
-            )?)),
-            LayerEffect::FlagDw(effect) => Ok(LayerEffect::FlagDw(FlagDw::copy_effect(
-                alloc, effect,
-            )?)),
-            LayerEffect::RegisterLww(effect) => Ok(LayerEffect::RegisterLww(
-                RegisterLww::copy_effect(alloc, effect)?,
-            )),
-            LayerEffect::RegisterMv(effect) => Ok(LayerEffect::RegisterMv(RegisterMv::copy_effect(
+            LayerEffect::Simple(effect) => Ok(LayerEffect::Simple(Simple::copy_effect(
                 alloc, effect,
             )?)),
             LayerEffect::MapGo(effect) => Ok(LayerEffect::MapGo(MapGo::<I>::copy_effect(
@@ -267,15 +164,7 @@ impl<I: Crdt> Crdt for Layer<I> {
 
     fn value(alloc: Global, state: &LayerState<I::State>) -> Result<Value, AllocError> {
         match state {
-            LayerState::CounterPn(state) => CounterPn::value(alloc, state),
-            LayerState::CounterFat(state) => CounterFat::value(alloc, state),
-            LayerState::SetGo(state) => SetGo::value(alloc, state),
-            LayerState::SetAw(state) => SetAw::value(alloc, state),
-            LayerState::SetRw(state) => SetRw::value(alloc, state),
-            LayerState::FlagEw(state) => FlagEw::value(alloc, state),
-            LayerState::FlagDw(state) => FlagDw::value(alloc, state),
-            LayerState::RegisterLww(state) => RegisterLww::value(alloc, state),
-            LayerState::RegisterMv(state) => RegisterMv::value(alloc, state),
+            LayerState::Simple(state) => Simple::value(alloc, state),
             LayerState::MapGo(state) => MapGo::<I>::value(alloc, state),
             LayerState::MapRr(state) => MapRr::<I>::value(alloc, state),
         }
@@ -283,15 +172,7 @@ impl<I: Crdt> Crdt for Layer<I> {
 
     fn put_effect(out: &mut Vec<u8>, effect: &LayerEffect<I::Effect>) -> Result<(), AllocError> {
         match effect {
-            LayerEffect::CounterPn(effect) => CounterPn::put_effect(out, effect),
-            LayerEffect::CounterFat(effect) => CounterFat::put_effect(out, effect),
-            LayerEffect::SetGo(effect) => SetGo::put_effect(out, effect),
-            LayerEffect::SetAw(effect) => SetAw::put_effect(out, effect),
-            LayerEffect::SetRw(effect) => SetRw::put_effect(out, effect),
-            LayerEffect::FlagEw(effect) => FlagEw::put_effect(out, effect),
-            LayerEffect::FlagDw(effect) => FlagDw::put_effect(out, effect),
-            LayerEffect::RegisterLww(effect) => RegisterLww::put_effect(out, effect),
-            LayerEffect::RegisterMv(effect) => RegisterMv::put_effect(out, effect),
+            LayerEffect::Simple(effect) => Simple::put_effect(out, effect),
             LayerEffect::MapGo(effect) => MapGo::<I>::put_effect(out, effect),
             LayerEffect::MapRr(effect) => MapRr::<I>::put_effect(out, effect),
         }
@@ -304,42 +185,6 @@ impl<I: Crdt> Crdt for Layer<I> {
         at: usize,
     ) -> Result<(LayerEffect<I::Effect>, usize), TakeError> {
         match kind {
-            Kind::CounterPn => {
-                let (effect, end) = CounterPn::take_effect(alloc, kind, bytes, at)?;
-                Ok((LayerEffect::CounterPn(effect), end))
-            }
-            Kind::CounterFat => {
-                let (effect, end) = CounterFat::take_effect(alloc, kind, bytes, at)?;
-                Ok((LayerEffect::CounterFat(effect), end))
-            }
-            Kind::SetGo => {
-                let (effect, end) = SetGo::take_effect(alloc, kind, bytes, at)?;
-                Ok((LayerEffect::SetGo(effect), end))
-            }
-            Kind::SetAw => {
-                let (effect, end) = SetAw::take_effect(alloc, kind, bytes, at)?;
-                Ok((LayerEffect::SetAw(effect), end))
-            }
-            Kind::SetRw => {
-                let (effect, end) = SetRw::take_effect(alloc, kind, bytes, at)?;
-                Ok((LayerEffect::SetRw(effect), end))
-            }
-            Kind::FlagEw => {
-                let (effect, end) = FlagEw::take_effect(alloc, kind, bytes, at)?;
-                Ok((LayerEffect::FlagEw(effect), end))
-            }
-            Kind::FlagDw => {
-                let (effect, end) = FlagDw::take_effect(alloc, kind, bytes, at)?;
-                Ok((LayerEffect::FlagDw(effect), end))
-            }
-            Kind::RegisterLww => {
-                let (effect, end) = RegisterLww::take_effect(alloc, kind, bytes, at)?;
-                Ok((LayerEffect::RegisterLww(effect), end))
-            }
-            Kind::RegisterMv => {
-                let (effect, end) = RegisterMv::take_effect(alloc, kind, bytes, at)?;
-                Ok((LayerEffect::RegisterMv(effect), end))
-            }
             Kind::MapGo => {
                 let (effect, end) = MapGo::<I>::take_effect(alloc, kind, bytes, at)?;
                 Ok((LayerEffect::MapGo(effect), end))
@@ -347,6 +192,10 @@ impl<I: Crdt> Crdt for Layer<I> {
             Kind::MapRr => {
                 let (effect, end) = MapRr::<I>::take_effect(alloc, kind, bytes, at)?;
                 Ok((LayerEffect::MapRr(effect), end))
+            }
+            _ => {
+                let (effect, end) = Simple::take_effect(alloc, kind, bytes, at)?;
+                Ok((LayerEffect::Simple(effect), end))
             }
         }
     }

@@ -7,12 +7,19 @@ mod laws;
 mod layer;
 mod nothing;
 mod part;
+mod simple;
+mod simple_effect;
+mod simple_generate;
+mod simple_state;
 mod state;
 
 pub use effect::LayerEffect;
 pub use laws::{law_any, law_meanings};
 pub use layer::Layer;
 pub use nothing::Nothing;
+pub use simple::Simple;
+pub use simple_effect::SimpleEffect;
+pub use simple_state::SimpleState;
 pub use state::LayerState;
 
 /// Kinds whose maps have no fields.

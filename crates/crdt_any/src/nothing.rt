@@ -1,9 +1,9 @@
 ghost use Rattle.std.specs.Prelude.{◌≡◌, [], true, false, None, Err};
 ghost use Rattle.field_codec.specs.declared.error.TakeError.TheVariants.{Bad};
 ghost use Rattle.crdt_core.specs.declared.value.Value.TheVariants.{Flag};
-ghost use Rattle.crdt_any.specs.NothingLaws.{nothing_law, nothing_in_maps, nothing_resets, nothing_spells, nothing_stands};
+ghost use Rattle.crdt_any.specs.NothingLaws.{nothing_law, nothing_in_maps, nothing_resets, nothing_spells, nothing_named};
 
-use crdt_core::{Act, Crdt, Field, GenError, Kind, Op, Value, fits_at, reads_state};
+use crdt_core::{Act, Crdt, Field, Kind, Op, Value, reads_state};
 use field_codec::TakeError;
 use site_vector::Dot;
 use std::alloc::{AllocError, Global};
@@ -22,9 +22,9 @@ impl Crdt for Nothing {
 
     ghost initial = { λ k. tt };
 
-    ghost step = { λ s d e. tt };
+    ghost applied = { λ s d e. tt };
 
-    ghost made = { λ k s p a n. tt };
+    ghost generated = { λ k s p a n. tt };
 
     ghost value_of = { λ s. Flag false };
 
@@ -54,7 +54,7 @@ impl Crdt for Nothing {
 
     ghost spells = { nothing_spells };
 
-    ghost stands = { nothing_stands };
+    ghost named = { nothing_named };
 
     ghost is_blank = { λ s. true };
 
@@ -82,17 +82,14 @@ impl Crdt for Nothing {
         true
     }
 
-    fn generate(
+    fn effect(
         alloc: Global,
         kind: Kind,
         path: &[Field],
         act: &Act,
         state: &(),
         now: u64,
-    ) -> Result<(), GenError> {
-        if !fits_at(kind, path, act) {
-            return Err(GenError::BadOp);
-        }
+    ) -> Result<(), AllocError> {
         Ok(())
     }
 

@@ -1,116 +1,25 @@
 ghost use Rattle.std.specs.Prelude.{◌≡◌};
 ghost use Rattle.std.specs.Option.{option_copied};
-ghost use Rattle.crdt_any.specs.Cases.{counter_pn_state, counter_fat_state, set_go_state, set_aw_state, set_rw_state, flag_ew_state, flag_dw_state, register_lww_state, register_mv_state, map_go_state, map_rr_state};
+ghost use Rattle.crdt_any.specs.Layer.{simple_state, map_go_state, map_rr_state};
 
-use crdt_core::Kept;
+use crate::SimpleState;
 use crdt_maps::Fields;
-use crdt_registers::Stamped;
-use crdt_sets::{Elements, TextSet};
-use field_codec::Text;
 
 /// The state of an object of any kind, where `S` are the states of the fields of maps.
 #[derive(Drop)]
 pub enum LayerState<S> {
-    CounterPn(i128),
-    CounterFat(Kept<i64>),
-    SetGo(TextSet),
-    SetAw(Elements),
-    SetRw(Elements),
-    FlagEw(Kept<bool>),
-    FlagDw(Kept<bool>),
-    RegisterLww(Option<Stamped>),
-    RegisterMv(Kept<Text>),
+    Simple(SimpleState),
     MapGo(Fields<S>),
     MapRr(Fields<S>),
 }
 
 impl<S> LayerState<S> {
-    /// The state, if it is that of a `CounterPn`.
-    pub fn counter_pn(&self) -> Option<&i128>
-        ensures { option_copied result ≡ counter_pn_state self.now }
+    /// The state, if it is that of a kind without fields.
+    pub fn simple(&self) -> Option<&SimpleState>
+        ensures { option_copied result ≡ simple_state self.now }
     {
         match self {
-            LayerState::CounterPn(state) => Some(state),
-            _ => None,
-        }
-    }
-
-    /// The state, if it is that of a `CounterFat`.
-    pub fn counter_fat(&self) -> Option<&Kept<i64>>
-        ensures { option_copied result ≡ counter_fat_state self.now }
-    {
-        match self {
-            LayerState::CounterFat(state) => Some(state),
-            _ => None,
-        }
-    }
-
-    /// The state, if it is that of a `SetGo`.
-    pub fn set_go(&self) -> Option<&TextSet>
-        ensures { option_copied result ≡ set_go_state self.now }
-    {
-        match self {
-            LayerState::SetGo(state) => Some(state),
-            _ => None,
-        }
-    }
-
-    /// The state, if it is that of a `SetAw`.
-    pub fn set_aw(&self) -> Option<&Elements>
-        ensures { option_copied result ≡ set_aw_state self.now }
-    {
-        match self {
-            LayerState::SetAw(state) => Some(state),
-            _ => None,
-        }
-    }
-
-    /// The state, if it is that of a `SetRw`.
-    pub fn set_rw(&self) -> Option<&Elements>
-        ensures { option_copied result ≡ set_rw_state self.now }
-    {
-        match self {
-            LayerState::SetRw(state) => Some(state),
-            _ => None,
-        }
-    }
-
-    /// The state, if it is that of a `FlagEw`.
-    pub fn flag_ew(&self) -> Option<&Kept<bool>>
-        ensures { option_copied result ≡ flag_ew_state self.now }
-    {
-        match self {
-            LayerState::FlagEw(state) => Some(state),
-            _ => None,
-        }
-    }
-
-    /// The state, if it is that of a `FlagDw`.
-    pub fn flag_dw(&self) -> Option<&Kept<bool>>
-        ensures { option_copied result ≡ flag_dw_state self.now }
-    {
-        match self {
-            LayerState::FlagDw(state) => Some(state),
-            _ => None,
-        }
-    }
-
-    /// The state, if it is that of a `RegisterLww`.
-    pub fn register_lww(&self) -> Option<&Option<Stamped>>
-        ensures { option_copied result ≡ register_lww_state self.now }
-    {
-        match self {
-            LayerState::RegisterLww(state) => Some(state),
-            _ => None,
-        }
-    }
-
-    /// The state, if it is that of a `RegisterMv`.
-    pub fn register_mv(&self) -> Option<&Kept<Text>>
-        ensures { option_copied result ≡ register_mv_state self.now }
-    {
-        match self {
-            LayerState::RegisterMv(state) => Some(state),
+            LayerState::Simple(state) => Some(state),
             _ => None,
         }
     }

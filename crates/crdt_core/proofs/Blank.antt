@@ -9,7 +9,7 @@ use Rattle.crdt_core.specs.declared.kind.Kind.{Kind}
 use Rattle.crdt_core.specs.declared.kind.Kind.TheVariants.{MapRr}
 use Rattle.crdt_core.specs.Kinds.{same_kind}
 use Rattle.crdt_core.specs.Fits.{stands_in}
-use Rattle.crdt_core.specs.Leaves.{same_kind_is}
+use Rattle.crdt_core.specs.KindCodes.{same_kind_is}
 use Rattle.crdt_core.specs.Kept.{KeptAt, without, keeps_none}
 use Rattle.crdt_core.proofs.KeptSteps.{without_none}
 

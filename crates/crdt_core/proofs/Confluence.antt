@@ -1,16 +1,20 @@
 -- Two histories of the same updates fold to equal states, for whoever keeps its steps.
-use Rattle.std.proofs.Common.{◌≡◌, ℕ, zero, suc, ◌≤◌, Bool, true, false, cond, ◌||◌, List, [], ◌∷◌, ◌++◌, length, refl, sym, ap, ◌∙◌, subst, arith, ⊎_elim}
-use Rattle.std.specs.Prelude.{filter}
+use Rattle.std.proofs.Common.{◌≡◌, ℕ, zero, suc, ◌≤◌, Bool, true, false, cond, ◌&&◌, ◌||◌, List, [], ◌∷◌, ◌++◌, length, refl, sym, ap, ◌∙◌, subst, arith, ⊎_elim}
+use Rattle.std.specs.Prelude.{filter, map}
 use Rattle.std.specs.List.{list_any}
 use Rattle.std.proofs.lemmas.List.Folds.{list_any-append}
-use Rattle.std.proofs.lemmas.Bool.{true≢false, or_parts, or_cases, or_left, or_right, false_from_ne_true}
+use Rattle.std.proofs.lemmas.Bool.{true≢false, or_parts, or_from, or_cases, or_left, or_right, and_parts, and_from, and_right, false_from_ne_true}
 use Rattle.site_vector.specs.declared.ids.Dot.{Dot}
 use Rattle.site_vector.specs.Ids.{same_dot}
-use Rattle.site_vector.specs.Order.{same_dot_is}
+use Rattle.site_vector.specs.Order.{same_dot_is, same_dot_refl}
+use Rattle.crdt_core.specs.declared.kind.Kind.{Kind}
+use Rattle.crdt_core.specs.declared.object.Field.{Field}
+use Rattle.crdt_core.specs.declared.operation.Act.{Act}
+use Rattle.crdt_core.specs.Alike.{IsAlike, AlikeAmong, AreAlike}
 use Rattle.crdt_core.specs.Same.{Same}
-use Rattle.crdt_core.specs.Seen.{Update, sees}
-use Rattle.crdt_core.specs.History.{IsClosed, IsNext, IsHistory, folded, seen_by, effects, state_after}
-use Rattle.crdt_core.specs.Law.{KeepsSteps}
+use Rattle.crdt_core.specs.Seen.{Update, sees, has_dot}
+use Rattle.crdt_core.specs.History.{IsClosed, IsNext, IsHistory, folded, seen_by, effects, effect_after, state_after}
+use Rattle.crdt_core.specs.Law.{KeepsSteps, made_by}
 
 swap_or : (a b c : Bool) → (a || (b || c)) ≡ (b || (a || c))
 swap_or a b c = grind arith
@@ -51,28 +55,28 @@ module _ {A : Type 0} where
       ] refl
 
 -- the updates whose dots pass
-abbrev pub part : (Dot → Bool) → List Update → List Update
-part p us = filter (λ u. p u.dot) us
+abbrev pub passing_of : (Dot → Bool) → List Update → List Update
+passing_of p us = filter (λ u. p u.dot) us
 
-any_part : (q : Update → Bool) (p : Dot → Bool) (us : List Update) → list_any q us ≡ false → list_any q (part p us) ≡ false
+any_part : (q : Update → Bool) (p : Dot → Bool) (us : List Update) → list_any q us ≡ false → list_any q (passing_of p us) ≡ false
 any_part q p [] h = refl
 any_part q p (u ∷ us) h = let two = or_parts (q u) (list_any q us) h in
-    elim (p u.dot) as (λ b. list_any q (cond b (u ∷ part p us) (part p us)) ≡ false) [ true ↦ rw two.0 (any_part q p us two.1) | false ↦ any_part q p us two.1 ]
+    elim (p u.dot) as (λ b. list_any q (cond b (u ∷ passing_of p us) (passing_of p us)) ≡ false) [ true ↦ rw two.0 (any_part q p us two.1) | false ↦ any_part q p us two.1 ]
 
-closed_part : (q p : Dot → Bool) (us : List Update) → IsClosed q us → IsClosed q (part p us)
+closed_part : (q p : Dot → Bool) (us : List Update) → IsClosed q us → IsClosed q (passing_of p us)
 closed_part q p [] h = h
-closed_part q p (u ∷ us) h = elim (p u.dot) as (λ b. IsClosed q (cond b (u ∷ part p us) (part p us))) [ true ↦ (h.0, closed_part q p us h.1) | false ↦ closed_part q p us h.1 ]
+closed_part q p (u ∷ us) h = elim (p u.dot) as (λ b. IsClosed q (cond b (u ∷ passing_of p us) (passing_of p us))) [ true ↦ (h.0, closed_part q p us h.1) | false ↦ closed_part q p us h.1 ]
 
-pub history_part : (p : Dot → Bool) (us : List Update) → IsHistory us → IsHistory (part p us)
+pub history_part : (p : Dot → Bool) (us : List Update) → IsHistory us → IsHistory (passing_of p us)
 history_part p [] h = h
-history_part p (u ∷ us) h = elim (p u.dot) as (λ b. IsHistory (cond b (u ∷ part p us) (part p us))) [
+history_part p (u ∷ us) h = elim (p u.dot) as (λ b. IsHistory (cond b (u ∷ passing_of p us) (passing_of p us))) [
   | true ↦ (record { new = any_part _ p us h.0.new; unseen = any_part _ p us h.0.unseen; apart = h.0.apart; closed = closed_part (sees u) p us h.0.closed }, history_part p us h.1)
   | false ↦ history_part p us h.1
 ]
 
-length_part : (p : Dot → Bool) (us : List Update) → length (part p us) ≤ length us
+length_part : (p : Dot → Bool) (us : List Update) → length (passing_of p us) ≤ length us
 length_part p [] = omega arith
-length_part p (u ∷ us) = let rest = length_part p us in elim (p u.dot) as (λ b. length (cond b (u ∷ part p us) (part p us)) ≤ suc (length us)) [ true ↦ omega (arith, rest) | false ↦ omega (arith, rest) ]
+length_part p (u ∷ us) = let rest = length_part p us in elim (p u.dot) as (λ b. length (cond b (u ∷ passing_of p us) (passing_of p us)) ≤ suc (length us)) [ true ↦ omega (arith, rest) | false ↦ omega (arith, rest) ]
 
 -- none of these updates has seen u, is seen by it, or has its dot
 abbrev IsBeside : Update → List Update → Type 0
@@ -121,17 +125,17 @@ module _ {S E : Type 0} (initial : S) (step : S → Dot → E → S) (make : S �
   effect_of u es = make (fold_of (seen_by u es)) u
 
   -- the effects of a closed part are that part of the effects
-  pub made_part : (p : Dot → Bool) (us : List Update) → IsClosed p us → made_of (part p us) ≡ passing p (made_of us)
+  pub made_part : (p : Dot → Bool) (us : List Update) → IsClosed p us → made_of (passing_of p us) ≡ passing p (made_of us)
   made_part p [] h = refl
   made_part p (u ∷ us) h =
       let rest = made_part p us h.1 in
-      elim (p u.dot) as (λ b. p u.dot ≡ b → made_of (cond b (u ∷ part p us) (part p us)) ≡ cond b ((u.dot, effect_of u (made_of us)) ∷ passing p (made_of us)) (passing p (made_of us))) [
+      elim (p u.dot) as (λ b. p u.dot ≡ b → made_of (cond b (u ∷ passing_of p us) (passing_of p us)) ≡ cond b ((u.dot, effect_of u (made_of us)) ∷ passing p (made_of us)) (passing p (made_of us))) [
         | true ↦ λ e. ap (λ es. (u.dot, effect_of u es) ∷ es) rest ∙ ap (λ es. (u.dot, make (fold_of es) u) ∷ passing p (made_of us)) (filter_twice (λ e. p e.0) (λ e. sees u e.0) (made_of us) (λ x. h.0 e x.0))
         | false ↦ λ e. rest
       ] refl
 
   -- what an update has seen, folded, is the state after the part that it has seen
-  pub seen_part : (u : Update) (us : List Update) → IsNext us u → fold_of (seen_by u (made_of us)) ≡ state_after initial step make (part (sees u) us)
+  pub seen_part : (u : Update) (us : List Update) → IsNext us u → fold_of (seen_by u (made_of us)) ≡ state_after initial step make (passing_of (sees u) us)
   seen_part u us h = ap fold_of (sym (made_part (sees u) us h.closed))
 
   -- the effects of the updates in front over those behind
@@ -198,12 +202,102 @@ module _ {S E : Type 0} (initial : S) (step : S → Dot → E → S) (make : S �
         let short : length us ≤ n = omega arith in
         let rest = same_states n us (front ++ back) short a.1 without s.3 in
         let p = sees u in
-        let parts = same_states n (part p us) (part p (front ++ back)) (omega (arith, length_part p us)) (history_part p us a.1) (history_part p (front ++ back) without) (filter_same (λ v. p v.dot) us (front ++ back) s.3) in
+        let parts = same_states n (passing_of p us) (passing_of p (front ++ back)) (omega (arith, length_part p us)) (history_part p us a.1) (history_part p (front ++ back) without) (filter_same (λ v. p v.dot) us (front ++ back) s.3) in
         let seen : fold_of (seen_by u (made_of us)) ≡ fold_of (seen_by u (made_of back)) =
         ap fold_of (sym (made_part p us a.0.closed)) ∙ parts ∙ ap fold_of (made_part p (front ++ back) (closed_same p us (front ++ back) s.3 a.0.closed) ∙ ap (passing p) (on_append front back) ∙ behind_alone u (made_of back) front beside) in
         (λ i. step (rest i) u.dot (make (seen i) u))
         ∙ ap (λ t. step t u.dot (effect_of u (made_of back))) (ap fold_of (on_append front back))
         ∙ sym (ap (λ us. state_after initial step make us) s.2 ∙ ap fold_of (on_append front (u ∷ back)) ∙ comes_last u (made_of back) front beside)
 
-    pub confluence : (h k : List Update) → IsHistory h → IsHistory k → Same h k → state_after initial step make h ≡ state_after initial step make k
-    confluence h k = same_states (length h) h k (omega arith)
+    pub same_folded : (h k : List Update) → IsHistory h → IsHistory k → Same h k → state_after initial step make h ≡ state_after initial step make k
+    same_folded h k = same_states (length h) h k (omega arith)
+
+-- an update that has seen what passes alone
+abbrev trimmed : (Dot → Bool) → Update → Update
+trimmed p u = record { dot = u.dot; path = u.path; act = u.act; stamp = u.stamp; now = u.now; saw = λ d. p d && sees u d }
+
+abbrev trim : (Dot → Bool) → List Update → List Update
+trim p us = map (trimmed p) us
+
+-- the dots of a list pass
+abbrev Pass : (Dot → Bool) → List Update → Type 0
+Pass p [] = Unit {0}
+Pass p (u ∷ us) = (p u.dot ≡ true) × Pass p us
+
+all_pass : (p : Dot → Bool) (us : List Update) → ((d : Dot) → has_dot us d ≡ true → p d ≡ true) → Pass p us
+all_pass p [] f = tt
+all_pass p (u ∷ us) f = (f u.dot (or_left (same_dot u.dot u.dot) _ (same_dot_refl u.dot)), all_pass p us (λ d h. f d (or_right (same_dot u.dot d) _ h)))
+
+pass_with : (p : Dot → Bool) (u : Update) (front back : List Update) → p u.dot ≡ true → Pass p (front ++ back) → Pass p (front ++ u ∷ back)
+pass_with p u [] back f c = (f, c)
+pass_with p u (v ∷ vs) back f c = (c.0, pass_with p u vs back f c.1)
+
+pass_alike : (p : Dot → Bool) (listed us vs : List Update) → AlikeAmong listed us vs → Pass p us → Pass p vs
+pass_alike p listed [] vs a c = subst (Pass p) (sym a) c
+pass_alike p listed (u ∷ us) vs a c = subst (Pass p) (sym a.3) (pass_with p a.1 a.0 a.2 (ap p (sym a.4.dot) ∙ c.0) (pass_alike p listed us (a.0 ++ a.2) a.5 c.1))
+
+both_if : (b x y : Bool) → (b ≡ true → x ≡ y) → (b && x) ≡ (b && y)
+both_if true x y f = f refl
+both_if false x y f = refl
+
+-- what is alike is the same update once trimmed
+trimmed_alike : (listed : List Update) (u v : Update) → IsAlike listed u v → trimmed (has_dot listed) u ≡ trimmed (has_dot listed) v
+trimmed_alike listed u v a = λ i. record { dot = a.dot i; path = a.path i; act = a.act i; stamp = a.stamp i; now = a.now i; saw = λ d. both_if (has_dot listed d) (sees u d) (sees v d) (a.saw d) i }
+
+trim_append : (p : Dot → Bool) (us vs : List Update) → trim p (us ++ vs) ≡ trim p us ++ trim p vs
+trim_append p [] vs = refl
+trim_append p (u ∷ us) vs = ap (λ l. trimmed p u ∷ l) (trim_append p us vs)
+
+trim_alike : (listed us vs : List Update) → AlikeAmong listed us vs → Same (trim (has_dot listed) us) (trim (has_dot listed) vs)
+trim_alike listed [] vs a = ap (trim (has_dot listed)) a
+trim_alike listed (u ∷ us) vs a =
+    let p = has_dot listed in (
+      trim p a.0,
+      trim p a.2,
+      ap (trim p) a.3 ∙ trim_append p a.0 (a.1 ∷ a.2) ∙ ap (λ w. trim p a.0 ++ w ∷ trim p a.2) (sym (trimmed_alike listed u a.1 a.4)),
+      subst (Same (trim p us)) (trim_append p a.0 a.2) (trim_alike listed us (a.0 ++ a.2) a.5),
+    )
+
+-- a trimmed history is one
+dots_trimmed : (p : Dot → Bool) (us : List Update) (d : Dot) → has_dot (trim p us) d ≡ has_dot us d
+dots_trimmed p [] d = refl
+dots_trimmed p (u ∷ us) d = ap (λ b. same_dot u.dot d || b) (dots_trimmed p us d)
+
+unseen_trimmed : (p : Dot → Bool) (us : List Update) (d : Dot) → list_any (λ v. sees v d) us ≡ false → list_any (λ v. sees v d) (trim p us) ≡ false
+unseen_trimmed p [] d h = refl
+unseen_trimmed p (u ∷ us) d h = let two = or_parts (sees u d) _ h in or_from _ _ (and_right (p d) (sees u d) two.0) (unseen_trimmed p us d two.1)
+
+closed_trimmed : (p q : Dot → Bool) (us : List Update) → IsClosed q us → IsClosed (λ d. p d && q d) (trim p us)
+closed_trimmed p q [] h = tt
+closed_trimmed p q (u ∷ us) h = ((λ t d s. let two = and_parts (p d) (sees u d) s in and_from _ _ two.0 (h.0 (and_parts (p u.dot) (q u.dot) t).1 d two.1)), closed_trimmed p q us h.1)
+
+history_trimmed : (p : Dot → Bool) (us : List Update) → IsHistory us → IsHistory (trim p us)
+history_trimmed p [] h = tt
+history_trimmed p (u ∷ us) h =
+    (record { new = dots_trimmed p us u.dot ∙ h.0.new; unseen = unseen_trimmed p us u.dot h.0.unseen; apart = and_right (p u.dot) _ h.0.apart; closed = closed_trimmed p (sees u) us h.0.closed }, history_trimmed p us h.1)
+
+-- an effect is made by path, act and clock value, and so is that of a trimmed update
+module _ {S E : Type 0} (initial : S) (step : S → Dot → E → S) (made : Kind → S → List Field → Act → ℕ → E) (k : Kind) where
+  abbrev effects_of : List Update → List (Dot × E)
+  effects_of us = effects initial step (made_by made k) us
+
+  seen_trimmed : (p : Dot → Bool) (u : Update) (us : List Update) → Pass p us → seen_by (trimmed p u) (effects_of us) ≡ seen_by u (effects_of us)
+  seen_trimmed p u [] h = refl
+  seen_trimmed p u (v ∷ vs) h =
+      let rest = seen_trimmed p u vs h.1 in
+      let e = effect_after initial step (made_by made k) vs v in
+      (λ i. cond (h.0 i && sees u v.dot) ((v.dot, e) ∷ rest i) (rest i))
+
+  effects_trimmed : (p : Dot → Bool) (us : List Update) → Pass p us → effects_of (trim p us) ≡ effects_of us
+  effects_trimmed p [] h = refl
+  effects_trimmed p (u ∷ us) h =
+      ap (λ es. (u.dot, made k (folded initial step (seen_by (trimmed p u) es)) u.path u.act u.now) ∷ es) (effects_trimmed p us h.1)
+      ∙ ap (λ es. (u.dot, made k (folded initial step es) u.path u.act u.now) ∷ effects_of us) (seen_trimmed p u us h.1)
+
+  pub confluence : (names : E → Dot → Bool) (holds : S → Dot → Bool) → KeepsSteps initial step (made_by made k) names holds → (us vs : List Update) → IsHistory us → IsHistory vs → AreAlike us vs → state_after initial step (made_by made k) us ≡ state_after initial step (made_by made k) vs
+  confluence names holds steps us vs h g a =
+      let p = has_dot us in
+      let pass = all_pass p us (λ d h. h) in
+      ap (folded initial step) (sym (effects_trimmed p us pass))
+      ∙ same_folded initial step (made_by made k) names holds steps (trim p us) (trim p vs) (history_trimmed p us h) (history_trimmed p vs g) (trim_alike us us vs a)
+      ∙ ap (folded initial step) (effects_trimmed p vs (pass_alike p us us vs a pass))

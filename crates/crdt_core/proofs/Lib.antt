@@ -12,7 +12,8 @@ pub mod Ready
 pub mod ResetsLaws
 pub mod SetsLaws
 pub mod Sorted
-pub mod StandsLaws
+pub mod NamedDotsLaws
+pub mod TableLaws
 pub mod Trees
 pub mod VectorSteps
 pub mod WinsLaw

@@ -13,9 +13,11 @@ use Rattle.crdt_core.specs.declared.object.Field.{Field}
 use Rattle.crdt_core.specs.declared.operation.Act.{Act}
 use Rattle.crdt_core.specs.declared.operation.Act.TheVariants.{Reset}
 use Rattle.crdt_core.specs.Kinds.{same_kind}
-use Rattle.crdt_core.specs.Fits.{stands_in}
+use Rattle.crdt_core.specs.Fits.{stands_in, allows}
 use Rattle.crdt_core.specs.DotSet.{has_dot}
-use Rattle.crdt_core.specs.Kept.{KeptAt, dots_of, keeps_none}
+use Rattle.crdt_core.specs.Kept.{KeptAt, dots_of, is_kept, keeps_none}
+use Rattle.crdt_core.specs.Law.{CanBeNamed}
+use Rattle.crdt_core.proofs.KeptSteps.{has_dots_of}
 use Rattle.crdt_core.proofs.Blank.{no_keys, never_reset}
 use Rattle.crdt_core.specs.Resets.{ResetsWhatIsLeft}
 
@@ -45,3 +47,8 @@ never_resets l out = record {
   none_left = λ k s n d is resets blank. absurd (true≢false (never_reset k l is out resets));
   some_left = λ k us n is resets h fit left. absurd (true≢false (never_reset k l is out resets));
 }
+
+-- what such a kind holds, its reset names
+pub named_by_reset : {V E : Type 0} (made : Kind → KeptAt V → List Field → Act → ℕ → E) (names : E → Dot → Bool)
+    → ((k : Kind) (s : KeptAt V) (n : ℕ) (d : Dot) → names (made k s [] Reset n) d ≡ has_dot (dots_of s) d) → (k : Kind) (s : KeptAt V) (d : Dot) → allows k Reset ≡ true → is_kept s d ≡ true → CanBeNamed (λ k p. false) made names k s d
+named_by_reset made names lists k s d resets h = ([], Reset, resets, refl, λ n. lists k s n d ∙ has_dots_of s d ∙ h)

@@ -6,7 +6,7 @@ use Rattle.site_vector.specs.declared.ids.Dot.{Dot}
 use Rattle.crdt_core.specs.DotSet.{has_dot}
 use Rattle.crdt_core.specs.Spelled.{ascend}
 use Rattle.crdt_core.specs.EffectForm.{sets_ascend}
-use Rattle.crdt_core.specs.Stands.{have_update}
+use Rattle.crdt_core.specs.NamedDots.{have_update}
 
 pub or_none : (b : Bool) → (b || false) ≡ b
 or_none true = refl

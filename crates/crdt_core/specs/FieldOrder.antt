@@ -12,7 +12,7 @@ use Rattle.std.specs.FinMap.{IsAntisymmetric}
 use Rattle.crdt_core.specs.declared.kind.Kind.{Kind}
 use Rattle.crdt_core.specs.declared.object.Field.{Field}
 use Rattle.crdt_core.specs.Kinds.{kind_code, same_field}
-use Rattle.crdt_core.specs.Leaves.{kind_of, back}
+use Rattle.crdt_core.specs.KindCodes.{coded_kind, coded_back}
 use Rattle.crdt_core.specs.Texts.{text_cmp, text_cmp_total, text_cmp_exact}
 
 abbrev pub kind_cmp : Kind → Kind → Ordering
@@ -25,11 +25,11 @@ field_cmp f g = ordering_then (text_cmp f.name g.name) (kind_cmp f.kind g.kind)
 abbrev pub coded_field : Coded Field
 coded_field = code_by (List ℕ × ℕ) (coded× (coded_list coded_ℕ) coded_ℕ)
     (λ f. (f.name, kind_code f.kind))
-    (λ p. record { name = p.0; kind = kind_of p.1 })
-    (λ f. ap (λ k. record { name = f.name; kind = k }) (back f.kind))
+    (λ p. record { name = p.0; kind = coded_kind p.1 })
+    (λ f. ap (λ k. record { name = f.name; kind = k }) (coded_back f.kind))
 
 pub kind_cmp_exact : IsAntisymmetric kind_cmp
-kind_cmp_exact k l h = sym (back k) ∙ ap kind_of (exact_unsigned (kind_code k) (kind_code l) h) ∙ back l
+kind_cmp_exact k l h = sym (coded_back k) ∙ ap coded_kind (exact_unsigned (kind_code k) (kind_code l) h) ∙ coded_back l
 
 pub field_cmp_total : IsTotalOrder field_cmp
 field_cmp_total = then_total (on_total (λ (f : Field). f.name) text_cmp_total) (on_total (λ (f : Field). kind_code f.kind) nat_cmp_total)

@@ -32,4 +32,4 @@ module _ {E : Type 0} where
 
   -- the state that a read finds: the parts' updates of the object, and then the transaction's own
   abbrev pub state_read : {S : Type 0} → Kinds S E → ObjectId → TxId → List (Upd E) → List (Part E) → S
-  state_read kinds o t own read = folded (kinds.initial o.kind) kinds.step (effects_from o t (effects_of o [] read) own)
+  state_read kinds o t own read = folded (kinds.initial o.kind) kinds.applied (effects_from o t (effects_of o [] read) own)

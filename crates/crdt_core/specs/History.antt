@@ -6,8 +6,8 @@ use Rattle.crdt_core.specs.Seen.{Update, sees, has_dot}
 
 -- the state after these effects, the newest of which comes first
 abbrev pub folded : {S E : Type 0} → S → (S → Dot → E → S) → List (Dot × E) → S
-folded initial step [] = initial
-folded initial step (e ∷ es) = step (folded initial step es) e.0 e.1
+folded initial applied [] = initial
+folded initial applied (e ∷ es) = applied (folded initial applied es) e.0 e.1
 
 -- the effects of those that this update has seen
 abbrev pub seen_by : {E : Type 0} → Update → List (Dot × E) → List (Dot × E)
@@ -15,17 +15,17 @@ seen_by u es = filter (λ e. sees u e.0) es
 
 -- the effect of each update, generated on the fold of exactly those that it has seen
 abbrev pub effects : {S E : Type 0} → S → (S → Dot → E → S) → (S → Update → E) → List Update → List (Dot × E)
-effects initial step make [] = []
-effects initial step make (u ∷ us) =
-    let before = effects initial step make us in
-    (u.dot, make (folded initial step (seen_by u before)) u) ∷ before
+effects initial applied make [] = []
+effects initial applied make (u ∷ us) =
+    let before = effects initial applied make us in
+    (u.dot, make (folded initial applied (seen_by u before)) u) ∷ before
 
 -- the effect of one more update
 abbrev pub effect_after : {S E : Type 0} → S → (S → Dot → E → S) → (S → Update → E) → List Update → Update → E
-effect_after initial step make us u = make (folded initial step (seen_by u (effects initial step make us))) u
+effect_after initial applied make us u = make (folded initial applied (seen_by u (effects initial applied make us))) u
 
 abbrev pub state_after : {S E : Type 0} → S → (S → Dot → E → S) → (S → Update → E) → List Update → S
-state_after initial step make us = folded initial step (effects initial step make us)
+state_after initial applied make us = folded initial applied (effects initial applied make us)
 
 -- whoever passes the test has seen only what passes it
 abbrev pub IsClosed : (Dot → Bool) → List Update → Type 0
@@ -45,5 +45,5 @@ IsHistory (u ∷ us) = IsNext us u × IsHistory us
 
 -- each update shows the stamp of its effect
 abbrev pub IsStamped : {S E : Type 0} → S → (S → Dot → E → S) → (S → Update → E) → (E → Option ℕ) → List Update → Type 0
-IsStamped initial step make stamp_of [] = Unit {0}
-IsStamped initial step make stamp_of (u ∷ us) = (u.stamp ≡ stamp_of (effect_after initial step make us u)) × IsStamped initial step make stamp_of us
+IsStamped initial applied make stamp_of [] = Unit {0}
+IsStamped initial applied make stamp_of (u ∷ us) = (u.stamp ≡ stamp_of (effect_after initial applied make us u)) × IsStamped initial applied make stamp_of us

@@ -1,36 +1,16 @@
 -- What the table of kinds says of a kind that isn't a map.
-use Rattle.std.proofs.Common.{◌≡◌, ℕ, Bool, true, false, cond, ◌&&◌, List, [], ◌∷◌, refl, sym, ap, ◌∙◌, Some, None}
-use Rattle.std.specs.Prelude.{nat_le, length, ◌==◌, min}
-use Rattle.std.proofs.lemmas.Bool.{true≢false, and_parts, and_right, eqb-true}
+use Rattle.std.proofs.Common.{◌≡◌, Bool, true, false, cond, ◌&&◌, List, [], ◌∷◌, refl, sym, ap, ◌∙◌, Some, None}
+use Rattle.std.specs.Prelude.{nat_le, length, min}
+use Rattle.std.proofs.lemmas.Bool.{true≢false, and_parts, and_right}
 use Rattle.crdt_core.specs.declared.kind.Kind.{Kind}
-use Rattle.crdt_core.specs.declared.kind.Kind.TheVariants.{CounterPn, CounterFat, SetGo, SetAw, SetRw, FlagEw, FlagDw, RegisterLww, RegisterMv, MapGo, MapRr}
+use Rattle.crdt_core.specs.declared.kind.Kind.TheVariants.{RegisterLww}
 use Rattle.crdt_core.specs.declared.object.Field.{Field}
 use Rattle.crdt_core.specs.declared.operation.Act.{Act}
-use Rattle.crdt_core.specs.Kinds.{kind_code, same_kind, kind_at}
+use Rattle.crdt_core.specs.Kinds.{same_kind, kind_at}
 use Rattle.crdt_core.specs.Fits.{stands_in, allows, leads_to, fits}
 use Rattle.crdt_core.specs.Seen.{Update, is_assign}
 use Rattle.crdt_core.specs.Stamps.{stamp_due, last_stamp, above_all, assigns_seen}
 use Rattle.crdt_core.specs.Law.{all_fit}
-
-abbrev pub kind_of : ℕ → Kind
-kind_of n = cond (n == 1) CounterPn (cond (n == 2) CounterFat (cond (n == 3) SetGo (cond (n == 4) SetAw (cond (n == 5) SetRw (cond (n == 6) FlagEw (cond (n == 7) FlagDw (cond (n == 8) RegisterLww (cond (n == 9) RegisterMv (cond (n == 10) MapGo MapRr)))))))))
-
-pub back : (k : Kind) → kind_of (kind_code k) ≡ k
-back CounterPn = refl
-back CounterFat = refl
-back SetGo = refl
-back SetAw = refl
-back SetRw = refl
-back FlagEw = refl
-back FlagDw = refl
-back RegisterLww = refl
-back RegisterMv = refl
-back MapGo = refl
-back MapRr = refl
-
--- kinds of one code are one
-pub same_kind_is : (k l : Kind) → same_kind k l ≡ true → k ≡ l
-same_kind_is k l h = sym (back k) ∙ ap kind_of (eqb-true (kind_code k) (kind_code l) h) ∙ back l
 
 -- no kind may stand in this one
 abbrev pub IsLeaf : Kind → Type 0

@@ -1,4 +1,5 @@
 pub mod Seen
+pub mod Alike
 pub mod DotCode
 pub mod DotSet
 pub mod EffectForm
@@ -7,6 +8,7 @@ pub mod Fits
 pub mod History
 pub mod InMaps
 pub mod Kept
+pub mod KindCodes
 pub mod Kinds
 pub mod Objects
 pub mod Placing
@@ -18,7 +20,7 @@ pub mod Leaves
 pub mod MapLists
 pub mod Spelled
 pub mod SpelledLaws
-pub mod Stands
+pub mod NamedDots
 pub mod Texts
 pub mod Wins
 pub mod Parts

@@ -1,5 +1,5 @@
 -- How transactions, updates, vectors and objects are spelled, and what reading them answers.
-use Rattle.std.specs.Prelude.{ℕ, ◌^◌, Bool, true, ◌&&◌, ◌==◌, nat_le, List, ◌++◌, length, None, if◌then◌else◌}
+use Rattle.std.specs.Prelude.{ℕ, ◌^◌, Bool, true, ◌&&◌, nat_le, List, ◌++◌, length, None}
 use Rattle.std.specs.List.{flat_map, list_all}
 use Rattle.field_codec.specs.Spelling.{number, is_number, text, is_text, list, is_list, is_below, are_in_order}
 use Rattle.field_codec.specs.Reading.{Read, number_at, text_at, list_at, members_at, checked_at, then_at, mapped_at}
@@ -7,9 +7,9 @@ use Rattle.site_vector.specs.declared.ids.TxId.{TxId}
 use Rattle.site_vector.specs.declared.ids.Dot.{Dot}
 use Rattle.site_vector.specs.Order.{dot_cmp}
 use Rattle.crdt_core.specs.declared.kind.Kind.{Kind}
-use Rattle.crdt_core.specs.declared.kind.Kind.TheVariants.{CounterPn, CounterFat, SetGo, SetAw, SetRw, FlagEw, FlagDw, RegisterLww, RegisterMv, MapGo, MapRr}
 use Rattle.crdt_core.specs.declared.object.ObjectId.{ObjectId}
 use Rattle.crdt_core.specs.Kinds.{kind_code}
+use Rattle.crdt_core.specs.KindCodes.{coded_kind}
 
 abbrev pub is_between : ℕ → ℕ → ℕ → Bool
 is_between least most n = nat_le least n && nat_le n most
@@ -79,12 +79,6 @@ vector_at = mapped_at (λ p. p.1) (then_at (between_at 1 1 8) (λ n. members_at 
 
 abbrev pub kind : Kind → List ℕ
 kind k = number 1 (kind_code k)
-
--- the kind that has a code from 1 to 11
-abbrev pub coded_kind : ℕ → Kind
-coded_kind n =
-    if n == 1 then CounterPn else if n == 2 then CounterFat else if n == 3 then SetGo else if n == 4 then SetAw else if n == 5 then SetRw else
-    if n == 6 then FlagEw else if n == 7 then FlagDw else if n == 8 then RegisterLww else if n == 9 then RegisterMv else if n == 10 then MapGo else MapRr
 
 unfoldable pub kind_at : List ℕ → ℕ → Read Kind
 kind_at = mapped_at coded_kind (between_at 1 1 11)

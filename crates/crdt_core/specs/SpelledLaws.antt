@@ -17,7 +17,8 @@ use Rattle.site_vector.specs.Order.{dot_cmp}
 use Rattle.crdt_core.specs.declared.kind.Kind.{Kind}
 use Rattle.crdt_core.specs.declared.kind.Kind.TheVariants.{CounterPn, CounterFat, SetGo, SetAw, SetRw, FlagEw, FlagDw, RegisterLww, RegisterMv, MapGo, MapRr}
 use Rattle.crdt_core.specs.Kinds.{kind_code}
-use Rattle.crdt_core.specs.Spelled.{is_between, between_at, is_tx, tx, tx_of, tx_at, is_dot, dot, dot_of, dot_at, are_dots, ascend, is_dots, dots, dots_at, vector, is_vector, vector_at, kind, coded_kind, kind_at, is_object, object, object_of, object_at}
+use Rattle.crdt_core.specs.KindCodes.{coded_kind, coded_back}
+use Rattle.crdt_core.specs.Spelled.{is_between, between_at, is_tx, tx, tx_of, tx_at, is_dot, dot, dot_of, dot_at, are_dots, ascend, is_dots, dots, dots_at, vector, is_vector, vector_at, kind, kind_at, is_object, object, object_of, object_at}
 
 -- a number within bounds that its bytes can spell
 pub between_form : (width least most : ℕ) → IsWidth width → most < 256 ^ width → IsForm (is_between least most) (is_between least most) (number width) (between_at width least most)
@@ -100,19 +101,6 @@ vector_form =
     retold _ _ is_vector vector _ told (mapped_form (λ (x : ℕ × List ℕ). x.1) (λ v. (length v, v)) _ _ _ _ (λ _. refl) forth whole)
 
 -- ---- kinds and objects
-
-coded_back : (k : Kind) → coded_kind (kind_code k) ≡ k
-coded_back CounterPn = refl
-coded_back CounterFat = refl
-coded_back SetGo = refl
-coded_back SetAw = refl
-coded_back SetRw = refl
-coded_back FlagEw = refl
-coded_back FlagDw = refl
-coded_back RegisterLww = refl
-coded_back RegisterMv = refl
-coded_back MapGo = refl
-coded_back MapRr = refl
 
 is_code : (k : Kind) → is_between 1 11 (kind_code k) ≡ true
 is_code CounterPn = refl

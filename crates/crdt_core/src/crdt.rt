@@ -12,8 +12,9 @@ ghost use Rattle.crdt_core.specs.InMaps.{KeepsInMaps};
 ghost use Rattle.crdt_core.specs.Resets.{ResetsWhatIsLeft};
 ghost use Rattle.crdt_core.specs.Law.{KeepsLaw};
 ghost use Rattle.crdt_core.specs.EffectForm.{SpellsEffects, HoldsSpelled, IsReady};
-ghost use Rattle.crdt_core.specs.Stands.{NamesStand};
+ghost use Rattle.crdt_core.specs.NamedDots.{NamesAreSpelled};
 
+use crate::table::fits_at;
 use crate::{Act, Field, GenError, Kind, Op, Value};
 use field_codec::TakeError;
 use site_vector::Dot;
@@ -39,10 +40,10 @@ pub trait Crdt {
     ghost initial: { Kind → Self.State };
 
     /// The state once an effect is applied.
-    ghost step: { Self.State → Dot → Self.Effect → Self.State };
+    ghost applied: { Self.State → Dot → Self.Effect → Self.State };
 
     /// The effect of an act at a path, generated on a state at a clock value.
-    ghost made: { Kind → Self.State → List Field → Act → ℕ → Self.Effect };
+    ghost generated: { Kind → Self.State → List Field → Act → ℕ → Self.Effect };
 
     /// What a state shows.
     ghost value_of: { Self.State → Value };
@@ -56,21 +57,22 @@ pub trait Crdt {
     /// Whether the dot stands in the effect's bytes.
     ghost names: { Self.Effect → Dot → Bool };
 
-    /// Whether the dot is kept in the state.
+    /// Whether the dot is kept in the state. A state that updates left keeps the dots that an effect made on it can name,
+    /// and no other (`named` and `kept` of the law).
     ghost holds: { Self.State → Dot → Bool };
 
     /// The law of a kind.
-    ghost laws: { KeepsLaw has too_deep initial step made value_of stamp_of meaning names holds };
+    ghost laws: { KeepsLaw has too_deep initial applied generated value_of stamp_of meaning names holds };
 
     /// Whether nothing is left in the state that a reset could undo.
     ghost is_blank: { Self.State → Bool };
 
     /// What a map around the kind needs of it.
-    ghost in_maps: { KeepsInMaps has too_deep initial step made is_blank };
+    ghost in_maps: { KeepsInMaps has too_deep initial applied generated is_blank };
 
     /// Of the kinds that may stand in a map that resets: a reset names no update where it is made on a blank state, and an update
     /// where it is made on a state that a history left and that isn't blank.
-    ghost resets: { ResetsWhatIsLeft has too_deep initial step made is_blank names };
+    ghost resets: { ResetsWhatIsLeft has too_deep initial applied generated is_blank names };
 
     /// Whether the effect is one of the kind.
     ghost is_of: { Kind → Self.Effect → Bool };
@@ -98,7 +100,7 @@ pub trait Crdt {
     ghost spells: { SpellsEffects has is_of can_put is_spelled sets texts spelling reading };
 
     /// An effect names exactly the updates in the sets that stand in its bytes.
-    ghost stands: { NamesStand can_put names sets spelling };
+    ghost named: { NamesAreSpelled can_put names sets spelling };
 
     /// Whether the type has the kind. Takes no memory.
     fn has(kind: Kind) -> bool
@@ -124,7 +126,27 @@ pub trait Crdt {
     fn is_blank(state: &Self::State) -> bool
         ensures { result ≡ is_blank state.now };
 
-    /// The effect of an act at a path, on the state that was read, at a clock value in ticks.
+    /// The effect of an operation that fits, for whoever has tested that: of an act at a path, on the state that was read, at a clock
+    /// value in ticks.
+    ///
+    /// # Errors
+    ///
+    /// `AllocError` where memory runs out.
+    fn effect(
+        alloc: Global,
+        kind: Kind,
+        path: &[Field],
+        act: &Act,
+        state: &Self::State,
+        now: u64,
+    ) -> Result<Self::Effect, AllocError>
+        requires fitting { fits kind path.now act.now ≡ true }
+        requires shallow { too_deep kind path.now ≡ false }
+        ensures made { IfOk result (λ e. e ≡ generated kind state.now path.now act.now now) }
+        ensures ready { has kind ≡ true → HoldsSpelled holds state.now → IfOk result (λ e. IsReady is_of can_put sets spelling kind path.now act.now e) };
+
+    /// The effect of an act at a path, on the state that was read, at a clock value in ticks, for whoever hasn't tested whether the
+    /// operation fits.
     ///
     /// # Errors
     ///
@@ -138,11 +160,20 @@ pub trait Crdt {
         state: &Self::State,
         now: u64,
     ) -> Result<Self::Effect, GenError>
-        ensures made { IfOk result (λ e. e ≡ made kind state.now path.now act.now now) }
+        ensures made { IfOk result (λ e. e ≡ generated kind state.now path.now act.now now) }
         ensures ready { has kind ≡ true → HoldsSpelled holds state.now → IfOk result (λ e. IsReady is_of can_put sets spelling kind path.now act.now e) }
         ensures fitting { OnOk result ((fits kind path.now act.now ≡ true) × (too_deep kind path.now ≡ false)) }
         ensures too_deep { (result ≡ Err GenError.TooDeep) ↔ (too_deep kind path.now ≡ true) }
-        ensures bad_op { (result ≡ Err GenError.BadOp) ↔ ((fits kind path.now act.now ≡ false) × (too_deep kind path.now ≡ false)) };
+        ensures bad_op { (result ≡ Err GenError.BadOp) ↔ ((fits kind path.now act.now ≡ false) × (too_deep kind path.now ≡ false)) }
+    {
+        if Self::is_too_deep(kind, path) {
+            return Err(GenError::TooDeep);
+        }
+        if !fits_at(kind, path, act) {
+            return Err(GenError::BadOp);
+        }
+        Ok(Self::effect(alloc, kind, path, act, state, now)?)
+    }
 
     /// The stamp of an assign to a `RegisterLww`, else `None`. Takes no memory.
     fn stamp(effect: &Self::Effect) -> Option<u64>
@@ -159,7 +190,7 @@ pub trait Crdt {
         dot: Dot,
         effect: &Self::Effect,
     ) -> Result<(), AllocError>
-        ensures { OnOk result (state.new ≡ step state.old dot effect.now) };
+        ensures { OnOk result (state.new ≡ applied state.old dot effect.now) };
 
     /// An equal state.
     ///

@@ -4,7 +4,7 @@ ghost use Rattle.crdt_core.specs.declared.kind.Kind.{Kind};
 ghost use Rattle.crdt_core.specs.Spelled.{is_tx, tx, tx_at, is_dot, dot, dot_at, is_dots, dots, dots_at, is_vector, vector, vector_at, kind, kind_at, is_object, object, object_at};
 ghost use Rattle.crdt_core.specs.SpelledLaws.{are_ascending};
 ghost use Rattle.crdt_core.specs.EffectForm.{HasSpelling};
-ghost use Rattle.crdt_core.specs.Stands.{NamesStand};
+ghost use Rattle.crdt_core.specs.NamedDots.{NamesAreSpelled};
 
 use crate::Crdt;
 
@@ -33,6 +33,6 @@ pub fn law_forms()
 pub fn law_effects<C: Crdt>()
     ensures form { (k : Kind) → C.has k ≡ true → IsForm (λ e. C.is_of k e && C.can_put e) (λ e. C.is_of k e && C.is_spelled e) C.spelling (C.reading k) }
     ensures all { HasSpelling C.can_put C.is_spelled C.sets C.texts C.spelling }
-    ensures named { NamesStand C.can_put C.names C.sets C.spelling }
+    ensures named { NamesAreSpelled C.can_put C.names C.sets C.spelling }
     ensures apart { (k : Kind) → C.has k ≡ true → IsPrefixFree (λ e. C.is_of k e && C.is_spelled e) C.spelling }
 {}

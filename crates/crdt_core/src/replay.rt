@@ -17,7 +17,7 @@ pub fn state_after<C: Crdt>(
     kind: Kind,
     stored: &[(Dot, C::Effect)],
 ) -> Result<C::State, AllocError>
-    ensures { IfOk result (λ s. s ≡ folded (C.initial kind) C.step (reverse stored.now)) }
+    ensures { IfOk result (λ s. s ≡ folded (C.initial kind) C.applied (reverse stored.now)) }
 {
     let mut state = C::empty(alloc, kind)?;
     for (dot, effect) in stored {
@@ -37,10 +37,10 @@ pub fn value_after<C: Crdt>(
     stored: &[(Dot, C::Effect)],
 ) -> Result<Value, AllocError>
     requires { IsTrue (C.has kind) }
-    ensures folds { IfOk result (λ v. v ≡ C.value_of (folded (C.initial kind) C.step (reverse stored.now))) }
+    ensures folds { IfOk result (λ v. v ≡ C.value_of (folded (C.initial kind) C.applied (reverse stored.now))) }
     ensures means { IfOk result (λ v. (us : List Update) → IsHistory us → all_fit C.too_deep kind us ≡ true
-        → IsStamped (C.initial kind) C.step (made_by C.made kind) C.stamp_of us
-        → reverse stored.now ≡ effects (C.initial kind) C.step (made_by C.made kind) us → v ≡ C.meaning kind us) }
+        → IsStamped (C.initial kind) C.applied (made_by C.generated kind) C.stamp_of us
+        → reverse stored.now ≡ effects (C.initial kind) C.applied (made_by C.generated kind) us → v ≡ C.meaning kind us) }
 {
     let state = state_after::<C>(alloc, kind, stored)?;
     C::value(alloc, &state)

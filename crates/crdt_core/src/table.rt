@@ -1,5 +1,10 @@
-ghost use Rattle.std.specs.Prelude.{◌≡◌};
-ghost use Rattle.crdt_core.specs.Fits.{fits, leads_to, allows, stands_in, is_amount, is_add, is_remove, is_switch, is_drop};
+ghost use Rattle.std.specs.Prelude.{◌≡◌, true, ◌||◌, List, [], ◌∷◌};
+ghost use Rattle.crdt_core.specs.declared.kind.Kind.{Kind};
+ghost use Rattle.crdt_core.specs.declared.kind.Kind.TheVariants.{MapGo, MapRr};
+ghost use Rattle.crdt_core.specs.declared.object.Field.{Field};
+ghost use Rattle.crdt_core.specs.declared.operation.Act.{Act};
+ghost use Rattle.crdt_core.specs.declared.operation.Act.TheVariants.{Reset, DropField};
+ghost use Rattle.crdt_core.specs.Fits.{fits, leads_to, allows, stands_in, is_map, is_amount, is_add, is_remove, is_switch, is_drop};
 ghost use Rattle.crdt_core.specs.Seen.{is_reset, is_assign};
 ghost use Rattle.crdt_core.specs.Kinds.{reads_state};
 
@@ -129,6 +134,16 @@ fn is_drop(act: &Act) -> bool
         _ => false,
     }
 }
+
+/// What may stand in a map whose fields can be dropped, and be dropped there, is what can be reset. The other map has
+/// fields of each kind, and no kind but the maps has fields. A map's own acts are resets and drops.
+pub fn law_table()
+    ensures resets { (k : Kind) → stands_in MapRr k ≡ fits k [] Reset }
+    ensures drops { (f : Field) → fits MapRr [] (DropField f) ≡ fits f.kind [] Reset }
+    ensures any { (k : Kind) → stands_in MapGo k ≡ true }
+    ensures fields { (k : Kind) (f : Field) (p : List Field) (a : Act) → fits k (f ∷ p) a ≡ true → is_map k ≡ true }
+    ensures own { (k : Kind) (a : Act) → is_map k ≡ true → fits k [] a ≡ true → (fits k [] Reset ≡ true) × ((is_reset a || is_drop a) ≡ true) }
+{}
 
 /// Whether an update's effect depends on the state that it read.
 pub fn reads_state(kind: Kind) -> bool

@@ -3,13 +3,13 @@ ghost use Rattle.std.specs.FinMap.{empty};
 ghost use Rattle.crdt_core.specs.Kept.{is_kept, keeps_none};
 ghost use Rattle.crdt_meanings.specs.CounterMeaning.{counter_meaning};
 ghost use Rattle.crdt_meanings.specs.CounterFat.{fat_has, fat_step, fat_made, fat_value, fat_names};
-ghost use Rattle.crdt_counters.specs.EffectForm.{is_of_kind, can_put_fat, is_fat_spelled, fat_sets, fat_spelling, fat_at, fat_spells, fat_stands};
+ghost use Rattle.crdt_counters.specs.EffectForm.{is_of_kind, can_put_fat, is_fat_spelled, fat_sets, fat_spelling, fat_at, fat_spells, fat_named};
 ghost use Rattle.crdt_meanings.proofs.FatLaw.{fat_law, fat_in_maps, fat_resets};
 ghost use Rattle.crdt_meanings.specs.Without.{no_stamp};
 
 use crate::amounts::{amount_of, total_of};
 use crate::fat_form::FatForm;
-use crdt_core::{Act, Crdt, Field, GenError, Kept, Kind, Op, Value, fits_at, reads_state};
+use crdt_core::{Act, Crdt, Field, Kept, Kind, Op, Value, reads_state};
 use crdt_meanings::FatEffect;
 use field_codec::{Form, TakeError, put_whole};
 use site_vector::Dot;
@@ -29,9 +29,9 @@ impl Crdt for CounterFat {
 
     ghost initial = { λ k. empty };
 
-    ghost step = { fat_step };
+    ghost applied = { fat_step };
 
-    ghost made = { fat_made };
+    ghost generated = { fat_made };
 
     ghost value_of = { fat_value };
 
@@ -67,7 +67,7 @@ impl Crdt for CounterFat {
 
     ghost spells = { fat_spells fat_has };
 
-    ghost stands = { fat_stands };
+    ghost named = { fat_named };
 
     fn has(kind: Kind) -> bool {
         kind == Kind::CounterFat
@@ -89,17 +89,14 @@ impl Crdt for CounterFat {
         state.is_empty()
     }
 
-    fn generate(
+    fn effect(
         alloc: Global,
         kind: Kind,
         path: &[Field],
         act: &Act,
         state: &Kept<i64>,
         now: u64,
-    ) -> Result<FatEffect, GenError> {
-        if !fits_at(kind, path, act) {
-            return Err(GenError::BadOp);
-        }
+    ) -> Result<FatEffect, AllocError> {
         match act {
             Act::Reset => Ok(FatEffect::Reset(state.dots(alloc)?)),
             _ => Ok(FatEffect::Amount(amount_of(act))),

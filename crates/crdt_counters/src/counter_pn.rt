@@ -1,13 +1,13 @@
 ghost use Rattle.std.specs.Prelude.{◌≡◌, pos, false, []};
 ghost use Rattle.crdt_meanings.specs.CounterMeaning.{counter_meaning};
 ghost use Rattle.crdt_meanings.specs.CounterPn.{pn_has, pn_step, pn_made, pn_value, is_zero};
-ghost use Rattle.crdt_counters.specs.EffectForm.{is_of_kind, is_amount_number, amount_sets, amount_spelling, amount_at, pn_spells, pn_stands};
+ghost use Rattle.crdt_counters.specs.EffectForm.{is_of_kind, is_amount_number, amount_sets, amount_spelling, amount_at, pn_spells, pn_named};
 ghost use Rattle.crdt_meanings.proofs.PnLaw.{pn_law, pn_in_maps, pn_resets};
 ghost use Rattle.crdt_meanings.specs.Without.{no_stamp, no_dot};
 
 use crate::amount_form::AmountForm;
 use crate::amounts::{amount_of, sum};
-use crdt_core::{Act, Crdt, Field, GenError, Kind, Op, Value, fits_at, reads_state};
+use crdt_core::{Act, Crdt, Field, Kind, Op, Value, reads_state};
 use field_codec::{Form, TakeError, put_whole};
 use site_vector::Dot;
 use std::alloc::{AllocError, Global};
@@ -27,9 +27,9 @@ impl Crdt for CounterPn {
 
     ghost initial = { λ k. pos 0 };
 
-    ghost step = { pn_step };
+    ghost applied = { pn_step };
 
-    ghost made = { pn_made };
+    ghost generated = { pn_made };
 
     ghost value_of = { pn_value };
 
@@ -65,7 +65,7 @@ impl Crdt for CounterPn {
 
     ghost spells = { pn_spells pn_has };
 
-    ghost stands = { pn_stands };
+    ghost named = { pn_named };
 
     fn has(kind: Kind) -> bool {
         kind == Kind::CounterPn
@@ -87,17 +87,14 @@ impl Crdt for CounterPn {
         *state == 0
     }
 
-    fn generate(
+    fn effect(
         alloc: Global,
         kind: Kind,
         path: &[Field],
         act: &Act,
         state: &i128,
         now: u64,
-    ) -> Result<i64, GenError> {
-        if !fits_at(kind, path, act) {
-            return Err(GenError::BadOp);
-        }
+    ) -> Result<i64, AllocError> {
         Ok(amount_of(act))
     }
 

@@ -12,8 +12,8 @@ use Rattle.crdt_core.specs.SpelledLaws.{marked_at, marked_form, dots_held_form}
 use Rattle.crdt_core.proofs.SetsLaws.{or_none}
 use Rattle.crdt_core.specs.EffectForm.{HasSpelling, SpellsEffects}
 use Rattle.crdt_core.proofs.HaveSpelling.{dots_behind}
-use Rattle.crdt_core.specs.Stands.{NamesStand}
-use Rattle.crdt_core.proofs.StandsLaws.{stands_behind, dots_stand}
+use Rattle.crdt_core.specs.NamedDots.{NamesAreSpelled}
+use Rattle.crdt_core.proofs.NamedDotsLaws.{stands_behind, dots_stand}
 use Rattle.crdt_meanings.specs.Flags.{flag_out, flag_names}
 use Rattle.crdt_meanings.specs.declared.flags.FlagEffect.{FlagEffect}
 use Rattle.crdt_meanings.specs.declared.flags.FlagEffect.TheVariants.{Enable, Disable, Reset}
@@ -71,8 +71,8 @@ flag_all e can ascends words short = dots_behind (number 1 (flag_mark e)) (flag_
 abbrev pub flag_spells : (has : Kind → Bool) → SpellsEffects has is_of_kind can_put_flag is_flag_spelled flag_sets (λ e. []) flag_spelling (λ k. flag_at)
 flag_spells has = record { form = λ k h. flag_form; all = flag_all }
 
-pub flag_stands : NamesStand can_put_flag flag_names flag_sets flag_spelling
-flag_stands = record {
+pub flag_named : NamesAreSpelled can_put_flag flag_names flag_sets flag_spelling
+flag_named = record {
   exact = λ e d can. sym (or_none (has_dot (flag_out e) d));
   stands = λ e d can h. stands_behind (number 1 (flag_mark e)) (dots_stand (flag_out e) d can h);
 }

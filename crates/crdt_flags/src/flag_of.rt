@@ -3,14 +3,14 @@ ghost use Rattle.std.specs.FinMap.{empty};
 ghost use Rattle.crdt_core.specs.Kept.{kept_step, is_kept, keeps_none};
 ghost use Rattle.crdt_meanings.specs.FlagMeaning.{flag_meaning};
 ghost use Rattle.crdt_meanings.specs.Flags.{flag_kind, flag_has, flag_step, flag_value, kind_made, flag_names};
-ghost use Rattle.crdt_flags.specs.EffectForm.{is_of_kind, can_put_flag, is_flag_spelled, flag_sets, flag_spelling, flag_at, flag_spells, flag_stands};
+ghost use Rattle.crdt_flags.specs.EffectForm.{is_of_kind, can_put_flag, is_flag_spelled, flag_sets, flag_spelling, flag_at, flag_spells, flag_named};
 ghost use Rattle.crdt_meanings.proofs.FlagLaws.{flag_law, flag_in_maps, flag_resets};
 ghost use Rattle.crdt_meanings.specs.Without.{no_stamp};
 
 use crate::FlagEffect;
 use crate::effect::effect_of;
 use crate::effect_form::FlagForm;
-use crdt_core::{Act, Crdt, Dots, Field, GenError, Kept, Kind, Op, Value, fits_at, reads_state};
+use crdt_core::{Act, Crdt, Dots, Field, Kept, Kind, Op, Value, reads_state};
 use field_codec::{Form, TakeError, put_whole};
 use site_vector::Dot;
 use std::alloc::{AllocError, Global};
@@ -37,9 +37,9 @@ impl<const DISABLES_WIN: bool> Crdt for FlagOf<DISABLES_WIN> {
 
     ghost initial = { λ k. empty };
 
-    ghost step = { flag_step DISABLES_WIN };
+    ghost applied = { flag_step DISABLES_WIN };
 
-    ghost made = { kind_made };
+    ghost generated = { kind_made };
 
     ghost value_of = { flag_value DISABLES_WIN };
 
@@ -75,7 +75,7 @@ impl<const DISABLES_WIN: bool> Crdt for FlagOf<DISABLES_WIN> {
 
     ghost spells = { flag_spells (flag_has DISABLES_WIN) };
 
-    ghost stands = { flag_stands };
+    ghost named = { flag_named };
 
     fn has(kind: Kind) -> bool {
         kind == kind_where(DISABLES_WIN)
@@ -97,18 +97,15 @@ impl<const DISABLES_WIN: bool> Crdt for FlagOf<DISABLES_WIN> {
         state.is_empty()
     }
 
-    fn generate(
+    fn effect(
         alloc: Global,
         kind: Kind,
         path: &[Field],
         act: &Act,
         state: &Kept<bool>,
         now: u64,
-    ) -> Result<FlagEffect, GenError> {
-        if !fits_at(kind, path, act) {
-            return Err(GenError::BadOp);
-        }
-        Ok(effect_of(alloc, act, state)?)
+    ) -> Result<FlagEffect, AllocError> {
+        effect_of(alloc, act, state)
     }
 
     fn stamp(effect: &FlagEffect) -> Option<u64> {

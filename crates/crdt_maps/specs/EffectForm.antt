@@ -23,9 +23,9 @@ use Rattle.crdt_core.specs.Spelled.{is_between, kind, kind_at}
 use Rattle.crdt_core.specs.SpelledLaws.{kind_form}
 use Rattle.crdt_core.specs.EffectForm.{HasSpelling, SpellsEffects, reset_tag, begins_with}
 use Rattle.crdt_core.proofs.HaveSpelling.{text_first, back_short, list_spelled, checked_spelled}
-use Rattle.crdt_core.specs.Stands.{StandsIn, have_update, NamesStand}
+use Rattle.crdt_core.specs.NamedDots.{IsPartOf, have_update, NamesAreSpelled}
 use Rattle.crdt_core.proofs.SetsLaws.{or_none, update_of_list}
-use Rattle.crdt_core.proofs.StandsLaws.{stands_behind, list_stands}
+use Rattle.crdt_core.proofs.NamedDotsLaws.{stands_behind, list_stands}
 use Rattle.crdt_meanings.specs.Maps.{map_kind, map_names}
 use Rattle.crdt_meanings.specs.declared.maps.MapEffect.{MapEffect}
 use Rattle.crdt_meanings.specs.declared.maps.MapEffect.TheVariants.{At, Resets}
@@ -374,7 +374,7 @@ module _ {E : Type 0} {has : Kind → Bool} {is_of : Kind → E → Bool} {can_p
 known_names : (has : Kind → Bool) (k : Kind) (b c : Bool) → has k ≡ true → b ≡ c → (has k && b) ≡ c
 known_names has k b c known same = ap (λ h. h && b) known ∙ same
 
-module _ {E : Type 0} (has : Kind → Bool) (is_of : Kind → E → Bool) {can_put : E → Bool} {names : E → Dot → Bool} {sets : E → List (List Dot)} {spelling : E → List ℕ} (inner : NamesStand can_put names sets spelling) where
+module _ {E : Type 0} (has : Kind → Bool) (is_of : Kind → E → Bool) {can_put : E → Bool} {names : E → Dot → Bool} {sets : E → List (List Dot)} {spelling : E → List ℕ} (inner : NamesAreSpelled can_put names sets spelling) where
   abbrev Exact : Field × E → Dot → Type 0
   Exact x d = (has x.0.kind && names x.1 d) ≡ have_update (sets x.1) d
 
@@ -409,17 +409,17 @@ module _ {E : Type 0} (has : Kind → Bool) (is_of : Kind → E → Bool) {can_p
       resets_exact kinds.MapRr xs d good.1 ∙ sym (update_of_list (λ x. sets x.1) xs d)
 
   -- and each of these updates stands there
-  entry_stands : (outer : Kind) (x : Field × E) (d : Dot) → can_put_entry (may_stand outer has) is_of can_put x ≡ true → (has x.0.kind && names x.1 d) ≡ true → StandsIn d (entry spelling x)
+  entry_stands : (outer : Kind) (x : Field × E) (d : Dot) → can_put_entry (may_stand outer has) is_of can_put x ≡ true → (has x.0.kind && names x.1 d) ≡ true → IsPartOf d (entry spelling x)
   entry_stands outer x d can h =
       let a = both_true (may_stand outer has x.0.kind) (is_of x.0.kind x.1 && can_put x.1) can in
       stands_behind (field x.0) (inner.stands x.1 d (both_true (is_of x.0.kind x.1) (can_put x.1) a.1).1 (both_true (has x.0.kind) (names x.1 d) h).1)
 
-  map_stand : (drops : Bool) (e : MapEffect E) (d : Dot) → map_can_put drops has is_of can_put spelling e ≡ true → map_names has names e d ≡ true → StandsIn d (map_spelling drops spelling e)
+  map_stand : (drops : Bool) (e : MapEffect E) (d : Dot) → map_can_put drops has is_of can_put spelling e ≡ true → map_names has names e d ≡ true → IsPartOf d (map_spelling drops spelling e)
   map_stand drops (At f e) d can h = stands_behind (number 1 0) (entry_stands (map_kind drops) (f, e) d can (sym (or_none (has f.kind && names e d)) ∙ h))
   map_stand drops (Resets xs) d can h =
       let fits = can_put_reset (may_stand kinds.MapRr has) is_of can_put spelling in
       let good = both_true (are_in_order entry_below None xs) (list_all fits xs) (both_true drops _ can).1 in
       stands_behind (number 1 (last_mark drops)) (list_stands (entry spelling) fits (λ x c. has x.0.kind && names x.1 c) (λ x c fit named. entry_stands kinds.MapRr x c (as_entry kinds.MapRr x fit) named) xs d good.1 h)
 
-  pub map_stands : (drops : Bool) → NamesStand (map_can_put drops has is_of can_put spelling) (map_names has names) (map_sets sets) (map_spelling drops spelling)
-  map_stands drops = record { exact = map_exact drops; stands = map_stand drops }
+  pub map_named : (drops : Bool) → NamesAreSpelled (map_can_put drops has is_of can_put spelling) (map_names has names) (map_sets sets) (map_spelling drops spelling)
+  map_named drops = record { exact = map_exact drops; stands = map_stand drops }

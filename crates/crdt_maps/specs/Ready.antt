@@ -1,5 +1,5 @@
 -- The effects that are generated of maps can be put, where those of the inner type can.
-use Rattle.std.proofs.Common.{◌≡◌, Bool, true, false, cond, not, ◌&&◌, ℕ, List, [], ◌∷◌, refl, sym, ◌∙◌, ap, subst, T, Option, Some, None}
+use Rattle.std.proofs.Common.{◌≡◌, Bool, true, false, cond, not, ◌&&◌, ℕ, List, [], ◌∷◌, ◌++◌, refl, sym, ◌∙◌, ap, subst, T, Option, Some, None}
 use Rattle.std.specs.Prelude.{map, filter, Result, Ok, Err, IfOk}
 use Rattle.std.specs.List.{flat_map, list_any, list_all}
 use Rattle.std.specs.Ordering.{is_lt}
@@ -15,7 +15,7 @@ use Rattle.crdt_core.specs.declared.operation.Act.{Act}
 use Rattle.crdt_core.specs.declared.operation.Act.TheVariants as act
 use Rattle.crdt_core.specs.declared.value.Value.{Value}
 use Rattle.crdt_core.specs.Fits.{stands_in, fits}
-use Rattle.crdt_core.specs.Leaves.{same_kind_is}
+use Rattle.crdt_core.specs.KindCodes.{same_kind_is}
 use Rattle.crdt_core.specs.FieldOrder.{field_cmp}
 use Rattle.crdt_core.specs.Seen.{Update}
 use Rattle.crdt_core.specs.Law.{KeepsLaw}
@@ -65,6 +65,17 @@ pub ready_at : {E X : Type 0} (is_of : Kind → E → Bool) (can_put : E → Boo
     → IfOk r (λ e. IsReady is_of can_put sets spelling k p a e) → IfOk r (λ e. is_ready_at is_of can_put sets k e ≡ true)
 ready_at is_of can_put sets spelling k p a (Ok e) h = and_from _ _ (and_from _ _ h.kind h.fit) h.sets
 ready_at is_of can_put sets spelling k p a (Err x) h = tt
+
+all_end : {A : Type 0} (p : A → Bool) (xs : List A) (x : A) → list_all p xs ≡ true → p x ≡ true → list_all p (xs ++ x ∷ []) ≡ true
+all_end p [] x h k = and_from _ _ k refl
+all_end p (y ∷ ys) x h k = let two = and_parts (p y) (list_all p ys) h in and_from _ _ two.0 (all_end p ys x two.1 k)
+
+-- a reset that is ready, at the end of a list of such
+pub reset_pushed : {E : Type 0} (is_of : Kind → E → Bool) (can_put : E → Bool) (sets : E → List (List Dot)) (spelling : E → List ℕ) (f g : Field) (e : E) → g ≡ f → IsReady is_of can_put sets spelling f.kind [] act.Reset e
+    → (xs ys : List (Field × E)) → ys ≡ xs ++ (g, e) ∷ [] → list_all (is_reset_ready is_of can_put sets spelling) xs ≡ true → list_all (is_reset_ready is_of can_put sets spelling) ys ≡ true
+reset_pushed is_of can_put sets spelling f g e same r xs ys put all =
+    let own = subst (λ x. is_reset_ready is_of can_put sets spelling (x, e) ≡ true) (sym same) (and_from _ _ (r.opened refl) (and_from _ _ (and_from _ _ r.kind r.fit) r.sets)) in
+    ap (list_all (is_reset_ready is_of can_put sets spelling)) put ∙ all_end (is_reset_ready is_of can_put sets spelling) xs (g, e) all own
 
 all_both : {A : Type 0} (p q : A → Bool) (xs : List A) → list_all p xs ≡ true → list_all q xs ≡ true → list_all (λ x. p x && q x) xs ≡ true
 all_both p q [] h k = refl
@@ -171,8 +182,10 @@ module _ {S E : Type 0} (has : Kind → Bool) (initial : Kind → S) (made : Kin
     IsReadyAt drops k m p a n = outer_fits has too_deep k p a ≡ true → parts_ready is_of can_put sets spelling (effect k m p a n) ≡ true → Ready drops k p a (effect k m p a n)
 
     -- what is generated of a map can be put
-    pub map_ready : (drops : Bool) (k : Kind) → map_has drops k ≡ true → (m : FieldMap S) (p : List Field) (a : Act) (n : ℕ) → fits k p a ≡ true → map_too_deep has too_deep k p ≡ false → (e : MapEffect E) → e ≡ effect k m p a n → parts_ready is_of can_put sets spelling e ≡ true
-        → IsReady is_of_map (map_can_put drops has is_of can_put spelling) (map_sets sets) (map_spelling drops spelling) k p a e
-    map_ready drops k is m p a n fit shallow e same h =
+    pub map_ready : {X : Type 0} (drops : Bool) (k : Kind) → map_has drops k ≡ true → (m : FieldMap S) (p : List Field) (a : Act) (n : ℕ) → fits k p a ≡ true → map_too_deep has too_deep k p ≡ false → (r : Result (MapEffect E) X)
+        → IfOk r (λ e. e ≡ effect k m p a n) → IfOk r (λ e. parts_ready is_of can_put sets spelling e ≡ true)
+        → IfOk r (λ e. IsReady is_of_map (map_can_put drops has is_of can_put spelling) (map_sets sets) (map_spelling drops spelling) k p a e)
+    map_ready drops k is m p a n fit shallow (Ok e) same h =
         subst (Ready drops k p a) (sym same)
         (subst (λ l. IsReadyAt drops l m p a n) (sym (same_kind_is k (map_kind drops) is)) (at_ready drops m p a n) (and_from _ _ fit (ap not shallow)) (ap (parts_ready is_of can_put sets spelling) (sym same) ∙ h))
+    map_ready drops k is m p a n fit shallow (Err x) same h = tt

@@ -11,5 +11,5 @@ use crdt_core::Crdt;
 
 /// A drop of a field and a reset of the map list no field of which nothing is left: each reset that they list names an update.
 pub fn law_resets<I: Crdt>()
-    ensures { let M = ⟦<MapRr<I> as Crdt>⟧ in (k : Kind) (us : List Update) (a : Act) (n : ℕ) → M.has k ≡ true → IsHistory us → all_fit M.too_deep k us ≡ true → EachNames I.names (M.made k (state_after (M.initial k) M.step (made_by M.made k) us) [] a n) }
+    ensures { let M = ⟦<MapRr<I> as Crdt>⟧ in (k : Kind) (us : List Update) (a : Act) (n : ℕ) → M.has k ≡ true → IsHistory us → all_fit M.too_deep k us ≡ true → EachNames I.names (M.generated k (state_after (M.initial k) M.applied (made_by M.generated k) us) [] a n) }
 {}

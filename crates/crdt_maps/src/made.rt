@@ -8,7 +8,7 @@ ghost use Rattle.crdt_maps.specs.Ready.{is_ready_at, is_reset_ready, parts_ready
 ghost use Rattle.crdt_meanings.specs.Maps.{at, is_undone, resets_of, reset_by, map_made, map_too_deep, map_holds};
 
 use crate::{Boxed, Fields, MapEffect};
-use crdt_core::{Act, Crdt, Field, GenError, Kind, stands_in};
+use crdt_core::{Act, Crdt, Field, Kind, stands_in};
 use field_codec::ListOf;
 use std::alloc::{AllocError, Global};
 
@@ -37,7 +37,7 @@ pub fn effect_of<I: Crdt>(
 ) -> Result<MapEffect<I::Effect>, AllocError>
     requires fitting { fits kind path.now act.now ≡ true }
     requires shallow { map_too_deep I.has I.too_deep kind path.now ≡ false }
-    ensures made { IfOk result (λ e. e ≡ map_made I.has I.initial I.made I.is_blank kind fields.now path.now act.now now) }
+    ensures made { IfOk result (λ e. e ≡ map_made I.has I.initial I.generated I.is_blank kind fields.now path.now act.now now) }
     ensures ready { HoldsSpelled (map_holds I.holds) fields.now → IfOk result (λ e. parts_ready I.is_of I.can_put I.sets I.spelling e ≡ true) }
 {
     match path.split_first() {
@@ -56,7 +56,7 @@ fn own_effect<I: Crdt>(
     fields: &Fields<I::State>,
     now: u64,
 ) -> Result<ListOf<(Field, I::Effect)>, AllocError>
-    ensures made { IfOk result (λ l. l ≡ resets_of I.has I.made I.is_blank now (reset_by I.initial fields.now act.now)) }
+    ensures made { IfOk result (λ l. l ≡ resets_of I.has I.generated I.is_blank now (reset_by I.initial fields.now act.now)) }
     ensures ready { HoldsSpelled (map_holds I.holds) fields.now → IfOk result (λ l. list_all (is_reset_ready I.is_of I.can_put I.sets I.spelling) l ≡ true) }
 {
     match act {
@@ -71,7 +71,7 @@ fn reset_all<I: Crdt>(
     fields: &Fields<I::State>,
     now: u64,
 ) -> Result<ListOf<(Field, I::Effect)>, AllocError>
-    ensures made { IfOk result (λ l. l ≡ resets_of I.has I.made I.is_blank now (map.entries fields.now)) }
+    ensures made { IfOk result (λ l. l ≡ resets_of I.has I.generated I.is_blank now (map.entries fields.now)) }
     ensures ready { HoldsSpelled (map_holds I.holds) fields.now → IfOk result (λ l. list_all (is_reset_ready I.is_of I.can_put I.sets I.spelling) l ≡ true) }
 {
     let mut resets = ListOf::new(alloc);
@@ -87,7 +87,7 @@ fn reset_one<I: Crdt>(
     field: &Field,
     now: u64,
 ) -> Result<ListOf<(Field, I::Effect)>, AllocError>
-    ensures made { IfOk result (λ l. l ≡ resets_of I.has I.made I.is_blank now ((field.now, at I.initial fields.now field.now) ∷ [])) }
+    ensures made { IfOk result (λ l. l ≡ resets_of I.has I.generated I.is_blank now ((field.now, at I.initial fields.now field.now) ∷ [])) }
     ensures ready { HoldsSpelled (map_holds I.holds) fields.now → IfOk result (λ l. list_all (is_reset_ready I.is_of I.can_put I.sets I.spelling) l ≡ true) }
 {
     let mut resets = ListOf::new(alloc);
@@ -106,14 +106,14 @@ fn push_reset<I: Crdt>(
     state: &I::State,
     now: u64,
 ) -> Result<(), AllocError>
-    ensures made { OnOk result (resets.new ≡ resets.old ++ resets_of I.has I.made I.is_blank now ((field.now, state.now) ∷ [])) }
+    ensures made { OnOk result (resets.new ≡ resets.old ++ resets_of I.has I.generated I.is_blank now ((field.now, state.now) ∷ [])) }
     ensures ready { HoldsSpelled I.holds state.now → list_all (is_reset_ready I.is_of I.can_put I.sets I.spelling) resets.old ≡ true → OnOk result (list_all (is_reset_ready I.is_of I.can_put I.sets I.spelling) resets.new ≡ true) }
 {
     if !is_undone::<I>(field, state) {
         return Ok(());
     }
     let name = field.copy(alloc)?;
-    let effect = generated::<I>(alloc, field.kind, &[], &Act::Reset, state, now)?;
+    let effect = I::effect(alloc, field.kind, &[], &Act::Reset, state, now)?;
     resets.push((name, effect))?;
     Ok(())
 }
@@ -137,36 +137,14 @@ fn field_effect<I: Crdt>(
     requires known { IsTrue (I.has field.now.kind) }
     requires fitting { fits field.now.kind path.now act.now ≡ true }
     requires shallow { I.too_deep field.now.kind path.now ≡ false }
-    ensures made { IfOk result (λ e. e ≡ I.made field.now.kind (at I.initial fields.now field.now) path.now act.now now) }
+    ensures made { IfOk result (λ e. e ≡ I.generated field.now.kind (at I.initial fields.now field.now) path.now act.now now) }
     ensures ready { HoldsSpelled (map_holds I.holds) fields.now → IfOk result (λ e. is_ready_at I.is_of I.can_put I.sets field.now.kind e ≡ true) }
 {
     match fields.get(field) {
-        Some(state) => generated::<I>(alloc, field.kind, path, act, state, now),
+        Some(state) => I::effect(alloc, field.kind, path, act, state, now),
         None => {
             let state = I::empty(alloc, field.kind)?;
-            generated::<I>(alloc, field.kind, path, act, &state, now)
+            I::effect(alloc, field.kind, path, act, &state, now)
         }
-    }
-}
-
-/// An effect that the inner type has. By the clauses of `generate` want of memory is the only refusal of an operation that fits.
-fn generated<I: Crdt>(
-    alloc: Global,
-    kind: Kind,
-    path: &[Field],
-    act: &Act,
-    state: &I::State,
-    now: u64,
-) -> Result<I::Effect, AllocError>
-    requires known { IsTrue (I.has kind) }
-    requires fitting { fits kind path.now act.now ≡ true }
-    requires shallow { I.too_deep kind path.now ≡ false }
-    ensures made { IfOk result (λ e. e ≡ I.made kind state.now path.now act.now now) }
-    ensures ready { HoldsSpelled I.holds state.now → IfOk result (λ e. IsReady I.is_of I.can_put I.sets I.spelling kind path.now act.now e) }
-{
-    match I::generate(alloc, kind, path, act, state, now) {
-        Ok(effect) => Ok(effect),
-        Err(GenError::NoMemory) => Err(AllocError),
-        Err(GenError::BadOp) | Err(GenError::TooDeep) => unreachable!(),
     }
 }

@@ -2,7 +2,7 @@ ghost use Rattle.std.specs.Prelude.{◌≡◌, IfOk};
 ghost use Rattle.std.specs.FinMap.{empty};
 ghost use Rattle.crdt_meanings.specs.Maps.{map_has, map_step, map_made, map_stamp, map_too_deep, map_names, map_holds, map_value, map_blank};
 ghost use Rattle.crdt_meanings.specs.MapMeaning.{map_meaning};
-ghost use Rattle.crdt_maps.specs.EffectForm.{is_of_map, map_can_put, map_is_spelled, map_sets, map_texts, map_spelling, map_at, map_spells, map_stands};
+ghost use Rattle.crdt_maps.specs.EffectForm.{is_of_map, map_can_put, map_is_spelled, map_sets, map_texts, map_spelling, map_at, map_spells, map_named};
 ghost use Rattle.crdt_meanings.proofs.MapLaws.{map_law, map_in_maps};
 ghost use Rattle.crdt_meanings.proofs.MapResets.{map_resets};
 
@@ -11,7 +11,7 @@ use crate::made::{effect_of, leads_too_deep};
 use crate::steps::apply_effect;
 use crate::values::{all_blank, kind_of, shown};
 use crate::{Fields, MapEffect, copies};
-use crdt_core::{Act, Crdt, Field, GenError, Kind, Op, Value, fits_at, reads_state};
+use crdt_core::{Act, Crdt, Field, Kind, Op, Value, reads_state};
 use field_codec::{Form, TakeError, put_whole};
 use site_vector::Dot;
 use std::alloc::{AllocError, Global};
@@ -39,9 +39,9 @@ impl<const DROPS: bool, I: Crdt> Crdt for MapOf<DROPS, I> {
 
     ghost initial = { λ k. empty };
 
-    ghost step = { map_step I.has I.initial I.step };
+    ghost applied = { map_step I.has I.initial I.applied };
 
-    ghost made = { map_made I.has I.initial I.made I.is_blank };
+    ghost generated = { map_made I.has I.initial I.generated I.is_blank };
 
     ghost value_of = { map_value DROPS I.value_of };
 
@@ -71,7 +71,7 @@ impl<const DROPS: bool, I: Crdt> Crdt for MapOf<DROPS, I> {
 
     ghost spells = { map_spells I.spells DROPS (map_has DROPS) };
 
-    ghost stands = { map_stands I.has I.is_of I.stands DROPS };
+    ghost named = { map_named I.has I.is_of I.named DROPS };
 
     ghost is_blank = { map_blank DROPS I.is_blank };
 
@@ -103,21 +103,15 @@ impl<const DROPS: bool, I: Crdt> Crdt for MapOf<DROPS, I> {
         }
     }
 
-    fn generate(
+    fn effect(
         alloc: Global,
         kind: Kind,
         path: &[Field],
         act: &Act,
         state: &Fields<I::State>,
         now: u64,
-    ) -> Result<MapEffect<I::Effect>, GenError> {
-        if leads_too_deep::<I>(kind, path) {
-            return Err(GenError::TooDeep);
-        }
-        if !fits_at(kind, path, act) {
-            return Err(GenError::BadOp);
-        }
-        Ok(effect_of::<I>(alloc, kind, path, act, state, now)?)
+    ) -> Result<MapEffect<I::Effect>, AllocError> {
+        effect_of::<I>(alloc, kind, path, act, state, now)
     }
 
     fn stamp(effect: &MapEffect<I::Effect>) -> Option<u64> {

@@ -18,7 +18,7 @@ pub fn apply_effect<I: Crdt>(
     dot: Dot,
     effect: &MapEffect<I::Effect>,
 ) -> Result<(), AllocError>
-    ensures { OnOk result (fields.new ≡ map_step I.has I.initial I.step fields.old dot effect.now) }
+    ensures { OnOk result (fields.new ≡ map_step I.has I.initial I.applied fields.old dot effect.now) }
 {
     match effect {
         MapEffect::At(field, inner) => apply_at::<I>(alloc, fields, dot, field, inner.get()),
@@ -32,7 +32,7 @@ fn apply_each<I: Crdt>(
     dot: Dot,
     resets: &[(Field, I::Effect)],
 ) -> Result<(), AllocError>
-    ensures { OnOk result (fields.new ≡ step_each I.has I.initial I.step fields.old dot resets.now) }
+    ensures { OnOk result (fields.new ≡ step_each I.has I.initial I.applied fields.old dot resets.now) }
 {
     for (field, effect) in resets {
         apply_at::<I>(alloc, fields, dot, field, effect)?;
@@ -48,7 +48,7 @@ fn apply_at<I: Crdt>(
     field: &Field,
     effect: &I::Effect,
 ) -> Result<(), AllocError>
-    ensures { OnOk result (fields.new ≡ step_at I.has I.initial I.step fields.old dot field.now effect.now) }
+    ensures { OnOk result (fields.new ≡ step_at I.has I.initial I.applied fields.old dot field.now effect.now) }
 {
     if !I::has(field.kind) {
         return Ok(());

@@ -172,6 +172,14 @@ pub names_kept : (s : Elements) (xs : List (List ℕ)) (q : Dot) → names_dot (
 names_kept s [] q h = absurd (false≢true h)
 names_kept s (x ∷ xs) q h = ⊎_elim (λ here. kept_in s x q (sym (has_dots_of (at s x) q) ∙ here)) (names_kept s xs q) (or_cases (has_dot (dots_of (at s x)) q) (names_dot (named_at s xs) q) h)
 
+-- what is kept of an element that is named
+pub kept_names : (s : Elements) (xs : List (List ℕ)) (x : List ℕ) (q : Dot) → is_in xs x ≡ true → is_kept (at s x) q ≡ true → names_dot (named_at s xs) q ≡ true
+kept_names s [] x q i h = absurd (false≢true i)
+kept_names s (y ∷ ys) x q i h = ⊎_elim
+    (λ here. or_left (has_dot (dots_of (at s y)) q) _ (has_dots_of (at s y) q ∙ ap (λ z. is_kept (at s z) q) (sym (same_text_is x y here)) ∙ h))
+    (λ later. or_right (has_dot (dots_of (at s y)) q) _ (kept_names s ys x q later h))
+    (or_cases (same_text x y) (is_in ys x) i)
+
 pub lists_named : (s : Elements) (xs : List (List ℕ)) (x : List ℕ) → lists (named_at s xs) x ≡ is_in xs x
 lists_named s [] x = refl
 lists_named s (y ∷ ys) x = ap (λ b. same_text x y || b) (lists_named s ys x)

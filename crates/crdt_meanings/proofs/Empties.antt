@@ -23,7 +23,7 @@ use Rattle.crdt_meanings.specs.RegisterMeaning.{last_assign, word_of, lww_meanin
 use Rattle.crdt_meanings.specs.MapMeaning.{map_meaning}
 use Rattle.crdt_meanings.proofs.Totals.{nothing_wraps}
 
-zero_is : (z : ℤ) → is_zero z ≡ true → z ≡ pos 0
+pub zero_is : (z : ℤ) → is_zero z ≡ true → z ≡ pos 0
 zero_is (pos n) h = ap pos (grind (arith, nat_tests, h))
 zero_is (negsuc n) h = absurd (false≢true h)
 
@@ -36,16 +36,16 @@ none_is [] h = refl
 none_is (x ∷ xs) h = absurd (false≢true h)
 
 -- a value's form tells whether it is empty
-int_step : (z : ℤ) → is_empty (Int z) ≡ is_zero z
+pub int_step : (z : ℤ) → is_empty (Int z) ≡ is_zero z
 int_step z = search (rules, the_lemmas)
 
-flag_step : (b : Bool) → is_empty (Flag b) ≡ not b
+pub flag_step : (b : Bool) → is_empty (Flag b) ≡ not b
 flag_step b = search (rules, the_lemmas)
 
-word_step : (x : List ℕ) → is_empty (Word x) ≡ has_none x
+pub word_step : (x : List ℕ) → is_empty (Word x) ≡ has_none x
 word_step x = search (rules, the_lemmas)
 
-words_step : (xs : List (List ℕ)) → is_empty (Words xs) ≡ has_none xs
+pub words_step : (xs : List (List ℕ)) → is_empty (Words xs) ≡ has_none xs
 words_step xs = search (rules, the_lemmas)
 
 no_fields : is_empty (Fields []) ≡ true
@@ -73,7 +73,7 @@ fields_empty [] ns none = (λ h. ap Fields (sym none), λ same. no_fields)
 fields_empty (m ∷ ms) ns none = (λ h. absurd (false≢true (sym (some_fields m ms) ∙ h)), λ same. ap is_empty (same ∙ ap Fields none) ∙ no_fields)
 
 -- nothing in order is nothing
-none_ascends : ascending [] ≡ []
+pub none_ascends : ascending [] ≡ []
 unfolding IsStrictlySortedBy
 none_ascends = ascending_again [] tt
 

@@ -12,6 +12,7 @@ use Rattle.crdt_core.specs.declared.object.Field.{Field}
 use Rattle.crdt_core.specs.declared.operation.Act.{Act}
 use Rattle.crdt_core.specs.declared.operation.Act.TheVariants as act
 use Rattle.crdt_core.specs.declared.value.Value.TheVariants.{Int}
+use Rattle.crdt_core.specs.Fits.{allows}
 use Rattle.crdt_core.specs.Kinds.{same_kind, reads_state}
 use Rattle.crdt_core.specs.Seen.{Update, is_reset, is_live}
 use Rattle.crdt_core.specs.History.{IsHistory, state_after}
@@ -19,8 +20,9 @@ use Rattle.crdt_core.specs.Law.{KeepsSteps, KeepsLaw, made_by}
 use Rattle.crdt_core.specs.InMaps.{KeepsInMaps}
 use Rattle.crdt_core.specs.Resets.{ResetsWhatIsLeft}
 use Rattle.crdt_core.proofs.Blank.{without_blank, empty_kept}
-use Rattle.crdt_core.proofs.ResetsLaws.{kept_resets}
-use Rattle.crdt_core.specs.Leaves.{IsLeaf, same_kind_is, no_stamp_due}
+use Rattle.crdt_core.proofs.ResetsLaws.{kept_resets, named_by_reset}
+use Rattle.crdt_core.specs.KindCodes.{same_kind_is}
+use Rattle.crdt_core.specs.Leaves.{IsLeaf, no_stamp_due}
 use Rattle.crdt_core.proofs.Confluence.{confluence}
 use Rattle.crdt_core.specs.Kept.{KeptAt, dots_if, is_kept, keeps_none}
 use Rattle.crdt_core.proofs.KeptKinds.{pairs, with_pair, kept_keeps_steps, state_entries}
@@ -77,10 +79,11 @@ pub fat_law : KeepsLaw fat_has (λ k p. false) (λ k. empty) fat_step fat_made f
 fat_law = record {
   means = λ k us has h fit stamped. fat_means k us h;
   stamps = λ k u us has h fit stamped. no_stamp_due (λ k p. false) k (subst IsLeaf (sym (same_kind_is k CounterFat has)) leaf) (ap (λ l. same_kind l RegisterLww) (same_kind_is k CounterFat has)) u us fit;
-  confluent = λ k us vs has. confluence empty fat_step (made_by fat_made k) fat_names is_kept (fat_steps k) us vs;
+  confluent = λ k us vs has. confluence empty fat_step fat_made k fat_names is_kept (fat_steps k) us vs;
   orderless = λ k us vs has. counter_orderless k us vs;
   unread = λ k s t p a n has r. absurd (true≢false (sym (reads k has) ∙ r));
   steps = λ k has. fat_steps k;
+  kept = λ k us d has fit h. named_by_reset fat_made fat_names (λ k s n d. refl) k _ d (ap (λ l. allows l act.Reset) (same_kind_is k CounterFat has)) h;
 }
 
 pub fat_in_maps : KeepsInMaps fat_has (λ k p. false) (λ k. empty) fat_step fat_made keeps_none

@@ -1,5 +1,5 @@
 -- What a step leaves at each field.
-use Rattle.std.proofs.Common.{◌≡◌, ℕ, Bool, true, false, cond, not, ◌&&◌, ◌||◌, List, [], ◌∷◌, Option, Some, None, refl, sym, ap, ◌∙◌, subst}
+use Rattle.std.proofs.Common.{◌≡◌, ℕ, Bool, true, false, cond, not, ◌&&◌, ◌||◌, List, [], ◌∷◌, Option, Some, None, refl, sym, ap, ◌∙◌, subst, ⊎_elim}
 use Rattle.std.specs.Prelude.{map, filter, is_some, unwrap_or}
 use Rattle.std.specs.List.{list_any}
 use Rattle.std.specs.FinMap.{insert, get, find, get-insert, same_map}
@@ -14,11 +14,26 @@ use Rattle.crdt_core.specs.declared.operation.Act.TheVariants.{Reset}
 use Rattle.crdt_core.specs.Kinds.{same_field}
 use Rattle.crdt_core.specs.FieldOrder.{field_cmp, field_cmp_total, field_cmp_exact, field_ties, same_field_is, same_field_itself}
 use Rattle.crdt_core.specs.MapLists.{IsDistinct}
+use Rattle.crdt_core.proofs.Members.{In}
 use Rattle.crdt_meanings.specs.Maps.{FieldMap, at, step_at, step_each, is_undone, resets_of}
 
 -- a look-up in a list by the test of fields
 abbrev pub found : {X : Type 0} → Field → List (Field × X) → Option X
 found f es = find field_cmp f es
+
+-- an entry of a list in which no field stands twice is found there
+pub found_entry : {X : Type 0} (es : List (Field × X)) → IsDistinct field_cmp es → (e : Field × X) → In e es → found e.0 es ≡ Some e.1
+found_entry [] d e i = absurd i
+found_entry (x ∷ es) d e i = ⊎_elim
+    (λ here. subst (λ y. found y.0 (x ∷ es) ≡ Some y.1) here (ap (λ b. cond b (Some x.1) (found x.0 es)) (sym (field_ties x.0 x.0) ∙ same_field_itself x.0)))
+    (λ later.
+    let rest = found_entry es d.1 e later in
+    ap (λ b. cond b (Some x.1) (found e.0 es)) (sym (field_ties e.0 x.0))
+    ∙ elim (same_field e.0 x.0) as (λ b. same_field e.0 x.0 ≡ b → cond b (Some x.1) (found e.0 es) ≡ Some e.1) [
+      | true ↦ λ t. absurd (true≢false (sym (ap is_some rest) ∙ ap is_some (ap (λ f. found f es) (same_field_is e.0 x.0 t) ∙ d.0)))
+      | false ↦ λ t. rest
+    ] refl)
+    i
 
 pub same_fields : {X : Type 0} (m n : FieldMap X) → ((q : Field) → get m q ≡ get n q) → m ≡ n
 same_fields m n h = same_map field_cmp_total field_cmp_exact m n h

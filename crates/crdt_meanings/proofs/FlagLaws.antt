@@ -9,6 +9,7 @@ use Rattle.crdt_core.specs.declared.kind.Kind.TheVariants.{RegisterLww}
 use Rattle.crdt_core.specs.declared.operation.Act.{Act}
 use Rattle.crdt_core.specs.declared.operation.Act.TheVariants as act
 use Rattle.crdt_core.specs.declared.value.Value.TheVariants.{Flag}
+use Rattle.crdt_core.specs.Fits.{allows}
 use Rattle.crdt_core.specs.Kinds.{same_kind, reads_state}
 use Rattle.crdt_core.specs.Same.{Same}
 use Rattle.crdt_core.specs.Seen.{Update}
@@ -17,8 +18,9 @@ use Rattle.crdt_core.specs.Law.{KeepsSteps, KeepsLaw, made_by}
 use Rattle.crdt_core.specs.InMaps.{KeepsInMaps}
 use Rattle.crdt_core.specs.Resets.{ResetsWhatIsLeft}
 use Rattle.crdt_core.proofs.Blank.{without_blank, empty_kept}
-use Rattle.crdt_core.proofs.ResetsLaws.{kept_resets}
-use Rattle.crdt_core.specs.Leaves.{IsLeaf, same_kind_is, no_stamp_due}
+use Rattle.crdt_core.proofs.ResetsLaws.{kept_resets, named_by_reset}
+use Rattle.crdt_core.specs.KindCodes.{same_kind_is}
+use Rattle.crdt_core.specs.Leaves.{IsLeaf, no_stamp_due}
 use Rattle.crdt_core.proofs.Confluence.{confluence, any_same}
 use Rattle.crdt_core.specs.Kept.{KeptAt, dots_if, is_kept, keeps_none}
 use Rattle.crdt_core.proofs.KeptKinds.{pairs, stays, holding, any_pairs, kept_keeps_steps, state_entries}
@@ -94,15 +96,20 @@ kind_is : (w : Bool) → IsLeaf (flag_kind w) × (same_kind (flag_kind w) Regist
 kind_is false = (λ l. refl, refl, refl)
 kind_is true = (λ l. refl, refl, refl)
 
+reset_allowed : (w : Bool) → allows (flag_kind w) act.Reset ≡ true
+reset_allowed false = refl
+reset_allowed true = refl
+
 pub flag_law : (w : Bool) → KeepsLaw (flag_has w) (λ k p. false) (λ k. empty) (flag_step w) kind_made (flag_value w) no_stamp (flag_meaning w) flag_names is_kept
 flag_law w = record {
   means = λ k us has h fit stamped. flag_means w k us h;
   stamps = λ k u us has h fit stamped. let same = same_kind_is k (flag_kind w) has in
       no_stamp_due (λ k p. false) k (subst IsLeaf (sym same) (kind_is w).0) (ap (λ l. same_kind l RegisterLww) same ∙ (kind_is w).1) u us fit;
-  confluent = λ k us vs has. confluence empty (flag_step w) (made_by kind_made k) flag_names is_kept (flag_steps w k) us vs;
+  confluent = λ k us vs has. confluence empty (flag_step w) kind_made k flag_names is_kept (flag_steps w k) us vs;
   orderless = λ k us vs has s. flag_orderless w k us vs s;
   unread = λ k s t p a n has r. absurd (true≢false (sym (ap reads_state (same_kind_is k (flag_kind w) has) ∙ (kind_is w).2) ∙ r));
   steps = λ k has. flag_steps w k;
+  kept = λ k us d has fit h. named_by_reset kind_made flag_names (λ k s n d. refl) k _ d (ap (λ l. allows l act.Reset) (same_kind_is k (flag_kind w) has) ∙ reset_allowed w) h;
 }
 
 pub flag_in_maps : (w : Bool) → KeepsInMaps (flag_has w) (λ k p. false) (λ k. empty) (flag_step w) kind_made keeps_none

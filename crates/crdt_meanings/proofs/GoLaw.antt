@@ -15,7 +15,8 @@ use Rattle.crdt_core.specs.InMaps.{KeepsInMaps}
 use Rattle.crdt_core.specs.Resets.{ResetsWhatIsLeft}
 use Rattle.crdt_core.proofs.Blank.{no_keys, empty_none, never_reset}
 use Rattle.crdt_core.proofs.ResetsLaws.{never_resets}
-use Rattle.crdt_core.specs.Leaves.{IsLeaf, same_kind_is, no_stamp_due}
+use Rattle.crdt_core.specs.KindCodes.{same_kind_is}
+use Rattle.crdt_core.specs.Leaves.{IsLeaf, no_stamp_due}
 use Rattle.crdt_core.proofs.Confluence.{confluence}
 use Rattle.crdt_core.specs.Texts.{text_cmp, text_cmp_total, text_cmp_exact, same_text, is_in, ascending, in_ascending, is_marked, nothing_beside}
 use Rattle.crdt_meanings.specs.SetMeaning.{added_by, added, go_meaning}
@@ -23,10 +24,10 @@ use Rattle.crdt_meanings.proofs.SetMeaningLaws.{go_orderless}
 use Rattle.crdt_meanings.specs.SetGo.{has_none, Grown, go_has, with_each, go_step, go_made, go_value}
 use Rattle.crdt_meanings.specs.Without.{no_stamp, no_dot}
 
-abbrev stands : Grown → List ℕ → Bool
-stands s q = is_some (get s q)
+abbrev has_text : Grown → List ℕ → Bool
+has_text s q = is_some (get s q)
 
-pub same_grown : (s t : Grown) → ((q : List ℕ) → stands s q ≡ stands t q) → s ≡ t
+pub same_grown : (s t : Grown) → ((q : List ℕ) → has_text s q ≡ has_text t q) → s ≡ t
 same_grown s t h = same_map text_cmp_total text_cmp_exact s t (λ q. nothing_beside _ _ (h q))
 
 one_more : (b : Bool) (o : Option (Unit {0})) → is_some (cond b (Some tt) o) ≡ (b || is_some o)
@@ -36,11 +37,11 @@ one_more false o = refl
 after : (a b c : Bool) → (b || (a || c)) ≡ ((a || b) || c)
 after a b c = grind arith
 
-pub stands_each : (xs : List (List ℕ)) (s : Grown) (q : List ℕ) → stands (with_each s xs) q ≡ (is_in xs q || stands s q)
-stands_each [] s q = refl
-stands_each (x ∷ xs) s q =
-    stands_each xs (insert s x tt) q ∙ ap (λ b. is_in xs q || b) (ap is_some (get-insert text_cmp_total s x tt q) ∙ one_more (same_text q x) (get s q))
-    ∙ after (same_text q x) (is_in xs q) (stands s q)
+pub has_each : (xs : List (List ℕ)) (s : Grown) (q : List ℕ) → has_text (with_each s xs) q ≡ (is_in xs q || has_text s q)
+has_each [] s q = refl
+has_each (x ∷ xs) s q =
+    has_each xs (insert s x tt) q ∙ ap (λ b. is_in xs q || b) (ap is_some (get-insert text_cmp_total s x tt q) ∙ one_more (same_text q x) (get s q))
+    ∙ after (same_text q x) (is_in xs q) (has_text s q)
 
 turned : (a b c : Bool) → (b || (a || c)) ≡ (a || (b || c))
 turned a b c = grind arith
@@ -48,23 +49,23 @@ turned a b c = grind arith
 go_steps : (k : Kind) → KeepsSteps empty go_step (made_by go_made k) no_dot no_dot
 go_steps k = record {
   swaps = λ s a b d e apart na nb. same_grown _ _ (λ q.
-      stands_each b (with_each s a) q ∙ ap (λ c. is_in b q || c) (stands_each a s q) ∙ turned (is_in a q) (is_in b q) (stands s q)
-      ∙ sym (stands_each a (with_each s b) q ∙ ap (λ c. is_in a q || c) (stands_each b s q)));
+      has_each b (with_each s a) q ∙ ap (λ c. is_in b q || c) (has_each a s q) ∙ turned (is_in a q) (is_in b q) (has_text s q)
+      ∙ sym (has_each a (with_each s b) q ∙ ap (λ c. is_in a q || c) (has_each b s q)));
   named = λ s u d h. absurd (true≢false (sym h));
   held = λ s d e x h. absurd (true≢false (sym h));
   none_held = λ x. refl;
 }
 
-stands_after : (k : Kind) (us : List Update) (q : List ℕ) → stands (state_after empty go_step (made_by go_made k) us) q ≡ is_in (added us) q
-stands_after k [] q = ap is_some (get-empty text_cmp q)
-stands_after k (u ∷ us) q =
-    stands_each (ascending (added_by u.act)) (state_after empty go_step (made_by go_made k) us) q
-    ∙ (λ i. in_ascending (added_by u.act) q i || stands_after k us q i)
+has_after : (k : Kind) (us : List Update) (q : List ℕ) → has_text (state_after empty go_step (made_by go_made k) us) q ≡ is_in (added us) q
+has_after k [] q = ap is_some (get-empty text_cmp q)
+has_after k (u ∷ us) q =
+    has_each (ascending (added_by u.act)) (state_after empty go_step (made_by go_made k) us) q
+    ∙ (λ i. in_ascending (added_by u.act) q i || has_after k us q i)
     ∙ sym (list_any-append (same_text q) (added_by u.act) (added us))
 
 -- a set is in order as its texts are
 go_means : (k : Kind) (us : List Update) → go_value (state_after empty go_step (made_by go_made k) us) ≡ go_meaning k us
-go_means k us = ap (λ s. Words (keys s)) (same_grown _ _ (λ q. stands_after k us q ∙ sym (is_marked (added us) q)))
+go_means k us = ap (λ s. Words (keys s)) (same_grown _ _ (λ q. has_after k us q ∙ sym (is_marked (added us) q)))
 
 leaf : IsLeaf SetGo
 leaf l = refl
@@ -73,10 +74,11 @@ pub go_law : KeepsLaw go_has (λ k p. false) (λ k. empty) go_step go_made go_va
 go_law = record {
   means = λ k us has h fit stamped. go_means k us;
   stamps = λ k u us has h fit stamped. no_stamp_due (λ k p. false) k (subst IsLeaf (sym (same_kind_is k SetGo has)) leaf) (ap (λ l. same_kind l RegisterLww) (same_kind_is k SetGo has)) u us fit;
-  confluent = λ k us vs has. confluence empty go_step (made_by go_made k) no_dot no_dot (go_steps k) us vs;
+  confluent = λ k us vs has. confluence empty go_step go_made k no_dot no_dot (go_steps k) us vs;
   orderless = λ k us vs has s. go_orderless k us vs s;
   unread = λ k s t p a n has reads. refl;
   steps = λ k has. go_steps k;
+  kept = λ k us d has fit h. absurd (true≢false (sym h));
 }
 
 pub go_in_maps : KeepsInMaps go_has (λ k p. false) (λ k. empty) go_step go_made has_none

@@ -1,3 +1,4 @@
+pub mod ActLaws
 pub mod ElementSteps
 pub mod Empties
 pub mod FatLaw

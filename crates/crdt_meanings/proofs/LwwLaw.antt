@@ -1,5 +1,5 @@
 -- The register that the last writer wins keeps the law of a kind.
-use Rattle.std.proofs.Common.{◌≡◌, ℕ, ◌≤◌, ◌<◌, ◌+◌, Bool, true, false, cond, ◌&&◌, ◌||◌, List, [], ◌∷◌, ◌++◌, Option, Some, None, refl, sym, ap, ◌∙◌, subst, arith}
+use Rattle.std.proofs.Common.{◌≡◌, ℕ, ◌≤◌, ◌<◌, ◌+◌, Bool, true, false, cond, ◌&&◌, List, [], ◌∷◌, ◌++◌, Option, Some, None, refl, sym, ap, ◌∙◌, subst, arith}
 use Rattle.std.specs.Prelude.{filter, max, min, unwrap_or}
 use Rattle.std.specs.declared.cmp.Ordering.{Ordering}
 use Rattle.std.specs.declared.cmp.Ordering.TheVariants.{Less, Equal, Greater}
@@ -9,9 +9,8 @@ use Rattle.std.specs.FinMap.{IsAntisymmetric, nat_cmp-IsAntisymmetric}
 use Rattle.std.proofs.lemmas.Cmp.{on_total, then_total}
 use Rattle.std.proofs.lemmas.Map.Lookups.{exact_pairs, exact_unsigned}
 use Rattle.std.proofs.lemmas.Bool.Decides.{nat_tests}
-use Rattle.std.proofs.lemmas.Bool.{true≢false, false≢true, and_from, or_left, or_right}
+use Rattle.std.proofs.lemmas.Bool.{true≢false, false≢true, and_from}
 use Rattle.site_vector.specs.declared.ids.Dot.{Dot}
-use Rattle.site_vector.specs.Ids.{same_dot}
 use Rattle.site_vector.specs.Order.{dot_cmp, dot_cmp_total, dot_cmp_exact}
 use Rattle.crdt_core.specs.declared.kind.Kind.{Kind}
 use Rattle.crdt_core.specs.declared.kind.Kind.TheVariants.{RegisterLww}
@@ -28,12 +27,14 @@ use Rattle.crdt_core.specs.InMaps.{KeepsInMaps}
 use Rattle.crdt_core.specs.Resets.{ResetsWhatIsLeft}
 use Rattle.crdt_core.proofs.Blank.{never_reset}
 use Rattle.crdt_core.proofs.ResetsLaws.{never_resets}
-use Rattle.crdt_core.specs.Leaves.{IsLeaf, same_kind_is, first_fits, rest_fits}
+use Rattle.crdt_core.specs.KindCodes.{same_kind_is}
+use Rattle.crdt_core.specs.Leaves.{IsLeaf, first_fits, rest_fits}
 use Rattle.crdt_core.proofs.Confluence.{confluence}
 use Rattle.crdt_core.specs.Texts.{text_cmp, text_cmp_total, text_cmp_exact}
 use Rattle.crdt_meanings.specs.Later.{stamped_cmp, greater, later}
 use Rattle.crdt_meanings.specs.RegisterMeaning.{text_of, assigned, last_assign, word_of, lww_meaning}
-use Rattle.crdt_meanings.specs.RegisterLww.{lww_has, lww_step, above, lww_made, lww_stamp, lww_names, lww_holds, unassigned}
+use Rattle.crdt_meanings.specs.RegisterLww.{lww_has, lww_step, above, lww_made, lww_stamp, unassigned}
+use Rattle.crdt_meanings.specs.Without.{no_dot}
 use Rattle.crdt_meanings.specs.declared.registers.Stamped.{Stamped}
 use Rattle.crdt_meanings.specs.declared.registers.Assigned.{Assigned}
 
@@ -99,18 +100,11 @@ later_swap (Some x) None s = refl
 later_swap (Some x) (Some y) None = ap Some (most_comm stamped_total stamped_exact x y)
 later_swap (Some x) (Some y) (Some s) = ap Some (most_swap stamped_total stamped_exact x y s)
 
-held_case : (s : Option Stamped) (a : Stamped) (q : Dot) → lww_holds (later (Some a) s) q ≡ true → (lww_holds s q || same_dot a.dot q) ≡ true
-held_case None a q h = h
-held_case (Some b) a q h = elim (is_lt (stamped_cmp a b)) as (λ c. same_dot (cond c b a).dot q ≡ true → (same_dot b.dot q || same_dot a.dot q) ≡ true) [
-  | true ↦ λ k. or_left (same_dot b.dot q) _ k
-  | false ↦ λ k. or_right (same_dot b.dot q) _ k
-] h
-
-lww_steps : (k : Kind) → KeepsSteps None lww_step (made_by lww_made k) lww_names lww_holds
+lww_steps : (k : Kind) → KeepsSteps None lww_step (made_by lww_made k) no_dot no_dot
 lww_steps k = record {
   swaps = λ s a b d e apart na nb. later_swap (Some (record { stamp = b.stamp; dot = e; text = b.text })) (Some (record { stamp = a.stamp; dot = d; text = a.text })) s;
   named = λ s u d h. absurd (false≢true h);
-  held = λ s d e x h. held_case s (record { stamp = e.stamp; dot = d; text = e.text }) x h;
+  held = λ s d e x h. absurd (false≢true h);
   none_held = λ x. refl;
 }
 
@@ -209,14 +203,15 @@ lww_stamps u us fit st =
     ap (λ n. Some (min last_stamp n)) (ap (above u.now) (folded_part (sees u) us rest st) ∙ above_part u.now (sees u) u.path first.0 us rest st)
     ∙ sym (ap (λ b. cond b (Some (min last_stamp (above_all u.now (assigns_seen u us)))) None) due)
 
-pub lww_law : KeepsLaw lww_has deep (λ k. None) lww_step lww_made word_of lww_stamp lww_meaning lww_names lww_holds
+pub lww_law : KeepsLaw lww_has deep (λ k. None) lww_step lww_made word_of lww_stamp lww_meaning no_dot no_dot
 lww_law = record {
   means = λ k us has h fit st. subst (λ l. all_fit deep l us ≡ true → IsStamped None lww_step (made_by lww_made l) lww_stamp us → word_of (state_after None lww_step (made_by lww_made l) us) ≡ lww_meaning l us) (sym (same_kind_is k RegisterLww has)) (lww_means us) fit st;
   stamps = λ k u us has h fit st. subst (λ l. all_fit deep l (u ∷ us) ≡ true → IsStamped None lww_step (made_by lww_made l) lww_stamp us → lww_stamp (effect_after None lww_step (made_by lww_made l) us u) ≡ stamp_due l us u) (sym (same_kind_is k RegisterLww has)) (lww_stamps u us) fit st;
-  confluent = λ k us vs has. confluence None lww_step (made_by lww_made k) lww_names lww_holds (lww_steps k) us vs;
+  confluent = λ k us vs has. confluence None lww_step lww_made k no_dot no_dot (lww_steps k) us vs;
   orderless = λ k us vs has s. ap word_of (last_same us vs s);
   unread = λ k s t p a n has r. absurd (true≢false (sym (ap reads_state (same_kind_is k RegisterLww has)) ∙ r));
   steps = λ k has. lww_steps k;
+  kept = λ k us d has fit h. absurd (false≢true h);
 }
 
 pub lww_in_maps : KeepsInMaps lww_has deep (λ k. None) lww_step lww_made unassigned
@@ -227,5 +222,5 @@ lww_in_maps = record {
   flat = λ k p has out. refl;
 }
 
-pub lww_resets : ResetsWhatIsLeft lww_has deep (λ k. None) lww_step lww_made unassigned lww_names
+pub lww_resets : ResetsWhatIsLeft lww_has deep (λ k. None) lww_step lww_made unassigned no_dot
 lww_resets = never_resets RegisterLww refl

@@ -6,7 +6,7 @@ use Rattle.std.specs.Option.{option_map}
 use Rattle.std.specs.Ordering.{eq_by_cmp, is_lt}
 use Rattle.std.specs.FinMap.{empty, get, entries, is_sorted, from_entries, from_sorted, entries_sorted, entries-from_sorted, get-entries, get-from_entries, get-from_sorted}
 use Rattle.std.specs.FinMap.Entries.{below_all}
-use Rattle.std.proofs.lemmas.Bool.{true≢false, and_parts, or_cases}
+use Rattle.std.proofs.lemmas.Bool.{true≢false, and_parts, and_from, or_cases, or_from, or_left}
 use Rattle.site_vector.specs.declared.ids.Dot.{Dot}
 use Rattle.crdt_core.specs.declared.kind.Kind.{Kind}
 use Rattle.crdt_core.specs.declared.kind.Kind.TheVariants.{RegisterLww, MapGo, MapRr}
@@ -20,16 +20,18 @@ use Rattle.crdt_core.specs.Fits.{stands_in, allows, is_map}
 use Rattle.crdt_core.specs.Same.{Same}
 use Rattle.crdt_core.specs.Seen.{Update}
 use Rattle.crdt_core.specs.History.{IsHistory, folded, effects, state_after}
-use Rattle.crdt_core.specs.Law.{KeepsLaw, made_by, all_fit}
+use Rattle.crdt_core.specs.Law.{CanBeNamed, KeepsLaw, made_by, all_fit}
 use Rattle.crdt_core.specs.InMaps.{KeepsInMaps}
 use Rattle.crdt_core.proofs.Blank.{no_entries, empty_none, never_reset}
 use Rattle.crdt_core.proofs.Confluence.{any_same, confluence}
-use Rattle.crdt_core.specs.Leaves.{same_kind_is}
+use Rattle.crdt_core.specs.KindCodes.{same_kind_is}
 use Rattle.crdt_core.specs.FieldOrder.{field_cmp, field_cmp_total, field_ties, same_field_is}
 use Rattle.crdt_meanings.specs.Maps.{FieldMap, at, map_has, step_each, map_step, is_undone, resets_of, map_made, map_stamp, map_too_deep, map_names, map_holds, members, shown, map_value, map_blank}
 use Rattle.crdt_meanings.specs.MapMeaning.{with_some, entered, of_field, at_field, updated, meanings, map_meaning}
 use Rattle.crdt_meanings.proofs.Picked.{picked_same}
-use Rattle.crdt_meanings.proofs.FieldSteps.{found, same_fields}
+use Rattle.crdt_core.specs.MapLists.{distinct_entries}
+use Rattle.crdt_core.proofs.Members.{one_of}
+use Rattle.crdt_meanings.proofs.FieldSteps.{found, found_entry, same_fields}
 use Rattle.crdt_meanings.proofs.FieldHistory.{reset_stands, history_of_field, fits_of_field}
 use Rattle.crdt_meanings.proofs.FieldFold.{outer, field_folded}
 use Rattle.crdt_meanings.proofs.Presence.{among, may_stand, stands_updated}
@@ -112,6 +114,9 @@ module _ {S E : Type 0} {has : Kind → Bool} {too_deep : Kind → List Field �
   abbrev map_after : Kind → List Update → FieldMap S
   map_after k us = state_after empty (map_step has initial step) (made_by (map_made has initial made is_blank) k) us
 
+  abbrev IsNamed : Kind → FieldMap S → Dot → Type 0
+  IsNamed k m d = CanBeNamed (map_too_deep has too_deep) (map_made has initial made is_blank) (map_names has names) k m d
+
   module _ (k : Kind) (own : (f : Field) → stands_in k f.kind ≡ true → reset_stands k f) where
     -- what stands at an updated field is its kind's state after the field's own updates
     pub state_at : (us : List Update) → all_fit (map_too_deep has too_deep) k us ≡ true → (q : Field) → among q (updated has us) ≡ true → at initial (outer owed k (λ d. true) us) q ≡ state_after (initial q.kind) step (made_by made q.kind) (of_field q us)
@@ -139,6 +144,27 @@ module _ {S E : Type 0} {has : Kind → Bool} {too_deep : Kind → List Field �
         ap (option_map value_of) (option_is (get m q) (among q (updated has us)) (initial q.kind) (stands_updated owed k q us))
         ∙ mapped_cond value_of (among q (updated has us)) (at initial m q) (meaning q.kind (of_field q us)) (value_at us h fit st q))
 
+    -- what an operation of a field can name, an operation of the map can
+    named_at : (m : FieldMap S) (f : Field) (d : Dot) → has f.kind ≡ true → stands_in k f.kind ≡ true → (s : S) → at initial m f ≡ s → CanBeNamed too_deep made names f.kind s d → IsNamed k m d
+    named_at m f d known stands s is n =
+        (f ∷ n.0, n.1, and_from _ _ stands n.2, or_from _ _ (ap not known) n.3, λ t. or_left _ false (and_from _ _ known (ap (λ s. names (made f.kind s n.0 n.1 t) d) is ∙ n.4 t)))
+
+    -- what a map holds, a field holds
+    named_outer : (us : List Update) → all_fit (map_too_deep has too_deep) k us ≡ true → (d : Dot) → map_holds holds (outer owed k (λ d. true) us) d ≡ true → IsNamed k (outer owed k (λ d. true) us) d
+    named_outer us fit d h =
+        let m = outer owed k (λ d. true) us in
+        let w = one_of (λ e. holds e.1 d) (entries m) h in
+        let f = w.0.0 in
+        let there : get m f ≡ Some w.0.1 = get-entries m f ∙ found_entry (entries m) (distinct_entries m) w.0 w.1 in
+        let up : among f (updated has us) ≡ true = sym (stands_updated owed k f us) ∙ ap is_some there in
+        let two = may_stand has too_deep k f us fit up in
+        let is = state_at us fit f up in
+        let held = ap (λ s. holds s d) (sym is ∙ ap (λ o. unwrap_or o (initial f.kind)) there) ∙ w.2 in
+        named_at m f d two.0 two.1 _ is (inner.kept f.kind (of_field f us) d two.0 (fits_of_field has too_deep owed.shallow k f (own f two.1) us fit) held)
+
+    named_after : (us : List Update) → all_fit (map_too_deep has too_deep) k us ≡ true → (d : Dot) → map_holds holds (map_after k us) d ≡ true → IsNamed k (map_after k us) d
+    named_after us fit d = subst (λ m. map_holds holds m d ≡ true → IsNamed k m d) (all_outer us) (named_outer us fit d)
+
   known_among : (q : Field) (us : List Update) → among q (updated has us) ≡ true → has q.kind ≡ true
   known_among q [] h = absurd (true≢false (sym h))
   known_among q (u ∷ us) h = one_known has q u.path (updated has us) (known_among q us) h
@@ -165,10 +191,11 @@ module _ {S E : Type 0} {has : Kind → Bool} {too_deep : Kind → List Field �
   map_law drops = record {
     means = λ k us is h fit st. ap (λ ms. Fields (shown drops ms)) (members_mean k (own drops k is) us h fit st) ∙ shown_means drops k us;
     stamps = λ k u us is h fit st. map_stamps inner owed k (own drops k is) (of_both (λ l. same_kind l RegisterLww) false drops k is refl refl) u us h fit st;
-    confluent = λ k us vs is. confluence empty (map_step has initial step) (made_by (map_made has initial made is_blank) k) (map_names has names) (map_holds holds) (map_steps inner is_blank k) us vs;
+    confluent = λ k us vs is. confluence empty (map_step has initial step) (map_made has initial made is_blank) k (map_names has names) (map_holds holds) (map_steps inner is_blank k) us vs;
     orderless = λ k us vs is s. sym (shown_means drops k us) ∙ ap (λ ms. Fields (shown drops ms)) (meanings_same us vs s) ∙ shown_means drops k vs;
     unread = λ k s t p a n is r. absurd (true≢false (sym (of_both reads_state true drops k is refl refl) ∙ r));
     steps = λ k is. map_steps inner is_blank k;
+    kept = λ k us d is fit h. named_after k (own drops k is) us fit d h;
   }
 
   pub undoes_nothing : (n : ℕ) (es : List (Field × S)) → list_all (λ e. is_blank e.1) es ≡ true → resets_of has made is_blank n es ≡ []

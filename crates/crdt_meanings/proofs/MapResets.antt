@@ -11,7 +11,6 @@ use Rattle.crdt_core.specs.declared.object.Field.{Field}
 use Rattle.crdt_core.specs.declared.operation.Act.{Act}
 use Rattle.crdt_core.specs.declared.operation.Act.TheVariants as act
 use Rattle.crdt_core.specs.declared.value.Value.{Value}
-use Rattle.crdt_core.specs.Kinds.{same_field}
 use Rattle.crdt_core.specs.Fits.{stands_in}
 use Rattle.crdt_core.specs.Seen.{Update}
 use Rattle.crdt_core.specs.History.{IsHistory, state_after}
@@ -19,13 +18,12 @@ use Rattle.crdt_core.specs.Law.{KeepsLaw, made_by, all_fit}
 use Rattle.crdt_core.specs.InMaps.{KeepsInMaps}
 use Rattle.crdt_core.specs.Resets.{ResetsWhatIsLeft}
 use Rattle.crdt_core.proofs.ResetsLaws.{never_resets}
-use Rattle.crdt_core.specs.Leaves.{same_kind_is}
-use Rattle.crdt_core.specs.FieldOrder.{field_cmp, field_ties, same_field_is, same_field_itself}
-use Rattle.crdt_core.specs.MapLists.{IsDistinct, distinct_entries}
+use Rattle.crdt_core.specs.KindCodes.{same_kind_is}
+use Rattle.crdt_core.specs.MapLists.{distinct_entries}
 use Rattle.crdt_core.proofs.Members.{In}
-use Rattle.crdt_meanings.specs.Maps.{EachNames, FieldMap, at, map_has, listed, map_step, is_undone, resets_of, reset_by, map_made, map_too_deep, map_names, map_blank}
+use Rattle.crdt_meanings.specs.Maps.{EachNames, FieldMap, at, map_has, map_step, is_undone, resets_of, reset_by, map_made, map_too_deep, map_names, map_blank}
 use Rattle.crdt_meanings.specs.MapMeaning.{of_field, updated}
-use Rattle.crdt_meanings.proofs.FieldSteps.{found}
+use Rattle.crdt_meanings.proofs.FieldSteps.{found_entry}
 use Rattle.crdt_meanings.proofs.FieldHistory.{history_of_field, fits_of_field}
 use Rattle.crdt_meanings.proofs.FieldFold.{outer}
 use Rattle.crdt_meanings.proofs.Presence.{among, may_stand, stands_updated}
@@ -38,20 +36,6 @@ not_all {A} p (x ∷ xs) h = elim (p x) as (λ b. p x ≡ b → (b && list_all p
   | true ↦ λ e h. let w = not_all p xs h in (w.0, inr w.1, w.2)
   | false ↦ λ e h. (x, inl refl, e)
 ] refl h
-
--- an entry of a list in which no field stands twice is found there
-found_entry : {X : Type 0} (es : List (Field × X)) → IsDistinct field_cmp es → (e : Field × X) → In e es → found e.0 es ≡ Some e.1
-found_entry [] d e i = absurd i
-found_entry (x ∷ es) d e i = ⊎_elim
-    (λ here. subst (λ y. found y.0 (x ∷ es) ≡ Some y.1) here (ap (λ b. cond b (Some x.1) (found x.0 es)) (sym (field_ties x.0 x.0) ∙ same_field_itself x.0)))
-    (λ later.
-    let rest = found_entry es d.1 e later in
-    ap (λ b. cond b (Some x.1) (found e.0 es)) (sym (field_ties e.0 x.0))
-    ∙ elim (same_field e.0 x.0) as (λ b. same_field e.0 x.0 ≡ b → cond b (Some x.1) (found e.0 es) ≡ Some e.1) [
-      | true ↦ λ t. absurd (true≢false (sym (ap is_some rest) ∙ ap is_some (ap (λ f. found f es) (same_field_is e.0 x.0 t) ∙ d.0)))
-      | false ↦ λ t. rest
-    ] refl)
-    i
 
 module _ {S E : Type 0} {has : Kind → Bool} {too_deep : Kind → List Field → Bool} {initial : Kind → S} {step : S → Dot → E → S} {made : Kind → S → List Field → Act → ℕ → E} {value_of : S → Value} {stamp_of : E → Option ℕ} {meaning : Kind → List Update → Value} {names : E → Dot → Bool} {holds : S → Dot → Bool} {is_blank : S → Bool} (inner : KeepsLaw has too_deep initial step made value_of stamp_of meaning names holds) (owed : KeepsInMaps has too_deep initial step made is_blank)
     (fields : ResetsWhatIsLeft has too_deep initial step made is_blank names) where

@@ -9,6 +9,7 @@ use Rattle.crdt_core.specs.declared.kind.Kind.TheVariants.{RegisterMv, RegisterL
 use Rattle.crdt_core.specs.declared.operation.Act.{Act}
 use Rattle.crdt_core.specs.declared.operation.Act.TheVariants as act
 use Rattle.crdt_core.specs.declared.value.Value.TheVariants.{Words}
+use Rattle.crdt_core.specs.Fits.{allows}
 use Rattle.crdt_core.specs.Kinds.{same_kind, reads_state}
 use Rattle.crdt_core.specs.Same.{Same}
 use Rattle.crdt_core.specs.Seen.{Update, sees, is_assign}
@@ -17,8 +18,9 @@ use Rattle.crdt_core.specs.Law.{KeepsSteps, KeepsLaw, made_by}
 use Rattle.crdt_core.specs.InMaps.{KeepsInMaps}
 use Rattle.crdt_core.specs.Resets.{ResetsWhatIsLeft}
 use Rattle.crdt_core.proofs.Blank.{without_blank, empty_kept}
-use Rattle.crdt_core.proofs.ResetsLaws.{kept_resets}
-use Rattle.crdt_core.specs.Leaves.{IsLeaf, same_kind_is, no_stamp_due}
+use Rattle.crdt_core.proofs.ResetsLaws.{kept_resets, named_by_reset}
+use Rattle.crdt_core.specs.KindCodes.{same_kind_is}
+use Rattle.crdt_core.specs.Leaves.{IsLeaf, no_stamp_due}
 use Rattle.crdt_core.proofs.Confluence.{confluence, any_same}
 use Rattle.crdt_core.specs.Kept.{KeptAt, dots_if, is_kept, keeps_none}
 use Rattle.crdt_core.proofs.KeptKinds.{pairs, with_pair, stays, kept_keeps_steps, state_entries}
@@ -130,10 +132,11 @@ pub mv_law : KeepsLaw mv_has (λ k p. false) (λ k. empty) mv_step mv_made mv_va
 mv_law = record {
   means = λ k us has h fit stamped. mv_means k us h;
   stamps = λ k u us has h fit stamped. no_stamp_due (λ k p. false) k (subst IsLeaf (sym (same_kind_is k RegisterMv has)) leaf) (ap (λ l. same_kind l RegisterLww) (same_kind_is k RegisterMv has)) u us fit;
-  confluent = λ k us vs has. confluence empty mv_step (made_by mv_made k) mv_names is_kept (mv_steps k) us vs;
+  confluent = λ k us vs has. confluence empty mv_step mv_made k mv_names is_kept (mv_steps k) us vs;
   orderless = λ k us vs has. mv_orderless k us vs;
   unread = λ k s t p a n has r. absurd (true≢false (sym (ap reads_state (same_kind_is k RegisterMv has)) ∙ r));
   steps = λ k has. mv_steps k;
+  kept = λ k us d has fit h. named_by_reset mv_made mv_names (λ k s n d. refl) k _ d (ap (λ l. allows l act.Reset) (same_kind_is k RegisterMv has)) h;
 }
 
 pub mv_in_maps : KeepsInMaps mv_has (λ k p. false) (λ k. empty) mv_step mv_made keeps_none

@@ -21,7 +21,8 @@ use Rattle.crdt_core.specs.InMaps.{KeepsInMaps}
 use Rattle.crdt_core.specs.Resets.{ResetsWhatIsLeft}
 use Rattle.crdt_core.proofs.Blank.{never_reset}
 use Rattle.crdt_core.proofs.ResetsLaws.{never_resets}
-use Rattle.crdt_core.specs.Leaves.{IsLeaf, same_kind_is, first_fits, rest_fits, no_stamp_due}
+use Rattle.crdt_core.specs.KindCodes.{same_kind_is}
+use Rattle.crdt_core.specs.Leaves.{IsLeaf, first_fits, rest_fits, no_stamp_due}
 use Rattle.crdt_core.proofs.Confluence.{confluence}
 use Rattle.crdt_meanings.specs.CounterMeaning.{amount, total, counter_meaning}
 use Rattle.crdt_meanings.proofs.Totals.{counter_orderless, nothing_wraps}
@@ -70,10 +71,11 @@ pub pn_law : KeepsLaw pn_has (λ k p. false) (λ k. pos 0) pn_step pn_made pn_va
 pn_law = record {
   means = λ k us has h fit stamped. subst (λ l. all_fit deep l us ≡ true → pn_value (state_after (pos 0) pn_step (made_by pn_made l) us) ≡ counter_meaning l us) (sym (same_kind_is k CounterPn has)) (pn_means us) fit;
   stamps = λ k u us has h fit stamped. no_stamp_due deep k (subst IsLeaf (sym (same_kind_is k CounterPn has)) leaf) (ap (λ l. same_kind l RegisterLww) (same_kind_is k CounterPn has)) u us fit;
-  confluent = λ k us vs has. confluence (pos 0) pn_step (made_by pn_made k) no_dot no_dot (pn_steps k) us vs;
+  confluent = λ k us vs has. confluence (pos 0) pn_step pn_made k no_dot no_dot (pn_steps k) us vs;
   orderless = λ k us vs has. counter_orderless k us vs;
   unread = λ k s t p a n has reads. refl;
   steps = λ k has. pn_steps k;
+  kept = λ k us d has fit h. absurd (true≢false (sym h));
 }
 
 pub pn_in_maps : KeepsInMaps pn_has deep (λ k. pos 0) pn_step pn_made is_zero

@@ -2,7 +2,7 @@
 use Rattle.std.proofs.Common.{◌≡◌, ℕ, Bool, true, false, cond, not, ◌&&◌, ◌||◌, List, [], ◌∷◌, Option, Some, None, refl, sym, ap, ◌∙◌, subst, length, arith}
 use Rattle.std.specs.Prelude.{map, filter, is_some, unwrap_or}
 use Rattle.std.specs.List.{list_any}
-use Rattle.std.proofs.lemmas.Bool.{true≢false, false≢true, and_parts, or_from}
+use Rattle.std.proofs.lemmas.Bool.{true≢false, false≢true, and_parts, or_from, true_from_ne_false}
 use Rattle.std.specs.FinMap.{empty, get, find, keys, entries, entries_sorted, get-empty, get-entries, contains_key-keys, len-entries, len-empty}
 use Rattle.site_vector.specs.declared.ids.Dot.{Dot}
 use Rattle.site_vector.specs.Ids.{same_dot}
@@ -12,6 +12,7 @@ use Rattle.crdt_core.specs.declared.kind.Kind.TheVariants.{RegisterLww}
 use Rattle.crdt_core.specs.declared.operation.Act.{Act}
 use Rattle.crdt_core.specs.declared.operation.Act.TheVariants as act
 use Rattle.crdt_core.specs.declared.value.Value.TheVariants.{Words}
+use Rattle.crdt_core.specs.Fits.{allows}
 use Rattle.crdt_core.specs.Kinds.{same_kind, reads_state}
 use Rattle.crdt_core.specs.DotSet.{has_dot}
 use Rattle.crdt_core.specs.Seen.{Update, sees, is_live}
@@ -19,7 +20,8 @@ use Rattle.crdt_core.specs.History.{IsHistory, state_after}
 use Rattle.crdt_core.specs.Law.{KeepsSteps, KeepsLaw, made_by}
 use Rattle.crdt_core.specs.InMaps.{KeepsInMaps}
 use Rattle.crdt_core.proofs.Blank.{no_keys, empty_none}
-use Rattle.crdt_core.specs.Leaves.{IsLeaf, same_kind_is, no_stamp_due}
+use Rattle.crdt_core.specs.KindCodes.{same_kind_is}
+use Rattle.crdt_core.specs.Leaves.{IsLeaf, no_stamp_due}
 use Rattle.crdt_core.proofs.Confluence.{confluence, any_same}
 use Rattle.crdt_core.specs.Texts.{text_cmp, same_text, same_text_is, is_in, ascending, in_ascending, same_ascending, in_filter, ascending_sorted}
 use Rattle.crdt_core.specs.MapLists.{IsDistinct, distinct_entries}
@@ -33,7 +35,7 @@ use Rattle.crdt_core.proofs.WinsLaw.{undoes, add_stays, remove_stays}
 use Rattle.crdt_meanings.specs.SetMeaning.{adds, removes, added, set_meaning}
 use Rattle.crdt_meanings.proofs.SetMeaningLaws.{in_added, set_orderless}
 use Rattle.crdt_meanings.specs.Elements.{Elements, lacks_all, at, take_named, named_at, passing, names_dot, keeps_dot, shows}
-use Rattle.crdt_meanings.proofs.ElementSteps.{dots_at, at-take_named, take_swaps, take_held, keeps_none, at_none, names_kept, lists_named, dots_named}
+use Rattle.crdt_meanings.proofs.ElementSteps.{dots_at, at-take_named, take_swaps, take_held, kept_of_some, keeps_none, at_none, names_kept, kept_names, lists_named, dots_named}
 use Rattle.crdt_meanings.specs.Sets.{set_kind, set_has, named_of, remove_own, set_own, set_step, set_made, kind_made, set_value, set_names}
 use Rattle.crdt_meanings.specs.Without.{no_stamp}
 
@@ -234,19 +236,26 @@ set_means true k us h =
     (λ x. (λ i. marked true k us h x i && not (unmarked k us h x i)) ∙ remove_stays (adds x) (removes x) us h) (rw_some us))
 
 -- both kinds have no fields and no stamps, and their effects depend on the state
-kind_is : (w : Bool) → IsLeaf (set_kind w) × (same_kind (set_kind w) RegisterLww ≡ false) × (reads_state (set_kind w) ≡ true)
-kind_is false = (λ l. refl, refl, refl)
-kind_is true = (λ l. refl, refl, refl)
+kind_is : (w : Bool) → IsLeaf (set_kind w) × (same_kind (set_kind w) RegisterLww ≡ false) × (reads_state (set_kind w) ≡ true) × (allows (set_kind w) act.Reset ≡ true)
+kind_is false = (λ l. refl, refl, refl, refl)
+kind_is true = (λ l. refl, refl, refl, refl)
+
+-- a reset names all that the set holds
+all_named : (s : Elements) (d : Dot) → keeps_dot s d ≡ true → names_dot (named_at s (keys s)) d ≡ true
+all_named s d h =
+    let w = kept_of_some s d h in
+    kept_names s (keys s) w.0 d (true_from_ne_false _ (λ out. true≢false (sym w.1 ∙ absent s w.0 d out))) w.1
 
 pub set_law : (w : Bool) → KeepsLaw (set_has w) (λ k p. false) (λ k. empty) (set_step w) kind_made (set_value w) no_stamp (set_meaning w) set_names keeps_dot
 set_law w = record {
   means = λ k us has h fit stamped. set_means w k us h;
   stamps = λ k u us has h fit stamped. let same = same_kind_is k (set_kind w) has in
       no_stamp_due (λ k p. false) k (subst IsLeaf (sym same) (kind_is w).0) (ap (λ l. same_kind l RegisterLww) same ∙ (kind_is w).1) u us fit;
-  confluent = λ k us vs has. confluence empty (set_step w) (made_by kind_made k) set_names keeps_dot (set_steps w k) us vs;
+  confluent = λ k us vs has. confluence empty (set_step w) kind_made k set_names keeps_dot (set_steps w k) us vs;
   orderless = λ k us vs has s. set_orderless w k us vs s;
   unread = λ k s t p a n has r. absurd (true≢false (sym (ap reads_state (same_kind_is k (set_kind w) has) ∙ (kind_is w).2) ∙ r));
   steps = λ k has. set_steps w k;
+  kept = λ k us d has fit h. ([], act.Reset, ap (λ l. allows l act.Reset) (same_kind_is k (set_kind w) has) ∙ (kind_is w).3, refl, λ n. all_named _ d h);
 }
 
 -- nothing is named where no element stands

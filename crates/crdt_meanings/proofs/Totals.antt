@@ -16,7 +16,7 @@ add_last a b c = omega (arith, ints)
 add_both : (a b c : ℤ) → (a +ℤ (b +ℤ c)) ≡ ((a +ℤ b) +ℤ c)
 add_both a b c = omega (arith, ints)
 
-add_none : (a : ℤ) → a ≡ (a +ℤ pos 0)
+pub add_none : (a : ℤ) → a ≡ (a +ℤ pos 0)
 add_none a = omega (arith, ints)
 
 module _ {A : Type 0} (f : A → ℤ) where

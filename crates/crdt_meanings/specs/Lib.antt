@@ -14,5 +14,6 @@ pub mod RegisterMv
 pub mod SetGo
 pub mod SetMeaning
 pub mod Sets
+pub mod Shows
 pub mod Sorted
 pub mod Without

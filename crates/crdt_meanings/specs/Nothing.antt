@@ -1,5 +1,5 @@
 -- Which values a map whose fields can be dropped hides.
-use Rattle.std.specs.Prelude.{◌≡◌, ◌↔◌, Bool, true, List, []}
+use Rattle.std.specs.Prelude.{◌≡◌, ◌↔◌, true, List, []}
 use Rattle.crdt_core.specs.declared.kind.Kind.{Kind}
 use Rattle.crdt_core.specs.declared.value.Value.{Value}
 use Rattle.crdt_core.specs.Seen.{Update}

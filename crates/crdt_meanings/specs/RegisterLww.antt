@@ -1,7 +1,6 @@
 -- The states and effects of the register that the last writer wins.
 use Rattle.std.specs.Prelude.{ℕ, ◌+◌, max, min, Bool, false, List, Option, Some, None, not, is_some}
 use Rattle.site_vector.specs.declared.ids.Dot.{Dot}
-use Rattle.site_vector.specs.Ids.{same_dot}
 use Rattle.crdt_core.specs.declared.kind.Kind.{Kind}
 use Rattle.crdt_core.specs.declared.kind.Kind.TheVariants.{RegisterLww}
 use Rattle.crdt_core.specs.declared.object.Field.{Field}
@@ -37,14 +36,7 @@ lww_made k s p a now = lww_made_on s a now
 abbrev pub lww_stamp : Assigned → Option ℕ
 lww_stamp e = Some e.stamp
 
-abbrev pub lww_names : Assigned → Dot → Bool
-lww_names e d = false
-
-abbrev pub lww_holds : Option Stamped → Dot → Bool
-lww_holds None d = false
-lww_holds (Some a) d = same_dot a.dot d
-
 -- the assign that stands is later than this one
-abbrev pub stands : Option Stamped → Dot → Assigned → Bool
-stands None d e = false
-stands (Some a) d e = is_lt (stamped_cmp (record { stamp = e.stamp; dot = d; text = e.text }) a)
+abbrev pub outlasts : Option Stamped → Dot → Assigned → Bool
+outlasts None d e = false
+outlasts (Some a) d e = is_lt (stamped_cmp (record { stamp = e.stamp; dot = d; text = e.text }) a)

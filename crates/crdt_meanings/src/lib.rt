@@ -10,7 +10,7 @@ mod sets;
 
 pub use counters::FatEffect;
 pub use flags::FlagEffect;
-pub use laws::{law_amounts, law_nothing, law_stamps};
+pub use laws::{law_acts, law_amounts, law_nothing, law_stamps};
 pub use maps::{Boxed, MapEffect};
 pub use registers::{Assigned, MvEffect, Stamped};
 pub use sets::{Named, SetEffect};

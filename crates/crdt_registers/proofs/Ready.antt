@@ -11,7 +11,8 @@ use Rattle.crdt_core.specs.declared.operation.Act.TheVariants as act
 use Rattle.crdt_core.specs.Kept.{KeptAt, dots_of, is_kept}
 use Rattle.crdt_core.specs.EffectForm.{HoldsSpelled, IsReady, reset_tag, begins_with, asks_reset, sets_ascend}
 use Rattle.crdt_core.specs.Fits.{fits}
-use Rattle.crdt_core.specs.Leaves.{IsLeaf, same_kind_is, fits_leaf}
+use Rattle.crdt_core.specs.KindCodes.{same_kind_is}
+use Rattle.crdt_core.specs.Leaves.{IsLeaf, fits_leaf}
 use Rattle.crdt_core.proofs.Ready.{kept_spelled, kept_ascend}
 use Rattle.crdt_core.specs.Seen.{is_assign}
 use Rattle.crdt_core.specs.Spelled.{is_between, ascend}

@@ -11,10 +11,10 @@ use Rattle.crdt_core.specs.declared.kind.Kind.{Kind}
 use Rattle.crdt_core.specs.Spelled.{is_between, between_at}
 use Rattle.crdt_core.specs.SpelledLaws.{between_form}
 use Rattle.crdt_core.specs.EffectForm.{SpellsEffects}
-use Rattle.crdt_core.specs.Stands.{NamesStand}
+use Rattle.crdt_core.specs.NamedDots.{NamesAreSpelled}
 use Rattle.crdt_core.specs.Stamps.{last_stamp}
 use Rattle.crdt_registers.specs.EffectForm.{is_of_kind}
-use Rattle.crdt_meanings.specs.RegisterLww.{lww_names}
+use Rattle.crdt_meanings.specs.Without.{no_dot}
 use Rattle.crdt_meanings.specs.declared.registers.Assigned.{Assigned}
 
 abbrev pub can_put_lww : Assigned → Bool
@@ -49,5 +49,5 @@ lww_form =
 abbrev pub lww_spells : (has : Kind → Bool) → SpellsEffects has is_of_kind can_put_lww is_lww_spelled lww_sets lww_texts lww_spelling (λ k. lww_at)
 lww_spells has = record { form = λ k h. lww_form; all = λ e can ascends words short. and_true (can_put_lww e) (is_text e.text) can (both_true (is_text e.text) true words).0 }
 
-pub lww_stands : NamesStand can_put_lww lww_names lww_sets lww_spelling
-lww_stands = record { exact = λ e d can. refl; stands = λ e d can h. absurd (false≢true h) }
+pub lww_named : NamesAreSpelled can_put_lww no_dot lww_sets lww_spelling
+lww_named = record { exact = λ e d can. refl; stands = λ e d can h. absurd (false≢true h) }

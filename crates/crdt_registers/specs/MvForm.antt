@@ -16,8 +16,8 @@ use Rattle.crdt_core.specs.EffectForm.{HasSpelling, SpellsEffects}
 use Rattle.crdt_core.proofs.HaveSpelling.{back_short, dots_behind}
 use Rattle.crdt_core.proofs.SetsLaws.{or_none}
 use Rattle.crdt_core.specs.DotSet.{has_dot}
-use Rattle.crdt_core.specs.Stands.{StandsIn, NamesStand}
-use Rattle.crdt_core.proofs.StandsLaws.{stands_behind, dots_stand}
+use Rattle.crdt_core.specs.NamedDots.{IsPartOf, NamesAreSpelled}
+use Rattle.crdt_core.proofs.NamedDotsLaws.{stands_behind, dots_stand}
 use Rattle.crdt_registers.specs.EffectForm.{is_of_kind}
 use Rattle.crdt_meanings.specs.RegisterMv.{mv_out, mv_names}
 use Rattle.crdt_meanings.specs.declared.registers.MvEffect.{MvEffect}
@@ -100,9 +100,9 @@ mv_all (Reset ds) can ascends words short = dots_behind (number 1 2) ds can asce
 abbrev pub mv_spells : (has : Kind → Bool) → SpellsEffects has is_of_kind can_put_mv is_mv_spelled mv_sets mv_texts mv_spelling (λ k. mv_at)
 mv_spells has = record { form = λ k h. mv_form; all = mv_all }
 
-stand : (e : MvEffect) (d : Dot) → can_put_mv e ≡ true → mv_names e d ≡ true → StandsIn d (mv_spelling e)
+stand : (e : MvEffect) (d : Dot) → can_put_mv e ≡ true → mv_names e d ≡ true → IsPartOf d (mv_spelling e)
 stand (Assign x ds) d can h = stands_behind (number 1 0) (stands_behind (text x) (dots_stand ds d can h))
 stand (Reset ds) d can h = stands_behind (number 1 2) (dots_stand ds d can h)
 
-pub mv_stands : NamesStand can_put_mv mv_names mv_sets mv_spelling
-mv_stands = record { exact = λ e d can. sym (or_none (has_dot (mv_out e) d)); stands = stand }
+pub mv_named : NamesAreSpelled can_put_mv mv_names mv_sets mv_spelling
+mv_named = record { exact = λ e d can. sym (or_none (has_dot (mv_out e) d)); stands = stand }

@@ -1,15 +1,16 @@
 ghost use Rattle.std.specs.Prelude.{◌≡◌, ◌+◌, min, max, false, None, IfOk};
 ghost use Rattle.crdt_core.specs.Stamps.{last_stamp};
 ghost use Rattle.crdt_meanings.specs.RegisterMeaning.{lww_meaning, word_of};
-ghost use Rattle.crdt_meanings.specs.RegisterLww.{lww_has, lww_step, lww_made_on, lww_made, lww_stamp, lww_names, lww_holds, above, stands, unassigned};
+ghost use Rattle.crdt_meanings.specs.Without.{no_dot};
+ghost use Rattle.crdt_meanings.specs.RegisterLww.{lww_has, lww_step, lww_made_on, lww_made, lww_stamp, above, outlasts, unassigned};
 ghost use Rattle.crdt_registers.specs.EffectForm.{is_of_kind};
-ghost use Rattle.crdt_registers.specs.LwwForm.{can_put_lww, is_lww_spelled, lww_sets, lww_texts, lww_spelling, lww_at, lww_spells, lww_stands};
+ghost use Rattle.crdt_registers.specs.LwwForm.{can_put_lww, is_lww_spelled, lww_sets, lww_texts, lww_spelling, lww_at, lww_spells, lww_named};
 ghost use Rattle.crdt_meanings.proofs.LwwLaw.{lww_law, lww_in_maps, lww_resets};
 
 use crate::assigned::{empty_text, is_before, text_of};
 use crate::lww_form::LwwForm;
 use crate::{Assigned, Stamped};
-use crdt_core::{Act, Crdt, Field, GenError, Kind, Op, Value, fits_at, reads_state};
+use crdt_core::{Act, Crdt, Field, Kind, Op, Value, reads_state};
 use field_codec::{Form, TakeError, put_whole};
 use site_vector::Dot;
 use std::alloc::{AllocError, Global};
@@ -31,9 +32,9 @@ impl Crdt for RegisterLww {
 
     ghost initial = { λ k. None };
 
-    ghost step = { lww_step };
+    ghost applied = { lww_step };
 
-    ghost made = { lww_made };
+    ghost generated = { lww_made };
 
     ghost value_of = { word_of };
 
@@ -41,9 +42,9 @@ impl Crdt for RegisterLww {
 
     ghost meaning = { lww_meaning };
 
-    ghost names = { lww_names };
+    ghost names = { no_dot };
 
-    ghost holds = { lww_holds };
+    ghost holds = { no_dot };
 
     ghost laws = { lww_law };
 
@@ -69,7 +70,7 @@ impl Crdt for RegisterLww {
 
     ghost spells = { lww_spells lww_has };
 
-    ghost stands = { lww_stands };
+    ghost named = { lww_named };
 
     fn has(kind: Kind) -> bool {
         kind == Kind::RegisterLww
@@ -91,18 +92,15 @@ impl Crdt for RegisterLww {
         state.is_none()
     }
 
-    fn generate(
+    fn effect(
         alloc: Global,
         kind: Kind,
         path: &[Field],
         act: &Act,
         state: &Option<Stamped>,
         now: u64,
-    ) -> Result<Assigned, GenError> {
-        if !fits_at(kind, path, act) {
-            return Err(GenError::BadOp);
-        }
-        Ok(effect_of(alloc, act, state, now)?)
+    ) -> Result<Assigned, AllocError> {
+        effect_of(alloc, act, state, now)
     }
 
     fn stamp(effect: &Assigned) -> Option<u64> {
@@ -197,7 +195,7 @@ fn stamp_after(stamp: u64, now: u64) -> u64
 
 /// Whether the assign that stands is later than this one.
 fn stays(state: &Option<Stamped>, dot: Dot, effect: &Assigned) -> bool
-    ensures { result ≡ stands state.now dot effect.now }
+    ensures { result ≡ outlasts state.now dot effect.now }
 {
     match state {
         Some(assign) => is_before(effect, dot, assign),

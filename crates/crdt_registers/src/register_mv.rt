@@ -4,7 +4,7 @@ ghost use Rattle.crdt_core.specs.Kept.{is_kept, keeps_none};
 ghost use Rattle.crdt_meanings.specs.RegisterMeaning.{mv_meaning};
 ghost use Rattle.crdt_meanings.specs.RegisterMv.{mv_has, mv_step, mv_made, mv_value, mv_names};
 ghost use Rattle.crdt_registers.specs.EffectForm.{is_of_kind};
-ghost use Rattle.crdt_registers.specs.MvForm.{can_put_mv, is_mv_spelled, mv_sets, mv_texts, mv_spelling, mv_at, mv_spells, mv_stands};
+ghost use Rattle.crdt_registers.specs.MvForm.{can_put_mv, is_mv_spelled, mv_sets, mv_texts, mv_spelling, mv_at, mv_spells, mv_named};
 ghost use Rattle.crdt_meanings.proofs.MvLaw.{mv_law, mv_in_maps, mv_resets};
 ghost use Rattle.crdt_meanings.specs.Without.{no_stamp};
 
@@ -12,7 +12,7 @@ use crate::MvEffect;
 use crate::mv_effect::effect_of;
 use crate::mv_form::MvForm;
 use crate::texts::in_order;
-use crdt_core::{Act, Crdt, Field, GenError, Kept, Kind, Op, Value, fits_at, reads_state};
+use crdt_core::{Act, Crdt, Field, Kept, Kind, Op, Value, reads_state};
 use field_codec::{Form, TakeError, Text, put_whole};
 use site_vector::Dot;
 use std::alloc::{AllocError, Global};
@@ -32,9 +32,9 @@ impl Crdt for RegisterMv {
 
     ghost initial = { λ k. empty };
 
-    ghost step = { mv_step };
+    ghost applied = { mv_step };
 
-    ghost made = { mv_made };
+    ghost generated = { mv_made };
 
     ghost value_of = { mv_value };
 
@@ -70,7 +70,7 @@ impl Crdt for RegisterMv {
 
     ghost spells = { mv_spells mv_has };
 
-    ghost stands = { mv_stands };
+    ghost named = { mv_named };
 
     fn has(kind: Kind) -> bool {
         kind == Kind::RegisterMv
@@ -92,18 +92,15 @@ impl Crdt for RegisterMv {
         state.is_empty()
     }
 
-    fn generate(
+    fn effect(
         alloc: Global,
         kind: Kind,
         path: &[Field],
         act: &Act,
         state: &Kept<Text>,
         now: u64,
-    ) -> Result<MvEffect, GenError> {
-        if !fits_at(kind, path, act) {
-            return Err(GenError::BadOp);
-        }
-        Ok(effect_of(alloc, act, state)?)
+    ) -> Result<MvEffect, AllocError> {
+        effect_of(alloc, act, state)
     }
 
     fn stamp(effect: &MvEffect) -> Option<u64> {

@@ -12,14 +12,14 @@ use Rattle.std.specs.Map.{lookup}
 use Rattle.std.specs.BTreeMap.{is_at}
 use Rattle.crdt_core.specs.MapLists.{get_at}
 use Rattle.crdt_meanings.specs.Elements.{Elements, shows, at, put_back}
-use Rattle.crdt_meanings.proofs.GoLaw.{same_grown, stands_each}
+use Rattle.crdt_meanings.proofs.GoLaw.{same_grown, has_each}
 
 or_nothing : (a b : Bool) → b ≡ false → (a || b) ≡ a
 or_nothing true b h = refl
 or_nothing false b h = h
 
 empty_each : (xs : List (List ℕ)) → with_each empty xs ≡ from_entries (marked xs)
-empty_each xs = same_grown _ _ (λ q. stands_each xs empty q ∙ or_nothing (is_in xs q) _ (ap is_some (get-empty text_cmp q)) ∙ sym (is_marked xs q))
+empty_each xs = same_grown _ _ (λ q. has_each xs empty q ∙ or_nothing (is_in xs q) _ (ap is_some (get-empty text_cmp q)) ∙ sym (is_marked xs q))
 
 -- the set of a list has its texts in order
 pub each_ascending : (xs : List (List ℕ)) → keys (with_each empty xs) ≡ ascending xs
@@ -27,7 +27,7 @@ each_ascending xs = ap keys (empty_each xs)
 
 -- the set of a set's texts is that set
 pub each_again : (s : Grown) → with_each empty (keys s) ≡ s
-each_again s = same_grown _ _ (λ q. stands_each (keys s) empty q ∙ or_nothing (is_in (keys s) q) _ (ap is_some (get-empty text_cmp q)) ∙ sym (contains_key-keys s q))
+each_again s = same_grown _ _ (λ q. has_each (keys s) empty q ∙ or_nothing (is_in (keys s) q) _ (ap is_some (get-empty text_cmp q)) ∙ sym (contains_key-keys s q))
 
 -- one more member of what is listed
 pub grow : {A : Type 0} (whole before after it rest : List A) (x : A) → before ++ it ≡ whole → it ≡ x ∷ rest → after ≡ before ++ x ∷ [] → after ++ rest ≡ whole
@@ -49,9 +49,9 @@ pub pass_by : (w : Bool) (whole before : List (List ℕ)) (it rest : List (List 
 pass_by w whole before it rest x s h e =
     ap (λ l. before ++ l) (sym (ap (passing_of w) e ∙ ap (λ b. map (λ (e : List ℕ × KeptAt Bool). e.0) (cond b (x ∷ filter (λ e. shows w e.1) rest) (filter (λ e. shows w e.1) rest))) s)) ∙ h
 
-stands_after : (key : Bool) (o : Option (Unit {0})) → is_some (cond key (Some tt) o) ≡ (key || is_some o)
-stands_after true o = refl
-stands_after false o = refl
+has_after : (key : Bool) (o : Option (Unit {0})) → is_some (cond key (Some tt) o) ≡ (key || is_some o)
+has_after true o = refl
+has_after false o = refl
 
 turn : (a b : Bool) → cond a true b ≡ (a || b)
 turn true b = refl
@@ -61,7 +61,7 @@ turn false b = refl
 pub one_in : (ks ls : List (List ℕ)) (x : List ℕ) → ((q : List ℕ) → is_in ls q ≡ cond (same_text x q) true (is_in ks q)) → from_entries {R = text_cmp} (marked ls) ≡ insert (from_entries (marked ks)) x tt
 one_in ks ls x h = same_grown _ _ (λ q.
     is_marked ls q ∙ h q ∙ turn (same_text x q) (is_in ks q) ∙ (λ i. (eq_by_cmp_equiv text_cmp_total).symm x q i || is_in ks q)
-    ∙ sym (ap is_some (get-insert text_cmp_total (from_entries (marked ks)) x tt q) ∙ stands_after (same_text q x) _ ∙ ap (λ b. same_text q x || b) (is_marked ks q)))
+    ∙ sym (ap is_some (get-insert text_cmp_total (from_entries (marked ks)) x tt q) ∙ has_after (same_text q x) _ ∙ ap (λ b. same_text q x || b) (is_marked ks q)))
 
 skip : {X : Type 0} (b : Bool) (y o p : Option X) → p ≡ cond b None o → cond b y p ≡ cond b y o
 skip true y o p h = refl

@@ -3,13 +3,13 @@ ghost use Rattle.std.specs.FinMap.{empty};
 ghost use Rattle.crdt_core.specs.Texts.{ascending};
 ghost use Rattle.crdt_meanings.specs.SetMeaning.{go_meaning, added_by};
 ghost use Rattle.crdt_meanings.specs.SetGo.{go_has, go_step, go_made, go_value, has_none};
-ghost use Rattle.crdt_sets.specs.EffectForm.{is_of_kind, can_put_texts, are_texts_spelled, texts_sets, own_texts, texts_spelling, texts_at, go_spells, go_stands};
+ghost use Rattle.crdt_sets.specs.EffectForm.{is_of_kind, can_put_texts, are_texts_spelled, texts_sets, own_texts, texts_spelling, texts_at, go_spells, go_named};
 ghost use Rattle.crdt_meanings.proofs.GoLaw.{go_law, go_in_maps, go_resets};
 ghost use Rattle.crdt_meanings.specs.Without.{no_stamp, no_dot};
 
 use crate::TextSet;
 use crate::texts::{copy_set, copy_texts, in_order, insert_each};
-use crdt_core::{Act, Crdt, Field, GenError, Kind, Op, Value, fits_at, reads_state};
+use crdt_core::{Act, Crdt, Field, Kind, Op, Value, reads_state};
 use field_codec::{ListOf, TakeError, Text, TextForm, put_list, take_list};
 use site_vector::Dot;
 use std::alloc::{AllocError, Global};
@@ -28,9 +28,9 @@ impl Crdt for SetGo {
 
     ghost initial = { λ k. empty };
 
-    ghost step = { go_step };
+    ghost applied = { go_step };
 
-    ghost made = { go_made };
+    ghost generated = { go_made };
 
     ghost value_of = { go_value };
 
@@ -66,7 +66,7 @@ impl Crdt for SetGo {
 
     ghost spells = { go_spells go_has };
 
-    ghost stands = { go_stands };
+    ghost named = { go_named };
 
     fn has(kind: Kind) -> bool {
         kind == Kind::SetGo
@@ -88,18 +88,15 @@ impl Crdt for SetGo {
         state.is_empty()
     }
 
-    fn generate(
+    fn effect(
         alloc: Global,
         kind: Kind,
         path: &[Field],
         act: &Act,
         state: &TextSet,
         now: u64,
-    ) -> Result<ListOf<Text>, GenError> {
-        if !fits_at(kind, path, act) {
-            return Err(GenError::BadOp);
-        }
-        Ok(adds_of(alloc, act)?)
+    ) -> Result<ListOf<Text>, AllocError> {
+        adds_of(alloc, act)
     }
 
     fn stamp(effect: &ListOf<Text>) -> Option<u64> {

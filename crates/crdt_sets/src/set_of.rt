@@ -3,7 +3,7 @@ ghost use Rattle.std.specs.FinMap.{empty};
 ghost use Rattle.crdt_meanings.specs.SetMeaning.{set_meaning};
 ghost use Rattle.crdt_meanings.specs.Elements.{keeps_dot, lacks_all};
 ghost use Rattle.crdt_meanings.specs.Sets.{set_kind, set_has, set_step, set_value, kind_made, set_names};
-ghost use Rattle.crdt_sets.specs.EffectForm.{is_of_kind, can_put_set, is_set_spelled, set_sets, set_texts, set_spelling, set_at, set_spells, set_stands};
+ghost use Rattle.crdt_sets.specs.EffectForm.{is_of_kind, can_put_set, is_set_spelled, set_sets, set_texts, set_spelling, set_at, set_spells, set_named};
 ghost use Rattle.crdt_meanings.proofs.RemovableLaws.{set_law, set_in_maps};
 ghost use Rattle.crdt_meanings.proofs.SetResets.{set_resets};
 ghost use Rattle.crdt_meanings.specs.Without.{no_stamp};
@@ -11,7 +11,7 @@ ghost use Rattle.crdt_meanings.specs.Without.{no_stamp};
 use crate::effect::effect_of;
 use crate::effect_form::SetForm;
 use crate::{Elements, SetEffect};
-use crdt_core::{Act, Crdt, Field, GenError, Kind, Op, Value, fits_at, reads_state};
+use crdt_core::{Act, Crdt, Field, Kind, Op, Value, reads_state};
 use field_codec::{Form, TakeError, put_whole};
 use site_vector::Dot;
 use std::alloc::{AllocError, Global};
@@ -37,9 +37,9 @@ impl<const REMOVES_WIN: bool> Crdt for SetOf<REMOVES_WIN> {
 
     ghost initial = { λ k. empty };
 
-    ghost step = { set_step REMOVES_WIN };
+    ghost applied = { set_step REMOVES_WIN };
 
-    ghost made = { kind_made };
+    ghost generated = { kind_made };
 
     ghost value_of = { set_value REMOVES_WIN };
 
@@ -75,7 +75,7 @@ impl<const REMOVES_WIN: bool> Crdt for SetOf<REMOVES_WIN> {
 
     ghost spells = { set_spells (set_has REMOVES_WIN) };
 
-    ghost stands = { set_stands };
+    ghost named = { set_named };
 
     fn has(kind: Kind) -> bool {
         kind == kind_where(REMOVES_WIN)
@@ -97,18 +97,15 @@ impl<const REMOVES_WIN: bool> Crdt for SetOf<REMOVES_WIN> {
         state.is_empty()
     }
 
-    fn generate(
+    fn effect(
         alloc: Global,
         kind: Kind,
         path: &[Field],
         act: &Act,
         state: &Elements,
         now: u64,
-    ) -> Result<SetEffect, GenError> {
-        if !fits_at(kind, path, act) {
-            return Err(GenError::BadOp);
-        }
-        Ok(effect_of(alloc, act, state)?)
+    ) -> Result<SetEffect, AllocError> {
+        effect_of(alloc, act, state)
     }
 
     fn stamp(effect: &SetEffect) -> Option<u64> {

@@ -33,7 +33,7 @@ fn apply_if_shown<C: Crdt>(
     state: &mut C::State,
 ) -> Result<(), AllocError>
     requires { length part.now.c ≡ length snapshot.now }
-    ensures { OnOk result (state.new ≡ (if same_object update.now.object object.now && le part.now.c snapshot.now then C.step state.old (record { tx = part.now.tx; index = update.now.index }) update.now.effect else state.old)) }
+    ensures { OnOk result (state.new ≡ (if same_object update.now.object object.now && le part.now.c snapshot.now then C.applied state.old (record { tx = part.now.tx; index = update.now.index }) update.now.effect else state.old)) }
 {
     if !is_shown(part, update, object, snapshot) {
         return Ok(());
@@ -57,7 +57,7 @@ pub(crate) fn apply_shown<C: Crdt>(
 ) -> Result<(), AllocError>
     requires reading { IsReading parts.now links.now }
     requires wide { AreWide (length snapshot.now) parts.now }
-    ensures { OnOk result (state.new ≡ applied C.step state.old (shown object.now snapshot.now parts.now from)) }
+    ensures { OnOk result (state.new ≡ applied C.applied state.old (shown object.now snapshot.now parts.now from)) }
 {
     let mut at = from;
     while (at as usize) < links.entries.len() {

@@ -56,7 +56,7 @@ fn apply_own<C: Crdt>(
     newest: &mut Newest<C::State>,
 ) -> Result<(), AllocError>
     requires { length newest.old.seen ≡ length part.now.c }
-    ensures { OnOk result (newest.new ≡ (if same_object update.now.object object.now then record { at = at; seen = join newest.old.seen part.now.c; state = C.step newest.old.state (record { tx = part.now.tx; index = update.now.index }) update.now.effect } else newest.old)) }
+    ensures { OnOk result (newest.new ≡ (if same_object update.now.object object.now then record { at = at; seen = join newest.old.seen part.now.c; state = C.applied newest.old.state (record { tx = part.now.tx; index = update.now.index }) update.now.effect } else newest.old)) }
 {
     if update.object != *object {
         return Ok(());
@@ -83,8 +83,8 @@ fn bring_forward<C: Crdt>(
 ) -> Result<(), AllocError>
     requires reading { IsReading parts.now links.now }
     requires wide { AreWide (length newest.old.seen) parts.now }
-    requires applying { IsApplying C.initial C.step object.now (length newest.old.seen) (spots parts.now) from newest.old }
-    ensures { OnOk result (IsFront C.initial C.step object.now (length newest.old.seen) (spots parts.now) newest.new) }
+    requires applying { IsApplying C.initial C.applied object.now (length newest.old.seen) (spots parts.now) from newest.old }
+    ensures { OnOk result (IsFront C.initial C.applied object.now (length newest.old.seen) (spots parts.now) newest.new) }
 {
     let mut at = from;
     for _step in 0..steps {
@@ -239,11 +239,11 @@ fn front_state<C: Crdt>(
     requires most { sites ≤ 8 }
     requires reading { IsReading parts.now links.now }
     requires wide { AreWide sites parts.now }
-    requires hold { AreNewest C.initial C.step sites (spots parts.now) (get nat_eq newest.old) }
+    requires hold { AreNewest C.initial C.applied sites (spots parts.now) (get nat_eq newest.old) }
     requires kept { rest.serves ≡ true → (n : Newest C.State) × (get nat_eq newest.old (tag_of_object object.now) ≡ Some n) × ((q : Spot C.Effect) → slice_get (spots parts.now) n.at ≡ Some q → own object.now q ≡ true) × (rest.from ≡ slice_index_or links.now.next.items n.at rest.from) }
     requires fresh { rest.serves ≡ false → rest.from ≡ or_none (get nat_eq links.now.first (tag_of_object object.now)) }
     ensures left { (i : ℕ) (n : Newest C.State) → get nat_eq newest.new i ≡ Some n → get nat_eq newest.old i ≡ Some n }
-    ensures front { IfOk result (λ n. IsFront C.initial C.step object.now sites (spots parts.now) n) }
+    ensures front { IfOk result (λ n. IsFront C.initial C.applied object.now sites (spots parts.now) n) }
 {
     let mut front = start::<C>(alloc, newest, rest.serves, object, sites)?;
     bring_forward::<C>(alloc, parts, links, object, rest.from, steps, &mut front)?;
@@ -277,8 +277,8 @@ fn bring<C: Crdt>(
 ) -> Result<(), AllocError>
     requires reading { IsReading parts.now links.now }
     requires wide { AreWide (length snapshot.now) parts.now }
-    requires hold { AreNewest C.initial C.step (length snapshot.now) (spots parts.now) (get nat_eq newest.old) }
-    ensures hold { AreNewest C.initial C.step (length snapshot.now) (spots parts.now) (get nat_eq newest.new) }
+    requires hold { AreNewest C.initial C.applied (length snapshot.now) (spots parts.now) (get nat_eq newest.old) }
+    ensures hold { AreNewest C.initial C.applied (length snapshot.now) (spots parts.now) (get nat_eq newest.new) }
 {
     let rest = rest_of(parts, links, newest, object, snapshot);
     let many = shown_from(parts, links, rest.from, object, snapshot);
@@ -333,10 +333,10 @@ fn fall_back<C: Crdt>(
 )
     requires reading { IsReading parts.now links.now }
     requires wide { AreWide (length snapshot.now) parts.now }
-    requires hold { AreNewest C.initial C.step (length snapshot.now) (spots parts.now) (get nat_eq newest.old) }
-    requires hold_older { AreNewest C.initial C.step (length snapshot.now) (spots parts.now) (get nat_eq older.old) }
-    ensures hold { AreNewest C.initial C.step (length snapshot.now) (spots parts.now) (get nat_eq newest.new) }
-    ensures hold_older { AreNewest C.initial C.step (length snapshot.now) (spots parts.now) (get nat_eq older.new) }
+    requires hold { AreNewest C.initial C.applied (length snapshot.now) (spots parts.now) (get nat_eq newest.old) }
+    requires hold_older { AreNewest C.initial C.applied (length snapshot.now) (spots parts.now) (get nat_eq older.old) }
+    ensures hold { AreNewest C.initial C.applied (length snapshot.now) (spots parts.now) (get nat_eq newest.new) }
+    ensures hold_older { AreNewest C.initial C.applied (length snapshot.now) (spots parts.now) (get nat_eq older.new) }
 {
     if kept_for(parts, links, newest, object, snapshot).is_some() {
         return;
@@ -358,10 +358,10 @@ pub(crate) fn advance<C: Crdt>(
 ) -> Result<(), AllocError>
     requires reading { IsReading parts.now links.now }
     requires wide { AreWide (length snapshot.now) parts.now }
-    requires hold { AreNewest C.initial C.step (length snapshot.now) (spots parts.now) (get nat_eq newest.old) }
-    requires hold_older { AreNewest C.initial C.step (length snapshot.now) (spots parts.now) (get nat_eq older.old) }
-    ensures hold { AreNewest C.initial C.step (length snapshot.now) (spots parts.now) (get nat_eq newest.new) }
-    ensures hold_older { AreNewest C.initial C.step (length snapshot.now) (spots parts.now) (get nat_eq older.new) }
+    requires hold { AreNewest C.initial C.applied (length snapshot.now) (spots parts.now) (get nat_eq newest.old) }
+    requires hold_older { AreNewest C.initial C.applied (length snapshot.now) (spots parts.now) (get nat_eq older.old) }
+    ensures hold { AreNewest C.initial C.applied (length snapshot.now) (spots parts.now) (get nat_eq newest.new) }
+    ensures hold_older { AreNewest C.initial C.applied (length snapshot.now) (spots parts.now) (get nat_eq older.new) }
 {
     fall_back::<C>(alloc, parts, links, newest, older, object, snapshot);
     bring::<C>(alloc, parts, links, newest, object, snapshot, 0)

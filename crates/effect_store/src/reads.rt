@@ -27,7 +27,7 @@ fn fresh_state<C: Crdt>(
 ) -> Result<C::State, AllocError>
     requires reading { IsReading parts.now links.now }
     requires wide { AreWide (length snapshot.now) parts.now }
-    ensures { IfOk result (λ s. s ≡ applied C.step (C.initial object.now.kind) (map pair (filter (mine object.now (shows snapshot.now)) (arranged before (spots parts.now))))) }
+    ensures { IfOk result (λ s. s ≡ applied C.applied (C.initial object.now.kind) (map pair (filter (mine object.now (shows snapshot.now)) (arranged before (spots parts.now))))) }
 {
     let mut state = C::empty(alloc, object.kind)?;
     let from = head(&links.first, tag_of(object));
@@ -46,8 +46,8 @@ pub(crate) fn read_state<C: Crdt>(
 ) -> Result<C::State, AllocError>
     requires reading { IsReading parts.now links.now }
     requires wide { AreWide (length snapshot.now) parts.now }
-    requires hold { AreNewest C.initial C.step (length snapshot.now) (spots parts.now) (get nat_eq newest.now) }
-    ensures { IfOk result (λ s. s ≡ applied C.step (C.initial object.now.kind) (map pair (filter (mine object.now (shows snapshot.now)) (arranged before (spots parts.now))))) }
+    requires hold { AreNewest C.initial C.applied (length snapshot.now) (spots parts.now) (get nat_eq newest.now) }
+    ensures { IfOk result (λ s. s ≡ applied C.applied (C.initial object.now.kind) (map pair (filter (mine object.now (shows snapshot.now)) (arranged before (spots parts.now))))) }
 {
     let Some(kept) = kept_for(parts, links, newest, object, snapshot) else {
         return fresh_state::<C>(alloc, parts, links, object, snapshot);
@@ -68,8 +68,8 @@ pub(crate) fn standing_state<'a, C: Crdt>(
 ) -> Option<&'a C::State>
     requires reading { IsReading parts.now links.now }
     requires wide { AreWide (length snapshot.now) parts.now }
-    requires hold { AreNewest C.initial C.step (length snapshot.now) (spots parts.now) (get nat_eq newest.now) }
-    ensures { IfSome (option_copied result) (λ s. s ≡ applied C.step (C.initial object.now.kind) (map pair (filter (mine object.now (shows snapshot.now)) (arranged before (spots parts.now))))) }
+    requires hold { AreNewest C.initial C.applied (length snapshot.now) (spots parts.now) (get nat_eq newest.now) }
+    ensures { IfSome (option_copied result) (λ s. s ≡ applied C.applied (C.initial object.now.kind) (map pair (filter (mine object.now (shows snapshot.now)) (arranged before (spots parts.now))))) }
 {
     let Some(kept) = kept_for(parts, links, newest, object, snapshot) else {
         return None;

@@ -54,7 +54,7 @@ impl<C: Crdt> Model for Store<C> {
 
     ghost view = { λ s. record { sites = s.sites; parts = arranged earlier s.parts.items; room = s.room; update_room = s.update_room } };
 
-    ghost invariant = { λ s. IsStore s.sites s.parts.items (get ⟦<TxId as PartialEq>⟧.eq s.ids) × IsReading s.parts.items s.links × PartRoom s.room (vec_len s.parts) (vec_capacity s.parts) (spare s.ids) × Roomy s.links s.update_room × AreLists s.sites s.parts.items s.lists × ListRoom s.sites s.room s.lists × AreNewest C.initial C.step s.sites (spots s.parts.items) (get nat_eq s.newest) × AreNewest C.initial C.step s.sites (spots s.parts.items) (get nat_eq s.older) × (1 ≤ s.sites) × (s.sites ≤ 8) };
+    ghost invariant = { λ s. IsStore s.sites s.parts.items (get ⟦<TxId as PartialEq>⟧.eq s.ids) × IsReading s.parts.items s.links × PartRoom s.room (vec_len s.parts) (vec_capacity s.parts) (spare s.ids) × Roomy s.links s.update_room × AreLists s.sites s.parts.items s.lists × ListRoom s.sites s.room s.lists × AreNewest C.initial C.applied s.sites (spots s.parts.items) (get nat_eq s.newest) × AreNewest C.initial C.applied s.sites (spots s.parts.items) (get nat_eq s.older) × (1 ≤ s.sites) × (s.sites ≤ 8) };
 }
 
 impl<C: Crdt> Store<C> {
@@ -248,7 +248,7 @@ impl<C: Crdt> Store<C> {
     /// The state of an object at a snapshot as it is kept, where a kept one has all that the snapshot shows.
     pub fn standing(&self, object: &ObjectId, snapshot: &VTime) -> Option<&C::State>
         requires width { length snapshot.now ≡ self.now.sites }
-        ensures { IfSome (option_copied result) (λ s. s ≡ folded (C.initial object.now.kind) C.step (effects_of object.now [] (seen_parts object.now snapshot.now self.now.parts))) }
+        ensures { IfSome (option_copied result) (λ s. s ≡ folded (C.initial object.now.kind) C.applied (effects_of object.now [] (seen_parts object.now snapshot.now self.now.parts))) }
     {
         standing_state::<C>(
             self.parts.as_slice(),
@@ -272,7 +272,7 @@ impl<C: Crdt> Store<C> {
         snapshot: &VTime,
     ) -> Result<C::State, AllocError>
         requires width { length snapshot.now ≡ self.old.sites }
-        ensures state { IfOk result (λ s. s ≡ folded (C.initial object.now.kind) C.step (effects_of object.now [] (seen_parts object.now snapshot.now self.old.parts))) }
+        ensures state { IfOk result (λ s. s ≡ folded (C.initial object.now.kind) C.applied (effects_of object.now [] (seen_parts object.now snapshot.now self.old.parts))) }
         ensures same { self.new ≡ self.old }
     {
         self.bring_forward(alloc, object, snapshot)?;
@@ -292,7 +292,7 @@ impl<C: Crdt> Store<C> {
         snapshot: &VTime,
     ) -> Result<Value, AllocError>
         requires width { length snapshot.now ≡ self.old.sites }
-        ensures value { IfOk result (λ v. v ≡ C.value_of (folded (C.initial object.now.kind) C.step (effects_of object.now [] (seen_parts object.now snapshot.now self.old.parts)))) }
+        ensures value { IfOk result (λ v. v ≡ C.value_of (folded (C.initial object.now.kind) C.applied (effects_of object.now [] (seen_parts object.now snapshot.now self.old.parts)))) }
         ensures same { self.new ≡ self.old }
     {
         self.bring_forward(alloc, object, snapshot)?;
@@ -311,7 +311,7 @@ impl<C: Crdt> Store<C> {
         snapshot: &VTime,
     ) -> Result<C::State, AllocError>
         requires width { length snapshot.now ≡ self.now.sites }
-        ensures { IfOk result (λ s. s ≡ folded (C.initial object.now.kind) C.step (effects_of object.now [] (seen_parts object.now snapshot.now self.now.parts))) }
+        ensures { IfOk result (λ s. s ≡ folded (C.initial object.now.kind) C.applied (effects_of object.now [] (seen_parts object.now snapshot.now self.now.parts))) }
     {
         read_state::<C>(
             alloc,

@@ -63,18 +63,18 @@ module _ {E : Type 0} (o : ObjectId) where
       part_dots (effects_from o x.tx older x.updates) xs (own_dots x.tx one.0 older x.updates h one.1) two.1
 
 module _ {S E : Type 0} (kinds : Kinds S E) (o : ObjectId) (known : kinds.has o.kind ≡ true) where
-  spelled_fold : (es : List (Dot × E)) → AreDots es → HoldsSpelled kinds.holds (folded (kinds.initial o.kind) kinds.step es)
-  spelled_fold es h = fold_spelled (kinds.initial o.kind) kinds.step _ kinds.names kinds.holds (kinds.laws.steps o.kind known) es h
+  spelled_fold : (es : List (Dot × E)) → AreDots es → HoldsSpelled kinds.holds (folded (kinds.initial o.kind) kinds.applied es)
+  spelled_fold es h = fold_spelled (kinds.initial o.kind) kinds.applied _ kinds.names kinds.holds (kinds.laws.steps o.kind known) es h
 
   -- the state of no update
   pub initial_spelled : (state : S) → state ≡ kinds.initial o.kind → HoldsSpelled kinds.holds state
   initial_spelled state is = subst (λ s. HoldsSpelled kinds.holds s) (sym is) (spelled_fold [] tt)
 
   -- the state that a read finds
-  pub read_spelled : (t : TxId) (s : List ℕ) (own : List (Upd E)) (held : List (Part E)) (state : S) → state ≡ applied kinds.step o t (folded (kinds.initial o.kind) kinds.step (effects_of o [] (seen_parts o s held))) own → have_ids held ≡ true → is_tx t ≡ true → are_numbered own ≡ true → HoldsSpelled kinds.holds state
+  pub read_spelled : (t : TxId) (s : List ℕ) (own : List (Upd E)) (held : List (Part E)) (state : S) → state ≡ applied kinds.applied o t (folded (kinds.initial o.kind) kinds.applied (effects_of o [] (seen_parts o s held))) own → have_ids held ≡ true → is_tx t ≡ true → are_numbered own ≡ true → HoldsSpelled kinds.holds state
   read_spelled t s own held state is ids begun numbered =
       let seen = seen_parts o s held in
       let shown : have_ids seen ≡ true = all_filter (λ x. is_tx x.tx && are_numbered x.updates) (λ x. touches x.updates o && le x.c s) held ids in
       let found : AreDots (effects_of o [] seen) = part_dots o [] seen tt shown in
       let all : AreDots (effects_from o t (effects_of o [] seen) own) = own_dots o t begun (effects_of o [] seen) own found numbered in
-      subst (λ x. HoldsSpelled kinds.holds x) (sym (is ∙ applied_folds (kinds.initial o.kind) kinds.step o t (effects_of o [] seen) own)) (spelled_fold (effects_from o t (effects_of o [] seen) own) all)
+      subst (λ x. HoldsSpelled kinds.holds x) (sym (is ∙ applied_folds (kinds.initial o.kind) kinds.applied o t (effects_of o [] seen) own)) (spelled_fold (effects_from o t (effects_of o [] seen) own) all)

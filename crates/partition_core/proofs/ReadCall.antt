@@ -65,7 +65,7 @@ module _ {S E : Type 0} (kinds : Kinds S E) (t : Tables E) (tx : TxId) (s : List
 
   -- the state that the store finds
   abbrev pub found_state : S
-  found_state = folded (kinds.initial o.kind) kinds.step (effects_of o [] (seen_parts o s t.held))
+  found_state = folded (kinds.initial o.kind) kinds.applied (effects_of o [] (seen_parts o s t.held))
 
   abbrev upto : ℕ
   upto = entry s t.id.site
@@ -78,10 +78,10 @@ module _ {S E : Type 0} (kinds : Kinds S E) (t : Tables E) (tx : TxId) (s : List
   with_held held = record { id = t.id; sites = t.sites; parts = t.parts; clock = t.clock; ceiling = t.ceiling; pending = t.pending; held = held; bounds = t.bounds; heard = t.heard; sent = t.sent }
 
   abbrev pub with_own : S → S
-  with_own state = applied kinds.step o tx state own
+  with_own state = applied kinds.applied o tx state own
 
-  state_is : with_own (folded (kinds.initial o.kind) kinds.step (effects_of o [] seen)) ≡ state_read kinds o tx own seen
-  state_is = applied_folds (kinds.initial o.kind) kinds.step o tx (effects_of o [] seen) own
+  state_is : with_own (folded (kinds.initial o.kind) kinds.applied (effects_of o [] seen)) ≡ state_read kinds o tx own seen
+  state_is = applied_folds (kinds.initial o.kind) kinds.applied o tx (effects_of o [] seen) own
 
   pub read_early : t.clock < upto → Steps kinds t Anything (λ e. e ≡ Refused (AskRead tx s o own) (ClockBehind t.clock)) t
   read_early k = refuses kinds Anything t (AskRead tx s o own) (ClockBehind t.clock) (λ p h. (h.up, (sym h.clock, k)))
@@ -89,7 +89,7 @@ module _ {S E : Type 0} (kinds : Kinds S E) (t : Tables E) (tx : TxId) (s : List
   pub read_waits : (u : TxId) (n : ℕ) → upto ≤ t.clock → first_on o upto t.pending ≡ Some (u, n) → Steps kinds t Anything (λ e. e ≡ Refused (AskRead tx s o own) (TxPending u n)) t
   read_waits u n k e = refuses kinds Anything t (AskRead tx s o own) (TxPending u n) (λ p h. (h.up, is_waiting t s o p h u n k e))
 
-  pub reads : (state : S) (v : Value) → upto ≤ t.clock → first_on o upto t.pending ≡ None → kinds.has o.kind ≡ true → state ≡ folded (kinds.initial o.kind) kinds.step (effects_of o [] seen) → v ≡ kinds.value_of (with_own state)
+  pub reads : (state : S) (v : Value) → upto ≤ t.clock → first_on o upto t.pending ≡ None → kinds.has o.kind ≡ true → state ≡ folded (kinds.initial o.kind) kinds.applied (effects_of o [] seen) → v ≡ kinds.value_of (with_own state)
       → Steps kinds t Anything (λ e. (read : List (Part E)) × (e ≡ Read tx s o own read v)) t
   reads state v k e has is shows = record {
     same = record { id = refl; sites = refl; parts = refl };
@@ -117,7 +117,7 @@ module _ {S E : Type 0} (kinds : Kinds S E) (t : Tables E) (tx : TxId) (s : List
   reads_by held state v same r has is shows = subst (λ l. Steps kinds t Anything (λ e. (read : List (Part E)) × (e ≡ Read tx s o own read v)) (with_held l)) (sym same) (reads found_state v r.reached r.free has refl (shows ∙ ap kinds.value_of is))
 
   pub reads_plain : (held : List (Part E)) (v : Value) → length own ≡ 0 → held ≡ t.held → Ready → kinds.has o.kind ≡ true → v ≡ kinds.value_of found_state → Steps kinds t Anything (λ e. (read : List (Part E)) × (e ≡ Read tx s o own read v)) (with_held held)
-  reads_plain held v none same r has shows = reads_by held found_state v same r has (ap (λ us. applied kinds.step o tx found_state us) (sym (no_members own none))) shows
+  reads_plain held v none same r has shows = reads_by held found_state v same r has (ap (λ us. applied kinds.applied o tx found_state us) (sym (no_members own none))) shows
 
   module _ (op : Op) where
     abbrev is_operation : Bool
@@ -149,7 +149,7 @@ module _ {S E : Type 0} (kinds : Kinds S E) (t : Tables E) (tx : TxId) (s : List
     update_waits_by (answer.Gap n) fit needs w = absurd w
     update_waits_by (answer.Repeat n) fit needs w = absurd w
 
-    pub updates : (index : ℕ) (state : S) (effect : E) (stamp : Option ℕ) → is_operation ≡ true → upto ≤ t.clock → first_on o upto t.pending ≡ None → kinds.has o.kind ≡ true → state ≡ folded (kinds.initial o.kind) kinds.step (effects_of o [] seen) → effect ≡ kinds.made o.kind (with_own state) op.path op.act t.clock → stamp ≡ kinds.stamp_of effect
+    pub updates : (index : ℕ) (state : S) (effect : E) (stamp : Option ℕ) → is_operation ≡ true → upto ≤ t.clock → first_on o upto t.pending ≡ None → kinds.has o.kind ≡ true → state ≡ folded (kinds.initial o.kind) kinds.applied (effects_of o [] seen) → effect ≡ kinds.generated o.kind (with_own state) op.path op.act t.clock → stamp ≡ kinds.stamp_of effect
         → Steps kinds t Anything (ShowsUpdate index effect stamp) t
     updates index state effect stamp fit k e has is made stamped = record {
       same = record { id = refl; sites = refl; parts = refl };
@@ -166,7 +166,7 @@ module _ {S E : Type 0} (kinds : Kinds S E) (t : Tables E) (tx : TxId) (s : List
                 known = has;
                 fits = fit;
                 object = refl;
-                effect = made ∙ (λ i. kinds.made o.kind ((ap with_own is ∙ state_is) i) op.path op.act (sym h.clock i));
+                effect = made ∙ (λ i. kinds.generated o.kind ((ap with_own is ∙ state_is) i) op.path op.act (sym h.clock i));
                 stamped = stamped;
               },
               refl,
@@ -176,7 +176,7 @@ module _ {S E : Type 0} (kinds : Kinds S E) (t : Tables E) (tx : TxId) (s : List
     }
 
     -- one that reads no state
-    pub updates_blind : (index : ℕ) (state : S) (effect : E) (stamp : Option ℕ) → is_operation ≡ true → reads_state o.kind ≡ false → kinds.has o.kind ≡ true → effect ≡ kinds.made o.kind state op.path op.act t.clock → stamp ≡ kinds.stamp_of effect
+    pub updates_blind : (index : ℕ) (state : S) (effect : E) (stamp : Option ℕ) → is_operation ≡ true → reads_state o.kind ≡ false → kinds.has o.kind ≡ true → effect ≡ kinds.generated o.kind state op.path op.act t.clock → stamp ≡ kinds.stamp_of effect
         → Steps kinds t Anything (ShowsUpdate index effect stamp) t
     updates_blind index state effect stamp fit blind has made stamped = record {
       same = record { id = refl; sites = refl; parts = refl };
@@ -193,7 +193,7 @@ module _ {S E : Type 0} (kinds : Kinds S E) (t : Tables E) (tx : TxId) (s : List
                 known = has;
                 fits = fit;
                 object = refl;
-                effect = made ∙ ap (λ n. kinds.made o.kind state op.path op.act n) (sym h.clock) ∙ kinds.laws.unread o.kind state (state_read kinds o tx own []) op.path op.act p.now has blind;
+                effect = made ∙ ap (λ n. kinds.generated o.kind state op.path op.act n) (sym h.clock) ∙ kinds.laws.unread o.kind state (state_read kinds o tx own []) op.path op.act p.now has blind;
                 stamped = stamped;
               },
               refl,
@@ -203,8 +203,8 @@ module _ {S E : Type 0} (kinds : Kinds S E) (t : Tables E) (tx : TxId) (s : List
     }
 
     -- with what the code has then
-    pub updates_by : (index n : ℕ) (held : List (Part E)) (state : S) (effect : E) (stamp : Option ℕ) → held ≡ t.held → is_operation ≡ true → Ready → kinds.has o.kind ≡ true → state ≡ with_own found_state → n ≡ t.clock → effect ≡ kinds.made o.kind state op.path op.act n → stamp ≡ kinds.stamp_of effect → Steps kinds t Anything (ShowsUpdate index effect stamp) (with_held held)
-    updates_by index n held state effect stamp same fit r has is clock made stamped = subst (λ l. Steps kinds t Anything (ShowsUpdate index effect stamp) (with_held l)) (sym same) (updates index found_state effect stamp fit r.reached r.free has refl (made ∙ (λ i. kinds.made o.kind (is i) op.path op.act (clock i))) stamped)
+    pub updates_by : (index n : ℕ) (held : List (Part E)) (state : S) (effect : E) (stamp : Option ℕ) → held ≡ t.held → is_operation ≡ true → Ready → kinds.has o.kind ≡ true → state ≡ with_own found_state → n ≡ t.clock → effect ≡ kinds.generated o.kind state op.path op.act n → stamp ≡ kinds.stamp_of effect → Steps kinds t Anything (ShowsUpdate index effect stamp) (with_held held)
+    updates_by index n held state effect stamp same fit r has is clock made stamped = subst (λ l. Steps kinds t Anything (ShowsUpdate index effect stamp) (with_held l)) (sym same) (updates index found_state effect stamp fit r.reached r.free has refl (made ∙ (λ i. kinds.generated o.kind (is i) op.path op.act (clock i))) stamped)
 
-    pub updates_blind_by : (index n : ℕ) (state : S) (effect : E) (stamp : Option ℕ) → is_operation ≡ true → reads_state o.kind ≡ false → kinds.has o.kind ≡ true → n ≡ t.clock → effect ≡ kinds.made o.kind state op.path op.act n → stamp ≡ kinds.stamp_of effect → Steps kinds t Anything (ShowsUpdate index effect stamp) t
-    updates_blind_by index n state effect stamp fit blind has clock made stamped = updates_blind index state effect stamp fit blind has (made ∙ ap (λ m. kinds.made o.kind state op.path op.act m) clock) stamped
+    pub updates_blind_by : (index n : ℕ) (state : S) (effect : E) (stamp : Option ℕ) → is_operation ≡ true → reads_state o.kind ≡ false → kinds.has o.kind ≡ true → n ≡ t.clock → effect ≡ kinds.generated o.kind state op.path op.act n → stamp ≡ kinds.stamp_of effect → Steps kinds t Anything (ShowsUpdate index effect stamp) t
+    updates_blind_by index n state effect stamp fit blind has clock made stamped = updates_blind index state effect stamp fit blind has (made ∙ ap (λ m. kinds.generated o.kind state op.path op.act m) clock) stamped

@@ -19,7 +19,7 @@ ghost use Rattle.partition_core.specs.Waits.{IsWait, MayRead};
 ghost use Rattle.partition_core.specs.Steps.{Anything};
 
 use crate::{CallError, Partition, Refusal};
-use crdt_core::{Crdt, GenError, Kind, ObjectId, Op, Upd, Value, fits};
+use crdt_core::{Crdt, Kind, ObjectId, Op, Upd, Value, fits};
 use effect_store::Store;
 use prepared_table::{Leased, Prepared};
 use site_vector::{Dot, TxId, VTime};
@@ -133,7 +133,7 @@ fn state_read<C: Crdt>(
 ) -> Result<C::State, AllocError>
     requires has { C.has object.now.kind ≡ true }
     requires width { length s.now ≡ store.old.sites }
-    ensures state { IfOk result (λ state. state ≡ applied C.step object.now tx (folded (C.initial object.now.kind) C.step (effects_of object.now [] (seen_parts object.now s.now store.old.parts))) own.now) }
+    ensures state { IfOk result (λ state. state ≡ applied C.applied object.now tx (folded (C.initial object.now.kind) C.applied (effects_of object.now [] (seen_parts object.now s.now store.old.parts))) own.now) }
     ensures same { store.new ≡ store.old }
 {
     let mut state = store.state(alloc, object, s)?;
@@ -157,8 +157,8 @@ fn made_under<C: Crdt>(
     requires width { length s.now ≡ store.old.sites }
     requires fit { (fits object.now.kind op.now.path op.now.act && not (C.too_deep object.now.kind op.now.path)) ≡ true }
     ensures same { store.new ≡ store.old }
-    ensures effect { IfOk result (λ x. x.0 ≡ C.made object.now.kind (applied C.step object.now tx (folded (C.initial object.now.kind) C.step (effects_of object.now [] (seen_parts object.now s.now store.old.parts))) own.now) op.now.path op.now.act now) }
-    ensures ready { HoldsSpelled C.holds (applied C.step object.now tx (folded (C.initial object.now.kind) C.step (effects_of object.now [] (seen_parts object.now s.now store.old.parts))) own.now) → IfOk result (λ x. IsReady C.is_of C.can_put C.sets C.spelling object.now.kind op.now.path op.now.act x.0) }
+    ensures effect { IfOk result (λ x. x.0 ≡ C.generated object.now.kind (applied C.applied object.now tx (folded (C.initial object.now.kind) C.applied (effects_of object.now [] (seen_parts object.now s.now store.old.parts))) own.now) op.now.path op.now.act now) }
+    ensures ready { HoldsSpelled C.holds (applied C.applied object.now tx (folded (C.initial object.now.kind) C.applied (effects_of object.now [] (seen_parts object.now s.now store.old.parts))) own.now) → IfOk result (λ x. IsReady C.is_of C.can_put C.sets C.spelling object.now.kind op.now.path op.now.act x.0) }
     ensures stamp { IfOk result (λ x. x.1 ≡ C.stamp_of x.0) }
 {
     if own.len() == 0 {
@@ -179,7 +179,7 @@ fn apply_own<C: Crdt>(
     own: &[Upd<C::Effect>],
     object: &ObjectId,
 ) -> Result<(), AllocError>
-    ensures { OnOk result (state.new ≡ applied C.step object.now tx state.old own.now) }
+    ensures { OnOk result (state.new ≡ applied C.applied object.now tx state.old own.now) }
 {
     for update in own {
         apply_one::<C>(alloc, state, tx, update, object)?;
@@ -195,7 +195,7 @@ fn apply_one<C: Crdt>(
     update: &Upd<C::Effect>,
     object: &ObjectId,
 ) -> Result<(), AllocError>
-    ensures { OnOk result (state.new ≡ (if same_object update.now.object object.now then C.step state.old (record { tx = tx; index = update.now.index }) update.now.effect else state.old)) }
+    ensures { OnOk result (state.new ≡ (if same_object update.now.object object.now then C.applied state.old (record { tx = tx; index = update.now.index }) update.now.effect else state.old)) }
 {
     if update.object == *object {
         let dot = Dot {
@@ -223,17 +223,11 @@ fn made<C: Crdt>(
     now: u64,
 ) -> Result<(C::Effect, Option<u64>), AllocError>
     requires { (fits kind op.now.path op.now.act && not (C.too_deep kind op.now.path)) ≡ true }
-    ensures effect { IfOk result (λ x. x.0 ≡ C.made kind state.now op.now.path op.now.act now) }
+    ensures effect { IfOk result (λ x. x.0 ≡ C.generated kind state.now op.now.path op.now.act now) }
     ensures ready { C.has kind ≡ true → HoldsSpelled C.holds state.now → IfOk result (λ x. IsReady C.is_of C.can_put C.sets C.spelling kind op.now.path op.now.act x.0) }
     ensures stamp { IfOk result (λ x. x.1 ≡ C.stamp_of x.0) }
 {
-    match C::generate(alloc, kind, op.path.as_slice(), &op.act, state, now) {
-        Ok(effect) => {
-            let stamp = C::stamp(&effect);
-            Ok((effect, stamp))
-        }
-        Err(GenError::NoMemory) => Err(AllocError),
-        Err(GenError::BadOp) => unreachable!(),
-        Err(GenError::TooDeep) => unreachable!(),
-    }
+    let effect = C::effect(alloc, kind, op.path.as_slice(), &op.act, state, now)?;
+    let stamp = C::stamp(&effect);
+    Ok((effect, stamp))
 }

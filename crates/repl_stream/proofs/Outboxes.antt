@@ -5,26 +5,26 @@ use Rattle.std.specs.Ordering.{nat_cmp}
 use Rattle.std.specs.BTreeMap.{is_at, insert_entry}
 use Rattle.std.specs.Map.{lookup, remove_entry}
 use Rattle.crdt_core.specs.declared.record.Message.{Message}
-use Rattle.repl_stream.specs.Numbers.{Kept, kept_at, without, IsOutbox}
+use Rattle.repl_stream.specs.Numbers.{Numbered, kept_at, without, IsOutbox}
 use Rattle.repl_stream.proofs.Numbered.{appended, kept_append, outbox_more, removed, looked_up, kept_without, outbox_less}
 
 module _ {E : Type 0} where
-  abbrev made : List (ℕ × Message E) → ℕ → Kept E
+  abbrev made : List (ℕ × Message E) → ℕ → Numbered E
   made xs next = record { messages = xs; next = next }
 
-  pub seen_at : (o : Kept E) (xs : List (ℕ × Message E)) (next k : ℕ) → record { messages = xs; next = next } ≡ o → lookup (is_at (nat_cmp k)) xs ≡ kept_at o.messages k
-  seen_at o xs next k v = looked_up xs k ∙ ap (λ (y : Kept E). kept_at y.messages k) v
+  pub seen_at : (o : Numbered E) (xs : List (ℕ × Message E)) (next k : ℕ) → record { messages = xs; next = next } ≡ o → lookup (is_at (nat_cmp k)) xs ≡ kept_at o.messages k
+  seen_at o xs next k v = looked_up xs k ∙ ap (λ (y : Numbered E). kept_at y.messages k) v
 
   -- ---- one more
 
-  pub kept_more : (o : Kept E) (xs ys : List (ℕ × Message E)) (next : ℕ) (m : Message E) → record { messages = xs; next = next } ≡ o → IsOutbox xs next → ys ≡ insert_entry nat_cmp xs next m → (next ≡ o.next) × (made ys (next + 1) ≡ made (o.messages ++ (next, m) ∷ []) (o.next + 1))
+  pub kept_more : (o : Numbered E) (xs ys : List (ℕ × Message E)) (next : ℕ) (m : Message E) → record { messages = xs; next = next } ≡ o → IsOutbox xs next → ys ≡ insert_entry nat_cmp xs next m → (next ≡ o.next) × (made ys (next + 1) ≡ made (o.messages ++ (next, m) ∷ []) (o.next + 1))
   kept_more o xs ys next m v h e =
-      let P : Kept E → Type 0 = λ y. (next ≡ y.next) × (made ys (next + 1) ≡ made (y.messages ++ (next, m) ∷ []) (y.next + 1)) in
+      let P : Numbered E → Type 0 = λ y. (next ≡ y.next) × (made ys (next + 1) ≡ made (y.messages ++ (next, m) ∷ []) (y.next + 1)) in
       subst P v (refl, ap (λ (l : List (ℕ × Message E)). made l (next + 1)) (e ∙ appended xs next m h.given))
 
-  pub found_more : (o : Kept E) (xs ys : List (ℕ × Message E)) (next : ℕ) (m : Message E) → record { messages = xs; next = next } ≡ o → IsOutbox xs next → ys ≡ insert_entry nat_cmp xs next m → (j : ℕ) → kept_at ys j ≡ (if j == o.next then Some m else kept_at o.messages j)
+  pub found_more : (o : Numbered E) (xs ys : List (ℕ × Message E)) (next : ℕ) (m : Message E) → record { messages = xs; next = next } ≡ o → IsOutbox xs next → ys ≡ insert_entry nat_cmp xs next m → (j : ℕ) → kept_at ys j ≡ (if j == o.next then Some m else kept_at o.messages j)
   found_more o xs ys next m v h e j =
-      let P : Kept E → Type 0 = λ y. kept_at ys j ≡ (if j == y.next then Some m else kept_at y.messages j) in
+      let P : Numbered E → Type 0 = λ y. kept_at ys j ≡ (if j == y.next then Some m else kept_at y.messages j) in
       subst P v (ap (λ (l : List (ℕ × Message E)). kept_at l j) (e ∙ appended xs next m h.given) ∙ kept_append xs next m h.given j)
 
   pub sound_more : (xs ys : List (ℕ × Message E)) (next : ℕ) (m : Message E) → IsOutbox xs next → length xs < 4096 → ys ≡ insert_entry nat_cmp xs next m → IsOutbox ys (next + 1)
@@ -32,14 +32,14 @@ module _ {E : Type 0} where
 
   -- ---- one less
 
-  pub kept_less : (o : Kept E) (xs ys : List (ℕ × Message E)) (next k : ℕ) → record { messages = xs; next = next } ≡ o → ys ≡ remove_entry (is_at (nat_cmp k)) xs → record { messages = ys; next = next } ≡ record o { messages = without o.messages k }
+  pub kept_less : (o : Numbered E) (xs ys : List (ℕ × Message E)) (next k : ℕ) → record { messages = xs; next = next } ≡ o → ys ≡ remove_entry (is_at (nat_cmp k)) xs → record { messages = ys; next = next } ≡ record o { messages = without o.messages k }
   kept_less o xs ys next k v e =
-      let P : Kept E → Type 0 = λ y. record { messages = ys; next = next } ≡ record y { messages = without y.messages k } in
+      let P : Numbered E → Type 0 = λ y. record { messages = ys; next = next } ≡ record y { messages = without y.messages k } in
       subst P v (ap (λ (l : List (ℕ × Message E)). record { messages = l; next = next }) (e ∙ removed xs k))
 
-  pub found_less : (o : Kept E) (xs ys : List (ℕ × Message E)) (next k : ℕ) → record { messages = xs; next = next } ≡ o → IsOutbox xs next → ys ≡ remove_entry (is_at (nat_cmp k)) xs → (j : ℕ) → kept_at ys j ≡ (if j == k then None else kept_at o.messages j)
+  pub found_less : (o : Numbered E) (xs ys : List (ℕ × Message E)) (next k : ℕ) → record { messages = xs; next = next } ≡ o → IsOutbox xs next → ys ≡ remove_entry (is_at (nat_cmp k)) xs → (j : ℕ) → kept_at ys j ≡ (if j == k then None else kept_at o.messages j)
   found_less o xs ys next k v h e j =
-      let P : Kept E → Type 0 = λ y. kept_at ys j ≡ (if j == k then None else kept_at y.messages j) in
+      let P : Numbered E → Type 0 = λ y. kept_at ys j ≡ (if j == k then None else kept_at y.messages j) in
       subst P v (ap (λ (l : List (ℕ × Message E)). kept_at l j) (e ∙ removed xs k) ∙ kept_without xs k h.ascend j)
 
   pub sound_less : (xs ys : List (ℕ × Message E)) (next k : ℕ) → IsOutbox xs next → ys ≡ remove_entry (is_at (nat_cmp k)) xs → IsOutbox ys next

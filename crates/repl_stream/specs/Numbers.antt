@@ -3,7 +3,7 @@ use Rattle.std.specs.Prelude.{ℕ, ◌≤◌, ◌<◌, ◌==◌, if◌then◌els
 use Rattle.crdt_core.specs.declared.record.Message.{Message}
 
 -- the messages with their numbers, and the next number
-pub record Kept (E : Type 0) : Type 0 where
+pub record Numbered (E : Type 0) : Type 0 where
   pub messages : List (ℕ × Message E)
   pub next : ℕ
 

@@ -22,9 +22,9 @@ pub struct Outbox<E> {
 }
 
 impl<E> Model for Outbox<E> {
-    ghost use Rattle.repl_stream.specs.Numbers.{Kept, IsOutbox};
+    ghost use Rattle.repl_stream.specs.Numbers.{Numbered, IsOutbox};
 
-    ghost Value = { Kept E };
+    ghost Value = { Numbered E };
 
     ghost view = { λ o. record { messages = o.messages.entries; next = o.next } };
 

@@ -14,8 +14,8 @@ loop-field-preserved g c =
     let it = c.loop-field.field-iterator in
     let rest = c.next.new.self in
     let more = rest_more deref_pair it rest c.next.result (c.in-Some.field, c.in-Some.state) c.in-Some.is c.next.ensures.steps in (
-      grow_by (resets_of I.has I.made I.is_blank c.args.now (entries c.args.fields.now)) c.loop-field.resets c.push_reset.new.resets (resets_of I.has I.made I.is_blank c.args.now it) (resets_of I.has I.made I.is_blank c.args.now rest) (resets_of I.has I.made I.is_blank c.args.now (one ∷ [])) c.loop-field.invariant.0
-          (ap (resets_of I.has I.made I.is_blank c.args.now) more ∙ resets_more I.has I.made I.is_blank c.args.now one rest)
+      grow_by (resets_of I.has I.generated I.is_blank c.args.now (entries c.args.fields.now)) c.loop-field.resets c.push_reset.new.resets (resets_of I.has I.generated I.is_blank c.args.now it) (resets_of I.has I.generated I.is_blank c.args.now rest) (resets_of I.has I.generated I.is_blank c.args.now (one ∷ [])) c.loop-field.invariant.0
+          (ap (resets_of I.has I.generated I.is_blank c.args.now) more ∙ resets_more I.has I.generated I.is_blank c.args.now one rest)
           c.in_ok-push_reset.ensures.made,
       λ h. let before = c.loop-field.invariant.1 h in (rest_spelled I.holds one it rest before.0 more, c.in_ok-push_reset.ensures.ready (first_spelled I.holds one it rest before.0 more) before.1),
     )

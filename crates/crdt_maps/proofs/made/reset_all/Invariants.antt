@@ -8,5 +8,5 @@ use Rattle.crdt_maps.proofs.made.reset_all.Given as goal
 
 abbrev pub invariant-loop-field : goal.invariant-loop-field
 invariant-loop-field g l = let I = g.I.Crdt in
-    (l.resets ++ resets_of I.has I.made I.is_blank l.now l.field-iterator ≡ resets_of I.has I.made I.is_blank l.now (entries l.fields))
+    (l.resets ++ resets_of I.has I.generated I.is_blank l.now l.field-iterator ≡ resets_of I.has I.generated I.is_blank l.now (entries l.fields))
     × (HoldsSpelled (map_holds I.holds) l.fields → AllSpelled I.holds l.field-iterator × (list_all (is_reset_ready I.is_of I.can_put I.sets I.spelling) l.resets ≡ true))

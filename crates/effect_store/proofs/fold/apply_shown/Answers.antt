@@ -20,9 +20,9 @@ pub loop-at-preserved : goal.loop-at-preserved
 loop-at-preserved g c =
     let n : c.loop-at.at < length c.args.links.now.entries.items = omega arith in
     let x = at_place _ _ c.requires.reading _ n in
-    applied_next g.C.Crdt.step _ _ c.requires.reading c.args.object.now c.args.snapshot.now _ _ _ _ x.0 _ _ x.1 c.index-at.ensures (c.update_at.ensures.part x.0 x.1) (c.update_at.ensures.update x.0 x.1) c.in_ok-apply_if_shown.ensures ∙ c.loop-at.invariant
+    applied_next g.C.Crdt.applied _ _ c.requires.reading c.args.object.now c.args.snapshot.now _ _ _ _ x.0 _ _ x.1 c.index-at.ensures (c.update_at.ensures.part x.0 x.1) (c.update_at.ensures.update x.0 x.1) c.in_ok-apply_if_shown.ensures ∙ c.loop-at.invariant
 
 pub returns : goal.returns
 returns g c =
-    let none = shown_none g.C.Crdt.step _ _ c.requires.reading c.args.object.now c.args.snapshot.now c.loop-at.at (omega (arith, c.loop-at-test.false)) in
-    sym (ap (applied g.C.Crdt.step c.loop-at.state) none) ∙ c.loop-at.invariant
+    let none = shown_none g.C.Crdt.applied _ _ c.requires.reading c.args.object.now c.args.snapshot.now c.loop-at.at (omega (arith, c.loop-at-test.false)) in
+    sym (ap (applied g.C.Crdt.applied c.loop-at.state) none) ∙ c.loop-at.invariant

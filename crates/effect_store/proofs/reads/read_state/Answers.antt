@@ -14,5 +14,5 @@ index-from-requires g c =
 pub returns : goal.returns
 returns g c =
     let kept = c.in-Some.ensures in
-    c.in_ok-apply_shown.ensures ∙ (ap (λ z. applied g.C.Crdt.step z (shown c.args.object.now c.args.snapshot.now c.args.parts.now c.index-from.result.now)) c.in_ok-state.ensures
-    ∙ read_from g.C.Crdt.initial g.C.Crdt.step _ _ c.requires.reading _ c.args.object.now c.args.snapshot.now _ _ c.in-Some.kept.now _ c.requires.hold kept.0 kept.1 kept.2 c.index-from.ensures)
+    c.in_ok-apply_shown.ensures ∙ (ap (λ z. applied g.C.Crdt.applied z (shown c.args.object.now c.args.snapshot.now c.args.parts.now c.index-from.result.now)) c.in_ok-state.ensures
+    ∙ read_from g.C.Crdt.initial g.C.Crdt.applied _ _ c.requires.reading _ c.args.object.now c.args.snapshot.now _ _ c.in-Some.kept.now _ c.requires.hold kept.0 kept.1 kept.2 c.index-from.ensures)

@@ -13,4 +13,4 @@ index-from-requires g c =
 pub returns-then-is_none_shown : goal.returns-then-is_none_shown
 returns-then-is_none_shown g c =
     let kept = c.in-Some.ensures in
-    read_at_end g.C.Crdt.initial g.C.Crdt.step _ _ c.requires.reading _ c.args.object.now c.args.snapshot.now _ _ c.in-Some.kept.now _ c.requires.hold kept.0 kept.1 kept.2 c.index-from.ensures (c.is_none_shown.ensures c.if-is_none_shown.true)
+    read_at_end g.C.Crdt.initial g.C.Crdt.applied _ _ c.requires.reading _ c.args.object.now c.args.snapshot.now _ _ c.in-Some.kept.now _ c.requires.hold kept.0 kept.1 kept.2 c.index-from.ensures (c.is_none_shown.ensures c.if-is_none_shown.true)

@@ -13,4 +13,4 @@ read_state-requires-clause-hold g c =
 pub returns : goal.returns
 returns g c =
     let P : g.row.C-State.Denot → Type 0 = λ z. IfOk c.read_state.result (λ v. v ≡ z) in
-    subst P (model_is g.C.Crdt.initial g.C.Crdt.step c.self.inside.parts.items c.as_slice.result.now c.args.self.now.parts c.args.object.now c.args.snapshot.now (apart _ _ _ c.self.invariant.0) c.as_slice.ensures.value (ap (λ (h : Stored g.row.C-Effect.Denot). h.parts) c.self.view_is)) c.read_state.ensures
+    subst P (model_is g.C.Crdt.initial g.C.Crdt.applied c.self.inside.parts.items c.as_slice.result.now c.args.self.now.parts c.args.object.now c.args.snapshot.now (apart _ _ _ c.self.invariant.0) c.as_slice.ensures.value (ap (λ (h : Stored g.row.C-Effect.Denot). h.parts) c.self.view_is)) c.read_state.ensures

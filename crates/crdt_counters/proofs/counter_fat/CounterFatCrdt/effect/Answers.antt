@@ -1,6 +1,6 @@
 use Rattle.std.proofs.Common.{◌≡◌, true, [], ◌∷◌, refl, ap, sym, subst}
 use Rattle.std.specs.Prelude.{◌==◌}
-use Rattle.crdt_core.specs.Leaves.{same_kind_is}
+use Rattle.crdt_core.specs.KindCodes.{same_kind_is}
 use Rattle.crdt_core.specs.Spelled.{are_dots, ascend}
 use Rattle.crdt_core.specs.EffectForm.{reset_tag}
 use Rattle.crdt_core.proofs.Ready.{kept_spelled, kept_ascend}
@@ -8,7 +8,7 @@ use Rattle.crdt_core.specs.Kept.{dots_of}
 use Rattle.crdt_core.specs.EffectForm.{sets_ascend}
 use Rattle.field_codec.specs.FormLaws.{and_true}
 use Rattle.crdt_core.specs.declared.kind.Kind.TheVariants.{CounterFat}
-use Rattle.crdt_counters.proofs.counter_fat.CounterFatCrdt.generate.Goals as goal
+use Rattle.crdt_counters.proofs.counter_fat.CounterFatCrdt.effect.Goals as goal
 
 pub returns-in_ok-dots-in-Reset-clause-ready : goal.returns-in_ok-dots-in-Reset-clause-ready
 returns-in_ok-dots-in-Reset-clause-ready c = λ has h. record {

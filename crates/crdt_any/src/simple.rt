@@ -1,0 +1,307 @@
+ghost use Rattle.std.specs.Prelude.{◌≡◌, true, false, IfOk, OnOk};
+ghost use Rattle.crdt_core.specs.EffectForm.{HoldsSpelled, IsReady};
+ghost use Rattle.crdt_any.specs.Simple.{simple_has, simple_initial, simple_step, simple_made, simple_value, simple_stamp, simple_meaning, simple_names, simple_holds, simple_blank};
+ghost use Rattle.crdt_any.specs.SimpleForm.{simple_is_of, simple_can_put, simple_is_spelled, simple_sets, simple_texts, simple_spelling, simple_reading, simple_spells, simple_named};
+ghost use Rattle.crdt_any.specs.SimpleLaws.{simple_law, simple_in_maps, simple_resets};
+
+use crate::part::apply_if;
+use crate::simple_generate::simple_effect_of;
+use crate::{SimpleEffect, SimpleState};
+use crdt_core::{Act, Crdt, Field, Kind, Op, Value, reads_state};
+use crdt_counters::{CounterFat, CounterPn};
+use crdt_flags::{FlagDw, FlagEw};
+use crdt_registers::{RegisterLww, RegisterMv};
+use crdt_sets::{SetAw, SetGo, SetRw};
+use field_codec::TakeError;
+use site_vector::Dot;
+use std::alloc::{AllocError, Global};
+
+/// The nine kinds without fields. A map, which it lacks, is taken for a `CounterPn`.
+pub struct Simple;
+
+impl Crdt for Simple {
+    type State = SimpleState;
+
+    type Effect = SimpleEffect;
+
+    ghost has = { simple_has };
+
+    ghost too_deep = { λ k p. false };
+
+    ghost initial = { simple_initial };
+
+    ghost applied = { simple_step };
+
+    ghost generated = { simple_made };
+
+    ghost value_of = { simple_value };
+
+    ghost stamp_of = { simple_stamp };
+
+    ghost meaning = { simple_meaning };
+
+    ghost names = { simple_names };
+
+    ghost holds = { simple_holds };
+
+    ghost laws = { simple_law };
+
+    ghost is_of = { simple_is_of };
+
+    ghost can_put = { simple_can_put };
+
+    ghost is_spelled = { simple_is_spelled };
+
+    ghost sets = { simple_sets };
+
+    ghost texts = { simple_texts };
+
+    ghost spelling = { simple_spelling };
+
+    ghost reading = { simple_reading };
+
+    ghost spells = { simple_spells };
+
+    ghost named = { simple_named };
+
+    ghost is_blank = { simple_blank };
+
+    ghost in_maps = { simple_in_maps };
+
+    ghost resets = { simple_resets };
+
+    fn has(kind: Kind) -> bool {
+        match kind {
+            Kind::MapGo | Kind::MapRr => false,
+            _ => true,
+        }
+    }
+
+    fn empty(alloc: Global, kind: Kind) -> Result<SimpleState, AllocError> {
+        match kind {
+            Kind::CounterFat => Ok(SimpleState::CounterFat(CounterFat::empty(alloc, kind)?)),
+            Kind::SetGo => Ok(SimpleState::SetGo(SetGo::empty(alloc, kind)?)),
+            Kind::SetAw => Ok(SimpleState::SetAw(SetAw::empty(alloc, kind)?)),
+            Kind::SetRw => Ok(SimpleState::SetRw(SetRw::empty(alloc, kind)?)),
+            Kind::FlagEw => Ok(SimpleState::FlagEw(FlagEw::empty(alloc, kind)?)),
+            Kind::FlagDw => Ok(SimpleState::FlagDw(FlagDw::empty(alloc, kind)?)),
+            Kind::RegisterLww => Ok(SimpleState::RegisterLww(RegisterLww::empty(alloc, kind)?)),
+            Kind::RegisterMv => Ok(SimpleState::RegisterMv(RegisterMv::empty(alloc, kind)?)),
+            _ => Ok(SimpleState::CounterPn(CounterPn::empty(alloc, kind)?)),
+        }
+    }
+
+    fn needs_state(kind: Kind, op: &Op) -> bool {
+        reads_state(kind)
+    }
+
+    fn is_too_deep(kind: Kind, path: &[Field]) -> bool {
+        false
+    }
+
+    fn is_blank(state: &SimpleState) -> bool {
+        match state {
+            SimpleState::CounterPn(state) => CounterPn::is_blank(state),
+            SimpleState::CounterFat(state) => CounterFat::is_blank(state),
+            SimpleState::SetGo(state) => SetGo::is_blank(state),
+            SimpleState::SetAw(state) => SetAw::is_blank(state),
+            SimpleState::SetRw(state) => SetRw::is_blank(state),
+            SimpleState::FlagEw(state) => FlagEw::is_blank(state),
+            SimpleState::FlagDw(state) => FlagDw::is_blank(state),
+            SimpleState::RegisterLww(state) => RegisterLww::is_blank(state),
+            SimpleState::RegisterMv(state) => RegisterMv::is_blank(state),
+        }
+    }
+
+    fn effect(
+        alloc: Global,
+        kind: Kind,
+        path: &[Field],
+        act: &Act,
+        state: &SimpleState,
+        now: u64,
+    ) -> Result<SimpleEffect, AllocError> {
+        simple_effect_of(alloc, kind, path, act, state, now)
+    }
+
+    fn stamp(effect: &SimpleEffect) -> Option<u64> {
+        match effect {
+            SimpleEffect::CounterPn(effect) => CounterPn::stamp(effect),
+            SimpleEffect::CounterFat(effect) => CounterFat::stamp(effect),
+            SimpleEffect::SetGo(effect) => SetGo::stamp(effect),
+            SimpleEffect::SetAw(effect) => SetAw::stamp(effect),
+            SimpleEffect::SetRw(effect) => SetRw::stamp(effect),
+            SimpleEffect::FlagEw(effect) => FlagEw::stamp(effect),
+            SimpleEffect::FlagDw(effect) => FlagDw::stamp(effect),
+            SimpleEffect::RegisterLww(effect) => RegisterLww::stamp(effect),
+            SimpleEffect::RegisterMv(effect) => RegisterMv::stamp(effect),
+        }
+    }
+
+    fn apply(
+        alloc: Global,
+        state: &mut SimpleState,
+        dot: Dot,
+        effect: &SimpleEffect,
+    ) -> Result<(), AllocError> {
+        match state {
+            SimpleState::CounterPn(state) => apply_if::<CounterPn>(
+                alloc,
+                state,
+                dot,
+                effect.counter_pn(),
+            ),
+            SimpleState::CounterFat(state) => apply_if::<CounterFat>(
+                alloc,
+                state,
+                dot,
+                effect.counter_fat(),
+            ),
+            SimpleState::SetGo(state) => apply_if::<SetGo>(alloc, state, dot, effect.set_go()),
+            SimpleState::SetAw(state) => apply_if::<SetAw>(alloc, state, dot, effect.set_aw()),
+            SimpleState::SetRw(state) => apply_if::<SetRw>(alloc, state, dot, effect.set_rw()),
+            SimpleState::FlagEw(state) => apply_if::<FlagEw>(alloc, state, dot, effect.flag_ew()),
+            SimpleState::FlagDw(state) => apply_if::<FlagDw>(alloc, state, dot, effect.flag_dw()),
+            SimpleState::RegisterLww(state) => apply_if::<RegisterLww>(
+                alloc,
+                state,
+                dot,
+                effect.register_lww(),
+            ),
+            SimpleState::RegisterMv(state) => apply_if::<RegisterMv>(
+                alloc,
+                state,
+                dot,
+                effect.register_mv(),
+            ),
+        }
+    }
+
+    fn copy(alloc: Global, state: &SimpleState) -> Result<SimpleState, AllocError> {
+        match state {
+            SimpleState::CounterPn(state) => Ok(SimpleState::CounterPn(CounterPn::copy(
+                alloc, state,
+            )?)),
+            SimpleState::CounterFat(state) => Ok(SimpleState::CounterFat(CounterFat::copy(
+                alloc, state,
+            )?)),
+            SimpleState::SetGo(state) => Ok(SimpleState::SetGo(SetGo::copy(alloc, state)?)),
+            SimpleState::SetAw(state) => Ok(SimpleState::SetAw(SetAw::copy(alloc, state)?)),
+            SimpleState::SetRw(state) => Ok(SimpleState::SetRw(SetRw::copy(alloc, state)?)),
+            SimpleState::FlagEw(state) => Ok(SimpleState::FlagEw(FlagEw::copy(alloc, state)?)),
+            SimpleState::FlagDw(state) => Ok(SimpleState::FlagDw(FlagDw::copy(alloc, state)?)),
+            SimpleState::RegisterLww(state) => Ok(SimpleState::RegisterLww(RegisterLww::copy(
+                alloc, state,
+            )?)),
+            SimpleState::RegisterMv(state) => Ok(SimpleState::RegisterMv(RegisterMv::copy(
+                alloc, state,
+            )?)),
+        }
+    }
+
+    fn copy_effect(alloc: Global, effect: &SimpleEffect) -> Result<SimpleEffect, AllocError> {
+        match effect {
+            SimpleEffect::CounterPn(effect) => Ok(SimpleEffect::CounterPn(CounterPn::copy_effect(
+                alloc, effect,
+            )?)),
+            SimpleEffect::CounterFat(effect) => Ok(SimpleEffect::CounterFat(CounterFat::copy_effect(
+                alloc, effect,
+            )?)),
+            SimpleEffect::SetGo(effect) => Ok(SimpleEffect::SetGo(SetGo::copy_effect(
+                alloc, effect,
+            )?)),
+            SimpleEffect::SetAw(effect) => Ok(SimpleEffect::SetAw(SetAw::copy_effect(
+                alloc, effect,
+            )?)),
+            SimpleEffect::SetRw(effect) => Ok(SimpleEffect::SetRw(SetRw::copy_effect(
+                alloc, effect,
+            )?)),
+            SimpleEffect::FlagEw(effect) => Ok(SimpleEffect::FlagEw(FlagEw::copy_effect(
+                alloc, effect,
+            )?)),
+            SimpleEffect::FlagDw(effect) => Ok(SimpleEffect::FlagDw(FlagDw::copy_effect(
+                alloc, effect,
+            )?)),
+            SimpleEffect::RegisterLww(effect) => Ok(SimpleEffect::RegisterLww(
+                RegisterLww::copy_effect(alloc, effect)?,
+            )),
+            SimpleEffect::RegisterMv(effect) => Ok(SimpleEffect::RegisterMv(RegisterMv::copy_effect(
+                alloc, effect,
+            )?)),
+        }
+    }
+
+    fn value(alloc: Global, state: &SimpleState) -> Result<Value, AllocError> {
+        match state {
+            SimpleState::CounterPn(state) => CounterPn::value(alloc, state),
+            SimpleState::CounterFat(state) => CounterFat::value(alloc, state),
+            SimpleState::SetGo(state) => SetGo::value(alloc, state),
+            SimpleState::SetAw(state) => SetAw::value(alloc, state),
+            SimpleState::SetRw(state) => SetRw::value(alloc, state),
+            SimpleState::FlagEw(state) => FlagEw::value(alloc, state),
+            SimpleState::FlagDw(state) => FlagDw::value(alloc, state),
+            SimpleState::RegisterLww(state) => RegisterLww::value(alloc, state),
+            SimpleState::RegisterMv(state) => RegisterMv::value(alloc, state),
+        }
+    }
+
+    fn put_effect(out: &mut Vec<u8>, effect: &SimpleEffect) -> Result<(), AllocError> {
+        match effect {
+            SimpleEffect::CounterPn(effect) => CounterPn::put_effect(out, effect),
+            SimpleEffect::CounterFat(effect) => CounterFat::put_effect(out, effect),
+            SimpleEffect::SetGo(effect) => SetGo::put_effect(out, effect),
+            SimpleEffect::SetAw(effect) => SetAw::put_effect(out, effect),
+            SimpleEffect::SetRw(effect) => SetRw::put_effect(out, effect),
+            SimpleEffect::FlagEw(effect) => FlagEw::put_effect(out, effect),
+            SimpleEffect::FlagDw(effect) => FlagDw::put_effect(out, effect),
+            SimpleEffect::RegisterLww(effect) => RegisterLww::put_effect(out, effect),
+            SimpleEffect::RegisterMv(effect) => RegisterMv::put_effect(out, effect),
+        }
+    }
+
+    fn take_effect(
+        alloc: Global,
+        kind: Kind,
+        bytes: &[u8],
+        at: usize,
+    ) -> Result<(SimpleEffect, usize), TakeError> {
+        match kind {
+            Kind::CounterFat => {
+                let (effect, end) = CounterFat::take_effect(alloc, kind, bytes, at)?;
+                Ok((SimpleEffect::CounterFat(effect), end))
+            }
+            Kind::SetGo => {
+                let (effect, end) = SetGo::take_effect(alloc, kind, bytes, at)?;
+                Ok((SimpleEffect::SetGo(effect), end))
+            }
+            Kind::SetAw => {
+                let (effect, end) = SetAw::take_effect(alloc, kind, bytes, at)?;
+                Ok((SimpleEffect::SetAw(effect), end))
+            }
+            Kind::SetRw => {
+                let (effect, end) = SetRw::take_effect(alloc, kind, bytes, at)?;
+                Ok((SimpleEffect::SetRw(effect), end))
+            }
+            Kind::FlagEw => {
+                let (effect, end) = FlagEw::take_effect(alloc, kind, bytes, at)?;
+                Ok((SimpleEffect::FlagEw(effect), end))
+            }
+            Kind::FlagDw => {
+                let (effect, end) = FlagDw::take_effect(alloc, kind, bytes, at)?;
+                Ok((SimpleEffect::FlagDw(effect), end))
+            }
+            Kind::RegisterLww => {
+                let (effect, end) = RegisterLww::take_effect(alloc, kind, bytes, at)?;
+                Ok((SimpleEffect::RegisterLww(effect), end))
+            }
+            Kind::RegisterMv => {
+                let (effect, end) = RegisterMv::take_effect(alloc, kind, bytes, at)?;
+                Ok((SimpleEffect::RegisterMv(effect), end))
+            }
+            _ => {
+                let (effect, end) = CounterPn::take_effect(alloc, kind, bytes, at)?;
+                Ok((SimpleEffect::CounterPn(effect), end))
+            }
+        }
+    }
+}

@@ -1,9 +1,0 @@
-use Rattle.std.proofs.Common.{rules, sym, subst}
-use Rattle.crdt_core.specs.Leaves.{same_kind_is}
-use Rattle.crdt_core.specs.EffectForm.{IsReady}
-use Rattle.crdt_sets.specs.EffectForm.{is_of_kind, can_put_set, set_sets, set_spelling}
-use Rattle.crdt_sets.proofs.Ready.{set_ready}
-use Rattle.crdt_sets.proofs.set_of.SetOfCrdt.generate.Goals as goal
-
-pub returns-clause-ready : goal.returns-clause-ready
-returns-clause-ready g c = λ has h. subst (IsReady is_of_kind can_put_set set_sets set_spelling c.args.kind c.args.path.now c.args.act.now) (sym c.in_ok-effect_of.ensures) (set_ready _ c.args.kind (same_kind_is c.args.kind _ has) c.args.state.now c.args.path.now c.args.act.now (search rules) h)
