@@ -6,7 +6,7 @@ use Rattle.world_model.specs.declared.step.Step.TheVariants as step
 use Rattle.world_model.specs.commands.Cluster.{parts_of}
 use Rattle.world_model.specs.rules.Event.{IsDown, Event, Decided, Refused, Cut, Entry}
 use Rattle.world_model.specs.lines.Lines.{DecideOf}
-use Rattle.world_model.specs.rules.Lines.{lines_of, step_shown}
+use Rattle.world_model.specs.rules.Lines.{shown_lines, step_shown}
 use Rattle.world_model.specs.commands.Run.{Run}
 use Rattle.world_model.specs.commands.ScriptCalls.{calls_of}
 use Rattle.world_model.specs.lines.Updates.{lead}
@@ -27,8 +27,8 @@ module _ {S E D : Type 0} (types : Types S E D) (c : LiveState E D) (run : Run) 
       let eu : t ≡ u = cc in
       let events : List (Entry E) = (record { at = at; event = Cut (Decided t v) }) ∷ entries r.calls in
       let law = (law_world types.kinds later.sites later.parts events seen.reached.state seen.reached.is_run).0 in
-      let told : lead later.parts (lines_of (entries r.calls)) t ≡ at = sym (lead_stays later.parts (lines_of (entries r.calls)) at (DecideOf t) (step.Unsure t) (λ time index w. refl) t) ∙ lead_eq types.kinds later.sites later.parts events law t ∙ sym seen.reached.is_run.2.allowed.lead in
-      let lines : lead (parts_of run) (calls_of run) t ≡ lead later.parts (lines_of (entries r.calls)) t = λ i. lead (sym (same.parts_are ∙ r.parts) i) (sym r.shown i) t in
+      let told : lead later.parts (shown_lines (entries r.calls)) t ≡ at = sym (lead_stays later.parts (shown_lines (entries r.calls)) at (DecideOf t) (step.Unsure t) (λ time index w. refl) t) ∙ lead_eq types.kinds later.sites later.parts events law t ∙ sym seen.reached.is_run.2.allowed.lead in
+      let lines : lead (parts_of run) (calls_of run) t ≡ lead later.parts (shown_lines (entries r.calls)) t = λ i. lead (sym (same.parts_are ∙ r.parts) i) (sym r.shown i) t in
       ap (lead (parts_of run) (calls_of run)) (sym eu) ∙ (lines ∙ told)
   decided_at (Cut what) seen u k = absurd cc
   decided_at (Refused a IsDown) seen u k = absurd cc

@@ -18,7 +18,7 @@ use Rattle.world_model.specs.rules.Event.{Event, Took, Entry}
 use Rattle.world_model.specs.commands.Fuses.{Fuse, fuse, fuse_after, is_change, is_bringing, shows_written}
 use Rattle.world_model.specs.lines.Lines as world
 use Rattle.world_model.specs.lines.Lines.{Call}
-use Rattle.world_model.specs.rules.Lines.{lines_of, call_of, step_shown}
+use Rattle.world_model.specs.rules.Lines.{shown_lines, call_of, step_shown}
 use Rattle.world_model.specs.rules.Partition.{records}
 use Rattle.world_model.specs.lines.Pending.{pending}
 use Rattle.world_model.specs.lines.Places.{IsPlace}
@@ -139,7 +139,7 @@ module _ {S E D : Type 0} (w : Types S E D) (old new : Held E D) (at : PartId) (
     (placed : is_called l.command l.step ≡ true → (asked_by (calls_of run) run l.command l.step).at ≡ at)
     (doubt : (t : TxId) → l.step ≡ step.Unsure t → lead (parts_of run) (calls_of run) t ≡ at) where
   -- the line of a call that took no message, as the store tells it
-  pub fuel_spent : (x : Spent w old new at l.step) → is_took l.step ≡ false → (events : List (Entry E)) → Reaches w old events → lines_of events ≡ calls_of run → IsFueled w.state old whole run → IsFueled w.state new whole (l ∷ run)
+  pub fuel_spent : (x : Spent w old new at l.step) → is_took l.step ≡ false → (events : List (Entry E)) → Reaches w old events → shown_lines events ≡ calls_of run → IsFueled w.state old whole run → IsFueled w.state new whole (l ∷ run)
   fuel_spent x untaken events r shown =
       fuel_by w old new at x.moves whole run l place placed (subst (λ s. is_arming s ≡ false) x.shows (unarmed whole (calls_of run) at x.run x.event)) (λ q e. own_fault whole (calls_of run) at x.run x.event q (x.shows ∙ e)) doubt n
       (λ lets. let whole_call = done lets in burns_spent (4 * n) _ _ (x.spends.exact whole_call) (x.spends.spared whole_call)) write
@@ -169,8 +169,8 @@ module _ {S E D : Type 0} (w : Types S E D) (old new : Held E D) (at : PartId) (
           (or_cases _ _ (wrote_so whole run at l h).1)
 
   -- the line of a call after the run itself, with the number that the script gives it
-  module _ (m : Moves w.state old new at) (events : List (Entry E)) (r : Reaches w old events) (shown : lines_of events ≡ calls_of run) (e : Event E) (next : Reaches w new ((record { at = at; event = e }) ∷ events))
-      (numbers : numbered run l.step ≡ step_shown events at e) (brought : IsBrought whole (lines_of events) at e) (asks : is_called l.command l.step ≡ true → (asked_by (calls_of run) run l.command l.step).call ≡ call_of e) where
+  module _ (m : Moves w.state old new at) (events : List (Entry E)) (r : Reaches w old events) (shown : shown_lines events ≡ calls_of run) (e : Event E) (next : Reaches w new ((record { at = at; event = e }) ∷ events))
+      (numbers : numbered run l.step ≡ step_shown events at e) (brought : IsBrought whole (shown_lines events) at e) (asks : is_called l.command l.step ≡ true → (asked_by (calls_of run) run l.command l.step).call ≡ call_of e) where
     abbrev count : ℕ
     count = length (records (r.state at) e)
 
@@ -186,20 +186,20 @@ module _ {S E D : Type 0} (w : Types S E D) (old new : Held E D) (at : PartId) (
     own_disk : (q : PartId) → l.step ≡ step.Disk q → q ≡ at
     own_disk q k = own_fault whole (calls_of run) at events e q (sym numbers ∙ ap (numbered run) k)
 
-    bounds : (number : ℕ) (y : Message E) → e ≡ Took number y → bound (lines_of events) at y.from ≡ entry (r.state at).bounds y.from
+    bounds : (number : ℕ) (y : Message E) → e ≡ Took number y → bound (shown_lines events) at y.from ≡ entry (r.state at).bounds y.from
     bounds number y k =
         let took : Reaches w new ((record { at = at; event = Took number y }) ∷ events) = subst (λ x. Reaches w new ((record { at = at; event = x }) ∷ events)) k next in
         bound_in w.kinds old.sites old.parts events r.state r.is_run at (was_up w old new at m events r (Took number y) took refl) y.from (from_other w old new at m events number y took)
 
-    told : shows_written whole run at l ≡ true → (is_change (lines_of events) at (step_shown events at e) || is_bringing whole (lines_of events) at (call_of e) (step_shown events at e)) ≡ true
+    told : shows_written whole run at l ≡ true → (is_change (shown_lines events) at (step_shown events at e) || is_bringing whole (shown_lines events) at (call_of e) (step_shown events at e)) ≡ true
     told h =
         let a = wrote_so whole run at l h in
-        subst (λ s. (is_change (lines_of events) at s || is_bringing whole (lines_of events) at (call_of e) s) ≡ true) numbers
-        ((λ i. number_change whole (lines_of events) at run l.step i || number_bringing whole (lines_of events) at run (call_of e) l.step i)
+        subst (λ s. (is_change (shown_lines events) at s || is_bringing whole (shown_lines events) at (call_of e) s) ≡ true) numbers
+        ((λ i. number_change whole (shown_lines events) at run l.step i || number_bringing whole (shown_lines events) at run (call_of e) l.step i)
         ∙ ((λ i. is_change (shown i) at l.step || is_bringing whole (shown i) at (sym (asks a.0) i) l.step) ∙ a.1))
 
     write : shows_written whole run at l ≡ true → 1 ≤ count
-    write h = writes whole (lines_of events) at events (r.state at) e (λ c t k. waits_in w.kinds old.sites old.parts events r.state r.is_run at (was_up w old new at m events r e next c) t k) bounds brought (told h)
+    write h = writes whole (shown_lines events) at events (r.state at) e (λ c t k. waits_in w.kinds old.sites old.parts events r.state r.is_run at (was_up w old new at m events r e next c) t k) bounds brought (told h)
 
     pub fuel_counted : Spends w.kinds w.codec w.state m.before m.after (r.state at) e → IsFueled w.state old whole run → IsFueled w.state new whole (l ∷ run)
     fuel_counted spends = fuel_by w old new at m whole run l place_here placed unarms own_disk doubt count
@@ -207,4 +207,4 @@ module _ {S E D : Type 0} (w : Types S E D) (old new : Held E D) (at : PartId) (
 
     -- a crash or a restart, after which no fuse has fired, wrote nothing
     pub fuel_plain : can_write e ≡ false → (lets_burn l.step ≡ true → Burns 0 (disk_in w.state m.before).left (disk_in w.state m.after).left) → IsFueled w.state old whole run → IsFueled w.state new whole (l ∷ run)
-    fuel_plain c burn = fuel_by w old new at m whole run l place_here placed unarms own_disk doubt 0 burn (λ lets h. never_writes whole (lines_of events) at events e c (told h))
+    fuel_plain c burn = fuel_by w old new at m whole run l place_here placed unarms own_disk doubt 0 burn (λ lets h. never_writes whole (shown_lines events) at events e c (told h))

@@ -16,7 +16,7 @@ use Rattle.world_model.specs.rules.Event as event
 use Rattle.world_model.specs.rules.Event.{Event, Entry, Crashed, RestartCut}
 use Rattle.world_model.specs.commands.Fuses.{Fuse, counted, fuse, IsUnfired, HoldsFuses, is_change, is_bringing, shows_written}
 use Rattle.world_model.specs.lines.Lines as world
-use Rattle.world_model.specs.rules.Lines.{lines_of, call_of, step_shown}
+use Rattle.world_model.specs.rules.Lines.{shown_lines, call_of, step_shown}
 use Rattle.world_model.specs.rules.Partition.{PartState}
 use Rattle.world_model.specs.lines.Places.{IsPlace}
 use Rattle.world_model.specs.commands.Run.{Run}
@@ -105,7 +105,7 @@ module _ {E D : Type 0} (state : D → DiskState) where
         burns = λ p other. subst (λ o. BurnsAt (holds_part c p) o (left_at state c p other)) (sym (idle_fuse whole run l idle p)) (x.burns p other);
       }
 
-module _ {S E D : Type 0} (w : Types S E D) (old new : Held E D) (at : PartId) (run : Run) (l : script.Line) (events : List (Entry E)) (r : Reaches w old events) (shown : lines_of events ≡ calls_of run)
+module _ {S E D : Type 0} (w : Types S E D) (old new : Held E D) (at : PartId) (run : Run) (l : script.Line) (events : List (Entry E)) (r : Reaches w old events) (shown : shown_lines events ≡ calls_of run)
     (placed : is_called l.command l.step ≡ true → (asked_by (calls_of run) run l.command l.step).at ≡ at)
     (doubt : (t : TxId) → l.step ≡ step.Unsure t → lead (parts_of run) (calls_of run) t ≡ at) where
   -- a call of a session
@@ -153,7 +153,7 @@ module _ {S E D : Type 0} (w : Types S E D) (old new : Held E D) (at : PartId) (
           by_place false e = burns_same _ _ (left_there w old new at v.moves place p h e other)
 
 -- in the end no fuse let more pass than it may
-pub holds_fuses : {S E D : Type 0} (kinds : Kinds S E) (state : D → DiskState) (c : Held E D) (sites parts : ℕ) (run : Run) (events : List (Entry E)) (left : PartId → PartState E) → IsWorldRun kinds sites parts events left → lines_of events ≡ calls_of run → Fueled state c run events → HoldsFuses run
+pub holds_fuses : {S E D : Type 0} (kinds : Kinds S E) (state : D → DiskState) (c : Held E D) (sites parts : ℕ) (run : Run) (events : List (Entry E)) (left : PartId → PartState E) → IsWorldRun kinds sites parts events left → shown_lines events ≡ calls_of run → Fueled state c run events → HoldsFuses run
 holds_fuses kinds state c sites parts run events left is_run shown f = (f (calls_of run) (subst (λ ls. AreBrought ls events) shown (are_brought kinds sites parts events left is_run))).keeps
 
 -- nor did any before a cluster was made

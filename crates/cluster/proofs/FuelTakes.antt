@@ -12,7 +12,7 @@ use Rattle.world_model.specs.events.Handed.{HandedAt, AreHanded}
 use Rattle.world_model.specs.lines.History.{history, commit_time}
 use Rattle.world_model.specs.events.Lawful.{IsLawfulWorld}
 use Rattle.world_model.specs.lines.Lines.{Line}
-use Rattle.world_model.specs.rules.Lines.{lines_of}
+use Rattle.world_model.specs.rules.Lines.{shown_lines}
 use Rattle.world_model.specs.rules.Partition.{PartState}
 use Rattle.world_model.specs.rules.Plan.{Plan, is_some_update, takes_part, commit_vector, MayTake}
 use Rattle.world_model.specs.lines.Places.{twin}
@@ -37,7 +37,7 @@ module _ {S E : Type 0} (kinds : Kinds S E) (sites parts : ℕ) (run : List (Ent
   plan = plan_of sites parts run
 
   abbrev ls : List Line
-  ls = lines_of run
+  ls = shown_lines run
 
   takes_eq : (t : TxId) (p : PartId) → updates.takes_part ls t p ≡ takes_part plan t p
   takes_eq t p = takes_part_is plan run law.handed law.numbered t p ∙ ap is_some_update (sym (law.planned t p))
@@ -59,7 +59,7 @@ module _ {S E : Type 0} (kinds : Kinds S E) (sites parts : ℕ) (run : List (Ent
       let there : lists m.parts y.0 ≡ true = x.members y.0 ∙ and_from _ _ d (and_from _ _ takes (and_from _ _ above_low upto)) in
       some_above m.from have m.parts ∙ part_above (commit_vector plan run) (λ u. plan.updates u q) m.from have m.parts x.exact y.0 there (ap (ltb have) (own y.0 takes) ∙ above_have)
 
-  brought_at : (some : List (Entry E)) (p : PartId) (e : Event E) → HandedAt plan some p e → ShowsAt plan some p e → EventsAre (IsRight kinds plan run) some → IsBrought ls (lines_of some) p e
+  brought_at : (some : List (Entry E)) (p : PartId) (e : Event E) → HandedAt plan some p e → ShowsAt plan some p e → EventsAre (IsRight kinds plan run) some → IsBrought ls (shown_lines some) p e
   brought_at some p (Took number m) h s right = subst (λ b. restarts.brings ls p m.from b m.hi ≡ true → brings m b ≡ true) (sym (bound_is some p m.from)) (brought some p number m (bound_shown some p m.from) h s.0 right)
   brought_at some p other h s right = tt
 
@@ -68,7 +68,7 @@ module _ {S E : Type 0} (kinds : Kinds S E) (sites parts : ℕ) (run : List (Ent
   brought_by (e ∷ some) h s right = (brought_at some e.at e.event h.0 s.0 right.1, brought_by some h.1 s.1 right.1)
 
 -- a run of the world tells so of all that it took
-pub are_brought : {S E : Type 0} (kinds : Kinds S E) (sites parts : ℕ) (run : List (Entry E)) (state : PartId → PartState E) → IsWorldRun kinds sites parts run state → AreBrought (lines_of run) run
+pub are_brought : {S E : Type 0} (kinds : Kinds S E) (sites parts : ℕ) (run : List (Entry E)) (state : PartId → PartState E) → IsWorldRun kinds sites parts run state → AreBrought (shown_lines run) run
 are_brought kinds sites parts run state is_run =
     let law = (law_world kinds sites parts run state is_run).0 in
     brought_by kinds sites parts run law run law.handed law.shown law.right

@@ -10,7 +10,7 @@ use Rattle.crdt_core.specs.KindsOf.{Kinds}
 use Rattle.crdt_core.specs.Log as log
 use Rattle.world_model.specs.lines.Bounds.{bound}
 use Rattle.world_model.specs.rules.Event.{Event, Prepared, Decided, Finished, Aborted, Took, Entry}
-use Rattle.world_model.specs.rules.Lines.{lines_of}
+use Rattle.world_model.specs.rules.Lines.{shown_lines}
 use Rattle.world_model.specs.rules.Partition.{PartState, PartStep}
 use Rattle.world_model.specs.lines.Places.{IsOther, IsPlace}
 use Rattle.world_model.specs.lines.Pending as lines
@@ -37,10 +37,10 @@ module _ {S E : Type 0} (kinds : Kinds S E) (sites parts : ℕ) (run : List (Ent
   both_up a b ra rb p up = not_false (b p).up (sym (law.told kinds sites parts run b rb p).down ∙ ((law.told kinds sites parts run a ra p).down ∙ ap not up))
 
   module _ (state : PartId → PartState E) (is_run : IsWorldRun kinds sites parts run state) (p : PartId) (up : (state p).up ≡ true) where
-    pub waits_in : (t : TxId) → lines.pending (lines_of run) p t ≡ true → log.pending (state p).log t ≡ true
+    pub waits_in : (t : TxId) → lines.pending (shown_lines run) p t ≡ true → log.pending (state p).log t ≡ true
     waits_in t h = (law.told kinds sites parts run state is_run p).waiting t up ∙ h
 
-    pub bound_in : (j : ℕ) → IsOther sites p.site j → bound (lines_of run) p j ≡ entry (state p).bounds j
+    pub bound_in : (j : ℕ) → IsOther sites p.site j → bound (shown_lines run) p j ≡ entry (state p).bounds j
     bound_in j o = bound_is run p j ∙ sym ((shown_run kinds (plan_of sites parts run) run state (fits kinds sites parts run state is_run run (all_fresh kinds sites parts run state is_run) (suffix_all run))).bounds p j up o)
 
 -- whoever may write is up
@@ -79,7 +79,7 @@ module _ {S E D : Type 0} (w : Types S E D) (old new : Held E D) (at : PartId) (
     stands_so : (b : Bool) → is_down m.before ≡ b → (l : List (Entry E)) (x : Reaches w old l) → StandsSo w.codec w.state m.before (x.state at) b
     stands_so b e l x = subst (λ c. StandsSo w.codec w.state m.before (x.state at) c) e (stood l x)
 
-    pub waits_too : (s.state at).up ≡ true → (t : TxId) → lines.pending (lines_of run) at t ≡ true → log.pending (s.state at).log t ≡ true
+    pub waits_too : (s.state at).up ≡ true → (t : TxId) → lines.pending (shown_lines run) at t ≡ true → log.pending (s.state at).log t ≡ true
     waits_too up t h = by_down (is_down m.before) refl
       where
         by_down : (b : Bool) → is_down m.before ≡ b → log.pending (s.state at).log t ≡ true

@@ -12,7 +12,7 @@ use Rattle.world_model.specs.lines.Dependency.{HandsOwn}
 use Rattle.world_model.specs.rules.Event.{Entry}
 use Rattle.world_model.specs.commands.Fuses.{HoldsFuses}
 use Rattle.world_model.specs.lines.Lawful.{IsLawful}
-use Rattle.world_model.specs.rules.Lines.{lines_of}
+use Rattle.world_model.specs.rules.Lines.{shown_lines}
 use Rattle.world_model.specs.events.Logs.{IsLogOf}
 use Rattle.world_model.specs.rules.Partition.{PartState, new_part}
 use Rattle.world_model.specs.lines.Pending.{is_down}
@@ -42,7 +42,7 @@ use Rattle.cluster.proofs.Mere.{before_still}
 use Rattle.cluster.proofs.Standing.{live_still}
 
 module _ {S E D : Type 0} (types : Types S E D) where
-  abbrev shows : (sites parts : ℕ) (run : Run) (events : List (Entry E)) (state : PartId → PartState E) → sites ≡ sites_of run → parts ≡ parts_of run → IsWorldRun types.kinds sites parts events state → lines_of events ≡ calls_of run → HandsOwn (sites_of run) (calls_of run) → HoldsFuses run → ShowsHistory types.kinds run
+  abbrev shows : (sites parts : ℕ) (run : Run) (events : List (Entry E)) (state : PartId → PartState E) → sites ≡ sites_of run → parts ≡ parts_of run → IsWorldRun types.kinds sites parts events state → shown_lines events ≡ calls_of run → HandsOwn (sites_of run) (calls_of run) → HoldsFuses run → ShowsHistory types.kinds run
   shows sites parts run events state es ep is shown own fuses =
       let there : IsWorldRun types.kinds (sites_of run) (parts_of run) events state = subst (λ n. IsWorldRun types.kinds n (parts_of run) events state) es (subst (λ n. IsWorldRun types.kinds sites n events state) ep is) in
       let lawful : IsLawful types.kinds.too_deep types.kinds.meaning (sites_of run) (parts_of run) (calls_of run) = subst (λ ls. IsLawful types.kinds.too_deep types.kinds.meaning (sites_of run) (parts_of run) ls) shown (law_world types.kinds (sites_of run) (parts_of run) events state there).2 in

@@ -14,7 +14,7 @@ use Rattle.world_model.specs.lines.Dependency as lines
 use Rattle.world_model.specs.lines.Dependency.{HandsOwn}
 use Rattle.world_model.specs.rules.Event.{Opened}
 use Rattle.world_model.specs.lines.Lines.{Open}
-use Rattle.world_model.specs.rules.Lines.{lines_of}
+use Rattle.world_model.specs.rules.Lines.{shown_lines}
 use Rattle.world_model.specs.commands.Meeting.{site_of}
 use Rattle.world_model.specs.commands.Phases as phases
 use Rattle.world_model.specs.commands.Phases.{phase, update_total}
@@ -134,7 +134,7 @@ module _ {S E D : Type 0} (types : Types S E D) where
         next : Run
         next = (record { number = number; command = Some (command.Session name site); step = step.MadeSession name site }) ∷ run
 
-        shown : lines_of (entries later) ≡ calls_of next
+        shown : shown_lines (entries later) ≡ calls_of next
         shown = ap (λ ls. (record { at = at; call = Open; step = step.MadeSession name site }) ∷ ls) r.shown
 
         mine : StandsBy next later name s

@@ -8,7 +8,7 @@ use Rattle.world_model.specs.commands.Cluster.{is_cluster, has_cluster, sites_of
 use Rattle.world_model.specs.lines.Dependency as lines
 use Rattle.world_model.specs.lines.Dependency.{HandsOwn, IsOwnPast}
 use Rattle.world_model.specs.rules.Event.{Event}
-use Rattle.world_model.specs.rules.Lines.{call_of, step_shown, lines_of}
+use Rattle.world_model.specs.rules.Lines.{call_of, step_shown, shown_lines}
 use Rattle.world_model.specs.commands.Meeting.{site_after, count_after, session_count}
 use Rattle.world_model.proofs.Dependency.{dependency}
 use Rattle.world_model.specs.commands.Phases.{Phase, phase_after}
@@ -54,7 +54,7 @@ module _ {S E D : Type 0} (types : Types S E D) (c : LiveState E D) (run : Run) 
   lines_are : calls_of ((record { number = number; command = Some cmd; step = s }) ∷ run) ≡ (record { at = at; call = call_of e; step = step_shown (entries r.calls) at e }) ∷ calls_of run
   lines_are = asked_lines number cmd run s (step_shown (entries r.calls) at e) at (call_of e) told.alone told.answer numbers placed
 
-  shown_next : lines_of (entries later) ≡ calls_of ((record { number = number; command = Some cmd; step = s }) ∷ run)
+  shown_next : shown_lines (entries later) ≡ calls_of ((record { number = number; command = Some cmd; step = s }) ∷ run)
   shown_next = ap (λ ls. (record { at = at; call = call_of e; step = step_shown (entries r.calls) at e }) ∷ ls) r.shown ∙ sym lines_are
 
   legal : IsLegal types.kinds held.sites held.parts later

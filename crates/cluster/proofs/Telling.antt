@@ -18,7 +18,7 @@ use Rattle.world_model.specs.rules.Fate.{IsFate}
 use Rattle.world_model.specs.lines.Fate.{is_committed_at}
 use Rattle.world_model.specs.lines.History.{in_history}
 use Rattle.world_model.specs.lines.Lines.{Line}
-use Rattle.world_model.specs.rules.Lines.{lines_of}
+use Rattle.world_model.specs.rules.Lines.{shown_lines}
 use Rattle.world_model.specs.rules.Partition.{PartState, fate_of}
 use Rattle.world_model.specs.lines.Listed.{names_pending, IsIdBefore, IsBefore, IsBeforeAll, AreInOrder, AreTimed}
 use Rattle.world_model.specs.lines.Pending as lines
@@ -155,7 +155,7 @@ module _ {S E D : Type 0} (types : Types S E D) (c : LiveState E D) (run : Run) 
   of_law : (p : PartId) → Told c.sites.sites c.sites.parts (entries r.calls) r.sees.reached.state p
   of_law p = law.told types.kinds c.sites.sites c.sites.parts (entries r.calls) r.sees.reached.state r.sees.reached.is_run p
 
-  pub lead_same : (t : TxId) → lead c.sites.parts (lines_of (entries r.calls)) t ≡ lead (parts_of run) (calls_of run) t
+  pub lead_same : (t : TxId) → lead c.sites.parts (shown_lines (entries r.calls)) t ≡ lead (parts_of run) (calls_of run) t
   lead_same t = λ i. lead (r.parts i) (r.shown i) t
 
   -- what the lead tells is told by the lines

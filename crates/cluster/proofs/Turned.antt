@@ -13,7 +13,7 @@ use Rattle.world_model.specs.commands.Cluster.{has_cluster, sites_of, parts_of}
 use Rattle.world_model.specs.lines.Dependency as lines
 use Rattle.world_model.specs.lines.Dependency.{HandsOwn, IsOwnPast}
 use Rattle.world_model.specs.rules.Event.{Ask, AskBegin, AskRead, AskUpdate, AskPrepare, AskDecide, AskFinish, AskAbort, AskTake, IsDown, IsBadOp, HasGap, IsRepeat, Event, Began, Updated, Prepared, Decided, Aborted, Sent, Took, Reported, Heard, Crashed, RestartCut, Restarted, Refused, Opened, Cut, Entry, attempt, is_sent, is_report}
-use Rattle.world_model.specs.rules.Lines.{call_asked, step_shown, call_of, lines_of, session_of}
+use Rattle.world_model.specs.rules.Lines.{call_asked, step_shown, call_of, shown_lines, session_of}
 use Rattle.world_model.specs.commands.Meeting.{site_of, session_count}
 use Rattle.world_model.proofs.Dependency.{dependency_after, dependency}
 use Rattle.world_model.specs.rules.Partition.{PartState, PartStep, IsRefused}
@@ -82,7 +82,7 @@ module _ {S E D : Type 0} (types : Types S E D) (c : LiveState E D) (run : Run) 
   told : IsCallLine run line
   told = call_line run (entries r.calls) at e (told_last types held (called by at e) r.calls sees) plain
 
-  pub shown_next : lines_of (entries later) ≡ calls_of next
+  pub shown_next : shown_lines (entries later) ≡ calls_of next
   shown_next = ap (λ ls. (record { at = at; call = call_of e; step = line }) ∷ ls) r.shown ∙ sym lines_are
 
   legal : IsLegal types.kinds held.sites held.parts later

@@ -8,7 +8,7 @@ use Rattle.world_model.specs.lines.Bounds.{bound}
 use Rattle.world_model.specs.rules.Event.{Event, Entry, Took}
 use Rattle.world_model.specs.commands.Fuses.{Fuse, fuse, IsUnfired, KeepFuses}
 use Rattle.world_model.specs.lines.Lines.{Line}
-use Rattle.world_model.specs.rules.Lines.{lines_of, step_shown}
+use Rattle.world_model.specs.rules.Lines.{shown_lines, step_shown}
 use Rattle.world_model.specs.declared.step.Step.{Step}
 use Rattle.world_model.specs.lines.Restarts as restarts
 use Rattle.world_model.specs.events.Restarts.{brings}
@@ -49,7 +49,7 @@ module _ {E : Type 0} where
 
   abbrev pub AreBrought : List Line → List (Entry E) → Type 0
   AreBrought whole [] = ⊤
-  AreBrought whole (e ∷ run) = IsBrought whole (lines_of run) e.at e.event × AreBrought whole run
+  AreBrought whole (e ∷ run) = IsBrought whole (shown_lines run) e.at e.event × AreBrought whole run
 
 module _ {E D : Type 0} (state : D → DiskState) where
   -- the calls that are left of the disk of the partition at this place, where one stands there

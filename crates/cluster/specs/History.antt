@@ -7,7 +7,7 @@ use Rattle.world_model.specs.lines.Dependency.{KeepsPast}
 use Rattle.world_model.specs.rules.Event.{Entry}
 use Rattle.world_model.specs.commands.Fuses.{HoldsFuses}
 use Rattle.world_model.specs.lines.Lawful.{IsLawful}
-use Rattle.world_model.specs.rules.Lines.{lines_of}
+use Rattle.world_model.specs.rules.Lines.{shown_lines}
 use Rattle.world_model.specs.rules.Partition.{PartState}
 use Rattle.world_model.specs.commands.Run.{Run}
 use Rattle.world_model.specs.commands.ScriptCalls.{calls_of}
@@ -19,7 +19,7 @@ pub record ShowsHistory {S E : Type 0} (kinds : Kinds S E) (run : Run) : Type 0 
   pub events : List (Entry E)
   pub state : PartId → PartState E
   pub is_run : IsWorldRun kinds (sites_of run) (parts_of run) events state
-  pub shown : lines_of events ≡ calls_of run
+  pub shown : shown_lines events ≡ calls_of run
   pub lawful : IsLawful kinds.too_deep kinds.meaning (sites_of run) (parts_of run) (calls_of run)
   pub past : KeepsPast (sites_of run) (calls_of run)
   pub fuses : HoldsFuses run

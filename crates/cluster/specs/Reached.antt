@@ -5,7 +5,7 @@ use Rattle.world_model.specs.declared.step.Step.{Step}
 use Rattle.world_model.specs.commands.Answers.{answered}
 use Rattle.world_model.specs.commands.Cluster.{has_cluster, has_site, sites_of, parts_of}
 use Rattle.world_model.specs.lines.Dependency.{dependency, HandsOwn}
-use Rattle.world_model.specs.rules.Lines.{lines_of}
+use Rattle.world_model.specs.rules.Lines.{shown_lines}
 use Rattle.world_model.specs.commands.Meeting.{site_of, session_count}
 use Rattle.world_model.specs.commands.Phases as phases
 use Rattle.world_model.specs.commands.Phases.{Phase, Absent, phase, update_total}
@@ -97,7 +97,7 @@ module _ {S E D : Type 0} (types : Types S E D) where
     pub parts : c.sites.parts ≡ parts_of run
     pub calls : List (Call E)
     pub sees : Sees types c.sites calls
-    pub shown : lines_of (entries calls) ≡ calls_of run
+    pub shown : shown_lines (entries calls) ≡ calls_of run
     -- each begin was handed what its session depended on
     pub own : HandsOwn (sites_of run) (calls_of run)
     -- and the fuses in force burn on the disks

@@ -49,12 +49,12 @@ module _ {E : Type 0} where
 
   module _ {S : Type 0} (kinds : Kinds S E) (plan : Plan E) (run : List (Entry E)) where
     -- a state holds only dots that were folded
-    held_dots : (o : ObjectId) → kinds.has o.kind ≡ true → (es : List (Dot × E)) (d : Dot) → kinds.holds (folded (kinds.initial o.kind) kinds.step es) d ≡ true → list_any (λ e. same_dot e.0 d) es ≡ true
+    held_dots : (o : ObjectId) → kinds.has o.kind ≡ true → (es : List (Dot × E)) (d : Dot) → kinds.holds (folded (kinds.initial o.kind) kinds.applied es) d ≡ true → list_any (λ e. same_dot e.0 d) es ≡ true
     held_dots o known [] d h = clash h ((kinds.laws.steps o.kind known).none_held d)
     held_dots o known (e ∷ es) d h = ⊎_elim
-        (λ (k : kinds.holds (folded (kinds.initial o.kind) kinds.step es) d ≡ true). or_right _ _ (held_dots o known es d k))
+        (λ (k : kinds.holds (folded (kinds.initial o.kind) kinds.applied es) d ≡ true). or_right _ _ (held_dots o known es d k))
         (λ (k : same_dot e.0 d ≡ true). or_left _ _ k)
-        (or_cases _ _ ((kinds.laws.steps o.kind known).held (folded (kinds.initial o.kind) kinds.step es) e.0 e.1 d h))
+        (or_cases _ _ ((kinds.laws.steps o.kind known).held (folded (kinds.initial o.kind) kinds.applied es) e.0 e.1 d h))
 
     Named : TxId → Dot → Type 0
     Named t d = (sees_tx plan run (plan.snapshot t) d.tx || same_tx d.tx t) ≡ true
@@ -79,7 +79,7 @@ module _ {E : Type 0} where
         let u = update_of plan run t a in ⊎_elim
         (λ (k : reads_state o.kind ≡ true). read_dots p t o earlier m.read d (m.fold k) (held_dots o m.known (effects_from o t (effects_of o [] m.read) earlier) d (steps.named (state_read kinds o t earlier m.read) u d (ap (λ e. kinds.names e d) (sym m.effect) ∙ h))))
         (λ (k : reads_state o.kind ≡ false).
-        let same : a.change.effect ≡ kinds.made o.kind (kinds.initial o.kind) a.op.path a.op.act a.now = m.effect ∙ kinds.laws.unread o.kind (state_read kinds o t earlier m.read) (kinds.initial o.kind) a.op.path a.op.act a.now m.known k in
+        let same : a.change.effect ≡ kinds.generated o.kind (kinds.initial o.kind) a.op.path a.op.act a.now = m.effect ∙ kinds.laws.unread o.kind (state_read kinds o t earlier m.read) (kinds.initial o.kind) a.op.path a.op.act a.now m.known k in
         clash (steps.named (kinds.initial o.kind) u d (ap (λ e. kinds.names e d) (sym same) ∙ h)) (steps.none_held d))
         (cases_Bool (reads_state o.kind))
 

@@ -3,7 +3,7 @@
 use Rattle.std.proofs.Common.{◌≡◌, ◌≢◌, ⊎_elim, inl, inr, ℕ, ◌≤◌, cond, leb, ltb, Bool, true, false, not, ◌&&◌, ◌||◌, List, [], ◌∷◌, None, Some, refl, sym, subst, arith, lit≤, lit<, le_refl}
 use Rattle.std.specs.Prelude.{if◌then◌else◌, pos, map, reverse}
 use Rattle.world_model.specs.declared.step.Step.TheVariants as step
-use Rattle.world_model.specs.rules.Lines.{lines_of}
+use Rattle.world_model.specs.rules.Lines.{shown_lines}
 use Rattle.world_model.specs.lines.Fate.{is_committed_at}
 use Rattle.world_model.specs.lines.Lawful.{IsLawful}
 use Rattle.std.specs.declared.cmp.Ordering.TheVariants.{Less}
@@ -124,7 +124,7 @@ module _ {S E : Type 0} (kinds : Kinds S E) (known : kinds.has CounterPn ≡ tru
   entry_at p e = record { at = p; event = e }
 
   abbrev change : Upd E
-  change = record { object = counter; index = 1; effect = kinds.made CounterPn (kinds.initial CounterPn) [] (Increment (pos 1)) 1 }
+  change = record { object = counter; index = 1; effect = kinds.generated CounterPn (kinds.initial CounterPn) [] (Increment (pos 1)) 1 }
 
   abbrev part : Part E
   part = record { tx = first; c = vector1; updates = change ∷ [] }
@@ -558,18 +558,18 @@ module _ {S E : Type 0} (kinds : Kinds S E) (known : kinds.has CounterPn ≡ tru
   is_lawful = (law_world kinds 2 1 r12 p12 run12).0
 
   -- what was taken is committed there, where it takes no part
-  brought : is_committed_at (lines_of r12) (lines_of r12) there first ≡ true
+  brought : is_committed_at (shown_lines r12) (shown_lines r12) there first ≡ true
   brought = refl
 
   -- its lead tells how it ended
   told : fate_of (p12 here) first ≡ ToldCommitted (2 ∷ 0 ∷ [])
   told = refl
 
-  lines_are_lawful : IsLawful kinds.too_deep kinds.meaning 2 1 (lines_of r12)
+  lines_are_lawful : IsLawful kinds.too_deep kinds.meaning 2 1 (shown_lines r12)
   lines_are_lawful = (law_world kinds 2 1 r12 p12 run12).2
 
   -- what the run shows, the first line first
-  shown : reverse (map (λ l. l.step) (lines_of r12)) ≡
+  shown : reverse (map (λ l. l.step) (shown_lines r12)) ≡
       step.Began ann first snapshot1
       ∷ step.Updated ann counter (kinds.stamp_of change.effect)
       ∷ step.Prepared here first 2

@@ -9,7 +9,7 @@ use Rattle.crdt_core.specs.declared.record.Upd.{Upd}
 use Rattle.crdt_core.specs.KindsOf.{Kinds}
 use Rattle.world_model.specs.rules.Event.{Event, Entry, Began, Updated, Prepared, Aborted, Ticked, Refused, AskDecide, AskAbort, IsGone}
 use Rattle.world_model.specs.lines.Lawful.{IsLawful}
-use Rattle.world_model.specs.rules.Lines.{lines_of}
+use Rattle.world_model.specs.rules.Lines.{shown_lines}
 use Rattle.world_model.specs.rules.Partition.{PartState, done, fate_of, ToldAborted}
 use Rattle.world_model.specs.rules.World.{IsWorldRun}
 use Rattle.world_model.proofs.Names.{off}
@@ -26,13 +26,13 @@ undone = record { site = 1; part = 1; time = 12 }
 
 module _ {S E : Type 0} (kinds : Kinds S E) where
   abbrev pub change1 : Upd E
-  change1 = record { object = counter1; index = 1; effect = kinds.made CounterPn (kinds.initial CounterPn) [] more.act 10 }
+  change1 = record { object = counter1; index = 1; effect = kinds.generated CounterPn (kinds.initial CounterPn) [] more.act 10 }
 
   abbrev pub change2 : Upd E
-  change2 = record { object = counter2; index = 2; effect = kinds.made CounterPn (kinds.initial CounterPn) [] more.act 6 }
+  change2 = record { object = counter2; index = 2; effect = kinds.generated CounterPn (kinds.initial CounterPn) [] more.act 6 }
 
   abbrev pub change3 : Upd E
-  change3 = record { object = counter1; index = 1; effect = kinds.made CounterPn (kinds.initial CounterPn) [] more.act 12 }
+  change3 = record { object = counter1; index = 1; effect = kinds.generated CounterPn (kinds.initial CounterPn) [] more.act 12 }
 
   abbrev pub r0 : List (Entry E)
   r0 = r21 kinds
@@ -272,7 +272,7 @@ module _ {S E : Type 0} (kinds : Kinds S E) (has : HaveBoth kinds) where
       (refl, refl, refl)
       tt
 
-  lines_are_lawful : IsLawful kinds.too_deep kinds.meaning 2 2 (lines_of (r14 kinds))
+  lines_are_lawful : IsLawful kinds.too_deep kinds.meaning 2 2 (shown_lines (r14 kinds))
   lines_are_lawful = (law_world kinds 2 2 (r14 kinds) (p14 kinds) run14).2
 
   -- its lead tells that it is aborted
@@ -280,7 +280,7 @@ module _ {S E : Type 0} (kinds : Kinds S E) (has : HaveBoth kinds) where
   told = refl
 
   -- what the run shows after the commit, the first line first
-  shown : reverse (map (λ l. l.step) (lines_of (r14 kinds))) ≡ reverse (map (λ l. l.step) (lines_of (r0 kinds))) ++
+  shown : reverse (map (λ l. l.step) (shown_lines (r14 kinds))) ≡ reverse (map (λ l. l.step) (shown_lines (r0 kinds))) ++
       (step.Began ben dropped (10 ∷ 0 ∷ [])
       ∷ step.Updated ben counter1 (kinds.stamp_of (change1 kinds).effect)
       ∷ step.Updated ben counter2 (kinds.stamp_of (change2 kinds).effect)

@@ -21,7 +21,7 @@ use Rattle.crdt_core.specs.Orders.{pending_cmp}
 use Rattle.crdt_core.specs.Parts.{touches}
 use Rattle.world_model.specs.rules.Event.{Event, Entry, Began, Updated, Read, Prepared, Decided, Finished, Ticked, Refused, Opened, AskRead, AskUpdate, AskPrepare, AskDecide, ClockBehind, TxPending, HasNoRoom, voted}
 use Rattle.world_model.specs.lines.Lawful.{IsLawful}
-use Rattle.world_model.specs.rules.Lines.{lines_of}
+use Rattle.world_model.specs.rules.Lines.{shown_lines}
 use Rattle.world_model.specs.rules.Partition.{PartState, new_part, done}
 use Rattle.world_model.specs.rules.Plan.{takes_part}
 use Rattle.world_model.specs.rules.World.{plan_of, is_own, IsWorldRun}
@@ -42,13 +42,13 @@ later = record { site = 1; part = 1; time = 4 }
 
 module _ {S E : Type 0} (kinds : Kinds S E) where
   abbrev pub change1 : Upd E
-  change1 = record { object = counter1; index = 1; effect = kinds.made CounterPn (kinds.initial CounterPn) [] more.act 1 }
+  change1 = record { object = counter1; index = 1; effect = kinds.generated CounterPn (kinds.initial CounterPn) [] more.act 1 }
 
   abbrev pub change2 : Upd E
-  change2 = record { object = flag1; index = 2; effect = kinds.made FlagEw (kinds.initial FlagEw) [] on.act 1 }
+  change2 = record { object = flag1; index = 2; effect = kinds.generated FlagEw (kinds.initial FlagEw) [] on.act 1 }
 
   abbrev pub change3 : Upd E
-  change3 = record { object = counter2; index = 3; effect = kinds.made CounterPn (kinds.initial CounterPn) [] more.act 0 }
+  change3 = record { object = counter2; index = 3; effect = kinds.generated CounterPn (kinds.initial CounterPn) [] more.act 0 }
 
   abbrev pub part1 : Part E
   part1 = record { tx = both; c = 6 ∷ 0 ∷ []; updates = change1 ∷ change2 ∷ [] }
@@ -422,18 +422,18 @@ module _ {S E : Type 0} (kinds : Kinds S E) (has : HaveBoth kinds) where
       (refl, (record { clock = lit≤ tt; free = λ u h. clash h (none_left (same_tx both u)) }, record { order = (tt, tt); members = λ u. seen_here (same_tx both u); exact = ((refl, refl), tt) }, has.counters, refl), refl)
       tt
 
-  lines_are_lawful : IsLawful kinds.too_deep kinds.meaning 2 2 (lines_of (r21 kinds))
+  lines_are_lawful : IsLawful kinds.too_deep kinds.meaning 2 2 (shown_lines (r21 kinds))
   lines_are_lawful = (law_world kinds 2 2 (r21 kinds) (p21 kinds) run21).2
 
   -- each begin was handed what its session depends on, so each snapshot holds its past
-  pub own_past : HandsOwn 2 (lines_of (r21 kinds))
+  pub own_past : HandsOwn 2 (shown_lines (r21 kinds))
   own_past = (tt, (tt, (tt, (refl, (tt, (tt, (tt, (tt, (tt, (refl, (tt, (tt, (tt, (tt, (tt, (tt, (tt, (tt, (tt, (tt, (refl, tt)))))))))))))))))))))
 
-  past_is_kept : KeepsPast 2 (lines_of (r21 kinds))
+  past_is_kept : KeepsPast 2 (shown_lines (r21 kinds))
   past_is_kept = lines_are_lawful.past own_past
 
   -- what the run shows, the first line first
-  shown : reverse (map (λ l. l.step) (lines_of (r21 kinds))) ≡
+  shown : reverse (map (λ l. l.step) (shown_lines (r21 kinds))) ≡
       step.Began ann both (1 ∷ 0 ∷ [])
       ∷ step.Updated ann counter1 (kinds.stamp_of (change1 kinds).effect)
       ∷ step.Updated ann flag1 (kinds.stamp_of (change2 kinds).effect)

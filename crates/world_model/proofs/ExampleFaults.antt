@@ -13,7 +13,7 @@ use Rattle.crdt_core.specs.declared.record.Record.TheVariants.{Prepare}
 use Rattle.crdt_core.specs.KindsOf.{Kinds}
 use Rattle.world_model.specs.rules.Event.{Event, Entry, Began, Updated, Prepared, Aborted, Sent, Crashed, RestartCut, Restarted, Refused, Cut, AskReport, IsDown}
 use Rattle.world_model.specs.lines.Lawful.{IsLawful}
-use Rattle.world_model.specs.rules.Lines.{lines_of}
+use Rattle.world_model.specs.rules.Lines.{shown_lines}
 use Rattle.world_model.specs.rules.Partition.{PartState, new_part, done, cut, down}
 use Rattle.world_model.specs.rules.World.{IsWorldRun}
 use Rattle.world_model.proofs.Names.{off}
@@ -28,7 +28,7 @@ torn = record { site = 1; part = 1; time = 3 }
 
 module _ {S E : Type 0} (kinds : Kinds S E) where
   abbrev pub change : Upd E
-  change = record { object = counter1; index = 1; effect = kinds.made CounterPn (kinds.initial CounterPn) [] more.act 3 }
+  change = record { object = counter1; index = 1; effect = kinds.generated CounterPn (kinds.initial CounterPn) [] more.act 3 }
 
   abbrev pub message : Message E
   message = record { from = 1; to = 2; part = 1; lo = 0; hi = 1; parts = [] }
@@ -259,11 +259,11 @@ module _ {S E : Type 0} (kinds : Kinds S E) (has : HaveBoth kinds) where
       })
       tt
 
-  lines_are_lawful : IsLawful kinds.too_deep kinds.meaning 2 2 (lines_of (r10 kinds))
+  lines_are_lawful : IsLawful kinds.too_deep kinds.meaning 2 2 (shown_lines (r10 kinds))
   lines_are_lawful = (law_world kinds 2 2 (r10 kinds) (p10 kinds) run10).2
 
   -- what the run shows after the first vote, the first line first
-  shown : reverse (map (λ l. l.step) (lines_of (r10 kinds))) ≡ reverse (map (λ l. l.step) (lines_of (r0 kinds))) ++
+  shown : reverse (map (λ l. l.step) (shown_lines (r10 kinds))) ≡ reverse (map (λ l. l.step) (shown_lines (r0 kinds))) ++
       (step.Began ben torn (3 ∷ 0 ∷ [])
       ∷ step.Updated ben counter1 (kinds.stamp_of (change kinds).effect)
       ∷ step.Disk here1

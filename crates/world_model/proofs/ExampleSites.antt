@@ -17,7 +17,7 @@ use Rattle.crdt_core.specs.Log.{end_of_time}
 use Rattle.crdt_core.specs.Parts.{touches}
 use Rattle.world_model.specs.rules.Event.{Event, Entry, Began, Updated, Read, Ticked, Sent, Took, Reported, Heard, Refused, AskBegin, AskPrepare, AskTake, StableBehind, ClockAtEnd, HasGap, IsRepeat, sent_count, report_count}
 use Rattle.world_model.specs.lines.Lawful.{IsLawful}
-use Rattle.world_model.specs.rules.Lines.{lines_of}
+use Rattle.world_model.specs.rules.Lines.{shown_lines}
 use Rattle.world_model.specs.rules.Partition.{PartState, done}
 use Rattle.world_model.specs.rules.World.{IsWorldRun}
 use Rattle.world_model.proofs.Names.{clash, off}
@@ -52,7 +52,7 @@ module _ {S E : Type 0} (kinds : Kinds S E) where
   seen_there = kinds.value_of (state_read kinds counter1 moved [] (part1 kinds ∷ []))
 
   abbrev pub change4 : Upd E
-  change4 = record { object = counter2; index = 1; effect = kinds.made CounterPn (kinds.initial CounterPn) [] more.act 0 }
+  change4 = record { object = counter2; index = 1; effect = kinds.generated CounterPn (kinds.initial CounterPn) [] more.act 0 }
 
   abbrev pub r0 : List (Entry E)
   r0 = r21 kinds
@@ -341,18 +341,18 @@ module _ {S E : Type 0} (kinds : Kinds S E) (has : HaveBoth kinds) where
       ((refl, (at_first _ (lit≤ tt), refl)), refl)
       tt
 
-  lines_are_lawful : IsLawful kinds.too_deep kinds.meaning 2 2 (lines_of (r16 kinds))
+  lines_are_lawful : IsLawful kinds.too_deep kinds.meaning 2 2 (shown_lines (r16 kinds))
   lines_are_lawful = (law_world kinds 2 2 (r16 kinds) (p16 kinds) run16).2
 
   -- each begin was handed what its session depends on, so each snapshot holds its past, also that of the session which moved
-  own : HandsOwn 2 (lines_of (r16 kinds))
+  own : HandsOwn 2 (shown_lines (r16 kinds))
   own = (refl, (tt, (tt, (tt, (tt, (refl, (tt, (tt, (tt, (tt, (refl, (tt, (tt, (tt, (tt, (tt, own_past kinds has))))))))))))))))
 
-  past_is_kept : KeepsPast 2 (lines_of (r16 kinds))
+  past_is_kept : KeepsPast 2 (shown_lines (r16 kinds))
   past_is_kept = lines_are_lawful.past own
 
   -- what the run shows after the commit, the first line first
-  shown : reverse (map (λ l. l.step) (lines_of (r16 kinds))) ≡ reverse (map (λ l. l.step) (lines_of (r0 kinds))) ++
+  shown : reverse (map (λ l. l.step) (shown_lines (r16 kinds))) ≡ reverse (map (λ l. l.step) (shown_lines (r0 kinds))) ++
       (step.Sent 1 here1 2 0 9 1
       ∷ step.Sent 2 here1 2 9 9 0
       ∷ step.Gap 2 0

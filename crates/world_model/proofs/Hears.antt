@@ -1,5 +1,5 @@
 -- The events of a run show what each partition that is up has heard, so each begin's snapshot is fresh.
-use Rattle.std.proofs.Common.{◌≡◌, ◌≢◌, ⊎_elim, ℕ, zero, suc, ◌-◌, ◌≤◌, max, cond, true, false, List, [], ◌∷◌, length, refl, sym, ap, ◌∙◌, subst, subst₂, arith, le_trans}
+use Rattle.std.proofs.Common.{◌≡◌, ◌≢◌, ⊎_elim, ℕ, zero, suc, ◌-◌, ◌<◌, ◌≤◌, max, cond, true, false, List, [], ◌∷◌, length, refl, sym, ap, ◌∙◌, subst, subst₂, arith, le_trans}
 use Rattle.std.specs.Prelude.{⊤, ◌==◌, replicate, slice_index, slice_set}
 use Rattle.std.proofs.lemmas.Bool.{cases_Bool, cond-true, cond-false, eqb-true, eq-eqb}
 use Rattle.std.proofs.lemmas.List.{length-replicate, length-set, get_or-replicate, get_or-set_same, get_or-set_other}
@@ -8,7 +8,7 @@ use Rattle.site_vector.specs.Ids.{same_part}
 use Rattle.site_vector.specs.Order.{same_part_refl}
 use Rattle.site_vector.specs.Vector.{entry, join}
 use Rattle.site_vector.specs.VectorLaws.{length_join}
-use Rattle.world_model.specs.rules.Event.{AskBegin, StableBehind, ClockAtEnd, Event, Ticked, Began, Updated, Read, Prepared, Decided, Finished, Aborted, Sent, Took, Reported, Heard, Crashed, RestartCut, Restarted, Refused, Opened, Cut, Entry, attempt, report_count, EventsAre}
+use Rattle.world_model.specs.rules.Event.{AskBegin, StableBehind, ClockAtEnd, Event, Ticked, Began, Updated, Read, Prepared, Decided, Finished, Aborted, Sent, Took, Reported, Heard, Crashed, RestartCut, Restarted, Refused, Opened, Cut, Entry, attempt, report_count, shown, EventsAre}
 use Rattle.crdt_core.specs.KindsOf.{Kinds}
 use Rattle.site_vector.specs.Known.{vector_of}
 use Rattle.world_model.specs.rules.Partition.{PartState, known, stable_entry, new_part, done, PartStep}
@@ -17,7 +17,9 @@ use Rattle.site_vector.specs.Known.{lowest}
 use Rattle.world_model.specs.rules.Plan.{Plan, IsAllowed}
 use Rattle.world_model.proofs.Runs.{IsRun}
 use Rattle.world_model.specs.events.Bounds.{bound_shown}
-use Rattle.world_model.specs.events.Fresh.{heard_from, heard_shown, known_shown, IsStableAt, IsFreshAt, AreFresh}
+use Rattle.world_model.specs.events.Fresh.{heard_from, heard_shown, known_shown, IsStable, IsFreshAt, AreFresh}
+use Rattle.world_model.specs.events.Pending.{pending_shown, pending_time}
+use Rattle.world_model.specs.lines.Listed.{IsBoundBy}
 use Rattle.world_model.specs.lines.Bounds.{IsLeast}
 use Rattle.world_model.proofs.Names.{clash, part_cases, part_other, lowest_below, lowest_reached}
 use Rattle.world_model.proofs.Intervals.{numbered_shown, shown_has}
@@ -157,16 +159,21 @@ module _ {E : Type 0} where
     stable_low w up j o q a b = subst (λ x. stable_entry plan.parts at (before at) j ≤ x) (known_is w up j o q a b) (lowest_below (known at (before at) j) plan.parts q a b)
 
     -- what is told once a report was heard
-    stable_told : (number k : ℕ) (b stable : List ℕ) → 1 ≤ plan.parts → Fate plan run before → Leases run before → Shown plan run before → IsAllowed plan run before at (Heard number k b stable) → PartStep kinds plan.sites plan.parts at (before at) (Heard number k b stable) (after at) → IsStableAt plan run at (λ q j. heard_from {E = E} q j (heard_shown run at q j) (Heard number k b stable)) stable
+    stable_told : (number k : ℕ) (b stable : List ℕ) → 1 ≤ plan.parts → Fate plan run before → Leases run before → Shown plan run before → IsAllowed plan run before at (Heard number k b stable) → PartStep kinds plan.sites plan.parts at (before at) (Heard number k b stable) (after at) → IsStable plan ((record { at = at; event = Heard number k b stable }) ∷ run) at stable
     stable_told number k b stable some f l w al st =
+        let heard : Event E = Heard number k b stable in
+        let next : List (Entry E) = (record { at = at; event = heard }) ∷ run in
+        let here : same_part at at ≡ true = same_part_refl at in
         let x = new_heard number k b stable al st in
-        let same : (q j : ℕ) → 1 ≤ q → q ≤ plan.parts → entry (vector_of (done (before at) (Heard number k b stable)).heard q) j ≡ heard_from {E = E} q j (heard_shown run at q j) (Heard number k b stable) = λ q j a c. sym (ap (λ p. entry (vector_of p.heard q) j) st.2) ∙ x.told q j (ap (λ p. p.up) st.2) a c in record {
+        let same : (q j : ℕ) → 1 ≤ q → q ≤ plan.parts → entry (vector_of (done (before at) heard).heard q) j ≡ heard_shown next at q j = λ q j a c. sym (ap (λ p. entry (vector_of p.heard q) j) st.2) ∙ x.told q j (ap (λ p. p.up) st.2) a c ∙ sym (cond-true _ _ _ here) in
+        let ends : (j : ℕ) → IsOther plan.sites at.site j → entry (before at).bounds j ≡ bound_shown next at j = λ j o. w.bounds at j st.0 o ∙ sym (cond-true _ _ _ here) in
+        let own = own_bound kinds plan run before after at f w st.0 l st.1.own.0 st.1.own.1 in record {
           width = st.1.width;
-          others = λ j o. least_is (known at (done (before at) (Heard number k b stable)) j) (λ q. cond (at.part == q) (bound_shown run at j) (heard_from {E = E} q j (heard_shown run at q j) (Heard number k b stable))) plan.parts (entry stable j) some (λ q a c. λ i. cond (at.part == q) (w.bounds at j st.0 o i) (same q j a c i)) (st.1.others j o);
+          others = λ j o. least_is (known at (done (before at) heard) j) (known_shown next at j) plan.parts (entry stable j) some (λ q a c. λ i. cond (at.part == q) (ends j o i) (same q j a c i)) (st.1.others j o);
           own = (
             st.1.own.0,
-            own_bound kinds plan run before after at f w st.0 l st.1.own.0 st.1.own.1,
-            least_is (λ q. cond (at.part == q) st.1.own.0 (entry (vector_of (done (before at) (Heard number k b stable)).heard q) at.site)) (λ q. cond (at.part == q) st.1.own.0 (heard_from {E = E} q at.site (heard_shown run at q at.site) (Heard number k b stable))) plan.parts (entry stable at.site) some (λ q a c. λ i. cond (at.part == q) st.1.own.0 (same q at.site a c i)) st.1.own.2,
+            subst (λ s. IsBoundBy (cond s (shown run at) (shown run at)) (λ u. cond s (pending_shown run at u) (pending_shown run at u)) (λ u. cond s (pending_time run at u) (pending_time run at u)) st.1.own.0) (sym here) own,
+            least_is (λ q. cond (at.part == q) st.1.own.0 (entry (vector_of (done (before at) heard).heard q) at.site)) (λ q. cond (at.part == q) st.1.own.0 (heard_shown next at q at.site)) plan.parts (entry stable at.site) some (λ q a c. λ i. cond (at.part == q) st.1.own.0 (same q at.site a c i)) st.1.own.2,
           );
         }
 
@@ -174,12 +181,16 @@ module _ {E : Type 0} where
     fresh_event (Began who dep t s) some f l w al st = record { width = st.1.width; own = st.1.own; others = λ j o. least_is (known at (before at) j) (known_shown run at j) plan.parts (entry s j) some (known_is w st.0 j o) (st.1.stable j o) }
     fresh_event (Heard number k b stable) some f l w al st = stable_told number k b stable some f l w al st
     fresh_event (Refused (AskBegin who dep) ClockAtEnd) some f lease w al st = λ j q o a b. le_trans (st.0.1.0 j o) (stable_low w st.0.0 j o q a b)
-    fresh_event (Refused (AskBegin who dep) (StableBehind j n)) some f lease w al st = record {
-      other = st.0.1.other;
-      have = least_is (known at (before at) j) (known_shown run at j) plan.parts n some (known_is w st.0.0 j st.0.1.other) st.0.1.have;
-      behind = st.0.1.behind;
-      least = λ i q o a b l. st.0.1.least i o (let k = stable_low w st.0.0 i o q a b in omega arith);
-    }
+    fresh_event (Refused (AskBegin who dep) (StableBehind j n)) some f lease w al st =
+        let have = least_is (known at (before at) j) (known_shown run at j) plan.parts n some (known_is w st.0.0 j st.0.1.other) st.0.1.have in
+        let r = have.reached in (
+          record {
+            other = st.0.1.other;
+            behind = (r.0, r.1, r.2, subst (λ x. x < entry dep j) r.3 st.0.1.behind);
+            least = λ i o x. st.0.1.least i o (let k = stable_low w st.0.0 i o x.0 x.1 x.2 in let y = x.3 in omega arith);
+          },
+          have,
+        )
     fresh_event event some f l w al st = tt
 
   hears_start : (plan : Plan E) (parts : PartId → PartState E) → ((p : PartId) → parts p ≡ new_part plan.sites plan.parts) → Hears plan [] parts

@@ -27,7 +27,8 @@ use Rattle.crdt_core.specs.Orders.{Ascends, fold_cmp}
 use Rattle.crdt_core.specs.Parts.{AreParts}
 use Rattle.crdt_core.specs.Folds.{effects_from, effects_of, state_read}
 use Rattle.world_model.specs.rules.Plan.{Plan, changes_at, commit_vector}
-use Rattle.world_model.specs.events.Reads.{sees_tx, IsRightFold, Asked, has_seen, update_of, updates_from}
+use Rattle.world_model.specs.lines.Reads.{has_seen}
+use Rattle.world_model.specs.events.Reads.{sees_tx, IsRightFold, Asked, update_of, updates_from}
 use Rattle.world_model.proofs.Names.{clash, le_at, entry_same}
 use Rattle.world_model.proofs.Folds.{sum_le, sum_raised, before, before_sum, one_fold, filter_parts, filter_ascends, filter_lists}
 
@@ -108,7 +109,7 @@ module _ {E : Type 0} where
     pub stamped : a.stamp ≡ kinds.stamp_of a.change.effect
     pub read : List (Part E)
     pub fold : reads_state a.change.object.kind ≡ true → IsRightFold plan run p (plan.snapshot t) a.change.object read
-    pub effect : a.change.effect ≡ kinds.made a.change.object.kind (state_read kinds a.change.object t earlier read) a.op.path a.op.act a.now
+    pub effect : a.change.effect ≡ kinds.generated a.change.object.kind (state_read kinds a.change.object t earlier read) a.op.path a.op.act a.now
     pub above : (n : ℕ) → has_index earlier n ≡ true → n < a.change.index
 
   abbrev pub AreMade : {S : Type 0} → Kinds S E → Plan E → List (Entry E) → PartId → TxId → List (Upd E) → List (Asked E) → Type 0
@@ -136,7 +137,7 @@ module _ {E : Type 0} where
 
     module _ (p : PartId) (o : ObjectId) where
       abbrev make : S → Update → E
-      make = made_by kinds.made o.kind
+      make = made_by kinds.generated o.kind
 
       -- what was folded before the updates of t
       pub record Ready (done : List (Part E)) (t : TxId) : Type 0 where
@@ -148,15 +149,15 @@ module _ {E : Type 0} where
         pub later : (w : TxId) → lists done w ≡ true → sees_tx plan run (plan.snapshot w) t ≡ false
 
       pub record IsOld (done : List (Part E)) (t : TxId) (earlier : List (Upd E)) (v : Update) : Type 0 where
-        pub saw : (d : Dot) → v.saw d ≡ has_seen plan run v.dot.tx v.dot.index d
+        pub saw : (d : Dot) → v.saw d ≡ has_seen (sees_tx plan run (plan.snapshot v.dot.tx)) v.dot.tx v.dot.index d
         pub place : (lists done v.dot.tx ≡ true) ⊎ ((v.dot.tx ≡ t) × (has_index earlier v.dot.index ≡ true))
 
       -- the updates so far, and the effects that are stored
       pub record Told (done : List (Part E)) (t : TxId) (earlier : List (Upd E)) (h : List Update) : Type 0 where
         pub history : IsHistory h
-        pub stored : effects (kinds.initial o.kind) kinds.step make h ≡ effects_from o t (effects_of o [] done) earlier
+        pub stored : effects (kinds.initial o.kind) kinds.applied make h ≡ effects_from o t (effects_of o [] done) earlier
         pub fit : all_fit kinds.too_deep o.kind h ≡ true
-        pub stamps : IsStamped (kinds.initial o.kind) kinds.step make kinds.stamp_of h
+        pub stamps : IsStamped (kinds.initial o.kind) kinds.applied make kinds.stamp_of h
         pub old : EachUpdate (IsOld done t earlier) h
 
       module _ (done : List (Part E)) (t : TxId) (earlier : List (Upd E)) (r : Ready done t) (a : Asked E) (above : (n : ℕ) → has_index earlier n ≡ true → n < a.change.index) where
@@ -235,15 +236,15 @@ module _ {E : Type 0} where
                 (cases_Bool (lists done w))
 
         -- so its effect is the one that is stored
-        pub effect_is : IsMade kinds plan run p t earlier a → a.change.object ≡ o → (h : List Update) → Told done t earlier h → effect_after (kinds.initial o.kind) kinds.step make h u ≡ a.change.effect
+        pub effect_is : IsMade kinds plan run p t earlier a → a.change.object ≡ o → (h : List Update) → Told done t earlier h → effect_after (kinds.initial o.kind) kinds.applied make h u ≡ a.change.effect
         effect_is m e h x =
             let known = subst (λ y. kinds.has y.kind ≡ true) e m.known in
-            let stored : a.change.effect ≡ kinds.made o.kind (state_read kinds o t earlier m.read) a.op.path a.op.act a.now = subst (λ y. a.change.effect ≡ kinds.made y.kind (state_read kinds y t earlier m.read) a.op.path a.op.act a.now) e m.effect in
-            let found : seen_by u (effects (kinds.initial o.kind) kinds.step make h) ≡ effects_from o t (effects_of o [] (filter (λ y. sees_tx plan run (plan.snapshot t) y.tx) done)) earlier = ap (filter (λ y. sees u y.0)) x.stored ∙ seen_effects in ⊎_elim
+            let stored : a.change.effect ≡ kinds.generated o.kind (state_read kinds o t earlier m.read) a.op.path a.op.act a.now = subst (λ y. a.change.effect ≡ kinds.generated y.kind (state_read kinds y t earlier m.read) a.op.path a.op.act a.now) e m.effect in
+            let found : seen_by u (effects (kinds.initial o.kind) kinds.applied make h) ≡ effects_from o t (effects_of o [] (filter (λ y. sees_tx plan run (plan.snapshot t) y.tx) done)) earlier = ap (filter (λ y. sees u y.0)) x.stored ∙ seen_effects in ⊎_elim
             (λ (k : reads_state o.kind ≡ true).
             let f : IsRightFold plan run p (plan.snapshot t) o m.read = subst (λ y. reads_state y.kind ≡ true → IsRightFold plan run p (plan.snapshot t) y m.read) e m.fold k in
-            ap (λ l. make (folded (kinds.initial o.kind) kinds.step l) u) (found ∙ ap (λ l. effects_from o t (effects_of o [] l) earlier) (read_is m.read f)) ∙ sym stored)
-            (λ (k : reads_state o.kind ≡ false). kinds.laws.unread o.kind (folded (kinds.initial o.kind) kinds.step (seen_by u (effects (kinds.initial o.kind) kinds.step make h))) (state_read kinds o t earlier m.read) a.op.path a.op.act a.now known k ∙ sym stored)
+            ap (λ l. make (folded (kinds.initial o.kind) kinds.applied l) u) (found ∙ ap (λ l. effects_from o t (effects_of o [] l) earlier) (read_is m.read f)) ∙ sym stored)
+            (λ (k : reads_state o.kind ≡ false). kinds.laws.unread o.kind (folded (kinds.initial o.kind) kinds.applied (seen_by u (effects (kinds.initial o.kind) kinds.applied make h))) (state_read kinds o t earlier m.read) a.op.path a.op.act a.now known k ∙ sym stored)
             (cases_Bool (reads_state o.kind))
 
         pub told_more : IsMade kinds plan run p t earlier a → a.change.object ≡ o → (h : List Update) → Told done t earlier h → Told done t (earlier ++ a.change ∷ []) (u ∷ h)

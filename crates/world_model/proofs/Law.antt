@@ -22,7 +22,7 @@ use Rattle.world_model.specs.events.Handed.{HandedAt, AreHanded}
 use Rattle.world_model.specs.rules.World.{is_begin, begin_vector, begun, snapshot_of, plan_of, IsWorldRun}
 use Rattle.world_model.specs.events.Lawful.{IsLawfulWorld}
 use Rattle.world_model.specs.events.Logs.{LeavesLogs}
-use Rattle.world_model.specs.rules.Lines.{lines_of}
+use Rattle.world_model.specs.rules.Lines.{shown_lines}
 use Rattle.world_model.specs.rules.Fate.{TellFates}
 use Rattle.world_model.specs.lines.Lawful.{IsLawful}
 use Rattle.world_model.proofs.Names.{off}
@@ -180,7 +180,7 @@ module _ {E : Type 0} where
         lead = λ t q h a b. least_first t.site 1 parts (home t) q (λ p. takes_part plan t p) (plan.at_home t q h) a (omega arith) h;
       }
 
-  pub law_world : {S : Type 0} (kinds : Kinds S E) (sites parts : ℕ) (run : List (Entry E)) (state : PartId → PartState E) → IsWorldRun kinds sites parts run state → IsLawfulWorld kinds (plan_of sites parts run) run × LeavesLogs (plan_of sites parts run) run state × IsLawful kinds.too_deep kinds.meaning sites parts (lines_of run) × TellFates parts (lines_of run) state
+  pub law_world : {S : Type 0} (kinds : Kinds S E) (sites parts : ℕ) (run : List (Entry E)) (state : PartId → PartState E) → IsWorldRun kinds sites parts run state → IsLawfulWorld kinds (plan_of sites parts run) run × LeavesLogs (plan_of sites parts run) run state × IsLawful kinds.too_deep kinds.meaning sites parts (shown_lines run) × TellFates parts (shown_lines run) state
   law_world kinds sites parts run state r =
       let plan = plan_of sites parts run in
       let under = fits kinds sites parts run state r run (all_fresh kinds sites parts run state r) (suffix_all run) in

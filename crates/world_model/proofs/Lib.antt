@@ -53,3 +53,5 @@ pub mod Settles
 pub mod PastJoins
 pub mod Runs
 pub mod Dependency
+pub mod Order
+pub mod Ends

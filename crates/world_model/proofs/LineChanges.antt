@@ -18,7 +18,7 @@ use Rattle.world_model.specs.rules.Plan.{Plan, is_some_update, change_by, update
 use Rattle.world_model.specs.lines.Places.{first_of, home, partitions}
 use Rattle.world_model.specs.events.Handed.{HandedAt, AreHanded, AreNew}
 use Rattle.world_model.specs.events.Reads.{Asked, asked_by, asked_at}
-use Rattle.world_model.specs.rules.Lines.{call_of, step_shown, lines_of}
+use Rattle.world_model.specs.rules.Lines.{call_of, step_shown, shown_lines}
 use Rattle.world_model.specs.lines.Clock.{now}
 use Rattle.world_model.specs.lines.Updates.{Change, change_of, changes, takes_part, touches, lead}
 use Rattle.world_model.proofs.Stories.{asked_changes}
@@ -72,28 +72,28 @@ module _ {E : Type 0} where
   one_count run p time index (Cut a) t = refl
   one_count run p time index event t = refl
 
-  pub count_is : (run : List (Entry E)) (t : TxId) → length (changes (lines_of run) t) ≡ update_count run t
+  pub count_is : (run : List (Entry E)) (t : TxId) → length (changes (shown_lines run) t) ≡ update_count run t
   count_is [] t = refl
   count_is (e ∷ run) t =
-      let index = length (changes (lines_of run) t) + 1 in
-      length-append (changes (lines_of run) t) (change_of e.at (now (lines_of run) e.at) index (call_of e.event) (step_shown run e.at e.event) t)
-      ∙ (λ i. count_is run t i + one_count run e.at (now (lines_of run) e.at) index e.event t i)
+      let index = length (changes (shown_lines run) t) + 1 in
+      length-append (changes (shown_lines run) t) (change_of e.at (now (shown_lines run) e.at) index (call_of e.event) (step_shown run e.at e.event) t)
+      ∙ (λ i. count_is run t i + one_count run e.at (now (shown_lines run) e.at) index e.event t i)
 
-  piece_same : (run : List (Entry E)) (at p : PartId) (t u : TxId) (o : ObjectId) (x : Upd E) (a : Asked E) → a.change ≡ x → a.now ≡ shown run at → x.object ≡ o → x.index ≡ update_count run u + 1 → same_tx u t ≡ true → filter (λ c. same_part c.at p) ((record { at = at; now = now (lines_of run) at; object = o; op = a.op; stamp = a.stamp; index = length (changes (lines_of run) t) + 1 }) ∷ []) ≡ map (to_change p) (cond (same_part at p) (a ∷ []) [])
+  piece_same : (run : List (Entry E)) (at p : PartId) (t u : TxId) (o : ObjectId) (x : Upd E) (a : Asked E) → a.change ≡ x → a.now ≡ shown run at → x.object ≡ o → x.index ≡ update_count run u + 1 → same_tx u t ≡ true → filter (λ c. same_part c.at p) ((record { at = at; now = now (shown_lines run) at; object = o; op = a.op; stamp = a.stamp; index = length (changes (shown_lines run) t) + 1 }) ∷ []) ≡ map (to_change p) (cond (same_part at p) (a ∷ []) [])
   piece_same run at p t u o x a c n e k h = ⊎_elim
       (λ (y : same_part at p ≡ true).
       let s = same_part_is at p y in
-      let index : length (changes (lines_of run) t) + 1 ≡ a.change.index = ap (λ m. m + 1) (count_is run t ∙ ap (update_count run) (sym (same_tx_is u t h))) ∙ sym k ∙ ap (λ w. w.index) (sym c) in
+      let index : length (changes (shown_lines run) t) + 1 ≡ a.change.index = ap (λ m. m + 1) (count_is run t ∙ ap (update_count run) (sym (same_tx_is u t h))) ∙ sym k ∙ ap (λ w. w.index) (sym c) in
       let object : o ≡ a.change.object = sym e ∙ ap (λ w. w.object) (sym c) in
-      let time : now (lines_of run) at ≡ a.now = now_is run at ∙ sym n in
+      let time : now (shown_lines run) at ≡ a.now = now_is run at ∙ sym n in
       cond-true _ _ _ y ∙ (λ i. (record { at = s i; now = time i; object = object i; op = a.op; stamp = a.stamp; index = index i }) ∷ []) ∙ ap (map (to_change p)) (sym (cond-true _ (a ∷ []) [] y)))
       (λ (y : same_part at p ≡ false). cond-false _ _ _ y ∙ ap (map (to_change p)) (sym (cond-false _ (a ∷ []) [] y)))
       (cases_Bool (same_part at p))
 
-  piece : (plan : Plan E) (run : List (Entry E)) (at p : PartId) (event : Event E) (t : TxId) → HandedAt plan run at event → IsNew run event → filter (λ c. same_part c.at p) (change_of at (now (lines_of run) at) (length (changes (lines_of run) t) + 1) (call_of event) (step_shown run at event) t) ≡ map (to_change p) (cond (same_part at p) (asked_by (shown run at) event t) [])
+  piece : (plan : Plan E) (run : List (Entry E)) (at p : PartId) (event : Event E) (t : TxId) → HandedAt plan run at event → IsNew run event → filter (λ c. same_part c.at p) (change_of at (now (shown_lines run) at) (length (changes (shown_lines run) t) + 1) (call_of event) (step_shown run at event) t) ≡ map (to_change p) (cond (same_part at p) (asked_by (shown run at) event t) [])
   piece plan run at p (Updated u s o own op read x stamp) t h n =
       let a : Asked E = record { change = x; op = op; stamp = stamp; now = shown run at } in
-      let l : Change = record { at = at; now = now (lines_of run) at; object = o; op = op; stamp = stamp; index = length (changes (lines_of run) t) + 1 } in ⊎_elim
+      let l : Change = record { at = at; now = now (shown_lines run) at; object = o; op = op; stamp = stamp; index = length (changes (shown_lines run) t) + 1 } in ⊎_elim
       (λ (k : same_tx u t ≡ true). ap (filter (λ c. same_part c.at p)) (cond-true _ (l ∷ []) [] k) ∙ piece_same run at p t u o x a refl refl h.1 n.number k ∙ ap (λ xs. map (to_change p) (cond (same_part at p) xs [])) (sym (cond-true _ (a ∷ []) [] k)))
       (λ (k : same_tx u t ≡ false). ap (filter (λ c. same_part c.at p)) (cond-false _ (l ∷ []) [] k) ∙ sym (map_none (to_change p) (same_part at p)) ∙ ap (λ xs. map (to_change p) (cond (same_part at p) xs [])) (sym (cond-false _ (a ∷ []) [] k)))
       (cases_Bool (same_tx u t))
@@ -110,11 +110,11 @@ module _ {E : Type 0} where
       (cases_Bool (same_part at p))
 
   -- the changes at a partition are what was asked there
-  pub changes_there : (plan : Plan E) (run : List (Entry E)) → AreHanded plan run → AreNew run → (t : TxId) (p : PartId) → filter (λ c. same_part c.at p) (changes (lines_of run) t) ≡ map (to_change p) (asked_at run t p)
+  pub changes_there : (plan : Plan E) (run : List (Entry E)) → AreHanded plan run → AreNew run → (t : TxId) (p : PartId) → filter (λ c. same_part c.at p) (changes (shown_lines run) t) ≡ map (to_change p) (asked_at run t p)
   changes_there plan [] h n t p = refl
   changes_there plan (e ∷ run) h n t p =
-      let index = length (changes (lines_of run) t) + 1 in
-      filter-append (λ c. same_part c.at p) (changes (lines_of run) t) (change_of e.at (now (lines_of run) e.at) index (call_of e.event) (step_shown run e.at e.event) t)
+      let index = length (changes (shown_lines run) t) + 1 in
+      filter-append (λ c. same_part c.at p) (changes (shown_lines run) t) (change_of e.at (now (shown_lines run) e.at) index (call_of e.event) (step_shown run e.at e.event) t)
       ∙ (λ i. changes_there plan run h.1 n.1 t p i ++ (piece plan run e.at p e.event t h.0 n.0 ∙ ap (map (to_change p)) (same_asked run e.at p e.event t)) i)
       ∙ sym (map-append (to_change p) (asked_at run t p) (cond (same_part e.at p) (asked_by (shown run p) e.event t) []))
 
@@ -122,9 +122,9 @@ module _ {E : Type 0} where
   some_asked [] = refl
   some_asked (a ∷ xs) = refl
 
-  pub takes_part_is : (plan : Plan E) (run : List (Entry E)) → AreHanded plan run → AreNew run → (t : TxId) (p : PartId) → takes_part (lines_of run) t p ≡ is_some_update (updates_at run t p)
+  pub takes_part_is : (plan : Plan E) (run : List (Entry E)) → AreHanded plan run → AreNew run → (t : TxId) (p : PartId) → takes_part (shown_lines run) t p ≡ is_some_update (updates_at run t p)
   takes_part_is plan run h n t p =
-      any_true (λ c. same_part c.at p) (changes (lines_of run) t)
+      any_true (λ c. same_part c.at p) (changes (shown_lines run) t)
       ∙ ap (list_any (λ (c : Change). true)) (changes_there plan run h n t p)
       ∙ any_map (to_change p) (λ (c : Change). true) (asked_at run t p)
       ∙ some_asked (asked_at run t p) ∙ ap is_some_update (asked_changes run t p)
@@ -133,12 +133,12 @@ module _ {E : Type 0} where
   touched o [] = refl
   touched o (a ∷ xs) = ap (λ b. same_object a.change.object o || b) (touched o xs)
 
-  pub touches_is : (plan : Plan E) (run : List (Entry E)) → AreHanded plan run → AreNew run → (t : TxId) (p : PartId) (o : ObjectId) → touches (lines_of run) t p o ≡ part_list.touches (updates_at run t p) o
+  pub touches_is : (plan : Plan E) (run : List (Entry E)) → AreHanded plan run → AreNew run → (t : TxId) (p : PartId) (o : ObjectId) → touches (shown_lines run) t p o ≡ part_list.touches (updates_at run t p) o
   touches_is plan run h n t p o =
-      any_both (λ c. same_part c.at p) (λ c. same_object c.object o) (changes (lines_of run) t)
+      any_both (λ c. same_part c.at p) (λ c. same_object c.object o) (changes (shown_lines run) t)
       ∙ ap (list_any (λ c. same_object c.object o)) (changes_there plan run h n t p)
       ∙ any_map (to_change p) (λ c. same_object c.object o) (asked_at run t p)
       ∙ touched o (asked_at run t p) ∙ ap (λ us. part_list.touches us o) (asked_changes run t p)
 
-  pub lead_is : (plan : Plan E) (run : List (Entry E)) → AreHanded plan run → AreNew run → (parts : ℕ) (t : TxId) → lead parts (lines_of run) t ≡ first_of (home t) (filter (λ p. is_some_update (updates_at run t p)) (partitions t.site 1 parts))
+  pub lead_is : (plan : Plan E) (run : List (Entry E)) → AreHanded plan run → AreNew run → (parts : ℕ) (t : TxId) → lead parts (shown_lines run) t ≡ first_of (home t) (filter (λ p. is_some_update (updates_at run t p)) (partitions t.site 1 parts))
   lead_is plan run h n parts t = λ i. first_of (home t) (filter (λ p. takes_part_is plan run h n t p i) (partitions t.site 1 parts))

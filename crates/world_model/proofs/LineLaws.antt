@@ -28,17 +28,17 @@ use Rattle.world_model.specs.rules.Plan.{Plan, is_some_update, takes_part, commi
 use Rattle.world_model.specs.rules.World.{plan_of}
 use Rattle.world_model.specs.events.Reads.{sees_tx, IsRightFold, IsExact, IsRight, Asked, asked_at}
 use Rattle.world_model.specs.events.Clock.{ClockIs, ClocksAre}
-use Rattle.world_model.specs.events.Restarts.{KeepsIs, KeepsDecided, SettlesAt, SettleDoubts, is_call, brings, brought_after, brought, decided_after, last_shown, IsTakeable, cut_call, IsAsBefore, IsAsDone, ResumesAt, Resume}
+use Rattle.world_model.specs.events.Restarts.{KeepsIs, KeepsDecided, SettlesAt, SettleDoubts, is_call, brings, brought_after, brought, IsTakeable, cut_call, IsAsBefore, ResumesAt, Resume}
 use Rattle.world_model.specs.events.Causes.{HasCauseAt, HaveCausesAt, AnswersAsUp, AnswerAsUp, IsReadyAt, IsFirstPending, ShowsAt, ShowAt, IsClearAt, AreClear}
 use Rattle.world_model.specs.rules.Dependency as events
 use Rattle.world_model.specs.events.Dependency as dependency
 use Rattle.world_model.specs.events.Answers.{IsDueAt, AreDue, IsKnown}
 use Rattle.world_model.specs.lines.Listed.{IsBefore}
 use Rattle.world_model.specs.events.Bounds.{bound_shown}
-use Rattle.world_model.specs.events.Pending.{pending_shown, pending_time, time_after}
+use Rattle.world_model.specs.events.Pending.{pending_shown, pending_time}
 use Rattle.world_model.specs.events.Fate.{committed_shown, TellsAbortedAt, MayAbortAt}
-use Rattle.world_model.specs.events.Fresh.{heard_from, heard_shown, known_shown, IsBehindAt, IsFreshAt, AreFresh}
-use Rattle.world_model.specs.lines.Bounds.{IsLeast}
+use Rattle.world_model.specs.events.Fresh.{known_shown, IsFreshAt, AreFresh}
+use Rattle.world_model.specs.lines.Bounds.{IsLeast, IsLeastBehind}
 use Rattle.world_model.specs.events.Commit.{IsDecision, VotesAt, KeepVotes, ShowsVector}
 use Rattle.world_model.specs.events.Handed.{IsPlacedAt, HandedAt, AreHanded, AreNew}
 use Rattle.world_model.specs.events.Reads as meaning
@@ -46,7 +46,8 @@ use Rattle.world_model.specs.lines.Streams.{low_of}
 use Rattle.world_model.specs.events.Streams.{SendsAt, Send}
 use Rattle.world_model.specs.events.Lawful.{IsLawfulWorld}
 use Rattle.world_model.specs.lines.Lines.{Call, Line, EachLine}
-use Rattle.world_model.specs.rules.Lines.{session_after, session_of, call_asked, call_cut, call_of, step_shown, lines_of}
+use Rattle.world_model.specs.rules.Lines.{session_after, session_of, call_asked, call_done, call_cut, call_of, step_shown, shown_lines}
+use Rattle.world_model.specs.declared.step.Step.TheVariants as step
 use Rattle.world_model.specs.lines.Clock as clock
 use Rattle.world_model.specs.lines.History as past
 use Rattle.world_model.specs.lines.Dependency as session
@@ -70,15 +71,15 @@ use Rattle.world_model.proofs.Later.{at_own}
 use Rattle.world_model.proofs.Intervals.{numbered_shown, shown_has, events_map}
 use Rattle.world_model.proofs.Histories.{Facts, no_self}
 use Rattle.world_model.proofs.Listed.{timed_as}
-use Rattle.world_model.proofs.LineViews.{now_is, missed_is, in_history_is, snapshot_is, commit_time_is, vector_is, visible_is, is_of_is, pending_is, prepare_time_is, doubt_is, asked_is, down_is, last_is, bound_is, heard_here, heard_is, known_is, stable_is, own_bound_is, was_prepared_is, last_sent_is, sent_count_is, report_count_is, sent_line, report_line}
+use Rattle.world_model.proofs.LineViews.{now_is, missed_is, in_history_is, snapshot_is, commit_time_is, vector_is, visible_is, is_of_is, pending_is, prepare_time_is, doubt_is, asked_is, down_is, last_is, bound_is, heard_is, known_is, stable_is, own_bound_is, was_prepared_is, last_sent_is, sent_count_is, report_count_is, sent_line, report_line}
 use Rattle.world_model.proofs.LineChanges.{to_change, count_is, takes_part_is, touches_is, first_site, lead_is}
 use Rattle.world_model.proofs.Orders.{stamp_same, none_due, is_in, in_filter, once_filter, filter_in}
 use Rattle.world_model.proofs.LineCounts.{parts_counted, both_ways, found_in, any_in, some_above, part_above, above_part}
 use Rattle.world_model.proofs.LineReading.{history_has, history_once, update_is, updates_at_place, updates_is, grows, all_put}
-use Rattle.world_model.proofs.LineFaults.{pend_same, fault_is}
+use Rattle.world_model.proofs.LineFaults.{kept, done_at, pend_done, since_done, last_done, fault_is}
 
 module _ {E : Type 0} where
-  clock_line : (run : List (Entry E)) (p : PartId) (event : Event E) → ClocksAre run → ClockIs run p event → clock.ShowsTime (lines_of run) p (call_of event) (step_shown run p event)
+  clock_line : (run : List (Entry E)) (p : PartId) (event : Event E) → ClocksAre run → ClockIs run p event → clock.ShowsTime (shown_lines run) p (call_of event) (step_shown run p event)
   clock_line run p (Refused asked IsDown) cs h = tt
   clock_line run p (Refused asked why) cs h = tt
   clock_line run p (Cut (Decided t c)) cs h = tt
@@ -91,7 +92,7 @@ module _ {E : Type 0} where
       (subst (λ x. x ≤ n) e h.0, subst (λ x. n ≤ 1000 + x) (λ i. max (e i) (sym (missed_is run cs p) i)) h.1)
   clock_line run p event cs h = tt
 
-  clock_lines : (run : List (Entry E)) → ClocksAre run → clock.FollowsClock (lines_of run)
+  clock_lines : (run : List (Entry E)) → ClocksAre run → clock.FollowsClock (shown_lines run)
   clock_lines [] h = tt
   clock_lines (e ∷ run) h = (clock_line run e.at e.event h.1 h.0, clock_lines run h.1)
 
@@ -100,18 +101,18 @@ module _ {E : Type 0} where
   vector_is_shown run p (Decided t c) v h = h
   vector_is_shown run p event v h = absurd h
 
-  vector_was : (run : List (Entry E)) (v : List ℕ) → events.WasVector run v → session.WasVector (lines_of run) v
+  vector_was : (run : List (Entry E)) (v : List ℕ) → events.WasVector run v → session.WasVector (shown_lines run) v
   vector_was [] v h = h
   vector_was (e ∷ run) v h = ⊎_elim (λ (x : events.ShowsVector e.event v). inl (vector_is_shown run e.at e.event v x)) (λ (x : events.WasVector run v). inr (vector_was run v x)) h
 
-  vectors_were : (run : List (Entry E)) (vs : List (List ℕ)) → events.WereVectors run vs → session.WereVectors (lines_of run) vs
+  vectors_were : (run : List (Entry E)) (vs : List (List ℕ)) → events.WereVectors run vs → session.WereVectors (shown_lines run) vs
   vectors_were run [] h = tt
   vectors_were run (v ∷ vs) h = (vector_was run v h.0, vectors_were run vs h.1)
 
-  known_join : (sites : ℕ) (run : List (Entry E)) (dep : List ℕ) → events.IsKnownJoin sites run dep → session.IsKnownJoin sites (lines_of run) dep
+  known_join : (sites : ℕ) (run : List (Entry E)) (dep : List ℕ) → events.IsKnownJoin sites run dep → session.IsKnownJoin sites (shown_lines run) dep
   known_join sites run dep h = record { vectors = h.vectors; known = vectors_were run h.vectors h.known; is = h.is }
 
-  hands_line : (sites : ℕ) (run : List (Entry E)) (p : PartId) (event : Event E) → dependency.HoldsPast sites run p event → session.HandsKnown sites (lines_of run) (call_of event)
+  hands_line : (sites : ℕ) (run : List (Entry E)) (p : PartId) (event : Event E) → dependency.HoldsPast sites run p event → session.HandsKnown sites (shown_lines run) (call_of event)
   hands_line sites run p (Began who dep t s) h = known_join sites run dep h.0
   hands_line sites run p (Cut (Began who dep t s)) h = known_join sites run dep h
   hands_line sites run p (Cut (Refused asked why)) h = tt
@@ -120,11 +121,11 @@ module _ {E : Type 0} where
   hands_line sites run p (Refused asked why) h = tt
   hands_line sites run p event h = tt
 
-  hands_lines : (sites : ℕ) (run : List (Entry E)) → dependency.KeepPast sites run → EachLine (λ before p call step. session.HandsKnown sites before call) (lines_of run)
+  hands_lines : (sites : ℕ) (run : List (Entry E)) → dependency.KeepPast sites run → EachLine (λ before p call step. session.HandsKnown sites before call) (shown_lines run)
   hands_lines sites [] h = tt
   hands_lines sites (e ∷ run) h = (hands_line sites run e.at e.event h.0, hands_lines sites run h.1)
 
-  holds_line : (sites : ℕ) (run : List (Entry E)) (p : PartId) (event : Event E) → dependency.HoldsPast sites run p event → session.HoldsHanded (lines_of run) p (call_of event) (step_shown run p event)
+  holds_line : (sites : ℕ) (run : List (Entry E)) (p : PartId) (event : Event E) → dependency.HoldsPast sites run p event → session.HoldsHanded (shown_lines run) p (call_of event) (step_shown run p event)
   holds_line sites run p (Refused asked IsDown) h = tt
   holds_line sites run p (Refused asked why) h = tt
   holds_line sites run p (Cut (Decided t c)) h = tt
@@ -132,12 +133,12 @@ module _ {E : Type 0} where
   holds_line sites run p (Began who dep t s) h = h.1
   holds_line sites run p event h = tt
 
-  holds_lines : (sites : ℕ) (run : List (Entry E)) → dependency.KeepPast sites run → EachLine session.HoldsHanded (lines_of run)
+  holds_lines : (sites : ℕ) (run : List (Entry E)) → dependency.KeepPast sites run → EachLine session.HoldsHanded (shown_lines run)
   holds_lines sites [] h = tt
   holds_lines sites (e ∷ run) h = (holds_line sites run e.at e.event h.0, holds_lines sites run h.1)
 
   -- who was handed its session's past holds it
-  past_line : (sites : ℕ) (run : List (Entry E)) (p : PartId) (event : Event E) → dependency.HoldsPast sites run p event → session.IsOwnPast sites (lines_of run) (call_of event) → session.HoldsPast sites (lines_of run) p (call_of event) (step_shown run p event)
+  past_line : (sites : ℕ) (run : List (Entry E)) (p : PartId) (event : Event E) → dependency.HoldsPast sites run p event → session.IsOwnPast sites (shown_lines run) (call_of event) → session.HoldsPast sites (shown_lines run) p (call_of event) (step_shown run p event)
   past_line sites run p (Refused asked IsDown) h o = tt
   past_line sites run p (Refused asked why) h o = tt
   past_line sites run p (Cut (Decided t c)) h o = tt
@@ -145,15 +146,15 @@ module _ {E : Type 0} where
   past_line sites run p (Began who dep t s) h o = subst (λ d. le d s ≡ true) o h.1
   past_line sites run p event h o = tt
 
-  past_lines : (sites : ℕ) (run : List (Entry E)) → dependency.KeepPast sites run → session.HandsOwn sites (lines_of run) → session.KeepsPast sites (lines_of run)
+  past_lines : (sites : ℕ) (run : List (Entry E)) → dependency.KeepPast sites run → session.HandsOwn sites (shown_lines run) → session.KeepsPast sites (shown_lines run)
   past_lines sites [] h o = tt
   past_lines sites (e ∷ run) h o = (past_line sites run e.at e.event h.0 o.0, past_lines sites run h.1 o.1)
 
-  place_lines : (plan : Plan E) (run : List (Entry E)) → EventsAre (λ p event. IsPlace plan.sites plan.parts p) run → EachLine (λ before p call step. IsPlace plan.sites plan.parts p) (lines_of run)
+  place_lines : (plan : Plan E) (run : List (Entry E)) → EventsAre (λ p event. IsPlace plan.sites plan.parts p) run → EachLine (λ before p call step. IsPlace plan.sites plan.parts p) (shown_lines run)
   place_lines plan [] h = tt
   place_lines plan (e ∷ run) h = (h.0, place_lines plan run h.1)
 
-  placed_line : (plan : Plan E) (run : List (Entry E)) (p : PartId) (event : Event E) → HandedAt plan run p event → IsPlaced plan.parts (lines_of run) p (call_of event) (step_shown run p event)
+  placed_line : (plan : Plan E) (run : List (Entry E)) (p : PartId) (event : Event E) → HandedAt plan run p event → IsPlaced plan.parts (shown_lines run) p (call_of event) (step_shown run p event)
   placed_line plan run p (Refused (AskRead t s o own) why) h = (h.1.site, h.1.part)
   placed_line plan run p (Refused (AskUpdate t s o own op) why) h = (h.1.site, h.1.part)
   placed_line plan run p (Refused asked IsDown) h = tt
@@ -168,11 +169,11 @@ module _ {E : Type 0} where
   placed_line plan run p (Updated t s o own op read u stamp) h = (h.0.site, h.0.part)
   placed_line plan run p event h = tt
 
-  placed_lines : (plan : Plan E) (run : List (Entry E)) → AreHanded plan run → EachLine (IsPlaced plan.parts) (lines_of run)
+  placed_lines : (plan : Plan E) (run : List (Entry E)) → AreHanded plan run → EachLine (IsPlaced plan.parts) (shown_lines run)
   placed_lines plan [] h = tt
   placed_lines plan (e ∷ run) h = (placed_line plan run e.at e.event h.0, placed_lines plan run h.1)
 
-  fresh_line : (plan : Plan E) (run : List (Entry E)) (p : PartId) (event : Event E) → dependency.HoldsPast plan.sites run p event → IsFreshAt plan run p event → ShowsAt plan run p event → fresh.IsFresh plan.sites plan.parts (lines_of run) p (call_of event) (step_shown run p event)
+  fresh_line : (plan : Plan E) (run : List (Entry E)) (p : PartId) (event : Event E) → dependency.HoldsPast plan.sites run p event → IsFreshAt plan run p event → ShowsAt plan run p event → fresh.IsFresh plan.sites plan.parts (shown_lines run) p (call_of event) (step_shown run p event)
   fresh_line plan run p (Refused asked IsDown) h f s = tt
   fresh_line plan run p (Refused asked why) h f s = tt
   fresh_line plan run p (Cut (Decided t c)) h f s = tt
@@ -183,20 +184,20 @@ module _ {E : Type 0} where
     others = λ j o. stable_is plan.parts run p j (entry v j) (f.others j o);
   }
   fresh_line plan run p (Heard number k b stable) h f s =
-      let same : (q j : ℕ) → heard_from {E = E} q j (heard_shown run p q j) (Heard number k b stable) ≡ bounds.heard_after q j (bounds.heard (lines_of run) p q j) (call_of {E = E} (Heard number k b stable)) (step_shown run p (Heard number k b stable)) = λ q j. sym (ap (λ o. bounds.heard_after q j o (call_of {E = E} (Heard number k b stable)) (step_shown run p (Heard number k b stable))) (heard_is run p q j) ∙ heard_here run p q j (heard_shown run p q j) (Heard number k b stable)) in record {
+      let next : List (Entry E) = (record { at = p; event = Heard number k b stable }) ∷ run in record {
         width = f.width;
-        others = λ j o. subst (λ known. IsLeast plan.parts known (entry stable j)) (λ i. λ q. cond (p.part == q) (sym (bound_is run p j) i) (same q j i)) (f.others j o);
-        own = (f.own.0, own_bound_is run p f.own.0 f.own.1, subst (λ known. IsLeast plan.parts known (entry stable p.site)) (λ i. λ q. cond (p.part == q) f.own.0 (same q p.site i)) f.own.2);
+        others = λ j o. stable_is plan.parts next p j (entry stable j) (f.others j o);
+        own = (f.own.0, own_bound_is next p f.own.0 f.own.1, subst (λ known. IsLeast plan.parts known (entry stable p.site)) (λ i. λ q. cond (p.part == q) f.own.0 (sym (heard_is next p q p.site) i)) f.own.2);
       }
   fresh_line plan run p (Reported b) h f s = record { width = s.0; own = own_bound_is run p (entry b p.site) s.1; others = λ j o. s.2 j o ∙ sym (bound_is run p j) }
   fresh_line plan run p event h f s = tt
 
-  fresh_lines : (plan : Plan E) (run : List (Entry E)) → dependency.KeepPast plan.sites run → AreFresh plan run → ShowAt plan run → EachLine (fresh.IsFresh plan.sites plan.parts) (lines_of run)
+  fresh_lines : (plan : Plan E) (run : List (Entry E)) → dependency.KeepPast plan.sites run → AreFresh plan run → ShowAt plan run → EachLine (fresh.IsFresh plan.sites plan.parts) (shown_lines run)
   fresh_lines plan [] h f s = tt
   fresh_lines plan (e ∷ run) h f s = (fresh_line plan run e.at e.event h.0 f.0 s.0, fresh_lines plan run h.1 f.1 s.1)
 
-  handed_line : (plan : Plan E) (run : List (Entry E)) (p : PartId) (number : ℕ) (m : Message E) → MayTake plan run p number m → streams.IsHanded plan.sites (lines_of run) p number m.from m.lo m.hi
-  handed_line plan run p number m h = record { from = h.from; sent = subst (λ j. streams.WasSent (lines_of run) (twin m.from p) number j m.lo m.hi) h.to (sent_line run number (twin m.from p) h.asked m h.shown) }
+  handed_line : (plan : Plan E) (run : List (Entry E)) (p : PartId) (number : ℕ) (m : Message E) → MayTake plan run p number m → streams.IsHanded plan.sites (shown_lines run) p number m.from m.lo m.hi
+  handed_line plan run p number m h = record { from = h.from; sent = subst (λ j. streams.WasSent (shown_lines run) (twin m.from p) number j m.lo m.hi) h.to (sent_line run number (twin m.from p) h.asked m h.shown) }
 
   -- who began t is its session
   session_has : (run : List (Entry E)) (who : List ℕ) (t : TxId) → dependency.is_of run who t ≡ true → dependency.is_of run (session_of run t) t ≡ true
@@ -216,7 +217,7 @@ module _ {E : Type 0} where
   refused_up AskRestart d = off d
   refused_up asked d = refl
 
-  answer_line : (plan : Plan E) (run : List (Entry E)) (p : PartId) (event : Event E) → HandedAt plan run p event → IsDueAt event → answers.IsAnswer (lines_of run) p (call_of event) (step_shown run p event)
+  answer_line : (plan : Plan E) (run : List (Entry E)) (p : PartId) (event : Event E) → HandedAt plan run p event → IsDueAt event → answers.IsAnswer (shown_lines run) p (call_of event) (step_shown run p event)
   answer_line plan run p (Refused asked IsDown) h d = (refl, refused_up asked d)
   answer_line plan run p (Refused (AskTake number m) (HasGap n)) h d = tt
   answer_line plan run p (Refused (AskTake number m) (IsRepeat n)) h d = tt
@@ -251,11 +252,11 @@ module _ {E : Type 0} where
   answer_line plan run p RestartCut h d = (refl, refl)
   answer_line plan run p event h d = refl
 
-  answer_lines : (plan : Plan E) (run : List (Entry E)) → AreHanded plan run → AreDue run → EachLine answers.IsAnswer (lines_of run)
+  answer_lines : (plan : Plan E) (run : List (Entry E)) → AreHanded plan run → AreDue run → EachLine answers.IsAnswer (shown_lines run)
   answer_lines plan [] h d = tt
   answer_lines plan (e ∷ run) h d = (answer_line plan run e.at e.event h.0 d.0, answer_lines plan run h.1 d.1)
 
-  op_line : {S : Type 0} (kinds : Kinds S E) (run : List (Entry E)) (p : PartId) (event : Event E) → IsKnown kinds p event → ops.HasOp kinds.too_deep (lines_of run) p (call_of event) (step_shown run p event)
+  op_line : {S : Type 0} (kinds : Kinds S E) (run : List (Entry E)) (p : PartId) (event : Event E) → IsKnown kinds p event → ops.HasOp kinds.too_deep (shown_lines run) p (call_of event) (step_shown run p event)
   op_line kinds run p (Updated t s o own op read u stamp) k = k.1
   op_line kinds run p (Refused (AskUpdate t s o own op) why) k = k
   op_line kinds run p (Refused asked why) k = tt
@@ -264,11 +265,11 @@ module _ {E : Type 0} where
   op_line kinds run p (Cut a) k = tt
   op_line kinds run p event k = tt
 
-  op_lines : {S : Type 0} (kinds : Kinds S E) (run : List (Entry E)) → EventsAre (IsKnown kinds) run → EachLine (ops.HasOp kinds.too_deep) (lines_of run)
+  op_lines : {S : Type 0} (kinds : Kinds S E) (run : List (Entry E)) → EventsAre (IsKnown kinds) run → EachLine (ops.HasOp kinds.too_deep) (shown_lines run)
   op_lines kinds [] k = tt
   op_lines kinds (e ∷ run) k = (op_line kinds run e.at e.event k.0, op_lines kinds run k.1)
 
-  up_line : (run : List (Entry E)) (p : PartId) (event : Event E) → AnswersAsUp run p event → IsDueAt event → causes.AnswersAsUp (lines_of run) p (call_of event) (step_shown run p event)
+  up_line : (run : List (Entry E)) (p : PartId) (event : Event E) → AnswersAsUp run p event → IsDueAt event → causes.AnswersAsUp (shown_lines run) p (call_of event) (step_shown run p event)
   up_line run p (Refused asked IsDown) h d = down_is run p ∙ h
   up_line run p (Refused asked (IsDamaged k)) h d = off d
   up_line run p (Refused asked why) h d = down_is run p ∙ h
@@ -282,7 +283,7 @@ module _ {E : Type 0} where
   up_line run p (Cut a) h d = down_is run p ∙ h
   up_line run p event h d = down_is run p ∙ h
 
-  up_lines : (run : List (Entry E)) → AnswerAsUp run → AreDue run → EachLine causes.AnswersAsUp (lines_of run)
+  up_lines : (run : List (Entry E)) → AnswerAsUp run → AreDue run → EachLine causes.AnswersAsUp (shown_lines run)
   up_lines [] h d = tt
   up_lines (e ∷ run) h d = (up_line run e.at e.event h.0 d.0, up_lines run h.1 d.1)
 
@@ -302,10 +303,10 @@ module _ {E : Type 0} where
     plan = plan_of sites parts run
 
     -- t precedes u, as events tell it
-    precedes_is : (t u : TxId) → past.precedes (lines_of run) t u ≡ sees_tx plan run (plan.snapshot u) t
-    precedes_is t u = ap (λ v. past.visible (lines_of run) v t) (snapshot_is run u) ∙ visible_is run (plan.snapshot u) t
+    precedes_is : (t u : TxId) → past.precedes (shown_lines run) t u ≡ sees_tx plan run (plan.snapshot u) t
+    precedes_is t u = ap (λ v. past.visible (shown_lines run) v t) (snapshot_is run u) ∙ visible_is run (plan.snapshot u) t
 
-    closed_lines : (v : List ℕ) → past.IsClosed (lines_of run) (past.visible (lines_of run) v)
+    closed_lines : (v : List ℕ) → past.IsClosed (shown_lines run) (past.visible (shown_lines run) v)
     closed_lines v t u h k = visible_is run v t ∙ law.closed v u t (sym (visible_is run v u) ∙ h) (sym (precedes_is t u) ∙ k)
 
     facts : Facts plan run
@@ -317,7 +318,7 @@ module _ {E : Type 0} where
     }
 
     abbrev ls : List Line
-    ls = lines_of run
+    ls = shown_lines run
 
     takes_eq : (t : TxId) (p : PartId) → updates.takes_part ls t p ≡ takes_part plan t p
     takes_eq t p = takes_part_is plan run law.handed law.numbered t p ∙ ap is_some_update (sym (law.planned t p))
@@ -331,7 +332,7 @@ module _ {E : Type 0} where
     vector_eq : (t : TxId) → past.commit_vector ls t ≡ commit_vector plan run t
     vector_eq t = vector_is run t
 
-    decision_line : (some : List (Entry E)) (p : PartId) (t : TxId) → IsDecision plan some p t → commit.IsDecision parts ls (lines_of some) p t
+    decision_line : (some : List (Entry E)) (p : PartId) (t : TxId) → IsDecision plan some p t → commit.IsDecision parts ls (shown_lines some) p t
     decision_line some p t v = record {
       at_lead = v.lead ∙ sym (lead_eq t);
       here = was_prepared_is some t p ∙ v.here;
@@ -339,7 +340,7 @@ module _ {E : Type 0} where
       votes = λ q h. was_prepared_is some t q ∙ v.all q (sym (takes_eq t q) ∙ h);
     }
 
-    commit_line : (some : List (Entry E)) (p : PartId) (event : Event E) → VotesAt plan some p event → ShowsVector plan run p event → IsNew some event → commit.ShowsCommit parts ls (lines_of some) p (call_of event) (step_shown some p event)
+    commit_line : (some : List (Entry E)) (p : PartId) (event : Event E) → VotesAt plan some p event → ShowsVector plan run p event → IsNew some event → commit.ShowsCommit parts ls (shown_lines some) p (call_of event) (step_shown some p event)
     commit_line some p (Refused asked IsDown) v c n = tt
     commit_line some p (Refused asked why) v c n = tt
     commit_line some p (Cut (Decided t w)) v c n = decision_line some p t v
@@ -354,7 +355,7 @@ module _ {E : Type 0} where
     commit_line some p (Finished t w) v c n = (takes_eq t p ∙ v.0, in_history_is some t ∙ v.1)
     commit_line some p event v c n = tt
 
-    commit_lines : (some : List (Entry E)) → KeepVotes plan some → EventsAre (ShowsVector plan run) some → AreNew some → EachLine (commit.ShowsCommit parts ls) (lines_of some)
+    commit_lines : (some : List (Entry E)) → KeepVotes plan some → EventsAre (ShowsVector plan run) some → AreNew some → EachLine (commit.ShowsCommit parts ls) (shown_lines some)
     commit_lines [] v c n = tt
     commit_lines (e ∷ some) v c n = (commit_line some e.at e.event v.0 c.0 n.0, commit_lines some v.1 c.1 n.1)
 
@@ -365,20 +366,20 @@ module _ {E : Type 0} where
           votes = λ q k. was_prepared_is run t q ∙ a.all q (sym (takes_eq t q) ∙ k);
         }
 
-    pub ended_eq : (some : List (Entry E)) (p : PartId) (t : TxId) → fates.is_ended_at ls (lines_of some) p t ≡ committed_shown plan some p t
+    pub ended_eq : (some : List (Entry E)) (p : PartId) (t : TxId) → fates.is_ended_at ls (shown_lines some) p t ≡ committed_shown plan some p t
     ended_eq some p t = λ i. takes_eq t p i && (in_history_is some t i && not (pending_is some p t i))
 
     -- nothing is brought to its own site
-    pub unbrought : (some : List (Entry E)) (p : PartId) (t : TxId) → p.site ≡ t.site → fates.is_brought_to ls (lines_of some) p t ≡ false
-    unbrought some p t s = ap (λ b. not b && (updates.takes_part ls t (twin t.site p) && (past.in_history ls t && leb (past.commit_time ls t) (bounds.bound (lines_of some) p t.site)))) (eq-eqb t.site p.site (sym s))
+    pub unbrought : (some : List (Entry E)) (p : PartId) (t : TxId) → p.site ≡ t.site → fates.is_brought_to ls (shown_lines some) p t ≡ false
+    unbrought some p t s = ap (λ b. not b && (updates.takes_part ls t (twin t.site p) && (past.in_history ls t && leb (past.commit_time ls t) (bounds.bound (shown_lines some) p t.site)))) (eq-eqb t.site p.site (sym s))
 
-    known_line : (some : List (Entry E)) (p : PartId) (t : TxId) → (pending_shown some p t || committed_shown plan some p t) ≡ true → fates.is_known_at ls (lines_of some) p t ≡ true
+    known_line : (some : List (Entry E)) (p : PartId) (t : TxId) → (pending_shown some p t || committed_shown plan some p t) ≡ true → fates.is_known_at ls (shown_lines some) p t ≡ true
     known_line some p t h = ⊎_elim
         (λ (k : pending_shown some p t ≡ true). or_left _ _ (pending_is some p t ∙ k))
         (λ (k : committed_shown plan some p t ≡ true). or_right _ _ (or_left _ _ (ended_eq some p t ∙ k)))
         (or_cases _ _ h)
 
-    unknown_line : (some : List (Entry E)) (p : PartId) (t : TxId) → p.site ≡ t.site → (pending_shown some p t || committed_shown plan some p t) ≡ false → fates.is_known_at ls (lines_of some) p t ≡ false
+    unknown_line : (some : List (Entry E)) (p : PartId) (t : TxId) → p.site ≡ t.site → (pending_shown some p t || committed_shown plan some p t) ≡ false → fates.is_known_at ls (shown_lines some) p t ≡ false
     unknown_line some p t s h =
         let n = or_parts (pending_shown some p t) (committed_shown plan some p t) h in
         or_from _ _ (pending_is some p t ∙ n.0) (or_from _ _ (ended_eq some p t ∙ n.1) (unbrought some p t s))
@@ -409,78 +410,71 @@ module _ {E : Type 0} where
         any_in (past.history ls) test y.0 (history_has ls y.0 ∙ in_history_is run y.0 ∙ a.0) (and_from _ _ (takes_eq y.0 q ∙ b.0) (and_from _ _ (ap (ltb have) (commit_time_is run y.0) ∙ (ap (ltb have) (sym (own y.0 b.0)) ∙ y.2)) (ap (λ n. leb n m.hi) (commit_time_is run y.0) ∙ c.1))) in
         both_ways (restarts.brings ls p m.from have m.hi) (brings m have) forth back
 
-    brought_done_eq : (some : List (Entry E)) (p : PartId) (j old : ℕ) (what : Event E) → is_call what ≡ true → IsTakeable plan some p what → EventsAre (IsRight kinds plan run) some → restarts.brought_done ls (lines_of some) p j old (call_cut what) ≡ brought_after some p j old what
-    brought_done_eq some p j old (Took number m) k h rs =
+    -- of a take that left no gap
+    took_eq : (some : List (Entry E)) (p : PartId) (j old number : ℕ) (m : Message E) → MayTake plan some p number m → m.lo ≤ bound_shown some p m.from → EventsAre (IsRight kinds plan run) some → restarts.brought_after ls (shown_lines some) p j old (call_done (Took number m)) (step.Took 0 m.hi) ≡ brought_after some p j old (Took number m)
+    took_eq some p j old number m h low rs =
         let have = bound_shown some p m.from in
-        let here : (leb m.lo (bounds.bound (lines_of some) p m.from) && restarts.brings ls p m.from (bounds.bound (lines_of some) p m.from) m.hi) ≡ brings m have =
-        ap (λ b. leb m.lo b && restarts.brings ls p m.from b m.hi) (bound_is some p m.from) ∙ ap (λ b. b && restarts.brings ls p m.from have m.hi) (le-leb m.lo have h.1) ∙ brings_eq some p number m have h.0 h.1 rs in
+        let here : (leb m.lo (bounds.bound (shown_lines some) p m.from) && restarts.brings ls p m.from (bounds.bound (shown_lines some) p m.from) m.hi) ≡ brings m have =
+        ap (λ b. leb m.lo b && restarts.brings ls p m.from b m.hi) (bound_is some p m.from) ∙ ap (λ b. b && restarts.brings ls p m.from have m.hi) (le-leb m.lo have low) ∙ brings_eq some p number m have h low rs in
         ap (λ b. cond (m.from == j && b) (max m.hi old) old) here
-    brought_done_eq some p j old Crashed k h rs = off k
-    brought_done_eq some p j old RestartCut k h rs = off k
-    brought_done_eq some p j old (Restarted n b named listed) k h rs = off k
-    brought_done_eq some p j old (Refused asked why) k h rs = off k
-    brought_done_eq some p j old (Opened who) k h rs = off k
-    brought_done_eq some p j old (Cut a) k h rs = off k
-    brought_done_eq some p j old what k h rs = refl
 
-    brought_here : (some : List (Entry E)) (p : PartId) (j old : ℕ) (event : Event E) → HandedAt plan some p event → ShowsAt plan some p event → EventsAre (IsRight kinds plan run) some → restarts.brought_after ls (lines_of some) p j old (call_of event) (step_shown some p event) ≡ brought_after some p j old event
-    brought_here some p j old (Took number m) h s rs = brought_done_eq some p j old (Took number m) refl (h, s.0) rs
+    brought_here : (some : List (Entry E)) (p : PartId) (j old : ℕ) (event : Event E) → HandedAt plan some p event → ShowsAt plan some p event → EventsAre (IsRight kinds plan run) some → restarts.brought_after ls (shown_lines some) p j old (call_of event) (step_shown some p event) ≡ brought_after some p j old event
+    brought_here some p j old (Took number m) h s rs = took_eq some p j old number m h s.0 rs
     brought_here some p j old (Refused asked IsDown) h s rs = refl
     brought_here some p j old (Refused asked why) h s rs = refl
     brought_here some p j old (Cut (Decided t c)) h s rs = refl
     brought_here some p j old (Cut a) h s rs = refl
     brought_here some p j old event h s rs = refl
 
-    brought_is : (some : List (Entry E)) → AreHanded plan some → ShowAt plan some → EventsAre (IsRight kinds plan run) some → (p : PartId) (j : ℕ) → restarts.brought ls (lines_of some) p j ≡ brought some p j
+    brought_is : (some : List (Entry E)) → AreHanded plan some → ShowAt plan some → EventsAre (IsRight kinds plan run) some → (p : PartId) (j : ℕ) → restarts.brought ls (shown_lines some) p j ≡ brought some p j
     brought_is [] h s rs p j = refl
     brought_is (e ∷ some) h s rs p j =
         let rest = brought_is some h.1 s.1 rs.1 p j in ⊎_elim
         (λ (k : same_part e.at p ≡ true).
-        cond-true _ _ _ k ∙ ap (λ o. restarts.brought_after ls (lines_of some) p j o (call_of e.event) (step_shown some e.at e.event)) rest
-        ∙ subst (λ y. restarts.brought_after ls (lines_of some) y j (brought some y j) (call_of e.event) (step_shown some e.at e.event) ≡ brought_after some y j (brought some y j) e.event) (same_part_is e.at p k) (brought_here some e.at j (brought some e.at j) e.event h.0 s.0 rs.1)
+        cond-true _ _ _ k ∙ ap (λ o. restarts.brought_after ls (shown_lines some) p j o (call_of e.event) (step_shown some e.at e.event)) rest
+        ∙ subst (λ y. restarts.brought_after ls (shown_lines some) y j (brought some y j) (call_of e.event) (step_shown some e.at e.event) ≡ brought_after some y j (brought some y j) e.event) (same_part_is e.at p k) (brought_here some e.at j (brought some e.at j) e.event h.0 s.0 rs.1)
         ∙ sym (cond-true _ _ _ k))
         (λ (k : same_part e.at p ≡ false). cond-false _ _ _ k ∙ rest ∙ sym (cond-false _ _ _ k))
         (cases_Bool (same_part e.at p))
 
-    last_done_eq : (some : List (Entry E)) (p : PartId) (what : Event E) → is_call what ≡ true → restarts.decided_done (restarts.last_decided (lines_of some) p) (call_cut what) ≡ decided_after (last_shown some p) what
-    last_done_eq some p (Decided t c) k = refl
-    last_done_eq some p Crashed k = off k
-    last_done_eq some p RestartCut k = off k
-    last_done_eq some p (Restarted n b named listed) k = off k
-    last_done_eq some p (Refused asked why) k = off k
-    last_done_eq some p (Opened who) k = off k
-    last_done_eq some p (Cut a) k = off k
-    last_done_eq some p what k = last_is some p
+    brought_done : (some : List (Entry E)) (p : PartId) (j : ℕ) (what : Event E) (drawn : ℕ) → is_call what ≡ true → IsTakeable plan some p what → EventsAre (IsRight kinds plan run) some → restarts.brought ls (shown_lines some) p j ≡ brought some p j → restarts.brought ls (restarts.with_done (call_cut what) drawn p (shown_lines some)) p j ≡ brought (done_at p what some) p j
+    brought_done some p j (Took number m) drawn k h rs br = λ i. cond (same_part p p) ((ap (λ o. restarts.brought_after ls (shown_lines some) p j o (call_done (Took number m)) (step.Took 0 m.hi)) br ∙ took_eq some p j (brought some p j) number m h.0 h.1 rs) i) (br i)
+    brought_done some p j (Prepared u s l w n) drawn k h rs br = ap (λ o. cond (same_part p p) o o) br
+    brought_done some p j (Decided u c) drawn k h rs br = ap (λ o. cond (same_part p p) o o) br
+    brought_done some p j (Finished u c) drawn k h rs br = ap (λ o. cond (same_part p p) o o) br
+    brought_done some p j (Aborted u own) drawn k h rs br = ap (λ o. cond (same_part p p) o o) br
+    brought_done some p j (Restarted n b named listed) drawn k h rs br = off k
+    brought_done some p j what drawn k h rs br = br ∙ sym (kept (same_part p p) (brought some p j))
 
-    resumed_line : (some : List (Entry E)) (p : PartId) (n : ℕ) (b : List ℕ) (named : Option TxId) (listed : List (TxId × ℕ)) → ClocksAre some → ((j : ℕ) → restarts.brought ls (lines_of some) p j ≡ brought some p j) → EventsAre (IsRight kinds plan run) some → ResumesAt plan some p (Restarted n b named listed) → restarts.IsAsBefore sites ls (lines_of some) p b named listed ⊎ ((call : Call) × (drawn : ℕ) × (restarts.faulted (lines_of some) p ≡ Some (call, drawn)) × restarts.IsAsDone sites ls (lines_of some) p call drawn b named listed)
+    resumed_line : (some : List (Entry E)) (p : PartId) (n : ℕ) (b : List ℕ) (named : Option TxId) (listed : List (TxId × ℕ)) → ClocksAre some → ((j : ℕ) → restarts.brought ls (shown_lines some) p j ≡ brought some p j) → EventsAre (IsRight kinds plan run) some → ResumesAt plan some p (Restarted n b named listed) → restarts.IsAsBefore sites ls (shown_lines some) p b named listed ⊎ ((call : Call) × (drawn : ℕ) × (restarts.faulted (shown_lines some) p ≡ Some (call, drawn)) × restarts.IsAsBefore sites ls (restarts.with_done call drawn p (shown_lines some)) p b named listed)
     resumed_line some p n b named listed cs br rs h = ⊎_elim
-        (λ (x : IsAsBefore plan some p b named listed). inl (record { members = λ t. x.members t ∙ sym (pending_is some p t); times = timed_as (pending_time some p) (prepare_time (lines_of some) p) listed (λ t k. sym (prepare_time_is some p t)) x.times; bounds = λ j o. x.bounds j o ∙ sym (br j); last = x.last ∙ sym (last_is some p) }))
-        (λ (x : (what : Event E) × (cut_call some p ≡ Some what) × (is_call what ≡ true) × IsTakeable plan some p what × IsAsDone plan some p what b named listed).
+        (λ (x : IsAsBefore plan some p b named listed). inl (record { members = λ t. x.members t ∙ sym (pending_is some p t); times = timed_as (pending_time some p) (prepare_time (shown_lines some) p) listed (λ t k. sym (prepare_time_is some p t)) x.times; bounds = λ j o. x.bounds j o ∙ sym (br j); last = x.last ∙ sym (last_is some p) }))
+        (λ (x : (what : Event E) × (cut_call some p ≡ Some what) × (is_call what ≡ true) × IsTakeable plan some p what × IsAsBefore plan (done_at p what some) p b named listed).
         let f = fault_is some cs p x.0 x.2 x.1 in
         inr (
           call_cut x.0,
           f.drawn,
           f.is,
           record {
-            members = λ t. x.4.members t ∙ sym (ap (λ o. restarts.pending_done (call_cut x.0) o t) (pending_is some p t) ∙ pend_same x.0 (pending_shown some p t) t x.2);
-            times = timed_as (λ t. time_after t (pending_time some p t) x.0) (λ t. restarts.time_done (call_cut x.0) f.drawn (prepare_time (lines_of some) p t) t) listed (λ t k. sym (ap (λ o. restarts.time_done (call_cut x.0) f.drawn o t) (prepare_time_is some p t) ∙ f.time t (pending_time some p t))) x.4.times;
-            bounds = λ j o. x.4.bounds j o ∙ sym (ap (λ y. restarts.brought_done ls (lines_of some) p j y (call_cut x.0)) (br j) ∙ brought_done_eq some p j (brought some p j) x.0 x.2 x.3 rs);
-            last = x.4.last ∙ sym (last_done_eq some p x.0 x.2);
+            members = λ t. x.4.members t ∙ sym (pend_done some p x.0 f.drawn t x.2);
+            times = timed_as (pending_time (done_at p x.0 some) p) (prepare_time (restarts.with_done (call_cut x.0) f.drawn p (shown_lines some)) p) listed (λ t k. sym (since_done some p x.0 f.drawn t x.2 f.time)) x.4.times;
+            bounds = λ j o. x.4.bounds j o ∙ sym (brought_done some p j x.0 f.drawn x.2 x.3 rs (br j));
+            last = x.4.last ∙ sym (last_done some p x.0 f.drawn x.2);
           },
         ))
         h
 
-    abort_line : (some : List (Entry E)) (p : PartId) (t : TxId) (own : Bool) → MayAbortAt plan some p t own → fates.MayAbort parts ls (lines_of some) p t
+    abort_line : (some : List (Entry E)) (p : PartId) (t : TxId) (own : Bool) → MayAbortAt plan some p t own → fates.MayAbort parts ls (shown_lines some) p t
     abort_line some p t true h = inr (inl (asked_is some t ∙ h))
     abort_line some p t false h = ⊎_elim
         (λ (e : p ≡ plan.lead t). inl (e ∙ sym (lead_eq t)))
         (λ (x : TellsAbortedAt plan some t). inr (inr (record {
-          up = subst (λ q. is_down (lines_of some) q ≡ false) (sym (lead_eq t)) (down_is some (plan.lead t) ∙ x.up);
-          unknown = subst (λ q. fates.is_known_at ls (lines_of some) q t ≡ false) (sym (lead_eq t)) (unknown_line some (plan.lead t) t (first_site t.site (home t) (λ q. takes_part plan t q) 1 parts refl) x.unknown);
+          up = subst (λ q. is_down (shown_lines some) q ≡ false) (sym (lead_eq t)) (down_is some (plan.lead t) ∙ x.up);
+          unknown = subst (λ q. fates.is_known_at ls (shown_lines some) q t ≡ false) (sym (lead_eq t)) (unknown_line some (plan.lead t) t (first_site t.site (home t) (λ q. takes_part plan t q) 1 parts refl) x.unknown);
         })))
         h
 
-    fate_line : (some : List (Entry E)) (p : PartId) (event : Event E) → WasShown run p event → ClocksAre some → ShowsAt plan some p event → ResumesAt plan some p event → KeepsIs plan some p event → SettlesAt some p event → ((j : ℕ) → restarts.brought ls (lines_of some) p j ≡ brought some p j) → EventsAre (IsRight kinds plan run) some → fates.ShowsFate sites parts ls (lines_of some) p (call_of event) (step_shown some p event)
+    fate_line : (some : List (Entry E)) (p : PartId) (event : Event E) → WasShown run p event → ClocksAre some → ShowsAt plan some p event → ResumesAt plan some p event → KeepsIs plan some p event → SettlesAt some p event → ((j : ℕ) → restarts.brought ls (shown_lines some) p j ≡ brought some p j) → EventsAre (IsRight kinds plan run) some → fates.ShowsFate sites parts ls (shown_lines some) p (call_of event) (step_shown some p event)
     fate_line some p (Refused asked IsDown) w cs s r k d br rs = tt
     fate_line some p (Refused asked why) w cs s r k d br rs = tt
     fate_line some p (Cut (Decided t c)) w cs s r k d br rs = tt
@@ -496,7 +490,7 @@ module _ {E : Type 0} where
     }
     fate_line some p event w cs s r k d br rs = tt
 
-    fate_lines : (some : List (Entry E)) → EventsAre (WasShown run) some → ClocksAre some → ShowAt plan some → Resume plan some → KeepsDecided plan some → SettleDoubts some → AreHanded plan some → EventsAre (IsRight kinds plan run) some → EachLine (fates.ShowsFate sites parts ls) (lines_of some)
+    fate_lines : (some : List (Entry E)) → EventsAre (WasShown run) some → ClocksAre some → ShowAt plan some → Resume plan some → KeepsDecided plan some → SettleDoubts some → AreHanded plan some → EventsAre (IsRight kinds plan run) some → EachLine (fates.ShowsFate sites parts ls) (shown_lines some)
     fate_lines [] w cs s r k d hs rs = tt
     fate_lines (e ∷ some) w cs s r k d hs rs = (fate_line some e.at e.event w.0 cs.1 s.0 r.0 k.0 d.0 (brought_is some hs.1 s.1 rs.1 e.at) rs.1, fate_lines some w.1 cs.1 s.1 r.1 k.1 d.1 hs.1 rs.1)
 
@@ -504,17 +498,17 @@ module _ {E : Type 0} where
     entry_eq : (t : TxId) (j : ℕ) → entry (past.snapshot ls t) j ≡ entry (plan.snapshot t) j
     entry_eq t j = ap (λ v. entry v j) (snapshot_is run t)
 
-    behind_line : (some : List (Entry E)) (p : PartId) (t : TxId) (n : ℕ) → n ≡ shown some p → n < entry (plan.snapshot t) p.site → causes.IsBehind ls (lines_of some) p t n
+    behind_line : (some : List (Entry E)) (p : PartId) (t : TxId) (n : ℕ) → n ≡ shown some p → n < entry (plan.snapshot t) p.site → causes.IsBehind ls (shown_lines some) p t n
     behind_line some p t n e h = (e ∙ sym (now_is some p), subst (λ x. n < x) (sym (entry_eq t p.site)) h)
 
-    ready_line : (some : List (Entry E)) (p : PartId) (t : TxId) (s : List ℕ) (o : ObjectId) → s ≡ plan.snapshot t → IsReadyAt plan some p s o → causes.IsReady ls (lines_of some) p t o
+    ready_line : (some : List (Entry E)) (p : PartId) (t : TxId) (s : List ℕ) (o : ObjectId) → s ≡ plan.snapshot t → IsReadyAt plan some p s o → causes.IsReady ls (shown_lines some) p t o
     ready_line some p t s o e h =
         let v : entry s p.site ≡ entry (past.snapshot ls t) p.site = ap (λ x. entry x p.site) e ∙ sym (entry_eq t p.site) in record {
           clock = subst₂ (λ x y. x ≤ y) v (sym (now_is some p)) h.clock;
           free = λ u k y. subst₂ (λ x z. x < z) v (sym (prepare_time_is some p u)) (h.free u (sym (pending_is some p u) ∙ k) (sym (touches_eq u p o) ∙ y));
         }
 
-    first_line : (some : List (Entry E)) (p : PartId) (t : TxId) (s : List ℕ) (o : ObjectId) (u : TxId) (n : ℕ) → s ≡ plan.snapshot t → IsFirstPending plan some p s o u n → causes.IsFirstPending ls (lines_of some) p t o u n
+    first_line : (some : List (Entry E)) (p : PartId) (t : TxId) (s : List ℕ) (o : ObjectId) (u : TxId) (n : ℕ) → s ≡ plan.snapshot t → IsFirstPending plan some p s o u n → causes.IsFirstPending ls (shown_lines some) p t o u n
     first_line some p t s o u n e h =
         let v : entry s p.site ≡ entry (past.snapshot ls t) p.site = ap (λ x. entry x p.site) e ∙ sym (entry_eq t p.site) in record {
           clock = subst₂ (λ x y. x ≤ y) v (sym (now_is some p)) h.clock;
@@ -525,28 +519,30 @@ module _ {E : Type 0} where
           first = λ w ne k y. subst (λ m. IsBefore (u, n) (w, m)) (sym (prepare_time_is some p w)) (h.first w ne (sym (pending_is some p w) ∙ k) (sym (touches_eq w p o) ∙ y));
         }
 
-    stable_line : (some : List (Entry E)) (p : PartId) (dep : List ℕ) (j n : ℕ) → IsBehindAt plan some p dep j n → causes.IsStableBehind sites parts (lines_of some) p dep j n
-    stable_line some p dep j n h = record {
-      other = h.other;
-      have = stable_is parts some p j n h.have;
-      behind = h.behind;
-      least = λ i q o a b k. h.least i q o a b (subst (λ x. x < entry dep i) (known_is some p i q) k);
-    }
+    stable_line : (some : List (Entry E)) (p : PartId) (dep : List ℕ) (j n : ℕ) → IsLeastBehind sites parts p.site (known_shown some p) dep j → IsLeast parts (known_shown some p j) n → causes.StableCause sites parts (shown_lines some) p (call_asked {E = E} (AskBegin [] dep)) j n
+    stable_line some p dep j n h e = (
+      record {
+        other = h.other;
+        behind = (h.behind.0, h.behind.1, h.behind.2, subst (λ x. x < entry dep j) (sym (known_is some p j h.behind.0)) h.behind.3);
+        least = λ i o x. h.least i o (x.0, x.1, x.2, subst (λ y. y < entry dep i) (known_is some p i x.0) x.3);
+      },
+      stable_is parts some p j n e,
+    )
 
-    enough_line : (some : List (Entry E)) (p : PartId) (dep : List ℕ) → ((j q : ℕ) → IsOther sites p.site j → 1 ≤ q → q ≤ parts → entry dep j ≤ known_shown some p j q) → causes.IsStableEnough sites parts (lines_of some) p dep
+    enough_line : (some : List (Entry E)) (p : PartId) (dep : List ℕ) → ((j q : ℕ) → IsOther sites p.site j → 1 ≤ q → q ≤ parts → entry dep j ≤ known_shown some p j q) → causes.IsStableEnough sites parts (shown_lines some) p dep
     enough_line some p dep f = λ j q o a b. subst (λ x. entry dep j ≤ x) (sym (known_is some p j q)) (f j q o a b)
 
-    early_line : (some : List (Entry E)) (p : PartId) (t : TxId) (s : List ℕ) → (s ≡ plan.snapshot t) × (entry s p.site ≤ shown some p) × (shown some p < end_of_time) → (entry (past.snapshot ls t) p.site ≤ clock.now (lines_of some) p) × (clock.now (lines_of some) p < end_of_time)
+    early_line : (some : List (Entry E)) (p : PartId) (t : TxId) (s : List ℕ) → (s ≡ plan.snapshot t) × (entry s p.site ≤ shown some p) × (shown some p < end_of_time) → (entry (past.snapshot ls t) p.site ≤ clock.now (shown_lines some) p) × (clock.now (shown_lines some) p < end_of_time)
     early_line some p t s w = (
       subst₂ (λ x y. x ≤ y) (ap (λ x. entry x p.site) w.0 ∙ sym (entry_eq t p.site)) (sym (now_is some p)) w.1,
       subst (λ x. x < end_of_time) (sym (now_is some p)) w.2,
     )
 
-    took_line : (some : List (Entry E)) (p : PartId) (m : Message E) → (m.lo ≤ bound_shown some p m.from) × (bound_shown some p m.from < m.hi) → (m.lo ≤ bounds.bound (lines_of some) p m.from) × (bounds.bound (lines_of some) p m.from < m.hi)
+    took_line : (some : List (Entry E)) (p : PartId) (m : Message E) → (m.lo ≤ bound_shown some p m.from) × (bound_shown some p m.from < m.hi) → (m.lo ≤ bounds.bound (shown_lines some) p m.from) × (bounds.bound (shown_lines some) p m.from < m.hi)
     took_line some p m w = let e = sym (bound_is some p m.from) in (subst (λ x. m.lo ≤ x) e w.0, subst (λ x. x < m.hi) e w.1)
 
     -- nothing was due before a fault
-    cut_line : (some : List (Entry E)) (p : PartId) (what : Event E) → HandedAt plan some p (Cut what) → IsClearAt plan some p (Cut what) → causes.NoneDue sites parts ls (lines_of some) p (call_cut what)
+    cut_line : (some : List (Entry E)) (p : PartId) (what : Event E) → HandedAt plan some p (Cut what) → IsClearAt plan some p (Cut what) → causes.NoneDue sites parts ls (shown_lines some) p (call_cut what)
     cut_line some p (Began who dep t s) h c = (subst (λ x. x < end_of_time) (sym (now_is some p)) c.0, enough_line some p dep c.1)
     cut_line some p (Read t s o own read value) h c = ready_line some p t s o h.0 c
     cut_line some p (Updated t s o own op read u stamp) h c = λ k. ready_line some p t s o h.0 (c k)
@@ -559,7 +555,7 @@ module _ {E : Type 0} where
     cut_line some p what h c = tt
 
     -- nor before want of room
-    room_line : (some : List (Entry E)) (p : PartId) (asked : Ask E) (n : ℕ) → HandedAt plan some p (Refused asked (HasNoRoom n)) → IsClearAt plan some p (Refused asked (HasNoRoom n)) → IsDueAt {E = E} (Refused asked (HasNoRoom n)) → causes.NoneDue sites parts ls (lines_of some) p (call_asked asked)
+    room_line : (some : List (Entry E)) (p : PartId) (asked : Ask E) (n : ℕ) → HandedAt plan some p (Refused asked (HasNoRoom n)) → IsClearAt plan some p (Refused asked (HasNoRoom n)) → IsDueAt {E = E} (Refused asked (HasNoRoom n)) → causes.NoneDue sites parts ls (shown_lines some) p (call_asked asked)
     room_line some p (AskBegin who dep) n h c d = (subst (λ x. x < end_of_time) (sym (now_is some p)) c.0, enough_line some p dep c.1)
     room_line some p (AskRead t s o own) n h c d = off d
     room_line some p (AskUpdate t s o own op) n h c d = off d
@@ -570,13 +566,13 @@ module _ {E : Type 0} where
     room_line some p (AskTake number m) n h c d = took_line some p m c
     room_line some p asked n h c d = tt
 
-    cause_line : (some : List (Entry E)) (p : PartId) (event : Event E) → HandedAt plan some p event → IsFreshAt plan some p event → IsClearAt plan some p event → HasCauseAt plan some p event → ShowsAt plan some p event → IsDueAt event → IsRight kinds plan run p event → causes.HasCause sites parts ls (lines_of some) p (call_of event) (step_shown some p event)
+    cause_line : (some : List (Entry E)) (p : PartId) (event : Event E) → HandedAt plan some p event → IsFreshAt plan some p event → IsClearAt plan some p event → HasCauseAt plan some p event → ShowsAt plan some p event → IsDueAt event → IsRight kinds plan run p event → causes.HasCause sites parts ls (shown_lines some) p (call_of event) (step_shown some p event)
     cause_line some p (Refused (AskRead t s o own) (ClockBehind n)) h f g c w d r = behind_line some p t n c.0 c.1
     cause_line some p (Refused (AskUpdate t s o own op) (ClockBehind n)) h f g c w d r = (c.0, behind_line some p t n c.1 c.2)
     cause_line some p (Refused (AskPrepare t s l us) (ClockBehind n)) h f g c w d r = behind_line some p t n c.0 c.1
     cause_line some p (Refused (AskRead t s o own) (TxPending u n)) h f g c w d r = first_line some p t s o u n h.0 w
     cause_line some p (Refused (AskUpdate t s o own op) (TxPending u n)) h f g c w d r = (w.0, first_line some p t s o u n h.0 w.1)
-    cause_line some p (Refused (AskBegin who dep) (StableBehind j n)) h f g c w d r = stable_line some p dep j n f
+    cause_line some p (Refused (AskBegin who dep) (StableBehind j n)) h f g c w d r = stable_line some p dep j n f.0 f.1
     cause_line some p (Refused (AskDecide t v) IsGone) h f g c w d r = (refl, unknown_line some p t h w)
     cause_line some p (Refused (AskAbort t) IsGone) h f g c w d r = (refl, pending_is some p t ∙ w)
     cause_line some p (Refused asked (ClockBehind n)) h f g c w d r = off d
@@ -600,7 +596,7 @@ module _ {E : Type 0} where
     cause_line some p (Finished t v) h f g c w d r = known_line some p t w
     cause_line some p event h f g c w d r = tt
 
-    cause_lines : (some : List (Entry E)) → AreHanded plan some → AreFresh plan some → AreClear plan some → HaveCausesAt plan some → ShowAt plan some → AreDue some → EventsAre (IsRight kinds plan run) some → EachLine (causes.HasCause sites parts ls) (lines_of some)
+    cause_lines : (some : List (Entry E)) → AreHanded plan some → AreFresh plan some → AreClear plan some → HaveCausesAt plan some → ShowAt plan some → AreDue some → EventsAre (IsRight kinds plan run) some → EachLine (causes.HasCause sites parts ls) (shown_lines some)
     cause_lines [] h f g c w d r = tt
     cause_lines (e ∷ some) h f g c w d r = (cause_line some e.at e.event h.0 f.0 g.0 c.0 w.0 d.0 r.0, cause_lines some h.1 f.1 g.1 c.1 w.1 d.1 r.1)
 
@@ -617,7 +613,7 @@ module _ {E : Type 0} where
         ∙ precedes_is u t
 
     -- what t reads at p
-    read_same : (some : List (Entry E)) → AreHanded plan some → AreNew some → (p : PartId) (t : TxId) (o : ObjectId) (part : List (Part E)) → IsPlacedAt plan some p t o → IsRightFold plan run p (plan.snapshot t) o part → Same (meaning.read_by plan run some p o t part) (reads.read_by ls (lines_of some) t o)
+    read_same : (some : List (Entry E)) → AreHanded plan some → AreNew some → (p : PartId) (t : TxId) (o : ObjectId) (part : List (Part E)) → IsPlacedAt plan some p t o → IsRightFold plan run p (plan.snapshot t) o part → Same (meaning.read_by plan run some p o t part) (reads.read_by ls (shown_lines some) t o)
     read_same some h n p t o part place fold =
         let hs = filter (past.visible ls (past.snapshot ls t)) (past.history ls) in
         let by_tx : TxId → List Update = λ u. updates_at_place sites parts run o u (asked_at run u (twin u.site p)) in
@@ -625,32 +621,32 @@ module _ {E : Type 0} where
         let put : Same older (flat_map by_tx hs) = all_put sites parts run p o hs (once_filter (past.visible ls (past.snapshot ls t)) (past.history ls) (history_once ls)) (plan.snapshot t) part fold (seen_by t) law.planned in
         let grown = grows sites parts run o t (asked_at some t p) older (flat_map by_tx hs) [] (subst (Same older) (sym (append-nil (flat_map by_tx hs))) put) in
         let theirs : flat_map by_tx hs ≡ reads.updates_of ls o (past.visible ls (past.snapshot ls t)) = λ i. flat_map (λ u. sym (updates_is sites parts run run law.handed law.numbered u o (twin u.site p) refl place.part) i) hs in
-        let own : updates_at_place sites parts run o t (asked_at some t p) ++ [] ≡ reads.updates_in ls o t (updates.changes (lines_of some) t) = append-nil (updates_at_place sites parts run o t (asked_at some t p)) ∙ sym (updates_is sites parts run some h n t o p place.site place.part) in
+        let own : updates_at_place sites parts run o t (asked_at some t p) ++ [] ≡ reads.updates_in ls o t (updates.changes (shown_lines some) t) = append-nil (updates_at_place sites parts run o t (asked_at some t p)) ∙ sym (updates_is sites parts run some h n t o p place.site place.part) in
         subst (Same (meaning.read_by plan run some p o t part)) (λ i. theirs i ++ own i) grown
 
-    right_line : (some : List (Entry E)) → AreHanded plan some → AreNew some → (p : PartId) (event : Event E) → HandedAt plan some p event → IsNew some event → IsRight kinds plan run p event → meaning.HasMeaning kinds plan run some p event → IsKnown kinds p event → reads.IsRightRead kinds.meaning ls (lines_of some) p (call_of event) (step_shown some p event)
+    right_line : (some : List (Entry E)) → AreHanded plan some → AreNew some → (p : PartId) (event : Event E) → HandedAt plan some p event → IsNew some event → IsRight kinds plan run p event → meaning.HasMeaning kinds plan run some p event → IsKnown kinds p event → reads.IsRightRead kinds.meaning ls (shown_lines some) p (call_of event) (step_shown some p event)
     right_line some hs ns p (Refused asked IsDown) h n r m k = tt
     right_line some hs ns p (Refused asked why) h n r m k = tt
     right_line some hs ns p (Cut (Decided t c)) h n r m k = tt
     right_line some hs ns p (Cut a) h n r m k = tt
     right_line some hs ns p (Read t s o own part value) h n r m k =
         let fold = subst (λ v. IsRightFold plan run p v o part) r.0 r.1 in
-        m ∙ kinds.laws.orderless o.kind (meaning.read_by plan run some p o t part) (reads.read_by ls (lines_of some) t o) k (read_same some hs ns p t o part h fold)
+        m ∙ kinds.laws.orderless o.kind (meaning.read_by plan run some p o t part) (reads.read_by ls (shown_lines some) t o) k (read_same some hs ns p t o part h fold)
     right_line some hs ns p (Updated t s o own op part u stamp) h n r m k =
         let a : Asked E = record { change = u; op = op; stamp = stamp; now = shown some p } in
-        let c : updates.Change = record { at = p; now = clock.now (lines_of some) p; object = o; op = op; stamp = stamp; index = length (updates.changes (lines_of some) t) + 1 } in
-        let index : length (updates.changes (lines_of some) t) + 1 ≡ u.index = ap (λ y. y + 1) (count_is some t) ∙ sym n.number in
+        let c : updates.Change = record { at = p; now = clock.now (shown_lines some) p; object = o; op = op; stamp = stamp; index = length (updates.changes (shown_lines some) t) + 1 } in
+        let index : length (updates.changes (shown_lines some) t) + 1 ≡ u.index = ap (λ y. y + 1) (count_is some t) ∙ sym n.number in
         let same : c ≡ to_change p a = λ i. record { at = p; now = now_is some p i; object = sym h.1 i; op = op; stamp = stamp; index = index i } in
         let mine = meaning.update_of plan run t a in
         let fit = (and_parts (fits o.kind op.path op.act) _ k.1).0 in
         m ∙ ⊎_elim
-        (λ (x : reads_state o.kind ≡ true). stamp_same o.kind (meaning.read_by plan run some p o t part) (reads.read_by ls (lines_of some) t o) mine (read_same some hs ns p t o part h.0 (subst (λ v. IsRightFold plan run p v o part) r.0 (r.1 x))))
-        (λ (x : reads_state o.kind ≡ false). none_due o.kind (meaning.read_by plan run some p o t part) mine x fit ∙ sym (none_due o.kind (reads.read_by ls (lines_of some) t o) mine x fit))
+        (λ (x : reads_state o.kind ≡ true). stamp_same o.kind (meaning.read_by plan run some p o t part) (reads.read_by ls (shown_lines some) t o) mine (read_same some hs ns p t o part h.0 (subst (λ v. IsRightFold plan run p v o part) r.0 (r.1 x))))
+        (λ (x : reads_state o.kind ≡ false). none_due o.kind (meaning.read_by plan run some p o t part) mine x fit ∙ sym (none_due o.kind (reads.read_by ls (shown_lines some) t o) mine x fit))
         (cases_Bool (reads_state o.kind))
-        ∙ ap (stamp_due o.kind (reads.read_by ls (lines_of some) t o)) (sym (ap (reads.update_of ls t) same ∙ update_is sites parts run t p a))
+        ∙ ap (stamp_due o.kind (reads.read_by ls (shown_lines some) t o)) (sym (ap (reads.update_of ls t) same ∙ update_is sites parts run t p a))
     right_line some hs ns p event h n r m k = tt
 
-    right_lines : (some : List (Entry E)) → AreHanded plan some → AreNew some → EventsAre (IsRight kinds plan run) some → meaning.HaveMeaning kinds plan run some → EventsAre (IsKnown kinds) some → EachLine (reads.IsRightRead kinds.meaning ls) (lines_of some)
+    right_lines : (some : List (Entry E)) → AreHanded plan some → AreNew some → EventsAre (IsRight kinds plan run) some → meaning.HaveMeaning kinds plan run some → EventsAre (IsKnown kinds) some → EachLine (reads.IsRightRead kinds.meaning ls) (shown_lines some)
     right_lines [] h n r m k = tt
     right_lines (e ∷ some) h n r m k = (right_line some h.1 n.1 e.at e.event h.0 n.0 r.0 m.0 k.0, right_lines some h.1 n.1 r.1 m.1 k.1)
 
@@ -665,7 +661,7 @@ module _ {E : Type 0} where
         parts_counted (commit_vector plan run) (λ u. plan.updates u p) p.site hs (history_once ls) m.parts x.exact x.order inside
         ∙ ap length (filter_in (λ t. lists m.parts t) (λ t. updates.takes_part ls t p && (ltb m.lo (past.commit_time ls t) && leb (past.commit_time ls t) m.hi)) hs same)
 
-    stream_line : (some : List (Entry E)) (p : PartId) (event : Event E) → HandedAt plan some p event → SendsAt plan some p event → ShowsAt plan some p event → IsDueAt event → IsRight kinds plan run p event → streams.IsStream sites ls (lines_of some) p (call_of event) (step_shown some p event)
+    stream_line : (some : List (Entry E)) (p : PartId) (event : Event E) → HandedAt plan some p event → SendsAt plan some p event → ShowsAt plan some p event → IsDueAt event → IsRight kinds plan run p event → streams.IsStream sites ls (shown_lines some) p (call_of event) (step_shown some p event)
     stream_line some p (Sent asked m) h n s d r = record { row = ap (λ x. x + 1) (sym (sent_count_is some p)); to = n.to; low = n.lo ∙ ap (low_of asked) (sym (last_sent_is some p m.to)); high = own_bound_is some p m.hi s; parts = count_line p m r }
     stream_line some p (Took number m) h n s d r = let e = sym (bound_is some p m.from) in (refl, subst (λ x. m.lo ≤ x) e s.0, subst (λ x. x < m.hi) e s.1, handed_line plan some p number m h)
     stream_line some p (Reported b) h n s d r = ap (λ x. x + 1) (sym (report_count_is some p))
@@ -683,7 +679,7 @@ module _ {E : Type 0} where
     stream_line some p (Cut a) h n s d r = tt
     stream_line some p event h n s d r = tt
 
-    stream_lines : (some : List (Entry E)) → AreHanded plan some → Send plan some → ShowAt plan some → AreDue some → EventsAre (IsRight kinds plan run) some → EachLine (streams.IsStream sites ls) (lines_of some)
+    stream_lines : (some : List (Entry E)) → AreHanded plan some → Send plan some → ShowAt plan some → AreDue some → EventsAre (IsRight kinds plan run) some → EachLine (streams.IsStream sites ls) (shown_lines some)
     stream_lines [] h n s d r = tt
     stream_lines (e ∷ some) h n s d r = (stream_line some e.at e.event h.0 n.0 s.0 d.0 r.0, stream_lines some h.1 n.1 s.1 d.1 r.1)
 
@@ -697,17 +693,17 @@ module _ {E : Type 0} where
     vote_line some p (Refused asked why) h = tt
     vote_line some p event h = tt
 
-    vote_lines : (some : List (Entry E)) → AreHanded plan some → EachLine (λ before p call step. commit.IsAskedAt ls p call) (lines_of some)
+    vote_lines : (some : List (Entry E)) → AreHanded plan some → EachLine (λ before p call step. commit.IsAskedAt ls p call) (shown_lines some)
     vote_lines [] h = tt
     vote_lines (e ∷ some) h = (vote_line some e.at e.event h.0, vote_lines some h.1)
 
-    order_lines : past.IsStrictOrder (lines_of run)
+    order_lines : past.IsStrictOrder (shown_lines run)
     order_lines = record {
       irreflexive = λ t. precedes_is t t ∙ no_self kinds plan run facts t;
-      transitive = λ t u w h k. closed_lines (past.snapshot (lines_of run) w) t u k h;
+      transitive = λ t u w h k. closed_lines (past.snapshot (shown_lines run) w) t u k h;
     }
 
-    pub lawful_lines : IsLawful kinds.too_deep kinds.meaning sites parts (lines_of run)
+    pub lawful_lines : IsLawful kinds.too_deep kinds.meaning sites parts (shown_lines run)
     lawful_lines = record {
       places = place_lines plan run law.places;
       answers = answer_lines plan run law.handed law.due;
@@ -727,5 +723,5 @@ module _ {E : Type 0} where
       ops = op_lines kinds run law.known;
       ups = up_lines run law.downs law.due;
       order = order_lines;
-      closed = λ t h. closed_lines (past.snapshot (lines_of run) t);
+      closed = λ t h. closed_lines (past.snapshot (shown_lines run) t);
     }

@@ -28,7 +28,7 @@ use Rattle.world_model.specs.rules.World.{plan_of}
 use Rattle.world_model.specs.events.Reads.{sees_tx, IsRightFold, Asked, asked_at}
 use Rattle.world_model.specs.events.Reads as events
 use Rattle.world_model.specs.lines.Lines.{Line}
-use Rattle.world_model.specs.rules.Lines.{call_of, step_shown, lines_of}
+use Rattle.world_model.specs.rules.Lines.{call_of, step_shown, shown_lines}
 use Rattle.world_model.specs.declared.step.Step.{Step}
 use Rattle.world_model.specs.declared.step.Step.TheVariants as step
 use Rattle.world_model.specs.lines.Clock.{now}
@@ -111,13 +111,13 @@ module _ {E : Type 0} where
   change_stands plan run p (Cut a) t time index h = tt
   change_stands plan run p event t time index h = tt
 
-  changes_stand : (plan : Plan E) (run : List (Entry E)) → AreHanded plan run → (t : TxId) → Each (StandsHere plan.parts t) (changes (lines_of run) t)
+  changes_stand : (plan : Plan E) (run : List (Entry E)) → AreHanded plan run → (t : TxId) → Each (StandsHere plan.parts t) (changes (shown_lines run) t)
   changes_stand plan [] h t = tt
-  changes_stand plan (e ∷ run) h t = each_append (StandsHere plan.parts t) (changes (lines_of run) t) (change_of e.at (now (lines_of run) e.at) (length (changes (lines_of run) t) + 1) (call_of e.event) (step_shown run e.at e.event) t) (changes_stand plan run h.1 t) (change_stands plan run e.at e.event t (now (lines_of run) e.at) (length (changes (lines_of run) t) + 1) h.0)
+  changes_stand plan (e ∷ run) h t = each_append (StandsHere plan.parts t) (changes (shown_lines run) t) (change_of e.at (now (shown_lines run) e.at) (length (changes (shown_lines run) t) + 1) (call_of e.event) (step_shown run e.at e.event) t) (changes_stand plan run h.1 t) (change_stands plan run e.at e.event t (now (shown_lines run) e.at) (length (changes (shown_lines run) t) + 1) h.0)
 
-  object_changes : (plan : Plan E) (run : List (Entry E)) → AreHanded plan run → AreNew run → (t : TxId) (o : ObjectId) (q : PartId) → q.site ≡ t.site → place_of o.bucket o.key plan.parts ≡ q.part → filter (λ c. same_object c.object o) (changes (lines_of run) t) ≡ map (to_change q) (filter (λ a. same_object a.change.object o) (asked_at run t q))
+  object_changes : (plan : Plan E) (run : List (Entry E)) → AreHanded plan run → AreNew run → (t : TxId) (o : ObjectId) (q : PartId) → q.site ≡ t.site → place_of o.bucket o.key plan.parts ≡ q.part → filter (λ c. same_object c.object o) (changes (shown_lines run) t) ≡ map (to_change q) (filter (λ a. same_object a.change.object o) (asked_at run t q))
   object_changes plan run h n t o q s k =
-      filter_narrow (λ c. same_part c.at q) (λ c. same_object c.object o) (changes (lines_of run) t) (at_place plan.parts t o q s k (changes (lines_of run) t) (changes_stand plan run h t))
+      filter_narrow (λ c. same_part c.at q) (λ c. same_object c.object o) (changes (shown_lines run) t) (at_place plan.parts t o q s k (changes (shown_lines run) t) (changes_stand plan run h t))
       ∙ ap (filter (λ c. same_object c.object o)) (changes_there plan run h n t q)
       ∙ filter_map (to_change q) (λ c. same_object c.object o) (asked_at run t q)
 
@@ -126,7 +126,7 @@ module _ {E : Type 0} where
     plan = plan_of sites parts whole
 
     abbrev pub ls : List Line
-    ls = lines_of whole
+    ls = shown_lines whole
 
     precedes_is : (t u : TxId) → past.precedes ls t u ≡ sees_tx plan whole (plan.snapshot u) t
     precedes_is t u = ap (λ v. past.visible ls v t) (snapshot_is whole u) ∙ visible_is whole (plan.snapshot u) t
@@ -146,7 +146,7 @@ module _ {E : Type 0} where
     abbrev pub updates_at_place : ObjectId → TxId → List (Asked E) → List Update
     updates_at_place o t asks = map (λ a. events.update_of plan whole t a) (filter (λ a. same_object a.change.object o) asks)
 
-    pub updates_is : (some : List (Entry E)) → AreHanded plan some → AreNew some → (t : TxId) (o : ObjectId) (q : PartId) → q.site ≡ t.site → place_of o.bucket o.key parts ≡ q.part → reads.updates_in ls o t (changes (lines_of some) t) ≡ updates_at_place o t (asked_at some t q)
+    pub updates_is : (some : List (Entry E)) → AreHanded plan some → AreNew some → (t : TxId) (o : ObjectId) (q : PartId) → q.site ≡ t.site → place_of o.bucket o.key parts ≡ q.part → reads.updates_in ls o t (changes (shown_lines some) t) ≡ updates_at_place o t (asked_at some t q)
     updates_is some h n t o q s k =
         ap (map (λ c. reads.update_of ls t c)) (object_changes plan some h n t o q s k)
         ∙ map_map (to_change q) (λ c. reads.update_of ls t c) (filter (λ a. same_object a.change.object o) (asked_at some t q))

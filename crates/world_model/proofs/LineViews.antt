@@ -18,7 +18,7 @@ use Rattle.world_model.specs.events.Pending as pending
 use Rattle.world_model.specs.events.Fresh.{heard_from, heard_shown, known_shown}
 use Rattle.world_model.specs.lines.Bounds.{IsLeast}
 use Rattle.world_model.specs.events.Streams as sends
-use Rattle.world_model.specs.rules.Lines.{call_of, step_shown, lines_of}
+use Rattle.world_model.specs.rules.Lines.{call_of, step_shown, shown_lines}
 use Rattle.world_model.specs.declared.step.Step.TheVariants as step
 use Rattle.world_model.specs.lines.Clock as clock
 use Rattle.world_model.specs.lines.History as past
@@ -42,7 +42,7 @@ module _ {E : Type 0} where
   time_here run p old (Cut a) = refl
   time_here run p old event = refl
 
-  pub now_is : (run : List (Entry E)) (p : PartId) → clock.now (lines_of run) p ≡ shown run p
+  pub now_is : (run : List (Entry E)) (p : PartId) → clock.now (shown_lines run) p ≡ shown run p
   now_is [] p = refl
   now_is (e ∷ run) p = λ i. cond (same_part e.at p) ((ap (λ o. clock.time_after o (step_shown run e.at e.event)) (now_is run p) ∙ time_here run e.at (shown run p) e.event) i) (now_is run p i)
 
@@ -62,7 +62,7 @@ module _ {E : Type 0} where
   decides_here run p t (Cut a) = refl
   decides_here run p t event = refl
 
-  pub in_history_is : (run : List (Entry E)) (t : TxId) → past.in_history (lines_of run) t ≡ is_decided run t
+  pub in_history_is : (run : List (Entry E)) (t : TxId) → past.in_history (shown_lines run) t ≡ is_decided run t
   in_history_is [] t = refl
   in_history_is (e ∷ run) t = λ i. (decides_here run e.at t e.event i || in_history_is run t i)
 
@@ -73,7 +73,7 @@ module _ {E : Type 0} where
   snapshot_here run p t old (Cut a) = refl
   snapshot_here run p t old event = refl
 
-  pub snapshot_is : (run : List (Entry E)) (t : TxId) → past.snapshot (lines_of run) t ≡ snapshot_of run t
+  pub snapshot_is : (run : List (Entry E)) (t : TxId) → past.snapshot (shown_lines run) t ≡ snapshot_of run t
   snapshot_is [] t = refl
   snapshot_is (e ∷ run) t = ap (λ o. past.snapshot_after t o (step_shown run e.at e.event)) (snapshot_is run t) ∙ snapshot_here run e.at t (snapshot_of run t) e.event
 
@@ -84,14 +84,14 @@ module _ {E : Type 0} where
   commit_time_here run p t old (Cut a) = refl
   commit_time_here run p t old event = refl
 
-  pub commit_time_is : (run : List (Entry E)) (t : TxId) → past.commit_time (lines_of run) t ≡ time_of run t
+  pub commit_time_is : (run : List (Entry E)) (t : TxId) → past.commit_time (shown_lines run) t ≡ time_of run t
   commit_time_is [] t = refl
   commit_time_is (e ∷ run) t = ap (λ o. past.commit_time_after t o (step_shown run e.at e.event)) (commit_time_is run t) ∙ commit_time_here run e.at t (time_of run t) e.event
 
-  pub vector_is : (run : List (Entry E)) (t : TxId) → past.commit_vector (lines_of run) t ≡ replaced (snapshot_of run t) t.site (time_of run t)
+  pub vector_is : (run : List (Entry E)) (t : TxId) → past.commit_vector (shown_lines run) t ≡ replaced (snapshot_of run t) t.site (time_of run t)
   vector_is run t = λ i. replaced (snapshot_is run t i) t.site (commit_time_is run t i)
 
-  pub visible_is : (run : List (Entry E)) (v : List ℕ) (t : TxId) → past.visible (lines_of run) v t ≡ (is_decided run t && le (replaced (snapshot_of run t) t.site (time_of run t)) v)
+  pub visible_is : (run : List (Entry E)) (v : List ℕ) (t : TxId) → past.visible (shown_lines run) v t ≡ (is_decided run t && le (replaced (snapshot_of run t) t.site (time_of run t)) v)
   visible_is run v t = λ i. (in_history_is run t i && le (vector_is run t i) v)
 
   begins_for_here : (run : List (Entry E)) (p : PartId) (who : List ℕ) (t : TxId) (event : Event E) → session.begins_for (step_shown run p event) who t ≡ dependency.begins_for event who t
@@ -101,11 +101,11 @@ module _ {E : Type 0} where
   begins_for_here run p who t (Cut a) = refl
   begins_for_here run p who t event = refl
 
-  pub is_of_is : (run : List (Entry E)) (who : List ℕ) (t : TxId) → session.is_of (lines_of run) who t ≡ dependency.is_of run who t
+  pub is_of_is : (run : List (Entry E)) (who : List ℕ) (t : TxId) → session.is_of (shown_lines run) who t ≡ dependency.is_of run who t
   is_of_is [] who t = refl
   is_of_is (e ∷ run) who t = λ i. (begins_for_here run e.at who t e.event i || is_of_is run who t i)
 
-  dependency_here : (sites : ℕ) (run : List (Entry E)) (p : PartId) (who old : List ℕ) (event : Event E) → session.dependency_after sites (lines_of run) who old (step_shown run p event) ≡ events.dependency_after sites run who old event
+  dependency_here : (sites : ℕ) (run : List (Entry E)) (p : PartId) (who old : List ℕ) (event : Event E) → session.dependency_after sites (shown_lines run) who old (step_shown run p event) ≡ events.dependency_after sites run who old event
   dependency_here sites run p who old (Refused asked IsDown) = refl
   dependency_here sites run p who old (Refused asked why) = refl
   dependency_here sites run p who old (Cut (Decided u c)) = refl
@@ -113,9 +113,9 @@ module _ {E : Type 0} where
   dependency_here sites run p who old (Decided u c) = ap (λ b. cond b (join old c) old) (is_of_is run who u)
   dependency_here sites run p who old event = refl
 
-  pub dependency_is : (sites : ℕ) (run : List (Entry E)) (who : List ℕ) → session.dependency sites (lines_of run) who ≡ events.dependency sites run who
+  pub dependency_is : (sites : ℕ) (run : List (Entry E)) (who : List ℕ) → session.dependency sites (shown_lines run) who ≡ events.dependency sites run who
   dependency_is sites [] who = refl
-  dependency_is sites (e ∷ run) who = ap (λ o. session.dependency_after sites (lines_of run) who o (step_shown run e.at e.event)) (dependency_is sites run who) ∙ dependency_here sites run e.at who (events.dependency sites run who) e.event
+  dependency_is sites (e ∷ run) who = ap (λ o. session.dependency_after sites (shown_lines run) who o (step_shown run e.at e.event)) (dependency_is sites run who) ∙ dependency_here sites run e.at who (events.dependency sites run who) e.event
 
   pending_here : (run : List (Entry E)) (p : PartId) (t : TxId) (old : Bool) (event : Event E) → fate.pending_after t old (step_shown run p event) ≡ pending.pending_after t old event
   pending_here run p t old (Refused asked IsDown) = refl
@@ -124,7 +124,7 @@ module _ {E : Type 0} where
   pending_here run p t old (Cut a) = refl
   pending_here run p t old event = refl
 
-  pub pending_is : (run : List (Entry E)) (p : PartId) (t : TxId) → fate.pending (lines_of run) p t ≡ pending.pending_shown run p t
+  pub pending_is : (run : List (Entry E)) (p : PartId) (t : TxId) → fate.pending (shown_lines run) p t ≡ pending.pending_shown run p t
   pending_is [] p t = refl
   pending_is (e ∷ run) p t = λ i. cond (same_part e.at p) ((ap (λ o. fate.pending_after t o (step_shown run e.at e.event)) (pending_is run p t) ∙ pending_here run e.at t (pending.pending_shown run p t) e.event) i) (pending_is run p t i)
 
@@ -135,7 +135,7 @@ module _ {E : Type 0} where
   prepare_time_here run p t old (Cut a) = refl
   prepare_time_here run p t old event = refl
 
-  pub prepare_time_is : (run : List (Entry E)) (p : PartId) (t : TxId) → fate.prepare_time (lines_of run) p t ≡ pending.pending_time run p t
+  pub prepare_time_is : (run : List (Entry E)) (p : PartId) (t : TxId) → fate.prepare_time (shown_lines run) p t ≡ pending.pending_time run p t
   prepare_time_is [] p t = refl
   prepare_time_is (e ∷ run) p t = λ i. cond (same_part e.at p) ((ap (λ o. fate.prepare_time_after t o (step_shown run e.at e.event)) (prepare_time_is run p t) ∙ prepare_time_here run e.at t (pending.pending_time run p t) e.event) i) (prepare_time_is run p t i)
 
@@ -146,7 +146,7 @@ module _ {E : Type 0} where
   doubt_here run p t old (Cut a) = refl
   doubt_here run p t old event = refl
 
-  pub doubt_is : (run : List (Entry E)) (p : PartId) (t : TxId) → fate.in_doubt (lines_of run) p t ≡ pending.in_doubt run p t
+  pub doubt_is : (run : List (Entry E)) (p : PartId) (t : TxId) → fate.in_doubt (shown_lines run) p t ≡ pending.in_doubt run p t
   doubt_is [] p t = refl
   doubt_is (e ∷ run) p t = λ i. cond (same_part e.at p) ((ap (λ o. fate.doubt_after t o (step_shown run e.at e.event)) (doubt_is run p t) ∙ doubt_here run e.at t (pending.in_doubt run p t) e.event) i) (doubt_is run p t i)
 
@@ -157,7 +157,7 @@ module _ {E : Type 0} where
   asks_here run p t (Cut a) = refl
   asks_here run p t event = refl
 
-  pub asked_is : (run : List (Entry E)) (t : TxId) → commit.is_decide_asked (lines_of run) t ≡ decide_tried run t
+  pub asked_is : (run : List (Entry E)) (t : TxId) → commit.is_decide_asked (shown_lines run) t ≡ decide_tried run t
   asked_is [] t = refl
   asked_is (e ∷ run) t = λ i. (asks_here run e.at t e.event i || asked_is run t i)
 
@@ -168,7 +168,7 @@ module _ {E : Type 0} where
   down_here run p old (Cut a) = refl
   down_here run p old event = refl
 
-  pub down_is : (run : List (Entry E)) (p : PartId) → fate.is_down (lines_of run) p ≡ pending.is_down run p
+  pub down_is : (run : List (Entry E)) (p : PartId) → fate.is_down (shown_lines run) p ≡ pending.is_down run p
   down_is [] p = refl
   down_is (e ∷ run) p = λ i. cond (same_part e.at p) ((ap (λ o. fate.down_after o (step_shown run e.at e.event)) (down_is run p) ∙ down_here run e.at (pending.is_down run p) e.event) i) (down_is run p i)
 
@@ -179,7 +179,7 @@ module _ {E : Type 0} where
   last_here run p old (Cut a) = refl
   last_here run p old event = refl
 
-  pub last_is : (run : List (Entry E)) (p : PartId) → restarts.last_decided (lines_of run) p ≡ resumed.last_shown run p
+  pub last_is : (run : List (Entry E)) (p : PartId) → restarts.last_decided (shown_lines run) p ≡ resumed.last_shown run p
   last_is [] p = refl
   last_is (e ∷ run) p = λ i. cond (same_part e.at p) ((ap (λ o. restarts.decided_after o (step_shown run e.at e.event)) (last_is run p) ∙ last_here run e.at (resumed.last_shown run p) e.event) i) (last_is run p i)
 
@@ -190,11 +190,11 @@ module _ {E : Type 0} where
   bound_here run p j old (Cut a) = refl
   bound_here run p j old event = refl
 
-  pub bound_is : (run : List (Entry E)) (p : PartId) (j : ℕ) → bounds.bound (lines_of run) p j ≡ told.bound_shown run p j
+  pub bound_is : (run : List (Entry E)) (p : PartId) (j : ℕ) → bounds.bound (shown_lines run) p j ≡ told.bound_shown run p j
   bound_is [] p j = refl
   bound_is (e ∷ run) p j = λ i. cond (same_part e.at p) ((ap (λ o. bounds.bound_after j o (call_of e.event) (step_shown run e.at e.event)) (bound_is run p j) ∙ bound_here run e.at j (told.bound_shown run p j) e.event) i) (bound_is run p j i)
 
-  pub heard_here : (run : List (Entry E)) (p : PartId) (q j old : ℕ) (event : Event E) → bounds.heard_after q j old (call_of event) (step_shown run p event) ≡ heard_from q j old event
+  heard_here : (run : List (Entry E)) (p : PartId) (q j old : ℕ) (event : Event E) → bounds.heard_after q j old (call_of event) (step_shown run p event) ≡ heard_from q j old event
   heard_here run p q j old (Refused asked IsDown) = refl
   heard_here run p q j old (Refused asked why) = refl
   heard_here run p q j old (Cut (Decided u c)) = refl
@@ -202,17 +202,17 @@ module _ {E : Type 0} where
   heard_here run p q j old (Heard number k b stable) = none_more (k == q) old (entry b j)
   heard_here run p q j old event = refl
 
-  pub heard_is : (run : List (Entry E)) (p : PartId) (q j : ℕ) → bounds.heard (lines_of run) p q j ≡ heard_shown run p q j
+  pub heard_is : (run : List (Entry E)) (p : PartId) (q j : ℕ) → bounds.heard (shown_lines run) p q j ≡ heard_shown run p q j
   heard_is [] p q j = refl
   heard_is (e ∷ run) p q j = λ i. cond (same_part e.at p) ((ap (λ o. bounds.heard_after q j o (call_of e.event) (step_shown run e.at e.event)) (heard_is run p q j) ∙ heard_here run e.at q j (heard_shown run p q j) e.event) i) (heard_is run p q j i)
 
-  pub known_is : (run : List (Entry E)) (p : PartId) (j q : ℕ) → bounds.known (lines_of run) p j q ≡ known_shown run p j q
+  pub known_is : (run : List (Entry E)) (p : PartId) (j q : ℕ) → bounds.known (shown_lines run) p j q ≡ known_shown run p j q
   known_is run p j q = λ i. cond (p.part == q) (bound_is run p j i) (heard_is run p q j i)
 
-  pub stable_is : (parts : ℕ) (run : List (Entry E)) (p : PartId) (j n : ℕ) → IsLeast parts (known_shown run p j) n → bounds.IsStableEntry parts (lines_of run) p j n
+  pub stable_is : (parts : ℕ) (run : List (Entry E)) (p : PartId) (j n : ℕ) → IsLeast parts (known_shown run p j) n → bounds.IsStableEntry parts (shown_lines run) p j n
   stable_is parts run p j n h = subst (λ known. IsLeast parts known n) (λ i. λ q. sym (known_is run p j q) i) h
 
-  pub own_bound_is : (run : List (Entry E)) (p : PartId) (b : ℕ) → told.IsOwnBoundAt run p b → bounds.IsOwnBound (lines_of run) p b
+  pub own_bound_is : (run : List (Entry E)) (p : PartId) (b : ℕ) → told.IsOwnBoundAt run p b → bounds.IsOwnBound (shown_lines run) p b
   own_bound_is run p b o = record {
     most = subst (λ n. b ≤ n) (sym (now_is run p)) o.most;
     below = λ u h. subst (λ n. b < n) (sym (prepare_time_is run p u)) (o.below u (sym (pending_is run p u) ∙ h));
@@ -223,14 +223,14 @@ module _ {E : Type 0} where
   }
 
   -- the missed times need what calls that were cut off would have shown
-  pub missed_is : (run : List (Entry E)) → ClocksAre run → (p : PartId) → clock.missed (lines_of run) p ≡ missed run p
+  pub missed_is : (run : List (Entry E)) → ClocksAre run → (p : PartId) → clock.missed (shown_lines run) p ≡ missed run p
   missed_is [] h p = refl
   missed_is (e ∷ run) h p = ⊎_elim
       (λ (k : same_part e.at p ≡ true).
       let same = same_part_is e.at p k in
-      let here : clock.missed_after (clock.now (lines_of run) e.at) (clock.missed (lines_of run) e.at) (call_of e.event) (step_shown run e.at e.event) ≡ missed_after (missed run e.at) e.event =
+      let here : clock.missed_after (clock.now (shown_lines run) e.at) (clock.missed (shown_lines run) e.at) (call_of e.event) (step_shown run e.at e.event) ≡ missed_after (missed run e.at) e.event =
       (λ i. clock.missed_after (now_is run e.at i) (missed_is run h.1 e.at i) (call_of e.event) (step_shown run e.at e.event)) ∙ missed_here run e.at (missed run e.at) e.event h.0 in
-      cond-true _ _ _ k ∙ subst (λ y. clock.missed_after (clock.now (lines_of run) y) (clock.missed (lines_of run) y) (call_of e.event) (step_shown run e.at e.event) ≡ missed_after (missed run y) e.event) same here ∙ sym (cond-true _ _ _ k))
+      cond-true _ _ _ k ∙ subst (λ y. clock.missed_after (clock.now (shown_lines run) y) (clock.missed (shown_lines run) y) (call_of e.event) (step_shown run e.at e.event) ≡ missed_after (missed run y) e.event) same here ∙ sym (cond-true _ _ _ k))
       (λ (k : same_part e.at p ≡ false). cond-false _ _ _ k ∙ missed_is run h.1 p ∙ sym (cond-false _ _ _ k))
       (cases_Bool (same_part e.at p))
 
@@ -241,7 +241,7 @@ module _ {E : Type 0} where
   prepares_here run p t (Cut a) = refl
   prepares_here run p t event = refl
 
-  pub was_prepared_is : (run : List (Entry E)) (t : TxId) (p : PartId) → commit.was_prepared (lines_of run) t p ≡ voted run t p
+  pub was_prepared_is : (run : List (Entry E)) (t : TxId) (p : PartId) → commit.was_prepared (shown_lines run) t p ≡ voted run t p
   was_prepared_is [] t p = refl
   was_prepared_is (e ∷ run) t p = λ i. ((same_part e.at p && prepares_here run e.at t e.event i) || was_prepared_is run t p i)
 
@@ -252,7 +252,7 @@ module _ {E : Type 0} where
   sent_here run p j old (Cut a) = refl
   sent_here run p j old event = refl
 
-  pub last_sent_is : (run : List (Entry E)) (p : PartId) (j : ℕ) → streams.last_sent (lines_of run) p j ≡ sends.last_sent run p j
+  pub last_sent_is : (run : List (Entry E)) (p : PartId) (j : ℕ) → streams.last_sent (shown_lines run) p j ≡ sends.last_sent run p j
   last_sent_is [] p j = refl
   last_sent_is (e ∷ run) p j = λ i. cond (same_part e.at p) ((ap (λ o. streams.sent_after j o (step_shown run e.at e.event)) (last_sent_is run p j) ∙ sent_here run e.at j (sends.last_sent run p j) e.event) i) (last_sent_is run p j i)
 
@@ -263,7 +263,7 @@ module _ {E : Type 0} where
   is_sent_here run p (Cut a) = refl
   is_sent_here run p event = refl
 
-  pub sent_count_is : (run : List (Entry E)) (p : PartId) → streams.sent_count (lines_of run) p ≡ sent_count run p
+  pub sent_count_is : (run : List (Entry E)) (p : PartId) → streams.sent_count (shown_lines run) p ≡ sent_count run p
   sent_count_is [] p = refl
   sent_count_is (e ∷ run) p = λ i. cond (same_part e.at p && is_sent_here run e.at e.event i) (sent_count_is run p i + 1) (sent_count_is run p i)
 
@@ -274,12 +274,12 @@ module _ {E : Type 0} where
   is_report_here run p (Cut a) = refl
   is_report_here run p event = refl
 
-  pub report_count_is : (run : List (Entry E)) (p : PartId) → streams.report_count (lines_of run) p ≡ report_count run p
+  pub report_count_is : (run : List (Entry E)) (p : PartId) → streams.report_count (shown_lines run) p ≡ report_count run p
   report_count_is [] p = refl
   report_count_is (e ∷ run) p = λ i. cond (same_part e.at p && is_report_here run e.at e.event i) (report_count_is run p i + 1) (report_count_is run p i)
 
   -- what was sent or reported stands in the lines, with its number
-  pub sent_line : (run : List (Entry E)) (number : ℕ) (q : PartId) (asked : Option ℕ) (m : Message E) → WasNumbered sent_count run number q (Sent asked m) → streams.WasSent (lines_of run) q number m.to m.lo m.hi
+  pub sent_line : (run : List (Entry E)) (number : ℕ) (q : PartId) (asked : Option ℕ) (m : Message E) → WasNumbered sent_count run number q (Sent asked m) → streams.WasSent (shown_lines run) q number m.to m.lo m.hi
   sent_line [] number q asked m w = w
   sent_line (e ∷ run) number q asked m w = ⊎_elim
       (λ (x : (e.at ≡ q) × (e.event ≡ Sent asked m) × (number ≡ sent_count run q + 1)).
@@ -287,7 +287,7 @@ module _ {E : Type 0} where
       (λ (x : WasNumbered sent_count run number q (Sent asked m)). inr (sent_line run number q asked m x))
       w
 
-  pub report_line : (run : List (Entry E)) (number : ℕ) (q : PartId) (b : List ℕ) → WasNumbered report_count run number q (Reported b) → streams.WasReported (lines_of run) q number b
+  pub report_line : (run : List (Entry E)) (number : ℕ) (q : PartId) (b : List ℕ) → WasNumbered report_count run number q (Reported b) → streams.WasReported (shown_lines run) q number b
   report_line [] number q b w = w
   report_line (e ∷ run) number q b w = ⊎_elim
       (λ (x : (e.at ≡ q) × (e.event ≡ Reported b) × (number ≡ report_count run q + 1)).

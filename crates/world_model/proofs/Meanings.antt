@@ -128,7 +128,7 @@ module _ {E : Type 0} where
     told_read made whole touching t read r own m = told_asks kinds plan run facts p o read t (ready_own t read r) own [] (updates_of plan run p o [] read) m (told_parts made whole touching (plan.snapshot t) t read [] [] r (none_told t))
 
     pub value_is : (t : TxId) (read : List (Part E)) (own : List (Upd E)) (us : List Update) → kinds.has o.kind ≡ true → Told kinds plan run facts p o read t own us → kinds.value_of (state_read kinds o t own read) ≡ kinds.meaning o.kind us
-    value_is t read own us known x = ap (λ l. kinds.value_of (folded (kinds.initial o.kind) kinds.step l)) (sym x.stored) ∙ kinds.laws.means o.kind us known x.history x.fit x.stamps
+    value_is t read own us known x = ap (λ l. kinds.value_of (folded (kinds.initial o.kind) kinds.applied l)) (sym x.stored) ∙ kinds.laws.means o.kind us known x.history x.fit x.stamps
 
     -- what reads no state has no stamp
     pub stamp_unread : (t : TxId) (earlier : List (Upd E)) (us : List Update) (a : Asked E) → reads_state o.kind ≡ false → kinds.has o.kind ≡ true → IsMade kinds plan run p t earlier a → a.change.object ≡ o → a.stamp ≡ stamp_due o.kind us (update_of plan run t a)
@@ -136,8 +136,8 @@ module _ {E : Type 0} where
         let u : Update = record { dot = record { tx = t; index = a.change.index }; path = a.op.path; act = a.op.act; stamp = a.stamp; now = a.now; saw = λ d. false } in
         let fit : (fits o.kind a.op.path a.op.act && not (kinds.too_deep o.kind a.op.path)) ≡ true = subst (λ y. (fits y.kind a.op.path a.op.act && not (kinds.too_deep y.kind a.op.path)) ≡ true) e m.fits in
         let one : fits o.kind a.op.path a.op.act ≡ true = (and_parts (fits o.kind a.op.path a.op.act) _ fit).0 in
-        let made : a.change.effect ≡ kinds.made o.kind (state_read kinds o t earlier m.read) a.op.path a.op.act a.now = subst (λ y. a.change.effect ≡ kinds.made y.kind (state_read kinds y t earlier m.read) a.op.path a.op.act a.now) e m.effect in
-        let alone : kinds.stamp_of (kinds.made o.kind (kinds.initial o.kind) a.op.path a.op.act a.now) ≡ stamp_due o.kind [] u = kinds.laws.stamps o.kind u [] known (record { new = refl; unseen = refl; apart = refl; closed = tt }, tt) (and_from _ _ fit refl) tt in
+        let made : a.change.effect ≡ kinds.generated o.kind (state_read kinds o t earlier m.read) a.op.path a.op.act a.now = subst (λ y. a.change.effect ≡ kinds.generated y.kind (state_read kinds y t earlier m.read) a.op.path a.op.act a.now) e m.effect in
+        let alone : kinds.stamp_of (kinds.generated o.kind (kinds.initial o.kind) a.op.path a.op.act a.now) ≡ stamp_due o.kind [] u = kinds.laws.stamps o.kind u [] known (record { new = refl; unseen = refl; apart = refl; closed = tt }, tt) (and_from _ _ fit refl) tt in
         m.stamped ∙ ap kinds.stamp_of (made ∙ kinds.laws.unread o.kind (state_read kinds o t earlier m.read) (kinds.initial o.kind) a.op.path a.op.act a.now known unread)
         ∙ alone ∙ none_due o.kind [] u unread one ∙ sym (none_due o.kind us (update_of plan run t a) unread one)
 

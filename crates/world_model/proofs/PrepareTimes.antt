@@ -15,7 +15,7 @@ use Rattle.crdt_core.specs.Log.{end_of_time, ceiling, pending, prepare_time, lea
 use Rattle.crdt_core.specs.Parts.{above}
 use Rattle.world_model.specs.rules.Event.{Ask, Refusal, IsDown, Event, Ticked, Began, Prepared, Decided, Finished, Aborted, Took, Crashed, RestartCut, Restarted, Refused, Opened, Cut, Entry, attempt, tried}
 use Rattle.world_model.specs.lines.Lines.{EachLine}
-use Rattle.world_model.specs.rules.Lines.{refusal_shown, fault_shown, step_shown, lines_of}
+use Rattle.world_model.specs.rules.Lines.{refusal_shown, fault_shown, step_shown, shown_lines}
 use Rattle.world_model.specs.rules.Partition.{PartState, Finds, batch_of, records, now_after, done, cut, down, MayDo, PartStep, IsRestart}
 use Rattle.world_model.specs.lines.Listed.{names_pending, listed_time, AreTimed}
 use Rattle.world_model.specs.rules.Partition as partition
@@ -161,11 +161,11 @@ module _ {E : Type 0} where
         (λ (ne : e.at ≡ p → ⊥). subst IsTimely (sym (r.2.others p (λ k. ne (sym k)))) (timely run r.0 r.1 p))
         (part_cases e.at p)
 
-    refused_queued : (run : List (Entry E)) (at : PartId) (asked : Ask E) (why : Refusal) → IsQueued (lines_of run) at (refusal_shown run at asked why)
+    refused_queued : (run : List (Entry E)) (at : PartId) (asked : Ask E) (why : Refusal) → IsQueued (shown_lines run) at (refusal_shown run at asked why)
     refused_queued run at asked IsDown = tt
     refused_queued run at asked other = tt
 
-    fault_queued : (run : List (Entry E)) (at : PartId) (a : Event E) → IsQueued (lines_of run) at (fault_shown at a)
+    fault_queued : (run : List (Entry E)) (at : PartId) (a : Event E) → IsQueued (shown_lines run) at (fault_shown at a)
     fault_queued run at (Decided t c) = tt
     fault_queued run at other = tt
 
@@ -183,25 +183,25 @@ module _ {E : Type 0} where
       shows : Shown (plan_of sites parts run) run before
       shows = shown_run kinds (plan_of sites parts run) run before (fits kinds sites parts run before r run (all_fresh kinds sites parts run before r) (suffix_all run))
 
-      prepared_queued : (u : TxId) (n : ℕ) → tried run u at ≡ false → (before at).up ≡ true → n ≡ (before at).now + 1 → (lines.pending (lines_of run) at u ≡ false) × ((t : TxId) → lines.pending (lines_of run) at t ≡ true → lines.prepare_time (lines_of run) at t < n)
+      prepared_queued : (u : TxId) (n : ℕ) → tried run u at ≡ false → (before at).up ≡ true → n ≡ (before at).now + 1 → (lines.pending (shown_lines run) at u ≡ false) × ((t : TxId) → lines.pending (shown_lines run) at t ≡ true → lines.prepare_time (shown_lines run) at t < n)
       prepared_queued u n fresh up drawn = (
         waits u ∙ false_from_ne_true (pending log u) (λ k. clash (kept.fate.was_tried at log u (image_log (before at)) (pending_parts log u k).prepared) fresh),
-        λ t h. less_next (lines.prepare_time (lines_of run) at t) (prepare_time log t) (before at).now n (prepare_time_is run at t ∙ sym (shows.time at t up (sym (waits t) ∙ h))) ((timely run before r at).now t up) drawn,
+        λ t h. less_next (lines.prepare_time (shown_lines run) at t) (prepare_time log t) (before at).now n (prepare_time_is run at t ∙ sym (shows.time at t up (sym (waits t) ∙ h))) ((timely run before r at).now t up) drawn,
       )
         where
-          waits : (t : TxId) → lines.pending (lines_of run) at t ≡ pending log t
+          waits : (t : TxId) → lines.pending (shown_lines run) at t ≡ pending log t
           waits t = pending_is run at t ∙ sym (shows.waiting at t up)
 
-      queued : (event : Event E) → IsAllowed (plan_of sites parts ((record { at = at; event = event }) ∷ run)) run before at (attempt event) → PartStep kinds sites parts at (before at) event q → IsQueued (lines_of run) at (step_shown run at event)
+      queued : (event : Event E) → IsAllowed (plan_of sites parts ((record { at = at; event = event }) ∷ run)) run before at (attempt event) → PartStep kinds sites parts at (before at) event q → IsQueued (shown_lines run) at (step_shown run at event)
       queued (Prepared u s l w n) al st = prepared_queued u n al.fresh st.0 st.1.1
       queued (Restarted n b named listed) al st = (own_times q.log listed listed st.timed st.timed (λ t k. k), in_order listed st.order)
       queued (Refused asked why) al st = refused_queued run at asked why
       queued (Cut a) al st = fault_queued run at a
       queued other al st = tt
 
-    all_queued : (run : List (Entry E)) (state : PartId → PartState E) → IsWorldRun kinds sites parts run state → EachLine (λ before p call s. IsQueued before p s) (lines_of run)
+    all_queued : (run : List (Entry E)) (state : PartId → PartState E) → IsWorldRun kinds sites parts run state → EachLine (λ before p call s. IsQueued before p s) (shown_lines run)
     all_queued [] state r = tt
     all_queued (e ∷ run) state r = (queued run r.0 r.1 e.at (state e.at) e.event r.2.allowed r.2.step, all_queued run r.0 r.1)
 
-    pub listed : (run : List (Entry E)) (state : PartId → PartState E) → IsWorldRun kinds sites parts run state → (p : PartId) → ArePending (lines_of run) p (waiting (lines_of run) p)
-    listed run state r p = all_pending (lines_of run) (all_queued run state r) p
+    pub listed : (run : List (Entry E)) (state : PartId → PartState E) → IsWorldRun kinds sites parts run state → (p : PartId) → ArePending (shown_lines run) p (waiting (shown_lines run) p)
+    listed run state r p = all_pending (shown_lines run) (all_queued run state r) p

@@ -412,7 +412,20 @@ module _ {E : Type 0} where
         let ends : (j : ℕ) → IsOther plan.sites at.site j → entry b j ≡ logged_bound q.log j = λ j o. st.shown_bounds.others j o ∙ st.bounds j o in
         let times : AreTimed (prepare_time q.log) listed = timed_in q.log listed st.timed in ⊎_elim
         (λ (x : TellsBefore plan run at q.log). inl (record { members = λ t. st.members t ∙ x.waits t; times = timed_as (prepare_time q.log) (pending_time run at) listed (λ t k. x.since t (sym (st.members t) ∙ k)) times; bounds = λ j o. ends j o ∙ x.upto j o; last = st.last ∙ x.decided }))
-        (λ (x : (what : Event E) × (cut_call run at ≡ Some what) × (is_call what ≡ true) × IsTakeable plan run at what × TellsDone plan run at what q.log). inr (x.0, x.1, x.2, x.3, record { members = λ t. st.members t ∙ x.4.waits t; times = timed_as (prepare_time q.log) (λ t. time_after t (pending_time run at t) x.0) listed (λ t k. x.4.since t (sym (st.members t) ∙ k)) times; bounds = λ j o. ends j o ∙ x.4.upto j o; last = st.last ∙ x.4.decided }))
+        (λ (x : (what : Event E) × (cut_call run at ≡ Some what) × (is_call what ≡ true) × IsTakeable plan run at what × TellsDone plan run at what q.log).
+        let yes = same_part_refl at in
+        inr (
+          x.0,
+          x.1,
+          x.2,
+          x.3,
+          record {
+            members = λ t. st.members t ∙ x.4.waits t ∙ sym (cond-true _ _ _ yes);
+            times = timed_as (prepare_time q.log) (pending_time (next x.0) at) listed (λ t k. x.4.since t (sym (st.members t) ∙ k) ∙ sym (cond-true _ _ _ yes)) times;
+            bounds = λ j o. ends j o ∙ x.4.upto j o ∙ sym (cond-true _ _ _ yes);
+            last = st.last ∙ x.4.decided ∙ sym (cond-true _ _ _ yes);
+          },
+        ))
         (tells_any q.log st.found)
     resumes_event event q st = tt
 

@@ -96,14 +96,14 @@ module _ {E : Type 0} where
     made_now sites parts run before at q u s o own op read x stamp near l w al st new right =
         let e : o ≡ x.object = sym st.1.object in
         let same : state_read kinds o u own read ≡ state_read kinds o u (map (λ a. a.change) (asked_at run u at)) read =
-        ap (λ us. state_read kinds o u us read) al.earlier ∙ ap (λ es. folded (kinds.initial o.kind) kinds.step es) (own_only o u (updates_at run u at) (effects_of o [] read)) ∙ ap (λ us. state_read kinds o u us read) (sym (asked_changes run u at)) in record {
+        ap (λ us. state_read kinds o u us read) al.earlier ∙ ap (λ es. folded (kinds.initial o.kind) kinds.applied es) (own_only o u (updates_at run u at) (effects_of o [] read)) ∙ ap (λ us. state_read kinds o u us read) (sym (asked_changes run u at)) in record {
           known = subst (λ y. kinds.has y.kind ≡ true) e st.1.known;
           fits = subst (λ y. (fits y.kind op.path op.act && not (kinds.too_deep y.kind op.path)) ≡ true) e st.1.fits;
           stamped = st.1.stamped;
           read = read;
           fold = subst (λ y. reads_state y.kind ≡ true → IsRightFold plan whole at (plan.snapshot u) y read) e (λ h. subst (λ v. IsRightFold plan whole at v o read) right.0 (right.1 h));
-          effect = subst (λ y. x.effect ≡ kinds.made y.kind (state_read kinds y u (map (λ a. a.change) (asked_at run u at)) read) op.path op.act (shown run at)) e
-              (st.1.effect ∙ (λ i. kinds.made o.kind (same i) op.path op.act ((l.clock at).now i)));
+          effect = subst (λ y. x.effect ≡ kinds.generated y.kind (state_read kinds y u (map (λ a. a.change) (asked_at run u at)) read) op.path op.act (shown run at)) e
+              (st.1.effect ∙ (λ i. kinds.generated o.kind (same i) op.path op.act ((l.clock at).now i)));
           above = λ n h. let c = counted kinds sites parts run before w u at n (ap (λ us. has_index us n) (sym (asked_changes run u at)) ∙ h) in let k = new.number in omega arith;
         }
 
@@ -136,7 +136,7 @@ module _ {E : Type 0} where
 
       -- the own updates that a read is handed are those so far
       own_read : (near : Plan E) (run : List (Entry E)) (at : PartId) (t : TxId) (s : List ℕ) (o : ObjectId) (own : List (Upd E)) (read : List (Part E)) → own ≡ filter (λ u. same_object u.object o) (updates_at run t at) → state_read kinds o t own read ≡ state_read kinds o t (map (λ a. a.change) (asked_at run t at)) read
-      own_read near run at t s o own read e = ap (λ us. state_read kinds o t us read) e ∙ ap (λ es. folded (kinds.initial o.kind) kinds.step es) (own_only o t (updates_at run t at) (effects_of o [] read)) ∙ ap (λ us. state_read kinds o t us read) (sym (asked_changes run t at))
+      own_read near run at t s o own read e = ap (λ us. state_read kinds o t us read) e ∙ ap (λ es. folded (kinds.initial o.kind) kinds.applied es) (own_only o t (updates_at run t at) (effects_of o [] read)) ∙ ap (λ us. state_read kinds o t us read) (sym (asked_changes run t at))
 
       meaning_event : (sites parts : ℕ) (run : List (Entry E)) (before : PartId → PartState E) (at : PartId) (q : PartState E) (event : Event E) (near : Plan E) → Leases run before → IsWorldRun kinds sites parts run before → IsAllowed near run before at (attempt event) → PartStep kinds sites parts at (before at) event q → IsNew run event → IsRight kinds plan whole at event → ((t : TxId) → AreMade kinds plan whole at t [] (asked_at run t at)) → HasMeaning kinds plan whole run at event
       meaning_event sites parts run before at q (Read t s o own read value) near l w al st new right m =

@@ -14,7 +14,7 @@ use Rattle.world_model.specs.rules.Event.{AskFinish, Entry, attempt, is_prepare,
 use Rattle.world_model.specs.rules.Fate.{IsFate}
 use Rattle.world_model.specs.lines.Fate.{is_ended_at}
 use Rattle.world_model.specs.events.Lawful.{IsLawfulWorld}
-use Rattle.world_model.specs.rules.Lines.{lines_of}
+use Rattle.world_model.specs.rules.Lines.{shown_lines}
 use Rattle.world_model.specs.rules.Partition.{PartState, ToldCommitted, ToldAborted, fate_of}
 use Rattle.world_model.specs.rules.Plan.{Plan, takes_part}
 use Rattle.world_model.specs.lines.Places.{home, IsPlace}
@@ -72,7 +72,7 @@ module _ {E : Type 0} where
     law : IsLawfulWorld kinds (plan_of sites parts run) run
     law = (law_world kinds sites parts run state r).0
 
-    lead_is : (t : TxId) → lead parts (lines_of run) t ≡ (plan_of sites parts run).lead t
+    lead_is : (t : TxId) → lead parts (shown_lines run) t ≡ (plan_of sites parts run).lead t
     lead_is t = lead_eq kinds sites parts run law t
 
     was_tried : (t : TxId) → pending (state p).log t ≡ true → tried run t p ≡ true
@@ -93,7 +93,7 @@ module _ {E : Type 0} where
         let part : (plan.lead t).part ≡ prepared_lead log t = sym (lead_good plan p log t g w).0 in
         λ i. record { site = site i; part = part i }
 
-    finished : (t : TxId) (c : List ℕ) → pending (state p).log t ≡ true → IsFate (lines_of run) (lead parts (lines_of run) t) t (ToldCommitted c) → MayCall sites parts run p (AskFinish t c)
+    finished : (t : TxId) (c : List ℕ) → pending (state p).log t ≡ true → IsFate (shown_lines run) (lead parts (shown_lines run) t) t (ToldCommitted c) → MayCall sites parts run p (AskFinish t c)
     finished t c h f = (kept.fate.part p t (was_tried t h), record { decided = sym (in_history_is run t) ∙ f.0; vector = f.1 ∙ vector_is run t })
 
     pub told : Told sites parts run state p
@@ -102,12 +102,12 @@ module _ {E : Type 0} where
       waiting = λ t u. shows.waiting p t u ∙ sym (pending_is run p t);
       times = λ t u h. shows.time p t u h ∙ sym (prepare_time_is run p t);
       listed = listed kinds sites parts run state r p;
-      ended = λ t u s. committed_is plan run state kept.fate shows p u t ∙ (sym (ended_eq kinds sites parts run law run p t) ∙ (sym (or_none (is_ended_at (lines_of run) (lines_of run) p t)) ∙ ap (λ b. is_ended_at (lines_of run) (lines_of run) p t || b) (sym (unbrought kinds sites parts run law run p t (sym s)))));
+      ended = λ t u s. committed_is plan run state kept.fate shows p u t ∙ (sym (ended_eq kinds sites parts run law run p t) ∙ (sym (or_none (is_ended_at (shown_lines run) (shown_lines run) p t)) ∙ ap (λ b. is_ended_at (shown_lines run) (shown_lines run) p t || b) (sym (unbrought kinds sites parts run law run p t (sym s)))));
       leads = λ t h. lead_is t ∙ of_lead t h;
       place = λ t h. subst (IsPlace sites parts) (sym (lead_is t)) (tried_place sites parts run law.places t (plan.lead t) (lead_tried t h));
-      finishes = λ t c h f. finished t c h (subst (IsFate (lines_of run) (lead parts (lines_of run) t) t) f ((law_world kinds sites parts run state r).3 t));
+      finishes = λ t c h f. finished t c h (subst (IsFate (shown_lines run) (lead parts (shown_lines run) t) t) f ((law_world kinds sites parts run state r).3 t));
       aborts = λ t h. aborts sites parts run state p t (⊎_elim
-          (λ (e : p ≡ lead parts (lines_of run) t). inl (e ∙ lead_is t))
-          (λ (f : fate_of (state (lead parts (lines_of run) t)) t ≡ ToldAborted). inr (subst (λ q. fate_of (state q) t ≡ ToldAborted) (lead_is t) f))
+          (λ (e : p ≡ lead parts (shown_lines run) t). inl (e ∙ lead_is t))
+          (λ (f : fate_of (state (lead parts (shown_lines run) t)) t ≡ ToldAborted). inr (subst (λ q. fate_of (state q) t ≡ ToldAborted) (lead_is t) f))
           h);
     }

@@ -6,6 +6,7 @@ pub mod CommitSteps
 pub mod Phases
 pub mod Messages
 pub mod Meeting
+pub mod Order
 pub mod Settling
 pub mod ScriptCalls
 pub mod ScriptAnswers

@@ -17,4 +17,5 @@ pub mod Reads
 pub mod Answers
 pub mod Ops
 pub mod Lawful
+pub mod Ends
 pub mod Places

@@ -3,6 +3,8 @@ ghost use Rattle.world_model.specs.rules.Premises.{LawPremises};
 ghost use Rattle.world_model.specs.rules.Traces.{LawTraces};
 ghost use Rattle.world_model.specs.rules.Asking.{LawAsks};
 ghost use Rattle.world_model.specs.rules.Told.{LawTold};
+ghost use Rattle.world_model.specs.commands.Order.{LawOrder};
+ghost use Rattle.world_model.specs.lines.Ends.{LawBound};
 
 /// The law of the world: any run of it is lawful, for any number of sites and partitions, whatever their kinds of objects
 /// do (with states `S` and effects `E`), with any call cut off by a crash, and whatever a restart finds then. The function
@@ -31,4 +33,15 @@ pub fn law_asks<E>()
 /// participant may come to the same end.
 pub fn law_told<S, E>()
     ensures told { LawTold S E }
+{}
+
+/// Each command meets its refusals in the order of their numbers, as `docs/SCRIPT.md` lists them.
+pub fn law_order()
+    ensures order { LawOrder }
+{}
+
+/// The own bound in other words: the times up to it are those that the clock has reached and that are below the prepare
+/// time of all that is pending. Each message of a lawful run ends there.
+pub fn law_bound()
+    ensures bound { LawBound }
 {}

@@ -15,6 +15,6 @@ abbrev pub Run : Type 0
 Run = List Line
 
 -- the bytes of the lines, in the order in which they were written; `text` spells one of them
-abbrev pub lines_of : (ℕ → Step → List ℕ) → Run → List ℕ
-lines_of text [] = []
-lines_of text (e ∷ run) = lines_of text run ++ text e.number e.step
+abbrev pub written_lines : (ℕ → Step → List ℕ) → Run → List ℕ
+written_lines text [] = []
+written_lines text (e ∷ run) = written_lines text run ++ text e.number e.step

@@ -1,5 +1,5 @@
 -- Fresh snapshots: the stable entries of a partition, by what a run shows.
-use Rattle.std.specs.Prelude.{◌≡◌, ℕ, ◌<◌, ◌≤◌, max, ◌==◌, if◌then◌else◌, List, [], ◌∷◌, length, ⊤}
+use Rattle.std.specs.Prelude.{◌≡◌, ℕ, ◌≤◌, max, ◌==◌, if◌then◌else◌, List, [], ◌∷◌, length, ⊤}
 use Rattle.site_vector.specs.declared.ids.PartId.{PartId}
 use Rattle.site_vector.specs.declared.ids.TxId.{TxId}
 use Rattle.site_vector.specs.Ids.{same_part}
@@ -8,7 +8,7 @@ use Rattle.world_model.specs.rules.Event.{AskBegin, StableBehind, ClockAtEnd, Ev
 use Rattle.world_model.specs.lines.Places.{IsOther}
 use Rattle.world_model.specs.rules.Plan.{Plan}
 use Rattle.world_model.specs.events.Bounds.{bound_shown, IsOwnBoundAt}
-use Rattle.world_model.specs.lines.Bounds.{IsLeast}
+use Rattle.world_model.specs.lines.Bounds.{IsLeast, IsLeastBehind}
 
 module _ {E : Type 0} where
   -- the greatest entry for site j in the reports of partition q that were heard since the last restart
@@ -25,30 +25,28 @@ module _ {E : Type 0} where
   abbrev pub known_shown : List (Entry E) → PartId → ℕ → ℕ → ℕ
   known_shown run p j q = if p.part == q then bound_shown run p j else heard_shown run p q j
 
-  -- the least other site with a stable entry below what the session depends on: there one partition is not known to have come so far
-  pub record IsBehindAt (plan : Plan E) (run : List (Entry E)) (p : PartId) (dependency : List ℕ) (j n : ℕ) : Type 0 where
-    pub other : IsOther plan.sites p.site j
-    pub have : IsLeast plan.parts (known_shown run p j) n
-    pub behind : n < entry dependency j
-    pub least : (i q : ℕ) → IsOther plan.sites p.site i → 1 ≤ q → q ≤ plan.parts → known_shown run p i q < entry dependency i → j ≤ i
+  -- the least of them over the partitions of its site
+  abbrev pub IsStableEntry : Plan E → List (Entry E) → PartId → ℕ → ℕ → Type 0
+  IsStableEntry plan run p j n = IsLeast plan.parts (known_shown run p j) n
 
-  -- the entries that p tells, once it has heard so much: for its own site by its own bound
-  pub record IsStableAt (plan : Plan E) (run : List (Entry E)) (p : PartId) (heard : ℕ → ℕ → ℕ) (stable : List ℕ) : Type 0 where
+  -- p tells the stable entries of other sites; of its own it knows its own bound
+  pub record IsStable (plan : Plan E) (run : List (Entry E)) (p : PartId) (stable : List ℕ) : Type 0 where
     pub width : length stable ≡ plan.sites
-    pub others : (j : ℕ) → IsOther plan.sites p.site j → IsLeast plan.parts (λ q. if p.part == q then bound_shown run p j else heard q j) (entry stable j)
-    pub own : (b : ℕ) × IsOwnBoundAt run p b × IsLeast plan.parts (λ q. if p.part == q then b else heard q p.site) (entry stable p.site)
+    pub others : (j : ℕ) → IsOther plan.sites p.site j → IsStableEntry plan run p j (entry stable j)
+    pub own : (b : ℕ) × IsOwnBoundAt run p b × IsLeast plan.parts (λ q. if p.part == q then b else heard_shown run p q p.site) (entry stable p.site)
 
   -- a snapshot has an entry for each site: the stable one for another, and for the own the greater of the drawn time and the dependency's
   pub record IsSnapshotAt (plan : Plan E) (run : List (Entry E)) (p : PartId) (dependency : List ℕ) (t : TxId) (s : List ℕ) : Type 0 where
     pub width : length s ≡ plan.sites
     pub own : entry s p.site ≡ max t.time (entry dependency p.site)
-    pub others : (j : ℕ) → IsOther plan.sites p.site j → IsLeast plan.parts (known_shown run p j) (entry s j)
+    pub others : (j : ℕ) → IsOther plan.sites p.site j → IsStableEntry plan run p j (entry s j)
 
+  -- what was heard is of the run with this event; a wait is for the least other site that lags behind what the session depends on
   abbrev pub IsFreshAt : Plan E → List (Entry E) → PartId → Event E → Type 0
   IsFreshAt plan run p (Began who dep t s) = IsSnapshotAt plan run p dep t s
-  IsFreshAt plan run p (Heard number k b stable) = IsStableAt plan run p (λ q j. heard_from q j (heard_shown run p q j) (Heard number k b stable)) stable
+  IsFreshAt plan run p (Heard number k b stable) = IsStable plan ((record { at = p; event = Heard number k b stable }) ∷ run) p stable
   IsFreshAt plan run p (Refused (AskBegin who dep) ClockAtEnd) = (j q : ℕ) → IsOther plan.sites p.site j → 1 ≤ q → q ≤ plan.parts → entry dep j ≤ known_shown run p j q
-  IsFreshAt plan run p (Refused (AskBegin who dep) (StableBehind j n)) = IsBehindAt plan run p dep j n
+  IsFreshAt plan run p (Refused (AskBegin who dep) (StableBehind j n)) = IsLeastBehind plan.sites plan.parts p.site (known_shown run p) dep j × IsStableEntry plan run p j n
   IsFreshAt plan run p other = ⊤
 
   abbrev pub AreFresh : Plan E → List (Entry E) → Type 0

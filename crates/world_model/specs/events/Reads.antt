@@ -1,5 +1,5 @@
 -- Right reads and messages, by what a run shows, and what reads mean to the kinds.
-use Rattle.std.specs.Prelude.{◌≡◌, ℕ, leb, ltb, Bool, true, ◌&&◌, List, [], ◌∷◌, ⊤, ◌||◌, nat_lt, ◌++◌, if◌then◌else◌, Option}
+use Rattle.std.specs.Prelude.{◌≡◌, ℕ, leb, ltb, Bool, true, ◌&&◌, List, [], ◌∷◌, ⊤, ◌||◌, ◌++◌, if◌then◌else◌, Option}
 use Rattle.site_vector.specs.declared.ids.PartId.{PartId}
 use Rattle.site_vector.specs.declared.ids.TxId.{TxId}
 use Rattle.site_vector.specs.Vector.{le}
@@ -21,6 +21,7 @@ use Rattle.crdt_core.specs.Objects.{same_object}
 use Rattle.crdt_core.specs.Seen.{Update}
 use Rattle.crdt_core.specs.Stamps.{stamp_due}
 use Rattle.world_model.specs.lines.Places.{twin}
+use Rattle.world_model.specs.lines.Reads.{has_seen}
 
 -- an update as it was asked for and answered, and the clock value where it was
 pub record Asked (E : Type 0) : Type 0 where
@@ -62,10 +63,6 @@ module _ {E : Type 0} where
   asked_at [] t p = []
   asked_at (e ∷ run) t p = asked_at run t p ++ (if same_part e.at p then asked_by (shown run p) e.event t else [])
 
-  -- an update has seen those of transactions that precede its own, and the earlier ones of its own
-  abbrev pub has_seen : Plan E → List (Entry E) → TxId → ℕ → Dot → Bool
-  has_seen plan run t index d = sees_tx plan run (plan.snapshot t) d.tx || (same_tx d.tx t && nat_lt d.index index)
-
   abbrev pub update_of : Plan E → List (Entry E) → TxId → Asked E → Update
   update_of plan run t a = record {
     dot = record { tx = t; index = a.change.index };
@@ -73,7 +70,7 @@ module _ {E : Type 0} where
     act = a.op.act;
     stamp = a.stamp;
     now = a.now;
-    saw = λ d. has_seen plan run t a.change.index d;
+    saw = λ d. has_seen (sees_tx plan run (plan.snapshot t)) t a.change.index d;
   }
 
   -- the updates of the object among these of t, after those, the newest first

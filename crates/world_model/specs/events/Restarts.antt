@@ -12,7 +12,7 @@ use Rattle.world_model.specs.lines.Listed.{names_pending, AreTimed, is_named}
 use Rattle.crdt_core.specs.Parts.{above}
 use Rattle.world_model.specs.rules.Plan.{Plan, MayTake}
 use Rattle.world_model.specs.events.Bounds.{bound_shown}
-use Rattle.world_model.specs.events.Pending.{pending_after, pending_shown, time_after, pending_time, in_doubt}
+use Rattle.world_model.specs.events.Pending.{pending_shown, pending_time, in_doubt}
 
 module _ {E : Type 0} where
   -- no restart lists a decided transaction as pending at its lead
@@ -93,15 +93,9 @@ module _ {E : Type 0} where
     pub bounds : (j : ℕ) → IsOther plan.sites p.site j → entry b j ≡ brought run p j
     pub last : named ≡ last_shown run p
 
-  -- the same, once this call was done
-  pub record IsAsDone (plan : Plan E) (run : List (Entry E)) (p : PartId) (what : Event E) (b : List ℕ) (named : Option TxId) (listed : List (TxId × ℕ)) : Type 0 where
-    pub members : (t : TxId) → names_pending listed t ≡ pending_after t (pending_shown run p t) what
-    pub times : AreTimed (λ t. time_after t (pending_time run p t) what) listed
-    pub bounds : (j : ℕ) → IsOther plan.sites p.site j → entry b j ≡ brought_after run p j (brought run p j) what
-    pub last : named ≡ decided_after (last_shown run p) what
-
+  -- a restart lists what was before, or what was once the call was done that was cut off
   abbrev pub ResumesAt : Plan E → List (Entry E) → PartId → Event E → Type 0
-  ResumesAt plan run p (Restarted n b named listed) = IsAsBefore plan run p b named listed ⊎ ((what : Event E) × (cut_call run p ≡ Some what) × (is_call what ≡ true) × IsTakeable plan run p what × IsAsDone plan run p what b named listed)
+  ResumesAt plan run p (Restarted n b named listed) = IsAsBefore plan run p b named listed ⊎ ((what : Event E) × (cut_call run p ≡ Some what) × (is_call what ≡ true) × IsTakeable plan run p what × IsAsBefore plan ((record { at = p; event = what }) ∷ run) p b named listed)
   ResumesAt plan run p other = ⊤
 
   abbrev pub Resume : Plan E → List (Entry E) → Type 0

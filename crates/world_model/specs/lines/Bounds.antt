@@ -1,10 +1,11 @@
 -- The bounds of a partition, over the lines of a run.
-use Rattle.std.specs.Prelude.{◌≡◌, ℕ, ◌≤◌, max, ◌==◌, Bool, false, if◌then◌else◌, List, [], ◌∷◌}
+use Rattle.std.specs.Prelude.{◌≡◌, ℕ, ◌<◌, ◌≤◌, max, ◌==◌, Bool, false, if◌then◌else◌, List, [], ◌∷◌}
 use Rattle.site_vector.specs.declared.ids.PartId.{PartId}
 use Rattle.site_vector.specs.Ids.{same_part}
 use Rattle.site_vector.specs.Vector.{entry}
 use Rattle.world_model.specs.declared.step.Step.{Step}
 use Rattle.world_model.specs.declared.step.Step.TheVariants as step
+use Rattle.world_model.specs.lines.Places.{IsOther}
 use Rattle.world_model.specs.lines.Lines.{Call, TakeOf, HearOf, Line}
 use Rattle.world_model.specs.lines.Clock.{now}
 use Rattle.world_model.specs.lines.Listed.{IsBoundBy}
@@ -14,6 +15,16 @@ use Rattle.world_model.specs.lines.Pending.{pending, prepare_time}
 pub record IsLeast (n : ℕ) (known : ℕ → ℕ) (m : ℕ) : Type 0 where
   pub below : (q : ℕ) → 1 ≤ q → q ≤ n → m ≤ known q
   pub reached : (q : ℕ) × (1 ≤ q) × (q ≤ n) × (m ≡ known q)
+
+-- some partition of so many is not known to have come with site j as far as this vector
+abbrev pub LagsBehind : ℕ → (ℕ → ℕ → ℕ) → List ℕ → ℕ → Type 0
+LagsBehind parts known v j = (q : ℕ) × (1 ≤ q) × (q ≤ parts) × (known j q < entry v j)
+
+-- of the sites other than d that lag behind, j is the least
+pub record IsLeastBehind (sites parts d : ℕ) (known : ℕ → ℕ → ℕ) (v : List ℕ) (j : ℕ) : Type 0 where
+  pub other : IsOther sites d j
+  pub behind : LagsBehind parts known v j
+  pub least : (i : ℕ) → IsOther sites d i → LagsBehind parts known v i → j ≤ i
 
 -- the site of a message that a call was handed
 abbrev pub is_from : Call → ℕ → Bool

@@ -15,7 +15,7 @@ use Rattle.world_model.specs.lines.History.{snapshot}
 use Rattle.world_model.specs.lines.Updates.{touches}
 use Rattle.world_model.specs.lines.Pending.{pending, prepare_time, is_down}
 use Rattle.world_model.specs.lines.Fate.{is_known_at}
-use Rattle.world_model.specs.lines.Bounds.{bound, known, IsStableEntry}
+use Rattle.world_model.specs.lines.Bounds.{IsLeastBehind, bound, known, IsStableEntry}
 
 -- no wait is due for what reads the object
 abbrev pub IsReady : List Line → List Line → PartId → TxId → ObjectId → Type 0
@@ -29,13 +29,6 @@ IsBehind whole before p t n = (n ≡ now before p) × (n < entry (snapshot whole
 abbrev pub IsFirstPending : List Line → List Line → PartId → TxId → ObjectId → TxId → ℕ → Type 0
 IsFirstPending whole before p t o u n = IsFirstBy (now before p) (pending before p) (prepare_time before p) (entry (snapshot whole t) p.site) (λ w. touches whole w p o) u n
 
--- the least other site with a stable entry below what the session depends on: there one partition is not known to have come so far
-pub record IsStableBehind (sites parts : ℕ) (before : List Line) (p : PartId) (dependency : List ℕ) (j n : ℕ) : Type 0 where
-  pub other : IsOther sites p.site j
-  pub have : IsStableEntry parts before p j n
-  pub behind : n < entry dependency j
-  pub least : (i q : ℕ) → IsOther sites p.site i → 1 ≤ q → q ≤ parts → known before p i q < entry dependency i → j ≤ i
-
 -- a wait for the clock, by the call that it answers
 abbrev pub ClockCause : List Line → List Line → PartId → Call → ℕ → Type 0
 ClockCause whole before p (ReadOf t o) n = IsBehind whole before p t n
@@ -48,8 +41,9 @@ PendingCause whole before p (ReadOf t o) u n = IsFirstPending whole before p t o
 PendingCause whole before p (UpdateOf t o op) u n = (reads_state o.kind ≡ true) × IsFirstPending whole before p t o u n
 PendingCause whole before p other u n = ⊥
 
+-- a wait for the least other site that lags behind what the session depends on shows its stable entry
 abbrev pub StableCause : ℕ → ℕ → List Line → PartId → Call → ℕ → ℕ → Type 0
-StableCause sites parts before p (Begin who dep) j n = IsStableBehind sites parts before p dep j n
+StableCause sites parts before p (Begin who dep) j n = IsLeastBehind sites parts p.site (known before p) dep j × IsStableEntry parts before p j n
 StableCause sites parts before p other j n = ⊥
 
 -- no site's stable entry is below what the begin depends on: every partition is known to have come so far

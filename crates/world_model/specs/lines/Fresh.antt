@@ -1,12 +1,12 @@
 -- Fresh snapshots and reports, over the lines of a run.
-use Rattle.std.specs.Prelude.{◌≡◌, ℕ, max, ◌==◌, if◌then◌else◌, List, length, ⊤}
+use Rattle.std.specs.Prelude.{◌≡◌, ℕ, max, ◌==◌, if◌then◌else◌, List, ◌∷◌, length, ⊤}
 use Rattle.site_vector.specs.declared.ids.PartId.{PartId}
 use Rattle.site_vector.specs.declared.ids.TxId.{TxId}
 use Rattle.site_vector.specs.Vector.{entry}
 use Rattle.world_model.specs.declared.step.Step.{Step}
 use Rattle.world_model.specs.declared.step.Step.TheVariants as step
 use Rattle.world_model.specs.lines.Places.{IsOther}
-use Rattle.world_model.specs.lines.Bounds.{IsLeast, bound, IsOwnBound, heard, heard_after, IsStableEntry}
+use Rattle.world_model.specs.lines.Bounds.{IsLeast, bound, IsOwnBound, heard, IsStableEntry}
 use Rattle.world_model.specs.lines.Lines.{Call, Begin, Line}
 
 -- a snapshot has the stable entry of each other site, and for its own the greater of the drawn time and that of the dependency
@@ -15,11 +15,11 @@ pub record IsSnapshot (sites parts : ℕ) (before : List Line) (p : PartId) (dep
   pub own : entry s p.site ≡ max t.time (entry dependency p.site)
   pub others : (j : ℕ) → IsOther sites p.site j → IsStableEntry parts before p j (entry s j)
 
--- once p has heard so much it tells these stable entries; of its own site it knows its own bound
-pub record IsStable (sites parts : ℕ) (before : List Line) (p : PartId) (known : ℕ → ℕ → ℕ) (stable : List ℕ) : Type 0 where
+-- p tells the stable entries of other sites; of its own it knows its own bound
+pub record IsStable (sites parts : ℕ) (ls : List Line) (p : PartId) (stable : List ℕ) : Type 0 where
   pub width : length stable ≡ sites
-  pub others : (j : ℕ) → IsOther sites p.site j → IsLeast parts (λ q. if p.part == q then bound before p j else known q j) (entry stable j)
-  pub own : (b : ℕ) × IsOwnBound before p b × IsLeast parts (λ q. if p.part == q then b else known q p.site) (entry stable p.site)
+  pub others : (j : ℕ) → IsOther sites p.site j → IsStableEntry parts ls p j (entry stable j)
+  pub own : (b : ℕ) × IsOwnBound ls p b × IsLeast parts (λ q. if p.part == q then b else heard ls p q p.site) (entry stable p.site)
 
 -- a report shows the bounds, its own site's among them
 pub record ShowsBounds (sites : ℕ) (before : List Line) (p : PartId) (bounds : List ℕ) : Type 0 where
@@ -27,9 +27,10 @@ pub record ShowsBounds (sites : ℕ) (before : List Line) (p : PartId) (bounds :
   pub own : IsOwnBound before p (entry bounds p.site)
   pub others : (j : ℕ) → IsOther sites p.site j → entry bounds j ≡ bound before p j
 
+-- what was heard is of the lines with this one
 abbrev pub IsFresh : ℕ → ℕ → List Line → PartId → Call → Step → Type 0
 IsFresh sites parts before p call (step.Crashed q) = ⊤
 IsFresh sites parts before p (Begin who dep) (step.Began name t s) = IsSnapshot sites parts before p dep t s
-IsFresh sites parts before p call (step.Heard number q stable) = IsStable sites parts before p (λ k j. heard_after k j (heard before p k j) call (step.Heard number q stable)) stable
+IsFresh sites parts before p call (step.Heard number q stable) = IsStable sites parts ((record { at = p; call = call; step = step.Heard number q stable }) ∷ before) p stable
 IsFresh sites parts before p call (step.Reported number q bounds) = ShowsBounds sites before p bounds
 IsFresh sites parts before p call other = ⊤

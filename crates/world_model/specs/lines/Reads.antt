@@ -18,9 +18,9 @@ use Rattle.world_model.specs.lines.Clock.{now}
 use Rattle.world_model.specs.lines.History.{history, visible, snapshot, precedes}
 use Rattle.world_model.specs.lines.Updates.{Change, changes}
 
--- one update has seen another where the other's transaction precedes its own, or is its own and numbers the other lower
-abbrev pub has_seen : List Line → TxId → ℕ → Dot → Bool
-has_seen ls t index d = precedes ls d.tx t || (same_tx d.tx t && nat_lt d.index index)
+-- an update of t with this number has seen those of transactions that precede t, and the earlier ones of t
+abbrev pub has_seen : (TxId → Bool) → TxId → ℕ → Dot → Bool
+has_seen precedes t index d = precedes d.tx || (same_tx d.tx t && nat_lt d.index index)
 
 -- an update as the kinds see it
 abbrev pub update_of : List Line → TxId → Change → Update
@@ -30,7 +30,7 @@ update_of ls t c = record {
   act = c.op.act;
   stamp = c.stamp;
   now = c.now;
-  saw = λ d. has_seen ls t c.index d;
+  saw = λ d. has_seen (λ u. precedes ls u t) t c.index d;
 }
 
 -- the updates of an object among these of t

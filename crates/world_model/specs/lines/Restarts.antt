@@ -1,9 +1,9 @@
 -- What a restart lists: what was before it, where one call that a fault of the disk ended may have been done.
-use Rattle.std.specs.Prelude.{◌≡◌, ◌⊎◌, ℕ, ◌+◌, max, leb, ltb, Bool, true, false, not, ◌&&◌, ◌||◌, ◌==◌, if◌then◌else◌, List, [], ◌∷◌, length, Option, None, Some}
+use Rattle.std.specs.Prelude.{◌≡◌, ◌⊎◌, ℕ, ◌+◌, max, leb, ltb, Bool, true, false, not, ◌&&◌, ◌==◌, if◌then◌else◌, List, [], ◌∷◌, length, Option, None, Some}
 use Rattle.std.specs.List.{list_any}
 use Rattle.site_vector.specs.declared.ids.PartId.{PartId}
 use Rattle.site_vector.specs.declared.ids.TxId.{TxId}
-use Rattle.site_vector.specs.Ids.{same_part, same_tx}
+use Rattle.site_vector.specs.Ids.{same_part}
 use Rattle.site_vector.specs.Vector.{entry}
 use Rattle.world_model.specs.declared.step.Step.{Step}
 use Rattle.world_model.specs.declared.step.Step.TheVariants as step
@@ -16,42 +16,19 @@ use Rattle.world_model.specs.lines.Bounds.{bound}
 use Rattle.world_model.specs.lines.Updates.{takes_part, lead}
 use Rattle.world_model.specs.lines.Pending.{pending, prepare_time, in_doubt}
 
--- what is pending once a call was done that a fault of the disk ended
-abbrev pub pending_done : Call → Bool → TxId → Bool
-pending_done (PrepareOf u) old t = same_tx u t || old
-pending_done (DecideOf u) old t = not (same_tx u t) && old
-pending_done (FinishOf u) old t = not (same_tx u t) && old
-pending_done (AbortOf u) old t = not (same_tx u t) && old
-pending_done other old t = old
-
--- and with which time: a prepare would have drawn the next
-abbrev pub time_done : Call → ℕ → ℕ → TxId → ℕ
-time_done (PrepareOf u) time old t = if same_tx u t then time else old
-time_done other time old t = old
-
 -- a message of the twin at this site brings a part of the whole run above the bound
 abbrev pub brings : List Line → PartId → ℕ → ℕ → ℕ → Bool
 brings whole p site have hi = list_any (λ t. takes_part whole t (twin site p) && (ltb have (commit_time whole t) && leb (commit_time whole t) hi)) (history whole)
 
--- the greatest end of a message from site j that left no gap and brought a part, once this call was done
-abbrev pub brought_done : List Line → List Line → PartId → ℕ → ℕ → Call → ℕ
-brought_done whole ls p j old (TakeOf site lo hi) = if site == j && (leb lo (bound ls p site) && brings whole p site (bound ls p site) hi) then max hi old else old
-brought_done whole ls p j old other = old
-
 abbrev pub brought_after : List Line → List Line → PartId → ℕ → ℕ → Call → Step → ℕ
-brought_after whole ls p j old call (step.Took number end) = brought_done whole ls p j old call
 brought_after whole ls p j old call (step.Restarted q n bounds named listed) = entry bounds j
+brought_after whole ls p j old (TakeOf site lo hi) (step.Took number end) = if site == j && (leb lo (bound ls p site) && brings whole p site (bound ls p site) hi) then max hi old else old
 brought_after whole ls p j old call other = old
 
--- the greatest end of a message from site j that brought a part, or what a later restart showed
+-- the greatest end of a message from site j that left no gap and brought a part, or what a later restart showed
 abbrev pub brought : List Line → List Line → PartId → ℕ → ℕ
 brought whole [] p j = 0
 brought whole (l ∷ ls) p j = if same_part l.at p then brought_after whole ls p j (brought whole ls p j) l.call l.step else brought whole ls p j
-
--- the last that was decided, once this call was done
-abbrev pub decided_done : Option TxId → Call → Option TxId
-decided_done old (DecideOf t) = Some t
-decided_done old other = old
 
 abbrev pub decided_after : Option TxId → Step → Option TxId
 decided_after old (step.Decided q t c) = Some t
@@ -83,17 +60,24 @@ pub record IsAsBefore (sites : ℕ) (whole before : List Line) (p : PartId) (sho
   pub bounds : (j : ℕ) → IsOther sites p.site j → entry shown j ≡ brought whole before p j
   pub last : named ≡ last_decided before p
 
--- the same, once this call was done, which drew this time
-pub record IsAsDone (sites : ℕ) (whole before : List Line) (p : PartId) (call : Call) (drawn : ℕ) (shown : List ℕ) (named : Option TxId) (listed : List (TxId × ℕ)) : Type 0 where
-  pub members : (t : TxId) → names_pending listed t ≡ pending_done call (pending before p t) t
-  pub times : AreTimed (λ t. time_done call drawn (prepare_time before p t) t) listed
-  pub bounds : (j : ℕ) → IsOther sites p.site j → entry shown j ≡ brought_done whole before p j (brought whole before p j) call
-  pub last : named ≡ decided_done (last_decided before p) call
+-- the lines with one more
+abbrev pub with_line : PartId → Call → Step → List Line → List Line
+with_line p call shown ls = (record { at = p; call = call; step = shown }) ∷ ls
 
--- a restart lists what was pending, by prepare time and id, where one call that ended by a fault may have been done; it lists at its
+-- the lines with a call at p as if it had been done, a prepare with this time; no other call changes what a restart lists, nor does
+-- a decision's vector or a message's number
+abbrev pub with_done : Call → ℕ → PartId → List Line → List Line
+with_done (PrepareOf t) drawn p ls = with_line p (PrepareOf t) (step.Prepared p t drawn) ls
+with_done (DecideOf t) drawn p ls = with_line p (DecideOf t) (step.Decided p t []) ls
+with_done (FinishOf t) drawn p ls = with_line p (FinishOf t) (step.Finished p t) ls
+with_done (AbortOf t) drawn p ls = with_line p (AbortOf t) (step.Aborted p t) ls
+with_done (TakeOf site lo hi) drawn p ls = with_line p (TakeOf site lo hi) (step.Took 0 hi) ls
+with_done other drawn p ls = ls
+
+-- a restart lists what was before, or what was once the call was done that a fault ended, by prepare time and id; it lists at its
 -- lead nothing that was decided; what was in doubt it lists or names, and not both; and its own bound is by that list
 pub record IsResumed (sites parts : ℕ) (whole before : List Line) (p : PartId) (time : ℕ) (bounds : List ℕ) (named : Option TxId) (listed : List (TxId × ℕ)) : Type 0 where
-  pub list : IsAsBefore sites whole before p bounds named listed ⊎ ((call : Call) × (drawn : ℕ) × (faulted before p ≡ Some (call, drawn)) × IsAsDone sites whole before p call drawn bounds named listed)
+  pub list : IsAsBefore sites whole before p bounds named listed ⊎ ((call : Call) × (drawn : ℕ) × (faulted before p ≡ Some (call, drawn)) × IsAsBefore sites whole (with_done call drawn p before) p bounds named listed)
   pub order : AreInOrder IsBefore listed
   pub width : length bounds ≡ sites
   pub own : IsOwnBoundOf time listed (entry bounds p.site)

@@ -47,7 +47,9 @@ takes_part ls t p = list_any (λ c. same_part c.at p) (changes ls t)
 abbrev pub touches : List Line → TxId → PartId → ObjectId → Bool
 touches ls t p o = list_any (λ c. same_part c.at p && same_object c.object o) (changes ls t)
 
--- the partitions of its site where t updated something, in ascending order; the first is the lead
+-- the partitions of its site where t updated something, in ascending order; the first is the lead. What t is gets fixed so: its
+-- snapshot by the line that shows its begin; its updates, who takes part and the lead before its first vote (`IsEarly` of Commit);
+-- its commit time, and so its vector, by its last vote
 abbrev pub participants : ℕ → List Line → TxId → List PartId
 participants parts ls t = filter (λ p. takes_part ls t p) (partitions t.site 1 parts)
 

@@ -113,6 +113,6 @@ module _ {E : Type 0} where
   step_shown run p (Cut what) = fault_shown p what
 
   -- the lines of a run, the newest first
-  abbrev pub lines_of : List (Entry E) → List Line
-  lines_of [] = []
-  lines_of (e ∷ run) = (record { at = e.at; call = call_of e.event; step = step_shown run e.at e.event }) ∷ lines_of run
+  abbrev pub shown_lines : List (Entry E) → List Line
+  shown_lines [] = []
+  shown_lines (e ∷ run) = (record { at = e.at; call = call_of e.event; step = step_shown run e.at e.event }) ∷ shown_lines run

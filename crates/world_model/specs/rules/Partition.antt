@@ -90,7 +90,7 @@ module _ {E : Type 0} where
     pub known : kinds.has o.kind ≡ true
     pub fits : fits_kind kinds.too_deep o op ≡ true
     pub object : u.object ≡ o
-    pub effect : u.effect ≡ kinds.made o.kind (state_read kinds o t own read) op.path op.act p.now
+    pub effect : u.effect ≡ kinds.generated o.kind (state_read kinds o t own read) op.path op.act p.now
     pub stamped : stamp ≡ kinds.stamp_of u.effect
 
   -- a message to another site: up to the own bound, from what was asked or sent before, all that was committed here between

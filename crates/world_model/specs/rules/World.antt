@@ -12,7 +12,7 @@ use Rattle.world_model.specs.rules.Partition.{PartState, new_part}
 use Rattle.world_model.specs.rules.Plan.{Plan, is_some_update, updates_at, WorldStep, IsNew}
 use Rattle.world_model.specs.events.Lawful.{IsLawfulWorld}
 use Rattle.world_model.specs.events.Logs.{LeavesLogs}
-use Rattle.world_model.specs.rules.Lines.{lines_of}
+use Rattle.world_model.specs.rules.Lines.{shown_lines}
 use Rattle.world_model.specs.rules.Fate.{TellFates}
 use Rattle.world_model.specs.lines.Lawful.{IsLawful}
 
@@ -58,7 +58,8 @@ module _ {E : Type 0} where
       let c = and_parts (leb t.site sites) _ b.1 in
       (a.0, b.0, c.0, c.1)
 
-  -- what the transactions of these events are
+  -- what the transactions of these events are. A snapshot is fixed by the begin that shows it; updates, and so who takes part and the
+  -- lead, are before the first vote is asked for (`IsNewUpdate.early`); the time, and so the commit vector, by the last vote
   abbrev pub plan_of : ℕ → ℕ → List (Entry E) → Plan E
   plan_of sites parts run = record {
     sites = sites;
@@ -79,4 +80,4 @@ module _ {E : Type 0} where
 
 -- any run of the world is lawful, whatever its kinds do; it leaves the logs that its events tell and leads that tell fates, and shows the lines of a lawful run
 abbrev pub LawWorld : (S E : Type 0) → Type 0
-LawWorld S E = (kinds : Kinds S E) (sites parts : ℕ) (run : List (Entry E)) (state : PartId → PartState E) → IsWorldRun kinds sites parts run state → IsLawfulWorld kinds (plan_of sites parts run) run × LeavesLogs (plan_of sites parts run) run state × IsLawful kinds.too_deep kinds.meaning sites parts (lines_of run) × TellFates parts (lines_of run) state
+LawWorld S E = (kinds : Kinds S E) (sites parts : ℕ) (run : List (Entry E)) (state : PartId → PartState E) → IsWorldRun kinds sites parts run state → IsLawfulWorld kinds (plan_of sites parts run) run × LeavesLogs (plan_of sites parts run) run state × IsLawful kinds.too_deep kinds.meaning sites parts (shown_lines run) × TellFates parts (shown_lines run) state
