@@ -4,8 +4,7 @@ use Rattle.std.specs.Prelude.{codes, option_map, option_and_then}
 use Rattle.std.specs.Str.{bytes_eq}
 use Rattle.std.proofs.lemmas.Bool.{eqb-true}
 use Rattle.std.proofs.lemmas.Option.{none-some}
-use Rattle.crdt_core.specs.declared.object.Field.{Field}
-use Rattle.script_text.specs.Front.{word_end, IsTrimmed, words_front, after_in, after_at}
+use Rattle.script_text.specs.Front.{word_end, spaces, IsTrimmed, words_front, words-space, after_in, after_at}
 use Rattle.script_text.specs.Objects.{path, bucket, field}
 use Rattle.script_text.specs.Split.{outside, after, words, space}
 use Rattle.script_text.specs.Texts.{text}
@@ -108,3 +107,22 @@ no_at (c ∷ cs) trimmed h =
 
 pub not_at : (line bytes : List ℕ) → words bytes ≡ words line → IsTrimmed bytes → after_at bytes ≡ None → bucket (words line) ≡ Some ([], words line)
 not_at line bytes same trimmed h = subst (λ ws. bucket ws ≡ Some ([], ws)) same (no_at bytes trimmed h)
+
+-- what follows the spaces at the front
+words_after : (bytes : List ℕ) → words (drop (spaces bytes) bytes) ≡ words bytes
+words_after [] = refl
+words_after (c ∷ cs) =
+    elim (c == space) as (λ b. (c == space) ≡ b → words (drop (if b then suc (spaces cs) else 0) (c ∷ cs)) ≡ words (c ∷ cs))
+    [ true ↦ λ e. words_after cs ∙ sym (words-space c cs e) | false ↦ λ e. refl ] refl
+
+pub words_trimmed : (bytes rest : List ℕ) (n : ℕ) → n ≡ spaces bytes → rest ≡ drop n bytes → words rest ≡ words bytes
+words_trimmed bytes rest n is is_rest = ap words (is_rest ∙ ap (λ m. drop m bytes) is) ∙ words_after bytes
+
+trimmed_after : (bytes : List ℕ) → IsTrimmed (drop (spaces bytes) bytes)
+trimmed_after [] = tt
+trimmed_after (c ∷ cs) =
+    elim (c == space) as (λ b. (c == space) ≡ b → IsTrimmed (drop (if b then suc (spaces cs) else 0) (c ∷ cs)))
+    [ true ↦ λ e. trimmed_after cs | false ↦ λ e. e ] refl
+
+pub is_trimmed : (bytes rest : List ℕ) (n : ℕ) → n ≡ spaces bytes → rest ≡ drop n bytes → IsTrimmed rest
+is_trimmed bytes rest n is is_rest = subst IsTrimmed (sym (is_rest ∙ ap (λ m. drop m bytes) is)) (trimmed_after bytes)

@@ -1,5 +1,6 @@
 pub mod Digits
 pub mod Utf8
+pub mod Cuts
 pub mod Lists
 pub mod Quoted
 pub mod Fronts

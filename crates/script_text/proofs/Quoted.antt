@@ -1,6 +1,6 @@
 -- A text in quotes in which each byte stands for itself.
-use Rattle.std.proofs.Common.{◌≡◌, ℕ, suc, ◌+◌, ◌-◌, true, true≢false, ◌&&◌, ◌==◌, nat_le, if◌then◌else◌, List, [], ◌∷◌, ◌++◌, length, take, drop, get_or, slice_index, Some, None, sym, ap, ◌∙◌, arith, append-nil, eq-eqb, IsUtf8}
-use Rattle.std.specs.Prelude.{option_and_then}
+use Rattle.std.proofs.Common.{◌≡◌, ℕ, suc, ◌+◌, ◌-◌, true, true≢false, ◌&&◌, ◌==◌, nat_le, if◌then◌else◌, List, [], ◌∷◌, ◌++◌, length, take, get_or, slice_index, Some, None, sym, ap, ◌∙◌, arith, append-nil, eq-eqb, IsUtf8}
+use Rattle.std.specs.Prelude.{option_and_then, slice_range}
 use Rattle.std.proofs.lemmas.Bool.{and_parts, eqb-true}
 use Rattle.std.proofs.lemmas.List.{take_all, take_more}
 use Rattle.std.proofs.lemmas.Str.{utf8_valid_len-IsUtf8}
@@ -16,19 +16,24 @@ use Rattle.serde_json.specs.Read.{read, of_json, max_depth}
 use Rattle.script_words.specs.Plain.{is_plain, quoted_plain}
 use Rattle.script_text.specs.Texts.{is_quoted, string_of}
 
+-- the first byte and the last
+pub quotes : (w : List ℕ) → is_quoted w ≡ true → (slice_index w 0 ≡ 34) × (slice_index w (length w - 1) ≡ 34)
+quotes w h =
+    let p = and_parts (nat_le 2 (length w)) (slice_index w 0 == 34 && slice_index w (length w - 1) == 34) h in
+    let q = and_parts (slice_index w 0 == 34) (slice_index w (length w - 1) == 34) p.1 in
+    (eqb-true (slice_index w 0) 34 q.0, eqb-true (slice_index w (length w - 1)) 34 q.1)
+
 -- what stands between the quotes
-pub between : (w r t : List ℕ) (n : ℕ) → is_quoted w ≡ true → r ≡ drop 1 w → n ≡ length r - 1 → t ≡ take n r → w ≡ 34 ∷ (t ++ 34 ∷ [])
-between [] r t n h is_r is_n is_t = absurd (true≢false (sym h))
-between (c ∷ []) r t n h is_r is_n is_t = absurd (true≢false (sym h))
-between (c ∷ d ∷ ds) r t n h is_r is_n is_t =
-    let p = and_parts (nat_le 2 (length (c ∷ d ∷ ds))) (slice_index (c ∷ d ∷ ds) 0 == 34 && slice_index (c ∷ d ∷ ds) (length (c ∷ d ∷ ds) - 1) == 34) h in
-    let q = and_parts (slice_index (c ∷ d ∷ ds) 0 == 34) (slice_index (c ∷ d ∷ ds) (length (c ∷ d ∷ ds) - 1) == 34) p.1 in
-    let first : c ≡ 34 = eqb-true c 34 q.0 in
+pub between : (w t : List ℕ) → is_quoted w ≡ true → t ≡ slice_range w 1 (length w - 1) → w ≡ 34 ∷ (t ++ 34 ∷ [])
+between [] t h is = absurd (true≢false (sym h))
+between (c ∷ []) t h is = absurd (true≢false (sym h))
+between (c ∷ d ∷ ds) t h is =
+    let q = quotes (c ∷ d ∷ ds) h in
+    let first : c ≡ 34 = q.0 in
     let at : length (c ∷ d ∷ ds) - 1 ≡ suc (length ds) = omega arith in
-    let less : suc (length ds) - 1 ≡ length ds = omega arith in
-    let last : get_or (d ∷ ds) (length ds) 0 ≡ 34 = sym (ap (λ k. slice_index (c ∷ d ∷ ds) k) at) ∙ eqb-true (slice_index (c ∷ d ∷ ds) (length (c ∷ d ∷ ds) - 1)) 34 q.1 in
-    let count : n ≡ length ds = is_n ∙ ap (λ l. length l - 1) is_r ∙ less in
-    let text : t ≡ take (length ds) (d ∷ ds) = is_t ∙ (λ i. take (count i) (is_r i)) in
+    let less : length (c ∷ d ∷ ds) - 1 - 1 ≡ length ds = omega arith in
+    let last : get_or (d ∷ ds) (length ds) 0 ≡ 34 = sym (ap (λ k. slice_index (c ∷ d ∷ ds) k) at) ∙ q.1 in
+    let text : t ≡ take (length ds) (d ∷ ds) = is ∙ ap (λ k. take k (d ∷ ds)) less in
     let whole : d ∷ ds ≡ take (length ds) (d ∷ ds) ++ get_or (d ∷ ds) (length ds) 0 ∷ [] = sym (take_all (length ds + 1) (d ∷ ds) (omega arith)) ∙ take_more (d ∷ ds) (length ds) 0 (omega arith) in
     (λ i. first i ∷ whole i) ∙ (λ i. 34 ∷ (sym text i ++ last i ∷ []))
 

@@ -16,6 +16,11 @@ abbrev pub word_end : Where → List ℕ → ℕ
 word_end at [] = 0
 word_end at (c ∷ cs) = if ends_word at c then 0 else suc (word_end (after at c) cs)
 
+-- the spaces at the front
+abbrev pub spaces : List ℕ → ℕ
+spaces [] = 0
+spaces (c ∷ cs) = if c == space then suc (spaces cs) else 0
+
 abbrev pub IsTrimmed : List ℕ → Type 0
 IsTrimmed [] = Unit {0}
 IsTrimmed (c ∷ cs) = (c == space) ≡ false

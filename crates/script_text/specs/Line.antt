@@ -14,10 +14,10 @@ abbrev pub command_as : Option Command → Option Parsed
 command_as c = option_map parsed.Command c
 
 -- nothing, where there is no word or the first begins with `#`; else the command that the words spell
-abbrev pub reading : List (List ℕ) → Option Parsed
-reading [] = Some parsed.Nothing
-reading ([] ∷ ws) = None
-reading ((c ∷ w) ∷ ws) = if c == hash then Some parsed.Nothing else command_as (command_named (c ∷ w) ws)
+abbrev pub line_as : List (List ℕ) → Option Parsed
+line_as [] = Some parsed.Nothing
+line_as ([] ∷ ws) = None
+line_as ((c ∷ w) ∷ ws) = if c == hash then Some parsed.Nothing else command_as (command_named (c ∷ w) ws)
 
 -- a line, without its end: at most 4,096 bytes of UTF-8
 pub record IsLine (line : List ℕ) : Type 0 where
@@ -27,4 +27,4 @@ pub record IsLine (line : List ℕ) : Type 0 where
 -- the line reads as this
 pub record Reads (line : List ℕ) (p : Parsed) : Type 0 where
   pub is_line : IsLine line
-  pub is : reading (words line) ≡ Some p
+  pub is : line_as (words line) ≡ Some p

@@ -16,7 +16,7 @@ use std::alloc::Global;
 
 /// The texts of the words.
 #[tactic(auto, using(crate::proofs::Lists::texts_start, crate::proofs::Lists::texts_more, crate::proofs::Lists::texts_end, crate::proofs::Lists::texts_bad))]
-fn texts(alloc: Global, line: &[u8]) -> Result<ListOf<Text>, ParseError>
+fn texts(alloc: Global, line: &str) -> Result<ListOf<Text>, ParseError>
     ensures ok { IfOk result (λ ts. acts.texts (words line.now) ≡ Some ts) }
     ensures bad { result ≡ Err ParseError.Bad → acts.texts (words line.now) ≡ None }
 {
@@ -30,7 +30,7 @@ fn texts(alloc: Global, line: &[u8]) -> Result<ListOf<Text>, ParseError>
 }
 
 /// One text or more.
-fn some_texts(alloc: Global, line: &[u8]) -> Result<ListOf<Text>, ParseError>
+fn some_texts(alloc: Global, line: &str) -> Result<ListOf<Text>, ParseError>
     ensures ok { IfOk result (λ ts. acts.some_texts (words line.now) ≡ Some ts) }
     ensures bad { result ≡ Err ParseError.Bad → acts.some_texts (words line.now) ≡ None }
 {
@@ -41,19 +41,20 @@ fn some_texts(alloc: Global, line: &[u8]) -> Result<ListOf<Text>, ParseError>
 }
 
 /// What follows `in` and the space after it, where they stand at the front.
-fn after_in(line: &[u8]) -> Option<&[u8]>
+#[tactic(auto, using(crate::proofs::Cuts::after_third))]
+fn after_in(line: &str) -> Option<&str>
     ensures some { IfSome result (λ r. front.after_in line.now ≡ Some r.now) }
     ensures none { IfNone result (front.after_in line.now ≡ None) }
 {
-    match line {
-        [b'i', b'n', b' ', rest @ ..] => Some(rest),
+    match line.as_bytes() {
+        [b'i', b'n', b' ', ..] => Some(&line[3..]),
         _ => None,
     }
 }
 
 /// The name and the kind after `in`, and what follows them, where `in` and two words stand at the front.
 #[tactic(auto, using(crate::proofs::Fronts::in_front, crate::proofs::Fronts::not_in))]
-fn next_field(line: &[u8]) -> Option<(&[u8], &[u8], &[u8])>
+fn next_field(line: &str) -> Option<(&str, &str, &str)>
     ensures some { IfSome result (λ p. objects.path (words line.now)
         ≡ option_and_then (λ f. option_map (λ q. (f ∷ q.0, q.1)) (objects.path (words p.2.now))) (objects.field p.0.now p.1.now)) }
     ensures shorter { IfSome result (λ p. length (words p.2.now) < length (words line.now)) }
@@ -67,7 +68,7 @@ fn next_field(line: &[u8]) -> Option<(&[u8], &[u8], &[u8])>
 
 /// The fields that lead to what changes, each after `in`, and what follows them.
 #[tactic(auto, using(crate::proofs::Lists::path_start, crate::proofs::Lists::path_more, crate::proofs::Lists::path_end, crate::proofs::Lists::path_bad))]
-fn path(alloc: Global, line: &[u8]) -> Result<(ListOf<Field>, &[u8]), ParseError>
+fn path(alloc: Global, line: &str) -> Result<(ListOf<Field>, &str), ParseError>
     ensures ok { IfOk result (λ p. objects.path (words line.now) ≡ Some (p.0, words p.1.now)) }
     ensures bad { result ≡ Err ParseError.Bad → objects.path (words line.now) ≡ None }
 {
@@ -81,14 +82,14 @@ fn path(alloc: Global, line: &[u8]) -> Result<(ListOf<Field>, &[u8]), ParseError
 }
 
 /// The one amount.
-fn amount(line: &[u8]) -> Option<i32>
+fn amount(line: &str) -> Option<i32>
     ensures { result ≡ acts.amount (words line.now) }
 {
     integer(only(line)?)
 }
 
 /// The act, where nothing follows.
-fn alone(act: Act, line: &[u8]) -> Option<Act>
+fn alone(act: Act, line: &str) -> Option<Act>
     ensures { result ≡ acts.alone act (words line.now) }
 {
     match next(line) {
@@ -98,7 +99,7 @@ fn alone(act: Act, line: &[u8]) -> Option<Act>
 }
 
 /// The assign of the one text.
-fn assigned(alloc: Global, line: &[u8]) -> Result<Act, ParseError>
+fn assigned(alloc: Global, line: &str) -> Result<Act, ParseError>
     ensures ok { IfOk result (λ a. acts.assigned (words line.now) ≡ Some a) }
     ensures bad { result ≡ Err ParseError.Bad → acts.assigned (words line.now) ≡ None }
 {
@@ -109,7 +110,7 @@ fn assigned(alloc: Global, line: &[u8]) -> Result<Act, ParseError>
 }
 
 /// The drop of the one field.
-fn dropped(alloc: Global, line: &[u8]) -> Result<Act, ParseError>
+fn dropped(alloc: Global, line: &str) -> Result<Act, ParseError>
     ensures ok { IfOk result (λ a. acts.dropped (words line.now) ≡ Some a) }
     ensures bad { result ≡ Err ParseError.Bad → acts.dropped (words line.now) ≡ None }
 {
@@ -120,7 +121,7 @@ fn dropped(alloc: Global, line: &[u8]) -> Result<Act, ParseError>
 }
 
 /// The act of this name, and of nothing else in memory than its amount.
-fn plain(name: &[u8], line: &[u8]) -> Option<Act>
+fn plain(name: &[u8], line: &str) -> Option<Act>
     ensures { result ≡ acts.plain_named name.now (words line.now) }
 {
     if spells(name, "increment") {
@@ -142,7 +143,7 @@ fn plain(name: &[u8], line: &[u8]) -> Option<Act>
 }
 
 /// The act of this name.
-fn act_named(alloc: Global, name: &[u8], line: &[u8]) -> Result<Act, ParseError>
+fn act_named(alloc: Global, name: &[u8], line: &str) -> Result<Act, ParseError>
     ensures ok { IfOk result (λ a. acts.act_named name.now (words line.now) ≡ Some a) }
     ensures bad { result ≡ Err ParseError.Bad → acts.act_named name.now (words line.now) ≡ None }
 {
@@ -165,7 +166,7 @@ fn act_named(alloc: Global, name: &[u8], line: &[u8]) -> Result<Act, ParseError>
 }
 
 /// A path and an act.
-pub fn op(alloc: Global, line: &[u8]) -> Result<Op, ParseError>
+pub fn op(alloc: Global, line: &str) -> Result<Op, ParseError>
     ensures ok { IfOk result (λ o. acts.op (words line.now) ≡ Some o) }
     ensures bad { result ≡ Err ParseError.Bad → acts.op (words line.now) ≡ None }
 {
@@ -173,6 +174,6 @@ pub fn op(alloc: Global, line: &[u8]) -> Result<Op, ParseError>
     let Some((name, rest)) = next(rest) else {
         return Err(ParseError::Bad);
     };
-    let act = act_named(alloc, name, rest)?;
+    let act = act_named(alloc, name.as_bytes(), rest)?;
     Ok(Op { path, act })
 }

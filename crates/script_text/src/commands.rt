@@ -16,7 +16,7 @@ use site_vector::PartId;
 use std::alloc::Global;
 use world_model::Command;
 
-fn cluster(line: &[u8]) -> Option<Command>
+fn cluster(line: &str) -> Option<Command>
     ensures { result ≡ grammar.with_two grammar.cluster (words line.now) }
 {
     let (sites, parts) = only_two(line)?;
@@ -25,7 +25,7 @@ fn cluster(line: &[u8]) -> Option<Command>
     Some(Command::Cluster { sites, parts })
 }
 
-fn clock(line: &[u8]) -> Option<Command>
+fn clock(line: &str) -> Option<Command>
     ensures { result ≡ grammar.with_two grammar.clock (words line.now) }
 {
     let (at, n) = only_two(line)?;
@@ -34,7 +34,7 @@ fn clock(line: &[u8]) -> Option<Command>
     Some(Command::Clock { part, n })
 }
 
-fn expire(line: &[u8]) -> Option<Command>
+fn expire(line: &str) -> Option<Command>
     ensures { result ≡ grammar.with_two grammar.expire (words line.now) }
 {
     let (at, id) = only_two(line)?;
@@ -43,7 +43,7 @@ fn expire(line: &[u8]) -> Option<Command>
     Some(Command::Expire { part, tx })
 }
 
-fn hear(line: &[u8]) -> Option<Command>
+fn hear(line: &str) -> Option<Command>
     ensures { result ≡ grammar.with_two grammar.hear (words line.now) }
 {
     let (report, at) = only_two(line)?;
@@ -52,35 +52,35 @@ fn hear(line: &[u8]) -> Option<Command>
     Some(Command::Hear { number, part })
 }
 
-fn settle(line: &[u8]) -> Option<Command>
+fn settle(line: &str) -> Option<Command>
     ensures { result ≡ grammar.with_one grammar.settle (words line.now) }
 {
     let part = part(only(line)?)?;
     Some(Command::Settle { part })
 }
 
-fn report(line: &[u8]) -> Option<Command>
+fn report(line: &str) -> Option<Command>
     ensures { result ≡ grammar.with_one grammar.reported (words line.now) }
 {
     let part = part(only(line)?)?;
     Some(Command::Report { part })
 }
 
-fn crash(line: &[u8]) -> Option<Command>
+fn crash(line: &str) -> Option<Command>
     ensures { result ≡ grammar.with_one grammar.crash (words line.now) }
 {
     let part = part(only(line)?)?;
     Some(Command::Crash { part })
 }
 
-fn restart(line: &[u8]) -> Option<Command>
+fn restart(line: &str) -> Option<Command>
     ensures { result ≡ grammar.with_one grammar.restart (words line.now) }
 {
     let part = part(only(line)?)?;
     Some(Command::Restart { part })
 }
 
-fn deliver(line: &[u8]) -> Option<Command>
+fn deliver(line: &str) -> Option<Command>
     ensures { result ≡ grammar.with_one grammar.deliver (words line.now) }
 {
     let number = numbered(only(line)?, b'm')?;
@@ -88,12 +88,13 @@ fn deliver(line: &[u8]) -> Option<Command>
 }
 
 /// What a message or a report is dropped by.
-fn dropped(word: &[u8]) -> Option<Command>
+#[tactic(auto, using(crate::proofs::Cuts::after_first))]
+fn dropped(word: &str) -> Option<Command>
     ensures { result ≡ grammar.drop word.now }
 {
-    match word {
-        [b'm', digits @ ..] => {
-            let number = number(digits)?;
+    match word.as_bytes() {
+        [b'm', ..] => {
+            let number = number(&word[1..])?;
             Some(Command::DropMessage { number })
         }
         _ => {
@@ -103,14 +104,14 @@ fn dropped(word: &[u8]) -> Option<Command>
     }
 }
 
-fn drop(line: &[u8]) -> Option<Command>
+fn drop(line: &str) -> Option<Command>
     ensures { result ≡ grammar.with_one grammar.drop (words line.now) }
 {
     dropped(only(line)?)
 }
 
 #[inline(never)]
-fn session(alloc: Global, line: &[u8], parsed: &mut Parsed) -> Result<(), ParseError>
+fn session(alloc: Global, line: &str, parsed: &mut Parsed) -> Result<(), ParseError>
     ensures ok { OnOk result (Some parsed.new ≡ command_as (grammar.with_two grammar.session (words line.now))) }
     ensures bad { result ≡ Err ParseError.Bad → grammar.with_two grammar.session (words line.now) ≡ None }
 {
@@ -128,7 +129,7 @@ fn session(alloc: Global, line: &[u8], parsed: &mut Parsed) -> Result<(), ParseE
 }
 
 #[inline(never)]
-fn moved(alloc: Global, line: &[u8], parsed: &mut Parsed) -> Result<(), ParseError>
+fn moved(alloc: Global, line: &str, parsed: &mut Parsed) -> Result<(), ParseError>
     ensures ok { OnOk result (Some parsed.new ≡ command_as (grammar.with_two grammar.moved (words line.now))) }
     ensures bad { result ≡ Err ParseError.Bad → grammar.with_two grammar.moved (words line.now) ≡ None }
 {
@@ -146,7 +147,7 @@ fn moved(alloc: Global, line: &[u8], parsed: &mut Parsed) -> Result<(), ParseErr
 }
 
 #[inline(never)]
-fn lose(alloc: Global, line: &[u8], parsed: &mut Parsed) -> Result<(), ParseError>
+fn lose(alloc: Global, line: &str, parsed: &mut Parsed) -> Result<(), ParseError>
     ensures ok { OnOk result (Some parsed.new ≡ command_as (grammar.with_one grammar.lose (words line.now))) }
     ensures bad { result ≡ Err ParseError.Bad → grammar.with_one grammar.lose (words line.now) ≡ None }
 {
@@ -159,7 +160,7 @@ fn lose(alloc: Global, line: &[u8], parsed: &mut Parsed) -> Result<(), ParseErro
 }
 
 #[inline(never)]
-fn abort(alloc: Global, line: &[u8], parsed: &mut Parsed) -> Result<(), ParseError>
+fn abort(alloc: Global, line: &str, parsed: &mut Parsed) -> Result<(), ParseError>
     ensures ok { OnOk result (Some parsed.new ≡ command_as (grammar.with_one grammar.abort (words line.now))) }
     ensures bad { result ≡ Err ParseError.Bad → grammar.with_one grammar.abort (words line.now) ≡ None }
 {
@@ -172,7 +173,7 @@ fn abort(alloc: Global, line: &[u8], parsed: &mut Parsed) -> Result<(), ParseErr
 }
 
 /// The place, where the line goes on with one, and no more.
-fn maybe_part(line: &[u8]) -> Option<Option<PartId>>
+fn maybe_part(line: &str) -> Option<Option<PartId>>
     ensures { result ≡ grammar.maybe places.part (words line.now) }
 {
     match next(line) {
@@ -187,7 +188,7 @@ fn maybe_part(line: &[u8]) -> Option<Option<PartId>>
 }
 
 /// The count of steps, where the line goes on with one, and no more.
-fn maybe_steps(line: &[u8]) -> Option<Option<u64>>
+fn maybe_steps(line: &str) -> Option<Option<u64>>
     ensures { result ≡ grammar.maybe grammar.steps (words line.now) }
 {
     match next(line) {
@@ -202,7 +203,7 @@ fn maybe_steps(line: &[u8]) -> Option<Option<u64>>
 }
 
 /// The time, where the line goes on with one, and no more.
-fn maybe_time(line: &[u8]) -> Option<Option<u64>>
+fn maybe_time(line: &str) -> Option<Option<u64>>
     ensures { result ≡ grammar.maybe places.time (words line.now) }
 {
     match next(line) {
@@ -217,7 +218,7 @@ fn maybe_time(line: &[u8]) -> Option<Option<u64>>
 }
 
 #[inline(never)]
-fn begin(alloc: Global, line: &[u8], parsed: &mut Parsed) -> Result<(), ParseError>
+fn begin(alloc: Global, line: &str, parsed: &mut Parsed) -> Result<(), ParseError>
     ensures ok { OnOk result (Some parsed.new ≡ command_as (grammar.begin (words line.now))) }
     ensures bad { result ≡ Err ParseError.Bad → grammar.begin (words line.now) ≡ None }
 {
@@ -235,7 +236,7 @@ fn begin(alloc: Global, line: &[u8], parsed: &mut Parsed) -> Result<(), ParseErr
 }
 
 #[inline(never)]
-fn commit(alloc: Global, line: &[u8], parsed: &mut Parsed) -> Result<(), ParseError>
+fn commit(alloc: Global, line: &str, parsed: &mut Parsed) -> Result<(), ParseError>
     ensures ok { OnOk result (Some parsed.new ≡ command_as (grammar.commit (words line.now))) }
     ensures bad { result ≡ Err ParseError.Bad → grammar.commit (words line.now) ≡ None }
 {
@@ -252,7 +253,7 @@ fn commit(alloc: Global, line: &[u8], parsed: &mut Parsed) -> Result<(), ParseEr
     }
 }
 
-fn send(line: &[u8]) -> Option<Command>
+fn send(line: &str) -> Option<Command>
     ensures { result ≡ grammar.send (words line.now) }
 {
     let (at, rest) = next(line)?;
@@ -263,7 +264,7 @@ fn send(line: &[u8]) -> Option<Command>
     Some(Command::Send { part, site, from })
 }
 
-fn fuse(line: &[u8]) -> Option<Command>
+fn fuse(line: &str) -> Option<Command>
     ensures { result ≡ grammar.fuse (words line.now) }
 {
     let (at, rest) = next(line)?;
@@ -275,7 +276,7 @@ fn fuse(line: &[u8]) -> Option<Command>
 }
 
 #[inline(never)]
-fn read(alloc: Global, line: &[u8], parsed: &mut Parsed) -> Result<(), ParseError>
+fn read(alloc: Global, line: &str, parsed: &mut Parsed) -> Result<(), ParseError>
     ensures ok { OnOk result (Some parsed.new ≡ command_as (grammar.read (words line.now))) }
     ensures bad { result ≡ Err ParseError.Bad → grammar.read (words line.now) ≡ None }
 {
@@ -294,7 +295,7 @@ fn read(alloc: Global, line: &[u8], parsed: &mut Parsed) -> Result<(), ParseErro
 }
 
 #[inline(never)]
-fn update(alloc: Global, line: &[u8], parsed: &mut Parsed) -> Result<(), ParseError>
+fn update(alloc: Global, line: &str, parsed: &mut Parsed) -> Result<(), ParseError>
     ensures ok { OnOk result (Some parsed.new ≡ command_as (grammar.update (words line.now))) }
     ensures bad { result ≡ Err ParseError.Bad → grammar.update (words line.now) ≡ None }
 {
@@ -310,7 +311,7 @@ fn update(alloc: Global, line: &[u8], parsed: &mut Parsed) -> Result<(), ParseEr
 
 /// The command of this name, where it keeps no text.
 #[inline(never)]
-fn plain(name: &[u8], line: &[u8]) -> Option<Command>
+fn plain(name: &[u8], line: &str) -> Option<Command>
     ensures { result ≡ grammar.plain_named name.now (words line.now) }
 {
     if spells(name, "cluster") {
@@ -357,7 +358,7 @@ fn plain(name: &[u8], line: &[u8]) -> Option<Command>
 pub fn command(
     alloc: Global,
     name: &[u8],
-    line: &[u8],
+    line: &str,
     parsed: &mut Parsed,
 ) -> Result<(), ParseError>
     ensures ok { OnOk result (Some parsed.new ≡ command_as (grammar.command_named name.now (words line.now))) }

@@ -1,11 +1,11 @@
 //! The commands of a script: what a line reads as.
 #![tactic(auto)]
 
-ghost use Rattle.std.specs.Prelude.{◌≡◌, List, ℕ, Err, OnOk, None, Some, true, false};
+ghost use Rattle.std.specs.Prelude.{◌≡◌, List, ℕ, Err, IfNone, IfSome, OnOk, None, Some};
 ghost use Rattle.std.specs.List.{list_all};
 ghost use Rattle.std.specs.Str.{IsUtf8};
 ghost use Rattle.script_text.specs.declared.Parsed.{Parsed};
-ghost use Rattle.script_text.specs.Line.{IsLine, Reads, reading};
+ghost use Rattle.script_text.specs.Line.{IsLine, Reads, line_as};
 ghost use Rattle.script_text.specs.Split.{words};
 ghost use Rattle.script_text.specs.Ascii.{is_ascii_byte};
 
@@ -64,38 +64,42 @@ fn is_ascii(bytes: &[u8]) -> bool
     greatest < 128
 }
 
-/// Whether the bytes are UTF-8. Most lines are ASCII, which a test of each byte alone sees faster.
+/// The bytes as text, where they are UTF-8. Most lines are ASCII, which a test of each byte alone sees faster.
 #[tactic(auto, using(crate::proofs::Utf8::ascii_utf8))]
-fn is_utf8(bytes: &[u8]) -> bool
-    ensures yes { result ≡ true → IsUtf8 bytes.now }
-    ensures no { result ≡ false → ¬ (IsUtf8 bytes.now) }
+fn as_text(bytes: &[u8]) -> Option<&str>
+    ensures same { IfSome result (λ text. text.now ≡ bytes.now) }
+    ensures utf8 { IfSome result (λ _. IsUtf8 bytes.now) }
+    ensures none { IfNone result (¬ (IsUtf8 bytes.now)) }
 {
     if is_ascii(bytes) {
-        return true;
+        // What this call requires, that the bytes are UTF-8, is `ascii_utf8` of proofs/Utf8.antt.
+        return Some(unsafe { std::str::from_utf8_unchecked(bytes) });
     }
-    std::str::from_utf8(bytes).is_ok()
+    std::str::from_utf8(bytes).ok()
 }
 
-/// Whether the bytes may be a line: at most 4,096, in UTF-8.
-fn is_line(line: &[u8]) -> bool
-    ensures yes { result ≡ true → IsLine line.now }
-    ensures no { result ≡ false → ¬ (IsLine line.now) }
+/// The bytes as text, where they may be a line: at most 4,096, in UTF-8. What follows goes by this one test.
+fn as_line(bytes: &[u8]) -> Option<&str>
+    ensures same { IfSome result (λ line. line.now ≡ bytes.now) }
+    ensures some { IfSome result (λ _. IsLine bytes.now) }
+    ensures none { IfNone result (¬ (IsLine bytes.now)) }
 {
-    if line.len() > MOST_BYTES {
-        return false;
+    if bytes.len() > MOST_BYTES {
+        return None;
     }
-    is_utf8(line)
+    as_text(bytes)
 }
 
 /// Reads the words of the line.
-fn parse_words(alloc: Global, line: &[u8], parsed: &mut Parsed) -> Result<(), ParseError>
-    ensures ok { OnOk result (Some parsed.new ≡ reading (words line.now)) }
-    ensures bad { result ≡ Err ParseError.Bad → reading (words line.now) ≡ None }
+fn parse_words(alloc: Global, line: &str, parsed: &mut Parsed) -> Result<(), ParseError>
+    ensures ok { OnOk result (Some parsed.new ≡ line_as (words line.now)) }
+    ensures bad { result ≡ Err ParseError.Bad → line_as (words line.now) ≡ None }
 {
     let Some((name, rest)) = next(line) else {
         *parsed = Parsed::Nothing;
         return Ok(());
     };
+    let name = name.as_bytes();
     match name {
         [] => Err(ParseError::Bad),
         [b'#', ..] => {
@@ -116,10 +120,10 @@ pub fn parse(alloc: Global, line: &[u8], parsed: &mut Parsed) -> Result<(), Pars
     ensures ok { OnOk result (Reads line.now parsed.new) }
     ensures bad { result ≡ Err ParseError.Bad → (p : Parsed) → ¬ (Reads line.now p) }
 {
-    if !is_line(line) {
-        return Err(ParseError::Bad);
+    match as_line(line) {
+        Some(line) => parse_words(alloc, line, parsed),
+        None => Err(ParseError::Bad),
     }
-    parse_words(alloc, line, parsed)
 }
 
 /// The law of the grammar: it reads at most one command from a line.

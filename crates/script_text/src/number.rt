@@ -22,11 +22,12 @@ fn digits(word: &[u8], top: u64) -> Option<u64>
 }
 
 /// The numeral's number, where it is at most `top`.
-pub fn numeral(word: &[u8], top: u64) -> Option<u64>
+pub fn numeral(word: &str, top: u64) -> Option<u64>
     requires { top ≤ 2 ^ 62 }
     ensures value { result ≡ numbers.numeral top word.now }
     ensures most { IfSome result (λ n. n ≤ top) }
 {
+    let word = word.as_bytes();
     match word {
         [] => None,
         [_] => digits(word, top),
@@ -40,7 +41,7 @@ pub fn numeral(word: &[u8], top: u64) -> Option<u64>
 }
 
 /// A numeral from `lo` to `hi`.
-pub fn ranged(word: &[u8], lo: u64, hi: u64) -> Option<u64>
+pub fn ranged(word: &str, lo: u64, hi: u64) -> Option<u64>
     requires { hi ≤ 2 ^ 62 }
     ensures value { result ≡ numbers.ranged lo hi word.now }
     ensures least { IfSome result (λ n. lo ≤ n) }
@@ -54,7 +55,7 @@ pub fn ranged(word: &[u8], lo: u64, hi: u64) -> Option<u64>
 }
 
 /// A numeral from `lo` to `hi`.
-pub fn small(word: &[u8], lo: u8, hi: u8) -> Option<u8>
+pub fn small(word: &str, lo: u8, hi: u8) -> Option<u8>
     ensures { result ≡ numbers.ranged lo hi word.now }
 {
     let n = ranged(word, lo as u64, hi as u64)?;
@@ -62,13 +63,14 @@ pub fn small(word: &[u8], lo: u8, hi: u8) -> Option<u8>
 }
 
 /// A numeral below 2^31, or a minus sign and one from 1 to 2^31.
-pub fn integer(word: &[u8]) -> Option<i32>
+#[tactic(auto, using(crate::proofs::Cuts::after_first))]
+pub fn integer(word: &str) -> Option<i32>
     ensures { result ≡ numbers.integer word.now }
 {
-    match word {
+    match word.as_bytes() {
         [] => None,
-        [b'-', rest @ ..] => {
-            let n = ranged(rest, 1, 1 << 31)?;
+        [b'-', ..] => {
+            let n = ranged(&word[1..], 1, 1 << 31)?;
             Some((-(n as i64)) as i32)
         }
         _ => {

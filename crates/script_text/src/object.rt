@@ -13,40 +13,41 @@ use script_words::kind_named;
 use std::alloc::Global;
 
 /// A name and a kind.
-pub fn field(alloc: Global, name: &[u8], kind: &[u8]) -> Result<Field, ParseError>
+pub fn field(alloc: Global, name: &str, kind: &str) -> Result<Field, ParseError>
     ensures ok { IfOk result (λ f. objects.field name.now kind.now ≡ Some f) }
     ensures bad { result ≡ Err ParseError.Bad → objects.field name.now kind.now ≡ None }
 {
     let name = text(alloc, name)?;
-    match kind_named(kind) {
+    match kind_named(kind.as_bytes()) {
         Some(kind) => Ok(Field { name, kind }),
         None => Err(ParseError::Bad),
     }
 }
 
 /// What follows an at sign at the front.
-fn after_at(line: &[u8]) -> Option<&[u8]>
+#[tactic(auto, using(crate::proofs::Cuts::after_first))]
+fn after_at(line: &str) -> Option<&str>
     ensures some { IfSome result (λ r. after_at line.now ≡ Some r.now) }
     ensures none { IfNone result (after_at line.now ≡ None) }
 {
-    match line {
-        [b'@', rest @ ..] => Some(rest),
+    match line.as_bytes() {
+        [b'@', ..] => Some(&line[1..]),
         _ => None,
     }
 }
 
 /// The name of the bucket after an at sign, where one stands at the front, and what follows it.
-#[tactic(auto, using(crate::proofs::Fronts::not_at))]
-fn named(line: &[u8]) -> Option<(&[u8], &[u8])>
+#[tactic(auto, using(crate::proofs::Fronts::not_at, crate::proofs::Cuts::at_end_of_word))]
+fn named(line: &str) -> Option<(&str, &str)>
     ensures some { IfSome result (λ p. objects.bucket (words line.now) ≡ option_map (λ t. (t, words p.1.now)) (texts.text p.0.now)) }
     ensures none { IfNone result (objects.bucket (words line.now) ≡ Some ([], words line.now)) }
 {
     let rest = after_at(trimmed(line))?;
-    Some(rest.split_at(end_of_word(rest)))
+    Some(rest.split_at(end_of_word(rest.as_bytes())))
 }
 
 /// The bucket after an at sign, where it stands at the front, and what follows it; else the empty text.
-fn bucket(alloc: Global, line: &[u8]) -> Result<(Text, &[u8]), ParseError>
+fn bucket(alloc: Global, line: &str) -> Result<(Text, &str), ParseError>
     ensures ok { IfOk result (λ p. objects.bucket (words line.now) ≡ Some (p.0, words p.1.now)) }
     ensures bad { result ≡ Err ParseError.Bad → objects.bucket (words line.now) ≡ None }
 {
@@ -57,7 +58,7 @@ fn bucket(alloc: Global, line: &[u8]) -> Result<(Text, &[u8]), ParseError>
 }
 
 /// A key, a kind and maybe a bucket, and what follows them.
-pub fn object(alloc: Global, line: &[u8]) -> Result<(ObjectId, &[u8]), ParseError>
+pub fn object(alloc: Global, line: &str) -> Result<(ObjectId, &str), ParseError>
     ensures ok { IfOk result (λ p. objects.object (words line.now) ≡ Some (p.0, words p.1.now)) }
     ensures bad { result ≡ Err ParseError.Bad → objects.object (words line.now) ≡ None }
 {

@@ -20,10 +20,11 @@ fn position(word: &[u8], byte: u8) -> Option<usize>
 }
 
 /// What stands before the first such byte, and what after it.
-fn cut(word: &[u8], byte: u8) -> Option<(&[u8], &[u8])>
+fn cut(word: &str, byte: u8) -> Option<(&str, &str)>
+    requires ascii { byte < 128 }
     ensures { option_map (λ p. (p.0.now, p.1.now)) result ≡ places.cut_at byte word.now }
 {
-    match position(word, byte) {
+    match position(word.as_bytes(), byte) {
         None => None,
         Some(at) => {
             let (before, _) = word.split_at(at);
@@ -34,28 +35,28 @@ fn cut(word: &[u8], byte: u8) -> Option<(&[u8], &[u8])>
 }
 
 /// A number below 2^48.
-pub fn number(word: &[u8]) -> Option<u64>
+pub fn number(word: &str) -> Option<u64>
     ensures { result ≡ places.number word.now }
 {
     numeral(word, MOST)
 }
 
 /// A time, at most 2^62.
-pub fn time(word: &[u8]) -> Option<u64>
+pub fn time(word: &str) -> Option<u64>
     ensures { result ≡ places.time word.now }
 {
     numeral(word, MOST_TIME)
 }
 
 /// A site, from 1 to 8.
-pub fn site(word: &[u8]) -> Option<u8>
+pub fn site(word: &str) -> Option<u8>
     ensures { result ≡ places.site word.now }
 {
     small(word, 1, 8)
 }
 
 /// A place, as `1.2`.
-pub fn part(word: &[u8]) -> Option<PartId>
+pub fn part(word: &str) -> Option<PartId>
     ensures { result ≡ places.part word.now }
 {
     let (before, after) = cut(word, b'.')?;
@@ -65,7 +66,7 @@ pub fn part(word: &[u8]) -> Option<PartId>
 }
 
 /// A transaction, as `1.2#101`.
-pub fn tx(word: &[u8]) -> Option<TxId>
+pub fn tx(word: &str) -> Option<TxId>
     ensures { result ≡ places.tx word.now }
 {
     let (before, after) = cut(word, b'#')?;
@@ -79,16 +80,18 @@ pub fn tx(word: &[u8]) -> Option<TxId>
 }
 
 /// A letter and a number.
-pub fn numbered(word: &[u8], letter: u8) -> Option<u64>
+#[tactic(auto, using(crate::proofs::Cuts::after_first))]
+pub fn numbered(word: &str, letter: u8) -> Option<u64>
+    requires ascii { letter < 128 }
     ensures { result ≡ places.numbered letter word.now }
 {
-    match word {
+    match word.as_bytes() {
         [] => None,
-        [first, rest @ ..] => {
+        [first, ..] => {
             if *first != letter {
                 return None;
             }
-            number(rest)
+            number(&word[1..])
         }
     }
 }

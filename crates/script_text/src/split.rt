@@ -1,6 +1,6 @@
 ghost use Rattle.std.specs.Prelude.{◌≡◌, ◌+◌, ◌<◌, ◌≤◌, length, take, drop, [], ◌∷◌, Some, None, IfSome, IfNone, option_map};
 ghost use Rattle.script_text.specs.Split.{words, after, ends_word, outside, within, after_backslash};
-ghost use Rattle.script_text.specs.Front.{word_end, IsTrimmed, where_of};
+ghost use Rattle.script_text.specs.Front.{word_end, IsTrimmed, where_of, spaces as spaces_of};
 ghost use Rattle.script_text.specs.Grammar.{one, two};
 
 /// Where a byte stands: outside of quotes, within them, or after a backslash within them.
@@ -113,46 +113,54 @@ pub fn end_of_word(bytes: &[u8]) -> usize
     bytes.len() - rest.len() + end_of_few(rest)
 }
 
-/// What follows the spaces at the front.
-pub fn trimmed(bytes: &[u8]) -> &[u8]
-    ensures same { words result.now ≡ words bytes.now }
-    ensures is { IsTrimmed result.now }
+/// The number of spaces at the front.
+fn spaces(bytes: &[u8]) -> usize
+    ensures { result ≡ spaces_of bytes.now }
 {
     for (i, byte) in bytes.iter().enumerate() {
         if *byte != b' ' {
-            return &bytes[i..];
+            return i;
         }
     }
-    &bytes[bytes.len()..]
+    bytes.len()
+}
+
+/// What follows the spaces at the front.
+#[tactic(auto, using(crate::proofs::Fronts::words_trimmed, crate::proofs::Fronts::is_trimmed))]
+pub fn trimmed(line: &str) -> &str
+    ensures same { words result.now ≡ words line.now }
+    ensures is { IsTrimmed result.now }
+{
+    line.split_at(spaces(line.as_bytes())).1
 }
 
 /// The word at the front, and what follows it.
-#[tactic(auto, using(crate::specs::Front::words_front))]
-fn first(bytes: &[u8]) -> (&[u8], &[u8])
-    requires trimmed { IsTrimmed bytes.now }
-    requires some { 0 < length bytes.now }
-    ensures { words bytes.now ≡ result.0.now ∷ words result.1.now }
+#[tactic(auto, using(crate::specs::Front::words_front, crate::proofs::Cuts::at_end_of_word))]
+fn first(line: &str) -> (&str, &str)
+    requires trimmed { IsTrimmed line.now }
+    requires some { 0 < length line.now }
+    ensures { words line.now ≡ result.0.now ∷ words result.1.now }
 {
-    bytes.split_at(end_of_word(bytes))
+    line.split_at(end_of_word(line.as_bytes()))
 }
 
 /// The first word, and what follows it.
-pub fn next(bytes: &[u8]) -> Option<(&[u8], &[u8])>
-    ensures some { IfSome result (λ p. words bytes.now ≡ p.0.now ∷ words p.1.now) }
-    ensures none { IfNone result (words bytes.now ≡ []) }
+pub fn next(line: &str) -> Option<(&str, &str)>
+    ensures some { IfSome result (λ p. words line.now ≡ p.0.now ∷ words p.1.now) }
+    ensures none { IfNone result (words line.now ≡ []) }
 {
-    let bytes = trimmed(bytes);
-    if bytes.is_empty() {
+    let line = trimmed(line);
+    if line.is_empty() {
         return None;
     }
-    Some(first(bytes))
+    Some(first(line))
 }
 
 /// The one word, where there is no other.
-pub fn only(bytes: &[u8]) -> Option<&[u8]>
-    ensures { option_map (λ w. w.now) result ≡ one (words bytes.now) }
+pub fn only(line: &str) -> Option<&str>
+    ensures { option_map (λ w. w.now) result ≡ one (words line.now) }
 {
-    let (first, rest) = next(bytes)?;
+    let (first, rest) = next(line)?;
     match next(rest) {
         None => Some(first),
         Some(_) => None,
@@ -160,10 +168,10 @@ pub fn only(bytes: &[u8]) -> Option<&[u8]>
 }
 
 /// The two words, where there is no other.
-pub fn only_two(bytes: &[u8]) -> Option<(&[u8], &[u8])>
-    ensures { option_map (λ w. (w.0.now, w.1.now)) result ≡ two (words bytes.now) }
+pub fn only_two(line: &str) -> Option<(&str, &str)>
+    ensures { option_map (λ w. (w.0.now, w.1.now)) result ≡ two (words line.now) }
 {
-    let (first, rest) = next(bytes)?;
+    let (first, rest) = next(line)?;
     let (second, rest) = next(rest)?;
     match next(rest) {
         None => Some((first, second)),

@@ -1,7 +1,6 @@
 ghost use Rattle.std.specs.Prelude.{◌≡◌, ◌≢◌, ◌++◌, ◌∷◌, [], Err, IfOk, IfSome, Some, None, string_bytes, option_and_then, true};
 ghost use Rattle.serde_json.specs.Read.{read};
 ghost use Rattle.serde_json.specs.Find.{as_str};
-ghost use Rattle.script_words.specs.Bare.{is_bare};
 ghost use Rattle.script_text.specs.Texts as texts;
 
 use crate::ParseError;
@@ -11,7 +10,7 @@ use serde_json::Value;
 use std::alloc::Global;
 
 /// The text that a string of JSON stands for.
-fn string_in(alloc: Global, word: &str) -> Result<String, ParseError>
+fn string(alloc: Global, word: &str) -> Result<String, ParseError>
     ensures ok { IfOk result (λ s. option_and_then as_str (read word.now) ≡ Some (string_bytes s)) }
     ensures bad { result ≡ Err ParseError.Bad → option_and_then as_str (read word.now) ≡ None }
 {
@@ -25,21 +24,6 @@ fn string_in(alloc: Global, word: &str) -> Result<String, ParseError>
                 Err(ParseError::Bad)
             }
         }
-    }
-}
-
-/// The text that a string of JSON stands for.
-#[tactic(auto, using(crate::proofs::Utf8::string_is, crate::proofs::Utf8::string_none, crate::proofs::Utf8::string_not))]
-fn string(alloc: Global, word: &[u8]) -> Result<String, ParseError>
-    ensures ok { IfOk result (λ s. texts.string_of word.now ≡ Some (string_bytes s)) }
-    ensures bad { result ≡ Err ParseError.Bad → texts.string_of word.now ≡ None }
-{
-    match std::str::from_utf8(word) {
-        Ok(word) => match string_in(alloc, word) {
-            Ok(text) => Ok(text),
-            Err(error) => Err(error),
-        },
-        Err(_) => Err(ParseError::Bad),
     }
 }
 
@@ -61,45 +45,33 @@ fn is_quoted(word: &[u8]) -> bool
     word.len() >= 2 && word[0] == b'"' && word[word.len() - 1] == b'"'
 }
 
-/// The text of a bare word, whose bytes are ASCII: nothing is left to test.
-#[tactic(auto, using(crate::proofs::Utf8::bare_utf8))]
-fn bare(alloc: Global, word: &[u8]) -> Result<Text, ParseError>
-    requires { is_bare word.now ≡ true }
-    ensures ok { IfOk result (λ t. texts.at_most_256 word.now ≡ Some t) }
-    ensures bad { result ≡ Err ParseError.Bad → texts.at_most_256 word.now ≡ None }
-{
-    let text = unsafe { std::str::from_utf8_unchecked(word) };
-    fitting(alloc, text)
-}
-
 /// What stands between the quotes.
-#[tactic(auto, using(crate::proofs::Quoted::between))]
-fn between(word: &[u8]) -> &[u8]
+#[tactic(auto, using(crate::proofs::Quoted::between, crate::proofs::Cuts::after_quote, crate::proofs::Cuts::before_quote))]
+fn between(word: &str) -> &str
     requires { texts.is_quoted word.now ≡ true }
     ensures { word.now ≡ 34 ∷ (result.now ++ 34 ∷ []) }
 {
-    let (_, rest) = word.split_at(1);
-    let (text, _) = rest.split_at(rest.len() - 1);
-    text
+    &word[1..word.len() - 1]
 }
 
 /// The text in quotes, where each of its bytes stands for itself.
 #[tactic(auto, using(crate::proofs::Quoted::string_plain))]
-fn plain(word: &[u8]) -> Option<&str>
+fn plain(word: &str) -> Option<&str>
     requires { texts.is_quoted word.now ≡ true }
     ensures { IfSome result (λ t. texts.string_of word.now ≡ Some t.now) }
 {
     let text = between(word);
-    if !is_plain(text) {
-        return None;
+    if is_plain(text.as_bytes()) {
+        return Some(text);
     }
-    std::str::from_utf8(text).ok()
+    None
 }
 
 /// The text of a word in quotes. Most hold no escape, and need no reader of JSON. The reader takes much of the stack, and
 /// so stands apart.
 #[inline(never)]
-fn quoted(alloc: Global, word: &[u8]) -> Result<Text, ParseError>
+#[tactic(auto, using(crate::proofs::Utf8::string_is, crate::proofs::Utf8::string_none))]
+fn quoted(alloc: Global, word: &str) -> Result<Text, ParseError>
     requires { texts.is_quoted word.now ≡ true }
     ensures ok { IfOk result (λ t. option_and_then texts.at_most_256 (texts.string_of word.now) ≡ Some t) }
     ensures bad { result ≡ Err ParseError.Bad → option_and_then texts.at_most_256 (texts.string_of word.now) ≡ None }
@@ -112,14 +84,14 @@ fn quoted(alloc: Global, word: &[u8]) -> Result<Text, ParseError>
 }
 
 /// The text that a word stands for, bare or in quotes.
-pub fn text(alloc: Global, word: &[u8]) -> Result<Text, ParseError>
+pub fn text(alloc: Global, word: &str) -> Result<Text, ParseError>
     ensures ok { IfOk result (λ t. texts.text word.now ≡ Some t) }
     ensures bad { result ≡ Err ParseError.Bad → texts.text word.now ≡ None }
 {
-    if is_bare(word) {
-        return bare(alloc, word);
+    if is_bare(word.as_bytes()) {
+        return fitting(alloc, word);
     }
-    if !is_quoted(word) {
+    if !is_quoted(word.as_bytes()) {
         return Err(ParseError::Bad);
     }
     quoted(alloc, word)
