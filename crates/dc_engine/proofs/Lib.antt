@@ -1,12 +1,2 @@
-pub mod Applied
-pub mod Making
-pub mod Moves
-pub mod PlayedBy
-pub mod Progress
-pub mod Readings
-pub mod Returned
-pub mod Sizes
-pub mod Standing
-pub mod Takes
-pub mod Written
-pub mod WrittenLines
+pub mod bytes
+pub mod commands

@@ -3,7 +3,7 @@ use Rattle.std.specs.Prelude.{◌≡◌, ℕ, List, map, reverse, IsTrue, false}
 use Rattle.disk_core.specs.States.{DiskState}
 use Rattle.disk_makers.specs.Makers.{Maker}
 use Rattle.world_model.specs.commands.Cluster.{has_cluster}
-use Rattle.world_model.specs.commands.Run.{Run, lines_of}
+use Rattle.world_model.specs.commands.Run.{Run, written_lines}
 use Rattle.world_model.specs.commands.ScriptAnswers.{Answers}
 use Rattle.cluster.specs.Built.{is_built}
 use Rattle.cluster.specs.History.{ShowsHistory}
@@ -18,7 +18,7 @@ pub record Answered (lines : List (List ℕ)) (bytes : List ℕ) : Type 0 where
   pub run : Run
   pub answers : Answers is_built (reverse (map asked_of lines)) run
   pub history : ShowsHistory kinds run
-  pub written : bytes ≡ lines_of spelled run
+  pub written : bytes ≡ written_lines spelled run
 
 -- and no cluster stands then
 pub record AnsweredBefore (lines : List (List ℕ)) (bytes : List ℕ) : Type 0 where

@@ -5,7 +5,7 @@ use Rattle.disk_core.specs.Fuses.{fused_state}
 use Rattle.disk_core.specs.declared.fused.Fused.{Fused}
 use Rattle.world_model.specs.declared.step.Step.{Step}
 use Rattle.world_model.specs.commands.Cluster.{sites_of, parts_of}
-use Rattle.world_model.specs.commands.Run.{Run, lines_of}
+use Rattle.world_model.specs.commands.Run.{Run, written_lines}
 use Rattle.world_model.specs.commands.ScriptAnswers.{Answers}
 use Rattle.reply_text.specs.Text.{text_of}
 use Rattle.cluster.specs.Built.{is_built}
@@ -32,7 +32,7 @@ module _ {D : Type 0} (state : D → DiskState) where
     pub run : Run
     pub left : IsLeft c run
     pub answers : Answers is_built (reverse (map asked_of lines)) run
-    pub written : bytes ≡ lines_of spelled run
+    pub written : bytes ≡ written_lines spelled run
 
   -- some run left it so, and of the disks that are out there is one for each partition
   pub record HasOut (out : ℕ) (c : Standing D) : Type 0 where

@@ -27,7 +27,7 @@ use Rattle.site_partitions.specs.Reaches.{Types, types_of}
 pub record Layered (S E : Type 0) : Type 0 where
   pub kinds : Kinds S E
   pub is_blank : S → Bool
-  pub in_maps : KeepsInMaps kinds.has kinds.too_deep kinds.initial kinds.step kinds.made is_blank
+  pub in_maps : KeepsInMaps kinds.has kinds.too_deep kinds.initial kinds.applied kinds.generated is_blank
   pub is_of : Kind → E → Bool
   pub can_put : E → Bool
   pub is_spelled : E → Bool

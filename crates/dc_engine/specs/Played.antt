@@ -43,38 +43,38 @@ AreFirst lines (Some input) = (later : List (List ℕ)) × (lines_of input ≡ l
 abbrev pub IsFront : List (List ℕ) → List (List ℕ) → Type 0
 IsFront lines all = (later : List (List ℕ)) × (all ≡ lines ++ later)
 
--- at most `most` bytes were read, at most `size` of them as the last block: the replies to the lines whose LF was read before that
--- block were written, and then a front of the replies to the next lines
-pub record PlayedPart (size most : ℕ) (replies : List (List ℕ) → List ℕ → Type 0) (input left before after : Option (List ℕ)) : Type 0 where
+-- at most `most` bytes were read, at most `size` of them as the last block
+pub record WereRead (size most : ℕ) (input left : Option (List ℕ)) : Type 0 where
   pub earlier : List ℕ
   pub block : List ℕ
+  pub from_source : Consumes input left (earlier ++ block)
+  pub fits : length (earlier ++ block) ≤ most
+  pub in_hand : length block ≤ size
+
+-- these lines stand at the front of what was read, and of the input
+pub record WereReached {size most : ℕ} {input left : Option (List ℕ)} (read : WereRead size most input left) (lines : List (List ℕ)) : Type 0 where
+  pub are_read : IsFront lines (lines_of (read.earlier ++ read.block))
+  pub are_first : AreFirst lines input
+
+-- the replies to the lines whose LF was read before the last block were written, and then a front of the replies to the next lines
+pub record PlayedPart (size most : ℕ) (replies : List (List ℕ) → List ℕ → Type 0) (input left before after : Option (List ℕ)) : Type 0 where
+  pub read : WereRead size most input left
   pub more : List (List ℕ)
+  pub reached : WereReached read (ended_lines read.earlier ++ more)
   pub written : List ℕ
   pub reply : List ℕ
-  pub count : ℕ
-  pub from_source : Consumes input left (earlier ++ block)
-  pub fits : length (earlier ++ block) ≤ most
-  pub in_hand : length block ≤ size
-  pub are_read : IsFront (ended_lines earlier ++ more) (lines_of (earlier ++ block))
-  pub are_first : AreFirst (ended_lines earlier ++ more) input
-  pub replied_earlier : replies (ended_lines earlier) written
-  pub replied : replies (ended_lines earlier ++ more) (written ++ reply)
-  pub to_sink : Appends before after (written ++ take count reply)
+  pub replied_earlier : replies (ended_lines read.earlier) written
+  pub replied : replies (ended_lines read.earlier ++ more) (written ++ reply)
+  pub to_sink : (count : ℕ) × Appends before after (written ++ take count reply)
 
--- at most `most` bytes were read, at most `size` of them as the last block: the replies to all lines before one that makes a cluster
--- were written, and that one wasn't answered
+-- the replies to all lines before one that makes a cluster were written, among these all whose LF was read before the last block
 pub record PlayedBefore (size most : ℕ) (replies : List (List ℕ) → List ℕ → Type 0) (input left before after : Option (List ℕ)) : Type 0 where
-  pub earlier : List ℕ
-  pub block : List ℕ
+  pub read : WereRead size most input left
   pub lines : List (List ℕ)
   pub line : List ℕ
-  pub written : List ℕ
-  pub from_source : Consumes input left (earlier ++ block)
-  pub fits : length (earlier ++ block) ≤ most
-  pub in_hand : length block ≤ size
-  pub are_later : IsFront (ended_lines earlier) lines
-  pub are_read : IsFront (lines ++ line ∷ []) (lines_of (earlier ++ block))
-  pub are_first : AreFirst (lines ++ line ∷ []) input
+  pub are_later : IsFront (ended_lines read.earlier) lines
+  pub reached : WereReached read (lines ++ line ∷ [])
   pub making : makes_cluster line ≡ true
+  pub written : List ℕ
   pub replied : replies lines written
   pub to_sink : Appends before after written

@@ -3,7 +3,7 @@ use Rattle.std.specs.Prelude.{ℕ, Bool, true, false, ◌&&◌, nat_le, List, le
 use Rattle.std.specs.Io.BufRead.{strip_last}
 use Rattle.std.specs.List.{list_any}
 use Rattle.std.specs.Str.{is_utf8}
-use Rattle.script_text.specs.Line.{reading}
+use Rattle.script_text.specs.Line.{line_as}
 use Rattle.script_text.specs.Split.{words}
 use Rattle.script_text.specs.declared.Parsed.{Parsed}
 use Rattle.script_text.specs.declared.Parsed.TheVariants as parsed
@@ -13,7 +13,7 @@ use Rattle.dc_engine.specs.ObjectKinds.{kinds}
 
 -- what a line reads as: at most 4,096 bytes of UTF-8, whose words are in the grammar
 abbrev pub reading_of : List ℕ → Option Parsed
-reading_of line = if nat_le (length line) 4096 && is_utf8 line then reading (words line) else None
+reading_of line = if nat_le (length line) 4096 && is_utf8 line then line_as (words line) else None
 
 abbrev pub asked_as : Option Parsed → Asked
 asked_as None = unreadable

@@ -11,9 +11,13 @@ ghost use Rattle.dc_engine.specs.Player.{AnswersAsked};
 ghost use Rattle.dc_engine.specs.Reading.{asked_of, makes_cluster};
 ghost use Rattle.reply_text.specs.Text.{text_of};
 
-use crate::makers::{give_back_all, make_all};
-use crate::objects::Objects;
-use crate::reading::reading;
+pub(crate) mod makers;
+pub(crate) mod objects;
+pub(crate) mod reading;
+
+use crate::player::makers::{give_back_all, make_all};
+use crate::player::objects::Objects;
+use crate::player::reading::reading;
 use crate::responder::Responder;
 use crate::unanswered::Unanswered;
 use cluster::Cluster;
@@ -91,7 +95,7 @@ impl<M: Disks> Player<M> {
     }
 
     /// Answers a line, and on an error leaves at the end of `out` what was written of it.
-    #[tactic(auto, using(crate::proofs::Applied::line_answered))]
+    #[tactic(auto, using(crate::proofs::commands::Applied::line_answered))]
     fn write_answer(
         &mut self,
         disks: &mut M,

@@ -5,12 +5,16 @@ ghost use Rattle.dc_engine.specs.Outcome.{Outcome, change};
 ghost use Rattle.dc_engine.specs.Replies.{Replies, RepliesBefore};
 ghost use Rattle.dc_engine.specs.Status.{ends_whole};
 
-use crate::blocks::play_blocks;
+pub(crate) mod blocks;
+pub(crate) mod lines;
+pub(crate) mod pending_line;
+
 use crate::fault::Fault;
 use crate::responder::Responder;
-use crate::sink::Sink;
-use crate::source::Source;
+use crate::script::blocks::play_blocks;
 use crate::status::Status;
+use crate::streams::sink::Sink;
+use crate::streams::source::Source;
 use std::alloc::Global;
 
 /// How many bytes are read at a time, if they are there.
@@ -20,7 +24,7 @@ const BLOCK: usize = 65_536;
 const MOST_BYTES: usize = 67_108_864;
 
 /// Plays a script with what answers its lines.
-#[tactic(auto, using(crate::proofs::Progress::played_all))]
+#[tactic(auto, using(crate::proofs::bytes::Progress::played_all))]
 pub(crate) fn play_script<S: Source, K: Sink, R: Responder>(
     alloc: Global,
     source: &mut S,

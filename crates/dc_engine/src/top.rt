@@ -4,9 +4,9 @@ ghost use Rattle.dc_engine.specs.Words.{asks_play};
 
 use crate::player::Player;
 use crate::script::play_script;
-use crate::sink::Sink;
-use crate::source::Source;
 use crate::status::Status;
+use crate::streams::sink::Sink;
+use crate::streams::source::Source;
 use crate::words::is_play;
 use disk_makers::Disks;
 use std::alloc::Global;

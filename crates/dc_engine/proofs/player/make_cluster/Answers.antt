@@ -5,8 +5,8 @@ use Rattle.disk_core.specs.Fuses.{fused_state}
 use Rattle.cluster.specs.Reached.{Applies}
 use Rattle.dc_engine.specs.Held.{Standing}
 use Rattle.dc_engine.specs.ObjectKinds.{types}
-use Rattle.dc_engine.proofs.Applied.{out_made, out_none}
-use Rattle.dc_engine.proofs.Returned.{failed_applies}
+use Rattle.dc_engine.proofs.commands.Applied.{out_made, out_none}
+use Rattle.dc_engine.proofs.commands.Returned.{failed_applies}
 use Rattle.dc_engine.proofs.player.make_cluster.Goals as goal
 
 pub returns-in-Ok-clause-held : goal.returns-in-Ok-clause-held

@@ -7,7 +7,7 @@ use Rattle.disk_core.specs.Fuses.{fused_state}
 use Rattle.cluster.specs.Reached.{Applies}
 use Rattle.dc_engine.specs.Held.{Standing}
 use Rattle.dc_engine.specs.ObjectKinds.{types}
-use Rattle.dc_engine.proofs.Applied.{out_applied, out_none, lacks_of}
+use Rattle.dc_engine.proofs.commands.Applied.{out_applied, out_none, lacks_of}
 use Rattle.dc_engine.proofs.player.obey.Goals as goal
 
 pub returns-in_err-apply-clause-held : goal.returns-in_err-apply-clause-held

@@ -1,7 +1,7 @@
 use Rattle.std.proofs.Common.{◌∙◌, take}
 use Rattle.std.specs.List.{flat_map}
 use Rattle.reply_text.specs.Text.{text_of}
-use Rattle.dc_engine.proofs.WrittenLines.{line_more, line_kept, on_err}
+use Rattle.dc_engine.proofs.commands.WrittenLines.{line_more, line_kept, on_err}
 use Rattle.dc_engine.proofs.player.write_lines.Goals as goal
 
 pub loop-step-preserved : goal.loop-step-preserved

@@ -1,6 +1,6 @@
 use Rattle.std.proofs.Common.{arith}
-use Rattle.dc_engine.proofs.Applied.{out_more}
-use Rattle.dc_engine.proofs.PlayedBy.{outcome_lawful}
+use Rattle.dc_engine.proofs.commands.Applied.{out_more}
+use Rattle.dc_engine.proofs.bytes.PlayedBy.{outcome_lawful}
 use Rattle.dc_engine.proofs.top.play.Goals as goal
 
 pub play_script-status-requires-clause-fresh : goal.play_script-status-requires-clause-fresh

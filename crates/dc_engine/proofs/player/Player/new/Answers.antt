@@ -1,5 +1,5 @@
 use Rattle.std.proofs.Common.{refl}
-use Rattle.dc_engine.proofs.Applied.{reached_none, out_first}
+use Rattle.dc_engine.proofs.commands.Applied.{reached_none, out_first}
 use Rattle.dc_engine.proofs.player.Player.new.Goals as goal
 
 pub returns-clause-reached : goal.returns-clause-reached

@@ -1,0 +1,6 @@
+pub mod Applied
+pub mod Making
+pub mod Readings
+pub mod Returned
+pub mod Sizes
+pub mod WrittenLines

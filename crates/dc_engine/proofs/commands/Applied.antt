@@ -1,0 +1,142 @@
+-- A player answers the lines of a script by a run of its cluster.
+use Rattle.std.proofs.Common.{◌≡◌, ℕ, ◌+◌, ◌*◌, ◌≤◌, Bool, true, false, ◌||◌, List, [], ◌∷◌, ◌++◌, length, Option, None, Some, refl, sym, ap, ◌∙◌, subst, arith, inl, inr, ⊎_elim, append_assoc}
+use Rattle.std.specs.Prelude.{map, reverse, is_some, Result, Ok, Err, IfOk}
+use Rattle.std.specs.List.{flat_map}
+use Rattle.std.proofs.lemmas.Bool.{true≢false}
+use Rattle.std.proofs.lemmas.List.{reverse-append, map-append, append-nil}
+use Rattle.site_vector.specs.declared.ids.PartId.{PartId}
+use Rattle.disk_core.specs.States.{DiskState}
+use Rattle.disk_core.specs.Fuses.{fused_state}
+use Rattle.disk_core.specs.declared.fused.Fused.{Fused}
+use Rattle.world_model.specs.declared.command.Command.{Command}
+use Rattle.world_model.specs.declared.command.Command.TheVariants as command
+use Rattle.world_model.specs.declared.step.Step.{Step}
+use Rattle.world_model.specs.declared.step.Step.TheVariants as step
+use Rattle.world_model.specs.commands.Cluster.{has_cluster, sites_of, parts_of}
+use Rattle.world_model.specs.lines.Places.{IsPlace}
+use Rattle.world_model.specs.commands.Run.{Run, written_lines}
+use Rattle.world_model.specs.commands.Answers.{Asked, nothing, unreadable, asks, answered}
+use Rattle.world_model.specs.commands.ScriptAnswers.{GoesOn, Answers, IsMade, AnswersBy, IsAnswer}
+use Rattle.reply_text.specs.Text.{text_of}
+use Rattle.cluster.specs.Built.{is_built, is_making}
+use Rattle.cluster.specs.Reached.{Applies, parts_in}
+use Rattle.cluster.proofs.Laws.{bad_still}
+use Rattle.cluster.proofs.Meets.{all_met, none_due}
+use Rattle.cluster.proofs.Mere.{at_first}
+use Rattle.dc_engine.specs.Held.{Standing, IsLeft, spelled, Reached, HasOut}
+use Rattle.dc_engine.specs.ObjectKinds.{types}
+use Rattle.dc_engine.specs.Player.{PlayerState, AnswersAsked, ReachedBy}
+use Rattle.dc_engine.specs.Reading.{asked_of, is_unreadable, has_bad}
+use Rattle.dc_engine.specs.Replies.{AnswersLine}
+use Rattle.dc_engine.proofs.commands.Readings.{asked_of-take, has_bad-more}
+use Rattle.dc_engine.proofs.commands.Sizes.{answer_makes_none, same_size}
+
+lines_more : (number : ℕ) (asked : Option Command) (steps : List Step) (run : Run) → written_lines spelled (answered number asked steps run) ≡ written_lines spelled run ++ flat_map text_of steps
+lines_more number asked [] run = sym (append-nil (written_lines spelled run))
+lines_more number asked (s ∷ steps) run = lines_more number asked steps (record { number = number; command = asked; step = s } ∷ run) ∙ append_assoc (written_lines spelled run) (text_of s) (flat_map text_of steps)
+
+script_more : (lines : List (List ℕ)) (whole : List ℕ) → reverse (map asked_of (lines ++ whole ∷ [])) ≡ asked_of whole ∷ reverse (map asked_of lines)
+script_more lines whole = ap reverse (map-append asked_of lines (whole ∷ [])) ∙ reverse-append (map asked_of lines) (asked_of whole ∷ [])
+
+module _ {D : Type 0} (state : D → DiskState) where
+  -- the run with the answer to one more line
+  record GoesWith (run : Run) (number : ℕ) (asked : Asked) (steps : List Step) (new : Standing D) : Type 0 where
+    more : Run
+    goes : GoesOn is_built number run asked more
+    left : IsLeft state new more
+    written : written_lines spelled more ≡ written_lines spelled run ++ flat_map text_of steps
+
+  goes_with : (old new : PlayerState D) (run : Run) (number : ℕ) (asked : Asked) (steps : List Step) → IsLeft state old.cluster run → AnswersAsked state old asked steps new → GoesWith run number asked steps new.cluster
+  goes_with old new run number nothing steps r h = record {
+    more = run;
+    goes = refl;
+    left = subst (λ c. IsLeft state c run) (sym h.1) r;
+    written = sym (ap (λ l. written_lines spelled run ++ flat_map text_of l) h.0 ∙ append-nil (written_lines spelled run));
+  }
+  goes_with old new run number unreadable steps r h = record {
+    more = answered number None (step.Bad ∷ []) run;
+    goes = refl;
+    left = subst (λ c. IsLeft state c (answered number None (step.Bad ∷ []) run)) (sym h.1) (bad_still (types (fused_state state)) old.cluster number run r);
+    written = lines_more number None (step.Bad ∷ []) run ∙ ap (λ l. written_lines spelled run ++ flat_map text_of l) (sym h.0);
+  }
+  goes_with old new run number (asks c) steps r h =
+      let applied = h.0 number run r in record {
+        more = answered number (Some c) steps run;
+        goes = (steps, applied.0, refl);
+        left = applied.1;
+        written = lines_more number (Some c) steps run;
+      }
+
+  -- the mark of a line that isn't in the grammar
+  marked : (old new : PlayerState D) (asked : Asked) (steps : List Step) (b : Bool) → AnswersAsked state old asked steps new → b ≡ old.met_bad → (is_unreadable asked || b) ≡ new.met_bad
+  marked old new nothing steps b h e = e ∙ sym h.2
+  marked old new unreadable steps b h e = sym h.2
+  marked old new (asks c) steps b h e = e ∙ sym h.1
+
+  reached_more : (old new : PlayerState D) (whole : List ℕ) (steps : List Step) (lines : List (List ℕ)) (bytes : List ℕ) → AnswersAsked state old (asked_of whole) steps new → ReachedBy state old lines bytes → ReachedBy state new (lines ++ whole ∷ []) (bytes ++ flat_map text_of steps)
+  reached_more old new whole steps lines bytes h r =
+      let was = r.reached in
+      let script = reverse (map asked_of lines) in
+      let g = goes_with old new was.run (length script + 1) (asked_of whole) steps was.left h in record {
+        reached = record {
+          run = g.more;
+          left = g.left;
+          answers = subst (λ s. Answers is_built s g.more) (sym (script_more lines whole)) (was.run, was.answers, g.goes);
+          written = ap (λ b. b ++ flat_map text_of steps) was.written ∙ sym g.written;
+        };
+        is_bad = has_bad-more lines whole ∙ marked old new (asked_of whole) steps (has_bad lines) h r.is_bad;
+      }
+
+  -- a line is answered with the text of these steps
+  pub line_answered : (old new : PlayerState D) (line : List ℕ) (steps : List Step) (before after : List ℕ) → AnswersAsked state old (asked_of line) steps new → after ≡ before ++ flat_map text_of steps → AnswersLine (ReachedBy state) old new line before after
+  line_answered old new line steps before after h e = record {
+    reply = flat_map text_of steps;
+    appended = e;
+    answered = λ whole lines bytes t r. reached_more old new whole steps lines bytes (subst (λ a. AnswersAsked state old a steps new) (sym (ap asked_of t) ∙ asked_of-take whole) h) r;
+  }
+
+  -- a new player stands before any line, and needs no disk
+  pub reached_none : (p : PlayerState D) → IsLeft state p.cluster [] → p.met_bad ≡ false → ReachedBy state p [] []
+  reached_none p r b = record { reached = record { run = []; left = r; answers = refl; written = refl }; is_bad = sym b }
+
+  pub out_first : (c : Standing D) (out : ℕ) → IsLeft state c [] → HasOut state out c
+  out_first c out r = record { run = []; left = r; enough = omega arith }
+
+  pub out_none : (c : Standing D) (out : ℕ) → c ≡ None → HasOut state out c
+  out_none c out e = subst (HasOut state out) (sym e) (record { run = []; left = at_first; enough = omega arith })
+
+  pub out_more : (c : Standing D) (out more : ℕ) → out ≤ more → HasOut state out c → HasOut state more c
+  out_more c out more l h = record { run = h.run; left = h.left; enough = let e = h.enough in omega (arith, e, l) }
+
+  stands_already : (c : Standing D) (run : Run) → is_some (parts_in c) ≡ true → IsLeft state c run → has_cluster run ≡ true
+  stands_already None run h r = absurd (true≢false (sym h))
+  stands_already (Some w) run h r = r.live.has
+
+  -- a command that makes no cluster leaves as many partitions
+  pub out_applied : (old new : Standing D) (c : Command) (steps : List Step) (out : ℕ) → (is_making c ≡ true → is_some (parts_in old) ≡ true) → Applies (types (fused_state state)) old c steps new → HasOut state out old → HasOut state out new
+  out_applied old new c steps out once a h =
+      let applied = a 0 h.run h.left in
+      let size = same_size 0 (Some c) steps h.run (answer_makes_none h.run c steps (λ m. stands_already old h.run (once m) h.left) applied.0) in
+      record { run = answered 0 (Some c) steps h.run; left = applied.1; enough = subst (λ n. n ≤ out) (sym (λ i. size.0 i * size.1 i)) h.enough }
+
+  -- one that makes a cluster takes as many disks as it has partitions
+  made_size : (sites parts : ℕ) (steps : List Step) → IsMade sites parts steps → (sites_of (answered 0 (Some (command.Cluster sites parts)) steps []) * parts_of (answered 0 (Some (command.Cluster sites parts)) steps [])) ≤ sites * parts
+  made_size sites parts steps m = ⊎_elim
+      (λ (e : steps ≡ step.MadeCluster sites parts ∷ []). subst (λ l. (sites_of (answered 0 (Some (command.Cluster sites parts)) l []) * parts_of (answered 0 (Some (command.Cluster sites parts)) l [])) ≤ sites * parts) (sym e) (omega arith))
+      (λ (x : (at : PartId) × IsPlace sites parts at × (steps ≡ step.Disk at ∷ [])). subst (λ l. (sites_of (answered 0 (Some (command.Cluster sites parts)) l []) * parts_of (answered 0 (Some (command.Cluster sites parts)) l [])) ≤ sites * parts) (sym x.2) (omega arith))
+      m
+
+  pub out_made : (new : Standing D) (sites parts : ℕ) (steps : List Step) (out : ℕ) → sites * parts ≤ out → Applies (types (fused_state state)) None (command.Cluster sites parts) steps new → HasOut state out new
+  out_made new sites parts steps out l a =
+      let applied = a 0 [] at_first in
+      let m : IsMade sites parts steps = subst (λ o. AnswersBy [] (command.Cluster sites parts) steps o) (none_due (all_met [] (command.Cluster sites parts)) (refl, (refl, tt))) applied.0 in
+      let most = made_size sites parts steps m in
+      record { run = answered 0 (Some (command.Cluster sites parts)) steps []; left = applied.1; enough = omega (arith, most, l) }
+
+  -- whether a cluster stands
+  pub lacks_of : (c : Standing D) → is_some (parts_in c) ≡ false → c ≡ None
+  lacks_of None h = refl
+  lacks_of (Some w) h = absurd (true≢false h)
+
+  pub stands_of : (c : Standing D) → is_some (parts_in c) ≡ true → c ≡ None → ⊥
+  stands_of c h e = true≢false (sym h ∙ ap (λ (x : Standing D). is_some (parts_in x)) e)

@@ -1,0 +1,60 @@
+-- The disks of a cluster that are made, one after another.
+use Rattle.std.proofs.Common.{◌≡◌, ℕ, ◌+◌, ◌-◌, ◌*◌, ◌<◌, ◌≤◌, ◌^◌, List, [], ◌∷◌, ◌++◌, length, refl, sym, ap, ◌∙◌, subst, arith}
+use Rattle.std.specs.Prelude.{min, IsTrue, Option, None}
+use Rattle.std.proofs.lemmas.Nat.{mul-le}
+use Rattle.disk_core.specs.States.{DiskState, Rose}
+use Rattle.disk_core.specs.Fuses.{fused_state}
+use Rattle.disk_core.specs.declared.fused.Fused.{Fused}
+use Rattle.disk_makers.specs.Makers.{Maker, IsMade}
+use Rattle.gate_log.specs.Rest.{AtRest}
+use Rattle.site_partitions.specs.Made.{AreBlank}
+use Rattle.site_vector.specs.declared.ids.PartId.{PartId}
+use Rattle.dc_engine.specs.Makers.{IsKept, first_place, next_place}
+use Rattle.dc_engine.proofs.commands.Returned.{close_by}
+
+module _ {D : Type 0} (state : D → DiskState) where
+  -- one more disk, with a fuse that isn't armed
+  pub blank_more : (made : List (Fused D)) (disk : D) (fused : Fused D) → IsMade (state disk) → fused_state state fused ≡ record (state disk) { left = None } → AreBlank (fused_state state) made → AreBlank (fused_state state) (made ++ fused ∷ [])
+  blank_more [] disk fused m e b = ((8, subst (λ s. AtRest s 8 []) (sym e) (record { tells = m.log.tells; settled = m.log.settled; log = m.log.log; place = m.log.place })), tt)
+  blank_more (f ∷ made) disk fused m e b = (b.0, blank_more made disk fused m e b.1)
+
+  -- some are made, and as many more are out; so many are left to make
+  pub record IsMaking (count : ℕ) (start now : Maker D) (made : List (Fused D)) (at : PartId) (left : ℕ) : Type 0 where
+    pub all : length made + left ≡ count
+    pub few : count ≤ 128
+    pub near : at.site ≤ 1 + length made
+    pub blank : AreBlank (fused_state state) made
+    pub out : now.out ≡ start.out + length made
+    pub later : start.faults ≤ now.faults
+    pub same : IsKept start now
+
+  pub making_start : (sites parts : ℕ) (start : Maker D) → sites ≤ 8 → parts ≤ 16 → IsMaking (sites * parts) start start [] first_place (sites * parts)
+  making_start sites parts start s p = record {
+    all = omega arith;
+    few = let up : sites * parts ≤ 8 * 16 = mul-le sites parts 8 16 s p in omega (arith, up);
+    near = omega arith;
+    blank = tt;
+    out = omega arith;
+    later = omega arith;
+    same = record { tells = refl; given = refl };
+  }
+
+  pub making_more : (count : ℕ) (start now new : Maker D) (made more : List (Fused D)) (parts : ℕ) (at next : PartId) (left : ℕ) → IsMaking count start now made at left → 0 < left → length more ≡ length made + 1 → next ≡ next_place parts at → AreBlank (fused_state state) more → new.out ≡ now.out + 1 → now.faults ≤ new.faults → IsKept now new → IsMaking count start new more next (left - 1)
+  making_more count start now new made more parts at next left m some counted e blank out later same = record {
+    all = let a = m.all in omega (arith, a, some, counted);
+    few = m.few;
+    near = let a = m.near in let b = close_by parts at next e in omega (arith, a, counted, b);
+    blank = blank;
+    out = let a = m.out in omega (arith, a, out, counted);
+    later = let a = m.later in omega (arith, a, later);
+    same = record { tells = same.tells ∙ m.same.tells; given = same.given ∙ m.same.given };
+  }
+
+pub rose_later : (a b c : ℕ) → a ≤ b → Rose b c → Rose a c
+rose_later a b c h k = omega (arith, h, k)
+
+pub kept_refl : {D : Type 0} (m : Maker D) → IsKept m m
+kept_refl m = record { tells = refl; given = refl }
+
+pub kept_both : {D : Type 0} (a b c : Maker D) → IsKept a b → IsKept b c → IsKept a c
+kept_both a b c x y = record { tells = y.tells ∙ x.tells; given = y.given ∙ x.given }
