@@ -19,11 +19,18 @@ test:
 script:
 	@test -r "$$SCRIPT" || { echo "make: there is no script $$SCRIPT" >&2; exit 2; }
 
-# A run that reads no line proves and builds.
+# A run that reads no line proves and builds. rt tells each crate as it comes to it; here it gets its number.
 built:
-	@echo 'make play: proves dc_shell and the crates below it, the lowest first: about an hour the first time,' >&2
-	@echo 'seconds where nothing has changed. "chose --jobs N for NAME" tells which crate is at hand. Then it plays the script.' >&2
-	@cd crates/dc_shell && rt run -- play < /dev/null >&2
+	@echo 'make play: proves dc_shell and the crates below it, the lowest first: about an hour the first time, and' >&2
+	@echo 'seconds where nothing has changed. It tells which crate is at hand. Then it plays the script.' >&2
+	@all=$$(for it in $$(sed -n 's/^dc_shell://p;s/^dc_engine://p' crates.txt) dc_engine dc_shell; do \
+			test ! -d "crates/$$it" || echo "$$it"; done | sort -u | wc -l); at=0; \
+		cd crates/dc_shell && status=$$({ { rt run -- play < /dev/null 2>&1; echo $$? >&4; } | \
+		while IFS= read -r line; do \
+			case "$$line" in "rt: chose --jobs"*) at=$$((at + 1)); \
+				echo "make play: crate $$at of $$all: $${line##* }";; esac; \
+			printf '%s\n' "$$line"; \
+		done >&2; } 4>&1) && exit "$$status"
 
 # The program plays the script, and 1 tells of a bad line.
 play: script built
