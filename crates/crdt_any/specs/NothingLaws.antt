@@ -36,7 +36,7 @@ nothing_resets = record {
 }
 
 abbrev pub nothing_spells : SpellsEffects {E = Unit {0}} (λ k. false) (λ k e. true) (λ e. true) (λ e. true) (λ e. []) (λ e. []) (λ e. []) (λ k bytes at. Err (Bad at))
-nothing_spells = record { form = λ k has. absurd (false≢true has); all = λ e can ascends words short. refl }
+nothing_spells = record { form = λ k has. absurd (false≢true has); all = λ e. record { shown = λ can kept short. refl } }
 
 pub nothing_named : NamesAreSpelled {E = Unit {0}} (λ e. true) (λ e d. false) (λ e. []) (λ e. [])
 nothing_named = record { exact = λ e d can. refl; stands = λ e d can h. absurd (false≢true h) }

@@ -16,10 +16,14 @@ use Rattle.crdt_core.specs.Spelled.{is_dot, ascend}
 abbrev pub sets_ascend : List (List Dot) → Bool
 sets_ascend sets = list_all ascend sets
 
--- What fits has a spelling, where its sets of updates ascend and its texts are texts, as each `Dots` and each `Text` does. Only
--- where its bytes would be 2^32 or more need it have none, as each member of a list has a byte.
+-- What fits has a spelling, where its types keep what they do. Only where its bytes would be 2^32 or more need it have none, as
+-- each member of a list has a byte.
+pub record Spells (fits keeps is_spelled : Bool) (bytes : List ℕ) : Type 0 where
+  pub shown : fits ≡ true → keeps ≡ true → length bytes < 2 ^ 32 → is_spelled ≡ true
+
+-- so each value whose texts are texts and whose sets of updates ascend, as each `Text` and each `Dots` does
 abbrev pub HasSpelling : {V : Type 0} → (V → Bool) → (V → Bool) → (V → List (List Dot)) → (V → List (List ℕ)) → (V → List ℕ) → Type 0
-HasSpelling {V} fits is_spelled sets texts spelling = (v : V) → fits v ≡ true → sets_ascend (sets v) ≡ true → list_all is_text (texts v) ≡ true → length (spelling v) < 2 ^ 32 → is_spelled v ≡ true
+HasSpelling {V} fits is_spelled sets texts spelling = (v : V) → Spells (fits v) (list_all is_text (texts v) && sets_ascend (sets v)) (is_spelled v) (spelling v)
 
 -- The effects of each kind that the type has are a form, and what can be put has a spelling; is_of: the effect is one of the kind.
 pub record SpellsEffects {E : Type 0} (has : Kind → Bool) (is_of : Kind → E → Bool) (can_put is_spelled : E → Bool) (sets : E → List (List Dot)) (texts : E → List (List ℕ)) (spelling : E → List ℕ) (reading : Kind → List ℕ → ℕ → Read E) : Type 0 where

@@ -17,7 +17,7 @@ use Rattle.crdt_core.specs.Spelled.{is_between, are_dots, is_dots, dots, dots_at
 use Rattle.crdt_core.specs.SpelledLaws.{dots_held_form}
 use Rattle.crdt_core.proofs.SetsLaws.{or_none}
 use Rattle.crdt_core.specs.EffectForm.{HasSpelling, SpellsEffects}
-use Rattle.crdt_core.proofs.HaveSpelling.{dots_behind}
+use Rattle.crdt_core.proofs.HaveSpelling.{behind, dots_spelled}
 use Rattle.crdt_core.specs.NamedDots.{IsPartOf, have_update, NamesAreSpelled}
 use Rattle.crdt_core.proofs.NamedDotsLaws.{stands_behind, dots_stand}
 use Rattle.crdt_meanings.specs.CounterFat.{fat_names}
@@ -116,11 +116,11 @@ abbrev pub amount_sets : ℤ → List (List Dot)
 amount_sets z = []
 
 abbrev pub pn_spells : (has : Kind → Bool) → SpellsEffects has is_of_kind is_amount_number is_amount_number amount_sets (λ e. []) amount_spelling (λ k. amount_at)
-pn_spells has = record { form = λ k h. amount_form; all = λ e can ascends words short. can }
+pn_spells has = record { form = λ k h. amount_form; all = λ e. record { shown = λ can kept short. can } }
 
 pub fat_all : HasSpelling can_put_fat is_fat_spelled fat_sets (λ e. []) fat_spelling
-fat_all (Amount n) can ascends words short = can
-fat_all (Reset ds) can ascends words short = dots_behind (number 1 1) ds can ascends short
+fat_all (Amount n) = record { shown = λ can kept short. can }
+fat_all (Reset ds) = behind (dots_spelled ds) (number 1 1)
 
 abbrev pub fat_spells : (has : Kind → Bool) → SpellsEffects has is_of_kind can_put_fat is_fat_spelled fat_sets (λ e. []) fat_spelling (λ k. fat_at)
 fat_spells has = record { form = λ k h. fat_form; all = fat_all }

@@ -11,7 +11,7 @@ use Rattle.crdt_core.specs.Spelled.{are_dots, is_dots, dots, dots_at}
 use Rattle.crdt_core.specs.SpelledLaws.{marked_at, marked_form, dots_held_form}
 use Rattle.crdt_core.proofs.SetsLaws.{or_none}
 use Rattle.crdt_core.specs.EffectForm.{HasSpelling, SpellsEffects}
-use Rattle.crdt_core.proofs.HaveSpelling.{dots_behind}
+use Rattle.crdt_core.proofs.HaveSpelling.{behind, dots_spelled}
 use Rattle.crdt_core.specs.NamedDots.{NamesAreSpelled}
 use Rattle.crdt_core.proofs.NamedDotsLaws.{stands_behind, dots_stand}
 use Rattle.crdt_meanings.specs.Flags.{flag_out, flag_names}
@@ -66,7 +66,7 @@ abbrev pub is_of_kind : Kind → FlagEffect → Bool
 is_of_kind k e = true
 
 pub flag_all : HasSpelling can_put_flag is_flag_spelled flag_sets (λ e. []) flag_spelling
-flag_all e can ascends words short = dots_behind (number 1 (flag_mark e)) (flag_out e) can ascends short
+flag_all e = behind (dots_spelled (flag_out e)) (number 1 (flag_mark e))
 
 abbrev pub flag_spells : (has : Kind → Bool) → SpellsEffects has is_of_kind can_put_flag is_flag_spelled flag_sets (λ e. []) flag_spelling (λ k. flag_at)
 flag_spells has = record { form = λ k h. flag_form; all = flag_all }

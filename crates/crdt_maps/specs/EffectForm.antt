@@ -21,8 +21,8 @@ use Rattle.crdt_core.specs.Fits.{stands_in}
 use Rattle.crdt_core.specs.FieldOrder.{field_cmp}
 use Rattle.crdt_core.specs.Spelled.{is_between, kind, kind_at}
 use Rattle.crdt_core.specs.SpelledLaws.{kind_form}
-use Rattle.crdt_core.specs.EffectForm.{HasSpelling, SpellsEffects, reset_tag, begins_with}
-use Rattle.crdt_core.proofs.HaveSpelling.{text_first, back_short, list_spelled, checked_spelled}
+use Rattle.crdt_core.specs.EffectForm.{sets_ascend, Spells, HasSpelling, SpellsEffects, reset_tag, begins_with}
+use Rattle.crdt_core.proofs.HaveSpelling.{behind, asked, named, list_spelled}
 use Rattle.crdt_core.specs.NamedDots.{IsPartOf, have_update, NamesAreSpelled}
 use Rattle.crdt_core.proofs.SetsLaws.{or_none, update_of_list}
 use Rattle.crdt_core.proofs.NamedDotsLaws.{stands_behind, list_stands}
@@ -304,13 +304,9 @@ small_mark : (drops : Bool) (n : ℕ) → is_between 0 (last_mark drops) n ≡ t
 small_mark false = small_tag 0 (omega arith)
 small_mark true = small_tag 1 (omega arith)
 
--- a field, and behind it what has a spelling
-field_all : {E : Type 0} {fits is_spelled : Field → E → Bool} (sets : E → List (List Dot)) (texts : E → List (List ℕ)) (spelling : E → List ℕ) (allowed : Kind → Bool) → ((f : Field) → HasSpelling (fits f) (is_spelled f) sets texts spelling)
-    → HasSpelling {V = Field × E} (λ x. allowed x.0.kind && fits x.0 x.1) (λ x. is_field allowed x.0 && is_spelled x.0 x.1) (λ x. sets x.1) (λ x. x.0.name ∷ texts x.1) (entry spelling)
-field_all {fits = fits} {is_spelled} sets texts spelling allowed all x fit ascends words short =
-    let f = both_true (allowed x.0.kind) (fits x.0 x.1) fit in
-    let w = both_true (is_text x.0.name) (list_all is_text (texts x.1)) words in
-    and_true (is_field allowed x.0) (is_spelled x.0 x.1) (and_true (is_text x.0.name) (allowed x.0.kind) w.0 f.0) (all x.0 x.1 f.1 ascends w.1 (back_short (field x.0) (spelling x.1) short))
+-- behind its field
+entry_spelled : (words sets : Bool) {fits good : Bool} {bytes : List ℕ} (allowed : Kind → Bool) (f : Field) → Spells fits (words && sets) good bytes → Spells (allowed f.kind && fits) ((is_text f.name && words) && sets) (is_field allowed f && good) (field f ++ bytes)
+entry_spelled words sets allowed f all = behind (named words sets all (is_text f.name) (allowed f.kind)) (field f)
 
 module _ {E : Type 0} {has : Kind → Bool} {is_of : Kind → E → Bool} {can_put is_spelled : E → Bool} {sets : E → List (List Dot)} {texts : E → List (List ℕ)} {spelling : E → List ℕ} {reading : Kind → List ℕ → ℕ → Read E} (spells : SpellsEffects has is_of can_put is_spelled sets texts spelling reading) where
   pub entry_form : (outer : Kind) → IsForm (can_put_entry (may_stand outer has) is_of can_put) (is_entry_spelled (may_stand outer has) is_of is_spelled) (entry spelling) (entry_at (may_stand outer has) reading)
@@ -358,12 +354,11 @@ module _ {E : Type 0} {has : Kind → Bool} {is_of : Kind → E → Bool} {can_p
   map_form drops = tagged_form (is_between 0 (last_mark drops)) (map_mark drops) _ _ (map_rest spelling) (map_rest_at drops has reading) (mark_known drops) (small_mark drops) (rest_form drops)
 
   pub map_all : (drops : Bool) → HasSpelling (can drops) (spelled drops) (map_sets sets) (map_texts texts) (map_spelling drops spelling)
-  map_all drops (At f e) fit ascends words short = field_all sets texts spelling (may_stand (map_kind drops) has) (λ f. checked_spelled sets texts spelling (is_of f.kind) spells.all) (f, e) fit ascends words (back_short (number 1 0) (entry spelling (f, e)) short)
-  map_all drops (Resets xs) fit ascends words short =
-      let some : (x : Field × E) → 0 < length (entry spelling x) = λ x. omega (arith, text_first x.0.name (kind x.0.kind), length-append (field x.0) (spelling x.1)) in
-      let member = field_all sets texts spelling (may_stand kinds.MapRr has) (λ f. checked_spelled sets texts spelling (λ e. begins_with (reset_tag f.kind) (spelling e)) (checked_spelled sets texts spelling (is_of f.kind) spells.all)) in
-      let all = list_spelled {V = Field × E} (λ x. sets x.1) (λ x. x.0.name ∷ texts x.1) (entry spelling) entry_below some member in
-      checked_spelled {V = List (Field × E)} (flat_map (λ x. sets x.1)) (flat_map (λ x. x.0.name ∷ texts x.1)) (list (entry spelling)) (λ _. drops) all xs fit ascends words (back_short (number 1 (last_mark drops)) (list (entry spelling) xs) short)
+  map_all drops (At f e) = behind (entry_spelled (list_all is_text (texts e)) (sets_ascend (sets e)) (may_stand (map_kind drops) has) f (asked (spells.all e) (is_of f.kind e))) (number 1 0)
+  map_all drops (Resets xs) =
+      let begins : Field × E → Bool = λ x. begins_with (reset_tag x.0.kind) (spelling x.1) in
+      let member : HasSpelling (can_put_reset (may_stand kinds.MapRr has) is_of can_put spelling) (is_reset_spelled (may_stand kinds.MapRr has) is_of is_spelled spelling) (λ x. sets x.1) (λ x. x.0.name ∷ texts x.1) (entry spelling) = λ x. entry_spelled (list_all is_text (texts x.1)) (sets_ascend (sets x.1)) (may_stand kinds.MapRr has) x.0 (asked (asked (spells.all x.1) (is_of x.0.kind x.1)) (begins x)) in
+      behind (asked (list_spelled entry_below (reset_form kinds.MapRr) (λ x. sets x.1) (λ x. x.0.name ∷ texts x.1) member xs) drops) (number 1 (last_mark drops))
 
   abbrev pub map_spells : (drops : Bool) (of_map : Kind → Bool) → SpellsEffects of_map is_of_map (map_can_put drops has is_of can_put spelling) (map_is_spelled drops has is_of is_spelled spelling) (map_sets sets) (map_texts texts) (map_spelling drops spelling) (λ k. map_at drops has reading)
   map_spells drops of_map = record { form = λ k h. map_form drops; all = map_all drops }

@@ -47,7 +47,7 @@ lww_form =
     record { found = law.found; again = law.again; fit = λ e good. (both_true (stamps e.stamp) (is_text e.text) good).0; ends = law.ends; tells = law.tells }
 
 abbrev pub lww_spells : (has : Kind → Bool) → SpellsEffects has is_of_kind can_put_lww is_lww_spelled lww_sets lww_texts lww_spelling (λ k. lww_at)
-lww_spells has = record { form = λ k h. lww_form; all = λ e can ascends words short. and_true (can_put_lww e) (is_text e.text) can (both_true (is_text e.text) true words).0 }
+lww_spells has = record { form = λ k h. lww_form; all = λ e. record { shown = λ can kept short. and_true (can_put_lww e) (is_text e.text) can (both_true (is_text e.text) true (both_true (is_text e.text && true) true kept).0).0 } }
 
 pub lww_named : NamesAreSpelled can_put_lww no_dot lww_sets lww_spelling
 lww_named = record { exact = λ e d can. refl; stands = λ e d can h. absurd (false≢true h) }

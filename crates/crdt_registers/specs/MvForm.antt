@@ -6,14 +6,14 @@ use Rattle.std.proofs.lemmas.Bool.{false≢true, eqb-true, or_cases}
 use Rattle.field_codec.specs.Spelling.{number, is_number, text, is_text}
 use Rattle.field_codec.specs.Reading.{Read, text_at, then_at, mapped_at}
 use Rattle.field_codec.specs.Lawful.{IsForm}
-use Rattle.field_codec.specs.FormLaws.{any_text_form, then_form, both_true, and_true}
+use Rattle.field_codec.specs.FormLaws.{any_text_form, then_form}
 use Rattle.field_codec.specs.Tagged.{tagged_at, tagged_form, shape_form}
 use Rattle.site_vector.specs.declared.ids.Dot.{Dot}
 use Rattle.crdt_core.specs.declared.kind.Kind.{Kind}
 use Rattle.crdt_core.specs.Spelled.{are_dots, is_dots, dots, dots_at}
 use Rattle.crdt_core.specs.SpelledLaws.{dots_held_form}
-use Rattle.crdt_core.specs.EffectForm.{HasSpelling, SpellsEffects}
-use Rattle.crdt_core.proofs.HaveSpelling.{back_short, dots_behind}
+use Rattle.crdt_core.specs.EffectForm.{sets_ascend, HasSpelling, SpellsEffects}
+use Rattle.crdt_core.proofs.HaveSpelling.{behind, texted, dots_spelled}
 use Rattle.crdt_core.proofs.SetsLaws.{or_none}
 use Rattle.crdt_core.specs.DotSet.{has_dot}
 use Rattle.crdt_core.specs.NamedDots.{IsPartOf, NamesAreSpelled}
@@ -94,8 +94,8 @@ unfolding mv_at
 mv_form = tagged_form is_mv_mark mv_mark can_put_mv is_mv_spelled mv_rest mv_rest_at known small rest_form
 
 pub mv_all : HasSpelling can_put_mv is_mv_spelled mv_sets mv_texts mv_spelling
-mv_all (Assign x ds) can ascends words short = and_true (is_text x) (is_dots ds) (both_true (is_text x) true words).0 (dots_behind (text x) ds can ascends (back_short (number 1 0) (text x ++ dots ds) short))
-mv_all (Reset ds) can ascends words short = dots_behind (number 1 2) ds can ascends short
+mv_all (Assign x ds) = behind (texted true (sets_ascend (ds ∷ [])) (behind (dots_spelled ds) (text x)) (is_text x)) (number 1 0)
+mv_all (Reset ds) = behind (dots_spelled ds) (number 1 2)
 
 abbrev pub mv_spells : (has : Kind → Bool) → SpellsEffects has is_of_kind can_put_mv is_mv_spelled mv_sets mv_texts mv_spelling (λ k. mv_at)
 mv_spells has = record { form = λ k h. mv_form; all = mv_all }

@@ -7,15 +7,15 @@ use Rattle.std.specs.declared.cmp.Ordering.{Ordering}
 use Rattle.field_codec.specs.Spelling.{number, is_number, text, is_text, list, are_in_order, are_members, is_list, is_below}
 use Rattle.field_codec.specs.Reading.{Read, text_at, list_at, checked_at, then_at, mapped_at}
 use Rattle.field_codec.specs.Lawful.{IsForm}
-use Rattle.field_codec.specs.FormLaws.{any_text_form, list_form, checked_form, then_form, mapped_form, lt_holds, le_from, both_true, and_true}
+use Rattle.field_codec.specs.FormLaws.{any_text_form, list_form, checked_form, then_form, mapped_form, lt_holds, le_from, both_true}
 use Rattle.field_codec.specs.Tagged.{tagged_at, tagged_form, shape_form}
 use Rattle.site_vector.specs.declared.ids.Dot.{Dot}
 use Rattle.crdt_core.specs.declared.kind.Kind.{Kind}
 use Rattle.crdt_core.specs.Texts.{text_cmp}
 use Rattle.crdt_core.specs.Spelled.{is_between, are_dots, is_dots, dots, dots_at}
 use Rattle.crdt_core.specs.SpelledLaws.{dots_held_form}
-use Rattle.crdt_core.specs.EffectForm.{HasSpelling, SpellsEffects}
-use Rattle.crdt_core.proofs.HaveSpelling.{text_some, text_first, back_short, counted, list_spelled, checked_spelled, dots_behind}
+use Rattle.crdt_core.specs.EffectForm.{sets_ascend, HasSpelling, SpellsEffects}
+use Rattle.crdt_core.proofs.HaveSpelling.{behind, asked, texted, listed, list_spelled, dots_spelled}
 use Rattle.crdt_core.specs.DotSet.{has_dot}
 use Rattle.crdt_core.specs.NamedDots.{IsPartOf, have_update, NamesAreSpelled}
 use Rattle.crdt_core.proofs.NamedDotsLaws.{stands_behind, list_stands, dots_stand}
@@ -55,7 +55,9 @@ abbrev pub own_texts : List (List ℕ) → List (List ℕ)
 own_texts ts = ts
 
 pub texts_all : HasSpelling can_put_texts are_texts_spelled texts_sets own_texts texts_spelling
-texts_all = checked_spelled texts_sets own_texts texts_spelling has_some (λ ts fit ascends words short. counted text text_some (is_below text_cmp) is_text ts (both_true (are_in_order (is_below text_cmp) None ts) (list_all (λ t. true) ts) fit).0 words short)
+texts_all ts =
+    let all = listed (is_below text_cmp) any_text_form is_text (λ t. record { shown = λ can kept short. kept }) ts in
+    asked (record { shown = λ can kept. all.shown can (both_true (list_all is_text ts) true kept).0 }) (has_some ts)
 
 -- ---- an element with its dots
 
@@ -104,10 +106,10 @@ abbrev pub list_texts : List Named → List (List ℕ)
 list_texts ns = flat_map (λ n. n.text ∷ []) ns
 
 named_all : HasSpelling (λ n. are_dots n.dots) is_named (λ n. n.dots ∷ []) (λ n. n.text ∷ []) named
-named_all n fit ascends words short = and_true (is_text n.text) (is_dots n.dots) (both_true (is_text n.text) true words).0 (dots_behind (text n.text) n.dots fit ascends short)
+named_all n = texted true (sets_ascend (n.dots ∷ [])) (behind (dots_spelled n.dots) (text n.text)) (is_text n.text)
 
 named_list_all : HasSpelling can_put_list is_list_spelled list_sets list_texts list_spelling
-named_list_all = list_spelled (λ n. n.dots ∷ []) (λ n. n.text ∷ []) named (is_below named_cmp) (λ n. text_first n.text (dots n.dots)) named_all
+named_list_all = list_spelled (is_below named_cmp) named_form (λ n. n.dots ∷ []) (λ n. n.text ∷ []) named_all
 
 pub some_named_form : IsForm (λ ns. has_some ns && can_put_list ns) (λ ns. has_some ns && is_list_spelled ns) list_spelling (checked_at has_some named_list_at)
 some_named_form = checked_form has_some can_put_list is_list_spelled list_spelling named_list_at named_list_form
@@ -191,9 +193,9 @@ set_texts (Remove ns) = list_texts ns
 set_texts (Reset ns) = list_texts ns
 
 pub set_all : HasSpelling can_put_set is_set_spelled set_sets set_texts set_spelling
-set_all (Add ns) can ascends words short = checked_spelled list_sets list_texts list_spelling has_some named_list_all ns can ascends words (back_short (number 1 0) (list_spelling ns) short)
-set_all (Remove ns) can ascends words short = checked_spelled list_sets list_texts list_spelling has_some named_list_all ns can ascends words (back_short (number 1 1) (list_spelling ns) short)
-set_all (Reset ns) can ascends words short = named_list_all ns can ascends words (back_short (number 1 2) (list_spelling ns) short)
+set_all (Add ns) = behind (asked (named_list_all ns) (has_some ns)) (number 1 0)
+set_all (Remove ns) = behind (asked (named_list_all ns) (has_some ns)) (number 1 1)
+set_all (Reset ns) = behind (named_list_all ns) (number 1 2)
 
 -- every effect is one of the kind
 abbrev pub is_of_kind : {E : Type 0} → Kind → E → Bool

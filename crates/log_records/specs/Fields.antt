@@ -5,7 +5,6 @@ use Rattle.field_codec.specs.Reading.{Read, number_at}
 use Rattle.field_codec.specs.Lawful.{IsForm}
 use Rattle.field_codec.specs.FormLaws.{IsWidth, number_form, both_true}
 use Rattle.crdt_core.specs.declared.kind.Kind.{Kind}
-use Rattle.crdt_core.specs.declared.object.ObjectId.{ObjectId}
 use Rattle.crdt_core.specs.Spelled.{vector, is_vector, vector_at, kind, is_object, object, object_at}
 use Rattle.crdt_core.specs.SpelledLaws.{vector_form, object_form}
 

@@ -110,7 +110,7 @@ small n h = let le = le_from n 6 (both_true (nat_le 1 n) _ h).1 in lt_holds n (2
 -- what the types keep of numbers and vectors, and of each update's texts and sets
 module _ {E : Type 0} (sets : E → List (List Dot)) (texts : E → List (List ℕ)) where
   abbrev pub keeps_update : Upd E → Bool
-  keeps_update u = sets_ascend (sets u.effect) && list_all is_text (u.object.bucket ∷ u.object.key ∷ texts u.effect)
+  keeps_update u = list_all is_text (u.object.bucket ∷ u.object.key ∷ texts u.effect) && sets_ascend (sets u.effect)
 
   abbrev pub keeps_message : Message E → Bool
   keeps_message m = is_head (head_in m) && list_all (λ p. is_vector p.c && list_all keeps_update p.updates) m.parts

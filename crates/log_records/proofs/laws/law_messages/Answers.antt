@@ -7,4 +7,4 @@ use Rattle.log_records.proofs.laws.law_messages.Goals as goal
 pub returns : goal.returns
 returns g c =
     let spells = g.C.Crdt.spells in
-    record { form = message_form spells; all = message_all spells; apart = prefix_free _ _ _ _ (message_form spells); order = same_order }
+    record { form = message_form spells; all = λ m. (message_all spells m).shown; apart = prefix_free _ _ _ _ (message_form spells); order = same_order }

@@ -7,4 +7,4 @@ use Rattle.log_records.proofs.laws.law_records.Goals as goal
 pub returns : goal.returns
 returns g c =
     let form = record_form g.C.Crdt.spells in
-    record { form = form; all = record_all g.C.Crdt.spells; apart = prefix_free _ _ _ _ form; whole = reads_whole form }
+    record { form = form; all = λ r. (record_all g.C.Crdt.spells r).shown; apart = prefix_free _ _ _ _ form; whole = reads_whole form }
