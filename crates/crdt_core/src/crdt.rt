@@ -20,11 +20,12 @@ use field_codec::TakeError;
 use site_vector::Dot;
 use std::alloc::{AllocError, Global};
 
-/// A type whose replicas exchange effects of updates (operation-based replicated data types, as in AntidoteDB's library).
+/// A type whose replicas exchange effects of updates (operation-based replicated data types, as in AntidoteDB's
+/// library).
 ///
-/// An update's effect is generated on the state that the update has seen, and applied to every replica, in any order that
-/// applies causes before what has seen them. The ghost member `laws` is the law of a kind: what a replica shows then is the
-/// meaning of the updates, whatever the order was.
+/// An update's effect is generated on the state that the update has seen, and applied to every replica, in any order
+/// that applies causes before what has seen them. The ghost member `laws` is the law of a kind: what a replica shows
+/// then is the meaning of the updates, whatever the order was.
 pub trait Crdt {
     type State: Drop;
 
@@ -57,8 +58,8 @@ pub trait Crdt {
     /// Whether the dot stands in the effect's bytes.
     ghost names: { Self.Effect → Dot → Bool };
 
-    /// Whether the dot is kept in the state. A state that updates left keeps the dots that an effect made on it can name,
-    /// and no other (`named` and `kept` of the law).
+    /// Whether the dot is kept in the state. A state that updates left keeps the dots that an effect made on it can
+    /// name, and no other (`named` and `kept` of the law).
     ghost holds: { Self.State → Dot → Bool };
 
     /// The law of a kind.
@@ -70,15 +71,16 @@ pub trait Crdt {
     /// What a map around the kind needs of it.
     ghost in_maps: { KeepsInMaps has too_deep initial applied generated is_blank };
 
-    /// Of the kinds that may stand in a map that resets: a reset names no update where it is made on a blank state, and an update
-    /// where it is made on a state that a history left and that isn't blank.
+    /// Of the kinds that may stand in a map that resets: a reset names no update where it is made on a blank state, and
+    /// an update where it is made on a state that a history left and that isn't blank.
     ghost resets: { ResetsWhatIsLeft has too_deep initial applied generated is_blank names };
 
     /// Whether the effect is one of the kind.
     ghost is_of: { Kind → Self.Effect → Bool };
 
-    /// What `put_effect` takes: an effect whose numbers and updates are within their bounds, and whose lists of elements and of
-    /// fields are in order. That its sets of updates are in order is not asked, since their type keeps them so.
+    /// What `put_effect` takes: an effect whose numbers and updates are within their bounds, and whose lists of
+    /// elements and of fields are in order. That its sets of updates are in order is not asked, since their type keeps
+    /// them so.
     ghost can_put: { Self.Effect → Bool };
 
     /// What has a spelling. Of what can be put, all has one whose bytes are fewer than 2^32 (`all` of `spells`).
@@ -122,12 +124,13 @@ pub trait Crdt {
     fn is_too_deep(kind: Kind, path: &[Field]) -> bool
         ensures { result ≡ too_deep kind path.now };
 
-    /// Whether nothing is left of updates in the state, as in the state of no update: a reset would undo nothing. Takes no memory.
+    /// Whether nothing is left of updates in the state, as in the state of no update: a reset would undo nothing. Takes
+    /// no memory.
     fn is_blank(state: &Self::State) -> bool
         ensures { result ≡ is_blank state.now };
 
-    /// The effect of an operation that fits, for whoever has tested that: of an act at a path, on the state that was read, at a clock
-    /// value in ticks.
+    /// The effect of an operation that fits, for whoever has tested that: of an act at a path, on the state that was
+    /// read, at a clock value in ticks.
     ///
     /// # Errors
     ///
@@ -145,13 +148,13 @@ pub trait Crdt {
         ensures made { IfOk result (λ e. e ≡ generated kind state.now path.now act.now now) }
         ensures ready { has kind ≡ true → HoldsSpelled holds state.now → IfOk result (λ e. IsReady is_of can_put sets spelling kind path.now act.now e) };
 
-    /// The effect of an act at a path, on the state that was read, at a clock value in ticks, for whoever hasn't tested whether the
-    /// operation fits.
+    /// The effect of an act at a path, on the state that was read, at a clock value in ticks, for whoever hasn't tested
+    /// whether the operation fits.
     ///
     /// # Errors
     ///
-    /// `TooDeep` exactly where the path leads through maps to a field whose kind the inner type lacks, `BadOp` exactly where
-    /// the operation isn't one of the kind and `TooDeep` isn't due, `NoMemory` where memory runs out.
+    /// `TooDeep` exactly where the path leads through maps to a field whose kind the inner type lacks, `BadOp` exactly
+    /// where the operation isn't one of the kind and `TooDeep` isn't due, `NoMemory` where memory runs out.
     fn generate(
         alloc: Global,
         kind: Kind,
@@ -231,8 +234,8 @@ pub trait Crdt {
     ///
     /// # Errors
     ///
-    /// The first field that fails: `Short` where it is cut off, `Bad` where it is whole and the form refuses it, each with
-    /// the place of its first byte; `NoMemory` where memory runs out.
+    /// The first field that fails: `Short` where it is cut off, `Bad` where it is whole and the form refuses it, each
+    /// with the place of its first byte; `NoMemory` where memory runs out.
     fn take_effect(
         alloc: Global,
         kind: Kind,

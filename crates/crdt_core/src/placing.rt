@@ -3,8 +3,8 @@ ghost use Rattle.crdt_core.specs.Placing.{hashed, place_of};
 
 use crate::ObjectId;
 
-/// The partition of an object among `parts` of a site, from 1 to `parts`. Objects of one bucket and key lie in one partition,
-/// whatever their kinds. Takes no memory.
+/// The partition of an object among `parts` of a site, from 1 to `parts`. Objects of one bucket and key lie in one
+/// partition, whatever their kinds. Takes no memory.
 pub fn partition_of(object: &ObjectId, parts: u8) -> u8
     requires { 1 ≤ parts }
     ensures place { result ≡ place_of object.now.bucket object.now.key parts }
