@@ -1,14 +1,17 @@
 -- What the kinds of a layer mean, each in the words of its crate.
-use Rattle.std.proofs.Common.{◌≡◌, Bool, List, refl}
+use Rattle.std.proofs.Common.{◌≡◌, Bool, false, List, refl}
+use Rattle.std.proofs.lemmas.Bool.{true≢false}
 use Rattle.crdt_core.specs.declared.kind.Kind.{Kind}
 use Rattle.crdt_core.specs.declared.kind.Kind.TheVariants as kinds
 use Rattle.crdt_core.specs.declared.value.Value.{Value}
+use Rattle.crdt_core.specs.Fits.{is_map}
 use Rattle.crdt_core.specs.Seen.{Update}
 use Rattle.crdt_meanings.specs.CounterMeaning.{counter_meaning}
 use Rattle.crdt_meanings.specs.SetMeaning.{go_meaning as set_go_meaning, aw_meaning, rw_meaning}
 use Rattle.crdt_meanings.specs.FlagMeaning.{ew_meaning, dw_meaning}
 use Rattle.crdt_meanings.specs.RegisterMeaning.{lww_meaning, mv_meaning}
 use Rattle.crdt_meanings.specs.MapMeaning.{go_meaning, rr_meaning}
+use Rattle.crdt_meanings.specs.Shows.{plain_meaning}
 use Rattle.crdt_any.specs.Layer.{layer_meaning}
 
 -- the fields of a map mean what they mean in the layer within
@@ -39,3 +42,8 @@ layer_meanings has within = record {
   map_go = λ us. refl;
   map_rr = λ us. refl;
 }
+
+pub layer_plain : (has : Kind → Bool) (within : Kind → List Update → Value) (k : Kind) (us : List Update) → is_map k ≡ false → layer_meaning has within k us ≡ plain_meaning k us
+layer_plain has within kinds.MapGo us is = absurd (true≢false is)
+layer_plain has within kinds.MapRr us is = absurd (true≢false is)
+layer_plain has within k us is = refl

@@ -29,7 +29,7 @@ use Rattle.crdt_meanings.specs.FlagMeaning.{ew_meaning, dw_meaning}
 use Rattle.crdt_meanings.specs.RegisterMeaning.{lww_meaning, mv_meaning, word_of}
 use Rattle.crdt_meanings.specs.RegisterLww.{unassigned, lww_step, lww_made, lww_stamp}
 use Rattle.crdt_meanings.specs.RegisterMv.{mv_step, mv_made, mv_value, mv_names}
-use Rattle.crdt_meanings.specs.Without.{no_stamp, no_dot}
+use Rattle.crdt_meanings.specs.Without.{no_dot}
 use Rattle.crdt_any.specs.declared.simple_state.SimpleState.{SimpleState}
 use Rattle.crdt_any.specs.declared.simple_state.SimpleState.TheVariants as state
 use Rattle.crdt_any.specs.declared.simple_effect.SimpleEffect.{SimpleEffect}

@@ -1,5 +1,5 @@
 -- The kinds without fields keep the law of a kind, as each does alone.
-use Rattle.std.proofs.Common.{◌≡◌, ℕ, Bool, true, false, ◌||◌, List, [], Option, None, refl, sym, ap, ◌∙◌}
+use Rattle.std.proofs.Common.{◌≡◌, ℕ, Bool, true, false, ◌||◌, List, [], None, refl, sym, ap, ◌∙◌}
 use Rattle.std.specs.Prelude.{pos, unwrap_or}
 use Rattle.std.specs.FinMap.{empty}
 use Rattle.std.proofs.lemmas.Bool.{true≢false, false≢true}
@@ -7,7 +7,6 @@ use Rattle.site_vector.specs.Ids.{same_dot}
 use Rattle.site_vector.specs.declared.ids.Dot.{Dot}
 use Rattle.crdt_core.specs.declared.kind.Kind.{Kind}
 use Rattle.crdt_core.specs.declared.kind.Kind.TheVariants as kinds
-use Rattle.crdt_core.specs.declared.object.Field.{Field}
 use Rattle.crdt_core.specs.declared.operation.Act.TheVariants as act
 use Rattle.crdt_core.specs.Fits.{stands_in}
 use Rattle.crdt_core.specs.Seen.{Update}

@@ -2,7 +2,9 @@ ghost use Rattle.std.specs.Prelude.{◌≡◌, List, true, false};
 ghost use Rattle.crdt_core.specs.declared.kind.Kind.{Kind};
 ghost use Rattle.crdt_core.specs.declared.object.Field.{Field};
 ghost use Rattle.crdt_core.specs.declared.operation.Act.{Act};
-ghost use Rattle.crdt_core.specs.Fits.{fits};
+ghost use Rattle.crdt_core.specs.Fits.{is_map, fits};
+ghost use Rattle.crdt_core.specs.Seen.{Update};
+ghost use Rattle.crdt_meanings.specs.Shows.{plain_meaning};
 ghost use Rattle.crdt_any.specs.Depth.{leads_past};
 ghost use Rattle.crdt_any.specs.Meanings.{HasMeanings};
 
@@ -18,8 +20,9 @@ pub fn law_any()
 {}
 
 /// What each kind of a layer means, by the definition of its crate: the fields of a map mean what they mean in the layer
-/// within.
-#[tactic(auto, using(crate::specs::Meanings::layer_meanings))]
+/// within. What the laws of acts say of kinds without fields (`plain_meaning`) is said of these meanings.
+#[tactic(auto, using(crate::specs::Meanings::layer_meanings, crate::specs::Meanings::layer_plain))]
 pub fn law_meanings<I: Crdt>()
-    ensures { HasMeanings I.has I.meaning ⟦<Layer<I> as Crdt>⟧.meaning }
+    ensures kinds { HasMeanings I.has I.meaning ⟦<Layer<I> as Crdt>⟧.meaning }
+    ensures plain { (k : Kind) (us : List Update) → is_map k ≡ false → ⟦<Layer<I> as Crdt>⟧.meaning k us ≡ plain_meaning k us }
 {}

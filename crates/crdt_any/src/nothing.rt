@@ -1,4 +1,4 @@
-ghost use Rattle.std.specs.Prelude.{◌≡◌, [], true, false, None, Err};
+ghost use Rattle.std.specs.Prelude.{[], true, false, None, Err};
 ghost use Rattle.field_codec.specs.declared.error.TakeError.TheVariants.{Bad};
 ghost use Rattle.crdt_core.specs.declared.value.Value.TheVariants.{Flag};
 ghost use Rattle.crdt_any.specs.NothingLaws.{nothing_law, nothing_in_maps, nothing_resets, nothing_spells, nothing_named};

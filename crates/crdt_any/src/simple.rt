@@ -1,5 +1,4 @@
-ghost use Rattle.std.specs.Prelude.{◌≡◌, true, false, IfOk, OnOk};
-ghost use Rattle.crdt_core.specs.EffectForm.{HoldsSpelled, IsReady};
+ghost use Rattle.std.specs.Prelude.{true, false};
 ghost use Rattle.crdt_any.specs.Simple.{simple_has, simple_initial, simple_step, simple_made, simple_value, simple_stamp, simple_meaning, simple_names, simple_holds, simple_blank};
 ghost use Rattle.crdt_any.specs.SimpleForm.{simple_is_of, simple_can_put, simple_is_spelled, simple_sets, simple_texts, simple_spelling, simple_reading, simple_spells, simple_named};
 ghost use Rattle.crdt_any.specs.SimpleLaws.{simple_law, simple_in_maps, simple_resets};
@@ -15,6 +14,14 @@ use crdt_sets::{SetAw, SetGo, SetRw};
 use field_codec::TakeError;
 use site_vector::Dot;
 use std::alloc::{AllocError, Global};
+
+// What a kind reads, as an effect of the sum of kinds.
+macro_rules! taken {
+    ($type:ident, $alloc:expr, $kind:expr, $bytes:expr, $at:expr) => {{
+        let (effect, end) = $type::take_effect($alloc, $kind, $bytes, $at)?;
+        Ok((SimpleEffect::$type(effect), end))
+    }};
+}
 
 /// The nine kinds without fields. A map, which it lacks, is taken for a `CounterPn`.
 pub struct Simple;
@@ -266,42 +273,15 @@ impl Crdt for Simple {
         at: usize,
     ) -> Result<(SimpleEffect, usize), TakeError> {
         match kind {
-            Kind::CounterFat => {
-                let (effect, end) = CounterFat::take_effect(alloc, kind, bytes, at)?;
-                Ok((SimpleEffect::CounterFat(effect), end))
-            }
-            Kind::SetGo => {
-                let (effect, end) = SetGo::take_effect(alloc, kind, bytes, at)?;
-                Ok((SimpleEffect::SetGo(effect), end))
-            }
-            Kind::SetAw => {
-                let (effect, end) = SetAw::take_effect(alloc, kind, bytes, at)?;
-                Ok((SimpleEffect::SetAw(effect), end))
-            }
-            Kind::SetRw => {
-                let (effect, end) = SetRw::take_effect(alloc, kind, bytes, at)?;
-                Ok((SimpleEffect::SetRw(effect), end))
-            }
-            Kind::FlagEw => {
-                let (effect, end) = FlagEw::take_effect(alloc, kind, bytes, at)?;
-                Ok((SimpleEffect::FlagEw(effect), end))
-            }
-            Kind::FlagDw => {
-                let (effect, end) = FlagDw::take_effect(alloc, kind, bytes, at)?;
-                Ok((SimpleEffect::FlagDw(effect), end))
-            }
-            Kind::RegisterLww => {
-                let (effect, end) = RegisterLww::take_effect(alloc, kind, bytes, at)?;
-                Ok((SimpleEffect::RegisterLww(effect), end))
-            }
-            Kind::RegisterMv => {
-                let (effect, end) = RegisterMv::take_effect(alloc, kind, bytes, at)?;
-                Ok((SimpleEffect::RegisterMv(effect), end))
-            }
-            _ => {
-                let (effect, end) = CounterPn::take_effect(alloc, kind, bytes, at)?;
-                Ok((SimpleEffect::CounterPn(effect), end))
-            }
+            Kind::CounterFat => taken!(CounterFat, alloc, kind, bytes, at),
+            Kind::SetGo => taken!(SetGo, alloc, kind, bytes, at),
+            Kind::SetAw => taken!(SetAw, alloc, kind, bytes, at),
+            Kind::SetRw => taken!(SetRw, alloc, kind, bytes, at),
+            Kind::FlagEw => taken!(FlagEw, alloc, kind, bytes, at),
+            Kind::FlagDw => taken!(FlagDw, alloc, kind, bytes, at),
+            Kind::RegisterLww => taken!(RegisterLww, alloc, kind, bytes, at),
+            Kind::RegisterMv => taken!(RegisterMv, alloc, kind, bytes, at),
+            _ => taken!(CounterPn, alloc, kind, bytes, at),
         }
     }
 }

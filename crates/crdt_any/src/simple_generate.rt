@@ -13,6 +13,14 @@ use crdt_registers::{RegisterLww, RegisterMv};
 use crdt_sets::{SetAw, SetGo, SetRw};
 use std::alloc::{AllocError, Global};
 
+// What a kind makes of an act, as an effect of the sum of kinds.
+macro_rules! made {
+    ($type:ident, $alloc:expr, $kind:expr, $path:expr, $act:expr, $state:expr, $now:expr) => {{
+        let effect = made_on::<$type>($alloc, $kind, $path, $act, $state, $now)?;
+        Ok(SimpleEffect::$type(effect))
+    }};
+}
+
 /// The effect of an act that the kind has; that of none for the kinds of maps.
 ///
 /// # Errors
@@ -31,42 +39,23 @@ pub fn simple_effect_of(
     ensures ready { simple_has kind ≡ true → HoldsSpelled simple_holds state.now → IfOk result (λ e. IsReady simple_is_of simple_can_put simple_sets simple_spelling kind path.now act.now e) }
 {
     match kind {
-        Kind::CounterPn => {
-            let effect = made_on::<CounterPn>(alloc, kind, path, act, state.counter_pn(), now)?;
-            Ok(SimpleEffect::CounterPn(effect))
-        }
-        Kind::CounterFat => {
-            let effect = made_on::<CounterFat>(alloc, kind, path, act, state.counter_fat(), now)?;
-            Ok(SimpleEffect::CounterFat(effect))
-        }
-        Kind::SetGo => {
-            let effect = made_on::<SetGo>(alloc, kind, path, act, state.set_go(), now)?;
-            Ok(SimpleEffect::SetGo(effect))
-        }
-        Kind::SetAw => {
-            let effect = made_on::<SetAw>(alloc, kind, path, act, state.set_aw(), now)?;
-            Ok(SimpleEffect::SetAw(effect))
-        }
-        Kind::SetRw => {
-            let effect = made_on::<SetRw>(alloc, kind, path, act, state.set_rw(), now)?;
-            Ok(SimpleEffect::SetRw(effect))
-        }
-        Kind::FlagEw => {
-            let effect = made_on::<FlagEw>(alloc, kind, path, act, state.flag_ew(), now)?;
-            Ok(SimpleEffect::FlagEw(effect))
-        }
-        Kind::FlagDw => {
-            let effect = made_on::<FlagDw>(alloc, kind, path, act, state.flag_dw(), now)?;
-            Ok(SimpleEffect::FlagDw(effect))
-        }
-        Kind::RegisterLww => {
-            let effect = made_on::<RegisterLww>(alloc, kind, path, act, state.register_lww(), now)?;
-            Ok(SimpleEffect::RegisterLww(effect))
-        }
-        Kind::RegisterMv => {
-            let effect = made_on::<RegisterMv>(alloc, kind, path, act, state.register_mv(), now)?;
-            Ok(SimpleEffect::RegisterMv(effect))
-        }
+        Kind::CounterPn => made!(CounterPn, alloc, kind, path, act, state.counter_pn(), now),
+        Kind::CounterFat => made!(CounterFat, alloc, kind, path, act, state.counter_fat(), now),
+        Kind::SetGo => made!(SetGo, alloc, kind, path, act, state.set_go(), now),
+        Kind::SetAw => made!(SetAw, alloc, kind, path, act, state.set_aw(), now),
+        Kind::SetRw => made!(SetRw, alloc, kind, path, act, state.set_rw(), now),
+        Kind::FlagEw => made!(FlagEw, alloc, kind, path, act, state.flag_ew(), now),
+        Kind::FlagDw => made!(FlagDw, alloc, kind, path, act, state.flag_dw(), now),
+        Kind::RegisterLww => made!(
+            RegisterLww,
+            alloc,
+            kind,
+            path,
+            act,
+            state.register_lww(),
+            now
+        ),
+        Kind::RegisterMv => made!(RegisterMv, alloc, kind, path, act, state.register_mv(), now),
         Kind::MapGo => Ok(SimpleEffect::CounterPn(0)),
         Kind::MapRr => Ok(SimpleEffect::CounterPn(0)),
     }
