@@ -1,4 +1,3 @@
 pub mod Wholes
 pub mod Joins
-pub mod HaveSpellings
 pub mod Streams

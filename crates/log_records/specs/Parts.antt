@@ -1,5 +1,6 @@
 -- The bytes of parts: the transaction, the commit vector, the updates. Those of a message ascend by commit time, and then by transaction.
 use Rattle.std.specs.Prelude.{ℕ, ◌==◌, Bool, true, ◌&&◌, List, ◌++◌, if◌then◌else◌, refl}
+use Rattle.std.specs.List.{list_all}
 use Rattle.std.specs.Ordering.{nat_cmp, ordering_then}
 use Rattle.std.specs.declared.cmp.Ordering.{Ordering}
 use Rattle.field_codec.specs.Spelling.{list, are_members, is_list, is_below}
@@ -15,9 +16,10 @@ use Rattle.crdt_core.specs.declared.record.Upd.{Upd}
 use Rattle.crdt_core.specs.declared.record.Part.{Part}
 use Rattle.crdt_core.specs.Spelled.{is_tx, tx, tx_at, vector, is_vector, vector_at}
 use Rattle.crdt_core.specs.SpelledLaws.{tx_form}
-use Rattle.crdt_core.specs.EffectForm.{SpellsEffects}
+use Rattle.crdt_core.specs.EffectForm.{Spells, SpellsEffects}
+use Rattle.crdt_core.proofs.HaveSpelling.{behind, asked, held, listed}
 use Rattle.log_records.specs.Fields.{any_vector_form}
-use Rattle.log_records.specs.Updates.{can_put_updates, are_updates_spelled, updates, updates_at, updates_form}
+use Rattle.log_records.specs.Updates.{can_put_updates, are_updates_spelled, keeps_update, updates, updates_at, updates_form, updates_all}
 
 -- the commit time at a site: 0 where the vector has no entry for it. There is no site 0.
 abbrev pub time_at : ℕ → List ℕ → ℕ
@@ -29,6 +31,9 @@ module _ {E : Type 0} where
 
   abbrev pub is_part_spelled : (Kind → Bool) → (Kind → E → Bool) → (E → Bool) → Part E → Bool
   is_part_spelled has is_of is_spelled p = is_tx p.tx && (is_vector p.c && are_updates_spelled has is_of is_spelled p.updates)
+
+  abbrev pub keeps_part : (E → List (List Dot)) → (E → List (List ℕ)) → Part E → Bool
+  keeps_part sets texts p = is_vector p.c && list_all (keeps_update sets texts) p.updates
 
   abbrev pub part : (E → List ℕ) → Part E → List ℕ
   part spelling p = tx p.tx ++ (vector p.c ++ updates spelling p.updates)
@@ -68,3 +73,6 @@ module _ {E : Type 0} {has : Kind → Bool} {is_of : Kind → E → Bool} {can_p
 
   pub parts_form : (site : ℕ) → IsForm (can_put_parts has is_of can_put site) (are_parts_spelled has is_of is_spelled site) (parts spelling) (parts_at has reading site)
   parts_form site = list_form (is_below (part_cmp site)) _ _ (part spelling) (part_at has reading) part_form
+
+  pub parts_all : (site : ℕ) (ps : List (Part E)) → Spells (can_put_parts has is_of can_put site ps) (list_all (keeps_part sets texts) ps) (are_parts_spelled has is_of is_spelled site ps) (parts spelling ps)
+  parts_all site = listed (is_below (part_cmp site)) part_form (keeps_part sets texts) (λ p. behind (asked (held (behind (updates_all spells p.updates) (vector p.c)) (is_vector p.c)) (is_tx p.tx)) (tx p.tx))

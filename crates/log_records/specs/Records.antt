@@ -1,12 +1,12 @@
 -- The bytes of records: a code, and what stands behind it.
-use Rattle.std.specs.Prelude.{◌≡◌, ℕ, zero, suc, ◌^◌, ◌==◌, Bool, true, ◌&&◌, eqb, nat_le, List, ◌∷◌, ◌++◌, if◌then◌else◌, refl}
+use Rattle.std.specs.Prelude.{◌≡◌, ℕ, zero, suc, ◌^◌, ◌==◌, Bool, true, ◌&&◌, eqb, nat_le, List, ◌++◌, if◌then◌else◌, refl}
 use Rattle.std.proofs.Common.{arith}
 use Rattle.std.specs.List.{list_all}
 use Rattle.std.proofs.lemmas.Bool.{false≢true}
-use Rattle.field_codec.specs.Spelling.{number, is_number, is_text}
+use Rattle.field_codec.specs.Spelling.{number, is_number}
 use Rattle.field_codec.specs.Reading.{Read, number_at, then_at, mapped_at}
 use Rattle.field_codec.specs.Lawful.{IsForm}
-use Rattle.field_codec.specs.FormLaws.{width1, width8, then_form, lt_holds, le_from, both_true}
+use Rattle.field_codec.specs.FormLaws.{width1, width8, then_form, lt_holds, le_from, both_true, and_true}
 use Rattle.field_codec.specs.Tagged.{tagged_at, tagged_form, shape_form}
 use Rattle.site_vector.specs.declared.ids.Dot.{Dot}
 use Rattle.site_vector.specs.declared.ids.TxId.{TxId}
@@ -17,11 +17,11 @@ use Rattle.crdt_core.specs.declared.record.Record.{Record}
 use Rattle.crdt_core.specs.declared.record.Record.TheVariants.{Lease, Prepare, Decide, Finish, Abort, Batch}
 use Rattle.crdt_core.specs.Spelled.{is_between, is_tx, tx, tx_at, vector, is_vector, vector_at}
 use Rattle.crdt_core.specs.SpelledLaws.{tx_form}
-use Rattle.crdt_core.specs.EffectForm.{sets_ascend, SpellsEffects}
+use Rattle.crdt_core.specs.EffectForm.{Spells, SpellsEffects}
+use Rattle.crdt_core.proofs.HaveSpelling.{behind, asked, held}
 use Rattle.log_records.specs.Fields.{any_number_form, any_vector_form}
-use Rattle.log_records.specs.Heads.{is_head}
-use Rattle.log_records.specs.Updates.{can_put_updates, are_updates_spelled, updates, updates_at, updates_form}
-use Rattle.log_records.specs.Messages.{head_in, can_put_batch, is_batch_spelled, message, batch_at, batch_form}
+use Rattle.log_records.specs.Updates.{can_put_updates, are_updates_spelled, keeps_update, updates, updates_at, updates_form, updates_all}
+use Rattle.log_records.specs.Messages.{can_put_batch, is_batch_spelled, keeps_message, message, batch_at, batch_form, batch_all}
 
 -- a transaction and its commit vector
 abbrev pub ended_at : List ℕ → ℕ → Read (TxId × List ℕ)
@@ -74,6 +74,15 @@ module _ {E : Type 0} where
   is_record_spelled has is_of is_spelled (Abort t) = is_tx t
   is_record_spelled has is_of is_spelled (Batch m) = is_batch_spelled has is_of is_spelled m
 
+  -- what the types keep of numbers and vectors, and of each update
+  abbrev pub keeps_record : (E → List (List Dot)) → (E → List (List ℕ)) → Record E → Bool
+  keeps_record sets texts (Lease n) = is_number 8 n
+  keeps_record sets texts (Prepare t l n s w) = is_number 1 l && (is_number 8 n && (is_vector s && list_all (keeps_update sets texts) w))
+  keeps_record sets texts (Decide t c) = is_vector c
+  keeps_record sets texts (Finish t c) = is_vector c
+  keeps_record sets texts (Abort t) = true
+  keeps_record sets texts (Batch m) = keeps_message sets texts m
+
   abbrev pub behind_code : (E → List ℕ) → Record E → List ℕ
   behind_code spelling (Lease n) = number 8 n
   behind_code spelling (Prepare t l n s w) = tx t ++ (number 1 l ++ (number 8 n ++ (vector s ++ updates spelling w)))
@@ -106,22 +115,6 @@ module _ {E : Type 0} where
 
 small : (n : ℕ) → is_between 1 6 n ≡ true → is_number 1 n ≡ true
 small n h = let le = le_from n 6 (both_true (nat_le 1 n) _ h).1 in lt_holds n (256 ^ 1) (omega (arith, le))
-
--- what the types keep of numbers and vectors, and of each update's texts and sets
-module _ {E : Type 0} (sets : E → List (List Dot)) (texts : E → List (List ℕ)) where
-  abbrev pub keeps_update : Upd E → Bool
-  keeps_update u = list_all is_text (u.object.bucket ∷ u.object.key ∷ texts u.effect) && sets_ascend (sets u.effect)
-
-  abbrev pub keeps_message : Message E → Bool
-  keeps_message m = is_head (head_in m) && list_all (λ p. is_vector p.c && list_all keeps_update p.updates) m.parts
-
-  abbrev pub keeps_record : Record E → Bool
-  keeps_record (Lease n) = is_number 8 n
-  keeps_record (Prepare t l n s w) = is_number 1 l && (is_number 8 n && (is_vector s && list_all keeps_update w))
-  keeps_record (Decide t c) = is_vector c
-  keeps_record (Finish t c) = is_vector c
-  keeps_record (Abort t) = true
-  keeps_record (Batch m) = keeps_message m
 
 module _ {E : Type 0} {has : Kind → Bool} {is_of : Kind → E → Bool} {can_put is_spelled : E → Bool} {sets : E → List (List Dot)} {texts : E → List (List ℕ)} {spelling : E → List ℕ} {reading : Kind → List ℕ → ℕ → Read E}
     (spells : SpellsEffects has is_of can_put is_spelled sets texts spelling reading) where
@@ -198,3 +191,14 @@ module _ {E : Type 0} {has : Kind → Bool} {is_of : Kind → E → Bool} {can_p
   pub record_form : IsForm (can_put_record has is_of can_put) is_record (record_bytes spelling) (record_at has reading)
   unfolding record_at
   record_form = tagged_form (is_between 1 6) code _ _ (behind_code spelling) (behind_code_at has reading) known small rest_form
+
+  rest_all : (r : Record E) → Spells (can_put_record has is_of can_put r) (keeps_record sets texts r) (is_record r) (behind_code spelling r)
+  rest_all (Lease n) = record { shown = λ can kept short. kept }
+  rest_all (Prepare t l n s w) = behind (asked (behind (held (behind (held (behind (held (updates_all spells w) (is_vector s)) (vector s)) (is_number 8 n)) (number 8 n)) (is_number 1 l)) (number 1 l)) (is_tx t)) (tx t)
+  rest_all (Decide t c) = record { shown = λ can kept short. and_true (is_tx t) (is_vector c) can kept }
+  rest_all (Finish t c) = record { shown = λ can kept short. and_true (is_tx t) (is_vector c) can kept }
+  rest_all (Abort t) = record { shown = λ can kept short. can }
+  rest_all (Batch m) = batch_all spells m
+
+  pub record_all : (r : Record E) → Spells (can_put_record has is_of can_put r) (keeps_record sets texts r) (is_record r) (record_bytes spelling r)
+  record_all r = behind (rest_all r) (number 1 (code r))

@@ -1,6 +1,8 @@
 -- The bytes of updates: the number, the object, the effect. Those of a transaction ascend by number, and there is one at least.
 use Rattle.std.specs.Prelude.{◌≡◌, ℕ, Bool, true, false, ◌&&◌, nat_lt, List, [], ◌∷◌, ◌++◌, refl}
 use Rattle.std.proofs.Common.{arith}
+use Rattle.std.specs.List.{list_all}
+use Rattle.std.proofs.lemmas.Bool.{false≢true}
 use Rattle.field_codec.specs.Spelling.{number, is_text, list, are_members, is_list}
 use Rattle.field_codec.specs.Reading.{Read, list_at, checked_at, then_at, mapped_at}
 use Rattle.field_codec.specs.Lawful.{IsForm}
@@ -11,7 +13,8 @@ use Rattle.crdt_core.specs.declared.object.ObjectId.{ObjectId}
 use Rattle.crdt_core.specs.declared.record.Upd.{Upd}
 use Rattle.crdt_core.specs.Spelled.{is_between, between_at, is_object, object, object_at}
 use Rattle.crdt_core.specs.SpelledLaws.{between_form}
-use Rattle.crdt_core.specs.EffectForm.{SpellsEffects}
+use Rattle.crdt_core.specs.EffectForm.{sets_ascend, Spells, SpellsEffects}
+use Rattle.crdt_core.proofs.HaveSpelling.{behind, asked, named, listed}
 use Rattle.log_records.specs.Fields.{any_object_form}
 
 abbrev pub has_some : {A : Type 0} → List A → Bool
@@ -24,6 +27,10 @@ module _ {E : Type 0} where
 
   abbrev pub is_update_spelled : (Kind → Bool) → (Kind → E → Bool) → (E → Bool) → Upd E → Bool
   is_update_spelled has is_of is_spelled u = is_between 1 256 u.index && (is_object has u.object && (is_of u.object.kind u.effect && is_spelled u.effect))
+
+  -- what the types keep of an update's texts and sets
+  abbrev pub keeps_update : (E → List (List Dot)) → (E → List (List ℕ)) → Upd E → Bool
+  keeps_update sets texts u = list_all is_text (u.object.bucket ∷ u.object.key ∷ texts u.effect) && sets_ascend (sets u.effect)
 
   abbrev pub update : (E → List ℕ) → Upd E → List ℕ
   update spelling u = number 2 u.index ++ (object u.object ++ spelling u.effect)
@@ -51,6 +58,11 @@ module _ {E : Type 0} where
   unfoldable pub updates_at : (Kind → Bool) → (Kind → List ℕ → ℕ → Read E) → List ℕ → ℕ → Read (List (Upd E))
   updates_at has reading = checked_at has_some (list_at index_below (update_at has reading))
 
+-- behind an object
+named_by : (words sets : Bool) {fits good : Bool} {bytes : List ℕ} (bucket key known : Bool) → Spells fits (words && sets) good bytes → Spells (known && fits) ((bucket && (key && words)) && sets) ((bucket && (key && known)) && good) bytes
+named_by words sets true key known all = named words sets all key known
+named_by words sets false key known all = record { shown = λ can kept short. absurd (false≢true kept) }
+
 module _ {E : Type 0} {has : Kind → Bool} {is_of : Kind → E → Bool} {can_put is_spelled : E → Bool} {sets : E → List (List Dot)} {texts : E → List (List ℕ)} {spelling : E → List ℕ} {reading : Kind → List ℕ → ℕ → Read E}
     (spells : SpellsEffects has is_of can_put is_spelled sets texts spelling reading) where
   has_kind : (o : ObjectId) → is_object has o ≡ true → has o.kind ≡ true
@@ -66,3 +78,12 @@ module _ {E : Type 0} {has : Kind → Bool} {is_of : Kind → E → Bool} {can_p
   pub updates_form : IsForm (can_put_updates has is_of can_put) (are_updates_spelled has is_of is_spelled) (updates spelling) (updates_at has reading)
   unfolding updates_at
   updates_form = checked_form has_some _ _ _ _ (list_form index_below _ _ (update spelling) (update_at has reading) update_form)
+
+  update_all : (u : Upd E) → Spells (can_put_update has is_of can_put u) (keeps_update sets texts u) (is_update_spelled has is_of is_spelled u) (update spelling u)
+  update_all u =
+      let o = u.object in
+      let effect = behind (asked (spells.all u.effect) (is_of o.kind u.effect)) (object o) in
+      behind (asked (named_by (list_all is_text (texts u.effect)) (sets_ascend (sets u.effect)) (is_text o.bucket) (is_text o.key) (has o.kind) effect) (is_between 1 256 u.index)) (number 2 u.index)
+
+  pub updates_all : (us : List (Upd E)) → Spells (can_put_updates has is_of can_put us) (list_all (keeps_update sets texts) us) (are_updates_spelled has is_of is_spelled us) (updates spelling us)
+  updates_all us = asked (listed index_below update_form (keeps_update sets texts) update_all us) (has_some us)

@@ -5,8 +5,8 @@ ghost use Rattle.crdt_core.specs.declared.record.Part.{Part};
 ghost use Rattle.crdt_core.specs.declared.record.Record.{Record};
 ghost use Rattle.crdt_core.specs.Orders.{stream_cmp};
 ghost use Rattle.log_records.specs.Parts.{part_cmp};
-ghost use Rattle.log_records.specs.Messages.{can_put_message, is_message_spelled, message, message_at};
-ghost use Rattle.log_records.specs.Records.{keeps_message, keeps_record, can_put_record, is_record_spelled, record_bytes, record_at};
+ghost use Rattle.log_records.specs.Messages.{can_put_message, is_message_spelled, keeps_message, message, message_at};
+ghost use Rattle.log_records.specs.Records.{keeps_record, can_put_record, is_record_spelled, record_bytes, record_at};
 ghost use Rattle.log_records.specs.Whole.{ReadsWhole};
 
 use crdt_core::Crdt;

@@ -1,6 +1,5 @@
 use Rattle.field_codec.proofs.Forms.{prefix_free}
-use Rattle.log_records.specs.Messages.{message_form}
-use Rattle.log_records.proofs.HaveSpellings.{message_all}
+use Rattle.log_records.specs.Messages.{message_form, message_all}
 use Rattle.log_records.proofs.Streams.{same_order}
 use Rattle.log_records.proofs.laws.law_messages.Goals as goal
 

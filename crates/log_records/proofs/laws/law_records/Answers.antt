@@ -1,6 +1,5 @@
 use Rattle.field_codec.proofs.Forms.{prefix_free}
-use Rattle.log_records.specs.Records.{record_form}
-use Rattle.log_records.proofs.HaveSpellings.{record_all}
+use Rattle.log_records.specs.Records.{record_form, record_all}
 use Rattle.log_records.proofs.Wholes.{reads_whole}
 use Rattle.log_records.proofs.laws.law_records.Goals as goal
 
