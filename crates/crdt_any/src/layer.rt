@@ -1,4 +1,3 @@
-ghost use Rattle.std.specs.Prelude.{true, false};
 ghost use Rattle.crdt_any.specs.Layer.{layer_has, layer_too_deep, layer_initial, layer_step, layer_made, layer_value, layer_stamp, layer_meaning, layer_names, layer_holds, layer_blank};
 ghost use Rattle.crdt_any.specs.LayerForm.{layer_is_of, layer_can_put, layer_is_spelled, layer_sets, layer_texts, layer_spelling, layer_reading, layer_spells, layer_named};
 ghost use Rattle.crdt_any.specs.LayerLaws.{layer_law, layer_in_maps, layer_resets};

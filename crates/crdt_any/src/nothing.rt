@@ -18,8 +18,6 @@ impl Crdt for Nothing {
 
     ghost has = { λ k. false };
 
-    ghost too_deep = { λ k p. false };
-
     ghost initial = { λ k. tt };
 
     ghost applied = { λ s d e. tt };
@@ -38,15 +36,11 @@ impl Crdt for Nothing {
 
     ghost laws = { nothing_law };
 
-    ghost is_of = { λ k e. true };
-
     ghost can_put = { λ e. true };
 
     ghost is_spelled = { λ e. true };
 
     ghost sets = { λ e. [] };
-
-    ghost texts = { λ e. [] };
 
     ghost spelling = { λ e. [] };
 

@@ -1,4 +1,3 @@
-ghost use Rattle.std.specs.Prelude.{true, false};
 ghost use Rattle.crdt_any.specs.Simple.{simple_has, simple_initial, simple_step, simple_made, simple_value, simple_stamp, simple_meaning, simple_names, simple_holds, simple_blank};
 ghost use Rattle.crdt_any.specs.SimpleForm.{simple_is_of, simple_can_put, simple_is_spelled, simple_sets, simple_texts, simple_spelling, simple_reading, simple_spells, simple_named};
 ghost use Rattle.crdt_any.specs.SimpleLaws.{simple_law, simple_in_maps, simple_resets};
@@ -32,8 +31,6 @@ impl Crdt for Simple {
     type Effect = SimpleEffect;
 
     ghost has = { simple_has };
-
-    ghost too_deep = { λ k p. false };
 
     ghost initial = { simple_initial };
 

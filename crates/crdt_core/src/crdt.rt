@@ -1,4 +1,4 @@
-ghost use Rattle.std.specs.Prelude.{◌≡◌, ◌≤◌, ◌↔◌, ◌++◌, ℕ, List, length, Bool, true, false, Option, OnOk, OnErr, IfOk};
+ghost use Rattle.std.specs.Prelude.{◌≡◌, ◌≤◌, ◌↔◌, ◌++◌, ℕ, List, [], length, Bool, true, false, Option, OnOk, OnErr, IfOk};
 ghost use Rattle.field_codec.specs.Reading.{Read, Gives};
 ghost use Rattle.site_vector.specs.declared.ids.Dot.{Dot};
 ghost use Rattle.crdt_core.specs.declared.kind.Kind.{Kind};
@@ -35,7 +35,7 @@ pub trait Crdt {
     ghost has: { Kind → Bool };
 
     /// Whether the path leads through maps to a kind that the inner type lacks.
-    ghost too_deep: { Kind → List Field → Bool };
+    ghost too_deep: { Kind → List Field → Bool } = { λ _ _. false };
 
     /// The state of no update.
     ghost initial: { Kind → Self.State };
@@ -76,7 +76,7 @@ pub trait Crdt {
     ghost resets: { ResetsWhatIsLeft has too_deep initial applied generated is_blank names };
 
     /// Whether the effect is one of the kind.
-    ghost is_of: { Kind → Self.Effect → Bool };
+    ghost is_of: { Kind → Self.Effect → Bool } = { λ _ _. true };
 
     /// What `put_effect` takes: an effect whose numbers and updates are within their bounds, and whose lists of
     /// elements and of fields are in order. That its sets of updates are in order is not asked, since their type keeps
@@ -90,7 +90,7 @@ pub trait Crdt {
     ghost sets: { Self.Effect → List (List Dot) };
 
     /// The texts that stand in an effect's bytes.
-    ghost texts: { Self.Effect → List (List ℕ) };
+    ghost texts: { Self.Effect → List (List ℕ) } = { λ _. [] };
 
     /// The bytes of an effect.
     ghost spelling: { Self.Effect → List ℕ };

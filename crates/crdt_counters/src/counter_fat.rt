@@ -1,9 +1,9 @@
-ghost use Rattle.std.specs.Prelude.{◌≡◌, pos, false, IfOk, OnOk, []};
+ghost use Rattle.std.specs.Prelude.{◌≡◌, pos, IfOk, OnOk};
 ghost use Rattle.std.specs.FinMap.{empty};
 ghost use Rattle.crdt_core.specs.Kept.{is_kept, keeps_none};
 ghost use Rattle.crdt_meanings.specs.CounterMeaning.{counter_meaning};
 ghost use Rattle.crdt_meanings.specs.CounterFat.{fat_has, fat_step, fat_made, fat_value, fat_names};
-ghost use Rattle.crdt_counters.specs.EffectForm.{is_of_kind, can_put_fat, is_fat_spelled, fat_sets, fat_spelling, fat_at, fat_spells, fat_named};
+ghost use Rattle.crdt_counters.specs.EffectForm.{can_put_fat, is_fat_spelled, fat_sets, fat_spelling, fat_at, fat_spells, fat_named};
 ghost use Rattle.crdt_meanings.proofs.FatLaw.{fat_law, fat_in_maps, fat_resets};
 ghost use Rattle.crdt_meanings.specs.Without.{no_stamp};
 
@@ -24,8 +24,6 @@ impl Crdt for CounterFat {
     type Effect = FatEffect;
 
     ghost has = { fat_has };
-
-    ghost too_deep = { λ k p. false };
 
     ghost initial = { λ k. empty };
 
@@ -51,15 +49,11 @@ impl Crdt for CounterFat {
 
     ghost resets = { fat_resets };
 
-    ghost is_of = { is_of_kind };
-
     ghost can_put = { can_put_fat };
 
     ghost is_spelled = { is_fat_spelled };
 
     ghost sets = { fat_sets };
-
-    ghost texts = { λ e. [] };
 
     ghost spelling = { fat_spelling };
 

@@ -1,7 +1,7 @@
-ghost use Rattle.std.specs.Prelude.{◌≡◌, pos, false, []};
+ghost use Rattle.std.specs.Prelude.{◌≡◌, pos};
 ghost use Rattle.crdt_meanings.specs.CounterMeaning.{counter_meaning};
 ghost use Rattle.crdt_meanings.specs.CounterPn.{pn_has, pn_step, pn_made, pn_value, is_zero};
-ghost use Rattle.crdt_counters.specs.EffectForm.{is_of_kind, is_amount_number, amount_sets, amount_spelling, amount_at, pn_spells, pn_named};
+ghost use Rattle.crdt_counters.specs.EffectForm.{is_amount_number, amount_sets, amount_spelling, amount_at, pn_spells, pn_named};
 ghost use Rattle.crdt_meanings.proofs.PnLaw.{pn_law, pn_in_maps, pn_resets};
 ghost use Rattle.crdt_meanings.specs.Without.{no_stamp, no_dot};
 
@@ -22,8 +22,6 @@ impl Crdt for CounterPn {
     type Effect = i64;
 
     ghost has = { pn_has };
-
-    ghost too_deep = { λ k p. false };
 
     ghost initial = { λ k. pos 0 };
 
@@ -49,15 +47,11 @@ impl Crdt for CounterPn {
 
     ghost resets = { pn_resets };
 
-    ghost is_of = { is_of_kind };
-
     ghost can_put = { is_amount_number };
 
     ghost is_spelled = { is_amount_number };
 
     ghost sets = { amount_sets };
-
-    ghost texts = { λ e. [] };
 
     ghost spelling = { amount_spelling };
 

@@ -1,9 +1,9 @@
-ghost use Rattle.std.specs.Prelude.{◌≡◌, false, Option, Bool, OnOk, []};
+ghost use Rattle.std.specs.Prelude.{◌≡◌, Option, Bool, OnOk};
 ghost use Rattle.std.specs.FinMap.{empty};
 ghost use Rattle.crdt_core.specs.Kept.{kept_step, is_kept, keeps_none};
 ghost use Rattle.crdt_meanings.specs.FlagMeaning.{flag_meaning};
 ghost use Rattle.crdt_meanings.specs.Flags.{flag_kind, flag_has, flag_step, flag_value, kind_made, flag_names};
-ghost use Rattle.crdt_flags.specs.EffectForm.{is_of_kind, can_put_flag, is_flag_spelled, flag_sets, flag_spelling, flag_at, flag_spells, flag_named};
+ghost use Rattle.crdt_flags.specs.EffectForm.{can_put_flag, is_flag_spelled, flag_sets, flag_spelling, flag_at, flag_spells, flag_named};
 ghost use Rattle.crdt_meanings.proofs.FlagLaws.{flag_law, flag_in_maps, flag_resets};
 ghost use Rattle.crdt_meanings.specs.Without.{no_stamp};
 
@@ -33,8 +33,6 @@ impl<const DISABLES_WIN: bool> Crdt for FlagOf<DISABLES_WIN> {
 
     ghost has = { flag_has DISABLES_WIN };
 
-    ghost too_deep = { λ k p. false };
-
     ghost initial = { λ k. empty };
 
     ghost applied = { flag_step DISABLES_WIN };
@@ -59,15 +57,11 @@ impl<const DISABLES_WIN: bool> Crdt for FlagOf<DISABLES_WIN> {
 
     ghost resets = { flag_resets DISABLES_WIN };
 
-    ghost is_of = { is_of_kind };
-
     ghost can_put = { can_put_flag };
 
     ghost is_spelled = { is_flag_spelled };
 
     ghost sets = { flag_sets };
-
-    ghost texts = { λ e. [] };
 
     ghost spelling = { flag_spelling };
 

@@ -1,9 +1,8 @@
-ghost use Rattle.std.specs.Prelude.{◌≡◌, ◌+◌, min, max, false, None, IfOk};
+ghost use Rattle.std.specs.Prelude.{◌≡◌, ◌+◌, min, max, None, IfOk};
 ghost use Rattle.crdt_core.specs.Stamps.{last_stamp};
 ghost use Rattle.crdt_meanings.specs.RegisterMeaning.{lww_meaning, word_of};
 ghost use Rattle.crdt_meanings.specs.Without.{no_dot};
 ghost use Rattle.crdt_meanings.specs.RegisterLww.{lww_has, lww_step, lww_made_on, lww_made, lww_stamp, above, outlasts, unassigned};
-ghost use Rattle.crdt_registers.specs.EffectForm.{is_of_kind};
 ghost use Rattle.crdt_registers.specs.LwwForm.{can_put_lww, is_lww_spelled, lww_sets, lww_texts, lww_spelling, lww_at, lww_spells, lww_named};
 ghost use Rattle.crdt_meanings.proofs.LwwLaw.{lww_law, lww_in_maps, lww_resets};
 
@@ -28,8 +27,6 @@ impl Crdt for RegisterLww {
 
     ghost has = { lww_has };
 
-    ghost too_deep = { λ k p. false };
-
     ghost initial = { λ k. None };
 
     ghost applied = { lww_step };
@@ -53,8 +50,6 @@ impl Crdt for RegisterLww {
     ghost in_maps = { lww_in_maps };
 
     ghost resets = { lww_resets };
-
-    ghost is_of = { is_of_kind };
 
     ghost can_put = { can_put_lww };
 

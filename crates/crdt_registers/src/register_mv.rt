@@ -1,9 +1,8 @@
-ghost use Rattle.std.specs.Prelude.{◌≡◌, false};
+ghost use Rattle.std.specs.Prelude.{◌≡◌};
 ghost use Rattle.std.specs.FinMap.{empty};
 ghost use Rattle.crdt_core.specs.Kept.{is_kept, keeps_none};
 ghost use Rattle.crdt_meanings.specs.RegisterMeaning.{mv_meaning};
 ghost use Rattle.crdt_meanings.specs.RegisterMv.{mv_has, mv_step, mv_made, mv_value, mv_names};
-ghost use Rattle.crdt_registers.specs.EffectForm.{is_of_kind};
 ghost use Rattle.crdt_registers.specs.MvForm.{can_put_mv, is_mv_spelled, mv_sets, mv_texts, mv_spelling, mv_at, mv_spells, mv_named};
 ghost use Rattle.crdt_meanings.proofs.MvLaw.{mv_law, mv_in_maps, mv_resets};
 ghost use Rattle.crdt_meanings.specs.Without.{no_stamp};
@@ -28,8 +27,6 @@ impl Crdt for RegisterMv {
 
     ghost has = { mv_has };
 
-    ghost too_deep = { λ k p. false };
-
     ghost initial = { λ k. empty };
 
     ghost applied = { mv_step };
@@ -53,8 +50,6 @@ impl Crdt for RegisterMv {
     ghost in_maps = { mv_in_maps };
 
     ghost resets = { mv_resets };
-
-    ghost is_of = { is_of_kind };
 
     ghost can_put = { can_put_mv };
 

@@ -1,9 +1,9 @@
-ghost use Rattle.std.specs.Prelude.{◌≡◌, false, IfOk};
+ghost use Rattle.std.specs.Prelude.{◌≡◌, IfOk};
 ghost use Rattle.std.specs.FinMap.{empty};
 ghost use Rattle.crdt_core.specs.Texts.{ascending};
 ghost use Rattle.crdt_meanings.specs.SetMeaning.{go_meaning, added_by};
 ghost use Rattle.crdt_meanings.specs.SetGo.{go_has, go_step, go_made, go_value, has_none};
-ghost use Rattle.crdt_sets.specs.EffectForm.{is_of_kind, can_put_texts, are_texts_spelled, texts_sets, own_texts, texts_spelling, texts_at, go_spells, go_named};
+ghost use Rattle.crdt_sets.specs.EffectForm.{can_put_texts, are_texts_spelled, texts_sets, own_texts, texts_spelling, texts_at, go_spells, go_named};
 ghost use Rattle.crdt_meanings.proofs.GoLaw.{go_law, go_in_maps, go_resets};
 ghost use Rattle.crdt_meanings.specs.Without.{no_stamp, no_dot};
 
@@ -23,8 +23,6 @@ impl Crdt for SetGo {
     type Effect = ListOf<Text>;
 
     ghost has = { go_has };
-
-    ghost too_deep = { λ k p. false };
 
     ghost initial = { λ k. empty };
 
@@ -49,8 +47,6 @@ impl Crdt for SetGo {
     ghost in_maps = { go_in_maps };
 
     ghost resets = { go_resets };
-
-    ghost is_of = { is_of_kind };
 
     ghost can_put = { can_put_texts };
 

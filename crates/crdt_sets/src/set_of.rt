@@ -1,9 +1,9 @@
-ghost use Rattle.std.specs.Prelude.{◌≡◌, false};
+ghost use Rattle.std.specs.Prelude.{◌≡◌};
 ghost use Rattle.std.specs.FinMap.{empty};
 ghost use Rattle.crdt_meanings.specs.SetMeaning.{set_meaning};
 ghost use Rattle.crdt_meanings.specs.Elements.{keeps_dot, lacks_all};
 ghost use Rattle.crdt_meanings.specs.Sets.{set_kind, set_has, set_step, set_value, kind_made, set_names};
-ghost use Rattle.crdt_sets.specs.EffectForm.{is_of_kind, can_put_set, is_set_spelled, set_sets, set_texts, set_spelling, set_at, set_spells, set_named};
+ghost use Rattle.crdt_sets.specs.EffectForm.{can_put_set, is_set_spelled, set_sets, set_texts, set_spelling, set_at, set_spells, set_named};
 ghost use Rattle.crdt_meanings.proofs.RemovableLaws.{set_law, set_in_maps};
 ghost use Rattle.crdt_meanings.proofs.SetResets.{set_resets};
 ghost use Rattle.crdt_meanings.specs.Without.{no_stamp};
@@ -33,8 +33,6 @@ impl<const REMOVES_WIN: bool> Crdt for SetOf<REMOVES_WIN> {
 
     ghost has = { set_has REMOVES_WIN };
 
-    ghost too_deep = { λ k p. false };
-
     ghost initial = { λ k. empty };
 
     ghost applied = { set_step REMOVES_WIN };
@@ -58,8 +56,6 @@ impl<const REMOVES_WIN: bool> Crdt for SetOf<REMOVES_WIN> {
     ghost in_maps = { set_in_maps REMOVES_WIN };
 
     ghost resets = { set_resets REMOVES_WIN };
-
-    ghost is_of = { is_of_kind };
 
     ghost can_put = { can_put_set };
 
