@@ -1,5 +1,5 @@
 -- The bytes of the effects of kinds without fields.
-use Rattle.std.proofs.Common.{◌≡◌, ℕ, Bool, true, false, ◌&&◌, List, [], refl}
+use Rattle.std.proofs.Common.{◌≡◌, ℕ, Bool, true, false, ◌&&◌, List, [], ◌∷◌, refl}
 use Rattle.std.specs.Prelude.{ℤ, is_some}
 use Rattle.std.proofs.lemmas.Bool.{false≢true}
 use Rattle.field_codec.specs.Reading.{Read, mapped_at}
@@ -20,12 +20,12 @@ use Rattle.crdt_meanings.specs.CounterFat.{fat_has}
 use Rattle.crdt_counters.specs.EffectForm.{is_amount_number, amount_sets, amount_spelling, amount_at, pn_spells, can_put_fat, fat_sets, is_fat_spelled, fat_spelling, fat_at, fat_spells, pn_named, fat_named}
 use Rattle.crdt_meanings.specs.SetGo as set
 use Rattle.crdt_meanings.specs.Sets.{set_has}
-use Rattle.crdt_sets.specs.EffectForm.{can_put_texts, are_texts_spelled, texts_spelling, texts_at, texts_sets, own_texts, set_sets, set_texts, go_spells as set_go_spells, can_put_set, is_set_spelled, set_spelling, set_at, set_spells, go_named as set_go_stands, set_named}
+use Rattle.crdt_sets.specs.EffectForm.{can_put_texts, are_texts_spelled, texts_spelling, texts_at, texts_sets, set_sets, set_texts, go_spells as set_go_spells, can_put_set, is_set_spelled, set_spelling, set_at, set_spells, go_named as set_go_stands, set_named}
 use Rattle.crdt_meanings.specs.Flags as flags
 use Rattle.crdt_flags.specs.EffectForm.{can_put_flag, flag_sets, is_flag_spelled, flag_spelling, flag_at, flag_spells, flag_named}
 use Rattle.crdt_meanings.specs.RegisterLww.{lww_has}
 use Rattle.crdt_meanings.specs.RegisterMv.{mv_has}
-use Rattle.crdt_registers.specs.LwwForm.{can_put_lww, lww_sets, lww_texts, is_lww_spelled, lww_spelling, lww_at, lww_spells, lww_named}
+use Rattle.crdt_registers.specs.LwwForm.{can_put_lww, lww_sets, is_lww_spelled, lww_spelling, lww_at, lww_spells, lww_named}
 use Rattle.crdt_registers.specs.MvForm.{can_put_mv, is_mv_spelled, mv_spelling, mv_at, mv_spells, mv_sets, mv_texts, mv_named}
 use Rattle.crdt_any.specs.declared.simple_effect.SimpleEffect.{SimpleEffect}
 use Rattle.crdt_any.specs.declared.simple_effect.SimpleEffect.TheVariants as effect
@@ -88,10 +88,10 @@ simple_sets (effect.RegisterLww e) = lww_sets e
 simple_sets (effect.RegisterMv e) = mv_sets e
 
 abbrev pub simple_texts : SimpleEffect → List (List ℕ)
-simple_texts (effect.SetGo e) = own_texts e
+simple_texts (effect.SetGo e) = e
 simple_texts (effect.SetAw e) = set_texts e
 simple_texts (effect.SetRw e) = set_texts e
-simple_texts (effect.RegisterLww e) = lww_texts e
+simple_texts (effect.RegisterLww e) = e.text ∷ []
 simple_texts (effect.RegisterMv e) = mv_texts e
 simple_texts e = []
 

@@ -357,8 +357,8 @@ module _ {E : Type 0} {has : Kind → Bool} {is_of : Kind → E → Bool} {can_p
   map_all drops (At f e) = behind (entry_spelled (list_all is_text (texts e)) (sets_ascend (sets e)) (may_stand (map_kind drops) has) f (asked (spells.all e) (is_of f.kind e))) (number 1 0)
   map_all drops (Resets xs) =
       let begins : Field × E → Bool = λ x. begins_with (reset_tag x.0.kind) (spelling x.1) in
-      let member : HasSpelling (can_put_reset (may_stand kinds.MapRr has) is_of can_put spelling) (is_reset_spelled (may_stand kinds.MapRr has) is_of is_spelled spelling) (λ x. sets x.1) (λ x. x.0.name ∷ texts x.1) (entry spelling) = λ x. entry_spelled (list_all is_text (texts x.1)) (sets_ascend (sets x.1)) (may_stand kinds.MapRr has) x.0 (asked (asked (spells.all x.1) (is_of x.0.kind x.1)) (begins x)) in
-      behind (asked (list_spelled entry_below (reset_form kinds.MapRr) (λ x. sets x.1) (λ x. x.0.name ∷ texts x.1) member xs) drops) (number 1 (last_mark drops))
+      behind (asked (list_spelled entry_below (reset_form kinds.MapRr) (λ x. sets x.1) (λ x. x.0.name ∷ texts x.1)
+      (λ x. entry_spelled (list_all is_text (texts x.1)) (sets_ascend (sets x.1)) (may_stand kinds.MapRr has) x.0 (asked (asked (spells.all x.1) (is_of x.0.kind x.1)) (begins x))) xs) drops) (number 1 (last_mark drops))
 
   abbrev pub map_spells : (drops : Bool) (of_map : Kind → Bool) → SpellsEffects of_map is_of_map (map_can_put drops has is_of can_put spelling) (map_is_spelled drops has is_of is_spelled spelling) (map_sets sets) (map_texts texts) (map_spelling drops spelling) (λ k. map_at drops has reading)
   map_spells drops of_map = record { form = λ k h. map_form drops; all = map_all drops }

@@ -23,9 +23,6 @@ can_put_lww e = is_between 0 last_stamp e.stamp
 abbrev pub lww_sets : Assigned → List (List Dot)
 lww_sets e = []
 
-abbrev pub lww_texts : Assigned → List (List ℕ)
-lww_texts e = e.text ∷ []
-
 abbrev pub is_lww_spelled : Assigned → Bool
 is_lww_spelled e = is_between 0 last_stamp e.stamp && is_text e.text
 
@@ -46,7 +43,7 @@ lww_form =
     let law = mapped_form assigned_of (λ e. (e.stamp, e.text)) _ _ _ _ (λ _. refl) (λ _ _. refl) whole in
     record { found = law.found; again = law.again; fit = λ e good. (both_true (stamps e.stamp) (is_text e.text) good).0; ends = law.ends; tells = law.tells }
 
-abbrev pub lww_spells : (has : Kind → Bool) → SpellsEffects has is_of_kind can_put_lww is_lww_spelled lww_sets lww_texts lww_spelling (λ k. lww_at)
+abbrev pub lww_spells : (has : Kind → Bool) → SpellsEffects has is_of_kind can_put_lww is_lww_spelled lww_sets (λ e. e.text ∷ []) lww_spelling (λ k. lww_at)
 lww_spells has = record { form = λ k h. lww_form; all = λ e. record { shown = λ can kept short. and_true (can_put_lww e) (is_text e.text) can (both_true (is_text e.text) true (both_true (is_text e.text && true) true kept).0).0 } }
 
 pub lww_named : NamesAreSpelled can_put_lww no_dot lww_sets lww_spelling

@@ -51,10 +51,7 @@ texts_form = checked_form has_some _ _ _ _ (list_form (is_below text_cmp) (λ t.
 abbrev pub texts_sets : List (List ℕ) → List (List Dot)
 texts_sets ts = []
 
-abbrev pub own_texts : List (List ℕ) → List (List ℕ)
-own_texts ts = ts
-
-pub texts_all : HasSpelling can_put_texts are_texts_spelled texts_sets own_texts texts_spelling
+pub texts_all : HasSpelling can_put_texts are_texts_spelled texts_sets (λ ts. ts) texts_spelling
 texts_all ts =
     let all = listed (is_below text_cmp) any_text_form is_text (λ t. record { shown = λ can kept short. kept }) ts in
     asked (record { shown = λ can kept. all.shown can (both_true (list_all is_text ts) true kept).0 }) (has_some ts)
@@ -105,11 +102,8 @@ list_sets ns = flat_map (λ n. n.dots ∷ []) ns
 abbrev pub list_texts : List Named → List (List ℕ)
 list_texts ns = flat_map (λ n. n.text ∷ []) ns
 
-named_all : HasSpelling (λ n. are_dots n.dots) is_named (λ n. n.dots ∷ []) (λ n. n.text ∷ []) named
-named_all n = texted true (sets_ascend (n.dots ∷ [])) (behind (dots_spelled n.dots) (text n.text)) (is_text n.text)
-
 named_list_all : HasSpelling can_put_list is_list_spelled list_sets list_texts list_spelling
-named_list_all = list_spelled (is_below named_cmp) named_form (λ n. n.dots ∷ []) (λ n. n.text ∷ []) named_all
+named_list_all = list_spelled (is_below named_cmp) named_form (λ n. n.dots ∷ []) (λ n. n.text ∷ []) (λ n. texted true (sets_ascend (n.dots ∷ [])) (behind (dots_spelled n.dots) (text n.text)) (is_text n.text))
 
 pub some_named_form : IsForm (λ ns. has_some ns && can_put_list ns) (λ ns. has_some ns && is_list_spelled ns) list_spelling (checked_at has_some named_list_at)
 some_named_form = checked_form has_some can_put_list is_list_spelled list_spelling named_list_at named_list_form
@@ -201,7 +195,7 @@ set_all (Reset ns) = behind (named_list_all ns) (number 1 2)
 abbrev pub is_of_kind : {E : Type 0} → Kind → E → Bool
 is_of_kind k e = true
 
-abbrev pub go_spells : (has : Kind → Bool) → SpellsEffects has is_of_kind can_put_texts are_texts_spelled texts_sets own_texts texts_spelling (λ k. texts_at)
+abbrev pub go_spells : (has : Kind → Bool) → SpellsEffects has is_of_kind can_put_texts are_texts_spelled texts_sets (λ ts. ts) texts_spelling (λ k. texts_at)
 go_spells has = record { form = λ k h. texts_form; all = texts_all }
 
 abbrev pub set_spells : (has : Kind → Bool) → SpellsEffects has is_of_kind can_put_set is_set_spelled set_sets set_texts set_spelling (λ k. set_at)
