@@ -2,6 +2,8 @@
 use Rattle.std.proofs.Common.{◌≡◌, ℕ, Bool, true, false, ◌&&◌, List, [], ◌∷◌, refl}
 use Rattle.std.specs.Prelude.{ℤ, is_some}
 use Rattle.std.proofs.lemmas.Bool.{false≢true}
+use Rattle.std.specs.List.{list_all}
+use Rattle.field_codec.specs.Spelling.{is_text}
 use Rattle.field_codec.specs.Reading.{Read, mapped_at}
 use Rattle.field_codec.specs.Lawful.{IsForm}
 use Rattle.field_codec.specs.Tagged.{shape_form}
@@ -13,7 +15,7 @@ use Rattle.crdt_meanings.specs.declared.sets.SetEffect.{SetEffect}
 use Rattle.crdt_meanings.specs.declared.flags.FlagEffect.{FlagEffect}
 use Rattle.crdt_meanings.specs.declared.registers.Assigned.{Assigned}
 use Rattle.crdt_meanings.specs.declared.registers.MvEffect.{MvEffect}
-use Rattle.crdt_core.specs.EffectForm.{HasSpelling, SpellsEffects}
+use Rattle.crdt_core.specs.EffectForm.{sets_ascend, Spells, SpellsEffects}
 use Rattle.crdt_core.specs.NamedDots.{IsPartOf, have_update, NamesAreSpelled}
 use Rattle.crdt_meanings.specs.CounterPn.{pn_has}
 use Rattle.crdt_meanings.specs.CounterFat.{fat_has}
@@ -160,20 +162,6 @@ form_at kinds.RegisterLww is = shape_form effect.RegisterLww can_put_lww is_lww_
 form_at kinds.RegisterMv is = shape_form effect.RegisterMv can_put_mv is_mv_spelled mv_spelling mv_at (fits_at kinds.RegisterMv) (spelled_at kinds.RegisterMv) simple_spelling (λ v. refl) (λ v. refl) (λ v. refl) register_mv_shape ((mv_spells mv_has).form kinds.RegisterMv refl)
 form_at _ is = absurd (false≢true is)
 
-simple_all : HasSpelling simple_can_put simple_is_spelled simple_sets simple_texts simple_spelling
-simple_all (effect.CounterPn e) = (pn_spells pn_has).all e
-simple_all (effect.CounterFat e) = (fat_spells fat_has).all e
-simple_all (effect.SetGo e) = (set_go_spells set.go_has).all e
-simple_all (effect.SetAw e) = (set_spells (set_has false)).all e
-simple_all (effect.SetRw e) = (set_spells (set_has true)).all e
-simple_all (effect.FlagEw e) = (flag_spells (flags.flag_has false)).all e
-simple_all (effect.FlagDw e) = (flag_spells (flags.flag_has true)).all e
-simple_all (effect.RegisterLww e) = (lww_spells lww_has).all e
-simple_all (effect.RegisterMv e) = (mv_spells mv_has).all e
-
-pub simple_spells : SpellsEffects simple_has simple_is_of simple_can_put simple_is_spelled simple_sets simple_texts simple_spelling simple_reading
-simple_spells = record { form = form_at; all = simple_all }
-
 -- both of one effect
 abbrev pub Named : {F : Type 0} → (F → Dot → Bool) → (F → List (List Dot)) → (F → List ℕ) → F → Dot → Type 0
 Named names_of sets_of spelled e d = (names_of e d ≡ have_update (sets_of e) d) × (names_of e d ≡ true → IsPartOf d (spelled e))
@@ -181,16 +169,23 @@ Named names_of sets_of spelled e d = (names_of e d ≡ have_update (sets_of e) d
 pub named : {F : Type 0} {fits : F → Bool} {names_of : F → Dot → Bool} {sets_of : F → List (List Dot)} {spelled : F → List ℕ} → NamesAreSpelled fits names_of sets_of spelled → (e : F) (d : Dot) → fits e ≡ true → Named names_of sets_of spelled e d
 named s e d can = (s.exact e d can, s.stands e d can)
 
-simple_both : (e : SimpleEffect) (d : Dot) → simple_can_put e ≡ true → Named simple_names simple_sets simple_spelling e d
-simple_both (effect.CounterPn e) d can = named pn_named e d can
-simple_both (effect.CounterFat e) d can = named fat_named e d can
-simple_both (effect.SetGo e) d can = named set_go_stands e d can
-simple_both (effect.SetAw e) d can = named set_named e d can
-simple_both (effect.SetRw e) d can = named set_named e d can
-simple_both (effect.FlagEw e) d can = named flag_named e d can
-simple_both (effect.FlagDw e) d can = named flag_named e d can
-simple_both (effect.RegisterLww e) d can = named lww_named e d can
-simple_both (effect.RegisterMv e) d can = named mv_named e d can
+-- what can be put has a spelling, and names exactly the updates that stand there
+abbrev Told : SimpleEffect → Type 0
+Told e = Spells (simple_can_put e) (list_all is_text (simple_texts e) && sets_ascend (simple_sets e)) (simple_is_spelled e) (simple_spelling e) × ((d : Dot) → simple_can_put e ≡ true → Named simple_names simple_sets simple_spelling e d)
+
+simple_told : (e : SimpleEffect) → Told e
+simple_told (effect.CounterPn e) = ((pn_spells pn_has).all e, named pn_named e)
+simple_told (effect.CounterFat e) = ((fat_spells fat_has).all e, named fat_named e)
+simple_told (effect.SetGo e) = ((set_go_spells set.go_has).all e, named set_go_stands e)
+simple_told (effect.SetAw e) = ((set_spells (set_has false)).all e, named set_named e)
+simple_told (effect.SetRw e) = ((set_spells (set_has true)).all e, named set_named e)
+simple_told (effect.FlagEw e) = ((flag_spells (flags.flag_has false)).all e, named flag_named e)
+simple_told (effect.FlagDw e) = ((flag_spells (flags.flag_has true)).all e, named flag_named e)
+simple_told (effect.RegisterLww e) = ((lww_spells lww_has).all e, named lww_named e)
+simple_told (effect.RegisterMv e) = ((mv_spells mv_has).all e, named mv_named e)
+
+pub simple_spells : SpellsEffects simple_has simple_is_of simple_can_put simple_is_spelled simple_sets simple_texts simple_spelling simple_reading
+simple_spells = record { form = form_at; all = λ e. (simple_told e).0 }
 
 pub simple_named : NamesAreSpelled simple_can_put simple_names simple_sets simple_spelling
-simple_named = record { exact = λ e d can. (simple_both e d can).0; stands = λ e d can. (simple_both e d can).1 }
+simple_named = record { exact = λ e d can. ((simple_told e).1 d can).0; stands = λ e d can. ((simple_told e).1 d can).1 }
