@@ -16,8 +16,8 @@ use Rattle.crdt_core.specs.Spelled.{is_dot, ascend}
 abbrev pub sets_ascend : List (List Dot) → Bool
 sets_ascend sets = list_all ascend sets
 
--- What fits has a spelling, where its types keep what they do. Only where its bytes would be 2^32 or more need it have none, as
--- each member of a list has a byte.
+-- What fits has a spelling, where its types keep what they do. Only where its bytes would be 2^32 or more need it have
+-- none, as each member of a list has a byte.
 pub record Spells (fits keeps is_spelled : Bool) (bytes : List ℕ) : Type 0 where
   pub shown : fits ≡ true → keeps ≡ true → length bytes < 2 ^ 32 → is_spelled ≡ true
 

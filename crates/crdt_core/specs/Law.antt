@@ -23,8 +23,8 @@ made_by generated k s u = generated k s u.path u.act u.now
 abbrev pub all_fit : (Kind → List Field → Bool) → Kind → List Update → Bool
 all_fit too_deep k us = list_all (λ u. fits k u.path u.act && not (too_deep k u.path)) us
 
--- some act of what some path leads to, however long, and no deeper than the type reaches, has an effect that names the dot where
--- it is made on the state
+-- some act of what a path leads to, however long but no deeper than the type reaches, has an effect that names the dot
+-- where it is made on the state
 abbrev pub CanBeNamed : {S E : Type 0} → (Kind → List Field → Bool) → (Kind → S → List Field → Act → ℕ → E) → (E → Dot → Bool) → Kind → S → Dot → Type 0
 CanBeNamed too_deep generated names k s d = (p : List Field) × (a : Act) × (leads_to k p a ≡ true) × (too_deep k p ≡ false) × ((n : ℕ) → names (generated k s p a n) d ≡ true)
 
