@@ -1,5 +1,5 @@
 -- The kinds without fields keep the law of a kind, as each does alone.
-use Rattle.std.proofs.Common.{◌≡◌, ℕ, Bool, true, false, ◌||◌, List, [], None, refl, sym, ap, ◌∙◌}
+use Rattle.std.proofs.Common.{◌≡◌, ℕ, true, false, ◌||◌, List, [], None, refl, sym, ap, ◌∙◌}
 use Rattle.std.specs.Prelude.{pos, unwrap_or}
 use Rattle.std.specs.FinMap.{empty}
 use Rattle.std.proofs.lemmas.Bool.{true≢false, false≢true}

@@ -22,6 +22,13 @@ macro_rules! taken {
     }};
 }
 
+// A copy of an effect of a kind, as one of the sum.
+macro_rules! copied {
+    ($type:ident, $alloc:expr, $effect:expr) => {
+        Ok(SimpleEffect::$type($type::copy_effect($alloc, $effect)?))
+    };
+}
+
 /// The nine kinds without fields. A map, which it lacks, is taken for a `CounterPn`.
 pub struct Simple;
 
@@ -205,33 +212,15 @@ impl Crdt for Simple {
 
     fn copy_effect(alloc: Global, effect: &SimpleEffect) -> Result<SimpleEffect, AllocError> {
         match effect {
-            SimpleEffect::CounterPn(effect) => Ok(SimpleEffect::CounterPn(CounterPn::copy_effect(
-                alloc, effect,
-            )?)),
-            SimpleEffect::CounterFat(effect) => Ok(SimpleEffect::CounterFat(CounterFat::copy_effect(
-                alloc, effect,
-            )?)),
-            SimpleEffect::SetGo(effect) => Ok(SimpleEffect::SetGo(SetGo::copy_effect(
-                alloc, effect,
-            )?)),
-            SimpleEffect::SetAw(effect) => Ok(SimpleEffect::SetAw(SetAw::copy_effect(
-                alloc, effect,
-            )?)),
-            SimpleEffect::SetRw(effect) => Ok(SimpleEffect::SetRw(SetRw::copy_effect(
-                alloc, effect,
-            )?)),
-            SimpleEffect::FlagEw(effect) => Ok(SimpleEffect::FlagEw(FlagEw::copy_effect(
-                alloc, effect,
-            )?)),
-            SimpleEffect::FlagDw(effect) => Ok(SimpleEffect::FlagDw(FlagDw::copy_effect(
-                alloc, effect,
-            )?)),
-            SimpleEffect::RegisterLww(effect) => Ok(SimpleEffect::RegisterLww(
-                RegisterLww::copy_effect(alloc, effect)?,
-            )),
-            SimpleEffect::RegisterMv(effect) => Ok(SimpleEffect::RegisterMv(RegisterMv::copy_effect(
-                alloc, effect,
-            )?)),
+            SimpleEffect::CounterPn(effect) => copied!(CounterPn, alloc, effect),
+            SimpleEffect::CounterFat(effect) => copied!(CounterFat, alloc, effect),
+            SimpleEffect::SetGo(effect) => copied!(SetGo, alloc, effect),
+            SimpleEffect::SetAw(effect) => copied!(SetAw, alloc, effect),
+            SimpleEffect::SetRw(effect) => copied!(SetRw, alloc, effect),
+            SimpleEffect::FlagEw(effect) => copied!(FlagEw, alloc, effect),
+            SimpleEffect::FlagDw(effect) => copied!(FlagDw, alloc, effect),
+            SimpleEffect::RegisterLww(effect) => copied!(RegisterLww, alloc, effect),
+            SimpleEffect::RegisterMv(effect) => copied!(RegisterMv, alloc, effect),
         }
     }
 
