@@ -5,7 +5,7 @@ ghost use Rattle.site_vector.specs.Vector.{entry};
 ghost use Rattle.crdt_core.specs.declared.record.Part.{Part};
 ghost use Rattle.crdt_core.specs.declared.record.Record.TheVariants.{Prepare};
 ghost use Rattle.crdt_core.specs.EffectForm.{IsReady};
-ghost use Rattle.crdt_core.specs.KindsOf.{kinds_of};
+ghost use Rattle.crdt_core.specs.KindsOf.{fits_kind, kinds_of};
 ghost use Rattle.crdt_core.specs.Log.{end_of_time};
 ghost use Rattle.crdt_core.specs.Parts.{above, lists};
 ghost use Rattle.crdt_core.specs.Spelled.{is_tx};
@@ -251,6 +251,33 @@ impl<C: Crdt, D: Disk + Drop> DurablePartition<C, D> {
             return Err(DurableError::Down);
         }
         let made = self.tables.update(alloc, tx, s, object, own, op)?;
+        Ok(made)
+    }
+
+    /// What `update` does of an operation that fits the object's kind, for whoever has tested that.
+    ///
+    /// # Errors
+    ///
+    /// As those of `update`, without `BadOp`.
+    pub fn update_fitting(
+        &mut self,
+        alloc: Global,
+        tx: TxId,
+        s: &VTime,
+        object: &ObjectId,
+        own: &[Upd<C::Effect>],
+        op: &Op,
+    ) -> Result<(C::Effect, Option<u64>), DurableError>
+        requires has { C.has object.now.kind ≡ true }
+        requires width { length s.now ≡ self.old.tables.sites }
+        requires fits { fits_kind C.too_deep object.now op.now ≡ true }
+        ensures answers { (index : ℕ) → CallsOn (kinds_of C.laws) (codec_of C.spells) D.state self.old self.new Anything (AskUpdate tx s.now object.now own.now op.now) (λ x e. (read : List (Part C.Effect)) × (e ≡ Updated tx s.now object.now own.now op.now read (record { object = object.now; index = index; effect = x.0 }) x.1)) result }
+        ensures ready { (p : PartState C.Effect) → StandsOn (codec_of C.spells) D.state self.old p → is_tx tx ≡ true → are_numbered own.now ≡ true → IfOk result (λ x. IsReady C.is_of C.can_put C.sets C.spelling object.now.kind op.now.path op.now.act x.0) }
+    {
+        if self.is_down() {
+            return Err(DurableError::Down);
+        }
+        let made = self.tables.update_fitting(alloc, tx, s, object, own, op)?;
         Ok(made)
     }
 

@@ -5,7 +5,7 @@ ghost use Rattle.crdt_core.specs.EffectForm.{HoldsSpelled, IsReady};
 ghost use Rattle.crdt_core.specs.Fits.{fits};
 ghost use Rattle.crdt_core.specs.Folds.{effects_of};
 ghost use Rattle.crdt_core.specs.History.{folded};
-ghost use Rattle.crdt_core.specs.KindsOf.{kinds_of};
+ghost use Rattle.crdt_core.specs.KindsOf.{fits_kind, kinds_of};
 ghost use Rattle.crdt_core.specs.Objects.{same_object};
 ghost use Rattle.crdt_core.specs.Parts.{seen_parts};
 ghost use Rattle.crdt_core.specs.Spelled.{is_tx};
@@ -81,10 +81,33 @@ impl<C: Crdt> Partition<C> {
         ensures answers { (index : ℕ) → Called (kinds_of C.laws) self.old Anything (AskUpdate tx s.now object.now own.now op.now) (λ x e. (read : List (Part C.Effect)) × (e ≡ Updated tx s.now object.now own.now op.now read (record { object = object.now; index = index; effect = x.0 }) x.1)) result self.new }
         ensures ready { have_ids self.old.held ≡ true → is_tx tx ≡ true → are_numbered own.now ≡ true → IfOk result (λ x. IsReady C.is_of C.can_put C.sets C.spelling object.now.kind op.now.path op.now.act x.0) }
     {
-        let kind = object.kind;
-        if !is_operation::<C>(kind, op) {
+        if !is_operation::<C>(object.kind, op) {
             return Err(CallError::Refused(Refusal::BadOp));
         }
+        self.update_fitting(alloc, tx, s, object, own, op)
+    }
+
+    /// What `update` does of an operation that fits the object's kind, for whoever has tested that.
+    ///
+    /// # Errors
+    ///
+    /// As those of `update`, without `BadOp`.
+    pub fn update_fitting(
+        &mut self,
+        alloc: Global,
+        tx: TxId,
+        s: &VTime,
+        object: &ObjectId,
+        own: &[Upd<C::Effect>],
+        op: &Op,
+    ) -> Result<(C::Effect, Option<u64>), CallError>
+        requires has { C.has object.now.kind ≡ true }
+        requires width { length s.now ≡ self.old.sites }
+        requires fits { fits_kind C.too_deep object.now op.now ≡ true }
+        ensures answers { (index : ℕ) → Called (kinds_of C.laws) self.old Anything (AskUpdate tx s.now object.now own.now op.now) (λ x e. (read : List (Part C.Effect)) × (e ≡ Updated tx s.now object.now own.now op.now read (record { object = object.now; index = index; effect = x.0 }) x.1)) result self.new }
+        ensures ready { have_ids self.old.held ≡ true → is_tx tx ≡ true → are_numbered own.now ≡ true → IfOk result (λ x. IsReady C.is_of C.can_put C.sets C.spelling object.now.kind op.now.path op.now.act x.0) }
+    {
+        let kind = object.kind;
         if !C::needs_state(kind, op) {
             let state = C::empty(alloc, kind)?;
             let made = made::<C>(alloc, kind, op, &state, self.clock.now())?;
