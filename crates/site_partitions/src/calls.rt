@@ -95,7 +95,7 @@ impl<C: Crdt, D: Disk + Drop> Sites<C, D> {
         ensures { Calls (types_of C.laws C.spells D.state) self.old self.new (λ run. index ≡ update_count run tx + 1) at (AskUpdate tx s.now object.now own.now op.now) (λ x e. (read : List (Part C.Effect)) × (e ≡ Updated tx s.now object.now own.now op.now read (record { object = object.now; index = index; effect = x.0 }) x.1)) result }
     {
         let i = index_of(at, self.sites, self.parts);
-        self.partitions[i].update(self.alloc, tx, s, object, own, op)
+        self.partitions[i].update_fitting(self.alloc, tx, s, object, own, op)
     }
 
     /// Asks for a vote: the transaction's updates at this partition, and the number of its lead. Answers the prepare
