@@ -1,6 +1,6 @@
 -- How an update answers its command.
-use Rattle.std.proofs.Common.{◌≡◌, ◌<◌, ◌≤◌, ℕ, ◌+◌, Bool, true, false, List, [], ◌∷◌, ◌++◌, length, refl, sym, ap, ◌∙◌, subst, None, Some, arith}
-use Rattle.std.specs.Prelude.{not, ◌&&◌, map, ◌==◌, nat_lt, if◌then◌else◌}
+use Rattle.std.proofs.Common.{◌≡◌, ◌≢◌, ◌<◌, ◌≤◌, ℕ, ◌+◌, Bool, true, false, List, [], ◌∷◌, ◌++◌, length, Option, Result, Ok, Err, refl, sym, ap, ◌∙◌, subst, None, Some, arith}
+use Rattle.std.specs.Prelude.{not, ◌&&◌, map, ◌==◌, nat_lt, if◌then◌else◌, IfErr, IfOk, MatchOption}
 use Rattle.std.specs.Str.{bytes_eq}
 use Rattle.std.proofs.lemmas.Bool.{cond-true, true≢false, eqb-true, ltb-true, ltb-false, false_from_ne_true}
 use Rattle.std.proofs.lemmas.List.{map-append, length-map, length_push}
@@ -112,6 +112,19 @@ module _ {E : Type 0} where
     made (Refused q why) a x = unmade _ _ x (λ n. refl) (λ parts p. refl) (λ run. tt)
     made other a x = absurd cc
 
+-- the answer of a session tells whether its update was refused, but for memory
+module _ {A : Type 0} (Kept : Type 0) (r : Result A SessionError) where
+  abbrev Told : Option SessionError → Type 0
+  Told due = MatchOption due (IfErr r (λ e. e ≡ error.NoMemory)) (λ e. (r ≡ Err e) × Kept)
+
+  pub not_due : (due : Option SessionError) (x : A) → r ≡ Ok x → Told due → due ≡ None
+  not_due None x is h = refl
+  not_due (Some e) x is h = let k : Err e ≡ Ok x = sym h.0 ∙ is in absurd cc
+
+  is_due : (due : Option SessionError) (why : SessionError) → r ≡ Err why → why ≢ error.NoMemory → Told due → (due ≡ Some why) × Kept
+  is_due None why is fed h = absurd (fed (subst (λ y. IfErr y (λ e. e ≡ error.NoMemory)) is h))
+  is_due (Some e) why is fed h = let k : Err e ≡ Err why = sym h.0 ∙ is in let same : e ≡ why = cc in (ap Some same, h.1)
+
 module _ {S E D : Type 0} (types : Types S E D) (c : LiveState E D) (name : List ℕ) (o : ObjectId) (op : Op) where
   pub update_absent : (steps : List Step) → steps ≡ step.NoSession ∷ [] → session_in c.sessions name ≡ None → AppliesLive types c (command.Update name o op) steps c
   update_absent steps is none = refused types c (command.Update name o op) step.NoSession steps is refl
@@ -142,7 +155,7 @@ module _ {S E D : Type 0} (types : Types S E D) (c : LiveState E D) (name : List
         first_at (all_met run (command.Update name o op)) 5 (refl, (ap not r.has, (has_session types c run r name s is, (ap not (open_is types c run r name s is ∙ ap session.is_open e), (ap not good, ap (λ n. n == 256) (total_is run r s is txn e ∙ exact)))))))
         (λ run r who. refl)
 
-    pub update_refused : (steps : List Step) (why : SessionError) → steps ≡ refused_line why ∷ [] → (s : SessionState E) → session_in c.sessions name ≡ Some s → update_refusal types.kinds.too_deep s.doing o op ≡ Some why → AppliesLive types c (command.Update name o op) steps c
+    update_refused : (steps : List Step) (why : SessionError) → steps ≡ refused_line why ∷ [] → (s : SessionState E) → session_in c.sessions name ≡ Some s → update_refusal types.kinds.too_deep s.doing o op ≡ Some why → AppliesLive types c (command.Update name o op) steps c
     update_refused steps why is s there due = by_doing s.doing refl due
       where
         line : (w : SessionError) → Some w ≡ Some why → steps ≡ refused_line w ∷ []
@@ -158,6 +171,16 @@ module _ {S E D : Type 0} (types : Types S E D) (c : LiveState E D) (name : List
         by_doing Idle e k = not_open s there (ap session.is_open e) steps (line error.NoTxn k)
         by_doing (Ending txn lead commit) e k = not_open s there (ap session.is_open e) steps (line error.NoTxn k)
         by_doing (Open txn) e k = by_bools txn e _ _ _ refl refl refl k
+
+    -- nothing changed where the session doesn't answer
+    pub unanswered : {A X : Type 0} (r : Result A SessionError) (why : SessionError) (s : SessionState E) (later : Held E D) (sessions : List (List ℕ × SessionState E)) (told : Result Step X) → r ≡ Err why → Told (later ≡ c.sites) r (update_refusal types.kinds.too_deep s.doing o op) → session_in c.sessions name ≡ Some s → sessions ≡ c.sessions → IfOk told (λ line. (line ≡ refused_line why) × (why ≢ error.NoMemory))
+        → IfOk told (λ line. AppliesLive types c (command.Update name o op) (line ∷ []) (record { sites = later; sessions = sessions }))
+    unanswered r why s later sessions (Err e) is h there same x = tt
+    unanswered r why s later sessions (Ok line) is h there same x =
+        let due = is_due (later ≡ c.sites) r (update_refusal types.kinds.too_deep s.doing o op) why is x.1 h in
+        subst (λ l. AppliesLive types c (command.Update name o op) (line ∷ []) (record { sites = later; sessions = l })) (sym same)
+        (subst (λ a. AppliesLive types c (command.Update name o op) (line ∷ []) (record { sites = a; sessions = c.sessions })) (sym due.1)
+        (update_refused (line ∷ []) why (ap (λ l. l ∷ []) x.0) s there due.0))
 
   pub update_applies : (later : Held E D) (sessions : List (List ℕ × SessionState E)) (answer : Step) (steps : List Step) → steps ≡ answer ∷ [] → (a : Acts types c.sites c.sessions name later sessions (Updates types c.sites later o op answer)) → update_refusal types.kinds.too_deep a.before.doing o op ≡ None → AppliesLive types c (command.Update name o op) steps (record { sites = later; sessions = sessions })
   update_applies later sessions answer steps is a not_refused number run r =

@@ -1,6 +1,7 @@
-ghost use Rattle.std.specs.Prelude.{◌≡◌, true, false, [], ◌∷◌, IfOk};
+ghost use Rattle.std.specs.Prelude.{◌≡◌, ◌≢◌, true, false, [], ◌∷◌, IfOk, IfErr};
 ghost use Rattle.site_partitions.specs.Reaches.{types_of};
 ghost use Rattle.crdt_core.specs.Fits.{fits};
+ghost use Rattle.txn_session.specs.declared.error.SessionError.TheVariants.{NoMemory};
 ghost use Rattle.cluster.specs.Live.{refused_line};
 ghost use Rattle.cluster.specs.Reached.{AppliesLive, IsReachedLive};
 
@@ -101,16 +102,13 @@ fn update_in<C: Crdt, D: Disk + Drop>(
 {
     match sessions.get_mut(name) {
         Some(session) => {
-            if let Some(error) = session.update_refusal(object, op) {
-                return Ok(refused(&error));
-            }
             let (_, answer) = session.update(sites, (), object, op);
             match answer {
                 Ok(step) => {
                     return Ok(step);
                 }
-                Err(_) => {
-                    return Err(AllocError);
+                Err(error) => {
+                    return refused(&error);
                 }
             }
         }
@@ -120,13 +118,15 @@ fn update_in<C: Crdt, D: Disk + Drop>(
     }
 }
 
-/// The line of an update that is refused before any partition is asked.
-fn refused(error: &SessionError) -> Step
-    ensures { result ≡ refused_line error.now }
+/// The line of an update that is refused before any partition is asked, unless it is memory that ran out.
+fn refused(error: &SessionError) -> Result<Step, AllocError>
+    ensures line { IfOk result (λ line. (line ≡ refused_line error.now) × (error.now ≢ NoMemory)) }
+    ensures memory { IfErr result (λ e. error.now ≡ NoMemory) }
 {
     match error {
-        SessionError::NoTxn => Step::NoTxn,
-        SessionError::TooMany => Step::LimitUpdates,
-        _ => Step::BadOp,
+        SessionError::NoTxn => Ok(Step::NoTxn),
+        SessionError::TooMany => Ok(Step::LimitUpdates),
+        SessionError::NoMemory => Err(AllocError),
+        _ => Ok(Step::BadOp),
     }
 }

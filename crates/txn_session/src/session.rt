@@ -288,7 +288,7 @@ impl<C: Crdt> Session<C> {
     }
 
     /// Why an update is refused before any partition is asked.
-    pub fn update_refusal(&self, object: &ObjectId, op: &Op) -> Option<SessionError>
+    fn update_refusal(&self, object: &ObjectId, op: &Op) -> Option<SessionError>
         ensures { result ≡ update_refusal C.too_deep self.now.doing object.now op.now }
     {
         match self.stage {

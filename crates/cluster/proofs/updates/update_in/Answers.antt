@@ -7,14 +7,15 @@ use Rattle.cluster.specs.Acts.{Acts, Updates}
 use Rattle.cluster.specs.Live.{session_in}
 use Rattle.cluster.specs.Reached.{AppliesLive}
 use Rattle.cluster.proofs.Applying.{ok_is}
-use Rattle.cluster.proofs.Updating.{update_absent, update_refused, update_applies}
+use Rattle.txn_session.proofs.Results.{on_err}
+use Rattle.cluster.proofs.Updating.{not_due, unanswered, update_absent, update_applies}
 use Rattle.cluster.proofs.updates.update_in.Goals as goal
 
-pub returns-in-Some-update_refusal : goal.returns-in-Some-update_refusal
-returns-in-Some-update_refusal g c =
-    let same : (c.get_mut.follows.lender c.in-Some.session.now).entries ≡ c.args.sessions.now.entries = search (rules, set_value_same) in
-    subst (λ l. AppliesLive (types_of g.C.Crdt.laws g.C.Crdt.spells g.D.Disk.state) (record { sites = c.args.sites.now; sessions = c.args.sessions.now.entries }) (command.Update c.args.name.now c.args.object.now c.args.op.now) (c.refused.result ∷ []) (record { sites = c.args.sites.now; sessions = l })) (sym same)
-    (update_refused (types_of g.C.Crdt.laws g.C.Crdt.spells g.D.Disk.state) (record { sites = c.args.sites.now; sessions = c.args.sessions.now.entries }) c.args.name.now c.args.object.now c.args.op.now c.requires.shallow (c.refused.result ∷ []) c.in-Some-update_refusal.error (ap (λ l. l ∷ []) c.refused.ensures) c.in-Some.session.now (search rules) (sym c.update_refusal.ensures ∙ c.in-Some-update_refusal.is))
+pub returns-in-Err : goal.returns-in-Err
+returns-in-Err g c =
+    let rest : (c.get_mut.follows.lender c.in-Some.session.now).entries ≡ c.args.sessions.now.entries = search (rules, set_value_same) in
+    let same : (c.get_mut.follows.lender c.update-answer.new.self).entries ≡ c.args.sessions.now.entries = ap (λ s. (c.get_mut.follows.lender s).entries) (on_err _ _ _ c.in-Err.is c.update-answer.ensures.err) ∙ rest in
+    unanswered (types_of g.C.Crdt.laws g.C.Crdt.spells g.D.Disk.state) (record { sites = c.args.sites.now; sessions = c.args.sessions.now.entries }) c.args.name.now c.args.object.now c.args.op.now c.requires.shallow c.update-answer.result.1 c.in-Err.error c.in-Some.session.now c.update-answer.new.store (c.get_mut.follows.lender c.update-answer.new.self).entries c.refused.result c.in-Err.is c.update-answer.ensures.refused (search rules) same c.refused.ensures.line
 
 pub returns-in-Ok : goal.returns-in-Ok
 returns-in-Ok g c =
@@ -26,7 +27,7 @@ returns-in-Ok g c =
       same = c.update-answer.ensures.stays;
       does = λ calls seen holds. (ok_is _ _ _ c.in-Ok.is c.update-answer.ensures.tells, ok_is _ _ _ c.in-Ok.is c.update-answer.ensures.updated, ok_is _ _ _ c.in-Ok.is c.update-answer.ensures.updates calls seen holds);
     } in
-    update_applies (types_of g.C.Crdt.laws g.C.Crdt.spells g.D.Disk.state) (record { sites = c.args.sites.now; sessions = c.args.sessions.now.entries }) c.args.name.now c.args.object.now c.args.op.now c.update-answer.new.store (c.get_mut.follows.lender c.update-answer.new.self).entries c.in-Ok.step (c.in-Ok.step ∷ []) refl acts (sym c.update_refusal.ensures ∙ c.in_default.is)
+    update_applies (types_of g.C.Crdt.laws g.C.Crdt.spells g.D.Disk.state) (record { sites = c.args.sites.now; sessions = c.args.sessions.now.entries }) c.args.name.now c.args.object.now c.args.op.now c.update-answer.new.store (c.get_mut.follows.lender c.update-answer.new.self).entries c.in-Ok.step (c.in-Ok.step ∷ []) refl acts (not_due _ c.update-answer.result.1 _ c.in-Ok.step c.in-Ok.is c.update-answer.ensures.refused)
 
 pub returns-in-None : goal.returns-in-None
 returns-in-None g c =
