@@ -1,4 +1,4 @@
--- What stands before stays, and a restart's line in parts.
+-- What stands before stays, and the lines of an update and of a restart in parts.
 use Rattle.std.proofs.Common.{◌≡◌, ℕ, List, [], ◌∷◌, ◌++◌, length, take, sym, ap, ◌∙◌, append_assoc, Option, Some, None, codes, decimal, refl, ◌+◌, ◌<◌, get_or}
 use Rattle.std.specs.List.{flat_map, join_by}
 use Rattle.std.proofs.lemmas.Grind.{flat_map-append}
@@ -7,9 +7,10 @@ use Rattle.std.proofs.Math.Seq.{take-append_seam}
 use Rattle.site_vector.specs.declared.ids.PartId.{PartId}
 use Rattle.site_vector.specs.declared.ids.TxId.{TxId}
 use Rattle.site_vector.specs.Printed.{part_text, tx_text}
-use Rattle.reply_text.specs.Places.{vector_text}
-use Rattle.reply_text.specs.Text.{decided_words, pending_words}
-use Rattle.reply_text.specs.Updated.{decided_text, pending_text, restarted_text}
+use Rattle.crdt_core.specs.declared.object.ObjectId.{ObjectId}
+use Rattle.reply_text.specs.Places.{vector_text, word_text, object_text}
+use Rattle.reply_text.specs.Text.{stamp_words, decided_words, pending_words}
+use Rattle.reply_text.specs.Updated.{stamp_text, updated_text, decided_text, pending_text, restarted_text}
 use Rattle.reply_text.specs.Words.{Begins}
 
 pub front_kept : (a b : List ℕ) → Begins a b → take (length a) b ≡ a
@@ -47,3 +48,19 @@ restarted_is part now bounds decided pending a b c d e is_b is_c is_d is_e =
     is_e ∙ ap (λ s. s ++ 10 ∷ []) (is_d ∙ ap (λ s. s ++ flat_map pending_text pending) (is_c ∙ ap (λ s. s ++ decided_text decided) is_b))
     ∙ restarted_parts a (codes "restarted") (codes " ") (part_text part) (decimal now) (vector_text bounds) (decided_text decided) (flat_map pending_text pending) (10 ∷ [])
     ∙ ap (λ s. a ++ ((codes "restarted" ++ ((codes " " ++ part_text part) ++ ((codes " " ++ decimal now) ++ ((codes " " ++ vector_text bounds) ++ s)))) ++ 10 ∷ [])) (sym tail)
+
+spaced-stamp : (stamp : Option ℕ) → spaced (stamp_words stamp) ≡ stamp_text stamp
+spaced-stamp None = refl
+spaced-stamp (Some n) = append-nil (codes " stamp " ++ decimal n)
+
+updated_parts : (a u s w o r e : List ℕ) → ((((a ++ (u ++ s)) ++ w) ++ s) ++ o) ++ (r ++ e) ≡ a ++ ((u ++ ((s ++ w) ++ ((s ++ o) ++ r))) ++ e)
+updated_parts a u s w o r e = simp append_assoc
+
+-- the line of an update is what its parts add, one after another
+pub updated_is : (name : List ℕ) (object : ObjectId) (stamp : Option ℕ) (a b c d e f : List ℕ)
+    → b ≡ a ++ codes "updated " → c ≡ b ++ word_text name → d ≡ c ++ 32 ∷ [] → e ≡ d ++ object_text object → f ≡ e ++ (stamp_text stamp ++ 10 ∷ [])
+    → f ≡ a ++ updated_text name object stamp
+updated_is name object stamp a b c d e f is_b is_c is_d is_e is_f =
+    is_f ∙ ap (λ s. s ++ (stamp_text stamp ++ 10 ∷ [])) (is_e ∙ ap (λ s. s ++ object_text object) (is_d ∙ ap (λ s. s ++ 32 ∷ []) (is_c ∙ ap (λ s. s ++ word_text name) is_b)))
+    ∙ updated_parts a (codes "updated") (codes " ") (word_text name) (object_text object) (stamp_text stamp) (10 ∷ [])
+    ∙ ap (λ s. a ++ ((codes "updated" ++ ((codes " " ++ word_text name) ++ ((codes " " ++ object_text object) ++ s))) ++ 10 ∷ [])) (sym (spaced-stamp stamp))

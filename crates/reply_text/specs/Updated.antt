@@ -10,6 +10,10 @@ use Rattle.reply_text.specs.Text.{line_of, stamp_words, decided_words, pending_w
 abbrev pub updated_text : List ℕ → ObjectId → Option ℕ → List ℕ
 updated_text name object stamp = line_of (codes "updated" ∷ word_text name ∷ object_text object ∷ stamp_words stamp)
 
+abbrev pub stamp_text : Option ℕ → List ℕ
+stamp_text None = []
+stamp_text (Some n) = codes " stamp " ++ decimal n
+
 abbrev pub decided_text : Option TxId → List ℕ
 decided_text None = []
 decided_text (Some t) = codes " decided " ++ tx_text t

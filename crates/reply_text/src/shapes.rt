@@ -3,10 +3,11 @@ ghost use Rattle.site_vector.specs.Printed.{part_text, tx_text};
 ghost use Rattle.reply_text.specs.Places.{vector_text, word_text, object_text, message_text, report_text, interval_text};
 ghost use Rattle.reply_text.specs.Values.{value_text};
 ghost use Rattle.reply_text.specs.Text.{line_of};
-ghost use Rattle.reply_text.specs.Updated.{updated_text};
+ghost use Rattle.reply_text.specs.Updated.{updated_text, stamp_text};
 ghost use Rattle.reply_text.specs.Words.{Begins};
 
-use crate::words::{Word, put_line};
+use crate::bytes::{put, put_byte, put_number};
+use crate::words::{Word, put_line, put_object, put_text};
 use crdt_core::{ObjectId, Value};
 use field_codec::Text;
 use site_vector::{PartId, TxId, VTime};
@@ -360,37 +361,38 @@ pub fn put_sent(
     )
 }
 
-/// Adds the line of an update, with the stamp where there is one.
-pub fn put_updated<'x>(
+/// Adds the stamp of an assign, where there is one, and a line feed.
+#[tactic(auto, using(crate::specs::Words::begins_same, crate::specs::Words::begins_after))]
+fn put_stamp(out: &mut Vec<u8>, stamp: Option<u64>) -> Result<(), AllocError>
+    ensures ok { OnOk result (out.new.items ≡ out.old.items ++ (stamp_text stamp ++ 10 ∷ [])) }
+    ensures err { OnErr result (Begins out.old.items out.new.items) }
+{
+    match stamp {
+        None => put_byte(out, b'\n'),
+        Some(n) => {
+            put(out, b" stamp ")?;
+            put_number(out, n)?;
+            put_byte(out, b'\n')
+        }
+    }
+}
+
+/// Adds the line of an update, with the stamp where there is one. Most lines of a script are updates, so no list of words
+/// is made.
+#[tactic(auto, using(crate::specs::Words::begins_same, crate::specs::Words::begins_after, crate::proofs::Front::updated_is))]
+pub fn put_updated(
     alloc: Global,
     out: &mut Vec<u8>,
-    name: &'x Text,
-    object: &'x ObjectId,
+    name: &Text,
+    object: &ObjectId,
     stamp: Option<u64>,
 ) -> Result<(), AllocError>
     ensures ok { OnOk result (out.new.items ≡ out.old.items ++ updated_text name.now object.now stamp) }
     ensures err { OnErr result (Begins out.old.items out.new.items) }
 {
-    match stamp {
-        None => put_line(
-            alloc,
-            out,
-            &[
-                Word::Name("updated"),
-                Word::Text(name),
-                Word::Object(object),
-            ],
-        ),
-        Some(n) => put_line(
-            alloc,
-            out,
-            &[
-                Word::Name("updated"),
-                Word::Text(name),
-                Word::Object(object),
-                Word::Name("stamp"),
-                Word::Number(n),
-            ],
-        ),
-    }
+    put(out, b"updated ")?;
+    put_text(alloc, out, name)?;
+    put_byte(out, b' ')?;
+    put_object(alloc, out, object)?;
+    put_stamp(out, stamp)
 }

@@ -86,7 +86,7 @@ fn put_vector(out: &mut Vec<u8>, v: &VTime) -> Result<(), AllocError>
 }
 
 /// Adds a text, bare where it may be, and else as JSON writes it.
-fn put_text(alloc: Global, out: &mut Vec<u8>, text: &Text) -> Result<(), AllocError>
+pub fn put_text(alloc: Global, out: &mut Vec<u8>, text: &Text) -> Result<(), AllocError>
     ensures ok { OnOk result (out.new.items ≡ out.old.items ++ word_text text.now) }
     ensures err { OnErr result (Begins out.old.items out.new.items) }
 {
@@ -109,7 +109,8 @@ fn put_bucket(alloc: Global, out: &mut Vec<u8>, bucket: &Text) -> Result<(), All
     put_text(alloc, out, bucket)
 }
 
-fn put_object(alloc: Global, out: &mut Vec<u8>, object: &ObjectId) -> Result<(), AllocError>
+/// Adds the key, the kind and the bucket.
+pub fn put_object(alloc: Global, out: &mut Vec<u8>, object: &ObjectId) -> Result<(), AllocError>
     ensures ok { OnOk result (out.new.items ≡ out.old.items ++ object_text object.now) }
     ensures err { OnErr result (Begins out.old.items out.new.items) }
 {
