@@ -1,6 +1,9 @@
 ghost use Rattle.std.specs.Prelude.{◌≡◌, ◌≤◌, ◌^◌, IfSome};
 ghost use Rattle.script_text.specs.Numbers as numbers;
 
+/// A number above this has no further digit: with one it is above each `top`.
+const MOST_BEFORE: u64 = 1 << 60;
+
 /// The number that the digits spell, where all are digits and it is at most `top`.
 fn digits(word: &[u8], top: u64) -> Option<u64>
     requires { top ≤ 2 ^ 62 }
@@ -12,11 +15,14 @@ fn digits(word: &[u8], top: u64) -> Option<u64>
         if !byte.is_ascii_digit() {
             return None;
         }
-        let next = n as u128 * 10 + (*byte - b'0') as u128;
-        if next > top as u128 {
+        if n > MOST_BEFORE {
             return None;
         }
-        n = next as u64;
+        let next = n * 10 + (*byte - b'0') as u64;
+        if next > top {
+            return None;
+        }
+        n = next;
     }
     Some(n)
 }
