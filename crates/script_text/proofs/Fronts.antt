@@ -4,7 +4,7 @@ use Rattle.std.specs.Prelude.{codes, option_map, option_and_then}
 use Rattle.std.specs.Str.{bytes_eq}
 use Rattle.std.proofs.lemmas.Bool.{eqb-true}
 use Rattle.std.proofs.lemmas.Option.{none-some}
-use Rattle.script_text.specs.Front.{word_end, spaces, IsTrimmed, words_front, words-space, after_in, after_at}
+use Rattle.script_text.specs.Front.{word_end, spaces, IsTrimmed, words_front, words-space, after_in, after_at, after_space}
 use Rattle.script_text.specs.Objects.{path, bucket, field}
 use Rattle.script_text.specs.Split.{outside, after, words, space}
 use Rattle.script_text.specs.Texts.{text}
@@ -126,3 +126,23 @@ trimmed_after (c ∷ cs) =
 
 pub is_trimmed : (bytes rest : List ℕ) (n : ℕ) → n ≡ spaces bytes → rest ≡ drop n bytes → IsTrimmed rest
 is_trimmed bytes rest n is is_rest = subst IsTrimmed (sym (is_rest ∙ ap (λ m. drop m bytes) is)) (trimmed_after bytes)
+
+-- one space stands at the front
+single : (a b : Bool) (x r : List ℕ) → (if a then (if b then None else Some x) else None) ≡ Some r → (a ≡ true) × (b ≡ false) × (x ≡ r)
+single true false x r h = (refl, refl, ap held h)
+single true true x r h = absurd (none-some r h)
+single false b x r h = absurd (none-some r h)
+
+pub words_single : (line r : List ℕ) → after_space line ≡ Some r → words r ≡ words line
+words_single [] r h = absurd (none-some r h)
+words_single (a ∷ []) r h = absurd (none-some r h)
+words_single (a ∷ b ∷ cs) r h =
+    let p = single (a == space) (b == space) (b ∷ cs) r h in
+    ap words (sym p.2) ∙ sym (words-space a (b ∷ cs) p.0)
+
+pub is_single : (line r : List ℕ) → after_space line ≡ Some r → IsTrimmed r
+is_single [] r h = absurd (none-some r h)
+is_single (a ∷ []) r h = absurd (none-some r h)
+is_single (a ∷ b ∷ cs) r h =
+    let p = single (a == space) (b == space) (b ∷ cs) r h in
+    subst IsTrimmed p.2 p.1

@@ -30,6 +30,11 @@ abbrev pub after_in : List ℕ → Option (List ℕ)
 after_in (a ∷ b ∷ c ∷ cs) = if a == 105 then (if b == 110 then (if c == space then Some cs else None) else None) else None
 after_in bytes = None
 
+-- what follows the one space at the front, where no other does
+abbrev pub after_space : List ℕ → Option (List ℕ)
+after_space (a ∷ b ∷ cs) = if a == space then (if b == space then None else Some (b ∷ cs)) else None
+after_space bytes = None
+
 -- what follows an at sign at the front
 abbrev pub after_at : List ℕ → Option (List ℕ)
 after_at [] = None

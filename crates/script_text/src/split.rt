@@ -1,6 +1,6 @@
 ghost use Rattle.std.specs.Prelude.{◌≡◌, ◌+◌, ◌<◌, ◌≤◌, length, take, drop, [], ◌∷◌, Some, None, IfSome, IfNone, option_map};
 ghost use Rattle.script_text.specs.Split.{words, after, ends_word, outside, within, after_backslash};
-ghost use Rattle.script_text.specs.Front.{word_end, IsTrimmed, where_of, spaces as spaces_of};
+ghost use Rattle.script_text.specs.Front.{word_end, IsTrimmed, where_of, spaces as spaces_of, after_space};
 ghost use Rattle.script_text.specs.Grammar.{one, two};
 
 /// Where a byte stands: outside of quotes, within them, or after a backslash within them.
@@ -125,13 +125,32 @@ fn spaces(bytes: &[u8]) -> usize
     bytes.len()
 }
 
-/// What follows the spaces at the front.
-#[tactic(auto, using(crate::proofs::Fronts::words_trimmed, crate::proofs::Fronts::is_trimmed))]
+/// What follows the one space at the front, where no other does.
+#[tactic(auto, using(crate::proofs::Cuts::after_first))]
+fn after_space(line: &str) -> Option<&str>
+    ensures { IfSome result (λ r. after_space line.now ≡ Some r.now) }
+{
+    match line.as_bytes() {
+        [b' ', second, ..] => {
+            if *second == b' ' {
+                return None;
+            }
+            Some(&line[1..])
+        }
+        _ => None,
+    }
+}
+
+/// What follows the spaces at the front. Mostly there is one.
+#[tactic(auto, using(crate::proofs::Fronts::words_trimmed, crate::proofs::Fronts::is_trimmed, crate::proofs::Fronts::words_single, crate::proofs::Fronts::is_single))]
 pub fn trimmed(line: &str) -> &str
     ensures same { words result.now ≡ words line.now }
     ensures is { IsTrimmed result.now }
 {
-    line.split_at(spaces(line.as_bytes())).1
+    match after_space(line) {
+        Some(rest) => rest,
+        None => line.split_at(spaces(line.as_bytes())).1,
+    }
 }
 
 /// The word at the front, and what follows it.
