@@ -1,4 +1,5 @@
 pub mod Digits
+pub mod Acts
 pub mod Utf8
 pub mod Cuts
 pub mod Lists

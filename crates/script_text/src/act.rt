@@ -142,8 +142,9 @@ fn plain(name: &[u8], line: &str) -> Option<Act>
     None
 }
 
-/// The act of this name.
-fn act_named(alloc: Global, name: &[u8], line: &str) -> Result<Act, ParseError>
+/// The act of this name, and mostly one that keeps texts. What these are built in is set to zero only where one is read.
+#[inline(never)]
+fn kept_named(alloc: Global, name: &[u8], line: &str) -> Result<Act, ParseError>
     ensures ok { IfOk result (λ a. acts.act_named name.now (words line.now) ≡ Some a) }
     ensures bad { result ≡ Err ParseError.Bad → acts.act_named name.now (words line.now) ≡ None }
 {
@@ -162,6 +163,18 @@ fn act_named(alloc: Global, name: &[u8], line: &str) -> Result<Act, ParseError>
     match plain(name, line) {
         Some(act) => Ok(act),
         None => Err(ParseError::Bad),
+    }
+}
+
+/// The act of this name. Those that keep no text come first, as most are.
+#[tactic(auto, using(crate::proofs::Acts::plain_is))]
+fn act_named(alloc: Global, name: &[u8], line: &str) -> Result<Act, ParseError>
+    ensures ok { IfOk result (λ a. acts.act_named name.now (words line.now) ≡ Some a) }
+    ensures bad { result ≡ Err ParseError.Bad → acts.act_named name.now (words line.now) ≡ None }
+{
+    match plain(name, line) {
+        Some(act) => Ok(act),
+        None => kept_named(alloc, name, line),
     }
 }
 

@@ -310,7 +310,6 @@ fn update(alloc: Global, line: &str, parsed: &mut Parsed) -> Result<(), ParseErr
 }
 
 /// The command of this name, where it keeps no text.
-#[inline(never)]
 fn plain(name: &[u8], line: &str) -> Option<Command>
     ensures { result ≡ grammar.plain_named name.now (words line.now) }
 {
@@ -353,6 +352,21 @@ fn plain(name: &[u8], line: &str) -> Option<Command>
     None
 }
 
+/// Reads the command of this name, where it keeps no text, into its place.
+#[inline(never)]
+fn plain_into(name: &[u8], line: &str, parsed: &mut Parsed) -> Result<(), ParseError>
+    ensures ok { OnOk result (Some parsed.new ≡ command_as (grammar.plain_named name.now (words line.now))) }
+    ensures bad { result ≡ Err ParseError.Bad → grammar.plain_named name.now (words line.now) ≡ None }
+{
+    match plain(name, line) {
+        Some(command) => {
+            *parsed = Parsed::Command(command);
+            Ok(())
+        }
+        None => Err(ParseError::Bad),
+    }
+}
+
 /// Reads the command of this name, with the words after it, into its place. No command is moved on the way, and what
 /// each way needs is set up only where it is gone: a line's reading is dear by its moves.
 pub fn command(
@@ -388,11 +402,5 @@ pub fn command(
     if spells(name, "update") {
         return update(alloc, line, parsed);
     }
-    match plain(name, line) {
-        Some(command) => {
-            *parsed = Parsed::Command(command);
-            Ok(())
-        }
-        None => Err(ParseError::Bad),
-    }
+    plain_into(name, line, parsed)
 }

@@ -68,12 +68,10 @@ pub fn object(alloc: Global, line: &str) -> Result<(ObjectId, &str), ParseError>
     let Some((kind, rest)) = next(rest) else {
         return Err(ParseError::Bad);
     };
-    let field = field(alloc, key, kind)?;
-    let (bucket, rest) = bucket(alloc, rest)?;
-    let object = ObjectId {
-        bucket,
-        key: field.name,
-        kind: field.kind,
+    let key = text(alloc, key)?;
+    let Some(kind) = kind_named(kind.as_bytes()) else {
+        return Err(ParseError::Bad);
     };
-    Ok((object, rest))
+    let (bucket, rest) = bucket(alloc, rest)?;
+    Ok((ObjectId { bucket, key, kind }, rest))
 }
