@@ -377,8 +377,8 @@ fn put_stamp(out: &mut Vec<u8>, stamp: Option<u64>) -> Result<(), AllocError>
     }
 }
 
-/// Adds the line of an update, with the stamp where there is one. Most lines of a script are updates, so no list of words
-/// is made.
+/// Adds the line of an update, with the stamp where there is one. Most lines of a script are updates, so no list of
+/// words is made.
 #[tactic(auto, using(crate::specs::Words::begins_same, crate::specs::Words::begins_after, crate::proofs::Front::updated_is))]
 pub fn put_updated(
     alloc: Global,

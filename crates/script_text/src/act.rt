@@ -142,7 +142,7 @@ fn plain(name: &[u8], line: &str) -> Option<Act>
     None
 }
 
-/// The act of this name, and mostly one that keeps texts. What these are built in is set to zero only where one is read.
+/// The act of this name, mostly one that keeps texts. What these are built in is set to zero only where one is read.
 #[inline(never)]
 fn kept_named(alloc: Global, name: &[u8], line: &str) -> Result<Act, ParseError>
     ensures ok { IfOk result (λ a. acts.act_named name.now (words line.now) ≡ Some a) }
