@@ -107,7 +107,10 @@ pub fn copy_updates<C: Crdt>(
 {
     let mut all = ListOf::with_capacity(alloc, updates.len())?;
     for update in updates {
-        all.push(copy_update::<C>(alloc, update)?)?;
+        match copy_update::<C>(alloc, update) {
+            Ok(copied) => all.push(copied)?,
+            Err(error) => return Err(error),
+        }
     }
     Ok(all)
 }
