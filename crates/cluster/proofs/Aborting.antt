@@ -26,9 +26,9 @@ use Rattle.cluster.proofs.Ups.{up_of}
 
 module _ {S E D : Type 0} (types : Types S E D) where
   -- what is pending isn't gone
-  kept : (sites parts : ℕ) (id : PartId) (p : PartState E) (t : TxId) (why : Refusal) → IsRefused types.kinds sites parts id p (AskAbort t) (cause why) → log.pending p.log t ≡ true → ⊥
-  kept sites parts id p t answer.Gone x h = true≢false (sym h ∙ x.1)
-  kept sites parts id p t other x h = x.1
+  pending_still : (sites parts : ℕ) (id : PartId) (p : PartState E) (t : TxId) (why : Refusal) → IsRefused types.kinds sites parts id p (AskAbort t) (cause why) → log.pending p.log t ≡ true → ⊥
+  pending_still sites parts id p t answer.Gone x h = true≢false (sym h ∙ x.1)
+  pending_still sites parts id p t other x h = x.1
 
   -- who refuses an abort for a cause of its own is up
   is_up : (sites parts : ℕ) (id : PartId) (p : PartState E) (t : TxId) (why : Refusal) → IsRefused types.kinds sites parts id p (AskAbort t) (cause why) → p.up ≡ true
@@ -56,7 +56,7 @@ module _ {S E D : Type 0} (types : Types S E D) where
         let refused : IsRefused types.kinds new.sites new.parts at (before at) (AskAbort t) (cause why) = reached.is_run.2.step.0 in
         let here = (law.told types.kinds old.sites old.parts run r.state r.is_run at).waiting t up in
         let there = (law.told types.kinds new.sites new.parts run before reached.is_run.1 at).waiting t (is_up new.sites new.parts at (before at) t why refused) in
-        kept new.sites new.parts at (before at) t why refused (there ∙ (sym here ∙ waits))
+        pending_still new.sites new.parts at (before at) t why refused (there ∙ (sym here ∙ waits))
 
   -- a partition that is up, which the call finds down
   pub never_down : (old new : Held E D) (at : PartId) → IsPlace old.sites old.parts at → (m : Moves types.state old new at) → is_down m.before ≡ true → (run : List (Entry E)) (r : Reaches types old run) → (r.state at).up ≡ true → ⊥

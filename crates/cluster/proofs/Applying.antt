@@ -1,6 +1,6 @@
 -- What answers a command leaves a cluster where some run left it.
 use Rattle.std.proofs.Common.{◌≡◌, ℕ, ◌+◌, true, false, length, List, [], ◌∷◌, refl, sym, ap, ◌∙◌, subst, inl, Option, None, Some}
-use Rattle.std.specs.Prelude.{IfOk, Result, Ok, Err}
+use Rattle.std.specs.Prelude.{IfOk, OnErr, Result, Ok, Err}
 use Rattle.world_model.specs.declared.command.Command.{Command}
 use Rattle.world_model.specs.declared.command.Command.TheVariants as command
 use Rattle.world_model.specs.declared.step.Step.TheVariants as step
@@ -18,7 +18,7 @@ use Rattle.cluster.proofs.Meets.{all_met, first_at, none_due, refused}
 use Rattle.world_model.specs.declared.step.Step.{Step}
 use Rattle.world_model.specs.commands.Answers.{answered}
 use Rattle.cluster.specs.Post.{WholeState, new_post, HasPost}
-use Rattle.cluster.proofs.FuelKept.{fueled_made}
+use Rattle.cluster.proofs.FuelStays.{fueled_made}
 use Rattle.cluster.proofs.Keeping.{post_on}
 use Rattle.txn_session.specs.Calls.{entries}
 use Rattle.cluster.specs.Live.{LiveState, session_in}
@@ -30,6 +30,9 @@ map_ok (Err x) f p = tt
 
 pub ok_is : {A X : Type 0} (P : A → Type 0) (r : Result A X) (x : A) → r ≡ Ok x → IfOk r P → P x
 ok_is P r x e p = subst (λ y. IfOk y P) e p
+
+pub err_is : {A X : Type 0} (P : Type 0) (r : Result A X) (x : X) → r ≡ Err x → OnErr r P → P
+err_is P r x e p = subst (λ y. OnErr y P) e p
 
 pub not_making : (c : Command) → ((sites parts : ℕ) → c ≡ command.Cluster sites parts → ⊥) → is_making c ≡ false
 not_making (command.Cluster sites parts) h = absurd (h sites parts refl)
@@ -95,11 +98,11 @@ module _ {S E D : Type 0} (types : Types S E D) where
           post = subst (λ p. HasPost w.live.sites.sites w.live.sites.parts ((record { number = number; command = Some (command.Cluster sites parts); step = step.MadeCluster sites parts }) ∷ run) [] p) (sym post) (record {
             mail = λ k. b.post.message k;
             made = ap (λ c. c.made + 1) (sym b.post.messages);
-            kept = ap (λ c. c.kept) (sym b.post.messages);
+            present = ap (λ c. c.present) (sym b.post.messages);
             sent = λ q. b.post.sent q;
             notes = λ k. b.post.report k;
             reported = ap (λ c. c.made + 1) (sym b.post.reports);
-            noted = ap (λ c. c.kept) (sym b.post.reports);
+            noted = ap (λ c. c.present) (sym b.post.reports);
             told = λ q. b.post.told q;
             above = λ k h. refl;
             beyond = λ k h. refl;

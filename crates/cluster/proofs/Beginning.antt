@@ -33,7 +33,7 @@ use Rattle.cluster.specs.Acts.{Acts, Begins}
 use Rattle.cluster.specs.Built.{is_built}
 use Rattle.site_partitions.specs.Held.{Held}
 use Rattle.cluster.specs.Same.{holds_place}
-use Rattle.cluster.specs.Live.{LiveState, session_in, phase_in, phase_about, is_idle_phase, are_idle, is_of_site, stands_in, number_of}
+use Rattle.cluster.specs.Live.{LiveState, session_in, phase_in, phase_about, is_idle_phase, are_idle, is_of_site, is_of_own_site, number_of}
 use Rattle.cluster.specs.Reached.{phase_as, StandsBy, ReachedLive, GoesTo, AppliesLive}
 use Rattle.cluster.specs.Faults.{ShowFaults}
 use Rattle.cluster.proofs.Faulted.{shows_told}
@@ -110,13 +110,13 @@ module _ {S E D : Type 0} (types : Types S E D) (c : LiveState E D) (name : List
       by_part None = refl
       by_part (Some p) = ap not (sym (part_in types c run r p))
 
-  elsewhere_in : (run : Run) (r : ReachedLive types c run) (s : SessionState E) → session_in c.sessions name ≡ Some s → is_elsewhere run name part ≡ not (stands_in c.sessions name part)
+  elsewhere_in : (run : Run) (r : ReachedLive types c run) (s : SessionState E) → session_in c.sessions name ≡ Some s → is_elsewhere run name part ≡ not (is_of_own_site c.sessions name part)
   elsewhere_in run r s is = by_part part
     where
       at : site_of run name ≡ Some s.site
       at = (by_name types c run r name s is).site
 
-      by_part : (o : Option PartId) → is_elsewhere run name o ≡ not (stands_in c.sessions name o)
+      by_part : (o : Option PartId) → is_elsewhere run name o ≡ not (is_of_own_site c.sessions name o)
       by_part None = refl
       by_part (Some p) = ap (λ o. not (is_at o p.site)) at ∙ ap (λ o. not (is_of_site o p)) (sym is)
 
@@ -130,27 +130,27 @@ module _ {S E D : Type 0} (types : Types S E D) (c : LiveState E D) (name : List
       (λ run r. first_at (all_met run (command.Begin name part)) 3 (refl, (ap not r.has, (lacks_in run r ∙ ap not there, lacks_session types c run r name gone))))
       (λ run r who. refl)
 
-  pub begin_elsewhere : (steps : List Step) → steps ≡ step.NoPart ∷ [] → holds_place c.sites part ≡ true → (idle : Bool) → IsDoing (session_in c.sessions name) idle → stands_in c.sessions name part ≡ false → AppliesLive types c (command.Begin name part) steps c
+  pub begin_elsewhere : (steps : List Step) → steps ≡ step.NoPart ∷ [] → holds_place c.sites part ≡ true → (idle : Bool) → IsDoing (session_in c.sessions name) idle → is_of_own_site c.sessions name part ≡ false → AppliesLive types c (command.Begin name part) steps c
   begin_elsewhere steps is there idle x off_site = let s = x.found in let in_table = x.is in refused types c (command.Begin name part) step.NoPart steps is refl
       (λ run r. first_at (all_met run (command.Begin name part)) 4 (refl, (ap not r.has, (lacks_in run r ∙ ap not there, (has_session types c run r name s in_table, elsewhere_in run r s in_table ∙ ap not off_site)))))
       (λ run r who. refl)
 
-  pub begin_busy : (steps : List Step) → steps ≡ step.HasTxn ∷ [] → holds_place c.sites part ≡ true → stands_in c.sessions name part ≡ true → IsDoing (session_in c.sessions name) false → AppliesLive types c (command.Begin name part) steps c
+  pub begin_busy : (steps : List Step) → steps ≡ step.HasTxn ∷ [] → holds_place c.sites part ≡ true → is_of_own_site c.sessions name part ≡ true → IsDoing (session_in c.sessions name) false → AppliesLive types c (command.Begin name part) steps c
   begin_busy steps is there here x = refused types c (command.Begin name part) step.HasTxn steps is refl
       (λ run r. first_at (all_met run (command.Begin name part)) 5 (refl, (ap not r.has, (lacks_in run r ∙ ap not there, (has_session types c run r name x.found x.is, (elsewhere_in run r x.found x.is ∙ ap not here, ap not (idle_is types c run r name x.found x.is ∙ x.so)))))))
       (λ run r who. refl)
 
-  place_is : (run : Run) (r : ReachedLive types c run) (s : SessionState E) → session_in c.sessions name ≡ Some s → stands_in c.sessions name part ≡ true → begin_place run name part ≡ place_in s (number_of part)
+  place_is : (run : Run) (r : ReachedLive types c run) (s : SessionState E) → session_in c.sessions name ≡ Some s → is_of_own_site c.sessions name part ≡ true → begin_place run name part ≡ place_in s (number_of part)
   place_is run r s is = by_part part
     where
       at : site_of run name ≡ Some s.site
       at = (by_name types c run r name s is).site
 
-      by_part : (o : Option PartId) → stands_in c.sessions name o ≡ true → begin_place run name o ≡ place_in s (number_of o)
+      by_part : (o : Option PartId) → is_of_own_site c.sessions name o ≡ true → begin_place run name o ≡ place_in s (number_of o)
       by_part None h = ap (λ d. record { site = site_or_none d; part = 1 }) at
       by_part (Some p) h = ap (λ d. record { site = d; part = p.part }) (sym (eqb-true s.site p.site (ap (λ o. is_of_site o p) (sym is) ∙ h)))
 
-  pub begin_applies : (later : Held E D) (sessions : List (List ℕ × SessionState E)) (answer : Step) (steps : List Step) → steps ≡ answer ∷ [] → holds_place c.sites part ≡ true → stands_in c.sessions name part ≡ true → are_idle (phase_in c.sessions name) ≡ true → Acts types c.sites c.sessions name later sessions (Begins types c.sites later (number_of part) answer) → AppliesLive types c (command.Begin name part) steps (record { sites = later; sessions = sessions })
+  pub begin_applies : (later : Held E D) (sessions : List (List ℕ × SessionState E)) (answer : Step) (steps : List Step) → steps ≡ answer ∷ [] → holds_place c.sites part ≡ true → is_of_own_site c.sessions name part ≡ true → are_idle (phase_in c.sessions name) ≡ true → Acts types c.sites c.sessions name later sessions (Begins types c.sites later (number_of part) answer) → AppliesLive types c (command.Begin name part) steps (record { sites = later; sessions = sessions })
   begin_applies later sessions answer steps is there here idles a number run r =
       let st : StandsBy run r.calls name a.before = by_name types c run r name a.before a.is in
       let d : Begins types c.sites later (number_of part) answer a.before a.after r.calls = a.does r.calls r.sees st.holds in

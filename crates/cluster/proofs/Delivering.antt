@@ -40,7 +40,7 @@ use Rattle.cluster.specs.Built.{is_built}
 use Rattle.cluster.specs.Faults.{ShowsFault, ShowFaults}
 use Rattle.site_partitions.specs.Held.{Held, holds_site, holds_part}
 use Rattle.cluster.specs.Same.{SameCluster}
-use Rattle.cluster.specs.Post.{WholeState, HasPost, IsLetter, MailAs, IsNote, NoteAs, kept_at}
+use Rattle.cluster.specs.Post.{WholeState, HasPost, IsLetter, MailAs, IsNote, NoteAs, item_at}
 use Rattle.cluster.specs.Reached.{Applies, FaultsShown, IsReached, Reached, ReachedWhole}
 use Rattle.cluster.specs.Sees.{Sees, FailedAs, refusal_line}
 use Rattle.cluster.proofs.Clocks.{part_in}
@@ -235,7 +235,7 @@ module _ {S E D : Type 0} (types : Types S E D) (w : WholeState E D) where
         (shows_told types.state run w.live.sites held at s tells (λ t k. absurd (true≢false (sym failing ∙ ap is_failing k))), tt),
       )
 
-  module _ (number : ℕ) (m : Message E) (there : kept_at w.post.letters number ≡ Some m) where
+  module _ (number : ℕ) (m : Message E) (there : item_at w.post.letters number ≡ Some m) where
     abbrev pub twin_there : PartId
     twin_there = record { site = m.to; part = m.part }
 
@@ -301,7 +301,7 @@ module _ {S E D : Type 0} (types : Types S E D) (w : WholeState E D) where
     refused_take X held (call.Full room) s steps is f g = struck_take held (call.Full room) s steps is (ap is_failing f) (λ n. f) g
     refused_take X held (call.Refused why) s steps is f g = not_taken held why steps (subst (λ (x : Step). steps ≡ x ∷ []) f is) g
 
-  module _ (number : ℕ) (at : PartId) (n : Note) (there : kept_at w.post.notes number ≡ Some n) (same : (n.from.site == at.site) ≡ true) where
+  module _ (number : ℕ) (at : PartId) (n : Note) (there : item_at w.post.notes number ≡ Some n) (same : (n.from.site == at.site) ≡ true) where
     noted : (run : Run) (r : ReachedWhole types w run) → IsNote w.live.sites.sites w.live.sites.parts run (entries r.live.calls) number n
     noted run r = subst (λ o. NoteAs w.live.sites.sites w.live.sites.parts run (entries r.live.calls) number o) there (r.post.notes number)
 
@@ -346,7 +346,7 @@ module _ {S E D : Type 0} (types : Types S E D) (w : WholeState E D) where
     hear_refused held (call.Refused why) s steps is has f g = λ line run r. let l = noted run r in absurd (never_refused types w.live.sites held at (AskHear l.own n.from.part n.bounds) why (free_hear types.kinds l.own n.from.part n.bounds) (g l.own) (entries r.live.calls) r.live.sees.reached (may_listen run r))
 
   module _ (number : ℕ) where
-    pub deliver_absent : (steps : List Step) → steps ≡ step.NoMessage ∷ [] → is_some (kept_at w.post.letters number) ≡ false → Applies types (Some w) (command.Deliver number) steps (Some w)
+    pub deliver_absent : (steps : List Step) → steps ≡ step.NoMessage ∷ [] → is_some (item_at w.post.letters number) ≡ false → Applies types (Some w) (command.Deliver number) steps (Some w)
     deliver_absent steps is none = turned_down types w (command.Deliver number) step.NoMessage steps is refl
         (λ run r. first_at (all_met run (command.Deliver number)) 2 (refl, (ap not r.live.has, lacks_mail types w number run r false none)))
         (λ run who. refl)
@@ -356,12 +356,12 @@ module _ {S E D : Type 0} (types : Types S E D) (w : WholeState E D) where
         (λ run r. first_at (all_met run (command.Hear number at)) 2 (refl, (ap not r.live.has, ap not (sym (part_in types w.live run r.live at) ∙ lacks))))
         (λ run who. refl)
 
-    pub hear_absent : (at : PartId) (steps : List Step) → steps ≡ step.NoMessage ∷ [] → holds_part w.live.sites at ≡ true → is_some (kept_at w.post.notes number) ≡ false → Applies types (Some w) (command.Hear number at) steps (Some w)
+    pub hear_absent : (at : PartId) (steps : List Step) → steps ≡ step.NoMessage ∷ [] → holds_part w.live.sites at ≡ true → is_some (item_at w.post.notes number) ≡ false → Applies types (Some w) (command.Hear number at) steps (Some w)
     hear_absent at steps is has none = turned_down types w (command.Hear number at) step.NoMessage steps is refl
         (λ run r. first_at (all_met run (command.Hear number at)) 3 (refl, (ap not r.live.has, (ap not (sym (part_in types w.live run r.live at) ∙ has), lacks_notice types w number run r false none))))
         (λ run who. refl)
 
-    pub hear_foreign : (at : PartId) (n : Note) (steps : List Step) → steps ≡ step.NoPart ∷ [] → holds_part w.live.sites at ≡ true → kept_at w.post.notes number ≡ Some n → (n.from.site == at.site) ≡ false → Applies types (Some w) (command.Hear number at) steps (Some w)
+    pub hear_foreign : (at : PartId) (n : Note) (steps : List Step) → steps ≡ step.NoPart ∷ [] → holds_part w.live.sites at ≡ true → item_at w.post.notes number ≡ Some n → (n.from.site == at.site) ≡ false → Applies types (Some w) (command.Hear number at) steps (Some w)
     hear_foreign at n steps is has there other = turned_down types w (command.Hear number at) step.NoPart steps is refl
         (λ run r. let l : IsNote w.live.sites.sites w.live.sites.parts run (entries r.live.calls) number n = subst (λ o. NoteAs w.live.sites.sites w.live.sites.parts run (entries r.live.calls) number o) there (r.post.notes number) in
         first_at (all_met run (command.Hear number at)) 4 (refl, (ap not r.live.has, (ap not (sym (part_in types w.live run r.live at) ∙ has), (ap is_none l.notice, ap (λ o. is_foreign o at) l.notice ∙ ap not other)))))

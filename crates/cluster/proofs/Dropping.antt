@@ -20,7 +20,7 @@ use Rattle.txn_session.specs.Calls.{entries}
 use Rattle.site_partitions.specs.Reaches.{Types}
 use Rattle.cluster.specs.declared.post.Note.{Note}
 use Rattle.cluster.specs.Built.{is_built}
-use Rattle.cluster.specs.Post.{WholeState, MailAs, NoteAs, kept_at}
+use Rattle.cluster.specs.Post.{WholeState, MailAs, NoteAs, item_at}
 use Rattle.cluster.specs.Reached.{Applies, ReachedWhole}
 use Rattle.cluster.proofs.Keeping.{post_on, letter_at, note_at}
 use Rattle.cluster.proofs.Meets.{all_met, first_at, none_due}
@@ -63,23 +63,23 @@ module _ {S E D : Type 0} (types : Types S E D) (w : WholeState E D) where
       )
 
   module _ (number : ℕ) where
-    pub lacks_mail : (run : Run) → ReachedWhole types w run → (b : Bool) → is_some (kept_at w.post.letters number) ≡ b → is_none (message_of run number) ≡ not b
-    lacks_mail run r b h = lacks_letter w.live.sites.sites w.live.sites.parts run (entries r.live.calls) number (kept_at w.post.letters number) (r.post.mail number) ∙ ap not h
+    pub lacks_mail : (run : Run) → ReachedWhole types w run → (b : Bool) → is_some (item_at w.post.letters number) ≡ b → is_none (message_of run number) ≡ not b
+    lacks_mail run r b h = lacks_letter w.live.sites.sites w.live.sites.parts run (entries r.live.calls) number (item_at w.post.letters number) (r.post.mail number) ∙ ap not h
 
-    pub lacks_notice : (run : Run) → ReachedWhole types w run → (b : Bool) → is_some (kept_at w.post.notes number) ≡ b → is_none (report_of run number) ≡ not b
-    lacks_notice run r b h = lacks_note w.live.sites.sites w.live.sites.parts run (entries r.live.calls) number (kept_at w.post.notes number) (r.post.notes number) ∙ ap not h
+    pub lacks_notice : (run : Run) → ReachedWhole types w run → (b : Bool) → is_some (item_at w.post.notes number) ≡ b → is_none (report_of run number) ≡ not b
+    lacks_notice run r b h = lacks_note w.live.sites.sites w.live.sites.parts run (entries r.live.calls) number (item_at w.post.notes number) (r.post.notes number) ∙ ap not h
 
-    pub message_absent : (steps : List Step) → steps ≡ step.NoMessage ∷ [] → is_some (kept_at w.post.letters number) ≡ false → Applies types (Some w) (command.DropMessage number) steps (Some w)
+    pub message_absent : (steps : List Step) → steps ≡ step.NoMessage ∷ [] → is_some (item_at w.post.letters number) ≡ false → Applies types (Some w) (command.DropMessage number) steps (Some w)
     message_absent steps is none = turned_down (command.DropMessage number) step.NoMessage steps is refl
         (λ run r. first_at (all_met run (command.DropMessage number)) 2 (refl, (ap not r.live.has, lacks_mail run r false none)))
         (λ run who. refl)
 
-    pub report_absent : (steps : List Step) → steps ≡ step.NoMessage ∷ [] → is_some (kept_at w.post.notes number) ≡ false → Applies types (Some w) (command.DropReport number) steps (Some w)
+    pub report_absent : (steps : List Step) → steps ≡ step.NoMessage ∷ [] → is_some (item_at w.post.notes number) ≡ false → Applies types (Some w) (command.DropReport number) steps (Some w)
     report_absent steps is none = turned_down (command.DropReport number) step.NoMessage steps is refl
         (λ run r. first_at (all_met run (command.DropReport number)) 2 (refl, (ap not r.live.has, lacks_notice run r false none)))
         (λ run who. refl)
 
-    pub message_dropped : (letters : List (ℕ × Message E)) (steps : List Step) → steps ≡ step.DroppedMessage number ∷ [] → is_some (kept_at w.post.letters number) ≡ true → ((k : ℕ) → kept_at letters k ≡ (if nat_eq number k then None else kept_at w.post.letters k)) → length letters + 1 ≡ length w.post.letters
+    pub message_dropped : (letters : List (ℕ × Message E)) (steps : List Step) → steps ≡ step.DroppedMessage number ∷ [] → is_some (item_at w.post.letters number) ≡ true → ((k : ℕ) → item_at letters k ≡ (if nat_eq number k then None else item_at w.post.letters k)) → length letters + 1 ≡ length w.post.letters
         → Applies types (Some w) (command.DropMessage number) steps (Some (record { live = w.live; post = record { letters = letters; next_letter = w.post.next_letter; notes = w.post.notes; next_note = w.post.next_note } }))
     message_dropped letters steps is there find count line run r =
         subst (λ l. IsAnswer is_built run (command.DropMessage number) l × ReachedWhole types (record { live = w.live; post = record { letters = letters; next_letter = w.post.next_letter; notes = w.post.notes; next_note = w.post.next_note } }) (answered line (Some (command.DropMessage number)) l run) × ShowFaults types.state run w.live.sites w.live.sites l) (sym is) (
@@ -89,13 +89,13 @@ module _ {S E D : Type 0} (types : Types S E D) (w : WholeState E D) where
             post = record {
               mail = mail;
               made = r.post.made;
-              kept = (let n = r.post.kept in omega (arith, n, count));
+              present = (let n = r.post.present in omega (arith, n, count));
               sent = r.post.sent;
-              notes = λ k. note_at w.live.sites.sites w.live.sites.parts run next (entries r.live.calls) (entries r.live.calls) k (kept_at w.post.notes k) refl (λ own q e h. h) (r.post.notes k);
+              notes = λ k. note_at w.live.sites.sites w.live.sites.parts run next (entries r.live.calls) (entries r.live.calls) k (item_at w.post.notes k) refl (λ own q e h. h) (r.post.notes k);
               reported = r.post.reported;
               noted = r.post.noted;
               told = r.post.told;
-              above = λ k h. find k ∙ none_either (nat_eq number k) (kept_at w.post.letters k) (r.post.above k h);
+              above = λ k h. find k ∙ none_either (nat_eq number k) (item_at w.post.letters k) (r.post.above k h);
               beyond = r.post.beyond;
             };
           },
@@ -105,14 +105,14 @@ module _ {S E D : Type 0} (types : Types S E D) (w : WholeState E D) where
         next : Run
         next = (record { number = line; command = Some (command.DropMessage number); step = step.DroppedMessage number }) ∷ run
 
-        mail : (k : ℕ) → MailAs w.live.sites.sites w.live.sites.parts next (entries r.live.calls) k (kept_at letters k)
+        mail : (k : ℕ) → MailAs w.live.sites.sites w.live.sites.parts next (entries r.live.calls) k (item_at letters k)
         mail k = subst (λ o. MailAs w.live.sites.sites w.live.sites.parts next (entries r.live.calls) k o) (sym (find k)) (by_bool (nat_eq number k) refl)
           where
-            by_bool : (b : Bool) → nat_eq number k ≡ b → MailAs w.live.sites.sites w.live.sites.parts next (entries r.live.calls) k (if b then None else kept_at w.post.letters k)
+            by_bool : (b : Bool) → nat_eq number k ≡ b → MailAs w.live.sites.sites w.live.sites.parts next (entries r.live.calls) k (if b then None else item_at w.post.letters k)
             by_bool true h = cond-true (nat_eq number k) None (message_of run k) h
-            by_bool false h = letter_at w.live.sites.sites w.live.sites.parts run next (entries r.live.calls) (entries r.live.calls) k (kept_at w.post.letters k) (cond-false (nat_eq number k) None (message_of run k) h) (λ own q e x. x) (r.post.mail k)
+            by_bool false h = letter_at w.live.sites.sites w.live.sites.parts run next (entries r.live.calls) (entries r.live.calls) k (item_at w.post.letters k) (cond-false (nat_eq number k) None (message_of run k) h) (λ own q e x. x) (r.post.mail k)
 
-    pub report_dropped : (notes : List (ℕ × Note)) (steps : List Step) → steps ≡ step.DroppedReport number ∷ [] → is_some (kept_at w.post.notes number) ≡ true → ((k : ℕ) → kept_at notes k ≡ (if nat_eq number k then None else kept_at w.post.notes k)) → length notes + 1 ≡ length w.post.notes
+    pub report_dropped : (notes : List (ℕ × Note)) (steps : List Step) → steps ≡ step.DroppedReport number ∷ [] → is_some (item_at w.post.notes number) ≡ true → ((k : ℕ) → item_at notes k ≡ (if nat_eq number k then None else item_at w.post.notes k)) → length notes + 1 ≡ length w.post.notes
         → Applies types (Some w) (command.DropReport number) steps (Some (record { live = w.live; post = record { letters = w.post.letters; next_letter = w.post.next_letter; notes = notes; next_note = w.post.next_note } }))
     report_dropped notes steps is there find count line run r =
         subst (λ l. IsAnswer is_built run (command.DropReport number) l × ReachedWhole types (record { live = w.live; post = record { letters = w.post.letters; next_letter = w.post.next_letter; notes = notes; next_note = w.post.next_note } }) (answered line (Some (command.DropReport number)) l run) × ShowFaults types.state run w.live.sites w.live.sites l) (sym is) (
@@ -120,16 +120,16 @@ module _ {S E D : Type 0} (types : Types S E D) (w : WholeState E D) where
           record {
             live = mere_still types w.live line (Some (command.DropReport number)) (step.DroppedReport number) run (dropped_note number) (λ who. refl) r.live;
             post = record {
-              mail = λ k. letter_at w.live.sites.sites w.live.sites.parts run next (entries r.live.calls) (entries r.live.calls) k (kept_at w.post.letters k) refl (λ own q e h. h) (r.post.mail k);
+              mail = λ k. letter_at w.live.sites.sites w.live.sites.parts run next (entries r.live.calls) (entries r.live.calls) k (item_at w.post.letters k) refl (λ own q e h. h) (r.post.mail k);
               made = r.post.made;
-              kept = r.post.kept;
+              present = r.post.present;
               sent = r.post.sent;
               notes = told;
               reported = r.post.reported;
               noted = (let n = r.post.noted in omega (arith, n, count));
               told = r.post.told;
               above = r.post.above;
-              beyond = λ k h. find k ∙ none_either (nat_eq number k) (kept_at w.post.notes k) (r.post.beyond k h);
+              beyond = λ k h. find k ∙ none_either (nat_eq number k) (item_at w.post.notes k) (r.post.beyond k h);
             };
           },
           (tt, tt),
@@ -138,9 +138,9 @@ module _ {S E D : Type 0} (types : Types S E D) (w : WholeState E D) where
         next : Run
         next = (record { number = line; command = Some (command.DropReport number); step = step.DroppedReport number }) ∷ run
 
-        told : (k : ℕ) → NoteAs w.live.sites.sites w.live.sites.parts next (entries r.live.calls) k (kept_at notes k)
+        told : (k : ℕ) → NoteAs w.live.sites.sites w.live.sites.parts next (entries r.live.calls) k (item_at notes k)
         told k = subst (λ o. NoteAs w.live.sites.sites w.live.sites.parts next (entries r.live.calls) k o) (sym (find k)) (by_bool (nat_eq number k) refl)
           where
-            by_bool : (b : Bool) → nat_eq number k ≡ b → NoteAs w.live.sites.sites w.live.sites.parts next (entries r.live.calls) k (if b then None else kept_at w.post.notes k)
+            by_bool : (b : Bool) → nat_eq number k ≡ b → NoteAs w.live.sites.sites w.live.sites.parts next (entries r.live.calls) k (if b then None else item_at w.post.notes k)
             by_bool true h = cond-true (nat_eq number k) None (report_of run k) h
-            by_bool false h = note_at w.live.sites.sites w.live.sites.parts run next (entries r.live.calls) (entries r.live.calls) k (kept_at w.post.notes k) (cond-false (nat_eq number k) None (report_of run k) h) (λ own q e x. x) (r.post.notes k)
+            by_bool false h = note_at w.live.sites.sites w.live.sites.parts run next (entries r.live.calls) (entries r.live.calls) k (item_at w.post.notes k) (cond-false (nat_eq number k) None (report_of run k) h) (λ own q e x. x) (r.post.notes k)

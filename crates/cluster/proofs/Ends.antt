@@ -26,7 +26,7 @@ use Rattle.world_model.specs.commands.Phases.{Phase, phase_after, by_command, ho
 use Rattle.world_model.specs.rules.Plan.{is_some_update}
 use Rattle.world_model.specs.commands.ScriptCalls.{for_step}
 use Rattle.world_model.proofs.Names.{off}
-use Rattle.txn_session.specs.Session.{Txn, Doing, Idle, Open, Ending, SessionState, can_abort, giving_up, phase_of, stands_at, updates_of, numbers_from, participants}
+use Rattle.txn_session.specs.Session.{Txn, Doing, Idle, Open, Ending, SessionState, can_abort, giving_up, phase_of, is_placed_at, updates_of, numbers_from, participants}
 use Rattle.txn_session.specs.Opens.{told_of, dependency_told, EndsAs, begun_end, given_up_end, next_said, stepped}
 use Rattle.world_model.specs.declared.commit.Next.{Next}
 use Rattle.world_model.specs.declared.commit.Next.TheVariants as next
@@ -89,7 +89,7 @@ can_of false r x k e = let f : r ≡ Err NoTxn = k.1 refl in absurd cc
 module _ {E : Type 0} where
   any_here : (parts n : ℕ) (updates : List (Upd E)) → list_any (λ o. place_of o.bucket o.key parts == n) (map (λ u. u.object) updates) ≡ is_some_update (updates_of parts updates n)
   any_here parts n [] = refl
-  any_here parts n (u ∷ us) = elim (stands_at parts n u) as (λ b. (b || list_any (λ o. place_of o.bucket o.key parts == n) (map (λ x. x.object) us)) ≡ is_some_update (cond b (u ∷ updates_of parts us n) (updates_of parts us n))) [ true ↦ refl | false ↦ any_here parts n us ]
+  any_here parts n (u ∷ us) = elim (is_placed_at parts n u) as (λ b. (b || list_any (λ o. place_of o.bucket o.key parts == n) (map (λ x. x.object) us)) ≡ is_some_update (cond b (u ∷ updates_of parts us n) (updates_of parts us n))) [ true ↦ refl | false ↦ any_here parts n us ]
 
   -- the participants of a transaction, by its updates and by the objects that its lines tell
   pub holders_are : (parts : ℕ) (updates : List (Upd E)) → holders parts (map (λ u. u.object) updates) ≡ participants parts updates

@@ -46,7 +46,7 @@ use Rattle.cluster.proofs.Delivering.{place_of_part}
 use Rattle.cluster.proofs.Downed.{down_abort}
 use Rattle.cluster.proofs.Failing.{spends_of}
 use Rattle.cluster.proofs.Faulted.{same_of, rose_of}
-use Rattle.cluster.proofs.FuelKept.{fueled_idle}
+use Rattle.cluster.proofs.FuelStays.{fueled_idle}
 use Rattle.cluster.proofs.FuelLines.{lets_burn}
 use Rattle.cluster.proofs.FuelWrites.{is_took}
 use Rattle.cluster.proofs.Keeping.{is_postal}

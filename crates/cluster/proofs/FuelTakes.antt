@@ -28,7 +28,7 @@ use Rattle.world_model.proofs.Later.{at_own}
 use Rattle.world_model.proofs.Law.{law_world}
 use Rattle.world_model.proofs.LineChanges.{takes_part_is}
 use Rattle.world_model.proofs.LineCounts.{found_in, some_above, part_above}
-use Rattle.world_model.proofs.LineReading.{history_has}
+use Rattle.world_model.proofs.LineReads.{history_has}
 use Rattle.world_model.proofs.LineViews.{in_history_is, commit_time_is, bound_is}
 use Rattle.cluster.specs.Fuel.{IsBrought, AreBrought}
 

@@ -16,7 +16,7 @@ use Rattle.world_model.proofs.Names.{off}
 use Rattle.txn_session.specs.Calls.{Call, entries}
 use Rattle.crdt_core.specs.declared.record.Message.{Message}
 use Rattle.cluster.specs.declared.post.Note.{Note}
-use Rattle.cluster.specs.Post.{PostState, MailAs, NoteAs, kept_at, HasPost, Grows, KeepsPost}
+use Rattle.cluster.specs.Post.{PostState, MailAs, NoteAs, item_at, HasPost, Grows, KeepsPost}
 
 -- a line that tells of a message or a report that is made or dropped
 abbrev pub is_postal : Step → Bool
@@ -79,13 +79,13 @@ module _ {E : Type 0} where
   -- what is kept stays so
   pub post_on : (sites parts : ℕ) (run next : Run) (calls later : List (Call E)) (p : PostState E) → KeepsPost run next → Grows calls later → HasPost sites parts run (entries calls) p → HasPost sites parts next (entries later) p
   post_on sites parts run next calls later p x g h = record {
-    mail = λ k. letter_at sites parts run next (entries calls) (entries later) k (kept_at p.letters k) (x.message k) g.mail (h.mail k);
+    mail = λ k. letter_at sites parts run next (entries calls) (entries later) k (item_at p.letters k) (x.message k) g.mail (h.mail k);
     made = h.made ∙ ap (λ c. c.made + 1) (sym x.messages);
-    kept = h.kept ∙ ap (λ c. c.kept) (sym x.messages);
+    present = h.present ∙ ap (λ c. c.present) (sym x.messages);
     sent = λ q. x.sent q ∙ (h.sent q ∙ sym (g.sent q));
-    notes = λ k. note_at sites parts run next (entries calls) (entries later) k (kept_at p.notes k) (x.report k) g.note (h.notes k);
+    notes = λ k. note_at sites parts run next (entries calls) (entries later) k (item_at p.notes k) (x.report k) g.note (h.notes k);
     reported = h.reported ∙ ap (λ c. c.made + 1) (sym x.reports);
-    noted = h.noted ∙ ap (λ c. c.kept) (sym x.reports);
+    noted = h.noted ∙ ap (λ c. c.present) (sym x.reports);
     told = λ q. x.told q ∙ (h.told q ∙ sym (g.told q));
     above = h.above;
     beyond = h.beyond;

@@ -37,7 +37,7 @@ use Rattle.cluster.specs.Post.{WholeState}
 use Rattle.cluster.specs.Reached.{IsBefore, Applies, Reached}
 use Rattle.cluster.proofs.Keeping.{post_on, keeps_line, keeps_both}
 use Rattle.cluster.proofs.Meets.{all_met, none_due}
-use Rattle.cluster.proofs.FuelKept.{holds_fuses, unlit_failed, unlit_holds}
+use Rattle.cluster.proofs.FuelStays.{holds_fuses, unlit_failed, unlit_holds}
 use Rattle.cluster.proofs.Mere.{before_still}
 use Rattle.cluster.proofs.Standing.{live_still}
 

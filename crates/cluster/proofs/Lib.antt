@@ -4,7 +4,7 @@ pub mod FuelLines
 pub mod FuelWrites
 pub mod FuelTold
 pub mod FuelCalls
-pub mod FuelKept
+pub mod FuelStays
 pub mod Fusing
 pub mod Faulted
 pub mod Worlds

@@ -17,7 +17,7 @@ use Rattle.disk_core.specs.States.{DiskState}
 use Rattle.site_partitions.specs.Held.{Held}
 use Rattle.cluster.specs.Faults.{ShowsFault, ShowFaults}
 use Rattle.cluster.specs.Reached.{IsBefore}
-use Rattle.cluster.proofs.FuelKept.{IsIdle, unlit_first, unlit_next}
+use Rattle.cluster.proofs.FuelStays.{IsIdle, unlit_first, unlit_next}
 use Rattle.cluster.proofs.FuelLines.{lets_burn}
 use Rattle.cluster.proofs.FuelWrites.{is_took}
 use Rattle.cluster.proofs.Keeping.{is_postal, keeps_line, keeps_none, keeps_both}

@@ -41,7 +41,7 @@ use Rattle.cluster.proofs.Clocks.{site_in}
 use Rattle.cluster.proofs.Meets.{all_met, first_at, none_due, refused, there_as, idle_is, absent, lacks_session, has_session, by_name}
 use Rattle.cluster.specs.Faults.{ShowFaults}
 use Rattle.cluster.proofs.Sessions.{own_name}
-use Rattle.cluster.proofs.FuelKept.{fueled_idle}
+use Rattle.cluster.proofs.FuelStays.{fueled_idle}
 use Rattle.cluster.proofs.Standing.{SameFor, stands_still, idle_fuel}
 
 pub none_of : {A : Type 0} (o : Option A) → is_some o ≡ false → o ≡ None

@@ -28,7 +28,7 @@ use Rattle.cluster.specs.Reached.{ReachedLive}
 use Rattle.cluster.specs.Sees.{Sees, sees_legal}
 use Rattle.cluster.proofs.Doubting.{decided_at}
 use Rattle.cluster.proofs.FuelCalls.{asked_at, asked_call}
-use Rattle.cluster.proofs.FuelKept.{fueled_call}
+use Rattle.cluster.proofs.FuelStays.{fueled_call}
 use Rattle.cluster.proofs.Standing.{SameFor, stands_still}
 use Rattle.cluster.proofs.Turning.{IsSilentFor, asked_lines, has_other_lines, depends_other, holds_other}
 

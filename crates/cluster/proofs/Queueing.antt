@@ -25,9 +25,9 @@ pub all_so_more : (f : TxId → Bool) (front : List (TxId × ℕ)) (y : TxId × 
 all_so_more f [] y h k = (k, tt)
 all_so_more f (x ∷ front) y h k = (h.0, all_so_more f front y h.1 k)
 
-others_kept : (t : TxId) (xs : List (TxId × ℕ)) → AreOther t (names_of xs) → without t xs ≡ xs
-others_kept t [] a = refl
-others_kept t (x ∷ xs) a = cond-true (not (same_tx t x.0)) (x ∷ without t xs) (without t xs) (ap not a.0) ∙ ap (λ l. x ∷ l) (others_kept t xs a.1)
+others_stay : (t : TxId) (xs : List (TxId × ℕ)) → AreOther t (names_of xs) → without t xs ≡ xs
+others_stay t [] a = refl
+others_stay t (x ∷ xs) a = cond-true (not (same_tx t x.0)) (x ∷ without t xs) (without t xs) (ap not a.0) ∙ ap (λ l. x ∷ l) (others_stay t xs a.1)
 
 apart_in : (t : TxId) (front : List (TxId × ℕ)) (y : TxId × ℕ) (todo : List (TxId × ℕ)) → AreOther t (names_of (front ++ y ∷ todo)) → same_tx t y.0 ≡ false
 apart_in t [] y todo a = a.0
@@ -38,7 +38,7 @@ turned t u h = false_from_ne_true (same_tx u t) (λ k. true≢false (sym (ap (λ
 
 -- each stands once, so one that ends leaves all others
 pub without_one : (front : List (TxId × ℕ)) (y : TxId × ℕ) (todo : List (TxId × ℕ)) → AreOnce (names_of (front ++ y ∷ todo)) → without y.0 (front ++ y ∷ todo) ≡ front ++ todo
-without_one [] y todo o = cond-false (not (same_tx y.0 y.0)) (y ∷ without y.0 todo) (without y.0 todo) (ap not (same_tx_refl y.0)) ∙ others_kept y.0 todo o.0
+without_one [] y todo o = cond-false (not (same_tx y.0 y.0)) (y ∷ without y.0 todo) (without y.0 todo) (ap not (same_tx_refl y.0)) ∙ others_stay y.0 todo o.0
 without_one (x ∷ front) y todo o =
     cond-true (not (same_tx y.0 x.0)) (x ∷ without y.0 (front ++ y ∷ todo)) (without y.0 (front ++ y ∷ todo)) (ap not (turned x.0 y.0 (apart_in x.0 front y todo o.0)))
     ∙ ap (λ l. x ∷ l) (without_one front y todo o.1)

@@ -29,7 +29,7 @@ use Rattle.cluster.specs.Faults.{ShowFaults}
 use Rattle.cluster.specs.Sees.{FailedAs}
 use Rattle.site_partitions.specs.Held.{Held, holds_part}
 use Rattle.cluster.specs.Same.{SameCluster, same_refl}
-use Rattle.cluster.specs.Post.{WholeState, HasPost, IsLetter, MailAs, IsNote, NoteAs, kept_at, lacks_way}
+use Rattle.cluster.specs.Post.{WholeState, HasPost, IsLetter, MailAs, IsNote, NoteAs, item_at, lacks_way}
 use Rattle.cluster.specs.Reached.{IsReached, Applies, ReachedWhole}
 use Rattle.site_partitions.specs.Reaches.{MayAsk, Types, Reaches}
 use Rattle.cluster.proofs.Clocks.{site_in, part_in}
@@ -72,11 +72,11 @@ module _ {S E D : Type 0} (types : Types S E D) (w : WholeState E D) where
 
     pub send_full : (steps : List Step) → steps ≡ step.LimitMessages ∷ [] → lacks_way w.live.sites at site ≡ false → (length w.post.letters == 4096) ≡ true → Applies types (Some w) (command.Send at site from) steps (Some w)
     send_full steps is way full = turned_down types w (command.Send at site from) step.LimitMessages steps is refl
-        (λ run r. first_at (all_met run (command.Send at site from)) 3 (refl, (ap not r.live.has, (way_in run r ∙ way, ap (λ n. n == 4096) (sym r.post.kept) ∙ full))))
+        (λ run r. first_at (all_met run (command.Send at site from)) 3 (refl, (ap not r.live.has, (way_in run r ∙ way, ap (λ n. n == 4096) (sym r.post.present) ∙ full))))
         (λ run who. refl)
 
     module _ (held : Held E D) (m : Message E) (letters : List (ℕ × Message E)) (g : GoesOn types w.live.sites held (Asks types w.live.sites Any at (AskMessage site from)) at (AskMessage site from) (λ e. (m.to ≡ site) × (e ≡ Sent from m)))
-        (find : (k : ℕ) → kept_at letters k ≡ (if nat_eq w.post.next_letter k then Some m else kept_at w.post.letters k)) (count : length letters ≡ length w.post.letters + 1) where
+        (find : (k : ℕ) → item_at letters k ≡ (if nat_eq w.post.next_letter k then Some m else item_at w.post.letters k)) (count : length letters ≡ length w.post.letters + 1) where
       abbrev pub after_send : WholeState E D
       after_send = record { live = record { sites = held; sessions = w.live.sessions }; post = record { letters = letters; next_letter = w.post.next_letter + 1; notes = w.post.notes; next_note = w.post.next_note } }
 
@@ -115,24 +115,24 @@ module _ {S E D : Type 0} (types : Types S E D) (w : WholeState E D) where
           other = record { least = subst (λ q. 1 ≤ q.site) from_is home.least_site; most = subst (λ q. q.site ≤ w.live.sites.sites) from_is home.most_site; apart = λ e. way.apart (sym e ∙ sym (ap (λ q. q.site) from_is)) };
         }
 
-        mail : (k : ℕ) → MailAs w.live.sites.sites w.live.sites.parts next later k (kept_at letters k)
+        mail : (k : ℕ) → MailAs w.live.sites.sites w.live.sites.parts next later k (item_at letters k)
         mail k = subst (λ o. MailAs w.live.sites.sites w.live.sites.parts next later k o) (sym (find k)) (by_bool (nat_eq w.post.next_letter k) refl)
           where
-            by_bool : (b : Bool) → nat_eq w.post.next_letter k ≡ b → MailAs w.live.sites.sites w.live.sites.parts next later k (if b then Some m else kept_at w.post.letters k)
+            by_bool : (b : Bool) → nat_eq w.post.next_letter k ≡ b → MailAs w.live.sites.sites w.live.sites.parts next later k (if b then Some m else item_at w.post.letters k)
             by_bool true h = subst (λ n. IsLetter w.live.sites.sites w.live.sites.parts next later n m) (eqb-true w.post.next_letter k h) (fresh (subst (λ n. nat_eq w.post.next_letter n ≡ true) (sym (eqb-true w.post.next_letter k h)) h))
-            by_bool false h = letter_at w.live.sites.sites w.live.sites.parts run next (entries r.live.calls) later k (kept_at w.post.letters k) (cond-false (nat_eq w.post.next_letter k) _ (message_of run k) h) (λ own q e x. inr x) (r.post.mail k)
+            by_bool false h = letter_at w.live.sites.sites w.live.sites.parts run next (entries r.live.calls) later k (item_at w.post.letters k) (cond-false (nat_eq w.post.next_letter k) _ (message_of run k) h) (λ own q e x. inr x) (r.post.mail k)
 
         post : HasPost w.live.sites.sites w.live.sites.parts next later after_send.post
         post = record {
           mail = mail;
           made = ap (λ n. n + 1) r.post.made;
-          kept = count ∙ ap (λ n. n + 1) r.post.kept;
+          present = count ∙ ap (λ n. n + 1) r.post.present;
           sent = λ q. (λ i. if sym (and_true (same_part at q)) i then r.post.sent q i + 1 else r.post.sent q i);
-          notes = λ k. note_at w.live.sites.sites w.live.sites.parts run next (entries r.live.calls) later k (kept_at w.post.notes k) refl (λ own q e x. inr x) (r.post.notes k);
+          notes = λ k. note_at w.live.sites.sites w.live.sites.parts run next (entries r.live.calls) later k (item_at w.post.notes k) refl (λ own q e x. inr x) (r.post.notes k);
           reported = r.post.reported;
           noted = r.post.noted;
           told = λ q. r.post.told q ∙ sym (cond-false (same_part at q && false) _ (event.report_count (entries r.live.calls) q) (none_and (same_part at q) false refl));
-          above = λ k h. find k ∙ (cond-false (nat_eq w.post.next_letter k) (Some m) (kept_at w.post.letters k) (not_next w.post.next_letter k h) ∙ r.post.above k (omega (arith, h)));
+          above = λ k h. find k ∙ (cond-false (nat_eq w.post.next_letter k) (Some m) (item_at w.post.letters k) (not_next w.post.next_letter k h) ∙ r.post.above k (omega (arith, h)));
           beyond = r.post.beyond;
         }
 
@@ -152,7 +152,7 @@ module _ {S E D : Type 0} (types : Types S E D) (w : WholeState E D) where
       sent steps is way room line run r =
           let s : Step = step.Sent w.post.next_letter at site m.lo m.hi (length m.parts) in
           subst (λ steps. IsAnswer is_built run (command.Send at site from) steps × ReachedWhole types after_send (answered line (Some (command.Send at site from)) steps run) × ShowFaults types.state run w.live.sites held steps) (sym is) (
-            subst (AnswersBy run (command.Send at site from) (s ∷ [])) (sym (none_due (all_met run (command.Send at site from)) (refl, (ap not r.live.has, (way_in run r ∙ way, (ap (λ n. n == 4096) (sym r.post.kept) ∙ room, tt)))))) (s, refl, refl, r.post.made),
+            subst (AnswersBy run (command.Send at site from) (s ∷ [])) (sym (none_due (all_met run (command.Send at site from)) (refl, (ap not r.live.has, (way_in run r ∙ way, (ap (λ n. n == 4096) (sym r.post.present) ∙ room, tt)))))) (s, refl, refl, r.post.made),
             whole line run r,
             (tt, tt),
           )
@@ -162,7 +162,7 @@ module _ {S E D : Type 0} (types : Types S E D) (w : WholeState E D) where
         → Applies types (Some w) (command.Send at site from) steps (Some (record { live = record { sites = held; sessions = w.live.sessions }; post = w.post }))
     send_fails held error s steps is failing way room f g line run r =
         struck types w held (command.Send at site from) refl at (AskMessage site from) (λ (m : Message E) e. (m.to ≡ site) × (e ≡ Sent from m)) error s steps is failing f g line run r tt
-        (none_due (all_met run (command.Send at site from)) (refl, (ap not r.live.has, (way_in run r ∙ way, (ap (λ n. n == 4096) (sym r.post.kept) ∙ room, tt)))))
+        (none_due (all_met run (command.Send at site from)) (refl, (ap not r.live.has, (way_in run r ∙ way, (ap (λ n. n == 4096) (sym r.post.present) ∙ room, tt)))))
         refl tt (λ m what k. subst (λ e. call_of (Cut e) ≡ call_asked {E = E} (AskMessage site from)) (sym k.1) (ap (λ n. SendTo n from) k.0)) (λ m what k. subst (λ e. (who : List ℕ) → IsSilentFor (entries r.live.calls) who (Cut e)) (sym k.1) (λ who. tt)) (λ m what k. subst (λ e. step.Disk at ≡ fault_shown at e) (sym k.1) refl)
 
     pub may_send : lacks_way w.live.sites at site ≡ false → IsReached types (Some w) → MayAsk types w.live.sites at (AskMessage site from)
@@ -200,7 +200,7 @@ module _ {S E D : Type 0} (types : Types S E D) (w : WholeState E D) where
         (λ run who. refl)
 
     module _ (b : List ℕ) (notes : List (ℕ × Note)) (g : GoesOn types w.live.sites w.live.sites (Asks types w.live.sites Any at AskReport) at AskReport (λ e. e ≡ Reported b))
-        (find : (k : ℕ) → kept_at notes k ≡ (if nat_eq w.post.next_note k then Some (record { from = at; bounds = b }) else kept_at w.post.notes k)) (count : length notes ≡ length w.post.notes + 1) where
+        (find : (k : ℕ) → item_at notes k ≡ (if nat_eq w.post.next_note k then Some (record { from = at; bounds = b }) else item_at w.post.notes k)) (count : length notes ≡ length w.post.notes + 1) where
       abbrev pub after_report : WholeState E D
       after_report = record { live = w.live; post = record { letters = w.post.letters; next_letter = w.post.next_letter; notes = notes; next_note = w.post.next_note + 1 } }
 
@@ -222,25 +222,25 @@ module _ {S E D : Type 0} (types : Types S E D) (w : WholeState E D) where
           place = reached_told.is_run.2.place;
         }
 
-        told : (k : ℕ) → NoteAs w.live.sites.sites w.live.sites.parts next_told later_told k (kept_at notes k)
+        told : (k : ℕ) → NoteAs w.live.sites.sites w.live.sites.parts next_told later_told k (item_at notes k)
         told k = subst (λ o. NoteAs w.live.sites.sites w.live.sites.parts next_told later_told k o) (sym (find k)) (by_bool (nat_eq w.post.next_note k) refl)
           where
-            by_bool : (c : Bool) → nat_eq w.post.next_note k ≡ c → NoteAs w.live.sites.sites w.live.sites.parts next_told later_told k (if c then Some (record { from = at; bounds = b }) else kept_at w.post.notes k)
+            by_bool : (c : Bool) → nat_eq w.post.next_note k ≡ c → NoteAs w.live.sites.sites w.live.sites.parts next_told later_told k (if c then Some (record { from = at; bounds = b }) else item_at w.post.notes k)
             by_bool true h = subst (λ n. IsNote w.live.sites.sites w.live.sites.parts next_told later_told n (record { from = at; bounds = b })) (eqb-true w.post.next_note k h) (note_made (subst (λ n. nat_eq w.post.next_note n ≡ true) (sym (eqb-true w.post.next_note k h)) h))
-            by_bool false h = note_at w.live.sites.sites w.live.sites.parts run next_told (entries r.live.calls) later_told k (kept_at w.post.notes k) (cond-false (nat_eq w.post.next_note k) _ (report_of run k) h) (λ own q e x. inr x) (r.post.notes k)
+            by_bool false h = note_at w.live.sites.sites w.live.sites.parts run next_told (entries r.live.calls) later_told k (item_at w.post.notes k) (cond-false (nat_eq w.post.next_note k) _ (report_of run k) h) (λ own q e x. inr x) (r.post.notes k)
 
         post_told : HasPost w.live.sites.sites w.live.sites.parts next_told later_told after_report.post
         post_told = record {
-          mail = λ k. letter_at w.live.sites.sites w.live.sites.parts run next_told (entries r.live.calls) later_told k (kept_at w.post.letters k) refl (λ own q e x. inr x) (r.post.mail k);
+          mail = λ k. letter_at w.live.sites.sites w.live.sites.parts run next_told (entries r.live.calls) later_told k (item_at w.post.letters k) refl (λ own q e x. inr x) (r.post.mail k);
           made = r.post.made;
-          kept = r.post.kept;
+          present = r.post.present;
           sent = λ q. r.post.sent q ∙ sym (cond-false (same_part at q && false) _ (event.sent_count (entries r.live.calls) q) (none_and (same_part at q) false refl));
           notes = told;
           reported = ap (λ n. n + 1) r.post.reported;
           noted = count ∙ ap (λ n. n + 1) r.post.noted;
           told = λ q. (λ i. if sym (and_true (same_part at q)) i then r.post.told q i + 1 else r.post.told q i);
           above = r.post.above;
-          beyond = λ k h. find k ∙ (cond-false (nat_eq w.post.next_note k) (Some (record { from = at; bounds = b })) (kept_at w.post.notes k) (not_next w.post.next_note k h) ∙ r.post.beyond k (omega (arith, h)));
+          beyond = λ k h. find k ∙ (cond-false (nat_eq w.post.next_note k) (Some (record { from = at; bounds = b })) (item_at w.post.notes k) (not_next w.post.next_note k h) ∙ r.post.beyond k (omega (arith, h)));
         }
 
         whole_told : ReachedWhole types after_report next_told

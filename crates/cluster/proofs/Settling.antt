@@ -62,7 +62,7 @@ use Rattle.cluster.proofs.Leading.{answered_more}
 use Rattle.cluster.proofs.Meets.{all_met, first_at, none_due, refused}
 use Rattle.cluster.proofs.Queueing.{AllSo, all_so_more, names_of, without_one, first_is, lines_for, settles_all, settles_front, lines_more}
 use Rattle.cluster.proofs.Failing.{spends_of}
-use Rattle.cluster.proofs.FuelKept.{fueled_idle}
+use Rattle.cluster.proofs.FuelStays.{fueled_idle}
 use Rattle.site_partitions.specs.Moves.{Moves}
 use Rattle.partition_core.specs.Moments.{Spends}
 use Rattle.cluster.proofs.Standing.{goes_none, goes_both, goes_quiet}
@@ -110,8 +110,8 @@ module _ (parts : ℕ) (ls : List Line) (p : PartId) (t : TxId) (call : Call) (s
       (λ (h : same_part (lead parts ls u) p ≡ false). ap (λ b. same_part (lead parts ls u) p || b) (untold_same u h))
       (cases_Bool (same_part (lead parts ls u) p))
 
-  pub end_kept : (u : TxId) → stays parts after p u ≡ stays parts ls p u
-  end_kept u = (λ i. same_part (end_leads u i) p || (is_down after (end_leads u i) || pending after (end_leads u i) u)) ∙ waits_same u
+  pub end_lasts : (u : TxId) → stays parts after p u ≡ stays parts ls p u
+  end_lasts u = (λ i. same_part (end_leads u i) p || (is_down after (end_leads u i) || pending after (end_leads u i) u)) ∙ waits_same u
 
   pub end_settled : (u : TxId) → settled parts after p u ≡ settled parts ls p u
   end_settled u =
@@ -153,7 +153,7 @@ module _ {S E D : Type 0} (types : Types S E D) (c : LiveState E D) (p : PartId)
     line = sym (cond-true (stays (parts_of run) (calls_of run) p t) _ _ (f run r h l));
     goes = goes_quiet types c number (Some (command.Settle p)) (step.Pending p t) run (record { called = refl; cluster = refl; sites = λ k. refl; parts = λ k. refl; site = λ who old. refl; count = λ k. refl; phase = λ who. refl }) refl refl refl r;
     same = λ u. refl;
-    kept = λ u. refl;
+    lasting = λ u. refl;
     leads = λ u. refl;
     others = λ u k. refl;
     queue = sym (cond-true (stays (parts_of run) (calls_of run) p t) _ _ (f run r h l));
@@ -254,7 +254,7 @@ module _ {S E D : Type 0} (types : Types S E D) (c : LiveState E D) (p : PartId)
             goes = turned_alone types c run r number (command.Settle p) 0 p (Aborted t false) later same seen refl refl (λ who s. refl) (λ who. tt) tt
                 (fuel_next types c run r number (command.Settle p) 0 p (Aborted t false) later same seen refl refl g.moves (spends_of types c.sites later (AbortsByLead types c.sites p t) p (AskAbort t) (Aborted t false) g (entries r.calls) r.sees.reached (may_drop run r l)));
             same = end_settled (parts_of run) (calls_of run) p t (AbortOf t) (step.Aborted p t) (λ time index u. refl) (λ u. refl) (λ old. refl) (λ u old. refl);
-            kept = end_kept (parts_of run) (calls_of run) p t (AbortOf t) (step.Aborted p t) (λ time index u. refl) (λ u. refl) (λ old. refl) (λ u old. refl);
+            lasting = end_lasts (parts_of run) (calls_of run) p t (AbortOf t) (step.Aborted p t) (λ time index u. refl) (λ u. refl) (λ old. refl) (λ u old. refl);
             leads = end_leads (parts_of run) (calls_of run) p t (AbortOf t) (step.Aborted p t) (λ time index u. refl) (λ u. refl) (λ old. refl) (λ u old. refl);
             others = end_others (parts_of run) (calls_of run) p t (AbortOf t) (step.Aborted p t) (λ time index u. refl) (λ u. refl) (λ old. refl) (λ u old. refl);
             queue = cond-true (same_part p p) (without t (waiting (calls_of run) p)) (waiting (calls_of run) p) (same_part_refl p) ∙ sym (cond-false (stays (parts_of run) (calls_of run) p t) _ _ (aborted_stays run r l));
@@ -317,7 +317,7 @@ module _ {S E D : Type 0} (types : Types S E D) (c : LiveState E D) (p : PartId)
             goes = turned_alone types c run r number (command.Settle p) 0 p (Finished t v) later same seen refl refl (λ who s. refl) (λ who. tt) tt
                 (fuel_next types c run r number (command.Settle p) 0 p (Finished t v) later same seen refl refl g.moves (spends_of types c.sites later (Asks types c.sites Any p (AskFinish t v)) p (AskFinish t v) (Finished t v) g (entries r.calls) r.sees.reached (may_end run r h l, tt)));
             same = end_settled (parts_of run) (calls_of run) p t (FinishOf t) (step.Finished p t) (λ time index u. refl) (λ u. refl) (λ old. refl) (λ u old. refl);
-            kept = end_kept (parts_of run) (calls_of run) p t (FinishOf t) (step.Finished p t) (λ time index u. refl) (λ u. refl) (λ old. refl) (λ u old. refl);
+            lasting = end_lasts (parts_of run) (calls_of run) p t (FinishOf t) (step.Finished p t) (λ time index u. refl) (λ u. refl) (λ old. refl) (λ u old. refl);
             leads = end_leads (parts_of run) (calls_of run) p t (FinishOf t) (step.Finished p t) (λ time index u. refl) (λ u. refl) (λ old. refl) (λ u old. refl);
             others = end_others (parts_of run) (calls_of run) p t (FinishOf t) (step.Finished p t) (λ time index u. refl) (λ u. refl) (λ old. refl) (λ u old. refl);
             queue = cond-true (same_part p p) (without t (waiting (calls_of run) p)) (waiting (calls_of run) p) (same_part_refl p) ∙ sym (cond-false (stays (parts_of run) (calls_of run) p t) _ _ (committed_stays run r l));
@@ -379,7 +379,7 @@ module _ {S E D : Type 0} (types : Types S E D) (old : LiveState E D) (p : PartI
     pub queue : waiting (calls_of later) p ≡ front ++ todo
     pub stay : AllSo (stays (parts_of run) (calls_of run) p) front
     pub same : (u : TxId) → settled (parts_of later) (calls_of later) p u ≡ settled (parts_of run) (calls_of run) p u
-    pub kept : (u : TxId) → stays (parts_of later) (calls_of later) p u ≡ stays (parts_of run) (calls_of run) p u
+    pub lasting : (u : TxId) → stays (parts_of later) (calls_of later) p u ≡ stays (parts_of run) (calls_of run) p u
     pub left : AreLeft (parts_of later) (calls_of later) p rest
 
   pub record IsUnderWay (now : LiveState E D) (rest : List Waiting) (lines : List Step) : Type 0 where
@@ -407,7 +407,7 @@ module _ {S E D : Type 0} (types : Types S E D) (old : LiveState E D) (p : PartI
           queue = refl;
           stay = tt;
           same = λ u. refl;
-          kept = λ u. refl;
+          lasting = λ u. refl;
           left = l.left;
         };
   }
@@ -463,9 +463,9 @@ module _ {S E D : Type 0} (types : Types S E D) (old : LiveState E D) (p : PartI
           written = (λ i. l.written i ++ (y.line ∙ (l.same w.tx ∙ ap (λ t. settled (parts_of run) (calls_of run) p t) (sym first))) i ∷ []) ∙ sym (lines_more (parts_of run) (calls_of run) p l.done z);
           firsts = firsts;
           queue = y.queue ∙ (cond-true (stays (parts_of middle) (calls_of middle) p w.tx) _ _ b ∙ (queue ∙ sym (append_assoc l.front (z ∷ []) todo)));
-          stay = all_so_more (stays (parts_of run) (calls_of run) p) l.front z l.stay (sym (l.kept z.0) ∙ (ap (λ t. stays (parts_of middle) (calls_of middle) p t) first ∙ b));
+          stay = all_so_more (stays (parts_of run) (calls_of run) p) l.front z l.stay (sym (l.lasting z.0) ∙ (ap (λ t. stays (parts_of middle) (calls_of middle) p t) first ∙ b));
           same = λ u. y.same u ∙ l.same u;
-          kept = λ u. y.kept u ∙ l.kept u;
+          lasting = λ u. y.lasting u ∙ l.lasting u;
           left = left_after now new w s number middle l.goes.reached y rest others l.left.2;
         }
         by_stays z todo is first firsts queue single others y false b = record {
@@ -479,7 +479,7 @@ module _ {S E D : Type 0} (types : Types S E D) (old : LiveState E D) (p : PartI
           queue = y.queue ∙ (cond-false (stays (parts_of middle) (calls_of middle) p w.tx) _ _ b ∙ ((λ i. without (sym first i) (queue i)) ∙ without_one l.front z todo single));
           stay = l.stay;
           same = λ u. y.same u ∙ l.same u;
-          kept = λ u. y.kept u ∙ l.kept u;
+          lasting = λ u. y.lasting u ∙ l.lasting u;
           left = left_after now new w s number middle l.goes.reached y rest others l.left.2;
         }
 
@@ -495,12 +495,12 @@ module _ {S E D : Type 0} (types : Types S E D) (old : LiveState E D) (p : PartI
         let queue : waiting (calls_of middle) p ≡ l.front ++ z ∷ todo = l.queue ∙ ap (λ x. l.front ++ x) is in
         let ends : stays (parts_of middle) (calls_of middle) p z.0 ≡ false = ap (λ t. stays (parts_of middle) (calls_of middle) p t) first ∙ y.ends in
         let next : first_end (parts_of middle) (calls_of middle) p (waiting (calls_of middle) p) ≡ ends_as_lead (calls_of middle) w.tx =
-        ap (first_end (parts_of middle) (calls_of middle) p) queue ∙ (first_is (parts_of middle) (calls_of middle) p (stays (parts_of run) (calls_of run) p) l.kept l.front z todo l.stay ends ∙ ap (ends_as_lead (calls_of middle)) first) in
+        ap (first_end (parts_of middle) (calls_of middle) p) queue ∙ (first_is (parts_of middle) (calls_of middle) p (stays (parts_of run) (calls_of run) p) l.lasting l.front z todo l.stay ends ∙ ap (ends_as_lead (calls_of middle)) first) in
         let goes = y.goes next in
         let both = goes_both types old run r now middle l.goes new (settling number p s middle) goes in (
           subst (λ x. SettlesAll (parts_of run) (calls_of run) p x steps_so) (sym (l.whole ∙ ap (λ x. l.done ++ x) is))
               (subst (λ x. SettlesAll (parts_of run) (calls_of run) p (l.done ++ z ∷ todo) (x ++ s ∷ [])) (sym l.written)
-              (settles_front (parts_of run) (calls_of run) p l.done z todo s (sym (l.kept z.0) ∙ ends) y.unwritten)),
+              (settles_front (parts_of run) (calls_of run) p l.done z todo s (sym (l.lasting z.0) ∙ ends) y.unwritten)),
           both,
           show_more types.state run old.sites new.sites lines s (subst (ShowFaults types.state run old.sites new.sites) (sym l.written) (settled_shows types.state run old.sites new.sites p l.done))
               (shows_last types.state run old.sites now.sites new.sites s l.goes.same (unwritten_shows types.state middle run now.sites new.sites s y.unwritten y.tells)),

@@ -20,7 +20,7 @@ use Rattle.cluster.specs.Reached.{StandsAs, ReachedLive, GoesTo}
 use Rattle.cluster.specs.Sees.{Sees}
 use Rattle.cluster.proofs.Keeping.{is_postal, grows_none, grows_both, keeps_line, keeps_none, keeps_both}
 use Rattle.cluster.specs.Fuel.{Fueled}
-use Rattle.cluster.proofs.FuelKept.{IsIdle, fueled_idle}
+use Rattle.cluster.proofs.FuelStays.{IsIdle, fueled_idle}
 use Rattle.cluster.proofs.FuelLines.{lets_burn}
 use Rattle.cluster.proofs.FuelWrites.{is_took}
 use Rattle.cluster.proofs.Mere.{is_mere, IsMere, uncalled, mere, mere_plain, uncalled_idle, mere_idle}

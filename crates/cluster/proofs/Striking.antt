@@ -37,7 +37,7 @@ use Rattle.cluster.proofs.Delivering.{place_of_part}
 use Rattle.cluster.proofs.Faulted.{same_of, rose_of, show_last}
 use Rattle.cluster.proofs.Keeping.{grows_none, keeps_line}
 use Rattle.cluster.proofs.Meets.{all_met, first_at, none_due, refused}
-use Rattle.cluster.proofs.FuelKept.{fueled_crashed, fueled_stopped, fueled_up, fueled_armed, fueled_revived}
+use Rattle.cluster.proofs.FuelStays.{fueled_crashed, fueled_stopped, fueled_up, fueled_armed, fueled_revived}
 use Rattle.cluster.proofs.Standing.{quiet_on}
 use Rattle.cluster.proofs.Turned.{turned_alone}
 use Rattle.cluster.proofs.Turning.{asked_lines}
@@ -59,8 +59,8 @@ module _ {S E D : Type 0} (types : Types S E D) (c : LiveState E D) (p : PartId)
   after later = record { sites = later; sessions = c.sessions }
 
   -- the same sessions over a cluster that reaches all that it had reached
-  kept_live : (later : Held E D) → SameCluster types.state c.sites later → Keeps types c.sites later p → (run : Run) (r : ReachedLive types c run) → Fueled types.state later run (entries r.calls) → ReachedLive types (after later) run
-  kept_live later same keeps run r fuel = record {
+  still_live : (later : Held E D) → SameCluster types.state c.sites later → Keeps types c.sites later p → (run : Run) (r : ReachedLive types c run) → Fueled types.state later run (entries r.calls) → ReachedLive types (after later) run
+  still_live later same keeps run r fuel = record {
     has = r.has;
     sites = same.sites_are ∙ r.sites;
     parts = same.parts_are ∙ r.parts;
@@ -75,7 +75,7 @@ module _ {S E D : Type 0} (types : Types S E D) (c : LiveState E D) (p : PartId)
 
   -- a run that left the cluster, left it so after a fuse was taken away
   pub reached_still : (mid : Held E D) → holds_part c.sites p ≡ true → RevivesAt types c.sites mid p → IsReachedLive types c → IsReachedLive types (after mid)
-  reached_still mid there v x = record { run = x.run; reached = kept_live mid (same_of types.state c.sites mid p v.moves) v.keeps x.run x.reached (fueled_revived types c.sites mid p x.run (entries x.reached.calls) (place_of_part c.sites p there) there v x.reached.fuel) }
+  reached_still mid there v x = record { run = x.run; reached = still_live mid (same_of types.state c.sites mid p v.moves) v.keeps x.run x.reached (fueled_revived types c.sites mid p x.run (entries x.reached.calls) (place_of_part c.sites p there) there v x.reached.fuel) }
 
   pub crash_nowhere : (steps : List Step) → steps ≡ step.NoPart ∷ [] → holds_part c.sites p ≡ false → AppliesLive types c (command.Crash p) steps c
   crash_nowhere steps is lacks = refused types c (command.Crash p) step.NoPart steps is refl
@@ -146,10 +146,10 @@ module _ {S E D : Type 0} (types : Types S E D) (c : LiveState E D) (p : PartId)
 
   -- after a fuse that has fired was taken away
   pub revived : (mid : Held E D) (cmd : Command) (steps : List Step) (new : LiveState E D) → holds_part c.sites p ≡ true → RevivesAt types c.sites mid p → AppliesLive types (after mid) cmd steps new → AppliesLive types c cmd steps new
-  unfolding kept_live
+  unfolding still_live
   revived mid cmd steps new there v a number run r =
       let same = same_of types.state c.sites mid p v.moves in
-      let x = a number run (kept_live mid same v.keeps run r (fueled_revived types c.sites mid p run (entries r.calls) (place_of_part c.sites p there) there v r.fuel)) in (
+      let x = a number run (still_live mid same v.keeps run r (fueled_revived types c.sites mid p run (entries r.calls) (place_of_part c.sites p there) there v r.fuel)) in (
         x.0,
         record { same = same_trans types.state c.sites mid new.sites same x.1.same; reached = x.1.reached; grows = x.1.grows; keeps = x.1.keeps },
         show_last types.state run c.sites mid new.sites steps same x.2,

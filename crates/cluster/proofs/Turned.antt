@@ -36,7 +36,7 @@ use Rattle.cluster.specs.Live.{LiveState, session_in}
 use Rattle.cluster.specs.Reached.{StandsBy, StandsAs, ReachedLive, GoesTo}
 use Rattle.cluster.proofs.Doubting.{decided_at}
 use Rattle.cluster.proofs.FuelCalls.{asked_at, asked_call}
-use Rattle.cluster.proofs.FuelKept.{fueled_spent, fueled_call}
+use Rattle.cluster.proofs.FuelStays.{fueled_spent, fueled_call}
 use Rattle.cluster.proofs.FuelWrites.{is_took}
 use Rattle.cluster.proofs.Keeping.{grows_one, keeps_line, call_plain}
 use Rattle.cluster.specs.Sees.{Sees, sees_legal}

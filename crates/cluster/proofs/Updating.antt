@@ -113,15 +113,15 @@ module _ {E : Type 0} where
     made other a x = absurd cc
 
 -- the answer of a session tells whether its update was refused, but for memory
-module _ {A : Type 0} (Kept : Type 0) (r : Result A SessionError) where
+module _ {A : Type 0} (Upheld : Type 0) (r : Result A SessionError) where
   abbrev Told : Option SessionError → Type 0
-  Told due = MatchOption due (IfErr r (λ e. e ≡ error.NoMemory)) (λ e. (r ≡ Err e) × Kept)
+  Told due = MatchOption due (IfErr r (λ e. e ≡ error.NoMemory)) (λ e. (r ≡ Err e) × Upheld)
 
   pub not_due : (due : Option SessionError) (x : A) → r ≡ Ok x → Told due → due ≡ None
   not_due None x is h = refl
   not_due (Some e) x is h = let k : Err e ≡ Ok x = sym h.0 ∙ is in absurd cc
 
-  is_due : (due : Option SessionError) (why : SessionError) → r ≡ Err why → why ≢ error.NoMemory → Told due → (due ≡ Some why) × Kept
+  is_due : (due : Option SessionError) (why : SessionError) → r ≡ Err why → why ≢ error.NoMemory → Told due → (due ≡ Some why) × Upheld
   is_due None why is fed h = absurd (fed (subst (λ y. IfErr y (λ e. e ≡ error.NoMemory)) is h))
   is_due (Some e) why is fed h = let k : Err e ≡ Err why = sym h.0 ∙ is in let same : e ≡ why = cc in (ap Some same, h.1)
 

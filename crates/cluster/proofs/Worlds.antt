@@ -14,7 +14,7 @@ use Rattle.world_model.specs.rules.World.{IsWorldRun, plan_of}
 use Rattle.world_model.proofs.Fate.{pending_parts}
 use Rattle.world_model.proofs.Fitted.{good_unfit, good_run}
 use Rattle.world_model.proofs.Handing.{IsHome, homes, planned_updates}
-use Rattle.world_model.proofs.Kept.{law_plan}
+use Rattle.world_model.proofs.Upheld.{law_plan}
 use Rattle.world_model.proofs.Law.{plan_fits}
 use Rattle.world_model.proofs.Moves.{image_log}
 use Rattle.world_model.proofs.Whole.{suffix_all, all_fresh, fits}

@@ -47,7 +47,7 @@ module _ {S E D : Type 0} (types : Types S E D) where
     pub line : s ≡ settled (parts_of run) (calls_of run) p t
     pub goes : GoesTo types old run r new (settling number p s run)
     pub same : (u : TxId) → settled (parts_of (settling number p s run)) (calls_of (settling number p s run)) p u ≡ settled (parts_of run) (calls_of run) p u
-    pub kept : (u : TxId) → stays (parts_of (settling number p s run)) (calls_of (settling number p s run)) p u ≡ stays (parts_of run) (calls_of run) p u
+    pub lasting : (u : TxId) → stays (parts_of (settling number p s run)) (calls_of (settling number p s run)) p u ≡ stays (parts_of run) (calls_of run) p u
     pub leads : (u : TxId) → lead (parts_of (settling number p s run)) (calls_of (settling number p s run)) u ≡ lead (parts_of run) (calls_of run) u
     pub others : (u : TxId) → same_tx t u ≡ false → pending (calls_of (settling number p s run)) p u ≡ pending (calls_of run) p u
     pub queue : waiting (calls_of (settling number p s run)) p ≡ (if stays (parts_of run) (calls_of run) p t then waiting (calls_of run) p else without t (waiting (calls_of run) p))

@@ -46,9 +46,9 @@ abbrev pub is_of_site : {E : Type 0} → Option (SessionState E) → PartId → 
 is_of_site None p = false
 is_of_site (Some s) p = s.site == p.site
 
-abbrev pub stands_in : {E : Type 0} → List (List ℕ × SessionState E) → List ℕ → Option PartId → Bool
-stands_in sessions name None = true
-stands_in sessions name (Some p) = is_of_site (session_in sessions name) p
+abbrev pub is_of_own_site : {E : Type 0} → List (List ℕ × SessionState E) → List ℕ → Option PartId → Bool
+is_of_own_site sessions name None = true
+is_of_own_site sessions name (Some p) = is_of_site (session_in sessions name) p
 
 abbrev pub number_of : Option PartId → ℕ
 number_of None = 1

@@ -22,8 +22,8 @@ pub record PostState (E : Type 0) : Type 0 where
   pub next_note : ℕ
 
 -- what is kept under a number
-abbrev pub kept_at : {A : Type 0} → List (ℕ × A) → ℕ → Option A
-kept_at kept k = lookup (nat_eq k) kept
+abbrev pub item_at : {A : Type 0} → List (ℕ × A) → ℕ → Option A
+item_at present k = lookup (nat_eq k) present
 
 -- nothing is kept, and numbers begin at 1
 abbrev pub new_post : {E : Type 0} → PostState E
@@ -65,17 +65,17 @@ module _ {E : Type 0} where
 
   -- what is kept is what the run kept, and partitions counted as the run does
   pub record HasPost (sites parts : ℕ) (run : Run) (events : List (Entry E)) (p : PostState E) : Type 0 where
-    pub mail : (k : ℕ) → MailAs sites parts run events k (kept_at p.letters k)
+    pub mail : (k : ℕ) → MailAs sites parts run events k (item_at p.letters k)
     pub made : p.next_letter ≡ (messages run).made + 1
-    pub kept : length p.letters ≡ (messages run).kept
+    pub present : length p.letters ≡ (messages run).present
     pub sent : (q : PartId) → script.sent_count run q ≡ event.sent_count events q
-    pub notes : (k : ℕ) → NoteAs sites parts run events k (kept_at p.notes k)
+    pub notes : (k : ℕ) → NoteAs sites parts run events k (item_at p.notes k)
     pub reported : p.next_note ≡ (reports run).made + 1
-    pub noted : length p.notes ≡ (reports run).kept
+    pub noted : length p.notes ≡ (reports run).present
     pub told : (q : PartId) → script.report_count run q ≡ event.report_count events q
     -- and no number was given yet that is to come
-    pub above : (k : ℕ) → p.next_letter ≤ k → kept_at p.letters k ≡ None
-    pub beyond : (k : ℕ) → p.next_note ≤ k → kept_at p.notes k ≡ None
+    pub above : (k : ℕ) → p.next_letter ≤ k → item_at p.letters k ≡ None
+    pub beyond : (k : ℕ) → p.next_note ≤ k → item_at p.notes k ≡ None
 
   -- later calls sent no message and made no report
   pub record Grows (old new : List (Call E)) : Type 0 where

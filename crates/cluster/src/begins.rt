@@ -4,7 +4,7 @@ ghost use Rattle.site_partitions.specs.Reaches.{types_of};
 ghost use Rattle.cluster.specs.Acts.{Acts, Begins, Moves};
 ghost use Rattle.txn_session.specs.Session.{SessionState};
 ghost use Rattle.cluster.specs.Same.{holds_place};
-ghost use Rattle.cluster.specs.Live.{phase_in, are_idle, session_in, stands_in, number_of};
+ghost use Rattle.cluster.specs.Live.{phase_in, are_idle, session_in, is_of_own_site, number_of};
 ghost use Rattle.cluster.specs.Reached.{AppliesLive, IsReachedLive};
 
 use crate::cluster::only;
@@ -98,7 +98,7 @@ impl<C: Crdt, D: Disk + Drop> Live<C, D> {
         let Some(phase) = self.phase(name) else {
             return only(self.alloc, Step::NoSession);
         };
-        if !self.stands_at(name, part) {
+        if !self.is_of_own_site(name, part) {
             return only(self.alloc, Step::NoPart);
         }
         if !is_idle(phase) {
@@ -127,8 +127,8 @@ impl<C: Crdt, D: Disk + Drop> Live<C, D> {
     }
 
     /// Whether the partition, if one is named, is of the session's site.
-    fn stands_at(&self, name: &Text, part: Option<PartId>) -> bool
-        ensures { result ≡ stands_in self.now.sessions name.now part }
+    fn is_of_own_site(&self, name: &Text, part: Option<PartId>) -> bool
+        ensures { result ≡ is_of_own_site self.now.sessions name.now part }
     {
         match part {
             Some(part) => match self.sessions.get(name) {

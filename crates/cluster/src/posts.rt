@@ -1,7 +1,7 @@
 ghost use Rattle.std.specs.Prelude.{◌≡◌, ◌+◌, ℕ, true, Some, None, IfOk, OnOk, if◌then◌else◌, is_some, length, nat_eq};
 ghost use Rattle.site_partitions.specs.Reaches.{types_of};
 ghost use Rattle.cluster.specs.Built.{is_of_post};
-ghost use Rattle.cluster.specs.Post.{kept_at, lacks_way};
+ghost use Rattle.cluster.specs.Post.{item_at, lacks_way};
 ghost use Rattle.cluster.specs.Reached.{Applies, IsReached};
 
 use crate::cluster::only;
@@ -16,7 +16,7 @@ use std::alloc::AllocError;
 use world_model::{Command, Step};
 
 /// The most messages that are kept at one time, and the most reports.
-const MOST_KEPT: usize = 4096;
+const MOST_IN_POST: usize = 4096;
 
 impl<C: Crdt, D: Disk + Drop> Running<C, D> {
     /// The lines that answer a command of messages or reports.
@@ -58,7 +58,7 @@ impl<C: Crdt, D: Disk + Drop> Running<C, D> {
         if self.lacks_way(part, site) {
             return only(self.alloc, Step::NoPart);
         }
-        if self.letters.len() == MOST_KEPT {
+        if self.letters.len() == MOST_IN_POST {
             return only(self.alloc, Step::LimitMessages);
         }
         let number = self.next_letter;
@@ -128,7 +128,7 @@ impl<C: Crdt, D: Disk + Drop> Running<C, D> {
         if !self.live.has_part(part) {
             return only(self.alloc, Step::NoPart);
         }
-        if self.notes.len() == MOST_KEPT {
+        if self.notes.len() == MOST_IN_POST {
             return only(self.alloc, Step::LimitReports);
         }
         let number = self.next_note;
@@ -224,8 +224,8 @@ fn keep_message<E: Drop>(
     number: u64,
     message: Message<E>,
 ) -> Result<(), AllocError>
-    requires { kept_at letters.old.entries number ≡ None }
-    ensures find { OnOk result ((k : ℕ) → kept_at letters.new.entries k ≡ (if nat_eq number k then Some message else kept_at letters.old.entries k)) }
+    requires { item_at letters.old.entries number ≡ None }
+    ensures find { OnOk result ((k : ℕ) → item_at letters.new.entries k ≡ (if nat_eq number k then Some message else item_at letters.old.entries k)) }
     ensures count { OnOk result (length letters.new.entries ≡ length letters.old.entries + 1) }
 {
     letters.insert(number, message)?;
@@ -234,8 +234,8 @@ fn keep_message<E: Drop>(
 
 /// Keeps a report under a number that is new.
 fn keep_report(notes: &mut IndexMap<u64, Note>, number: u64, note: Note) -> Result<(), AllocError>
-    requires { kept_at notes.old.entries number ≡ None }
-    ensures find { OnOk result ((k : ℕ) → kept_at notes.new.entries k ≡ (if nat_eq number k then Some note else kept_at notes.old.entries k)) }
+    requires { item_at notes.old.entries number ≡ None }
+    ensures find { OnOk result ((k : ℕ) → item_at notes.new.entries k ≡ (if nat_eq number k then Some note else item_at notes.old.entries k)) }
     ensures count { OnOk result (length notes.new.entries ≡ length notes.old.entries + 1) }
 {
     notes.insert(number, note)?;
@@ -244,8 +244,8 @@ fn keep_report(notes: &mut IndexMap<u64, Note>, number: u64, note: Note) -> Resu
 
 /// Forgets a message that is there.
 fn forget_message<E: Drop>(letters: &mut IndexMap<u64, Message<E>>, number: u64)
-    requires { is_some (kept_at letters.old.entries number) ≡ true }
-    ensures find { (k : ℕ) → kept_at letters.new.entries k ≡ (if nat_eq number k then None else kept_at letters.old.entries k) }
+    requires { is_some (item_at letters.old.entries number) ≡ true }
+    ensures find { (k : ℕ) → item_at letters.new.entries k ≡ (if nat_eq number k then None else item_at letters.old.entries k) }
     ensures count { length letters.new.entries + 1 ≡ length letters.old.entries }
 {
     let _ = letters.swap_remove(&number);
@@ -253,8 +253,8 @@ fn forget_message<E: Drop>(letters: &mut IndexMap<u64, Message<E>>, number: u64)
 
 /// Forgets a report that is there.
 fn forget_report(notes: &mut IndexMap<u64, Note>, number: u64)
-    requires { is_some (kept_at notes.old.entries number) ≡ true }
-    ensures find { (k : ℕ) → kept_at notes.new.entries k ≡ (if nat_eq number k then None else kept_at notes.old.entries k) }
+    requires { is_some (item_at notes.old.entries number) ≡ true }
+    ensures find { (k : ℕ) → item_at notes.new.entries k ≡ (if nat_eq number k then None else item_at notes.old.entries k) }
     ensures count { length notes.new.entries + 1 ≡ length notes.old.entries }
 {
     let _ = notes.swap_remove(&number);

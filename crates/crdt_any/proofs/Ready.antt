@@ -18,8 +18,8 @@ use Rattle.crdt_any.specs.SimpleLaws.{simple_law}
 use Rattle.crdt_any.specs.Layer.{layer_made, layer_holds, simple_state}
 use Rattle.crdt_any.specs.LayerForm.{layer_is_of}
 
-pub spelled_part : {S R : Type 0} (holds : S → Dot → Bool) (part : R → Dot → Bool) (s : S) (o p : Option R) (start : R) → ((d : Dot) → part (unwrap_or p start) d ≡ true → holds s d ≡ true) → o ≡ p → HoldsSpelled holds s → HoldsSpelled part (unwrap_or o start)
-spelled_part holds part s o p start inside e h d k = h d (inside d (sym (ap (λ q. part (unwrap_or q start) d) e) ∙ k))
+pub inner_spelled : {S R : Type 0} (holds : S → Dot → Bool) (part : R → Dot → Bool) (s : S) (o p : Option R) (start : R) → ((d : Dot) → part (unwrap_or p start) d ≡ true → holds s d ≡ true) → o ≡ p → HoldsSpelled holds s → HoldsSpelled part (unwrap_or o start)
+inner_spelled holds part s o p start inside e h d k = h d (inside d (sym (ap (λ q. part (unwrap_or q start) d) e) ∙ k))
 
 -- of a kind without fields
 pub holds_simple : {S : Type 0} (holds : S → Dot → Bool) (k : Kind) → simple_has k ≡ true → (s : LayerState S) (d : Dot) → simple_holds (unwrap_or (simple_state s) (simple_initial k)) d ≡ true → layer_holds holds s d ≡ true

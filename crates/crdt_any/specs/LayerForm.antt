@@ -99,4 +99,4 @@ module _ {E : Type 0} (has : Kind → Bool) (is_of : Kind → E → Bool) {can_p
   layer_both (effect.MapRr e) d can = named (map_named has is_of inner true) e d can
 
   pub layer_named : NamesAreSpelled (layer_can_put has is_of can_put spelling) (layer_names has names) (layer_sets sets) (layer_spelling spelling)
-  layer_named = record { exact = λ e d can. (layer_both e d can).0; stands = λ e d can. (layer_both e d can).1 }
+  layer_named = record { exact = λ e d can. (layer_both e d can).0; lies = λ e d can. (layer_both e d can).1 }

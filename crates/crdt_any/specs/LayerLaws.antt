@@ -11,7 +11,7 @@ use Rattle.crdt_core.specs.declared.object.Field.{Field}
 use Rattle.crdt_core.specs.declared.operation.Act.{Act}
 use Rattle.crdt_core.specs.declared.operation.Act.TheVariants as act
 use Rattle.crdt_core.specs.declared.value.Value.{Value}
-use Rattle.crdt_core.specs.Fits.{stands_in, is_map}
+use Rattle.crdt_core.specs.Fits.{nests_in, is_map}
 use Rattle.crdt_core.specs.Seen.{Update}
 use Rattle.crdt_core.specs.History.{IsHistory, state_after}
 use Rattle.crdt_core.specs.Law.{KeepsSteps, KeepsLaw, made_by, all_fit}
@@ -28,7 +28,7 @@ use Rattle.crdt_any.specs.declared.effect.LayerEffect.TheVariants as effect
 use Rattle.crdt_any.specs.Simple.{simple_initial, simple_step, simple_holds}
 use Rattle.crdt_any.specs.SimpleLaws.{simple_law, simple_in_maps, simple_resets}
 use Rattle.crdt_any.specs.Layer.{layer_has, layer_too_deep, layer_initial, layer_step, layer_made, layer_value, layer_stamp, layer_meaning, layer_names, layer_holds, layer_blank, simple_state, simple_effect, map_go_state, map_go_effect, map_rr_state, map_rr_effect}
-use Rattle.crdt_any.specs.Parts.{LawAt, part_law, part_left, moved_held}
+use Rattle.crdt_any.specs.Wrapped.{LawAt, inner_law, inner_left, moved_held}
 
 module _ {S E : Type 0} {has : Kind → Bool} {too_deep : Kind → List Field → Bool} {initial : Kind → S} {step : S → Dot → E → S} {made : Kind → S → List Field → Act → ℕ → E} {value_of : S → Value} {stamp_of : E → Option ℕ} {meaning : Kind → List Update → Value} {names : E → Dot → Bool} {holds : S → Dot → Bool} {is_blank : S → Bool} (inner : KeepsLaw has too_deep initial step made value_of stamp_of meaning names holds) (owed : KeepsInMaps has too_deep initial step made is_blank) where
   abbrev moves : LayerState S → Dot → LayerEffect E → LayerState S
@@ -61,9 +61,9 @@ module _ {S E : Type 0} {has : Kind → Bool} {too_deep : Kind → List Field �
   holds_as k s d = as_one (λ t. layer_holds holds t d ≡ true → layer_holds holds s d ≡ true) k s (λ h. h) (λ h. absurd (true≢false (sym h ∙ none_at k d)))
 
   at : (k : Kind) → LawAt k (λ p. layer_too_deep has too_deep k p) (layer_initial {S = S} k) moves (makes k) (layer_value value_of) (layer_stamp stamp_of) (layer_meaning has meaning k) (layer_names has names) (layer_holds holds)
-  at kinds.MapGo = part_law (map_law inner owed false) kinds.MapGo refl state.MapGo effect.MapGo (λ s. unwrap_or (map_go_state s) empty) moves (makes kinds.MapGo) (layer_value value_of) (layer_stamp stamp_of) (layer_names has names) (layer_holds holds) (λ _ _ _. refl) (λ _ _ _ _. refl) (λ _ _ _ _. refl) (λ _. refl) (λ _. refl) (λ _ _. refl) (λ _ _. refl) (holds_as kinds.MapGo)
-  at kinds.MapRr = part_law (map_law inner owed true) kinds.MapRr refl state.MapRr effect.MapRr (λ s. unwrap_or (map_rr_state s) empty) moves (makes kinds.MapRr) (layer_value value_of) (layer_stamp stamp_of) (layer_names has names) (layer_holds holds) (λ _ _ _. refl) (λ _ _ _ _. refl) (λ _ _ _ _. refl) (λ _. refl) (λ _. refl) (λ _ _. refl) (λ _ _. refl) (holds_as kinds.MapRr)
-  at k = part_law simple_law k refl state.Simple effect.Simple (λ s. unwrap_or (simple_state s) (simple_initial k)) moves (makes k) (layer_value value_of) (layer_stamp stamp_of) (layer_names has names) (layer_holds holds) (λ _ _ _. refl) (λ _ _ _ _. refl) (λ _ _ _ _. refl) (λ _. refl) (λ _. refl) (λ _ _. refl) (λ _ _. refl) (holds_as k)
+  at kinds.MapGo = inner_law (map_law inner owed false) kinds.MapGo refl state.MapGo effect.MapGo (λ s. unwrap_or (map_go_state s) empty) moves (makes kinds.MapGo) (layer_value value_of) (layer_stamp stamp_of) (layer_names has names) (layer_holds holds) (λ _ _ _. refl) (λ _ _ _ _. refl) (λ _ _ _ _. refl) (λ _. refl) (λ _. refl) (λ _ _. refl) (λ _ _. refl) (holds_as kinds.MapGo)
+  at kinds.MapRr = inner_law (map_law inner owed true) kinds.MapRr refl state.MapRr effect.MapRr (λ s. unwrap_or (map_rr_state s) empty) moves (makes kinds.MapRr) (layer_value value_of) (layer_stamp stamp_of) (layer_names has names) (layer_holds holds) (λ _ _ _. refl) (λ _ _ _ _. refl) (λ _ _ _ _. refl) (λ _. refl) (λ _. refl) (λ _ _. refl) (λ _ _. refl) (holds_as kinds.MapRr)
+  at k = inner_law simple_law k refl state.Simple effect.Simple (λ s. unwrap_or (simple_state s) (simple_initial k)) moves (makes k) (layer_value value_of) (layer_stamp stamp_of) (layer_names has names) (layer_holds holds) (λ _ _ _. refl) (λ _ _ _ _. refl) (λ _ _ _ _. refl) (λ _. refl) (λ _. refl) (λ _ _. refl) (λ _ _. refl) (holds_as k)
 
   -- an effect changes only a state of its own case
   swaps_at : (s : LayerState S) (a b : LayerEffect E) (d e : Dot) → same_dot d e ≡ false → layer_names has names a e ≡ false → layer_names has names b d ≡ false → moves (moves s d a) e b ≡ moves (moves s e b) d a
@@ -88,7 +88,7 @@ module _ {S E : Type 0} {has : Kind → Bool} {too_deep : Kind → List Field �
     orderless = λ k us vs is. (at k).orderless us vs;
     unread = λ k s t p a n is. (at k).unread s t p a n;
     steps = λ k is. layer_steps k;
-    kept = λ k us d is. (at k).kept us d;
+    nameable = λ k us d is. (at k).nameable us d;
   }
 
   first_at : (k : Kind) → layer_blank is_blank (layer_initial {S = S} k) ≡ true
@@ -99,12 +99,12 @@ module _ {S E : Type 0} {has : Kind → Bool} {too_deep : Kind → List Field �
   blank_as : (k : Kind) (s : LayerState S) → layer_blank is_blank s ≡ true → layer_blank is_blank (as_kind k s) ≡ true
   blank_as k s h = as_one (λ t. layer_blank is_blank t ≡ true) k s h (first_at k)
 
-  undoes_at : (k : Kind) (s t : LayerState S) (d : Dot) (n : ℕ) → stands_in kinds.MapRr k ≡ true → layer_blank is_blank s ≡ true → moves t d (makes k s [] act.Reset n) ≡ t
-  undoes_at kinds.MapGo s t d n stands h = absurd (true≢false (sym stands))
-  undoes_at kinds.MapRr s (state.MapRr t) d n stands h = ap state.MapRr ((map_in_maps inner owed true).undoes_none kinds.MapRr (unwrap_or (map_rr_state s) empty) t d n refl stands (blank_as kinds.MapRr s h))
-  undoes_at kinds.MapRr s _ d n stands h = refl
-  undoes_at k s (state.Simple t) d n stands h = ap state.Simple (simple_in_maps.undoes_none k (unwrap_or (simple_state s) (simple_initial k)) t d n refl stands (blank_as k s h))
-  undoes_at k s _ d n stands h = refl
+  undoes_at : (k : Kind) (s t : LayerState S) (d : Dot) (n : ℕ) → nests_in kinds.MapRr k ≡ true → layer_blank is_blank s ≡ true → moves t d (makes k s [] act.Reset n) ≡ t
+  undoes_at kinds.MapGo s t d n nests h = absurd (true≢false (sym nests))
+  undoes_at kinds.MapRr s (state.MapRr t) d n nests h = ap state.MapRr ((map_in_maps inner owed true).undoes_none kinds.MapRr (unwrap_or (map_rr_state s) empty) t d n refl nests (blank_as kinds.MapRr s h))
+  undoes_at kinds.MapRr s _ d n nests h = refl
+  undoes_at k s (state.Simple t) d n nests h = ap state.Simple (simple_in_maps.undoes_none k (unwrap_or (simple_state s) (simple_initial k)) t d n refl nests (blank_as k s h))
+  undoes_at k s _ d n nests h = refl
 
   shallow_at : (k : Kind) → layer_too_deep has too_deep k [] ≡ false
   shallow_at kinds.MapGo = refl
@@ -123,15 +123,15 @@ module _ {S E : Type 0} {has : Kind → Bool} {too_deep : Kind → List Field �
     abbrev after : Kind → List Update → LayerState S
     after k us = state_after (layer_initial {S = S} k) moves (made_by makes k) us
 
-    none_left_at : (k : Kind) (s : LayerState S) (n : ℕ) (d : Dot) → stands_in kinds.MapRr k ≡ true → layer_blank is_blank s ≡ true → layer_names has names (makes k s [] act.Reset n) d ≡ false
+    none_left_at : (k : Kind) (s : LayerState S) (n : ℕ) (d : Dot) → nests_in kinds.MapRr k ≡ true → layer_blank is_blank s ≡ true → layer_names has names (makes k s [] act.Reset n) d ≡ false
     none_left_at kinds.MapRr s n d resets h = (map_resets inner owed fields true).none_left kinds.MapRr (unwrap_or (map_rr_state s) empty) n d refl resets (blank_as kinds.MapRr s h)
     none_left_at kinds.MapGo s n d resets h = absurd (true≢false (sym resets))
     none_left_at k s n d resets h = simple_resets.none_left k (unwrap_or (simple_state s) (simple_initial k)) n d refl resets (blank_as k s h)
 
-    some_left_at : (k : Kind) (us : List Update) (n : ℕ) → stands_in kinds.MapRr k ≡ true → IsHistory us → all_fit (layer_too_deep has too_deep) k us ≡ true → layer_blank is_blank (after k us) ≡ false → (d : Dot) × (layer_names has names (makes k (after k us) [] act.Reset n) d ≡ true)
-    some_left_at kinds.MapRr us n resets h fit left = part_left (map_resets inner owed fields true) kinds.MapRr refl state.MapRr effect.MapRr moves makes (layer_blank is_blank) (layer_names has names) (λ _ _ _. refl) (λ _ _ _ _. refl) (λ _. refl) (λ _ _. refl) us n resets h fit left
+    some_left_at : (k : Kind) (us : List Update) (n : ℕ) → nests_in kinds.MapRr k ≡ true → IsHistory us → all_fit (layer_too_deep has too_deep) k us ≡ true → layer_blank is_blank (after k us) ≡ false → (d : Dot) × (layer_names has names (makes k (after k us) [] act.Reset n) d ≡ true)
+    some_left_at kinds.MapRr us n resets h fit left = inner_left (map_resets inner owed fields true) kinds.MapRr refl state.MapRr effect.MapRr moves makes (layer_blank is_blank) (layer_names has names) (λ _ _ _. refl) (λ _ _ _ _. refl) (λ _. refl) (λ _ _. refl) us n resets h fit left
     some_left_at kinds.MapGo us n resets h fit left = absurd (true≢false (sym resets))
-    some_left_at k us n resets h fit left = part_left simple_resets k refl state.Simple effect.Simple moves makes (layer_blank is_blank) (layer_names has names) (λ _ _ _. refl) (λ _ _ _ _. refl) (λ _. refl) (λ _ _. refl) us n resets h fit left
+    some_left_at k us n resets h fit left = inner_left simple_resets k refl state.Simple effect.Simple moves makes (layer_blank is_blank) (layer_names has names) (λ _ _ _. refl) (λ _ _ _ _. refl) (λ _. refl) (λ _ _. refl) us n resets h fit left
 
     pub layer_resets : ResetsWhatIsLeft layer_has (layer_too_deep has too_deep) (layer_initial {S = S}) (layer_step has initial step) (layer_made has initial made is_blank) (layer_blank is_blank) (layer_names has names)
     layer_resets = record { none_left = λ k s n d is. none_left_at k s n d; some_left = λ k us n is. some_left_at k us n }

@@ -3,7 +3,7 @@ pub mod Layer
 pub mod LayerForm
 pub mod LayerLaws
 pub mod NothingLaws
-pub mod Parts
+pub mod Wrapped
 pub mod Meanings
 pub mod Simple
 pub mod SimpleForm

@@ -18,7 +18,7 @@ nothing_law = record {
   orderless = λ k us vs has. absurd (false≢true has);
   unread = λ k s t p a n has. absurd (false≢true has);
   steps = λ k has. absurd (false≢true has);
-  kept = λ k us d has. absurd (false≢true has);
+  nameable = λ k us d has. absurd (false≢true has);
 }
 
 pub nothing_in_maps : KeepsInMaps {S = Unit {0}} {E = Unit {0}} (λ k. false) (λ k p. false) (λ k. tt) (λ s d e. tt) (λ k s p a n. tt) (λ s. true)
@@ -36,7 +36,7 @@ nothing_resets = record {
 }
 
 abbrev pub nothing_spells : SpellsEffects {E = Unit {0}} (λ k. false) (λ k e. true) (λ e. true) (λ e. true) (λ e. []) (λ e. []) (λ e. []) (λ k bytes at. Err (Bad at))
-nothing_spells = record { form = λ k has. absurd (false≢true has); all = λ e. record { shown = λ can kept short. refl } }
+nothing_spells = record { form = λ k has. absurd (false≢true has); all = λ e. record { shown = λ can held short. refl } }
 
 pub nothing_named : NamesAreSpelled {E = Unit {0}} (λ e. true) (λ e d. false) (λ e. []) (λ e. [])
-nothing_named = record { exact = λ e d can. refl; stands = λ e d can h. absurd (false≢true h) }
+nothing_named = record { exact = λ e d can. refl; lies = λ e d can h. absurd (false≢true h) }

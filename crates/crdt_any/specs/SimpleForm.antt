@@ -16,13 +16,13 @@ use Rattle.crdt_meanings.specs.declared.flags.FlagEffect.{FlagEffect}
 use Rattle.crdt_meanings.specs.declared.registers.Assigned.{Assigned}
 use Rattle.crdt_meanings.specs.declared.registers.MvEffect.{MvEffect}
 use Rattle.crdt_core.specs.EffectForm.{sets_ascend, Spells, SpellsEffects}
-use Rattle.crdt_core.specs.NamedDots.{IsPartOf, have_update, NamesAreSpelled}
+use Rattle.crdt_core.specs.NamedDots.{LiesIn, have_update, NamesAreSpelled}
 use Rattle.crdt_meanings.specs.CounterPn.{pn_has}
 use Rattle.crdt_meanings.specs.CounterFat.{fat_has}
 use Rattle.crdt_counters.specs.EffectForm.{is_amount_number, amount_sets, amount_spelling, amount_at, pn_spells, can_put_fat, fat_sets, is_fat_spelled, fat_spelling, fat_at, fat_spells, pn_named, fat_named}
 use Rattle.crdt_meanings.specs.SetGo as set
 use Rattle.crdt_meanings.specs.Sets.{set_has}
-use Rattle.crdt_sets.specs.EffectForm.{can_put_texts, are_texts_spelled, texts_spelling, texts_at, texts_sets, set_sets, set_texts, go_spells as set_go_spells, can_put_set, is_set_spelled, set_spelling, set_at, set_spells, go_named as set_go_stands, set_named}
+use Rattle.crdt_sets.specs.EffectForm.{can_put_texts, are_texts_spelled, texts_spelling, texts_at, texts_sets, set_sets, set_texts, go_spells as set_go_spells, can_put_set, is_set_spelled, set_spelling, set_at, set_spells, go_named as set_go_lies, set_named}
 use Rattle.crdt_meanings.specs.Flags as flags
 use Rattle.crdt_flags.specs.EffectForm.{can_put_flag, flag_sets, is_flag_spelled, flag_spelling, flag_at, flag_spells, flag_named}
 use Rattle.crdt_meanings.specs.RegisterLww.{lww_has}
@@ -164,10 +164,10 @@ form_at _ is = absurd (false≢true is)
 
 -- both of one effect
 abbrev pub Named : {F : Type 0} → (F → Dot → Bool) → (F → List (List Dot)) → (F → List ℕ) → F → Dot → Type 0
-Named names_of sets_of spelled e d = (names_of e d ≡ have_update (sets_of e) d) × (names_of e d ≡ true → IsPartOf d (spelled e))
+Named names_of sets_of spelled e d = (names_of e d ≡ have_update (sets_of e) d) × (names_of e d ≡ true → LiesIn d (spelled e))
 
 pub named : {F : Type 0} {fits : F → Bool} {names_of : F → Dot → Bool} {sets_of : F → List (List Dot)} {spelled : F → List ℕ} → NamesAreSpelled fits names_of sets_of spelled → (e : F) (d : Dot) → fits e ≡ true → Named names_of sets_of spelled e d
-named s e d can = (s.exact e d can, s.stands e d can)
+named s e d can = (s.exact e d can, s.lies e d can)
 
 -- what can be put has a spelling, and names exactly the updates that stand there
 abbrev Told : SimpleEffect → Type 0
@@ -176,7 +176,7 @@ Told e = Spells (simple_can_put e) (list_all is_text (simple_texts e) && sets_as
 simple_told : (e : SimpleEffect) → Told e
 simple_told (effect.CounterPn e) = ((pn_spells pn_has).all e, named pn_named e)
 simple_told (effect.CounterFat e) = ((fat_spells fat_has).all e, named fat_named e)
-simple_told (effect.SetGo e) = ((set_go_spells set.go_has).all e, named set_go_stands e)
+simple_told (effect.SetGo e) = ((set_go_spells set.go_has).all e, named set_go_lies e)
 simple_told (effect.SetAw e) = ((set_spells (set_has false)).all e, named set_named e)
 simple_told (effect.SetRw e) = ((set_spells (set_has true)).all e, named set_named e)
 simple_told (effect.FlagEw e) = ((flag_spells (flags.flag_has false)).all e, named flag_named e)
@@ -188,4 +188,4 @@ pub simple_spells : SpellsEffects simple_has simple_is_of simple_can_put simple_
 simple_spells = record { form = form_at; all = λ e. (simple_told e).0 }
 
 pub simple_named : NamesAreSpelled simple_can_put simple_names simple_sets simple_spelling
-simple_named = record { exact = λ e d can. ((simple_told e).1 d can).0; stands = λ e d can. ((simple_told e).1 d can).1 }
+simple_named = record { exact = λ e d can. ((simple_told e).1 d can).0; lies = λ e d can. ((simple_told e).1 d can).1 }

@@ -8,7 +8,7 @@ use Rattle.site_vector.specs.declared.ids.Dot.{Dot}
 use Rattle.crdt_core.specs.declared.kind.Kind.{Kind}
 use Rattle.crdt_core.specs.declared.kind.Kind.TheVariants as kinds
 use Rattle.crdt_core.specs.declared.operation.Act.TheVariants as act
-use Rattle.crdt_core.specs.Fits.{stands_in}
+use Rattle.crdt_core.specs.Fits.{nests_in}
 use Rattle.crdt_core.specs.Seen.{Update}
 use Rattle.crdt_core.specs.Kept.{is_kept}
 use Rattle.crdt_core.specs.History.{IsHistory, state_after}
@@ -38,7 +38,7 @@ use Rattle.crdt_any.specs.declared.simple_state.SimpleState.TheVariants as state
 use Rattle.crdt_any.specs.declared.simple_effect.SimpleEffect.{SimpleEffect}
 use Rattle.crdt_any.specs.declared.simple_effect.SimpleEffect.TheVariants as effect
 use Rattle.crdt_any.specs.Simple.{simple_has, simple_initial, simple_step, simple_made, simple_value, simple_stamp, simple_meaning, simple_names, simple_holds, simple_blank, counter_pn_state, counter_pn_effect, counter_fat_state, counter_fat_effect, set_go_state, set_go_effect, set_aw_state, set_aw_effect, set_rw_state, set_rw_effect, flag_ew_state, flag_ew_effect, flag_dw_state, flag_dw_effect, register_lww_state, register_lww_effect, register_mv_state, register_mv_effect}
-use Rattle.crdt_any.specs.Parts.{LawAt, part_law, part_left, moved_held}
+use Rattle.crdt_any.specs.Wrapped.{LawAt, inner_law, inner_left, moved_held}
 
 -- the state as one of a kind: that of no update where it is of another
 abbrev as_kind : Kind → SimpleState → SimpleState
@@ -82,15 +82,15 @@ pub holds_as : (k : Kind) → simple_has k ≡ true → (s : SimpleState) (d : D
 holds_as k is s d = as_one (λ t. simple_holds t d ≡ true → simple_holds s d ≡ true) k s (λ h. h) (λ h. absurd (true≢false (sym h ∙ none_at k d is)))
 
 at : (k : Kind) → simple_has k ≡ true → LawAt k (λ p. false) (simple_initial k) simple_step (simple_made k) simple_value simple_stamp (simple_meaning k) simple_names simple_holds
-at kinds.CounterPn is = part_law pn_law kinds.CounterPn refl state.CounterPn effect.CounterPn (λ s. unwrap_or (counter_pn_state s) (pos 0)) simple_step (simple_made kinds.CounterPn) simple_value simple_stamp simple_names simple_holds (λ _ _ _. refl) (λ _ _ _ _. refl) (λ _ _ _ _. refl) (λ _. refl) (λ _. refl) (λ _ _. refl) (λ _ _. refl) (holds_as kinds.CounterPn refl)
-at kinds.CounterFat is = part_law fat_law kinds.CounterFat refl state.CounterFat effect.CounterFat (λ s. unwrap_or (counter_fat_state s) empty) simple_step (simple_made kinds.CounterFat) simple_value simple_stamp simple_names simple_holds (λ _ _ _. refl) (λ _ _ _ _. refl) (λ _ _ _ _. refl) (λ _. refl) (λ _. refl) (λ _ _. refl) (λ _ _. refl) (holds_as kinds.CounterFat refl)
-at kinds.SetGo is = part_law set_go_law kinds.SetGo refl state.SetGo effect.SetGo (λ s. unwrap_or (set_go_state s) empty) simple_step (simple_made kinds.SetGo) simple_value simple_stamp simple_names simple_holds (λ _ _ _. refl) (λ _ _ _ _. refl) (λ _ _ _ _. refl) (λ _. refl) (λ _. refl) (λ _ _. refl) (λ _ _. refl) (holds_as kinds.SetGo refl)
-at kinds.SetAw is = part_law (set_law false) kinds.SetAw refl state.SetAw effect.SetAw (λ s. unwrap_or (set_aw_state s) empty) simple_step (simple_made kinds.SetAw) simple_value simple_stamp simple_names simple_holds (λ _ _ _. refl) (λ _ _ _ _. refl) (λ _ _ _ _. refl) (λ _. refl) (λ _. refl) (λ _ _. refl) (λ _ _. refl) (holds_as kinds.SetAw refl)
-at kinds.SetRw is = part_law (set_law true) kinds.SetRw refl state.SetRw effect.SetRw (λ s. unwrap_or (set_rw_state s) empty) simple_step (simple_made kinds.SetRw) simple_value simple_stamp simple_names simple_holds (λ _ _ _. refl) (λ _ _ _ _. refl) (λ _ _ _ _. refl) (λ _. refl) (λ _. refl) (λ _ _. refl) (λ _ _. refl) (holds_as kinds.SetRw refl)
-at kinds.FlagEw is = part_law (flag_law false) kinds.FlagEw refl state.FlagEw effect.FlagEw (λ s. unwrap_or (flag_ew_state s) empty) simple_step (simple_made kinds.FlagEw) simple_value simple_stamp simple_names simple_holds (λ _ _ _. refl) (λ _ _ _ _. refl) (λ _ _ _ _. refl) (λ _. refl) (λ _. refl) (λ _ _. refl) (λ _ _. refl) (holds_as kinds.FlagEw refl)
-at kinds.FlagDw is = part_law (flag_law true) kinds.FlagDw refl state.FlagDw effect.FlagDw (λ s. unwrap_or (flag_dw_state s) empty) simple_step (simple_made kinds.FlagDw) simple_value simple_stamp simple_names simple_holds (λ _ _ _. refl) (λ _ _ _ _. refl) (λ _ _ _ _. refl) (λ _. refl) (λ _. refl) (λ _ _. refl) (λ _ _. refl) (holds_as kinds.FlagDw refl)
-at kinds.RegisterLww is = part_law lww_law kinds.RegisterLww refl state.RegisterLww effect.RegisterLww (λ s. unwrap_or (register_lww_state s) None) simple_step (simple_made kinds.RegisterLww) simple_value simple_stamp simple_names simple_holds (λ _ _ _. refl) (λ _ _ _ _. refl) (λ _ _ _ _. refl) (λ _. refl) (λ _. refl) (λ _ _. refl) (λ _ _. refl) (holds_as kinds.RegisterLww refl)
-at kinds.RegisterMv is = part_law mv_law kinds.RegisterMv refl state.RegisterMv effect.RegisterMv (λ s. unwrap_or (register_mv_state s) empty) simple_step (simple_made kinds.RegisterMv) simple_value simple_stamp simple_names simple_holds (λ _ _ _. refl) (λ _ _ _ _. refl) (λ _ _ _ _. refl) (λ _. refl) (λ _. refl) (λ _ _. refl) (λ _ _. refl) (holds_as kinds.RegisterMv refl)
+at kinds.CounterPn is = inner_law pn_law kinds.CounterPn refl state.CounterPn effect.CounterPn (λ s. unwrap_or (counter_pn_state s) (pos 0)) simple_step (simple_made kinds.CounterPn) simple_value simple_stamp simple_names simple_holds (λ _ _ _. refl) (λ _ _ _ _. refl) (λ _ _ _ _. refl) (λ _. refl) (λ _. refl) (λ _ _. refl) (λ _ _. refl) (holds_as kinds.CounterPn refl)
+at kinds.CounterFat is = inner_law fat_law kinds.CounterFat refl state.CounterFat effect.CounterFat (λ s. unwrap_or (counter_fat_state s) empty) simple_step (simple_made kinds.CounterFat) simple_value simple_stamp simple_names simple_holds (λ _ _ _. refl) (λ _ _ _ _. refl) (λ _ _ _ _. refl) (λ _. refl) (λ _. refl) (λ _ _. refl) (λ _ _. refl) (holds_as kinds.CounterFat refl)
+at kinds.SetGo is = inner_law set_go_law kinds.SetGo refl state.SetGo effect.SetGo (λ s. unwrap_or (set_go_state s) empty) simple_step (simple_made kinds.SetGo) simple_value simple_stamp simple_names simple_holds (λ _ _ _. refl) (λ _ _ _ _. refl) (λ _ _ _ _. refl) (λ _. refl) (λ _. refl) (λ _ _. refl) (λ _ _. refl) (holds_as kinds.SetGo refl)
+at kinds.SetAw is = inner_law (set_law false) kinds.SetAw refl state.SetAw effect.SetAw (λ s. unwrap_or (set_aw_state s) empty) simple_step (simple_made kinds.SetAw) simple_value simple_stamp simple_names simple_holds (λ _ _ _. refl) (λ _ _ _ _. refl) (λ _ _ _ _. refl) (λ _. refl) (λ _. refl) (λ _ _. refl) (λ _ _. refl) (holds_as kinds.SetAw refl)
+at kinds.SetRw is = inner_law (set_law true) kinds.SetRw refl state.SetRw effect.SetRw (λ s. unwrap_or (set_rw_state s) empty) simple_step (simple_made kinds.SetRw) simple_value simple_stamp simple_names simple_holds (λ _ _ _. refl) (λ _ _ _ _. refl) (λ _ _ _ _. refl) (λ _. refl) (λ _. refl) (λ _ _. refl) (λ _ _. refl) (holds_as kinds.SetRw refl)
+at kinds.FlagEw is = inner_law (flag_law false) kinds.FlagEw refl state.FlagEw effect.FlagEw (λ s. unwrap_or (flag_ew_state s) empty) simple_step (simple_made kinds.FlagEw) simple_value simple_stamp simple_names simple_holds (λ _ _ _. refl) (λ _ _ _ _. refl) (λ _ _ _ _. refl) (λ _. refl) (λ _. refl) (λ _ _. refl) (λ _ _. refl) (holds_as kinds.FlagEw refl)
+at kinds.FlagDw is = inner_law (flag_law true) kinds.FlagDw refl state.FlagDw effect.FlagDw (λ s. unwrap_or (flag_dw_state s) empty) simple_step (simple_made kinds.FlagDw) simple_value simple_stamp simple_names simple_holds (λ _ _ _. refl) (λ _ _ _ _. refl) (λ _ _ _ _. refl) (λ _. refl) (λ _. refl) (λ _ _. refl) (λ _ _. refl) (holds_as kinds.FlagDw refl)
+at kinds.RegisterLww is = inner_law lww_law kinds.RegisterLww refl state.RegisterLww effect.RegisterLww (λ s. unwrap_or (register_lww_state s) None) simple_step (simple_made kinds.RegisterLww) simple_value simple_stamp simple_names simple_holds (λ _ _ _. refl) (λ _ _ _ _. refl) (λ _ _ _ _. refl) (λ _. refl) (λ _. refl) (λ _ _. refl) (λ _ _. refl) (holds_as kinds.RegisterLww refl)
+at kinds.RegisterMv is = inner_law mv_law kinds.RegisterMv refl state.RegisterMv effect.RegisterMv (λ s. unwrap_or (register_mv_state s) empty) simple_step (simple_made kinds.RegisterMv) simple_value simple_stamp simple_names simple_holds (λ _ _ _. refl) (λ _ _ _ _. refl) (λ _ _ _ _. refl) (λ _. refl) (λ _. refl) (λ _ _. refl) (λ _ _. refl) (holds_as kinds.RegisterMv refl)
 at _ is = absurd (false≢true is)
 
 swaps_at : (s : SimpleState) (a b : SimpleEffect) (d e : Dot) → same_dot d e ≡ false → simple_names a e ≡ false → simple_names b d ≡ false → simple_step (simple_step s d a) e b ≡ simple_step (simple_step s e b) d a
@@ -127,7 +127,7 @@ simple_law = record {
   orderless = λ k us vs is. (at k is).orderless us vs;
   unread = λ k s t p a n is. (at k is).unread s t p a n;
   steps = steps_at;
-  kept = λ k us d is. (at k is).kept us d;
+  nameable = λ k us d is. (at k is).nameable us d;
 }
 
 first_at : (k : Kind) → simple_has k ≡ true → simple_blank (simple_initial k) ≡ true
@@ -145,45 +145,45 @@ first_at _ is = absurd (false≢true is)
 blank_as : (k : Kind) → simple_has k ≡ true → (s : SimpleState) → simple_blank s ≡ true → simple_blank (as_kind k s) ≡ true
 blank_as k is s h = as_one (λ t. simple_blank t ≡ true) k s h (first_at k is)
 
-undoes_at : (k : Kind) (s t : SimpleState) (d : Dot) (n : ℕ) → simple_has k ≡ true → stands_in kinds.MapRr k ≡ true → simple_blank s ≡ true → simple_step t d (simple_made k s [] act.Reset n) ≡ t
-undoes_at kinds.CounterPn s (state.CounterPn t) d n is stands h = ap state.CounterPn (pn_in_maps.undoes_none kinds.CounterPn (unwrap_or (counter_pn_state s) (pos 0)) t d n refl stands (blank_as kinds.CounterPn refl s h))
-undoes_at kinds.CounterFat s (state.CounterFat t) d n is stands h = ap state.CounterFat (fat_in_maps.undoes_none kinds.CounterFat (unwrap_or (counter_fat_state s) empty) t d n refl stands (blank_as kinds.CounterFat refl s h))
-undoes_at kinds.SetGo s (state.SetGo t) d n is stands h = ap state.SetGo (set_go_in_maps.undoes_none kinds.SetGo (unwrap_or (set_go_state s) empty) t d n refl stands (blank_as kinds.SetGo refl s h))
-undoes_at kinds.SetAw s (state.SetAw t) d n is stands h = ap state.SetAw ((set_in_maps false).undoes_none kinds.SetAw (unwrap_or (set_aw_state s) empty) t d n refl stands (blank_as kinds.SetAw refl s h))
-undoes_at kinds.SetRw s (state.SetRw t) d n is stands h = ap state.SetRw ((set_in_maps true).undoes_none kinds.SetRw (unwrap_or (set_rw_state s) empty) t d n refl stands (blank_as kinds.SetRw refl s h))
-undoes_at kinds.FlagEw s (state.FlagEw t) d n is stands h = ap state.FlagEw ((flag_in_maps false).undoes_none kinds.FlagEw (unwrap_or (flag_ew_state s) empty) t d n refl stands (blank_as kinds.FlagEw refl s h))
-undoes_at kinds.FlagDw s (state.FlagDw t) d n is stands h = ap state.FlagDw ((flag_in_maps true).undoes_none kinds.FlagDw (unwrap_or (flag_dw_state s) empty) t d n refl stands (blank_as kinds.FlagDw refl s h))
-undoes_at kinds.RegisterLww s (state.RegisterLww t) d n is stands h = ap state.RegisterLww (lww_in_maps.undoes_none kinds.RegisterLww (unwrap_or (register_lww_state s) None) t d n refl stands (blank_as kinds.RegisterLww refl s h))
-undoes_at kinds.RegisterMv s (state.RegisterMv t) d n is stands h = ap state.RegisterMv (mv_in_maps.undoes_none kinds.RegisterMv (unwrap_or (register_mv_state s) empty) t d n refl stands (blank_as kinds.RegisterMv refl s h))
-undoes_at kinds.MapGo s t d n is stands h = absurd (false≢true is)
-undoes_at kinds.MapRr s t d n is stands h = absurd (false≢true is)
-undoes_at k s t d n is stands h = refl
+undoes_at : (k : Kind) (s t : SimpleState) (d : Dot) (n : ℕ) → simple_has k ≡ true → nests_in kinds.MapRr k ≡ true → simple_blank s ≡ true → simple_step t d (simple_made k s [] act.Reset n) ≡ t
+undoes_at kinds.CounterPn s (state.CounterPn t) d n is nests h = ap state.CounterPn (pn_in_maps.undoes_none kinds.CounterPn (unwrap_or (counter_pn_state s) (pos 0)) t d n refl nests (blank_as kinds.CounterPn refl s h))
+undoes_at kinds.CounterFat s (state.CounterFat t) d n is nests h = ap state.CounterFat (fat_in_maps.undoes_none kinds.CounterFat (unwrap_or (counter_fat_state s) empty) t d n refl nests (blank_as kinds.CounterFat refl s h))
+undoes_at kinds.SetGo s (state.SetGo t) d n is nests h = ap state.SetGo (set_go_in_maps.undoes_none kinds.SetGo (unwrap_or (set_go_state s) empty) t d n refl nests (blank_as kinds.SetGo refl s h))
+undoes_at kinds.SetAw s (state.SetAw t) d n is nests h = ap state.SetAw ((set_in_maps false).undoes_none kinds.SetAw (unwrap_or (set_aw_state s) empty) t d n refl nests (blank_as kinds.SetAw refl s h))
+undoes_at kinds.SetRw s (state.SetRw t) d n is nests h = ap state.SetRw ((set_in_maps true).undoes_none kinds.SetRw (unwrap_or (set_rw_state s) empty) t d n refl nests (blank_as kinds.SetRw refl s h))
+undoes_at kinds.FlagEw s (state.FlagEw t) d n is nests h = ap state.FlagEw ((flag_in_maps false).undoes_none kinds.FlagEw (unwrap_or (flag_ew_state s) empty) t d n refl nests (blank_as kinds.FlagEw refl s h))
+undoes_at kinds.FlagDw s (state.FlagDw t) d n is nests h = ap state.FlagDw ((flag_in_maps true).undoes_none kinds.FlagDw (unwrap_or (flag_dw_state s) empty) t d n refl nests (blank_as kinds.FlagDw refl s h))
+undoes_at kinds.RegisterLww s (state.RegisterLww t) d n is nests h = ap state.RegisterLww (lww_in_maps.undoes_none kinds.RegisterLww (unwrap_or (register_lww_state s) None) t d n refl nests (blank_as kinds.RegisterLww refl s h))
+undoes_at kinds.RegisterMv s (state.RegisterMv t) d n is nests h = ap state.RegisterMv (mv_in_maps.undoes_none kinds.RegisterMv (unwrap_or (register_mv_state s) empty) t d n refl nests (blank_as kinds.RegisterMv refl s h))
+undoes_at kinds.MapGo s t d n is nests h = absurd (false≢true is)
+undoes_at kinds.MapRr s t d n is nests h = absurd (false≢true is)
+undoes_at k s t d n is nests h = refl
 
 pub simple_in_maps : KeepsInMaps simple_has (λ k p. false) simple_initial simple_step simple_made simple_blank
 simple_in_maps = record { first_blank = first_at; undoes_none = undoes_at; shallow = λ k. refl; flat = λ k p is out. refl }
 
-none_left_at : (k : Kind) (s : SimpleState) (n : ℕ) (d : Dot) → simple_has k ≡ true → stands_in kinds.MapRr k ≡ true → simple_blank s ≡ true → simple_names (simple_made k s [] act.Reset n) d ≡ false
-none_left_at kinds.CounterFat s n d is stands h = fat_resets.none_left kinds.CounterFat (unwrap_or (counter_fat_state s) empty) n d refl stands (blank_as kinds.CounterFat refl s h)
-none_left_at kinds.SetAw s n d is stands h = (set_resets false).none_left kinds.SetAw (unwrap_or (set_aw_state s) empty) n d refl stands (blank_as kinds.SetAw refl s h)
-none_left_at kinds.SetRw s n d is stands h = (set_resets true).none_left kinds.SetRw (unwrap_or (set_rw_state s) empty) n d refl stands (blank_as kinds.SetRw refl s h)
-none_left_at kinds.FlagEw s n d is stands h = (flag_resets false).none_left kinds.FlagEw (unwrap_or (flag_ew_state s) empty) n d refl stands (blank_as kinds.FlagEw refl s h)
-none_left_at kinds.FlagDw s n d is stands h = (flag_resets true).none_left kinds.FlagDw (unwrap_or (flag_dw_state s) empty) n d refl stands (blank_as kinds.FlagDw refl s h)
-none_left_at kinds.RegisterMv s n d is stands h = mv_resets.none_left kinds.RegisterMv (unwrap_or (register_mv_state s) empty) n d refl stands (blank_as kinds.RegisterMv refl s h)
-none_left_at kinds.MapRr s n d is stands h = absurd (false≢true is)
-none_left_at _ s n d is stands h = absurd (false≢true stands)
+none_left_at : (k : Kind) (s : SimpleState) (n : ℕ) (d : Dot) → simple_has k ≡ true → nests_in kinds.MapRr k ≡ true → simple_blank s ≡ true → simple_names (simple_made k s [] act.Reset n) d ≡ false
+none_left_at kinds.CounterFat s n d is nests h = fat_resets.none_left kinds.CounterFat (unwrap_or (counter_fat_state s) empty) n d refl nests (blank_as kinds.CounterFat refl s h)
+none_left_at kinds.SetAw s n d is nests h = (set_resets false).none_left kinds.SetAw (unwrap_or (set_aw_state s) empty) n d refl nests (blank_as kinds.SetAw refl s h)
+none_left_at kinds.SetRw s n d is nests h = (set_resets true).none_left kinds.SetRw (unwrap_or (set_rw_state s) empty) n d refl nests (blank_as kinds.SetRw refl s h)
+none_left_at kinds.FlagEw s n d is nests h = (flag_resets false).none_left kinds.FlagEw (unwrap_or (flag_ew_state s) empty) n d refl nests (blank_as kinds.FlagEw refl s h)
+none_left_at kinds.FlagDw s n d is nests h = (flag_resets true).none_left kinds.FlagDw (unwrap_or (flag_dw_state s) empty) n d refl nests (blank_as kinds.FlagDw refl s h)
+none_left_at kinds.RegisterMv s n d is nests h = mv_resets.none_left kinds.RegisterMv (unwrap_or (register_mv_state s) empty) n d refl nests (blank_as kinds.RegisterMv refl s h)
+none_left_at kinds.MapRr s n d is nests h = absurd (false≢true is)
+none_left_at _ s n d is nests h = absurd (false≢true nests)
 
 abbrev after : Kind → List Update → SimpleState
 after k us = state_after (simple_initial k) simple_step (made_by simple_made k) us
 
-some_left_at : (k : Kind) (us : List Update) (n : ℕ) → simple_has k ≡ true → stands_in kinds.MapRr k ≡ true → IsHistory us → all_fit (λ k p. false) k us ≡ true → simple_blank (after k us) ≡ false → (d : Dot) × (simple_names (simple_made k (after k us) [] act.Reset n) d ≡ true)
-some_left_at kinds.CounterFat us n is stands h fit left = part_left fat_resets kinds.CounterFat refl state.CounterFat effect.CounterFat simple_step simple_made simple_blank simple_names (λ _ _ _. refl) (λ _ _ _ _. refl) (λ _. refl) (λ _ _. refl) us n stands h fit left
-some_left_at kinds.SetAw us n is stands h fit left = part_left (set_resets false) kinds.SetAw refl state.SetAw effect.SetAw simple_step simple_made simple_blank simple_names (λ _ _ _. refl) (λ _ _ _ _. refl) (λ _. refl) (λ _ _. refl) us n stands h fit left
-some_left_at kinds.SetRw us n is stands h fit left = part_left (set_resets true) kinds.SetRw refl state.SetRw effect.SetRw simple_step simple_made simple_blank simple_names (λ _ _ _. refl) (λ _ _ _ _. refl) (λ _. refl) (λ _ _. refl) us n stands h fit left
-some_left_at kinds.FlagEw us n is stands h fit left = part_left (flag_resets false) kinds.FlagEw refl state.FlagEw effect.FlagEw simple_step simple_made simple_blank simple_names (λ _ _ _. refl) (λ _ _ _ _. refl) (λ _. refl) (λ _ _. refl) us n stands h fit left
-some_left_at kinds.FlagDw us n is stands h fit left = part_left (flag_resets true) kinds.FlagDw refl state.FlagDw effect.FlagDw simple_step simple_made simple_blank simple_names (λ _ _ _. refl) (λ _ _ _ _. refl) (λ _. refl) (λ _ _. refl) us n stands h fit left
-some_left_at kinds.RegisterMv us n is stands h fit left = part_left mv_resets kinds.RegisterMv refl state.RegisterMv effect.RegisterMv simple_step simple_made simple_blank simple_names (λ _ _ _. refl) (λ _ _ _ _. refl) (λ _. refl) (λ _ _. refl) us n stands h fit left
-some_left_at kinds.MapRr us n is stands h fit left = absurd (false≢true is)
-some_left_at _ us n is stands h fit left = absurd (false≢true stands)
+some_left_at : (k : Kind) (us : List Update) (n : ℕ) → simple_has k ≡ true → nests_in kinds.MapRr k ≡ true → IsHistory us → all_fit (λ k p. false) k us ≡ true → simple_blank (after k us) ≡ false → (d : Dot) × (simple_names (simple_made k (after k us) [] act.Reset n) d ≡ true)
+some_left_at kinds.CounterFat us n is nests h fit left = inner_left fat_resets kinds.CounterFat refl state.CounterFat effect.CounterFat simple_step simple_made simple_blank simple_names (λ _ _ _. refl) (λ _ _ _ _. refl) (λ _. refl) (λ _ _. refl) us n nests h fit left
+some_left_at kinds.SetAw us n is nests h fit left = inner_left (set_resets false) kinds.SetAw refl state.SetAw effect.SetAw simple_step simple_made simple_blank simple_names (λ _ _ _. refl) (λ _ _ _ _. refl) (λ _. refl) (λ _ _. refl) us n nests h fit left
+some_left_at kinds.SetRw us n is nests h fit left = inner_left (set_resets true) kinds.SetRw refl state.SetRw effect.SetRw simple_step simple_made simple_blank simple_names (λ _ _ _. refl) (λ _ _ _ _. refl) (λ _. refl) (λ _ _. refl) us n nests h fit left
+some_left_at kinds.FlagEw us n is nests h fit left = inner_left (flag_resets false) kinds.FlagEw refl state.FlagEw effect.FlagEw simple_step simple_made simple_blank simple_names (λ _ _ _. refl) (λ _ _ _ _. refl) (λ _. refl) (λ _ _. refl) us n nests h fit left
+some_left_at kinds.FlagDw us n is nests h fit left = inner_left (flag_resets true) kinds.FlagDw refl state.FlagDw effect.FlagDw simple_step simple_made simple_blank simple_names (λ _ _ _. refl) (λ _ _ _ _. refl) (λ _. refl) (λ _ _. refl) us n nests h fit left
+some_left_at kinds.RegisterMv us n is nests h fit left = inner_left mv_resets kinds.RegisterMv refl state.RegisterMv effect.RegisterMv simple_step simple_made simple_blank simple_names (λ _ _ _. refl) (λ _ _ _ _. refl) (λ _. refl) (λ _ _. refl) us n nests h fit left
+some_left_at kinds.MapRr us n is nests h fit left = absurd (false≢true is)
+some_left_at _ us n is nests h fit left = absurd (false≢true nests)
 
 pub simple_resets : ResetsWhatIsLeft simple_has (λ k p. false) simple_initial simple_step simple_made simple_blank simple_names
 simple_resets = record { none_left = none_left_at; some_left = some_left_at }

@@ -4,7 +4,7 @@ ghost use Rattle.crdt_core.specs.Fits.{fits};
 ghost use Rattle.crdt_any.specs.Layer.{layer_made, layer_too_deep, layer_holds};
 ghost use Rattle.crdt_any.specs.LayerForm.{layer_is_of, layer_can_put, layer_sets, layer_spelling};
 
-use crate::part::made_on;
+use crate::inner::made_on;
 use crate::{LayerEffect, LayerState, Simple};
 use crdt_core::{Act, Crdt, Field, Kind};
 use crdt_maps::{MapGo, MapRr};

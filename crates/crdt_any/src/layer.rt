@@ -3,7 +3,7 @@ ghost use Rattle.crdt_any.specs.LayerForm.{layer_is_of, layer_can_put, layer_is_
 ghost use Rattle.crdt_any.specs.LayerLaws.{layer_law, layer_in_maps, layer_resets};
 
 use crate::generate::effect_of;
-use crate::part::apply_if;
+use crate::inner::apply_if;
 use crate::{LayerEffect, LayerState, Simple};
 use crdt_core::{Act, Crdt, Field, Kind, Op, Value, reads_state};
 use crdt_maps::{MapGo, MapRr};

@@ -3,10 +3,10 @@
 
 mod effect;
 mod generate;
+mod inner;
 mod laws;
 mod layer;
 mod nothing;
-mod part;
 mod simple;
 mod simple_effect;
 mod simple_generate;

@@ -2,7 +2,7 @@ ghost use Rattle.crdt_any.specs.Simple.{simple_has, simple_initial, simple_step,
 ghost use Rattle.crdt_any.specs.SimpleForm.{simple_is_of, simple_can_put, simple_is_spelled, simple_sets, simple_texts, simple_spelling, simple_reading, simple_spells, simple_named};
 ghost use Rattle.crdt_any.specs.SimpleLaws.{simple_law, simple_in_maps, simple_resets};
 
-use crate::part::apply_if;
+use crate::inner::apply_if;
 use crate::simple_generate::simple_effect_of;
 use crate::{SimpleEffect, SimpleState};
 use crdt_core::{Act, Crdt, Field, Kind, Op, Value, reads_state};

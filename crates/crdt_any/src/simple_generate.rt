@@ -4,7 +4,7 @@ ghost use Rattle.crdt_core.specs.Fits.{fits};
 ghost use Rattle.crdt_any.specs.Simple.{simple_has, simple_made, simple_holds};
 ghost use Rattle.crdt_any.specs.SimpleForm.{simple_is_of, simple_can_put, simple_sets, simple_spelling};
 
-use crate::part::made_on;
+use crate::inner::made_on;
 use crate::{SimpleEffect, SimpleState};
 use crdt_core::{Act, Field, Kind};
 use crdt_counters::{CounterFat, CounterPn};

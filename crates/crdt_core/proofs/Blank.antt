@@ -8,7 +8,7 @@ use Rattle.site_vector.specs.Order.{dot_cmp}
 use Rattle.crdt_core.specs.declared.kind.Kind.{Kind}
 use Rattle.crdt_core.specs.declared.kind.Kind.TheVariants.{MapRr}
 use Rattle.crdt_core.specs.Kinds.{same_kind}
-use Rattle.crdt_core.specs.Fits.{stands_in}
+use Rattle.crdt_core.specs.Fits.{nests_in}
 use Rattle.crdt_core.specs.KindCodes.{same_kind_is}
 use Rattle.crdt_core.specs.Kept.{KeptAt, without, keeps_none}
 use Rattle.crdt_core.proofs.KeptSteps.{without_none}
@@ -35,5 +35,5 @@ pub empty_kept : (V : Type 0) → keeps_none {V = V} empty ≡ true
 empty_kept V = empty_none dot_cmp V
 
 -- a kind that may not stand in a map that resets
-pub never_reset : (k l : Kind) → same_kind k l ≡ true → stands_in MapRr l ≡ false → stands_in MapRr k ≡ true → true ≡ false
-never_reset k l is out h = sym h ∙ ap (stands_in MapRr) (same_kind_is k l is) ∙ out
+pub never_reset : (k l : Kind) → same_kind k l ≡ true → nests_in MapRr l ≡ false → nests_in MapRr k ≡ true → true ≡ false
+never_reset k l is out h = sym h ∙ ap (nests_in MapRr) (same_kind_is k l is) ∙ out

@@ -67,11 +67,11 @@ closed_part : (q p : Dot → Bool) (us : List Update) → IsClosed q us → IsCl
 closed_part q p [] h = h
 closed_part q p (u ∷ us) h = elim (p u.dot) as (λ b. IsClosed q (cond b (u ∷ passing_of p us) (passing_of p us))) [ true ↦ (h.0, closed_part q p us h.1) | false ↦ closed_part q p us h.1 ]
 
-pub history_part : (p : Dot → Bool) (us : List Update) → IsHistory us → IsHistory (passing_of p us)
-history_part p [] h = h
-history_part p (u ∷ us) h = elim (p u.dot) as (λ b. IsHistory (cond b (u ∷ passing_of p us) (passing_of p us))) [
-  | true ↦ (record { new = any_part _ p us h.0.new; unseen = any_part _ p us h.0.unseen; apart = h.0.apart; closed = closed_part (sees u) p us h.0.closed }, history_part p us h.1)
-  | false ↦ history_part p us h.1
+pub history_closed : (p : Dot → Bool) (us : List Update) → IsHistory us → IsHistory (passing_of p us)
+history_closed p [] h = h
+history_closed p (u ∷ us) h = elim (p u.dot) as (λ b. IsHistory (cond b (u ∷ passing_of p us) (passing_of p us))) [
+  | true ↦ (record { new = any_part _ p us h.0.new; unseen = any_part _ p us h.0.unseen; apart = h.0.apart; closed = closed_part (sees u) p us h.0.closed }, history_closed p us h.1)
+  | false ↦ history_closed p us h.1
 ]
 
 length_part : (p : Dot → Bool) (us : List Update) → length (passing_of p us) ≤ length us
@@ -125,18 +125,18 @@ module _ {S E : Type 0} (initial : S) (step : S → Dot → E → S) (make : S �
   effect_of u es = make (fold_of (seen_by u es)) u
 
   -- the effects of a closed part are that part of the effects
-  pub made_part : (p : Dot → Bool) (us : List Update) → IsClosed p us → made_of (passing_of p us) ≡ passing p (made_of us)
-  made_part p [] h = refl
-  made_part p (u ∷ us) h =
-      let rest = made_part p us h.1 in
+  pub made_closed : (p : Dot → Bool) (us : List Update) → IsClosed p us → made_of (passing_of p us) ≡ passing p (made_of us)
+  made_closed p [] h = refl
+  made_closed p (u ∷ us) h =
+      let rest = made_closed p us h.1 in
       elim (p u.dot) as (λ b. p u.dot ≡ b → made_of (cond b (u ∷ passing_of p us) (passing_of p us)) ≡ cond b ((u.dot, effect_of u (made_of us)) ∷ passing p (made_of us)) (passing p (made_of us))) [
         | true ↦ λ e. ap (λ es. (u.dot, effect_of u es) ∷ es) rest ∙ ap (λ es. (u.dot, make (fold_of es) u) ∷ passing p (made_of us)) (filter_twice (λ e. p e.0) (λ e. sees u e.0) (made_of us) (λ x. h.0 e x.0))
         | false ↦ λ e. rest
       ] refl
 
   -- what an update has seen, folded, is the state after the part that it has seen
-  pub seen_part : (u : Update) (us : List Update) → IsNext us u → fold_of (seen_by u (made_of us)) ≡ state_after initial step make (passing_of (sees u) us)
-  seen_part u us h = ap fold_of (sym (made_part (sees u) us h.closed))
+  pub seen_closed : (u : Update) (us : List Update) → IsNext us u → fold_of (seen_by u (made_of us)) ≡ state_after initial step make (passing_of (sees u) us)
+  seen_closed u us h = ap fold_of (sym (made_closed (sees u) us h.closed))
 
   -- the effects of the updates in front over those behind
   abbrev on : List (Dot × E) → List Update → List (Dot × E)
@@ -202,9 +202,9 @@ module _ {S E : Type 0} (initial : S) (step : S → Dot → E → S) (make : S �
         let short : length us ≤ n = omega arith in
         let rest = same_states n us (front ++ back) short a.1 without s.3 in
         let p = sees u in
-        let parts = same_states n (passing_of p us) (passing_of p (front ++ back)) (omega (arith, length_part p us)) (history_part p us a.1) (history_part p (front ++ back) without) (filter_same (λ v. p v.dot) us (front ++ back) s.3) in
+        let parts = same_states n (passing_of p us) (passing_of p (front ++ back)) (omega (arith, length_part p us)) (history_closed p us a.1) (history_closed p (front ++ back) without) (filter_same (λ v. p v.dot) us (front ++ back) s.3) in
         let seen : fold_of (seen_by u (made_of us)) ≡ fold_of (seen_by u (made_of back)) =
-        ap fold_of (sym (made_part p us a.0.closed)) ∙ parts ∙ ap fold_of (made_part p (front ++ back) (closed_same p us (front ++ back) s.3 a.0.closed) ∙ ap (passing p) (on_append front back) ∙ behind_alone u (made_of back) front beside) in
+        ap fold_of (sym (made_closed p us a.0.closed)) ∙ parts ∙ ap fold_of (made_closed p (front ++ back) (closed_same p us (front ++ back) s.3 a.0.closed) ∙ ap (passing p) (on_append front back) ∙ behind_alone u (made_of back) front beside) in
         (λ i. step (rest i) u.dot (make (seen i) u))
         ∙ ap (λ t. step t u.dot (effect_of u (made_of back))) (ap fold_of (on_append front back))
         ∙ sym (ap (λ us. state_after initial step make us) s.2 ∙ ap fold_of (on_append front (u ∷ back)) ∙ comes_last u (made_of back) front beside)

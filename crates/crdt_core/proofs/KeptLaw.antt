@@ -87,20 +87,20 @@ skip_case true true k own o f = absurd (true≢false (f refl))
 module _ {V S E : Type 0} (initial : S) (step : S → Dot → E → S) (make : S → Update → E) (puts : Update → Option V) (takes : Update → Bool) (at : S → Dot → Option V)
     (at_none : (q : Dot) → at initial q ≡ None)
     (at_step : (s r : S) (u : Update) (q : Dot) → at (step s u.dot (make r u)) q ≡ given (same_dot u.dot q) (puts u) (cond (takes u && is_some (at r q)) None (at s q))) where
-  abbrev part_fold : (Dot → Bool) → List Update → S
-  part_fold p us = folded initial step (filter (λ e. p e.0) (effects initial step make us))
+  abbrev closed_fold : (Dot → Bool) → List Update → S
+  closed_fold p us = folded initial step (filter (λ e. p e.0) (effects initial step make us))
 
   -- the fold of a closed part of the updates keeps what is left of that part
-  pub kept_part : (p : Dot → Bool) (us : List Update) → IsHistory us → IsClosed p us → (q : Dot) → at (part_fold p us) q ≡ left puts takes p us q
-  kept_part p [] h c q = at_none q ∙ sym (none_either (p q && true) None refl)
-  kept_part p (u ∷ us) h c q =
-      let rest = kept_part p us h.1 c.1 q in
-      let seen = kept_part (sees u) us h.1 h.0.closed q in
+  pub kept_closed : (p : Dot → Bool) (us : List Update) → IsHistory us → IsClosed p us → (q : Dot) → at (closed_fold p us) q ≡ left puts takes p us q
+  kept_closed p [] h c q = at_none q ∙ sym (none_either (p q && true) None refl)
+  kept_closed p (u ∷ us) h c q =
+      let rest = kept_closed p us h.1 c.1 q in
+      let seen = kept_closed (sees u) us h.1 h.0.closed q in
       let own = puts u in
       let o = put_at puts takes us q in
-      elim (p u.dot) as (λ b. p u.dot ≡ b → at (folded initial step (cond b ((u.dot, make (part_fold (sees u) us) u) ∷ filter (λ e. p e.0) (effects initial step make us)) (filter (λ e. p e.0) (effects initial step make us)))) q
+      elim (p u.dot) as (λ b. p u.dot ≡ b → at (folded initial step (cond b ((u.dot, make (closed_fold (sees u) us) u) ∷ filter (λ e. p e.0) (effects initial step make us)) (filter (λ e. p e.0) (effects initial step make us)))) q
       ≡ cond (p q && not ((b && (takes u && sees u q)) || taken puts takes p us q)) (given (same_dot u.dot q) own o) None) [
-        | true ↦ λ e. at_step (part_fold p us) (part_fold (sees u) us) u q ∙ (λ i. given (same_dot u.dot q) own (cond (takes u && is_some (seen i)) None (rest i)))
+        | true ↦ λ e. at_step (closed_fold p us) (closed_fold (sees u) us) u q ∙ (λ i. given (same_dot u.dot q) own (cond (takes u && is_some (seen i)) None (rest i)))
             ∙ elim (same_dot u.dot q) as (λ b. same_dot u.dot q ≡ b → given b own (cond (takes u && is_some (left puts takes (sees u) us q)) None (left puts takes p us q)) ≡ cond (p q && not ((takes u && sees u q) || taken puts takes p us q)) (given b own o) None) [
               | true ↦ λ same. let one = same_dot_is u.dot q same in
                   own_case own o (takes u) (is_some (left puts takes (sees u) us q)) (p q) (sees u q) (taken puts takes p us q)
@@ -119,4 +119,4 @@ module _ {V S E : Type 0} (initial : S) (step : S → Dot → E → S) (make : S
 
   -- the state after a history keeps what is left
   pub kept_after : (us : List Update) → IsHistory us → (q : Dot) → at (state_after initial step make us) q ≡ left puts takes (λ _. true) us q
-  kept_after us h q = ap (λ es. at (folded initial step es) q) (sym (all_pass (effects initial step make us))) ∙ kept_part (λ _. true) us h (all_closed us) q
+  kept_after us h q = ap (λ es. at (folded initial step es) q) (sym (all_pass (effects initial step make us))) ∙ kept_closed (λ _. true) us h (all_closed us) q

@@ -13,7 +13,7 @@ use Rattle.crdt_core.specs.declared.object.Field.{Field}
 use Rattle.crdt_core.specs.declared.operation.Act.{Act}
 use Rattle.crdt_core.specs.declared.operation.Act.TheVariants.{Reset}
 use Rattle.crdt_core.specs.Kinds.{same_kind}
-use Rattle.crdt_core.specs.Fits.{stands_in, allows}
+use Rattle.crdt_core.specs.Fits.{nests_in, allows}
 use Rattle.crdt_core.specs.DotSet.{has_dot}
 use Rattle.crdt_core.specs.Kept.{KeptAt, dots_of, is_kept, keeps_none}
 use Rattle.crdt_core.specs.Law.{CanBeNamed}
@@ -42,7 +42,7 @@ kept_resets lists = record {
 
 -- a kind that may not stand in a map that resets
 pub never_resets : {S E : Type 0} {too_deep : Kind → List Field → Bool} {initial : Kind → S} {step : S → Dot → E → S} {made : Kind → S → List Field → Act → ℕ → E} {is_blank : S → Bool} {names : E → Dot → Bool} (l : Kind)
-    → stands_in MapRr l ≡ false → ResetsWhatIsLeft (λ k. same_kind k l) too_deep initial step made is_blank names
+    → nests_in MapRr l ≡ false → ResetsWhatIsLeft (λ k. same_kind k l) too_deep initial step made is_blank names
 never_resets l out = record {
   none_left = λ k s n d is resets blank. absurd (true≢false (never_reset k l is out resets));
   some_left = λ k us n is resets h fit left. absurd (true≢false (never_reset k l is out resets));

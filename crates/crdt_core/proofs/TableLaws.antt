@@ -7,27 +7,27 @@ use Rattle.crdt_core.specs.declared.kind.Kind.TheVariants.{CounterPn, MapGo, Map
 use Rattle.crdt_core.specs.declared.object.Field.{Field}
 use Rattle.crdt_core.specs.declared.operation.Act.{Act}
 use Rattle.crdt_core.specs.declared.operation.Act.TheVariants.{Reset, DropField}
-use Rattle.crdt_core.specs.Fits.{stands_in, is_map, is_drop, fits}
+use Rattle.crdt_core.specs.Fits.{nests_in, is_map, is_drop, fits}
 use Rattle.crdt_core.specs.Seen.{is_reset}
 
-pub resets_stand : (k : Kind) → stands_in MapRr k ≡ fits k [] Reset
-resets_stand CounterPn = refl
-resets_stand _ = refl
+pub resets_nest : (k : Kind) → nests_in MapRr k ≡ fits k [] Reset
+resets_nest CounterPn = refl
+resets_nest _ = refl
 
 or_none : (b : Bool) → (b || false) ≡ b
 or_none true = refl
 or_none false = refl
 
-pub drops_stand : (f : Field) → fits MapRr [] (DropField f) ≡ fits f.kind [] Reset
-drops_stand f = or_none (stands_in MapRr f.kind) ∙ resets_stand f.kind
+pub drops_lie : (f : Field) → fits MapRr [] (DropField f) ≡ fits f.kind [] Reset
+drops_lie f = or_none (nests_in MapRr f.kind) ∙ resets_nest f.kind
 
-has_fields : (k l : Kind) → stands_in k l ≡ true → is_map k ≡ true
+has_fields : (k l : Kind) → nests_in k l ≡ true → is_map k ≡ true
 has_fields MapGo l h = refl
 has_fields MapRr l h = refl
 has_fields _ l h = absurd (true≢false (sym h))
 
 pub paths_enter : (k : Kind) (f : Field) (p : List Field) (a : Act) → fits k (f ∷ p) a ≡ true → is_map k ≡ true
-paths_enter k f p a h = has_fields k f.kind (and_parts (stands_in k f.kind) _ (and_parts (nat_le (length (f ∷ p)) 3) _ h).1).0
+paths_enter k f p a h = has_fields k f.kind (and_parts (nests_in k f.kind) _ (and_parts (nat_le (length (f ∷ p)) 3) _ h).1).0
 
 either : (a b : Bool) → (a || b) ≡ true → (b || a) ≡ true
 either true true h = refl

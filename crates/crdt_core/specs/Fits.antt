@@ -8,16 +8,16 @@ use Rattle.crdt_core.specs.declared.operation.Act.TheVariants.{Increment, Decrem
 use Rattle.crdt_core.specs.Seen.{is_reset, is_assign}
 
 -- the kinds of the fields of a map
-abbrev pub stands_in : Kind → Kind → Bool
-stands_in MapGo k = true
-stands_in MapRr CounterFat = true
-stands_in MapRr SetAw = true
-stands_in MapRr SetRw = true
-stands_in MapRr FlagEw = true
-stands_in MapRr FlagDw = true
-stands_in MapRr RegisterMv = true
-stands_in MapRr MapRr = true
-stands_in _ k = false
+abbrev pub nests_in : Kind → Kind → Bool
+nests_in MapGo k = true
+nests_in MapRr CounterFat = true
+nests_in MapRr SetAw = true
+nests_in MapRr SetRw = true
+nests_in MapRr FlagEw = true
+nests_in MapRr FlagDw = true
+nests_in MapRr RegisterMv = true
+nests_in MapRr MapRr = true
+nests_in _ k = false
 
 -- a kind that has fields
 abbrev pub is_map : Kind → Bool
@@ -49,7 +49,7 @@ is_switch Disable = true
 is_switch _ = false
 
 abbrev pub is_drop : Act → Bool
-is_drop (DropField f) = stands_in MapRr f.kind
+is_drop (DropField f) = nests_in MapRr f.kind
 is_drop _ = false
 
 -- the acts of a kind
@@ -69,7 +69,7 @@ allows MapRr a = is_drop a || is_reset a
 -- each field may stand in the map around it, and the act is one of what the path leads to
 abbrev pub leads_to : Kind → List Field → Act → Bool
 leads_to k [] a = allows k a
-leads_to k (f ∷ p) a = stands_in k f.kind && leads_to f.kind p a
+leads_to k (f ∷ p) a = nests_in k f.kind && leads_to f.kind p a
 
 -- an object has at most three fields below it
 abbrev pub fits : Kind → List Field → Act → Bool

@@ -25,15 +25,15 @@ unfit_next None fits count = if fits then None else Some count
 
 module _ {E : Type 0} where
   -- the objects of these updates stand at the partitions with this number, of so many
-  abbrev pub stand_at : ℕ → ℕ → List (Upd E) → Bool
-  stand_at parts number us = list_all (λ u. place_of u.object.bucket u.object.key parts == number) us
+  abbrev pub are_placed_at : ℕ → ℕ → List (Upd E) → Bool
+  are_placed_at parts number us = list_all (λ u. place_of u.object.bucket u.object.key parts == number) us
 
   -- a commit vector of what is prepared: its snapshot, with an own entry that is at least the prepare time
   abbrev pub fits_commit : ℕ → PartId → List (Record E) → TxId → List ℕ → Bool
   fits_commit sites id log t c = is_vector sites c && (bytes_eq c (replaced (prepared_snapshot log t) id.site (entry c id.site)) && leb (prepare_time log t) (entry c id.site))
 
   abbrev pub fits_part : ℕ → ℕ → Message E → Part E → Bool
-  fits_part sites parts m x = x.tx.site == m.from && (is_vector sites x.c && (stand_at parts m.part x.updates && (ltb m.lo (entry x.c m.from) && leb (entry x.c m.from) m.hi)))
+  fits_part sites parts m x = x.tx.site == m.from && (is_vector sites x.c && (are_placed_at parts m.part x.updates && (ltb m.lo (entry x.c m.from) && leb (entry x.c m.from) m.hi)))
 
   -- no two parts are of one transaction
   abbrev pub are_apart : List (Part E) → Bool
@@ -51,7 +51,7 @@ module _ {E : Type 0} where
   fits_record sites parts id log (Lease n) = leb n end_of_time
   fits_record sites parts id log (Prepare t l n s w) =
       t.site == id.site && (leb 1 t.part && (leb t.part parts && (not (is_named_in log t) && (leb 1 l && (leb l id.part
-      && (is_vector sites s && (stand_at parts id.part w && (ltb (entry s id.site) n && leb n (ceiling log)))))))))
+      && (is_vector sites s && (are_placed_at parts id.part w && (ltb (entry s id.site) n && leb n (ceiling log)))))))))
   fits_record sites parts id log (Decide t c) = pending log t && (prepared_lead log t == id.part && fits_commit sites id log t c)
   fits_record sites parts id log (Finish t c) = pending log t && (not (prepared_lead log t == id.part) && fits_commit sites id log t c)
   fits_record sites parts id log (Abort t) = pending log t

@@ -53,4 +53,4 @@ pub record KeepsLaw {S E : Type 0} (has : Kind → Bool) (too_deep : Kind → Li
   pub unread : (k : Kind) (s t : S) (p : List Field) (a : Act) (n : ℕ) → has k ≡ true → reads_state k ≡ false → generated k s p a n ≡ generated k t p a n
   pub steps : (k : Kind) → has k ≡ true → KeepsSteps (initial k) applied (made_by generated k) names holds
   -- a state that updates left holds only dots that an effect made on it can name
-  pub kept : (k : Kind) (us : List Update) (d : Dot) → has k ≡ true → all_fit too_deep k us ≡ true → holds (state_after (initial k) applied (made_by generated k) us) d ≡ true → CanBeNamed too_deep generated names k (state_after (initial k) applied (made_by generated k) us) d
+  pub nameable : (k : Kind) (us : List Update) (d : Dot) → has k ≡ true → all_fit too_deep k us ≡ true → holds (state_after (initial k) applied (made_by generated k) us) d ≡ true → CanBeNamed too_deep generated names k (state_after (initial k) applied (made_by generated k) us) d

@@ -7,14 +7,14 @@ use Rattle.crdt_core.specs.declared.kind.Kind.TheVariants.{RegisterLww}
 use Rattle.crdt_core.specs.declared.object.Field.{Field}
 use Rattle.crdt_core.specs.declared.operation.Act.{Act}
 use Rattle.crdt_core.specs.Kinds.{same_kind, kind_at}
-use Rattle.crdt_core.specs.Fits.{stands_in, allows, leads_to, fits}
+use Rattle.crdt_core.specs.Fits.{nests_in, allows, leads_to, fits}
 use Rattle.crdt_core.specs.Seen.{Update, is_assign}
 use Rattle.crdt_core.specs.Stamps.{stamp_due, last_stamp, above_all, assigns_seen}
 use Rattle.crdt_core.specs.Law.{all_fit}
 
 -- no kind may stand in this one
 abbrev pub IsLeaf : Kind → Type 0
-IsLeaf k = (l : Kind) → stands_in k l ≡ false
+IsLeaf k = (l : Kind) → nests_in k l ≡ false
 
 no_field : (b c : Bool) → b ≡ false → (b && c) ≡ true → true ≡ false
 no_field b c h e = sym e ∙ ap (λ x. x && c) h
@@ -22,7 +22,7 @@ no_field b c h e = sym e ∙ ap (λ x. x && c) h
 -- its paths have no field
 pub ends_there : (k : Kind) → IsLeaf k → (p : List Field) (a : Act) → leads_to k p a ≡ true → (p ≡ []) × (allows k a ≡ true)
 ends_there k leaf [] a h = (refl, h)
-ends_there k leaf (f ∷ p) a h = absurd (true≢false (no_field (stands_in k f.kind) (leads_to f.kind p a) (leaf f.kind) h))
+ends_there k leaf (f ∷ p) a h = absurd (true≢false (no_field (nests_in k f.kind) (leads_to f.kind p a) (leaf f.kind) h))
 
 pub fits_leaf : (k : Kind) → IsLeaf k → (p : List Field) (a : Act) → fits k p a ≡ true → (p ≡ []) × (allows k a ≡ true)
 fits_leaf k leaf p a h = ends_there k leaf p a (and_parts (nat_le (length p) 3) (leads_to k p a) h).1

@@ -6,7 +6,7 @@ use Rattle.crdt_core.specs.DotSet.{has_dot}
 use Rattle.crdt_core.specs.Spelled.{dot}
 
 -- it is a part of them
-pub record IsPartOf (d : Dot) (bytes : List ℕ) : Type 0 where
+pub record LiesIn (d : Dot) (bytes : List ℕ) : Type 0 where
   pub front : List ℕ
   pub back : List ℕ
   pub whole : bytes ≡ front ++ (dot d ++ back)
@@ -18,4 +18,4 @@ have_update sets d = list_any (λ ds. has_dot ds d) sets
 -- An effect names exactly the members of the sets in its bytes, and each of these stands there.
 pub record NamesAreSpelled {E : Type 0} (can_put : E → Bool) (names : E → Dot → Bool) (sets : E → List (List Dot)) (spelling : E → List ℕ) : Type 0 where
   pub exact : (e : E) (d : Dot) → can_put e ≡ true → names e d ≡ have_update (sets e) d
-  pub stands : (e : E) (d : Dot) → can_put e ≡ true → names e d ≡ true → IsPartOf d (spelling e)
+  pub lies : (e : E) (d : Dot) → can_put e ≡ true → names e d ≡ true → LiesIn d (spelling e)

@@ -92,7 +92,7 @@ impl Dots {
 
 fn drop_gone(items: &mut Vec<Dot>, gone: &Dots)
     requires { IsAscending items.old.items }
-    ensures kept { items.new.items ≡ without items.old.items gone.now }
+    ensures remaining { items.new.items ≡ without items.old.items gone.now }
     ensures ascending { IsAscending items.new.items }
 {
     items.retain(|dot| !gone.contains(*dot));

@@ -37,6 +37,6 @@ pub use record::{
     Message, Part, Record, Upd, copy_message, copy_part, copy_parts, copy_update, copy_updates,
 };
 pub use replay::{state_after, value_after};
-pub use table::{fits, law_table, reads_state, stands_in};
+pub use table::{fits, law_table, nests_in, reads_state};
 pub use value::Value;
 pub use vector_forms::{put_vector, take_vector};

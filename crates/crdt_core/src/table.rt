@@ -4,7 +4,7 @@ ghost use Rattle.crdt_core.specs.declared.kind.Kind.TheVariants.{MapGo, MapRr};
 ghost use Rattle.crdt_core.specs.declared.object.Field.{Field};
 ghost use Rattle.crdt_core.specs.declared.operation.Act.{Act};
 ghost use Rattle.crdt_core.specs.declared.operation.Act.TheVariants.{Reset, DropField};
-ghost use Rattle.crdt_core.specs.Fits.{fits, leads_to, allows, stands_in, is_map, is_amount, is_add, is_remove, is_switch, is_drop};
+ghost use Rattle.crdt_core.specs.Fits.{fits, leads_to, allows, nests_in, is_map, is_amount, is_add, is_remove, is_switch, is_drop};
 ghost use Rattle.crdt_core.specs.Seen.{is_reset, is_assign};
 ghost use Rattle.crdt_core.specs.Kinds.{reads_state};
 
@@ -32,7 +32,7 @@ fn leads_to(kind: Kind, path: &[Field], act: &Act) -> bool
 {
     let mut reached = kind;
     for field in path {
-        if !stands_in(reached, field.kind) {
+        if !nests_in(reached, field.kind) {
             return false;
         }
         reached = field.kind;
@@ -41,8 +41,8 @@ fn leads_to(kind: Kind, path: &[Field], act: &Act) -> bool
 }
 
 /// Whether a field of the inner kind may stand in an object of the outer one.
-pub fn stands_in(outer: Kind, inner: Kind) -> bool
-    ensures { result ≡ stands_in outer inner }
+pub fn nests_in(outer: Kind, inner: Kind) -> bool
+    ensures { result ≡ nests_in outer inner }
 {
     match outer {
         Kind::MapGo => true,
@@ -53,7 +53,7 @@ pub fn stands_in(outer: Kind, inner: Kind) -> bool
 
 /// Whether every update of the kind can be undone.
 fn has_reset(kind: Kind) -> bool
-    ensures { result ≡ stands_in Kind.MapRr kind }
+    ensures { result ≡ nests_in Kind.MapRr kind }
 {
     match kind {
         Kind::CounterFat
@@ -138,9 +138,9 @@ fn is_drop(act: &Act) -> bool
 /// What may stand in a map whose fields can be dropped, and be dropped there, is what can be reset. The other map has
 /// fields of each kind, and no kind but the maps has fields. A map's own acts are resets and drops.
 pub fn law_table()
-    ensures resets { (k : Kind) → stands_in MapRr k ≡ fits k [] Reset }
+    ensures resets { (k : Kind) → nests_in MapRr k ≡ fits k [] Reset }
     ensures drops { (f : Field) → fits MapRr [] (DropField f) ≡ fits f.kind [] Reset }
-    ensures any { (k : Kind) → stands_in MapGo k ≡ true }
+    ensures any { (k : Kind) → nests_in MapGo k ≡ true }
     ensures fields { (k : Kind) (f : Field) (p : List Field) (a : Act) → fits k (f ∷ p) a ≡ true → is_map k ≡ true }
     ensures own { (k : Kind) (a : Act) → is_map k ≡ true → fits k [] a ≡ true → (fits k [] Reset ≡ true) × ((is_reset a || is_drop a) ≡ true) }
 {}

@@ -18,8 +18,8 @@ use Rattle.crdt_core.specs.SpelledLaws.{dots_held_form}
 use Rattle.crdt_core.proofs.SetsLaws.{or_none}
 use Rattle.crdt_core.specs.EffectForm.{HasSpelling, SpellsEffects}
 use Rattle.crdt_core.proofs.HaveSpelling.{behind, dots_spelled}
-use Rattle.crdt_core.specs.NamedDots.{IsPartOf, have_update, NamesAreSpelled}
-use Rattle.crdt_core.proofs.NamedDotsLaws.{stands_behind, dots_stand}
+use Rattle.crdt_core.specs.NamedDots.{LiesIn, have_update, NamesAreSpelled}
+use Rattle.crdt_core.proofs.NamedDotsLaws.{lies_behind, dots_lie}
 use Rattle.crdt_meanings.specs.CounterFat.{fat_names}
 use Rattle.crdt_meanings.specs.declared.counters.FatEffect.{FatEffect}
 use Rattle.crdt_meanings.specs.declared.counters.FatEffect.TheVariants.{Amount, Reset}
@@ -126,15 +126,15 @@ abbrev pub fat_spells : (has : Kind → Bool) → SpellsEffects has is_of_kind c
 fat_spells has = record { form = λ k h. fat_form; all = fat_all }
 
 pub pn_named : NamesAreSpelled is_amount_number no_dot amount_sets amount_spelling
-pn_named = record { exact = λ e d can. refl; stands = λ e d can h. absurd (false≢true h) }
+pn_named = record { exact = λ e d can. refl; lies = λ e d can h. absurd (false≢true h) }
 
 fat_exact : (e : FatEffect) (d : Dot) → fat_names e d ≡ have_update (fat_sets e) d
 fat_exact (Amount n) d = refl
 fat_exact (Reset ds) d = sym (or_none (has_dot ds d))
 
-fat_stand : (e : FatEffect) (d : Dot) → can_put_fat e ≡ true → fat_names e d ≡ true → IsPartOf d (fat_spelling e)
-fat_stand (Amount n) d can h = absurd (false≢true h)
-fat_stand (Reset ds) d can h = stands_behind (number 1 1) (dots_stand ds d can h)
+fat_lies : (e : FatEffect) (d : Dot) → can_put_fat e ≡ true → fat_names e d ≡ true → LiesIn d (fat_spelling e)
+fat_lies (Amount n) d can h = absurd (false≢true h)
+fat_lies (Reset ds) d can h = lies_behind (number 1 1) (dots_lie ds d can h)
 
 pub fat_named : NamesAreSpelled can_put_fat fat_names fat_sets fat_spelling
-fat_named = record { exact = λ e d can. fat_exact e d; stands = fat_stand }
+fat_named = record { exact = λ e d can. fat_exact e d; lies = fat_lies }

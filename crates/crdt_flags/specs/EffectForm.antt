@@ -13,7 +13,7 @@ use Rattle.crdt_core.proofs.SetsLaws.{or_none}
 use Rattle.crdt_core.specs.EffectForm.{HasSpelling, SpellsEffects}
 use Rattle.crdt_core.proofs.HaveSpelling.{behind, dots_spelled}
 use Rattle.crdt_core.specs.NamedDots.{NamesAreSpelled}
-use Rattle.crdt_core.proofs.NamedDotsLaws.{stands_behind, dots_stand}
+use Rattle.crdt_core.proofs.NamedDotsLaws.{lies_behind, dots_lie}
 use Rattle.crdt_meanings.specs.Flags.{flag_out, flag_names}
 use Rattle.crdt_meanings.specs.declared.flags.FlagEffect.{FlagEffect}
 use Rattle.crdt_meanings.specs.declared.flags.FlagEffect.TheVariants.{Enable, Disable, Reset}
@@ -74,5 +74,5 @@ flag_spells has = record { form = λ k h. flag_form; all = flag_all }
 pub flag_named : NamesAreSpelled can_put_flag flag_names flag_sets flag_spelling
 flag_named = record {
   exact = λ e d can. sym (or_none (has_dot (flag_out e) d));
-  stands = λ e d can h. stands_behind (number 1 (flag_mark e)) (dots_stand (flag_out e) d can h);
+  lies = λ e d can h. lies_behind (number 1 (flag_mark e)) (dots_lie (flag_out e) d can h);
 }

@@ -17,23 +17,23 @@ use Rattle.site_vector.specs.declared.ids.Dot.{Dot}
 use Rattle.crdt_core.specs.declared.kind.Kind.{Kind}
 use Rattle.crdt_core.specs.declared.kind.Kind.TheVariants as kinds
 use Rattle.crdt_core.specs.declared.object.Field.{Field}
-use Rattle.crdt_core.specs.Fits.{stands_in}
+use Rattle.crdt_core.specs.Fits.{nests_in}
 use Rattle.crdt_core.specs.FieldOrder.{field_cmp}
 use Rattle.crdt_core.specs.Spelled.{is_between, kind, kind_at}
 use Rattle.crdt_core.specs.SpelledLaws.{kind_form}
 use Rattle.crdt_core.specs.EffectForm.{sets_ascend, Spells, HasSpelling, SpellsEffects, reset_tag, begins_with}
 use Rattle.crdt_core.proofs.HaveSpelling.{behind, asked, named, list_spelled}
-use Rattle.crdt_core.specs.NamedDots.{IsPartOf, have_update, NamesAreSpelled}
+use Rattle.crdt_core.specs.NamedDots.{LiesIn, have_update, NamesAreSpelled}
 use Rattle.crdt_core.proofs.SetsLaws.{or_none, update_of_list}
-use Rattle.crdt_core.proofs.NamedDotsLaws.{stands_behind, list_stands}
+use Rattle.crdt_core.proofs.NamedDotsLaws.{lies_behind, list_lies}
 use Rattle.crdt_meanings.specs.Maps.{map_kind, map_names}
 use Rattle.crdt_meanings.specs.declared.maps.MapEffect.{MapEffect}
 use Rattle.crdt_meanings.specs.declared.maps.MapEffect.TheVariants.{At, Resets}
 
 -- ---- a field: its name, and the code of a kind that may stand in the map and that the inner type has
 
-abbrev pub may_stand : Kind → (Kind → Bool) → Kind → Bool
-may_stand outer has k = stands_in outer k && has k
+abbrev pub may_nest : Kind → (Kind → Bool) → Kind → Bool
+may_nest outer has k = nests_in outer k && has k
 
 abbrev pub field : Field → List ℕ
 field f = text f.name ++ kind f.kind
@@ -95,7 +95,7 @@ module _ {V : Type 0} (tag : ℕ) (one : number 1 tag ≡ tag ∷ []) (small : i
 
   begins_there : (bytes : List ℕ) (at n mid : ℕ) → is_tag n ≡ true → Spans bytes at (number 1 n) mid → begins_with tag (drop at bytes) ≡ true
   begins_there bytes at n mid same spans =
-      ap (begins_with tag) (spans.stands ∙ ap (λ m. number 1 m ++ drop mid bytes) (eqb-true n tag same) ∙ ap (λ l. l ++ drop mid bytes) one) ∙ eq-eqb tag tag refl
+      ap (begins_with tag) (spans.lies ∙ ap (λ m. number 1 m ++ drop mid bytes) (eqb-true n tag same) ∙ ap (λ l. l ++ drop mid bytes) one) ∙ eq-eqb tag tag refl
 
   abbrev first_at : List ℕ → ℕ → Read ℕ
   first_at = checked_at is_tag (number_at 1)
@@ -136,7 +136,7 @@ module _ {V : Type 0} (tag : ℕ) (one : number 1 tag ≡ tag ∷ []) (small : i
           (λ a.
           let t = tags.found (bytes ++ b ∷ more) at a.0.0 a.0.1 all long a.1 in
           let is_it = eqb-true a.0.0 tag (both_true (is_tag a.0.0) (is_number 1 a.0.0) t.0).0 in
-          let begins : b ∷ more ≡ tag ∷ drop a.0.1 (bytes ++ b ∷ more) = sym (drop_at bytes (b ∷ more) at (sym here)) ∙ t.1.stands ∙ ap (λ n. number 1 n ++ drop a.0.1 (bytes ++ b ∷ more)) is_it ∙ ap (λ l. l ++ drop a.0.1 (bytes ++ b ∷ more)) one in
+          let begins : b ∷ more ≡ tag ∷ drop a.0.1 (bytes ++ b ∷ more) = sym (drop_at bytes (b ∷ more) at (sym here)) ∙ t.1.lies ∙ ap (λ n. number 1 n ++ drop a.0.1 (bytes ++ b ∷ more)) is_it ∙ ap (λ l. l ++ drop a.0.1 (bytes ++ b ∷ more)) one in
           let same : bytes ++ b ∷ more ≡ (bytes ++ tag ∷ []) ++ more = ap (λ n. bytes ++ n ∷ more) (head_is b tag more (drop a.0.1 (bytes ++ b ∷ more)) begins) ∙ sym (append_assoc bytes (tag ∷ []) more) in
           e.1 more (λ i. fits (suc i)) (omega (arith, most)) (sym (ap (λ l. reading l at) same) ∙ a.2))
           (bind_err (first_at (bytes ++ b ∷ more) at) (λ x. reading (bytes ++ b ∷ more) at) (Short at) h)
@@ -192,7 +192,7 @@ module _ {V : Type 0} (tag : ℕ) (one : number 1 tag ≡ tag ∷ []) (small : i
         let f = form.found bytes at v end ok within a.2 in
         let there = begins_there bytes at a.0.0 a.0.1 (both_true (is_tag a.0.0) (is_number 1 a.0.0) t.0).0 t.1 in
         let some = lt_holds at end ((steady_form form).after bytes at (v, end) ok within a.2) in
-        let begins = front_begins tag (spelling v) (drop end bytes) at end f.1.long some (sym (ap (begins_with tag) f.1.stands) ∙ there) in
+        let begins = front_begins tag (spelling v) (drop end bytes) at end f.1.long some (sym (ap (begins_with tag) f.1.lies) ∙ there) in
         (and_true (begins_with tag (spelling v)) (is_spelled v) begins f.0, f.1);
     again = λ bytes at v end good spans.
         let p = both_true (begins_with tag (spelling v)) (is_spelled v) good in
@@ -250,12 +250,12 @@ entry_below x y = is_below field_cmp x.0 y.0
 -- ---- effects of a map: a zero and an entry, or, where fields can be dropped, a one and the resets of fields, ascending
 
 abbrev pub map_can_put : {E : Type 0} → Bool → (Kind → Bool) → (Kind → E → Bool) → (E → Bool) → (E → List ℕ) → MapEffect E → Bool
-map_can_put drops has is_of can_put spelling (At f e) = can_put_entry (may_stand (map_kind drops) has) is_of can_put (f, e)
-map_can_put drops has is_of can_put spelling (Resets xs) = drops && are_members entry_below (can_put_reset (may_stand kinds.MapRr has) is_of can_put spelling) xs
+map_can_put drops has is_of can_put spelling (At f e) = can_put_entry (may_nest (map_kind drops) has) is_of can_put (f, e)
+map_can_put drops has is_of can_put spelling (Resets xs) = drops && are_members entry_below (can_put_reset (may_nest kinds.MapRr has) is_of can_put spelling) xs
 
 abbrev pub map_is_spelled : {E : Type 0} → Bool → (Kind → Bool) → (Kind → E → Bool) → (E → Bool) → (E → List ℕ) → MapEffect E → Bool
-map_is_spelled drops has is_of is_spelled spelling (At f e) = is_entry_spelled (may_stand (map_kind drops) has) is_of is_spelled (f, e)
-map_is_spelled drops has is_of is_spelled spelling (Resets xs) = drops && is_list entry_below (is_reset_spelled (may_stand kinds.MapRr has) is_of is_spelled spelling) xs
+map_is_spelled drops has is_of is_spelled spelling (At f e) = is_entry_spelled (may_nest (map_kind drops) has) is_of is_spelled (f, e)
+map_is_spelled drops has is_of is_spelled spelling (Resets xs) = drops && is_list entry_below (is_reset_spelled (may_nest kinds.MapRr has) is_of is_spelled spelling) xs
 
 abbrev pub last_mark : Bool → ℕ
 last_mark drops = cond drops 1 0
@@ -284,8 +284,8 @@ at_of x = At x.0 x.1
 
 unfoldable pub map_rest_at : {E : Type 0} → Bool → (Kind → Bool) → (Kind → List ℕ → ℕ → Read E) → ℕ → List ℕ → ℕ → Read (MapEffect E)
 map_rest_at drops has reading mark =
-    if mark == 0 then mapped_at at_of (entry_at (may_stand (map_kind drops) has) reading)
-    else mapped_at Resets (list_at entry_below (reset_at (may_stand kinds.MapRr has) reading))
+    if mark == 0 then mapped_at at_of (entry_at (may_nest (map_kind drops) has) reading)
+    else mapped_at Resets (list_at entry_below (reset_at (may_nest kinds.MapRr has) reading))
 
 unfoldable pub map_at : {E : Type 0} → Bool → (Kind → Bool) → (Kind → List ℕ → ℕ → Read E) → List ℕ → ℕ → Read (MapEffect E)
 map_at drops has reading = tagged_at (is_between 0 (last_mark drops)) (map_rest_at drops has reading)
@@ -294,8 +294,8 @@ map_at drops has reading = tagged_at (is_between 0 (last_mark drops)) (map_rest_
 abbrev pub is_of_map : {E : Type 0} → Kind → MapEffect E → Bool
 is_of_map k e = true
 
-in_field : (outer : Kind) (has : Kind → Bool) (f : Field) → is_field (may_stand outer has) f ≡ true → has f.kind ≡ true
-in_field outer has f h = (both_true (stands_in outer f.kind) (has f.kind) (both_true (is_text f.name) (may_stand outer has f.kind) h).1).1
+in_field : (outer : Kind) (has : Kind → Bool) (f : Field) → is_field (may_nest outer has) f ≡ true → has f.kind ≡ true
+in_field outer has f h = (both_true (nests_in outer f.kind) (has f.kind) (both_true (is_text f.name) (may_nest outer has f.kind) h).1).1
 
 small_tag : (most : ℕ) → most < 256 → (n : ℕ) → is_between 0 most n ≡ true → is_number 1 n ≡ true
 small_tag most few n h = let le = le_from n most (both_true (nat_le 0 n) _ h).1 in lt_holds n (256 ^ 1) (omega (arith, le, few))
@@ -309,14 +309,14 @@ entry_spelled : (words sets : Bool) {fits good : Bool} {bytes : List ℕ} (allow
 entry_spelled words sets allowed f all = behind (named words sets all (is_text f.name) (allowed f.kind)) (field f)
 
 module _ {E : Type 0} {has : Kind → Bool} {is_of : Kind → E → Bool} {can_put is_spelled : E → Bool} {sets : E → List (List Dot)} {texts : E → List (List ℕ)} {spelling : E → List ℕ} {reading : Kind → List ℕ → ℕ → Read E} (spells : SpellsEffects has is_of can_put is_spelled sets texts spelling reading) where
-  pub entry_form : (outer : Kind) → IsForm (can_put_entry (may_stand outer has) is_of can_put) (is_entry_spelled (may_stand outer has) is_of is_spelled) (entry spelling) (entry_at (may_stand outer has) reading)
+  pub entry_form : (outer : Kind) → IsForm (can_put_entry (may_nest outer has) is_of can_put) (is_entry_spelled (may_nest outer has) is_of is_spelled) (entry spelling) (entry_at (may_nest outer has) reading)
   unfolding entry_at
-  entry_form outer = let allowed = may_stand outer has in
+  entry_form outer = let allowed = may_nest outer has in
       then_form (λ f. allowed f.kind) (is_field allowed) field (field_at allowed) (λ f e. is_of f.kind e && can_put e) (λ f e. is_of f.kind e && is_spelled e) (λ _. spelling) (λ f. reading f.kind) (field_form allowed) (λ f h. spells.form f.kind (in_field outer has f h))
 
-  pub reset_form : (outer : Kind) → IsForm (can_put_reset (may_stand outer has) is_of can_put spelling) (is_reset_spelled (may_stand outer has) is_of is_spelled spelling) (entry spelling) (reset_at (may_stand outer has) reading)
+  pub reset_form : (outer : Kind) → IsForm (can_put_reset (may_nest outer has) is_of can_put spelling) (is_reset_spelled (may_nest outer has) is_of is_spelled spelling) (entry spelling) (reset_at (may_nest outer has) reading)
   unfolding reset_at
-  reset_form outer = let allowed = may_stand outer has in
+  reset_form outer = let allowed = may_nest outer has in
       then_form (λ f. allowed f.kind) (is_field allowed) field (field_at allowed)
       (λ f e. begins_with (reset_tag f.kind) (spelling e) && (is_of f.kind e && can_put e)) (λ f e. begins_with (reset_tag f.kind) (spelling e) && (is_of f.kind e && is_spelled e)) (λ _. spelling) (λ f. opened_at (reset_tag f.kind) (reading f.kind)) (field_form allowed)
       (λ f h. opened_form (reset_tag f.kind) (tag_byte f.kind) (tag_small f.kind) (λ e. is_of f.kind e && can_put e) (λ e. is_of f.kind e && is_spelled e) spelling (reading f.kind) (spells.form f.kind (in_field outer has f h)))
@@ -339,7 +339,7 @@ module _ {E : Type 0} {has : Kind → Bool} {is_of : Kind → E → Bool} {can_p
   rest_form : (drops : Bool) (n : ℕ) → is_between 0 (last_mark drops) n ≡ true → IsForm (λ e. eqb (map_mark drops e) n && can drops e) (λ e. eqb (map_mark drops e) n && spelled drops e) (map_rest spelling) (map_rest_at drops has reading n)
   unfolding map_rest_at
   rest_form drops zero h = shape_form at_of _ _ (entry spelling) _ _ _ _ (λ x. refl) (λ x. refl) (λ x. refl) (at_shape drops) (entry_form (map_kind drops))
-  rest_form true (suc zero) h = shape_form Resets _ _ (list (entry spelling)) _ _ _ _ (λ xs. refl) (λ xs. refl) (λ xs. refl) resets_shape (list_form entry_below _ _ (entry spelling) (reset_at (may_stand kinds.MapRr has) reading) (reset_form kinds.MapRr))
+  rest_form true (suc zero) h = shape_form Resets _ _ (list (entry spelling)) _ _ _ _ (λ xs. refl) (λ xs. refl) (λ xs. refl) resets_shape (list_form entry_below _ _ (entry spelling) (reset_at (may_nest kinds.MapRr has) reading) (reset_form kinds.MapRr))
   rest_form true (suc (suc n)) h = let le = le_from (suc (suc n)) 1 (both_true (nat_le 0 (suc (suc n))) _ h).1 in absurd (omega arith)
   rest_form false (suc n) h = let le = le_from (suc n) 0 (both_true (nat_le 0 (suc n)) _ h).1 in absurd (omega arith)
 
@@ -354,11 +354,11 @@ module _ {E : Type 0} {has : Kind → Bool} {is_of : Kind → E → Bool} {can_p
   map_form drops = tagged_form (is_between 0 (last_mark drops)) (map_mark drops) _ _ (map_rest spelling) (map_rest_at drops has reading) (mark_known drops) (small_mark drops) (rest_form drops)
 
   pub map_all : (drops : Bool) → HasSpelling (can drops) (spelled drops) (map_sets sets) (map_texts texts) (map_spelling drops spelling)
-  map_all drops (At f e) = behind (entry_spelled (list_all is_text (texts e)) (sets_ascend (sets e)) (may_stand (map_kind drops) has) f (asked (spells.all e) (is_of f.kind e))) (number 1 0)
+  map_all drops (At f e) = behind (entry_spelled (list_all is_text (texts e)) (sets_ascend (sets e)) (may_nest (map_kind drops) has) f (asked (spells.all e) (is_of f.kind e))) (number 1 0)
   map_all drops (Resets xs) =
       let begins : Field × E → Bool = λ x. begins_with (reset_tag x.0.kind) (spelling x.1) in
       behind (asked (list_spelled entry_below (reset_form kinds.MapRr) (λ x. sets x.1) (λ x. x.0.name ∷ texts x.1)
-      (λ x. entry_spelled (list_all is_text (texts x.1)) (sets_ascend (sets x.1)) (may_stand kinds.MapRr has) x.0 (asked (asked (spells.all x.1) (is_of x.0.kind x.1)) (begins x))) xs) drops) (number 1 (last_mark drops))
+      (λ x. entry_spelled (list_all is_text (texts x.1)) (sets_ascend (sets x.1)) (may_nest kinds.MapRr has) x.0 (asked (asked (spells.all x.1) (is_of x.0.kind x.1)) (begins x))) xs) drops) (number 1 (last_mark drops))
 
   abbrev pub map_spells : (drops : Bool) (of_map : Kind → Bool) → SpellsEffects of_map is_of_map (map_can_put drops has is_of can_put spelling) (map_is_spelled drops has is_of is_spelled spelling) (map_sets sets) (map_texts texts) (map_spelling drops spelling) (λ k. map_at drops has reading)
   map_spells drops of_map = record { form = λ k h. map_form drops; all = map_all drops }
@@ -373,48 +373,48 @@ module _ {E : Type 0} (has : Kind → Bool) (is_of : Kind → E → Bool) {can_p
   abbrev Exact : Field × E → Dot → Type 0
   Exact x d = (has x.0.kind && names x.1 d) ≡ have_update (sets x.1) d
 
-  entry_exact : (outer : Kind) (x : Field × E) (d : Dot) → can_put_entry (may_stand outer has) is_of can_put x ≡ true → Exact x d
+  entry_exact : (outer : Kind) (x : Field × E) (d : Dot) → can_put_entry (may_nest outer has) is_of can_put x ≡ true → Exact x d
   entry_exact outer x d can =
-      let a = both_true (may_stand outer has x.0.kind) (is_of x.0.kind x.1 && can_put x.1) can in
-      let known = (both_true (stands_in outer x.0.kind) (has x.0.kind) a.0).1 in
+      let a = both_true (may_nest outer has x.0.kind) (is_of x.0.kind x.1 && can_put x.1) can in
+      let known = (both_true (nests_in outer x.0.kind) (has x.0.kind) a.0).1 in
       known_names has x.0.kind (names x.1 d) (have_update (sets x.1) d) known (inner.exact x.1 d (both_true (is_of x.0.kind x.1) (can_put x.1) a.1).1)
 
   -- a reset that can be put is an entry that can
-  as_entry : (outer : Kind) (x : Field × E) → can_put_reset (may_stand outer has) is_of can_put spelling x ≡ true → can_put_entry (may_stand outer has) is_of can_put x ≡ true
+  as_entry : (outer : Kind) (x : Field × E) → can_put_reset (may_nest outer has) is_of can_put spelling x ≡ true → can_put_entry (may_nest outer has) is_of can_put x ≡ true
   as_entry outer x can =
       let begins = begins_with (reset_tag x.0.kind) (spelling x.1) in
-      let a = both_true (may_stand outer has x.0.kind) (begins && (is_of x.0.kind x.1 && can_put x.1)) can in
-      and_true (may_stand outer has x.0.kind) _ a.0 (both_true begins (is_of x.0.kind x.1 && can_put x.1) a.1).1
+      let a = both_true (may_nest outer has x.0.kind) (begins && (is_of x.0.kind x.1 && can_put x.1)) can in
+      and_true (may_nest outer has x.0.kind) _ a.0 (both_true begins (is_of x.0.kind x.1 && can_put x.1) a.1).1
 
-  reset_exact : (outer : Kind) (x : Field × E) (d : Dot) → can_put_reset (may_stand outer has) is_of can_put spelling x ≡ true → Exact x d
+  reset_exact : (outer : Kind) (x : Field × E) (d : Dot) → can_put_reset (may_nest outer has) is_of can_put spelling x ≡ true → Exact x d
   reset_exact outer x d can = entry_exact outer x d (as_entry outer x can)
 
-  resets_exact : (outer : Kind) (xs : List (Field × E)) (d : Dot) → list_all (can_put_reset (may_stand outer has) is_of can_put spelling) xs ≡ true
+  resets_exact : (outer : Kind) (xs : List (Field × E)) (d : Dot) → list_all (can_put_reset (may_nest outer has) is_of can_put spelling) xs ≡ true
       → list_any (λ x. has x.0.kind && names x.1 d) xs ≡ list_any (λ x. have_update (sets x.1) d) xs
   resets_exact outer [] d can = refl
   resets_exact outer (x ∷ xs) d can =
-      let two = both_true (can_put_reset (may_stand outer has) is_of can_put spelling x) _ can in
+      let two = both_true (can_put_reset (may_nest outer has) is_of can_put spelling x) _ can in
       λ i. reset_exact outer x d two.0 i || resets_exact outer xs d two.1 i
 
   map_exact : (drops : Bool) (e : MapEffect E) (d : Dot) → map_can_put drops has is_of can_put spelling e ≡ true → map_names has names e d ≡ have_update (map_sets sets e) d
   map_exact drops (At f e) d can = or_none (has f.kind && names e d) ∙ entry_exact (map_kind drops) (f, e) d can
   map_exact drops (Resets xs) d can =
       let members = (both_true drops _ can).1 in
-      let good = both_true (are_in_order entry_below None xs) (list_all (can_put_reset (may_stand kinds.MapRr has) is_of can_put spelling) xs) members in
+      let good = both_true (are_in_order entry_below None xs) (list_all (can_put_reset (may_nest kinds.MapRr has) is_of can_put spelling) xs) members in
       resets_exact kinds.MapRr xs d good.1 ∙ sym (update_of_list (λ x. sets x.1) xs d)
 
   -- and each of these updates stands there
-  entry_stands : (outer : Kind) (x : Field × E) (d : Dot) → can_put_entry (may_stand outer has) is_of can_put x ≡ true → (has x.0.kind && names x.1 d) ≡ true → IsPartOf d (entry spelling x)
-  entry_stands outer x d can h =
-      let a = both_true (may_stand outer has x.0.kind) (is_of x.0.kind x.1 && can_put x.1) can in
-      stands_behind (field x.0) (inner.stands x.1 d (both_true (is_of x.0.kind x.1) (can_put x.1) a.1).1 (both_true (has x.0.kind) (names x.1 d) h).1)
+  entry_lies : (outer : Kind) (x : Field × E) (d : Dot) → can_put_entry (may_nest outer has) is_of can_put x ≡ true → (has x.0.kind && names x.1 d) ≡ true → LiesIn d (entry spelling x)
+  entry_lies outer x d can h =
+      let a = both_true (may_nest outer has x.0.kind) (is_of x.0.kind x.1 && can_put x.1) can in
+      lies_behind (field x.0) (inner.lies x.1 d (both_true (is_of x.0.kind x.1) (can_put x.1) a.1).1 (both_true (has x.0.kind) (names x.1 d) h).1)
 
-  map_stand : (drops : Bool) (e : MapEffect E) (d : Dot) → map_can_put drops has is_of can_put spelling e ≡ true → map_names has names e d ≡ true → IsPartOf d (map_spelling drops spelling e)
-  map_stand drops (At f e) d can h = stands_behind (number 1 0) (entry_stands (map_kind drops) (f, e) d can (sym (or_none (has f.kind && names e d)) ∙ h))
-  map_stand drops (Resets xs) d can h =
-      let fits = can_put_reset (may_stand kinds.MapRr has) is_of can_put spelling in
+  map_lies : (drops : Bool) (e : MapEffect E) (d : Dot) → map_can_put drops has is_of can_put spelling e ≡ true → map_names has names e d ≡ true → LiesIn d (map_spelling drops spelling e)
+  map_lies drops (At f e) d can h = lies_behind (number 1 0) (entry_lies (map_kind drops) (f, e) d can (sym (or_none (has f.kind && names e d)) ∙ h))
+  map_lies drops (Resets xs) d can h =
+      let fits = can_put_reset (may_nest kinds.MapRr has) is_of can_put spelling in
       let good = both_true (are_in_order entry_below None xs) (list_all fits xs) (both_true drops _ can).1 in
-      stands_behind (number 1 (last_mark drops)) (list_stands (entry spelling) fits (λ x c. has x.0.kind && names x.1 c) (λ x c fit named. entry_stands kinds.MapRr x c (as_entry kinds.MapRr x fit) named) xs d good.1 h)
+      lies_behind (number 1 (last_mark drops)) (list_lies (entry spelling) fits (λ x c. has x.0.kind && names x.1 c) (λ x c fit named. entry_lies kinds.MapRr x c (as_entry kinds.MapRr x fit) named) xs d good.1 h)
 
   pub map_named : (drops : Bool) → NamesAreSpelled (map_can_put drops has is_of can_put spelling) (map_names has names) (map_sets sets) (map_spelling drops spelling)
-  map_named drops = record { exact = map_exact drops; stands = map_stand drops }
+  map_named drops = record { exact = map_exact drops; lies = map_lies drops }

@@ -14,7 +14,7 @@ use Rattle.crdt_core.specs.declared.object.Field.{Field}
 use Rattle.crdt_core.specs.declared.operation.Act.{Act}
 use Rattle.crdt_core.specs.declared.operation.Act.TheVariants as act
 use Rattle.crdt_core.specs.declared.value.Value.{Value}
-use Rattle.crdt_core.specs.Fits.{stands_in, fits}
+use Rattle.crdt_core.specs.Fits.{nests_in, fits}
 use Rattle.crdt_core.specs.KindCodes.{same_kind_is}
 use Rattle.crdt_core.specs.FieldOrder.{field_cmp}
 use Rattle.crdt_core.specs.Seen.{Update}
@@ -27,7 +27,7 @@ use Rattle.crdt_meanings.specs.declared.maps.MapEffect.TheVariants.{At, Resets}
 use Rattle.crdt_meanings.specs.Maps.{FieldMap, at, map_kind, map_has, is_undone, resets_of, reset_by, map_made, map_too_deep, map_holds}
 use Rattle.crdt_meanings.proofs.FieldHistory.{outer_fits, enters, own_act}
 use Rattle.crdt_meanings.proofs.MapSteps.{some_found, held_here}
-use Rattle.crdt_maps.specs.EffectForm.{may_stand, entry_below, map_can_put, map_sets, map_spelling, is_of_map}
+use Rattle.crdt_maps.specs.EffectForm.{may_nest, entry_below, map_can_put, map_sets, map_spelling, is_of_map}
 
 -- an effect of a field that can be put, whose sets of updates ascend
 abbrev pub is_ready_at : {E : Type 0} → (Kind → E → Bool) → (E → Bool) → (E → List (List Dot)) → Kind → E → Bool
@@ -138,12 +138,12 @@ module _ {S E : Type 0} (has : Kind → Bool) (initial : Kind → S) (made : Kin
       ]
 
   -- and are of kinds that may stand there
-  all_may_stand : (n : ℕ) (es : List (Field × S)) → list_all (λ x. may_stand kinds.MapRr has x.0.kind) (resets n es) ≡ true
-  all_may_stand n [] = refl
-  all_may_stand n (e ∷ es) =
-      elim (is_undone has is_blank e) as (λ b. is_undone has is_blank e ≡ b → list_all (λ x. may_stand kinds.MapRr has x.0.kind) (map (reset_made n) (cond b (e ∷ filter (is_undone has is_blank) es) (filter (is_undone has is_blank) es))) ≡ true) [
-        | true ↦ λ t. and_from _ _ (turned (has e.0.kind) (stands_in kinds.MapRr e.0.kind) (not (is_blank e.1)) t) (all_may_stand n es)
-        | false ↦ λ t. all_may_stand n es
+  all_may_nest : (n : ℕ) (es : List (Field × S)) → list_all (λ x. may_nest kinds.MapRr has x.0.kind) (resets n es) ≡ true
+  all_may_nest n [] = refl
+  all_may_nest n (e ∷ es) =
+      elim (is_undone has is_blank e) as (λ b. is_undone has is_blank e ≡ b → list_all (λ x. may_nest kinds.MapRr has x.0.kind) (map (reset_made n) (cond b (e ∷ filter (is_undone has is_blank) es) (filter (is_undone has is_blank) es))) ≡ true) [
+        | true ↦ λ t. and_from _ _ (turned (has e.0.kind) (nests_in kinds.MapRr e.0.kind) (not (is_blank e.1)) t) (all_may_nest n es)
+        | false ↦ λ t. all_may_nest n es
       ] refl
 
   acts_sorted : (m : FieldMap S) (a : Act) → is_sorted field_cmp (reset_by initial m a) ≡ true
@@ -156,8 +156,8 @@ module _ {S E : Type 0} (has : Kind → Bool) (initial : Kind → S) (made : Kin
     effect k m p a n = map_made has initial made is_blank k m p a n
 
     entered_ready : (k : Kind) (m : FieldMap S) (f : Field) (p : List Field) (a : Act) (n : ℕ) → outer_fits has too_deep k (f ∷ p) a ≡ true → (is_of f.kind (made f.kind (at initial m f) p a n) && can_put (made f.kind (at initial m f) p a n)) ≡ true
-        → (may_stand k has f.kind && (is_of f.kind (made f.kind (at initial m f) p a n) && can_put (made f.kind (at initial m f) p a n))) ≡ true
-    entered_ready k m f p a n fit h = let e = enters has too_deep k f p a fit in and_from _ _ (and_from _ _ e.stands e.known) h
+        → (may_nest k has f.kind && (is_of f.kind (made f.kind (at initial m f) p a n) && can_put (made f.kind (at initial m f) p a n))) ≡ true
+    entered_ready k m f p a n fit h = let e = enters has too_deep k f p a fit in and_from _ _ (and_from _ _ e.nests e.known) h
 
     abbrev Ready : Bool → Kind → List Field → Act → MapEffect E → Type 0
     Ready drops k p a e = IsReady is_of_map (map_can_put drops has is_of can_put spelling) (map_sets sets) (map_spelling drops spelling) k p a e
@@ -170,7 +170,7 @@ module _ {S E : Type 0} (has : Kind → Bool) (initial : Kind → S) (made : Kin
         let ready = resets_ready is_of can_put sets spelling (resets n es) h in
         record {
           kind = refl;
-          fit = and_from _ _ (all_in_order n es (acts_sorted m a)) (all_both (λ x. may_stand kinds.MapRr has x.0.kind) (resets_put is_of can_put spelling) (resets n es) (all_may_stand n es) ready.0);
+          fit = and_from _ _ (all_in_order n es (acts_sorted m a)) (all_both (λ x. may_nest kinds.MapRr has x.0.kind) (resets_put is_of can_put spelling) (resets n es) (all_may_nest n es) ready.0);
           sets = ready.1;
           opened = λ asked. refl;
         }

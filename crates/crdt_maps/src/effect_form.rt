@@ -2,7 +2,7 @@ ghost use Rattle.std.specs.Prelude.{◌≡◌, ◌≤◌, ◌++◌, true, length
 ghost use Rattle.field_codec.specs.Spelling.{number, list, are_members, is_list, Keeps};
 ghost use Rattle.field_codec.specs.Reading.{Gives, list_at};
 ghost use Rattle.crdt_core.specs.declared.kind.Kind.TheVariants.{MapRr};
-ghost use Rattle.crdt_maps.specs.EffectForm.{may_stand, entry, entry_below, can_put_reset, is_reset_spelled, reset_at, map_can_put, map_is_spelled, map_spelling, map_at, map_form};
+ghost use Rattle.crdt_maps.specs.EffectForm.{may_nest, entry, entry_below, can_put_reset, is_reset_spelled, reset_at, map_can_put, map_is_spelled, map_spelling, map_at, map_form};
 
 use crate::entry_form::{ResetForm, put_entry, take_entry};
 use crate::values::kind_of;
@@ -65,8 +65,8 @@ impl<I: Crdt> Form for MapForm<I> {
 }
 
 fn put_resets<I: Crdt>(out: &mut Vec<u8>, resets: &[(Field, I::Effect)]) -> Result<(), AllocError>
-    requires { are_members entry_below (can_put_reset (may_stand MapRr I.has) I.is_of I.can_put I.spelling) resets.now ≡ true }
-    ensures spelled { OnOk result (is_list entry_below (is_reset_spelled (may_stand MapRr I.has) I.is_of I.is_spelled I.spelling) resets.now ≡ true) }
+    requires { are_members entry_below (can_put_reset (may_nest MapRr I.has) I.is_of I.can_put I.spelling) resets.now ≡ true }
+    ensures spelled { OnOk result (is_list entry_below (is_reset_spelled (may_nest MapRr I.has) I.is_of I.is_spelled I.spelling) resets.now ≡ true) }
     ensures ok { OnOk result (out.new.items ≡ out.old.items ++ (number 1 1 ++ list (entry I.spelling) resets.now)) }
     ensures err { OnErr result (Keeps out.old.items out.new.items) }
 {
@@ -80,7 +80,7 @@ fn take_resets<I: Crdt>(
     bytes: &[u8],
     at: usize,
 ) -> Result<(ListOf<(Field, I::Effect)>, usize), TakeError>
-    ensures answer { Gives result (list_at entry_below (reset_at (may_stand MapRr I.has) I.reading) bytes.now at) }
+    ensures answer { Gives result (list_at entry_below (reset_at (may_nest MapRr I.has) I.reading) bytes.now at) }
     ensures within { IfOk result (λ x. x.1 ≤ length bytes.now) }
 {
     let form: ResetForm<I> = ResetForm { inner: PhantomData };

@@ -3,9 +3,9 @@ ghost use Rattle.field_codec.specs.Spelling.{Keeps, is_text};
 ghost use Rattle.field_codec.specs.Reading.{Gives};
 ghost use Rattle.crdt_core.specs.declared.kind.Kind.TheVariants.{MapRr};
 ghost use Rattle.crdt_core.specs.EffectForm.{reset_tag};
-ghost use Rattle.crdt_maps.specs.EffectForm.{may_stand, field_at, opened_at, entry, entry_at, can_put_reset, is_reset_spelled, reset_at, entry_below, reset_form};
+ghost use Rattle.crdt_maps.specs.EffectForm.{may_nest, field_at, opened_at, entry, entry_at, can_put_reset, is_reset_spelled, reset_at, entry_below, reset_form};
 
-use crdt_core::{Crdt, Field, Kind, put_kind, stands_in, take_kind};
+use crdt_core::{Crdt, Field, Kind, nests_in, put_kind, take_kind};
 use field_codec::{Form, TakeError, put_text, take_text, take_u8};
 use std::alloc::{AllocError, Global};
 use std::marker::PhantomData;
@@ -43,13 +43,13 @@ fn take_field<I: Crdt>(
     bytes: &[u8],
     at: usize,
 ) -> Result<(Field, usize), TakeError>
-    ensures answer { Gives result (field_at (may_stand outer I.has) bytes.now at) }
+    ensures answer { Gives result (field_at (may_nest outer I.has) bytes.now at) }
     ensures within { IfOk result (λ x. x.1 ≤ length bytes.now) }
     ensures known { IfOk result (λ x. I.has x.0.kind ≡ true) }
 {
     let (name, kind_at) = take_text(alloc, bytes, at)?;
     let (kind, end) = take_kind(bytes, kind_at)?;
-    if !stands_in(outer, kind) {
+    if !nests_in(outer, kind) {
         return Err(TakeError::Bad { at: kind_at });
     }
     if !I::has(kind) {
@@ -70,7 +70,7 @@ pub(crate) fn take_entry<I: Crdt>(
     bytes: &[u8],
     at: usize,
 ) -> Result<((Field, I::Effect), usize), TakeError>
-    ensures answer { Gives result (entry_at (may_stand outer I.has) I.reading bytes.now at) }
+    ensures answer { Gives result (entry_at (may_nest outer I.has) I.reading bytes.now at) }
     ensures within { IfOk result (λ x. x.1 ≤ length bytes.now) }
 {
     let (field, effect_at) = take_field::<I>(alloc, outer, bytes, at)?;
@@ -116,7 +116,7 @@ fn take_reset<I: Crdt>(
     bytes: &[u8],
     at: usize,
 ) -> Result<((Field, I::Effect), usize), TakeError>
-    ensures answer { Gives result (reset_at (may_stand MapRr I.has) I.reading bytes.now at) }
+    ensures answer { Gives result (reset_at (may_nest MapRr I.has) I.reading bytes.now at) }
     ensures within { IfOk result (λ x. x.1 ≤ length bytes.now) }
 {
     let (field, effect_at) = take_field::<I>(alloc, Kind::MapRr, bytes, at)?;
@@ -133,13 +133,13 @@ pub(crate) struct ResetForm<I: Crdt> {
 impl<I: Crdt> Form for ResetForm<I> {
     type Value = (Field, I::Effect);
 
-    ghost fits = { λ _ x. can_put_reset (may_stand MapRr I.has) I.is_of I.can_put I.spelling x };
+    ghost fits = { λ _ x. can_put_reset (may_nest MapRr I.has) I.is_of I.can_put I.spelling x };
 
-    ghost is_spelled = { λ _ x. is_reset_spelled (may_stand MapRr I.has) I.is_of I.is_spelled I.spelling x };
+    ghost is_spelled = { λ _ x. is_reset_spelled (may_nest MapRr I.has) I.is_of I.is_spelled I.spelling x };
 
     ghost spelling = { λ _ x. entry I.spelling x };
 
-    ghost reading = { λ _ bytes at. reset_at (may_stand MapRr I.has) I.reading bytes at };
+    ghost reading = { λ _ bytes at. reset_at (may_nest MapRr I.has) I.reading bytes at };
 
     ghost follows = { λ _ before x. entry_below before x };
 

@@ -8,7 +8,7 @@ ghost use Rattle.crdt_maps.specs.Ready.{is_ready_at, is_reset_ready, parts_ready
 ghost use Rattle.crdt_meanings.specs.Maps.{at, is_undone, resets_of, reset_by, map_made, map_too_deep, map_holds};
 
 use crate::{Boxed, Fields, MapEffect};
-use crdt_core::{Act, Crdt, Field, Kind, stands_in};
+use crdt_core::{Act, Crdt, Field, Kind, nests_in};
 use field_codec::ListOf;
 use std::alloc::{AllocError, Global};
 
@@ -122,7 +122,7 @@ fn push_reset<I: Crdt>(
 fn is_undone<I: Crdt>(field: &Field, state: &I::State) -> bool
     ensures { result ≡ is_undone I.has I.is_blank (field.now, state.now) }
 {
-    I::has(field.kind) && stands_in(Kind::MapRr, field.kind) && !I::is_blank(state)
+    I::has(field.kind) && nests_in(Kind::MapRr, field.kind) && !I::is_blank(state)
 }
 
 /// The effect at a field.

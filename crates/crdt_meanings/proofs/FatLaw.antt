@@ -83,7 +83,7 @@ fat_law = record {
   orderless = λ k us vs has. counter_orderless k us vs;
   unread = λ k s t p a n has r. absurd (true≢false (sym (reads k has) ∙ r));
   steps = λ k has. fat_steps k;
-  kept = λ k us d has fit h. named_by_reset fat_made fat_names (λ k s n d. refl) k _ d (ap (λ l. allows l act.Reset) (same_kind_is k CounterFat has)) h;
+  nameable = λ k us d has fit h. named_by_reset fat_made fat_names (λ k s n d. refl) k _ d (ap (λ l. allows l act.Reset) (same_kind_is k CounterFat has)) h;
 }
 
 pub fat_in_maps : KeepsInMaps fat_has (λ k p. false) (λ k. empty) fat_step fat_made keeps_none

@@ -11,7 +11,7 @@ use Rattle.crdt_core.specs.declared.object.Field.{Field}
 use Rattle.crdt_core.specs.declared.operation.Act.{Act}
 use Rattle.crdt_core.specs.declared.operation.Act.TheVariants as act
 use Rattle.crdt_core.specs.Kinds.{same_field}
-use Rattle.crdt_core.specs.Fits.{stands_in}
+use Rattle.crdt_core.specs.Fits.{nests_in}
 use Rattle.crdt_core.specs.Seen.{Update, sees}
 use Rattle.crdt_core.specs.History.{folded, effects}
 use Rattle.crdt_core.specs.Law.{made_by, all_fit}
@@ -21,7 +21,7 @@ use Rattle.crdt_core.specs.MapLists.{distinct_entries}
 use Rattle.crdt_meanings.specs.Maps.{FieldMap, at, is_undone, map_step, map_made, map_too_deep}
 use Rattle.crdt_meanings.specs.MapMeaning.{with_some, inner_op, within, of_field}
 use Rattle.crdt_meanings.proofs.FieldSteps.{at_one, at_one_other, after_undo, at_resets}
-use Rattle.crdt_meanings.proofs.FieldHistory.{reset_stands, outer_fits, own_act}
+use Rattle.crdt_meanings.proofs.FieldHistory.{reset_nests, outer_fits, own_act}
 
 module _ {S E : Type 0} {has : Kind → Bool} {too_deep : Kind → List Field → Bool} {initial : Kind → S} {step : S → Dot → E → S} {made : Kind → S → List Field → Act → ℕ → E} {is_blank : S → Bool} (owed : KeepsInMaps has too_deep initial step made is_blank) where
   abbrev here : FieldMap S → Field → S
@@ -48,15 +48,15 @@ module _ {S E : Type 0} {has : Kind → Bool} {too_deep : Kind → List Field �
       elim (p u.dot) as (λ b. folded (initial l) step (cond b ((u.dot, e) ∷ filter (λ e. p e.0) es) (filter (λ e. p e.0) es)) ≡ cond b (step (inside l p vs) u.dot e) (inside l p vs)) [ true ↦ refl | false ↦ refl ]
 
   module _ (f : Field) (known : has f.kind ≡ true) where
-    undo_is : stands_in MapRr f.kind ≡ true → (x t : S) (d : Dot) (n : ℕ) → cond (is_undone has is_blank (f, x)) (step t d (made f.kind x [] act.Reset n)) t ≡ step t d (made f.kind x [] act.Reset n)
-    undo_is stands x t d n =
+    undo_is : nests_in MapRr f.kind ≡ true → (x t : S) (d : Dot) (n : ℕ) → cond (is_undone has is_blank (f, x)) (step t d (made f.kind x [] act.Reset n)) t ≡ step t d (made f.kind x [] act.Reset n)
+    undo_is nests x t d n =
         let after = step t d (made f.kind x [] act.Reset n) in
-        (λ i. cond (known i && (stands i && not (is_blank x))) after t)
-        ∙ elim (is_blank x) as (λ b. is_blank x ≡ b → cond (not b) after t ≡ after) [ true ↦ λ e. sym (owed.undoes_none f.kind x t d n known stands e) | false ↦ λ e. refl ] refl
+        (λ i. cond (known i && (nests i && not (is_blank x))) after t)
+        ∙ elim (is_blank x) as (λ b. is_blank x ≡ b → cond (not b) after t ≡ after) [ true ↦ λ e. sym (owed.undoes_none f.kind x t d n known nests e) | false ↦ λ e. refl ] refl
 
-    undo_all : stands_in MapRr f.kind ≡ true → (o : Option S) (t : S) (d : Dot) (n : ℕ) → after_undo has initial step made is_blank n d f t o ≡ step t d (made f.kind (unwrap_or o (initial f.kind)) [] act.Reset n)
-    undo_all stands None t d n = sym (owed.undoes_none f.kind (initial f.kind) t d n known stands (owed.first_blank f.kind known))
-    undo_all stands (Some x) t d n = undo_is stands x t d n
+    undo_all : nests_in MapRr f.kind ≡ true → (o : Option S) (t : S) (d : Dot) (n : ℕ) → after_undo has initial step made is_blank n d f t o ≡ step t d (made f.kind (unwrap_or o (initial f.kind)) [] act.Reset n)
+    undo_all nests None t d n = sym (owed.undoes_none f.kind (initial f.kind) t d n known nests (owed.first_blank f.kind known))
+    undo_all nests (Some x) t d n = undo_is nests x t d n
 
     -- a state after what an update does at the field
     abbrev after : S → S → ℕ → Dot → Option (List Field × Act) → S
@@ -66,12 +66,12 @@ module _ {S E : Type 0} {has : Kind → Bool} {too_deep : Kind → List Field �
     abbrev stepped : Kind → FieldMap S → FieldMap S → ℕ → Dot → List Field → Act → S
     stepped k m sm n d p a = here (map_step has initial step m d (map_made has initial made is_blank k sm p a n)) f
 
-    step_drop : (k : Kind) (g : Field) → (same_field g f ≡ true → stands_in MapRr f.kind ≡ true) → (m sm : FieldMap S) (n : ℕ) (d : Dot) → stepped k m sm n d [] (act.DropField g) ≡ after (here m f) (here sm f) n d (cond (same_field g f) (Some ([], act.Reset)) None)
-    step_drop k g stands m sm n d =
+    step_drop : (k : Kind) (g : Field) → (same_field g f ≡ true → nests_in MapRr f.kind ≡ true) → (m sm : FieldMap S) (n : ℕ) (d : Dot) → stepped k m sm n d [] (act.DropField g) ≡ after (here m f) (here sm f) n d (cond (same_field g f) (Some ([], act.Reset)) None)
+    step_drop k g nests m sm n d =
         at_resets has initial step made is_blank ((g, here sm g) ∷ []) (refl, tt) n d f m
         ∙ ap (λ b. after_undo has initial step made is_blank n d f (here m f) (cond b (Some (here sm g)) None)) (sym (field_ties f g) ∙ same_field_symm f g)
         ∙ elim (same_field g f) as (λ b. same_field g f ≡ b → after_undo has initial step made is_blank n d f (here m f) (cond b (Some (here sm g)) None) ≡ after (here m f) (here sm f) n d (cond b (Some ([], act.Reset)) None)) [
-          | true ↦ λ t. undo_all (stands t) (Some (here sm g)) (here m f) d n ∙ ap (λ h. step (here m f) d (made f.kind (here sm h) [] act.Reset n)) (same_field_is g f t)
+          | true ↦ λ t. undo_all (nests t) (Some (here sm g)) (here m f) d n ∙ ap (λ h. step (here m f) d (made f.kind (here sm h) [] act.Reset n)) (same_field_is g f t)
           | false ↦ λ t. refl
         ] refl
 
@@ -82,7 +82,7 @@ module _ {S E : Type 0} {has : Kind → Bool} {too_deep : Kind → List Field �
     ] refl
 
     -- a step of the map is at the field what the update is for the field
-    step_here : (k : Kind) → reset_stands k f → (p : List Field) (a : Act) → outer_fits has too_deep k p a ≡ true → (m sm : FieldMap S) (n : ℕ) (d : Dot) → stepped k m sm n d p a ≡ after (here m f) (here sm f) n d (inner_op f p a)
+    step_here : (k : Kind) → reset_nests k f → (p : List Field) (a : Act) → outer_fits has too_deep k p a ≡ true → (m sm : FieldMap S) (n : ℕ) (d : Dot) → stepped k m sm n d p a ≡ after (here m f) (here sm f) n d (inner_op f p a)
     step_here k own [] act.Reset fit m sm n d =
         at_resets has initial step made is_blank (entries sm) (distinct_entries sm) n d f m
         ∙ ap (after_undo has initial step made is_blank n d f (here m f)) (sym (get-entries sm f))
@@ -100,7 +100,7 @@ module _ {S E : Type 0} {has : Kind → Bool} {too_deep : Kind → List Field �
     pick true x y = refl
     pick false x y = refl
 
-    pub field_folded : (k : Kind) → reset_stands k f → (us : List Update) → all_fit (map_too_deep has too_deep) k us ≡ true → (p : Dot → Bool) → here (outer k p us) f ≡ inside f.kind p (of_field f us)
+    pub field_folded : (k : Kind) → reset_nests k f → (us : List Update) → all_fit (map_too_deep has too_deep) k us ≡ true → (p : Dot → Bool) → here (outer k p us) f ≡ inside f.kind p (of_field f us)
     field_folded k own [] fit p = ap (λ o. unwrap_or o (initial f.kind)) (get-empty field_cmp f)
     field_folded k own (u ∷ us) fit p =
         let two = and_parts (outer_fits has too_deep k u.path u.act) _ fit in

@@ -13,7 +13,7 @@ use Rattle.crdt_core.specs.declared.object.Field.{Field}
 use Rattle.crdt_core.specs.declared.operation.Act.{Act}
 use Rattle.crdt_core.specs.declared.operation.Act.TheVariants as act
 use Rattle.crdt_core.specs.Kinds.{same_field}
-use Rattle.crdt_core.specs.Fits.{stands_in, allows, fits}
+use Rattle.crdt_core.specs.Fits.{nests_in, allows, fits}
 use Rattle.crdt_core.specs.Seen.{Update, sees}
 use Rattle.crdt_core.specs.History.{IsClosed, IsNext, IsHistory}
 use Rattle.crdt_core.specs.Law.{all_fit}
@@ -55,7 +55,7 @@ history_of_field f [] h = h
 history_of_field f (u ∷ us) h = history_onto f u us (inner_op f u.path u.act) h.0 (history_of_field f us h.1)
 
 -- what may stand in a map that resets has a reset
-resets_fit : (k : Kind) → stands_in kind.MapRr k ≡ true → allows k act.Reset ≡ true
+resets_fit : (k : Kind) → nests_in kind.MapRr k ≡ true → allows k act.Reset ≡ true
 resets_fit kind.CounterFat h = refl
 resets_fit kind.SetAw h = refl
 resets_fit kind.SetRw h = refl
@@ -76,8 +76,8 @@ shown_fit : (deep : Bool) → deep ≡ false → not deep ≡ true
 shown_fit deep h = ap not h
 
 -- where the map has acts of its own, the field may stand in a map that resets
-abbrev pub reset_stands : Kind → Field → Type 0
-reset_stands k f = (a : Act) → allows k a ≡ true → stands_in kind.MapRr f.kind ≡ true
+abbrev pub reset_nests : Kind → Field → Type 0
+reset_nests k f = (a : Act) → allows k a ≡ true → nests_in kind.MapRr f.kind ≡ true
 
 -- that of a map's kind leads into fields of kinds that the inner type has
 module _ (has : Kind → Bool) (too_deep : Kind → List Field → Bool) where
@@ -89,22 +89,22 @@ module _ (has : Kind → Bool) (too_deep : Kind → List Field → Bool) where
 
   pub record Enters (k : Kind) (f : Field) (p : List Field) (a : Act) : Type 0 where
     pub known : has f.kind ≡ true
-    pub stands : stands_in k f.kind ≡ true
+    pub nests : nests_in k f.kind ≡ true
     pub fit : inner_fits f.kind p a ≡ true
 
   pub enters : (k : Kind) (f : Field) (p : List Field) (a : Act) → outer_fits k (f ∷ p) a ≡ true → Enters k f p a
   enters k f p a h =
       let all = and_parts (fits k (f ∷ p) a) _ h in
       let one = and_parts (nat_le (length (f ∷ p)) 3) _ all.0 in
-      let two = and_parts (stands_in k f.kind) _ one.1 in
+      let two = and_parts (nests_in k f.kind) _ one.1 in
       let deep = no_depth (has f.kind) (too_deep f.kind p) all.1 in
-      record { known = deep.0; stands = two.0; fit = and_from _ _ (and_from _ _ (shorter (length p) one.0) two.1) deep.1 }
+      record { known = deep.0; nests = two.0; fit = and_from _ _ (and_from _ _ (shorter (length p) one.0) two.1) deep.1 }
 
   pub own_act : (k : Kind) (a : Act) → outer_fits k [] a ≡ true → allows k a ≡ true
   own_act k a h = (and_parts (nat_le 0 3) _ (and_parts (fits k [] a) _ h).0).1
 
   module _ (shallow : (k : Kind) → too_deep k [] ≡ false) where
-    pub reset_fits : (f : Field) → stands_in kind.MapRr f.kind ≡ true → inner_fits f.kind [] act.Reset ≡ true
+    pub reset_fits : (f : Field) → nests_in kind.MapRr f.kind ≡ true → inner_fits f.kind [] act.Reset ≡ true
     reset_fits f h = and_from _ _ (and_from _ _ refl (resets_fit f.kind h)) (shown_fit _ (shallow f.kind))
 
     fits_here : (k : Kind) (f g : Field) (u : Update) (p : List Field) (a : Act) (rest : List Update) → outer_fits k (g ∷ p) a ≡ true → list_all (λ v. inner_fits f.kind v.path v.act) rest ≡ true → list_all (λ v. inner_fits f.kind v.path v.act) (with_some (option_map (within u) (cond (same_field g f) (Some (p, a)) None)) rest) ≡ true
@@ -113,15 +113,15 @@ module _ (has : Kind → Bool) (too_deep : Kind → List Field → Bool) where
       | false ↦ λ t. r
     ] refl
 
-    fits_dropped : (f g : Field) (u : Update) (rest : List Update) → stands_in kind.MapRr f.kind ≡ true → list_all (λ v. inner_fits f.kind v.path v.act) rest ≡ true → list_all (λ v. inner_fits f.kind v.path v.act) (with_some (option_map (within u) (cond (same_field g f) (Some ([], act.Reset)) None)) rest) ≡ true
+    fits_dropped : (f g : Field) (u : Update) (rest : List Update) → nests_in kind.MapRr f.kind ≡ true → list_all (λ v. inner_fits f.kind v.path v.act) rest ≡ true → list_all (λ v. inner_fits f.kind v.path v.act) (with_some (option_map (within u) (cond (same_field g f) (Some ([], act.Reset)) None)) rest) ≡ true
     fits_dropped f g u rest h r = elim (same_field g f) as (λ b. list_all (λ v. inner_fits f.kind v.path v.act) (with_some (option_map (within u) (cond b (Some ([], act.Reset)) None)) rest) ≡ true) [ true ↦ and_from _ _ (reset_fits f h) r | false ↦ r ]
 
-    fits_onto : (k : Kind) (f : Field) → reset_stands k f → (u : Update) (p : List Field) (a : Act) (rest : List Update) → outer_fits k p a ≡ true → list_all (λ v. inner_fits f.kind v.path v.act) rest ≡ true → list_all (λ v. inner_fits f.kind v.path v.act) (with_some (option_map (within u) (inner_op f p a)) rest) ≡ true
+    fits_onto : (k : Kind) (f : Field) → reset_nests k f → (u : Update) (p : List Field) (a : Act) (rest : List Update) → outer_fits k p a ≡ true → list_all (λ v. inner_fits f.kind v.path v.act) rest ≡ true → list_all (λ v. inner_fits f.kind v.path v.act) (with_some (option_map (within u) (inner_op f p a)) rest) ≡ true
     fits_onto k f own u [] act.Reset rest h r = and_from _ _ (reset_fits f (own act.Reset (own_act k act.Reset h))) r
     fits_onto k f own u [] (act.DropField g) rest h r = fits_dropped f g u rest (own (act.DropField g) (own_act k (act.DropField g) h)) r
     fits_onto k f own u [] _ rest h r = r
     fits_onto k f own u (g ∷ p) a rest h r = fits_here k f g u p a rest h r
 
-    pub fits_of_field : (k : Kind) (f : Field) → reset_stands k f → (us : List Update) → all_fit (map_too_deep has too_deep) k us ≡ true → all_fit too_deep f.kind (of_field f us) ≡ true
+    pub fits_of_field : (k : Kind) (f : Field) → reset_nests k f → (us : List Update) → all_fit (map_too_deep has too_deep) k us ≡ true → all_fit too_deep f.kind (of_field f us) ≡ true
     fits_of_field k f own [] h = refl
     fits_of_field k f own (u ∷ us) h = let two = and_parts (outer_fits k u.path u.act) _ h in fits_onto k f own u u.path u.act (of_field f us) two.0 (fits_of_field k f own us two.1)

@@ -12,7 +12,7 @@ use Rattle.crdt_core.specs.declared.operation.Act.{Act}
 use Rattle.crdt_core.specs.declared.operation.Act.TheVariants as act
 use Rattle.crdt_core.specs.declared.value.Value.{Value}
 use Rattle.crdt_core.specs.Kinds.{same_field, same_kind, same_path, kind_at}
-use Rattle.crdt_core.specs.Fits.{stands_in}
+use Rattle.crdt_core.specs.Fits.{nests_in}
 use Rattle.crdt_core.specs.Seen.{Update, sees, is_assign}
 use Rattle.crdt_core.specs.Stamps.{last_stamp, one_more, above_all, assigns_seen, stamp_due}
 use Rattle.crdt_core.specs.History.{IsNext, IsHistory, IsStamped, effect_after}
@@ -21,7 +21,7 @@ use Rattle.crdt_core.specs.InMaps.{KeepsInMaps}
 use Rattle.crdt_core.specs.FieldOrder.{same_field_is}
 use Rattle.crdt_meanings.specs.Maps.{FieldMap, at, map_step, map_made, map_stamp, map_too_deep}
 use Rattle.crdt_meanings.specs.MapMeaning.{with_some, inner_op, within, of_field}
-use Rattle.crdt_meanings.proofs.FieldHistory.{reset_stands, outer_fits, enters, own_act, reset_fits, fits_of_field, history_of_field, next_of_field}
+use Rattle.crdt_meanings.proofs.FieldHistory.{reset_nests, outer_fits, enters, own_act, reset_fits, fits_of_field, history_of_field, next_of_field}
 use Rattle.crdt_meanings.proofs.FieldFold.{outer, inside, field_folded}
 
 neither : (a b : Bool) → b ≡ false → (a && b) ≡ false
@@ -76,13 +76,13 @@ module _ {S E : Type 0} {has : Kind → Bool} {too_deep : Kind → List Field �
   abbrev pub FieldStamped : Field → List Update → Type 0
   FieldStamped f vs = IsStamped (initial f.kind) step (made_by made f.kind) stamp_of vs
 
-  module _ (f : Field) (known : has f.kind ≡ true) (own : reset_stands k f) where
+  module _ (f : Field) (known : has f.kind ≡ true) (own : reset_nests k f) where
     -- the stamp that an update shows is that of its effect at the field
     abbrev Shows : Option ℕ → ℕ → S → Option (List Field × Act) → Type 0
     Shows stamp n s None = Unit {0}
     Shows stamp n s (Some o) = stamp ≡ stamp_of (made f.kind s o.0 o.1 n)
 
-    shows_here : (stamp : Option ℕ) (n : ℕ) (sm : FieldMap S) (s : S) → at initial sm f ≡ s → (stands_in MapRr f.kind ≡ true → stamp_of (made f.kind s [] act.Reset n) ≡ None) → (p : List Field) (a : Act) → outer_fits has too_deep k p a ≡ true
+    shows_here : (stamp : Option ℕ) (n : ℕ) (sm : FieldMap S) (s : S) → at initial sm f ≡ s → (nests_in MapRr f.kind ≡ true → stamp_of (made f.kind s [] act.Reset n) ≡ None) → (p : List Field) (a : Act) → outer_fits has too_deep k p a ≡ true
         → stamp ≡ map_stamp stamp_of (map_made has initial made is_blank k sm p a n) → Shows stamp n s (inner_op f p a)
     shows_here stamp n sm s same none [] act.Reset fit h = h ∙ sym (none (own act.Reset (own_act has too_deep k act.Reset fit)))
     shows_here stamp n sm s same none [] (act.DropField g) fit h = elim (same_field g f) as (λ b. Shows stamp n s (cond b (Some ([], act.Reset)) None)) [ true ↦ h ∙ sym (none (own (act.DropField g) (own_act has too_deep k (act.DropField g) fit))) | false ↦ tt ]
@@ -103,23 +103,23 @@ module _ {S E : Type 0} {has : Kind → Bool} {too_deep : Kind → List Field �
         let rest = stamped_of_field us h.1 two.1 st.1 in
         let fits = fits_of_field has too_deep owed.shallow k f own us two.1 in
         let s = inside owed f.kind (sees u) (of_field f us) in
-        let none : stands_in MapRr f.kind ≡ true → stamp_of (made f.kind s [] act.Reset u.now) ≡ None =
-        λ stands. inner.stamps f.kind (within u ([], act.Reset)) (of_field f us) known (next_of_field f u us ([], act.Reset) h.0, history_of_field f us h.1) (and_from _ _ (reset_fits has too_deep owed.shallow f stands) fits) rest in
+        let none : nests_in MapRr f.kind ≡ true → stamp_of (made f.kind s [] act.Reset u.now) ≡ None =
+        λ nests. inner.stamps f.kind (within u ([], act.Reset)) (of_field f us) known (next_of_field f u us ([], act.Reset) h.0, history_of_field f us h.1) (and_from _ _ (reset_fits has too_deep owed.shallow f nests) fits) rest in
         stamped_onto u us (inner_op f u.path u.act)
         (shows_here u.stamp u.now (outer owed k (sees u) us) s (field_folded owed f known k own us two.1 (sees u)) none u.path u.act two.0 st.0)
         rest
 
   -- the stamp of an update of a map
-  stamps_at : (own : (f : Field) → stands_in k f.kind ≡ true → reset_stands k f) → same_kind k RegisterLww ≡ false → (u : Update) (us : List Update) (p : List Field) (a : Act) → IsNext us u → IsHistory us → outer_fits has too_deep k p a ≡ true → all_fit (map_too_deep has too_deep) k us ≡ true → MapStamped us
+  stamps_at : (own : (f : Field) → nests_in k f.kind ≡ true → reset_nests k f) → same_kind k RegisterLww ≡ false → (u : Update) (us : List Update) (p : List Field) (a : Act) → IsNext us u → IsHistory us → outer_fits has too_deep k p a ≡ true → all_fit (map_too_deep has too_deep) k us ≡ true → MapStamped us
       → map_stamp stamp_of (map_made has initial made is_blank k (outer owed k (sees u) us) p a u.now) ≡ stamp_due k us (within u (p, a))
   stamps_at own other u us [] a next h fit fits st = sym (ap (λ b. cond b (Some (min last_stamp (above_all u.now (assigns_seen (within u ([], a)) us)))) None) (and_right (is_assign a) (same_kind k RegisterLww) other))
   stamps_at own other u us (f ∷ q) a next h fit fits st =
       let e = enters has too_deep k f q a fit in
-      let mine = own f e.stands in
+      let mine = own f e.nests in
       ap (λ s. stamp_of (made f.kind s q a u.now)) (field_folded owed f e.known k mine us fits (sees u))
       ∙ inner.stamps f.kind (within u (q, a)) (of_field f us) e.known (next_of_field f u us (q, a) next, history_of_field f us h) (and_from _ _ e.fit (fits_of_field has too_deep owed.shallow k f mine us fits)) (stamped_of_field f e.known mine us h fits st)
       ∙ due_same k f u q a us
 
-  pub map_stamps : (own : (f : Field) → stands_in k f.kind ≡ true → reset_stands k f) → same_kind k RegisterLww ≡ false → (u : Update) (us : List Update) → IsHistory (u ∷ us) → all_fit (map_too_deep has too_deep) k (u ∷ us) ≡ true → MapStamped us
+  pub map_stamps : (own : (f : Field) → nests_in k f.kind ≡ true → reset_nests k f) → same_kind k RegisterLww ≡ false → (u : Update) (us : List Update) → IsHistory (u ∷ us) → all_fit (map_too_deep has too_deep) k (u ∷ us) ≡ true → MapStamped us
       → map_stamp stamp_of (effect_after empty (map_step has initial step) (made_by (map_made has initial made is_blank) k) us u) ≡ stamp_due k us u
   map_stamps own other u us h fit st = let two = and_parts (outer_fits has too_deep k u.path u.act) _ fit in stamps_at own other u us u.path u.act h.0 h.1 two.0 two.1 st

@@ -7,7 +7,7 @@ use Rattle.std.proofs.lemmas.Bool.{true≢false}
 use Rattle.site_vector.specs.declared.ids.Dot.{Dot}
 use Rattle.crdt_core.specs.declared.kind.Kind.{Kind}
 use Rattle.crdt_core.specs.declared.kind.Kind.TheVariants.{MapRr}
-use Rattle.crdt_core.specs.Fits.{stands_in}
+use Rattle.crdt_core.specs.Fits.{nests_in}
 use Rattle.crdt_core.specs.declared.object.Field.{Field}
 use Rattle.crdt_core.specs.declared.operation.Act.{Act}
 use Rattle.crdt_core.specs.declared.operation.Act.TheVariants.{Reset}
@@ -87,8 +87,8 @@ module _ {S E : Type 0} (has : Kind → Bool) (initial : Kind → S) (step : S �
   some_after true x o = refl
   some_after false x o = refl
 
-  pub stands_one : (m : FieldMap S) (d : Dot) (g : Field) (e : E) (f : Field) → is_some (get (one m d g e) f) ≡ ((has g.kind && same_field f g) || is_some (get m f))
-  stands_one m d g e f = elim (has g.kind) as (λ b. is_some (get (cond b (insert m g (step (here m g) d e)) m) f) ≡ ((b && same_field f g) || is_some (get m f))) [
+  pub present_one : (m : FieldMap S) (d : Dot) (g : Field) (e : E) (f : Field) → is_some (get (one m d g e) f) ≡ ((has g.kind && same_field f g) || is_some (get m f))
+  present_one m d g e f = elim (has g.kind) as (λ b. is_some (get (cond b (insert m g (step (here m g) d e)) m) f) ≡ ((b && same_field f g) || is_some (get m f))) [
     | true ↦ ap is_some (get_put m g (step (here m g) d e) f) ∙ some_after (same_field f g) (step (here m g) d e) (get m f)
     | false ↦ refl
   ]
@@ -98,11 +98,11 @@ module _ {S E : Type 0} (has : Kind → Bool) (initial : Kind → S) (step : S �
   or_turn true false c = refl
   or_turn false b c = refl
 
-  pub stands_each : (xs : List (Field × E)) (m : FieldMap S) (d : Dot) (f : Field) → is_some (get (each m d xs) f) ≡ (list_any (λ x. has x.0.kind && same_field f x.0) xs || is_some (get m f))
-  stands_each [] m d f = refl
-  stands_each (x ∷ xs) m d f =
+  pub present_each : (xs : List (Field × E)) (m : FieldMap S) (d : Dot) (f : Field) → is_some (get (each m d xs) f) ≡ (list_any (λ x. has x.0.kind && same_field f x.0) xs || is_some (get m f))
+  present_each [] m d f = refl
+  present_each (x ∷ xs) m d f =
       let others = list_any (λ y. has y.0.kind && same_field f y.0) xs in
-      stands_each xs (one m d x.0 x.1) d f ∙ ap (λ b. others || b) (stands_one m d x.0 x.1 f) ∙ or_turn (has x.0.kind && same_field f x.0) others (is_some (get m f))
+      present_each xs (one m d x.0 x.1) d f ∙ ap (λ b. others || b) (present_one m d x.0 x.1 f) ∙ or_turn (has x.0.kind && same_field f x.0) others (is_some (get m f))
 
 module _ {S E : Type 0} (has : Kind → Bool) (initial : Kind → S) (step : S → Dot → E → S) (made : Kind → S → List Field → Act → ℕ → E) (is_blank : S → Bool) where
   abbrev undo : Kind → S → ℕ → E
@@ -114,7 +114,7 @@ module _ {S E : Type 0} (has : Kind → Bool) (initial : Kind → S) (step : S �
   after_undo n d f t (Some x) = cond (is_undone has is_blank (f, x)) (step t d (undo f.kind x n)) t
 
   known_undone : (f : Field) (x : S) → is_undone has is_blank (f, x) ≡ true → has f.kind ≡ true
-  known_undone f x h = elim (has f.kind) as (λ b. (b && (stands_in MapRr f.kind && not (is_blank x))) ≡ true → b ≡ true) [ true ↦ λ _. refl | false ↦ λ k. k ] h
+  known_undone f x h = elim (has f.kind) as (λ b. (b && (nests_in MapRr f.kind && not (is_blank x))) ≡ true → b ≡ true) [ true ↦ λ _. refl | false ↦ λ k. k ] h
 
   pub at_resets : (es : List (Field × S)) → IsDistinct field_cmp es → (n : ℕ) (d : Dot) (f : Field) (m : FieldMap S)
       → at initial (step_each has initial step m d (resets_of has made is_blank n es)) f ≡ after_undo n d f (at initial m f) (found f es)

@@ -109,7 +109,7 @@ flag_law w = record {
   orderless = λ k us vs has s. flag_orderless w k us vs s;
   unread = λ k s t p a n has r. absurd (true≢false (sym (ap reads_state (same_kind_is k (flag_kind w) has) ∙ (kind_is w).2) ∙ r));
   steps = λ k has. flag_steps w k;
-  kept = λ k us d has fit h. named_by_reset kind_made flag_names (λ k s n d. refl) k _ d (ap (λ l. allows l act.Reset) (same_kind_is k (flag_kind w) has) ∙ reset_allowed w) h;
+  nameable = λ k us d has fit h. named_by_reset kind_made flag_names (λ k s n d. refl) k _ d (ap (λ l. allows l act.Reset) (same_kind_is k (flag_kind w) has) ∙ reset_allowed w) h;
 }
 
 pub flag_in_maps : (w : Bool) → KeepsInMaps (flag_has w) (λ k p. false) (λ k. empty) (flag_step w) kind_made keeps_none

@@ -78,7 +78,7 @@ go_law = record {
   orderless = λ k us vs has s. go_orderless k us vs s;
   unread = λ k s t p a n has reads. refl;
   steps = λ k has. go_steps k;
-  kept = λ k us d has fit h. absurd (true≢false (sym h));
+  nameable = λ k us d has fit h. absurd (true≢false (sym h));
 }
 
 pub go_in_maps : KeepsInMaps go_has (λ k p. false) (λ k. empty) go_step go_made has_none

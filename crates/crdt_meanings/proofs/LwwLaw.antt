@@ -211,7 +211,7 @@ lww_law = record {
   orderless = λ k us vs has s. ap word_of (last_same us vs s);
   unread = λ k s t p a n has r. absurd (true≢false (sym (ap reads_state (same_kind_is k RegisterLww has)) ∙ r));
   steps = λ k has. lww_steps k;
-  kept = λ k us d has fit h. absurd (false≢true h);
+  nameable = λ k us d has fit h. absurd (false≢true h);
 }
 
 pub lww_in_maps : KeepsInMaps lww_has deep (λ k. None) lww_step lww_made unassigned

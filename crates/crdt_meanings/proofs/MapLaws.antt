@@ -16,7 +16,7 @@ use Rattle.crdt_core.specs.declared.operation.Act.TheVariants as act
 use Rattle.crdt_core.specs.declared.value.Value.{Value}
 use Rattle.crdt_core.specs.declared.value.Value.TheVariants.{Fields}
 use Rattle.crdt_core.specs.Kinds.{same_field, same_kind, reads_state}
-use Rattle.crdt_core.specs.Fits.{stands_in, allows, is_map}
+use Rattle.crdt_core.specs.Fits.{nests_in, allows, is_map}
 use Rattle.crdt_core.specs.Same.{Same}
 use Rattle.crdt_core.specs.Seen.{Update}
 use Rattle.crdt_core.specs.History.{IsHistory, folded, effects, state_after}
@@ -32,9 +32,9 @@ use Rattle.crdt_meanings.proofs.Picked.{picked_same}
 use Rattle.crdt_core.specs.MapLists.{distinct_entries}
 use Rattle.crdt_core.proofs.Members.{one_of}
 use Rattle.crdt_meanings.proofs.FieldSteps.{found, found_entry, same_fields}
-use Rattle.crdt_meanings.proofs.FieldHistory.{reset_stands, history_of_field, fits_of_field}
+use Rattle.crdt_meanings.proofs.FieldHistory.{reset_nests, history_of_field, fits_of_field}
 use Rattle.crdt_meanings.proofs.FieldFold.{outer, field_folded}
-use Rattle.crdt_meanings.proofs.Presence.{among, may_stand, stands_updated}
+use Rattle.crdt_meanings.proofs.Presence.{among, may_nest, present_updated}
 use Rattle.crdt_meanings.proofs.FieldStamps.{MapStamped, stamped_of_field, map_stamps}
 use Rattle.crdt_meanings.proofs.MapSteps.{map_steps}
 
@@ -117,17 +117,17 @@ module _ {S E : Type 0} {has : Kind → Bool} {too_deep : Kind → List Field �
   abbrev IsNamed : Kind → FieldMap S → Dot → Type 0
   IsNamed k m d = CanBeNamed (map_too_deep has too_deep) (map_made has initial made is_blank) (map_names has names) k m d
 
-  module _ (k : Kind) (own : (f : Field) → stands_in k f.kind ≡ true → reset_stands k f) where
+  module _ (k : Kind) (own : (f : Field) → nests_in k f.kind ≡ true → reset_nests k f) where
     -- what stands at an updated field is its kind's state after the field's own updates
     pub state_at : (us : List Update) → all_fit (map_too_deep has too_deep) k us ≡ true → (q : Field) → among q (updated has us) ≡ true → at initial (outer owed k (λ d. true) us) q ≡ state_after (initial q.kind) step (made_by made q.kind) (of_field q us)
     state_at us fit q up =
-        let two = may_stand has too_deep k q us fit up in
+        let two = may_nest has too_deep k q us fit up in
         field_folded owed q two.0 k (own q two.1) us fit (λ d. true) ∙ ap (folded (initial q.kind) step) (all_kept (effects (initial q.kind) step (made_by made q.kind) (of_field q us)))
 
     -- it has the value that these updates mean
     value_at : (us : List Update) → IsHistory us → all_fit (map_too_deep has too_deep) k us ≡ true → MapStamped inner owed k us → (q : Field) → among q (updated has us) ≡ true → value_of (at initial (outer owed k (λ d. true) us) q) ≡ meaning q.kind (of_field q us)
     value_at us h fit st q up =
-        let two = may_stand has too_deep k q us fit up in
+        let two = may_nest has too_deep k q us fit up in
         let mine = own q two.1 in
         let vs = of_field q us in
         ap value_of (state_at us fit q up)
@@ -141,13 +141,13 @@ module _ {S E : Type 0} {has : Kind → Bool} {too_deep : Kind → List Field �
         let m = outer owed k (λ d. true) us in
         ap (members value_of) (sym (all_outer us))
         ∙ members_are value_of m (updated has us) (λ f. meaning f.kind (of_field f us)) (λ q.
-        ap (option_map value_of) (option_is (get m q) (among q (updated has us)) (initial q.kind) (stands_updated owed k q us))
+        ap (option_map value_of) (option_is (get m q) (among q (updated has us)) (initial q.kind) (present_updated owed k q us))
         ∙ mapped_cond value_of (among q (updated has us)) (at initial m q) (meaning q.kind (of_field q us)) (value_at us h fit st q))
 
     -- what an operation of a field can name, an operation of the map can
-    named_at : (m : FieldMap S) (f : Field) (d : Dot) → has f.kind ≡ true → stands_in k f.kind ≡ true → (s : S) → at initial m f ≡ s → CanBeNamed too_deep made names f.kind s d → IsNamed k m d
-    named_at m f d known stands s is n =
-        (f ∷ n.0, n.1, and_from _ _ stands n.2, or_from _ _ (ap not known) n.3, λ t. or_left _ false (and_from _ _ known (ap (λ s. names (made f.kind s n.0 n.1 t) d) is ∙ n.4 t)))
+    named_at : (m : FieldMap S) (f : Field) (d : Dot) → has f.kind ≡ true → nests_in k f.kind ≡ true → (s : S) → at initial m f ≡ s → CanBeNamed too_deep made names f.kind s d → IsNamed k m d
+    named_at m f d known nests s is n =
+        (f ∷ n.0, n.1, and_from _ _ nests n.2, or_from _ _ (ap not known) n.3, λ t. or_left _ false (and_from _ _ known (ap (λ s. names (made f.kind s n.0 n.1 t) d) is ∙ n.4 t)))
 
     -- what a map holds, a field holds
     named_outer : (us : List Update) → all_fit (map_too_deep has too_deep) k us ≡ true → (d : Dot) → map_holds holds (outer owed k (λ d. true) us) d ≡ true → IsNamed k (outer owed k (λ d. true) us) d
@@ -156,11 +156,11 @@ module _ {S E : Type 0} {has : Kind → Bool} {too_deep : Kind → List Field �
         let w = one_of (λ e. holds e.1 d) (entries m) h in
         let f = w.0.0 in
         let there : get m f ≡ Some w.0.1 = get-entries m f ∙ found_entry (entries m) (distinct_entries m) w.0 w.1 in
-        let up : among f (updated has us) ≡ true = sym (stands_updated owed k f us) ∙ ap is_some there in
-        let two = may_stand has too_deep k f us fit up in
+        let up : among f (updated has us) ≡ true = sym (present_updated owed k f us) ∙ ap is_some there in
+        let two = may_nest has too_deep k f us fit up in
         let is = state_at us fit f up in
         let held = ap (λ s. holds s d) (sym is ∙ ap (λ o. unwrap_or o (initial f.kind)) there) ∙ w.2 in
-        named_at m f d two.0 two.1 _ is (inner.kept f.kind (of_field f us) d two.0 (fits_of_field has too_deep owed.shallow k f (own f two.1) us fit) held)
+        named_at m f d two.0 two.1 _ is (inner.nameable f.kind (of_field f us) d two.0 (fits_of_field has too_deep owed.shallow k f (own f two.1) us fit) held)
 
     named_after : (us : List Update) → all_fit (map_too_deep has too_deep) k us ≡ true → (d : Dot) → map_holds holds (map_after k us) d ≡ true → IsNamed k (map_after k us) d
     named_after us fit d = subst (λ m. map_holds holds m d ≡ true → IsNamed k m d) (all_outer us) (named_outer us fit d)
@@ -179,9 +179,9 @@ module _ {S E : Type 0} {has : Kind → Bool} {too_deep : Kind → List Field �
       ∙ ap (λ b. cond b (Some (at_vs q)) None) (any_same (same_field q) (updated has us) (updated has vs) (picked_same (λ u. entered has u.path) us vs s))
       ∙ sym (get-from_entries field_cmp_total (map (λ f. (f, at_vs f)) (updated has vs)) q ∙ found_named at_vs q (updated has vs))))
 
-  pub own : (drops : Bool) (k : Kind) → map_has drops k ≡ true → (f : Field) → stands_in k f.kind ≡ true → reset_stands k f
-  own false k is f stands a h = absurd (true≢false (sym h ∙ ap (λ l. allows l a) (same_kind_is k MapGo is)))
-  own true k is f stands a h = sym (ap (λ l. stands_in l f.kind) (same_kind_is k MapRr is)) ∙ stands
+  pub own : (drops : Bool) (k : Kind) → map_has drops k ≡ true → (f : Field) → nests_in k f.kind ≡ true → reset_nests k f
+  own false k is f nests a h = absurd (true≢false (sym h ∙ ap (λ l. allows l a) (same_kind_is k MapGo is)))
+  own true k is f nests a h = sym (ap (λ l. nests_in l f.kind) (same_kind_is k MapRr is)) ∙ nests
 
   shown_means : (drops : Bool) (k : Kind) (us : List Update) → Fields (shown drops (meanings has meaning us)) ≡ map_meaning drops has meaning k us
   shown_means false k us = ap Fields (all_kept (meanings has meaning us))
@@ -195,7 +195,7 @@ module _ {S E : Type 0} {has : Kind → Bool} {too_deep : Kind → List Field �
     orderless = λ k us vs is s. sym (shown_means drops k us) ∙ ap (λ ms. Fields (shown drops ms)) (meanings_same us vs s) ∙ shown_means drops k vs;
     unread = λ k s t p a n is r. absurd (true≢false (sym (of_both reads_state true drops k is refl refl) ∙ r));
     steps = λ k is. map_steps inner is_blank k;
-    kept = λ k us d is fit h. named_after k (own drops k is) us fit d h;
+    nameable = λ k us d is fit h. named_after k (own drops k is) us fit d h;
   }
 
   pub undoes_nothing : (n : ℕ) (es : List (Field × S)) → list_all (λ e. is_blank e.1) es ≡ true → resets_of has made is_blank n es ≡ []
@@ -203,7 +203,7 @@ module _ {S E : Type 0} {has : Kind → Bool} {too_deep : Kind → List Field �
   undoes_nothing n (e ∷ es) h =
       let two = and_parts (is_blank e.1) _ h in
       let reset : Field × S → Field × E = λ e. (e.0, made e.0.kind e.1 [] act.Reset n) in
-      ap (λ b. map reset (cond b (e ∷ filter (is_undone has is_blank) es) (filter (is_undone has is_blank) es))) (blank_stays (has e.0.kind) (stands_in MapRr e.0.kind) (is_blank e.1) two.0)
+      ap (λ b. map reset (cond b (e ∷ filter (is_undone has is_blank) es) (filter (is_undone has is_blank) es))) (blank_stays (has e.0.kind) (nests_in MapRr e.0.kind) (is_blank e.1) two.0)
       ∙ undoes_nothing n es two.1
 
   -- a map with no field is blank
@@ -212,7 +212,7 @@ module _ {S E : Type 0} {has : Kind → Bool} {too_deep : Kind → List Field �
   none_blank true m h = ap (λ es. list_all (λ e. is_blank e.1) es) (no_entries m h)
 
   -- a reset made on a blank map undoes nothing
-  blank_undone : (drops : Bool) (k : Kind) (s t : FieldMap S) (d : Dot) (n : ℕ) → map_has drops k ≡ true → stands_in MapRr k ≡ true → map_blank drops is_blank s ≡ true → map_step has initial step t d (map_made has initial made is_blank k s [] act.Reset n) ≡ t
+  blank_undone : (drops : Bool) (k : Kind) (s t : FieldMap S) (d : Dot) (n : ℕ) → map_has drops k ≡ true → nests_in MapRr k ≡ true → map_blank drops is_blank s ≡ true → map_step has initial step t d (map_made has initial made is_blank k s [] act.Reset n) ≡ t
   blank_undone false k s t d n is resets blank = absurd (true≢false (never_reset k MapGo is refl resets))
   blank_undone true k s t d n is resets blank = ap (step_each has initial step t d) (undoes_nothing n (entries s) blank)
 

@@ -11,7 +11,7 @@ use Rattle.crdt_core.specs.declared.object.Field.{Field}
 use Rattle.crdt_core.specs.declared.operation.Act.{Act}
 use Rattle.crdt_core.specs.declared.operation.Act.TheVariants as act
 use Rattle.crdt_core.specs.declared.value.Value.{Value}
-use Rattle.crdt_core.specs.Fits.{stands_in}
+use Rattle.crdt_core.specs.Fits.{nests_in}
 use Rattle.crdt_core.specs.Seen.{Update}
 use Rattle.crdt_core.specs.History.{IsHistory, state_after}
 use Rattle.crdt_core.specs.Law.{KeepsLaw, made_by, all_fit}
@@ -26,7 +26,7 @@ use Rattle.crdt_meanings.specs.MapMeaning.{of_field, updated}
 use Rattle.crdt_meanings.proofs.FieldSteps.{found_entry}
 use Rattle.crdt_meanings.proofs.FieldHistory.{history_of_field, fits_of_field}
 use Rattle.crdt_meanings.proofs.FieldFold.{outer}
-use Rattle.crdt_meanings.proofs.Presence.{among, may_stand, stands_updated}
+use Rattle.crdt_meanings.proofs.Presence.{among, may_nest, present_updated}
 use Rattle.crdt_meanings.proofs.MapLaws.{state_at, all_outer, own, undoes_nothing}
 
 -- where not all pass, one doesn't
@@ -64,14 +64,14 @@ module _ {S E : Type 0} {has : Kind → Bool} {too_deep : Kind → List Field �
     whole = outer owed k (λ d. true) us
 
     -- the kind of a field that stands may stand in a map that resets, and where something is left there, a reset of the field names an update
-    left_at : (f : Field) (s : S) → get whole f ≡ Some s → is_blank s ≡ false → (has f.kind ≡ true) × (stands_in MapRr f.kind ≡ true) × NamesOne (reset n (f, s))
+    left_at : (f : Field) (s : S) → get whole f ≡ Some s → is_blank s ≡ false → (has f.kind ≡ true) × (nests_in MapRr f.kind ≡ true) × NamesOne (reset n (f, s))
     left_at f s there left =
-        let up : among f (updated has us) ≡ true = sym (stands_updated owed k f us) ∙ ap is_some there in
-        let may = may_stand has too_deep k f us fit up in
-        let stands : stands_in MapRr f.kind ≡ true = sym (ap (λ l. stands_in l f.kind) (same_kind_is k MapRr is)) ∙ may.1 in
+        let up : among f (updated has us) ≡ true = sym (present_updated owed k f us) ∙ ap is_some there in
+        let may = may_nest has too_deep k f us fit up in
+        let nests : nests_in MapRr f.kind ≡ true = sym (ap (λ l. nests_in l f.kind) (same_kind_is k MapRr is)) ∙ may.1 in
         let same : s ≡ state_after (initial f.kind) step (made_by made f.kind) (of_field f us) = sym (ap (λ o. unwrap_or o (initial f.kind)) there) ∙ state_at inner owed k (own inner owed true k is) us fit f up in
-        let d = fields.some_left f.kind (of_field f us) n may.0 stands (history_of_field f us h) (fits_of_field has too_deep owed.shallow k f (own inner owed true k is f may.1) us fit) (sym (ap is_blank same) ∙ left) in
-        (may.0, stands, (d.0, ap (λ t. names (made f.kind t [] act.Reset n) d.0) same ∙ d.1))
+        let d = fields.some_left f.kind (of_field f us) n may.0 nests (history_of_field f us h) (fits_of_field has too_deep owed.shallow k f (own inner owed true k is f may.1) us fit) (sym (ap is_blank same) ∙ left) in
+        (may.0, nests, (d.0, ap (λ t. names (made f.kind t [] act.Reset n) d.0) same ∙ d.1))
 
     entry_at : (e : Field × S) → In e (entries whole) → get whole e.0 ≡ Some e.1
     entry_at e i = get-entries whole e.0 ∙ found_entry (entries whole) (distinct_entries whole) e i
@@ -84,7 +84,7 @@ module _ {S E : Type 0} {has : Kind → Bool} {too_deep : Kind → List Field �
         (l.2.0, one_named n l.2.0 (entries whole) w.0 w.1 (and_from _ _ l.0 (and_from _ _ l.1 (ap not w.2))) (and_from _ _ l.0 l.2.1))
 
     still_left : (e : Field × S) → is_undone has is_blank e ≡ true → is_blank e.1 ≡ false
-    still_left e t = not-true _ (and_parts (stands_in MapRr e.0.kind) _ (and_parts (has e.0.kind) _ t).1).1
+    still_left e t = not-true _ (and_parts (nests_in MapRr e.0.kind) _ (and_parts (has e.0.kind) _ t).1).1
 
     undone_at : (f : Field) → is_undone has is_blank (f, at initial whole f) ≡ true → (o : Option S) → get whole f ≡ o → get whole f ≡ Some (at initial whole f)
     undone_at f t (Some s) e = e ∙ ap Some (sym (ap (λ o. unwrap_or o (initial f.kind)) e))

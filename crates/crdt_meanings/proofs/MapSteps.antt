@@ -145,8 +145,8 @@ module _ {S E : Type 0} {has : Kind → Bool} {too_deep : Kind → List Field �
   held_each [] m d q h = or_left _ (same_dot d q) h
   held_each (x ∷ xs) m d q h = ⊎_elim (held_one m d x.0 x.1 q) (λ own. or_right (map_holds holds m q) _ own) (or_cases _ _ (held_each xs (one m d x.0 x.1) d q h))
 
-  none_stands : (q : Dot) → map_holds {S = S} holds empty q ≡ false
-  none_stands q = ap (λ es. list_any (λ e. holds e.1 q) es) (no_entries {X = S} {R = field_cmp} empty (empty_none field_cmp S))
+  empty_holds_none : (q : Dot) → map_holds {S = S} holds empty q ≡ false
+  empty_holds_none q = ap (λ es. list_any (λ e. holds e.1 q) es) (no_entries {X = S} {R = field_cmp} empty (empty_none field_cmp S))
 
   module _ (is_blank : S → Bool) (u : Update) where
     abbrev reset_made : Field × S → Field × E
@@ -185,5 +185,5 @@ module _ {S E : Type 0} {has : Kind → Bool} {too_deep : Kind → List Field �
     swaps = λ m a b d e apart na nb. all_past (listed a) (listed b) m d e apart na nb;
     named = λ m u d h. ops_named is_blank u k m u.path d h;
     held = λ m d e q h. held_each (listed e) m d q h;
-    none_held = none_stands;
+    none_held = empty_holds_none;
   }

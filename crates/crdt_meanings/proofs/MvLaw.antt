@@ -136,7 +136,7 @@ mv_law = record {
   orderless = λ k us vs has. mv_orderless k us vs;
   unread = λ k s t p a n has r. absurd (true≢false (sym (ap reads_state (same_kind_is k RegisterMv has)) ∙ r));
   steps = λ k has. mv_steps k;
-  kept = λ k us d has fit h. named_by_reset mv_made mv_names (λ k s n d. refl) k _ d (ap (λ l. allows l act.Reset) (same_kind_is k RegisterMv has)) h;
+  nameable = λ k us d has fit h. named_by_reset mv_made mv_names (λ k s n d. refl) k _ d (ap (λ l. allows l act.Reset) (same_kind_is k RegisterMv has)) h;
 }
 
 pub mv_in_maps : KeepsInMaps mv_has (λ k p. false) (λ k. empty) mv_step mv_made keeps_none

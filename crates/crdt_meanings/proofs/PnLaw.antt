@@ -75,7 +75,7 @@ pn_law = record {
   orderless = λ k us vs has. counter_orderless k us vs;
   unread = λ k s t p a n has reads. refl;
   steps = λ k has. pn_steps k;
-  kept = λ k us d has fit h. absurd (true≢false (sym h));
+  nameable = λ k us d has fit h. absurd (true≢false (sym h));
 }
 
 pub pn_in_maps : KeepsInMaps pn_has deep (λ k. pos 0) pn_step pn_made is_zero

@@ -11,14 +11,14 @@ use Rattle.crdt_core.specs.declared.object.Field.{Field}
 use Rattle.crdt_core.specs.declared.operation.Act.{Act}
 use Rattle.crdt_core.specs.declared.operation.Act.TheVariants as act
 use Rattle.crdt_core.specs.Kinds.{same_field}
-use Rattle.crdt_core.specs.Fits.{stands_in}
+use Rattle.crdt_core.specs.Fits.{nests_in}
 use Rattle.crdt_core.specs.Seen.{Update, sees}
 use Rattle.crdt_core.specs.Law.{all_fit}
 use Rattle.crdt_core.specs.InMaps.{KeepsInMaps}
 use Rattle.crdt_core.specs.FieldOrder.{field_cmp, field_ties, same_field_is}
 use Rattle.crdt_meanings.specs.Maps.{FieldMap, at, listed, is_undone, resets_of, reset_by, map_step, map_made, map_too_deep}
 use Rattle.crdt_meanings.specs.MapMeaning.{with_some, entered, updated}
-use Rattle.crdt_meanings.proofs.FieldSteps.{found, stands_each}
+use Rattle.crdt_meanings.proofs.FieldSteps.{found, present_each}
 use Rattle.crdt_meanings.proofs.FieldHistory.{outer_fits, enters}
 use Rattle.crdt_meanings.proofs.FieldFold.{outer, outer_more}
 
@@ -41,16 +41,16 @@ drop_false false = refl
 
 -- the updated fields are of kinds that the inner type has, and may stand in the map
 module _ (has : Kind → Bool) (too_deep : Kind → List Field → Bool) (k : Kind) (f : Field) where
-  may_enter : (p : List Field) (a : Act) (gs : List Field) → outer_fits has too_deep k p a ≡ true → (among f gs ≡ true → (has f.kind ≡ true) × (stands_in k f.kind ≡ true)) → among f (with_some (entered has p) gs) ≡ true → (has f.kind ≡ true) × (stands_in k f.kind ≡ true)
+  may_enter : (p : List Field) (a : Act) (gs : List Field) → outer_fits has too_deep k p a ≡ true → (among f gs ≡ true → (has f.kind ≡ true) × (nests_in k f.kind ≡ true)) → among f (with_some (entered has p) gs) ≡ true → (has f.kind ≡ true) × (nests_in k f.kind ≡ true)
   may_enter [] a gs fit rest h = rest h
   may_enter (g ∷ p) a gs fit rest h = ⊎_elim
-      (λ here. let two = and_parts (has g.kind) _ here in subst (λ l. (has l.kind ≡ true) × (stands_in k l.kind ≡ true)) (sym (same_field_is f g two.1)) (two.0, (enters has too_deep k g p a fit).stands))
+      (λ here. let two = and_parts (has g.kind) _ here in subst (λ l. (has l.kind ≡ true) × (nests_in k l.kind ≡ true)) (sym (same_field_is f g two.1)) (two.0, (enters has too_deep k g p a fit).nests))
       rest
       (or_cases (has g.kind && same_field f g) (among f gs) (sym (among_entered has f g p gs) ∙ h))
 
-  pub may_stand : (us : List Update) → all_fit (map_too_deep has too_deep) k us ≡ true → among f (updated has us) ≡ true → (has f.kind ≡ true) × (stands_in k f.kind ≡ true)
-  may_stand [] fit h = absurd (true≢false (sym h))
-  may_stand (u ∷ us) fit h = let two = and_parts (outer_fits has too_deep k u.path u.act) _ fit in may_enter u.path u.act (updated has us) two.0 (may_stand us two.1) h
+  pub may_nest : (us : List Update) → all_fit (map_too_deep has too_deep) k us ≡ true → among f (updated has us) ≡ true → (has f.kind ≡ true) × (nests_in k f.kind ≡ true)
+  may_nest [] fit h = absurd (true≢false (sym h))
+  may_nest (u ∷ us) fit h = let two = and_parts (outer_fits has too_deep k u.path u.act) _ fit in may_enter u.path u.act (updated has us) two.0 (may_nest us two.1) h
 
 module _ {S E : Type 0} {has : Kind → Bool} {too_deep : Kind → List Field → Bool} {initial : Kind → S} {step : S → Dot → E → S} {made : Kind → S → List Field → Act → ℕ → E} {is_blank : S → Bool} (owed : KeepsInMaps has too_deep initial step made is_blank) (k : Kind) (f : Field) where
   abbrev names_field : List (Field × E) → Bool
@@ -72,7 +72,7 @@ module _ {S E : Type 0} {has : Kind → Bool} {too_deep : Kind → List Field �
   not_blank g (Some x) h = refl
   not_blank g None h =
       let one = and_parts (has g.kind) _ h in
-      let two = and_parts (stands_in MapRr g.kind) _ one.1 in
+      let two = and_parts (nests_in MapRr g.kind) _ one.1 in
       absurd (true≢false (sym two.1 ∙ ap not (owed.first_blank g.kind one.0)))
 
   drop_found : (n : ℕ) (g : Field) (m : FieldMap S) → names_field (resets_of has made is_blank n ((g, at initial m g) ∷ [])) ≡ true → is_some (get m f) ≡ true
@@ -97,18 +97,18 @@ module _ {S E : Type 0} {has : Kind → Bool} {too_deep : Kind → List Field �
   was_before [] gs h = h
   was_before (g ∷ p) gs h = among_entered has f g p gs ∙ or_right (has g.kind && same_field f g) _ h
 
-  stands_if : (us : List Update) (p : Dot → Bool) → is_some (get (outer owed k p us) f) ≡ true → among f (updated has us) ≡ true
-  stands_if [] p h = absurd (true≢false (sym h ∙ ap is_some (get-empty field_cmp f)))
-  stands_if (u ∷ us) p h =
+  present_if : (us : List Update) (p : Dot → Bool) → is_some (get (outer owed k p us) f) ≡ true → among f (updated has us) ≡ true
+  present_if [] p h = absurd (true≢false (sym h ∙ ap is_some (get-empty field_cmp f)))
+  present_if (u ∷ us) p h =
       let before = outer owed k p us in
       let saw = outer owed k (sees u) us in
       let e = map_made has initial made is_blank k saw u.path u.act u.now in
       elim (p u.dot) as (λ b. is_some (get (cond b (map_step has initial step before u.dot e) before) f) ≡ true → among f (with_some (entered has u.path) (updated has us)) ≡ true) [
         | true ↦ λ s. ⊎_elim
-            (named_before u.now saw u.path u.act (updated has us) (stands_if us (sees u)))
-            (λ old. was_before u.path (updated has us) (stands_if us p old))
-            (or_cases (names_field (listed e)) _ (sym (stands_each has initial step (listed e) before u.dot f) ∙ s))
-        | false ↦ λ s. was_before u.path (updated has us) (stands_if us p s)
+            (named_before u.now saw u.path u.act (updated has us) (present_if us (sees u)))
+            (λ old. was_before u.path (updated has us) (present_if us p old))
+            (or_cases (names_field (listed e)) _ (sym (present_each has initial step (listed e) before u.dot f) ∙ s))
+        | false ↦ λ s. was_before u.path (updated has us) (present_if us p s)
       ] (sym (ap (λ m. is_some (get m f)) (outer_more owed k p u us)) ∙ h)
 
   enters_now : (n : ℕ) (m : FieldMap S) (p : List Field) (a : Act) (gs : List Field) (b : Bool) → (among f gs ≡ true → b ≡ true) → among f (with_some (entered has p) gs) ≡ true → (names_field (listed (map_made has initial made is_blank k m p a n)) || b) ≡ true
@@ -121,12 +121,12 @@ module _ {S E : Type 0} {has : Kind → Bool} {too_deep : Kind → List Field �
   abbrev all : Dot → Bool
   all d = true
 
-  stands_then : (us : List Update) → among f (updated has us) ≡ true → is_some (get (outer owed k all us) f) ≡ true
-  stands_then [] h = absurd (true≢false (sym h))
-  stands_then (u ∷ us) h =
+  present_then : (us : List Update) → among f (updated has us) ≡ true → is_some (get (outer owed k all us) f) ≡ true
+  present_then [] h = absurd (true≢false (sym h))
+  present_then (u ∷ us) h =
       let saw = outer owed k (sees u) us in
       let e = map_made has initial made is_blank k saw u.path u.act u.now in
-      stands_each has initial step (listed e) (outer owed k all us) u.dot f ∙ enters_now u.now saw u.path u.act (updated has us) _ (stands_then us) h
+      present_each has initial step (listed e) (outer owed k all us) u.dot f ∙ enters_now u.now saw u.path u.act (updated has us) _ (present_then us) h
 
-  pub stands_updated : (us : List Update) → is_some (get (outer owed k all us) f) ≡ among f (updated has us)
-  stands_updated us = both_so _ _ (stands_if us all) (stands_then us)
+  pub present_updated : (us : List Update) → is_some (get (outer owed k all us) f) ≡ among f (updated has us)
+  present_updated us = both_so _ _ (present_if us all) (present_then us)

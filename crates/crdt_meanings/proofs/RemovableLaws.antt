@@ -255,7 +255,7 @@ set_law w = record {
   orderless = λ k us vs has s. set_orderless w k us vs s;
   unread = λ k s t p a n has r. absurd (true≢false (sym (ap reads_state (same_kind_is k (set_kind w) has) ∙ (kind_is w).2) ∙ r));
   steps = λ k has. set_steps w k;
-  kept = λ k us d has fit h. ([], act.Reset, ap (λ l. allows l act.Reset) (same_kind_is k (set_kind w) has) ∙ (kind_is w).3, refl, λ n. all_named _ d h);
+  nameable = λ k us d has fit h. ([], act.Reset, ap (λ l. allows l act.Reset) (same_kind_is k (set_kind w) has) ∙ (kind_is w).3, refl, λ n. all_named _ d h);
 }
 
 -- nothing is named where no element stands

@@ -32,8 +32,8 @@ tidy_named ns m d own h x =
     ∙ elim (lists ns x) as (λ b. cond b (standing k) (get m x) ≡ standing (cond b k (at m x))) [ true ↦ refl | false ↦ h x ]
     ∙ ap standing (sym (at-take_named ns m d own x))
 
-stands_kept : (k : KeptAt Bool) → Some k ≡ standing k → keeps_none k ≡ false
-stands_kept k h = elim (len k == 0) as (λ b. Some k ≡ cond b None (Some k) → b ≡ false) [ true ↦ λ h. absurd (true≢false (ap is_some h)) | false ↦ λ h. refl ] h
+standing_keeps : (k : KeptAt Bool) → Some k ≡ standing k → keeps_none k ≡ false
+standing_keeps k h = elim (len k == 0) as (λ b. Some k ≡ cond b None (Some k) → b ≡ false) [ true ↦ λ h. absurd (true≢false (ap is_some h)) | false ↦ λ h. refl ] h
 
 -- a reset lists the dots of each element that stands
 some_named : (m : Elements) → IsTidy m → lacks_all m ≡ false → (d : Dot) × (names_dot (named_at m (keys m)) d ≡ true)
@@ -43,7 +43,7 @@ some_named m tidy h =
     let k = w.0.1 in
     let there : get m x ≡ Some k = get-entries m x ∙ ap (find text_cmp x) w.2 ∙ ap (λ b. cond b (Some k) (find text_cmp x w.1)) (same_text_itself x) in
     let same : at m x ≡ k = ap (λ o. unwrap_or o empty) there in
-    let dot = some_dot k (stands_kept k (sym there ∙ tidy x ∙ ap standing same)) in
+    let dot = some_dot k (standing_keeps k (sym there ∙ tidy x ∙ ap standing same)) in
     (dot.0, ap (λ es. names_dot (named_at m (map (λ e. e.0) es)) dot.0) w.2 ∙ or_left (has_dot (dots_of (at m x)) dot.0) _ (ap (λ j. has_dot (dots_of j) dot.0) same ∙ dot.1))
 
 tidy_after : (w : Bool) (es : List (Dot × SetEffect)) → IsTidy (folded empty (set_step w) es)

@@ -12,7 +12,7 @@ use Rattle.crdt_core.specs.declared.value.Value.{Value, fold-Value}
 use Rattle.crdt_core.specs.declared.value.Value.TheOpen.{Value-F}
 use Rattle.crdt_core.specs.declared.value.Value.TheVariants.{Fields}
 use Rattle.crdt_core.specs.Kinds.{same_kind}
-use Rattle.crdt_core.specs.Fits.{stands_in}
+use Rattle.crdt_core.specs.Fits.{nests_in}
 use Rattle.crdt_core.specs.FieldOrder.{field_cmp}
 use Rattle.crdt_core.proofs.Members.{In}
 use Rattle.crdt_meanings.specs.declared.maps.MapEffect.{MapEffect}
@@ -51,7 +51,7 @@ map_step has initial step m d e = step_each has initial step m d (listed e)
 
 -- whether a reset of the field undoes something
 abbrev pub is_undone : {S : Type 0} → (Kind → Bool) → (S → Bool) → Field × S → Bool
-is_undone has is_blank e = has e.0.kind && (stands_in MapRr e.0.kind && not (is_blank e.1))
+is_undone has is_blank e = has e.0.kind && (nests_in MapRr e.0.kind && not (is_blank e.1))
 
 -- the reset of each of these fields, where it undoes something
 abbrev pub resets_of : {S E : Type 0} → (Kind → Bool) → (Kind → S → List Field → Act → ℕ → E) → (S → Bool) → ℕ → List (Field × S) → List (Field × E)

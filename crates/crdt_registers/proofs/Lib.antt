@@ -1,2 +1,2 @@
 pub mod Ready
-pub mod Stands
+pub mod OneAssign

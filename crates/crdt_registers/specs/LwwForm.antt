@@ -47,4 +47,4 @@ abbrev pub lww_spells : (has : Kind → Bool) → SpellsEffects has is_of_kind c
 lww_spells has = record { form = λ k h. lww_form; all = λ e. record { shown = λ can kept short. and_true (can_put_lww e) (is_text e.text) can (both_true (is_text e.text) true (both_true (is_text e.text && true) true kept).0).0 } }
 
 pub lww_named : NamesAreSpelled can_put_lww no_dot lww_sets lww_spelling
-lww_named = record { exact = λ e d can. refl; stands = λ e d can h. absurd (false≢true h) }
+lww_named = record { exact = λ e d can. refl; lies = λ e d can h. absurd (false≢true h) }

@@ -16,8 +16,8 @@ use Rattle.crdt_core.specs.EffectForm.{sets_ascend, HasSpelling, SpellsEffects}
 use Rattle.crdt_core.proofs.HaveSpelling.{behind, texted, dots_spelled}
 use Rattle.crdt_core.proofs.SetsLaws.{or_none}
 use Rattle.crdt_core.specs.DotSet.{has_dot}
-use Rattle.crdt_core.specs.NamedDots.{IsPartOf, NamesAreSpelled}
-use Rattle.crdt_core.proofs.NamedDotsLaws.{stands_behind, dots_stand}
+use Rattle.crdt_core.specs.NamedDots.{LiesIn, NamesAreSpelled}
+use Rattle.crdt_core.proofs.NamedDotsLaws.{lies_behind, dots_lie}
 use Rattle.crdt_registers.specs.EffectForm.{is_of_kind}
 use Rattle.crdt_meanings.specs.RegisterMv.{mv_out, mv_names}
 use Rattle.crdt_meanings.specs.declared.registers.MvEffect.{MvEffect}
@@ -100,9 +100,9 @@ mv_all (Reset ds) = behind (dots_spelled ds) (number 1 2)
 abbrev pub mv_spells : (has : Kind → Bool) → SpellsEffects has is_of_kind can_put_mv is_mv_spelled mv_sets mv_texts mv_spelling (λ k. mv_at)
 mv_spells has = record { form = λ k h. mv_form; all = mv_all }
 
-stand : (e : MvEffect) (d : Dot) → can_put_mv e ≡ true → mv_names e d ≡ true → IsPartOf d (mv_spelling e)
-stand (Assign x ds) d can h = stands_behind (number 1 0) (stands_behind (text x) (dots_stand ds d can h))
-stand (Reset ds) d can h = stands_behind (number 1 2) (dots_stand ds d can h)
+mv_lies : (e : MvEffect) (d : Dot) → can_put_mv e ≡ true → mv_names e d ≡ true → LiesIn d (mv_spelling e)
+mv_lies (Assign x ds) d can h = lies_behind (number 1 0) (lies_behind (text x) (dots_lie ds d can h))
+mv_lies (Reset ds) d can h = lies_behind (number 1 2) (dots_lie ds d can h)
 
 pub mv_named : NamesAreSpelled can_put_mv mv_names mv_sets mv_spelling
-mv_named = record { exact = λ e d can. sym (or_none (has_dot (mv_out e) d)); stands = stand }
+mv_named = record { exact = λ e d can. sym (or_none (has_dot (mv_out e) d)); lies = mv_lies }

@@ -102,7 +102,7 @@ impl Crdt for RegisterLww {
         Some(effect.stamp)
     }
 
-    #[tactic(auto, using(crate::proofs::Stands::step_stays, crate::proofs::Stands::step_taken))]
+    #[tactic(auto, using(crate::proofs::OneAssign::step_stays, crate::proofs::OneAssign::step_taken))]
     fn apply(
         alloc: Global,
         state: &mut Option<Stamped>,

@@ -17,8 +17,8 @@ use Rattle.crdt_core.specs.SpelledLaws.{dots_held_form}
 use Rattle.crdt_core.specs.EffectForm.{sets_ascend, HasSpelling, SpellsEffects}
 use Rattle.crdt_core.proofs.HaveSpelling.{behind, asked, texted, listed, list_spelled, dots_spelled}
 use Rattle.crdt_core.specs.DotSet.{has_dot}
-use Rattle.crdt_core.specs.NamedDots.{IsPartOf, have_update, NamesAreSpelled}
-use Rattle.crdt_core.proofs.NamedDotsLaws.{stands_behind, list_stands, dots_stand}
+use Rattle.crdt_core.specs.NamedDots.{LiesIn, have_update, NamesAreSpelled}
+use Rattle.crdt_core.proofs.NamedDotsLaws.{lies_behind, list_lies, dots_lie}
 use Rattle.crdt_meanings.specs.Elements.{names_dot}
 use Rattle.crdt_meanings.specs.Sets.{set_names}
 use Rattle.crdt_meanings.specs.declared.sets.Named.{Named}
@@ -202,7 +202,7 @@ abbrev pub set_spells : (has : Kind → Bool) → SpellsEffects has is_of_kind c
 set_spells has = record { form = λ k h. set_form; all = set_all }
 
 pub go_named : NamesAreSpelled can_put_texts no_dot texts_sets texts_spelling
-go_named = record { exact = λ e d can. refl; stands = λ e d can h. absurd (false≢true h) }
+go_named = record { exact = λ e d can. refl; lies = λ e d can h. absurd (false≢true h) }
 
 list_exact : (ns : List Named) (d : Dot) → names_dot ns d ≡ have_update (list_sets ns) d
 list_exact [] d = refl
@@ -213,15 +213,15 @@ set_exact (Add ns) d = list_exact ns d
 set_exact (Remove ns) d = list_exact ns d
 set_exact (Reset ns) d = list_exact ns d
 
-list_stand : (ns : List Named) (d : Dot) → can_put_list ns ≡ true → names_dot ns d ≡ true → IsPartOf d (list_spelling ns)
-list_stand ns d can h =
-    let each : (n : Named) (c : Dot) → are_dots n.dots ≡ true → has_dot n.dots c ≡ true → IsPartOf c (named n) = λ n c fit here. stands_behind (text n.text) (dots_stand n.dots c fit here) in
-    list_stands named (λ n. are_dots n.dots) (λ n c. has_dot n.dots c) each ns d (both_true (are_in_order (is_below named_cmp) None ns) _ can).1 h
+named_lies : (ns : List Named) (d : Dot) → can_put_list ns ≡ true → names_dot ns d ≡ true → LiesIn d (list_spelling ns)
+named_lies ns d can h =
+    let each : (n : Named) (c : Dot) → are_dots n.dots ≡ true → has_dot n.dots c ≡ true → LiesIn c (named n) = λ n c fit here. lies_behind (text n.text) (dots_lie n.dots c fit here) in
+    list_lies named (λ n. are_dots n.dots) (λ n c. has_dot n.dots c) each ns d (both_true (are_in_order (is_below named_cmp) None ns) _ can).1 h
 
-set_stand : (e : SetEffect) (d : Dot) → can_put_set e ≡ true → set_names e d ≡ true → IsPartOf d (set_spelling e)
-set_stand (Add ns) d can h = stands_behind (number 1 0) (list_stand ns d (both_true (has_some ns) (can_put_list ns) can).1 h)
-set_stand (Remove ns) d can h = stands_behind (number 1 1) (list_stand ns d (both_true (has_some ns) (can_put_list ns) can).1 h)
-set_stand (Reset ns) d can h = stands_behind (number 1 2) (list_stand ns d can h)
+set_lies : (e : SetEffect) (d : Dot) → can_put_set e ≡ true → set_names e d ≡ true → LiesIn d (set_spelling e)
+set_lies (Add ns) d can h = lies_behind (number 1 0) (named_lies ns d (both_true (has_some ns) (can_put_list ns) can).1 h)
+set_lies (Remove ns) d can h = lies_behind (number 1 1) (named_lies ns d (both_true (has_some ns) (can_put_list ns) can).1 h)
+set_lies (Reset ns) d can h = lies_behind (number 1 2) (named_lies ns d can h)
 
 pub set_named : NamesAreSpelled can_put_set set_names set_sets set_spelling
-set_named = record { exact = λ e d can. set_exact e d; stands = set_stand }
+set_named = record { exact = λ e d can. set_exact e d; lies = set_lies }

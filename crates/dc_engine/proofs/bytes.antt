@@ -1,6 +1,6 @@
 pub mod Moves
 pub mod PlayedBy
 pub mod Progress
-pub mod Standing
+pub mod Dividing
 pub mod Takes
 pub mod Written

@@ -33,7 +33,7 @@ number_or_none (Some n) = n
 
 module _ {D : Type 0} where
   -- it keeps what it kept, and nothing more was given back
-  pub record IsKept (old new : Maker D) : Type 0 where
+  pub record IsUnchanged (old new : Maker D) : Type 0 where
     pub tells : new.tells ≡ old.tells
     pub given : new.given ≡ old.given
 

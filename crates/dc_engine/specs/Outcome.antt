@@ -4,7 +4,7 @@ use Rattle.dc_engine.specs.Causes.{Rose}
 use Rattle.disk_core.specs.States.{DiskState}
 use Rattle.disk_makers.specs.Makers.{Maker}
 use Rattle.dc_engine.specs.Answered.{Answered, AnsweredWhole, AnsweredBefore}
-use Rattle.dc_engine.specs.Played.{Played, PlayedEnded, PlayedTooLong, PlayedPart, PlayedBefore}
+use Rattle.dc_engine.specs.Played.{Played, PlayedEnded, PlayedTooLong, PlayedFront, PlayedBefore}
 use Rattle.dc_engine.specs.Reading.{has_bad}
 use Rattle.dc_engine.specs.declared.status.Status.{Status}
 use Rattle.dc_engine.specs.declared.status.Status.TheVariants as status
@@ -42,8 +42,8 @@ module _ (whole replies earlier : List (List ℕ) → List ℕ → Type 0) (no_d
   Outcome status.BadLine source sink = Played most_bytes (And whole true) source.before source.after sink.before sink.after
   Outcome status.Usage source sink = ⊥
   Outcome status.ReadFault source sink = PlayedEnded most_bytes replies source.before source.after sink.before sink.after × HasFailed source
-  Outcome status.WriteFault source sink = PlayedPart block_bytes most_bytes replies source.before source.after sink.before sink.after × HasFailed sink
-  Outcome status.NoMemory source sink = PlayedPart block_bytes most_bytes replies source.before source.after sink.before sink.after
+  Outcome status.WriteFault source sink = PlayedFront block_bytes most_bytes replies source.before source.after sink.before sink.after × HasFailed sink
+  Outcome status.NoMemory source sink = PlayedFront block_bytes most_bytes replies source.before source.after sink.before sink.after
   Outcome status.TooLong source sink = PlayedTooLong most_bytes replies source.before source.after sink.before sink.after
   Outcome status.NoDisk source sink = PlayedBefore block_bytes most_bytes earlier source.before source.after sink.before sink.after × no_disk
 

@@ -57,7 +57,7 @@ pub record WereReached {size most : ℕ} {input left : Option (List ℕ)} (read 
   pub are_first : AreFirst lines input
 
 -- the replies to the lines whose LF was read before the last block were written, and then a front of the replies to the next lines
-pub record PlayedPart (size most : ℕ) (replies : List (List ℕ) → List ℕ → Type 0) (input left before after : Option (List ℕ)) : Type 0 where
+pub record PlayedFront (size most : ℕ) (replies : List (List ℕ) → List ℕ → Type 0) (input left before after : Option (List ℕ)) : Type 0 where
   pub read : WereRead size most input left
   pub more : List (List ℕ)
   pub reached : WereReached read (ended_lines read.earlier ++ more)

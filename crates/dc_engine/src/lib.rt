@@ -12,7 +12,7 @@ mod unanswered;
 mod words;
 
 pub use status::Status;
-pub use streams::edge::{Reading, Writing};
+pub use streams::edge::{ReaderSource, WriterSink};
 pub use streams::memory::{Calls, SliceSource, VecSink};
 pub use streams::sink::Sink;
 pub use streams::source::{Failed, Source};

@@ -5,7 +5,7 @@ ghost use Rattle.disk_core.specs.States.{Rose};
 ghost use Rattle.cluster.specs.Built.{IsSaid, is_making};
 ghost use Rattle.cluster.specs.Reached.{Applies};
 ghost use Rattle.dc_engine.specs.Held.{HasOut};
-ghost use Rattle.dc_engine.specs.Makers.{FailsAt, IsKept};
+ghost use Rattle.dc_engine.specs.Makers.{FailsAt, IsUnchanged};
 ghost use Rattle.dc_engine.specs.ObjectKinds.{kinds, types};
 ghost use Rattle.dc_engine.specs.Player.{AnswersAsked};
 ghost use Rattle.dc_engine.specs.Reading.{asked_of, makes_cluster};
@@ -83,7 +83,7 @@ impl<M: Disks> Player<M> {
         ensures lacks { result ≡ Err Unanswered.NoDisk → self.old.cluster ≡ None }
         ensures later { (M.state disks.old).faults ≤ (M.state disks.new).faults }
         ensures cause { result ≡ Err Unanswered.NoDisk → Rose (M.state disks.old).faults (M.state disks.new).faults }
-        ensures same { OnOk result (IsKept (M.state disks.old) (M.state disks.new)) }
+        ensures same { OnOk result (IsUnchanged (M.state disks.old) (M.state disks.new)) }
     {
         answer_to(
             self.alloc,
@@ -110,7 +110,7 @@ impl<M: Disks> Player<M> {
         ensures lacks { result ≡ Err Unanswered.NoDisk → self.old.cluster ≡ None }
         ensures later { (M.state disks.old).faults ≤ (M.state disks.new).faults }
         ensures cause { result ≡ Err Unanswered.NoDisk → Rose (M.state disks.old).faults (M.state disks.new).faults }
-        ensures same { OnOk result (IsKept (M.state disks.old) (M.state disks.new)) }
+        ensures same { OnOk result (IsUnchanged (M.state disks.old) (M.state disks.new)) }
     {
         let alloc = self.alloc;
         match self.steps_of(disks, line) {
@@ -162,7 +162,7 @@ fn answer_to<M: Disks>(
     ensures lacks { result ≡ Err Unanswered.NoDisk → cluster.old ≡ None }
     ensures later { (M.state disks.old).faults ≤ (M.state disks.new).faults }
     ensures cause { result ≡ Err Unanswered.NoDisk → Rose (M.state disks.old).faults (M.state disks.new).faults }
-    ensures same { OnOk result (IsKept (M.state disks.old) (M.state disks.new)) }
+    ensures same { OnOk result (IsUnchanged (M.state disks.old) (M.state disks.new)) }
 {
     let mut parsed = Parsed::Nothing;
     match reading(alloc, line, &mut parsed) {
@@ -193,7 +193,7 @@ fn obey<M: Disks>(
     ensures lacks { result ≡ Err Unanswered.NoDisk → cluster.old ≡ None }
     ensures later { (M.state disks.old).faults ≤ (M.state disks.new).faults }
     ensures cause { result ≡ Err Unanswered.NoDisk → Rose (M.state disks.old).faults (M.state disks.new).faults }
-    ensures same { OnOk result (IsKept (M.state disks.old) (M.state disks.new)) }
+    ensures same { OnOk result (IsUnchanged (M.state disks.old) (M.state disks.new)) }
 {
     let Some((sites, parts)) = size_asked(command) else {
         return Ok(cluster.apply(command)?);
@@ -233,7 +233,7 @@ fn make_cluster<M: Disks>(
     ensures ok { IfOk result (λ steps. Applies (types (fused_state M.Disk.state)) None (Command.Cluster sites parts) steps.items cluster.new) }
     ensures later { (M.state disks.old).faults ≤ (M.state disks.new).faults }
     ensures cause { result ≡ Err Unanswered.NoDisk → Rose (M.state disks.old).faults (M.state disks.new).faults }
-    ensures same { OnOk result (IsKept (M.state disks.old) (M.state disks.new)) }
+    ensures same { OnOk result (IsUnchanged (M.state disks.old) (M.state disks.new)) }
 {
     let made = make_all(alloc, disks, sites, parts)?;
     match cluster.start(sites, parts, made) {

@@ -1,6 +1,6 @@
 ghost use Rattle.std.specs.Prelude.{◌≡◌, ◌≤◌, true, ℕ, List, Err, OnOk, OnErr};
 ghost use Rattle.disk_core.specs.States.{Rose};
-ghost use Rattle.dc_engine.specs.Makers.{IsKept};
+ghost use Rattle.dc_engine.specs.Makers.{IsUnchanged};
 ghost use Rattle.dc_engine.specs.Reading.{has_bad, makes_cluster};
 ghost use Rattle.dc_engine.specs.Replies.{AnswersLine};
 
@@ -8,7 +8,7 @@ use crate::unanswered::Unanswered;
 use disk_makers::Disks;
 
 /// The most bytes of a line that are kept and answered. A line that is longer is as one of this many.
-pub(crate) const KEPT: usize = 4_098;
+pub(crate) const MOST_BEGUN: usize = 4_098;
 
 /// What answers the lines of a script, one by one. At each line it is lent the maker of its disks.
 pub(crate) trait Responder {
@@ -45,7 +45,7 @@ pub(crate) trait Responder {
         ensures lacks { result ≡ Err Unanswered.NoDisk → lacks self.old }
         ensures later { (Self.Maker.state disks.old).faults ≤ (Self.Maker.state disks.new).faults }
         ensures cause { result ≡ Err Unanswered.NoDisk → Rose (Self.Maker.state disks.old).faults (Self.Maker.state disks.new).faults }
-        ensures same { OnOk result (IsKept (Self.Maker.state disks.old) (Self.Maker.state disks.new)) };
+        ensures same { OnOk result (IsUnchanged (Self.Maker.state disks.old) (Self.Maker.state disks.new)) };
 
     /// Whether one of the lines answered isn't in the grammar.
     fn has_met_bad(&self) -> bool

@@ -10,7 +10,7 @@ ghost use Rattle.dc_engine.specs.Status.{code_of};
 ghost use Rattle.dc_engine.specs.Words.{asks_play};
 ghost use Rattle.dc_shell.specs.Told.{told};
 
-use dc_engine::{Reading, Sink, Source, Status, Writing, run};
+use dc_engine::{ReaderSource, Sink, Source, Status, WriterSink, run};
 use disk_makers::{Disks, RealDisks};
 use std::alloc::{AllocError, Global};
 use std::env::Args;
@@ -140,8 +140,8 @@ fn end<W: Write>(err: &mut W, status: Status) -> (ExitCode, io::Result<()>)
 fn main(rt: HostRuntime) -> ExitCode {
     let status = match words_of(&rt) {
         Ok(words) => {
-            let mut source = Reading::new(rt.stdin());
-            let mut sink = Writing::new(rt.stdout());
+            let mut source = ReaderSource::new(rt.stdin());
+            let mut sink = WriterSink::new(rt.stdout());
             let mut disks = RealDisks::new();
             status_of(play_words(
                 rt.alloc(),

@@ -1,6 +1,6 @@
 //! What no clause says: that calls of the engine succeed, for each way in which a script ends.
 use crate::rows::ROWS;
-use dc_engine::{Reading, Sink, SliceSource, Source, Status, VecSink, Writing, run};
+use dc_engine::{ReaderSource, Sink, SliceSource, Source, Status, VecSink, WriterSink, run};
 use disk_makers::MemDisks;
 use std::alloc::{AllocError, Global};
 use std::io::{Error, ErrorKind, Read, Write};
@@ -151,7 +151,7 @@ fn the_first_read_fails(rt: HostRuntime) -> Result<(), AllocError> {
     let mut source = SliceSource::new(alloc, b"cluster 1 1\n");
     source.fail_at(&[1])?;
     assert!(rt; ends_from(alloc, &mut source, &mut disks(alloc), Status::ReadFault, "")?);
-    let mut source = Reading::new(Broken);
+    let mut source = ReaderSource::new(Broken);
     assert!(rt; ends_from(alloc, &mut source, &mut disks(alloc), Status::ReadFault, "")?);
     Ok(())
 }
@@ -160,8 +160,8 @@ fn the_first_read_fails(rt: HostRuntime) -> Result<(), AllocError> {
 fn a_sink_without_room_fails(rt: HostRuntime) -> Result<(), AllocError> {
     let mut sink = VecSink::new(rt.alloc(), 0)?;
     assert!(rt; fails_into(rt.alloc(), &mut sink) && sink.held().is_empty());
-    assert!(rt; fails_into(rt.alloc(), &mut Writing::new(Broken)));
-    assert!(rt; fails_into(rt.alloc(), &mut Writing::new(Full)));
+    assert!(rt; fails_into(rt.alloc(), &mut WriterSink::new(Broken)));
+    assert!(rt; fails_into(rt.alloc(), &mut WriterSink::new(Full)));
     Ok(())
 }
 

@@ -1,7 +1,7 @@
 //! What no clause says: that the line of a status is written to a writer that takes it, and that a call reads and writes all that it can.
 use crate::plays::Broken;
 use crate::{end, tell};
-use dc_engine::{Reading, Sink, Source, Status, Writing};
+use dc_engine::{ReaderSource, Sink, Source, Status, WriterSink};
 use std::test::*;
 
 #[test]
@@ -23,14 +23,14 @@ fn ends_where_nothing_can_be_told(rt: HostRuntime) {
 
 #[test]
 fn reads_and_writes_by_blocks(rt: HostRuntime) {
-    let mut source = Reading::new(b"cluster 1 1\nsession a 1\n".as_slice());
+    let mut source = ReaderSource::new(b"cluster 1 1\nsession a 1\n".as_slice());
     let mut block = [0; 16];
     assert!(rt; source.read(&mut block).is_ok_and(|count| count == 16));
     assert_eq!(rt; block.as_slice(), b"cluster 1 1\nsess".as_slice());
     assert!(rt; source.read(&mut block).is_ok_and(|count| count == 8));
     let mut replies = Vec::new(rt.alloc());
     assert!(rt;
-        Writing::new(&mut replies)
+        WriterSink::new(&mut replies)
             .write(&block[..8])
             .is_ok_and(|count| count == 8)
     );

@@ -13,8 +13,8 @@ abbrev pub calls_left : {D : Type 0} → Fused D → Option ℕ
 calls_left fused = fused.left
 
 -- how many bytes are kept of the write that fires it
-abbrev pub kept_bytes : {D : Type 0} → Fused D → ℕ
-kept_bytes fused = fused.keep
+abbrev pub cut_length : {D : Type 0} → Fused D → ℕ
+cut_length fused = fused.keep
 
 -- The state of the disk inside, with the faults of the fuse and the calls that it leaves.
 abbrev pub fused_state : {D : Type 0} → (D → DiskState) → Fused D → DiskState
@@ -30,7 +30,7 @@ fused_state state fused = let disk = state fused.disk in record {
 -- What the fuse does at a call: it counts down, and makes the call fail at its end and from then on. Every other call fails only where the disk inside does.
 pub record BurnsDown {D T E : Type 0} (state : D → DiskState) (result : Result T E) (old new : Fused D) : Type 0 where
   pub counts : calls_left new ≡ fewer 1 (calls_left old)
-  pub keeps : kept_bytes new ≡ kept_bytes old
+  pub keeps : cut_length new ≡ cut_length old
   pub fires : calls_left old ≡ Some 1 → IsErr result
   pub fired : calls_left old ≡ Some 0 → IsErr result × (inside new ≡ inside old)
   pub passes : calls_left old ≢ Some 0 → calls_left old ≢ Some 1 → OnErr result (Rose (state (inside old)).faults (state (inside new)).faults)

@@ -61,7 +61,7 @@ pub trait Disk {
     /// # Errors
     ///
     /// `Failed` where the device fails. Any of the bytes may stand there then.
-    fn write_parts(
+    fn write_pieces(
         &mut self,
         at: u64,
         front: &[u8],

@@ -18,7 +18,7 @@ fn write_front<D: Disk>(disk: &mut D, keep: u64, at: u64, bytes: &[u8])
 }
 
 // The same of the three pieces together.
-fn write_front_of_parts<D: Disk>(
+fn write_front_of_pieces<D: Disk>(
     disk: &mut D,
     keep: u64,
     at: u64,
@@ -35,7 +35,7 @@ fn write_front_of_parts<D: Disk>(
     let of_front = keep.min(front.len() as u64);
     let of_middle = (keep - of_front).min(middle.len() as u64);
     let of_back = (keep - of_front - of_middle).min(back.len() as u64);
-    let _ = disk.write_parts(
+    let _ = disk.write_pieces(
         at,
         &front[..of_front as usize],
         &middle[..of_middle as usize],
@@ -57,7 +57,7 @@ pub struct Fused<D: Disk + Drop> {
 }
 
 impl<D: Disk + Drop> Fused<D> {
-    ghost use Rattle.disk_core.specs.Fuses.{inside, calls_left, kept_bytes, fused_state};
+    ghost use Rattle.disk_core.specs.Fuses.{inside, calls_left, cut_length, fused_state};
 
     /// The disk with a fuse that isn't armed.
     pub fn new(disk: D) -> Self
@@ -76,7 +76,7 @@ impl<D: Disk + Drop> Fused<D> {
     /// bytes are written (all, where there are fewer). With `k` 0 it has fired already.
     pub fn arm(&mut self, k: u64, keep: u64)
         ensures inside { inside self.new ≡ inside self.old }
-        ensures keep { kept_bytes self.new ≡ keep }
+        ensures keep { cut_length self.new ≡ keep }
         ensures state { fused_state D.state self.new ≡ record (fused_state D.state self.old) { left = Some k } }
     {
         self.left = Some(k);
@@ -111,7 +111,7 @@ impl<D: Disk + Drop> Fused<D> {
 }
 
 impl<D: Disk + Drop> Disk for Fused<D> {
-    ghost use Rattle.disk_core.specs.Fuses.{inside, calls_left, kept_bytes, fused_state, BurnsDown, fused_faults_fit};
+    ghost use Rattle.disk_core.specs.Fuses.{inside, calls_left, cut_length, fused_state, BurnsDown, fused_faults_fit};
 
     ghost state = { fused_state D.state };
 
@@ -165,7 +165,7 @@ impl<D: Disk + Drop> Disk for Fused<D> {
         ensures torn { OnErr result (MayTear at (length bytes.now) (fused_state D.state self.old)
             (fused_state D.state self.new)) }
         ensures burns { BurnsDown D.state result self.old self.new }
-        ensures front { calls_left self.old ≡ Some 1 → WritesOrFails at (take (kept_bytes self.old) bytes.now)
+        ensures front { calls_left self.old ≡ Some 1 → WritesOrFails at (take (cut_length self.old) bytes.now)
             (D.state (inside self.old)) (D.state (inside self.new)) }
     {
         match burn_down(&mut self.left, &mut self.faults) {
@@ -178,7 +178,7 @@ impl<D: Disk + Drop> Disk for Fused<D> {
         }
     }
 
-    fn write_parts(
+    fn write_pieces(
         &mut self,
         at: u64,
         front: &[u8],
@@ -194,13 +194,13 @@ impl<D: Disk + Drop> Disk for Fused<D> {
         ensures torn { OnErr result (MayTear at (length
             (front.now ++ middle.now ++ back.now)) (fused_state D.state self.old) (fused_state D.state self.new)) }
         ensures burns { BurnsDown D.state result self.old self.new }
-        ensures front { calls_left self.old ≡ Some 1 → WritesOrFails at (take (kept_bytes self.old)
+        ensures front { calls_left self.old ≡ Some 1 → WritesOrFails at (take (cut_length self.old)
             (front.now ++ middle.now ++ back.now)) (D.state (inside self.old)) (D.state (inside self.new)) }
     {
         match burn_down(&mut self.left, &mut self.faults) {
-            Burn::Passes => self.disk.write_parts(at, front, middle, back),
+            Burn::Passes => self.disk.write_pieces(at, front, middle, back),
             Burn::Fires => {
-                write_front_of_parts(&mut self.disk, self.keep, at, front, middle, back);
+                write_front_of_pieces(&mut self.disk, self.keep, at, front, middle, back);
                 Err(Failed)
             }
             Burn::Fired => Err(Failed),

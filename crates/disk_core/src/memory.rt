@@ -139,10 +139,10 @@ impl Disk for MemDisk {
             (is_due self.old)) }
         ensures counts { CountsCall result self.old self.new }
     {
-        self.write_parts(at, bytes, &[], &[])
+        self.write_pieces(at, bytes, &[], &[])
     }
 
-    fn write_parts(
+    fn write_pieces(
         &mut self,
         at: u64,
         front: &[u8],

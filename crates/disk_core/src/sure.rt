@@ -87,10 +87,10 @@ impl Disk for SureDisk {
         ensures torn { OnErr result (MayTear at (length bytes.now) (sure_state self.old) (sure_state self.new)) }
         ensures sure { IsOk result }
     {
-        self.write_parts(at, bytes, &[], &[])
+        self.write_pieces(at, bytes, &[], &[])
     }
 
-    fn write_parts(
+    fn write_pieces(
         &mut self,
         at: u64,
         front: &[u8],

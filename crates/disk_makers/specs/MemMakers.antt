@@ -9,7 +9,7 @@ use Rattle.disk_makers.specs.declared.error.MakeFault.TheVariants.{Failed}
 use Rattle.disk_makers.specs.declared.memory.MemDisks.{MemDisks}
 
 abbrev pub mem_maker : MemDisks → Maker MemDisk
-mem_maker maker = record { faults = maker.calls.failed; out = maker.out; tells = true; given = maker.kept.items }
+mem_maker maker = record { faults = maker.calls.failed; out = maker.out; tells = true; given = maker.stored.items }
 
 -- the room of each disk that it makes
 abbrev pub disk_room : MemDisks → ℕ

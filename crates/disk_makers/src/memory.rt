@@ -17,12 +17,12 @@ pub struct MemDisks {
     room: u64,
     calls: Calls,
     disk_calls: Vec<u64>,
-    kept: Vec<(PartId, MemDisk)>,
+    stored: Vec<(PartId, MemDisk)>,
     // How many disks are out. Each has a place among those that are kept.
     out: usize,
     ghost least: { 64 ≤ room },
     ghost most: { room ≤ 2 ^ 31 },
-    ghost placed: { vec_len kept + out ≤ vec_capacity kept },
+    ghost placed: { vec_len stored + out ≤ vec_capacity stored },
 }
 
 // A disk in memory that is formatted, of which these calls are to fail.
@@ -59,7 +59,7 @@ impl MemDisks {
             room,
             calls: Calls::new(alloc),
             disk_calls: Vec::new(alloc),
-            kept: Vec::new(alloc),
+            stored: Vec::new(alloc),
             out: 0,
         }
     }
@@ -103,7 +103,7 @@ impl MemDisks {
     pub fn disks(&self) -> &[(PartId, MemDisk)]
         ensures { result.now ≡ (mem_maker self.now).given }
     {
-        &self.kept
+        &self.stored
     }
 }
 
@@ -124,7 +124,7 @@ impl Disks for MemDisks {
         if self.calls.begin() {
             return Err(MakeFault::Failed);
         }
-        if self.kept.reserve(self.out + 1).is_err() {
+        if self.stored.reserve(self.out + 1).is_err() {
             return Err(MakeFault::NoMemory);
         }
         let Ok(disk) = formatted(alloc, self.room, &self.disk_calls) else {
@@ -140,7 +140,7 @@ impl Disks for MemDisks {
         ensures same { IsSameMaker self.old self.new }
         ensures begun { makes_begun self.new ≡ makes_begun self.old }
     {
-        self.kept.push_reserved((part, disk));
+        self.stored.push_reserved((part, disk));
         self.out -= 1;
     }
 }

@@ -18,7 +18,7 @@ const FIRST: [u8; 3] = [97, 97, 97];
 const SECOND: [u8; 9] = [98, 98, 98, 98, 98, 98, 98, 98, 98];
 
 /// The numbers of bytes that are kept of a write.
-const KEPT: [u64; 4] = [0, 1, 7, 255];
+const CUT_LENGTHS: [u64; 4] = [0, 1, 7, 255];
 
 /// Bytes that are a log, and bytes that are none.
 const LOGS: [&[u8]; 15] = [
@@ -64,15 +64,15 @@ fn print_worked(rt: &HostRuntime) -> io::Result<()> {
 }
 
 /// A call of a second append that fails, with so many bytes kept of a write, and what is opened then.
-fn print_crash(rt: &HostRuntime, call: u64, kept: u64) -> io::Result<()> {
+fn print_crash(rt: &HostRuntime, call: u64, cut_length: u64) -> io::Result<()> {
     let alloc = rt.alloc();
     let mut log = new_log(alloc, Fused::new(MemDisk::new(alloc, 256)))?;
     let first = words::of_append(alloc, log.append(&FIRST))?;
-    log.arm(call, kept);
+    log.arm(call, cut_length);
     let second = words::of_append(alloc, log.append(&SECOND))?;
     let third = words::of_append(alloc, log.append(&SECOND))?;
     let opened = words::of_opening(alloc, log.close().into_inner())?;
-    println!(rt; "append, call {call} kept {kept}: {first}, {second}, {third}; {opened}")
+    println!(rt; "append, call {call} kept {cut_length}: {first}, {second}, {third}; {opened}")
 }
 
 /// A call of an opening that fails, and what is opened once the fuse is revived.
@@ -98,13 +98,13 @@ fn print_opening(rt: &HostRuntime, call: u64) -> io::Result<()> {
 }
 
 /// A call of a formatting that fails, with so many bytes kept of the write, and what is opened then.
-fn print_format(rt: &HostRuntime, call: u64, kept: u64) -> io::Result<()> {
+fn print_format(rt: &HostRuntime, call: u64, cut_length: u64) -> io::Result<()> {
     let alloc = rt.alloc();
     let mut disk = Fused::new(MemDisk::new(alloc, 256));
-    disk.arm(call, kept);
+    disk.arm(call, cut_length);
     let formatted = words::of_format(format(&mut disk));
     let opened = words::of_opening(alloc, disk.into_inner())?;
-    println!(rt; "format, call {call} kept {kept}: {formatted}; {opened}")
+    println!(rt; "format, call {call} kept {cut_length}: {formatted}; {opened}")
 }
 
 /// The call of a disk in memory with this number fails, counted since it was made.
@@ -166,8 +166,8 @@ fn print_log(rt: &HostRuntime, bytes: &[u8]) -> io::Result<()>
 pub(crate) fn print(rt: &HostRuntime) -> io::Result<()> {
     print_worked(rt)?;
     for call in 1..=5 {
-        for kept in KEPT {
-            print_crash(rt, call, kept)?;
+        for cut_length in CUT_LENGTHS {
+            print_crash(rt, call, cut_length)?;
         }
     }
     print_openings(rt)?;
@@ -185,8 +185,8 @@ fn print_openings(rt: &HostRuntime) -> io::Result<()> {
     for call in 1..=4 {
         print_opening(rt, call)?;
     }
-    for kept in [0, 7, 8, 255] {
-        print_format(rt, 1, kept)?;
+    for cut_length in [0, 7, 8, 255] {
+        print_format(rt, 1, cut_length)?;
     }
     print_format(rt, 2, 0)?;
     for call in 1..=11 {

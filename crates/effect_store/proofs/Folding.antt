@@ -20,7 +20,7 @@ use Rattle.effect_store.specs.Chains.{none, has_tag, chain, IsApart}
 use Rattle.effect_store.specs.Spots.{Spot, spots, spots_in, spots_from, tag_of, tag_of_object, before, earlier}
 use Rattle.effect_store.specs.Links.{or_none}
 use Rattle.effect_store.specs.Updates.{updates_in, updates_of}
-use Rattle.effect_store.specs.Wanted.{pair, is_outside, IsAsWide, IsReading}
+use Rattle.effect_store.specs.Wanted.{pair, is_outside, IsAsWide, LinksFit}
 use Rattle.effect_store.specs.Applied.{applied, mine, shows, shown, AreWide}
 use Rattle.effect_store.proofs.Arranging.{get_each}
 use Rattle.effect_store.proofs.Chaining.{bools}
@@ -28,7 +28,7 @@ use Rattle.effect_store.proofs.Walking.{chain_head}
 use Rattle.effect_store.proofs.Flattening.{coarser}
 use Rattle.effect_store.proofs.Ordering.{before_order}
 use Rattle.effect_store.proofs.Spotting.{spots-arranged}
-use Rattle.effect_store.proofs.Reading.{chain_step}
+use Rattle.effect_store.proofs.Visiting.{chain_step}
 
 pub filter-append : {X : Type 0} (t : X → Bool) (xs ys : List X) → filter t (xs ++ ys) ≡ filter t xs ++ filter t ys
 filter-append t [] ys = refl
@@ -111,7 +111,7 @@ module _ {S E : Type 0} (first : S) (step : S → Dot → E → S) (o : ObjectId
   pub folded-seen : (s : List ℕ) (ps : List (Part E)) → folded first step (effects_of o [] (seen_parts o s ps)) ≡ applied step first (updates_of o (filter (shows s) ps))
   folded-seen s ps = folded-of [] (seen_parts o s ps) ∙ ap (applied step first) (updates_of-seen_parts o s ps)
 
-module _ {E : Type 0} (parts : List (Part E)) (links : Links) (r : IsReading parts links) (apart : IsApart earlier parts) where
+module _ {E : Type 0} (parts : List (Part E)) (links : Links) (r : LinksFit parts links) (apart : IsApart earlier parts) where
   tagged : (o : ObjectId) (t : Part E → Bool) (x : Spot E) → mine o t x ≡ true → has_tag tag_of (tag_of_object o) x ≡ true
   tagged o t x h =
       let m : same_object x.update.object o ≡ true = grind arith in
@@ -126,7 +126,7 @@ module _ {E : Type 0} (parts : List (Part E)) (links : Links) (r : IsReading par
       chain_head tag_of before before_order (spots parts) links.next.items (λ i. or_none (get nat_eq links.first i)) r.linked.ahead small (tag_of_object o) in
       rw (e, h, head, coarser (mine o t) (has_tag tag_of (tag_of_object o)) (tagged o t) (arranged before (spots parts)), spots-arranged parts apart, v) (pairs-spots o t view)
 
-module _ {S E : Type 0} (step : S → Dot → E → S) (parts : List (Part E)) (links : Links) (r : IsReading parts links) where
+module _ {S E : Type 0} (step : S → Dot → E → S) (parts : List (Part E)) (links : Links) (r : LinksFit parts links) where
   one_more : (t : Spot E → Bool) (x : Spot E) (l m : List (Spot E)) (s : S) (b : Bool) → t x ≡ b → l ≡ x ∷ m
       → applied step (if b then step s (record { tx = x.part.tx; index = x.update.index }) x.update.effect else s) (map pair (filter t m)) ≡ applied step s (map pair (filter t l))
   one_more t x l m s true h e = rw (e, h) refl
@@ -155,11 +155,11 @@ module _ {E : Type 0} where
   all_parts o view = ap (updates_of o) (always view)
 
 -- what a walk over other memory of the same parts gives
-pub from_head_in : {E : Type 0} (parts l view : List (Part E)) (links : Links) (o : ObjectId) (t : Part E → Bool) (tag at : ℕ) → IsReading parts links → IsApart earlier parts → l ≡ parts → tag ≡ tag_of_object o → at ≡ or_none (get nat_eq links.first tag) → arranged earlier parts ≡ view
+pub from_head_in : {E : Type 0} (parts l view : List (Part E)) (links : Links) (o : ObjectId) (t : Part E → Bool) (tag at : ℕ) → LinksFit parts links → IsApart earlier parts → l ≡ parts → tag ≡ tag_of_object o → at ≡ or_none (get nat_eq links.first tag) → arranged earlier parts ≡ view
     → map pair (filter (mine o t) (chain tag_of before (spots l) at)) ≡ updates_of o (filter t view)
 from_head_in parts l view links o t tag at r apart e h f v = rw e (from_head parts links r apart o t tag at view h f v)
 
-module _ {E : Type 0} (parts : List (Part E)) (links : Links) (r : IsReading parts links) where
+module _ {E : Type 0} (parts : List (Part E)) (links : Links) (r : LinksFit parts links) where
   pub width_at : (n : ℕ) (k : ℕ) (p : Part E) (x : Spot E) → AreWide n parts → slice_get (spots parts) k ≡ Some x → p ≡ x.part → length p.c ≡ n
   width_at n k p x w g e = let q = r.linked.located k x g in rw e (eqb-true (length x.part.c) n (get_each (λ z. length z.c == n) parts q.entry.part x.part w q.part))
 

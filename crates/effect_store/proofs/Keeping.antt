@@ -25,7 +25,7 @@ use Rattle.effect_store.specs.Arranged.{added, added_all, arranged, Each, Rises,
 use Rattle.effect_store.specs.Chains.{none, after, has_tag, chain, IsApart}
 use Rattle.effect_store.specs.Spots.{Spot, spots, spots_in, spots_from, tag_of, tag_of_object, before, earlier}
 use Rattle.effect_store.specs.Links.{or_none, spot}
-use Rattle.effect_store.specs.Wanted.{pair, IsReading}
+use Rattle.effect_store.specs.Wanted.{pair, LinksFit}
 use Rattle.effect_store.specs.Applied.{applied, mine, shows, shown}
 use Rattle.effect_store.specs.Newest.{own, front, own_after, IsNewest, AreNewest, IsApplying, IsFront}
 use Rattle.effect_store.proofs.Arranging.{eqv, each_more, each-added_all, filter-added_out, filter_same, filter_same_on, get_in}
@@ -35,7 +35,7 @@ use Rattle.effect_store.proofs.Linking.{is_there, link_read}
 use Rattle.effect_store.proofs.Flattening.{coarser}
 use Rattle.effect_store.proofs.Ordering.{before_order}
 use Rattle.effect_store.proofs.Spotting.{spots_step, spots-arranged}
-use Rattle.effect_store.proofs.Reading.{chain_step}
+use Rattle.effect_store.proofs.Visiting.{chain_step}
 use Rattle.effect_store.proofs.Folding.{map-append, applied-append, pairs-spots, folded-seen}
 use Rattle.effect_store.proofs.Between.{filter_twice}
 
@@ -130,7 +130,7 @@ module _ {E : Type 0} where
   own_rest : (o : ObjectId) (q : Spot E) (l : List (Spot E)) → own o q ≡ true → filter (own o) (filter (after tag_of before q) l) ≡ filter (own_after o q) l
   own_rest o q l h = filter_twice (after tag_of before q) (own o) l ∙ filter_same (λ y. after tag_of before q y && own o y) (own_after o q) (λ y. own_and o q y (own o y) h refl) l
 
-module _ {E : Type 0} (parts : List (Part E)) (links : Links) (r : IsReading parts links) where
+module _ {E : Type 0} (parts : List (Part E)) (links : Links) (r : LinksFit parts links) where
   small : length (spots parts) ≤ none
   small = omega (arith, r.linked.many, r.small)
 
@@ -165,7 +165,7 @@ neither_if : {A : Type 0} (b : Bool) (x y z : A) → x ≡ (if b then y else z) 
 neither_if true x y z e h = cc
 neither_if false x y z e h = e
 
-module _ {S E : Type 0} (first : Kind → S) (step : S → Dot → E → S) (sites : ℕ) (parts : List (Part E)) (links : Links) (r : IsReading parts links) where
+module _ {S E : Type 0} (first : Kind → S) (step : S → Dot → E → S) (sites : ℕ) (parts : List (Part E)) (links : Links) (r : LinksFit parts links) where
   own_applied : (o : ObjectId) (a b : ℕ) (x : Spot E) (n : Newest S) → slice_get (spots parts) a ≡ Some x → b ≡ get_or links.next.items a b → own o x ≡ true → length x.part.c ≡ sites → IsApplying first step o sites (spots parts) a n
       → IsApplying first step o sites (spots parts) b (record { at = a; seen = join n.seen x.part.c; state = step n.state (record { tx = x.part.tx; index = x.update.index }) x.update.effect })
   own_applied o a b x n g e h wide w =
@@ -320,7 +320,7 @@ spots-push : {E : Type 0} (parts : List (Part E)) (p : Part E) → spots (parts 
 spots-push [] p = append-nil (spots_in p)
 spots-push (q ∷ qs) p = ap (λ l. spots_in q ++ l) (spots-push qs p) ∙ sym (append_assoc (spots_in q) (spots qs) (spots_in p))
 
-module _ {S E : Type 0} (first : Kind → S) (step : S → Dot → E → S) (sites : ℕ) (parts : List (Part E)) (links : Links) (r : IsReading parts links) where
+module _ {S E : Type 0} (first : Kind → S) (step : S → Dot → E → S) (sites : ℕ) (parts : List (Part E)) (links : Links) (r : LinksFit parts links) where
   -- a state that was taken out, or that of no update, begins the walk over the rest
   pub start_applying : (o : ObjectId) (serves : Bool) (from : ℕ) (n : Newest S) (newest : ℕ → Option (Newest S)) → AreNewest first step sites (spots parts) newest
       → (serves ≡ true → (m : Newest S) × (newest (tag_of_object o) ≡ Some m) × ((q : Spot E) → slice_get (spots parts) m.at ≡ Some q → own o q ≡ true) × (from ≡ get_or links.next.items m.at from))
@@ -484,7 +484,7 @@ pub forgotten : {S E : Type 0} (parts : List (Part E)) (p : Part E) (old now : �
     → (i : ℕ) (k : Newest S) → now i ≡ Some k → (q : Spot E) → slice_get (spots parts) k.at ≡ Some q → Each (λ x. not (has_tag tag_of i x) || before q x) (spots_in p)
 forgotten {E = E} parts p old now count n w h i k z q y = let P : List (Upd E) → Type 0 = λ l. Each (λ x. not (has_tag tag_of i x) || before q x) (spots_from p 0 l) in subst P (take_most n p.updates h) (w.clear i k z q y)
 
-module _ {S E : Type 0} (first : Kind → S) (step : S → Dot → E → S) (parts : List (Part E)) (links : Links) (r : IsReading parts links) where
+module _ {S E : Type 0} (first : Kind → S) (step : S → Dot → E → S) (parts : List (Part E)) (links : Links) (r : LinksFit parts links) where
   -- what a read finds from no update on
   pub read_fresh : (o : ObjectId) (s : List ℕ) (tag from : ℕ) (state : S) → tag ≡ tag_of_object o → from ≡ or_none (get nat_eq links.first tag) → state ≡ first o.kind
       → applied step state (shown o s parts from) ≡ applied step (first o.kind) (map pair (filter (mine o (shows s)) (arranged before (spots parts))))

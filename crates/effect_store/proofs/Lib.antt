@@ -5,7 +5,7 @@ pub mod Flattening
 pub mod Ordering
 pub mod Spotting
 pub mod Linking
-pub mod Reading
+pub mod Visiting
 pub mod Holding
 pub mod Storing
 pub mod Folding

@@ -47,19 +47,19 @@ module _ {E : Type 0} (xs : List (Spot E)) (parts : List (Part E)) (entries : Li
   same_entry : (a e : Entry) (q : Spot E) → a ≡ e → slice_get parts a.part ≡ Some q.part → a.at ≡ q.at → (slice_get parts e.part ≡ Some q.part) × (e.at ≡ q.at)
   same_entry a e q h f g = let P : Entry → Type 0 = λ z. (slice_get parts z.part ≡ Some q.part) × (z.at ≡ q.at) in subst P h (f, g)
 
-  stands_at : (k : ℕ) (e : Entry) (q : Spot E) → slice_get entries k ≡ Some e → slice_get xs k ≡ Some q → (slice_get parts e.part ≡ Some q.part) × (e.at ≡ q.at)
-  stands_at k e q g h =
+  entry_spot_at : (k : ℕ) (e : Entry) (q : Spot E) → slice_get entries k ≡ Some e → slice_get xs k ≡ Some q → (slice_get parts e.part ≡ Some q.part) × (e.at ≡ q.at)
+  entry_spot_at k e q g h =
       let r = s.located k q h in
       let there : slice_get entries k ≡ Some r.entry = r.there in
       let same : r.entry ≡ e = cc in
       same_entry r.entry e q same r.part r.at
 
   -- an entry names an update
-  pub stands : (k : ℕ) (e : Entry) → slice_get entries k ≡ Some e → (q : Spot E) × (slice_get xs k ≡ Some q) × (slice_get parts e.part ≡ Some q.part) × (e.at ≡ q.at)
-  stands k e g =
+  pub entry_spot : (k : ℕ) (e : Entry) → slice_get entries k ≡ Some e → (q : Spot E) × (slice_get xs k ≡ Some q) × (slice_get parts e.part ≡ Some q.part) × (e.at ≡ q.at)
+  entry_spot k e g =
       let v : k < length entries = get_in entries k e g in
       let there = is_there xs k (omega (arith, s.many)) in
-      let r = stands_at k e there.0 g there.1 in
+      let r = entry_spot_at k e there.0 g there.1 in
       (there.0, there.1, r.0, r.1)
 
   pub find_start : (x : Spot E) (a t : ℕ) → t ≡ tag_of x → a ≡ or_none (last t) → IsWalk tag_of later xs x a
@@ -110,8 +110,8 @@ module _ {E : Type 0} (xs : List (Spot E)) (parts : List (Part E)) (entries : Li
         ];
         many = rw longer (simp length-append (omega (arith, s.many)));
         apart = apart_push before xs x s.apart fresh;
-        ahead = chain_grows tag_of before before_order xs next next' (λ i. or_none (first i)) (λ i. or_none (first' i)) x a c s.ahead near fresh_apart cp h2.last h2.others h2.here (λ i m. ap or_none (h2.heads_others i m)) (λ m. ap or_none (h2.heads_kept m)) (λ m. ap or_none (h2.heads_here m));
-        behind = chain_grows tag_of later later_order xs back back' (λ i. or_none (last i)) (λ i. or_none (last' i)) x c a s.behind near_back fresh_turned p k2.last k2.others k2.here (λ i m. ap or_none (k2.heads_others i m)) (λ m. ap or_none (k2.heads_kept m)) (λ m. ap or_none (k2.heads_here m));
+        ahead = chain_grows tag_of before before_order xs next next' (λ i. or_none (first i)) (λ i. or_none (first' i)) x a c s.ahead near fresh_apart cp h2.last h2.others h2.here (λ i m. ap or_none (h2.heads_others i m)) (λ m. ap or_none (h2.heads_same m)) (λ m. ap or_none (h2.heads_here m));
+        behind = chain_grows tag_of later later_order xs back back' (λ i. or_none (last i)) (λ i. or_none (last' i)) x c a s.behind near_back fresh_turned p k2.last k2.others k2.here (λ i m. ap or_none (k2.heads_others i m)) (λ m. ap or_none (k2.heads_same m)) (λ m. ap or_none (k2.heads_here m));
         next_long = rw h2.len (simp length-append (omega (arith, s.next_long)));
         back_long = rw k2.len (simp length-append (omega (arith, s.back_long)));
       }
@@ -190,7 +190,7 @@ pub record IsRead {E : Type 0} (xs : List (Spot E)) (parts : List (Part E)) (k :
 module _ {E : Type 0} where
   pub reads_at : (xs : List (Spot E)) (parts : List (Part E)) (entries : List Entry) (next back : List ℕ) (first last : ℕ → Option ℕ) (k : ℕ) (e : Entry) → IsLinked xs parts entries next back first last → slice_get entries k ≡ Some e → IsRead xs parts k e
   reads_at xs parts entries next back first last k e s g =
-      let q = stands xs parts entries next back first last s k e g in
+      let q = entry_spot xs parts entries next back first last s k e g in
       let r = s.located k q.0 q.1 in
       let P : ℕ → Type 0 = λ n. slice_get q.0.part.updates n ≡ Some q.0.update in
       record { spot = q.0; here = q.1; part = q.2; update = subst P (sym q.3) r.update }

@@ -10,7 +10,7 @@ use Rattle.effect_store.specs.Arranged.{added, arranged}
 use Rattle.effect_store.specs.Chains.{Points}
 use Rattle.effect_store.specs.Spots.{Spot, spots, spots_to, earlier}
 use Rattle.effect_store.specs.Links.{or_none, AreLinks, AreSame, Roomy}
-use Rattle.effect_store.specs.Wanted.{IsReading}
+use Rattle.effect_store.specs.Wanted.{LinksFit}
 use Rattle.effect_store.specs.Stores.{PartRoom}
 use Rattle.effect_store.proofs.Chaining.{dec}
 use Rattle.effect_store.proofs.Arranging.{arranged-push, get_push, get_pushed}
@@ -57,8 +57,8 @@ module _ {E : Type 0} where
       let a : slice_get parts' place ≡ Some p = rw (e, at) (get_pushed parts p) in
       cc
 
-  pub reading_of : (parts parts' : List (Part E)) (l : Links) (n : ℕ) → AreLinks (spots parts) parts l → parts ≡ parts' → Roomy l n → IsReading parts' l
-  reading_of parts parts' l n s e r = let P : List (Part E) → Type 0 = λ ps. AreLinks (spots ps) ps l in record { linked = subst P e s; small = omega (arith, r.small, l.entries.ok.0) }
+  pub links_fit_of : (parts parts' : List (Part E)) (l : Links) (n : ℕ) → AreLinks (spots parts) parts l → parts ≡ parts' → Roomy l n → LinksFit parts' l
+  links_fit_of parts parts' l n s e r = let P : List (Part E) → Type 0 = λ ps. AreLinks (spots ps) ps l in record { linked = subst P e s; small = omega (arith, r.small, l.entries.ok.0) }
 
   linked_same : (parts : List (Part E)) (l l' : Links) → AreSame l l' → AreLinks (spots parts) parts l → AreLinks (spots parts) parts l'
   linked_same parts l l' a s = record {
@@ -71,8 +71,8 @@ module _ {E : Type 0} where
     back_long = rw a.back s.back_long;
   }
 
-  pub reading_same : (parts parts' : List (Part E)) (l l' : Links) → parts' ≡ parts → AreSame l l' → IsReading parts l → IsReading parts' l'
-  reading_same parts parts' l l' e a r = rw e (record { linked = linked_same parts l l' a r.linked; small = rw a.entries r.small })
+  pub links_fit_same : (parts parts' : List (Part E)) (l l' : Links) → parts' ≡ parts → AreSame l l' → LinksFit parts l → LinksFit parts' l'
+  links_fit_same parts parts' l l' e a r = rw e (record { linked = linked_same parts l l' a r.linked; small = rw a.entries r.small })
 
 -- what holds of two numbers holds of the greater
 pub by_max : (P : ℕ → Type 0) (a b r : ℕ) → r ≡ max a b → P a → P b → P r
@@ -87,8 +87,8 @@ room_max a b r len capacity spare e h k = by_max (λ n. PartRoom n len capacity 
 pub roomy_max : (l : Links) (a b r : ℕ) → r ≡ max a b → Roomy l a → Roomy l b → Roomy l r
 roomy_max l a b r e h k = by_max (Roomy l) a b r e h k
 
-pub reading_in : {E : Type 0} (parts l : List (Part E)) (links : Links) → IsReading parts links → l ≡ parts → IsReading l links
-reading_in parts l links r e = rw e r
+pub links_fit_in : {E : Type 0} (parts l : List (Part E)) (links : Links) → LinksFit parts links → l ≡ parts → LinksFit l links
+links_fit_in parts l links r e = rw e r
 
 pub room_after : (l l' : Links) (n m k : ℕ) → ((n : ℕ) → Roomy l (n + k) → Roomy l' n) → Roomy l n → m + k ≡ n → Roomy l' m
 room_after l l' n m k h g e = h m (roomy_less l (m + k) n (omega arith) g)

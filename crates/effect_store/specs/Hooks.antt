@@ -9,6 +9,6 @@ pub record Hooked (old new : List ℕ) (heads heads' : ℕ → Option ℕ) (at t
   pub others : (k : ℕ) → k < place → k ≢ at → get_or new k none ≡ get_or old k none
   pub here : at < place → get_or new at none ≡ place
   pub heads_others : (i : ℕ) → i ≢ tag → heads' i ≡ heads i
-  pub heads_kept : at < place → heads' tag ≡ heads tag
+  pub heads_same : at < place → heads' tag ≡ heads tag
   pub heads_here : place ≤ at → heads' tag ≡ Some place
   pub len : length new ≡ length old + 1

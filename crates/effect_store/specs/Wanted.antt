@@ -37,6 +37,6 @@ module _ {E : Type 0} where
   IsAsWide v parts = (s : List ℕ) → v ≡ Some s → Each (λ p. length p.c == length s) parts
 
   -- the links tell of all updates of the parts
-  pub record IsReading (parts : List (Part E)) (links : Links) : Type 0 where
+  pub record LinksFit (parts : List (Part E)) (links : Links) : Type 0 where
     pub linked : AreLinks (spots parts) parts links
     pub small : length links.entries.items ≤ none

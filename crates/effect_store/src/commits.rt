@@ -98,7 +98,7 @@ impl Commits {
 
     fn make_room(&mut self, n: usize) -> Result<(), AllocError>
         ensures places { self.new.places.items ≡ self.old.places.items }
-        ensures kept { (m : ℕ) → vec_len self.old.places + m ≤ vec_capacity self.old.places → vec_len self.new.places + m ≤ vec_capacity self.new.places }
+        ensures roomy { (m : ℕ) → vec_len self.old.places + m ≤ vec_capacity self.old.places → vec_len self.new.places + m ≤ vec_capacity self.new.places }
         ensures ok { OnOk result (vec_len self.new.places + n ≤ vec_capacity self.new.places) }
     {
         self.places.reserve(n)?;
@@ -156,7 +156,7 @@ pub(crate) fn list_part<E>(
 pub(crate) fn make_room(lists: &mut [Commits; 8], sites: u8, n: usize) -> Result<(), AllocError>
     requires { sites ≤ 8 }
     ensures same { SameLists lists.old lists.new }
-    ensures kept { (m : ℕ) → ListRoom sites m lists.old → ListRoom sites m lists.new }
+    ensures roomy { (m : ℕ) → ListRoom sites m lists.old → ListRoom sites m lists.new }
     ensures ok { OnOk result (ListRoom sites n lists.new) }
 {
     for i in 0..sites {

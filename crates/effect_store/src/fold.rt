@@ -1,7 +1,7 @@
 ghost use Rattle.std.specs.Prelude.{◌≡◌, ◌&&◌, length, OnOk, if◌then◌else◌};
 ghost use Rattle.site_vector.specs.Vector.{le};
 ghost use Rattle.crdt_core.specs.Objects.{same_object};
-ghost use Rattle.effect_store.specs.Wanted.{IsReading};
+ghost use Rattle.effect_store.specs.Wanted.{LinksFit};
 ghost use Rattle.effect_store.specs.Applied.{applied, shown, AreWide};
 
 use crate::links::Links;
@@ -55,7 +55,7 @@ pub(crate) fn apply_shown<C: Crdt>(
     snapshot: &VTime,
     state: &mut C::State,
 ) -> Result<(), AllocError>
-    requires reading { IsReading parts.now links.now }
+    requires fitting { LinksFit parts.now links.now }
     requires wide { AreWide (length snapshot.now) parts.now }
     ensures { OnOk result (state.new ≡ applied C.applied state.old (shown object.now snapshot.now parts.now from)) }
 {

@@ -58,7 +58,7 @@ impl Links {
     /// `AllocError` where memory runs out, or where places would not fit 32 bits. No room is lost then.
     pub(crate) fn make_room(&mut self, n: usize) -> Result<(), AllocError>
         ensures same { AreSame self.old self.new }
-        ensures kept { (m : ℕ) → Roomy self.old m → Roomy self.new m }
+        ensures roomy { (m : ℕ) → Roomy self.old m → Roomy self.new m }
         ensures ok { OnOk result (Roomy self.new n) }
     {
         if self.entries.len() > NONE as usize || n > NONE as usize - self.entries.len() {
@@ -94,7 +94,7 @@ fn comes_before<E>(p: &Part<E>, i: u32, q: &Part<E>, total: u128, j: u32) -> boo
 
 /// Whether the update that an entry names comes before that at a place of a part, the sum of whose vector is known: a
 /// walk asks this again and again of one part.
-pub(crate) fn stands_before<E>(
+pub(crate) fn entry_comes_before<E>(
     parts: &[Part<E>],
     entry: Entry,
     part: &Part<E>,
@@ -126,7 +126,7 @@ fn last_before<E>(
     let total = part.c.sum();
     let mut k = head(&links.last, tag);
     while (k as usize) < links.entries.len() {
-        if stands_before(parts, links.entries[k as usize], part, total, at) {
+        if entry_comes_before(parts, links.entries[k as usize], part, total, at) {
             return k;
         }
         k = links.back[k as usize];

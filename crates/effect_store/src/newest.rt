@@ -9,13 +9,13 @@ ghost use Rattle.effect_store.specs.Arranged.{Each};
 ghost use Rattle.effect_store.specs.Chains.{none, chain, has_tag, IsApart};
 ghost use Rattle.effect_store.specs.Spots.{Spot, spots, spots_in, tag_of, tag_of_object, before, earlier};
 ghost use Rattle.effect_store.specs.Links.{or_none, spot};
-ghost use Rattle.effect_store.specs.Wanted.{IsReading};
+ghost use Rattle.effect_store.specs.Wanted.{LinksFit};
 ghost use Rattle.effect_store.specs.Applied.{AreWide, shown};
 ghost use Rattle.effect_store.specs.Newest.{own, AreNewest, IsApplying, IsFront};
 
 use crate::fold::is_shown;
 use crate::hooks::head;
-use crate::links::{Links, NONE, stands_before};
+use crate::links::{Links, NONE, entry_comes_before};
 use crate::tags::tag_of;
 use crate::updates::update_at;
 use crdt_core::{Crdt, Kind, ObjectId, Part, Upd};
@@ -81,7 +81,7 @@ fn bring_forward<C: Crdt>(
     steps: u32,
     newest: &mut Newest<C::State>,
 ) -> Result<(), AllocError>
-    requires reading { IsReading parts.now links.now }
+    requires fitting { LinksFit parts.now links.now }
     requires wide { AreWide (length newest.old.seen) parts.now }
     requires applying { IsApplying C.initial C.applied object.now (length newest.old.seen) (spots parts.now) from newest.old }
     ensures { OnOk result (IsFront C.initial C.applied object.now (length newest.old.seen) (spots parts.now) newest.new) }
@@ -99,14 +99,14 @@ fn bring_forward<C: Crdt>(
 }
 
 /// The newest state at a tag, if it is that of the object and the snapshot shows all that it has.
-pub(crate) fn kept_for<'a, E, S>(
+pub(crate) fn newest_for<'a, E, S>(
     parts: &[Part<E>],
     links: &Links,
     newest: &'a HashMap<u64, Newest<S>>,
     object: &ObjectId,
     snapshot: &VTime,
 ) -> Option<&'a Newest<S>>
-    requires reading { IsReading parts.now links.now }
+    requires fitting { LinksFit parts.now links.now }
     requires within { (i : ℕ) (n : Newest S) → get nat_eq newest.now i ≡ Some n → (n.at < length links.now.entries.items) × (length n.seen ≡ length snapshot.now) }
     ensures { IfSome (option_copied result) (λ n. (get nat_eq newest.now (tag_of_object object.now) ≡ Some n) × ((q : Spot E) → slice_get (spots parts.now) n.at ≡ Some q → own object.now q ≡ true) × (le n.seen snapshot.now ≡ true)) }
 {
@@ -126,7 +126,7 @@ fn shown_from<E>(
     object: &ObjectId,
     snapshot: &VTime,
 ) -> u32
-    requires reading { IsReading parts.now links.now }
+    requires fitting { LinksFit parts.now links.now }
     requires wide { AreWide (length snapshot.now) parts.now }
 {
     let mut count: u32 = 0;
@@ -150,7 +150,7 @@ pub(crate) fn is_none_shown<E>(
     object: &ObjectId,
     snapshot: &VTime,
 ) -> bool
-    requires reading { IsReading parts.now links.now }
+    requires fitting { LinksFit parts.now links.now }
     requires wide { AreWide (length snapshot.now) parts.now }
     ensures { result ≡ true → shown object.now snapshot.now parts.now from ≡ [] }
 {
@@ -175,9 +175,9 @@ fn start<C: Crdt>(
 ) -> Result<Newest<C::State>, AllocError>
     requires least { 1 ≤ sites }
     requires most { sites ≤ 8 }
-    requires kept { serves ≡ true → IsSome (get nat_eq newest.old (tag_of_object object.now)) }
+    requires at_hand { serves ≡ true → IsSome (get nat_eq newest.old (tag_of_object object.now)) }
     ensures left { (i : ℕ) (n : Newest C.State) → get nat_eq newest.new i ≡ Some n → get nat_eq newest.old i ≡ Some n }
-    ensures kept { serves ≡ true → IfOk result (λ n. get nat_eq newest.old (tag_of_object object.now) ≡ Some n) }
+    ensures at_hand { serves ≡ true → IfOk result (λ n. get nat_eq newest.old (tag_of_object object.now) ≡ Some n) }
     ensures fresh { serves ≡ false → IfOk result (λ n. (n.at ≡ none) × (n.seen ≡ replicate sites 0) × (n.state ≡ C.initial object.now.kind)) }
 {
     if serves {
@@ -207,12 +207,12 @@ fn rest_of<E, S>(
     object: &ObjectId,
     snapshot: &VTime,
 ) -> Rest
-    requires reading { IsReading parts.now links.now }
+    requires fitting { LinksFit parts.now links.now }
     requires within { (i : ℕ) (n : Newest S) → get nat_eq newest.now i ≡ Some n → (n.at < length links.now.entries.items) × (length n.seen ≡ length snapshot.now) }
-    ensures kept { result.serves ≡ true → (n : Newest S) × (get nat_eq newest.now (tag_of_object object.now) ≡ Some n) × ((q : Spot E) → slice_get (spots parts.now) n.at ≡ Some q → own object.now q ≡ true) × (result.from ≡ slice_index_or links.now.next.items n.at result.from) }
+    ensures at_hand { result.serves ≡ true → (n : Newest S) × (get nat_eq newest.now (tag_of_object object.now) ≡ Some n) × ((q : Spot E) → slice_get (spots parts.now) n.at ≡ Some q → own object.now q ≡ true) × (result.from ≡ slice_index_or links.now.next.items n.at result.from) }
     ensures fresh { result.serves ≡ false → result.from ≡ or_none (get nat_eq links.now.first (tag_of_object object.now)) }
 {
-    match kept_for(parts, links, newest, object, snapshot) {
+    match newest_for(parts, links, newest, object, snapshot) {
         Some(kept) => Rest {
             serves: true,
             from: links.next[kept.at as usize],
@@ -237,10 +237,10 @@ fn front_state<C: Crdt>(
 ) -> Result<Newest<C::State>, AllocError>
     requires least { 1 ≤ sites }
     requires most { sites ≤ 8 }
-    requires reading { IsReading parts.now links.now }
+    requires fitting { LinksFit parts.now links.now }
     requires wide { AreWide sites parts.now }
     requires hold { AreNewest C.initial C.applied sites (spots parts.now) (get nat_eq newest.old) }
-    requires kept { rest.serves ≡ true → (n : Newest C.State) × (get nat_eq newest.old (tag_of_object object.now) ≡ Some n) × ((q : Spot C.Effect) → slice_get (spots parts.now) n.at ≡ Some q → own object.now q ≡ true) × (rest.from ≡ slice_index_or links.now.next.items n.at rest.from) }
+    requires at_hand { rest.serves ≡ true → (n : Newest C.State) × (get nat_eq newest.old (tag_of_object object.now) ≡ Some n) × ((q : Spot C.Effect) → slice_get (spots parts.now) n.at ≡ Some q → own object.now q ≡ true) × (rest.from ≡ slice_index_or links.now.next.items n.at rest.from) }
     requires fresh { rest.serves ≡ false → rest.from ≡ or_none (get nat_eq links.now.first (tag_of_object object.now)) }
     ensures left { (i : ℕ) (n : Newest C.State) → get nat_eq newest.new i ≡ Some n → get nat_eq newest.old i ≡ Some n }
     ensures front { IfOk result (λ n. IsFront C.initial C.applied object.now sites (spots parts.now) n) }
@@ -275,7 +275,7 @@ fn bring<C: Crdt>(
     snapshot: &VTime,
     short: u32,
 ) -> Result<(), AllocError>
-    requires reading { IsReading parts.now links.now }
+    requires fitting { LinksFit parts.now links.now }
     requires wide { AreWide (length snapshot.now) parts.now }
     requires hold { AreNewest C.initial C.applied (length snapshot.now) (spots parts.now) (get nat_eq newest.old) }
     ensures hold { AreNewest C.initial C.applied (length snapshot.now) (spots parts.now) (get nat_eq newest.new) }
@@ -302,11 +302,11 @@ fn renew<C: Crdt>(
     object: &ObjectId,
     snapshot: &VTime,
 )
-    requires reading { IsReading parts.now links.now }
+    requires fitting { LinksFit parts.now links.now }
     requires within { (i : ℕ) (n : Newest C.State) → get nat_eq older.now i ≡ Some n → (n.at < length links.now.entries.items) × (length n.seen ≡ length snapshot.now) }
     ensures { (i : ℕ) (n : Newest C.State) → get nat_eq newest.new i ≡ Some n → (get nat_eq newest.old i ≡ Some n) ⊎ (get nat_eq older.now i ≡ Some n) }
 {
-    let Some(kept) = kept_for(parts, links, older, object, snapshot) else {
+    let Some(kept) = newest_for(parts, links, older, object, snapshot) else {
         return;
     };
     let Ok(state) = C::copy(alloc, &kept.state) else {
@@ -331,14 +331,14 @@ fn fall_back<C: Crdt>(
     object: &ObjectId,
     snapshot: &VTime,
 )
-    requires reading { IsReading parts.now links.now }
+    requires fitting { LinksFit parts.now links.now }
     requires wide { AreWide (length snapshot.now) parts.now }
     requires hold { AreNewest C.initial C.applied (length snapshot.now) (spots parts.now) (get nat_eq newest.old) }
     requires hold_older { AreNewest C.initial C.applied (length snapshot.now) (spots parts.now) (get nat_eq older.old) }
     ensures hold { AreNewest C.initial C.applied (length snapshot.now) (spots parts.now) (get nat_eq newest.new) }
     ensures hold_older { AreNewest C.initial C.applied (length snapshot.now) (spots parts.now) (get nat_eq older.new) }
 {
-    if kept_for(parts, links, newest, object, snapshot).is_some() {
+    if newest_for(parts, links, newest, object, snapshot).is_some() {
         return;
     }
     let _brought = bring::<C>(alloc, parts, links, older, object, snapshot, SHORT);
@@ -356,7 +356,7 @@ pub(crate) fn advance<C: Crdt>(
     object: &ObjectId,
     snapshot: &VTime,
 ) -> Result<(), AllocError>
-    requires reading { IsReading parts.now links.now }
+    requires fitting { LinksFit parts.now links.now }
     requires wide { AreWide (length snapshot.now) parts.now }
     requires hold { AreNewest C.initial C.applied (length snapshot.now) (spots parts.now) (get nat_eq newest.old) }
     requires hold_older { AreNewest C.initial C.applied (length snapshot.now) (spots parts.now) (get nat_eq older.old) }
@@ -375,7 +375,7 @@ fn forget_update<E, S: Drop>(
     part: &Part<E>,
     at: u32,
 )
-    requires reading { IsReading parts.now links.now }
+    requires fitting { LinksFit parts.now links.now }
     requires within { (i : ℕ) (n : Newest S) → get nat_eq newest.old i ≡ Some n → n.at < length links.now.entries.items }
     requires there { at < length part.now.updates }
     ensures left { (i : ℕ) (n : Newest S) → get nat_eq newest.new i ≡ Some n → get nat_eq newest.old i ≡ Some n }
@@ -385,7 +385,7 @@ fn forget_update<E, S: Drop>(
     let Some(end) = end_of(newest, tag) else {
         return;
     };
-    if stands_before(parts, links.entries[end as usize], part, part.c.sum(), at) {
+    if entry_comes_before(parts, links.entries[end as usize], part, part.c.sum(), at) {
         return;
     }
     let _old = newest.remove(&tag);
@@ -398,7 +398,7 @@ pub(crate) fn forget<E, S: Drop>(
     newest: &mut HashMap<u64, Newest<S>>,
     part: &Part<E>,
 )
-    requires reading { IsReading parts.now links.now }
+    requires fitting { LinksFit parts.now links.now }
     requires within { (i : ℕ) (n : Newest S) → get nat_eq newest.old i ≡ Some n → n.at < length links.now.entries.items }
     requires small { length part.now.updates ≤ none }
     ensures left { (i : ℕ) (n : Newest S) → get nat_eq newest.new i ≡ Some n → get nat_eq newest.old i ≡ Some n }

@@ -3,14 +3,14 @@ ghost use Rattle.std.specs.List.{filter};
 ghost use Rattle.std.specs.HashMap.{get};
 ghost use Rattle.effect_store.specs.Arranged.{arranged};
 ghost use Rattle.effect_store.specs.Spots.{spots, before};
-ghost use Rattle.effect_store.specs.Wanted.{pair, IsReading};
+ghost use Rattle.effect_store.specs.Wanted.{pair, LinksFit};
 ghost use Rattle.effect_store.specs.Applied.{applied, mine, shows, AreWide};
 ghost use Rattle.effect_store.specs.Newest.{AreNewest};
 
 use crate::fold::apply_shown;
 use crate::hooks::head;
 use crate::links::Links;
-use crate::newest::{Newest, is_none_shown, kept_for};
+use crate::newest::{Newest, is_none_shown, newest_for};
 use crate::tags::tag_of;
 use crdt_core::{Crdt, ObjectId, Part};
 use site_vector::VTime;
@@ -25,7 +25,7 @@ fn fresh_state<C: Crdt>(
     object: &ObjectId,
     snapshot: &VTime,
 ) -> Result<C::State, AllocError>
-    requires reading { IsReading parts.now links.now }
+    requires fitting { LinksFit parts.now links.now }
     requires wide { AreWide (length snapshot.now) parts.now }
     ensures { IfOk result (λ s. s ≡ applied C.applied (C.initial object.now.kind) (map pair (filter (mine object.now (shows snapshot.now)) (arranged before (spots parts.now))))) }
 {
@@ -44,12 +44,12 @@ pub(crate) fn read_state<C: Crdt>(
     object: &ObjectId,
     snapshot: &VTime,
 ) -> Result<C::State, AllocError>
-    requires reading { IsReading parts.now links.now }
+    requires fitting { LinksFit parts.now links.now }
     requires wide { AreWide (length snapshot.now) parts.now }
     requires hold { AreNewest C.initial C.applied (length snapshot.now) (spots parts.now) (get nat_eq newest.now) }
     ensures { IfOk result (λ s. s ≡ applied C.applied (C.initial object.now.kind) (map pair (filter (mine object.now (shows snapshot.now)) (arranged before (spots parts.now))))) }
 {
-    let Some(kept) = kept_for(parts, links, newest, object, snapshot) else {
+    let Some(kept) = newest_for(parts, links, newest, object, snapshot) else {
         return fresh_state::<C>(alloc, parts, links, object, snapshot);
     };
     let from = links.next[kept.at as usize];
@@ -66,12 +66,12 @@ pub(crate) fn standing_state<'a, C: Crdt>(
     object: &ObjectId,
     snapshot: &VTime,
 ) -> Option<&'a C::State>
-    requires reading { IsReading parts.now links.now }
+    requires fitting { LinksFit parts.now links.now }
     requires wide { AreWide (length snapshot.now) parts.now }
     requires hold { AreNewest C.initial C.applied (length snapshot.now) (spots parts.now) (get nat_eq newest.now) }
     ensures { IfSome (option_copied result) (λ s. s ≡ applied C.applied (C.initial object.now.kind) (map pair (filter (mine object.now (shows snapshot.now)) (arranged before (spots parts.now))))) }
 {
-    let Some(kept) = kept_for(parts, links, newest, object, snapshot) else {
+    let Some(kept) = newest_for(parts, links, newest, object, snapshot) else {
         return None;
     };
     let from = links.next[kept.at as usize];

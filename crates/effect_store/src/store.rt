@@ -46,7 +46,7 @@ impl<C: Crdt> Model for Store<C> {
     ghost use Rattle.effect_store.specs.Newest.{AreNewest};
     ghost use Rattle.effect_store.specs.Links.{Roomy};
     ghost use Rattle.effect_store.specs.Listed.{AreLists, ListRoom};
-    ghost use Rattle.effect_store.specs.Wanted.{IsReading};
+    ghost use Rattle.effect_store.specs.Wanted.{LinksFit};
     ghost use Rattle.effect_store.specs.Stored.{Stored};
     ghost use Rattle.effect_store.specs.Stores.{IsStore, PartRoom};
 
@@ -54,7 +54,7 @@ impl<C: Crdt> Model for Store<C> {
 
     ghost view = { λ s. record { sites = s.sites; parts = arranged earlier s.parts.items; room = s.room; update_room = s.update_room } };
 
-    ghost invariant = { λ s. IsStore s.sites s.parts.items (get ⟦<TxId as PartialEq>⟧.eq s.ids) × IsReading s.parts.items s.links × PartRoom s.room (vec_len s.parts) (vec_capacity s.parts) (spare s.ids) × Roomy s.links s.update_room × AreLists s.sites s.parts.items s.lists × ListRoom s.sites s.room s.lists × AreNewest C.initial C.applied s.sites (spots s.parts.items) (get nat_eq s.newest) × AreNewest C.initial C.applied s.sites (spots s.parts.items) (get nat_eq s.older) × (1 ≤ s.sites) × (s.sites ≤ 8) };
+    ghost invariant = { λ s. IsStore s.sites s.parts.items (get ⟦<TxId as PartialEq>⟧.eq s.ids) × LinksFit s.parts.items s.links × PartRoom s.room (vec_len s.parts) (vec_capacity s.parts) (spare s.ids) × Roomy s.links s.update_room × AreLists s.sites s.parts.items s.lists × ListRoom s.sites s.room s.lists × AreNewest C.initial C.applied s.sites (spots s.parts.items) (get nat_eq s.newest) × AreNewest C.initial C.applied s.sites (spots s.parts.items) (get nat_eq s.older) × (1 ≤ s.sites) × (s.sites ≤ 8) };
 }
 
 impl<C: Crdt> Store<C> {
@@ -332,7 +332,7 @@ fn make_room<E>(
 ) -> Result<(), AllocError>
     ensures parts { parts.new.items ≡ parts.old.items }
     ensures ids { (t : TxId) → get ⟦<TxId as PartialEq>⟧.eq ids.new t ≡ get ⟦<TxId as PartialEq>⟧.eq ids.old t }
-    ensures kept { (m : ℕ) → PartRoom m (vec_len parts.old) (vec_capacity parts.old) (spare ids.old) → PartRoom m (vec_len parts.new) (vec_capacity parts.new) (spare ids.new) }
+    ensures roomy { (m : ℕ) → PartRoom m (vec_len parts.old) (vec_capacity parts.old) (spare ids.old) → PartRoom m (vec_len parts.new) (vec_capacity parts.new) (spare ids.new) }
     ensures ok { OnOk result (PartRoom n (vec_len parts.new) (vec_capacity parts.new) (spare ids.new)) }
 {
     if parts.len() > NONE as usize || n > NONE as usize - parts.len() {

@@ -2,7 +2,7 @@ ghost use Rattle.std.specs.Prelude.{◌≡◌, ℕ, ◌<◌, ◌∷◌, [], leng
 ghost use Rattle.std.specs.List.{slice_get};
 ghost use Rattle.std.specs.Iterator.{YieldsFirstBy, item_count};
 ghost use Rattle.effect_store.specs.Spots.{Spot, spots};
-ghost use Rattle.effect_store.specs.Wanted.{is_wanted, wants, wanted, IsAsWide, IsReading};
+ghost use Rattle.effect_store.specs.Wanted.{is_wanted, wants, wanted, IsAsWide, LinksFit};
 
 use crate::links::Links;
 use crdt_core::{Crdt, ObjectId, Part, Upd};
@@ -15,7 +15,7 @@ pub(crate) fn update_at<'a, E>(
     links: &Links,
     k: u32,
 ) -> (&'a Part<E>, &'a Upd<E>)
-    requires reading { IsReading parts.now links.now }
+    requires fitting { LinksFit parts.now links.now }
     requires within { k < length links.now.entries.items }
     ensures part { (x : Spot E) → slice_get (spots parts.now) k ≡ Some x → result.0.now ≡ x.part }
     ensures update { (x : Spot E) → slice_get (spots parts.now) k ≡ Some x → result.1.now ≡ x.update }
@@ -47,7 +47,7 @@ fn next_wanted<E>(
     object: &ObjectId,
     outside: &Option<VTime>,
 ) -> u32
-    requires reading { IsReading parts.now links.now }
+    requires fitting { LinksFit parts.now links.now }
     requires wide { IsAsWide outside.now parts.now }
     ensures same { wanted object.now outside.now parts.now result ≡ wanted object.now outside.now parts.now from }
     ensures here { (x : Spot E) → slice_get (spots parts.now) result ≡ Some x → wants object.now outside.now x ≡ true }
@@ -77,13 +77,13 @@ impl<'a, C: Crdt> Model for Updates<'a, C> {
     ghost use Rattle.std.specs.Prelude.{List};
     ghost use Rattle.crdt_core.specs.declared.record.Part.{Part};
     ghost use Rattle.crdt_core.specs.declared.record.Upd.{Upd};
-    ghost use Rattle.effect_store.specs.Wanted.{wanted, IsAsWide, IsReading};
+    ghost use Rattle.effect_store.specs.Wanted.{wanted, IsAsWide, LinksFit};
 
     ghost Value = { List (Part C.Effect × Upd C.Effect) };
 
     ghost view = { λ u. wanted u.object.now u.outside u.parts.now u.at };
 
-    ghost invariant = { λ u. IsReading u.parts.now u.links.now × IsAsWide u.outside u.parts.now };
+    ghost invariant = { λ u. LinksFit u.parts.now u.links.now × IsAsWide u.outside u.parts.now };
 }
 
 impl<'a, C: Crdt> Iterator for Updates<'a, C> {

@@ -9,7 +9,7 @@ use Rattle.field_codec.specs.Lawful.{IsForm, IsPrefixFree}
 -- a spelling with anything after it stands at its front
 pub spans_front : (s x : List ℕ) → Spans (s ++ x) 0 s (length s)
 spans_front s x = record {
-  stands = ap (λ l. s ++ l) (sym (drop_at s x (length s) refl));
+  lies = ap (λ l. s ++ l) (sym (drop_at s x (length s) refl));
   long = omega arith;
   within = omega (arith, length-append s x);
 }

@@ -72,7 +72,7 @@ module _ (n : ℕ) (width : IsWidth n) where
       let same : big_bytes n (big_number n (drop at bytes)) ≡ take n (drop at bytes) =
       ap (big_bytes n) (sym (big_from-take 0 n n (drop at bytes) (omega arith))) ∙ width.back (take n (drop at bytes)) front (IsBytes-take n (drop at bytes) (IsBytes-drop at bytes fits)) in
       record {
-        stands = sym (take-append-drop n (drop at bytes)) ∙ ap (λ l. l ++ drop n (drop at bytes)) (sym same) ∙ ap (λ l. big_bytes n (big_number n (drop at bytes)) ++ l) (drop-drop n at bytes);
+        lies = sym (take-append-drop n (drop at bytes)) ∙ ap (λ l. l ++ drop n (drop at bytes)) (sym same) ∙ ap (λ l. big_bytes n (big_number n (drop at bytes)) ++ l) (drop-drop n at bytes);
         long = omega (arith, length-bytes_high_first n (big_number n (drop at bytes)));
         within = le;
       }
@@ -111,7 +111,7 @@ module _ (n : ℕ) (width : IsWidth n) where
     again = λ bytes at v end good spans.
         let to : end ≡ at + n = omega (arith, spans.long, length-bytes_high_first n v) in
         let le = le_holds (at + n) (length bytes) (omega (arith, to, spans.within)) in
-        let same : big_number n (drop at bytes) ≡ v = ap (big_number n) spans.stands ∙ big_number-reads_back n v (drop end bytes) (lt_from v (256 ^ n) good) in
+        let same : big_number n (drop at bytes) ≡ v = ap (big_number n) spans.lies ∙ big_number-reads_back n v (drop end bytes) (lt_from v (256 ^ n) good) in
         rw (le, same, sym to) refl;
     fit = λ v good. good;
     ends = λ bytes at far. cut_number bytes at (omega (arith, far, width.some));
@@ -132,7 +132,7 @@ bytes_found n bytes at t end within h =
     let le = le_from (at + n) (length bytes) g.0 in
     let front : length s ≡ n = length-take-le n (drop at bytes) (omega (arith, length-drop at bytes)) in
     let spans : Spans bytes at s (at + n) = record {
-      stands = sym (take-append-drop n (drop at bytes)) ∙ ap (λ l. s ++ l) (drop-drop n at bytes);
+      lies = sym (take-append-drop n (drop at bytes)) ∙ ap (λ l. s ++ l) (drop-drop n at bytes);
       long = omega (arith, front);
       within = le;
     } in
@@ -142,7 +142,7 @@ bytes_again : (bytes : List ℕ) (at : ℕ) (t : List ℕ) (end : ℕ) → is_ut
 unfolding bytes_at
 bytes_again bytes at t end good spans =
     let le = le_holds (at + length t) (length bytes) (omega (arith, spans.long, spans.within)) in
-    let same : take (length t) (drop at bytes) ≡ t = ap (take (length t)) spans.stands ∙ take_at t (drop end bytes) (length t) refl in
+    let same : take (length t) (drop at bytes) ≡ t = ap (take (length t)) spans.lies ∙ take_at t (drop end bytes) (length t) refl in
     rw (le, same, good, sym spans.long) refl
 
 cut_bytes : (n : ℕ) (bytes : List ℕ) (at : ℕ) → length bytes < at + n → bytes_at n bytes at ≡ Err (Short at)

@@ -48,7 +48,7 @@ is_below order v w = is_lt (order v w)
 
 -- these bytes stand from the one place up to the other
 pub record Spans (bytes : List ℕ) (at : ℕ) (spelling : List ℕ) (end : ℕ) : Type 0 where
-  pub stands : drop at bytes ≡ spelling ++ drop end bytes
+  pub lies : drop at bytes ≡ spelling ++ drop end bytes
   pub long : end ≡ at + length spelling
   pub within : end ≤ length bytes
 

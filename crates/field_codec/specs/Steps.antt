@@ -99,30 +99,30 @@ IsBytes-take (suc n) (b ∷ bytes) h (suc i) = IsBytes-take n bytes (λ k. h (su
 
 -- nothing stands from a place up to itself
 pub spans_none : (bytes : List ℕ) (at : ℕ) → at ≤ length bytes → Spans bytes at [] at
-spans_none bytes at le = record { stands = refl; long = omega arith; within = le }
+spans_none bytes at le = record { lies = refl; long = omega arith; within = le }
 
 -- what stands up to a place, and from it on
 pub spans_join : (bytes xs ys : List ℕ) (at mid end : ℕ) → Spans bytes at xs mid → Spans bytes mid ys end → Spans bytes at (xs ++ ys) end
 spans_join bytes xs ys at mid end p q = record {
-  stands = p.stands ∙ ap (λ l. xs ++ l) q.stands ∙ sym (append_assoc xs ys (drop end bytes));
+  lies = p.lies ∙ ap (λ l. xs ++ l) q.lies ∙ sym (append_assoc xs ys (drop end bytes));
   long = omega (arith, p.long, q.long, length-append xs ys);
   within = q.within;
 }
 
 pub spans_first : (bytes xs ys : List ℕ) (at end : ℕ) → Spans bytes at (xs ++ ys) end → Spans bytes at xs (at + length xs)
 spans_first bytes xs ys at end p =
-    let whole : drop at bytes ≡ xs ++ (ys ++ drop end bytes) = p.stands ∙ append_assoc xs ys (drop end bytes) in
+    let whole : drop at bytes ≡ xs ++ (ys ++ drop end bytes) = p.lies ∙ append_assoc xs ys (drop end bytes) in
     record {
-      stands = whole ∙ ap (λ l. xs ++ l) (sym (sym (drop-drop (length xs) at bytes) ∙ ap (drop (length xs)) whole ∙ drop_at xs (ys ++ drop end bytes) (length xs) refl));
+      lies = whole ∙ ap (λ l. xs ++ l) (sym (sym (drop-drop (length xs) at bytes) ∙ ap (drop (length xs)) whole ∙ drop_at xs (ys ++ drop end bytes) (length xs) refl));
       long = refl;
       within = omega (arith, p.long, p.within, length-append xs ys);
     }
 
 pub spans_second : (bytes xs ys : List ℕ) (at end : ℕ) → Spans bytes at (xs ++ ys) end → Spans bytes (at + length xs) ys end
 spans_second bytes xs ys at end p =
-    let whole : drop at bytes ≡ xs ++ (ys ++ drop end bytes) = p.stands ∙ append_assoc xs ys (drop end bytes) in
+    let whole : drop at bytes ≡ xs ++ (ys ++ drop end bytes) = p.lies ∙ append_assoc xs ys (drop end bytes) in
     record {
-      stands = sym (drop-drop (length xs) at bytes) ∙ ap (drop (length xs)) whole ∙ drop_at xs (ys ++ drop end bytes) (length xs) refl;
+      lies = sym (drop-drop (length xs) at bytes) ∙ ap (drop (length xs)) whole ∙ drop_at xs (ys ++ drop end bytes) (length xs) refl;
       long = omega (arith, p.long, length-append xs ys);
       within = p.within;
     }
@@ -135,7 +135,7 @@ IsBytes-append (b ∷ bytes) more h m (suc i) = IsBytes-append bytes more (λ k.
 -- what follows changes nothing
 pub spans_longer : (bytes more s : List ℕ) (at end : ℕ) → at ≤ length bytes → Spans bytes at s end → Spans (bytes ++ more) at s end
 spans_longer bytes more s at end le p = record {
-  stands = drop-append-le at bytes more le ∙ ap (λ l. l ++ more) p.stands ∙ append_assoc s (drop end bytes) more ∙ ap (λ l. s ++ l) (sym (drop-append-le end bytes more p.within));
+  lies = drop-append-le at bytes more le ∙ ap (λ l. l ++ more) p.lies ∙ append_assoc s (drop end bytes) more ∙ ap (λ l. s ++ l) (sym (drop-append-le end bytes more p.within));
   long = p.long;
   within = omega (arith, p.within, length-append bytes more);
 }
@@ -153,7 +153,7 @@ spans_shorter bytes s at end q le p =
     let whole : q ≡ at + (length s + k) = omega (arith, p.long, le) in
     let behind : q ≡ end + k = omega (arith, le) in
     record {
-      stands = ap (λ n. drop at (take n bytes)) whole ∙ drop-take at (length s + k) bytes ∙ ap (take (length s + k)) p.stands ∙ take-append-add s (drop end bytes) k
+      lies = ap (λ n. drop at (take n bytes)) whole ∙ drop-take at (length s + k) bytes ∙ ap (take (length s + k)) p.lies ∙ take-append-add s (drop end bytes) k
           ∙ ap (λ l. s ++ l) (sym (drop-take end k bytes) ∙ ap (λ n. drop end (take n bytes)) (sym behind));
       long = p.long;
       within = length-cut q bytes end le p.within;

@@ -30,7 +30,7 @@ fn write_durable<D: Disk>(
     ensures left_ok { OnOk result ((D.state disk.new).left ≡ fewer 2 (D.state disk.old).left) }
     ensures spared { OnOk result (Spared 2 (D.state disk.old).left) }
 {
-    disk.write_parts(at, front, middle, back)?;
+    disk.write_pieces(at, front, middle, back)?;
     disk.sync()?;
     Ok(())
 }

@@ -43,7 +43,7 @@ module _ {V : Type 0} {fits is_spelled : V → Bool} {spelling : V → List ℕ}
   pub spelled_whole : (bytes : List ℕ) (v : V) → is_spelled v ≡ true → bytes ≡ spelling v → whole_at reading bytes ≡ Ok v
   spelled_whole bytes v good e =
       let spans : Spans bytes 0 (spelling v) (length bytes) = record {
-        stands = e ∙ sym (append-nil (spelling v)) ∙ ap (λ l. spelling v ++ l) (sym (drop_all (length bytes) bytes (omega arith)));
+        lies = e ∙ sym (append-nil (spelling v)) ∙ ap (λ l. spelling v ++ l) (sym (drop_all (length bytes) bytes (omega arith)));
         long = let same = ap length e in omega (arith, same);
         within = omega arith;
       } in
@@ -54,7 +54,7 @@ module _ {V : Type 0} {fits is_spelled : V → Bool} {spelling : V → List ℕ}
       let e = ended (eqb x.1 (length bytes)) x.0 v x.1 h in
       let f = form.found bytes 0 x.0 x.1 ok (omega arith) at in
       let none = drop_all x.1 bytes (let same = eqb-true x.1 (length bytes) e.0 in omega (arith, same)) in
-      subst (λ w. (is_spelled w ≡ true) × (bytes ≡ spelling w)) e.1 (f.0, f.1.stands ∙ ap (λ l. spelling x.0 ++ l) none ∙ append-nil (spelling x.0))
+      subst (λ w. (is_spelled w ≡ true) × (bytes ≡ spelling w)) e.1 (f.0, f.1.lies ∙ ap (λ l. spelling x.0 ++ l) none ∙ append-nil (spelling x.0))
   read_whole bytes v ok (Err (Short q)) at h = absurd cc
   read_whole bytes v ok (Err (Bad q)) at h = absurd cc
   read_whole bytes v ok (Err NoMemory) at h = absurd cc
@@ -68,7 +68,7 @@ module _ {V : Type 0} {fits is_spelled : V → Bool} {spelling : V → List ℕ}
       inr (inl (record {
         value = x.0;
         spelled = f.0;
-        front = ap (λ n. take n bytes) (sym e.1) ∙ ap (take x.1) f.1.stands ∙ take_at (spelling x.0) (drop x.1 bytes) x.1 (omega (arith, long));
+        front = ap (λ n. take n bytes) (sym e.1) ∙ ap (take x.1) f.1.lies ∙ take_at (spelling x.0) (drop x.1 bytes) x.1 (omega (arith, long));
         behind = subst (λ n. n < length bytes) e.1 (below x.1 (length bytes) f.1.within apart);
       }))
     where
@@ -105,7 +105,7 @@ pub read_all : {V : Type 0} {fits is_spelled : V → Bool} {spelling : V → Lis
     → (bytes : List ℕ) (v : V) (end : ℕ) → IsBytes bytes → reading bytes 0 ≡ Ok (v, end) → end ≡ length bytes → bytes ≡ spelling v
 read_all {spelling = spelling} form bytes v end ok h e =
     let none = drop_all end bytes (omega (arith, e)) in
-    (form.found bytes 0 v end ok (omega arith) h).1.stands ∙ ap (λ l. spelling v ++ l) none ∙ append-nil (spelling v)
+    (form.found bytes 0 v end ok (omega arith) h).1.lies ∙ ap (λ l. spelling v ++ l) none ∙ append-nil (spelling v)
 
 -- a field that is refused stands in the bytes
 pub refused_within : {V : Type 0} {fits is_spelled : V → Bool} {spelling : V → List ℕ} {reading : List ℕ → ℕ → Read V} → IsForm fits is_spelled spelling reading

@@ -3,7 +3,7 @@ pub mod EntryLists
 pub mod FateSteps
 pub mod PartLists
 pub mod Progress
-pub mod Reading
+pub mod OneRecordMore
 pub mod Records
 pub mod Replacing
 pub mod Seeing

@@ -11,7 +11,7 @@ use Rattle.prepared_table.specs.declared.entry.Entry.{Entry}
 use Rattle.log_recovery.specs.declared.ledger.Ledger.{Ledger}
 use Rattle.log_recovery.specs.Ledgers.{ArePending, AreHeld, AreBounds, IsLedger, IsNext, IsSame, Reads, Commits, Aborts, raised}
 use Rattle.log_recovery.specs.FittingLaws.{unknown, prepares, decides, finishes, brings, rest_fits, last_fits}
-use Rattle.log_recovery.proofs.Reading.{prepare_waits, prepare_holds, abort_waits, decide_waits, decide_holds, batch_holds, batch_bounds}
+use Rattle.log_recovery.proofs.OneRecordMore.{prepare_waits, prepare_holds, abort_waits, decide_waits, decide_holds, batch_holds, batch_bounds}
 
 module _ {E : Type 0} where
   pub lease_reads : (old : Ledger E) (n : ℕ) → Reads old (Lease n) (record { ceiling = n; waiting = old.waiting; committed = old.committed; bounds = old.bounds; last_decided = old.last_decided })
@@ -34,11 +34,11 @@ module _ {E : Type 0} where
   }
 
   pub abort_reads : (old new : Ledger E) (t : TxId) → Aborts t old.waiting new.waiting → new.committed ≡ old.committed → IsSame old new → Reads old (Abort t) new
-  abort_reads old new t k kept s sites parts id log l f = record {
+  abort_reads old new t k still_there s sites parts id log l f = record {
     ceiling = s.ceiling ∙ l.ceiling;
     waiting = subst (λ u. ArePending (Abort u ∷ log) new.waiting) k.same (subst (λ es. ArePending (Abort k.entry.tx ∷ log) es) (sym k.taken.after)
         (abort_waits sites parts id log k.taken.front k.entry k.taken.back (subst (λ es. ArePending log es) k.taken.before l.waiting)));
-    committed = subst (λ ps. AreHeld (Abort t ∷ log) ps) (sym kept) (record { members = l.committed.members; exact = l.committed.exact; apart = l.committed.apart });
+    committed = subst (λ ps. AreHeld (Abort t ∷ log) ps) (sym still_there) (record { members = l.committed.members; exact = l.committed.exact; apart = l.committed.apart });
     bounds = subst (λ b. AreBounds (Abort t ∷ log) b) (sym s.bounds) l.bounds;
     last_decided = s.last_decided ∙ l.last_decided;
   }

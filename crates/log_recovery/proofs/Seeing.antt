@@ -24,7 +24,7 @@ use Rattle.log_recovery.specs.FittingLaws.{unknown, part_new, prepares, brings}
 use Rattle.log_recovery.specs.Ledgers.{AreBounds, raised}
 use Rattle.log_recovery.proofs.FateSteps.{begun, over, stopped, brought, has_fate, has_none, has_vote, pending_named}
 use Rattle.log_recovery.proofs.Progress.{whole_is}
-use Rattle.log_recovery.proofs.Reading.{batch_bounds}
+use Rattle.log_recovery.proofs.OneRecordMore.{batch_bounds}
 
 module _ {E : Type 0} (seen : Seen) (log : List (Record E)) (s : IsSeen log seen) where
   abbrev Fits : Record E → Bool

@@ -6,7 +6,7 @@ use Rattle.site_vector.specs.Ids.{same_tx}
 use Rattle.site_vector.specs.Order.{same_tx_is, same_tx_refl}
 use Rattle.prepared_table.specs.declared.entry.Entry.{Entry}
 use Rattle.prepared_table.specs.Entries.{has_entry, IsTakenOut}
-use Rattle.log_recovery.specs.Lists.{kept, ArePlaced}
+use Rattle.log_recovery.specs.Lists.{still_there, ArePlaced}
 
 get_push : {X : Type 0} (xs : List X) (x : X) (k : ℕ) (p : X) → slice_get xs k ≡ Some p → slice_get (xs ++ x ∷ []) k ≡ Some p
 get_push [] x k p h = cc
@@ -27,37 +27,37 @@ some_is : {A : Type 0} (a b : A) → Some a ≡ Some b → a ≡ b
 some_is a b e = cc
 
 module _ {E : Type 0} where
-  pub kept_push : (xs : List (Option (Entry E))) (y : Entry E) → kept (xs ++ Some y ∷ []) ≡ kept xs ++ y ∷ []
-  kept_push [] y = refl
-  kept_push (None ∷ xs) y = kept_push xs y
-  kept_push (Some x ∷ xs) y = ap (λ l. x ∷ l) (kept_push xs y)
+  pub still_there_push : (xs : List (Option (Entry E))) (y : Entry E) → still_there (xs ++ Some y ∷ []) ≡ still_there xs ++ y ∷ []
+  still_there_push [] y = refl
+  still_there_push (None ∷ xs) y = still_there_push xs y
+  still_there_push (Some x ∷ xs) y = ap (λ l. x ∷ l) (still_there_push xs y)
 
-  has_slot : (xs : List (Option (Entry E))) (n : ℕ) (x : Entry E) → slice_get xs n ≡ Some (Some x) → has_entry (kept xs) x.tx ≡ true
+  has_slot : (xs : List (Option (Entry E))) (n : ℕ) (x : Entry E) → slice_get xs n ≡ Some (Some x) → has_entry (still_there xs) x.tx ≡ true
   has_slot [] n x h = absurd (let v : ⊥ = cc in v)
   has_slot (None ∷ xs) zero x h = absurd (let v : ⊥ = (let e : None ≡ Some x = some_is None (Some x) h in cc) in v)
   has_slot (None ∷ xs) (suc n) x h = has_slot xs n x h
   has_slot (Some y ∷ xs) zero x h = let e : y ≡ x = some_is y x (some_is (Some y) (Some x) h) in or_left _ _ (subst (λ z. same_tx z.tx x.tx ≡ true) (sym e) (same_tx_refl x.tx))
-  has_slot (Some y ∷ xs) (suc n) x h = or_right (same_tx y.tx x.tx) (has_entry (kept xs) x.tx) (has_slot xs n x h)
+  has_slot (Some y ∷ xs) (suc n) x h = or_right (same_tx y.tx x.tx) (has_entry (still_there xs) x.tx) (has_slot xs n x h)
 
   -- where what is there stands
-  slot_of : (xs : List (Option (Entry E))) (u : TxId) → has_entry (kept xs) u ≡ true → (n : ℕ) × (x : Entry E) × (slice_get xs n ≡ Some (Some x)) × (x.tx ≡ u)
+  slot_of : (xs : List (Option (Entry E))) (u : TxId) → has_entry (still_there xs) u ≡ true → (n : ℕ) × (x : Entry E) × (slice_get xs n ≡ Some (Some x)) × (x.tx ≡ u)
   slot_of [] u h = absurd (true≢false (sym h))
   slot_of (None ∷ xs) u h = let r = slot_of xs u h in (suc r.0, r.1, r.2, r.3)
   slot_of (Some y ∷ xs) u h = ⊎_elim
       (λ (e : same_tx y.tx u ≡ true). (0, y, refl, same_tx_is y.tx u e))
-      (λ (e : same_tx y.tx u ≡ false). let r = slot_of xs u (ap (λ b. b || has_entry (kept xs) u) (sym e) ∙ h) in (suc r.0, r.1, r.2, r.3))
+      (λ (e : same_tx y.tx u ≡ false). let r = slot_of xs u (ap (λ b. b || has_entry (still_there xs) u) (sym e) ∙ h) in (suc r.0, r.1, r.2, r.3))
       (cases_Bool (same_tx y.tx u))
 
   pub placed_alike : (p q : TxId → Option ℕ) (xs ys : List (Option (Entry E))) → ((u : TxId) → q u ≡ p u) → ys ≡ xs → ArePlaced p xs → ArePlaced q ys
   placed_alike p q xs ys f e a = subst (λ l. ArePlaced q l) (sym e) (record { held = λ n x h. f x.tx ∙ a.held n x h; found = λ u n h. a.found u n (sym (f u) ∙ h) })
 
-  pub placed_there : (p : TxId → Option ℕ) (xs : List (Option (Entry E))) (u : TxId) → ArePlaced p xs → has_entry (kept xs) u ≡ true → None ≡ p u → ⊥
+  pub placed_there : (p : TxId → Option ℕ) (xs : List (Option (Entry E))) (u : TxId) → ArePlaced p xs → has_entry (still_there xs) u ≡ true → None ≡ p u → ⊥
   placed_there p xs u a h none =
       let r = slot_of xs u h in
       let e : p u ≡ Some r.0 = ap p (sym r.3) ∙ a.held r.0 r.1 r.2 in
       let f : None ≡ Some r.0 = none ∙ e in cc
 
-  pub placed_push : (p q : TxId → Option ℕ) (xs : List (Option (Entry E))) (y : Entry E) (k : ℕ) → ArePlaced p xs → has_entry (kept xs) y.tx ≡ false → k ≡ length xs → ((u : TxId) → q u ≡ cond (same_tx y.tx u) (Some k) (p u)) → ArePlaced q (xs ++ Some y ∷ [])
+  pub placed_push : (p q : TxId → Option ℕ) (xs : List (Option (Entry E))) (y : Entry E) (k : ℕ) → ArePlaced p xs → has_entry (still_there xs) y.tx ≡ false → k ≡ length xs → ((u : TxId) → q u ≡ cond (same_tx y.tx u) (Some k) (p u)) → ArePlaced q (xs ++ Some y ∷ [])
   placed_push p q xs y k a new at put_at = let put : (u : TxId) → q u ≡ cond (same_tx y.tx u) (Some (length xs)) (p u) = λ u. put_at u ∙ ap (λ j. cond (same_tx y.tx u) (Some j) (p u)) at in record {
     held = λ n x h. ⊎_elim
         (λ (e : slice_get xs n ≡ Some (Some x)). put x.tx ∙ cond-false (same_tx y.tx x.tx) (Some (length xs)) (p x.tx) (other x (has_slot xs n x e)) ∙ a.held n x e)
@@ -73,16 +73,16 @@ module _ {E : Type 0} where
         (cases_Bool (same_tx y.tx u));
   }
     where
-      other : (x : Entry E) → has_entry (kept xs) x.tx ≡ true → same_tx y.tx x.tx ≡ false
+      other : (x : Entry E) → has_entry (still_there xs) x.tx ≡ true → same_tx y.tx x.tx ≡ false
       other x h = ⊎_elim
-          (λ (s : same_tx y.tx x.tx ≡ true). absurd (true≢false (sym h ∙ ap (λ v. has_entry (kept xs) v) (sym (same_tx_is y.tx x.tx s)) ∙ new)))
+          (λ (s : same_tx y.tx x.tx ≡ true). absurd (true≢false (sym h ∙ ap (λ v. has_entry (still_there xs) v) (sym (same_tx_is y.tx x.tx s)) ∙ new)))
           (λ (s : same_tx y.tx x.tx ≡ false). s)
           (cases_Bool (same_tx y.tx x.tx))
 
-  pub emptied : (xs : List (Option (Entry E))) (n : ℕ) (x : Entry E) → slice_get xs n ≡ Some (Some x) → IsTakenOut x (kept xs) (kept (slice_set xs n None))
+  pub emptied : (xs : List (Option (Entry E))) (n : ℕ) (x : Entry E) → slice_get xs n ≡ Some (Some x) → IsTakenOut x (still_there xs) (still_there (slice_set xs n None))
   emptied [] n x h = absurd (let v : ⊥ = cc in v)
   emptied (None ∷ xs) zero x h = absurd (let v : ⊥ = (let e : None ≡ Some x = some_is None (Some x) h in cc) in v)
-  emptied (Some y ∷ xs) zero x h = record { front = []; back = kept xs; before = ap (λ z. z ∷ kept xs) (some_is y x (some_is (Some y) (Some x) h)); after = refl }
+  emptied (Some y ∷ xs) zero x h = record { front = []; back = still_there xs; before = ap (λ z. z ∷ still_there xs) (some_is y x (some_is (Some y) (Some x) h)); after = refl }
   emptied (None ∷ xs) (suc n) x h = emptied xs n x h
   emptied (Some y ∷ xs) (suc n) x h = let r = emptied xs n x h in record { front = y ∷ r.front; back = r.back; before = ap (λ l. y ∷ l) r.before; after = ap (λ l. y ∷ l) r.after }
 
@@ -101,13 +101,13 @@ module _ {E : Type 0} where
   keeps (y ∷ xs) (suc n) (suc m) x h k = keeps xs n m x h (λ e. k (ap suc e))
 
   -- without the last slot, which is empty
-  pub kept_shorter : (xs : List (Option (Entry E))) (n : ℕ) → slice_get xs n ≡ Some None → length xs ≡ n + 1 → kept (take n xs) ≡ kept xs
-  kept_shorter [] n h e = cc
-  kept_shorter (None ∷ []) zero h e = refl
-  kept_shorter (Some x ∷ []) zero h e = absurd (let v : ⊥ = (let k : Some x ≡ None = some_is (Some x) None h in cc) in v)
-  kept_shorter (x ∷ y ∷ xs) zero h e = absurd (omega (arith, e))
-  kept_shorter (None ∷ xs) (suc n) h e = kept_shorter xs n h (omega (arith, e))
-  kept_shorter (Some x ∷ xs) (suc n) h e = ap (λ l. x ∷ l) (kept_shorter xs n h (omega (arith, e)))
+  pub still_there_shorter : (xs : List (Option (Entry E))) (n : ℕ) → slice_get xs n ≡ Some None → length xs ≡ n + 1 → still_there (take n xs) ≡ still_there xs
+  still_there_shorter [] n h e = cc
+  still_there_shorter (None ∷ []) zero h e = refl
+  still_there_shorter (Some x ∷ []) zero h e = absurd (let v : ⊥ = (let k : Some x ≡ None = some_is (Some x) None h in cc) in v)
+  still_there_shorter (x ∷ y ∷ xs) zero h e = absurd (omega (arith, e))
+  still_there_shorter (None ∷ xs) (suc n) h e = still_there_shorter xs n h (omega (arith, e))
+  still_there_shorter (Some x ∷ xs) (suc n) h e = ap (λ l. x ∷ l) (still_there_shorter xs n h (omega (arith, e)))
 
   taken_slot : (xs : List (Option (Entry E))) (n m : ℕ) (x : Entry E) → slice_get (take n xs) m ≡ Some (Some x) → slice_get xs m ≡ Some (Some x)
   taken_slot [] zero m x h = absurd (let v : ⊥ = cc in v)
@@ -131,12 +131,12 @@ module _ {E : Type 0} where
   }
 
   pub trimmed : (xs zs ys : List (Option (Entry E))) (n : ℕ) → zs ≡ xs → 1 ≤ length zs → slice_get zs (length zs - 1) ≡ Some None → n ≡ length xs → ys ≡ take (n - 1) xs
-      → (kept ys ≡ kept xs) × ((p : TxId → Option ℕ) → ArePlaced p xs → ArePlaced p ys)
+      → (still_there ys ≡ still_there xs) × ((p : TxId → Option ℕ) → ArePlaced p xs → ArePlaced p ys)
   trimmed xs zs ys n same some last many is =
       let some_here : 1 ≤ length xs = subst (λ l. 1 ≤ length l) same some in
       let here : slice_get xs (n - 1) ≡ Some None = ap (λ k. slice_get xs (k - 1)) many ∙ subst (λ l. slice_get l (length l - 1) ≡ Some None) same last in
       let long : length xs ≡ n - 1 + 1 = omega (arith, many, some_here) in
-      (ap kept is ∙ kept_shorter xs (n - 1) here long, λ p a. subst (λ l. ArePlaced p l) (sym is) (placed_shorter p xs (n - 1) here long a))
+      (ap still_there is ∙ still_there_shorter xs (n - 1) here long, λ p a. subst (λ l. ArePlaced p l) (sym is) (placed_shorter p xs (n - 1) here long a))
 
   pub placed_empty : (p q : TxId → Option ℕ) (xs : List (Option (Entry E))) (t : TxId) (n : ℕ) (x : Entry E) → ArePlaced p xs → slice_get xs n ≡ Some (Some x) → x.tx ≡ t → p t ≡ Some n → ((u : TxId) → q u ≡ cond (same_tx t u) None (p u)) → ArePlaced q (slice_set xs n None)
   placed_empty p q xs t n x a there is at put = record {

@@ -12,7 +12,7 @@ use Rattle.crdt_core.specs.declared.record.Upd.{Upd}
 use Rattle.crdt_core.specs.declared.record.Part.{Part}
 use Rattle.crdt_core.specs.declared.record.Message.{Message}
 use Rattle.crdt_core.specs.declared.record.Record.{Record}
-use Rattle.crdt_core.specs.Fitting.{is_vector, stand_at, fits_part, are_apart, fits_record}
+use Rattle.crdt_core.specs.Fitting.{is_vector, are_placed_at, fits_part, are_apart, fits_record}
 use Rattle.crdt_core.specs.Log.{end_of_time, ceiling, pending, prepare_time, prepared_lead, prepared_snapshot, is_named_in}
 use Rattle.log_recovery.specs.declared.named.Fate.{Fate}
 use Rattle.log_recovery.specs.declared.named.Fate.TheVariants.{Waits, Ended}
@@ -103,7 +103,7 @@ module _ {E : Type 0} where
 
   -- the snapshot, the updates and the time of a vote
   abbrev pub is_vote : ℕ → ℕ → PartId → ℕ → Vote → List (Upd E) → Bool
-  is_vote sites parts id ceiling vote w = is_vector sites vote.s && (stand_at parts id.part w && (ltb (entry vote.s id.site) vote.time && leb vote.time ceiling))
+  is_vote sites parts id ceiling vote w = is_vector sites vote.s && (are_placed_at parts id.part w && (ltb (entry vote.s id.site) vote.time && leb vote.time ceiling))
 
   -- a vote that fits, unless it is of a transaction that was named
   abbrev pub may_prepare : ℕ → ℕ → PartId → Bool → ℕ → TxId → Vote → List (Upd E) → Bool

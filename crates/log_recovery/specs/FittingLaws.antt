@@ -13,7 +13,7 @@ use Rattle.crdt_core.specs.declared.record.Part.{Part}
 use Rattle.crdt_core.specs.declared.record.Message.{Message}
 use Rattle.crdt_core.specs.declared.record.Record.{Record}
 use Rattle.crdt_core.specs.declared.record.Record.TheVariants.{Lease, Prepare, Decide, Finish, Abort, Batch}
-use Rattle.crdt_core.specs.Fitting.{is_vector, stand_at, fits_commit, fits_part, are_apart, fits_message, fits_record, unfit, unfit_next}
+use Rattle.crdt_core.specs.Fitting.{is_vector, are_placed_at, fits_commit, fits_part, are_apart, fits_message, fits_record, unfit, unfit_next}
 use Rattle.crdt_core.specs.Log.{end_of_time, ceiling, prepared, prepare_time, prepared_lead, prepared_snapshot, committed, committed_at, aborted, pending, taken, taken_at, logged_bound, is_named_in, holds, held_at, grown}
 use Rattle.crdt_core.specs.Parts.{lists, vector_in}
 use Rattle.log_recovery.specs.Rising.{Rises}
@@ -127,7 +127,7 @@ module _ {E : Type 0} (sites parts : ℕ) (id : PartId) where
       let e = and_parts (leb 1 l) _ d.1 in
       let g = and_parts (leb l id.part) _ e.1 in
       let h = and_parts (is_vector sites s) _ g.1 in
-      let i = and_parts (stand_at parts id.part w) _ h.1 in
+      let i = and_parts (are_placed_at parts id.part w) _ h.1 in
       let j = and_parts (ltb (entry s id.site) n) (leb n (ceiling log)) i.1 in
       let over = ltb-true (entry s id.site) n j.0 in record {
         home = eqb-true t.site id.site a.0;

@@ -45,10 +45,10 @@ module _ {E : Type 0} where
   least_below n (x ∷ xs) = least_below (min n (x.time - 1)) xs
 
   -- those that are still there
-  abbrev pub kept : List (Option (Entry E)) → List (Entry E)
-  kept [] = []
-  kept (None ∷ slots) = kept slots
-  kept (Some x ∷ slots) = x ∷ kept slots
+  abbrev pub still_there : List (Option (Entry E)) → List (Entry E)
+  still_there [] = []
+  still_there (None ∷ slots) = still_there slots
+  still_there (Some x ∷ slots) = x ∷ still_there slots
 
   -- each entry that is still there is found by its transaction, and what is found is there
   pub record ArePlaced (places : TxId → Option ℕ) (slots : List (Option (Entry E))) : Type 0 where

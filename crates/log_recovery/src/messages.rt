@@ -1,6 +1,6 @@
 ghost use Rattle.std.specs.Prelude.{◌≡◌, ◌≤◌, ◌==◌, true};
 ghost use Rattle.std.specs.List.{list_all};
-ghost use Rattle.crdt_core.specs.Fitting.{stand_at, fits_part};
+ghost use Rattle.crdt_core.specs.Fitting.{are_placed_at, fits_part};
 ghost use Rattle.log_recovery.specs.Fates.{is_for};
 
 use crate::vectors::{END_OF_TIME, is_vector};
@@ -8,9 +8,9 @@ use crdt_core::{Message, Part, Upd, partition_of};
 use site_vector::PartId;
 
 /// Whether the objects of these updates stand at the partitions with this number, of so many.
-pub(crate) fn stand_at<E>(updates: &[Upd<E>], parts: u8, number: u8) -> bool
+pub(crate) fn are_placed_at<E>(updates: &[Upd<E>], parts: u8, number: u8) -> bool
     requires { 1 ≤ parts }
-    ensures { result ≡ stand_at parts number updates.now }
+    ensures { result ≡ are_placed_at parts number updates.now }
 {
     for update in updates {
         if partition_of(&update.object, parts) != number {
@@ -42,7 +42,7 @@ fn fits_part<E>(message: &Message<E>, part: &Part<E>, sites: u8, parts: u8) -> b
 {
     part.tx.site == message.from
         && is_vector(&part.c, sites)
-        && stand_at(part.updates.as_slice(), parts, message.part)
+        && are_placed_at(part.updates.as_slice(), parts, message.part)
         && message.lo < part.c.get(message.from)
         && part.c.get(message.from) <= message.hi
 }

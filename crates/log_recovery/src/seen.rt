@@ -7,7 +7,7 @@ ghost use Rattle.log_recovery.specs.declared.named.Fate.TheVariants.{Ended};
 ghost use Rattle.log_recovery.specs.Fates.{fate_at, fates_of, IsEmpty, may_end, vote_of, IsSound, IsSamePlace, IsSeen, Judges, Sees, may_commit, may_prepare, is_vote, may_bring, are_new};
 ghost use Rattle.log_recovery.specs.Ledgers.{raised};
 
-use crate::messages::{fit_all, is_for, stand_at};
+use crate::messages::{are_placed_at, fit_all, is_for};
 use crate::named::{Fate, Named, Vote};
 use crate::vectors::{END_OF_TIME, is_vector, raise};
 use crdt_core::{Message, Part, Record, Upd};
@@ -132,7 +132,7 @@ impl Seen {
         ensures { result ≡ is_vote self.now.sites self.now.parts self.now.id self.now.ceiling vote.now updates.now }
     {
         is_vector(&vote.s, self.sites)
-            && stand_at(updates, self.parts, self.id.part)
+            && are_placed_at(updates, self.parts, self.id.part)
             && self.is_timely(vote)
     }
 

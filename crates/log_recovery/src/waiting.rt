@@ -3,7 +3,7 @@ ghost use Rattle.std.specs.HashMap.{get};
 ghost use Rattle.site_vector.specs.declared.ids.TxId.{TxId};
 ghost use Rattle.prepared_table.specs.declared.entry.Entry.{Entry};
 ghost use Rattle.prepared_table.specs.Entries.{has_entry, IsTakenOut};
-ghost use Rattle.log_recovery.specs.Lists.{kept, ArePlaced};
+ghost use Rattle.log_recovery.specs.Lists.{still_there, ArePlaced};
 
 use field_codec::ListOf;
 use prepared_table::Entry;
@@ -23,11 +23,11 @@ impl<E> Model for Waiting<E> {
     ghost use Rattle.std.specs.Prelude.{List};
     ghost use Rattle.std.specs.HashMap.{get};
     ghost use Rattle.prepared_table.specs.declared.entry.Entry.{Entry};
-    ghost use Rattle.log_recovery.specs.Lists.{kept, ArePlaced};
+    ghost use Rattle.log_recovery.specs.Lists.{still_there, ArePlaced};
 
     ghost Value = { List (Entry E) };
 
-    ghost view = { λ w. kept w.slots.items };
+    ghost view = { λ w. still_there w.slots.items };
 
     ghost invariant = { λ w. ArePlaced (get ⟦<TxId as PartialEq>⟧.eq w.places) w.slots.items };
 }
@@ -86,10 +86,10 @@ fn add<E: Drop>(
     entry: Entry<E>,
 ) -> Result<(), AllocError>
     requires placed { ArePlaced (get ⟦<TxId as PartialEq>⟧.eq places.old) slots.old.items }
-    requires fresh { has_entry (kept slots.old.items) entry.tx ≡ false }
+    requires fresh { has_entry (still_there slots.old.items) entry.tx ≡ false }
     ensures placed { ArePlaced (get ⟦<TxId as PartialEq>⟧.eq places.new) slots.new.items }
-    ensures ok { OnOk result (kept slots.new.items ≡ kept slots.old.items ++ entry ∷ []) }
-    ensures err { OnErr result (kept slots.new.items ≡ kept slots.old.items) }
+    ensures ok { OnOk result (still_there slots.new.items ≡ still_there slots.old.items ++ entry ∷ []) }
+    ensures err { OnErr result (still_there slots.new.items ≡ still_there slots.old.items) }
 {
     let at = slots.len();
     let tx = entry.tx;
@@ -106,9 +106,9 @@ fn take<E: Drop>(
     tx: TxId,
 ) -> Entry<E>
     requires placed { ArePlaced (get ⟦<TxId as PartialEq>⟧.eq places.old) slots.old.items }
-    requires waits { has_entry (kept slots.old.items) tx ≡ true }
+    requires waits { has_entry (still_there slots.old.items) tx ≡ true }
     ensures placed { ArePlaced (get ⟦<TxId as PartialEq>⟧.eq places.new) slots.new.items }
-    ensures taken { IsTakenOut result (kept slots.old.items) (kept slots.new.items) }
+    ensures taken { IsTakenOut result (still_there slots.old.items) (still_there slots.new.items) }
     ensures tx { result.tx ≡ tx }
 {
     match places.remove(&tx) {
@@ -123,7 +123,7 @@ fn take<E: Drop>(
 
 /// Drops the empty slots at the end: where transactions end soon, few slots stay.
 fn trim<E: Drop>(slots: &mut Vec<Option<Entry<E>>>)
-    ensures kept { kept slots.new.items ≡ kept slots.old.items }
+    ensures still_there { still_there slots.new.items ≡ still_there slots.old.items }
     ensures placed { (places : TxId → Option ℕ) → ArePlaced places slots.old.items → ArePlaced places slots.new.items }
 {
     while ends_empty(slots.as_slice()) {
@@ -156,7 +156,7 @@ fn list<E: Drop>(
     alloc: Global,
     slots: Vec<Option<Entry<E>>>,
 ) -> Result<ListOf<Entry<E>>, AllocError>
-    ensures { IfOk result (λ l. l ≡ kept slots.items) }
+    ensures { IfOk result (λ l. l ≡ still_there slots.items) }
 {
     let mut all = ListOf::new(alloc);
     for slot in slots {

@@ -89,7 +89,7 @@ pub(crate) fn crash(
     alloc: Global,
     out: &mut String,
     call: u64,
-    kept: u64,
+    cut_length: u64,
 ) -> Result<(), AllocError> {
     let Some(prepare) = prepare(alloc)? else {
         return out.push_str("no record\n");
@@ -98,7 +98,7 @@ pub(crate) fn crash(
         return out.push_str("no log\n");
     };
     put_answer(out, log.lease(1000))?;
-    log.arm(call, kept);
+    log.arm(call, cut_length);
     put_answer(out, log.prepare(alloc, Some(2001), &prepare))?;
     let tx = TxId {
         site: 1,

@@ -28,10 +28,10 @@ fn answer(alloc: Global, out: &mut String, line: &str) -> Result<(), AllocError>
             answer_message(alloc, out, bytes.as_slice())
         }
         Some(("crash", words)) => {
-            let (call, kept) = words.split_once(' ').unwrap_or((words, ""));
+            let (call, cut_length) = words.split_once(' ').unwrap_or((words, ""));
             let call = call.parse::<u64>().unwrap_or(0);
             write!(out, "{line}: ")?;
-            logs::crash(alloc, out, call, kept.parse::<u64>().unwrap_or(0))
+            logs::crash(alloc, out, call, cut_length.parse::<u64>().unwrap_or(0))
         }
         Some(("room", word)) => {
             write!(out, "{line}: ")?;

@@ -23,9 +23,9 @@ joins : (b p c a : Bool) → (b ≡ true → c ≡ false) → (b ≡ true → a 
 joins true p c a h k = sym (λ i. not (h refl i || k refl i))
 joins false p c a h k = refl
 
-kept : {A : Type 0} (b c : Bool) (w x z : A) → (c ≡ true → b ≡ false) → (if c then x else z) ≡ (if c then (if b then w else x) else z)
-kept b true w x z h = sym (ap (λ d. if d then w else x) (h refl))
-kept b false w x z h = refl
+same_branch : {A : Type 0} (b c : Bool) (w x z : A) → (c ≡ true → b ≡ false) → (if c then x else z) ≡ (if c then (if b then w else x) else z)
+same_branch b true w x z h = sym (ap (λ d. if d then w else x) (h refl))
+same_branch b false w x z h = refl
 
 module _ {E : Type 0} (log : List (Record E)) (y : Entry E) (new : IsNew log y.tx) where
   abbrev voted : List (Record E)
@@ -62,7 +62,7 @@ module _ {E : Type 0} (log : List (Record E)) (y : Entry E) (new : IsNew log y.t
     order = h.order;
     members = h.members;
     exact = parts_alike (held_at log) (held_at voted) (held_changes log) (held_changes voted) ys
-        (λ u k. (refl, kept (same_tx y.tx u) (committed log u) y.updates (prepared_changes log u) (taken_changes log u) (apart_from_new (committed log) new.committed u)))
+        (λ u k. (refl, same_branch (same_tx y.tx u) (committed log u) y.updates (prepared_changes log u) (taken_changes log u) (apart_from_new (committed log) new.committed u)))
         h.exact;
   }
 

@@ -36,15 +36,15 @@ module _ {E : Type 0} (codec : Codec E) where
 
 module _ {E : Type 0} (codec : Codec E) (sites parts : ℕ) (id : PartId) (all : List Item) where
   -- the records so far were read, and the rest is left
-  pub record IsReading (left : List Item) (r : Recovery E) : Type 0 where
+  pub record IsUnderway (left : List Item) (r : Recovery E) : Type 0 where
     pub so : SoFar codec all left
     pub has : HasRead sites parts id so.log r
 
-  pub reading_starts : (r : Recovery E) → AreWithin all → HasRead sites parts id [] r → IsReading all r
-  reading_starts r within h = record { so = started codec all within; has = h }
+  pub underway_starts : (r : Recovery E) → AreWithin all → HasRead sites parts id [] r → IsUnderway all r
+  underway_starts r within h = record { so = started codec all within; has = h }
 
-  pub reading_ends : (left : List Item) (r : Recovery E) → left ≡ [] → IsReading left r → (log : List (Record E)) × AreRecords codec all log × HasRead sites parts id log r
-  reading_ends left r e h = (h.so.log, subst (λ items. AreRecords codec items h.so.log) (sym (h.so.is ∙ ap (λ l. h.so.front ++ l) e ∙ append-nil h.so.front)) h.so.read, h.has)
+  pub underway_ends : (left : List Item) (r : Recovery E) → left ≡ [] → IsUnderway left r → (log : List (Record E)) × AreRecords codec all log × HasRead sites parts id log r
+  underway_ends left r e h = (h.so.log, subst (λ items. AreRecords codec items h.so.log) (sym (h.so.is ∙ ap (λ l. h.so.front ++ l) e ∙ append-nil h.so.front)) h.so.read, h.has)
 
   -- all records, where the rest are records too
   all_more : (rest : List Item) → EachRecord codec (map (λ item. item.1) rest) → (so : SoFar codec all rest) → (more : List (Record E)) × AreRecords codec all (grown so.log more)
@@ -54,14 +54,14 @@ module _ {E : Type 0} (codec : Codec E) (sites parts : ℕ) (id : PartId) (all :
       let next = all_more rest each.1 (went_on codec all (x ∷ rest) x rest r.0 refl r.1 r.2 so) in
       (r.0 ∷ next.0, next.1)
 
-  module _ (left : List Item) (x : Item) (rest : List Item) (next : Record E) (old : Recovery E) (e : left ≡ x ∷ rest) (spelled : codec.spelled next ≡ true) (is : x.1 ≡ codec.bytes next) (h : IsReading left old) where
-    pub reading_more : (new : Recovery E) (fits : Bool) → fits ≡ true → ReadsNext sites parts id h.so.log next new fits → IsReading rest new
-    reading_more new fits f reads = record { so = went_on codec all left x rest next e spelled is h.so; has = reads.read f }
+  module _ (left : List Item) (x : Item) (rest : List Item) (next : Record E) (old : Recovery E) (e : left ≡ x ∷ rest) (spelled : codec.spelled next ≡ true) (is : x.1 ≡ codec.bytes next) (h : IsUnderway left old) where
+    pub underway_more : (new : Recovery E) (fits : Bool) → fits ≡ true → ReadsNext sites parts id h.so.log next new fits → IsUnderway rest new
+    underway_more new fits f reads = record { so = went_on codec all left x rest next e spelled is h.so; has = reads.read f }
 
     -- a record that doesn't fit is the first, where all are records
-    pub reading_stops : (new : Recovery E) (fits : Bool) → fits ≡ false → ReadsNext sites parts id h.so.log next new fits → (log : List (Record E)) → AreRecords codec all log → (payloads : List (List ℕ)) → all ≡ placed 8 payloads
+    pub underway_stops : (new : Recovery E) (fits : Bool) → fits ≡ false → ReadsNext sites parts id h.so.log next new fits → (log : List (Record E)) → AreRecords codec all log → (payloads : List (List ℕ)) → all ≡ placed 8 payloads
         → (log : List (Record E)) × AreRecords codec all log × IsUnfitAt codec sites parts id log x.0
-    reading_stops new fits f reads log read payloads at =
+    underway_stops new fits f reads log read payloads at =
         let so = went_on codec all left x rest next e spelled is h.so in
         let split : all ≡ h.so.front ++ x ∷ rest = h.so.is ∙ ap (λ l. h.so.front ++ l) e in
         let each = each_behind codec h.so.front x rest (subst (λ l. EachRecord codec (map (λ item. item.1) l)) split (subst (EachRecord codec) (sym read.payloads) (each_of_log codec log read.spelled))) in

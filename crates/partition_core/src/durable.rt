@@ -181,7 +181,7 @@ impl<C: Crdt, D: Disk + Drop> DurablePartition<C, D> {
 
 impl<C: Crdt, D: Disk + Drop> DurablePartition<C, Fused<D>> {
     ghost use Rattle.std.specs.Prelude.{Some, None, ◌≢◌};
-    ghost use Rattle.disk_core.specs.Fuses.{fused_state, calls_left, kept_bytes};
+    ghost use Rattle.disk_core.specs.Fuses.{fused_state, calls_left, cut_length};
     ghost use Rattle.partition_log.specs.Codec.{codec_of};
     ghost use Rattle.world_model.specs.rules.Partition.{PartState};
     ghost use Rattle.partition_core.specs.Durable.{StandsOn, disk_in};
@@ -189,7 +189,7 @@ impl<C: Crdt, D: Disk + Drop> DurablePartition<C, Fused<D>> {
     /// Arms the fuse of the disk, also where the partition is down: of its calls from now on the one with this number,
     /// from 1, fails, and all later ones. Where it writes, at most the first `keep` bytes are written.
     pub fn arm(&mut self, k: u64, keep: u64)
-        ensures keep { kept_bytes (disk_of self.new.gates) ≡ keep }
+        ensures keep { cut_length (disk_of self.new.gates) ≡ keep }
         ensures armed { disk_in (fused_state D.state) self.new ≡ record (disk_in (fused_state D.state) self.old) { left = Some k } }
         ensures same { (self.new.tables ≡ self.old.tables) × (is_down self.new ≡ is_down self.old) }
         ensures stands { (p : PartState C.Effect) → StandsOn (codec_of C.spells) (fused_state D.state) self.old p → StandsOn (codec_of C.spells) (fused_state D.state) self.new p }

@@ -38,14 +38,14 @@ impl<C: Crdt, D: Disk + Drop> DurablePartition<C, D> {
     /// # Errors
     ///
     /// `Down`, `Full`, `Disk` as `DurableError` says: at most a lease is written.
-    pub fn tick(&mut self, reading: u64) -> Result<u64, DurableError>
-        requires { reading ≤ end_of_time }
-        ensures { CallsOn (kinds_of C.laws) (codec_of C.spells) D.state self.old self.new Anything (AskTick reading) (λ n e. e ≡ event.Ticked reading n) result }
+    pub fn tick(&mut self, clock_time: u64) -> Result<u64, DurableError>
+        requires { clock_time ≤ end_of_time }
+        ensures { CallsOn (kinds_of C.laws) (codec_of C.spells) D.state self.old self.new Anything (AskTick clock_time) (λ n e. e ≡ event.Ticked clock_time n) result }
     {
         if self.is_down() {
             return Err(DurableError::Down);
         }
-        let time = reading.max(self.tables.now());
+        let time = clock_time.max(self.tables.now());
         keep_lease(&mut self.log, self.tables.lease_before(time))?;
         self.tables.advance(time);
         Ok(time)

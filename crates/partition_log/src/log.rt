@@ -292,14 +292,14 @@ impl<C: Crdt, D: Disk + Drop> PartLog<C, D> {
 
 impl<C: Crdt, D: Disk + Drop> PartLog<C, Fused<D>> {
     ghost use Rattle.std.specs.Prelude.{None};
-    ghost use Rattle.disk_core.specs.Fuses.{inside, calls_left, kept_bytes, fused_state};
+    ghost use Rattle.disk_core.specs.Fuses.{inside, calls_left, cut_length, fused_state};
     ghost use Rattle.gate_log.specs.Logs.{disk_of, gate_of, is_closed, read_at_opening, IsReady};
     ghost use Rattle.partition_log.specs.Gates.{gates_of};
 
     /// Arms the fuse of the disk, also where the log is closed, and changes nothing else.
     pub fn arm(&mut self, k: u64, keep: u64)
         ensures inside { inside (disk_of (gates_of self.new)) ≡ inside (disk_of (gates_of self.old)) }
-        ensures keep { kept_bytes (disk_of (gates_of self.new)) ≡ keep }
+        ensures keep { cut_length (disk_of (gates_of self.new)) ≡ keep }
         ensures state { fused_state D.state (disk_of (gates_of self.new))
             ≡ record (fused_state D.state (disk_of (gates_of self.old))) { left = Some k } }
         ensures has { (log : List (Record C.Effect)) → HasRecords (codec_of C.spells) (fused_state D.state) (gates_of self.old) log

@@ -103,7 +103,7 @@ impl<E: Drop> Prepared<E> {
     /// `AllocError` where memory runs out. The entries stay, and there is no less room than before.
     pub fn reserve(&mut self, n: usize) -> Result<(), AllocError>
         ensures entries { self.new.entries ≡ self.old.entries }
-        ensures kept { self.old.room ≤ self.new.room }
+        ensures room_stays { self.old.room ≤ self.new.room }
         ensures ok { OnOk result (n ≤ self.new.room) }
         ensures ascends { Ascends entry_cmp self.new.entries }
     {

@@ -24,49 +24,49 @@ use Rattle.read_back.proofs.ShownValues.{value_uncut, value_some}
 use Rattle.read_back.specs.ReadBack.{IsOneLine}
 
 -- a line may be cut behind it, and it ends no line
-record Stands (w : List ℕ) : Type 0 where
+record IsCuttable (w : List ℕ) : Type 0 where
   cut : (rest : List ℕ) → words (w ++ space ∷ rest) ≡ words w ++ words rest
   inner : list_all is_inner w ≡ true
 
-abbrev AllStand : List (List ℕ) → Type 0
-AllStand [] = ⊤
-AllStand (w ∷ ws) = Stands w × AllStand ws
+abbrev AreCuttable : List (List ℕ) → Type 0
+AreCuttable [] = ⊤
+AreCuttable (w ∷ ws) = IsCuttable w × AreCuttable ws
 
 abbrev more_text : List (List ℕ) → List ℕ
 more_text ws = flat_map (λ w. codes " " ++ w) ws
 
-words-more : (w : List ℕ) (ws : List (List ℕ)) → Stands w → AllStand ws → words (w ++ more_text ws) ≡ words w ++ flat_map words ws
+words-more : (w : List ℕ) (ws : List (List ℕ)) → IsCuttable w → AreCuttable ws → words (w ++ more_text ws) ≡ words w ++ flat_map words ws
 words-more w [] h k = ap words (append-nil w) ∙ sym (append-nil (words w))
 words-more w (v ∷ vs) h k = h.cut (v ++ more_text vs) ∙ ap (λ us. words w ++ us) (words-more v vs k.0 k.1)
 
-inner_more : (ws : List (List ℕ)) → AllStand ws → list_all is_inner (more_text ws) ≡ true
+inner_more : (ws : List (List ℕ)) → AreCuttable ws → list_all is_inner (more_text ws) ≡ true
 inner_more [] h = refl
 inner_more (w ∷ ws) h = inner_both (codes " " ++ w) (more_text ws) h.0.inner (inner_more ws h.1)
 
 -- ---- what stands in a line
 
-word : (w : List ℕ) → IsUncut w → is_some_bytes w ≡ true → Stands w
+word : (w : List ℕ) → IsUncut w → is_some_bytes w ≡ true → IsCuttable w
 word w h some = let one = one_word w h some in record { cut = λ rest. one.followed rest ∙ ap (λ ws. ws ++ words rest) (sym one.last); inner = h.inner }
 
-text : (t : List ℕ) → Stands (word_text t)
+text : (t : List ℕ) → IsCuttable (word_text t)
 text t = word (word_text t) (text_uncut t) (text_some t)
 
-number : (n : ℕ) → Stands (decimal n)
+number : (n : ℕ) → IsCuttable (decimal n)
 number n = word (decimal n) (decimal_uncut n) (decimal_some n)
 
-part : (p : PartId) → Stands (part_text p)
+part : (p : PartId) → IsCuttable (part_text p)
 part p = word (part_text p) (part_uncut p) (part_some p)
 
-tx : (t : TxId) → Stands (tx_text t)
+tx : (t : TxId) → IsCuttable (tx_text t)
 tx t = word (tx_text t) (tx_uncut t) (tx_some t)
 
-message : (n : ℕ) → Stands (message_text n)
+message : (n : ℕ) → IsCuttable (message_text n)
 message n = word (message_text n) (message_uncut n) refl
 
-report : (n : ℕ) → Stands (report_text n)
+report : (n : ℕ) → IsCuttable (report_text n)
 report n = word (report_text n) (report_uncut n) refl
 
-value : (v : Value) → Stands (value_text v)
+value : (v : Value) → IsCuttable (value_text v)
 value v = word (value_text v) (value_uncut v) (value_some v)
 
 more_entries : (ns : List ℕ) → IsUncut (flat_map (λ n. codes "," ++ decimal n) ns)
@@ -77,13 +77,13 @@ entries : (ns : List ℕ) → IsUncut (join_by decimal (codes ",") ns)
 entries [] = plain_uncut [] refl
 entries (n ∷ ns) = uncut_both (decimal n) _ (decimal_uncut n) (more_entries ns)
 
-vector : (v : List ℕ) → Stands (vector_text v)
+vector : (v : List ℕ) → IsCuttable (vector_text v)
 vector v =
     let front : List ℕ = codes "[" ++ join_by decimal (codes ",") v in
     let front_uncut : IsUncut front = uncut_both (codes "[") (join_by decimal (codes ",") v) (plain_uncut (codes "[") refl) (entries v) in
     word (vector_text v) (uncut_both front (codes "]") front_uncut (plain_uncut (codes "]") refl)) refl
 
-interval : (lo hi : ℕ) → Stands (interval_text lo hi)
+interval : (lo hi : ℕ) → IsCuttable (interval_text lo hi)
 interval lo hi =
     let low : List ℕ = codes "(" ++ decimal lo in
     let both : List ℕ = low ++ codes "," ++ decimal hi in
@@ -91,7 +91,7 @@ interval lo hi =
     let both_uncut : IsUncut both = uncut_both (low ++ codes ",") (decimal hi) (uncut_both low (codes ",") low_uncut (plain_uncut (codes ",") refl)) (decimal_uncut hi) in
     word (interval_text lo hi) (uncut_both both (codes "]") both_uncut (plain_uncut (codes "]") refl)) refl
 
-object : (o : ObjectId) → Stands (object_text o)
+object : (o : ObjectId) → IsCuttable (object_text o)
 object o =
     let name : List (List ℕ) → List (List ℕ) = λ ws. word_text o.key ∷ kind_name o.kind ∷ ws in
     let alone : words (object_text o) ≡ name (bucket_words o.bucket) = ap words (sym (append-nil (object_text o))) ∙ words-object o None ∙ ap name (append-nil (bucket_words o.bucket)) in
@@ -137,7 +137,7 @@ open_inner : (w : List ℕ) → list_all is_open w ≡ true → list_all is_inne
 open_inner [] h = refl
 open_inner (c ∷ cs) h = let p = and_parts (is_open c) (list_all is_open cs) h in λ i. (and_parts (not (c == quote)) (is_inner c) p.0).1 i && open_inner cs p.1 i
 
-name : (w : List ℕ) → list_all is_open w ≡ true → Stands w
+name : (w : List ℕ) → list_all is_open w ≡ true → IsCuttable w
 name w h = record {
   cut = λ rest. ap (filter is_some_bytes) (pieces-open w rest h) ∙ filter-append is_some_bytes (pieces outside w) (pieces outside rest);
   inner = open_inner w h;
@@ -145,25 +145,25 @@ name w h = record {
 
 -- ---- what varies in length
 
-all_stand : (vs ws : List (List ℕ)) → AllStand vs → AllStand ws → AllStand (vs ++ ws)
-all_stand [] ws h k = k
-all_stand (v ∷ vs) ws h k = (h.0, all_stand vs ws h.1 k)
+all_cuttable : (vs ws : List (List ℕ)) → AreCuttable vs → AreCuttable ws → AreCuttable (vs ++ ws)
+all_cuttable [] ws h k = k
+all_cuttable (v ∷ vs) ws h k = (h.0, all_cuttable vs ws h.1 k)
 
-stamp : (n : Option ℕ) → AllStand (stamp_words n)
+stamp : (n : Option ℕ) → AreCuttable (stamp_words n)
 stamp None = tt
 stamp (Some n) = (name _ refl, (number n, tt))
 
-decided : (t : Option TxId) → AllStand (decided_words t)
+decided : (t : Option TxId) → AreCuttable (decided_words t)
 decided None = tt
 decided (Some t) = (name _ refl, (tx t, tt))
 
-pending : (ts : List (TxId × ℕ)) → AllStand (pending_words ts)
+pending : (ts : List (TxId × ℕ)) → AreCuttable (pending_words ts)
 pending [] = tt
-pending (t ∷ ts) = all_stand (codes "pending" ∷ tx_text t.0 ∷ decimal t.1 ∷ []) (pending_words ts) (name _ refl, (tx t.0, (number t.1, tt))) (pending ts)
+pending (t ∷ ts) = all_cuttable (codes "pending" ∷ tx_text t.0 ∷ decimal t.1 ∷ []) (pending_words ts) (name _ refl, (tx t.0, (number t.1, tt))) (pending ts)
 
 -- ---- the lines
 
-shown : (s : Step) → AllStand (words_of s)
+shown : (s : Step) → AreCuttable (words_of s)
 shown (step.MadeCluster sites parts) = (name _ refl, (number sites, (number parts, tt)))
 shown (step.Ticked p now) = (name _ refl, (part p, (number now, tt)))
 shown (step.MadeSession s site) = (name _ refl, (text s, (number site, tt)))
@@ -189,7 +189,7 @@ shown (step.Reported n p v) = (name _ refl, (report n, (part p, (vector v, tt)))
 shown (step.Heard n p v) = (name _ refl, (report n, (part p, (vector v, tt))))
 shown (step.Crashed p) = (name _ refl, (part p, tt))
 shown (step.Fused p call keep) = (name _ refl, (part p, (number call, (number keep, tt))))
-shown (step.Restarted p now v t ts) = (name _ refl, (part p, (number now, (vector v, all_stand (decided_words t) (pending_words ts) (decided t) (pending ts)))))
+shown (step.Restarted p now v t ts) = (name _ refl, (part p, (number now, (vector v, all_cuttable (decided_words t) (pending_words ts) (decided t) (pending ts)))))
 shown step.Bad = (name _ refl, tt)
 shown step.NoCluster = (name _ refl, tt)
 shown step.HasCluster = (name _ refl, tt)
@@ -217,7 +217,7 @@ shown step.LimitReports = (name _ refl, tt)
 shown step.Unbuilt = (name _ refl, tt)
 
 -- the words of a list, as one line
-one_line : (s : Step) (ws : List (List ℕ)) → words_of s ≡ ws → AllStand ws → IsOneLine s
+one_line : (s : Step) (ws : List (List ℕ)) → words_of s ≡ ws → AreCuttable ws → IsOneLine s
 one_line s [] is h = record { line = []; ended = ap (λ ws. join_by (λ w. w) (codes " ") ws ++ line_feed ∷ []) is; unbroken = tt; cut = ap (flat_map words) (sym is) }
 one_line s (w ∷ ws) is h = record {
   line = w ++ more_text ws;

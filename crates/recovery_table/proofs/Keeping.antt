@@ -19,8 +19,8 @@ use Rattle.partition_core.specs.declared.restart.RestartError.TheVariants as res
 use Rattle.recovery_table.specs.Places.{IsAt}
 
 module _ {E : Type 0} (id : PartId) (old new : Tables E) where
-  pub kept : IsAt id old × IsPlace 2 2 id → IsSame old new → IsAt id new × IsPlace 2 2 id
-  kept h s = (record { id_is = s.id ∙ h.0.id_is; two_sites = s.sites ∙ h.0.two_sites; two_parts = s.parts ∙ h.0.two_parts }, h.1)
+  pub same_place : IsAt id old × IsPlace 2 2 id → IsSame old new → IsAt id new × IsPlace 2 2 id
+  same_place h s = (record { id_is = s.id ∙ h.0.id_is; two_sites = s.sites ∙ h.0.two_sites; two_parts = s.parts ∙ h.0.two_parts }, h.1)
 
 module _ {E : Type 0} (old new : Tables E) where
   pub same_tables : new ≡ old → IsSame old new

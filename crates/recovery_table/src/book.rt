@@ -203,7 +203,7 @@ impl Book {
     /// The time that the clock shows once a call is done.
     pub(crate) fn after(&self, call: Call) -> u64 {
         match call {
-            Call::Tick { reading } => self.now.max(reading),
+            Call::Tick { clock_time } => self.now.max(clock_time),
             Call::Begin | Call::Prepare { .. } => self.now.saturating_add(1),
             _ => self.now,
         }

@@ -6,7 +6,7 @@ use std::alloc::{AllocError, Global};
 #[derive(Clone, Copy, PartialEq)]
 pub(crate) enum Call {
     /// The clock reads a time.
-    Tick { reading: u64 },
+    Tick { clock_time: u64 },
     Begin,
     /// A vote for a transaction that adds to the counter, with the number of its lead, or 0 where it is the partition.
     Prepare { begun: u64, amount: u64, lead: u64 },
@@ -65,7 +65,7 @@ fn call_of(text: &str) -> Option<Call> {
     let words = words_of(text);
     let [first, second, third, _] = words.numbers;
     match words.word {
-        "tick" => Some(Call::Tick { reading: first }),
+        "tick" => Some(Call::Tick { clock_time: first }),
         "begin" => Some(Call::Begin),
         "prepare" => Some(Call::Prepare {
             begun: first,
@@ -100,11 +100,11 @@ fn step_of(text: &str) -> Option<Step> {
             cut: None,
         }),
         Some((cut, rest)) => {
-            let [call, kept, _, _] = words_of(cut).numbers;
+            let [call, cut_length, _, _] = words_of(cut).numbers;
             Some(Step {
                 text,
                 call: call_of(rest)?,
-                cut: Some((call, kept)),
+                cut: Some((call, cut_length)),
             })
         }
     }

@@ -10,7 +10,7 @@ use partition_core::{DurableError, RestartError, Restarted};
 use std::alloc::Global;
 
 /// How many bytes are written of a write that fails, at most.
-const KEPT: [u64; 2] = [0, 6];
+const CUT_LENGTHS: [u64; 2] = [0, 6];
 
 /// More calls of the disk than any call of a partition makes.
 const MOST_CALLS: u64 = 40;
@@ -94,14 +94,14 @@ impl Scene {
 
     /// Makes a call whose disk fails at a call of it. Answers whether it failed; the partition is down then, and its
     /// fuse taken away.
-    fn cut(&mut self, call: Call, at: u64, kept: u64) -> Result<bool, Failure> {
-        self.place.arm(at, kept);
+    fn cut(&mut self, call: Call, at: u64, cut_length: u64) -> Result<bool, Failure> {
+        self.place.arm(at, cut_length);
         if !is_cut(&self.place.ask(call)) {
             return Ok(false);
         }
         self.book.tear(call)?;
         self.place.revive();
-        if !is_down(&self.place.ask(Call::Tick { reading: 0 })) {
+        if !is_down(&self.place.ask(Call::Tick { clock_time: 0 })) {
             return Err(Failure::Differs);
         }
         Ok(true)
@@ -159,16 +159,16 @@ impl Scene {
         out: &mut String,
         call: Call,
         at: u64,
-        kept: u64,
+        cut_length: u64,
     ) -> Result<bool, Failure> {
-        if !self.cut(call, at, kept)? {
+        if !self.cut(call, at, cut_length)? {
             return Ok(false);
         }
         let torn = self.book.torn();
         let (count, text) = self.restart(alloc)?;
         writeln!(
             out,
-            "  call {at}, {kept} bytes: with {count} of {torn} records {text}"
+            "  call {at}, {cut_length} bytes: with {count} of {torn} records {text}"
         )?;
         Ok(true)
     }
@@ -176,8 +176,8 @@ impl Scene {
     /// Makes a step of a line.
     fn play(&mut self, alloc: Global, step: Step) -> Result<(), Failure> {
         match (step.cut, step.call) {
-            (Some((at, kept)), call) => {
-                if !self.cut(call, at, kept)? {
+            (Some((at, cut_length)), call) => {
+                if !self.cut(call, at, cut_length)? {
                     return Err(Failure::Unasked);
                 }
             }
@@ -215,16 +215,21 @@ fn crash(
     out: &mut String,
     point: &Point,
     at: u64,
-    kept: u64,
+    cut_length: u64,
 ) -> Result<bool, Failure> {
     let mut scene = Scene::after(alloc, point.home, point.before)?;
-    scene.crash(alloc, out, point.step.call, at, kept)
+    scene.crash(alloc, out, point.step.call, at, cut_length)
 }
 
 /// The same at each call of the disk. Answers how many it makes.
-fn crash_each(alloc: Global, out: &mut String, point: &Point, kept: u64) -> Result<u64, Failure> {
+fn crash_each(
+    alloc: Global,
+    out: &mut String,
+    point: &Point,
+    cut_length: u64,
+) -> Result<u64, Failure> {
     for at in 1..MOST_CALLS {
-        if !crash(alloc, out, point, at, kept)? {
+        if !crash(alloc, out, point, at, cut_length)? {
             return Ok(at - 1);
         }
     }
@@ -244,8 +249,8 @@ fn try_step(alloc: Global, out: &mut String, point: &Point) -> Result<(), Failur
         return Ok(());
     }
     let (least, most) = pass(alloc, out, point)?;
-    for kept in KEPT {
-        let calls = crash_each(alloc, out, point, kept)?;
+    for cut_length in CUT_LENGTHS {
+        let calls = crash_each(alloc, out, point, cut_length)?;
         if calls < least || calls > most {
             return Err(Failure::Differs);
         }

@@ -114,8 +114,8 @@ impl Place {
     }
 
     /// Arms the fuse of its disk.
-    pub(crate) fn arm(&mut self, call: u64, kept: u64) {
-        self.partition.arm(call, kept);
+    pub(crate) fn arm(&mut self, call: u64, cut_length: u64) {
+        self.partition.arm(call, cut_length);
     }
 
     /// Takes the fuse away where it has fired.
@@ -133,11 +133,11 @@ impl Place {
         Ok(tx.time)
     }
 
-    fn tick(&mut self, reading: u64) -> Result<u64, Failure> {
-        if reading > END_OF_TIME {
+    fn tick(&mut self, clock_time: u64) -> Result<u64, Failure> {
+        if clock_time > END_OF_TIME {
             return Err(Failure::Unasked);
         }
-        Ok(self.partition.tick(reading)?)
+        Ok(self.partition.tick(clock_time)?)
     }
 
     /// Asks for the vote that a record tells, whose own time doesn't count.
@@ -257,7 +257,7 @@ impl Place {
     /// Makes a call. Answers the time that it tells, or else 0.
     pub(crate) fn ask(&mut self, call: Call) -> Result<u64, Failure> {
         match call {
-            Call::Tick { reading } => return self.tick(reading),
+            Call::Tick { clock_time } => return self.tick(clock_time),
             Call::Begin => return self.begin(),
             Call::Prepare {
                 begun,

@@ -8,7 +8,7 @@ use Rattle.std.specs.BTreeMap.{is_at, insert_entry}
 use Rattle.std.specs.Map.{lookup, remove_entry}
 use Rattle.std.proofs.lemmas.Bool.{eqb-true}
 use Rattle.std.proofs.lemmas.Bool.Decides.{nat_tests}
-use Rattle.repl_stream.specs.Numbers.{kept_at, without, AreAbove, AreBelow, NumbersAscend, IsOutbox}
+use Rattle.repl_stream.specs.Numbers.{item_at, without, AreAbove, AreBelow, NumbersAscend, IsOutbox}
 
 greater : (k n : ℕ) → n < k → nat_cmp k n ≡ Greater
 greater k n l = grind (arith, nat_tests)
@@ -32,11 +32,11 @@ module _ {A : Type 0} where
   appended [] k v h = refl
   appended (x ∷ xs) k v h = ap (λ r. match_ordering r ((k, v) ∷ x ∷ xs) ((x.0, v) ∷ xs) (x ∷ insert_entry nat_cmp xs k v)) (greater k x.0 h.0) ∙ ap (λ l. x ∷ l) (appended xs k v h.1)
 
-  pub kept_append : (xs : List (ℕ × A)) (k : ℕ) (v : A) → AreBelow k xs → (j : ℕ) → kept_at (xs ++ (k, v) ∷ []) j ≡ (if j == k then Some v else kept_at xs j)
-  kept_append [] k v h j = ap (λ b. cond b (Some v) None) (turned k j)
-  kept_append (x ∷ xs) k v h j = by (x.0 == j) refl (kept_append xs k v h.1 j)
+  pub item_append : (xs : List (ℕ × A)) (k : ℕ) (v : A) → AreBelow k xs → (j : ℕ) → item_at (xs ++ (k, v) ∷ []) j ≡ (if j == k then Some v else item_at xs j)
+  item_append [] k v h j = ap (λ b. cond b (Some v) None) (turned k j)
+  item_append (x ∷ xs) k v h j = by (x.0 == j) refl (item_append xs k v h.1 j)
     where
-      by : (b : Bool) → (x.0 == j) ≡ b → kept_at (xs ++ (k, v) ∷ []) j ≡ (if j == k then Some v else kept_at xs j) → cond b (Some x.1) (kept_at (xs ++ (k, v) ∷ []) j) ≡ (if j == k then Some v else cond b (Some x.1) (kept_at xs j))
+      by : (b : Bool) → (x.0 == j) ≡ b → item_at (xs ++ (k, v) ∷ []) j ≡ (if j == k then Some v else item_at xs j) → cond b (Some x.1) (item_at (xs ++ (k, v) ∷ []) j) ≡ (if j == k then Some v else cond b (Some x.1) (item_at xs j))
       by true e later =
           let same : x.0 ≡ j = eqb-true x.0 j e in
           let not : (j == k) ≡ false = turned j k ∙ (ap (λ n. k == n) (sym same) ∙ apart x.0 k h.0) in
@@ -74,31 +74,31 @@ module _ {A : Type 0} where
   removed [] k = refl
   removed (x ∷ xs) k = ap (λ b. cond b xs (x ∷ remove_entry (is_at (nat_cmp k)) xs)) (same_test k x.0) ∙ ap (λ l. cond (x.0 == k) xs (x ∷ l)) (removed xs k)
 
-  pub looked_up : (xs : List (ℕ × A)) (k : ℕ) → lookup (is_at (nat_cmp k)) xs ≡ kept_at xs k
+  pub looked_up : (xs : List (ℕ × A)) (k : ℕ) → lookup (is_at (nat_cmp k)) xs ≡ item_at xs k
   looked_up [] k = refl
   looked_up (x ∷ xs) k = ap (λ b. cond b (Some x.1) (lookup (is_at (nat_cmp k)) xs)) (same_test k x.0) ∙ ap (λ o. cond (x.0 == k) (Some x.1) o) (looked_up xs k)
 
-  none_above : (n : ℕ) (xs : List (ℕ × A)) → AreAbove n xs → kept_at xs n ≡ None
+  none_above : (n : ℕ) (xs : List (ℕ × A)) → AreAbove n xs → item_at xs n ≡ None
   none_above n [] h = refl
-  none_above n (x ∷ xs) h = ap (λ b. cond b (Some x.1) (kept_at xs n)) (apart n x.0 h.0) ∙ none_above n xs h.1
+  none_above n (x ∷ xs) h = ap (λ b. cond b (Some x.1) (item_at xs n)) (apart n x.0 h.0) ∙ none_above n xs h.1
 
   either : (b : Bool) (o : Option A) → o ≡ (if b then o else o)
   either true o = refl
   either false o = refl
 
-  pub kept_without : (xs : List (ℕ × A)) (k : ℕ) → NumbersAscend xs → (j : ℕ) → kept_at (without xs k) j ≡ (if j == k then None else kept_at xs j)
-  kept_without [] k h j = either (j == k) None
-  kept_without (x ∷ xs) k h j = here (x.0 == k) refl (kept_without xs k h.1 j)
+  pub item_without : (xs : List (ℕ × A)) (k : ℕ) → NumbersAscend xs → (j : ℕ) → item_at (without xs k) j ≡ (if j == k then None else item_at xs j)
+  item_without [] k h j = either (j == k) None
+  item_without (x ∷ xs) k h j = here (x.0 == k) refl (item_without xs k h.1 j)
     where
-      gone : (b : Bool) → (j == k) ≡ b → x.0 ≡ k → kept_at xs j ≡ cond b None (cond (x.0 == j) (Some x.1) (kept_at xs j))
-      gone true e s = ap (kept_at xs) (eqb-true j k e ∙ sym s) ∙ none_above x.0 xs h.0
-      gone false e s = sym (ap (λ b. cond b (Some x.1) (kept_at xs j)) (turned x.0 j ∙ (ap (λ n. j == n) s ∙ e)))
+      gone : (b : Bool) → (j == k) ≡ b → x.0 ≡ k → item_at xs j ≡ cond b None (cond (x.0 == j) (Some x.1) (item_at xs j))
+      gone true e s = ap (item_at xs) (eqb-true j k e ∙ sym s) ∙ none_above x.0 xs h.0
+      gone false e s = sym (ap (λ b. cond b (Some x.1) (item_at xs j)) (turned x.0 j ∙ (ap (λ n. j == n) s ∙ e)))
 
-      stays : (b : Bool) → (x.0 == j) ≡ b → (x.0 == k) ≡ false → kept_at (without xs k) j ≡ (if j == k then None else kept_at xs j) → cond b (Some x.1) (kept_at (without xs k) j) ≡ (if j == k then None else cond b (Some x.1) (kept_at xs j))
+      stays : (b : Bool) → (x.0 == j) ≡ b → (x.0 == k) ≡ false → item_at (without xs k) j ≡ (if j == k then None else item_at xs j) → cond b (Some x.1) (item_at (without xs k) j) ≡ (if j == k then None else cond b (Some x.1) (item_at xs j))
       stays true e s later = sym (ap (λ b. cond b None (Some x.1)) (other x.0 j k (eqb-true x.0 j e) s))
       stays false e s later = later
 
-      here : (b : Bool) → (x.0 == k) ≡ b → kept_at (without xs k) j ≡ (if j == k then None else kept_at xs j) → kept_at (cond b xs (x ∷ without xs k)) j ≡ (if j == k then None else kept_at (x ∷ xs) j)
+      here : (b : Bool) → (x.0 == k) ≡ b → item_at (without xs k) j ≡ (if j == k then None else item_at xs j) → item_at (cond b xs (x ∷ without xs k)) j ≡ (if j == k then None else item_at (x ∷ xs) j)
       here true e later = gone (j == k) refl (eqb-true x.0 k e)
       here false e later = stays (x.0 == j) refl e later
 

@@ -9,9 +9,9 @@ pub record Numbered (E : Type 0) : Type 0 where
 
 module _ {A : Type 0} where
   -- what is kept under a number
-  abbrev pub kept_at : List (ℕ × A) → ℕ → Option A
-  kept_at [] k = None
-  kept_at (x ∷ xs) k = if x.0 == k then Some x.1 else kept_at xs k
+  abbrev pub item_at : List (ℕ × A) → ℕ → Option A
+  item_at [] k = None
+  item_at (x ∷ xs) k = if x.0 == k then Some x.1 else item_at xs k
 
   -- the others
   abbrev pub without : List (ℕ × A) → ℕ → List (ℕ × A)

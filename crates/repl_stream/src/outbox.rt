@@ -2,7 +2,7 @@ ghost use Rattle.std.specs.Prelude.{◌≡◌, ◌<◌, ◌+◌, ◌++◌, ◌�
 ghost use Rattle.std.specs.Prelude.{Some, None, Err, IfOk, OnOk, OnErr, is_some};
 ghost use Rattle.std.specs.Option.{option_copied};
 ghost use Rattle.repl_stream.specs.declared.error.KeepError.TheVariants.{Full};
-ghost use Rattle.repl_stream.specs.Numbers.{kept_at, without, IsOutbox};
+ghost use Rattle.repl_stream.specs.Numbers.{item_at, without, IsOutbox};
 
 use crate::KeepError;
 use crdt_core::Message;
@@ -11,7 +11,7 @@ use std::collections::BTreeMap;
 use std::marker::Model;
 
 /// The most messages that are kept.
-const MOST_KEPT: usize = 4096;
+const MOST_MESSAGES: usize = 4096;
 
 /// Messages that are kept under numbers. Contracts see the list of the messages with their numbers, which ascend, and
 /// the next number.
@@ -45,7 +45,7 @@ impl<E> Outbox<E> {
 
     /// The message that is kept under a number, if there is one.
     pub fn get(&self, k: u64) -> Option<&Message<E>>
-        ensures value { option_copied result ≡ kept_at self.now.messages k }
+        ensures value { option_copied result ≡ item_at self.now.messages k }
         ensures sound { IsOutbox self.now.messages self.now.next }
     {
         self.messages.get(&k)
@@ -61,18 +61,18 @@ impl<E: Drop> Outbox<E> {
     /// given, and where none is left the answer is `NoMemory` too. All is as before then.
     pub fn keep(&mut self, m: Message<E>) -> Result<u64, KeepError>
         ensures number { IfOk result (λ k. k ≡ self.old.next) }
-        ensures kept { IfOk result
+        ensures added { IfOk result
             (λ k. self.new ≡ record { messages = self.old.messages ++ (k, m) ∷ []; next = self.old.next + 1 }) }
         ensures found { OnOk result
-            ((j : ℕ) → kept_at self.new.messages j
-            ≡ (if j == self.old.next then Some m else kept_at self.old.messages j)) }
+            ((j : ℕ) → item_at self.new.messages j
+            ≡ (if j == self.old.next then Some m else item_at self.old.messages j)) }
         ensures room { OnOk result (length self.old.messages < 4096) }
         ensures full { result ≡ Err Full → length self.old.messages ≡ 4096 }
         ensures filled { length self.old.messages ≡ 4096 → result ≡ Err Full }
         ensures err { OnErr result (self.new ≡ self.old) }
         ensures sound { IsOutbox self.new.messages self.new.next }
     {
-        if self.messages.len() >= MOST_KEPT {
+        if self.messages.len() >= MOST_MESSAGES {
             return Err(KeepError::Full);
         }
         if self.next == u64::MAX {
@@ -89,9 +89,9 @@ impl<E: Drop> Outbox<E> {
 
     /// Drops the message that is kept under a number. Answers whether there was one.
     pub fn drop_one(&mut self, k: u64) -> bool
-        ensures was { result ≡ is_some (kept_at self.old.messages k) }
+        ensures was { result ≡ is_some (item_at self.old.messages k) }
         ensures rest { self.new ≡ record self.old { messages = without self.old.messages k } }
-        ensures found { (j : ℕ) → kept_at self.new.messages j ≡ (if j == k then None else kept_at self.old.messages j) }
+        ensures found { (j : ℕ) → item_at self.new.messages j ≡ (if j == k then None else item_at self.old.messages j) }
         ensures count { length self.new.messages + (if result then 1 else 0) ≡ length self.old.messages }
         ensures sound { IsOutbox self.new.messages self.new.next }
     {

@@ -32,7 +32,7 @@ use Rattle.world_model.specs.rules.World.{plan_of, IsWorldRun}
 use Rattle.world_model.specs.events.Reads.{IsExact}
 use Rattle.world_model.proofs.Completeness.{IsBacked}
 use Rattle.world_model.proofs.Intervals.{numbered_shown, shown_has}
-use Rattle.world_model.proofs.Kept.{Kept, law_plan}
+use Rattle.world_model.proofs.Upheld.{Upheld, law_plan}
 use Rattle.world_model.proofs.Law.{plan_fits}
 use Rattle.world_model.proofs.LineCounts.{stream_apart}
 use Rattle.world_model.proofs.Premises.{premises}
@@ -76,7 +76,7 @@ module _ {E : Type 0} (has : Kind → Bool) (is_of : Kind → E → Bool) (can_p
 module _ {S E : Type 0} (kinds : Kinds S E) (sites parts : ℕ) (run : List (Entry E)) (state : PartId → PartState E) (r : IsWorldRun kinds sites parts run state) (at : PartId) (number : ℕ) (m : Message E) (al : MayTake (plan_of sites parts run) run at number m) where
   exact : IsExact (plan_of sites parts run) run (twin m.from at) m
   exact =
-      let k : Kept kinds (plan_of sites parts run) run state = law_plan kinds (plan_of sites parts run) run state (fits kinds sites parts run state r run (all_fresh kinds sites parts run state r) (suffix_all run)) in
+      let k : Upheld kinds (plan_of sites parts run) run state = law_plan kinds (plan_of sites parts run) run state (fits kinds sites parts run state r run (all_fresh kinds sites parts run state r) (suffix_all run)) in
       (shown_has (IsBacked (plan_of sites parts run) run state) run (twin m.from at) (Sent al.asked m) k.bounds.events (numbered_shown sent_count run number (twin m.from at) (Sent al.asked m) al.shown)).0
 
   pub takes : (u : TxId) → lists m.parts u ≡ true → takes_part (plan_of sites parts run) u (twin m.from at) ≡ true

@@ -24,13 +24,13 @@ impl<C: Crdt, D: Disk + Drop> Sites<C, D> {
     /// # Errors
     ///
     /// As the partition's: `Down`, `Full`, `Disk`.
-    pub fn tick_at(&mut self, at: PartId, reading: u64) -> Result<u64, DurableError>
+    pub fn tick_at(&mut self, at: PartId, clock_time: u64) -> Result<u64, DurableError>
         requires place { IsPlace self.old.sites self.old.parts at }
-        requires reading { reading ≤ end_of_time }
-        ensures { Calls (types_of C.laws C.spells D.state) self.old self.new Any at (AskTick reading) (λ n e. e ≡ Ticked reading n) result }
+        requires clock_time { clock_time ≤ end_of_time }
+        ensures { Calls (types_of C.laws C.spells D.state) self.old self.new Any at (AskTick clock_time) (λ n e. e ≡ Ticked clock_time n) result }
     {
         let i = index_of(at, self.sites, self.parts);
-        self.partitions[i].tick(reading)
+        self.partitions[i].tick(clock_time)
     }
 
     /// Begins a transaction of a session that depends on these times: its id, and its snapshot. Takes no memory.

@@ -1,2 +1,2 @@
 pub mod Gossip
-pub mod Kept
+pub mod Layout

@@ -23,13 +23,13 @@ pub struct Matrix {
 impl Model for Matrix {
     ghost use Rattle.std.specs.Prelude.{take};
     ghost use Rattle.stable_gossip.specs.Gossip.{Gossip};
-    ghost use Rattle.stable_gossip.specs.Kept.{IsKept};
+    ghost use Rattle.stable_gossip.specs.Layout.{IsLaidOut};
 
     ghost Value = { Gossip };
 
     ghost view = { λ m. record { sites = m.sites; parts = m.parts; heard = take m.parts m.heard } };
 
-    ghost invariant = { λ m. IsKept m.sites m.parts m.heard };
+    ghost invariant = { λ m. IsLaidOut m.sites m.parts m.heard };
 }
 
 impl Matrix {

@@ -389,7 +389,7 @@ module _ {E : Type 0} where
           first = refl;
           at_site = refl;
           snapshot = refl;
-          going = record { parts = refl; tries = λ p. k.1.tries p ∙ sym (none_off (s.site == p.site)); votes = λ p. k.1.votes p ∙ sym (none_off (s.site == p.site)); undecided = k.1.undecided; kept = k.1.kept; time = k.1.time };
+          going = record { parts = refl; tries = λ p. k.1.tries p ∙ sym (none_off (s.site == p.site)); votes = λ p. k.1.votes p ∙ sym (none_off (s.site == p.site)); undecided = k.1.undecided; ungiven = k.1.ungiven; time = k.1.time };
         },
       )
       by_doing (Ending txn lead commit) k = k

@@ -165,10 +165,10 @@ module _ {E : Type 0} where
     }
 
     pub untried_same : (t : TxId) → Same new old t → IsUntried t old → IsUntried t new
-    untried_same t s h = record { tries = λ p. s.tries p ∙ h.tries p; votes = λ p. s.votes p ∙ h.votes p; undecided = s.decide_tried ∙ h.undecided; kept = s.gave_up ∙ h.kept; time = s.time ∙ h.time }
+    untried_same t s h = record { tries = λ p. s.tries p ∙ h.tries p; votes = λ p. s.votes p ∙ h.votes p; undecided = s.decide_tried ∙ h.undecided; ungiven = s.gave_up ∙ h.ungiven; time = s.time ∙ h.time }
 
     pub going_same : (ps : List ℕ) (t : TxId) → Same new old t → (g : Going) → HoldsGoing site ps t old g → HoldsGoing site ps t new g
-    going_same ps t s (Preparing done left n) h = record { parts = h.parts; tries = λ p. s.tries p ∙ h.tries p; votes = λ p. s.votes p ∙ h.votes p; undecided = s.decide_tried ∙ h.undecided; kept = s.gave_up ∙ h.kept; time = s.time ∙ h.time }
+    going_same ps t s (Preparing done left n) h = record { parts = h.parts; tries = λ p. s.tries p ∙ h.tries p; votes = λ p. s.votes p ∙ h.votes p; undecided = s.decide_tried ∙ h.undecided; ungiven = s.gave_up ∙ h.ungiven; time = s.time ∙ h.time }
     going_same ps t s (Finishing left n) h = record { decided = s.decided h.decided; time = s.time ∙ h.time; among = h.among }
     going_same ps t s (Aborting left) h = record { undecided = ⊎_elim (λ (e : left ≡ []). inl e) (λ (e : decide_tried (entries old) t ≡ false). inr (s.decide_tried ∙ e)) h.undecided; among = h.among }
 

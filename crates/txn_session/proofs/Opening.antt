@@ -85,7 +85,7 @@ module _ {E : Type 0} where
             updates = λ p. ap (λ x. x ++ cond (same_part at p) [] []) (u.updates p) ∙ (no_more (same_part at p) ∙ sym (nothing_changed site parts p));
             count = let k = u.count in omega arith;
           },
-          record { tries = u_tries u; votes = u_votes u; undecided = u.undecided; kept = u.kept; time = u.time },
+          record { tries = u_tries u; votes = u_votes u; undecided = u.undecided; ungiven = u.ungiven; time = u.time },
         )
       where
         no_more : (b : Bool) → cond {A = List (Upd E)} b [] [] ≡ []

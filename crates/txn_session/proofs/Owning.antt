@@ -44,7 +44,7 @@ module _ {E : Type 0} where
     pub tries : (p : PartId) → tried run t p ≡ false
     pub votes : (p : PartId) → voted run t p ≡ false
     pub undecided : decide_tried run t ≡ false
-    pub kept : gave_up run t ≡ false
+    pub ungiven : gave_up run t ≡ false
     pub time : time_of run t ≡ 0
 
   -- an event that doesn't name t
@@ -69,7 +69,7 @@ module _ {E : Type 0} where
   silent other t h = record { begins = refl; changes = refl; tries = refl; votes = refl; decides = refl; aborts = refl }
 
   pub untold : (run : List (Entry E)) (t : TxId) → is_told_of run t ≡ false → IsUntold run t
-  untold [] t h = record { begun = refl; updates = λ p. refl; count = refl; tries = λ p. refl; votes = λ p. refl; undecided = refl; kept = refl; time = refl }
+  untold [] t h = record { begun = refl; updates = λ p. refl; count = refl; tries = λ p. refl; votes = λ p. refl; undecided = refl; ungiven = refl; time = refl }
   untold (e ∷ run) t h =
       let a = or_parts (names e.event t) (is_told_of run t) h in
       let s = silent e.event t a.0 in
@@ -80,7 +80,7 @@ module _ {E : Type 0} where
         tries = λ p. both_off _ _ (and_right (same_part e.at p) _ s.tries) (u.tries p);
         votes = λ p. both_off _ _ (and_right (same_part e.at p) _ s.votes) (u.votes p);
         undecided = both_off _ _ s.decides u.undecided;
-        kept = both_off _ _ s.aborts u.kept;
+        ungiven = both_off _ _ s.aborts u.ungiven;
         time = cond-false _ (max (time_shown e.event) (time_of run t)) (time_of run t) s.votes ∙ u.time;
       }
 

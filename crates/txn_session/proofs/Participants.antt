@@ -9,7 +9,7 @@ use Rattle.world_model.specs.lines.Places.{partitions, first_of, home}
 use Rattle.world_model.specs.rules.Plan.{is_some_update, updates_at}
 use Rattle.world_model.specs.rules.World.{snapshot_of, is_own, changes_of, participants_of, lead_of}
 use Rattle.txn_session.specs.Calls.{Call, entries}
-use Rattle.txn_session.specs.Session.{Txn, updates_of, stands_at, numbers_from, participants}
+use Rattle.txn_session.specs.Session.{Txn, updates_of, is_placed_at, numbers_from, participants}
 use Rattle.txn_session.specs.Holds.{HoldsTxn, changed_at, has, has_place}
 use Rattle.txn_session.proofs.Updating.{place_within}
 
@@ -99,12 +99,12 @@ module _ {E : Type 0} where
   some_at : (parts q : ℕ) (us : List (Upd E)) → 1 ≤ parts → is_some_update (updates_of parts us q) ≡ true → (1 ≤ q) × (q ≤ parts)
   some_at parts q [] k h = absurd (true≢false (sym h))
   some_at parts q (u ∷ us) k h = ⊎_elim
-      (λ (e : stands_at parts q u ≡ true).
+      (λ (e : is_placed_at parts q u ≡ true).
       let w = place_within u.object.bucket u.object.key parts k in
       let is = eqb-true _ q e in
       (subst (λ n. 1 ≤ n) is w.0, subst (λ n. n ≤ parts) is w.1))
-      (λ (e : stands_at parts q u ≡ false). some_at parts q us k (ap is_some_update (sym (cond-false _ (u ∷ updates_of parts us q) (updates_of parts us q) e)) ∙ h))
-      (cases_Bool (stands_at parts q u))
+      (λ (e : is_placed_at parts q u ≡ false). some_at parts q us k (ap is_some_update (sym (cond-false _ (u ∷ updates_of parts us q) (updates_of parts us q) e)) ∙ h))
+      (cases_Bool (is_placed_at parts q u))
 
   pub ascend_participants : (parts : ℕ) (us : List (Upd E)) → Ascend (participants parts us)
   ascend_participants parts us = ascend_filter (λ p. is_some_update (updates_of parts us p)) (numbers_from 1 parts) (ascend_numbers 1 parts)

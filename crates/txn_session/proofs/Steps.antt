@@ -89,7 +89,7 @@ module _ {E : Type 0} (sites parts : ℕ) (name : List ℕ) (site : ℕ) (txn : 
         lead = sym (lead_is sites parts name site txn run t d ds all_are);
         here = h.votes (at_site site d) ∙ and_true _ _ (eq-eqb site site refl) (has_first d ds);
         all = λ q k. h.votes q ∙ (ap (λ l. has_place site l q) all_are ∙ takes_place sites parts name site txn run t some_parts q k);
-        kept = h.kept;
+        ungiven = h.ungiven;
         once = h.undecided;
         vector = v ∙ vector_is n h.time;
       };
@@ -150,7 +150,7 @@ module _ {E : Type 0} where
             tries = λ q. one_more (same_tx u t) done p q (tried (entries run) t q) me (h.tries q);
             votes = λ q. one_more (same_tx u t) done p q (voted (entries run) t q) me (h.votes q);
             undecided = h.undecided;
-            kept = h.kept;
+            ungiven = h.ungiven;
             time = cond-true _ (max m (time_of (entries run) t)) (time_of (entries run) t) me ∙ ap (max m) h.time;
           }
       prepare_step (Cut (Prepared u v k x m)) s l w done left n a h = moves (called by (at_site site p) (Cut (Prepared u v k x m))) done refl (gives_up done (p ∷ left) n h)

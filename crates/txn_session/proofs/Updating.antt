@@ -23,7 +23,7 @@ use Rattle.world_model.specs.lines.Places.{IsPlace}
 use Rattle.world_model.specs.rules.Plan.{updates_at, update_count}
 use Rattle.world_model.specs.rules.Lines.{session_of, step_shown}
 use Rattle.txn_session.specs.Calls.{Call, entries, called, IsLegal, IsAllowed, MayCall, GoesOn, Changes}
-use Rattle.txn_session.specs.Session.{Txn, Open, SessionState, doing_so, own_updates, updates_of, stands_at, place_in}
+use Rattle.txn_session.specs.Session.{Txn, Open, SessionState, doing_so, own_updates, updates_of, is_placed_at, place_in}
 use Rattle.clocksi_commit.specs.Commit.{Committing}
 use Rattle.txn_session.specs.declared.session.Stage.{Stage}
 use Rattle.txn_session.specs.declared.session.Stage.TheVariants as stage
@@ -51,9 +51,9 @@ module _ {E : Type 0} where
       let rest = own_at parts us o in
       ⊎_elim
       (λ (k : same_object u.object o ≡ true).
-      let here : stands_at parts p u ≡ true = eq-eqb _ _ (ap (λ x. place_of x.bucket x.key parts) (same_object-true u.object o k)) in
+      let here : is_placed_at parts p u ≡ true = eq-eqb _ _ (ap (λ x. place_of x.bucket x.key parts) (same_object-true u.object o k)) in
       cond-true _ (u ∷ own_updates us o) (own_updates us o) k ∙ (ap (λ l. u ∷ l) rest ∙ (sym (cond-true _ (u ∷ own_updates (updates_of parts us p) o) (own_updates (updates_of parts us p) o) k) ∙ ap (λ l. own_updates l o) (sym (cond-true _ (u ∷ updates_of parts us p) (updates_of parts us p) here)))))
-      (λ (k : same_object u.object o ≡ false). cond-false _ (u ∷ own_updates us o) (own_updates us o) k ∙ (rest ∙ passed (stands_at parts p u) u (updates_of parts us p) o k))
+      (λ (k : same_object u.object o ≡ false). cond-false _ (u ∷ own_updates us o) (own_updates us o) k ∙ (rest ∙ passed (is_placed_at parts p u) u (updates_of parts us p) o k))
       (cases_Bool (same_object u.object o))
     where
       passed : (b : Bool) (u : Upd E) (l : List (Upd E)) (o : ObjectId) → same_object u.object o ≡ false → own_updates l o ≡ own_updates (cond b (u ∷ l) l) o
@@ -61,11 +61,11 @@ module _ {E : Type 0} where
       passed false u l o k = refl
 
   -- one update more
-  pub changed_more : (site parts : ℕ) (us : List (Upd E)) (x : Upd E) (p : PartId) → changed_at site parts (us ++ x ∷ []) p ≡ changed_at site parts us p ++ cond (site == p.site && stands_at parts p.part x) (x ∷ []) []
+  pub changed_more : (site parts : ℕ) (us : List (Upd E)) (x : Upd E) (p : PartId) → changed_at site parts (us ++ x ∷ []) p ≡ changed_at site parts us p ++ cond (site == p.site && is_placed_at parts p.part x) (x ∷ []) []
   changed_more site parts us x p = by_site (site == p.site)
     where
-      by_site : (b : Bool) → cond b (updates_of parts (us ++ x ∷ []) p.part) [] ≡ cond b (updates_of parts us p.part) [] ++ cond (b && stands_at parts p.part x) (x ∷ []) []
-      by_site true = filter-append (stands_at parts p.part) us (x ∷ [])
+      by_site : (b : Bool) → cond b (updates_of parts (us ++ x ∷ []) p.part) [] ≡ cond b (updates_of parts us p.part) [] ++ cond (b && is_placed_at parts p.part x) (x ∷ []) []
+      by_site true = filter-append (is_placed_at parts p.part) us (x ∷ [])
       by_site false = refl
 
   here_is : (site parts : ℕ) (us : List (Upd E)) (q : ℕ) → changed_at site parts us (record { site = site; part = q }) ≡ updates_of parts us q
@@ -122,7 +122,7 @@ module _ {E : Type 0} where
                 ∙ ((λ i. h.updates p i ++ cond (same_part at p) (is i ∷ []) []) ∙ sym (changed_more s.site s.parts txn.updates new p));
             count = ap (λ b. update_count (entries run) txn.tx + length (cond b (x ∷ []) [])) me ∙ (one_more (update_count (entries run) txn.tx) (length txn.updates) h.count x ∙ sym (length-append txn.updates (new ∷ [])));
           },
-          record { tries = λ p. and_off (same_part at p) _ ∙ u.tries p; votes = λ p. and_off (same_part at p) _ ∙ u.votes p; undecided = u.undecided; kept = u.kept; time = u.time },
+          record { tries = λ p. and_off (same_part at p) _ ∙ u.tries p; votes = λ p. and_off (same_part at p) _ ∙ u.votes p; undecided = u.undecided; ungiven = u.ungiven; time = u.time },
         )
       where
         one_more : (a b : ℕ) → a ≡ b → (y : Upd E) → a + length (y ∷ []) ≡ b + length (y ∷ [])
@@ -296,5 +296,5 @@ module _ {E : Type 0} where
       let w = d ∙ sym (ap (λ x. updated x o effect) od) in
       (λ i. doing_so (v i) (w i))
 
-  pub kept_is : (u s : SessionState E) → u ≡ s → (txn : Txn E) (k : Stage) (us : List (Upd E)) (lead : ℕ) (commit : Committing) → u.doing ≡ doing_in k txn lead commit → us ≡ txn.updates → doing_so u (doing_in k (record { tx = txn.tx; s = txn.s; by = txn.by; updates = us }) lead commit) ≡ s
-  kept_is u s v txn k us lead commit d l = (λ i. doing_so u (doing_in k (record { tx = txn.tx; s = txn.s; by = txn.by; updates = l i }) lead commit)) ∙ (ap (λ x. doing_so u x) (sym d) ∙ v)
+  pub stage_is : (u s : SessionState E) → u ≡ s → (txn : Txn E) (k : Stage) (us : List (Upd E)) (lead : ℕ) (commit : Committing) → u.doing ≡ doing_in k txn lead commit → us ≡ txn.updates → doing_so u (doing_in k (record { tx = txn.tx; s = txn.s; by = txn.by; updates = us }) lead commit) ≡ s
+  stage_is u s v txn k us lead commit d l = (λ i. doing_so u (doing_in k (record { tx = txn.tx; s = txn.s; by = txn.by; updates = l i }) lead commit)) ∙ (ap (λ x. doing_so u x) (sym d) ∙ v)

@@ -51,7 +51,7 @@ module _ {E : Type 0} where
     pub tries : (p : PartId) → tried (entries run) t p ≡ false
     pub votes : (p : PartId) → voted (entries run) t p ≡ false
     pub undecided : decide_tried (entries run) t ≡ false
-    pub kept : gave_up (entries run) t ≡ false
+    pub ungiven : gave_up (entries run) t ≡ false
     pub time : time_of (entries run) t ≡ 0
 
   -- these were asked for their votes and gave them, and these are left to ask
@@ -60,7 +60,7 @@ module _ {E : Type 0} where
     pub tries : (p : PartId) → tried (entries run) t p ≡ has_place site done p
     pub votes : (p : PartId) → voted (entries run) t p ≡ has_place site done p
     pub undecided : decide_tried (entries run) t ≡ false
-    pub kept : gave_up (entries run) t ≡ false
+    pub ungiven : gave_up (entries run) t ≡ false
     pub time : time_of (entries run) t ≡ n
 
   -- it is decided, at this time

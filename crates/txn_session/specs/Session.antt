@@ -83,12 +83,12 @@ module _ {E : Type 0} where
   abbrev pub own_updates : List (Upd E) → ObjectId → List (Upd E)
   own_updates updates o = filter (λ u. same_object u.object o) updates
 
-  abbrev pub stands_at : ℕ → ℕ → Upd E → Bool
-  stands_at parts p u = place_of u.object.bucket u.object.key parts == p
+  abbrev pub is_placed_at : ℕ → ℕ → Upd E → Bool
+  is_placed_at parts p u = place_of u.object.bucket u.object.key parts == p
 
   -- the updates at the partition with this number
   abbrev pub updates_of : ℕ → List (Upd E) → ℕ → List (Upd E)
-  updates_of parts updates p = filter (stands_at parts p) updates
+  updates_of parts updates p = filter (is_placed_at parts p) updates
 
   -- the participants: the numbers of the partitions with updates, in ascending order
   abbrev pub participants : ℕ → List (Upd E) → List ℕ

@@ -47,7 +47,7 @@ pub trait Store<C: Crdt> {
         at: PartId,
         r: u64,
     ) -> (Self::Pass, Result<Step, AllocError>)
-        requires reading { r ≤ end_of_time }
+        requires clock_time { r ≤ end_of_time }
         requires may { MayCall {E = C.Effect} sees numbers (sites self.old) (parts self.old) self.old pass None at
             (AskTick r) }
         ensures stays { stays self.old self.new }

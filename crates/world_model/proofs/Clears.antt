@@ -15,7 +15,7 @@ use Rattle.world_model.proofs.Intervals.{shown_has}
 use Rattle.world_model.proofs.Fate.{Fate}
 use Rattle.world_model.proofs.Leases.{Leases}
 use Rattle.world_model.proofs.Later.{once_pending}
-use Rattle.world_model.proofs.Kept.{law_plan}
+use Rattle.world_model.proofs.Upheld.{law_plan}
 use Rattle.world_model.proofs.Shows.{Shown, known_is, ready_is, shown_run}
 use Rattle.world_model.proofs.Hears.{Hears, stable_low, hears_run}
 

@@ -20,7 +20,7 @@ use Rattle.world_model.proofs.Names.{clash, off, part_cases, part_other}
 use Rattle.world_model.proofs.Moves.{last_is_decided}
 use Rattle.world_model.proofs.Fate.{Fate, decided_committed}
 use Rattle.world_model.proofs.Later.{once_pending}
-use Rattle.world_model.proofs.Kept.{law_plan}
+use Rattle.world_model.proofs.Upheld.{law_plan}
 use Rattle.world_model.proofs.Shows.{less_pending}
 
 module _ {E : Type 0} where

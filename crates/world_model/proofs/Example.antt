@@ -346,7 +346,7 @@ module _ {S E : Type 0} (kinds : Kinds S E) (known : kinds.has CounterPn ≡ tru
     run3c,
     record {
       place = place_here;
-      allowed = record { lead = refl; here = refl; all = all_voted; kept = refl; once = refl; vector = refl };
+      allowed = record { lead = refl; here = refl; all = all_voted; ungiven = refl; once = refl; vector = refl };
       fit = tt;
       step = (refl, refl, refl);
       others = others p3b here (cut (p3b here) (Decided first vector1));

@@ -378,7 +378,7 @@ module _ {S E : Type 0} (kinds : Kinds S E) (has : HaveBoth kinds) where
 
   pub run16 : IsWorldRun kinds 2 2 (r16 kinds) (p16 kinds)
   run16 = go kinds (r15 kinds) (p15 kinds) here1 (e16 kinds) (done (p15 kinds here1) (e16 kinds)) run15 place_here1
-      (record { lead = refl; here = refl; all = all_voted; kept = refl; once = refl; vector = refl })
+      (record { lead = refl; here = refl; all = all_voted; ungiven = refl; once = refl; vector = refl })
       tt
       (refl, refl, refl)
       tt

@@ -21,7 +21,7 @@ module _ {E : Type 0} where
   -- all that a decide asks for was given, and nobody may take it back
   pub record Full (plan : Plan E) (run : List (Entry E)) (t : TxId) : Type 0 where
     pub asked : decide_tried run t ≡ true
-    pub kept : gave_up run t ≡ false
+    pub ungiven : gave_up run t ≡ false
     pub lead : voted run t (plan.lead t) ≡ true
     pub all : (p : PartId) → takes_part plan t p ≡ true → voted run t p ≡ true
 
@@ -157,7 +157,7 @@ module _ {E : Type 0} where
     full_stays : (t : TxId) → Full plan run t → Full plan next t
     full_stays t u = record {
       asked = or_right _ _ u.asked;
-      kept = or_from _ _ (false_from_ne_true _ (λ h. clash u.asked (may_give_up plan run before at (attempt event) t mv.allowed h))) u.kept;
+      ungiven = or_from _ _ (false_from_ne_true _ (λ h. clash u.asked (may_give_up plan run before at (attempt event) t mv.allowed h))) u.ungiven;
       lead = or_right _ _ u.lead;
       all = λ p h. or_right _ _ (u.all p h);
     }
@@ -217,7 +217,7 @@ module _ {E : Type 0} where
         go old (Decide u c) b ih k = ⊎_elim
             (λ (e : same_tx u t ≡ true). subst (λ x. Full plan next x) (same_tx_is u t e) (record {
               asked = or_left _ _ (ap (λ a. is_decide a u) b.1 ∙ same_tx_refl u);
-              kept = or_from _ _ (ap (λ a. is_own_abort a u) b.1) b.3.kept;
+              ungiven = or_from _ _ (ap (λ a. is_own_abort a u) b.1) b.3.ungiven;
               lead = or_right _ _ (subst (λ x. voted run u x ≡ true) b.3.lead b.3.here);
               all = λ p l. or_right _ _ (b.3.all p l);
             }))

@@ -17,7 +17,7 @@ use Rattle.crdt_core.specs.declared.record.Record.{Record}
 use Rattle.crdt_core.specs.declared.record.Record.TheVariants.{Lease, Prepare, Decide, Finish, Abort, Batch}
 use Rattle.crdt_core.specs.Log.{end_of_time, ceiling, prepared, prepare_time, pending, taken, taken_at, logged_bound, grown, MayFind}
 use Rattle.crdt_core.specs.Parts.{lists, vector_in}
-use Rattle.crdt_core.specs.Fitting.{is_vector, stand_at, fits_commit, fits_part, are_apart, fits_message, fits_record, unfit_next, unfit}
+use Rattle.crdt_core.specs.Fitting.{is_vector, are_placed_at, fits_commit, fits_part, are_apart, fits_message, fits_record, unfit_next, unfit}
 use Rattle.crdt_core.specs.Log.{is_named_in, prepared_lead, prepared_snapshot}
 use Rattle.world_model.specs.rules.Event.{Event, Ticked, Began, Updated, Read, Prepared, Decided, Finished, Aborted, Sent, Took, Reported, Heard, Crashed, RestartCut, Restarted, Refused, Opened, Cut, Entry, attempt, is_prepare, time_shown, voted, is_decided, time_of, sent_count}
 use Rattle.world_model.proofs.Runs.{sent, IsRun}
@@ -37,7 +37,7 @@ use Rattle.world_model.proofs.Fate.{pending_parts, voted_tried}
 use Rattle.world_model.proofs.Later.{at_own, full_now, vote_in_time}
 use Rattle.world_model.proofs.Intervals.{numbered_shown, shown_has}
 use Rattle.world_model.proofs.Completeness.{IsBacked, zeros_at}
-use Rattle.world_model.proofs.Kept.{Kept, law_plan}
+use Rattle.world_model.proofs.Upheld.{Upheld, law_plan}
 use Rattle.world_model.proofs.Shows.{Shown, shown_run}
 use Rattle.world_model.proofs.Resuming.{batch_bound, leased_bound, if_bound}
 use Rattle.world_model.specs.events.Restarts.{is_some_part}
@@ -72,7 +72,7 @@ pub record PlanFits {E : Type 0} (plan : Plan E) : Type 0 where
   pub width : (t : TxId) (q : PartId) → takes_part plan t q ≡ true → length (plan.snapshot t) ≡ plan.sites
   pub low : (t : TxId) → IsLow (plan.snapshot t)
   pub part : (t : TxId) (q : PartId) → takes_part plan t q ≡ true → (1 ≤ t.part) × (t.part ≤ plan.parts)
-  pub stand : (t : TxId) (q : PartId) → stand_at plan.parts q.part (plan.updates t q) ≡ true
+  pub stand : (t : TxId) (q : PartId) → are_placed_at plan.parts q.part (plan.updates t q) ≡ true
   pub lead : (t : TxId) (q : PartId) → takes_part plan t q ≡ true → 1 ≤ q.part → q.part ≤ plan.parts → (1 ≤ (plan.lead t).part) × ((plan.lead t).part ≤ q.part)
 
 module _ {E : Type 0} (plan : Plan E) (id : PartId) where
@@ -130,7 +130,7 @@ module _ {E : Type 0} (plan : Plan E) (id : PartId) where
       (λ (e : same_tx x.tx t ≡ true).
       let p0 = and_parts (x.tx.site == m.from) _ fs.0 in
       let p1 = and_parts (is_vector plan.sites x.c) _ p0.1 in
-      let p2 = and_parts (stand_at plan.parts m.part x.updates) _ p1.1 in
+      let p2 = and_parts (are_placed_at plan.parts m.part x.updates) _ p1.1 in
       let p3 = and_parts (ltb m.lo (entry x.c m.from)) _ p2.1 in
       (subst (λ y. y.site ≡ m.from) (same_tx_is x.tx t e) (eqb-true x.tx.site m.from p0.0), subst (λ v. entry v m.from ≤ m.hi) (sym (cond-true _ x.c (vector_in xs t) e)) (leb-true (entry x.c m.from) m.hi p3.1)))
       (λ (e : same_tx x.tx t ≡ false).
@@ -269,7 +269,7 @@ module _ {E S : Type 0} (kinds : Kinds S E) (plan : Plan E) (pf : PlanFits plan)
     pub bounds : (p : PartId) → (parts p).up ≡ true → (j : ℕ) → IsOther plan.sites p.site j → logged_bound (parts p).log j ≤ entry (parts p).bounds j
     pub times : (t : TxId) → time_of run t ≤ end_of_time
 
-  module _ (run : List (Entry E)) (before after : PartId → PartState E) (at : PartId) (k : Kept kinds plan run before) (g : Good run before) (place : IsPlace plan.sites plan.parts at) where
+  module _ (run : List (Entry E)) (before after : PartId → PartState E) (at : PartId) (k : Upheld kinds plan run before) (g : Good run before) (place : IsPlace plan.sites plan.parts at) where
     abbrev log : List (Record E)
     log = (before at).log
 
@@ -293,7 +293,7 @@ module _ {E S : Type 0} (kinds : Kinds S E) (plan : Plan E) (pf : PlanFits plan)
         (and_from _ _ (ap (leb 1) al.lead ∙ le-leb 1 (plan.lead t).part lead.0)
         (and_from _ _ (ap (λ x. leb x at.part) al.lead ∙ le-leb (plan.lead t).part at.part lead.1)
         (and_from _ _ (ap (is_vector plan.sites) al.snapshot ∙ is_vector_from plan.sites (plan.snapshot t) (pf.width t at al.takes) (pf.low t))
-        (and_from _ _ (ap (stand_at plan.parts at.part) al.changes ∙ pf.stand t at)
+        (and_from _ _ (ap (are_placed_at plan.parts at.part) al.changes ∙ pf.stand t at)
         (and_from _ _ (lt-ltb (entry s at.site) n low) (le-leb n (ceiling old) top)))))))))
 
     prepare_good : (t : TxId) (s : List ℕ) (l n : ℕ) (w : List (Upd E)) → MayPrepare plan run at t s l w → MayDo kinds plan.sites plan.parts at (before at) (Prepared t s l w n) → GoodAfter plan at log (lease_for log n ++ Prepare t l n s w ∷ [])
@@ -393,14 +393,14 @@ module _ {E S : Type 0} (kinds : Kinds S E) (plan : Plan E) (pf : PlanFits plan)
         let takes : (t : TxId) → lists m.parts t ≡ true → takes_part plan t q ≡ true = λ t h. (and_parts (takes_part plan t q) _ (and_parts (is_decided run t) _ (sym (x.members t) ∙ h)).1).0 in
         let own : (t : TxId) → lists m.parts t ≡ true → entry (vec t) m.from ≡ time_of run t = λ t h. ap (entry (vec t)) (plan.at_home t q (takes t h)) ∙ at_own plan t q (time_of run t) (takes t h) in
         let upto : (t : TxId) → lists m.parts t ≡ true → leb (entry (vec t) m.from) m.hi ≡ true = λ t h. ap (λ n. leb n m.hi) (own t h) ∙ (and_parts (ltb m.lo (time_of run t)) _ (and_parts (takes_part plan t q) _ (and_parts (is_decided run t) _ (sym (x.members t) ∙ h)).1).1).1 in
-        let part : (t : TxId) → lists (y ∷ ys) t ≡ true → (t.site == m.from && (is_vector plan.sites (vec t) && (stand_at plan.parts at.part (ups t) && (ltb b (entry (vec t) m.from) && leb (entry (vec t) m.from) m.hi)))) ≡ true = λ t h.
+        let part : (t : TxId) → lists (y ∷ ys) t ≡ true → (t.site == m.from && (is_vector plan.sites (vec t) && (are_placed_at plan.parts at.part (ups t) && (ltb b (entry (vec t) m.from) && leb (entry (vec t) m.from) m.hi)))) ≡ true = λ t h.
         let h0 = facts t h in
         let u = takes t h0.0 in
         and_from _ _ (eq-eqb t.site m.from (sym (plan.at_home t q u)))
         (and_from _ _ (is_vector_from plan.sites (vec t) (length_replaced (plan.snapshot t) t.site (time_of run t) ∙ pf.width t q u) (low_set (plan.snapshot t) (t.site - 1) (time_of run t) (pf.low t) (g.times t)))
         (and_from _ _ (pf.stand t q) (and_from _ _ h0.1 (upto t h0.0)))) in
-        let test = λ (t : TxId) (c : List ℕ) (us : List (Upd E)). t.site == m.from && (is_vector plan.sites c && (stand_at plan.parts m.part us && (ltb b (entry c m.from) && leb (entry c m.from) m.hi))) in
-        let all_fit : list_all (fits_part plan.sites plan.parts m') (y ∷ ys) ≡ true = all_parts vec ups test (y ∷ ys) exact (λ t h. ap (λ n. t.site == m.from && (is_vector plan.sites (vec t) && (stand_at plan.parts n (ups t) && (ltb b (entry (vec t) m.from) && leb (entry (vec t) m.from) m.hi)))) al.part ∙ part t h) in
+        let test = λ (t : TxId) (c : List ℕ) (us : List (Upd E)). t.site == m.from && (is_vector plan.sites c && (are_placed_at plan.parts m.part us && (ltb b (entry c m.from) && leb (entry c m.from) m.hi))) in
+        let all_fit : list_all (fits_part plan.sites plan.parts m') (y ∷ ys) ≡ true = all_parts vec ups test (y ∷ ys) exact (λ t h. ap (λ n. t.site == m.from && (is_vector plan.sites (vec t) && (are_placed_at plan.parts n (ups t) && (ltb b (entry (vec t) m.from) && leb (entry (vec t) m.from) m.hi)))) al.part ∙ part t h) in
         let apart : are_apart (y ∷ ys) ≡ true = ap are_apart (sym e) ∙ apart_above m.from b m.parts (stream_parts vec ups m.from m.parts x.exact x.order) in
         let fresh : (t : TxId) → lists (y ∷ ys) t ≡ true → is_named_in log t ≡ false = λ t h. unheld number m al up t (ap (λ l. lists l t) e ∙ h) in (
           and_from _ _

@@ -18,7 +18,7 @@ use Rattle.world_model.specs.events.Handed.{HandedAt, AreHanded, AreNew}
 use Rattle.world_model.specs.rules.World.{is_begin, begin_vector, begun, snapshot_of, is_own, changes_of, plan_of, IsWorldRun}
 use Rattle.world_model.proofs.Names.{off}
 use Rattle.world_model.proofs.Intervals.{shown_has}
-use Rattle.world_model.proofs.Kept.{law_plan}
+use Rattle.world_model.proofs.Upheld.{law_plan}
 
 some_more : {E : Type 0} (xs ys : List (Upd E)) → is_some_update (xs ++ ys) ≡ (is_some_update xs || is_some_update ys)
 some_more [] ys = refl

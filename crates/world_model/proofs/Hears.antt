@@ -26,7 +26,7 @@ use Rattle.world_model.proofs.Intervals.{numbered_shown, shown_has}
 use Rattle.world_model.proofs.Completeness.{numbered, rows_at}
 use Rattle.world_model.proofs.Leases.{Leases}
 use Rattle.world_model.proofs.Fate.{Fate}
-use Rattle.world_model.proofs.Kept.{law_plan}
+use Rattle.world_model.proofs.Upheld.{law_plan}
 use Rattle.world_model.proofs.Shows.{Shown, shown_run, own_bound}
 
 join_at : (u v : List ℕ) (i : ℕ) → length u ≡ length v → slice_index (join u v) i ≡ max (slice_index u i) (slice_index v i)

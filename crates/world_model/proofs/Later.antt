@@ -46,7 +46,7 @@ module _ {E : Type 0} where
     never_aborted p m t i k = let l = parts (plan.lead t) in ⊎_elim
         (λ (e : p ≡ plan.lead t). let j = subst (λ x. Finds (parts x) m) e i in f.apart (plan.lead t) m t j (f.stays m t j k))
         (λ (ne : p ≡ plan.lead t → ⊥). false_from_ne_true _ (λ a. ⊎_elim
-        (λ (g : gave_up run t ≡ true). clash g (full_now t k).kept)
+        (λ (g : gave_up run t ≡ true). clash g (full_now t k).ungiven)
         (λ (g : (x : List (Record E)) → Finds l x → aborted x t ≡ true). clash (g l.log (image_log l)) (f.apart (plan.lead t) l.log t (image_log l) (f.stays l.log t (image_log l) k)))
         (f.lost p m t ne i a)))
         (part_cases p (plan.lead t))

@@ -10,7 +10,7 @@ use Rattle.site_vector.specs.Order.{same_part_is, same_tx_is}
 use Rattle.site_vector.specs.Vector.{entry}
 use Rattle.crdt_core.specs.Placing.{place_of}
 use Rattle.crdt_core.specs.Log.{end_of_time}
-use Rattle.crdt_core.specs.Fitting.{stand_at}
+use Rattle.crdt_core.specs.Fitting.{are_placed_at}
 use Rattle.world_model.specs.lines.Dependency.{joined}
 use Rattle.world_model.specs.rules.Dependency.{ShowsVector, WasVector, WereVectors}
 use Rattle.world_model.specs.rules.Event.{Event, Began, Updated, Prepared, Decided, Entry, attempt, is_prepare, time_shown, time_of}
@@ -27,7 +27,7 @@ use Rattle.world_model.specs.rules.Fate.{TellFates}
 use Rattle.world_model.specs.lines.Lawful.{IsLawful}
 use Rattle.world_model.proofs.Names.{off}
 use Rattle.world_model.proofs.Completeness.{numbered}
-use Rattle.world_model.proofs.Kept.{Kept, law_plan, right_all, facts_of, strict, closed, never_both, past_end}
+use Rattle.world_model.proofs.Upheld.{Upheld, law_plan, right_all, facts_of, strict, closed, never_both, past_end}
 use Rattle.world_model.proofs.CausalStores.{causal_stores}
 use Rattle.world_model.proofs.Shows.{shown_run, show_events}
 use Rattle.world_model.proofs.Hears.{fresh_events}
@@ -55,8 +55,8 @@ low_none i = omega arith
 
 module _ {E : Type 0} where
   -- what is kept under the run's own plan
-  pub kept_here : {S : Type 0} (kinds : Kinds S E) (sites parts : ℕ) (run : List (Entry E)) (state : PartId → PartState E) → IsWorldRun kinds sites parts run state → Kept kinds (plan_of sites parts run) run state
-  kept_here kinds sites parts run state r = law_plan kinds (plan_of sites parts run) run state (fits kinds sites parts run state r run (all_fresh kinds sites parts run state r) (suffix_all run))
+  pub upheld_here : {S : Type 0} (kinds : Kinds S E) (sites parts : ℕ) (run : List (Entry E)) (state : PartId → PartState E) → IsWorldRun kinds sites parts run state → Upheld kinds (plan_of sites parts run) run state
+  upheld_here kinds sites parts run state r = law_plan kinds (plan_of sites parts run) run state (fits kinds sites parts run state r run (all_fresh kinds sites parts run state r) (suffix_all run))
 
   record Lows (sites : ℕ) (run : List (Entry E)) : Type 0 where
     pub snaps : (t : TxId) → IsLow (snapshot_of run t)
@@ -99,7 +99,7 @@ module _ {E : Type 0} where
       (λ (h : sites ≤ i). let w = b.width in let e = past_end s i (omega arith) in omega arith)
       (cases_lt i sites)
 
-  vector_low : {S : Type 0} (kinds : Kinds S E) (sites parts : ℕ) (run : List (Entry E)) (before after : PartId → PartState E) (at : PartId) (event : Event E) → IsPlace sites parts at → Lows sites run → IsAllowed (plan_of sites parts ((record { at = at; event = event }) ∷ run)) run before at (attempt event) → PartStep kinds sites parts at (before at) event (after at) → Kept kinds (plan_of sites parts ((record { at = at; event = event }) ∷ run)) ((record { at = at; event = event }) ∷ run) after → IsLow (begin_vector event)
+  vector_low : {S : Type 0} (kinds : Kinds S E) (sites parts : ℕ) (run : List (Entry E)) (before after : PartId → PartState E) (at : PartId) (event : Event E) → IsPlace sites parts at → Lows sites run → IsAllowed (plan_of sites parts ((record { at = at; event = event }) ∷ run)) run before at (attempt event) → PartStep kinds sites parts at (before at) event (after at) → Upheld kinds (plan_of sites parts ((record { at = at; event = event }) ∷ run)) ((record { at = at; event = event }) ∷ run) after → IsLow (begin_vector event)
   vector_low kinds sites parts run before after at (Began who dep t s) place l al st k =
       let next : List (Entry E) = (record { at = at; event = Began who dep t s }) ∷ run in
       let plan = plan_of sites parts next in
@@ -123,7 +123,7 @@ module _ {E : Type 0} where
   lows kinds sites parts (e ∷ run) state r =
       let l = lows kinds sites parts run r.0 r.1 in
       let place : IsPlace sites parts e.at = record { least_site = r.2.place.least_site; most_site = r.2.place.most_site; least_part = r.2.place.least_part; most_part = r.2.place.most_part } in
-      let k = kept_here kinds sites parts (e ∷ run) state r in
+      let k = upheld_here kinds sites parts (e ∷ run) state r in
       let v = vector_low kinds sites parts run r.0 state e.at e.event place l r.2.allowed r.2.step k in record {
         snaps = λ t. low_if (is_begin e.event t) (begin_vector e.event) (snapshot_of run t) v (l.snaps t);
         told = λ u w. ⊎_elim (λ (x : ShowsVector e.event u). told_low sites parts run r.0 e.at e.event u l r.2.allowed v x) (λ (x : WasVector run u). l.told u x) w;
@@ -145,26 +145,26 @@ module _ {E : Type 0} where
       (or_cases _ _ h)
 
   -- updates stand where they were made
-  change_stands : (plan : Plan E) (run : List (Entry E)) (p q : PartId) (event : Event E) (t : TxId) → HandedAt plan run p event → stand_at plan.parts q.part (cond (same_part p q) (change_by event t) []) ≡ true
-  change_stands plan run p q (Updated u s o own op read x stamp) t h = go (same_part p q) (same_tx u t) refl
+  change_placed : (plan : Plan E) (run : List (Entry E)) (p q : PartId) (event : Event E) (t : TxId) → HandedAt plan run p event → are_placed_at plan.parts q.part (cond (same_part p q) (change_by event t) []) ≡ true
+  change_placed plan run p q (Updated u s o own op read x stamp) t h = go (same_part p q) (same_tx u t) refl
     where
-      go : (b c : Bool) → same_part p q ≡ b → stand_at plan.parts q.part (cond b (cond c (x ∷ []) []) []) ≡ true
+      go : (b c : Bool) → same_part p q ≡ b → are_placed_at plan.parts q.part (cond b (cond c (x ∷ []) []) []) ≡ true
       go true true e =
           let object : place_of x.object.bucket x.object.key plan.parts ≡ q.part = ap (λ y. place_of y.bucket y.key plan.parts) h.1 ∙ h.0.part ∙ ap (λ y. y.part) (same_part_is p q e) in
           and_from _ _ (eq-eqb (place_of x.object.bucket x.object.key plan.parts) q.part object) refl
       go true false e = refl
       go false c e = refl
-  change_stands plan run p q event t h = none (same_part p q)
+  change_placed plan run p q event t h = none (same_part p q)
     where
-      none : (b : Bool) → stand_at {E = E} plan.parts q.part (cond b [] []) ≡ true
+      none : (b : Bool) → are_placed_at {E = E} plan.parts q.part (cond b [] []) ≡ true
       none true = refl
       none false = refl
 
-  updates_stand : (plan : Plan E) (run : List (Entry E)) → AreHanded plan run → (t : TxId) (q : PartId) → stand_at plan.parts q.part (updates_at run t q) ≡ true
-  updates_stand plan [] h t q = refl
-  updates_stand plan (e ∷ run) h t q =
+  updates_placed : (plan : Plan E) (run : List (Entry E)) → AreHanded plan run → (t : TxId) (q : PartId) → are_placed_at plan.parts q.part (updates_at run t q) ≡ true
+  updates_placed plan [] h t q = refl
+  updates_placed plan (e ∷ run) h t q =
       list_all-append (λ u. place_of u.object.bucket u.object.key plan.parts == q.part) (updates_at run t q) (cond (same_part e.at q) (change_by e.event t) [])
-      ∙ and_from _ _ (updates_stand plan run h.1 t q) (change_stands plan run e.at q e.event t h.0)
+      ∙ and_from _ _ (updates_placed plan run h.1 t q) (change_placed plan run e.at q e.event t h.0)
 
   pub plan_fits : {S : Type 0} (kinds : Kinds S E) (sites parts : ℕ) (run : List (Entry E)) (state : PartId → PartState E) → IsWorldRun kinds sites parts run state → PlanFits (plan_of sites parts run)
   plan_fits kinds sites parts run state r =
@@ -176,7 +176,7 @@ module _ {E : Type 0} where
         width = λ t q h. snapshot_width kinds sites parts run state r t (here t q h).begun;
         low = (lows kinds sites parts run state r).snaps;
         part = λ t q h. begun_place kinds sites parts run state r t (here t q h).begun;
-        stand = λ t q. ap (stand_at parts q.part) (planned t q) ∙ updates_stand plan run handed t q;
+        stand = λ t q. ap (are_placed_at parts q.part) (planned t q) ∙ updates_placed plan run handed t q;
         lead = λ t q h a b. least_first t.site 1 parts (home t) q (λ p. takes_part plan t p) (plan.at_home t q h) a (omega arith) h;
       }
 

@@ -12,7 +12,7 @@ pub mod AnsweredReads
 pub mod Folds
 pub mod Histories
 pub mod CausalStores
-pub mod Kept
+pub mod Upheld
 pub mod Ups
 pub mod Shows
 pub mod Hears
@@ -30,7 +30,7 @@ pub mod Stories
 pub mod LineViews
 pub mod LineChanges
 pub mod LineFaults
-pub mod LineReading
+pub mod LineReads
 pub mod LineCounts
 pub mod LineLaws
 pub mod Leads

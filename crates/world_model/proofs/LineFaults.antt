@@ -18,9 +18,9 @@ use Rattle.world_model.specs.lines.Restarts.{last_decided, with_done, fault_afte
 use Rattle.world_model.proofs.Names.{off}
 use Rattle.world_model.proofs.LineViews.{now_is, pending_is, prepare_time_is, last_is}
 
-pub kept : {A : Type 0} (b : Bool) (x : A) → cond b x x ≡ x
-kept true x = refl
-kept false x = refl
+pub either_way : {A : Type 0} (b : Bool) (x : A) → cond b x x ≡ x
+either_way true x = refl
+either_way false x = refl
 
 module _ {E : Type 0} where
   -- a prepare that was cut off would have drawn this time
@@ -44,7 +44,7 @@ module _ {E : Type 0} where
   pend_done run p (Aborted u own) drawn t k = pending_is (done_at p (Aborted u own) run) p t
   pend_done run p (Took number m) drawn t k = pending_is (done_at p (Took number m) run) p t
   pend_done run p (Restarted n b named listed) drawn t k = off k
-  pend_done run p what drawn t k = pending_is run p t ∙ sym (kept (same_part p p) (pending_shown run p t))
+  pend_done run p what drawn t k = pending_is run p t ∙ sym (either_way (same_part p p) (pending_shown run p t))
 
   pub since_done : (run : List (Entry E)) (p : PartId) (what : Event E) (drawn : ℕ) (t : TxId) → is_call what ≡ true → IsDrawn what drawn → prepare_time (with_done (call_cut what) drawn p (shown_lines run)) p t ≡ pending_time (done_at p what run) p t
   since_done run p (Prepared u s l w n) drawn t k d = λ i. cond (same_part p p) (cond (same_tx u t) (d i) (prepare_time_is run p t i)) (prepare_time_is run p t i)
@@ -53,7 +53,7 @@ module _ {E : Type 0} where
   since_done run p (Aborted u own) drawn t k d = prepare_time_is (done_at p (Aborted u own) run) p t
   since_done run p (Took number m) drawn t k d = prepare_time_is (done_at p (Took number m) run) p t
   since_done run p (Restarted n b named listed) drawn t k d = off k
-  since_done run p what drawn t k d = prepare_time_is run p t ∙ sym (kept (same_part p p) (pending_time run p t))
+  since_done run p what drawn t k d = prepare_time_is run p t ∙ sym (either_way (same_part p p) (pending_time run p t))
 
   pub last_done : (run : List (Entry E)) (p : PartId) (what : Event E) (drawn : ℕ) → is_call what ≡ true → last_decided (with_done (call_cut what) drawn p (shown_lines run)) p ≡ last_shown (done_at p what run) p
   last_done run p (Prepared u s l w n) drawn k = last_is (done_at p (Prepared u s l w n) run) p
@@ -62,7 +62,7 @@ module _ {E : Type 0} where
   last_done run p (Aborted u own) drawn k = last_is (done_at p (Aborted u own) run) p
   last_done run p (Took number m) drawn k = last_is (done_at p (Took number m) run) p
   last_done run p (Restarted n b named listed) drawn k = off k
-  last_done run p what drawn k = last_is run p ∙ sym (kept (same_part p p) (last_shown run p))
+  last_done run p what drawn k = last_is run p ∙ sym (either_way (same_part p p) (last_shown run p))
 
   time_same : (run : List (Entry E)) (p : PartId) (what : Event E) → ClockIs run p (Cut what) → IsDrawn what (now (shown_lines run) p + 1)
   time_same run p (Prepared u s l w n) h = ap (λ x. x + 1) (now_is run p) ∙ sym h

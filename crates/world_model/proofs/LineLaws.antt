@@ -75,8 +75,8 @@ use Rattle.world_model.proofs.LineViews.{now_is, missed_is, in_history_is, snaps
 use Rattle.world_model.proofs.LineChanges.{to_change, count_is, takes_part_is, touches_is, first_site, lead_is}
 use Rattle.world_model.proofs.Orders.{stamp_same, none_due, is_in, in_filter, once_filter, filter_in}
 use Rattle.world_model.proofs.LineCounts.{parts_counted, both_ways, found_in, any_in, some_above, part_above, above_part}
-use Rattle.world_model.proofs.LineReading.{history_has, history_once, update_is, updates_at_place, updates_is, grows, all_put}
-use Rattle.world_model.proofs.LineFaults.{kept, done_at, pend_done, since_done, last_done, fault_is}
+use Rattle.world_model.proofs.LineReads.{history_has, history_once, update_is, updates_at_place, updates_is, grows, all_put}
+use Rattle.world_model.proofs.LineFaults.{either_way, done_at, pend_done, since_done, last_done, fault_is}
 
 module _ {E : Type 0} where
   clock_line : (run : List (Entry E)) (p : PartId) (event : Event E) → ClocksAre run → ClockIs run p event → clock.ShowsTime (shown_lines run) p (call_of event) (step_shown run p event)
@@ -444,7 +444,7 @@ module _ {E : Type 0} where
     brought_done some p j (Finished u c) drawn k h rs br = ap (λ o. cond (same_part p p) o o) br
     brought_done some p j (Aborted u own) drawn k h rs br = ap (λ o. cond (same_part p p) o o) br
     brought_done some p j (Restarted n b named listed) drawn k h rs br = off k
-    brought_done some p j what drawn k h rs br = br ∙ sym (kept (same_part p p) (brought some p j))
+    brought_done some p j what drawn k h rs br = br ∙ sym (either_way (same_part p p) (brought some p j))
 
     resumed_line : (some : List (Entry E)) (p : PartId) (n : ℕ) (b : List ℕ) (named : Option TxId) (listed : List (TxId × ℕ)) → ClocksAre some → ((j : ℕ) → restarts.brought ls (shown_lines some) p j ≡ brought some p j) → EventsAre (IsRight kinds plan run) some → ResumesAt plan some p (Restarted n b named listed) → restarts.IsAsBefore sites ls (shown_lines some) p b named listed ⊎ ((call : Call) × (drawn : ℕ) × (restarts.faulted (shown_lines some) p ≡ Some (call, drawn)) × restarts.IsAsBefore sites ls (restarts.with_done call drawn p (shown_lines some)) p b named listed)
     resumed_line some p n b named listed cs br rs h = ⊎_elim

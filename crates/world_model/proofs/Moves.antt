@@ -260,8 +260,8 @@ module _ {E : Type 0} where
     votes_of event s t h new i = off h
 
     -- a decide that was answered stands in the log
-    decide_stands : (log : List (Record E)) (u : TxId) (c : List ℕ) → (pending log u || committed log u) ≡ true → committed (grown log (cond (pending log u) (Decide u c ∷ []) [])) u ≡ true
-    decide_stands log u c h = ⊎_elim
+    decide_lasts : (log : List (Record E)) (u : TxId) (c : List ℕ) → (pending log u || committed log u) ≡ true → committed (grown log (cond (pending log u) (Decide u c ∷ []) [])) u ≡ true
+    decide_lasts log u c h = ⊎_elim
         (λ (k : pending log u ≡ true). subst (λ x. committed (grown log (cond x (Decide u c ∷ []) [])) u ≡ true) (sym k) (or_left _ _ (same_tx_refl u)))
         (λ (k : pending log u ≡ false). subst (λ x. committed (grown log (cond x (Decide u c ∷ []) [])) u ≡ true) (sym k) (⊎_elim (λ (x : pending log u ≡ true). clash x k) (λ (x : committed log u ≡ true). x) (or_cases _ _ h)))
         (cases_Bool (pending log u))
@@ -269,7 +269,7 @@ module _ {E : Type 0} where
     decides_of : (event : Event E) → IsAllowed plan run before at (attempt event) → Step event → (t : TxId) → shows_decided event t ≡ true → (new : List (Record E)) → Finds (after at) new → (decided new t ≡ true) ⊎ ((at ≡ plan.lead t) × (committed new t ≡ true))
     decides_of (Decided u c) al s t h new i =
         let e = same_tx_is u t h in
-        inr (al.lead ∙ ap plan.lead e, ap (λ x. committed x t) (the_log (Decided u c) new s.2 i) ∙ subst (λ x. committed (grown (before at).log (records (before at) (Decided u c))) x ≡ true) e (decide_stands (before at).log u c s.1))
+        inr (al.lead ∙ ap plan.lead e, ap (λ x. committed x t) (the_log (Decided u c) new s.2 i) ∙ subst (λ x. committed (grown (before at).log (records (before at) (Decided u c))) x ≡ true) e (decide_lasts (before at).log u c s.1))
     decides_of (Restarted n b named listed) al s t h new i =
         let e : new ≡ (after at).log = subst (λ rs. MayFind (after at).log rs new) s.whole i in
         inl (last_is_decided new t (ap (λ o. is_named o t) (ap last_decided e ∙ sym s.last) ∙ h))

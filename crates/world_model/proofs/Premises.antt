@@ -22,10 +22,10 @@ use Rattle.world_model.proofs.Moves.{image_log, last_is_decided}
 use Rattle.world_model.proofs.Fate.{pending_parts, voted_tried, decided_committed}
 use Rattle.world_model.proofs.Later.{full_now}
 use Rattle.world_model.proofs.Intervals.{numbered_shown}
-use Rattle.world_model.proofs.Kept.{Kept, law_plan}
+use Rattle.world_model.proofs.Upheld.{Upheld, law_plan}
 use Rattle.world_model.proofs.Fitted.{good_run, named_good, unheld}
 use Rattle.world_model.proofs.Whole.{suffix_all, all_fresh, world_leases, fits, part_begun, tried_begun, begun_time, shown_begun}
-use Rattle.world_model.proofs.Law.{kept_here, plan_fits}
+use Rattle.world_model.proofs.Law.{upheld_here, plan_fits}
 
 module _ {E : Type 0} where
   shown_told : (run : List (Entry E)) (p : PartId) (event : Event E) (t : TxId) → WasShown run p event → names event t ≡ true → is_told_of run t ≡ true
@@ -35,7 +35,7 @@ module _ {E : Type 0} where
       (λ (x : WasShown run p event). or_right _ _ (shown_told run p event t x h))
       w
 
-  module _ {S : Type 0} (kinds : Kinds S E) (sites parts : ℕ) (run : List (Entry E)) (before : PartId → PartState E) (r : IsWorldRun kinds sites parts run before) (k : Kept kinds (plan_of sites parts run) run before) (told : (t : TxId) → is_told_of run t ≡ true → begun run t ≡ true) where
+  module _ {S : Type 0} (kinds : Kinds S E) (sites parts : ℕ) (run : List (Entry E)) (before : PartId → PartState E) (r : IsWorldRun kinds sites parts run before) (k : Upheld kinds (plan_of sites parts run) run before) (told : (t : TxId) → is_told_of run t ≡ true → begun run t ≡ true) where
     at_part : (at : PartId) (log : List (Record E)) (t : TxId) → Finds (before at) log → prepared log t ≡ true → begun run t ≡ true
     at_part at log t i h = tried_begun kinds sites parts run before t at r (k.fate.was_tried at log t i h)
 
@@ -102,7 +102,7 @@ module _ {E : Type 0} where
   told_begun kinds sites parts [] state r t h = off h
   told_begun kinds sites parts (e ∷ run) state r t h =
       let ih = told_begun kinds sites parts run r.0 r.1 in ⊎_elim
-      (λ (x : names e.event t ≡ true). event_begun kinds sites parts run r.0 r.1 (kept_here kinds sites parts run r.0 r.1) ih e.at e.event (state e.at) t r.2.allowed r.2.step x)
+      (λ (x : names e.event t ≡ true). event_begun kinds sites parts run r.0 r.1 (upheld_here kinds sites parts run r.0 r.1) ih e.at e.event (state e.at) t r.2.allowed r.2.step x)
       (λ (x : is_told_of run t ≡ true). or_right _ _ (ih t x))
       (or_cases _ _ h)
 

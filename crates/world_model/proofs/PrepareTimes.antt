@@ -29,11 +29,11 @@ use Rattle.world_model.proofs.Queue.{in_order}
 use Rattle.world_model.proofs.Moves.{image_log, grown_image, grown_last}
 use Rattle.world_model.proofs.Leases.{done_ceil, rises}
 use Rattle.world_model.proofs.Fate.{pending_parts}
-use Rattle.world_model.proofs.Kept.{Kept}
+use Rattle.world_model.proofs.Upheld.{Upheld}
 use Rattle.world_model.proofs.Shows.{Shown, shown_run, listed_is}
 use Rattle.world_model.proofs.LineViews.{pending_is, prepare_time_is}
 use Rattle.world_model.proofs.Whole.{suffix_all, all_fresh, fits}
-use Rattle.world_model.proofs.Law.{kept_here}
+use Rattle.world_model.proofs.Law.{upheld_here}
 use Rattle.world_model.proofs.Listed.{names_first, names_later}
 use Rattle.world_model.proofs.Waiting.{IsQueued, all_pending}
 
@@ -153,8 +153,8 @@ module _ {E : Type 0} where
     timely : (run : List (Entry E)) (state : PartId → PartState E) → IsWorldRun kinds sites parts run state → (p : PartId) → IsTimely (state p)
     timely [] state r p = subst IsTimely (sym (r p)) (record { images = λ m t i. subst (λ x. prepare_time x t ≤ ceiling x) (sym i) (omega arith); now = λ t u. omega arith })
     timely (e ∷ run) state r p =
-        let l = (kept_here kinds sites parts run r.0 r.1).leases in
-        let m = (kept_here kinds sites parts (e ∷ run) state r).leases in
+        let l = (upheld_here kinds sites parts run r.0 r.1).leases in
+        let m = (upheld_here kinds sites parts (e ∷ run) state r).leases in
         let here : IsTimely (state e.at) = timely_step kinds sites parts e.at (r.0 e.at) (state e.at) (timely run r.0 r.1 e.at)
         (rises kinds sites parts run r.0 state e.at e.event r.2.step r.2.others l e.at) (m.clock e.at).below e.event r.2.step in ⊎_elim
         (λ (k : e.at ≡ p). subst (λ q. IsTimely (state q)) k here)
@@ -177,15 +177,15 @@ module _ {E : Type 0} where
       abbrev log : List (Record E)
       log = (before at).log
 
-      kept : Kept kinds (plan_of sites parts run) run before
-      kept = kept_here kinds sites parts run before r
+      upheld : Upheld kinds (plan_of sites parts run) run before
+      upheld = upheld_here kinds sites parts run before r
 
       shows : Shown (plan_of sites parts run) run before
       shows = shown_run kinds (plan_of sites parts run) run before (fits kinds sites parts run before r run (all_fresh kinds sites parts run before r) (suffix_all run))
 
       prepared_queued : (u : TxId) (n : ℕ) → tried run u at ≡ false → (before at).up ≡ true → n ≡ (before at).now + 1 → (lines.pending (shown_lines run) at u ≡ false) × ((t : TxId) → lines.pending (shown_lines run) at t ≡ true → lines.prepare_time (shown_lines run) at t < n)
       prepared_queued u n fresh up drawn = (
-        waits u ∙ false_from_ne_true (pending log u) (λ k. clash (kept.fate.was_tried at log u (image_log (before at)) (pending_parts log u k).prepared) fresh),
+        waits u ∙ false_from_ne_true (pending log u) (λ k. clash (upheld.fate.was_tried at log u (image_log (before at)) (pending_parts log u k).prepared) fresh),
         λ t h. less_next (lines.prepare_time (shown_lines run) at t) (prepare_time log t) (before at).now n (prepare_time_is run at t ∙ sym (shows.time at t up (sym (waits t) ∙ h))) ((timely run before r at).now t up) drawn,
       )
         where

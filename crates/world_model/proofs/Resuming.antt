@@ -29,7 +29,7 @@ use Rattle.world_model.proofs.Names.{clash, part_cases, part_other}
 use Rattle.world_model.proofs.Moves.{grown_last}
 use Rattle.world_model.proofs.Fate.{Fate}
 use Rattle.world_model.proofs.Leases.{Leases}
-use Rattle.world_model.proofs.Kept.{law_plan}
+use Rattle.world_model.proofs.Upheld.{law_plan}
 use Rattle.world_model.proofs.Later.{once_pending}
 use Rattle.world_model.proofs.Shows.{Shown, shown_run, here}
 

@@ -37,7 +37,7 @@ use Rattle.world_model.proofs.Leases.{Leases}
 use Rattle.world_model.proofs.Fate.{Fate, pending_parts, more_prepared, told_aborted}
 use Rattle.world_model.proofs.Later.{in_log, once_pending, takes, prepared_now, never_aborted, pending_from}
 use Rattle.world_model.proofs.Completeness.{zeros_at}
-use Rattle.world_model.proofs.Kept.{law_plan}
+use Rattle.world_model.proofs.Upheld.{law_plan}
 use Rattle.world_model.proofs.Ups.{ups}
 
 new_pending : (s p c a : Bool) → (s ≡ true → p ≡ false) → (c ≡ true → p ≡ true) → (a ≡ true → p ≡ true) → ((s || p) && not (c || a)) ≡ (s || (p && not (c || a)))

@@ -24,7 +24,7 @@ use Rattle.world_model.specs.rules.World.{plan_of, IsWorldRun}
 use Rattle.world_model.proofs.Names.{off, part_cases}
 use Rattle.world_model.proofs.Moves.{image_log}
 use Rattle.world_model.proofs.Fate.{pending_parts, voted_tried}
-use Rattle.world_model.proofs.Kept.{Kept, law_plan}
+use Rattle.world_model.proofs.Upheld.{Upheld, law_plan}
 use Rattle.world_model.proofs.Shows.{Shown, shown_run, committed_is}
 use Rattle.world_model.proofs.Ups.{ups}
 use Rattle.world_model.proofs.LineChanges.{first_site}
@@ -60,8 +60,8 @@ module _ {E : Type 0} where
     abbrev log : List (Record E)
     log = (state p).log
 
-    kept : Kept kinds (plan_of sites parts run) run state
-    kept = law_plan kinds (plan_of sites parts run) run state (fits kinds sites parts run state r run (all_fresh kinds sites parts run state r) (suffix_all run))
+    upheld : Upheld kinds (plan_of sites parts run) run state
+    upheld = law_plan kinds (plan_of sites parts run) run state (fits kinds sites parts run state r run (all_fresh kinds sites parts run state r) (suffix_all run))
 
     shows : Shown (plan_of sites parts run) run state
     shows = shown_run kinds (plan_of sites parts run) run state (fits kinds sites parts run state r run (all_fresh kinds sites parts run state r) (suffix_all run))
@@ -76,13 +76,13 @@ module _ {E : Type 0} where
     lead_is t = lead_eq kinds sites parts run law t
 
     was_tried : (t : TxId) → pending (state p).log t ≡ true → tried run t p ≡ true
-    was_tried t h = kept.fate.was_tried p log t (image_log (state p)) (pending_parts log t h).prepared
+    was_tried t h = upheld.fate.was_tried p log t (image_log (state p)) (pending_parts log t h).prepared
 
     -- and so was its lead
     lead_tried : (t : TxId) → pending (state p).log t ≡ true → tried run t ((plan_of sites parts run).lead t) ≡ true
     lead_tried t h = ⊎_elim
         (λ (e : p ≡ plan.lead t). subst (λ q. tried run t q ≡ true) e (was_tried t h))
-        (λ (ne : p ≢ plan.lead t). voted_tried run t (plan.lead t) (kept.fate.lead_first p t ne (was_tried t h)))
+        (λ (ne : p ≢ plan.lead t). voted_tried run t (plan.lead t) (upheld.fate.lead_first p t ne (was_tried t h)))
         (part_cases p (plan.lead t))
 
     of_lead : (t : TxId) → pending (state p).log t ≡ true → (plan_of sites parts run).lead t ≡ record { site = p.site; part = prepared_lead (state p).log t }
@@ -94,7 +94,7 @@ module _ {E : Type 0} where
         λ i. record { site = site i; part = part i }
 
     finished : (t : TxId) (c : List ℕ) → pending (state p).log t ≡ true → IsFate (shown_lines run) (lead parts (shown_lines run) t) t (ToldCommitted c) → MayCall sites parts run p (AskFinish t c)
-    finished t c h f = (kept.fate.part p t (was_tried t h), record { decided = sym (in_history_is run t) ∙ f.0; vector = f.1 ∙ vector_is run t })
+    finished t c h f = (upheld.fate.part p t (was_tried t h), record { decided = sym (in_history_is run t) ∙ f.0; vector = f.1 ∙ vector_is run t })
 
     pub told : Told sites parts run state p
     told = record {
@@ -102,7 +102,7 @@ module _ {E : Type 0} where
       waiting = λ t u. shows.waiting p t u ∙ sym (pending_is run p t);
       times = λ t u h. shows.time p t u h ∙ sym (prepare_time_is run p t);
       listed = listed kinds sites parts run state r p;
-      ended = λ t u s. committed_is plan run state kept.fate shows p u t ∙ (sym (ended_eq kinds sites parts run law run p t) ∙ (sym (or_none (is_ended_at (shown_lines run) (shown_lines run) p t)) ∙ ap (λ b. is_ended_at (shown_lines run) (shown_lines run) p t || b) (sym (unbrought kinds sites parts run law run p t (sym s)))));
+      ended = λ t u s. committed_is plan run state upheld.fate shows p u t ∙ (sym (ended_eq kinds sites parts run law run p t) ∙ (sym (or_none (is_ended_at (shown_lines run) (shown_lines run) p t)) ∙ ap (λ b. is_ended_at (shown_lines run) (shown_lines run) p t || b) (sym (unbrought kinds sites parts run law run p t (sym s)))));
       leads = λ t h. lead_is t ∙ of_lead t h;
       place = λ t h. subst (IsPlace sites parts) (sym (lead_is t)) (tried_place sites parts run law.places t (plan.lead t) (lead_tried t h));
       finishes = λ t c h f. finished t c h (subst (IsFate (shown_lines run) (lead parts (shown_lines run) t) t) f ((law_world kinds sites parts run state r).3 t));

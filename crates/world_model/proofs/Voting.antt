@@ -17,7 +17,7 @@ use Rattle.world_model.proofs.Fate.{Fate, fate_step, voted_tried, pending_parts}
 use Rattle.world_model.proofs.Leases.{rises, one_image}
 use Rattle.world_model.proofs.Later.{full_now}
 use Rattle.world_model.proofs.Intervals.{same_commit, events_map}
-use Rattle.world_model.proofs.Kept.{Kept, law_plan}
+use Rattle.world_model.proofs.Upheld.{Upheld, law_plan}
 
 module _ {E : Type 0} where
   vote_event : {S : Type 0} (kinds : Kinds S E) (plan : Plan E) (run : List (Entry E)) (before : PartId → PartState E) (at : PartId) (q : PartState E) (event : Event E) → Fate plan run before → IsAllowed plan run before at (attempt event) → PartStep kinds plan.sites plan.parts at (before at) event q → VotesAt plan run at event
@@ -57,7 +57,7 @@ module _ {E : Type 0} where
         kept_vector run e same p (Decided t c) x = (or_right _ _ x.0, x.1 ∙ same t x.0)
         kept_vector run e same p a x = tt
 
-  pub agreed : {S : Type 0} (kinds : Kinds S E) (plan : Plan E) (run : List (Entry E)) (parts : PartId → PartState E) → Kept kinds plan run parts → (t : TxId) → is_decided run t ≡ true → IsAgreed plan run t
+  pub agreed : {S : Type 0} (kinds : Kinds S E) (plan : Plan E) (run : List (Entry E)) (parts : PartId → PartState E) → Upheld kinds plan run parts → (t : TxId) → is_decided run t ≡ true → IsAgreed plan run t
   agreed kinds plan run parts k t h =
       let all = full_now plan run parts k.fate t h in
       record { lead = k.fate.part (plan.lead t) t (voted_tried run t (plan.lead t) all.lead); all = all.all }

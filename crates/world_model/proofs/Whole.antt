@@ -21,7 +21,7 @@ use Rattle.world_model.proofs.Moves.{image_log}
 use Rattle.world_model.proofs.Fate.{pending_parts, voted_tried}
 use Rattle.world_model.proofs.Later.{full_now}
 use Rattle.world_model.proofs.Leases.{Clock, Leases, leases_step, rises}
-use Rattle.world_model.proofs.Kept.{Kept, law_plan}
+use Rattle.world_model.proofs.Upheld.{Upheld, law_plan}
 
 module _ {E : Type 0} where
   abbrev pub IsSuffix : List (Entry E) → List (Entry E) → Type 0
@@ -250,7 +250,7 @@ module _ {E : Type 0} where
         lead = al.lead ∙ sym g.lead;
         here = al.here;
         all = λ q h. al.all q (ap is_some_update (sym (g.updates q)) ∙ h);
-        kept = al.kept;
+        ungiven = al.ungiven;
         once = al.once;
         vector = al.vector ∙ agree_vector (plan_of sites parts old) (plan_of sites parts whole) run t g;
       }
@@ -283,7 +283,7 @@ module _ {E : Type 0} where
   fits kinds sites parts [] state r whole f s = r
   fits kinds sites parts (e ∷ run) state r whole f s =
       let before = r.0 in
-      let k : Kept kinds (plan_of sites parts run) run before = law_plan kinds (plan_of sites parts run) run before (fits kinds sites parts run before r.1 run (all_fresh kinds sites parts run before r.1) (suffix_all run)) in
+      let k : Upheld kinds (plan_of sites parts run) run before = law_plan kinds (plan_of sites parts run) run before (fits kinds sites parts run before r.1 run (all_fresh kinds sites parts run before r.1) (suffix_all run)) in
       let log = (before e.at).log in
       let of_tried : (t : TxId) → tried (e ∷ run) t e.at ≡ true → Agree (plan_of sites parts (e ∷ run)) (plan_of sites parts whole) t = λ t h. agree sites parts (e ∷ run) whole t e.at f s (tried_begun kinds sites parts (e ∷ run) state t e.at r h) h in
       let known : (t : TxId) → (pending log t || committed log t) ≡ true → prepared log t ≡ true = λ t h. ⊎_elim

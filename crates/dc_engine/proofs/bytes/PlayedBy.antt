@@ -2,8 +2,8 @@
 use Rattle.std.proofs.Common.{◌≡◌, ℕ, ◌≤◌, Bool, false, true, List, Option, None, refl, subst, arith}
 use Rattle.disk_core.specs.States.{DiskState, Rose}
 use Rattle.disk_makers.specs.Makers.{Maker}
-use Rattle.dc_engine.specs.Played.{Played, PlayedEnded, PlayedTooLong, PlayedPart, PlayedBefore}
-use Rattle.dc_engine.specs.Makers.{IsKept, ReturnsAll}
+use Rattle.dc_engine.specs.Played.{Played, PlayedEnded, PlayedTooLong, PlayedFront, PlayedBefore}
+use Rattle.dc_engine.specs.Makers.{IsUnchanged, ReturnsAll}
 use Rattle.dc_engine.specs.Outcome.{Change, Outcome, PlayOutcome, And, most_bytes, block_bytes}
 use Rattle.dc_engine.specs.Replies.{Replies, RepliesBefore}
 use Rattle.dc_engine.specs.Player.{PlayerState, ReachedBy}
@@ -24,8 +24,8 @@ module _ (most : ℕ) (P Q : List (List ℕ) → List ℕ → Type 0) (f : (line
   too_long_by : PlayedTooLong most P input left before after → PlayedTooLong most Q input left before after
   too_long_by p = record { read = p.read; next = p.next; written = p.written; from_source = p.from_source; full = p.full; to_sink = p.to_sink; replied = f _ _ p.replied }
 
-  part_by : (size : ℕ) → PlayedPart size most P input left before after → PlayedPart size most Q input left before after
-  part_by size p = record { read = p.read; more = p.more; reached = p.reached; written = p.written; reply = p.reply; replied_earlier = f _ _ p.replied_earlier; replied = f _ _ p.replied; to_sink = p.to_sink }
+  front_by : (size : ℕ) → PlayedFront size most P input left before after → PlayedFront size most Q input left before after
+  front_by size p = record { read = p.read; more = p.more; reached = p.reached; written = p.written; reply = p.reply; replied_earlier = f _ _ p.replied_earlier; replied = f _ _ p.replied; to_sink = p.to_sink }
 
   before_by : (size : ℕ) → PlayedBefore size most P input left before after → PlayedBefore size most Q input left before after
   before_by size p = record { read = p.read; lines = p.lines; line = p.line; are_later = p.are_later; reached = p.reached; making = p.making; written = p.written; replied = f _ _ p.replied; to_sink = p.to_sink }
@@ -36,8 +36,8 @@ module _ (W V P Q A B : List (List ℕ) → List ℕ → Type 0) (X Y : Type 0) 
   outcome_by status.BadLine source sink g h = played_by most_bytes (And W true) (And V true) (λ lines bytes r. (g refl lines bytes r.0, r.1)) source.before source.after sink.before sink.after h
   outcome_by status.Usage source sink g h = h
   outcome_by status.ReadFault source sink g h = (ended_by most_bytes P Q f source.before source.after sink.before sink.after h.0, h.1)
-  outcome_by status.WriteFault source sink g h = (part_by most_bytes P Q f source.before source.after sink.before sink.after block_bytes h.0, h.1)
-  outcome_by status.NoMemory source sink g h = part_by most_bytes P Q f source.before source.after sink.before sink.after block_bytes h
+  outcome_by status.WriteFault source sink g h = (front_by most_bytes P Q f source.before source.after sink.before sink.after block_bytes h.0, h.1)
+  outcome_by status.NoMemory source sink g h = front_by most_bytes P Q f source.before source.after sink.before sink.after block_bytes h
   outcome_by status.TooLong source sink g h = too_long_by most_bytes P Q f source.before source.after sink.before sink.after h
   outcome_by status.NoDisk source sink g h = (before_by most_bytes A B b source.before source.after sink.before sink.after block_bytes h.0, x h.1)
 
@@ -48,10 +48,10 @@ before_answered {D} state lines bytes r =
     record { answered = reached_answered state r.0.cluster lines bytes r.1.0.reached; lacks = left.lacks }
 
 -- what a player answered is what the program promises, once its disks are given back
-pub outcome_lawful : {D : Type 0} (state : D → DiskState) (p : PlayerState D) (start mid end : Maker D) (s : Status) (source sink : Change) → (ends_whole s ≡ true → IsKept start mid) → ReturnsAll p.cluster mid end
+pub outcome_lawful : {D : Type 0} (state : D → DiskState) (p : PlayerState D) (start mid end : Maker D) (s : Status) (source sink : Change) → (ends_whole s ≡ true → IsUnchanged start mid) → ReturnsAll p.cluster mid end
     → Outcome (ReachedBy state p) (Replies (ReachedBy state)) (RepliesBefore (ReachedBy state) (λ q. q.cluster ≡ None)) (Rose start.faults mid.faults) s source sink → PlayOutcome state start end s source sink
-outcome_lawful state p start mid end s source sink kept back = outcome_by (ReachedBy state p) (AnsweredWhole state start end) (Replies (ReachedBy state)) Answered (RepliesBefore (ReachedBy state) (λ q. q.cluster ≡ None)) AnsweredBefore (Rose start.faults mid.faults) (Rose start.faults end.faults)
+outcome_lawful state p start mid end s source sink begun back = outcome_by (ReachedBy state p) (AnsweredWhole state start end) (Replies (ReachedBy state)) Answered (RepliesBefore (ReachedBy state) (λ q. q.cluster ≡ None)) AnsweredBefore (Rose start.faults mid.faults) (Rose start.faults end.faults)
     (λ lines bytes r. reached_answered state r.0.cluster lines bytes r.1.reached)
     (before_answered state)
     (λ rose. let same = back.back.faults in omega (arith, same, rose))
-    s source sink (λ e lines bytes r. reached_whole state p.cluster start mid end (kept e) back lines bytes r.reached)
+    s source sink (λ e lines bytes r. reached_whole state p.cluster start mid end (begun e) back lines bytes r.reached)

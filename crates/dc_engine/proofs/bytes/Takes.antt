@@ -17,9 +17,9 @@ take_extended bytes piece h =
 pub extended : (bytes piece new : List ℕ) (n : ℕ) → length bytes ≤ 4098 → n ≡ min (4098 - length bytes) (length piece) → new ≡ bytes ++ take n piece → new ≡ take 4098 (bytes ++ piece)
 extended bytes piece new n h e f = f ∙ ap (λ k. bytes ++ take k piece) e ∙ take_extended bytes piece h
 
-pub front_of : (kept piece : List ℕ) (n : ℕ) → (length kept == 0) ≡ true → n ≡ min 4098 (length piece) → take n piece ≡ take 4098 (kept ++ piece)
+pub front_of : (begun piece : List ℕ) (n : ℕ) → (length begun == 0) ≡ true → n ≡ min 4098 (length piece) → take n piece ≡ take 4098 (begun ++ piece)
 front_of [] piece n h e = ap (λ k. take k piece) e ∙ take_min 4098 piece
-front_of (b ∷ kept) piece n h e = absurd (omega (arith, eqb-true _ _ h))
+front_of (b ∷ begun) piece n h e = absurd (omega (arith, eqb-true _ _ h))
 
 pub rest_of : (rest more : List ℕ) (at : ℕ) → more ≡ drop at rest → take (length more - 1) (drop 1 more) ≡ drop (at + 1) rest
 rest_of rest more at e = take_rest more 1 ∙ ap (drop 1) e ∙ drop-drop 1 at rest

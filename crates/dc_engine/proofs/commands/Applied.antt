@@ -108,15 +108,15 @@ module _ {D : Type 0} (state : D → DiskState) where
   pub out_more : (c : Standing D) (out more : ℕ) → out ≤ more → HasOut state out c → HasOut state more c
   out_more c out more l h = record { run = h.run; left = h.left; enough = let e = h.enough in omega (arith, e, l) }
 
-  stands_already : (c : Standing D) (run : Run) → is_some (parts_in c) ≡ true → IsLeft state c run → has_cluster run ≡ true
-  stands_already None run h r = absurd (true≢false (sym h))
-  stands_already (Some w) run h r = r.live.has
+  made_already : (c : Standing D) (run : Run) → is_some (parts_in c) ≡ true → IsLeft state c run → has_cluster run ≡ true
+  made_already None run h r = absurd (true≢false (sym h))
+  made_already (Some w) run h r = r.live.has
 
   -- a command that makes no cluster leaves as many partitions
   pub out_applied : (old new : Standing D) (c : Command) (steps : List Step) (out : ℕ) → (is_making c ≡ true → is_some (parts_in old) ≡ true) → Applies (types (fused_state state)) old c steps new → HasOut state out old → HasOut state out new
   out_applied old new c steps out once a h =
       let applied = a 0 h.run h.left in
-      let size = same_size 0 (Some c) steps h.run (answer_makes_none h.run c steps (λ m. stands_already old h.run (once m) h.left) applied.0) in
+      let size = same_size 0 (Some c) steps h.run (answer_makes_none h.run c steps (λ m. made_already old h.run (once m) h.left) applied.0) in
       record { run = answered 0 (Some c) steps h.run; left = applied.1; enough = subst (λ n. n ≤ out) (sym (λ i. size.0 i * size.1 i)) h.enough }
 
   -- one that makes a cluster takes as many disks as it has partitions
@@ -138,5 +138,5 @@ module _ {D : Type 0} (state : D → DiskState) where
   lacks_of None h = refl
   lacks_of (Some w) h = absurd (true≢false h)
 
-  pub stands_of : (c : Standing D) → is_some (parts_in c) ≡ true → c ≡ None → ⊥
-  stands_of c h e = true≢false (sym h ∙ ap (λ (x : Standing D). is_some (parts_in x)) e)
+  pub made_of : (c : Standing D) → is_some (parts_in c) ≡ true → c ≡ None → ⊥
+  made_of c h e = true≢false (sym h ∙ ap (λ (x : Standing D). is_some (parts_in x)) e)

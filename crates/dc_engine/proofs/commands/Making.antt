@@ -9,7 +9,7 @@ use Rattle.disk_makers.specs.Makers.{Maker, IsMade}
 use Rattle.gate_log.specs.Rest.{AtRest}
 use Rattle.site_partitions.specs.Made.{AreBlank}
 use Rattle.site_vector.specs.declared.ids.PartId.{PartId}
-use Rattle.dc_engine.specs.Makers.{IsKept, first_place, next_place}
+use Rattle.dc_engine.specs.Makers.{IsUnchanged, first_place, next_place}
 use Rattle.dc_engine.proofs.commands.Returned.{close_by}
 
 module _ {D : Type 0} (state : D → DiskState) where
@@ -26,7 +26,7 @@ module _ {D : Type 0} (state : D → DiskState) where
     pub blank : AreBlank (fused_state state) made
     pub out : now.out ≡ start.out + length made
     pub later : start.faults ≤ now.faults
-    pub same : IsKept start now
+    pub same : IsUnchanged start now
 
   pub making_start : (sites parts : ℕ) (start : Maker D) → sites ≤ 8 → parts ≤ 16 → IsMaking (sites * parts) start start [] first_place (sites * parts)
   making_start sites parts start s p = record {
@@ -39,7 +39,7 @@ module _ {D : Type 0} (state : D → DiskState) where
     same = record { tells = refl; given = refl };
   }
 
-  pub making_more : (count : ℕ) (start now new : Maker D) (made more : List (Fused D)) (parts : ℕ) (at next : PartId) (left : ℕ) → IsMaking count start now made at left → 0 < left → length more ≡ length made + 1 → next ≡ next_place parts at → AreBlank (fused_state state) more → new.out ≡ now.out + 1 → now.faults ≤ new.faults → IsKept now new → IsMaking count start new more next (left - 1)
+  pub making_more : (count : ℕ) (start now new : Maker D) (made more : List (Fused D)) (parts : ℕ) (at next : PartId) (left : ℕ) → IsMaking count start now made at left → 0 < left → length more ≡ length made + 1 → next ≡ next_place parts at → AreBlank (fused_state state) more → new.out ≡ now.out + 1 → now.faults ≤ new.faults → IsUnchanged now new → IsMaking count start new more next (left - 1)
   making_more count start now new made more parts at next left m some counted e blank out later same = record {
     all = let a = m.all in omega (arith, a, some, counted);
     few = m.few;
@@ -53,8 +53,8 @@ module _ {D : Type 0} (state : D → DiskState) where
 pub rose_later : (a b c : ℕ) → a ≤ b → Rose b c → Rose a c
 rose_later a b c h k = omega (arith, h, k)
 
-pub kept_refl : {D : Type 0} (m : Maker D) → IsKept m m
-kept_refl m = record { tells = refl; given = refl }
+pub unchanged_refl : {D : Type 0} (m : Maker D) → IsUnchanged m m
+unchanged_refl m = record { tells = refl; given = refl }
 
-pub kept_both : {D : Type 0} (a b c : Maker D) → IsKept a b → IsKept b c → IsKept a c
-kept_both a b c x y = record { tells = y.tells ∙ x.tells; given = y.given ∙ x.given }
+pub unchanged_both : {D : Type 0} (a b c : Maker D) → IsUnchanged a b → IsUnchanged b c → IsUnchanged a c
+unchanged_both a b c x y = record { tells = y.tells ∙ x.tells; given = y.given ∙ x.given }

@@ -30,7 +30,7 @@ use Rattle.cluster.proofs.Laws.{history, log_left, none_made}
 use Rattle.dc_engine.specs.Answered.{Answered, AnsweredWhole}
 use Rattle.dc_engine.specs.GivenBack.{HoldsLogOf, GivenBack}
 use Rattle.dc_engine.specs.Held.{Standing, IsLeft, Reached, HasOut}
-use Rattle.dc_engine.specs.Makers.{IsKept, GivesBack, ReturnsAll, FailsAt, number_or_none, disk_from, with_places, next_place, first_place}
+use Rattle.dc_engine.specs.Makers.{IsUnchanged, GivesBack, ReturnsAll, FailsAt, number_or_none, disk_from, with_places, next_place, first_place}
 use Rattle.dc_engine.specs.ObjectKinds.{Effect, kinds, types}
 
 pub close_by : (parts : ℕ) (at next : PartId) → next ≡ next_place parts at → next.site ≤ at.site + 1
@@ -81,15 +81,15 @@ length_map f [] = refl
 length_map f (x ∷ xs) = ap suc (length_map f xs)
 
 -- what stands there of a list that was mapped
-pub record IsPartOf {A B : Type 0} (f : A → B) (xs : List A) (i : ℕ) (other : B) : Type 0 where
+pub record IsMappedAt {A B : Type 0} (f : A → B) (xs : List A) (i : ℕ) (other : B) : Type 0 where
   pub one : A
   pub there : (o : A) → get_or xs i o ≡ one
   pub mapped : get_or (map f xs) i other ≡ f one
 
-stands_in : {A B : Type 0} (f : A → B) (xs : List A) (i : ℕ) (other : B) → i < length xs → IsPartOf f xs i other
-stands_in f [] i other h = absurd (omega (arith, h))
-stands_in f (x ∷ xs) zero other h = record { one = x; there = λ o. refl; mapped = refl }
-stands_in f (x ∷ xs) (suc i) other h = let more = stands_in f xs i other (omega (arith, h)) in record { one = more.one; there = more.there; mapped = more.mapped }
+is_mapped_at : {A B : Type 0} (f : A → B) (xs : List A) (i : ℕ) (other : B) → i < length xs → IsMappedAt f xs i other
+is_mapped_at f [] i other h = absurd (omega (arith, h))
+is_mapped_at f (x ∷ xs) zero other h = record { one = x; there = λ o. refl; mapped = refl }
+is_mapped_at f (x ∷ xs) (suc i) other h = let more = is_mapped_at f xs i other (omega (arith, h)) in record { one = more.one; there = more.there; mapped = more.mapped }
 
 pub few_of : (sites parts n : ℕ) → IsSized sites parts n → n ≤ 128
 few_of sites parts n s = let up : sites * parts ≤ 8 * 16 = mul-le sites parts 8 16 s.most_sites s.most_parts in let all = s.all in omega (arith, up, all)
@@ -129,22 +129,22 @@ module _ {D : Type 0} (state : D → DiskState) where
   failed_applies sites parts disks (make.Partition at disk why) steps new n h f = subst (λ (c : Standing D). Applies (types (fused_state state)) None (command.Cluster sites parts) steps c) (sym n) (none_made (types (fused_state state)) sites parts at steps h.0 f.1)
 
   -- what was played is told of the disks too
-  returned : (c : Standing D) (run : Run) (left : IsLeft state c run) (start mid end : Maker D) → IsKept start mid → ReturnsAll c mid end → IsTrue start.tells → GivenBack state run (history (types (fused_state state)) c run left).events start end
-  returned None run b start mid end kept back tells = record {
+  returned : (c : Standing D) (run : Run) (left : IsLeft state c run) (start mid end : Maker D) → IsUnchanged start mid → ReturnsAll c mid end → IsTrue start.tells → GivenBack state run (history (types (fused_state state)) c run left).events start end
+  returned None run b start mid end begun back tells = record {
     disks = [];
     all = let e = b.sites in let none : 0 * parts_of run ≡ 0 = omega arith in sym (ap (λ n. n * parts_of run) e ∙ none);
-    given = back.back.given (subst IsTrue (sym kept.tells) tells) ∙ ap (λ l. l ++ []) kept.given;
+    given = back.back.given (subst IsTrue (sym begun.tells) tells) ∙ ap (λ l. l ++ []) begun.given;
     logs = λ p place up other. let e = b.sites in let least = place.least_site in let most = place.most_site in absurd (omega (arith, e, least, most));
   }
-  returned (Some w) run r start mid end kept back tells =
+  returned (Some w) run r start mid end begun back tells =
       let partitions = w.live.sites.partitions in
       let count : length partitions ≡ sites_of run * parts_of run = back.sized.all ∙ (λ i. r.live.sites i * r.live.parts i) in record {
         disks = map disk_from partitions;
         all = length_map disk_from partitions ∙ count;
-        given = back.back.given (subst IsTrue (sym kept.tells) tells) ∙ (λ i. kept.given i ++ with_places (r.live.parts i) first_place (map disk_from partitions));
+        given = back.back.given (subst IsTrue (sym begun.tells) tells) ∙ (λ i. begun.given i ++ with_places (r.live.parts i) first_place (map disk_from partitions));
         logs = λ p place up other.
             let below = index_below (sites_of run) (parts_of run) p place in
-            let s = stands_in disk_from partitions (index_of (parts_of run) p) other (omega (arith, below, count)) in
+            let s = is_mapped_at disk_from partitions (index_of (parts_of run) p) other (omega (arith, below, count)) in
             let l = log_left (types (fused_state state)) w run r p s.one place up s.there in
             subst (λ (d : D). HoldsLogOf (sites_of run) (parts_of run) (history (types (fused_state state)) (Some w) run r).events p (state d)) (sym s.mapped)
             (record { log = l.log; left = l.left; end = _; at_rest = unfused (disk_of s.one.gates) _ _ l.records.is_open.at_rest; spelled = l.records.spelled });
@@ -153,8 +153,8 @@ module _ {D : Type 0} (state : D → DiskState) where
   abbrev pub reached_answered : (c : Standing D) (lines : List (List ℕ)) (bytes : List ℕ) → Reached state c lines bytes → Answered lines bytes
   reached_answered c lines bytes r = record { run = r.run; answers = r.answers; history = history (types (fused_state state)) c r.run r.left; written = r.written }
 
-  pub reached_whole : (c : Standing D) (start mid end : Maker D) → IsKept start mid → ReturnsAll c mid end → (lines : List (List ℕ)) (bytes : List ℕ) → Reached state c lines bytes → AnsweredWhole state start end lines bytes
-  reached_whole c start mid end kept back lines bytes r = record {
+  pub reached_whole : (c : Standing D) (start mid end : Maker D) → IsUnchanged start mid → ReturnsAll c mid end → (lines : List (List ℕ)) (bytes : List ℕ) → Reached state c lines bytes → AnsweredWhole state start end lines bytes
+  reached_whole c start mid end begun back lines bytes r = record {
     answered = reached_answered c lines bytes r;
-    given_back = λ tells. returned c r.run r.left start mid end kept back tells;
+    given_back = λ tells. returned c r.run r.left start mid end begun back tells;
   }

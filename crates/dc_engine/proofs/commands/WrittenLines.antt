@@ -14,8 +14,8 @@ line_more steps i s old before after n e h k =
     k ∙ (ap (λ l. l ++ text_of s) h ∙ (append_assoc old (flat_map text_of (take i steps)) (text_of s)
     ∙ ap (λ l. old ++ l) (ap (λ l. flat_map text_of (take i steps) ++ l) (sym (append-nil (text_of s))) ∙ (sym (flat_map-append text_of (take i steps) (s ∷ [])) ∙ ap (flat_map text_of) (sym taken)))))
 
-pub line_kept : (old more after : List ℕ) → after ≡ old ++ more → take (length old) after ≡ old
-line_kept old more after h = ap (take (length old)) h ∙ take-append_seam old more
+pub line_begun : (old more after : List ℕ) → after ≡ old ++ more → take (length old) after ≡ old
+line_begun old more after h = ap (take (length old)) h ∙ take-append_seam old more
 
 pub on_err : {T X : Type 0} (r : Result T X) (P : Type 0) → P → OnErr r P
 on_err (Ok x) P p = tt

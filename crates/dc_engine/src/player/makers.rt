@@ -4,7 +4,7 @@ ghost use Rattle.disk_core.specs.Fuses.{fused_state, inside};
 ghost use Rattle.disk_core.specs.States.{Rose};
 ghost use Rattle.disk_makers.specs.Makers.{IsMade};
 ghost use Rattle.site_partitions.specs.Made.{AreBlank};
-ghost use Rattle.dc_engine.specs.Makers.{IsKept, GivesBack, disk_from, first_place, next_place};
+ghost use Rattle.dc_engine.specs.Makers.{IsUnchanged, GivesBack, disk_from, first_place, next_place};
 
 use crate::player::objects::Objects;
 use crate::unanswered::Unanswered;
@@ -38,7 +38,7 @@ fn next(at: PartId, parts: u8) -> PartId
 fn add<D: Disk + Drop>(made: &mut Vec<Fused<D>>, disk: D) -> Result<(), AllocError>
     requires { IsMade (D.state disk) }
     ensures count { OnOk result (length made.new.items ≡ length made.old.items + 1) }
-    ensures kept { OnErr result (made.new.items ≡ made.old.items) }
+    ensures same_made { OnErr result (made.new.items ≡ made.old.items) }
     ensures blank { AreBlank (fused_state D.state) made.old.items → AreBlank (fused_state D.state) made.new.items }
 {
     made.push(Fused::new(disk))?;
@@ -53,13 +53,13 @@ fn make_one<M: Disks>(
     made: &mut Vec<Fused<M::Disk>>,
 ) -> Result<(), Unanswered>
     ensures count { OnOk result (length made.new.items ≡ length made.old.items + 1) }
-    ensures kept { OnErr result (made.new.items ≡ made.old.items) }
+    ensures same_made { OnErr result (made.new.items ≡ made.old.items) }
     ensures blank { AreBlank (fused_state M.Disk.state) made.old.items → AreBlank (fused_state M.Disk.state) made.new.items }
     ensures out { OnOk result ((M.state disks.new).out ≡ (M.state disks.old).out + 1) }
     ensures more { (M.state disks.old).out ≤ (M.state disks.new).out }
     ensures later { (M.state disks.old).faults ≤ (M.state disks.new).faults }
     ensures cause { result ≡ Err Unanswered.NoDisk → Rose (M.state disks.old).faults (M.state disks.new).faults }
-    ensures same { IsKept (M.state disks.old) (M.state disks.new) }
+    ensures same { IsUnchanged (M.state disks.old) (M.state disks.new) }
 {
     match disks.make(alloc, at) {
         Ok(disk) => Ok(add(made, disk)?),
@@ -87,7 +87,7 @@ pub(crate) fn make_all<M: Disks>(
     ensures more { (M.state disks.old).out ≤ (M.state disks.new).out }
     ensures later { (M.state disks.old).faults ≤ (M.state disks.new).faults }
     ensures cause { result ≡ Err Unanswered.NoDisk → Rose (M.state disks.old).faults (M.state disks.new).faults }
-    ensures same { OnOk result (IsKept (M.state disks.old) (M.state disks.new)) }
+    ensures same { OnOk result (IsUnchanged (M.state disks.old) (M.state disks.new)) }
 {
     let mut made = Vec::new(alloc);
     let mut at = FIRST;

@@ -1,10 +1,10 @@
 ghost use Rattle.std.specs.Prelude.{ℕ, List, Option, ◌≡◌, ◌≢◌, ◌≤◌, ◌<◌, ◌+◌, ◌-◌, ◌^◌, [], length, take, IfOk, IfErr, OnOk, OnErr, Err};
 ghost use Rattle.std.specs.Io.KnownBytes.{Appends, Consumes, Keeps, IsAtEnd};
 ghost use Rattle.dc_engine.specs.Causes.{Rose};
-ghost use Rattle.dc_engine.specs.Makers.{IsKept};
+ghost use Rattle.dc_engine.specs.Makers.{IsUnchanged};
 ghost use Rattle.dc_engine.specs.Replies.{Replies};
-ghost use Rattle.dc_engine.specs.Played.{Played, PlayedEnded, PlayedTooLong, PlayedPart};
-ghost use Rattle.dc_engine.specs.Blocks.{AppendsPart, Writes, WritesPart, WritesBefore, Ends, EndsPart, EndsBefore, TakesOne, Progress, GoesOn, Finished};
+ghost use Rattle.dc_engine.specs.Played.{Played, PlayedEnded, PlayedTooLong, PlayedFront};
+ghost use Rattle.dc_engine.specs.Blocks.{AppendsFront, Writes, WritesFront, WritesBefore, Ends, EndsFront, EndsBefore, TakesOne, Progress, GoesOn, Finished};
 
 use crate::fault::Fault;
 use crate::responder::Responder;
@@ -27,7 +27,7 @@ fn zeros(alloc: Global, count: usize) -> Result<Vec<u8>, AllocError>
 fn read_block<S: Source>(source: &mut S, block: &mut [u8], room: usize) -> Result<usize, Fault>
     ensures later { S.faults source.old ≤ S.faults source.new }
     ensures cause { IfErr result (λ e. (e ≡ Fault.Read) × Rose (S.faults source.old) (S.faults source.new)) }
-    ensures kept { OnErr result (Keeps (S.left source.old) (S.left source.new)) }
+    ensures untouched { OnErr result (Keeps (S.left source.old) (S.left source.new)) }
     ensures within { IfOk result (λ n. n ≤ length block.old) }
     ensures in_room { IfOk result (λ n. n ≤ room) }
     ensures bytes { IfOk result (λ n. Consumes (S.left source.old) (S.left source.new) (take n block.new)) }
@@ -44,7 +44,7 @@ fn read_block<S: Source>(source: &mut S, block: &mut [u8], room: usize) -> Resul
 fn has_more<S: Source>(source: &mut S) -> Result<bool, Fault>
     ensures later { S.faults source.old ≤ S.faults source.new }
     ensures cause { IfErr result (λ e. (e ≡ Fault.Read) × Rose (S.faults source.old) (S.faults source.new)) }
-    ensures kept { OnErr result (Keeps (S.left source.old) (S.left source.new)) }
+    ensures untouched { OnErr result (Keeps (S.left source.old) (S.left source.new)) }
     ensures more { IfOk result (TakesOne (S.left source.old) (S.left source.new)) }
 {
     let mut next = [0u8; 1];
@@ -56,12 +56,12 @@ fn has_more<S: Source>(source: &mut S) -> Result<bool, Fault>
 }
 
 /// Writes all bytes.
-#[tactic(auto, using(crate::proofs::bytes::Written::written_more, crate::proofs::bytes::Written::written_none, crate::proofs::bytes::Written::part_of))]
+#[tactic(auto, using(crate::proofs::bytes::Written::written_more, crate::proofs::bytes::Written::written_none, crate::proofs::bytes::Written::front_of))]
 fn write_all<K: Sink>(sink: &mut K, bytes: &[u8]) -> Result<(), Fault>
     ensures later { K.faults sink.old ≤ K.faults sink.new }
     ensures cause { IfErr result (λ e. (e ≡ Fault.Write) × Rose (K.faults sink.old) (K.faults sink.new)) }
     ensures bytes { OnOk result (Appends (K.held sink.old) (K.held sink.new) bytes.now) }
-    ensures part { AppendsPart (K.held sink.old) (K.held sink.new) bytes.now }
+    ensures front { AppendsFront (K.held sink.old) (K.held sink.new) bytes.now }
 {
     let mut done = 0;
     while done < bytes.len() {
@@ -80,23 +80,23 @@ fn answer_block<K: Sink, R: Responder>(
     responder: &mut R,
     disks: &mut R::Maker,
     block: &[u8],
-    kept: &mut PendingLine,
+    begun: &mut PendingLine,
     out: &mut Vec<u8>,
 ) -> Result<(), Fault>
     requires held { R.holds responder.old (R.Maker.state disks.old).out }
     ensures held { R.holds responder.new (R.Maker.state disks.new).out }
     ensures disks_later { (R.Maker.state disks.old).faults ≤ (R.Maker.state disks.new).faults }
     ensures disks_cause { result ≡ Err Fault.NoDisk → Rose (R.Maker.state disks.old).faults (R.Maker.state disks.new).faults }
-    ensures same { OnOk result (IsKept (R.Maker.state disks.old) (R.Maker.state disks.new)) }
+    ensures same { OnOk result (IsUnchanged (R.Maker.state disks.old) (R.Maker.state disks.new)) }
     ensures later { K.faults sink.old ≤ K.faults sink.new }
     ensures cause { result ≡ Err Fault.Write → Rose (K.faults sink.old) (K.faults sink.new) }
     ensures kinds { IfErr result (λ e. (e ≢ Fault.Read) × (e ≢ Fault.TooLong)) }
-    ensures ok { OnOk result (Writes R.reached responder.old responder.new block.now kept.old kept.new (K.held sink.old) (K.held sink.new)) }
-    ensures err { OnErr result (WritesPart R.reached responder.old block.now kept.old (K.held sink.old) (K.held sink.new)) }
-    ensures before { result ≡ Err Fault.NoDisk → WritesBefore R.reached R.lacks responder.old block.now kept.old (K.held sink.old) (K.held sink.new) }
+    ensures ok { OnOk result (Writes R.reached responder.old responder.new block.now begun.old begun.new (K.held sink.old) (K.held sink.new)) }
+    ensures err { OnErr result (WritesFront R.reached responder.old block.now begun.old (K.held sink.old) (K.held sink.new)) }
+    ensures before { result ≡ Err Fault.NoDisk → WritesBefore R.reached R.lacks responder.old block.now begun.old (K.held sink.old) (K.held sink.new) }
 {
     out.clear();
-    match answer_lines(responder, disks, block, kept, out) {
+    match answer_lines(responder, disks, block, begun, out) {
         Ok(()) => {
             write_all(sink, out)?;
             Ok(())
@@ -118,26 +118,26 @@ fn answer_end<K: Sink, R: Responder>(
     sink: &mut K,
     responder: &mut R,
     disks: &mut R::Maker,
-    kept: &PendingLine,
+    begun: &PendingLine,
     out: &mut Vec<u8>,
 ) -> Result<(), Fault>
     requires held { R.holds responder.old (R.Maker.state disks.old).out }
     ensures held { R.holds responder.new (R.Maker.state disks.new).out }
     ensures disks_later { (R.Maker.state disks.old).faults ≤ (R.Maker.state disks.new).faults }
     ensures disks_cause { result ≡ Err Fault.NoDisk → Rose (R.Maker.state disks.old).faults (R.Maker.state disks.new).faults }
-    ensures same { OnOk result (IsKept (R.Maker.state disks.old) (R.Maker.state disks.new)) }
+    ensures same { OnOk result (IsUnchanged (R.Maker.state disks.old) (R.Maker.state disks.new)) }
     ensures later { K.faults sink.old ≤ K.faults sink.new }
     ensures cause { result ≡ Err Fault.Write → Rose (K.faults sink.old) (K.faults sink.new) }
     ensures kinds { IfErr result (λ e. (e ≢ Fault.Read) × (e ≢ Fault.TooLong)) }
-    ensures ok { OnOk result (Ends R.reached responder.old responder.new kept.now (K.held sink.old) (K.held sink.new)) }
-    ensures err { OnErr result (EndsPart R.reached responder.old kept.now (K.held sink.old) (K.held sink.new)) }
-    ensures before { result ≡ Err Fault.NoDisk → EndsBefore R.lacks responder.old kept.now (K.held sink.old) (K.held sink.new) }
+    ensures ok { OnOk result (Ends R.reached responder.old responder.new begun.now (K.held sink.old) (K.held sink.new)) }
+    ensures err { OnErr result (EndsFront R.reached responder.old begun.now (K.held sink.old) (K.held sink.new)) }
+    ensures before { result ≡ Err Fault.NoDisk → EndsBefore R.lacks responder.old begun.now (K.held sink.old) (K.held sink.new) }
 {
-    if kept.is_empty() {
+    if begun.is_empty() {
         return Ok(());
     }
     out.clear();
-    responder.answer(disks, kept.as_slice(), out)?;
+    responder.answer(disks, begun.as_slice(), out)?;
     write_all(sink, out)?;
     Ok(())
 }
@@ -145,7 +145,7 @@ fn answer_end<K: Sink, R: Responder>(
 /// What is kept of a line whose end hasn't come, and the replies that are to be written.
 #[derive(Drop)]
 struct Buffers {
-    kept: PendingLine,
+    begun: PendingLine,
     out: Vec<u8>,
 }
 
@@ -165,25 +165,25 @@ fn play_block<S: Source, K: Sink, R: Responder>(
     ensures held { R.holds responder.new (R.Maker.state disks.new).out }
     ensures disks_later { (R.Maker.state disks.old).faults ≤ (R.Maker.state disks.new).faults }
     ensures disks_cause { result ≡ Err Fault.NoDisk → Rose (R.Maker.state disks.old).faults (R.Maker.state disks.new).faults }
-    ensures same { OnOk result (IsKept (R.Maker.state disks.old) (R.Maker.state disks.new)) }
+    ensures same { OnOk result (IsUnchanged (R.Maker.state disks.old) (R.Maker.state disks.new)) }
     ensures read_later { S.faults source.old ≤ S.faults source.new }
     ensures write_later { K.faults sink.old ≤ K.faults sink.new }
     ensures read_cause { result ≡ Err Fault.Read → Rose (S.faults source.old) (S.faults source.new) }
     ensures write_cause { result ≡ Err Fault.Write → Rose (K.faults sink.old) (K.faults sink.new) }
-    ensures goes_on { (size most : ℕ) (input before : Option (List ℕ)) → length block.old ≤ size → Progress most R.reached responder.old input (S.left source.old) before (K.held sink.old) buffers.old.kept room → GoesOn size most R.reached R.lacks responder.new input (S.left source.new) before (K.held sink.new) buffers.new.kept room result }
+    ensures goes_on { (size most : ℕ) (input before : Option (List ℕ)) → length block.old ≤ size → Progress most R.reached responder.old input (S.left source.old) before (K.held sink.old) buffers.old.begun room → GoesOn size most R.reached R.lacks responder.new input (S.left source.new) before (K.held sink.new) buffers.new.begun room result }
 {
     let count = match read_block(source, block, room) {
         Ok(count) => count,
         Err(fault) => return Err(fault),
     };
     if count == 0 {
-        return match answer_end(sink, responder, disks, &buffers.kept, &mut buffers.out) {
+        return match answer_end(sink, responder, disks, &buffers.begun, &mut buffers.out) {
             Ok(()) => Ok(0),
             Err(fault) => Err(fault),
         };
     }
-    let Buffers { kept, out } = buffers;
-    match answer_block(sink, responder, disks, &block[..count], kept, out) {
+    let Buffers { begun, out } = buffers;
+    match answer_block(sink, responder, disks, &block[..count], begun, out) {
         Ok(()) => Ok(count),
         Err(fault) => Err(fault),
     }
@@ -201,16 +201,16 @@ fn play_end<S: Source, K: Sink, R: Responder>(
     ensures held { R.holds responder.new (R.Maker.state disks.new).out }
     ensures disks_later { (R.Maker.state disks.old).faults ≤ (R.Maker.state disks.new).faults }
     ensures disks_cause { result ≡ Err Fault.NoDisk → Rose (R.Maker.state disks.old).faults (R.Maker.state disks.new).faults }
-    ensures same { OnOk result (IsKept (R.Maker.state disks.old) (R.Maker.state disks.new)) }
+    ensures same { OnOk result (IsUnchanged (R.Maker.state disks.old) (R.Maker.state disks.new)) }
     ensures read_later { S.faults source.old ≤ S.faults source.new }
     ensures write_later { K.faults sink.old ≤ K.faults sink.new }
     ensures read_cause { result ≡ Err Fault.Read → Rose (S.faults source.old) (S.faults source.new) }
     ensures write_cause { result ≡ Err Fault.Write → Rose (K.faults sink.old) (K.faults sink.new) }
-    ensures finished { (size most : ℕ) (input before : Option (List ℕ)) → Progress most R.reached responder.old input (S.left source.old) before (K.held sink.old) buffers.old.kept 0 → Finished size most R.reached R.lacks responder.new input (S.left source.new) before (K.held sink.new) result }
+    ensures finished { (size most : ℕ) (input before : Option (List ℕ)) → Progress most R.reached responder.old input (S.left source.old) before (K.held sink.old) buffers.old.begun 0 → Finished size most R.reached R.lacks responder.new input (S.left source.new) before (K.held sink.new) result }
 {
     match has_more(source) {
         Ok(true) => Err(Fault::TooLong),
-        Ok(false) => match answer_end(sink, responder, disks, &buffers.kept, &mut buffers.out) {
+        Ok(false) => match answer_end(sink, responder, disks, &buffers.begun, &mut buffers.out) {
             Ok(()) => Ok(()),
             Err(fault) => Err(fault),
         },
@@ -233,7 +233,7 @@ pub(crate) fn play_blocks<S: Source, K: Sink, R: Responder>(
     requires held { R.holds responder.old (R.Maker.state disks.old).out }
     ensures held { R.holds responder.new (R.Maker.state disks.new).out }
     ensures disks_cause { result ≡ Err Fault.NoDisk → Rose (R.Maker.state disks.old).faults (R.Maker.state disks.new).faults }
-    ensures same { OnOk result (IsKept (R.Maker.state disks.old) (R.Maker.state disks.new)) }
+    ensures same { OnOk result (IsUnchanged (R.Maker.state disks.old) (R.Maker.state disks.new)) }
     ensures finished { Finished size most R.reached R.lacks responder.new (S.left source.old) (S.left source.new) (K.held sink.old) (K.held sink.new) result }
     ensures read_cause { result ≡ Err Fault.Read → Rose (S.faults source.old) (S.faults source.new) }
     ensures write_cause { result ≡ Err Fault.Write → Rose (K.faults sink.old) (K.faults sink.new) }
@@ -244,7 +244,7 @@ pub(crate) fn play_blocks<S: Source, K: Sink, R: Responder>(
     };
     let block = block.as_mut_slice();
     let mut buffers = Buffers {
-        kept: PendingLine::new(alloc),
+        begun: PendingLine::new(alloc),
         out: Vec::new(alloc),
     };
     let mut room = most;

@@ -1,19 +1,19 @@
 ghost use Rattle.std.specs.Prelude.{◌≡◌, ◌≤◌, ◌++◌, ◌∷◌, [], true, length, take, Err, IfSome, IfNone, OnOk, OnErr};
 ghost use Rattle.disk_core.specs.States.{Rose};
-ghost use Rattle.dc_engine.specs.Makers.{IsKept};
+ghost use Rattle.dc_engine.specs.Makers.{IsUnchanged};
 ghost use Rattle.dc_engine.specs.Reading.{makes_cluster};
 ghost use Rattle.dc_engine.specs.Replies.{AnswersLine};
 ghost use Rattle.script_text.specs.Ends.{HasNoEnd};
-ghost use Rattle.dc_engine.specs.Blocks.{EndsAt, Moves, MovesPart, MovesBefore};
+ghost use Rattle.dc_engine.specs.Blocks.{EndsAt, Moves, MovesFront, MovesBefore};
 
-use crate::responder::{KEPT, Responder};
+use crate::responder::{MOST_BEGUN, Responder};
 use crate::script::pending_line::PendingLine;
 use crate::unanswered::Unanswered;
 use memchr::memchr;
 use std::cmp::min;
 
 /// Where the first LF stands.
-#[tactic(auto, using(crate::proofs::bytes::Standing::ends_of, crate::proofs::bytes::Standing::no_end_of))]
+#[tactic(auto, using(crate::proofs::bytes::Dividing::ends_of, crate::proofs::bytes::Dividing::no_end_of))]
 fn line_end(bytes: &[u8]) -> Option<usize>
     ensures found { IfSome result (EndsAt bytes.now) }
     ensures none { IfNone result (HasNoEnd bytes.now) }
@@ -27,55 +27,55 @@ fn answer_line<R: Responder>(
     responder: &mut R,
     disks: &mut R::Maker,
     piece: &[u8],
-    kept: &mut PendingLine,
+    begun: &mut PendingLine,
     out: &mut Vec<u8>,
 ) -> Result<(), Unanswered>
     requires held { R.holds responder.old (R.Maker.state disks.old).out }
     ensures held { R.holds responder.new (R.Maker.state disks.new).out }
     ensures later { (R.Maker.state disks.old).faults ≤ (R.Maker.state disks.new).faults }
     ensures cause { result ≡ Err Unanswered.NoDisk → Rose (R.Maker.state disks.old).faults (R.Maker.state disks.new).faults }
-    ensures same { OnOk result (IsKept (R.Maker.state disks.old) (R.Maker.state disks.new)) }
-    ensures making { result ≡ Err Unanswered.NoDisk → makes_cluster (take 4098 (kept.old ++ piece.now)) ≡ true }
+    ensures same { OnOk result (IsUnchanged (R.Maker.state disks.old) (R.Maker.state disks.new)) }
+    ensures making { result ≡ Err Unanswered.NoDisk → makes_cluster (take 4098 (begun.old ++ piece.now)) ≡ true }
     ensures lacks { result ≡ Err Unanswered.NoDisk → R.lacks responder.old }
-    ensures ok { OnOk result (AnswersLine R.reached responder.old responder.new (take 4098 (kept.old ++ piece.now)) out.old.items out.new.items) }
-    ensures none_kept { OnOk result (kept.new ≡ []) }
+    ensures ok { OnOk result (AnswersLine R.reached responder.old responder.new (take 4098 (begun.old ++ piece.now)) out.old.items out.new.items) }
+    ensures none_begun { OnOk result (begun.new ≡ []) }
     ensures err { OnErr result (out.new.items ≡ out.old.items) }
 {
-    if kept.is_empty() {
-        return responder.answer(disks, &piece[..min(KEPT, piece.len())], out);
+    if begun.is_empty() {
+        return responder.answer(disks, &piece[..min(MOST_BEGUN, piece.len())], out);
     }
-    kept.extend(piece)?;
-    responder.answer(disks, kept.as_slice(), out)?;
-    kept.clear();
+    begun.extend(piece)?;
+    responder.answer(disks, begun.as_slice(), out)?;
+    begun.clear();
     Ok(())
 }
 
 /// Answers each line that ends in the block, in place, and keeps what stands behind the last LF.
-#[tactic(auto, using(crate::proofs::bytes::Moves::moves_start, crate::proofs::bytes::Moves::moves_part, crate::proofs::commands::Making::kept_refl))]
+#[tactic(auto, using(crate::proofs::bytes::Moves::moves_start, crate::proofs::bytes::Moves::moves_front, crate::proofs::commands::Making::unchanged_refl))]
 pub(crate) fn answer_lines<R: Responder>(
     responder: &mut R,
     disks: &mut R::Maker,
     block: &[u8],
-    kept: &mut PendingLine,
+    begun: &mut PendingLine,
     out: &mut Vec<u8>,
 ) -> Result<(), Unanswered>
     requires held { R.holds responder.old (R.Maker.state disks.old).out }
     ensures held { R.holds responder.new (R.Maker.state disks.new).out }
     ensures later { (R.Maker.state disks.old).faults ≤ (R.Maker.state disks.new).faults }
     ensures cause { result ≡ Err Unanswered.NoDisk → Rose (R.Maker.state disks.old).faults (R.Maker.state disks.new).faults }
-    ensures same { OnOk result (IsKept (R.Maker.state disks.old) (R.Maker.state disks.new)) }
-    ensures before { result ≡ Err Unanswered.NoDisk → MovesBefore R.reached R.lacks responder.old block.now kept.old out.old.items out.new.items }
-    ensures ok { OnOk result (Moves R.reached responder.old responder.new block.now kept.old kept.new out.old.items out.new.items) }
-    ensures err { OnErr result (MovesPart R.reached responder.old block.now kept.old out.old.items out.new.items) }
+    ensures same { OnOk result (IsUnchanged (R.Maker.state disks.old) (R.Maker.state disks.new)) }
+    ensures before { result ≡ Err Unanswered.NoDisk → MovesBefore R.reached R.lacks responder.old block.now begun.old out.old.items out.new.items }
+    ensures ok { OnOk result (Moves R.reached responder.old responder.new block.now begun.old begun.new out.old.items out.new.items) }
+    ensures err { OnErr result (MovesFront R.reached responder.old block.now begun.old out.old.items out.new.items) }
 {
     let mut rest = block;
     while let Some(end) = line_end(rest) {
         let (piece, more) = rest.split_at(end);
-        match answer_line(responder, disks, piece, kept, out) {
+        match answer_line(responder, disks, piece, begun, out) {
             Ok(()) => rest = &more[1..],
             Err(error) => return Err(error),
         }
     }
-    kept.extend(rest)?;
+    begun.extend(rest)?;
     Ok(())
 }

@@ -1,6 +1,6 @@
 ghost use Rattle.std.specs.Prelude.{◌≡◌, ◌++◌, ◌==◌, ◌≤◌, [], length, take, OnOk, OnErr};
 
-use crate::responder::KEPT;
+use crate::responder::MOST_BEGUN;
 use std::alloc::{AllocError, Global};
 use std::cmp::min;
 use std::marker::Model;
@@ -70,7 +70,7 @@ fn extend_to(bytes: &mut Vec<u8>, piece: &[u8]) -> Result<(), AllocError>
     ensures small { length bytes.new.items ≤ 4098 }
     ensures err { OnErr result (bytes.new.items ≡ bytes.old.items) }
 {
-    let count = min(KEPT - bytes.len(), piece.len());
+    let count = min(MOST_BEGUN - bytes.len(), piece.len());
     bytes.extend_from_slice(&piece[..count])?;
     Ok(())
 }

@@ -7,22 +7,22 @@ use std::io::{Read, Write};
 
 /// A source over a reader, which isn't buffered here.
 #[derive(Drop)]
-pub struct Reading<R: Read + Drop> {
+pub struct ReaderSource<R: Read + Drop> {
     inner: R,
     faults: u64,
 }
 
-impl<R: Read + Drop> Reading<R> {
+impl<R: Read + Drop> ReaderSource<R> {
     /// Reads what this reader reads, with no fault yet.
     pub fn new(inner: R) -> Self
         ensures inner { result.inner ≡ inner }
         ensures faults { result.faults ≡ 0 }
     {
-        Reading { inner, faults: 0 }
+        ReaderSource { inner, faults: 0 }
     }
 }
 
-impl<R: Read + Drop> Source for Reading<R> {
+impl<R: Read + Drop> Source for ReaderSource<R> {
     ghost left = { λ s. R.remaining s.inner };
 
     ghost faults = { λ s. s.faults };
@@ -41,22 +41,22 @@ impl<R: Read + Drop> Source for Reading<R> {
 
 /// A sink over a writer, which isn't buffered here.
 #[derive(Drop)]
-pub struct Writing<W: Write + Drop> {
+pub struct WriterSink<W: Write + Drop> {
     inner: W,
     faults: u64,
 }
 
-impl<W: Write + Drop> Writing<W> {
+impl<W: Write + Drop> WriterSink<W> {
     /// Writes what this writer writes, with no fault yet.
     pub fn new(inner: W) -> Self
         ensures inner { result.inner ≡ inner }
         ensures faults { result.faults ≡ 0 }
     {
-        Writing { inner, faults: 0 }
+        WriterSink { inner, faults: 0 }
     }
 }
 
-impl<W: Write + Drop> Sink for Writing<W> {
+impl<W: Write + Drop> Sink for WriterSink<W> {
     ghost held = { λ s. W.contents s.inner };
 
     ghost faults = { λ s. s.faults };

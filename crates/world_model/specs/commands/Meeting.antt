@@ -102,12 +102,12 @@ meets run (command.Abort name) = no_cluster run ∷ no_session run name ∷ (not
 meets run (command.Send p site from) =
     no_cluster run
     ∷ (not (has_part run p) || (not (has_site run site) || site == p.site), step.NoPart)
-    ∷ ((messages run).kept == 4096, step.LimitMessages)
+    ∷ ((messages run).present == 4096, step.LimitMessages)
     ∷ []
 meets run (command.Deliver number) = no_cluster run ∷ (is_none (message_of run number), step.NoMessage) ∷ []
 meets run (command.DropMessage number) = no_cluster run ∷ (is_none (message_of run number), step.NoMessage) ∷ []
 meets run (command.DropReport number) = no_cluster run ∷ (is_none (report_of run number), step.NoMessage) ∷ []
-meets run (command.Report p) = no_cluster run ∷ (not (has_part run p), step.NoPart) ∷ ((reports run).kept == 4096, step.LimitReports) ∷ []
+meets run (command.Report p) = no_cluster run ∷ (not (has_part run p), step.NoPart) ∷ ((reports run).present == 4096, step.LimitReports) ∷ []
 meets run (command.Hear number p) =
     no_cluster run
     ∷ (not (has_part run p), step.NoPart)

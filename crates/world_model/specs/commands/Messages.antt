@@ -60,22 +60,22 @@ report_of (e ∷ run) k = report_after run k (report_of run k) e.step
 -- how many messages were made, which are numbered from 1, and how many are kept
 pub record Counts : Type 0 where
   pub made : ℕ
-  pub kept : ℕ
+  pub present : ℕ
 
 abbrev pub messages_after : Counts → Step → Counts
-messages_after old (step.Sent number q to lo hi count) = record { made = old.made + 1; kept = old.kept + 1 }
-messages_after old (step.DroppedMessage number) = record { made = old.made; kept = old.kept - 1 }
+messages_after old (step.Sent number q to lo hi count) = record { made = old.made + 1; present = old.present + 1 }
+messages_after old (step.DroppedMessage number) = record { made = old.made; present = old.present - 1 }
 messages_after old other = old
 
 abbrev pub messages : Run → Counts
-messages [] = record { made = 0; kept = 0 }
+messages [] = record { made = 0; present = 0 }
 messages (e ∷ run) = messages_after (messages run) e.step
 
 abbrev pub reports_after : Counts → Step → Counts
-reports_after old (step.Reported number q bounds) = record { made = old.made + 1; kept = old.kept + 1 }
-reports_after old (step.DroppedReport number) = record { made = old.made; kept = old.kept - 1 }
+reports_after old (step.Reported number q bounds) = record { made = old.made + 1; present = old.present + 1 }
+reports_after old (step.DroppedReport number) = record { made = old.made; present = old.present - 1 }
 reports_after old other = old
 
 abbrev pub reports : Run → Counts
-reports [] = record { made = 0; kept = 0 }
+reports [] = record { made = 0; present = 0 }
 reports (e ∷ run) = reports_after (reports run) e.step

@@ -99,7 +99,7 @@ for_report p (Some n) = record { at = p; call = HearOf n.from.part n.bounds }
 -- what a command asks of which partition next: a begin is handed what its session depends on, and `ls` are the lines of
 -- partitions so far
 abbrev pub asked_of : List world.Line → Run → Command → Placed
-asked_of ls run (command.Clock p reading) = record { at = p; call = Tick reading }
+asked_of ls run (command.Clock p clock_time) = record { at = p; call = Tick clock_time }
 asked_of ls run (command.Session name site) = record { at = record { site = site; part = 1 }; call = world.Open }
 asked_of ls run (command.Begin name part) = record { at = begin_place run name part; call = Begin name (dependency (sites_of run) ls name) }
 asked_of ls run (command.Read name o) = at_object (parts_of run) o (phase run name) (λ t. ReadOf t o)

@@ -21,7 +21,7 @@ may_fail other = true
 
 -- which calls write to the log, and so may find no room there
 abbrev pub may_write : Call → Bool
-may_write (Tick reading) = true
+may_write (Tick clock_time) = true
 may_write (Begin who dep) = true
 may_write (PrepareOf t) = true
 may_write (DecideOf t) = true
@@ -34,7 +34,7 @@ may_write other = false
 -- transaction in doubt, and every other call shows that its disk failed
 abbrev pub IsAnswer : List Line → PartId → Call → Step → Type 0
 IsAnswer before p call (step.Down q) = (q ≡ p) × (needs_up call ≡ true)
-IsAnswer before p (Tick reading) (step.Ticked q n) = q ≡ p
+IsAnswer before p (Tick clock_time) (step.Ticked q n) = q ≡ p
 IsAnswer before p (Begin who dep) (step.Began name t s) = name ≡ who
 IsAnswer before p (ReadOf t o) (step.Value name object value) = (object ≡ o) × (is_of before name t ≡ true)
 IsAnswer before p (UpdateOf t o op) (step.Updated name object stamp) = (object ≡ o) × (is_of before name t ≡ true)

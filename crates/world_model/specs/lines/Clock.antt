@@ -22,7 +22,7 @@ now (l ∷ ls) p = if same_part l.at p then time_after (now ls p) l.step else no
 -- the greatest time that calls would have made of `time` which a fault of the disk ended, since the last restart
 abbrev pub missed_after : ℕ → ℕ → Call → Step → ℕ
 missed_after time old call (step.Restarted p n bounds named listed) = 0
-missed_after time old (Tick reading) (step.Disk p) = max (max reading time) old
+missed_after time old (Tick clock_time) (step.Disk p) = max (max clock_time time) old
 missed_after time old (Begin who dep) (step.Disk p) = max (time + 1) old
 missed_after time old (PrepareOf t) (step.Disk p) = max (time + 1) old
 missed_after time old call other = old
@@ -34,7 +34,7 @@ missed (l ∷ ls) p = if same_part l.at p then missed_after (now ls p) (missed l
 -- what a line shows of its partition's clock
 abbrev pub ShowsTime : List Line → PartId → Call → Step → Type 0
 ShowsTime ls p call (step.Began name t s) = t.time ≡ now ls p + 1
-ShowsTime ls p (Tick reading) (step.Ticked q n) = n ≡ max reading (now ls p)
+ShowsTime ls p (Tick clock_time) (step.Ticked q n) = n ≡ max clock_time (now ls p)
 ShowsTime ls p call (step.Ticked q n) = ⊥
 ShowsTime ls p call (step.Prepared q t n) = n ≡ now ls p + 1
 ShowsTime ls p call (step.Restarted q n bounds named listed) = (now ls p ≤ n) × (n ≤ 1000 + max (now ls p) (missed ls p))

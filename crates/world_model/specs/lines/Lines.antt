@@ -8,7 +8,7 @@ use Rattle.world_model.specs.declared.step.Step.{Step}
 
 -- what a partition was asked: a run of the world holds no commands
 pub data Call : Type 0 where
-  Tick : (reading : ℕ) → Call
+  Tick : (clock_time : ℕ) → Call
   -- by a session, with what it was handed to depend on
   Begin : (who dependency : List ℕ) → Call
   ReadOf : (tx : TxId) (object : ObjectId) → Call

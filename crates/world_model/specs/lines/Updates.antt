@@ -57,12 +57,12 @@ abbrev pub lead : ℕ → List Line → TxId → PartId
 lead parts ls t = first_of (home t) (participants parts ls t)
 
 -- t reads and updates an object where it stands, at its own site
-abbrev pub StandsAt : ℕ → PartId → TxId → ObjectId → Type 0
-StandsAt parts p t o = (p.site ≡ t.site) × (place_of o.bucket o.key parts ≡ p.part)
+abbrev pub ObjectIsAt : ℕ → PartId → TxId → ObjectId → Type 0
+ObjectIsAt parts p t o = (p.site ≡ t.site) × (place_of o.bucket o.key parts ≡ p.part)
 
 -- a begin names its partition; whatever answers a read or an update, it was asked where the object stands
 abbrev pub IsPlaced : ℕ → List Line → PartId → Call → Step → Type 0
-IsPlaced parts ls p (ReadOf t o) step = StandsAt parts p t o
-IsPlaced parts ls p (UpdateOf t o op) step = StandsAt parts p t o
+IsPlaced parts ls p (ReadOf t o) step = ObjectIsAt parts p t o
+IsPlaced parts ls p (UpdateOf t o op) step = ObjectIsAt parts p t o
 IsPlaced parts ls p call (step.Began name t s) = home t ≡ p
 IsPlaced parts ls p call other = ⊤

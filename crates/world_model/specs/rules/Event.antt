@@ -13,7 +13,7 @@ use Rattle.world_model.specs.lines.Listed.{is_named}
 
 -- a call that is refused
 pub data Ask (E : Type 0) : Type 0 where
-  AskTick : (reading : ℕ) → Ask E
+  AskTick : (clock_time : ℕ) → Ask E
   AskBegin : (who dependency : List ℕ) → Ask E
   AskRead : (tx : TxId) (s : List ℕ) (object : ObjectId) (own : List (Upd E)) → Ask E
   AskUpdate : (tx : TxId) (s : List ℕ) (object : ObjectId) (own : List (Upd E)) (op : Op) → Ask E
@@ -58,7 +58,7 @@ is_restart other = false
 
 -- a call of a partition, with what it was handed and what it answered, or a crash
 pub data Event (E : Type 0) : Type 0 where
-  Ticked : (reading now : ℕ) → Event E
+  Ticked : (clock_time now : ℕ) → Event E
   -- by a session, with what it depends on
   Began : (who dependency : List ℕ) (tx : TxId) (s : List ℕ) → Event E
   -- with the earlier updates of the transaction, the parts that were read, in fold order, and the update that came of it

@@ -90,7 +90,7 @@ module _ {E : Type 0} where
     pub lead : p ≡ plan.lead t
     pub here : voted run t p ≡ true
     pub all : (q : PartId) → takes_part plan t q ≡ true → voted run t q ≡ true
-    pub kept : gave_up run t ≡ false
+    pub ungiven : gave_up run t ≡ false
     pub once : decide_tried run t ≡ false
     pub vector : c ≡ commit_vector plan run t
 

@@ -6,15 +6,14 @@ use Rattle.site_partitions.specs.Reaches.{types_of}
 use Rattle.cluster.specs.Acts.{Acts, Updates}
 use Rattle.cluster.specs.Live.{session_in}
 use Rattle.cluster.specs.Reached.{AppliesLive}
-use Rattle.cluster.proofs.Applying.{ok_is}
-use Rattle.txn_session.proofs.Results.{on_err}
+use Rattle.cluster.proofs.Applying.{ok_is, err_is}
 use Rattle.cluster.proofs.Updating.{not_due, unanswered, update_absent, update_applies}
 use Rattle.cluster.proofs.updates.update_in.Goals as goal
 
 pub returns-in-Err : goal.returns-in-Err
 returns-in-Err g c =
     let rest : (c.get_mut.follows.lender c.in-Some.session.now).entries ≡ c.args.sessions.now.entries = search (rules, set_value_same) in
-    let same : (c.get_mut.follows.lender c.update-answer.new.self).entries ≡ c.args.sessions.now.entries = ap (λ s. (c.get_mut.follows.lender s).entries) (on_err _ _ _ c.in-Err.is c.update-answer.ensures.err) ∙ rest in
+    let same : (c.get_mut.follows.lender c.update-answer.new.self).entries ≡ c.args.sessions.now.entries = ap (λ s. (c.get_mut.follows.lender s).entries) (err_is _ _ _ c.in-Err.is c.update-answer.ensures.err) ∙ rest in
     unanswered (types_of g.C.Crdt.laws g.C.Crdt.spells g.D.Disk.state) (record { sites = c.args.sites.now; sessions = c.args.sessions.now.entries }) c.args.name.now c.args.object.now c.args.op.now c.requires.shallow c.update-answer.result.1 c.in-Err.error c.in-Some.session.now c.update-answer.new.store (c.get_mut.follows.lender c.update-answer.new.self).entries c.refused.result c.in-Err.is c.update-answer.ensures.refused (search rules) same c.refused.ensures.line
 
 pub returns-in-Ok : goal.returns-in-Ok

@@ -9,7 +9,7 @@ use Rattle.crdt_any.specs.Simple.{simple_initial, simple_made, simple_holds}
 use Rattle.crdt_any.specs.Layer.{layer_holds, simple_state, map_go_state, map_rr_state}
 use Rattle.crdt_any.specs.LayerForm.{layer_is_of}
 use Rattle.crdt_any.specs.LayerLaws.{holds_as}
-use Rattle.crdt_any.proofs.Ready.{spelled_part, holds_simple, made_simple, is_of_simple, not_map}
+use Rattle.crdt_any.proofs.Ready.{inner_spelled, holds_simple, made_simple, is_of_simple, not_map}
 use Rattle.crdt_any.proofs.generate.effect_of.Goals as goal
 
 pub returns-in_ok-effect-in-MapGo-clause-ready : goal.returns-in_ok-effect-in-MapGo-clause-ready
@@ -17,7 +17,7 @@ returns-in_ok-effect-in-MapGo-clause-ready g c =
     let I = g.I.Crdt in
     let made = c.in_ok-effect-in-MapGo.effect in
     λ h.
-    let ready = c.in_ok-effect-in-MapGo.ensures.ready (ap (map_has false) c.in-MapGo.is) (spelled_part (layer_holds I.holds) (map_holds I.holds) c.args.state.now (option_copied c.map_go.result) (map_go_state c.args.state.now) empty (holds_as I.laws I.in_maps kinds.MapGo c.args.state.now) c.map_go.ensures h) in
+    let ready = c.in_ok-effect-in-MapGo.ensures.ready (ap (map_has false) c.in-MapGo.is) (inner_spelled (layer_holds I.holds) (map_holds I.holds) c.args.state.now (option_copied c.map_go.result) (map_go_state c.args.state.now) empty (holds_as I.laws I.in_maps kinds.MapGo c.args.state.now) c.map_go.ensures h) in
     record { kind = ap (λ k. layer_is_of {E = g.row.I-Effect.Denot} k (effect.MapGo made)) c.in-MapGo.is; fit = ready.fit; sets = ready.sets; opened = ready.opened }
 
 pub returns-in_ok-effect-in-MapRr-clause-ready : goal.returns-in_ok-effect-in-MapRr-clause-ready
@@ -25,7 +25,7 @@ returns-in_ok-effect-in-MapRr-clause-ready g c =
     let I = g.I.Crdt in
     let made = c.in_ok-effect-in-MapRr.effect in
     λ h.
-    let ready = c.in_ok-effect-in-MapRr.ensures.ready (ap (map_has true) c.in-MapRr.is) (spelled_part (layer_holds I.holds) (map_holds I.holds) c.args.state.now (option_copied c.map_rr.result) (map_rr_state c.args.state.now) empty (holds_as I.laws I.in_maps kinds.MapRr c.args.state.now) c.map_rr.ensures h) in
+    let ready = c.in_ok-effect-in-MapRr.ensures.ready (ap (map_has true) c.in-MapRr.is) (inner_spelled (layer_holds I.holds) (map_holds I.holds) c.args.state.now (option_copied c.map_rr.result) (map_rr_state c.args.state.now) empty (holds_as I.laws I.in_maps kinds.MapRr c.args.state.now) c.map_rr.ensures h) in
     record { kind = ap (λ k. layer_is_of {E = g.row.I-Effect.Denot} k (effect.MapRr made)) c.in-MapRr.is; fit = ready.fit; sets = ready.sets; opened = ready.opened }
 
 pub returns-in_ok-effect-in_default : goal.returns-in_ok-effect-in_default
@@ -38,6 +38,6 @@ returns-in_ok-effect-in_default g c =
     record {
       made = ap effect.Simple (c.in_ok-effect-in_default.ensures.made ∙ ap (λ o. simple_made k (unwrap_or o (simple_initial k)) c.args.path.now c.args.act.now c.args.now) c.simple.ensures) ∙ made_simple I.has I.initial I.generated I.is_blank k s c.args.path.now c.args.act.now c.args.now known;
       ready = λ h.
-          let ready = c.in_ok-effect-in_default.ensures.ready known (spelled_part (layer_holds I.holds) simple_holds s (option_copied c.simple.result) (simple_state s) (simple_initial k) (holds_simple I.holds k known s) c.simple.ensures h) in
+          let ready = c.in_ok-effect-in_default.ensures.ready known (inner_spelled (layer_holds I.holds) simple_holds s (option_copied c.simple.result) (simple_state s) (simple_initial k) (holds_simple I.holds k known s) c.simple.ensures h) in
           record { kind = is_of_simple g.row.I-Effect.Denot k made known ready.kind; fit = ready.fit; sets = ready.sets; opened = ready.opened };
     }

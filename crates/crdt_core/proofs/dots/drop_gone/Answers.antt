@@ -4,8 +4,8 @@ use Rattle.crdt_core.specs.DotSet.{without, IsAscending}
 use Rattle.crdt_core.proofs.DotSet.{ascending_without}
 use Rattle.crdt_core.proofs.dots.drop_gone.Goals as goal
 
-pub returns-clause-kept : goal.returns-clause-kept
-returns-clause-kept c = filter_same _ _ _ (λ x b f' k. search rules) _ _ c.retain.ensures.filtered
+pub returns-clause-remaining : goal.returns-clause-remaining
+returns-clause-remaining c = filter_same _ _ _ (λ x b f' k. search rules) _ _ c.retain.ensures.filtered
 
 pub returns-clause-ascending : goal.returns-clause-ascending
 returns-clause-ascending c =

@@ -1,7 +1,7 @@
 use Rattle.std.proofs.Common.{◌∙◌, take}
 use Rattle.std.specs.List.{flat_map}
 use Rattle.reply_text.specs.Text.{text_of}
-use Rattle.dc_engine.proofs.commands.WrittenLines.{line_more, line_kept, on_err}
+use Rattle.dc_engine.proofs.commands.WrittenLines.{line_more, line_begun, on_err}
 use Rattle.dc_engine.proofs.player.write_lines.Goals as goal
 
 pub loop-step-preserved : goal.loop-step-preserved
@@ -11,4 +11,4 @@ loop-step-preserved c =
 
 pub returns-in_err-line-clause-err : goal.returns-in_err-line-clause-err
 returns-in_err-line-clause-err c =
-    on_err _ _ (line_kept c.args.out.now.items (flat_map text_of (take c.loop-step.step-index c.args.steps.now)) c.line.new.out.items (c.in_err-line.ensures.err ∙ c.loop-step.invariant))
+    on_err _ _ (line_begun c.args.out.now.items (flat_map text_of (take c.loop-step.step-index c.args.steps.now)) c.line.new.out.items (c.in_err-line.ensures.err ∙ c.loop-step.invariant))

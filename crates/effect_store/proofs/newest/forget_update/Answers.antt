@@ -2,28 +2,28 @@ use Rattle.std.proofs.Common.{◌≡◌, ◌<◌, length, refl, sym, ◌∙◌, 
 use Rattle.std.specs.HashMap.{get}
 use Rattle.std.proofs.lemmas.Option.{slice_get_read, slice_get-get_or}
 use Rattle.effect_store.proofs.Arranging.{get_in}
-use Rattle.effect_store.proofs.Linking.{stands, before_at}
+use Rattle.effect_store.proofs.Linking.{entry_spot, before_at}
 use Rattle.effect_store.proofs.Keeping.{mapped_some, read_of, clear_after, clear_gone}
 use Rattle.effect_store.proofs.newest.forget_update.Goals as goal
 
-pub stands_before-requires-clause-there : goal.stands_before-requires-clause-there
-stands_before-requires-clause-there g c =
+pub entry_comes_before-requires-clause-there : goal.entry_comes_before-requires-clause-there
+entry_comes_before-requires-clause-there g c =
     let m = mapped_some (λ k. k.at) _ c.in-Some.end (sym c.in-Some.is ∙ c.end_of.ensures) in
     let n : c.in-Some.end < length c.args.links.now.entries.items = (let k = c.requires.within _ m.0 m.1 in let e : m.0.at ≡ c.in-Some.end = m.2 in omega (arith, k, e)) in
     let there = slice_get_read c.args.links.now.entries.items _ c.in-Some.end _ refl n c.index.ensures in
-    let r = stands _ _ _ _ _ _ _ c.requires.reading.linked _ _ there in
+    let r = entry_spot _ _ _ _ _ _ _ c.requires.fitting.linked _ _ there in
     get_in _ _ _ r.2
 
-pub returns-then-stands_before-clause-clear : goal.returns-then-stands_before-clause-clear
-returns-then-stands_before-clause-clear g c = λ i k z q w v f.
+pub returns-then-entry_comes_before-clause-clear : goal.returns-then-entry_comes_before-clause-clear
+returns-then-entry_comes_before-clause-clear g c = λ i k z q w v f.
     (let m = mapped_some (λ k. k.at) _ c.in-Some.end (sym c.in-Some.is ∙ c.end_of.ensures) in
     let n : c.in-Some.end < length c.args.links.now.entries.items = (let k = c.requires.within _ m.0 m.1 in let e : m.0.at ≡ c.in-Some.end = m.2 in omega (arith, k, e)) in
     let there = slice_get_read c.args.links.now.entries.items _ c.in-Some.end _ refl n c.index.ensures in
-    let r = stands _ _ _ _ _ _ _ c.requires.reading.linked _ _ there in
+    let r = entry_spot _ _ _ _ _ _ _ c.requires.fitting.linked _ _ there in
     let inside : c.args.at < length c.as_slice.result.now = rw c.as_slice.ensures c.requires.there in
     let u = read_of _ _ _ _ c.as_slice.ensures (slice_get-get_or c.as_slice.result.now c.args.at c.index-as_slice-at.result inside) in
     clear_after c.args.parts.now c.args.part.now (get nat_eq c.args.newest.now) c.args.at _ _ (get_or c.as_slice.result.now c.args.at c.index-as_slice-at.result) r.0 c.tag_of-tag.ensures (sym c.in-Some.is ∙ c.end_of.ensures) r.1
-    (before_at r.0 c.args.part.now c.args.at (get_or c.as_slice.result.now c.args.at c.index-as_slice-at.result) _ _ r.3 (sym (c.stands_before.ensures _ r.2) ∙ c.if-stands_before.true)) i k z q w v u f)
+    (before_at r.0 c.args.part.now c.args.at (get_or c.as_slice.result.now c.args.at c.index-as_slice-at.result) _ _ r.3 (sym (c.entry_comes_before.ensures _ r.2) ∙ c.if-entry_comes_before.true)) i k z q w v u f)
 
 pub returns-clause-clear : goal.returns-clause-clear
 returns-clause-clear g c = λ i k z q w v f.

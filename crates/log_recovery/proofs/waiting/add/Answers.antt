@@ -1,7 +1,7 @@
 use Rattle.std.proofs.Common.{refl, ap, ◌∙◌, arith}
-use Rattle.log_recovery.specs.Lists.{kept}
+use Rattle.log_recovery.specs.Lists.{still_there}
 use Rattle.log_recovery.proofs.Choices.{when_ok}
-use Rattle.log_recovery.proofs.Slots.{kept_push, placed_alike, placed_push}
+use Rattle.log_recovery.proofs.Slots.{still_there_push, placed_alike, placed_push}
 use Rattle.log_recovery.proofs.waiting.add.Goals as goal
 
 pub returns-in_err-push-clause-placed : goal.returns-in_err-push-clause-placed
@@ -14,4 +14,4 @@ returns-clause-placed g c =
     placed_alike _ _ _ _ (λ u. refl) c.in_ok-push.ensures.items (placed_push _ _ c.args.slots.now.items c.args.entry c.len-at.result before c.requires.fresh (omega arith) put)
 
 pub returns-clause-ok : goal.returns-clause-ok
-returns-clause-ok g c = ap (λ l. kept l) c.in_ok-push.ensures.items ∙ kept_push c.args.slots.now.items c.args.entry
+returns-clause-ok g c = ap (λ l. still_there l) c.in_ok-push.ensures.items ∙ still_there_push c.args.slots.now.items c.args.entry

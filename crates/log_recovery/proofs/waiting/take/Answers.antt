@@ -1,5 +1,5 @@
 use Rattle.std.proofs.Common.{refl, sym, subst}
-use Rattle.log_recovery.specs.Lists.{kept}
+use Rattle.log_recovery.specs.Lists.{still_there}
 use Rattle.prepared_table.specs.Entries.{IsTakenOut}
 use Rattle.log_recovery.proofs.Slots.{placed_alike, placed_there, placed_empty, emptied}
 use Rattle.log_recovery.proofs.waiting.take.Goals as goal
@@ -13,5 +13,5 @@ returns-clause-placed g c =
     c.trim.ensures.placed _ (placed_alike _ _ _ _ (λ u. refl) c.empty-entry.ensures.emptied (placed_empty _ _ _ c.args.tx c.in-Some.at there.0 c.requires.placed there.1 there.2 (sym c.in-Some.ensures.value) c.in-Some.ensures.updates.0))
 
 pub returns-clause-taken : goal.returns-clause-taken
-returns-clause-taken g c = subst (λ l. IsTakenOut c.empty-entry.result (kept c.args.slots.now.items) l) (sym c.trim.ensures.kept)
-    (subst (λ l. IsTakenOut c.empty-entry.result (kept c.args.slots.now.items) (kept l)) (sym c.empty-entry.ensures.emptied) (emptied _ c.in-Some.at c.empty-entry.result c.empty-entry.ensures.there))
+returns-clause-taken g c = subst (λ l. IsTakenOut c.empty-entry.result (still_there c.args.slots.now.items) l) (sym c.trim.ensures.still_there)
+    (subst (λ l. IsTakenOut c.empty-entry.result (still_there c.args.slots.now.items) (still_there l)) (sym c.empty-entry.ensures.emptied) (emptied _ c.in-Some.at c.empty-entry.result c.empty-entry.ensures.there))

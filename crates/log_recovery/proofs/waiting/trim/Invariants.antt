@@ -1,11 +1,11 @@
 use Rattle.std.proofs.Common.{◌≡◌, ℕ, Option, vec_len}
 use Rattle.site_vector.specs.declared.ids.TxId.{TxId}
-use Rattle.log_recovery.specs.Lists.{kept, ArePlaced}
+use Rattle.log_recovery.specs.Lists.{still_there, ArePlaced}
 use Rattle.log_recovery.proofs.waiting.trim.Given as goal
 
 abbrev pub invariant-loop-slots : goal.invariant-loop-slots
 invariant-loop-slots g l = record {
-  kept : kept l.slots.items ≡ kept l.fn.slots.items;
+  still_there : still_there l.slots.items ≡ still_there l.fn.slots.items;
   placed : (places : TxId → Option ℕ) → ArePlaced places l.fn.slots.items → ArePlaced places l.slots.items;
 }
 

@@ -1,6 +1,6 @@
 use Rattle.std.proofs.Common.{◌<◌, ◌≤◌, ◌+◌, length, ap, ◌∙◌, arith}
 use Rattle.std.proofs.lemmas.List.{length-set}
-use Rattle.txn_session.proofs.Counting.{more_kept, same_kept}
+use Rattle.txn_session.proofs.Counting.{count_rises, count_stays}
 use Rattle.txn_session.proofs.chosen.participants_of.Goals as goal
 use Rattle.txn_session.proofs.chosen.participants_of.Goals.{then-has_at, else-has_at}
 
@@ -14,11 +14,11 @@ loop-k-preserved g c =
       | then-has_at w ↦ let n = w.count-is in record {
         room = ap length w.list-is ∙ (length-set c.loop-k.list c.loop-k.count (c.loop-k.k + 1) ∙ i.room);
         low = omega arith;
-        listed = more_kept c.args.parts c.args.updates.now c.loop-k.list c.if-has_at.list c.loop-k.count c.if-has_at.count c.loop-k.k low i.listed w.list-is w.count-is w.if-has_at.ensures;
+        listed = count_rises c.args.parts c.args.updates.now c.loop-k.list c.if-has_at.list c.loop-k.count c.if-has_at.count c.loop-k.k low i.listed w.list-is w.count-is w.if-has_at.ensures;
       }
       | else-has_at w ↦ let n = w.count-is in record {
         room = ap length w.list-is ∙ i.room;
         low = omega arith;
-        listed = same_kept c.args.parts c.args.updates.now c.loop-k.list c.if-has_at.list c.loop-k.count c.if-has_at.count c.loop-k.k i.listed w.list-is w.count-is w.if-has_at.ensures;
+        listed = count_stays c.args.parts c.args.updates.now c.loop-k.list c.if-has_at.list c.loop-k.count c.if-has_at.count c.loop-k.k i.listed w.list-is w.count-is w.if-has_at.ensures;
       }
     ]

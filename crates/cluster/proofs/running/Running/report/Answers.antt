@@ -15,13 +15,13 @@ returns-then-not-has_part g c =
     let w : WholeState g.row.C-Effect.Denot _ = record { live = c.self.inside.live; post = post } in
     map_ok c.only.result (λ steps is. subst (λ (x : WholeState g.row.C-Effect.Denot _). Applies (types_of g.C.Crdt.laws g.C.Crdt.spells g.D.Disk.state) (Some x) (command.Report c.args.part) steps.items (Some x)) c.self.view_is (report_nowhere (types_of g.C.Crdt.laws g.C.Crdt.spells g.D.Disk.state) w c.args.part steps.items is (sym c.has_part.ensures ∙ c.if-not-has_part.true))) c.only.ensures
 
-pub returns-then-len-eq-MOST_KEPT : goal.returns-then-len-eq-MOST_KEPT
-returns-then-len-eq-MOST_KEPT g c =
+pub returns-then-len-eq-MOST_IN_POST : goal.returns-then-len-eq-MOST_IN_POST
+returns-then-len-eq-MOST_IN_POST g c =
     let post : PostState g.row.C-Effect.Denot = record { letters = c.self.inside.letters.entries; next_letter = c.self.inside.next_letter; notes = c.self.inside.notes.entries; next_note = c.self.inside.next_note } in
     let w : WholeState g.row.C-Effect.Denot _ = record { live = c.self.inside.live; post = post } in
     let there : holds_part c.self.inside.live.sites c.args.part ≡ true = sym c.has_part.ensures ∙ c.if-not-has_part.false in
     let full : (length c.self.inside.notes.entries == 4096) ≡ true = search rules in
-    map_ok c.only-then-len-eq-MOST_KEPT.result (λ steps is. subst (λ (x : WholeState g.row.C-Effect.Denot _). Applies (types_of g.C.Crdt.laws g.C.Crdt.spells g.D.Disk.state) (Some x) (command.Report c.args.part) steps.items (Some x)) c.self.view_is (report_full (types_of g.C.Crdt.laws g.C.Crdt.spells g.D.Disk.state) w c.args.part steps.items is there full)) c.only-then-len-eq-MOST_KEPT.ensures
+    map_ok c.only-then-len-eq-MOST_IN_POST.result (λ steps is. subst (λ (x : WholeState g.row.C-Effect.Denot _). Applies (types_of g.C.Crdt.laws g.C.Crdt.spells g.D.Disk.state) (Some x) (command.Report c.args.part) steps.items (Some x)) c.self.view_is (report_full (types_of g.C.Crdt.laws g.C.Crdt.spells g.D.Disk.state) w c.args.part steps.items is there full)) c.only-then-len-eq-MOST_IN_POST.ensures
 
 pub returns-in-Ok : goal.returns-in-Ok
 returns-in-Ok g c =

@@ -17,13 +17,13 @@ returns-then-lacks_way g c =
     let w : WholeState g.row.C-Effect.Denot _ = record { live = c.self.inside.live; post = post } in
     map_ok c.only.result (λ steps is. subst (λ (x : WholeState g.row.C-Effect.Denot _). Applies (types_of g.C.Crdt.laws g.C.Crdt.spells g.D.Disk.state) (Some x) (command.Send c.args.part c.args.site c.args.from) steps.items (Some x)) c.self.view_is (send_nowhere (types_of g.C.Crdt.laws g.C.Crdt.spells g.D.Disk.state) w c.args.part c.args.site c.args.from steps.items is (ap (λ (x : WholeState g.row.C-Effect.Denot _). lacks_way x.live.sites c.args.part c.args.site) c.self.view_is ∙ (sym c.lacks_way.ensures ∙ c.if-lacks_way.true)))) c.only.ensures
 
-pub returns-then-len-eq-MOST_KEPT : goal.returns-then-len-eq-MOST_KEPT
-returns-then-len-eq-MOST_KEPT g c =
+pub returns-then-len-eq-MOST_IN_POST : goal.returns-then-len-eq-MOST_IN_POST
+returns-then-len-eq-MOST_IN_POST g c =
     let post : PostState g.row.C-Effect.Denot = record { letters = c.self.inside.letters.entries; next_letter = c.self.inside.next_letter; notes = c.self.inside.notes.entries; next_note = c.self.inside.next_note } in
     let w : WholeState g.row.C-Effect.Denot _ = record { live = c.self.inside.live; post = post } in
     let way : lacks_way c.self.inside.live.sites c.args.part c.args.site ≡ false = ap (λ (x : WholeState g.row.C-Effect.Denot _). lacks_way x.live.sites c.args.part c.args.site) c.self.view_is ∙ (sym c.lacks_way.ensures ∙ c.if-lacks_way.false) in
     let full : (length c.self.inside.letters.entries == 4096) ≡ true = search rules in
-    map_ok c.only-then-len-eq-MOST_KEPT.result (λ steps is. subst (λ (x : WholeState g.row.C-Effect.Denot _). Applies (types_of g.C.Crdt.laws g.C.Crdt.spells g.D.Disk.state) (Some x) (command.Send c.args.part c.args.site c.args.from) steps.items (Some x)) c.self.view_is (send_full (types_of g.C.Crdt.laws g.C.Crdt.spells g.D.Disk.state) w c.args.part c.args.site c.args.from steps.items is way full)) c.only-then-len-eq-MOST_KEPT.ensures
+    map_ok c.only-then-len-eq-MOST_IN_POST.result (λ steps is. subst (λ (x : WholeState g.row.C-Effect.Denot _). Applies (types_of g.C.Crdt.laws g.C.Crdt.spells g.D.Disk.state) (Some x) (command.Send c.args.part c.args.site c.args.from) steps.items (Some x)) c.self.view_is (send_full (types_of g.C.Crdt.laws g.C.Crdt.spells g.D.Disk.state) w c.args.part c.args.site c.args.from steps.items is way full)) c.only-then-len-eq-MOST_IN_POST.ensures
 
 pub release-requires-clause-may : goal.release-requires-clause-may
 release-requires-clause-may g c =

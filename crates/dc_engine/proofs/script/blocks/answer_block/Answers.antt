@@ -6,20 +6,20 @@ use Rattle.dc_engine.proofs.script.blocks.answer_block.Goals as goal
 pub returns-in_err-write_all-in-Ok-clause-err : goal.returns-in_err-write_all-in-Ok-clause-err
 returns-in_err-write_all-in-Ok-clause-err g c =
     let moves = rw c.in-Ok.is at c.answer_lines.ensures.ok in
-    let part = rw c.deref.ensures.value at c.write_all.ensures.part in
-    on_err _ _ (writes_front g.R.Responder.reached _ _ _ _ _ _ _ _ _ moves c.clear.ensures.items part)
+    let front = rw c.deref.ensures.value at c.write_all.ensures.front in
+    on_err _ _ (writes_front g.R.Responder.reached _ _ _ _ _ _ _ _ _ moves c.clear.ensures.items front)
 
 pub returns-in_err-write_all-in-Err-NoDisk-clause-err : goal.returns-in_err-write_all-in-Err-NoDisk-clause-err
 returns-in_err-write_all-in-Err-NoDisk-clause-err g c =
     let moves = rw c.in-Err-NoDisk.is at c.answer_lines.ensures.err in
-    let part = rw c.deref-in-Err-NoDisk.ensures.value at c.write_all-in-Err-NoDisk.ensures.part in
-    on_err _ _ (writes_some g.R.Responder.reached _ _ _ _ _ _ _ moves c.clear.ensures.items part)
+    let front = rw c.deref-in-Err-NoDisk.ensures.value at c.write_all-in-Err-NoDisk.ensures.front in
+    on_err _ _ (writes_some g.R.Responder.reached _ _ _ _ _ _ _ moves c.clear.ensures.items front)
 
 pub returns-in_ok-write_all-in-Err-NoDisk-clause-err : goal.returns-in_ok-write_all-in-Err-NoDisk-clause-err
 returns-in_ok-write_all-in-Err-NoDisk-clause-err g c =
     let moves = rw c.in-Err-NoDisk.is at c.answer_lines.ensures.err in
-    let part = rw c.deref-in-Err-NoDisk.ensures.value at c.write_all-in-Err-NoDisk.ensures.part in
-    writes_some g.R.Responder.reached _ _ _ _ _ _ _ moves c.clear.ensures.items part
+    let front = rw c.deref-in-Err-NoDisk.ensures.value at c.write_all-in-Err-NoDisk.ensures.front in
+    writes_some g.R.Responder.reached _ _ _ _ _ _ _ moves c.clear.ensures.items front
 
 pub returns-in_ok-write_all-in-Err-NoDisk-clause-before : goal.returns-in_ok-write_all-in-Err-NoDisk-clause-before
 returns-in_ok-write_all-in-Err-NoDisk-clause-before g c =
@@ -29,5 +29,5 @@ returns-in_ok-write_all-in-Err-NoDisk-clause-before g c =
 pub returns-in-Err-NoMemory-clause-err : goal.returns-in-Err-NoMemory-clause-err
 returns-in-Err-NoMemory-clause-err g c =
     let moves = rw c.in-Err-NoMemory.is at c.answer_lines.ensures.err in
-    let part = rw c.deref-in-Err-NoMemory.ensures.value at c.write_all-written.ensures.part in
-    writes_some g.R.Responder.reached _ _ _ _ _ _ _ moves c.clear.ensures.items part
+    let front = rw c.deref-in-Err-NoMemory.ensures.value at c.write_all-written.ensures.front in
+    writes_some g.R.Responder.reached _ _ _ _ _ _ _ moves c.clear.ensures.items front

@@ -1,14 +1,14 @@
 use Rattle.std.proofs.Common.{◌≤◌, length}
-use Rattle.dc_engine.specs.Makers.{IsKept}
+use Rattle.dc_engine.specs.Makers.{IsUnchanged}
 use Rattle.dc_engine.proofs.bytes.Moves.{MovesTo}
 use Rattle.dc_engine.proofs.script.lines.answer_lines.Given as goal
 
 abbrev pub invariant-loop-end : goal.invariant-loop-end
 invariant-loop-end g l = let state = g.R.Maker.Disks.state in record {
-  moves : MovesTo g.R.Responder.reached l.fn.responder l.responder l.block l.rest l.fn.kept l.kept l.fn.out.items l.out.items;
+  moves : MovesTo g.R.Responder.reached l.fn.responder l.responder l.block l.rest l.fn.begun l.begun l.fn.out.items l.out.items;
   held : g.R.Responder.holds l.responder (state l.disks).out;
   later : (state l.fn.disks).faults ≤ (state l.disks).faults;
-  same : IsKept (state l.fn.disks) (state l.disks);
+  same : IsUnchanged (state l.fn.disks) (state l.disks);
 }
 
 abbrev pub decreases-loop-end : goal.decreases-loop-end

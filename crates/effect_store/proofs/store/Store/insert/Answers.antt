@@ -8,7 +8,7 @@ use Rattle.effect_store.proofs.Holding.{when_ok, store_grown, apart}
 use Rattle.effect_store.proofs.Linking.{roomy_less}
 use Rattle.effect_store.proofs.Keeping.{newest_within, newest_after}
 use Rattle.effect_store.proofs.Between.{new_tx, lists_in, room_is}
-use Rattle.effect_store.proofs.Storing.{get_last, view_grown, linked_before, pushed_is, reading_of, room_after}
+use Rattle.effect_store.proofs.Storing.{get_last, view_grown, linked_before, pushed_is, links_fit_of, room_after}
 use Rattle.effect_store.proofs.store.Store.insert.Goals as goal
 
 pub forget-requires-clause-within : goal.forget-requires-clause-within
@@ -55,7 +55,7 @@ invariant_of-self g c =
     let there = (get_last c.self.inside.parts.items c.as_slice-4.result.now c.args.part c.len-place.result grown (omega arith)) in
     let len : length c.as_slice-updates.result.now ≡ length c.args.part.updates = ap (λ (l : List _). length l) c.as_slice-updates.ensures in (
       store_grown _ _ _ c.self.invariant.0 c.push_reserved.new.self.items _ c.args.part _ c.len-place.result c.push_reserved.ensures.items (omega arith) parts c.requires.fresh (c.requires.width ∙ sym sites) u,
-      reading_of c.as_slice-4.result.now _ c.link_part.new.links 0 c.link_part.ensures.linked c.as_slice-4.ensures.value (c.link_part.ensures.room 0 c.args.part there (roomy_less c.self.inside.links (0 + length c.args.part.updates) c.self.inside.update_room (omega (arith, c.requires.update_room)) c.self.invariant.3)),
+      links_fit_of c.as_slice-4.result.now _ c.link_part.new.links 0 c.link_part.ensures.linked c.as_slice-4.ensures.value (c.link_part.ensures.room 0 c.args.part there (roomy_less c.self.inside.links (0 + length c.args.part.updates) c.self.inside.update_room (omega (arith, c.requires.update_room)) c.self.invariant.3)),
       record { small = omega (arith, c.self.invariant.2.small, c.requires.room); of_parts = omega (arith, c.self.invariant.2.of_parts, c.requires.room); of_ids = omega (arith, c.self.invariant.2.of_ids, c.insert-room_was_reserved.ensures.spare) },
       room_after c.self.inside.links c.link_part.new.links c.self.inside.update_room _ (length c.args.part.updates) (λ n. c.link_part.ensures.room n c.args.part there) c.self.invariant.3 (omega (arith, c.requires.update_room)),
       lists_in _ _ _ c.list_part.new.lists c.list_part.ensures.all (c.push_reserved.ensures.items ∙ ap (λ l. l ++ c.args.part ∷ []) (sym c.as_slice-3.ensures.value)),

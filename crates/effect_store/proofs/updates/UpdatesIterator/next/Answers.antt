@@ -1,5 +1,5 @@
 use Rattle.std.proofs.Common.{◌<◌, length, arith}
-use Rattle.effect_store.proofs.Reading.{given_next, moves_on}
+use Rattle.effect_store.proofs.Visiting.{given_next, moves_on}
 use Rattle.effect_store.proofs.updates.UpdatesIterator.next.Goals as goal
 
 pub returns-clause-steps : goal.returns-clause-steps

@@ -7,7 +7,7 @@ use Rattle.txn_session.specs.Opens.{IsUpdated}
 use Rattle.txn_session.specs.Holds.{MakesUpdate, Waits}
 use Rattle.txn_session.proofs.Results.{if_ok, if_err}
 use Rattle.txn_session.proofs.Acting.{legal_after, held_after, stays_waits}
-use Rattle.txn_session.proofs.Updating.{is_opened, doing_open, pushed_is, kept_is, update_may, update_tells, unmade_quiet, unmade_same, made_same, made_makes}
+use Rattle.txn_session.proofs.Updating.{is_opened, doing_open, pushed_is, stage_is, update_may, update_tells, unmade_quiet, unmade_same, made_same, made_makes}
 use Rattle.txn_session.proofs.session.Session.update.Goals as goal
 
 pub update-pass-requires-clause-may : goal.update-pass-requires-clause-may
@@ -84,7 +84,7 @@ returns-in-None-clause-updated g c =
     let held = held_after g.S.Store.numbers c.args.pass c.update-pass.result.0 c.update-pass.ensures.same c.args.self.now.doing c.requires.holds.held in
     let ew = ap (λ (w : SessionState g.row.C-Effect.Denot). w.name) v in
     let ei : c.len.result + 1 ≡ length f.updates.items + 1 = ap (λ n. n + 1) (c.len.ensures ∙ (c.reserve.ensures.len ∙ (sym c.as_slice.ensures.len ∙ ap length c.as_slice.ensures.value))) in
-    let same = kept_is _ c.args.self.now v txn f.stage c.reserve.new.self.items f.lead f.commit refl items in
+    let same = stage_is _ c.args.self.now v txn f.stage c.reserve.new.self.items f.lead f.commit refl items in
     subst (λ (w : SessionState g.row.C-Effect.Denot). IsUpdated c.args.self.now c.args.object.now c.in-Ok-answer.step w) (sym same) (unmade_same _ g.S.Store.sees g.S.Store.numbers g.S.Store.sites g.S.Store.parts c.args.store.now c.update-pass.new.self c.args.pass c.update-pass.result.0 c.args.self.now txn od c.requires.sites c.requires.parts some c.args.object.now c.as_slice-2.result.now f.site c.partition_of.result eo et eq c.args.op.now f.name (c.len.result + 1) ew ei legal held c.in-Ok-answer.step c.in-Ok-answer.made (if_ok _ _ _ c.in-Ok-answer.is c.update-pass.ensures.ok) c.in-None.is c.requires.holds)
 
 pub returns-in-None-clause-updates : goal.returns-in-None-clause-updates
@@ -103,7 +103,7 @@ returns-in-None-clause-updates g c run seen h =
     let held = held_after g.S.Store.numbers c.args.pass c.update-pass.result.0 c.update-pass.ensures.same c.args.self.now.doing c.requires.holds.held in
     let ew = ap (λ (w : SessionState g.row.C-Effect.Denot). w.name) v in
     let ei : c.len.result + 1 ≡ length f.updates.items + 1 = ap (λ n. n + 1) (c.len.ensures ∙ (c.reserve.ensures.len ∙ (sym c.as_slice.ensures.len ∙ ap length c.as_slice.ensures.value))) in
-    let same = kept_is _ c.args.self.now v txn f.stage c.reserve.new.self.items f.lead f.commit refl items in
+    let same = stage_is _ c.args.self.now v txn f.stage c.reserve.new.self.items f.lead f.commit refl items in
     subst (λ (w : SessionState g.row.C-Effect.Denot). MakesUpdate g.S.Store.sees g.S.Store.numbers c.update-pass.new.self c.update-pass.result.0 run c.args.self.now w c.args.object.now c.args.op.now c.in-Ok-answer.step c.args.self.now.doing) (sym same) (unmade_quiet _ g.S.Store.sees g.S.Store.numbers g.S.Store.sites g.S.Store.parts c.args.store.now c.update-pass.new.self c.args.pass c.update-pass.result.0 c.args.self.now txn od c.requires.sites c.requires.parts some c.args.object.now c.as_slice-2.result.now f.site c.partition_of.result eo et eq c.args.op.now f.name (c.len.result + 1) ew ei legal held c.in-Ok-answer.step c.in-Ok-answer.made (if_ok _ _ _ c.in-Ok-answer.is c.update-pass.ensures.ok) c.in-None.is run seen h)
 
 pub returns-in-Err-answer-clause-waits : goal.returns-in-Err-answer-clause-waits
@@ -112,7 +112,7 @@ returns-in-Err-answer-clause-waits g c run seen h =
     let v = c.self.view_is in
     let txn : Txn g.row.C-Effect.Denot = record { tx = f.tx; s = f.s; by = f.by; updates = f.updates.items } in
     let items : c.reserve.new.self.items ≡ f.updates.items = c.reserve.ensures.items in
-    let same = kept_is _ c.args.self.now v txn f.stage c.reserve.new.self.items f.lead f.commit refl items in
+    let same = stage_is _ c.args.self.now v txn f.stage c.reserve.new.self.items f.lead f.commit refl items in
     let legal = legal_after _ g.S.Store.sees g.S.Store.sites g.S.Store.parts g.S.Store.stays g.met.S.Store.legal g.met.S.Store.keeps c.args.store.now c.update-pass.new.self c.update-pass.ensures.stays c.update-pass.result.0 c.args.self.now.sites c.args.self.now.parts c.requires.sites c.requires.parts in
     let held = held_after g.S.Store.numbers c.args.pass c.update-pass.result.0 c.update-pass.ensures.same c.args.self.now.doing c.requires.holds.held in
     subst (λ (w : SessionState g.row.C-Effect.Denot). Waits g.S.Store.sees g.S.Store.numbers c.update-pass.new.self c.update-pass.result.0 run c.args.self.now w) (sym same) (stays_waits _ g.S.Store.sees g.S.Store.numbers c.update-pass.new.self c.update-pass.result.0 c.args.self.now legal held run h (if_err _ _ _ c.in-Err-answer.is c.update-pass.ensures.err run seen))

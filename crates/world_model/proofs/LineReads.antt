@@ -87,11 +87,11 @@ history_once [] = tt
 history_once (l ∷ ls) = newly_once ls l.step (history_once ls)
 
 -- places of the changes of t
-abbrev StandsHere : ℕ → TxId → Change → Type 0
-StandsHere parts t c = (c.at.site ≡ t.site) × (place_of c.object.bucket c.object.key parts ≡ c.at.part)
+abbrev ChangeIsAt : ℕ → TxId → Change → Type 0
+ChangeIsAt parts t c = (c.at.site ≡ t.site) × (place_of c.object.bucket c.object.key parts ≡ c.at.part)
 
 -- an object's updates are those at its place
-at_place : (parts : ℕ) (t : TxId) (o : ObjectId) (q : PartId) → q.site ≡ t.site → place_of o.bucket o.key parts ≡ q.part → (cs : List Change) → Each (StandsHere parts t) cs → Each (λ c. same_object c.object o ≡ true → same_part c.at q ≡ true) cs
+at_place : (parts : ℕ) (t : TxId) (o : ObjectId) (q : PartId) → q.site ≡ t.site → place_of o.bucket o.key parts ≡ q.part → (cs : List Change) → Each (ChangeIsAt parts t) cs → Each (λ c. same_object c.object o ≡ true → same_part c.at q ≡ true) cs
 at_place parts t o q s n [] h = tt
 at_place parts t o q s n (c ∷ cs) h = (
   (λ k. let e = same_object-true c.object o k in and_from _ _ (eq-eqb c.at.site q.site (h.0.0 ∙ sym s)) (eq-eqb c.at.part q.part (sym h.0.1 ∙ ap (λ x. place_of x.bucket x.key parts) e ∙ n))),
@@ -99,25 +99,25 @@ at_place parts t o q s n (c ∷ cs) h = (
 )
 
 module _ {E : Type 0} where
-  change_stands : (plan : Plan E) (run : List (Entry E)) (p : PartId) (event : Event E) (t : TxId) (time index : ℕ) → HandedAt plan run p event → Each (StandsHere plan.parts t) (change_of p time index (call_of event) (step_shown run p event) t)
-  change_stands plan run p (Updated u s o own op read x stamp) t time index h =
+  change_placed : (plan : Plan E) (run : List (Entry E)) (p : PartId) (event : Event E) (t : TxId) (time index : ℕ) → HandedAt plan run p event → Each (ChangeIsAt plan.parts t) (change_of p time index (call_of event) (step_shown run p event) t)
+  change_placed plan run p (Updated u s o own op read x stamp) t time index h =
       let c : Change = record { at = p; now = time; object = o; op = op; stamp = stamp; index = index } in ⊎_elim
-      (λ (k : same_tx u t ≡ true). subst (Each (StandsHere plan.parts t)) (sym (cond-true _ (c ∷ []) [] k)) ((h.0.site ∙ ap (λ y. y.site) (same_tx_is u t k), h.0.part), tt))
-      (λ (k : same_tx u t ≡ false). subst (Each (StandsHere plan.parts t)) (sym (cond-false _ (c ∷ []) [] k)) tt)
+      (λ (k : same_tx u t ≡ true). subst (Each (ChangeIsAt plan.parts t)) (sym (cond-true _ (c ∷ []) [] k)) ((h.0.site ∙ ap (λ y. y.site) (same_tx_is u t k), h.0.part), tt))
+      (λ (k : same_tx u t ≡ false). subst (Each (ChangeIsAt plan.parts t)) (sym (cond-false _ (c ∷ []) [] k)) tt)
       (cases_Bool (same_tx u t))
-  change_stands plan run p (Refused asked IsDown) t time index h = tt
-  change_stands plan run p (Refused asked why) t time index h = tt
-  change_stands plan run p (Cut (Decided u c)) t time index h = tt
-  change_stands plan run p (Cut a) t time index h = tt
-  change_stands plan run p event t time index h = tt
+  change_placed plan run p (Refused asked IsDown) t time index h = tt
+  change_placed plan run p (Refused asked why) t time index h = tt
+  change_placed plan run p (Cut (Decided u c)) t time index h = tt
+  change_placed plan run p (Cut a) t time index h = tt
+  change_placed plan run p event t time index h = tt
 
-  changes_stand : (plan : Plan E) (run : List (Entry E)) → AreHanded plan run → (t : TxId) → Each (StandsHere plan.parts t) (changes (shown_lines run) t)
-  changes_stand plan [] h t = tt
-  changes_stand plan (e ∷ run) h t = each_append (StandsHere plan.parts t) (changes (shown_lines run) t) (change_of e.at (now (shown_lines run) e.at) (length (changes (shown_lines run) t) + 1) (call_of e.event) (step_shown run e.at e.event) t) (changes_stand plan run h.1 t) (change_stands plan run e.at e.event t (now (shown_lines run) e.at) (length (changes (shown_lines run) t) + 1) h.0)
+  changes_placed : (plan : Plan E) (run : List (Entry E)) → AreHanded plan run → (t : TxId) → Each (ChangeIsAt plan.parts t) (changes (shown_lines run) t)
+  changes_placed plan [] h t = tt
+  changes_placed plan (e ∷ run) h t = each_append (ChangeIsAt plan.parts t) (changes (shown_lines run) t) (change_of e.at (now (shown_lines run) e.at) (length (changes (shown_lines run) t) + 1) (call_of e.event) (step_shown run e.at e.event) t) (changes_placed plan run h.1 t) (change_placed plan run e.at e.event t (now (shown_lines run) e.at) (length (changes (shown_lines run) t) + 1) h.0)
 
   object_changes : (plan : Plan E) (run : List (Entry E)) → AreHanded plan run → AreNew run → (t : TxId) (o : ObjectId) (q : PartId) → q.site ≡ t.site → place_of o.bucket o.key plan.parts ≡ q.part → filter (λ c. same_object c.object o) (changes (shown_lines run) t) ≡ map (to_change q) (filter (λ a. same_object a.change.object o) (asked_at run t q))
   object_changes plan run h n t o q s k =
-      filter_narrow (λ c. same_part c.at q) (λ c. same_object c.object o) (changes (shown_lines run) t) (at_place plan.parts t o q s k (changes (shown_lines run) t) (changes_stand plan run h t))
+      filter_narrow (λ c. same_part c.at q) (λ c. same_object c.object o) (changes (shown_lines run) t) (at_place plan.parts t o q s k (changes (shown_lines run) t) (changes_placed plan run h t))
       ∙ ap (filter (λ c. same_object c.object o)) (changes_there plan run h n t q)
       ∙ filter_map (to_change q) (λ c. same_object c.object o) (asked_at run t q)
 

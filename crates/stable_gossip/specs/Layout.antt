@@ -2,7 +2,7 @@
 use Rattle.std.specs.Prelude.{◌≡◌, ℕ, ◌≤◌, List, length}
 use Rattle.stable_gossip.specs.Gossip.{AreWide}
 
-pub record IsKept (sites parts : ℕ) (heard : List (List ℕ)) : Type 0 where
+pub record IsLaidOut (sites parts : ℕ) (heard : List (List ℕ)) : Type 0 where
   pub some_site : 1 ≤ sites
   pub most_sites : sites ≤ 8
   pub some_part : 1 ≤ parts

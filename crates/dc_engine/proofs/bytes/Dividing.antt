@@ -6,7 +6,7 @@ use Rattle.std.proofs.lemmas.Bool.{ne_eqb, eq-eqb, eqb-true}
 use Rattle.memchr.specs.Find.{IsFirstByte, is_byte}
 use Rattle.dc_engine.specs.Lines.{onto, lines_of, onto_first, ended_lines}
 use Rattle.script_text.specs.Ends.{HasNoEnd}
-use Rattle.dc_engine.specs.Blocks.{EndsAt, prefixed, prefixed_first, Stands}
+use Rattle.dc_engine.specs.Blocks.{EndsAt, prefixed, prefixed_first, IsDivided}
 
 prefixed-append : (front back : List ℕ) (lines : List (List ℕ)) → prefixed (front ++ back) lines ≡ prefixed front (prefixed back lines)
 prefixed-append [] back lines = refl
@@ -40,33 +40,33 @@ ended_lines-piece : (piece more : List ℕ) → HasNoEnd piece → ended_lines (
 ended_lines-piece [] more h = refl
 ended_lines-piece (b ∷ piece) more h = ap (λ c. cond c ([] ∷ ended_lines (piece ++ more)) (onto_first b (ended_lines (piece ++ more)))) (ne_eqb b 10 h.0) ∙ ap (onto_first b) (ended_lines-piece piece more h.1)
 
-pub stands_start : Stands [] [] []
-stands_start = record { ended = λ more. refl; whole = λ more. refl }
+pub divided_start : IsDivided [] [] []
+divided_start = record { ended = λ more. refl; whole = λ more. refl }
 
-pub stands_piece : (read : List ℕ) (lines : List (List ℕ)) (pending piece : List ℕ) → HasNoEnd piece → Stands read lines pending → Stands (read ++ piece) lines (pending ++ piece)
-stands_piece read lines pending piece h s = record {
+pub divided_piece : (read : List ℕ) (lines : List (List ℕ)) (pending piece : List ℕ) → HasNoEnd piece → IsDivided read lines pending → IsDivided (read ++ piece) lines (pending ++ piece)
+divided_piece read lines pending piece h s = record {
   ended = λ more. ap ended_lines (append_assoc read piece more) ∙ s.ended (piece ++ more) ∙ ap (λ l. lines ++ prefixed_first pending l) (ended_lines-piece piece more h) ∙ ap (λ l. lines ++ l) (sym (prefixed_first-append pending piece (ended_lines more)));
   whole = λ more. ap lines_of (append_assoc read piece more) ∙ s.whole (piece ++ more) ∙ ap (λ l. lines ++ prefixed pending l) (lines_of-piece piece more h) ∙ ap (λ l. lines ++ l) (sym (prefixed-append pending piece (lines_of more)));
 }
 
-pub stands_end : (read : List ℕ) (lines : List (List ℕ)) (pending : List ℕ) → Stands read lines pending → Stands (read ++ 10 ∷ []) (lines ++ pending ∷ []) []
-stands_end read lines pending s = record {
+pub divided_end : (read : List ℕ) (lines : List (List ℕ)) (pending : List ℕ) → IsDivided read lines pending → IsDivided (read ++ 10 ∷ []) (lines ++ pending ∷ []) []
+divided_end read lines pending s = record {
   ended = λ more. ap ended_lines (append_assoc read (10 ∷ []) more) ∙ s.ended (10 ∷ more) ∙ ap (λ l. lines ++ l) (prefixed_first-end pending (ended_lines more)) ∙ sym (append_assoc lines (pending ∷ []) (ended_lines more));
   whole = λ more. ap lines_of (append_assoc read (10 ∷ []) more) ∙ s.whole (10 ∷ more) ∙ ap (λ l. lines ++ l) (prefixed-end pending (lines_of more)) ∙ sym (append_assoc lines (pending ∷ []) (lines_of more));
 }
 
 -- the lines whose LF was read
-pub stands-ended : (read : List ℕ) (lines : List (List ℕ)) (pending : List ℕ) → Stands read lines pending → ended_lines read ≡ lines
-stands-ended read lines pending s = ap ended_lines (sym (append-nil read)) ∙ s.ended [] ∙ ap (λ l. lines ++ l) (prefixed_first-none pending) ∙ append-nil lines
+pub divided-ended : (read : List ℕ) (lines : List (List ℕ)) (pending : List ℕ) → IsDivided read lines pending → ended_lines read ≡ lines
+divided-ended read lines pending s = ap ended_lines (sym (append-nil read)) ∙ s.ended [] ∙ ap (λ l. lines ++ l) (prefixed_first-none pending) ∙ append-nil lines
 
 -- all lines, where the input ends right after a LF
-pub stands-whole : (read : List ℕ) (lines : List (List ℕ)) → Stands read lines [] → lines_of read ≡ lines
-stands-whole read lines s = ap lines_of (sym (append-nil read)) ∙ s.whole [] ∙ append-nil lines
+pub divided-whole : (read : List ℕ) (lines : List (List ℕ)) → IsDivided read lines [] → lines_of read ≡ lines
+divided-whole read lines s = ap lines_of (sym (append-nil read)) ∙ s.whole [] ∙ append-nil lines
 
 -- all lines, where the last one has no LF
-pub stands-last : (read : List ℕ) (lines : List (List ℕ)) (pending : List ℕ) → pending ≢ [] → Stands read lines pending → lines_of read ≡ lines ++ pending ∷ []
-stands-last read lines [] h s = absurd (h refl)
-stands-last read lines (b ∷ pending) h s = ap lines_of (sym (append-nil read)) ∙ s.whole [] ∙ ap (λ l. lines ++ l) (prefixed-last b pending)
+pub divided-last : (read : List ℕ) (lines : List (List ℕ)) (pending : List ℕ) → pending ≢ [] → IsDivided read lines pending → lines_of read ≡ lines ++ pending ∷ []
+divided-last read lines [] h s = absurd (h refl)
+divided-last read lines (b ∷ pending) h s = ap lines_of (sym (append-nil read)) ∙ s.whole [] ∙ ap (λ l. lines ++ l) (prefixed-last b pending)
 
 no_end : (bytes : List ℕ) (n : ℕ) → n ≤ length bytes → ((k : ℕ) → k < n → slice_index bytes k ≡ 10 → ⊥) → HasNoEnd (take n bytes)
 no_end bytes zero le h = tt
@@ -89,10 +89,10 @@ no_end_of bytes None f = subst HasNoEnd (take_all (length bytes) bytes (omega ar
 no_end_of bytes (Some at) f = tt
 
 -- the lines whose LF was read, after some bytes and after more of them
-pub stands-more : (read more : List ℕ) (lines next : List (List ℕ)) (pending rest : List ℕ) → Stands read lines pending → Stands (read ++ more) next rest → next ≡ ended_lines read ++ prefixed_first pending (ended_lines more)
-stands-more read more lines next pending rest s t =
-    sym (stands-ended (read ++ more) next rest t) ∙ s.ended more ∙ ap (λ l. l ++ prefixed_first pending (ended_lines more)) (sym (stands-ended read lines pending s))
+pub divided-more : (read more : List ℕ) (lines next : List (List ℕ)) (pending rest : List ℕ) → IsDivided read lines pending → IsDivided (read ++ more) next rest → next ≡ ended_lines read ++ prefixed_first pending (ended_lines more)
+divided-more read more lines next pending rest s t =
+    sym (divided-ended (read ++ more) next rest t) ∙ s.ended more ∙ ap (λ l. l ++ prefixed_first pending (ended_lines more)) (sym (divided-ended read lines pending s))
 
 -- the lines whose LF was read stand first, whatever comes
-pub stands-first : (read more : List ℕ) (lines : List (List ℕ)) (pending : List ℕ) → Stands read lines pending → (later : List (List ℕ)) × (lines_of (read ++ more) ≡ lines ++ later)
-stands-first read more lines pending s = (prefixed pending (lines_of more), s.whole more)
+pub divided-first : (read more : List ℕ) (lines : List (List ℕ)) (pending : List ℕ) → IsDivided read lines pending → (later : List (List ℕ)) × (lines_of (read ++ more) ≡ lines ++ later)
+divided-first read more lines pending s = (prefixed pending (lines_of more), s.whole more)

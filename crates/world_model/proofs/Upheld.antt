@@ -61,7 +61,7 @@ module _ {E : Type 0} where
       (λ (h : sites ≤ i). subst (λ x. x ≤ slice_index s i) (sym (past_end dep i (omega arith))) (omega arith))
       (cases_lt i sites))
 
-  pub record Kept {S : Type 0} (kinds : Kinds S E) (plan : Plan E) (run : List (Entry E)) (parts : PartId → PartState E) : Type 0 where
+  pub record Upheld {S : Type 0} (kinds : Kinds S E) (plan : Plan E) (run : List (Entry E)) (parts : PartId → PartState E) : Type 0 where
     pub leases : Leases run parts
     pub fate : Fate plan run parts
     pub intervals : Intervals plan run parts
@@ -77,7 +77,7 @@ module _ {E : Type 0} where
   empty_image : (sites parts : ℕ) (p : PartState E) (m : List (Record E)) → p ≡ new_part sites parts → Finds p m → m ≡ []
   empty_image sites parts p m e i = subst (λ x. Finds x m) e i
 
-  start : {S : Type 0} (kinds : Kinds S E) (plan : Plan E) (parts : PartId → PartState E) → ((p : PartId) → parts p ≡ new_part plan.sites plan.parts) → Kept kinds plan [] parts
+  start : {S : Type 0} (kinds : Kinds S E) (plan : Plan E) (parts : PartId → PartState E) → ((p : PartId) → parts p ≡ new_part plan.sites plan.parts) → Upheld kinds plan [] parts
   start kinds plan parts h =
       let empty = λ (q : PartId) (m : List (Record E)) (i : Finds (parts q) m). empty_image plan.sites plan.parts (parts q) m (h q) i in record {
         leases = record { clock = λ q. subst (λ x. Clock x 0 0) (sym (h q)) (record { whole = λ u. refl; now = refl; below = λ m i. omega arith; room = λ m i. subst (λ x. ceiling x ≤ 1000 + max 0 0) (sym i) (omega arith); capped = λ m i. subst (λ x. ceiling x ≤ end_of_time) (sym i) (omega arith) }) };
@@ -168,7 +168,7 @@ module _ {E : Type 0} where
   cause_event kinds plan run before q at (Refused (AskFinish t c) IsGone) f l p al st = never_gone plan run before at t f al.0 al.1 st.0.1
   cause_event kinds plan run before q at event f l p al st = tt
 
-  step : {S : Type 0} (kinds : Kinds S E) (plan : Plan E) (run : List (Entry E)) (before after : PartId → PartState E) (at : PartId) (event : Event E) → WorldStep kinds plan run before (record { at = at; event = event }) after → IsPlanned plan at event → Kept kinds plan run before → Kept kinds plan ((record { at = at; event = event }) ∷ run) after
+  step : {S : Type 0} (kinds : Kinds S E) (plan : Plan E) (run : List (Entry E)) (before after : PartId → PartState E) (at : PartId) (event : Event E) → WorldStep kinds plan run before (record { at = at; event = event }) after → IsPlanned plan at event → Upheld kinds plan run before → Upheld kinds plan ((record { at = at; event = event }) ∷ run) after
   step kinds plan run before after at event w planned k =
       let next : List (Entry E) = (record { at = at; event = event }) ∷ run in
       let mv = moved kinds plan run before after at event w.allowed w.step w.others in
@@ -192,9 +192,9 @@ module _ {E : Type 0} where
         causes = (cause_event kinds plan run before (after at) at event k.fate k.leases k.planned w.allowed w.step, k.causes);
       }
 
-  kept : {S : Type 0} (kinds : Kinds S E) (plan : Plan E) (run : List (Entry E)) (parts : PartId → PartState E) → IsRun kinds plan run parts → Kept kinds plan run parts
-  kept kinds plan [] parts r = start kinds plan parts r
-  kept kinds plan (e ∷ run) parts r = step kinds plan run r.0 parts e.at e.event r.2 r.3 (kept kinds plan run r.0 r.1)
+  upheld : {S : Type 0} (kinds : Kinds S E) (plan : Plan E) (run : List (Entry E)) (parts : PartId → PartState E) → IsRun kinds plan run parts → Upheld kinds plan run parts
+  upheld kinds plan [] parts r = start kinds plan parts r
+  upheld kinds plan (e ∷ run) parts r = step kinds plan run r.0 parts e.at e.event r.2 r.3 (upheld kinds plan run r.0 r.1)
 
   right_event : {S : Type 0} (kinds : Kinds S E) (plan : Plan E) (run : List (Entry E)) (parts : PartId → PartState E) (p : PartId) (event : Event E) → IsAnswered kinds plan run parts p event → IsBacked plan run parts p event → IsUnder plan p event → IsRight kinds plan run p event
   right_event kinds plan run parts p (Read t s o own read value) x y z = (z, x.0.right, x.1)
@@ -216,17 +216,17 @@ module _ {E : Type 0} where
       let b = and_parts (is_decided run u) _ y in
       and_from _ _ b.0 (le_onward (commit_vector plan run u) (plan.snapshot t) s b.1 (le_onward (plan.snapshot t) (commit_vector plan run t) s (below_commit plan run t (h t a.0)) a.1))
 
-  pub law_plan : {S : Type 0} (kinds : Kinds S E) (plan : Plan E) (run : List (Entry E)) (parts : PartId → PartState E) → IsRun kinds plan run parts → Kept kinds plan run parts
-  law_plan kinds plan run parts r = kept kinds plan run parts r
+  pub law_plan : {S : Type 0} (kinds : Kinds S E) (plan : Plan E) (run : List (Entry E)) (parts : PartId → PartState E) → IsRun kinds plan run parts → Upheld kinds plan run parts
+  law_plan kinds plan run parts r = upheld kinds plan run parts r
 
-  pub right_all : {S : Type 0} (kinds : Kinds S E) (plan : Plan E) (run : List (Entry E)) (parts : PartId → PartState E) → Kept kinds plan run parts → EventsAre (IsRight kinds plan run) run
+  pub right_all : {S : Type 0} (kinds : Kinds S E) (plan : Plan E) (run : List (Entry E)) (parts : PartId → PartState E) → Upheld kinds plan run parts → EventsAre (IsRight kinds plan run) run
   right_all kinds plan run parts k = right_events kinds plan run parts run k.reads k.bounds.events k.under
 
   -- a decided transaction took part at its lead
   decided_part : (plan : Plan E) (run : List (Entry E)) (parts : PartId → PartState E) → Fate plan run parts → (t : TxId) → is_decided run t ≡ true → takes_part plan t (plan.lead t) ≡ true
   decided_part plan run parts f t h = f.part (plan.lead t) t (voted_tried run t (plan.lead t) (full_now plan run parts f t h).lead)
 
-  pub facts_of : {S : Type 0} (kinds : Kinds S E) (plan : Plan E) (run : List (Entry E)) (parts : PartId → PartState E) → Kept kinds plan run parts → Facts plan run
+  pub facts_of : {S : Type 0} (kinds : Kinds S E) (plan : Plan E) (run : List (Entry E)) (parts : PartId → PartState E) → Upheld kinds plan run parts → Facts plan run
   facts_of kinds plan run parts k = record {
     strict = strict plan run parts k.fate;
     least = λ t h. plan.least t (plan.lead t) (decided_part plan run parts k.fate t h);
@@ -234,5 +234,5 @@ module _ {E : Type 0} where
     closed = closed plan run (strict plan run parts k.fate);
   }
 
-  pub never_both : {S : Type 0} (kinds : Kinds S E) (plan : Plan E) (run : List (Entry E)) (parts : PartId → PartState E) → Kept kinds plan run parts → (t : TxId) (p : PartId) → was_aborted run t p ≡ true → is_decided run t ≡ false
+  pub never_both : {S : Type 0} (kinds : Kinds S E) (plan : Plan E) (run : List (Entry E)) (parts : PartId → PartState E) → Upheld kinds plan run parts → (t : TxId) (p : PartId) → was_aborted run t p ≡ true → is_decided run t ≡ false
   never_both kinds plan run parts k t p a = false_from_ne_true _ (λ h. clash (k.fate.aborted_stays p (parts p).log t (image_log (parts p)) a) (never_aborted plan run parts k.fate p (parts p).log t (image_log (parts p)) h))

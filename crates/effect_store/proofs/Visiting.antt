@@ -12,7 +12,7 @@ use Rattle.effect_store.specs.declared.links.Links.{Links}
 use Rattle.effect_store.specs.Chains.{none, chain}
 use Rattle.effect_store.specs.Spots.{Spot, spots, tag_of, before}
 use Rattle.effect_store.specs.Links.{or_none}
-use Rattle.effect_store.specs.Wanted.{is_wanted, wants, pair, wanted, IsAsWide, IsReading}
+use Rattle.effect_store.specs.Wanted.{is_wanted, wants, pair, wanted, IsAsWide, LinksFit}
 use Rattle.effect_store.proofs.Arranging.{get_in, get_each}
 use Rattle.effect_store.proofs.Walking.{chain_next}
 use Rattle.effect_store.proofs.Ordering.{before_order}
@@ -24,7 +24,7 @@ skips o v x l m e h = rw (e, h) refl
 takes : {E : Type 0} (o : ObjectId) (v : Option (List ℕ)) (x : Spot E) (l m : List (Spot E)) → l ≡ x ∷ m → wants o v x ≡ true → map pair (filter (wants o v) l) ≡ pair x ∷ map pair (filter (wants o v) m)
 takes o v x l m e h = rw (e, h) refl
 
-module _ {E : Type 0} (parts : List (Part E)) (links : Links) (r : IsReading parts links) where
+module _ {E : Type 0} (parts : List (Part E)) (links : Links) (r : LinksFit parts links) where
   pub at_place : (k : ℕ) → k < length links.entries.items → (x : Spot E) × (slice_get (spots parts) k ≡ Some x)
   at_place k h = is_there (spots parts) k (omega (arith, r.linked.many))
 
@@ -60,7 +60,7 @@ module _ {E : Type 0} where
 pair_is : {E : Type 0} (p : Part E) (u : Upd E) (x : Spot E) (l m : List (Part E × Upd E)) → p ≡ x.part → u ≡ x.update → l ≡ pair x ∷ m → l ≡ (p, u) ∷ m
 pair_is p u x l m e f g = g ∙ (ap (λ q. (q, x.update) ∷ m) (sym e) ∙ ap (λ w. (p, w) ∷ m) (sym f))
 
-module _ {E : Type 0} (parts : List (Part E)) (links : Links) (r : IsReading parts links) where
+module _ {E : Type 0} (parts : List (Part E)) (links : Links) (r : LinksFit parts links) where
   -- the update that an iterator gives, and what is left
   pub given_next : (o : ObjectId) (v : Option (List ℕ)) (view : List (Part E × Upd E)) (from at b : ℕ) (p : Part E) (u : Upd E) → wanted o v parts from ≡ view → wanted o v parts at ≡ wanted o v parts from → at < length links.entries.items
       → ((x : Spot E) → slice_get (spots parts) at ≡ Some x → wants o v x ≡ true) → b ≡ get_or links.next.items at b
