@@ -10,7 +10,6 @@ use Rattle.world_model.specs.declared.step.Step.TheVariants as step
 use Rattle.world_model.specs.commands.Answers.{answered}
 use Rattle.world_model.specs.commands.Cluster.{parts_of}
 use Rattle.world_model.specs.rules.Event as event
-use Rattle.world_model.specs.rules.Event.{Event, WasNumbered}
 use Rattle.world_model.specs.commands.Meeting.{met}
 use Rattle.world_model.specs.commands.Messages.{message_of, report_of}
 use Rattle.world_model.specs.commands.Phases.{phase, by_command}

@@ -17,7 +17,6 @@ use Rattle.world_model.specs.commands.Cluster.{parts_of}
 use Rattle.world_model.specs.rules.Event.{Event, Took, Entry}
 use Rattle.world_model.specs.commands.Fuses.{Fuse, fuse, fuse_after, is_change, is_bringing, shows_written}
 use Rattle.world_model.specs.lines.Lines as world
-use Rattle.world_model.specs.lines.Lines.{Call}
 use Rattle.world_model.specs.rules.Lines.{shown_lines, call_of, step_shown}
 use Rattle.world_model.specs.rules.Partition.{records}
 use Rattle.world_model.specs.lines.Pending.{pending}

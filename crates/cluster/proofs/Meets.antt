@@ -10,7 +10,7 @@ use Rattle.world_model.specs.commands.Cluster.{has_cluster, parts_of}
 use Rattle.world_model.specs.commands.CommitSteps.{Going, Preparing, Finishing, Aborting}
 use Rattle.world_model.specs.commands.Meeting.{meets, met}
 use Rattle.world_model.specs.commands.Phases as phases
-use Rattle.world_model.specs.commands.Phases.{Phase, Absent, phase, by_command, is_undecided, update_total}
+use Rattle.world_model.specs.commands.Phases.{Absent, phase, by_command, is_undecided}
 use Rattle.world_model.specs.commands.Refusals.{first_due}
 use Rattle.world_model.specs.commands.Run.{Run}
 use Rattle.world_model.specs.commands.ScriptAnswers.{AnswersBy}

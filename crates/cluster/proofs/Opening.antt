@@ -11,7 +11,6 @@ use Rattle.world_model.specs.declared.step.Step.TheVariants as step
 use Rattle.world_model.specs.commands.Answers.{answered}
 use Rattle.world_model.specs.commands.Cluster.{has_site, sites_of}
 use Rattle.world_model.specs.lines.Dependency as lines
-use Rattle.world_model.specs.lines.Dependency.{HandsOwn}
 use Rattle.world_model.specs.rules.Event.{Opened}
 use Rattle.world_model.specs.lines.Lines.{Open}
 use Rattle.world_model.specs.rules.Lines.{shown_lines}

@@ -11,7 +11,7 @@ use Rattle.world_model.specs.declared.step.Step.TheVariants as step
 use Rattle.world_model.specs.commands.Answers.{answered}
 use Rattle.world_model.specs.commands.Cluster.{has_site, has_part}
 use Rattle.world_model.specs.rules.Event as event
-use Rattle.world_model.specs.rules.Event.{AskMessage, AskReport, Event, Entry, Sent, Reported, Cut, WasNumbered}
+use Rattle.world_model.specs.rules.Event.{AskMessage, AskReport, Entry, Sent, Reported, Cut}
 use Rattle.world_model.specs.lines.Lines.{SendTo}
 use Rattle.world_model.specs.rules.Lines.{call_of, call_asked, fault_shown}
 use Rattle.world_model.specs.commands.Messages.{message_of, report_of}

@@ -14,7 +14,7 @@ use Rattle.world_model.specs.commands.Phases as phases
 use Rattle.world_model.specs.commands.Phases.{Phase, phase, by_command, going_of, holders}
 use Rattle.world_model.specs.commands.Run.{Run}
 use Rattle.world_model.specs.commands.ScriptAnswers as script
-use Rattle.world_model.specs.commands.ScriptAnswers.{StepsOf, Either, Then, fewer}
+use Rattle.world_model.specs.commands.ScriptAnswers.{StepsOf}
 use Rattle.world_model.specs.commands.ScriptCalls.{for_step, for_commit, asked_of}
 use Rattle.world_model.proofs.Names.{off}
 use Rattle.clocksi_commit.specs.Commit.{Committing, is_finishing}

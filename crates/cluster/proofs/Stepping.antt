@@ -19,7 +19,7 @@ use Rattle.world_model.specs.commands.CommitSteps.{Going, Preparing, Finishing, 
 use Rattle.world_model.specs.rules.Lines.{call_asked}
 use Rattle.world_model.specs.events.Dependency.{is_of}
 use Rattle.world_model.specs.commands.Phases as phases
-use Rattle.world_model.specs.commands.Phases.{Phase, phase, phase_after, by_command, going_of, update_total}
+use Rattle.world_model.specs.commands.Phases.{phase, phase_after, by_command, going_of, update_total}
 use Rattle.world_model.specs.lines.Places.{home}
 use Rattle.world_model.specs.commands.Run.{Run}
 use Rattle.world_model.specs.commands.ScriptAnswers as script

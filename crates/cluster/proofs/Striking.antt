@@ -10,7 +10,7 @@ use Rattle.world_model.specs.declared.step.Step.{Step}
 use Rattle.world_model.specs.declared.step.Step.TheVariants as step
 use Rattle.world_model.specs.commands.Answers.{answered}
 use Rattle.world_model.specs.rules.Event as event
-use Rattle.world_model.specs.rules.Event.{Event, Entry, Crashed, RestartCut}
+use Rattle.world_model.specs.rules.Event.{Event, Crashed, RestartCut}
 use Rattle.world_model.specs.lines.Lines.{Crash, Restart}
 use Rattle.world_model.specs.commands.Meeting.{met}
 use Rattle.world_model.specs.lines.Places.{IsPlace}

@@ -35,8 +35,8 @@ nothing_resets = record {
   some_left = λ k us n has. absurd (false≢true has);
 }
 
-abbrev pub nothing_spells : SpellsEffects {E = Unit {0}} (λ k. false) (λ k e. true) (λ e. true) (λ e. true) (λ e. []) (λ e. []) (λ e. []) (λ k bytes at. Err (Bad at))
-nothing_spells = record { form = λ k has. absurd (false≢true has); all = λ e. record { shown = λ can held short. refl } }
+abbrev pub nothing_spells : SpellsEffects {E = Unit {0}} (λ k. false) (λ k e. true) (λ e. true) (λ e. true) (λ e. true) (λ e. []) (λ k bytes at. Err (Bad at))
+nothing_spells = record { form = λ k has. absurd (false≢true has) }
 
 pub nothing_named : NamesAreSpelled {E = Unit {0}} (λ e. true) (λ e d. false) (λ e. []) (λ e. [])
 nothing_named = record { exact = λ e d can. refl; lies = λ e d can h. absurd (false≢true h) }

@@ -1,9 +1,7 @@
 -- The bytes of the effects of kinds without fields.
-use Rattle.std.proofs.Common.{◌≡◌, ℕ, Bool, true, false, ◌&&◌, List, [], ◌∷◌, refl}
+use Rattle.std.proofs.Common.{◌≡◌, ℕ, Bool, true, false, ◌&&◌, ◌||◌, List, refl}
 use Rattle.std.specs.Prelude.{ℤ, is_some}
 use Rattle.std.proofs.lemmas.Bool.{false≢true}
-use Rattle.std.specs.List.{list_all}
-use Rattle.field_codec.specs.Spelling.{is_text}
 use Rattle.field_codec.specs.Reading.{Read, mapped_at}
 use Rattle.field_codec.specs.Lawful.{IsForm}
 use Rattle.field_codec.specs.Tagged.{shape_form}
@@ -15,20 +13,20 @@ use Rattle.crdt_meanings.specs.declared.sets.SetEffect.{SetEffect}
 use Rattle.crdt_meanings.specs.declared.flags.FlagEffect.{FlagEffect}
 use Rattle.crdt_meanings.specs.declared.registers.Assigned.{Assigned}
 use Rattle.crdt_meanings.specs.declared.registers.MvEffect.{MvEffect}
-use Rattle.crdt_core.specs.EffectForm.{sets_ascend, Spells, SpellsEffects}
+use Rattle.crdt_core.specs.EffectForm.{SpellsEffects}
 use Rattle.crdt_core.specs.NamedDots.{LiesIn, have_update, NamesAreSpelled}
 use Rattle.crdt_meanings.specs.CounterPn.{pn_has}
 use Rattle.crdt_meanings.specs.CounterFat.{fat_has}
-use Rattle.crdt_counters.specs.EffectForm.{is_amount_number, amount_sets, amount_spelling, amount_at, pn_spells, can_put_fat, fat_sets, is_fat_spelled, fat_spelling, fat_at, fat_spells, pn_named, fat_named}
+use Rattle.crdt_counters.specs.EffectForm.{is_amount_number, amount_sets, amount_spelling, amount_at, pn_spells, can_put_fat, keeps_fat, fat_sets, is_fat_spelled, fat_spelling, fat_at, fat_spells, pn_named, fat_named}
 use Rattle.crdt_meanings.specs.SetGo as set
 use Rattle.crdt_meanings.specs.Sets.{set_has}
-use Rattle.crdt_sets.specs.EffectForm.{can_put_texts, are_texts_spelled, texts_spelling, texts_at, texts_sets, set_sets, set_texts, go_spells as set_go_spells, can_put_set, is_set_spelled, set_spelling, set_at, set_spells, go_named as set_go_lies, set_named}
+use Rattle.crdt_sets.specs.EffectForm.{can_put_texts, keeps_texts, are_texts_spelled, texts_spelling, texts_at, texts_sets, set_sets, go_spells as set_go_spells, can_put_set, keeps_set, is_set_spelled, set_spelling, set_at, set_spells, go_named as set_go_lies, set_named}
 use Rattle.crdt_meanings.specs.Flags as flags
-use Rattle.crdt_flags.specs.EffectForm.{can_put_flag, flag_sets, is_flag_spelled, flag_spelling, flag_at, flag_spells, flag_named}
+use Rattle.crdt_flags.specs.EffectForm.{can_put_flag, keeps_flag, flag_sets, is_flag_spelled, flag_spelling, flag_at, flag_spells, flag_named}
 use Rattle.crdt_meanings.specs.RegisterLww.{lww_has}
 use Rattle.crdt_meanings.specs.RegisterMv.{mv_has}
-use Rattle.crdt_registers.specs.LwwForm.{can_put_lww, lww_sets, is_lww_spelled, lww_spelling, lww_at, lww_spells, lww_named}
-use Rattle.crdt_registers.specs.MvForm.{can_put_mv, is_mv_spelled, mv_spelling, mv_at, mv_spells, mv_sets, mv_texts, mv_named}
+use Rattle.crdt_registers.specs.LwwForm.{can_put_lww, keeps_lww, lww_sets, is_lww_spelled, lww_spelling, lww_at, lww_spells, lww_named}
+use Rattle.crdt_registers.specs.MvForm.{can_put_mv, keeps_mv, is_mv_spelled, mv_spelling, mv_at, mv_spells, mv_sets, mv_named}
 use Rattle.crdt_any.specs.declared.simple_effect.SimpleEffect.{SimpleEffect}
 use Rattle.crdt_any.specs.declared.simple_effect.SimpleEffect.TheVariants as effect
 use Rattle.crdt_any.specs.Simple.{simple_has, simple_names, counter_pn_effect, counter_fat_effect, set_go_effect, set_aw_effect, set_rw_effect, flag_ew_effect, flag_dw_effect, register_lww_effect, register_mv_effect}
@@ -54,6 +52,17 @@ simple_can_put (effect.FlagEw e) = can_put_flag e
 simple_can_put (effect.FlagDw e) = can_put_flag e
 simple_can_put (effect.RegisterLww e) = can_put_lww e
 simple_can_put (effect.RegisterMv e) = can_put_mv e
+
+abbrev pub simple_keeps : SimpleEffect → Bool
+simple_keeps (effect.CounterPn e) = true
+simple_keeps (effect.CounterFat e) = keeps_fat e
+simple_keeps (effect.SetGo e) = keeps_texts e
+simple_keeps (effect.SetAw e) = keeps_set e
+simple_keeps (effect.SetRw e) = keeps_set e
+simple_keeps (effect.FlagEw e) = keeps_flag e
+simple_keeps (effect.FlagDw e) = keeps_flag e
+simple_keeps (effect.RegisterLww e) = keeps_lww e
+simple_keeps (effect.RegisterMv e) = keeps_mv e
 
 abbrev pub simple_is_spelled : SimpleEffect → Bool
 simple_is_spelled (effect.CounterPn e) = is_amount_number e
@@ -89,14 +98,6 @@ simple_sets (effect.FlagDw e) = flag_sets e
 simple_sets (effect.RegisterLww e) = lww_sets e
 simple_sets (effect.RegisterMv e) = mv_sets e
 
-abbrev pub simple_texts : SimpleEffect → List (List ℕ)
-simple_texts (effect.SetGo e) = e
-simple_texts (effect.SetAw e) = set_texts e
-simple_texts (effect.SetRw e) = set_texts e
-simple_texts (effect.RegisterLww e) = e.text ∷ []
-simple_texts (effect.RegisterMv e) = mv_texts e
-simple_texts e = []
-
 abbrev pub simple_reading : Kind → List ℕ → ℕ → Read SimpleEffect
 simple_reading kinds.CounterFat = mapped_at effect.CounterFat fat_at
 simple_reading kinds.SetGo = mapped_at effect.SetGo texts_at
@@ -108,58 +109,55 @@ simple_reading kinds.RegisterLww = mapped_at effect.RegisterLww lww_at
 simple_reading kinds.RegisterMv = mapped_at effect.RegisterMv mv_at
 simple_reading _ = mapped_at effect.CounterPn amount_at
 
-abbrev fits_at : Kind → SimpleEffect → Bool
-fits_at k e = simple_is_of k e && simple_can_put e
+abbrev told_at : Kind → SimpleEffect → Bool
+told_at k e = simple_is_of k e && (simple_can_put e || simple_is_spelled e)
 
-abbrev spelled_at : Kind → SimpleEffect → Bool
-spelled_at k e = simple_is_of k e && simple_is_spelled e
-
-counter_pn_shape : (e : SimpleEffect) → spelled_at kinds.CounterPn e ≡ true → (v : ℤ) × (effect.CounterPn v ≡ e)
+counter_pn_shape : (e : SimpleEffect) → told_at kinds.CounterPn e ≡ true → (v : ℤ) × (effect.CounterPn v ≡ e)
 counter_pn_shape (effect.CounterPn v) h = (v, refl)
 counter_pn_shape _ h = absurd (false≢true h)
 
-counter_fat_shape : (e : SimpleEffect) → spelled_at kinds.CounterFat e ≡ true → (v : FatEffect) × (effect.CounterFat v ≡ e)
+counter_fat_shape : (e : SimpleEffect) → told_at kinds.CounterFat e ≡ true → (v : FatEffect) × (effect.CounterFat v ≡ e)
 counter_fat_shape (effect.CounterFat v) h = (v, refl)
 counter_fat_shape _ h = absurd (false≢true h)
 
-set_go_shape : (e : SimpleEffect) → spelled_at kinds.SetGo e ≡ true → (v : List (List ℕ)) × (effect.SetGo v ≡ e)
+set_go_shape : (e : SimpleEffect) → told_at kinds.SetGo e ≡ true → (v : List (List ℕ)) × (effect.SetGo v ≡ e)
 set_go_shape (effect.SetGo v) h = (v, refl)
 set_go_shape _ h = absurd (false≢true h)
 
-set_aw_shape : (e : SimpleEffect) → spelled_at kinds.SetAw e ≡ true → (v : SetEffect) × (effect.SetAw v ≡ e)
+set_aw_shape : (e : SimpleEffect) → told_at kinds.SetAw e ≡ true → (v : SetEffect) × (effect.SetAw v ≡ e)
 set_aw_shape (effect.SetAw v) h = (v, refl)
 set_aw_shape _ h = absurd (false≢true h)
 
-set_rw_shape : (e : SimpleEffect) → spelled_at kinds.SetRw e ≡ true → (v : SetEffect) × (effect.SetRw v ≡ e)
+set_rw_shape : (e : SimpleEffect) → told_at kinds.SetRw e ≡ true → (v : SetEffect) × (effect.SetRw v ≡ e)
 set_rw_shape (effect.SetRw v) h = (v, refl)
 set_rw_shape _ h = absurd (false≢true h)
 
-flag_ew_shape : (e : SimpleEffect) → spelled_at kinds.FlagEw e ≡ true → (v : FlagEffect) × (effect.FlagEw v ≡ e)
+flag_ew_shape : (e : SimpleEffect) → told_at kinds.FlagEw e ≡ true → (v : FlagEffect) × (effect.FlagEw v ≡ e)
 flag_ew_shape (effect.FlagEw v) h = (v, refl)
 flag_ew_shape _ h = absurd (false≢true h)
 
-flag_dw_shape : (e : SimpleEffect) → spelled_at kinds.FlagDw e ≡ true → (v : FlagEffect) × (effect.FlagDw v ≡ e)
+flag_dw_shape : (e : SimpleEffect) → told_at kinds.FlagDw e ≡ true → (v : FlagEffect) × (effect.FlagDw v ≡ e)
 flag_dw_shape (effect.FlagDw v) h = (v, refl)
 flag_dw_shape _ h = absurd (false≢true h)
 
-register_lww_shape : (e : SimpleEffect) → spelled_at kinds.RegisterLww e ≡ true → (v : Assigned) × (effect.RegisterLww v ≡ e)
+register_lww_shape : (e : SimpleEffect) → told_at kinds.RegisterLww e ≡ true → (v : Assigned) × (effect.RegisterLww v ≡ e)
 register_lww_shape (effect.RegisterLww v) h = (v, refl)
 register_lww_shape _ h = absurd (false≢true h)
 
-register_mv_shape : (e : SimpleEffect) → spelled_at kinds.RegisterMv e ≡ true → (v : MvEffect) × (effect.RegisterMv v ≡ e)
+register_mv_shape : (e : SimpleEffect) → told_at kinds.RegisterMv e ≡ true → (v : MvEffect) × (effect.RegisterMv v ≡ e)
 register_mv_shape (effect.RegisterMv v) h = (v, refl)
 register_mv_shape _ h = absurd (false≢true h)
 
-form_at : (k : Kind) → simple_has k ≡ true → IsForm (fits_at k) (spelled_at k) simple_spelling (simple_reading k)
-form_at kinds.CounterPn is = shape_form effect.CounterPn is_amount_number is_amount_number amount_spelling amount_at (fits_at kinds.CounterPn) (spelled_at kinds.CounterPn) simple_spelling (λ v. refl) (λ v. refl) (λ v. refl) counter_pn_shape ((pn_spells pn_has).form kinds.CounterPn refl)
-form_at kinds.CounterFat is = shape_form effect.CounterFat can_put_fat is_fat_spelled fat_spelling fat_at (fits_at kinds.CounterFat) (spelled_at kinds.CounterFat) simple_spelling (λ v. refl) (λ v. refl) (λ v. refl) counter_fat_shape ((fat_spells fat_has).form kinds.CounterFat refl)
-form_at kinds.SetGo is = shape_form effect.SetGo can_put_texts are_texts_spelled texts_spelling texts_at (fits_at kinds.SetGo) (spelled_at kinds.SetGo) simple_spelling (λ v. refl) (λ v. refl) (λ v. refl) set_go_shape ((set_go_spells set.go_has).form kinds.SetGo refl)
-form_at kinds.SetAw is = shape_form effect.SetAw can_put_set is_set_spelled set_spelling set_at (fits_at kinds.SetAw) (spelled_at kinds.SetAw) simple_spelling (λ v. refl) (λ v. refl) (λ v. refl) set_aw_shape ((set_spells (set_has false)).form kinds.SetAw refl)
-form_at kinds.SetRw is = shape_form effect.SetRw can_put_set is_set_spelled set_spelling set_at (fits_at kinds.SetRw) (spelled_at kinds.SetRw) simple_spelling (λ v. refl) (λ v. refl) (λ v. refl) set_rw_shape ((set_spells (set_has true)).form kinds.SetRw refl)
-form_at kinds.FlagEw is = shape_form effect.FlagEw can_put_flag is_flag_spelled flag_spelling flag_at (fits_at kinds.FlagEw) (spelled_at kinds.FlagEw) simple_spelling (λ v. refl) (λ v. refl) (λ v. refl) flag_ew_shape ((flag_spells (flags.flag_has false)).form kinds.FlagEw refl)
-form_at kinds.FlagDw is = shape_form effect.FlagDw can_put_flag is_flag_spelled flag_spelling flag_at (fits_at kinds.FlagDw) (spelled_at kinds.FlagDw) simple_spelling (λ v. refl) (λ v. refl) (λ v. refl) flag_dw_shape ((flag_spells (flags.flag_has true)).form kinds.FlagDw refl)
-form_at kinds.RegisterLww is = shape_form effect.RegisterLww can_put_lww is_lww_spelled lww_spelling lww_at (fits_at kinds.RegisterLww) (spelled_at kinds.RegisterLww) simple_spelling (λ v. refl) (λ v. refl) (λ v. refl) register_lww_shape ((lww_spells lww_has).form kinds.RegisterLww refl)
-form_at kinds.RegisterMv is = shape_form effect.RegisterMv can_put_mv is_mv_spelled mv_spelling mv_at (fits_at kinds.RegisterMv) (spelled_at kinds.RegisterMv) simple_spelling (λ v. refl) (λ v. refl) (λ v. refl) register_mv_shape ((mv_spells mv_has).form kinds.RegisterMv refl)
+form_at : (k : Kind) → simple_has k ≡ true → IsForm (λ e. simple_is_of k e && simple_can_put e) simple_keeps (λ e. simple_is_of k e && simple_is_spelled e) simple_spelling (simple_reading k)
+form_at kinds.CounterPn is = shape_form (simple_is_of kinds.CounterPn) effect.CounterPn is_amount_number is_amount_number amount_spelling amount_at simple_can_put simple_is_spelled simple_spelling (λ v. refl) (λ v. refl) (λ v. refl) (λ v. refl) counter_pn_shape ((pn_spells pn_has).form kinds.CounterPn refl)
+form_at kinds.CounterFat is = shape_form (simple_is_of kinds.CounterFat) effect.CounterFat can_put_fat is_fat_spelled fat_spelling fat_at simple_can_put simple_is_spelled simple_spelling (λ v. refl) (λ v. refl) (λ v. refl) (λ v. refl) counter_fat_shape ((fat_spells fat_has).form kinds.CounterFat refl)
+form_at kinds.SetGo is = shape_form (simple_is_of kinds.SetGo) effect.SetGo can_put_texts are_texts_spelled texts_spelling texts_at simple_can_put simple_is_spelled simple_spelling (λ v. refl) (λ v. refl) (λ v. refl) (λ v. refl) set_go_shape ((set_go_spells set.go_has).form kinds.SetGo refl)
+form_at kinds.SetAw is = shape_form (simple_is_of kinds.SetAw) effect.SetAw can_put_set is_set_spelled set_spelling set_at simple_can_put simple_is_spelled simple_spelling (λ v. refl) (λ v. refl) (λ v. refl) (λ v. refl) set_aw_shape ((set_spells (set_has false)).form kinds.SetAw refl)
+form_at kinds.SetRw is = shape_form (simple_is_of kinds.SetRw) effect.SetRw can_put_set is_set_spelled set_spelling set_at simple_can_put simple_is_spelled simple_spelling (λ v. refl) (λ v. refl) (λ v. refl) (λ v. refl) set_rw_shape ((set_spells (set_has true)).form kinds.SetRw refl)
+form_at kinds.FlagEw is = shape_form (simple_is_of kinds.FlagEw) effect.FlagEw can_put_flag is_flag_spelled flag_spelling flag_at simple_can_put simple_is_spelled simple_spelling (λ v. refl) (λ v. refl) (λ v. refl) (λ v. refl) flag_ew_shape ((flag_spells (flags.flag_has false)).form kinds.FlagEw refl)
+form_at kinds.FlagDw is = shape_form (simple_is_of kinds.FlagDw) effect.FlagDw can_put_flag is_flag_spelled flag_spelling flag_at simple_can_put simple_is_spelled simple_spelling (λ v. refl) (λ v. refl) (λ v. refl) (λ v. refl) flag_dw_shape ((flag_spells (flags.flag_has true)).form kinds.FlagDw refl)
+form_at kinds.RegisterLww is = shape_form (simple_is_of kinds.RegisterLww) effect.RegisterLww can_put_lww is_lww_spelled lww_spelling lww_at simple_can_put simple_is_spelled simple_spelling (λ v. refl) (λ v. refl) (λ v. refl) (λ v. refl) register_lww_shape ((lww_spells lww_has).form kinds.RegisterLww refl)
+form_at kinds.RegisterMv is = shape_form (simple_is_of kinds.RegisterMv) effect.RegisterMv can_put_mv is_mv_spelled mv_spelling mv_at simple_can_put simple_is_spelled simple_spelling (λ v. refl) (λ v. refl) (λ v. refl) (λ v. refl) register_mv_shape ((mv_spells mv_has).form kinds.RegisterMv refl)
 form_at _ is = absurd (false≢true is)
 
 -- both of one effect
@@ -169,23 +167,19 @@ Named names_of sets_of spelled e d = (names_of e d ≡ have_update (sets_of e) d
 pub named : {F : Type 0} {fits : F → Bool} {names_of : F → Dot → Bool} {sets_of : F → List (List Dot)} {spelled : F → List ℕ} → NamesAreSpelled fits names_of sets_of spelled → (e : F) (d : Dot) → fits e ≡ true → Named names_of sets_of spelled e d
 named s e d can = (s.exact e d can, s.lies e d can)
 
--- what can be put has a spelling, and names exactly the updates that stand there
-abbrev Told : SimpleEffect → Type 0
-Told e = Spells (simple_can_put e) (list_all is_text (simple_texts e) && sets_ascend (simple_sets e)) (simple_is_spelled e) (simple_spelling e) × ((d : Dot) → simple_can_put e ≡ true → Named simple_names simple_sets simple_spelling e d)
+simple_told : (e : SimpleEffect) (d : Dot) → simple_can_put e ≡ true → Named simple_names simple_sets simple_spelling e d
+simple_told (effect.CounterPn e) = named pn_named e
+simple_told (effect.CounterFat e) = named fat_named e
+simple_told (effect.SetGo e) = named set_go_lies e
+simple_told (effect.SetAw e) = named set_named e
+simple_told (effect.SetRw e) = named set_named e
+simple_told (effect.FlagEw e) = named flag_named e
+simple_told (effect.FlagDw e) = named flag_named e
+simple_told (effect.RegisterLww e) = named lww_named e
+simple_told (effect.RegisterMv e) = named mv_named e
 
-simple_told : (e : SimpleEffect) → Told e
-simple_told (effect.CounterPn e) = ((pn_spells pn_has).all e, named pn_named e)
-simple_told (effect.CounterFat e) = ((fat_spells fat_has).all e, named fat_named e)
-simple_told (effect.SetGo e) = ((set_go_spells set.go_has).all e, named set_go_lies e)
-simple_told (effect.SetAw e) = ((set_spells (set_has false)).all e, named set_named e)
-simple_told (effect.SetRw e) = ((set_spells (set_has true)).all e, named set_named e)
-simple_told (effect.FlagEw e) = ((flag_spells (flags.flag_has false)).all e, named flag_named e)
-simple_told (effect.FlagDw e) = ((flag_spells (flags.flag_has true)).all e, named flag_named e)
-simple_told (effect.RegisterLww e) = ((lww_spells lww_has).all e, named lww_named e)
-simple_told (effect.RegisterMv e) = ((mv_spells mv_has).all e, named mv_named e)
-
-pub simple_spells : SpellsEffects simple_has simple_is_of simple_can_put simple_is_spelled simple_sets simple_texts simple_spelling simple_reading
-simple_spells = record { form = form_at; all = λ e. (simple_told e).0 }
+pub simple_spells : SpellsEffects simple_has simple_is_of simple_can_put simple_keeps simple_is_spelled simple_spelling simple_reading
+simple_spells = record { form = form_at }
 
 pub simple_named : NamesAreSpelled simple_can_put simple_names simple_sets simple_spelling
-simple_named = record { exact = λ e d can. ((simple_told e).1 d can).0; lies = λ e d can. ((simple_told e).1 d can).1 }
+simple_named = record { exact = λ e d can. (simple_told e d can).0; lies = λ e d can. (simple_told e d can).1 }

@@ -1,5 +1,5 @@
 ghost use Rattle.crdt_any.specs.Layer.{layer_has, layer_too_deep, layer_initial, layer_step, layer_made, layer_value, layer_stamp, layer_meaning, layer_names, layer_holds, layer_blank};
-ghost use Rattle.crdt_any.specs.LayerForm.{layer_is_of, layer_can_put, layer_is_spelled, layer_sets, layer_texts, layer_spelling, layer_reading, layer_spells, layer_named};
+ghost use Rattle.crdt_any.specs.LayerForm.{layer_is_of, layer_can_put, layer_keeps, layer_is_spelled, layer_sets, layer_spelling, layer_reading, layer_spells, layer_named};
 ghost use Rattle.crdt_any.specs.LayerLaws.{layer_law, layer_in_maps, layer_resets};
 
 use crate::generate::effect_of;
@@ -48,11 +48,11 @@ impl<I: Crdt> Crdt for Layer<I> {
 
     ghost can_put = { layer_can_put I.has I.is_of I.can_put I.spelling };
 
+    ghost keeps = { layer_keeps I.keeps };
+
     ghost is_spelled = { layer_is_spelled I.has I.is_of I.is_spelled I.spelling };
 
     ghost sets = { layer_sets I.sets };
-
-    ghost texts = { layer_texts I.texts };
 
     ghost spelling = { layer_spelling I.spelling };
 

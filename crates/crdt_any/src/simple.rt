@@ -1,5 +1,5 @@
 ghost use Rattle.crdt_any.specs.Simple.{simple_has, simple_initial, simple_step, simple_made, simple_value, simple_stamp, simple_meaning, simple_names, simple_holds, simple_blank};
-ghost use Rattle.crdt_any.specs.SimpleForm.{simple_is_of, simple_can_put, simple_is_spelled, simple_sets, simple_texts, simple_spelling, simple_reading, simple_spells, simple_named};
+ghost use Rattle.crdt_any.specs.SimpleForm.{simple_is_of, simple_can_put, simple_keeps, simple_is_spelled, simple_sets, simple_spelling, simple_reading, simple_spells, simple_named};
 ghost use Rattle.crdt_any.specs.SimpleLaws.{simple_law, simple_in_maps, simple_resets};
 
 use crate::inner::apply_if;
@@ -61,11 +61,11 @@ impl Crdt for Simple {
 
     ghost can_put = { simple_can_put };
 
+    ghost keeps = { simple_keeps };
+
     ghost is_spelled = { simple_is_spelled };
 
     ghost sets = { simple_sets };
-
-    ghost texts = { simple_texts };
 
     ghost spelling = { simple_spelling };
 

@@ -2,7 +2,6 @@ pub mod Blank
 pub mod Confluence
 pub mod DotSet
 pub mod FormSteps
-pub mod HaveSpelling
 pub mod KeptKinds
 pub mod KeptLaw
 pub mod KeptSteps

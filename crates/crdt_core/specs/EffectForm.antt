@@ -1,7 +1,6 @@
 -- How the effects of a kind are spelled as bytes.
-use Rattle.std.specs.Prelude.{◌≡◌, ℕ, ◌^◌, ◌<◌, Bool, true, false, ◌&&◌, ◌==◌, List, [], ◌∷◌, length}
+use Rattle.std.specs.Prelude.{◌≡◌, ℕ, Bool, true, false, ◌&&◌, ◌==◌, List, [], ◌∷◌}
 use Rattle.std.specs.List.{list_all}
-use Rattle.field_codec.specs.Spelling.{is_text}
 use Rattle.field_codec.specs.Reading.{Read}
 use Rattle.field_codec.specs.Lawful.{IsForm}
 use Rattle.site_vector.specs.declared.ids.Dot.{Dot}
@@ -16,19 +15,9 @@ use Rattle.crdt_core.specs.Spelled.{is_dot, ascend}
 abbrev pub sets_ascend : List (List Dot) → Bool
 sets_ascend sets = list_all ascend sets
 
--- What fits has a spelling, where its types keep what they do. Only where its bytes would be 2^32 or more need it have
--- none, as each member of a list has a byte.
-pub record Spells (fits keeps is_spelled : Bool) (bytes : List ℕ) : Type 0 where
-  pub shown : fits ≡ true → keeps ≡ true → length bytes < 2 ^ 32 → is_spelled ≡ true
-
--- so each value whose texts are texts and whose sets of updates ascend, as each `Text` and each `Dots` does
-abbrev pub HasSpelling : {V : Type 0} → (V → Bool) → (V → Bool) → (V → List (List Dot)) → (V → List (List ℕ)) → (V → List ℕ) → Type 0
-HasSpelling {V} fits is_spelled sets texts spelling = (v : V) → Spells (fits v) (list_all is_text (texts v) && sets_ascend (sets v)) (is_spelled v) (spelling v)
-
--- The effects of each kind that the type has are a form, and what can be put has a spelling; is_of: the effect is one of the kind.
-pub record SpellsEffects {E : Type 0} (has : Kind → Bool) (is_of : Kind → E → Bool) (can_put is_spelled : E → Bool) (sets : E → List (List Dot)) (texts : E → List (List ℕ)) (spelling : E → List ℕ) (reading : Kind → List ℕ → ℕ → Read E) : Type 0 where
-  pub form : (k : Kind) → has k ≡ true → IsForm (λ e. is_of k e && can_put e) (λ e. is_of k e && is_spelled e) spelling (reading k)
-  pub all : HasSpelling can_put is_spelled sets texts spelling
+-- The effects of each kind that the type has are a form; is_of: the effect is one of the kind.
+pub record SpellsEffects {E : Type 0} (has : Kind → Bool) (is_of : Kind → E → Bool) (can_put keeps is_spelled : E → Bool) (spelling : E → List ℕ) (reading : Kind → List ℕ → ℕ → Read E) : Type 0 where
+  pub form : (k : Kind) → has k ≡ true → IsForm (λ e. is_of k e && can_put e) keeps (λ e. is_of k e && is_spelled e) spelling (reading k)
 
 -- each update that a state holds has a spelling
 abbrev pub HoldsSpelled : {S : Type 0} → (S → Dot → Bool) → S → Type 0

@@ -1,5 +1,5 @@
 -- What a read folds: the parts that a snapshot shows of an object, in fold order, and then the transaction's own updates.
-use Rattle.std.specs.Prelude.{◌≡◌, ℕ, Bool, ◌&&◌, if◌then◌else◌, List, [], ◌∷◌}
+use Rattle.std.specs.Prelude.{◌≡◌, ℕ, ◌&&◌, if◌then◌else◌, List, [], ◌∷◌}
 use Rattle.site_vector.specs.declared.ids.TxId.{TxId}
 use Rattle.site_vector.specs.declared.ids.Dot.{Dot}
 use Rattle.site_vector.specs.Vector.{le}

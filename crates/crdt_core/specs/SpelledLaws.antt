@@ -1,6 +1,6 @@
 -- Transactions, updates, vectors and objects are forms.
 use Rattle.std.specs.Prelude.{◌≡◌, ℕ, zero, suc, ◌^◌, ◌<◌, ◌≤◌, Bool, true, false, ◌&&◌, nat_le, List, [], ◌∷◌, ◌++◌, length, Option, None, Some, Ok, Err, refl}
-use Rattle.std.proofs.Common.{sym, ap, ◌∙◌, eqb, arith}
+use Rattle.std.proofs.Common.{sym, ap, ◌∙◌, eqb, length-append, arith}
 use Rattle.std.specs.Prelude.{◌⊎◌}
 use Rattle.std.proofs.Common.{inl, inr}
 use Rattle.std.proofs.lemmas.Bool.Decides.{nat_tests}
@@ -21,7 +21,7 @@ use Rattle.crdt_core.specs.KindCodes.{coded_kind, coded_back}
 use Rattle.crdt_core.specs.Spelled.{is_between, between_at, is_tx, tx, tx_of, tx_at, is_dot, dot, dot_of, dot_at, are_dots, ascend, is_dots, dots, dots_at, vector, is_vector, vector_at, kind, kind_at, is_object, object, object_of, object_at}
 
 -- a number within bounds that its bytes can spell
-pub between_form : (width least most : ℕ) → IsWidth width → most < 256 ^ width → IsForm (is_between least most) (is_between least most) (number width) (between_at width least most)
+pub between_form : (width least most : ℕ) → IsWidth width → most < 256 ^ width → IsForm (is_between least most) (λ _. true) (is_between least most) (number width) (between_at width least most)
 between_form width least most w small =
     let test = is_between least most in
     let law = checked_form test (is_number width) (is_number width) (number width) (number_at width) (number_form width w) in
@@ -33,11 +33,12 @@ between_form width least most w small =
       found = λ bytes at n end ok within h. let f = law.found bytes at n end ok within h in ((both_true (test n) (is_number width n) f.0).0, f.1);
       again = λ bytes at n end good spans. law.again bytes at n end (fits n good) spans;
       fit = λ n good. good;
+      all = λ n can kept short. can;
       ends = law.ends;
       tells = law.tells;
     }
 
-pub tx_form : IsForm is_tx is_tx tx tx_at
+pub tx_form : IsForm is_tx (λ _. true) is_tx tx tx_at
 unfolding tx_at
 tx_form =
     let time = between_form 8 0 (2 ^ 62) width8 (omega arith) in
@@ -45,7 +46,7 @@ tx_form =
     let whole = then_form (is_between 1 8) (is_between 1 8) (number 1) (between_at 1 1 8) _ _ _ _ (between_form 1 1 8 width1 (omega arith)) (λ _ _. rest) in
     mapped_form tx_of (λ t. (t.site, (t.part, t.time))) _ _ _ _ (λ _. refl) (λ _ _. refl) whole
 
-pub dot_form : IsForm is_dot is_dot dot dot_at
+pub dot_form : IsForm is_dot (λ _. true) is_dot dot dot_at
 unfolding dot_at
 dot_form =
     let whole = then_form is_tx is_tx tx tx_at (λ _. is_between 1 256) (λ _. is_between 1 256) (λ _. number 2) (λ _. between_at 2 1 256) tx_form (λ _ _. between_form 2 1 256 width2 (omega arith)) in
@@ -55,25 +56,31 @@ dot_form =
 abbrev pub are_ascending : List Dot → Bool
 are_ascending ds = are_members (is_below dot_cmp) is_dot ds
 
-pub dots_form : IsForm are_ascending is_dots dots dots_at
+pub dots_form : IsForm are_ascending (λ ds. list_all (λ _. true) ds) is_dots dots dots_at
 dots_form = list_form (is_below dot_cmp) is_dot is_dot dot dot_at dot_form
 
+all_true : {V : Type 0} (vs : List V) → list_all (λ _. true) vs ≡ true
+all_true [] = refl
+all_true (v ∷ vs) = all_true vs
+
 -- the same for what puts a set, which ascends: only the bounds of its members are asked for
-pub dots_held_form : IsForm are_dots is_dots dots dots_at
+pub dots_held_form : IsForm are_dots ascend is_dots dots dots_at
 dots_held_form = record {
   found = dots_form.found;
   again = dots_form.again;
   fit = λ ds good. (both_true (ascend ds) (are_dots ds) (dots_form.fit ds good)).1;
+  all = λ ds can kept. dots_form.all ds (and_true (ascend ds) (are_dots ds) kept can) (all_true ds);
   ends = dots_form.ends;
   tells = dots_form.tells;
 }
 
--- the same test told otherwise
-retold : {V : Type 0} (fits is_spelled told : V → Bool) (spelling : V → List ℕ) (reading : List ℕ → ℕ → Read V) → ((v : V) → is_spelled v ≡ told v) → IsForm fits is_spelled spelling reading → IsForm told told spelling reading
+-- the same test told otherwise, of what can all be put
+retold : {V : Type 0} {keeps : V → Bool} (fits is_spelled told : V → Bool) (spelling : V → List ℕ) (reading : List ℕ → ℕ → Read V) → ((v : V) → is_spelled v ≡ told v) → IsForm fits keeps is_spelled spelling reading → IsForm told (λ _. true) told spelling reading
 retold fits is_spelled told spelling reading same law = record {
   found = λ bytes at v end ok within h. let f = law.found bytes at v end ok within h in (sym (same v) ∙ f.0, f.1);
   again = λ bytes at v end good spans. law.again bytes at v end (same v ∙ good) spans;
   fit = λ v good. good;
+  all = λ v can kept short. can;
   ends = law.ends;
   tells = law.tells;
 }
@@ -85,7 +92,7 @@ in_any_order before [] = refl
 in_any_order None (v ∷ vs) = in_any_order (Some v) vs
 in_any_order (Some w) (v ∷ vs) = in_any_order (Some v) vs
 
-pub vector_form : IsForm is_vector is_vector vector vector_at
+pub vector_form : IsForm is_vector (λ _. true) is_vector vector vector_at
 unfolding vector_at
 vector_form =
     let any = λ (n m : ℕ). true in
@@ -135,7 +142,7 @@ code_back (suc (suc (suc (suc (suc (suc (suc (suc (suc (suc (suc (suc n)))))))))
 pub code_is : (k : Kind) (n : ℕ) → kind_code k ≡ n → k ≡ coded_kind n
 code_is k n e = sym (coded_back k) ∙ ap coded_kind e
 
-pub kind_form : IsForm (λ _. true) (λ _. true) kind kind_at
+pub kind_form : IsForm (λ _. true) (λ _. true) (λ _. true) kind kind_at
 unfolding kind_at
 kind_form =
     let forth : (n : ℕ) → is_between 1 11 n ≡ true → kind_code (coded_kind n) ≡ n = λ n h.
@@ -147,7 +154,7 @@ and_this : (b : Bool) → (b && true) ≡ b
 and_this true = refl
 and_this false = refl
 
-pub object_form : (has : Kind → Bool) → IsForm (is_object has) (is_object has) object (object_at has)
+pub object_form : (has : Kind → Bool) → IsForm (is_object has) (λ _. true) (is_object has) object (object_at has)
 unfolding object_at
 object_form has =
     let coded = retold _ _ has kind _ (λ k. and_this (has k)) (checked_form has (λ _. true) (λ _. true) kind kind_at kind_form) in
@@ -186,9 +193,9 @@ marked_at most made reading = mapped_at made (then_at (between_at 1 0 most) (λ 
 abbrev pair : {V : Type 0} → ℕ → V → ℕ × V
 pair n v = (n, v)
 
-pub marked_form : {V W : Type 0} (most : ℕ) → most < 256 → (made : ℕ × V → W) (mark : W → ℕ) (parts : W → V) (fits is_spelled : V → Bool) (spelling : V → List ℕ) (reading : List ℕ → ℕ → Read V)
-    → ((w : W) → made (mark w, parts w) ≡ w) → ((n : ℕ) (v : V) → n ≤ most → (mark (made (n, v)) ≡ n) × (parts (made (n, v)) ≡ v)) → ((w : W) → mark w ≤ most) → IsForm fits is_spelled spelling reading
-    → IsForm (λ w. fits (parts w)) (λ w. is_spelled (parts w)) (λ w. number 1 (mark w) ++ spelling (parts w)) (marked_at most made reading)
+pub marked_form : {V W : Type 0} {keeps : V → Bool} (most : ℕ) → most < 256 → (made : ℕ × V → W) (mark : W → ℕ) (parts : W → V) (fits is_spelled : V → Bool) (spelling : V → List ℕ) (reading : List ℕ → ℕ → Read V)
+    → ((w : W) → made (mark w, parts w) ≡ w) → ((n : ℕ) (v : V) → n ≤ most → (mark (made (n, v)) ≡ n) × (parts (made (n, v)) ≡ v)) → ((w : W) → mark w ≤ most) → IsForm fits keeps is_spelled spelling reading
+    → IsForm (λ w. fits (parts w)) (λ w. keeps (parts w)) (λ w. is_spelled (parts w)) (λ w. number 1 (mark w) ++ spelling (parts w)) (marked_at most made reading)
 marked_form {V} {W} most small made mark parts fits is_spelled spelling reading back forth within form =
     let marks = is_between 0 most in
     let whole = then_form marks marks (number 1) (between_at 1 0 most) (λ _. fits) (λ _. is_spelled) (λ _. spelling) (λ _. reading) (between_form 1 0 most width1 (omega (arith, small))) (λ _ _. form) in
@@ -201,6 +208,7 @@ marked_form {V} {W} most small made mark parts fits is_spelled spelling reading 
       found = λ bytes at w end ok here h. let f = law.found bytes at w end ok here h in ((both_true (marks (mark w)) (is_spelled (parts w)) f.0).1, f.1);
       again = λ bytes at w end good spans. law.again bytes at w end (and_true (marks (mark w)) (is_spelled (parts w)) (known w) good) spans;
       fit = λ w good. form.fit (parts w) good;
+      all = λ w can kept short. form.all (parts w) can kept (omega (arith, short, length-append (number 1 (mark w)) (spelling (parts w))));
       ends = law.ends;
       tells = law.tells;
     }

@@ -59,7 +59,7 @@ pub trait Crdt {
     ghost names: { Self.Effect → Dot → Bool };
 
     /// Whether the dot is kept in the state. A state that updates left keeps the dots that an effect made on it can
-    /// name, and no other (`named` and `kept` of the law).
+    /// name, and no other (`named` and `nameable` of the law).
     ghost holds: { Self.State → Dot → Bool };
 
     /// The law of a kind.
@@ -83,14 +83,14 @@ pub trait Crdt {
     /// them so.
     ghost can_put: { Self.Effect → Bool };
 
-    /// What has a spelling. Of what can be put, all has one whose bytes are fewer than 2^32 (`all` of `spells`).
+    /// What the types of its parts hold of an effect besides: that texts are texts, and sets of updates in order.
+    ghost keeps: { Self.Effect → Bool } = { λ _. true };
+
+    /// What has a spelling. Of what can be put, all has one whose bytes are fewer than 2^32 (`all` of each form).
     ghost is_spelled: { Self.Effect → Bool };
 
     /// The sets of updates that stand in an effect's bytes, in turn.
     ghost sets: { Self.Effect → List (List Dot) };
-
-    /// The texts that stand in an effect's bytes.
-    ghost texts: { Self.Effect → List (List ℕ) } = { λ _. [] };
 
     /// The bytes of an effect.
     ghost spelling: { Self.Effect → List ℕ };
@@ -99,7 +99,7 @@ pub trait Crdt {
     ghost reading: { Kind → List ℕ → ℕ → Read Self.Effect };
 
     /// Each effect is spelled in one way, none begins another of its kind, and what can be put has a spelling.
-    ghost spells: { SpellsEffects has is_of can_put is_spelled sets texts spelling reading };
+    ghost spells: { SpellsEffects has is_of can_put keeps is_spelled spelling reading };
 
     /// An effect names exactly the updates in the sets that stand in its bytes.
     ghost named: { NamesAreSpelled can_put names sets spelling };

@@ -1,9 +1,9 @@
 ghost use Rattle.std.specs.Prelude.{◌≡◌, ◌&&◌, Bool, true};
+ghost use Rattle.std.specs.List.{list_all};
 ghost use Rattle.field_codec.specs.Lawful.{IsForm, IsPrefixFree};
 ghost use Rattle.crdt_core.specs.declared.kind.Kind.{Kind};
 ghost use Rattle.crdt_core.specs.Spelled.{is_tx, tx, tx_at, is_dot, dot, dot_at, is_dots, dots, dots_at, is_vector, vector, vector_at, kind, kind_at, is_object, object, object_at};
 ghost use Rattle.crdt_core.specs.SpelledLaws.{are_ascending};
-ghost use Rattle.crdt_core.specs.EffectForm.{HasSpelling};
 ghost use Rattle.crdt_core.specs.NamedDots.{NamesAreSpelled};
 
 use crate::Crdt;
@@ -12,12 +12,12 @@ use crate::Crdt;
 /// each refusal means what it says, and no spelling begins that of another. But for sets of updates, what
 /// can be put is what has a spelling.
 pub fn law_forms()
-    ensures transactions { IsForm is_tx is_tx tx tx_at }
-    ensures updates { IsForm is_dot is_dot dot dot_at }
-    ensures sets { IsForm are_ascending is_dots dots dots_at }
-    ensures vectors { IsForm is_vector is_vector vector vector_at }
-    ensures kinds { IsForm (λ _. true) (λ _. true) kind kind_at }
-    ensures objects { (has : Kind → Bool) → IsForm (is_object has) (is_object has) object (object_at has) }
+    ensures transactions { IsForm is_tx (λ _. true) is_tx tx tx_at }
+    ensures updates { IsForm is_dot (λ _. true) is_dot dot dot_at }
+    ensures sets { IsForm are_ascending (λ ds. list_all (λ _. true) ds) is_dots dots dots_at }
+    ensures vectors { IsForm is_vector (λ _. true) is_vector vector vector_at }
+    ensures kinds { IsForm (λ _. true) (λ _. true) (λ _. true) kind kind_at }
+    ensures objects { (has : Kind → Bool) → IsForm (is_object has) (λ _. true) (is_object has) object (object_at has) }
     ensures transactions_apart { IsPrefixFree is_tx tx }
     ensures updates_apart { IsPrefixFree is_dot dot }
     ensures sets_apart { IsPrefixFree is_dots dots }
@@ -31,8 +31,7 @@ pub fn law_forms()
 /// another of the kind. What can be put has a spelling but where that would be 2^32 bytes or more. An effect names
 /// exactly the updates in the sets that stand in its bytes.
 pub fn law_effects<C: Crdt>()
-    ensures form { (k : Kind) → C.has k ≡ true → IsForm (λ e. C.is_of k e && C.can_put e) (λ e. C.is_of k e && C.is_spelled e) C.spelling (C.reading k) }
-    ensures all { HasSpelling C.can_put C.is_spelled C.sets C.texts C.spelling }
+    ensures form { (k : Kind) → C.has k ≡ true → IsForm (λ e. C.is_of k e && C.can_put e) C.keeps (λ e. C.is_of k e && C.is_spelled e) C.spelling (C.reading k) }
     ensures named { NamesAreSpelled C.can_put C.names C.sets C.spelling }
     ensures apart { (k : Kind) → C.has k ≡ true → IsPrefixFree (λ e. C.is_of k e && C.is_spelled e) C.spelling }
 {}

@@ -1,5 +1,5 @@
 -- The bytes of counters' effects: an amount in two's complement, and for a counter that can be reset what it is before it.
-use Rattle.std.specs.Prelude.{◌≡◌, ℕ, zero, suc, ◌^◌, ◌==◌, Bool, true, ◌&&◌, not, eqb, nat_le, int_lt, List, [], ◌∷◌, ◌++◌, ℤ, pos, neg_ℤ, if◌then◌else◌, refl}
+use Rattle.std.specs.Prelude.{◌≡◌, ℕ, zero, suc, ◌^◌, ◌==◌, Bool, true, ◌&&◌, ◌||◌, not, eqb, nat_le, int_lt, List, [], ◌∷◌, ◌++◌, ℤ, pos, neg_ℤ, if◌then◌else◌, refl}
 use Rattle.std.proofs.Common.{sym, arith, FitsSigned}
 use Rattle.std.specs.Int.{cast_unsigned, cast_signed, w64}
 use Rattle.std.proofs.Math.Facts.{Fits-of_z, Fits-lt-pow}
@@ -13,11 +13,10 @@ use Rattle.field_codec.specs.Tagged.{tagged_at, tagged_form, shape_form, within_
 use Rattle.site_vector.specs.declared.ids.Dot.{Dot}
 use Rattle.crdt_core.specs.declared.kind.Kind.{Kind}
 use Rattle.crdt_core.specs.DotSet.{has_dot}
-use Rattle.crdt_core.specs.Spelled.{is_between, are_dots, is_dots, dots, dots_at}
+use Rattle.crdt_core.specs.Spelled.{is_between, are_dots, ascend, is_dots, dots, dots_at}
 use Rattle.crdt_core.specs.SpelledLaws.{dots_held_form}
 use Rattle.crdt_core.proofs.SetsLaws.{or_none}
-use Rattle.crdt_core.specs.EffectForm.{HasSpelling, SpellsEffects}
-use Rattle.crdt_core.proofs.HaveSpelling.{behind, dots_spelled}
+use Rattle.crdt_core.specs.EffectForm.{SpellsEffects}
 use Rattle.crdt_core.specs.NamedDots.{LiesIn, have_update, NamesAreSpelled}
 use Rattle.crdt_core.proofs.NamedDotsLaws.{lies_behind, dots_lie}
 use Rattle.crdt_meanings.specs.CounterFat.{fat_names}
@@ -47,7 +46,7 @@ below z h = let f = Fits-lt-pow {w = w64} (Fits-of_z {w = w64} (fits z h)) in lt
 forth : (n : ℕ) → is_number 8 n ≡ true → cast_unsigned w64 (cast_signed w64 n) ≡ n
 forth n h = of_z-to_z w64 n (lt_from n (256 ^ 8) h)
 
-pub amount_form : IsForm is_amount_number is_amount_number amount_spelling amount_at
+pub amount_form : IsForm is_amount_number (λ _. true) is_amount_number amount_spelling amount_at
 unfolding amount_at
 amount_form = within_form (cast_signed w64) (cast_unsigned w64) is_amount_number (is_number 8) (is_number 8) (number 8) (number_at 8) back below forth (number_form 8 width8)
 
@@ -60,6 +59,10 @@ fat_mark (Reset ds) = 1
 abbrev pub can_put_fat : FatEffect → Bool
 can_put_fat (Amount n) = is_amount_number n
 can_put_fat (Reset ds) = are_dots ds
+
+abbrev pub keeps_fat : FatEffect → Bool
+keeps_fat (Amount n) = true
+keeps_fat (Reset ds) = ascend ds
 
 abbrev pub fat_sets : FatEffect → List (List Dot)
 fat_sets (Amount n) = []
@@ -82,18 +85,18 @@ fat_rest_at mark = if mark == 0 then mapped_at Amount amount_at else mapped_at R
 unfoldable pub fat_at : List ℕ → ℕ → Read FatEffect
 fat_at = tagged_at (is_between 0 1) fat_rest_at
 
-amount_shape : (e : FatEffect) → (eqb (fat_mark e) 0 && is_fat_spelled e) ≡ true → (n : ℤ) × (Amount n ≡ e)
+amount_shape : (e : FatEffect) → (eqb (fat_mark e) 0 && (can_put_fat e || is_fat_spelled e)) ≡ true → (n : ℤ) × (Amount n ≡ e)
 amount_shape (Amount n) h = (n, refl)
 amount_shape (Reset ds) h = absurd (false≢true h)
 
-reset_shape : (e : FatEffect) → (eqb (fat_mark e) 1 && is_fat_spelled e) ≡ true → (ds : List Dot) × (Reset ds ≡ e)
+reset_shape : (e : FatEffect) → (eqb (fat_mark e) 1 && (can_put_fat e || is_fat_spelled e)) ≡ true → (ds : List Dot) × (Reset ds ≡ e)
 reset_shape (Amount n) h = absurd (false≢true h)
 reset_shape (Reset ds) h = (ds, refl)
 
-rest_form : (n : ℕ) → is_between 0 1 n ≡ true → IsForm (λ e. eqb (fat_mark e) n && can_put_fat e) (λ e. eqb (fat_mark e) n && is_fat_spelled e) fat_rest (fat_rest_at n)
+rest_form : (n : ℕ) → is_between 0 1 n ≡ true → IsForm (λ e. eqb (fat_mark e) n && can_put_fat e) keeps_fat (λ e. eqb (fat_mark e) n && is_fat_spelled e) fat_rest (fat_rest_at n)
 unfolding fat_rest_at
-rest_form zero h = shape_form Amount is_amount_number is_amount_number amount_spelling amount_at _ _ _ (λ n. refl) (λ n. refl) (λ n. refl) amount_shape amount_form
-rest_form (suc zero) h = shape_form Reset are_dots is_dots dots dots_at _ _ _ (λ ds. refl) (λ ds. refl) (λ ds. refl) reset_shape dots_held_form
+rest_form zero h = shape_form (λ e. eqb (fat_mark e) 0) Amount is_amount_number is_amount_number amount_spelling amount_at can_put_fat is_fat_spelled _ (λ n. refl) (λ n. refl) (λ n. refl) (λ n. refl) amount_shape amount_form
+rest_form (suc zero) h = shape_form (λ e. eqb (fat_mark e) 1) Reset are_dots is_dots dots dots_at can_put_fat is_fat_spelled _ (λ ds. refl) (λ ds. refl) (λ ds. refl) (λ ds. refl) reset_shape dots_held_form
 rest_form (suc (suc n)) h = let le = le_from (suc (suc n)) 1 (both_true (nat_le 0 (suc (suc n))) _ h).1 in absurd (omega arith)
 
 known : (e : FatEffect) → is_between 0 1 (fat_mark e) ≡ true
@@ -103,7 +106,7 @@ known (Reset ds) = refl
 small : (n : ℕ) → is_between 0 1 n ≡ true → is_number 1 n ≡ true
 small n h = let le = le_from n 1 (both_true (nat_le 0 n) _ h).1 in lt_holds n (256 ^ 1) (omega (arith, le))
 
-pub fat_form : IsForm can_put_fat is_fat_spelled fat_spelling fat_at
+pub fat_form : IsForm can_put_fat keeps_fat is_fat_spelled fat_spelling fat_at
 unfolding fat_at
 fat_form = tagged_form (is_between 0 1) fat_mark can_put_fat is_fat_spelled fat_rest fat_rest_at known small rest_form
 
@@ -115,15 +118,11 @@ is_of_kind k e = true
 abbrev pub amount_sets : ℤ → List (List Dot)
 amount_sets z = []
 
-abbrev pub pn_spells : (has : Kind → Bool) → SpellsEffects has is_of_kind is_amount_number is_amount_number amount_sets (λ e. []) amount_spelling (λ k. amount_at)
-pn_spells has = record { form = λ k h. amount_form; all = λ e. record { shown = λ can kept short. can } }
+abbrev pub pn_spells : (has : Kind → Bool) → SpellsEffects has is_of_kind is_amount_number (λ _. true) is_amount_number amount_spelling (λ k. amount_at)
+pn_spells has = record { form = λ k h. amount_form }
 
-pub fat_all : HasSpelling can_put_fat is_fat_spelled fat_sets (λ e. []) fat_spelling
-fat_all (Amount n) = record { shown = λ can kept short. can }
-fat_all (Reset ds) = behind (dots_spelled ds) (number 1 1)
-
-abbrev pub fat_spells : (has : Kind → Bool) → SpellsEffects has is_of_kind can_put_fat is_fat_spelled fat_sets (λ e. []) fat_spelling (λ k. fat_at)
-fat_spells has = record { form = λ k h. fat_form; all = fat_all }
+abbrev pub fat_spells : (has : Kind → Bool) → SpellsEffects has is_of_kind can_put_fat keeps_fat is_fat_spelled fat_spelling (λ k. fat_at)
+fat_spells has = record { form = λ k h. fat_form }
 
 pub pn_named : NamesAreSpelled is_amount_number no_dot amount_sets amount_spelling
 pn_named = record { exact = λ e d can. refl; lies = λ e d can h. absurd (false≢true h) }

@@ -3,7 +3,7 @@ ghost use Rattle.std.specs.FinMap.{empty};
 ghost use Rattle.crdt_core.specs.Kept.{is_kept, keeps_none};
 ghost use Rattle.crdt_meanings.specs.CounterMeaning.{counter_meaning};
 ghost use Rattle.crdt_meanings.specs.CounterFat.{fat_has, fat_step, fat_made, fat_value, fat_names};
-ghost use Rattle.crdt_counters.specs.EffectForm.{can_put_fat, is_fat_spelled, fat_sets, fat_spelling, fat_at, fat_spells, fat_named};
+ghost use Rattle.crdt_counters.specs.EffectForm.{can_put_fat, keeps_fat, is_fat_spelled, fat_sets, fat_spelling, fat_at, fat_spells, fat_named};
 ghost use Rattle.crdt_meanings.proofs.FatLaw.{fat_law, fat_in_maps, fat_resets};
 ghost use Rattle.crdt_meanings.specs.Without.{no_stamp};
 
@@ -50,6 +50,8 @@ impl Crdt for CounterFat {
     ghost resets = { fat_resets };
 
     ghost can_put = { can_put_fat };
+
+    ghost keeps = { keeps_fat };
 
     ghost is_spelled = { is_fat_spelled };
 

@@ -2,7 +2,7 @@ ghost use Rattle.std.specs.Prelude.{◌≡◌, ◌≤◌, ◌++◌, true, length
 ghost use Rattle.field_codec.specs.Spelling.{number, Keeps};
 ghost use Rattle.field_codec.specs.Reading.{Gives};
 ghost use Rattle.crdt_core.specs.Spelled.{are_dots, is_dots, dots as dots_spelling};
-ghost use Rattle.crdt_counters.specs.EffectForm.{can_put_fat, is_fat_spelled, fat_spelling, fat_at, fat_form, amount_spelling};
+ghost use Rattle.crdt_counters.specs.EffectForm.{can_put_fat, keeps_fat, is_fat_spelled, fat_spelling, fat_at, fat_form, amount_spelling};
 
 use crate::FatEffect;
 use crate::amount_form::{put_amount, take_amount};
@@ -18,6 +18,8 @@ impl Form for FatForm {
     type Value = FatEffect;
 
     ghost fits = { λ _ e. can_put_fat e };
+
+    ghost keeps = { λ _ e. keeps_fat e };
 
     ghost is_spelled = { λ _ e. is_fat_spelled e };
 

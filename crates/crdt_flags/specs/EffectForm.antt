@@ -7,11 +7,10 @@ use Rattle.field_codec.specs.Lawful.{IsForm}
 use Rattle.site_vector.specs.declared.ids.Dot.{Dot}
 use Rattle.crdt_core.specs.declared.kind.Kind.{Kind}
 use Rattle.crdt_core.specs.DotSet.{has_dot}
-use Rattle.crdt_core.specs.Spelled.{are_dots, is_dots, dots, dots_at}
+use Rattle.crdt_core.specs.Spelled.{are_dots, ascend, is_dots, dots, dots_at}
 use Rattle.crdt_core.specs.SpelledLaws.{marked_at, marked_form, dots_held_form}
 use Rattle.crdt_core.proofs.SetsLaws.{or_none}
-use Rattle.crdt_core.specs.EffectForm.{HasSpelling, SpellsEffects}
-use Rattle.crdt_core.proofs.HaveSpelling.{behind, dots_spelled}
+use Rattle.crdt_core.specs.EffectForm.{SpellsEffects}
 use Rattle.crdt_core.specs.NamedDots.{NamesAreSpelled}
 use Rattle.crdt_core.proofs.NamedDotsLaws.{lies_behind, dots_lie}
 use Rattle.crdt_meanings.specs.Flags.{flag_out, flag_names}
@@ -28,6 +27,9 @@ marked_flag x = if x.0 == 0 then Enable x.1 else if x.0 == 1 then Disable x.1 el
 
 abbrev pub can_put_flag : FlagEffect → Bool
 can_put_flag e = are_dots (flag_out e)
+
+abbrev pub keeps_flag : FlagEffect → Bool
+keeps_flag e = ascend (flag_out e)
 
 abbrev pub flag_sets : FlagEffect → List (List Dot)
 flag_sets e = flag_out e ∷ []
@@ -57,7 +59,7 @@ few (Enable ds) = omega arith
 few (Disable ds) = omega arith
 few (Reset ds) = omega arith
 
-pub flag_form : IsForm can_put_flag is_flag_spelled flag_spelling flag_at
+pub flag_form : IsForm can_put_flag keeps_flag is_flag_spelled flag_spelling flag_at
 unfolding flag_at
 flag_form = marked_form 2 (omega arith) marked_flag flag_mark flag_out are_dots is_dots dots dots_at back forth few dots_held_form
 
@@ -65,11 +67,8 @@ flag_form = marked_form 2 (omega arith) marked_flag flag_mark flag_out are_dots 
 abbrev pub is_of_kind : Kind → FlagEffect → Bool
 is_of_kind k e = true
 
-pub flag_all : HasSpelling can_put_flag is_flag_spelled flag_sets (λ e. []) flag_spelling
-flag_all e = behind (dots_spelled (flag_out e)) (number 1 (flag_mark e))
-
-abbrev pub flag_spells : (has : Kind → Bool) → SpellsEffects has is_of_kind can_put_flag is_flag_spelled flag_sets (λ e. []) flag_spelling (λ k. flag_at)
-flag_spells has = record { form = λ k h. flag_form; all = flag_all }
+abbrev pub flag_spells : (has : Kind → Bool) → SpellsEffects has is_of_kind can_put_flag keeps_flag is_flag_spelled flag_spelling (λ k. flag_at)
+flag_spells has = record { form = λ k h. flag_form }
 
 pub flag_named : NamesAreSpelled can_put_flag flag_names flag_sets flag_spelling
 flag_named = record {

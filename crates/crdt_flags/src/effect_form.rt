@@ -2,7 +2,7 @@ ghost use Rattle.std.specs.Prelude.{◌≡◌, ◌≤◌, ◌++◌, true, length
 ghost use Rattle.field_codec.specs.Spelling.{number, Keeps};
 ghost use Rattle.field_codec.specs.Reading.{Gives};
 ghost use Rattle.crdt_core.specs.Spelled.{are_dots, is_dots, dots as dots_spelling};
-ghost use Rattle.crdt_flags.specs.EffectForm.{flag_mark, marked_flag, can_put_flag, is_flag_spelled, flag_spelling, flag_at, flag_form};
+ghost use Rattle.crdt_flags.specs.EffectForm.{flag_mark, marked_flag, can_put_flag, keeps_flag, is_flag_spelled, flag_spelling, flag_at, flag_form};
 
 use crate::FlagEffect;
 use crdt_core::{Dots, put_dots, take_dots, take_small};
@@ -17,6 +17,8 @@ impl Form for FlagForm {
     type Value = FlagEffect;
 
     ghost fits = { λ _ e. can_put_flag e };
+
+    ghost keeps = { λ _ e. keeps_flag e };
 
     ghost is_spelled = { λ _ e. is_flag_spelled e };
 

@@ -3,7 +3,7 @@ ghost use Rattle.std.specs.FinMap.{empty};
 ghost use Rattle.crdt_core.specs.Kept.{kept_step, is_kept, keeps_none};
 ghost use Rattle.crdt_meanings.specs.FlagMeaning.{flag_meaning};
 ghost use Rattle.crdt_meanings.specs.Flags.{flag_kind, flag_has, flag_step, flag_value, kind_made, flag_names};
-ghost use Rattle.crdt_flags.specs.EffectForm.{can_put_flag, is_flag_spelled, flag_sets, flag_spelling, flag_at, flag_spells, flag_named};
+ghost use Rattle.crdt_flags.specs.EffectForm.{can_put_flag, keeps_flag, is_flag_spelled, flag_sets, flag_spelling, flag_at, flag_spells, flag_named};
 ghost use Rattle.crdt_meanings.proofs.FlagLaws.{flag_law, flag_in_maps, flag_resets};
 ghost use Rattle.crdt_meanings.specs.Without.{no_stamp};
 
@@ -58,6 +58,8 @@ impl<const DISABLES_WIN: bool> Crdt for FlagOf<DISABLES_WIN> {
     ghost resets = { flag_resets DISABLES_WIN };
 
     ghost can_put = { can_put_flag };
+
+    ghost keeps = { keeps_flag };
 
     ghost is_spelled = { is_flag_spelled };
 

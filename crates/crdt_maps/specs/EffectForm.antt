@@ -21,8 +21,7 @@ use Rattle.crdt_core.specs.Fits.{nests_in}
 use Rattle.crdt_core.specs.FieldOrder.{field_cmp}
 use Rattle.crdt_core.specs.Spelled.{is_between, kind, kind_at}
 use Rattle.crdt_core.specs.SpelledLaws.{kind_form}
-use Rattle.crdt_core.specs.EffectForm.{sets_ascend, Spells, HasSpelling, SpellsEffects, reset_tag, begins_with}
-use Rattle.crdt_core.proofs.HaveSpelling.{behind, asked, named, list_spelled}
+use Rattle.crdt_core.specs.EffectForm.{SpellsEffects, reset_tag, begins_with}
 use Rattle.crdt_core.specs.NamedDots.{LiesIn, have_update, NamesAreSpelled}
 use Rattle.crdt_core.proofs.SetsLaws.{or_none, update_of_list}
 use Rattle.crdt_core.proofs.NamedDotsLaws.{lies_behind, list_lies}
@@ -47,20 +46,22 @@ field_of p = record { name = p.0; kind = p.1 }
 unfoldable pub field_at : (Kind → Bool) → List ℕ → ℕ → Read Field
 field_at allowed = mapped_at field_of (then_at text_at (λ _. checked_at allowed kind_at))
 
-coded_form : (allowed : Kind → Bool) → IsForm allowed allowed kind (checked_at allowed kind_at)
+coded_form : (allowed : Kind → Bool) → IsForm allowed (λ _. true) allowed kind (checked_at allowed kind_at)
 coded_form allowed = let law = checked_form allowed (λ _. true) (λ _. true) kind kind_at kind_form in record {
   found = λ bytes at k end ok within h. let f = law.found bytes at k end ok within h in ((both_true (allowed k) true f.0).0, f.1);
   again = λ bytes at k end good spans. law.again bytes at k end (and_true (allowed k) true good refl) spans;
   fit = λ k good. good;
+  all = λ k can kept short. can;
   ends = law.ends;
   tells = law.tells;
 }
 
-pub field_form : (allowed : Kind → Bool) → IsForm (λ f. allowed f.kind) (is_field allowed) field (field_at allowed)
+pub field_form : (allowed : Kind → Bool) → IsForm (λ f. allowed f.kind) (λ f. is_text f.name) (is_field allowed) field (field_at allowed)
 unfolding field_at
 field_form allowed =
     let whole = then_form (λ t. true) is_text text text_at (λ _. allowed) (λ _. allowed) (λ _. kind) (λ _. checked_at allowed kind_at) any_text_form (λ _ _. coded_form allowed) in
-    mapped_form field_of (λ f. (f.name, f.kind)) _ _ _ _ (λ _. refl) (λ _ _. refl) whole
+    let law = mapped_form field_of (λ f. (f.name, f.kind)) _ _ _ _ (λ _. refl) (λ _ _. refl) whole in
+    record { found = law.found; again = law.again; fit = law.fit; all = λ f can kept short. and_true (is_text f.name) (allowed f.kind) kept can; ends = law.ends; tells = law.tells }
 
 -- ---- a value whose spelling begins with a tag
 
@@ -86,11 +87,11 @@ opens_with : (tag : ℕ) (s : List ℕ) → begins_with tag s ≡ true → Opens
 opens_with tag [] h = absurd (false≢true h)
 opens_with tag (b ∷ s) h = (s, ap (λ n. n ∷ s) (eqb-true b tag h))
 
-module _ {V : Type 0} (tag : ℕ) (one : number 1 tag ≡ tag ∷ []) (small : is_number 1 tag ≡ true) (fits is_spelled : V → Bool) (spelling : V → List ℕ) (reading : List ℕ → ℕ → Read V) (form : IsForm fits is_spelled spelling reading) where
+module _ {V : Type 0} (tag : ℕ) (one : number 1 tag ≡ tag ∷ []) (small : is_number 1 tag ≡ true) {keeps : V → Bool} (fits is_spelled : V → Bool) (spelling : V → List ℕ) (reading : List ℕ → ℕ → Read V) (form : IsForm fits keeps is_spelled spelling reading) where
   abbrev is_tag : ℕ → Bool
   is_tag n = n == tag
 
-  tags : IsForm (λ n. is_tag n && is_number 1 n) (λ n. is_tag n && is_number 1 n) (number 1) (checked_at is_tag (number_at 1))
+  tags : IsForm (λ n. is_tag n && is_number 1 n) (λ _. true) (λ n. is_tag n && is_number 1 n) (number 1) (checked_at is_tag (number_at 1))
   tags = checked_form is_tag (is_number 1) (is_number 1) (number 1) (number_at 1) (number_form 1 width1)
 
   begins_there : (bytes : List ℕ) (at n mid : ℕ) → is_tag n ≡ true → Spans bytes at (number 1 n) mid → begins_with tag (drop at bytes) ≡ true
@@ -184,7 +185,7 @@ module _ {V : Type 0} (tag : ℕ) (one : number 1 tag ≡ tag ∷ []) (small : i
         ⊎_elim (tags.tells.memory bytes at ok le) (λ a. form.tells.memory bytes at ok le a.2) (bind_err (first_at bytes at) (λ x. reading bytes at) NoMemory h);
   }
 
-  pub opened_form : IsForm (λ v. begins_with tag (spelling v) && fits v) (λ v. begins_with tag (spelling v) && is_spelled v) spelling (opened_at tag reading)
+  pub opened_form : IsForm (λ v. begins_with tag (spelling v) && fits v) keeps (λ v. begins_with tag (spelling v) && is_spelled v) spelling (opened_at tag reading)
   opened_form = record {
     found = λ bytes at v end ok within h.
         let a = bind_ok (first_at bytes at) (λ t. reading bytes at) (v, end) h in
@@ -204,6 +205,9 @@ module _ {V : Type 0} (tag : ℕ) (one : number 1 tag ≡ tag ∷ []) (small : i
     fit = λ v good.
         let p = both_true (begins_with tag (spelling v)) (is_spelled v) good in
         and_true (begins_with tag (spelling v)) (fits v) p.0 (form.fit v p.1);
+    all = λ v can kept short.
+        let p = both_true (begins_with tag (spelling v)) (fits v) can in
+        and_true (begins_with tag (spelling v)) (is_spelled v) p.0 (form.all v p.1 kept short);
     ends = λ bytes at far. ap (λ r. r >>= λ x. reading bytes at) (tags.ends bytes at far);
     tells = opened_tells;
   }
@@ -223,6 +227,9 @@ tag_small _ = refl
 
 abbrev pub can_put_entry : {E : Type 0} → (Kind → Bool) → (Kind → E → Bool) → (E → Bool) → Field × E → Bool
 can_put_entry allowed is_of can_put x = allowed x.0.kind && (is_of x.0.kind x.1 && can_put x.1)
+
+abbrev pub keeps_entry : {E : Type 0} → (E → Bool) → Field × E → Bool
+keeps_entry keeps x = is_text x.0.name && keeps x.1
 
 abbrev pub is_entry_spelled : {E : Type 0} → (Kind → Bool) → (Kind → E → Bool) → (E → Bool) → Field × E → Bool
 is_entry_spelled allowed is_of is_spelled x = is_field allowed x.0 && (is_of x.0.kind x.1 && is_spelled x.1)
@@ -253,6 +260,10 @@ abbrev pub map_can_put : {E : Type 0} → Bool → (Kind → Bool) → (Kind →
 map_can_put drops has is_of can_put spelling (At f e) = can_put_entry (may_nest (map_kind drops) has) is_of can_put (f, e)
 map_can_put drops has is_of can_put spelling (Resets xs) = drops && are_members entry_below (can_put_reset (may_nest kinds.MapRr has) is_of can_put spelling) xs
 
+abbrev pub map_keeps : {E : Type 0} → (E → Bool) → MapEffect E → Bool
+map_keeps keeps (At f e) = keeps_entry keeps (f, e)
+map_keeps keeps (Resets xs) = list_all (keeps_entry keeps) xs
+
 abbrev pub map_is_spelled : {E : Type 0} → Bool → (Kind → Bool) → (Kind → E → Bool) → (E → Bool) → (E → List ℕ) → MapEffect E → Bool
 map_is_spelled drops has is_of is_spelled spelling (At f e) = is_entry_spelled (may_nest (map_kind drops) has) is_of is_spelled (f, e)
 map_is_spelled drops has is_of is_spelled spelling (Resets xs) = drops && is_list entry_below (is_reset_spelled (may_nest kinds.MapRr has) is_of is_spelled spelling) xs
@@ -274,10 +285,6 @@ map_spelling drops spelling e = number 1 (map_mark drops e) ++ map_rest spelling
 abbrev pub map_sets : {E : Type 0} → (E → List (List Dot)) → MapEffect E → List (List Dot)
 map_sets sets (At f e) = sets e
 map_sets sets (Resets xs) = flat_map (λ x. sets x.1) xs
-
-abbrev pub map_texts : {E : Type 0} → (E → List (List ℕ)) → MapEffect E → List (List ℕ)
-map_texts texts (At f e) = f.name ∷ texts e
-map_texts texts (Resets xs) = flat_map (λ x. x.0.name ∷ texts x.1) xs
 
 abbrev pub at_of : {E : Type 0} → Field × E → MapEffect E
 at_of x = At x.0 x.1
@@ -304,17 +311,13 @@ small_mark : (drops : Bool) (n : ℕ) → is_between 0 (last_mark drops) n ≡ t
 small_mark false = small_tag 0 (omega arith)
 small_mark true = small_tag 1 (omega arith)
 
--- behind its field
-entry_spelled : (words sets : Bool) {fits good : Bool} {bytes : List ℕ} (allowed : Kind → Bool) (f : Field) → Spells fits (words && sets) good bytes → Spells (allowed f.kind && fits) ((is_text f.name && words) && sets) (is_field allowed f && good) (field f ++ bytes)
-entry_spelled words sets allowed f all = behind (named words sets all (is_text f.name) (allowed f.kind)) (field f)
-
-module _ {E : Type 0} {has : Kind → Bool} {is_of : Kind → E → Bool} {can_put is_spelled : E → Bool} {sets : E → List (List Dot)} {texts : E → List (List ℕ)} {spelling : E → List ℕ} {reading : Kind → List ℕ → ℕ → Read E} (spells : SpellsEffects has is_of can_put is_spelled sets texts spelling reading) where
-  pub entry_form : (outer : Kind) → IsForm (can_put_entry (may_nest outer has) is_of can_put) (is_entry_spelled (may_nest outer has) is_of is_spelled) (entry spelling) (entry_at (may_nest outer has) reading)
+module _ {E : Type 0} {has : Kind → Bool} {is_of : Kind → E → Bool} {can_put keeps is_spelled : E → Bool} {spelling : E → List ℕ} {reading : Kind → List ℕ → ℕ → Read E} (spells : SpellsEffects has is_of can_put keeps is_spelled spelling reading) where
+  pub entry_form : (outer : Kind) → IsForm (can_put_entry (may_nest outer has) is_of can_put) (keeps_entry keeps) (is_entry_spelled (may_nest outer has) is_of is_spelled) (entry spelling) (entry_at (may_nest outer has) reading)
   unfolding entry_at
   entry_form outer = let allowed = may_nest outer has in
       then_form (λ f. allowed f.kind) (is_field allowed) field (field_at allowed) (λ f e. is_of f.kind e && can_put e) (λ f e. is_of f.kind e && is_spelled e) (λ _. spelling) (λ f. reading f.kind) (field_form allowed) (λ f h. spells.form f.kind (in_field outer has f h))
 
-  pub reset_form : (outer : Kind) → IsForm (can_put_reset (may_nest outer has) is_of can_put spelling) (is_reset_spelled (may_nest outer has) is_of is_spelled spelling) (entry spelling) (reset_at (may_nest outer has) reading)
+  pub reset_form : (outer : Kind) → IsForm (can_put_reset (may_nest outer has) is_of can_put spelling) (keeps_entry keeps) (is_reset_spelled (may_nest outer has) is_of is_spelled spelling) (entry spelling) (reset_at (may_nest outer has) reading)
   unfolding reset_at
   reset_form outer = let allowed = may_nest outer has in
       then_form (λ f. allowed f.kind) (is_field allowed) field (field_at allowed)
@@ -327,19 +330,19 @@ module _ {E : Type 0} {has : Kind → Bool} {is_of : Kind → E → Bool} {can_p
   abbrev spelled : Bool → MapEffect E → Bool
   spelled drops e = map_is_spelled drops has is_of is_spelled spelling e
 
-  at_shape : (drops : Bool) (e : MapEffect E) → (eqb (map_mark drops e) 0 && spelled drops e) ≡ true → (x : Field × E) × (at_of x ≡ e)
+  at_shape : (drops : Bool) (e : MapEffect E) → (eqb (map_mark drops e) 0 && (can drops e || spelled drops e)) ≡ true → (x : Field × E) × (at_of x ≡ e)
   at_shape drops (At f e) h = ((f, e), refl)
   at_shape false (Resets xs) h = absurd (false≢true h)
   at_shape true (Resets xs) h = absurd (false≢true h)
 
-  resets_shape : (e : MapEffect E) → (eqb (map_mark true e) 1 && spelled true e) ≡ true → (xs : List (Field × E)) × (Resets xs ≡ e)
+  resets_shape : (e : MapEffect E) → (eqb (map_mark true e) 1 && (can true e || spelled true e)) ≡ true → (xs : List (Field × E)) × (Resets xs ≡ e)
   resets_shape (At f e) h = absurd (false≢true h)
   resets_shape (Resets xs) h = (xs, refl)
 
-  rest_form : (drops : Bool) (n : ℕ) → is_between 0 (last_mark drops) n ≡ true → IsForm (λ e. eqb (map_mark drops e) n && can drops e) (λ e. eqb (map_mark drops e) n && spelled drops e) (map_rest spelling) (map_rest_at drops has reading n)
+  rest_form : (drops : Bool) (n : ℕ) → is_between 0 (last_mark drops) n ≡ true → IsForm (λ e. eqb (map_mark drops e) n && can drops e) (map_keeps keeps) (λ e. eqb (map_mark drops e) n && spelled drops e) (map_rest spelling) (map_rest_at drops has reading n)
   unfolding map_rest_at
-  rest_form drops zero h = shape_form at_of _ _ (entry spelling) _ _ _ _ (λ x. refl) (λ x. refl) (λ x. refl) (at_shape drops) (entry_form (map_kind drops))
-  rest_form true (suc zero) h = shape_form Resets _ _ (list (entry spelling)) _ _ _ _ (λ xs. refl) (λ xs. refl) (λ xs. refl) resets_shape (list_form entry_below _ _ (entry spelling) (reset_at (may_nest kinds.MapRr has) reading) (reset_form kinds.MapRr))
+  rest_form drops zero h = shape_form (λ e. eqb (map_mark drops e) 0) at_of _ _ (entry spelling) _ (can drops) (spelled drops) _ (λ x. refl) (λ x. refl) (λ x. refl) (λ x. refl) (at_shape drops) (entry_form (map_kind drops))
+  rest_form true (suc zero) h = shape_form (λ e. eqb (map_mark true e) 1) Resets _ _ (list (entry spelling)) _ (can true) (spelled true) _ (λ xs. refl) (λ xs. refl) (λ xs. refl) (λ xs. refl) resets_shape (list_form entry_below _ _ (entry spelling) (reset_at (may_nest kinds.MapRr has) reading) (reset_form kinds.MapRr))
   rest_form true (suc (suc n)) h = let le = le_from (suc (suc n)) 1 (both_true (nat_le 0 (suc (suc n))) _ h).1 in absurd (omega arith)
   rest_form false (suc n) h = let le = le_from (suc n) 0 (both_true (nat_le 0 (suc n)) _ h).1 in absurd (omega arith)
 
@@ -349,19 +352,12 @@ module _ {E : Type 0} {has : Kind → Bool} {is_of : Kind → E → Bool} {can_p
   mark_known false (Resets xs) = refl
   mark_known true (Resets xs) = refl
 
-  pub map_form : (drops : Bool) → IsForm (map_can_put drops has is_of can_put spelling) (map_is_spelled drops has is_of is_spelled spelling) (map_spelling drops spelling) (map_at drops has reading)
+  pub map_form : (drops : Bool) → IsForm (map_can_put drops has is_of can_put spelling) (map_keeps keeps) (map_is_spelled drops has is_of is_spelled spelling) (map_spelling drops spelling) (map_at drops has reading)
   unfolding map_at
   map_form drops = tagged_form (is_between 0 (last_mark drops)) (map_mark drops) _ _ (map_rest spelling) (map_rest_at drops has reading) (mark_known drops) (small_mark drops) (rest_form drops)
 
-  pub map_all : (drops : Bool) → HasSpelling (can drops) (spelled drops) (map_sets sets) (map_texts texts) (map_spelling drops spelling)
-  map_all drops (At f e) = behind (entry_spelled (list_all is_text (texts e)) (sets_ascend (sets e)) (may_nest (map_kind drops) has) f (asked (spells.all e) (is_of f.kind e))) (number 1 0)
-  map_all drops (Resets xs) =
-      let begins : Field × E → Bool = λ x. begins_with (reset_tag x.0.kind) (spelling x.1) in
-      behind (asked (list_spelled entry_below (reset_form kinds.MapRr) (λ x. sets x.1) (λ x. x.0.name ∷ texts x.1)
-      (λ x. entry_spelled (list_all is_text (texts x.1)) (sets_ascend (sets x.1)) (may_nest kinds.MapRr has) x.0 (asked (asked (spells.all x.1) (is_of x.0.kind x.1)) (begins x))) xs) drops) (number 1 (last_mark drops))
-
-  abbrev pub map_spells : (drops : Bool) (of_map : Kind → Bool) → SpellsEffects of_map is_of_map (map_can_put drops has is_of can_put spelling) (map_is_spelled drops has is_of is_spelled spelling) (map_sets sets) (map_texts texts) (map_spelling drops spelling) (λ k. map_at drops has reading)
-  map_spells drops of_map = record { form = λ k h. map_form drops; all = map_all drops }
+  abbrev pub map_spells : (drops : Bool) (of_map : Kind → Bool) → SpellsEffects of_map is_of_map (map_can_put drops has is_of can_put spelling) (map_keeps keeps) (map_is_spelled drops has is_of is_spelled spelling) (map_spelling drops spelling) (λ k. map_at drops has reading)
+  map_spells drops of_map = record { form = λ k h. map_form drops }
 
 -- ---- an effect names exactly the updates in the sets that stand in its bytes
 

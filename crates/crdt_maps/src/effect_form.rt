@@ -2,7 +2,7 @@ ghost use Rattle.std.specs.Prelude.{◌≡◌, ◌≤◌, ◌++◌, true, length
 ghost use Rattle.field_codec.specs.Spelling.{number, list, are_members, is_list, Keeps};
 ghost use Rattle.field_codec.specs.Reading.{Gives, list_at};
 ghost use Rattle.crdt_core.specs.declared.kind.Kind.TheVariants.{MapRr};
-ghost use Rattle.crdt_maps.specs.EffectForm.{may_nest, entry, entry_below, can_put_reset, is_reset_spelled, reset_at, map_can_put, map_is_spelled, map_spelling, map_at, map_form};
+ghost use Rattle.crdt_maps.specs.EffectForm.{may_nest, entry, entry_below, can_put_reset, is_reset_spelled, reset_at, map_can_put, map_keeps, map_is_spelled, map_spelling, map_at, map_form};
 
 use crate::entry_form::{ResetForm, put_entry, take_entry};
 use crate::values::kind_of;
@@ -29,6 +29,8 @@ impl<I: Crdt> Form for MapForm<I> {
     type Value = MapEffect<I::Effect>;
 
     ghost fits = { λ f e. map_can_put f.drops I.has I.is_of I.can_put I.spelling e };
+
+    ghost keeps = { λ _ e. map_keeps I.keeps e };
 
     ghost is_spelled = { λ f e. map_is_spelled f.drops I.has I.is_of I.is_spelled I.spelling e };
 

@@ -3,7 +3,7 @@ ghost use Rattle.field_codec.specs.Spelling.{Keeps, is_text};
 ghost use Rattle.field_codec.specs.Reading.{Gives};
 ghost use Rattle.crdt_core.specs.declared.kind.Kind.TheVariants.{MapRr};
 ghost use Rattle.crdt_core.specs.EffectForm.{reset_tag};
-ghost use Rattle.crdt_maps.specs.EffectForm.{may_nest, field_at, opened_at, entry, entry_at, can_put_reset, is_reset_spelled, reset_at, entry_below, reset_form};
+ghost use Rattle.crdt_maps.specs.EffectForm.{may_nest, field_at, opened_at, entry, entry_at, can_put_reset, keeps_entry, is_reset_spelled, reset_at, entry_below, reset_form};
 
 use crdt_core::{Crdt, Field, Kind, nests_in, put_kind, take_kind};
 use field_codec::{Form, TakeError, put_text, take_text, take_u8};
@@ -134,6 +134,8 @@ impl<I: Crdt> Form for ResetForm<I> {
     type Value = (Field, I::Effect);
 
     ghost fits = { λ _ x. can_put_reset (may_nest MapRr I.has) I.is_of I.can_put I.spelling x };
+
+    ghost keeps = { λ _ x. keeps_entry I.keeps x };
 
     ghost is_spelled = { λ _ x. is_reset_spelled (may_nest MapRr I.has) I.is_of I.is_spelled I.spelling x };
 

@@ -2,7 +2,7 @@ ghost use Rattle.std.specs.Prelude.{◌≡◌, IfOk};
 ghost use Rattle.std.specs.FinMap.{empty};
 ghost use Rattle.crdt_meanings.specs.Maps.{map_has, map_step, map_made, map_stamp, map_too_deep, map_names, map_holds, map_value, map_blank};
 ghost use Rattle.crdt_meanings.specs.MapMeaning.{map_meaning};
-ghost use Rattle.crdt_maps.specs.EffectForm.{map_can_put, map_is_spelled, map_sets, map_texts, map_spelling, map_at, map_spells, map_named};
+ghost use Rattle.crdt_maps.specs.EffectForm.{map_can_put, map_keeps, map_is_spelled, map_sets, map_spelling, map_at, map_spells, map_named};
 ghost use Rattle.crdt_meanings.proofs.MapLaws.{map_law, map_in_maps};
 ghost use Rattle.crdt_meanings.proofs.MapResets.{map_resets};
 
@@ -57,11 +57,11 @@ impl<const DROPS: bool, I: Crdt> Crdt for MapOf<DROPS, I> {
 
     ghost can_put = { map_can_put DROPS I.has I.is_of I.can_put I.spelling };
 
+    ghost keeps = { map_keeps I.keeps };
+
     ghost is_spelled = { map_is_spelled DROPS I.has I.is_of I.is_spelled I.spelling };
 
     ghost sets = { map_sets I.sets };
-
-    ghost texts = { map_texts I.texts };
 
     ghost spelling = { map_spelling DROPS I.spelling };
 

@@ -1,5 +1,5 @@
 -- The bytes of an assign to the register that the last writer wins: its stamp, and its text.
-use Rattle.std.specs.Prelude.{ℕ, Bool, true, ◌&&◌, List, [], ◌∷◌, ◌++◌, refl}
+use Rattle.std.specs.Prelude.{ℕ, Bool, true, ◌&&◌, List, [], ◌++◌, refl}
 use Rattle.std.proofs.Common.{arith}
 use Rattle.std.proofs.lemmas.Bool.{false≢true}
 use Rattle.field_codec.specs.Spelling.{number, text, is_text}
@@ -20,6 +20,9 @@ use Rattle.crdt_meanings.specs.declared.registers.Assigned.{Assigned}
 abbrev pub can_put_lww : Assigned → Bool
 can_put_lww e = is_between 0 last_stamp e.stamp
 
+abbrev pub keeps_lww : Assigned → Bool
+keeps_lww e = is_text e.text
+
 abbrev pub lww_sets : Assigned → List (List Dot)
 lww_sets e = []
 
@@ -35,16 +38,16 @@ assigned_of p = record { stamp = p.0; text = p.1 }
 unfoldable pub lww_at : List ℕ → ℕ → Read Assigned
 lww_at = mapped_at assigned_of (then_at (between_at 8 0 last_stamp) (λ _. text_at))
 
-pub lww_form : IsForm can_put_lww is_lww_spelled lww_spelling lww_at
+pub lww_form : IsForm can_put_lww keeps_lww is_lww_spelled lww_spelling lww_at
 unfolding lww_at
 lww_form =
     let stamps = is_between 0 last_stamp in
     let whole = then_form stamps stamps (number 8) (between_at 8 0 last_stamp) (λ _ _. true) (λ _. is_text) (λ _. text) (λ _. text_at) (between_form 8 0 last_stamp width8 (omega arith)) (λ _ _. any_text_form) in
     let law = mapped_form assigned_of (λ e. (e.stamp, e.text)) _ _ _ _ (λ _. refl) (λ _ _. refl) whole in
-    record { found = law.found; again = law.again; fit = λ e good. (both_true (stamps e.stamp) (is_text e.text) good).0; ends = law.ends; tells = law.tells }
+    record { found = law.found; again = law.again; fit = λ e good. (both_true (stamps e.stamp) (is_text e.text) good).0; all = λ e can kept short. and_true (stamps e.stamp) (is_text e.text) can kept; ends = law.ends; tells = law.tells }
 
-abbrev pub lww_spells : (has : Kind → Bool) → SpellsEffects has is_of_kind can_put_lww is_lww_spelled lww_sets (λ e. e.text ∷ []) lww_spelling (λ k. lww_at)
-lww_spells has = record { form = λ k h. lww_form; all = λ e. record { shown = λ can kept short. and_true (can_put_lww e) (is_text e.text) can (both_true (is_text e.text) true (both_true (is_text e.text && true) true kept).0).0 } }
+abbrev pub lww_spells : (has : Kind → Bool) → SpellsEffects has is_of_kind can_put_lww keeps_lww is_lww_spelled lww_spelling (λ k. lww_at)
+lww_spells has = record { form = λ k h. lww_form }
 
 pub lww_named : NamesAreSpelled can_put_lww no_dot lww_sets lww_spelling
 lww_named = record { exact = λ e d can. refl; lies = λ e d can h. absurd (false≢true h) }

@@ -1,6 +1,6 @@
 ghost use Rattle.std.specs.Prelude.{◌≡◌, ◌≤◌, ◌∷◌, true, length, IfOk};
 ghost use Rattle.field_codec.specs.Reading.{Gives};
-ghost use Rattle.crdt_registers.specs.LwwForm.{can_put_lww, is_lww_spelled, lww_spelling, lww_at, lww_form};
+ghost use Rattle.crdt_registers.specs.LwwForm.{can_put_lww, keeps_lww, is_lww_spelled, lww_spelling, lww_at, lww_form};
 
 use crate::Assigned;
 use crate::register_lww::LAST_STAMP;
@@ -15,6 +15,8 @@ impl Form for LwwForm {
     type Value = Assigned;
 
     ghost fits = { λ _ e. can_put_lww e };
+
+    ghost keeps = { λ _ e. keeps_lww e };
 
     ghost is_spelled = { λ _ e. is_lww_spelled e };
 

@@ -2,7 +2,7 @@ ghost use Rattle.std.specs.Prelude.{◌≡◌, ◌≤◌, ◌++◌, ◌&&◌, tr
 ghost use Rattle.field_codec.specs.Spelling.{number, text as text_spelling, is_text, Keeps};
 ghost use Rattle.field_codec.specs.Reading.{Gives};
 ghost use Rattle.crdt_core.specs.Spelled.{are_dots, is_dots, dots as dots_spelling};
-ghost use Rattle.crdt_registers.specs.MvForm.{can_put_mv, is_mv_spelled, mv_spelling, mv_rest_at, mv_at, mv_form};
+ghost use Rattle.crdt_registers.specs.MvForm.{can_put_mv, keeps_mv, is_mv_spelled, mv_spelling, mv_rest_at, mv_at, mv_form};
 
 use crate::MvEffect;
 use crdt_core::{Dots, put_dots, take_dots};
@@ -23,6 +23,8 @@ impl Form for MvForm {
     type Value = MvEffect;
 
     ghost fits = { λ _ e. can_put_mv e };
+
+    ghost keeps = { λ _ e. keeps_mv e };
 
     ghost is_spelled = { λ _ e. is_mv_spelled e };
 

@@ -1,9 +1,9 @@
-ghost use Rattle.std.specs.Prelude.{◌≡◌, ◌+◌, [], ◌∷◌, min, max, None, IfOk};
+ghost use Rattle.std.specs.Prelude.{◌≡◌, ◌+◌, min, max, None, IfOk};
 ghost use Rattle.crdt_core.specs.Stamps.{last_stamp};
 ghost use Rattle.crdt_meanings.specs.RegisterMeaning.{lww_meaning, word_of};
 ghost use Rattle.crdt_meanings.specs.Without.{no_dot};
 ghost use Rattle.crdt_meanings.specs.RegisterLww.{lww_has, lww_step, lww_made_on, lww_made, lww_stamp, above, outlasts, unassigned};
-ghost use Rattle.crdt_registers.specs.LwwForm.{can_put_lww, is_lww_spelled, lww_sets, lww_spelling, lww_at, lww_spells, lww_named};
+ghost use Rattle.crdt_registers.specs.LwwForm.{can_put_lww, keeps_lww, is_lww_spelled, lww_sets, lww_spelling, lww_at, lww_spells, lww_named};
 ghost use Rattle.crdt_meanings.proofs.LwwLaw.{lww_law, lww_in_maps, lww_resets};
 
 use crate::assigned::{empty_text, is_before, text_of};
@@ -53,11 +53,11 @@ impl Crdt for RegisterLww {
 
     ghost can_put = { can_put_lww };
 
+    ghost keeps = { keeps_lww };
+
     ghost is_spelled = { is_lww_spelled };
 
     ghost sets = { lww_sets };
-
-    ghost texts = { λ e. e.text ∷ [] };
 
     ghost spelling = { lww_spelling };
 

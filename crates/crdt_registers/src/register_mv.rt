@@ -3,7 +3,7 @@ ghost use Rattle.std.specs.FinMap.{empty};
 ghost use Rattle.crdt_core.specs.Kept.{is_kept, keeps_none};
 ghost use Rattle.crdt_meanings.specs.RegisterMeaning.{mv_meaning};
 ghost use Rattle.crdt_meanings.specs.RegisterMv.{mv_has, mv_step, mv_made, mv_value, mv_names};
-ghost use Rattle.crdt_registers.specs.MvForm.{can_put_mv, is_mv_spelled, mv_sets, mv_texts, mv_spelling, mv_at, mv_spells, mv_named};
+ghost use Rattle.crdt_registers.specs.MvForm.{can_put_mv, keeps_mv, is_mv_spelled, mv_sets, mv_spelling, mv_at, mv_spells, mv_named};
 ghost use Rattle.crdt_meanings.proofs.MvLaw.{mv_law, mv_in_maps, mv_resets};
 ghost use Rattle.crdt_meanings.specs.Without.{no_stamp};
 
@@ -53,11 +53,11 @@ impl Crdt for RegisterMv {
 
     ghost can_put = { can_put_mv };
 
+    ghost keeps = { keeps_mv };
+
     ghost is_spelled = { is_mv_spelled };
 
     ghost sets = { mv_sets };
-
-    ghost texts = { mv_texts };
 
     ghost spelling = { mv_spelling };
 

@@ -12,10 +12,9 @@ use Rattle.field_codec.specs.Tagged.{tagged_at, tagged_form, shape_form}
 use Rattle.site_vector.specs.declared.ids.Dot.{Dot}
 use Rattle.crdt_core.specs.declared.kind.Kind.{Kind}
 use Rattle.crdt_core.specs.Texts.{text_cmp}
-use Rattle.crdt_core.specs.Spelled.{is_between, are_dots, is_dots, dots, dots_at}
+use Rattle.crdt_core.specs.Spelled.{is_between, are_dots, ascend, is_dots, dots, dots_at}
 use Rattle.crdt_core.specs.SpelledLaws.{dots_held_form}
-use Rattle.crdt_core.specs.EffectForm.{sets_ascend, HasSpelling, SpellsEffects}
-use Rattle.crdt_core.proofs.HaveSpelling.{behind, asked, texted, listed, list_spelled, dots_spelled}
+use Rattle.crdt_core.specs.EffectForm.{SpellsEffects}
 use Rattle.crdt_core.specs.DotSet.{has_dot}
 use Rattle.crdt_core.specs.NamedDots.{LiesIn, have_update, NamesAreSpelled}
 use Rattle.crdt_core.proofs.NamedDotsLaws.{lies_behind, list_lies, dots_lie}
@@ -35,6 +34,9 @@ has_some (x ∷ xs) = true
 abbrev pub can_put_texts : List (List ℕ) → Bool
 can_put_texts ts = has_some ts && are_members (is_below text_cmp) (λ t. true) ts
 
+abbrev pub keeps_texts : List (List ℕ) → Bool
+keeps_texts ts = list_all is_text ts
+
 abbrev pub are_texts_spelled : List (List ℕ) → Bool
 are_texts_spelled ts = has_some ts && is_list (is_below text_cmp) is_text ts
 
@@ -44,22 +46,20 @@ texts_spelling ts = list text ts
 unfoldable pub texts_at : List ℕ → ℕ → Read (List (List ℕ))
 texts_at = checked_at has_some (list_at (is_below text_cmp) text_at)
 
-pub texts_form : IsForm can_put_texts are_texts_spelled texts_spelling texts_at
+pub texts_form : IsForm can_put_texts keeps_texts are_texts_spelled texts_spelling texts_at
 unfolding texts_at
 texts_form = checked_form has_some _ _ _ _ (list_form (is_below text_cmp) (λ t. true) is_text text text_at any_text_form)
 
 abbrev pub texts_sets : List (List ℕ) → List (List Dot)
 texts_sets ts = []
 
-pub texts_all : HasSpelling can_put_texts are_texts_spelled texts_sets (λ ts. ts) texts_spelling
-texts_all ts =
-    let all = listed (is_below text_cmp) any_text_form is_text (λ t. record { shown = λ can kept short. kept }) ts in
-    asked (record { shown = λ can kept. all.shown can (both_true (list_all is_text ts) true kept).0 }) (has_some ts)
-
 -- ---- an element with its dots
 
 abbrev pub named_cmp : Named → Named → Ordering
 named_cmp m n = text_cmp m.text n.text
+
+abbrev pub keeps_named : Named → Bool
+keeps_named n = is_text n.text && ascend n.dots
 
 abbrev pub is_named : Named → Bool
 is_named n = is_text n.text && is_dots n.dots
@@ -73,7 +73,7 @@ named_of p = record { text = p.0; dots = p.1 }
 unfoldable pub named_at : List ℕ → ℕ → Read Named
 named_at = mapped_at named_of (then_at text_at (λ _. dots_at))
 
-pub named_form : IsForm (λ n. are_dots n.dots) is_named named named_at
+pub named_form : IsForm (λ n. are_dots n.dots) keeps_named is_named named named_at
 unfolding named_at
 named_form =
     let whole = then_form (λ t. true) is_text text text_at (λ _. are_dots) (λ _. is_dots) (λ _. dots) (λ _. dots_at) any_text_form (λ _ _. dots_held_form) in
@@ -84,6 +84,9 @@ named_form =
 abbrev pub can_put_list : List Named → Bool
 can_put_list ns = are_members (is_below named_cmp) (λ n. are_dots n.dots) ns
 
+abbrev pub keeps_list : List Named → Bool
+keeps_list ns = list_all keeps_named ns
+
 abbrev pub is_list_spelled : List Named → Bool
 is_list_spelled ns = is_list (is_below named_cmp) is_named ns
 
@@ -93,19 +96,13 @@ list_spelling ns = list named ns
 abbrev pub named_list_at : List ℕ → ℕ → Read (List Named)
 named_list_at = list_at (is_below named_cmp) named_at
 
-pub named_list_form : IsForm can_put_list is_list_spelled list_spelling named_list_at
+pub named_list_form : IsForm can_put_list keeps_list is_list_spelled list_spelling named_list_at
 named_list_form = list_form (is_below named_cmp) (λ n. are_dots n.dots) is_named named named_at named_form
 
 abbrev pub list_sets : List Named → List (List Dot)
 list_sets ns = flat_map (λ n. n.dots ∷ []) ns
 
-abbrev pub list_texts : List Named → List (List ℕ)
-list_texts ns = flat_map (λ n. n.text ∷ []) ns
-
-named_list_all : HasSpelling can_put_list is_list_spelled list_sets list_texts list_spelling
-named_list_all = list_spelled (is_below named_cmp) named_form (λ n. n.dots ∷ []) (λ n. n.text ∷ []) (λ n. texted true (sets_ascend (n.dots ∷ [])) (behind (dots_spelled n.dots) (text n.text)) (is_text n.text))
-
-pub some_named_form : IsForm (λ ns. has_some ns && can_put_list ns) (λ ns. has_some ns && is_list_spelled ns) list_spelling (checked_at has_some named_list_at)
+pub some_named_form : IsForm (λ ns. has_some ns && can_put_list ns) keeps_list (λ ns. has_some ns && is_list_spelled ns) list_spelling (checked_at has_some named_list_at)
 some_named_form = checked_form has_some can_put_list is_list_spelled list_spelling named_list_at named_list_form
 
 -- ---- what is done, and the list: that of an add and of a remove isn't empty
@@ -119,6 +116,11 @@ abbrev pub can_put_set : SetEffect → Bool
 can_put_set (Add ns) = has_some ns && can_put_list ns
 can_put_set (Remove ns) = has_some ns && can_put_list ns
 can_put_set (Reset ns) = can_put_list ns
+
+abbrev pub keeps_set : SetEffect → Bool
+keeps_set (Add ns) = keeps_list ns
+keeps_set (Remove ns) = keeps_list ns
+keeps_set (Reset ns) = keeps_list ns
 
 abbrev pub is_set_spelled : SetEffect → Bool
 is_set_spelled (Add ns) = has_some ns && is_list_spelled ns
@@ -142,26 +144,26 @@ set_rest_at mark =
 unfoldable pub set_at : List ℕ → ℕ → Read SetEffect
 set_at = tagged_at (is_between 0 2) set_rest_at
 
-add_shape : (e : SetEffect) → (eqb (set_mark e) 0 && is_set_spelled e) ≡ true → (ns : List Named) × (Add ns ≡ e)
+add_shape : (e : SetEffect) → (eqb (set_mark e) 0 && (can_put_set e || is_set_spelled e)) ≡ true → (ns : List Named) × (Add ns ≡ e)
 add_shape (Add ns) h = (ns, refl)
 add_shape (Remove ns) h = absurd (false≢true h)
 add_shape (Reset ns) h = absurd (false≢true h)
 
-remove_shape : (e : SetEffect) → (eqb (set_mark e) 1 && is_set_spelled e) ≡ true → (ns : List Named) × (Remove ns ≡ e)
+remove_shape : (e : SetEffect) → (eqb (set_mark e) 1 && (can_put_set e || is_set_spelled e)) ≡ true → (ns : List Named) × (Remove ns ≡ e)
 remove_shape (Add ns) h = absurd (false≢true h)
 remove_shape (Remove ns) h = (ns, refl)
 remove_shape (Reset ns) h = absurd (false≢true h)
 
-reset_shape : (e : SetEffect) → (eqb (set_mark e) 2 && is_set_spelled e) ≡ true → (ns : List Named) × (Reset ns ≡ e)
+reset_shape : (e : SetEffect) → (eqb (set_mark e) 2 && (can_put_set e || is_set_spelled e)) ≡ true → (ns : List Named) × (Reset ns ≡ e)
 reset_shape (Add ns) h = absurd (false≢true h)
 reset_shape (Remove ns) h = absurd (false≢true h)
 reset_shape (Reset ns) h = (ns, refl)
 
-rest_form : (n : ℕ) → is_between 0 2 n ≡ true → IsForm (λ e. eqb (set_mark e) n && can_put_set e) (λ e. eqb (set_mark e) n && is_set_spelled e) set_rest (set_rest_at n)
+rest_form : (n : ℕ) → is_between 0 2 n ≡ true → IsForm (λ e. eqb (set_mark e) n && can_put_set e) keeps_set (λ e. eqb (set_mark e) n && is_set_spelled e) set_rest (set_rest_at n)
 unfolding set_rest_at
-rest_form zero h = shape_form Add _ _ list_spelling _ _ _ _ (λ n. refl) (λ n. refl) (λ n. refl) add_shape some_named_form
-rest_form (suc zero) h = shape_form Remove _ _ list_spelling _ _ _ _ (λ n. refl) (λ n. refl) (λ n. refl) remove_shape some_named_form
-rest_form (suc (suc zero)) h = shape_form Reset _ _ list_spelling _ _ _ _ (λ n. refl) (λ n. refl) (λ n. refl) reset_shape named_list_form
+rest_form zero h = shape_form (λ e. eqb (set_mark e) 0) Add _ _ list_spelling _ can_put_set is_set_spelled _ (λ n. refl) (λ n. refl) (λ n. refl) (λ n. refl) add_shape some_named_form
+rest_form (suc zero) h = shape_form (λ e. eqb (set_mark e) 1) Remove _ _ list_spelling _ can_put_set is_set_spelled _ (λ n. refl) (λ n. refl) (λ n. refl) (λ n. refl) remove_shape some_named_form
+rest_form (suc (suc zero)) h = shape_form (λ e. eqb (set_mark e) 2) Reset _ _ list_spelling _ can_put_set is_set_spelled _ (λ n. refl) (λ n. refl) (λ n. refl) (λ n. refl) reset_shape named_list_form
 rest_form (suc (suc (suc n))) h = let le = le_from (suc (suc (suc n))) 2 (both_true (nat_le 0 (suc (suc (suc n)))) _ h).1 in absurd (omega arith)
 
 known : (e : SetEffect) → is_between 0 2 (set_mark e) ≡ true
@@ -172,7 +174,7 @@ known (Reset ds) = refl
 small : (n : ℕ) → is_between 0 2 n ≡ true → is_number 1 n ≡ true
 small n h = let le = le_from n 2 (both_true (nat_le 0 n) _ h).1 in lt_holds n (256 ^ 1) (omega (arith, le))
 
-pub set_form : IsForm can_put_set is_set_spelled set_spelling set_at
+pub set_form : IsForm can_put_set keeps_set is_set_spelled set_spelling set_at
 unfolding set_at
 set_form = tagged_form (is_between 0 2) set_mark can_put_set is_set_spelled set_rest set_rest_at known small rest_form
 
@@ -181,25 +183,15 @@ set_sets (Add ns) = list_sets ns
 set_sets (Remove ns) = list_sets ns
 set_sets (Reset ns) = list_sets ns
 
-abbrev pub set_texts : SetEffect → List (List ℕ)
-set_texts (Add ns) = list_texts ns
-set_texts (Remove ns) = list_texts ns
-set_texts (Reset ns) = list_texts ns
-
-pub set_all : HasSpelling can_put_set is_set_spelled set_sets set_texts set_spelling
-set_all (Add ns) = behind (asked (named_list_all ns) (has_some ns)) (number 1 0)
-set_all (Remove ns) = behind (asked (named_list_all ns) (has_some ns)) (number 1 1)
-set_all (Reset ns) = behind (named_list_all ns) (number 1 2)
-
 -- every effect is one of the kind
 abbrev pub is_of_kind : {E : Type 0} → Kind → E → Bool
 is_of_kind k e = true
 
-abbrev pub go_spells : (has : Kind → Bool) → SpellsEffects has is_of_kind can_put_texts are_texts_spelled texts_sets (λ ts. ts) texts_spelling (λ k. texts_at)
-go_spells has = record { form = λ k h. texts_form; all = texts_all }
+abbrev pub go_spells : (has : Kind → Bool) → SpellsEffects has is_of_kind can_put_texts keeps_texts are_texts_spelled texts_spelling (λ k. texts_at)
+go_spells has = record { form = λ k h. texts_form }
 
-abbrev pub set_spells : (has : Kind → Bool) → SpellsEffects has is_of_kind can_put_set is_set_spelled set_sets set_texts set_spelling (λ k. set_at)
-set_spells has = record { form = λ k h. set_form; all = set_all }
+abbrev pub set_spells : (has : Kind → Bool) → SpellsEffects has is_of_kind can_put_set keeps_set is_set_spelled set_spelling (λ k. set_at)
+set_spells has = record { form = λ k h. set_form }
 
 pub go_named : NamesAreSpelled can_put_texts no_dot texts_sets texts_spelling
 go_named = record { exact = λ e d can. refl; lies = λ e d can h. absurd (false≢true h) }

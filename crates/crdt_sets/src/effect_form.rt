@@ -1,7 +1,7 @@
 ghost use Rattle.std.specs.Prelude.{◌≡◌, ◌≤◌, ◌++◌, true, length, OnOk, OnErr, IfOk, ◌&&◌};
 ghost use Rattle.field_codec.specs.Spelling.{number, Keeps};
 ghost use Rattle.field_codec.specs.Reading.{Gives, checked_at};
-ghost use Rattle.crdt_sets.specs.EffectForm.{has_some, can_put_list, is_list_spelled, list_spelling, named_list_at, can_put_set, is_set_spelled, set_spelling, set_at, set_form};
+ghost use Rattle.crdt_sets.specs.EffectForm.{has_some, can_put_list, is_list_spelled, list_spelling, named_list_at, can_put_set, keeps_set, is_set_spelled, set_spelling, set_at, set_form};
 
 use crate::named_form::NamedForm;
 use crate::{Named, SetEffect};
@@ -17,6 +17,8 @@ impl Form for SetForm {
     type Value = SetEffect;
 
     ghost fits = { λ _ e. can_put_set e };
+
+    ghost keeps = { λ _ e. keeps_set e };
 
     ghost is_spelled = { λ _ e. is_set_spelled e };
 

@@ -2,7 +2,7 @@ ghost use Rattle.std.specs.Prelude.{◌≡◌, ◌≤◌, ◌++◌, true, length
 ghost use Rattle.field_codec.specs.Spelling.{Keeps, is_below};
 ghost use Rattle.field_codec.specs.Reading.{Gives};
 ghost use Rattle.crdt_core.specs.Spelled.{are_dots};
-ghost use Rattle.crdt_sets.specs.EffectForm.{named_cmp, is_named, named as named_spelling, named_at, named_form};
+ghost use Rattle.crdt_sets.specs.EffectForm.{named_cmp, keeps_named, is_named, named as named_spelling, named_at, named_form};
 
 use crate::Named;
 use crdt_core::{put_dots, take_dots};
@@ -17,6 +17,8 @@ impl Form for NamedForm {
     type Value = Named;
 
     ghost fits = { λ _ n. are_dots n.dots };
+
+    ghost keeps = { λ _ n. keeps_named n };
 
     ghost is_spelled = { λ _ n. is_named n };
 

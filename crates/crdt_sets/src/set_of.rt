@@ -3,7 +3,7 @@ ghost use Rattle.std.specs.FinMap.{empty};
 ghost use Rattle.crdt_meanings.specs.SetMeaning.{set_meaning};
 ghost use Rattle.crdt_meanings.specs.Elements.{keeps_dot, lacks_all};
 ghost use Rattle.crdt_meanings.specs.Sets.{set_kind, set_has, set_step, set_value, kind_made, set_names};
-ghost use Rattle.crdt_sets.specs.EffectForm.{can_put_set, is_set_spelled, set_sets, set_texts, set_spelling, set_at, set_spells, set_named};
+ghost use Rattle.crdt_sets.specs.EffectForm.{can_put_set, keeps_set, is_set_spelled, set_sets, set_spelling, set_at, set_spells, set_named};
 ghost use Rattle.crdt_meanings.proofs.RemovableLaws.{set_law, set_in_maps};
 ghost use Rattle.crdt_meanings.proofs.SetResets.{set_resets};
 ghost use Rattle.crdt_meanings.specs.Without.{no_stamp};
@@ -59,11 +59,11 @@ impl<const REMOVES_WIN: bool> Crdt for SetOf<REMOVES_WIN> {
 
     ghost can_put = { can_put_set };
 
+    ghost keeps = { keeps_set };
+
     ghost is_spelled = { is_set_spelled };
 
     ghost sets = { set_sets };
-
-    ghost texts = { set_texts };
 
     ghost spelling = { set_spelling };
 

@@ -1,5 +1,5 @@
 -- Which disks a run gives back, and what they hold.
-use Rattle.std.specs.Prelude.{◌≡◌, ℕ, ◌*◌, true, false, List, ◌++◌, length, get_or, IsTrue}
+use Rattle.std.specs.Prelude.{◌≡◌, ℕ, ◌*◌, true, false, List, ◌++◌, length, get_or}
 use Rattle.site_vector.specs.declared.ids.PartId.{PartId}
 use Rattle.crdt_core.specs.declared.record.Record.{Record}
 use Rattle.disk_core.specs.States.{DiskState}

@@ -4,7 +4,6 @@ use Rattle.std.specs.Prelude.{Err}
 use Rattle.std.proofs.lemmas.Bool.{and_parts, leb-true}
 use Rattle.field_codec.specs.Reading.{Read}
 use Rattle.field_codec.specs.declared.error.TakeError.TheVariants.{Bad}
-use Rattle.site_vector.specs.declared.ids.Dot.{Dot}
 use Rattle.crdt_core.specs.declared.kind.Kind.{Kind}
 use Rattle.crdt_core.specs.declared.kind.Kind.TheVariants as kind
 use Rattle.crdt_core.specs.declared.object.Field.{Field}
@@ -15,7 +14,7 @@ use Rattle.crdt_core.specs.InMaps.{KeepsInMaps}
 use Rattle.crdt_any.specs.declared.state.LayerState.{LayerState}
 use Rattle.crdt_any.specs.declared.effect.LayerEffect.{LayerEffect}
 use Rattle.crdt_any.specs.Layer.{layer_has, layer_too_deep, layer_blank}
-use Rattle.crdt_any.specs.LayerForm.{layer_is_of, layer_can_put, layer_is_spelled, layer_sets, layer_texts, layer_spelling, layer_reading, layer_spells}
+use Rattle.crdt_any.specs.LayerForm.{layer_is_of, layer_can_put, layer_keeps, layer_is_spelled, layer_spelling, layer_reading, layer_spells}
 use Rattle.crdt_any.specs.LayerLaws.{layer_law, layer_in_maps}
 use Rattle.crdt_any.specs.NothingLaws.{nothing_law, nothing_in_maps, nothing_spells}
 use Rattle.crdt_core.specs.KindsOf.{Kinds, kinds_of}
@@ -30,12 +29,11 @@ pub record Layered (S E : Type 0) : Type 0 where
   pub in_maps : KeepsInMaps kinds.has kinds.too_deep kinds.initial kinds.applied kinds.generated is_blank
   pub is_of : Kind → E → Bool
   pub can_put : E → Bool
+  pub keeps : E → Bool
   pub is_spelled : E → Bool
-  pub sets : E → List (List Dot)
-  pub texts : E → List (List ℕ)
   pub spelling : E → List ℕ
   pub reading : Kind → List ℕ → ℕ → Read E
-  pub spells : SpellsEffects kinds.has is_of can_put is_spelled sets texts spelling reading
+  pub spells : SpellsEffects kinds.has is_of can_put keeps is_spelled spelling reading
 
 -- no kind
 abbrev pub nothing : Layered (Unit {0}) (Unit {0})
@@ -45,9 +43,8 @@ nothing = record {
   in_maps = nothing_in_maps;
   is_of = λ k e. true;
   can_put = λ e. true;
+  keeps = λ e. true;
   is_spelled = λ e. true;
-  sets = λ e. [];
-  texts = λ e. [];
   spelling = λ e. [];
   reading = λ k bytes at. Err (Bad at);
   spells = nothing_spells;
@@ -61,9 +58,8 @@ layer l = record {
   in_maps = layer_in_maps l.kinds.laws l.in_maps;
   is_of = layer_is_of;
   can_put = layer_can_put l.kinds.has l.is_of l.can_put l.spelling;
+  keeps = layer_keeps l.keeps;
   is_spelled = layer_is_spelled l.kinds.has l.is_of l.is_spelled l.spelling;
-  sets = layer_sets l.sets;
-  texts = layer_texts l.texts;
   spelling = layer_spelling l.spelling;
   reading = layer_reading l.kinds.has l.reading;
   spells = layer_spells l.spells;

@@ -20,7 +20,7 @@ done x = Ok x
 pub ok_is : {A : Type 0} (x y : A) → done x ≡ done y → x ≡ y
 ok_is x y e = cc
 
-pub prefix_free : {V : Type 0} (fits is_spelled : V → Bool) (spelling : V → List ℕ) (reading : List ℕ → ℕ → Read V) → IsForm fits is_spelled spelling reading → IsPrefixFree is_spelled spelling
+pub prefix_free : {V : Type 0} {keeps : V → Bool} (fits is_spelled : V → Bool) (spelling : V → List ℕ) (reading : List ℕ → ℕ → Read V) → IsForm fits keeps is_spelled spelling reading → IsPrefixFree is_spelled spelling
 prefix_free {V} fits is_spelled spelling reading form v w x y hv hw e =
     let one = form.again (spelling v ++ x) 0 v (length (spelling v)) hv (spans_front (spelling v) x) in
     let two = form.again (spelling w ++ y) 0 w (length (spelling w)) hw (spans_front (spelling w) y) in

@@ -20,7 +20,7 @@ use Rattle.field_codec.specs.declared.error.TakeError.TheVariants.{Short, Bad, N
 use Rattle.field_codec.specs.Spelling.{number, is_number, text, is_text, list, may_follow, are_in_order, are_members, is_list, is_below, Spans}
 use Rattle.field_codec.specs.Reading.{Read, ◌>>=◌, number_at, bytes_at, text_at, members_at, list_at, checked_at, then_at, mapped_at}
 use Rattle.field_codec.specs.Lawful.{IsBytes, IsCut, IsRefused, TellsWhy, IsForm}
-use Rattle.field_codec.specs.Refusals.{IsSteady, steady_form, mapped_tells, checked_steady, checked_tells, following_at, following_tells}
+use Rattle.field_codec.specs.Refusals.{some_spelled, IsSteady, steady_form, mapped_tells, checked_steady, checked_tells, following_at, following_tells}
 use Rattle.field_codec.specs.Steps.{done, by_length, guard_bad, short_is, not_both, short_not_bad, short_not_memory}
 pub use Rattle.field_codec.specs.Steps.{both_true, and_true, le_holds, le_from, lt_holds, lt_from, ok_is, bind_ok, guard_ok, IsBytes-drop, IsBytes-take, spans_none, spans_join, spans_first, spans_second}
 
@@ -101,7 +101,7 @@ module _ (n : ℕ) (width : IsWidth n) where
     memory = λ bytes at ok le h. never_wants (nat_le (at + n) (length bytes)) (big_number n (drop at bytes), at + n) at h;
   }
 
-  pub number_form : IsForm (is_number n) (is_number n) (number n) (number_at n)
+  pub number_form : IsForm (is_number n) (λ _. true) (is_number n) (number n) (number_at n)
   number_form = record {
     found = λ bytes at v end fits within h.
         let g = guard_ok (nat_le (at + n) (length bytes)) (Ok (big_number n (drop at bytes), at + n)) (Short at) (v, end) h in
@@ -114,6 +114,7 @@ module _ (n : ℕ) (width : IsWidth n) where
         let same : big_number n (drop at bytes) ≡ v = ap (big_number n) spans.lies ∙ big_number-reads_back n v (drop end bytes) (lt_from v (256 ^ n) good) in
         rw (le, same, sym to) refl;
     fit = λ v good. good;
+    all = λ v can kept short. can;
     ends = λ bytes at far. cut_number bytes at (omega (arith, far, width.some));
     tells = number_tells;
   }
@@ -241,7 +242,7 @@ text_is bytes at = by (number_at 2 bytes at)
 text_tells : TellsWhy text_at
 text_tells = subst TellsWhy (λ i bytes at. text_is bytes at i) (following_tells length_at bytes_at length_steady length_tells (λ bytes at x ok le h. bytes_tells x.0))
 
-pub text_form : IsForm is_text is_text text text_at
+pub text_form : IsForm is_text (λ _. true) is_text text text_at
 unfolding text_at
 text_form = record {
   found = λ bytes at t end fits within h.
@@ -262,17 +263,18 @@ text_form = record {
       ∙ ap (λ b. cond b (bytes_at (length t) bytes (at + length len)) (Err (Bad at))) p.0
       ∙ second;
   fit = λ t good. good;
+  all = λ t can kept short. can;
   ends = λ bytes at far. ap (λ r. r >>= λ n. cond (nat_le n.0 256) (bytes_at n.0 bytes n.1) (Err (Bad at))) ((number_form 2 width2).ends bytes at far);
   tells = text_tells;
 }
 
 -- every text of the program has a spelling, so that to put one asks for nothing
-pub any_text_form : IsForm (λ t. true) is_text text text_at
-any_text_form = record { found = text_form.found; again = text_form.again; fit = λ t good. refl; ends = text_form.ends; tells = text_form.tells }
+pub any_text_form : IsForm (λ t. true) is_text is_text text text_at
+any_text_form = record { found = text_form.found; again = text_form.again; fit = λ t good. refl; all = λ t can kept short. kept; ends = text_form.ends; tells = text_form.tells }
 
 -- ---- lists
 
-module _ {V : Type 0} (follows : V → V → Bool) (fits is_spelled : V → Bool) (spelling : V → List ℕ) (reading : List ℕ → ℕ → Read V) (member : IsForm fits is_spelled spelling reading) where
+module _ {V : Type 0} {keeps : V → Bool} (follows : V → V → Bool) (fits is_spelled : V → Bool) (spelling : V → List ℕ) (reading : List ℕ → ℕ → Read V) (member : IsForm fits keeps is_spelled spelling reading) where
   record Listed (before : Option V) (n : ℕ) (bytes : List ℕ) (at : ℕ) (vs : List V) (end : ℕ) : Type 0 where
     ordered : are_in_order follows before vs ≡ true
     spelled : list_all is_spelled vs ≡ true
@@ -367,7 +369,27 @@ module _ {V : Type 0} (follows : V → V → Bool) (fits is_spelled : V → Bool
   all_fit [] h = refl
   all_fit (v ∷ vs) h = let p = both_true (is_spelled v) (list_all is_spelled vs) h in and_true (fits v) (list_all fits vs) (member.fit v p.0) (all_fit vs p.1)
 
-  pub list_form : IsForm (are_members follows fits) (is_list follows is_spelled) (list spelling) (list_at follows reading)
+  -- each member has a byte, so a list is counted
+  as_many : (vs : List V) → list_all is_spelled vs ≡ true → length vs ≤ length (flat_map spelling vs)
+  as_many [] are = omega arith
+  as_many (v ∷ vs) are =
+      let a = both_true (is_spelled v) (list_all is_spelled vs) are in
+      omega (arith, some_spelled member v (spelling v) a.0 refl, as_many vs a.1, length-append (spelling v) (flat_map spelling vs))
+
+  each_spelled : (vs : List V) → list_all fits vs ≡ true → list_all keeps vs ≡ true → length (flat_map spelling vs) < 2 ^ 32 → list_all is_spelled vs ≡ true
+  each_spelled [] can kept short = refl
+  each_spelled (v ∷ vs) can kept short =
+      let c = both_true (fits v) (list_all fits vs) can in
+      let k = both_true (keeps v) (list_all keeps vs) kept in
+      let long = length-append (spelling v) (flat_map spelling vs) in
+      and_true (is_spelled v) (list_all is_spelled vs) (member.all v c.0 k.0 (omega (arith, short, long))) (each_spelled vs c.1 k.1 (omega (arith, short, long)))
+
+  are_spelled : (vs : List V) → are_members follows fits vs ≡ true → list_all keeps vs ≡ true → length (flat_map spelling vs) < 2 ^ 32 → are_members follows is_spelled vs ≡ true
+  are_spelled vs can kept short =
+      let c = both_true (are_in_order follows None vs) (list_all fits vs) can in
+      and_true (are_in_order follows None vs) (list_all is_spelled vs) c.0 (each_spelled vs c.1 kept short)
+
+  pub list_form : IsForm (are_members follows fits) (list_all keeps) (is_list follows is_spelled) (list spelling) (list_at follows reading)
   unfolding list_at
   list_form = record {
     found = λ bytes at vs end fits within h.
@@ -389,6 +411,11 @@ module _ {V : Type 0} (follows : V → V → Bool) (fits is_spelled : V → Bool
         let p = both_true (is_number 4 (length vs)) (are_members follows is_spelled vs) good in
         let q = both_true (are_in_order follows None vs) (list_all is_spelled vs) p.1 in
         and_true (are_in_order follows None vs) (list_all fits vs) q.0 (all_fit vs q.1);
+    all = λ vs can kept short.
+        let long = length-append (number 4 (length vs)) (flat_map spelling vs) in
+        let are = are_spelled vs can kept (omega (arith, short, long)) in
+        let many = as_many vs (both_true (are_in_order follows None vs) (list_all is_spelled vs) are).1 in
+        and_true (is_number 4 (length vs)) (are_members follows is_spelled vs) (lt_holds (length vs) (256 ^ 4) (omega (arith, short, many, long))) are;
     ends = λ bytes at far. ap (λ r. r >>= λ n. members_at follows reading None n.0 bytes n.1) ((number_form 4 width4).ends bytes at far);
     tells = let count = number_form 4 width4 in following_tells (number_at 4) (λ n. members_at follows reading None n) (steady_form count) count.tells (λ bytes at x ok le h. members_tells x.0 None);
   }
@@ -399,7 +426,7 @@ module _ {V : Type 0} (follows : V → V → Bool) (fits is_spelled : V → Bool
   no_members_ends (suc n) some bytes at far = ap (λ r. r >>= λ first. members_at follows reading (Some first.0) n bytes first.1 >>= λ others. Ok (first.0 ∷ others.0, others.1)) (member.ends bytes at far)
 
   -- n members, which no count stands before
-  pub members_form : (n : ℕ) → 0 < n → IsForm (λ vs. eqb (length vs) n && are_members follows fits vs) (λ vs. eqb (length vs) n && are_members follows is_spelled vs) (flat_map spelling) (members_at follows reading None n)
+  pub members_form : (n : ℕ) → 0 < n → IsForm (λ vs. eqb (length vs) n && are_members follows fits vs) (list_all keeps) (λ vs. eqb (length vs) n && are_members follows is_spelled vs) (flat_map spelling) (members_at follows reading None n)
   members_form n some = record {
     found = λ bytes at vs end fits within h.
         let m = members_found n None bytes at vs end fits within h in
@@ -412,14 +439,17 @@ module _ {V : Type 0} (follows : V → V → Bool) (fits is_spelled : V → Bool
         let p = both_true (eqb (length vs) n) (are_members follows is_spelled vs) good in
         let q = both_true (are_in_order follows None vs) (list_all is_spelled vs) p.1 in
         and_true (eqb (length vs) n) (are_members follows fits vs) p.0 (and_true (are_in_order follows None vs) (list_all fits vs) q.0 (all_fit vs q.1));
+    all = λ vs can kept short.
+        let c = both_true (eqb (length vs) n) (are_members follows fits vs) can in
+        and_true (eqb (length vs) n) (are_members follows is_spelled vs) c.0 (are_spelled vs c.1 kept short);
     ends = no_members_ends n some;
     tells = members_tells n None;
   }
 
 -- ---- a test, two in turn, and values made of others
 
-pub checked_form : {V : Type 0} (test fits is_spelled : V → Bool) (spelling : V → List ℕ) (reading : List ℕ → ℕ → Read V) → IsForm fits is_spelled spelling reading
-    → IsForm (λ v. test v && fits v) (λ v. test v && is_spelled v) spelling (checked_at test reading)
+pub checked_form : {V : Type 0} {keeps : V → Bool} (test fits is_spelled : V → Bool) (spelling : V → List ℕ) (reading : List ℕ → ℕ → Read V) → IsForm fits keeps is_spelled spelling reading
+    → IsForm (λ v. test v && fits v) keeps (λ v. test v && is_spelled v) spelling (checked_at test reading)
 checked_form {V} test fits is_spelled spelling reading form = record {
   found = λ bytes at v end ok within h.
       let a = bind_ok (reading bytes at) (λ x. cond (test x.0) (Ok x) (Err (Bad at))) (v, end) h in
@@ -430,14 +460,15 @@ checked_form {V} test fits is_spelled spelling reading form = record {
       let p = both_true (test v) (is_spelled v) good in
       ap (λ r. r >>= λ x. cond (test x.0) (Ok x) (Err (Bad at))) (form.again bytes at v end p.1 spans) ∙ ap (λ b. cond b (Ok (v, end)) (Err (Bad at))) p.0;
   fit = λ v good. let p = both_true (test v) (is_spelled v) good in and_true (test v) (fits v) p.0 (form.fit v p.1);
+  all = λ v can kept short. let p = both_true (test v) (fits v) can in and_true (test v) (is_spelled v) p.0 (form.all v p.1 kept short);
   ends = λ bytes at far. ap (λ r. r >>= λ x. cond (test x.0) (Ok x) (Err (Bad at))) (form.ends bytes at far);
   tells = checked_tells test reading (steady_form form) form.ends form.tells;
 }
 
-pub then_form : {V W : Type 0} (fits1 spelled1 : V → Bool) (spelling1 : V → List ℕ) (reading1 : List ℕ → ℕ → Read V) (fits2 spelled2 : V → W → Bool) (spelling2 : V → W → List ℕ) (reading2 : V → List ℕ → ℕ → Read W)
-    → IsForm fits1 spelled1 spelling1 reading1 → ((v : V) → spelled1 v ≡ true → IsForm (fits2 v) (spelled2 v) (spelling2 v) (reading2 v))
-    → IsForm (λ x. fits1 x.0 && fits2 x.0 x.1) (λ x. spelled1 x.0 && spelled2 x.0 x.1) (λ x. spelling1 x.0 ++ spelling2 x.0 x.1) (then_at reading1 reading2)
-then_form {V} {W} fits1 spelled1 spelling1 reading1 fits2 spelled2 spelling2 reading2 form1 form2 = record {
+pub then_form : {V W : Type 0} {keeps1 : V → Bool} {keeps2 : V → W → Bool} (fits1 spelled1 : V → Bool) (spelling1 : V → List ℕ) (reading1 : List ℕ → ℕ → Read V) (fits2 spelled2 : V → W → Bool) (spelling2 : V → W → List ℕ) (reading2 : V → List ℕ → ℕ → Read W)
+    → IsForm fits1 keeps1 spelled1 spelling1 reading1 → ((v : V) → spelled1 v ≡ true → IsForm (fits2 v) (keeps2 v) (spelled2 v) (spelling2 v) (reading2 v))
+    → IsForm (λ x. fits1 x.0 && fits2 x.0 x.1) (λ x. keeps1 x.0 && keeps2 x.0 x.1) (λ x. spelled1 x.0 && spelled2 x.0 x.1) (λ x. spelling1 x.0 ++ spelling2 x.0 x.1) (then_at reading1 reading2)
+then_form {V} {W} {keeps1 = keeps1} {keeps2 = keeps2} fits1 spelled1 spelling1 reading1 fits2 spelled2 spelling2 reading2 form1 form2 = record {
   found = λ bytes at x end ok within h.
       let a = bind_ok (reading1 bytes at) (λ v. reading2 v.0 bytes v.1 >>= λ w. Ok ((v.0, w.0), w.1)) (x, end) h in
       let b = bind_ok (reading2 a.0.0 bytes a.0.1) (λ w. Ok ((a.0.0, w.0), w.1)) (x, end) a.2 in
@@ -453,15 +484,21 @@ then_form {V} {W} fits1 spelled1 spelling1 reading1 fits2 spelled2 spelling2 rea
       let second = (form2 x.0 p.0).again bytes mid x.1 end p.1 (spans_second bytes (spelling1 x.0) (spelling2 x.0 x.1) at end spans) in
       ap (λ r. r >>= λ v. reading2 v.0 bytes v.1 >>= λ w. Ok ((v.0, w.0), w.1)) first ∙ ap (λ r. r >>= λ w. Ok ((x.0, w.0), w.1)) second;
   fit = λ x good. let p = both_true (spelled1 x.0) (spelled2 x.0 x.1) good in and_true (fits1 x.0) (fits2 x.0 x.1) (form1.fit x.0 p.0) ((form2 x.0 p.0).fit x.1 p.1);
+  all = λ x can kept short.
+      let c = both_true (fits1 x.0) (fits2 x.0 x.1) can in
+      let k = both_true (keeps1 x.0) (keeps2 x.0 x.1) kept in
+      let long = length-append (spelling1 x.0) (spelling2 x.0 x.1) in
+      let first = form1.all x.0 c.0 k.0 (omega (arith, short, long)) in
+      and_true (spelled1 x.0) (spelled2 x.0 x.1) first ((form2 x.0 first).all x.1 c.1 k.1 (omega (arith, short, long)));
   ends = λ bytes at far. ap (λ r. r >>= λ v. reading2 v.0 bytes v.1 >>= λ w. Ok ((v.0, w.0), w.1)) (form1.ends bytes at far);
   tells = following_tells reading1 (λ v. mapped_at (λ w. (v, w)) (reading2 v)) (steady_form form1) form1.tells
       (λ bytes at x ok le h. mapped_tells (λ w. (x.0, w)) (reading2 x.0) (form2 x.0 (form1.found bytes at x.0 x.1 ok le h).0).tells);
 }
 
 -- parts: what a value is made of
-pub mapped_form : {V W : Type 0} (made : V → W) (parts : W → V) (fits is_spelled : V → Bool) (spelling : V → List ℕ) (reading : List ℕ → ℕ → Read V)
-    → ((w : W) → made (parts w) ≡ w) → ((v : V) → is_spelled v ≡ true → parts (made v) ≡ v) → IsForm fits is_spelled spelling reading
-    → IsForm (λ w. fits (parts w)) (λ w. is_spelled (parts w)) (λ w. spelling (parts w)) (mapped_at made reading)
+pub mapped_form : {V W : Type 0} {keeps : V → Bool} (made : V → W) (parts : W → V) (fits is_spelled : V → Bool) (spelling : V → List ℕ) (reading : List ℕ → ℕ → Read V)
+    → ((w : W) → made (parts w) ≡ w) → ((v : V) → is_spelled v ≡ true → parts (made v) ≡ v) → IsForm fits keeps is_spelled spelling reading
+    → IsForm (λ w. fits (parts w)) (λ w. keeps (parts w)) (λ w. is_spelled (parts w)) (λ w. spelling (parts w)) (mapped_at made reading)
 mapped_form {V} {W} made parts fits is_spelled spelling reading back forth form = record {
   found = λ bytes at w end ok within h.
       let a = bind_ok (reading bytes at) (λ v. Ok (made v.0, v.1)) (w, end) h in
@@ -472,6 +509,7 @@ mapped_form {V} {W} made parts fits is_spelled spelling reading back forth form 
   again = λ bytes at w end good spans.
       ap (λ r. r >>= λ v. Ok (made v.0, v.1)) (form.again bytes at (parts w) end good spans) ∙ ap (λ x. Ok (x, end)) (back w);
   fit = λ w good. form.fit (parts w) good;
+  all = λ w. form.all (parts w);
   ends = λ bytes at far. ap (λ r. r >>= λ v. Ok (made v.0, v.1)) (form.ends bytes at far);
   tells = mapped_tells made reading form.tells;
 }

@@ -1,6 +1,6 @@
 -- What makes a form of values: what is read is spelled so, what is spelled so is read, whatever follows it; and what it means
 -- that reading refuses.
-use Rattle.std.specs.Prelude.{◌≡◌, ◌≢◌, ℕ, ◌<◌, ◌≤◌, Bool, true, List, ◌++◌, length, take, slice_index, Ok, Err}
+use Rattle.std.specs.Prelude.{◌≡◌, ◌≢◌, ℕ, ◌^◌, ◌<◌, ◌≤◌, Bool, true, List, ◌++◌, length, take, slice_index, Ok, Err}
 use Rattle.field_codec.specs.declared.error.TakeError.TheVariants.{Short, Bad, NoMemory}
 use Rattle.field_codec.specs.Spelling.{Spans}
 use Rattle.field_codec.specs.Reading.{Read}
@@ -30,12 +30,14 @@ pub record TellsWhy {V : Type 0} (reading : List ℕ → ℕ → Read V) : Type 
   pub bad : (bytes : List ℕ) (at p : ℕ) → IsBytes bytes → at ≤ length bytes → reading bytes at ≡ Err (Bad p) → IsRefused reading bytes at p
   pub memory : (bytes : List ℕ) (at : ℕ) → IsBytes bytes → at ≤ length bytes → reading bytes at ≢ Err NoMemory
 
--- fits: what a put takes; is_spelled: what has a spelling, which only want of a count can keep from what fits. Where no bytes
--- are left, at their end and beyond it, the first field is cut off, so that no spelling is empty.
-pub record IsForm {V : Type 0} (fits is_spelled : V → Bool) (spelling : V → List ℕ) (reading : List ℕ → ℕ → Read V) : Type 0 where
+-- fits: what a put takes; keeps: what the types of its parts hold of it besides; is_spelled: what has a spelling, so all of
+-- these but where that would be 2^32 bytes or more, since only want of a count can keep one from it. Where no bytes are left,
+-- at their end and beyond it, the first field is cut off, so that no spelling is empty.
+pub record IsForm {V : Type 0} (fits keeps is_spelled : V → Bool) (spelling : V → List ℕ) (reading : List ℕ → ℕ → Read V) : Type 0 where
   pub found : (bytes : List ℕ) (at : ℕ) (v : V) (end : ℕ) → IsBytes bytes → at ≤ length bytes → reading bytes at ≡ Ok (v, end) → (is_spelled v ≡ true) × Spans bytes at (spelling v) end
   pub again : (bytes : List ℕ) (at : ℕ) (v : V) (end : ℕ) → is_spelled v ≡ true → Spans bytes at (spelling v) end → reading bytes at ≡ Ok (v, end)
   pub fit : (v : V) → is_spelled v ≡ true → fits v ≡ true
+  pub all : (v : V) → fits v ≡ true → keeps v ≡ true → length (spelling v) < 2 ^ 32 → is_spelled v ≡ true
   pub ends : (bytes : List ℕ) (at : ℕ) → length bytes ≤ at → reading bytes at ≡ Err (Short at)
   pub tells : TellsWhy reading
 

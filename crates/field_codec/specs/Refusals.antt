@@ -19,7 +19,7 @@ pub record IsSteady {V : Type 0} (reading : List ℕ → ℕ → Read V) : Type 
   pub longer : (bytes more : List ℕ) (at : ℕ) (x : V × ℕ) → IsBytes bytes → at ≤ length bytes → reading bytes at ≡ Ok x → reading (bytes ++ more) at ≡ Ok x
   pub shorter : (bytes : List ℕ) (at q : ℕ) (x : V × ℕ) → IsBytes bytes → at ≤ length bytes → x.1 ≤ q → reading bytes at ≡ Ok x → reading (take q bytes) at ≡ Ok x
 
-module _ {V : Type 0} {fits is_spelled : V → Bool} {spelling : V → List ℕ} {reading : List ℕ → ℕ → Read V} (form : IsForm fits is_spelled spelling reading) where
+module _ {V : Type 0} {fits keeps is_spelled : V → Bool} {spelling : V → List ℕ} {reading : List ℕ → ℕ → Read V} (form : IsForm fits keeps is_spelled spelling reading) where
   -- no spelling is empty
   pub some_spelled : (v : V) (s : List ℕ) → is_spelled v ≡ true → spelling v ≡ s → 0 < length s
   some_spelled v [] good e = absurd (not_both (reading [] 0) (v, 0) (Short 0) (form.again [] 0 v 0 good (subst (λ s. Spans [] 0 s 0) (sym e) (spans_none [] 0 (omega arith)))) (form.ends [] 0 (omega arith)))

@@ -14,6 +14,9 @@ pub trait Form {
     /// What `put` takes.
     ghost fits: { Self → Self.Value → Bool };
 
+    /// What the types of its parts hold of each value besides.
+    ghost keeps: { Self → Self.Value → Bool } = { λ _ _. true };
+
     /// What has a spelling: of what fits, that in which no list is too long to be counted.
     ghost is_spelled: { Self → Self.Value → Bool };
 
@@ -56,7 +59,7 @@ pub trait Form {
     fn may_follow(&self, before: &Self::Value, value: &Self::Value) -> bool
         ensures { result ≡ follows self.now before.now value.now };
 
-    ghost laws: { (f : Self) → IsForm (fits f) (is_spelled f) (spelling f) (reading f) };
+    ghost laws: { (f : Self) → IsForm (fits f) (keeps f) (is_spelled f) (spelling f) (reading f) };
 }
 
 /// Appends the spelling.

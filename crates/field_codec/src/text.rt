@@ -231,6 +231,8 @@ impl Form for TextForm {
 
     ghost fits = { λ _ t. true };
 
+    ghost keeps = { λ _ t. is_text t };
+
     ghost is_spelled = { λ _ t. is_text t };
 
     ghost spelling = { λ _ t. spelled t };

@@ -39,7 +39,7 @@ never_wants false v p h = cc
 differ : (n m : ℕ) → eqb n m ≡ false → n ≡ m → ⊥
 differ n m h e = false≢true (sym h ∙ eq-eqb n m e)
 
-module _ {V : Type 0} {fits is_spelled : V → Bool} {spelling : V → List ℕ} {reading : List ℕ → ℕ → Read V} (form : IsForm fits is_spelled spelling reading) where
+module _ {V : Type 0} {fits keeps is_spelled : V → Bool} {spelling : V → List ℕ} {reading : List ℕ → ℕ → Read V} (form : IsForm fits keeps is_spelled spelling reading) where
   pub spelled_whole : (bytes : List ℕ) (v : V) → is_spelled v ≡ true → bytes ≡ spelling v → whole_at reading bytes ≡ Ok v
   spelled_whole bytes v good e =
       let spans : Spans bytes 0 (spelling v) (length bytes) = record {
@@ -92,22 +92,22 @@ module _ {V : Type 0} {fits is_spelled : V → Bool} {spelling : V → List ℕ}
   }
 
 -- what is read can be put
-pub read_fits : {V : Type 0} {fits is_spelled : V → Bool} {spelling : V → List ℕ} {reading : List ℕ → ℕ → Read V} → IsForm fits is_spelled spelling reading
+pub read_fits : {V : Type 0} {fits keeps is_spelled : V → Bool} {spelling : V → List ℕ} {reading : List ℕ → ℕ → Read V} → IsForm fits keeps is_spelled spelling reading
     → (bytes : List ℕ) (at : ℕ) (v : V) (end : ℕ) → IsBytes bytes → at ≤ length bytes → reading bytes at ≡ Ok (v, end) → fits v ≡ true
 read_fits form bytes at v end ok le h = form.fit v (form.found bytes at v end ok le h).0
 
-pub read_spelled : {V : Type 0} {fits is_spelled : V → Bool} {spelling : V → List ℕ} {reading : List ℕ → ℕ → Read V} → IsForm fits is_spelled spelling reading
+pub read_spelled : {V : Type 0} {fits keeps is_spelled : V → Bool} {spelling : V → List ℕ} {reading : List ℕ → ℕ → Read V} → IsForm fits keeps is_spelled spelling reading
     → (bytes : List ℕ) (at : ℕ) (v : V) (end : ℕ) → IsBytes bytes → at ≤ length bytes → reading bytes at ≡ Ok (v, end) → is_spelled v ≡ true
 read_spelled form bytes at v end ok le h = (form.found bytes at v end ok le h).0
 
 -- what is read up to the end is the spelling
-pub read_all : {V : Type 0} {fits is_spelled : V → Bool} {spelling : V → List ℕ} {reading : List ℕ → ℕ → Read V} → IsForm fits is_spelled spelling reading
+pub read_all : {V : Type 0} {fits keeps is_spelled : V → Bool} {spelling : V → List ℕ} {reading : List ℕ → ℕ → Read V} → IsForm fits keeps is_spelled spelling reading
     → (bytes : List ℕ) (v : V) (end : ℕ) → IsBytes bytes → reading bytes 0 ≡ Ok (v, end) → end ≡ length bytes → bytes ≡ spelling v
 read_all {spelling = spelling} form bytes v end ok h e =
     let none = drop_all end bytes (omega (arith, e)) in
     (form.found bytes 0 v end ok (omega arith) h).1.lies ∙ ap (λ l. spelling v ++ l) none ∙ append-nil (spelling v)
 
 -- a field that is refused stands in the bytes
-pub refused_within : {V : Type 0} {fits is_spelled : V → Bool} {spelling : V → List ℕ} {reading : List ℕ → ℕ → Read V} → IsForm fits is_spelled spelling reading
+pub refused_within : {V : Type 0} {fits keeps is_spelled : V → Bool} {spelling : V → List ℕ} {reading : List ℕ → ℕ → Read V} → IsForm fits keeps is_spelled spelling reading
     → (bytes : List ℕ) (p q : ℕ) → IsBytes bytes → reading bytes 0 ≡ Err (Bad p) → why.Damaged p ≡ why.Damaged q → q ≤ length bytes
 refused_within form bytes p q ok h e = let below = (form.tells.bad bytes 0 p ok (omega arith) h).within in let same : p ≡ q = cc in omega (arith, below, same)

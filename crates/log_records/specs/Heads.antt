@@ -19,7 +19,7 @@ head_of p = record { from = p.0; to = p.1.0; part = p.1.1.0; lo = p.1.1.1.0; hi 
 unfoldable pub head_at : List ℕ → ℕ → Read Head
 head_at = mapped_at head_of (then_at (number_at 1) (λ _. then_at (number_at 1) (λ _. then_at (number_at 1) (λ _. then_at (number_at 8) (λ _. number_at 8)))))
 
-pub head_form : IsForm (λ h. true) is_head head head_at
+pub head_form : IsForm (λ h. true) is_head is_head head head_at
 unfolding head_at
 head_form =
     let one = any_number_form 1 width1 in

@@ -4,16 +4,14 @@ use Rattle.std.specs.List.{list_all}
 use Rattle.field_codec.specs.Reading.{Read, checked_at, then_at, mapped_at}
 use Rattle.field_codec.specs.Lawful.{IsForm}
 use Rattle.field_codec.specs.FormLaws.{checked_form, then_form, mapped_form}
-use Rattle.site_vector.specs.declared.ids.Dot.{Dot}
 use Rattle.crdt_core.specs.declared.kind.Kind.{Kind}
 use Rattle.crdt_core.specs.declared.record.Part.{Part}
 use Rattle.crdt_core.specs.declared.record.Message.{Message}
-use Rattle.crdt_core.specs.EffectForm.{Spells, SpellsEffects}
-use Rattle.crdt_core.proofs.HaveSpelling.{behind, asked, held}
+use Rattle.crdt_core.specs.EffectForm.{SpellsEffects}
 use Rattle.log_records.specs.declared.head.Head.{Head}
 use Rattle.log_records.specs.Heads.{is_head, head, head_at, head_form}
 use Rattle.log_records.specs.Updates.{has_some}
-use Rattle.log_records.specs.Parts.{can_put_parts, are_parts_spelled, keeps_part, parts, parts_at, parts_form, parts_all}
+use Rattle.log_records.specs.Parts.{can_put_parts, are_parts_spelled, keeps_part, parts, parts_at, parts_form}
 
 module _ {E : Type 0} where
   abbrev pub head_in : Message E → Head
@@ -28,8 +26,8 @@ module _ {E : Type 0} where
   abbrev pub is_message_spelled : (Kind → Bool) → (Kind → E → Bool) → (E → Bool) → Message E → Bool
   is_message_spelled has is_of is_spelled m = is_head (head_in m) && are_parts_spelled has is_of is_spelled m.from m.parts
 
-  abbrev pub keeps_message : (E → List (List Dot)) → (E → List (List ℕ)) → Message E → Bool
-  keeps_message sets texts m = is_head (head_in m) && list_all (keeps_part sets texts) m.parts
+  abbrev pub keeps_message : (E → Bool) → Message E → Bool
+  keeps_message keeps m = is_head (head_in m) && list_all (keeps_part keeps) m.parts
 
   abbrev pub message : (E → List ℕ) → Message E → List ℕ
   message spelling m = head (head_in m) ++ parts spelling m.parts
@@ -48,24 +46,18 @@ module _ {E : Type 0} where
   unfoldable pub batch_at : (Kind → Bool) → (Kind → List ℕ → ℕ → Read E) → List ℕ → ℕ → Read (Message E)
   batch_at has reading = mapped_at message_of (then_at head_at (λ h. checked_at has_some (parts_at has reading h.from)))
 
-module _ {E : Type 0} {has : Kind → Bool} {is_of : Kind → E → Bool} {can_put is_spelled : E → Bool} {sets : E → List (List Dot)} {texts : E → List (List ℕ)} {spelling : E → List ℕ} {reading : Kind → List ℕ → ℕ → Read E}
-    (spells : SpellsEffects has is_of can_put is_spelled sets texts spelling reading) where
-  pub message_form : IsForm (can_put_message has is_of can_put) (is_message_spelled has is_of is_spelled) (message spelling) (message_at has reading)
+module _ {E : Type 0} {has : Kind → Bool} {is_of : Kind → E → Bool} {can_put keeps is_spelled : E → Bool} {spelling : E → List ℕ} {reading : Kind → List ℕ → ℕ → Read E}
+    (spells : SpellsEffects has is_of can_put keeps is_spelled spelling reading) where
+  pub message_form : IsForm (can_put_message has is_of can_put) (keeps_message keeps) (is_message_spelled has is_of is_spelled) (message spelling) (message_at has reading)
   unfolding message_at
   message_form =
       let whole = then_form (λ h. true) is_head head head_at (λ h. can_put_parts has is_of can_put h.from) (λ h. are_parts_spelled has is_of is_spelled h.from) (λ _. parts spelling) (λ h. parts_at has reading h.from) head_form (λ h _. parts_form spells h.from) in
       mapped_form message_of (λ m. (head_in m, m.parts)) _ _ _ _ (λ _. refl) (λ _ _. refl) whole
 
-  pub batch_form : IsForm (can_put_batch has is_of can_put) (is_batch_spelled has is_of is_spelled) (message spelling) (batch_at has reading)
+  pub batch_form : IsForm (can_put_batch has is_of can_put) (keeps_message keeps) (is_batch_spelled has is_of is_spelled) (message spelling) (batch_at has reading)
   unfolding batch_at
   batch_form =
-      let some : (site : ℕ) → IsForm (λ ps. has_some ps && can_put_parts has is_of can_put site ps) (λ ps. has_some ps && are_parts_spelled has is_of is_spelled site ps) (parts spelling) (checked_at has_some (parts_at has reading site)) =
+      let some : (site : ℕ) → IsForm (λ ps. has_some ps && can_put_parts has is_of can_put site ps) (list_all (keeps_part keeps)) (λ ps. has_some ps && are_parts_spelled has is_of is_spelled site ps) (parts spelling) (checked_at has_some (parts_at has reading site)) =
       λ site. checked_form has_some (can_put_parts has is_of can_put site) (are_parts_spelled has is_of is_spelled site) (parts spelling) (parts_at has reading site) (parts_form spells site) in
       let whole = then_form (λ h. true) is_head head head_at (λ h ps. has_some ps && can_put_parts has is_of can_put h.from ps) (λ h ps. has_some ps && are_parts_spelled has is_of is_spelled h.from ps) (λ _. parts spelling) (λ h. checked_at has_some (parts_at has reading h.from)) head_form (λ h _. some h.from) in
       mapped_form message_of (λ m. (head_in m, m.parts)) _ _ _ _ (λ _. refl) (λ _ _. refl) whole
-
-  pub message_all : (m : Message E) → Spells (can_put_message has is_of can_put m) (keeps_message sets texts m) (is_message_spelled has is_of is_spelled m) (message spelling m)
-  message_all m = held (behind (parts_all spells m.from m.parts) (head (head_in m))) (is_head (head_in m))
-
-  pub batch_all : (m : Message E) → Spells (can_put_batch has is_of can_put m) (keeps_message sets texts m) (is_batch_spelled has is_of is_spelled m) (message spelling m)
-  batch_all m = held (asked (behind (parts_all spells m.from m.parts) (head (head_in m))) (has_some m.parts)) (is_head (head_in m))

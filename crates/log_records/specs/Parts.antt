@@ -7,7 +7,6 @@ use Rattle.field_codec.specs.Spelling.{list, are_members, is_list, is_below}
 use Rattle.field_codec.specs.Reading.{Read, list_at, then_at, mapped_at}
 use Rattle.field_codec.specs.Lawful.{IsForm}
 use Rattle.field_codec.specs.FormLaws.{list_form, then_form, mapped_form}
-use Rattle.site_vector.specs.declared.ids.Dot.{Dot}
 use Rattle.site_vector.specs.declared.ids.TxId.{TxId}
 use Rattle.site_vector.specs.Order.{tx_cmp}
 use Rattle.site_vector.specs.Vector.{entry}
@@ -16,10 +15,9 @@ use Rattle.crdt_core.specs.declared.record.Upd.{Upd}
 use Rattle.crdt_core.specs.declared.record.Part.{Part}
 use Rattle.crdt_core.specs.Spelled.{is_tx, tx, tx_at, vector, is_vector, vector_at}
 use Rattle.crdt_core.specs.SpelledLaws.{tx_form}
-use Rattle.crdt_core.specs.EffectForm.{Spells, SpellsEffects}
-use Rattle.crdt_core.proofs.HaveSpelling.{behind, asked, held, listed}
+use Rattle.crdt_core.specs.EffectForm.{SpellsEffects}
 use Rattle.log_records.specs.Fields.{any_vector_form}
-use Rattle.log_records.specs.Updates.{can_put_updates, are_updates_spelled, keeps_update, updates, updates_at, updates_form, updates_all}
+use Rattle.log_records.specs.Updates.{can_put_updates, are_updates_spelled, keeps_update, updates, updates_at, updates_form}
 
 -- the commit time at a site: 0 where the vector has no entry for it. There is no site 0.
 abbrev pub time_at : ℕ → List ℕ → ℕ
@@ -32,8 +30,8 @@ module _ {E : Type 0} where
   abbrev pub is_part_spelled : (Kind → Bool) → (Kind → E → Bool) → (E → Bool) → Part E → Bool
   is_part_spelled has is_of is_spelled p = is_tx p.tx && (is_vector p.c && are_updates_spelled has is_of is_spelled p.updates)
 
-  abbrev pub keeps_part : (E → List (List Dot)) → (E → List (List ℕ)) → Part E → Bool
-  keeps_part sets texts p = is_vector p.c && list_all (keeps_update sets texts) p.updates
+  abbrev pub keeps_part : (E → Bool) → Part E → Bool
+  keeps_part keeps p = is_vector p.c && list_all (keeps_update keeps) p.updates
 
   abbrev pub part : (E → List ℕ) → Part E → List ℕ
   part spelling p = tx p.tx ++ (vector p.c ++ updates spelling p.updates)
@@ -62,17 +60,14 @@ module _ {E : Type 0} where
   abbrev pub parts_at : (Kind → Bool) → (Kind → List ℕ → ℕ → Read E) → ℕ → List ℕ → ℕ → Read (List (Part E))
   parts_at has reading site = list_at (is_below (part_cmp site)) (part_at has reading)
 
-module _ {E : Type 0} {has : Kind → Bool} {is_of : Kind → E → Bool} {can_put is_spelled : E → Bool} {sets : E → List (List Dot)} {texts : E → List (List ℕ)} {spelling : E → List ℕ} {reading : Kind → List ℕ → ℕ → Read E}
-    (spells : SpellsEffects has is_of can_put is_spelled sets texts spelling reading) where
-  pub part_form : IsForm (can_put_part has is_of can_put) (is_part_spelled has is_of is_spelled) (part spelling) (part_at has reading)
+module _ {E : Type 0} {has : Kind → Bool} {is_of : Kind → E → Bool} {can_put keeps is_spelled : E → Bool} {spelling : E → List ℕ} {reading : Kind → List ℕ → ℕ → Read E}
+    (spells : SpellsEffects has is_of can_put keeps is_spelled spelling reading) where
+  pub part_form : IsForm (can_put_part has is_of can_put) (keeps_part keeps) (is_part_spelled has is_of is_spelled) (part spelling) (part_at has reading)
   unfolding part_at
   part_form =
       let rest = then_form (λ v. true) is_vector vector vector_at _ _ _ _ any_vector_form (λ _ _. updates_form spells) in
       let whole = then_form is_tx is_tx tx tx_at _ _ _ _ tx_form (λ _ _. rest) in
       mapped_form part_of (λ p. (p.tx, (p.c, p.updates))) _ _ _ _ (λ _. refl) (λ _ _. refl) whole
 
-  pub parts_form : (site : ℕ) → IsForm (can_put_parts has is_of can_put site) (are_parts_spelled has is_of is_spelled site) (parts spelling) (parts_at has reading site)
+  pub parts_form : (site : ℕ) → IsForm (can_put_parts has is_of can_put site) (list_all (keeps_part keeps)) (are_parts_spelled has is_of is_spelled site) (parts spelling) (parts_at has reading site)
   parts_form site = list_form (is_below (part_cmp site)) _ _ (part spelling) (part_at has reading) part_form
-
-  pub parts_all : (site : ℕ) (ps : List (Part E)) → Spells (can_put_parts has is_of can_put site ps) (list_all (keeps_part sets texts) ps) (are_parts_spelled has is_of is_spelled site ps) (parts spelling ps)
-  parts_all site = listed (is_below (part_cmp site)) part_form (keeps_part sets texts) (λ p. behind (asked (held (behind (updates_all spells p.updates) (vector p.c)) (is_vector p.c)) (is_tx p.tx)) (tx p.tx))

@@ -1,5 +1,5 @@
 -- The bytes of records: a code, and what stands behind it.
-use Rattle.std.specs.Prelude.{◌≡◌, ℕ, zero, suc, ◌^◌, ◌==◌, Bool, true, ◌&&◌, eqb, nat_le, List, ◌++◌, if◌then◌else◌, refl}
+use Rattle.std.specs.Prelude.{◌≡◌, ℕ, zero, suc, ◌^◌, ◌==◌, Bool, true, ◌&&◌, ◌||◌, eqb, nat_le, List, ◌++◌, if◌then◌else◌, refl}
 use Rattle.std.proofs.Common.{arith}
 use Rattle.std.specs.List.{list_all}
 use Rattle.std.proofs.lemmas.Bool.{false≢true}
@@ -8,7 +8,6 @@ use Rattle.field_codec.specs.Reading.{Read, number_at, then_at, mapped_at}
 use Rattle.field_codec.specs.Lawful.{IsForm}
 use Rattle.field_codec.specs.FormLaws.{width1, width8, then_form, lt_holds, le_from, both_true, and_true}
 use Rattle.field_codec.specs.Tagged.{tagged_at, tagged_form, shape_form}
-use Rattle.site_vector.specs.declared.ids.Dot.{Dot}
 use Rattle.site_vector.specs.declared.ids.TxId.{TxId}
 use Rattle.crdt_core.specs.declared.kind.Kind.{Kind}
 use Rattle.crdt_core.specs.declared.record.Upd.{Upd}
@@ -17,21 +16,21 @@ use Rattle.crdt_core.specs.declared.record.Record.{Record}
 use Rattle.crdt_core.specs.declared.record.Record.TheVariants.{Lease, Prepare, Decide, Finish, Abort, Batch}
 use Rattle.crdt_core.specs.Spelled.{is_between, is_tx, tx, tx_at, vector, is_vector, vector_at}
 use Rattle.crdt_core.specs.SpelledLaws.{tx_form}
-use Rattle.crdt_core.specs.EffectForm.{Spells, SpellsEffects}
-use Rattle.crdt_core.proofs.HaveSpelling.{behind, asked, held}
+use Rattle.crdt_core.specs.EffectForm.{SpellsEffects}
 use Rattle.log_records.specs.Fields.{any_number_form, any_vector_form}
-use Rattle.log_records.specs.Updates.{can_put_updates, are_updates_spelled, keeps_update, updates, updates_at, updates_form, updates_all}
-use Rattle.log_records.specs.Messages.{can_put_batch, is_batch_spelled, keeps_message, message, batch_at, batch_form, batch_all}
+use Rattle.log_records.specs.Updates.{can_put_updates, are_updates_spelled, keeps_update, updates, updates_at, updates_form}
+use Rattle.log_records.specs.Messages.{can_put_batch, is_batch_spelled, keeps_message, message, batch_at, batch_form}
 
 -- a transaction and its commit vector
 abbrev pub ended_at : List ℕ → ℕ → Read (TxId × List ℕ)
 ended_at = then_at tx_at (λ _. vector_at)
 
-ended_form : IsForm (λ x. is_tx x.0) (λ x. is_tx x.0 && is_vector x.1) (λ x. tx x.0 ++ vector x.1) ended_at
+ended_form : IsForm (λ x. is_tx x.0) (λ x. is_vector x.1) (λ x. is_tx x.0 && is_vector x.1) (λ x. tx x.0 ++ vector x.1) ended_at
 ended_form = let law = then_form is_tx is_tx tx tx_at _ _ _ _ tx_form (λ _ _. any_vector_form) in record {
   found = law.found;
   again = law.again;
   fit = λ x good. (both_true (is_tx x.0) (is_vector x.1) good).0;
+  all = λ x can kept short. and_true (is_tx x.0) (is_vector x.1) can kept;
   ends = law.ends;
   tells = law.tells;
 }
@@ -75,13 +74,13 @@ module _ {E : Type 0} where
   is_record_spelled has is_of is_spelled (Batch m) = is_batch_spelled has is_of is_spelled m
 
   -- what the types keep of numbers and vectors, and of each update
-  abbrev pub keeps_record : (E → List (List Dot)) → (E → List (List ℕ)) → Record E → Bool
-  keeps_record sets texts (Lease n) = is_number 8 n
-  keeps_record sets texts (Prepare t l n s w) = is_number 1 l && (is_number 8 n && (is_vector s && list_all (keeps_update sets texts) w))
-  keeps_record sets texts (Decide t c) = is_vector c
-  keeps_record sets texts (Finish t c) = is_vector c
-  keeps_record sets texts (Abort t) = true
-  keeps_record sets texts (Batch m) = keeps_message sets texts m
+  abbrev pub keeps_record : (E → Bool) → Record E → Bool
+  keeps_record keeps (Lease n) = is_number 8 n
+  keeps_record keeps (Prepare t l n s w) = is_number 1 l && (is_number 8 n && (is_vector s && list_all (keeps_update keeps) w))
+  keeps_record keeps (Decide t c) = is_vector c
+  keeps_record keeps (Finish t c) = is_vector c
+  keeps_record keeps (Abort t) = true
+  keeps_record keeps (Batch m) = keeps_message keeps m
 
   abbrev pub behind_code : (E → List ℕ) → Record E → List ℕ
   behind_code spelling (Lease n) = number 8 n
@@ -116,12 +115,12 @@ module _ {E : Type 0} where
 small : (n : ℕ) → is_between 1 6 n ≡ true → is_number 1 n ≡ true
 small n h = let le = le_from n 6 (both_true (nat_le 1 n) _ h).1 in lt_holds n (256 ^ 1) (omega (arith, le))
 
-module _ {E : Type 0} {has : Kind → Bool} {is_of : Kind → E → Bool} {can_put is_spelled : E → Bool} {sets : E → List (List Dot)} {texts : E → List (List ℕ)} {spelling : E → List ℕ} {reading : Kind → List ℕ → ℕ → Read E}
-    (spells : SpellsEffects has is_of can_put is_spelled sets texts spelling reading) where
+module _ {E : Type 0} {has : Kind → Bool} {is_of : Kind → E → Bool} {can_put keeps is_spelled : E → Bool} {spelling : E → List ℕ} {reading : Kind → List ℕ → ℕ → Read E}
+    (spells : SpellsEffects has is_of can_put keeps is_spelled spelling reading) where
   abbrev is_record : Record E → Bool
   is_record = is_record_spelled has is_of is_spelled
 
-  lease_shape : (r : Record E) → (eqb (code r) 1 && is_record r) ≡ true → (n : ℕ) × (Lease n ≡ r)
+  lease_shape : (r : Record E) → (eqb (code r) 1 && (can_put_record has is_of can_put r || is_record r)) ≡ true → (n : ℕ) × (Lease n ≡ r)
   lease_shape (Lease n) h = (n, refl)
   lease_shape (Prepare t l n s w) h = absurd (false≢true h)
   lease_shape (Decide t c) h = absurd (false≢true h)
@@ -129,7 +128,7 @@ module _ {E : Type 0} {has : Kind → Bool} {is_of : Kind → E → Bool} {can_p
   lease_shape (Abort t) h = absurd (false≢true h)
   lease_shape (Batch m) h = absurd (false≢true h)
 
-  prepare_shape : (r : Record E) → (eqb (code r) 2 && is_record r) ≡ true → (p : Prepared E) × (prepare_of p ≡ r)
+  prepare_shape : (r : Record E) → (eqb (code r) 2 && (can_put_record has is_of can_put r || is_record r)) ≡ true → (p : Prepared E) × (prepare_of p ≡ r)
   prepare_shape (Lease n) h = absurd (false≢true h)
   prepare_shape (Prepare t l n s w) h = ((t, (l, (n, (s, w)))), refl)
   prepare_shape (Decide t c) h = absurd (false≢true h)
@@ -137,7 +136,7 @@ module _ {E : Type 0} {has : Kind → Bool} {is_of : Kind → E → Bool} {can_p
   prepare_shape (Abort t) h = absurd (false≢true h)
   prepare_shape (Batch m) h = absurd (false≢true h)
 
-  decide_shape : (r : Record E) → (eqb (code r) 3 && is_record r) ≡ true → (p : TxId × List ℕ) × (decide_of p ≡ r)
+  decide_shape : (r : Record E) → (eqb (code r) 3 && (can_put_record has is_of can_put r || is_record r)) ≡ true → (p : TxId × List ℕ) × (decide_of p ≡ r)
   decide_shape (Lease n) h = absurd (false≢true h)
   decide_shape (Prepare t l n s w) h = absurd (false≢true h)
   decide_shape (Decide t c) h = ((t, c), refl)
@@ -145,7 +144,7 @@ module _ {E : Type 0} {has : Kind → Bool} {is_of : Kind → E → Bool} {can_p
   decide_shape (Abort t) h = absurd (false≢true h)
   decide_shape (Batch m) h = absurd (false≢true h)
 
-  finish_shape : (r : Record E) → (eqb (code r) 4 && is_record r) ≡ true → (p : TxId × List ℕ) × (finish_of p ≡ r)
+  finish_shape : (r : Record E) → (eqb (code r) 4 && (can_put_record has is_of can_put r || is_record r)) ≡ true → (p : TxId × List ℕ) × (finish_of p ≡ r)
   finish_shape (Lease n) h = absurd (false≢true h)
   finish_shape (Prepare t l n s w) h = absurd (false≢true h)
   finish_shape (Decide t c) h = absurd (false≢true h)
@@ -153,7 +152,7 @@ module _ {E : Type 0} {has : Kind → Bool} {is_of : Kind → E → Bool} {can_p
   finish_shape (Abort t) h = absurd (false≢true h)
   finish_shape (Batch m) h = absurd (false≢true h)
 
-  abort_shape : (r : Record E) → (eqb (code r) 5 && is_record r) ≡ true → (t : TxId) × (Abort t ≡ r)
+  abort_shape : (r : Record E) → (eqb (code r) 5 && (can_put_record has is_of can_put r || is_record r)) ≡ true → (t : TxId) × (Abort t ≡ r)
   abort_shape (Lease n) h = absurd (false≢true h)
   abort_shape (Prepare t l n s w) h = absurd (false≢true h)
   abort_shape (Decide t c) h = absurd (false≢true h)
@@ -161,7 +160,7 @@ module _ {E : Type 0} {has : Kind → Bool} {is_of : Kind → E → Bool} {can_p
   abort_shape (Abort t) h = (t, refl)
   abort_shape (Batch m) h = absurd (false≢true h)
 
-  batch_shape : (r : Record E) → (eqb (code r) 6 && is_record r) ≡ true → (m : Message E) × (Batch m ≡ r)
+  batch_shape : (r : Record E) → (eqb (code r) 6 && (can_put_record has is_of can_put r || is_record r)) ≡ true → (m : Message E) × (Batch m ≡ r)
   batch_shape (Lease n) h = absurd (false≢true h)
   batch_shape (Prepare t l n s w) h = absurd (false≢true h)
   batch_shape (Decide t c) h = absurd (false≢true h)
@@ -169,7 +168,8 @@ module _ {E : Type 0} {has : Kind → Bool} {is_of : Kind → E → Bool} {can_p
   batch_shape (Abort t) h = absurd (false≢true h)
   batch_shape (Batch m) h = (m, refl)
 
-  prepared_form : IsForm (λ p. is_tx p.0 && can_put_updates has is_of can_put p.1.1.1.1) (λ p. is_tx p.0 && (is_number 1 p.1.0 && (is_number 8 p.1.1.0 && (is_vector p.1.1.1.0 && are_updates_spelled has is_of is_spelled p.1.1.1.1))))
+  prepared_form : IsForm (λ p. is_tx p.0 && can_put_updates has is_of can_put p.1.1.1.1) (λ p. is_number 1 p.1.0 && (is_number 8 p.1.1.0 && (is_vector p.1.1.1.0 && list_all (keeps_update keeps) p.1.1.1.1)))
+      (λ p. is_tx p.0 && (is_number 1 p.1.0 && (is_number 8 p.1.1.0 && (is_vector p.1.1.1.0 && are_updates_spelled has is_of is_spelled p.1.1.1.1))))
       (λ p. tx p.0 ++ (number 1 p.1.0 ++ (number 8 p.1.1.0 ++ (vector p.1.1.1.0 ++ updates spelling p.1.1.1.1)))) (prepared_at has reading)
   prepared_form =
       let seen = then_form (λ v. true) is_vector vector vector_at _ _ _ _ any_vector_form (λ _ _. updates_form spells) in
@@ -177,28 +177,17 @@ module _ {E : Type 0} {has : Kind → Bool} {is_of : Kind → E → Bool} {can_p
       let led = then_form (λ n. true) (is_number 1) (number 1) (number_at 1) _ _ _ _ (any_number_form 1 width1) (λ _ _. timed) in
       then_form is_tx is_tx tx tx_at _ _ _ _ tx_form (λ _ _. led)
 
-  rest_form : (n : ℕ) → is_between 1 6 n ≡ true → IsForm (λ r. eqb (code r) n && can_put_record has is_of can_put r) (λ r. eqb (code r) n && is_record r) (behind_code spelling) (behind_code_at has reading n)
+  rest_form : (n : ℕ) → is_between 1 6 n ≡ true → IsForm (λ r. eqb (code r) n && can_put_record has is_of can_put r) (keeps_record keeps) (λ r. eqb (code r) n && is_record r) (behind_code spelling) (behind_code_at has reading n)
   unfolding behind_code_at
   rest_form zero h = absurd (false≢true h)
-  rest_form (suc zero) h = shape_form Lease _ _ (number 8) (number_at 8) _ _ _ (λ n. refl) (λ n. refl) (λ n. refl) lease_shape (any_number_form 8 width8)
-  rest_form (suc (suc zero)) h = shape_form prepare_of _ _ _ (prepared_at has reading) _ _ _ (λ p. refl) (λ p. refl) (λ p. refl) prepare_shape prepared_form
-  rest_form (suc (suc (suc zero))) h = shape_form decide_of _ _ _ ended_at _ _ _ (λ p. refl) (λ p. refl) (λ p. refl) decide_shape ended_form
-  rest_form (suc (suc (suc (suc zero)))) h = shape_form finish_of _ _ _ ended_at _ _ _ (λ p. refl) (λ p. refl) (λ p. refl) finish_shape ended_form
-  rest_form (suc (suc (suc (suc (suc zero))))) h = shape_form Abort _ _ tx tx_at _ _ _ (λ t. refl) (λ t. refl) (λ t. refl) abort_shape tx_form
-  rest_form (suc (suc (suc (suc (suc (suc zero)))))) h = shape_form Batch _ _ (message spelling) (batch_at has reading) _ _ _ (λ m. refl) (λ m. refl) (λ m. refl) batch_shape (batch_form spells)
+  rest_form (suc zero) h = shape_form (λ r. eqb (code r) 1) Lease _ _ (number 8) (number_at 8) (can_put_record has is_of can_put) is_record _ (λ n. refl) (λ n. refl) (λ n. refl) (λ n. refl) lease_shape (any_number_form 8 width8)
+  rest_form (suc (suc zero)) h = shape_form (λ r. eqb (code r) 2) prepare_of _ _ _ (prepared_at has reading) (can_put_record has is_of can_put) is_record _ (λ p. refl) (λ p. refl) (λ p. refl) (λ p. refl) prepare_shape prepared_form
+  rest_form (suc (suc (suc zero))) h = shape_form (λ r. eqb (code r) 3) decide_of _ _ _ ended_at (can_put_record has is_of can_put) is_record _ (λ p. refl) (λ p. refl) (λ p. refl) (λ p. refl) decide_shape ended_form
+  rest_form (suc (suc (suc (suc zero)))) h = shape_form (λ r. eqb (code r) 4) finish_of _ _ _ ended_at (can_put_record has is_of can_put) is_record _ (λ p. refl) (λ p. refl) (λ p. refl) (λ p. refl) finish_shape ended_form
+  rest_form (suc (suc (suc (suc (suc zero))))) h = shape_form (λ r. eqb (code r) 5) Abort _ _ tx tx_at (can_put_record has is_of can_put) is_record _ (λ t. refl) (λ t. refl) (λ t. refl) (λ t. refl) abort_shape tx_form
+  rest_form (suc (suc (suc (suc (suc (suc zero)))))) h = shape_form (λ r. eqb (code r) 6) Batch _ _ (message spelling) (batch_at has reading) (can_put_record has is_of can_put) is_record _ (λ m. refl) (λ m. refl) (λ m. refl) (λ m. refl) batch_shape (batch_form spells)
   rest_form (suc (suc (suc (suc (suc (suc (suc n))))))) h = let le = le_from (suc (suc (suc (suc (suc (suc (suc n))))))) 6 (both_true (nat_le 1 (suc (suc (suc (suc (suc (suc (suc n)))))))) _ h).1 in absurd (omega arith)
 
-  pub record_form : IsForm (can_put_record has is_of can_put) is_record (record_bytes spelling) (record_at has reading)
+  pub record_form : IsForm (can_put_record has is_of can_put) (keeps_record keeps) is_record (record_bytes spelling) (record_at has reading)
   unfolding record_at
   record_form = tagged_form (is_between 1 6) code _ _ (behind_code spelling) (behind_code_at has reading) known small rest_form
-
-  rest_all : (r : Record E) → Spells (can_put_record has is_of can_put r) (keeps_record sets texts r) (is_record r) (behind_code spelling r)
-  rest_all (Lease n) = record { shown = λ can kept short. kept }
-  rest_all (Prepare t l n s w) = behind (asked (behind (held (behind (held (behind (held (updates_all spells w) (is_vector s)) (vector s)) (is_number 8 n)) (number 8 n)) (is_number 1 l)) (number 1 l)) (is_tx t)) (tx t)
-  rest_all (Decide t c) = record { shown = λ can kept short. and_true (is_tx t) (is_vector c) can kept }
-  rest_all (Finish t c) = record { shown = λ can kept short. and_true (is_tx t) (is_vector c) can kept }
-  rest_all (Abort t) = record { shown = λ can kept short. can }
-  rest_all (Batch m) = batch_all spells m
-
-  pub record_all : (r : Record E) → Spells (can_put_record has is_of can_put r) (keeps_record sets texts r) (is_record r) (record_bytes spelling r)
-  record_all r = behind (rest_all r) (number 1 (code r))

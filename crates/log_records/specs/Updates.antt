@@ -2,19 +2,16 @@
 use Rattle.std.specs.Prelude.{◌≡◌, ℕ, Bool, true, false, ◌&&◌, nat_lt, List, [], ◌∷◌, ◌++◌, refl}
 use Rattle.std.proofs.Common.{arith}
 use Rattle.std.specs.List.{list_all}
-use Rattle.std.proofs.lemmas.Bool.{false≢true}
 use Rattle.field_codec.specs.Spelling.{number, is_text, list, are_members, is_list}
 use Rattle.field_codec.specs.Reading.{Read, list_at, checked_at, then_at, mapped_at}
 use Rattle.field_codec.specs.Lawful.{IsForm}
 use Rattle.field_codec.specs.FormLaws.{width2, list_form, checked_form, then_form, mapped_form, both_true}
-use Rattle.site_vector.specs.declared.ids.Dot.{Dot}
 use Rattle.crdt_core.specs.declared.kind.Kind.{Kind}
 use Rattle.crdt_core.specs.declared.object.ObjectId.{ObjectId}
 use Rattle.crdt_core.specs.declared.record.Upd.{Upd}
 use Rattle.crdt_core.specs.Spelled.{is_between, between_at, is_object, object, object_at}
 use Rattle.crdt_core.specs.SpelledLaws.{between_form}
-use Rattle.crdt_core.specs.EffectForm.{sets_ascend, Spells, SpellsEffects}
-use Rattle.crdt_core.proofs.HaveSpelling.{behind, asked, named, listed}
+use Rattle.crdt_core.specs.EffectForm.{SpellsEffects}
 use Rattle.log_records.specs.Fields.{any_object_form}
 
 abbrev pub has_some : {A : Type 0} → List A → Bool
@@ -28,9 +25,8 @@ module _ {E : Type 0} where
   abbrev pub is_update_spelled : (Kind → Bool) → (Kind → E → Bool) → (E → Bool) → Upd E → Bool
   is_update_spelled has is_of is_spelled u = is_between 1 256 u.index && (is_object has u.object && (is_of u.object.kind u.effect && is_spelled u.effect))
 
-  -- what the types keep of an update's texts and sets
-  abbrev pub keeps_update : (E → List (List Dot)) → (E → List (List ℕ)) → Upd E → Bool
-  keeps_update sets texts u = list_all is_text (u.object.bucket ∷ u.object.key ∷ texts u.effect) && sets_ascend (sets u.effect)
+  abbrev pub keeps_update : (E → Bool) → Upd E → Bool
+  keeps_update keeps u = (is_text u.object.bucket && is_text u.object.key) && keeps u.effect
 
   abbrev pub update : (E → List ℕ) → Upd E → List ℕ
   update spelling u = number 2 u.index ++ (object u.object ++ spelling u.effect)
@@ -58,32 +54,18 @@ module _ {E : Type 0} where
   unfoldable pub updates_at : (Kind → Bool) → (Kind → List ℕ → ℕ → Read E) → List ℕ → ℕ → Read (List (Upd E))
   updates_at has reading = checked_at has_some (list_at index_below (update_at has reading))
 
--- behind an object
-named_by : (words sets : Bool) {fits good : Bool} {bytes : List ℕ} (bucket key known : Bool) → Spells fits (words && sets) good bytes → Spells (known && fits) ((bucket && (key && words)) && sets) ((bucket && (key && known)) && good) bytes
-named_by words sets true key known all = named words sets all key known
-named_by words sets false key known all = record { shown = λ can kept short. absurd (false≢true kept) }
-
-module _ {E : Type 0} {has : Kind → Bool} {is_of : Kind → E → Bool} {can_put is_spelled : E → Bool} {sets : E → List (List Dot)} {texts : E → List (List ℕ)} {spelling : E → List ℕ} {reading : Kind → List ℕ → ℕ → Read E}
-    (spells : SpellsEffects has is_of can_put is_spelled sets texts spelling reading) where
+module _ {E : Type 0} {has : Kind → Bool} {is_of : Kind → E → Bool} {can_put keeps is_spelled : E → Bool} {spelling : E → List ℕ} {reading : Kind → List ℕ → ℕ → Read E}
+    (spells : SpellsEffects has is_of can_put keeps is_spelled spelling reading) where
   has_kind : (o : ObjectId) → is_object has o ≡ true → has o.kind ≡ true
   has_kind o h = (both_true (is_text o.key) (has o.kind) (both_true (is_text o.bucket) (is_text o.key && has o.kind) h).1).1
 
-  pub update_form : IsForm (can_put_update has is_of can_put) (is_update_spelled has is_of is_spelled) (update spelling) (update_at has reading)
+  pub update_form : IsForm (can_put_update has is_of can_put) (keeps_update keeps) (is_update_spelled has is_of is_spelled) (update spelling) (update_at has reading)
   unfolding update_at
   update_form =
       let effect = then_form (λ o. has o.kind) (is_object has) object (object_at has) (λ o e. is_of o.kind e && can_put e) (λ o e. is_of o.kind e && is_spelled e) (λ _. spelling) (λ o. reading o.kind) (any_object_form has) (λ o h. spells.form o.kind (has_kind o h)) in
       let whole = then_form (is_between 1 256) (is_between 1 256) (number 2) (between_at 2 1 256) _ _ _ _ (between_form 2 1 256 width2 (omega arith)) (λ _ _. effect) in
       mapped_form update_of (λ u. (u.index, (u.object, u.effect))) _ _ _ _ (λ _. refl) (λ _ _. refl) whole
 
-  pub updates_form : IsForm (can_put_updates has is_of can_put) (are_updates_spelled has is_of is_spelled) (updates spelling) (updates_at has reading)
+  pub updates_form : IsForm (can_put_updates has is_of can_put) (list_all (keeps_update keeps)) (are_updates_spelled has is_of is_spelled) (updates spelling) (updates_at has reading)
   unfolding updates_at
   updates_form = checked_form has_some _ _ _ _ (list_form index_below _ _ (update spelling) (update_at has reading) update_form)
-
-  update_all : (u : Upd E) → Spells (can_put_update has is_of can_put u) (keeps_update sets texts u) (is_update_spelled has is_of is_spelled u) (update spelling u)
-  update_all u =
-      let o = u.object in
-      let effect = behind (asked (spells.all u.effect) (is_of o.kind u.effect)) (object o) in
-      behind (asked (named_by (list_all is_text (texts u.effect)) (sets_ascend (sets u.effect)) (is_text o.bucket) (is_text o.key) (has o.kind) effect) (is_between 1 256 u.index)) (number 2 u.index)
-
-  pub updates_all : (us : List (Upd E)) → Spells (can_put_updates has is_of can_put us) (list_all (keeps_update sets texts) us) (are_updates_spelled has is_of is_spelled us) (updates spelling us)
-  updates_all us = asked (listed index_below update_form (keeps_update sets texts) update_all us) (has_some us)

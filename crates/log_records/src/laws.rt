@@ -1,8 +1,6 @@
-ghost use Rattle.std.specs.Prelude.{◌≡◌, ◌<◌, ◌^◌, ℕ, true, length};
+ghost use Rattle.std.specs.Prelude.{◌≡◌, ◌<◌, ℕ};
 ghost use Rattle.field_codec.specs.Lawful.{IsForm, IsPrefixFree};
-ghost use Rattle.crdt_core.specs.declared.record.Message.{Message};
 ghost use Rattle.crdt_core.specs.declared.record.Part.{Part};
-ghost use Rattle.crdt_core.specs.declared.record.Record.{Record};
 ghost use Rattle.crdt_core.specs.Orders.{stream_cmp};
 ghost use Rattle.log_records.specs.Parts.{part_cmp};
 ghost use Rattle.log_records.specs.Messages.{can_put_message, is_message_spelled, keeps_message, message, message_at};
@@ -15,8 +13,7 @@ use crdt_core::Crdt;
 /// what it says, and no spelling begins that of another. What can be put has a spelling but where that would be 2^32 bytes or
 /// more. The parts of one from a site stand in the order of that site's stream.
 pub fn law_messages<C: Crdt>()
-    ensures form { IsForm (can_put_message C.has C.is_of C.can_put) (is_message_spelled C.has C.is_of C.is_spelled) (message C.spelling) (message_at C.has C.reading) }
-    ensures all { (m : Message C.Effect) → can_put_message C.has C.is_of C.can_put m ≡ true → keeps_message C.sets C.texts m ≡ true → length (message C.spelling m) < 2 ^ 32 → is_message_spelled C.has C.is_of C.is_spelled m ≡ true }
+    ensures form { IsForm (can_put_message C.has C.is_of C.can_put) (keeps_message C.keeps) (is_message_spelled C.has C.is_of C.is_spelled) (message C.spelling) (message_at C.has C.reading) }
     ensures apart { IsPrefixFree (is_message_spelled C.has C.is_of C.is_spelled) (message C.spelling) }
     ensures order { (site : ℕ) (p q : Part C.Effect) → 0 < site → part_cmp site p q ≡ stream_cmp site p q }
 {}
@@ -24,8 +21,7 @@ pub fn law_messages<C: Crdt>()
 /// The same of records. Bytes are a record exactly where they are its spelling, and are else damaged at one place: that of a
 /// field that is refused, that of the first byte behind a record, or 0 where they end too early.
 pub fn law_records<C: Crdt>()
-    ensures form { IsForm (can_put_record C.has C.is_of C.can_put) (is_record_spelled C.has C.is_of C.is_spelled) (record_bytes C.spelling) (record_at C.has C.reading) }
-    ensures all { (r : Record C.Effect) → can_put_record C.has C.is_of C.can_put r ≡ true → keeps_record C.sets C.texts r ≡ true → length (record_bytes C.spelling r) < 2 ^ 32 → is_record_spelled C.has C.is_of C.is_spelled r ≡ true }
+    ensures form { IsForm (can_put_record C.has C.is_of C.can_put) (keeps_record C.keeps) (is_record_spelled C.has C.is_of C.is_spelled) (record_bytes C.spelling) (record_at C.has C.reading) }
     ensures apart { IsPrefixFree (is_record_spelled C.has C.is_of C.is_spelled) (record_bytes C.spelling) }
     ensures whole { ReadsWhole (is_record_spelled C.has C.is_of C.is_spelled) (record_bytes C.spelling) (record_at C.has C.reading) }
 {}

@@ -2,7 +2,7 @@ ghost use Rattle.std.specs.Prelude.{◌≡◌, ◌≤◌, ◌++◌, true, length
 ghost use Rattle.field_codec.specs.Spelling.{is_below};
 ghost use Rattle.field_codec.specs.Reading.{Gives, checked_at};
 ghost use Rattle.log_records.specs.Updates.{has_some};
-ghost use Rattle.log_records.specs.Parts.{time_at, can_put_part, is_part_spelled, part as part_bytes, part_at, part_cmp, can_put_parts, are_parts_spelled, parts as parts_bytes, parts_at, part_form};
+ghost use Rattle.log_records.specs.Parts.{time_at, can_put_part, keeps_part, is_part_spelled, part as part_bytes, part_at, part_cmp, can_put_parts, are_parts_spelled, parts as parts_bytes, parts_at, part_form};
 
 use crate::update_form::{put_updates, take_updates};
 use crdt_core::{Crdt, Part, put_tx, put_vector, take_tx, take_vector};
@@ -22,6 +22,8 @@ impl<C: Crdt> Form for PartForm<C> {
     type Value = Part<C::Effect>;
 
     ghost fits = { λ _ p. can_put_part C.has C.is_of C.can_put p };
+
+    ghost keeps = { λ _ p. keeps_part C.keeps p };
 
     ghost is_spelled = { λ _ p. is_part_spelled C.has C.is_of C.is_spelled p };
 

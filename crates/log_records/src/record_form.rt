@@ -3,7 +3,7 @@ ghost use Rattle.field_codec.specs.Spelling.{number, is_number, Keeps};
 ghost use Rattle.field_codec.specs.Reading.{Gives, mapped_at};
 ghost use Rattle.crdt_core.specs.Spelled.{is_tx, tx as tx_bytes, vector, is_vector};
 ghost use Rattle.log_records.specs.Messages.{can_put_batch, is_batch_spelled, message as message_bytes};
-ghost use Rattle.log_records.specs.Records.{ended_at, can_put_record, is_record_spelled, record_bytes, prepare_of, prepared_at, behind_code_at, record_at, record_form};
+ghost use Rattle.log_records.specs.Records.{ended_at, can_put_record, keeps_record, is_record_spelled, record_bytes, prepare_of, prepared_at, behind_code_at, record_at, record_form};
 
 use crate::message_form::{put_fields, take_batch};
 use crate::update_form::{put_updates, take_updates};
@@ -35,6 +35,8 @@ impl<C: Crdt> Form for RecordForm<C> {
     type Value = Record<C::Effect>;
 
     ghost fits = { λ _ r. can_put_record C.has C.is_of C.can_put r };
+
+    ghost keeps = { λ _ r. keeps_record C.keeps r };
 
     ghost is_spelled = { λ _ r. is_record_spelled C.has C.is_of C.is_spelled r };
 

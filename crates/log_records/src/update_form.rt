@@ -1,7 +1,7 @@
 ghost use Rattle.std.specs.Prelude.{◌≡◌, ◌≤◌, ◌++◌, true, length, OnOk, OnErr, IfOk};
 ghost use Rattle.field_codec.specs.Reading.{Gives, list_at};
 ghost use Rattle.crdt_core.specs.Spelled.{between_at};
-ghost use Rattle.log_records.specs.Updates.{can_put_update, is_update_spelled, update as update_bytes, update_at, index_below, can_put_updates, are_updates_spelled, updates as updates_bytes, updates_at, update_form};
+ghost use Rattle.log_records.specs.Updates.{can_put_update, keeps_update, is_update_spelled, update as update_bytes, update_at, index_below, can_put_updates, are_updates_spelled, updates as updates_bytes, updates_at, update_form};
 
 use crdt_core::{Crdt, Upd, put_object, take_object};
 use field_codec::{Form, ListOf, TakeError, put_list, put_u16, take_list, take_u16};
@@ -21,6 +21,8 @@ impl<C: Crdt> Form for UpdateForm<C> {
     type Value = Upd<C::Effect>;
 
     ghost fits = { λ _ u. can_put_update C.has C.is_of C.can_put u };
+
+    ghost keeps = { λ _ u. keeps_update C.keeps u };
 
     ghost is_spelled = { λ _ u. is_update_spelled C.has C.is_of C.is_spelled u };
 

@@ -6,7 +6,6 @@ use Rattle.disk_core.specs.States.{DiskState}
 use Rattle.field_codec.specs.FormLaws.{both_true, and_true}
 use Rattle.field_codec.specs.Reading.{Read}
 use Rattle.field_codec.specs.Spelling.{is_number, are_members, are_in_order, is_below}
-use Rattle.site_vector.specs.declared.ids.Dot.{Dot}
 use Rattle.site_vector.specs.declared.ids.TxId.{TxId}
 use Rattle.site_vector.specs.Ids.{same_tx}
 use Rattle.site_vector.specs.Order.{same_tx_is, same_tx_refl}
@@ -167,7 +166,7 @@ module _ {E : Type 0} (has : Kind → Bool) (is_of : Kind → E → Bool) (is_sp
   store_has_ids log xs h store = parts_have_ids log xs h (λ u k. sym (store.members u) ∙ k) store.exact
 
 -- a partition that is up holds what its log has spelled
-pub ids_on : {E D : Type 0} {has : Kind → Bool} {is_of : Kind → E → Bool} {can_put is_spelled : E → Bool} {sets : E → List (List Dot)} {texts : E → List (List ℕ)} {spelling : E → List ℕ} {reading : Kind → List ℕ → ℕ → Read E} (spells : SpellsEffects has is_of can_put is_spelled sets texts spelling reading) (state : D → DiskState) (t : Durable E D) (p : PartState E) → is_down t ≡ false → StandsOn (codec_of spells) state t p → have_ids t.tables.held ≡ true
+pub ids_on : {E D : Type 0} {has : Kind → Bool} {is_of : Kind → E → Bool} {can_put keeps is_spelled : E → Bool} {spelling : E → List ℕ} {reading : Kind → List ℕ → ℕ → Read E} (spells : SpellsEffects has is_of can_put keeps is_spelled spelling reading) (state : D → DiskState) (t : Durable E D) (p : PartState E) → is_down t ≡ false → StandsOn (codec_of spells) state t p → have_ids t.tables.held ≡ true
 ids_on {has = has} {is_of = is_of} {is_spelled = is_spelled} spells state t p up h =
     let u = stands_up (codec_of spells) state t p up h in
     store_has_ids has is_of is_spelled p.log t.tables.held u.log.spelled u.tables.tells.store

@@ -7,7 +7,6 @@ use Rattle.disk_core.specs.States.{DiskState}
 use Rattle.field_codec.specs.FormLaws.{both_true, and_true, le_from}
 use Rattle.field_codec.specs.Reading.{Read}
 use Rattle.field_codec.specs.Spelling.{are_in_order, is_below}
-use Rattle.site_vector.specs.declared.ids.Dot.{Dot}
 use Rattle.site_vector.specs.declared.ids.TxId.{TxId}
 use Rattle.site_vector.specs.Ids.{same_tx}
 use Rattle.site_vector.specs.Order.{same_tx_refl}
@@ -46,8 +45,8 @@ module _ {E : Type 0} (site : ℕ) (some : 0 < site) where
   ordered [] a = refl
   ordered (x ∷ xs) a = follows x xs a.0 a.1
 
-module _ {E : Type 0} {has : Kind → Bool} {is_of : Kind → E → Bool} {can_put is_spelled : E → Bool} {sets : E → List (List Dot)} {texts : E → List (List ℕ)} {spelling : E → List ℕ} {reading : Kind → List ℕ → ℕ → Read E}
-    (spells : SpellsEffects has is_of can_put is_spelled sets texts spelling reading) where
+module _ {E : Type 0} {has : Kind → Bool} {is_of : Kind → E → Bool} {can_put keeps is_spelled : E → Bool} {spelling : E → List ℕ} {reading : Kind → List ℕ → ℕ → Read E}
+    (spells : SpellsEffects has is_of can_put keeps is_spelled spelling reading) where
   abbrev Spelled : List (Record E) → Type 0
   Spelled log = list_all (is_record_spelled has is_of is_spelled) log ≡ true
 

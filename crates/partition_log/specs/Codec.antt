@@ -1,7 +1,6 @@
 -- The bytes of records, as one record made of what a type says of its effects' bytes.
 use Rattle.std.specs.Prelude.{ℕ, Bool, List}
 use Rattle.field_codec.specs.Reading.{Read}
-use Rattle.site_vector.specs.declared.ids.Dot.{Dot}
 use Rattle.crdt_core.specs.declared.kind.Kind.{Kind}
 use Rattle.crdt_core.specs.declared.record.Record.{Record}
 use Rattle.crdt_core.specs.EffectForm.{SpellsEffects}
@@ -14,8 +13,8 @@ pub record Codec (E : Type 0) : Type 0 where
   pub reading : List ℕ → ℕ → Read (Record E)
 
 -- those of a type that implements `Crdt`, by its member `spells`
-abbrev pub codec_of : {E : Type 0} {has : Kind → Bool} {is_of : Kind → E → Bool} {can_put is_spelled : E → Bool} {sets : E → List (List Dot)} {texts : E → List (List ℕ)} {spelling : E → List ℕ} {reading : Kind → List ℕ → ℕ → Read E}
-    → SpellsEffects has is_of can_put is_spelled sets texts spelling reading → Codec E
+abbrev pub codec_of : {E : Type 0} {has : Kind → Bool} {is_of : Kind → E → Bool} {can_put keeps is_spelled : E → Bool} {spelling : E → List ℕ} {reading : Kind → List ℕ → ℕ → Read E}
+    → SpellsEffects has is_of can_put keeps is_spelled spelling reading → Codec E
 codec_of {has = has} {is_of = is_of} {is_spelled = is_spelled} {spelling = spelling} {reading = reading} spells = record {
   spelled = is_record_spelled has is_of is_spelled;
   bytes = record_bytes spelling;

@@ -7,7 +7,6 @@ use Rattle.std.specs.BTreeMap.{insert_entry}
 use Rattle.std.specs.Cmp.Lexicographic.{slice_cmp}
 use Rattle.std.proofs.lemmas.List.{map-append, length-map}
 use Rattle.std.proofs.lemmas.Grind.{fold-append}
-use Rattle.json.specs.Print.{quoted}
 use Rattle.crdt_core.specs.declared.object.Field.{Field}
 use Rattle.crdt_core.specs.declared.value.Value.{Value}
 use Rattle.reply_text.specs.Values.{member_text, members, member_name, value_text}

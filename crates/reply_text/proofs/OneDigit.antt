@@ -1,5 +1,5 @@
 -- A number of one digit.
-use Rattle.std.proofs.Common.{◌≡◌, ℕ, ◌+◌, ◌/◌, ◌%◌, ◌<◌, ◌==◌, false, if◌then◌else◌, List, [], ◌∷◌, ◌++◌, decimal, sym, ap, ◌∙◌, arith, eq-eqb, lt-ltb}
+use Rattle.std.proofs.Common.{◌≡◌, ℕ, ◌+◌, ◌/◌, ◌%◌, ◌<◌, false, if◌then◌else◌, List, [], ◌∷◌, ◌++◌, decimal, sym, ap, ◌∙◌, arith, eq-eqb, lt-ltb}
 use Rattle.std.specs.Fmt.{digits, digits_onto, digit_glyph}
 
 digit_of : (n : ℕ) → n < 10 → digit_glyph false (n % 10) ≡ 48 + n

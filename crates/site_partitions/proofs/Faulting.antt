@@ -5,7 +5,7 @@ use Rattle.site_vector.specs.declared.ids.PartId.{PartId}
 use Rattle.disk_core.specs.States.{DiskState, GoesOn}
 use Rattle.gate_log.specs.Logs.{disk_of}
 use Rattle.gate_log.specs.declared.log.GateLog.{GateLog}
-use Rattle.world_model.specs.rules.Event.{Event, Entry, Crashed, RestartCut, Ask}
+use Rattle.world_model.specs.rules.Event.{Entry, Crashed, RestartCut}
 use Rattle.world_model.specs.rules.Event as event
 use Rattle.world_model.specs.rules.Partition.{PartState}
 use Rattle.world_model.specs.lines.Places.{IsPlace}

@@ -8,7 +8,7 @@ use Rattle.world_model.specs.lines.Places.{IsPlace}
 use Rattle.partition_core.specs.Durable.{Durable, StandsSo, disk_in, is_down}
 use Rattle.site_partitions.specs.Held.{Held, IsSized, index_of}
 use Rattle.site_partitions.specs.Fates.{OfState}
-use Rattle.site_partitions.specs.Reaches.{Types, Reaches}
+use Rattle.site_partitions.specs.Reaches.{Types}
 use Rattle.site_partitions.specs.Starved.{IsStarvedAt}
 use Rattle.site_partitions.proofs.Finding.{is_at}
 use Rattle.site_partitions.proofs.Going.{stands_at}

@@ -33,8 +33,8 @@ pub record Types (S E D : Type 0) : Type 0 where
 
 -- those of a type that implements `Crdt` and one that implements `Disk`, by their members
 abbrev pub types_of : {S E D : Type 0} {has : Kind → Bool} {too_deep : Kind → List Field → Bool} {initial : Kind → S} {step : S → Dot → E → S} {made : Kind → S → List Field → Act → ℕ → E} {value_of : S → Value} {stamp_of : E → Option ℕ} {meaning : Kind → List Update → Value} {names : E → Dot → Bool} {holds : S → Dot → Bool}
-    {is_of : Kind → E → Bool} {can_put is_spelled : E → Bool} {sets : E → List (List Dot)} {texts : E → List (List ℕ)} {spelling : E → List ℕ} {reading : Kind → List ℕ → ℕ → Read E}
-    → KeepsLaw has too_deep initial step made value_of stamp_of meaning names holds → SpellsEffects has is_of can_put is_spelled sets texts spelling reading → (D → DiskState) → Types S E D
+    {is_of : Kind → E → Bool} {can_put keeps is_spelled : E → Bool} {spelling : E → List ℕ} {reading : Kind → List ℕ → ℕ → Read E}
+    → KeepsLaw has too_deep initial step made value_of stamp_of meaning names holds → SpellsEffects has is_of can_put keeps is_spelled spelling reading → (D → DiskState) → Types S E D
 types_of {is_of = is_of} {can_put = can_put} laws spells state = record {
   kinds = kinds_of laws;
   codec = codec_of spells;

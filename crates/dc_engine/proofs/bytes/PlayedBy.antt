@@ -1,5 +1,5 @@
 -- What was played, told by another relation between lines and bytes.
-use Rattle.std.proofs.Common.{◌≡◌, ℕ, ◌≤◌, Bool, false, true, List, Option, None, refl, subst, arith}
+use Rattle.std.proofs.Common.{◌≡◌, ℕ, false, true, List, Option, None, refl, subst, arith}
 use Rattle.disk_core.specs.States.{DiskState, Rose}
 use Rattle.disk_makers.specs.Makers.{Maker}
 use Rattle.dc_engine.specs.Played.{Played, PlayedEnded, PlayedTooLong, PlayedFront, PlayedBefore}

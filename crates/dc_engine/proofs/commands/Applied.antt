@@ -1,13 +1,12 @@
 -- A player answers the lines of a script by a run of its cluster.
-use Rattle.std.proofs.Common.{◌≡◌, ℕ, ◌+◌, ◌*◌, ◌≤◌, Bool, true, false, ◌||◌, List, [], ◌∷◌, ◌++◌, length, Option, None, Some, refl, sym, ap, ◌∙◌, subst, arith, inl, inr, ⊎_elim, append_assoc}
-use Rattle.std.specs.Prelude.{map, reverse, is_some, Result, Ok, Err, IfOk}
+use Rattle.std.proofs.Common.{◌≡◌, ℕ, ◌+◌, ◌*◌, ◌≤◌, Bool, true, false, ◌||◌, List, [], ◌∷◌, ◌++◌, length, Option, None, Some, refl, sym, ap, ◌∙◌, subst, arith, ⊎_elim, append_assoc}
+use Rattle.std.specs.Prelude.{map, reverse, is_some}
 use Rattle.std.specs.List.{flat_map}
 use Rattle.std.proofs.lemmas.Bool.{true≢false}
 use Rattle.std.proofs.lemmas.List.{reverse-append, map-append, append-nil}
 use Rattle.site_vector.specs.declared.ids.PartId.{PartId}
 use Rattle.disk_core.specs.States.{DiskState}
 use Rattle.disk_core.specs.Fuses.{fused_state}
-use Rattle.disk_core.specs.declared.fused.Fused.{Fused}
 use Rattle.world_model.specs.declared.command.Command.{Command}
 use Rattle.world_model.specs.declared.command.Command.TheVariants as command
 use Rattle.world_model.specs.declared.step.Step.{Step}
@@ -16,14 +15,14 @@ use Rattle.world_model.specs.commands.Cluster.{has_cluster, sites_of, parts_of}
 use Rattle.world_model.specs.lines.Places.{IsPlace}
 use Rattle.world_model.specs.commands.Run.{Run, written_lines}
 use Rattle.world_model.specs.commands.Answers.{Asked, nothing, unreadable, asks, answered}
-use Rattle.world_model.specs.commands.ScriptAnswers.{GoesOn, Answers, IsMade, AnswersBy, IsAnswer}
+use Rattle.world_model.specs.commands.ScriptAnswers.{GoesOn, Answers, IsMade, AnswersBy}
 use Rattle.reply_text.specs.Text.{text_of}
 use Rattle.cluster.specs.Built.{is_built, is_making}
 use Rattle.cluster.specs.Reached.{Applies, parts_in}
 use Rattle.cluster.proofs.Laws.{bad_still}
 use Rattle.cluster.proofs.Meets.{all_met, none_due}
 use Rattle.cluster.proofs.Mere.{at_first}
-use Rattle.dc_engine.specs.Held.{Standing, IsLeft, spelled, Reached, HasOut}
+use Rattle.dc_engine.specs.Held.{Standing, IsLeft, spelled, HasOut}
 use Rattle.dc_engine.specs.ObjectKinds.{types}
 use Rattle.dc_engine.specs.Player.{PlayerState, AnswersAsked, ReachedBy}
 use Rattle.dc_engine.specs.Reading.{asked_of, is_unreadable, has_bad}

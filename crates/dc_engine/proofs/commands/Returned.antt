@@ -1,5 +1,5 @@
 -- The disks of a cluster that go back to their maker.
-use Rattle.std.proofs.Common.{◌≡◌, ℕ, zero, suc, ◌+◌, ◌-◌, ◌*◌, ◌<◌, ◌≤◌, List, [], ◌∷◌, ◌++◌, length, get_or, Option, None, Some, refl, sym, ap, ◌∙◌, subst, arith, append_assoc}
+use Rattle.std.proofs.Common.{◌≡◌, ℕ, zero, suc, ◌+◌, ◌-◌, ◌*◌, ◌<◌, ◌≤◌, List, [], ◌∷◌, ◌++◌, length, get_or, None, Some, refl, sym, ap, ◌∙◌, subst, arith, append_assoc}
 use Rattle.std.proofs.lemmas.Bool.{true≢false}
 use Rattle.std.specs.Prelude.{map, is_some, IsTrue, true, false, nat_lt, if◌then◌else◌}
 use Rattle.std.proofs.lemmas.List.{append-nil}
@@ -14,12 +14,9 @@ use Rattle.gate_log.specs.Rest.{AtRest}
 use Rattle.gate_log.specs.Logs.{disk_of}
 use Rattle.partition_core.specs.Durable.{Durable}
 use Rattle.world_model.specs.commands.Cluster.{sites_of, parts_of}
-use Rattle.world_model.specs.lines.Pending.{is_down}
 use Rattle.world_model.specs.lines.Places.{IsPlace}
 use Rattle.world_model.specs.commands.Run.{Run}
-use Rattle.world_model.specs.commands.ScriptCalls.{calls_of}
 use Rattle.site_partitions.specs.Held.{index_of, IsSized}
-use Rattle.cluster.specs.Post.{WholeState}
 use Rattle.site_partitions.specs.Made.{HandsBack}
 use Rattle.site_partitions.specs.declared.make.MakeError.{MakeError}
 use Rattle.site_partitions.specs.declared.make.MakeError.TheVariants as make
@@ -31,7 +28,7 @@ use Rattle.dc_engine.specs.Answered.{Answered, AnsweredWhole}
 use Rattle.dc_engine.specs.GivenBack.{HoldsLogOf, GivenBack}
 use Rattle.dc_engine.specs.Held.{Standing, IsLeft, Reached, HasOut}
 use Rattle.dc_engine.specs.Makers.{IsUnchanged, GivesBack, ReturnsAll, FailsAt, number_or_none, disk_from, with_places, next_place, first_place}
-use Rattle.dc_engine.specs.ObjectKinds.{Effect, kinds, types}
+use Rattle.dc_engine.specs.ObjectKinds.{Effect, types}
 
 pub close_by : (parts : ℕ) (at next : PartId) → next ≡ next_place parts at → next.site ≤ at.site + 1
 close_by parts at next e = elim (nat_lt at.part parts) as (λ b. next ≡ (if b then record { site = at.site; part = at.part + 1 } else record { site = at.site + 1; part = 1 }) → next.site ≤ at.site + 1) [

@@ -1,7 +1,7 @@
 -- Where a cluster stands, no answer to a command makes one: a run's cluster keeps its size.
-use Rattle.std.proofs.Common.{◌≡◌, ◌≢◌, ◌⊎◌, ⊎_elim, ℕ, zero, suc, Bool, true, false, ◌||◌, List, [], ◌∷◌, refl, sym, ap, ◌∙◌, subst, Option, None, Some}
+use Rattle.std.proofs.Common.{◌≡◌, ◌≢◌, ◌⊎◌, ⊎_elim, ℕ, Bool, true, false, List, [], ◌∷◌, refl, sym, ap, ◌∙◌, subst, Option, None, Some}
 use Rattle.std.specs.Prelude.{if◌then◌else◌, ⊤, not}
-use Rattle.std.proofs.lemmas.Bool.{and_parts, cond-true, true≢false}
+use Rattle.std.proofs.lemmas.Bool.{and_parts, true≢false}
 use Rattle.site_vector.specs.declared.ids.PartId.{PartId}
 use Rattle.site_vector.specs.declared.ids.TxId.{TxId}
 use Rattle.world_model.proofs.Names.{off}
@@ -23,7 +23,7 @@ use Rattle.world_model.specs.commands.Phases.{going_of, phase}
 use Rattle.world_model.specs.commands.Refusals.{first_due}
 use Rattle.world_model.specs.commands.Run.{Run}
 use Rattle.world_model.specs.commands.ScriptAnswers.{AnswersBy, IsAnswer, Replies, IsOneAnswer, Either, Then, Steps, StepsOf, fewer}
-use Rattle.world_model.specs.commands.ScriptCalls.{is_answer, is_called, calls_of}
+use Rattle.world_model.specs.commands.ScriptCalls.{is_answer, calls_of}
 use Rattle.world_model.specs.commands.Settling.{SettlesAll, settled, stays, looked_up, is_unwritten, asks_abort}
 use Rattle.world_model.specs.lines.Waiting.{waiting}
 use Rattle.cluster.specs.Built.{is_built, is_making}

@@ -1,5 +1,4 @@
-use Rattle.std.proofs.Common.{◌≡◌, subst, arith}
-use Rattle.std.specs.Prelude.{Option, None}
+use Rattle.std.proofs.Common.{subst, arith}
 use Rattle.world_model.specs.declared.command.Command.TheVariants as command
 use Rattle.disk_core.specs.Fuses.{fused_state}
 use Rattle.cluster.specs.Reached.{Applies}

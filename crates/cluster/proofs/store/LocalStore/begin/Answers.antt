@@ -3,7 +3,7 @@ use Rattle.std.specs.Prelude.{ℕ, List, Ok, Err}
 use Rattle.site_vector.specs.declared.ids.TxId.{TxId}
 use Rattle.world_model.specs.declared.step.Step.TheVariants as step
 use Rattle.world_model.specs.rules.Event as event
-use Rattle.world_model.specs.rules.Event.{Event, Entry}
+use Rattle.world_model.specs.rules.Event.{Event}
 use Rattle.site_partitions.specs.Answers.{Any}
 use Rattle.site_partitions.specs.Reaches.{types_of}
 use Rattle.cluster.proofs.Seeing.{calls_here, exact_on, called_same, failed_line, error_stays, fault_of, may_here}

@@ -1,7 +1,7 @@
 use Rattle.std.proofs.Common.{◌≤◌, length, sym, ap, ◌∙◌, subst}
 use Rattle.dc_engine.specs.Held.{HasOut}
 use Rattle.dc_engine.specs.Makers.{ReturnsAll}
-use Rattle.dc_engine.proofs.commands.Returned.{few_in, enough_in, returns_some, returns_none}
+use Rattle.dc_engine.proofs.commands.Returned.{few_in, enough_in, returns_some}
 use Rattle.dc_engine.proofs.player.Player.give_back.Goals as goal
 
 pub give_back_all-requires-clause-few : goal.give_back_all-requires-clause-few

@@ -1,4 +1,4 @@
-use Rattle.std.proofs.Common.{◌∙◌, arith}
+use Rattle.std.proofs.Common.{arith}
 use Rattle.dc_engine.proofs.commands.Making.{unchanged_both, rose_later}
 use Rattle.dc_engine.proofs.bytes.Moves.{moves_on, moves_rest, moves_before}
 use Rattle.dc_engine.proofs.script.lines.answer_lines.Goals as goal

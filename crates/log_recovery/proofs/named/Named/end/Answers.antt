@@ -1,4 +1,4 @@
-use Rattle.std.proofs.Common.{true, None, cond, ap, ◌∙◌}
+use Rattle.std.proofs.Common.{true, cond, ap, ◌∙◌}
 use Rattle.std.specs.HashMap.{get}
 use Rattle.std.specs.HashSet.{contains}
 use Rattle.site_vector.specs.Ids.{same_tx}

@@ -4,7 +4,7 @@ use Rattle.crdt_core.specs.declared.record.Part.{Part}
 use Rattle.crdt_core.specs.KindsOf.{kinds_of}
 use Rattle.partition_log.specs.Codec.{codec_of}
 use Rattle.partition_log.specs.Gates.{gates_of}
-use Rattle.world_model.specs.rules.Event.{AskRead, AskUpdate, Updated}
+use Rattle.world_model.specs.rules.Event.{AskRead}
 use Rattle.world_model.specs.rules.Event as event
 use Rattle.partition_core.specs.Durable.{is_down}
 use Rattle.partition_core.specs.Steps.{Anything}
