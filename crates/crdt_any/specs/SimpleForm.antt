@@ -2,6 +2,8 @@
 use Rattle.std.proofs.Common.{◌≡◌, ℕ, Bool, true, false, ◌&&◌, ◌||◌, List, refl}
 use Rattle.std.specs.Prelude.{ℤ, is_some}
 use Rattle.std.proofs.lemmas.Bool.{false≢true}
+use Rattle.std.specs.List.{list_all}
+use Rattle.field_codec.specs.Spelling.{is_text}
 use Rattle.field_codec.specs.Reading.{Read, mapped_at}
 use Rattle.field_codec.specs.Lawful.{IsForm}
 use Rattle.field_codec.specs.Tagged.{shape_form}
@@ -20,7 +22,7 @@ use Rattle.crdt_meanings.specs.CounterFat.{fat_has}
 use Rattle.crdt_counters.specs.EffectForm.{is_amount_number, amount_sets, amount_spelling, amount_at, pn_spells, can_put_fat, keeps_fat, fat_sets, is_fat_spelled, fat_spelling, fat_at, fat_spells, pn_named, fat_named}
 use Rattle.crdt_meanings.specs.SetGo as set
 use Rattle.crdt_meanings.specs.Sets.{set_has}
-use Rattle.crdt_sets.specs.EffectForm.{can_put_texts, keeps_texts, are_texts_spelled, texts_spelling, texts_at, texts_sets, set_sets, go_spells as set_go_spells, can_put_set, keeps_set, is_set_spelled, set_spelling, set_at, set_spells, go_named as set_go_lies, set_named}
+use Rattle.crdt_sets.specs.EffectForm.{can_put_texts, are_texts_spelled, texts_spelling, texts_at, texts_sets, set_sets, go_spells as set_go_spells, can_put_set, keeps_set, is_set_spelled, set_spelling, set_at, set_spells, go_named as set_go_lies, set_named}
 use Rattle.crdt_meanings.specs.Flags as flags
 use Rattle.crdt_flags.specs.EffectForm.{can_put_flag, keeps_flag, flag_sets, is_flag_spelled, flag_spelling, flag_at, flag_spells, flag_named}
 use Rattle.crdt_meanings.specs.RegisterLww.{lww_has}
@@ -56,7 +58,7 @@ simple_can_put (effect.RegisterMv e) = can_put_mv e
 abbrev pub simple_keeps : SimpleEffect → Bool
 simple_keeps (effect.CounterPn e) = true
 simple_keeps (effect.CounterFat e) = keeps_fat e
-simple_keeps (effect.SetGo e) = keeps_texts e
+simple_keeps (effect.SetGo e) = list_all is_text e
 simple_keeps (effect.SetAw e) = keeps_set e
 simple_keeps (effect.SetRw e) = keeps_set e
 simple_keeps (effect.FlagEw e) = keeps_flag e

@@ -34,9 +34,6 @@ has_some (x ∷ xs) = true
 abbrev pub can_put_texts : List (List ℕ) → Bool
 can_put_texts ts = has_some ts && are_members (is_below text_cmp) (λ t. true) ts
 
-abbrev pub keeps_texts : List (List ℕ) → Bool
-keeps_texts ts = list_all is_text ts
-
 abbrev pub are_texts_spelled : List (List ℕ) → Bool
 are_texts_spelled ts = has_some ts && is_list (is_below text_cmp) is_text ts
 
@@ -46,7 +43,7 @@ texts_spelling ts = list text ts
 unfoldable pub texts_at : List ℕ → ℕ → Read (List (List ℕ))
 texts_at = checked_at has_some (list_at (is_below text_cmp) text_at)
 
-pub texts_form : IsForm can_put_texts keeps_texts are_texts_spelled texts_spelling texts_at
+pub texts_form : IsForm can_put_texts (list_all is_text) are_texts_spelled texts_spelling texts_at
 unfolding texts_at
 texts_form = checked_form has_some _ _ _ _ (list_form (is_below text_cmp) (λ t. true) is_text text text_at any_text_form)
 
@@ -84,9 +81,6 @@ named_form =
 abbrev pub can_put_list : List Named → Bool
 can_put_list ns = are_members (is_below named_cmp) (λ n. are_dots n.dots) ns
 
-abbrev pub keeps_list : List Named → Bool
-keeps_list ns = list_all keeps_named ns
-
 abbrev pub is_list_spelled : List Named → Bool
 is_list_spelled ns = is_list (is_below named_cmp) is_named ns
 
@@ -96,13 +90,13 @@ list_spelling ns = list named ns
 abbrev pub named_list_at : List ℕ → ℕ → Read (List Named)
 named_list_at = list_at (is_below named_cmp) named_at
 
-pub named_list_form : IsForm can_put_list keeps_list is_list_spelled list_spelling named_list_at
+pub named_list_form : IsForm can_put_list (list_all keeps_named) is_list_spelled list_spelling named_list_at
 named_list_form = list_form (is_below named_cmp) (λ n. are_dots n.dots) is_named named named_at named_form
 
 abbrev pub list_sets : List Named → List (List Dot)
 list_sets ns = flat_map (λ n. n.dots ∷ []) ns
 
-pub some_named_form : IsForm (λ ns. has_some ns && can_put_list ns) keeps_list (λ ns. has_some ns && is_list_spelled ns) list_spelling (checked_at has_some named_list_at)
+pub some_named_form : IsForm (λ ns. has_some ns && can_put_list ns) (list_all keeps_named) (λ ns. has_some ns && is_list_spelled ns) list_spelling (checked_at has_some named_list_at)
 some_named_form = checked_form has_some can_put_list is_list_spelled list_spelling named_list_at named_list_form
 
 -- ---- what is done, and the list: that of an add and of a remove isn't empty
@@ -118,9 +112,9 @@ can_put_set (Remove ns) = has_some ns && can_put_list ns
 can_put_set (Reset ns) = can_put_list ns
 
 abbrev pub keeps_set : SetEffect → Bool
-keeps_set (Add ns) = keeps_list ns
-keeps_set (Remove ns) = keeps_list ns
-keeps_set (Reset ns) = keeps_list ns
+keeps_set (Add ns) = list_all keeps_named ns
+keeps_set (Remove ns) = list_all keeps_named ns
+keeps_set (Reset ns) = list_all keeps_named ns
 
 abbrev pub is_set_spelled : SetEffect → Bool
 is_set_spelled (Add ns) = has_some ns && is_list_spelled ns
@@ -187,7 +181,7 @@ set_sets (Reset ns) = list_sets ns
 abbrev pub is_of_kind : {E : Type 0} → Kind → E → Bool
 is_of_kind k e = true
 
-abbrev pub go_spells : (has : Kind → Bool) → SpellsEffects has is_of_kind can_put_texts keeps_texts are_texts_spelled texts_spelling (λ k. texts_at)
+abbrev pub go_spells : (has : Kind → Bool) → SpellsEffects has is_of_kind can_put_texts (list_all is_text) are_texts_spelled texts_spelling (λ k. texts_at)
 go_spells has = record { form = λ k h. texts_form }
 
 abbrev pub set_spells : (has : Kind → Bool) → SpellsEffects has is_of_kind can_put_set keeps_set is_set_spelled set_spelling (λ k. set_at)

@@ -1,9 +1,11 @@
 ghost use Rattle.std.specs.Prelude.{◌≡◌, IfOk};
 ghost use Rattle.std.specs.FinMap.{empty};
+ghost use Rattle.std.specs.List.{list_all};
+ghost use Rattle.field_codec.specs.Spelling.{is_text};
 ghost use Rattle.crdt_core.specs.Texts.{ascending};
 ghost use Rattle.crdt_meanings.specs.SetMeaning.{go_meaning, added_by};
 ghost use Rattle.crdt_meanings.specs.SetGo.{go_has, go_step, go_made, go_value, has_none};
-ghost use Rattle.crdt_sets.specs.EffectForm.{can_put_texts, keeps_texts, are_texts_spelled, texts_sets, texts_spelling, texts_at, go_spells, go_named};
+ghost use Rattle.crdt_sets.specs.EffectForm.{can_put_texts, are_texts_spelled, texts_sets, texts_spelling, texts_at, go_spells, go_named};
 ghost use Rattle.crdt_meanings.proofs.GoLaw.{go_law, go_in_maps, go_resets};
 ghost use Rattle.crdt_meanings.specs.Without.{no_stamp, no_dot};
 
@@ -50,7 +52,7 @@ impl Crdt for SetGo {
 
     ghost can_put = { can_put_texts };
 
-    ghost keeps = { keeps_texts };
+    ghost keeps = { list_all is_text };
 
     ghost is_spelled = { are_texts_spelled };
 

@@ -1,7 +1,7 @@
 -- Values of several shapes, each behind a tag of one byte.
-use Rattle.std.specs.Prelude.{◌≡◌, ℕ, ◌+◌, ◌^◌, ◌<◌, Bool, true, false, ◌&&◌, ◌||◌, cond, eqb, List, ◌++◌, length, Ok, Err, refl}
+use Rattle.std.specs.Prelude.{◌≡◌, ℕ, ◌+◌, ◌^◌, ◌<◌, Bool, true, ◌&&◌, ◌||◌, cond, eqb, List, ◌++◌, length, Ok, Err, refl}
 use Rattle.std.proofs.Common.{sym, ap, subst, ◌∙◌, length-append, arith}
-use Rattle.std.proofs.lemmas.Bool.{false≢true, eqb-true, eq-eqb}
+use Rattle.std.proofs.lemmas.Bool.{eqb-true, eq-eqb, or_left, or_right}
 use Rattle.field_codec.specs.declared.error.TakeError.TheVariants.{Bad}
 use Rattle.field_codec.specs.Spelling.{number, is_number, Spans}
 use Rattle.field_codec.specs.Reading.{Read, ◌>>=◌, number_at, checked_at, mapped_at}
@@ -15,42 +15,35 @@ tagged_at known reading bytes at = do
   tag ← checked_at known (number_at 1) bytes at
   reading tag.0 bytes tag.1
 
-told_first : (is a b : Bool) → (is && a) ≡ true → (is && (a || b)) ≡ true
-told_first true true b h = refl
-told_first true false b h = absurd (false≢true h)
-told_first false a b h = h
-
-told_second : (is a b : Bool) → (is && b) ≡ true → (is && (a || b)) ≡ true
-told_second true true b h = refl
-told_second true false b h = h
-told_second false a b h = h
-
 -- the values of one shape, by the form of what they are made of
 pub shape_form : {V W : Type 0} {keeps : V → Bool} {made_keeps : W → Bool} (is : W → Bool) (made : V → W) (fits is_spelled : V → Bool) (spelling : V → List ℕ) (reading : List ℕ → ℕ → Read V) (made_fits made_is_spelled : W → Bool) (made_spelling : W → List ℕ)
     → ((v : V) → (is (made v) && made_fits (made v)) ≡ fits v) → ((v : V) → made_keeps (made v) ≡ keeps v) → ((v : V) → (is (made v) && made_is_spelled (made v)) ≡ is_spelled v) → ((v : V) → made_spelling (made v) ≡ spelling v)
     → ((w : W) → (is w && (made_fits w || made_is_spelled w)) ≡ true → (v : V) × (made v ≡ w)) → IsForm fits keeps is_spelled spelling reading
     → IsForm (λ w. is w && made_fits w) made_keeps (λ w. is w && made_is_spelled w) made_spelling (mapped_at made reading)
-shape_form {V} {W} {made_keeps = made_keeps} is made fits is_spelled spelling reading made_fits made_is_spelled made_spelling same_fits same_keeps same_spelled same_spelling shape form = record {
-  found = λ bytes at w end ok within h.
-      let a = bind_ok (reading bytes at) (λ v. Ok (made v.0, v.1)) (w, end) h in
-      let f = form.found bytes at a.0.0 a.0.1 ok within a.1 in
-      subst (λ (y : W × ℕ). ((is y.0 && made_is_spelled y.0) ≡ true) × Spans bytes at (made_spelling y.0) y.1) (ok_is (made a.0.0, a.0.1) (w, end) a.2)
-      (same_spelled a.0.0 ∙ f.0, subst (λ s. Spans bytes at s a.0.1) (sym (same_spelling a.0.0)) f.1);
-  again = λ bytes at w end good spans.
-      let s = shape w (told_second (is w) (made_fits w) (made_is_spelled w) good) in
-      let spelled = sym (same_spelled s.0) ∙ ap (λ x. is x && made_is_spelled x) s.1 ∙ good in
-      let here = subst (λ l. Spans bytes at l end) (sym (ap made_spelling s.1) ∙ same_spelling s.0) spans in
-      ap (λ r. r >>= λ v. Ok (made v.0, v.1)) (form.again bytes at s.0 end spelled here) ∙ ap (λ x. Ok (x, end)) s.1;
-  fit = λ w good.
-      let s = shape w (told_second (is w) (made_fits w) (made_is_spelled w) good) in
-      ap (λ x. is x && made_fits x) (sym s.1) ∙ same_fits s.0 ∙ form.fit s.0 (sym (same_spelled s.0) ∙ ap (λ x. is x && made_is_spelled x) s.1 ∙ good);
-  all = λ w can kept short.
-      let s = shape w (told_first (is w) (made_fits w) (made_is_spelled w) can) in
-      let small = subst (λ l. length l < 2 ^ 32) (ap made_spelling (sym s.1) ∙ same_spelling s.0) short in
-      ap (λ x. is x && made_is_spelled x) (sym s.1) ∙ same_spelled s.0 ∙ form.all s.0 (sym (same_fits s.0) ∙ ap (λ x. is x && made_fits x) s.1 ∙ can) (sym (same_keeps s.0) ∙ ap made_keeps s.1 ∙ kept) small;
-  ends = λ bytes at far. ap (λ r. r >>= λ v. Ok (made v.0, v.1)) (form.ends bytes at far);
-  tells = mapped_tells made reading form.tells;
-}
+shape_form {V} {W} {made_keeps = made_keeps} is made fits is_spelled spelling reading made_fits made_is_spelled made_spelling same_fits same_keeps same_spelled same_spelling shape form =
+    let shaped : (w : W) → (is w && made_is_spelled w) ≡ true → (v : V) × (made v ≡ w) = λ w good.
+    let p = both_true (is w) (made_is_spelled w) good in shape w (and_true (is w) (made_fits w || made_is_spelled w) p.0 (or_right (made_fits w) (made_is_spelled w) p.1)) in record {
+      found = λ bytes at w end ok within h.
+          let a = bind_ok (reading bytes at) (λ v. Ok (made v.0, v.1)) (w, end) h in
+          let f = form.found bytes at a.0.0 a.0.1 ok within a.1 in
+          subst (λ (y : W × ℕ). ((is y.0 && made_is_spelled y.0) ≡ true) × Spans bytes at (made_spelling y.0) y.1) (ok_is (made a.0.0, a.0.1) (w, end) a.2)
+          (same_spelled a.0.0 ∙ f.0, subst (λ s. Spans bytes at s a.0.1) (sym (same_spelling a.0.0)) f.1);
+      again = λ bytes at w end good spans.
+          let s = shaped w good in
+          let spelled = sym (same_spelled s.0) ∙ ap (λ x. is x && made_is_spelled x) s.1 ∙ good in
+          let here = subst (λ l. Spans bytes at l end) (sym (ap made_spelling s.1) ∙ same_spelling s.0) spans in
+          ap (λ r. r >>= λ v. Ok (made v.0, v.1)) (form.again bytes at s.0 end spelled here) ∙ ap (λ x. Ok (x, end)) s.1;
+      fit = λ w good.
+          let s = shaped w good in
+          ap (λ x. is x && made_fits x) (sym s.1) ∙ same_fits s.0 ∙ form.fit s.0 (sym (same_spelled s.0) ∙ ap (λ x. is x && made_is_spelled x) s.1 ∙ good);
+      all = λ w can kept short.
+          let p = both_true (is w) (made_fits w) can in
+          let s = shape w (and_true (is w) (made_fits w || made_is_spelled w) p.0 (or_left (made_fits w) (made_is_spelled w) p.1)) in
+          let small = subst (λ l. length l < 2 ^ 32) (ap made_spelling (sym s.1) ∙ same_spelling s.0) short in
+          ap (λ x. is x && made_is_spelled x) (sym s.1) ∙ same_spelled s.0 ∙ form.all s.0 (sym (same_fits s.0) ∙ ap (λ x. is x && made_fits x) s.1 ∙ can) (sym (same_keeps s.0) ∙ ap made_keeps s.1 ∙ kept) small;
+      ends = λ bytes at far. ap (λ r. r >>= λ v. Ok (made v.0, v.1)) (form.ends bytes at far);
+      tells = mapped_tells made reading form.tells;
+    }
 
 -- values within a test, made of others: parts tells of what
 pub within_form : {V W : Type 0} {keeps : V → Bool} (made : V → W) (parts : W → V) (test : W → Bool) (fits is_spelled : V → Bool) (spelling : V → List ℕ) (reading : List ℕ → ℕ → Read V)
