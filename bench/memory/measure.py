@@ -5,7 +5,8 @@
 
 PROGRAM is crates/dc_shell/out/dc_shell, which `rt run` in crates/dc_shell leaves there, and SCRIPT is script.txt beside
 this file, which uses each command, each kind, crashes, a fuse and restarts. Where an allocation fails the program has
-to end with status 5 and one line on standard error, and what it wrote has to be a front of what it writes with memory.
+to end with status 5 and one line on standard error, and what it wrote has to be a front of what it writes with memory:
+whole lines, no fewer than where an earlier allocation fails, and all but the last one where the last allocation does.
 Prints how many runs did so, and each that didn't; ends with 1 if there was one. `cc` compiles what makes them fail."""
 import os
 import subprocess
@@ -73,14 +74,16 @@ def play(environment):
         return subprocess.run([PROGRAM, "play"], stdin=source, capture_output=True, env=environment)
 
 
-def is_fine(run, whole):
-    """Whether a run ended for want of memory, and wrote a front of the whole."""
-    return run.returncode == NO_MEMORY and run.stderr == TOLD and whole.startswith(run.stdout)
+def is_fine(run, whole, before):
+    """Whether a run ended for want of memory, and wrote lines at the front of the whole, at least so many bytes."""
+    ended = run.returncode == NO_MEMORY and run.stderr == TOLD
+    front = whole.startswith(run.stdout) and run.stdout[-1:] in (b"", b"\n")
+    return ended and front and before <= len(run.stdout)
 
 
 def main():
     whole = play(dict(os.environ))
-    failed, wrong = 0, 0
+    failed, wrong, before = 0, 0, 0
     with tempfile.TemporaryDirectory() as folder:
         seen = os.path.join(folder, "seen")
         environment = dict(os.environ, LD_PRELOAD=build(folder), FAIL_SEEN=seen)
@@ -90,9 +93,13 @@ def main():
                 break
             os.remove(seen)
             failed += 1
-            if not is_fine(run, whole.stdout):
+            if not is_fine(run, whole.stdout, before):
                 wrong += 1
                 print("allocation %d: status %d, %d bytes, %r" % (at, run.returncode, len(run.stdout), run.stderr))
+            before = len(run.stdout)
+    if whole.stdout.count(b"\n", before) != 1:
+        wrong += 1
+        print("where the last allocation fails, %d of %d bytes are written" % (before, len(whole.stdout)))
     print("%d bytes of replies; %d allocations failed, %d of them otherwise" % (len(whole.stdout), failed, wrong))
     sys.exit(1 if wrong or not failed else 0)
 
