@@ -72,11 +72,10 @@ pub(crate) fn put_hex(out: &mut String, bytes: &[u8]) -> Result<(), AllocError> 
     Ok(())
 }
 
-/// Adds why a reading refused.
+/// Adds why a reading refused, in the words of its error.
 pub(crate) fn put_refusal(out: &mut String, error: TakeError) -> Result<(), AllocError> {
     match error {
-        TakeError::Short { at } => write!(out, "short at {at}"),
-        TakeError::Bad { at } => write!(out, "bad at {at}"),
         TakeError::NoMemory => Err(AllocError),
+        refused => write!(out, "{refused}"),
     }
 }
