@@ -8,3 +8,4 @@ pub mod Meanings
 pub mod Simple
 pub mod SimpleForm
 pub mod SimpleLaws
+pub mod TypesHold

@@ -7,6 +7,7 @@ ghost use Rattle.crdt_core.specs.Seen.{Update};
 ghost use Rattle.crdt_meanings.specs.Shows.{plain_meaning};
 ghost use Rattle.crdt_any.specs.Depth.{leads_past};
 ghost use Rattle.crdt_any.specs.Meanings.{HasMeanings};
+ghost use Rattle.crdt_any.specs.TypesHold.{TypesHold};
 
 use crate::{Any, Layer};
 use crdt_core::Crdt;
@@ -25,4 +26,11 @@ pub fn law_any()
 pub fn law_meanings<I: Crdt>()
     ensures kinds { HasMeanings I.has I.meaning ⟦<Layer<I> as Crdt>⟧.meaning }
     ensures plain { (k : Kind) (us : List Update) → is_map k ≡ false → ⟦<Layer<I> as Crdt>⟧.meaning k us ≡ plain_meaning k us }
+{}
+
+/// What types hold of the effects of each kind of a layer, beside what `put_effect` asks, by the definition of its crate:
+/// that texts are texts and sets of updates in order. What can be put and is held so has a spelling (`law_effects`).
+#[tactic(auto, using(crate::specs::TypesHold::layer_types_hold))]
+pub fn law_types<I: Crdt>()
+    ensures { TypesHold I.keeps ⟦<Layer<I> as Crdt>⟧.keeps }
 {}

@@ -14,7 +14,7 @@ mod simple_state;
 mod state;
 
 pub use effect::LayerEffect;
-pub use laws::{law_any, law_meanings};
+pub use laws::{law_any, law_meanings, law_types};
 pub use layer::Layer;
 pub use nothing::Nothing;
 pub use simple::Simple;

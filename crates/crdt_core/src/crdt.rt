@@ -83,7 +83,8 @@ pub trait Crdt {
     /// them so.
     ghost can_put: { Self.Effect → Bool };
 
-    /// What the types of its parts hold of an effect besides: that texts are texts, and sets of updates in order.
+    /// What the types of its parts hold of an effect besides: that texts are texts, and sets of updates in order. What
+    /// it is of each kind, `law_types` of crdt_any says.
     ghost keeps: { Self.Effect → Bool } = { λ _. true };
 
     /// What has a spelling. Of what can be put, all has one whose bytes are fewer than 2^32 (`all` of each form).

@@ -28,8 +28,8 @@ pub fn law_forms()
 
 /// The same of the effects of each kind that a type has: reading answers an effect of the kind and the place after it
 /// exactly where its spelling stands at the place, each refusal means what it says, and no spelling begins that of
-/// another of the kind. What can be put has a spelling but where that would be 2^32 bytes or more. An effect names
-/// exactly the updates in the sets that stand in its bytes.
+/// another of the kind. What can be put, and is held as types hold it (`keeps`), has a spelling but where that would be
+/// 2^32 bytes or more. An effect names exactly the updates in the sets that stand in its bytes.
 pub fn law_effects<C: Crdt>()
     ensures form { (k : Kind) → C.has k ≡ true → IsForm (λ e. C.is_of k e && C.can_put e) C.keeps (λ e. C.is_of k e && C.is_spelled e) C.spelling (C.reading k) }
     ensures named { NamesAreSpelled C.can_put C.names C.sets C.spelling }

@@ -10,8 +10,8 @@ ghost use Rattle.log_records.specs.Whole.{ReadsWhole};
 use crdt_core::Crdt;
 
 /// Reading answers a message and the place after it exactly where its spelling stands at the place, each refusal means
-/// what it says, and no spelling begins that of another. What can be put has a spelling but where that would be 2^32 bytes or
-/// more. The parts of one from a site stand in the order of that site's stream.
+/// what it says, and no spelling begins that of another. What can be put, and is held as types hold it, has a spelling
+/// but where that would be 2^32 bytes or more. The parts of one from a site stand in the order of that site's stream.
 pub fn law_messages<C: Crdt>()
     ensures form { IsForm (can_put_message C.has C.is_of C.can_put) (keeps_message C.keeps) (is_message_spelled C.has C.is_of C.is_spelled) (message C.spelling) (message_at C.has C.reading) }
     ensures apart { IsPrefixFree (is_message_spelled C.has C.is_of C.is_spelled) (message C.spelling) }
