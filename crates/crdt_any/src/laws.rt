@@ -20,16 +20,17 @@ pub fn law_any()
     ensures fits { (k : Kind) (p : List Field) (a : Act) → fits k p a ≡ true → ⟦<Any as Crdt>⟧.too_deep k p ≡ false }
 {}
 
-/// What each kind of a layer means, by the definition of its crate: the fields of a map mean what they mean in the layer
-/// within. What the laws of acts say of kinds without fields (`plain_meaning`) is said of these meanings.
+/// What each kind of a layer means, by the definition of its crate: the fields of a map mean what they mean in the
+/// layer within. What the laws of acts say of kinds without fields (`plain_meaning`) is said of these meanings.
 #[tactic(auto, using(crate::specs::Meanings::layer_meanings, crate::specs::Meanings::layer_plain))]
 pub fn law_meanings<I: Crdt>()
     ensures kinds { HasMeanings I.has I.meaning ⟦<Layer<I> as Crdt>⟧.meaning }
     ensures plain { (k : Kind) (us : List Update) → is_map k ≡ false → ⟦<Layer<I> as Crdt>⟧.meaning k us ≡ plain_meaning k us }
 {}
 
-/// What types hold of the effects of each kind of a layer, beside what `put_effect` asks, by the definition of its crate:
-/// that texts are texts and sets of updates in order. What can be put and is held so has a spelling (`law_effects`).
+/// What types hold of the effects of each kind of a layer beside what `put_effect` asks, by the definition of its
+/// crate: that texts are texts, and sets of updates in order. What can be put and is held so has a spelling
+/// (`law_effects`).
 #[tactic(auto, using(crate::specs::TypesHold::layer_types_hold))]
 pub fn law_types<I: Crdt>()
     ensures { TypesHold I.keeps ⟦<Layer<I> as Crdt>⟧.keeps }

@@ -18,8 +18,8 @@ pub fn law_messages<C: Crdt>()
     ensures order { (site : ℕ) (p q : Part C.Effect) → 0 < site → part_cmp site p q ≡ stream_cmp site p q }
 {}
 
-/// The same of records. Bytes are a record exactly where they are its spelling, and are else damaged at one place: that of a
-/// field that is refused, that of the first byte behind a record, or 0 where they end too early.
+/// The same of records. Bytes are a record exactly where they are its spelling, and are else damaged at one place: that
+/// of a field that is refused, that of the first byte behind a record, or 0 where they end too early.
 pub fn law_records<C: Crdt>()
     ensures form { IsForm (can_put_record C.has C.is_of C.can_put) (keeps_record C.keeps) (is_record_spelled C.has C.is_of C.is_spelled) (record_bytes C.spelling) (record_at C.has C.reading) }
     ensures apart { IsPrefixFree (is_record_spelled C.has C.is_of C.is_spelled) (record_bytes C.spelling) }
