@@ -222,7 +222,7 @@ fn texts_in(
 ) -> Result<ListOf<Text>, AllocError>
     ensures { IfOk result (λ l. l ≡ map.keys (map.from_entries {R = text_cmp} elements.now.entries)) }
 {
-    let mut texts = ListOf::new(alloc);
+    let mut texts = ListOf::with_capacity(alloc, elements.len())?;
     for text in elements.keys() {
         texts.push(text.copy(alloc)?)?;
     }
@@ -236,7 +236,7 @@ fn shown_in(
 ) -> Result<ListOf<Text>, AllocError>
     ensures { IfOk result (λ l. l ≡ spec.passing (spec.shows removes_win) (map.from_entries elements.now.entries)) }
 {
-    let mut texts = ListOf::new(alloc);
+    let mut texts = ListOf::with_capacity(alloc, elements.len())?;
     for (text, kept) in elements.iter() {
         if shows(removes_win, kept) {
             texts.push(text.copy(alloc)?)?;

@@ -120,7 +120,7 @@ pub fn copy_set(alloc: Global, set: &TextSet) -> Result<TextSet, AllocError>
 pub fn copy_texts(alloc: Global, texts: &[Text]) -> Result<ListOf<Text>, AllocError>
     ensures { IfOk result (λ l. l ≡ texts.now) }
 {
-    let mut copied = ListOf::new(alloc);
+    let mut copied = ListOf::with_capacity(alloc, texts.len())?;
     for text in texts {
         copied.push(text.copy(alloc)?)?;
     }
@@ -130,7 +130,7 @@ pub fn copy_texts(alloc: Global, texts: &[Text]) -> Result<ListOf<Text>, AllocEr
 fn list_of(alloc: Global, texts: &BTreeSet<Text>) -> Result<ListOf<Text>, AllocError>
     ensures { IfOk result (λ l. l ≡ ascending texts.now.keys) }
 {
-    let mut list = ListOf::new(alloc);
+    let mut list = ListOf::with_capacity(alloc, texts.len())?;
     for text in texts.iter() {
         list.push(text.copy(alloc)?)?;
     }

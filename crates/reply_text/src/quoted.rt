@@ -8,12 +8,11 @@ use crate::bytes::{put, put_byte};
 use script_words::is_plain;
 use std::alloc::{AllocError, Global};
 
-/// Adds the bytes between quotes, with memory taken once.
+/// Adds the bytes between quotes.
 fn put_between(out: &mut Vec<u8>, bytes: &[u8]) -> Result<(), AllocError>
     ensures ok { OnOk result (out.new.items ≡ out.old.items ++ (codes "\"" ++ (bytes.now ++ codes "\""))) }
     ensures err { OnErr result (Begins out.old.items out.new.items) }
 {
-    out.reserve(bytes.len() + 2)?;
     put_byte(out, b'"')?;
     put(out, bytes)?;
     put_byte(out, b'"')

@@ -17,6 +17,9 @@ use script_words::kind_name;
 use std::alloc::{AllocError, Global};
 use std::collections::{BTreeMap, LinkedList};
 
+/// The bytes that most values of fields take.
+const MOST_OF_A_VALUE: usize = 32;
+
 /// Adds a text of an array, after a comma where something stands before.
 fn put_item(alloc: Global, out: &mut Vec<u8>, later: bool, item: &Text) -> Result<(), AllocError>
     ensures ok { OnOk result (out.new.items ≡ out.old.items ++ ((if later then codes "," else []) ++ quoted item.now)) }
@@ -51,9 +54,11 @@ fn put_array(alloc: Global, out: &mut Vec<u8>, items: &[Text]) -> Result<(), All
 fn name_of(alloc: Global, field: &Field) -> Result<String, AllocError>
     ensures { IfOk result (λ s. string_bytes s ≡ member_name field.now) }
 {
-    let mut name = String::from_str(alloc, kind_name(field.kind))?;
+    let (kind, field) = (kind_name(field.kind), field.name.as_str());
+    let mut name = String::with_capacity(alloc, kind.len() + 1 + field.len())?;
+    name.push_str(kind)?;
     name.push(':')?;
-    name.push_str(field.name.as_str())?;
+    name.push_str(field)?;
     Ok(name)
 }
 
@@ -116,7 +121,7 @@ fn members_of(
     let mut members = BTreeMap::new(alloc);
     for (field, value) in fields {
         let name = name_of(alloc, field)?;
-        let mut text = Vec::new(alloc);
+        let mut text = Vec::with_capacity(alloc, MOST_OF_A_VALUE)?;
         put_value(alloc, &mut text, value)?;
         members.insert(name, text)?;
     }
