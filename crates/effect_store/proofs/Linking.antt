@@ -3,6 +3,7 @@ use Rattle.std.proofs.Common.{◌≡◌, ℕ, zero, suc, ◌+◌, ◌<◌, ◌�
 use Rattle.std.specs.List.{filter, slice_get}
 use Rattle.std.proofs.lemmas.List.{length-append}
 use Rattle.std.specs.Ordering.{nat_cmp, ordering_then}
+use Rattle.site_vector.specs.Vector.{sum}
 use Rattle.crdt_core.specs.declared.record.Part.{Part}
 use Rattle.crdt_core.specs.declared.record.Upd.{Upd}
 use Rattle.crdt_core.specs.Orders.{is_less, fold_cmp}
@@ -62,6 +63,24 @@ module _ {E : Type 0} (xs : List (Spot E)) (parts : List (Part E)) (entries : Li
       let r = entry_spot_at k e there.0 g there.1 in
       (there.0, there.1, r.0, r.1)
 
+  total_same : (a e : Entry) (x p : Part E) → a ≡ e → slice_get parts a.part ≡ Some x → a.total ≡ sum x.c → slice_get parts e.part ≡ Some p → e.total ≡ sum p.c
+  total_same a e x p h f t g =
+      let P : Entry → Type 0 = λ z. (slice_get parts z.part ≡ Some x) × (z.total ≡ sum x.c) in
+      let m = subst P h (f, t) in
+      let there : slice_get parts e.part ≡ Some x = m.0 in
+      let same : x ≡ p = cc in
+      m.1 ∙ ap (λ (z : Part E). sum z.c) same
+
+  -- an entry has the sum of its part's commit vector
+  pub entry_total : (k : ℕ) (e : Entry) → slice_get entries k ≡ Some e → (p : Part E) → slice_get parts e.part ≡ Some p → e.total ≡ sum p.c
+  entry_total k e g p f =
+      let v : k < length entries = get_in entries k e g in
+      let q = is_there xs k (omega (arith, s.many)) in
+      let r = s.located k q.0 q.1 in
+      let there : slice_get entries k ≡ Some r.entry = r.there in
+      let same : r.entry ≡ e = cc in
+      total_same r.entry e q.0.part p same r.part r.total f
+
   pub find_start : (x : Spot E) (a t : ℕ) → t ≡ tag_of x → a ≡ or_none (last t) → IsWalk tag_of later xs x a
   find_start x a t h e = rw (e, h) (walk_start tag_of later xs back (λ i. or_none (last i)) x s.behind)
 
@@ -105,7 +124,7 @@ module _ {E : Type 0} (xs : List (Spot E)) (parts : List (Part E)) (entries : Li
       let k2 : Hooked back back' last last' c (tag_of x) (length xs) a = rw (← at) k in
       record {
         located = λ j q e. elim (get_push_cases xs x j q e) [
-          | inl o ↦ (let r = s.located j q o in record { entry = r.entry; there = kept j r.entry r.there; part = r.part; at = r.at; update = r.update })
+          | inl o ↦ (let r = s.located j q o in record { entry = r.entry; there = kept j r.entry r.there; part = r.part; at = r.at; update = r.update; total = r.total })
           | inr o ↦ rw (o.0, o.1, ← at) entry
         ];
         many = rw longer (simp length-append (omega (arith, s.many)));
@@ -121,24 +140,25 @@ module _ {E : Type 0} where
   linked_by xs xs' parts entries next back first last e s = rw e s
 
   -- the next update of a part is linked
-  pub linked_next : (parts : List (Part E)) (place n : ℕ) (p : Part E) (u : Upd E) (entries entries' : List Entry) (next next' back back' : List ℕ) (first first' last last' : ℕ → Option ℕ) (a c own t : ℕ) (links : List ℕ)
+  pub linked_next : (parts : List (Part E)) (place n : ℕ) (p : Part E) (u : Upd E) (entries entries' : List Entry) (next next' back back' : List ℕ) (first first' last last' : ℕ → Option ℕ) (a c own t m : ℕ) (links : List ℕ)
       → IsLinked (spots_to parts place n) parts entries next back first last
       → IsApart earlier parts → length entries ≤ none → own ≡ length entries
       → slice_get parts place ≡ Some p → slice_get p.updates n ≡ Some u → t ≡ tag_of_object u.object
-      → entries' ≡ entries ++ record { part = place; at = n } ∷ []
+      → m ≡ sum p.c → entries' ≡ entries ++ record { part = place; at = n; total = m } ∷ []
       → Points (spots_to parts place n) a (filter (after tag_of later (spot p n u)) (arranged later (spots_to parts place n)))
       → links ≡ next → (a < length links → c ≡ get_or links a none) → (length links ≤ a → c ≡ or_none (first t))
       → Hooked next next' first first' a t own c → Hooked back back' last last' c t own a
       → IsLinked (spots_to parts place (n + 1)) parts entries' next' back' first' last'
-  linked_next parts place n p u entries entries' next next' back back' first first' last last' a c own t links s apart small len there at tag grown points same f g h k =
+  linked_next parts place n p u entries entries' next next' back back' first first' last last' a c own t m links s apart small len there at tag total grown points same f g h k =
       let xs : List (Spot E) = spots_to parts place n in
       let here : own ≡ length xs = omega (arith, s.many) in
       let entry : IsEntry parts entries' own (spot p n u) = record {
-        entry = record { part = place; at = n };
-        there = rw (grown, len) (get_pushed entries (record { part = place; at = n }));
+        entry = record { part = place; at = n; total = m };
+        there = rw (grown, len) (get_pushed entries (record { part = place; at = n; total = m }));
         part = there;
         at = refl;
         update = at;
+        total = total;
       } in
       let f2 : a < length next → c ≡ get_or next a none = rw same at f in
       let g2 : length next ≤ a → c ≡ or_none (first (tag_of (spot p n u))) = rw (same, tag) at g in
@@ -146,7 +166,7 @@ module _ {E : Type 0} where
       let k2 : Hooked back back' last last' c (tag_of (spot p n u)) own a = rw tag at k in
       linked_by (xs ++ spot p n u ∷ []) (spots_to parts place (n + 1)) parts entries' next' back' first' last' (spots_to-more parts place n p u there at)
       (linked_more xs parts entries next back first last s entries' next' back' first' last' (spot p n u) a c own (omega (arith, s.many)) here (spots_to-fresh parts place n p u apart there)
-      entry (λ j e z. rw grown (get_push entries (record { part = place; at = n }) j e z)) (rw grown (simp length-append (omega arith))) points f2 g2 h2 k2)
+      entry (λ j e z. rw grown (get_push entries (record { part = place; at = n; total = m }) j e z)) (rw grown (simp length-append (omega arith))) points f2 g2 h2 k2)
 
   -- an update that was read of a part that was read
   pub update_read : (parts : List (Part E)) (place n : ℕ) (p q : Part E) (us : List (Upd E)) (u : Upd E) → slice_get parts place ≡ Some q → n < length q.updates → slice_get parts place ≡ Some p → us ≡ p.updates → ((n < length us) → slice_get us n ≡ Some u) → slice_get p.updates n ≡ Some u

@@ -35,7 +35,7 @@ module _ {E : Type 0} where
 
   linked_push : (xs : List (Spot E)) (parts : List (Part E)) (p : Part E) (l : Links) → AreLinks xs parts l → AreLinks xs (parts ++ p ∷ []) l
   linked_push xs parts p l s = record {
-    located = λ k x e. (let r = s.located k x e in record { entry = r.entry; there = r.there; part = get_push parts p r.entry.part x.part r.part; at = r.at; update = r.update });
+    located = λ k x e. (let r = s.located k x e in record { entry = r.entry; there = r.there; part = get_push parts p r.entry.part x.part r.part; at = r.at; update = r.update; total = r.total });
     many = s.many;
     apart = s.apart;
     ahead = s.ahead;
@@ -62,7 +62,7 @@ module _ {E : Type 0} where
 
   linked_same : (parts : List (Part E)) (l l' : Links) → AreSame l l' → AreLinks (spots parts) parts l → AreLinks (spots parts) parts l'
   linked_same parts l l' a s = record {
-    located = λ k x e. (let r = s.located k x e in record { entry = r.entry; there = rw a.entries r.there; part = r.part; at = r.at; update = r.update });
+    located = λ k x e. (let r = s.located k x e in record { entry = r.entry; there = rw a.entries r.there; part = r.part; at = r.at; update = r.update; total = r.total });
     many = rw a.entries s.many;
     apart = s.apart;
     ahead = record { ordered = s.ahead.ordered; linked = rw a.next s.ahead.linked; headed = λ i. points_same (spots parts) _ _ _ (ap or_none (a.first i)) (s.ahead.headed i) };

@@ -2,6 +2,7 @@
 use Rattle.std.specs.Prelude.{◌≡◌, ℕ, ◌+◌, ◌≤◌, List, [], length, Option, Some, None, nat_eq, vec_len, vec_capacity}
 use Rattle.std.specs.List.{slice_get}
 use Rattle.std.specs.HashMap.{get, spare}
+use Rattle.site_vector.specs.Vector.{sum}
 use Rattle.crdt_core.specs.declared.record.Upd.{Upd}
 use Rattle.crdt_core.specs.declared.record.Part.{Part}
 use Rattle.effect_store.specs.declared.links.Entry.{Entry}
@@ -17,13 +18,14 @@ module _ {E : Type 0} where
   abbrev pub spot : Part E → ℕ → Upd E → Spot E
   spot p n u = record { part = p; at = n; update = u }
 
-  -- the entry at a place names the update
+  -- the entry at a place names the update, and has the sum of its part's commit vector
   pub record IsEntry (parts : List (Part E)) (entries : List Entry) (k : ℕ) (x : Spot E) : Type 0 where
     pub entry : Entry
     pub there : slice_get entries k ≡ Some entry
     pub part : slice_get parts entry.part ≡ Some x.part
     pub at : entry.at ≡ x.at
     pub update : slice_get x.part.updates x.at ≡ Some x.update
+    pub total : entry.total ≡ sum x.part.c
 
   -- the updates xs have entries, and their links tell of each the next and the one before
   pub record IsLinked (xs : List (Spot E)) (parts : List (Part E)) (entries : List Entry) (next back : List ℕ) (first last : ℕ → Option ℕ) : Type 0 where

@@ -19,11 +19,13 @@ use std::collections::HashMap;
 /// No place.
 pub(crate) const NONE: u32 = u32::MAX;
 
-/// Where an update stands: the place of its part, and its own place in that part's list.
+/// Where an update stands: the place of its part, and its own place in that part's list. Beside it the sum of the part's
+/// commit vector, by which a walk tells most updates apart without a look at their parts.
 #[derive(Clone, Copy, Debug)]
 pub(crate) struct Entry {
     pub(crate) part: u32,
     pub(crate) at: u32,
+    pub(crate) total: u128,
 }
 
 /// The updates in the order in which they came, and of each the next of its tag in fold order and the one before.
@@ -94,6 +96,7 @@ fn comes_before<E>(p: &Part<E>, i: u32, q: &Part<E>, total: u128, j: u32) -> boo
 
 /// Whether the update that an entry names comes before that at a place of a part, the sum of whose vector is known: a
 /// walk asks this again and again of one part.
+#[tactic(auto, using(crate::proofs::Ordering::less_sum, crate::proofs::Ordering::greater_sum))]
 pub(crate) fn entry_comes_before<E>(
     parts: &[Part<E>],
     entry: Entry,
@@ -102,10 +105,15 @@ pub(crate) fn entry_comes_before<E>(
     at: u32,
 ) -> bool
     requires there { entry.part < length parts.now }
+    requires known { (q : Part E) → slice_get parts.now entry.part ≡ Some q → entry.total ≡ sum q.c }
     requires total { total ≡ sum part.now.c }
     ensures { (q : Part E) → slice_get parts.now entry.part ≡ Some q → result ≡ is_less (ordering_then (fold_cmp q part.now) (nat_cmp entry.at at)) }
 {
-    comes_before(&parts[entry.part as usize], entry.at, part, total, at)
+    match entry.total.cmp(&total) {
+        Ordering::Less => true,
+        Ordering::Greater => false,
+        Ordering::Equal => comes_before(&parts[entry.part as usize], entry.at, part, total, at),
+    }
 }
 
 /// The place of the last update of the tag that comes before that at a place of a part, or `NONE`: a walk from the newest.
@@ -114,6 +122,7 @@ fn last_before<E>(
     links: &Links,
     place: u32,
     part: &Part<E>,
+    total: u128,
     at: u32,
     update: &Upd<E>,
     tag: u64,
@@ -121,9 +130,9 @@ fn last_before<E>(
     requires linked { AreLinks (spots_to parts.now place at) parts.now links.now }
     requires small { vec_len links.now.entries ≤ none }
     requires tagged { tag ≡ tag_of_object update.now.object }
+    requires total { total ≡ sum part.now.c }
     ensures { Points (spots_to parts.now place at) result (filter (after tag_of later (spot part.now at update.now)) (arranged later (spots_to parts.now place at))) }
 {
-    let total = part.c.sum();
     let mut k = head(&links.last, tag);
     while (k as usize) < links.entries.len() {
         if entry_comes_before(parts, links.entries[k as usize], part, total, at) {
@@ -147,11 +156,16 @@ fn link_update<E>(parts: &[Part<E>], links: &mut Links, place: u32, at: u32)
     let update = &part.updates.as_slice()[at as usize];
     let tag = tag_of(&update.object);
     let own = links.entries.len() as u32;
-    let prior = last_before(parts, links, place, part, at, update, tag);
+    let total = part.c.sum();
+    let prior = last_before(parts, links, place, part, total, at, update, tag);
     let then = behind(links.next.as_slice(), &links.first, prior, tag);
     hook(&mut links.next, &mut links.first, prior, tag, own, then);
     hook(&mut links.back, &mut links.last, then, tag, own, prior);
-    links.entries.push_reserved(Entry { part: place, at });
+    links.entries.push_reserved(Entry {
+        part: place,
+        at,
+        total,
+    });
 }
 
 /// Links the updates of the part at a place: those of the parts before it are linked.

@@ -1,7 +1,7 @@
 use Rattle.std.proofs.Common.{◌<◌, length, sym, ◌∙◌, arith, refl}
 use Rattle.std.proofs.lemmas.Option.{slice_get_read}
 use Rattle.effect_store.proofs.Arranging.{get_in}
-use Rattle.effect_store.proofs.Linking.{entry_spot, before_at, link_read, find_start, find_step, find_end, find_out, find_falls}
+use Rattle.effect_store.proofs.Linking.{entry_spot, entry_total, before_at, link_read, find_start, find_step, find_end, find_out, find_falls}
 use Rattle.effect_store.proofs.links.last_before.Goals as goal
 
 pub loop-k-init : goal.loop-k-init
@@ -13,6 +13,12 @@ entry_comes_before-requires-clause-there g c =
     let there = slice_get_read c.args.links.now.entries.items _ c.loop-k.k _ refl n c.index.ensures in
     let q = entry_spot _ _ _ _ _ _ _ c.requires.linked _ _ there in
     get_in _ _ _ q.2
+
+pub entry_comes_before-requires-clause-known : goal.entry_comes_before-requires-clause-known
+entry_comes_before-requires-clause-known g c =
+    let n : c.loop-k.k < length c.args.links.now.entries.items = omega arith in
+    let there = slice_get_read c.args.links.now.entries.items _ c.loop-k.k _ refl n c.index.ensures in
+    entry_total _ _ _ _ _ _ _ c.requires.linked _ _ there
 
 pub returns-then-entry_comes_before : goal.returns-then-entry_comes_before
 returns-then-entry_comes_before g c =

@@ -2,7 +2,7 @@ use Rattle.std.proofs.Common.{◌≡◌, ◌<◌, length, refl, sym, ◌∙◌, 
 use Rattle.std.specs.HashMap.{get}
 use Rattle.std.proofs.lemmas.Option.{slice_get_read, slice_get-get_or}
 use Rattle.effect_store.proofs.Arranging.{get_in}
-use Rattle.effect_store.proofs.Linking.{entry_spot, before_at}
+use Rattle.effect_store.proofs.Linking.{entry_spot, entry_total, before_at}
 use Rattle.effect_store.proofs.Keeping.{mapped_some, read_of, clear_after, clear_gone}
 use Rattle.effect_store.proofs.newest.forget_update.Goals as goal
 
@@ -13,6 +13,13 @@ entry_comes_before-requires-clause-there g c =
     let there = slice_get_read c.args.links.now.entries.items _ c.in-Some.end _ refl n c.index.ensures in
     let r = entry_spot _ _ _ _ _ _ _ c.requires.fitting.linked _ _ there in
     get_in _ _ _ r.2
+
+pub entry_comes_before-requires-clause-known : goal.entry_comes_before-requires-clause-known
+entry_comes_before-requires-clause-known g c =
+    let m = mapped_some (λ k. k.at) _ c.in-Some.end (sym c.in-Some.is ∙ c.end_of.ensures) in
+    let n : c.in-Some.end < length c.args.links.now.entries.items = (let k = c.requires.within _ m.0 m.1 in let e : m.0.at ≡ c.in-Some.end = m.2 in omega (arith, k, e)) in
+    let there = slice_get_read c.args.links.now.entries.items _ c.in-Some.end _ refl n c.index.ensures in
+    entry_total _ _ _ _ _ _ _ c.requires.fitting.linked _ _ there
 
 pub returns-then-entry_comes_before-clause-clear : goal.returns-then-entry_comes_before-clause-clear
 returns-then-entry_comes_before-clause-clear g c = λ i k z q w v f.
