@@ -8,4 +8,3 @@ pub mod Meanings
 pub mod Simple
 pub mod SimpleForm
 pub mod SimpleLaws
-pub mod TypesHold

@@ -7,7 +7,8 @@ ghost use Rattle.crdt_core.specs.Seen.{Update};
 ghost use Rattle.crdt_meanings.specs.Shows.{plain_meaning};
 ghost use Rattle.crdt_any.specs.Depth.{leads_past};
 ghost use Rattle.crdt_any.specs.Meanings.{HasMeanings};
-ghost use Rattle.crdt_any.specs.TypesHold.{TypesHold};
+ghost use Rattle.crdt_any.specs.declared.effect.LayerEffect.{LayerEffect};
+ghost use Rattle.crdt_any.specs.LayerForm.{layer_keeps};
 
 use crate::{Any, Layer};
 use crdt_core::Crdt;
@@ -28,10 +29,8 @@ pub fn law_meanings<I: Crdt>()
     ensures plain { (k : Kind) (us : List Update) → is_map k ≡ false → ⟦<Layer<I> as Crdt>⟧.meaning k us ≡ plain_meaning k us }
 {}
 
-/// What types hold of the effects of each kind of a layer beside what `put_effect` asks, by the definition of its
-/// crate: that texts are texts, and sets of updates in order. What can be put and is held so has a spelling
-/// (`law_effects`).
-#[tactic(auto, using(crate::specs::TypesHold::layer_types_hold))]
+/// What types hold of the effects of each kind beside what `put_effect` asks (`simple_keeps` lists it): that texts are
+/// texts, and sets of updates in order. What can be put and is held so has a spelling (`law_effects`).
 pub fn law_types<I: Crdt>()
-    ensures { TypesHold I.keeps ⟦<Layer<I> as Crdt>⟧.keeps }
+    ensures { (e : LayerEffect I.Effect) → ⟦<Layer<I> as Crdt>⟧.keeps e ≡ layer_keeps I.keeps e }
 {}
