@@ -37,6 +37,8 @@ pub(crate) struct Player<M: Disks> {
     alloc: Global,
     cluster: Cluster<Objects, M::Disk>,
     met_bad: bool,
+    /// Where each line is read: to make such a place for each line, and to drop it, costs more than its look-ups.
+    parsed: Parsed,
 }
 
 impl<M: Disks> Model for Player<M> {
@@ -61,6 +63,7 @@ impl<M: Disks> Player<M> {
             alloc,
             cluster: Cluster::new(alloc),
             met_bad: false,
+            parsed: Parsed::Nothing,
         }
     }
 
@@ -89,6 +92,7 @@ impl<M: Disks> Player<M> {
             self.alloc,
             &mut self.cluster,
             &mut self.met_bad,
+            &mut self.parsed,
             disks,
             line,
         )
@@ -147,11 +151,12 @@ impl<M: Disks> Responder for Player<M> {
     }
 }
 
-/// The steps that answer a line, by the cluster and by whether a line wasn't in the grammar.
+/// The steps that answer a line, by the cluster and by whether a line wasn't in the grammar. It is read into `parsed`.
 fn answer_to<M: Disks>(
     alloc: Global,
     cluster: &mut Cluster<Objects, M::Disk>,
     met_bad: &mut bool,
+    parsed: &mut Parsed,
     disks: &mut M,
     line: &[u8],
 ) -> Result<Vec<Step>, Unanswered>
@@ -164,9 +169,8 @@ fn answer_to<M: Disks>(
     ensures cause { result ≡ Err Unanswered.NoDisk → Rose (M.state disks.old).faults (M.state disks.new).faults }
     ensures same { OnOk result (IsUnchanged (M.state disks.old) (M.state disks.new)) }
 {
-    let mut parsed = Parsed::Nothing;
-    match reading(alloc, line, &mut parsed) {
-        Ok(()) => match &parsed {
+    match reading(alloc, line, parsed) {
+        Ok(()) => match &*parsed {
             Parsed::Command(command) => obey(alloc, cluster, disks, command),
             Parsed::Nothing => Ok(Vec::new(alloc)),
         },
