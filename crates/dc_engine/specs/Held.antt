@@ -11,12 +11,19 @@ use Rattle.reply_text.specs.Text.{text_of}
 use Rattle.cluster.specs.Built.{is_built}
 use Rattle.cluster.specs.Post.{WholeState}
 use Rattle.cluster.specs.Reached as cluster
+use Rattle.site_partitions.specs.Reaches.{Types}
 use Rattle.dc_engine.specs.ObjectKinds.{Effect, types}
 use Rattle.dc_engine.specs.Reading.{asked_of}
 
 -- a step's line of text
 abbrev pub spelled : ℕ → Step → List ℕ
 spelled number step = text_of step
+
+-- some run of a cluster of these kinds left it so, and of the disks that are out there is one for each partition
+pub record HasOutOf {S E D : Type 0} (t : Types S E D) (out : ℕ) (c : Option (WholeState E D)) : Type 0 where
+  pub run : Run
+  pub left : cluster.Reached t c run
+  pub enough : sites_of run * parts_of run ≤ out
 
 -- a cluster over disks with fuses, if one is made
 abbrev pub Standing : Type 0 → Type 0
@@ -34,8 +41,5 @@ module _ {D : Type 0} (state : D → DiskState) where
     pub answers : Answers is_built (reverse (map asked_of lines)) run
     pub written : bytes ≡ written_lines spelled run
 
-  -- some run left it so, and of the disks that are out there is one for each partition
-  pub record HasOut (out : ℕ) (c : Standing D) : Type 0 where
-    pub run : Run
-    pub left : IsLeft c run
-    pub enough : sites_of run * parts_of run ≤ out
+  abbrev pub HasOut : ℕ → Standing D → Type 0
+  HasOut out c = HasOutOf (types (fused_state state)) out c

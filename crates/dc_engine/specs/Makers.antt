@@ -12,8 +12,7 @@ use Rattle.world_model.specs.declared.step.Step.TheVariants as step
 use Rattle.site_partitions.specs.declared.make.MakeError.{MakeError}
 use Rattle.site_partitions.specs.declared.make.MakeError.TheVariants as make
 use Rattle.cluster.specs.Reached.{partitions_in, parts_in, SizedIn}
-use Rattle.dc_engine.specs.Held.{Standing}
-use Rattle.dc_engine.specs.ObjectKinds.{Effect}
+use Rattle.cluster.specs.Post.{WholeState}
 
 abbrev pub first_place : PartId
 first_place = record { site = 1; part = 1 }
@@ -45,11 +44,11 @@ module _ {D : Type 0} where
     pub given : IsTrue old.tells → new.given ≡ old.given ++ with_places parts at disks
 
   -- the disk of a partition, without its fuse
-  abbrev pub disk_from : Durable Effect (Fused D) → D
+  abbrev pub disk_from : {E : Type 0} → Durable E (Fused D) → D
   disk_from t = inside (disk_of t.gates)
 
   -- the disks of all partitions of the cluster were given back, site by site
-  pub record ReturnsAll (c : Standing D) (old new : Maker D) : Type 0 where
+  pub record ReturnsAll {E : Type 0} (c : Option (WholeState E (Fused D))) (old new : Maker D) : Type 0 where
     pub sized : SizedIn c
     pub back : GivesBack (number_or_none (parts_in c)) first_place (map disk_from (partitions_in c)) old new
 

@@ -15,7 +15,7 @@ pub(crate) mod makers;
 pub(crate) mod objects;
 pub(crate) mod reading;
 
-use crate::player::makers::{give_back_all, make_all};
+use crate::player::makers::{give_back_cluster, make_all};
 use crate::player::objects::Objects;
 use crate::player::reading::reading;
 use crate::responder::Responder;
@@ -72,9 +72,7 @@ impl<M: Disks> Player<M> {
         requires { HasOut M.Disk.state (M.state disks.old).out self.cluster }
         ensures { ReturnsAll self.cluster (M.state disks.old) (M.state disks.new) }
     {
-        if let Some(parts) = self.cluster.parts() {
-            give_back_all(disks, parts, self.cluster.into_partitions());
-        }
+        give_back_cluster(disks, self.cluster);
     }
 
     /// The steps that answer a line.

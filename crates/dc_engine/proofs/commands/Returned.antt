@@ -1,7 +1,7 @@
 -- The disks of a cluster that go back to their maker.
 use Rattle.std.proofs.Common.{◌≡◌, ℕ, zero, suc, ◌+◌, ◌-◌, ◌*◌, ◌<◌, ◌≤◌, List, [], ◌∷◌, ◌++◌, length, get_or, None, Some, refl, sym, ap, ◌∙◌, subst, arith, append_assoc}
 use Rattle.std.proofs.lemmas.Bool.{true≢false}
-use Rattle.std.specs.Prelude.{map, is_some, IsTrue, true, false, nat_lt, if◌then◌else◌}
+use Rattle.std.specs.Prelude.{Option, map, is_some, IsTrue, true, false, nat_lt, if◌then◌else◌}
 use Rattle.std.proofs.lemmas.List.{append-nil}
 use Rattle.std.proofs.lemmas.Nat.{mul-le}
 use Rattle.std.proofs.Math.Nat.{add-mul}
@@ -23,12 +23,14 @@ use Rattle.site_partitions.specs.declared.make.MakeError.TheVariants as make
 use Rattle.world_model.specs.declared.command.Command.TheVariants as command
 use Rattle.world_model.specs.declared.step.Step.{Step}
 use Rattle.cluster.specs.Reached.{Applies, parts_in, partitions_in, SizedIn}
+use Rattle.cluster.specs.Post.{WholeState}
+use Rattle.site_partitions.specs.Reaches.{Types}
 use Rattle.cluster.proofs.Laws.{history, log_left, none_made}
 use Rattle.dc_engine.specs.Answered.{Answered, AnsweredWhole}
 use Rattle.dc_engine.specs.GivenBack.{HoldsLogOf, GivenBack}
-use Rattle.dc_engine.specs.Held.{Standing, IsLeft, Reached, HasOut}
+use Rattle.dc_engine.specs.Held.{Standing, IsLeft, Reached, HasOutOf}
 use Rattle.dc_engine.specs.Makers.{IsUnchanged, GivesBack, ReturnsAll, FailsAt, number_or_none, disk_from, with_places, next_place, first_place}
-use Rattle.dc_engine.specs.ObjectKinds.{Effect, types}
+use Rattle.dc_engine.specs.ObjectKinds.{types}
 
 pub close_by : (parts : ℕ) (at next : PartId) → next ≡ next_place parts at → next.site ≤ at.site + 1
 close_by parts at next e = elim (nat_lt at.part parts) as (λ b. next ≡ (if b then record { site = at.site; part = at.part + 1 } else record { site = at.site + 1; part = 1 }) → next.site ≤ at.site + 1) [
@@ -94,31 +96,34 @@ few_of sites parts n s = let up : sites * parts ≤ 8 * 16 = mul-le sites parts 
 some_none : {n : ℕ} → Some n ≡ None → ⊥
 some_none {n} e = true≢false (ap is_some e)
 
-module _ {D : Type 0} (state : D → DiskState) where
-  -- a disk without its fuse holds what it holds with it
-  unfused : (disk : Fused D) (end : ℕ) (payloads : List (List ℕ)) → AtRest (fused_state state disk) end payloads → AtRest (state (inside disk)) end payloads
-  unfused disk end payloads a = record { tells = a.tells; settled = a.settled; log = a.log; place = a.place }
-
-  pub few_in : (c : Standing D) → SizedIn c → length (partitions_in c) ≤ 128
-  few_in None s = omega arith
-  few_in (Some w) s = few_of w.live.sites.sites w.live.sites.parts (length w.live.sites.partitions) s
-
+-- of a cluster of any kinds
+module _ {S E D : Type 0} (t : Types S E D) where
   -- as many disks are out as the cluster has partitions
-  pub enough_in : (c : Standing D) (out : ℕ) → SizedIn c → HasOut state out c → length (partitions_in c) ≤ out
+  pub enough_in : (c : Option (WholeState E D)) (out : ℕ) → SizedIn c → HasOutOf t out c → length (partitions_in c) ≤ out
   enough_in None out s h = omega arith
   enough_in (Some w) out s h =
       let e : length w.live.sites.partitions ≡ sites_of h.run * parts_of h.run = s.all ∙ (λ i. h.left.live.sites i * h.left.live.parts i) in
       let enough = h.enough in omega (arith, e, enough)
 
-  pub returns_some : (c : Standing D) (n : ℕ) (items : List (Durable Effect (Fused D))) (old new : Maker D) → parts_in c ≡ Some n → items ≡ partitions_in c → SizedIn c → GivesBack n first_place (map disk_from items) old new → ReturnsAll c old new
+module _ {E D : Type 0} where
+  pub few_in : (c : Option (WholeState E D)) → SizedIn c → length (partitions_in c) ≤ 128
+  few_in None s = omega arith
+  few_in (Some w) s = few_of w.live.sites.sites w.live.sites.parts (length w.live.sites.partitions) s
+
+  pub returns_some : (c : Option (WholeState E (Fused D))) (n : ℕ) (items : List (Durable E (Fused D))) (old new : Maker D) → parts_in c ≡ Some n → items ≡ partitions_in c → SizedIn c → GivesBack n first_place (map disk_from items) old new → ReturnsAll c old new
   returns_some c n items old new e is s b = record {
     sized = s;
     back = subst (λ k. GivesBack k first_place (map disk_from (partitions_in c)) old new) (sym (ap number_or_none e)) (subst (λ l. GivesBack n first_place (map disk_from l) old new) is b);
   }
 
-  pub returns_none : (c : Standing D) (old : Maker D) → parts_in c ≡ None → SizedIn c → ReturnsAll c old old
+  pub returns_none : (c : Option (WholeState E (Fused D))) (old : Maker D) → parts_in c ≡ None → SizedIn c → ReturnsAll c old old
   returns_none None old e s = record { sized = s; back = record { out = omega arith; faults = refl; tells = refl; given = λ t. sym (append-nil old.given) } }
   returns_none (Some w) old e s = absurd (some_none e)
+
+module _ {D : Type 0} (state : D → DiskState) where
+  -- a disk without its fuse holds what it holds with it
+  unfused : (disk : Fused D) (end : ℕ) (payloads : List (List ℕ)) → AtRest (fused_state state disk) end payloads → AtRest (state (inside disk)) end payloads
+  unfused disk end payloads a = record { tells = a.tells; settled = a.settled; log = a.log; place = a.place }
 
   -- a cluster that doesn't come up for the disk of one of its partitions
   pub failed_applies : (sites parts : ℕ) (disks : List (Fused D)) (error : MakeError (Fused D)) (steps : List Step) (new : Standing D) → new ≡ None → HandsBack (fused_state state) sites parts disks error → FailsAt error steps → Applies (types (fused_state state)) None (command.Cluster sites parts) steps new

@@ -4,10 +4,13 @@ ghost use Rattle.disk_core.specs.Fuses.{fused_state, inside};
 ghost use Rattle.disk_core.specs.States.{Rose};
 ghost use Rattle.disk_makers.specs.Makers.{IsMade};
 ghost use Rattle.site_partitions.specs.Made.{AreBlank};
-ghost use Rattle.dc_engine.specs.Makers.{IsUnchanged, GivesBack, disk_from, first_place, next_place};
+ghost use Rattle.site_partitions.specs.Reaches.{types_of};
+ghost use Rattle.dc_engine.specs.Held.{HasOutOf};
+ghost use Rattle.dc_engine.specs.Makers.{IsUnchanged, ReturnsAll, GivesBack, disk_from, first_place, next_place};
 
-use crate::player::objects::Objects;
 use crate::unanswered::Unanswered;
+use cluster::Cluster;
+use crdt_core::Crdt;
 use disk_core::{Disk, Fused};
 use disk_makers::{Disks, MakeFault};
 use partition_core::DurablePartition;
@@ -116,11 +119,22 @@ fn give_back_made<M: Disks>(disks: &mut M, parts: u8, made: Vec<Fused<M::Disk>>)
     }
 }
 
-/// Gives back the disks of all partitions, site by site. Takes no memory.
-pub(crate) fn give_back_all<M: Disks>(
+/// Gives back the disks of a cluster, if one is made. Takes no memory.
+#[tactic(auto, using(crate::proofs::commands::Returned::returns_none))]
+pub(crate) fn give_back_cluster<C: Crdt, M: Disks>(disks: &mut M, cluster: Cluster<C, M::Disk>)
+    requires { HasOutOf (types_of C.laws C.spells (fused_state M.Disk.state)) (M.state disks.old).out cluster }
+    ensures { ReturnsAll cluster (M.state disks.old) (M.state disks.new) }
+{
+    if let Some(parts) = cluster.parts() {
+        give_back_all(disks, parts, cluster.into_partitions());
+    }
+}
+
+/// Gives back the disks of all partitions, site by site.
+fn give_back_all<C: Crdt, M: Disks>(
     disks: &mut M,
     parts: u8,
-    partitions: Vec<DurablePartition<Objects, Fused<M::Disk>>>,
+    partitions: Vec<DurablePartition<C, Fused<M::Disk>>>,
 )
     requires few { length partitions.items ≤ 128 }
     requires enough { length partitions.items ≤ (M.state disks.old).out }
