@@ -4,9 +4,9 @@ ghost use Rattle.disk_core.specs.Fuses.{fused_state};
 ghost use Rattle.disk_core.specs.States.{Rose};
 ghost use Rattle.cluster.specs.Built.{IsSaid, is_making};
 ghost use Rattle.cluster.specs.Reached.{Applies};
-ghost use Rattle.dc_engine.specs.Held.{HasOut};
+ghost use Rattle.site_partitions.specs.Reaches.{types_of};
+ghost use Rattle.dc_engine.specs.Held.{HasOut, HasOutOf};
 ghost use Rattle.dc_engine.specs.Makers.{FailsAt, IsUnchanged};
-ghost use Rattle.dc_engine.specs.ObjectKinds.{kinds, types};
 ghost use Rattle.dc_engine.specs.Player.{AnswersAsked};
 ghost use Rattle.dc_engine.specs.Reading.{asked_of, makes_cluster};
 ghost use Rattle.reply_text.specs.Text.{text_of};
@@ -21,6 +21,7 @@ use crate::player::reading::reading;
 use crate::responder::Responder;
 use crate::unanswered::Unanswered;
 use cluster::Cluster;
+use crdt_core::Crdt;
 use disk_core::{Disk, Fused};
 use disk_makers::Disks;
 use partition_core::RestartError;
@@ -181,16 +182,16 @@ fn answer_to<M: Disks>(
 }
 
 /// The lines that answer a command: one that makes a cluster, where none stands, makes its disks first.
-fn obey<M: Disks>(
+fn obey<C: Crdt, M: Disks>(
     alloc: Global,
-    cluster: &mut Cluster<Objects, M::Disk>,
+    cluster: &mut Cluster<C, M::Disk>,
     disks: &mut M,
     command: &Command,
 ) -> Result<Vec<Step>, Unanswered>
-    requires said { IsSaid kinds.has kinds.too_deep command.now }
-    requires held { HasOut M.Disk.state (M.state disks.old).out cluster.old }
-    ensures held { HasOut M.Disk.state (M.state disks.new).out cluster.new }
-    ensures ok { IfOk result (λ steps. Applies (types (fused_state M.Disk.state)) cluster.old command.now steps.items cluster.new) }
+    requires said { IsSaid C.has C.too_deep command.now }
+    requires held { HasOutOf (types_of C.laws C.spells (fused_state M.Disk.state)) (M.state disks.old).out cluster.old }
+    ensures held { HasOutOf (types_of C.laws C.spells (fused_state M.Disk.state)) (M.state disks.new).out cluster.new }
+    ensures ok { IfOk result (λ steps. Applies (types_of C.laws C.spells (fused_state M.Disk.state)) cluster.old command.now steps.items cluster.new) }
     ensures making { result ≡ Err Unanswered.NoDisk → is_making command.now ≡ true }
     ensures lacks { result ≡ Err Unanswered.NoDisk → cluster.old ≡ None }
     ensures later { (M.state disks.old).faults ≤ (M.state disks.new).faults }
@@ -219,9 +220,9 @@ fn size_asked(command: &Command) -> Option<(u8, u8)>
 
 /// Makes the disks of a cluster, and the cluster over them. Not inlined: its values would lie in each line's frame.
 #[inline(never)]
-fn make_cluster<M: Disks>(
+fn make_cluster<C: Crdt, M: Disks>(
     alloc: Global,
-    cluster: &mut Cluster<Objects, M::Disk>,
+    cluster: &mut Cluster<C, M::Disk>,
     disks: &mut M,
     sites: u8,
     parts: u8,
@@ -231,8 +232,8 @@ fn make_cluster<M: Disks>(
     requires most_sites { sites ≤ 8 }
     requires least_part { 1 ≤ parts }
     requires most_parts { parts ≤ 16 }
-    ensures held { HasOut M.Disk.state (M.state disks.new).out cluster.new }
-    ensures ok { IfOk result (λ steps. Applies (types (fused_state M.Disk.state)) None (Command.Cluster sites parts) steps.items cluster.new) }
+    ensures held { HasOutOf (types_of C.laws C.spells (fused_state M.Disk.state)) (M.state disks.new).out cluster.new }
+    ensures ok { IfOk result (λ steps. Applies (types_of C.laws C.spells (fused_state M.Disk.state)) None (Command.Cluster sites parts) steps.items cluster.new) }
     ensures later { (M.state disks.old).faults ≤ (M.state disks.new).faults }
     ensures cause { result ≡ Err Unanswered.NoDisk → Rose (M.state disks.old).faults (M.state disks.new).faults }
     ensures same { OnOk result (IsUnchanged (M.state disks.old) (M.state disks.new)) }

@@ -18,11 +18,13 @@ use Rattle.world_model.specs.commands.Answers.{Asked, nothing, unreadable, asks,
 use Rattle.world_model.specs.commands.ScriptAnswers.{GoesOn, Answers, IsMade, AnswersBy}
 use Rattle.reply_text.specs.Text.{text_of}
 use Rattle.cluster.specs.Built.{is_built, is_making}
-use Rattle.cluster.specs.Reached.{Applies, parts_in}
+use Rattle.cluster.specs.Post.{WholeState}
+use Rattle.cluster.specs.Reached.{Applies, Reached, parts_in}
+use Rattle.site_partitions.specs.Reaches.{Types}
 use Rattle.cluster.proofs.Laws.{bad_still}
 use Rattle.cluster.proofs.Meets.{all_met, none_due}
 use Rattle.cluster.proofs.Mere.{at_first}
-use Rattle.dc_engine.specs.Held.{Standing, IsLeft, spelled, HasOut}
+use Rattle.dc_engine.specs.Held.{Standing, IsLeft, spelled, HasOutOf}
 use Rattle.dc_engine.specs.ObjectKinds.{types}
 use Rattle.dc_engine.specs.Player.{PlayerState, AnswersAsked, ReachedBy}
 use Rattle.dc_engine.specs.Reading.{asked_of, is_unreadable, has_bad}
@@ -98,21 +100,23 @@ module _ {D : Type 0} (state : D → DiskState) where
   pub reached_none : (p : PlayerState D) → IsLeft state p.cluster [] → p.met_bad ≡ false → ReachedBy state p [] []
   reached_none p r b = record { reached = record { run = []; left = r; answers = refl; written = refl }; is_bad = sym b }
 
-  pub out_first : (c : Standing D) (out : ℕ) → IsLeft state c [] → HasOut state out c
+-- over any kinds
+module _ {S E D : Type 0} (t : Types S E D) where
+  pub out_first : (c : Option (WholeState E D)) (out : ℕ) → Reached t c [] → HasOutOf t out c
   out_first c out r = record { run = []; left = r; enough = omega arith }
 
-  pub out_none : (c : Standing D) (out : ℕ) → c ≡ None → HasOut state out c
-  out_none c out e = subst (HasOut state out) (sym e) (record { run = []; left = at_first; enough = omega arith })
+  pub out_none : (c : Option (WholeState E D)) (out : ℕ) → c ≡ None → HasOutOf t out c
+  out_none c out e = subst (HasOutOf t out) (sym e) (record { run = []; left = at_first; enough = omega arith })
 
-  pub out_more : (c : Standing D) (out more : ℕ) → out ≤ more → HasOut state out c → HasOut state more c
+  pub out_more : (c : Option (WholeState E D)) (out more : ℕ) → out ≤ more → HasOutOf t out c → HasOutOf t more c
   out_more c out more l h = record { run = h.run; left = h.left; enough = let e = h.enough in omega (arith, e, l) }
 
-  made_already : (c : Standing D) (run : Run) → is_some (parts_in c) ≡ true → IsLeft state c run → has_cluster run ≡ true
+  made_already : (c : Option (WholeState E D)) (run : Run) → is_some (parts_in c) ≡ true → Reached t c run → has_cluster run ≡ true
   made_already None run h r = absurd (true≢false (sym h))
   made_already (Some w) run h r = r.live.has
 
   -- a command that makes no cluster leaves as many partitions
-  pub out_applied : (old new : Standing D) (c : Command) (steps : List Step) (out : ℕ) → (is_making c ≡ true → is_some (parts_in old) ≡ true) → Applies (types (fused_state state)) old c steps new → HasOut state out old → HasOut state out new
+  pub out_applied : (old new : Option (WholeState E D)) (c : Command) (steps : List Step) (out : ℕ) → (is_making c ≡ true → is_some (parts_in old) ≡ true) → Applies t old c steps new → HasOutOf t out old → HasOutOf t out new
   out_applied old new c steps out once a h =
       let applied = a 0 h.run h.left in
       let size = same_size 0 (Some c) steps h.run (answer_makes_none h.run c steps (λ m. made_already old h.run (once m) h.left) applied.0) in
@@ -125,17 +129,18 @@ module _ {D : Type 0} (state : D → DiskState) where
       (λ (x : (at : PartId) × IsPlace sites parts at × (steps ≡ step.Disk at ∷ [])). subst (λ l. (sites_of (answered 0 (Some (command.Cluster sites parts)) l []) * parts_of (answered 0 (Some (command.Cluster sites parts)) l [])) ≤ sites * parts) (sym x.2) (omega arith))
       m
 
-  pub out_made : (new : Standing D) (sites parts : ℕ) (steps : List Step) (out : ℕ) → sites * parts ≤ out → Applies (types (fused_state state)) None (command.Cluster sites parts) steps new → HasOut state out new
+  pub out_made : (new : Option (WholeState E D)) (sites parts : ℕ) (steps : List Step) (out : ℕ) → sites * parts ≤ out → Applies t None (command.Cluster sites parts) steps new → HasOutOf t out new
   out_made new sites parts steps out l a =
       let applied = a 0 [] at_first in
       let m : IsMade sites parts steps = subst (λ o. AnswersBy [] (command.Cluster sites parts) steps o) (none_due (all_met [] (command.Cluster sites parts)) (refl, (refl, tt))) applied.0 in
       let most = made_size sites parts steps m in
       record { run = answered 0 (Some (command.Cluster sites parts)) steps []; left = applied.1; enough = omega (arith, most, l) }
 
-  -- whether a cluster stands
-  pub lacks_of : (c : Standing D) → is_some (parts_in c) ≡ false → c ≡ None
+-- whether a cluster stands
+module _ {E D : Type 0} where
+  pub lacks_of : (c : Option (WholeState E D)) → is_some (parts_in c) ≡ false → c ≡ None
   lacks_of None h = refl
   lacks_of (Some w) h = absurd (true≢false h)
 
-  pub made_of : (c : Standing D) → is_some (parts_in c) ≡ true → c ≡ None → ⊥
-  made_of c h e = true≢false (sym h ∙ ap (λ (x : Standing D). is_some (parts_in x)) e)
+  pub made_of : (c : Option (WholeState E D)) → is_some (parts_in c) ≡ true → c ≡ None → ⊥
+  made_of c h e = true≢false (sym h ∙ ap (λ (x : Option (WholeState E D)). is_some (parts_in x)) e)

@@ -105,6 +105,11 @@ module _ {S E D : Type 0} (t : Types S E D) where
       let e : length w.live.sites.partitions ≡ sites_of h.run * parts_of h.run = s.all ∙ (λ i. h.left.live.sites i * h.left.live.parts i) in
       let enough = h.enough in omega (arith, e, enough)
 
+  -- a cluster that doesn't come up for the disk of one of its partitions
+  pub failed_applies : (state : D → DiskState) (sites parts : ℕ) (disks : List D) (error : MakeError D) (steps : List Step) (new : Option (WholeState E D)) → new ≡ None → HandsBack state sites parts disks error → FailsAt error steps → Applies t None (command.Cluster sites parts) steps new
+  failed_applies state sites parts disks make.NoMemory steps new n h f = absurd f
+  failed_applies state sites parts disks (make.Partition at disk why) steps new n h f = subst (λ (c : Option (WholeState E D)). Applies t None (command.Cluster sites parts) steps c) (sym n) (none_made t sites parts at steps h.0 f.1)
+
 module _ {E D : Type 0} where
   pub few_in : (c : Option (WholeState E D)) → SizedIn c → length (partitions_in c) ≤ 128
   few_in None s = omega arith
@@ -124,11 +129,6 @@ module _ {D : Type 0} (state : D → DiskState) where
   -- a disk without its fuse holds what it holds with it
   unfused : (disk : Fused D) (end : ℕ) (payloads : List (List ℕ)) → AtRest (fused_state state disk) end payloads → AtRest (state (inside disk)) end payloads
   unfused disk end payloads a = record { tells = a.tells; settled = a.settled; log = a.log; place = a.place }
-
-  -- a cluster that doesn't come up for the disk of one of its partitions
-  pub failed_applies : (sites parts : ℕ) (disks : List (Fused D)) (error : MakeError (Fused D)) (steps : List Step) (new : Standing D) → new ≡ None → HandsBack (fused_state state) sites parts disks error → FailsAt error steps → Applies (types (fused_state state)) None (command.Cluster sites parts) steps new
-  failed_applies sites parts disks make.NoMemory steps new n h f = absurd f
-  failed_applies sites parts disks (make.Partition at disk why) steps new n h f = subst (λ (c : Standing D). Applies (types (fused_state state)) None (command.Cluster sites parts) steps c) (sym n) (none_made (types (fused_state state)) sites parts at steps h.0 f.1)
 
   -- what was played is told of the disks too
   returned : (c : Standing D) (run : Run) (left : IsLeft state c run) (start mid end : Maker D) → IsUnchanged start mid → ReturnsAll c mid end → IsTrue start.tells → GivenBack state run (history (types (fused_state state)) c run left).events start end

@@ -1,5 +1,5 @@
 -- Where a cluster stands, no answer to a command makes one: a run's cluster keeps its size.
-use Rattle.std.proofs.Common.{◌≡◌, ◌≢◌, ◌⊎◌, ⊎_elim, ℕ, Bool, true, false, List, [], ◌∷◌, refl, sym, ap, ◌∙◌, subst, Option, None, Some}
+use Rattle.std.proofs.Common.{◌≡◌, ◌≢◌, ⊎_elim, ℕ, Bool, true, false, List, [], ◌∷◌, refl, sym, ap, ◌∙◌, subst, Option, None, Some}
 use Rattle.std.specs.Prelude.{if◌then◌else◌, ⊤, not}
 use Rattle.std.proofs.lemmas.Bool.{and_parts, true≢false}
 use Rattle.site_vector.specs.declared.ids.PartId.{PartId}

@@ -7,7 +7,7 @@ pub play_script-status-requires-clause-fresh : goal.play_script-status-requires-
 play_script-status-requires-clause-fresh g c = c.new-player.ensures.reached
 
 pub play_script-status-requires-clause-held : goal.play_script-status-requires-clause-held
-play_script-status-requires-clause-held g c = out_more g.M.Disk.Disk.state _ 0 _ (omega arith) c.new-player.ensures.holds
+play_script-status-requires-clause-held g c = out_more _ _ 0 _ (omega arith) c.new-player.ensures.holds
 
 pub returns : goal.returns
 returns g c = outcome_lawful g.M.Disk.Disk.state _ _ _ _ _ _ _ c.play_script-status.ensures.same c.give_back.ensures c.play_script-status.ensures.played

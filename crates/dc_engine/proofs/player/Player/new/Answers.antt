@@ -6,4 +6,4 @@ pub returns-clause-reached : goal.returns-clause-reached
 returns-clause-reached g c = reached_none g.M.Disk.Disk.state _ c.new.ensures refl
 
 pub returns-clause-holds : goal.returns-clause-holds
-returns-clause-holds g c = out_first g.M.Disk.Disk.state _ 0 c.new.ensures
+returns-clause-holds g c = out_first _ _ 0 c.new.ensures
