@@ -36,6 +36,23 @@ fn put_shown<C: Crdt>(
     put_value(out, &C::value(alloc, &state)?)
 }
 
+/// Adds where an effect ends, whether it is put as the bytes up to there end, and what it shows.
+fn put_again<C: Crdt>(
+    alloc: Global,
+    out: &mut String,
+    kind: Kind,
+    effect: &C::Effect,
+    bytes: &[u8],
+) -> Result<(), AllocError>
+    requires { C.can_put effect.now ≡ true }
+{
+    write!(out, "up to {}, put as ", bytes.len())?;
+    let again = put_bytes::<C>(alloc, out, effect)?;
+    let same = bytes.ends_with(again.as_slice());
+    write!(out, ", the same: {same}, shows ")?;
+    put_shown::<C>(alloc, out, kind, effect)
+}
+
 /// What the bytes at a place are: the end of the effect, whether it is put as the same bytes, and what it shows.
 pub(crate) fn taken<C: Crdt>(
     alloc: Global,
@@ -47,13 +64,7 @@ pub(crate) fn taken<C: Crdt>(
 {
     let mut out = String::new(alloc);
     match C::take_effect(alloc, kind, bytes, at) {
-        Ok((effect, end)) => {
-            write!(out, "up to {end}, put as ")?;
-            let again = put_bytes::<C>(alloc, &mut out, &effect)?;
-            let same = bytes[..end].ends_with(again.as_slice());
-            write!(out, ", the same: {same}, shows ")?;
-            put_shown::<C>(alloc, &mut out, kind, &effect)?;
-        }
+        Ok((effect, end)) => put_again::<C>(alloc, &mut out, kind, &effect, &bytes[..end])?,
         Err(error) => put_refusal(&mut out, error)?,
     }
     out.push_str("\n")?;

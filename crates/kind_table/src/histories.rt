@@ -89,6 +89,43 @@ fn push_taken<C: Crdt>(
     }
 }
 
+/// Adds the bytes of an update of a site, and the update as it is read from them.
+fn put_update<C: Crdt>(
+    alloc: Global,
+    out: &mut String,
+    kind: Kind,
+    made: &mut Vec<(u8, C::Effect)>,
+    site: u8,
+    effect: &C::Effect,
+) -> Result<(), AllocError>
+    requires { C.can_put effect.now ≡ true }
+{
+    let bytes = put_bytes::<C>(alloc, out, effect)?;
+    push_taken::<C>(alloc, out, kind, made, site, bytes.as_slice())
+}
+
+/// Makes an update of a site on the state that it has seen.
+fn update_on<C: Crdt>(
+    alloc: Global,
+    out: &mut String,
+    kind: Kind,
+    made: &mut Vec<(u8, C::Effect)>,
+    site: u8,
+    op: &Op,
+    state: &C::State,
+    now: u64,
+) -> Result<(), AllocError>
+    requires has { C.has kind ≡ true }
+    requires spelled { HoldsSpelled C.holds state.now }
+{
+    match effect_on::<C>(alloc, kind, op, state, now) {
+        Ok(effect) => put_update::<C>(alloc, out, kind, made, site, &effect),
+        Err(GenError::TooDeep) => out.push_str("too deep"),
+        Err(GenError::BadOp) => out.push_str("bad operation"),
+        Err(GenError::NoMemory) => Err(AllocError),
+    }
+}
+
 /// Makes the update of the words `SITE SEEN CLOCK PATH ACT ..`.
 fn update<C: Crdt>(
     alloc: Global,
@@ -105,17 +142,9 @@ fn update<C: Crdt>(
     let Some(op) = op_of(alloc, op)? else {
         return out.push_str("no operation");
     };
+    let (site, now) = (site.parse::<u8>().unwrap_or(1), number_of(clock));
     let state = state_of::<C>(alloc, kind, made.as_slice(), seen)?;
-    match effect_on::<C>(alloc, kind, &op, &state, number_of(clock)) {
-        Ok(effect) => {
-            let bytes = put_bytes::<C>(alloc, out, &effect)?;
-            let site = site.parse::<u8>().unwrap_or(1);
-            push_taken::<C>(alloc, out, kind, made, site, bytes.as_slice())
-        }
-        Err(GenError::TooDeep) => out.push_str("too deep"),
-        Err(GenError::BadOp) => out.push_str("bad operation"),
-        Err(GenError::NoMemory) => Err(AllocError),
-    }
+    update_on::<C>(alloc, out, kind, made, site, &op, &state, now)
 }
 
 /// What all updates show, in turn.
@@ -134,6 +163,20 @@ fn value_of_all<C: Crdt>(
     value_after::<C>(alloc, kind, stored.as_slice())
 }
 
+/// Adds what a copy of the value is.
+fn put_copy(alloc: Global, out: &mut String, value: &Value) -> Result<(), AllocError> {
+    put_value(out, &value.copy(alloc)?)
+}
+
+/// Adds what a state shows, and whether it is blank.
+fn put_state<C: Crdt>(alloc: Global, out: &mut String, state: &C::State) -> Result<(), AllocError> {
+    put_copy(alloc, out, &C::value(alloc, state)?)?;
+    if C::is_blank(state) {
+        return out.push_str(", blank");
+    }
+    Ok(())
+}
+
 /// Adds what these updates show in this order.
 fn put_read<C: Crdt>(
     alloc: Global,
@@ -145,13 +188,7 @@ fn put_read<C: Crdt>(
     requires { C.has kind ≡ true }
 {
     let state = state_of::<C>(alloc, kind, made, order)?;
-    let copied = C::copy(alloc, &state)?;
-    let value = C::value(alloc, &copied)?;
-    put_value(out, &value.copy(alloc)?)?;
-    if C::is_blank(&copied) {
-        return out.push_str(", blank");
-    }
-    Ok(())
+    put_state::<C>(alloc, out, &C::copy(alloc, &state)?)
 }
 
 /// Adds what a piece of a history does: `read` of all updates in turn, `read ORDER`, or an update.
@@ -171,6 +208,31 @@ fn put_piece<C: Crdt>(
     }
 }
 
+/// Adds the words of a piece.
+fn put_words(out: &mut String, words: &[&str]) -> Result<(), AllocError> {
+    out.push_str(" ")?;
+    for word in words {
+        write!(out, " {word}")?;
+    }
+    out.push_str(": ")
+}
+
+/// Adds the line of a piece of a history: its words, and what it does.
+fn put_line<C: Crdt>(
+    alloc: Global,
+    out: &mut String,
+    kind: Kind,
+    made: &mut Vec<(u8, C::Effect)>,
+    piece: &[u8],
+) -> Result<(), AllocError>
+    requires { C.has kind ≡ true }
+{
+    let words = words_of(alloc, piece)?;
+    put_words(out, words.as_slice())?;
+    put_piece::<C>(alloc, out, kind, made, words.as_slice())?;
+    out.push_str("\n")
+}
+
 /// What the pieces of a history do, each on a line.
 pub(crate) fn played<C: Crdt>(
     alloc: Global,
@@ -182,14 +244,7 @@ pub(crate) fn played<C: Crdt>(
     let mut out = String::new(alloc);
     let mut made = Vec::new(alloc);
     for piece in history.as_bytes().split(|byte| *byte == b'|') {
-        let words = words_of(alloc, piece)?;
-        out.push_str(" ")?;
-        for word in words.as_slice() {
-            write!(out, " {word}")?;
-        }
-        out.push_str(": ")?;
-        put_piece::<C>(alloc, &mut out, kind, &mut made, words.as_slice())?;
-        out.push_str("\n")?;
+        put_line::<C>(alloc, &mut out, kind, &mut made, piece)?;
     }
     Ok(out)
 }

@@ -27,26 +27,36 @@ fn numbers_of(piece: &[u8]) -> Option<(usize, i64)> {
     Some((number.parse::<usize>().ok()?, value.parse::<i64>().ok()?))
 }
 
-/// Answers `kept NUMBER:VALUE,..`: the numbers of the dots in order, whether nothing is left without them, and how
-/// many a copy has.
-pub(crate) fn answer(alloc: Global, out: &mut String, word: &str) -> Result<(), AllocError> {
+/// The values at the dots of these numbers.
+fn kept_of(alloc: Global, word: &str) -> Result<Kept<i64>, AllocError> {
     let mut kept: Kept<i64> = Kept::new(alloc);
     for piece in word.as_bytes().split(|byte| *byte == b',') {
         if let Some((number, value)) = numbers_of(piece) {
             kept.put(dot_of(1, number), value)?;
         }
     }
-    let dots = kept.dots(alloc)?;
+    Ok(kept)
+}
+
+fn put_dots(out: &mut String, dots: &[Dot]) -> Result<(), AllocError> {
     out.push_str("dots")?;
-    for dot in dots.as_slice() {
+    for dot in dots {
         write!(out, " {}", dot.index)?;
     }
-    let copied = kept.copy(alloc)?;
+    Ok(())
+}
+
+/// Adds the numbers of the dots, whether nothing is left without them, and how many a copy has.
+fn put_kept(alloc: Global, out: &mut String, kept: &mut Kept<i64>) -> Result<(), AllocError> {
+    let dots = kept.dots(alloc)?;
+    put_dots(out, dots.as_slice())?;
+    let copied = kept.copy(alloc)?.iter().count();
     kept.take_out(dots.copy(alloc)?.as_slice());
-    writeln!(
-        out,
-        ", empty without them: {}, a copy has {}",
-        kept.is_empty(),
-        copied.iter().count()
-    )
+    let empty = kept.is_empty();
+    writeln!(out, ", empty without them: {empty}, a copy has {copied}")
+}
+
+/// Answers `kept NUMBER:VALUE,..`.
+pub(crate) fn answer(alloc: Global, out: &mut String, word: &str) -> Result<(), AllocError> {
+    put_kept(alloc, out, &mut kept_of(alloc, word)?)
 }

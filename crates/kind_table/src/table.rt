@@ -130,14 +130,27 @@ fn answer_words(alloc: Global, out: &mut String, words: &[&str]) -> Result<(), A
         ["place", parts, key, bucket] => answer_place(alloc, out, parts, key, bucket),
         ["kind", code] => answer_kind(out, code),
         ["fits", kind, op @ ..] => answer_fits(alloc, out, kind, op),
-        ["form", name, at, digits @ ..] => {
+        [question, name, at, digits @ ..] => {
             let bytes = bytes_of(alloc, digits)?;
-            forms::answer(alloc, out, name, at.parse::<usize>().unwrap_or(0), &bytes)
+            let at = at.parse::<usize>().unwrap_or(0);
+            answer_digits(alloc, out, question, name, at, bytes.as_slice())
         }
-        ["bytes", kind, at, digits @ ..] => {
-            let bytes = bytes_of(alloc, digits)?;
-            answer_bytes(alloc, out, kind, at.parse::<usize>().unwrap_or(0), &bytes)
-        }
+        _ => out.push_str("no line\n"),
+    }
+}
+
+/// Answers a line of bytes.
+fn answer_digits(
+    alloc: Global,
+    out: &mut String,
+    question: &str,
+    name: &str,
+    at: usize,
+    bytes: &[u8],
+) -> Result<(), AllocError> {
+    match question {
+        "form" => forms::answer(alloc, out, name, at, bytes),
+        "bytes" => answer_bytes(alloc, out, name, at, bytes),
         _ => out.push_str("no line\n"),
     }
 }

@@ -53,14 +53,14 @@ spaced-stamp : (stamp : Option ℕ) → spaced (stamp_words stamp) ≡ stamp_tex
 spaced-stamp None = refl
 spaced-stamp (Some n) = append-nil (codes " stamp " ++ decimal n)
 
-updated_parts : (a u s w o r e : List ℕ) → ((((a ++ (u ++ s)) ++ w) ++ s) ++ o) ++ (r ++ e) ≡ a ++ ((u ++ ((s ++ w) ++ ((s ++ o) ++ r))) ++ e)
+updated_parts : (a u s w o r e : List ℕ) → ((a ++ ((u ++ s) ++ (w ++ s))) ++ o) ++ (r ++ e) ≡ a ++ ((u ++ ((s ++ w) ++ ((s ++ o) ++ r))) ++ e)
 updated_parts a u s w o r e = simp append_assoc
 
 -- the line of an update is what its parts add, one after another
-pub updated_is : (name : List ℕ) (object : ObjectId) (stamp : Option ℕ) (a b c d e f : List ℕ)
-    → b ≡ a ++ codes "updated " → c ≡ b ++ word_text name → d ≡ c ++ 32 ∷ [] → e ≡ d ++ object_text object → f ≡ e ++ (stamp_text stamp ++ 10 ∷ [])
-    → f ≡ a ++ updated_text name object stamp
-updated_is name object stamp a b c d e f is_b is_c is_d is_e is_f =
-    is_f ∙ ap (λ s. s ++ (stamp_text stamp ++ 10 ∷ [])) (is_e ∙ ap (λ s. s ++ object_text object) (is_d ∙ ap (λ s. s ++ 32 ∷ []) (is_c ∙ ap (λ s. s ++ word_text name) is_b)))
+pub updated_is : (name : List ℕ) (object : ObjectId) (stamp : Option ℕ) (a b c d : List ℕ)
+    → b ≡ a ++ (codes "updated " ++ (word_text name ++ 32 ∷ [])) → c ≡ b ++ object_text object → d ≡ c ++ (stamp_text stamp ++ 10 ∷ [])
+    → d ≡ a ++ updated_text name object stamp
+updated_is name object stamp a b c d is_b is_c is_d =
+    is_d ∙ ap (λ s. s ++ (stamp_text stamp ++ 10 ∷ [])) (is_c ∙ ap (λ s. s ++ object_text object) is_b)
     ∙ updated_parts a (codes "updated") (codes " ") (word_text name) (object_text object) (stamp_text stamp) (10 ∷ [])
     ∙ ap (λ s. a ++ ((codes "updated" ++ ((codes " " ++ word_text name) ++ ((codes " " ++ object_text object) ++ s))) ++ 10 ∷ [])) (sym (spaced-stamp stamp))

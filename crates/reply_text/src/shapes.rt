@@ -377,6 +377,16 @@ fn put_stamp(out: &mut Vec<u8>, stamp: Option<u64>) -> Result<(), AllocError>
     }
 }
 
+/// Adds the first words of an update's line, with the space behind them.
+fn put_updater(alloc: Global, out: &mut Vec<u8>, name: &Text) -> Result<(), AllocError>
+    ensures ok { OnOk result (out.new.items ≡ out.old.items ++ (codes "updated " ++ (word_text name.now ++ 32 ∷ []))) }
+    ensures err { OnErr result (Begins out.old.items out.new.items) }
+{
+    put(out, b"updated ")?;
+    put_text(alloc, out, name)?;
+    put_byte(out, b' ')
+}
+
 /// Adds the line of an update, with the stamp where there is one. Most lines of a script are updates, so no list of
 /// words is made.
 #[tactic(auto, using(crate::specs::Words::begins_same, crate::specs::Words::begins_after, crate::proofs::Front::updated_is))]
@@ -390,9 +400,7 @@ pub fn put_updated(
     ensures ok { OnOk result (out.new.items ≡ out.old.items ++ updated_text name.now object.now stamp) }
     ensures err { OnErr result (Begins out.old.items out.new.items) }
 {
-    put(out, b"updated ")?;
-    put_text(alloc, out, name)?;
-    put_byte(out, b' ')?;
+    put_updater(alloc, out, name)?;
     put_object(alloc, out, object)?;
     put_stamp(out, stamp)
 }

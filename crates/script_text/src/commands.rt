@@ -110,6 +110,13 @@ fn drop(line: &str) -> Option<Command>
     dropped(only(line)?)
 }
 
+/// Puts a command into the place of a line.
+fn put(parsed: &mut Parsed, command: Command)
+    ensures { parsed.new ≡ Parsed.Command command }
+{
+    *parsed = Parsed::Command(command);
+}
+
 #[inline(never)]
 fn session(alloc: Global, line: &str, parsed: &mut Parsed) -> Result<(), ParseError>
     ensures ok { OnOk result (Some parsed.new ≡ command_as (grammar.with_two grammar.session (words line.now))) }
@@ -121,7 +128,7 @@ fn session(alloc: Global, line: &str, parsed: &mut Parsed) -> Result<(), ParseEr
     let name = text(alloc, name)?;
     match site(at) {
         Some(site) => {
-            *parsed = Parsed::Command(Command::Session { name, site });
+            put(parsed, Command::Session { name, site });
             Ok(())
         }
         None => Err(ParseError::Bad),
@@ -139,7 +146,7 @@ fn moved(alloc: Global, line: &str, parsed: &mut Parsed) -> Result<(), ParseErro
     let name = text(alloc, name)?;
     match site(at) {
         Some(site) => {
-            *parsed = Parsed::Command(Command::Move { name, site });
+            put(parsed, Command::Move { name, site });
             Ok(())
         }
         None => Err(ParseError::Bad),
@@ -155,7 +162,7 @@ fn lose(alloc: Global, line: &str, parsed: &mut Parsed) -> Result<(), ParseError
         return Err(ParseError::Bad);
     };
     let name = text(alloc, name)?;
-    *parsed = Parsed::Command(Command::Lose { name });
+    put(parsed, Command::Lose { name });
     Ok(())
 }
 
@@ -168,7 +175,7 @@ fn abort(alloc: Global, line: &str, parsed: &mut Parsed) -> Result<(), ParseErro
         return Err(ParseError::Bad);
     };
     let name = text(alloc, name)?;
-    *parsed = Parsed::Command(Command::Abort { name });
+    put(parsed, Command::Abort { name });
     Ok(())
 }
 
@@ -228,7 +235,7 @@ fn begin(alloc: Global, line: &str, parsed: &mut Parsed) -> Result<(), ParseErro
     let name = text(alloc, name)?;
     match maybe_part(rest) {
         Some(part) => {
-            *parsed = Parsed::Command(Command::Begin { name, part });
+            put(parsed, Command::Begin { name, part });
             Ok(())
         }
         None => Err(ParseError::Bad),
@@ -246,7 +253,7 @@ fn commit(alloc: Global, line: &str, parsed: &mut Parsed) -> Result<(), ParseErr
     let name = text(alloc, name)?;
     match maybe_steps(rest) {
         Some(steps) => {
-            *parsed = Parsed::Command(Command::Commit { name, steps });
+            put(parsed, Command::Commit { name, steps });
             Ok(())
         }
         None => Err(ParseError::Bad),
@@ -287,7 +294,7 @@ fn read(alloc: Global, line: &str, parsed: &mut Parsed) -> Result<(), ParseError
     let (object, rest) = object(alloc, rest)?;
     match next(rest) {
         None => {
-            *parsed = Parsed::Command(Command::Read { name, object });
+            put(parsed, Command::Read { name, object });
             Ok(())
         }
         Some(_) => Err(ParseError::Bad),
@@ -305,7 +312,7 @@ fn update(alloc: Global, line: &str, parsed: &mut Parsed) -> Result<(), ParseErr
     let name = text(alloc, name)?;
     let (object, rest) = object(alloc, rest)?;
     let op = op(alloc, rest)?;
-    *parsed = Parsed::Command(Command::Update { name, object, op });
+    put(parsed, Command::Update { name, object, op });
     Ok(())
 }
 
@@ -360,7 +367,7 @@ fn plain_into(name: &[u8], line: &str, parsed: &mut Parsed) -> Result<(), ParseE
 {
     match plain(name, line) {
         Some(command) => {
-            *parsed = Parsed::Command(command);
+            put(parsed, command);
             Ok(())
         }
         None => Err(ParseError::Bad),
