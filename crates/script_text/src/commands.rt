@@ -110,7 +110,9 @@ fn drop(line: &str) -> Option<Command>
     dropped(only(line)?)
 }
 
-/// Puts a command into the place of a line.
+/// Puts a command into the place of a line. A function that did so itself would be dear to prove: what it drops is a
+/// command of any name.
+#[inline(always)]
 fn put(parsed: &mut Parsed, command: Command)
     ensures { parsed.new ≡ Parsed.Command command }
 {

@@ -1,14 +1,28 @@
 ghost use Rattle.std.specs.Prelude.{◌≡◌, ◌≤◌, ◌+◌, length, take, [], true, IfOk, OnOk, Bool};
 ghost use Rattle.crdt_core.specs.Objects.{same_object};
+ghost use Rattle.crdt_core.specs.Placing.{place_of};
 ghost use Rattle.world_model.specs.rules.Plan.{is_some_update};
 ghost use Rattle.txn_session.specs.Session.{own_updates, updates_of, participants, first_or_zero};
 
-use crdt_core::{Crdt, ObjectId, Upd, copy_update, partition_of};
+use crdt_core::{Crdt, ObjectId, Upd, copy_update};
 use field_codec::ListOf;
 use std::alloc::{AllocError, Global};
 
 /// The most partitions of a site.
 pub const MOST_PARTS: usize = 16;
+
+/// The partition of an object of a site, which needs no hash where it is the only one.
+pub fn partition_of(object: &ObjectId, parts: u8) -> u8
+    requires { 1 ≤ parts }
+    ensures place { result ≡ place_of object.now.bucket object.now.key parts }
+    ensures least { 1 ≤ result }
+    ensures most { result ≤ parts }
+{
+    if parts == 1 {
+        return 1;
+    }
+    crdt_core::partition_of(object, parts)
+}
 
 /// Copies of the updates of an object.
 pub fn own_of<C: Crdt>(

@@ -8,10 +8,10 @@ ghost use Rattle.crdt_core.specs.Placing.{place_of};
 ghost use Rattle.world_model.specs.lines.Places.{IsPlace};
 ghost use Rattle.world_model.specs.rules.Event.{AskBegin};
 
-use crate::chosen::{first_of, own_of, part_of, participants_of};
+use crate::chosen::{first_of, own_of, part_of, participants_of, partition_of};
 use crate::{Phase, SessionError, Store};
 use clocksi_commit::Commit;
-use crdt_core::{Crdt, ObjectId, Op, Upd, fits, partition_of};
+use crdt_core::{Crdt, ObjectId, Op, Upd, fits};
 use field_codec::{ListOf, Text};
 use site_vector::{PartId, TxId, VTime};
 use std::alloc::Global;
