@@ -24,7 +24,7 @@ use world_model::{Command, Step};
 
 /// Whether a line has a command, which is read into its place then.
 fn is_command(alloc: Global, text: &[u8], place: &mut Parsed) -> Result<bool, AllocError>
-    ensures some { result ≡ Ok true → Reads text.now place.new }
+    ensures some { result ≡ Ok true → (c : Command) × (place.new ≡ parsed.Command c) × Reads text.now (parsed.Command c) }
     ensures none { result ≡ Ok false → (c : Command) → ¬ (Reads text.now (parsed.Command c)) }
 {
     match parse(alloc, text, place) {
