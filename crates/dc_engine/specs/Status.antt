@@ -1,5 +1,5 @@
 -- What a status is to the process: its code, and what it prints on standard error.
-use Rattle.std.specs.Prelude.{ℕ, Bool, true, false, List, Option, None, Some, codes}
+use Rattle.std.specs.Prelude.{ℕ, Bool, true, false, List, [], ◌∷◌, ◌++◌, Option, None, Some, codes}
 use Rattle.dc_engine.specs.declared.status.Status.{Status}
 use Rattle.dc_engine.specs.declared.status.Status.TheVariants as status
 
@@ -23,6 +23,15 @@ text_of status.WriteFault = Some (codes "write fault")
 text_of status.NoMemory = Some (codes "out of memory")
 text_of status.TooLong = Some (codes "script too long")
 text_of status.NoDisk = Some (codes "no disk")
+
+-- a text and a LF, where there is one
+abbrev pub line_if : Option (List ℕ) → List ℕ
+line_if None = []
+line_if (Some text) = text ++ 10 ∷ []
+
+-- the line of a status
+abbrev pub told : Status → List ℕ
+told status = line_if (text_of status)
 
 -- the script was read to its end
 abbrev pub ends_whole : Status → Bool

@@ -1,5 +1,11 @@
-ghost use Rattle.std.specs.Prelude.{◌≡◌, IfSome, IfNone, Some, None};
-ghost use Rattle.dc_engine.specs.Status.{code_of, text_of};
+ghost use Rattle.std.specs.Prelude.{◌≡◌, IfSome, IfNone, OnOk, Some, None};
+ghost use Rattle.std.specs.Io.KnownBytes.{Appends};
+ghost use Rattle.std.specs.Process.{exit_status};
+ghost use Rattle.dc_engine.specs.Status.{code_of, text_of, told};
+
+use std::io;
+use std::io::Write;
+use std::process::ExitCode;
 
 /// How a run ended. The process ends with its code.
 #[derive(Clone, Copy, Debug, PartialEq, Eq)]
@@ -55,5 +61,31 @@ impl Status {
             Status::TooLong => Some("script too long"),
             Status::NoDisk => Some("no disk"),
         }
+    }
+
+    /// Writes the line on standard error to this writer, where there is one.
+    ///
+    /// # Errors
+    ///
+    /// That of the writer.
+    fn tell<W: Write>(self, err: &mut W) -> io::Result<()>
+        ensures { OnOk result (Appends (W.contents err.old) (W.contents err.new) (told self)) }
+    {
+        match self.text() {
+            Some(text) => {
+                err.write_all(text.as_bytes())?;
+                err.write_all(b"\n")
+            }
+            None => Ok(()),
+        }
+    }
+
+    /// The code that a process ends with, and how the telling of its line went, which changes no code.
+    pub fn end<W: Write>(self, err: &mut W) -> (ExitCode, io::Result<()>)
+        ensures code { exit_status result.0 ≡ code_of self }
+        ensures told { OnOk result.1 (Appends (W.contents err.old) (W.contents err.new) (told self)) }
+    {
+        let told = self.tell(err);
+        (ExitCode::from(self.code()), told)
     }
 }

@@ -2,28 +2,17 @@
 #![tactic(auto)]
 
 ghost use Rattle.std.specs.Prelude.{◌≡◌, ◌⊎◌, true, false, drop, map, IfOk, IfErr, OnOk, OnErr, string_bytes};
-ghost use Rattle.std.specs.Io.KnownBytes.{Appends};
 ghost use Rattle.std.specs.Vec.Iter.{into_iter_items};
-ghost use Rattle.std.specs.Process.{exit_status};
 ghost use Rattle.dc_engine.specs.Outcome.{PlayOutcome, change};
-ghost use Rattle.dc_engine.specs.Status.{code_of};
 ghost use Rattle.dc_engine.specs.Words.{asks_play};
-ghost use Rattle.dc_shell.specs.Told.{told};
 
 use dc_engine::{ReaderSource, Sink, Source, Status, WriterSink, run};
 use disk_makers::{Disks, RealDisks};
 use std::alloc::{AllocError, Global};
 use std::env::Args;
-use std::io::{ErrorKind, Write};
+use std::io::ErrorKind;
 use std::process::ExitCode;
-use std::{env, io};
-
-#[cfg(test)]
-mod plays;
-#[cfg(test)]
-mod rows;
-#[cfg(test)]
-mod tests;
+use std::env;
 
 /// The status where the process's words can't be had: no memory, or a word that isn't UTF-8, which is no call.
 fn status_without_words(kind: ErrorKind) -> Status
@@ -115,28 +104,6 @@ fn status_of(played: Result<Status, AllocError>) -> Status
     }
 }
 
-/// Writes the line that tells of a status, where there is one.
-fn tell<W: Write>(err: &mut W, status: Status) -> io::Result<()>
-    ensures { OnOk result (Appends (W.contents err.old) (W.contents err.new) (told status)) }
-{
-    match status.text() {
-        Some(text) => {
-            err.write_all(text.as_bytes())?;
-            err.write_all(b"\n")
-        }
-        None => Ok(()),
-    }
-}
-
-/// Tells of a status, and ends with its code, also where the telling fails.
-fn end<W: Write>(err: &mut W, status: Status) -> (ExitCode, io::Result<()>)
-    ensures code { exit_status result.0 ≡ code_of status }
-    ensures told { OnOk result.1 (Appends (W.contents err.old) (W.contents err.new) (told status)) }
-{
-    let told = tell(err, status);
-    (ExitCode::from(status.code()), told)
-}
-
 fn main(rt: HostRuntime) -> ExitCode {
     let status = match words_of(&rt) {
         Ok(words) => {
@@ -153,5 +120,5 @@ fn main(rt: HostRuntime) -> ExitCode {
         }
         Err(status) => status,
     };
-    end(&mut rt.stderr(), status).0
+    status.end(&mut rt.stderr()).0
 }

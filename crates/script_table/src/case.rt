@@ -1,0 +1,128 @@
+// A case of the table: what is played, and how it is told.
+use dc_engine::{ReaderSource, Sink, SliceSource, Source, Status, VecSink, WriterSink, run};
+use disk_makers::MemDisks;
+use std::alloc::Global;
+use std::io;
+use std::io::Write;
+
+/// The bytes that a sink has room for, where a case doesn't say it.
+const ROOM: u64 = 10_000;
+
+/// The room of each disk, which is the greatest.
+const DISK_ROOM: u64 = 2_147_483_648;
+
+/// What fails in a case, and at which calls.
+#[derive(Clone, Copy)]
+pub(crate) struct Faults<'a> {
+    name: &'a str,
+    numbers: &'a [u64],
+}
+
+impl<'a> Faults<'a> {
+    /// Nothing fails.
+    pub(crate) fn none() -> Faults<'a> {
+        Faults {
+            name: "plain",
+            numbers: &[],
+        }
+    }
+
+    /// What the setting of this name and these numbers lets fail.
+    pub(crate) fn of(name: &'a str, numbers: &'a [u64]) -> Faults<'a> {
+        Faults { name, numbers }
+    }
+
+    /// The room of the sink.
+    fn room(self) -> u64 {
+        match (self.name, self.numbers) {
+            ("room", [room, ..]) => *room,
+            _ => ROOM,
+        }
+    }
+}
+
+/// Plays a script from a slice into memory, for these words of the process and with these faults.
+pub(crate) fn play_over(
+    alloc: Global,
+    out: &mut Vec<u8>,
+    words: &[&str],
+    script: &[u8],
+    faults: Faults<'_>,
+) -> io::Result<()> {
+    let mut source = SliceSource::new(alloc, script);
+    let mut sink = VecSink::new(alloc, faults.room())?;
+    let mut disks = MemDisks::new(alloc, DISK_ROOM);
+    match faults.name {
+        "read" => source.fail_at(faults.numbers)?,
+        "write" => sink.fail_at(faults.numbers)?,
+        "make" => disks.fail_at(faults.numbers)?,
+        "disk" => disks.fail_disks_at(faults.numbers)?,
+        _ => {}
+    }
+    let status = run(alloc, words, &mut source, &mut sink, &mut disks);
+    out.extend_from_slice(sink.held())?;
+    tell(out, status)?;
+    tell_disks(out, &disks)
+}
+
+/// Plays what this source has into memory.
+pub(crate) fn play_from<S: Source>(
+    alloc: Global,
+    out: &mut Vec<u8>,
+    source: &mut S,
+) -> io::Result<()> {
+    let mut sink = VecSink::new(alloc, ROOM)?;
+    let mut disks = MemDisks::new(alloc, DISK_ROOM);
+    let status = run(alloc, &["play"], source, &mut sink, &mut disks);
+    out.extend_from_slice(sink.held())?;
+    tell(out, status)
+}
+
+/// Plays a script from a slice into this sink.
+pub(crate) fn play_into<K: Sink>(
+    alloc: Global,
+    out: &mut Vec<u8>,
+    script: &[u8],
+    sink: &mut K,
+) -> io::Result<()> {
+    let mut source = SliceSource::new(alloc, script);
+    let mut disks = MemDisks::new(alloc, DISK_ROOM);
+    let status = run(alloc, &["play"], &mut source, sink, &mut disks);
+    tell(out, status)
+}
+
+/// The code that a process ends with, and its line on standard error.
+fn tell(out: &mut Vec<u8>, status: Status) -> io::Result<()> {
+    let code = status.code();
+    writeln!(out, "ends with {code}")?;
+    status.end(out).1
+}
+
+/// The partitions whose disks the maker has back.
+fn tell_disks(out: &mut Vec<u8>, disks: &MemDisks) -> io::Result<()> {
+    for (at, _) in disks.disks() {
+        let (site, part) = (at.site, at.part);
+        writeln!(out, "back {site}.{part}")?;
+    }
+    Ok(())
+}
+
+/// Reads two blocks of so many bytes, and writes each behind the count of what was read.
+pub(crate) fn copy_by_blocks(
+    alloc: Global,
+    out: &mut Vec<u8>,
+    script: &[u8],
+    size: usize,
+) -> io::Result<()> {
+    let mut source = ReaderSource::new(script);
+    let mut block = vec![in alloc; 0u8; size]?;
+    for _ in 0..2 {
+        if let Ok(count) = source.read(block.as_mut_slice()) {
+            writeln!(out, "read {count}")?;
+            let written = WriterSink::new(&mut *out).write(&block[..count]);
+            let all = written == Ok(count);
+            writeln!(out, ", all written: {all}")?;
+        }
+    }
+    Ok(())
+}
