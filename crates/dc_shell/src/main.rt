@@ -9,10 +9,10 @@ ghost use Rattle.dc_engine.specs.Words.{asks_play};
 use dc_engine::{ReaderSource, Sink, Source, Status, WriterSink, run};
 use disk_makers::{Disks, RealDisks};
 use std::alloc::{AllocError, Global};
+use std::env;
 use std::env::Args;
 use std::io::ErrorKind;
 use std::process::ExitCode;
-use std::env;
 
 /// The status where the process's words can't be had: no memory, or a word that isn't UTF-8, which is no call.
 fn status_without_words(kind: ErrorKind) -> Status

@@ -87,6 +87,35 @@ fn dots_again(alloc: Global, out: &mut Vec<u8>, bytes: &[u8], at: usize) -> Resu
     Ok(end)
 }
 
+fn vector_again(out: &mut Vec<u8>, bytes: &[u8], at: usize) -> Result<usize, TakeError>
+    ensures { IfOk result (λ end. end ≤ length bytes.now) }
+{
+    let (v, end) = take_vector(bytes, at)?;
+    put_vector(out, &v)?;
+    Ok(end)
+}
+
+fn kind_again(out: &mut Vec<u8>, bytes: &[u8], at: usize) -> Result<usize, TakeError>
+    ensures { IfOk result (λ end. end ≤ length bytes.now) }
+{
+    let (kind, end) = take_kind(bytes, at)?;
+    put_kind(out, kind)?;
+    Ok(end)
+}
+
+fn object_again(
+    alloc: Global,
+    out: &mut Vec<u8>,
+    bytes: &[u8],
+    at: usize,
+) -> Result<usize, TakeError>
+    ensures { IfOk result (λ end. end ≤ length bytes.now) }
+{
+    let (object, end) = take_object::<Any>(alloc, bytes, at)?;
+    put_object(out, &object)?;
+    Ok(end)
+}
+
 /// The vector, kind or object at a place is put again.
 fn other_again(
     name: &str,
@@ -98,21 +127,9 @@ fn other_again(
     ensures { IfOk result (λ end. end ≤ length bytes.now) }
 {
     match name {
-        "vector" => {
-            let (v, end) = take_vector(bytes, at)?;
-            put_vector(out, &v)?;
-            Ok(end)
-        }
-        "kind" => {
-            let (kind, end) = take_kind(bytes, at)?;
-            put_kind(out, kind)?;
-            Ok(end)
-        }
-        "object" => {
-            let (object, end) = take_object::<Any>(alloc, bytes, at)?;
-            put_object(out, &object)?;
-            Ok(end)
-        }
+        "vector" => vector_again(out, bytes, at),
+        "kind" => kind_again(out, bytes, at),
+        "object" => object_again(alloc, out, bytes, at),
         _ => number_again(name, out, bytes, at),
     }
 }

@@ -126,6 +126,23 @@ fn update_on<C: Crdt>(
     }
 }
 
+/// Makes an update of a site on those of these places.
+fn update_after<C: Crdt>(
+    alloc: Global,
+    out: &mut String,
+    kind: Kind,
+    made: &mut Vec<(u8, C::Effect)>,
+    site: u8,
+    op: &Op,
+    seen: &str,
+    now: u64,
+) -> Result<(), AllocError>
+    requires { C.has kind ≡ true }
+{
+    let state = state_of::<C>(alloc, kind, made.as_slice(), seen)?;
+    update_on::<C>(alloc, out, kind, made, site, op, &state, now)
+}
+
 /// Makes the update of the words `SITE SEEN CLOCK PATH ACT ..`.
 fn update<C: Crdt>(
     alloc: Global,
@@ -143,8 +160,7 @@ fn update<C: Crdt>(
         return out.push_str("no operation");
     };
     let (site, now) = (site.parse::<u8>().unwrap_or(1), number_of(clock));
-    let state = state_of::<C>(alloc, kind, made.as_slice(), seen)?;
-    update_on::<C>(alloc, out, kind, made, site, &op, &state, now)
+    update_after::<C>(alloc, out, kind, made, site, &op, seen, now)
 }
 
 /// What all updates show, in turn.

@@ -131,9 +131,7 @@ fn answer_words(alloc: Global, out: &mut String, words: &[&str]) -> Result<(), A
         ["kind", code] => answer_kind(out, code),
         ["fits", kind, op @ ..] => answer_fits(alloc, out, kind, op),
         [question, name, at, digits @ ..] => {
-            let bytes = bytes_of(alloc, digits)?;
-            let at = at.parse::<usize>().unwrap_or(0);
-            answer_digits(alloc, out, question, name, at, bytes.as_slice())
+            answer_digits(alloc, out, question, name, number_of(at) as usize, digits)
         }
         _ => out.push_str("no line\n"),
     }
@@ -146,11 +144,12 @@ fn answer_digits(
     question: &str,
     name: &str,
     at: usize,
-    bytes: &[u8],
+    digits: &[&str],
 ) -> Result<(), AllocError> {
+    let bytes = bytes_of(alloc, digits)?;
     match question {
-        "form" => forms::answer(alloc, out, name, at, bytes),
-        "bytes" => answer_bytes(alloc, out, name, at, bytes),
+        "form" => forms::answer(alloc, out, name, at, bytes.as_slice()),
+        "bytes" => answer_bytes(alloc, out, name, at, bytes.as_slice()),
         _ => out.push_str("no line\n"),
     }
 }
