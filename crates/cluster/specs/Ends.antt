@@ -1,5 +1,5 @@
 -- How the transaction of a session in a cluster comes to its end: step by step, as it is committed or given up.
-use Rattle.std.specs.Prelude.{◌≡◌, ◌≢◌, ℕ, zero, Bool, true, false, not, List, ◌++◌, Option, None, Some}
+use Rattle.std.specs.Prelude.{◌≡◌, ◌≢◌, ℕ, zero, Bool, true, false, not, List, [], ◌∷◌, ◌++◌, Option, None, Some}
 use Rattle.site_vector.specs.declared.ids.TxId.{TxId}
 use Rattle.world_model.specs.declared.command.Command.{Command}
 use Rattle.world_model.specs.declared.command.Command.TheVariants as command
@@ -55,6 +55,12 @@ abbrev pub goes_on : Phase → Next → Bool
 goes_on phase.Idle n = false
 goes_on p next.Go = true
 goes_on p next.Stay = false
+
+-- one line was added, of which this holds
+pub record AddsLine (old new : List Step) (IsSo : Step → Type 0) : Type 0 where
+  pub line : Step
+  pub added : new ≡ old ++ line ∷ []
+  pub is_so : IsSo line
 
 -- there is a transaction that isn't decided
 abbrev pub is_undecided_phase : Phase → Bool

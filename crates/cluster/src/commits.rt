@@ -5,7 +5,7 @@ ghost use Rattle.txn_session.specs.Calls.{Call};
 ghost use Rattle.txn_session.specs.Holds.{Holds, Mays};
 ghost use Rattle.cluster.specs.Acts.{Acts};
 ghost use Rattle.cluster.specs.Built.{IsSaid};
-ghost use Rattle.cluster.specs.Ends.{MayMake, TakesStep, can_end, command_of, goes_on, is_undecided_phase, stops};
+ghost use Rattle.cluster.specs.Ends.{AddsLine, MayMake, TakesStep, can_end, command_of, goes_on, is_undecided_phase, stops};
 ghost use Rattle.cluster.specs.Same.{SameCluster};
 ghost use Rattle.cluster.specs.Live.{session_in};
 ghost use Rattle.cluster.specs.Reached.{AppliesLive, IsReachedLive};
@@ -108,8 +108,7 @@ fn end_all<C: Crdt, D: Disk + Drop>(
     let mut lines = Vec::new(alloc);
     let mut left = steps;
     'steps: loop {
-        let (line, goes) = end_once(sites, sessions, name, way)?;
-        lines.push(line)?;
+        let goes = end_once(sites, sessions, name, way, &mut lines)?;
         if !goes {
             return Ok(lines);
         }
@@ -120,20 +119,21 @@ fn end_all<C: Crdt, D: Disk + Drop>(
     }
 }
 
-/// Makes the next step of the end of a session's transaction. Answers its line, and whether more follow.
+/// Makes the next step of the end of a session's transaction, and adds its line. Answers whether more follow.
 fn end_once<C: Crdt, D: Disk + Drop>(
     sites: &mut Local<C, D>,
     sessions: &mut Sessions<C>,
     name: &Text,
     way: Way,
-) -> Result<(Step, bool), AllocError>
+    lines: &mut Vec<Step>,
+) -> Result<bool, AllocError>
     requires can { can_end way (session_in sessions.old.entries name.now) ≡ true }
     requires reached { IsReachedLive (types_of C.laws C.spells D.state) (record { sites = sites.old; sessions = sessions.old.entries }) }
-    ensures { IfOk result (λ r. Acts (types_of C.laws C.spells D.state) sites.old sessions.old.entries name.now sites.new sessions.new.entries (TakesStep (types_of C.laws C.spells D.state) sites.old sites.new way r.0 r.1)) }
+    ensures { IfOk result (λ goes. AddsLine lines.old.items lines.new.items (λ line. Acts (types_of C.laws C.spells D.state) sites.old sessions.old.entries name.now sites.new sessions.new.entries (TakesStep (types_of C.laws C.spells D.state) sites.old sites.new way line goes))) }
 {
     match sessions.get_mut(name) {
         Some(session) => {
-            return step_on(session, sites, way);
+            return step_on(session, sites, way, lines);
         }
         None => {
             return Err(AllocError);
@@ -141,17 +141,18 @@ fn end_once<C: Crdt, D: Disk + Drop>(
     }
 }
 
-/// Makes the next step of the end of the session's transaction.
+/// Makes the next step of the end of the session's transaction, and adds its line, which is long: so it is moved once.
 fn step_on<C: Crdt, D: Disk + Drop>(
     session: &mut Session<C>,
     sites: &mut Local<C, D>,
     way: Way,
-) -> Result<(Step, bool), AllocError>
+    lines: &mut Vec<Step>,
+) -> Result<bool, AllocError>
     requires sites { sites.old.sites ≡ session.old.sites }
     requires parts { sites.old.parts ≡ session.old.parts }
     requires holds { Mays (λ h (p : Unit {0}) l. Sees (types_of C.laws C.spells D.state) h l) (λ (p : Unit {0}) n. true) sites.old tt session.old }
     ensures stays { SameCluster D.state sites.old sites.new }
-    ensures made { IfOk result (λ r. (calls : List (Call C.Effect)) → Sees (types_of C.laws C.spells D.state) sites.old calls → Holds session.old calls → TakesStep (types_of C.laws C.spells D.state) sites.old sites.new way r.0 r.1 session.old session.new calls) }
+    ensures made { IfOk result (λ goes. AddsLine lines.old.items lines.new.items (λ line. (calls : List (Call C.Effect)) → Sees (types_of C.laws C.spells D.state) sites.old calls → Holds session.old calls → TakesStep (types_of C.laws C.spells D.state) sites.old sites.new way line goes session.old session.new calls)) }
 {
     match way {
         Way::Commits => {
@@ -159,7 +160,8 @@ fn step_on<C: Crdt, D: Disk + Drop>(
             match answer {
                 Ok((step, next)) => {
                     let goes = goes_on(session.phase(), next);
-                    return Ok((step, goes));
+                    lines.push(step)?;
+                    return Ok(goes);
                 }
                 Err(_) => {
                     return Err(AllocError);
@@ -171,7 +173,8 @@ fn step_on<C: Crdt, D: Disk + Drop>(
             match answer {
                 Ok(step) => {
                     let goes = goes_on(session.phase(), Next::Go);
-                    return Ok((step, goes));
+                    lines.push(step)?;
+                    return Ok(goes);
                 }
                 Err(_) => {
                     return Err(AllocError);

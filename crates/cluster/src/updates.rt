@@ -1,4 +1,4 @@
-ghost use Rattle.std.specs.Prelude.{◌≡◌, ◌≢◌, true, false, [], ◌∷◌, IfOk, IfErr};
+ghost use Rattle.std.specs.Prelude.{◌≡◌, ◌≢◌, true, false, IfOk, IfErr};
 ghost use Rattle.site_partitions.specs.Reaches.{types_of};
 ghost use Rattle.crdt_core.specs.Fits.{fits};
 ghost use Rattle.txn_session.specs.declared.error.SessionError.TheVariants.{NoMemory};
@@ -11,7 +11,7 @@ use crate::local::Local;
 use crdt_core::{Crdt, ObjectId, Op};
 use disk_core::Disk;
 use field_codec::Text;
-use std::alloc::AllocError;
+use std::alloc::{AllocError, Global};
 use txn_session::SessionError;
 use world_model::{Command, Step};
 
@@ -22,14 +22,13 @@ impl<C: Crdt, D: Disk + Drop> Live<C, D> {
         requires reached { IsReachedLive (types_of C.laws C.spells D.state) self.old }
         ensures { IfOk result (λ steps. AppliesLive (types_of C.laws C.spells D.state) self.old (Command.Read name.now object.now) steps.items self.new) }
     {
-        match read_in(&mut self.sites, &mut self.sessions, name, object) {
-            Ok(step) => {
-                return only(self.alloc, step);
-            }
-            Err(error) => {
-                return Err(error);
-            }
-        }
+        read_in(
+            self.alloc,
+            &mut self.sites,
+            &mut self.sessions,
+            name,
+            object,
+        )
     }
 
     /// Updates an object in a session's transaction.
@@ -44,37 +43,38 @@ impl<C: Crdt, D: Disk + Drop> Live<C, D> {
         requires reached { IsReachedLive (types_of C.laws C.spells D.state) self.old }
         ensures { IfOk result (λ steps. AppliesLive (types_of C.laws C.spells D.state) self.old (Command.Update name.now object.now op.now) steps.items self.new) }
     {
-        match update_in(&mut self.sites, &mut self.sessions, name, object, op) {
-            Ok(step) => {
-                return only(self.alloc, step);
-            }
-            Err(error) => {
-                return Err(error);
-            }
-        }
+        update_in(
+            self.alloc,
+            &mut self.sites,
+            &mut self.sessions,
+            name,
+            object,
+            op,
+        )
     }
 }
 
 /// The line of a read in a session's transaction, which is looked up once.
 fn read_in<C: Crdt, D: Disk + Drop>(
+    alloc: Global,
     sites: &mut Local<C, D>,
     sessions: &mut Sessions<C>,
     name: &Text,
     object: &ObjectId,
-) -> Result<Step, AllocError>
+) -> Result<Vec<Step>, AllocError>
     requires has { C.has object.now.kind ≡ true }
     requires reached { IsReachedLive (types_of C.laws C.spells D.state) (record { sites = sites.old; sessions = sessions.old.entries }) }
-    ensures { IfOk result (λ step. AppliesLive (types_of C.laws C.spells D.state) (record { sites = sites.old; sessions = sessions.old.entries }) (Command.Read name.now object.now) (step ∷ []) (record { sites = sites.new; sessions = sessions.new.entries })) }
+    ensures { IfOk result (λ steps. AppliesLive (types_of C.laws C.spells D.state) (record { sites = sites.old; sessions = sessions.old.entries }) (Command.Read name.now object.now) steps.items (record { sites = sites.new; sessions = sessions.new.entries })) }
 {
     match sessions.get_mut(name) {
         Some(session) => {
             if !is_open(session.phase()) {
-                return Ok(Step::NoTxn);
+                return only(alloc, Step::NoTxn);
             }
             let (_, answer) = session.read(sites, (), object);
             match answer {
                 Ok(step) => {
-                    return Ok(step);
+                    return only(alloc, step);
                 }
                 Err(_) => {
                     return Err(AllocError);
@@ -82,38 +82,44 @@ fn read_in<C: Crdt, D: Disk + Drop>(
             }
         }
         None => {
-            return Ok(Step::NoSession);
+            return only(alloc, Step::NoSession);
         }
     }
 }
 
 /// The line of an update in a session's transaction, which is looked up once.
 fn update_in<C: Crdt, D: Disk + Drop>(
+    alloc: Global,
     sites: &mut Local<C, D>,
     sessions: &mut Sessions<C>,
     name: &Text,
     object: &ObjectId,
     op: &Op,
-) -> Result<Step, AllocError>
+) -> Result<Vec<Step>, AllocError>
     requires has { C.has object.now.kind ≡ true }
     requires shallow { fits object.now.kind op.now.path op.now.act ≡ true → C.too_deep object.now.kind op.now.path ≡ false }
     requires reached { IsReachedLive (types_of C.laws C.spells D.state) (record { sites = sites.old; sessions = sessions.old.entries }) }
-    ensures { IfOk result (λ step. AppliesLive (types_of C.laws C.spells D.state) (record { sites = sites.old; sessions = sessions.old.entries }) (Command.Update name.now object.now op.now) (step ∷ []) (record { sites = sites.new; sessions = sessions.new.entries })) }
+    ensures { IfOk result (λ steps. AppliesLive (types_of C.laws C.spells D.state) (record { sites = sites.old; sessions = sessions.old.entries }) (Command.Update name.now object.now op.now) steps.items (record { sites = sites.new; sessions = sessions.new.entries })) }
 {
     match sessions.get_mut(name) {
         Some(session) => {
             let (_, answer) = session.update(sites, (), object, op);
             match answer {
                 Ok(step) => {
-                    return Ok(step);
+                    return only(alloc, step);
                 }
-                Err(error) => {
-                    return refused(&error);
-                }
+                Err(error) => match refused(&error) {
+                    Ok(line) => {
+                        return only(alloc, line);
+                    }
+                    Err(error) => {
+                        return Err(error);
+                    }
+                },
             }
         }
         None => {
-            return Ok(Step::NoSession);
+            return only(alloc, Step::NoSession);
         }
     }
 }

@@ -400,8 +400,7 @@ impl<C: Crdt> Session<C> {
             _ => {}
         }
         self.start();
-        let (pass, answer) = self.end_step(store, pass);
-        return (pass, answer);
+        return self.end_step(store, pass);
     }
 
     /// Begins the commit of an open transaction, at the partitions that it updated.
