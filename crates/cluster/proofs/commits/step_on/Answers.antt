@@ -5,7 +5,7 @@ use Rattle.cluster.proofs.commits.step_on.Goals as goal
 pub returns-in-Ok-clause-made : goal.returns-in-Ok-clause-made
 returns-in-Ok-clause-made g c = let e = c.commit_step-answer.ensures in record {
   line = c.in-Ok.step;
-  added = c.in_ok-push.ensures.items;
+  added = c.in_ok-push-in-Ok.ensures.items;
   is_so = commits_on (types_of g.C.Crdt.laws g.C.Crdt.spells g.D.Disk.state) c.args.sites.now c.commit_step-answer.new.store c.args.session.now c.commit_step-answer.new.self c.args.way c.goes_on-goes.result c.in-Ok.step c.in-Commits.is c.in-Ok.next c.commit_step-answer.result.1 c.in-Ok.is
       e.stepped e.next e.ended e.tells e.steps
       c.phase.result c.goes_on-goes.ensures c.phase.ensures;
