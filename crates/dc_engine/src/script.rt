@@ -24,7 +24,6 @@ const BLOCK: usize = 65_536;
 const MOST_BYTES: usize = 67_108_864;
 
 /// Plays a script with what answers its lines.
-#[tactic(auto, using(crate::proofs::bytes::Progress::played_all))]
 pub(crate) fn play_script<S: Source, K: Sink, R: Responder>(
     alloc: Global,
     source: &mut S,

@@ -113,7 +113,7 @@ fn answer_block<K: Sink, R: Responder>(
 }
 
 /// Answers a last line that has no LF, and writes the reply.
-#[tactic(auto, using(crate::proofs::bytes::Written::ends_none, crate::proofs::bytes::Written::ends_line, crate::proofs::bytes::Written::ends_front, crate::proofs::bytes::Written::ends_before))]
+#[tactic(auto, using(crate::proofs::bytes::Written::ends_before))]
 fn answer_end<K: Sink, R: Responder>(
     sink: &mut K,
     responder: &mut R,
