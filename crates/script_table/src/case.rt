@@ -1,7 +1,7 @@
 // A case of the table: what is played, and how it is told.
 use dc_engine::{ReaderSource, Sink, SliceSource, Source, Status, VecSink, WriterSink, run};
 use disk_makers::MemDisks;
-use std::alloc::Global;
+use std::alloc::{AllocError, Global};
 use std::io;
 use std::io::Write;
 
@@ -41,6 +41,37 @@ impl<'a> Faults<'a> {
     }
 }
 
+/// Lets a source, a sink and a maker of disks fail so.
+fn set_faults(
+    source: &mut SliceSource<'_>,
+    sink: &mut VecSink,
+    disks: &mut MemDisks,
+    faults: Faults<'_>,
+) -> Result<(), AllocError> {
+    match faults.name {
+        "read" => source.fail_at(faults.numbers),
+        "write" => sink.fail_at(faults.numbers),
+        "make" => disks.fail_at(faults.numbers),
+        "disk" => disks.fail_disks_at(faults.numbers),
+        _ => Ok(()),
+    }
+}
+
+/// Plays what a source has into a sink, and tells how it ended.
+fn play_with(
+    alloc: Global,
+    out: &mut Vec<u8>,
+    words: &[&str],
+    source: &mut SliceSource<'_>,
+    sink: &mut VecSink,
+    disks: &mut MemDisks,
+) -> io::Result<()> {
+    let status = run(alloc, words, source, sink, disks);
+    out.extend_from_slice(sink.held())?;
+    tell(out, status)?;
+    tell_disks(out, disks)
+}
+
 /// Plays a script from a slice into memory, for these words of the process and with these faults.
 pub(crate) fn play_over(
     alloc: Global,
@@ -52,17 +83,8 @@ pub(crate) fn play_over(
     let mut source = SliceSource::new(alloc, script);
     let mut sink = VecSink::new(alloc, faults.room())?;
     let mut disks = MemDisks::new(alloc, DISK_ROOM);
-    match faults.name {
-        "read" => source.fail_at(faults.numbers)?,
-        "write" => sink.fail_at(faults.numbers)?,
-        "make" => disks.fail_at(faults.numbers)?,
-        "disk" => disks.fail_disks_at(faults.numbers)?,
-        _ => {}
-    }
-    let status = run(alloc, words, &mut source, &mut sink, &mut disks);
-    out.extend_from_slice(sink.held())?;
-    tell(out, status)?;
-    tell_disks(out, &disks)
+    set_faults(&mut source, &mut sink, &mut disks, faults)?;
+    play_with(alloc, out, words, &mut source, &mut sink, &mut disks)
 }
 
 /// Plays what this source has into memory.

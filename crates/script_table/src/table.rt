@@ -32,32 +32,52 @@ pub(crate) fn run(alloc: Global, out: &mut Vec<u8>, text: &str) -> io::Result<()
 fn answer(alloc: Global, out: &mut Vec<u8>, setting: &str, script: &[u8]) -> io::Result<()> {
     let (name, about) = setting.split_once(' ').unwrap_or((setting, ""));
     match name {
-        "bare" => {
-            let bare = script.strip_suffix(b"\n").unwrap_or(script);
-            play_over(alloc, out, &["play"], bare, Faults::none())
-        }
-        "words" => {
-            let words = words_of(alloc, about)?;
-            play_over(alloc, out, words.as_slice(), script, Faults::none())
-        }
-        "blank" => {
-            let script = vec![in alloc; b'\n'; number_of(about)]?;
-            play_over(alloc, out, &["play"], script.as_slice(), Faults::none())
-        }
-        "spaces" => {
-            let script = spaced(alloc, number_of(about))?;
-            play_over(alloc, out, &["play"], script.as_slice(), Faults::none())
-        }
+        "bare" => play(alloc, out, script.strip_suffix(b"\n").unwrap_or(script)),
+        "words" => answer_words(alloc, out, about, script),
+        "blank" => answer_blank(alloc, out, number_of(about)),
+        "spaces" => answer_spaces(alloc, out, number_of(about)),
         "reader" => play_from(alloc, out, &mut ReaderSource::new(Broken)),
         "writer" => play_into(alloc, out, script, &mut WriterSink::new(Broken)),
         "full" => play_into(alloc, out, script, &mut WriterSink::new(Full)),
         "blocks" => copy_by_blocks(alloc, out, script, number_of(about)),
-        _ => {
-            let numbers = numbers_of(alloc, about)?;
-            let faults = Faults::of(name, numbers.as_slice());
-            play_over(alloc, out, &["play"], script, faults)
-        }
+        _ => answer_faults(alloc, out, name, about, script),
     }
+}
+
+/// Plays a script where nothing fails.
+fn play(alloc: Global, out: &mut Vec<u8>, script: &[u8]) -> io::Result<()> {
+    play_over(alloc, out, &["play"], script, Faults::none())
+}
+
+/// Plays a script for other words of the process.
+fn answer_words(alloc: Global, out: &mut Vec<u8>, words: &str, script: &[u8]) -> io::Result<()> {
+    let words = words_of(alloc, words)?;
+    play_over(alloc, out, words.as_slice(), script, Faults::none())
+}
+
+/// Plays so many line feeds.
+fn answer_blank(alloc: Global, out: &mut Vec<u8>, count: usize) -> io::Result<()> {
+    let script = vec![in alloc; b'\n'; count]?;
+    play(alloc, out, script.as_slice())
+}
+
+/// Plays a script with so many spaces in the midst of a line.
+fn answer_spaces(alloc: Global, out: &mut Vec<u8>, count: usize) -> io::Result<()> {
+    let script = spaced(alloc, count)?;
+    play(alloc, out, script.as_slice())
+}
+
+/// Plays a script where what the setting says fails at the calls with these numbers.
+fn answer_faults(
+    alloc: Global,
+    out: &mut Vec<u8>,
+    name: &str,
+    numbers: &str,
+    script: &[u8],
+) -> io::Result<()> {
+    let numbers = numbers_of(alloc, numbers)?;
+    let faults = Faults::of(name, numbers.as_slice());
+    play_over(alloc, out, &["play"], script, faults)
 }
 
 /// The words of a text.
