@@ -17,3 +17,4 @@ pub use streams::memory::{Calls, SliceSource, VecSink};
 pub use streams::sink::Sink;
 pub use streams::source::{Failed, Source};
 pub use top::{play, run};
+pub use words::run_words;

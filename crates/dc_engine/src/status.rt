@@ -1,8 +1,9 @@
-ghost use Rattle.std.specs.Prelude.{◌≡◌, IfSome, IfNone, OnOk, Some, None};
+ghost use Rattle.std.specs.Prelude.{◌≡◌, IfSome, IfNone, IfOk, OnOk, OnErr, Some, None};
 ghost use Rattle.std.specs.Io.KnownBytes.{Appends};
 ghost use Rattle.std.specs.Process.{exit_status};
 ghost use Rattle.dc_engine.specs.Status.{code_of, text_of, told};
 
+use std::alloc::AllocError;
 use std::io;
 use std::io::Write;
 use std::process::ExitCode;
@@ -29,6 +30,17 @@ pub enum Status {
 }
 
 impl Status {
+    /// The status that a run had, which is want of memory where it didn't begin.
+    pub fn of(run: Result<Status, AllocError>) -> Status
+        ensures ran { IfOk run (λ status. result ≡ status) }
+        ensures no_memory { OnErr run (result ≡ Status.NoMemory) }
+    {
+        match run {
+            Ok(status) => status,
+            Err(AllocError) => Status::NoMemory,
+        }
+    }
+
     /// The code that the process ends with, from 0 to 7.
     pub fn code(self) -> u8
         ensures { result ≡ code_of self }

@@ -1,5 +1,13 @@
-ghost use Rattle.std.specs.Prelude.{◌≡◌, map};
+ghost use Rattle.std.specs.Prelude.{◌≡◌, true, false, drop, map, IfOk, OnErr, string_bytes};
+ghost use Rattle.dc_engine.specs.Outcome.{PlayOutcome, change};
 ghost use Rattle.dc_engine.specs.Words.{asks_play};
+
+use crate::status::Status;
+use crate::streams::sink::Sink;
+use crate::streams::source::Source;
+use crate::top::run;
+use disk_makers::Disks;
+use std::alloc::{AllocError, Global};
 
 /// Whether the process's words, its own name left out, ask for a script to be played.
 pub(crate) fn is_play(words: &[&str]) -> bool
@@ -9,4 +17,47 @@ pub(crate) fn is_play(words: &[&str]) -> bool
         [word] => *word == "play",
         _ => false,
     }
+}
+
+/// The words behind the first, which is the program's own name.
+fn behind_name(words: &[String]) -> &[String]
+    ensures { result.now ≡ drop 1 words.now }
+{
+    match words {
+        [_, rest @ ..] => rest,
+        [] => words,
+    }
+}
+
+/// These words, one by one.
+fn texts_of<'a>(alloc: Global, words: &'a [String]) -> Result<Vec<&'a str>, AllocError>
+    ensures { IfOk result (λ texts. map (λ text. text.now) texts.items ≡ map string_bytes words.now) }
+{
+    let mut texts = Vec::new(alloc);
+    for word in words {
+        texts.push(word.as_str())?;
+    }
+    Ok(texts)
+}
+
+/// Does what the words of a process ask for, of which the first is the program's own name, as `run` does.
+///
+/// # Errors
+///
+/// `AllocError` where there is no memory for the words. Nothing is read, written or made then.
+pub fn run_words<S: Source, K: Sink, M: Disks>(
+    alloc: Global,
+    words: &[String],
+    source: &mut S,
+    sink: &mut K,
+    disks: &mut M,
+) -> Result<Status, AllocError>
+    ensures played { asks_play (map string_bytes (drop 1 words.now)) ≡ true → IfOk result (λ status. PlayOutcome M.Disk.state (M.state disks.old) (M.state disks.new) status (change S.left S.faults source.old source.new) (change K.held K.faults sink.old sink.new)) }
+    ensures usage { asks_play (map string_bytes (drop 1 words.now)) ≡ false → IfOk result (λ status. (status ≡ Status.Usage) × (source.new ≡ source.old) × (sink.new ≡ sink.old) × (disks.new ≡ disks.old)) }
+    ensures unread { OnErr result (source.new ≡ source.old) }
+    ensures unwritten { OnErr result (sink.new ≡ sink.old) }
+    ensures unmade { OnErr result (disks.new ≡ disks.old) }
+{
+    let texts = texts_of(alloc, behind_name(words))?;
+    Ok(run(alloc, texts.as_slice(), source, sink, disks))
 }

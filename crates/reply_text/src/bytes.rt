@@ -7,6 +7,7 @@ use itoa::Buffer;
 use std::alloc::AllocError;
 
 /// Adds the bytes.
+#[inline(always)]
 pub fn put(out: &mut Vec<u8>, bytes: &[u8]) -> Result<(), AllocError>
     ensures ok { OnOk result (out.new.items ≡ out.old.items ++ bytes.now) }
     ensures err { OnErr result (Begins out.old.items out.new.items) }
@@ -15,6 +16,7 @@ pub fn put(out: &mut Vec<u8>, bytes: &[u8]) -> Result<(), AllocError>
 }
 
 /// Adds one byte.
+#[inline(always)]
 pub fn put_byte(out: &mut Vec<u8>, byte: u8) -> Result<(), AllocError>
     ensures ok { OnOk result (out.new.items ≡ out.old.items ++ byte ∷ []) }
     ensures err { OnErr result (Begins out.old.items out.new.items) }
@@ -24,6 +26,7 @@ pub fn put_byte(out: &mut Vec<u8>, byte: u8) -> Result<(), AllocError>
 }
 
 /// Adds one byte, where something stands before.
+#[inline(always)]
 pub fn put_if(out: &mut Vec<u8>, later: bool, byte: u8) -> Result<(), AllocError>
     ensures ok { OnOk result (out.new.items ≡ out.old.items ++ (if later then byte ∷ [] else [])) }
     ensures err { OnErr result (Begins out.old.items out.new.items) }

@@ -9,6 +9,7 @@ use script_words::is_plain;
 use std::alloc::{AllocError, Global};
 
 /// Adds the bytes between quotes.
+#[inline(always)]
 fn put_between(out: &mut Vec<u8>, bytes: &[u8]) -> Result<(), AllocError>
     ensures ok { OnOk result (out.new.items ≡ out.old.items ++ (codes "\"" ++ (bytes.now ++ codes "\""))) }
     ensures err { OnErr result (Begins out.old.items out.new.items) }
@@ -19,6 +20,7 @@ fn put_between(out: &mut Vec<u8>, bytes: &[u8]) -> Result<(), AllocError>
 }
 
 /// The text as JSON writes it.
+#[inline(never)]
 fn quote(alloc: Global, text: &str) -> Result<String, AllocError>
     ensures { IfOk result (λ s. string_bytes s ≡ quoted text.now) }
 {
@@ -27,6 +29,7 @@ fn quote(alloc: Global, text: &str) -> Result<String, AllocError>
 
 /// Adds the text as JSON writes it. Only a text with a byte that is escaped is written elsewhere first.
 #[tactic(auto, using(crate::specs::Words::begins_same, crate::specs::Words::begins_after, crate::proofs::Plain::between_quotes))]
+#[inline(always)]
 pub fn put_quoted(alloc: Global, out: &mut Vec<u8>, text: &str) -> Result<(), AllocError>
     ensures ok { OnOk result (out.new.items ≡ out.old.items ++ quoted text.now) }
     ensures err { OnErr result (Begins out.old.items out.new.items) }

@@ -16,11 +16,13 @@ use itoa::Buffer;
 use script_words::kind_name;
 use std::alloc::{AllocError, Global};
 use std::collections::{BTreeMap, LinkedList};
+use std::mem::replace;
 
 /// The bytes that most values of fields take.
 const MOST_OF_A_VALUE: usize = 32;
 
 /// Adds a text of an array, after a comma where something stands before.
+#[inline(always)]
 fn put_item(alloc: Global, out: &mut Vec<u8>, later: bool, item: &Text) -> Result<(), AllocError>
     ensures ok { OnOk result (out.new.items ≡ out.old.items ++ ((if later then codes "," else []) ++ quoted item.now)) }
     ensures err { OnErr result (Begins out.old.items out.new.items) }
@@ -29,8 +31,9 @@ fn put_item(alloc: Global, out: &mut Vec<u8>, later: bool, item: &Text) -> Resul
     put_quoted(alloc, out, item.as_str())
 }
 
-/// Adds the texts with a comma between neighbors.
-fn put_items(alloc: Global, out: &mut Vec<u8>, items: &[Text]) -> Result<(), AllocError>
+/// Adds each of the texts, with a comma between neighbors.
+#[inline(always)]
+fn put_each(alloc: Global, out: &mut Vec<u8>, items: &[Text]) -> Result<(), AllocError>
     ensures ok { OnOk result (out.new.items ≡ out.old.items ++ join_by quoted (codes ",") items.now) }
     ensures err { OnErr result (Begins out.old.items out.new.items) }
 {
@@ -38,6 +41,19 @@ fn put_items(alloc: Global, out: &mut Vec<u8>, items: &[Text]) -> Result<(), All
         put_item(alloc, out, i > 0, item)?;
     }
     Ok(())
+}
+
+/// Adds the texts with a comma between neighbors. Meanwhile the buffer is the function's own, so that its length stays in
+/// a register.
+#[inline(never)]
+fn put_items(alloc: Global, out: &mut Vec<u8>, items: &[Text]) -> Result<(), AllocError>
+    ensures ok { OnOk result (out.new.items ≡ out.old.items ++ join_by quoted (codes ",") items.now) }
+    ensures err { OnErr result (Begins out.old.items out.new.items) }
+{
+    let mut taken = replace(out, Vec::new(alloc));
+    let put = put_each(alloc, &mut taken, items);
+    *out = taken;
+    put
 }
 
 /// Adds the texts as a JSON array.

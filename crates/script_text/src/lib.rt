@@ -90,20 +90,29 @@ fn as_line(bytes: &[u8]) -> Option<&str>
     as_text(bytes)
 }
 
+/// What a line without a command reads as takes its place. A function that did so itself would be dear to prove, as
+/// with `put`.
+#[inline(always)]
+fn put_nothing(parsed: &mut Parsed)
+    ensures { parsed.new ≡ Parsed.Nothing }
+{
+    *parsed = Parsed::Nothing;
+}
+
 /// Reads the words of the line.
 fn parse_words(alloc: Global, line: &str, parsed: &mut Parsed) -> Result<(), ParseError>
     ensures ok { OnOk result (Some parsed.new ≡ line_as (words line.now)) }
     ensures bad { result ≡ Err ParseError.Bad → line_as (words line.now) ≡ None }
 {
     let Some((name, rest)) = next(line) else {
-        *parsed = Parsed::Nothing;
+        put_nothing(parsed);
         return Ok(());
     };
     let name = name.as_bytes();
     match name {
         [] => Err(ParseError::Bad),
         [b'#', ..] => {
-            *parsed = Parsed::Nothing;
+            put_nothing(parsed);
             Ok(())
         }
         _ => command(alloc, name, rest, parsed),

@@ -5,7 +5,7 @@ ghost use Rattle.script_words.specs.Plain as plain;
 fn is_plain_byte(byte: u8) -> bool
     ensures { result ≡ plain.is_plain_byte byte }
 {
-    !(byte == b'"' || byte == b'\\' || byte < b' ')
+    byte > b'"' && byte != b'\\' || byte == b'!' || byte == b' '
 }
 
 /// Whether JSON writes all of the bytes as they are.

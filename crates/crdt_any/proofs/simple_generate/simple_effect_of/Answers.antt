@@ -1,4 +1,4 @@
-use Rattle.std.proofs.Common.{true, false, ap, refl}
+use Rattle.std.proofs.Common.{true, false, ap, refl, rules}
 use Rattle.std.specs.Option.{option_copied}
 use Rattle.std.specs.FinMap.{empty}
 use Rattle.crdt_core.specs.declared.kind.Kind.TheVariants as kinds
@@ -50,3 +50,6 @@ returns-in_ok-effect-in-RegisterMv-clause-ready c = λ is h.
     let made = c.in_ok-effect-in-RegisterMv.effect in
     let ready = c.in_ok-effect-in-RegisterMv.ensures.ready (ap (mv_has) c.in-RegisterMv.is) (inner_spelled simple_holds is_kept c.args.state.now (option_copied c.register_mv.result) (register_mv_state c.args.state.now) empty (holds_as kinds.RegisterMv refl c.args.state.now) c.register_mv.ensures h) in
     record { kind = ap (λ k. simple_is_of k (effect.RegisterMv made)) c.in-RegisterMv.is; fit = ready.fit; sets = ready.sets; opened = ready.opened }
+
+pub returns-in_ok-effect-in-RegisterLww-clause-made : goal.returns-in_ok-effect-in-RegisterLww-clause-made
+returns-in_ok-effect-in-RegisterLww-clause-made c = search rules

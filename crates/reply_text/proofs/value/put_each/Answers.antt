@@ -1,7 +1,7 @@
 use Rattle.std.proofs.Common.{arith, codes}
 use Rattle.json.specs.Print.{quoted}
 use Rattle.reply_text.proofs.Joined.{loop_more}
-use Rattle.reply_text.proofs.value.put_items.Goals as goal
+use Rattle.reply_text.proofs.value.put_each.Goals as goal
 
 pub loop-i-preserved : goal.loop-i-preserved
 loop-i-preserved c =
