@@ -378,7 +378,7 @@ fn put_stamp(out: &mut Vec<u8>, stamp: Option<u64>) -> Result<(), AllocError>
 }
 
 /// Adds the first words of an update's line, with the space behind them.
-fn put_updater(alloc: Global, out: &mut Vec<u8>, name: &Text) -> Result<(), AllocError>
+fn put_updated_name(alloc: Global, out: &mut Vec<u8>, name: &Text) -> Result<(), AllocError>
     ensures ok { OnOk result (out.new.items ≡ out.old.items ++ (codes "updated " ++ (word_text name.now ++ 32 ∷ []))) }
     ensures err { OnErr result (Begins out.old.items out.new.items) }
 {
@@ -400,7 +400,7 @@ pub fn put_updated(
     ensures ok { OnOk result (out.new.items ≡ out.old.items ++ updated_text name.now object.now stamp) }
     ensures err { OnErr result (Begins out.old.items out.new.items) }
 {
-    put_updater(alloc, out, name)?;
+    put_updated_name(alloc, out, name)?;
     put_object(alloc, out, object)?;
     put_stamp(out, stamp)
 }
