@@ -6,7 +6,7 @@ ghost use Rattle.cluster.specs.Same.{SameCluster, same_refl, same_trans};
 ghost use Rattle.cluster.specs.Sees.{Sees, FailedAs, refusal_line, sees_legal};
 
 use crate::local::Local;
-use crdt_core::{Crdt, Message, ObjectId, Op, Upd};
+use crdt_core::{Crdt, Message, ObjectId, Op, Upd, UpdateList};
 use disk_core::Disk;
 use field_codec::Text;
 use partition_core::{DurableError, Refusal};
@@ -172,7 +172,7 @@ impl<C: Crdt, D: Disk + Drop> Store<C> for Local<C, D> {
         tx: TxId,
         s: &VTime,
         lead: u8,
-        updates: &[Upd<C::Effect>],
+        updates: &UpdateList<C::Effect>,
     ) -> ((), Answer) {
         match self.all.prepare_at(at, tx, s, lead, updates) {
             Ok(time) => {

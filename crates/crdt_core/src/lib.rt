@@ -17,6 +17,7 @@ mod placing;
 mod record;
 mod replay;
 mod table;
+mod updates;
 mod value;
 mod vector_forms;
 
@@ -33,10 +34,9 @@ pub use object::{Field, ObjectId};
 pub use object_forms::{put_object, take_object};
 pub use operation::{Act, Op};
 pub use placing::partition_of;
-pub use record::{
-    Message, Part, Record, Upd, copy_message, copy_part, copy_parts, copy_update, copy_updates,
-};
+pub use record::{Message, Part, Record, Upd, copy_update, share_part};
 pub use replay::{state_after, value_after};
 pub use table::{fits, law_table, nests_in, reads_state};
+pub use updates::UpdateList;
 pub use value::Value;
 pub use vector_forms::{put_vector, take_vector};

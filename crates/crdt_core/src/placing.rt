@@ -4,13 +4,16 @@ ghost use Rattle.crdt_core.specs.Placing.{hashed, place_of};
 use crate::ObjectId;
 
 /// The partition of an object among `parts` of a site, from 1 to `parts`. Objects of one bucket and key lie in one
-/// partition, whatever their kinds. Takes no memory.
+/// partition, whatever their kinds. Takes no memory. The only partition of a site needs no hash.
 pub fn partition_of(object: &ObjectId, parts: u8) -> u8
     requires { 1 ≤ parts }
     ensures place { result ≡ place_of object.now.bucket object.now.key parts }
     ensures least { 1 ≤ result }
     ensures most { result ≤ parts }
 {
+    if parts == 1 {
+        return 1;
+    }
     let bucket = hash_on(7, object.bucket.as_str().as_bytes());
     let gap = hash_on(bucket, &[0]);
     let whole = hash_on(gap, object.key.as_str().as_bytes());

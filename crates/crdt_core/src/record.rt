@@ -1,5 +1,6 @@
 ghost use Rattle.std.specs.Prelude.{◌≡◌, IfOk};
 
+use crate::updates::UpdateList;
 use crate::{Crdt, ObjectId};
 use field_codec::ListOf;
 use site_vector::{TxId, VTime};
@@ -21,7 +22,7 @@ pub struct Part<E> {
     /// The commit vector.
     pub c: VTime,
     /// Ascending by number.
-    pub updates: ListOf<Upd<E>>,
+    pub updates: UpdateList<E>,
 }
 
 /// A stretch of a partition's stream to the partition with its number at another site: all parts of the sender's site
@@ -53,7 +54,7 @@ pub enum Record<E> {
         lead: u8,
         time: u64,
         s: VTime,
-        updates: ListOf<Upd<E>>,
+        updates: UpdateList<E>,
     },
     /// The commit point, at the lead, with the commit vector.
     Decide {
@@ -94,82 +95,18 @@ pub fn copy_update<C: Crdt>(
     })
 }
 
-/// An equal list of updates.
+/// The same part, whose updates have one more owner.
 ///
 /// # Errors
 ///
-/// `AllocError` where memory runs out.
-pub fn copy_updates<C: Crdt>(
-    alloc: Global,
-    updates: &[Upd<C::Effect>],
-) -> Result<ListOf<Upd<C::Effect>>, AllocError>
-    ensures { IfOk result (λ l. l ≡ updates.now) }
-{
-    let mut all = ListOf::with_capacity(alloc, updates.len())?;
-    for update in updates {
-        match copy_update::<C>(alloc, update) {
-            Ok(copied) => all.push(copied)?,
-            Err(error) => return Err(error),
-        }
-    }
-    Ok(all)
-}
-
-/// An equal part.
-///
-/// # Errors
-///
-/// `AllocError` where memory runs out.
-pub fn copy_part<C: Crdt>(
-    alloc: Global,
-    part: &Part<C::Effect>,
-) -> Result<Part<C::Effect>, AllocError>
+/// `AllocError` where its updates have 2^63 owners.
+pub fn share_part<E>(part: &Part<E>) -> Result<Part<E>, AllocError>
     ensures { IfOk result (λ p. p ≡ part.now) }
 {
-    let updates = copy_updates::<C>(alloc, part.updates.as_slice())?;
+    let updates = part.updates.share()?;
     Ok(Part {
         tx: part.tx,
         c: part.c,
         updates,
-    })
-}
-
-/// An equal list of parts.
-///
-/// # Errors
-///
-/// `AllocError` where memory runs out.
-pub fn copy_parts<C: Crdt>(
-    alloc: Global,
-    parts: &[Part<C::Effect>],
-) -> Result<ListOf<Part<C::Effect>>, AllocError>
-    ensures { IfOk result (λ l. l ≡ parts.now) }
-{
-    let mut all = ListOf::new(alloc);
-    for part in parts {
-        all.push(copy_part::<C>(alloc, part)?)?;
-    }
-    Ok(all)
-}
-
-/// An equal message.
-///
-/// # Errors
-///
-/// `AllocError` where memory runs out.
-pub fn copy_message<C: Crdt>(
-    alloc: Global,
-    message: &Message<C::Effect>,
-) -> Result<Message<C::Effect>, AllocError>
-    ensures { IfOk result (λ m. m ≡ message.now) }
-{
-    let parts = copy_parts::<C>(alloc, message.parts.as_slice())?;
-    Ok(Message {
-        from: message.from,
-        to: message.to,
-        part: message.part,
-        lo: message.lo,
-        hi: message.hi,
-        parts,
     })
 }

@@ -3,7 +3,7 @@ ghost use Rattle.field_codec.specs.Reading.{Gives, list_at};
 ghost use Rattle.crdt_core.specs.Spelled.{between_at};
 ghost use Rattle.log_records.specs.Updates.{can_put_update, keeps_update, is_update_spelled, update as update_bytes, update_at, index_below, can_put_updates, are_updates_spelled, updates as updates_bytes, updates_at, update_form};
 
-use crdt_core::{Crdt, Upd, put_object, take_object};
+use crdt_core::{Crdt, Upd, UpdateList, put_object, take_object};
 use field_codec::{Form, ListOf, TakeError, put_list, put_u16, take_list, take_u16};
 use std::alloc::{AllocError, Global};
 use std::marker::PhantomData;
@@ -86,7 +86,7 @@ fn take_index(bytes: &[u8], at: usize) -> Result<(u16, usize), TakeError>
 /// `AllocError` where memory runs out, or where a list has 2^32 members or more. `out` is as before then.
 pub(crate) fn put_updates<C: Crdt>(
     out: &mut Vec<u8>,
-    updates: &ListOf<Upd<C::Effect>>,
+    updates: &UpdateList<C::Effect>,
 ) -> Result<(), AllocError>
     requires { can_put_updates C.has C.is_of C.can_put updates.now ≡ true }
     ensures spelled { OnOk result (are_updates_spelled C.has C.is_of C.is_spelled updates.now ≡ true) }
@@ -107,7 +107,7 @@ pub(crate) fn take_updates<C: Crdt>(
     alloc: Global,
     bytes: &[u8],
     at: usize,
-) -> Result<(ListOf<Upd<C::Effect>>, usize), TakeError>
+) -> Result<(UpdateList<C::Effect>, usize), TakeError>
     ensures answer { Gives result (updates_at C.has C.reading bytes.now at) }
     ensures within { IfOk result (λ x. x.1 ≤ length bytes.now) }
 {
@@ -115,7 +115,10 @@ pub(crate) fn take_updates<C: Crdt>(
     if updates.as_slice().is_empty() {
         return Err(TakeError::Bad { at });
     }
-    Ok((updates, end))
+    match UpdateList::new(alloc, updates.into_vec()) {
+        Ok(shared) => Ok((shared, end)),
+        Err(_) => Err(TakeError::NoMemory),
+    }
 }
 
 fn take_any_updates<C: Crdt>(

@@ -26,7 +26,7 @@ ghost use Rattle.partition_core.specs.Tables.{knows};
 
 use crate::logging::keep_lease;
 use crate::{DurableError, DurablePartition, Fate, Refusal};
-use crdt_core::{Crdt, Message, ObjectId, Op, Upd, Value};
+use crdt_core::{Crdt, Message, ObjectId, Op, Upd, UpdateList, Value};
 use disk_core::Disk;
 use site_vector::{TxId, VTime};
 use std::alloc::Global;
@@ -154,7 +154,7 @@ impl<C: Crdt, D: Disk + Drop> DurablePartition<C, D> {
         tx: TxId,
         s: &VTime,
         lead: u8,
-        updates: &[Upd<C::Effect>],
+        updates: &UpdateList<C::Effect>,
     ) -> Result<u64, DurableError>
         requires place { tx.site ≡ self.old.tables.id.site }
         requires width { length s.now ≡ self.old.tables.sites }

@@ -29,7 +29,7 @@ use crate::clock::{END_OF_TIME, show};
 use crate::commit::promise;
 use crate::stream::{make_room, put_all};
 use crate::{Partition, Refusal};
-use crdt_core::{Crdt, Message, Record, Upd, copy_updates};
+use crdt_core::{Crdt, Message, Record, UpdateList};
 use disk_core::Disk;
 use gate_log::AppendError;
 use partition_log::PartLog;
@@ -131,7 +131,7 @@ impl<C: Crdt> Partition<C> {
         s: &VTime,
         lead: u8,
         time: u64,
-        updates: &[Upd<C::Effect>],
+        updates: &UpdateList<C::Effect>,
     ) -> Result<(), AppendError>
         requires place { tx.site ≡ self.old.id.site }
         requires width { length s.now ≡ self.old.sites }
@@ -148,11 +148,11 @@ impl<C: Crdt> Partition<C> {
             &mut self.prepared,
             &mut self.store,
             self.promised,
-            updates.len(),
+            updates.as_slice().len(),
         ) else {
             return Err(AppendError::NoMemory);
         };
-        let Ok(updates) = copy_updates::<C>(alloc, updates) else {
+        let Ok(updates) = updates.share() else {
             return Err(AppendError::NoMemory);
         };
         let vote = Record::Prepare {

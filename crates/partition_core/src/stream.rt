@@ -9,7 +9,7 @@ ghost use Rattle.partition_core.specs.Steps.{Anything, Steps};
 
 use crate::Partition;
 use crate::report::own_bound;
-use crdt_core::{Crdt, Message, Part, copy_part};
+use crdt_core::{Crdt, Message, Part, share_part};
 use effect_store::Store;
 use field_codec::ListOf;
 use std::alloc::{AllocError, Global};
@@ -61,7 +61,7 @@ fn start_of(asked: Option<u64>, last: u64) -> u64
     }
 }
 
-/// Equal parts of those of a site with a commit time above `lo` and at most `hi`, in the order of the site's stream.
+/// The parts of a site with a commit time above `lo` and at most `hi`, in the order of the site's stream.
 ///
 /// # Errors
 ///
@@ -79,7 +79,7 @@ fn copy_between<C: Crdt>(
 {
     let mut all = ListOf::new(alloc);
     for part in store.between(site, lo, hi) {
-        all.push(copy_part::<C>(alloc, part)?)?;
+        all.push(share_part(part)?)?;
     }
     Ok(all)
 }

@@ -1,5 +1,4 @@
-use crdt_core::Upd;
-use field_codec::ListOf;
+use crdt_core::UpdateList;
 use site_vector::{TxId, VTime};
 
 /// A transaction that is prepared and not ended.
@@ -13,5 +12,5 @@ pub struct Entry<E> {
     /// The snapshot.
     pub s: VTime,
     /// What it changes at this partition, ascending by number.
-    pub updates: ListOf<Upd<E>>,
+    pub updates: UpdateList<E>,
 }

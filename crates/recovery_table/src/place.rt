@@ -157,10 +157,7 @@ impl Place {
         if tx.site != self.id.site || s.width() != SIZE || self.partition.knows(*tx) {
             return Err(Failure::Unasked);
         }
-        Ok(
-            self.partition
-                .prepare(self.alloc, *tx, s, *lead, updates.as_slice())?,
-        )
+        Ok(self.partition.prepare(self.alloc, *tx, s, *lead, updates)?)
     }
 
     /// Asks it to commit a transaction of its site at a time: as the lead, or not.

@@ -2,7 +2,7 @@ ghost use Rattle.std.specs.Prelude.{◌≡◌, ◌++◌, ◌∷◌, [], OnOk, If
 ghost use Rattle.site_vector.specs.Vector.{entry};
 ghost use Rattle.crdt_core.specs.Parts.{above};
 
-use crdt_core::{Crdt, Message, Part, copy_part};
+use crdt_core::{Crdt, Message, Part, share_part};
 use field_codec::ListOf;
 use site_vector::VTime;
 use std::alloc::{AllocError, Global};
@@ -19,9 +19,8 @@ fn time_of(c: &VTime, site: u8) -> u64
     0
 }
 
-/// Adds an equal part where its commit time at the site is above a bound.
+/// Adds the same part where its commit time at the site is above a bound.
 fn add_above<C: Crdt>(
-    alloc: Global,
     all: &mut ListOf<Part<C::Effect>>,
     part: &Part<C::Effect>,
     site: u8,
@@ -30,13 +29,12 @@ fn add_above<C: Crdt>(
     ensures { OnOk result (all.new ≡ all.old ++ above site bound (part.now ∷ [])) }
 {
     if time_of(&part.c, site) > bound {
-        let copied = copy_part::<C>(alloc, part)?;
-        return all.push(copied);
+        return all.push(share_part(part)?);
     }
     Ok(())
 }
 
-/// Equal parts of those whose commit time at the site is above a bound.
+/// The parts whose commit time at the site is above a bound.
 fn copy_above<C: Crdt>(
     alloc: Global,
     parts: &[Part<C::Effect>],
@@ -47,13 +45,13 @@ fn copy_above<C: Crdt>(
 {
     let mut all = ListOf::new(alloc);
     for part in parts {
-        add_above::<C>(alloc, &mut all, part, site, bound)?;
+        add_above::<C>(&mut all, part, site, bound)?;
     }
     Ok(all)
 }
 
-/// The same stretch from `have` on: an equal message without the parts whose commit time is at most `have`, in logical
-/// ticks.
+/// The same stretch from `have` on: the message without the parts whose commit time is at most `have`, in logical
+/// ticks. Its parts are shared with it.
 ///
 /// # Errors
 ///

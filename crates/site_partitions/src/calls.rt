@@ -12,7 +12,7 @@ ghost use Rattle.site_partitions.specs.Answers.{Any, Calls};
 
 use crate::Sites;
 use crate::sites::index_of;
-use crdt_core::{Crdt, Message, ObjectId, Op, Upd, Value};
+use crdt_core::{Crdt, Message, ObjectId, Op, Upd, UpdateList, Value};
 use disk_core::Disk;
 use partition_core::DurableError;
 use site_vector::{PartId, TxId, VTime};
@@ -110,7 +110,7 @@ impl<C: Crdt, D: Disk + Drop> Sites<C, D> {
         tx: TxId,
         s: &VTime,
         lead: u8,
-        updates: &[Upd<C::Effect>],
+        updates: &UpdateList<C::Effect>,
     ) -> Result<u64, DurableError>
         requires { MayAsk (types_of C.laws C.spells D.state) self.old at (AskPrepare tx s.now lead updates.now) }
         ensures { Calls (types_of C.laws C.spells D.state) self.old self.new Any at (AskPrepare tx s.now lead updates.now) (λ n e. e ≡ event.Prepared tx s.now lead updates.now n) result }

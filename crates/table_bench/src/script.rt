@@ -1,8 +1,7 @@
 use crate::words::{counter, offer, transaction, update, vector};
-use crdt_core::{Part, Upd, Value};
+use crdt_core::{Part, Upd, UpdateList, Value};
 use crdt_counters::CounterPn;
 use effect_store::Store;
-use field_codec::ListOf;
 use site_vector::{TxId, VTime};
 use std::alloc::{AllocError, Global};
 
@@ -29,7 +28,7 @@ fn put_tx(out: &mut String, tx: TxId) -> Result<(), AllocError> {
 /// Adds updates by one, with these indices.
 fn add_many(
     alloc: Global,
-    all: &mut ListOf<Upd<i64>>,
+    all: &mut Vec<Upd<i64>>,
     key: &str,
     count: u16,
 ) -> Result<bool, AllocError> {
@@ -45,7 +44,7 @@ fn add_many(
 /// Adds what a word as `KEY+AMOUNT` or `KEY*COUNT` tells.
 fn add_word(
     alloc: Global,
-    all: &mut ListOf<Upd<i64>>,
+    all: &mut Vec<Upd<i64>>,
     word: &str,
     index: u16,
 ) -> Result<bool, AllocError> {
@@ -63,8 +62,8 @@ fn add_word(
 }
 
 /// The updates that the words tell, numbered from 1.
-fn updates_of(alloc: Global, words: &str) -> Result<Option<ListOf<Upd<i64>>>, AllocError> {
-    let mut all = ListOf::new(alloc);
+fn updates_of(alloc: Global, words: &str) -> Result<Option<Vec<Upd<i64>>>, AllocError> {
+    let mut all = Vec::new(alloc);
     let mut index: u16 = 0;
     for word in words.split(' ') {
         index = index.saturating_add(1);
@@ -114,6 +113,7 @@ fn part_of(alloc: Global, sites: u8, words: &str) -> Result<Option<Part<i64>>, A
     let Some(updates) = updates_of(alloc, words)? else {
         return Ok(None);
     };
+    let updates = UpdateList::new(alloc, updates)?;
     Ok(Some(Part { tx, c, updates }))
 }
 

@@ -1,9 +1,9 @@
 ghost use Rattle.std.specs.Prelude.{◌≡◌, length, IfSome};
 
-use crdt_core::{Kind, ObjectId, Part, Upd};
+use crdt_core::{Kind, ObjectId, Part, Upd, UpdateList};
 use crdt_counters::CounterPn;
 use effect_store::Store;
-use field_codec::{ListOf, Text};
+use field_codec::Text;
 use site_vector::{TxId, VTime};
 use std::alloc::{AllocError, Global};
 
@@ -92,9 +92,10 @@ pub(crate) fn single(
     key: &str,
     amount: i64,
 ) -> Result<Part<i64>, AllocError> {
-    let mut updates = ListOf::new(alloc);
+    let mut updates = Vec::new(alloc);
     if let Some(update) = update(alloc, key, 1, amount)? {
         updates.push(update)?;
     }
+    let updates = UpdateList::new(alloc, updates)?;
     Ok(Part { tx, c, updates })
 }

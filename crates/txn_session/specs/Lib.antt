@@ -1,4 +1,5 @@
 pub mod Calls
+pub mod Draft
 pub mod Session
 pub mod Fields
 pub mod Holds

@@ -4,25 +4,13 @@ ghost use Rattle.crdt_core.specs.Placing.{place_of};
 ghost use Rattle.world_model.specs.rules.Plan.{is_some_update};
 ghost use Rattle.txn_session.specs.Session.{own_updates, updates_of, participants, first_or_zero};
 
-use crdt_core::{Crdt, ObjectId, Upd, copy_update};
+use crate::draft::Draft;
+use crdt_core::{Crdt, ObjectId, Upd, UpdateList, copy_update, partition_of};
 use field_codec::ListOf;
 use std::alloc::{AllocError, Global};
 
 /// The most partitions of a site.
 pub const MOST_PARTS: usize = 16;
-
-/// The partition of an object of a site, which needs no hash where it is the only one.
-pub fn partition_of(object: &ObjectId, parts: u8) -> u8
-    requires { 1 ≤ parts }
-    ensures place { result ≡ place_of object.now.bucket object.now.key parts }
-    ensures least { 1 ≤ result }
-    ensures most { result ≤ parts }
-{
-    if parts == 1 {
-        return 1;
-    }
-    crdt_core::partition_of(object, parts)
-}
 
 /// Copies of the updates of an object.
 pub fn own_of<C: Crdt>(
@@ -41,23 +29,26 @@ pub fn own_of<C: Crdt>(
     Ok(own)
 }
 
-/// The updates at a partition: where all stand there, as they are, and else copies, which go into `copies`.
-pub fn part_of<'a, C: Crdt>(
+/// The updates at a partition: where all stand there the draft itself, which is shared then, and else copies.
+///
+/// # Errors
+///
+/// `AllocError` where memory runs out. The draft has the same updates.
+pub fn part_of<C: Crdt>(
     alloc: Global,
-    updates: &'a [Upd<C::Effect>],
+    draft: &mut Draft<C>,
     parts: u8,
     part: u8,
-    copies: &'a mut ListOf<Upd<C::Effect>>,
-) -> Result<&'a [Upd<C::Effect>], AllocError>
+) -> Result<UpdateList<C::Effect>, AllocError>
     requires least { 1 ≤ parts }
-    requires none { copies.old ≡ [] }
-    ensures { IfOk result (λ l. l.now ≡ updates_of parts updates.now part) }
+    ensures same { draft.new.items ≡ draft.old.items }
+    ensures part { IfOk result (λ l. l ≡ updates_of parts draft.old.items part) }
 {
-    if are_at::<C>(updates, parts, part) {
-        return Ok(updates);
+    if are_at::<C>(draft.as_slice(), parts, part) {
+        return draft.share(alloc);
     }
-    copy_part::<C>(alloc, updates, parts, part, copies)?;
-    Ok(copies.as_slice())
+    let copies = copies_at::<C>(alloc, draft.as_slice(), parts, part)?;
+    Ok(UpdateList::new(alloc, copies)?)
 }
 
 /// Whether all updates stand at the partition.
@@ -73,24 +64,37 @@ fn are_at<C: Crdt>(updates: &[Upd<C::Effect>], parts: u8, part: u8) -> bool
     true
 }
 
-/// Copies the updates at a partition.
-fn copy_part<C: Crdt>(
+/// Copies of the updates at a partition.
+fn copies_at<C: Crdt>(
     alloc: Global,
     updates: &[Upd<C::Effect>],
     parts: u8,
     part: u8,
-    copies: &mut ListOf<Upd<C::Effect>>,
-) -> Result<(), AllocError>
+) -> Result<Vec<Upd<C::Effect>>, AllocError>
     requires least { 1 ≤ parts }
-    requires none { copies.old ≡ [] }
-    ensures { OnOk result (copies.new ≡ updates_of parts updates.now part) }
+    ensures { IfOk result (λ l. l.items ≡ updates_of parts updates.now part) }
 {
+    let mut copies = Vec::new(alloc);
     for update in updates {
         if partition_of(&update.object, parts) == part {
             copies.push(copy_update::<C>(alloc, update)?)?;
         }
     }
-    Ok(())
+    Ok(copies)
+}
+
+/// Copies of all updates.
+pub fn copy_all<C: Crdt>(
+    alloc: Global,
+    updates: &[Upd<C::Effect>],
+) -> Result<Vec<Upd<C::Effect>>, AllocError>
+    ensures { IfOk result (λ l. l.items ≡ updates.now) }
+{
+    let mut copies = Vec::new(alloc);
+    for update in updates {
+        copies.push(copy_update::<C>(alloc, update)?)?;
+    }
+    Ok(copies)
 }
 
 /// The numbers of the participants of a transaction with these updates, in ascending order, and how many they are.

@@ -2,6 +2,7 @@
 #![tactic(auto)]
 
 mod chosen;
+mod draft;
 mod error;
 mod phase;
 mod session;

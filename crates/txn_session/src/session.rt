@@ -8,11 +8,12 @@ ghost use Rattle.crdt_core.specs.Placing.{place_of};
 ghost use Rattle.world_model.specs.lines.Places.{IsPlace};
 ghost use Rattle.world_model.specs.rules.Event.{AskBegin};
 
-use crate::chosen::{first_of, own_of, part_of, participants_of, partition_of};
+use crate::chosen::{first_of, own_of, part_of, participants_of};
+use crate::draft::Draft;
 use crate::{Phase, SessionError, Store};
 use clocksi_commit::Commit;
-use crdt_core::{Crdt, ObjectId, Op, Upd, fits};
-use field_codec::{ListOf, Text};
+use crdt_core::{Crdt, ObjectId, Op, Upd, fits, partition_of};
+use field_codec::Text;
 use site_vector::{PartId, TxId, VTime};
 use std::alloc::Global;
 use std::marker::Model;
@@ -43,7 +44,7 @@ pub struct Session<C: Crdt> {
     tx: TxId,
     s: VTime,
     by: u64,
-    updates: Vec<Upd<C::Effect>>,
+    updates: Draft<C>,
     lead: u8,
     commit: Commit,
 }
@@ -97,7 +98,7 @@ impl<C: Crdt> Session<C> {
             },
             s: zero,
             by: 0,
-            updates: Vec::new(alloc),
+            updates: Draft::new(alloc),
             lead: 0,
             commit: Commit::new(&[], zero, site),
         }
@@ -247,7 +248,7 @@ impl<C: Crdt> Session<C> {
                 return (pass, Err(SessionError::NoMemory));
             }
         };
-        if self.updates.reserve(1).is_err() {
+        if self.updates.reserve(self.alloc).is_err() {
             return (pass, Err(SessionError::NoMemory));
         }
         let at = PartId {
@@ -270,7 +271,7 @@ impl<C: Crdt> Session<C> {
         match answer {
             Ok((step, made)) => match made {
                 Some(effect) => {
-                    let _ = self.updates.push(Upd {
+                    self.updates.push(Upd {
                         object: named,
                         index,
                         effect,
@@ -497,14 +498,7 @@ impl<C: Crdt> Session<C> {
         ensures waits { OnErr result.1 ((run : List (Call C.Effect)) → S.sees store.old pass run →
             Holds self.old run → Waits S.sees S.numbers store.new result.0 run self.old self.new) }
     {
-        let mut copies = ListOf::new(self.alloc);
-        let updates = match part_of::<C>(
-            self.alloc,
-            self.updates.as_slice(),
-            self.parts,
-            part,
-            &mut copies,
-        ) {
+        let updates = match part_of::<C>(self.alloc, &mut self.updates, self.parts, part) {
             Ok(updates) => updates,
             Err(_) => {
                 return (pass, Err(SessionError::NoMemory));
@@ -514,7 +508,9 @@ impl<C: Crdt> Session<C> {
             site: self.site,
             part,
         };
-        let (pass, answer) = store.prepare(pass, at, self.by, self.tx, &self.s, self.lead, updates);
+        let (pass, answer) = store.prepare(
+            pass, at, self.by, self.tx, &self.s, self.lead, &updates,
+        );
         match answer {
             Ok(step) => {
                 let next = self.commit.answer(&step);

@@ -9,7 +9,7 @@ ghost use Rattle.world_model.specs.rules.Lines.{session_of};
 ghost use Rattle.world_model.specs.lines.Places.{IsOther};
 ghost use Rattle.txn_session.specs.Calls.{Call, entries, IsLegal, IsAllowed, MayCall, GoesOn, Changes, Does, Stays, SeesStill};
 
-use crdt_core::{Crdt, Message, ObjectId, Op, Upd};
+use crdt_core::{Crdt, Message, ObjectId, Op, Upd, UpdateList};
 use field_codec::Text;
 use site_vector::{PartId, TxId, VTime};
 use std::alloc::AllocError;
@@ -150,7 +150,7 @@ pub trait Store<C: Crdt> {
         tx: TxId,
         s: &VTime,
         lead: u8,
-        updates: &[Upd<C::Effect>],
+        updates: &UpdateList<C::Effect>,
     ) -> (Self::Pass, Result<Step, AllocError>)
         requires may { MayCall sees numbers (sites self.old) (parts self.old) self.old pass (Some by) at (AskPrepare
             tx s.now lead updates.now) }

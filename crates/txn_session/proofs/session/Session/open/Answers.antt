@@ -21,13 +21,13 @@ pub returns-in-Began-clause-opened : goal.returns-in-Began-clause-opened
 returns-in-Began-clause-opened g c = (
   c.in-Ok.by,
   open_made _ g.S.Store.sees g.S.Store.numbers g.S.Store.sites g.S.Store.parts g.S.Store.stays g.met.S.Store.legal g.met.S.Store.keeps c.args.store.now c.begin-pass.new.self c.begin-pass.ensures.stays c.args.pass c.begin-pass.result.0 _ c.args.self.now c.self.view_is c.requires.sites c.requires.parts
-      (idle_in c.self.inside.stage (record { tx = c.self.inside.tx; s = c.self.inside.s; by = c.self.inside.by; updates = c.self.inside.updates.items }) c.self.inside.lead c.self.inside.commit c.in-Idle.is) c.args.part c.in-Ok.by c.in-Ok.step (if_ok _ _ _ c.in-Ok.is c.begin-pass.ensures.ok) c.in-Began.name c.in-Began.tx c.in-Began.s c.in-Began.is c.join-self-inside.result c.clear.new.self.items c.join-self-inside.ensures c.clear.ensures.items,
+      (idle_in c.self.inside.stage (record { tx = c.self.inside.tx; s = c.self.inside.s; by = c.self.inside.by; updates = c.self.inside.updates.items }) c.self.inside.lead c.self.inside.commit c.in-Idle.is) c.args.part c.in-Ok.by c.in-Ok.step (if_ok _ _ _ c.in-Ok.is c.begin-pass.ensures.ok) c.in-Began.name c.in-Began.tx c.in-Began.s c.in-Began.is c.join-self-inside.result c.clear.new.self.items c.join-self-inside.ensures c.clear.ensures,
 )
 
 pub returns-in-Began-clause-opens : goal.returns-in-Began-clause-opens
 returns-in-Began-clause-opens g c =
     open_began _ g.S.Store.sees g.S.Store.numbers g.S.Store.sites g.S.Store.parts g.S.Store.stays g.met.S.Store.legal g.met.S.Store.keeps c.args.store.now c.begin-pass.new.self c.begin-pass.ensures.stays c.args.pass c.begin-pass.result.0 _ c.args.self.now c.self.view_is c.requires.sites c.requires.parts
-    (idle_in c.self.inside.stage (record { tx = c.self.inside.tx; s = c.self.inside.s; by = c.self.inside.by; updates = c.self.inside.updates.items }) c.self.inside.lead c.self.inside.commit c.in-Idle.is) c.args.part c.in-Ok.by c.in-Ok.step (if_ok _ _ _ c.in-Ok.is c.begin-pass.ensures.ok) c.in-Began.name c.in-Began.tx c.in-Began.s c.in-Began.is c.join-self-inside.result c.clear.new.self.items c.join-self-inside.ensures c.clear.ensures.items
+    (idle_in c.self.inside.stage (record { tx = c.self.inside.tx; s = c.self.inside.s; by = c.self.inside.by; updates = c.self.inside.updates.items }) c.self.inside.lead c.self.inside.commit c.in-Idle.is) c.args.part c.in-Ok.by c.in-Ok.step (if_ok _ _ _ c.in-Ok.is c.begin-pass.ensures.ok) c.in-Began.name c.in-Began.tx c.in-Began.s c.in-Began.is c.join-self-inside.result c.clear.new.self.items c.join-self-inside.ensures c.clear.ensures
 
 pub returns-in-Began-clause-tells : goal.returns-in-Began-clause-tells
 returns-in-Began-clause-tells g c =

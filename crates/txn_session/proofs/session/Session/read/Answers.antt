@@ -13,7 +13,7 @@ read-pass-requires-clause-may g c =
     let v = c.self.view_is in
     let txn : Txn g.row.C-Effect.Denot = record { tx = f.tx; s = f.s; by = f.by; updates = f.updates.items } in
     let od = doing_open _ c.args.self.now v f.stage txn f.lead f.commit refl c.in-Open.is in
-    let eo : c.as_slice-2.result.now ≡ own_updates f.updates.items c.args.object.now = c.as_slice-2.ensures ∙ (c.in-Ok.ensures ∙ ap (λ l. own_updates l c.args.object.now) c.as_slice.ensures.value) in
+    let eo : c.as_slice-2.result.now ≡ own_updates f.updates.items c.args.object.now = c.as_slice-2.ensures ∙ (c.in-Ok.ensures ∙ ap (λ l. own_updates l c.args.object.now) c.as_slice.ensures) in
     let et = ap (λ (w : SessionState g.row.C-Effect.Denot). w.site) v in
     let eq = c.partition_of.ensures.place ∙ ap (λ (w : SessionState g.row.C-Effect.Denot). place_of c.args.object.now.bucket c.args.object.now.key w.parts) v in
     let some = subst (λ (w : SessionState g.row.C-Effect.Denot). 1 ≤ w.parts) v c.self.invariant.least_parts in
@@ -25,7 +25,7 @@ returns-in-Ok-answer-clause-reads g c run seen h =
     let v = c.self.view_is in
     let txn : Txn g.row.C-Effect.Denot = record { tx = f.tx; s = f.s; by = f.by; updates = f.updates.items } in
     let od = doing_open _ c.args.self.now v f.stage txn f.lead f.commit refl c.in-Open.is in
-    let eo : c.as_slice-2.result.now ≡ own_updates f.updates.items c.args.object.now = c.as_slice-2.ensures ∙ (c.in-Ok.ensures ∙ ap (λ l. own_updates l c.args.object.now) c.as_slice.ensures.value) in
+    let eo : c.as_slice-2.result.now ≡ own_updates f.updates.items c.args.object.now = c.as_slice-2.ensures ∙ (c.in-Ok.ensures ∙ ap (λ l. own_updates l c.args.object.now) c.as_slice.ensures) in
     let et = ap (λ (w : SessionState g.row.C-Effect.Denot). w.site) v in
     let eq = c.partition_of.ensures.place ∙ ap (λ (w : SessionState g.row.C-Effect.Denot). place_of c.args.object.now.bucket c.args.object.now.key w.parts) v in
     let some = subst (λ (w : SessionState g.row.C-Effect.Denot). 1 ≤ w.parts) v c.self.invariant.least_parts in
@@ -46,7 +46,7 @@ returns-in-Ok-answer-clause-tells g c =
     let v = c.self.view_is in
     let txn : Txn g.row.C-Effect.Denot = record { tx = f.tx; s = f.s; by = f.by; updates = f.updates.items } in
     let od = doing_open _ c.args.self.now v f.stage txn f.lead f.commit refl c.in-Open.is in
-    let eo : c.as_slice-2.result.now ≡ own_updates f.updates.items c.args.object.now = c.as_slice-2.ensures ∙ (c.in-Ok.ensures ∙ ap (λ l. own_updates l c.args.object.now) c.as_slice.ensures.value) in
+    let eo : c.as_slice-2.result.now ≡ own_updates f.updates.items c.args.object.now = c.as_slice-2.ensures ∙ (c.in-Ok.ensures ∙ ap (λ l. own_updates l c.args.object.now) c.as_slice.ensures) in
     let et = ap (λ (w : SessionState g.row.C-Effect.Denot). w.site) v in
     let eq = c.partition_of.ensures.place ∙ ap (λ (w : SessionState g.row.C-Effect.Denot). place_of c.args.object.now.bucket c.args.object.now.key w.parts) v in
     let some = subst (λ (w : SessionState g.row.C-Effect.Denot). 1 ≤ w.parts) v c.self.invariant.least_parts in
