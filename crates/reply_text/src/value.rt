@@ -43,8 +43,8 @@ fn put_each(alloc: Global, out: &mut Vec<u8>, items: &[Text]) -> Result<(), Allo
     Ok(())
 }
 
-/// Adds the texts with a comma between neighbors. Meanwhile the buffer is the function's own, so that its length stays in
-/// a register.
+/// Adds the texts with a comma between neighbors. Meanwhile the buffer is the function's own, so that its length lies
+/// in its own frame, where no byte that is written can touch it.
 #[inline(never)]
 fn put_items(alloc: Global, out: &mut Vec<u8>, items: &[Text]) -> Result<(), AllocError>
     ensures ok { OnOk result (out.new.items ≡ out.old.items ++ join_by quoted (codes ",") items.now) }

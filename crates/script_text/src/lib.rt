@@ -124,7 +124,7 @@ fn parse_words(alloc: Global, line: &str, parsed: &mut Parsed) -> Result<(), Par
 /// # Errors
 ///
 /// `Bad` exactly where the line isn't in the grammar (docs/SCRIPT.md): longer than 4,096 bytes, not UTF-8, or
-/// with words that spell no command. `NoMemory` where memory runs out. `parsed` may only be dropped then.
+/// with words that spell no command. `NoMemory` where memory runs out. What `parsed` holds after an error is not told.
 pub fn parse(alloc: Global, line: &[u8], parsed: &mut Parsed) -> Result<(), ParseError>
     ensures ok { OnOk result (Reads line.now parsed.new) }
     ensures bad { result ≡ Err ParseError.Bad → (p : Parsed) → ¬ (Reads line.now p) }

@@ -19,7 +19,8 @@ fn without_return(line: &[u8]) -> &[u8]
 ///
 /// # Errors
 ///
-/// `Bad` exactly where the line isn't in the grammar; `NoMemory` where memory runs out. `parsed` may only be dropped then.
+/// `Bad` exactly where the line isn't in the grammar; `NoMemory` where memory runs out. What `parsed` holds then is
+/// not told.
 pub(crate) fn reading(alloc: Global, line: &[u8], parsed: &mut Parsed) -> Result<(), ParseError>
     ensures read { OnOk result (Some parsed.new ≡ reading_of (strip_last 13 line.now)) }
     ensures said { OnOk result (AsksSaid (Some parsed.new)) }
