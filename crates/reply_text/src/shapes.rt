@@ -7,7 +7,7 @@ ghost use Rattle.reply_text.specs.Updated.{updated_text, stamp_text};
 ghost use Rattle.reply_text.specs.Words.{Begins};
 
 use crate::bytes::{put, put_byte, put_number};
-use crate::words::{Word, put_line, put_object, put_text};
+use crate::words::{Word, put_line, put_object, put_part, put_text};
 use crdt_core::{ObjectId, Value};
 use field_codec::Text;
 use site_vector::{PartId, TxId, VTime};
@@ -31,22 +31,33 @@ pub fn put_number_number<'x>(
     )
 }
 
-/// Adds a line of these words.
-pub fn put_part_number<'x>(
-    alloc: Global,
+/// Adds a name and the place of a partition, each with the space behind it.
+#[inline(always)]
+#[tactic(auto, using(crate::specs::Words::begins_same, crate::specs::Words::begins_after))]
+fn put_named_part(out: &mut Vec<u8>, name: &str, part: PartId) -> Result<(), AllocError>
+    ensures ok { OnOk result (out.new.items ≡ out.old.items ++ (name.now ++ (32 ∷ (part_text part ++ 32 ∷ [])))) }
+    ensures err { OnErr result (Begins out.old.items out.new.items) }
+{
+    put(out, name.as_bytes())?;
+    put_byte(out, b' ')?;
+    put_part(out, part)?;
+    put_byte(out, b' ')
+}
+
+/// Adds a line of these words. With no list of them, since most lines of many scripts are those of clocks.
+#[tactic(auto, using(crate::specs::Words::begins_same, crate::specs::Words::begins_after))]
+pub fn put_part_number(
     out: &mut Vec<u8>,
-    name: &'x str,
+    name: &str,
     part: PartId,
     n: u64,
 ) -> Result<(), AllocError>
     ensures ok { OnOk result (out.new.items ≡ out.old.items ++ line_of (name.now ∷ part_text part ∷ decimal n ∷ [])) }
     ensures err { OnErr result (Begins out.old.items out.new.items) }
 {
-    put_line(
-        alloc,
-        out,
-        &[Word::Name(name), Word::Part(part), Word::Number(n)],
-    )
+    put_named_part(out, name, part)?;
+    put_number(out, n)?;
+    put_byte(out, b'\n')
 }
 
 /// Adds a line of these words.

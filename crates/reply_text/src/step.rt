@@ -25,7 +25,7 @@ fn put_step(alloc: Global, step: &Step, out: &mut Vec<u8>) -> Result<(), AllocEr
             *sites as u64,
             *parts as u64,
         ),
-        Step::Ticked { part, now } => put_part_number(alloc, out, "now", *part, *now),
+        Step::Ticked { part, now } => put_part_number(out, "now", *part, *now),
         Step::MadeSession { name, site } => put_text_number(
             alloc,
             out,
@@ -108,7 +108,7 @@ fn put_step(alloc: Global, step: &Step, out: &mut Vec<u8>) -> Result<(), AllocEr
         Step::NoMessage => put_name(alloc, out, "no message"),
         Step::NoPart => put_name(alloc, out, "no part"),
         Step::Down { part } => put_one_part(alloc, out, "down", *part),
-        Step::WaitClock { part, now } => put_part_number(alloc, out, "wait clock", *part, *now),
+        Step::WaitClock { part, now } => put_part_number(out, "wait clock", *part, *now),
         Step::WaitTxn { part, tx, time } => put_part_tx_number(
             alloc, out, "wait txn", *part, *tx, *time,
         ),
@@ -122,7 +122,7 @@ fn put_step(alloc: Global, step: &Step, out: &mut Vec<u8>) -> Result<(), AllocEr
         Step::Disk { part } => put_one_part(alloc, out, "disk", *part),
         Step::Unsure { tx } => put_one_tx(alloc, out, "unsure", *tx),
         Step::Gone { part, tx } => put_part_tx(alloc, out, "gone", *part, *tx),
-        Step::Damaged { part, at } => put_part_number(alloc, out, "damaged", *part, *at),
+        Step::Damaged { part, at } => put_part_number(out, "damaged", *part, *at),
         Step::Full { room } => put_one_number(alloc, out, "limit log", *room),
         Step::TimeEnd => put_name(alloc, out, "limit time 4611686018427387904"),
         Step::LimitSessions => put_name(alloc, out, "limit sessions 64"),

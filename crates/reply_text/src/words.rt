@@ -36,7 +36,8 @@ pub enum Word<'a> {
     Interval(u64, u64),
 }
 
-fn put_part(out: &mut Vec<u8>, part: PartId) -> Result<(), AllocError>
+/// Adds the place of a partition.
+pub fn put_part(out: &mut Vec<u8>, part: PartId) -> Result<(), AllocError>
     ensures ok { OnOk result (out.new.items ≡ out.old.items ++ part_text part) }
     ensures err { OnErr result (Begins out.old.items out.new.items) }
 {
