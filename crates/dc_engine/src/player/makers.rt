@@ -126,7 +126,8 @@ pub(crate) fn give_back_cluster<C: Crdt, M: Disks>(disks: &mut M, cluster: Clust
     ensures { ReturnsAll cluster (M.state disks.old) (M.state disks.new) }
 {
     if let Some(parts) = cluster.parts() {
-        give_back_all(disks, parts, cluster.into_partitions());
+        let partitions = cluster.into_partitions();
+        give_back_all(disks, parts, partitions);
     }
 }
 
