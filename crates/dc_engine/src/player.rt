@@ -1,9 +1,9 @@
-ghost use Rattle.std.specs.Prelude.{◌≡◌, ◌≤◌, ◌++◌, [], ◌∷◌, length, take, true, false, None, Err, IfSome, IfNone, IfOk, OnOk, OnErr};
+ghost use Rattle.std.specs.Prelude.{◌≡◌, ◌≤◌, ◌++◌, [], ◌∷◌, length, take, true, false, is_some, None, Err, IfSome, IfNone, IfOk, OnOk, OnErr};
 ghost use Rattle.std.specs.List.{flat_map};
 ghost use Rattle.disk_core.specs.Fuses.{fused_state};
 ghost use Rattle.disk_core.specs.States.{Rose};
 ghost use Rattle.cluster.specs.Built.{IsSaid, is_making};
-ghost use Rattle.cluster.specs.Reached.{Applies};
+ghost use Rattle.cluster.specs.Reached.{Applies, parts_in};
 ghost use Rattle.site_partitions.specs.Reaches.{types_of};
 ghost use Rattle.dc_engine.specs.Held.{HasOut, HasOutOf};
 ghost use Rattle.dc_engine.specs.Makers.{FailsAt, IsUnchanged};
@@ -139,7 +139,7 @@ impl<M: Disks> Responder for Player<M> {
         match self.write_answer(disks, line, out) {
             Ok(()) => Ok(()),
             Err(error) => {
-                out.truncate(end);
+                take_back(out, end);
                 Err(error)
             }
         }
@@ -198,13 +198,25 @@ fn obey<C: Crdt, M: Disks>(
     ensures cause { result ≡ Err Unanswered.NoDisk → Rose (M.state disks.old).faults (M.state disks.new).faults }
     ensures same { OnOk result (IsUnchanged (M.state disks.old) (M.state disks.new)) }
 {
-    let Some((sites, parts)) = size_asked(command) else {
+    let Some((sites, parts)) = size_to_make(cluster, command) else {
         return Ok(cluster.apply(command)?);
     };
-    if cluster.parts().is_some() {
-        return Ok(cluster.apply(command)?);
-    }
     make_cluster(alloc, cluster, disks, sites, parts)
+}
+
+/// The numbers of sites and of partitions of each, where the command makes a cluster and none stands.
+fn size_to_make<C: Crdt, D: Disk + Drop>(
+    cluster: &Cluster<C, D>,
+    command: &Command,
+) -> Option<(u8, u8)>
+    ensures some { IfSome result (λ size. command.now ≡ Command.Cluster size.0 size.1) }
+    ensures lacks { IfSome result (λ size. cluster.now ≡ None) }
+    ensures none { IfNone result (is_making command.now ≡ true → is_some (parts_in cluster.now) ≡ true) }
+{
+    if cluster.parts().is_some() {
+        return None;
+    }
+    size_asked(command)
 }
 
 /// The numbers of sites and of partitions of each, where the command makes a cluster.
@@ -281,6 +293,13 @@ fn write_lines(alloc: Global, steps: &[Step], out: &mut Vec<u8>) -> Result<(), A
         line(alloc, step, out)?;
     }
     Ok(())
+}
+
+/// Takes back what was written of a line that isn't answered.
+fn take_back(out: &mut Vec<u8>, end: usize)
+    ensures { out.new.items ≡ take end out.old.items }
+{
+    out.truncate(end);
 }
 
 /// One line.

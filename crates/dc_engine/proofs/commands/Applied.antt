@@ -1,6 +1,6 @@
 -- A player answers the lines of a script by a run of its cluster.
 use Rattle.std.proofs.Common.{◌≡◌, ℕ, ◌+◌, ◌*◌, ◌≤◌, Bool, true, false, ◌||◌, List, [], ◌∷◌, ◌++◌, length, Option, None, Some, refl, sym, ap, ◌∙◌, subst, arith, ⊎_elim, append_assoc}
-use Rattle.std.specs.Prelude.{map, reverse, is_some}
+use Rattle.std.specs.Prelude.{map, reverse, is_some, IfSome, IfNone}
 use Rattle.std.specs.List.{flat_map}
 use Rattle.std.proofs.lemmas.Bool.{true≢false}
 use Rattle.std.proofs.lemmas.List.{reverse-append, map-append, append-nil}
@@ -144,3 +144,16 @@ module _ {E D : Type 0} where
 
   pub made_of : (c : Option (WholeState E D)) → is_some (parts_in c) ≡ true → c ≡ None → ⊥
   made_of c h e = true≢false (sym h ∙ ap (λ (x : Option (WholeState E D)). is_some (parts_in x)) e)
+
+  -- where a command makes a cluster only if one stands, it makes none where none stands
+  pub makes_none : (c : Option (WholeState E D)) (making : Bool) → (making ≡ true → is_some (parts_in c) ≡ true) → c ≡ None → making ≡ false
+  makes_none c true h e = absurd (made_of c (h refl) e)
+  makes_none c false h e = refl
+
+pub if_some : {A : Type 0} (r : Option A) (P : A → Type 0) → ((x : A) → P x) → IfSome r P
+if_some None P f = tt
+if_some (Some x) P f = f x
+
+pub if_none_makes : {A : Type 0} (r : Option A) (making : Bool) (Q : Type 0) → IfNone r (making ≡ false) → IfNone r (making ≡ true → Q)
+if_none_makes None making Q h = λ m. absurd (true≢false (sym m ∙ h))
+if_none_makes (Some x) making Q h = tt

@@ -1,7 +1,6 @@
 -- The disks of a cluster that go back to their maker.
 use Rattle.std.proofs.Common.{◌≡◌, ℕ, zero, suc, ◌+◌, ◌-◌, ◌*◌, ◌<◌, ◌≤◌, List, [], ◌∷◌, ◌++◌, length, get_or, None, Some, refl, sym, ap, ◌∙◌, subst, arith, append_assoc}
-use Rattle.std.proofs.lemmas.Bool.{true≢false}
-use Rattle.std.specs.Prelude.{Option, map, is_some, IsTrue, true, false, nat_lt, if◌then◌else◌}
+use Rattle.std.specs.Prelude.{Option, map, IsTrue, true, false, nat_lt, if◌then◌else◌}
 use Rattle.std.proofs.lemmas.List.{append-nil}
 use Rattle.std.proofs.lemmas.Nat.{mul-le}
 use Rattle.std.proofs.Math.Nat.{add-mul}
@@ -93,9 +92,6 @@ is_mapped_at f (x ∷ xs) (suc i) other h = let more = is_mapped_at f xs i other
 pub few_of : (sites parts n : ℕ) → IsSized sites parts n → n ≤ 128
 few_of sites parts n s = let up : sites * parts ≤ 8 * 16 = mul-le sites parts 8 16 s.most_sites s.most_parts in let all = s.all in omega (arith, up, all)
 
-some_none : {n : ℕ} → Some n ≡ None → ⊥
-some_none {n} e = true≢false (ap is_some e)
-
 -- of a cluster of any kinds
 module _ {S E D : Type 0} (t : Types S E D) where
   -- as many disks are out as the cluster has partitions
@@ -115,15 +111,11 @@ module _ {E D : Type 0} where
   few_in None s = omega arith
   few_in (Some w) s = few_of w.live.sites.sites w.live.sites.parts (length w.live.sites.partitions) s
 
-  pub returns_some : (c : Option (WholeState E (Fused D))) (n : ℕ) (items : List (Durable E (Fused D))) (old new : Maker D) → parts_in c ≡ Some n → items ≡ partitions_in c → SizedIn c → GivesBack n first_place (map disk_from items) old new → ReturnsAll c old new
-  returns_some c n items old new e is s b = record {
+  pub returns_all : (c : Option (WholeState E (Fused D))) (n : ℕ) (items : List (Durable E (Fused D))) (old new : Maker D) → n ≡ number_or_none (parts_in c) → items ≡ partitions_in c → SizedIn c → GivesBack n first_place (map disk_from items) old new → ReturnsAll c old new
+  returns_all c n items old new e is s b = record {
     sized = s;
-    back = subst (λ k. GivesBack k first_place (map disk_from (partitions_in c)) old new) (sym (ap number_or_none e)) (subst (λ l. GivesBack n first_place (map disk_from l) old new) is b);
+    back = subst (λ k. GivesBack k first_place (map disk_from (partitions_in c)) old new) e (subst (λ l. GivesBack n first_place (map disk_from l) old new) is b);
   }
-
-  pub returns_none : (c : Option (WholeState E (Fused D))) (old : Maker D) → parts_in c ≡ None → SizedIn c → ReturnsAll c old old
-  returns_none None old e s = record { sized = s; back = record { out = omega arith; faults = refl; tells = refl; given = λ t. sym (append-nil old.given) } }
-  returns_none (Some w) old e s = absurd (some_none e)
 
 module _ {D : Type 0} (state : D → DiskState) where
   -- a disk without its fuse holds what it holds with it

@@ -5,8 +5,9 @@ ghost use Rattle.disk_core.specs.States.{Rose};
 ghost use Rattle.disk_makers.specs.Makers.{IsMade};
 ghost use Rattle.site_partitions.specs.Made.{AreBlank};
 ghost use Rattle.site_partitions.specs.Reaches.{types_of};
+ghost use Rattle.cluster.specs.Reached.{SizedIn, parts_in};
 ghost use Rattle.dc_engine.specs.Held.{HasOutOf};
-ghost use Rattle.dc_engine.specs.Makers.{IsUnchanged, ReturnsAll, GivesBack, disk_from, first_place, next_place};
+ghost use Rattle.dc_engine.specs.Makers.{IsUnchanged, ReturnsAll, GivesBack, disk_from, first_place, next_place, number_or_none};
 
 use crate::unanswered::Unanswered;
 use cluster::Cluster;
@@ -119,16 +120,25 @@ fn give_back_made<M: Disks>(disks: &mut M, parts: u8, made: Vec<Fused<M::Disk>>)
     }
 }
 
+/// How many partitions each site of the cluster has; 0 where none is made.
+fn parts_or_none<C: Crdt, D: Disk + Drop>(cluster: &Cluster<C, D>) -> u8
+    ensures is { result ≡ number_or_none (parts_in cluster.now) }
+    ensures sized { SizedIn cluster.now }
+{
+    match cluster.parts() {
+        Some(parts) => parts,
+        None => 0,
+    }
+}
+
 /// Gives back the disks of a cluster, if one is made. Takes no memory.
-#[tactic(auto, using(crate::proofs::commands::Returned::returns_none))]
 pub(crate) fn give_back_cluster<C: Crdt, M: Disks>(disks: &mut M, cluster: Cluster<C, M::Disk>)
     requires { HasOutOf (types_of C.laws C.spells (fused_state M.Disk.state)) (M.state disks.old).out cluster }
     ensures { ReturnsAll cluster (M.state disks.old) (M.state disks.new) }
 {
-    if let Some(parts) = cluster.parts() {
-        let partitions = cluster.into_partitions();
-        give_back_all(disks, parts, partitions);
-    }
+    let parts = parts_or_none(&cluster);
+    let partitions = cluster.into_partitions();
+    give_back_all(disks, parts, partitions);
 }
 
 /// Gives back the disks of all partitions, site by site.
