@@ -59,5 +59,6 @@ pub fn run_words<S: Source, K: Sink, M: Disks>(
     ensures unmade { OnErr result (disks.new ≡ disks.old) }
 {
     let texts = texts_of(alloc, behind_name(words))?;
-    Ok(run(alloc, texts.as_slice(), source, sink, disks))
+    let status = run(alloc, texts.as_slice(), source, sink, disks);
+    Ok(status)
 }
