@@ -1,4 +1,4 @@
-use Rattle.std.proofs.Common.{sym, subst}
+use Rattle.std.proofs.Common.{sym, subst, rules}
 use Rattle.std.specs.Prelude.{IfOk, Option}
 use Rattle.world_model.specs.declared.command.Command.{Command}
 use Rattle.world_model.specs.declared.command.Command.TheVariants as command
@@ -27,3 +27,6 @@ returns-clause-ok g c =
 
 pub returns-clause-lacks : goal.returns-clause-lacks
 returns-clause-lacks g c = λ e. c.in-Some.ensures.lacks
+
+pub returns-in_default-clause-ok : goal.returns-in_default-clause-ok
+returns-in_default-clause-ok g c = search rules
