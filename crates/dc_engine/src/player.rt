@@ -76,27 +76,6 @@ impl<M: Disks> Player<M> {
         give_back_cluster(disks, self.cluster);
     }
 
-    /// The steps that answer a line.
-    fn steps_of(&mut self, disks: &mut M, line: &[u8]) -> Result<Vec<Step>, Unanswered>
-        requires held { HasOut M.Disk.state (M.state disks.old).out self.old.cluster }
-        ensures held { HasOut M.Disk.state (M.state disks.new).out self.new.cluster }
-        ensures ok { IfOk result (λ steps. AnswersAsked M.Disk.state self.old (asked_of line.now) steps.items self.new) }
-        ensures making { result ≡ Err Unanswered.NoDisk → makes_cluster line.now ≡ true }
-        ensures lacks { result ≡ Err Unanswered.NoDisk → self.old.cluster ≡ None }
-        ensures later { (M.state disks.old).faults ≤ (M.state disks.new).faults }
-        ensures cause { result ≡ Err Unanswered.NoDisk → Rose (M.state disks.old).faults (M.state disks.new).faults }
-        ensures same { OnOk result (IsUnchanged (M.state disks.old) (M.state disks.new)) }
-    {
-        answer_to(
-            self.alloc,
-            &mut self.cluster,
-            &mut self.met_bad,
-            &mut self.parsed,
-            disks,
-            line,
-        )
-    }
-
     /// Answers a line, and on an error leaves at the end of `out` what was written of it.
     #[tactic(auto, using(crate::proofs::commands::Applied::line_answered))]
     fn write_answer(
@@ -116,7 +95,14 @@ impl<M: Disks> Player<M> {
         ensures same { OnOk result (IsUnchanged (M.state disks.old) (M.state disks.new)) }
     {
         let alloc = self.alloc;
-        match self.steps_of(disks, line) {
+        match answer_to(
+            alloc,
+            &mut self.cluster,
+            &mut self.met_bad,
+            &mut self.parsed,
+            disks,
+            line,
+        ) {
             Ok(steps) => Ok(write_lines(alloc, steps.as_slice(), out)?),
             Err(error) => Err(error),
         }
