@@ -9,7 +9,7 @@ ghost use Rattle.reply_text.specs.Texts.{texts_of, entries_of};
 ghost use Rattle.reply_text.specs.Words.{Begins};
 
 use crate::bytes::{put, put_byte, put_if};
-use crate::quoted::put_quoted;
+use crate::quoted::{put_escaped, put_if_plain, put_quoted};
 use crdt_core::{Field, Value};
 use field_codec::Text;
 use itoa::Buffer;
@@ -21,14 +21,19 @@ use std::mem::replace;
 /// The bytes that most values of fields take.
 const MOST_OF_A_VALUE: usize = 32;
 
-/// Adds a text of an array, after a comma where something stands before.
+/// Adds a text of an array, after a comma where something stands before. Only one with a byte that is escaped is written
+/// elsewhere first.
 #[inline(always)]
 fn put_item(alloc: Global, out: &mut Vec<u8>, later: bool, item: &Text) -> Result<(), AllocError>
     ensures ok { OnOk result (out.new.items ≡ out.old.items ++ ((if later then codes "," else []) ++ quoted item.now)) }
     ensures err { OnErr result (Begins out.old.items out.new.items) }
 {
-    put_if(out, later, b',')?;
-    put_quoted(alloc, out, item.as_str())
+    let start = out.len();
+    if put_if_plain(out, later, item)? {
+        return Ok(());
+    }
+    out.truncate(start);
+    put_escaped(alloc, out, later, item.as_str())
 }
 
 /// Adds each of the texts, with a comma between neighbors.
