@@ -2,3 +2,4 @@ pub mod Joined
 pub mod Front
 pub mod Plain
 pub mod OneDigit
+pub mod MemberOrder

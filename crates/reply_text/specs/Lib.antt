@@ -1,5 +1,6 @@
 pub mod Places
 pub mod Values
+pub mod Members
 pub mod Texts
 pub mod Text
 pub mod Words

@@ -2,6 +2,7 @@
 #![tactic(auto)]
 
 mod bytes;
+mod member;
 mod quoted;
 mod restarted;
 mod shapes;

@@ -1,25 +1,26 @@
 #![tactic(auto, using(crate::specs::Words::begins_same, crate::specs::Words::begins_after))]
 
-ghost use Rattle.std.specs.Prelude.{◌≡◌, ◌++◌, if◌then◌else◌, [], ◌∷◌, map, codes, IfOk, OnOk, OnErr, string_bytes};
+ghost use Rattle.std.specs.Prelude.{◌≡◌, ◌++◌, if◌then◌else◌, [], ◌∷◌, true, codes, IfOk, OnOk, OnErr, string_bytes};
 ghost use Rattle.std.specs.Fmt.{signed_decimal};
 ghost use Rattle.std.specs.List.{join_by};
 ghost use Rattle.json.specs.Print.{quoted};
 ghost use Rattle.reply_text.specs.Values.{value_text, array_text, object_text, members, member_name, member_text};
-ghost use Rattle.reply_text.specs.Texts.{texts_of, entries_of};
+ghost use Rattle.script_words.specs.Plain.{is_plain};
+ghost use Rattle.script_words.specs.Kinds.{kind_name};
+ghost use Rattle.reply_text.specs.Members.{text_at, placed};
+ghost use Rattle.reply_text.specs.Texts.{texts_of};
 ghost use Rattle.reply_text.specs.Words.{Begins};
 
 use crate::bytes::{put, put_byte, put_if};
+use crate::member::Member;
 use crate::quoted::{put_escaped, put_if_plain, put_quoted};
-use crdt_core::{Field, Value};
+use crdt_core::{Field, Kind, Value};
 use field_codec::Text;
 use itoa::Buffer;
-use script_words::kind_name;
+use script_words::{is_plain, kind_name};
 use std::alloc::{AllocError, Global};
 use std::collections::{BTreeMap, LinkedList};
 use std::mem::replace;
-
-/// The bytes that most values of fields take.
-const MOST_OF_A_VALUE: usize = 32;
 
 /// Adds a text of an array, after a comma where something stands before. Only one with a byte that is escaped is written
 /// elsewhere first.
@@ -83,70 +84,121 @@ fn name_of(alloc: Global, field: &Field) -> Result<String, AllocError>
     Ok(name)
 }
 
+/// Adds a kind, a colon and a name between quotes.
+#[tactic(auto, using(crate::specs::Words::begins_same, crate::specs::Words::begins_after, crate::proofs::Plain::name_parts))]
+fn put_plain_name(out: &mut Vec<u8>, kind: Kind, name: &str) -> Result<(), AllocError>
+    requires { is_plain name.now ≡ true }
+    ensures ok { OnOk result (out.new.items ≡ out.old.items ++ quoted (kind_name kind ++ 58 ∷ name.now)) }
+    ensures err { OnErr result (Begins out.old.items out.new.items) }
+{
+    put_byte(out, b'"')?;
+    put(out, kind_name(kind).as_bytes())?;
+    put_byte(out, b':')?;
+    put(out, name.as_bytes())?;
+    put_byte(out, b'"')
+}
+
+/// Adds a member's name between quotes. It is made only where JSON escapes one of its bytes.
+fn put_name(alloc: Global, out: &mut Vec<u8>, field: &Field) -> Result<(), AllocError>
+    ensures ok { OnOk result (out.new.items ≡ out.old.items ++ quoted (member_name field.now)) }
+    ensures err { OnErr result (Begins out.old.items out.new.items) }
+{
+    let name = field.name.as_str();
+    if is_plain(name.as_bytes()) {
+        return put_plain_name(out, field.kind, name);
+    }
+    put_escaped(alloc, out, false, name_of(alloc, field)?.as_str())
+}
+
+/// The fields in the order of their members' names, each with its place.
+fn members_of<'a>(
+    alloc: Global,
+    fields: &'a LinkedList<(Field, Value)>,
+) -> Result<BTreeMap<Member<'a>, usize>, AllocError>
+    ensures { IfOk result (λ m. placed fields.now m.entries ≡ members (texts_of fields.now)) }
+{
+    let mut members = BTreeMap::new(alloc);
+    let mut place = 0;
+    for (field, _value) in fields {
+        members.insert(Member { field }, place)?;
+        place += 1;
+    }
+    Ok(members)
+}
+
+/// Adds the value of the field at a place. Fields are few, so that they are counted.
+#[cycle(text)]
+fn put_value_at(
+    alloc: Global,
+    out: &mut Vec<u8>,
+    fields: &LinkedList<(Field, Value)>,
+    place: usize,
+) -> Result<(), AllocError>
+    ensures ok { OnOk result (out.new.items ≡ out.old.items ++ text_at fields.now place) }
+    ensures err { OnErr result (Begins out.old.items out.new.items) }
+{
+    let mut before = place;
+    for (_field, value) in fields {
+        if before == 0 {
+            return put_value(alloc, out, value);
+        }
+        before -= 1;
+    }
+    Ok(())
+}
+
 /// Adds a member of a JSON object, after a comma where something stands before.
+#[cycle(text)]
 fn put_member(
     alloc: Global,
     out: &mut Vec<u8>,
     later: bool,
-    name: &str,
-    value: &[u8],
+    member: &Member,
+    fields: &LinkedList<(Field, Value)>,
+    place: usize,
 ) -> Result<(), AllocError>
-    ensures ok { OnOk result (out.new.items ≡ out.old.items ++ ((if later then codes "," else []) ++ member_text (name.now, value.now))) }
+    ensures ok { OnOk result (out.new.items ≡ out.old.items ++ ((if later then codes "," else []) ++ member_text (member.now, text_at fields.now place))) }
     ensures err { OnErr result (Begins out.old.items out.new.items) }
 {
     put_if(out, later, b',')?;
-    put_quoted(alloc, out, name)?;
+    put_name(alloc, out, member.field)?;
     put_byte(out, b':')?;
-    put(out, value)
+    put_value_at(alloc, out, fields, place)
 }
 
 /// Adds the members with a comma between neighbors.
-fn put_members(
+#[cycle(text)]
+fn put_members<'a>(
     alloc: Global,
     out: &mut Vec<u8>,
-    members: &BTreeMap<String, Vec<u8>>,
+    fields: &'a LinkedList<(Field, Value)>,
+    members: &BTreeMap<Member<'a>, usize>,
 ) -> Result<(), AllocError>
-    ensures ok { OnOk result (out.new.items ≡ out.old.items ++ join_by member_text (codes ",") (entries_of members.now.entries)) }
+    ensures ok { OnOk result (out.new.items ≡ out.old.items ++ join_by member_text (codes ",") (placed fields.now members.now.entries)) }
     ensures err { OnErr result (Begins out.old.items out.new.items) }
 {
     let mut later = false;
-    for (name, value) in members {
-        put_member(alloc, out, later, name, value)?;
+    for (member, place) in members {
+        put_member(alloc, out, later, member, fields, *place)?;
         later = true;
     }
     Ok(())
 }
 
-/// Adds the members as a JSON object.
-fn put_object(
+/// Adds the fields with their values as a JSON object.
+#[cycle(text)]
+fn put_fields(
     alloc: Global,
     out: &mut Vec<u8>,
-    members: &BTreeMap<String, Vec<u8>>,
+    fields: &LinkedList<(Field, Value)>,
 ) -> Result<(), AllocError>
-    ensures ok { OnOk result (out.new.items ≡ out.old.items ++ object_text (entries_of members.now.entries)) }
+    ensures ok { OnOk result (out.new.items ≡ out.old.items ++ object_text (members (texts_of fields.now))) }
     ensures err { OnErr result (Begins out.old.items out.new.items) }
 {
+    let members = members_of(alloc, fields)?;
     put_byte(out, b'{')?;
-    put_members(alloc, out, members)?;
+    put_members(alloc, out, fields, &members)?;
     put_byte(out, b'}')
-}
-
-/// The texts of the fields' values, under the members' names.
-#[cycle(text)]
-fn members_of(
-    alloc: Global,
-    fields: &LinkedList<(Field, Value)>,
-) -> Result<BTreeMap<String, Vec<u8>>, AllocError>
-    ensures { IfOk result (λ m. entries_of m.entries ≡ members (texts_of fields.now)) }
-{
-    let mut members = BTreeMap::new(alloc);
-    for (field, value) in fields {
-        let name = name_of(alloc, field)?;
-        let mut text = Vec::with_capacity(alloc, MOST_OF_A_VALUE)?;
-        put_value(alloc, &mut text, value)?;
-        members.insert(name, text)?;
-    }
-    Ok(members)
 }
 
 /// Adds the number.
@@ -169,6 +221,6 @@ pub fn put_value(alloc: Global, out: &mut Vec<u8>, value: &Value) -> Result<(), 
         Value::Flag(false) => put(out, b"false"),
         Value::Word(word) => put_quoted(alloc, out, word.as_str()),
         Value::Words(words) => put_array(alloc, out, words.as_slice()),
-        Value::Fields(fields) => put_object(alloc, out, &members_of(alloc, fields)?),
+        Value::Fields(fields) => put_fields(alloc, out, fields),
     }
 }
