@@ -9,7 +9,7 @@ use Rattle.site_vector.specs.declared.ids.TxId.{TxId}
 use Rattle.site_vector.specs.Printed.{part_text, tx_text}
 use Rattle.crdt_core.specs.declared.object.ObjectId.{ObjectId}
 use Rattle.reply_text.specs.Places.{vector_text, word_text, object_text}
-use Rattle.reply_text.specs.Text.{stamp_words, decided_words, pending_words}
+use Rattle.reply_text.specs.Text.{line_of, stamp_words, decided_words, pending_words}
 use Rattle.reply_text.specs.Updated.{stamp_text, updated_text, decided_text, pending_text, restarted_text}
 use Rattle.reply_text.specs.Words.{Begins}
 
@@ -64,3 +64,10 @@ updated_is name object stamp a b c d is_b is_c is_d =
     is_d ∙ ap (λ s. s ++ (stamp_text stamp ++ 10 ∷ [])) (is_c ∙ ap (λ s. s ++ object_text object) is_b)
     ∙ updated_parts a (codes "updated") (codes " ") (word_text name) (object_text object) (stamp_text stamp) (10 ∷ [])
     ∙ ap (λ s. a ++ ((codes "updated" ++ ((codes " " ++ word_text name) ++ ((codes " " ++ object_text object) ++ s))) ++ 10 ∷ [])) (sym (spaced-stamp stamp))
+
+value_parts : (a n s t o v e : List ℕ) → ((a ++ (n ++ (s ++ (t ++ s)))) ++ o) ++ (s ++ (v ++ e)) ≡ a ++ ((n ++ ((s ++ t) ++ ((s ++ o) ++ ((s ++ v) ++ [])))) ++ e)
+value_parts a n s t o v e = simp (append_assoc, append-nil)
+
+-- the line of a read is what its parts add, one after another
+pub value_is : (n t o v a b c d : List ℕ) → b ≡ a ++ (n ++ (32 ∷ (t ++ 32 ∷ []))) → c ≡ b ++ o → d ≡ c ++ (32 ∷ (v ++ 10 ∷ [])) → d ≡ a ++ line_of (n ∷ t ∷ o ∷ v ∷ [])
+value_is n t o v a b c d is_b is_c is_d = is_d ∙ ap (λ s. s ++ (32 ∷ (v ++ 10 ∷ []))) (is_c ∙ ap (λ s. s ++ o) is_b) ∙ value_parts a n (32 ∷ []) t o v (10 ∷ [])

@@ -7,6 +7,7 @@ ghost use Rattle.reply_text.specs.Updated.{updated_text, stamp_text};
 ghost use Rattle.reply_text.specs.Words.{Begins};
 
 use crate::bytes::{put, put_byte, put_number};
+use crate::value::put_value;
 use crate::words::{Word, put_line, put_object, put_part, put_text};
 use crdt_core::{ObjectId, Value};
 use field_codec::Text;
@@ -115,28 +116,52 @@ pub fn put_text_tx_vector<'x>(
     )
 }
 
-/// Adds a line of these words.
-pub fn put_text_object_value<'x>(
+/// Adds a name and a text, each with the space behind it.
+#[inline(always)]
+#[tactic(auto, using(crate::specs::Words::begins_same, crate::specs::Words::begins_after))]
+fn put_named_text(
     alloc: Global,
     out: &mut Vec<u8>,
-    name: &'x str,
-    text: &'x Text,
-    object: &'x ObjectId,
-    value: &'x Value,
+    name: &str,
+    text: &Text,
+) -> Result<(), AllocError>
+    ensures ok { OnOk result (out.new.items ≡ out.old.items ++ (name.now ++ (32 ∷ (word_text text.now ++ 32 ∷ [])))) }
+    ensures err { OnErr result (Begins out.old.items out.new.items) }
+{
+    put(out, name.as_bytes())?;
+    put_byte(out, b' ')?;
+    put_text(alloc, out, text)?;
+    put_byte(out, b' ')
+}
+
+/// Adds a value between a space and a line feed.
+#[inline(always)]
+#[tactic(auto, using(crate::specs::Words::begins_same, crate::specs::Words::begins_after))]
+fn put_last_value(alloc: Global, out: &mut Vec<u8>, value: &Value) -> Result<(), AllocError>
+    ensures ok { OnOk result (out.new.items ≡ out.old.items ++ (32 ∷ (value_text value.now ++ 10 ∷ []))) }
+    ensures err { OnErr result (Begins out.old.items out.new.items) }
+{
+    put_byte(out, b' ')?;
+    put_value(alloc, out, value)?;
+    put_byte(out, b'\n')
+}
+
+/// Adds a line of these words. With no list of them, since most lines of many scripts are those of reads.
+#[tactic(auto, using(crate::specs::Words::begins_same, crate::specs::Words::begins_after, crate::proofs::Front::value_is))]
+pub fn put_text_object_value(
+    alloc: Global,
+    out: &mut Vec<u8>,
+    name: &str,
+    text: &Text,
+    object: &ObjectId,
+    value: &Value,
 ) -> Result<(), AllocError>
     ensures ok { OnOk result (out.new.items ≡ out.old.items ++ line_of (name.now ∷ word_text text.now ∷ object_text object.now ∷ value_text value.now ∷ [])) }
     ensures err { OnErr result (Begins out.old.items out.new.items) }
 {
-    put_line(
-        alloc,
-        out,
-        &[
-            Word::Name(name),
-            Word::Text(text),
-            Word::Object(object),
-            Word::Value(value),
-        ],
-    )
+    put_named_text(alloc, out, name, text)?;
+    put_object(alloc, out, object)?;
+    put_last_value(alloc, out, value)
 }
 
 /// Adds a line of these words.

@@ -22,23 +22,18 @@ use std::alloc::{AllocError, Global};
 use std::collections::{BTreeMap, LinkedList};
 use std::mem::replace;
 
-/// Adds a text of an array, after a comma where something stands before. Only one with a byte that is escaped is written
-/// elsewhere first.
+/// Adds a text of an array, after a comma where something stands before.
 #[inline(always)]
 fn put_item(alloc: Global, out: &mut Vec<u8>, later: bool, item: &Text) -> Result<(), AllocError>
     ensures ok { OnOk result (out.new.items ≡ out.old.items ++ ((if later then codes "," else []) ++ quoted item.now)) }
     ensures err { OnErr result (Begins out.old.items out.new.items) }
 {
-    let start = out.len();
-    if put_if_plain(out, later, item)? {
-        return Ok(());
-    }
-    out.truncate(start);
-    put_escaped(alloc, out, later, item.as_str())
+    put_if(out, later, b',')?;
+    put_quoted(alloc, out, item.as_str())
 }
 
 /// Adds each of the texts, with a comma between neighbors.
-#[inline(always)]
+#[inline(never)]
 fn put_each(alloc: Global, out: &mut Vec<u8>, items: &[Text]) -> Result<(), AllocError>
     ensures ok { OnOk result (out.new.items ≡ out.old.items ++ join_by quoted (codes ",") items.now) }
     ensures err { OnErr result (Begins out.old.items out.new.items) }
@@ -49,17 +44,45 @@ fn put_each(alloc: Global, out: &mut Vec<u8>, items: &[Text]) -> Result<(), Allo
     Ok(())
 }
 
-/// Adds the texts with a comma between neighbors. Meanwhile the buffer is the function's own, so that its length lies
-/// in its own frame, where no byte that is written can touch it.
+/// Adds the texts with a comma between neighbors, if JSON escapes no byte of them, and says whether that is so. Else it
+/// may have added some of them.
+#[inline(always)]
+fn put_each_plain(out: &mut Vec<u8>, items: &[Text]) -> Result<bool, AllocError>
+    ensures all { result ≡ Ok true → out.new.items ≡ out.old.items ++ join_by quoted (codes ",") items.now }
+    ensures begins { Begins out.old.items out.new.items }
+{
+    for (i, item) in items.iter().enumerate() {
+        if !put_if_plain(out, i > 0, item)? {
+            return Ok(false);
+        }
+    }
+    Ok(true)
+}
+
+/// What `put_each_plain` does. Meanwhile the buffer is the function's own, so that its length and its place stay in
+/// registers, where no byte that is written can touch them.
 #[inline(never)]
+fn put_all_plain(alloc: Global, out: &mut Vec<u8>, items: &[Text]) -> Result<bool, AllocError>
+    ensures all { result ≡ Ok true → out.new.items ≡ out.old.items ++ join_by quoted (codes ",") items.now }
+    ensures begins { Begins out.old.items out.new.items }
+{
+    let mut taken = replace(out, Vec::new(alloc));
+    let put = put_each_plain(&mut taken, items);
+    *out = taken;
+    put
+}
+
+/// Adds the texts with a comma between neighbors. Only where a byte of them is escaped each text is tested first.
 fn put_items(alloc: Global, out: &mut Vec<u8>, items: &[Text]) -> Result<(), AllocError>
     ensures ok { OnOk result (out.new.items ≡ out.old.items ++ join_by quoted (codes ",") items.now) }
     ensures err { OnErr result (Begins out.old.items out.new.items) }
 {
-    let mut taken = replace(out, Vec::new(alloc));
-    let put = put_each(alloc, &mut taken, items);
-    *out = taken;
-    put
+    let start = out.len();
+    if put_all_plain(alloc, out, items)? {
+        return Ok(());
+    }
+    out.truncate(start);
+    put_each(alloc, out, items)
 }
 
 /// Adds the texts as a JSON array.
