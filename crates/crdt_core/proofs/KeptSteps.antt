@@ -1,5 +1,6 @@
 -- What a step leaves of what is kept.
 use Rattle.std.proofs.Common.{◌≡◌, Bool, true, false, cond, not, ◌&&◌, ◌||◌, List, [], ◌∷◌, ◌++◌, Option, Some, None, refl, sym, ap, ◌∙◌}
+use Rattle.std.specs.Prelude.{slice_get, unwrap_or}
 use Rattle.std.specs.List.{list_any}
 use Rattle.std.specs.Ordering.{eq_by_cmp}
 use Rattle.std.proofs.lemmas.List.Folds.{list_any-append}
@@ -61,3 +62,8 @@ module _ {V : Type 0} where
       ∙ ap (λ b. cond b None (cond (has_dot dots q) None (get m q))) (sym (same_dot_ties q d))
       ∙ either (same_dot q d) (has_dot dots q) (get m q)
       ∙ sym (get-without m (dots ++ d ∷ []) q ∙ ap (λ b. cond b None (get m q)) (list_any-append (same_dot q) dots (d ∷ []))))
+
+-- where the first is a mark, one is kept
+pub first_of : (es : List (Dot × Bool)) (d : Dot) (m : Bool) → slice_get es 0 ≡ Some (d, m) → m ≡ true → list_any (λ e. e.1) es ≡ true
+first_of [] d m h is = cc
+first_of (e ∷ es) d m h is = ap (λ b. b || list_any (λ e. e.1) es) (ap (λ o. (unwrap_or o e).1) h ∙ is)

@@ -1,4 +1,4 @@
-ghost use Rattle.std.specs.Prelude.{◌≡◌, ◌==◌, List, OnOk, OnErr, IfOk};
+ghost use Rattle.std.specs.Prelude.{◌≡◌, ◌==◌, List, true, OnOk, OnErr, IfOk};
 ghost use Rattle.std.specs.FinMap as map;
 ghost use Rattle.std.specs.Map.Iter.{ShowsInOrder, deref_pair};
 ghost use Rattle.site_vector.specs.declared.ids.Dot.{Dot};
@@ -91,10 +91,13 @@ impl<V: Drop> Kept<V> {
 }
 
 impl Kept<bool> {
-    /// Whether a mark is kept.
+    /// Whether a mark is kept. Mostly the first of few is one, so that no more are gone through.
     pub fn has_marked(&self) -> bool
         ensures { result ≡ has_marked self.now }
     {
+        if is_first_marked(&self.entries) {
+            return true;
+        }
         self.iter().any(|entry| *entry.1)
     }
 
@@ -125,6 +128,20 @@ fn dots_in<V>(alloc: Global, entries: &BTreeMap<Dot, V>) -> Result<Dots, AllocEr
 {
     let dots: Vec<Dot> = entries.keys().copied().collect(alloc)?;
     Ok(Dots::of_ascending(dots))
+}
+
+/// Whether the first is a mark.
+#[inline(always)]
+fn is_first_marked(entries: &BTreeMap<Dot, bool>) -> bool
+    ensures { result ≡ true → has_marked (map.from_entries entries.now.entries) ≡ true }
+{
+    if entries.len() == 0 {
+        return false;
+    }
+    match entries.first_key_value() {
+        Some((_dot, mark)) => *mark,
+        None => false,
+    }
 }
 
 fn take_each<V: Drop>(entries: &mut BTreeMap<Dot, V>, dots: &[Dot])
