@@ -1,6 +1,6 @@
 #![tactic(auto, using(crate::specs::Words::begins_same, crate::specs::Words::begins_after))]
 
-ghost use Rattle.std.specs.Prelude.{◌≡◌, ◌++◌, ◌∷◌, if◌then◌else◌, [], decimal, OnOk, OnErr};
+ghost use Rattle.std.specs.Prelude.{◌≡◌, ◌≤◌, ◌+◌, ◌++◌, ◌∷◌, if◌then◌else◌, [], length, vec_len, vec_capacity, decimal, OnOk, OnErr};
 ghost use Rattle.reply_text.specs.Words.{Begins};
 
 use itoa::Buffer;
@@ -13,6 +13,28 @@ pub fn put(out: &mut Vec<u8>, bytes: &[u8]) -> Result<(), AllocError>
     ensures err { OnErr result (Begins out.old.items out.new.items) }
 {
     out.extend_from_slice(bytes)
+}
+
+/// Adds the bytes, for which there is room.
+#[inline(always)]
+fn put_reserved(out: &mut Vec<u8>, bytes: &[u8])
+    requires { vec_len out.old + length bytes.now ≤ vec_capacity out.old }
+    ensures { out.new.items ≡ out.old.items ++ bytes.now }
+{
+    for byte in bytes {
+        out.push_reserved(*byte);
+    }
+}
+
+/// Adds the bytes, which are few, one after another.
+#[inline(always)]
+pub fn put_few(out: &mut Vec<u8>, bytes: &[u8]) -> Result<(), AllocError>
+    ensures ok { OnOk result (out.new.items ≡ out.old.items ++ bytes.now) }
+    ensures err { OnErr result (Begins out.old.items out.new.items) }
+{
+    out.reserve(bytes.len())?;
+    put_reserved(out, bytes);
+    Ok(())
 }
 
 /// Adds one byte.

@@ -11,7 +11,7 @@ ghost use Rattle.reply_text.specs.Members.{text_at, placed};
 ghost use Rattle.reply_text.specs.Texts.{texts_of};
 ghost use Rattle.reply_text.specs.Words.{Begins};
 
-use crate::bytes::{put, put_byte, put_if};
+use crate::bytes::{put, put_byte, put_few, put_if};
 use crate::member::Member;
 use crate::quoted::{put_escaped, put_if_plain, put_quoted};
 use crdt_core::{Field, Kind, Value};
@@ -117,7 +117,7 @@ fn put_plain_name(out: &mut Vec<u8>, kind: Kind, name: &str) -> Result<(), Alloc
     put_byte(out, b'"')?;
     put(out, kind_name(kind).as_bytes())?;
     put_byte(out, b':')?;
-    put(out, name.as_bytes())?;
+    put_few(out, name.as_bytes())?;
     put_byte(out, b'"')
 }
 

@@ -7,7 +7,7 @@ ghost use Rattle.site_vector.specs.Printed.{part_text, tx_text};
 ghost use Rattle.reply_text.specs.Places.{vector_text, word_text, object_text, bucket_text, interval_text};
 ghost use Rattle.reply_text.specs.Words.{text_of_word, words_text, Begins};
 
-use crate::bytes::{put, put_byte, put_if, put_number};
+use crate::bytes::{put, put_byte, put_few, put_if, put_number};
 use crate::quoted::put_quoted;
 use crate::value::put_value;
 use crdt_core::{ObjectId, Value};
@@ -93,7 +93,7 @@ pub fn put_text(alloc: Global, out: &mut Vec<u8>, text: &Text) -> Result<(), All
 {
     let text = text.as_str();
     if is_bare(text.as_bytes()) {
-        return put(out, text.as_bytes());
+        return put_few(out, text.as_bytes());
     }
     put_quoted(alloc, out, text)
 }
