@@ -2,7 +2,7 @@
 
 ghost use Rattle.std.specs.Prelude.{◌≡◌, ◌++◌, if◌then◌else◌, [], ◌∷◌, true, codes, IfOk, OnOk, OnErr, string_bytes};
 ghost use Rattle.std.specs.Fmt.{signed_decimal};
-ghost use Rattle.std.specs.List.{join_by};
+ghost use Rattle.std.specs.List.{join_by, flat_map};
 ghost use Rattle.json.specs.Print.{quoted};
 ghost use Rattle.reply_text.specs.Values.{value_text, array_text, object_text, members, member_name, member_text};
 ghost use Rattle.script_words.specs.Plain.{is_plain};
@@ -44,19 +44,36 @@ fn put_each(alloc: Global, out: &mut Vec<u8>, items: &[Text]) -> Result<(), Allo
     Ok(())
 }
 
-/// Adds the texts with a comma between neighbors, if JSON escapes no byte of them, and says whether that is so. Else it
-/// may have added some of them.
+/// Adds each of the texts after a comma, if JSON escapes no byte of them, and says whether that is so. Else it may have
+/// added some of them.
+#[inline(always)]
+fn put_rest_plain(out: &mut Vec<u8>, items: &[Text]) -> Result<bool, AllocError>
+    ensures all { result ≡ Ok true → out.new.items ≡ out.old.items ++ flat_map (λ w. codes "," ++ quoted w) items.now }
+    ensures begins { Begins out.old.items out.new.items }
+{
+    for item in items {
+        if !put_if_plain(out, true, item)? {
+            return Ok(false);
+        }
+    }
+    Ok(true)
+}
+
+/// What `put_rest_plain` does, with a comma between neighbors alone.
 #[inline(always)]
 fn put_each_plain(out: &mut Vec<u8>, items: &[Text]) -> Result<bool, AllocError>
     ensures all { result ≡ Ok true → out.new.items ≡ out.old.items ++ join_by quoted (codes ",") items.now }
     ensures begins { Begins out.old.items out.new.items }
 {
-    for (i, item) in items.iter().enumerate() {
-        if !put_if_plain(out, i > 0, item)? {
-            return Ok(false);
+    match items.split_first() {
+        None => Ok(true),
+        Some((first, rest)) => {
+            if !put_if_plain(out, false, first)? {
+                return Ok(false);
+            }
+            put_rest_plain(out, rest)
         }
     }
-    Ok(true)
 }
 
 /// What `put_each_plain` does. Meanwhile the buffer is the function's own, so that its length and its place stay in
