@@ -1,6 +1,6 @@
 -- Texts joined by commas, one more at a time.
 use Rattle.std.proofs.Common.{◌≡◌, ℕ, ◌+◌, ◌<◌, List, [], ◌∷◌, ◌++◌, length, take, get_or, Bool, true, if◌then◌else◌, nat_lt, sym, ap, ◌∙◌, append_assoc, arith, suc}
-use Rattle.std.proofs.Common.{◌≢◌, ◌-◌, Bor, nat_cmp, Ordering, Less, Equal, Greater, refl, map}
+use Rattle.std.proofs.Common.{Bor, Vec, vec_items, Global, nat_cmp, Ordering, Less, Equal, Greater, refl, map}
 use Rattle.std.specs.List.{join_by, flat_map}
 use Rattle.std.specs.Ordering.{match_ordering}
 use Rattle.std.specs.BTreeMap.{insert_entry}
@@ -10,9 +10,8 @@ use Rattle.std.proofs.lemmas.Grind.{fold-append}
 use Rattle.crdt_core.specs.declared.object.Field.{Field}
 use Rattle.crdt_core.specs.declared.value.Value.{Value}
 use Rattle.reply_text.specs.Values.{member_text, members, member_name, value_text}
-use Rattle.reply_text.specs.Members.{text_at, placed}
-use Rattle.reply_text.specs.Texts.{texts_of}
-use Rattle.std.proofs.lemmas.List.{append-nil, take_more, length-take-le, length-append}
+use Rattle.reply_text.specs.Texts.{entries_of, texts_of}
+use Rattle.std.proofs.lemmas.List.{append-nil, take_more, length-take-le}
 use Rattle.std.proofs.lemmas.Bool.Decides.{nat_tests}
 use Rattle.std.proofs.lemmas.Grind.{flat_map-append}
 
@@ -37,91 +36,49 @@ pub some_now : {X : Type 0} (xs : List X) (x : X) → true ≡ nat_lt 0 (length 
 some_now [] x = sym (positive 0)
 some_now (y ∷ xs) x = sym (positive (length (xs ++ x ∷ [])))
 
-placed-match_ordering : (fs : List (Field × Value)) (o : Ordering) (a b c : List (List ℕ × ℕ)) → placed fs (match_ordering o a b c) ≡ match_ordering o (placed fs a) (placed fs b) (placed fs c)
-placed-match_ordering fs Less a b c = refl
-placed-match_ordering fs Equal a b c = refl
-placed-match_ordering fs Greater a b c = refl
-
--- the entries with a member put in
-placed-insert_entry : (fs : List (Field × Value)) (es : List (List ℕ × ℕ)) (k : List ℕ) (i : ℕ) → placed fs (insert_entry (slice_cmp nat_cmp) es k i) ≡ insert_entry (slice_cmp nat_cmp) (placed fs es) k (text_at fs i)
-placed-insert_entry fs [] k i = refl
-placed-insert_entry fs (e ∷ es) k i = placed-match_ordering fs (slice_cmp nat_cmp k e.0) _ _ _ ∙ rw (placed-insert_entry fs es k i)
-
-members-push : (fs : List (Field × List ℕ)) (f : Field × List ℕ) → members (fs ++ f ∷ []) ≡ insert_entry (slice_cmp nat_cmp) (members fs) (member_name f.0) f.1
-members-push fs f = fold-append _ [] fs (f ∷ [])
-
--- the value after the first fields
-pub text_next : (fs : List (Field × Value)) (f : Field × Value) (rest : List (Field × Value)) → text_at (fs ++ f ∷ rest) (length fs) ≡ value_text f.1
-text_next [] f rest = refl
-text_next (g ∷ fs) f rest = text_next fs f rest
-
-abbrev pub seen : List (Bor (Field × Value)) → List (Field × Value)
-seen ys = map (λ y. y.now) ys
-
-seen-push : (ys : List (Bor (Field × Value))) (y : Bor (Field × Value)) → seen (ys ++ y ∷ []) ≡ seen ys ++ y.now ∷ []
-seen-push ys y = map-append (λ (y : Bor (Field × Value)). y.now) ys (y ∷ [])
-
--- what a loop has seen and what is left are all
-pub left_more : (all it rest : List (Field × Value)) (ys : List (Bor (Field × Value))) (y : Bor (Field × Value)) → seen ys ++ it ≡ all → it ≡ y.now ∷ rest → seen (ys ++ y ∷ []) ++ rest ≡ all
-left_more all it rest ys y whole is = ap (λ s. s ++ rest) (seen-push ys y) ∙ append_assoc (seen ys) (y.now ∷ []) rest ∙ ap (λ s. seen ys ++ s) (sym is) ∙ whole
-
-pub count_more : {X : Type 0} (ys : List X) (y : X) (n : ℕ) → n ≡ length ys → n + 1 ≡ length (ys ++ y ∷ [])
-count_more ys y n is = ap (λ m. m + 1) is ∙ sym (length-append ys (y ∷ []))
-
-pub count_none : (place seen before : ℕ) → place ≡ seen + before → before ≡ 0 → place ≡ seen
-count_none place seen before is none = omega arith
-
-counted : (place n before : ℕ) → place ≡ n + before → (before ≢ 0) → place ≡ (n + 1) + (before - 1)
-counted place n before is some = omega arith
-
-pub count_less : {X : Type 0} (ys : List X) (y : X) (place before : ℕ) → place ≡ length ys + before → (before ≢ 0) → place ≡ length (ys ++ y ∷ []) + (before - 1)
-count_less ys y place before is some = counted place (length ys) before is some ∙ ap (λ n. n + (before - 1)) (sym (length-append ys (y ∷ [])))
-
--- the value of the next field
-pub text_here : (all it rest : List (Field × Value)) (ys : List (Bor (Field × Value))) (y : Bor (Field × Value)) (place : ℕ) → seen ys ++ it ≡ all → it ≡ y.now ∷ rest → place ≡ length ys → text_at all place ≡ value_text y.now.1
-text_here all it rest ys y place whole is count =
-    (λ i. text_at ((sym whole ∙ ap (λ s. seen ys ++ s) is) i) ((count ∙ sym (length-map ys (λ (y : Bor (Field × Value)). y.now))) i)) ∙ text_next (seen ys) y.now rest
-
-one_more : (m n : ℕ) → suc m + n ≡ suc (m + n)
-one_more m n = omega arith
-
-text_past : (fs : List (Field × Value)) (n : ℕ) → text_at fs (length fs + n) ≡ []
-text_past [] n = refl
-text_past (f ∷ fs) n = ap (λ m. text_at (f ∷ fs) m) (one_more (length fs) n) ∙ text_past fs n
-
--- no value behind the last field
-pub text_none : (all it : List (Field × Value)) (ys : List (Bor (Field × Value))) (place before : ℕ) → seen ys ++ it ≡ all → it ≡ [] → place ≡ length ys + before → text_at all place ≡ []
-text_none all it ys place before whole is count =
-    (λ i. text_at ((sym whole ∙ ap (λ s. seen ys ++ s) is ∙ append-nil (seen ys)) i) ((count ∙ ap (λ n. n + before) (sym (length-map ys (λ (y : Bor (Field × Value)). y.now)))) i)) ∙ text_past (seen ys) before
-
--- one field more
-pub field_more : (all it rest : List (Field × Value)) (ys : List (Bor (Field × Value))) (y : Bor (Field × Value)) (es new : List (List ℕ × ℕ)) (place : ℕ) → seen ys ++ it ≡ all → it ≡ y.now ∷ rest → placed all es ≡ members (texts_of (seen ys)) → place ≡ length ys
-    → new ≡ insert_entry (slice_cmp nat_cmp) es (member_name y.now.0) place → placed all new ≡ members (texts_of (seen (ys ++ y ∷ [])))
-field_more all it rest ys y es new place whole is so count put =
-    ap (λ es. placed all es) put ∙ placed-insert_entry all es (member_name y.now.0) place
-    ∙ (λ i. insert_entry (slice_cmp nat_cmp) (so i) (member_name y.now.0) (text_here all it rest ys y place whole is count i))
-    ∙ sym (ap (λ fs. members (texts_of fs)) (seen-push ys y) ∙ ap members (map-append (λ (f : Field × Value). (f.0, value_text f.1)) (seen ys) (y.now ∷ [])) ∙ members-push (texts_of (seen ys)) (y.now.0, value_text y.now.1))
+entries_of-match_ordering : (o : Ordering) (a b c : List (List ℕ × Vec ℕ Global)) → entries_of (match_ordering o a b c) ≡ match_ordering o (entries_of a) (entries_of b) (entries_of c)
+entries_of-match_ordering Less a b c = refl
+entries_of-match_ordering Equal a b c = refl
+entries_of-match_ordering Greater a b c = refl
 
 -- one member more of an object
-pub member_more : (fs : List (Field × Value)) (ms : List (List ℕ × ℕ)) (m : List ℕ × ℕ) (start old new : List ℕ) (later : Bool) → later ≡ nat_lt 0 (length ms) → old ≡ start ++ join_by member_text (44 ∷ []) (placed fs ms)
-    → new ≡ old ++ ((if later then 44 ∷ [] else []) ++ member_text (m.0, text_at fs m.1)) → new ≡ start ++ join_by member_text (44 ∷ []) (placed fs (ms ++ m ∷ []))
-member_more fs ms m start old new later is_later is_old is_new =
-    let J : List ℕ = join_by member_text (44 ∷ []) (placed fs ms) in
-    let v : List ℕ = member_text (m.0, text_at fs m.1) in
-    let counted : later ≡ nat_lt 0 (length (placed fs ms)) = is_later ∙ ap (λ n. nat_lt 0 n) (sym (length-map ms (λ (e : List ℕ × ℕ). (e.0, text_at fs e.1)))) in
-    is_new ∙ ap (λ o. o ++ ((if later then 44 ∷ [] else []) ++ v)) is_old ∙ append_assoc start J ((if later then 44 ∷ [] else []) ++ v)
-    ∙ ap (λ b. start ++ (J ++ ((if b then 44 ∷ [] else []) ++ v))) counted
-    ∙ ap (λ s. start ++ s) (sym (ap (λ es. join_by member_text (44 ∷ []) es) (map-append (λ (e : List ℕ × ℕ). (e.0, text_at fs e.1)) ms (m ∷ [])) ∙ joined-push member_text (44 ∷ []) (placed fs ms) (m.0, text_at fs m.1)))
+pub member_more : (ms : List (List ℕ × Vec ℕ Global)) (name : List ℕ) (value : Vec ℕ Global) → join_by member_text (44 ∷ []) (entries_of ms) ++ ((if nat_lt 0 (length ms) then 44 ∷ [] else []) ++ member_text (name, vec_items value))
+    ≡ join_by member_text (44 ∷ []) (entries_of (ms ++ (name, value) ∷ []))
+member_more ms name value =
+    sym (ap (λ es. join_by member_text (44 ∷ []) es) (map-append (λ (m : List ℕ × Vec ℕ Global). (m.0, vec_items m.1)) ms ((name, value) ∷ []))
+    ∙ joined-push member_text (44 ∷ []) (entries_of ms) (name, vec_items value)
+    ∙ ap (λ n. join_by member_text (44 ∷ []) (entries_of ms) ++ ((if nat_lt 0 n then 44 ∷ [] else []) ++ member_text (name, vec_items value))) (length-map ms (λ (m : List ℕ × Vec ℕ Global). (m.0, vec_items m.1))))
 
-abbrev now_of : Bor (List ℕ) × Bor ℕ → List ℕ × ℕ
+-- the entries with a member put in
+pub entries_of-insert_entry : (es : List (List ℕ × Vec ℕ Global)) (k : List ℕ) (v : Vec ℕ Global) → entries_of (insert_entry (slice_cmp nat_cmp) es k v) ≡ insert_entry (slice_cmp nat_cmp) (entries_of es) k (vec_items v)
+entries_of-insert_entry [] k v = refl
+entries_of-insert_entry (e ∷ es) k v = entries_of-match_ordering ((slice_cmp nat_cmp) k e.0) _ _ _ ∙ rw (entries_of-insert_entry es k v)
+
+pub members-push : (fs : List (Field × List ℕ)) (f : Field × List ℕ) → members (fs ++ f ∷ []) ≡ insert_entry (slice_cmp nat_cmp) (members fs) (member_name f.0) f.1
+members-push fs f = fold-append _ [] fs (f ∷ [])
+
+abbrev now_of : Bor (List ℕ) × Bor (Vec ℕ Global) → List ℕ × Vec ℕ Global
 now_of m = (m.0.now, m.1.now)
 
-pub members_more : (fs : List (Field × Value)) (ys : List (Bor (List ℕ) × Bor ℕ)) (name : Bor (List ℕ)) (place : Bor ℕ) (start old new : List ℕ) (later : Bool) → later ≡ nat_lt 0 (length ys)
-    → old ≡ start ++ join_by member_text (44 ∷ []) (placed fs (map (λ m. (m.0.now, m.1.now)) ys)) → new ≡ old ++ ((if later then 44 ∷ [] else []) ++ member_text (name.now, text_at fs place.now))
-    → new ≡ start ++ join_by member_text (44 ∷ []) (placed fs (map (λ m. (m.0.now, m.1.now)) (ys ++ (name, place) ∷ [])))
-members_more fs ys name place start old new later is_later is_old is_new =
-    member_more fs (map now_of ys) (name.now, place.now) start old new later (is_later ∙ ap (λ n. nat_lt 0 n) (sym (length-map ys now_of))) is_old is_new
-    ∙ ap (λ ms. start ++ join_by member_text (44 ∷ []) (placed fs ms)) (sym (map-append now_of ys ((name, place) ∷ [])))
+pub members_more : (ys : List (Bor (List ℕ) × Bor (Vec ℕ Global))) (name : Bor (List ℕ)) (value : Bor (Vec ℕ Global)) (start old new item : List ℕ) (later : Bool) → later ≡ nat_lt 0 (length ys)
+    → old ≡ start ++ join_by member_text (44 ∷ []) (entries_of (map (λ m. (m.0.now, m.1.now)) ys)) → item ≡ member_text (name.now, vec_items value.now) → new ≡ old ++ ((if later then 44 ∷ [] else []) ++ item)
+    → new ≡ start ++ join_by member_text (44 ∷ []) (entries_of (map (λ m. (m.0.now, m.1.now)) (ys ++ (name, value) ∷ [])))
+members_more ys name value start old new item later is_later is_old is_item is_new =
+    let J : List ℕ = join_by member_text (44 ∷ []) (entries_of (map now_of ys)) in
+    let v : List ℕ = member_text (name.now, vec_items value.now) in
+    let counted : J ++ ((if later then 44 ∷ [] else []) ++ v) ≡ J ++ ((if nat_lt 0 (length (map now_of ys)) then 44 ∷ [] else []) ++ v) =
+    ap (λ b. J ++ ((if b then 44 ∷ [] else []) ++ v)) (is_later ∙ ap (λ n. nat_lt 0 n) (sym (length-map ys now_of))) in
+    is_new ∙ ap (λ i. old ++ ((if later then 44 ∷ [] else []) ++ i)) is_item ∙ ap (λ o. o ++ ((if later then 44 ∷ [] else []) ++ v)) is_old ∙ append_assoc start J ((if later then 44 ∷ [] else []) ++ v)
+    ∙ ap (λ s. start ++ s) (counted ∙ member_more (map now_of ys) name.now value.now ∙ ap (λ ms. join_by member_text (44 ∷ []) (entries_of ms)) (sym (map-append now_of ys ((name, value) ∷ []))))
+
+-- one field more
+pub field_more : (ys : List (Bor (Field × Value))) (y : Bor (Field × Value)) (es new : List (List ℕ × Vec ℕ Global)) (name : List ℕ) (text : Vec ℕ Global) → entries_of es ≡ members (texts_of (map (λ f. f.now) ys)) → name ≡ member_name y.now.0
+    → vec_items text ≡ value_text y.now.1 → new ≡ insert_entry (slice_cmp nat_cmp) es name text → entries_of new ≡ members (texts_of (map (λ f. f.now) (ys ++ y ∷ [])))
+field_more ys y es new name text so is holds put =
+    let fs : List (Field × Value) = map (λ f. f.now) ys in
+    let last : texts_of (map (λ f. f.now) (ys ++ y ∷ [])) ≡ texts_of fs ++ (y.now.0, value_text y.now.1) ∷ [] =
+    ap texts_of (map-append (λ (f : Bor (Field × Value)). f.now) ys (y ∷ [])) ∙ map-append (λ (f : Field × Value). (f.0, value_text f.1)) fs (y.now ∷ []) in
+    ap entries_of put ∙ entries_of-insert_entry es name text ∙ rw (so, is, holds) (sym (ap members last ∙ members-push (texts_of fs) (y.now.0, value_text y.now.1)))
 
 -- one more of the texts that a loop adds
 pub loop_more : {X : Type 0} (f : X → List ℕ) (sep : List ℕ) (xs : List X) (i : ℕ) (x d : X) (start old new : List ℕ) → i < length xs → x ≡ get_or xs i d → old ≡ start ++ join_by f sep (take i xs) → new ≡ old ++ ((if nat_lt 0 i then sep else []) ++ f x)

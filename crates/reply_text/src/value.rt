@@ -7,8 +7,7 @@ ghost use Rattle.json.specs.Print.{quoted};
 ghost use Rattle.reply_text.specs.Values.{value_text, array_text, object_text, members, member_name, member_text};
 ghost use Rattle.script_words.specs.Plain.{is_plain};
 ghost use Rattle.script_words.specs.Kinds.{kind_name};
-ghost use Rattle.reply_text.specs.Members.{text_at, placed};
-ghost use Rattle.reply_text.specs.Texts.{texts_of};
+ghost use Rattle.reply_text.specs.Texts.{texts_of, entries_of};
 ghost use Rattle.reply_text.specs.Words.{Begins};
 
 use crate::bytes::{put, put_byte, put_few, put_if};
@@ -21,6 +20,9 @@ use script_words::{is_plain, kind_name};
 use std::alloc::{AllocError, Global};
 use std::collections::{BTreeMap, LinkedList};
 use std::mem::replace;
+
+/// The bytes that most values of fields take.
+const MOST_OF_A_VALUE: usize = 32;
 
 /// Adds a text of an array, after a comma where something stands before.
 #[inline(always)]
@@ -150,94 +152,68 @@ fn put_name(alloc: Global, out: &mut Vec<u8>, field: &Field) -> Result<(), Alloc
     put_escaped(alloc, out, false, name_of(alloc, field)?.as_str())
 }
 
-/// The fields in the order of their members' names, each with its place.
+/// The texts of the fields' values, in the order of their members' names.
+#[cycle(text)]
 fn members_of<'a>(
     alloc: Global,
     fields: &'a LinkedList<(Field, Value)>,
-) -> Result<BTreeMap<Member<'a>, usize>, AllocError>
-    ensures { IfOk result (λ m. placed fields.now m.entries ≡ members (texts_of fields.now)) }
+) -> Result<BTreeMap<Member<'a>, Vec<u8>>, AllocError>
+    ensures { IfOk result (λ m. entries_of m.entries ≡ members (texts_of fields.now)) }
 {
     let mut members = BTreeMap::new(alloc);
-    let mut place = 0;
-    for (field, _value) in fields {
-        members.insert(Member { field }, place)?;
-        place += 1;
+    for (field, value) in fields {
+        let mut text = Vec::with_capacity(alloc, MOST_OF_A_VALUE)?;
+        put_value(alloc, &mut text, value)?;
+        members.insert(Member { field }, text)?;
     }
     Ok(members)
 }
 
-/// Adds the value of the field at a place. Fields are few, so that they are counted.
-#[cycle(text)]
-fn put_value_at(
-    alloc: Global,
-    out: &mut Vec<u8>,
-    fields: &LinkedList<(Field, Value)>,
-    place: usize,
-) -> Result<(), AllocError>
-    ensures ok { OnOk result (out.new.items ≡ out.old.items ++ text_at fields.now place) }
-    ensures err { OnErr result (Begins out.old.items out.new.items) }
-{
-    let mut before = place;
-    for (_field, value) in fields {
-        if before == 0 {
-            return put_value(alloc, out, value);
-        }
-        before -= 1;
-    }
-    Ok(())
-}
-
 /// Adds a member of a JSON object, after a comma where something stands before.
-#[cycle(text)]
 fn put_member(
     alloc: Global,
     out: &mut Vec<u8>,
     later: bool,
     member: &Member,
-    fields: &LinkedList<(Field, Value)>,
-    place: usize,
+    value: &[u8],
 ) -> Result<(), AllocError>
-    ensures ok { OnOk result (out.new.items ≡ out.old.items ++ ((if later then codes "," else []) ++ member_text (member.now, text_at fields.now place))) }
+    ensures ok { OnOk result (out.new.items ≡ out.old.items ++ ((if later then codes "," else []) ++ member_text (member.now, value.now))) }
     ensures err { OnErr result (Begins out.old.items out.new.items) }
 {
     put_if(out, later, b',')?;
     put_name(alloc, out, member.field)?;
     put_byte(out, b':')?;
-    put_value_at(alloc, out, fields, place)
+    put(out, value)
 }
 
 /// Adds the members with a comma between neighbors.
-#[cycle(text)]
-fn put_members<'a>(
+fn put_members(
     alloc: Global,
     out: &mut Vec<u8>,
-    fields: &'a LinkedList<(Field, Value)>,
-    members: &BTreeMap<Member<'a>, usize>,
+    members: &BTreeMap<Member, Vec<u8>>,
 ) -> Result<(), AllocError>
-    ensures ok { OnOk result (out.new.items ≡ out.old.items ++ join_by member_text (codes ",") (placed fields.now members.now.entries)) }
+    ensures ok { OnOk result (out.new.items ≡ out.old.items ++ join_by member_text (codes ",") (entries_of members.now.entries)) }
     ensures err { OnErr result (Begins out.old.items out.new.items) }
 {
     let mut later = false;
-    for (member, place) in members {
-        put_member(alloc, out, later, member, fields, *place)?;
+    for (member, value) in members {
+        put_member(alloc, out, later, member, value)?;
         later = true;
     }
     Ok(())
 }
 
-/// Adds the fields with their values as a JSON object.
-#[cycle(text)]
-fn put_fields(
+/// Adds the members as a JSON object.
+fn put_object(
     alloc: Global,
     out: &mut Vec<u8>,
-    fields: &LinkedList<(Field, Value)>,
+    members: &BTreeMap<Member, Vec<u8>>,
 ) -> Result<(), AllocError>
-    ensures ok { OnOk result (out.new.items ≡ out.old.items ++ object_text (members (texts_of fields.now))) }
+    ensures ok { OnOk result (out.new.items ≡ out.old.items ++ object_text (entries_of members.now.entries)) }
     ensures err { OnErr result (Begins out.old.items out.new.items) }
 {
-    let members = members_of(alloc, fields)?;
     put_byte(out, b'{')?;
-    put_members(alloc, out, fields, &members)?;
+    put_members(alloc, out, members)?;
     put_byte(out, b'}')
 }
 
@@ -261,6 +237,6 @@ pub fn put_value(alloc: Global, out: &mut Vec<u8>, value: &Value) -> Result<(), 
         Value::Flag(false) => put(out, b"false"),
         Value::Word(word) => put_quoted(alloc, out, word.as_str()),
         Value::Words(words) => put_array(alloc, out, words.as_slice()),
-        Value::Fields(fields) => put_fields(alloc, out, fields),
+        Value::Fields(fields) => put_object(alloc, out, &members_of(alloc, fields)?),
     }
 }
