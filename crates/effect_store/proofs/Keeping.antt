@@ -474,6 +474,13 @@ mapped_some f (Some x) y e = (x, refl, cc)
 pub read_of : {E : Type 0} (us vs : List (Upd E)) (n : ℕ) (u : Upd E) → vs ≡ us → slice_get vs n ≡ Some u → slice_get us n ≡ Some u
 read_of us vs n u e h = rw (← e) h
 
+-- the tag of an update that was read of a list that was read
+pub tag_read : {E : Type 0} (us vs : List (Upd E)) (n t : ℕ) (x : Upd E) → vs ≡ us → slice_get vs n ≡ Some x → t ≡ tag_of_object x.object → (u : Upd E) → slice_get us n ≡ Some u → t ≡ tag_of_object u.object
+tag_read us vs n t x e h k u f =
+    let there : slice_get us n ≡ Some x = read_of us vs n x e h in
+    let same : x ≡ u = cc in
+    k ∙ ap (λ (y : Upd _). tag_of_object y.object) same
+
 take_most : {X : Type 0} (n : ℕ) (l : List X) → length l ≤ n → take n l ≡ l
 take_most zero [] h = refl
 take_most (suc n) [] h = refl

@@ -104,13 +104,15 @@ pub(crate) fn newest_for<'a, E, S>(
     links: &Links,
     newest: &'a HashMap<u64, Newest<S>>,
     object: &ObjectId,
+    tag: u64,
     snapshot: &VTime,
 ) -> Option<&'a Newest<S>>
+    requires tagged { tag ≡ tag_of_object object.now }
     requires fitting { LinksFit parts.now links.now }
     requires within { (i : ℕ) (n : Newest S) → get nat_eq newest.now i ≡ Some n → (n.at < length links.now.entries.items) × (length n.seen ≡ length snapshot.now) }
     ensures { IfSome (option_copied result) (λ n. (get nat_eq newest.now (tag_of_object object.now) ≡ Some n) × ((q : Spot E) → slice_get (spots parts.now) n.at ≡ Some q → own object.now q ≡ true) × (le n.seen snapshot.now ≡ true)) }
 {
-    let kept = newest.get(&tag_of(object))?;
+    let kept = newest.get(&tag)?;
     let (_, update) = update_at(parts, links, kept.at);
     if update.object == *object && kept.seen.le(snapshot) {
         return Some(kept);
@@ -171,8 +173,10 @@ fn start<C: Crdt>(
     newest: &mut HashMap<u64, Newest<C::State>>,
     serves: bool,
     object: &ObjectId,
+    tag: u64,
     sites: u8,
 ) -> Result<Newest<C::State>, AllocError>
+    requires tagged { tag ≡ tag_of_object object.now }
     requires least { 1 ≤ sites }
     requires most { sites ≤ 8 }
     requires at_hand { serves ≡ true → IsSome (get nat_eq newest.old (tag_of_object object.now)) }
@@ -181,7 +185,7 @@ fn start<C: Crdt>(
     ensures fresh { serves ≡ false → IfOk result (λ n. (n.at ≡ none) × (n.seen ≡ replicate sites 0) × (n.state ≡ C.initial object.now.kind)) }
 {
     if serves {
-        if let Some(kept) = newest.remove(&tag_of(object)) {
+        if let Some(kept) = newest.remove(&tag) {
             return Ok(kept);
         }
     }
@@ -205,21 +209,23 @@ fn rest_of<E, S>(
     links: &Links,
     newest: &HashMap<u64, Newest<S>>,
     object: &ObjectId,
+    tag: u64,
     snapshot: &VTime,
 ) -> Rest
+    requires tagged { tag ≡ tag_of_object object.now }
     requires fitting { LinksFit parts.now links.now }
     requires within { (i : ℕ) (n : Newest S) → get nat_eq newest.now i ≡ Some n → (n.at < length links.now.entries.items) × (length n.seen ≡ length snapshot.now) }
     ensures at_hand { result.serves ≡ true → (n : Newest S) × (get nat_eq newest.now (tag_of_object object.now) ≡ Some n) × ((q : Spot E) → slice_get (spots parts.now) n.at ≡ Some q → own object.now q ≡ true) × (result.from ≡ slice_index_or links.now.next.items n.at result.from) }
     ensures fresh { result.serves ≡ false → result.from ≡ or_none (get nat_eq links.now.first (tag_of_object object.now)) }
 {
-    match newest_for(parts, links, newest, object, snapshot) {
+    match newest_for(parts, links, newest, object, tag, snapshot) {
         Some(kept) => Rest {
             serves: true,
             from: links.next[kept.at as usize],
         },
         None => Rest {
             serves: false,
-            from: head(&links.first, tag_of(object)),
+            from: head(&links.first, tag),
         },
     }
 }
@@ -231,10 +237,12 @@ fn front_state<C: Crdt>(
     links: &Links,
     newest: &mut HashMap<u64, Newest<C::State>>,
     object: &ObjectId,
+    tag: u64,
     sites: u8,
     rest: Rest,
     steps: u32,
 ) -> Result<Newest<C::State>, AllocError>
+    requires tagged { tag ≡ tag_of_object object.now }
     requires least { 1 ≤ sites }
     requires most { sites ≤ 8 }
     requires fitting { LinksFit parts.now links.now }
@@ -245,50 +253,49 @@ fn front_state<C: Crdt>(
     ensures left { (i : ℕ) (n : Newest C.State) → get nat_eq newest.new i ≡ Some n → get nat_eq newest.old i ≡ Some n }
     ensures front { IfOk result (λ n. IsFront C.initial C.applied object.now sites (spots parts.now) n) }
 {
-    let mut front = start::<C>(alloc, newest, rest.serves, object, sites)?;
+    let mut front = start::<C>(alloc, newest, rest.serves, object, tag, sites)?;
     bring_forward::<C>(alloc, parts, links, object, rest.from, steps, &mut front)?;
     Ok(front)
 }
 
-/// Keeps a state of the object, if memory allows it.
-fn keep<S: Drop>(
-    links: &Links,
-    newest: &mut HashMap<u64, Newest<S>>,
-    object: &ObjectId,
-    front: Newest<S>,
-)
-    ensures others { (i : ℕ) (n : Newest S) → get nat_eq newest.new i ≡ Some n → (get nat_eq newest.old i ≡ Some n) ⊎ ((i ≡ tag_of_object object.now) × (n ≡ front) × (n.at < length links.now.entries.items)) }
+/// Keeps a state at a tag, if memory allows it.
+fn keep<S: Drop>(links: &Links, newest: &mut HashMap<u64, Newest<S>>, tag: u64, front: Newest<S>)
+    ensures others { (i : ℕ) (n : Newest S) → get nat_eq newest.new i ≡ Some n → (get nat_eq newest.old i ≡ Some n) ⊎ ((i ≡ tag) × (n ≡ front) × (n.at < length links.now.entries.items)) }
 {
     if (front.at as usize) < links.entries.len() {
-        let _kept = newest.insert(tag_of(object), front);
+        let _kept = newest.insert(tag, front);
     }
 }
 
 /// Brings the kept state of the object forward over what the snapshot shows, up to `short` updates before the end of that, or makes
-/// it. It is left as it is where that would be over no more than `short` updates.
+/// it, where `rest` begins. It is left as it is where that would be over no more than `short` updates.
 fn bring<C: Crdt>(
     alloc: Global,
     parts: &[Part<C::Effect>],
     links: &Links,
     newest: &mut HashMap<u64, Newest<C::State>>,
     object: &ObjectId,
+    tag: u64,
     snapshot: &VTime,
+    rest: Rest,
     short: u32,
 ) -> Result<(), AllocError>
+    requires tagged { tag ≡ tag_of_object object.now }
     requires fitting { LinksFit parts.now links.now }
     requires wide { AreWide (length snapshot.now) parts.now }
     requires hold { AreNewest C.initial C.applied (length snapshot.now) (spots parts.now) (get nat_eq newest.old) }
+    requires at_hand { rest.serves ≡ true → (n : Newest C.State) × (get nat_eq newest.old (tag_of_object object.now) ≡ Some n) × ((q : Spot C.Effect) → slice_get (spots parts.now) n.at ≡ Some q → own object.now q ≡ true) × (rest.from ≡ slice_index_or links.now.next.items n.at rest.from) }
+    requires fresh { rest.serves ≡ false → rest.from ≡ or_none (get nat_eq links.now.first (tag_of_object object.now)) }
     ensures hold { AreNewest C.initial C.applied (length snapshot.now) (spots parts.now) (get nat_eq newest.new) }
 {
-    let rest = rest_of(parts, links, newest, object, snapshot);
     let many = shown_from(parts, links, rest.from, object, snapshot);
     let steps = many.saturating_sub(short);
     if steps <= short {
         return Ok(());
     }
     let sites = snapshot.width();
-    let front = front_state::<C>(alloc, parts, links, newest, object, sites, rest, steps)?;
-    keep(links, newest, object, front);
+    let front = front_state::<C>(alloc, parts, links, newest, object, tag, sites, rest, steps)?;
+    keep(links, newest, tag, front);
     Ok(())
 }
 
@@ -300,13 +307,15 @@ fn renew<C: Crdt>(
     newest: &mut HashMap<u64, Newest<C::State>>,
     older: &HashMap<u64, Newest<C::State>>,
     object: &ObjectId,
+    tag: u64,
     snapshot: &VTime,
 )
+    requires tagged { tag ≡ tag_of_object object.now }
     requires fitting { LinksFit parts.now links.now }
     requires within { (i : ℕ) (n : Newest C.State) → get nat_eq older.now i ≡ Some n → (n.at < length links.now.entries.items) × (length n.seen ≡ length snapshot.now) }
     ensures { (i : ℕ) (n : Newest C.State) → get nat_eq newest.new i ≡ Some n → (get nat_eq newest.old i ≡ Some n) ⊎ (get nat_eq older.now i ≡ Some n) }
 {
-    let Some(kept) = newest_for(parts, links, older, object, snapshot) else {
+    let Some(kept) = newest_for(parts, links, older, object, tag, snapshot) else {
         return;
     };
     let Ok(state) = C::copy(alloc, &kept.state) else {
@@ -317,11 +326,11 @@ fn renew<C: Crdt>(
         seen: kept.seen,
         state,
     };
-    let _kept = newest.insert(tag_of(object), copied);
+    let _kept = newest.insert(tag, copied);
 }
 
 /// Where no newest state serves, brings the older state of the object forward, and puts a copy of it in the newest one's place. If
-/// memory runs out, there may be neither.
+/// memory runs out, there may be neither. Answers where the rest of the object's updates begins then.
 fn fall_back<C: Crdt>(
     alloc: Global,
     parts: &[Part<C::Effect>],
@@ -329,20 +338,29 @@ fn fall_back<C: Crdt>(
     newest: &mut HashMap<u64, Newest<C::State>>,
     older: &mut HashMap<u64, Newest<C::State>>,
     object: &ObjectId,
+    tag: u64,
     snapshot: &VTime,
-)
+) -> Rest
+    requires tagged { tag ≡ tag_of_object object.now }
     requires fitting { LinksFit parts.now links.now }
     requires wide { AreWide (length snapshot.now) parts.now }
     requires hold { AreNewest C.initial C.applied (length snapshot.now) (spots parts.now) (get nat_eq newest.old) }
     requires hold_older { AreNewest C.initial C.applied (length snapshot.now) (spots parts.now) (get nat_eq older.old) }
     ensures hold { AreNewest C.initial C.applied (length snapshot.now) (spots parts.now) (get nat_eq newest.new) }
     ensures hold_older { AreNewest C.initial C.applied (length snapshot.now) (spots parts.now) (get nat_eq older.new) }
+    ensures at_hand { result.serves ≡ true → (n : Newest C.State) × (get nat_eq newest.new (tag_of_object object.now) ≡ Some n) × ((q : Spot C.Effect) → slice_get (spots parts.now) n.at ≡ Some q → own object.now q ≡ true) × (result.from ≡ slice_index_or links.now.next.items n.at result.from) }
+    ensures fresh { result.serves ≡ false → result.from ≡ or_none (get nat_eq links.now.first (tag_of_object object.now)) }
 {
-    if newest_for(parts, links, newest, object, snapshot).is_some() {
-        return;
+    let rest = rest_of(parts, links, newest, object, tag, snapshot);
+    if rest.serves || rest.from == NONE {
+        return rest;
     }
-    let _brought = bring::<C>(alloc, parts, links, older, object, snapshot, SHORT);
-    renew::<C>(alloc, parts, links, newest, older, object, snapshot);
+    let late = rest_of(parts, links, older, object, tag, snapshot);
+    let _brought = bring::<C>(
+        alloc, parts, links, older, object, tag, snapshot, late, SHORT,
+    );
+    renew::<C>(alloc, parts, links, newest, older, object, tag, snapshot);
+    rest_of(parts, links, newest, object, tag, snapshot)
 }
 
 /// Brings the newest state of the object forward over what the snapshot shows, or makes it, from the older one on where that serves.
@@ -354,8 +372,10 @@ pub(crate) fn advance<C: Crdt>(
     newest: &mut HashMap<u64, Newest<C::State>>,
     older: &mut HashMap<u64, Newest<C::State>>,
     object: &ObjectId,
+    tag: u64,
     snapshot: &VTime,
 ) -> Result<(), AllocError>
+    requires tagged { tag ≡ tag_of_object object.now }
     requires fitting { LinksFit parts.now links.now }
     requires wide { AreWide (length snapshot.now) parts.now }
     requires hold { AreNewest C.initial C.applied (length snapshot.now) (spots parts.now) (get nat_eq newest.old) }
@@ -363,8 +383,8 @@ pub(crate) fn advance<C: Crdt>(
     ensures hold { AreNewest C.initial C.applied (length snapshot.now) (spots parts.now) (get nat_eq newest.new) }
     ensures hold_older { AreNewest C.initial C.applied (length snapshot.now) (spots parts.now) (get nat_eq older.new) }
 {
-    fall_back::<C>(alloc, parts, links, newest, older, object, snapshot);
-    bring::<C>(alloc, parts, links, newest, object, snapshot, 0)
+    let rest = fall_back::<C>(alloc, parts, links, newest, older, object, tag, snapshot);
+    bring::<C>(alloc, parts, links, newest, object, tag, snapshot, rest, 0)
 }
 
 /// Drops the newest state at the tag of an update, unless the update comes after all that the state has.
@@ -374,14 +394,14 @@ fn forget_update<E, S: Drop>(
     newest: &mut HashMap<u64, Newest<S>>,
     part: &Part<E>,
     at: u32,
+    tag: u64,
 )
     requires fitting { LinksFit parts.now links.now }
     requires within { (i : ℕ) (n : Newest S) → get nat_eq newest.old i ≡ Some n → n.at < length links.now.entries.items }
-    requires there { at < length part.now.updates }
+    requires tagged { (u : Upd E) → slice_get part.now.updates at ≡ Some u → tag ≡ tag_of_object u.object }
     ensures left { (i : ℕ) (n : Newest S) → get nat_eq newest.new i ≡ Some n → get nat_eq newest.old i ≡ Some n }
     ensures clear { (i : ℕ) (n : Newest S) → get nat_eq newest.new i ≡ Some n → (q : Spot E) → slice_get (spots parts.now) n.at ≡ Some q → (u : Upd E) → slice_get part.now.updates at ≡ Some u → (not (has_tag tag_of i (spot part.now at u)) || before q (spot part.now at u)) ≡ true }
 {
-    let tag = tag_of(&part.updates.as_slice()[at as usize].object);
     let Some(end) = end_of(newest, tag) else {
         return;
     };
@@ -391,25 +411,32 @@ fn forget_update<E, S: Drop>(
     let _old = newest.remove(&tag);
 }
 
-/// Drops the newest states that have an update which a new part's come before.
+/// Drops the kept states, newest and older, that have an update which a new part's come before.
 pub(crate) fn forget<E, S: Drop>(
     parts: &[Part<E>],
     links: &Links,
     newest: &mut HashMap<u64, Newest<S>>,
+    older: &mut HashMap<u64, Newest<S>>,
     part: &Part<E>,
 )
     requires fitting { LinksFit parts.now links.now }
     requires within { (i : ℕ) (n : Newest S) → get nat_eq newest.old i ≡ Some n → n.at < length links.now.entries.items }
+    requires within_older { (i : ℕ) (n : Newest S) → get nat_eq older.old i ≡ Some n → n.at < length links.now.entries.items }
     requires small { length part.now.updates ≤ none }
     ensures left { (i : ℕ) (n : Newest S) → get nat_eq newest.new i ≡ Some n → get nat_eq newest.old i ≡ Some n }
+    ensures left_older { (i : ℕ) (n : Newest S) → get nat_eq older.new i ≡ Some n → get nat_eq older.old i ≡ Some n }
     ensures clear { (i : ℕ) (n : Newest S) → get nat_eq newest.new i ≡ Some n → (q : Spot E) → slice_get (spots parts.now) n.at ≡ Some q → Each (λ x. not (has_tag tag_of i x) || before q x) (spots_in part.now) }
+    ensures clear_older { (i : ℕ) (n : Newest S) → get nat_eq older.new i ≡ Some n → (q : Spot E) → slice_get (spots parts.now) n.at ≡ Some q → Each (λ x. not (has_tag tag_of i x) || before q x) (spots_in part.now) }
 {
     // After a restart there is none yet.
-    if newest.is_empty() {
+    if newest.is_empty() && older.is_empty() {
         return;
     }
-    let count = part.updates.as_slice().len() as u32;
+    let updates = part.updates.as_slice();
+    let count = updates.len() as u32;
     for at in 0..count {
-        forget_update(parts, links, newest, part, at);
+        let tag = tag_of(&updates[at as usize].object);
+        forget_update(parts, links, newest, part, at, tag);
+        forget_update(parts, links, older, part, at, tag);
     }
 }

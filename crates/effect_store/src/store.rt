@@ -182,8 +182,13 @@ impl<C: Crdt> Store<C> {
         let place = self.parts.len() as u32;
         let updates = part.updates.as_slice().len();
         let _room_was_reserved = self.ids.insert(part.tx, place);
-        forget(self.parts.as_slice(), &self.links, &mut self.newest, &part);
-        forget(self.parts.as_slice(), &self.links, &mut self.older, &part);
+        forget(
+            self.parts.as_slice(),
+            &self.links,
+            &mut self.newest,
+            &mut self.older,
+            &part,
+        );
         list_part(
             self.parts.as_slice(),
             &mut self.lists,
@@ -241,6 +246,7 @@ impl<C: Crdt> Store<C> {
             &mut self.newest,
             &mut self.older,
             object,
+            tag_of(object),
             snapshot,
         )
     }
@@ -255,6 +261,7 @@ impl<C: Crdt> Store<C> {
             &self.links,
             &self.newest,
             object,
+            tag_of(object),
             snapshot,
         )
     }
@@ -319,6 +326,7 @@ impl<C: Crdt> Store<C> {
             &self.links,
             &self.newest,
             object,
+            tag_of(object),
             snapshot,
         )
     }

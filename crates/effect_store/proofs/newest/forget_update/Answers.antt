@@ -1,9 +1,9 @@
-use Rattle.std.proofs.Common.{◌≡◌, ◌<◌, length, refl, sym, ◌∙◌, arith, get_or, nat_eq}
+use Rattle.std.proofs.Common.{◌≡◌, ◌<◌, length, refl, sym, ◌∙◌, arith, nat_eq}
 use Rattle.std.specs.HashMap.{get}
-use Rattle.std.proofs.lemmas.Option.{slice_get_read, slice_get-get_or}
+use Rattle.std.proofs.lemmas.Option.{slice_get_read}
 use Rattle.effect_store.proofs.Arranging.{get_in}
 use Rattle.effect_store.proofs.Linking.{entry_spot, entry_total, before_at}
-use Rattle.effect_store.proofs.Keeping.{mapped_some, read_of, clear_after, clear_gone}
+use Rattle.effect_store.proofs.Keeping.{mapped_some, clear_after, clear_gone}
 use Rattle.effect_store.proofs.newest.forget_update.Goals as goal
 
 pub entry_comes_before-requires-clause-there : goal.entry_comes_before-requires-clause-there
@@ -27,13 +27,9 @@ returns-then-entry_comes_before-clause-clear g c = λ i k z q w v f.
     let n : c.in-Some.end < length c.args.links.now.entries.items = (let k = c.requires.within _ m.0 m.1 in let e : m.0.at ≡ c.in-Some.end = m.2 in omega (arith, k, e)) in
     let there = slice_get_read c.args.links.now.entries.items _ c.in-Some.end _ refl n c.index.ensures in
     let r = entry_spot _ _ _ _ _ _ _ c.requires.fitting.linked _ _ there in
-    let inside : c.args.at < length c.as_slice.result.now = rw c.as_slice.ensures c.requires.there in
-    let u = read_of _ _ _ _ c.as_slice.ensures (slice_get-get_or c.as_slice.result.now c.args.at c.index-as_slice-at.result inside) in
-    clear_after c.args.parts.now c.args.part.now (get nat_eq c.args.newest.now) c.args.at _ _ (get_or c.as_slice.result.now c.args.at c.index-as_slice-at.result) r.0 c.tag_of-tag.ensures (sym c.in-Some.is ∙ c.end_of.ensures) r.1
-    (before_at r.0 c.args.part.now c.args.at (get_or c.as_slice.result.now c.args.at c.index-as_slice-at.result) _ _ r.3 (sym (c.entry_comes_before.ensures _ r.2) ∙ c.if-entry_comes_before.true)) i k z q w v u f)
+    clear_after c.args.parts.now c.args.part.now (get nat_eq c.args.newest.now) c.args.at _ _ v r.0 (c.requires.tagged v f) (sym c.in-Some.is ∙ c.end_of.ensures) r.1
+    (before_at r.0 c.args.part.now c.args.at v _ _ r.3 (sym (c.entry_comes_before.ensures _ r.2) ∙ c.if-entry_comes_before.true)) i k z q w v f f)
 
 pub returns-clause-clear : goal.returns-clause-clear
 returns-clause-clear g c = λ i k z q w v f.
-    (let inside : c.args.at < length c.as_slice.result.now = rw c.as_slice.ensures c.requires.there in
-    let u = read_of _ _ _ _ c.as_slice.ensures (slice_get-get_or c.as_slice.result.now c.args.at c.index-as_slice-at.result inside) in
-    clear_gone c.args.parts.now c.args.part.now (get nat_eq c.args.newest.now) (get nat_eq c.remove-old.new.self) c.args.at _ (get_or c.as_slice.result.now c.args.at c.index-as_slice-at.result) c.tag_of-tag.ensures c.remove-old.ensures.updates.0 i k z q v u f)
+    clear_gone c.args.parts.now c.args.part.now (get nat_eq c.args.newest.now) (get nat_eq c.remove-old.new.self) c.args.at _ v (c.requires.tagged v f) c.remove-old.ensures.updates.0 i k z q v f f
