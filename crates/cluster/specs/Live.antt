@@ -46,9 +46,12 @@ abbrev pub is_of_site : {E : Type 0} → Option (SessionState E) → PartId → 
 is_of_site None p = false
 is_of_site (Some s) p = s.site == p.site
 
+abbrev pub may_begin_at : {E : Type 0} → Option (SessionState E) → Option PartId → Bool
+may_begin_at s None = true
+may_begin_at s (Some p) = is_of_site s p
+
 abbrev pub is_of_own_site : {E : Type 0} → List (List ℕ × SessionState E) → List ℕ → Option PartId → Bool
-is_of_own_site sessions name None = true
-is_of_own_site sessions name (Some p) = is_of_site (session_in sessions name) p
+is_of_own_site sessions name part = may_begin_at (session_in sessions name) part
 
 abbrev pub number_of : Option PartId → ℕ
 number_of None = 1

@@ -1,10 +1,10 @@
 ghost use Rattle.std.specs.Prelude.{◌≡◌, ◌≤◌, ◌+◌, ℕ, true, false, List, Some, None, IfOk, OnOk, if◌then◌else◌, length, is_some};
 ghost use Rattle.std.specs.Str.{bytes_eq};
 ghost use Rattle.site_partitions.specs.Reaches.{types_of};
-ghost use Rattle.cluster.specs.Acts.{Acts, Begins, Moves};
+ghost use Rattle.cluster.specs.Acts.{Moves};
 ghost use Rattle.txn_session.specs.Session.{SessionState};
 ghost use Rattle.cluster.specs.Same.{holds_place};
-ghost use Rattle.cluster.specs.Live.{phase_in, are_idle, session_in, is_of_own_site, number_of};
+ghost use Rattle.cluster.specs.Live.{phase_in, are_idle, session_in, may_begin_at, number_of};
 ghost use Rattle.cluster.specs.Reached.{AppliesLive, IsReachedLive};
 
 use crate::cluster::only;
@@ -14,7 +14,7 @@ use crdt_core::Crdt;
 use disk_core::Disk;
 use field_codec::Text;
 use site_vector::PartId;
-use std::alloc::AllocError;
+use std::alloc::{AllocError, Global};
 use txn_session::Session;
 use world_model::{Command, Step};
 
@@ -95,18 +95,9 @@ impl<C: Crdt, D: Disk + Drop> Live<C, D> {
         if !self.has_place(part) {
             return only(self.alloc, Step::NoPart);
         }
-        let Some(phase) = self.phase(name) else {
-            return only(self.alloc, Step::NoSession);
-        };
-        if !self.is_of_own_site(name, part) {
-            return only(self.alloc, Step::NoPart);
-        }
-        if !is_idle(phase) {
-            return only(self.alloc, Step::HasTxn);
-        }
-        match begin_in(&mut self.sites, &mut self.sessions, name, number_of(part)) {
-            Ok(step) => {
-                return only(self.alloc, step);
+        match begin_in(self.alloc, &mut self.sites, &mut self.sessions, name, part) {
+            Ok(lines) => {
+                return Ok(lines);
             }
             Err(error) => {
                 return Err(error);
@@ -125,19 +116,6 @@ impl<C: Crdt, D: Disk + Drop> Live<C, D> {
             None => 1 <= parts,
         }
     }
-
-    /// Whether the partition, if one is named, is of the session's site.
-    fn is_of_own_site(&self, name: &Text, part: Option<PartId>) -> bool
-        ensures { result ≡ is_of_own_site self.now.sessions name.now part }
-    {
-        match part {
-            Some(part) => match self.sessions.get(name) {
-                Some(session) => session.site() == part.site,
-                None => false,
-            },
-            None => true,
-        }
-    }
 }
 
 /// The number of the partition that is named, or of the first.
@@ -150,25 +128,41 @@ fn number_of(part: Option<PartId>) -> u8
     }
 }
 
-/// Begins a transaction of a session that is idle, at the partition of its site with this number.
+/// Whether the partition, if one is named, is of the session's site.
+fn is_of_own_site<C: Crdt>(session: &Session<C>, part: Option<PartId>) -> bool
+    ensures { result ≡ may_begin_at (Some session.now) part }
+{
+    match part {
+        Some(part) => session.site() == part.site,
+        None => true,
+    }
+}
+
+/// Begins a transaction of the session of this name, which is looked up once, at a partition that the cluster has.
 fn begin_in<C: Crdt, D: Disk + Drop>(
+    alloc: Global,
     sites: &mut Local<C, D>,
     sessions: &mut Sessions<C>,
     name: &Text,
-    part: u8,
-) -> Result<Step, AllocError>
-    requires least { 1 ≤ part }
-    requires most { part ≤ sites.old.parts }
-    requires idle { are_idle (phase_in sessions.old.entries name.now) ≡ true }
+    part: Option<PartId>,
+) -> Result<Vec<Step>, AllocError>
+    requires place { holds_place sites.old part ≡ true }
+    requires some { 1 ≤ sites.old.parts }
     requires reached { IsReachedLive (types_of C.laws C.spells D.state) (record { sites = sites.old; sessions = sessions.old.entries }) }
-    ensures { IfOk result (λ step. Acts (types_of C.laws C.spells D.state) sites.old sessions.old.entries name.now sites.new sessions.new.entries (Begins (types_of C.laws C.spells D.state) sites.old sites.new part step)) }
+    ensures { IfOk result (λ steps. AppliesLive (types_of C.laws C.spells D.state) (record { sites = sites.old; sessions = sessions.old.entries }) (Command.Begin name.now part) steps.items (record { sites = sites.new; sessions = sessions.new.entries })) }
 {
     match sessions.get_mut(name) {
         Some(session) => {
-            let (_, answer) = session.open(sites, (), part);
+            if !is_of_own_site(session, part) {
+                return only(alloc, Step::NoPart);
+            }
+            if !is_idle(session.phase()) {
+                return only(alloc, Step::HasTxn);
+            }
+            let (_, answer) = session.open(sites, (), number_of(part));
             match answer {
                 Ok(step) => {
-                    return Ok(step);
+                    return only(alloc, step);
                 }
                 Err(_) => {
                     return Err(AllocError);
@@ -176,7 +170,7 @@ fn begin_in<C: Crdt, D: Disk + Drop>(
             }
         }
         None => {
-            return Err(AllocError);
+            return only(alloc, Step::NoSession);
         }
     }
 }

@@ -75,11 +75,12 @@ impl PartialOrd for Field {
     }
 }
 
-/// The name of an object. Objects that differ in bucket, key or kind are different objects.
+/// The name of an object. Objects that differ in bucket, key or kind are different objects. Keys, which differ most often, are
+/// compared first.
 #[derive(Debug, PartialEq, Eq, Hash, Drop)]
 pub struct ObjectId {
-    pub bucket: Text,
     pub key: Text,
+    pub bucket: Text,
     pub kind: Kind,
 }
 

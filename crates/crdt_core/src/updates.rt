@@ -5,7 +5,7 @@ use std::alloc::{AllocError, AllocFailed, Global};
 use std::marker::Model;
 use std::sync::Arc;
 
-/// The updates of a transaction at a partition, which all that hold them share: they are counted, and never copied.
+/// The updates of a transaction at a partition, which all that hold them share: it is counted, and not copied.
 #[derive(Drop)]
 pub struct UpdateList<E> {
     all: Arc<Vec<Upd<E>>, Global>,

@@ -6,6 +6,10 @@ use std::alloc::{AllocError, Global};
 use std::marker::Model;
 use std::mem;
 
+/// For how many updates an empty list takes memory: most transactions have no more, and an allocator keeps pieces of less than
+/// a KB at hand.
+const FIRST_ROOM: usize = 6;
+
 /// The updates of an open transaction, ascending by number: a list of its own, until its first vote shares it.
 #[derive(Drop)]
 pub struct Draft<C: Crdt> {
@@ -33,6 +37,7 @@ impl<C: Crdt> Draft<C> {
         }
     }
 
+    /// The updates, ascending by number.
     pub fn as_slice(&self) -> &[Upd<C::Effect>]
         ensures { result.now ≡ self.now.items }
     {
@@ -57,7 +62,7 @@ impl<C: Crdt> Draft<C> {
         self.own.clear();
     }
 
-    /// Takes memory for one update more. A list that is shared is copied for it.
+    /// Takes memory for one update more at least. A list that is shared is copied for it.
     ///
     /// # Errors
     ///
@@ -70,7 +75,8 @@ impl<C: Crdt> Draft<C> {
             self.own = copy_all::<C>(alloc, list.as_slice())?;
             self.shared = None;
         }
-        self.own.reserve(1)
+        let more = if self.own.is_empty() { FIRST_ROOM } else { 1 };
+        self.own.reserve(more)
     }
 
     /// Adds an update at the end. There is room.
