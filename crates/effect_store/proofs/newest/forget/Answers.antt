@@ -16,9 +16,10 @@ pub loop-at-preserved : goal.loop-at-preserved
 loop-at-preserved g c =
     let len : length c.as_slice-updates.result.now ≡ length c.args.part.now.updates = ap (λ l. length l) c.as_slice-updates.ensures in
     let n : c.loop-at.at < length c.args.part.now.updates = omega (arith, c.loop-at-test.true) in
-    let u = is_there c.args.part.now.updates c.loop-at.at n in
-    (forgetting_next c.args.parts.now c.args.part.now _ _ _ _ c.loop-at.at u.0 c.loop-at.invariant.0 c.loop-at-test.true u.1 c.forget_update.ensures.left c.forget_update.ensures.clear,
-     forgetting_next c.args.parts.now c.args.part.now _ _ _ _ c.loop-at.at u.0 c.loop-at.invariant.1 c.loop-at-test.true u.1 c.forget_update-in-loop-at.ensures.left c.forget_update-in-loop-at.ensures.clear)
+    let u = is_there c.args.part.now.updates c.loop-at.at n in (
+      forgetting_next c.args.parts.now c.args.part.now _ _ _ _ c.loop-at.at u.0 c.loop-at.invariant.0 c.loop-at-test.true u.1 c.forget_update.ensures.left c.forget_update.ensures.clear,
+      forgetting_next c.args.parts.now c.args.part.now _ _ _ _ c.loop-at.at u.0 c.loop-at.invariant.1 c.loop-at-test.true u.1 c.forget_update-in-loop-at.ensures.left c.forget_update-in-loop-at.ensures.clear,
+    )
 
 pub returns-clause-clear : goal.returns-clause-clear
 returns-clause-clear g c =
