@@ -4,13 +4,9 @@ use crate::chosen::copy_all;
 use crdt_core::{Crdt, Upd, UpdateList};
 use std::alloc::{AllocError, Global};
 use std::marker::Model;
-use std::mem;
 
-/// For how many updates an empty list takes memory: most transactions have no more, and an allocator keeps pieces of less than
-/// a KB at hand.
-const FIRST_ROOM: usize = 6;
-
-/// The updates of an open transaction, ascending by number: a list of its own, until its first vote shares it.
+/// The updates of an open transaction, ascending by number: a list of its own, until its first vote shares it. Its memory
+/// serves the next transaction, and what is shared takes no more than it needs.
 #[derive(Drop)]
 pub struct Draft<C: Crdt> {
     own: Vec<Upd<C::Effect>>,
@@ -54,7 +50,7 @@ impl<C: Crdt> Draft<C> {
         self.as_slice().len()
     }
 
-    /// Makes it empty, with the memory that it had where it wasn't shared.
+    /// Makes it empty. Its memory stays.
     pub fn clear(&mut self)
         ensures { self.new.items ≡ [] }
     {
@@ -62,7 +58,7 @@ impl<C: Crdt> Draft<C> {
         self.own.clear();
     }
 
-    /// Takes memory for one update more at least. A list that is shared is copied for it.
+    /// Takes memory for one update more. A list that is shared is copied for it.
     ///
     /// # Errors
     ///
@@ -75,8 +71,7 @@ impl<C: Crdt> Draft<C> {
             self.own = copy_all::<C>(alloc, list.as_slice())?;
             self.shared = None;
         }
-        let more = if self.own.is_empty() { FIRST_ROOM } else { 1 };
-        self.own.reserve(more)
+        self.own.reserve(1)
     }
 
     /// Adds an update at the end. There is room.
@@ -99,8 +94,9 @@ impl<C: Crdt> Draft<C> {
         if let Some(list) = &self.shared {
             return list.share();
         }
-        let own = mem::replace(&mut self.own, Vec::new(alloc));
-        match UpdateList::new(alloc, own) {
+        let mut list = Vec::with_capacity(alloc, self.own.len())?;
+        list.append(&mut self.own)?;
+        match UpdateList::new(alloc, list) {
             Ok(list) => {
                 let shared = list.share();
                 self.shared = Some(list);
