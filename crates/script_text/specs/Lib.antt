@@ -1,3 +1,4 @@
+pub mod Brief
 pub mod Split
 pub mod Front
 pub mod Numbers

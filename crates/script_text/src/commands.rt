@@ -1,10 +1,12 @@
-ghost use Rattle.std.specs.Prelude.{◌≡◌, Err, OnOk, Some, None, option_and_then};
+ghost use Rattle.std.specs.Prelude.{◌≡◌, Err, OnOk, Some, None, option_and_then, option_map};
+ghost use Rattle.script_text.specs.Brief.{command_of};
 ghost use Rattle.script_text.specs.Line.{command_as};
 ghost use Rattle.script_text.specs.Grammar as grammar;
 ghost use Rattle.script_text.specs.Places as places;
 ghost use Rattle.script_text.specs.Split.{words};
 
 use crate::act::op;
+use crate::brief::{Brief, put, put_brief};
 use crate::number::{ranged, small};
 use crate::object::object;
 use crate::place::{MOST, number, numbered, part, site, time, tx};
@@ -16,107 +18,98 @@ use site_vector::PartId;
 use std::alloc::Global;
 use world_model::Command;
 
-fn cluster(line: &str) -> Option<Command>
-    ensures { result ≡ grammar.with_two grammar.cluster (words line.now) }
+fn cluster(line: &str) -> Option<Brief>
+    ensures { option_map command_of result ≡ grammar.with_two grammar.cluster (words line.now) }
 {
     let (sites, parts) = only_two(line)?;
     let sites = site(sites)?;
     let parts = small(parts, 1, 16)?;
-    Some(Command::Cluster { sites, parts })
+    Some(Brief::Cluster { sites, parts })
 }
 
-fn clock(line: &str) -> Option<Command>
-    ensures { result ≡ grammar.with_two grammar.clock (words line.now) }
+fn clock(line: &str) -> Option<Brief>
+    ensures { option_map command_of result ≡ grammar.with_two grammar.clock (words line.now) }
 {
     let (at, n) = only_two(line)?;
     let part = part(at)?;
     let n = number(n)?;
-    Some(Command::Clock { part, n })
+    Some(Brief::Clock { part, n })
 }
 
-fn expire(line: &str) -> Option<Command>
-    ensures { result ≡ grammar.with_two grammar.expire (words line.now) }
+fn expire(line: &str) -> Option<Brief>
+    ensures { option_map command_of result ≡ grammar.with_two grammar.expire (words line.now) }
 {
     let (at, id) = only_two(line)?;
     let part = part(at)?;
     let tx = tx(id)?;
-    Some(Command::Expire { part, tx })
+    Some(Brief::Expire { part, tx })
 }
 
-fn hear(line: &str) -> Option<Command>
-    ensures { result ≡ grammar.with_two grammar.hear (words line.now) }
+fn hear(line: &str) -> Option<Brief>
+    ensures { option_map command_of result ≡ grammar.with_two grammar.hear (words line.now) }
 {
     let (report, at) = only_two(line)?;
     let number = numbered(report, b'g')?;
     let part = part(at)?;
-    Some(Command::Hear { number, part })
+    Some(Brief::Hear { number, part })
 }
 
-fn settle(line: &str) -> Option<Command>
-    ensures { result ≡ grammar.with_one grammar.settle (words line.now) }
+fn settle(line: &str) -> Option<Brief>
+    ensures { option_map command_of result ≡ grammar.with_one grammar.settle (words line.now) }
 {
     let part = part(only(line)?)?;
-    Some(Command::Settle { part })
+    Some(Brief::Settle { part })
 }
 
-fn report(line: &str) -> Option<Command>
-    ensures { result ≡ grammar.with_one grammar.reported (words line.now) }
+fn report(line: &str) -> Option<Brief>
+    ensures { option_map command_of result ≡ grammar.with_one grammar.reported (words line.now) }
 {
     let part = part(only(line)?)?;
-    Some(Command::Report { part })
+    Some(Brief::Report { part })
 }
 
-fn crash(line: &str) -> Option<Command>
-    ensures { result ≡ grammar.with_one grammar.crash (words line.now) }
+fn crash(line: &str) -> Option<Brief>
+    ensures { option_map command_of result ≡ grammar.with_one grammar.crash (words line.now) }
 {
     let part = part(only(line)?)?;
-    Some(Command::Crash { part })
+    Some(Brief::Crash { part })
 }
 
-fn restart(line: &str) -> Option<Command>
-    ensures { result ≡ grammar.with_one grammar.restart (words line.now) }
+fn restart(line: &str) -> Option<Brief>
+    ensures { option_map command_of result ≡ grammar.with_one grammar.restart (words line.now) }
 {
     let part = part(only(line)?)?;
-    Some(Command::Restart { part })
+    Some(Brief::Restart { part })
 }
 
-fn deliver(line: &str) -> Option<Command>
-    ensures { result ≡ grammar.with_one grammar.deliver (words line.now) }
+fn deliver(line: &str) -> Option<Brief>
+    ensures { option_map command_of result ≡ grammar.with_one grammar.deliver (words line.now) }
 {
     let number = numbered(only(line)?, b'm')?;
-    Some(Command::Deliver { number })
+    Some(Brief::Deliver { number })
 }
 
 /// What a message or a report is dropped by.
 #[tactic(auto, using(crate::proofs::Cuts::after_first))]
-fn dropped(word: &str) -> Option<Command>
-    ensures { result ≡ grammar.drop word.now }
+fn dropped(word: &str) -> Option<Brief>
+    ensures { option_map command_of result ≡ grammar.drop word.now }
 {
     match word.as_bytes() {
         [b'm', ..] => {
             let number = number(&word[1..])?;
-            Some(Command::DropMessage { number })
+            Some(Brief::DropMessage { number })
         }
         _ => {
             let number = numbered(word, b'g')?;
-            Some(Command::DropReport { number })
+            Some(Brief::DropReport { number })
         }
     }
 }
 
-fn drop(line: &str) -> Option<Command>
-    ensures { result ≡ grammar.with_one grammar.drop (words line.now) }
+fn drop(line: &str) -> Option<Brief>
+    ensures { option_map command_of result ≡ grammar.with_one grammar.drop (words line.now) }
 {
     dropped(only(line)?)
-}
-
-/// Puts a command into the place of a line. A function that did so itself would be dear to prove: what it drops is a
-/// command of any name.
-#[inline(always)]
-fn put(parsed: &mut Parsed, command: Command)
-    ensures { parsed.new ≡ Parsed.Command command }
-{
-    *parsed = Parsed::Command(command);
 }
 
 #[inline(never)]
@@ -262,26 +255,26 @@ fn commit(alloc: Global, line: &str, parsed: &mut Parsed) -> Result<(), ParseErr
     }
 }
 
-fn send(line: &str) -> Option<Command>
-    ensures { result ≡ grammar.send (words line.now) }
+fn send(line: &str) -> Option<Brief>
+    ensures { option_map command_of result ≡ grammar.send (words line.now) }
 {
     let (at, rest) = next(line)?;
     let (to, rest) = next(rest)?;
     let part = part(at)?;
     let site = site(to)?;
     let from = maybe_time(rest)?;
-    Some(Command::Send { part, site, from })
+    Some(Brief::Send { part, site, from })
 }
 
-fn fuse(line: &str) -> Option<Command>
-    ensures { result ≡ grammar.fuse (words line.now) }
+fn fuse(line: &str) -> Option<Brief>
+    ensures { option_map command_of result ≡ grammar.fuse (words line.now) }
 {
     let (at, rest) = next(line)?;
     let (call, keep) = only_two(rest)?;
     let part = part(at)?;
     let call = ranged(call, 1, MOST)?;
     let keep = number(keep)?;
-    Some(Command::Fuse { part, call, keep })
+    Some(Brief::Fuse { part, call, keep })
 }
 
 #[inline(never)]
@@ -319,8 +312,8 @@ fn update(alloc: Global, line: &str, parsed: &mut Parsed) -> Result<(), ParseErr
 }
 
 /// The command of this name, where it keeps no text.
-fn plain(name: &[u8], line: &str) -> Option<Command>
-    ensures { result ≡ grammar.plain_named name.now (words line.now) }
+fn plain(name: &[u8], line: &str) -> Option<Brief>
+    ensures { option_map command_of result ≡ grammar.plain_named name.now (words line.now) }
 {
     if spells(name, "cluster") {
         return cluster(line);
@@ -368,8 +361,8 @@ fn plain_into(name: &[u8], line: &str, parsed: &mut Parsed) -> Result<(), ParseE
     ensures bad { result ≡ Err ParseError.Bad → grammar.plain_named name.now (words line.now) ≡ None }
 {
     match plain(name, line) {
-        Some(command) => {
-            put(parsed, command);
+        Some(brief) => {
+            put_brief(parsed, brief);
             Ok(())
         }
         None => Err(ParseError::Bad),

@@ -10,6 +10,7 @@ ghost use Rattle.script_text.specs.Split.{words};
 ghost use Rattle.script_text.specs.Ascii.{is_ascii_byte};
 
 mod act;
+mod brief;
 mod commands;
 mod number;
 mod object;
