@@ -6,7 +6,7 @@ use crate::Parsed;
 use site_vector::{PartId, TxId};
 use world_model::Command;
 
-/// A command that keeps no text, as it is read: a tenth of what a command takes, so that its moves cost next to nothing.
+/// A command that keeps no text, as it is read: a sixth of what a command takes, so that its moves cost next to nothing.
 #[derive(Clone, Copy, Debug)]
 pub enum Brief {
     Cluster {
