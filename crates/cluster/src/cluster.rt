@@ -168,6 +168,7 @@ fn lacks_memory<C: Crdt, D: Disk + Drop>(
 }
 
 /// One line.
+#[inline(always)]
 pub(crate) fn only(alloc: Global, step: Step) -> Result<Vec<Step>, AllocError>
     ensures { IfOk result (λ steps. steps.items ≡ step ∷ []) }
 {

@@ -67,31 +67,32 @@ pub fn put(parsed: &mut Parsed, command: Command)
     *parsed = Parsed::Command(command);
 }
 
-/// What `put` does, in one place for all that keep no text.
-#[inline(never)]
-fn put_plain(parsed: &mut Parsed, command: Command)
-    ensures { parsed.new ≡ Parsed.Command command }
-{
-    put(parsed, command);
+impl Brief {
+    /// The command.
+    fn command(self) -> Command
+        ensures { result ≡ command_of self }
+    {
+        match self {
+            Brief::Cluster { sites, parts } => Command::Cluster { sites, parts },
+            Brief::Clock { part, n } => Command::Clock { part, n },
+            Brief::Expire { part, tx } => Command::Expire { part, tx },
+            Brief::Settle { part } => Command::Settle { part },
+            Brief::Send { part, site, from } => Command::Send { part, site, from },
+            Brief::Deliver { number } => Command::Deliver { number },
+            Brief::DropMessage { number } => Command::DropMessage { number },
+            Brief::DropReport { number } => Command::DropReport { number },
+            Brief::Report { part } => Command::Report { part },
+            Brief::Hear { number, part } => Command::Hear { number, part },
+            Brief::Crash { part } => Command::Crash { part },
+            Brief::Fuse { part, call, keep } => Command::Fuse { part, call, keep },
+            Brief::Restart { part } => Command::Restart { part },
+        }
+    }
 }
 
-/// Puts the command into the place of a line.
+/// Puts the command into the place of a line. One value of a command is made for all that may be: else each is set to zero.
 pub fn put_brief(parsed: &mut Parsed, brief: Brief)
     ensures { parsed.new ≡ Parsed.Command (command_of brief) }
 {
-    match brief {
-        Brief::Cluster { sites, parts } => put_plain(parsed, Command::Cluster { sites, parts }),
-        Brief::Clock { part, n } => put_plain(parsed, Command::Clock { part, n }),
-        Brief::Expire { part, tx } => put_plain(parsed, Command::Expire { part, tx }),
-        Brief::Settle { part } => put_plain(parsed, Command::Settle { part }),
-        Brief::Send { part, site, from } => put_plain(parsed, Command::Send { part, site, from }),
-        Brief::Deliver { number } => put_plain(parsed, Command::Deliver { number }),
-        Brief::DropMessage { number } => put_plain(parsed, Command::DropMessage { number }),
-        Brief::DropReport { number } => put_plain(parsed, Command::DropReport { number }),
-        Brief::Report { part } => put_plain(parsed, Command::Report { part }),
-        Brief::Hear { number, part } => put_plain(parsed, Command::Hear { number, part }),
-        Brief::Crash { part } => put_plain(parsed, Command::Crash { part }),
-        Brief::Fuse { part, call, keep } => put_plain(parsed, Command::Fuse { part, call, keep }),
-        Brief::Restart { part } => put_plain(parsed, Command::Restart { part }),
-    }
+    put(parsed, brief.command());
 }
