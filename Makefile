@@ -5,7 +5,7 @@ export SCRIPT
 .PHONY: help test play built try view bench script
 
 help:
-	@echo 'make test               the gate: proves every crate, tries the must-fail edits, runs tests and programs (80 to 90 minutes)'
+	@echo 'make test               the gate: proves every crate, tries the must-fail edits, runs tests and programs (45 to 90 minutes)'
 	@echo 'make play SCRIPT=PATH   proves the program and plays a script (about an hour the first time, then at once)'
 	@echo 'make try SCRIPT=PATH    plays a script before any proof (about a minute)'
 	@echo 'make view SCRIPT=PATH   plays as make play does, and draws the run as a page beside the script'
