@@ -22,7 +22,8 @@ from playing import play
 
 PROGRAM = os.path.join(HERE, "../../crates/dc_shell/out/dc_shell")
 PROFILES = ("counter", "kinds", "reads", "sites", "crash")
-LENGTHS = (10_000, 100_000, 1_000_000, 3_000_000)
+# a script of 3,000,000 lines of counter, kinds or reads is longer than a script may be
+LENGTHS = (10_000, 100_000, 1_000_000, 2_000_000)
 COLOURS = ("#1b6ca8", "#c8553d", "#3a7d44", "#8e5ea2", "#b8860b")
 RUNS = 3
 
@@ -56,7 +57,7 @@ def row(profile, lines, found):
 
 def picture(points, file):
     """Draws lines a second against lines; both by powers of ten."""
-    from math import log10
+    from math import ceil, log10
 
     wide, high, left, low = 640, 400, 70, 40
     xs = [log10(lines) for drawn in points.values() for lines, _ in drawn]
@@ -73,7 +74,7 @@ def picture(points, file):
     for power in range(y0, y1 + 1):
         _, y = place(10**x0, 10**power)
         out.append('<path d="M%d %.0fH%d" stroke="#ddd"/><text x="8" y="%.0f">%s/s</text>' % (left, y, wide - 110, y + 4, format(10**power, ",")))
-    for power in range(int(x0), int(x1) + 1):
+    for power in range(ceil(x0 - 0.01), int(x1) + 1):
         x, _ = place(10**power, 10**y0)
         out.append('<text x="%.0f" y="%d" text-anchor="middle">%s lines</text>' % (x, high - 12, format(10**power, ",")))
     for (name, drawn), colour in zip(points.items(), COLOURS):
