@@ -22,7 +22,7 @@ from playing import play
 
 PROGRAM = os.path.join(HERE, "../../crates/dc_shell/out/dc_shell")
 PROFILES = ("counter", "kinds", "reads", "sites", "crash")
-# a script of 3,000,000 lines of counter, kinds or reads is longer than a script may be
+# 3,000,000 lines of counter are longer than a script may be
 LENGTHS = (10_000, 100_000, 1_000_000, 2_000_000)
 COLOURS = ("#1b6ca8", "#c8553d", "#3a7d44", "#8e5ea2", "#b8860b")
 RUNS = 3
