@@ -172,7 +172,7 @@ fn lacks_memory<C: Crdt, D: Disk + Drop>(
 pub(crate) fn only(alloc: Global, step: Step) -> Result<Vec<Step>, AllocError>
     ensures { IfOk result (λ steps. steps.items ≡ step ∷ []) }
 {
-    let mut steps = Vec::new(alloc);
-    steps.push(step)?;
+    let mut steps = Vec::with_capacity(alloc, 1)?;
+    steps.push_reserved(step);
     Ok(steps)
 }

@@ -1,4 +1,4 @@
-ghost use Rattle.std.specs.Prelude.{◌≡◌, ◌≢◌, ℕ, List, true, Option, Some, IfOk};
+ghost use Rattle.std.specs.Prelude.{◌≡◌, ◌≢◌, ◌<◌, ℕ, List, true, Option, Some, IfOk, vec_len, vec_capacity};
 ghost use Rattle.site_partitions.specs.Reaches.{types_of};
 ghost use Rattle.world_model.specs.commands.ScriptAnswers.{fewer};
 ghost use Rattle.txn_session.specs.Calls.{Call};
@@ -131,6 +131,7 @@ fn end_once<C: Crdt, D: Disk + Drop>(
     requires reached { IsReachedLive (types_of C.laws C.spells D.state) (record { sites = sites.old; sessions = sessions.old.entries }) }
     ensures { IfOk result (λ goes. AddsLine lines.old.items lines.new.items (λ line. Acts (types_of C.laws C.spells D.state) sites.old sessions.old.entries name.now sites.new sessions.new.entries (TakesStep (types_of C.laws C.spells D.state) sites.old sites.new way line goes))) }
 {
+    lines.reserve(1)?;
     match sessions.get_mut(name) {
         Some(session) => {
             return step_on(session, sites, way, lines);
@@ -148,6 +149,7 @@ fn step_on<C: Crdt, D: Disk + Drop>(
     way: Way,
     lines: &mut Vec<Step>,
 ) -> Result<bool, AllocError>
+    requires room { vec_len lines.old < vec_capacity lines.old }
     requires sites { sites.old.sites ≡ session.old.sites }
     requires parts { sites.old.parts ≡ session.old.parts }
     requires holds { Mays (λ h (p : Unit {0}) l. Sees (types_of C.laws C.spells D.state) h l) (λ (p : Unit {0}) n. true) sites.old tt session.old }
@@ -160,7 +162,7 @@ fn step_on<C: Crdt, D: Disk + Drop>(
             match answer {
                 Ok((step, next)) => {
                     let goes = goes_on(session.phase(), next);
-                    lines.push(step)?;
+                    lines.push_reserved(step);
                     return Ok(goes);
                 }
                 Err(_) => {
@@ -173,7 +175,7 @@ fn step_on<C: Crdt, D: Disk + Drop>(
             match answer {
                 Ok(step) => {
                     let goes = goes_on(session.phase(), Next::Go);
-                    lines.push(step)?;
+                    lines.push_reserved(step);
                     return Ok(goes);
                 }
                 Err(_) => {

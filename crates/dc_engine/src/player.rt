@@ -15,7 +15,7 @@ pub(crate) mod makers;
 pub(crate) mod objects;
 pub(crate) mod reading;
 
-use crate::player::makers::{give_back_cluster, make_all};
+use crate::player::makers::{Memory, give_back_cluster, make_all};
 use crate::player::objects::Objects;
 use crate::player::reading::reading;
 use crate::responder::Responder;
@@ -69,11 +69,11 @@ impl<M: Disks> Player<M> {
     }
 
     /// Gives the disks of the cluster that stands back to their maker.
-    pub(crate) fn give_back(self, disks: &mut M)
+    pub(crate) fn give_back(self, disks: &mut M, memory: Memory)
         requires { HasOut M.Disk.state (M.state disks.old).out self.cluster }
         ensures { ReturnsAll self.cluster (M.state disks.old) (M.state disks.new) }
     {
-        give_back_cluster(disks, self.cluster);
+        give_back_cluster(disks, self.cluster, memory);
     }
 
     /// Answers a line, and on an error leaves at the end of `out` what was written of it.

@@ -3,6 +3,7 @@ ghost use Rattle.dc_engine.specs.Outcome.{PlayOutcome, change};
 ghost use Rattle.dc_engine.specs.Words.{asks_play};
 
 use crate::player::Player;
+use crate::player::makers::Memory;
 use crate::script::play_script;
 use crate::status::Status;
 use crate::streams::sink::Sink;
@@ -24,14 +25,28 @@ pub fn play<S: Source, K: Sink, M: Disks>(
 ) -> Status
     ensures { PlayOutcome M.Disk.state (M.state disks.old) (M.state disks.new) result (change S.left S.faults source.old source.new) (change K.held K.faults sink.old sink.new) }
 {
+    play_then(alloc, source, sink, disks, Memory::Freed)
+}
+
+/// Plays a script as `play` does, and has this become of the cluster's memory.
+fn play_then<S: Source, K: Sink, M: Disks>(
+    alloc: Global,
+    source: &mut S,
+    sink: &mut K,
+    disks: &mut M,
+    memory: Memory,
+) -> Status
+    ensures { PlayOutcome M.Disk.state (M.state disks.old) (M.state disks.new) result (change S.left S.faults source.old source.new) (change K.held K.faults sink.old sink.new) }
+{
     let mut player = Player::new(alloc);
     let status = play_script(alloc, source, sink, &mut player, disks);
-    player.give_back(disks);
+    player.give_back(disks, memory);
     status
 }
 
 /// Does what the process's words ask for, its own name left out. For the one word `play` it plays the script; every other
-/// list of words is a fault of usage, which reads and writes nothing.
+/// list of words is a fault of usage, which reads and writes nothing. The process is to end then: what memory the tables of
+/// the cluster have is left to the system, as by `Vec::leak`.
 pub fn run<S: Source, K: Sink, M: Disks>(
     alloc: Global,
     words: &[&str],
@@ -45,5 +60,5 @@ pub fn run<S: Source, K: Sink, M: Disks>(
     if !is_play(words) {
         return Status::Usage;
     }
-    play(alloc, source, sink, disks)
+    play_then(alloc, source, sink, disks, Memory::Left)
 }

@@ -96,6 +96,9 @@ impl Medium {
     }
 }
 
+// Up to this length a piece is added byte by byte.
+const FEW: usize = 8;
+
 // Writes three pieces over what is there and past the end, or changes nothing for want of memory.
 fn overwrite(
     bytes: &mut Vec<u8>,
@@ -113,6 +116,9 @@ fn overwrite(
         (length front.now + length middle.now + length back.now)) }
     ensures capacity { vec_capacity bytes.old ≤ vec_capacity bytes.new }
 {
+    if at == bytes.len() {
+        return append(bytes, front, middle, back);
+    }
     pad(bytes, at + (front.len() + middle.len() + back.len()))?;
     put(bytes, at, front);
     put(bytes, at + front.len(), middle);
@@ -133,10 +139,64 @@ fn pad(bytes: &mut Vec<u8>, end: usize) -> Result<(), AllocError>
     bytes.resize(end, 0)
 }
 
+// Writes three pieces past the end, or changes nothing for want of memory.
+fn append(
+    bytes: &mut Vec<u8>,
+    front: &[u8],
+    middle: &[u8],
+    back: &[u8],
+) -> Result<(), AllocError>
+    requires fits { length front.now + length middle.now + length back.now ≤ 2 ^ 31 }
+    ensures written { OnOk result (bytes.new.items ≡ bytes.old.items ++ (front.now ++ middle.now ++ back.now)) }
+    ensures stays { OnErr result (bytes.new.items ≡ bytes.old.items) }
+    ensures full { OnErr result (vec_capacity bytes.old < vec_len bytes.old +
+        (length front.now + length middle.now + length back.now)) }
+    ensures capacity { vec_capacity bytes.old ≤ vec_capacity bytes.new }
+{
+    bytes.reserve(front.len() + middle.len() + back.len())?;
+    add(bytes, front);
+    add(bytes, middle);
+    add(bytes, back);
+    Ok(())
+}
+
+// Adds a piece of few bytes, for which there is room, one after another: a call that copies them would take longer.
+fn add_few(bytes: &mut Vec<u8>, piece: &[u8])
+    requires room { vec_len bytes.old + length piece.now ≤ vec_capacity bytes.old }
+    ensures bytes { bytes.new.items ≡ bytes.old.items ++ piece.now }
+    ensures capacity { vec_capacity bytes.new ≡ vec_capacity bytes.old }
+{
+    for byte in piece {
+        bytes.push_reserved(*byte);
+    }
+}
+
+// Adds a piece, for which there is room.
+fn add(bytes: &mut Vec<u8>, piece: &[u8])
+    requires room { vec_len bytes.old + length piece.now ≤ vec_capacity bytes.old }
+    ensures bytes { bytes.new.items ≡ bytes.old.items ++ piece.now }
+    ensures capacity { vec_capacity bytes.old ≤ vec_capacity bytes.new }
+{
+    if piece.len() > FEW {
+        let _ = bytes.extend_from_slice(piece);
+        return;
+    }
+    add_few(bytes, piece);
+}
+
+// Writes a piece over what is there.
 fn put(bytes: &mut Vec<u8>, at: usize, piece: &[u8])
     requires { at + length piece.now ≤ length bytes.old.items }
     ensures bytes { bytes.new.items ≡ overwritten at piece.now bytes.old.items }
     ensures capacity { vec_capacity bytes.old ≤ vec_capacity bytes.new }
 {
-    bytes[at..at + piece.len()].copy_from_slice(piece);
+    match piece {
+        [] => {}
+        [byte] => {
+            bytes[at] = *byte;
+        }
+        _ => {
+            bytes[at..at + piece.len()].copy_from_slice(piece);
+        }
+    }
 }

@@ -1,4 +1,4 @@
-ghost use Rattle.std.specs.Prelude.{◌≡◌, ◌≤◌, ◌<◌, ◌++◌, ◌∷◌, [], ℕ, List, Bool, true, Some, None, IfOk, IfSome, IfNone, OnOk, OnErr, length, nat_eq};
+ghost use Rattle.std.specs.Prelude.{◌≡◌, ◌≤◌, ◌<◌, ◌++◌, ◌+◌, ◌∷◌, [], ℕ, List, Bool, true, Some, None, IfOk, IfSome, IfNone, OnOk, OnErr, length, nat_eq, vec_len, vec_capacity};
 ghost use Rattle.std.specs.Str.{bytes_eq};
 ghost use Rattle.std.specs.Ordering.{nat_cmp, as_partial_cmp};
 ghost use Rattle.std.specs.Cmp.Lexicographic.{slice_cmp};
@@ -110,6 +110,30 @@ impl Text {
     }
 }
 
+/// Appends bytes for which there is room, one after another.
+#[inline(always)]
+fn put_few(out: &mut Vec<u8>, bytes: &[u8])
+    requires room { vec_len out.old + length bytes.now ≤ vec_capacity out.old }
+    ensures { out.new.items ≡ out.old.items ++ bytes.now }
+{
+    for byte in bytes {
+        out.push_reserved(*byte);
+    }
+}
+
+/// Appends bytes. Most texts are short, and a call that copies them would take longer than a loop.
+fn put_bytes(out: &mut Vec<u8>, bytes: &[u8]) -> Result<(), AllocError>
+    ensures ok { OnOk result (out.new.items ≡ out.old.items ++ bytes.now) }
+    ensures err { OnErr result (out.new.items ≡ out.old.items) }
+{
+    if bytes.len() > MOST_INLINE {
+        return out.extend_from_slice(bytes);
+    }
+    out.reserve(bytes.len())?;
+    put_few(out, bytes);
+    Ok(())
+}
+
 /// Appends the length in two bytes, and the bytes.
 ///
 /// # Errors
@@ -124,7 +148,7 @@ pub fn put_text(out: &mut Vec<u8>, t: &Text) -> Result<(), AllocError>
     let start = out.len();
     let text = t.as_str();
     put_u16(out, text.len() as u16)?;
-    if let Err(error) = out.extend_from_slice(text.as_bytes()) {
+    if let Err(error) = put_bytes(out, text.as_bytes()) {
         out.truncate(start);
         return Err(error);
     }

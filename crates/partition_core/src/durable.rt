@@ -21,6 +21,7 @@ use prepared_table::Entry;
 use site_vector::{PartId, TxId};
 use std::alloc::AllocError;
 use std::marker::Model;
+use std::mem::forget;
 use thiserror::Error;
 
 /// Why a partition on its disk doesn't answer a call.
@@ -175,6 +176,15 @@ impl<C: Crdt, D: Disk + Drop> DurablePartition<C, D> {
     pub fn into_disk(self) -> D
         ensures { result ≡ disk_of self.gates }
     {
+        self.log.close()
+    }
+
+    /// The disk, with the log as it is. What memory the tables have is never given back, as by `Vec::leak`: for a process
+    /// that ends, and whose memory the system takes back at once.
+    pub fn leak_into_disk(self) -> D
+        ensures { result ≡ disk_of self.gates }
+    {
+        forget(self.tables);
         self.log.close()
     }
 }

@@ -5,3 +5,4 @@ pub mod Cuts
 pub mod Lists
 pub mod Quoted
 pub mod Fronts
+pub mod Bares

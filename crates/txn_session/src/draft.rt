@@ -79,7 +79,7 @@ impl<C: Crdt> Draft<C> {
         requires room { 1 ≤ self.old.room }
         ensures { self.new.items ≡ self.old.items ++ update ∷ [] }
     {
-        let _ = self.own.push(update);
+        self.own.push_reserved(update);
     }
 
     /// The updates as a list that others hold too.

@@ -18,6 +18,15 @@ use partition_core::DurablePartition;
 use site_vector::PartId;
 use std::alloc::{AllocError, Global};
 
+/// What becomes of a cluster's memory.
+#[derive(Clone, Copy, Debug)]
+pub(crate) enum Memory {
+    /// It is given back.
+    Freed,
+    /// The process ends, and the system takes it: to give back each update would take some twentieth of a long script's time.
+    Left,
+}
+
 /// Where the first partition stands.
 const FIRST: PartId = PartId { site: 1, part: 1 };
 
@@ -132,13 +141,27 @@ fn parts_or_none<C: Crdt, D: Disk + Drop>(cluster: &Cluster<C, D>) -> u8
 }
 
 /// Gives back the disks of a cluster, if one is made. Takes no memory.
-pub(crate) fn give_back_cluster<C: Crdt, M: Disks>(disks: &mut M, cluster: Cluster<C, M::Disk>)
+pub(crate) fn give_back_cluster<C: Crdt, M: Disks>(
+    disks: &mut M,
+    cluster: Cluster<C, M::Disk>,
+    memory: Memory,
+)
     requires { HasOutOf (types_of C.laws C.spells (fused_state M.Disk.state)) (M.state disks.old).out cluster }
     ensures { ReturnsAll cluster (M.state disks.old) (M.state disks.new) }
 {
     let parts = parts_or_none(&cluster);
     let partitions = cluster.into_partitions();
-    give_back_all(disks, parts, partitions);
+    give_back_all(disks, parts, partitions, memory);
+}
+
+/// The disk of a partition, with the log as it is.
+fn disk_of<C: Crdt, D: Disk + Drop>(partition: DurablePartition<C, D>, memory: Memory) -> D
+    ensures { result ≡ disk_of partition.gates }
+{
+    match memory {
+        Memory::Freed => partition.into_disk(),
+        Memory::Left => partition.leak_into_disk(),
+    }
 }
 
 /// Gives back the disks of all partitions, site by site.
@@ -146,6 +169,7 @@ fn give_back_all<C: Crdt, M: Disks>(
     disks: &mut M,
     parts: u8,
     partitions: Vec<DurablePartition<C, Fused<M::Disk>>>,
+    memory: Memory,
 )
     requires few { length partitions.items ≤ 128 }
     requires enough { length partitions.items ≤ (M.state disks.old).out }
@@ -153,7 +177,7 @@ fn give_back_all<C: Crdt, M: Disks>(
 {
     let mut at = FIRST;
     for partition in partitions {
-        disks.give_back(at, partition.into_disk().into_inner());
+        disks.give_back(at, disk_of(partition, memory).into_inner());
         at = next(at, parts);
     }
 }
