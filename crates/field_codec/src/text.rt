@@ -1,4 +1,4 @@
-ghost use Rattle.std.specs.Prelude.{◌≡◌, ◌≤◌, ◌<◌, ◌++◌, ◌+◌, ◌∷◌, [], ℕ, List, Bool, true, Some, None, IfOk, IfSome, IfNone, OnOk, OnErr, length, nat_eq, vec_len, vec_capacity};
+ghost use Rattle.std.specs.Prelude.{◌≡◌, ◌≤◌, ◌<◌, ◌++◌, ◌+◌, ◌∷◌, [], ℕ, List, Bool, true, Some, None, IfOk, IfSome, IfNone, OnOk, OnErr, length, nat_eq, nat_le, vec_len, vec_capacity, if◌then◌else◌};
 ghost use Rattle.std.specs.Str.{bytes_eq};
 ghost use Rattle.std.specs.Ordering.{nat_cmp, as_partial_cmp};
 ghost use Rattle.std.specs.Cmp.Lexicographic.{slice_cmp};
@@ -79,6 +79,36 @@ impl Text {
             Bytes::Apart(String::from_str(alloc, s)?)
         };
         Ok(Text { bytes })
+    }
+
+    /// Makes it the text with these bytes, and answers whether they are at most 256. Where they are more, it is as
+    /// before. One of at most 16 bytes is written over another of so few.
+    ///
+    /// # Errors
+    ///
+    /// `AllocError` where memory runs out. It is as before then.
+    #[tactic(auto, unfolding(crate::specs::Inline::bytes_of))]
+    pub fn set(&mut self, alloc: Global, s: &str) -> Result<bool, AllocError>
+        ensures fits { IfOk result (λ fits. fits ≡ nat_le (length s.now) 256) }
+        ensures ok { IfOk result (λ fits. self.new ≡ (if fits then s.now else self.old)) }
+        ensures err { OnErr result (self.new ≡ self.old) }
+    {
+        if s.len() > MOST_BYTES {
+            return Ok(false);
+        }
+        match &mut self.bytes {
+            Bytes::Inline(inline) => {
+                if s.len() <= MOST_INLINE {
+                    inline.clear();
+                    inline.push_str(s);
+                    return Ok(true);
+                }
+            }
+            Bytes::Apart(_) => {}
+        }
+        let made = Text::short(alloc, s)?;
+        *self = made;
+        Ok(true)
     }
 
     /// The text's characters.

@@ -1,4 +1,4 @@
-ghost use Rattle.std.specs.Prelude.{◌≡◌, ◌<◌, ◌++◌, ◌∷◌, [], length, Err, IfOk, IfSome, IfNone, Some, None, option_map, option_and_then};
+ghost use Rattle.std.specs.Prelude.{◌≡◌, ◌<◌, ◌++◌, ◌∷◌, [], length, Err, IfOk, IfSome, IfNone, OnOk, Some, None, option_map, option_and_then};
 ghost use Rattle.script_text.specs.Acts as acts;
 ghost use Rattle.script_text.specs.Front as front;
 ghost use Rattle.script_text.specs.Objects as objects;
@@ -166,27 +166,33 @@ fn kept_named(alloc: Global, name: &[u8], line: &str) -> Result<Act, ParseError>
     }
 }
 
-/// The act of this name. Those that keep no text come first, as most are.
+/// Makes `place` the act of this name. Those that keep no text come first, as most are.
 #[tactic(auto, using(crate::proofs::Acts::plain_is))]
-fn act_named(alloc: Global, name: &[u8], line: &str) -> Result<Act, ParseError>
-    ensures ok { IfOk result (λ a. acts.act_named name.now (words line.now) ≡ Some a) }
+fn act_into(alloc: Global, name: &[u8], line: &str, place: &mut Act) -> Result<(), ParseError>
+    ensures ok { OnOk result (acts.act_named name.now (words line.now) ≡ Some place.new) }
     ensures bad { result ≡ Err ParseError.Bad → acts.act_named name.now (words line.now) ≡ None }
 {
     match plain(name, line) {
-        Some(act) => Ok(act),
-        None => kept_named(alloc, name, line),
+        Some(act) => {
+            *place = act;
+            Ok(())
+        }
+        None => {
+            *place = kept_named(alloc, name, line)?;
+            Ok(())
+        }
     }
 }
 
-/// A path and an act.
-pub fn op(alloc: Global, line: &str) -> Result<Op, ParseError>
-    ensures ok { IfOk result (λ o. acts.op (words line.now) ≡ Some o) }
+/// Makes `place` the operation of a path and an act.
+pub fn op_into(alloc: Global, line: &str, place: &mut Op) -> Result<(), ParseError>
+    ensures ok { OnOk result (acts.op (words line.now) ≡ Some place.new) }
     ensures bad { result ≡ Err ParseError.Bad → acts.op (words line.now) ≡ None }
 {
     let (path, rest) = path(alloc, line)?;
+    place.path = path;
     let Some((name, rest)) = next(rest) else {
         return Err(ParseError::Bad);
     };
-    let act = act_named(alloc, name.as_bytes(), rest)?;
-    Ok(Op { path, act })
+    act_into(alloc, name.as_bytes(), rest, &mut place.act)
 }

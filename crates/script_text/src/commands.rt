@@ -1,18 +1,21 @@
-ghost use Rattle.std.specs.Prelude.{◌≡◌, Err, OnOk, Some, None, option_and_then, option_map};
+ghost use Rattle.std.specs.Prelude.{◌≡◌, ◌≢◌, Err, OnOk, Some, None, option_and_then, option_map, true};
+ghost use Rattle.world_model.specs.declared.command.Command.{Command};
 ghost use Rattle.script_text.specs.Brief.{command_of};
-ghost use Rattle.script_text.specs.Line.{command_as};
+ghost use Rattle.script_text.specs.Line.{command_as, is_update};
 ghost use Rattle.script_text.specs.Grammar as grammar;
 ghost use Rattle.script_text.specs.Places as places;
 ghost use Rattle.script_text.specs.Split.{words};
 
-use crate::act::op;
+use crate::act::op_into;
 use crate::brief::{Brief, put, put_brief};
 use crate::number::{ranged, small};
-use crate::object::object;
+use crate::object::{object, object_into};
 use crate::place::{MOST, number, numbered, part, site, time, tx};
 use crate::split::{next, only, only_two};
-use crate::text::text;
+use crate::text::{empty, text, text_into};
 use crate::{ParseError, Parsed};
+use crdt_core::{Act, Kind, ObjectId, Op};
+use field_codec::{ListOf, Text};
 use script_words::spells;
 use site_vector::PartId;
 use std::alloc::Global;
@@ -296,19 +299,80 @@ fn read(alloc: Global, line: &str, parsed: &mut Parsed) -> Result<(), ParseError
     }
 }
 
+/// Puts some update into the place of a line, for one to be read into.
+#[inline(never)]
+fn make_update(alloc: Global, parsed: &mut Parsed) -> Result<(), ParseError>
+    ensures ok { OnOk result (is_update parsed.new ≡ true) }
+    ensures bad { result ≢ Err ParseError.Bad }
+{
+    let name = empty(alloc)?;
+    let bucket = empty(alloc)?;
+    let key = empty(alloc)?;
+    let object = ObjectId {
+        bucket,
+        key,
+        kind: Kind::CounterPn,
+    };
+    let op = Op {
+        path: ListOf::new(alloc),
+        act: Act::Reset,
+    };
+    put(parsed, Command::Update { name, object, op });
+    Ok(())
+}
+
+fn is_update(parsed: &Parsed) -> bool
+    ensures { result ≡ is_update parsed.now }
+{
+    match parsed {
+        Parsed::Command(Command::Update { .. }) => true,
+        _ => false,
+    }
+}
+
+/// Leaves an update in the place of a line: the one that stands there, or else some.
+fn keep_update(alloc: Global, parsed: &mut Parsed) -> Result<(), ParseError>
+    ensures ok { OnOk result (is_update parsed.new ≡ true) }
+    ensures bad { result ≢ Err ParseError.Bad }
+{
+    if is_update(parsed) {
+        return Ok(());
+    }
+    make_update(alloc, parsed)
+}
+
+fn update_into(
+    alloc: Global,
+    line: &str,
+    name: &mut Text,
+    object: &mut ObjectId,
+    op: &mut Op,
+) -> Result<(), ParseError>
+    ensures ok { OnOk result (grammar.update (words line.now) ≡ Some (Command.Update name.new object.new op.new)) }
+    ensures bad { result ≡ Err ParseError.Bad → grammar.update (words line.now) ≡ None }
+{
+    let Some((word, rest)) = next(line) else {
+        return Err(ParseError::Bad);
+    };
+    text_into(alloc, word, name)?;
+    let rest = object_into(alloc, rest, object)?;
+    op_into(alloc, rest, op)
+}
+
+/// Reads an update over the one of the line before, where that was one: texts that are made anew are moved.
 #[inline(never)]
 fn update(alloc: Global, line: &str, parsed: &mut Parsed) -> Result<(), ParseError>
     ensures ok { OnOk result (Some parsed.new ≡ command_as (grammar.update (words line.now))) }
     ensures bad { result ≡ Err ParseError.Bad → grammar.update (words line.now) ≡ None }
 {
-    let Some((name, rest)) = next(line) else {
-        return Err(ParseError::Bad);
-    };
-    let name = text(alloc, name)?;
-    let (object, rest) = object(alloc, rest)?;
-    let op = op(alloc, rest)?;
-    put(parsed, Command::Update { name, object, op });
-    Ok(())
+    keep_update(alloc, parsed)?;
+    match parsed {
+        Parsed::Command(command) => match command {
+            Command::Update { name, object, op } => update_into(alloc, line, name, object, op),
+            _ => unreachable!(),
+        },
+        Parsed::Nothing => unreachable!(),
+    }
 }
 
 /// The command of this name, where it keeps no text.

@@ -6,7 +6,7 @@ ghost use Rattle.script_text.specs.Texts as texts;
 
 use crate::ParseError;
 use crate::split::{end_of_word, next, trimmed};
-use crate::text::{empty, text};
+use crate::text::{empty, empty_into, text, text_into};
 use crdt_core::{Field, ObjectId};
 use field_codec::Text;
 use script_words::kind_named;
@@ -74,4 +74,44 @@ pub fn object(alloc: Global, line: &str) -> Result<(ObjectId, &str), ParseError>
     };
     let (bucket, rest) = bucket(alloc, rest)?;
     Ok((ObjectId { bucket, key, kind }, rest))
+}
+
+/// Makes `place` the bucket after an at sign, where it stands at the front, else the empty text. Gives what follows.
+fn bucket_into<'a>(alloc: Global, line: &'a str, place: &mut Text) -> Result<&'a str, ParseError>
+    ensures ok { IfOk result (λ r. objects.bucket (words line.now) ≡ Some (place.new, words r.now)) }
+    ensures bad { result ≡ Err ParseError.Bad → objects.bucket (words line.now) ≡ None }
+{
+    match named(line) {
+        Some((name, after)) => {
+            text_into(alloc, name, place)?;
+            Ok(after)
+        }
+        None => {
+            empty_into(alloc, place)?;
+            Ok(line)
+        }
+    }
+}
+
+/// Makes `place` the object of a key, a kind and maybe a bucket, and gives what follows them.
+pub fn object_into<'a>(
+    alloc: Global,
+    line: &'a str,
+    place: &mut ObjectId,
+) -> Result<&'a str, ParseError>
+    ensures ok { IfOk result (λ r. objects.object (words line.now) ≡ Some (place.new, words r.now)) }
+    ensures bad { result ≡ Err ParseError.Bad → objects.object (words line.now) ≡ None }
+{
+    let Some((key, rest)) = next(line) else {
+        return Err(ParseError::Bad);
+    };
+    let Some((kind, rest)) = next(rest) else {
+        return Err(ParseError::Bad);
+    };
+    text_into(alloc, key, &mut place.key)?;
+    let Some(kind) = kind_named(kind.as_bytes()) else {
+        return Err(ParseError::Bad);
+    };
+    place.kind = kind;
+    bucket_into(alloc, rest, &mut place.bucket)
 }

@@ -1,4 +1,4 @@
-ghost use Rattle.std.specs.Prelude.{◌≡◌, ◌≢◌, ◌++◌, ◌∷◌, [], Err, IfOk, IfSome, Some, None, string_bytes, option_and_then, true};
+ghost use Rattle.std.specs.Prelude.{◌≡◌, ◌≢◌, ◌++◌, ◌∷◌, [], Err, IfOk, IfSome, OnOk, Some, None, string_bytes, option_and_then, true};
 ghost use Rattle.serde_json.specs.Read.{read};
 ghost use Rattle.serde_json.specs.Find.{as_str};
 ghost use Rattle.script_text.specs.Texts as texts;
@@ -95,6 +95,42 @@ pub fn text(alloc: Global, word: &str) -> Result<Text, ParseError>
         return Err(ParseError::Bad);
     }
     quoted(alloc, word)
+}
+
+/// Makes `place` the text, where it has at most 256 bytes.
+fn fit_into(alloc: Global, text: &str, place: &mut Text) -> Result<(), ParseError>
+    ensures ok { OnOk result (texts.at_most_256 text.now ≡ Some place.new) }
+    ensures bad { result ≡ Err ParseError.Bad → texts.at_most_256 text.now ≡ None }
+{
+    if place.set(alloc, text)? {
+        return Ok(());
+    }
+    Err(ParseError::Bad)
+}
+
+/// Makes `place` the text that a word stands for, bare or in quotes. A bare one, as most are, is written over what
+/// stands there: a text that is made anew is moved.
+pub fn text_into(alloc: Global, word: &str, place: &mut Text) -> Result<(), ParseError>
+    ensures ok { OnOk result (texts.text word.now ≡ Some place.new) }
+    ensures bad { result ≡ Err ParseError.Bad → texts.text word.now ≡ None }
+{
+    if is_bare(word.as_bytes()) {
+        return fit_into(alloc, word, place);
+    }
+    if !is_quoted(word.as_bytes()) {
+        return Err(ParseError::Bad);
+    }
+    *place = quoted(alloc, word)?;
+    Ok(())
+}
+
+/// Makes `place` the empty text.
+pub fn empty_into(alloc: Global, place: &mut Text) -> Result<(), ParseError>
+    ensures ok { OnOk result (place.new ≡ []) }
+    ensures bad { result ≢ Err ParseError.Bad }
+{
+    let _ = place.set(alloc, "")?;
+    Ok(())
 }
 
 /// The empty text.
