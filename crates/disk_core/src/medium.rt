@@ -140,12 +140,7 @@ fn pad(bytes: &mut Vec<u8>, end: usize) -> Result<(), AllocError>
 }
 
 // Writes three pieces past the end, or changes nothing for want of memory.
-fn append(
-    bytes: &mut Vec<u8>,
-    front: &[u8],
-    middle: &[u8],
-    back: &[u8],
-) -> Result<(), AllocError>
+fn append(bytes: &mut Vec<u8>, front: &[u8], middle: &[u8], back: &[u8]) -> Result<(), AllocError>
     requires fits { length front.now + length middle.now + length back.now ≤ 2 ^ 31 }
     ensures written { OnOk result (bytes.new.items ≡ bytes.old.items ++ (front.now ++ middle.now ++ back.now)) }
     ensures stays { OnErr result (bytes.new.items ≡ bytes.old.items) }
