@@ -71,3 +71,17 @@ value_parts a n s t o v e = simp (append_assoc, append-nil)
 -- the line of a read is what its parts add, one after another
 pub value_is : (n t o v a b c d : List ℕ) → b ≡ a ++ (n ++ (32 ∷ (t ++ 32 ∷ []))) → c ≡ b ++ o → d ≡ c ++ (32 ∷ (v ++ 10 ∷ [])) → d ≡ a ++ line_of (n ∷ t ∷ o ∷ v ∷ [])
 value_is n t o v a b c d is_b is_c is_d = is_d ∙ ap (λ s. s ++ (32 ∷ (v ++ 10 ∷ []))) (is_c ∙ ap (λ s. s ++ o) is_b) ∙ value_parts a n (32 ∷ []) t o v (10 ∷ [])
+
+four_parts : (a n s t o v e : List ℕ) → ((a ++ (n ++ (s ++ (t ++ s)))) ++ (o ++ s)) ++ (v ++ e) ≡ a ++ ((n ++ ((s ++ t) ++ ((s ++ o) ++ ((s ++ v) ++ [])))) ++ e)
+four_parts a n s t o v e = simp (append_assoc, append-nil)
+
+-- a line of four words is what its parts add, one after another
+pub four_words : (n t o v a b c d : List ℕ) → b ≡ a ++ (n ++ (32 ∷ (t ++ 32 ∷ []))) → c ≡ b ++ (o ++ 32 ∷ []) → d ≡ c ++ (v ++ 10 ∷ []) → d ≡ a ++ line_of (n ∷ t ∷ o ∷ v ∷ [])
+four_words n t o v a b c d is_b is_c is_d = is_d ∙ ap (λ s. s ++ (v ++ 10 ∷ [])) (is_c ∙ ap (λ s. s ++ (o ++ 32 ∷ [])) is_b) ∙ four_parts a n (32 ∷ []) t o v (10 ∷ [])
+
+three_parts : (a n s t v e : List ℕ) → (a ++ (n ++ (s ++ (t ++ s)))) ++ (v ++ e) ≡ a ++ ((n ++ ((s ++ t) ++ ((s ++ v) ++ []))) ++ e)
+three_parts a n s t v e = simp (append_assoc, append-nil)
+
+-- and one of three
+pub three_words : (n t v a b c : List ℕ) → b ≡ a ++ (n ++ (32 ∷ (t ++ 32 ∷ []))) → c ≡ b ++ (v ++ 10 ∷ []) → c ≡ a ++ line_of (n ∷ t ∷ v ∷ [])
+three_words n t v a b c is_b is_c = is_c ∙ ap (λ s. s ++ (v ++ 10 ∷ [])) is_b ∙ three_parts a n (32 ∷ []) t v (10 ∷ [])

@@ -6,8 +6,7 @@ use Rattle.std.specs.List.{join_by}
 use Rattle.site_vector.specs.Printed.{part_text, tx_text}
 use Rattle.reply_text.specs.declared.words.Word.{Word}
 use Rattle.reply_text.specs.declared.words.Word.TheVariants as word
-use Rattle.reply_text.specs.Places.{vector_text, word_text, object_text, message_text, report_text, interval_text}
-use Rattle.reply_text.specs.Values.{value_text}
+use Rattle.reply_text.specs.Places.{vector_text, word_text, message_text, report_text, interval_text}
 
 abbrev pub text_of_word : Word → List ℕ
 text_of_word (word.Name w) = w.now
@@ -16,8 +15,6 @@ text_of_word (word.Part p) = part_text p
 text_of_word (word.Tx t) = tx_text t
 text_of_word (word.Vector v) = vector_text v.now
 text_of_word (word.Text w) = word_text w.now
-text_of_word (word.Object o) = object_text o.now
-text_of_word (word.Value v) = value_text v.now
 text_of_word (word.Message n) = message_text n
 text_of_word (word.Report n) = report_text n
 text_of_word (word.Interval lo hi) = interval_text lo hi

@@ -68,5 +68,5 @@ pub fn put_number(out: &mut Vec<u8>, n: u64) -> Result<(), AllocError>
     if n < 10 {
         return put_byte(out, b'0' + n as u8);
     }
-    put(out, Buffer::new().format(n).as_bytes())
+    put_few(out, Buffer::new().format(n).as_bytes())
 }

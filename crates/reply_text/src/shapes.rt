@@ -8,7 +8,7 @@ ghost use Rattle.reply_text.specs.Words.{Begins};
 
 use crate::bytes::{put, put_byte, put_number};
 use crate::value::put_value;
-use crate::words::{Word, put_line, put_object, put_part, put_text};
+use crate::words::{Word, put_line, put_object, put_part, put_text, put_tx, put_vector};
 use crdt_core::{ObjectId, Value};
 use field_codec::Text;
 use site_vector::{PartId, TxId, VTime};
@@ -45,8 +45,65 @@ fn put_named_part(out: &mut Vec<u8>, name: &str, part: PartId) -> Result<(), All
     put_byte(out, b' ')
 }
 
-/// Adds a line of these words. With no list of them, since most lines of many scripts are those of clocks.
+/// Adds a transaction, with the space behind it.
+#[inline(always)]
 #[tactic(auto, using(crate::specs::Words::begins_same, crate::specs::Words::begins_after))]
+fn put_tx_space(out: &mut Vec<u8>, tx: TxId) -> Result<(), AllocError>
+    ensures ok { OnOk result (out.new.items ≡ out.old.items ++ (tx_text tx ++ 32 ∷ [])) }
+    ensures err { OnErr result (Begins out.old.items out.new.items) }
+{
+    put_tx(out, tx)?;
+    put_byte(out, b' ')
+}
+
+/// Adds a transaction, with the line feed behind it.
+#[inline(always)]
+#[tactic(auto, using(crate::specs::Words::begins_same, crate::specs::Words::begins_after))]
+fn put_last_tx(out: &mut Vec<u8>, tx: TxId) -> Result<(), AllocError>
+    ensures ok { OnOk result (out.new.items ≡ out.old.items ++ (tx_text tx ++ 10 ∷ [])) }
+    ensures err { OnErr result (Begins out.old.items out.new.items) }
+{
+    put_tx(out, tx)?;
+    put_byte(out, b'\n')
+}
+
+/// Adds a number, with the line feed behind it.
+#[inline(always)]
+#[tactic(auto, using(crate::specs::Words::begins_same, crate::specs::Words::begins_after))]
+fn put_last_number(out: &mut Vec<u8>, n: u64) -> Result<(), AllocError>
+    ensures ok { OnOk result (out.new.items ≡ out.old.items ++ (decimal n ++ 10 ∷ [])) }
+    ensures err { OnErr result (Begins out.old.items out.new.items) }
+{
+    put_number(out, n)?;
+    put_byte(out, b'\n')
+}
+
+/// Adds a vector, with the line feed behind it.
+#[inline(always)]
+#[tactic(auto, using(crate::specs::Words::begins_same, crate::specs::Words::begins_after))]
+fn put_last_vector(out: &mut Vec<u8>, v: &VTime) -> Result<(), AllocError>
+    ensures ok { OnOk result (out.new.items ≡ out.old.items ++ (vector_text v.now ++ 10 ∷ [])) }
+    ensures err { OnErr result (Begins out.old.items out.new.items) }
+{
+    put_vector(out, v)?;
+    put_byte(out, b'\n')
+}
+
+/// Adds a name and the number of a message, each with the space behind it.
+#[inline(always)]
+#[tactic(auto, using(crate::specs::Words::begins_same, crate::specs::Words::begins_after))]
+fn put_named_message(out: &mut Vec<u8>, name: &str, number: u64) -> Result<(), AllocError>
+    ensures ok { OnOk result (out.new.items ≡ out.old.items ++ (name.now ++ (32 ∷ (message_text number ++ 32 ∷ [])))) }
+    ensures err { OnErr result (Begins out.old.items out.new.items) }
+{
+    put(out, name.as_bytes())?;
+    put(out, b" m")?;
+    put_number(out, number)?;
+    put_byte(out, b' ')
+}
+
+/// Adds a line of these words. With no list of them, since most lines of many scripts are those of clocks.
+#[tactic(auto, using(crate::specs::Words::begins_same, crate::specs::Words::begins_after, crate::proofs::Front::three_words))]
 pub fn put_part_number(
     out: &mut Vec<u8>,
     name: &str,
@@ -57,8 +114,7 @@ pub fn put_part_number(
     ensures err { OnErr result (Begins out.old.items out.new.items) }
 {
     put_named_part(out, name, part)?;
-    put_number(out, n)?;
-    put_byte(out, b'\n')
+    put_last_number(out, n)
 }
 
 /// Adds a line of these words.
@@ -80,40 +136,38 @@ pub fn put_text_number<'x>(
 }
 
 /// Adds a line of these words.
-pub fn put_one_text<'x>(
+#[tactic(auto, using(crate::specs::Words::begins_same, crate::specs::Words::begins_after))]
+pub fn put_one_text(
     alloc: Global,
     out: &mut Vec<u8>,
-    name: &'x str,
-    text: &'x Text,
+    name: &str,
+    text: &Text,
 ) -> Result<(), AllocError>
     ensures ok { OnOk result (out.new.items ≡ out.old.items ++ line_of (name.now ∷ word_text text.now ∷ [])) }
     ensures err { OnErr result (Begins out.old.items out.new.items) }
 {
-    put_line(alloc, out, &[Word::Name(name), Word::Text(text)])
+    put(out, name.as_bytes())?;
+    put_byte(out, b' ')?;
+    put_text(alloc, out, text)?;
+    put_byte(out, b'\n')
 }
 
 /// Adds a line of these words.
-pub fn put_text_tx_vector<'x>(
+#[tactic(auto, using(crate::specs::Words::begins_same, crate::specs::Words::begins_after, crate::proofs::Front::four_words))]
+pub fn put_text_tx_vector(
     alloc: Global,
     out: &mut Vec<u8>,
-    name: &'x str,
-    text: &'x Text,
+    name: &str,
+    text: &Text,
     tx: TxId,
-    v: &'x VTime,
+    v: &VTime,
 ) -> Result<(), AllocError>
     ensures ok { OnOk result (out.new.items ≡ out.old.items ++ line_of (name.now ∷ word_text text.now ∷ tx_text tx ∷ vector_text v.now ∷ [])) }
     ensures err { OnErr result (Begins out.old.items out.new.items) }
 {
-    put_line(
-        alloc,
-        out,
-        &[
-            Word::Name(name),
-            Word::Text(text),
-            Word::Tx(tx),
-            Word::Vector(v),
-        ],
-    )
+    put_named_text(alloc, out, name, text)?;
+    put_tx_space(out, tx)?;
+    put_last_vector(out, v)
 }
 
 /// Adds a name and a text, each with the space behind it.
@@ -165,10 +219,10 @@ pub fn put_text_object_value(
 }
 
 /// Adds a line of these words.
-pub fn put_part_tx_number<'x>(
-    alloc: Global,
+#[tactic(auto, using(crate::specs::Words::begins_same, crate::specs::Words::begins_after, crate::proofs::Front::four_words))]
+pub fn put_part_tx_number(
     out: &mut Vec<u8>,
-    name: &'x str,
+    name: &str,
     part: PartId,
     tx: TxId,
     n: u64,
@@ -176,89 +230,63 @@ pub fn put_part_tx_number<'x>(
     ensures ok { OnOk result (out.new.items ≡ out.old.items ++ line_of (name.now ∷ part_text part ∷ tx_text tx ∷ decimal n ∷ [])) }
     ensures err { OnErr result (Begins out.old.items out.new.items) }
 {
-    put_line(
-        alloc,
-        out,
-        &[
-            Word::Name(name),
-            Word::Part(part),
-            Word::Tx(tx),
-            Word::Number(n),
-        ],
-    )
+    put_named_part(out, name, part)?;
+    put_tx_space(out, tx)?;
+    put_last_number(out, n)
 }
 
 /// Adds a line of these words.
-pub fn put_part_tx_vector<'x>(
-    alloc: Global,
+#[tactic(auto, using(crate::specs::Words::begins_same, crate::specs::Words::begins_after, crate::proofs::Front::four_words))]
+pub fn put_part_tx_vector(
     out: &mut Vec<u8>,
-    name: &'x str,
+    name: &str,
     part: PartId,
     tx: TxId,
-    v: &'x VTime,
+    v: &VTime,
 ) -> Result<(), AllocError>
     ensures ok { OnOk result (out.new.items ≡ out.old.items ++ line_of (name.now ∷ part_text part ∷ tx_text tx ∷ vector_text v.now ∷ [])) }
     ensures err { OnErr result (Begins out.old.items out.new.items) }
 {
-    put_line(
-        alloc,
-        out,
-        &[
-            Word::Name(name),
-            Word::Part(part),
-            Word::Tx(tx),
-            Word::Vector(v),
-        ],
-    )
+    put_named_part(out, name, part)?;
+    put_tx_space(out, tx)?;
+    put_last_vector(out, v)
 }
 
 /// Adds a line of these words.
-pub fn put_part_tx<'x>(
-    alloc: Global,
-    out: &mut Vec<u8>,
-    name: &'x str,
-    part: PartId,
-    tx: TxId,
-) -> Result<(), AllocError>
+#[tactic(auto, using(crate::specs::Words::begins_same, crate::specs::Words::begins_after, crate::proofs::Front::three_words))]
+pub fn put_part_tx(out: &mut Vec<u8>, name: &str, part: PartId, tx: TxId) -> Result<(), AllocError>
     ensures ok { OnOk result (out.new.items ≡ out.old.items ++ line_of (name.now ∷ part_text part ∷ tx_text tx ∷ [])) }
     ensures err { OnErr result (Begins out.old.items out.new.items) }
 {
-    put_line(
-        alloc,
-        out,
-        &[Word::Name(name), Word::Part(part), Word::Tx(tx)],
-    )
+    put_named_part(out, name, part)?;
+    put_last_tx(out, tx)
 }
 
 /// Adds a line of these words.
-pub fn put_one_part<'x>(
-    alloc: Global,
-    out: &mut Vec<u8>,
-    name: &'x str,
-    part: PartId,
-) -> Result<(), AllocError>
+#[tactic(auto, using(crate::specs::Words::begins_same, crate::specs::Words::begins_after))]
+pub fn put_one_part(out: &mut Vec<u8>, name: &str, part: PartId) -> Result<(), AllocError>
     ensures ok { OnOk result (out.new.items ≡ out.old.items ++ line_of (name.now ∷ part_text part ∷ [])) }
     ensures err { OnErr result (Begins out.old.items out.new.items) }
 {
-    put_line(alloc, out, &[Word::Name(name), Word::Part(part)])
+    put(out, name.as_bytes())?;
+    put_byte(out, b' ')?;
+    put_part(out, part)?;
+    put_byte(out, b'\n')
 }
 
 /// Adds a line of these words.
-pub fn put_message_number<'x>(
-    alloc: Global,
+#[tactic(auto, using(crate::specs::Words::begins_same, crate::specs::Words::begins_after, crate::proofs::Front::three_words))]
+pub fn put_message_number(
     out: &mut Vec<u8>,
-    name: &'x str,
+    name: &str,
     number: u64,
     n: u64,
 ) -> Result<(), AllocError>
     ensures ok { OnOk result (out.new.items ≡ out.old.items ++ line_of (name.now ∷ message_text number ∷ decimal n ∷ [])) }
     ensures err { OnErr result (Begins out.old.items out.new.items) }
 {
-    put_line(
-        alloc,
-        out,
-        &[Word::Name(name), Word::Message(number), Word::Number(n)],
-    )
+    put_named_message(out, name, number)?;
+    put_last_number(out, n)
 }
 
 /// Adds a line of these words.

@@ -2,15 +2,13 @@
 
 ghost use Rattle.std.specs.Prelude.{◌≡◌, ◌++◌, if◌then◌else◌, [], ◌∷◌, codes, decimal, OnOk, OnErr};
 ghost use Rattle.std.specs.List.{join_by};
-ghost use Rattle.reply_text.specs.Values.{value_text};
 ghost use Rattle.site_vector.specs.Printed.{part_text, tx_text};
 ghost use Rattle.reply_text.specs.Places.{vector_text, word_text, object_text, bucket_text, interval_text};
 ghost use Rattle.reply_text.specs.Words.{text_of_word, words_text, Begins};
 
 use crate::bytes::{put, put_byte, put_few, put_if, put_number};
 use crate::quoted::put_quoted;
-use crate::value::put_value;
-use crdt_core::{ObjectId, Value};
+use crdt_core::ObjectId;
 use field_codec::Text;
 use script_words::{is_bare, kind_name};
 use site_vector::{PartId, TxId, VTime};
@@ -26,8 +24,6 @@ pub enum Word<'a> {
     Tx(TxId),
     Vector(&'a VTime),
     Text(&'a Text),
-    Object(&'a ObjectId),
-    Value(&'a Value),
     /// The number of a message.
     Message(u64),
     /// The number of a report.
@@ -46,7 +42,8 @@ pub fn put_part(out: &mut Vec<u8>, part: PartId) -> Result<(), AllocError>
     put_number(out, part.part as u64)
 }
 
-fn put_tx(out: &mut Vec<u8>, tx: TxId) -> Result<(), AllocError>
+/// Adds the id of a transaction.
+pub fn put_tx(out: &mut Vec<u8>, tx: TxId) -> Result<(), AllocError>
     ensures ok { OnOk result (out.new.items ≡ out.old.items ++ tx_text tx) }
     ensures err { OnErr result (Begins out.old.items out.new.items) }
 {
@@ -77,7 +74,8 @@ fn put_times(out: &mut Vec<u8>, times: &[u64]) -> Result<(), AllocError>
     Ok(())
 }
 
-fn put_vector(out: &mut Vec<u8>, v: &VTime) -> Result<(), AllocError>
+/// Adds the times of the vector, between brackets.
+pub fn put_vector(out: &mut Vec<u8>, v: &VTime) -> Result<(), AllocError>
     ensures ok { OnOk result (out.new.items ≡ out.old.items ++ vector_text v.now) }
     ensures err { OnErr result (Begins out.old.items out.new.items) }
 {
@@ -117,7 +115,7 @@ pub fn put_object(alloc: Global, out: &mut Vec<u8>, object: &ObjectId) -> Result
 {
     put_text(alloc, out, &object.key)?;
     put_byte(out, b' ')?;
-    put(out, kind_name(object.kind).as_bytes())?;
+    put_few(out, kind_name(object.kind).as_bytes())?;
     put_bucket(alloc, out, &object.bucket)
 }
 
@@ -151,8 +149,6 @@ fn put_word(alloc: Global, out: &mut Vec<u8>, word: &Word) -> Result<(), AllocEr
         Word::Tx(tx) => put_tx(out, *tx),
         Word::Vector(v) => put_vector(out, v),
         Word::Text(text) => put_text(alloc, out, text),
-        Word::Object(object) => put_object(alloc, out, object),
-        Word::Value(value) => put_value(alloc, out, value),
         Word::Message(n) => put_numbered(out, b"m", *n),
         Word::Report(n) => put_numbered(out, b"g", *n),
         Word::Interval(lo, hi) => put_interval(out, *lo, *hi),
