@@ -1,7 +1,8 @@
 #![tactic(auto, using(crate::specs::Words::begins_same, crate::specs::Words::begins_after))]
 
-ghost use Rattle.std.specs.Prelude.{◌≡◌, ◌++◌, if◌then◌else◌, [], ◌∷◌, codes, decimal, OnOk, OnErr};
-ghost use Rattle.std.specs.List.{join_by};
+ghost use Rattle.std.specs.Prelude.{◌≡◌, ◌≤◌, ◌+◌, ◌++◌, if◌then◌else◌, [], ◌∷◌, true, codes, decimal, length, vec_len, vec_capacity, IfOk, OnOk, OnErr};
+ghost use Rattle.std.specs.List.{join_by, list_all};
+ghost use Rattle.script_words.specs.Bare.{is_bare, is_bare_byte};
 ghost use Rattle.site_vector.specs.Printed.{part_text, tx_text};
 ghost use Rattle.reply_text.specs.Places.{vector_text, word_text, object_text, bucket_text, interval_text};
 ghost use Rattle.reply_text.specs.Words.{text_of_word, words_text, Begins};
@@ -10,7 +11,7 @@ use crate::bytes::{put, put_byte, put_few, put_if, put_number};
 use crate::quoted::put_quoted;
 use crdt_core::ObjectId;
 use field_codec::Text;
-use script_words::{is_bare, kind_name};
+use script_words::{is_bare_byte, kind_name};
 use site_vector::{PartId, TxId, VTime};
 use std::alloc::{AllocError, Global};
 
@@ -84,14 +85,50 @@ pub fn put_vector(out: &mut Vec<u8>, v: &VTime) -> Result<(), AllocError>
     put_byte(out, b']')
 }
 
+/// Adds the bytes, for which there is room, up to the first that may not stand in a bare word, and says whether there is
+/// none.
+#[inline(always)]
+fn put_bare(out: &mut Vec<u8>, bytes: &[u8]) -> bool
+    requires { vec_len out.old + length bytes.now ≤ vec_capacity out.old }
+    ensures bare { result ≡ list_all is_bare_byte bytes.now }
+    ensures all { result ≡ true → out.new.items ≡ out.old.items ++ bytes.now }
+    ensures begins { Begins out.old.items out.new.items }
+{
+    for byte in bytes {
+        if !byte.is_ascii_lowercase() && !is_bare_byte(*byte) {
+            return false;
+        }
+        out.push_reserved(*byte);
+    }
+    true
+}
+
+/// Adds the bytes, if they are a bare word, and says whether they are. They are gone over once.
+fn put_if_bare(out: &mut Vec<u8>, bytes: &[u8]) -> Result<bool, AllocError>
+    ensures bare { IfOk result (λ put. put ≡ is_bare bytes.now) }
+    ensures ok { IfOk result (λ put. out.new.items ≡ (if put then out.old.items ++ bytes.now else out.old.items)) }
+    ensures err { OnErr result (Begins out.old.items out.new.items) }
+{
+    if bytes.is_empty() {
+        return Ok(false);
+    }
+    let start = out.len();
+    out.reserve(bytes.len())?;
+    if put_bare(out, bytes) {
+        return Ok(true);
+    }
+    out.truncate(start);
+    Ok(false)
+}
+
 /// Adds a text, bare where it may be, and else as JSON writes it.
 pub fn put_text(alloc: Global, out: &mut Vec<u8>, text: &Text) -> Result<(), AllocError>
     ensures ok { OnOk result (out.new.items ≡ out.old.items ++ word_text text.now) }
     ensures err { OnErr result (Begins out.old.items out.new.items) }
 {
     let text = text.as_str();
-    if is_bare(text.as_bytes()) {
-        return put_few(out, text.as_bytes());
+    if put_if_bare(out, text.as_bytes())? {
+        return Ok(());
     }
     put_quoted(alloc, out, text)
 }
