@@ -5,4 +5,3 @@ pub mod Cuts
 pub mod Lists
 pub mod Quoted
 pub mod Fronts
-pub mod Bares

@@ -11,8 +11,8 @@ use crate::brief::{Brief, put, put_brief};
 use crate::number::{ranged, small};
 use crate::object::{object, object_into};
 use crate::place::{MOST, number, numbered, part, site, time, tx};
-use crate::split::{next, next_seen, only, only_two};
-use crate::text::{empty, seen_into, text};
+use crate::split::{next, only, only_two};
+use crate::text::{empty, text, text_into};
 use crate::{ParseError, Parsed};
 use crdt_core::{Act, Kind, ObjectId, Op};
 use field_codec::{ListOf, Text};
@@ -351,10 +351,10 @@ fn update_into(
     ensures ok { OnOk result (grammar.update (words line.now) ≡ Some (Command.Update name.new object.new op.new)) }
     ensures bad { result ≡ Err ParseError.Bad → grammar.update (words line.now) ≡ None }
 {
-    let Some((word, rest, bare)) = next_seen(line) else {
+    let Some((word, rest)) = next(line) else {
         return Err(ParseError::Bad);
     };
-    seen_into(alloc, word, bare, name)?;
+    text_into(alloc, word, name)?;
     let rest = object_into(alloc, rest, object)?;
     op_into(alloc, rest, op)
 }

@@ -5,8 +5,8 @@ ghost use Rattle.script_text.specs.Split.{words};
 ghost use Rattle.script_text.specs.Texts as texts;
 
 use crate::ParseError;
-use crate::split::{end_of_word, next, next_seen, trimmed};
-use crate::text::{empty, empty_into, seen_into, text, text_into};
+use crate::split::{end_of_word, next, trimmed};
+use crate::text::{empty, empty_into, text, text_into};
 use crdt_core::{Field, ObjectId};
 use field_codec::Text;
 use script_words::kind_named;
@@ -102,13 +102,13 @@ pub fn object_into<'a>(
     ensures ok { IfOk result (λ r. objects.object (words line.now) ≡ Some (place.new, words r.now)) }
     ensures bad { result ≡ Err ParseError.Bad → objects.object (words line.now) ≡ None }
 {
-    let Some((key, rest, bare)) = next_seen(line) else {
+    let Some((key, rest)) = next(line) else {
         return Err(ParseError::Bad);
     };
     let Some((kind, rest)) = next(rest) else {
         return Err(ParseError::Bad);
     };
-    seen_into(alloc, key, bare, &mut place.key)?;
+    text_into(alloc, key, &mut place.key)?;
     let Some(kind) = kind_named(kind.as_bytes()) else {
         return Err(ParseError::Bad);
     };

@@ -1,10 +1,7 @@
-ghost use Rattle.std.specs.Prelude.{◌≡◌, ◌+◌, ◌<◌, ◌≤◌, length, take, drop, [], ◌∷◌, true, Some, None, IfSome, IfNone, option_map};
+ghost use Rattle.std.specs.Prelude.{◌≡◌, ◌+◌, ◌<◌, ◌≤◌, length, take, drop, [], ◌∷◌, Some, None, IfSome, IfNone, option_map};
 ghost use Rattle.script_text.specs.Split.{words, after, ends_word, outside, within, after_backslash};
 ghost use Rattle.script_text.specs.Front.{word_end, IsTrimmed, where_of, spaces as spaces_of, after_space};
 ghost use Rattle.script_text.specs.Grammar.{one, two};
-ghost use Rattle.script_words.specs.Bare.{is_bare};
-
-use script_words::is_bare_byte;
 
 /// Where a byte stands: outside of quotes, within them, or after a backslash within them.
 #[derive(Clone, Copy, Debug)]
@@ -116,28 +113,6 @@ pub fn end_of_word(bytes: &[u8]) -> usize
     bytes.len() - rest.len() + end_of_few(rest)
 }
 
-/// The number of bytes of the word at the front, where each may stand in a bare word. So a word that is to be a text is
-/// looked at once, where it is bare, as most are.
-#[tactic(auto, using(crate::proofs::Bares::more, crate::proofs::Bares::stop))]
-pub fn end_of_bare(bytes: &[u8]) -> Option<usize>
-    ensures at { IfSome result (λ n. n ≡ word_end outside bytes.now) }
-    ensures bare { IfSome result (λ n. is_bare (take n bytes.now) ≡ true) }
-    ensures within { IfSome result (λ n. n ≤ length bytes.now) }
-{
-    for (i, byte) in bytes.iter().enumerate() {
-        if !byte.is_ascii_lowercase() && !is_bare_byte(*byte) {
-            if i > 0 && *byte == b' ' {
-                return Some(i);
-            }
-            return None;
-        }
-    }
-    if bytes.is_empty() {
-        return None;
-    }
-    Some(bytes.len())
-}
-
 /// The number of spaces at the front.
 fn spaces(bytes: &[u8]) -> usize
     ensures { result ≡ spaces_of bytes.now }
@@ -198,46 +173,6 @@ pub fn next(line: &str) -> Option<(&str, &str)>
         return None;
     }
     Some(first(line))
-}
-
-/// The bare word at the front of a line that doesn't begin with a space, and what follows it.
-#[tactic(auto, using(crate::specs::Front::words_front, crate::proofs::Cuts::at_end_of_word))]
-fn first_bare(line: &str) -> Option<(&str, &str)>
-    requires trimmed { IsTrimmed line.now }
-    requires some { 0 < length line.now }
-    ensures word { IfSome result (λ p. words line.now ≡ p.0.now ∷ words p.1.now) }
-    ensures bare { IfSome result (λ p. is_bare p.0.now ≡ true) }
-{
-    let end = end_of_bare(line.as_bytes())?;
-    Some(line.split_at(end))
-}
-
-/// The first word, and what follows it, where the word is bare.
-fn next_bare(line: &str) -> Option<(&str, &str)>
-    ensures word { IfSome result (λ p. words line.now ≡ p.0.now ∷ words p.1.now) }
-    ensures bare { IfSome result (λ p. is_bare p.0.now ≡ true) }
-{
-    let line = trimmed(line);
-    if line.is_empty() {
-        return None;
-    }
-    first_bare(line)
-}
-
-/// The first word, what follows it, and whether the word was seen to be bare. For words that are to be texts: most are bare,
-/// and so are gone over once.
-pub fn next_seen(line: &str) -> Option<(&str, &str, bool)>
-    ensures some { IfSome result (λ p. words line.now ≡ p.0.now ∷ words p.1.now) }
-    ensures bare { IfSome result (λ p. p.2 ≡ true → is_bare p.0.now ≡ true) }
-    ensures none { IfNone result (words line.now ≡ []) }
-{
-    match next_bare(line) {
-        Some((word, rest)) => Some((word, rest, true)),
-        None => {
-            let (word, rest) = next(line)?;
-            Some((word, rest, false))
-        }
-    }
 }
 
 /// The one word, where there is no other.

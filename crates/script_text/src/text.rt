@@ -2,7 +2,6 @@ ghost use Rattle.std.specs.Prelude.{◌≡◌, ◌≢◌, ◌++◌, ◌∷◌, [
 ghost use Rattle.serde_json.specs.Read.{read};
 ghost use Rattle.serde_json.specs.Find.{as_str};
 ghost use Rattle.script_text.specs.Texts as texts;
-ghost use Rattle.script_words.specs.Bare.{is_bare};
 
 use crate::ParseError;
 use field_codec::Text;
@@ -123,19 +122,6 @@ pub fn text_into(alloc: Global, word: &str, place: &mut Text) -> Result<(), Pars
     }
     *place = quoted(alloc, word)?;
     Ok(())
-}
-
-/// Makes `place` the text that a word stands for, which may have been seen to be bare.
-#[inline(always)]
-pub fn seen_into(alloc: Global, word: &str, bare: bool, place: &mut Text) -> Result<(), ParseError>
-    requires { bare ≡ true → is_bare word.now ≡ true }
-    ensures ok { OnOk result (texts.text word.now ≡ Some place.new) }
-    ensures bad { result ≡ Err ParseError.Bad → texts.text word.now ≡ None }
-{
-    if bare {
-        return fit_into(alloc, word, place);
-    }
-    text_into(alloc, word, place)
 }
 
 /// Makes `place` the empty text.
