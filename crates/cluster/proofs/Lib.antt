@@ -1,3 +1,4 @@
+pub mod Places
 pub mod FuelBurns
 pub mod FuelTakes
 pub mod FuelLines

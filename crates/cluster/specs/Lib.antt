@@ -1,3 +1,5 @@
+pub mod Named
+pub mod Lends
 pub mod Same
 pub mod Faults
 pub mod Fuel

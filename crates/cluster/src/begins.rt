@@ -1,5 +1,4 @@
-ghost use Rattle.std.specs.Prelude.{◌≡◌, ◌≤◌, ◌+◌, ℕ, true, false, List, Some, None, IfOk, OnOk, if◌then◌else◌, length, is_some};
-ghost use Rattle.std.specs.Str.{bytes_eq};
+ghost use Rattle.std.specs.Prelude.{◌≡◌, ◌≤◌, true, Some, IfOk};
 ghost use Rattle.site_partitions.specs.Reaches.{types_of};
 ghost use Rattle.cluster.specs.Acts.{Moves};
 ghost use Rattle.txn_session.specs.Session.{SessionState};
@@ -39,7 +38,7 @@ impl<C: Crdt, D: Disk + Drop> Live<C, D> {
         let named = name.copy(self.alloc)?;
         let (sites, parts) = (self.sites.all.sites(), self.sites.all.parts());
         let session = Session::new(self.alloc, named, site, sites, parts);
-        create(&mut self.sessions, key, session)?;
+        self.sessions.insert(key, session)?;
         let step = Step::MadeSession {
             name: name.copy(self.alloc)?,
             site,
@@ -55,7 +54,7 @@ impl<C: Crdt, D: Disk + Drop> Live<C, D> {
             return only(self.alloc, Step::NoSession);
         }
         let lost = name.copy(self.alloc)?;
-        remove(&mut self.sessions, name);
+        self.sessions.remove(name);
         only(self.alloc, Step::Lost { name: lost })
     }
 
@@ -194,27 +193,4 @@ fn move_in<C: Crdt>(sessions: &mut Sessions<C>, name: &Text, site: u8) -> Result
             return Err(AllocError);
         }
     }
-}
-
-/// Adds a session whose name is new.
-fn create<C: Crdt>(
-    sessions: &mut Sessions<C>,
-    name: Text,
-    session: Session<C>,
-) -> Result<(), AllocError>
-    requires { session_in sessions.old.entries name ≡ None }
-    ensures find { OnOk result ((who : List ℕ) → session_in sessions.new.entries who ≡ (if bytes_eq name who then Some session else session_in sessions.old.entries who)) }
-    ensures count { OnOk result (length sessions.new.entries ≡ length sessions.old.entries + 1) }
-{
-    sessions.insert(name, session)?;
-    Ok(())
-}
-
-/// Removes a session that is there.
-fn remove<C: Crdt>(sessions: &mut Sessions<C>, name: &Text)
-    requires { is_some (session_in sessions.old.entries name.now) ≡ true }
-    ensures find { (who : List ℕ) → session_in sessions.new.entries who ≡ (if bytes_eq name.now who then None else session_in sessions.old.entries who) }
-    ensures count { length sessions.new.entries + 1 ≡ length sessions.old.entries }
-{
-    let _ = sessions.shift_remove(name);
 }

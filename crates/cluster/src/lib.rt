@@ -4,6 +4,7 @@
 #![tactic(auto)]
 
 mod begins;
+mod by_name;
 mod cluster;
 mod commits;
 mod fates;

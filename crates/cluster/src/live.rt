@@ -10,13 +10,13 @@ ghost use Rattle.cluster.specs.Built.{IsSaid, is_of_fates, is_of_faults, is_of_p
 ghost use Rattle.cluster.specs.Live.{phase_in, is_open_phase, is_idle_phase};
 ghost use Rattle.cluster.specs.Reached.{AppliesLive, IsReachedLive};
 
+use crate::by_name::ByName;
 use crate::cluster::only;
 use crate::local::Local;
 use crate::store::{NO_TX, failed};
 use crdt_core::{Crdt, Message};
 use disk_core::Disk;
 use field_codec::Text;
-use indexmap::IndexMap;
 use partition_core::{DurableError, DurablePartition};
 use site_partitions::Sites;
 use site_vector::{PartId, VTime};
@@ -26,7 +26,7 @@ use txn_session::{Phase, Session};
 use world_model::{Command, Step};
 
 /// Sessions by their names.
-pub(crate) type Sessions<C> = IndexMap<Text, Session<C>>;
+pub(crate) type Sessions<C> = ByName<Session<C>>;
 
 /// A cluster that was made, and its sessions by their names.
 #[derive(Drop)]
@@ -52,7 +52,7 @@ impl<C: Crdt, D: Disk + Drop> Live<C, D> {
         Live {
             alloc,
             sites: Local { alloc, all: sites },
-            sessions: IndexMap::new(alloc),
+            sessions: ByName::new(alloc),
         }
     }
 

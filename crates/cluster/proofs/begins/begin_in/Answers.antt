@@ -3,10 +3,10 @@ use Rattle.std.proofs.lemmas.Map.Steps.{set_value_same}
 use Rattle.world_model.specs.declared.command.Command.TheVariants as command
 use Rattle.site_partitions.specs.Reaches.{types_of}
 use Rattle.cluster.specs.Acts.{Acts, Begins}
-use Rattle.cluster.specs.Live.{session_in, are_idle, is_idle_phase, phase_about, may_begin_at, number_of}
+use Rattle.cluster.specs.Live.{session_in, are_idle, is_idle_phase, phase_about, may_begin_at}
 use Rattle.cluster.specs.Reached.{AppliesLive}
 use Rattle.cluster.proofs.Applying.{map_ok, ok_is}
-use Rattle.cluster.proofs.Beginning.{idle_phase, begin_absent, begin_elsewhere, begin_busy, begin_applies, part_least, part_most}
+use Rattle.cluster.proofs.Beginning.{idle_phase, begin_absent, begin_elsewhere, begin_busy, begin_applies, part_least}
 use Rattle.cluster.proofs.begins.begin_in.Goals as goal
 
 pub open-answer-requires-clause-least : goal.open-answer-requires-clause-least

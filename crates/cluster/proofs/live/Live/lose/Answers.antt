@@ -18,5 +18,5 @@ pub returns : goal.returns
 returns g c =
     let v : LiveState g.row.C-Effect.Denot _ = record { sites = c.self.inside.sites; sessions = c.self.inside.sessions.entries } in
     let there : is_some (session_in c.self.inside.sessions.entries c.args.name.now) ≡ true = search rules in
-    map_ok c.only-2.result (λ steps is. subst (λ (x : LiveState g.row.C-Effect.Denot _). AppliesLive (types_of g.C.Crdt.laws g.C.Crdt.spells g.D.Disk.state) x (command.Lose c.args.name.now) steps.items (record { sites = c.self.inside.sites; sessions = c.remove.new.sessions.entries })) c.self.view_is
-    (session_lost (types_of g.C.Crdt.laws g.C.Crdt.spells g.D.Disk.state) v c.args.name.now c.remove.new.sessions.entries steps.items (is ∙ ap (λ n. step.Lost n ∷ []) c.in_ok-lost.ensures) there c.remove.ensures.find c.remove.ensures.count)) c.only-2.ensures
+    map_ok c.only-2.result (λ steps is. subst (λ (x : LiveState g.row.C-Effect.Denot _). AppliesLive (types_of g.C.Crdt.laws g.C.Crdt.spells g.D.Disk.state) x (command.Lose c.args.name.now) steps.items (record { sites = c.self.inside.sites; sessions = c.remove.new.self.entries })) c.self.view_is
+    (session_lost (types_of g.C.Crdt.laws g.C.Crdt.spells g.D.Disk.state) v c.args.name.now c.remove.new.self.entries steps.items (is ∙ ap (λ n. step.Lost n ∷ []) c.in_ok-lost.ensures) there c.remove.ensures.find c.remove.ensures.count)) c.only-2.ensures
