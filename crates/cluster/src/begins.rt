@@ -6,7 +6,7 @@ ghost use Rattle.cluster.specs.Same.{holds_place};
 ghost use Rattle.cluster.specs.Live.{phase_in, are_idle, session_in, may_begin_at, number_of};
 ghost use Rattle.cluster.specs.Reached.{AppliesLive, IsReachedLive};
 
-use crate::cluster::only;
+use crate::cluster::{only, only_in};
 use crate::live::{Live, Sessions, is_idle};
 use crate::local::Local;
 use crdt_core::Crdt;
@@ -94,7 +94,14 @@ impl<C: Crdt, D: Disk + Drop> Live<C, D> {
         if !self.has_place(part) {
             return only(self.alloc, Step::NoPart);
         }
-        match begin_in(self.alloc, &mut self.sites, &mut self.sessions, name, part) {
+        match begin_in(
+            self.alloc,
+            &mut self.spare,
+            &mut self.sites,
+            &mut self.sessions,
+            name,
+            part,
+        ) {
             Ok(lines) => {
                 return Ok(lines);
             }
@@ -140,6 +147,7 @@ fn is_of_own_site<C: Crdt>(session: &Session<C>, part: Option<PartId>) -> bool
 /// Begins a transaction of the session of this name, which is looked up once, at a partition that the cluster has.
 fn begin_in<C: Crdt, D: Disk + Drop>(
     alloc: Global,
+    spare: &mut Vec<Step>,
     sites: &mut Local<C, D>,
     sessions: &mut Sessions<C>,
     name: &Text,
@@ -153,15 +161,15 @@ fn begin_in<C: Crdt, D: Disk + Drop>(
     match sessions.get_mut(name) {
         Some(session) => {
             if !is_of_own_site(session, part) {
-                return only(alloc, Step::NoPart);
+                return only_in(alloc, spare, Step::NoPart);
             }
             if !is_idle(session.phase()) {
-                return only(alloc, Step::HasTxn);
+                return only_in(alloc, spare, Step::HasTxn);
             }
             let (_, answer) = session.open(sites, (), number_of(part));
             match answer {
                 Ok(step) => {
-                    return only(alloc, step);
+                    return only_in(alloc, spare, step);
                 }
                 Err(_) => {
                     return Err(AllocError);
@@ -169,7 +177,7 @@ fn begin_in<C: Crdt, D: Disk + Drop>(
             }
         }
         None => {
-            return only(alloc, Step::NoSession);
+            return only_in(alloc, spare, Step::NoSession);
         }
     }
 }

@@ -12,6 +12,7 @@ use partition_core::DurablePartition;
 use site_partitions::{MakeError, Sites};
 use std::alloc::{AllocError, Global};
 use std::marker::Model;
+use std::mem::replace;
 use world_model::{Command, Step};
 
 /// What the commands of a script work on: no cluster at first, and then one with its sessions.
@@ -114,6 +115,15 @@ impl<C: Crdt, D: Disk + Drop> Cluster<C, D> {
         }
     }
 
+    /// Takes a list of lines that were read back, for its memory.
+    pub fn hand_back(&mut self, steps: Vec<Step>)
+        ensures { self.new ≡ self.old }
+    {
+        if let Some(cluster) = &mut self.live {
+            cluster.live.spare = steps;
+        }
+    }
+
     /// The partitions, site by site, each with its disk; none where no cluster is made.
     pub fn into_partitions(self) -> Vec<DurablePartition<C, Fused<D>>>
         ensures { result.items ≡ partitions_in self }
@@ -175,4 +185,29 @@ pub(crate) fn only(alloc: Global, step: Step) -> Result<Vec<Step>, AllocError>
     let mut steps = Vec::with_capacity(alloc, 1)?;
     steps.push_reserved(step);
     Ok(steps)
+}
+
+/// One line, in the memory of a list that was handed back.
+#[inline(always)]
+pub(crate) fn only_in(
+    alloc: Global,
+    spare: &mut Vec<Step>,
+    step: Step,
+) -> Result<Vec<Step>, AllocError>
+    ensures { IfOk result (λ steps. steps.items ≡ step ∷ []) }
+{
+    let mut steps = emptied(alloc, spare);
+    steps.reserve(1)?;
+    steps.push_reserved(step);
+    Ok(steps)
+}
+
+/// The list that was handed back, with no lines. Another takes its place, with no memory.
+#[inline(always)]
+pub(crate) fn emptied(alloc: Global, spare: &mut Vec<Step>) -> Vec<Step>
+    ensures { result.items ≡ [] }
+{
+    let mut steps = replace(spare, Vec::new(alloc));
+    steps.clear();
+    steps
 }

@@ -11,7 +11,7 @@ ghost use Rattle.cluster.specs.Live.{session_in};
 ghost use Rattle.cluster.specs.Reached.{AppliesLive, IsReachedLive};
 ghost use Rattle.cluster.specs.Sees.{Sees};
 
-use crate::cluster::only;
+use crate::cluster::{emptied, only};
 use crate::live::{Live, Sessions, is_idle};
 use crate::local::Local;
 use crdt_core::Crdt;
@@ -47,6 +47,7 @@ impl<C: Crdt, D: Disk + Drop> Live<C, D> {
         }
         match end_all(
             self.alloc,
+            &mut self.spare,
             &mut self.sites,
             &mut self.sessions,
             name,
@@ -75,6 +76,7 @@ impl<C: Crdt, D: Disk + Drop> Live<C, D> {
         }
         match end_all(
             self.alloc,
+            &mut self.spare,
             &mut self.sites,
             &mut self.sessions,
             name,
@@ -94,6 +96,7 @@ impl<C: Crdt, D: Disk + Drop> Live<C, D> {
 /// Makes the steps of the end of a session's transaction, at most so many.
 fn end_all<C: Crdt, D: Disk + Drop>(
     alloc: Global,
+    spare: &mut Vec<Step>,
     sites: &mut Local<C, D>,
     sessions: &mut Sessions<C>,
     name: &Text,
@@ -105,7 +108,7 @@ fn end_all<C: Crdt, D: Disk + Drop>(
     requires reached { IsReachedLive (types_of C.laws C.spells D.state) (record { sites = sites.old; sessions = sessions.old.entries }) }
     ensures { IfOk result (λ lines. AppliesLive (types_of C.laws C.spells D.state) (record { sites = sites.old; sessions = sessions.old.entries }) (command_of way name.now steps) lines.items (record { sites = sites.new; sessions = sessions.new.entries })) }
 {
-    let mut lines = Vec::new(alloc);
+    let mut lines = emptied(alloc, spare);
     let mut left = steps;
     'steps: loop {
         let goes = end_once(sites, sessions, name, way, &mut lines)?;

@@ -34,6 +34,8 @@ pub(crate) struct Live<C: Crdt, D: Disk + Drop> {
     pub(crate) alloc: Global,
     pub(crate) sites: Local<C, D>,
     pub(crate) sessions: Sessions<C>,
+    /// A list that was handed back, whose memory the next answer takes. What stands in it doesn't matter.
+    pub(crate) spare: Vec<Step>,
 }
 
 impl<C: Crdt, D: Disk + Drop> Model for Live<C, D> {
@@ -53,6 +55,7 @@ impl<C: Crdt, D: Disk + Drop> Live<C, D> {
             alloc,
             sites: Local { alloc, all: sites },
             sessions: ByName::new(alloc),
+            spare: Vec::new(alloc),
         }
     }
 

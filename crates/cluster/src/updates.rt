@@ -5,7 +5,7 @@ ghost use Rattle.txn_session.specs.declared.error.SessionError.TheVariants.{NoMe
 ghost use Rattle.cluster.specs.Live.{refused_line};
 ghost use Rattle.cluster.specs.Reached.{AppliesLive, IsReachedLive};
 
-use crate::cluster::only;
+use crate::cluster::only_in;
 use crate::live::{Live, Sessions, is_open};
 use crate::local::Local;
 use crdt_core::{Crdt, ObjectId, Op};
@@ -24,6 +24,7 @@ impl<C: Crdt, D: Disk + Drop> Live<C, D> {
     {
         read_in(
             self.alloc,
+            &mut self.spare,
             &mut self.sites,
             &mut self.sessions,
             name,
@@ -45,6 +46,7 @@ impl<C: Crdt, D: Disk + Drop> Live<C, D> {
     {
         update_in(
             self.alloc,
+            &mut self.spare,
             &mut self.sites,
             &mut self.sessions,
             name,
@@ -57,6 +59,7 @@ impl<C: Crdt, D: Disk + Drop> Live<C, D> {
 /// The line of a read in a session's transaction, which is looked up once.
 fn read_in<C: Crdt, D: Disk + Drop>(
     alloc: Global,
+    spare: &mut Vec<Step>,
     sites: &mut Local<C, D>,
     sessions: &mut Sessions<C>,
     name: &Text,
@@ -69,12 +72,12 @@ fn read_in<C: Crdt, D: Disk + Drop>(
     match sessions.get_mut(name) {
         Some(session) => {
             if !is_open(session.phase()) {
-                return only(alloc, Step::NoTxn);
+                return only_in(alloc, spare, Step::NoTxn);
             }
             let (_, answer) = session.read(sites, (), object);
             match answer {
                 Ok(step) => {
-                    return only(alloc, step);
+                    return only_in(alloc, spare, step);
                 }
                 Err(_) => {
                     return Err(AllocError);
@@ -82,7 +85,7 @@ fn read_in<C: Crdt, D: Disk + Drop>(
             }
         }
         None => {
-            return only(alloc, Step::NoSession);
+            return only_in(alloc, spare, Step::NoSession);
         }
     }
 }
@@ -90,6 +93,7 @@ fn read_in<C: Crdt, D: Disk + Drop>(
 /// The line of an update in a session's transaction, which is looked up once.
 fn update_in<C: Crdt, D: Disk + Drop>(
     alloc: Global,
+    spare: &mut Vec<Step>,
     sites: &mut Local<C, D>,
     sessions: &mut Sessions<C>,
     name: &Text,
@@ -106,11 +110,11 @@ fn update_in<C: Crdt, D: Disk + Drop>(
             let (_, answer) = session.update(sites, (), object, op);
             match answer {
                 Ok(step) => {
-                    return only(alloc, step);
+                    return only_in(alloc, spare, step);
                 }
                 Err(error) => match refused(&error) {
                     Ok(line) => {
-                        return only(alloc, line);
+                        return only_in(alloc, spare, line);
                     }
                     Err(error) => {
                         return Err(error);
@@ -119,7 +123,7 @@ fn update_in<C: Crdt, D: Disk + Drop>(
             }
         }
         None => {
-            return only(alloc, Step::NoSession);
+            return only_in(alloc, spare, Step::NoSession);
         }
     }
 }

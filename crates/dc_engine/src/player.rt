@@ -103,7 +103,11 @@ impl<M: Disks> Player<M> {
             disks,
             line,
         ) {
-            Ok(steps) => Ok(write_lines(alloc, steps.as_slice(), out)?),
+            Ok(steps) => {
+                write_lines(alloc, steps.as_slice(), out)?;
+                self.cluster.hand_back(steps);
+                Ok(())
+            }
             Err(error) => Err(error),
         }
     }
