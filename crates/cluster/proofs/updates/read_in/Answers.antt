@@ -13,8 +13,8 @@ use Rattle.cluster.proofs.updates.read_in.Goals as goal
 pub returns-then-not-is_open : goal.returns-then-not-is_open
 returns-then-not-is_open g c =
     let same : (c.get_mut.follows.lender c.in-Some.session.now).entries ≡ c.args.sessions.now.entries = search (rules, set_value_same) in
-    map_ok c.only.result (λ steps is. subst (λ l. AppliesLive (types_of g.C.Crdt.laws g.C.Crdt.spells g.D.Disk.state) (record { sites = c.args.sites.now; sessions = c.args.sessions.now.entries }) (command.Read c.args.name.now c.args.object.now) steps.items (record { sites = c.args.sites.now; sessions = l })) (sym same)
-    (read_shut (types_of g.C.Crdt.laws g.C.Crdt.spells g.D.Disk.state) (record { sites = c.args.sites.now; sessions = c.args.sessions.now.entries }) c.args.name.now c.args.object.now steps.items is c.in-Some.session.now (search rules) (sym (open_phase c.in-Some.session.now.doing) ∙ (ap is_open_phase (sym c.phase.ensures) ∙ (sym c.is_open.ensures ∙ c.if-not-is_open.true))))) c.only.ensures
+    map_ok c.only_in.result (λ steps is. subst (λ l. AppliesLive (types_of g.C.Crdt.laws g.C.Crdt.spells g.D.Disk.state) (record { sites = c.args.sites.now; sessions = c.args.sessions.now.entries }) (command.Read c.args.name.now c.args.object.now) steps.items (record { sites = c.args.sites.now; sessions = l })) (sym same)
+    (read_shut (types_of g.C.Crdt.laws g.C.Crdt.spells g.D.Disk.state) (record { sites = c.args.sites.now; sessions = c.args.sessions.now.entries }) c.args.name.now c.args.object.now steps.items is c.in-Some.session.now (search rules) (sym (open_phase c.in-Some.session.now.doing) ∙ (ap is_open_phase (sym c.phase.ensures) ∙ (sym c.is_open.ensures ∙ c.if-not-is_open.true))))) c.only_in.ensures
 
 pub returns-in-Ok : goal.returns-in-Ok
 returns-in-Ok g c =
@@ -26,11 +26,11 @@ returns-in-Ok g c =
       same = c.read-answer.ensures.stays;
       does = λ calls seen holds. (ok_is _ _ _ c.in-Ok.is c.read-answer.ensures.tells, c.read-answer.ensures.as_before, ok_is _ _ _ c.in-Ok.is c.read-answer.ensures.reads calls seen holds);
     } in
-    map_ok c.only-in-Ok.result (λ steps is. read_applies (types_of g.C.Crdt.laws g.C.Crdt.spells g.D.Disk.state) (record { sites = c.args.sites.now; sessions = c.args.sessions.now.entries }) c.args.name.now c.args.object.now c.read-answer.new.store (c.get_mut.follows.lender c.read-answer.new.self).entries c.in-Ok.step steps.items is acts (sym (open_phase c.in-Some.session.now.doing) ∙ (ap is_open_phase (sym c.phase.ensures) ∙ (sym c.is_open.ensures ∙ c.if-not-is_open.false)))) c.only-in-Ok.ensures
+    map_ok c.only_in-in-Ok.result (λ steps is. read_applies (types_of g.C.Crdt.laws g.C.Crdt.spells g.D.Disk.state) (record { sites = c.args.sites.now; sessions = c.args.sessions.now.entries }) c.args.name.now c.args.object.now c.read-answer.new.store (c.get_mut.follows.lender c.read-answer.new.self).entries c.in-Ok.step steps.items is acts (sym (open_phase c.in-Some.session.now.doing) ∙ (ap is_open_phase (sym c.phase.ensures) ∙ (sym c.is_open.ensures ∙ c.if-not-is_open.false)))) c.only_in-in-Ok.ensures
 
 pub returns-in-None : goal.returns-in-None
 returns-in-None g c =
     let same : c.get_mut.follows.lender-at-none.entries ≡ c.args.sessions.now.entries = search rules in
     let none : session_in c.args.sessions.now.entries c.args.name.now ≡ None = search rules in
-    map_ok c.only-in-None.result (λ steps is. subst (λ l. AppliesLive (types_of g.C.Crdt.laws g.C.Crdt.spells g.D.Disk.state) (record { sites = c.args.sites.now; sessions = c.args.sessions.now.entries }) (command.Read c.args.name.now c.args.object.now) steps.items (record { sites = c.args.sites.now; sessions = l })) (sym same)
-    (read_absent (types_of g.C.Crdt.laws g.C.Crdt.spells g.D.Disk.state) (record { sites = c.args.sites.now; sessions = c.args.sessions.now.entries }) c.args.name.now c.args.object.now steps.items is none)) c.only-in-None.ensures
+    map_ok c.only_in-in-None.result (λ steps is. subst (λ l. AppliesLive (types_of g.C.Crdt.laws g.C.Crdt.spells g.D.Disk.state) (record { sites = c.args.sites.now; sessions = c.args.sessions.now.entries }) (command.Read c.args.name.now c.args.object.now) steps.items (record { sites = c.args.sites.now; sessions = l })) (sym same)
+    (read_absent (types_of g.C.Crdt.laws g.C.Crdt.spells g.D.Disk.state) (record { sites = c.args.sites.now; sessions = c.args.sessions.now.entries }) c.args.name.now c.args.object.now steps.items is none)) c.only_in-in-None.ensures
