@@ -7,7 +7,7 @@ use Rattle.cluster.proofs.Leading.{IsOnWay, at_start, may_end, at_end, at_stop, 
 use Rattle.cluster.proofs.commits.end_all.Goals as goal
 
 pub steps-init : goal.steps-init
-steps-init g c = subst (λ lines. IsOnWay (types_of g.C.Crdt.laws g.C.Crdt.spells g.D.Disk.state) (record { sites = c.args.sites.now; sessions = c.args.sessions.now.entries }) c.args.way c.args.name.now c.args.steps (record { sites = c.args.sites.now; sessions = c.args.sessions.now.entries }) c.args.steps lines) (sym c.new-lines.ensures.items)
+steps-init g c = subst (λ lines. IsOnWay (types_of g.C.Crdt.laws g.C.Crdt.spells g.D.Disk.state) (record { sites = c.args.sites.now; sessions = c.args.sessions.now.entries }) c.args.way c.args.name.now c.args.steps (record { sites = c.args.sites.now; sessions = c.args.sessions.now.entries }) c.args.steps lines) (sym c.emptied-lines.ensures)
     (at_start (types_of g.C.Crdt.laws g.C.Crdt.spells g.D.Disk.state) (record { sites = c.args.sites.now; sessions = c.args.sessions.now.entries }) c.args.way c.args.name.now c.args.steps c.requires.some c.requires.can c.requires.reached)
 
 pub end_once-requires-clause-can : goal.end_once-requires-clause-can
