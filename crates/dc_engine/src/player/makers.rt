@@ -2,6 +2,7 @@
 ghost use Rattle.std.specs.Prelude.{◌≡◌, ◌≤◌, ◌+◌, ◌*◌, ◌++◌, ◌∷◌, [], length, map, Err, IfOk, OnOk, OnErr};
 ghost use Rattle.disk_core.specs.Fuses.{fused_state, inside};
 ghost use Rattle.disk_core.specs.States.{Rose};
+ghost use Rattle.gate_log.specs.Logs.{disk_of};
 ghost use Rattle.disk_makers.specs.Makers.{IsMade};
 ghost use Rattle.site_partitions.specs.Made.{AreBlank};
 ghost use Rattle.site_partitions.specs.Reaches.{types_of};
@@ -155,7 +156,7 @@ pub(crate) fn give_back_cluster<C: Crdt, M: Disks>(
 }
 
 /// The disk of a partition, with the log as it is.
-fn disk_of<C: Crdt, D: Disk + Drop>(partition: DurablePartition<C, D>, memory: Memory) -> D
+fn disk_out<C: Crdt, D: Disk + Drop>(partition: DurablePartition<C, D>, memory: Memory) -> D
     ensures { result ≡ disk_of partition.gates }
 {
     match memory {
@@ -177,7 +178,7 @@ fn give_back_all<C: Crdt, M: Disks>(
 {
     let mut at = FIRST;
     for partition in partitions {
-        disks.give_back(at, disk_of(partition, memory).into_inner());
+        disks.give_back(at, disk_out(partition, memory).into_inner());
         at = next(at, parts);
     }
 }
