@@ -1,7 +1,7 @@
 use Rattle.std.proofs.Common.{arith}
 use Rattle.dc_engine.proofs.commands.Applied.{out_more}
 use Rattle.dc_engine.proofs.bytes.PlayedBy.{outcome_lawful}
-use Rattle.dc_engine.proofs.top.play.Goals as goal
+use Rattle.dc_engine.proofs.top.play_then.Goals as goal
 
 pub play_script-status-requires-clause-fresh : goal.play_script-status-requires-clause-fresh
 play_script-status-requires-clause-fresh g c = c.new-player.ensures.reached
