@@ -6,8 +6,9 @@ ghost use Rattle.cluster.specs.Built.{IsSaid, is_making};
 ghost use Rattle.cluster.specs.Reached.{Applies, IsReached, Reached, FedIn, SetsFuseIn, SizedIn, parts_in, partitions_in};
 
 use crate::running::Running;
-use crdt_core::Crdt;
+use crdt_core::{Crdt, ObjectId};
 use disk_core::{Disk, Fused};
+use field_codec::Text;
 use partition_core::DurablePartition;
 use site_partitions::{MakeError, Sites};
 use std::alloc::{AllocError, Global};
@@ -199,6 +200,55 @@ pub(crate) fn only_in(
     let mut steps = emptied(alloc, spare);
     steps.reserve(1)?;
     steps.push_reserved(step);
+    Ok(steps)
+}
+
+/// Makes `last` the line of an update. Over another it is written text by text: to move that one out to drop it is dear.
+#[inline(always)]
+fn put_updated(last: &mut Step, name: Text, object: ObjectId, stamp: Option<u64>)
+    ensures { last.new ≡ Step.Updated name object stamp }
+{
+    match last {
+        Step::Updated {
+            name: last_name,
+            object: last_object,
+            stamp: last_stamp,
+        } => {
+            *last_name = name;
+            *last_object = object;
+            *last_stamp = stamp;
+        }
+        other => {
+            *other = Step::Updated {
+                name,
+                object,
+                stamp,
+            };
+        }
+    }
+}
+
+/// One line, mostly of an update, over the one of a list that was handed back: most updates follow another.
+#[inline(always)]
+pub(crate) fn only_update_in(
+    alloc: Global,
+    spare: &mut Vec<Step>,
+    step: Step,
+) -> Result<Vec<Step>, AllocError>
+    ensures { IfOk result (λ steps. steps.items ≡ step ∷ []) }
+{
+    if spare.len() != 1 {
+        return only_in(alloc, spare, step);
+    }
+    let mut steps = replace(spare, Vec::new(alloc));
+    match step {
+        Step::Updated {
+            name,
+            object,
+            stamp,
+        } => put_updated(&mut steps[0], name, object, stamp),
+        step => steps[0] = step,
+    }
     Ok(steps)
 }
 

@@ -161,27 +161,25 @@ fn step_on<C: Crdt, D: Disk + Drop>(
 {
     match way {
         Way::Commits => {
-            let (_, answer) = session.commit_step(sites, ());
-            match answer {
-                Ok((step, next)) => {
+            match session.commit_step(sites, ()) {
+                (_, Ok((step, next))) => {
                     let goes = goes_on(session.phase(), next);
                     lines.push_reserved(step);
                     return Ok(goes);
                 }
-                Err(_) => {
+                (_, Err(_)) => {
                     return Err(AllocError);
                 }
             }
         }
         Way::GivesUp => {
-            let (_, answer) = session.abort_step(sites, ());
-            match answer {
-                Ok(step) => {
+            match session.abort_step(sites, ()) {
+                (_, Ok(step)) => {
                     let goes = goes_on(session.phase(), Next::Go);
                     lines.push_reserved(step);
                     return Ok(goes);
                 }
-                Err(_) => {
+                (_, Err(_)) => {
                     return Err(AllocError);
                 }
             }

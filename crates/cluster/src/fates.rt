@@ -17,6 +17,7 @@ use world_model::{Command, Step};
 
 impl<C: Crdt, D: Disk + Drop> Live<C, D> {
     /// The lines that answer a command by which partitions end what no session ends.
+    #[inline(never)]
     pub(crate) fn end(&mut self, command: &Command) -> Result<Vec<Step>, AllocError>
         requires of_fates { is_of_fates command.now ≡ true }
         requires reached { IsReachedLive (types_of C.laws C.spells D.state) self.old }

@@ -20,6 +20,7 @@ impl<C: Crdt, D: Disk + Drop> Live<C, Fused<D>> {
     ghost use Rattle.disk_core.specs.Fuses.{fused_state};
 
     /// The lines that answer a command of crashes, restarts and fuses.
+    #[inline(never)]
     pub(crate) fn strike(&mut self, command: &Command) -> Result<Vec<Step>, AllocError>
         requires of_faults { is_of_faults command.now ≡ true }
         requires said { IsSaid C.has C.too_deep command.now }

@@ -19,7 +19,8 @@ use world_model::{Command, Step};
 const MOST_IN_POST: usize = 4096;
 
 impl<C: Crdt, D: Disk + Drop> Running<C, D> {
-    /// The lines that answer a command of messages or reports.
+    /// The lines that answer a command of messages or reports. A function of its own, whose frame no other command needs.
+    #[inline(never)]
     pub(crate) fn handle(&mut self, command: &Command) -> Result<Vec<Step>, AllocError>
         requires of_post { is_of_post command.now ≡ true }
         requires reached { IsReached (types_of C.laws C.spells D.state) (Some self.old) }

@@ -66,6 +66,7 @@ impl<C: Crdt, D: Disk + Drop> Running<C, Fused<D>> {
     /// # Errors
     ///
     /// `AllocError` where memory runs out. It may only be dropped then.
+    #[inline(always)]
     pub(crate) fn apply(&mut self, command: &Command) -> Result<Vec<Step>, AllocError>
         requires said { IsSaid C.has C.too_deep command.now }
         requires reached { IsReached (types_of C.laws C.spells (fused_state D.state)) (Some self.old) }

@@ -5,7 +5,7 @@ ghost use Rattle.txn_session.specs.declared.error.SessionError.TheVariants.{NoMe
 ghost use Rattle.cluster.specs.Live.{refused_line};
 ghost use Rattle.cluster.specs.Reached.{AppliesLive, IsReachedLive};
 
-use crate::cluster::only_in;
+use crate::cluster::{only_in, only_update_in};
 use crate::live::{Live, Sessions, is_open};
 use crate::local::Local;
 use crdt_core::{Crdt, ObjectId, Op};
@@ -110,7 +110,7 @@ fn update_in<C: Crdt, D: Disk + Drop>(
             let (_, answer) = session.update(sites, (), object, op);
             match answer {
                 Ok(step) => {
-                    return only_in(alloc, spare, step);
+                    return only_update_in(alloc, spare, step);
                 }
                 Err(error) => match refused(&error) {
                     Ok(line) => {

@@ -14,7 +14,7 @@ returns-in-Ok-refused g c =
     let rest : (c.get_mut.follows.lender c.in-Some.session.now).entries ≡ c.args.sessions.now.entries = search (rules, set_value_same) in
     let same : (c.get_mut.follows.lender c.update-answer.new.self).entries ≡ c.args.sessions.now.entries = ap (λ s. (c.get_mut.follows.lender s).entries) (err_is _ _ _ c.in-Err.is c.update-answer.ensures.err) ∙ rest in
     let told = unanswered (types_of g.C.Crdt.laws g.C.Crdt.spells g.D.Disk.state) (record { sites = c.args.sites.now; sessions = c.args.sessions.now.entries }) c.args.name.now c.args.object.now c.args.op.now c.requires.shallow c.update-answer.result.1 c.in-Err.error c.in-Some.session.now c.update-answer.new.store (c.get_mut.follows.lender c.update-answer.new.self).entries c.refused.result c.in-Err.is c.update-answer.ensures.refused (search rules) same c.refused.ensures.line in
-    map_ok c.only_in-in-Ok-refused.result (λ steps is. subst (λ l. AppliesLive (types_of g.C.Crdt.laws g.C.Crdt.spells g.D.Disk.state) (record { sites = c.args.sites.now; sessions = c.args.sessions.now.entries }) (command.Update c.args.name.now c.args.object.now c.args.op.now) l (record { sites = c.update-answer.new.store; sessions = (c.get_mut.follows.lender c.update-answer.new.self).entries })) (sym is) (ok_is _ _ _ c.in-Ok-refused.is told)) c.only_in-in-Ok-refused.ensures
+    map_ok c.only_in.result (λ steps is. subst (λ l. AppliesLive (types_of g.C.Crdt.laws g.C.Crdt.spells g.D.Disk.state) (record { sites = c.args.sites.now; sessions = c.args.sessions.now.entries }) (command.Update c.args.name.now c.args.object.now c.args.op.now) l (record { sites = c.update-answer.new.store; sessions = (c.get_mut.follows.lender c.update-answer.new.self).entries })) (sym is) (ok_is _ _ _ c.in-Ok-refused.is told)) c.only_in.ensures
 
 pub returns-in-Ok : goal.returns-in-Ok
 returns-in-Ok g c =
@@ -26,7 +26,7 @@ returns-in-Ok g c =
       same = c.update-answer.ensures.stays;
       does = λ calls seen holds. (ok_is _ _ _ c.in-Ok.is c.update-answer.ensures.tells, ok_is _ _ _ c.in-Ok.is c.update-answer.ensures.updated, ok_is _ _ _ c.in-Ok.is c.update-answer.ensures.updates calls seen holds);
     } in
-    map_ok c.only_in.result (λ steps is. update_applies (types_of g.C.Crdt.laws g.C.Crdt.spells g.D.Disk.state) (record { sites = c.args.sites.now; sessions = c.args.sessions.now.entries }) c.args.name.now c.args.object.now c.args.op.now c.update-answer.new.store (c.get_mut.follows.lender c.update-answer.new.self).entries c.in-Ok.step steps.items is acts (not_due _ c.update-answer.result.1 _ c.in-Ok.step c.in-Ok.is c.update-answer.ensures.refused)) c.only_in.ensures
+    map_ok c.only_update_in.result (λ steps is. update_applies (types_of g.C.Crdt.laws g.C.Crdt.spells g.D.Disk.state) (record { sites = c.args.sites.now; sessions = c.args.sessions.now.entries }) c.args.name.now c.args.object.now c.args.op.now c.update-answer.new.store (c.get_mut.follows.lender c.update-answer.new.self).entries c.in-Ok.step steps.items is acts (not_due _ c.update-answer.result.1 _ c.in-Ok.step c.in-Ok.is c.update-answer.ensures.refused)) c.only_update_in.ensures
 
 pub returns-in-None : goal.returns-in-None
 returns-in-None g c =
