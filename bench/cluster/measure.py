@@ -2,13 +2,14 @@
 """Plays scripts of five profiles and several lengths on a built dc_shell, and beside it on another program.
 
     python3 bench/cluster/measure.py [--program PROGRAM] [--other 'COMMAND'] [--lengths 10000,100000,..]
-                                     [--profiles counter,reads,..] [--picture FILE]
+                                     [--profiles counter,reads,..] [--seconds SECONDS] [--picture FILE]
 
 PROGRAM is crates/dc_shell/out/dc_shell, which `rt run` in crates/dc_shell leaves there. COMMAND plays a script from
 standard input, as a plain program of the same behaviour does; its replies have to be the same, byte by byte. Each
 script is played three times by each program in turn, and of these the least time of a processor counts, which is
 said of no machine but this one. Prints a table, and with --picture draws lines a second against the length of the
-script, as an SVG: a cost that grows with the history shows as a line that falls."""
+script, as an SVG: a cost that grows with the history shows as a line that falls. Scripts of more than 64 MiB, which are
+refused, are left out, and so are those of a profile that are longer than one which took more than SECONDS (10)."""
 import argparse
 import os
 import shlex
@@ -22,8 +23,8 @@ from playing import play
 
 PROGRAM = os.path.join(HERE, "../../crates/dc_shell/out/dc_shell")
 PROFILES = ("counter", "kinds", "reads", "sites", "crash")
-# 3,000,000 lines of counter are longer than a script may be
-LENGTHS = (10_000, 100_000, 1_000_000, 2_000_000)
+LENGTHS = (10_000, 100_000, 300_000, 1_000_000, 2_000_000, 3_000_000)
+MOST_BYTES = 64 << 20
 COLOURS = ("#1b6ca8", "#c8553d", "#3a7d44", "#8e5ea2", "#b8860b")
 RUNS = 3
 
@@ -34,10 +35,12 @@ def same(first, second):
 
 
 def measure(folder, profile, length, commands):
-    """The lines of a script, and of each command the least time and the peak."""
+    """The lines of a script, and of each command the least time and the peak; None where the script is too long."""
     script = os.path.join(folder, "script")
     with open(script, "wb") as sink:
         subprocess.run([sys.executable, os.path.join(HERE, "generate.py"), profile, str(length)], stdout=sink, check=True)
+    if os.path.getsize(script) > MOST_BYTES:
+        return None
     with open(script, "rb") as source:
         lines = sum(1 for _ in source)
     replies = [os.path.join(folder, "replies%d" % k) for k in range(len(commands))]
@@ -49,7 +52,7 @@ def measure(folder, profile, length, commands):
 
 def row(profile, lines, found):
     """A line of the table."""
-    cells = ["%s" % profile, "%d" % lines] + ["%d, %.0f MB" % (lines / time, peak) for time, peak in found]
+    cells = [profile, f"{lines:,}"] + [f"{lines / time:,.0f}, {peak:.0f} MB" for time, peak in found]
     if len(found) > 1:
         cells.append("%.2f" % (found[0][0] / found[1][0]))
     return "| %s |" % " | ".join(cells)
@@ -92,6 +95,7 @@ def main():
     words.add_argument("--other")
     words.add_argument("--lengths", default=",".join(map(str, LENGTHS)))
     words.add_argument("--profiles", default=",".join(PROFILES))
+    words.add_argument("--seconds", type=float, default=10)
     words.add_argument("--picture")
     asked = words.parse_args()
     commands = [[asked.program, "play"]] + ([shlex.split(asked.other)] if asked.other else [])
@@ -101,9 +105,14 @@ def main():
     with tempfile.TemporaryDirectory() as folder:
         for profile in asked.profiles.split(","):
             for length in map(int, asked.lengths.split(",")):
-                lines, found = measure(folder, profile, length, commands)
+                measured = measure(folder, profile, length, commands)
+                if measured is None:
+                    break
+                lines, found = measured
                 print(row(profile, lines, found), flush=True)
                 points.setdefault(profile, []).append((lines, lines / found[0][0]))
+                if max(time for time, _ in found) > asked.seconds:
+                    break
     if asked.picture:
         picture(points, asked.picture)
 
