@@ -12,7 +12,7 @@ use crate::number::{ranged, small};
 use crate::object::{object, object_into};
 use crate::place::{MOST, number, numbered, part, site, time, tx};
 use crate::split::{next, only, only_two};
-use crate::text::{empty, text, text_into};
+use crate::text::{empty, name_into, text};
 use crate::{ParseError, Parsed};
 use crdt_core::{Act, Kind, ObjectId, Op};
 use field_codec::{ListOf, Text};
@@ -354,7 +354,7 @@ fn update_into(
     let Some((word, rest)) = next(line) else {
         return Err(ParseError::Bad);
     };
-    text_into(alloc, word, name)?;
+    name_into(alloc, word, name)?;
     let rest = object_into(alloc, rest, object)?;
     op_into(alloc, rest, op)
 }

@@ -5,7 +5,7 @@ ghost use Rattle.script_text.specs.Texts as texts;
 
 use crate::ParseError;
 use field_codec::Text;
-use script_words::{is_bare, is_plain};
+use script_words::{is_bare, is_plain, spells};
 use serde_json::Value;
 use std::alloc::Global;
 
@@ -122,6 +122,18 @@ pub fn text_into(alloc: Global, word: &str, place: &mut Text) -> Result<(), Pars
     }
     *place = quoted(alloc, word)?;
     Ok(())
+}
+
+/// Makes `place` the text that a word stands for. Nothing is written where it is that already, as the name of a session
+/// mostly is.
+pub fn name_into(alloc: Global, word: &str, place: &mut Text) -> Result<(), ParseError>
+    ensures ok { OnOk result (texts.text word.now ≡ Some place.new) }
+    ensures bad { result ≡ Err ParseError.Bad → texts.text word.now ≡ None }
+{
+    if is_bare(word.as_bytes()) && spells(word.as_bytes(), place.as_str()) {
+        return Ok(());
+    }
+    text_into(alloc, word, place)
 }
 
 /// Makes `place` the empty text.
