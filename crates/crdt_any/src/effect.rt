@@ -3,14 +3,15 @@ ghost use Rattle.std.specs.Option.{option_copied};
 ghost use Rattle.crdt_any.specs.Layer.{simple_effect, map_go_effect, map_rr_effect};
 
 use crate::SimpleEffect;
-use crdt_maps::MapEffect;
+use crdt_maps::{Boxed, MapEffect};
 
-/// The effect of an update of any kind, where `E` are the effects of the fields of maps.
+/// The effect of an update of any kind, where `E` are the effects of the fields of maps. That of a map has memory of its
+/// own: so an effect takes no room for a field's name, nor for all levels of maps.
 #[derive(Drop)]
 pub enum LayerEffect<E> {
     Simple(SimpleEffect),
-    MapGo(MapEffect<E>),
-    MapRr(MapEffect<E>),
+    MapGo(Boxed<MapEffect<E>>),
+    MapRr(Boxed<MapEffect<E>>),
 }
 
 impl<E> LayerEffect<E> {
@@ -29,7 +30,7 @@ impl<E> LayerEffect<E> {
         ensures { option_copied result ≡ map_go_effect self.now }
     {
         match self {
-            LayerEffect::MapGo(effect) => Some(effect),
+            LayerEffect::MapGo(effect) => Some(effect.get()),
             _ => None,
         }
     }
@@ -39,7 +40,7 @@ impl<E> LayerEffect<E> {
         ensures { option_copied result ≡ map_rr_effect self.now }
     {
         match self {
-            LayerEffect::MapRr(effect) => Some(effect),
+            LayerEffect::MapRr(effect) => Some(effect.get()),
             _ => None,
         }
     }

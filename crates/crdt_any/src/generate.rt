@@ -7,7 +7,7 @@ ghost use Rattle.crdt_any.specs.LayerForm.{layer_is_of, layer_can_put, layer_set
 use crate::inner::made_on;
 use crate::{LayerEffect, LayerState, Simple};
 use crdt_core::{Act, Crdt, Field, Kind};
-use crdt_maps::{MapGo, MapRr};
+use crdt_maps::{Boxed, MapGo, MapRr};
 use std::alloc::{AllocError, Global};
 
 /// The effect of an act that the kind has.
@@ -31,11 +31,13 @@ pub fn effect_of<I: Crdt>(
     match kind {
         Kind::MapGo => {
             let effect = made_on::<MapGo<I>>(alloc, kind, path, act, state.map_go(), now)?;
-            Ok(LayerEffect::MapGo(effect))
+            let boxed = Boxed::new(alloc, effect)?;
+            Ok(LayerEffect::MapGo(boxed))
         }
         Kind::MapRr => {
             let effect = made_on::<MapRr<I>>(alloc, kind, path, act, state.map_rr(), now)?;
-            Ok(LayerEffect::MapRr(effect))
+            let boxed = Boxed::new(alloc, effect)?;
+            Ok(LayerEffect::MapRr(boxed))
         }
         _ => {
             let effect = made_on::<Simple>(alloc, kind, path, act, state.simple(), now)?;

@@ -6,7 +6,7 @@ use crate::generate::effect_of;
 use crate::inner::apply_if;
 use crate::{LayerEffect, LayerState, Simple};
 use crdt_core::{Act, Crdt, Field, Kind, Op, Value, reads_state};
-use crdt_maps::{MapGo, MapRr};
+use crdt_maps::{Boxed, MapGo, MapRr};
 use field_codec::TakeError;
 use site_vector::Dot;
 use std::alloc::{AllocError, Global};
@@ -114,8 +114,8 @@ impl<I: Crdt> Crdt for Layer<I> {
     fn stamp(effect: &LayerEffect<I::Effect>) -> Option<u64> {
         match effect {
             LayerEffect::Simple(effect) => Simple::stamp(effect),
-            LayerEffect::MapGo(effect) => MapGo::<I>::stamp(effect),
-            LayerEffect::MapRr(effect) => MapRr::<I>::stamp(effect),
+            LayerEffect::MapGo(effect) => MapGo::<I>::stamp(effect.get()),
+            LayerEffect::MapRr(effect) => MapRr::<I>::stamp(effect.get()),
         }
     }
 
@@ -151,12 +151,14 @@ impl<I: Crdt> Crdt for Layer<I> {
             LayerEffect::Simple(effect) => Ok(LayerEffect::Simple(Simple::copy_effect(
                 alloc, effect,
             )?)),
-            LayerEffect::MapGo(effect) => Ok(LayerEffect::MapGo(MapGo::<I>::copy_effect(
-                alloc, effect,
-            )?)),
-            LayerEffect::MapRr(effect) => Ok(LayerEffect::MapRr(MapRr::<I>::copy_effect(
-                alloc, effect,
-            )?)),
+            LayerEffect::MapGo(effect) => {
+                let copied = MapGo::<I>::copy_effect(alloc, effect.get())?;
+                Ok(LayerEffect::MapGo(Boxed::new(alloc, copied)?))
+            }
+            LayerEffect::MapRr(effect) => {
+                let copied = MapRr::<I>::copy_effect(alloc, effect.get())?;
+                Ok(LayerEffect::MapRr(Boxed::new(alloc, copied)?))
+            }
         }
     }
 
@@ -171,8 +173,8 @@ impl<I: Crdt> Crdt for Layer<I> {
     fn put_effect(out: &mut Vec<u8>, effect: &LayerEffect<I::Effect>) -> Result<(), AllocError> {
         match effect {
             LayerEffect::Simple(effect) => Simple::put_effect(out, effect),
-            LayerEffect::MapGo(effect) => MapGo::<I>::put_effect(out, effect),
-            LayerEffect::MapRr(effect) => MapRr::<I>::put_effect(out, effect),
+            LayerEffect::MapGo(effect) => MapGo::<I>::put_effect(out, effect.get()),
+            LayerEffect::MapRr(effect) => MapRr::<I>::put_effect(out, effect.get()),
         }
     }
 
@@ -185,11 +187,11 @@ impl<I: Crdt> Crdt for Layer<I> {
         match kind {
             Kind::MapGo => {
                 let (effect, end) = MapGo::<I>::take_effect(alloc, kind, bytes, at)?;
-                Ok((LayerEffect::MapGo(effect), end))
+                Ok((LayerEffect::MapGo(Boxed::new(alloc, effect)?), end))
             }
             Kind::MapRr => {
                 let (effect, end) = MapRr::<I>::take_effect(alloc, kind, bytes, at)?;
-                Ok((LayerEffect::MapRr(effect), end))
+                Ok((LayerEffect::MapRr(Boxed::new(alloc, effect)?), end))
             }
             _ => {
                 let (effect, end) = Simple::take_effect(alloc, kind, bytes, at)?;

@@ -8,6 +8,7 @@ use crate::{SimpleEffect, SimpleState};
 use crdt_core::{Act, Crdt, Field, Kind, Op, Value, reads_state};
 use crdt_counters::{CounterFat, CounterPn};
 use crdt_flags::{FlagDw, FlagEw};
+use crdt_meanings::Boxed;
 use crdt_registers::{RegisterLww, RegisterMv};
 use crdt_sets::{SetAw, SetGo, SetRw};
 use field_codec::TakeError;
@@ -22,11 +23,27 @@ macro_rules! taken {
     }};
 }
 
+// As `taken`, where the effect has memory of its own.
+macro_rules! taken_apart {
+    ($type:ident, $alloc:expr, $kind:expr, $bytes:expr, $at:expr) => {{
+        let (effect, end) = $type::take_effect($alloc, $kind, $bytes, $at)?;
+        Ok((SimpleEffect::$type(Boxed::new($alloc, effect)?), end))
+    }};
+}
+
 // A copy of an effect of a kind, as one of the sum.
 macro_rules! copied {
     ($type:ident, $alloc:expr, $effect:expr) => {
         Ok(SimpleEffect::$type($type::copy_effect($alloc, $effect)?))
     };
+}
+
+// As `copied`, where the effect has memory of its own.
+macro_rules! copied_apart {
+    ($type:ident, $alloc:expr, $effect:expr) => {{
+        let effect = $type::copy_effect($alloc, $effect.get())?;
+        Ok(SimpleEffect::$type(Boxed::new($alloc, effect)?))
+    }};
 }
 
 /// The nine kinds without fields. A map, which it lacks, is taken for a `CounterPn`.
@@ -144,8 +161,8 @@ impl Crdt for Simple {
             SimpleEffect::SetRw(effect) => SetRw::stamp(effect),
             SimpleEffect::FlagEw(effect) => FlagEw::stamp(effect),
             SimpleEffect::FlagDw(effect) => FlagDw::stamp(effect),
-            SimpleEffect::RegisterLww(effect) => RegisterLww::stamp(effect),
-            SimpleEffect::RegisterMv(effect) => RegisterMv::stamp(effect),
+            SimpleEffect::RegisterLww(effect) => RegisterLww::stamp(effect.get()),
+            SimpleEffect::RegisterMv(effect) => RegisterMv::stamp(effect.get()),
         }
     }
 
@@ -219,8 +236,8 @@ impl Crdt for Simple {
             SimpleEffect::SetRw(effect) => copied!(SetRw, alloc, effect),
             SimpleEffect::FlagEw(effect) => copied!(FlagEw, alloc, effect),
             SimpleEffect::FlagDw(effect) => copied!(FlagDw, alloc, effect),
-            SimpleEffect::RegisterLww(effect) => copied!(RegisterLww, alloc, effect),
-            SimpleEffect::RegisterMv(effect) => copied!(RegisterMv, alloc, effect),
+            SimpleEffect::RegisterLww(effect) => copied_apart!(RegisterLww, alloc, effect),
+            SimpleEffect::RegisterMv(effect) => copied_apart!(RegisterMv, alloc, effect),
         }
     }
 
@@ -247,8 +264,8 @@ impl Crdt for Simple {
             SimpleEffect::SetRw(effect) => SetRw::put_effect(out, effect),
             SimpleEffect::FlagEw(effect) => FlagEw::put_effect(out, effect),
             SimpleEffect::FlagDw(effect) => FlagDw::put_effect(out, effect),
-            SimpleEffect::RegisterLww(effect) => RegisterLww::put_effect(out, effect),
-            SimpleEffect::RegisterMv(effect) => RegisterMv::put_effect(out, effect),
+            SimpleEffect::RegisterLww(effect) => RegisterLww::put_effect(out, effect.get()),
+            SimpleEffect::RegisterMv(effect) => RegisterMv::put_effect(out, effect.get()),
         }
     }
 
@@ -265,8 +282,8 @@ impl Crdt for Simple {
             Kind::SetRw => taken!(SetRw, alloc, kind, bytes, at),
             Kind::FlagEw => taken!(FlagEw, alloc, kind, bytes, at),
             Kind::FlagDw => taken!(FlagDw, alloc, kind, bytes, at),
-            Kind::RegisterLww => taken!(RegisterLww, alloc, kind, bytes, at),
-            Kind::RegisterMv => taken!(RegisterMv, alloc, kind, bytes, at),
+            Kind::RegisterLww => taken_apart!(RegisterLww, alloc, kind, bytes, at),
+            Kind::RegisterMv => taken_apart!(RegisterMv, alloc, kind, bytes, at),
             _ => taken!(CounterPn, alloc, kind, bytes, at),
         }
     }

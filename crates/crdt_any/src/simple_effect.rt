@@ -4,11 +4,13 @@ ghost use Rattle.crdt_any.specs.Simple.{counter_pn_effect, counter_fat_effect, s
 
 use crdt_counters::FatEffect;
 use crdt_flags::FlagEffect;
+use crdt_meanings::Boxed;
 use crdt_registers::{Assigned, MvEffect};
 use crdt_sets::SetEffect;
 use field_codec::{ListOf, Text};
 
-/// The effect of an update of a kind without fields.
+/// The effect of an update of a kind without fields. Those that keep a text have memory of their own: so no effect takes
+/// room for one.
 #[derive(Drop)]
 pub enum SimpleEffect {
     CounterPn(i64),
@@ -18,8 +20,8 @@ pub enum SimpleEffect {
     SetRw(SetEffect),
     FlagEw(FlagEffect),
     FlagDw(FlagEffect),
-    RegisterLww(Assigned),
-    RegisterMv(MvEffect),
+    RegisterLww(Boxed<Assigned>),
+    RegisterMv(Boxed<MvEffect>),
 }
 
 impl SimpleEffect {
@@ -98,7 +100,7 @@ impl SimpleEffect {
         ensures { option_copied result ≡ register_lww_effect self.now }
     {
         match self {
-            SimpleEffect::RegisterLww(effect) => Some(effect),
+            SimpleEffect::RegisterLww(effect) => Some(effect.get()),
             _ => None,
         }
     }
@@ -108,7 +110,7 @@ impl SimpleEffect {
         ensures { option_copied result ≡ register_mv_effect self.now }
     {
         match self {
-            SimpleEffect::RegisterMv(effect) => Some(effect),
+            SimpleEffect::RegisterMv(effect) => Some(effect.get()),
             _ => None,
         }
     }

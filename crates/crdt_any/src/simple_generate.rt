@@ -9,6 +9,7 @@ use crate::{SimpleEffect, SimpleState};
 use crdt_core::{Act, Field, Kind};
 use crdt_counters::{CounterFat, CounterPn};
 use crdt_flags::{FlagDw, FlagEw};
+use crdt_meanings::Boxed;
 use crdt_registers::{RegisterLww, RegisterMv};
 use crdt_sets::{SetAw, SetGo, SetRw};
 use std::alloc::{AllocError, Global};
@@ -18,6 +19,15 @@ macro_rules! made {
     ($type:ident, $alloc:expr, $kind:expr, $path:expr, $act:expr, $state:expr, $now:expr) => {{
         let effect = made_on::<$type>($alloc, $kind, $path, $act, $state, $now)?;
         Ok(SimpleEffect::$type(effect))
+    }};
+}
+
+// As `made`, where the effect has memory of its own.
+macro_rules! made_apart {
+    ($type:ident, $alloc:expr, $kind:expr, $path:expr, $act:expr, $state:expr, $now:expr) => {{
+        let effect = made_on::<$type>($alloc, $kind, $path, $act, $state, $now)?;
+        let boxed = Boxed::new($alloc, effect)?;
+        Ok(SimpleEffect::$type(boxed))
     }};
 }
 
@@ -46,7 +56,7 @@ pub fn simple_effect_of(
         Kind::SetRw => made!(SetRw, alloc, kind, path, act, state.set_rw(), now),
         Kind::FlagEw => made!(FlagEw, alloc, kind, path, act, state.flag_ew(), now),
         Kind::FlagDw => made!(FlagDw, alloc, kind, path, act, state.flag_dw(), now),
-        Kind::RegisterLww => made!(
+        Kind::RegisterLww => made_apart!(
             RegisterLww,
             alloc,
             kind,
@@ -55,7 +65,15 @@ pub fn simple_effect_of(
             state.register_lww(),
             now
         ),
-        Kind::RegisterMv => made!(RegisterMv, alloc, kind, path, act, state.register_mv(), now),
+        Kind::RegisterMv => made_apart!(
+            RegisterMv,
+            alloc,
+            kind,
+            path,
+            act,
+            state.register_mv(),
+            now
+        ),
         Kind::MapGo => Ok(SimpleEffect::CounterPn(0)),
         Kind::MapRr => Ok(SimpleEffect::CounterPn(0)),
     }

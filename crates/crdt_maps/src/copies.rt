@@ -1,6 +1,6 @@
 ghost use Rattle.std.specs.Prelude.{◌≡◌, IfOk};
 
-use crate::{Boxed, Fields, MapEffect};
+use crate::{Fields, MapEffect};
 use crdt_core::{Crdt, Field};
 use field_codec::ListOf;
 use std::alloc::{AllocError, Global};
@@ -38,8 +38,7 @@ pub fn copy_effect<I: Crdt>(
     match effect {
         MapEffect::At(field, inner) => {
             let name = field.copy(alloc)?;
-            let copied = I::copy_effect(alloc, inner.get())?;
-            Ok(MapEffect::At(name, Boxed::new(alloc, copied)?))
+            Ok(MapEffect::At(name, I::copy_effect(alloc, inner)?))
         }
         MapEffect::Resets(resets) => {
             Ok(MapEffect::Resets(copy_resets::<I>(alloc, resets.as_slice())?))

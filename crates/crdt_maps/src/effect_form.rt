@@ -4,9 +4,9 @@ ghost use Rattle.field_codec.specs.Reading.{Gives, list_at};
 ghost use Rattle.crdt_core.specs.declared.kind.Kind.TheVariants.{MapRr};
 ghost use Rattle.crdt_maps.specs.EffectForm.{may_nest, entry, entry_below, can_put_reset, is_reset_spelled, reset_at, map_can_put, map_keeps, map_is_spelled, map_spelling, map_at, map_form};
 
+use crate::MapEffect;
 use crate::entry_form::{ResetForm, put_entry, take_entry};
 use crate::values::kind_of;
-use crate::{Boxed, MapEffect};
 use crdt_core::{Crdt, Field, take_small};
 use field_codec::{Form, ListOf, TakeError, put_list, put_u8, take_list};
 use std::alloc::{AllocError, Global};
@@ -44,7 +44,7 @@ impl<I: Crdt> Form for MapForm<I> {
         match value {
             MapEffect::At(field, effect) => {
                 put_u8(out, AT)?;
-                put_entry::<I>(out, field, effect.get())
+                put_entry::<I>(out, field, effect)
             }
             MapEffect::Resets(resets) => put_resets::<I>(out, resets.as_slice()),
         }
@@ -103,7 +103,7 @@ fn take_map<I: Crdt>(
     if mark == AT {
         let (entry, end) = take_entry::<I>(alloc, kind_of(drops), bytes, rest_at)?;
         let (field, effect) = entry;
-        return Ok((MapEffect::At(field, Boxed::new(alloc, effect)?), end));
+        return Ok((MapEffect::At(field, effect), end));
     }
     let (resets, end) = take_resets::<I>(alloc, bytes, rest_at)?;
     Ok((MapEffect::Resets(resets), end))

@@ -7,7 +7,7 @@ ghost use Rattle.crdt_core.specs.Fits.{fits};
 ghost use Rattle.crdt_maps.specs.Ready.{is_ready_at, is_reset_ready, parts_ready};
 ghost use Rattle.crdt_meanings.specs.Maps.{at, is_undone, resets_of, reset_by, map_made, map_too_deep, map_holds};
 
-use crate::{Boxed, Fields, MapEffect};
+use crate::{Fields, MapEffect};
 use crdt_core::{Act, Crdt, Field, Kind, nests_in};
 use field_codec::ListOf;
 use std::alloc::{AllocError, Global};
@@ -43,7 +43,7 @@ pub fn effect_of<I: Crdt>(
     match path.split_first() {
         Some((field, rest)) => {
             let inner = field_effect::<I>(alloc, fields, field, rest, act, now)?;
-            Ok(MapEffect::At(field.copy(alloc)?, Boxed::new(alloc, inner)?))
+            Ok(MapEffect::At(field.copy(alloc)?, inner))
         }
         None => Ok(MapEffect::Resets(own_effect::<I>(alloc, act, fields, now)?)),
     }

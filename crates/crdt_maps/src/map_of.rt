@@ -114,7 +114,7 @@ impl<const DROPS: bool, I: Crdt> Crdt for MapOf<DROPS, I> {
 
     fn stamp(effect: &MapEffect<I::Effect>) -> Option<u64> {
         match effect {
-            MapEffect::At(_, inner) => I::stamp(inner.get()),
+            MapEffect::At(_, inner) => I::stamp(inner),
             MapEffect::Resets(_) => None,
         }
     }

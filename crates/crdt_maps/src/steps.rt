@@ -21,7 +21,7 @@ pub fn apply_effect<I: Crdt>(
     ensures { OnOk result (fields.new ≡ map_step I.has I.initial I.applied fields.old dot effect.now) }
 {
     match effect {
-        MapEffect::At(field, inner) => apply_at::<I>(alloc, fields, dot, field, inner.get()),
+        MapEffect::At(field, inner) => apply_at::<I>(alloc, fields, dot, field, inner),
         MapEffect::Resets(resets) => apply_each::<I>(alloc, fields, dot, resets.as_slice()),
     }
 }

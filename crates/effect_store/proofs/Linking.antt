@@ -12,7 +12,7 @@ use Rattle.effect_store.specs.declared.links.Links.{Links}
 use Rattle.effect_store.specs.Arranged.{arranged, Each}
 use Rattle.effect_store.specs.Chains.{none, Points, after, IsApart, chain}
 use Rattle.effect_store.specs.Spots.{Spot, tag_of_object, tag_of, before, later, earlier, spots, spots_to}
-use Rattle.effect_store.specs.Links.{spot, or_none, IsEntry, IsLinked, AreLinks, Roomy}
+use Rattle.effect_store.specs.Links.{spot, or_none, capped, IsEntry, IsLinked, AreLinks, Roomy}
 use Rattle.effect_store.specs.Hooks.{Hooked}
 use Rattle.effect_store.proofs.Arranging.{get_each, get_in, get_push, get_pushed, get_push_cases}
 use Rattle.effect_store.proofs.Chaining.{IsNear, known, past, chain_grows}
@@ -63,16 +63,16 @@ module _ {E : Type 0} (xs : List (Spot E)) (parts : List (Part E)) (entries : Li
       let r = entry_spot_at k e there.0 g there.1 in
       (there.0, there.1, r.0, r.1)
 
-  total_same : (a e : Entry) (x p : Part E) → a ≡ e → slice_get parts a.part ≡ Some x → a.total ≡ sum x.c → slice_get parts e.part ≡ Some p → e.total ≡ sum p.c
+  total_same : (a e : Entry) (x p : Part E) → a ≡ e → slice_get parts a.part ≡ Some x → a.total ≡ capped (sum x.c) → slice_get parts e.part ≡ Some p → e.total ≡ capped (sum p.c)
   total_same a e x p h f t g =
-      let P : Entry → Type 0 = λ z. (slice_get parts z.part ≡ Some x) × (z.total ≡ sum x.c) in
+      let P : Entry → Type 0 = λ z. (slice_get parts z.part ≡ Some x) × (z.total ≡ capped (sum x.c)) in
       let m = subst P h (f, t) in
       let there : slice_get parts e.part ≡ Some x = m.0 in
       let same : x ≡ p = cc in
-      m.1 ∙ ap (λ (z : Part E). sum z.c) same
+      m.1 ∙ ap (λ (z : Part E). capped (sum z.c)) same
 
-  -- an entry has the sum of its part's commit vector
-  pub entry_total : (k : ℕ) (e : Entry) → slice_get entries k ≡ Some e → (p : Part E) → slice_get parts e.part ≡ Some p → e.total ≡ sum p.c
+  -- an entry has the sum of its part's commit vector, as far as 64 bits go
+  pub entry_total : (k : ℕ) (e : Entry) → slice_get entries k ≡ Some e → (p : Part E) → slice_get parts e.part ≡ Some p → e.total ≡ capped (sum p.c)
   entry_total k e g p f =
       let v : k < length entries = get_in entries k e g in
       let q = is_there xs k (omega (arith, s.many)) in
@@ -144,7 +144,7 @@ module _ {E : Type 0} where
       → IsLinked (spots_to parts place n) parts entries next back first last
       → IsApart earlier parts → length entries ≤ none → own ≡ length entries
       → slice_get parts place ≡ Some p → slice_get p.updates n ≡ Some u → t ≡ tag_of_object u.object
-      → m ≡ sum p.c → entries' ≡ entries ++ record { part = place; at = n; total = m } ∷ []
+      → m ≡ capped (sum p.c) → entries' ≡ entries ++ record { part = place; at = n; total = m } ∷ []
       → Points (spots_to parts place n) a (filter (after tag_of later (spot p n u)) (arranged later (spots_to parts place n)))
       → links ≡ next → (a < length links → c ≡ get_or links a none) → (length links ≤ a → c ≡ or_none (first t))
       → Hooked next next' first first' a t own c → Hooked back back' last last' c t own a

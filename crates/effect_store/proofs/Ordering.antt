@@ -1,9 +1,9 @@
 -- Fold order is an order: of parts by their transactions, and of updates by their parts and places.
-use Rattle.std.proofs.Common.{◌≡◌, ◌≢◌, ℕ, true, false, ◌||◌, refl, sym, ap, ◌∙◌}
+use Rattle.std.proofs.Common.{◌≡◌, ◌≢◌, ◌<◌, ℕ, arith, true, false, ◌||◌, refl, sym, ap, ◌∙◌}
 use Rattle.std.specs.Ordering.{nat_cmp, ordering_then, ordering_reverse}
 use Rattle.std.specs.declared.cmp.Ordering.{Ordering}
 use Rattle.std.specs.declared.cmp.Ordering.TheVariants.{Less, Equal, Greater}
-use Rattle.std.specs.Cmp.{IsTotalOrder}
+use Rattle.std.specs.Cmp.{IsTotalOrder, ranked, nat_cmp_is}
 use Rattle.std.proofs.lemmas.Cmp.{nat_cmp_total, on_total, then_total, tied_itself}
 use Rattle.std.proofs.lemmas.Map.Lookups.{exact_unsigned}
 use Rattle.site_vector.specs.Vector.{sum}
@@ -11,6 +11,7 @@ use Rattle.site_vector.specs.Order.{tx_cmp, tx_cmp_total, tx_cmp_exact}
 use Rattle.crdt_core.specs.declared.record.Part.{Part}
 use Rattle.crdt_core.specs.Orders.{is_less, fold_cmp}
 use Rattle.effect_store.specs.Arranged.{IsOrder}
+use Rattle.effect_store.specs.Links.{capped}
 use Rattle.effect_store.specs.Spots.{Spot, earlier, spot_cmp, before, later}
 
 is_less-true : (r : Ordering) → is_less r ≡ true → r ≡ Less
@@ -85,16 +86,26 @@ module _ {E : Type 0} where
   pub before_by_places : (x y : Spot E) → x.part ≡ y.part → nat_cmp x.at y.at ≡ Less → before x y ≡ true
   before_by_places x y e h = equal_then (fold_cmp x.part y.part) _ (ap (λ p. fold_cmp x.part p) (sym e) ∙ tied_itself fold_cmp_total x.part) h
 
+below_cap : (a b : ℕ) → nat_cmp (capped a) (capped b) ≡ Less → nat_cmp a b ≡ Less
+below_cap a b h =
+    let l : capped a < capped b = ranked (capped a) (capped b) Less (sym h) in
+    let n : a < b = omega (arith, l) in
+    sym (nat_cmp_is a b Less n)
+
+above_cap : (a b : ℕ) → nat_cmp (capped a) (capped b) ≡ Greater → nat_cmp a b ≡ Greater
+above_cap a b h =
+    let l : capped b < capped a = ranked (capped a) (capped b) Greater (sym h) in
+    let n : b < a = omega (arith, l) in
+    sym (nat_cmp_is a b Greater n)
+
 module _ {E : Type 0} where
-  by_sum : (q p : Part E) (t s n m : ℕ) (r : Ordering) → t ≡ sum q.c → s ≡ sum p.c → nat_cmp t s ≡ r → is_less (ordering_then (fold_cmp q p) (nat_cmp n m)) ≡ is_less (ordering_then (ordering_then r (tx_cmp q.tx p.tx)) (nat_cmp n m))
-  by_sum q p t s n m r e f h =
-      let same : nat_cmp (sum q.c) (sum p.c) ≡ r = rw (← e, ← f) h in
-      ap (λ o. is_less (ordering_then (ordering_then o (tx_cmp q.tx p.tx)) (nat_cmp n m))) same
+  by_sum : (q p : Part E) (n m : ℕ) (r : Ordering) → nat_cmp (sum q.c) (sum p.c) ≡ r → is_less (ordering_then (fold_cmp q p) (nat_cmp n m)) ≡ is_less (ordering_then (ordering_then r (tx_cmp q.tx p.tx)) (nat_cmp n m))
+  by_sum q p n m r h = ap (λ o. is_less (ordering_then (ordering_then o (tx_cmp q.tx p.tx)) (nat_cmp n m))) h
 
   -- a part with the lesser sum comes before, whatever the places
-  pub less_sum : (q p : Part E) (t s n m : ℕ) → t ≡ sum q.c → s ≡ sum p.c → nat_cmp t s ≡ Less → true ≡ is_less (ordering_then (fold_cmp q p) (nat_cmp n m))
-  less_sum q p t s n m e f h = sym (by_sum q p t s n m Less e f h)
+  pub less_sum : (q p : Part E) (t s n m : ℕ) → t ≡ capped (sum q.c) → s ≡ capped (sum p.c) → nat_cmp t s ≡ Less → true ≡ is_less (ordering_then (fold_cmp q p) (nat_cmp n m))
+  less_sum q p t s n m e f h = sym (by_sum q p n m Less (below_cap (sum q.c) (sum p.c) (rw (← e, ← f) h)))
 
   -- and one with the greater sum doesn't
-  pub greater_sum : (q p : Part E) (t s n m : ℕ) → t ≡ sum q.c → s ≡ sum p.c → nat_cmp t s ≡ Greater → false ≡ is_less (ordering_then (fold_cmp q p) (nat_cmp n m))
-  greater_sum q p t s n m e f h = sym (by_sum q p t s n m Greater e f h)
+  pub greater_sum : (q p : Part E) (t s n m : ℕ) → t ≡ capped (sum q.c) → s ≡ capped (sum p.c) → nat_cmp t s ≡ Greater → false ≡ is_less (ordering_then (fold_cmp q p) (nat_cmp n m))
+  greater_sum q p t s n m e f h = sym (by_sum q p n m Greater (above_cap (sum q.c) (sum p.c) (rw (← e, ← f) h)))

@@ -1,5 +1,5 @@
 -- What the links of a store tell: of each update the next of its tag in fold order, and the one before.
-use Rattle.std.specs.Prelude.{◌≡◌, ℕ, ◌+◌, ◌≤◌, List, [], length, Option, Some, None, nat_eq, vec_len, vec_capacity}
+use Rattle.std.specs.Prelude.{◌≡◌, ℕ, ◌+◌, ◌≤◌, min, List, [], length, Option, Some, None, nat_eq, vec_len, vec_capacity}
 use Rattle.std.specs.List.{slice_get}
 use Rattle.std.specs.HashMap.{get, spare}
 use Rattle.site_vector.specs.Vector.{sum}
@@ -14,18 +14,22 @@ abbrev pub or_none : Option ℕ → ℕ
 or_none None = none
 or_none (Some k) = k
 
+-- a sum as far as 64 bits go
+abbrev pub capped : ℕ → ℕ
+capped n = min n 18446744073709551615
+
 module _ {E : Type 0} where
   abbrev pub spot : Part E → ℕ → Upd E → Spot E
   spot p n u = record { part = p; at = n; update = u }
 
-  -- the entry at a place names the update, and has the sum of its part's commit vector
+  -- the entry at a place names the update, and has the sum of its part's commit vector as far as 64 bits go
   pub record IsEntry (parts : List (Part E)) (entries : List Entry) (k : ℕ) (x : Spot E) : Type 0 where
     pub entry : Entry
     pub there : slice_get entries k ≡ Some entry
     pub part : slice_get parts entry.part ≡ Some x.part
     pub at : entry.at ≡ x.at
     pub update : slice_get x.part.updates x.at ≡ Some x.update
-    pub total : entry.total ≡ sum x.part.c
+    pub total : entry.total ≡ capped (sum x.part.c)
 
   -- the updates xs have entries, and their links tell of each the next and the one before
   pub record IsLinked (xs : List (Spot E)) (parts : List (Part E)) (entries : List Entry) (next back : List ℕ) (first last : ℕ → Option ℕ) : Type 0 where

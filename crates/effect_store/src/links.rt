@@ -7,7 +7,7 @@ ghost use Rattle.crdt_core.specs.Orders.{is_less, fold_cmp};
 ghost use Rattle.effect_store.specs.Arranged.{arranged};
 ghost use Rattle.effect_store.specs.Chains.{none, Points, after, IsApart};
 ghost use Rattle.effect_store.specs.Spots.{tag_of_object, tag_of, later, spots_to, spots, earlier};
-ghost use Rattle.effect_store.specs.Links.{AreLinks, AreNone, AreSame, Roomy, spot};
+ghost use Rattle.effect_store.specs.Links.{AreLinks, AreNone, AreSame, Roomy, capped, spot};
 
 use crate::hooks::{behind, head, hook};
 use crate::tags::tag_of;
@@ -20,12 +20,12 @@ use std::collections::HashMap;
 pub(crate) const NONE: u32 = u32::MAX;
 
 /// Where an update stands: the place of its part, and its own place in that part's list. Beside it the sum of the part's
-/// commit vector, by which a walk tells most updates apart without a look at their parts.
+/// commit vector as far as 64 bits go, by which a walk tells most updates apart without a look at their parts.
 #[derive(Clone, Copy, Debug)]
 pub(crate) struct Entry {
     pub(crate) part: u32,
     pub(crate) at: u32,
-    pub(crate) total: u128,
+    pub(crate) total: u64,
 }
 
 /// The updates in the order in which they came, and of each the next of its tag in fold order and the one before.
@@ -75,20 +75,36 @@ impl Links {
     }
 }
 
-/// Fold order, where the sum of the second part's vector is known.
-pub(crate) fn fold_order<E>(p: &Part<E>, q: &Part<E>, total: u128) -> Ordering
-    requires { total ≡ sum q.now.c }
+/// A sum as far as 64 bits go.
+fn capped(total: u128) -> u64
+    ensures { result ≡ capped total }
+{
+    if total < u64::MAX as u128 {
+        total as u64
+    } else {
+        u64::MAX
+    }
+}
+
+/// The sum of a part's vector, as far as 64 bits go.
+pub(crate) fn total_of<E>(part: &Part<E>) -> u64
+    ensures { result ≡ capped (sum part.now.c) }
+{
+    capped(part.c.sum())
+}
+
+/// Fold order.
+pub(crate) fn fold_order<E>(p: &Part<E>, q: &Part<E>) -> Ordering
     ensures { result ≡ fold_cmp p.now q.now }
 {
-    p.c.sum().cmp(&total).then(p.tx.cmp(&q.tx))
+    p.c.sum().cmp(&q.c.sum()).then(p.tx.cmp(&q.tx))
 }
 
 /// Whether the update at a place of a part comes before that at a place of another.
-fn comes_before<E>(p: &Part<E>, i: u32, q: &Part<E>, total: u128, j: u32) -> bool
-    requires { total ≡ sum q.now.c }
+fn comes_before<E>(p: &Part<E>, i: u32, q: &Part<E>, j: u32) -> bool
     ensures { result ≡ is_less (ordering_then (fold_cmp p.now q.now) (nat_cmp i j)) }
 {
-    match fold_order(p, q, total).then(i.cmp(&j)) {
+    match fold_order(p, q).then(i.cmp(&j)) {
         Ordering::Less => true,
         _ => false,
     }
@@ -101,18 +117,18 @@ pub(crate) fn entry_comes_before<E>(
     parts: &[Part<E>],
     entry: Entry,
     part: &Part<E>,
-    total: u128,
+    total: u64,
     at: u32,
 ) -> bool
     requires there { entry.part < length parts.now }
-    requires known { (q : Part E) → slice_get parts.now entry.part ≡ Some q → entry.total ≡ sum q.c }
-    requires total { total ≡ sum part.now.c }
+    requires known { (q : Part E) → slice_get parts.now entry.part ≡ Some q → entry.total ≡ capped (sum q.c) }
+    requires total { total ≡ capped (sum part.now.c) }
     ensures { (q : Part E) → slice_get parts.now entry.part ≡ Some q → result ≡ is_less (ordering_then (fold_cmp q part.now) (nat_cmp entry.at at)) }
 {
     match entry.total.cmp(&total) {
         Ordering::Less => true,
         Ordering::Greater => false,
-        Ordering::Equal => comes_before(&parts[entry.part as usize], entry.at, part, total, at),
+        Ordering::Equal => comes_before(&parts[entry.part as usize], entry.at, part, at),
     }
 }
 
@@ -122,7 +138,7 @@ fn last_before<E>(
     links: &Links,
     place: u32,
     part: &Part<E>,
-    total: u128,
+    total: u64,
     at: u32,
     update: &Upd<E>,
     tag: u64,
@@ -130,7 +146,7 @@ fn last_before<E>(
     requires linked { AreLinks (spots_to parts.now place at) parts.now links.now }
     requires small { vec_len links.now.entries ≤ none }
     requires tagged { tag ≡ tag_of_object update.now.object }
-    requires total { total ≡ sum part.now.c }
+    requires total { total ≡ capped (sum part.now.c) }
     ensures { Points (spots_to parts.now place at) result (filter (after tag_of later (spot part.now at update.now)) (arranged later (spots_to parts.now place at))) }
 {
     let mut k = head(&links.last, tag);
@@ -156,7 +172,7 @@ fn link_update<E>(parts: &[Part<E>], links: &mut Links, place: u32, at: u32)
     let update = &part.updates.as_slice()[at as usize];
     let tag = tag_of(&update.object);
     let own = links.entries.len() as u32;
-    let total = part.c.sum();
+    let total = total_of(part);
     let prior = last_before(parts, links, place, part, total, at, update, tag);
     let then = behind(links.next.as_slice(), &links.first, prior, tag);
     hook(&mut links.next, &mut links.first, prior, tag, own, then);

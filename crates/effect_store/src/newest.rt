@@ -15,7 +15,7 @@ ghost use Rattle.effect_store.specs.Newest.{own, AreNewest, IsApplying, IsFront}
 
 use crate::fold::is_shown;
 use crate::hooks::head;
-use crate::links::{Links, NONE, entry_comes_before};
+use crate::links::{Links, NONE, entry_comes_before, total_of};
 use crate::tags::tag_of;
 use crate::updates::update_at;
 use crdt_core::{Crdt, Kind, ObjectId, Part, Upd};
@@ -405,7 +405,7 @@ fn forget_update<E, S: Drop>(
     let Some(end) = end_of(newest, tag) else {
         return;
     };
-    if entry_comes_before(parts, links.entries[end as usize], part, part.c.sum(), at) {
+    if entry_comes_before(parts, links.entries[end as usize], part, total_of(part), at) {
         return;
     }
     let _old = newest.remove(&tag);

@@ -54,9 +54,12 @@ after_quote w h quoted = IsCharBoundary-after_ascii w 0 h (some_byte w quoted) (
 pub before_quote : (w : List ℕ) → is_quoted w ≡ true → IsCharBoundary w (length w - 1)
 before_quote w quoted = IsCharBoundary-before_ascii w (length w - 1) (omega (arith, some_byte w quoted)) (omega (arith, (quotes w quoted).1))
 
--- behind the first byte, or the third
+-- behind the first byte, the third or the seventh
 pub after_first : (w : List ℕ) → IsUtf8 w → get_or w 0 0 < 128 → 1 < length w → 128 ≤ get_or w 1 0 → 192 ≤ get_or w 1 0
 after_first w h ascii more high = lead_after_ascii w 0 h ascii more high
 
 pub after_third : (w : List ℕ) → IsUtf8 w → get_or w 2 0 < 128 → 3 < length w → 128 ≤ get_or w 3 0 → 192 ≤ get_or w 3 0
 after_third w h ascii more high = lead_after_ascii w 2 h ascii more high
+
+pub after_seventh : (w : List ℕ) → IsUtf8 w → get_or w 6 0 < 128 → 7 < length w → 128 ≤ get_or w 7 0 → 192 ≤ get_or w 7 0
+after_seventh w h ascii more high = lead_after_ascii w 6 h ascii more high

@@ -4,7 +4,9 @@ use Rattle.std.specs.Prelude.{codes, option_map, option_and_then}
 use Rattle.std.specs.Str.{bytes_eq}
 use Rattle.std.proofs.lemmas.Bool.{eqb-true}
 use Rattle.std.proofs.lemmas.Option.{none-some}
-use Rattle.script_text.specs.Front.{word_end, spaces, IsTrimmed, words_front, words-space, after_in, after_at, after_space}
+use Rattle.script_text.specs.Front.{word_end, spaces, IsTrimmed, words_front, words-space, after_in, after_at, after_space, after_update}
+use Rattle.script_text.specs.Grammar.{update}
+use Rattle.script_text.specs.Line.{command_as, line_as}
 use Rattle.script_text.specs.Objects.{path, bucket, field}
 use Rattle.script_text.specs.Split.{outside, after, words, space}
 use Rattle.script_text.specs.Texts.{text}
@@ -73,6 +75,25 @@ in_first (a ∷ b ∷ c ∷ cs) r h =
 
 pub in_front : (line bytes r : List ℕ) → words bytes ≡ words line → after_in bytes ≡ Some r → words line ≡ codes "in" ∷ words r
 in_front line bytes r same h = sym same ∙ in_first bytes r h
+
+-- a line that begins so is an update
+pub updates : (bytes r : List ℕ) → after_update bytes ≡ Some r → line_as (words bytes) ≡ command_as (update (words r))
+updates [] r h = absurd (none-some r h)
+updates (a ∷ []) r h = absurd (none-some r h)
+updates (a ∷ b ∷ []) r h = absurd (none-some r h)
+updates (a ∷ b ∷ c ∷ []) r h = absurd (none-some r h)
+updates (a ∷ b ∷ c ∷ d ∷ []) r h = absurd (none-some r h)
+updates (a ∷ b ∷ c ∷ d ∷ e ∷ []) r h = absurd (none-some r h)
+updates (a ∷ b ∷ c ∷ d ∷ e ∷ f ∷ []) r h = absurd (none-some r h)
+updates (a ∷ b ∷ c ∷ d ∷ e ∷ f ∷ g ∷ cs) r h =
+    let p = some_if (a == 117) _ r h in
+    let q = some_if (b == 112) _ r p.1 in
+    let s = some_if (c == 100) _ r q.1 in
+    let t = some_if (d == 97) _ r s.1 in
+    let u = some_if (e == 116) _ r t.1 in
+    let v = some_if (f == 101) _ r u.1 in
+    let w = some_if (g == space) (Some cs) r v.1 in
+    λ i. line_as (words (eqb-true a 117 p.0 i ∷ eqb-true b 112 q.0 i ∷ eqb-true c 100 s.0 i ∷ eqb-true d 97 t.0 i ∷ eqb-true e 116 u.0 i ∷ eqb-true f 101 v.0 i ∷ eqb-true g 32 w.0 i ∷ ap held w.1 i))
 
 at_first : (bytes r : List ℕ) → after_at bytes ≡ Some r → bytes ≡ 64 ∷ r
 at_first [] r h = absurd (none-some r h)

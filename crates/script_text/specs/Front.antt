@@ -30,6 +30,13 @@ abbrev pub after_in : List ℕ → Option (List ℕ)
 after_in (a ∷ b ∷ c ∷ cs) = if a == 105 then (if b == 110 then (if c == space then Some cs else None) else None) else None
 after_in bytes = None
 
+-- what follows `update` and the space after it, where they stand at the front
+abbrev pub after_update : List ℕ → Option (List ℕ)
+after_update (a ∷ b ∷ c ∷ d ∷ e ∷ f ∷ g ∷ cs) =
+    if a == 117 then (if b == 112 then (if c == 100 then (if d == 97 then (if e == 116 then (if f == 101 then (if g == space then Some cs
+    else None) else None) else None) else None) else None) else None) else None
+after_update bytes = None
+
 -- what follows the one space at the front, where no other does
 abbrev pub after_space : List ℕ → Option (List ℕ)
 after_space (a ∷ b ∷ cs) = if a == space then (if b == space then None else Some (b ∷ cs)) else None

@@ -361,7 +361,7 @@ fn update_into(
 
 /// Reads an update over the one of the line before, where that was one: texts that are made anew are moved.
 #[inline(never)]
-fn update(alloc: Global, line: &str, parsed: &mut Parsed) -> Result<(), ParseError>
+pub fn update(alloc: Global, line: &str, parsed: &mut Parsed) -> Result<(), ParseError>
     ensures ok { OnOk result (Some parsed.new ≡ command_as (grammar.update (words line.now))) }
     ensures bad { result ≡ Err ParseError.Bad → grammar.update (words line.now) ≡ None }
 {

@@ -5,7 +5,8 @@ ghost use Rattle.std.specs.Prelude.{◌≡◌, List, ℕ, Err, IfNone, IfSome, O
 ghost use Rattle.std.specs.List.{list_all};
 ghost use Rattle.std.specs.Str.{IsUtf8};
 ghost use Rattle.script_text.specs.declared.Parsed.{Parsed};
-ghost use Rattle.script_text.specs.Line.{IsLine, Reads, line_as};
+ghost use Rattle.script_text.specs.Grammar as grammar;
+ghost use Rattle.script_text.specs.Line.{IsLine, Reads, command_as, line_as};
 ghost use Rattle.script_text.specs.Split.{words};
 ghost use Rattle.script_text.specs.Ascii.{is_ascii_byte};
 
@@ -18,7 +19,7 @@ mod place;
 mod split;
 mod text;
 
-use commands::command;
+use commands::{command, update};
 use split::next;
 use std::alloc::{AllocError, Global};
 use thiserror::Error;
@@ -100,11 +101,25 @@ fn put_nothing(parsed: &mut Parsed)
     *parsed = Parsed::Nothing;
 }
 
+/// What follows `update` and the space after it, where they stand at the front: most lines begin so.
+#[tactic(auto, using(crate::proofs::Cuts::after_seventh, crate::proofs::Fronts::updates))]
+fn after_update(line: &str) -> Option<&str>
+    ensures { IfSome result (λ r. line_as (words line.now) ≡ command_as (grammar.update (words r.now))) }
+{
+    match line.as_bytes() {
+        [b'u', b'p', b'd', b'a', b't', b'e', b' ', ..] => Some(&line[7..]),
+        _ => None,
+    }
+}
+
 /// Reads the words of the line.
 fn parse_words(alloc: Global, line: &str, parsed: &mut Parsed) -> Result<(), ParseError>
     ensures ok { OnOk result (Some parsed.new ≡ line_as (words line.now)) }
     ensures bad { result ≡ Err ParseError.Bad → line_as (words line.now) ≡ None }
 {
+    if let Some(rest) = after_update(line) {
+        return update(alloc, rest, parsed);
+    }
     let Some((name, rest)) = next(line) else {
         put_nothing(parsed);
         return Ok(());

@@ -1,9 +1,7 @@
-use Rattle.std.proofs.Common.{◌≡◌, ◌<◌, ◌≤◌, length, ap, sym, ◌∙◌, arith, get_or}
+use Rattle.std.proofs.Common.{◌≡◌, ◌<◌, ◌≤◌, length, ap, arith}
 use Rattle.std.proofs.lemmas.Option.{slice_get-get_or}
-use Rattle.crdt_core.specs.declared.record.Upd.{Upd}
-use Rattle.effect_store.specs.Spots.{tag_of_object}
 use Rattle.effect_store.proofs.Linking.{is_there}
-use Rattle.effect_store.proofs.Keeping.{forgetting_next, forgotten, read_of, tag_read}
+use Rattle.effect_store.proofs.Keeping.{forgetting_next, forgotten, tag_read}
 use Rattle.effect_store.proofs.newest.forget.Goals as goal
 
 pub forget_update-requires-clause-within : goal.forget_update-requires-clause-within
