@@ -9,7 +9,8 @@ PROFILE is one of
     reads    one partition: twenty objects with a history of a hundred updates each, then twenty reads a transaction
     kinds    one partition and objects of all kinds, as bench/play/generate.py
     sites    eight sites of two partitions that send to one another, as bench/sites/generate.py
-    crash    three sites whose partitions crash and restart, as bench/crashes/generate.py
+    crash    three sites whose partitions crash and restart in each third round, as bench/crashes/generate.py
+    once     the same, but each partition crashes and restarts once, after all rounds
 
 LINES is 100,000. Nothing is refused, and nothing waits."""
 import os
@@ -18,6 +19,7 @@ import sys
 
 HERE = os.path.dirname(os.path.abspath(__file__))
 OTHERS = {"kinds": "../play/generate.py", "sites": "../sites/generate.py", "crash": "../crashes/generate.py"}
+OTHERS["once"] = OTHERS["crash"]
 KINDS = ["counter_fat", "set_go", "set_aw", "set_rw", "register_lww", "register_mv", "map_go", "map_rr"]
 
 
@@ -65,7 +67,8 @@ def main():
     profile = sys.argv[1]
     lines = int(sys.argv[2]) if len(sys.argv) > 2 else 100_000
     if profile in OTHERS:
-        sys.exit(subprocess.call([sys.executable, os.path.join(HERE, OTHERS[profile]), str(lines)]))
+        words = [str(lines)] + (["once"] if profile == "once" else [])
+        sys.exit(subprocess.call([sys.executable, os.path.join(HERE, OTHERS[profile])] + words))
     made = {"counter": counter, "reads": reads}[profile](lines)
     sys.stdout.write("".join(line + "\n" for line in made))
 

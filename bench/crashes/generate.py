@@ -1,12 +1,13 @@
 #!/usr/bin/env python3
 """Writes a script to standard output: three sites of four partitions, of which one crashes in each third round.
 
-    python3 bench/crashes/generate.py [LINES]
+    python3 bench/crashes/generate.py [LINES [once]]
 
 In a round one session of each site moves a counter of each partition and commits over all four; then each partition
 sends to its twins, and all is delivered, reported and heard. In each third round a partition crashes before that and
 restarts, and the round after a fuse stops the disk of another while it votes. Clocks are ahead of each snapshot, so
-that nothing waits. LINES is 100,000; the script ends with the last round that fits."""
+that nothing waits. LINES is 100,000; the script ends with the last round that fits. With `once` no partition crashes
+and no disk fails in a round, and after the last one each partition crashes and restarts once."""
 import os
 import sys
 
@@ -14,6 +15,7 @@ sys.path.insert(0, os.path.join(os.path.dirname(os.path.abspath(__file__)), ".."
 from placing import place
 
 LINES = int(sys.argv[1]) if len(sys.argv) > 1 else 100_000
+ONCE = sys.argv[2:] == ["once"]
 SITES, PARTS = 3, 4
 OBJECTS = 200
 # The clock of a partition that restarts stands at the end of its lease, at most so far ahead.
@@ -84,10 +86,14 @@ def main():
         for site in range(1, SITES + 1):
             lines += transaction(site, time, chosen)
             time += 10
-        lines += faults(number, time, chosen)
+        if not ONCE:
+            lines += faults(number, time, chosen)
         time += LEASE + 10 if number % 3 != 1 else 10
         lines += streams(counts)
         number += 1
+    if ONCE:
+        places = [(site, part) for site in range(1, SITES + 1) for part in range(1, PARTS + 1)]
+        out += ["%s %d.%d" % (word, site, part) for site, part in places for word in ("crash", "restart")]
     sys.stdout.write("\n".join(out) + "\n")
 
 

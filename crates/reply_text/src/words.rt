@@ -3,15 +3,16 @@
 ghost use Rattle.std.specs.Prelude.{◌≡◌, ◌≤◌, ◌+◌, ◌++◌, if◌then◌else◌, [], ◌∷◌, true, codes, decimal, length, vec_len, vec_capacity, IfOk, OnOk, OnErr};
 ghost use Rattle.std.specs.List.{join_by, list_all};
 ghost use Rattle.script_words.specs.Bare.{is_bare, is_bare_byte};
+ghost use Rattle.script_words.specs.Kinds.{kind_name};
 ghost use Rattle.site_vector.specs.Printed.{part_text, tx_text};
 ghost use Rattle.reply_text.specs.Places.{vector_text, word_text, object_text, bucket_text, interval_text};
 ghost use Rattle.reply_text.specs.Words.{text_of_word, words_text, Begins};
 
-use crate::bytes::{put, put_byte, put_few, put_if, put_number};
+use crate::bytes::{put, put_byte, put_if, put_number};
 use crate::quoted::put_quoted;
-use crdt_core::ObjectId;
+use crdt_core::{Kind, ObjectId};
 use field_codec::Text;
-use script_words::{is_bare_byte, kind_name};
+use script_words::is_bare_byte;
 use site_vector::{PartId, TxId, VTime};
 use std::alloc::{AllocError, Global};
 
@@ -145,6 +146,26 @@ fn put_bucket(alloc: Global, out: &mut Vec<u8>, bucket: &Text) -> Result<(), All
     put_text(alloc, out, bucket)
 }
 
+/// Adds the name of the kind: bytes whose number is known are written at once, others one after another.
+fn put_kind(out: &mut Vec<u8>, kind: Kind) -> Result<(), AllocError>
+    ensures ok { OnOk result (out.new.items ≡ out.old.items ++ kind_name kind) }
+    ensures err { OnErr result (Begins out.old.items out.new.items) }
+{
+    match kind {
+        Kind::CounterPn => put(out, b"counter_pn"),
+        Kind::CounterFat => put(out, b"counter_fat"),
+        Kind::SetGo => put(out, b"set_go"),
+        Kind::SetAw => put(out, b"set_aw"),
+        Kind::SetRw => put(out, b"set_rw"),
+        Kind::FlagEw => put(out, b"flag_ew"),
+        Kind::FlagDw => put(out, b"flag_dw"),
+        Kind::RegisterLww => put(out, b"register_lww"),
+        Kind::RegisterMv => put(out, b"register_mv"),
+        Kind::MapGo => put(out, b"map_go"),
+        Kind::MapRr => put(out, b"map_rr"),
+    }
+}
+
 /// Adds the key, the kind and the bucket.
 pub fn put_object(alloc: Global, out: &mut Vec<u8>, object: &ObjectId) -> Result<(), AllocError>
     ensures ok { OnOk result (out.new.items ≡ out.old.items ++ object_text object.now) }
@@ -152,7 +173,7 @@ pub fn put_object(alloc: Global, out: &mut Vec<u8>, object: &ObjectId) -> Result
 {
     put_text(alloc, out, &object.key)?;
     put_byte(out, b' ')?;
-    put_few(out, kind_name(object.kind).as_bytes())?;
+    put_kind(out, object.kind)?;
     put_bucket(alloc, out, &object.bucket)
 }
 

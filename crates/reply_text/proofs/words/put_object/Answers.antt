@@ -10,6 +10,5 @@ parts a o = simp append_assoc
 pub returns-clause-ok : goal.returns-clause-ok
 returns-clause-ok c =
     let o = c.args.object.now in
-    let kind = rw (c.as_bytes.ensures.value, c.kind_name.ensures) at c.in_ok-put_few.ensures.ok in
-    let front = kind ∙ ap (λ s. s ++ kind_name o.kind) (c.in_ok-put_byte.ensures.ok ∙ ap (λ s. s ++ codes " ") c.in_ok-put_text.ensures.ok) in
+    let front = c.in_ok-put_kind.ensures.ok ∙ ap (λ s. s ++ kind_name o.kind) (c.in_ok-put_byte.ensures.ok ∙ ap (λ s. s ++ codes " ") c.in_ok-put_text.ensures.ok) in
     subst (λ (x : List ℕ). OnOk c.put_bucket.result (c.put_bucket.new.out.items ≡ x)) (ap (λ s. s ++ bucket_text o.bucket) front ∙ parts c.args.out.now.items o) c.put_bucket.ensures.ok
