@@ -9,8 +9,8 @@ PROFILE is one of
     reads    one partition: twenty objects with a history of a hundred updates each, then twenty reads a transaction
     kinds    one partition and objects of all kinds, as bench/play/generate.py
     sites    eight sites of two partitions that send to one another, as bench/sites/generate.py
-    crash    three sites whose partitions crash and restart in each third round, as bench/crashes/generate.py
-    once     the same, but each partition crashes and restarts once, after all rounds
+    crash    three sites; in two of three rounds a partition crashes or its disk fails, as bench/crashes/generate.py
+    once     the same, but no disk fails, and each partition crashes and restarts once, after all rounds
 
 LINES is 100,000. Nothing is refused, and nothing waits."""
 import os
