@@ -1,33 +1,21 @@
-ghost use Rattle.std.specs.Prelude.{◌≡◌, IfOk};
+ghost use Rattle.std.specs.Prelude.{◌≡◌};
 
 use field_codec::Text;
-use std::alloc::{AllocError, Global};
 
-/// What has an equal copy.
-pub trait Copied: Drop {
-    /// An equal value.
-    ///
-    /// # Errors
-    ///
-    /// `AllocError` where memory runs out.
-    fn copied(&self, alloc: Global) -> Result<Self, AllocError>
-        ensures { IfOk result (λ x. x ≡ self.now) };
+/// Values whose clones are the same.
+pub trait Copied: Clone + Drop {
+    /// A clone is the value that it is a clone of.
+    ghost exact: { (value clone : Self) → Self.is_clone value clone → clone ≡ value };
 }
 
 impl Copied for i64 {
-    fn copied(&self, alloc: Global) -> Result<i64, AllocError> {
-        Ok(*self)
-    }
+    ghost exact = { λ value clone same. same };
 }
 
 impl Copied for bool {
-    fn copied(&self, alloc: Global) -> Result<bool, AllocError> {
-        Ok(*self)
-    }
+    ghost exact = { λ value clone same. same };
 }
 
 impl Copied for Text {
-    fn copied(&self, alloc: Global) -> Result<Text, AllocError> {
-        self.copy(alloc)
-    }
+    ghost exact = { λ value clone same. same };
 }

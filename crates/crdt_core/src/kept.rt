@@ -115,10 +115,19 @@ impl<V: Copied> Kept<V> {
     /// # Errors
     ///
     /// `AllocError` where memory runs out.
-    pub fn copy(&self, alloc: Global) -> Result<Kept<V>, AllocError>
+    pub fn copy(&self) -> Result<Kept<V>, AllocError>
         ensures { IfOk result (λ k. k ≡ self.now) }
     {
-        let entries = copy_entries(alloc, &self.entries)?;
+        self.clone()
+    }
+}
+
+/// A clone is an equal map.
+impl<V: Copied> Clone for Kept<V> {
+    ghost is_clone = { λ kept clone. clone ≡ kept };
+
+    fn clone(&self) -> Result<Kept<V>, AllocError> {
+        let entries = copy_entries(&self.entries)?;
         Ok(Kept { entries })
     }
 }
@@ -152,15 +161,10 @@ fn take_each<V: Drop>(entries: &mut BTreeMap<Dot, V>, dots: &[Dot])
     }
 }
 
-fn copy_entries<V: Copied>(
-    alloc: Global,
-    entries: &BTreeMap<Dot, V>,
-) -> Result<BTreeMap<Dot, V>, AllocError>
+/// An equal tree, made node by node.
+fn copy_entries<V: Copied>(entries: &BTreeMap<Dot, V>) -> Result<BTreeMap<Dot, V>, AllocError>
     ensures { IfOk result (λ m. m.entries ≡ entries.now.entries) }
 {
-    let mut copied = BTreeMap::new(alloc);
-    for (dot, value) in entries.iter() {
-        copied.insert(*dot, value.copied(alloc)?)?;
-    }
+    let copied = entries.clone()?;
     Ok(copied)
 }

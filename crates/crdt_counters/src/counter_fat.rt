@@ -120,7 +120,7 @@ impl Crdt for CounterFat {
     }
 
     fn copy(alloc: Global, state: &Kept<i64>) -> Result<Kept<i64>, AllocError> {
-        state.copy(alloc)
+        state.copy()
     }
 
     fn copy_effect(alloc: Global, effect: &FatEffect) -> Result<FatEffect, AllocError> {

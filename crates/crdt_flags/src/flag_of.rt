@@ -122,7 +122,7 @@ impl<const DISABLES_WIN: bool> Crdt for FlagOf<DISABLES_WIN> {
     }
 
     fn copy(alloc: Global, state: &Kept<bool>) -> Result<Kept<bool>, AllocError> {
-        state.copy(alloc)
+        state.copy()
     }
 
     fn copy_effect(alloc: Global, effect: &FlagEffect) -> Result<FlagEffect, AllocError> {

@@ -4,17 +4,19 @@ use Rattle.std.specs.Prelude.{map, filter, is_some}
 use Rattle.std.specs.List.{list_all}
 use Rattle.std.specs.Option.{option_or}
 use Rattle.std.specs.Ordering.{eq_by_cmp}
-use Rattle.std.specs.Cmp.{Equal-is}
+use Rattle.std.specs.Cmp.{Equal-is, eq_by_cmp_equiv}
 use Rattle.std.proofs.lemmas.Bool.{true≢false}
-use Rattle.std.specs.FinMap.{empty, entries, get, insert, remove, get-insert, get-remove, get-empty, get-entries}
+use Rattle.std.specs.FinMap.{empty, entries, get, insert, remove, get-insert, get-remove, get-empty, get-entries, from_entries}
+use Rattle.std.specs.Map.{update_all}
 use Rattle.crdt_core.specs.declared.operation.Act.{Act}
 use Rattle.crdt_core.specs.declared.operation.Act.TheVariants.{Reset}
-use Rattle.crdt_core.specs.MapLists.{IsDistinct, distinct_entries}
+use Rattle.crdt_core.specs.MapLists.{IsDistinct, distinct_entries, at, get_at}
 use Rattle.crdt_core.specs.declared.kind.Kind.{Kind}
 use Rattle.crdt_core.specs.declared.object.Field.{Field}
 use Rattle.crdt_core.specs.FieldOrder.{field_cmp, field_cmp_total, field_cmp_exact}
 use Rattle.crdt_meanings.specs.Maps.{FieldMap, is_undone, resets_of}
 use Rattle.crdt_meanings.proofs.FieldSteps.{found, same_fields}
+use Rattle.crdt_maps.specs.Filled.{filled}
 
 skip : {X : Type 0} (b : Bool) (y o p : Option X) → p ≡ cond b None o → cond b y p ≡ cond b y o
 skip true y o p h = refl
@@ -29,17 +31,24 @@ back_in m f s = same_fields _ _ (λ q.
 pub put_back : {S : Type 0} (m n w : FieldMap S) (f g : Field) (s : S) → n ≡ remove m f → g ≡ f → w ≡ insert n g s → w ≡ insert m f s
 put_back m n w f g s gone same put = put ∙ (λ i. insert (gone i) (same i) s) ∙ back_in m f s
 
--- fields put in one after another
-abbrev pub with_all : {S : Type 0} → FieldMap S → List (Field × S) → FieldMap S
-with_all m [] = m
-with_all m (e ∷ es) = with_all (insert m e.0 e.1) es
+-- a look-up in a map that is filled with a list
+get_filled : {S : Type 0} (m : FieldMap S) (es : List (Field × S)) (q : Field) → get (filled m es) q ≡ update_all (eq_by_cmp field_cmp) (get m) es q
+get_filled m [] q = refl
+get_filled m (e ∷ es) q =
+    get_filled (insert m e.0 e.1) es q
+    ∙ ap (λ g. update_all (eq_by_cmp field_cmp) g es q) (λ i p. (get-insert field_cmp_total m e.0 e.1 p ∙ ap (λ b. cond b (Some e.1) (get m p)) ((eq_by_cmp_equiv field_cmp_total).symm p e.0)) i)
+
+-- a tree that std makes of a list, seen as a map
+pub tree_filled : {S : Type 0} (es fs : List (Field × S)) → ((q : Field) → at field_cmp fs q ≡ update_all (eq_by_cmp field_cmp) (λ _. None) es q) → from_entries {R = field_cmp} fs ≡ filled empty es
+tree_filled es fs h = same_fields _ _ (λ q.
+    get_at field_cmp_total field_cmp_exact fs q ∙ h q ∙ ap (λ g. update_all (eq_by_cmp field_cmp) g es q) (λ i p. sym (get-empty field_cmp p) i) ∙ sym (get_filled empty es q))
 
 either : {S : Type 0} (b : Bool) (x : S) (o p : Option S) → (b ≡ true → o ≡ None) → option_or o (cond b (Some x) p) ≡ option_or (cond b (Some x) o) p
 either true x None p h = refl
 either true x (Some y) p h = absurd (true≢false (ap is_some (h refl)))
 either false x o p h = refl
 
-get_all : {S : Type 0} (es : List (Field × S)) → IsDistinct field_cmp es → (m : FieldMap S) (q : Field) → get (with_all m es) q ≡ option_or (found q es) (get m q)
+get_all : {S : Type 0} (es : List (Field × S)) → IsDistinct field_cmp es → (m : FieldMap S) (q : Field) → get (filled m es) q ≡ option_or (found q es) (get m q)
 get_all [] d m q = refl
 get_all (e ∷ es) d m q =
     get_all es d.1 (insert m e.0 e.1) q
@@ -51,16 +60,9 @@ or_none None = refl
 or_none (Some x) = refl
 
 -- a map is all its fields put in
-pub all_again : {S : Type 0} (m : FieldMap S) → with_all empty (entries m) ≡ m
+pub all_again : {S : Type 0} (m : FieldMap S) → filled empty (entries m) ≡ m
 all_again m = same_fields _ _ (λ q.
     get_all (entries m) (distinct_entries m) empty q ∙ ap (option_or (found q (entries m))) (get-empty field_cmp q) ∙ or_none (found q (entries m)) ∙ sym (get-entries m q))
-
--- one more in a loop
-pub copy_more : {S : Type 0} (whole m n : FieldMap S) (it rest : List (Field × S)) (f g : Field) (s t : S) → with_all m it ≡ whole → it ≡ (f, s) ∷ rest → g ≡ f → t ≡ s → n ≡ insert m g t → with_all n rest ≡ whole
-copy_more whole m n it rest f g s t h e fg st k = (λ i. with_all (k i) rest) ∙ (λ i. with_all (insert m (fg i) (st i)) rest) ∙ sym (ap (with_all m) e) ∙ h
-
-pub copied_all : {S : Type 0} (whole m : FieldMap S) (it : List (Field × S)) → with_all m it ≡ whole → it ≡ [] → m ≡ whole
-copied_all whole m it h e = sym (ap (with_all m) e) ∙ h
 
 -- one more member of what is listed
 pub grow : {A : Type 0} (whole before after it rest : List A) (x : A) → before ++ it ≡ whole → it ≡ x ∷ rest → after ≡ before ++ x ∷ [] → after ++ rest ≡ whole

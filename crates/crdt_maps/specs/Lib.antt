@@ -1,2 +1,3 @@
 pub mod EffectForm
+pub mod Filled
 pub mod Ready

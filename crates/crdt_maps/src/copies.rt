@@ -16,12 +16,12 @@ pub fn copy_fields<I: Crdt>(
 ) -> Result<Fields<I::State>, AllocError>
     ensures { IfOk result (λ f. f ≡ fields.now) }
 {
-    let mut copied = Fields::new(alloc);
+    let mut copied = Vec::with_capacity(alloc, fields.len())?;
     for (field, state) in fields.iter() {
         let name = field.copy(alloc)?;
-        copied.put(name, I::copy(alloc, state)?)?;
+        copied.push((name, I::copy(alloc, state)?))?;
     }
-    Ok(copied)
+    Fields::of_list(alloc, copied)
 }
 
 /// An equal effect.

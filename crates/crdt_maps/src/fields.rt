@@ -1,8 +1,11 @@
-ghost use Rattle.std.specs.Prelude.{◌≡◌, ◌==◌, Option, OnOk, OnErr};
+ghost use Rattle.std.specs.Prelude.{◌≡◌, ◌==◌, Option, OnOk, OnErr, IfOk};
 ghost use Rattle.std.specs.Option.{option_copied};
 ghost use Rattle.std.specs.FinMap as map;
 ghost use Rattle.std.specs.Map.Iter.{ShowsInOrder, deref_pair};
+ghost use Rattle.std.specs.BTreeMap.{IsFromIterResult};
 ghost use Rattle.crdt_core.specs.declared.object.Field.{Field};
+ghost use Rattle.crdt_core.specs.FieldOrder.{field_cmp};
+ghost use Rattle.crdt_maps.specs.Filled.{filled};
 
 use crdt_core::Field;
 use std::alloc::{AllocError, Global};
@@ -37,6 +40,13 @@ impl<S> Fields<S> {
         }
     }
 
+    /// How many fields there are.
+    pub fn len(&self) -> usize
+        ensures { result ≡ map.len self.now }
+    {
+        self.fields.len()
+    }
+
     /// Whether there is no field.
     pub fn is_empty(&self) -> bool
         ensures { result ≡ (map.len self.now == 0) }
@@ -61,6 +71,19 @@ impl<S> Fields<S> {
 }
 
 impl<S: Drop> Fields<S> {
+    /// The listed fields with their states: of a field that is listed twice, the state that is listed last. Takes a time
+    /// that is linear in the list where it ascends.
+    ///
+    /// # Errors
+    ///
+    /// `AllocError` where memory runs out.
+    pub fn of_list(alloc: Global, listed: Vec<(Field, S)>) -> Result<Fields<S>, AllocError>
+        ensures { IfOk result (λ f. f ≡ filled map.empty listed.items) }
+    {
+        let fields = tree_of(alloc, listed)?;
+        Ok(Fields { fields })
+    }
+
     /// Puts a field with its state.
     ///
     /// # Errors
@@ -81,4 +104,14 @@ impl<S: Drop> Fields<S> {
     {
         self.fields.remove(field)
     }
+}
+
+/// A tree made of a list at once.
+fn tree_of<S: Drop>(
+    alloc: Global,
+    listed: Vec<(Field, S)>,
+) -> Result<BTreeMap<Field, S>, AllocError>
+    ensures { IfOk result (IsFromIterResult field_cmp listed.items) }
+{
+    listed.into_iter().collect(alloc)
 }

@@ -121,7 +121,7 @@ impl Crdt for RegisterMv {
     }
 
     fn copy(alloc: Global, state: &Kept<Text>) -> Result<Kept<Text>, AllocError> {
-        state.copy(alloc)
+        state.copy()
     }
 
     fn copy_effect(alloc: Global, effect: &MvEffect) -> Result<MvEffect, AllocError> {

@@ -2,12 +2,12 @@
 use Rattle.std.proofs.Common.{◌≡◌, ℕ, Bool, true, false, cond, ◌||◌, List, [], ◌∷◌, ◌++◌, length, Option, Some, None, refl, sym, ap, ◌∙◌, append_assoc, append-nil, arith}
 use Rattle.std.specs.Prelude.{map, filter, is_some, unwrap_or, ◌==◌}
 use Rattle.std.specs.Cmp.{eq_by_cmp_equiv}
-use Rattle.std.specs.FinMap.{empty, get, keys, entries, insert, remove, from_entries, get-empty, get-insert, get-remove, contains_key-keys, len, len-entries, len-empty, same_map}
+use Rattle.std.specs.FinMap.{empty, get, keys, entries, insert, remove, from_entries, get-empty, get-insert, get-remove, len, len-entries, len-empty, same_map}
 use Rattle.site_vector.specs.declared.ids.Dot.{Dot}
 use Rattle.site_vector.specs.Order.{dot_cmp}
 use Rattle.crdt_core.specs.Kept.{KeptAt, dots_of}
 use Rattle.crdt_core.specs.Texts.{text_cmp, text_cmp_total, text_cmp_exact, same_text, is_in, marked, ascending, is_marked}
-use Rattle.crdt_meanings.specs.SetGo.{Grown, with_each}
+use Rattle.crdt_meanings.specs.SetGo.{with_each}
 use Rattle.std.specs.Map.{lookup}
 use Rattle.std.specs.BTreeMap.{is_at}
 use Rattle.crdt_core.specs.MapLists.{get_at}
@@ -24,10 +24,6 @@ empty_each xs = same_grown _ _ (λ q. has_each xs empty q ∙ or_nothing (is_in 
 -- the set of a list has its texts in order
 pub each_ascending : (xs : List (List ℕ)) → keys (with_each empty xs) ≡ ascending xs
 each_ascending xs = ap keys (empty_each xs)
-
--- the set of a set's texts is that set
-pub each_again : (s : Grown) → with_each empty (keys s) ≡ s
-each_again s = same_grown _ _ (λ q. has_each (keys s) empty q ∙ or_nothing (is_in (keys s) q) _ (ap is_some (get-empty text_cmp q)) ∙ sym (contains_key-keys s q))
 
 -- one more member of what is listed
 pub grow : {A : Type 0} (whole before after it rest : List A) (x : A) → before ++ it ≡ whole → it ≡ x ∷ rest → after ≡ before ++ x ∷ [] → after ++ rest ≡ whole

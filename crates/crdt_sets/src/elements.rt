@@ -106,10 +106,10 @@ impl Elements {
     /// # Errors
     ///
     /// `AllocError` where memory runs out.
-    pub fn copy(&self, alloc: Global) -> Result<Elements, AllocError>
+    pub fn copy(&self) -> Result<Elements, AllocError>
         ensures { IfOk result (λ e. e ≡ self.now) }
     {
-        let elements = copy_elements(alloc, &self.elements)?;
+        let elements = copy_elements(&self.elements)?;
         Ok(Elements { elements })
     }
 }
@@ -255,15 +255,12 @@ fn shows(removes_win: bool, kept: &Kept<bool>) -> bool
     }
 }
 
+/// An equal tree, made node by node.
 fn copy_elements(
-    alloc: Global,
     elements: &BTreeMap<Text, Kept<bool>>,
 ) -> Result<BTreeMap<Text, Kept<bool>>, AllocError>
     ensures { IfOk result (λ m. m.entries ≡ elements.now.entries) }
 {
-    let mut copied = BTreeMap::new(alloc);
-    for (text, kept) in elements.iter() {
-        copied.insert(text.copy(alloc)?, kept.copy(alloc)?)?;
-    }
+    let copied = elements.clone()?;
     Ok(copied)
 }

@@ -10,7 +10,7 @@ ghost use Rattle.crdt_meanings.proofs.GoLaw.{go_law, go_in_maps, go_resets};
 ghost use Rattle.crdt_meanings.specs.Without.{no_stamp, no_dot};
 
 use crate::TextSet;
-use crate::texts::{copy_set, copy_texts, in_order, insert_each};
+use crate::texts::{copy_texts, in_order, insert_each};
 use crdt_core::{Act, Crdt, Field, Kind, Op, Value, reads_state};
 use field_codec::{ListOf, TakeError, Text, TextForm, put_list, take_list};
 use site_vector::Dot;
@@ -111,7 +111,7 @@ impl Crdt for SetGo {
     }
 
     fn copy(alloc: Global, state: &TextSet) -> Result<TextSet, AllocError> {
-        copy_set(alloc, state)
+        state.copy()
     }
 
     fn copy_effect(alloc: Global, effect: &ListOf<Text>) -> Result<ListOf<Text>, AllocError> {

@@ -123,7 +123,7 @@ impl<const REMOVES_WIN: bool> Crdt for SetOf<REMOVES_WIN> {
     }
 
     fn copy(alloc: Global, state: &Elements) -> Result<Elements, AllocError> {
-        state.copy(alloc)
+        state.copy()
     }
 
     fn copy_effect(alloc: Global, effect: &SetEffect) -> Result<SetEffect, AllocError> {

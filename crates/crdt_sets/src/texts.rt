@@ -67,6 +67,18 @@ impl TextSet {
     {
         list_of(alloc, &self.texts)
     }
+
+    /// An equal set.
+    ///
+    /// # Errors
+    ///
+    /// `AllocError` where memory runs out.
+    pub fn copy(&self) -> Result<TextSet, AllocError>
+        ensures { IfOk result (λ s. s ≡ self.now) }
+    {
+        let texts = copy_tree(&self.texts)?;
+        Ok(TextSet { texts })
+    }
 }
 
 /// Puts each of the texts in.
@@ -97,21 +109,6 @@ pub fn in_order(alloc: Global, texts: &[Text]) -> Result<ListOf<Text>, AllocErro
     set.to_list(alloc)
 }
 
-/// An equal set.
-///
-/// # Errors
-///
-/// `AllocError` where memory runs out.
-#[tactic(auto, using(crate::proofs::Lists::each_again))]
-pub fn copy_set(alloc: Global, set: &TextSet) -> Result<TextSet, AllocError>
-    ensures { IfOk result (λ s. s ≡ set.now) }
-{
-    let texts = set.to_list(alloc)?;
-    let mut copied = TextSet::new(alloc);
-    insert_each(alloc, &mut copied, texts.as_slice())?;
-    Ok(copied)
-}
-
 /// An equal list.
 ///
 /// # Errors
@@ -135,4 +132,12 @@ fn list_of(alloc: Global, texts: &BTreeSet<Text>) -> Result<ListOf<Text>, AllocE
         list.push(text.copy(alloc)?)?;
     }
     Ok(list)
+}
+
+/// An equal tree, made node by node.
+fn copy_tree(texts: &BTreeSet<Text>) -> Result<BTreeSet<Text>, AllocError>
+    ensures { IfOk result (λ t. t.keys ≡ texts.now.keys) }
+{
+    let copied = texts.clone()?;
+    Ok(copied)
 }

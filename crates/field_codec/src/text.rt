@@ -228,6 +228,20 @@ fn take_bytes(
     }
 }
 
+/// A clone is the same text.
+impl Clone for Text {
+    ghost is_clone = { λ t copy. copy ≡ t };
+
+    #[tactic(auto, unfolding(crate::specs::Inline::bytes_of))]
+    fn clone(&self) -> Result<Text, AllocError> {
+        let bytes = match &self.bytes {
+            Bytes::Inline(bytes) => Bytes::Inline(*bytes),
+            Bytes::Apart(bytes) => Bytes::Apart(bytes.clone()?),
+        };
+        Ok(Text { bytes })
+    }
+}
+
 impl PartialEq for Text {
     ghost eq = { bytes_eq };
 

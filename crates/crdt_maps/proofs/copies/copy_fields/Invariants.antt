@@ -1,6 +1,6 @@
-use Rattle.std.proofs.Common.{◌≡◌}
-use Rattle.crdt_maps.proofs.FieldTrees.{with_all}
+use Rattle.std.proofs.Common.{◌≡◌, ◌++◌}
+use Rattle.std.specs.FinMap.{entries}
 use Rattle.crdt_maps.proofs.copies.copy_fields.Given as goal
 
 abbrev pub invariant-loop-field : goal.invariant-loop-field
-invariant-loop-field g l = with_all l.copied l.field-iterator ≡ l.fields
+invariant-loop-field g l = l.copied.items ++ l.field-iterator ≡ entries l.fields
