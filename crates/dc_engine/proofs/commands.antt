@@ -1,4 +1,5 @@
 pub mod Applied
+pub mod Asked
 pub mod Making
 pub mod Readings
 pub mod Returned

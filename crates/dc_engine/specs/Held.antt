@@ -7,17 +7,12 @@ use Rattle.world_model.specs.declared.step.Step.{Step}
 use Rattle.world_model.specs.commands.Cluster.{sites_of, parts_of}
 use Rattle.world_model.specs.commands.Run.{Run, written_lines}
 use Rattle.world_model.specs.commands.ScriptAnswers.{Answers}
-use Rattle.reply_text.specs.Text.{text_of}
 use Rattle.cluster.specs.Built.{is_built}
 use Rattle.cluster.specs.Post.{WholeState}
 use Rattle.cluster.specs.Reached as cluster
 use Rattle.site_partitions.specs.Reaches.{Types}
 use Rattle.dc_engine.specs.ObjectKinds.{Effect, types}
 use Rattle.dc_engine.specs.Reading.{asked_of}
-
--- a step's line of text
-abbrev pub spelled : ℕ → Step → List ℕ
-spelled number step = text_of step
 
 -- some run of a cluster of these kinds left it so, and of the disks that are out there is one for each partition
 pub record HasOutOf {S E D : Type 0} (t : Types S E D) (out : ℕ) (c : Option (WholeState E D)) : Type 0 where
@@ -35,7 +30,7 @@ module _ {D : Type 0} (state : D → DiskState) where
   IsLeft c run = cluster.Reached (types (fused_state state)) c run
 
   -- a run of the cluster, which left it so, answers these lines, the first first, with these bytes
-  pub record Reached (c : Standing D) (lines : List (List ℕ)) (bytes : List ℕ) : Type 0 where
+  pub record Reached (spelled : ℕ → Step → List ℕ) (c : Standing D) (lines : List (List ℕ)) (bytes : List ℕ) : Type 0 where
     pub run : Run
     pub left : IsLeft c run
     pub answers : Answers is_built (reverse (map asked_of lines)) run

@@ -2,6 +2,7 @@ pub mod Answered
 pub mod Blocks
 pub mod Causes
 pub mod Faults
+pub mod Format
 pub mod GivenBack
 pub mod Held
 pub mod Lines

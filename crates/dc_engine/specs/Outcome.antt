@@ -6,6 +6,7 @@ use Rattle.disk_makers.specs.Makers.{Maker}
 use Rattle.dc_engine.specs.Answered.{Answered, AnsweredWhole, AnsweredBefore}
 use Rattle.dc_engine.specs.Played.{Played, PlayedEnded, PlayedTooLong, PlayedFront, PlayedBefore}
 use Rattle.dc_engine.specs.Reading.{has_bad}
+use Rattle.world_model.specs.declared.step.Step.{Step}
 use Rattle.dc_engine.specs.declared.status.Status.{Status}
 use Rattle.dc_engine.specs.declared.status.Status.TheVariants as status
 
@@ -47,6 +48,6 @@ module _ (whole replies earlier : List (List ℕ) → List ℕ → Type 0) (no_d
   Outcome status.TooLong source sink = PlayedTooLong most_bytes replies source.before source.after sink.before sink.after
   Outcome status.NoDisk source sink = PlayedBefore block_bytes most_bytes earlier source.before source.after sink.before sink.after × no_disk
 
--- with the maker of the disks before and after
-abbrev pub PlayOutcome : {D : Type 0} → (D → DiskState) → Maker D → Maker D → Status → Change → Change → Type 0
-PlayOutcome state old new = Outcome (AnsweredWhole state old new) Answered AnsweredBefore (Rose old.faults new.faults)
+-- with replies that are written so, and the maker of the disks before and after
+abbrev pub PlayOutcome : {D : Type 0} → (ℕ → Step → List ℕ) → (D → DiskState) → Maker D → Maker D → Status → Change → Change → Type 0
+PlayOutcome spelled state old new = Outcome (AnsweredWhole spelled state old new) (Answered spelled) (AnsweredBefore spelled) (Rose old.faults new.faults)

@@ -1,5 +1,5 @@
 -- What a player does with the lines of a script.
-use Rattle.std.specs.Prelude.{◌≡◌, ℕ, Bool, true, List, [], ◌∷◌}
+use Rattle.std.specs.Prelude.{◌≡◌, ℕ, Bool, true, List, [], ◌∷◌, length}
 use Rattle.disk_core.specs.States.{DiskState}
 use Rattle.disk_core.specs.Fuses.{fused_state}
 use Rattle.world_model.specs.declared.step.Step.{Step}
@@ -10,19 +10,21 @@ use Rattle.dc_engine.specs.Held.{Standing, Reached}
 use Rattle.dc_engine.specs.ObjectKinds.{types}
 use Rattle.dc_engine.specs.Reading.{has_bad}
 
--- the cluster that commands work on, and whether a line wasn't in the grammar
+-- the cluster that commands work on, whether a line wasn't in the grammar, and how many lines were answered
 pub record PlayerState (D : Type 0) : Type 0 where
   pub cluster : Standing D
   pub met_bad : Bool
+  pub count : ℕ
 
 module _ {D : Type 0} (state : D → DiskState) where
-  -- these steps answer a line that asks for this
-  abbrev pub AnswersAsked : PlayerState D → Asked → List Step → PlayerState D → Type 0
-  AnswersAsked old nothing steps new = (steps ≡ []) × (new.cluster ≡ old.cluster) × (new.met_bad ≡ old.met_bad)
-  AnswersAsked old unreadable steps new = (steps ≡ step.Bad ∷ []) × (new.cluster ≡ old.cluster) × (new.met_bad ≡ true)
-  AnswersAsked old (asks c) steps new = Applies (types (fused_state state)) old.cluster c steps new.cluster × (new.met_bad ≡ old.met_bad)
+  -- these steps answer a line that asks for this, by the cluster and by whether a line wasn't in the grammar
+  abbrev pub AnswersAsked : Standing D → Bool → Asked → List Step → Standing D → Bool → Type 0
+  AnswersAsked old bad nothing steps new new_bad = (steps ≡ []) × (new ≡ old) × (new_bad ≡ bad)
+  AnswersAsked old bad unreadable steps new new_bad = (steps ≡ step.Bad ∷ []) × (new ≡ old) × (new_bad ≡ true)
+  AnswersAsked old bad (asks c) steps new new_bad = Applies (types (fused_state state)) old c steps new × (new_bad ≡ bad)
 
   -- the player stands where these lines, the first first, were answered with these bytes
-  pub record ReachedBy (p : PlayerState D) (lines : List (List ℕ)) (bytes : List ℕ) : Type 0 where
-    pub reached : Reached state p.cluster lines bytes
+  pub record ReachedBy (spelled : ℕ → Step → List ℕ) (p : PlayerState D) (lines : List (List ℕ)) (bytes : List ℕ) : Type 0 where
+    pub reached : Reached state spelled p.cluster lines bytes
     pub is_bad : has_bad lines ≡ p.met_bad
+    pub is_counted : length lines ≡ p.count

@@ -2,6 +2,7 @@
 #![tactic(auto)]
 
 mod fault;
+mod format;
 mod player;
 mod responder;
 mod script;
@@ -11,6 +12,7 @@ mod top;
 mod unanswered;
 mod words;
 
+pub use format::Format;
 pub use status::Status;
 pub use streams::edge::{ReaderSource, WriterSink};
 pub use streams::memory::{Calls, SliceSource, VecSink};

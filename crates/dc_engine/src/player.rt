@@ -9,12 +9,12 @@ ghost use Rattle.dc_engine.specs.Held.{HasOut, HasOutOf};
 ghost use Rattle.dc_engine.specs.Makers.{FailsAt, IsUnchanged};
 ghost use Rattle.dc_engine.specs.Player.{AnswersAsked};
 ghost use Rattle.dc_engine.specs.Reading.{asked_of, makes_cluster};
-ghost use Rattle.reply_text.specs.Text.{text_of};
 
 pub(crate) mod makers;
 pub(crate) mod objects;
 pub(crate) mod reading;
 
+use crate::format::Writer;
 use crate::player::makers::{Memory, give_back_cluster, make_all};
 use crate::player::objects::Objects;
 use crate::player::reading::reading;
@@ -25,46 +25,50 @@ use crdt_core::Crdt;
 use disk_core::{Disk, Fused};
 use disk_makers::Disks;
 use partition_core::RestartError;
-use reply_text::line;
 use script_text::{ParseError, Parsed};
 use site_partitions::MakeError;
 use std::alloc::{AllocError, Global};
-use std::marker::Model;
+use std::marker::{Model, PhantomData};
 use world_model::{Command, Step};
 
-/// Answers the lines of a script: the cluster that its commands work on, and whether a line wasn't in the grammar.
+/// Answers the lines of a script: the cluster that its commands work on, whether a line wasn't in the grammar, and how
+/// many lines were answered.
 #[derive(Drop)]
-pub(crate) struct Player<M: Disks> {
+pub(crate) struct Player<M: Disks, W: Writer> {
     alloc: Global,
     cluster: Cluster<Objects, M::Disk>,
     met_bad: bool,
+    count: u64,
     /// Where each line is read: to make such a place for each line, and to drop it, costs more than its look-ups.
     parsed: Parsed,
+    writer: PhantomData<W>,
 }
 
-impl<M: Disks> Model for Player<M> {
+impl<M: Disks, W: Writer> Model for Player<M, W> {
     ghost use Rattle.dc_engine.specs.Player.{PlayerState};
 
     ghost Value = { PlayerState M.Disk };
 
-    ghost view = { λ p. record { cluster = p.cluster; met_bad = p.met_bad } };
+    ghost view = { λ p. record { cluster = p.cluster; met_bad = p.met_bad; count = p.count } };
 }
 
-impl<M: Disks> Player<M> {
+impl<M: Disks, W: Writer> Player<M, W> {
     ghost use Rattle.dc_engine.specs.Makers.{ReturnsAll};
     ghost use Rattle.dc_engine.specs.Player.{ReachedBy};
     ghost use Rattle.dc_engine.specs.Replies.{AnswersLine};
 
     /// A player before any line. Takes no memory.
-    pub(crate) fn new(alloc: Global) -> Player<M>
-        ensures reached { ReachedBy M.Disk.state result [] [] }
+    pub(crate) fn new(alloc: Global) -> Player<M, W>
+        ensures reached { ReachedBy M.Disk.state W.spelled result [] [] }
         ensures holds { HasOut M.Disk.state 0 result.cluster }
     {
         Player {
             alloc,
             cluster: Cluster::new(alloc),
             met_bad: false,
+            count: 0,
             parsed: Parsed::Nothing,
+            writer: PhantomData,
         }
     }
 
@@ -86,7 +90,7 @@ impl<M: Disks> Player<M> {
     ) -> Result<(), Unanswered>
         requires held { HasOut M.Disk.state (M.state disks.old).out self.old.cluster }
         ensures held { HasOut M.Disk.state (M.state disks.new).out self.new.cluster }
-        ensures ok { OnOk result (AnswersLine (ReachedBy M.Disk.state) self.old self.new line.now out.old.items out.new.items) }
+        ensures ok { OnOk result (AnswersLine (ReachedBy M.Disk.state W.spelled) self.old self.new line.now out.old.items out.new.items) }
         ensures err { OnErr result (take (length out.old.items) out.new.items ≡ out.old.items) }
         ensures making { result ≡ Err Unanswered.NoDisk → makes_cluster line.now ≡ true }
         ensures lacks { result ≡ Err Unanswered.NoDisk → self.old.cluster ≡ None }
@@ -95,6 +99,10 @@ impl<M: Disks> Player<M> {
         ensures same { OnOk result (IsUnchanged (M.state disks.old) (M.state disks.new)) }
     {
         let alloc = self.alloc;
+        // No script has as many lines as 64 bits count.
+        let Some(number) = self.count.checked_add(1) else {
+            return Err(Unanswered::NoMemory);
+        };
         match answer_to(
             alloc,
             &mut self.cluster,
@@ -104,8 +112,9 @@ impl<M: Disks> Player<M> {
             line,
         ) {
             Ok(steps) => {
-                write_lines(alloc, steps.as_slice(), out)?;
+                write_replies::<W>(alloc, number, steps.as_slice(), out)?;
                 self.cluster.hand_back(steps);
+                self.count = number;
                 Ok(())
             }
             Err(error) => Err(error),
@@ -113,12 +122,12 @@ impl<M: Disks> Player<M> {
     }
 }
 
-impl<M: Disks> Responder for Player<M> {
+impl<M: Disks, W: Writer> Responder for Player<M, W> {
     ghost use Rattle.dc_engine.specs.Player.{ReachedBy};
 
     type Maker = M;
 
-    ghost reached = { ReachedBy M.Disk.state };
+    ghost reached = { ReachedBy M.Disk.state W.spelled };
 
     ghost holds = { λ p out. HasOut M.Disk.state out p.cluster };
 
@@ -151,7 +160,7 @@ fn answer_to<M: Disks>(
 ) -> Result<Vec<Step>, Unanswered>
     requires held { HasOut M.Disk.state (M.state disks.old).out cluster.old }
     ensures held { HasOut M.Disk.state (M.state disks.new).out cluster.new }
-    ensures ok { IfOk result (λ steps. AnswersAsked M.Disk.state (record { cluster = cluster.old; met_bad = met_bad.old }) (asked_of line.now) steps.items (record { cluster = cluster.new; met_bad = met_bad.new })) }
+    ensures ok { IfOk result (λ steps. AnswersAsked M.Disk.state cluster.old met_bad.old (asked_of line.now) steps.items cluster.new met_bad.new) }
     ensures making { result ≡ Err Unanswered.NoDisk → makes_cluster line.now ≡ true }
     ensures lacks { result ≡ Err Unanswered.NoDisk → cluster.old ≡ None }
     ensures later { (M.state disks.old).faults ≤ (M.state disks.new).faults }
@@ -274,13 +283,19 @@ fn unmade<D: Disk + Drop>(
     }
 }
 
-/// Writes the lines of these steps; on an error what was written of them stands behind what was there.
-fn write_lines(alloc: Global, steps: &[Step], out: &mut Vec<u8>) -> Result<(), AllocError>
-    ensures ok { OnOk result (out.new.items ≡ out.old.items ++ flat_map text_of steps.now) }
+/// Writes these steps as the replies to the script's line of this number; on an error what was written of them stands behind
+/// what was there.
+fn write_replies<W: Writer>(
+    alloc: Global,
+    number: u64,
+    steps: &[Step],
+    out: &mut Vec<u8>,
+) -> Result<(), AllocError>
+    ensures ok { OnOk result (out.new.items ≡ out.old.items ++ flat_map (W.spelled number) steps.now) }
     ensures err { OnErr result (take (length out.old.items) out.new.items ≡ out.old.items) }
 {
     for step in steps {
-        line(alloc, step, out)?;
+        W::write(alloc, number, step, out)?;
     }
     Ok(())
 }

@@ -1,7 +1,9 @@
-ghost use Rattle.std.specs.Prelude.{◌≡◌, true, false, drop, map, IfOk, OnErr, string_bytes};
+ghost use Rattle.std.specs.Prelude.{◌≡◌, drop, map, IfOk, IfSome, IfNone, OnErr, string_bytes};
+ghost use Rattle.dc_engine.specs.Format.{spelled_as};
 ghost use Rattle.dc_engine.specs.Outcome.{PlayOutcome, change};
-ghost use Rattle.dc_engine.specs.Words.{asks_play};
+ghost use Rattle.dc_engine.specs.Words.{format_asked};
 
+use crate::format::Format;
 use crate::status::Status;
 use crate::streams::sink::Sink;
 use crate::streams::source::Source;
@@ -9,13 +11,14 @@ use crate::top::run;
 use disk_makers::Disks;
 use std::alloc::{AllocError, Global};
 
-/// Whether the process's words, its own name left out, ask for a script to be played.
-pub(crate) fn is_play(words: &[&str]) -> bool
-    ensures { result ≡ asks_play (map (λ word. word.now) words.now) }
+/// The format of the replies to a script that the process's words, its own name left out, ask for.
+pub(crate) fn format_asked(words: &[&str]) -> Option<Format>
+    ensures { result ≡ format_asked (map (λ word. word.now) words.now) }
 {
     match words {
-        [word] => *word == "play",
-        _ => false,
+        [play] if *play == "play" => Some(Format::Lines),
+        [play, json] if *play == "play" && *json == "--json" => Some(Format::Json),
+        _ => None,
     }
 }
 
@@ -52,8 +55,8 @@ pub fn run_words<S: Source, K: Sink, M: Disks>(
     sink: &mut K,
     disks: &mut M,
 ) -> Result<Status, AllocError>
-    ensures played { asks_play (map string_bytes (drop 1 words.now)) ≡ true → IfOk result (λ status. PlayOutcome M.Disk.state (M.state disks.old) (M.state disks.new) status (change S.left S.faults source.old source.new) (change K.held K.faults sink.old sink.new)) }
-    ensures usage { asks_play (map string_bytes (drop 1 words.now)) ≡ false → IfOk result (λ status. (status ≡ Status.Usage) × (source.new ≡ source.old) × (sink.new ≡ sink.old) × (disks.new ≡ disks.old)) }
+    ensures played { IfSome (format_asked (map string_bytes (drop 1 words.now))) (λ format. IfOk result (λ status. PlayOutcome (spelled_as format) M.Disk.state (M.state disks.old) (M.state disks.new) status (change S.left S.faults source.old source.new) (change K.held K.faults sink.old sink.new))) }
+    ensures usage { IfNone (format_asked (map string_bytes (drop 1 words.now))) (IfOk result (λ status. (status ≡ Status.Usage) × (source.new ≡ source.old) × (sink.new ≡ sink.old) × (disks.new ≡ disks.old))) }
     ensures unread { OnErr result (source.new ≡ source.old) }
     ensures unwritten { OnErr result (sink.new ≡ sink.old) }
     ensures unmade { OnErr result (disks.new ≡ disks.old) }

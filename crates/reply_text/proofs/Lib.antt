@@ -3,3 +3,4 @@ pub mod Front
 pub mod Plain
 pub mod OneDigit
 pub mod MemberOrder
+pub mod Escapes

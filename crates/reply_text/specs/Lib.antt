@@ -5,3 +5,4 @@ pub mod Texts
 pub mod Text
 pub mod Words
 pub mod Updated
+pub mod Json

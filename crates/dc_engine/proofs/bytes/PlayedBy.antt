@@ -2,6 +2,7 @@
 use Rattle.std.proofs.Common.{◌≡◌, ℕ, false, true, List, Option, None, refl, subst, arith}
 use Rattle.disk_core.specs.States.{DiskState, Rose}
 use Rattle.disk_makers.specs.Makers.{Maker}
+use Rattle.world_model.specs.declared.step.Step.{Step}
 use Rattle.dc_engine.specs.Played.{Played, PlayedEnded, PlayedTooLong, PlayedFront, PlayedBefore}
 use Rattle.dc_engine.specs.Makers.{IsUnchanged, ReturnsAll}
 use Rattle.dc_engine.specs.Outcome.{Change, Outcome, PlayOutcome, And, most_bytes, block_bytes}
@@ -42,16 +43,17 @@ module _ (W V P Q A B : List (List ℕ) → List ℕ → Type 0) (X Y : Type 0) 
   outcome_by status.NoDisk source sink g h = (before_by most_bytes A B b source.before source.after sink.before sink.after block_bytes h.0, x h.1)
 
 -- where no cluster stands, its run has made none
-before_answered : {D : Type 0} (state : D → DiskState) (lines : List (List ℕ)) (bytes : List ℕ) → RepliesBefore (ReachedBy state) (λ q. q.cluster ≡ None) lines bytes → AnsweredBefore lines bytes
-before_answered {D} state lines bytes r =
+before_answered : {D : Type 0} (state : D → DiskState) (spelled : ℕ → Step → List ℕ) (lines : List (List ℕ)) (bytes : List ℕ) → RepliesBefore (ReachedBy state spelled) (λ q. q.cluster ≡ None) lines bytes → AnsweredBefore spelled lines bytes
+before_answered {D} state spelled lines bytes r =
     let left : IsLeft state None r.1.0.reached.run = subst (λ (c : Standing D). IsLeft state c r.1.0.reached.run) r.1.1 r.1.0.reached.left in
-    record { answered = reached_answered state r.0.cluster lines bytes r.1.0.reached; lacks = left.lacks }
+    record { answered = reached_answered state spelled r.0.cluster lines bytes r.1.0.reached; lacks = left.lacks }
 
 -- what a player answered is what the program promises, once its disks are given back
-pub outcome_lawful : {D : Type 0} (state : D → DiskState) (p : PlayerState D) (start mid end : Maker D) (s : Status) (source sink : Change) → (ends_whole s ≡ true → IsUnchanged start mid) → ReturnsAll p.cluster mid end
-    → Outcome (ReachedBy state p) (Replies (ReachedBy state)) (RepliesBefore (ReachedBy state) (λ q. q.cluster ≡ None)) (Rose start.faults mid.faults) s source sink → PlayOutcome state start end s source sink
-outcome_lawful state p start mid end s source sink begun back = outcome_by (ReachedBy state p) (AnsweredWhole state start end) (Replies (ReachedBy state)) Answered (RepliesBefore (ReachedBy state) (λ q. q.cluster ≡ None)) AnsweredBefore (Rose start.faults mid.faults) (Rose start.faults end.faults)
-    (λ lines bytes r. reached_answered state r.0.cluster lines bytes r.1.reached)
-    (before_answered state)
+pub outcome_lawful : {D : Type 0} (state : D → DiskState) (spelled : ℕ → Step → List ℕ) (p : PlayerState D) (start mid end : Maker D) (s : Status) (source sink : Change) → (ends_whole s ≡ true → IsUnchanged start mid) → ReturnsAll p.cluster mid end
+    → Outcome (ReachedBy state spelled p) (Replies (ReachedBy state spelled)) (RepliesBefore (ReachedBy state spelled) (λ q. q.cluster ≡ None)) (Rose start.faults mid.faults) s source sink → PlayOutcome spelled state start end s source sink
+outcome_lawful state spelled p start mid end s source sink begun back =
+    outcome_by (ReachedBy state spelled p) (AnsweredWhole spelled state start end) (Replies (ReachedBy state spelled)) (Answered spelled) (RepliesBefore (ReachedBy state spelled) (λ q. q.cluster ≡ None)) (AnsweredBefore spelled) (Rose start.faults mid.faults) (Rose start.faults end.faults)
+    (λ lines bytes r. reached_answered state spelled r.0.cluster lines bytes r.1.reached)
+    (before_answered state spelled)
     (λ rose. let same = back.back.faults in omega (arith, same, rose))
-    s source sink (λ e lines bytes r. reached_whole state p.cluster start mid end (begun e) back lines bytes r.reached)
+    s source sink (λ e lines bytes r. reached_whole state spelled p.cluster start mid end (begun e) back lines bytes r.reached)

@@ -3,7 +3,7 @@ use Rattle.std.proofs.Common.{◌≡◌, ℕ, ◌+◌, ◌*◌, ◌≤◌, Bool,
 use Rattle.std.specs.Prelude.{map, reverse, is_some, IfSome, IfNone}
 use Rattle.std.specs.List.{flat_map}
 use Rattle.std.proofs.lemmas.Bool.{true≢false}
-use Rattle.std.proofs.lemmas.List.{reverse-append, map-append, append-nil}
+use Rattle.std.proofs.lemmas.List.{reverse-append, map-append, append-nil, length-reverse, length-map, length-append}
 use Rattle.site_vector.specs.declared.ids.PartId.{PartId}
 use Rattle.disk_core.specs.States.{DiskState}
 use Rattle.disk_core.specs.Fuses.{fused_state}
@@ -16,7 +16,6 @@ use Rattle.world_model.specs.lines.Places.{IsPlace}
 use Rattle.world_model.specs.commands.Run.{Run, written_lines}
 use Rattle.world_model.specs.commands.Answers.{Asked, nothing, unreadable, asks, answered}
 use Rattle.world_model.specs.commands.ScriptAnswers.{GoesOn, Answers, IsMade, AnswersBy}
-use Rattle.reply_text.specs.Text.{text_of}
 use Rattle.cluster.specs.Built.{is_built, is_making}
 use Rattle.cluster.specs.Post.{WholeState}
 use Rattle.cluster.specs.Reached.{Applies, Reached, parts_in}
@@ -24,7 +23,7 @@ use Rattle.site_partitions.specs.Reaches.{Types}
 use Rattle.cluster.proofs.Laws.{bad_still}
 use Rattle.cluster.proofs.Meets.{all_met, none_due}
 use Rattle.cluster.proofs.Mere.{at_first}
-use Rattle.dc_engine.specs.Held.{Standing, IsLeft, spelled, HasOutOf}
+use Rattle.dc_engine.specs.Held.{Standing, IsLeft, HasOutOf}
 use Rattle.dc_engine.specs.ObjectKinds.{types}
 use Rattle.dc_engine.specs.Player.{PlayerState, AnswersAsked, ReachedBy}
 use Rattle.dc_engine.specs.Reading.{asked_of, is_unreadable, has_bad}
@@ -32,73 +31,77 @@ use Rattle.dc_engine.specs.Replies.{AnswersLine}
 use Rattle.dc_engine.proofs.commands.Readings.{asked_of-take, has_bad-more}
 use Rattle.dc_engine.proofs.commands.Sizes.{answer_makes_none, same_size}
 
-lines_more : (number : ℕ) (asked : Option Command) (steps : List Step) (run : Run) → written_lines spelled (answered number asked steps run) ≡ written_lines spelled run ++ flat_map text_of steps
-lines_more number asked [] run = sym (append-nil (written_lines spelled run))
-lines_more number asked (s ∷ steps) run = lines_more number asked steps (record { number = number; command = asked; step = s } ∷ run) ∙ append_assoc (written_lines spelled run) (text_of s) (flat_map text_of steps)
+lines_more : (spelled : ℕ → Step → List ℕ) (number : ℕ) (asked : Option Command) (steps : List Step) (run : Run) → written_lines spelled (answered number asked steps run) ≡ written_lines spelled run ++ flat_map (spelled number) steps
+lines_more spelled number asked [] run = sym (append-nil (written_lines spelled run))
+lines_more spelled number asked (s ∷ steps) run = lines_more spelled number asked steps (record { number = number; command = asked; step = s } ∷ run) ∙ append_assoc (written_lines spelled run) (spelled number s) (flat_map (spelled number) steps)
 
 script_more : (lines : List (List ℕ)) (whole : List ℕ) → reverse (map asked_of (lines ++ whole ∷ [])) ≡ asked_of whole ∷ reverse (map asked_of lines)
 script_more lines whole = ap reverse (map-append asked_of lines (whole ∷ [])) ∙ reverse-append (map asked_of lines) (asked_of whole ∷ [])
 
-module _ {D : Type 0} (state : D → DiskState) where
+module _ {D : Type 0} (state : D → DiskState) (spelled : ℕ → Step → List ℕ) where
   -- the run with the answer to one more line
   record GoesWith (run : Run) (number : ℕ) (asked : Asked) (steps : List Step) (new : Standing D) : Type 0 where
     more : Run
     goes : GoesOn is_built number run asked more
     left : IsLeft state new more
-    written : written_lines spelled more ≡ written_lines spelled run ++ flat_map text_of steps
+    written : written_lines spelled more ≡ written_lines spelled run ++ flat_map (spelled number) steps
 
-  goes_with : (old new : PlayerState D) (run : Run) (number : ℕ) (asked : Asked) (steps : List Step) → IsLeft state old.cluster run → AnswersAsked state old asked steps new → GoesWith run number asked steps new.cluster
-  goes_with old new run number nothing steps r h = record {
+  goes_with : (old new : Standing D) (bad new_bad : Bool) (run : Run) (number : ℕ) (asked : Asked) (steps : List Step) → IsLeft state old run → AnswersAsked state old bad asked steps new new_bad → GoesWith run number asked steps new
+  goes_with old new bad new_bad run number nothing steps r h = record {
     more = run;
     goes = refl;
     left = subst (λ c. IsLeft state c run) (sym h.1) r;
-    written = sym (ap (λ l. written_lines spelled run ++ flat_map text_of l) h.0 ∙ append-nil (written_lines spelled run));
+    written = sym (ap (λ l. written_lines spelled run ++ flat_map (spelled number) l) h.0 ∙ append-nil (written_lines spelled run));
   }
-  goes_with old new run number unreadable steps r h = record {
+  goes_with old new bad new_bad run number unreadable steps r h = record {
     more = answered number None (step.Bad ∷ []) run;
     goes = refl;
-    left = subst (λ c. IsLeft state c (answered number None (step.Bad ∷ []) run)) (sym h.1) (bad_still (types (fused_state state)) old.cluster number run r);
-    written = lines_more number None (step.Bad ∷ []) run ∙ ap (λ l. written_lines spelled run ++ flat_map text_of l) (sym h.0);
+    left = subst (λ c. IsLeft state c (answered number None (step.Bad ∷ []) run)) (sym h.1) (bad_still (types (fused_state state)) old number run r);
+    written = lines_more spelled number None (step.Bad ∷ []) run ∙ ap (λ l. written_lines spelled run ++ flat_map (spelled number) l) (sym h.0);
   }
-  goes_with old new run number (asks c) steps r h =
+  goes_with old new bad new_bad run number (asks c) steps r h =
       let applied = h.0 number run r in record {
         more = answered number (Some c) steps run;
         goes = (steps, applied.0, refl);
         left = applied.1;
-        written = lines_more number (Some c) steps run;
+        written = lines_more spelled number (Some c) steps run;
       }
 
   -- the mark of a line that isn't in the grammar
-  marked : (old new : PlayerState D) (asked : Asked) (steps : List Step) (b : Bool) → AnswersAsked state old asked steps new → b ≡ old.met_bad → (is_unreadable asked || b) ≡ new.met_bad
-  marked old new nothing steps b h e = e ∙ sym h.2
-  marked old new unreadable steps b h e = sym h.2
-  marked old new (asks c) steps b h e = e ∙ sym h.1
+  marked : (old new : Standing D) (bad new_bad : Bool) (asked : Asked) (steps : List Step) (b : Bool) → AnswersAsked state old bad asked steps new new_bad → b ≡ bad → (is_unreadable asked || b) ≡ new_bad
+  marked old new bad new_bad nothing steps b h e = e ∙ sym h.2
+  marked old new bad new_bad unreadable steps b h e = sym h.2
+  marked old new bad new_bad (asks c) steps b h e = e ∙ sym h.1
 
-  reached_more : (old new : PlayerState D) (whole : List ℕ) (steps : List Step) (lines : List (List ℕ)) (bytes : List ℕ) → AnswersAsked state old (asked_of whole) steps new → ReachedBy state old lines bytes → ReachedBy state new (lines ++ whole ∷ []) (bytes ++ flat_map text_of steps)
-  reached_more old new whole steps lines bytes h r =
+  reached_more : (old new : PlayerState D) (whole : List ℕ) (steps : List Step) (lines : List (List ℕ)) (bytes : List ℕ) → AnswersAsked state old.cluster old.met_bad (asked_of whole) steps new.cluster new.met_bad → new.count ≡ old.count + 1
+      → ReachedBy state spelled old lines bytes → ReachedBy state spelled new (lines ++ whole ∷ []) (bytes ++ flat_map (spelled new.count) steps)
+  reached_more old new whole steps lines bytes h n r =
       let was = r.reached in
       let script = reverse (map asked_of lines) in
-      let g = goes_with old new was.run (length script + 1) (asked_of whole) steps was.left h in record {
+      let counted : new.count ≡ length script + 1 = n ∙ ap (λ k. k + 1) (sym r.is_counted ∙ sym (length-reverse (map asked_of lines) ∙ length-map asked_of lines)) in
+      let g = goes_with old.cluster new.cluster old.met_bad new.met_bad was.run (length script + 1) (asked_of whole) steps was.left h in record {
         reached = record {
           run = g.more;
           left = g.left;
           answers = subst (λ s. Answers is_built s g.more) (sym (script_more lines whole)) (was.run, was.answers, g.goes);
-          written = ap (λ b. b ++ flat_map text_of steps) was.written ∙ sym g.written;
+          written = (λ i. was.written i ++ flat_map (spelled (counted i)) steps) ∙ sym g.written;
         };
-        is_bad = has_bad-more lines whole ∙ marked old new (asked_of whole) steps (has_bad lines) h r.is_bad;
+        is_bad = has_bad-more lines whole ∙ marked old.cluster new.cluster old.met_bad new.met_bad (asked_of whole) steps (has_bad lines) h r.is_bad;
+        is_counted = length-append lines (whole ∷ []) ∙ ap (λ k. k + 1) r.is_counted ∙ sym n;
       }
 
   -- a line is answered with the text of these steps
-  pub line_answered : (old new : PlayerState D) (line : List ℕ) (steps : List Step) (before after : List ℕ) → AnswersAsked state old (asked_of line) steps new → after ≡ before ++ flat_map text_of steps → AnswersLine (ReachedBy state) old new line before after
-  line_answered old new line steps before after h e = record {
-    reply = flat_map text_of steps;
+  pub line_answered : (old new : PlayerState D) (line : List ℕ) (steps : List Step) (before after : List ℕ) → AnswersAsked state old.cluster old.met_bad (asked_of line) steps new.cluster new.met_bad → new.count ≡ old.count + 1
+      → after ≡ before ++ flat_map (spelled new.count) steps → AnswersLine (ReachedBy state spelled) old new line before after
+  line_answered old new line steps before after h n e = record {
+    reply = flat_map (spelled new.count) steps;
     appended = e;
-    answered = λ whole lines bytes t r. reached_more old new whole steps lines bytes (subst (λ a. AnswersAsked state old a steps new) (sym (ap asked_of t) ∙ asked_of-take whole) h) r;
+    answered = λ whole lines bytes t r. reached_more old new whole steps lines bytes (subst (λ a. AnswersAsked state old.cluster old.met_bad a steps new.cluster new.met_bad) (sym (ap asked_of t) ∙ asked_of-take whole) h) n r;
   }
 
   -- a new player stands before any line, and needs no disk
-  pub reached_none : (p : PlayerState D) → IsLeft state p.cluster [] → p.met_bad ≡ false → ReachedBy state p [] []
-  reached_none p r b = record { reached = record { run = []; left = r; answers = refl; written = refl }; is_bad = sym b }
+  pub reached_none : (p : PlayerState D) → IsLeft state p.cluster [] → p.met_bad ≡ false → p.count ≡ 0 → ReachedBy state spelled p [] []
+  reached_none p r b n = record { reached = record { run = []; left = r; answers = refl; written = refl }; is_bad = sym b; is_counted = sym n }
 
 -- over any kinds
 module _ {S E D : Type 0} (t : Types S E D) where

@@ -144,11 +144,11 @@ module _ {D : Type 0} (state : D → DiskState) where
             (record { log = l.log; left = l.left; end = _; at_rest = unfused (disk_of s.one.gates) _ _ l.records.is_open.at_rest; spelled = l.records.spelled });
       }
 
-  abbrev pub reached_answered : (c : Standing D) (lines : List (List ℕ)) (bytes : List ℕ) → Reached state c lines bytes → Answered lines bytes
-  reached_answered c lines bytes r = record { run = r.run; answers = r.answers; history = history (types (fused_state state)) c r.run r.left; written = r.written }
+  abbrev pub reached_answered : (spelled : ℕ → Step → List ℕ) (c : Standing D) (lines : List (List ℕ)) (bytes : List ℕ) → Reached state spelled c lines bytes → Answered spelled lines bytes
+  reached_answered spelled c lines bytes r = record { run = r.run; answers = r.answers; history = history (types (fused_state state)) c r.run r.left; written = r.written }
 
-  pub reached_whole : (c : Standing D) (start mid end : Maker D) → IsUnchanged start mid → ReturnsAll c mid end → (lines : List (List ℕ)) (bytes : List ℕ) → Reached state c lines bytes → AnsweredWhole state start end lines bytes
-  reached_whole c start mid end begun back lines bytes r = record {
-    answered = reached_answered c lines bytes r;
+  pub reached_whole : (spelled : ℕ → Step → List ℕ) (c : Standing D) (start mid end : Maker D) → IsUnchanged start mid → ReturnsAll c mid end → (lines : List (List ℕ)) (bytes : List ℕ) → Reached state spelled c lines bytes → AnsweredWhole spelled state start end lines bytes
+  reached_whole spelled c start mid end begun back lines bytes r = record {
+    answered = reached_answered spelled c lines bytes r;
     given_back = λ tells. returned c r.run r.left start mid end begun back tells;
   }

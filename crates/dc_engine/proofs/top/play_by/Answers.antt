@@ -1,7 +1,7 @@
 use Rattle.std.proofs.Common.{arith}
 use Rattle.dc_engine.proofs.commands.Applied.{out_more}
 use Rattle.dc_engine.proofs.bytes.PlayedBy.{outcome_lawful}
-use Rattle.dc_engine.proofs.top.play_then.Goals as goal
+use Rattle.dc_engine.proofs.top.play_by.Goals as goal
 
 pub play_script-status-requires-clause-fresh : goal.play_script-status-requires-clause-fresh
 play_script-status-requires-clause-fresh g c = c.new-player.ensures.reached
@@ -10,4 +10,4 @@ pub play_script-status-requires-clause-held : goal.play_script-status-requires-c
 play_script-status-requires-clause-held g c = out_more _ _ 0 _ (omega arith) c.new-player.ensures.holds
 
 pub returns : goal.returns
-returns g c = outcome_lawful g.M.Disk.Disk.state _ _ _ _ _ _ _ c.play_script-status.ensures.same c.give_back.ensures c.play_script-status.ensures.played
+returns g c = outcome_lawful g.M.Disk.Disk.state g.W.Writer.spelled _ _ _ _ _ _ _ c.play_script-status.ensures.same c.give_back.ensures c.play_script-status.ensures.played
