@@ -7,6 +7,7 @@ PROFILE is one of
 
     counter  one partition: begin, five updates of 1,000 counters in turn, commit
     reads    one partition: twenty objects with a history of a hundred updates each, then twenty reads a transaction
+    own      one partition and such objects: each transaction updates ten of them, and reads each behind its update
     kinds    one partition and objects of all kinds, as bench/play/generate.py
     sites    eight sites of two partitions that send to one another, as bench/sites/generate.py
     crash    three sites; in two of three rounds a partition crashes or its disk fails, as bench/crashes/generate.py
@@ -46,9 +47,8 @@ def act(kind, number):
     return "in f%d set_aw add %s" % (number % 5, text)
 
 
-def reads(lines):
-    """A history, and then transactions of 22 lines."""
-    objects = [("k%d" % k, KINDS[k % len(KINDS)]) for k in range(20)]
+def history(objects):
+    """A cluster, a session, and a hundred updates of each object: 2,202 lines for twenty."""
     yield "cluster 1 1"
     yield "session a 1"
     for number in range(100):
@@ -56,6 +56,24 @@ def reads(lines):
         for key, kind in objects:
             yield "update a %s %s %s" % (key, kind, act(kind, number))
         yield "commit a"
+
+
+def own(lines):
+    """A history, and then transactions of 22 lines. No object grows: a counter_fat would, by an entry for each update."""
+    objects = [("k%d" % k, KINDS[1 + k % (len(KINDS) - 1)]) for k in range(20)]
+    yield from history(objects)
+    for number in range(max(0, (lines - 2202) // 22)):
+        yield "begin a"
+        for key, kind in objects[number % 2 :: 2]:
+            yield "update a %s %s %s" % (key, kind, act(kind, number))
+            yield "read a %s %s" % (key, kind)
+        yield "commit a"
+
+
+def reads(lines):
+    """A history, and then transactions of 22 lines."""
+    objects = [("k%d" % k, KINDS[k % len(KINDS)]) for k in range(20)]
+    yield from history(objects)
     for _ in range(max(0, (lines - 2202) // 22)):
         yield "begin a"
         for key, kind in objects:
@@ -69,7 +87,7 @@ def main():
     if profile in OTHERS:
         words = [str(lines)] + (["once"] if profile == "once" else [])
         sys.exit(subprocess.call([sys.executable, os.path.join(HERE, OTHERS[profile])] + words))
-    made = {"counter": counter, "reads": reads}[profile](lines)
+    made = {"counter": counter, "reads": reads, "own": own}[profile](lines)
     sys.stdout.write("".join(line + "\n" for line in made))
 
 

@@ -1,5 +1,5 @@
 #!/usr/bin/env python3
-"""Plays scripts of six profiles and several lengths on a built dc_shell, and beside it on another program.
+"""Plays scripts of seven profiles and several lengths on a built dc_shell, and beside it on another program.
 
     python3 bench/cluster/measure.py [--program PROGRAM] [--other 'COMMAND'] [--lengths 10000,100000,..]
                                      [--profiles counter,reads,..] [--seconds SECONDS] [--picture FILE]
@@ -22,10 +22,10 @@ sys.path.insert(0, os.path.join(HERE, ".."))
 from playing import play
 
 PROGRAM = os.path.join(HERE, "../../crates/dc_shell/out/dc_shell")
-PROFILES = ("counter", "kinds", "reads", "sites", "crash", "once")
+PROFILES = ("counter", "kinds", "reads", "own", "sites", "crash", "once")
 LENGTHS = (10_000, 100_000, 300_000, 1_000_000, 2_000_000, 3_000_000)
 MOST_BYTES = 64 << 20
-COLOURS = ("#1b6ca8", "#c8553d", "#3a7d44", "#8e5ea2", "#b8860b", "#5f6b7a")
+COLOURS = ("#1b6ca8", "#c8553d", "#3a7d44", "#a83279", "#8e5ea2", "#b8860b", "#5f6b7a")
 RUNS = 3
 
 

@@ -283,8 +283,8 @@ fn unmade<D: Disk + Drop>(
     }
 }
 
-/// Writes these steps as the replies to the script's line of this number; on an error what was written of them stands behind
-/// what was there.
+/// Writes these steps as the replies to the script's line of this number; on an error what was written of them stands
+/// behind what was there.
 fn write_replies<W: Writer>(
     alloc: Global,
     number: u64,

@@ -14,11 +14,12 @@ use crate::words::format_asked;
 use disk_makers::Disks;
 use std::alloc::Global;
 
-/// Plays a script from the source to the sink. The bytes written are the lines of one run that answers the script's lines, each
-/// spelled in the format, and what a partition answered in it is lawful (Cure over Clock-SI): all of them where the script was read
-/// to its end, those whose line feed was read where the source fails or the script is too long, those before a cluster whose disk
-/// can't be made, and else a front of such a run's lines. A script that is read to its end has the status `BadLine` exactly where one of its lines isn't in the
-/// grammar. Then the disks of its cluster go back to their maker, each that is up with the log that the run leaves.
+/// Plays a script from the source to the sink. The bytes written are the lines of one run that answers the script's
+/// lines, each spelled in the format, and what a partition answered in it is lawful (Cure over Clock-SI): all of them
+/// where the script was read to its end, those whose line feed was read where the source fails or the script is too
+/// long, those before a cluster whose disk can't be made, and else a front of such a run's lines. A script that is read
+/// to its end has the status `BadLine` exactly where one of its lines isn't in the grammar. Then the disks of its
+/// cluster go back to their maker, each that is up with the log that the run leaves.
 pub fn play<S: Source, K: Sink, M: Disks>(
     alloc: Global,
     format: Format,
@@ -64,9 +65,9 @@ fn play_by<S: Source, K: Sink, M: Disks, W: Writer>(
     status
 }
 
-/// Does what the process's words ask for, its own name left out. For `play` and for `play --json` it plays the script; every
-/// other list of words is a fault of usage, which reads and writes nothing. The process is to end then: what memory the tables of
-/// the cluster have is left to the system, as by `Vec::leak`.
+/// Does what the process's words ask for, its own name left out. For `play` and for `play --json` it plays the script;
+/// every other list of words is a fault of usage, which reads and writes nothing. The process is to end then: what
+/// memory the tables of the cluster have is left to the system, as by `Vec::leak`.
 pub fn run<S: Source, K: Sink, M: Disks>(
     alloc: Global,
     words: &[&str],
