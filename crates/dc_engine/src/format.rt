@@ -1,6 +1,7 @@
 ghost use Rattle.std.specs.Prelude.{◌≡◌, ◌++◌, ℕ, List, OnOk, OnErr};
 ghost use Rattle.world_model.specs.declared.step.Step.{Step};
 ghost use Rattle.dc_engine.specs.Format.{spelled_as};
+ghost use Rattle.dc_engine.specs.declared.format.Format.TheVariants.{Lines, Json};
 
 use reply_text::{json_line, line};
 use std::alloc::{AllocError, Global};
@@ -34,7 +35,7 @@ pub(crate) trait Writer {
 pub(crate) struct LineWriter;
 
 impl Writer for LineWriter {
-    ghost spelled = { spelled_as Format.Lines };
+    ghost spelled = { spelled_as Lines };
 
     fn write(alloc: Global, number: u64, step: &Step, out: &mut Vec<u8>) -> Result<(), AllocError> {
         line(alloc, step, out)
@@ -45,7 +46,7 @@ impl Writer for LineWriter {
 pub(crate) struct JsonWriter;
 
 impl Writer for JsonWriter {
-    ghost spelled = { spelled_as Format.Json };
+    ghost spelled = { spelled_as Json };
 
     fn write(alloc: Global, number: u64, step: &Step, out: &mut Vec<u8>) -> Result<(), AllocError> {
         json_line(alloc, number, step, out)
