@@ -81,7 +81,6 @@ impl<M: Disks, W: Writer> Player<M, W> {
     }
 
     /// Answers a line, and on an error leaves at the end of `out` what was written of it.
-    #[tactic(auto, using(crate::proofs::commands::Applied::line_answered))]
     fn write_answer(
         &mut self,
         disks: &mut M,

@@ -99,6 +99,15 @@ module _ {D : Type 0} (state : D → DiskState) (spelled : ℕ → Step → List
     answered = λ whole lines bytes t r. reached_more old new whole steps lines bytes (subst (λ a. AnswersAsked state old.cluster old.met_bad a steps new.cluster new.met_bad) (sym (ap asked_of t) ∙ asked_of-take whole) h) n r;
   }
 
+  -- the same, of a player's parts: its cluster is handed back the memory of these steps
+  pub line_shown : (old : PlayerState D) (was now left : Standing D) (bad new_bad : Bool) (count number : ℕ) (line : List ℕ) (steps : List Step) (before after : List ℕ) → record { cluster = was; met_bad = bad; count = count } ≡ old
+      → AnswersAsked state was bad (asked_of line) steps now new_bad → left ≡ now → number ≡ count + 1 → after ≡ before ++ flat_map (spelled number) steps
+      → AnswersLine (ReachedBy state spelled) old (record { cluster = left; met_bad = new_bad; count = number }) line before after
+  line_shown old was now left bad new_bad count number line steps before after view h back n e =
+      let new : PlayerState D = record { cluster = left; met_bad = new_bad; count = number } in
+      subst (λ o. AnswersLine (ReachedBy state spelled) o new line before after) view
+      (line_answered (record { cluster = was; met_bad = bad; count = count }) new line steps before after (subst (λ c. AnswersAsked state was bad (asked_of line) steps c new_bad) (sym back) h) n e)
+
   -- a new player stands before any line, and needs no disk
   pub reached_none : (p : PlayerState D) → IsLeft state p.cluster [] → p.met_bad ≡ false → p.count ≡ 0 → ReachedBy state spelled p [] []
   reached_none p r b n = record { reached = record { run = []; left = r; answers = refl; written = refl }; is_bad = sym b; is_counted = sym n }
