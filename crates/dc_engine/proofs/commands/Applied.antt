@@ -78,7 +78,7 @@ module _ {D : Type 0} (state : D → DiskState) (spelled : ℕ → Step → List
   reached_more old new whole steps lines bytes h n r =
       let was = r.reached in
       let script = reverse (map asked_of lines) in
-      let counted : new.count ≡ length script + 1 = n ∙ ap (λ k. k + 1) (sym r.is_counted ∙ sym (length-reverse (map asked_of lines) ∙ length-map asked_of lines)) in
+      let counted : new.count ≡ length script + 1 = n ∙ ap (λ k. k + 1) (sym r.is_counted ∙ sym (length-reverse (map asked_of lines) ∙ length-map lines asked_of)) in
       let g = goes_with old.cluster new.cluster old.met_bad new.met_bad was.run (length script + 1) (asked_of whole) steps was.left h in record {
         reached = record {
           run = g.more;
