@@ -50,7 +50,7 @@ fn put_dots(out: &mut String, dots: &[Dot]) -> Result<(), AllocError> {
 fn put_kept(alloc: Global, out: &mut String, kept: &mut Kept<i64>) -> Result<(), AllocError> {
     let dots = kept.dots(alloc)?;
     put_dots(out, dots.as_slice())?;
-    let copied = kept.copy(alloc)?.iter().count();
+    let copied = kept.copy()?.iter().count();
     kept.take_out(dots.copy(alloc)?.as_slice());
     let empty = kept.is_empty();
     writeln!(out, ", empty without them: {empty}, a copy has {copied}")
