@@ -1,18 +1,24 @@
-ghost use Rattle.std.specs.Prelude.{◌≡◌, map, IfSome, IfNone};
+ghost use Rattle.std.specs.Prelude.{◌≡◌, true, [], map, IfSome, IfNone, OnOk, Some};
+ghost use Rattle.std.specs.Option.{option_copied};
+ghost use Rattle.disk_core.specs.States.{Rose};
 ghost use Rattle.dc_engine.specs.Format.{spelled_as};
-ghost use Rattle.dc_engine.specs.Outcome.{PlayOutcome, change};
-ghost use Rattle.dc_engine.specs.Words.{format_asked};
+ghost use Rattle.dc_engine.specs.Makers.{IsUnchanged};
+ghost use Rattle.dc_engine.specs.Outcome.{Outcome, PlayOutcome, change};
+ghost use Rattle.dc_engine.specs.Replies.{Replies, RepliesBefore};
+ghost use Rattle.dc_engine.specs.Status.{ends_whole};
+ghost use Rattle.dc_engine.specs.Words.{asked};
 
 use crate::format::{Format, JsonWriter, LineWriter, Writer};
 use crate::player::Player;
 use crate::player::makers::Memory;
+use crate::responder::Responder;
 use crate::script::play_script;
 use crate::status::Status;
 use crate::streams::sink::Sink;
 use crate::streams::source::Source;
-use crate::words::format_asked;
+use crate::words::{Request, request_of};
 use disk_makers::Disks;
-use std::alloc::Global;
+use std::alloc::{AllocError, Global};
 
 /// Plays a script from the source to the sink. The bytes written are the lines of one run that answers the script's
 /// lines, each spelled in the format, and what a partition answered in it is lawful (Cure over Clock-SI): all of them
@@ -29,29 +35,35 @@ pub fn play<S: Source, K: Sink, M: Disks>(
 ) -> Status
     ensures { PlayOutcome (spelled_as format) M.Disk.state (M.state disks.old) (M.state disks.new) result (change S.left S.faults source.old source.new) (change K.held K.faults sink.old sink.new) }
 {
-    play_then(alloc, format, source, sink, disks, Memory::Freed)
+    let request = Request {
+        format,
+        folder: None,
+    };
+    play_then(alloc, request, source, sink, disks, Memory::Freed)
 }
 
-/// Plays a script as `play` does, and has this become of the cluster's memory.
+/// Plays a script as `play` does, over disks in the folder that is asked for, and has this become of the cluster's memory.
 fn play_then<S: Source, K: Sink, M: Disks>(
     alloc: Global,
-    format: Format,
+    request: Request<'_>,
     source: &mut S,
     sink: &mut K,
     disks: &mut M,
     memory: Memory,
 ) -> Status
-    ensures { PlayOutcome (spelled_as format) M.Disk.state (M.state disks.old) (M.state disks.new) result (change S.left S.faults source.old source.new) (change K.held K.faults sink.old sink.new) }
+    ensures { PlayOutcome (spelled_as request.entry.format) M.Disk.state (M.state disks.old) (M.state disks.new) result (change S.left S.faults source.old source.new) (change K.held K.faults sink.old sink.new) }
 {
-    match format {
-        Format::Lines => play_by::<S, K, M, LineWriter>(alloc, source, sink, disks, memory),
-        Format::Json => play_by::<S, K, M, JsonWriter>(alloc, source, sink, disks, memory),
+    let folder = request.folder;
+    match request.format {
+        Format::Lines => play_by::<S, K, M, LineWriter>(alloc, folder, source, sink, disks, memory),
+        Format::Json => play_by::<S, K, M, JsonWriter>(alloc, folder, source, sink, disks, memory),
     }
 }
 
 /// Plays a script with replies as this writer writes them.
 fn play_by<S: Source, K: Sink, M: Disks, W: Writer>(
     alloc: Global,
+    folder: Option<&str>,
     source: &mut S,
     sink: &mut K,
     disks: &mut M,
@@ -60,14 +72,51 @@ fn play_by<S: Source, K: Sink, M: Disks, W: Writer>(
     ensures { PlayOutcome W.spelled M.Disk.state (M.state disks.old) (M.state disks.new) result (change S.left S.faults source.old source.new) (change K.held K.faults sink.old sink.new) }
 {
     let mut player: Player<M, W> = Player::new(alloc);
-    let status = play_script(alloc, source, sink, &mut player, disks);
+    let status = play_over(alloc, folder, source, sink, &mut player, disks);
     player.give_back(disks, memory);
     status
 }
 
-/// Does what the process's words ask for, its own name left out. For `play` and for `play --json` it plays the script;
-/// every other list of words is a fault of usage, which reads and writes nothing. The process is to end then: what
-/// memory the tables of the cluster have is left to the system, as by `Vec::leak`.
+/// Plays a script as `play_script` does, over disks in this folder, where there is one.
+fn play_over<S: Source, K: Sink, R: Responder>(
+    alloc: Global,
+    folder: Option<&str>,
+    source: &mut S,
+    sink: &mut K,
+    responder: &mut R,
+    disks: &mut R::Maker,
+) -> Status
+    requires fresh { R.reached responder.old [] [] }
+    requires held { R.holds responder.old (R.Maker.state disks.old).out }
+    ensures same { ends_whole result ≡ true → IsUnchanged (R.Maker.state disks.old) (R.Maker.state disks.new) }
+    ensures held { R.holds responder.new (R.Maker.state disks.new).out }
+    ensures played { Outcome (R.reached responder.new) (Replies R.reached) (RepliesBefore R.reached R.lacks) (Rose (R.Maker.state disks.old).faults (R.Maker.state disks.new).faults) result (change S.left S.faults source.old source.new) (change K.held K.faults sink.old sink.new) }
+{
+    if keep_in(alloc, folder, disks).is_err() {
+        return Status::NoMemory;
+    }
+    play_script(alloc, source, sink, responder, disks)
+}
+
+/// Has the maker keep its disks in this folder, where there is one.
+fn keep_in<M: Disks>(
+    alloc: Global,
+    folder: Option<&str>,
+    disks: &mut M,
+) -> Result<(), AllocError>
+    ensures kept { OnOk result (IfSome (option_copied folder.entry) (λ name. M.keeps_in disks.new name)) }
+    ensures state { M.state disks.new ≡ M.state disks.old }
+{
+    match folder {
+        Some(folder) => disks.keep_in(alloc, folder),
+        None => Ok(()),
+    }
+}
+
+/// Does what the process's words ask for, its own name left out: for `play`, which `--json` and a folder may follow in
+/// any order (`--data DIR` or `--data=DIR`), it plays the script, with replies as JSON objects and with disks in that
+/// folder; every other list of words is a fault of usage, which reads and writes nothing. The process is to end then:
+/// what memory the tables of the cluster have is left to the system, as by `Vec::leak`.
 pub fn run<S: Source, K: Sink, M: Disks>(
     alloc: Global,
     words: &[&str],
@@ -75,11 +124,11 @@ pub fn run<S: Source, K: Sink, M: Disks>(
     sink: &mut K,
     disks: &mut M,
 ) -> Status
-    ensures played { IfSome (format_asked (map (λ word. word.now) words.now)) (λ format. PlayOutcome (spelled_as format) M.Disk.state (M.state disks.old) (M.state disks.new) result (change S.left S.faults source.old source.new) (change K.held K.faults sink.old sink.new)) }
-    ensures usage { IfNone (format_asked (map (λ word. word.now) words.now)) ((result ≡ Status.Usage) × (source.new ≡ source.old) × (sink.new ≡ sink.old) × (disks.new ≡ disks.old)) }
+    ensures played { IfSome (asked (map (λ word. word.now) words.now)) (λ asked. PlayOutcome (spelled_as asked.format) M.Disk.state (M.state disks.old) (M.state disks.new) result (change S.left S.faults source.old source.new) (change K.held K.faults sink.old sink.new)) }
+    ensures usage { IfNone (asked (map (λ word. word.now) words.now)) ((result ≡ Status.Usage) × (source.new ≡ source.old) × (sink.new ≡ sink.old) × (disks.new ≡ disks.old)) }
 {
-    match format_asked(words) {
-        Some(format) => play_then(alloc, format, source, sink, disks, Memory::Left),
+    match request_of(words) {
+        Some(request) => play_then(alloc, request, source, sink, disks, Memory::Left),
         None => Status::Usage,
     }
 }

@@ -1,11 +1,11 @@
 // What a maker of disks is.
-ghost use Rattle.std.specs.Prelude.{◌≤◌, ◌-◌, ◌^◌};
+ghost use Rattle.std.specs.Prelude.{◌≡◌, ◌≤◌, ◌-◌, ◌^◌, ℕ, List, OnOk, OnErr};
 ghost use Rattle.disk_makers.specs.Makers.{Maker, Makes, TakesBack};
 
 use crate::MakeFault;
 use disk_core::Disk;
 use site_vector::PartId;
-use std::alloc::Global;
+use std::alloc::{AllocError, Global};
 
 /// Whoever makes the disk of each partition, and gets it back.
 ///
@@ -15,6 +15,20 @@ pub trait Disks {
     type Disk: Disk + Drop;
 
     ghost state: { Self → Maker Self.Disk };
+
+    /// `keeps_in m folder`: what m makes from now on is kept in this folder, if m keeps disks in folders at all.
+    ghost keeps_in: { Self → List ℕ → Type 0 };
+
+    /// From now on each disk is kept in a new file of this folder, which is there, under the name of its partition, as
+    /// `1.2.log`. Whoever makes disks in memory alone goes on with these.
+    ///
+    /// # Errors
+    ///
+    /// `AllocError` where memory runs out. The maker is as before then.
+    fn keep_in(&mut self, alloc: Global, folder: &str) -> Result<(), AllocError>
+        ensures kept { OnOk result (keeps_in self.new folder.now) }
+        ensures state { state self.new ≡ state self.old }
+        ensures same { OnErr result (self.new ≡ self.old) };
 
     /// Makes the disk of a partition. It is formatted, holds no record and has met no fault.
     ///

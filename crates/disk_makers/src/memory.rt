@@ -115,7 +115,15 @@ impl Disks for MemDisks {
 
     ghost state = { mem_maker };
 
+    ghost keeps_in = { λ maker folder. Unit {0} };
+
     ghost faults_fit = { λ maker. maker.calls.bounded };
+
+    fn keep_in(&mut self, _alloc: Global, _folder: &str) -> Result<(), AllocError>
+        ensures same { self.new ≡ self.old }
+    {
+        Ok(())
+    }
 
     fn make(&mut self, alloc: Global, _part: PartId) -> Result<MemDisk, MakeFault>
         ensures makes { Makes mem_state result (mem_maker self.old) (mem_maker self.new) }
