@@ -99,11 +99,7 @@ fn play_over<S: Source, K: Sink, R: Responder>(
 }
 
 /// Has the maker keep its disks in this folder, where there is one.
-fn keep_in<M: Disks>(
-    alloc: Global,
-    folder: Option<&str>,
-    disks: &mut M,
-) -> Result<(), AllocError>
+fn keep_in<M: Disks>(alloc: Global, folder: Option<&str>, disks: &mut M) -> Result<(), AllocError>
     ensures kept { OnOk result (IfSome (option_copied folder.entry) (λ name. M.keeps_in disks.new name)) }
     ensures state { M.state disks.new ≡ M.state disks.old }
 {

@@ -53,7 +53,7 @@ fn main(rt: HostRuntime) -> ExitCode {
         Ok(words) => {
             let mut source = ReaderSource::new(rt.stdin());
             let mut sink = WriterSink::new(rt.stdout());
-            let mut disks = RealDisks::new();
+            let mut disks = RealDisks::new(&rt);
             Status::of(run_words(rt.alloc(), &words, &mut source, &mut sink, &mut disks))
         }
         Err(status) => status,

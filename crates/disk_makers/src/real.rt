@@ -108,7 +108,11 @@ impl<'f, R: Files> Disks for RealDisks<'f, R> {
         Ok(())
     }
 
-    fn make(&mut self, alloc: Global, part: PartId) -> Result<FileDisk<SystemFile<R::File>>, MakeFault>
+    fn make(
+        &mut self,
+        alloc: Global,
+        part: PartId,
+    ) -> Result<FileDisk<SystemFile<R::File>>, MakeFault>
         ensures makes { Makes file_state result (real_maker self.old) (real_maker self.new) }
         ensures folder { folder_of self.new ≡ folder_of self.old }
     {

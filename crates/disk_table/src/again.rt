@@ -4,11 +4,11 @@ ghost use Rattle.gate_log.specs.Logs.{IsReady};
 use crate::logs::new_log;
 use crate::words;
 use disk_core::{Disk, Fused, MemDisk};
-use disk_makers::{Disks, MakeFault, MemDisks};
+use disk_makers::{Disks, MakeFault, MemDisks, RealDisks};
 use gate_log::GateLog;
 use site_vector::PartId;
 use std::alloc::{AllocError, Global};
-use std::io;
+use std::{fs, io};
 
 const FIRST: [u8; 3] = [97, 97, 97];
 
@@ -74,6 +74,52 @@ fn of_made<M: Disks>(alloc: Global, makers: &mut M, part: PartId) -> Result<Stri
         },
         Err(MakeFault::Failed) => String::from_str(alloc, "not made"),
         Err(MakeFault::NoMemory) => String::from_str(alloc, "no memory"),
+    }
+}
+
+/// The bytes of a file, in hexadecimal.
+fn hex_of(rt: &HostRuntime, path: &str) -> io::Result<String> {
+    let bytes = fs::read(rt, path)?;
+    let mut hex = String::new(rt.alloc());
+    words::put_hex(&bytes, &mut hex)?;
+    Ok(hex)
+}
+
+/// A disk that is kept in a file of this folder, whose log gets two records; then what stands in the file, and what a
+/// second disk for the same partition answers.
+pub(crate) fn print_files(rt: &HostRuntime) -> io::Result<()> {
+    let alloc = rt.alloc();
+    let part = PartId { site: 1, part: 2 };
+    let mut makers = RealDisks::new(rt);
+    makers.keep_in(alloc, ".")?;
+    let appended = of_appended(alloc, &mut makers, part)?;
+    println!(rt; "file of {part}: {appended}")?;
+    let hex = hex_of(rt, "./1.2.log")?;
+    println!(rt; "1.2.log: {hex}")?;
+    let made = of_made(alloc, &mut makers, part)?;
+    println!(rt; "a second file of {part}: {made}")
+}
+
+/// What two appends to the log of a new disk answer.
+fn of_appended<M: Disks>(
+    alloc: Global,
+    makers: &mut M,
+    part: PartId,
+) -> Result<String, AllocError> {
+    let Ok(disk) = makers.make(alloc, part) else {
+        return String::from_str(alloc, "not made");
+    };
+    match GateLog::open(alloc, disk) {
+        Ok(mut log) => {
+            let first = words::of_append(alloc, log.append(&FIRST))?;
+            let second = words::of_append(alloc, log.append(&THIRD))?;
+            makers.give_back(part, log.close());
+            format!(in alloc; "{first}, {second}")
+        }
+        Err((disk, error)) => {
+            makers.give_back(part, disk);
+            words::of_open_error(alloc, error)
+        }
     }
 }
 

@@ -202,5 +202,6 @@ fn print_again(rt: &HostRuntime) -> io::Result<()> {
     for call in 1..=4 {
         again::print_opening(rt, call)?;
     }
-    again::print_makers(rt)
+    again::print_makers(rt)?;
+    again::print_files(rt)
 }
