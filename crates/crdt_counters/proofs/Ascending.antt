@@ -7,21 +7,24 @@ use Rattle.std.specs.Ordering.{ordering_reverse, match_ordering}
 use Rattle.std.specs.Cmp.{IsTotalOrder}
 use Rattle.std.specs.BTreeSet.{insert_key}
 
-one_of : {K : Type 0} (P : K → Type 0) (ks : List K) (k : K) (rest : List K) → AllByRecursion P (ks ++ k ∷ rest) → P k
-one_of P [] k rest a = a.0
-one_of P (x ∷ ks) k rest a = one_of P ks k rest a.1
+module _ {K : Type 0} where
+  one_of : (P : K → Type 0) (ks : List K) (k : K) (rest : List K) → AllByRecursion P (ks ++ k ∷ rest) → P k
+  one_of P [] k rest a = a.0
+  one_of P (x ∷ ks) k rest a = one_of P ks k rest a.1
 
--- a key above all others comes last
-placed_last : {K : Type 0} {R : K → K → Ordering} → IsTotalOrder R → (ks : List K) (k : K) (rest : List K) → IsStrictlySortedBy R (ks ++ k ∷ rest) → insert_key R ks k ≡ ks ++ k ∷ []
-unfolding IsStrictlySortedBy
-placed_last o [] k rest s = refl
-placed_last {R = R} o (x ∷ ks) k rest s =
-    ap (λ r. match_ordering r (k ∷ x ∷ ks) (x ∷ ks) (x ∷ insert_key R ks k)) (o.antisymm k x ∙ ap ordering_reverse (one_of _ ks k rest s.0))
-    ∙ ap (λ l. x ∷ l) (placed_last o ks k rest s.1)
+module _ {K : Type 0} {R : K → K → Ordering} (o : IsTotalOrder R) where
+  -- a key above all others comes last
+  last : (ks : List K) (k : K) (rest : List K) → IsStrictlySortedBy R (ks ++ k ∷ rest) → insert_key R ks k ≡ ks ++ k ∷ []
+  unfolding IsStrictlySortedBy
+  last [] k rest s = refl
+  last (x ∷ ks) k rest s =
+      let above = o.antisymm k x ∙ ap ordering_reverse (one_of _ ks k rest s.0) in
+      ap (λ r. match_ordering r (k ∷ x ∷ ks) (x ∷ ks) (x ∷ insert_key R ks k)) above ∙ ap (λ l. x ∷ l) (last ks k rest s.1)
 
--- with one key more put in, the keys so far and those of the rest are all
-pub one_more : {K : Type 0} {R : K → K → Ordering} → IsTotalOrder R → (all so_far it : List K) (k : K) (rest new : List K)
-    → IsStrictlySortedBy R all → it ≡ k ∷ rest → so_far ++ it ≡ all → new ≡ insert_key R so_far k → new ++ rest ≡ all
-one_more {R = R} o all so_far it k rest new s e h n =
-    let split = ap (λ l. so_far ++ l) (sym e) ∙ h in
-    ap (λ l. l ++ rest) (n ∙ placed_last o so_far k rest (subst (IsStrictlySortedBy R) (sym split) s)) ∙ append_assoc so_far (k ∷ []) rest ∙ split
+  -- with one key more put in, the keys so far and those of the rest are all
+  pub one_more : (all so_far it : List K) (k : K) (rest new : List K) → IsStrictlySortedBy R all
+      → it ≡ k ∷ rest → so_far ++ it ≡ all → new ≡ insert_key R so_far k → new ++ rest ≡ all
+  one_more all so_far it k rest new s e h n =
+      let split = ap (λ l. so_far ++ l) (sym e) ∙ h in
+      let placed = n ∙ last so_far k rest (subst (IsStrictlySortedBy R) (sym split) s) in
+      ap (λ l. l ++ rest) placed ∙ append_assoc so_far (k ∷ []) rest ∙ split

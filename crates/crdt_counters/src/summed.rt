@@ -1,8 +1,7 @@
 ghost use Rattle.std.specs.Prelude.{◌≡◌, ◌==◌, IfOk, OnOk, OnErr};
-ghost use Rattle.std.specs.FinMap as map;
-ghost use Rattle.site_vector.specs.Order.{dot_cmp};
+ghost use Rattle.std.specs.FinMap.{empty, len, insert, remove};
 ghost use Rattle.crdt_core.specs.Kept.{without, dots_of};
-ghost use Rattle.crdt_counters.specs.Total.{sum_of, held_at};
+ghost use Rattle.crdt_counters.specs.Total.{amounts_in, sum_of, held_at};
 
 use crate::amounts::{less, sum};
 use crdt_core::Dots;
@@ -25,21 +24,21 @@ impl Model for Summed {
     ghost use Rattle.std.specs.FinMap as map;
     ghost use Rattle.site_vector.specs.Order.{dot_cmp};
     ghost use Rattle.crdt_core.specs.DotCode.{coded_dot};
-    ghost use Rattle.crdt_counters.specs.Total.{sum_of};
+    ghost use Rattle.crdt_counters.specs.Total.{amounts_in, sum_of};
 
     ghost Value = { map.FinMap dot_cmp ℤ };
 
     ghost coded = { map.code coded_dot coded_ℤ };
 
-    ghost view = { λ a. map.from_entries a.amounts.entries };
+    ghost view = { λ a. amounts_in a.amounts.entries };
 
-    ghost invariant = { λ a. a.total ≡ sum_of (map.from_entries a.amounts.entries) };
+    ghost invariant = { λ a. a.total ≡ sum_of (amounts_in a.amounts.entries) };
 }
 
 impl Summed {
     /// No amounts. Takes no memory.
     pub fn new(alloc: Global) -> Summed
-        ensures { result ≡ map.empty }
+        ensures { result ≡ empty }
     {
         Summed {
             amounts: BTreeMap::new(alloc),
@@ -49,7 +48,7 @@ impl Summed {
 
     /// Whether no amount is kept.
     pub fn is_empty(&self) -> bool
-        ensures { result ≡ (map.len self.now == 0) }
+        ensures { result ≡ (len self.now == 0) }
     {
         self.amounts.len() == 0
     }
@@ -78,7 +77,7 @@ impl Summed {
     ///
     /// `AllocError` where memory runs out. What is kept is as before then.
     pub fn put(&mut self, dot: Dot, amount: i64) -> Result<(), AllocError>
-        ensures ok { OnOk result (self.new ≡ map.insert self.old dot amount) }
+        ensures ok { OnOk result (self.new ≡ insert self.old dot amount) }
         ensures err { OnErr result (self.new ≡ self.old) }
     {
         let before = replace(&mut self.amounts, dot, amount)?;
@@ -110,7 +109,7 @@ impl Summed {
 }
 
 fn dots_in(alloc: Global, amounts: &BTreeMap<Dot, i64>) -> Result<Dots, AllocError>
-    ensures { IfOk result (λ d. d ≡ dots_of (map.from_entries {R = dot_cmp} amounts.now.entries)) }
+    ensures { IfOk result (λ d. d ≡ dots_of (amounts_in amounts.now.entries)) }
 {
     let mut dots = Dots::new(alloc);
     for dot in amounts.keys() {
@@ -121,8 +120,8 @@ fn dots_in(alloc: Global, amounts: &BTreeMap<Dot, i64>) -> Result<Dots, AllocErr
 
 /// Puts an amount at a dot, and answers the one that stood there, 0 where none did.
 fn replace(amounts: &mut BTreeMap<Dot, i64>, dot: Dot, amount: i64) -> Result<i64, AllocError>
-    ensures ok { OnOk result (map.from_entries {R = dot_cmp} amounts.new.entries ≡ map.insert (map.from_entries amounts.old.entries) dot amount) }
-    ensures before { IfOk result (λ n. n ≡ held_at (map.from_entries amounts.old.entries) dot) }
+    ensures ok { OnOk result (amounts_in amounts.new.entries ≡ insert (amounts_in amounts.old.entries) dot amount) }
+    ensures before { IfOk result (λ n. n ≡ held_at (amounts_in amounts.old.entries) dot) }
     ensures err { OnErr result (amounts.new.entries ≡ amounts.old.entries) }
 {
     let before = amounts.insert(dot, amount)?;
@@ -131,9 +130,9 @@ fn replace(amounts: &mut BTreeMap<Dot, i64>, dot: Dot, amount: i64) -> Result<i6
 
 /// Takes out the amounts at these dots, and answers what is left of the total.
 fn take_each(amounts: &mut BTreeMap<Dot, i64>, total: i128, dots: &[Dot]) -> i128
-    requires { total ≡ sum_of (map.from_entries amounts.old.entries) }
-    ensures rest { map.from_entries {R = dot_cmp} amounts.new.entries ≡ without (map.from_entries amounts.old.entries) dots.now }
-    ensures total { result ≡ sum_of (map.from_entries amounts.new.entries) }
+    requires { total ≡ sum_of (amounts_in amounts.old.entries) }
+    ensures rest { amounts_in amounts.new.entries ≡ without (amounts_in amounts.old.entries) dots.now }
+    ensures total { result ≡ sum_of (amounts_in amounts.new.entries) }
 {
     let mut left = total;
     for dot in dots {
@@ -145,8 +144,8 @@ fn take_each(amounts: &mut BTreeMap<Dot, i64>, total: i128, dots: &[Dot]) -> i12
 
 /// Takes out the amount at a dot, and answers it, 0 where none stood there.
 fn take(amounts: &mut BTreeMap<Dot, i64>, dot: Dot) -> i64
-    ensures rest { map.from_entries {R = dot_cmp} amounts.new.entries ≡ map.remove (map.from_entries amounts.old.entries) dot }
-    ensures gone { result ≡ held_at (map.from_entries amounts.old.entries) dot }
+    ensures rest { amounts_in amounts.new.entries ≡ remove (amounts_in amounts.old.entries) dot }
+    ensures gone { result ≡ held_at (amounts_in amounts.old.entries) dot }
 {
     amounts.remove(&dot).unwrap_or(0)
 }

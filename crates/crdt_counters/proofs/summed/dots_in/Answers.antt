@@ -10,13 +10,17 @@ use Rattle.crdt_counters.proofs.summed.dots_in.Goals as goal
 
 pub loop-dot-preserved : goal.loop-dot-preserved
 loop-dot-preserved c =
-    one_more dot_cmp_total (keys_of c.args.amounts.now.entries) c.loop-dot.dots c.loop-dot.dot-iterator c.in-Some.dot.now c.next.new.self c.insert.new.self
-    c.keys-dot-items.ensures.ordered
-    (rest_more deref c.loop-dot.dot-iterator c.next.new.self c.next.result c.in-Some.dot c.in-Some.is c.next.ensures.steps)
-    c.loop-dot.invariant c.in_ok-insert.ensures.ok
+    let it = c.loop-dot.dot-iterator in
+    let rest = c.next.new.self in
+    let all = keys_of c.args.amounts.now.entries in
+    let first = rest_more deref it rest c.next.result c.in-Some.dot c.in-Some.is c.next.ensures.steps in
+    one_more dot_cmp_total all c.loop-dot.dots it c.in-Some.dot.now rest c.insert.new.self c.keys-dot-items.ensures.ordered
+    first c.loop-dot.invariant c.in_ok-insert.ensures.ok
 
 pub returns : goal.returns
 returns c =
-    sym (append-nil c.loop-dot.dots)
-    ∙ ap (λ l. c.loop-dot.dots ++ l) (sym (rest_all deref c.loop-dot.dot-iterator c.next.new.self c.next.result c.in-None.is c.next.ensures.steps))
-    ∙ c.loop-dot.invariant ∙ sym (keys_again dot_cmp_total dot_cmp_exact c.args.amounts.now.entries c.keys-dot-items.ensures.ordered)
+    let it = c.loop-dot.dot-iterator in
+    let none = rest_all deref it c.next.new.self c.next.result c.in-None.is c.next.ensures.steps in
+    let ordered = c.keys-dot-items.ensures.ordered in
+    sym (append-nil c.loop-dot.dots) ∙ ap (λ l. c.loop-dot.dots ++ l) (sym none)
+    ∙ c.loop-dot.invariant ∙ sym (keys_again dot_cmp_total dot_cmp_exact c.args.amounts.now.entries ordered)

@@ -8,11 +8,14 @@ use Rattle.crdt_counters.proofs.summed.replace.Goals as goal
 
 pub returns-clause-ok : goal.returns-clause-ok
 returns-clause-ok c =
-    one_given dot_cmp_total dot_cmp_exact c.args.amounts.now.entries c.insert.new.self.entries c.args.dot _ c.in_ok-before.ensures.updates.0
-    ∙ ap (insert (from_entries c.args.amounts.now.entries) c.args.dot) (to_z-of_z w64 c.args.amount c.ranges.amount)
+    let old = c.args.amounts.now.entries in
+    let new = c.insert.new.self.entries in
+    one_given dot_cmp_total dot_cmp_exact old new c.args.dot _ c.in_ok-before.ensures.updates.0
+    ∙ ap (insert (from_entries old) c.args.dot) (to_z-of_z w64 c.args.amount c.ranges.amount)
 
 pub returns-clause-before : goal.returns-clause-before
 returns-clause-before c =
     let fits : FitsSigned w64 c.unwrap_or.result = search rules in
+    let held = sym (get_at dot_cmp_total dot_cmp_exact c.args.amounts.now.entries c.args.dot) in
     to_z-of_z w64 c.unwrap_or.result fits ∙ c.unwrap_or.ensures
-    ∙ ap (λ x. unwrap_or x (pos 0)) (c.in_ok-before.ensures.old ∙ sym (get_at dot_cmp_total dot_cmp_exact c.args.amounts.now.entries c.args.dot))
+    ∙ ap (λ x. unwrap_or x (pos 0)) (c.in_ok-before.ensures.old ∙ held)

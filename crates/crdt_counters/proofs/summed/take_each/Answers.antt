@@ -19,12 +19,15 @@ loop-dot-preserved c =
     let d : Dot = get_or c.args.dots.now c.loop-dot.dot-index none in
     let one : FitsSigned w64 c.take-gone.result = search rules in
     let off : FitsSigned w128 c.less-left.result = search rules in
+    let gone = to_z-of_z w64 c.take-gone.result one ∙ c.take-gone.ensures.gone in
+    let more = take_more c.args.dots.now c.loop-dot.dot-index none c.loop-dot-test.true in
+    let less = c.less-left.ensures ∙ ap (λ n. int_wrap w128 (to_z w128 c.loop-dot.left-bits -ℤ n)) gone in
     record {
-      rest = c.take-gone.ensures.rest ∙ ap (λ m. remove m d) c.loop-dot.invariant.rest ∙ without_more _ _ d
-          ∙ ap (without (from_entries c.args.amounts.now.entries)) (sym (take_more c.args.dots.now c.loop-dot.dot-index none c.loop-dot-test.true));
+      rest =
+          c.take-gone.ensures.rest ∙ ap (λ m. remove m d) c.loop-dot.invariant.rest ∙ without_more _ _ d
+          ∙ ap (without (from_entries c.args.amounts.now.entries)) (sym more);
       total =
           to_z-of_z w128 c.less-left.result off
-          ∙ sum_gone (from_entries c.loop-dot.amounts.entries) d _ _ c.loop-dot.invariant.total
-          (c.less-left.ensures ∙ ap (λ n. int_wrap w128 (to_z w128 c.loop-dot.left-bits -ℤ n)) (to_z-of_z w64 c.take-gone.result one ∙ c.take-gone.ensures.gone))
+          ∙ sum_gone (from_entries c.loop-dot.amounts.entries) d _ _ c.loop-dot.invariant.total less
           ∙ ap sum_of (sym c.take-gone.ensures.rest);
     }

@@ -6,7 +6,9 @@ use Rattle.crdt_counters.specs.Total.{sum_of}
 use Rattle.crdt_counters.proofs.summed.take_each.Given as goal
 
 abbrev pub invariant-loop-dot : goal.invariant-loop-dot
-invariant-loop-dot l = record {
-  rest : from_entries {R = dot_cmp} l.amounts.entries ≡ without (from_entries l.fn.amounts.entries) (take l.dot-index l.dots);
-  total : l.left ≡ sum_of (from_entries l.amounts.entries);
-}
+invariant-loop-dot l =
+    let old = from_entries {R = dot_cmp} l.fn.amounts.entries in
+    record {
+      rest : from_entries {R = dot_cmp} l.amounts.entries ≡ without old (take l.dot-index l.dots);
+      total : l.left ≡ sum_of (from_entries l.amounts.entries);
+    }

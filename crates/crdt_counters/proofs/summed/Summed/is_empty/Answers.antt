@@ -6,4 +6,6 @@ use Rattle.crdt_core.proofs.Trees.{len_again}
 use Rattle.crdt_counters.proofs.summed.Summed.is_empty.Goals as goal
 
 pub returns : goal.returns
-returns c = ap (λ n. n == 0) (c.len.ensures.len ∙ sym (len_again dot_cmp_total dot_cmp_exact c.self.inside.amounts.entries c.len.ensures.ordered) ∙ ap map.len c.self.view_is)
+returns c =
+    let again = len_again dot_cmp_total dot_cmp_exact c.self.inside.amounts.entries c.len.ensures.ordered in
+    ap (λ n. n == 0) (c.len.ensures.len ∙ sym again ∙ ap map.len c.self.view_is)

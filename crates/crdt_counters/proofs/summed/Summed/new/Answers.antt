@@ -8,4 +8,5 @@ use Rattle.crdt_counters.proofs.summed.Summed.new.Goals as goal
 
 pub invariant_of-result : goal.invariant_of-result
 invariant_of-result c =
-    sym (ap (λ es. int_wrap w128 (total_by (λ e. e.1) es)) (entries_again dot_cmp_total dot_cmp_exact c.new.result.entries c.new.ensures.ordered ∙ c.new.ensures.empty) ∙ nothing_wraps)
+    let again = entries_again dot_cmp_total dot_cmp_exact c.new.result.entries c.new.ensures.ordered in
+    sym (ap (λ es. int_wrap w128 (total_by (λ e. e.1) es)) (again ∙ c.new.ensures.empty) ∙ nothing_wraps)

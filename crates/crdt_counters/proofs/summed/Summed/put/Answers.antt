@@ -16,7 +16,9 @@ invariant_of-self-2 c =
     let before = to_z-of_z w64 c.in_ok-before.before one ∙ c.in_ok-before.ensures.before in
     let left = to_z-of_z w128 c.less.result off in
     let amount = to_z-of_z w64 c.args.amount c.ranges.amount in
+    let less = c.less.ensures ∙ (λ i. int_wrap w128 (total i -ℤ before i)) in
+    let sum = c.sum-self-inside.ensures ∙ (λ i. int_wrap w128 (left i +ℤ amount i)) in
+    let old = from_entries c.self.inside.amounts.entries in
     to_z-of_z w128 c.sum-self-inside.result on
-    ∙ sum_put (from_entries c.self.inside.amounts.entries) c.args.dot c.args.amount _ _ _ c.self.invariant
-    (c.less.ensures ∙ (λ i. int_wrap w128 (total i -ℤ before i))) (c.sum-self-inside.ensures ∙ (λ i. int_wrap w128 (left i +ℤ amount i)))
-    ∙ ap sum_of (sym (c.in_ok-before.ensures.ok ∙ ap (insert (from_entries c.self.inside.amounts.entries) c.args.dot) amount))
+    ∙ sum_put old c.args.dot c.args.amount _ _ _ c.self.invariant less sum
+    ∙ ap sum_of (sym (c.in_ok-before.ensures.ok ∙ ap (insert old c.args.dot) amount))
