@@ -14,12 +14,14 @@ module _ {K : Type 0} where
 
 module _ {K : Type 0} {R : K → K → Ordering} (o : IsTotalOrder R) where
   -- a key above all others comes last
-  last : (ks : List K) (k : K) (rest : List K) → IsStrictlySortedBy R (ks ++ k ∷ rest) → insert_key R ks k ≡ ks ++ k ∷ []
+  last : (ks : List K) (k : K) (rest : List K) → IsStrictlySortedBy R (ks ++ k ∷ rest)
+      → insert_key R ks k ≡ ks ++ k ∷ []
   unfolding IsStrictlySortedBy
   last [] k rest s = refl
   last (x ∷ ks) k rest s =
       let above = o.antisymm k x ∙ ap ordering_reverse (one_of _ ks k rest s.0) in
-      ap (λ r. match_ordering r (k ∷ x ∷ ks) (x ∷ ks) (x ∷ insert_key R ks k)) above ∙ ap (λ l. x ∷ l) (last ks k rest s.1)
+      ap (λ r. match_ordering r (k ∷ x ∷ ks) (x ∷ ks) (x ∷ insert_key R ks k)) above
+      ∙ ap (λ l. x ∷ l) (last ks k rest s.1)
 
   -- with one key more put in, the keys so far and those of the rest are all
   pub one_more : (all so_far it : List K) (k : K) (rest new : List K) → IsStrictlySortedBy R all

@@ -14,7 +14,8 @@ loop-dot-preserved c =
     let rest = c.next.new.self in
     let all = keys_of c.args.amounts.now.entries in
     let first = rest_more deref it rest c.next.result c.in-Some.dot c.in-Some.is c.next.ensures.steps in
-    one_more dot_cmp_total all c.loop-dot.dots it c.in-Some.dot.now rest c.insert.new.self c.keys-dot-items.ensures.ordered
+    let ordered = c.keys-dot-items.ensures.ordered in
+    one_more dot_cmp_total all c.loop-dot.dots it c.in-Some.dot.now rest c.insert.new.self ordered
     first c.loop-dot.invariant c.in_ok-insert.ensures.ok
 
 pub returns : goal.returns

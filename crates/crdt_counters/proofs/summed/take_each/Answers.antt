@@ -11,7 +11,10 @@ use Rattle.crdt_counters.proofs.Sums.{sum_gone}
 use Rattle.crdt_counters.proofs.summed.take_each.Goals as goal
 
 pub loop-dot-init : goal.loop-dot-init
-loop-dot-init c = record { rest = sym (without_none _); total = to_z-of_z w128 c.args.total c.ranges.total ∙ c.requires }
+loop-dot-init c = record {
+  rest = sym (without_none _);
+  total = to_z-of_z w128 c.args.total c.ranges.total ∙ c.requires;
+}
 
 pub loop-dot-preserved : goal.loop-dot-preserved
 loop-dot-preserved c =
