@@ -3,6 +3,7 @@ ghost use Rattle.std.specs.Option.{option_copied};
 ghost use Rattle.crdt_any.specs.Simple.{counter_pn_state, counter_fat_state, set_go_state, set_aw_state, set_rw_state, flag_ew_state, flag_dw_state, register_lww_state, register_mv_state};
 
 use crdt_core::Kept;
+use crdt_counters::Summed;
 use crdt_registers::Stamped;
 use crdt_sets::{Elements, TextSet};
 use field_codec::Text;
@@ -11,7 +12,7 @@ use field_codec::Text;
 #[derive(Drop)]
 pub enum SimpleState {
     CounterPn(i128),
-    CounterFat(Kept<i64>),
+    CounterFat(Summed),
     SetGo(TextSet),
     SetAw(Elements),
     SetRw(Elements),
@@ -33,7 +34,7 @@ impl SimpleState {
     }
 
     /// The state, if it is that of a `CounterFat`.
-    pub fn counter_fat(&self) -> Option<&Kept<i64>>
+    pub fn counter_fat(&self) -> Option<&Summed>
         ensures { option_copied result ≡ counter_fat_state self.now }
     {
         match self {

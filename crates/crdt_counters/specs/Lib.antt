@@ -1,2 +1,3 @@
 pub mod EffectForm
 pub mod Exact
+pub mod Total

@@ -7,9 +7,10 @@ ghost use Rattle.crdt_counters.specs.EffectForm.{can_put_fat, keeps_fat, is_fat_
 ghost use Rattle.crdt_meanings.proofs.FatLaw.{fat_law, fat_in_maps, fat_resets};
 ghost use Rattle.crdt_meanings.specs.Without.{no_stamp};
 
-use crate::amounts::{amount_of, total_of};
+use crate::amounts::amount_of;
 use crate::fat_form::FatForm;
-use crdt_core::{Act, Crdt, Field, Kept, Kind, Op, Value, reads_state};
+use crate::summed::Summed;
+use crdt_core::{Act, Crdt, Field, Kind, Op, Value, reads_state};
 use crdt_meanings::FatEffect;
 use field_codec::{Form, TakeError, put_whole};
 use site_vector::Dot;
@@ -19,7 +20,7 @@ use std::alloc::{AllocError, Global};
 pub struct CounterFat;
 
 impl Crdt for CounterFat {
-    type State = Kept<i64>;
+    type State = Summed;
 
     type Effect = FatEffect;
 
@@ -69,8 +70,8 @@ impl Crdt for CounterFat {
         kind == Kind::CounterFat
     }
 
-    fn empty(alloc: Global, kind: Kind) -> Result<Kept<i64>, AllocError> {
-        Ok(Kept::new(alloc))
+    fn empty(alloc: Global, kind: Kind) -> Result<Summed, AllocError> {
+        Ok(Summed::new(alloc))
     }
 
     fn needs_state(kind: Kind, op: &Op) -> bool {
@@ -81,7 +82,7 @@ impl Crdt for CounterFat {
         false
     }
 
-    fn is_blank(state: &Kept<i64>) -> bool {
+    fn is_blank(state: &Summed) -> bool {
         state.is_empty()
     }
 
@@ -90,7 +91,7 @@ impl Crdt for CounterFat {
         kind: Kind,
         path: &[Field],
         act: &Act,
-        state: &Kept<i64>,
+        state: &Summed,
         now: u64,
     ) -> Result<FatEffect, AllocError> {
         match act {
@@ -106,7 +107,7 @@ impl Crdt for CounterFat {
     #[tactic(auto, using(crdt_core::proofs::KeptSteps::without_none))]
     fn apply(
         alloc: Global,
-        state: &mut Kept<i64>,
+        state: &mut Summed,
         dot: Dot,
         effect: &FatEffect,
     ) -> Result<(), AllocError> {
@@ -119,7 +120,7 @@ impl Crdt for CounterFat {
         }
     }
 
-    fn copy(alloc: Global, state: &Kept<i64>) -> Result<Kept<i64>, AllocError> {
+    fn copy(alloc: Global, state: &Summed) -> Result<Summed, AllocError> {
         state.copy()
     }
 
@@ -130,8 +131,8 @@ impl Crdt for CounterFat {
         }
     }
 
-    fn value(alloc: Global, state: &Kept<i64>) -> Result<Value, AllocError> {
-        Ok(Value::Int(total_of(state)))
+    fn value(alloc: Global, state: &Summed) -> Result<Value, AllocError> {
+        Ok(Value::Int(state.total()))
     }
 
     fn put_effect(out: &mut Vec<u8>, effect: &FatEffect) -> Result<(), AllocError> {
