@@ -1,9 +1,9 @@
 // A case of the table: what is played, and how it is told.
 use dc_engine::{ReaderSource, Sink, SliceSource, Source, Status, VecSink, WriterSink, run};
-use disk_makers::MemDisks;
+use disk_makers::{MemDisks, RealDisks};
 use std::alloc::{AllocError, Global};
-use std::io;
 use std::io::Write;
+use std::{fs, io};
 
 /// The bytes that a sink has room for, where a case doesn't say it.
 const ROOM: u64 = 10_000;
@@ -111,6 +111,37 @@ pub(crate) fn play_into<K: Sink>(
     let mut disks = MemDisks::new(alloc, DISK_ROOM);
     let status = run(alloc, &["play"], &mut source, sink, &mut disks);
     tell(out, status)
+}
+
+/// Plays a script over disks that are kept in files of this folder, and tells the bytes of the first partition's.
+pub(crate) fn play_in_files(
+    rt: &HostRuntime,
+    out: &mut Vec<u8>,
+    folder: &str,
+    script: &[u8],
+) -> io::Result<()> {
+    let alloc = rt.alloc();
+    let mut source = SliceSource::new(alloc, script);
+    let mut sink = VecSink::new(alloc, ROOM)?;
+    let mut disks = RealDisks::new(rt);
+    let words = ["play", "--data", folder];
+    let status = run(alloc, &words, &mut source, &mut sink, &mut disks);
+    out.extend_from_slice(sink.held())?;
+    tell(out, status)?;
+    let path = format!(in alloc; "{folder}/1.1.log")?;
+    match fs::read(rt, path.as_str()) {
+        Ok(bytes) => tell_bytes(out, bytes.as_slice()),
+        Err(_) => writeln!(out, "no file"),
+    }
+}
+
+/// The bytes of a file, in hexadecimal.
+fn tell_bytes(out: &mut Vec<u8>, bytes: &[u8]) -> io::Result<()> {
+    write!(out, "file ")?;
+    for byte in bytes {
+        write!(out, "{byte:02x}")?;
+    }
+    writeln!(out)
 }
 
 /// The code that a process ends with, and its line on standard error.

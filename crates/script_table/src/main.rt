@@ -25,7 +25,7 @@ fn answer_cases(rt: &HostRuntime) -> io::Result<()> {
     let alloc = rt.alloc();
     let text = io::read_to_string(alloc, rt.stdin())?;
     let mut out = Vec::new(alloc);
-    table::run(alloc, &mut out, text.as_str())?;
+    table::run(rt, &mut out, text.as_str())?;
     rt.stdout().write_all(out.as_slice())
 }
 

@@ -11,7 +11,8 @@
 //   spaces N        a line has N spaces in its midst      reader      the source is a reader that fails
 //   writer          the sink is a writer that fails       full        the sink is a writer that takes nothing
 //   blocks N        two blocks of N bytes are read from a reader, and written, and nothing is played
-use crate::case::{Faults, copy_by_blocks, play_from, play_into, play_over};
+//   files DIR       disks are kept in files of the folder DIR, and the bytes of the first partition's are told too
+use crate::case::{Faults, copy_by_blocks, play_from, play_in_files, play_into, play_over};
 use crate::ends::{Broken, Full};
 use dc_engine::{ReaderSource, WriterSink};
 use std::alloc::{AllocError, Global};
@@ -19,11 +20,14 @@ use std::io;
 use std::io::Write;
 
 /// Answers each case of a text.
-pub(crate) fn run(alloc: Global, out: &mut Vec<u8>, text: &str) -> io::Result<()> {
+pub(crate) fn run(rt: &HostRuntime, out: &mut Vec<u8>, text: &str) -> io::Result<()> {
     for case in text.split("== ").skip(1) {
         let (setting, script) = case.split_once('\n').unwrap_or((case, ""));
         writeln!(out, "== {setting}")?;
-        answer(alloc, out, setting, script.as_bytes())?;
+        match setting.strip_prefix("files ") {
+            Some(folder) => play_in_files(rt, out, folder, script.as_bytes())?,
+            None => answer(rt.alloc(), out, setting, script.as_bytes())?,
+        }
     }
     Ok(())
 }
