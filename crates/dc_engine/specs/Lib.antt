@@ -15,4 +15,5 @@ pub mod Reading
 pub mod Replies
 pub mod Status
 pub mod Outcome
+pub mod Told
 pub mod Words

@@ -6,6 +6,7 @@ ghost use Rattle.dc_engine.specs.Makers.{IsUnchanged};
 ghost use Rattle.dc_engine.specs.Outcome.{Outcome, PlayOutcome, change};
 ghost use Rattle.dc_engine.specs.Replies.{Replies, RepliesBefore};
 ghost use Rattle.dc_engine.specs.Status.{ends_whole};
+ghost use Rattle.dc_engine.specs.Told.{IsTold};
 ghost use Rattle.dc_engine.specs.Words.{asked};
 
 use crate::format::{Format, JsonWriter, LineWriter, Writer};
@@ -51,7 +52,8 @@ fn play_then<S: Source, K: Sink, M: Disks>(
     disks: &mut M,
     memory: Memory,
 ) -> Status
-    ensures { PlayOutcome (spelled_as request.entry.format) M.Disk.state (M.state disks.old) (M.state disks.new) result (change S.left S.faults source.old source.new) (change K.held K.faults sink.old sink.new) }
+    ensures played { PlayOutcome (spelled_as request.entry.format) M.Disk.state (M.state disks.old) (M.state disks.new) result (change S.left S.faults source.old source.new) (change K.held K.faults sink.old sink.new) }
+    ensures told { IsTold M.keeps_in M.state (option_copied request.entry.folder) result disks.old }
 {
     let folder = request.folder;
     match request.format {
@@ -69,7 +71,8 @@ fn play_by<S: Source, K: Sink, M: Disks, W: Writer>(
     disks: &mut M,
     memory: Memory,
 ) -> Status
-    ensures { PlayOutcome W.spelled M.Disk.state (M.state disks.old) (M.state disks.new) result (change S.left S.faults source.old source.new) (change K.held K.faults sink.old sink.new) }
+    ensures played { PlayOutcome W.spelled M.Disk.state (M.state disks.old) (M.state disks.new) result (change S.left S.faults source.old source.new) (change K.held K.faults sink.old sink.new) }
+    ensures told { IsTold M.keeps_in M.state (option_copied folder.entry) result disks.old }
 {
     let mut player: Player<M, W> = Player::new(alloc);
     let status = play_over(alloc, folder, source, sink, &mut player, disks);
@@ -90,6 +93,7 @@ fn play_over<S: Source, K: Sink, R: Responder>(
     requires held { R.holds responder.old (R.Maker.state disks.old).out }
     ensures same { ends_whole result ≡ true → IsUnchanged (R.Maker.state disks.old) (R.Maker.state disks.new) }
     ensures held { R.holds responder.new (R.Maker.state disks.new).out }
+    ensures told { IsTold R.Maker.keeps_in R.Maker.state (option_copied folder.entry) result disks.old }
     ensures played { Outcome (R.reached responder.new) (Replies R.reached) (RepliesBefore R.reached R.lacks) (Rose (R.Maker.state disks.old).faults (R.Maker.state disks.new).faults) result (change S.left S.faults source.old source.new) (change K.held K.faults sink.old sink.new) }
 {
     if keep_in(alloc, folder, disks).is_err() {
@@ -121,6 +125,7 @@ pub fn run<S: Source, K: Sink, M: Disks>(
     disks: &mut M,
 ) -> Status
     ensures played { IfSome (asked (map (λ word. word.now) words.now)) (λ asked. PlayOutcome (spelled_as asked.format) M.Disk.state (M.state disks.old) (M.state disks.new) result (change S.left S.faults source.old source.new) (change K.held K.faults sink.old sink.new)) }
+    ensures told { IfSome (asked (map (λ word. word.now) words.now)) (λ asked. IsTold M.keeps_in M.state asked.folder result disks.old) }
     ensures usage { IfNone (asked (map (λ word. word.now) words.now)) ((result ≡ Status.Usage) × (source.new ≡ source.old) × (sink.new ≡ sink.old) × (disks.new ≡ disks.old)) }
 {
     match request_of(words) {
