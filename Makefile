@@ -1,12 +1,13 @@
-# `make` alone prints the targets. SCRIPT is any path, from here or from the root.
+# `make` alone prints the targets. SCRIPT is any path, from here or from the root, and so is the folder DATA.
 SCRIPT ?= examples/plain_path.script
-export SCRIPT
+export SCRIPT DATA
 
 .PHONY: help test play built try view bench script
 
 help:
 	@echo 'make test               the gate: proves every crate, tries the must-fail edits, runs tests and programs (45 to 90 minutes)'
-	@echo 'make play SCRIPT=PATH   proves the program and plays a script (about an hour the first time, then at once)'
+	@echo 'make play SCRIPT=PATH   proves the program and plays a script (about an hour the first time, then at once);'
+	@echo '                        with DATA=DIR its logs are kept in new files of this folder'
 	@echo 'make try SCRIPT=PATH    plays a script before any proof (about a minute)'
 	@echo 'make view SCRIPT=PATH   plays as make play does, and draws the run as a page beside the script'
 	@echo 'make bench              proves and measures the play, of sites and crashes too, and reading and printing (minutes, after make play)'
@@ -34,7 +35,7 @@ built:
 
 # The program plays the script, and 1 tells of a bad line.
 play: script built
-	@crates/dc_shell/out/dc_shell play < "$$SCRIPT" || { status=$$?; \
+	@crates/dc_shell/out/dc_shell play $${DATA:+"--data=$$DATA"} < "$$SCRIPT" || { status=$$?; \
 		test $$status -eq 1 || exit $$status; \
 		echo 'make play: the program ended with status 1: a line of the script is not in the grammar.' >&2; }
 
