@@ -5,6 +5,7 @@ ghost use Rattle.disk_core.specs.States.{Rose};
 ghost use Rattle.cluster.specs.Built.{IsSaid, is_making};
 ghost use Rattle.cluster.specs.Reached.{Applies, parts_in};
 ghost use Rattle.site_partitions.specs.Reaches.{types_of};
+ghost use Rattle.disk_makers.specs.Makers.{StaysSure};
 ghost use Rattle.dc_engine.specs.Held.{HasOut, HasOutOf};
 ghost use Rattle.dc_engine.specs.Makers.{FailsAt, IsUnchanged};
 ghost use Rattle.dc_engine.specs.Player.{AnswersAsked};
@@ -95,6 +96,7 @@ impl<M: Disks, W: Writer> Player<M, W> {
         ensures lacks { result ≡ Err Unanswered.NoDisk → self.old.cluster ≡ None }
         ensures later { (M.state disks.old).faults ≤ (M.state disks.new).faults }
         ensures cause { result ≡ Err Unanswered.NoDisk → Rose (M.state disks.old).faults (M.state disks.new).faults }
+        ensures sure { StaysSure M.sure (result ≡ Err Unanswered.NoDisk) disks.old disks.new }
         ensures same { OnOk result (IsUnchanged (M.state disks.old) (M.state disks.new)) }
     {
         let alloc = self.alloc;
@@ -164,6 +166,7 @@ fn answer_to<M: Disks>(
     ensures lacks { result ≡ Err Unanswered.NoDisk → cluster.old ≡ None }
     ensures later { (M.state disks.old).faults ≤ (M.state disks.new).faults }
     ensures cause { result ≡ Err Unanswered.NoDisk → Rose (M.state disks.old).faults (M.state disks.new).faults }
+    ensures sure { StaysSure M.sure (result ≡ Err Unanswered.NoDisk) disks.old disks.new }
     ensures same { OnOk result (IsUnchanged (M.state disks.old) (M.state disks.new)) }
 {
     match reading(alloc, line, parsed) {
@@ -194,6 +197,7 @@ fn obey<C: Crdt, M: Disks>(
     ensures lacks { result ≡ Err Unanswered.NoDisk → cluster.old ≡ None }
     ensures later { (M.state disks.old).faults ≤ (M.state disks.new).faults }
     ensures cause { result ≡ Err Unanswered.NoDisk → Rose (M.state disks.old).faults (M.state disks.new).faults }
+    ensures sure { StaysSure M.sure (result ≡ Err Unanswered.NoDisk) disks.old disks.new }
     ensures same { OnOk result (IsUnchanged (M.state disks.old) (M.state disks.new)) }
 {
     let Some((sites, parts)) = size_to_make(cluster, command) else {
@@ -246,6 +250,7 @@ fn make_cluster<C: Crdt, M: Disks>(
     ensures ok { IfOk result (λ steps. Applies (types_of C.laws C.spells (fused_state M.Disk.state)) None (Command.Cluster sites parts) steps.items cluster.new) }
     ensures later { (M.state disks.old).faults ≤ (M.state disks.new).faults }
     ensures cause { result ≡ Err Unanswered.NoDisk → Rose (M.state disks.old).faults (M.state disks.new).faults }
+    ensures sure { StaysSure M.sure (result ≡ Err Unanswered.NoDisk) disks.old disks.new }
     ensures same { OnOk result (IsUnchanged (M.state disks.old) (M.state disks.new)) }
 {
     let made = make_all(alloc, disks, sites, parts)?;

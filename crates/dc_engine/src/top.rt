@@ -1,4 +1,4 @@
-ghost use Rattle.std.specs.Prelude.{◌≡◌, true, [], map, IfSome, IfNone, OnOk, Some};
+ghost use Rattle.std.specs.Prelude.{◌≡◌, ◌≢◌, true, [], map, IfSome, IfNone, OnOk, Some};
 ghost use Rattle.std.specs.Option.{option_copied};
 ghost use Rattle.disk_core.specs.States.{Rose};
 ghost use Rattle.dc_engine.specs.Format.{spelled_as};
@@ -6,7 +6,7 @@ ghost use Rattle.dc_engine.specs.Makers.{IsUnchanged};
 ghost use Rattle.dc_engine.specs.Outcome.{Outcome, PlayOutcome, change};
 ghost use Rattle.dc_engine.specs.Replies.{Replies, RepliesBefore};
 ghost use Rattle.dc_engine.specs.Status.{ends_whole};
-ghost use Rattle.dc_engine.specs.Told.{IsTold};
+ghost use Rattle.dc_engine.specs.Told.{IsSure, IsTold};
 ghost use Rattle.dc_engine.specs.Words.{asked};
 
 use crate::format::{Format, JsonWriter, LineWriter, Writer};
@@ -24,9 +24,10 @@ use std::alloc::{AllocError, Global};
 /// Plays a script from the source to the sink. The bytes written are the lines of one run that answers the script's
 /// lines, each spelled in the format, and what a partition answered in it is lawful (Cure over Clock-SI): all of them
 /// where the script was read to its end, those whose line feed was read where the source fails or the script is too
-/// long, those before a cluster whose disk can't be made, and else a front of such a run's lines. A script that is read
-/// to its end has the status `BadLine` exactly where one of its lines isn't in the grammar. Then the disks of its
-/// cluster go back to their maker, each that is up with the log that the run leaves.
+/// long, those before a cluster whose disk can't be made, and else a front of such a run's lines. A maker that fails
+/// at no call makes each disk. A script that is read to its end has the status `BadLine` exactly where one of its
+/// lines isn't in the grammar. Then the disks of its cluster go back to their maker, each that is up with the log
+/// that the run leaves.
 pub fn play<S: Source, K: Sink, M: Disks>(
     alloc: Global,
     format: Format,
@@ -34,7 +35,8 @@ pub fn play<S: Source, K: Sink, M: Disks>(
     sink: &mut K,
     disks: &mut M,
 ) -> Status
-    ensures { PlayOutcome (spelled_as format) M.Disk.state (M.state disks.old) (M.state disks.new) result (change S.left S.faults source.old source.new) (change K.held K.faults sink.old sink.new) }
+    ensures played { PlayOutcome (spelled_as format) M.Disk.state (M.state disks.old) (M.state disks.new) result (change S.left S.faults source.old source.new) (change K.held K.faults sink.old sink.new) }
+    ensures sure { M.sure disks.old → result ≢ Status.NoDisk }
 {
     let request = Request {
         format,
@@ -54,6 +56,7 @@ fn play_then<S: Source, K: Sink, M: Disks>(
 ) -> Status
     ensures played { PlayOutcome (spelled_as request.entry.format) M.Disk.state (M.state disks.old) (M.state disks.new) result (change S.left S.faults source.old source.new) (change K.held K.faults sink.old sink.new) }
     ensures told { IsTold M.keeps_in M.state (option_copied request.entry.folder) result disks.old }
+    ensures sure { IsSure M.sure (option_copied request.entry.folder) result disks.old }
 {
     let folder = request.folder;
     match request.format {
@@ -73,6 +76,7 @@ fn play_by<S: Source, K: Sink, M: Disks, W: Writer>(
 ) -> Status
     ensures played { PlayOutcome W.spelled M.Disk.state (M.state disks.old) (M.state disks.new) result (change S.left S.faults source.old source.new) (change K.held K.faults sink.old sink.new) }
     ensures told { IsTold M.keeps_in M.state (option_copied folder.entry) result disks.old }
+    ensures sure { IsSure M.sure (option_copied folder.entry) result disks.old }
 {
     let mut player: Player<M, W> = Player::new(alloc);
     let status = play_over(alloc, folder, source, sink, &mut player, disks);
@@ -94,6 +98,7 @@ fn play_over<S: Source, K: Sink, R: Responder>(
     ensures same { ends_whole result ≡ true → IsUnchanged (R.Maker.state disks.old) (R.Maker.state disks.new) }
     ensures held { R.holds responder.new (R.Maker.state disks.new).out }
     ensures told { IsTold R.Maker.keeps_in R.Maker.state (option_copied folder.entry) result disks.old }
+    ensures sure { IsSure R.Maker.sure (option_copied folder.entry) result disks.old }
     ensures played { Outcome (R.reached responder.new) (Replies R.reached) (RepliesBefore R.reached R.lacks) (Rose (R.Maker.state disks.old).faults (R.Maker.state disks.new).faults) result (change S.left S.faults source.old source.new) (change K.held K.faults sink.old sink.new) }
 {
     if keep_in(alloc, folder, disks).is_err() {
@@ -106,6 +111,7 @@ fn play_over<S: Source, K: Sink, R: Responder>(
 fn keep_in<M: Disks>(alloc: Global, folder: Option<&str>, disks: &mut M) -> Result<(), AllocError>
     ensures kept { OnOk result (IfSome (option_copied folder.entry) (λ name. M.keeps_in disks.new name)) }
     ensures state { M.state disks.new ≡ M.state disks.old }
+    ensures same { IfNone (option_copied folder.entry) (disks.new ≡ disks.old) }
 {
     match folder {
         Some(folder) => disks.keep_in(alloc, folder),
@@ -113,10 +119,11 @@ fn keep_in<M: Disks>(alloc: Global, folder: Option<&str>, disks: &mut M) -> Resu
     }
 }
 
-/// Does what the process's words ask for, its own name left out: for `play`, which `--json` and a folder may follow in
-/// any order (`--data DIR` or `--data=DIR`), it plays the script, with replies as JSON objects and with disks in that
-/// folder; every other list of words is a fault of usage, which reads and writes nothing. The process is to end then:
-/// what memory the tables of the cluster have is left to the system, as by `Vec::leak`.
+/// Does what the process's words ask for, its own name left out: for `play`, which `--json` and a folder may follow
+/// in any order (`--data DIR` or `--data=DIR`), it plays the script, with replies as JSON objects and with disks in
+/// that folder; without one, a maker that fails at no call makes each disk. Every other list of words is a fault of
+/// usage, which reads and writes nothing. The process is to end then: what memory the tables of the cluster have is
+/// left to the system, as by `Vec::leak`.
 pub fn run<S: Source, K: Sink, M: Disks>(
     alloc: Global,
     words: &[&str],
@@ -126,6 +133,7 @@ pub fn run<S: Source, K: Sink, M: Disks>(
 ) -> Status
     ensures played { IfSome (asked (map (λ word. word.now) words.now)) (λ asked. PlayOutcome (spelled_as asked.format) M.Disk.state (M.state disks.old) (M.state disks.new) result (change S.left S.faults source.old source.new) (change K.held K.faults sink.old sink.new)) }
     ensures told { IfSome (asked (map (λ word. word.now) words.now)) (λ asked. IsTold M.keeps_in M.state asked.folder result disks.old) }
+    ensures sure { IfSome (asked (map (λ word. word.now) words.now)) (λ asked. IsSure M.sure asked.folder result disks.old) }
     ensures usage { IfNone (asked (map (λ word. word.now) words.now)) ((result ≡ Status.Usage) × (source.new ≡ source.old) × (sink.new ≡ sink.old) × (disks.new ≡ disks.old)) }
 {
     match request_of(words) {

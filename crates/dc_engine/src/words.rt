@@ -2,7 +2,7 @@ ghost use Rattle.std.specs.Prelude.{◌≡◌, drop, map, IfOk, IfSome, IfNone, 
 ghost use Rattle.std.specs.Option.{option_copied};
 ghost use Rattle.dc_engine.specs.Format.{spelled_as};
 ghost use Rattle.dc_engine.specs.Outcome.{PlayOutcome, change};
-ghost use Rattle.dc_engine.specs.Told.{IsTold};
+ghost use Rattle.dc_engine.specs.Told.{IsSure, IsTold};
 ghost use Rattle.dc_engine.specs.Words.{asked, asked_in, with_options, with_option, with_two, with_three, kept_in, named, joined};
 
 use crate::format::Format;
@@ -155,6 +155,7 @@ pub fn run_words<S: Source, K: Sink, M: Disks>(
 ) -> Result<Status, AllocError>
     ensures played { IfSome (asked (map string_bytes (drop 1 words.now))) (λ asked. IfOk result (λ status. PlayOutcome (spelled_as asked.format) M.Disk.state (M.state disks.old) (M.state disks.new) status (change S.left S.faults source.old source.new) (change K.held K.faults sink.old sink.new))) }
     ensures told { IfSome (asked (map string_bytes (drop 1 words.now))) (λ asked. IfOk result (λ status. IsTold M.keeps_in M.state asked.folder status disks.old)) }
+    ensures sure { IfSome (asked (map string_bytes (drop 1 words.now))) (λ asked. IfOk result (λ status. IsSure M.sure asked.folder status disks.old)) }
     ensures usage { IfNone (asked (map string_bytes (drop 1 words.now))) (IfOk result (λ status. (status ≡ Status.Usage) × (source.new ≡ source.old) × (sink.new ≡ sink.old) × (disks.new ≡ disks.old))) }
     ensures unread { OnErr result (source.new ≡ source.old) }
     ensures unwritten { OnErr result (sink.new ≡ sink.old) }

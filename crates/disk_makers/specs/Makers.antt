@@ -41,3 +41,7 @@ pub record TakesBack {D : Type 0} (part : PartId) (disk : D) (old new : Maker D)
   pub faults : new.faults ≡ old.faults
   pub tells : new.tells ≡ old.tells
   pub given : IsTrue old.tells → new.given ≡ old.given ++ (part, disk) ∷ []
+
+-- A maker that fails at no call stays so, and nothing fails by it.
+abbrev pub StaysSure : {M : Type 0} → (M → Type 0) → Type 0 → M → M → Type 0
+StaysSure sure failed old new = sure old → sure new × (failed → ⊥)

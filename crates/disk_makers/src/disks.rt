@@ -1,6 +1,6 @@
 // What a maker of disks is.
-ghost use Rattle.std.specs.Prelude.{◌≡◌, ◌≤◌, ◌-◌, ◌^◌, ℕ, List, OnOk, OnErr};
-ghost use Rattle.disk_makers.specs.Makers.{Maker, Makes, TakesBack};
+ghost use Rattle.std.specs.Prelude.{◌≡◌, ◌≤◌, ◌-◌, ◌^◌, ℕ, List, Err, OnOk, OnErr};
+ghost use Rattle.disk_makers.specs.Makers.{Maker, Makes, TakesBack, StaysSure};
 
 use crate::MakeFault;
 use disk_core::Disk;
@@ -15,6 +15,9 @@ pub trait Disks {
     type Disk: Disk + Drop;
 
     ghost state: { Self → Maker Self.Disk };
+
+    /// `sure m`: m fails at no call, but where memory runs out.
+    ghost sure: { Self → Type 0 };
 
     /// `keeps_in m folder`: what m makes from now on is kept in this folder, if m keeps disks in folders at all.
     ghost keeps_in: { Self → List ℕ → Type 0 };
@@ -36,12 +39,14 @@ pub trait Disks {
     ///
     /// `Failed` where the disk can't be made, and `NoMemory` where memory runs out. No disk is out for it then.
     fn make(&mut self, alloc: Global, part: PartId) -> Result<Self::Disk, MakeFault>
-        ensures { Makes Self.Disk.state result (state self.old) (state self.new) };
+        ensures makes { Makes Self.Disk.state result (state self.old) (state self.new) }
+        ensures sure { StaysSure sure (result ≡ Err MakeFault.Failed) self.old self.new };
 
     /// Takes back the disk of a partition, where one is out. Takes no memory: its place was taken when it was made.
     fn give_back(&mut self, part: PartId, disk: Self::Disk)
         requires { 1 ≤ (state self.old).out }
-        ensures { TakesBack part disk (state self.old) (state self.new) };
+        ensures takes { TakesBack part disk (state self.old) (state self.new) }
+        ensures sure { sure self.old → sure self.new };
 
     ghost faults_fit: { (maker : Self) → (state maker).faults ≤ 2 ^ 64 - 1 };
 }

@@ -108,12 +108,14 @@ impl MemDisks {
 }
 
 impl Disks for MemDisks {
-    ghost use Rattle.disk_makers.specs.Makers.{Makes, TakesBack};
-    ghost use Rattle.disk_makers.specs.MemMakers.{mem_maker, makes_begun, CountsMake, IsSameMaker};
+    ghost use Rattle.disk_makers.specs.Makers.{Makes, StaysSure, TakesBack};
+    ghost use Rattle.disk_makers.specs.MemMakers.{mem_maker, makes_begun, makes_to_fail, CountsMake, IsSameMaker};
 
     type Disk = MemDisk;
 
     ghost state = { mem_maker };
+
+    ghost sure = { λ maker. makes_to_fail maker ≡ [] };
 
     ghost keeps_in = { λ maker folder. Unit {0} };
 
@@ -127,6 +129,7 @@ impl Disks for MemDisks {
 
     fn make(&mut self, alloc: Global, _part: PartId) -> Result<MemDisk, MakeFault>
         ensures makes { Makes mem_state result (mem_maker self.old) (mem_maker self.new) }
+        ensures sure { StaysSure (λ maker. makes_to_fail maker ≡ []) (result ≡ Err MakeFault.Failed) self.old self.new }
         ensures counts { CountsMake result self.old self.new }
     {
         if self.calls.begin() {
@@ -145,6 +148,7 @@ impl Disks for MemDisks {
     fn give_back(&mut self, part: PartId, disk: MemDisk)
         requires { 1 ≤ (mem_maker self.old).out }
         ensures takes { TakesBack part disk (mem_maker self.old) (mem_maker self.new) }
+        ensures sure { makes_to_fail self.old ≡ [] → makes_to_fail self.new ≡ [] }
         ensures same { IsSameMaker self.old self.new }
         ensures begun { makes_begun self.new ≡ makes_begun self.old }
     {

@@ -1,7 +1,7 @@
 // The maker of the program's disks.
-ghost use Rattle.std.specs.Prelude.{◌≡◌, ◌≤◌, [], false, None, Some, is_some, IfOk};
+ghost use Rattle.std.specs.Prelude.{◌≡◌, ◌≢◌, ◌≤◌, [], false, None, Some, Err, is_some, IfOk};
 ghost use Rattle.disk_makers.specs.FileDisks.{file_state, fresh_state, is_in_file};
-ghost use Rattle.disk_makers.specs.Makers.{IsMade, Makes, TakesBack};
+ghost use Rattle.disk_makers.specs.Makers.{IsMade, Makes, StaysSure, TakesBack};
 
 use crate::backing::or_failed;
 use crate::{Disks, FileDisk, MakeFault, SystemFile};
@@ -48,6 +48,7 @@ impl<'f, R: Files> RealDisks<'f, R> {
     fn empty(&self, alloc: Global, part: PartId) -> Result<FileDisk<SystemFile<R::File>>, MakeFault>
         ensures empty { IfOk result (λ disk. file_state disk ≡ fresh_state 2147483648) }
         ensures kept { IfOk result (λ disk. is_in_file disk ≡ is_some (folder_of self.now)) }
+        ensures sure { folder_of self.now ≡ None → result ≢ Err MakeFault.Failed }
     {
         match &self.folder {
             Some(folder) => {
@@ -60,12 +61,14 @@ impl<'f, R: Files> RealDisks<'f, R> {
 
     /// A disk that holds no record.
     fn made(&self, alloc: Global, part: PartId) -> Result<FileDisk<SystemFile<R::File>>, MakeFault>
-        ensures { IfOk result (λ disk. IsMade (file_state disk)) }
+        ensures made { IfOk result (λ disk. IsMade (file_state disk)) }
+        ensures sure { folder_of self.now ≡ None → result ≢ Err MakeFault.Failed }
     {
         let mut disk = self.empty(alloc, part)?;
         if format(&mut disk).is_ok() {
             Ok(disk)
-        } else if disk.starved() {
+        } else if self.folder.is_none() || disk.starved() {
+            // A disk in memory fails only where it finds no memory to grow.
             Err(MakeFault::NoMemory)
         } else {
             Err(MakeFault::Failed)
@@ -99,6 +102,8 @@ impl<'f, R: Files> Disks for RealDisks<'f, R> {
 
     ghost state = { real_maker };
 
+    ghost sure = { λ maker. folder_of maker ≡ None };
+
     ghost keeps_in = { λ maker folder. folder_of maker ≡ Some folder };
 
     ghost faults_fit = { real_faults_fit };
@@ -114,6 +119,7 @@ impl<'f, R: Files> Disks for RealDisks<'f, R> {
         part: PartId,
     ) -> Result<FileDisk<SystemFile<R::File>>, MakeFault>
         ensures makes { Makes file_state result (real_maker self.old) (real_maker self.new) }
+        ensures sure { StaysSure (λ maker. folder_of maker ≡ None) (result ≡ Err MakeFault.Failed) self.old self.new }
         ensures folder { folder_of self.new ≡ folder_of self.old }
     {
         if self.out == u64::MAX {
@@ -135,6 +141,7 @@ impl<'f, R: Files> Disks for RealDisks<'f, R> {
     fn give_back(&mut self, part: PartId, disk: FileDisk<SystemFile<R::File>>)
         requires { 1 ≤ (real_maker self.old).out }
         ensures takes { TakesBack part disk (real_maker self.old) (real_maker self.new) }
+        ensures sure { folder_of self.old ≡ None → folder_of self.new ≡ None }
         ensures folder { folder_of self.new ≡ folder_of self.old }
     {
         let _dropped = disk;

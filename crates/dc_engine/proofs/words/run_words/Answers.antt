@@ -18,3 +18,8 @@ pub returns-clause-told : goal.returns-clause-told
 returns-clause-told g c =
     let words : map (λ text. text.now) c.as_slice.result.now ≡ map string_bytes (drop 1 c.args.words.now) = (λ i. map (λ text. text.now) (c.as_slice.ensures.value i)) ∙ c.in_ok-texts.ensures ∙ ap (map string_bytes) c.behind_name.ensures in
     if_some_along _ _ _ (ap asked words) c.run-status.ensures.told
+
+pub returns-clause-sure : goal.returns-clause-sure
+returns-clause-sure g c =
+    let words : map (λ text. text.now) c.as_slice.result.now ≡ map string_bytes (drop 1 c.args.words.now) = (λ i. map (λ text. text.now) (c.as_slice.ensures.value i)) ∙ c.in_ok-texts.ensures ∙ ap (map string_bytes) c.behind_name.ensures in
+    if_some_along _ _ _ (ap asked words) c.run-status.ensures.sure

@@ -9,7 +9,7 @@ use Rattle.dc_engine.proofs.player.makers.give_back_all.Goals as goal
 pub loop-partition-preserved : goal.loop-partition-preserved
 loop-partition-preserved g c = giving_more c.args.parts (map disk_from c.args.partitions.items) (g.M.Disks.state c.args.disks.now) c.loop-partition.at (disk_from c.in-Some.partition) (map disk_from c.next.new.self.rest.items) (g.M.Disks.state c.loop-partition.disks) (g.M.Disks.state c.give_back.new.self)
     (subst (λ l. IsGiving c.args.parts (map disk_from c.args.partitions.items) (g.M.Disks.state c.args.disks.now) c.loop-partition.at (map disk_from l) (g.M.Disks.state c.loop-partition.disks)) c.in-Some.ensures.steps.0 c.loop-partition.invariant)
-    (subst (λ d. TakesBack c.loop-partition.at d (g.M.Disks.state c.loop-partition.disks) (g.M.Disks.state c.give_back.new.self)) (c.into_inner.ensures ∙ ap inside c.disk_out.ensures) c.give_back.ensures)
+    (subst (λ d. TakesBack c.loop-partition.at d (g.M.Disks.state c.loop-partition.disks) (g.M.Disks.state c.give_back.new.self)) (c.into_inner.ensures ∙ ap inside c.disk_out.ensures) c.give_back.ensures.takes)
     c.next-at.result c.next-at.ensures
 
 pub returns : goal.returns

@@ -27,6 +27,7 @@ loop-room-preserved g c =
       held = c.play_block.ensures.held;
       counted = omega (arith, c.loop-room.invariant.counted, c.play_block.ensures.disks_later);
       same = unchanged_both _ _ _ c.loop-room.invariant.same (rw c.in-Ok-play_block.is at c.play_block.ensures.same);
+      sure = λ s. (c.play_block.ensures.sure (c.loop-room.invariant.sure s)).0;
     }
 
 pub returns-in-Err-play_block-clause-finished : goal.returns-in-Err-play_block-clause-finished

@@ -14,6 +14,7 @@ loop-end-preserved g c =
       held = c.answer_line.ensures.held;
       later = omega (arith, c.loop-end.invariant.later, c.answer_line.ensures.later);
       same = unchanged_both _ _ _ c.loop-end.invariant.same same;
+      sure = λ s. (c.answer_line.ensures.sure (c.loop-end.invariant.sure s)).0;
     }
 
 pub returns-in-Err-clause-before : goal.returns-in-Err-clause-before
@@ -34,3 +35,8 @@ returns-clause-ok g c =
     let none = rw c.in_default.is at c.line_end.ensures.none in
     let begun = rw c.in_ok-extend.was at c.extend.ensures.ok in
     moves_rest g.R.Responder.reached _ _ _ _ _ _ _ _ _ c.loop-end.invariant.moves none begun
+
+pub returns-in-Err-clause-sure : goal.returns-in-Err-clause-sure
+returns-in-Err-clause-sure g c =
+    let on = rw c.in-Err.is at c.answer_line.ensures.sure in
+    λ s. on (c.loop-end.invariant.sure s)
