@@ -8,9 +8,9 @@ use Rattle.dc_engine.proofs.player.makers.give_back_made.Goals as goal
 pub loop-disk-preserved : goal.loop-disk-preserved
 loop-disk-preserved g c = record {
   giving = giving_more c.args.parts (map inside c.args.made.items) (g.M.Disks.state c.args.disks.now) c.loop-disk.at (inside c.in-Some.disk) (map inside c.next.new.self.rest.items) (g.M.Disks.state c.loop-disk.disks) (g.M.Disks.state c.give_back.new.self)
-    (subst (λ l. IsGiving c.args.parts (map inside c.args.made.items) (g.M.Disks.state c.args.disks.now) c.loop-disk.at (map inside l) (g.M.Disks.state c.loop-disk.disks)) c.in-Some.ensures.steps.0 c.loop-disk.invariant.giving)
-    (subst (λ d. TakesBack c.loop-disk.at d (g.M.Disks.state c.loop-disk.disks) (g.M.Disks.state c.give_back.new.self)) c.into_inner.ensures c.give_back.ensures.takes)
-    c.next-at.result c.next-at.ensures;
+      (subst (λ l. IsGiving c.args.parts (map inside c.args.made.items) (g.M.Disks.state c.args.disks.now) c.loop-disk.at (map inside l) (g.M.Disks.state c.loop-disk.disks)) c.in-Some.ensures.steps.0 c.loop-disk.invariant.giving)
+      (subst (λ d. TakesBack c.loop-disk.at d (g.M.Disks.state c.loop-disk.disks) (g.M.Disks.state c.give_back.new.self)) c.into_inner.ensures c.give_back.ensures.takes)
+      c.next-at.result c.next-at.ensures;
   sure = λ s. c.give_back.ensures.sure (c.loop-disk.invariant.sure s);
 }
 
