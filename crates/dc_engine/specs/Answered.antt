@@ -8,6 +8,7 @@ use Rattle.world_model.specs.commands.Run.{Run, written_lines}
 use Rattle.world_model.specs.commands.ScriptAnswers.{Answers}
 use Rattle.cluster.specs.Built.{is_built}
 use Rattle.cluster.specs.History.{ShowsHistory}
+use Rattle.dc_engine.specs.declared.framing.Framing.{Framing}
 use Rattle.dc_engine.specs.GivenBack.{GivenBack}
 use Rattle.dc_engine.specs.ObjectKinds.{kinds}
 use Rattle.dc_engine.specs.Reading.{asked_of}
@@ -15,18 +16,18 @@ use Rattle.dc_engine.specs.Reading.{asked_of}
 -- these bytes are the lines of one run that answers these lines of a script, the first first. Each refusal in it that comes before
 -- a partition is asked is due, and what partitions answered is one lawful history, by a run of the world of all sites and partitions.
 -- `spelled` says how a reply is written, by the number of the script's line
-pub record Answered (spelled : ℕ → Step → List ℕ) (lines : List (List ℕ)) (bytes : List ℕ) : Type 0 where
+pub record Answered (f : Framing) (spelled : ℕ → Step → List ℕ) (lines : List (List ℕ)) (bytes : List ℕ) : Type 0 where
   pub run : Run
-  pub answers : Answers is_built (reverse (map asked_of lines)) run
+  pub answers : Answers is_built (reverse (map (asked_of f) lines)) run
   pub history : ShowsHistory kinds run
   pub written : bytes ≡ written_lines spelled run
 
 -- and no cluster stands then
-pub record AnsweredBefore (spelled : ℕ → Step → List ℕ) (lines : List (List ℕ)) (bytes : List ℕ) : Type 0 where
-  pub answered : Answered spelled lines bytes
+pub record AnsweredBefore (f : Framing) (spelled : ℕ → Step → List ℕ) (lines : List (List ℕ)) (bytes : List ℕ) : Type 0 where
+  pub answered : Answered f spelled lines bytes
   pub lacks : has_cluster answered.run ≡ false
 
 -- and the disks of the cluster that stands at the end are given back, with the logs of that history, where their maker tells them
-pub record AnsweredWhole {D : Type 0} (spelled : ℕ → Step → List ℕ) (state : D → DiskState) (old new : Maker D) (lines : List (List ℕ)) (bytes : List ℕ) : Type 0 where
-  pub answered : Answered spelled lines bytes
+pub record AnsweredWhole {D : Type 0} (f : Framing) (spelled : ℕ → Step → List ℕ) (state : D → DiskState) (old new : Maker D) (lines : List (List ℕ)) (bytes : List ℕ) : Type 0 where
+  pub answered : Answered f spelled lines bytes
   pub given_back : IsTrue old.tells → GivenBack state answered.run answered.history.events old new

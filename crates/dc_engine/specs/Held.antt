@@ -11,6 +11,7 @@ use Rattle.cluster.specs.Built.{is_built}
 use Rattle.cluster.specs.Post.{WholeState}
 use Rattle.cluster.specs.Reached as cluster
 use Rattle.site_partitions.specs.Reaches.{Types}
+use Rattle.dc_engine.specs.declared.framing.Framing.{Framing}
 use Rattle.dc_engine.specs.ObjectKinds.{Effect, types}
 use Rattle.dc_engine.specs.Reading.{asked_of}
 
@@ -30,10 +31,10 @@ module _ {D : Type 0} (state : D → DiskState) where
   IsLeft c run = cluster.Reached (types (fused_state state)) c run
 
   -- a run of the cluster, which left it so, answers these lines, the first first, with these bytes
-  pub record Reached (spelled : ℕ → Step → List ℕ) (c : Standing D) (lines : List (List ℕ)) (bytes : List ℕ) : Type 0 where
+  pub record Reached (f : Framing) (spelled : ℕ → Step → List ℕ) (c : Standing D) (lines : List (List ℕ)) (bytes : List ℕ) : Type 0 where
     pub run : Run
     pub left : IsLeft c run
-    pub answers : Answers is_built (reverse (map asked_of lines)) run
+    pub answers : Answers is_built (reverse (map (asked_of f) lines)) run
     pub written : bytes ≡ written_lines spelled run
 
   abbrev pub HasOut : ℕ → Standing D → Type 0

@@ -1,6 +1,7 @@
 pub mod Answered
 pub mod Blocks
 pub mod Causes
+pub mod Ends
 pub mod Faults
 pub mod Format
 pub mod GivenBack

@@ -7,6 +7,7 @@ use Rattle.dc_engine.specs.Answered.{Answered, AnsweredWhole, AnsweredBefore}
 use Rattle.dc_engine.specs.Played.{Played, PlayedEnded, PlayedTooLong, PlayedFront, PlayedBefore}
 use Rattle.dc_engine.specs.Reading.{has_bad}
 use Rattle.world_model.specs.declared.step.Step.{Step}
+use Rattle.dc_engine.specs.declared.framing.Framing.{Framing}
 use Rattle.dc_engine.specs.declared.status.Status.{Status}
 use Rattle.dc_engine.specs.declared.status.Status.TheVariants as status
 
@@ -31,23 +32,23 @@ abbrev pub HasFailed : Change → Type 0
 HasFailed c = Rose c.faults c.faults_after
 
 -- these replies, and whether one of the lines isn't in the grammar
-abbrev pub And : (List (List ℕ) → List ℕ → Type 0) → Bool → List (List ℕ) → List ℕ → Type 0
-And replies bad lines bytes = replies lines bytes × (has_bad lines ≡ bad)
+abbrev pub And : Framing → (List (List ℕ) → List ℕ → Type 0) → Bool → List (List ℕ) → List ℕ → Type 0
+And f replies bad lines bytes = replies lines bytes × (has_bad f lines ≡ bad)
 
-module _ (whole replies earlier : List (List ℕ) → List ℕ → Type 0) (no_disk : Type 0) where
-  -- all replies where the script was read to its end, those to the lines whose LF was read where the source fails or the script is
+module _ (f : Framing) (whole replies earlier : List (List ℕ) → List ℕ → Type 0) (no_disk : Type 0) where
+  -- all replies where the script was read to its end, those to the lines whose end was read where the source fails or the script is
   -- too long, those to all lines before a cluster whose disk couldn't be made, where none stood yet, and else a front of the next
   -- ones; a source, a sink or a maker is called faulty only where it failed
   abbrev pub Outcome : Status → Change → Change → Type 0
-  Outcome status.Done source sink = Played most_bytes (And whole false) source.before source.after sink.before sink.after
-  Outcome status.BadLine source sink = Played most_bytes (And whole true) source.before source.after sink.before sink.after
+  Outcome status.Done source sink = Played f most_bytes (And f whole false) source.before source.after sink.before sink.after
+  Outcome status.BadLine source sink = Played f most_bytes (And f whole true) source.before source.after sink.before sink.after
   Outcome status.Usage source sink = ⊥
-  Outcome status.ReadFault source sink = PlayedEnded most_bytes replies source.before source.after sink.before sink.after × HasFailed source
-  Outcome status.WriteFault source sink = PlayedFront block_bytes most_bytes replies source.before source.after sink.before sink.after × HasFailed sink
-  Outcome status.NoMemory source sink = PlayedFront block_bytes most_bytes replies source.before source.after sink.before sink.after
-  Outcome status.TooLong source sink = PlayedTooLong most_bytes replies source.before source.after sink.before sink.after
-  Outcome status.NoDisk source sink = PlayedBefore block_bytes most_bytes earlier source.before source.after sink.before sink.after × no_disk
+  Outcome status.ReadFault source sink = PlayedEnded f most_bytes replies source.before source.after sink.before sink.after × HasFailed source
+  Outcome status.WriteFault source sink = PlayedFront f block_bytes most_bytes replies source.before source.after sink.before sink.after × HasFailed sink
+  Outcome status.NoMemory source sink = PlayedFront f block_bytes most_bytes replies source.before source.after sink.before sink.after
+  Outcome status.TooLong source sink = PlayedTooLong f most_bytes replies source.before source.after sink.before sink.after
+  Outcome status.NoDisk source sink = PlayedBefore f block_bytes most_bytes earlier source.before source.after sink.before sink.after × no_disk
 
 -- with replies that are written so, and the maker of the disks before and after
-abbrev pub PlayOutcome : {D : Type 0} → (ℕ → Step → List ℕ) → (D → DiskState) → Maker D → Maker D → Status → Change → Change → Type 0
-PlayOutcome spelled state old new = Outcome (AnsweredWhole spelled state old new) (Answered spelled) (AnsweredBefore spelled) (Rose old.faults new.faults)
+abbrev pub PlayOutcome : {D : Type 0} → Framing → (ℕ → Step → List ℕ) → (D → DiskState) → Maker D → Maker D → Status → Change → Change → Type 0
+PlayOutcome f spelled state old new = Outcome f (AnsweredWhole f spelled state old new) (Answered f spelled) (AnsweredBefore f spelled) (Rose old.faults new.faults)

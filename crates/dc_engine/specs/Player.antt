@@ -6,6 +6,7 @@ use Rattle.world_model.specs.declared.step.Step.{Step}
 use Rattle.world_model.specs.declared.step.Step.TheVariants as step
 use Rattle.world_model.specs.commands.Answers.{Asked, nothing, unreadable, asks}
 use Rattle.cluster.specs.Reached.{Applies}
+use Rattle.dc_engine.specs.declared.framing.Framing.{Framing}
 use Rattle.dc_engine.specs.Held.{Standing, Reached}
 use Rattle.dc_engine.specs.ObjectKinds.{types}
 use Rattle.dc_engine.specs.Reading.{has_bad}
@@ -24,7 +25,7 @@ module _ {D : Type 0} (state : D → DiskState) where
   AnswersAsked old bad (asks c) steps new new_bad = Applies (types (fused_state state)) old c steps new × (new_bad ≡ bad)
 
   -- the player stands where these lines, the first first, were answered with these bytes
-  pub record ReachedBy (spelled : ℕ → Step → List ℕ) (p : PlayerState D) (lines : List (List ℕ)) (bytes : List ℕ) : Type 0 where
-    pub reached : Reached state spelled p.cluster lines bytes
-    pub is_bad : has_bad lines ≡ p.met_bad
+  pub record ReachedBy (f : Framing) (spelled : ℕ → Step → List ℕ) (p : PlayerState D) (lines : List (List ℕ)) (bytes : List ℕ) : Type 0 where
+    pub reached : Reached state f spelled p.cluster lines bytes
+    pub is_bad : has_bad f lines ≡ p.met_bad
     pub is_counted : length lines ≡ p.count

@@ -1,10 +1,13 @@
-ghost use Rattle.std.specs.Prelude.{◌≡◌, ◌++◌, ℕ, List, OnOk, OnErr};
+ghost use Rattle.std.specs.Prelude.{◌≡◌, ◌≤◌, ◌+◌, ◌++◌, ℕ, List, length, take, drop, OnOk, OnErr};
+ghost use Rattle.field_codec.specs.Spelling.{number};
 ghost use Rattle.world_model.specs.declared.step.Step.{Step};
-ghost use Rattle.dc_engine.specs.Format.{spelled_as};
+ghost use Rattle.dc_engine.specs.Format.{in_frame, spelled_as};
 ghost use Rattle.dc_engine.specs.declared.format.Format.TheVariants.{Lines, Json};
 
+use byteorder::{BigEndian, ByteOrder};
 use reply_text::{json_line, line};
 use std::alloc::{AllocError, Global};
+use std::marker::PhantomData;
 use world_model::Step;
 
 /// How the replies to a script are written.
@@ -51,4 +54,56 @@ impl Writer for JsonWriter {
     fn write(alloc: Global, number: u64, step: &Step, out: &mut Vec<u8>) -> Result<(), AllocError> {
         json_line(alloc, number, step, out)
     }
+}
+
+/// Writes as frames what this writer writes as lines.
+pub(crate) struct Framed<W: Writer> {
+    lines: PhantomData<W>,
+}
+
+impl<W: Writer> Writer for Framed<W> {
+    ghost spelled = { λ number step. in_frame (W.spelled number step) };
+
+    fn write(alloc: Global, number: u64, step: &Step, out: &mut Vec<u8>) -> Result<(), AllocError> {
+        let start = out.len();
+        match write_frame::<W>(alloc, number, step, out) {
+            Ok(()) => Ok(()),
+            Err(error) => {
+                out.truncate(start);
+                Err(error)
+            }
+        }
+    }
+}
+
+/// Writes a reply as a frame; on an error what was written of it stands behind what was there.
+fn write_frame<W: Writer>(
+    alloc: Global,
+    number: u64,
+    step: &Step,
+    out: &mut Vec<u8>,
+) -> Result<(), AllocError>
+    ensures ok { OnOk result (out.new.items ≡ out.old.items ++ in_frame (W.spelled number step.now)) }
+    ensures err { OnErr result (take (length out.old.items) out.new.items ≡ out.old.items) }
+{
+    let start = out.len();
+    out.extend_from_slice(&[0; 4])?;
+    let head_end = out.len();
+    W::write(alloc, number, step, out)?;
+    // A line ends at a line feed, which a frame hasn't.
+    let size = (out.len() - head_end).saturating_sub(1);
+    out.truncate(head_end + size);
+    let Ok(size) = u32::try_from(size) else {
+        return Err(AllocError);
+    };
+    write_head(out, start, size);
+    Ok(())
+}
+
+/// Writes the head of a frame, for which there is room at this place.
+fn write_head(out: &mut Vec<u8>, start: usize, size: u32)
+    requires { start + 4 ≤ length out.old.items }
+    ensures { out.new.items ≡ take start out.old.items ++ (number 4 size ++ drop (start + 4) out.old.items) }
+{
+    BigEndian::write_u32(&mut out[start..], size);
 }

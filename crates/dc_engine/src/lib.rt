@@ -3,6 +3,7 @@
 
 mod fault;
 mod format;
+mod framing;
 mod player;
 mod responder;
 mod script;
@@ -13,6 +14,7 @@ mod unanswered;
 mod words;
 
 pub use format::Format;
+pub use framing::Framing;
 pub use status::Status;
 pub use streams::edge::{ReaderSource, WriterSink};
 pub use streams::memory::{Calls, SliceSource, VecSink};

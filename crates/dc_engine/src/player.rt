@@ -20,6 +20,7 @@ use crate::player::makers::{Memory, give_back_cluster, make_all};
 use crate::player::objects::Objects;
 use crate::player::reading::reading;
 use crate::responder::Responder;
+use crate::script::cutter::Cutter;
 use crate::unanswered::Unanswered;
 use cluster::Cluster;
 use crdt_core::Crdt;
@@ -35,7 +36,7 @@ use world_model::{Command, Step};
 /// Answers the lines of a script: the cluster that its commands work on, whether a line wasn't in the grammar, and how
 /// many lines were answered.
 #[derive(Drop)]
-pub(crate) struct Player<M: Disks, W: Writer> {
+pub(crate) struct Player<M: Disks, W: Writer, F: Cutter> {
     alloc: Global,
     cluster: Cluster<Objects, M::Disk>,
     met_bad: bool,
@@ -43,9 +44,10 @@ pub(crate) struct Player<M: Disks, W: Writer> {
     /// Where each line is read: to make such a place for each line, and to drop it, costs more than its look-ups.
     parsed: Parsed,
     writer: PhantomData<W>,
+    cutter: PhantomData<F>,
 }
 
-impl<M: Disks, W: Writer> Model for Player<M, W> {
+impl<M: Disks, W: Writer, F: Cutter> Model for Player<M, W, F> {
     ghost use Rattle.dc_engine.specs.Player.{PlayerState};
 
     ghost Value = { PlayerState M.Disk };
@@ -53,14 +55,14 @@ impl<M: Disks, W: Writer> Model for Player<M, W> {
     ghost view = { λ p. record { cluster = p.cluster; met_bad = p.met_bad; count = p.count } };
 }
 
-impl<M: Disks, W: Writer> Player<M, W> {
+impl<M: Disks, W: Writer, F: Cutter> Player<M, W, F> {
     ghost use Rattle.dc_engine.specs.Makers.{ReturnsAll};
     ghost use Rattle.dc_engine.specs.Player.{ReachedBy};
     ghost use Rattle.dc_engine.specs.Replies.{AnswersLine};
 
     /// A player before any line. Takes no memory.
-    pub(crate) fn new(alloc: Global) -> Player<M, W>
-        ensures reached { ReachedBy M.Disk.state W.spelled result [] [] }
+    pub(crate) fn new(alloc: Global) -> Player<M, W, F>
+        ensures reached { ReachedBy M.Disk.state F.framing W.spelled result [] [] }
         ensures holds { HasOut M.Disk.state 0 result.cluster }
     {
         Player {
@@ -70,6 +72,7 @@ impl<M: Disks, W: Writer> Player<M, W> {
             count: 0,
             parsed: Parsed::Nothing,
             writer: PhantomData,
+            cutter: PhantomData,
         }
     }
 
@@ -90,9 +93,9 @@ impl<M: Disks, W: Writer> Player<M, W> {
     ) -> Result<(), Unanswered>
         requires held { HasOut M.Disk.state (M.state disks.old).out self.old.cluster }
         ensures held { HasOut M.Disk.state (M.state disks.new).out self.new.cluster }
-        ensures ok { OnOk result (AnswersLine (ReachedBy M.Disk.state W.spelled) self.old self.new line.now out.old.items out.new.items) }
+        ensures ok { OnOk result (AnswersLine (ReachedBy M.Disk.state F.framing W.spelled) self.old self.new line.now out.old.items out.new.items) }
         ensures err { OnErr result (take (length out.old.items) out.new.items ≡ out.old.items) }
-        ensures making { result ≡ Err Unanswered.NoDisk → makes_cluster line.now ≡ true }
+        ensures making { result ≡ Err Unanswered.NoDisk → makes_cluster F.framing line.now ≡ true }
         ensures lacks { result ≡ Err Unanswered.NoDisk → self.old.cluster ≡ None }
         ensures later { (M.state disks.old).faults ≤ (M.state disks.new).faults }
         ensures cause { result ≡ Err Unanswered.NoDisk → Rose (M.state disks.old).faults (M.state disks.new).faults }
@@ -104,7 +107,7 @@ impl<M: Disks, W: Writer> Player<M, W> {
         let Some(number) = self.count.checked_add(1) else {
             return Err(Unanswered::NoMemory);
         };
-        match answer_to(
+        match answer_to::<M, F>(
             alloc,
             &mut self.cluster,
             &mut self.met_bad,
@@ -123,12 +126,14 @@ impl<M: Disks, W: Writer> Player<M, W> {
     }
 }
 
-impl<M: Disks, W: Writer> Responder for Player<M, W> {
+impl<M: Disks, W: Writer, F: Cutter> Responder for Player<M, W, F> {
     ghost use Rattle.dc_engine.specs.Player.{ReachedBy};
 
     type Maker = M;
 
-    ghost reached = { ReachedBy M.Disk.state W.spelled };
+    type Cutter = F;
+
+    ghost reached = { ReachedBy M.Disk.state F.framing W.spelled };
 
     ghost holds = { λ p out. HasOut M.Disk.state out p.cluster };
 
@@ -151,7 +156,7 @@ impl<M: Disks, W: Writer> Responder for Player<M, W> {
 }
 
 /// The steps that answer a line, by the cluster and by whether a line wasn't in the grammar. It is read into `parsed`.
-fn answer_to<M: Disks>(
+fn answer_to<M: Disks, F: Cutter>(
     alloc: Global,
     cluster: &mut Cluster<Objects, M::Disk>,
     met_bad: &mut bool,
@@ -161,15 +166,15 @@ fn answer_to<M: Disks>(
 ) -> Result<Vec<Step>, Unanswered>
     requires held { HasOut M.Disk.state (M.state disks.old).out cluster.old }
     ensures held { HasOut M.Disk.state (M.state disks.new).out cluster.new }
-    ensures ok { IfOk result (λ steps. AnswersAsked M.Disk.state cluster.old met_bad.old (asked_of line.now) steps.items cluster.new met_bad.new) }
-    ensures making { result ≡ Err Unanswered.NoDisk → makes_cluster line.now ≡ true }
+    ensures ok { IfOk result (λ steps. AnswersAsked M.Disk.state cluster.old met_bad.old (asked_of F.framing line.now) steps.items cluster.new met_bad.new) }
+    ensures making { result ≡ Err Unanswered.NoDisk → makes_cluster F.framing line.now ≡ true }
     ensures lacks { result ≡ Err Unanswered.NoDisk → cluster.old ≡ None }
     ensures later { (M.state disks.old).faults ≤ (M.state disks.new).faults }
     ensures cause { result ≡ Err Unanswered.NoDisk → Rose (M.state disks.old).faults (M.state disks.new).faults }
     ensures sure { StaysSure M.sure (result ≡ Err Unanswered.NoDisk) disks.old disks.new }
     ensures same { OnOk result (IsUnchanged (M.state disks.old) (M.state disks.new)) }
 {
-    match reading(alloc, line, parsed) {
+    match reading::<F>(alloc, line, parsed) {
         Ok(()) => match &*parsed {
             Parsed::Command(command) => obey(alloc, cluster, disks, command),
             Parsed::Nothing => Ok(Vec::new(alloc)),

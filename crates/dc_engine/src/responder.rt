@@ -5,17 +5,21 @@ ghost use Rattle.dc_engine.specs.Makers.{IsUnchanged};
 ghost use Rattle.dc_engine.specs.Reading.{has_bad, makes_cluster};
 ghost use Rattle.dc_engine.specs.Replies.{AnswersLine};
 
+use crate::script::cutter::Cutter;
 use crate::unanswered::Unanswered;
 use disk_makers::Disks;
 
 /// The most bytes of a line that are kept and answered. A line that is longer is as one of this many.
-pub(crate) const MOST_BEGUN: usize = 4_098;
+pub(crate) const MOST_BEGUN: usize = 4_099;
 
 /// What answers the lines of a script, one by one. At each line it is lent the maker of its disks.
 pub(crate) trait Responder {
     type Maker: Disks;
 
-    /// `reached m lines bytes`: m stands where these lines, oldest first and each without its LF, have been answered with
+    /// How the script is cut into lines.
+    type Cutter: Cutter;
+
+    /// `reached m lines bytes`: m stands where these lines, oldest first and as they are cut, have been answered with
     /// these bytes.
     ghost reached: { Self → List (List ℕ) → List ℕ → Type 0 };
 
@@ -25,7 +29,7 @@ pub(crate) trait Responder {
     /// `lacks m`: m has no cluster.
     ghost lacks: { Self → Type 0 };
 
-    /// Answers one line, by its bytes without its LF, of which at most the first 4,098 are handed in. The reply comes
+    /// Answers one line as it is cut, of which at most the first 4,099 bytes are handed in. The reply comes
     /// behind what `out` holds.
     ///
     /// # Errors
@@ -42,7 +46,7 @@ pub(crate) trait Responder {
         ensures held { holds self.new (Self.Maker.state disks.new).out }
         ensures ok { OnOk result (AnswersLine reached self.old self.new line.now out.old.items out.new.items) }
         ensures err { OnErr result (out.new.items ≡ out.old.items) }
-        ensures making { result ≡ Err Unanswered.NoDisk → makes_cluster line.now ≡ true }
+        ensures making { result ≡ Err Unanswered.NoDisk → makes_cluster Self.Cutter.framing line.now ≡ true }
         ensures lacks { result ≡ Err Unanswered.NoDisk → lacks self.old }
         ensures later { (Self.Maker.state disks.old).faults ≤ (Self.Maker.state disks.new).faults }
         ensures cause { result ≡ Err Unanswered.NoDisk → Rose (Self.Maker.state disks.old).faults (Self.Maker.state disks.new).faults }
@@ -51,5 +55,5 @@ pub(crate) trait Responder {
 
     /// Whether one of the lines answered isn't in the grammar.
     fn has_met_bad(&self) -> bool
-        ensures { (lines : List (List ℕ)) (bytes : List ℕ) → reached self.now lines bytes → has_bad lines ≡ result };
+        ensures { (lines : List (List ℕ)) (bytes : List ℕ) → reached self.now lines bytes → has_bad Self.Cutter.framing lines ≡ result };
 }

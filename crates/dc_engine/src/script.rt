@@ -7,8 +7,10 @@ ghost use Rattle.dc_engine.specs.Replies.{Replies, RepliesBefore};
 ghost use Rattle.dc_engine.specs.Status.{ends_whole};
 
 pub(crate) mod blocks;
+pub(crate) mod cutter;
 pub(crate) mod lines;
 pub(crate) mod pending_line;
+pub(crate) mod place;
 
 use crate::fault::Fault;
 use crate::responder::Responder;
@@ -37,7 +39,7 @@ pub(crate) fn play_script<S: Source, K: Sink, R: Responder>(
     ensures held { R.holds responder.new (R.Maker.state disks.new).out }
     ensures same { ends_whole result ≡ true → IsUnchanged (R.Maker.state disks.old) (R.Maker.state disks.new) }
     ensures sure { StaysSure R.Maker.sure (result ≡ Status.NoDisk) disks.old disks.new }
-    ensures played { Outcome (R.reached responder.new) (Replies R.reached) (RepliesBefore R.reached R.lacks) (Rose (R.Maker.state disks.old).faults (R.Maker.state disks.new).faults) result (change S.left S.faults source.old source.new) (change K.held K.faults sink.old sink.new) }
+    ensures played { Outcome R.Cutter.framing (R.reached responder.new) (Replies R.reached) (RepliesBefore R.reached R.lacks) (Rose (R.Maker.state disks.old).faults (R.Maker.state disks.new).faults) result (change S.left S.faults source.old source.new) (change K.held K.faults sink.old sink.new) }
 {
     match play_blocks(alloc, BLOCK, MOST_BYTES, source, sink, responder, disks) {
         Ok(()) => {

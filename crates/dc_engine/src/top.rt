@@ -1,18 +1,21 @@
 ghost use Rattle.std.specs.Prelude.{◌≡◌, ◌≢◌, true, [], map, IfSome, IfNone, OnOk, Some};
 ghost use Rattle.std.specs.Option.{option_copied};
 ghost use Rattle.disk_core.specs.States.{Rose};
-ghost use Rattle.dc_engine.specs.Format.{spelled_as};
+ghost use Rattle.dc_engine.specs.Format.{spelled_in};
 ghost use Rattle.dc_engine.specs.Makers.{IsUnchanged};
 ghost use Rattle.dc_engine.specs.Outcome.{Outcome, PlayOutcome, change};
 ghost use Rattle.dc_engine.specs.Replies.{Replies, RepliesBefore};
 ghost use Rattle.dc_engine.specs.Status.{ends_whole};
 ghost use Rattle.dc_engine.specs.Told.{IsSure, IsTold};
 ghost use Rattle.dc_engine.specs.Words.{asked};
+ghost use Rattle.dc_engine.specs.declared.framing.Framing.TheVariants as framing;
 
-use crate::format::{Format, JsonWriter, LineWriter, Writer};
+use crate::format::{Format, Framed, JsonWriter, LineWriter, Writer};
+use crate::framing::Framing;
 use crate::player::Player;
 use crate::player::makers::Memory;
 use crate::responder::Responder;
+use crate::script::cutter::{ByFrames, ByLines, Cutter};
 use crate::script::play_script;
 use crate::status::Status;
 use crate::streams::sink::Sink;
@@ -23,22 +26,23 @@ use std::alloc::{AllocError, Global};
 
 /// Plays a script from the source to the sink. The bytes written are the lines of one run that answers the script's
 /// lines, each spelled in the format, and what a partition answered in it is lawful (Cure over Clock-SI): all of them
-/// where the script was read to its end, those whose line feed was read where the source fails or the script is too
-/// long, those before a cluster whose disk can't be made, and else a front of such a run's lines. A maker that fails
+/// where the script was read to its end, those whose end was read where the source fails or the script is too long, those before a cluster whose disk can't be made, and else a front of such a run's lines. A maker that fails
 /// at no call makes each disk. A script that is read to its end has the status `BadLine` exactly where one of its
 /// lines isn't in the grammar. Then the disks of its cluster go back to their maker, each that is up with the log
 /// that the run leaves.
 pub fn play<S: Source, K: Sink, M: Disks>(
     alloc: Global,
+    framing: Framing,
     format: Format,
     source: &mut S,
     sink: &mut K,
     disks: &mut M,
 ) -> Status
-    ensures played { PlayOutcome (spelled_as format) M.Disk.state (M.state disks.old) (M.state disks.new) result (change S.left S.faults source.old source.new) (change K.held K.faults sink.old sink.new) }
+    ensures played { PlayOutcome framing (spelled_in framing format) M.Disk.state (M.state disks.old) (M.state disks.new) result (change S.left S.faults source.old source.new) (change K.held K.faults sink.old sink.new) }
     ensures sure { M.sure disks.old → result ≢ Status.NoDisk }
 {
     let request = Request {
+        framing,
         format,
         folder: None,
     };
@@ -54,19 +58,58 @@ fn play_then<S: Source, K: Sink, M: Disks>(
     disks: &mut M,
     memory: Memory,
 ) -> Status
-    ensures played { PlayOutcome (spelled_as request.entry.format) M.Disk.state (M.state disks.old) (M.state disks.new) result (change S.left S.faults source.old source.new) (change K.held K.faults sink.old sink.new) }
+    ensures played { PlayOutcome request.entry.framing (spelled_in request.entry.framing request.entry.format) M.Disk.state (M.state disks.old) (M.state disks.new) result (change S.left S.faults source.old source.new) (change K.held K.faults sink.old sink.new) }
+    ensures told { IsTold M.keeps_in M.state (option_copied request.entry.folder) result disks.old }
+    ensures sure { IsSure M.sure (option_copied request.entry.folder) result disks.old }
+{
+    match request.framing {
+        Framing::Lines => play_lines(alloc, request, source, sink, disks, memory),
+        Framing::Frames => play_frames(alloc, request, source, sink, disks, memory),
+    }
+}
+
+/// Plays a script whose lines end at a line feed.
+fn play_lines<S: Source, K: Sink, M: Disks>(
+    alloc: Global,
+    request: Request<'_>,
+    source: &mut S,
+    sink: &mut K,
+    disks: &mut M,
+    memory: Memory,
+) -> Status
+    ensures played { PlayOutcome framing.Lines (spelled_in framing.Lines request.entry.format) M.Disk.state (M.state disks.old) (M.state disks.new) result (change S.left S.faults source.old source.new) (change K.held K.faults sink.old sink.new) }
     ensures told { IsTold M.keeps_in M.state (option_copied request.entry.folder) result disks.old }
     ensures sure { IsSure M.sure (option_copied request.entry.folder) result disks.old }
 {
     let folder = request.folder;
     match request.format {
-        Format::Lines => play_by::<S, K, M, LineWriter>(alloc, folder, source, sink, disks, memory),
-        Format::Json => play_by::<S, K, M, JsonWriter>(alloc, folder, source, sink, disks, memory),
+        Format::Lines => play_by::<S, K, M, LineWriter, ByLines>(alloc, folder, source, sink, disks, memory),
+        Format::Json => play_by::<S, K, M, JsonWriter, ByLines>(alloc, folder, source, sink, disks, memory),
     }
 }
 
-/// Plays a script with replies as this writer writes them.
-fn play_by<S: Source, K: Sink, M: Disks, W: Writer>(
+/// Plays a script of frames.
+fn play_frames<S: Source, K: Sink, M: Disks>(
+    alloc: Global,
+    request: Request<'_>,
+    source: &mut S,
+    sink: &mut K,
+    disks: &mut M,
+    memory: Memory,
+) -> Status
+    ensures played { PlayOutcome framing.Frames (spelled_in framing.Frames request.entry.format) M.Disk.state (M.state disks.old) (M.state disks.new) result (change S.left S.faults source.old source.new) (change K.held K.faults sink.old sink.new) }
+    ensures told { IsTold M.keeps_in M.state (option_copied request.entry.folder) result disks.old }
+    ensures sure { IsSure M.sure (option_copied request.entry.folder) result disks.old }
+{
+    let folder = request.folder;
+    match request.format {
+        Format::Lines => play_by::<S, K, M, Framed<LineWriter>, ByFrames>(alloc, folder, source, sink, disks, memory),
+        Format::Json => play_by::<S, K, M, Framed<JsonWriter>, ByFrames>(alloc, folder, source, sink, disks, memory),
+    }
+}
+
+/// Plays a script that is cut so, with replies as this writer writes them.
+fn play_by<S: Source, K: Sink, M: Disks, W: Writer, F: Cutter>(
     alloc: Global,
     folder: Option<&str>,
     source: &mut S,
@@ -74,11 +117,11 @@ fn play_by<S: Source, K: Sink, M: Disks, W: Writer>(
     disks: &mut M,
     memory: Memory,
 ) -> Status
-    ensures played { PlayOutcome W.spelled M.Disk.state (M.state disks.old) (M.state disks.new) result (change S.left S.faults source.old source.new) (change K.held K.faults sink.old sink.new) }
+    ensures played { PlayOutcome F.framing W.spelled M.Disk.state (M.state disks.old) (M.state disks.new) result (change S.left S.faults source.old source.new) (change K.held K.faults sink.old sink.new) }
     ensures told { IsTold M.keeps_in M.state (option_copied folder.entry) result disks.old }
     ensures sure { IsSure M.sure (option_copied folder.entry) result disks.old }
 {
-    let mut player: Player<M, W> = Player::new(alloc);
+    let mut player: Player<M, W, F> = Player::new(alloc);
     let status = play_over(alloc, folder, source, sink, &mut player, disks);
     player.give_back(disks, memory);
     status
@@ -99,7 +142,7 @@ fn play_over<S: Source, K: Sink, R: Responder>(
     ensures held { R.holds responder.new (R.Maker.state disks.new).out }
     ensures told { IsTold R.Maker.keeps_in R.Maker.state (option_copied folder.entry) result disks.old }
     ensures sure { IsSure R.Maker.sure (option_copied folder.entry) result disks.old }
-    ensures played { Outcome (R.reached responder.new) (Replies R.reached) (RepliesBefore R.reached R.lacks) (Rose (R.Maker.state disks.old).faults (R.Maker.state disks.new).faults) result (change S.left S.faults source.old source.new) (change K.held K.faults sink.old sink.new) }
+    ensures played { Outcome R.Cutter.framing (R.reached responder.new) (Replies R.reached) (RepliesBefore R.reached R.lacks) (Rose (R.Maker.state disks.old).faults (R.Maker.state disks.new).faults) result (change S.left S.faults source.old source.new) (change K.held K.faults sink.old sink.new) }
 {
     if keep_in(alloc, folder, disks).is_err() {
         return Status::NoMemory;
@@ -119,9 +162,9 @@ fn keep_in<M: Disks>(alloc: Global, folder: Option<&str>, disks: &mut M) -> Resu
     }
 }
 
-/// Does what the process's words ask for, its own name left out: for `play`, which `--json` and a folder may follow
-/// in any order (`--data DIR` or `--data=DIR`), it plays the script, with replies as JSON objects and with disks in
-/// that folder; without one, a maker that fails at no call makes each disk. Every other list of words is a fault of
+/// Does what the process's words ask for, its own name left out: for `play`, which `--json`, `--frames` and a folder
+/// may follow in any order (`--data DIR` or `--data=DIR`), it plays the script, with replies as JSON objects, with
+/// lines as frames and with disks in that folder; without one, a maker that fails at no call makes each disk. Every other list of words is a fault of
 /// usage, which reads and writes nothing. The process is to end then: what memory the tables of the cluster have is
 /// left to the system, as by `Vec::leak`.
 pub fn run<S: Source, K: Sink, M: Disks>(
@@ -131,7 +174,7 @@ pub fn run<S: Source, K: Sink, M: Disks>(
     sink: &mut K,
     disks: &mut M,
 ) -> Status
-    ensures played { IfSome (asked (map (λ word. word.now) words.now)) (λ asked. PlayOutcome (spelled_as asked.format) M.Disk.state (M.state disks.old) (M.state disks.new) result (change S.left S.faults source.old source.new) (change K.held K.faults sink.old sink.new)) }
+    ensures played { IfSome (asked (map (λ word. word.now) words.now)) (λ asked. PlayOutcome asked.framing (spelled_in asked.framing asked.format) M.Disk.state (M.state disks.old) (M.state disks.new) result (change S.left S.faults source.old source.new) (change K.held K.faults sink.old sink.new)) }
     ensures told { IfSome (asked (map (λ word. word.now) words.now)) (λ asked. IsTold M.keeps_in M.state asked.folder result disks.old) }
     ensures sure { IfSome (asked (map (λ word. word.now) words.now)) (λ asked. IsSure M.sure asked.folder result disks.old) }
     ensures usage { IfNone (asked (map (λ word. word.now) words.now)) ((result ≡ Status.Usage) × (source.new ≡ source.old) × (sink.new ≡ sink.old) × (disks.new ≡ disks.old)) }

@@ -1,11 +1,12 @@
 ghost use Rattle.std.specs.Prelude.{◌≡◌, drop, map, IfOk, IfSome, IfNone, OnErr, option_map, string_bytes};
 ghost use Rattle.std.specs.Option.{option_copied};
-ghost use Rattle.dc_engine.specs.Format.{spelled_as};
+ghost use Rattle.dc_engine.specs.Format.{spelled_in};
 ghost use Rattle.dc_engine.specs.Outcome.{PlayOutcome, change};
 ghost use Rattle.dc_engine.specs.Told.{IsSure, IsTold};
-ghost use Rattle.dc_engine.specs.Words.{asked, asked_in, with_options, with_option, with_two, with_three, kept_in, named, joined};
+ghost use Rattle.dc_engine.specs.Words.{asked, asked_in, asking_in, as_json, in_frames, kept_in, settled, with_option, with_options, with_word, named, joined};
 
 use crate::format::Format;
+use crate::framing::Framing;
 use crate::status::Status;
 use crate::streams::sink::Sink;
 use crate::streams::source::Source;
@@ -16,14 +17,23 @@ use std::alloc::{AllocError, Global};
 /// What the words of a process ask for: a script is to be played.
 #[derive(Clone, Copy, Debug)]
 pub(crate) struct Request<'a> {
+    /// How lines are told apart.
+    pub(crate) framing: Framing,
     /// How the replies are written.
     pub(crate) format: Format,
     /// The folder in which the disks are kept, if they aren't in memory alone.
     pub(crate) folder: Option<&'a str>,
 }
 
+/// What the words read so far ask for, and whether the next one is to name the folder.
+#[derive(Clone, Copy, Debug)]
+struct Asking<'a> {
+    request: Request<'a>,
+    wants_folder: bool,
+}
+
 /// What these words of a process ask for, its own name left out: `play` and then, in any order and each at most once,
-/// `--json` and a folder, as `--data DIR` or `--data=DIR`.
+/// `--json`, `--frames` and a folder, as `--data DIR` or `--data=DIR`.
 pub(crate) fn request_of<'a>(words: &[&'a str]) -> Option<Request<'a>>
     ensures { option_map asked_in result ≡ asked (map (λ word. word.now) words.now) }
 {
@@ -37,66 +47,94 @@ pub(crate) fn request_of<'a>(words: &[&'a str]) -> Option<Request<'a>>
 fn with_options<'a>(words: &[&'a str]) -> Option<Request<'a>>
     ensures { option_map asked_in result ≡ with_options (map (λ word. word.now) words.now) }
 {
-    match words {
-        [] => Some(Request {
-            format: Format::Lines,
-            folder: None,
-        }),
-        [option] => with_option(option),
-        [option, word] => with_two(option, word),
-        [first, second, third] => with_three(first, second, third),
-        _ => None,
+    let mut asking = settled(Request {
+        framing: Framing::Lines,
+        format: Format::Lines,
+        folder: None,
+    });
+    for word in words {
+        match with_word(asking, word) {
+            Some(next) => asking = next,
+            None => return None,
+        }
+    }
+    if asking.wants_folder {
+        return None;
+    }
+    Some(asking.request)
+}
+
+/// This, with no folder to be named.
+fn settled(request: Request<'_>) -> Asking<'_>
+    ensures { asking_in result ≡ settled (asked_in request.entry) }
+{
+    Asking {
+        request,
+        wants_folder: false,
     }
 }
 
-/// What one word behind `play` asks for.
-fn with_option(option: &str) -> Option<Request<'_>>
-    ensures { option_map asked_in result ≡ with_option option.now }
+/// One word more.
+fn with_word<'a>(asking: Asking<'a>, word: &'a str) -> Option<Asking<'a>>
+    ensures { option_map asking_in result ≡ with_word (asking_in asking.entry) word.now }
 {
-    if option == "--json" {
-        return Some(Request {
+    if asking.wants_folder {
+        return kept_in(asking.request, named(word));
+    }
+    with_option(asking.request, word)
+}
+
+/// One option more.
+fn with_option<'a>(request: Request<'a>, word: &'a str) -> Option<Asking<'a>>
+    ensures { option_map asking_in result ≡ with_option (asked_in request.entry) word.now }
+{
+    if word == "--json" {
+        as_json(request)
+    } else if word == "--frames" {
+        in_frames(request)
+    } else if word == "--data" {
+        Some(Asking {
+            request,
+            wants_folder: true,
+        })
+    } else {
+        kept_in(request, joined(word))
+    }
+}
+
+/// The replies as JSON objects, which is asked for once.
+fn as_json(request: Request<'_>) -> Option<Asking<'_>>
+    ensures { option_map asking_in result ≡ as_json request.entry.format (asked_in request.entry) }
+{
+    match request.format {
+        Format::Lines => Some(settled(Request {
             format: Format::Json,
-            folder: None,
-        });
-    }
-    kept_in(Format::Lines, joined(option))
-}
-
-/// What two words behind `play` ask for.
-fn with_two<'a>(option: &'a str, word: &'a str) -> Option<Request<'a>>
-    ensures { option_map asked_in result ≡ with_two option.now word.now }
-{
-    if option == "--data" {
-        kept_in(Format::Lines, named(word))
-    } else if option == "--json" {
-        kept_in(Format::Json, joined(word))
-    } else if word == "--json" {
-        kept_in(Format::Json, joined(option))
-    } else {
-        None
+            ..request
+        })),
+        Format::Json => None,
     }
 }
 
-/// What three words behind `play` ask for.
-fn with_three<'a>(first: &'a str, second: &'a str, third: &'a str) -> Option<Request<'a>>
-    ensures { option_map asked_in result ≡ with_three first.now second.now third.now }
+/// The lines as frames, which is asked for once.
+fn in_frames(request: Request<'_>) -> Option<Asking<'_>>
+    ensures { option_map asking_in result ≡ in_frames request.entry.framing (asked_in request.entry) }
 {
-    if first == "--data" && third == "--json" {
-        kept_in(Format::Json, named(second))
-    } else if first == "--json" && second == "--data" {
-        kept_in(Format::Json, named(third))
-    } else {
-        None
+    match request.framing {
+        Framing::Lines => Some(settled(Request {
+            framing: Framing::Frames,
+            ..request
+        })),
+        Framing::Frames => None,
     }
 }
 
-/// Replies in this format, and disks in this folder, where there is one.
-fn kept_in<'a>(format: Format, folder: Option<&'a str>) -> Option<Request<'a>>
-    ensures { option_map asked_in result ≡ kept_in format (option_copied folder.entry) }
+/// The disks in this folder, where there is one, which is asked for once.
+fn kept_in<'a>(request: Request<'a>, folder: Option<&'a str>) -> Option<Asking<'a>>
+    ensures { option_map asking_in result ≡ kept_in (option_copied request.entry.folder) (option_copied folder.entry) (asked_in request.entry) }
 {
-    match folder {
-        Some(_) => Some(Request { format, folder }),
-        None => None,
+    match (request.folder, folder) {
+        (None, Some(_)) => Some(settled(Request { folder, ..request })),
+        _ => None,
     }
 }
 
@@ -153,7 +191,7 @@ pub fn run_words<S: Source, K: Sink, M: Disks>(
     sink: &mut K,
     disks: &mut M,
 ) -> Result<Status, AllocError>
-    ensures played { IfSome (asked (map string_bytes (drop 1 words.now))) (λ asked. IfOk result (λ status. PlayOutcome (spelled_as asked.format) M.Disk.state (M.state disks.old) (M.state disks.new) status (change S.left S.faults source.old source.new) (change K.held K.faults sink.old sink.new))) }
+    ensures played { IfSome (asked (map string_bytes (drop 1 words.now))) (λ asked. IfOk result (λ status. PlayOutcome asked.framing (spelled_in asked.framing asked.format) M.Disk.state (M.state disks.old) (M.state disks.new) status (change S.left S.faults source.old source.new) (change K.held K.faults sink.old sink.new))) }
     ensures told { IfSome (asked (map string_bytes (drop 1 words.now))) (λ asked. IfOk result (λ status. IsTold M.keeps_in M.state asked.folder status disks.old)) }
     ensures sure { IfSome (asked (map string_bytes (drop 1 words.now))) (λ asked. IfOk result (λ status. IsSure M.sure asked.folder status disks.old)) }
     ensures usage { IfNone (asked (map string_bytes (drop 1 words.now))) (IfOk result (λ status. (status ≡ Status.Usage) × (source.new ≡ source.old) × (sink.new ≡ sink.old) × (disks.new ≡ disks.old))) }

@@ -10,50 +10,51 @@ use Rattle.dc_engine.specs.Replies.{Replies, RepliesBefore}
 use Rattle.dc_engine.specs.Player.{PlayerState, ReachedBy}
 use Rattle.dc_engine.specs.Answered.{Answered, AnsweredWhole, AnsweredBefore}
 use Rattle.dc_engine.specs.Held.{IsLeft, Standing}
+use Rattle.dc_engine.specs.declared.framing.Framing.{Framing}
 use Rattle.dc_engine.specs.declared.status.Status.{Status}
 use Rattle.dc_engine.specs.declared.status.Status.TheVariants as status
 use Rattle.dc_engine.specs.Status.{ends_whole}
 use Rattle.dc_engine.proofs.commands.Returned.{reached_answered, reached_whole}
 
-module _ (most : ℕ) (P Q : List (List ℕ) → List ℕ → Type 0) (f : (lines : List (List ℕ)) (bytes : List ℕ) → P lines bytes → Q lines bytes) (input left before after : Option (List ℕ)) where
-  played_by : Played most P input left before after → Played most Q input left before after
+module _ (cut : Framing) (most : ℕ) (P Q : List (List ℕ) → List ℕ → Type 0) (f : (lines : List (List ℕ)) (bytes : List ℕ) → P lines bytes → Q lines bytes) (input left before after : Option (List ℕ)) where
+  played_by : Played cut most P input left before after → Played cut most Q input left before after
   played_by p = record { read = p.read; written = p.written; from_source = p.from_source; at_end = p.at_end; fits = p.fits; to_sink = p.to_sink; replied = f _ _ p.replied }
 
-  ended_by : PlayedEnded most P input left before after → PlayedEnded most Q input left before after
+  ended_by : PlayedEnded cut most P input left before after → PlayedEnded cut most Q input left before after
   ended_by p = record { read = p.read; written = p.written; from_source = p.from_source; fits = p.fits; to_sink = p.to_sink; replied = f _ _ p.replied }
 
-  too_long_by : PlayedTooLong most P input left before after → PlayedTooLong most Q input left before after
+  too_long_by : PlayedTooLong cut most P input left before after → PlayedTooLong cut most Q input left before after
   too_long_by p = record { read = p.read; next = p.next; written = p.written; from_source = p.from_source; full = p.full; to_sink = p.to_sink; replied = f _ _ p.replied }
 
-  front_by : (size : ℕ) → PlayedFront size most P input left before after → PlayedFront size most Q input left before after
+  front_by : (size : ℕ) → PlayedFront cut size most P input left before after → PlayedFront cut size most Q input left before after
   front_by size p = record { read = p.read; more = p.more; reached = p.reached; written = p.written; reply = p.reply; replied_earlier = f _ _ p.replied_earlier; replied = f _ _ p.replied; to_sink = p.to_sink }
 
-  before_by : (size : ℕ) → PlayedBefore size most P input left before after → PlayedBefore size most Q input left before after
+  before_by : (size : ℕ) → PlayedBefore cut size most P input left before after → PlayedBefore cut size most Q input left before after
   before_by size p = record { read = p.read; lines = p.lines; line = p.line; are_later = p.are_later; reached = p.reached; making = p.making; written = p.written; replied = f _ _ p.replied; to_sink = p.to_sink }
 
-module _ (W V P Q A B : List (List ℕ) → List ℕ → Type 0) (X Y : Type 0) (f : (lines : List (List ℕ)) (bytes : List ℕ) → P lines bytes → Q lines bytes) (b : (lines : List (List ℕ)) (bytes : List ℕ) → A lines bytes → B lines bytes) (x : X → Y) where
-  outcome_by : (s : Status) (source sink : Change) → (ends_whole s ≡ true → (lines : List (List ℕ)) (bytes : List ℕ) → W lines bytes → V lines bytes) → Outcome W P A X s source sink → Outcome V Q B Y s source sink
-  outcome_by status.Done source sink g h = played_by most_bytes (And W false) (And V false) (λ lines bytes r. (g refl lines bytes r.0, r.1)) source.before source.after sink.before sink.after h
-  outcome_by status.BadLine source sink g h = played_by most_bytes (And W true) (And V true) (λ lines bytes r. (g refl lines bytes r.0, r.1)) source.before source.after sink.before sink.after h
+module _ (cut : Framing) (W V P Q A B : List (List ℕ) → List ℕ → Type 0) (X Y : Type 0) (f : (lines : List (List ℕ)) (bytes : List ℕ) → P lines bytes → Q lines bytes) (b : (lines : List (List ℕ)) (bytes : List ℕ) → A lines bytes → B lines bytes) (x : X → Y) where
+  outcome_by : (s : Status) (source sink : Change) → (ends_whole s ≡ true → (lines : List (List ℕ)) (bytes : List ℕ) → W lines bytes → V lines bytes) → Outcome cut W P A X s source sink → Outcome cut V Q B Y s source sink
+  outcome_by status.Done source sink g h = played_by cut most_bytes (And cut W false) (And cut V false) (λ lines bytes r. (g refl lines bytes r.0, r.1)) source.before source.after sink.before sink.after h
+  outcome_by status.BadLine source sink g h = played_by cut most_bytes (And cut W true) (And cut V true) (λ lines bytes r. (g refl lines bytes r.0, r.1)) source.before source.after sink.before sink.after h
   outcome_by status.Usage source sink g h = h
-  outcome_by status.ReadFault source sink g h = (ended_by most_bytes P Q f source.before source.after sink.before sink.after h.0, h.1)
-  outcome_by status.WriteFault source sink g h = (front_by most_bytes P Q f source.before source.after sink.before sink.after block_bytes h.0, h.1)
-  outcome_by status.NoMemory source sink g h = front_by most_bytes P Q f source.before source.after sink.before sink.after block_bytes h
-  outcome_by status.TooLong source sink g h = too_long_by most_bytes P Q f source.before source.after sink.before sink.after h
-  outcome_by status.NoDisk source sink g h = (before_by most_bytes A B b source.before source.after sink.before sink.after block_bytes h.0, x h.1)
+  outcome_by status.ReadFault source sink g h = (ended_by cut most_bytes P Q f source.before source.after sink.before sink.after h.0, h.1)
+  outcome_by status.WriteFault source sink g h = (front_by cut most_bytes P Q f source.before source.after sink.before sink.after block_bytes h.0, h.1)
+  outcome_by status.NoMemory source sink g h = front_by cut most_bytes P Q f source.before source.after sink.before sink.after block_bytes h
+  outcome_by status.TooLong source sink g h = too_long_by cut most_bytes P Q f source.before source.after sink.before sink.after h
+  outcome_by status.NoDisk source sink g h = (before_by cut most_bytes A B b source.before source.after sink.before sink.after block_bytes h.0, x h.1)
 
 -- where no cluster stands, its run has made none
-before_answered : {D : Type 0} (state : D → DiskState) (spelled : ℕ → Step → List ℕ) (lines : List (List ℕ)) (bytes : List ℕ) → RepliesBefore (ReachedBy state spelled) (λ q. q.cluster ≡ None) lines bytes → AnsweredBefore spelled lines bytes
-before_answered {D} state spelled lines bytes r =
+before_answered : {D : Type 0} (state : D → DiskState) (cut : Framing) (spelled : ℕ → Step → List ℕ) (lines : List (List ℕ)) (bytes : List ℕ) → RepliesBefore (ReachedBy state cut spelled) (λ q. q.cluster ≡ None) lines bytes → AnsweredBefore cut spelled lines bytes
+before_answered {D} state cut spelled lines bytes r =
     let left : IsLeft state None r.1.0.reached.run = subst (λ (c : Standing D). IsLeft state c r.1.0.reached.run) r.1.1 r.1.0.reached.left in
-    record { answered = reached_answered state spelled r.0.cluster lines bytes r.1.0.reached; lacks = left.lacks }
+    record { answered = reached_answered state cut spelled r.0.cluster lines bytes r.1.0.reached; lacks = left.lacks }
 
 -- what a player answered is what the program promises, once its disks are given back
-pub outcome_lawful : {D : Type 0} (state : D → DiskState) (spelled : ℕ → Step → List ℕ) (p : PlayerState D) (start mid end : Maker D) (s : Status) (source sink : Change) → (ends_whole s ≡ true → IsUnchanged start mid) → ReturnsAll p.cluster mid end
-    → Outcome (ReachedBy state spelled p) (Replies (ReachedBy state spelled)) (RepliesBefore (ReachedBy state spelled) (λ q. q.cluster ≡ None)) (Rose start.faults mid.faults) s source sink → PlayOutcome spelled state start end s source sink
-outcome_lawful state spelled p start mid end s source sink begun back =
-    outcome_by (ReachedBy state spelled p) (AnsweredWhole spelled state start end) (Replies (ReachedBy state spelled)) (Answered spelled) (RepliesBefore (ReachedBy state spelled) (λ q. q.cluster ≡ None)) (AnsweredBefore spelled) (Rose start.faults mid.faults) (Rose start.faults end.faults)
-    (λ lines bytes r. reached_answered state spelled r.0.cluster lines bytes r.1.reached)
-    (before_answered state spelled)
+pub outcome_lawful : {D : Type 0} (state : D → DiskState) (cut : Framing) (spelled : ℕ → Step → List ℕ) (p : PlayerState D) (start mid end : Maker D) (s : Status) (source sink : Change) → (ends_whole s ≡ true → IsUnchanged start mid) → ReturnsAll p.cluster mid end
+    → Outcome cut (ReachedBy state cut spelled p) (Replies (ReachedBy state cut spelled)) (RepliesBefore (ReachedBy state cut spelled) (λ q. q.cluster ≡ None)) (Rose start.faults mid.faults) s source sink → PlayOutcome cut spelled state start end s source sink
+outcome_lawful state cut spelled p start mid end s source sink begun back =
+    outcome_by cut (ReachedBy state cut spelled p) (AnsweredWhole cut spelled state start end) (Replies (ReachedBy state cut spelled)) (Answered cut spelled) (RepliesBefore (ReachedBy state cut spelled) (λ q. q.cluster ≡ None)) (AnsweredBefore cut spelled) (Rose start.faults mid.faults) (Rose start.faults end.faults)
+    (λ lines bytes r. reached_answered state cut spelled r.0.cluster lines bytes r.1.reached)
+    (before_answered state cut spelled)
     (λ rose. let same = back.back.faults in omega (arith, same, rose))
-    s source sink (λ e lines bytes r. reached_whole state spelled p.cluster start mid end (begun e) back lines bytes r.reached)
+    s source sink (λ e lines bytes r. reached_whole state cut spelled p.cluster start mid end (begun e) back lines bytes r.reached)

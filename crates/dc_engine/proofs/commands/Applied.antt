@@ -23,6 +23,7 @@ use Rattle.site_partitions.specs.Reaches.{Types}
 use Rattle.cluster.proofs.Laws.{bad_still}
 use Rattle.cluster.proofs.Meets.{all_met, none_due}
 use Rattle.cluster.proofs.Mere.{at_first}
+use Rattle.dc_engine.specs.declared.framing.Framing.{Framing}
 use Rattle.dc_engine.specs.Held.{Standing, IsLeft, HasOutOf}
 use Rattle.dc_engine.specs.ObjectKinds.{types}
 use Rattle.dc_engine.specs.Player.{PlayerState, AnswersAsked, ReachedBy}
@@ -35,10 +36,10 @@ lines_more : (spelled : ℕ → Step → List ℕ) (number : ℕ) (asked : Optio
 lines_more spelled number asked [] run = sym (append-nil (written_lines spelled run))
 lines_more spelled number asked (s ∷ steps) run = lines_more spelled number asked steps (record { number = number; command = asked; step = s } ∷ run) ∙ append_assoc (written_lines spelled run) (spelled number s) (flat_map (spelled number) steps)
 
-script_more : (lines : List (List ℕ)) (whole : List ℕ) → reverse (map asked_of (lines ++ whole ∷ [])) ≡ asked_of whole ∷ reverse (map asked_of lines)
-script_more lines whole = ap reverse (map-append asked_of lines (whole ∷ [])) ∙ reverse-append (map asked_of lines) (asked_of whole ∷ [])
+script_more : (f : Framing) (lines : List (List ℕ)) (whole : List ℕ) → reverse (map (asked_of f) (lines ++ whole ∷ [])) ≡ asked_of f whole ∷ reverse (map (asked_of f) lines)
+script_more f lines whole = ap reverse (map-append (asked_of f) lines (whole ∷ [])) ∙ reverse-append (map (asked_of f) lines) (asked_of f whole ∷ [])
 
-module _ {D : Type 0} (state : D → DiskState) (spelled : ℕ → Step → List ℕ) where
+module _ {D : Type 0} (state : D → DiskState) (f : Framing) (spelled : ℕ → Step → List ℕ) where
   -- the run with the answer to one more line
   record GoesWith (run : Run) (number : ℕ) (asked : Asked) (steps : List Step) (new : Standing D) : Type 0 where
     more : Run
@@ -73,43 +74,43 @@ module _ {D : Type 0} (state : D → DiskState) (spelled : ℕ → Step → List
   marked old new bad new_bad unreadable steps b h e = sym h.2
   marked old new bad new_bad (asks c) steps b h e = e ∙ sym h.1
 
-  reached_more : (old new : PlayerState D) (whole : List ℕ) (steps : List Step) (lines : List (List ℕ)) (bytes : List ℕ) → AnswersAsked state old.cluster old.met_bad (asked_of whole) steps new.cluster new.met_bad → new.count ≡ old.count + 1
-      → ReachedBy state spelled old lines bytes → ReachedBy state spelled new (lines ++ whole ∷ []) (bytes ++ flat_map (spelled new.count) steps)
+  reached_more : (old new : PlayerState D) (whole : List ℕ) (steps : List Step) (lines : List (List ℕ)) (bytes : List ℕ) → AnswersAsked state old.cluster old.met_bad (asked_of f whole) steps new.cluster new.met_bad → new.count ≡ old.count + 1
+      → ReachedBy state f spelled old lines bytes → ReachedBy state f spelled new (lines ++ whole ∷ []) (bytes ++ flat_map (spelled new.count) steps)
   reached_more old new whole steps lines bytes h n r =
       let was = r.reached in
-      let script = reverse (map asked_of lines) in
-      let counted : new.count ≡ length script + 1 = n ∙ ap (λ k. k + 1) (sym r.is_counted ∙ sym (length-reverse (map asked_of lines) ∙ length-map lines asked_of)) in
-      let g = goes_with old.cluster new.cluster old.met_bad new.met_bad was.run (length script + 1) (asked_of whole) steps was.left h in record {
+      let script = reverse (map (asked_of f) lines) in
+      let counted : new.count ≡ length script + 1 = n ∙ ap (λ k. k + 1) (sym r.is_counted ∙ sym (length-reverse (map (asked_of f) lines) ∙ length-map lines (asked_of f))) in
+      let g = goes_with old.cluster new.cluster old.met_bad new.met_bad was.run (length script + 1) (asked_of f whole) steps was.left h in record {
         reached = record {
           run = g.more;
           left = g.left;
-          answers = subst (λ s. Answers is_built s g.more) (sym (script_more lines whole)) (was.run, was.answers, g.goes);
+          answers = subst (λ s. Answers is_built s g.more) (sym (script_more f lines whole)) (was.run, was.answers, g.goes);
           written = (λ i. was.written i ++ flat_map (spelled (counted i)) steps) ∙ sym g.written;
         };
-        is_bad = has_bad-more lines whole ∙ marked old.cluster new.cluster old.met_bad new.met_bad (asked_of whole) steps (has_bad lines) h r.is_bad;
+        is_bad = has_bad-more f lines whole ∙ marked old.cluster new.cluster old.met_bad new.met_bad (asked_of f whole) steps (has_bad f lines) h r.is_bad;
         is_counted = length-append lines (whole ∷ []) ∙ ap (λ k. k + 1) r.is_counted ∙ sym n;
       }
 
   -- a line is answered with the text of these steps
-  pub line_answered : (old new : PlayerState D) (line : List ℕ) (steps : List Step) (before after : List ℕ) → AnswersAsked state old.cluster old.met_bad (asked_of line) steps new.cluster new.met_bad → new.count ≡ old.count + 1
-      → after ≡ before ++ flat_map (spelled new.count) steps → AnswersLine (ReachedBy state spelled) old new line before after
+  pub line_answered : (old new : PlayerState D) (line : List ℕ) (steps : List Step) (before after : List ℕ) → AnswersAsked state old.cluster old.met_bad (asked_of f line) steps new.cluster new.met_bad → new.count ≡ old.count + 1
+      → after ≡ before ++ flat_map (spelled new.count) steps → AnswersLine (ReachedBy state f spelled) old new line before after
   line_answered old new line steps before after h n e = record {
     reply = flat_map (spelled new.count) steps;
     appended = e;
-    answered = λ whole lines bytes t r. reached_more old new whole steps lines bytes (subst (λ a. AnswersAsked state old.cluster old.met_bad a steps new.cluster new.met_bad) (sym (ap asked_of t) ∙ asked_of-take whole) h) n r;
+    answered = λ whole lines bytes t r. reached_more old new whole steps lines bytes (subst (λ a. AnswersAsked state old.cluster old.met_bad a steps new.cluster new.met_bad) (sym (ap (asked_of f) t) ∙ asked_of-take f whole) h) n r;
   }
 
   -- the same, of a player's parts: its cluster is handed back the memory of these steps
   pub line_shown : (old : PlayerState D) (was now left : Standing D) (bad new_bad : Bool) (count number : ℕ) (line : List ℕ) (steps : List Step) (before after : List ℕ) → record { cluster = was; met_bad = bad; count = count } ≡ old
-      → AnswersAsked state was bad (asked_of line) steps now new_bad → left ≡ now → number ≡ count + 1 → after ≡ before ++ flat_map (spelled number) steps
-      → AnswersLine (ReachedBy state spelled) old (record { cluster = left; met_bad = new_bad; count = number }) line before after
+      → AnswersAsked state was bad (asked_of f line) steps now new_bad → left ≡ now → number ≡ count + 1 → after ≡ before ++ flat_map (spelled number) steps
+      → AnswersLine (ReachedBy state f spelled) old (record { cluster = left; met_bad = new_bad; count = number }) line before after
   line_shown old was now left bad new_bad count number line steps before after view h back n e =
       let new : PlayerState D = record { cluster = left; met_bad = new_bad; count = number } in
-      subst (λ o. AnswersLine (ReachedBy state spelled) o new line before after) view
-      (line_answered (record { cluster = was; met_bad = bad; count = count }) new line steps before after (subst (λ c. AnswersAsked state was bad (asked_of line) steps c new_bad) (sym back) h) n e)
+      subst (λ o. AnswersLine (ReachedBy state f spelled) o new line before after) view
+      (line_answered (record { cluster = was; met_bad = bad; count = count }) new line steps before after (subst (λ c. AnswersAsked state was bad (asked_of f line) steps c new_bad) (sym back) h) n e)
 
   -- a new player stands before any line, and needs no disk
-  pub reached_none : (p : PlayerState D) → IsLeft state p.cluster [] → p.met_bad ≡ false → p.count ≡ 0 → ReachedBy state spelled p [] []
+  pub reached_none : (p : PlayerState D) → IsLeft state p.cluster [] → p.met_bad ≡ false → p.count ≡ 0 → ReachedBy state f spelled p [] []
   reached_none p r b n = record { reached = record { run = []; left = r; answers = refl; written = refl }; is_bad = sym b; is_counted = sym n }
 
 -- over any kinds

@@ -1,5 +1,5 @@
 -- What lines read as.
-use Rattle.std.proofs.Common.{◌≡◌, ℕ, ◌-◌, ◌<◌, ◌≤◌, Bool, true, false, ◌&&◌, ◌||◌, ◌==◌, nat_lt, List, [], ◌∷◌, ◌++◌, length, take, Option, Some, None, option_map, option_and_then, codes, refl, ap, sym, ◌∙◌, inl, inr, arith, length-take}
+use Rattle.std.proofs.Common.{◌≡◌, ℕ, ◌+◌, ◌*◌, ◌-◌, ◌<◌, ◌≤◌, Bool, true, false, ◌&&◌, ◌||◌, ◌==◌, nat_lt, List, [], ◌∷◌, ◌++◌, length, take, Option, Some, None, option_map, option_and_then, codes, refl, ap, sym, ◌∙◌, inl, inr, arith, length-take}
 use Rattle.std.specs.Prelude.{nat_le, if◌then◌else◌, ◌^◌, Result, Ok, Err, OnOk}
 use Rattle.std.specs.Io.BufRead.{strip_last, ends_with_byte}
 use Rattle.std.specs.List.{list_all, list_any}
@@ -22,6 +22,8 @@ use Rattle.script_text.specs.Acts.{op}
 use Rattle.script_text.specs.Texts.{text}
 use Rattle.script_text.specs.Places as places
 use Rattle.script_text.specs.Grammar as grammar
+use Rattle.dc_engine.specs.declared.framing.Framing.{Framing}
+use Rattle.dc_engine.specs.declared.framing.Framing.TheVariants as framing
 use Rattle.dc_engine.specs.Reading.{reading_of, asked_of, asked_as, is_unreadable, has_bad, AsksSaid}
 use Rattle.dc_engine.specs.ObjectKinds.{kinds, shallow}
 use Rattle.crdt_core.specs.Log.{end_of_time}
@@ -52,20 +54,39 @@ read_bad line h =
       | false ↦ λ e. refl
     ] refl
 
--- a line of more than 4,098 bytes is as its first 4,098
-long : (line : List ℕ) → 4097 < length line → asked_of line ≡ asked_as None
+-- a line of more than 4,098 bytes is as its first 4,099
+long : (line : List ℕ) → 4097 < length line → asked_of framing.Lines line ≡ asked_as None
 long line h =
     let text = strip_last 13 line in
     let many : 4096 < length text = elim (ends_with_byte 13 line) as (λ b. 4096 < length (if b then take (length line - 1) line else line)) [ true ↦ omega (arith, length-take (length line - 1) line) | false ↦ omega arith ] in
     let not_short : nat_le (length text) 4096 ≡ false = grind (arith, nat_tests, many) in
     ap (λ b. asked_as (if b && is_utf8 text then line_as (words text) else None)) not_short
 
-pub asked_of-take : (whole : List ℕ) → asked_of (take 4098 whole) ≡ asked_of whole
-asked_of-take whole =
-    elim (cases_Bool (nat_lt 4098 (length whole))) [
-      | inl far ↦ let more = ltb-true 4098 (length whole) far in long (take 4098 whole) (omega (arith, length-take 4098 whole)) ∙ sym (long whole (omega arith))
-      | inr near ↦ ap asked_of (take_all 4098 whole (ltb-false 4098 (length whole) near))
+-- a body of more than 4,096 bytes isn't read
+long_body : (body : List ℕ) → 4096 < length body → reading_of body ≡ None
+long_body body h =
+    let not_short : nat_le (length body) 4096 ≡ false = grind (arith, nat_tests, h) in
+    ap (λ b. if b && is_utf8 body then line_as (words body) else None) not_short
+
+-- nor a frame of more than 4,098
+long_frame : (frame : List ℕ) → 4098 < length frame → asked_of framing.Frames frame ≡ asked_as None
+long_frame [] h = absurd (omega arith)
+long_frame (high ∷ []) h = absurd (omega arith)
+long_frame (high ∷ low ∷ body) h = elim (length body == high * 256 + low) as (λ b. asked_as (option_and_then reading_of (if b then Some body else None)) ≡ asked_as None) [
+  | true ↦ ap asked_as (long_body body (omega arith))
+  | false ↦ refl
+]
+
+pub asked_of-take : (f : Framing) (whole : List ℕ) → asked_of f (take 4099 whole) ≡ asked_of f whole
+asked_of-take f whole =
+    elim (cases_Bool (nat_lt 4099 (length whole))) [
+      | inl far ↦ let more = ltb-true 4099 (length whole) far in by_framing f (omega arith)
+      | inr near ↦ ap (asked_of f) (take_all 4099 whole (ltb-false 4099 (length whole) near))
     ]
+  where
+    by_framing : (f : Framing) → 4099 < length whole → asked_of f (take 4099 whole) ≡ asked_of f whole
+    by_framing framing.Lines more = long (take 4099 whole) (omega (arith, length-take 4099 whole)) ∙ sym (long whole (omega arith))
+    by_framing framing.Frames more = long_frame (take 4099 whole) (omega (arith, length-take 4099 whole)) ∙ sym (long_frame whole (omega arith))
 
 -- what the grammar gives is what a cluster takes
 abbrev Said : Command → Type 0
@@ -244,9 +265,9 @@ reads_said line =
     elim (nat_le (length line) 4096 && is_utf8 line) as (λ b. AsksSaid (if b then line_as (words line) else None)) [ true ↦ reading_said (words line) | false ↦ tt ]
 
 -- one more line
-pub has_bad-more : (lines : List (List ℕ)) (line : List ℕ) → has_bad (lines ++ line ∷ []) ≡ (is_unreadable (asked_of line) || has_bad lines)
-has_bad-more lines line =
-    let test : List ℕ → Bool = λ l. is_unreadable (asked_of l) in
+pub has_bad-more : (f : Framing) (lines : List (List ℕ)) (line : List ℕ) → has_bad f (lines ++ line ∷ []) ≡ (is_unreadable (asked_of f line) || has_bad f lines)
+has_bad-more f lines line =
+    let test : List ℕ → Bool = λ l. is_unreadable (asked_of f l) in
     list_any-append test lines (line ∷ []) ∙ elim (test line) as (λ b. (list_any test lines || (b || false)) ≡ (b || list_any test lines)) [
       | true ↦ elim (list_any test lines) as (λ c. (c || true) ≡ true) [ true ↦ refl | false ↦ refl ]
       | false ↦ elim (list_any test lines) as (λ c. (c || false) ≡ c) [ true ↦ refl | false ↦ refl ]

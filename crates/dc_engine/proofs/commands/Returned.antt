@@ -25,6 +25,7 @@ use Rattle.cluster.specs.Reached.{Applies, parts_in, partitions_in, SizedIn}
 use Rattle.cluster.specs.Post.{WholeState}
 use Rattle.site_partitions.specs.Reaches.{Types}
 use Rattle.cluster.proofs.Laws.{history, log_left, none_made}
+use Rattle.dc_engine.specs.declared.framing.Framing.{Framing}
 use Rattle.dc_engine.specs.Answered.{Answered, AnsweredWhole}
 use Rattle.dc_engine.specs.GivenBack.{HoldsLogOf, GivenBack}
 use Rattle.dc_engine.specs.Held.{Standing, IsLeft, Reached, HasOutOf}
@@ -144,11 +145,11 @@ module _ {D : Type 0} (state : D → DiskState) where
             (record { log = l.log; left = l.left; end = _; at_rest = unfused (disk_of s.one.gates) _ _ l.records.is_open.at_rest; spelled = l.records.spelled });
       }
 
-  abbrev pub reached_answered : (spelled : ℕ → Step → List ℕ) (c : Standing D) (lines : List (List ℕ)) (bytes : List ℕ) → Reached state spelled c lines bytes → Answered spelled lines bytes
-  reached_answered spelled c lines bytes r = record { run = r.run; answers = r.answers; history = history (types (fused_state state)) c r.run r.left; written = r.written }
+  abbrev pub reached_answered : (f : Framing) (spelled : ℕ → Step → List ℕ) (c : Standing D) (lines : List (List ℕ)) (bytes : List ℕ) → Reached state f spelled c lines bytes → Answered f spelled lines bytes
+  reached_answered f spelled c lines bytes r = record { run = r.run; answers = r.answers; history = history (types (fused_state state)) c r.run r.left; written = r.written }
 
-  pub reached_whole : (spelled : ℕ → Step → List ℕ) (c : Standing D) (start mid end : Maker D) → IsUnchanged start mid → ReturnsAll c mid end → (lines : List (List ℕ)) (bytes : List ℕ) → Reached state spelled c lines bytes → AnsweredWhole spelled state start end lines bytes
-  reached_whole spelled c start mid end begun back lines bytes r = record {
-    answered = reached_answered spelled c lines bytes r;
+  pub reached_whole : (f : Framing) (spelled : ℕ → Step → List ℕ) (c : Standing D) (start mid end : Maker D) → IsUnchanged start mid → ReturnsAll c mid end → (lines : List (List ℕ)) (bytes : List ℕ) → Reached state f spelled c lines bytes → AnsweredWhole f spelled state start end lines bytes
+  reached_whole f spelled c start mid end begun back lines bytes r = record {
+    answered = reached_answered f spelled c lines bytes r;
     given_back = λ tells. returned c r.run r.left start mid end begun back tells;
   }

@@ -1,30 +1,27 @@
-ghost use Rattle.std.specs.Prelude.{◌≡◌, Some, None, Err, OnOk};
-ghost use Rattle.std.specs.Io.BufRead.{strip_last};
-ghost use Rattle.dc_engine.specs.Reading.{reading_of, AsksSaid};
+ghost use Rattle.std.specs.Prelude.{◌≡◌, Some, None, Err, OnOk, option_and_then};
+ghost use Rattle.dc_engine.specs.Reading.{reading_of, text_in, AsksSaid};
 
+use crate::script::cutter::Cutter;
 use script_text::{ParseError, Parsed, parse};
 use std::alloc::Global;
 
-/// The line without one carriage return at its end.
-fn without_return(line: &[u8]) -> &[u8]
-    ensures { result.now ≡ strip_last 13 line.now }
-{
-    match line.split_last() {
-        Some((b'\r', front)) => front,
-        _ => line,
-    }
-}
-
-/// Reads a line without its line feed into `parsed`.
+/// Reads a line, as it was cut, into `parsed`.
 ///
 /// # Errors
 ///
 /// `Bad` exactly where the line isn't in the grammar; `NoMemory` where memory runs out. What `parsed` holds then is
 /// not told.
-pub(crate) fn reading(alloc: Global, line: &[u8], parsed: &mut Parsed) -> Result<(), ParseError>
-    ensures read { OnOk result (Some parsed.new ≡ reading_of (strip_last 13 line.now)) }
+pub(crate) fn reading<F: Cutter>(
+    alloc: Global,
+    line: &[u8],
+    parsed: &mut Parsed,
+) -> Result<(), ParseError>
+    ensures read { OnOk result (Some parsed.new ≡ option_and_then reading_of (text_in F.framing line.now)) }
     ensures said { OnOk result (AsksSaid (Some parsed.new)) }
-    ensures bad { result ≡ Err ParseError.Bad → None ≡ reading_of (strip_last 13 line.now) }
+    ensures bad { result ≡ Err ParseError.Bad → None ≡ option_and_then reading_of (text_in F.framing line.now) }
 {
-    parse(alloc, without_return(line), parsed)
+    match F::text_in(line) {
+        Some(text) => parse(alloc, text, parsed),
+        None => Err(ParseError::Bad),
+    }
 }

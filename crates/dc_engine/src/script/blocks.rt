@@ -93,9 +93,9 @@ fn answer_block<K: Sink, R: Responder>(
     ensures later { K.faults sink.old ≤ K.faults sink.new }
     ensures cause { result ≡ Err Fault.Write → Rose (K.faults sink.old) (K.faults sink.new) }
     ensures kinds { IfErr result (λ e. (e ≢ Fault.Read) × (e ≢ Fault.TooLong)) }
-    ensures ok { OnOk result (Writes R.reached responder.old responder.new block.now begun.old begun.new (K.held sink.old) (K.held sink.new)) }
-    ensures err { OnErr result (WritesFront R.reached responder.old block.now begun.old (K.held sink.old) (K.held sink.new)) }
-    ensures before { result ≡ Err Fault.NoDisk → WritesBefore R.reached R.lacks responder.old block.now begun.old (K.held sink.old) (K.held sink.new) }
+    ensures ok { OnOk result (Writes R.Cutter.framing R.reached responder.old responder.new block.now begun.old begun.new (K.held sink.old) (K.held sink.new)) }
+    ensures err { OnErr result (WritesFront R.Cutter.framing R.reached responder.old block.now begun.old (K.held sink.old) (K.held sink.new)) }
+    ensures before { result ≡ Err Fault.NoDisk → WritesBefore R.Cutter.framing R.reached R.lacks responder.old block.now begun.old (K.held sink.old) (K.held sink.new) }
 {
     out.clear();
     match answer_lines(responder, disks, block, begun, out) {
@@ -114,7 +114,7 @@ fn answer_block<K: Sink, R: Responder>(
     }
 }
 
-/// Answers a last line that has no LF, and writes the reply.
+/// Answers a last line whose end isn't there, and writes the reply.
 #[tactic(auto, using(crate::proofs::bytes::Written::ends_before))]
 fn answer_end<K: Sink, R: Responder>(
     sink: &mut K,
@@ -132,9 +132,9 @@ fn answer_end<K: Sink, R: Responder>(
     ensures later { K.faults sink.old ≤ K.faults sink.new }
     ensures cause { result ≡ Err Fault.Write → Rose (K.faults sink.old) (K.faults sink.new) }
     ensures kinds { IfErr result (λ e. (e ≢ Fault.Read) × (e ≢ Fault.TooLong)) }
-    ensures ok { OnOk result (Ends R.reached responder.old responder.new begun.now (K.held sink.old) (K.held sink.new)) }
-    ensures err { OnErr result (EndsFront R.reached responder.old begun.now (K.held sink.old) (K.held sink.new)) }
-    ensures before { result ≡ Err Fault.NoDisk → EndsBefore R.lacks responder.old begun.now (K.held sink.old) (K.held sink.new) }
+    ensures ok { OnOk result (Ends R.Cutter.framing R.reached responder.old responder.new begun.now (K.held sink.old) (K.held sink.new)) }
+    ensures err { OnErr result (EndsFront R.Cutter.framing R.reached responder.old begun.now (K.held sink.old) (K.held sink.new)) }
+    ensures before { result ≡ Err Fault.NoDisk → EndsBefore R.Cutter.framing R.lacks responder.old begun.now (K.held sink.old) (K.held sink.new) }
 {
     if begun.is_empty() {
         return Ok(());
@@ -174,7 +174,7 @@ fn play_block<S: Source, K: Sink, R: Responder>(
     ensures write_later { K.faults sink.old ≤ K.faults sink.new }
     ensures read_cause { result ≡ Err Fault.Read → Rose (S.faults source.old) (S.faults source.new) }
     ensures write_cause { result ≡ Err Fault.Write → Rose (K.faults sink.old) (K.faults sink.new) }
-    ensures goes_on { (size most : ℕ) (input before : Option (List ℕ)) → length block.old ≤ size → Progress most R.reached responder.old input (S.left source.old) before (K.held sink.old) buffers.old.begun room → GoesOn size most R.reached R.lacks responder.new input (S.left source.new) before (K.held sink.new) buffers.new.begun room result }
+    ensures goes_on { (size most : ℕ) (input before : Option (List ℕ)) → length block.old ≤ size → Progress R.Cutter.framing most R.reached responder.old input (S.left source.old) before (K.held sink.old) buffers.old.begun room → GoesOn R.Cutter.framing size most R.reached R.lacks responder.new input (S.left source.new) before (K.held sink.new) buffers.new.begun room result }
 {
     let count = match read_block(source, block, room) {
         Ok(count) => count,
@@ -211,7 +211,7 @@ fn play_end<S: Source, K: Sink, R: Responder>(
     ensures write_later { K.faults sink.old ≤ K.faults sink.new }
     ensures read_cause { result ≡ Err Fault.Read → Rose (S.faults source.old) (S.faults source.new) }
     ensures write_cause { result ≡ Err Fault.Write → Rose (K.faults sink.old) (K.faults sink.new) }
-    ensures finished { (size most : ℕ) (input before : Option (List ℕ)) → Progress most R.reached responder.old input (S.left source.old) before (K.held sink.old) buffers.old.begun 0 → Finished size most R.reached R.lacks responder.new input (S.left source.new) before (K.held sink.new) result }
+    ensures finished { (size most : ℕ) (input before : Option (List ℕ)) → Progress R.Cutter.framing most R.reached responder.old input (S.left source.old) before (K.held sink.old) buffers.old.begun 0 → Finished R.Cutter.framing size most R.reached R.lacks responder.new input (S.left source.new) before (K.held sink.new) result }
 {
     match has_more(source) {
         Ok(true) => Err(Fault::TooLong),
@@ -240,7 +240,7 @@ pub(crate) fn play_blocks<S: Source, K: Sink, R: Responder>(
     ensures disks_cause { result ≡ Err Fault.NoDisk → Rose (R.Maker.state disks.old).faults (R.Maker.state disks.new).faults }
     ensures sure { StaysSure R.Maker.sure (result ≡ Err Fault.NoDisk) disks.old disks.new }
     ensures same { OnOk result (IsUnchanged (R.Maker.state disks.old) (R.Maker.state disks.new)) }
-    ensures finished { Finished size most R.reached R.lacks responder.new (S.left source.old) (S.left source.new) (K.held sink.old) (K.held sink.new) result }
+    ensures finished { Finished R.Cutter.framing size most R.reached R.lacks responder.new (S.left source.old) (S.left source.new) (K.held sink.old) (K.held sink.new) result }
     ensures read_cause { result ≡ Err Fault.Read → Rose (S.faults source.old) (S.faults source.new) }
     ensures write_cause { result ≡ Err Fault.Write → Rose (K.faults sink.old) (K.faults sink.new) }
 {

@@ -1,26 +1,17 @@
-ghost use Rattle.std.specs.Prelude.{◌≡◌, ◌≤◌, ◌++◌, ◌∷◌, [], true, length, take, Err, IfSome, IfNone, OnOk, OnErr};
+ghost use Rattle.std.specs.Prelude.{◌≡◌, ◌≤◌, ◌++◌, true, take, Err, OnOk, OnErr};
 ghost use Rattle.disk_core.specs.States.{Rose};
 ghost use Rattle.disk_makers.specs.Makers.{StaysSure};
 ghost use Rattle.dc_engine.specs.Makers.{IsUnchanged};
 ghost use Rattle.dc_engine.specs.Reading.{makes_cluster};
 ghost use Rattle.dc_engine.specs.Replies.{AnswersLine};
-ghost use Rattle.script_text.specs.Ends.{HasNoEnd};
-ghost use Rattle.dc_engine.specs.Blocks.{EndsAt, Moves, MovesFront, MovesBefore};
+ghost use Rattle.dc_engine.specs.Blocks.{Moves, MovesFront, MovesBefore, none_begun};
 
 use crate::responder::{MOST_BEGUN, Responder};
+use crate::script::cutter::Cutter;
 use crate::script::pending_line::PendingLine;
+use crate::script::place::Cut;
 use crate::unanswered::Unanswered;
-use memchr::memchr;
 use std::cmp::min;
-
-/// Where the first LF stands.
-#[tactic(auto, using(crate::proofs::bytes::Dividing::ends_of, crate::proofs::bytes::Dividing::no_end_of))]
-fn line_end(bytes: &[u8]) -> Option<usize>
-    ensures found { IfSome result (EndsAt bytes.now) }
-    ensures none { IfNone result (HasNoEnd bytes.now) }
-{
-    memchr(b'\n', bytes)
-}
 
 /// Answers the line that begins with what is kept and ends with this piece. Nothing is kept then.
 #[tactic(auto, using(crate::proofs::bytes::Moves::answers_front))]
@@ -37,13 +28,14 @@ fn answer_line<R: Responder>(
     ensures cause { result ≡ Err Unanswered.NoDisk → Rose (R.Maker.state disks.old).faults (R.Maker.state disks.new).faults }
     ensures sure { StaysSure R.Maker.sure (result ≡ Err Unanswered.NoDisk) disks.old disks.new }
     ensures same { OnOk result (IsUnchanged (R.Maker.state disks.old) (R.Maker.state disks.new)) }
-    ensures making { result ≡ Err Unanswered.NoDisk → makes_cluster (take 4098 (begun.old ++ piece.now)) ≡ true }
+    ensures making { result ≡ Err Unanswered.NoDisk → makes_cluster R.Cutter.framing (take 4099 (begun.old.first ++ piece.now)) ≡ true }
     ensures lacks { result ≡ Err Unanswered.NoDisk → R.lacks responder.old }
-    ensures ok { OnOk result (AnswersLine R.reached responder.old responder.new (take 4098 (begun.old ++ piece.now)) out.old.items out.new.items) }
-    ensures none_begun { OnOk result (begun.new ≡ []) }
+    ensures ok { OnOk result (AnswersLine R.reached responder.old responder.new (take 4099 (begun.old.first ++ piece.now)) out.old.items out.new.items) }
+    ensures none_begun { OnOk result (begun.new ≡ none_begun) }
     ensures err { OnErr result (out.new.items ≡ out.old.items) }
 {
     if begun.is_empty() {
+        begun.clear();
         return responder.answer(disks, &piece[..min(MOST_BEGUN, piece.len())], out);
     }
     begun.extend(piece)?;
@@ -52,7 +44,7 @@ fn answer_line<R: Responder>(
     Ok(())
 }
 
-/// Answers each line that ends in the block, in place, and keeps what stands behind the last LF.
+/// Answers each line that ends in the block, in place, and keeps what stands behind the last one.
 #[tactic(auto, using(crate::proofs::bytes::Moves::moves_start, crate::proofs::bytes::Moves::moves_front, crate::proofs::commands::Making::unchanged_refl))]
 pub(crate) fn answer_lines<R: Responder>(
     responder: &mut R,
@@ -67,18 +59,21 @@ pub(crate) fn answer_lines<R: Responder>(
     ensures cause { result ≡ Err Unanswered.NoDisk → Rose (R.Maker.state disks.old).faults (R.Maker.state disks.new).faults }
     ensures sure { StaysSure R.Maker.sure (result ≡ Err Unanswered.NoDisk) disks.old disks.new }
     ensures same { OnOk result (IsUnchanged (R.Maker.state disks.old) (R.Maker.state disks.new)) }
-    ensures before { result ≡ Err Unanswered.NoDisk → MovesBefore R.reached R.lacks responder.old block.now begun.old out.old.items out.new.items }
-    ensures ok { OnOk result (Moves R.reached responder.old responder.new block.now begun.old begun.new out.old.items out.new.items) }
-    ensures err { OnErr result (MovesFront R.reached responder.old block.now begun.old out.old.items out.new.items) }
+    ensures before { result ≡ Err Unanswered.NoDisk → MovesBefore R.Cutter.framing R.reached R.lacks responder.old block.now begun.old out.old.items out.new.items }
+    ensures ok { OnOk result (Moves R.Cutter.framing R.reached responder.old responder.new block.now begun.old begun.new out.old.items out.new.items) }
+    ensures err { OnErr result (MovesFront R.Cutter.framing R.reached responder.old block.now begun.old out.old.items out.new.items) }
 {
     let mut rest = block;
-    while let Some(end) = line_end(rest) {
-        let (piece, more) = rest.split_at(end);
-        match answer_line(responder, disks, piece, begun, out) {
-            Ok(()) => rest = &more[1..],
-            Err(error) => return Err(error),
+    loop {
+        match R::Cutter::cut(begun.at(), rest) {
+            Cut::Ends { line, next } => {
+                answer_line(responder, disks, &rest[..line], begun, out)?;
+                rest = &rest[next..];
+            }
+            Cut::Leads { at } => {
+                begun.lead(rest, at)?;
+                return Ok(());
+            }
         }
     }
-    begun.extend(rest)?;
-    Ok(())
 }

@@ -10,4 +10,4 @@ pub play_over-status-requires-clause-held : goal.play_over-status-requires-claus
 play_over-status-requires-clause-held g c = out_more _ _ 0 _ (omega arith) c.new-player.ensures.holds
 
 pub returns-clause-played : goal.returns-clause-played
-returns-clause-played g c = outcome_lawful g.M.Disk.Disk.state g.W.Writer.spelled _ _ _ _ _ _ _ c.play_over-status.ensures.same c.give_back.ensures c.play_over-status.ensures.played
+returns-clause-played g c = outcome_lawful g.M.Disk.Disk.state g.F.Cutter.framing g.W.Writer.spelled _ _ _ _ _ _ _ c.play_over-status.ensures.same c.give_back.ensures c.play_over-status.ensures.played

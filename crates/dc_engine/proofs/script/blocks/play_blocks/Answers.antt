@@ -7,15 +7,15 @@ use Rattle.dc_engine.proofs.script.blocks.play_blocks.Goals as goal
 pub returns-in-Ok-eq0-clause-finished : goal.returns-in-Ok-eq0-clause-finished
 returns-in-Ok-eq0-clause-finished g c =
     let on = rw c.in-Ok-eq0.is at (c.play_block.ensures.goes_on c.args.size c.args.most _ _ (omega arith) c.loop-room.invariant.progress) in
-    goes_on_end c.args.most g.R.Responder.reached g.R.Responder.lacks c.args.size _ _ _ _ _ _ _ _ on c.in-Ok-eq0.field-0-test
+    goes_on_end g.R.Cutter.Cutter.framing c.args.most g.R.Responder.reached g.R.Responder.lacks c.args.size _ _ _ _ _ _ _ _ on c.in-Ok-eq0.field-0-test
 
 pub overflow_sub-room : goal.overflow_sub-room
 overflow_sub-room g c =
     let on = rw c.in-Ok-play_block.is at (c.play_block.ensures.goes_on c.args.size c.args.most _ _ (omega arith) c.loop-room.invariant.progress) in
-    room_for c.args.most g.R.Responder.reached g.R.Responder.lacks c.args.size c.play_block.new.responder (g.S.Source.left c.args.source.now) (g.S.Source.left c.play_block.new.source) (g.K.Sink.held c.args.sink.now) (g.K.Sink.held c.play_block.new.sink) c.play_block.new.buffers.begun _ _ on
+    room_for g.R.Cutter.Cutter.framing c.args.most g.R.Responder.reached g.R.Responder.lacks c.args.size c.play_block.new.responder (g.S.Source.left c.args.source.now) (g.S.Source.left c.play_block.new.source) (g.K.Sink.held c.args.sink.now) (g.K.Sink.held c.play_block.new.sink) c.play_block.new.buffers.begun _ _ on
 
 pub returns-in-Err-clause-finished : goal.returns-in-Err-clause-finished
-returns-in-Err-clause-finished g c = front_none c.args.most g.R.Responder.reached c.args.size c.args.responder.now _ _ c.requires.fresh
+returns-in-Err-clause-finished g c = front_none g.R.Cutter.Cutter.framing c.args.most g.R.Responder.reached c.args.size c.args.responder.now _ _ c.requires.fresh
 
 pub loop-room-preserved : goal.loop-room-preserved
 loop-room-preserved g c =
@@ -23,7 +23,7 @@ loop-room-preserved g c =
     record {
       read = omega (arith, c.loop-room.invariant.read, c.play_block.ensures.read_later);
       wrote = omega (arith, c.loop-room.invariant.wrote, c.play_block.ensures.write_later);
-      progress = goes_on_more c.args.most g.R.Responder.reached g.R.Responder.lacks c.args.size _ _ _ _ _ _ _ _ on c.in-Ok-play_block.count-test.1;
+      progress = goes_on_more g.R.Cutter.Cutter.framing c.args.most g.R.Responder.reached g.R.Responder.lacks c.args.size _ _ _ _ _ _ _ _ on c.in-Ok-play_block.count-test.1;
       held = c.play_block.ensures.held;
       counted = omega (arith, c.loop-room.invariant.counted, c.play_block.ensures.disks_later);
       same = unchanged_both _ _ _ c.loop-room.invariant.same (rw c.in-Ok-play_block.is at c.play_block.ensures.same);

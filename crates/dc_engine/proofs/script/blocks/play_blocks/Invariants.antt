@@ -7,7 +7,7 @@ abbrev pub invariant-loop-room : goal.invariant-loop-room
 invariant-loop-room g l = let S = g.S.Source in let K = g.K.Sink in let state = g.R.Maker.Disks.state in record {
   read : S.faults l.fn.source ≤ S.faults l.source;
   wrote : K.faults l.fn.sink ≤ K.faults l.sink;
-  progress : Progress l.most g.R.Responder.reached l.responder (S.left l.fn.source) (S.left l.source) (K.held l.fn.sink) (K.held l.sink) l.buffers.begun l.room;
+  progress : Progress g.R.Cutter.Cutter.framing l.most g.R.Responder.reached l.responder (S.left l.fn.source) (S.left l.source) (K.held l.fn.sink) (K.held l.sink) l.buffers.begun l.room;
   held : g.R.Responder.holds l.responder (state l.disks).out;
   counted : (state l.fn.disks).faults ≤ (state l.disks).faults;
   same : IsUnchanged (state l.fn.disks) (state l.disks);

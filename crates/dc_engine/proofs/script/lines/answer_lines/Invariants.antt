@@ -3,14 +3,14 @@ use Rattle.dc_engine.specs.Makers.{IsUnchanged}
 use Rattle.dc_engine.proofs.bytes.Moves.{MovesTo}
 use Rattle.dc_engine.proofs.script.lines.answer_lines.Given as goal
 
-abbrev pub invariant-loop-end : goal.invariant-loop-end
-invariant-loop-end g l = let state = g.R.Maker.Disks.state in record {
-  moves : MovesTo g.R.Responder.reached l.fn.responder l.responder l.block l.rest l.fn.begun l.begun l.fn.out.items l.out.items;
+abbrev pub invariant-loop-line : goal.invariant-loop-line
+invariant-loop-line g l = let state = g.R.Maker.Disks.state in record {
+  moves : MovesTo g.R.Cutter.Cutter.framing g.R.Responder.reached l.fn.responder l.responder l.block l.rest l.fn.begun l.begun l.fn.out.items l.out.items;
   held : g.R.Responder.holds l.responder (state l.disks).out;
   later : (state l.fn.disks).faults ≤ (state l.disks).faults;
   same : IsUnchanged (state l.fn.disks) (state l.disks);
   sure : g.R.Maker.Disks.sure l.fn.disks → g.R.Maker.Disks.sure l.disks;
 }
 
-abbrev pub decreases-loop-end : goal.decreases-loop-end
-decreases-loop-end g l = length l.rest
+abbrev pub decreases-loop-line : goal.decreases-loop-line
+decreases-loop-line g l = length l.rest
