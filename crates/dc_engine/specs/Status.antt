@@ -17,7 +17,7 @@ code_of status.NoDisk = 7
 abbrev pub text_of : Status → Option (List ℕ)
 text_of status.Done = None
 text_of status.BadLine = None
-text_of status.Usage = Some (codes "usage: dc_shell play [--json] [--data DIR] or storm D N clients txns number [--trace]")
+text_of status.Usage = Some (codes "usage: dc_shell play [--json] [--data DIR] [--frames] or storm D N clients txns number [--trace]")
 text_of status.ReadFault = Some (codes "read fault")
 text_of status.WriteFault = Some (codes "write fault")
 text_of status.NoMemory = Some (codes "out of memory")

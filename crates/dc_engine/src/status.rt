@@ -65,7 +65,7 @@ impl Status {
         match self {
             Status::Done | Status::BadLine => None,
             Status::Usage => Some(
-                "usage: dc_shell play [--json] [--data DIR] or storm D N clients txns number [--trace]",
+                "usage: dc_shell play [--json] [--data DIR] [--frames] or storm D N clients txns number [--trace]",
             ),
             Status::ReadFault => Some("read fault"),
             Status::WriteFault => Some("write fault"),

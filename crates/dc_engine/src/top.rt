@@ -83,8 +83,12 @@ fn play_lines<S: Source, K: Sink, M: Disks>(
 {
     let folder = request.folder;
     match request.format {
-        Format::Lines => play_by::<S, K, M, LineWriter, ByLines>(alloc, folder, source, sink, disks, memory),
-        Format::Json => play_by::<S, K, M, JsonWriter, ByLines>(alloc, folder, source, sink, disks, memory),
+        Format::Lines => play_by::<S, K, M, LineWriter, ByLines>(
+            alloc, folder, source, sink, disks, memory,
+        ),
+        Format::Json => play_by::<S, K, M, JsonWriter, ByLines>(
+            alloc, folder, source, sink, disks, memory,
+        ),
     }
 }
 
@@ -103,8 +107,12 @@ fn play_frames<S: Source, K: Sink, M: Disks>(
 {
     let folder = request.folder;
     match request.format {
-        Format::Lines => play_by::<S, K, M, Framed<LineWriter>, ByFrames>(alloc, folder, source, sink, disks, memory),
-        Format::Json => play_by::<S, K, M, Framed<JsonWriter>, ByFrames>(alloc, folder, source, sink, disks, memory),
+        Format::Lines => play_by::<S, K, M, Framed<LineWriter>, ByFrames>(
+            alloc, folder, source, sink, disks, memory,
+        ),
+        Format::Json => play_by::<S, K, M, Framed<JsonWriter>, ByFrames>(
+            alloc, folder, source, sink, disks, memory,
+        ),
     }
 }
 

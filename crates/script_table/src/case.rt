@@ -87,6 +87,21 @@ pub(crate) fn play_over(
     play_with(alloc, out, words, &mut source, &mut sink, &mut disks)
 }
 
+/// Plays a script of these bytes, for these words of the process, and tells the bytes of the replies.
+pub(crate) fn play_bytes(
+    alloc: Global,
+    out: &mut Vec<u8>,
+    words: &[&str],
+    script: &[u8],
+) -> io::Result<()> {
+    let mut source = SliceSource::new(alloc, script);
+    let mut sink = VecSink::new(alloc, ROOM)?;
+    let mut disks = MemDisks::new(alloc, DISK_ROOM);
+    let status = run(alloc, words, &mut source, &mut sink, &mut disks);
+    tell_bytes(out, "replies", sink.held())?;
+    tell(out, status)
+}
+
 /// Plays what this source has into memory.
 pub(crate) fn play_from<S: Source>(
     alloc: Global,
@@ -130,14 +145,14 @@ pub(crate) fn play_in_files(
     tell(out, status)?;
     let path = format!(in alloc; "{folder}/1.1.log")?;
     match fs::read(rt, path.as_str()) {
-        Ok(bytes) => tell_bytes(out, bytes.as_slice()),
+        Ok(bytes) => tell_bytes(out, "file", bytes.as_slice()),
         Err(_) => writeln!(out, "no file"),
     }
 }
 
-/// The bytes of a file, in hexadecimal.
-fn tell_bytes(out: &mut Vec<u8>, bytes: &[u8]) -> io::Result<()> {
-    write!(out, "file ")?;
+/// These bytes, in hexadecimal.
+fn tell_bytes(out: &mut Vec<u8>, name: &str, bytes: &[u8]) -> io::Result<()> {
+    write!(out, "{name} ")?;
     for byte in bytes {
         write!(out, "{byte:02x}")?;
     }

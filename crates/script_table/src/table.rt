@@ -11,8 +11,11 @@
 //   spaces N        a line has N spaces in its midst      reader      the source is a reader that fails
 //   writer          the sink is a writer that fails       full        the sink is a writer that takes nothing
 //   blocks N        two blocks of N bytes are read from a reader, and written, and nothing is played
+//   hex W..         the process's words are W.., and the script's bytes and the replies' are spelled in hexadecimal
 //   files DIR       disks are kept in files of the folder DIR, and the bytes of the first partition's are told too
-use crate::case::{Faults, copy_by_blocks, play_from, play_in_files, play_into, play_over};
+use crate::case::{
+    Faults, copy_by_blocks, play_bytes, play_from, play_in_files, play_into, play_over,
+};
 use crate::ends::{Broken, Full};
 use dc_engine::{ReaderSource, WriterSink};
 use std::alloc::{AllocError, Global};
@@ -38,6 +41,7 @@ fn answer(alloc: Global, out: &mut Vec<u8>, setting: &str, script: &[u8]) -> io:
     match name {
         "bare" => play(alloc, out, script.strip_suffix(b"\n").unwrap_or(script)),
         "words" => answer_words(alloc, out, about, script),
+        "hex" => answer_hex(alloc, out, about, script),
         "blank" => answer_blank(alloc, out, number_of(about)),
         "spaces" => answer_spaces(alloc, out, number_of(about)),
         "reader" => play_from(alloc, out, &mut ReaderSource::new(Broken)),
@@ -57,6 +61,13 @@ fn play(alloc: Global, out: &mut Vec<u8>, script: &[u8]) -> io::Result<()> {
 fn answer_words(alloc: Global, out: &mut Vec<u8>, words: &str, script: &[u8]) -> io::Result<()> {
     let words = words_of(alloc, words)?;
     play_over(alloc, out, words.as_slice(), script, Faults::none())
+}
+
+/// Plays a script of these bytes, spelled in hexadecimal, for these words of the process.
+fn answer_hex(alloc: Global, out: &mut Vec<u8>, words: &str, script: &[u8]) -> io::Result<()> {
+    let words = words_of(alloc, words)?;
+    let script = bytes_of(alloc, script)?;
+    play_bytes(alloc, out, words.as_slice(), script.as_slice())
 }
 
 /// Plays so many line feeds.
@@ -100,6 +111,25 @@ fn numbers_of(alloc: Global, text: &str) -> Result<Vec<u64>, AllocError> {
         numbers.push(word.parse::<u64>().unwrap_or(0))?;
     }
     Ok(numbers)
+}
+
+/// The bytes that the hexadecimal digits of a text spell, two of them each.
+fn bytes_of(alloc: Global, text: &[u8]) -> Result<Vec<u8>, AllocError> {
+    let mut bytes = Vec::new(alloc);
+    let mut high = None;
+    for digit in text {
+        let Some(value) = char::from(*digit).to_digit(16) else {
+            continue;
+        };
+        match high {
+            None => high = Some(value),
+            Some(first) => {
+                bytes.push((first << 4 | value) as u8)?;
+                high = None;
+            }
+        }
+    }
+    Ok(bytes)
 }
 
 fn number_of(word: &str) -> usize {

@@ -4,7 +4,7 @@ use Rattle.std.proofs.Common.{◌≡◌, ◌≢◌, ℕ, zero, suc, ◌-◌, ◌
 use Rattle.std.proofs.lemmas.List.{append-nil, length-take-le}
 use Rattle.std.specs.Io.KnownBytes.{Appends, Consumes, Keeps, IsAtEnd}
 use Rattle.dc_engine.specs.declared.framing.Framing.{Framing}
-use Rattle.dc_engine.specs.Lines.{kept, ends, meets, lines_of, ended_lines, ended_from}
+use Rattle.dc_engine.specs.Lines.{kept, lines_of, ended_lines, ended_from}
 use Rattle.dc_engine.specs.declared.script.place.Place.TheVariants as place
 use Rattle.dc_engine.specs.Reading.{has_bad, makes_cluster, asks_cluster, asked_of}
 use Rattle.dc_engine.specs.Replies.{Replies, RepliesBefore}

@@ -2,7 +2,7 @@
 use Rattle.std.proofs.Common.{◌≡◌, ℕ, ◌+◌, ◌<◌, List, [], ◌∷◌, ◌++◌, Option, None, Some, option_and_then, map, length, take, drop, slice_index_or, refl, sym, ap, ◌∙◌, subst, add-one, drop-cons}
 use Rattle.std.specs.Prelude.{IfSome, IfNone}
 use Rattle.std.proofs.lemmas.List.{map-append, take_more, take-append-drop}
-use Rattle.dc_engine.specs.Words.{Asking, Asked, settled, plain, whole, with_word, with_words, with_options}
+use Rattle.dc_engine.specs.Words.{Asking, whole, with_word, with_words}
 
 -- what holds of what is asked for holds of the same, told otherwise
 pub if_some_along : {A : Type 0} (o p : Option A) (P : A → Type 0) → o ≡ p → IfSome o P → IfSome p P
@@ -42,8 +42,8 @@ module _ {W : Type 0} (bytes : W → List ℕ) (words : List W) (at : ℕ) (othe
   words_end start a h e =
       let word = bytes (slice_index_or words at other) in
       let all : map bytes words ≡ map bytes (take at words) ++ (word ∷ map bytes (drop (at + 1) words)) =
-          ap (map bytes) (sym (take-append-drop at words) ∙ ap (λ l. take at words ++ l) (drop-cons words at other within ∙ ap (λ n. slice_index_or words at other ∷ drop n words) (sym (add-one at)))) ∙ map-append bytes (take at words) (slice_index_or words at other ∷ drop (at + 1) words) in
+      ap (map bytes) (sym (take-append-drop at words) ∙ ap (λ l. take at words ++ l) (drop-cons words at other within ∙ ap (λ n. slice_index_or words at other ∷ drop n words) (sym (add-one at)))) ∙ map-append bytes (take at words) (slice_index_or words at other ∷ drop (at + 1) words) in
       let none : with_words start (map bytes words) ≡ None =
-          ap (with_words start) all ∙ words_more start (map bytes (take at words)) (word ∷ map bytes (drop (at + 1) words)) ∙ ap (option_and_then (λ c. with_words c (word ∷ map bytes (drop (at + 1) words)))) h
-          ∙ ap (option_and_then (λ c. with_words c (map bytes (drop (at + 1) words)))) (sym e) in
+      ap (with_words start) all ∙ words_more start (map bytes (take at words)) (word ∷ map bytes (drop (at + 1) words)) ∙ ap (option_and_then (λ c. with_words c (word ∷ map bytes (drop (at + 1) words)))) h
+      ∙ ap (option_and_then (λ c. with_words c (map bytes (drop (at + 1) words)))) (sym e) in
       sym (ap (option_and_then whole) none)

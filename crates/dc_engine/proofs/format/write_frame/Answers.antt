@@ -1,4 +1,4 @@
-use Rattle.std.proofs.Common.{refl, sym, ◌∙◌, ◌≡◌, ◌++◌, ◌+◌, ◌-◌, length, take, drop, ap, arith}
+use Rattle.std.proofs.Common.{refl, sym, ◌∙◌, ◌≡◌, ◌++◌, ◌+◌, ◌-◌, length, take, drop, arith}
 use Rattle.byteorder.specs.Endian.{big_bytes}
 use Rattle.dc_engine.proofs.bytes.Framed.{framed}
 use Rattle.dc_engine.proofs.format.write_frame.Goals as goal
