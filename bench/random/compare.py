@@ -5,6 +5,8 @@
 
 OTHER is the command of a program that plays a script from standard input, PROGRAM is crates/dc_shell/out/dc_shell,
 which `rt run` in crates/dc_shell leaves there; SCRIPTS is 1,000, LINES 300, and SEED, the number of the first script, 1.
+PROGRAM plays each script a second time as frames, now and then with a last one that is cut off, and has to answer it with
+the frames of the same replies.
 A script is made from its number alone: any commands in any order, mostly of what there is, sometimes of what there
 isn't, with all kinds and maps in maps, crashes, fuses and restarts, and now and then a line that isn't in the grammar.
 Prints how many lines of which reply were compared, and ends with 1 at the first script whose replies differ, which it
@@ -143,6 +145,21 @@ def replies(command, script):
     return ran.stdout, ran.returncode
 
 
+def framed(lines, head):
+    """Lines as frames, whose length takes so many bytes."""
+    return b"".join(len(line).to_bytes(head, "big") + line for line in lines)
+
+
+def in_frames(script, ours, cut):
+    """Whether the script as frames is answered with these replies as frames, where it is cut off too."""
+    lines, (text, status) = script.encode().split(b"\n")[:-1], ours
+    frames, wanted = framed(lines, 2) + b"\0\7cluster"[:cut], framed(text.split(b"\n")[:-1], 4)
+    if cut:
+        wanted, status = wanted + framed([b"bad"], 4), 1
+    ran = subprocess.run([PROGRAM, "play", "--frames"], input=frames, stdout=subprocess.PIPE, stderr=subprocess.DEVNULL)
+    return (ran.stdout, ran.returncode) == (wanted, status)
+
+
 def main():
     words = collections.Counter()
     for number in range(SEED, SEED + SCRIPTS):
@@ -154,6 +171,8 @@ def main():
             both = zip(ours[0].split(b"\n"), theirs[0].split(b"\n"))
             first = next((pair for pair in both if pair[0] != pair[1]), (ours[1], theirs[1]))
             sys.exit("script %d: %s and %s differ: %s" % (number, first[0], first[1], kept.name))
+        if not in_frames(script, ours, number % 9):
+            sys.exit("script %d: as frames it is answered otherwise" % number)
         words.update(line.split(b" ", 1)[0].decode() for line in ours[0].splitlines())
     print("%d scripts, %d replies, all the same: %s" % (SCRIPTS, sum(words.values()), ", ".join("%d %s" % (n, w) for w, n in words.most_common())))
 

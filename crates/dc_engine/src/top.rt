@@ -24,12 +24,13 @@ use crate::words::{Request, request_of};
 use disk_makers::Disks;
 use std::alloc::{AllocError, Global};
 
-/// Plays a script from the source to the sink. The bytes written are the lines of one run that answers the script's
-/// lines, each spelled in the format, and what a partition answered in it is lawful (Cure over Clock-SI): all of them
-/// where the script was read to its end, those whose end was read where the source fails or the script is too long, those before a cluster whose disk can't be made, and else a front of such a run's lines. A maker that fails
-/// at no call makes each disk. A script that is read to its end has the status `BadLine` exactly where one of its
-/// lines isn't in the grammar. Then the disks of its cluster go back to their maker, each that is up with the log
-/// that the run leaves.
+/// Plays a script from the source to the sink, whose lines and those of the replies are told apart by the framing. The
+/// bytes written are the lines of one run that answers the script's lines, each spelled in the format, and what a
+/// partition answered in it is lawful (Cure over Clock-SI): all of them where the script was read to its end, those to
+/// the lines whose end was read where the source fails or the script is too long, those before a cluster whose disk
+/// can't be made, and else a front of such a run's lines. A maker that fails at no call makes each disk. A script that
+/// is read to its end has the status `BadLine` exactly where one of its lines isn't in the grammar. Then the disks of
+/// its cluster go back to their maker, each that is up with the log that the run leaves.
 pub fn play<S: Source, K: Sink, M: Disks>(
     alloc: Global,
     framing: Framing,
