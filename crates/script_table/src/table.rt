@@ -124,7 +124,7 @@ fn bytes_of(alloc: Global, text: &[u8]) -> Result<Vec<u8>, AllocError> {
         match high {
             None => high = Some(value),
             Some(first) => {
-                bytes.push((first << 4 | value) as u8)?;
+                bytes.push(u8::try_from(first << 4 | value).unwrap_or(0))?;
                 high = None;
             }
         }
