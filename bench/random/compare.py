@@ -5,7 +5,7 @@
 
 OTHER is the command of a program that plays a script from standard input, PROGRAM is crates/dc_shell/out/dc_shell,
 which `rt run` in crates/dc_shell leaves there; SCRIPTS is 1,000, LINES 300, and SEED, the number of the first script, 1.
-PROGRAM plays each script a second time as frames, now and then with a last one that is cut off, and has to answer it with
+PROGRAM plays each script a second time as frames, now and then with a last one that is cut off, and has to answer with
 the frames of the same replies.
 A script is made from its number alone: any commands in any order, mostly of what there is, sometimes of what there
 isn't, with all kinds and maps in maps, crashes, fuses and restarts, and now and then a line that isn't in the grammar.
