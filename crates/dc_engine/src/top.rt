@@ -50,7 +50,8 @@ pub fn play<S: Source, K: Sink, M: Disks>(
     play_then(alloc, request, source, sink, disks, Memory::Freed)
 }
 
-/// Plays a script as `play` does, over disks in the folder that is asked for, and has this become of the cluster's memory.
+/// Plays a script as `play` does, over disks in the folder that is asked for, and has this become of the cluster's
+/// memory.
 fn play_then<S: Source, K: Sink, M: Disks>(
     alloc: Global,
     request: Request<'_>,
@@ -173,9 +174,9 @@ fn keep_in<M: Disks>(alloc: Global, folder: Option<&str>, disks: &mut M) -> Resu
 
 /// Does what the process's words ask for, its own name left out: for `play`, which `--json`, `--frames` and a folder
 /// may follow in any order (`--data DIR` or `--data=DIR`), it plays the script, with replies as JSON objects, with
-/// lines as frames and with disks in that folder; without one, a maker that fails at no call makes each disk. Every other list of words is a fault of
-/// usage, which reads and writes nothing. The process is to end then: what memory the tables of the cluster have is
-/// left to the system, as by `Vec::leak`.
+/// lines as frames and with disks in that folder; without one, a maker that fails at no call makes each disk. Every
+/// other list of words is a fault of usage, which reads and writes nothing. The process is to end then: what memory
+/// the tables of the cluster have is left to the system, as by `Vec::leak`.
 pub fn run<S: Source, K: Sink, M: Disks>(
     alloc: Global,
     words: &[&str],

@@ -84,6 +84,8 @@ impl PendingLine {
     pub(crate) fn lead(&mut self, piece: &[u8], at: Place) -> Result<(), AllocError>
         ensures first { OnOk result (self.new.first ≡ take 4099 (self.old.first ++ piece.now)) }
         ensures at { OnOk result (self.new.at ≡ at) }
+        ensures err { OnErr result (self.new.first ≡ self.old.first) }
+        ensures same { OnErr result (self.new.at ≡ self.old.at) }
     {
         self.extend(piece)?;
         self.at = at;
