@@ -4,5 +4,6 @@ pub mod Progress
 pub mod Cutting
 pub mod Dividing
 pub mod Framed
+pub mod Frames
 pub mod Takes
 pub mod Written

@@ -4,6 +4,7 @@
 mod fault;
 mod format;
 mod framing;
+mod laws;
 mod player;
 mod responder;
 mod script;
@@ -15,6 +16,7 @@ mod words;
 
 pub use format::Format;
 pub use framing::Framing;
+pub use laws::law_frames;
 pub use status::Status;
 pub use streams::edge::{ReaderSource, WriterSink};
 pub use streams::memory::{Calls, SliceSource, VecSink};
