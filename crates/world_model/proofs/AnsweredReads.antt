@@ -86,7 +86,7 @@ module _ {E : Type 0} where
       later_kept : (u : TxId) → touches (plan.updates u p) o ≡ true → lists read u ≡ false → Later next after p (entry s p.site) u
       later_kept u x a m i h = ⊎_elim
           (λ (y : aborted m u ≡ true). inl y)
-          (λ (y : (entry s p.site < prepare_time m u) ⊎ (is_decided run u ≡ true)). inr (⊎_elim (λ (z : entry s p.site < prepare_time m u). inl z) (λ (z : is_decided run u ≡ true). inr (or_right _ _ z)) y))
+          (λ (y : (entry s p.site < prepare_time m u) ⊎ ((is_decided run u ≡ true) × (committed m u ≡ true))). inr (⊎_elim (λ (z : entry s p.site < prepare_time m u). inl z) (λ (z : (is_decided run u ≡ true) × (committed m u ≡ true)). inr (or_right _ _ z.0, z.1)) y))
           (later_step plan run before after at event mv f f' p (entry s p.site) u g.seen (g.later u x a) m i h)
 
       answered_step : Answered plan next after p s o read
@@ -187,9 +187,9 @@ module _ {E : Type 0} where
       seen = subst (λ n. entry s at.site ≤ n) now ready.clock;
       later = λ u x a l i h. let e = one l i in ⊎_elim
           (λ (y : aborted (before at).log u ≡ true). inl (ap (λ z. aborted z u) e ∙ y))
-          (λ (y : (entry s at.site < prepare_time (before at).log u) ⊎ (is_decided run u ≡ true)). inr (⊎_elim
+          (λ (y : (entry s at.site < prepare_time (before at).log u) ⊎ ((is_decided run u ≡ true) × (committed (before at).log u ≡ true))). inr (⊎_elim
           (λ (z : entry s at.site < prepare_time (before at).log u). inl (subst (λ w. entry s at.site < prepare_time w u) (sym e) z))
-          (λ (z : is_decided run u ≡ true). inr (same u ∙ z))
+          (λ (z : (is_decided run u ≡ true) × (committed (before at).log u ≡ true)). inr (same u ∙ z.0, ap (λ y. committed y u) e ∙ z.1))
           y))
           (later_now plan run before f at (entry s at.site) up u (waits u x) (subst (λ y. prepared y u ≡ true) e h));
       covered = λ j ne. le_trans (covers j ne).reached (sent_more run (record { at = at; event = event }) (twin j at));

@@ -17,13 +17,14 @@ use Rattle.world_model.proofs.Leases.{Leases}
 use Rattle.world_model.proofs.Later.{once_pending}
 use Rattle.world_model.proofs.Upheld.{law_plan}
 use Rattle.world_model.proofs.Shows.{Shown, known_is, ready_is, shown_run}
-use Rattle.world_model.proofs.Hears.{Hears, stable_low, hears_run}
+use Rattle.world_model.proofs.Enough.{begin_enough}
+use Rattle.world_model.proofs.Hears.{Hears, enough_shown, hears_run}
 
-module _ {E : Type 0} {S : Type 0} (kinds : Kinds S E) (plan : Plan E) (run : List (Entry E)) (before after : PartId → PartState E) (at : PartId) (f : Fate plan run before) (w : Shown plan run before) (h : Hears plan run before) (l : Leases run before) (planned : EventsAre (IsPlanned plan) run) where
+module _ {E : Type 0} {S : Type 0} (kinds : Kinds S E) (plan : Plan E) (run : List (Entry E)) (before after : PartId → PartState E) (at : PartId) (f : Fate plan run before) (w : Shown plan run before) (h : Hears plan run before) (l : Leases run before) (planned : EventsAre (IsPlanned plan) run) (some : 1 ≤ plan.parts) where
   pub clear_event : (event : Event E) → IsAllowed plan run before at (attempt event) → PartStep kinds plan.sites plan.parts at (before at) event (after at) → IsClearAt plan run at event
   clear_event (Cut (Began who dep t s)) al st = (
     subst (λ n. n < end_of_time) (l.clock at).now st.1.early,
-    λ j q o a b. le_trans (subst (λ x. entry dep j ≤ x) (st.1.stable j o) (st.1.waited j o)) (stable_low kinds plan run before after at h w st.0 j o q a b),
+    enough_shown kinds plan run before after at h some f l w st.0 dep (begin_enough plan.sites plan.parts at (before at) dep t s st.1),
   )
   clear_event (Cut (Read t s o own read value)) al st = ready_is kinds plan run before after at f w st.0 l s o st.1.0
   clear_event (Cut (Updated t s o own op read u stamp)) al st = λ k. ready_is kinds plan run before after at f w st.0 l s o (st.1.ready k)
@@ -34,7 +35,7 @@ module _ {E : Type 0} {S : Type 0} (kinds : Kinds S E) (plan : Plan E) (run : Li
   clear_event (Cut (Took number m)) al st = let e = w.bounds at m.from st.0 al.from in (subst (λ n. m.lo ≤ n) e st.1.0, subst (λ n. n < m.hi) e st.1.1)
   clear_event (Refused (AskBegin who dep) (HasNoRoom n)) al st = (
     subst (λ k. k < end_of_time) (l.clock at).now st.0.1.1,
-    λ j q o a b. le_trans (st.0.1.0 j o) (stable_low kinds plan run before after at h w st.0.0 j o q a b),
+    enough_shown kinds plan run before after at h some f l w st.0.0 dep st.0.1.0,
   )
   clear_event (Refused (AskRead t s o own) (HasNoRoom n)) al st = absurd st.0.1
   clear_event (Refused (AskUpdate t s o own op) (HasNoRoom n)) al st = absurd st.0.1
@@ -57,6 +58,6 @@ pub clear_events : {E : Type 0} {S : Type 0} (kinds : Kinds S E) (plan : Plan E)
 clear_events kinds plan [] parts r = tt
 clear_events kinds plan (e ∷ run) parts r =
     let k = law_plan kinds plan run r.0 r.1 in (
-      clear_event kinds plan run r.0 parts e.at k.fate (shown_run kinds plan run r.0 r.1) (hears_run kinds plan run r.0 r.1) k.leases k.planned e.event r.2.allowed r.2.step,
+      clear_event kinds plan run r.0 parts e.at k.fate (shown_run kinds plan run r.0 r.1) (hears_run kinds plan run r.0 r.1) k.leases k.planned (le_trans r.2.place.least_part r.2.place.most_part) e.event r.2.allowed r.2.step,
       clear_events kinds plan run r.0 r.1,
     )

@@ -1,31 +1,35 @@
 -- The parts completeness, heard bounds and coverage: what lies up to a bound that a partition ever had is held in every image.
-use Rattle.std.proofs.Common.{◌≡◌, ◌≢◌, ⊎_elim, ℕ, zero, suc, ◌-◌, ◌<◌, ◌≤◌, max, Bool, true, false, ◌&&◌, ◌||◌, List, [], ◌∷◌, Option, refl, sym, ap, ◌∙◌, subst, subst₂, arith, le_trans}
+use Rattle.std.proofs.Common.{◌≡◌, ◌≢◌, ⊎_elim, ℕ, zero, suc, ◌-◌, ◌<◌, ◌≤◌, max, cond, Bool, true, false, ◌&&◌, ◌||◌, List, [], ◌∷◌, Option, refl, sym, ap, ◌∙◌, subst, subst₂, arith, le_trans}
 use Rattle.std.specs.Prelude.{⊤, ◌==◌, replicate, slice_index, slice_index_or}
 use Rattle.std.proofs.lemmas.Bool.{cases_Bool, cases_lt, or_left, or_right, or_cases, and_from, and_parts, le-leb, lt-ltb, eqb-true, cond-true, cond-false}
 use Rattle.site_vector.specs.declared.ids.PartId.{PartId}
 use Rattle.site_vector.specs.declared.ids.TxId.{TxId}
+use Rattle.site_vector.specs.Order.{same_part_refl}
+use Rattle.site_vector.specs.Ids.{same_part}
 use Rattle.site_vector.specs.Vector.{entry, join, replaced}
 use Rattle.crdt_core.specs.declared.record.Part.{Part}
 use Rattle.crdt_core.specs.declared.record.Message.{Message}
 use Rattle.crdt_core.specs.declared.record.Record.{Record}
+use Rattle.crdt_core.specs.declared.object.ObjectId.{ObjectId}
 use Rattle.crdt_core.specs.declared.record.Record.TheVariants.{Lease, Prepare, Decide, Finish, Abort, Batch}
 use Rattle.crdt_core.specs.Parts.{lists, vector_in, changes_in}
 use Rattle.crdt_core.specs.Log.{taken, taken_at, taken_changes, logged_bound, grown, MayFind}
 use Rattle.world_model.specs.rules.Event.{Refused, Event, Ticked, Began, Updated, Read, Prepared, Decided, Finished, Aborted, Sent, Took, Reported, Heard, Crashed, RestartCut, Restarted, Opened, Cut, Entry, attempt, is_decided, time_of, sent_count, report_count, EventsAre}
-use Rattle.world_model.proofs.Runs.{sent}
+use Rattle.world_model.proofs.Runs.{begin_told, sent_after, sent}
 use Rattle.crdt_core.specs.KindsOf.{Kinds}
 use Rattle.site_vector.specs.Known.{vector_of}
-use Rattle.world_model.specs.rules.Partition.{PartState, Finds, IsBegin, batch_of, known, done, PartStep}
-use Rattle.world_model.specs.lines.Places.{IsOther, twin}
+use Rattle.world_model.specs.rules.Partition.{PartState, Finds, IsBegin, OwnEntry, IsReady, batch_of, known, done, PartStep}
+use Rattle.world_model.specs.lines.Lines.{Wish}
+use Rattle.world_model.specs.lines.Places.{IsOther, IsPlace, home, twin}
 use Rattle.crdt_core.specs.Parts.{AreParts, above}
-use Rattle.world_model.specs.rules.Plan.{Plan, takes_part, changes_at, vector_at, commit_vector, IsAllowed, MayTake, MayHear}
+use Rattle.world_model.specs.rules.Plan.{Plan, takes_part, changes_at, vector_at, commit_vector, IsAllowed, IsSession, MayTake, MayHear}
 use Rattle.world_model.specs.events.Reads.{IsExact}
 use Rattle.world_model.proofs.Names.{clash, off, part_cases, entry_cases, vectors_cases, join_below, lowest_below}
 use Rattle.world_model.proofs.Parts.{parts_vector, parts_changes, lists_above, above_parts}
 use Rattle.world_model.proofs.Moves.{Because, IsCut, Move, image_log}
 use Rattle.world_model.proofs.Fate.{Fate}
 use Rattle.world_model.proofs.Later.{at_own}
-use Rattle.world_model.proofs.Intervals.{Intervals, sent_more, shown_sent, numbered_shown, shown_has, events_map, above_sent, same_time, exact_step}
+use Rattle.world_model.proofs.Intervals.{Intervals, sent_more, shown_sent, shown_reported, numbered_shown, shown_has, events_map, above_sent, same_time, exact_step, never_waits}
 
 pub zeros_at : (n i : ℕ) → slice_index (replicate n 0) i ≡ 0
 zeros_at zero i = refl
@@ -69,12 +73,24 @@ module _ {E : Type 0} where
   IsBacked plan run parts p (Began who dep t s) = (q j : ℕ) → 1 ≤ q → q ≤ plan.parts → IsOther plan.sites p.site j → Complete plan run parts (numbered p q) j (entry s j)
   IsBacked plan run parts p event = ⊤
 
+  -- each partition of its site told the own entry of a stable snapshot as an own bound
+  abbrev pub OwnTold : Plan E → List (Entry E) → PartId → List ℕ → Bool → Type 0
+  OwnTold plan run p s false = ⊤
+  OwnTold plan run p s true = (q : ℕ) → 1 ≤ q → q ≤ plan.parts → entry s p.site ≤ sent run (numbered p q)
+
+  abbrev pub IsTold : Plan E → List (Entry E) → PartId → Event E → Type 0
+  IsTold plan run p (Began who wish t s) = OwnTold plan run p s wish.stable
+  IsTold plan run p event = ⊤
+
   pub record Bounds (plan : Plan E) (run : List (Entry E)) (parts : PartId → PartState E) : Type 0 where
     pub up_to : (p : PartId) (j : ℕ) → (parts p).up ≡ true → IsOther plan.sites p.site j → Complete plan run parts p j (entry (parts p).bounds j)
     pub heard : (p : PartId) (q j : ℕ) → (parts p).up ≡ true → 1 ≤ q → IsOther plan.sites p.site j → Complete plan run parts (numbered p q) j (entry (vector_of (parts p).heard q) j)
+    -- and of its own site: what it heard of each partition is an own bound that this one told
+    pub own_heard : (p : PartId) (q : ℕ) → (parts p).up ≡ true → 1 ≤ q → entry (vector_of (parts p).heard q) p.site ≤ sent run (numbered p q)
     pub logged : (p : PartId) (j : ℕ) (m : List (Record E)) → Finds (parts p) m → IsOther plan.sites p.site j → Logged plan run p j m
     pub from : (p : PartId) (m : List (Record E)) (t : TxId) → Finds (parts p) m → taken m t ≡ true → Brought plan run p t m
     pub events : EventsAre (IsBacked plan run parts) run
+    pub told : EventsAre (IsTold plan run) run
 
   more_taken : (r : Record E) (old : List (Record E)) (t : TxId) → taken old t ≡ true → taken (r ∷ old) t ≡ true
   more_taken (Lease n) old t h = h
@@ -333,6 +349,55 @@ module _ {E : Type 0} where
         subst (λ b. Complete plan next after (numbered p q) j b) (sym (ap (λ x. entry (vector_of x.heard q) j) same)) (complete_step (numbered p q) j (entry (vector_of (before p).heard q) j) (g.heard p q j (sym (ap (λ x. x.up) same) ∙ up) l ne)))
         (part_cases at p)
 
+    -- of the own site
+    own_same : (q : ℕ) → (before at).up ≡ true → (after at).heard ≡ (before at).heard → 1 ≤ q → entry (vector_of (after at).heard q) at.site ≤ sent next (numbered at q)
+    own_same q up e l = subst (λ x. entry (vector_of x q) at.site ≤ sent next (numbered at q)) (sym e) (le_trans (g.own_heard at q up l) (sent_more run (record { at = at; event = event }) (numbered at q)))
+
+    own_joined : (number k : ℕ) (b : List ℕ) → (before at).up ≡ true → MayHear plan run at number k b → entry (join (vector_of (before at).heard k) b) at.site ≤ sent next (numbered at k)
+    own_joined number k b up al =
+        let old = g.own_heard at k up al.least in
+        let told = shown_reported run (numbered at k) b (numbered_shown report_count run number (numbered at k) (Reported b) al.shown) in
+        let more = sent_more run (record { at = at; event = event }) (numbered at k) in ⊎_elim
+        (λ (x : entry (join (vector_of (before at).heard k) b) at.site ≤ entry (vector_of (before at).heard k) at.site). le_trans x (le_trans old more))
+        (λ (x : entry (join (vector_of (before at).heard k) b) at.site ≤ entry b at.site). le_trans x (le_trans told more))
+        (join_below (vector_of (before at).heard k) b (at.site - 1))
+
+    own_here : (a : Event E) → IsAllowed plan run before at (attempt a) → PartStep kinds plan.sites plan.parts at (before at) a (after at) → (q : ℕ) → (after at).up ≡ true → 1 ≤ q → entry (vector_of (after at).heard q) at.site ≤ sent next (numbered at q)
+    own_here (Heard number k b stable) al st q up l =
+        let e = ap (λ p. vector_of p.heard q) st.2 in ⊎_elim
+        (λ (x : vector_of (done (before at) (Heard number k b stable)).heard q ≡ vector_of (before at).heard q). subst (λ y. entry y at.site ≤ sent next (numbered at q)) (sym (e ∙ x)) (le_trans (g.own_heard at q st.0 l) (sent_more run (record { at = at; event = event }) (numbered at q))))
+        (λ (x : (q - 1 ≡ k - 1) × (vector_of (done (before at) (Heard number k b stable)).heard q ≡ join (vector_of (before at).heard k) b)).
+        let a = x.0 in
+        let c = al.least in
+        let same : k ≡ q = omega arith in
+        subst (λ y. entry y at.site ≤ sent next (numbered at q)) (sym (e ∙ x.1)) (subst (λ z. entry (join (vector_of (before at).heard k) b) at.site ≤ sent next (numbered at z)) same (own_joined number k b st.0 al)))
+        (vectors_cases (before at).heard k q (join (vector_of (before at).heard k) b))
+    own_here (Cut a) al st q up l = clash up (ap (λ p. p.up) st.2)
+    own_here Crashed al st q up l = clash up (ap (λ p. p.up) st)
+    own_here RestartCut al st q up l = clash up (ap (λ p. p.up) st)
+    own_here (Restarted n b named listed) al st q up l = subst (λ x. x ≤ sent next (numbered at q)) (sym (ap (λ x. entry (vector_of x q) at.site) st.heard ∙ rows_at plan.parts plan.sites (q - 1) (at.site - 1))) (omega arith)
+    own_here (Refused asked why) al st q up l = own_same q (sym (ap (λ p. p.up) st.1) ∙ up) (ap (λ p. p.heard) st.1) l
+    own_here (Opened who) al st q up l = own_same q (sym (ap (λ p. p.up) st) ∙ up) (ap (λ p. p.heard) st) l
+    own_here (Ticked r n) al st q up l = own_same q st.0 (ap (λ p. p.heard) st.2) l
+    own_here (Began who dep t c) al st q up l = own_same q st.0 (ap (λ p. p.heard) st.2) l
+    own_here (Updated t c o own op read u stamp) al st q up l = own_same q st.0 (ap (λ p. p.heard) st.2) l
+    own_here (Read t c o own read value) al st q up l = own_same q st.0 (ap (λ p. p.heard) st.2) l
+    own_here (Prepared t c y w n) al st q up l = own_same q st.0 (ap (λ p. p.heard) st.2) l
+    own_here (Decided t c) al st q up l = own_same q st.0 (ap (λ p. p.heard) st.2) l
+    own_here (Finished t c) al st q up l = own_same q st.0 (ap (λ p. p.heard) st.2) l
+    own_here (Aborted t own) al st q up l = own_same q st.0 (ap (λ p. p.heard) st.2) l
+    own_here (Sent asked m) al st q up l = own_same q st.0 (ap (λ p. p.heard) st.2) l
+    own_here (Took number m) al st q up l = own_same q st.0 (ap (λ p. p.heard) st.2) l
+    own_here (Reported b) al st q up l = own_same q st.0 (ap (λ p. p.heard) st.2) l
+
+    own_step : (p : PartId) (q : ℕ) → (after p).up ≡ true → 1 ≤ q → entry (vector_of (after p).heard q) p.site ≤ sent next (numbered p q)
+    own_step p q up l = ⊎_elim
+        (λ (e : at ≡ p). subst (λ x. (after x).up ≡ true → entry (vector_of (after x).heard q) x.site ≤ sent next (numbered x q)) e (λ up'. own_here event mv.allowed s q up' l) up)
+        (λ (a : at ≡ p → ⊥).
+        let same = others p (λ x. a (sym x)) in
+        subst (λ b. b ≤ sent next (numbered p q)) (sym (ap (λ x. entry (vector_of x.heard q) p.site) same)) (le_trans (g.own_heard p q (sym (ap (λ x. x.up) same) ∙ up) l) (sent_more run (record { at = at; event = event }) (numbered p q))))
+        (part_cases at p)
+
     backed_step : (p : PartId) (a : Event E) → IsBacked plan run before p a → IsBacked plan next after p a
     backed_step p (Sent asked m) b = (exact_step kinds plan run before after at event s mv f f' rise v p m b.1 b.0, le_trans b.1 (sent_more run (record { at = at; event = event }) p))
     backed_step p (Reported b) h = λ j ne. complete_step p j (entry b j) (h j ne)
@@ -340,7 +405,7 @@ module _ {E : Type 0} where
     backed_step p a b = tt
 
     -- what a begin knows of a partition of its site
-    begin_knows : (dep : List ℕ) (t : TxId) (c : List ℕ) → (before at).up ≡ true → IsBegin plan.sites plan.parts at (before at) dep t c → (q j : ℕ) → 1 ≤ q → q ≤ plan.parts → IsOther plan.sites at.site j → Complete plan next after (numbered at q) j (entry c j)
+    begin_knows : (dep : Wish) (t : TxId) (c : List ℕ) → (before at).up ≡ true → IsBegin plan.sites plan.parts at (before at) dep t c → (q j : ℕ) → 1 ≤ q → q ≤ plan.parts → IsOther plan.sites at.site j → Complete plan next after (numbered at q) j (entry c j)
     begin_knows dep t c up b q j l k ne =
         let below : entry c j ≤ known at (before at) j q = subst (λ x. x ≤ known at (before at) j q) (sym (b.stable j ne)) (lowest_below (known at (before at) j) plan.parts q l k) in ⊎_elim
         (λ (x : (at.part == q) ≡ true).
@@ -357,11 +422,46 @@ module _ {E : Type 0} where
     backed_here (Began who dep t c) st x = begin_knows dep t c st.0 st.1
     backed_here a st x = tt
 
+    told_kept : (p : PartId) (s : List ℕ) (b : Bool) → OwnTold plan run p s b → OwnTold plan next p s b
+    told_kept p s false x = tt
+    told_kept p s true x = λ q l k. le_trans (x q l k) (sent_more run (record { at = at; event = event }) (numbered p q))
+
+    told_step : (p : PartId) (a : Event E) → IsTold plan run p a → IsTold plan next p a
+    told_step p (Began who wish t s) x = told_kept p s wish.stable x
+    told_step p a x = tt
+
+    begin_tells : (wish : Wish) (time : ℕ) (c : List ℕ) (b : Bool) → (before at).up ≡ true → OwnEntry plan.parts at (before at) wish time (entry c at.site) b → sent next at ≡ begin_told b (entry c at.site) (sent run at) → OwnTold plan next at c b
+    begin_tells wish time c false up o e = tt
+    begin_tells wish time c true up o e = λ q l k.
+        let low : entry c at.site ≤ cond (at.part == q) o.0.bound (entry (vector_of (before at).heard q) at.site) = subst (λ x. x ≤ cond (at.part == q) o.0.bound (entry (vector_of (before at).heard q) at.site)) (sym o.0.least) (lowest_below (λ q. cond (at.part == q) o.0.bound (entry (vector_of (before at).heard q) at.site)) plan.parts q l k) in ⊎_elim
+        (λ (x : (at.part == q) ≡ true). subst (λ y. entry c at.site ≤ sent next (numbered at y)) (eqb-true at.part q x) (subst (λ y. entry c at.site ≤ y) (sym e) (omega arith)))
+        (λ (x : (at.part == q) ≡ false).
+        let h : entry c at.site ≤ entry (vector_of (before at).heard q) at.site = subst (λ y. entry c at.site ≤ y) (cond-false (at.part == q) o.0.bound (entry (vector_of (before at).heard q) at.site) x) low in
+        le_trans h (le_trans (g.own_heard at q up l) (sent_more run (record { at = at; event = event }) (numbered at q))))
+        (cases_Bool (at.part == q))
+
+    told_here : (a : Event E) → event ≡ a → PartStep kinds plan.sites plan.parts at (before at) a (after at) → IsTold plan next at a
+    told_here (Began who wish t c) e st = begin_tells wish t.time c wish.stable st.0 st.1.own (cond-true (same_part at at) _ _ (same_part_refl at) ∙ ap (λ a. sent_after at.site (sent run at) a) e)
+    told_here a e st = tt
+
     pub bounds_step : ((asked : Option ℕ) (m : Message E) → event ≡ Sent asked m → IsExact plan next at m × (m.hi ≤ sent next at)) → Bounds plan next after
     bounds_step x = record {
       up_to = up_step;
       heard = heard_step;
+      own_heard = own_step;
       logged = logged_step;
       from = from_step;
+      told = (told_here event refl s, events_map (IsTold plan run) (IsTold plan next) told_step run g.told);
       events = (backed_here event s x, events_map (IsBacked plan run before) (IsBacked plan next after) backed_step run g.events);
     }
+
+  -- at each partition of its site the own entry of a stable snapshot was told
+  pub stable_told : (plan : Plan E) (run : List (Entry E)) (parts : PartId → PartState E) → Bounds plan run parts → (p : PartId) → IsPlace plan.sites plan.parts p → (t : TxId) (s : List ℕ) (al : IsSession run p t s) → al.dependency.stable ≡ true → entry s p.site ≤ sent run p
+  stable_told plan run parts g p place t s al e =
+      let told : OwnTold plan run (home t) s al.dependency.stable = shown_has (IsTold plan run) run (home t) (Began al.who al.dependency t s) g.told al.begun in
+      let here : entry s t.site ≤ sent run (numbered (home t) p.part) = (subst (λ b. OwnTold plan run (home t) s b) e told) p.part place.least_part place.most_part in
+      subst (λ j. entry s j ≤ sent run (record { site = j; part = p.part })) (sym al.site) here
+
+  -- so it waits for nothing there
+  pub stable_ready : (plan : Plan E) (run : List (Entry E)) (parts : PartId → PartState E) → Intervals plan run parts → Bounds plan run parts → (p : PartId) → IsPlace plan.sites plan.parts p → (t : TxId) (s : List ℕ) (al : IsSession run p t s) → al.dependency.stable ≡ true → (o : ObjectId) → IsReady p (parts p) s o
+  stable_ready plan run parts v g p place t s al e o = let w = never_waits plan run parts v p (entry s p.site) (stable_told plan run parts g p place t s al e) in record { clock = w.0; free = λ u a b. w.1 u a }

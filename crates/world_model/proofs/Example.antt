@@ -133,7 +133,7 @@ module _ {S E : Type 0} (kinds : Kinds S E) (known : kinds.has CounterPn ≡ tru
   message = record { from = 1; to = 2; part = 1; lo = 0; hi = 1001; parts = part ∷ [] }
 
   abbrev e1 : Event E
-  e1 = Began ann (0 ∷ 0 ∷ []) first snapshot1
+  e1 = Began ann (record { past = 0 ∷ 0 ∷ []; stable = false }) first snapshot1
 
   abbrev e2 : Event E
   e2 = Updated first snapshot1 counter [] more [] change (kinds.stamp_of change.effect)
@@ -145,7 +145,7 @@ module _ {S E : Type 0} (kinds : Kinds S E) (known : kinds.has CounterPn ≡ tru
   e3a = Opened ben
 
   abbrev e3b : Event E
-  e3b = Began ben (0 ∷ 0 ∷ []) waiting snapshot3
+  e3b = Began ben (record { past = 0 ∷ 0 ∷ []; stable = false }) waiting snapshot3
 
   abbrev e3c : Event E
   e3c = Refused (AskRead waiting snapshot3 counter []) (TxPending first 2)
@@ -183,7 +183,7 @@ module _ {S E : Type 0} (kinds : Kinds S E) (known : kinds.has CounterPn ≡ tru
   e10 = Heard 1 1 (1001 ∷ 0 ∷ []) (1001 ∷ 0 ∷ [])
 
   abbrev e11 : Event E
-  e11 = Began ann snapshot1 moved snapshot2
+  e11 = Began ann (record { past = snapshot1; stable = false }) moved snapshot2
 
   abbrev seen : Value
   seen = kinds.value_of (state_read kinds counter moved [] (part ∷ []))
@@ -280,7 +280,7 @@ module _ {S E : Type 0} (kinds : Kinds S E) (known : kinds.has CounterPn ≡ tru
     run1,
     record {
       place = place_here;
-      allowed = record { site = refl; who = ann; dependency = 0 ∷ 0 ∷ []; begun = inl (refl, refl); place = refl; earlier = refl };
+      allowed = record { site = refl; who = ann; dependency = record { past = 0 ∷ 0 ∷ []; stable = false }; begun = inl (refl, refl); place = refl; earlier = refl };
       fit = tt;
       step = (refl, record { ready = λ h. off h; fold = λ h. off h; known = known; fits = rw shallow refl; object = refl; effect = refl; stamped = refl }, refl);
       others = others p1 here (done (p1 here) e2);
@@ -332,7 +332,7 @@ module _ {S E : Type 0} (kinds : Kinds S E) (known : kinds.has CounterPn ≡ tru
     run3b,
     record {
       place = place_here;
-      allowed = (record { site = refl; who = ben; dependency = 0 ∷ 0 ∷ []; begun = inl (refl, refl) }, refl);
+      allowed = (record { site = refl; who = ben; dependency = record { past = 0 ∷ 0 ∷ []; stable = false }; begun = inl (refl, refl) }, refl);
       fit = tt;
       step = ((refl, record { clock = le_refl 3; waiting = refl; changes = refl; time = refl; early = lit≤ tt; first = λ w h k. first_alone w h }), refl);
       others = λ q ne. refl;
@@ -545,7 +545,7 @@ module _ {S E : Type 0} (kinds : Kinds S E) (known : kinds.has CounterPn ≡ tru
     run11,
     record {
       place = place_there;
-      allowed = record { site = refl; who = ann; dependency = snapshot1; begun = inl (refl, refl); place = refl; earlier = refl };
+      allowed = record { site = refl; who = ann; dependency = record { past = snapshot1; stable = false }; begun = inl (refl, refl); place = refl; earlier = refl };
       fit = tt;
       step = (refl, (record { clock = le_refl 1; free = λ u h. off h }, record { order = (tt, tt); members = λ u. seen_there (same_tx first u); exact = ((refl, refl), tt) }, known, refl), refl);
       others = others p11 there (done (p11 there) e12);

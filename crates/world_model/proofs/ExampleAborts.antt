@@ -41,7 +41,7 @@ module _ {S E : Type 0} (kinds : Kinds S E) where
   p0 = p21 kinds
 
   abbrev pub e1 : Event E
-  e1 = Began ben (3 ∷ 0 ∷ []) dropped (10 ∷ 0 ∷ [])
+  e1 = Began ben (record { past = 3 ∷ 0 ∷ []; stable = false }) dropped (10 ∷ 0 ∷ [])
 
   abbrev pub e2 : Event E
   e2 = Updated dropped (10 ∷ 0 ∷ []) counter1 [] more [] change1 (kinds.stamp_of change1.effect)
@@ -74,7 +74,7 @@ module _ {S E : Type 0} (kinds : Kinds S E) where
   e10 = Refused (AskAbort dropped) IsGone
 
   abbrev pub e11 : Event E
-  e11 = Began ann (6 ∷ 0 ∷ []) undone (12 ∷ 0 ∷ [])
+  e11 = Began ann (record { past = 6 ∷ 0 ∷ []; stable = false }) undone (12 ∷ 0 ∷ [])
 
   abbrev pub e12 : Event E
   e12 = Updated undone (12 ∷ 0 ∷ []) counter1 [] more [] change3 (kinds.stamp_of change3.effect)
@@ -183,14 +183,14 @@ module _ {S E : Type 0} (kinds : Kinds S E) (has : HaveBoth kinds) where
 
   pub run2 : IsWorldRun kinds 2 2 (r2 kinds) (p2 kinds)
   run2 = go kinds (r1 kinds) (p1 kinds) here1 (e2 kinds) (done (p1 kinds here1) (e2 kinds)) run1 place_here1
-      (record { site = refl; who = ben; dependency = (3 ∷ 0 ∷ []); begun = was_shown 0 (r1 kinds) _ _ (inl (refl, refl)); place = refl; earlier = refl })
+      (record { site = refl; who = ben; dependency = record { past = (3 ∷ 0 ∷ []); stable = false }; begun = was_shown 0 (r1 kinds) _ _ (inl (refl, refl)); place = refl; earlier = refl })
       tt
       (refl, record { ready = λ h. off h; fold = λ h. off h; known = has.counters; fits = fits_more kinds has; object = refl; effect = refl; stamped = refl }, refl)
       (record { early = untried (r1 kinds) dropped refl; number = refl })
 
   pub run3 : IsWorldRun kinds 2 2 (r3 kinds) (p3 kinds)
   run3 = go kinds (r2 kinds) (p2 kinds) here2 (e3 kinds) (done (p2 kinds here2) (e3 kinds)) run2 place_here2
-      (record { site = refl; who = ben; dependency = (3 ∷ 0 ∷ []); begun = was_shown 1 (r2 kinds) _ _ (inl (refl, refl)); place = refl; earlier = refl })
+      (record { site = refl; who = ben; dependency = record { past = (3 ∷ 0 ∷ []); stable = false }; begun = was_shown 1 (r2 kinds) _ _ (inl (refl, refl)); place = refl; earlier = refl })
       tt
       (refl, record { ready = λ h. off h; fold = λ h. off h; known = has.counters; fits = fits_more kinds has; object = refl; effect = refl; stamped = refl }, refl)
       (record { early = untried (r2 kinds) dropped refl; number = refl })
@@ -225,7 +225,7 @@ module _ {S E : Type 0} (kinds : Kinds S E) (has : HaveBoth kinds) where
 
   pub run8 : IsWorldRun kinds 2 2 (r8 kinds) (p8 kinds)
   run8 = go kinds (r7 kinds) (p7 kinds) here2 (e8 kinds) (done (p7 kinds here2) (e8 kinds)) run7 place_here2
-      (inr refl)
+      (inr (inl refl))
       tt
       (refl, refl, refl)
       tt
@@ -253,7 +253,7 @@ module _ {S E : Type 0} (kinds : Kinds S E) (has : HaveBoth kinds) where
 
   pub run12 : IsWorldRun kinds 2 2 (r12 kinds) (p12 kinds)
   run12 = go kinds (r11 kinds) (p11 kinds) here1 (e12 kinds) (done (p11 kinds here1) (e12 kinds)) run11 place_here1
-      (record { site = refl; who = ann; dependency = (6 ∷ 0 ∷ []); begun = was_shown 0 (r11 kinds) _ _ (inl (refl, refl)); place = refl; earlier = refl })
+      (record { site = refl; who = ann; dependency = record { past = (6 ∷ 0 ∷ []); stable = false }; begun = was_shown 0 (r11 kinds) _ _ (inl (refl, refl)); place = refl; earlier = refl })
       tt
       (refl, record { ready = λ h. off h; fold = λ h. off h; known = has.counters; fits = fits_more kinds has; object = refl; effect = refl; stamped = refl }, refl)
       (record { early = untried (r11 kinds) undone refl; number = refl })

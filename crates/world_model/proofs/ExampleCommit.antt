@@ -60,7 +60,7 @@ module _ {S E : Type 0} (kinds : Kinds S E) where
   start q = new_part 2 2
 
   abbrev pub e1 : Event E
-  e1 = Began ann none both (1 ∷ 0 ∷ [])
+  e1 = Began ann (record { past = none; stable = false }) both (1 ∷ 0 ∷ [])
 
   abbrev pub e2 : Event E
   e2 = Updated both (1 ∷ 0 ∷ []) counter1 [] more [] change1 (kinds.stamp_of change1.effect)
@@ -97,7 +97,7 @@ module _ {S E : Type 0} (kinds : Kinds S E) where
   e11 = Opened ben
 
   abbrev pub e12 : Event E
-  e12 = Began ben none waiting (3 ∷ 0 ∷ [])
+  e12 = Began ben (record { past = none; stable = false }) waiting (3 ∷ 0 ∷ [])
 
   abbrev pub e13 : Event E
   e13 = Refused (AskRead waiting (3 ∷ 0 ∷ []) counter1 []) (TxPending both 2)
@@ -117,7 +117,7 @@ module _ {S E : Type 0} (kinds : Kinds S E) where
 
   -- its own entry is ahead of the clock
   abbrev pub e18 : Event E
-  e18 = Began ann (6 ∷ 0 ∷ []) later (6 ∷ 0 ∷ [])
+  e18 = Began ann (record { past = 6 ∷ 0 ∷ []; stable = false }) later (6 ∷ 0 ∷ [])
 
   abbrev pub e19 : Event E
   e19 = Refused (AskRead later (6 ∷ 0 ∷ []) counter1 []) (ClockBehind 4)
@@ -264,35 +264,35 @@ module _ {S E : Type 0} (kinds : Kinds S E) (has : HaveBoth kinds) where
 
   pub run2 : IsWorldRun kinds 2 2 (r2 kinds) (p2 kinds)
   run2 = go kinds (r1 kinds) (p1 kinds) here1 (e2 kinds) (done (p1 kinds here1) (e2 kinds)) run1 place_here1
-      (record { site = refl; who = ann; dependency = none; begun = was_shown 0 (r1 kinds) _ _ (inl (refl, refl)); place = refl; earlier = refl })
+      (record { site = refl; who = ann; dependency = record { past = none; stable = false }; begun = was_shown 0 (r1 kinds) _ _ (inl (refl, refl)); place = refl; earlier = refl })
       tt
       (refl, record { ready = λ h. off h; fold = λ h. off h; known = has.counters; fits = fits_more kinds has; object = refl; effect = refl; stamped = refl }, refl)
       (record { early = untried (r1 kinds) both refl; number = refl })
 
   pub run3 : IsWorldRun kinds 2 2 (r3 kinds) (p3 kinds)
   run3 = go kinds (r2 kinds) (p2 kinds) here1 (e3 kinds) (done (p2 kinds here1) (e3 kinds)) run2 place_here1
-      (record { site = refl; who = ann; dependency = none; begun = was_shown 1 (r2 kinds) _ _ (inl (refl, refl)); place = refl; earlier = refl })
+      (record { site = refl; who = ann; dependency = record { past = none; stable = false }; begun = was_shown 1 (r2 kinds) _ _ (inl (refl, refl)); place = refl; earlier = refl })
       tt
       (refl, record { ready = λ h. record { clock = lit≤ tt; free = λ u k. off k }; fold = λ h. record { order = tt; members = λ u. refl; exact = tt }; known = has.flags; fits = fits_on kinds has; object = refl; effect = refl; stamped = refl }, refl)
       (record { early = untried (r2 kinds) both refl; number = refl })
 
   pub run4 : IsWorldRun kinds 2 2 (r4 kinds) (p4 kinds)
   run4 = stay kinds (r3 kinds) (p3 kinds) here2 (e4 kinds) run3 place_here2
-      (record { site = refl; who = ann; dependency = none; begun = was_shown 2 (r3 kinds) _ _ (inl (refl, refl)) }, refl)
+      (record { site = refl; who = ann; dependency = record { past = none; stable = false }; begun = was_shown 2 (r3 kinds) _ _ (inl (refl, refl)) }, refl)
       tt
       ((refl, (refl, lit< tt)), refl)
       tt
 
   pub run5 : IsWorldRun kinds 2 2 (r5 kinds) (p5 kinds)
   run5 = stay kinds (r4 kinds) (p4 kinds) here2 (e5 kinds) run4 place_here2
-      (record { site = refl; who = ann; dependency = none; begun = was_shown 3 (r4 kinds) _ _ (inl (refl, refl)) }, refl)
+      (record { site = refl; who = ann; dependency = record { past = none; stable = false }; begun = was_shown 3 (r4 kinds) _ _ (inl (refl, refl)) }, refl)
       (fits_on kinds has)
       ((refl, (refl, refl, lit< tt, fits_on kinds has)), refl)
       tt
 
   pub run6 : IsWorldRun kinds 2 2 (r6 kinds) (p6 kinds)
   run6 = go kinds (r5 kinds) (p5 kinds) here2 (e6 kinds) (done (p5 kinds here2) (e6 kinds)) run5 place_here2
-      (record { site = refl; who = ann; dependency = none; begun = was_shown 4 (r5 kinds) _ _ (inl (refl, refl)); place = refl; earlier = refl })
+      (record { site = refl; who = ann; dependency = record { past = none; stable = false }; begun = was_shown 4 (r5 kinds) _ _ (inl (refl, refl)); place = refl; earlier = refl })
       tt
       (refl, record { ready = λ h. off h; fold = λ h. off h; known = has.counters; fits = fits_more kinds has; object = refl; effect = refl; stamped = refl }, refl)
       (record { early = untried (r5 kinds) both refl; number = refl })
@@ -306,7 +306,7 @@ module _ {S E : Type 0} (kinds : Kinds S E) (has : HaveBoth kinds) where
 
   pub run8 : IsWorldRun kinds 2 2 (r8 kinds) (p8 kinds)
   run8 = stay kinds (r7 kinds) (p7 kinds) here2 (e8 kinds) run7 place_here2
-      (record { site = refl; who = ann; dependency = none; begun = was_shown 6 (r7 kinds) _ _ (inl (refl, refl)) }, refl)
+      (record { site = refl; who = ann; dependency = record { past = none; stable = false }; begun = was_shown 6 (r7 kinds) _ _ (inl (refl, refl)) }, refl)
       tt
       ((refl, (refl, lit< tt)), refl)
       tt
@@ -348,14 +348,14 @@ module _ {S E : Type 0} (kinds : Kinds S E) (has : HaveBoth kinds) where
 
   pub run13 : IsWorldRun kinds 2 2 (r13 kinds) (p13 kinds)
   run13 = stay kinds (r12 kinds) (p12 kinds) here1 (e13 kinds) run12 place_here1
-      (record { site = refl; who = ben; dependency = none; begun = was_shown 0 (r12 kinds) _ _ (inl (refl, refl)) }, refl)
+      (record { site = refl; who = ben; dependency = record { past = none; stable = false }; begun = was_shown 0 (r12 kinds) _ _ (inl (refl, refl)) }, refl)
       tt
       ((refl, (record { clock = lit≤ tt; waiting = refl; changes = refl; time = refl; early = lit≤ tt; first = λ w h k. first_alone w h })), refl)
       tt
 
   pub run14 : IsWorldRun kinds 2 2 (r14 kinds) (p14 kinds)
   run14 = stay kinds (r13 kinds) (p13 kinds) here1 (e14 kinds) run13 place_here1
-      (record { site = refl; who = ben; dependency = none; begun = was_shown 1 (r13 kinds) _ _ (inl (refl, refl)) }, refl)
+      (record { site = refl; who = ben; dependency = record { past = none; stable = false }; begun = was_shown 1 (r13 kinds) _ _ (inl (refl, refl)) }, refl)
       (fits_on kinds has)
       ((refl, (refl, (record { clock = lit≤ tt; waiting = refl; changes = refl; time = refl; early = lit≤ tt; first = λ w h k. first_alone w h }), fits_on kinds has)), refl)
       tt
@@ -399,7 +399,7 @@ module _ {S E : Type 0} (kinds : Kinds S E) (has : HaveBoth kinds) where
 
   pub run19 : IsWorldRun kinds 2 2 (r19 kinds) (p19 kinds)
   run19 = stay kinds (r18 kinds) (p18 kinds) here1 (e19 kinds) run18 place_here1
-      (record { site = refl; who = ann; dependency = (6 ∷ 0 ∷ []); begun = was_shown 0 (r18 kinds) _ _ (inl (refl, refl)) }, refl)
+      (record { site = refl; who = ann; dependency = record { past = (6 ∷ 0 ∷ []); stable = false }; begun = was_shown 0 (r18 kinds) _ _ (inl (refl, refl)) }, refl)
       tt
       ((refl, (refl, lit< tt)), refl)
       tt
@@ -417,7 +417,7 @@ module _ {S E : Type 0} (kinds : Kinds S E) (has : HaveBoth kinds) where
 
   pub run21 : IsWorldRun kinds 2 2 (r21 kinds) (p21 kinds)
   run21 = go kinds (r20 kinds) (p20 kinds) here1 (e21 kinds) (done (p20 kinds here1) (e21 kinds)) run20 place_here1
-      (record { site = refl; who = ann; dependency = (6 ∷ 0 ∷ []); begun = was_shown 2 (r20 kinds) _ _ (inl (refl, refl)); place = refl; earlier = refl })
+      (record { site = refl; who = ann; dependency = record { past = (6 ∷ 0 ∷ []); stable = false }; begun = was_shown 2 (r20 kinds) _ _ (inl (refl, refl)); place = refl; earlier = refl })
       tt
       (refl, (record { clock = lit≤ tt; free = λ u h. clash h (none_left (same_tx both u)) }, record { order = (tt, tt); members = λ u. seen_here (same_tx both u); exact = ((refl, refl), tt) }, has.counters, refl), refl)
       tt

@@ -47,7 +47,7 @@ module _ {S E : Type 0} (kinds : Kinds S E) where
   empty = new_part 2 2
 
   abbrev pub e1 : Event E
-  e1 = Began ben none torn (3 ∷ 0 ∷ [])
+  e1 = Began ben (record { past = none; stable = false }) torn (3 ∷ 0 ∷ [])
 
   abbrev pub e2 : Event E
   e2 = Updated torn (3 ∷ 0 ∷ []) counter1 [] more [] change (kinds.stamp_of change.effect)
@@ -154,7 +154,7 @@ module _ {S E : Type 0} (kinds : Kinds S E) (has : HaveBoth kinds) where
 
   pub run2 : IsWorldRun kinds 2 2 (r2 kinds) (p2 kinds)
   run2 = go kinds (r1 kinds) (p1 kinds) here1 (e2 kinds) (done (p1 kinds here1) (e2 kinds)) run1 place_here1
-      (record { site = refl; who = ben; dependency = none; begun = was_shown 0 (r1 kinds) _ _ (inl (refl, refl)); place = refl; earlier = refl })
+      (record { site = refl; who = ben; dependency = record { past = none; stable = false }; begun = was_shown 0 (r1 kinds) _ _ (inl (refl, refl)); place = refl; earlier = refl })
       tt
       (refl, record { ready = λ h. off h; fold = λ h. off h; known = has.counters; fits = fits_more kinds has; object = refl; effect = refl; stamped = refl }, refl)
       (record { early = untried (r1 kinds) torn refl; number = refl })

@@ -78,7 +78,7 @@ module _ {S E : Type 0} (kinds : Kinds S E) where
 
   -- the other partition of the site is not known to have come so far
   abbrev pub e6 : Event E
-  e6 = Refused (AskBegin ann (6 ∷ 0 ∷ [])) (StableBehind 1 0)
+  e6 = Refused (AskBegin ann (record { past = 6 ∷ 0 ∷ []; stable = false })) (StableBehind 1 0)
 
   abbrev pub e7 : Event E
   e7 = Sent None message2
@@ -95,7 +95,7 @@ module _ {S E : Type 0} (kinds : Kinds S E) where
 
   -- its snapshot has the least of the site's two bounds
   abbrev pub e11 : Event E
-  e11 = Began ann (6 ∷ 0 ∷ []) moved (6 ∷ 1 ∷ [])
+  e11 = Began ann (record { past = 6 ∷ 0 ∷ []; stable = false }) moved (6 ∷ 1 ∷ [])
 
   abbrev pub e12 : Event E
   e12 = Read moved (6 ∷ 1 ∷ []) counter1 [] (part1 kinds ∷ []) seen_there
@@ -111,7 +111,7 @@ module _ {S E : Type 0} (kinds : Kinds S E) where
   e15 = Refused (AskPrepare moved (6 ∷ 1 ∷ []) 2 (change4 ∷ [])) ClockAtEnd
 
   abbrev pub e16 : Event E
-  e16 = Refused (AskBegin cal none) ClockAtEnd
+  e16 = Refused (AskBegin cal (record { past = none; stable = false })) ClockAtEnd
 
   abbrev pub r1 : List (Entry E)
   r1 = (record { at = here1; event = e1 }) ∷ r0
@@ -260,7 +260,7 @@ module _ {S E : Type 0} (kinds : Kinds S E) (has : HaveBoth kinds) where
   run6 = stay kinds (r5 kinds) (p5 kinds) there1 (e6 kinds) run5 place_there1
       (record { vectors = (6 ∷ 0 ∷ []) ∷ []; known = (was_vector 10 (r5 kinds) _ (inl refl), tt); is = refl })
       tt
-      ((refl, record { other = first_of_second; have = refl; behind = lit< tt; least = λ i o k. o.least }), refl)
+      ((refl, record { have = inl (first_of_second, refl); behind = lit< tt; least = λ i o k. o.least; own = λ k c. clash c refl }), refl)
       tt
 
   in_stretch2 : (b : Bool) → (b || false) ≡ ((b || false) && (ltb 0 (entry (cond b (6 ∷ 0 ∷ []) []) 1) && leb (entry (cond b (6 ∷ 0 ∷ []) []) 1) 6))
@@ -308,14 +308,14 @@ module _ {S E : Type 0} (kinds : Kinds S E) (has : HaveBoth kinds) where
 
   pub run12 : IsWorldRun kinds 2 2 (r12 kinds) (p12 kinds)
   run12 = go kinds (r11 kinds) (p11 kinds) there1 (e12 kinds) (done (p11 kinds there1) (e12 kinds)) run11 place_there1
-      (record { site = refl; who = ann; dependency = (6 ∷ 0 ∷ []); begun = was_shown 0 (r11 kinds) _ _ (inl (refl, refl)); place = refl; earlier = refl })
+      (record { site = refl; who = ann; dependency = record { past = (6 ∷ 0 ∷ []); stable = false }; begun = was_shown 0 (r11 kinds) _ _ (inl (refl, refl)); place = refl; earlier = refl })
       tt
       (refl, (record { clock = le_refl 1; free = λ u h. off h }, record { order = (tt, tt); members = λ u. sees (same_tx both u); exact = ((refl, refl), tt) }, has.counters, refl), refl)
       tt
 
   pub run13 : IsWorldRun kinds 2 2 (r13 kinds) (p13 kinds)
   run13 = go kinds (r12 kinds) (p12 kinds) there2 (e13 kinds) (done (p12 kinds there2) (e13 kinds)) run12 place_there2
-      (record { site = refl; who = ann; dependency = (6 ∷ 0 ∷ []); begun = was_shown 1 (r12 kinds) _ _ (inl (refl, refl)); place = refl; earlier = refl })
+      (record { site = refl; who = ann; dependency = record { past = (6 ∷ 0 ∷ []); stable = false }; begun = was_shown 1 (r12 kinds) _ _ (inl (refl, refl)); place = refl; earlier = refl })
       tt
       (refl, record { ready = λ h. off h; fold = λ h. off h; known = has.counters; fits = fits_more kinds has; object = refl; effect = refl; stamped = refl }, refl)
       (record { early = untried (r12 kinds) moved refl; number = refl })
@@ -329,7 +329,7 @@ module _ {S E : Type 0} (kinds : Kinds S E) (has : HaveBoth kinds) where
 
   pub run15 : IsWorldRun kinds 2 2 (r15 kinds) (p15 kinds)
   run15 = stay kinds (r14 kinds) (p14 kinds) there2 (e15 kinds) run14 place_there2
-      (record { site = refl; who = ann; dependency = (6 ∷ 0 ∷ []); begun = was_shown 3 (r14 kinds) _ _ (inl (refl, refl)) }, refl)
+      (record { site = refl; who = ann; dependency = record { past = (6 ∷ 0 ∷ []); stable = false }; begun = was_shown 3 (r14 kinds) _ _ (inl (refl, refl)) }, refl)
       tt
       ((refl, (lit≤ tt, refl)), refl)
       tt
@@ -338,7 +338,7 @@ module _ {S E : Type 0} (kinds : Kinds S E) (has : HaveBoth kinds) where
   run16 = stay kinds (r15 kinds) (p15 kinds) there2 (e16 kinds) run15 place_there2
       (record { vectors = []; known = tt; is = refl })
       tt
-      ((refl, (at_first _ (lit≤ tt), refl)), refl)
+      ((refl, ((at_first _ (lit≤ tt), λ c. clash c refl), refl)), refl)
       tt
 
   lines_are_lawful : IsLawful kinds.too_deep kinds.meaning 2 2 (shown_lines (r16 kinds))

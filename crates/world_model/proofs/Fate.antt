@@ -70,7 +70,7 @@ module _ {E : Type 0} where
   more_prepared (Finish u c) old t h = h
   more_prepared (Abort u) old t h = h
 
-  more_committed : (r : Record E) (old : List (Record E)) (t : TxId) → committed old t ≡ true → committed (r ∷ old) t ≡ true
+  pub more_committed : (r : Record E) (old : List (Record E)) (t : TxId) → committed old t ≡ true → committed (r ∷ old) t ≡ true
   more_committed (Lease n) old t h = h
   more_committed (Batch x) old t h = h
   more_committed (Prepare u l n s w) old t h = h
@@ -257,7 +257,10 @@ module _ {E : Type 0} where
         by_word old true e w p s al = inl (or_left _ _ (ap (λ a. is_own_abort a t) s ∙ and_from _ _ (same_tx_refl t) refl))
         by_word old false e w p s al = inr (lost_stays (plan.lead t) t (⊎_elim
             (λ (k : at ≡ plan.lead t). absurd (ne (e ∙ k)))
-            (λ (k : TellsAborted (before (plan.lead t)) t). told_by_lead one t k (at_its_lead q old t ne w (pending_parts old t p).prepared (before (plan.lead t)).log (image_log (before (plan.lead t)))))
+            (λ (k : TellsAborted (before (plan.lead t)) t ⊎ (was_aborted run t (plan.lead t) ≡ true)). ⊎_elim
+            (λ (x : TellsAborted (before (plan.lead t)) t). told_by_lead one t x (at_its_lead q old t ne w (pending_parts old t p).prepared (before (plan.lead t)).log (image_log (before (plan.lead t)))))
+            (λ (x : was_aborted run t (plan.lead t) ≡ true) (l : List (Record E)) (j : Finds (before (plan.lead t)) l). f.aborted_stays (plan.lead t) l t j x)
+            k)
             al))
 
         go : (old : List (Record E)) (r : Record E) → Finds (before q) old → Because plan run before (after q).up at event q old r → (aborted old t ≡ true → Lost t) → aborted (r ∷ old) t ≡ true → Lost t

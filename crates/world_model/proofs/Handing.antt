@@ -9,6 +9,7 @@ use Rattle.site_vector.specs.Order.{same_part_is, same_tx_is, same_tx_refl}
 use Rattle.crdt_core.specs.declared.record.Upd.{Upd}
 use Rattle.world_model.specs.rules.Event.{AskRead, AskUpdate, AskPrepare, AskDecide, AskTake, Event, Began, Updated, Read, Prepared, Took, Heard, Refused, Cut, Entry, attempt, WasShown, EventsAre}
 use Rattle.crdt_core.specs.KindsOf.{Kinds}
+use Rattle.world_model.specs.lines.Lines.{Wish}
 use Rattle.world_model.specs.rules.Partition.{PartState, PartStep}
 use Rattle.world_model.specs.rules.Plan.{Plan, is_some_update, change_by, updates_at, IsAllowed}
 use Rattle.world_model.specs.lines.Places.{home, IsPlace}
@@ -26,7 +27,7 @@ some_more (x ∷ xs) ys = refl
 
 module _ {E : Type 0} where
   -- a session that was shown to begin t
-  shown_of : (run : List (Entry E)) (p : PartId) (who dep : List ℕ) (t : TxId) (s : List ℕ) → WasShown run p (Began who dep t s) → is_of run who t ≡ true
+  shown_of : (run : List (Entry E)) (p : PartId) (who : List ℕ) (dep : Wish) (t : TxId) (s : List ℕ) → WasShown run p (Began who dep t s) → is_of run who t ≡ true
   shown_of [] p who dep t s w = absurd w
   shown_of (e ∷ run) p who dep t s w = ⊎_elim
       (λ (x : (e.at ≡ p) × (e.event ≡ Began who dep t s)). or_left _ _ (ap (λ a. begins_for a who t) x.1 ∙ and_from _ _ ((bytes_eq-Decides who who).1 refl) (same_tx_refl t)))
@@ -59,7 +60,7 @@ module _ {E : Type 0} where
   handed_events kinds plan [] parts r = tt
   handed_events kinds plan (e ∷ run) parts r = (handed_event kinds plan run r.0 e.at (parts e.at) e.event (law_plan kinds plan run r.0 r.1).planned r.2.allowed r.2.step, handed_events kinds plan run r.0 r.1)
 
-  shown_begun : (run : List (Entry E)) (p : PartId) (who dep : List ℕ) (t : TxId) (s : List ℕ) → WasShown run p (Began who dep t s) → begun run t ≡ true
+  shown_begun : (run : List (Entry E)) (p : PartId) (who : List ℕ) (dep : Wish) (t : TxId) (s : List ℕ) → WasShown run p (Began who dep t s) → begun run t ≡ true
   shown_begun [] p who dep t s w = absurd w
   shown_begun (e ∷ run) p who dep t s w = ⊎_elim
       (λ (x : (e.at ≡ p) × (e.event ≡ Began who dep t s)). or_left _ _ (ap (λ a. is_begin a t) x.1 ∙ same_tx_refl t))

@@ -1,5 +1,5 @@
 -- The events of a run show what each partition that is up has heard, so each begin's snapshot is fresh.
-use Rattle.std.proofs.Common.{◌≡◌, ◌≢◌, ⊎_elim, ℕ, zero, suc, ◌-◌, ◌<◌, ◌≤◌, max, cond, true, false, List, [], ◌∷◌, length, refl, sym, ap, ◌∙◌, subst, subst₂, arith, le_trans}
+use Rattle.std.proofs.Common.{◌≡◌, ◌≢◌, ⊎_elim, inl, inr, ℕ, zero, suc, ◌-◌, ◌≤◌, max, cond, Bool, true, false, List, [], ◌∷◌, length, refl, sym, ap, ◌∙◌, subst, subst₂, arith, le_trans}
 use Rattle.std.specs.Prelude.{⊤, ◌==◌, replicate, slice_index, slice_set}
 use Rattle.std.proofs.lemmas.Bool.{cases_Bool, cond-true, cond-false, eqb-true, eq-eqb}
 use Rattle.std.proofs.lemmas.List.{length-replicate, length-set, get_or-replicate, get_or-set_same, get_or-set_other}
@@ -11,13 +11,14 @@ use Rattle.site_vector.specs.VectorLaws.{length_join}
 use Rattle.world_model.specs.rules.Event.{AskBegin, StableBehind, ClockAtEnd, Event, Ticked, Began, Updated, Read, Prepared, Decided, Finished, Aborted, Sent, Took, Reported, Heard, Crashed, RestartCut, Restarted, Refused, Opened, Cut, Entry, attempt, report_count, shown, EventsAre}
 use Rattle.crdt_core.specs.KindsOf.{Kinds}
 use Rattle.site_vector.specs.Known.{vector_of}
-use Rattle.world_model.specs.rules.Partition.{PartState, known, stable_entry, new_part, done, PartStep}
+use Rattle.world_model.specs.rules.Partition.{PartState, IsOwnStable, OwnEntry, IsOwnEnough, IsStableEnough, known, stable_entry, new_part, done, PartStep}
 use Rattle.world_model.specs.lines.Places.{IsOther}
+use Rattle.world_model.specs.lines.Lines.{Wish}
 use Rattle.site_vector.specs.Known.{lowest}
 use Rattle.world_model.specs.rules.Plan.{Plan, IsAllowed}
 use Rattle.world_model.proofs.Runs.{IsRun}
 use Rattle.world_model.specs.events.Bounds.{bound_shown}
-use Rattle.world_model.specs.events.Fresh.{heard_from, heard_shown, known_shown, IsStable, IsFreshAt, AreFresh}
+use Rattle.world_model.specs.events.Fresh.{heard_from, heard_shown, known_shown, IsOwnStableAt, OwnEntryAt, AreEnoughAt, IsStable, IsFreshAt, AreFresh}
 use Rattle.world_model.specs.events.Pending.{pending_shown, pending_time}
 use Rattle.world_model.specs.lines.Listed.{IsBoundBy}
 use Rattle.world_model.specs.lines.Bounds.{IsLeast}
@@ -177,20 +178,42 @@ module _ {E : Type 0} where
           );
         }
 
+    -- what is stable of the own site is shown
+    own_stable : 1 ≤ plan.parts → Fate plan run before → Leases run before → Shown plan run before → (before at).up ≡ true → (n : ℕ) → IsOwnStable plan.parts at (before at) n → IsOwnStableAt plan run at n
+    own_stable some f l w up n o = (
+      o.bound,
+      own_bound kinds plan run before after at f w up l o.bound o.own,
+      least_is (λ q. cond (at.part == q) o.bound (entry (vector_of (before at).heard q) at.site)) (λ q. cond (at.part == q) o.bound (heard_shown run at q at.site)) plan.parts n some (λ q a c. λ i. cond (at.part == q) o.bound (h.told at q at.site up a c i)) o.least,
+    )
+
+    own_enough : 1 ≤ plan.parts → Fate plan run before → Leases run before → Shown plan run before → (before at).up ≡ true → (wish : Wish) → IsOwnEnough plan.parts at (before at) wish → wish.stable ≡ true → (n : ℕ) × IsOwnStableAt plan run at n × (entry wish.past at.site ≤ n)
+    own_enough some f l w up wish o c = let x = o c in (x.0, own_stable some f l w up x.0 x.1, x.2)
+
+    -- nothing that a begin depends on is more than is shown to be stable
+    pub enough_shown : 1 ≤ plan.parts → Fate plan run before → Leases run before → Shown plan run before → (before at).up ≡ true → (wish : Wish) → IsStableEnough plan.sites plan.parts at (before at) wish → AreEnoughAt plan run at wish
+    enough_shown some f l w up wish o = record {
+      others = λ j q x a b. le_trans (o.0 j x) (stable_low w up j x q a b);
+      own = own_enough some f l w up wish o.1;
+    }
+
+    own_entry : 1 ≤ plan.parts → Fate plan run before → Leases run before → Shown plan run before → (before at).up ≡ true → (wish : Wish) (time n : ℕ) (b : Bool) → OwnEntry plan.parts at (before at) wish time n b → OwnEntryAt plan run at wish time n b
+    own_entry some f l w up wish time n false o = o
+    own_entry some f l w up wish time n true o = own_stable some f l w up n o.0
+
     fresh_event : (event : Event E) → 1 ≤ plan.parts → Fate plan run before → Leases run before → Shown plan run before → IsAllowed plan run before at (attempt event) → PartStep kinds plan.sites plan.parts at (before at) event (after at) → IsFreshAt plan run at event
-    fresh_event (Began who dep t s) some f l w al st = record { width = st.1.width; own = st.1.own; others = λ j o. least_is (known at (before at) j) (known_shown run at j) plan.parts (entry s j) some (known_is w st.0 j o) (st.1.stable j o) }
+    fresh_event (Began who dep t s) some f l w al st = record { width = st.1.width; own = own_entry some f l w st.0 dep t.time (entry s at.site) dep.stable st.1.own; others = λ j o. least_is (known at (before at) j) (known_shown run at j) plan.parts (entry s j) some (known_is w st.0 j o) (st.1.stable j o) }
     fresh_event (Heard number k b stable) some f l w al st = stable_told number k b stable some f l w al st
-    fresh_event (Refused (AskBegin who dep) ClockAtEnd) some f lease w al st = λ j q o a b. le_trans (st.0.1.0 j o) (stable_low w st.0.0 j o q a b)
+    fresh_event (Refused (AskBegin who dep) ClockAtEnd) some f lease w al st = enough_shown some f lease w st.0.0 dep st.0.1.0
     fresh_event (Refused (AskBegin who dep) (StableBehind j n)) some f lease w al st =
-        let have = least_is (known at (before at) j) (known_shown run at j) plan.parts n some (known_is w st.0.0 j st.0.1.other) st.0.1.have in
-        let r = have.reached in (
-          record {
-            other = st.0.1.other;
-            behind = (r.0, r.1, r.2, subst (λ x. x < entry dep j) r.3 st.0.1.behind);
-            least = λ i o x. st.0.1.least i o (let k = stable_low w st.0.0 i o x.0 x.1 x.2 in let y = x.3 in omega arith);
-          },
-          have,
-        )
+        record {
+          have = ⊎_elim
+              (λ (x : IsOther plan.sites at.site j × (n ≡ stable_entry plan.parts at (before at) j)). inl (x.0, least_is (known at (before at) j) (known_shown run at j) plan.parts n some (known_is w st.0.0 j x.0) x.1))
+              (λ (x : (dep.stable ≡ true) × (j ≡ at.site) × IsOwnStable plan.parts at (before at) n). inr (x.0, x.1, own_stable some f lease w st.0.0 n x.2))
+              st.0.1.have;
+          behind = st.0.1.behind;
+          least = λ i o x. st.0.1.least i o (let k = stable_low w st.0.0 i o x.0 x.1 x.2 in let y = x.3 in omega arith);
+          own = λ below. own_enough some f lease w st.0.0 dep (st.0.1.own below);
+        }
     fresh_event event some f l w al st = tt
 
   hears_start : (plan : Plan E) (parts : PartId → PartState E) → ((p : PartId) → parts p ≡ new_part plan.sites plan.parts) → Hears plan [] parts

@@ -1,5 +1,5 @@
 -- The part intervals: what a message left out comes later, so a message sent stays exact.
-use Rattle.std.proofs.Common.{◌≡◌, ◌⊎◌, ⊎_elim, inl, inr, ℕ, ◌+◌, ◌<◌, ◌≤◌, leb, ltb, Bool, true, false, ◌&&◌, List, [], ◌∷◌, Option, refl, sym, ap, ◌∙◌, subst, subst₂, arith, le_refl, le_trans}
+use Rattle.std.proofs.Common.{◌≡◌, ◌⊎◌, ⊎_elim, inl, inr, ℕ, ◌+◌, ◌<◌, ◌≤◌, max, min, cond, leb, ltb, Bool, true, false, ◌&&◌, List, [], ◌∷◌, Option, refl, sym, ap, ◌∙◌, subst, subst₂, arith, le_refl, le_trans}
 use Rattle.std.proofs.lemmas.Bool.{cases_Bool, or_right, and_left, and_parts, leb-true, cond-true, cond-false, cond_both}
 use Rattle.site_vector.specs.declared.ids.PartId.{PartId}
 use Rattle.site_vector.specs.declared.ids.TxId.{TxId}
@@ -8,17 +8,19 @@ use Rattle.site_vector.specs.Order.{same_part_refl}
 use Rattle.site_vector.specs.Vector.{entry}
 use Rattle.crdt_core.specs.declared.record.Message.{Message}
 use Rattle.crdt_core.specs.declared.record.Record.{Record}
-use Rattle.crdt_core.specs.Log.{committed_at, prepared, prepare_time, prepared_changes, committed, aborted}
-use Rattle.world_model.specs.rules.Event.{Event, Sent, Entry, is_decided, time_of, WasShown, WasNumbered, EventsAre}
-use Rattle.world_model.proofs.Runs.{sent_after, sent}
+use Rattle.crdt_core.specs.declared.record.Record.TheVariants.{Lease}
+use Rattle.crdt_core.specs.Log.{committed_at, prepared, prepare_time, prepared_changes, committed, aborted, pending, ceiling, end_of_time, grown, lease_for}
+use Rattle.world_model.specs.rules.Event.{Event, Began, Sent, Reported, Entry, is_decided, time_of, WasShown, WasNumbered, EventsAre}
+use Rattle.world_model.proofs.Runs.{begin_told, sent_after, sent}
 use Rattle.crdt_core.specs.KindsOf.{Kinds}
-use Rattle.world_model.specs.rules.Partition.{PartState, Finds, PartStep, IsMessage}
+use Rattle.world_model.specs.rules.Partition.{PartState, Finds, PartStep, IsMessage, IsOwnBound, OwnEntry}
+use Rattle.world_model.specs.lines.Lines.{Wish}
 use Rattle.world_model.specs.rules.Plan.{Plan, takes_part, vector_at, commit_vector}
 use Rattle.world_model.specs.events.Reads.{IsExact}
-use Rattle.world_model.proofs.Names.{part_cases, part_same, part_other}
+use Rattle.world_model.proofs.Names.{clash, part_cases, part_same, part_other}
 use Rattle.world_model.proofs.Parts.{parts_map}
 use Rattle.world_model.proofs.Moves.{Move, image_log}
-use Rattle.world_model.proofs.Fate.{Fate, full_same_time}
+use Rattle.world_model.proofs.Fate.{Fate, full_same_time, pending_parts}
 use Rattle.world_model.proofs.Later.{IsLater, Later, full_now, later_now, waited, in_log, takes, own_time, later_step, too_late}
 
 -- none of three, where one is false
@@ -28,25 +30,40 @@ none true true false h = refl
 none true false z h = refl
 none false y z h = refl
 
+told_grows : (b : Bool) (n old : ℕ) → old ≤ begin_told b n old
+told_grows true n old = omega arith
+told_grows false n old = le_refl old
+
 module _ {E : Type 0} where
   pub record Intervals (plan : Plan E) (run : List (Entry E)) (parts : PartId → PartState E) : Type 0 where
     pub seen : (q : PartId) → sent run q ≤ (parts q).now
     pub later : (q : PartId) (t : TxId) → Later run parts q (sent run q) t
 
-  sent_grows : (old : ℕ) (event : Event E) → old ≤ sent_after old event
-  sent_grows old (Sent asked m) = omega arith
-  sent_grows old event = le_refl old
+  sent_grows : (site old : ℕ) (event : Event E) → old ≤ sent_after site old event
+  sent_grows site old (Sent asked m) = omega arith
+  sent_grows site old (Reported b) = omega arith
+  sent_grows site old (Began who wish t s) = told_grows wish.stable (entry s site) old
+  sent_grows site old event = le_refl old
 
   pub sent_more : (run : List (Entry E)) (e : Entry E) (q : PartId) → sent run q ≤ sent (e ∷ run) q
-  sent_more run e q = cond_both (same_part e.at q) (sent_after (sent run q) e.event) (sent run q) (λ x. sent run q ≤ x) (λ _. sent_grows (sent run q) e.event) (λ _. le_refl _)
+  sent_more run e q = cond_both (same_part e.at q) (sent_after q.site (sent run q) e.event) (sent run q) (λ x. sent run q ≤ x) (λ _. sent_grows q.site (sent run q) e.event) (λ _. le_refl _)
 
   pub shown_sent : (run : List (Entry E)) (p : PartId) (asked : Option ℕ) (m : Message E) → WasShown run p (Sent asked m) → m.hi ≤ sent run p
   shown_sent [] p asked m w = absurd w
   shown_sent (e ∷ run) p asked m w = ⊎_elim
       (λ (x : (e.at ≡ p) × (e.event ≡ Sent asked m)).
-      let h : m.hi ≤ sent_after (sent run p) (Sent asked m) = omega arith in
-      subst (λ y. m.hi ≤ y) (sym (cond-true (same_part e.at p) _ _ (part_same e.at p x.0) ∙ ap (sent_after (sent run p)) x.1)) h)
+      let h : m.hi ≤ sent_after p.site (sent run p) (Sent asked m) = omega arith in
+      subst (λ y. m.hi ≤ y) (sym (cond-true (same_part e.at p) _ _ (part_same e.at p x.0) ∙ ap (sent_after p.site (sent run p)) x.1)) h)
       (λ (x : WasShown run p (Sent asked m)). le_trans (shown_sent run p asked m x) (sent_more run e p))
+      w
+
+  pub shown_reported : (run : List (Entry E)) (p : PartId) (b : List ℕ) → WasShown run p (Reported b) → entry b p.site ≤ sent run p
+  shown_reported [] p b w = absurd w
+  shown_reported (e ∷ run) p b w = ⊎_elim
+      (λ (x : (e.at ≡ p) × (e.event ≡ Reported b)).
+      let h : entry b p.site ≤ sent_after {E = E} p.site (sent run p) (Reported b) = omega arith in
+      subst (λ y. entry b p.site ≤ y) (sym (cond-true (same_part e.at p) _ _ (part_same e.at p x.0) ∙ ap (sent_after p.site (sent run p)) x.1)) h)
+      (λ (x : WasShown run p (Reported b)). le_trans (shown_reported run p b x) (sent_more run e p))
       w
 
   pub numbered_shown : (count : List (Entry E) → PartId → ℕ) (run : List (Entry E)) (number : ℕ) (p : PartId) (event : Event E) → WasNumbered count run number p event → WasShown run p event
@@ -65,8 +82,14 @@ module _ {E : Type 0} where
     abbrev next : List (Entry E)
     next = (record { at = at; event = event }) ∷ run
 
-    seen_here : (a : Event E) → PartStep kinds plan.sites plan.parts at (before at) a (after at) → sent_after (sent run at) a ≤ (after at).now
+    seen_begin : (wish : Wish) (time n : ℕ) (b : Bool) → OwnEntry plan.parts at (before at) wish time n b → begin_told b n (sent run at) ≤ (after at).now
+    seen_begin wish time n true o = let h = v.seen at in let k = rise at in let m = o.0.most in let c = o.0.own.most in omega arith
+    seen_begin wish time n false o = le_trans (v.seen at) (rise at)
+
+    seen_here : (a : Event E) → PartStep kinds plan.sites plan.parts at (before at) a (after at) → sent_after at.site (sent run at) a ≤ (after at).now
     seen_here (Sent asked m) st = let h = v.seen at in let k = rise at in let b = st.1.hi.most in let e : (after at).now ≡ (before at).now = ap (λ p. p.now) st.2 in omega arith
+    seen_here (Reported b) st = let h = v.seen at in let k = rise at in let c = st.1.own.most in let e : (after at).now ≡ (before at).now = ap (λ p. p.now) st.2 in omega arith
+    seen_here (Began who wish t c) st = seen_begin wish t.time (entry c at.site) wish.stable st.1.own
     seen_here a st = le_trans (v.seen at) (rise at)
 
     seen_step : (q : PartId) → sent next q ≤ (after q).now
@@ -79,26 +102,54 @@ module _ {E : Type 0} where
     pub later_before : (q : PartId) (t : TxId) (m : List (Record E)) → Finds (after q) m → prepared m t ≡ true → IsLater run t (sent run q) m
     later_before q t m i h = later_step plan run before after at event mv f f' q (sent run q) t (v.seen q) (v.later q t) m i h
 
-    later_here : (a : Event E) → PartStep kinds plan.sites plan.parts at (before at) a (after at) → (t : TxId) (m : List (Record E)) → Finds (after at) m → prepared m t ≡ true → IsLater run t (sent_after (sent run at) a) m
-    later_here (Sent asked x) st t m i h =
-        let same : m ≡ (before at).log = subst (λ p. Finds p m) st.2 i in
-        let now : IsLater run t x.hi m = subst (IsLater run t x.hi) (sym same) (later_now plan run before f at x.hi st.0 t (λ w. st.1.hi.below t w) (subst (λ y. prepared y t ≡ true) same h)) in
-        ⊎_elim
+    -- later than both is later than the greater
+    later_max : (n : ℕ) (t : TxId) (m : List (Record E)) → IsLater run t n m → IsLater run t (sent run at) m → IsLater run t (max n (sent run at)) m
+    later_max n t m now old = ⊎_elim
         (λ (y : aborted m t ≡ true). inl y)
-        (λ (y : (x.hi < prepare_time m t) ⊎ (is_decided run t ≡ true)). ⊎_elim
-        (λ (k : x.hi < prepare_time m t). ⊎_elim
+        (λ (y : (n < prepare_time m t) ⊎ ((is_decided run t ≡ true) × (committed m t ≡ true))). ⊎_elim
+        (λ (k : n < prepare_time m t). ⊎_elim
         (λ (z : aborted m t ≡ true). inl z)
-        (λ (z : (sent run at < prepare_time m t) ⊎ (is_decided run t ≡ true)). ⊎_elim (λ (c : sent run at < prepare_time m t). inr (inl (omega arith))) (λ (c : is_decided run t ≡ true). inr (inr c)) z)
-        (later_before at t m i h))
-        (λ (k : is_decided run t ≡ true). inr (inr k))
+        (λ (z : (sent run at < prepare_time m t) ⊎ ((is_decided run t ≡ true) × (committed m t ≡ true))). ⊎_elim (λ (c : sent run at < prepare_time m t). inr (inl (omega arith))) (λ (c : (is_decided run t ≡ true) × (committed m t ≡ true)). inr (inr c)) z)
+        old)
+        (λ (k : (is_decided run t ≡ true) × (committed m t ≡ true)). inr (inr k))
         y)
         now
+
+    -- above an own bound that is told now, and above what was told before
+    later_bound : (n : ℕ) → (before at).up ≡ true → IsOwnBound (before at).now (before at).log n → (t : TxId) (m : List (Record E)) → m ≡ (before at).log → Finds (after at) m → prepared m t ≡ true → IsLater run t (max n (sent run at)) m
+    later_bound n up own t m same i h = later_max n t m (subst (IsLater run t n) (sym same) (later_now plan run before f at n up t (λ w. own.below t w) (subst (λ y. prepared y t ≡ true) same h))) (later_before at t m i h)
+
+    -- a lease tells nothing of transactions
+    leased : {A : Type 0} (tell : List (Record E) → A) → ((k : ℕ) (l : List (Record E)) → tell (Lease k ∷ l) ≡ tell l) → (log : List (Record E)) (n : ℕ) → tell (grown log (lease_for log n)) ≡ tell log
+    leased tell h log n = elim (leb n (ceiling log)) as (λ b. tell (grown log (cond b [] (Lease (min (n + 1000) end_of_time) ∷ []))) ≡ tell log) [ true ↦ refl | false ↦ h (min (n + 1000) end_of_time) log ]
+
+    later_begin : (wish : Wish) (time n : ℕ) (b : Bool) → OwnEntry plan.parts at (before at) wish time n b → (before at).up ≡ true → (t : TxId) (m : List (Record E)) → m ≡ grown (before at).log (lease_for (before at).log time) → Finds (after at) m → prepared m t ≡ true → IsLater run t (begin_told b n (sent run at)) m
+    later_begin wish time n false o up t m same i h = later_before at t m i h
+    later_begin wish time n true o up t m same i h =
+        let log = (before at).log in
+        let was : prepared log t ≡ true = sym (leased (λ l. prepared l t) (λ k l. refl) log time) ∙ (sym (ap (λ l. prepared l t) same) ∙ h) in
+        let least = o.0.most in
+        let now : IsLater run t n log = later_now plan run before f at n up t (λ w. let x = o.0.own.below t w in omega arith) was in
+        let ea : aborted m t ≡ aborted log t = ap (λ l. aborted l t) same ∙ leased (λ l. aborted l t) (λ k l. refl) log time in
+        let ec : committed m t ≡ committed log t = ap (λ l. committed l t) same ∙ leased (λ l. committed l t) (λ k l. refl) log time in
+        let et : prepare_time m t ≡ prepare_time log t = ap (λ l. prepare_time l t) same ∙ leased (λ l. prepare_time l t) (λ k l. refl) log time in
+        later_max n t m
+        (⊎_elim
+        (λ (y : aborted log t ≡ true). inl (ea ∙ y))
+        (λ (y : (n < prepare_time log t) ⊎ ((is_decided run t ≡ true) × (committed log t ≡ true))). inr (⊎_elim (λ (z : n < prepare_time log t). inl (subst (λ x. n < x) (sym et) z)) (λ (z : (is_decided run t ≡ true) × (committed log t ≡ true)). inr (z.0, ec ∙ z.1)) y))
+        now)
+        (later_before at t m i h)
+
+    later_here : (a : Event E) → PartStep kinds plan.sites plan.parts at (before at) a (after at) → (t : TxId) (m : List (Record E)) → Finds (after at) m → prepared m t ≡ true → IsLater run t (sent_after at.site (sent run at) a) m
+    later_here (Sent asked x) st t m i h = later_bound x.hi st.0 st.1.hi t m (subst (λ p. Finds p m) st.2 i) i h
+    later_here (Reported b) st t m i h = later_bound (entry b at.site) st.0 st.1.own t m (subst (λ p. Finds p m) st.2 i) i h
+    later_here (Began who wish u c) st t m i h = later_begin wish u.time (entry c at.site) wish.stable st.1.own st.0 t m (subst (λ p. Finds p m) st.2 i) i h
     later_here a st t m i h = later_before at t m i h
 
     history_more : (t : TxId) (b : ℕ) (m : List (Record E)) → IsLater run t b m → IsLater next t b m
     history_more t b m x = ⊎_elim
         (λ (y : aborted m t ≡ true). inl y)
-        (λ (y : (b < prepare_time m t) ⊎ (is_decided run t ≡ true)). inr (⊎_elim (λ (z : b < prepare_time m t). inl z) (λ (z : is_decided run t ≡ true). inr (or_right _ _ z)) y))
+        (λ (y : (b < prepare_time m t) ⊎ ((is_decided run t ≡ true) × (committed m t ≡ true))). inr (⊎_elim (λ (z : b < prepare_time m t). inl z) (λ (z : (is_decided run t ≡ true) × (committed m t ≡ true)). inr (or_right _ _ z.0, z.1)) y))
         x
 
     intervals_later : (q : PartId) (t : TxId) → Later next after q (sent next q) t
@@ -136,6 +187,21 @@ module _ {E : Type 0} where
           (cases_Bool (is_decided run u));
       exact = parts_map (commit_vector plan run) (commit_vector plan next) (λ u. plan.updates u q) (λ u. plan.updates u q) m.parts (λ t h. (same_commit t (and_parts _ _ (sym (x.members t) ∙ h)).0, refl)) x.exact;
     }
+
+  -- up to an own bound that a partition ever told, its clock has come, and nothing that is pending lies: so no read under such a snapshot waits
+  pub never_waits : (plan : Plan E) (run : List (Entry E)) (parts : PartId → PartState E) → Intervals plan run parts → (p : PartId) (c : ℕ) → c ≤ sent run p → (c ≤ (parts p).now) × ((u : TxId) → pending (parts p).log u ≡ true → c < prepare_time (parts p).log u)
+  never_waits plan run parts v p c told = (
+    le_trans told (v.seen p),
+    λ u w.
+        let l = (parts p).log in
+        let x = pending_parts l u w in ⊎_elim
+        (λ (a : aborted l u ≡ true). clash a x.aborted)
+        (λ (y : (sent run p < prepare_time l u) ⊎ ((is_decided run u ≡ true) × (committed l u ≡ true))). ⊎_elim
+        (λ (z : sent run p < prepare_time l u). let t = told in omega arith)
+        (λ (z : (is_decided run u ≡ true) × (committed l u ≡ true)). clash z.1 x.committed)
+        y)
+        (v.later p u l (image_log (parts p)) x.prepared),
+  )
 
   -- a message that is sent now is exact
   pub exact_now : (plan : Plan E) (run : List (Entry E)) (before : PartId → PartState E) (f : Fate plan run before) (at : PartId) (asked : Option ℕ) (m : Message E) → (before at).up ≡ true → IsMessage plan.sites at (before at) asked m → IsExact plan run at m

@@ -14,12 +14,12 @@ use Rattle.world_model.specs.rules.Partition.{PartState, Finds}
 use Rattle.world_model.specs.rules.Plan.{Plan, takes_part, vector_at, commit_vector}
 use Rattle.world_model.proofs.Names.{clash, part_cases, entry_same}
 use Rattle.world_model.proofs.Moves.{Because, Move, image_log}
-use Rattle.world_model.proofs.Fate.{Full, Fate, more_aborted, not_again}
+use Rattle.world_model.proofs.Fate.{Full, Fate, more_aborted, more_committed, not_again}
 
 module _ {E : Type 0} where
-  -- t, if it is prepared at q, is aborted, or has a prepare time above b, or is in the history
+  -- t, if it is prepared at q, is aborted, or has a prepare time above b, or is in the history and committed here
   abbrev pub IsLater : List (Entry E) → TxId → ℕ → List (Record E) → Type 0
-  IsLater run t b m = (aborted m t ≡ true) ⊎ ((b < prepare_time m t) ⊎ (is_decided run t ≡ true))
+  IsLater run t b m = (aborted m t ≡ true) ⊎ ((b < prepare_time m t) ⊎ ((is_decided run t ≡ true) × (committed m t ≡ true)))
 
   abbrev pub Later : List (Entry E) → (PartId → PartState E) → PartId → ℕ → TxId → Type 0
   Later run parts q b t = (m : List (Record E)) → Finds (parts q) m → prepared m t ≡ true → IsLater run t b m
@@ -82,7 +82,7 @@ module _ {E : Type 0} where
 
     pub later_now : (t : TxId) → (pending (parts p).log t ≡ true → b < prepare_time (parts p).log t) → prepared (parts p).log t ≡ true → IsLater run t b (parts p).log
     later_now t w h = let l = (parts p).log in ⊎_elim
-        (λ (c : committed l t ≡ true). inr (inr (in_log t c)))
+        (λ (c : committed l t ≡ true). inr (inr (in_log t c, c)))
         (λ (c : committed l t ≡ false). ⊎_elim
         (λ (a : aborted l t ≡ true). inl a)
         (λ (a : aborted l t ≡ false). inr (inl (w (pending_from l t h c a))))
@@ -113,31 +113,31 @@ module _ {E : Type 0} where
     -- later stays later: what is prepared now draws above the clock
     pub later_step : (q : PartId) (s : ℕ) (t : TxId) → s ≤ (before q).now → Later run before q s t → (new : List (Record E)) → Finds (after q) new → prepared new t ≡ true → IsLater run t s new
     later_step q s t seen g new i h = let c = mv.changed q new i in
-        go c.old c.more c.because c.was (c.told.aborted t) (c.told.time t) (sym (c.told.prepared t) ∙ h)
+        go c.old c.more c.because c.was (c.told.aborted t) (c.told.time t) (c.told.committed t) (sym (c.told.prepared t) ∙ h)
       where
-        kept : (old : List (Record E)) (r : Record E) → Because plan run before (after q).up at event q old r → Finds (before q) old → aborted new t ≡ aborted (r ∷ old) t → prepare_time new t ≡ prepare_time (r ∷ old) t → prepared old t ≡ true → IsLater run t s new
-        kept old r b w ea et k = ⊎_elim
+        kept : (old : List (Record E)) (r : Record E) → Because plan run before (after q).up at event q old r → Finds (before q) old → aborted new t ≡ aborted (r ∷ old) t → prepare_time new t ≡ prepare_time (r ∷ old) t → committed new t ≡ committed (r ∷ old) t → prepared old t ≡ true → IsLater run t s new
+        kept old r b w ea et ec k = ⊎_elim
             (λ (x : aborted old t ≡ true). inl (ea ∙ more_aborted r old t x))
-            (λ (x : (s < prepare_time old t) ⊎ (is_decided run t ≡ true)). inr (⊎_elim
+            (λ (x : (s < prepare_time old t) ⊎ ((is_decided run t ≡ true) × (committed old t ≡ true))). inr (⊎_elim
             (λ (y : s < prepare_time old t). inl (subst (λ z. s < z) (sym (et ∙ time_kept q old r t b (f.was_tried q old t w k))) y))
-            (λ (y : is_decided run t ≡ true). inr y)
+            (λ (y : (is_decided run t ≡ true) × (committed old t ≡ true)). inr (y.0, ec ∙ more_committed r old t y.1))
             x))
             (g old w k)
 
-        go : (old : List (Record E)) (r : Record E) → Because plan run before (after q).up at event q old r → Finds (before q) old → aborted new t ≡ aborted (r ∷ old) t → prepare_time new t ≡ prepare_time (r ∷ old) t → prepared (r ∷ old) t ≡ true → IsLater run t s new
-        go old (Prepare v l n c os) b w ea et k = ⊎_elim
+        go : (old : List (Record E)) (r : Record E) → Because plan run before (after q).up at event q old r → Finds (before q) old → aborted new t ≡ aborted (r ∷ old) t → prepare_time new t ≡ prepare_time (r ∷ old) t → committed new t ≡ committed (r ∷ old) t → prepared (r ∷ old) t ≡ true → IsLater run t s new
+        go old (Prepare v l n c os) b w ea et ec k = ⊎_elim
             (λ (e : same_tx v t ≡ true).
             let seen' : s ≤ (before at).now = subst (λ x. s ≤ (before x).now) b.0 seen in
             let time : prepare_time new t ≡ n = et ∙ cond-true (same_tx v t) n (prepare_time old t) e in
             let drawn : n ≡ (before at).now + 1 = b.2 in
             inr (inl (omega arith)))
-            (λ (e : prepared old t ≡ true). kept old (Prepare v l n c os) b w ea et e)
+            (λ (e : prepared old t ≡ true). kept old (Prepare v l n c os) b w ea et ec e)
             (or_cases _ _ k)
-        go old (Lease n) b w ea et k = kept old (Lease n) b w ea et k
-        go old (Decide v c) b w ea et k = kept old (Decide v c) b w ea et k
-        go old (Finish v c) b w ea et k = kept old (Finish v c) b w ea et k
-        go old (Abort v) b w ea et k = kept old (Abort v) b w ea et k
-        go old (Batch x) b w ea et k = kept old (Batch x) b w ea et k
+        go old (Lease n) b w ea et ec k = kept old (Lease n) b w ea et ec k
+        go old (Decide v c) b w ea et ec k = kept old (Decide v c) b w ea et ec k
+        go old (Finish v c) b w ea et ec k = kept old (Finish v c) b w ea et ec k
+        go old (Abort v) b w ea et ec k = kept old (Abort v) b w ea et ec k
+        go old (Batch x) b w ea et ec k = kept old (Batch x) b w ea et ec k
 
     -- who comes into the history now comes too late
     pub too_late : (q : PartId) (s : ℕ) (t : TxId) → s ≤ (before q).now → Later run before q s t → is_decided run t ≡ false → is_decided next t ≡ true → takes_part plan t q ≡ true → s < time_of next t
@@ -147,5 +147,5 @@ module _ {E : Type 0} where
         let le = h.1 in
         ⊎_elim
         (λ (x : aborted m t ≡ true). absurd (clash x (never_aborted plan next after f' q m t (image_log (after q)) now)))
-        (λ (x : (s < prepare_time m t) ⊎ (is_decided run t ≡ true)). ⊎_elim (λ (y : s < prepare_time m t). omega arith) (λ (y : is_decided run t ≡ true). absurd (clash y out)) x)
+        (λ (x : (s < prepare_time m t) ⊎ ((is_decided run t ≡ true) × (committed m t ≡ true))). ⊎_elim (λ (y : s < prepare_time m t). omega arith) (λ (y : (is_decided run t ≡ true) × (committed m t ≡ true)). absurd (clash y.0 out)) x)
         (later_step q s t seen g m (image_log (after q)) h.0)

@@ -15,7 +15,8 @@ use Rattle.world_model.specs.lines.Dependency.{joined}
 use Rattle.world_model.specs.rules.Dependency.{ShowsVector, WasVector, WereVectors}
 use Rattle.world_model.specs.rules.Event.{Event, Began, Updated, Prepared, Decided, Entry, attempt, is_prepare, time_shown, time_of}
 use Rattle.crdt_core.specs.KindsOf.{Kinds}
-use Rattle.world_model.specs.rules.Partition.{PartState, IsBegin, PartStep}
+use Rattle.world_model.specs.rules.Partition.{PartState, IsBegin, OwnEntry, PartStep}
+use Rattle.world_model.specs.lines.Lines.{Wish}
 use Rattle.world_model.specs.lines.Places.{IsOther, home, twin, IsPlace}
 use Rattle.world_model.specs.rules.Plan.{Plan, is_some_update, takes_part, change_by, updates_at, IsAllowed}
 use Rattle.world_model.specs.events.Handed.{HandedAt, AreHanded}
@@ -26,7 +27,7 @@ use Rattle.world_model.specs.rules.Lines.{shown_lines}
 use Rattle.world_model.specs.rules.Fate.{TellFates}
 use Rattle.world_model.specs.lines.Lawful.{IsLawful}
 use Rattle.world_model.proofs.Names.{off}
-use Rattle.world_model.proofs.Completeness.{numbered}
+use Rattle.world_model.proofs.Completeness.{numbered, OwnTold}
 use Rattle.world_model.proofs.Upheld.{Upheld, law_plan, right_all, facts_of, strict, closed, never_both, past_end}
 use Rattle.world_model.proofs.CausalStores.{causal_stores}
 use Rattle.world_model.proofs.Shows.{shown_run, show_events}
@@ -41,6 +42,9 @@ use Rattle.world_model.proofs.Sending.{send_events}
 use Rattle.world_model.proofs.Answering.{due_events, known_events}
 use Rattle.world_model.proofs.LogsLeft.{logs_left}
 use Rattle.world_model.proofs.LineLaws.{lawful_lines}
+use Rattle.world_model.proofs.LineLeases.{keep_leases}
+use Rattle.world_model.proofs.Timely.{early}
+use Rattle.world_model.proofs.Stable.{wait_fresh}
 use Rattle.world_model.proofs.Leads.{tell_fates}
 use Rattle.world_model.proofs.Stories.{stories, meanings, planned_changes}
 use Rattle.world_model.proofs.Fitted.{IsLow, low_zero, low_join, low_set, PlanFits, now_low, least_first}
@@ -80,17 +84,20 @@ module _ {E : Type 0} where
   times_low kinds sites parts [] state r t = omega arith
   times_low kinds sites parts (e ∷ run) state r t = draw_low kinds sites parts e.at (r.0 e.at) (state e.at) e.event t (time_of run t) r.2.step (times_low kinds sites parts run r.0 r.1 t)
 
+  own_low : (parts : ℕ) (at : PartId) (p : PartState E) (wish : Wish) (time n : ℕ) (b : Bool) → wish.stable ≡ b → OwnEntry parts at p wish time n b → entry wish.past at.site ≤ end_of_time → time ≤ end_of_time → (wish.stable ≡ true → n ≤ end_of_time) → n ≤ end_of_time
+  own_low parts at p wish time n false e o low early own = let x = o in omega arith
+  own_low parts at p wish time n true e o low early own = own e
+
   -- a snapshot has no time past the end
-  begin_low : (sites parts : ℕ) (at : PartId) (p : PartState E) (dep : List ℕ) (t : TxId) (s : List ℕ) → IsBegin sites parts at p dep t s → IsLow dep → ((j : ℕ) → IsOther sites at.site j → entry s j ≤ end_of_time) → IsLow s
-  begin_low sites parts at p dep t s b low far i = ⊎_elim
+  begin_low : (sites parts : ℕ) (at : PartId) (p : PartState E) (dep : Wish) (t : TxId) (s : List ℕ) → IsBegin sites parts at p dep t s → IsLow dep.past → (dep.stable ≡ true → entry s at.site ≤ end_of_time) → ((j : ℕ) → IsOther sites at.site j → entry s j ≤ end_of_time) → IsLow s
+  begin_low sites parts at p dep t s b low own far i = ⊎_elim
       (λ (h : i < sites). ⊎_elim
       (λ (e : i + 1 ≡ at.site).
-      let o : entry s (i + 1) ≡ max t.time (entry dep (i + 1)) = subst (λ j. entry s j ≡ max t.time (entry dep j)) (sym e) b.own in
       let k : (i + 1) - 1 ≡ i = omega arith in
-      let d : entry dep (i + 1) ≤ end_of_time = low ((i + 1) - 1) in
       let drawn : t.time ≡ p.now + 1 = ap (λ x. x.time) b.named in
       let early = b.early in
-      subst (λ j. slice_index s j ≤ end_of_time) k (omega arith))
+      let o : entry s (i + 1) ≤ end_of_time = subst (λ j. entry s j ≤ end_of_time) (sym e) (own_low parts at p dep t.time (entry s at.site) dep.stable refl b.own (low (at.site - 1)) (omega arith) own) in
+      subst (λ j. slice_index s j ≤ end_of_time) k o)
       (λ (ne : i + 1 ≡ at.site → ⊥).
       let other : IsOther sites at.site (i + 1) = record { least = omega arith; most = omega arith; apart = ne } in
       let k : (i + 1) - 1 ≡ i = omega arith in
@@ -103,8 +110,8 @@ module _ {E : Type 0} where
   vector_low kinds sites parts run before after at (Began who dep t s) place l al st k =
       let next : List (Entry E) = (record { at = at; event = Began who dep t s }) ∷ run in
       let plan = plan_of sites parts next in
-      let low : IsLow dep = subst IsLow (sym al.is) (joined_low sites run l.told al.vectors al.known) in
-      begin_low sites parts at (before at) dep t s st.1 low (λ j o.
+      let low : IsLow dep.past = subst IsLow (sym al.is) (joined_low sites run l.told al.vectors al.known) in
+      begin_low sites parts at (before at) dep t s st.1 low (λ e. le_trans ((subst (λ b. OwnTold plan next at s b) e k.bounds.told.0) at.part place.least_part place.most_part) (le_trans (k.intervals.seen at) (now_low next after k.leases at))) (λ j o.
       let q : PartId = numbered at at.part in
       let c = k.bounds.events.0 at.part j place.least_part place.most_part (record { least = o.least; most = o.most; apart = o.apart }) in
       le_trans c.reached (le_trans (k.intervals.seen (twin j q)) (now_low next after k.leases (twin j q))))
@@ -180,8 +187,9 @@ module _ {E : Type 0} where
         lead = λ t q h a b. least_first t.site 1 parts (home t) q (λ p. takes_part plan t p) (plan.at_home t q h) a (omega arith) h;
       }
 
-  pub law_world : {S : Type 0} (kinds : Kinds S E) (sites parts : ℕ) (run : List (Entry E)) (state : PartId → PartState E) → IsWorldRun kinds sites parts run state → IsLawfulWorld kinds (plan_of sites parts run) run × LeavesLogs (plan_of sites parts run) run state × IsLawful kinds.too_deep kinds.meaning sites parts (shown_lines run) × TellFates parts (shown_lines run) state
-  law_world kinds sites parts run state r =
+  -- over events
+  law_events : {S : Type 0} (kinds : Kinds S E) (sites parts : ℕ) (run : List (Entry E)) (state : PartId → PartState E) → IsWorldRun kinds sites parts run state → IsLawfulWorld kinds (plan_of sites parts run) run × LeavesLogs (plan_of sites parts run) run state
+  law_events kinds sites parts run state r =
       let plan = plan_of sites parts run in
       let under = fits kinds sites parts run state r run (all_fresh kinds sites parts run state r) (suffix_all run) in
       let k = law_plan kinds plan run state under in
@@ -211,6 +219,7 @@ module _ {E : Type 0} where
         causes = k.causes;
         clear = clear_events kinds plan run state under;
         downs = answer_up kinds plan run state under;
+        waits = wait_fresh kinds plan run state under;
         resumed = resume_events kinds plan run state under;
         sends = send_events kinds plan run state under;
         shown = show_events kinds plan run state under;
@@ -218,4 +227,12 @@ module _ {E : Type 0} where
         fate = never_both kinds plan run state k;
         strict = strictly;
         closed = closed plan run strictly;
-      } in (law, logs_left kinds plan run state under, lawful_lines kinds sites parts run law, tell_fates kinds sites parts run state k.fate (shown_run kinds plan run state under) (ups kinds plan run state under) law)
+      } in (law, logs_left kinds plan run state under)
+
+  pub law_world : {S : Type 0} (kinds : Kinds S E) (sites parts : ℕ) (run : List (Entry E)) (state : PartId → PartState E) → IsWorldRun kinds sites parts run state → IsLawfulWorld kinds (plan_of sites parts run) run × LeavesLogs (plan_of sites parts run) run state × IsLawful kinds.too_deep kinds.meaning sites parts (shown_lines run) × TellFates parts (shown_lines run) state
+  law_world kinds sites parts run state r =
+      let plan = plan_of sites parts run in
+      let under = fits kinds sites parts run state r run (all_fresh kinds sites parts run state r) (suffix_all run) in
+      let law = law_events kinds sites parts run state r in
+      let lines = lawful_lines kinds sites parts run law.0 (early kinds sites parts run state r) (keep_leases kinds sites parts (law_events kinds sites parts) run state r) in
+      (law.0, law.1, lines, tell_fates kinds sites parts run state (law_plan kinds plan run state under).fate (shown_run kinds plan run state under) (ups kinds plan run state under) law.0)

@@ -15,6 +15,7 @@ pub mod CausalStores
 pub mod Upheld
 pub mod Ups
 pub mod Shows
+pub mod Enough
 pub mod Hears
 pub mod Clears
 pub mod Doubts
@@ -55,3 +56,20 @@ pub mod Runs
 pub mod Dependency
 pub mod Order
 pub mod Ends
+mod Stable
+pub mod Silent
+pub mod Carrying
+pub mod Larger
+pub mod Counting
+pub mod Leading
+pub mod Sorting
+pub mod Standing
+pub mod Merging
+pub mod Growing
+pub mod Owning
+pub mod Going
+pub mod Joining
+pub mod Calling
+pub mod ExampleThreads
+pub mod Timely
+pub mod LineLeases

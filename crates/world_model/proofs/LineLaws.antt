@@ -37,7 +37,9 @@ use Rattle.world_model.specs.lines.Listed.{IsBefore}
 use Rattle.world_model.specs.events.Bounds.{bound_shown}
 use Rattle.world_model.specs.events.Pending.{pending_shown, pending_time}
 use Rattle.world_model.specs.events.Fate.{committed_shown, TellsAbortedAt, MayAbortAt}
-use Rattle.world_model.specs.events.Fresh.{known_shown, IsFreshAt, AreFresh}
+use Rattle.world_model.specs.lines.Waits as waits
+use Rattle.world_model.specs.events.Waits.{stable_by, began_stable, WaitsFresh, WaitFresh}
+use Rattle.world_model.specs.events.Fresh.{known_shown, IsOwnStableAt, OwnEntryAt, AreEnoughAt, IsFreshAt, AreFresh}
 use Rattle.world_model.specs.lines.Bounds.{IsLeast, IsLeastBehind}
 use Rattle.world_model.specs.events.Commit.{IsDecision, VotesAt, KeepVotes, ShowsVector}
 use Rattle.world_model.specs.events.Handed.{IsPlacedAt, HandedAt, AreHanded, AreNew}
@@ -45,7 +47,7 @@ use Rattle.world_model.specs.events.Reads as meaning
 use Rattle.world_model.specs.lines.Streams.{low_of}
 use Rattle.world_model.specs.events.Streams.{SendsAt, Send}
 use Rattle.world_model.specs.events.Lawful.{IsLawfulWorld}
-use Rattle.world_model.specs.lines.Lines.{Call, Line, EachLine}
+use Rattle.world_model.specs.lines.Lines.{Call, Line, Wish, EachLine}
 use Rattle.world_model.specs.rules.Lines.{session_after, session_of, call_asked, call_done, call_cut, call_of, step_shown, shown_lines}
 use Rattle.world_model.specs.declared.step.Step.TheVariants as step
 use Rattle.world_model.specs.lines.Clock as clock
@@ -65,6 +67,8 @@ use Rattle.world_model.specs.lines.Fresh as fresh
 use Rattle.world_model.specs.lines.Streams as streams
 use Rattle.world_model.specs.lines.Causes as causes
 use Rattle.world_model.specs.lines.Lawful.{IsAgreed, IsLawful}
+use Rattle.world_model.proofs.Timely.{ListsEarly}
+use Rattle.world_model.specs.lines.Leases.{ShowsKept}
 use Rattle.world_model.proofs.Names.{clash, off, part_same}
 use Rattle.world_model.proofs.Fate.{voted_tried}
 use Rattle.world_model.proofs.Later.{at_own}
@@ -113,11 +117,11 @@ module _ {E : Type 0} where
   known_join sites run dep h = record { vectors = h.vectors; known = vectors_were run h.vectors h.known; is = h.is }
 
   hands_line : (sites : ℕ) (run : List (Entry E)) (p : PartId) (event : Event E) → dependency.HoldsPast sites run p event → session.HandsKnown sites (shown_lines run) (call_of event)
-  hands_line sites run p (Began who dep t s) h = known_join sites run dep h.0
-  hands_line sites run p (Cut (Began who dep t s)) h = known_join sites run dep h
+  hands_line sites run p (Began who dep t s) h = known_join sites run dep.past h.0
+  hands_line sites run p (Cut (Began who dep t s)) h = known_join sites run dep.past h
   hands_line sites run p (Cut (Refused asked why)) h = tt
   hands_line sites run p (Cut a) h = tt
-  hands_line sites run p (Refused (AskBegin who dep) why) h = known_join sites run dep h
+  hands_line sites run p (Refused (AskBegin who dep) why) h = known_join sites run dep.past h
   hands_line sites run p (Refused asked why) h = tt
   hands_line sites run p event h = tt
 
@@ -173,6 +177,13 @@ module _ {E : Type 0} where
   placed_lines plan [] h = tt
   placed_lines plan (e ∷ run) h = (placed_line plan run e.at e.event h.0, placed_lines plan run h.1)
 
+  own_stable_is : (plan : Plan E) (run : List (Entry E)) (p : PartId) (n : ℕ) → IsOwnStableAt plan run p n → bounds.IsOwnStable plan.parts (shown_lines run) p n
+  own_stable_is plan run p n o = (o.0, own_bound_is run p o.0 o.1, subst (λ known. IsLeast plan.parts known n) (λ i. λ q. cond (p.part == q) o.0 (sym (heard_is run p q p.site) i)) o.2)
+
+  own_entry_is : (plan : Plan E) (run : List (Entry E)) (p : PartId) (wish : Wish) (time n : ℕ) (b : Bool) → OwnEntryAt plan run p wish time n b → fresh.OwnEntry plan.parts (shown_lines run) p wish time n b
+  own_entry_is plan run p wish time n false o = o
+  own_entry_is plan run p wish time n true o = own_stable_is plan run p n o
+
   fresh_line : (plan : Plan E) (run : List (Entry E)) (p : PartId) (event : Event E) → dependency.HoldsPast plan.sites run p event → IsFreshAt plan run p event → ShowsAt plan run p event → fresh.IsFresh plan.sites plan.parts (shown_lines run) p (call_of event) (step_shown run p event)
   fresh_line plan run p (Refused asked IsDown) h f s = tt
   fresh_line plan run p (Refused asked why) h f s = tt
@@ -180,7 +191,7 @@ module _ {E : Type 0} where
   fresh_line plan run p (Cut a) h f s = tt
   fresh_line plan run p (Began who dep t v) h f s = record {
     width = f.width;
-    own = f.own;
+    own = own_entry_is plan run p dep t.time (entry v p.site) dep.stable f.own;
     others = λ j o. stable_is plan.parts run p j (entry v j) (f.others j o);
   }
   fresh_line plan run p (Heard number k b stable) h f s =
@@ -283,13 +294,24 @@ module _ {E : Type 0} where
   up_line run p (Cut a) h d = down_is run p ∙ h
   up_line run p event h d = down_is run p ∙ h
 
-  up_lines : (run : List (Entry E)) → AnswerAsUp run → AreDue run → EachLine causes.AnswersAsUp (shown_lines run)
+  pub up_lines : (run : List (Entry E)) → AnswerAsUp run → AreDue run → EachLine causes.AnswersAsUp (shown_lines run)
   up_lines [] h d = tt
   up_lines (e ∷ run) h d = (up_line run e.at e.event h.0 d.0, up_lines run h.1 d.1)
 
   shown_all : (run : List (Entry E)) → EventsAre (WasShown run) run
   shown_all [] = tt
   shown_all (e ∷ run) = (inl (refl, refl), events_map (WasShown run) (WasShown (e ∷ run)) (λ p a w. inr w) run (shown_all run))
+
+  aborts_here : (run : List (Entry E)) (p : PartId) (t : TxId) (event : Event E) → fates.aborts (step_shown run p event) t ≡ is_abort event t
+  aborts_here run p t (Refused asked IsDown) = refl
+  aborts_here run p t (Refused asked why) = refl
+  aborts_here run p t (Cut (Decided u c)) = refl
+  aborts_here run p t (Cut a) = refl
+  aborts_here run p t event = refl
+
+  aborted_is : (run : List (Entry E)) (p : PartId) (t : TxId) → fates.was_aborted (shown_lines run) p t ≡ was_aborted run t p
+  aborted_is [] p t = refl
+  aborted_is (e ∷ run) p t = λ i. ((same_part e.at p && aborts_here run e.at t e.event i) || aborted_is run p t i)
 
   aborted_shown : (run : List (Entry E)) (p : PartId) (t : TxId) (own : Bool) → WasShown run p (Aborted t own) → was_aborted run t p ≡ true
   aborted_shown [] p t own w = absurd w
@@ -468,31 +490,32 @@ module _ {E : Type 0} where
     abort_line some p t true h = inr (inl (asked_is some t ∙ h))
     abort_line some p t false h = ⊎_elim
         (λ (e : p ≡ plan.lead t). inl (e ∙ sym (lead_eq t)))
-        (λ (x : TellsAbortedAt plan some t). inr (inr (record {
+        (λ (y : TellsAbortedAt plan some t ⊎ (was_aborted some t (plan.lead t) ≡ true)). ⊎_elim (λ (x : TellsAbortedAt plan some t). inr (inr (inl (record {
           up = subst (λ q. is_down (shown_lines some) q ≡ false) (sym (lead_eq t)) (down_is some (plan.lead t) ∙ x.up);
           unknown = subst (λ q. fates.is_known_at ls (shown_lines some) q t ≡ false) (sym (lead_eq t)) (unknown_line some (plan.lead t) t (first_site t.site (home t) (λ q. takes_part plan t q) 1 parts refl) x.unknown);
-        })))
+        })))) (λ (x : was_aborted some t (plan.lead t) ≡ true). inr (inr (inr (subst (λ q. fates.was_aborted (shown_lines some) q t ≡ true) (sym (lead_eq t)) (aborted_is some (plan.lead t) t ∙ x))))) y)
         h
 
-    fate_line : (some : List (Entry E)) (p : PartId) (event : Event E) → WasShown run p event → ClocksAre some → ShowsAt plan some p event → ResumesAt plan some p event → KeepsIs plan some p event → SettlesAt some p event → ((j : ℕ) → restarts.brought ls (shown_lines some) p j ≡ brought some p j) → EventsAre (IsRight kinds plan run) some → fates.ShowsFate sites parts ls (shown_lines some) p (call_of event) (step_shown some p event)
-    fate_line some p (Refused asked IsDown) w cs s r k d br rs = tt
-    fate_line some p (Refused asked why) w cs s r k d br rs = tt
-    fate_line some p (Cut (Decided t c)) w cs s r k d br rs = tt
-    fate_line some p (Cut a) w cs s r k d br rs = tt
-    fate_line some p (Aborted t own) w cs s r k d br rs = (pending_is some p t ∙ s.0, in_history_is run t ∙ law.fate t p (aborted_shown run p t own w), abort_line some p t own s.1)
-    fate_line some p (Restarted n b named listed) w cs s r k d br rs = record {
+    fate_line : (some : List (Entry E)) (p : PartId) (event : Event E) → WasShown run p event → ClocksAre some → ShowsAt plan some p event → ResumesAt plan some p event → KeepsIs plan some p event → SettlesAt some p event → ListsEarly event → ((j : ℕ) → restarts.brought ls (shown_lines some) p j ≡ brought some p j) → EventsAre (IsRight kinds plan run) some → fates.ShowsFate sites parts ls (shown_lines some) p (call_of event) (step_shown some p event)
+    fate_line some p (Refused asked IsDown) w cs s r k d ea br rs = tt
+    fate_line some p (Refused asked why) w cs s r k d ea br rs = tt
+    fate_line some p (Cut (Decided t c)) w cs s r k d ea br rs = tt
+    fate_line some p (Cut a) w cs s r k d ea br rs = tt
+    fate_line some p (Aborted t own) w cs s r k d ea br rs = (pending_is some p t ∙ s.0, in_history_is run t ∙ law.fate t p (aborted_shown run p t own w), abort_line some p t own s.1)
+    fate_line some p (Restarted n b named listed) w cs s r k d ea br rs = record {
       list = resumed_line some p n b named listed cs br rs r;
       order = s.1;
+      early = ea;
       width = s.0;
       own = s.2;
       decided = λ t h e. k t (sym (in_history_is some t) ∙ h) (sym (lead_eq t) ∙ e);
       settled = λ t h. d t (sym (doubt_is some p t) ∙ h);
     }
-    fate_line some p event w cs s r k d br rs = tt
+    fate_line some p event w cs s r k d ea br rs = tt
 
-    fate_lines : (some : List (Entry E)) → EventsAre (WasShown run) some → ClocksAre some → ShowAt plan some → Resume plan some → KeepsDecided plan some → SettleDoubts some → AreHanded plan some → EventsAre (IsRight kinds plan run) some → EachLine (fates.ShowsFate sites parts ls) (shown_lines some)
-    fate_lines [] w cs s r k d hs rs = tt
-    fate_lines (e ∷ some) w cs s r k d hs rs = (fate_line some e.at e.event w.0 cs.1 s.0 r.0 k.0 d.0 (brought_is some hs.1 s.1 rs.1 e.at) rs.1, fate_lines some w.1 cs.1 s.1 r.1 k.1 d.1 hs.1 rs.1)
+    fate_lines : (some : List (Entry E)) → EventsAre (WasShown run) some → ClocksAre some → ShowAt plan some → Resume plan some → KeepsDecided plan some → SettleDoubts some → EventsAre (λ p event. ListsEarly event) some → AreHanded plan some → EventsAre (IsRight kinds plan run) some → EachLine (fates.ShowsFate sites parts ls) (shown_lines some)
+    fate_lines [] w cs s r k d ea hs rs = tt
+    fate_lines (e ∷ some) w cs s r k d ea hs rs = (fate_line some e.at e.event w.0 cs.1 s.0 r.0 k.0 d.0 ea.0 (brought_is some hs.1 s.1 rs.1 e.at) rs.1, fate_lines some w.1 cs.1 s.1 r.1 k.1 d.1 ea.1 hs.1 rs.1)
 
     -- the snapshot of t has this entry
     entry_eq : (t : TxId) (j : ℕ) → entry (past.snapshot ls t) j ≡ entry (plan.snapshot t) j
@@ -519,18 +542,25 @@ module _ {E : Type 0} where
           first = λ w ne k y. subst (λ m. IsBefore (u, n) (w, m)) (sym (prepare_time_is some p w)) (h.first w ne (sym (pending_is some p w) ∙ k) (sym (touches_eq w p o) ∙ y));
         }
 
-    stable_line : (some : List (Entry E)) (p : PartId) (dep : List ℕ) (j n : ℕ) → IsLeastBehind sites parts p.site (known_shown some p) dep j → IsLeast parts (known_shown some p j) n → causes.StableCause sites parts (shown_lines some) p (call_asked {E = E} (AskBegin [] dep)) j n
-    stable_line some p dep j n h e = (
-      record {
-        other = h.other;
-        behind = (h.behind.0, h.behind.1, h.behind.2, subst (λ x. x < entry dep j) (sym (known_is some p j h.behind.0)) h.behind.3);
-        least = λ i o x. h.least i o (x.0, x.1, x.2, subst (λ y. y < entry dep i) (known_is some p i x.0) x.3);
-      },
-      stable_is parts some p j n e,
-    )
+    own_enough_line : (some : List (Entry E)) (p : PartId) (dep : Wish) → (dep.stable ≡ true → (m : ℕ) × IsOwnStableAt plan some p m × (entry dep.past p.site ≤ m)) → dep.stable ≡ true → (m : ℕ) × bounds.IsOwnStable parts (shown_lines some) p m × (entry dep.past p.site ≤ m)
+    own_enough_line some p dep f c = let x = f c in (x.0, own_stable_is plan some p x.0 x.1, x.2)
 
-    enough_line : (some : List (Entry E)) (p : PartId) (dep : List ℕ) → ((j q : ℕ) → IsOther sites p.site j → 1 ≤ q → q ≤ parts → entry dep j ≤ known_shown some p j q) → causes.IsStableEnough sites parts (shown_lines some) p dep
-    enough_line some p dep f = λ j q o a b. subst (λ x. entry dep j ≤ x) (sym (known_is some p j q)) (f j q o a b)
+    stable_line : (some : List (Entry E)) (p : PartId) (dep : Wish) (j n : ℕ) → IsLeastBehind sites parts p.site (known_shown some p) dep.stable (IsOwnStableAt plan some p) dep.past j n → causes.StableCause sites parts (shown_lines some) p (call_asked {E = E} (AskBegin [] dep)) j n
+    stable_line some p dep j n h = record {
+      have = ⊎_elim
+          (λ (x : IsOther sites p.site j × IsLeast parts (known_shown some p j) n). inl (x.0, stable_is parts some p j n x.1))
+          (λ (x : (dep.stable ≡ true) × (j ≡ p.site) × IsOwnStableAt plan some p n). inr (x.0, x.1, own_stable_is plan some p n x.2))
+          h.have;
+      behind = h.behind;
+      least = λ i o x. h.least i o (x.0, x.1, x.2, subst (λ y. y < entry dep.past i) (known_is some p i x.0) x.3);
+      own = λ below. own_enough_line some p dep (h.own below);
+    }
+
+    enough_line : (some : List (Entry E)) (p : PartId) (dep : Wish) → AreEnoughAt plan some p dep → causes.IsStableEnough sites parts (shown_lines some) p dep
+    enough_line some p dep f = record {
+      others = λ j q o a b. subst (λ x. entry dep.past j ≤ x) (sym (known_is some p j q)) (f.others j q o a b);
+      own = own_enough_line some p dep f.own;
+    }
 
     early_line : (some : List (Entry E)) (p : PartId) (t : TxId) (s : List ℕ) → (s ≡ plan.snapshot t) × (entry s p.site ≤ shown some p) × (shown some p < end_of_time) → (entry (past.snapshot ls t) p.site ≤ clock.now (shown_lines some) p) × (clock.now (shown_lines some) p < end_of_time)
     early_line some p t s w = (
@@ -572,7 +602,7 @@ module _ {E : Type 0} where
     cause_line some p (Refused (AskPrepare t s l us) (ClockBehind n)) h f g c w d r = behind_line some p t n c.0 c.1
     cause_line some p (Refused (AskRead t s o own) (TxPending u n)) h f g c w d r = first_line some p t s o u n h.0 w
     cause_line some p (Refused (AskUpdate t s o own op) (TxPending u n)) h f g c w d r = (w.0, first_line some p t s o u n h.0 w.1)
-    cause_line some p (Refused (AskBegin who dep) (StableBehind j n)) h f g c w d r = stable_line some p dep j n f.0 f.1
+    cause_line some p (Refused (AskBegin who dep) (StableBehind j n)) h f g c w d r = stable_line some p dep j n f
     cause_line some p (Refused (AskDecide t v) IsGone) h f g c w d r = (refl, unknown_line some p t h w)
     cause_line some p (Refused (AskAbort t) IsGone) h f g c w d r = (refl, pending_is some p t ∙ w)
     cause_line some p (Refused asked (ClockBehind n)) h f g c w d r = off d
@@ -663,18 +693,18 @@ module _ {E : Type 0} where
 
     stream_line : (some : List (Entry E)) (p : PartId) (event : Event E) → HandedAt plan some p event → SendsAt plan some p event → ShowsAt plan some p event → IsDueAt event → IsRight kinds plan run p event → streams.IsStream sites ls (shown_lines some) p (call_of event) (step_shown some p event)
     stream_line some p (Sent asked m) h n s d r = record { row = ap (λ x. x + 1) (sym (sent_count_is some p)); to = n.to; low = n.lo ∙ ap (low_of asked) (sym (last_sent_is some p m.to)); high = own_bound_is some p m.hi s; parts = count_line p m r }
-    stream_line some p (Took number m) h n s d r = let e = sym (bound_is some p m.from) in (refl, subst (λ x. m.lo ≤ x) e s.0, subst (λ x. x < m.hi) e s.1, handed_line plan some p number m h)
+    stream_line some p (Took number m) h n s d r = let e = sym (bound_is some p m.from) in (refl, subst (λ x. m.lo ≤ x) e s.0, subst (λ x. x < m.hi) e s.1, handed_line plan some p number m h, refl)
     stream_line some p (Reported b) h n s d r = ap (λ x. x + 1) (sym (report_count_is some p))
-    stream_line some p (Heard number k b stable) h n s d r = report_line some number (record { site = p.site; part = k }) b h.shown
-    stream_line some p (Refused (AskTake number m) (HasGap k)) h n s d r = (s.0 ∙ sym (bound_is some p m.from), s.1, handed_line plan some p number m h)
-    stream_line some p (Refused (AskTake number m) (IsRepeat k)) h n s d r = (s.0 ∙ sym (bound_is some p m.from), s.1, s.2, handed_line plan some p number m h)
-    stream_line some p (Refused (AskTake number m) IsDown) h n s d r = (number, handed_line plan some p number m h)
-    stream_line some p (Refused (AskTake number m) (HasNoRoom k)) h n s d r = (number, handed_line plan some p number m h)
+    stream_line some p (Heard number k b stable) h n s d r = (report_line some number (record { site = p.site; part = k }) b h.shown, refl)
+    stream_line some p (Refused (AskTake number m) (HasGap k)) h n s d r = (s.0 ∙ sym (bound_is some p m.from), s.1, handed_line plan some p number m h, refl)
+    stream_line some p (Refused (AskTake number m) (IsRepeat k)) h n s d r = (s.0 ∙ sym (bound_is some p m.from), s.1, s.2, handed_line plan some p number m h, refl)
+    stream_line some p (Refused (AskTake number m) IsDown) h n s d r = handed_line plan some p number m h
+    stream_line some p (Refused (AskTake number m) (HasNoRoom k)) h n s d r = handed_line plan some p number m h
     stream_line some p (Refused (AskTake number m) why) h n s d r = off d
     stream_line some p (Refused asked (HasGap k)) h n s d r = off d
     stream_line some p (Refused asked (IsRepeat k)) h n s d r = off d
     stream_line some p (Refused asked why) h n s d r = tt
-    stream_line some p (Cut (Took number m)) h n s d r = (number, handed_line plan some p number m h)
+    stream_line some p (Cut (Took number m)) h n s d r = handed_line plan some p number m h
     stream_line some p (Cut (Decided t c)) h n s d r = tt
     stream_line some p (Cut a) h n s d r = tt
     stream_line some p event h n s d r = tt
@@ -697,17 +727,46 @@ module _ {E : Type 0} where
     vote_lines [] h = tt
     vote_lines (e ∷ some) h = (vote_line some e.at e.event h.0, vote_lines some h.1)
 
+    stable_here : (some : List (Entry E)) (p : PartId) (t : TxId) (old : Bool) (event : Event E) → waits.stable_after t old (step_shown some p event) (call_of event) ≡ stable_by t old event
+    stable_here some p t old (Refused asked IsDown) = refl
+    stable_here some p t old (Refused asked why) = refl
+    stable_here some p t old (Cut (Decided u c)) = refl
+    stable_here some p t old (Cut a) = refl
+    stable_here some p t old event = refl
+
+    stable_began : (some : List (Entry E)) (t : TxId) → waits.began_stable (shown_lines some) t ≡ began_stable some t
+    stable_began [] t = refl
+    stable_began (e ∷ some) t = ap (λ b. waits.stable_after t b (step_shown some e.at e.event) (call_of e.event)) (stable_began some t) ∙ stable_here some e.at t (began_stable some t) e.event
+
+    wait_line : (some : List (Entry E)) (p : PartId) (event : Event E) → WaitsFresh some event → IsDueAt event → waits.WaitsFresh (shown_lines some) p (call_of event) (step_shown some p event)
+    wait_line some p (Refused (AskRead t s o own) (ClockBehind n)) w d = stable_began some t ∙ w
+    wait_line some p (Refused (AskRead t s o own) (TxPending u n)) w d = stable_began some t ∙ w
+    wait_line some p (Refused (AskUpdate t s o own op) (ClockBehind n)) w d = stable_began some t ∙ w
+    wait_line some p (Refused (AskUpdate t s o own op) (TxPending u n)) w d = stable_began some t ∙ w
+    wait_line some p (Refused (AskPrepare t s l us) (ClockBehind n)) w d = stable_began some t ∙ w
+    wait_line some p (Refused asked (ClockBehind n)) w d = off d
+    wait_line some p (Refused asked (TxPending u n)) w d = off d
+    wait_line some p (Refused asked why) w d = tt
+    wait_line some p (Cut (Decided t v)) w d = tt
+    wait_line some p (Cut a) w d = tt
+    wait_line some p event w d = tt
+
+    wait_lines : (some : List (Entry E)) → WaitFresh some → AreDue some → EachLine waits.WaitsFresh (shown_lines some)
+    wait_lines [] w d = tt
+    wait_lines (e ∷ some) w d = (wait_line some e.at e.event w.0 d.0, wait_lines some w.1 d.1)
+
     order_lines : past.IsStrictOrder (shown_lines run)
     order_lines = record {
       irreflexive = λ t. precedes_is t t ∙ no_self kinds plan run facts t;
       transitive = λ t u w h k. closed_lines (past.snapshot (shown_lines run) w) t u k h;
     }
 
-    pub lawful_lines : IsLawful kinds.too_deep kinds.meaning sites parts (shown_lines run)
-    lawful_lines = record {
+    pub lawful_lines : EventsAre (λ p event. ListsEarly event) run → EachLine ShowsKept (shown_lines run) → IsLawful kinds.too_deep kinds.meaning sites parts (shown_lines run)
+    lawful_lines early leases = record {
       places = place_lines plan run law.places;
       answers = answer_lines plan run law.handed law.due;
       clock = clock_lines run law.clock;
+      leases = leases;
       placed = placed_lines plan run law.handed;
       handed = hands_lines sites run law.past;
       held = holds_lines sites run law.past;
@@ -717,11 +776,12 @@ module _ {E : Type 0} where
       asked = vote_lines run law.handed;
       agreed = agreed_lines;
       right = right_lines run law.handed law.numbered law.right law.meant law.known;
-      fates = fate_lines run (shown_all run) law.clock law.shown law.resumed law.decided_stay law.doubts law.handed law.right;
+      fates = fate_lines run (shown_all run) law.clock law.shown law.resumed law.decided_stay law.doubts early law.handed law.right;
       streams = stream_lines run law.handed law.sends law.shown law.due law.right;
       causes = cause_lines run law.handed law.fresh law.clear law.causes law.shown law.due law.right;
       ops = op_lines kinds run law.known;
       ups = up_lines run law.downs law.due;
+      waits = wait_lines run law.waits law.due;
       order = order_lines;
       closed = λ t h. closed_lines (past.snapshot (shown_lines run) t);
     }

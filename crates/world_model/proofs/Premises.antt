@@ -8,6 +8,7 @@ use Rattle.site_vector.specs.Order.{same_tx_is}
 use Rattle.crdt_core.specs.declared.record.Message.{Message}
 use Rattle.crdt_core.specs.declared.record.Record.{Record}
 use Rattle.crdt_core.specs.KindsOf.{Kinds}
+use Rattle.world_model.specs.lines.Lines.{Wish}
 use Rattle.crdt_core.specs.Parts.{lists}
 use Rattle.crdt_core.specs.Log.{prepared, pending, committed}
 use Rattle.world_model.specs.rules.Event.{AskRead, AskUpdate, AskPrepare, Event, Began, Updated, Read, Prepared, Decided, Finished, Aborted, Sent, Took, Restarted, Refused, Cut, Entry, attempt, voted, is_decided, WasShown, sent_count}
@@ -48,7 +49,7 @@ module _ {E : Type 0} where
     later : (at : PartId) (event : Event E) (u t : TxId) → same_tx u t ≡ true → begun run u ≡ true → begun (next at event) t ≡ true
     later at event u t h b = or_right _ _ (subst (λ y. begun run y ≡ true) (same_tx_is u t h) b)
 
-    asked : (at : PartId) (event : Event E) (u t : TxId) (who dep s : List ℕ) → same_tx u t ≡ true → WasShown run (home u) (Began who dep u s) → begun (next at event) t ≡ true
+    asked : (at : PartId) (event : Event E) (u t : TxId) (who : List ℕ) (dep : Wish) (s : List ℕ) → same_tx u t ≡ true → WasShown run (home u) (Began who dep u s) → begun (next at event) t ≡ true
     asked at event u t who dep s h w = later at event u t h (shown_begun run (home u) who dep u s w)
 
     voter : (at : PartId) (event : Event E) (u t : TxId) → same_tx u t ≡ true → takes_part (plan_of sites parts (next at event)) u at ≡ true → begun (next at event) t ≡ true

@@ -1,5 +1,5 @@
 -- The events of a run show the bounds of each partition that is up, and what is pending there.
-use Rattle.std.proofs.Common.{◌≡◌, ◌≢◌, ⊎_elim, inl, inr, ℕ, ◌+◌, ◌-◌, ◌<◌, ◌≤◌, cond, leb, min, Bool, true, false, not, ◌&&◌, ◌||◌, List, [], ◌∷◌, length, refl, sym, ap, ◌∙◌, subst, arith}
+use Rattle.std.proofs.Common.{◌≡◌, ◌≢◌, ◌⊎◌, ⊎_elim, inl, inr, ℕ, ◌+◌, ◌-◌, ◌<◌, ◌≤◌, cond, leb, min, Bool, true, false, not, ◌&&◌, ◌||◌, List, [], ◌∷◌, length, refl, sym, ap, ◌∙◌, subst, arith}
 use Rattle.std.specs.Prelude.{◌==◌}
 use Rattle.std.proofs.lemmas.Bool.{cases_Bool, or_cases, or_from, and_from, and_right, and_parts, not-true, cond_both, cond-true, cond-false, eqb-true, eq-eqb, false_from_ne_true}
 use Rattle.std.proofs.lemmas.List.{length-replicate}
@@ -17,7 +17,7 @@ use Rattle.crdt_core.specs.declared.record.Part.{Part}
 use Rattle.crdt_core.specs.declared.record.Message.{Message}
 use Rattle.crdt_core.specs.Log.{end_of_time, prepared, prepare_time, prepared_changes, committed, aborted, pending, ceiling, grown}
 use Rattle.crdt_core.specs.Parts.{touches}
-use Rattle.world_model.specs.rules.Event.{AskRead, AskUpdate, AskDecide, AskAbort, AskTake, TxPending, IsGone, HasGap, IsRepeat, Event, Ticked, Began, Updated, Read, Prepared, Decided, Finished, Aborted, Sent, Took, Reported, Heard, Crashed, RestartCut, Restarted, Refused, Opened, Cut, Entry, attempt, tried, is_decided}
+use Rattle.world_model.specs.rules.Event.{AskRead, AskUpdate, AskDecide, AskAbort, AskTake, TxPending, IsGone, HasGap, IsRepeat, Event, Ticked, Began, Updated, Read, Prepared, Decided, Finished, Aborted, Sent, Took, Reported, Heard, Crashed, RestartCut, Restarted, Refused, Opened, Cut, Entry, attempt, tried, was_aborted, is_decided}
 use Rattle.crdt_core.specs.KindsOf.{Kinds}
 use Rattle.world_model.specs.rules.Partition.{PartState, Finds, IsOwnBound, IsReady, IsTxPending, AreTimed, batch_of, new_part, PartStep}
 use Rattle.world_model.specs.lines.Places.{IsOther}
@@ -296,10 +296,10 @@ module _ {E : Type 0} where
     may_abort u t true m = m
     may_abort u t false m = ⊎_elim
         (λ (e : at ≡ plan.lead t). inl e)
-        (λ (x : TellsAborted (before (plan.lead t)) t). let w = told_aborted (before (plan.lead t)) t x in inr (record {
+        (λ (y : TellsAborted (before (plan.lead t)) t ⊎ (was_aborted run t (plan.lead t) ≡ true)). ⊎_elim (λ (x : TellsAborted (before (plan.lead t)) t). let w = told_aborted (before (plan.lead t)) t x in inr (inl (record {
           up = not-true (is_down run (plan.lead t)) (sym (u (plan.lead t)) ∙ w.up);
           unknown = sym (known_is plan run before f h (plan.lead t) w.up t) ∙ or_from _ _ w.idle w.uncommitted;
-        }))
+        }))) (λ (x : was_aborted run t (plan.lead t) ≡ true). inr (inr x)) y)
         m
 
     shows_event : (event : Event E) (q : PartState E) → ((p : PartId) → (before p).up ≡ not (is_down run p)) → Leases run before → IsAllowed plan run before at (attempt event) → PartStep kinds plan.sites plan.parts at (before at) event q → ShowsAt plan run at event

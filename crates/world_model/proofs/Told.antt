@@ -108,6 +108,6 @@ module _ {E : Type 0} where
       finishes = λ t c h f. finished t c h (subst (IsFate (shown_lines run) (lead parts (shown_lines run) t) t) f ((law_world kinds sites parts run state r).3 t));
       aborts = λ t h. aborts sites parts run state p t (⊎_elim
           (λ (e : p ≡ lead parts (shown_lines run) t). inl (e ∙ lead_is t))
-          (λ (f : fate_of (state (lead parts (shown_lines run) t)) t ≡ ToldAborted). inr (subst (λ q. fate_of (state q) t ≡ ToldAborted) (lead_is t) f))
+          (λ (f : fate_of (state (lead parts (shown_lines run) t)) t ≡ ToldAborted). inr (inl (subst (λ q. fate_of (state q) t ≡ ToldAborted) (lead_is t) f)))
           h);
     }

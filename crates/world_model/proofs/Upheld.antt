@@ -1,5 +1,5 @@
 -- The law of the world under one plan: every part holds at the start and is kept by each step.
-use Rattle.std.proofs.Common.{◌||◌, ◌≡◌, ⊎_elim, inl, ℕ, zero, suc, ◌+◌, ◌-◌, ◌<◌, ◌≤◌, max, true, false, List, [], ◌∷◌, length, Option, refl, sym, ◌∙◌, ap, subst, arith, le_refl, le_of_lt}
+use Rattle.std.proofs.Common.{◌||◌, ◌≡◌, ⊎_elim, inl, ℕ, zero, suc, ◌+◌, ◌-◌, ◌<◌, ◌≤◌, max, Bool, true, false, List, [], ◌∷◌, length, Option, refl, sym, ◌∙◌, ap, subst, arith, le_refl, le_of_lt}
 use Rattle.std.specs.Prelude.{⊤, slice_index}
 use Rattle.std.proofs.lemmas.Bool.{cases_eq, cases_lt, and_from, and_parts, and_right, or_parts, false_from_ne_true}
 use Rattle.site_vector.specs.declared.ids.PartId.{PartId}
@@ -12,7 +12,8 @@ use Rattle.world_model.specs.rules.Event.{AskRead, AskUpdate, AskPrepare, AskBeg
 use Rattle.world_model.proofs.Runs.{sent, IsPlanned, IsRun}
 use Rattle.crdt_core.specs.KindsOf.{Kinds}
 use Rattle.site_vector.specs.Known.{vector_of}
-use Rattle.world_model.specs.rules.Partition.{PartState, Finds, IsBegin, new_part, PartStep}
+use Rattle.world_model.specs.rules.Partition.{PartState, Finds, IsBegin, OwnEntry, new_part, PartStep}
+use Rattle.world_model.specs.lines.Lines.{Wish}
 use Rattle.world_model.specs.lines.Places.{IsOther, home}
 use Rattle.world_model.specs.rules.Plan.{Plan, takes_part, commit_vector, IsAllowed, IsSession, WorldStep}
 use Rattle.world_model.specs.events.Reads.{sees_tx, IsExact, IsRight}
@@ -42,23 +43,27 @@ module _ {E : Type 0} where
   IsUnder plan p (Updated t s o own op read u stamp) = s ≡ plan.snapshot t
   IsUnder plan p event = ⊤
 
+  own_holds : (parts : ℕ) (id : PartId) (p : PartState E) (wish : Wish) (time n : ℕ) (b : Bool) → OwnEntry parts id p wish time n b → entry wish.past id.site ≤ n
+  own_holds parts id p wish time n true o = o.1
+  own_holds parts id p wish time n false o = let e = o in omega arith
+
   -- a begin's snapshot holds what it was handed
-  begin_holds : (sites parts : ℕ) (id : PartId) (p : PartState E) (dep : List ℕ) (t : TxId) (s : List ℕ) → IsBegin sites parts id p dep t s → le dep s ≡ true
+  begin_holds : (sites parts : ℕ) (id : PartId) (p : PartState E) (dep : Wish) (t : TxId) (s : List ℕ) → IsBegin sites parts id p dep t s → le dep.past s ≡ true
   begin_holds sites parts id p dep t s b =
       let wide = b.handed in
       let long = b.width in
-      le_from dep s (omega arith) (λ i. ⊎_elim
+      le_from dep.past s (omega arith) (λ i. ⊎_elim
       (λ (h : i < sites). ⊎_elim
       (λ (e : i + 1 ≡ id.site).
-      let o : entry s (i + 1) ≡ max t.time (entry dep (i + 1)) = subst (λ j. entry s j ≡ max t.time (entry dep j)) (sym e) b.own in
+      let o : entry dep.past (i + 1) ≤ entry s (i + 1) = subst (λ j. entry dep.past j ≤ entry s j) (sym e) (own_holds parts id p dep t.time (entry s id.site) dep.stable b.own) in
       let k : (i + 1) - 1 ≡ i = omega arith in
-      subst (λ j. slice_index dep j ≤ slice_index s j) k (omega arith))
+      subst (λ j. slice_index dep.past j ≤ slice_index s j) k o)
       (λ (ne : i + 1 ≡ id.site → ⊥).
       let other : IsOther sites id.site (i + 1) = record { least = omega arith; most = omega arith; apart = ne } in
       let k : (i + 1) - 1 ≡ i = omega arith in
-      subst (λ j. slice_index dep j ≤ slice_index s j) k (b.waited (i + 1) other))
+      subst (λ j. slice_index dep.past j ≤ slice_index s j) k (b.waited (i + 1) other))
       (cases_eq (i + 1) id.site))
-      (λ (h : sites ≤ i). subst (λ x. x ≤ slice_index s i) (sym (past_end dep i (omega arith))) (omega arith))
+      (λ (h : sites ≤ i). subst (λ x. x ≤ slice_index s i) (sym (past_end dep.past i (omega arith))) (omega arith))
       (cases_lt i sites))
 
   pub record Upheld {S : Type 0} (kinds : Kinds S E) (plan : Plan E) (run : List (Entry E)) (parts : PartId → PartState E) : Type 0 where
@@ -102,9 +107,11 @@ module _ {E : Type 0} where
         bounds = record {
           up_to = λ p j u ne. record { reached = subst (λ n. n ≤ 0) (sym (ap (λ x. entry x.bounds j) (h p) ∙ zeros_at plan.sites (j - 1))) (le_refl 0); held = λ m t i k. off k };
           heard = λ p q j u l ne. record { reached = subst (λ n. n ≤ 0) (sym (ap (λ x. entry (vector_of x.heard q) j) (h p) ∙ rows_at plan.parts plan.sites (q - 1) (j - 1))) (le_refl 0); held = λ m t i k. off k };
+          own_heard = λ p q u l. subst (λ n. n ≤ 0) (sym (ap (λ x. entry (vector_of x.heard q) p.site) (h p) ∙ rows_at plan.parts plan.sites (q - 1) (p.site - 1))) (le_refl 0);
           logged = λ p j m i ne. record { reached = subst (λ x. logged_bound x j ≤ 0) (sym (empty p m i)) (le_refl 0); held = λ t k. off k };
           from = λ p m t i k. off (subst (λ x. taken x t ≡ true) (empty p m i) k);
           events = tt;
+          told = tt;
         };
         reads = tt;
         planned = tt;

@@ -10,8 +10,9 @@ use Rattle.site_vector.specs.Vector.{replaced}
 use Rattle.crdt_core.specs.declared.record.Upd.{Upd}
 use Rattle.world_model.specs.lines.Places.{partitions, first_of, home}
 use Rattle.crdt_core.specs.Log.{end_of_time, ceiling, prepared, pending, committed}
-use Rattle.world_model.specs.rules.Event.{AskPrepare, AskFinish, AskTake, Refused, Event, Began, Updated, Read, Prepared, Decided, Finished, Aborted, Took, Heard, Cut, Entry, attempt, is_prepare, tried, voted, shown, shown_after, time_of, is_decided, WasShown}
+use Rattle.world_model.specs.rules.Event.{AskPrepare, AskFinish, AskTake, Refused, Event, Began, Updated, Read, Prepared, Decided, Finished, Aborted, Took, Heard, Cut, Entry, attempt, is_prepare, tried, voted, shown, shown_after, time_of, was_aborted, is_decided, WasShown}
 use Rattle.crdt_core.specs.KindsOf.{Kinds}
+use Rattle.world_model.specs.lines.Lines.{Wish}
 use Rattle.world_model.specs.rules.Partition.{PartState, PartStep, MayDo}
 use Rattle.world_model.specs.rules.Plan.{Plan, is_some_update, takes_part, commit_vector, updates_at, change_by, IsAllowed, TellsAborted, IsNew}
 use Rattle.world_model.proofs.Runs.{IsPlanned, IsRun}
@@ -75,7 +76,7 @@ module _ {E : Type 0} where
   IsFresh run (Updated t s o own op read u stamp) = (begun run t ≡ true) × ((p : PartId) → tried run t p ≡ false)
   IsFresh run event = ⊤
 
-  pub shown_begun : (run : List (Entry E)) (p : PartId) (who dep : List ℕ) (t : TxId) (s : List ℕ) → WasShown run p (Began who dep t s) → begun run t ≡ true
+  pub shown_begun : (run : List (Entry E)) (p : PartId) (who : List ℕ) (dep : Wish) (t : TxId) (s : List ℕ) → WasShown run p (Began who dep t s) → begun run t ≡ true
   shown_begun [] p who dep t s w = absurd w
   shown_begun (e ∷ run) p who dep t s w = ⊎_elim
       (λ (x : (e.at ≡ p) × (e.event ≡ Began who dep t s)). or_left _ _ (ap (λ a. is_begin a t) x.1 ∙ same_tx_refl t))
@@ -262,7 +263,7 @@ module _ {E : Type 0} where
   allowed_too sites parts run old whole at state (Aborted t true) agr past later al = al
   allowed_too sites parts run old whole at state (Aborted t false) agr past later al =
       let g = agr t (same_tx_refl t) in
-      ⊎_elim (λ (k : at ≡ lead_of sites parts old t). inl (k ∙ sym g.lead)) (λ (k : TellsAborted (state (lead_of sites parts old t)) t). inr (subst (λ x. TellsAborted (state x) t) (sym g.lead) k)) al
+      ⊎_elim (λ (k : at ≡ lead_of sites parts old t). inl (k ∙ sym g.lead)) (λ (k : TellsAborted (state (lead_of sites parts old t)) t ⊎ (was_aborted run t (lead_of sites parts old t) ≡ true)). ⊎_elim (λ (y : TellsAborted (state (lead_of sites parts old t)) t). inr (inl (subst (λ x. TellsAborted (state x) t) (sym g.lead) y))) (λ (y : was_aborted run t (lead_of sites parts old t) ≡ true). inr (inr (subst (λ x. was_aborted run t x ≡ true) (sym g.lead) y))) k) al
   allowed_too sites parts run old whole at state (Read t s o own read value) agr past later al = record { site = al.site; who = al.who; dependency = al.dependency; begun = al.begun; place = al.place; earlier = al.earlier }
   allowed_too sites parts run old whole at state (Updated t s o own op read u stamp) agr past later al = record { site = al.site; who = al.who; dependency = al.dependency; begun = al.begun; place = al.place; earlier = al.earlier }
   allowed_too sites parts run old whole at state (Took number m) agr past later al = record { from = al.from; to = al.to; part = al.part; asked = al.asked; shown = al.shown }

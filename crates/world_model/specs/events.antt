@@ -13,3 +13,4 @@ pub mod Causes
 pub mod Pending
 pub mod Bounds
 pub mod Fate
+pub mod Waits

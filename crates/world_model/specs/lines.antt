@@ -19,3 +19,5 @@ pub mod Ops
 pub mod Lawful
 pub mod Ends
 pub mod Places
+pub mod Waits
+pub mod Leases

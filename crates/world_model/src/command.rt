@@ -2,6 +2,15 @@ use crdt_core::{ObjectId, Op};
 use field_codec::Text;
 use site_vector::{PartId, TxId};
 
+/// How a transaction begins.
+#[derive(Clone, Copy, Debug, PartialEq, Eq)]
+pub enum Mode {
+    /// From the present of its own site, and what is stable of the others. Its reads may have to wait.
+    Fresh,
+    /// From what is stable of all sites, its own among them. Its reads never wait.
+    Stable,
+}
+
 /// A line of a script, read. Sites and partitions are numbered from 1, `name` names a session, and a
 /// numeral without another range is below 2^48.
 #[derive(Debug, Drop)]
@@ -30,10 +39,11 @@ pub enum Command {
     Lose {
         name: Text,
     },
-    /// `begin S [P]`: begins a transaction at the partition, or at the first of the session's site.
+    /// `begin S [P] [stable]`: begins a transaction at the partition, or at the first of the session's site.
     Begin {
         name: Text,
         part: Option<PartId>,
+        mode: Mode,
     },
     /// `read S O`: reads the object.
     Read {

@@ -29,7 +29,7 @@ is_change ls p other = false
 
 -- a message was taken that brought a part of the whole run
 abbrev pub is_bringing : List Line → List Line → PartId → Call → Step → Bool
-is_bringing whole ls p (TakeOf site lo hi) (step.Took number end) = brings whole p site (bound ls p site) hi
+is_bringing whole ls p (TakeOf number site lo hi) (step.Took shown end) = brings whole p site (bound ls p site) hi
 is_bringing whole ls p call other = false
 
 -- p wrote for what was asked of this partition

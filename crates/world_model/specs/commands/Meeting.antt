@@ -82,7 +82,7 @@ meets run (command.Move name site) =
     ∷ (not (is_idle (phase run name)), step.HasTxn)
     ∷ []
 meets run (command.Lose name) = no_cluster run ∷ no_session run name ∷ []
-meets run (command.Begin name part) =
+meets run (command.Begin name part mode) =
     no_cluster run
     ∷ (lacks_part run part, step.NoPart)
     ∷ no_session run name

@@ -24,7 +24,7 @@ use Rattle.world_model.specs.lines.Waiting.{waiting}
 
 -- the line names the session, the message or the report of its command; a new message or report has the next number
 abbrev pub Bears : Run → Command → Step → Type 0
-Bears run (command.Begin name part) (step.Began who t s) = who ≡ name
+Bears run (command.Begin name part mode) (step.Began who t s) = who ≡ name
 Bears run (command.Read name o) (step.Value who object value) = (who ≡ name) × (object ≡ o)
 Bears run (command.Update name o op) (step.Updated who object stamp) = (who ≡ name) × (object ≡ o)
 Bears run (command.Send p site from) (step.Sent number q to lo hi count) = number ≡ (messages run).made + 1

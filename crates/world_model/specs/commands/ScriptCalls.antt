@@ -13,7 +13,7 @@ use Rattle.world_model.specs.declared.step.Step.TheVariants as step
 use Rattle.world_model.specs.commands.Run.{Run}
 use Rattle.world_model.specs.commands.Cluster.{sites_of, parts_of}
 use Rattle.world_model.specs.lines.Lines as world
-use Rattle.world_model.specs.lines.Lines.{Call, Tick, Begin, ReadOf, UpdateOf, PrepareOf, DecideOf, FinishOf, AbortOf, SendTo, TakeOf, HearOf, Crash, Restart}
+use Rattle.world_model.specs.lines.Lines.{Call, Tick, Begin, ReadOf, UpdateOf, PrepareOf, DecideOf, FinishOf, AbortOf, SendTo, TakeOf, HearOf, Crash, Restart, wish_of}
 use Rattle.world_model.specs.lines.Dependency.{dependency}
 use Rattle.world_model.specs.commands.CommitSteps.{Going, starting, given_up, next_step}
 use Rattle.world_model.specs.commands.Phases.{Phase, Open, Ending, holders, phase}
@@ -90,18 +90,18 @@ for_commit parts other f = nowhere
 
 abbrev pub for_message : Option Letter → Placed
 for_message None = nowhere
-for_message (Some m) = record { at = record { site = m.to; part = m.from.part }; call = TakeOf m.from.site m.lo m.hi }
+for_message (Some m) = record { at = record { site = m.to; part = m.from.part }; call = TakeOf m.own m.from.site m.lo m.hi }
 
 abbrev pub for_report : PartId → Option Notice → Placed
 for_report p None = nowhere
-for_report p (Some n) = record { at = p; call = HearOf n.from.part n.bounds }
+for_report p (Some n) = record { at = p; call = HearOf n.own n.from.part n.bounds }
 
 -- what a command asks of which partition next: a begin is handed what its session depends on, and `ls` are the lines of
 -- partitions so far
 abbrev pub asked_of : List world.Line → Run → Command → Placed
 asked_of ls run (command.Clock p clock_time) = record { at = p; call = Tick clock_time }
 asked_of ls run (command.Session name site) = record { at = record { site = site; part = 1 }; call = world.Open }
-asked_of ls run (command.Begin name part) = record { at = begin_place run name part; call = Begin name (dependency (sites_of run) ls name) }
+asked_of ls run (command.Begin name part mode) = record { at = begin_place run name part; call = Begin name (wish_of (dependency (sites_of run) ls name) mode) }
 asked_of ls run (command.Read name o) = at_object (parts_of run) o (phase run name) (λ t. ReadOf t o)
 asked_of ls run (command.Update name o op) = at_object (parts_of run) o (phase run name) (λ t. UpdateOf t o op)
 asked_of ls run (command.Commit name steps) = for_commit (parts_of run) (phase run name) (λ g. g)

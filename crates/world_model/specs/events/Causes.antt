@@ -13,7 +13,7 @@ use Rattle.world_model.specs.lines.Places.{IsOther}
 use Rattle.world_model.specs.rules.Plan.{Plan}
 use Rattle.world_model.specs.events.Bounds.{bound_shown, IsOwnBoundAt}
 use Rattle.world_model.specs.events.Fate.{committed_shown, MayAbortAt}
-use Rattle.world_model.specs.events.Fresh.{known_shown}
+use Rattle.world_model.specs.events.Fresh.{AreEnoughAt}
 use Rattle.world_model.specs.lines.Listed.{IsBefore, AreInOrder, IsReadyBy, IsFirstBy, IsOwnBoundOf}
 
 module _ {E : Type 0} where
@@ -79,7 +79,7 @@ module _ {E : Type 0} where
   ShowAt plan (e ∷ run) = ShowsAt plan run e.at e.event × ShowAt plan run
 
   abbrev pub IsClear : Plan E → List (Entry E) → PartId → Ask E → Type 0
-  IsClear plan run p (AskBegin who dep) = (shown run p < end_of_time) × ((j q : ℕ) → IsOther plan.sites p.site j → 1 ≤ q → q ≤ plan.parts → entry dep j ≤ known_shown run p j q)
+  IsClear plan run p (AskBegin who dep) = (shown run p < end_of_time) × AreEnoughAt plan run p dep
   IsClear plan run p (AskRead t s o own) = IsReadyAt plan run p s o
   IsClear plan run p (AskUpdate t s o own op) = reads_state o.kind ≡ true → IsReadyAt plan run p s o
   IsClear plan run p (AskPrepare t s l w) = (s ≡ plan.snapshot t) × (entry s p.site ≤ shown run p) × (shown run p < end_of_time)

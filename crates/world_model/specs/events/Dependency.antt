@@ -20,9 +20,9 @@ module _ {E : Type 0} where
 
   -- a begin is handed what is known, and its snapshot holds it
   abbrev pub HoldsPast : ℕ → List (Entry E) → PartId → Event E → Type 0
-  HoldsPast sites run p (Began who dep t s) = IsKnownJoin sites run dep × (le dep s ≡ true)
-  HoldsPast sites run p (Cut (Began who dep t s)) = IsKnownJoin sites run dep
-  HoldsPast sites run p (Refused (AskBegin who dep) why) = IsKnownJoin sites run dep
+  HoldsPast sites run p (Began who dep t s) = IsKnownJoin sites run dep.past × (le dep.past s ≡ true)
+  HoldsPast sites run p (Cut (Began who dep t s)) = IsKnownJoin sites run dep.past
+  HoldsPast sites run p (Refused (AskBegin who dep) why) = IsKnownJoin sites run dep.past
   HoldsPast sites run p other = ⊤
 
   abbrev pub KeepPast : ℕ → List (Entry E) → Type 0

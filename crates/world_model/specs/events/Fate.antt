@@ -2,7 +2,7 @@
 use Rattle.std.specs.Prelude.{◌≡◌, ◌⊎◌, Bool, true, false, not, ◌&&◌, ◌||◌, List}
 use Rattle.site_vector.specs.declared.ids.PartId.{PartId}
 use Rattle.site_vector.specs.declared.ids.TxId.{TxId}
-use Rattle.world_model.specs.rules.Event.{Entry, decide_tried, is_decided}
+use Rattle.world_model.specs.rules.Event.{Entry, decide_tried, was_aborted, is_decided}
 use Rattle.world_model.specs.events.Pending.{is_down, pending_shown}
 use Rattle.world_model.specs.rules.Plan.{Plan, takes_part}
 
@@ -19,4 +19,4 @@ module _ {E : Type 0} where
   -- a session that didn't ask to decide aborts, or the lead does, or others on its word
   abbrev pub MayAbortAt : Plan E → List (Entry E) → PartId → TxId → Bool → Type 0
   MayAbortAt plan run p t true = decide_tried run t ≡ false
-  MayAbortAt plan run p t false = (p ≡ plan.lead t) ⊎ TellsAbortedAt plan run t
+  MayAbortAt plan run p t false = (p ≡ plan.lead t) ⊎ (TellsAbortedAt plan run t ⊎ (was_aborted run t (plan.lead t) ≡ true))

@@ -1,14 +1,15 @@
 -- Fresh snapshots: the stable entries of a partition, by what a run shows.
-use Rattle.std.specs.Prelude.{◌≡◌, ℕ, ◌≤◌, max, ◌==◌, if◌then◌else◌, List, [], ◌∷◌, length, ⊤}
+use Rattle.std.specs.Prelude.{◌≡◌, ℕ, max, ◌==◌, Bool, true, false, if◌then◌else◌, List, [], ◌∷◌, length, ⊤}
 use Rattle.site_vector.specs.declared.ids.PartId.{PartId}
 use Rattle.site_vector.specs.declared.ids.TxId.{TxId}
 use Rattle.site_vector.specs.Ids.{same_part}
 use Rattle.site_vector.specs.Vector.{entry}
 use Rattle.world_model.specs.rules.Event.{AskBegin, StableBehind, ClockAtEnd, Event, Began, Heard, Restarted, Refused, Entry}
 use Rattle.world_model.specs.lines.Places.{IsOther}
+use Rattle.world_model.specs.lines.Lines.{Wish}
 use Rattle.world_model.specs.rules.Plan.{Plan}
 use Rattle.world_model.specs.events.Bounds.{bound_shown, IsOwnBoundAt}
-use Rattle.world_model.specs.lines.Bounds.{IsLeast, IsLeastBehind}
+use Rattle.world_model.specs.lines.Bounds.{IsLeast, IsLeastBehind, AreEnough}
 
 module _ {E : Type 0} where
   -- the greatest entry for site j in the reports of partition q that were heard since the last restart
@@ -35,18 +36,30 @@ module _ {E : Type 0} where
     pub others : (j : ℕ) → IsOther plan.sites p.site j → IsStableEntry plan run p j (entry stable j)
     pub own : (b : ℕ) × IsOwnBoundAt run p b × IsLeast plan.parts (λ q. if p.part == q then b else heard_shown run p q p.site) (entry stable p.site)
 
+  -- what is stable of the own site
+  abbrev pub IsOwnStableAt : Plan E → List (Entry E) → PartId → ℕ → Type 0
+  IsOwnStableAt plan run p n = (b : ℕ) × IsOwnBoundAt run p b × IsLeast plan.parts (λ q. if p.part == q then b else heard_shown run p q p.site) n
+
+  abbrev pub OwnEntryAt : Plan E → List (Entry E) → PartId → Wish → ℕ → ℕ → Bool → Type 0
+  OwnEntryAt plan run p wish time n false = n ≡ max time (entry wish.past p.site)
+  OwnEntryAt plan run p wish time n true = IsOwnStableAt plan run p n
+
   -- a snapshot has an entry for each site: the stable one for another, and for the own the greater of the drawn time and the dependency's
-  pub record IsSnapshotAt (plan : Plan E) (run : List (Entry E)) (p : PartId) (dependency : List ℕ) (t : TxId) (s : List ℕ) : Type 0 where
+  pub record IsSnapshotAt (plan : Plan E) (run : List (Entry E)) (p : PartId) (wish : Wish) (t : TxId) (s : List ℕ) : Type 0 where
     pub width : length s ≡ plan.sites
-    pub own : entry s p.site ≡ max t.time (entry dependency p.site)
+    pub own : OwnEntryAt plan run p wish t.time (entry s p.site) wish.stable
     pub others : (j : ℕ) → IsOther plan.sites p.site j → IsStableEntry plan run p j (entry s j)
 
-  -- what was heard is of the run with this event; a wait is for the least other site that lags behind what the session depends on
+  -- nothing that the begin depends on is more than what is stable
+  abbrev pub AreEnoughAt : Plan E → List (Entry E) → PartId → Wish → Type 0
+  AreEnoughAt plan run p wish = AreEnough plan.sites plan.parts p.site (known_shown run p) wish.stable (IsOwnStableAt plan run p) wish.past
+
+  -- what was heard is of the run with this event; a wait is for the least site that lags behind what the session depends on
   abbrev pub IsFreshAt : Plan E → List (Entry E) → PartId → Event E → Type 0
   IsFreshAt plan run p (Began who dep t s) = IsSnapshotAt plan run p dep t s
   IsFreshAt plan run p (Heard number k b stable) = IsStable plan ((record { at = p; event = Heard number k b stable }) ∷ run) p stable
-  IsFreshAt plan run p (Refused (AskBegin who dep) ClockAtEnd) = (j q : ℕ) → IsOther plan.sites p.site j → 1 ≤ q → q ≤ plan.parts → entry dep j ≤ known_shown run p j q
-  IsFreshAt plan run p (Refused (AskBegin who dep) (StableBehind j n)) = IsLeastBehind plan.sites plan.parts p.site (known_shown run p) dep j × IsStableEntry plan run p j n
+  IsFreshAt plan run p (Refused (AskBegin who dep) ClockAtEnd) = AreEnoughAt plan run p dep
+  IsFreshAt plan run p (Refused (AskBegin who dep) (StableBehind j n)) = IsLeastBehind plan.sites plan.parts p.site (known_shown run p) dep.stable (IsOwnStableAt plan run p) dep.past j n
   IsFreshAt plan run p other = ⊤
 
   abbrev pub AreFresh : Plan E → List (Entry E) → Type 0

@@ -17,6 +17,7 @@ use Rattle.world_model.specs.events.Streams.{Send}
 use Rattle.world_model.specs.events.Handed.{AreHanded, AreNew}
 use Rattle.world_model.specs.events.Commit.{KeepVotes, ShowsVector, IsAgreed}
 use Rattle.world_model.specs.events.Fresh.{AreFresh}
+use Rattle.world_model.specs.events.Waits.{WaitFresh}
 
 pub record IsLawfulWorld {S E : Type 0} (kinds : Kinds S E) (plan : Plan E) (run : List (Entry E)) : Type 0 where
   -- each step is made at a partition of the cluster
@@ -45,6 +46,8 @@ pub record IsLawfulWorld {S E : Type 0} (kinds : Kinds S E) (plan : Plan E) (run
   -- what was cut off, or found no room, had no other cause
   pub clear : AreClear plan run
   pub downs : AnswerAsUp run
+  -- who began with a stable snapshot waits at no partition
+  pub waits : WaitFresh run
   -- a restart lists what was before, where a call that was cut off may have been done
   pub resumed : Resume plan run
   -- a message begins where it was asked to, or where the last one ended

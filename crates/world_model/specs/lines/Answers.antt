@@ -27,7 +27,7 @@ may_write (PrepareOf t) = true
 may_write (DecideOf t) = true
 may_write (FinishOf t) = true
 may_write (AbortOf t) = true
-may_write (TakeOf site lo hi) = true
+may_write (TakeOf number site lo hi) = true
 may_write other = false
 
 -- a value and an update bear the name of the session that began the transaction; a decide that a fault ended leaves its
@@ -43,11 +43,11 @@ IsAnswer before p (DecideOf t) (step.Decided q u c) = (q ≡ p) × (u ≡ t)
 IsAnswer before p (FinishOf t) (step.Finished q u) = (q ≡ p) × (u ≡ t)
 IsAnswer before p (AbortOf t) (step.Aborted q u) = (q ≡ p) × (u ≡ t)
 IsAnswer before p (SendTo site asked) (step.Sent number q to lo hi count) = (q ≡ p) × (to ≡ site)
-IsAnswer before p (TakeOf site lo hi) (step.Took number end) = ⊤
-IsAnswer before p (TakeOf site lo hi) (step.Gap number n) = ⊤
-IsAnswer before p (TakeOf site lo hi) (step.Dup number n) = ⊤
+IsAnswer before p (TakeOf number site lo hi) (step.Took shown end) = ⊤
+IsAnswer before p (TakeOf number site lo hi) (step.Gap shown n) = ⊤
+IsAnswer before p (TakeOf number site lo hi) (step.Dup shown n) = ⊤
 IsAnswer before p Report (step.Reported number q bounds) = q ≡ p
-IsAnswer before p (HearOf part bounds) (step.Heard number q stable) = q ≡ p
+IsAnswer before p (HearOf number part bounds) (step.Heard shown q stable) = q ≡ p
 IsAnswer before p Crash (step.Crashed q) = q ≡ p
 IsAnswer before p Restart (step.Restarted q n bounds named listed) = q ≡ p
 IsAnswer before p Open (step.MadeSession name site) = site ≡ p.site

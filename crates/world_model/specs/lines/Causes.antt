@@ -7,15 +7,14 @@ use Rattle.crdt_core.specs.declared.object.ObjectId.{ObjectId}
 use Rattle.crdt_core.specs.Kinds.{reads_state}
 use Rattle.world_model.specs.declared.step.Step.{Step}
 use Rattle.world_model.specs.declared.step.Step.TheVariants as step
-use Rattle.world_model.specs.lines.Places.{IsOther}
 use Rattle.world_model.specs.lines.Listed.{IsReadyBy, IsFirstBy}
-use Rattle.world_model.specs.lines.Lines.{Call, Begin, ReadOf, UpdateOf, PrepareOf, DecideOf, FinishOf, AbortOf, TakeOf, Restart, Line}
+use Rattle.world_model.specs.lines.Lines.{Call, Begin, ReadOf, UpdateOf, PrepareOf, DecideOf, FinishOf, AbortOf, TakeOf, Restart, Line, Wish}
 use Rattle.world_model.specs.lines.Clock.{now}
 use Rattle.world_model.specs.lines.History.{snapshot}
 use Rattle.world_model.specs.lines.Updates.{touches}
 use Rattle.world_model.specs.lines.Pending.{pending, prepare_time, is_down}
 use Rattle.world_model.specs.lines.Fate.{is_known_at}
-use Rattle.world_model.specs.lines.Bounds.{IsLeastBehind, bound, known, IsStableEntry}
+use Rattle.world_model.specs.lines.Bounds.{IsLeastBehind, AreEnough, bound, known, IsOwnStable}
 
 -- no wait is due for what reads the object
 abbrev pub IsReady : List Line → List Line → PartId → TxId → ObjectId → Type 0
@@ -41,14 +40,15 @@ PendingCause whole before p (ReadOf t o) u n = IsFirstPending whole before p t o
 PendingCause whole before p (UpdateOf t o op) u n = (reads_state o.kind ≡ true) × IsFirstPending whole before p t o u n
 PendingCause whole before p other u n = ⊥
 
--- a wait for the least other site that lags behind what the session depends on shows its stable entry
+-- a wait for the least site that lags behind what the session depends on shows its stable entry; one that reads what is stable alone
+-- waits for its own site too
 abbrev pub StableCause : ℕ → ℕ → List Line → PartId → Call → ℕ → ℕ → Type 0
-StableCause sites parts before p (Begin who dep) j n = IsLeastBehind sites parts p.site (known before p) dep j × IsStableEntry parts before p j n
+StableCause sites parts before p (Begin who wish) j n = IsLeastBehind sites parts p.site (known before p) wish.stable (IsOwnStable parts before p) wish.past j n
 StableCause sites parts before p other j n = ⊥
 
 -- no site's stable entry is below what the begin depends on: every partition is known to have come so far
-abbrev pub IsStableEnough : ℕ → ℕ → List Line → PartId → List ℕ → Type 0
-IsStableEnough sites parts before p dependency = (j q : ℕ) → IsOther sites p.site j → 1 ≤ q → q ≤ parts → entry dependency j ≤ known before p j q
+abbrev pub IsStableEnough : ℕ → ℕ → List Line → PartId → Wish → Type 0
+IsStableEnough sites parts before p wish = AreEnough sites parts p.site (known before p) wish.stable (IsOwnStable parts before p) wish.past
 
 -- the end of time, where nothing else is due, of a begin and of a prepare: the clock can show no later time
 abbrev pub TimeCause : ℕ → ℕ → List Line → List Line → PartId → Call → Type 0
@@ -71,7 +71,7 @@ NoneDue sites parts whole before p (PrepareOf t) = (entry (snapshot whole t) p.s
 NoneDue sites parts whole before p (DecideOf t) = pending before p t ≡ true
 NoneDue sites parts whole before p (FinishOf t) = is_known_at whole before p t ≡ true
 NoneDue sites parts whole before p (AbortOf t) = pending before p t ≡ true
-NoneDue sites parts whole before p (TakeOf site lo hi) = (lo ≤ bound before p site) × (bound before p site < hi)
+NoneDue sites parts whole before p (TakeOf number site lo hi) = (lo ≤ bound before p site) × (bound before p site < hi)
 NoneDue sites parts whole before p other = ⊤
 
 -- a log is never damaged that the run wrote; what each refusal, and each answer that isn't one, tells of causes

@@ -55,18 +55,18 @@ pub record IsKnownJoin (sites : ℕ) (ls : List Line) (dep : List ℕ) : Type 0 
   pub is : dep ≡ joined sites vectors
 
 abbrev pub IsOwnPast : ℕ → List Line → Call → Type 0
-IsOwnPast sites ls (Begin who dep) = dep ≡ dependency sites ls who
+IsOwnPast sites ls (Begin who dep) = dep.past ≡ dependency sites ls who
 IsOwnPast sites ls other = ⊤
 
 -- whatever answers it, a begin is handed what is known
 abbrev pub HandsKnown : ℕ → List Line → Call → Type 0
-HandsKnown sites ls (Begin who dep) = IsKnownJoin sites ls dep
+HandsKnown sites ls (Begin who dep) = IsKnownJoin sites ls dep.past
 HandsKnown sites ls other = ⊤
 
 -- a snapshot holds what its begin was handed
 abbrev pub HoldsHanded : List Line → PartId → Call → Step → Type 0
 HoldsHanded ls p call (step.Crashed q) = ⊤
-HoldsHanded ls p (Begin who dep) (step.Began name t s) = le dep s ≡ true
+HoldsHanded ls p (Begin who dep) (step.Began name t s) = le dep.past s ≡ true
 HoldsHanded ls p call other = ⊤
 
 -- each begin is handed what its session depends on, as it is where each name is one session's

@@ -1,7 +1,8 @@
 -- Where transactions are committed, and which are aborted, over the lines of a run.
-use Rattle.std.specs.Prelude.{◌≡◌, ◌⊎◌, ℕ, leb, Bool, true, false, not, ◌&&◌, ◌||◌, ◌==◌, List, ⊤}
+use Rattle.std.specs.Prelude.{◌≡◌, ◌⊎◌, ℕ, leb, Bool, true, false, not, ◌&&◌, ◌||◌, ◌==◌, List, [], ◌∷◌, ⊤}
 use Rattle.site_vector.specs.declared.ids.PartId.{PartId}
 use Rattle.site_vector.specs.declared.ids.TxId.{TxId}
+use Rattle.site_vector.specs.Ids.{same_part, same_tx}
 use Rattle.world_model.specs.declared.step.Step.{Step}
 use Rattle.world_model.specs.declared.step.Step.TheVariants as step
 use Rattle.world_model.specs.lines.Places.{twin}
@@ -35,9 +36,18 @@ pub record TellsAborted (parts : ℕ) (whole before : List Line) (t : TxId) : Ty
   pub up : is_down before (lead parts whole t) ≡ false
   pub unknown : is_known_at whole before (lead parts whole t) t ≡ false
 
+abbrev pub aborts : Step → TxId → Bool
+aborts (step.Aborted q u) t = same_tx u t
+aborts other t = false
+
+-- p aborted t
+abbrev pub was_aborted : List Line → PartId → TxId → Bool
+was_aborted [] p t = false
+was_aborted (l ∷ ls) p t = (same_part l.at p && aborts l.step t) || was_aborted ls p t
+
 -- p aborts as the lead, or on the word of a session that didn't ask to decide, or on the lead's
 abbrev pub MayAbort : ℕ → List Line → List Line → PartId → TxId → Type 0
-MayAbort parts whole before p t = (p ≡ lead parts whole t) ⊎ ((is_decide_asked before t ≡ false) ⊎ TellsAborted parts whole before t)
+MayAbort parts whole before p t = (p ≡ lead parts whole t) ⊎ ((is_decide_asked before t ≡ false) ⊎ (TellsAborted parts whole before t ⊎ (was_aborted before (lead parts whole t) t ≡ true)))
 
 -- what is aborted was pending here, and is never decided
 abbrev pub ShowsFate : ℕ → ℕ → List Line → List Line → PartId → Call → Step → Type 0

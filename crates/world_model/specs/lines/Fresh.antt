@@ -1,18 +1,22 @@
 -- Fresh snapshots and reports, over the lines of a run.
-use Rattle.std.specs.Prelude.{◌≡◌, ℕ, max, ◌==◌, if◌then◌else◌, List, ◌∷◌, length, ⊤}
+use Rattle.std.specs.Prelude.{◌≡◌, ℕ, max, ◌==◌, Bool, true, false, if◌then◌else◌, List, ◌∷◌, length, ⊤}
 use Rattle.site_vector.specs.declared.ids.PartId.{PartId}
 use Rattle.site_vector.specs.declared.ids.TxId.{TxId}
 use Rattle.site_vector.specs.Vector.{entry}
 use Rattle.world_model.specs.declared.step.Step.{Step}
 use Rattle.world_model.specs.declared.step.Step.TheVariants as step
 use Rattle.world_model.specs.lines.Places.{IsOther}
-use Rattle.world_model.specs.lines.Bounds.{IsLeast, bound, IsOwnBound, heard, IsStableEntry}
-use Rattle.world_model.specs.lines.Lines.{Call, Begin, Line}
+use Rattle.world_model.specs.lines.Bounds.{IsLeast, bound, IsOwnBound, heard, IsStableEntry, IsOwnStable}
+use Rattle.world_model.specs.lines.Lines.{Call, Begin, Line, Wish}
+
+abbrev pub OwnEntry : ℕ → List Line → PartId → Wish → ℕ → ℕ → Bool → Type 0
+OwnEntry parts ls p wish time n false = n ≡ max time (entry wish.past p.site)
+OwnEntry parts ls p wish time n true = IsOwnStable parts ls p n
 
 -- a snapshot has the stable entry of each other site, and for its own the greater of the drawn time and that of the dependency
-pub record IsSnapshot (sites parts : ℕ) (before : List Line) (p : PartId) (dependency : List ℕ) (t : TxId) (s : List ℕ) : Type 0 where
+pub record IsSnapshot (sites parts : ℕ) (before : List Line) (p : PartId) (wish : Wish) (t : TxId) (s : List ℕ) : Type 0 where
   pub width : length s ≡ sites
-  pub own : entry s p.site ≡ max t.time (entry dependency p.site)
+  pub own : OwnEntry parts before p wish t.time (entry s p.site) wish.stable
   pub others : (j : ℕ) → IsOther sites p.site j → IsStableEntry parts before p j (entry s j)
 
 -- p tells the stable entries of other sites; of its own it knows its own bound

@@ -18,8 +18,10 @@ use Rattle.world_model.specs.lines.Answers.{IsAnswer}
 use Rattle.world_model.specs.lines.Ops.{HasOp}
 use Rattle.world_model.specs.lines.Fate.{ShowsFate}
 use Rattle.world_model.specs.lines.Fresh.{IsFresh}
+use Rattle.world_model.specs.lines.Leases.{ShowsKept}
 use Rattle.world_model.specs.lines.Streams.{IsStream}
 use Rattle.world_model.specs.lines.Causes.{HasCause, AnswersAsUp}
+use Rattle.world_model.specs.lines.Waits.{WaitsFresh}
 
 -- what is decided, also where only a restart named it, was voted for by all its participants
 pub record IsAgreed (parts : ℕ) (ls : List Line) (t : TxId) : Type 0 where
@@ -32,6 +34,8 @@ pub record IsLawful (too_deep : Kind → List Field → Bool) (meaning : Kind �
   pub places : EachLine (λ before p call step. IsPlace sites parts p) ls
   pub answers : EachLine IsAnswer ls
   pub clock : FollowsClock ls
+  -- a restart begins where the clock was leased to
+  pub leases : EachLine ShowsKept ls
   pub placed : EachLine (IsPlaced parts) ls
   -- begins are handed what is known, and snapshots hold it: so each holds its session's past, where it was handed that
   pub handed : EachLine (λ before p call step. HandsKnown sites before call) ls
@@ -48,6 +52,8 @@ pub record IsLawful (too_deep : Kind → List Field → Bool) (meaning : Kind �
   pub causes : EachLine (HasCause sites parts ls) ls
   pub ops : EachLine (HasOp too_deep) ls
   pub ups : EachLine AnswersAsUp ls
+  -- who began with a stable snapshot waits at no partition
+  pub waits : EachLine WaitsFresh ls
   pub order : IsStrictOrder ls
   -- what a transaction reads from is closed
   pub closed : (t : TxId) → is_begun ls t ≡ true → IsClosed ls (visible ls (snapshot ls t))

@@ -61,3 +61,8 @@ IsOwnBoundOf now listed b = IsBoundBy now (names_pending listed) (listed_time li
 abbrev pub AreTimed : (TxId → ℕ) → List (TxId × ℕ) → Type 0
 AreTimed time [] = ⊤
 AreTimed time (x ∷ xs) = (x.1 ≡ time x.0) × AreTimed time xs
+
+-- each time is at most this
+abbrev pub AreAtMost : ℕ → List (TxId × ℕ) → Type 0
+AreAtMost n [] = ⊤
+AreAtMost n (x ∷ xs) = (x.1 ≤ n) × AreAtMost n xs

@@ -7,7 +7,7 @@ use Rattle.site_vector.specs.Ids.{same_part}
 use Rattle.site_vector.specs.Vector.{entry}
 use Rattle.world_model.specs.declared.step.Step.{Step}
 use Rattle.world_model.specs.declared.step.Step.TheVariants as step
-use Rattle.world_model.specs.lines.Listed.{is_named, names_pending, IsBefore, AreInOrder, IsOwnBoundOf, AreTimed}
+use Rattle.world_model.specs.lines.Listed.{is_named, names_pending, IsBefore, AreInOrder, IsOwnBoundOf, AreTimed, AreAtMost}
 use Rattle.world_model.specs.lines.Places.{IsOther, twin}
 use Rattle.world_model.specs.lines.Lines.{Call, TakeOf, PrepareOf, DecideOf, FinishOf, AbortOf, Restart, Line}
 use Rattle.world_model.specs.lines.Clock.{now}
@@ -22,7 +22,7 @@ brings whole p site have hi = list_any (λ t. takes_part whole t (twin site p) &
 
 abbrev pub brought_after : List Line → List Line → PartId → ℕ → ℕ → Call → Step → ℕ
 brought_after whole ls p j old call (step.Restarted q n bounds named listed) = entry bounds j
-brought_after whole ls p j old (TakeOf site lo hi) (step.Took number end) = if site == j && (leb lo (bound ls p site) && brings whole p site (bound ls p site) hi) then max hi old else old
+brought_after whole ls p j old (TakeOf number site lo hi) (step.Took shown end) = if site == j && (leb lo (bound ls p site) && brings whole p site (bound ls p site) hi) then max hi old else old
 brought_after whole ls p j old call other = old
 
 -- the greatest end of a message from site j that left no gap and brought a part, or what a later restart showed
@@ -65,13 +65,13 @@ abbrev pub with_line : PartId → Call → Step → List Line → List Line
 with_line p call shown ls = (record { at = p; call = call; step = shown }) ∷ ls
 
 -- the lines with a call at p as if it had been done, a prepare with this time; no other call changes what a restart lists, nor does
--- a decision's vector or a message's number
+-- a decision's vector
 abbrev pub with_done : Call → ℕ → PartId → List Line → List Line
 with_done (PrepareOf t) drawn p ls = with_line p (PrepareOf t) (step.Prepared p t drawn) ls
 with_done (DecideOf t) drawn p ls = with_line p (DecideOf t) (step.Decided p t []) ls
 with_done (FinishOf t) drawn p ls = with_line p (FinishOf t) (step.Finished p t) ls
 with_done (AbortOf t) drawn p ls = with_line p (AbortOf t) (step.Aborted p t) ls
-with_done (TakeOf site lo hi) drawn p ls = with_line p (TakeOf site lo hi) (step.Took 0 hi) ls
+with_done (TakeOf number site lo hi) drawn p ls = with_line p (TakeOf number site lo hi) (step.Took number hi) ls
 with_done other drawn p ls = ls
 
 -- a restart lists what was before, or what was once the call was done that a fault ended, by prepare time and id; it lists at its
@@ -79,6 +79,8 @@ with_done other drawn p ls = ls
 pub record IsResumed (sites parts : ℕ) (whole before : List Line) (p : PartId) (time : ℕ) (bounds : List ℕ) (named : Option TxId) (listed : List (TxId × ℕ)) : Type 0 where
   pub list : IsAsBefore sites whole before p bounds named listed ⊎ ((call : Call) × (drawn : ℕ) × (faulted before p ≡ Some (call, drawn)) × IsAsBefore sites whole (with_done call drawn p before) p bounds named listed)
   pub order : AreInOrder IsBefore listed
+  -- no vote is above its partition's clock
+  pub early : AreAtMost time listed
   pub width : length bounds ≡ sites
   pub own : IsOwnBoundOf time listed (entry bounds p.site)
   pub decided : (t : TxId) → in_history before t ≡ true → lead parts whole t ≡ p → names_pending listed t ≡ false

@@ -72,11 +72,11 @@ pub record IsNext (sites : ℕ) (whole before : List Line) (p : PartId) (asked :
 abbrev pub IsStream : ℕ → List Line → List Line → PartId → Call → Step → Type 0
 IsStream sites whole before p call (step.Crashed q) = ⊤
 IsStream sites whole before p (SendTo site asked) (step.Sent number q to lo hi count) = IsNext sites whole before p asked number to lo hi count
-IsStream sites whole before p (TakeOf site lo hi) (step.Took number end) = (end ≡ hi) × (lo ≤ bound before p site) × (bound before p site < hi) × IsHanded sites before p number site lo hi
-IsStream sites whole before p (TakeOf site lo hi) (step.Gap number n) = (n ≡ bound before p site) × (n < lo) × IsHanded sites before p number site lo hi
-IsStream sites whole before p (TakeOf site lo hi) (step.Dup number n) = (n ≡ bound before p site) × (lo ≤ n) × (hi ≤ n) × IsHanded sites before p number site lo hi
+IsStream sites whole before p (TakeOf number site lo hi) (step.Took shown end) = (end ≡ hi) × (lo ≤ bound before p site) × (bound before p site < hi) × IsHanded sites before p number site lo hi × (shown ≡ number)
+IsStream sites whole before p (TakeOf number site lo hi) (step.Gap shown n) = (n ≡ bound before p site) × (n < lo) × IsHanded sites before p number site lo hi × (shown ≡ number)
+IsStream sites whole before p (TakeOf number site lo hi) (step.Dup shown n) = (n ≡ bound before p site) × (lo ≤ n) × (hi ≤ n) × IsHanded sites before p number site lo hi × (shown ≡ number)
 -- whatever answers it, a take is of a message that was sent to here
-IsStream sites whole before p (TakeOf site lo hi) other = (number : ℕ) × IsHanded sites before p number site lo hi
-IsStream sites whole before p (HearOf part bounds) (step.Heard number q stable) = WasReported before (record { site = p.site; part = part }) number bounds
+IsStream sites whole before p (TakeOf number site lo hi) other = IsHanded sites before p number site lo hi
+IsStream sites whole before p (HearOf number part bounds) (step.Heard shown q stable) = WasReported before (record { site = p.site; part = part }) number bounds × (shown ≡ number)
 IsStream sites whole before p call (step.Reported number q bounds) = number ≡ report_count before p + 1
 IsStream sites whole before p call other = ⊤

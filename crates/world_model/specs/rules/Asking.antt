@@ -9,7 +9,7 @@ use Rattle.world_model.specs.rules.World.{plan_of}
 
 module _ {E : Type 0} where
   abbrev pub MayCall : ℕ → ℕ → List (Entry E) → PartId → Ask E → Type 0
-  MayCall sites parts run p (AskBegin who dep) = IsKnownJoin sites run dep
+  MayCall sites parts run p (AskBegin who dep) = IsKnownJoin sites run dep.past
   MayCall sites parts run p (AskRead t s o own) = IsAsked (plan_of sites parts run) run p t s o own
   -- an update comes before any vote
   MayCall sites parts run p (AskUpdate t s o own op) = IsAsked (plan_of sites parts run) run p t s o own × ((q : PartId) → tried run t q ≡ false)

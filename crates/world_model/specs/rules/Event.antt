@@ -10,11 +10,12 @@ use Rattle.crdt_core.specs.declared.record.Upd.{Upd}
 use Rattle.crdt_core.specs.declared.record.Part.{Part}
 use Rattle.crdt_core.specs.declared.record.Message.{Message}
 use Rattle.world_model.specs.lines.Listed.{is_named}
+use Rattle.world_model.specs.lines.Lines.{Wish}
 
 -- a call that is refused
 pub data Ask (E : Type 0) : Type 0 where
   AskTick : (clock_time : ℕ) → Ask E
-  AskBegin : (who dependency : List ℕ) → Ask E
+  AskBegin : (who : List ℕ) (wish : Wish) → Ask E
   AskRead : (tx : TxId) (s : List ℕ) (object : ObjectId) (own : List (Upd E)) → Ask E
   AskUpdate : (tx : TxId) (s : List ℕ) (object : ObjectId) (own : List (Upd E)) (op : Op) → Ask E
   AskPrepare : (tx : TxId) (s : List ℕ) (lead : ℕ) (updates : List (Upd E)) → Ask E
@@ -60,7 +61,7 @@ is_restart other = false
 pub data Event (E : Type 0) : Type 0 where
   Ticked : (clock_time now : ℕ) → Event E
   -- by a session, with what it depends on
-  Began : (who dependency : List ℕ) (tx : TxId) (s : List ℕ) → Event E
+  Began : (who : List ℕ) (wish : Wish) (tx : TxId) (s : List ℕ) → Event E
   -- with the earlier updates of the transaction, the parts that were read, in fold order, and the update that came of it
   Updated : (tx : TxId) (s : List ℕ) (object : ObjectId) (own : List (Upd E)) (op : Op) (read : List (Part E)) (change : Upd E) (stamp : Option ℕ) → Event E
   Read : (tx : TxId) (s : List ℕ) (object : ObjectId) (own : List (Upd E)) (read : List (Part E)) (value : Value) → Event E

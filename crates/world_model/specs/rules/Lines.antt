@@ -28,9 +28,9 @@ module _ {E : Type 0} where
   call_asked (AskFinish t c) = FinishOf t
   call_asked (AskAbort t) = AbortOf t
   call_asked (AskMessage site asked) = SendTo site asked
-  call_asked (AskTake number m) = TakeOf m.from m.lo m.hi
+  call_asked (AskTake number m) = TakeOf number m.from m.lo m.hi
   call_asked AskReport = Report
-  call_asked (AskHear number q b) = HearOf q b
+  call_asked (AskHear number q b) = HearOf number q b
   call_asked AskRestart = Restart
 
   abbrev pub call_done : Event E → Call
@@ -43,9 +43,9 @@ module _ {E : Type 0} where
   call_done (Finished t c) = FinishOf t
   call_done (Aborted t own) = AbortOf t
   call_done (Sent asked m) = SendTo m.to asked
-  call_done (Took number m) = TakeOf m.from m.lo m.hi
+  call_done (Took number m) = TakeOf number m.from m.lo m.hi
   call_done (Reported b) = Report
-  call_done (Heard number q b stable) = HearOf q b
+  call_done (Heard number q b stable) = HearOf number q b
   call_done Crashed = Crash
   call_done RestartCut = Restart
   call_done (Restarted n b named listed) = Restart

@@ -21,6 +21,7 @@ use Rattle.crdt_core.specs.Parts.{touches, lists, AreParts, above}
 use Rattle.world_model.specs.rules.Event.{Ask, AskBegin, AskRead, AskUpdate, AskPrepare, AskDecide, AskFinish, AskAbort, AskTake, AskTick, AskRestart, is_restart, Refusal, IsDown, ClockBehind, TxPending, StableBehind, ClockAtEnd, IsGone, HasGap, IsRepeat, IsBadOp, HasNoRoom, IsDamaged, Event, Refused, Ticked, Began, Updated, Read, Prepared, Decided, Finished, Aborted, Sent, Took, Reported, Heard, Crashed, RestartCut, Restarted, Opened, Cut}
 use Rattle.crdt_core.specs.Fitting.{unfit}
 use Rattle.world_model.specs.lines.Places.{IsOther}
+use Rattle.world_model.specs.lines.Lines.{Wish}
 use Rattle.world_model.specs.lines.Listed.{names_pending}
 
 -- all else is told by the log. While it is up, `torn` is empty; while it is down, a restart finds what `MayFind` says of both
@@ -69,15 +70,27 @@ module _ {E : Type 0} where
     pub own : IsOwnBound now log (entry b id.site)
     pub others : (j : ℕ) → IsOther sites id.site j → entry b j ≡ entry bounds j
 
+  -- what is stable of the own site: the least of the own bound and of what was heard of the others
+  pub record IsOwnStable (parts : ℕ) (id : PartId) (p : PartState E) (n : ℕ) : Type 0 where
+    pub bound : ℕ
+    pub own : IsOwnBound p.now p.log bound
+    pub most : n ≤ bound
+    pub least : n ≡ lowest (λ q. if id.part == q then bound else entry (vector_of p.heard q) id.site) parts
+
+  -- the own entry of a snapshot: a present one, or where it is to be stable what is stable, as its session's past is too
+  abbrev pub OwnEntry : ℕ → PartId → PartState E → Wish → ℕ → ℕ → Bool → Type 0
+  OwnEntry parts id p wish time n false = n ≡ max time (entry wish.past id.site)
+  OwnEntry parts id p wish time n true = IsOwnStable parts id p n × (entry wish.past id.site ≤ n)
+
   -- a begin draws its id; its snapshot has the stable entries, which its session's past doesn't exceed, and a present own entry
-  pub record IsBegin (sites parts : ℕ) (id : PartId) (p : PartState E) (dependency : List ℕ) (t : TxId) (s : List ℕ) : Type 0 where
+  pub record IsBegin (sites parts : ℕ) (id : PartId) (p : PartState E) (wish : Wish) (t : TxId) (s : List ℕ) : Type 0 where
     pub early : p.now < end_of_time
     pub named : t ≡ record { site = id.site; part = id.part; time = p.now + 1 }
-    pub handed : length dependency ≡ sites
+    pub handed : length wish.past ≡ sites
     pub width : length s ≡ sites
-    pub own : entry s id.site ≡ max t.time (entry dependency id.site)
+    pub own : OwnEntry parts id p wish t.time (entry s id.site) wish.stable
     pub stable : (j : ℕ) → IsOther sites id.site j → entry s j ≡ stable_entry parts id p j
-    pub waited : (j : ℕ) → IsOther sites id.site j → entry dependency j ≤ entry s j
+    pub waited : (j : ℕ) → IsOther sites id.site j → entry wish.past j ≤ entry s j
 
   -- no wait is due for a read of the object under s
   pub record IsReady (id : PartId) (p : PartState E) (s : List ℕ) (o : ObjectId) : Type 0 where
@@ -190,16 +203,24 @@ module _ {E : Type 0} where
   AreTimed log [] = ⊤
   AreTimed log (x ∷ xs) = (x.1 ≡ prepare_time log x.0) × AreTimed log xs
 
-  -- the least other site whose stable entry is below what the session depends on
-  pub record IsStableBehind (sites parts : ℕ) (id : PartId) (p : PartState E) (dependency : List ℕ) (j n : ℕ) : Type 0 where
-    pub other : IsOther sites id.site j
-    pub have : n ≡ stable_entry parts id p j
-    pub behind : n < entry dependency j
-    pub least : (i : ℕ) → IsOther sites id.site i → stable_entry parts id p i < entry dependency i → j ≤ i
+  -- so much is stable of a site that a begin asks about: another one, and where it is to read what is stable alone the own one too
+  abbrev pub IsStableOf : ℕ → ℕ → PartId → PartState E → Wish → ℕ → ℕ → Type 0
+  IsStableOf sites parts id p wish j n = (IsOther sites id.site j × (n ≡ stable_entry parts id p j)) ⊎ ((wish.stable ≡ true) × (j ≡ id.site) × IsOwnStable parts id p n)
 
-  -- no site's stable entry is
-  abbrev pub IsStableEnough : ℕ → ℕ → PartId → PartState E → List ℕ → Type 0
-  IsStableEnough sites parts id p dependency = (j : ℕ) → IsOther sites id.site j → entry dependency j ≤ stable_entry parts id p j
+  -- where the own site is asked about, as much of it is stable as the session depends on
+  abbrev pub IsOwnEnough : ℕ → PartId → PartState E → Wish → Type 0
+  IsOwnEnough parts id p wish = wish.stable ≡ true → (n : ℕ) × IsOwnStable parts id p n × (entry wish.past id.site ≤ n)
+
+  -- the least site that is asked about whose stable entry is below what the session depends on
+  pub record IsStableBehind (sites parts : ℕ) (id : PartId) (p : PartState E) (wish : Wish) (j n : ℕ) : Type 0 where
+    pub have : IsStableOf sites parts id p wish j n
+    pub behind : n < entry wish.past j
+    pub least : (i : ℕ) → IsOther sites id.site i → stable_entry parts id p i < entry wish.past i → j ≤ i
+    pub own : id.site < j → IsOwnEnough parts id p wish
+
+  -- no such site's stable entry is
+  abbrev pub IsStableEnough : ℕ → ℕ → PartId → PartState E → Wish → Type 0
+  IsStableEnough sites parts id p wish = ((j : ℕ) → IsOther sites id.site j → entry wish.past j ≤ stable_entry parts id p j) × IsOwnEnough parts id p wish
 
   -- the first pending transaction, by prepare time and id, that changes the object and may belong to the snapshot
   pub record IsTxPending (id : PartId) (p : PartState E) (s : List ℕ) (o : ObjectId) (u : TxId) (n : ℕ) : Type 0 where

@@ -9,11 +9,12 @@ use Rattle.crdt_core.specs.declared.record.Upd.{Upd}
 use Rattle.crdt_core.specs.declared.record.Message.{Message}
 use Rattle.crdt_core.specs.Objects.{same_object}
 use Rattle.crdt_core.specs.Placing.{place_of}
-use Rattle.world_model.specs.rules.Event.{Ask, AskBegin, AskRead, AskUpdate, AskPrepare, AskDecide, AskFinish, AskTake, Refused, Event, Began, Updated, Read, Prepared, Decided, Finished, Aborted, Sent, Took, Reported, Heard, Entry, attempt, tried, voted, decide_tried, gave_up, is_decided, time_of, WasShown, sent_count, report_count, WasNumbered}
+use Rattle.world_model.specs.rules.Event.{Ask, AskBegin, AskRead, AskUpdate, AskPrepare, AskDecide, AskFinish, AskTake, Refused, Event, Began, Updated, Read, Prepared, Decided, Finished, Aborted, Sent, Took, Reported, Heard, Entry, attempt, tried, voted, decide_tried, gave_up, was_aborted, is_decided, time_of, WasShown, sent_count, report_count, WasNumbered}
 use Rattle.world_model.specs.rules.Dependency.{IsKnownJoin}
 use Rattle.crdt_core.specs.KindsOf.{Kinds, fits_kind}
 use Rattle.world_model.specs.rules.Partition.{PartState, ToldAborted, fate_of, PartStep}
 use Rattle.world_model.specs.lines.Places.{IsOther, IsPlace, twin, home}
+use Rattle.world_model.specs.lines.Lines.{Wish}
 
 abbrev pub is_some_update : {E : Type 0} → List (Upd E) → Bool
 is_some_update [] = false
@@ -71,7 +72,7 @@ module _ {E : Type 0} where
   pub record IsAsked (plan : Plan E) (run : List (Entry E)) (p : PartId) (t : TxId) (s : List ℕ) (o : ObjectId) (own : List (Upd E)) : Type 0 where
     pub site : p.site ≡ t.site
     pub who : List ℕ
-    pub dependency : List ℕ
+    pub dependency : Wish
     pub begun : WasShown run (home t) (Began who dependency t s)
     pub place : place_of o.bucket o.key plan.parts ≡ p.part
     pub earlier : own ≡ filter (λ u. same_object u.object o) (updates_at run t p)
@@ -99,10 +100,10 @@ module _ {E : Type 0} where
     pub decided : is_decided run t ≡ true
     pub vector : c ≡ commit_vector plan run t
 
-  -- a session aborts unless it asked to decide; else the lead aborts, or others on its word
+  -- a session aborts unless it asked to decide; else the lead aborts, or others on its word, as it is told or as it was shown
   abbrev pub MayAbort : Plan E → List (Entry E) → (PartId → PartState E) → PartId → TxId → Bool → Type 0
   MayAbort plan run parts p t true = decide_tried run t ≡ false
-  MayAbort plan run parts p t false = (p ≡ plan.lead t) ⊎ TellsAborted (parts (plan.lead t)) t
+  MayAbort plan run parts p t false = (p ≡ plan.lead t) ⊎ (TellsAborted (parts (plan.lead t)) t ⊎ (was_aborted run t (plan.lead t) ≡ true))
 
   -- a message is taken that was sent to here, as the one with this number among its sender's
   pub record MayTake (plan : Plan E) (run : List (Entry E)) (p : PartId) (number : ℕ) (m : Message E) : Type 0 where
@@ -122,12 +123,12 @@ module _ {E : Type 0} where
   pub record IsSession (run : List (Entry E)) (p : PartId) (t : TxId) (s : List ℕ) : Type 0 where
     pub site : p.site ≡ t.site
     pub who : List ℕ
-    pub dependency : List ℕ
+    pub dependency : Wish
     pub begun : WasShown run (home t) (Began who dependency t s)
 
   -- who asks for what is refused, and where: at the place of the object, or at a participant; a transaction is decided at its own site
   abbrev pub MayAsk : Plan E → List (Entry E) → PartId → Ask E → Type 0
-  MayAsk plan run p (AskBegin who dep) = IsKnownJoin plan.sites run dep
+  MayAsk plan run p (AskBegin who dep) = IsKnownJoin plan.sites run dep.past
   MayAsk plan run p (AskRead t s o own) = IsSession run p t s × (place_of o.bucket o.key plan.parts ≡ p.part)
   MayAsk plan run p (AskUpdate t s o own op) = IsSession run p t s × (place_of o.bucket o.key plan.parts ≡ p.part)
   MayAsk plan run p (AskPrepare t s l w) = IsSession run p t s × (takes_part plan t p ≡ true)
@@ -138,7 +139,7 @@ module _ {E : Type 0} where
 
   -- what sessions hold, the lead tells, and messages and reports bring
   abbrev pub IsAllowed : Plan E → List (Entry E) → (PartId → PartState E) → PartId → Event E → Type 0
-  IsAllowed plan run parts at (Began who dep t s) = IsKnownJoin plan.sites run dep
+  IsAllowed plan run parts at (Began who dep t s) = IsKnownJoin plan.sites run dep.past
   IsAllowed plan run parts at (Updated t s o own op read u stamp) = IsAsked plan run at t s o own
   IsAllowed plan run parts at (Read t s o own read value) = IsAsked plan run at t s o own
   IsAllowed plan run parts at (Prepared t s l w n) = MayPrepare plan run at t s l w

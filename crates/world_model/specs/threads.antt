@@ -1,0 +1,14 @@
+pub mod Calls
+pub mod Marks
+pub mod Merging
+pub mod Callers
+pub mod Allowed
+pub mod AreTraces
+pub mod Orders
+pub mod Merged
+pub mod Views
+pub mod Steps
+pub mod Grows
+pub mod GoesOn
+pub mod Joins
+pub mod OneCall
