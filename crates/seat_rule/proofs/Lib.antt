@@ -1,0 +1,12 @@
+pub mod Lists
+pub mod Fronts
+pub mod Seating
+pub mod Looking
+pub mod Appending
+pub mod Splitting
+pub mod Joining
+pub mod Drawing
+pub mod Opening
+pub mod Turning
+pub mod Parting
+pub mod Adding

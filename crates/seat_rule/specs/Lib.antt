@@ -1,0 +1,6 @@
+pub mod Lists
+pub mod Views
+pub mod Notes
+pub mod Laws
+pub mod Kept
+pub mod world
