@@ -1,0 +1,3 @@
+pub mod Frames
+pub mod Pieces
+pub mod Cut
