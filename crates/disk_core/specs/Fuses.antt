@@ -1,6 +1,6 @@
 -- What contracts tell of a disk with a fuse.
 use Rattle.std.proofs.Common.{arith}
-use Rattle.std.specs.Prelude.{◌≡◌, ◌≢◌, ℕ, ◌+◌, ◌-◌, ◌^◌, ◌≤◌, min, Option, Some, Result, OnErr, IsErr}
+use Rattle.std.specs.Prelude.{◌≡◌, ◌≢◌, ℕ, ◌+◌, ◌-◌, ◌^◌, ◌≤◌, min, ◌&&◌, Option, None, Some, is_none, Result, OnErr, IsErr}
 use Rattle.disk_core.specs.States.{DiskState, fewer, Rose}
 use Rattle.disk_core.specs.declared.fused.Fused.{Fused}
 
@@ -24,8 +24,14 @@ fused_state state fused = let disk = state fused.disk in record {
   room = disk.room;
   faults = min (disk.faults + fused.faults) (2 ^ 64 - 1);
   left = fused.left;
+  keep = fused.keep;
   starved = disk.starved;
+  sound = disk.sound && is_none disk.left;
 }
+
+-- The state of the disk inside, with a fuse that isn't armed. It is sound where that is, and tells of no fuse by itself.
+abbrev pub unarmed : DiskState → DiskState
+unarmed disk = record disk { left = None; keep = 0; sound = disk.sound && is_none disk.left }
 
 -- What the fuse does at a call: it counts down, and makes the call fail at its end and from then on. Every other call fails only where the disk inside does.
 pub record BurnsDown {D T E : Type 0} (state : D → DiskState) (result : Result T E) (old new : Fused D) : Type 0 where

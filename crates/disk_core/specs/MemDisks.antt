@@ -2,13 +2,13 @@
 use Rattle.std.specs.Prelude.{◌≡◌, ℕ, Bool, true, false, List, [], None, Result, is_err, if◌then◌else◌, refl}
 use Rattle.disk_core.specs.Images.{settled}
 use Rattle.disk_core.specs.States.{DiskState, ReadsAnImage}
-use Rattle.disk_core.specs.Counts.{counted, is_listed}
+use Rattle.disk_core.specs.Counts.{counted, is_listed, is_empty}
 use Rattle.disk_core.specs.Mediums.{story_of}
 use Rattle.disk_core.specs.declared.memory.MemDisk.{MemDisk}
 
--- It tells what it holds, and no calls left.
+-- It tells what it holds, and no calls left. It is sound where no calls are listed that are to fail.
 abbrev pub mem_state : MemDisk → DiskState
-mem_state disk = record { tells = true; story = story_of disk.medium; room = disk.room; faults = disk.calls.failed; left = None; starved = disk.starved }
+mem_state disk = record { tells = true; story = story_of disk.medium; room = disk.room; faults = disk.calls.failed; left = None; keep = 0; starved = disk.starved; sound = is_empty disk.calls.failing.items }
 
 -- how many calls were made
 abbrev pub calls_made : MemDisk → ℕ
@@ -30,7 +30,7 @@ pub record CountsCall {T E : Type 0} (result : Result T E) (old new : MemDisk) :
 
 -- a disk that was just made of these bytes: no call failed, or is to fail
 pub record IsFresh (room : ℕ) (bytes : List ℕ) (disk : MemDisk) : Type 0 where
-  pub state : mem_state disk ≡ record { tells = true; story = record { now = settled bytes; past = [] }; room = room; faults = 0; left = None; starved = false }
+  pub state : mem_state disk ≡ record { tells = true; story = record { now = settled bytes; past = [] }; room = room; faults = 0; left = None; keep = 0; starved = false; sound = true }
   pub made : calls_made disk ≡ 0
   pub failing : calls_to_fail disk ≡ []
 

@@ -17,8 +17,12 @@ pub record DiskState : Type 0 where
   pub faults : ℕ
   -- how many calls are left, up to and with the one that is to fail, where it tells that
   pub left : Option ℕ
+  -- how many bytes are kept of that one where it is a write, where it tells that
+  pub keep : ℕ
   -- whether a call failed because it found no memory to grow
   pub starved : Bool
+  -- whether it fails only where it finds no memory to grow, or by a fuse
+  pub sound : Bool
 
 -- so many calls fewer
 abbrev pub fewer : ℕ → Option ℕ → Option ℕ
@@ -33,16 +37,23 @@ Spared k (Some n) = k ≤ n - 1
 abbrev pub Rose : ℕ → ℕ → Type 0
 Rose before now = min (before + 1) (2 ^ 64 - 1) ≤ now
 
+-- A call of it failed: the count rose, and a sound one found no memory to grow, or its fuse fires or has fired.
+pub record Fails (old new : DiskState) : Type 0 where
+  pub rose : Rose old.faults new.faults
+  pub cause : IsTrue old.sound → IsTrue new.starved ⊎ (new.left ≡ Some 0)
+
 -- What holds after every call of the device.
 pub record Called {T E : Type 0} (result : Result T E) (old new : DiskState) : Type 0 where
   pub tells : new.tells ≡ old.tells
   pub room : new.room ≡ old.room
   pub left : new.left ≡ fewer 1 old.left
+  pub keep : new.keep ≡ old.keep
+  pub sound : new.sound ≡ old.sound
   -- the one that is to fail does, and so does each after it
   pub spared : OnOk result (Spared 1 old.left)
   -- it fails only where the count rises, which never falls, and counts no fault where it doesn't fail
   pub later : old.faults ≤ new.faults
-  pub failed : OnErr result (Rose old.faults new.faults)
+  pub failed : OnErr result (Fails old new)
   pub quiet : OnOk result (new.faults ≡ old.faults)
   -- only a call that fails may starve it, and it stays so
   pub fed : OnOk result (new.starved ≡ old.starved)
@@ -52,6 +63,7 @@ pub record Called {T E : Type 0} (result : Result T E) (old new : DiskState) : T
 pub record GoesOn (old new : DiskState) : Type 0 where
   pub tells : new.tells ≡ old.tells
   pub room : new.room ≡ old.room
+  pub sound : new.sound ≡ old.sound
   pub later : old.faults ≤ new.faults
   pub starved : IsTrue old.starved → IsTrue new.starved
 

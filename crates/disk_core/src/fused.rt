@@ -1,5 +1,5 @@
 // A disk that fails at a call that is picked, and from then on.
-ghost use Rattle.std.specs.Prelude.{◌≡◌, ◌≤◌, ◌+◌, ◌-◌, ◌^◌, ◌++◌, ◌↔◌, ◌≢◌, length, take, drop, min, Some, None, IsTrue, IfOk, OnOk, OnErr};
+ghost use Rattle.std.specs.Prelude.{◌≡◌, ◌≤◌, ◌+◌, ◌-◌, ◌^◌, ◌++◌, ◌↔◌, ◌≢◌, length, take, drop, min, Some, None, is_none, IsTrue, IfOk, OnOk, OnErr};
 ghost use Rattle.disk_core.specs.States.{DiskState, Called, GoesOn, IsWithin, Rests, Writes, Cuts, Syncs, MayTear, Rose, bytes_of};
 ghost use Rattle.disk_core.specs.Burns.{WritesOrFails};
 
@@ -11,6 +11,7 @@ fn write_front<D: Disk>(disk: &mut D, keep: u64, at: u64, bytes: &[u8])
     requires place { IsWithin at (D.state disk.old) }
     requires room { at + length bytes.now ≤ (D.state disk.old).room }
     ensures goes_on { GoesOn (D.state disk.old) (D.state disk.new) }
+    ensures left { is_none (D.state disk.new).left ≡ is_none (D.state disk.old).left }
     ensures front { WritesOrFails at (take keep bytes.now) (D.state disk.old) (D.state disk.new) }
 {
     let count = keep.min(bytes.len() as u64) as usize;
@@ -29,6 +30,7 @@ fn write_front_of_pieces<D: Disk>(
     requires place { IsWithin at (D.state disk.old) }
     requires room { at + (length front.now + length middle.now + length back.now) ≤ (D.state disk.old).room }
     ensures goes_on { GoesOn (D.state disk.old) (D.state disk.new) }
+    ensures left { is_none (D.state disk.new).left ≡ is_none (D.state disk.old).left }
     ensures front { WritesOrFails at (take keep
         (front.now ++ middle.now ++ back.now)) (D.state disk.old) (D.state disk.new) }
 {
@@ -57,12 +59,12 @@ pub struct Fused<D: Disk + Drop> {
 }
 
 impl<D: Disk + Drop> Fused<D> {
-    ghost use Rattle.disk_core.specs.Fuses.{inside, calls_left, cut_length, fused_state};
+    ghost use Rattle.disk_core.specs.Fuses.{inside, calls_left, cut_length, fused_state, unarmed};
 
     /// The disk with a fuse that isn't armed.
     pub fn new(disk: D) -> Self
         ensures inside { inside result ≡ disk }
-        ensures state { fused_state D.state result ≡ record (D.state disk) { left = None } }
+        ensures state { fused_state D.state result ≡ unarmed (D.state disk) }
     {
         Fused {
             disk,
@@ -77,7 +79,7 @@ impl<D: Disk + Drop> Fused<D> {
     pub fn arm(&mut self, k: u64, keep: u64)
         ensures inside { inside self.new ≡ inside self.old }
         ensures keep { cut_length self.new ≡ keep }
-        ensures state { fused_state D.state self.new ≡ record (fused_state D.state self.old) { left = Some k } }
+        ensures state { fused_state D.state self.new ≡ record (fused_state D.state self.old) { left = Some k; keep = keep } }
     {
         self.left = Some(k);
         self.keep = keep;

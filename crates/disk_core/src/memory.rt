@@ -23,6 +23,7 @@ pub struct MemDisk {
 }
 
 impl MemDisk {
+    ghost use Rattle.disk_core.specs.Counts.{is_empty};
     ghost use Rattle.disk_core.specs.MemDisks.{mem_state, calls_made, calls_to_fail, IsFresh};
 
     /// An empty disk of this room, which is at most 2^31. Takes no memory.
@@ -73,7 +74,7 @@ impl MemDisk {
         ensures listed { OnOk result (calls_to_fail self.new ≡ calls.now) }
         ensures unlisted { OnErr result (calls_to_fail self.new ≡ calls_to_fail self.old) }
         ensures made { calls_made self.new ≡ calls_made self.old }
-        ensures state { mem_state self.new ≡ mem_state self.old }
+        ensures state { mem_state self.new ≡ record (mem_state self.old) { sound = is_empty (calls_to_fail self.new) } }
     {
         self.calls.list(calls)
     }

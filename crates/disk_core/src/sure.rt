@@ -29,7 +29,7 @@ impl SureDisk {
     pub fn new(alloc: Global, room: u64) -> Result<SureDisk, AllocError>
         requires { room ≤ 2 ^ 31 }
         ensures { IfOk result (λ disk. sure_state disk
-            ≡ record { tells = true; story = record { now = settled []; past = [] }; room = room; faults = 0; left = None; starved = false }) }
+            ≡ record { tells = true; story = record { now = settled []; past = [] }; room = room; faults = 0; left = None; keep = 0; starved = false; sound = true }) }
     {
         let bytes = Vec::with_capacity(alloc, room as usize)?;
         Ok(SureDisk {

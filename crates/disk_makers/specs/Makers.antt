@@ -1,7 +1,7 @@
 -- What a maker of disks is, and how its calls change it.
-use Rattle.std.specs.Prelude.{◌≡◌, ℕ, ◌+◌, ◌≤◌, Bool, false, List, [], ◌∷◌, ◌++◌, IsTrue, Result, Err, IfOk, OnOk, OnErr}
+use Rattle.std.specs.Prelude.{◌≡◌, ℕ, ◌+◌, ◌≤◌, Bool, true, false, List, [], ◌∷◌, ◌++◌, Option, None, IsTrue, Result, Err, IfOk, OnOk, OnErr}
 use Rattle.disk_core.specs.States.{DiskState, Rose}
-use Rattle.gate_log.specs.Rest.{AtRest}
+use Rattle.gate_log.specs.Rest.{IsEmptyLog}
 use Rattle.site_vector.specs.declared.ids.PartId.{PartId}
 use Rattle.disk_makers.specs.declared.error.MakeFault.{MakeFault}
 use Rattle.disk_makers.specs.declared.error.MakeFault.TheVariants.{Failed}
@@ -18,9 +18,9 @@ pub record Maker (D : Type 0) : Type 0 where
 
 -- A disk as it is made: it tells what it holds, which is a log without a record, and all of it is durable.
 pub record IsMade (disk : DiskState) : Type 0 where
-  pub log : AtRest disk 8 []
+  pub log : IsEmptyLog disk
   pub roomy : 64 ≤ disk.room
-  pub sound : disk.faults ≡ 0
+  pub unfailed : disk.faults ≡ 0
   pub fed : disk.starved ≡ false
 
 -- What holds after a call that makes a disk.
@@ -42,6 +42,19 @@ pub record TakesBack {D : Type 0} (part : PartId) (disk : D) (old new : Maker D)
   pub tells : new.tells ≡ old.tells
   pub given : IsTrue old.tells → new.given ≡ old.given ++ (part, disk) ∷ []
 
--- A maker that fails at no call stays so, and nothing fails by it.
-abbrev pub StaysSure : {M : Type 0} → (M → Type 0) → Type 0 → M → M → Type 0
-StaysSure sure failed old new = sure old → sure new × (failed → ⊥)
+-- A maker that makes all disks goes on so, and none fails to be made.
+abbrev pub MakesAll : {M : Type 0} → (M → Type 0) → Type 0 → M → M → Type 0
+MakesAll makes_all failed old new = makes_all old → makes_all new × (failed → ⊥)
+
+-- It fails only where it finds no memory to grow: it is sound, and tells of no fuse.
+pub record IsSound (disk : DiskState) : Type 0 where
+  pub sound : disk.sound ≡ true
+  pub unfused : disk.left ≡ None
+
+-- A maker of sound disks goes on so, and made a sound one.
+abbrev pub MakesSound : {M D : Type 0} → (M → Type 0) → (D → DiskState) → Result D MakeFault → M → M → Type 0
+MakesSound sound state result old new = sound old → sound new × IfOk result (λ disk. IsSound (state disk))
+
+-- what was kept in a folder stays so
+abbrev pub KeepsOn : {M : Type 0} → (M → List ℕ → Type 0) → M → M → Type 0
+KeepsOn keeps_in old new = (folder : List ℕ) → keeps_in old folder → keeps_in new folder

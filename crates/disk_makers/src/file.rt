@@ -1,5 +1,5 @@
 // A disk that is kept in a file.
-ghost use Rattle.std.specs.Prelude.{◌≡◌, ◌≤◌, ◌+◌, ◌++◌, ◌^◌, [], Some, is_some, length, take, drop, IsTrue, IfOk, OnOk, OnErr};
+ghost use Rattle.std.specs.Prelude.{◌≡◌, ◌≤◌, ◌+◌, ◌++◌, ◌^◌, [], ◌==◌, true, false, Some, is_none, is_some, length, take, drop, IsTrue, IsOk, IfOk, OnOk, OnErr};
 ghost use Rattle.disk_core.specs.Counts.{counted};
 ghost use Rattle.disk_core.specs.Images.{Content, after_write, after_cut, after_sync, settled};
 ghost use Rattle.disk_core.specs.States.{Called, IsWithin, Rests, Writes, Cuts, Syncs, MayTear, bytes_of};
@@ -28,7 +28,7 @@ impl<F: BackingFile + Drop> FileDisk<F> {
     pub fn new(alloc: Global, room: u64, file: Option<F>) -> Self
         requires room { room ≤ 2 ^ 31 }
         requires empty { (it : F) (content : Content) → file ≡ Some it → F.held it ≡ Some content → content ≡ settled [] }
-        ensures state { file_state result ≡ fresh_state room }
+        ensures state { file_state result ≡ fresh_state room (is_none file) }
         ensures kept { is_in_file result ≡ is_some file }
         ensures mirrored { IsMirrored F.held result }
     {
@@ -41,7 +41,7 @@ impl<F: BackingFile + Drop> FileDisk<F> {
 }
 
 impl<F: BackingFile + Drop> Disk for FileDisk<F> {
-    ghost use Rattle.disk_makers.specs.FileDisks.{file_state, file_faults_fit, file_room_fits, file_reads_an_image, IsMirrored};
+    ghost use Rattle.disk_makers.specs.FileDisks.{file_state, file_faults_fit, file_room_fits, file_reads_an_image, has_failed, IsMirrored, StaysFailed};
 
     ghost state = { file_state };
 
@@ -62,6 +62,7 @@ impl<F: BackingFile + Drop> Disk for FileDisk<F> {
             → n ≡ length (bytes_of (file_state self.old))) }
         ensures short { IfOk result (λ n. n ≤ (file_state self.old).room) }
         ensures mirrored { IsMirrored F.held self.old → IsMirrored F.held self.new }
+        ensures failed { has_failed self.old → StaysFailed result self.old self.new }
     {
         go_on(&mut self.faults)?;
         self.memory.len()
@@ -74,6 +75,7 @@ impl<F: BackingFile + Drop> Disk for FileDisk<F> {
         ensures bytes { OnOk result (IsTrue (file_state self.old).tells
             → buf.new ≡ take (length buf.old) (drop at (bytes_of (file_state self.old)))) }
         ensures mirrored { IsMirrored F.held self.old → IsMirrored F.held self.new }
+        ensures failed { has_failed self.old → StaysFailed result self.old self.new }
     {
         go_on(&mut self.faults)?;
         self.memory.read(at, buf)
@@ -86,6 +88,7 @@ impl<F: BackingFile + Drop> Disk for FileDisk<F> {
         ensures written { OnOk result (Writes at bytes.now (file_state self.old) (file_state self.new)) }
         ensures torn { OnErr result (MayTear at (length bytes.now) (file_state self.old) (file_state self.new)) }
         ensures mirrored { IsMirrored F.held self.old → IsMirrored F.held self.new }
+        ensures failed { has_failed self.old → StaysFailed result self.old self.new }
     {
         self.write_pieces(at, bytes, &[], &[])
     }
@@ -105,6 +108,7 @@ impl<F: BackingFile + Drop> Disk for FileDisk<F> {
         ensures torn { OnErr result (MayTear at (length
             (front.now ++ middle.now ++ back.now)) (file_state self.old) (file_state self.new)) }
         ensures mirrored { IsMirrored F.held self.old → IsMirrored F.held self.new }
+        ensures failed { has_failed self.old → StaysFailed result self.old self.new }
     {
         go_on(&mut self.faults)?;
         let answer = write_to(&mut self.file, at, front, middle, back);
@@ -119,6 +123,7 @@ impl<F: BackingFile + Drop> Disk for FileDisk<F> {
         ensures cut { OnOk result (Cuts len (file_state self.old) (file_state self.new)) }
         ensures rests { OnErr result (Rests (file_state self.old) (file_state self.new)) }
         ensures mirrored { IsMirrored F.held self.old → IsMirrored F.held self.new }
+        ensures failed { has_failed self.old → StaysFailed result self.old self.new }
     {
         go_on(&mut self.faults)?;
         let answer = cut_in(&mut self.file, len);
@@ -132,6 +137,7 @@ impl<F: BackingFile + Drop> Disk for FileDisk<F> {
         ensures durable { OnOk result (Syncs (file_state self.old) (file_state self.new)) }
         ensures rests { OnErr result (Rests (file_state self.old) (file_state self.new)) }
         ensures mirrored { IsMirrored F.held self.old → IsMirrored F.held self.new }
+        ensures failed { has_failed self.old → StaysFailed result self.old self.new }
     {
         go_on(&mut self.faults)?;
         let answer = sync_in(&mut self.file);
@@ -148,6 +154,7 @@ impl<F: BackingFile + Drop> Disk for FileDisk<F> {
 /// Fails, and counts that, where a call has failed at the file before.
 fn go_on(faults: &mut u64) -> Result<(), Failed>
     ensures ok { OnOk result (faults.old ≡ 0) }
+    ensures some { OnErr result (((faults.old == 0) ≡ false) × ((faults.new == 0) ≡ false)) }
     ensures same { OnOk result (faults.new ≡ faults.old) }
     ensures failed { OnErr result (faults.new ≡ counted faults.old) }
 {
@@ -179,7 +186,9 @@ fn write_to<F: BackingFile>(
     middle: &[u8],
     back: &[u8],
 ) -> Result<(), Failed>
-    ensures { OnOk result (ReachesFile F.held (after_write at (front.now ++ middle.now ++ back.now)) file.old file.new) }
+    ensures reaches { OnOk result (ReachesFile F.held (after_write at (front.now ++ middle.now ++ back.now)) file.old file.new) }
+    ensures in_memory { is_none file.old ≡ true → IsOk result }
+    ensures in_file { is_none file.new ≡ is_none file.old }
 {
     match file {
         Some(file) => file.write_pieces(at, front, middle, back),
@@ -188,7 +197,9 @@ fn write_to<F: BackingFile>(
 }
 
 fn cut_in<F: BackingFile>(file: &mut Option<F>, len: u64) -> Result<(), Failed>
-    ensures { OnOk result (ReachesFile F.held (after_cut len) file.old file.new) }
+    ensures reaches { OnOk result (ReachesFile F.held (after_cut len) file.old file.new) }
+    ensures in_memory { is_none file.old ≡ true → IsOk result }
+    ensures in_file { is_none file.new ≡ is_none file.old }
 {
     match file {
         Some(file) => file.cut(len),
@@ -197,7 +208,9 @@ fn cut_in<F: BackingFile>(file: &mut Option<F>, len: u64) -> Result<(), Failed>
 }
 
 fn sync_in<F: BackingFile>(file: &mut Option<F>) -> Result<(), Failed>
-    ensures { OnOk result (ReachesFile F.held after_sync file.old file.new) }
+    ensures reaches { OnOk result (ReachesFile F.held after_sync file.old file.new) }
+    ensures in_memory { is_none file.old ≡ true → IsOk result }
+    ensures in_file { is_none file.new ≡ is_none file.old }
 {
     match file {
         Some(file) => file.sync(),

@@ -1,7 +1,7 @@
 // A maker of disks in memory.
 ghost use Rattle.std.specs.Prelude.{◌≡◌, ◌≤◌, ◌+◌, ◌^◌, [], true, vec_len, vec_capacity, IfOk, OnOk, OnErr};
 ghost use Rattle.disk_core.specs.MemDisks.{mem_state, calls_to_fail};
-ghost use Rattle.disk_makers.specs.Makers.{IsMade};
+ghost use Rattle.disk_makers.specs.Makers.{IsMade, IsSound};
 
 use crate::{Disks, MakeFault};
 use disk_core::{Calls, MemDisk};
@@ -32,6 +32,7 @@ pub(crate) fn formatted(alloc: Global, room: u64, calls: &[u64]) -> Result<MemDi
     ensures made { IfOk result (λ disk. IsMade (mem_state disk)) }
     ensures room { IfOk result (λ disk. (mem_state disk).room ≡ room) }
     ensures listed { IfOk result (λ disk. calls_to_fail disk ≡ calls.now) }
+    ensures sound { IfOk result (λ disk. calls.now ≡ [] → IsSound (mem_state disk)) }
 {
     let mut disk = MemDisk::new(alloc, room);
     // Such a disk fails only where it finds no memory to grow.
@@ -108,14 +109,16 @@ impl MemDisks {
 }
 
 impl Disks for MemDisks {
-    ghost use Rattle.disk_makers.specs.Makers.{Makes, StaysSure, TakesBack};
-    ghost use Rattle.disk_makers.specs.MemMakers.{mem_maker, makes_begun, makes_to_fail, CountsMake, IsSameMaker};
+    ghost use Rattle.disk_makers.specs.Makers.{Makes, MakesAll, MakesSound, TakesBack};
+    ghost use Rattle.disk_makers.specs.MemMakers.{mem_maker, makes_begun, makes_to_fail, disk_calls_to_fail, CountsMake, IsSameMaker};
 
     type Disk = MemDisk;
 
     ghost state = { mem_maker };
 
-    ghost sure = { λ maker. makes_to_fail maker ≡ [] };
+    ghost makes_all = { λ maker. makes_to_fail maker ≡ [] };
+
+    ghost sound = { λ maker. disk_calls_to_fail maker ≡ [] };
 
     ghost keeps_in = { λ maker folder. Unit {0} };
 
@@ -129,7 +132,8 @@ impl Disks for MemDisks {
 
     fn make(&mut self, alloc: Global, _part: PartId) -> Result<MemDisk, MakeFault>
         ensures makes { Makes mem_state result (mem_maker self.old) (mem_maker self.new) }
-        ensures sure { StaysSure (λ maker. makes_to_fail maker ≡ []) (result ≡ Err MakeFault.Failed) self.old self.new }
+        ensures makes_all { MakesAll (λ maker. makes_to_fail maker ≡ []) (result ≡ Err MakeFault.Failed) self.old self.new }
+        ensures sound { MakesSound (λ maker. disk_calls_to_fail maker ≡ []) mem_state result self.old self.new }
         ensures counts { CountsMake result self.old self.new }
     {
         if self.calls.begin() {
@@ -148,7 +152,8 @@ impl Disks for MemDisks {
     fn give_back(&mut self, part: PartId, disk: MemDisk)
         requires { 1 ≤ (mem_maker self.old).out }
         ensures takes { TakesBack part disk (mem_maker self.old) (mem_maker self.new) }
-        ensures sure { makes_to_fail self.old ≡ [] → makes_to_fail self.new ≡ [] }
+        ensures makes_all { makes_to_fail self.old ≡ [] → makes_to_fail self.new ≡ [] }
+        ensures sound { disk_calls_to_fail self.old ≡ [] → disk_calls_to_fail self.new ≡ [] }
         ensures same { IsSameMaker self.old self.new }
         ensures begun { makes_begun self.new ≡ makes_begun self.old }
     {

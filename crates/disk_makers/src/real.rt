@@ -1,7 +1,7 @@
 // The maker of the program's disks.
-ghost use Rattle.std.specs.Prelude.{◌≡◌, ◌≢◌, ◌≤◌, [], false, None, Some, Err, is_some, IfOk};
+ghost use Rattle.std.specs.Prelude.{◌≡◌, ◌≢◌, ◌≤◌, [], true, false, not, None, Some, Err, is_none, is_some, IfOk};
 ghost use Rattle.disk_makers.specs.FileDisks.{file_state, fresh_state, is_in_file};
-ghost use Rattle.disk_makers.specs.Makers.{IsMade, Makes, StaysSure, TakesBack};
+ghost use Rattle.disk_makers.specs.Makers.{IsMade, IsSound, Makes, MakesAll, MakesSound, KeepsOn, TakesBack};
 
 use crate::backing::or_failed;
 use crate::{Disks, FileDisk, MakeFault, SystemFile};
@@ -46,9 +46,10 @@ impl<'f, R: Files> RealDisks<'f, R> {
 
     /// An empty disk, kept in a new file where there is a folder.
     fn empty(&self, alloc: Global, part: PartId) -> Result<FileDisk<SystemFile<R::File>>, MakeFault>
-        ensures empty { IfOk result (λ disk. file_state disk ≡ fresh_state 2147483648) }
+        ensures empty { IfOk result (λ disk. file_state disk ≡ fresh_state 2147483648 (is_none (folder_of self.now))) }
         ensures kept { IfOk result (λ disk. is_in_file disk ≡ is_some (folder_of self.now)) }
-        ensures sure { folder_of self.now ≡ None → result ≢ Err MakeFault.Failed }
+        ensures makes_all { folder_of self.now ≡ None → result ≢ Err MakeFault.Failed }
+        ensures sound { folder_of self.now ≡ None → IfOk result (λ disk. IsSound (file_state disk)) }
     {
         match &self.folder {
             Some(folder) => {
@@ -62,7 +63,8 @@ impl<'f, R: Files> RealDisks<'f, R> {
     /// A disk that holds no record.
     fn made(&self, alloc: Global, part: PartId) -> Result<FileDisk<SystemFile<R::File>>, MakeFault>
         ensures made { IfOk result (λ disk. IsMade (file_state disk)) }
-        ensures sure { folder_of self.now ≡ None → result ≢ Err MakeFault.Failed }
+        ensures makes_all { folder_of self.now ≡ None → result ≢ Err MakeFault.Failed }
+        ensures sound { folder_of self.now ≡ None → IfOk result (λ disk. IsSound (file_state disk)) }
     {
         let mut disk = self.empty(alloc, part)?;
         if format(&mut disk).is_ok() {
@@ -102,7 +104,9 @@ impl<'f, R: Files> Disks for RealDisks<'f, R> {
 
     ghost state = { real_maker };
 
-    ghost sure = { λ maker. folder_of maker ≡ None };
+    ghost makes_all = { λ maker. folder_of maker ≡ None };
+
+    ghost sound = { λ maker. folder_of maker ≡ None };
 
     ghost keeps_in = { λ maker folder. folder_of maker ≡ Some folder };
 
@@ -119,8 +123,10 @@ impl<'f, R: Files> Disks for RealDisks<'f, R> {
         part: PartId,
     ) -> Result<FileDisk<SystemFile<R::File>>, MakeFault>
         ensures makes { Makes file_state result (real_maker self.old) (real_maker self.new) }
-        ensures sure { StaysSure (λ maker. folder_of maker ≡ None) (result ≡ Err MakeFault.Failed) self.old self.new }
+        ensures makes_all { MakesAll (λ maker. folder_of maker ≡ None) (result ≡ Err MakeFault.Failed) self.old self.new }
+        ensures sound { MakesSound (λ maker. folder_of maker ≡ None) file_state result self.old self.new }
         ensures folder { folder_of self.new ≡ folder_of self.old }
+        ensures keeps { KeepsOn (λ maker folder. folder_of maker ≡ Some folder) self.old self.new }
     {
         if self.out == u64::MAX {
             return Err(MakeFault::NoMemory);
@@ -141,8 +147,10 @@ impl<'f, R: Files> Disks for RealDisks<'f, R> {
     fn give_back(&mut self, part: PartId, disk: FileDisk<SystemFile<R::File>>)
         requires { 1 ≤ (real_maker self.old).out }
         ensures takes { TakesBack part disk (real_maker self.old) (real_maker self.new) }
-        ensures sure { folder_of self.old ≡ None → folder_of self.new ≡ None }
+        ensures makes_all { folder_of self.old ≡ None → folder_of self.new ≡ None }
+        ensures sound { folder_of self.old ≡ None → folder_of self.new ≡ None }
         ensures folder { folder_of self.new ≡ folder_of self.old }
+        ensures keeps { KeepsOn (λ maker folder. folder_of maker ≡ Some folder) self.old self.new }
     {
         let _dropped = disk;
         self.out -= 1;

@@ -1,5 +1,5 @@
 -- A log between two calls.
-use Rattle.std.specs.Prelude.{◌≡◌, ℕ, ◌≤◌, List, Option, IsTrue}
+use Rattle.std.specs.Prelude.{◌≡◌, ℕ, ◌≤◌, List, [], Option, IsTrue}
 use Rattle.disk_core.specs.Images.{IsSettled, after_write, after_sync}
 use Rattle.disk_core.specs.States.{Story, DiskState, fewer, moved}
 use Rattle.gate_log.specs.Log.{IsLog, end_of}
@@ -10,6 +10,10 @@ pub record AtRest (disk : DiskState) (end : ℕ) (payloads : List (List ℕ)) : 
   pub settled : IsSettled disk.story.now
   pub log : IsLog disk.story.now.bytes payloads
   pub place : end ≡ end_of payloads
+
+-- it is a log without a record, whose closed gate stands behind the header
+abbrev pub IsEmptyLog : DiskState → Type 0
+IsEmptyLog disk = AtRest disk 8 []
 
 -- So many calls of the disk were made at most, by the calls that were left before and after.
 pub record Lowers (most : ℕ) (before after : Option ℕ) : Type 0 where

@@ -1,6 +1,6 @@
 // The calls of the disk that an append and an opening make.
 ghost use Rattle.std.specs.Prelude.{◌≡◌, ◌≢◌, ◌⊎◌, ◌+◌, ◌<◌, ◌≤◌, ◌^◌, ◌++◌, [], ◌∷◌, List, ℕ, length, IsTrue, Some, Err, IfOk, OnOk, OnErr};
-ghost use Rattle.disk_core.specs.States.{GoesOn, Rose, IsWithin, Writes, MayTear, Syncs, Rests, bytes_of, fewer, Spared};
+ghost use Rattle.disk_core.specs.States.{GoesOn, Fails, IsWithin, Writes, MayTear, Syncs, Rests, bytes_of, fewer, Spared};
 ghost use Rattle.disk_core.specs.Moments.{AtEachMoment};
 ghost use Rattle.gate_log.specs.Log.{IsBeforeOrAfter};
 ghost use Rattle.gate_log.specs.Rest.{AtRest, Lowers, WritesDurably};
@@ -25,7 +25,7 @@ fn write_durable<D: Disk>(
         ++ back.now)) (D.state disk.old) (D.state disk.new)
         ⊎ Writes at (front.now ++ middle.now ++ back.now) (D.state disk.old) (D.state disk.new)) }
     ensures goes_on { GoesOn (D.state disk.old) (D.state disk.new) }
-    ensures failed { OnErr result (Rose (D.state disk.old).faults (D.state disk.new).faults) }
+    ensures failed { OnErr result (Fails (D.state disk.old) (D.state disk.new)) }
     ensures left { Lowers 2 (D.state disk.old).left (D.state disk.new).left }
     ensures left_ok { OnOk result ((D.state disk.new).left ≡ fewer 2 (D.state disk.old).left) }
     ensures spared { OnOk result (Spared 2 (D.state disk.old).left) }
@@ -47,7 +47,7 @@ pub(crate) fn write_record<D: Disk>(disk: &mut D, end: u64, payload: &[u8]) -> R
     ensures any_moment { (payloads : List (List ℕ)) → AtRest (D.state disk.old) end payloads
         → AtEachMoment (D.state disk.old).story (D.state disk.new).story (IsBeforeOrAfter payloads payload.now) }
     ensures goes_on { GoesOn (D.state disk.old) (D.state disk.new) }
-    ensures failed { OnErr result (Rose (D.state disk.old).faults (D.state disk.new).faults) }
+    ensures failed { OnErr result (Fails (D.state disk.old) (D.state disk.new)) }
     ensures left { Lowers 4 (D.state disk.old).left (D.state disk.new).left }
     ensures left_ok { OnOk result ((D.state disk.new).left ≡ fewer 4 (D.state disk.old).left) }
     ensures spared { OnOk result (Spared 4 (D.state disk.old).left) }
@@ -71,7 +71,7 @@ pub(crate) fn read_durable<D: Disk>(alloc: Global, disk: &mut D) -> Result<Vec<u
     ensures rests { OnErr result (Rests (D.state disk.old) (D.state disk.new)
         ⊎ Syncs (D.state disk.old) (D.state disk.new)) }
     ensures goes_on { GoesOn (D.state disk.old) (D.state disk.new) }
-    ensures failed { result ≡ Err OpenError.Failed → Rose (D.state disk.old).faults (D.state disk.new).faults }
+    ensures failed { result ≡ Err OpenError.Failed → Fails (D.state disk.old) (D.state disk.new) }
     ensures undamaged { (at : ℕ) → result ≢ Err (OpenError.Damaged at) }
     ensures left { Lowers 3 (D.state disk.old).left (D.state disk.new).left }
     ensures unfired { OnOk result ((D.state disk.new).left ≢ Some 0) }

@@ -1,7 +1,7 @@
 -- Two appends, one after the other, where there is room for both.
-use Rattle.std.proofs.Common.{◌≡◌, ◌≢◌, inl, inr, ⊎_elim, ℕ, ◌+◌, ◌-◌, ◌≤◌, Bool, true, false, List, [], ◌∷◌, Option, None, Some, Result, Ok, Err, refl, ap, ◌∙◌, subst, arith}
-use Rattle.std.specs.Prelude.{IfErr}
-use Rattle.disk_core.specs.States.{DiskState, GoesOn, Rose, fewer, Spared}
+use Rattle.std.proofs.Common.{◌≡◌, ◌≢◌, inl, inr, ⊎_elim, ℕ, ◌+◌, ◌-◌, ◌≤◌, Bool, true, false, List, [], ◌∷◌, Option, None, Some, Result, Ok, Err, refl, ap, ◌∙◌, sym, subst, arith}
+use Rattle.std.specs.Prelude.{IfErr, IsTrue}
+use Rattle.disk_core.specs.States.{DiskState, GoesOn, Rose, Fails, fewer, Spared}
 use Rattle.disk_core.proofs.Moments.{weaker, joined}
 use Rattle.gate_log.specs.Logs.{disk_of, gate_of, is_closed}
 use Rattle.gate_log.specs.Rest.{Lowers}
@@ -39,12 +39,19 @@ goes_on_twice : (a b c : DiskState) → GoesOn a b → GoesOn b c → GoesOn a c
 goes_on_twice a b c p q = record {
   tells = q.tells ∙ p.tells;
   room = q.room ∙ p.room;
+  sound = q.sound ∙ p.sound;
   later = let one = p.later in let two = q.later in omega arith;
   starved = λ h. q.starved (p.starved h);
 }
 
 rose_later : (a b c : ℕ) → a ≤ b → Rose b c → Rose a c
 rose_later a b c le rose = grind arith
+
+fails_later : (a b c : DiskState) → GoesOn a b → Fails b c → Fails a c
+fails_later a b c went fails = record {
+  rose = rose_later a.faults b.faults c.faults went.later fails.rose;
+  cause = λ sound. fails.cause (subst (λ x. IsTrue x) (sym went.sound) sound);
+}
 
 still_open : {P : Type 0} (b : Bool) → b ≡ true → b ≡ false → P
 still_open b h k = absurd cc
@@ -118,7 +125,7 @@ module _ {E D T : Type 0} (codec : Codec E) (state : D → DiskState) (old mid :
       closed = λ h _. still_open (is_closed old) h open_still;
       is_full = λ n h. absurd (never_full result second n h);
       full = λ _ past _. absurd (omega (arith, past, fits));
-      failed = λ h. let fault = second.failed h in (rose_later (state (disk_of old)).faults (state (disk_of mid)).faults (state (disk_of new)).faults first.goes_on.later fault.0, fault.1);
+      failed = λ h. let fault = second.failed h in (fails_later (state (disk_of old)) (state (disk_of mid)) (state (disk_of new)) first.goes_on fault.0, fault.1);
       refused = refused result fed second;
       gate = on_ok result (λ gate. omega (arith, gate, behind)) second.gate;
       stays_open = second.stays_open;

@@ -55,7 +55,7 @@ module _ {E D : Type 0} (T : Type 0) (codec : Codec E) (state : D → DiskState)
     stays_open = tt;
     read = refl;
     ready = ready;
-    goes_on = record { tells = refl; room = refl; later = omega arith; starved = λ h. h };
+    goes_on = record { tells = refl; room = refl; sound = refl; later = omega arith; starved = λ h. h };
     left = record { count = 0; less = omega arith; left = none_fewer (state (disk_of old)).left };
     left_ok = tt;
     spared = tt;

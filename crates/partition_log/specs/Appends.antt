@@ -1,6 +1,6 @@
 -- What a call says that appends records to a log.
 use Rattle.std.specs.Prelude.{◌≡◌, ◌≢◌, ℕ, ◌+◌, ◌*◌, ◌<◌, true, false, List, length, Result, Err, OnOk, IfErr}
-use Rattle.disk_core.specs.States.{DiskState, GoesOn, Rose, fewer, Spared}
+use Rattle.disk_core.specs.States.{DiskState, GoesOn, Fails, fewer, Spared}
 use Rattle.disk_core.specs.Moments.{EachImage, AtEachMoment}
 use Rattle.gate_log.specs.Logs.{disk_of, gate_of, is_closed, read_at_opening, IsReady}
 use Rattle.gate_log.specs.Rest.{Lowers}
@@ -26,7 +26,7 @@ pub record Appends {E D T : Type 0} (codec : Codec E) (state : D → DiskState) 
   pub is_full : (room : ℕ) → result ≡ Err (Full room) → (room ≡ (state (disk_of old)).room) × (is_closed old ≡ false) × (room < gate_of old + size codec records + 1)
   pub full : is_closed old ≡ false → (state (disk_of old)).room < gate_of old + size codec records + 1 → result ≢ Err NoMemory → result ≡ Err (Full (state (disk_of old)).room)
   -- a fault is the disk's, and closes the log; every other refusal leaves it as it was
-  pub failed : result ≡ Err Failed → Rose (state (disk_of old)).faults (state (disk_of new)).faults × (is_closed new ≡ true)
+  pub failed : result ≡ Err Failed → Fails (state (disk_of old)) (state (disk_of new)) × (is_closed new ≡ true)
   pub refused : IfErr result (λ e. e ≢ Failed → new ≡ old)
   pub gate : OnOk result (gate_of new ≡ gate_of old + size codec records)
   pub stays_open : OnOk result (is_closed new ≡ false)

@@ -11,7 +11,7 @@ ghost use Rattle.gate_log.specs.Damage.{IsDamagedAt};
 ghost use Rattle.gate_log.specs.Payloads.{AreWithin};
 ghost use Rattle.partition_log.specs.Logs.{HoldsLog, HoldsFront, LeavesFront, HasRecords, IsOpened};
 ghost use Rattle.partition_log.specs.Damage.{AreRecords, IsRefusedAt};
-ghost use Rattle.disk_core.specs.States.{GoesOn, Rose, Rests, Syncs, bytes_of};
+ghost use Rattle.disk_core.specs.States.{GoesOn, Fails, Rests, Syncs, bytes_of};
 ghost use Rattle.disk_core.specs.Moments.{AtEachMoment};
 ghost use Rattle.crdt_core.specs.Log.{MayFind};
 
@@ -58,15 +58,15 @@ impl<C: Crdt, D: Disk + Drop> PartLog<C, D> {
         ensures ready { IfOk result (λ log. IsReady D.state (gates_of log) × (is_closed (gates_of log) ≡ false)) }
         ensures damaged { (at : ℕ) → IfErr result (λ e. e.1 ≡ Damaged at → IsTrue (D.state disk).tells
             → IsDamagedAt (bytes_of (D.state disk)) at) }
-        ensures failed { IfErr result (λ e. e.1 ≡ OpenFailed → Rose (D.state disk).faults (D.state e.0).faults) }
+        ensures failed { IfErr result (λ e. e.1 ≡ OpenFailed → Fails (D.state disk) (D.state e.0)) }
         // All that the disk does is to sync, and that only once.
         ensures synced { IfOk result (λ log. Syncs (D.state disk) (D.state (disk_of (gates_of log)))) }
         ensures synced_err { IfErr result (λ e. Rests (D.state disk) (D.state e.0)
             ⊎ Syncs (D.state disk) (D.state e.0)) }
         ensures goes_on { MatchResult result (λ log. GoesOn (D.state disk) (D.state (disk_of (gates_of log))))
             (λ e. GoesOn (D.state disk) (D.state e.0)) }
-        ensures left { MatchResult result (λ log. Lowers 16 (D.state disk).left (D.state (disk_of (gates_of log))).left)
-            (λ e. Lowers 16 (D.state disk).left (D.state e.0).left) }
+        ensures left { MatchResult result (λ log. Lowers 3 (D.state disk).left (D.state (disk_of (gates_of log))).left)
+            (λ e. Lowers 3 (D.state disk).left (D.state e.0).left) }
         ensures unfired { IfOk result (λ log. (D.state (disk_of (gates_of log))).left ≢ Some 0) }
     {
         match GateLog::open(alloc, disk) {
@@ -98,7 +98,7 @@ impl<C: Crdt, D: Disk + Drop> PartLog<C, D> {
         ensures damaged { (at : ℕ) → result ≡ Err (Damaged at) → IsTrue (D.state (disk_of (gates_of self.old))).tells
             → IsDamagedAt (bytes_of (D.state (disk_of (gates_of self.old)))) at }
         ensures failed { result ≡ Err OpenFailed
-            → Rose (D.state (disk_of (gates_of self.old))).faults (D.state (disk_of (gates_of self.new))).faults }
+            → Fails (D.state (disk_of (gates_of self.old))) (D.state (disk_of (gates_of self.new))) }
         // All that the disk does is to sync, and that only once.
         ensures synced { OnOk result
             (Syncs (D.state (disk_of (gates_of self.old))) (D.state (disk_of (gates_of self.new)))) }
@@ -106,7 +106,7 @@ impl<C: Crdt, D: Disk + Drop> PartLog<C, D> {
             (Rests (D.state (disk_of (gates_of self.old))) (D.state (disk_of (gates_of self.new)))
             ⊎ Syncs (D.state (disk_of (gates_of self.old))) (D.state (disk_of (gates_of self.new)))) }
         ensures goes_on { GoesOn (D.state (disk_of (gates_of self.old))) (D.state (disk_of (gates_of self.new))) }
-        ensures left { Lowers 16
+        ensures left { Lowers 3
             (D.state (disk_of (gates_of self.old))).left (D.state (disk_of (gates_of self.new))).left }
         ensures unfired { OnOk result ((D.state (disk_of (gates_of self.new))).left ≢ Some 0) }
         ensures finds { (log torn : List (Record C.Effect))
@@ -301,7 +301,7 @@ impl<C: Crdt, D: Disk + Drop> PartLog<C, Fused<D>> {
         ensures inside { inside (disk_of (gates_of self.new)) ≡ inside (disk_of (gates_of self.old)) }
         ensures keep { cut_length (disk_of (gates_of self.new)) ≡ keep }
         ensures state { fused_state D.state (disk_of (gates_of self.new))
-            ≡ record (fused_state D.state (disk_of (gates_of self.old))) { left = Some k } }
+            ≡ record (fused_state D.state (disk_of (gates_of self.old))) { left = Some k; keep = keep } }
         ensures has { (log : List (Record C.Effect)) → HasRecords (codec_of C.spells) (fused_state D.state) (gates_of self.old) log
             → HasRecords (codec_of C.spells) (fused_state D.state) (gates_of self.new) log }
         ensures ready { IsReady (fused_state D.state) (gates_of self.old) → IsReady (fused_state D.state) (gates_of self.new) }

@@ -8,7 +8,7 @@ use Rattle.disk_core.proofs.fused.write_front_of_pieces.Goals as goal
 -- whatever the disk answers
 either_way : (result : Result (Unit {0}) Failed) (at : ℕ) (bytes : List ℕ) (old new : DiskState) → OnOk result (Writes at bytes old new) → OnErr result (MayTear at (length bytes) old new) → Called result old new → WritesOrFails at bytes old new
 either_way (Ok x) at bytes old new wrote torn called = inl wrote
-either_way (Err e) at bytes old new wrote torn called = inr (torn, called.failed)
+either_way (Err e) at bytes old new wrote torn called = inr (torn, called.failed.rose)
 
 pub returns-clause-front : goal.returns-clause-front
 returns-clause-front g c =
