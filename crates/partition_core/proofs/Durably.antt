@@ -89,7 +89,7 @@ pub record Would {S E : Type 0} (kinds : Kinds S E) (t : Tables E) (p : PartStat
 
 module _ {S E D : Type 0} (kinds : Kinds S E) (codec : Codec E) (state : D → DiskState) (old : Durable E D) (Given : PartState E → Type 0) where
   rests : GoesOn (disk_in state old) (disk_in state old)
-  rests = record { tells = refl; room = refl; later = omega arith; starved = λ h. h }
+  rests = record { tells = refl; room = refl; sound = refl; later = omega arith; starved = λ h. h }
 
   same : IsSame old.tables old.tables
   same = record { id = refl; sites = refl; parts = refl }
@@ -118,6 +118,11 @@ module _ {S E D : Type 0} (kinds : Kinds S E) (codec : Codec E) (state : D → D
       (λ (past : (disk_in state old).room < gate_of old.gates + size codec recs + 1). absurd (not_full (disk_in state old).room (a.full still_open past fed)))
       (λ (room : gate_of old.gates + size codec recs + 1 ≤ (disk_in state old).room). room)
       (cases_lt (disk_in state old).room (gate_of old.gates + size codec recs + 1))
+
+  -- what passes a room in which a log without it stands is something
+  some_written : (recs : List (Record E)) (gate room : ℕ) → gate < room → room < gate + size codec recs + 1 → 1 ≤ length recs
+  some_written [] gate room within past = absurd (omega (arith, within, past))
+  some_written (r ∷ recs) gate room within past = omega arith
 
   -- it is down
   pub down_call : {A : Type 0} (asked : Ask E) (Shows : A → Event E → Type 0) → is_down old ≡ true → is_restart asked ≡ false → CallsOn kinds codec state old old Given asked Shows (Err call.Down)
@@ -217,7 +222,8 @@ module _ {S E D : Type 0} (kinds : Kinds S E) (codec : Codec E) (state : D → D
       stopped_call append.Closed g a = absurd (true≢false (sym (a.was_closed refl) ∙ alive.1))
       stopped_call (append.Full room) g a =
           let same_gates : g ≡ old.gates = a.refused (λ h. cc) in
-          let full = a.is_full room refl in (
+          let full = a.is_full room refl in
+          let within = fitting room g a same_gates full.0 in (
             ap (with_log old) same_gates,
             full.0,
             subst (λ l. StepsOn kinds codec state old (with_log old l) Given (λ e. e ≡ Refused asked (HasNoRoom room))) (sym same_gates) (full_step room),
@@ -225,10 +231,14 @@ module _ {S E D : Type 0} (kinds : Kinds S E) (codec : Codec E) (state : D → D
               what = w.what;
               shows = w.shows;
               may = w.may;
+              some = subst (λ (l : List (Record E)). 1 ≤ length l) (sym w.adds) (some_written recs (gate_of old.gates) room within full.2);
               past = subst (λ l. room < gate_of old.gates + size codec l + 1) (sym w.adds) full.2;
             },
           )
         where
+          fitting : (room : ℕ) (g : GateLog D) → Appends {T = R} codec state (Err (append.Full room)) old.gates g recs → g ≡ old.gates → room ≡ (disk_in state old).room → gate_of old.gates < room
+          fitting room g a same_gates is = subst (λ n. gate_of old.gates < n) (sym is) (subst (λ (l : GateLog D). gate_of l < (state (disk_of l)).room) same_gates a.ready.fits)
+
           full_step : (room : ℕ) → StepsOn kinds codec state old old Given (λ e. e ≡ Refused asked (HasNoRoom room))
           full_step room = record {
             same = same;

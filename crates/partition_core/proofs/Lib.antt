@@ -20,6 +20,7 @@ mod Vectors
 mod PrepareCall
 mod EndCalls
 mod Beginning
+mod StableBegins
 mod Bounding
 mod Taking
 mod Putting

@@ -29,9 +29,11 @@ use Rattle.log_recovery.specs.Rising.{Rises}
 use Rattle.log_recovery.specs.RisingLaws.{lease_rises}
 use Rattle.world_model.proofs.Moves.{grown_last}
 use Rattle.prepared_table.specs.Entries.{has_entry}
+use Rattle.world_model.specs.lines.Lines.{Wish}
 use Rattle.world_model.specs.rules.Event.{Ask, AskTick, AskBegin, AskPrepare, AskDecide, AskFinish, AskAbort, AskTake, Event, Refused, HasNoRoom, Ticked, Began, Prepared, Decided, Finished, Aborted, Took, Sent, Reported, Heard, Updated, Crashed, attempt}
 use Rattle.world_model.specs.rules.Event as event
 use Rattle.world_model.specs.rules.Partition.{PartState, PartStep, MayDo, IsDue, IsBegin, IsRefused, records, down, batch_of, fate_of, ToldDown, ToldPending, ToldCommitted, ToldAborted}
+use Rattle.world_model.proofs.Enough.{begin_enough}
 use Rattle.partition_core.specs.declared.durable.DurableError.{DurableError}
 use Rattle.partition_core.specs.declared.answers.Refusal.{Refusal}
 use Rattle.partition_core.specs.declared.answers.Refusal.TheVariants as answer
@@ -116,14 +118,14 @@ module _ {S E D : Type 0} (kinds : Kinds S E) (codec : Codec E) (state : D → D
 
   -- ---- a begin
 
-  module _ (up : is_down old ≡ false) (who dep : List ℕ) (tx : TxId) (s : List ℕ) (steps : Steps kinds old.tables Anything (λ e. e ≡ Began who dep tx s) (showing old.tables tx.time)) (w : Option ℕ) (want : w ≡ wanted old.tables.ceiling tx.time) where
+  module _ (up : is_down old ≡ false) (who : List ℕ) (wish : Wish) (tx : TxId) (s : List ℕ) (steps : Steps kinds old.tables Anything (λ e. e ≡ Began who wish tx s) (showing old.tables tx.time)) (w : Option ℕ) (want : w ≡ wanted old.tables.ceiling tx.time) where
     begin_adds : (p : PartState E) → Stands old.tables p → lease_for p.log tx.time ≡ leases w
     begin_adds p h = ap (λ c. lease_at c tx.time) h.ceiling ∙ sym (ap (λ x. leases x) want ∙ leases_wanted old.tables.ceiling tx.time)
 
-    begun_so : (p : PartState E) → Stands old.tables p → IsBegin sites parts old.tables.id p dep tx s
+    begun_so : (p : PartState E) → Stands old.tables p → IsBegin sites parts old.tables.id p wish tx s
     begun_so p h =
         let one = steps.step p h tt in
-        let st : PartStep kinds sites parts old.tables.id p (Began who dep tx s) one.after = subst (λ (y : Event E). PartStep kinds sites parts old.tables.id p y one.after) one.shows one.step in
+        let st : PartStep kinds sites parts old.tables.id p (Began who wish tx s) one.after = subst (λ (y : Event E). PartStep kinds sites parts old.tables.id p y one.after) one.shows one.step in
         st.1
 
     begin_rises : (p : PartState E) → Stands old.tables p → Rises p.log → Rises (grown p.log (leases w))
@@ -133,17 +135,17 @@ module _ {S E D : Type 0} (kinds : Kinds S E) (codec : Codec E) (state : D → D
         let early = b.early in
         subst (λ l. Rises (grown p.log l)) (begin_adds p h) (lease_rises p.log tx.time (omega (arith, next, early)) r)
 
-    pub begin_done : {R : Type 0} (x : R) (g : GateLog D) (t : Tables E) → Appends {T = R} codec state (Ok x) old.gates g (leases w) → t ≡ showing old.tables tx.time → StepsOn kinds codec state old (on_disk t g old.crashed) Anything (λ e. e ≡ Began who dep tx s)
-    begin_done x g t a shown = done_call kinds codec state old Anything up x (on_disk t g old.crashed) (leases w) a refl (λ e. e ≡ Began who dep tx s)
-        (subst (λ q. Steps kinds old.tables Anything (λ e. e ≡ Began who dep tx s) q) (sym shown) steps)
+    pub begin_done : {R : Type 0} (x : R) (g : GateLog D) (t : Tables E) → Appends {T = R} codec state (Ok x) old.gates g (leases w) → t ≡ showing old.tables tx.time → StepsOn kinds codec state old (on_disk t g old.crashed) Anything (λ e. e ≡ Began who wish tx s)
+    begin_done x g t a shown = done_call kinds codec state old Anything up x (on_disk t g old.crashed) (leases w) a refl (λ e. e ≡ Began who wish tx s)
+        (subst (λ q. Steps kinds old.tables Anything (λ e. e ≡ Began who wish tx s) q) (sym shown) steps)
         (λ p h e q shows step.
-        let st : PartStep kinds sites parts old.tables.id p (Began who dep tx s) q = subst (λ (y : Event E). PartStep kinds sites parts old.tables.id p y q) shows step in
+        let st : PartStep kinds sites parts old.tables.id p (Began who wish tx s) q = subst (λ (y : Event E). PartStep kinds sites parts old.tables.id p y q) shows step in
         subst (λ y. IsWritten p y q (leases w)) (sym shows) (record { whole = refl; adds = begin_adds p h; log = ap (λ (s : PartState E). s.log) st.2 ∙ ap (λ l. grown p.log l) (begin_adds p h); rises = begin_rises p h }))
 
-    pub begin_stopped : {R : Type 0} (e : AppendError) (g : GateLog D) → Appends {T = R} codec state (Err e) old.gates g (leases w) → CallsOn kinds codec state old (with_log old g) Anything (AskBegin who dep) (λ (x : TxId × List ℕ) e. e ≡ Began who dep x.0 x.1) (Err (stopped e))
-    begin_stopped {R} e g a = stopped_call kinds codec state old Anything up {R = R} (AskBegin who dep) (λ (x : TxId × List ℕ) e. e ≡ Began who dep x.0 x.1) (leases w)
-        (λ p h _. record { what = Began who dep tx s; shows = ((tx, s), refl); may = begun_so p h; adds = begin_adds p h; rises = begin_rises p h })
-        (λ p k h _. let b = begun_so p h in (λ j o. subst (λ m. entry dep j ≤ m) (b.stable j o) (b.waited j o), b.early))
+    pub begin_stopped : {R : Type 0} (e : AppendError) (g : GateLog D) → Appends {T = R} codec state (Err e) old.gates g (leases w) → CallsOn kinds codec state old (with_log old g) Anything (AskBegin who wish) (λ (x : TxId × List ℕ) e. e ≡ Began who wish x.0 x.1) (Err (stopped e))
+    begin_stopped {R} e g a = stopped_call kinds codec state old Anything up {R = R} (AskBegin who wish) (λ (x : TxId × List ℕ) e. e ≡ Began who wish x.0 x.1) (leases w)
+        (λ p h _. record { what = Began who wish tx s; shows = ((tx, s), refl); may = begun_so p h; adds = begin_adds p h; rises = begin_rises p h })
+        (λ p k h _. let b = begun_so p h in (begin_enough sites parts old.tables.id p wish tx s b, b.early))
         e g a
 
   -- ---- a vote

@@ -2,7 +2,7 @@
 use Rattle.std.proofs.Common.{◌≡◌, ◌≢◌, ⊎_elim, ℕ, true, false, ◌||◌, List, [], ◌∷◌, map, Some, Result, Err, refl, sym, ap, ◌∙◌, subst}
 use Rattle.std.specs.Prelude.{IsTrue}
 use Rattle.std.proofs.lemmas.Bool.{cases_Bool}
-use Rattle.disk_core.specs.States.{DiskState, GoesOn, Rose}
+use Rattle.disk_core.specs.States.{DiskState, GoesOn, Fails}
 use Rattle.disk_core.specs.Moments.{AtEachMoment}
 use Rattle.gate_log.specs.Rest.{Lowers}
 use Rattle.gate_log.specs.declared.log.GateLog.{GateLog}
@@ -150,7 +150,7 @@ module _ {S E D : Type 0} (kinds : Kinds S E) (codec : Codec E) (state : D → D
 
   -- ---- its answers
 
-  module _ (g : GateLog D) (goes_on : GoesOn (disk_in state old) (state (disk_of g))) (left : Lowers 16 (disk_in state old).left (state (disk_of g)).left)
+  module _ (g : GateLog D) (goes_on : GoesOn (disk_in state old) (state (disk_of g))) (left : Lowers 3 (disk_in state old).left (state (disk_of g)).left)
       (moments : (l torn : List (Record E)) → LeavesFront codec l torn (disk_in state old) → AtEachMoment (disk_in state old).story (state (disk_of g)).story (HoldsFront codec l torn)) where
     pub stays : (t : Tables E) → IsSame old.tables t → StaysDown kinds codec state old (on_disk t g true)
     stays t same = record {
@@ -163,7 +163,7 @@ module _ {S E D : Type 0} (kinds : Kinds S E) (codec : Codec E) (state : D → D
     abbrev pub FoundUnfit : ℕ → Type 0
     FoundUnfit at = (l torn : List (Record E)) → LeavesFront codec l torn (disk_in state old) → (found : List (Record E)) × MayFind l torn found × IsUnfitAt codec old.tables.sites old.tables.parts old.tables.id found at
 
-    pub unread : {A : Type 0} (t : Tables E) → IsSame old.tables t → (e : RestartError) → (failing {A = A} e ≡ Err restart.Disk → Rose (disk_in state old).faults (state (disk_of g)).faults) → ((at : ℕ) → failing {A = A} e ≡ Err (restart.Damaged at) → FoundUnfit at)
+    pub unread : {A : Type 0} (t : Tables E) → IsSame old.tables t → (e : RestartError) → (failing {A = A} e ≡ Err restart.Disk → Fails (disk_in state old) (state (disk_of g))) → ((at : ℕ) → failing {A = A} e ≡ Err (restart.Damaged at) → FoundUnfit at)
         → RestartsOn kinds codec state old (on_disk t g true) (Err e)
     unread t same restart.Disk failed damaged = (failed refl, stays t same)
     unread t same (restart.Damaged at) failed damaged = (stays t same, λ p h. let f = damaged at refl p.log p.torn (leaves p h).front in record { log = f.0; found = f.1; unfit = f.2 })

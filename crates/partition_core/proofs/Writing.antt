@@ -58,7 +58,7 @@ module _ {E D T : Type 0} (codec : Codec E) (state : D → DiskState) (log : Gat
     stays_open = still_open;
     read = refl;
     ready = ready;
-    goes_on = record { tells = refl; room = refl; later = omega arith; starved = λ h. h };
+    goes_on = record { tells = refl; room = refl; sound = refl; later = omega arith; starved = λ h. h };
     left = record { count = 0; less = omega arith; left = same_left (state (disk_of log)).left };
     left_ok = same_left (state (disk_of log)).left;
     spared = none_due (state (disk_of log)).left;

@@ -1,5 +1,5 @@
 -- What a partition knows of how far sites have come.
-use Rattle.std.specs.Prelude.{◌≡◌, ℕ, ◌-◌, ◌<◌, ◌≤◌, List, [], ◌∷◌}
+use Rattle.std.specs.Prelude.{◌≡◌, ℕ, ◌-◌, ◌<◌, ◌≤◌, List, [], ◌∷◌, length}
 use Rattle.site_vector.specs.Vector.{entry}
 use Rattle.site_vector.specs.Known.{lowest}
 use Rattle.prepared_table.specs.declared.entry.Entry.{Entry}
@@ -24,3 +24,14 @@ pub record IsBehind (sites own : ℕ) (stable dependency : List ℕ) (j : ℕ) :
 -- no other site's is, up to this one
 abbrev pub AreEnough : ℕ → ℕ → List ℕ → List ℕ → ℕ → Type 0
 AreEnough sites own stable dependency upto = (j : ℕ) → IsOther sites own j → j ≤ upto → entry dependency j ≤ entry stable j
+
+-- of all sites up to this one as much is stable as a session depends on
+abbrev pub AllEnough : List ℕ → List ℕ → ℕ → Type 0
+AllEnough stable dependency upto = (j : ℕ) → 1 ≤ j → j ≤ upto → entry dependency j ≤ entry stable j
+
+-- the first site of which that isn't so
+pub record IsFirstBehind (stable dependency : List ℕ) (j : ℕ) : Type 0 where
+  pub low : 1 ≤ j
+  pub high : j ≤ length stable
+  pub behind : entry stable j < entry dependency j
+  pub enough : (i : ℕ) → 1 ≤ i → i < j → entry dependency i ≤ entry stable i

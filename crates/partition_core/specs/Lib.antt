@@ -13,6 +13,7 @@ pub mod Answers
 pub mod Messages
 pub mod Durable
 pub mod Stopped
+pub mod Untouched
 pub mod Moments
 pub mod Recovered
 pub mod Unfit

@@ -1,7 +1,7 @@
 -- What a call of a partition on its disk owes: whatever it stood for took a step, at each moment of which a crash leaves what a
 -- restart may find.
 use Rattle.std.specs.Prelude.{◌≡◌, ℕ, ◌+◌, ◌*◌, ◌<◌, ◌≤◌, Bool, true, false, if◌then◌else◌, List, length, Result, Ok, Err}
-use Rattle.disk_core.specs.States.{DiskState, GoesOn, Rose, fewer, Spared}
+use Rattle.disk_core.specs.States.{DiskState, GoesOn, Fails, fewer, Spared}
 use Rattle.disk_core.specs.Moments.{AtEachMoment}
 use Rattle.gate_log.specs.Logs.{gate_of}
 use Rattle.gate_log.specs.Rest.{Lowers}
@@ -66,11 +66,12 @@ module _ {S E D : Type 0} (kinds : Kinds S E) (codec : Codec E) (state : D → D
     pub disk : new.gates ≡ old.gates
     pub step : (p : PartState E) → StandsOn codec state old p → SteppedOn p (λ e. e ≡ Crashed)
 
-  -- it would have done such a thing, but the log with its records would pass the room of the disk
+  -- it would have written something of such a thing, but its log with these records would pass the room of the disk
   pub record IsFull (p : PartState E) (Shows : Event E → Type 0) (room : ℕ) : Type 0 where
     pub what : Event E
     pub shows : Shows what
     pub may : MayDo kinds old.tables.sites old.tables.parts old.tables.id p what
+    pub some : 1 ≤ length (records p what)
     pub past : room < gate_of old.gates + size codec (records p what) + 1
 
   module _ (Given : PartState E → Type 0) (asked : Ask E) {A : Type 0} (Shows : A → Event E → Type 0) where
@@ -78,7 +79,7 @@ module _ {S E D : Type 0} (kinds : Kinds S E) (codec : Codec E) (state : D → D
     CallsOn (Ok x) = StepsOn Given (Shows x)
     CallsOn (Err call.NoMemory) = new ≡ old
     CallsOn (Err call.Down) = (new ≡ old) × (is_down old ≡ true) × StepsOn Given (λ e. e ≡ Refused asked event.IsDown)
-    CallsOn (Err call.Disk) = Rose (disk_in state old).faults (disk_in state new).faults × (is_down new ≡ true) × StepsOn Given (IsCutOff Shows)
+    CallsOn (Err call.Disk) = Fails (disk_in state old) (disk_in state new) × (is_down new ≡ true) × StepsOn Given (IsCutOff Shows)
     CallsOn (Err (call.Full room)) = (new ≡ old) × (room ≡ (disk_in state old).room) × StepsOn Given (λ e. e ≡ Refused asked (event.HasNoRoom room))
         × ((p : PartState E) → StandsOn codec state old p → Given p → IsFull p (AnySuch Shows) room)
     CallsOn (Err (call.Refused why)) = StepsOn Given (λ e. e ≡ Refused asked (cause why))

@@ -1,6 +1,6 @@
 -- What a restart of a partition on its disk owes.
 use Rattle.std.specs.Prelude.{◌≡◌, ◌≢◌, ℕ, true, false, List, map, None, Some, Result, Ok, Err}
-use Rattle.disk_core.specs.States.{DiskState, GoesOn, Rose}
+use Rattle.disk_core.specs.States.{DiskState, GoesOn, Fails}
 use Rattle.gate_log.specs.Rest.{Lowers}
 use Rattle.gate_log.specs.declared.error.OpenError.{OpenError}
 use Rattle.gate_log.specs.declared.error.OpenError.TheVariants as open_error
@@ -45,11 +45,11 @@ pub record ComesUpOver {E D : Type 0} (codec : Codec E) (state : D → DiskState
   pub stands : Rises log → (b : List ℕ) × AreKnown sites id.site log b × StandsOn codec state t (resumed sites parts b log)
 
 module _ {S E D : Type 0} (kinds : Kinds S E) (codec : Codec E) (state : D → DiskState) (old new : Durable E D) where
-  -- at most sixteen calls of the disk, and it is the same partition
+  -- at most three calls of the disk, and it is the same partition
   pub record ReadsAgain : Type 0 where
     pub same : IsSame old.tables new.tables
     pub goes_on : GoesOn (disk_in state old) (disk_in state new)
-    pub left : Lowers 16 (disk_in state old).left (disk_in state new).left
+    pub left : Lowers 3 (disk_in state old).left (disk_in state new).left
 
   -- it is down, as after a crash, and what a restart may find stays
   pub record StaysDown : Type 0 where
@@ -72,7 +72,7 @@ module _ {S E D : Type 0} (kinds : Kinds S E) (codec : Codec E) (state : D → D
 
   abbrev pub RestartsOn : Result Restarted RestartError → Type 0
   RestartsOn (Ok r) = ComesUp r
-  RestartsOn (Err restart.Disk) = Rose (disk_in state old).faults (disk_in state new).faults × StaysDown
+  RestartsOn (Err restart.Disk) = Fails (disk_in state old) (disk_in state new) × StaysDown
   RestartsOn (Err restart.NoMemory) = StaysDown
   -- a log that the partition's calls may have left is damaged only where a record doesn't fit
   RestartsOn (Err (restart.Damaged at)) = StaysDown × ((p : PartState E) → StandsOn codec state old p → FindsUnfit p at)

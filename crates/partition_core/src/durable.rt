@@ -200,7 +200,7 @@ impl<C: Crdt, D: Disk + Drop> DurablePartition<C, Fused<D>> {
     /// from 1, fails, and all later ones. Where it writes, at most the first `keep` bytes are written.
     pub fn arm(&mut self, k: u64, keep: u64)
         ensures keep { cut_length (disk_of self.new.gates) ≡ keep }
-        ensures armed { disk_in (fused_state D.state) self.new ≡ record (disk_in (fused_state D.state) self.old) { left = Some k } }
+        ensures armed { disk_in (fused_state D.state) self.new ≡ record (disk_in (fused_state D.state) self.old) { left = Some k; keep = keep } }
         ensures same { (self.new.tables ≡ self.old.tables) × (is_down self.new ≡ is_down self.old) }
         ensures stands { (p : PartState C.Effect) → StandsOn (codec_of C.spells) (fused_state D.state) self.old p → StandsOn (codec_of C.spells) (fused_state D.state) self.new p }
     {

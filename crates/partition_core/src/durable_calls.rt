@@ -14,6 +14,7 @@ ghost use Rattle.log_records.specs.Records.{can_put_record};
 ghost use Rattle.partition_log.specs.Codec.{codec_of};
 ghost use Rattle.world_model.specs.rules.Event.{AskTick, AskBegin, AskRead, AskUpdate, AskPrepare, AskDecide, AskFinish, AskAbort, AskMessage, AskTake, AskReport, AskHear, Updated};
 ghost use Rattle.world_model.specs.rules.Event as event;
+ghost use Rattle.world_model.specs.lines.Lines.{wish_of};
 ghost use Rattle.world_model.specs.lines.Places.{IsOther};
 ghost use Rattle.world_model.specs.rules.Partition.{PartState, fate_of};
 ghost use Rattle.partition_core.specs.Answers.{fate_told};
@@ -23,6 +24,7 @@ ghost use Rattle.partition_core.specs.Moments.{CallsOn};
 ghost use Rattle.partition_core.specs.Numbered.{are_numbered};
 ghost use Rattle.partition_core.specs.Steps.{Anything, NamesNowhere};
 ghost use Rattle.partition_core.specs.Tables.{knows};
+ghost use Rattle.partition_core.specs.Untouched.{TakesNoMemory, TouchesNoDisk};
 
 use crate::logging::keep_lease;
 use crate::{DurableError, DurablePartition, Fate, Refusal};
@@ -30,6 +32,7 @@ use crdt_core::{Crdt, Message, ObjectId, Op, Upd, UpdateList, Value};
 use disk_core::Disk;
 use site_vector::{TxId, VTime};
 use std::alloc::Global;
+use world_model::Mode;
 
 impl<C: Crdt, D: Disk + Drop> DurablePartition<C, D> {
     /// The clock reads a time, at most 2^62, and shows it unless it shows a later one. Answers what it shows. Takes no
@@ -40,7 +43,8 @@ impl<C: Crdt, D: Disk + Drop> DurablePartition<C, D> {
     /// `Down`, `Full`, `Disk` as `DurableError` says: at most a lease is written.
     pub fn tick(&mut self, clock_time: u64) -> Result<u64, DurableError>
         requires { clock_time ≤ end_of_time }
-        ensures { CallsOn (kinds_of C.laws) (codec_of C.spells) D.state self.old self.new Anything (AskTick clock_time) (λ n e. e ≡ event.Ticked clock_time n) result }
+        ensures answers { CallsOn (kinds_of C.laws) (codec_of C.spells) D.state self.old self.new Anything (AskTick clock_time) (λ n e. e ≡ event.Ticked clock_time n) result }
+        ensures fed { TakesNoMemory result }
     {
         if self.is_down() {
             return Err(DurableError::Down);
@@ -51,21 +55,23 @@ impl<C: Crdt, D: Disk + Drop> DurablePartition<C, D> {
         Ok(time)
     }
 
-    /// Begins a transaction, of a session that depends on these times: its id, and its snapshot. Takes no memory.
+    /// Begins a transaction, of a session that depends on these times: its id, and its snapshot. A stable one reads what
+    /// is stable as the call begins, before its id is drawn. Takes no memory.
     ///
     /// # Errors
     ///
-    /// `StableBehind` where of some other site less is stable here than the session depends on, with the first such
-    /// site and what is stable of it; else `ClockAtEnd` where the clock shows 2^62. `Down`, `Full`, `Disk` as
-    /// `DurableError` says: at most a lease is written.
-    pub fn begin(&mut self, dependency: &VTime) -> Result<(TxId, VTime), DurableError>
+    /// `StableBehind` where of some site less is stable here than the session depends on, with the first such site and
+    /// what is stable of it: of another one, and for a stable begin of the own one too. Else `ClockAtEnd` where the clock
+    /// shows 2^62. `Down`, `Full`, `Disk` as `DurableError` says: at most a lease is written.
+    pub fn begin(&mut self, dependency: &VTime, mode: Mode) -> Result<(TxId, VTime), DurableError>
         requires { length dependency.now ≡ self.old.tables.sites }
-        ensures { (who : List ℕ) → CallsOn (kinds_of C.laws) (codec_of C.spells) D.state self.old self.new Anything (AskBegin who dependency.now) (λ x e. e ≡ event.Began who dependency.now x.0 x.1) result }
+        ensures answers { (who : List ℕ) → CallsOn (kinds_of C.laws) (codec_of C.spells) D.state self.old self.new Anything (AskBegin who (wish_of dependency.now mode)) (λ x e. e ≡ event.Began who (wish_of dependency.now mode) x.0 x.1) result }
+        ensures fed { TakesNoMemory result }
     {
         if self.is_down() {
             return Err(DurableError::Down);
         }
-        let (tx, s) = self.tables.next_begin(dependency)?;
+        let (tx, s) = self.tables.next_begin(dependency, mode)?;
         keep_lease(&mut self.log, self.tables.lease_before(tx.time))?;
         self.tables.advance(tx.time);
         Ok((tx, s))
@@ -81,7 +87,8 @@ impl<C: Crdt, D: Disk + Drop> DurablePartition<C, D> {
         requires place { tx.site ≡ self.old.tables.id.site }
         requires width { length c.now ≡ self.old.tables.sites }
         requires spelled { is_tx tx ≡ true }
-        ensures { CallsOn (kinds_of C.laws) (codec_of C.spells) D.state self.old self.new Anything (AskDecide tx c.now) (λ n e. e ≡ event.Decided tx c.now) result }
+        ensures answers { CallsOn (kinds_of C.laws) (codec_of C.spells) D.state self.old self.new Anything (AskDecide tx c.now) (λ n e. e ≡ event.Decided tx c.now) result }
+        ensures fed { TakesNoMemory result }
     {
         if self.is_down() {
             return Err(DurableError::Down);
@@ -105,7 +112,8 @@ impl<C: Crdt, D: Disk + Drop> DurablePartition<C, D> {
         requires place { tx.site ≡ self.old.tables.id.site }
         requires width { length c.now ≡ self.old.tables.sites }
         requires spelled { is_tx tx ≡ true }
-        ensures { CallsOn (kinds_of C.laws) (codec_of C.spells) D.state self.old self.new Anything (AskFinish tx c.now) (λ n e. e ≡ event.Finished tx c.now) result }
+        ensures answers { CallsOn (kinds_of C.laws) (codec_of C.spells) D.state self.old self.new Anything (AskFinish tx c.now) (λ n e. e ≡ event.Finished tx c.now) result }
+        ensures fed { TakesNoMemory result }
     {
         if self.is_down() {
             return Err(DurableError::Down);
@@ -126,7 +134,8 @@ impl<C: Crdt, D: Disk + Drop> DurablePartition<C, D> {
     /// `Gone` exactly where it isn't pending here; `Down`, `Full`, `Disk` as `DurableError` says.
     pub fn abort(&mut self, tx: TxId) -> Result<(), DurableError>
         requires { is_tx tx ≡ true }
-        ensures { (own : Bool) → CallsOn (kinds_of C.laws) (codec_of C.spells) D.state self.old self.new Anything (AskAbort tx) (λ n e. e ≡ event.Aborted tx own) result }
+        ensures answers { (own : Bool) → CallsOn (kinds_of C.laws) (codec_of C.spells) D.state self.old self.new Anything (AskAbort tx) (λ n e. e ≡ event.Aborted tx own) result }
+        ensures fed { TakesNoMemory result }
     {
         if self.is_down() {
             return Err(DurableError::Down);
@@ -215,7 +224,8 @@ impl<C: Crdt, D: Disk + Drop> DurablePartition<C, D> {
     ) -> Result<Value, DurableError>
         requires has { C.has object.now.kind ≡ true }
         requires width { length s.now ≡ self.old.tables.sites }
-        ensures { CallsOn (kinds_of C.laws) (codec_of C.spells) D.state self.old self.new Anything (AskRead tx s.now object.now own.now) (λ v e. (read : List (Part C.Effect)) × (e ≡ event.Read tx s.now object.now own.now read v)) result }
+        ensures answers { CallsOn (kinds_of C.laws) (codec_of C.spells) D.state self.old self.new Anything (AskRead tx s.now object.now own.now) (λ v e. (read : List (Part C.Effect)) × (e ≡ event.Read tx s.now object.now own.now read v)) result }
+        ensures untouched { TouchesNoDisk result }
     {
         if self.is_down() {
             return Err(DurableError::Down);
@@ -246,6 +256,7 @@ impl<C: Crdt, D: Disk + Drop> DurablePartition<C, D> {
         requires width { length s.now ≡ self.old.tables.sites }
         ensures answers { (index : ℕ) → CallsOn (kinds_of C.laws) (codec_of C.spells) D.state self.old self.new Anything (AskUpdate tx s.now object.now own.now op.now) (λ x e. (read : List (Part C.Effect)) × (e ≡ Updated tx s.now object.now own.now op.now read (record { object = object.now; index = index; effect = x.0 }) x.1)) result }
         ensures ready { (p : PartState C.Effect) → StandsOn (codec_of C.spells) D.state self.old p → is_tx tx ≡ true → are_numbered own.now ≡ true → IfOk result (λ x. IsReady C.is_of C.can_put C.sets C.spelling object.now.kind op.now.path op.now.act x.0) }
+        ensures untouched { TouchesNoDisk result }
     {
         if self.is_down() {
             return Err(DurableError::Down);
@@ -273,6 +284,7 @@ impl<C: Crdt, D: Disk + Drop> DurablePartition<C, D> {
         requires fits { fits_kind C.too_deep object.now op.now ≡ true }
         ensures answers { (index : ℕ) → CallsOn (kinds_of C.laws) (codec_of C.spells) D.state self.old self.new Anything (AskUpdate tx s.now object.now own.now op.now) (λ x e. (read : List (Part C.Effect)) × (e ≡ Updated tx s.now object.now own.now op.now read (record { object = object.now; index = index; effect = x.0 }) x.1)) result }
         ensures ready { (p : PartState C.Effect) → StandsOn (codec_of C.spells) D.state self.old p → is_tx tx ≡ true → are_numbered own.now ≡ true → IfOk result (λ x. IsReady C.is_of C.can_put C.sets C.spelling object.now.kind op.now.path op.now.act x.0) }
+        ensures untouched { TouchesNoDisk result }
     {
         if self.is_down() {
             return Err(DurableError::Down);
@@ -296,6 +308,7 @@ impl<C: Crdt, D: Disk + Drop> DurablePartition<C, D> {
         requires { IsOther self.old.tables.sites self.old.tables.id.site to }
         ensures answers { CallsOn (kinds_of C.laws) (codec_of C.spells) D.state self.old self.new Anything (AskMessage to from) (λ m e. (m.to ≡ to) × (e ≡ event.Sent from m)) result }
         ensures ready { (p : PartState C.Effect) → StandsOn (codec_of C.spells) D.state self.old p → IfOk result (λ m. have_updates m.parts ≡ true → can_put_message C.has C.is_of C.can_put m ≡ true) }
+        ensures untouched { TouchesNoDisk result }
     {
         if self.is_down() {
             return Err(DurableError::Down);
@@ -311,7 +324,9 @@ impl<C: Crdt, D: Disk + Drop> DurablePartition<C, D> {
     ///
     /// `Down` as `DurableError` says.
     pub fn report(&self) -> Result<VTime, DurableError>
-        ensures { CallsOn (kinds_of C.laws) (codec_of C.spells) D.state self.now self.now Anything AskReport (λ b e. e ≡ event.Reported b) result }
+        ensures answers { CallsOn (kinds_of C.laws) (codec_of C.spells) D.state self.now self.now Anything AskReport (λ b e. e ≡ event.Reported b) result }
+        ensures fed { TakesNoMemory result }
+        ensures untouched { TouchesNoDisk result }
     {
         if self.is_down() {
             return Err(DurableError::Down);
@@ -329,7 +344,9 @@ impl<C: Crdt, D: Disk + Drop> DurablePartition<C, D> {
         requires least { 1 ≤ part }
         requires most { part ≤ self.old.tables.parts }
         requires width { length bounds.now ≡ self.old.tables.sites }
-        ensures { (number : ℕ) → CallsOn (kinds_of C.laws) (codec_of C.spells) D.state self.old self.new Anything (AskHear number part bounds.now) (λ stable e. e ≡ event.Heard number part bounds.now stable) result }
+        ensures answers { (number : ℕ) → CallsOn (kinds_of C.laws) (codec_of C.spells) D.state self.old self.new Anything (AskHear number part bounds.now) (λ stable e. e ≡ event.Heard number part bounds.now stable) result }
+        ensures fed { TakesNoMemory result }
+        ensures untouched { TouchesNoDisk result }
     {
         if self.is_down() {
             return Err(DurableError::Down);

@@ -34,7 +34,12 @@ impl<C: Crdt> Partition<C> {
 }
 
 /// The bounds, with the own bound as the entry of the own site.
-fn own_bounds<E>(clock: &Leased, prepared: &Prepared<E>, site: u8, bounds: &VTime) -> VTime
+pub(crate) fn own_bounds<E>(
+    clock: &Leased,
+    prepared: &Prepared<E>,
+    site: u8,
+    bounds: &VTime,
+) -> VTime
     requires least { 1 ≤ site }
     requires most { site ≤ length bounds.now }
     ensures { result ≡ replaced bounds.now site (own_bound clock.now.clock prepared.now.entries) }

@@ -1,7 +1,7 @@
 // What a log that is read again tells a partition.
 ghost use Rattle.std.specs.Prelude.{◌≡◌, ◌≢◌, ◌≤◌, ◌⊎◌, ℕ, List, false, Some, Err, IfOk, OnOk};
 ghost use Rattle.disk_core.specs.Moments.{AtEachMoment};
-ghost use Rattle.disk_core.specs.States.{GoesOn, Rose};
+ghost use Rattle.disk_core.specs.States.{GoesOn, Fails};
 ghost use Rattle.gate_log.specs.Logs.{disk_of, is_closed, read_at_opening, IsReady};
 ghost use Rattle.gate_log.specs.Payloads.{placed};
 ghost use Rattle.gate_log.specs.Rest.{Lowers};
@@ -98,11 +98,11 @@ pub(crate) fn read_again<C: Crdt, D: Disk + Drop>(
         → (found : List (Record C.Effect)) × MayFind l torn found × IsUnfitAt (codec_of C.spells) sites parts id found at }
     ensures moments { (l torn : List (Record C.Effect)) → LeavesFront (codec_of C.spells) l torn (D.state (disk_of (gates_of log.old)))
         → AtEachMoment (D.state (disk_of (gates_of log.old))).story (D.state (disk_of (gates_of log.new))).story (HoldsFront (codec_of C.spells) l torn) }
-    ensures failed { result ≡ Err DiskFailed → Rose (D.state (disk_of (gates_of log.old))).faults (D.state (disk_of (gates_of log.new))).faults }
+    ensures failed { result ≡ Err DiskFailed → Fails (D.state (disk_of (gates_of log.old))) (D.state (disk_of (gates_of log.new))) }
     ensures ready { IsReady D.state (gates_of log.old) → IsReady D.state (gates_of log.new) }
     ensures open { OnOk result (is_closed (gates_of log.new) ≡ false) }
     ensures goes_on { GoesOn (D.state (disk_of (gates_of log.old))) (D.state (disk_of (gates_of log.new))) }
-    ensures left { Lowers 16 (D.state (disk_of (gates_of log.old))).left (D.state (disk_of (gates_of log.new))).left }
+    ensures left { Lowers 3 (D.state (disk_of (gates_of log.old))).left (D.state (disk_of (gates_of log.new))).left }
     ensures unfired { OnOk result ((D.state (disk_of (gates_of log.new))).left ≢ Some 0) }
 {
     log.reopen(alloc)?;

@@ -15,6 +15,7 @@ use partition_core::{DurablePartition, Restarted};
 use site_vector::{PartId, TxId, VTime};
 use std::alloc::Global;
 use std::marker::Model;
+use world_model::Mode;
 
 /// How many sites the cluster has, and how many partitions each of them.
 pub(crate) const SIZE: u8 = 2;
@@ -129,7 +130,7 @@ impl Place {
     }
 
     fn begin(&mut self) -> Result<u64, Failure> {
-        let (tx, _s) = self.partition.begin(&VTime::zero(SIZE))?;
+        let (tx, _s) = self.partition.begin(&VTime::zero(SIZE), Mode::Fresh)?;
         Ok(tx.time)
     }
 

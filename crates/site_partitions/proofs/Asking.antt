@@ -10,6 +10,7 @@ use Rattle.crdt_core.specs.Spelled.{is_tx}
 use Rattle.field_codec.specs.FormLaws.{and_true}
 use Rattle.log_records.specs.Records.{can_put_record}
 use Rattle.log_records.specs.Updates.{can_put_updates}
+use Rattle.world_model.specs.lines.Lines.{Wish}
 use Rattle.world_model.specs.rules.Event.{Ask, AskBegin, AskRead, AskUpdate, AskPrepare, AskDecide, AskFinish, AskMessage, AskHear, Reported, Refused, IsGone, Entry, time_of, report_count}
 use Rattle.world_model.specs.lines.Places.{IsOther, IsPlace}
 use Rattle.world_model.specs.rules.World.{plan_of}
@@ -51,8 +52,8 @@ module _ {S E D : Type 0} (w : Types S E D) (sites parts : ℕ) (items : List (D
   of_site : (ask : Ask E) (n : ℕ) → MayAsk w c at ask → at.site ≡ n → n ≡ t.tables.id.site
   of_site ask n m e = sym e ∙ sym (ap (λ (p : PartId). p.site) (at_place m.run m.reached m.place).id)
 
-  pub begin_width : (who dep : List ℕ) → MayAsk w c at (AskBegin who dep) → length dep ≡ t.tables.sites
-  begin_width who dep m = of_cluster (AskBegin who dep) (length dep) m (handed_width w.kinds c.sites c.parts m.run m.reached.state m.reached.is_run dep m.allowed)
+  pub begin_width : (who : List ℕ) (wish : Wish) → MayAsk w c at (AskBegin who wish) → length wish.past ≡ t.tables.sites
+  begin_width who wish m = of_cluster (AskBegin who wish) (length wish.past) m (handed_width w.kinds c.sites c.parts m.run m.reached.state m.reached.is_run wish.past m.allowed)
 
   pub read_width : (tx : TxId) (s : List ℕ) (o : ObjectId) (own : List (Upd E)) → MayAsk w c at (AskRead tx s o own) → length s ≡ t.tables.sites
   read_width tx s o own m = of_cluster (AskRead tx s o own) (length s) m (shown_width w.kinds c.sites c.parts m.run m.reached.state m.reached.is_run _ _ _ tx s m.allowed.begun)

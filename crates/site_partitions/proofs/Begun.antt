@@ -8,6 +8,7 @@ use Rattle.site_vector.specs.declared.ids.TxId.{TxId}
 use Rattle.site_vector.specs.Order.{same_tx_is}
 use Rattle.crdt_core.specs.KindsOf.{Kinds}
 use Rattle.crdt_core.specs.Spelled.{is_between, is_tx}
+use Rattle.world_model.specs.lines.Lines.{Wish}
 use Rattle.world_model.specs.rules.Event.{Event, Began, Entry}
 use Rattle.world_model.specs.rules.Partition.{PartState, PartStep, IsBegin}
 use Rattle.world_model.specs.lines.Places.{IsPlace}
@@ -22,8 +23,8 @@ spelled t a b c d e =
     and_true _ _ (is_within 1 8 t.site a b) (and_true _ _ (is_within 1 16 t.part c d) (is_within 0 (2 ^ 62) t.time (omega arith) e))
 
 module _ {S E : Type 0} (kinds : Kinds S E) (sites parts : ℕ) (few_sites : sites ≤ 8) (few_parts : parts ≤ 16) where
-  named_spelled : (at : PartId) (p : PartState E) (dep : List ℕ) (t : TxId) (s : List ℕ) → IsPlace sites parts at → IsBegin sites parts at p dep t s → is_tx t ≡ true
-  named_spelled at p dep t s h b = let early = b.early in
+  named_spelled : (at : PartId) (p : PartState E) (wish : Wish) (t : TxId) (s : List ℕ) → IsPlace sites parts at → IsBegin sites parts at p wish t s → is_tx t ≡ true
+  named_spelled at p wish t s h b = let early = b.early in
       subst (λ u. is_tx u ≡ true) (sym b.named)
       (spelled (record { site = at.site; part = at.part; time = p.now + 1 }) h.least_site (omega (arith, h.most_site, few_sites)) h.least_part (omega (arith, h.most_part, few_parts)) (omega (arith, early)))
 

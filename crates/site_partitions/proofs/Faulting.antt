@@ -22,21 +22,21 @@ use Rattle.site_partitions.specs.Faults.{CrashesAt, StaysDownAt, ComesUpAt, Rest
 use Rattle.site_partitions.proofs.Going.{moves, stands_at, reached_as, reached_still}
 
 -- a disk in the same state but for its fuse has gone on
-gone_on : (old new : DiskState) → new.tells ≡ old.tells → new.room ≡ old.room → new.faults ≡ old.faults → new.starved ≡ old.starved → GoesOn old new
-gone_on old new a b c d = record { tells = a; room = b; later = omega (arith, c); starved = λ h. subst (λ x. IsTrue x) (sym d) h }
+gone_on : (old new : DiskState) → new.tells ≡ old.tells → new.room ≡ old.room → new.sound ≡ old.sound → new.faults ≡ old.faults → new.starved ≡ old.starved → GoesOn old new
+gone_on old new a b e c d = record { tells = a; room = b; sound = e; later = omega (arith, c); starved = λ h. subst (λ x. IsTrue x) (sym d) h }
 
-fused_on : (old new : DiskState) (left : Option ℕ) → new ≡ record old { left = left } → GoesOn old new
-fused_on old new left e = gone_on old new (ap (λ (d : DiskState). d.tells) e) (ap (λ (d : DiskState). d.room) e) (ap (λ (d : DiskState). d.faults) e) (ap (λ (d : DiskState). d.starved) e)
+fused_on : (old new : DiskState) (left : Option ℕ) (keep : ℕ) → new ≡ record old { left = left; keep = keep } → GoesOn old new
+fused_on old new left keep e = gone_on old new (ap (λ (d : DiskState). d.tells) e) (ap (λ (d : DiskState). d.room) e) (ap (λ (d : DiskState). d.sound) e) (ap (λ (d : DiskState). d.faults) e) (ap (λ (d : DiskState). d.starved) e)
 
 stays_so : (old new : DiskState) → new ≡ old → GoesOn old new
-stays_so old new e = gone_on old new (ap (λ (d : DiskState). d.tells) e) (ap (λ (d : DiskState). d.room) e) (ap (λ (d : DiskState). d.faults) e) (ap (λ (d : DiskState). d.starved) e)
+stays_so old new e = gone_on old new (ap (λ (d : DiskState). d.tells) e) (ap (λ (d : DiskState). d.room) e) (ap (λ (d : DiskState). d.sound) e) (ap (λ (d : DiskState). d.faults) e) (ap (λ (d : DiskState). d.starved) e)
 
 same_tables : {E : Type 0} (old new : Tables E) → new ≡ old → IsSame old new
 same_tables old new e = record { id = ap (λ (t : Tables _). t.id) e; sites = ap (λ (t : Tables _). t.sites) e; parts = ap (λ (t : Tables _). t.parts) e }
 
 -- a fuse that was taken away, or stayed as it was
 revived_on : (old new : DiskState) → (old.left ≡ Some 0 → new ≡ record old { left = None }) → (old.left ≢ Some 0 → new ≡ old) → (left : Option ℕ) → old.left ≡ left → GoesOn old new
-revived_on old new fired burning (Some zero) e = fused_on old new None (fired e)
+revived_on old new fired burning (Some zero) e = fused_on old new None old.keep (fired e)
 revived_on old new fired burning (Some (suc n)) e = stays_so old new (burning (λ k. absurd (cc)))
 revived_on old new fired burning None e = stays_so old new (burning (λ k. absurd (cc)))
 
@@ -80,9 +80,9 @@ module _ {S E D : Type 0} (w : Types S E D) (sites parts : ℕ) (items : List (D
   restarted (Err restart.NoMemory) s = stayed s
   restarted (Err (restart.Damaged place)) s = (stayed s.0, λ run r. s.1 (r.state at) (stood run r).stands)
 
-  pub armed : (k : ℕ) → disk_in w.state u ≡ record (disk_in w.state t) { left = Some k } → (u.tables ≡ t.tables) × (is_down u ≡ is_down t) → ((p : PartState E) → StandsOn w.codec w.state t p → StandsOn w.codec w.state u p) → ArmsAt w old new at k
-  armed k left same stands = record {
-    moves = moves w sites parts items old view size at place i is below t u there (fused_on _ _ (Some k) left);
+  pub armed : (k keep : ℕ) → disk_in w.state u ≡ record (disk_in w.state t) { left = Some k; keep = keep } → (u.tables ≡ t.tables) × (is_down u ≡ is_down t) → ((p : PartState E) → StandsOn w.codec w.state t p → StandsOn w.codec w.state u p) → ArmsAt w old new at k keep
+  armed k keep left same stands = record {
+    moves = moves w sites parts items old view size at place i is below t u there (fused_on _ _ (Some k) keep left);
     armed = left;
     down = same.1;
     keeps = λ run r. reached_still w sites parts items old view size at place i is below t u there (same_tables _ _ same.0) run r (stands (r.state at) (stood run r).stands);

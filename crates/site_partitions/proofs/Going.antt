@@ -6,7 +6,7 @@ use Rattle.std.proofs.lemmas.List.{get_or-set_same, get_or-set_other, set-get_or
 use Rattle.site_vector.specs.declared.ids.PartId.{PartId}
 use Rattle.site_vector.specs.Ids.{same_part}
 use Rattle.site_vector.specs.Order.{same_part_is, same_part_refl}
-use Rattle.disk_core.specs.States.{GoesOn as DiskGoesOn, Rose}
+use Rattle.disk_core.specs.States.{GoesOn as DiskGoesOn, Fails}
 use Rattle.world_model.specs.rules.Asking.{MayCall, asked_by, is_own_word}
 use Rattle.world_model.specs.rules.Event.{Ask, Event, Entry, Refusal, Refused, IsDown, HasNoRoom, Cut, attempt}
 use Rattle.world_model.specs.rules.World.{plan_of}
@@ -219,7 +219,7 @@ module _ {S E D : Type 0} (w : Types S E D) where
       called Shows done (Err call.Disk) puts s =
           let g = goes_on May ask G (IsCutOff Shows) s.2 (λ run r m. (given run r m, λ e k. subst (IsAnswer old run r at ask) (sym k.2) (of_cut old run r at ask k.0 (done k.1.0 run r m k.0 k.1.1)))) in (
             g.0,
-            subst (λ (m : Moves w.state old changed_to at). Rose (disk_in w.state m.before).faults (disk_in w.state m.after).faults) (sym g.1) s.0,
+            subst (λ (m : Moves w.state old changed_to at). Fails (disk_in w.state m.before) (disk_in w.state m.after)) (sym g.1) s.0,
             subst (λ (m : Moves w.state old changed_to at). is_down m.after ≡ true) (sym g.1) s.1,
           )
       called Shows done (Err (call.Full room)) puts s =

@@ -6,6 +6,7 @@ use Rattle.site_vector.specs.declared.ids.PartId.{PartId}
 use Rattle.site_vector.specs.declared.ids.TxId.{TxId}
 use Rattle.site_vector.specs.VectorLaws.{length_join}
 use Rattle.crdt_core.specs.KindsOf.{Kinds}
+use Rattle.world_model.specs.lines.Lines.{Wish}
 use Rattle.world_model.specs.rules.Event.{Event, Began, Decided, Reported, Entry, WasShown, attempt, voted, time_of}
 use Rattle.world_model.specs.rules.Partition.{PartState, PartStep}
 use Rattle.world_model.specs.lines.Dependency.{joined}
@@ -24,11 +25,11 @@ module _ {S E : Type 0} (kinds : Kinds S E) (sites parts : ℕ) where
   pub taking_width : (run : List (Entry E)) (state : PartId → PartState E) → IsWorldRun kinds sites parts run state → (t : TxId) (p : PartId) (n : ℕ) → takes_part (plan_of sites parts run) t p ≡ true → length (slice_set (snapshot_of run t) (t.site - 1) n) ≡ sites
   taking_width run state r t p n h = length-set (snapshot_of run t) (t.site - 1) n ∙ snapshot_width kinds sites parts run state r t (part_begun sites run t p h)
 
-  begin_width : (at : PartId) (p q : PartState E) (event : Event E) (who dep : List ℕ) (t : TxId) (s : List ℕ) → event ≡ Began who dep t s → PartStep kinds sites parts at p event q → length s ≡ sites
+  begin_width : (at : PartId) (p q : PartState E) (event : Event E) (who : List ℕ) (dep : Wish) (t : TxId) (s : List ℕ) → event ≡ Began who dep t s → PartStep kinds sites parts at p event q → length s ≡ sites
   begin_width at p q event who dep t s e st = (subst (λ x. PartStep kinds sites parts at p x q) e st).1.width
 
   -- of a snapshot
-  pub shown_width : (run : List (Entry E)) (state : PartId → PartState E) → IsWorldRun kinds sites parts run state → (p : PartId) (who dep : List ℕ) (t : TxId) (s : List ℕ) → WasShown run p (Began who dep t s) → length s ≡ sites
+  pub shown_width : (run : List (Entry E)) (state : PartId → PartState E) → IsWorldRun kinds sites parts run state → (p : PartId) (who : List ℕ) (dep : Wish) (t : TxId) (s : List ℕ) → WasShown run p (Began who dep t s) → length s ≡ sites
   shown_width [] state r p who dep t s h = absurd h
   shown_width (e ∷ run) state r p who dep t s h = ⊎_elim
       (λ (k : (e.at ≡ p) × (e.event ≡ Began who dep t s)). begin_width e.at (r.0 e.at) (state e.at) e.event who dep t s k.1 r.2.step)

@@ -2,7 +2,7 @@
 use Rattle.std.specs.Prelude.{◌≡◌, ℕ, true, false, List, ◌∷◌, Result, Ok, Err, ⊤}
 use Rattle.site_vector.specs.declared.ids.PartId.{PartId}
 use Rattle.site_vector.specs.declared.ids.TxId.{TxId}
-use Rattle.disk_core.specs.States.{Rose}
+use Rattle.disk_core.specs.States.{Fails}
 use Rattle.world_model.specs.rules.Asking.{MayCall}
 use Rattle.world_model.specs.rules.Event.{Ask, Event, Entry, Aborted, Refused, IsDown, HasNoRoom}
 use Rattle.world_model.specs.rules.Plan.{IsAllowed}
@@ -39,7 +39,7 @@ module _ {S E D : Type 0} (w : Types S E D) (old new : Held E D) (May : OnRuns w
     pub moves : Moves w.state old new at
     pub goes : (run : List (Entry E)) (r : Reaches w old run) → May run r → (g : Goes w new run at ask Shows) × Spends w.kinds w.codec w.state moves.before moves.after (r.state at) g.event
 
-  -- it would have been done, but for the room of the disk
+  -- something would have been written of it, but for the room of the disk
   abbrev pub FindsNoRoom : Moves w.state old new at → (Event E → Type 0) → ℕ → Type 0
   FindsNoRoom m Shows room = (room ≡ (disk_in w.state m.before).room) × ((run : List (Entry E)) (r : Reaches w old run) → May run r → IsFull w.kinds w.codec w.state m.before m.after (r.state at) Shows room)
 
@@ -49,7 +49,7 @@ module _ {S E D : Type 0} (w : Types S E D) (old new : Held E D) (May : OnRuns w
   -- where memory runs out, nothing happened
   CallsIf Shows (Err call.NoMemory) = new ≡ old
   CallsIf Shows (Err call.Down) = (new ≡ old) × (g : GoesOn (λ e. e ≡ Refused ask IsDown)) × (is_down g.moves.before ≡ true)
-  CallsIf Shows (Err call.Disk) = (g : GoesOn (IsCutOff Shows)) × Rose (disk_in w.state g.moves.before).faults (disk_in w.state g.moves.after).faults × (is_down g.moves.after ≡ true)
+  CallsIf Shows (Err call.Disk) = (g : GoesOn (IsCutOff Shows)) × Fails (disk_in w.state g.moves.before) (disk_in w.state g.moves.after) × (is_down g.moves.after ≡ true)
   CallsIf Shows (Err (call.Full room)) = (new ≡ old) × (g : GoesOn (λ e. e ≡ Refused ask (HasNoRoom room))) × FindsNoRoom g.moves (AnySuch Shows) room
   CallsIf Shows (Err (call.Refused why)) = GoesOn (λ e. e ≡ Refused ask (cause why))
 

@@ -1,6 +1,6 @@
 -- What a cluster is made of, and what is handed back where it isn't made.
 use Rattle.std.specs.Prelude.{◌≡◌, ℕ, List, [], ◌∷◌, ◌++◌, length, ⊤}
-use Rattle.disk_core.specs.States.{DiskState, GoesOn, Rose}
+use Rattle.disk_core.specs.States.{DiskState, GoesOn, Fails}
 use Rattle.gate_log.specs.Rest.{AtRest}
 use Rattle.world_model.specs.lines.Places.{IsPlace}
 use Rattle.partition_core.specs.declared.restart.RestartError.TheVariants as restart
@@ -18,4 +18,4 @@ module _ {D : Type 0} (state : D → DiskState) where
   abbrev pub HandsBack : (sites parts : ℕ) → List D → MakeError D → Type 0
   HandsBack sites parts disks make.NoMemory = ⊤
   HandsBack sites parts disks (make.Partition at disk why) = IsPlace sites parts at
-      × ((given : D) × (front : List D) × (more : List D) × (disks ≡ front ++ given ∷ more) × (length front ≡ index_of parts at) × GoesOn (state given) (state disk) × (why ≡ restart.Disk → Rose (state given).faults (state disk).faults))
+      × ((given : D) × (front : List D) × (more : List D) × (disks ≡ front ++ given ∷ more) × (length front ≡ index_of parts at) × GoesOn (state given) (state disk) × (why ≡ restart.Disk → Fails (state given) (state disk)))

@@ -3,10 +3,12 @@ ghost use Rattle.crdt_core.specs.declared.record.Part.{Part};
 ghost use Rattle.crdt_core.specs.KindsOf.{fits_kind};
 ghost use Rattle.crdt_core.specs.Log.{end_of_time};
 ghost use Rattle.world_model.specs.rules.Event.{AskTick, AskBegin, AskRead, AskUpdate, AskPrepare, AskDecide, AskFinish, AskAbort, AskMessage, AskTake, AskReport, AskHear, Ticked, Began, Updated, Decided, Finished, Aborted, Sent, Took, Reported, Heard};
+ghost use Rattle.world_model.specs.lines.Lines.{wish_of};
 ghost use Rattle.world_model.specs.rules.Event as event;
 ghost use Rattle.world_model.specs.lines.Places.{IsOther};
 ghost use Rattle.world_model.specs.lines.Places.{IsPlace};
 ghost use Rattle.world_model.specs.rules.Plan.{update_count};
+ghost use Rattle.partition_core.specs.Untouched.{TakesNoMemory, TouchesNoDisk};
 ghost use Rattle.site_partitions.specs.Reaches.{types_of, MayAsk, HasBegun};
 ghost use Rattle.site_partitions.specs.Answers.{Any, Calls};
 
@@ -16,6 +18,7 @@ use crdt_core::{Crdt, Message, ObjectId, Op, Upd, UpdateList, Value};
 use disk_core::Disk;
 use partition_core::DurableError;
 use site_vector::{PartId, TxId, VTime};
+use world_model::Mode;
 
 impl<C: Crdt, D: Disk + Drop> Sites<C, D> {
     /// The clock of a partition reads a time, at most 2^62, and shows it unless it shows a later one. Answers what it
@@ -27,13 +30,15 @@ impl<C: Crdt, D: Disk + Drop> Sites<C, D> {
     pub fn tick_at(&mut self, at: PartId, clock_time: u64) -> Result<u64, DurableError>
         requires place { IsPlace self.old.sites self.old.parts at }
         requires clock_time { clock_time ≤ end_of_time }
-        ensures { Calls (types_of C.laws C.spells D.state) self.old self.new Any at (AskTick clock_time) (λ n e. e ≡ Ticked clock_time n) result }
+        ensures answers { Calls (types_of C.laws C.spells D.state) self.old self.new Any at (AskTick clock_time) (λ n e. e ≡ Ticked clock_time n) result }
+        ensures fed { TakesNoMemory result }
     {
         let i = index_of(at, self.sites, self.parts);
         self.partitions[i].tick(clock_time)
     }
 
-    /// Begins a transaction of a session that depends on these times: its id, and its snapshot. Takes no memory.
+    /// Begins a transaction of a session that depends on these times, as the mode says: its id, and its snapshot. Takes no
+    /// memory.
     ///
     /// # Errors
     ///
@@ -42,12 +47,14 @@ impl<C: Crdt, D: Disk + Drop> Sites<C, D> {
         &mut self,
         at: PartId,
         dependency: &VTime,
+        mode: Mode,
     ) -> Result<(TxId, VTime), DurableError>
-        requires { (who : List ℕ) × MayAsk (types_of C.laws C.spells D.state) self.old at (AskBegin who dependency.now) }
-        ensures { (who : List ℕ) → Calls (types_of C.laws C.spells D.state) self.old self.new Any at (AskBegin who dependency.now) (λ x e. e ≡ Began who dependency.now x.0 x.1) result }
+        requires { (who : List ℕ) × MayAsk (types_of C.laws C.spells D.state) self.old at (AskBegin who (wish_of dependency.now mode)) }
+        ensures answers { (who : List ℕ) → Calls (types_of C.laws C.spells D.state) self.old self.new Any at (AskBegin who (wish_of dependency.now mode)) (λ x e. e ≡ Began who (wish_of dependency.now mode) x.0 x.1) result }
+        ensures fed { TakesNoMemory result }
     {
         let i = index_of(at, self.sites, self.parts);
-        self.partitions[i].begin(dependency)
+        self.partitions[i].begin(dependency, mode)
     }
 
     /// What an object shows under a transaction's snapshot, with the transaction's own earlier updates of it.
@@ -65,7 +72,8 @@ impl<C: Crdt, D: Disk + Drop> Sites<C, D> {
     ) -> Result<Value, DurableError>
         requires has { C.has object.now.kind ≡ true }
         requires may { MayAsk (types_of C.laws C.spells D.state) self.old at (AskRead tx s.now object.now own.now) }
-        ensures { Calls (types_of C.laws C.spells D.state) self.old self.new Any at (AskRead tx s.now object.now own.now) (λ v e. (read : List (Part C.Effect)) × (e ≡ event.Read tx s.now object.now own.now read v)) result }
+        ensures answers { Calls (types_of C.laws C.spells D.state) self.old self.new Any at (AskRead tx s.now object.now own.now) (λ v e. (read : List (Part C.Effect)) × (e ≡ event.Read tx s.now object.now own.now read v)) result }
+        ensures untouched { TouchesNoDisk result }
     {
         let i = index_of(at, self.sites, self.parts);
         self.partitions[i].read(self.alloc, tx, s, object, own)
@@ -92,7 +100,8 @@ impl<C: Crdt, D: Disk + Drop> Sites<C, D> {
         requires least { 1 ≤ index }
         requires most { index ≤ 256 }
         requires may { MayAsk (types_of C.laws C.spells D.state) self.old at (AskUpdate tx s.now object.now own.now op.now) }
-        ensures { Calls (types_of C.laws C.spells D.state) self.old self.new (λ run. index ≡ update_count run tx + 1) at (AskUpdate tx s.now object.now own.now op.now) (λ x e. (read : List (Part C.Effect)) × (e ≡ Updated tx s.now object.now own.now op.now read (record { object = object.now; index = index; effect = x.0 }) x.1)) result }
+        ensures answers { Calls (types_of C.laws C.spells D.state) self.old self.new (λ run. index ≡ update_count run tx + 1) at (AskUpdate tx s.now object.now own.now op.now) (λ x e. (read : List (Part C.Effect)) × (e ≡ Updated tx s.now object.now own.now op.now read (record { object = object.now; index = index; effect = x.0 }) x.1)) result }
+        ensures untouched { TouchesNoDisk result }
     {
         let i = index_of(at, self.sites, self.parts);
         self.partitions[i].update_fitting(self.alloc, tx, s, object, own, op)
@@ -126,7 +135,8 @@ impl<C: Crdt, D: Disk + Drop> Sites<C, D> {
     /// `Gone` exactly where the transaction is neither pending nor committed there; `Down`, `Full`, `Disk`.
     pub fn decide_at(&mut self, at: PartId, tx: TxId, c: &VTime) -> Result<(), DurableError>
         requires { MayAsk (types_of C.laws C.spells D.state) self.old at (AskDecide tx c.now) }
-        ensures { Calls (types_of C.laws C.spells D.state) self.old self.new Any at (AskDecide tx c.now) (λ n e. e ≡ Decided tx c.now) result }
+        ensures answers { Calls (types_of C.laws C.spells D.state) self.old self.new Any at (AskDecide tx c.now) (λ n e. e ≡ Decided tx c.now) result }
+        ensures fed { TakesNoMemory result }
     {
         let i = index_of(at, self.sites, self.parts);
         self.partitions[i].decide(tx, c)
@@ -139,7 +149,8 @@ impl<C: Crdt, D: Disk + Drop> Sites<C, D> {
     /// `Gone` exactly where the transaction is neither pending nor committed there; `Down`, `Full`, `Disk`.
     pub fn finish_at(&mut self, at: PartId, tx: TxId, c: &VTime) -> Result<(), DurableError>
         requires { MayAsk (types_of C.laws C.spells D.state) self.old at (AskFinish tx c.now) }
-        ensures { Calls (types_of C.laws C.spells D.state) self.old self.new Any at (AskFinish tx c.now) (λ n e. e ≡ Finished tx c.now) result }
+        ensures answers { Calls (types_of C.laws C.spells D.state) self.old self.new Any at (AskFinish tx c.now) (λ n e. e ≡ Finished tx c.now) result }
+        ensures fed { TakesNoMemory result }
     {
         let i = index_of(at, self.sites, self.parts);
         self.partitions[i].finish(tx, c)
@@ -153,7 +164,8 @@ impl<C: Crdt, D: Disk + Drop> Sites<C, D> {
     pub fn abort_at(&mut self, at: PartId, tx: TxId) -> Result<(), DurableError>
         requires began { HasBegun (types_of C.laws C.spells D.state) self.old tx }
         requires may { MayAsk (types_of C.laws C.spells D.state) self.old at (AskAbort tx) }
-        ensures { Calls (types_of C.laws C.spells D.state) self.old self.new Any at (AskAbort tx) (λ n e. e ≡ Aborted tx true) result }
+        ensures answers { Calls (types_of C.laws C.spells D.state) self.old self.new Any at (AskAbort tx) (λ n e. e ≡ Aborted tx true) result }
+        ensures fed { TakesNoMemory result }
     {
         let i = index_of(at, self.sites, self.parts);
         self.partitions[i].abort(tx)
@@ -173,7 +185,8 @@ impl<C: Crdt, D: Disk + Drop> Sites<C, D> {
     ) -> Result<Message<C::Effect>, DurableError>
         requires place { IsOther self.old.sites at.site to }
         requires may { MayAsk (types_of C.laws C.spells D.state) self.old at (AskMessage to from) }
-        ensures { Calls (types_of C.laws C.spells D.state) self.old self.new Any at (AskMessage to from) (λ m e. (m.to ≡ to) × (e ≡ Sent from m)) result }
+        ensures answers { Calls (types_of C.laws C.spells D.state) self.old self.new Any at (AskMessage to from) (λ m e. (m.to ≡ to) × (e ≡ Sent from m)) result }
+        ensures untouched { TouchesNoDisk result }
     {
         let i = index_of(at, self.sites, self.parts);
         self.partitions[i].release(self.alloc, to, from)
@@ -199,7 +212,9 @@ impl<C: Crdt, D: Disk + Drop> Sites<C, D> {
     /// `Down`, as the partition's.
     pub fn report_at(&self, at: PartId) -> Result<VTime, DurableError>
         requires { IsPlace self.now.sites self.now.parts at }
-        ensures { Calls (types_of C.laws C.spells D.state) self.now self.now Any at AskReport (λ b e. e ≡ Reported b) result }
+        ensures answers { Calls (types_of C.laws C.spells D.state) self.now self.now Any at AskReport (λ b e. e ≡ Reported b) result }
+        ensures fed { TakesNoMemory result }
+        ensures untouched { TouchesNoDisk result }
     {
         let i = index_of(at, self.sites, self.parts);
         self.partitions[i].report()
@@ -213,7 +228,9 @@ impl<C: Crdt, D: Disk + Drop> Sites<C, D> {
     /// `Down`, as the partition's.
     pub fn hear_at(&mut self, at: PartId, part: u8, bounds: &VTime) -> Result<VTime, DurableError>
         requires { (number : ℕ) × MayAsk (types_of C.laws C.spells D.state) self.old at (AskHear number part bounds.now) }
-        ensures { (number : ℕ) → Calls (types_of C.laws C.spells D.state) self.old self.new Any at (AskHear number part bounds.now) (λ stable e. e ≡ Heard number part bounds.now stable) result }
+        ensures answers { (number : ℕ) → Calls (types_of C.laws C.spells D.state) self.old self.new Any at (AskHear number part bounds.now) (λ stable e. e ≡ Heard number part bounds.now stable) result }
+        ensures fed { TakesNoMemory result }
+        ensures untouched { TouchesNoDisk result }
     {
         let i = index_of(at, self.sites, self.parts);
         self.partitions[i].hear(part, bounds)

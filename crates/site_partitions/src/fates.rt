@@ -6,6 +6,7 @@ ghost use Rattle.world_model.specs.rules.Event.{Entry as Happened, AskAbort, Abo
 ghost use Rattle.world_model.specs.rules.Partition.{fate_of};
 ghost use Rattle.world_model.specs.lines.Places.{IsPlace};
 ghost use Rattle.partition_core.specs.Answers.{fate_told};
+ghost use Rattle.partition_core.specs.Untouched.{TakesNoMemory};
 ghost use Rattle.site_partitions.specs.Answers.{AbortsByLead, CallsIf};
 ghost use Rattle.site_partitions.specs.Fates.{OfState, IsLead, AreWaiting, waiting_of};
 ghost use Rattle.site_partitions.specs.Held.{IsDownAt};
@@ -69,7 +70,8 @@ impl<C: Crdt, D: Disk + Drop> Sites<C, D> {
     pub fn drop_at(&mut self, at: PartId, tx: TxId) -> Result<(), DurableError>
         requires place { IsPlace self.old.sites self.old.parts at }
         requires began { HasBegun (types_of C.laws C.spells D.state) self.old tx }
-        ensures { CallsIf (types_of C.laws C.spells D.state) self.old self.new (AbortsByLead (types_of C.laws C.spells D.state) self.old at tx) at (AskAbort tx) (λ n e. e ≡ Aborted tx false) result }
+        ensures answers { CallsIf (types_of C.laws C.spells D.state) self.old self.new (AbortsByLead (types_of C.laws C.spells D.state) self.old at tx) at (AskAbort tx) (λ n e. e ≡ Aborted tx false) result }
+        ensures fed { TakesNoMemory result }
     {
         let i = index_of(at, self.sites, self.parts);
         self.partitions[i].abort(tx)

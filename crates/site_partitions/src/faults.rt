@@ -43,7 +43,7 @@ impl<C: Crdt, D: Disk + Drop> Sites<C, Fused<D>> {
     /// later ones. Where it writes, at most the first `keep` bytes are written.
     pub fn arm_at(&mut self, at: PartId, k: u64, keep: u64)
         requires { IsPlace self.old.sites self.old.parts at }
-        ensures { ArmsAt (types_of C.laws C.spells (fused_state D.state)) self.old self.new at k }
+        ensures { ArmsAt (types_of C.laws C.spells (fused_state D.state)) self.old self.new at k keep }
     {
         let i = index_of(at, self.sites, self.parts);
         self.partitions[i].arm(k, keep);

@@ -12,11 +12,11 @@ use Rattle.partition_core.proofs.Durably.{down_call}
 use Rattle.partition_core.proofs.Logged.{on_disk, opened_on, opened_steps, refused_on, decided_already, decide_by, decide_refutes, end_done, end_stopped, end_never}
 use Rattle.partition_core.proofs.durable.DurablePartition.decide.Goals as goal
 
-pub returns-then-is_down : goal.returns-then-is_down
-returns-then-is_down g c = down_call (kinds_of g.C.Crdt.laws) (codec_of g.C.Crdt.spells) g.D.Disk.state c.args.self.now Anything (AskDecide c.args.tx c.args.c.now) (λ (n : Unit {0}) e. e ≡ Decided c.args.tx c.args.c.now) (sym c.is_down.ensures ∙ c.if-is_down.true) refl
+pub returns-then-is_down-clause-answers : goal.returns-then-is_down-clause-answers
+returns-then-is_down-clause-answers g c = down_call (kinds_of g.C.Crdt.laws) (codec_of g.C.Crdt.spells) g.D.Disk.state c.args.self.now Anything (AskDecide c.args.tx c.args.c.now) (λ (n : Unit {0}) e. e ≡ Decided c.args.tx c.args.c.now) (sym c.is_down.ensures ∙ c.if-is_down.true) refl
 
-pub returns-in_err-decide : goal.returns-in_err-decide
-returns-in_err-decide g c =
+pub returns-in_err-decide-clause-answers : goal.returns-in_err-decide-clause-answers
+returns-in_err-decide-clause-answers g c =
     let p = err_from_is_err_and c.from_residual.result c.from_residual.ensures.1 in
     let v = on_disk c.self.inside.tables (gates_of c.self.inside.log) c.self.inside.crashed in
     let up = ap is_down c.self.view_is ∙ sym c.is_down.ensures ∙ c.if-is_down.false in
@@ -25,8 +25,8 @@ returns-in_err-decide g c =
     let new = on_disk c.decide.new.self (gates_of c.self.inside.log) c.self.inside.crashed in
     rw (p.1, p.2) (opened_steps kinds codec g.D.Disk.state Anything (λ e. e ≡ Refused (AskDecide c.args.tx c.args.c.now) (cause c.in_err-decide.field-0.0)) v c.args.self.now new c.self.view_is (refused_on kinds codec g.D.Disk.state v c.self.invariant up Anything (AskDecide c.args.tx c.args.c.now) c.in_err-decide.field-0.0 c.decide.new.self c.in_err-decide.ensures))
 
-pub returns-then-not-is_pending : goal.returns-then-not-is_pending
-returns-then-not-is_pending g c =
+pub returns-then-not-is_pending-clause-answers : goal.returns-then-not-is_pending-clause-answers
+returns-then-not-is_pending-clause-answers g c =
     let v = on_disk c.self.inside.tables (gates_of c.self.inside.log) c.self.inside.crashed in
     let up = ap is_down c.self.view_is ∙ sym c.is_down.ensures ∙ c.if-is_down.false in
     let kinds = kinds_of g.C.Crdt.laws in
@@ -34,8 +34,8 @@ returns-then-not-is_pending g c =
     let new = on_disk c.decide.new.self (gates_of c.self.inside.log) c.self.inside.crashed in
     opened_steps kinds codec g.D.Disk.state Anything (λ e. e ≡ Decided c.args.tx c.args.c.now) v c.args.self.now new c.self.view_is (decided_already kinds codec g.D.Disk.state v c.self.invariant up c.args.tx c.args.c.now c.decide.new.self (sym c.is_pending.ensures ∙ c.if-not-is_pending.true) c.in_ok-decide.ensures)
 
-pub returns-in_err-decide-2 : goal.returns-in_err-decide-2
-returns-in_err-decide-2 g c =
+pub returns-in_err-decide-2-clause-answers : goal.returns-in_err-decide-2-clause-answers
+returns-in_err-decide-2-clause-answers g c =
     let p = err_from_is_err_and c.from_residual-in_err-decide-2.result c.from_residual-in_err-decide-2.ensures.1 in
     let v = on_disk c.self.inside.tables (gates_of c.self.inside.log) c.self.inside.crashed in
     let up = ap is_down c.self.view_is ∙ sym c.is_down.ensures ∙ c.if-is_down.false in
@@ -44,8 +44,8 @@ returns-in_err-decide-2 g c =
     let new = on_disk c.self.inside.tables (gates_of c.decide-2.new.self) c.self.inside.crashed in
     rw (p.1, p.2) (opened_on kinds codec g.D.Disk.state Anything (AskDecide c.args.tx c.args.c.now) (λ (n : Unit {0}) e. e ≡ Decided c.args.tx c.args.c.now) (Err (stopped c.in_err-decide-2.field-0.0)) v c.args.self.now new c.self.view_is (end_stopped kinds codec g.D.Disk.state v up (AskDecide c.args.tx c.args.c.now) c.args.tx (Decided c.args.tx c.args.c.now) _ (decide_by kinds codec g.D.Disk.state v up c.args.tx c.args.c.now) (sym c.is_pending.ensures ∙ c.if-not-is_pending.false) tt c.in_err-decide-2.field-0.0 (gates_of c.decide-2.new.self) c.in_err-decide-2.ensures.appends))
 
-pub returns-in_err-decide-3 : goal.returns-in_err-decide-3
-returns-in_err-decide-3 g c =
+pub returns-in_err-decide-3-clause-answers : goal.returns-in_err-decide-3-clause-answers
+returns-in_err-decide-3-clause-answers g c =
     let p = err_from_is_err_and c.from_residual-in_err-decide-3.result c.from_residual-in_err-decide-3.ensures.1 in
     let v = on_disk c.self.inside.tables (gates_of c.self.inside.log) c.self.inside.crashed in
     let up = ap is_down c.self.view_is ∙ sym c.is_down.ensures ∙ c.if-is_down.false in
@@ -54,8 +54,8 @@ returns-in_err-decide-3 g c =
     let new = on_disk c.decide-3.new.self (gates_of c.decide-2.new.self) c.self.inside.crashed in
     rw (p.1, p.2) (opened_steps kinds codec g.D.Disk.state Anything (λ e. e ≡ Refused (AskDecide c.args.tx c.args.c.now) (cause c.in_err-decide-3.field-0.0)) v c.args.self.now new c.self.view_is (end_never kinds codec g.D.Disk.state v up (AskDecide c.args.tx c.args.c.now) c.args.tx (Decided c.args.tx c.args.c.now) _ (decide_by kinds codec g.D.Disk.state v up c.args.tx c.args.c.now) (sym c.is_pending.ensures ∙ c.if-not-is_pending.false) c.in_ok-decide-2.field-0 (gates_of c.decide-2.new.self) c.decide-3.new.self c.in_err-decide-3.field-0.0 c.in_ok-decide-2.ensures.appends c.in_err-decide-3.ensures (decide_refutes kinds codec g.D.Disk.state v c.args.tx c.args.c.now c.in_err-decide-3.field-0.0)))
 
-pub returns : goal.returns
-returns g c =
+pub returns-clause-answers : goal.returns-clause-answers
+returns-clause-answers g c =
     let v = on_disk c.self.inside.tables (gates_of c.self.inside.log) c.self.inside.crashed in
     let up = ap is_down c.self.view_is ∙ sym c.is_down.ensures ∙ c.if-is_down.false in
     let kinds = kinds_of g.C.Crdt.laws in

@@ -9,11 +9,11 @@ use Rattle.partition_core.proofs.Durably.{down_call}
 use Rattle.partition_core.proofs.Logged.{on_disk, opened_rest, reported_on}
 use Rattle.partition_core.proofs.durable.DurablePartition.report.Goals as goal
 
-pub returns-then-is_down : goal.returns-then-is_down
-returns-then-is_down g c = down_call (kinds_of g.C.Crdt.laws) (codec_of g.C.Crdt.spells) g.D.Disk.state c.args.self.now Anything AskReport (λ b e. e ≡ Reported b) (sym c.is_down.ensures ∙ c.if-is_down.true) refl
+pub returns-then-is_down-clause-answers : goal.returns-then-is_down-clause-answers
+returns-then-is_down-clause-answers g c = down_call (kinds_of g.C.Crdt.laws) (codec_of g.C.Crdt.spells) g.D.Disk.state c.args.self.now Anything AskReport (λ b e. e ≡ Reported b) (sym c.is_down.ensures ∙ c.if-is_down.true) refl
 
-pub returns : goal.returns
-returns g c =
+pub returns-clause-answers : goal.returns-clause-answers
+returns-clause-answers g c =
     let v = on_disk c.self.inside.tables (gates_of c.self.inside.log) c.self.inside.crashed in
     let up = ap is_down c.self.view_is ∙ sym c.is_down.ensures ∙ c.if-is_down.false in
     let kinds = kinds_of g.C.Crdt.laws in

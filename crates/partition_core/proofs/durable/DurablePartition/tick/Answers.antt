@@ -11,14 +11,14 @@ use Rattle.partition_core.proofs.Durably.{down_call}
 use Rattle.partition_core.proofs.Logged.{on_disk, opened_on, opened_steps, tick_done, tick_stopped}
 use Rattle.partition_core.proofs.durable.DurablePartition.tick.Goals as goal
 
-pub returns-then-is_down : goal.returns-then-is_down
-returns-then-is_down g c = down_call (kinds_of g.C.Crdt.laws) (codec_of g.C.Crdt.spells) g.D.Disk.state c.args.self.now Anything (AskTick c.args.clock_time) (λ n e. e ≡ Ticked c.args.clock_time n) (sym c.is_down.ensures ∙ c.if-is_down.true) refl
+pub returns-then-is_down-clause-answers : goal.returns-then-is_down-clause-answers
+returns-then-is_down-clause-answers g c = down_call (kinds_of g.C.Crdt.laws) (codec_of g.C.Crdt.spells) g.D.Disk.state c.args.self.now Anything (AskTick c.args.clock_time) (λ n e. e ≡ Ticked c.args.clock_time n) (sym c.is_down.ensures ∙ c.if-is_down.true) refl
 
 pub lease_before-requires : goal.lease_before-requires
 lease_before-requires g c = let a = c.now.ensures.most in let b = c.requires in omega (arith, a, b)
 
-pub returns-in_err-keep_lease : goal.returns-in_err-keep_lease
-returns-in_err-keep_lease g c =
+pub returns-in_err-keep_lease-clause-answers : goal.returns-in_err-keep_lease-clause-answers
+returns-in_err-keep_lease-clause-answers g c =
     let p = err_from_is_err_and c.from_residual.result c.from_residual.ensures.1 in
     let v = on_disk c.self.inside.tables (gates_of c.self.inside.log) c.self.inside.crashed in
     let new = on_disk c.self.inside.tables (gates_of c.keep_lease.new.log) c.self.inside.crashed in
@@ -30,8 +30,8 @@ returns-in_err-keep_lease g c =
 pub advance-requires-clause-most : goal.advance-requires-clause-most
 advance-requires-clause-most g c = let a = c.now.ensures.most in let b = c.requires in omega (arith, a, b)
 
-pub returns : goal.returns
-returns g c =
+pub returns-clause-answers : goal.returns-clause-answers
+returns-clause-answers g c =
     let v = on_disk c.self.inside.tables (gates_of c.self.inside.log) c.self.inside.crashed in
     let new = on_disk c.advance.new.self (gates_of c.keep_lease.new.log) c.self.inside.crashed in
     let up = ap is_down c.self.view_is ∙ sym c.is_down.ensures ∙ c.if-is_down.false in

@@ -16,9 +16,9 @@ finish-requires-clause-width g c = finish_width _ _ _ _ _ c.self.view_is c.args.
 pub finish-requires-clause-spelled : goal.finish-requires-clause-spelled
 finish-requires-clause-spelled g c = finish_is_tx _ _ _ _ _ c.self.view_is c.self.invariant c.args.tx c.args.at c.args.c.now c.requires
 
-pub returns : goal.returns
-returns g c =
+pub returns-clause-answers : goal.returns-clause-answers
+returns-clause-answers g c =
     asked _ _ _ _ _ c.self.view_is c.self.invariant c.args.at c.requires.place _ c.index_of-i.ensures.index c.index_of-i.ensures.below _ _ c.index_mut.ensures.value Any (AskFinish c.args.tx c.args.c.now) Anything (λ n e. e ≡ Finished c.args.tx c.args.c.now)
     (λ run r m. tt) (λ why. tt)
     (λ x run may given e s. subst (IsShown (types_of g.C.Crdt.laws g.C.Crdt.spells g.D.Disk.state) run (AskFinish c.args.tx c.args.c.now)) (sym s) (record { asked = refl; plain = refl; own_word = refl; fit = tt; new = tt }))
-    c.finish.result (λ x is e s. subst (PutsEvent (types_of g.C.Crdt.laws g.C.Crdt.spells g.D.Disk.state)) (sym s) tt) c.finish.ensures
+    c.finish.result (λ x is e s. subst (PutsEvent (types_of g.C.Crdt.laws g.C.Crdt.spells g.D.Disk.state)) (sym s) tt) c.finish.ensures.answers
