@@ -88,7 +88,7 @@ module _ {S E D : Type 0} (types : Types S E D) where
             sites = es;
             parts = ep;
             calls = [];
-            sees = record { reached = r; one_caller = tt };
+            sees = record { reached = r; one_caller = tt; rooms = tt };
             shown = sym b.calls;
             own = subst (λ ls. HandsOwn sites ls) (sym b.calls) tt;
             fuel = fueled_made types.state w.live.sites run (record { number = number; command = Some (command.Cluster sites parts); step = step.MadeCluster sites parts }) (record { lets = refl; untaken = refl; unchanged = λ h ls p. refl }) b.unlit;

@@ -29,6 +29,8 @@ use Rattle.cluster.specs.Reached.{ReachedLive, GoesTo, AppliesLive}
 use Rattle.cluster.specs.Same.{SameCluster}
 use Rattle.cluster.specs.Sees.{FailedAs, Sees}
 use Rattle.cluster.proofs.Failing.{spends_of, failed_by}
+use Rattle.world_model.specs.rules.Asking.{asked_by}
+use Rattle.cluster.proofs.Rooms.{rooms_on, rooms_more}
 use Rattle.cluster.proofs.Faulted.{same_of, shows_told}
 use Rattle.cluster.proofs.Meets.{all_met, first_at, none_due, refused}
 use Rattle.cluster.proofs.Seeing.{line_tells, told_last}
@@ -55,7 +57,7 @@ module _ {S E D : Type 0} (types : Types S E D) (c : LiveState E D) where
     clock_applies later now steps is there g number run r =
         let x = (g.goes (entries r.calls) r.sees.reached (tt, tt)).0 in
         let size : SameCluster types.state c.sites later = same_of types.state c.sites later p g.moves in
-        let seen : Sees types later (called 0 p (Ticked n now) ∷ r.calls) = record { reached = subst (λ (e : Event E). Reaches types later ((record { at = p; event = e }) ∷ entries r.calls)) x.shows x.reached; one_caller = (refl, r.sees.one_caller) } in
+        let seen : Sees types later (called 0 p (Ticked n now) ∷ r.calls) = record { reached = subst (λ (e : Event E). Reaches types later ((record { at = p; event = e }) ∷ entries r.calls)) x.shows x.reached; one_caller = (refl, r.sees.one_caller); rooms = rooms_more types c.sites later size (entries r.calls) p (Ticked n now) refl r.sees.rooms } in
         subst (λ l. IsAnswer is_built run (command.Clock p n) l × GoesTo types c run r (record { sites = later; sessions = c.sessions }) (answered number (Some (command.Clock p n)) l run) × ShowFaults types.state run c.sites later l) (sym is) (
           subst (AnswersBy run (command.Clock p n) (step.Ticked p now ∷ [])) (sym (none_met run r there)) (step.Ticked p now, refl, refl, tt),
           turned_alone types c run r number (command.Clock p n) 0 p (Ticked n now) later size seen refl (asked_lines number (command.Clock p n) run (step.Ticked p now) (step.Ticked p now) p (Tick n) refl refl refl refl) (λ who s. refl) (λ who. tt) tt
@@ -87,8 +89,8 @@ module _ {S E D : Type 0} (types : Types S E D) (c : LiveState E D) where
     -- the line of a call that isn't answered tells its faults, and is a line of partitions
     pub clock_fails : (later : Held E D) (error : DurableError) (line : Step) (steps : List Step) → steps ≡ line ∷ [] → holds_part c.sites p ≡ true → Calls types c.sites later Any p (AskTick n) (λ (now : ℕ) (e : Event E). e ≡ Ticked n now) (Err error) → FailedAs {X = Unit {0}} p (record { site = 0; part = 0; time = 0 }) 0 (step.Disk p) error (Ok line) → AppliesLive types c (command.Clock p n) steps (record { sites = later; sessions = c.sessions })
     clock_fails later error line steps is there g f number run r =
-        let x = failed_by types c.sites later (Asks types c.sites Any p (AskTick n)) p (AskTick n) (λ (now : ℕ) (e : Event E). e ≡ Ticked n now) (step.Disk p) (entries r.calls) r.sees.reached (tt, tt) (IsTick (entries r.calls)) (λ why reached. refused_tick later (entries r.calls) why reached) (λ now what k reached. cut_tick (entries r.calls) now what k) (λ now what k. subst (λ e. step.Disk p ≡ fault_shown p e) (sym k) refl) error line g f in
-        let seen : Sees types later (called 0 p x.event ∷ r.calls) = record { reached = x.reached; one_caller = (refl, r.sees.one_caller) } in
+        let x = failed_by types c.sites later (Asks types c.sites Any p (AskTick n)) p (AskTick n) (λ (now : ℕ) (e : Event E). e ≡ Ticked n now) (step.Disk p) (entries r.calls) r.sees.reached (tt, tt) (IsTick (entries r.calls)) (λ why reached. refused_tick later (entries r.calls) why reached) (λ now what k reached. cut_tick (entries r.calls) now what k) (λ now what k. subst (λ e. (step.Disk p ≡ fault_shown p e) × (asked_by e ≡ AskTick n)) (sym k) (refl, refl)) error line g f in
+        let seen : Sees types later (called 0 p x.event ∷ r.calls) = record { reached = x.reached; one_caller = (refl, r.sees.one_caller); rooms = (x.room, rooms_on types c.sites later x.same (entries r.calls) r.sees.rooms) } in
         let told : IsCallLine run (step_shown (entries r.calls) p x.event) = call_line run (entries r.calls) p x.event (told_last types later (called 0 p x.event) r.calls seen) x.property.plain in
         let lines = asked_lines number (command.Clock p n) run (step_shown (entries r.calls) p x.event) (step_shown (entries r.calls) p x.event) p (call_of x.event) refl told.answer told.number (ap (λ k. record { at = p; call = k }) (sym x.property.call)) in
         let tells = line_tells types {P = Unit {0}} c.sites later Any p (AskTick n) tt None (Unit {0}) (λ (now : ℕ) (e : Event E). e ≡ Ticked n now) (step.Disk p) (λ rose. (refl, rose)) error line g f in

@@ -12,7 +12,7 @@ use Rattle.world_model.specs.declared.command.Command.TheVariants as command
 use Rattle.world_model.specs.declared.step.Step.{Step}
 use Rattle.world_model.specs.declared.step.Step.TheVariants as step
 use Rattle.world_model.specs.commands.Answers.{answered}
-use Rattle.world_model.specs.rules.Asking.{MayCall}
+use Rattle.world_model.specs.rules.Asking.{MayCall, asked_by}
 use Rattle.world_model.specs.commands.Cluster.{sites_of}
 use Rattle.world_model.specs.lines.Dependency.{IsOwnPast}
 use Rattle.world_model.specs.rules.Event as event
@@ -51,6 +51,7 @@ use Rattle.partition_core.specs.Moments.{Spends}
 use Rattle.site_partitions.specs.Moves.{Moves}
 use Rattle.cluster.proofs.Posting.{IsPosted, Posted, posted}
 use Rattle.cluster.proofs.Failing.{spends_of, failed_by}
+use Rattle.cluster.proofs.Rooms.{cause_has_room, rooms_on, rooms_more}
 use Rattle.cluster.proofs.Faulted.{same_of, shows_told}
 use Rattle.cluster.proofs.Seeing.{is_told, told_of, line_tells}
 use Rattle.cluster.proofs.Turning.{IsSilentFor, has_other_lines}
@@ -223,11 +224,11 @@ module _ {S E D : Type 0} (types : Types S E D) (w : WholeState E D) where
   -- a call of messages or reports that fails
   pub struck : {A : Type 0} (held : Held E D) (cmd : Command) → is_asking cmd ≡ true → (at : PartId) (ask : Ask E) (Shows : A → Event E → Type 0) (error : DurableError) (s : Step) (steps : List Step) → steps ≡ s ∷ [] → is_failing s ≡ true → FailedAs {X = Unit {0}} at (tx_asked ask) (number_asked ask) (step.Disk at) error (Ok s) → Calls types w.live.sites held Any at ask Shows (Err error)
       → (line : ℕ) (run : Run) (r : ReachedWhole types w run) → MayCall w.live.sites.sites w.live.sites.parts (entries r.live.calls) at ask → met is_built run cmd ≡ None → asked_of (calls_of run) run cmd ≡ record { at = at; call = call_asked ask } → IsOwnPast (sites_of run) (calls_of run) (call_asked ask)
-      → ((x : A) (what : Event E) → Shows x what → call_of (Cut what) ≡ call_asked ask) → ((x : A) (what : Event E) → Shows x what → (who : List ℕ) → IsSilentFor (entries r.live.calls) who (Cut what)) → ((x : A) (what : Event E) → Shows x what → step.Disk at ≡ fault_shown at what)
+      → ((x : A) (what : Event E) → Shows x what → call_of (Cut what) ≡ call_asked ask) → ((x : A) (what : Event E) → Shows x what → (who : List ℕ) → IsSilentFor (entries r.live.calls) who (Cut what)) → ((x : A) (what : Event E) → Shows x what → (step.Disk at ≡ fault_shown at what) × (asked_by what ≡ ask))
       → IsAnswer is_built run cmd steps × Reached types (Some (after held)) (answered line (Some cmd) steps run) × FaultsShown types (Some w) run steps (Some (after held))
   struck held cmd asking at ask Shows error s steps is failing f g line run r may unmet placed past calls silent faults =
       let x = failed_by types w.live.sites held (Asks types w.live.sites Any at ask) at ask Shows (step.Disk at) (entries r.live.calls) r.live.sees.reached (may, tt) (IsStruck (entries r.live.calls) ask) (λ why reached. record { call = refl; silent = λ who. tt; unsent = refl; unreported = refl }) (λ a what k reached. record { call = calls a what k; silent = silent a what k; unsent = refl; unreported = refl }) faults error s g f in
-      let seen : Sees types held (called 0 at x.event ∷ r.live.calls) = record { reached = x.reached; one_caller = (refl, r.live.sees.one_caller) } in
+      let seen : Sees types held (called 0 at x.event ∷ r.live.calls) = record { reached = x.reached; one_caller = (refl, r.live.sees.one_caller); rooms = (x.room, rooms_on types w.live.sites held x.same (entries r.live.calls) r.live.sees.rooms) } in
       let tells = line_tells types {P = Unit {0}} w.live.sites held Any at ask tt None (Unit {0}) Shows (step.Disk at) (λ rose. (refl, rose)) error s g f in
       subst (λ l. IsAnswer is_built run cmd l × Reached types (Some (after held)) (answered line (Some cmd) l run) × FaultsShown types (Some w) run l (Some (after held))) (sym is) (
         subst (AnswersBy run cmd (s ∷ [])) (sym unmet) (failing_replies run cmd asking s failing),
@@ -260,7 +261,7 @@ module _ {S E D : Type 0} (types : Types S E D) (w : WholeState E D) where
         let s : Step = step.Took number m.hi in
         subst (λ steps. IsAnswer is_built run (command.Deliver number) steps × ReachedWhole types (after held) (answered line (Some (command.Deliver number)) steps run) × ShowFaults types.state run w.live.sites held steps) (sym is) (
           subst (AnswersBy run (command.Deliver number) (step.Took number m.hi ∷ [])) (sym (none_due (all_met run (command.Deliver number)) (refl, (ap not r.live.has, (ap is_none l.letter, tt))))) (s, refl, refl, refl),
-          called_on (command.Deliver number) held at (Took own m) s line run r size (record { reached = reached; one_caller = (refl, r.live.sees.one_caller) }) (took_posted number number m.hi)
+          called_on (command.Deliver number) held at (Took own m) s line run r size (record { reached = reached; one_caller = (refl, r.live.sees.one_caller); rooms = rooms_more types w.live.sites held size (entries r.live.calls) at (Took own m) refl r.live.sees.rooms }) (took_posted number number m.hi)
               (ap (λ o. step.Took (own_of o) m.hi) l.letter) (ap for_message l.letter) (λ who. tt) tt refl refl refl
               (g own).moves (spends_of types w.live.sites held (Asks types w.live.sites Any at (AskTake own m)) at (AskTake own m) (Took own m) (g own) (entries r.live.calls) r.live.sees.reached (may run r, tt)),
           (tt, tt),
@@ -280,7 +281,7 @@ module _ {S E D : Type 0} (types : Types S E D) (w : WholeState E D) where
         let s : Step = refusal_line at no_tx number (cause why) in
         subst (λ steps. IsAnswer is_built run (command.Deliver number) steps × ReachedWhole types (after held) (answered line (Some (command.Deliver number)) steps run) × ShowFaults types.state run w.live.sites held steps) (sym is) (
           subst (AnswersBy run (command.Deliver number) (refusal_line at no_tx number (cause why) ∷ [])) (sym (none_due (all_met run (command.Deliver number)) (refl, (ap not r.live.has, (ap is_none l.letter, tt))))) (s, refl, ap (λ b. b && true) up, refused_bears run at number (cause why)),
-          called_on (command.Deliver number) held at (Refused (AskTake own m) (cause why)) s line run r size (record { reached = reached; one_caller = (refl, r.live.sees.one_caller) }) (refused_posted (AskTake own m) number at number (cause why) plain)
+          called_on (command.Deliver number) held at (Refused (AskTake own m) (cause why)) s line run r size (record { reached = reached; one_caller = (refl, r.live.sees.one_caller); rooms = rooms_more types w.live.sites held size (entries r.live.calls) at (Refused (AskTake own m) (cause why)) (cause_has_room (AskTake own m) why) r.live.sees.rooms }) (refused_posted (AskTake own m) number at number (cause why) plain)
               (refused_numbered run (entries r.live.calls) at number own m (cause why) (ap own_of l.letter)) (ap for_message l.letter) (λ who. tt) tt (refused_plain at number (cause why)) refl refl
               (g own).moves (spends_of types w.live.sites held (Asks types w.live.sites Any at (AskTake own m)) at (AskTake own m) (Refused (AskTake own m) (cause why)) (g own) (entries r.live.calls) r.live.sees.reached (may run r, tt)),
           (refused_quiet types.state run w.live.sites held at number why, tt),
@@ -292,7 +293,7 @@ module _ {S E D : Type 0} (types : Types S E D) (w : WholeState E D) where
         let l = letter run r in
         struck held (command.Deliver number) refl (record { site = m.to; part = m.part }) (AskTake l.own m) (λ (u : Unit {0}) e. e ≡ Took l.own m) error s steps is failing (f l.own) (g l.own) line run r (may run r)
         (none_due (all_met run (command.Deliver number)) (refl, (ap not r.live.has, (ap is_none l.letter, tt))))
-        (ap for_message l.letter) tt (λ u what k. subst (λ e. call_of (Cut e) ≡ call_asked (AskTake l.own m)) (sym k) refl) (λ u what k. subst (λ e. (who : List ℕ) → IsSilentFor (entries r.live.calls) who (Cut e)) (sym k) (λ who. tt)) (λ u what k. subst (λ e. step.Disk (record { site = m.to; part = m.part }) ≡ fault_shown (record { site = m.to; part = m.part }) e) (sym k) refl)
+        (ap for_message l.letter) tt (λ u what k. subst (λ e. call_of (Cut e) ≡ call_asked (AskTake l.own m)) (sym k) refl) (λ u what k. subst (λ e. (who : List ℕ) → IsSilentFor (entries r.live.calls) who (Cut e)) (sym k) (λ who. tt)) (λ u what k. subst (λ e. (step.Disk (record { site = m.to; part = m.part }) ≡ fault_shown (record { site = m.to; part = m.part }) e) × (asked_by e ≡ AskTake l.own m)) (sym k) (refl, refl))
 
     pub refused_take : (X : Type 0) (held : Held E D) (error : DurableError) (s : Step) (steps : List Step) → steps ≡ s ∷ [] → FailedAs {X = X} (record { site = m.to; part = m.part }) (record { site = 0; part = 0; time = 0 }) number (step.Disk (record { site = m.to; part = m.part })) error (Ok s) → ((n : ℕ) → Calls types w.live.sites held Any (record { site = m.to; part = m.part }) (AskTake n m) (λ (u : Unit {0}) e. e ≡ Took n m) (Err error)) → Applies types (Some w) (command.Deliver number) steps (Some (record { live = record { sites = held; sessions = w.live.sessions }; post = w.post }))
     refused_take X held call.NoMemory s steps is f g = absurd f
@@ -324,7 +325,7 @@ module _ {S E D : Type 0} (types : Types S E D) (w : WholeState E D) where
         let s : Step = step.Heard number at stable in
         subst (λ steps. IsAnswer is_built run (command.Hear number at) steps × ReachedWhole types (after held) (answered line (Some (command.Hear number at)) steps run) × ShowFaults types.state run w.live.sites held steps) (sym is) (
           subst (AnswersBy run (command.Hear number at) (step.Heard number at stable ∷ [])) (sym (none_due (all_met run (command.Hear number at)) (refl, (ap not r.live.has, (ap not (sym (part_in types w.live run r.live at) ∙ has), (ap is_none l.notice, (ap (λ o. is_foreign o at) l.notice ∙ ap not same, tt))))))) (s, refl, refl, refl),
-          called_on (command.Hear number at) held at (Heard own n.from.part n.bounds stable) s line run r size (record { reached = reached; one_caller = (refl, r.live.sees.one_caller) }) (heard_posted number number at at stable)
+          called_on (command.Hear number at) held at (Heard own n.from.part n.bounds stable) s line run r size (record { reached = reached; one_caller = (refl, r.live.sees.one_caller); rooms = rooms_more types w.live.sites held size (entries r.live.calls) at (Heard own n.from.part n.bounds stable) refl r.live.sees.rooms }) (heard_posted number number at at stable)
               (ap (λ o. step.Heard (own_report o) at stable) l.notice) (ap (for_report at) l.notice) (λ who. tt) tt refl refl refl
               (g own).moves (spends_of types w.live.sites held (Asks types w.live.sites Any at (AskHear own n.from.part n.bounds)) at (AskHear own n.from.part n.bounds) (Heard own n.from.part n.bounds stable) (g own) (entries r.live.calls) r.live.sees.reached (may_listen run r, tt)),
           (tt, tt),
@@ -336,7 +337,7 @@ module _ {S E D : Type 0} (types : Types S E D) (w : WholeState E D) where
         let l = noted run r in
         struck held (command.Hear number at) refl at (AskHear l.own n.from.part n.bounds) (λ (stable : List ℕ) e. e ≡ Heard l.own n.from.part n.bounds stable) error s steps is failing f (g l.own) line run r (may_listen run r)
         (none_due (all_met run (command.Hear number at)) (refl, (ap not r.live.has, (ap not (sym (part_in types w.live run r.live at) ∙ has), (ap is_none l.notice, (ap (λ o. is_foreign o at) l.notice ∙ ap not same, tt))))))
-        (ap (for_report at) l.notice) tt (λ stable what k. subst (λ e. call_of (Cut e) ≡ call_asked {E = E} (AskHear l.own n.from.part n.bounds)) (sym k) refl) (λ stable what k. subst (λ e. (who : List ℕ) → IsSilentFor (entries r.live.calls) who (Cut e)) (sym k) (λ who. tt)) (λ stable what k. subst (λ e. step.Disk at ≡ fault_shown at e) (sym k) refl)
+        (ap (for_report at) l.notice) tt (λ stable what k. subst (λ e. call_of (Cut e) ≡ call_asked {E = E} (AskHear l.own n.from.part n.bounds)) (sym k) refl) (λ stable what k. subst (λ e. (who : List ℕ) → IsSilentFor (entries r.live.calls) who (Cut e)) (sym k) (λ who. tt)) (λ stable what k. subst (λ e. (step.Disk at ≡ fault_shown at e) × (asked_by e ≡ AskHear l.own n.from.part n.bounds)) (sym k) (refl, refl))
 
     pub hear_refused : (held : Held E D) (error : DurableError) (s : Step) (steps : List Step) → steps ≡ s ∷ [] → holds_part w.live.sites at ≡ true → FailedAs {X = Unit {0}} at no_tx 0 (step.Disk at) error (Ok s) → ((k : ℕ) → Calls types w.live.sites held Any at (AskHear k n.from.part n.bounds) (λ (stable : List ℕ) e. e ≡ Heard k n.from.part n.bounds stable) (Err error)) → Applies types (Some w) (command.Hear number at) steps (Some (record { live = record { sites = held; sessions = w.live.sessions }; post = w.post }))
     hear_refused held call.NoMemory s steps is has f g = absurd f

@@ -20,6 +20,7 @@ module _ {S E D : Type 0} (types : Types S E D) (c : Held E D) (calls : List (Ca
       each = s.reached.each;
     };
     one_caller = (refl, s.one_caller);
+    rooms = (tt, s.rooms);
   }
 
   -- for a report
@@ -32,4 +33,5 @@ module _ {S E D : Type 0} (types : Types S E D) (c : Held E D) (calls : List (Ca
       each = s.reached.each;
     };
     one_caller = (refl, s.one_caller);
+    rooms = (tt, s.rooms);
   }

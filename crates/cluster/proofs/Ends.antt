@@ -17,7 +17,7 @@ use Rattle.world_model.specs.rules.Asking.{asked_by}
 use Rattle.world_model.specs.commands.CommitSteps.{Going, Preparing, Finishing, Aborting, given_up, next_step, is_done, after}
 use Rattle.world_model.specs.lines.Dependency.{IsOwnPast}
 use Rattle.world_model.specs.rules.Event.{Ask, AskPrepare, AskDecide, AskFinish, AskAbort, AskReport, IsDown, Event, Began, Updated, Decided, Opened, Refused, Cut, Entry, attempt, WasShown}
-use Rattle.world_model.specs.lines.Lines.{Line}
+use Rattle.world_model.specs.lines.Lines.{Line, Wish}
 use Rattle.world_model.specs.rules.Lines.{call_asked, step_shown, session_of}
 use Rattle.world_model.specs.events.Dependency.{begins_for, is_of}
 use Rattle.world_model.proofs.Dependency.{dependency_after}
@@ -129,7 +129,7 @@ module _ {E : Type 0} where
     decide_depends t v other a n who old h = absurd cc
 
   -- the session that began it
-  pub shown_of : (events : List (Entry E)) (at : PartId) (name handed : List ℕ) (t : TxId) (s : List ℕ) → WasShown events at (Began name handed t s) → is_of events name t ≡ true
+  pub shown_of : (events : List (Entry E)) (at : PartId) (name : List ℕ) (handed : Wish) (t : TxId) (s : List ℕ) → WasShown events at (Began name handed t s) → is_of events name t ≡ true
   shown_of [] at name handed t s h = absurd h
   shown_of (e ∷ events) at name handed t s h = ⊎_elim
       (λ (k : (e.at ≡ at) × (e.event ≡ Began name handed t s)). or_left (begins_for e.event name t) (is_of events name t) (ap (λ x. begins_for x name t) k.1 ∙ and_from _ _ (own_name name) (same_tx_refl t)))

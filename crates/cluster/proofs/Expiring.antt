@@ -45,6 +45,8 @@ use Rattle.cluster.proofs.Clocks.{part_in}
 use Rattle.cluster.proofs.Delivering.{place_of_part}
 use Rattle.cluster.proofs.Downed.{down_abort}
 use Rattle.cluster.proofs.Failing.{spends_of}
+use Rattle.world_model.specs.rules.Asking.{asked_by}
+use Rattle.cluster.proofs.Rooms.{found_full, rooms_on, rooms_more}
 use Rattle.cluster.proofs.Faulted.{same_of, rose_of}
 use Rattle.cluster.proofs.FuelStays.{fueled_idle}
 use Rattle.cluster.proofs.FuelLines.{lets_burn}
@@ -162,7 +164,7 @@ module _ {S E D : Type 0} (types : Types S E D) (c : LiveState E D) (p : PartId)
           pub expire_aborted : (steps : List Step) → steps ≡ step.Aborted p t ∷ [] → GoesOn types c.sites later (AbortsByLead types c.sites p t) p (AskAbort t) (λ e. e ≡ Aborted t false) → AppliesLive types c (command.Expire p t) steps (record { sites = later; sessions = c.sessions })
           expire_aborted steps is g = line_applies (step.Aborted p t) (record { sites = later; sessions = c.sessions }) steps is (λ number run r.
               let x = (g.goes (entries r.calls) r.sees.reached (may_drop run r)).0 in
-              let seen : Sees types later (called 0 p (Aborted t false) ∷ r.calls) = record { reached = subst (λ e. Reaches types later ((record { at = p; event = e }) ∷ entries r.calls)) x.shows x.reached; one_caller = (refl, r.sees.one_caller) } in (
+              let seen : Sees types later (called 0 p (Aborted t false) ∷ r.calls) = record { reached = subst (λ e. Reaches types later ((record { at = p; event = e }) ∷ entries r.calls)) x.shows x.reached; one_caller = (refl, r.sees.one_caller); rooms = rooms_more types c.sites later (same_of types.state c.sites later p g.moves) (entries r.calls) p (Aborted t false) refl r.sees.rooms } in (
                 aborts (step.Aborted p t) run r (asked run r) refl,
                 turned_alone types c run r number (command.Expire p t) 0 p (Aborted t false) later (same_of types.state c.sites later p g.moves) seen refl refl (λ who s. refl) (λ who. tt) tt
                     (fuel_next types c run r number (command.Expire p t) 0 p (Aborted t false) later (same_of types.state c.sites later p g.moves) seen refl refl g.moves (spends_of types c.sites later (AbortsByLead types c.sites p t) p (AskAbort t) (Aborted t false) g (entries r.calls) r.sees.reached (may_drop run r))),
@@ -176,16 +178,16 @@ module _ {S E D : Type 0} (types : Types S E D) (c : LiveState E D) (p : PartId)
           expire_failed call.Disk s steps is g f = line_applies s (record { sites = later; sessions = c.sessions }) steps is (λ number run r.
               let x = (g.0.goes (entries r.calls) r.sees.reached (may_drop run r)).0 in
               let event : x.event ≡ Cut (Aborted t false) = x.shows.2 ∙ ap Cut x.shows.1.1 in
-              let seen : Sees types later (called 0 p (Cut (Aborted t false)) ∷ r.calls) = record { reached = subst (λ e. Reaches types later ((record { at = p; event = e }) ∷ entries r.calls)) event x.reached; one_caller = (refl, r.sees.one_caller) } in
+              let seen : Sees types later (called 0 p (Cut (Aborted t false)) ∷ r.calls) = record { reached = subst (λ e. Reaches types later ((record { at = p; event = e }) ∷ entries r.calls)) event x.reached; one_caller = (refl, r.sees.one_caller); rooms = rooms_more types c.sites later (same_of types.state c.sites later p g.0.moves) (entries r.calls) p (Cut (Aborted t false)) refl r.sees.rooms } in
               subst (λ y. IsExpired run p t (y ∷ []) × GoesTo types c run r (record { sites = later; sessions = c.sessions }) ((record { number = number; command = Some (command.Expire p t); step = y }) ∷ run) × ShowsFault types.state run c.sites later y) (sym f) (
                 aborts (step.Disk p) run r (asked run r) refl,
                 turned_alone types c run r number (command.Expire p t) 0 p (Cut (Aborted t false)) later (same_of types.state c.sites later p g.0.moves) seen refl refl (λ who k. refl) (λ who. tt) tt
                     (fuel_next types c run r number (command.Expire p t) 0 p (Cut (Aborted t false)) later (same_of types.state c.sites later p g.0.moves) seen refl refl g.0.moves (subst (λ e. Spends types.kinds types.codec types.state g.0.moves.before g.0.moves.after (r.sees.reached.state p) e) event (g.0.goes (entries r.calls) r.sees.reached (may_drop run r)).1)),
-                rose_of types.state c.sites later p g.0.moves g.1,
+                rose_of types.state c.sites later p g.0.moves g.1.rose,
               ))
           expire_failed (call.Full room) s steps is g f = line_applies s (record { sites = later; sessions = c.sessions }) steps is (λ number run r.
               let x = (g.1.goes (entries r.calls) r.sees.reached (may_drop run r)).0 in
-              let seen : Sees types later (called 0 p (Refused (AskAbort t) (HasNoRoom room)) ∷ r.calls) = record { reached = subst (λ e. Reaches types later ((record { at = p; event = e }) ∷ entries r.calls)) x.shows x.reached; one_caller = (refl, r.sees.one_caller) } in
+              let seen : Sees types later (called 0 p (Refused (AskAbort t) (HasNoRoom room)) ∷ r.calls) = record { reached = subst (λ e. Reaches types later ((record { at = p; event = e }) ∷ entries r.calls)) x.shows x.reached; one_caller = (refl, r.sees.one_caller); rooms = (found_full types c.sites later p (AskAbort t) room g.0 (AbortsByLead types c.sites p t) (λ (x : Unit {0}) e. e ≡ Aborted t false) (λ x what k. ap asked_by k) g.1 g.2 (entries r.calls) r.sees.reached (may_drop run r), rooms_on types c.sites later (same_of types.state c.sites later p g.1.moves) (entries r.calls) r.sees.rooms) } in
               subst (λ y. IsExpired run p t (y ∷ []) × GoesTo types c run r (record { sites = later; sessions = c.sessions }) ((record { number = number; command = Some (command.Expire p t); step = y }) ∷ run) × ShowsFault types.state run c.sites later y) (sym f) (
                 aborts (step.Full room) run r (asked run r) refl,
                 turned_alone types c run r number (command.Expire p t) 0 p (Refused (AskAbort t) (HasNoRoom room)) later (same_of types.state c.sites later p g.1.moves) seen refl refl (λ who k. refl) (λ who. tt) tt

@@ -12,7 +12,7 @@ use Rattle.world_model.specs.declared.step.Step.{Step}
 use Rattle.world_model.specs.declared.step.Step.TheVariants as step
 use Rattle.site_partitions.specs.Held.{Held, index_of}
 use Rattle.site_partitions.specs.Moves.{Moves}
-use Rattle.cluster.specs.Same.{SameCluster, faults_at}
+use Rattle.cluster.specs.Same.{SameCluster, faults_at, room_at}
 use Rattle.cluster.specs.Faults.{FaultsRose, TellsFault, ShowsFault, ShowFaults}
 
 then_more : (a b c : ℕ) → a ≤ b → b ≤ c → a ≤ c
@@ -30,6 +30,14 @@ module _ {A : Type 0} (f : A → ℕ) where
   later_set (x ∷ xs) (suc i) t u h k zero other = omega arith
   later_set (x ∷ xs) (suc i) t u h k (suc j) other = later_set xs i t u h k j other
 
+  -- nor does what stays the same there change elsewhere
+  same_set : (xs : List A) (i : ℕ) (t u : A) → ((other : A) → get_or xs i other ≡ t) → f u ≡ f t → (j : ℕ) (other : A) → f (get_or (set xs i u) j other) ≡ f (get_or xs j other)
+  same_set [] i t u h k j other = refl
+  same_set (x ∷ xs) zero t u h k zero other = subst (λ y. f u ≡ f y) (sym (h x)) k
+  same_set (x ∷ xs) zero t u h k (suc j) other = refl
+  same_set (x ∷ xs) (suc i) t u h k zero other = refl
+  same_set (x ∷ xs) (suc i) t u h k (suc j) other = same_set xs i t u h k j other
+
   rose_set : (xs : List A) (i : ℕ) (t u : A) → ((other : A) → get_or xs i other ≡ t) → Rose (f t) (f u) → (other : A) → Rose (f (get_or xs i other)) (f (get_or (set xs i u) i other))
   rose_set [] i t u h k other = subst (λ y. Rose (f y) (f other)) (sym (h other)) (subst (λ y. Rose (f t) (f y)) (h u ∙ sym (h other)) k)
   rose_set (x ∷ xs) zero t u h k other = subst (λ y. Rose (f y) (f u)) (sym (h x)) k
@@ -39,11 +47,15 @@ module _ {E D : Type 0} (state : D → DiskState) where
   abbrev faults_of : Durable E D → ℕ
   faults_of t = (disk_in state t).faults
 
+  abbrev room_of : Durable E D → ℕ
+  room_of t = (disk_in state t).room
+
   pub same_of : (old new : Held E D) (at : PartId) → Moves state old new at → SameCluster state old new
   same_of old new at m = record {
     sites_are = m.same_sites;
     parts_are = m.same_parts;
     faults = λ p other. subst (λ (h : Held E D). faults_at state old p other ≤ faults_at state h p other) (sym m.changed) (later_set faults_of old.partitions (index_of old.parts at) m.before m.after m.there m.disk.later (index_of old.parts p) other);
+    rooms = λ p other. subst (λ (h : Held E D). room_at state h p other ≡ room_at state old p other) (sym m.changed) (same_set room_of old.partitions (index_of old.parts at) m.before m.after m.there m.disk.room (index_of old.parts p) other);
   }
 
   pub rose_of : (old new : Held E D) (at : PartId) (m : Moves state old new at) → Rose (disk_in state m.before).faults (disk_in state m.after).faults → FaultsRose state old new at

@@ -129,11 +129,11 @@ module _ {S E D : Type 0} (w : Types S E D) (old new : Held E D) (at : PartId) (
   pub fueled_up : (x : Restarted) → ComesUpAt w old new at x → numbered run l.step ≡ step.Restarted at x.now x.bounds x.decided x.pending → (is_called l.command l.step ≡ true → (asked_by (calls_of run) run l.command l.step).call ≡ world.Restart)
       → Fueled w.state old run events → Fueled w.state new (l ∷ run) ((record { at = at; event = event.Restarted x.now x.bounds x.decided x.pending }) ∷ events)
   fueled_up x k numbers asks f whole b = fuel_plain w old new at whole run l placed doubt k.moves events r shown (event.Restarted x.now x.bounds x.decided x.pending) (k.goes events r) numbers b.0 asks refl
-      (λ lets. burns_lowered 16 _ _ k.left k.unfired) (f whole b.1)
+      (λ lets. burns_lowered 3 _ _ k.left k.unfired) (f whole b.1)
 
 module _ {S E D : Type 0} (w : Types S E D) (old new : Held E D) (at : PartId) (run : Run) (events : List (Entry E)) (place : IsPlace old.sites old.parts at) (there : holds_part old at ≡ true) where
   -- a fuse is armed
-  pub fueled_armed : (l : script.Line) (k n : ℕ) → l.step ≡ step.Fused at k n → 1 ≤ k → ArmsAt w old new at k → Fueled w.state old run events → Fueled w.state new (l ∷ run) events
+  pub fueled_armed : (l : script.Line) (k n : ℕ) → l.step ≡ step.Fused at k n → 1 ≤ k → ArmsAt w old new at k n → Fueled w.state old run events → Fueled w.state new (l ∷ run) events
   fueled_armed l k n is some a f whole b =
       fuel_armed w.state whole run l old new at a.moves.before k n is some there (same_holds w old new at a.moves) (left_there w old new at a.moves place)
       (λ other. left_here w old new at a.moves (Some k) (ap (λ (d : DiskState). d.left) a.armed) other there) (f whole b)

@@ -3,7 +3,7 @@ use Rattle.std.proofs.Common.{◌≡◌, ℕ, true, List, sym, ◌∙◌, subst,
 use Rattle.std.specs.Prelude.{IfOk, Result, Ok, Err}
 use Rattle.site_vector.specs.declared.ids.PartId.{PartId}
 use Rattle.world_model.specs.declared.step.Step.{Step}
-use Rattle.world_model.specs.rules.Asking.{MayCall, is_own_word}
+use Rattle.world_model.specs.rules.Asking.{MayCall, asked_by, is_own_word}
 use Rattle.world_model.specs.rules.Event.{Ask, Refusal, IsDown, HasNoRoom, Event, Refused, Entry}
 use Rattle.world_model.specs.rules.Lines.{fault_shown, step_shown, tx_asked, number_asked}
 use Rattle.partition_core.specs.declared.durable.DurableError.{DurableError}
@@ -47,7 +47,7 @@ module _ {S E D : Type 0} (types : Types S E D) where
 
     -- a fault of the disk has this line, on the word of who asks
     abbrev pub FaultsSo : {A : Type 0} → (A → Event E → Type 0) → Step → Type 0
-    FaultsSo {A} Shows fault = (x : A) (what : Event E) → Shows x what → (fault ≡ fault_shown at what) × (is_own_word what ≡ true)
+    FaultsSo {A} Shows fault = (x : A) (what : Event E) → Shows x what → (fault ≡ fault_shown at what) × (is_own_word what ≡ true) × (asked_by what ≡ ask)
 
     refused_spent : (why : Refusal) → GoesOn types old new (Asks types old Given at ask) at ask (λ e. e ≡ Refused ask why) → (line : Step) → line ≡ refusal_line at (tx_asked ask) (number_asked ask) why → (calls : List (Call E)) → On calls → Spent types old new at line
     refused_spent why g line is calls o = spent_at (λ e. e ≡ Refused ask why) g line calls (λ e k. subst (λ x. line ≡ step_shown (entries calls) at x) (sym k) (is ∙ sym (refusal_is (entries calls) at ask why))) o

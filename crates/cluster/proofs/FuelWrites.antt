@@ -35,8 +35,8 @@ is_took (step.Took number hi) = true
 is_took other = false
 
 pub no_bringing : (whole ls : List Line) (p : PartId) (call : Call) (s : Step) → is_took s ≡ false → is_bringing whole ls p call s ≡ false
-no_bringing whole ls p (TakeOf site lo hi) (step.Took number end) h = off (sym h)
-no_bringing whole ls p (TakeOf site lo hi) other h = refl
+no_bringing whole ls p (TakeOf number site lo hi) (step.Took shown end) h = off (sym h)
+no_bringing whole ls p (TakeOf number site lo hi) other h = refl
 no_bringing whole ls p other s h = refl
 
 module _ (whole ls : List Line) (at : PartId) where
@@ -61,7 +61,7 @@ module _ (whole ls : List Line) (at : PartId) where
   number_bringing run call (step.Took n hi) = by_call call
     where
       by_call : (c : Call) → is_bringing whole ls at c (numbered run (step.Took n hi)) ≡ is_bringing whole ls at c (step.Took n hi)
-      by_call (TakeOf site lo end) = refl
+      by_call (TakeOf number site lo end) = refl
       by_call other = refl
   number_bringing run call (step.Sent n p to lo hi count) = no_bringing whole ls at call _ refl ∙ sym (no_bringing whole ls at call _ refl)
   number_bringing run call (step.Dup n have) = no_bringing whole ls at call _ refl ∙ sym (no_bringing whole ls at call _ refl)

@@ -29,10 +29,10 @@ module _ {S E D : Type 0} (w : Types S E D) (old new : Held E D) (at : PartId) w
   left_by R m h other = subst (λ (c : Held E D). R (left_at w.state old at other) (left_at w.state c at other)) (sym m.changed) (at_set calls R old.partitions (index_of old.parts at) m.before m.after m.there h other)
 
   -- calls of a disk arm no fuse
-  pub unarmed : (m : Moves w.state old new at) → Lowers 16 (calls m.before) (calls m.after) → StaysUnarmed w.state old new at
+  pub unarmed : (m : Moves w.state old new at) → Lowers 3 (calls m.before) (calls m.after) → StaysUnarmed w.state old new at
   unarmed m l other e = left_by (λ x y. x ≡ None → y ≡ None) m (λ h. l.left ∙ ap (λ o. fewer l.count o) h) other e
 
-  pub armed : (k n : ℕ) → ArmsAt w old new at k → SetsFuse w.state (command.Fuse at k n) old new
+  pub armed : (k n : ℕ) → ArmsAt w old new at k n → SetsFuse w.state (command.Fuse at k n) old new
   armed k n a there other = left_here w old new at a.moves (Some k) (ap (λ (d : DiskState). d.left) a.armed) other there
 
   taken : RevivesAt w old new at → (other : Durable E D) → left_at w.state old at other ≡ Some 0 → left_at w.state new at other ≡ None

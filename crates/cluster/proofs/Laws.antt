@@ -28,13 +28,15 @@ use Rattle.crdt_core.specs.Log.{MayFind}
 use Rattle.crdt_core.specs.declared.record.Record.{Record}
 use Rattle.partition_log.specs.Logs.{HasRecords}
 use Rattle.partition_core.specs.Durable as durable
-use Rattle.partition_core.specs.Durable.{Durable, StandsOn, StandsSo, StandsUp}
+use Rattle.partition_core.specs.Durable.{Durable, StandsOn, StandsSo, StandsUp, disk_in}
 use Rattle.site_partitions.specs.Held.{index_of}
 use Rattle.txn_session.specs.Calls.{entries}
 use Rattle.site_partitions.specs.Reaches.{Types, StandsAt}
 use Rattle.cluster.specs.History.{ShowsHistory}
 use Rattle.cluster.specs.Post.{WholeState}
 use Rattle.cluster.specs.Reached.{IsBefore, Applies, Reached}
+use Rattle.cluster.specs.Rooms.{FindRooms, IsRoomAt}
+use Rattle.cluster.proofs.Rooms.{rooms_as}
 use Rattle.cluster.proofs.Keeping.{post_on, keeps_line, keeps_both}
 use Rattle.cluster.proofs.Meets.{all_met, none_due}
 use Rattle.cluster.proofs.FuelStays.{holds_fuses, unlit_failed, unlit_holds}
@@ -88,6 +90,14 @@ module _ {S E D : Type 0} (types : Types S E D) where
     | true ↦ λ s. absurd (true≢false (sym u ∙ s.down))
     | false ↦ λ s. s
   ]
+
+  -- where a call found no room, there was none, by whatever tells the rooms of the disks
+  pub rooms_left : (w : WholeState E D) (run : Run) (r : Reached types (Some w) run) (R : PartId → ℕ → Type 0) → ((p : PartId) (n : ℕ) → IsPlace (sites_of run) (parts_of run) p → ((other : Durable E D) → (disk_in types.state (get_or w.live.sites.partitions (index_of (parts_of run) p) other)).room ≡ n) → R p n) → FindRooms types.kinds types.codec (sites_of run) (parts_of run) R (history (Some w) run r).events
+  rooms_left w run r R so =
+      subst (λ n. FindRooms types.kinds types.codec n (parts_of run) R (entries r.live.calls)) r.live.sites (subst (λ n. FindRooms types.kinds types.codec w.live.sites.sites n R (entries r.live.calls)) r.live.parts
+      (rooms_as types.kinds types.codec w.live.sites.sites w.live.sites.parts (IsRoomAt types.state w.live.sites) R
+      (λ p n place h. so p n (subst (λ k. IsPlace k (parts_of run) p) r.live.sites (subst (λ k. IsPlace w.live.sites.sites k p) r.live.parts place)) (λ other. subst (λ k. (disk_in types.state (get_or w.live.sites.partitions (index_of k p) other)).room ≡ n) r.live.parts (h other)))
+      (entries r.live.calls) r.live.sees.rooms))
 
   -- a partition that is up by the lines of the run holds one
   pub log_left : (w : WholeState E D) (run : Run) (r : Reached types (Some w) run) (p : PartId) (t : Durable E D) → IsPlace (sites_of run) (parts_of run) p → is_down (calls_of run) p ≡ false → ((other : Durable E D) → get_or w.live.sites.partitions (index_of (parts_of run) p) other ≡ t) → HoldsLeft (sites_of run) (parts_of run) (history (Some w) run r).events p t

@@ -10,6 +10,7 @@ pub mod Fusing
 pub mod Faulted
 pub mod Worlds
 pub mod Ups
+pub mod Rooms
 pub mod Seeing
 pub mod FuelStore
 pub mod Keeping

@@ -61,6 +61,7 @@ module _ {S E D : Type 0} (types : Types S E D) where
       each = s.reached.each;
     };
     one_caller = (refl, s.one_caller);
+    rooms = (tt, s.rooms);
   }
 
   apart_opened : (calls : List (Call E)) (at : PartId) (name : List ℕ) (d : Doing E) → AreApart d (called 0 at (Opened name) ∷ [])

@@ -41,6 +41,8 @@ use Rattle.cluster.proofs.Faulted.{same_of}
 use Rattle.cluster.proofs.Keeping.{letter_at, note_at, none_and}
 use Rattle.cluster.proofs.Meets.{all_met, first_at, none_due}
 use Rattle.cluster.proofs.Posting.{IsPosted, posted}
+use Rattle.world_model.specs.rules.Asking.{asked_by}
+use Rattle.cluster.proofs.Rooms.{rooms_more}
 use Rattle.cluster.proofs.Turning.{IsSilentFor}
 
 sent_posted : (p at : PartId) (site to number lo hi count : ℕ) (from : Option ℕ) → IsPosted (command.Send p site from) (step.Sent number at to lo hi count)
@@ -140,7 +142,7 @@ module _ {S E D : Type 0} (types : Types S E D) (w : WholeState E D) where
         whole =
             let size : SameCluster types.state w.live.sites held = same_of types.state w.live.sites held at g.moves in
             let s : Step = step.Sent w.post.next_letter at site m.lo m.hi (length m.parts) in
-            let x = posted types w.live run r.live line (command.Send at site from) at (Sent from m) held size (record { reached = reached; one_caller = (refl, r.live.sees.one_caller) }) s
+            let x = posted types w.live run r.live line (command.Send at site from) at (Sent from m) held size (record { reached = reached; one_caller = (refl, r.live.sees.one_caller); rooms = rooms_more types w.live.sites held size (entries r.live.calls) at (Sent from m) refl r.live.sees.rooms }) s
             (sent_posted at at site site w.post.next_letter m.lo m.hi (length m.parts) from) (λ i. step.Sent (r.post.sent at i + 1) at (sym to i) m.lo m.hi (length m.parts)) (λ i. record { at = at; call = SendTo (sym to i) from }) (λ who. tt) tt
             g.moves (let y = g.goes (entries r.live.calls) r.live.sees.reached (tt, tt) in subst (λ e. Spends types.kinds types.codec types.state g.moves.before g.moves.after (r.live.sees.reached.state at) e) y.0.shows.1 y.1) in
             record {
@@ -163,7 +165,7 @@ module _ {S E D : Type 0} (types : Types S E D) (w : WholeState E D) where
     send_fails held error s steps is failing way room f g line run r =
         struck types w held (command.Send at site from) refl at (AskMessage site from) (λ (m : Message E) e. (m.to ≡ site) × (e ≡ Sent from m)) error s steps is failing f g line run r tt
         (none_due (all_met run (command.Send at site from)) (refl, (ap not r.live.has, (way_in run r ∙ way, (ap (λ n. n == 4096) (sym r.post.present) ∙ room, tt)))))
-        refl tt (λ m what k. subst (λ e. call_of (Cut e) ≡ call_asked {E = E} (AskMessage site from)) (sym k.1) (ap (λ n. SendTo n from) k.0)) (λ m what k. subst (λ e. (who : List ℕ) → IsSilentFor (entries r.live.calls) who (Cut e)) (sym k.1) (λ who. tt)) (λ m what k. subst (λ e. step.Disk at ≡ fault_shown at e) (sym k.1) refl)
+        refl tt (λ m what k. subst (λ e. call_of (Cut e) ≡ call_asked {E = E} (AskMessage site from)) (sym k.1) (ap (λ n. SendTo n from) k.0)) (λ m what k. subst (λ e. (who : List ℕ) → IsSilentFor (entries r.live.calls) who (Cut e)) (sym k.1) (λ who. tt)) (λ m what k. subst (λ e. (step.Disk at ≡ fault_shown at e) × (asked_by e ≡ AskMessage site from)) (sym k.1) (refl, ap (λ n. AskMessage n from) k.0))
 
     pub may_send : lacks_way w.live.sites at site ≡ false → IsReached types (Some w) → MayAsk types w.live.sites at (AskMessage site from)
     may_send there r = record {
@@ -246,7 +248,7 @@ module _ {S E D : Type 0} (types : Types S E D) (w : WholeState E D) where
         whole_told : ReachedWhole types after_report next_told
         whole_told =
             let s : Step = step.Reported w.post.next_note at b in
-            let x = posted types w.live run r.live line (command.Report at) at (Reported b) w.live.sites (same_refl types.state w.live.sites) (record { reached = reached_told; one_caller = (refl, r.live.sees.one_caller) }) s
+            let x = posted types w.live run r.live line (command.Report at) at (Reported b) w.live.sites (same_refl types.state w.live.sites) (record { reached = reached_told; one_caller = (refl, r.live.sees.one_caller); rooms = rooms_more types w.live.sites w.live.sites (same_refl types.state w.live.sites) (entries r.live.calls) at (Reported b) refl r.live.sees.rooms }) s
             (reported_posted at at w.post.next_note b) (λ i. step.Reported (r.post.told at i + 1) at b) refl (λ who. tt) tt
             g.moves (spends_of types w.live.sites w.live.sites (Asks types w.live.sites Any at AskReport) at AskReport (Reported b) g (entries r.live.calls) r.live.sees.reached (tt, tt)) in
             record { live = x.reached; post = subst (λ cs. HasPost w.live.sites.sites w.live.sites.parts next_told (entries cs) after_report.post) (sym x.calls_are) post_told }
@@ -266,7 +268,7 @@ module _ {S E D : Type 0} (types : Types S E D) (w : WholeState E D) where
     report_fails error s steps is failing there room f g line run r =
         struck types w w.live.sites (command.Report at) refl at AskReport (λ (b : List ℕ) e. e ≡ Reported b) error s steps is failing f g line run r tt
         (none_due (all_met run (command.Report at)) (refl, (ap not r.live.has, (ap not (part_there run r ∙ there), (ap (λ n. n == 4096) (sym r.post.noted) ∙ room, tt)))))
-        refl tt (λ b what k. subst (λ e. call_of (Cut e) ≡ call_asked {E = E} AskReport) (sym k) refl) (λ b what k. subst (λ e. (who : List ℕ) → IsSilentFor (entries r.live.calls) who (Cut e)) (sym k) (λ who. tt)) (λ b what k. subst (λ e. step.Disk at ≡ fault_shown at e) (sym k) refl)
+        refl tt (λ b what k. subst (λ e. call_of (Cut e) ≡ call_asked {E = E} AskReport) (sym k) refl) (λ b what k. subst (λ e. (who : List ℕ) → IsSilentFor (entries r.live.calls) who (Cut e)) (sym k) (λ who. tt)) (λ b what k. subst (λ e. (step.Disk at ≡ fault_shown at e) × (asked_by e ≡ AskReport)) (sym k) (refl, refl))
 
     pub report_refused : (error : DurableError) (s : Step) (steps : List Step) → steps ≡ s ∷ [] → holds_part w.live.sites at ≡ true → (length w.post.notes == 4096) ≡ false → FailedAs {X = Unit {0}} at (record { site = 0; part = 0; time = 0 }) 0 (step.Disk at) error (Ok s) → Calls types w.live.sites w.live.sites Any at AskReport (λ (b : List ℕ) e. e ≡ Reported b) (Err error)
         → Applies types (Some w) (command.Report at) steps (Some w)

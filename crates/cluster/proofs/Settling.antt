@@ -14,7 +14,7 @@ use Rattle.world_model.specs.declared.command.Command.TheVariants as command
 use Rattle.world_model.specs.declared.step.Step.{Step}
 use Rattle.world_model.specs.declared.step.Step.TheVariants as step
 use Rattle.world_model.specs.commands.Answers.{answered}
-use Rattle.world_model.specs.rules.Asking.{MayCall}
+use Rattle.world_model.specs.rules.Asking.{MayCall, asked_by}
 use Rattle.world_model.specs.commands.Cluster.{has_part, sites_of, parts_of}
 use Rattle.world_model.specs.lines.Places.{partitions, IsPlace, first_of, home}
 use Rattle.world_model.specs.lines.Dependency.{IsOwnPast}
@@ -62,6 +62,7 @@ use Rattle.cluster.proofs.Leading.{answered_more}
 use Rattle.cluster.proofs.Meets.{all_met, first_at, none_due, refused}
 use Rattle.cluster.proofs.Queueing.{AllSo, all_so_more, names_of, without_one, first_is, lines_for, settles_all, settles_front, lines_more}
 use Rattle.cluster.proofs.Failing.{spends_of}
+use Rattle.cluster.proofs.Rooms.{found_full, rooms_on, rooms_more}
 use Rattle.cluster.proofs.FuelStays.{fueled_idle}
 use Rattle.site_partitions.specs.Moves.{Moves}
 use Rattle.partition_core.specs.Moments.{Spends}
@@ -246,7 +247,7 @@ module _ {S E D : Type 0} (types : Types S E D) (c : LiveState E D) (p : PartId)
       settle_aborted later g number run r h l =
           let x = (g.goes (entries r.calls) r.sees.reached (may_drop run r l)).0 in
           let reached : Reaches types later ((record { at = p; event = Aborted t false }) ∷ entries r.calls) = subst (λ e. Reaches types later ((record { at = p; event = e }) ∷ entries r.calls)) x.shows x.reached in
-          let seen : Sees types later (called 0 p (Aborted t false) ∷ r.calls) = record { reached = reached; one_caller = (refl, r.sees.one_caller) } in
+          let seen : Sees types later (called 0 p (Aborted t false) ∷ r.calls) = record { reached = reached; one_caller = (refl, r.sees.one_caller); rooms = rooms_more types c.sites later (same_of types.state c.sites later p g.moves) (entries r.calls) p (Aborted t false) refl r.sees.rooms } in
           let same = same_of types.state c.sites later p g.moves in
           let place = subst (λ k. IsPlace k later.parts p) (sym same.sites_are) (subst (λ k. IsPlace c.sites.sites k p) (sym same.parts_are) may.place) in
           record {
@@ -268,16 +269,16 @@ module _ {S E D : Type 0} (types : Types S E D) (c : LiveState E D) (p : PartId)
       settle_undropped later call.Disk s g f number run r h l =
           let x = (g.0.goes (entries r.calls) r.sees.reached (may_drop run r l)).0 in
           let is : x.event ≡ Cut (Aborted t false) = x.shows.2 ∙ ap Cut x.shows.1.1 in
-          let seen : Sees types later (called 0 p (Cut (Aborted t false)) ∷ r.calls) = record { reached = subst (λ e. Reaches types later ((record { at = p; event = e }) ∷ entries r.calls)) is x.reached; one_caller = (refl, r.sees.one_caller) } in
+          let seen : Sees types later (called 0 p (Cut (Aborted t false)) ∷ r.calls) = record { reached = subst (λ e. Reaches types later ((record { at = p; event = e }) ∷ entries r.calls)) is x.reached; one_caller = (refl, r.sees.one_caller); rooms = rooms_more types c.sites later (same_of types.state c.sites later p g.0.moves) (entries r.calls) p (Cut (Aborted t false)) refl r.sees.rooms } in
           record {
             ends = aborted_stays run r l;
             unwritten = ap is_unwritten f;
-            tells = subst (ShowsFault types.state run c.sites later) (sym f) (rose_of types.state c.sites later p g.0.moves g.1);
+            tells = subst (ShowsFault types.state run c.sites later) (sym f) (rose_of types.state c.sites later p g.0.moves g.1.rose);
             goes = unwritten_goes later (same_of types.state c.sites later p g.0.moves) number run r (Cut (Aborted t false)) s f (ap is_unwritten f) refl (λ who. tt) tt seen g.0.moves (subst (λ e. Spends types.kinds types.codec types.state g.0.moves.before g.0.moves.after (r.sees.reached.state p) e) is (g.0.goes (entries r.calls) r.sees.reached (may_drop run r l)).1) (cond-false (in_history (calls_of run) t) _ _ (aborted_fate run r l).0);
           }
       settle_undropped later (call.Full room) s g f number run r h l =
           let x = (g.1.goes (entries r.calls) r.sees.reached (may_drop run r l)).0 in
-          let seen : Sees types later (called 0 p (Refused (AskAbort t) (HasNoRoom room)) ∷ r.calls) = record { reached = subst (λ e. Reaches types later ((record { at = p; event = e }) ∷ entries r.calls)) x.shows x.reached; one_caller = (refl, r.sees.one_caller) } in
+          let seen : Sees types later (called 0 p (Refused (AskAbort t) (HasNoRoom room)) ∷ r.calls) = record { reached = subst (λ e. Reaches types later ((record { at = p; event = e }) ∷ entries r.calls)) x.shows x.reached; one_caller = (refl, r.sees.one_caller); rooms = (found_full types c.sites later p (AskAbort t) room g.0 (AbortsByLead types c.sites p t) (λ (x : Unit {0}) e. e ≡ Aborted t false) (λ x what k. ap asked_by k) g.1 g.2 (entries r.calls) r.sees.reached (may_drop run r l), rooms_on types c.sites later (same_of types.state c.sites later p g.1.moves) (entries r.calls) r.sees.rooms) } in
           record {
             ends = aborted_stays run r l;
             unwritten = ap is_unwritten f;
@@ -309,7 +310,7 @@ module _ {S E D : Type 0} (types : Types S E D) (c : LiveState E D) (p : PartId)
       settle_finished later g number run r h l =
           let x = (g.goes (entries r.calls) r.sees.reached (may_end run r h l, tt)).0 in
           let reached : Reaches types later ((record { at = p; event = Finished t v }) ∷ entries r.calls) = subst (λ e. Reaches types later ((record { at = p; event = e }) ∷ entries r.calls)) x.shows x.reached in
-          let seen : Sees types later (called 0 p (Finished t v) ∷ r.calls) = record { reached = reached; one_caller = (refl, r.sees.one_caller) } in
+          let seen : Sees types later (called 0 p (Finished t v) ∷ r.calls) = record { reached = reached; one_caller = (refl, r.sees.one_caller); rooms = rooms_more types c.sites later (same_of types.state c.sites later p g.moves) (entries r.calls) p (Finished t v) refl r.sees.rooms } in
           let same = same_of types.state c.sites later p g.moves in
           let place = subst (λ k. IsPlace k later.parts p) (sym same.sites_are) (subst (λ k. IsPlace c.sites.sites k p) (sym same.parts_are) may.place) in
           record {
@@ -331,16 +332,16 @@ module _ {S E D : Type 0} (types : Types S E D) (c : LiveState E D) (p : PartId)
       settle_unfinished later call.Disk s g f number run r h l =
           let x = (g.0.goes (entries r.calls) r.sees.reached (may_end run r h l, tt)).0 in
           let is : x.event ≡ Cut (Finished t v) = x.shows.2 ∙ ap Cut x.shows.1.1 in
-          let seen : Sees types later (called 0 p (Cut (Finished t v)) ∷ r.calls) = record { reached = subst (λ e. Reaches types later ((record { at = p; event = e }) ∷ entries r.calls)) is x.reached; one_caller = (refl, r.sees.one_caller) } in
+          let seen : Sees types later (called 0 p (Cut (Finished t v)) ∷ r.calls) = record { reached = subst (λ e. Reaches types later ((record { at = p; event = e }) ∷ entries r.calls)) is x.reached; one_caller = (refl, r.sees.one_caller); rooms = rooms_more types c.sites later (same_of types.state c.sites later p g.0.moves) (entries r.calls) p (Cut (Finished t v)) refl r.sees.rooms } in
           record {
             ends = committed_stays run r l;
             unwritten = ap is_unwritten f;
-            tells = subst (ShowsFault types.state run c.sites later) (sym f) (rose_of types.state c.sites later p g.0.moves g.1);
+            tells = subst (ShowsFault types.state run c.sites later) (sym f) (rose_of types.state c.sites later p g.0.moves g.1.rose);
             goes = unwritten_goes later (same_of types.state c.sites later p g.0.moves) number run r (Cut (Finished t v)) s f (ap is_unwritten f) refl (λ who. tt) tt seen g.0.moves (subst (λ e. Spends types.kinds types.codec types.state g.0.moves.before g.0.moves.after (r.sees.reached.state p) e) is (g.0.goes (entries r.calls) r.sees.reached (may_end run r h l, tt)).1) (cond-true (in_history (calls_of run) t) _ _ (committed_fate run r l).0);
           }
       settle_unfinished later (call.Full room) s g f number run r h l =
           let x = (g.1.goes (entries r.calls) r.sees.reached (may_end run r h l, tt)).0 in
-          let seen : Sees types later (called 0 p (Refused (AskFinish t v) (HasNoRoom room)) ∷ r.calls) = record { reached = subst (λ e. Reaches types later ((record { at = p; event = e }) ∷ entries r.calls)) x.shows x.reached; one_caller = (refl, r.sees.one_caller) } in
+          let seen : Sees types later (called 0 p (Refused (AskFinish t v) (HasNoRoom room)) ∷ r.calls) = record { reached = subst (λ e. Reaches types later ((record { at = p; event = e }) ∷ entries r.calls)) x.shows x.reached; one_caller = (refl, r.sees.one_caller); rooms = (found_full types c.sites later p (AskFinish t v) room g.0 (Asks types c.sites Any p (AskFinish t v)) (λ (x : Unit {0}) e. e ≡ Finished t v) (λ x what k. ap asked_by k) g.1 g.2 (entries r.calls) r.sees.reached (may_end run r h l, tt), rooms_on types c.sites later (same_of types.state c.sites later p g.1.moves) (entries r.calls) r.sees.rooms) } in
           record {
             ends = committed_stays run r l;
             unwritten = ap is_unwritten f;

@@ -32,6 +32,7 @@ use Rattle.cluster.specs.Live.{LiveState}
 use Rattle.cluster.specs.Reached.{ReachedLive, GoesTo, AppliesLive, IsReachedLive}
 use Rattle.cluster.specs.Same.{SameCluster, same_trans}
 use Rattle.cluster.specs.Sees.{Sees}
+use Rattle.cluster.proofs.Rooms.{rooms_on, rooms_more}
 use Rattle.cluster.proofs.Clocks.{part_in}
 use Rattle.cluster.proofs.Delivering.{place_of_part}
 use Rattle.cluster.proofs.Faulted.{same_of, rose_of, show_last}
@@ -65,7 +66,7 @@ module _ {S E D : Type 0} (types : Types S E D) (c : LiveState E D) (p : PartId)
     sites = same.sites_are ∙ r.sites;
     parts = same.parts_are ∙ r.parts;
     calls = r.calls;
-    sees = record { reached = keeps (entries r.calls) r.sees.reached; one_caller = r.sees.one_caller };
+    sees = record { reached = keeps (entries r.calls) r.sees.reached; one_caller = r.sees.one_caller; rooms = rooms_on types c.sites later same (entries r.calls) r.sees.rooms };
     shown = r.shown;
     own = r.own;
     fuel = fuel;
@@ -94,7 +95,7 @@ module _ {S E D : Type 0} (types : Types S E D) (c : LiveState E D) (p : PartId)
 
   pub crash_applies : (later : Held E D) (steps : List Step) → steps ≡ step.Crashed p ∷ [] → holds_part c.sites p ≡ true → CrashesAt types c.sites later p → AppliesLive types c (command.Crash p) steps (after later)
   crash_applies later steps is there k number run r =
-      let seen : Sees types later (called 0 p Crashed ∷ r.calls) = record { reached = k.goes (entries r.calls) r.sees.reached; one_caller = (refl, r.sees.one_caller) } in
+      let seen : Sees types later (called 0 p Crashed ∷ r.calls) = record { reached = k.goes (entries r.calls) r.sees.reached; one_caller = (refl, r.sees.one_caller); rooms = rooms_more types c.sites later (same_of types.state c.sites later p k.moves) (entries r.calls) p (Crashed) refl r.sees.rooms } in
       subst (λ l. IsAnswer is_built run (command.Crash p) l × GoesTo types c run r (after later) (answered number (Some (command.Crash p)) l run) × ShowFaults types.state run c.sites later l) (sym is) (
         subst (AnswersBy run (command.Crash p) (step.Crashed p ∷ [])) (sym (none_due (all_met run (command.Crash p)) (refl, (ap not r.has, (ap not (sym (part_in types c run r p) ∙ there), tt))))) refl,
         turned_alone types c run r number (command.Crash p) 0 p Crashed later (same_of types.state c.sites later p k.moves) seen refl (asked_lines number (command.Crash p) run (step.Crashed p) (step.Crashed p) p Crash refl refl refl refl) (λ who s. refl) (λ who. tt) tt
@@ -103,7 +104,7 @@ module _ {S E D : Type 0} (types : Types S E D) (c : LiveState E D) (p : PartId)
       )
 
   -- a fuse is no event
-  pub fuse_applies : (k n : ℕ) (later : Held E D) (steps : List Step) → steps ≡ step.Fused p k n ∷ [] → holds_part c.sites p ≡ true → 1 ≤ k → ArmsAt types c.sites later p k → AppliesLive types c (command.Fuse p k n) steps (after later)
+  pub fuse_applies : (k n : ℕ) (later : Held E D) (steps : List Step) → steps ≡ step.Fused p k n ∷ [] → holds_part c.sites p ≡ true → 1 ≤ k → ArmsAt types c.sites later p k n → AppliesLive types c (command.Fuse p k n) steps (after later)
   fuse_applies k n later steps is there some arms number run r =
       let same = same_of types.state c.sites later p arms.moves in
       let fuel = fueled_armed types c.sites later p run (entries r.calls) (place_of_part c.sites p there) there (record { number = number; command = Some (command.Fuse p k n); step = step.Fused p k n }) k n refl some arms r.fuel in
@@ -111,7 +112,7 @@ module _ {S E D : Type 0} (types : Types S E D) (c : LiveState E D) (p : PartId)
         subst (AnswersBy run (command.Fuse p k n) (step.Fused p k n ∷ [])) (sym (none_due (all_met run (command.Fuse p k n)) (refl, (ap not r.has, (ap not (sym (part_in types c run r p) ∙ there), tt))))) refl,
         record {
           same = same;
-          reached = quiet_on types c (after later) same refl number (Some (command.Fuse p k n)) (step.Fused p k n) run (record { called = refl; cluster = refl; sites = λ i. refl; parts = λ i. refl; site = λ who old. refl; count = λ i. refl; phase = λ who. refl }) r (record { reached = arms.keeps (entries r.calls) r.sees.reached; one_caller = r.sees.one_caller }) fuel;
+          reached = quiet_on types c (after later) same refl number (Some (command.Fuse p k n)) (step.Fused p k n) run (record { called = refl; cluster = refl; sites = λ i. refl; parts = λ i. refl; site = λ who old. refl; count = λ i. refl; phase = λ who. refl }) r (record { reached = arms.keeps (entries r.calls) r.sees.reached; one_caller = r.sees.one_caller; rooms = rooms_on types c.sites later same (entries r.calls) r.sees.rooms }) fuel;
           grows = grows_none r.calls;
           keeps = keeps_line number (Some (command.Fuse p k n)) (step.Fused p k n) run refl;
         },
@@ -125,7 +126,7 @@ module _ {S E D : Type 0} (types : Types S E D) (c : LiveState E D) (p : PartId)
   came_up later x steps is there k number run r =
       let e : Event E = event.Restarted x.now x.bounds x.decided x.pending in
       let s : Step = step.Restarted p x.now x.bounds x.decided x.pending in
-      let seen : Sees types later (called 0 p (event.Restarted x.now x.bounds x.decided x.pending) ∷ r.calls) = record { reached = k.goes (entries r.calls) r.sees.reached; one_caller = (refl, r.sees.one_caller) } in
+      let seen : Sees types later (called 0 p (event.Restarted x.now x.bounds x.decided x.pending) ∷ r.calls) = record { reached = k.goes (entries r.calls) r.sees.reached; one_caller = (refl, r.sees.one_caller); rooms = rooms_more types c.sites later (same_of types.state c.sites later p k.moves) (entries r.calls) p (event.Restarted x.now x.bounds x.decided x.pending) refl r.sees.rooms } in
       subst (λ l. IsAnswer is_built run (command.Restart p) l × GoesTo types c run r (after later) (answered number (Some (command.Restart p)) l run) × ShowFaults types.state run c.sites later l) (sym is) (
         subst (AnswersBy run (command.Restart p) (s ∷ [])) (sym (restarts run r there)) (s, refl, refl, tt),
         turned_alone types c run r number (command.Restart p) 0 p e later (same_of types.state c.sites later p k.moves) seen refl (asked_lines number (command.Restart p) run s s p Restart refl refl refl refl) (λ who y. refl) (λ who. tt) tt
@@ -136,7 +137,7 @@ module _ {S E D : Type 0} (types : Types S E D) (c : LiveState E D) (p : PartId)
   -- the disk failed in a restart
   pub stayed_down : (later : Held E D) (steps : List Step) → steps ≡ step.Disk p ∷ [] → holds_part c.sites p ≡ true → (k : StaysDownAt types c.sites later p) → Rose (disk_in types.state k.moves.before).faults (disk_in types.state k.moves.after).faults → AppliesLive types c (command.Restart p) steps (after later)
   stayed_down later steps is there k rose number run r =
-      let seen : Sees types later (called 0 p RestartCut ∷ r.calls) = record { reached = k.goes (entries r.calls) r.sees.reached; one_caller = (refl, r.sees.one_caller) } in
+      let seen : Sees types later (called 0 p RestartCut ∷ r.calls) = record { reached = k.goes (entries r.calls) r.sees.reached; one_caller = (refl, r.sees.one_caller); rooms = rooms_more types c.sites later (same_of types.state c.sites later p k.moves) (entries r.calls) p (RestartCut) refl r.sees.rooms } in
       subst (λ l. IsAnswer is_built run (command.Restart p) l × GoesTo types c run r (after later) (answered number (Some (command.Restart p)) l run) × ShowFaults types.state run c.sites later l) (sym is) (
         subst (AnswersBy run (command.Restart p) (step.Disk p ∷ [])) (sym (restarts run r there)) (step.Disk p, refl, refl, tt),
         turned_alone types c run r number (command.Restart p) 0 p RestartCut later (same_of types.state c.sites later p k.moves) seen refl (asked_lines number (command.Restart p) run (step.Disk p) (step.Disk p) p Restart refl refl refl refl) (λ who y. refl) (λ who. tt) tt

@@ -7,6 +7,8 @@ use Rattle.txn_session.specs.Calls.{Call}
 use Rattle.txn_session.specs.Holds.{Holds, Makes, MakesRead, MakesUpdate}
 use Rattle.txn_session.specs.Session.{SessionState, place_in, moved_to}
 use Rattle.txn_session.specs.Opens.{IsOpened, IsUpdated}
+use Rattle.world_model.specs.declared.command.Mode.{Mode}
+use Rattle.world_model.specs.lines.Lines.{wish_of}
 use Rattle.world_model.specs.rules.Event.{AskBegin}
 use Rattle.crdt_core.specs.declared.operation.Op.{Op}
 use Rattle.crdt_core.specs.Placing.{place_of}
@@ -42,6 +44,6 @@ module _ {S E D : Type 0} (types : Types S E D) where
   abbrev pub Updates : Held E D → Held E D → ObjectId → Op → Step → SessionState E → SessionState E → List (Call E) → Type 0
   Updates held later o op answer s new calls = TellsCall types held later (place_in s (place_of o.bucket o.key s.parts)) answer × IsUpdated s o answer new × MakesUpdate (λ h (p : Unit {0}) l. Sees types h l) (λ (p : Unit {0}) n. true) later tt calls s new o op answer s.doing
 
-  -- it began a transaction at the partition of its site with this number
-  abbrev pub Begins : Held E D → Held E D → ℕ → Step → SessionState E → SessionState E → List (Call E) → Type 0
-  Begins held later part answer s new calls = TellsCall types held later (place_in s part) answer × IsOpened s answer new × Makes (λ h (p : Unit {0}) l. Sees types h l) (λ (p : Unit {0}) n. true) later tt calls s new None (place_in s part) (AskBegin s.name s.dependency) answer
+  -- it began a transaction in this mode, at the partition of its site with this number
+  abbrev pub Begins : Held E D → Held E D → ℕ → Mode → Step → SessionState E → SessionState E → List (Call E) → Type 0
+  Begins held later part mode answer s new calls = TellsCall types held later (place_in s part) answer × IsOpened s answer new × Makes (λ h (p : Unit {0}) l. Sees types h l) (λ (p : Unit {0}) n. true) later tt calls s new None (place_in s part) (AskBegin s.name (wish_of s.dependency mode)) answer

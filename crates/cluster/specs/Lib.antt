@@ -1,6 +1,7 @@
 pub mod Named
 pub mod Lends
 pub mod Same
+pub mod Rooms
 pub mod Faults
 pub mod Fuel
 pub mod Sees

@@ -1,4 +1,4 @@
--- What every call leaves of a cluster: its size, and no disk forgets a fault that it counted.
+-- What every call leaves of a cluster: its size, the room of each disk, and no disk forgets a fault that it counted.
 use Rattle.std.specs.Prelude.{◌≡◌, ℕ, ◌≤◌, Bool, true, get_or, Option, None, Some}
 use Rattle.std.proofs.Common.{refl, ◌∙◌, arith}
 use Rattle.site_vector.specs.declared.ids.PartId.{PartId}
@@ -22,17 +22,22 @@ module _ {E D : Type 0} (state : D → DiskState) where
   abbrev pub faults_at : Held E D → PartId → Durable E D → ℕ
   faults_at c p other = (disk_at c p other).faults
 
+  abbrev pub room_at : Held E D → PartId → Durable E D → ℕ
+  room_at c p other = (disk_at c p other).room
+
   pub record SameCluster (old new : Held E D) : Type 0 where
     pub sites_are : new.sites ≡ old.sites
     pub parts_are : new.parts ≡ old.parts
     pub faults : (p : PartId) (other : Durable E D) → faults_at old p other ≤ faults_at new p other
+    pub rooms : (p : PartId) (other : Durable E D) → room_at new p other ≡ room_at old p other
 
   pub same_refl : (c : Held E D) → SameCluster c c
-  same_refl c = record { sites_are = refl; parts_are = refl; faults = λ p other. omega arith }
+  same_refl c = record { sites_are = refl; parts_are = refl; faults = λ p other. omega arith; rooms = λ p other. refl }
 
   pub same_trans : (a b c : Held E D) → SameCluster a b → SameCluster b c → SameCluster a c
   same_trans a b c s t = record {
     sites_are = t.sites_are ∙ s.sites_are;
     parts_are = t.parts_are ∙ s.parts_are;
     faults = λ p other. at_most (faults_at a p other) (faults_at b p other) (faults_at c p other) (s.faults p other) (t.faults p other);
+    rooms = λ p other. t.rooms p other ∙ s.rooms p other;
   }

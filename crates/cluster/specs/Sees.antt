@@ -13,6 +13,7 @@ use Rattle.site_vector.specs.declared.ids.PartId.{PartId}
 use Rattle.txn_session.specs.Calls.{Call, entries, caller_of, AreOwned, IsLegal}
 use Rattle.site_partitions.specs.Held.{Held}
 use Rattle.site_partitions.specs.Reaches.{Types, Reaches}
+use Rattle.cluster.specs.Rooms.{FoundRooms}
 
 -- the line of a refusal at a partition, of a call that names this transaction or message
 abbrev pub refusal_line : PartId → TxId → ℕ → Refusal → Step
@@ -60,6 +61,8 @@ module _ {E : Type 0} where
 pub record Sees {S E D : Type 0} (types : Types S E D) (c : Held E D) (calls : List (Call E)) : Type 0 where
   pub reached : Reaches types c (entries calls)
   pub one_caller : AllBear 0 calls
+  -- and where one found no room, there was none
+  pub rooms : FoundRooms types c (entries calls)
 
 -- which is a run of the world
 pub sees_legal : {S E D : Type 0} (types : Types S E D) (c : Held E D) (calls : List (Call E)) → Sees types c calls → IsLegal types.kinds c.sites c.parts calls

@@ -15,7 +15,7 @@ use field_codec::Text;
 use site_vector::PartId;
 use std::alloc::{AllocError, Global};
 use txn_session::Session;
-use world_model::{Command, Step};
+use world_model::{Command, Mode, Step};
 
 /// The most sessions at one time.
 const MOST_SESSIONS: usize = 64;
@@ -82,14 +82,15 @@ impl<C: Crdt, D: Disk + Drop> Live<C, D> {
         }
     }
 
-    /// Begins a transaction of a session, at the partition that is named or the first of its site.
+    /// Begins a transaction of a session in this mode, at the partition that is named or the first of its site.
     pub(crate) fn begin(
         &mut self,
         name: &Text,
         part: Option<PartId>,
+        mode: Mode,
     ) -> Result<Vec<Step>, AllocError>
         requires reached { IsReachedLive (types_of C.laws C.spells D.state) self.old }
-        ensures { IfOk result (λ steps. AppliesLive (types_of C.laws C.spells D.state) self.old (Command.Begin name.now part) steps.items self.new) }
+        ensures { IfOk result (λ steps. AppliesLive (types_of C.laws C.spells D.state) self.old (Command.Begin name.now part mode) steps.items self.new) }
     {
         if !self.has_place(part) {
             return only(self.alloc, Step::NoPart);
@@ -101,6 +102,7 @@ impl<C: Crdt, D: Disk + Drop> Live<C, D> {
             &mut self.sessions,
             name,
             part,
+            mode,
         ) {
             Ok(lines) => {
                 return Ok(lines);
@@ -152,11 +154,12 @@ fn begin_in<C: Crdt, D: Disk + Drop>(
     sessions: &mut Sessions<C>,
     name: &Text,
     part: Option<PartId>,
+    mode: Mode,
 ) -> Result<Vec<Step>, AllocError>
     requires place { holds_place sites.old part ≡ true }
     requires some { 1 ≤ sites.old.parts }
     requires reached { IsReachedLive (types_of C.laws C.spells D.state) (record { sites = sites.old; sessions = sessions.old.entries }) }
-    ensures { IfOk result (λ steps. AppliesLive (types_of C.laws C.spells D.state) (record { sites = sites.old; sessions = sessions.old.entries }) (Command.Begin name.now part) steps.items (record { sites = sites.new; sessions = sessions.new.entries })) }
+    ensures { IfOk result (λ steps. AppliesLive (types_of C.laws C.spells D.state) (record { sites = sites.old; sessions = sessions.old.entries }) (Command.Begin name.now part mode) steps.items (record { sites = sites.new; sessions = sessions.new.entries })) }
 {
     match sessions.get_mut(name) {
         Some(session) => {
@@ -166,7 +169,7 @@ fn begin_in<C: Crdt, D: Disk + Drop>(
             if !is_idle(session.phase()) {
                 return only_in(alloc, spare, Step::HasTxn);
             }
-            let (_, answer) = session.open(sites, (), number_of(part));
+            let (_, answer) = session.open(sites, (), number_of(part), mode);
             match answer {
                 Ok(step) => {
                     return only_in(alloc, spare, step);

@@ -114,8 +114,8 @@ impl<C: Crdt, D: Disk + Drop> Live<C, D> {
             Command::Move { name, site } => {
                 return self.move_session(name, *site);
             }
-            Command::Begin { name, part } => {
-                return self.begin(name, *part);
+            Command::Begin { name, part, mode } => {
+                return self.begin(name, *part, *mode);
             }
             Command::Read { name, object } => {
                 return self.read(name, object);

@@ -13,7 +13,7 @@ use partition_core::{DurableError, Refusal};
 use site_vector::{PartId, TxId, VTime};
 use std::alloc::AllocError;
 use txn_session::Store;
-use world_model::Step;
+use world_model::{Mode, Step};
 
 /// What a call comes to, if memory sufficed.
 type Answer = Result<Step, AllocError>;
@@ -58,9 +58,10 @@ impl<C: Crdt, D: Disk + Drop> Store<C> for Local<C, D> {
         at: PartId,
         who: &Text,
         dep: &VTime,
+        mode: Mode,
     ) -> ((), Result<(Step, u64), AllocError>) {
         match who.copy(self.alloc) {
-            Ok(name) => match self.all.begin_at(at, dep) {
+            Ok(name) => match self.all.begin_at(at, dep, mode) {
                 Ok(begun) => {
                     let (tx, s) = begun;
                     return (pass, Ok((Step::Began { name, tx, s }, 0)));

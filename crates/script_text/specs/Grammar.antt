@@ -1,6 +1,9 @@
 -- Commands as a script spells them: a name, and the words after it.
 use Rattle.std.specs.Prelude.{ℕ, List, [], ◌∷◌, Option, Some, None, option_map, option_and_then, if◌then◌else◌, codes}
 use Rattle.std.specs.Str.{bytes_eq}
+use Rattle.site_vector.specs.declared.ids.PartId.{PartId}
+use Rattle.world_model.specs.declared.command.Mode.{Mode}
+use Rattle.world_model.specs.declared.command.Mode.TheVariants.{Fresh, Stable}
 use Rattle.world_model.specs.declared.command.Command.{Command}
 use Rattle.world_model.specs.declared.command.Command.TheVariants as command
 use Rattle.script_text.specs.Numbers.{ranged}
@@ -58,9 +61,16 @@ maybe f (w ∷ v ∷ ws) = None
 abbrev pub steps : List ℕ → Option ℕ
 steps w = ranged 1 below_2_48 w
 
+-- where a transaction begins and how: a place, then `stable`, of which either may be left out
+abbrev pub begins : List (List ℕ) → Option (Option PartId × Mode)
+begins [] = Some (None, Fresh)
+begins (w ∷ []) = if bytes_eq w (codes "stable") then Some (None, Stable) else option_map (λ p. (Some p, Fresh)) (part w)
+begins (w ∷ v ∷ []) = if bytes_eq v (codes "stable") then option_map (λ p. (Some p, Stable)) (part w) else None
+begins (w ∷ v ∷ u ∷ ws) = None
+
 abbrev pub begin : List (List ℕ) → Option Command
 begin [] = None
-begin (s ∷ ws) = option_and_then (λ s. option_map (λ p. command.Begin s p) (maybe part ws)) (text s)
+begin (s ∷ ws) = option_and_then (λ s. option_map (λ b. command.Begin s b.0 b.1) (begins ws)) (text s)
 
 -- what stands alone, with no word after it
 abbrev pub whole : {A : Type 0} → A → List (List ℕ) → Option A

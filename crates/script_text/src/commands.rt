@@ -1,4 +1,4 @@
-ghost use Rattle.std.specs.Prelude.{◌≡◌, ◌≢◌, Err, OnOk, Some, None, option_and_then, option_map, true};
+ghost use Rattle.std.specs.Prelude.{◌≡◌, ◌≢◌, ◌∷◌, [], Err, OnOk, Some, None, option_and_then, option_map, true};
 ghost use Rattle.world_model.specs.declared.command.Command.{Command};
 ghost use Rattle.script_text.specs.Brief.{command_of};
 ghost use Rattle.script_text.specs.Line.{command_as, is_update};
@@ -19,7 +19,7 @@ use field_codec::{ListOf, Text};
 use script_words::spells;
 use site_vector::PartId;
 use std::alloc::Global;
-use world_model::Command;
+use world_model::{Command, Mode};
 
 fn cluster(line: &str) -> Option<Brief>
     ensures { option_map command_of result ≡ grammar.with_two grammar.cluster (words line.now) }
@@ -177,19 +177,33 @@ fn abort(alloc: Global, line: &str, parsed: &mut Parsed) -> Result<(), ParseErro
     Ok(())
 }
 
-/// The place, where the line goes on with one, and no more.
-fn maybe_part(line: &str) -> Option<Option<PartId>>
-    ensures { result ≡ grammar.maybe places.part (words line.now) }
+/// The place and the mode, where the line goes on with a place, with `stable`, or with both in this order, and no more.
+fn place_and_mode(line: &str) -> Option<(Option<PartId>, Mode)>
+    ensures { result ≡ grammar.begins (words line.now) }
 {
-    match next(line) {
-        None => Some(None),
-        Some((word, rest)) => {
-            if next(rest).is_some() {
-                return None;
-            }
-            Some(Some(part(word)?))
-        }
+    let Some((word, rest)) = next(line) else {
+        return Some((None, Mode::Fresh));
+    };
+    let Some((last, rest)) = next(rest) else {
+        return place_or_stable(word);
+    };
+    if next(rest).is_some() {
+        return None;
     }
+    if !spells(last.as_bytes(), "stable") {
+        return None;
+    }
+    Some((Some(part(word)?), Mode::Stable))
+}
+
+/// The place and the mode of a begin that goes on with this word alone.
+fn place_or_stable(word: &str) -> Option<(Option<PartId>, Mode)>
+    ensures { result ≡ grammar.begins (word.now ∷ []) }
+{
+    if spells(word.as_bytes(), "stable") {
+        return Some((None, Mode::Stable));
+    }
+    Some((Some(part(word)?), Mode::Fresh))
 }
 
 /// The count of steps, where the line goes on with one, and no more.
@@ -231,9 +245,9 @@ fn begin(alloc: Global, line: &str, parsed: &mut Parsed) -> Result<(), ParseErro
         return Err(ParseError::Bad);
     };
     let name = text(alloc, name)?;
-    match maybe_part(rest) {
-        Some(part) => {
-            put(parsed, Command::Begin { name, part });
+    match place_and_mode(rest) {
+        Some((part, mode)) => {
+            put(parsed, Command::Begin { name, part, mode });
             Ok(())
         }
         None => Err(ParseError::Bad),

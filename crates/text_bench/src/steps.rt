@@ -165,7 +165,11 @@ fn step_of_session(alloc: Global, command: &Command) -> Result<Option<Step>, All
             let name = name.copy(alloc)?;
             Ok(Some(Step::Lost { name }))
         }
-        Command::Begin { name, part } => {
+        Command::Begin {
+            name,
+            part,
+            mode: _,
+        } => {
             let name = name.copy(alloc)?;
             let tx = tx_at(*part);
             Ok(Some(Step::Began {

@@ -11,6 +11,7 @@ use Rattle.crdt_core.specs.declared.record.Part.{Part}
 use Rattle.world_model.specs.declared.step.Step.{Step}
 use Rattle.world_model.specs.declared.step.Step.TheVariants as step
 use Rattle.world_model.specs.rules.Event.{Ask, AskBegin, AskRead, AskUpdate, Refusal, IsDown, ClockBehind, TxPending, StableBehind, ClockAtEnd, IsGone, HasGap, IsRepeat, IsBadOp, HasNoRoom, IsDamaged, Event, Began, Updated, Read, Decided, Refused, Cut, Entry, attempt}
+use Rattle.world_model.specs.lines.Lines.{Wish}
 use Rattle.world_model.specs.rules.Lines.{refusal_shown, fault_shown, step_shown}
 use Rattle.world_model.specs.rules.Asking.{asked_by}
 use Rattle.txn_session.specs.Calls.{touches, effect_made}
@@ -43,13 +44,13 @@ module _ {E : Type 0} where
 
   module _ (run : List (Entry E)) (p : PartId) where
     -- a begin
-    pub began_is : (e : Event E) (who dep name : List ℕ) (t : TxId) (s : List ℕ) → asked_by (attempt e) ≡ AskBegin who dep → step.Began name t s ≡ step_shown run p e → (name ≡ who) × (e ≡ Began who dep t s)
+    pub began_is : (e : Event E) (who : List ℕ) (wish : Wish) (name : List ℕ) (t : TxId) (s : List ℕ) → asked_by (attempt e) ≡ AskBegin who wish → step.Began name t s ≡ step_shown run p e → (name ≡ who) × (e ≡ Began who wish t s)
     began_is (Began w d u v) who dep name t s a h = (cc, cc)
     began_is (Refused asked why) who dep name t s a h = absurd (true≢false (ap is_done_step h ∙ refused_undone run p asked why))
     began_is (Cut what) who dep name t s a h = absurd (true≢false (ap is_done_step h ∙ cut_undone p what))
     began_is other who dep name t s a h = absurd cc
 
-    pub begin_quiet : (e : Event E) (who dep : List ℕ) → asked_by (attempt e) ≡ AskBegin who dep → is_done_step (step_shown run p e) ≡ false → (t : TxId) → touches e t ≡ false
+    pub begin_quiet : (e : Event E) (who : List ℕ) (wish : Wish) → asked_by (attempt e) ≡ AskBegin who wish → is_done_step (step_shown run p e) ≡ false → (t : TxId) → touches e t ≡ false
     begin_quiet (Began w d u v) who dep a h t = absurd (true≢false h)
     begin_quiet (Refused asked why) who dep a h t = refl
     begin_quiet (Cut (Began w d u v)) who dep a h t = refl

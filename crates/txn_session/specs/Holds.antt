@@ -16,6 +16,7 @@ use Rattle.world_model.specs.lines.Places.{IsPlace, home}
 use Rattle.world_model.specs.rules.Plan.{updates_at, update_count}
 use Rattle.world_model.specs.rules.World.{begun, snapshot_of}
 use Rattle.world_model.specs.rules.Lines.{session_of}
+use Rattle.world_model.specs.lines.Lines.{Wish}
 use Rattle.world_model.specs.commands.CommitSteps.{Going, Preparing, Finishing, Aborting, next_step}
 use Rattle.clocksi_commit.specs.Commit.{Committing}
 use Rattle.txn_session.specs.Calls.{Call, entries, called, caller_of, AreOthers, NoneBears, GoesOn}
@@ -37,7 +38,7 @@ module _ {E : Type 0} where
     pub site_is : txn.tx.site ≡ site
     pub place : IsPlace sites parts (home txn.tx)
     pub width : length txn.s ≡ sites
-    pub handed : List ℕ
+    pub handed : Wish
     pub shown : WasShown (entries run) (home txn.tx) (Began name handed txn.tx txn.s)
     pub begun : begun (entries run) txn.tx ≡ true
     pub snapshot : snapshot_of (entries run) txn.tx ≡ txn.s

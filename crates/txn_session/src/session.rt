@@ -5,6 +5,7 @@ ghost use Rattle.txn_session.specs.Session.{Idle, phase_in, phase_of, place_in, 
 ghost use Rattle.world_model.specs.declared.commit.What.TheVariants as what;
 ghost use Rattle.txn_session.specs.Holds.{Holds, Mays, Makes, MakesUpdate, MakesRead, MakesStep, TellsStep, Waits, next_of};
 ghost use Rattle.crdt_core.specs.Placing.{place_of};
+ghost use Rattle.world_model.specs.lines.Lines.{wish_of};
 ghost use Rattle.world_model.specs.lines.Places.{IsPlace};
 ghost use Rattle.world_model.specs.rules.Event.{AskBegin};
 
@@ -17,7 +18,7 @@ use field_codec::Text;
 use site_vector::{PartId, TxId, VTime};
 use std::alloc::Global;
 use std::marker::Model;
-use world_model::{Next, Step, What};
+use world_model::{Mode, Next, Step, What};
 
 /// The most updates of a transaction.
 const MOST_UPDATES: usize = 256;
@@ -133,8 +134,8 @@ impl<C: Crdt> Session<C> {
         }
     }
 
-    /// Begins a transaction at the partition with this number of the session's site. Only where the answer is that it began
-    /// does the session change.
+    /// Begins a transaction in this mode, at the partition with this number of the session's site. Only where the answer is that
+    /// it began does the session change.
     ///
     /// # Errors
     ///
@@ -144,6 +145,7 @@ impl<C: Crdt> Session<C> {
         store: &mut S,
         pass: S::Pass,
         part: u8,
+        mode: Mode,
     ) -> (S::Pass, Result<Step, SessionError>)
         requires least { 1 ≤ part }
         requires most { part ≤ self.old.parts }
@@ -163,7 +165,7 @@ impl<C: Crdt> Session<C> {
               site = self.old.site;
               part
                   = part;
-            }) (AskBegin self.old.name self.old.dependency) answer) }
+            }) (AskBegin self.old.name (wish_of self.old.dependency mode)) answer) }
         ensures waits { OnErr result.1 ((run : List (Call C.Effect)) → S.sees store.old pass run →
             Holds self.old run → Waits S.sees S.numbers store.new result.0 run self.old self.new) }
     {
@@ -177,7 +179,7 @@ impl<C: Crdt> Session<C> {
             site: self.site,
             part,
         };
-        let (pass, answer) = store.begin(pass, at, &self.name, &self.dependency);
+        let (pass, answer) = store.begin(pass, at, &self.name, &self.dependency, mode);
         match answer {
             Ok((step, by)) => match step {
                 Step::Began { name, tx, s } => {

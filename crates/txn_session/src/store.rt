@@ -6,6 +6,7 @@ ghost use Rattle.world_model.specs.declared.step.Step.{Step as Line};
 ghost use Rattle.world_model.specs.rules.Event.{AskTick, AskBegin, AskRead, AskUpdate, AskPrepare, AskDecide, AskFinish, AskAbort, AskMessage, AskTake, AskReport, AskHear, Sent, Reported};
 ghost use Rattle.world_model.specs.rules.Plan.{update_count};
 ghost use Rattle.world_model.specs.rules.Lines.{session_of};
+ghost use Rattle.world_model.specs.lines.Lines.{wish_of};
 ghost use Rattle.world_model.specs.lines.Places.{IsOther};
 ghost use Rattle.txn_session.specs.Calls.{Call, entries, IsLegal, IsAllowed, MayCall, GoesOn, Changes, Does, Stays, SeesStill};
 
@@ -13,7 +14,7 @@ use crdt_core::{Crdt, Message, ObjectId, Op, Upd, UpdateList};
 use field_codec::Text;
 use site_vector::{PartId, TxId, VTime};
 use std::alloc::AllocError;
-use world_model::Step;
+use world_model::{Mode, Step};
 
 /// Partitions that sessions call.
 ///
@@ -58,7 +59,7 @@ pub trait Store<C: Crdt> {
         ensures err { IfErr result.1 (λ e. (run : List (Call C.Effect)) → sees self.old pass run →
             Stays sees numbers self.new result.0 run) };
 
-    /// Begins a transaction of the session `who`, which depends on `dep`. The number is the caller's, for the
+    /// Begins a transaction of the session `who`, which depends on `dep`, in this mode. The number is the caller's, for the
     /// transaction's later calls.
     fn begin(
         &mut self,
@@ -66,15 +67,16 @@ pub trait Store<C: Crdt> {
         at: PartId,
         who: &Text,
         dep: &VTime,
+        mode: Mode,
     ) -> (Self::Pass, Result<(Step, u64), AllocError>)
         requires may { MayCall sees numbers (sites self.old) (parts self.old) self.old pass None at (AskBegin who.now
-            dep.now) }
+            (wish_of dep.now mode)) }
         ensures stays { stays self.old self.new }
         ensures same { (n : ℕ) → numbers result.0 n ≡ numbers pass n }
         ensures tells { IfOk result.1 (λ r. tells self.old self.new at r.0) }
         ensures ok { IfOk result.1 (λ r. (run : List (Call C.Effect)) → sees self.old pass run →
-            IsAllowed (sites self.old) (parts self.old) run None at (AskBegin who.now dep.now) →
-            GoesOn sees numbers self.new result.0 run (Some r.1) at (AskBegin who.now dep.now) r.0) }
+            IsAllowed (sites self.old) (parts self.old) run None at (AskBegin who.now (wish_of dep.now mode)) →
+            GoesOn sees numbers self.new result.0 run (Some r.1) at (AskBegin who.now (wish_of dep.now mode)) r.0) }
         ensures err { IfErr result.1 (λ e. (run : List (Call C.Effect)) → sees self.old pass run →
             Stays sees numbers self.new result.0 run) };
 

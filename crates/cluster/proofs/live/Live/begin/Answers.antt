@@ -11,7 +11,7 @@ use Rattle.cluster.proofs.live.Live.begin.Goals as goal
 
 pub returns-then-not-has_place : goal.returns-then-not-has_place
 returns-then-not-has_place g c =
-    map_ok c.only.result (λ steps is. begin_nowhere (types_of g.C.Crdt.laws g.C.Crdt.spells g.D.Disk.state) c.args.self.now c.args.name.now c.args.part steps.items is (sym c.has_place.ensures.is ∙ c.if-not-has_place.true)) c.only.ensures
+    map_ok c.only.result (λ steps is. begin_nowhere (types_of g.C.Crdt.laws g.C.Crdt.spells g.D.Disk.state) c.args.self.now c.args.name.now c.args.part c.args.mode steps.items is (sym c.has_place.ensures.is ∙ c.if-not-has_place.true)) c.only.ensures
 
 pub begin_in-requires-clause-place : goal.begin_in-requires-clause-place
 begin_in-requires-clause-place g c =
@@ -27,4 +27,4 @@ pub begin_in-requires-clause-reached : goal.begin_in-requires-clause-reached
 begin_in-requires-clause-reached g c = subst (λ (x : LiveState g.row.C-Effect.Denot _). IsReachedLive (types_of g.C.Crdt.laws g.C.Crdt.spells g.D.Disk.state) x) (sym c.self.view_is) c.requires.reached
 
 pub returns-in-Ok : goal.returns-in-Ok
-returns-in-Ok g c = subst (λ (x : LiveState g.row.C-Effect.Denot _). AppliesLive (types_of g.C.Crdt.laws g.C.Crdt.spells g.D.Disk.state) x (command.Begin c.args.name.now c.args.part) c.in-Ok.lines.items (record { sites = c.begin_in.new.sites; sessions = c.begin_in.new.sessions.entries })) c.self.view_is c.in-Ok.ensures
+returns-in-Ok g c = subst (λ (x : LiveState g.row.C-Effect.Denot _). AppliesLive (types_of g.C.Crdt.laws g.C.Crdt.spells g.D.Disk.state) x (command.Begin c.args.name.now c.args.part c.args.mode) c.in-Ok.lines.items (record { sites = c.begin_in.new.sites; sessions = c.begin_in.new.sessions.entries })) c.self.view_is c.in-Ok.ensures

@@ -74,7 +74,7 @@ returns-in-Ok g c =
     map_ok c.only-in-Ok.result (λ steps is. subst (λ (x : LiveState g.row.C-Effect.Denot _). AppliesLive types x (command.Expire c.args.part c.args.tx) steps.items (record { sites = c.drop_at.new.self; sessions = c.self-inside.inside.0.1.1.0.entries })) ((λ i. record { sites = (c.self-inside.view_is i).sites; sessions = (c.self-inside.view_is i).sessions.entries }) ∙ c.self.view_is)
     (expire_aborted types v c.args.part c.args.tx has (λ run r. c.is_down_at.ensures.up run r ∙ ap not c.if-is_down_at.false) c.in-Some.lead
     (λ run r. subst (IsLead (r.state c.args.part).log c.args.tx) c.in-Some.is (c.lead_at.ensures (subst (IsDownAt c.self-inside.inside.0.1.0.all c.args.part) c.if-is_down_at.false c.is_down_at.ensures.down) run r))
-    c.if-lead-part.false c.drop_at.new.self steps.items is c.in-Ok.ensures)) c.only-in-Ok.ensures
+    c.if-lead-part.false c.drop_at.new.self steps.items is c.in-Ok.ensures.answers)) c.only-in-Ok.ensures
 
 pub returns-in-Err : goal.returns-in-Err
 returns-in-Err g c =
@@ -84,4 +84,4 @@ returns-in-Err g c =
     map_ok c.only-in-Err.result (λ steps is. subst (λ (x : LiveState g.row.C-Effect.Denot _). AppliesLive types x (command.Expire c.args.part c.args.tx) steps.items (record { sites = c.drop_at.new.self; sessions = c.self-inside.inside.0.1.1.0.entries })) ((λ i. record { sites = (c.self-inside.view_is i).sites; sessions = (c.self-inside.view_is i).sessions.entries }) ∙ c.self.view_is)
     (expire_failed types v c.args.part c.args.tx has (λ run r. c.is_down_at.ensures.up run r ∙ ap not c.if-is_down_at.false) c.in-Some.lead
     (λ run r. subst (IsLead (r.state c.args.part).log c.args.tx) c.in-Some.is (c.lead_at.ensures (subst (IsDownAt c.self-inside.inside.0.1.0.all c.args.part) c.if-is_down_at.false c.is_down_at.ensures.down) run r))
-    c.if-lead-part.false c.drop_at.new.self c.in-Err.error c.in_ok-line-in-Err.line steps.items is c.in-Err.ensures c.in_ok-line-in-Err.ensures)) c.only-in-Err.ensures
+    c.if-lead-part.false c.drop_at.new.self c.in-Err.error c.in_ok-line-in-Err.line steps.items is c.in-Err.ensures.answers c.in_ok-line-in-Err.ensures)) c.only-in-Err.ensures

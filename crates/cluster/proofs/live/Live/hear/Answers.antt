@@ -10,4 +10,4 @@ hear_at-requires g c = subst (λ (x : LiveState g.row.C-Effect.Denot _). (number
 
 pub returns-clause-heard : goal.returns-clause-heard
 returns-clause-heard g c number =
-    subst (λ (x : LiveState g.row.C-Effect.Denot _). Calls (types_of g.C.Crdt.laws g.C.Crdt.spells g.D.Disk.state) x.sites c.hear_at.new.self Any c.args.at (AskHear number c.args.part c.args.bounds.now) (λ stable e. e ≡ Heard number c.args.part c.args.bounds.now stable) c.hear_at.result) ((λ i. record { sites = (c.self-inside.view_is i).sites; sessions = (c.self-inside.view_is i).sessions.entries }) ∙ c.self.view_is) (c.hear_at.ensures number)
+    subst (λ (x : LiveState g.row.C-Effect.Denot _). Calls (types_of g.C.Crdt.laws g.C.Crdt.spells g.D.Disk.state) x.sites c.hear_at.new.self Any c.args.at (AskHear number c.args.part c.args.bounds.now) (λ stable e. e ≡ Heard number c.args.part c.args.bounds.now stable) c.hear_at.result) ((λ i. record { sites = (c.self-inside.view_is i).sites; sessions = (c.self-inside.view_is i).sessions.entries }) ∙ c.self.view_is) (c.hear_at.ensures.answers number)

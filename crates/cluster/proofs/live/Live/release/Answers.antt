@@ -14,4 +14,4 @@ release_at-requires-clause-may g c = subst (λ (x : LiveState g.row.C-Effect.Den
 
 pub returns-clause-sent : goal.returns-clause-sent
 returns-clause-sent g c =
-    subst (λ (x : LiveState g.row.C-Effect.Denot _). Calls (types_of g.C.Crdt.laws g.C.Crdt.spells g.D.Disk.state) x.sites c.release_at.new.self Any c.args.at (AskMessage c.args.to c.args.from) (λ m e. (m.to ≡ c.args.to) × (e ≡ Sent c.args.from m)) c.release_at.result) ((λ i. record { sites = (c.self-inside.view_is i).sites; sessions = (c.self-inside.view_is i).sessions.entries }) ∙ c.self.view_is) c.release_at.ensures
+    subst (λ (x : LiveState g.row.C-Effect.Denot _). Calls (types_of g.C.Crdt.laws g.C.Crdt.spells g.D.Disk.state) x.sites c.release_at.new.self Any c.args.at (AskMessage c.args.to c.args.from) (λ m e. (m.to ≡ c.args.to) × (e ≡ Sent c.args.from m)) c.release_at.result) ((λ i. record { sites = (c.self-inside.view_is i).sites; sessions = (c.self-inside.view_is i).sessions.entries }) ∙ c.self.view_is) c.release_at.ensures.answers

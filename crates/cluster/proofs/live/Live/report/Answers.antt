@@ -11,4 +11,4 @@ report_at-requires g c = subst (λ (x : LiveState g.row.C-Effect.Denot _). IsPla
 
 pub returns : goal.returns
 returns g c =
-    subst (λ (x : LiveState g.row.C-Effect.Denot _). Calls (types_of g.C.Crdt.laws g.C.Crdt.spells g.D.Disk.state) x.sites x.sites Any c.args.at AskReport (λ b e. e ≡ Reported b) c.report_at.result) ((λ i. record { sites = (c.self-inside.view_is i).sites; sessions = (c.self-inside.view_is i).sessions.entries }) ∙ c.self.view_is) c.report_at.ensures
+    subst (λ (x : LiveState g.row.C-Effect.Denot _). Calls (types_of g.C.Crdt.laws g.C.Crdt.spells g.D.Disk.state) x.sites x.sites Any c.args.at AskReport (λ b e. e ≡ Reported b) c.report_at.result) ((λ i. record { sites = (c.self-inside.view_is i).sites; sessions = (c.self-inside.view_is i).sessions.entries }) ∙ c.self.view_is) c.report_at.ensures.answers

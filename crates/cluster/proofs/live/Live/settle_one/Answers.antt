@@ -46,25 +46,25 @@ pub returns-in-Ok : goal.returns-in-Ok
 returns-in-Ok g c =
     let v : LiveState g.row.C-Effect.Denot _ = record { sites = c.self-inside.inside.0.1.0.all; sessions = c.self-inside.inside.0.1.1.0.entries } in
     subst (λ (x : LiveState g.row.C-Effect.Denot _). Settles (types_of g.C.Crdt.laws g.C.Crdt.spells g.D.Disk.state) x (record { sites = c.finish_at.new.self; sessions = c.self-inside.inside.0.1.1.0.entries }) c.args.part c.args.tx c.args.lead (step.Finished c.args.part c.args.tx) true) ((λ i. record { sites = (c.self-inside.view_is i).sites; sessions = (c.self-inside.view_is i).sessions.entries }) ∙ c.self.view_is)
-    (settle_finished (types_of g.C.Crdt.laws g.C.Crdt.spells g.D.Disk.state) v c.args.part c.args.tx c.args.lead (subst (λ (x : LiveState g.row.C-Effect.Denot _). MaySettle (types_of g.C.Crdt.laws g.C.Crdt.spells g.D.Disk.state) x c.args.part c.args.tx c.args.lead) (sym ((λ i. record { sites = (c.self-inside.view_is i).sites; sessions = (c.self-inside.view_is i).sessions.entries }) ∙ c.self.view_is)) c.requires) c.if-lead-part.false c.in-Committed.c (λ run r. subst (λ (f : Fate). fate_told f ≡ fate_of (r.state (lead_place c.args.part c.args.lead)) c.args.tx) c.in-Committed.is (c.fate_at.ensures run r)) c.finish_at.new.self c.in-Ok.ensures)
+    (settle_finished (types_of g.C.Crdt.laws g.C.Crdt.spells g.D.Disk.state) v c.args.part c.args.tx c.args.lead (subst (λ (x : LiveState g.row.C-Effect.Denot _). MaySettle (types_of g.C.Crdt.laws g.C.Crdt.spells g.D.Disk.state) x c.args.part c.args.tx c.args.lead) (sym ((λ i. record { sites = (c.self-inside.view_is i).sites; sessions = (c.self-inside.view_is i).sessions.entries }) ∙ c.self.view_is)) c.requires) c.if-lead-part.false c.in-Committed.c (λ run r. subst (λ (f : Fate). fate_told f ≡ fate_of (r.state (lead_place c.args.part c.args.lead)) c.args.tx) c.in-Committed.is (c.fate_at.ensures run r)) c.finish_at.new.self c.in-Ok.ensures.answers)
 
 pub returns-in-Err : goal.returns-in-Err
 returns-in-Err g c =
     let v : LiveState g.row.C-Effect.Denot _ = record { sites = c.self-inside.inside.0.1.0.all; sessions = c.self-inside.inside.0.1.1.0.entries } in
     subst (λ (x : LiveState g.row.C-Effect.Denot _). Settles (types_of g.C.Crdt.laws g.C.Crdt.spells g.D.Disk.state) x (record { sites = c.finish_at.new.self; sessions = c.self-inside.inside.0.1.1.0.entries }) c.args.part c.args.tx c.args.lead c.in_ok-line-in-Err.line false) ((λ i. record { sites = (c.self-inside.view_is i).sites; sessions = (c.self-inside.view_is i).sessions.entries }) ∙ c.self.view_is)
-    (settle_unfinished (types_of g.C.Crdt.laws g.C.Crdt.spells g.D.Disk.state) v c.args.part c.args.tx c.args.lead (subst (λ (x : LiveState g.row.C-Effect.Denot _). MaySettle (types_of g.C.Crdt.laws g.C.Crdt.spells g.D.Disk.state) x c.args.part c.args.tx c.args.lead) (sym ((λ i. record { sites = (c.self-inside.view_is i).sites; sessions = (c.self-inside.view_is i).sessions.entries }) ∙ c.self.view_is)) c.requires) c.if-lead-part.false c.in-Committed.c (λ run r. subst (λ (f : Fate). fate_told f ≡ fate_of (r.state (lead_place c.args.part c.args.lead)) c.args.tx) c.in-Committed.is (c.fate_at.ensures run r)) c.finish_at.new.self c.in-Err.error c.in_ok-line-in-Err.line c.in-Err.ensures c.in_ok-line-in-Err.ensures)
+    (settle_unfinished (types_of g.C.Crdt.laws g.C.Crdt.spells g.D.Disk.state) v c.args.part c.args.tx c.args.lead (subst (λ (x : LiveState g.row.C-Effect.Denot _). MaySettle (types_of g.C.Crdt.laws g.C.Crdt.spells g.D.Disk.state) x c.args.part c.args.tx c.args.lead) (sym ((λ i. record { sites = (c.self-inside.view_is i).sites; sessions = (c.self-inside.view_is i).sessions.entries }) ∙ c.self.view_is)) c.requires) c.if-lead-part.false c.in-Committed.c (λ run r. subst (λ (f : Fate). fate_told f ≡ fate_of (r.state (lead_place c.args.part c.args.lead)) c.args.tx) c.in-Committed.is (c.fate_at.ensures run r)) c.finish_at.new.self c.in-Err.error c.in_ok-line-in-Err.line c.in-Err.ensures.answers c.in_ok-line-in-Err.ensures)
 
 pub returns-in-Ok-drop_at : goal.returns-in-Ok-drop_at
 returns-in-Ok-drop_at g c =
     let v : LiveState g.row.C-Effect.Denot _ = record { sites = c.self-inside.inside.0.1.0.all; sessions = c.self-inside.inside.0.1.1.0.entries } in
     subst (λ (x : LiveState g.row.C-Effect.Denot _). Settles (types_of g.C.Crdt.laws g.C.Crdt.spells g.D.Disk.state) x (record { sites = c.drop_at.new.self; sessions = c.self-inside.inside.0.1.1.0.entries }) c.args.part c.args.tx c.args.lead (step.Aborted c.args.part c.args.tx) true) ((λ i. record { sites = (c.self-inside.view_is i).sites; sessions = (c.self-inside.view_is i).sessions.entries }) ∙ c.self.view_is)
-    (settle_aborted (types_of g.C.Crdt.laws g.C.Crdt.spells g.D.Disk.state) v c.args.part c.args.tx c.args.lead (subst (λ (x : LiveState g.row.C-Effect.Denot _). MaySettle (types_of g.C.Crdt.laws g.C.Crdt.spells g.D.Disk.state) x c.args.part c.args.tx c.args.lead) (sym ((λ i. record { sites = (c.self-inside.view_is i).sites; sessions = (c.self-inside.view_is i).sessions.entries }) ∙ c.self.view_is)) c.requires) c.if-lead-part.false (λ run r. subst (λ (f : Fate). fate_told f ≡ fate_of (r.state (lead_place c.args.part c.args.lead)) c.args.tx) c.in-Aborted.is (c.fate_at.ensures run r)) c.drop_at.new.self c.in-Ok-drop_at.ensures)
+    (settle_aborted (types_of g.C.Crdt.laws g.C.Crdt.spells g.D.Disk.state) v c.args.part c.args.tx c.args.lead (subst (λ (x : LiveState g.row.C-Effect.Denot _). MaySettle (types_of g.C.Crdt.laws g.C.Crdt.spells g.D.Disk.state) x c.args.part c.args.tx c.args.lead) (sym ((λ i. record { sites = (c.self-inside.view_is i).sites; sessions = (c.self-inside.view_is i).sessions.entries }) ∙ c.self.view_is)) c.requires) c.if-lead-part.false (λ run r. subst (λ (f : Fate). fate_told f ≡ fate_of (r.state (lead_place c.args.part c.args.lead)) c.args.tx) c.in-Aborted.is (c.fate_at.ensures run r)) c.drop_at.new.self c.in-Ok-drop_at.ensures.answers)
 
 pub returns-in-Err-drop_at : goal.returns-in-Err-drop_at
 returns-in-Err-drop_at g c =
     let v : LiveState g.row.C-Effect.Denot _ = record { sites = c.self-inside.inside.0.1.0.all; sessions = c.self-inside.inside.0.1.1.0.entries } in
     subst (λ (x : LiveState g.row.C-Effect.Denot _). Settles (types_of g.C.Crdt.laws g.C.Crdt.spells g.D.Disk.state) x (record { sites = c.drop_at.new.self; sessions = c.self-inside.inside.0.1.1.0.entries }) c.args.part c.args.tx c.args.lead c.in_ok-line-in-Err-drop_at.line false) ((λ i. record { sites = (c.self-inside.view_is i).sites; sessions = (c.self-inside.view_is i).sessions.entries }) ∙ c.self.view_is)
-    (settle_undropped (types_of g.C.Crdt.laws g.C.Crdt.spells g.D.Disk.state) v c.args.part c.args.tx c.args.lead (subst (λ (x : LiveState g.row.C-Effect.Denot _). MaySettle (types_of g.C.Crdt.laws g.C.Crdt.spells g.D.Disk.state) x c.args.part c.args.tx c.args.lead) (sym ((λ i. record { sites = (c.self-inside.view_is i).sites; sessions = (c.self-inside.view_is i).sessions.entries }) ∙ c.self.view_is)) c.requires) c.if-lead-part.false (λ run r. subst (λ (f : Fate). fate_told f ≡ fate_of (r.state (lead_place c.args.part c.args.lead)) c.args.tx) c.in-Aborted.is (c.fate_at.ensures run r)) c.drop_at.new.self c.in-Err-drop_at.error c.in_ok-line-in-Err-drop_at.line c.in-Err-drop_at.ensures c.in_ok-line-in-Err-drop_at.ensures)
+    (settle_undropped (types_of g.C.Crdt.laws g.C.Crdt.spells g.D.Disk.state) v c.args.part c.args.tx c.args.lead (subst (λ (x : LiveState g.row.C-Effect.Denot _). MaySettle (types_of g.C.Crdt.laws g.C.Crdt.spells g.D.Disk.state) x c.args.part c.args.tx c.args.lead) (sym ((λ i. record { sites = (c.self-inside.view_is i).sites; sessions = (c.self-inside.view_is i).sessions.entries }) ∙ c.self.view_is)) c.requires) c.if-lead-part.false (λ run r. subst (λ (f : Fate). fate_told f ≡ fate_of (r.state (lead_place c.args.part c.args.lead)) c.args.tx) c.in-Aborted.is (c.fate_at.ensures run r)) c.drop_at.new.self c.in-Err-drop_at.error c.in_ok-line-in-Err-drop_at.line c.in-Err-drop_at.ensures.answers c.in_ok-line-in-Err-drop_at.ensures)
 
 pub returns-in_default : goal.returns-in_default
 returns-in_default g c =

@@ -18,36 +18,36 @@ abort_at-requires-clause-may g c = may_here (types_of g.C.Crdt.laws g.C.Crdt.spe
 pub returns-in-Ok-clause-ok : goal.returns-in-Ok-clause-ok
 returns-in-Ok-clause-ok g c run s a =
     let types = types_of g.C.Crdt.laws g.C.Crdt.spells g.D.Disk.state in
-    exact_on types c.args.self.now c.abort_at.new.self Any c.args.at (event.AskAbort c.args.tx) c.args.pass (Some c.args.by) (event.Aborted c.args.tx true) (calls_here types _ c.args.self.now c.abort_at.new.self c.self.view_is Any c.args.at (event.AskAbort c.args.tx) (λ (n : Unit {0}) (e : Event g.row.C-Effect.Denot). e ≡ event.Aborted c.args.tx true) (Ok tt) (c.in-Ok.ensures)) (step.Aborted c.args.at c.args.tx) (λ calls. refl) refl run s a.may tt (number_is run c.args.tx c.args.by s.one_caller a.mine.0)
+    exact_on types c.args.self.now c.abort_at.new.self Any c.args.at (event.AskAbort c.args.tx) c.args.pass (Some c.args.by) (event.Aborted c.args.tx true) (calls_here types _ c.args.self.now c.abort_at.new.self c.self.view_is Any c.args.at (event.AskAbort c.args.tx) (λ (n : Unit {0}) (e : Event g.row.C-Effect.Denot). e ≡ event.Aborted c.args.tx true) (Ok tt) (c.in-Ok.ensures.answers)) (step.Aborted c.args.at c.args.tx) (λ calls. refl) refl run s a.may tt (number_is run c.args.tx c.args.by s.one_caller a.mine.0)
 
 pub returns-in-Ok-clause-stays : goal.returns-in-Ok-clause-stays
 returns-in-Ok-clause-stays g c =
     let types = types_of g.C.Crdt.laws g.C.Crdt.spells g.D.Disk.state in
-    called_same types c.args.self.now c.abort_at.new.self Any c.args.at (event.AskAbort c.args.tx) c.args.pass (Some c.args.by) (λ (n : Unit {0}) (e : Event g.row.C-Effect.Denot). e ≡ event.Aborted c.args.tx true) (Ok tt) (calls_here types _ c.args.self.now c.abort_at.new.self c.self.view_is Any c.args.at (event.AskAbort c.args.tx) (λ (n : Unit {0}) (e : Event g.row.C-Effect.Denot). e ≡ event.Aborted c.args.tx true) (Ok tt) (c.in-Ok.ensures))
+    called_same types c.args.self.now c.abort_at.new.self Any c.args.at (event.AskAbort c.args.tx) c.args.pass (Some c.args.by) (λ (n : Unit {0}) (e : Event g.row.C-Effect.Denot). e ≡ event.Aborted c.args.tx true) (Ok tt) (calls_here types _ c.args.self.now c.abort_at.new.self c.self.view_is Any c.args.at (event.AskAbort c.args.tx) (λ (n : Unit {0}) (e : Event g.row.C-Effect.Denot). e ≡ event.Aborted c.args.tx true) (Ok tt) (c.in-Ok.ensures.answers))
 
 pub returns-in-Err-clause-ok : goal.returns-in-Err-clause-ok
 returns-in-Err-clause-ok g c =
     let types = types_of g.C.Crdt.laws g.C.Crdt.spells g.D.Disk.state in
-    failed_on types c.args.self.now c.abort_at.new.self Any c.args.at (event.AskAbort c.args.tx) c.args.pass (Some c.args.by) (λ (n : Unit {0}) (e : Event g.row.C-Effect.Denot). e ≡ event.Aborted c.args.tx true) (step.Disk c.args.at) (λ n what k. fault_of c.args.at (step.Disk c.args.at) (event.Aborted c.args.tx true) refl refl what k) c.in-Err.error c.failed.result (calls_here types _ c.args.self.now c.abort_at.new.self c.self.view_is Any c.args.at (event.AskAbort c.args.tx) (λ (n : Unit {0}) (e : Event g.row.C-Effect.Denot). e ≡ event.Aborted c.args.tx true) (Err c.in-Err.error) (c.in-Err.ensures)) c.failed.ensures _
+    failed_on types c.args.self.now c.abort_at.new.self Any c.args.at (event.AskAbort c.args.tx) c.args.pass (Some c.args.by) (λ (n : Unit {0}) (e : Event g.row.C-Effect.Denot). e ≡ event.Aborted c.args.tx true) (step.Disk c.args.at) (λ n what k. fault_of c.args.at (step.Disk c.args.at) (event.Aborted c.args.tx true) refl refl what k) c.in-Err.error c.failed.result (calls_here types _ c.args.self.now c.abort_at.new.self c.self.view_is Any c.args.at (event.AskAbort c.args.tx) (λ (n : Unit {0}) (e : Event g.row.C-Effect.Denot). e ≡ event.Aborted c.args.tx true) (Err c.in-Err.error) (c.in-Err.ensures.answers)) c.failed.ensures _
     (λ line q run s a. q run s a.may tt (number_is run c.args.tx c.args.by s.one_caller a.mine.0))
 
 pub returns-in-Err-clause-stays : goal.returns-in-Err-clause-stays
 returns-in-Err-clause-stays g c =
     let types = types_of g.C.Crdt.laws g.C.Crdt.spells g.D.Disk.state in
-    called_same types c.args.self.now c.abort_at.new.self Any c.args.at (event.AskAbort c.args.tx) c.args.pass (Some c.args.by) (λ (n : Unit {0}) (e : Event g.row.C-Effect.Denot). e ≡ event.Aborted c.args.tx true) (Err c.in-Err.error) (calls_here types _ c.args.self.now c.abort_at.new.self c.self.view_is Any c.args.at (event.AskAbort c.args.tx) (λ (n : Unit {0}) (e : Event g.row.C-Effect.Denot). e ≡ event.Aborted c.args.tx true) (Err c.in-Err.error) (c.in-Err.ensures))
+    called_same types c.args.self.now c.abort_at.new.self Any c.args.at (event.AskAbort c.args.tx) c.args.pass (Some c.args.by) (λ (n : Unit {0}) (e : Event g.row.C-Effect.Denot). e ≡ event.Aborted c.args.tx true) (Err c.in-Err.error) (calls_here types _ c.args.self.now c.abort_at.new.self c.self.view_is Any c.args.at (event.AskAbort c.args.tx) (λ (n : Unit {0}) (e : Event g.row.C-Effect.Denot). e ≡ event.Aborted c.args.tx true) (Err c.in-Err.error) (c.in-Err.ensures.answers))
 
 pub returns-in-Err-clause-err : goal.returns-in-Err-clause-err
 returns-in-Err-clause-err g c =
     let types = types_of g.C.Crdt.laws g.C.Crdt.spells g.D.Disk.state in
-    failed_stays types c.args.self.now c.abort_at.new.self Any c.args.at (event.AskAbort c.args.tx) c.args.pass (Some c.args.by) (λ (n : Unit {0}) (e : Event g.row.C-Effect.Denot). e ≡ event.Aborted c.args.tx true) (step.Disk c.args.at) c.in-Err.error c.failed.result (calls_here types _ c.args.self.now c.abort_at.new.self c.self.view_is Any c.args.at (event.AskAbort c.args.tx) (λ (n : Unit {0}) (e : Event g.row.C-Effect.Denot). e ≡ event.Aborted c.args.tx true) (Err c.in-Err.error) (c.in-Err.ensures)) c.failed.ensures
+    failed_stays types c.args.self.now c.abort_at.new.self Any c.args.at (event.AskAbort c.args.tx) c.args.pass (Some c.args.by) (λ (n : Unit {0}) (e : Event g.row.C-Effect.Denot). e ≡ event.Aborted c.args.tx true) (step.Disk c.args.at) c.in-Err.error c.failed.result (calls_here types _ c.args.self.now c.abort_at.new.self c.self.view_is Any c.args.at (event.AskAbort c.args.tx) (λ (n : Unit {0}) (e : Event g.row.C-Effect.Denot). e ≡ event.Aborted c.args.tx true) (Err c.in-Err.error) (c.in-Err.ensures.answers)) c.failed.ensures
 
 pub returns-in-Err-clause-tells : goal.returns-in-Err-clause-tells
 returns-in-Err-clause-tells g c =
     let types = types_of g.C.Crdt.laws g.C.Crdt.spells g.D.Disk.state in
-    failed_tells_call types c.args.self.now c.abort_at.new.self Any c.args.at (event.AskAbort c.args.tx) c.args.pass (Some c.args.by) (λ (n : Unit {0}) (e : Event g.row.C-Effect.Denot). e ≡ event.Aborted c.args.tx true) (step.Disk c.args.at) (λ n what k. fault_of c.args.at (step.Disk c.args.at) (event.Aborted c.args.tx true) refl refl what k) (λ r. (refl, r)) c.in-Err.error c.failed.result (calls_here types _ c.args.self.now c.abort_at.new.self c.self.view_is Any c.args.at (event.AskAbort c.args.tx) (λ (n : Unit {0}) (e : Event g.row.C-Effect.Denot). e ≡ event.Aborted c.args.tx true) (Err c.in-Err.error) (c.in-Err.ensures)) c.failed.ensures _
+    failed_tells_call types c.args.self.now c.abort_at.new.self Any c.args.at (event.AskAbort c.args.tx) c.args.pass (Some c.args.by) (λ (n : Unit {0}) (e : Event g.row.C-Effect.Denot). e ≡ event.Aborted c.args.tx true) (step.Disk c.args.at) (λ n what k. fault_of c.args.at (step.Disk c.args.at) (event.Aborted c.args.tx true) refl refl what k) (λ r. (refl, r)) c.in-Err.error c.failed.result (calls_here types _ c.args.self.now c.abort_at.new.self c.self.view_is Any c.args.at (event.AskAbort c.args.tx) (λ (n : Unit {0}) (e : Event g.row.C-Effect.Denot). e ≡ event.Aborted c.args.tx true) (Err c.in-Err.error) (c.in-Err.ensures.answers)) c.failed.ensures _
     (λ line q. q c.requires.may.run (c.requires.may.seen, c.requires.may.allowed.may, tt))
 
 pub returns-in-Ok-clause-tells : goal.returns-in-Ok-clause-tells
 returns-in-Ok-clause-tells g c =
     let types = types_of g.C.Crdt.laws g.C.Crdt.spells g.D.Disk.state in
-    exact_tells types c.args.self.now c.abort_at.new.self Any c.args.at (event.AskAbort c.args.tx) c.args.pass (Some c.args.by) (event.Aborted c.args.tx true) (calls_here types _ c.args.self.now c.abort_at.new.self c.self.view_is Any c.args.at (event.AskAbort c.args.tx) (λ (n : Unit {0}) (e : Event g.row.C-Effect.Denot). e ≡ event.Aborted c.args.tx true) (Ok tt) (c.in-Ok.ensures)) (step.Aborted c.args.at c.args.tx) c.requires.may.run (refl) tt (c.requires.may.seen, c.requires.may.allowed.may, tt)
+    exact_tells types c.args.self.now c.abort_at.new.self Any c.args.at (event.AskAbort c.args.tx) c.args.pass (Some c.args.by) (event.Aborted c.args.tx true) (calls_here types _ c.args.self.now c.abort_at.new.self c.self.view_is Any c.args.at (event.AskAbort c.args.tx) (λ (n : Unit {0}) (e : Event g.row.C-Effect.Denot). e ≡ event.Aborted c.args.tx true) (Ok tt) (c.in-Ok.ensures.answers)) (step.Aborted c.args.at c.args.tx) c.requires.may.run (refl) tt (c.requires.may.seen, c.requires.may.allowed.may, tt)

@@ -15,36 +15,36 @@ decide_at-requires g c = may_here (types_of g.C.Crdt.laws g.C.Crdt.spells g.D.Di
 pub returns-in-Ok-clause-ok : goal.returns-in-Ok-clause-ok
 returns-in-Ok-clause-ok g c run s a =
     let types = types_of g.C.Crdt.laws g.C.Crdt.spells g.D.Disk.state in
-    exact_on types c.args.self.now c.decide_at.new.self Any c.args.at (event.AskDecide c.args.tx c.args.c.now) c.args.pass (Some c.args.by) (event.Decided c.args.tx c.args.c.now) (calls_here types _ c.args.self.now c.decide_at.new.self c.self.view_is Any c.args.at (event.AskDecide c.args.tx c.args.c.now) (λ (n : Unit {0}) (e : Event g.row.C-Effect.Denot). e ≡ event.Decided c.args.tx c.args.c.now) (Ok tt) (c.in-Ok.ensures)) (step.Decided c.args.at c.args.tx c.args.c.now) (λ calls. refl) refl run s a.may tt (number_is run c.args.tx c.args.by s.one_caller a.mine)
+    exact_on types c.args.self.now c.decide_at.new.self Any c.args.at (event.AskDecide c.args.tx c.args.c.now) c.args.pass (Some c.args.by) (event.Decided c.args.tx c.args.c.now) (calls_here types _ c.args.self.now c.decide_at.new.self c.self.view_is Any c.args.at (event.AskDecide c.args.tx c.args.c.now) (λ (n : Unit {0}) (e : Event g.row.C-Effect.Denot). e ≡ event.Decided c.args.tx c.args.c.now) (Ok tt) (c.in-Ok.ensures.answers)) (step.Decided c.args.at c.args.tx c.args.c.now) (λ calls. refl) refl run s a.may tt (number_is run c.args.tx c.args.by s.one_caller a.mine)
 
 pub returns-in-Ok-clause-stays : goal.returns-in-Ok-clause-stays
 returns-in-Ok-clause-stays g c =
     let types = types_of g.C.Crdt.laws g.C.Crdt.spells g.D.Disk.state in
-    called_same types c.args.self.now c.decide_at.new.self Any c.args.at (event.AskDecide c.args.tx c.args.c.now) c.args.pass (Some c.args.by) (λ (n : Unit {0}) (e : Event g.row.C-Effect.Denot). e ≡ event.Decided c.args.tx c.args.c.now) (Ok tt) (calls_here types _ c.args.self.now c.decide_at.new.self c.self.view_is Any c.args.at (event.AskDecide c.args.tx c.args.c.now) (λ (n : Unit {0}) (e : Event g.row.C-Effect.Denot). e ≡ event.Decided c.args.tx c.args.c.now) (Ok tt) (c.in-Ok.ensures))
+    called_same types c.args.self.now c.decide_at.new.self Any c.args.at (event.AskDecide c.args.tx c.args.c.now) c.args.pass (Some c.args.by) (λ (n : Unit {0}) (e : Event g.row.C-Effect.Denot). e ≡ event.Decided c.args.tx c.args.c.now) (Ok tt) (calls_here types _ c.args.self.now c.decide_at.new.self c.self.view_is Any c.args.at (event.AskDecide c.args.tx c.args.c.now) (λ (n : Unit {0}) (e : Event g.row.C-Effect.Denot). e ≡ event.Decided c.args.tx c.args.c.now) (Ok tt) (c.in-Ok.ensures.answers))
 
 pub returns-in-Err-clause-ok : goal.returns-in-Err-clause-ok
 returns-in-Err-clause-ok g c =
     let types = types_of g.C.Crdt.laws g.C.Crdt.spells g.D.Disk.state in
-    failed_on types c.args.self.now c.decide_at.new.self Any c.args.at (event.AskDecide c.args.tx c.args.c.now) c.args.pass (Some c.args.by) (λ (n : Unit {0}) (e : Event g.row.C-Effect.Denot). e ≡ event.Decided c.args.tx c.args.c.now) (step.Unsure c.args.tx) (λ n what k. fault_of c.args.at (step.Unsure c.args.tx) (event.Decided c.args.tx c.args.c.now) refl refl what k) c.in-Err.error c.undecided.result (calls_here types _ c.args.self.now c.decide_at.new.self c.self.view_is Any c.args.at (event.AskDecide c.args.tx c.args.c.now) (λ (n : Unit {0}) (e : Event g.row.C-Effect.Denot). e ≡ event.Decided c.args.tx c.args.c.now) (Err c.in-Err.error) (c.in-Err.ensures)) c.undecided.ensures _
+    failed_on types c.args.self.now c.decide_at.new.self Any c.args.at (event.AskDecide c.args.tx c.args.c.now) c.args.pass (Some c.args.by) (λ (n : Unit {0}) (e : Event g.row.C-Effect.Denot). e ≡ event.Decided c.args.tx c.args.c.now) (step.Unsure c.args.tx) (λ n what k. fault_of c.args.at (step.Unsure c.args.tx) (event.Decided c.args.tx c.args.c.now) refl refl what k) c.in-Err.error c.undecided.result (calls_here types _ c.args.self.now c.decide_at.new.self c.self.view_is Any c.args.at (event.AskDecide c.args.tx c.args.c.now) (λ (n : Unit {0}) (e : Event g.row.C-Effect.Denot). e ≡ event.Decided c.args.tx c.args.c.now) (Err c.in-Err.error) (c.in-Err.ensures.answers)) c.undecided.ensures _
     (λ line q run s a. q run s a.may tt (number_is run c.args.tx c.args.by s.one_caller a.mine))
 
 pub returns-in-Err-clause-stays : goal.returns-in-Err-clause-stays
 returns-in-Err-clause-stays g c =
     let types = types_of g.C.Crdt.laws g.C.Crdt.spells g.D.Disk.state in
-    called_same types c.args.self.now c.decide_at.new.self Any c.args.at (event.AskDecide c.args.tx c.args.c.now) c.args.pass (Some c.args.by) (λ (n : Unit {0}) (e : Event g.row.C-Effect.Denot). e ≡ event.Decided c.args.tx c.args.c.now) (Err c.in-Err.error) (calls_here types _ c.args.self.now c.decide_at.new.self c.self.view_is Any c.args.at (event.AskDecide c.args.tx c.args.c.now) (λ (n : Unit {0}) (e : Event g.row.C-Effect.Denot). e ≡ event.Decided c.args.tx c.args.c.now) (Err c.in-Err.error) (c.in-Err.ensures))
+    called_same types c.args.self.now c.decide_at.new.self Any c.args.at (event.AskDecide c.args.tx c.args.c.now) c.args.pass (Some c.args.by) (λ (n : Unit {0}) (e : Event g.row.C-Effect.Denot). e ≡ event.Decided c.args.tx c.args.c.now) (Err c.in-Err.error) (calls_here types _ c.args.self.now c.decide_at.new.self c.self.view_is Any c.args.at (event.AskDecide c.args.tx c.args.c.now) (λ (n : Unit {0}) (e : Event g.row.C-Effect.Denot). e ≡ event.Decided c.args.tx c.args.c.now) (Err c.in-Err.error) (c.in-Err.ensures.answers))
 
 pub returns-in-Err-clause-err : goal.returns-in-Err-clause-err
 returns-in-Err-clause-err g c =
     let types = types_of g.C.Crdt.laws g.C.Crdt.spells g.D.Disk.state in
-    failed_stays types c.args.self.now c.decide_at.new.self Any c.args.at (event.AskDecide c.args.tx c.args.c.now) c.args.pass (Some c.args.by) (λ (n : Unit {0}) (e : Event g.row.C-Effect.Denot). e ≡ event.Decided c.args.tx c.args.c.now) (step.Unsure c.args.tx) c.in-Err.error c.undecided.result (calls_here types _ c.args.self.now c.decide_at.new.self c.self.view_is Any c.args.at (event.AskDecide c.args.tx c.args.c.now) (λ (n : Unit {0}) (e : Event g.row.C-Effect.Denot). e ≡ event.Decided c.args.tx c.args.c.now) (Err c.in-Err.error) (c.in-Err.ensures)) c.undecided.ensures
+    failed_stays types c.args.self.now c.decide_at.new.self Any c.args.at (event.AskDecide c.args.tx c.args.c.now) c.args.pass (Some c.args.by) (λ (n : Unit {0}) (e : Event g.row.C-Effect.Denot). e ≡ event.Decided c.args.tx c.args.c.now) (step.Unsure c.args.tx) c.in-Err.error c.undecided.result (calls_here types _ c.args.self.now c.decide_at.new.self c.self.view_is Any c.args.at (event.AskDecide c.args.tx c.args.c.now) (λ (n : Unit {0}) (e : Event g.row.C-Effect.Denot). e ≡ event.Decided c.args.tx c.args.c.now) (Err c.in-Err.error) (c.in-Err.ensures.answers)) c.undecided.ensures
 
 pub returns-in-Err-clause-tells : goal.returns-in-Err-clause-tells
 returns-in-Err-clause-tells g c =
     let types = types_of g.C.Crdt.laws g.C.Crdt.spells g.D.Disk.state in
-    failed_tells_call types c.args.self.now c.decide_at.new.self Any c.args.at (event.AskDecide c.args.tx c.args.c.now) c.args.pass (Some c.args.by) (λ (n : Unit {0}) (e : Event g.row.C-Effect.Denot). e ≡ event.Decided c.args.tx c.args.c.now) (step.Unsure c.args.tx) (λ n what k. fault_of c.args.at (step.Unsure c.args.tx) (event.Decided c.args.tx c.args.c.now) refl refl what k) (λ r. r) c.in-Err.error c.undecided.result (calls_here types _ c.args.self.now c.decide_at.new.self c.self.view_is Any c.args.at (event.AskDecide c.args.tx c.args.c.now) (λ (n : Unit {0}) (e : Event g.row.C-Effect.Denot). e ≡ event.Decided c.args.tx c.args.c.now) (Err c.in-Err.error) (c.in-Err.ensures)) c.undecided.ensures _
+    failed_tells_call types c.args.self.now c.decide_at.new.self Any c.args.at (event.AskDecide c.args.tx c.args.c.now) c.args.pass (Some c.args.by) (λ (n : Unit {0}) (e : Event g.row.C-Effect.Denot). e ≡ event.Decided c.args.tx c.args.c.now) (step.Unsure c.args.tx) (λ n what k. fault_of c.args.at (step.Unsure c.args.tx) (event.Decided c.args.tx c.args.c.now) refl refl what k) (λ r. r) c.in-Err.error c.undecided.result (calls_here types _ c.args.self.now c.decide_at.new.self c.self.view_is Any c.args.at (event.AskDecide c.args.tx c.args.c.now) (λ (n : Unit {0}) (e : Event g.row.C-Effect.Denot). e ≡ event.Decided c.args.tx c.args.c.now) (Err c.in-Err.error) (c.in-Err.ensures.answers)) c.undecided.ensures _
     (λ line q. q c.requires.may.run (c.requires.may.seen, c.requires.may.allowed.may, tt))
 
 pub returns-in-Ok-clause-tells : goal.returns-in-Ok-clause-tells
 returns-in-Ok-clause-tells g c =
     let types = types_of g.C.Crdt.laws g.C.Crdt.spells g.D.Disk.state in
-    exact_tells types c.args.self.now c.decide_at.new.self Any c.args.at (event.AskDecide c.args.tx c.args.c.now) c.args.pass (Some c.args.by) (event.Decided c.args.tx c.args.c.now) (calls_here types _ c.args.self.now c.decide_at.new.self c.self.view_is Any c.args.at (event.AskDecide c.args.tx c.args.c.now) (λ (n : Unit {0}) (e : Event g.row.C-Effect.Denot). e ≡ event.Decided c.args.tx c.args.c.now) (Ok tt) (c.in-Ok.ensures)) (step.Decided c.args.at c.args.tx c.args.c.now) c.requires.may.run (refl) tt (c.requires.may.seen, c.requires.may.allowed.may, tt)
+    exact_tells types c.args.self.now c.decide_at.new.self Any c.args.at (event.AskDecide c.args.tx c.args.c.now) c.args.pass (Some c.args.by) (event.Decided c.args.tx c.args.c.now) (calls_here types _ c.args.self.now c.decide_at.new.self c.self.view_is Any c.args.at (event.AskDecide c.args.tx c.args.c.now) (λ (n : Unit {0}) (e : Event g.row.C-Effect.Denot). e ≡ event.Decided c.args.tx c.args.c.now) (Ok tt) (c.in-Ok.ensures.answers)) (step.Decided c.args.at c.args.tx c.args.c.now) c.requires.may.run (refl) tt (c.requires.may.seen, c.requires.may.allowed.may, tt)

@@ -15,34 +15,34 @@ report_at-requires g c = place_here (types_of g.C.Crdt.laws g.C.Crdt.spells g.D.
 pub returns-in-Ok-clause-ok : goal.returns-in-Ok-clause-ok
 returns-in-Ok-clause-ok g c run s =
     let types = types_of g.C.Crdt.laws g.C.Crdt.spells g.D.Disk.state in
-    did_on types c.args.self.now c.args.self.now Any c.args.at event.AskReport c.args.pass None (event.Reported c.in-Ok.bounds) (calls_still types _ c.args.self.now c.self.view_is Any c.args.at event.AskReport (λ (b : List ℕ) (e : Event g.row.C-Effect.Denot). e ≡ event.Reported b) (Ok c.in-Ok.bounds) c.in-Ok.ensures) run s tt tt
+    did_on types c.args.self.now c.args.self.now Any c.args.at event.AskReport c.args.pass None (event.Reported c.in-Ok.bounds) refl (calls_still types _ c.args.self.now c.self.view_is Any c.args.at event.AskReport (λ (b : List ℕ) (e : Event g.row.C-Effect.Denot). e ≡ event.Reported b) (Ok c.in-Ok.bounds) c.in-Ok.ensures.answers) run s tt tt
 
 pub returns-in-Ok-clause-stays : goal.returns-in-Ok-clause-stays
 returns-in-Ok-clause-stays g c =
     let types = types_of g.C.Crdt.laws g.C.Crdt.spells g.D.Disk.state in
-    called_same types c.args.self.now c.args.self.now Any c.args.at event.AskReport c.args.pass None (λ (b : List ℕ) (e : Event g.row.C-Effect.Denot). e ≡ event.Reported b) (Ok c.in-Ok.bounds) (calls_still types _ c.args.self.now c.self.view_is Any c.args.at event.AskReport (λ (b : List ℕ) (e : Event g.row.C-Effect.Denot). e ≡ event.Reported b) (Ok c.in-Ok.bounds) c.in-Ok.ensures)
+    called_same types c.args.self.now c.args.self.now Any c.args.at event.AskReport c.args.pass None (λ (b : List ℕ) (e : Event g.row.C-Effect.Denot). e ≡ event.Reported b) (Ok c.in-Ok.bounds) (calls_still types _ c.args.self.now c.self.view_is Any c.args.at event.AskReport (λ (b : List ℕ) (e : Event g.row.C-Effect.Denot). e ≡ event.Reported b) (Ok c.in-Ok.bounds) c.in-Ok.ensures.answers)
 
 pub returns-in-Ok-failed-clause-stays : goal.returns-in-Ok-failed-clause-stays
 returns-in-Ok-failed-clause-stays g c =
     let types = types_of g.C.Crdt.laws g.C.Crdt.spells g.D.Disk.state in
-    called_same types c.args.self.now c.args.self.now Any c.args.at event.AskReport c.args.pass None (λ (b : List ℕ) (e : Event g.row.C-Effect.Denot). e ≡ event.Reported b) (Err c.in-Err.error) (calls_still types _ c.args.self.now c.self.view_is Any c.args.at event.AskReport (λ (b : List ℕ) (e : Event g.row.C-Effect.Denot). e ≡ event.Reported b) (Err c.in-Err.error) c.in-Err.ensures)
+    called_same types c.args.self.now c.args.self.now Any c.args.at event.AskReport c.args.pass None (λ (b : List ℕ) (e : Event g.row.C-Effect.Denot). e ≡ event.Reported b) (Err c.in-Err.error) (calls_still types _ c.args.self.now c.self.view_is Any c.args.at event.AskReport (λ (b : List ℕ) (e : Event g.row.C-Effect.Denot). e ≡ event.Reported b) (Err c.in-Err.error) c.in-Err.ensures.answers)
 
 pub returns-in-Ok-failed-clause-ok : goal.returns-in-Ok-failed-clause-ok
 returns-in-Ok-failed-clause-ok g c run s =
     let types = types_of g.C.Crdt.laws g.C.Crdt.spells g.D.Disk.state in
-    failed_line types c.args.self.now c.args.self.now Any c.args.at event.AskReport c.args.pass None (Unit {0}) (λ (b : List ℕ) (e : Event g.row.C-Effect.Denot). e ≡ event.Reported b) (step.Disk c.args.at) (λ b what k. fault_of c.args.at (step.Disk c.args.at) (event.Reported b) refl refl what k) c.in-Err.error _ (calls_still types _ c.args.self.now c.self.view_is Any c.args.at event.AskReport (λ (b : List ℕ) (e : Event g.row.C-Effect.Denot). e ≡ event.Reported b) (Err c.in-Err.error) c.in-Err.ensures) c.in-Ok-failed.ensures run s tt tt tt
+    failed_line types c.args.self.now c.args.self.now Any c.args.at event.AskReport c.args.pass None (Unit {0}) (λ (b : List ℕ) (e : Event g.row.C-Effect.Denot). e ≡ event.Reported b) (step.Disk c.args.at) (λ b what k. fault_of c.args.at (step.Disk c.args.at) (event.Reported b) refl refl what k) c.in-Err.error _ (calls_still types _ c.args.self.now c.self.view_is Any c.args.at event.AskReport (λ (b : List ℕ) (e : Event g.row.C-Effect.Denot). e ≡ event.Reported b) (Err c.in-Err.error) c.in-Err.ensures.answers) c.in-Ok-failed.ensures run s tt tt tt
 
 pub returns-in-Ok-failed-clause-tells : goal.returns-in-Ok-failed-clause-tells
 returns-in-Ok-failed-clause-tells g c =
     let types = types_of g.C.Crdt.laws g.C.Crdt.spells g.D.Disk.state in
-    line_tells_call types c.args.self.now c.args.self.now Any c.args.at event.AskReport c.args.pass None (Unit {0}) (λ (b : List ℕ) (e : Event g.row.C-Effect.Denot). e ≡ event.Reported b) (step.Disk c.args.at) (λ b what k. fault_of c.args.at (step.Disk c.args.at) (event.Reported b) refl refl what k) (λ r. (refl, r)) c.in-Err.error _ (calls_still types _ c.args.self.now c.self.view_is Any c.args.at event.AskReport (λ (b : List ℕ) (e : Event g.row.C-Effect.Denot). e ≡ event.Reported b) (Err c.in-Err.error) c.in-Err.ensures) c.in-Ok-failed.ensures c.requires.may.run (c.requires.may.seen, c.requires.may.allowed.may, tt)
+    line_tells_call types c.args.self.now c.args.self.now Any c.args.at event.AskReport c.args.pass None (Unit {0}) (λ (b : List ℕ) (e : Event g.row.C-Effect.Denot). e ≡ event.Reported b) (step.Disk c.args.at) (λ b what k. fault_of c.args.at (step.Disk c.args.at) (event.Reported b) refl refl what k) (λ r. (refl, r)) c.in-Err.error _ (calls_still types _ c.args.self.now c.self.view_is Any c.args.at event.AskReport (λ (b : List ℕ) (e : Event g.row.C-Effect.Denot). e ≡ event.Reported b) (Err c.in-Err.error) c.in-Err.ensures.answers) c.in-Ok-failed.ensures c.requires.may.run (c.requires.may.seen, c.requires.may.allowed.may, tt)
 
 pub returns-in-Err-failed-clause-stays : goal.returns-in-Err-failed-clause-stays
 returns-in-Err-failed-clause-stays g c =
     let types = types_of g.C.Crdt.laws g.C.Crdt.spells g.D.Disk.state in
-    called_same types c.args.self.now c.args.self.now Any c.args.at event.AskReport c.args.pass None (λ (b : List ℕ) (e : Event g.row.C-Effect.Denot). e ≡ event.Reported b) (Err c.in-Err.error) (calls_still types _ c.args.self.now c.self.view_is Any c.args.at event.AskReport (λ (b : List ℕ) (e : Event g.row.C-Effect.Denot). e ≡ event.Reported b) (Err c.in-Err.error) c.in-Err.ensures)
+    called_same types c.args.self.now c.args.self.now Any c.args.at event.AskReport c.args.pass None (λ (b : List ℕ) (e : Event g.row.C-Effect.Denot). e ≡ event.Reported b) (Err c.in-Err.error) (calls_still types _ c.args.self.now c.self.view_is Any c.args.at event.AskReport (λ (b : List ℕ) (e : Event g.row.C-Effect.Denot). e ≡ event.Reported b) (Err c.in-Err.error) c.in-Err.ensures.answers)
 
 pub returns-in-Err-failed-clause-err : goal.returns-in-Err-failed-clause-err
 returns-in-Err-failed-clause-err g c =
     let types = types_of g.C.Crdt.laws g.C.Crdt.spells g.D.Disk.state in
-    error_stays types c.args.self.now c.args.self.now Any c.args.at event.AskReport c.args.pass None _ (λ (b : List ℕ) (e : Event g.row.C-Effect.Denot). e ≡ event.Reported b) (step.Disk c.args.at) c.in-Err.error _ (calls_still types _ c.args.self.now c.self.view_is Any c.args.at event.AskReport (λ (b : List ℕ) (e : Event g.row.C-Effect.Denot). e ≡ event.Reported b) (Err c.in-Err.error) c.in-Err.ensures) c.in-Err-failed.ensures
+    error_stays types c.args.self.now c.args.self.now Any c.args.at event.AskReport c.args.pass None _ (λ (b : List ℕ) (e : Event g.row.C-Effect.Denot). e ≡ event.Reported b) (step.Disk c.args.at) c.in-Err.error _ (calls_still types _ c.args.self.now c.self.view_is Any c.args.at event.AskReport (λ (b : List ℕ) (e : Event g.row.C-Effect.Denot). e ≡ event.Reported b) (Err c.in-Err.error) c.in-Err.ensures.answers) c.in-Err-failed.ensures
