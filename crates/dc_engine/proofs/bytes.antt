@@ -1,6 +1,7 @@
 pub mod Moves
 pub mod PlayedBy
 pub mod Progress
+pub mod Bodies
 pub mod Cutting
 pub mod Dividing
 pub mod Framed

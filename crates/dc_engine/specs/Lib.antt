@@ -1,5 +1,6 @@
 pub mod Answered
 pub mod Blocks
+pub mod Bodies
 pub mod Causes
 pub mod Ends
 pub mod Faults

@@ -5,7 +5,7 @@ ghost use Rattle.disk_core.specs.States.{Rose};
 ghost use Rattle.cluster.specs.Built.{IsSaid, is_making};
 ghost use Rattle.cluster.specs.Reached.{Applies, parts_in};
 ghost use Rattle.site_partitions.specs.Reaches.{types_of};
-ghost use Rattle.disk_makers.specs.Makers.{StaysSure};
+ghost use Rattle.disk_makers.specs.Makers.{MakesAll};
 ghost use Rattle.dc_engine.specs.Held.{HasOut, HasOutOf};
 ghost use Rattle.dc_engine.specs.Makers.{FailsAt, IsUnchanged};
 ghost use Rattle.dc_engine.specs.Player.{AnswersAsked};
@@ -99,7 +99,7 @@ impl<M: Disks, W: Writer, F: Cutter> Player<M, W, F> {
         ensures lacks { result ≡ Err Unanswered.NoDisk → self.old.cluster ≡ None }
         ensures later { (M.state disks.old).faults ≤ (M.state disks.new).faults }
         ensures cause { result ≡ Err Unanswered.NoDisk → Rose (M.state disks.old).faults (M.state disks.new).faults }
-        ensures sure { StaysSure M.sure (result ≡ Err Unanswered.NoDisk) disks.old disks.new }
+        ensures sure { MakesAll M.makes_all (result ≡ Err Unanswered.NoDisk) disks.old disks.new }
         ensures same { OnOk result (IsUnchanged (M.state disks.old) (M.state disks.new)) }
     {
         let alloc = self.alloc;
@@ -171,7 +171,7 @@ fn answer_to<M: Disks, F: Cutter>(
     ensures lacks { result ≡ Err Unanswered.NoDisk → cluster.old ≡ None }
     ensures later { (M.state disks.old).faults ≤ (M.state disks.new).faults }
     ensures cause { result ≡ Err Unanswered.NoDisk → Rose (M.state disks.old).faults (M.state disks.new).faults }
-    ensures sure { StaysSure M.sure (result ≡ Err Unanswered.NoDisk) disks.old disks.new }
+    ensures sure { MakesAll M.makes_all (result ≡ Err Unanswered.NoDisk) disks.old disks.new }
     ensures same { OnOk result (IsUnchanged (M.state disks.old) (M.state disks.new)) }
 {
     match reading::<F>(alloc, line, parsed) {
@@ -202,7 +202,7 @@ fn obey<C: Crdt, M: Disks>(
     ensures lacks { result ≡ Err Unanswered.NoDisk → cluster.old ≡ None }
     ensures later { (M.state disks.old).faults ≤ (M.state disks.new).faults }
     ensures cause { result ≡ Err Unanswered.NoDisk → Rose (M.state disks.old).faults (M.state disks.new).faults }
-    ensures sure { StaysSure M.sure (result ≡ Err Unanswered.NoDisk) disks.old disks.new }
+    ensures sure { MakesAll M.makes_all (result ≡ Err Unanswered.NoDisk) disks.old disks.new }
     ensures same { OnOk result (IsUnchanged (M.state disks.old) (M.state disks.new)) }
 {
     let Some((sites, parts)) = size_to_make(cluster, command) else {
@@ -255,7 +255,7 @@ fn make_cluster<C: Crdt, M: Disks>(
     ensures ok { IfOk result (λ steps. Applies (types_of C.laws C.spells (fused_state M.Disk.state)) None (Command.Cluster sites parts) steps.items cluster.new) }
     ensures later { (M.state disks.old).faults ≤ (M.state disks.new).faults }
     ensures cause { result ≡ Err Unanswered.NoDisk → Rose (M.state disks.old).faults (M.state disks.new).faults }
-    ensures sure { StaysSure M.sure (result ≡ Err Unanswered.NoDisk) disks.old disks.new }
+    ensures sure { MakesAll M.makes_all (result ≡ Err Unanswered.NoDisk) disks.old disks.new }
     ensures same { OnOk result (IsUnchanged (M.state disks.old) (M.state disks.new)) }
 {
     let made = make_all(alloc, disks, sites, parts)?;

@@ -1,6 +1,6 @@
 ghost use Rattle.std.specs.Prelude.{◌≡◌, ◌≤◌, true, ℕ, List, Err, OnOk, OnErr};
 ghost use Rattle.disk_core.specs.States.{Rose};
-ghost use Rattle.disk_makers.specs.Makers.{StaysSure};
+ghost use Rattle.disk_makers.specs.Makers.{MakesAll};
 ghost use Rattle.dc_engine.specs.Makers.{IsUnchanged};
 ghost use Rattle.dc_engine.specs.Reading.{has_bad, makes_cluster};
 ghost use Rattle.dc_engine.specs.Replies.{AnswersLine};
@@ -50,7 +50,7 @@ pub(crate) trait Responder {
         ensures lacks { result ≡ Err Unanswered.NoDisk → lacks self.old }
         ensures later { (Self.Maker.state disks.old).faults ≤ (Self.Maker.state disks.new).faults }
         ensures cause { result ≡ Err Unanswered.NoDisk → Rose (Self.Maker.state disks.old).faults (Self.Maker.state disks.new).faults }
-        ensures sure { StaysSure Self.Maker.sure (result ≡ Err Unanswered.NoDisk) disks.old disks.new }
+        ensures sure { MakesAll Self.Maker.makes_all (result ≡ Err Unanswered.NoDisk) disks.old disks.new }
         ensures same { OnOk result (IsUnchanged (Self.Maker.state disks.old) (Self.Maker.state disks.new)) };
 
     /// Whether one of the lines answered isn't in the grammar.

@@ -1,6 +1,6 @@
 ghost use Rattle.std.specs.Prelude.{◌≡◌, true, []};
 ghost use Rattle.disk_core.specs.States.{Rose};
-ghost use Rattle.disk_makers.specs.Makers.{StaysSure};
+ghost use Rattle.disk_makers.specs.Makers.{MakesAll};
 ghost use Rattle.dc_engine.specs.Makers.{IsUnchanged};
 ghost use Rattle.dc_engine.specs.Outcome.{Outcome, change};
 ghost use Rattle.dc_engine.specs.Replies.{Replies, RepliesBefore};
@@ -38,7 +38,7 @@ pub(crate) fn play_script<S: Source, K: Sink, R: Responder>(
     requires held { R.holds responder.old (R.Maker.state disks.old).out }
     ensures held { R.holds responder.new (R.Maker.state disks.new).out }
     ensures same { ends_whole result ≡ true → IsUnchanged (R.Maker.state disks.old) (R.Maker.state disks.new) }
-    ensures sure { StaysSure R.Maker.sure (result ≡ Status.NoDisk) disks.old disks.new }
+    ensures sure { MakesAll R.Maker.makes_all (result ≡ Status.NoDisk) disks.old disks.new }
     ensures played { Outcome R.Cutter.framing (R.reached responder.new) (Replies R.reached) (RepliesBefore R.reached R.lacks) (Rose (R.Maker.state disks.old).faults (R.Maker.state disks.new).faults) result (change S.left S.faults source.old source.new) (change K.held K.faults sink.old sink.new) }
 {
     match play_blocks(alloc, BLOCK, MOST_BYTES, source, sink, responder, disks) {

@@ -40,7 +40,7 @@ pub fn play<S: Source, K: Sink, M: Disks>(
     disks: &mut M,
 ) -> Status
     ensures played { PlayOutcome framing (spelled_in framing format) M.Disk.state (M.state disks.old) (M.state disks.new) result (change S.left S.faults source.old source.new) (change K.held K.faults sink.old sink.new) }
-    ensures sure { M.sure disks.old → result ≢ Status.NoDisk }
+    ensures sure { M.makes_all disks.old → result ≢ Status.NoDisk }
 {
     let request = Request {
         framing,
@@ -62,7 +62,7 @@ fn play_then<S: Source, K: Sink, M: Disks>(
 ) -> Status
     ensures played { PlayOutcome request.entry.framing (spelled_in request.entry.framing request.entry.format) M.Disk.state (M.state disks.old) (M.state disks.new) result (change S.left S.faults source.old source.new) (change K.held K.faults sink.old sink.new) }
     ensures told { IsTold M.keeps_in M.state (option_copied request.entry.folder) result disks.old }
-    ensures sure { IsSure M.sure (option_copied request.entry.folder) result disks.old }
+    ensures sure { IsSure M.makes_all (option_copied request.entry.folder) result disks.old }
 {
     match request.framing {
         Framing::Lines => play_lines(alloc, request, source, sink, disks, memory),
@@ -81,7 +81,7 @@ fn play_lines<S: Source, K: Sink, M: Disks>(
 ) -> Status
     ensures played { PlayOutcome framing.Lines (spelled_in framing.Lines request.entry.format) M.Disk.state (M.state disks.old) (M.state disks.new) result (change S.left S.faults source.old source.new) (change K.held K.faults sink.old sink.new) }
     ensures told { IsTold M.keeps_in M.state (option_copied request.entry.folder) result disks.old }
-    ensures sure { IsSure M.sure (option_copied request.entry.folder) result disks.old }
+    ensures sure { IsSure M.makes_all (option_copied request.entry.folder) result disks.old }
 {
     let folder = request.folder;
     match request.format {
@@ -105,7 +105,7 @@ fn play_frames<S: Source, K: Sink, M: Disks>(
 ) -> Status
     ensures played { PlayOutcome framing.Frames (spelled_in framing.Frames request.entry.format) M.Disk.state (M.state disks.old) (M.state disks.new) result (change S.left S.faults source.old source.new) (change K.held K.faults sink.old sink.new) }
     ensures told { IsTold M.keeps_in M.state (option_copied request.entry.folder) result disks.old }
-    ensures sure { IsSure M.sure (option_copied request.entry.folder) result disks.old }
+    ensures sure { IsSure M.makes_all (option_copied request.entry.folder) result disks.old }
 {
     let folder = request.folder;
     match request.format {
@@ -129,7 +129,7 @@ fn play_by<S: Source, K: Sink, M: Disks, W: Writer, F: Cutter>(
 ) -> Status
     ensures played { PlayOutcome F.framing W.spelled M.Disk.state (M.state disks.old) (M.state disks.new) result (change S.left S.faults source.old source.new) (change K.held K.faults sink.old sink.new) }
     ensures told { IsTold M.keeps_in M.state (option_copied folder.entry) result disks.old }
-    ensures sure { IsSure M.sure (option_copied folder.entry) result disks.old }
+    ensures sure { IsSure M.makes_all (option_copied folder.entry) result disks.old }
 {
     let mut player: Player<M, W, F> = Player::new(alloc);
     let status = play_over(alloc, folder, source, sink, &mut player, disks);
@@ -151,7 +151,7 @@ fn play_over<S: Source, K: Sink, R: Responder>(
     ensures same { ends_whole result ≡ true → IsUnchanged (R.Maker.state disks.old) (R.Maker.state disks.new) }
     ensures held { R.holds responder.new (R.Maker.state disks.new).out }
     ensures told { IsTold R.Maker.keeps_in R.Maker.state (option_copied folder.entry) result disks.old }
-    ensures sure { IsSure R.Maker.sure (option_copied folder.entry) result disks.old }
+    ensures sure { IsSure R.Maker.makes_all (option_copied folder.entry) result disks.old }
     ensures played { Outcome R.Cutter.framing (R.reached responder.new) (Replies R.reached) (RepliesBefore R.reached R.lacks) (Rose (R.Maker.state disks.old).faults (R.Maker.state disks.new).faults) result (change S.left S.faults source.old source.new) (change K.held K.faults sink.old sink.new) }
 {
     if keep_in(alloc, folder, disks).is_err() {
@@ -186,7 +186,7 @@ pub fn run<S: Source, K: Sink, M: Disks>(
 ) -> Status
     ensures played { IfSome (asked (map (λ word. word.now) words.now)) (λ asked. PlayOutcome asked.framing (spelled_in asked.framing asked.format) M.Disk.state (M.state disks.old) (M.state disks.new) result (change S.left S.faults source.old source.new) (change K.held K.faults sink.old sink.new)) }
     ensures told { IfSome (asked (map (λ word. word.now) words.now)) (λ asked. IsTold M.keeps_in M.state asked.folder result disks.old) }
-    ensures sure { IfSome (asked (map (λ word. word.now) words.now)) (λ asked. IsSure M.sure asked.folder result disks.old) }
+    ensures sure { IfSome (asked (map (λ word. word.now) words.now)) (λ asked. IsSure M.makes_all asked.folder result disks.old) }
     ensures usage { IfNone (asked (map (λ word. word.now) words.now)) ((result ≡ Status.Usage) × (source.new ≡ source.old) × (sink.new ≡ sink.old) × (disks.new ≡ disks.old)) }
 {
     match request_of(words) {

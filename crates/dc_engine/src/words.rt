@@ -193,7 +193,7 @@ pub fn run_words<S: Source, K: Sink, M: Disks>(
 ) -> Result<Status, AllocError>
     ensures played { IfSome (asked (map string_bytes (drop 1 words.now))) (λ asked. IfOk result (λ status. PlayOutcome asked.framing (spelled_in asked.framing asked.format) M.Disk.state (M.state disks.old) (M.state disks.new) status (change S.left S.faults source.old source.new) (change K.held K.faults sink.old sink.new))) }
     ensures told { IfSome (asked (map string_bytes (drop 1 words.now))) (λ asked. IfOk result (λ status. IsTold M.keeps_in M.state asked.folder status disks.old)) }
-    ensures sure { IfSome (asked (map string_bytes (drop 1 words.now))) (λ asked. IfOk result (λ status. IsSure M.sure asked.folder status disks.old)) }
+    ensures sure { IfSome (asked (map string_bytes (drop 1 words.now))) (λ asked. IfOk result (λ status. IsSure M.makes_all asked.folder status disks.old)) }
     ensures usage { IfNone (asked (map string_bytes (drop 1 words.now))) (IfOk result (λ status. (status ≡ Status.Usage) × (source.new ≡ source.old) × (sink.new ≡ sink.old) × (disks.new ≡ disks.old))) }
     ensures unread { OnErr result (source.new ≡ source.old) }
     ensures unwritten { OnErr result (sink.new ≡ sink.old) }

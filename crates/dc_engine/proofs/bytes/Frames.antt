@@ -32,7 +32,7 @@ left bytes to some h =
     let d : IsDivided framing.Frames bytes [] bytes to = divided_piece framing.Frames [] [] [] bytes place.Start to h (divided_start framing.Frames) in
     (divided-last framing.Frames bytes [] bytes to some d, divided-ended framing.Frames bytes [] bytes to d)
 
-cons_some : {A : Type 0} (a : A) (l : List A) → a ∷ l ≢ []
+pub cons_some : {A : Type 0} (a : A) (l : List A) → a ∷ l ≢ []
 cons_some {A = A} a l e = subst (λ m. is_cons m) e tt
   where
     is_cons : List A → Type 0

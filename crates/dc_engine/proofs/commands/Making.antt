@@ -1,9 +1,8 @@
 -- The disks of a cluster that are made, one after another.
 use Rattle.std.proofs.Common.{◌≡◌, ℕ, ◌+◌, ◌-◌, ◌*◌, ◌<◌, ◌≤◌, List, [], ◌∷◌, ◌++◌, length, refl, sym, ◌∙◌, subst, arith}
-use Rattle.std.specs.Prelude.{None}
 use Rattle.std.proofs.lemmas.Nat.{mul-le}
 use Rattle.disk_core.specs.States.{DiskState, Rose}
-use Rattle.disk_core.specs.Fuses.{fused_state}
+use Rattle.disk_core.specs.Fuses.{fused_state, unarmed}
 use Rattle.disk_core.specs.declared.fused.Fused.{Fused}
 use Rattle.disk_makers.specs.Makers.{Maker, IsMade}
 use Rattle.gate_log.specs.Rest.{AtRest}
@@ -14,7 +13,7 @@ use Rattle.dc_engine.proofs.commands.Returned.{close_by}
 
 module _ {D : Type 0} (state : D → DiskState) where
   -- one more disk, with a fuse that isn't armed
-  pub blank_more : (made : List (Fused D)) (disk : D) (fused : Fused D) → IsMade (state disk) → fused_state state fused ≡ record (state disk) { left = None } → AreBlank (fused_state state) made → AreBlank (fused_state state) (made ++ fused ∷ [])
+  pub blank_more : (made : List (Fused D)) (disk : D) (fused : Fused D) → IsMade (state disk) → fused_state state fused ≡ unarmed (state disk) → AreBlank (fused_state state) made → AreBlank (fused_state state) (made ++ fused ∷ [])
   blank_more [] disk fused m e b = ((8, subst (λ s. AtRest s 8 []) (sym e) (record { tells = m.log.tells; settled = m.log.settled; log = m.log.log; place = m.log.place })), tt)
   blank_more (f ∷ made) disk fused m e b = (b.0, blank_more made disk fused m e b.1)
 

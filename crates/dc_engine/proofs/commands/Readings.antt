@@ -172,7 +172,7 @@ hear_said g p = chained (λ g. option_map (λ p. command.Hear g p) (places.part 
 
 begin_said : (ws : List (List ℕ)) → IsAsked (grammar.begin ws)
 begin_said [] = tt
-begin_said (s ∷ ws) = chained (λ s. option_map (λ p. command.Begin s p) (grammar.maybe places.part ws)) (text s) (λ s. mapped (λ p. command.Begin s p) (grammar.maybe places.part ws) (λ p. tt))
+begin_said (s ∷ ws) = chained (λ s. option_map (λ b. command.Begin s b.0 b.1) (grammar.begins ws)) (text s) (λ s. mapped (λ b. command.Begin s b.0 b.1) (grammar.begins ws) (λ b. tt))
 
 -- a count of steps is at least 1
 count_said : (top : ℕ) (s : List ℕ) (o : Option ℕ) → IsIn 1 top o → IsAsked (option_map (λ k. command.Commit s k) (option_map (λ n. Some n) o))

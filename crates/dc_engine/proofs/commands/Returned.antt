@@ -24,10 +24,10 @@ use Rattle.world_model.specs.declared.step.Step.{Step}
 use Rattle.cluster.specs.Reached.{Applies, parts_in, partitions_in, SizedIn}
 use Rattle.cluster.specs.Post.{WholeState}
 use Rattle.site_partitions.specs.Reaches.{Types}
-use Rattle.cluster.proofs.Laws.{history, log_left, none_made}
+use Rattle.cluster.proofs.Laws.{history, log_left, none_made, rooms_left}
 use Rattle.dc_engine.specs.declared.framing.Framing.{Framing}
 use Rattle.dc_engine.specs.Answered.{Answered, AnsweredWhole}
-use Rattle.dc_engine.specs.GivenBack.{HoldsLogOf, GivenBack}
+use Rattle.dc_engine.specs.GivenBack.{HoldsLogOf, GivenBack, IsRoomIn}
 use Rattle.dc_engine.specs.Held.{Standing, IsLeft, Reached, HasOutOf}
 use Rattle.dc_engine.specs.Makers.{IsUnchanged, GivesBack, ReturnsAll, FailsAt, number_or_none, disk_from, with_places, next_place, first_place}
 use Rattle.dc_engine.specs.ObjectKinds.{types}
@@ -130,6 +130,7 @@ module _ {D : Type 0} (state : D → DiskState) where
     all = let e = b.sites in let none : 0 * parts_of run ≡ 0 = omega arith in sym (ap (λ n. n * parts_of run) e ∙ none);
     given = back.back.given (subst IsTrue (sym begun.tells) tells) ∙ ap (λ l. l ++ []) begun.given;
     logs = λ p place up other. let e = b.sites in let least = place.least_site in let most = place.most_site in absurd (omega (arith, e, least, most));
+    rooms = tt;
   }
   returned (Some w) run r start mid end begun back tells =
       let partitions = w.live.sites.partitions in
@@ -143,6 +144,10 @@ module _ {D : Type 0} (state : D → DiskState) where
             let l = log_left (types (fused_state state)) w run r p s.one place up s.there in
             subst (λ (d : D). HoldsLogOf (sites_of run) (parts_of run) (history (types (fused_state state)) (Some w) run r).events p (state d)) (sym s.mapped)
             (record { log = l.log; left = l.left; end = _; at_rest = unfused (disk_of s.one.gates) _ _ l.records.is_open.at_rest; spelled = l.records.spelled });
+        rooms = rooms_left (types (fused_state state)) w run r (IsRoomIn state (parts_of run) (map disk_from partitions)) (λ p n place room other.
+            let below = index_below (sites_of run) (parts_of run) p place in
+            let s = is_mapped_at disk_from partitions (index_of (parts_of run) p) other (omega (arith, below, count)) in
+            ap (λ d. (state d).room) s.mapped ∙ (ap (λ (t : Durable _ (Fused D)). (fused_state state (disk_of t.gates)).room) (sym (s.there s.one)) ∙ room s.one));
       }
 
   abbrev pub reached_answered : (f : Framing) (spelled : ℕ → Step → List ℕ) (c : Standing D) (lines : List (List ℕ)) (bytes : List ℕ) → Reached state f spelled c lines bytes → Answered f spelled lines bytes

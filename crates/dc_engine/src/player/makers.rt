@@ -3,7 +3,7 @@ ghost use Rattle.std.specs.Prelude.{◌≡◌, ◌≤◌, ◌+◌, ◌*◌, ◌+
 ghost use Rattle.disk_core.specs.Fuses.{fused_state, inside};
 ghost use Rattle.disk_core.specs.States.{Rose};
 ghost use Rattle.gate_log.specs.Logs.{disk_of};
-ghost use Rattle.disk_makers.specs.Makers.{IsMade, StaysSure};
+ghost use Rattle.disk_makers.specs.Makers.{IsMade, MakesAll};
 ghost use Rattle.site_partitions.specs.Made.{AreBlank};
 ghost use Rattle.site_partitions.specs.Reaches.{types_of};
 ghost use Rattle.cluster.specs.Reached.{SizedIn, parts_in};
@@ -73,7 +73,7 @@ fn make_one<M: Disks>(
     ensures more { (M.state disks.old).out ≤ (M.state disks.new).out }
     ensures later { (M.state disks.old).faults ≤ (M.state disks.new).faults }
     ensures cause { result ≡ Err Unanswered.NoDisk → Rose (M.state disks.old).faults (M.state disks.new).faults }
-    ensures sure { StaysSure M.sure (result ≡ Err Unanswered.NoDisk) disks.old disks.new }
+    ensures sure { MakesAll M.makes_all (result ≡ Err Unanswered.NoDisk) disks.old disks.new }
     ensures same { IsUnchanged (M.state disks.old) (M.state disks.new) }
 {
     match disks.make(alloc, at) {
@@ -102,7 +102,7 @@ pub(crate) fn make_all<M: Disks>(
     ensures more { (M.state disks.old).out ≤ (M.state disks.new).out }
     ensures later { (M.state disks.old).faults ≤ (M.state disks.new).faults }
     ensures cause { result ≡ Err Unanswered.NoDisk → Rose (M.state disks.old).faults (M.state disks.new).faults }
-    ensures sure { StaysSure M.sure (result ≡ Err Unanswered.NoDisk) disks.old disks.new }
+    ensures sure { MakesAll M.makes_all (result ≡ Err Unanswered.NoDisk) disks.old disks.new }
     ensures same { OnOk result (IsUnchanged (M.state disks.old) (M.state disks.new)) }
 {
     let mut made = Vec::new(alloc);
@@ -124,7 +124,7 @@ fn give_back_made<M: Disks>(disks: &mut M, parts: u8, made: Vec<Fused<M::Disk>>)
     requires few { length made.items ≤ 128 }
     requires enough { length made.items ≤ (M.state disks.old).out }
     ensures back { GivesBack parts first_place (map inside made.items) (M.state disks.old) (M.state disks.new) }
-    ensures sure { M.sure disks.old → M.sure disks.new }
+    ensures sure { M.makes_all disks.old → M.makes_all disks.new }
 {
     let mut at = FIRST;
     for disk in made {

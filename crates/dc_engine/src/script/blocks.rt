@@ -1,6 +1,6 @@
 ghost use Rattle.std.specs.Prelude.{ℕ, List, Option, ◌≡◌, ◌≢◌, ◌≤◌, ◌<◌, ◌+◌, ◌-◌, ◌^◌, [], length, take, IfOk, IfErr, OnOk, OnErr, Err};
 ghost use Rattle.std.specs.Io.KnownBytes.{Appends, Consumes, Keeps, IsAtEnd};
-ghost use Rattle.disk_makers.specs.Makers.{StaysSure};
+ghost use Rattle.disk_makers.specs.Makers.{MakesAll};
 ghost use Rattle.dc_engine.specs.Causes.{Rose};
 ghost use Rattle.dc_engine.specs.Makers.{IsUnchanged};
 ghost use Rattle.dc_engine.specs.Replies.{Replies};
@@ -88,7 +88,7 @@ fn answer_block<K: Sink, R: Responder>(
     ensures held { R.holds responder.new (R.Maker.state disks.new).out }
     ensures disks_later { (R.Maker.state disks.old).faults ≤ (R.Maker.state disks.new).faults }
     ensures disks_cause { result ≡ Err Fault.NoDisk → Rose (R.Maker.state disks.old).faults (R.Maker.state disks.new).faults }
-    ensures sure { StaysSure R.Maker.sure (result ≡ Err Fault.NoDisk) disks.old disks.new }
+    ensures sure { MakesAll R.Maker.makes_all (result ≡ Err Fault.NoDisk) disks.old disks.new }
     ensures same { OnOk result (IsUnchanged (R.Maker.state disks.old) (R.Maker.state disks.new)) }
     ensures later { K.faults sink.old ≤ K.faults sink.new }
     ensures cause { result ≡ Err Fault.Write → Rose (K.faults sink.old) (K.faults sink.new) }
@@ -127,7 +127,7 @@ fn answer_end<K: Sink, R: Responder>(
     ensures held { R.holds responder.new (R.Maker.state disks.new).out }
     ensures disks_later { (R.Maker.state disks.old).faults ≤ (R.Maker.state disks.new).faults }
     ensures disks_cause { result ≡ Err Fault.NoDisk → Rose (R.Maker.state disks.old).faults (R.Maker.state disks.new).faults }
-    ensures sure { StaysSure R.Maker.sure (result ≡ Err Fault.NoDisk) disks.old disks.new }
+    ensures sure { MakesAll R.Maker.makes_all (result ≡ Err Fault.NoDisk) disks.old disks.new }
     ensures same { OnOk result (IsUnchanged (R.Maker.state disks.old) (R.Maker.state disks.new)) }
     ensures later { K.faults sink.old ≤ K.faults sink.new }
     ensures cause { result ≡ Err Fault.Write → Rose (K.faults sink.old) (K.faults sink.new) }
@@ -168,7 +168,7 @@ fn play_block<S: Source, K: Sink, R: Responder>(
     ensures held { R.holds responder.new (R.Maker.state disks.new).out }
     ensures disks_later { (R.Maker.state disks.old).faults ≤ (R.Maker.state disks.new).faults }
     ensures disks_cause { result ≡ Err Fault.NoDisk → Rose (R.Maker.state disks.old).faults (R.Maker.state disks.new).faults }
-    ensures sure { StaysSure R.Maker.sure (result ≡ Err Fault.NoDisk) disks.old disks.new }
+    ensures sure { MakesAll R.Maker.makes_all (result ≡ Err Fault.NoDisk) disks.old disks.new }
     ensures same { OnOk result (IsUnchanged (R.Maker.state disks.old) (R.Maker.state disks.new)) }
     ensures read_later { S.faults source.old ≤ S.faults source.new }
     ensures write_later { K.faults sink.old ≤ K.faults sink.new }
@@ -205,7 +205,7 @@ fn play_end<S: Source, K: Sink, R: Responder>(
     ensures held { R.holds responder.new (R.Maker.state disks.new).out }
     ensures disks_later { (R.Maker.state disks.old).faults ≤ (R.Maker.state disks.new).faults }
     ensures disks_cause { result ≡ Err Fault.NoDisk → Rose (R.Maker.state disks.old).faults (R.Maker.state disks.new).faults }
-    ensures sure { StaysSure R.Maker.sure (result ≡ Err Fault.NoDisk) disks.old disks.new }
+    ensures sure { MakesAll R.Maker.makes_all (result ≡ Err Fault.NoDisk) disks.old disks.new }
     ensures same { OnOk result (IsUnchanged (R.Maker.state disks.old) (R.Maker.state disks.new)) }
     ensures read_later { S.faults source.old ≤ S.faults source.new }
     ensures write_later { K.faults sink.old ≤ K.faults sink.new }
@@ -238,7 +238,7 @@ pub(crate) fn play_blocks<S: Source, K: Sink, R: Responder>(
     requires held { R.holds responder.old (R.Maker.state disks.old).out }
     ensures held { R.holds responder.new (R.Maker.state disks.new).out }
     ensures disks_cause { result ≡ Err Fault.NoDisk → Rose (R.Maker.state disks.old).faults (R.Maker.state disks.new).faults }
-    ensures sure { StaysSure R.Maker.sure (result ≡ Err Fault.NoDisk) disks.old disks.new }
+    ensures sure { MakesAll R.Maker.makes_all (result ≡ Err Fault.NoDisk) disks.old disks.new }
     ensures same { OnOk result (IsUnchanged (R.Maker.state disks.old) (R.Maker.state disks.new)) }
     ensures finished { Finished R.Cutter.framing size most R.reached R.lacks responder.new (S.left source.old) (S.left source.new) (K.held sink.old) (K.held sink.new) result }
     ensures read_cause { result ≡ Err Fault.Read → Rose (S.faults source.old) (S.faults source.new) }

@@ -1,6 +1,6 @@
 ghost use Rattle.std.specs.Prelude.{◌≡◌, ◌≤◌, ◌++◌, true, take, Err, OnOk, OnErr};
 ghost use Rattle.disk_core.specs.States.{Rose};
-ghost use Rattle.disk_makers.specs.Makers.{StaysSure};
+ghost use Rattle.disk_makers.specs.Makers.{MakesAll};
 ghost use Rattle.dc_engine.specs.Makers.{IsUnchanged};
 ghost use Rattle.dc_engine.specs.Reading.{makes_cluster};
 ghost use Rattle.dc_engine.specs.Replies.{AnswersLine};
@@ -26,7 +26,7 @@ fn answer_line<R: Responder>(
     ensures held { R.holds responder.new (R.Maker.state disks.new).out }
     ensures later { (R.Maker.state disks.old).faults ≤ (R.Maker.state disks.new).faults }
     ensures cause { result ≡ Err Unanswered.NoDisk → Rose (R.Maker.state disks.old).faults (R.Maker.state disks.new).faults }
-    ensures sure { StaysSure R.Maker.sure (result ≡ Err Unanswered.NoDisk) disks.old disks.new }
+    ensures sure { MakesAll R.Maker.makes_all (result ≡ Err Unanswered.NoDisk) disks.old disks.new }
     ensures same { OnOk result (IsUnchanged (R.Maker.state disks.old) (R.Maker.state disks.new)) }
     ensures making { result ≡ Err Unanswered.NoDisk → makes_cluster R.Cutter.framing (take 4099 (begun.old.first ++ piece.now)) ≡ true }
     ensures lacks { result ≡ Err Unanswered.NoDisk → R.lacks responder.old }
@@ -57,7 +57,7 @@ pub(crate) fn answer_lines<R: Responder>(
     ensures held { R.holds responder.new (R.Maker.state disks.new).out }
     ensures later { (R.Maker.state disks.old).faults ≤ (R.Maker.state disks.new).faults }
     ensures cause { result ≡ Err Unanswered.NoDisk → Rose (R.Maker.state disks.old).faults (R.Maker.state disks.new).faults }
-    ensures sure { StaysSure R.Maker.sure (result ≡ Err Unanswered.NoDisk) disks.old disks.new }
+    ensures sure { MakesAll R.Maker.makes_all (result ≡ Err Unanswered.NoDisk) disks.old disks.new }
     ensures same { OnOk result (IsUnchanged (R.Maker.state disks.old) (R.Maker.state disks.new)) }
     ensures before { result ≡ Err Unanswered.NoDisk → MovesBefore R.Cutter.framing R.reached R.lacks responder.old block.now begun.old out.old.items out.new.items }
     ensures ok { OnOk result (Moves R.Cutter.framing R.reached responder.old responder.new block.now begun.old begun.new out.old.items out.new.items) }

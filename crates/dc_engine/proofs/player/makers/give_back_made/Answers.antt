@@ -11,7 +11,7 @@ loop-disk-preserved g c = record {
       (subst (λ l. IsGiving c.args.parts (map inside c.args.made.items) (g.M.Disks.state c.args.disks.now) c.loop-disk.at (map inside l) (g.M.Disks.state c.loop-disk.disks)) c.in-Some.ensures.steps.0 c.loop-disk.invariant.giving)
       (subst (λ d. TakesBack c.loop-disk.at d (g.M.Disks.state c.loop-disk.disks) (g.M.Disks.state c.give_back.new.self)) c.into_inner.ensures c.give_back.ensures.takes)
       c.next-at.result c.next-at.ensures;
-  sure = λ s. c.give_back.ensures.sure (c.loop-disk.invariant.sure s);
+  sure = λ s. c.give_back.ensures.makes_all (c.loop-disk.invariant.sure s);
 }
 
 pub returns-clause-back : goal.returns-clause-back

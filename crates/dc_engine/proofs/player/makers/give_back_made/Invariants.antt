@@ -6,5 +6,5 @@ use Rattle.dc_engine.proofs.player.makers.give_back_made.Given as goal
 abbrev pub invariant-loop-disk : goal.invariant-loop-disk
 invariant-loop-disk g l = record {
   giving : IsGiving l.parts (map inside l.fn.made.items) (g.M.Disks.state l.fn.disks) l.at (map inside l.disk-iterator.rest.items) (g.M.Disks.state l.disks);
-  sure : g.M.Disks.sure l.fn.disks → g.M.Disks.sure l.disks;
+  sure : g.M.Disks.makes_all l.fn.disks → g.M.Disks.makes_all l.disks;
 }

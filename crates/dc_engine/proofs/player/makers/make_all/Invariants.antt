@@ -5,7 +5,7 @@ use Rattle.dc_engine.proofs.player.makers.make_all.Given as goal
 abbrev pub invariant-loop-left : goal.invariant-loop-left
 invariant-loop-left g l = record {
   making : IsMaking g.M.Disk.Disk.state (l.sites * l.parts) (g.M.Disks.state l.fn.disks) (g.M.Disks.state l.disks) l.made.items l.at l.left;
-  sure : g.M.Disks.sure l.fn.disks → g.M.Disks.sure l.disks;
+  sure : g.M.Disks.makes_all l.fn.disks → g.M.Disks.makes_all l.disks;
 }
 
 abbrev pub decreases-loop-left : goal.decreases-loop-left

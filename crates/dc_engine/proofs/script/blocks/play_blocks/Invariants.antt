@@ -11,7 +11,7 @@ invariant-loop-room g l = let S = g.S.Source in let K = g.K.Sink in let state = 
   held : g.R.Responder.holds l.responder (state l.disks).out;
   counted : (state l.fn.disks).faults ≤ (state l.disks).faults;
   same : IsUnchanged (state l.fn.disks) (state l.disks);
-  sure : g.R.Maker.Disks.sure l.fn.disks → g.R.Maker.Disks.sure l.disks;
+  sure : g.R.Maker.Disks.makes_all l.fn.disks → g.R.Maker.Disks.makes_all l.disks;
 }
 
 abbrev pub decreases-loop-room : goal.decreases-loop-room

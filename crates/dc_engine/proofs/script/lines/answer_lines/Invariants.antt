@@ -9,7 +9,7 @@ invariant-loop-line g l = let state = g.R.Maker.Disks.state in record {
   held : g.R.Responder.holds l.responder (state l.disks).out;
   later : (state l.fn.disks).faults ≤ (state l.disks).faults;
   same : IsUnchanged (state l.fn.disks) (state l.disks);
-  sure : g.R.Maker.Disks.sure l.fn.disks → g.R.Maker.Disks.sure l.disks;
+  sure : g.R.Maker.Disks.makes_all l.fn.disks → g.R.Maker.Disks.makes_all l.disks;
 }
 
 abbrev pub decreases-loop-line : goal.decreases-loop-line
