@@ -9,7 +9,7 @@ ANYWHERE = {"limit unbuilt"}
 NEEDS_DISK = {"down", "limit log", "disk"}
 MAY = {
     "bad": {"bad"},
-    "cluster": {"cluster", "damaged"},
+    "cluster": {"cluster", "damaged", "disk"},
     "clock": {"now"} | NEEDS_DISK,
     "session": {"session", "limit sessions"},
     "move": {"moved"},
@@ -55,13 +55,20 @@ class Walk:
     def __init__(self, commands, replies):
         self.commands, self.replies, self.at, self.run = commands, replies, 0, Run()
 
-    def whole(self):
-        """The run of the whole script."""
+    def answers(self):
+        """Each command of the script with its replies."""
         for command in self.commands:
+            before = self.at
             self.answer(command)
+            yield command, self.replies[before : self.at]
         if self.at < len(self.replies):
             extra = self.replies[self.at]
             raise Differs(f"reply line {extra.row}, `{extra.text}`, answers no command: the script is at its end")
+
+    def whole(self):
+        """The run of the whole script."""
+        for _ in self.answers():
+            pass
         return self.run
 
     def answer(self, command):

@@ -20,7 +20,7 @@ from browser import DRAWN, Browser
 from layout import Layout
 from model import is_within
 from replies import replies_of
-from script import commands_of
+from script import commands_of, headings_of
 
 TOP = Path(__file__).resolve().parent.parent
 MOST_CLICKS = 40
@@ -181,8 +181,23 @@ class Check:
         if self.shots:
             self.browser.key("End")
             self.browser.shot(self.shots / f"{self.name}_chosen.png")
+        self.finds()
         self.browser.key("Escape")
         demand(self.browser.value("!document.querySelector('#panel h2')"), "Escape doesn't let go")
+
+
+    def finds(self):
+        """A text is found, and the address of a line leads to its row."""
+        one = next(iter(self.run.transactions.values()))
+        self.browser.value(f"cursor = 0; find('{one.id}')")
+        row = next(event.row for event in self.run.events if one.id in event.text + event.command)
+        demand(self.browser.value("cursor") == row, f"{one.id} is found elsewhere than in row {row}")
+        event = next(event for event in self.run.events if event.first and event.row == row)
+        self.browser.value(f"choose(-1, 0); location.hash = '#{event.line}'; follow()")
+        demand(self.browser.value("cursor") == row, f"line {event.line} leads elsewhere than to row {row}")
+        self.browser.value("view.focus()")
+        self.browser.key("j")
+        demand(self.browser.value("cursor") == min(row + 1, len(self.run.events)), "j doesn't go one row on")
 
 
 def refuses(script, replies):
@@ -220,7 +235,7 @@ def check(words, browser, folder):
             print(f"apart: {name}: {str(differs)[:100]}")
             continue
         file = folder / f"{name}.html"
-        file.write_text(page.page(f"{name}.script", run, Layout(run).whole()), encoding="utf-8")
+        file.write_text(page.page(f"{name}.script", run, Layout(run).whole(), headings_of(script)), encoding="utf-8")
         one = Check(browser, name, run, file, words.shots)
         try:
             refuses(script, replies)

@@ -97,10 +97,15 @@ class Partition:
     place: w.Place
     clock: int = 0
     bounds: list = field(default_factory=list)
+    votes: dict = field(default_factory=dict)
     heard: dict = field(default_factory=dict)
     down: int = None
     fuse: int = None
     downs: list = field(default_factory=list)
+
+    def own_bound(self):
+        """Up to this time nothing more is committed here: the clock, or one below the least vote that is pending."""
+        return min([self.clock] + [vote - 1 for vote in self.votes.values()])
 
 
 @dataclass
@@ -172,11 +177,11 @@ class Run:
         return self.names.index(name)
 
     def stable(self, place, site):
-        """How far all of this partition's site have come with another site, as it knows."""
+        """How far all of this partition's site have come with a site, as it knows."""
         here = self.partitions[place]
         others = (w.Place(place.site, part) for part in range(1, self.parts + 1) if part != place.part)
         least = min((here.heard.get(other, [0] * self.sites)[site - 1] for other in others), default=None)
-        own = here.bounds[site - 1]
+        own = here.own_bound() if site == place.site else here.bounds[site - 1]
         return own if least is None else min(own, least)
 
     def sees(self, transaction):

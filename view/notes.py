@@ -3,7 +3,7 @@
 import words as w
 from model import Access, Event, Link, Message, Report, Session, Transaction, joined
 
-MOVES = {"now", "began", "prepared", "took", "heard", "restarted"}
+MOVES = {"now", "began", "prepared", "decided", "finished", "aborted", "took", "heard", "restarted"}
 
 
 def note(run, command, reply, where, first):
@@ -115,21 +115,25 @@ class Notes:
         self.tick(self.tells["time"])
         transaction = self.transaction()
         transaction.votes[self.event.place] = self.tells["time"]
+        self.here.votes[transaction.id] = self.tells["time"]
         transaction.steps[self.event.place] = self.event.row
 
     def on_decided(self):
         transaction, vector = self.transaction(), self.tells["vector"]
         transaction.decide(vector)
+        self.here.votes.pop(transaction.id, None)
         session = self.run.sessions[transaction.session]
         session.depends = joined(session.depends, vector)
 
     def on_finished(self):
+        self.here.votes.pop(self.event.transaction, None)
         if self.transaction():
             self.transaction().decide()
 
     def on_aborted(self):
         transaction = self.transaction()
         self.run.aborted[self.event.transaction, self.event.place] = self.event.row
+        self.here.votes.pop(self.event.transaction, None)
         if transaction and transaction.status != "committed":
             transaction.status = "aborted"
 
@@ -211,6 +215,7 @@ class Notes:
         here, tells = self.here, self.tells
         here.downs.append((here.down or self.event.row, self.event.row))
         here.clock, here.bounds, here.heard, here.down = tells["time"], list(tells["vector"]), {}, None
+        here.votes = dict(tells["pending"])
         decided = self.run.transactions.get(tells.get("decided"))
         if decided and decided.status != "committed":
             decided.decide()

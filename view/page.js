@@ -221,7 +221,11 @@ function tell() {
   const read = chosenRead(), here = run.rows[cursor - 1];
   if (!chosen) hint();
   else panel.replaceChildren(...read ? ofRead(chosen.transaction, read) : ofTransaction(chosen.transaction));
-  if (here) panel.prepend(made("p", `reply ${cursor}: ${here[1]}`, "row"));
+  if (!here) return;
+  panel.prepend(made("p", `reply ${cursor}: ${here[1]}`, "row"));
+  const line = run.rows.slice(0, cursor).reduce((last, row) => row[0] || last, 0);
+  const heading = run.headings.filter(([at]) => at <= line).pop();
+  if (heading) panel.prepend(made("p", heading[1], "heading"));
 }
 
 /** A transaction: its vectors, reads, values, updates, and what it sees. */
@@ -301,6 +305,29 @@ function go(step, from) {
   bring(row);
 }
 
+/** Goes to a row, whatever stands there. */
+function goTo(row) {
+  const here = run.rows[row - 1];
+  if (!here) return;
+  choose(here[4], row);
+  bring(row);
+}
+
+/** Goes to the next row whose command or reply holds a text, from the first one again behind the last. */
+function find(text) {
+  const sought = text.toLowerCase();
+  for (let step = 1; sought && step <= run.rows.length; step += 1) {
+    const at = (cursor - 1 + step + run.rows.length) % run.rows.length;
+    if (`${run.rows[at][1]}\n${run.rows[at][2]}`.toLowerCase().includes(sought)) return goTo(at + 1);
+  }
+}
+
+/** Goes to the script's line that the page's address names. */
+function follow() {
+  const line = Number(location.hash.slice(1));
+  if (line) goTo(run.rows.findIndex(row => row[0] === line) + 1);
+}
+
 /** Chooses what was hit: a bar is its transaction, another mark stands for its row. */
 function chooseHit(owner, hit, row) {
   const isBar = hit.classList.contains("bar"), isHere = run.rows[row - 1] && run.rows[row - 1][4] === owner;
@@ -311,6 +338,8 @@ view.addEventListener("keydown", event => {
   const moves = { ArrowDown: [1, cursor], ArrowUp: [-1, cursor], Home: [1, 0], End: [-1, run.rows.length + 1] };
   if (event.key === "Escape") choose(-1, 0);
   else if (event.key in moves) go(...moves[event.key]);
+  else if (event.key === "j" || event.key === "k") goTo(cursor + (event.key === "j" ? 1 : -1));
+  else if (event.key === "/") document.getElementById("text").focus();
   else return;
   event.preventDefault();
 });
@@ -326,8 +355,14 @@ function later() {
   if (!asked) requestAnimationFrame(draw);
   asked = true;
 }
+document.getElementById("find").addEventListener("submit", event => {
+  event.preventDefault();
+  find(document.getElementById("text").value);
+});
+window.addEventListener("hashchange", follow);
 view.addEventListener("scroll", later);
 window.addEventListener("resize", later);
 new ResizeObserver(later).observe(view);
 tell();
 draw();
+follow();

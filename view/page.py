@@ -12,7 +12,7 @@ MOST_GUTTER = 390
 HEADER = 44
 
 
-def page(title, run, layout):
+def page(title, run, layout, headings=()):
     """The whole page, as text."""
     text = (HERE / "page.html").read_text()
     parts = {
@@ -20,7 +20,7 @@ def page(title, run, layout):
         "NAME": html.escape(title),
         "STYLE": style(),
         "SUMMARY": summary(run),
-        "DATA": json.dumps(data(run, layout), ensure_ascii=True, separators=(",", ":")).replace("<", "\\u003c"),
+        "DATA": json.dumps({**data(run, layout), "headings": list(headings)}, ensure_ascii=True, separators=(",", ":")).replace("<", "\\u003c"),
         "SCRIPT": (HERE / "page.js").read_text(),
     }
     for name, part in parts.items():
@@ -93,7 +93,7 @@ def summary(run):
         ("taken", names["took"]), ("repeated", names["dup"]), ("gaps", names["gap"]), ("lost", lost),
         ("reports", len(run.reports)), ("crashes", names["crashed"]), ("restarts", names["restarted"]),
     ]
-    cells = "".join(f"<div><dt>{name}</dt><dd>{count}</dd></div>" for name, count in facts)
+    cells = "".join(f"<div><dt>{name}</dt><dd>{count}</dd></div>" for name, count in facts if count)
     return f'<dl id="summary">{cells}</dl>{bad_lines(run)}'
 
 
@@ -108,7 +108,7 @@ def bad_lines(run):
 def picture(run, layout, least, most):
     """The rows of these script lines as an SVG that stands alone."""
     events = [event for event in run.events if least <= event.line <= most]
-    top, bottom = (middle(events[0].row) - ROW, middle(events[-1].row) + ROW) if events else (0, ROW)
+    top, bottom = (middle(events[0].row) - ROW * 0.6, middle(events[-1].row) + ROW) if events else (0, ROW)
     side = min(MOST_GUTTER, 60 + LETTER * max((len(shown_in_row(event)) for event in events), default=0))
     width, height = side + layout.width() + 10, bottom - top + HEADER
     shapes = "".join(drawn(shape, top, bottom) for layer in layout.layers.values() for shape in layer)

@@ -1,5 +1,6 @@
 """The lines of replies, read."""
 
+import json
 from dataclasses import dataclass, field
 
 import words as w
@@ -57,8 +58,18 @@ class Line:
 
 
 def replies_of(data):
-    """The replies of these bytes, in order."""
-    return [reply_of(row, line) for row, line in enumerate(w.lines_of(data), 1)]
+    """The replies of these bytes, in order; those that are written as JSON too."""
+    return [reply_of(row, text_in(line)) for row, line in enumerate(w.lines_of(data), 1)]
+
+
+def text_in(line):
+    """The text of a reply, also where it stands in a JSON object."""
+    if not line.startswith(b"{"):
+        return line
+    try:
+        return json.loads(line)["reply"].encode()
+    except (ValueError, KeyError, AttributeError):
+        return line
 
 
 def reply_of(row, line):

@@ -51,6 +51,21 @@ def commands_of(script):
     return [command for _, command in numbered if command]
 
 
+def headings_of(script):
+    """The comments of a script: each with the number of the line behind it, lines of comments in a row as one text."""
+    found, last = [], 0
+    for at, line in enumerate(w.lines_of(script), 1):
+        text = line.decode("utf-8", "replace").strip(" ")
+        if not text.startswith("#"):
+            continue
+        text = text.lstrip("#").strip()
+        if found and last == at - 1:
+            text = f"{found.pop()[1]} {text}"
+        found.append([at + 1, text])
+        last = at
+    return found
+
+
 def command_at(at, line):
     """The command of a line, or None where the line is blank or a comment."""
     shown = line[:200].decode("utf-8", "replace").strip(" ")
@@ -80,8 +95,11 @@ def each(**forms):
 
 
 def begin(line):
-    """begin S [P]"""
-    return {"session": line.take(w.text), "place": line.maybe(w.place)}
+    """begin S [P] [stable]"""
+    session, stable = line.take(w.text), line.rest[-1:] == ["stable"]
+    if stable:
+        line.rest.pop()
+    return {"session": session, "place": line.maybe(w.place), "stable": stable}
 
 
 def on_object(line):
